@@ -1,0 +1,2 @@
+pub mod CountingWord
+pub mod Plans

@@ -1,0 +1,8 @@
+pub mod Trace
+pub mod Permitted
+pub mod PlainMachine
+pub mod Legal
+pub mod Represents
+pub mod Fields
+pub mod Laws
+pub mod LostRaises

@@ -1,0 +1,143 @@
+//! The steps of the owners of a block, and what they are answered.
+
+/// A step of `owner`, mostly on `handle`. Owners and handles are numbers from 0 on; a handle has the
+/// number of its birth.
+#[derive(Clone, Copy, Debug, PartialEq)]
+pub enum Step<V> {
+    /// Reads the word, to make another handle of the block.
+    Clone {
+        owner: usize,
+        handle: usize,
+    },
+    /// Raises the word, if it still is the one that this owner's clone in flight saw last.
+    Raise {
+        owner: usize,
+    },
+    /// Gives up the clone in flight.
+    Quit {
+        owner: usize,
+    },
+    /// Reads the word, to end the handle.
+    Drop {
+        owner: usize,
+        handle: usize,
+    },
+    /// Lowers the word, which finishes the drop in flight.
+    Lower {
+        owner: usize,
+    },
+    /// Marks the block: from then on its value is never given up.
+    Mark {
+        owner: usize,
+        handle: usize,
+    },
+    /// Asks whether the handle is the only one of an unmarked block.
+    Unique {
+        owner: usize,
+        handle: usize,
+    },
+    /// Asks whether the block is marked.
+    Static {
+        owner: usize,
+        handle: usize,
+    },
+    /// Reads the word, to write the value through the only handle.
+    GetMut {
+        owner: usize,
+        handle: usize,
+    },
+    /// Writes the value.
+    Write {
+        owner: usize,
+        handle: usize,
+        value: V,
+    },
+    /// Ends the writing that a `GetMut` began.
+    EndWrite {
+        owner: usize,
+        handle: usize,
+    },
+    /// Reads the value.
+    Load {
+        owner: usize,
+        handle: usize,
+    },
+    /// Lends the handle to another owner.
+    Lend {
+        owner: usize,
+        handle: usize,
+        to: usize,
+    },
+    /// Returns a handle that was lent to this owner.
+    Return {
+        owner: usize,
+        handle: usize,
+    },
+    /// Gives the handle to another owner for good.
+    Give {
+        owner: usize,
+        handle: usize,
+        to: usize,
+    },
+}
+
+/// What a step is answered.
+#[derive(Clone, Copy, Debug, PartialEq)]
+pub enum Answer<V> {
+    /// A handle was born, with this number. The owner whose step it was holds it.
+    Born(usize),
+    /// The block has as many handles as it may have.
+    Full,
+    /// The clone or the drop is in flight: another step of this owner goes on with it.
+    Pending,
+    /// The clone in flight was given up.
+    Quit,
+    /// The handle ended.
+    Ended,
+    /// The last handle ended, and with it the value.
+    GivenUp(V),
+    /// The block is marked.
+    Marked,
+    /// The answer to a question.
+    Is(bool),
+    /// The handle is the only one, and is being written from now on.
+    Alone,
+    /// There may be other handles, so that nothing may be written.
+    Shared,
+    /// The step was made.
+    Done,
+    /// The value.
+    Value(V),
+    /// Memory was refused. Nothing changed.
+    Memory,
+    /// The step is not permitted to this owner now. Nothing changed.
+    Barred,
+}
+
+impl<V: Copy> Step<V> {
+    ghost use Rattle.std.specs.Prelude.{◌≡◌};
+    ghost use Rattle.counting_core.specs.Trace.{owner_of};
+
+    /// The owner whose step it is.
+    pub fn owner(&self) -> usize
+        ensures { result ≡ owner_of self.now }
+    {
+        match *self {
+            Step::Clone { owner, .. }
+            | Step::Raise { owner }
+            | Step::Quit { owner }
+            | Step::Drop { owner, .. }
+            | Step::Lower { owner }
+            | Step::Mark { owner, .. }
+            | Step::Unique { owner, .. }
+            | Step::Static { owner, .. }
+            | Step::GetMut { owner, .. }
+            | Step::Write { owner, .. }
+            | Step::EndWrite { owner, .. }
+            | Step::Load { owner, .. }
+            | Step::Lend { owner, .. }
+            | Step::Return { owner, .. }
+            | Step::Give { owner, .. } => owner,
+        }
+    }
+}

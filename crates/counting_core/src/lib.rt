@@ -15,3 +15,6 @@ mod step;
 
 pub use counting::Core;
 pub use step::{Answer, Step};
+
+#[cfg(test)]
+mod tests;

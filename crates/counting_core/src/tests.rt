@@ -1,0 +1,95 @@
+//! Each public call once, and the laws at a concrete type. What `arcbench` prints for whole scripts
+//! is tested there.
+use crate::{Answer, Core, Step, laws};
+use std::test::Fail;
+
+#[test]
+fn a_new_core_has_one_handle(rt: HostRuntime) -> Result<(), Fail> {
+    let mut core = Core::new(rt.alloc(), 5u32, 2).map_err(|_| "memory")?;
+    assert_eq!(rt;
+        core.step(Step::Load {
+            owner: 0,
+            handle: 0
+        }),
+        Answer::Value(5)
+    );
+    assert_eq!(rt;
+        core.step(Step::Unique {
+            owner: 0,
+            handle: 0
+        }),
+        Answer::Is(true)
+    );
+    assert_eq!(rt;
+        core.step(Step::Load {
+            owner: 1,
+            handle: 0
+        }),
+        Answer::Barred
+    );
+    Ok(())
+}
+
+#[test]
+fn a_run_answers_each_step_in_order(rt: HostRuntime) -> Result<(), Fail> {
+    let mut core = Core::new(rt.alloc(), 5u32, 1).map_err(|_| "memory")?;
+    let clone = Step::Clone {
+        owner: 0,
+        handle: 0,
+    };
+    let answers = core.run(&[
+        clone,
+        Step::Raise { owner: 0 },
+        Step::Drop {
+            owner: 0,
+            handle: 0,
+        },
+        Step::Lower { owner: 0 },
+        clone,
+    ])?;
+    assert_eq!(rt;
+        answers.as_slice(),
+        [
+            Answer::Pending,
+            Answer::Born(1),
+            Answer::Pending,
+            Answer::Ended,
+            Answer::Barred,
+        ]
+        .as_slice()
+    );
+    assert!(rt; core.run(&[])?.is_empty());
+    Ok(())
+}
+
+#[test]
+fn a_step_has_an_owner(rt: HostRuntime) -> Result<(), Fail> {
+    let give = Step::Give {
+        owner: 7,
+        handle: 1,
+        to: 2,
+    };
+    let write = Step::Write {
+        owner: 3,
+        handle: 0,
+        value: 9u32,
+    };
+    assert_eq!(rt; Step::<u32>::owner(&Step::Raise { owner: 4 }), 4);
+    assert_eq!(rt; Step::<u32>::owner(&give), 7);
+    assert_eq!(rt; write.owner(), 3);
+    Ok(())
+}
+
+#[test]
+fn the_laws_hold_at_a_type() {
+    laws::live_handles_are_those_that_live::<u32>();
+    laws::count_is_number_of_live_handles::<u32>();
+    laws::no_lower_wraps::<u32>();
+    laws::no_count_passes_limit::<u32>();
+    laws::marked_once_mark_is_answered::<u32>();
+    laws::marked_keeps_mark_and_value::<u32>();
+    laws::given_up_by_last_end::<u32>();
+    laws::given_up_once::<u32>();
+    laws::full_exactly_at_limit::<u32>();
+    laws::born_straight_after_read::<u32>();
+}

@@ -1,6 +1,6 @@
 -- What a read of the word for a clone finds: the limit, or a number of handles that a raise straight after it finds again.
 use Rattle.std.proofs.Common.{◌≡◌, ℕ, Bool, true, false, not, ◌&&◌, ◌||◌, if◌then◌else◌, nat_eq, nat_lt, length, Option, Some, None, refl, sym, ◌∙◌, ap, ap₂, true≢false, ◌⊎◌, inl, inr, ⊎_elim, ◌↔◌, eqb-true, eq-eqb}
-use Rattle.std.proofs.lemmas.Bool.{and_parts, and_from, or_parts, or_right, or_left, not-true}
+use Rattle.std.proofs.lemmas.Bool.{cond_both, true_from_ne_false, and_parts, and_from, or_parts, or_right, or_left, not-true}
 use Rattle.counting_core.specs.declared.step.Step.{Step}
 use Rattle.counting_core.specs.declared.step.Step.TheVariants.{Clone, Raise, Drop, Lower}
 use Rattle.counting_core.specs.declared.step.Answer.{Answer}
@@ -24,29 +24,22 @@ module _ {V : Type 0} where
 
   -- only a clone is answered Full, by a machine that is full
   full-event : (m : Machine V) (s : Step V) (e : Option (Event V)) → is_full_answer (answer_by m s e) ≡ true → (is_clones e ≡ true) × (is_full m ≡ true)
-  full-event m s (Some Clones) full = (refl, by_room (is_full m) full) where
-    by_room : (b : Bool) → is_full_answer (if b then Full else Born m.births) ≡ true → b ≡ true
-    by_room true e = refl
-    by_room false e = absurd (true≢false (sym e))
-  full-event m s (Some (Ends h)) full = absurd (true≢false (sym full ∙ by_last (is_last_end m h))) where
-    by_last : (b : Bool) → is_full_answer (if b then GivenUp m.value else Ended) ≡ false
-    by_last true = refl
-    by_last false = refl
-  full-event m s (Some (AsksMut h)) full = absurd (true≢false (sym full ∙ by_only (is_only m h))) where
-    by_only : (b : Bool) → is_full_answer (if b then Alone else Shared) ≡ false
-    by_only true = refl
-    by_only false = refl
+  full-event m s (Some Clones) full =
+      (refl, true_from_ne_false (is_full m) (λ room. true≢false (sym full ∙ ap (λ b. is_full_answer (if b then Full else Born m.births)) room)))
+  full-event m s (Some (Ends h)) full =
+      absurd (true≢false (sym full ∙ cond_both (is_last_end m h) (GivenUp m.value) Ended (λ a. is_full_answer a ≡ false) (λ _. refl) (λ _. refl)))
+  full-event m s (Some (AsksMut h)) full =
+      absurd (true≢false (sym full ∙ cond_both (is_only m h) Alone Shared (λ a. is_full_answer a ≡ false) (λ _. refl) (λ _. refl)))
   full-event m (Clone o h) None full = absurd (true≢false (sym full))
   full-event m s None full = absurd (true≢false (sym full))
   full-event m s (Some _) full = absurd (true≢false (sym full))
 
+  -- only a read for a clone is the event of a clone
   clones-read : (r : Replay V) (f : Option ℕ) (s : Step V) → is_clones (event r f s) ≡ true → is_clone_read s ≡ true
   clones-read r f (Clone o h) e = refl
   clones-read r f (Raise o) e = refl
-  clones-read r f (Drop o h) e = absurd (true≢false (sym e ∙ by_mark r.machine.mark)) where
-    by_mark : (b : Bool) → is_clones (if b then Some (Ends h) else None) ≡ false
-    by_mark true = refl
-    by_mark false = refl
+  clones-read r f (Drop o h) e =
+      absurd (true≢false (sym e ∙ cond_both r.machine.mark (Some (Ends h)) None (λ x. is_clones x ≡ false) (λ _. refl) (λ _. refl)))
   clones-read r None (Lower o) e = absurd (true≢false (sym e))
   clones-read r (Some h) (Lower o) e = absurd (true≢false (sym e))
   clones-read r f _ e = absurd (true≢false (sym e))
@@ -86,12 +79,11 @@ module _ {V : Type 0} where
         let answer : (due t s ≡ Full) × (takes_memory s (due t s) ≡ false) = full-answer (replay t) (dropping t (owner_of s)) s at.1 full in
         ⊎_elim (λ e. e ∙ answer.0) (λ m. absurd (true≢false (sym m.1 ∙ answer.1))) (legal.1.answered at.0)
 
-  unsettled : (m : Machine V) (s : Step V) (b : Bool) → is_pending (answer_by m s (clone_event b)) ≡ true → b ≡ false
+  -- a read for a clone that is answered Pending did not settle
+  pub unsettled : (m : Machine V) (s : Step V) (b : Bool) → is_pending (answer_by m s (clone_event b)) ≡ true → b ≡ false
   unsettled m s false e = refl
-  unsettled m s true e = absurd (true≢false (sym e ∙ by_room (is_full m))) where
-    by_room : (b : Bool) → is_pending {V = V} (if b then Full else Born m.births) ≡ false
-    by_room true = refl
-    by_room false = refl
+  unsettled m s true e =
+      absurd (true≢false (sym e ∙ cond_both (is_full m) Full (Born m.births) (λ (a : Answer V). is_pending a ≡ false) (λ _. refl) (λ _. refl)))
 
   -- a read for a clone that is answered Pending found no mark and not the limit, and was no event
   pending-read : (r : Replay V) (f : Option ℕ) (s : Step V) → is_clone_read s ≡ true → is_pending (answer_by r.machine s (event r f s)) ≡ true → (r.machine.mark ≡ false) × (is_full r.machine ≡ false) × (event r f s ≡ None)

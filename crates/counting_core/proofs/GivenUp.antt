@@ -1,6 +1,6 @@
 -- When the value is given up, and that no step is permitted afterwards.
 use Rattle.std.proofs.Common.{◌≡◌, ℕ, ◌≤◌, Bool, true, false, not, ◌&&◌, if◌then◌else◌, nat_eq, nat_lt, List, [], ◌∷◌, length, Option, Some, None, refl, sym, ◌∙◌, ap, arith, true≢false, ⊎_elim, eqb-true}
-use Rattle.std.proofs.lemmas.Bool.{and_parts, or_cases, false_from_ne_true}
+use Rattle.std.proofs.lemmas.Bool.{cond_both, and_parts, or_cases, false_from_ne_true}
 use Rattle.counting_core.specs.declared.step.Step.{Step}
 use Rattle.counting_core.specs.declared.step.Step.TheVariants.{Clone, Drop, Mark, Unique, Static, GetMut, Write, EndWrite, Load, Lend, Return, Give}
 use Rattle.counting_core.specs.declared.step.Answer.{Answer}
@@ -12,27 +12,26 @@ use Rattle.counting_core.specs.Legal.{replay, machine_by, answer_by, event, IsLe
 use Rattle.counting_core.specs.Laws.{live_handles, has_mark, some_answer, is_given_up}
 use Rattle.counting_core.proofs.LegalSteps.{was-permitted, was-due}
 use Rattle.counting_core.proofs.LiveHandles.{has, live-lives}
-use Rattle.counting_core.proofs.InFlight.{clone-may, drop-has}
+use Rattle.counting_core.proofs.InFlight.{drop-has}
+use Rattle.counting_core.proofs.ClonesInFlight.{clone-may}
 
 module _ {V : Type 0} where
   -- the answer to an end: the value, where the machine has no mark and no handle is left
   abbrev pub end_answer : Machine V → Machine V → Answer V
   end_answer m after = if not m.mark && nat_eq (length after.live) 0 then GivenUp m.value else Ended
 
+  -- an event is answered by an end as the machine that comes of it says
   end-reply : (m : Machine V) (s : Step V) (e : Option (Event V)) → is_end (answer_by m s e) ≡ true → answer_by m s e ≡ end_answer m (machine_by m e)
   end-reply m s (Some (Ends h)) end = refl
   end-reply m (Clone o h) None end = absurd (true≢false (sym end))
   end-reply m s None end = absurd (true≢false (sym end))
-  end-reply m s (Some Clones) end = absurd (true≢false (sym end ∙ by_room (is_full m))) where
-    by_room : (b : Bool) → is_end {V = V} (if b then Full else Born m.births) ≡ false
-    by_room true = refl
-    by_room false = refl
-  end-reply m s (Some (AsksMut h)) end = absurd (true≢false (sym end ∙ by_only (is_only m h))) where
-    by_only : (b : Bool) → is_end {V = V} (if b then Alone else Shared) ≡ false
-    by_only true = refl
-    by_only false = refl
+  end-reply m s (Some Clones) end =
+      absurd (true≢false (sym end ∙ cond_both (is_full m) Full (Born m.births) (λ (a : Answer V). is_end a ≡ false) (λ _. refl) (λ _. refl)))
+  end-reply m s (Some (AsksMut h)) end =
+      absurd (true≢false (sym end ∙ cond_both (is_only m h) Alone Shared (λ (a : Answer V). is_end a ≡ false) (λ _. refl) (λ _. refl)))
   end-reply m s (Some _) end = absurd (true≢false (sym end))
 
+  -- and so is a step
   ends-by : (t : Trace V) (s : Step V) (a : Answer V) → IsAnswer t s a → is_end a ≡ true → a ≡ end_answer (replay t).machine (replay (Then t s a)).machine
   ends-by t s a answer end =
       due ∙ end-reply (replay t).machine s (event (replay t) (dropping t (owner_of s)) s) (ap is_end (sym due) ∙ end)
@@ -49,6 +48,7 @@ module _ {V : Type 0} where
   pub given_up_by_last_end : (t : Trace V) (s : Step V) (a : Answer V) → IsLegal (Then t s a) → is_end a ≡ true → a ≡ end_answer (replay t).machine (replay (Then t s a)).machine
   given_up_by_last_end t s a legal end = ends-by t s a legal.1 end
 
+  -- to give the value up is an end
   given-up-is_end : (a : Answer V) → is_given_up a ≡ true → is_end a ≡ true
   given-up-is_end (GivenUp v) e = refl
   given-up-is_end _ e = absurd (true≢false (sym e))
@@ -91,6 +91,7 @@ module _ {V : Type 0} where
         by_flight None c (Some h) d e = (h, (and_parts (lives t h) _ (and_parts (holds (situation t) (owner_of s) h) _ (drop-has t legal (owner_of s) h d)).0).0)
         by_flight None c None d e = named-lives (situation t) s e
 
+  -- once the value is given up, no handle lives
   none-left : (t : Trace V) → IsLegal t → some_answer is_given_up t ≡ true → length (live_handles t) ≡ 0
   none-left (Open v n) legal e = absurd (true≢false (sym e))
   none-left (Then t s Barred) legal e = none-left t legal.0 e
@@ -103,6 +104,7 @@ module _ {V : Type 0} where
       absurd (omega arith))
       (or_cases (is_given_up a) _ e)
 
+  -- so no step is permitted
   none-permitted : (t : Trace V) (s : Step V) → IsLegal t → some_answer is_given_up t ≡ true → permitted (situation t) s ≡ false
   none-permitted t s legal given = false_from_ne_true _ (λ may.
       let none : length (live_handles t) ≡ 0 = none-left t legal given in

@@ -2,11 +2,12 @@ pub mod LegalSteps
 pub mod LiveHandles
 pub mod Touching
 pub mod InFlight
-pub mod LiveCounts
-pub mod Marks
 pub mod GivenUp
-pub mod CloneReads
+pub mod Marks
 pub mod NumberBelow
+pub mod LiveCounts
+pub mod CloneReads
+pub mod LostRaises
 pub mod Puts
 pub mod Situations
 pub mod Moving
@@ -19,3 +20,5 @@ pub mod Clones
 pub mod Marking
 pub mod Barring
 pub mod Running
+pub mod WorkedRows
+pub mod ClonesInFlight

@@ -48,9 +48,11 @@ module _ {V : Type 0} where
   live_handles_live t legal h = once h (live_handles t) (live-apart t) ∙ ap (λ b. if b then 1 else 0) (live-lives t legal h)
 
   module _ (core : CoreState V) (t : Trace V) (r : Represents core t) where
+    -- a handle is among the live ones where the core has it live
     lives-seen : (h : ℕ) → has h (live_handles t) ≡ (handle_state core h).lives
     lives-seen h = live-lives t r.legal h ∙ ap (λ (u : Situation). u.lives h) (sym r.same_situation)
 
+    -- and as many are
     live-counted : length (live_handles t) ≡ count_by (λ (handle : HandleState). handle.lives) core.handles
     live-counted =
         number-length (λ h. (handle_state core h).lives) (length core.handles) (live_handles t) (live-apart t)

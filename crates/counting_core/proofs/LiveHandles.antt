@@ -1,7 +1,7 @@
 -- The live handles of a trace's machine: apart, below the number of births, and the ones that the trace lets live.
 use Rattle.std.proofs.Common.{◌≡◌, ℕ, ◌+◌, ◌<◌, Bool, true, false, not, ◌&&◌, ◌||◌, nat_eq, List, [], ◌∷◌, ◌++◌, length, Option, Some, None, refl, sym, ◌∙◌, ap, arith, true≢false, lt_irrefl, if◌then◌else◌, eqb-true}
 use Rattle.std.specs.List.{list_any}
-use Rattle.std.proofs.lemmas.Bool.{and_parts, and_right, or_parts, or_from}
+use Rattle.std.proofs.lemmas.Bool.{cond_both, and_parts, and_right, or_parts, or_from}
 use Rattle.std.proofs.lemmas.Map.Views.{any-filter_same}
 use Rattle.counting_core.specs.declared.step.Step.{Step}
 use Rattle.counting_core.specs.declared.step.Step.TheVariants.{Clone, Raise, Drop, Lower, GetMut}
@@ -19,9 +19,11 @@ abbrev pub IsApart : List ℕ → Type 0
 IsApart [] = Unit {0}
 IsApart (x ∷ xs) = (has x xs ≡ false) × IsApart xs
 
+-- a number equals itself
 pub nat_eq-same : (a : ℕ) → nat_eq a a ≡ true
 nat_eq-same a = grind arith
 
+-- equality goes both ways
 nat_eq-swap : (a b : ℕ) → nat_eq a b ≡ nat_eq b a
 nat_eq-swap a b = grind arith
 
@@ -40,6 +42,7 @@ has-push k n (x ∷ xs) = ap (λ b. nat_eq k x || b) (has-push k n xs) ∙ swap 
   swap true false = refl
   swap false b = refl
 
+-- without a handle that it does not have, a list is as before
 pub without-absent : (h : ℕ) (xs : List ℕ) → has h xs ≡ false → without h xs ≡ xs
 without-absent h [] e = refl
 without-absent h (x ∷ xs) e =
@@ -58,6 +61,7 @@ length-without h (x ∷ xs) e apart = by_head (nat_eq h x) refl (λ i. length-wi
       let rest : length (without h xs) + 1 ≡ length xs = shorter (sym (ap (λ b. b || has h xs) q) ∙ e) in
       rw q (omega arith)
 
+-- handles that are apart stay so without one of them
 pub apart-without : (h : ℕ) (xs : List ℕ) → IsApart xs → IsApart (without h xs)
 apart-without h [] apart = tt
 apart-without h (x ∷ xs) apart = by_head (nat_eq h x) refl (apart-without h xs apart.1) where
@@ -65,6 +69,7 @@ apart-without h (x ∷ xs) apart = by_head (nat_eq h x) refl (apart-without h xs
   by_head true q rest = rw q rest
   by_head false q rest = rw q (has-without x h xs ∙ and_right (not (nat_eq h x)) (has x xs) apart.0, rest)
 
+-- and with a new one
 apart-push : (n : ℕ) (xs : List ℕ) → has n xs ≡ false → IsApart xs → IsApart (xs ++ n ∷ [])
 apart-push n [] absent apart = (refl, tt)
 apart-push n (x ∷ xs) absent apart =
@@ -81,6 +86,7 @@ module _ {V : Type 0} where
   abbrev pub grown : Machine V → Machine V
   grown m = record { value = m.value; live = m.live ++ m.births ∷ []; mark = m.mark; births = m.births + 1 }
 
+  -- a birth keeps handles numbered
   born : (m : Machine V) → IsNumbered m → IsNumbered (grown m)
   born m n = record {
     apart = apart-push m.births m.live (fresh (has m.births m.live) refl) n.apart;
@@ -95,11 +101,9 @@ module _ {V : Type 0} where
     by_birth h false q e =
         let lt : h < m.births = n.below h (sym (ap (λ b. b || has h m.live) q) ∙ e) in omega arith
 
+  -- every event does
   next-numbered : (m : Machine V) → IsNumbered m → (e : Event V) → IsNumbered (next m e)
-  next-numbered m n Clones = by_room (is_full m) where
-    by_room : (b : Bool) → IsNumbered (if b then m else grown m)
-    by_room true = n
-    by_room false = born m n
+  next-numbered m n Clones = cond_both (is_full m) m (grown m) IsNumbered (λ _. n) (λ _. born m n)
   next-numbered m n (Ends h) = record {
     apart = apart-without h m.live n.apart;
     below = λ k e. n.below k (and_parts (not (nat_eq h k)) (has k m.live) (sym (has-without k h m.live) ∙ e)).1;
@@ -108,6 +112,7 @@ module _ {V : Type 0} where
   next-numbered m n (Writes v) = record { apart = n.apart; below = n.below }
   next-numbered m n _ = n
 
+  -- so they are, after every trace
   numbered : (t : Trace V) → IsNumbered (replay t).machine
   numbered (Open v n) = record {
     apart = (refl, tt);
@@ -119,9 +124,11 @@ module _ {V : Type 0} where
     by_effect true None n = n
     by_effect false e n = n
 
+  -- the live handles are apart
   pub live-apart : (t : Trace V) → IsApart (replay t).machine.live
   live-apart t = (numbered t).apart
 
+  -- and below the number of births
   pub live-below : (t : Trace V) (h : ℕ) → has h (replay t).machine.live ≡ true → h < (replay t).machine.births
   live-below t h e = (numbered t).below h e
 
@@ -129,22 +136,23 @@ module _ {V : Type 0} where
   abbrev lives_on : Answer V → Bool → ℕ → Bool → Bool
   lives_on a ended h was = not (is_end a && ended) && (is_birth_of a h || was)
 
+  -- a clone that is answered Born makes that handle live, and one that is answered Full none
   cloned : (m : Machine V) (h : ℕ) → has h (next m Clones).live ≡ lives_on (reply m Clones) false h (has h m.live)
-  cloned m h = by_room (is_full m) where
-    by_room : (b : Bool) → has h (if b then m else grown m).live ≡ lives_on (if b then Full else Born m.births) false h (has h m.live)
-    by_room true = refl
-    by_room false = has-push h m.births m.live
+  cloned m h =
+      elim (is_full m) as (λ b. has h (if b then m else grown m).live ≡ lives_on (if b then Full else Born m.births) false h (has h m.live))
+      [ true ↦ refl | false ↦ has-push h m.births m.live ]
 
+  -- an end makes its handle live no more
   ended : (m : Machine V) (k h : ℕ) → has h (without k m.live) ≡ lives_on (reply m (Ends k)) (nat_eq k h) h (has h m.live)
-  ended m k h = by_last (is_last_end m k) where
-    by_last : (b : Bool) → has h (without k m.live) ≡ lives_on (if b then GivenUp m.value else Ended) (nat_eq k h) h (has h m.live)
-    by_last true = has-without h k m.live
-    by_last false = has-without h k m.live
+  ended m k h =
+      cond_both (is_last_end m k) (GivenUp m.value) Ended (λ a. has h (without k m.live) ≡ lives_on a (nat_eq k h) h (has h m.live))
+      (λ _. has-without h k m.live) (λ _. has-without h k m.live)
 
   -- what an event, or none, makes of the live handles is what the answer says
   abbrev Agrees : Machine V → Option ℕ → ℕ → Step V → Option (Event V) → Type 0
   Agrees m in_flight h s e = has h (machine_by m e).live ≡ lives_on (answer_by m s e) (ends s in_flight h) h (has h m.live)
 
+  -- each step agrees
   live-next : (r : Replay V) (f : Option ℕ) (h : ℕ) (s : Step V) → Agrees r.machine f h s (event r f s)
   live-next r f h (Clone o k) =
       elim (r.machine.mark || is_full r.machine) as (λ b. Agrees r.machine f h (Clone o k) (clone_event b)) [ true ↦ cloned r.machine h | false ↦ refl ]
@@ -155,9 +163,10 @@ module _ {V : Type 0} where
   live-next r None h (Lower o) = refl
   live-next r (Some k) h (Lower o) = ended r.machine k h
   live-next r f h (GetMut o k) =
-      elim (is_only r.machine k) as (λ b. has h r.machine.live ≡ lives_on (if b then Alone else Shared) false h (has h r.machine.live)) [ true ↦ refl | false ↦ refl ]
+      cond_both (is_only r.machine k) Alone Shared (λ a. has h r.machine.live ≡ lives_on a false h (has h r.machine.live)) (λ _. refl) (λ _. refl)
   live-next r f h _ = refl
 
+  -- a step that takes effect makes live in the machine what it makes live in the trace
   live-then : (t : Trace V) (s : Step V) (a : Answer V) → takes_effect a ≡ true → IsAnswer t s a → (h : ℕ) → has h (replay t).machine.live ≡ lives t h → has h (replay (Then t s a)).machine.live ≡ lives (Then t s a) h
   live-then t s a effect answer h was =
       ap (λ b. has h (if b then machine_by (replay t).machine (event (replay t) (dropping t (owner_of s)) s) else (replay t).machine).live) effect

@@ -1,6 +1,6 @@
 -- The mark of a trace's machine, and the limit that its live handles keep without one.
 use Rattle.std.proofs.Common.{◌≡◌, ◌≤◌, Bool, true, false, not, ◌&&◌, ◌||◌, if◌then◌else◌, nat_eq, length, Option, Some, None, refl, sym, ◌∙◌, ap, arith, length-append, true≢false}
-use Rattle.std.proofs.lemmas.Bool.{eqb-false, or_right, false_from_ne_true}
+use Rattle.std.proofs.lemmas.Bool.{cond_both, eqb-false, or_right, false_from_ne_true}
 use Rattle.std.proofs.lemmas.List.Sums.{length-filter, count_by-le-length}
 use Rattle.counting_core.specs.declared.step.Step.{Step}
 use Rattle.counting_core.specs.declared.step.Step.TheVariants.{Clone}
@@ -18,6 +18,7 @@ module _ {V : Type 0} where
   abbrev IsWithinLimit : Machine V → Type 0
   IsWithinLimit m = m.mark ≡ false → length m.live ≤ handle_limit
 
+  -- every event keeps the limit
   next-within : (m : Machine V) → IsWithinLimit m → (e : Event V) → IsWithinLimit (next m e)
   next-within m within Clones unmarked = by_room (is_full m) refl unmarked where
     by_room : (b : Bool) → is_full m ≡ b → (if b then m else grown m).mark ≡ false → length (if b then m else grown m).live ≤ handle_limit
@@ -46,33 +47,29 @@ module _ {V : Type 0} where
   mark-next : (m : Machine V) (s : Step V) (e : Option (Event V)) → (machine_by m e).mark ≡ (is_marked_answer (answer_by m s e) || m.mark)
   mark-next m (Clone o h) None = refl
   mark-next m s None = refl
-  mark-next m s (Some Clones) = by_room (is_full m) where
-    by_room : (b : Bool) → (if b then m else grown m).mark ≡ (is_marked_answer {V = V} (if b then Full else Born m.births) || m.mark)
-    by_room true = refl
-    by_room false = refl
-  mark-next m s (Some (Ends h)) = by_last (is_last_end m h) where
-    by_last : (b : Bool) → m.mark ≡ (is_marked_answer (if b then GivenUp m.value else Ended) || m.mark)
-    by_last true = refl
-    by_last false = refl
-  mark-next m s (Some (AsksMut h)) = by_only (is_only m h) where
-    by_only : (b : Bool) → m.mark ≡ (is_marked_answer {V = V} (if b then Alone else Shared) || m.mark)
-    by_only true = refl
-    by_only false = refl
+  mark-next m s (Some Clones) =
+      elim (is_full m) as (λ b. (if b then m else grown m).mark ≡ (is_marked_answer {V = V} (if b then Full else Born m.births) || m.mark)) [ true ↦ refl | false ↦ refl ]
+  mark-next m s (Some (Ends h)) =
+      cond_both (is_last_end m h) (GivenUp m.value) Ended (λ a. m.mark ≡ (is_marked_answer a || m.mark)) (λ _. refl) (λ _. refl)
+  mark-next m s (Some (AsksMut h)) =
+      cond_both (is_only m h) Alone Shared (λ (a : Answer V). m.mark ≡ (is_marked_answer a || m.mark)) (λ _. refl) (λ _. refl)
   mark-next m s (Some _) = refl
 
-  pub mark-then : (t : Trace V) (s : Step V) (a : Answer V) → takes_effect a ≡ true → IsAnswer t s a → has_mark (Then t s a) ≡ (is_marked_answer a || has_mark t)
+  -- so a step that takes effect marks where it is answered Marked
+  mark-then : (t : Trace V) (s : Step V) (a : Answer V) → takes_effect a ≡ true → IsAnswer t s a → has_mark (Then t s a) ≡ (is_marked_answer a || has_mark t)
   mark-then t s a effect answer =
       ap (λ b. (if b then machine_by (replay t).machine (event (replay t) (dropping t (owner_of s)) s) else (replay t).machine).mark) effect
       ∙ mark-next (replay t).machine s (event (replay t) (dropping t (owner_of s)) s)
       ∙ ap (λ x. is_marked_answer x || has_mark t) (sym (was-due answer effect))
 
   -- a machine is marked where some answer was Marked
-  pub marked_once : (t : Trace V) → IsLegal t → has_mark t ≡ some_answer is_marked_answer t
-  marked_once (Open v n) legal = refl
-  marked_once (Then t s Barred) legal = marked_once t legal.0
-  marked_once (Then t s Memory) legal = marked_once t legal.0
-  marked_once (Then t s a) legal = mark-then t s a refl legal.1 ∙ ap (λ b. is_marked_answer a || b) (marked_once t legal.0)
+  pub marked_if_answered : (t : Trace V) → IsLegal t → has_mark t ≡ some_answer is_marked_answer t
+  marked_if_answered (Open v n) legal = refl
+  marked_if_answered (Then t s Barred) legal = marked_if_answered t legal.0
+  marked_if_answered (Then t s Memory) legal = marked_if_answered t legal.0
+  marked_if_answered (Then t s a) legal = mark-then t s a refl legal.1 ∙ ap (λ b. is_marked_answer a || b) (marked_if_answered t legal.0)
 
+  -- a marked block gives no value up
   kept : (t : Trace V) (s : Step V) (a : Answer V) → IsAnswer t s a → has_mark t ≡ true → is_given_up a ≡ false
   kept t s a answer marked = false_from_ne_true (is_given_up a) (λ e. true≢false (sym marked ∙ (given-up t s a answer e).0))
 

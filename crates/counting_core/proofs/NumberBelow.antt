@@ -41,6 +41,12 @@ number-less f g more o fails (suc n) lt = by_last (nat_eq o n) refl (f n) refl (
     earlier false fa true gb c so = omega arith
     earlier false fa false gb c so = omega arith
 
+-- none pass where the test fails always
+pub number-none : (n : ℕ) → number_below (λ q. false) n ≡ 0
+number-none zero = refl
+number-none (suc n) = let rest : number_below (λ q. false) n ≡ 0 = number-none n in omega arith
+
+-- and all where it never does
 pub number-all : (n : ℕ) → number_below (λ q. true) n ≡ n
 number-all zero = refl
 number-all (suc n) = let rest : number_below (λ q. true) n ≡ n = number-all n in omega arith

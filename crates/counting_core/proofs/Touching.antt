@@ -1,7 +1,7 @@
 -- A step changes no handle but the one that it touches, and none but a user of a handle may touch it.
 use Rattle.std.proofs.Common.{◌≡◌, ℕ, ◌<◌, Bool, true, false, not, ◌&&◌, ◌||◌, if◌then◌else◌, nat_eq, nat_lt, List, [], ◌∷◌, Option, Some, None, refl, sym, ◌∙◌, ap, ap₂, subst, lt_irrefl, true≢false, ⊎_elim, ◌⊎◌, inl, inr, eqb-true}
 use Rattle.std.specs.List.{list_any}
-use Rattle.std.proofs.lemmas.Bool.{and_parts, or_cases, or_right}
+use Rattle.std.proofs.lemmas.Bool.{cond_both, and_parts, or_cases, or_right}
 use Rattle.counting_core.specs.declared.step.Step.{Step}
 use Rattle.counting_core.specs.declared.step.Step.TheVariants.{Clone, Drop, Lower, GetMut, EndWrite, Lend, Return, Give}
 use Rattle.counting_core.specs.declared.step.Answer.{Answer}
@@ -21,11 +21,13 @@ handle_at t h = record { lives = t.lives h; holder = t.holder h; borrowers = t.b
 abbrev pub uses : Situation → ℕ → ℕ → Bool
 uses t o h = t.lives h && (nat_eq (t.holder h) o || is_lent_to t h o)
 
+-- a holder uses its handle
 uses-held : (t : Situation) (o h : ℕ) → holds t o h ≡ true → uses t o h ≡ true
 uses-held t o h e =
     let parts : (t.lives h ≡ true) × (nat_eq (t.holder h) o ≡ true) = and_parts (t.lives h) (nat_eq (t.holder h) o) e in
     ap₂ (λ a b. a && (b || is_lent_to t h o)) parts.0 parts.1
 
+-- so does who has it to itself
 pub uses-own : (t : Situation) (o h : ℕ) → has_to_itself t o h ≡ true → uses t o h ≡ true
 uses-own t o h e = uses-held t o h (and_parts (holds t o h) _ e).0
 
@@ -46,13 +48,16 @@ pub record IsToucher (t : Situation) (o h : ℕ) (lending : Bool) : Type 0 where
   pub used : uses t o h ≡ true
   pub alone : lending ≡ false → (has_to_itself t o h ≡ true) ⊎ (t.written h ≡ true)
 
+-- who has a handle to itself may touch it
 toucher-own : (u : Situation) (o h : ℕ) (lending : Bool) → has_to_itself u o h ≡ true → IsToucher u o h lending
 toucher-own u o h lending e = record { used = uses-own u o h e; alone = λ _. inl e }
 
+-- a choice between equals
 either : {A : Type 0} (b : Bool) (x y : A) → x ≡ y → (if b then x else y) ≡ y
 either true x y e = e
 either false x y e = refl
 
+-- whether a handle is the one in flight
 abbrev pub is_of : Option ℕ → ℕ → Bool
 is_of None h = false
 is_of (Some k) h = nat_eq k h
@@ -69,25 +74,30 @@ module _ {V : Type 0} where
   touches (Give o k to) f h = nat_eq k h
   touches _ f h = false
 
+  -- what a step does not touch it does not end
   untouched-ends : (s : Step V) (f : Option ℕ) (h : ℕ) → touches s f h ≡ false → ends s f h ≡ false
   untouched-ends (Drop o k) f h e = e
   untouched-ends (Lower o) None h e = refl
   untouched-ends (Lower o) (Some k) h e = e
   untouched-ends _ f h e = refl
 
+  -- nor give away
   untouched-holder : (s : Step V) (f : Option ℕ) (h was : ℕ) → touches s f h ≡ false → holder_after s was h ≡ was
   untouched-holder (Give o k to) f h was e = ap (λ b. if b then to else was) e
   untouched-holder _ f h was e = refl
 
+  -- nor lend or return
   untouched-borrowers : (s : Step V) (f : Option ℕ) (h : ℕ) (was : List ℕ) → touches s f h ≡ false → borrowers_after s was h ≡ was
   untouched-borrowers (Lend o k to) f h was e = rw e
   untouched-borrowers (Return o k) f h was e = rw e
   untouched-borrowers _ f h was e = refl
 
+  -- nor begin to write
   untouched-get_mut : (s : Step V) (f : Option ℕ) (h : ℕ) → touches s f h ≡ false → is_get_mut_of s h ≡ false
   untouched-get_mut (GetMut o k) f h e = e
   untouched-get_mut _ f h e = refl
 
+  -- nor cease to write
   untouched-end_write : (s : Step V) (f : Option ℕ) (h : ℕ) → touches s f h ≡ false → is_end_write_of s h ≡ false
   untouched-end_write (EndWrite o k) f h e = e
   untouched-end_write _ f h e = refl
@@ -131,18 +141,11 @@ module _ {V : Type 0} where
 
     by_event : (e : Option (Event V)) → is_birth_of (answer_by (replay t).machine s e) h ≡ false
     by_event None = quiet s
-    by_event (Some Clones) = by_room (is_full (replay t).machine) where
-      by_room : (b : Bool) → is_birth_of {V = V} (if b then Full else Born (replay t).machine.births) h ≡ false
-      by_room true = refl
-      by_room false = later (nat_eq (replay t).machine.births h) refl
-    by_event (Some (Ends k)) = by_last (is_last_end (replay t).machine k) where
-      by_last : (b : Bool) → is_birth_of (if b then GivenUp (replay t).machine.value else Ended) h ≡ false
-      by_last true = refl
-      by_last false = refl
-    by_event (Some (AsksMut k)) = by_only (is_only (replay t).machine k) where
-      by_only : (b : Bool) → is_birth_of {V = V} (if b then Alone else Shared) h ≡ false
-      by_only true = refl
-      by_only false = refl
+    by_event (Some Clones) =
+        cond_both (is_full (replay t).machine) Full (Born (replay t).machine.births) (λ (a : Answer V). is_birth_of a h ≡ false)
+        (λ _. refl) (λ _. later (nat_eq (replay t).machine.births h) refl)
+    by_event (Some (Ends k)) = cond_both (is_last_end (replay t).machine k) (GivenUp (replay t).machine.value) Ended (λ a. is_birth_of a h ≡ false) (λ _. refl) (λ _. refl)
+    by_event (Some (AsksMut k)) = cond_both (is_only (replay t).machine k) Alone Shared (λ (a : Answer V). is_birth_of a h ≡ false) (λ _. refl) (λ _. refl)
     by_event _ = refl
 
   -- an owner with nothing in flight, by a step that is neither a raise, nor a quit, nor a lower

@@ -8,7 +8,7 @@ use Rattle.counting_core.specs.declared.step.Answer.TheVariants.{Born, Full, Pen
 use Rattle.counting_core.specs.Trace.{Trace, Open, Then, owner_of, is_end, lives, situation}
 use Rattle.counting_core.specs.Permitted.{permitted}
 use Rattle.counting_core.specs.PlainMachine.{handle_limit}
-use Rattle.counting_core.specs.Legal.{replay, IsLegal}
+use Rattle.counting_core.specs.Legal.{replay, due, IsLegal}
 use Rattle.counting_core.specs.Represents.{CoreState, HandleState, Represents}
 
 module _ {V : Type 0} where
@@ -30,18 +30,27 @@ module _ {V : Type 0} where
   some_answer is_it (Open v n) = false
   some_answer is_it (Then t s a) = is_it a || some_answer is_it t
 
+  -- the answer to a step, want of memory aside
+  abbrev pub answer : Trace V → Step V → Answer V
+  answer t s = if permitted (situation t) s then due t s else Barred
+
   -- a step that reads the word for a clone
   abbrev pub is_clone_read : Step V → Bool
   is_clone_read (Clone o h) = true
   is_clone_read (Raise o) = true
   is_clone_read _ = false
 
-abbrev pub LiveHandlesAreThoseThatLive : Type 0 → Type 0
-LiveHandlesAreThoseThatLive V =
+abbrev pub EachStepHasOneAnswer : Type 0 → Type 0
+EachStepHasOneAnswer V =
+    (t : Trace V) (s : Step V) → IsLegal t
+    → IsLegal (Then t s (answer t s)) × ((a : Answer V) → IsLegal (Then t s a) → (a ≡ answer t s) ⊎ (a ≡ Memory))
+
+abbrev pub LiveHandlesLive : Type 0 → Type 0
+LiveHandlesLive V =
     (t : Trace V) → IsLegal t → (h : ℕ) → count_by (nat_eq h) (live_handles t) ≡ (if lives t h then 1 else 0)
 
-abbrev pub CountIsNumberOfLiveHandles : Type 0 → Type 0
-CountIsNumberOfLiveHandles V =
+abbrev pub CountIsTheNumberOfLiveHandles : Type 0 → Type 0
+CountIsTheNumberOfLiveHandles V =
     (core : CoreState V) (t : Trace V) → Represents core t → is_marked_word core.word ≡ false
     → (count_of core.word ≡ length (live_handles t)) × (count_of core.word ≡ count_by (λ (handle : HandleState). handle.lives) core.handles)
 
@@ -52,11 +61,11 @@ NoLowerWraps V =
 abbrev pub NoCountPassesLimit : Type 0 → Type 0
 NoCountPassesLimit V = (t : Trace V) → IsLegal t → has_mark t ≡ false → length (live_handles t) ≤ handle_limit
 
-abbrev pub MarkedOnceMarkIsAnswered : Type 0 → Type 0
-MarkedOnceMarkIsAnswered V = (t : Trace V) → IsLegal t → has_mark t ≡ some_answer is_marked_answer t
+abbrev pub MarkedExactlyIfAnswered : Type 0 → Type 0
+MarkedExactlyIfAnswered V = (t : Trace V) → IsLegal t → has_mark t ≡ some_answer is_marked_answer t
 
-abbrev pub MarkedKeepsMarkAndValue : Type 0 → Type 0
-MarkedKeepsMarkAndValue V =
+abbrev pub MarkedBlockKeepsItsValue : Type 0 → Type 0
+MarkedBlockKeepsItsValue V =
     (t : Trace V) (s : Step V) (a : Answer V) → IsLegal (Then t s a) → has_mark t ≡ true → (has_mark (Then t s a) ≡ true) × (is_given_up a ≡ false)
 
 abbrev pub GivenUpByLastEnd : Type 0 → Type 0

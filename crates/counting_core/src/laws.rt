@@ -1,16 +1,23 @@
 //! What holds of every legal trace, and of every core that represents one.
-ghost use Rattle.counting_core.specs.Laws.{LiveHandlesAreThoseThatLive, CountIsNumberOfLiveHandles, NoLowerWraps, NoCountPassesLimit, MarkedOnceMarkIsAnswered, MarkedKeepsMarkAndValue, GivenUpByLastEnd, GivenUpOnce, FullExactlyAtLimit, BornStraightAfterRead};
+ghost use Rattle.counting_core.specs.Laws.{EachStepHasOneAnswer, LiveHandlesLive, CountIsTheNumberOfLiveHandles, NoLowerWraps, NoCountPassesLimit, MarkedExactlyIfAnswered, MarkedBlockKeepsItsValue, GivenUpByLastEnd, GivenUpOnce, FullExactlyAtLimit, BornStraightAfterRead};
+ghost use Rattle.counting_core.specs.LostRaises.{LostRaisesAreBounded};
+
+/// After every legal trace each step has a legal answer, and no other but Memory.
+#[tactic(auto, using(crate::proofs::LegalSteps::one_answer))]
+pub fn each_step_has_one_answer<V: Copy>()
+    ensures { EachStepHasOneAnswer V }
+{}
 
 /// The handles that the plain machine has live are those that the trace lets live, each once.
 #[tactic(auto, using(crate::proofs::LiveCounts::live_handles_live))]
-pub fn live_handles_are_those_that_live<V: Copy>()
-    ensures { LiveHandlesAreThoseThatLive V }
+pub fn live_handles_live<V: Copy>()
+    ensures { LiveHandlesLive V }
 {}
 
 /// The count of a core's unmarked word is the number of its live handles.
 #[tactic(auto, using(crate::proofs::LiveCounts::count_is_live))]
-pub fn count_is_number_of_live_handles<V: Copy>()
-    ensures { CountIsNumberOfLiveHandles V }
+pub fn count_is_the_number_of_live_handles<V: Copy>()
+    ensures { CountIsTheNumberOfLiveHandles V }
 {}
 
 /// Where a lower is permitted the word's count is not zero, marked or not, so no lower wraps.
@@ -26,15 +33,14 @@ pub fn no_count_passes_limit<V: Copy>()
 {}
 
 /// A block is marked exactly where some answer was Marked.
-#[tactic(auto, using(crate::proofs::Marks::marked_once))]
-pub fn marked_once_mark_is_answered<V: Copy>()
-    ensures { MarkedOnceMarkIsAnswered V }
+#[tactic(auto, using(crate::proofs::Marks::marked_if_answered))]
+pub fn marked_exactly_if_answered<V: Copy>()
+    ensures { MarkedExactlyIfAnswered V }
 {}
 
 /// A marked block stays marked, and its value is never given up.
-#[tactic(auto, using(crate::proofs::Marks::keeps_mark))]
-pub fn marked_keeps_mark_and_value<V: Copy>()
-    ensures { MarkedKeepsMarkAndValue V }
+pub fn marked_block_keeps_its_value<V: Copy>()
+    ensures { MarkedBlockKeepsItsValue V }
 {}
 
 /// An end gives the value up exactly where it leaves no handle of an unmarked block.
@@ -59,4 +65,11 @@ pub fn full_exactly_at_limit<V: Copy>()
 #[tactic(auto, using(crate::proofs::CloneReads::born_straight_after_read))]
 pub fn born_straight_after_read<V: Copy>()
     ensures { BornStraightAfterRead V }
+{}
+
+/// A raise loses only to a birth or an end of another owner's: the raises that lost are at most the number of the other
+/// owners times that of the births and the ends.
+#[tactic(auto, using(crate::proofs::LostRaises::lost_raises_are_bounded))]
+pub fn lost_raises_are_bounded<V: Copy>()
+    ensures { LostRaisesAreBounded V }
 {}

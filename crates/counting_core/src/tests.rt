@@ -82,14 +82,16 @@ fn a_step_has_an_owner(rt: HostRuntime) -> Result<(), Fail> {
 
 #[test]
 fn the_laws_hold_at_a_type() {
-    laws::live_handles_are_those_that_live::<u32>();
-    laws::count_is_number_of_live_handles::<u32>();
+    laws::each_step_has_one_answer::<u32>();
+    laws::live_handles_live::<u32>();
+    laws::count_is_the_number_of_live_handles::<u32>();
     laws::no_lower_wraps::<u32>();
     laws::no_count_passes_limit::<u32>();
-    laws::marked_once_mark_is_answered::<u32>();
-    laws::marked_keeps_mark_and_value::<u32>();
+    laws::marked_exactly_if_answered::<u32>();
+    laws::marked_block_keeps_its_value::<u32>();
     laws::given_up_by_last_end::<u32>();
     laws::given_up_once::<u32>();
     laws::full_exactly_at_limit::<u32>();
     laws::born_straight_after_read::<u32>();
+    laws::lost_raises_are_bounded::<u32>();
 }

@@ -1,0 +1,5 @@
+pub mod Arguments
+pub mod Fault
+pub mod Line
+pub mod Number
+pub mod StepLine

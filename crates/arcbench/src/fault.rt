@@ -1,0 +1,57 @@
+//! What ends a run before the end of its script.
+ghost use Rattle.std.specs.Prelude.{◌≡◌};
+
+use std::alloc::AllocError;
+use std::io::Write;
+use thiserror::Error;
+
+#[derive(Debug, Drop, Error)]
+pub enum Fault {
+    #[error("fault: arguments")]
+    Arguments,
+    #[error("fault: line {0}")]
+    Line(u64),
+    #[error("fault: input")]
+    Input,
+    #[error("fault: output")]
+    Output,
+    #[error("fault: memory")]
+    Memory,
+}
+
+impl From<AllocError> for Fault {
+    fn from(_error: AllocError) -> Fault {
+        Fault::Memory
+    }
+}
+
+impl Fault {
+    ghost use Rattle.arcbench.specs.Fault.{status_of};
+
+    /// The exit status that tells of the fault.
+    pub fn status(&self) -> u8
+        ensures { result ≡ status_of self.now }
+    {
+        match self {
+            Fault::Arguments => 1,
+            Fault::Line(_) => 2,
+            Fault::Input => 3,
+            Fault::Output => 4,
+            Fault::Memory => 5,
+        }
+    }
+
+    /// Writes the fault to standard error, if it is told there, and answers its status. Where that
+    /// cannot be written nobody is left to tell, and the status stays.
+    pub fn report<E: Write>(&self, errors: &mut E) -> u8
+        ensures { result ≡ status_of self.now }
+    {
+        match self {
+            Fault::Line(_) | Fault::Output => {}
+            Fault::Arguments | Fault::Input | Fault::Memory => {
+                let _ = writeln!(errors, "{self}");
+            }
+        }
+        self.status()
+    }
+}

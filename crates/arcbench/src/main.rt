@@ -1,0 +1,99 @@
+//! `arcbench core OWNERS` runs a script of steps on a counting core and prints an answer a line.
+#![tactic(auto)]
+
+mod arguments;
+mod core_script;
+mod fault;
+mod line;
+mod number;
+mod script;
+
+ghost use Rattle.std.specs.Prelude.{◌≡◌, ◌≤◌, ◌↔◌, ◌⊎◌, IsErrOf, map};
+ghost use Rattle.arcbench.specs.Arguments.{AskNothing};
+ghost use Rattle.arcbench.specs.declared.fault.Fault.TheVariants as Fault;
+
+use arguments::Request;
+use fault::Fault;
+use std::alloc::{AllocError, Global};
+use std::convert::AsStr;
+use std::env::{Env, FillError};
+use std::io;
+use std::io::{Read, Write};
+use std::process::ExitCode;
+
+/// Longer than any right argument.
+const ARGUMENT_ROOM: usize = 64;
+
+/// Runs the program on its argument words, without its own name, and answers its exit status.
+pub fn bench<S: AsStr, R: Read, W: Write, E: Write>(
+    alloc: Global,
+    words: &[S],
+    input: &mut R,
+    output: &mut W,
+    errors: &mut E,
+) -> u8
+    ensures range { result ≤ 5 }
+    ensures arguments { (result ≡ 1) ↔ AskNothing (map S.text words.now) }
+    ensures unread { result ≡ 1 → input.new ≡ input.old }
+    ensures unwritten { (result ≡ 1) ⊎ (result ≡ 3) → output.new ≡ output.old }
+{
+    match run(alloc, words, input, output) {
+        Ok(()) => 0,
+        Err(fault) => fault.report(errors),
+    }
+}
+
+fn run<S: AsStr, R: Read, W: Write>(
+    alloc: Global,
+    words: &[S],
+    input: &mut R,
+    output: &mut W,
+) -> Result<(), Fault>
+    ensures arguments { IsErrOf result Fault.Arguments ↔ AskNothing (map S.text words.now) }
+    ensures unread { IsErrOf result Fault.Arguments → input.new ≡ input.old }
+    ensures unwritten { IsErrOf result Fault.Arguments ⊎ IsErrOf result Fault.Input → output.new ≡ output.old }
+{
+    let request = Request::from_words(words).ok_or(Fault::Arguments)?;
+    let script = script::read(alloc, input)?;
+    match request {
+        Request::Core { owners } => core_script::run(alloc, owners, &script, output),
+    }
+}
+
+// One of the words, or nothing past the last. A word that is not UTF-8, or too long to be right, is
+// handed on as the empty text.
+fn argument_word(rt: &impl Env, alloc: Global, index: usize) -> Result<Option<String>, AllocError> {
+    let mut buffer = [0u8; ARGUMENT_ROOM];
+    match rt.arg(index, &mut buffer) {
+        Ok(length) => match str::from_utf8(&buffer[..length]) {
+            Ok(text) => Ok(Some(String::from_str(alloc, text)?)),
+            Err(_) => Ok(Some(String::new(alloc))),
+        },
+        Err(FillError::TooLong) => Ok(Some(String::new(alloc))),
+        Err(FillError::NotPresent) => Ok(None),
+    }
+}
+
+// The words after the program's own name.
+fn argument_words(rt: &impl Env, alloc: Global) -> Result<Vec<String>, AllocError> {
+    let mut words = Vec::new(alloc);
+    for index in 1..usize::MAX {
+        let Some(word) = argument_word(rt, alloc, index)? else {
+            break;
+        };
+        words.push(word)?;
+    }
+    Ok(words)
+}
+
+fn main(rt: HostRuntime) -> ExitCode {
+    let (mut input, mut output, mut errors) = (rt.stdin(), rt.stdout(), rt.stderr());
+    let status = match argument_words(&rt, rt.alloc()) {
+        Ok(words) => bench(rt.alloc(), &words, &mut input, &mut output, &mut errors),
+        Err(AllocError) => Fault::Memory.report(&mut errors),
+    };
+    ExitCode::from(status)
+}
+
+#[cfg(test)]
+mod tests;

@@ -1,0 +1,413 @@
+use super::*;
+use std::io::ErrorKind;
+use std::process::Abort;
+use std::test::Fail;
+
+mod fakes;
+
+use fakes::{FailingReader, FailingWriter};
+
+/// What a run wrote, and how it ended.
+#[derive(Drop)]
+struct Ran {
+    output: Vec<u8>,
+    errors: Vec<u8>,
+    status: u8,
+}
+
+fn run_bench(alloc: Global, words: &[&str], mut script: &[u8]) -> Ran {
+    let (mut output, mut errors) = (Vec::new(alloc), Vec::new(alloc));
+    let status = bench(alloc, words, &mut script, &mut output, &mut errors);
+    Ran {
+        output,
+        errors,
+        status,
+    }
+}
+
+/// The lines of a text in which they are separated by ` / `.
+fn lines_of(alloc: Global, text: &str) -> Result<String, AllocError> {
+    let mut lines = String::new(alloc);
+    for line in text.split(" / ") {
+        lines.push_str(line)?;
+        lines.push('\n')?;
+    }
+    Ok(lines)
+}
+
+/// A script, the number of its owners, and its answers.
+struct Row {
+    name: &'static str,
+    owners: &'static str,
+    script: &'static str,
+    answers: &'static str,
+}
+
+impl Row {
+    fn check(&self, rt: &impl Abort, alloc: Global, status: u8) -> Result<(), AllocError> {
+        let name = self.name;
+        let script = lines_of(alloc, self.script)?;
+        let answers = lines_of(alloc, self.answers)?;
+        let ran = run_bench(alloc, &["core", self.owners], script.as_bytes());
+        assert_eq!(rt;
+            str::from_utf8(&ran.output).unwrap_or("no text"),
+            answers.as_str(),
+            "{name}"
+        );
+        assert_eq!(rt; ran.status, status, "{name}");
+        assert!(rt; ran.errors.is_empty(), "{name}");
+        Ok(())
+    }
+}
+
+const ONE_OWNER: [Row; 10] = [
+    Row {
+        name: "the last handle gives the value up",
+        owners: "1",
+        script: "unique 0 0 / drop 0 0 / lower 0",
+        answers: "is true / pending / given up 5",
+    },
+    Row {
+        name: "a drop in flight bars all but its lower",
+        owners: "1",
+        script: "drop 0 0 / unique 0 0 / lower 0 / lower 0",
+        answers: "pending / barred / given up 5 / barred",
+    },
+    Row {
+        name: "only what is there is loaded",
+        owners: "1",
+        script: "load 1 0 / load 0 1 / load 0 0",
+        answers: "barred / barred / value 5",
+    },
+    Row {
+        name: "nothing follows the value's end",
+        owners: "1",
+        script: "drop 0 0 / lower 0 / load 0 0 / lower 0",
+        answers: "pending / given up 5 / barred / barred",
+    },
+    Row {
+        name: "a marked block stays",
+        owners: "1",
+        script: "mark 0 0 / mark 0 0 / unique 0 0 / drop 0 0",
+        answers: "marked / marked / is false / ended",
+    },
+    Row {
+        name: "a marked block is not written",
+        owners: "1",
+        script: "mark 0 0 / getmut 0 0 / drop 0 0 / load 0 0",
+        answers: "marked / shared / ended / barred",
+    },
+    Row {
+        name: "a clone in flight bars all but its raise and its quit",
+        owners: "1",
+        script: "clone 0 0 / drop 0 0 / quit 0 / quit 0",
+        answers: "pending / barred / quit / barred",
+    },
+    Row {
+        name: "a clone outlives its origin",
+        owners: "1",
+        script: "clone 0 0 / raise 0 / unique 0 0 / drop 0 0 / unique 0 1 / lower 0 / unique 0 1 / load 0 0",
+        answers: "pending / born 1 / is false / pending / barred / ended / is true / barred",
+    },
+    Row {
+        name: "nothing in flight is gone on with",
+        owners: "1",
+        script: "raise 0 / lower 0 / quit 0 / clone 0 0 / quit 0 / drop 0 0 / lower 0",
+        answers: "barred / barred / barred / pending / quit / pending / given up 5",
+    },
+    Row {
+        name: "the only handle is written in place",
+        owners: "1",
+        script: "getmut 0 0 / clone 0 0 / write 0 0 9 / endwrite 0 0 / load 0 0",
+        answers: "alone / barred / done / done / value 9",
+    },
+];
+
+const TWO_OWNERS: [Row; 8] = [
+    Row {
+        name: "an owner without a handle is barred",
+        owners: "2",
+        script: "lower 0 / load 1 0 / load 0 0 / drop 0 1",
+        answers: "barred / barred / value 5 / barred",
+    },
+    Row {
+        name: "a handle is given once",
+        owners: "2",
+        script: "give 0 0 1 / load 0 0 / load 1 0 / give 1 0 1",
+        answers: "done / barred / value 5 / barred",
+    },
+    Row {
+        name: "a drop in flight still counts",
+        owners: "2",
+        script: "lend 0 0 1 / clone 1 0 / raise 1 / return 1 0 / unique 0 0 / drop 1 1 / unique 0 0 / lower 1 / unique 0 0",
+        answers: "done / pending / born 1 / done / is false / pending / is false / ended / is true",
+    },
+    Row {
+        name: "a clone in flight when the mark comes",
+        owners: "2",
+        script: "lend 0 0 1 / clone 1 0 / mark 0 0 / raise 1 / static 1 1",
+        answers: "done / pending / marked / born 1 / is true",
+    },
+    Row {
+        name: "a drop in flight when the mark comes",
+        owners: "2",
+        script: "lend 0 0 1 / clone 1 0 / raise 1 / return 1 0 / drop 1 1 / mark 0 0 / clone 0 0 / lower 1 / drop 0 0 / drop 0 2",
+        answers: "done / pending / born 1 / done / pending / marked / born 2 / ended / ended / ended",
+    },
+    Row {
+        name: "a lent handle stays",
+        owners: "2",
+        script: "lend 0 0 1 / drop 0 0 / getmut 0 0 / lower 0 / drop 1 0",
+        answers: "done / barred / barred / barred / barred",
+    },
+    Row {
+        name: "a handle is lent once to another owner",
+        owners: "2",
+        script: "lend 0 0 0 / lend 0 0 1 / lend 0 0 1 / give 0 0 1 / lend 1 0 0",
+        answers: "barred / done / barred / barred / barred",
+    },
+    Row {
+        name: "no handle is returned in the middle of a clone",
+        owners: "2",
+        script: "lend 0 0 1 / clone 1 0 / return 1 0 / getmut 0 0 / raise 1 / return 1 0 / getmut 0 0 / drop 1 1 / lower 1 / getmut 0 0",
+        answers: "done / pending / barred / barred / born 1 / done / shared / pending / ended / alone",
+    },
+];
+
+const THREE_OWNERS: [Row; 4] = [
+    Row {
+        name: "a stale read loses once",
+        owners: "3",
+        script: "lend 0 0 1 / lend 0 0 2 / clone 1 0 / clone 2 0 / raise 2 / raise 1 / raise 1",
+        answers: "done / done / pending / pending / born 1 / pending / born 2",
+    },
+    Row {
+        name: "a clone that is given up leaves no trace",
+        owners: "3",
+        script: "lend 0 0 1 / lend 0 0 2 / clone 1 0 / clone 2 0 / raise 2 / raise 1 / quit 1 / unique 0 0 / drop 2 1 / lower 2 / unique 0 0",
+        answers: "done / done / pending / pending / born 1 / pending / quit / is false / pending / ended / is true",
+    },
+    Row {
+        name: "a word that came back lets the raise win",
+        owners: "3",
+        script: "lend 0 0 1 / lend 0 0 2 / clone 1 0 / clone 2 0 / raise 2 / drop 2 1 / lower 2 / raise 1",
+        answers: "done / done / pending / pending / born 1 / pending / ended / born 2",
+    },
+    Row {
+        name: "a drop in flight keeps the word from coming back",
+        owners: "3",
+        script: "lend 0 0 1 / lend 0 0 2 / clone 1 0 / clone 2 0 / raise 2 / drop 2 1 / raise 1",
+        answers: "done / done / pending / pending / born 1 / pending / pending",
+    },
+];
+
+#[test]
+fn answers_each_step(rt: HostRuntime) -> Result<(), Fail> {
+    let alloc = rt.alloc();
+    for row in ONE_OWNER.iter().chain(&TWO_OWNERS).chain(&THREE_OWNERS) {
+        row.check(&rt, alloc, 0)?;
+    }
+    Ok(())
+}
+
+/// A script as its bytes, and what it prints up to its fault.
+struct Bytes {
+    script: &'static [u8],
+    output: &'static [u8],
+    status: u8,
+}
+
+const BYTES: [Bytes; 15] = [
+    Bytes {
+        script: b"",
+        output: b"",
+        status: 0,
+    },
+    Bytes {
+        script: b"unique 0 0",
+        output: b"is true\n",
+        status: 0,
+    },
+    Bytes {
+        script: b"unique 0 0\nunique 0\n",
+        output: b"is true\nfault: line 2\n",
+        status: 2,
+    },
+    Bytes {
+        script: b"unique 0 0\n\n",
+        output: b"is true\nfault: line 2\n",
+        status: 2,
+    },
+    Bytes {
+        script: b"\n",
+        output: b"fault: line 1\n",
+        status: 2,
+    },
+    Bytes {
+        script: b"unique 0 0\r\n",
+        output: b"fault: line 1\n",
+        status: 2,
+    },
+    Bytes {
+        script: b"load 0 4294967295\nload 0 4294967296\n",
+        output: b"barred\nfault: line 2\n",
+        status: 2,
+    },
+    Bytes {
+        script: b"load 0 0\nunique  0 0\n",
+        output: b"value 5\nfault: line 2\n",
+        status: 2,
+    },
+    Bytes {
+        script: b"unique 0 0 \n",
+        output: b"fault: line 1\n",
+        status: 2,
+    },
+    Bytes {
+        script: b" unique 0 0\n",
+        output: b"fault: line 1\n",
+        status: 2,
+    },
+    Bytes {
+        script: b"lend 0 0\nload 0 0\n",
+        output: b"fault: line 1\n",
+        status: 2,
+    },
+    Bytes {
+        script: b"\0",
+        output: b"fault: line 1\n",
+        status: 2,
+    },
+    Bytes {
+        script: b"\xff",
+        output: b"fault: line 1\n",
+        status: 2,
+    },
+    Bytes {
+        script: b"Load 0 0\n",
+        output: b"fault: line 1\n",
+        status: 2,
+    },
+    Bytes {
+        script: b"load 0 00\n",
+        output: b"fault: line 1\n",
+        status: 2,
+    },
+];
+
+#[test]
+fn stops_at_the_first_faulty_line(rt: HostRuntime) {
+    let alloc = rt.alloc();
+    for Bytes {
+        script,
+        output,
+        status,
+    } in &BYTES {
+        let ran = run_bench(alloc, &["core", "1"], script);
+        assert_eq!(rt; ran.output.as_slice(), *output, "{script:?}");
+        assert_eq!(rt; ran.status, *status, "{script:?}");
+        assert!(rt; ran.errors.is_empty(), "{script:?}");
+    }
+}
+
+const WRONG_ARGUMENTS: [&[&str]; 12] = [
+    &[],
+    &["core"],
+    &["core", "0"],
+    &["core", "01"],
+    &["core", "1001"],
+    &["core", "+1"],
+    &["core", ""],
+    &["", ""],
+    &["Core", "1"],
+    &["core", "1", "1"],
+    &["table", "1"],
+    &["table", "1001"],
+];
+
+#[test]
+fn judges_arguments_before_input(rt: HostRuntime) {
+    let alloc = rt.alloc();
+    for words in &WRONG_ARGUMENTS {
+        let mut input = FailingReader { reads_before: 0 };
+        let (mut output, mut errors) = (Vec::new(alloc), Vec::new(alloc));
+        let status = bench(alloc, *words, &mut input, &mut output, &mut errors);
+        assert_eq!(rt; status, 1, "{words:?}");
+        assert!(rt; output.is_empty(), "{words:?}");
+        assert_eq!(rt;
+            errors.as_slice(),
+            b"fault: arguments\n".as_slice(),
+            "{words:?}"
+        );
+    }
+    assert_eq!(rt;
+        run_bench(alloc, &["core", "1000"], b"load 999 0\n")
+            .output
+            .as_slice(),
+        b"barred\n".as_slice()
+    );
+}
+
+#[test]
+fn tells_of_input_that_cannot_be_read(rt: HostRuntime) {
+    let alloc = rt.alloc();
+    for reads_before in 0..3 {
+        let mut input = FailingReader { reads_before };
+        let (mut output, mut errors) = (Vec::new(alloc), Vec::new(alloc));
+        let status = bench(alloc, &["core", "1"], &mut input, &mut output, &mut errors);
+        assert_eq!(rt; status, 3);
+        assert!(rt; output.is_empty());
+        assert_eq!(rt; errors.as_slice(), b"fault: input\n".as_slice());
+    }
+}
+
+#[test]
+fn ends_at_a_failed_write(rt: HostRuntime) {
+    let alloc = rt.alloc();
+    for script in [b"unique 0 0\nload 0 0\n".as_slice(), b"faulty\n".as_slice()] {
+        let (mut output, mut errors) = (FailingWriter::new(alloc, 0), Vec::new(alloc));
+        let status = bench(
+            alloc,
+            &["core", "1"],
+            &mut &*script,
+            &mut output,
+            &mut errors,
+        );
+        assert_eq!(rt; status, 4);
+        assert!(rt; output.held.is_empty());
+        assert!(rt; errors.is_empty());
+    }
+}
+
+#[test]
+fn writes_nothing_after_a_failed_part(rt: HostRuntime) -> Result<(), Fail> {
+    let alloc = rt.alloc();
+    let mut script = Vec::new(alloc);
+    let mut answers = Vec::new(alloc);
+    for _ in 0..20_000 {
+        script.extend_from_slice(b"unique 0 0\n")?;
+        answers.extend_from_slice(b"is true\n")?;
+    }
+    assert!(rt; run_bench(alloc, &["core", "1"], &script).output == answers);
+    let (mut output, mut errors) = (FailingWriter::new(alloc, 1), Vec::new(alloc));
+    let status = bench(
+        alloc,
+        &["core", "1"],
+        &mut script.as_slice(),
+        &mut output,
+        &mut errors,
+    );
+    assert_eq!(rt; status, 4);
+    assert!(rt; !output.held.is_empty() && output.held.len() < answers.len());
+    assert!(rt; answers.starts_with(&output.held));
+    Ok(())
+}
+
+#[test]
+fn keeps_the_status_where_errors_cannot_be_written(rt: HostRuntime) {
+    let alloc = rt.alloc();
+    let (mut output, mut errors) = (Vec::new(alloc), FailingWriter::new(alloc, 0));
+    let status = bench(alloc, &["core"], &mut io::empty(), &mut output, &mut errors);
+    assert_eq!(rt; status, 1);
+    assert!(rt; errors.has_failed);
+}

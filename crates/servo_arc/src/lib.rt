@@ -1,0 +1,6 @@
+//! Counted pointers without weak references. Each module stands in a crate of its own, and this
+//! one gathers them under one name.
+#![tactic(auto)]
+
+pub use counting_core;
+pub use counting_word as word;

@@ -6,3 +6,8 @@ pub use Rattle.counting_core.specs.PlainMachine
 pub use Rattle.counting_core.specs.Legal
 pub use Rattle.counting_core.specs.Represents
 pub use Rattle.counting_core.specs.declared.step.Step
+pub use Rattle.handles.specs.Shows
+pub use Rattle.handles.specs.WriteBack
+pub use Rattle.handle_tables.specs.Copies
+pub use Rattle.handle_tables.specs.PlainTable
+pub use Rattle.handle_tables.specs.Runs

@@ -4,3 +4,8 @@
 
 pub use counting_core;
 pub use counting_word as word;
+pub use handle_tables::table;
+pub use handles::arc;
+pub use handles::arc::{Arc, Full, RawArc};
+pub use handles::unique;
+pub use handles::unique::{UninitArc, UniqueArc};

@@ -1,0 +1,4 @@
+pub mod Copies
+pub mod PlainTable
+pub mod Runs
+pub mod Values

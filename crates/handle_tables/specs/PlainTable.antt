@@ -1,0 +1,74 @@
+-- The plain table: a list of optional values. No slot shares anything with another.
+use Rattle.std.specs.Prelude.{ℕ, Bool, true, false, List, [], ◌∷◌, Option, Some, None, slice_get, slice_set}
+use Rattle.handle_tables.specs.declared.commands.Command.{Command}
+use Rattle.handle_tables.specs.declared.commands.Command.TheVariants.{New, Clone, Drop, GetMut, MakeMut, Own, Mark, Raw, PtrEq, Same}
+use Rattle.handle_tables.specs.declared.commands.PlainCommand.{PlainCommand}
+use Rattle.handle_tables.specs.declared.commands.PlainCommand.TheVariants as plain
+use Rattle.handle_tables.specs.declared.commands.Reply.{Reply}
+use Rattle.handle_tables.specs.declared.commands.Reply.TheVariants.{Done, Is, Shared, Empty, NoSlot, Refused}
+
+-- slots, each with a value or empty
+abbrev pub Slots : Type 0 → Type 0
+Slots V = List (Option V)
+
+-- what a command may come to: a reply, and the slots that it leaves
+abbrev pub Outcome : Type 0 → Type 0
+Outcome V = Reply × Slots V
+
+-- what a command means: its outcomes, by the slots that it finds
+abbrev pub Meaning : Type 0 → Type 0
+Meaning V = Slots V → List (Outcome V)
+
+module _ {V : Type 0} where
+  -- this reply, and no change
+  abbrev pub stays : Slots V → Reply → Outcome V
+  stays slots reply = (reply, slots)
+
+  -- slot i has this value from now on
+  abbrev pub sets : Slots V → ℕ → V → Outcome V
+  sets slots i value = (Done, slice_set slots i (Some value))
+
+  -- slot i is empty from now on
+  abbrev pub empties : Slots V → ℕ → Outcome V
+  empties slots i = (Done, slice_set slots i None)
+
+  abbrev pub if_there : Slots V → Option (Option V) → List (Outcome V) → List (Outcome V)
+  if_there slots None outcomes = stays slots NoSlot ∷ []
+  if_there slots (Some slot) outcomes = outcomes
+
+  abbrev pub if_filled : Slots V → Option (Option V) → (V → List (Outcome V)) → List (Outcome V)
+  if_filled slots None outcomes = stays slots NoSlot ∷ []
+  if_filled slots (Some None) outcomes = stays slots Empty ∷ []
+  if_filled slots (Some (Some value)) outcomes = outcomes value
+
+  -- the outcomes of a command that asks for slot i to be there
+  abbrev pub at : Slots V → ℕ → List (Outcome V) → List (Outcome V)
+  at slots i outcomes = if_there slots (slice_get slots i) outcomes
+
+  -- the outcomes of a command that reads slot i
+  abbrev pub reading : Slots V → ℕ → (V → List (Outcome V)) → List (Outcome V)
+  reading slots i outcomes = if_filled slots (slice_get slots i) outcomes
+
+  -- what each command means, over values with this equality
+  abbrev pub outcomes_of : (V → V → Bool) → Command V → Meaning V
+  outcomes_of equal (New i v) slots = at slots i (sets slots i v ∷ stays slots Refused ∷ [])
+  outcomes_of equal (Clone i j) slots = at slots j (reading slots i (λ v. sets slots j v ∷ stays slots Refused ∷ []))
+  outcomes_of equal (Drop i) slots = reading slots i (λ _. empties slots i ∷ [])
+  outcomes_of equal (GetMut i w) slots = reading slots i (λ _. sets slots i w ∷ stays slots Shared ∷ [])
+  outcomes_of equal (MakeMut i w) slots = reading slots i (λ _. sets slots i w ∷ stays slots Refused ∷ [])
+  outcomes_of equal (Own i) slots = reading slots i (λ _. stays slots Done ∷ stays slots Refused ∷ [])
+  outcomes_of equal (Mark i) slots = reading slots i (λ _. stays slots Done ∷ [])
+  outcomes_of equal (Raw i) slots = reading slots i (λ _. stays slots Done ∷ [])
+  outcomes_of equal (PtrEq i j) slots = at slots j (reading slots i (λ _. reading slots j (λ _. stays slots (Is true) ∷ stays slots (Is false) ∷ [])))
+  outcomes_of equal (Same i j) slots = at slots j (reading slots i (λ v. reading slots j (λ w. stays slots (Is (equal v w)) ∷ [])))
+
+  -- a plain command means what the command of its name means
+  abbrev pub plain_outcomes_of : (V → V → Bool) → PlainCommand V → Meaning V
+  plain_outcomes_of equal (plain.New i v) = outcomes_of equal (New i v)
+  plain_outcomes_of equal (plain.Clone i j) = outcomes_of equal (Clone i j)
+  plain_outcomes_of equal (plain.Drop i) = outcomes_of equal (Drop i)
+  plain_outcomes_of equal (plain.GetMut i v) = outcomes_of equal (GetMut i v)
+  plain_outcomes_of equal (plain.Mark i) = outcomes_of equal (Mark i)
+  plain_outcomes_of equal (plain.Raw i) = outcomes_of equal (Raw i)
+  plain_outcomes_of equal (plain.PtrEq i j) = outcomes_of equal (PtrEq i j)
+  plain_outcomes_of equal (plain.Same i j) = outcomes_of equal (Same i j)

@@ -1,0 +1,8 @@
+//! Tables of handles, on which runs of commands answer as on tables of plain values.
+#![tactic(auto)]
+
+mod commands;
+mod slots;
+pub mod table;
+#[cfg(test)]
+mod tests;

@@ -1,0 +1,218 @@
+//! What each command does to the slots.
+ghost use Rattle.std.specs.Prelude.{◌≡◌, ◌<◌, IfOk, None, length, replicate, slice_set};
+ghost use Rattle.std.specs.Option.{option_map};
+ghost use Rattle.handle_tables.specs.Copies.{CopiesAreEqual};
+ghost use Rattle.handle_tables.specs.Values.{IsServed, arc_value, values_of};
+
+use crate::commands::{Command, Reply};
+use handles::arc::Arc;
+use std::alloc::{AllocError, Global};
+
+pub(crate) fn empty<T: Send + Sync + Drop>(
+    alloc: Global,
+    slots: usize,
+) -> Result<Vec<Option<Arc<T>>>, AllocError>
+    ensures { IfOk result (λ all. values_of arc_value all.items ≡ replicate slots None) }
+{
+    let mut all = Vec::with_capacity(alloc, slots)?;
+    for _ in 0..slots {
+        all.push_reserved(None);
+    }
+    Ok(all)
+}
+
+/// Changes a slot that is there. A handle that stood in it ends.
+#[inline]
+fn set<T: Send + Sync + Drop>(slots: &mut [Option<Arc<T>>], i: usize, slot: Option<Arc<T>>)
+    requires { i < length slots.old }
+    ensures { values_of arc_value slots.new
+        ≡ slice_set (values_of arc_value slots.old) i (option_map arc_value slot) }
+{
+    slots[i] = slot;
+}
+
+#[inline]
+pub(crate) fn start<T: Send + Sync + PartialEq + Drop>(
+    slots: &mut [Option<Arc<T>>],
+    alloc: Global,
+    i: usize,
+    value: T,
+) -> Reply
+    ensures { IsServed T.eq (Command.New i value) slots.old result slots.new }
+{
+    if i >= slots.len() {
+        return Reply::NoSlot;
+    }
+    let Ok(handle) = Arc::new(alloc, value) else {
+        return Reply::Refused;
+    };
+    set(slots, i, Some(handle));
+    Reply::Done
+}
+
+#[inline]
+pub(crate) fn copy<T: Send + Sync + PartialEq + Drop>(
+    slots: &mut [Option<Arc<T>>],
+    i: usize,
+    j: usize,
+) -> Reply
+    ensures { IsServed T.eq (Command.Clone i j) slots.old result slots.new }
+{
+    let (Some(source), Some(_)) = (slots.get(i), slots.get(j)) else {
+        return Reply::NoSlot;
+    };
+    let Some(source) = source else {
+        return Reply::Empty;
+    };
+    let Ok(handle) = source.clone() else {
+        return Reply::Refused;
+    };
+    set(slots, j, Some(handle));
+    Reply::Done
+}
+
+#[inline]
+pub(crate) fn end<T: Send + Sync + PartialEq + Drop>(
+    slots: &mut [Option<Arc<T>>],
+    i: usize,
+) -> Reply
+    ensures { IsServed T.eq (Command.Drop i) slots.old result slots.new }
+{
+    match slots.get(i) {
+        None => Reply::NoSlot,
+        Some(None) => Reply::Empty,
+        Some(Some(_)) => {
+            set(slots, i, None);
+            Reply::Done
+        }
+    }
+}
+
+#[inline]
+pub(crate) fn get_mut<T: Send + Sync + PartialEq + Drop>(
+    slots: &mut [Option<Arc<T>>],
+    i: usize,
+    value: T,
+) -> Reply
+    ensures { IsServed T.eq (Command.GetMut i value) slots.old result slots.new }
+{
+    if i >= slots.len() {
+        return Reply::NoSlot;
+    }
+    let Some(handle) = &mut slots[i] else {
+        return Reply::Empty;
+    };
+    let Some(place) = Arc::get_mut(handle) else {
+        return Reply::Shared;
+    };
+    *place = value;
+    Reply::Done
+}
+
+#[inline]
+pub(crate) fn make_mut<T: Send + Sync + Clone + PartialEq>(
+    slots: &mut [Option<Arc<T>>],
+    alloc: Global,
+    i: usize,
+    value: T,
+) -> Reply
+    ensures { IsServed T.eq (Command.MakeMut i value) slots.old result slots.new }
+{
+    if i >= slots.len() {
+        return Reply::NoSlot;
+    }
+    let Some(handle) = &mut slots[i] else {
+        return Reply::Empty;
+    };
+    let Ok(owned) = Arc::make_mut(handle, alloc) else {
+        return Reply::Refused;
+    };
+    *owned = value;
+    Reply::Done
+}
+
+#[inline]
+pub(crate) fn own<T: Send + Sync + Clone + PartialEq>(
+    slots: &mut [Option<Arc<T>>],
+    alloc: Global,
+    i: usize,
+) -> Reply
+    requires { CopiesAreEqual T.is_clone }
+    ensures { IsServed T.eq (Command.Own i) slots.old result slots.new }
+{
+    if i >= slots.len() {
+        return Reply::NoSlot;
+    }
+    let Some(handle) = &mut slots[i] else {
+        return Reply::Empty;
+    };
+    let Ok(_own) = Arc::make_mut(handle, alloc) else {
+        return Reply::Refused;
+    };
+    Reply::Done
+}
+
+#[inline]
+pub(crate) fn mark<T: Send + Sync + PartialEq + Drop>(slots: &[Option<Arc<T>>], i: usize) -> Reply
+    ensures { IsServed T.eq (Command.Mark i) slots.now result slots.now }
+{
+    match slots.get(i) {
+        None => Reply::NoSlot,
+        Some(None) => Reply::Empty,
+        Some(Some(handle)) => {
+            handle.mark_as_intentionally_leaked();
+            Reply::Done
+        }
+    }
+}
+
+#[inline]
+pub(crate) fn raw<T: Send + Sync + PartialEq + Drop>(
+    slots: &mut [Option<Arc<T>>],
+    i: usize,
+) -> Reply
+    ensures { IsServed T.eq (Command.Raw i) slots.old result slots.new }
+{
+    if i >= slots.len() {
+        return Reply::NoSlot;
+    }
+    let Some(handle) = slots[i].take() else {
+        return Reply::Empty;
+    };
+    slots[i] = Some(Arc::from_raw(Arc::into_raw(handle)));
+    Reply::Done
+}
+
+#[inline]
+pub(crate) fn ptr_eq<T: Send + Sync + PartialEq + Drop>(
+    slots: &[Option<Arc<T>>],
+    i: usize,
+    j: usize,
+) -> Reply
+    ensures { IsServed T.eq (Command.PtrEq i j) slots.now result slots.now }
+{
+    let (Some(a), Some(b)) = (slots.get(i), slots.get(j)) else {
+        return Reply::NoSlot;
+    };
+    let (Some(a), Some(b)) = (a, b) else {
+        return Reply::Empty;
+    };
+    Reply::Is(Arc::ptr_eq(a, b))
+}
+
+#[inline]
+pub(crate) fn same<T: Send + Sync + PartialEq + Drop>(
+    slots: &[Option<Arc<T>>],
+    i: usize,
+    j: usize,
+) -> Reply
+    ensures { IsServed T.eq (Command.Same i j) slots.now result slots.now }
+{
+    let (Some(a), Some(b)) = (slots.get(i), slots.get(j)) else {
+        return Reply::NoSlot;
+    };
+    let (Some(a), Some(b)) = (a, b) else {
+        return Reply::Empty;
+    };
+    Reply::Is(*a == *b)
+}

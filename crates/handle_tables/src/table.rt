@@ -1,0 +1,125 @@
+//! A table of `Arc`s.
+ghost use Rattle.std.specs.Prelude.{◌≡◌, IfOk, IsTrue, List, None, OnErr, Option, replicate, slice_get};
+ghost use Rattle.std.specs.List.{list_any};
+ghost use Rattle.std.specs.Option.{option_copied, option_flatten};
+ghost use Rattle.handle_tables.specs.Copies.{CopiesAreEqual, is_own};
+ghost use Rattle.handle_tables.specs.PlainTable.{outcomes_of, plain_outcomes_of};
+ghost use Rattle.handle_tables.specs.Runs.{IsAmong, Run};
+
+pub use crate::commands::{Command, PlainCommand, Reply};
+use crate::slots;
+use handles::arc::Arc;
+use std::alloc::{AllocError, Global};
+use std::marker::Model;
+
+/// Slots, each empty or with a handle. Handles may share a block; the values that the slots read never show it.
+#[derive(Drop)]
+pub struct Table<T: Send + Sync> {
+    slots: Vec<Option<Arc<T>>>,
+}
+
+impl<T: Send + Sync> Model for Table<T> {
+    ghost use Rattle.std.specs.Prelude.{List, Option};
+    ghost use Rattle.handle_tables.specs.Values.{arc_value, values_of};
+
+    ghost Value = { List (Option T) };
+
+    ghost view = { λ t. values_of arc_value t.slots.items };
+}
+
+impl<T: Send + Sync + PartialEq + Drop> Table<T> {
+    /// A table with that many slots, all of them empty.
+    pub fn new(alloc: Global, slots: usize) -> Result<Table<T>, AllocError>
+        ensures { IfOk result (λ table. table ≡ replicate slots None) }
+    {
+        Ok(Table {
+            slots: slots::empty(alloc, slots)?,
+        })
+    }
+
+    /// The value of a slot: none where the slot is empty or not there.
+    #[inline]
+    pub fn get(&self, i: usize) -> Option<&T>
+        ensures { option_copied result ≡ option_flatten (slice_get self.now i) }
+    {
+        match self.slots.get(i) {
+            Some(Some(handle)) => Some(&**handle),
+            _ => None,
+        }
+    }
+
+    #[inline]
+    fn serve_plain(&mut self, alloc: Global, command: PlainCommand<T>) -> Reply
+        ensures { IsAmong (plain_outcomes_of T.eq command self.old) result self.new }
+    {
+        match command {
+            PlainCommand::New(i, value) => slots::start(&mut self.slots, alloc, i, value),
+            PlainCommand::Clone(i, j) => slots::copy(&mut self.slots, i, j),
+            PlainCommand::Drop(i) => slots::end(&mut self.slots, i),
+            PlainCommand::GetMut(i, value) => slots::get_mut(&mut self.slots, i, value),
+            PlainCommand::Mark(i) => slots::mark(&self.slots, i),
+            PlainCommand::Raw(i) => slots::raw(&mut self.slots, i),
+            PlainCommand::PtrEq(i, j) => slots::ptr_eq(&self.slots, i, j),
+            PlainCommand::Same(i, j) => slots::same(&self.slots, i, j),
+        }
+    }
+
+    /// Runs commands in order and gives a reply to each.
+    ///
+    /// The room for the replies is reserved first: where it is refused, no command was served.
+    pub fn run_plain(
+        &mut self,
+        alloc: Global,
+        commands: Vec<PlainCommand<T>>,
+    ) -> Result<Vec<Reply>, AllocError>
+        ensures ok { IfOk result (λ replies. Run (plain_outcomes_of T.eq) commands.items self.old replies.items self.new) }
+        ensures err { OnErr result (self.new ≡ self.old) }
+    {
+        let mut replies = Vec::with_capacity(alloc, commands.len())?;
+        for command in commands {
+            replies.push_reserved(self.serve_plain(alloc, command));
+        }
+        Ok(replies)
+    }
+}
+
+impl<T: Send + Sync + Clone + PartialEq> Table<T> {
+    /// Serves one command. The reply takes no memory.
+    #[inline]
+    pub fn serve(&mut self, alloc: Global, command: Command<T>) -> Reply
+        requires copies { IsTrue (is_own command) → CopiesAreEqual T.is_clone }
+        ensures { IsAmong (outcomes_of T.eq command self.old) result self.new }
+    {
+        match command {
+            Command::New(i, value) => slots::start(&mut self.slots, alloc, i, value),
+            Command::Clone(i, j) => slots::copy(&mut self.slots, i, j),
+            Command::Drop(i) => slots::end(&mut self.slots, i),
+            Command::GetMut(i, value) => slots::get_mut(&mut self.slots, i, value),
+            Command::MakeMut(i, value) => slots::make_mut(&mut self.slots, alloc, i, value),
+            Command::Own(i) => slots::own(&mut self.slots, alloc, i),
+            Command::Mark(i) => slots::mark(&self.slots, i),
+            Command::Raw(i) => slots::raw(&mut self.slots, i),
+            Command::PtrEq(i, j) => slots::ptr_eq(&self.slots, i, j),
+            Command::Same(i, j) => slots::same(&self.slots, i, j),
+        }
+    }
+
+    /// Runs commands in order and gives a reply to each, as [`Table::serve`] does.
+    ///
+    /// The room for the replies is reserved first: where it is refused, no command was served.
+    pub fn run(
+        &mut self,
+        alloc: Global,
+        commands: Vec<Command<T>>,
+    ) -> Result<Vec<Reply>, AllocError>
+        requires copies { IsTrue (list_any is_own commands.items) → CopiesAreEqual T.is_clone }
+        ensures ok { IfOk result (λ replies. Run (outcomes_of T.eq) commands.items self.old replies.items self.new) }
+        ensures err { OnErr result (self.new ≡ self.old) }
+    {
+        let mut replies = Vec::with_capacity(alloc, commands.len())?;
+        for command in commands {
+            replies.push_reserved(self.serve(alloc, command));
+        }
+        Ok(replies)
+    }
+}

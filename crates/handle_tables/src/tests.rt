@@ -1,0 +1,309 @@
+//! What no clause says: that commands are served where memory is ample, and which of two allowed
+//! replies comes when.
+use crate::table::{Command, PlainCommand, Reply, Table};
+use std::alloc::{AllocError, Global};
+use std::test::Fail;
+
+#[test]
+fn a_shared_value_is_copied_before_it_is_written(rt: HostRuntime) -> Result<(), Fail> {
+    let mut table: Table<u32> = Table::new(rt.alloc(), 3)?;
+    let commands = vec![in rt.alloc();
+        Command::New(0, 5),
+        Command::Clone(0, 1),
+        Command::GetMut(0, 9),
+        Command::MakeMut(0, 9),
+        Command::PtrEq(0, 1),
+        Command::Same(0, 1),
+        Command::Drop(2),
+        Command::New(3, 1),
+    ]?;
+    let replies = table.run(rt.alloc(), commands)?;
+    let expected = [
+        Reply::Done,
+        Reply::Done,
+        Reply::Shared,
+        Reply::Done,
+        Reply::Is(false),
+        Reply::Is(false),
+        Reply::Empty,
+        Reply::NoSlot,
+    ];
+    assert_eq!(rt; replies.as_slice(), expected.as_slice());
+    assert_eq!(rt; table.get(0).copied(), Some(9));
+    assert_eq!(rt; table.get(1).copied(), Some(5));
+    assert_eq!(rt; table.get(2).copied(), None);
+    Ok(())
+}
+
+#[test]
+fn a_marked_block_is_left_for_one_of_its_own(rt: HostRuntime) -> Result<(), Fail> {
+    let mut table: Table<u32> = Table::new(rt.alloc(), 2)?;
+    let commands = vec![in rt.alloc();
+        Command::New(0, 4),
+        Command::Mark(0),
+        Command::Own(0),
+        Command::GetMut(0, 6),
+        Command::Clone(0, 0),
+        Command::GetMut(0, 7),
+        Command::Raw(0),
+    ]?;
+    let replies = table.run(rt.alloc(), commands)?;
+    assert_eq!(rt; replies.as_slice(), [Reply::Done; 7].as_slice());
+    assert_eq!(rt; table.get(0).copied(), Some(7));
+    Ok(())
+}
+
+#[test]
+fn a_plain_run_shares_and_reads(rt: HostRuntime) -> Result<(), Fail> {
+    let mut table: Table<u32> = Table::new(rt.alloc(), 3)?;
+    let commands = vec![in rt.alloc();
+        PlainCommand::New(0, 5),
+        PlainCommand::Clone(0, 1),
+        PlainCommand::GetMut(0, 9),
+        PlainCommand::PtrEq(0, 1),
+        PlainCommand::Same(0, 1),
+        PlainCommand::Drop(2),
+        PlainCommand::New(3, 1),
+    ]?;
+    let replies = table.run_plain(rt.alloc(), commands)?;
+    let expected = [
+        Reply::Done,
+        Reply::Done,
+        Reply::Shared,
+        Reply::Is(true),
+        Reply::Is(true),
+        Reply::Empty,
+        Reply::NoSlot,
+    ];
+    assert_eq!(rt; replies.as_slice(), expected.as_slice());
+    assert_eq!(rt; table.get(0).copied(), Some(5));
+    assert_eq!(rt; table.get(1).copied(), Some(5));
+    assert_eq!(rt; table.get(2).copied(), None);
+    Ok(())
+}
+
+#[test]
+fn a_plain_run_passes_handles_through_tokens(rt: HostRuntime) -> Result<(), Fail> {
+    let mut table: Table<u32> = Table::new(rt.alloc(), 2)?;
+    let commands = vec![in rt.alloc();
+        PlainCommand::New(0, 4),
+        PlainCommand::GetMut(0, 6),
+        PlainCommand::Clone(0, 0),
+        PlainCommand::GetMut(0, 7),
+        PlainCommand::Raw(0),
+        PlainCommand::Raw(1),
+        PlainCommand::Raw(2),
+        PlainCommand::Mark(0),
+        PlainCommand::GetMut(0, 8),
+    ]?;
+    let replies = table.run_plain(rt.alloc(), commands)?;
+    let expected = [
+        Reply::Done,
+        Reply::Done,
+        Reply::Done,
+        Reply::Done,
+        Reply::Done,
+        Reply::Empty,
+        Reply::NoSlot,
+        Reply::Done,
+        Reply::Shared,
+    ];
+    assert_eq!(rt; replies.as_slice(), expected.as_slice());
+    assert_eq!(rt; table.get(0).copied(), Some(7));
+    Ok(())
+}
+
+#[test]
+fn texts_are_compared_by_content(rt: HostRuntime) -> Result<(), Fail> {
+    let mut table: Table<String> = Table::new(rt.alloc(), 3)?;
+    let commands = vec![in rt.alloc();
+        Command::New(0, String::from_str(rt.alloc(), "left")?),
+        Command::New(1, String::from_str(rt.alloc(), "left")?),
+        Command::Same(0, 1),
+        Command::PtrEq(0, 1),
+        Command::Clone(0, 2),
+        Command::MakeMut(0, String::from_str(rt.alloc(), "right")?),
+        Command::Same(0, 2),
+    ]?;
+    let replies = table.run(rt.alloc(), commands)?;
+    let expected = [
+        Reply::Done,
+        Reply::Done,
+        Reply::Is(true),
+        Reply::Is(false),
+        Reply::Done,
+        Reply::Done,
+        Reply::Is(false),
+    ];
+    assert_eq!(rt; replies.as_slice(), expected.as_slice());
+    assert_eq!(rt; table.get(0).map(|text| text.as_str()), Some("right"));
+    assert_eq!(rt; table.get(2).map(|text| text.as_str()), Some("left"));
+    Ok(())
+}
+
+/// A value without `Clone`.
+#[derive(Debug, PartialEq, Drop)]
+struct Ticket {
+    number: u32,
+}
+
+#[test]
+fn plain_runs_need_no_clone_of_values(rt: HostRuntime) -> Result<(), Fail> {
+    let mut table: Table<Ticket> = Table::new(rt.alloc(), 2)?;
+    let commands = vec![in rt.alloc();
+        PlainCommand::New(0, Ticket { number: 1 }),
+        PlainCommand::Clone(0, 1),
+        PlainCommand::Drop(0),
+        PlainCommand::GetMut(1, Ticket { number: 2 }),
+    ]?;
+    let replies = table.run_plain(rt.alloc(), commands)?;
+    assert_eq!(rt; replies.as_slice(), [Reply::Done; 4].as_slice());
+    assert_eq!(rt; table.get(0).map(|ticket| ticket.number), None);
+    assert_eq!(rt; table.get(1).map(|ticket| ticket.number), Some(2));
+    Ok(())
+}
+
+#[test]
+fn commands_are_served_one_at_a_time(rt: HostRuntime) -> Result<(), Fail> {
+    let alloc = rt.alloc();
+    let mut table: Table<u32> = Table::new(alloc, 2)?;
+    assert_eq!(rt; table.serve(alloc, Command::Clone(0, 1)), Reply::Empty);
+    assert_eq!(rt; table.serve(alloc, Command::Clone(0, 2)), Reply::NoSlot);
+    assert_eq!(rt; table.serve(alloc, Command::Same(0, 0)), Reply::Empty);
+    assert_eq!(rt; table.serve(alloc, Command::New(0, 5)), Reply::Done);
+    assert_eq!(rt; table.serve(alloc, Command::Clone(0, 1)), Reply::Done);
+    assert_eq!(rt; table.serve(alloc, Command::PtrEq(0, 1)), Reply::Is(true));
+    assert_eq!(rt; table.serve(alloc, Command::Own(0)), Reply::Done);
+    assert_eq!(rt; table.serve(alloc, Command::PtrEq(0, 1)), Reply::Is(false));
+    assert_eq!(rt; table.serve(alloc, Command::Same(0, 1)), Reply::Is(true));
+    assert_eq!(rt; table.serve(alloc, Command::New(0, 8)), Reply::Done);
+    assert_eq!(rt; table.get(1).copied(), Some(5));
+    assert_eq!(rt; table.serve(alloc, Command::MakeMut(1, 3)), Reply::Done);
+    assert_eq!(rt; table.get(0).copied(), Some(8));
+    assert_eq!(rt; table.get(1).copied(), Some(3));
+    assert_eq!(rt; table.get(2).copied(), None);
+    Ok(())
+}
+
+#[test]
+fn a_marked_block_is_never_written(rt: HostRuntime) -> Result<(), Fail> {
+    let alloc = rt.alloc();
+    let mut table: Table<u32> = Table::new(alloc, 1)?;
+    assert_eq!(rt; table.serve(alloc, Command::New(0, 4)), Reply::Done);
+    assert_eq!(rt; table.serve(alloc, Command::Clone(0, 0)), Reply::Done);
+    assert_eq!(rt; table.serve(alloc, Command::GetMut(0, 5)), Reply::Done);
+    assert_eq!(rt; table.serve(alloc, Command::Mark(0)), Reply::Done);
+    assert_eq!(rt; table.serve(alloc, Command::GetMut(0, 6)), Reply::Shared);
+    assert_eq!(rt; table.get(0).copied(), Some(5));
+    assert_eq!(rt; table.serve(alloc, Command::MakeMut(0, 7)), Reply::Done);
+    assert_eq!(rt; table.serve(alloc, Command::GetMut(0, 8)), Reply::Done);
+    assert_eq!(rt; table.get(0).copied(), Some(8));
+    Ok(())
+}
+
+#[test]
+fn a_table_without_slots_has_none(rt: HostRuntime) -> Result<(), Fail> {
+    let alloc = rt.alloc();
+    let mut table: Table<u32> = Table::new(alloc, 0)?;
+    assert_eq!(rt; table.serve(alloc, Command::New(0, 1)), Reply::NoSlot);
+    assert_eq!(rt; table.get(0).copied(), None);
+    Ok(())
+}
+
+/// A value whose copy is always refused.
+#[derive(Debug, PartialEq, Drop)]
+struct Original {
+    number: u32,
+}
+
+impl Clone for Original {
+    fn clone(&self) -> Result<Self, AllocError> {
+        Err(AllocError)
+    }
+}
+
+#[test]
+fn a_refused_copy_changes_nothing(rt: HostRuntime) -> Result<(), Fail> {
+    let mut table: Table<Original> = Table::new(rt.alloc(), 2)?;
+    let commands = vec![in rt.alloc();
+        Command::New(0, Original { number: 1 }),
+        Command::Clone(0, 1),
+        Command::MakeMut(0, Original { number: 2 }),
+        Command::PtrEq(0, 1),
+    ]?;
+    let replies = table.run(rt.alloc(), commands)?;
+    let expected = [Reply::Done, Reply::Done, Reply::Refused, Reply::Is(true)];
+    assert_eq!(rt; replies.as_slice(), expected.as_slice());
+    assert_eq!(rt; table.get(0).map(|original| original.number), Some(1));
+    Ok(())
+}
+
+#[test]
+fn a_table_that_no_memory_holds_is_refused(rt: HostRuntime) {
+    assert!(rt; Table::<u32>::new(rt.alloc(), usize::MAX).is_err());
+}
+
+fn some_commands(alloc: Global) -> Result<Vec<Command<u32>>, AllocError> {
+    Ok(vec![in alloc;
+        Command::New(1, 6),
+        Command::Clone(0, 2),
+        Command::MakeMut(0, 7),
+        Command::Clone(1, 0),
+        Command::Own(1),
+    ]?)
+}
+
+fn some_plain_commands(alloc: Global) -> Result<Vec<PlainCommand<u32>>, AllocError> {
+    Ok(vec![in alloc;
+        PlainCommand::New(1, 6),
+        PlainCommand::Clone(0, 2),
+        PlainCommand::New(0, 7),
+    ]?)
+}
+
+fn refusals(replies: &[Reply]) -> usize {
+    replies
+        .iter()
+        .filter(|reply| **reply == Reply::Refused)
+        .count()
+}
+
+/// Passes also where any one request for memory is refused, as `rt try --test --fail-alloc N` does.
+#[test]
+fn one_refused_request_is_one_refusal(rt: HostRuntime) {
+    let alloc = rt.alloc();
+    let Ok(mut table) = Table::<u32>::new(alloc, 3) else {
+        return;
+    };
+    let first = table.serve(alloc, Command::New(0, 5));
+    let (Ok(commands), Reply::Done) = (some_commands(alloc), first) else {
+        return;
+    };
+    let Ok(replies) = table.run(alloc, commands) else {
+        assert_eq!(rt; table.get(0).copied(), Some(5));
+        assert_eq!(rt; table.get(1).copied(), None);
+        return;
+    };
+    assert_eq!(rt; replies.len(), 5);
+    assert!(rt; refusals(&replies) <= 1);
+}
+
+/// As the test above.
+#[test]
+fn one_refused_request_is_one_refusal_in_a_plain_run(rt: HostRuntime) {
+    let alloc = rt.alloc();
+    let Ok(mut table) = Table::<u32>::new(alloc, 3) else {
+        return;
+    };
+    let first = table.serve(alloc, Command::New(0, 5));
+    let (Ok(commands), Reply::Done) = (some_plain_commands(alloc), first) else {
+        return;
+    };
+    let Ok(replies) = table.run_plain(alloc, commands) else {
+        assert_eq!(rt; table.get(0).copied(), Some(5));
+        assert_eq!(rt; table.get(1).copied(), None);
+        return;
+    };
+    assert_eq!(rt; replies.len(), 3);
+    assert!(rt; refusals(&replies) <= 1);
+}

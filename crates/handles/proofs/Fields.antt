@@ -1,0 +1,169 @@
+-- The one word of a handle and of a gain, and what a gain owns by the right that a step gave. Assumes `Logic`.
+use Rattle.std.proofs.Common.{◌≡◌, ℕ, zero, suc, ◌+◌, ◌^◌, ◌<◌, Bool, true, false, List, [], ◌∷◌, ◌++◌, refl, ap, ◌∙◌, sym, w64, if◌then◌else◌}
+use seplogic.Ra.Ura.{Ura}
+use lib.Dec.{T, lit<}
+use mathlib.Core.Bool.{not}
+use mir.Syntax.{Sym, int_big, ty_int, ty_ptr, ty_struct, tcons, tnil}
+use mir.Val.{Val, vint, vstruct, vcons, vnil, of_list, has_ty, WT, Fits}
+use base.Logic.{ent, sep, emp, via, id⊢, never_e, guard_i}
+use prog.Wp.{Env}
+use types.Run.{Opd}
+use base.Fml.{Lft, Share, Fml, fex, feq, fsep, finv, flent, fdead, flft, fobor, fhide, ftrue, ffalse}
+use base.Share
+use types.Logic.{Logic, sem}
+use types.Kit.{Item, Goal, Seq, Soaks, Step, step, ‵, ◌⊛◌, later, ◌$◌, ◌∵◌, !, qed, by, keep, drop, move, split, fsplit, fsplit3, fjoin, fjoin3, fpick, fpack, feq_i, flt_i, rewrite, use0, use1, updating, await, now, done}
+use types.Tokens.{lent_back, shr_bor-open}
+use types.Within.{tokens_halve}
+use denote.RattleType.{RattleType, Valss, owns}
+use denote.Laws.{Is}
+use denote.Builtin.{u64}
+use base.Fraction.{full_share}
+use denote.Memory.{hidden_shr, cell_at, mem, part_at, part_of}
+use denote.Opens.{Opens, unhide}
+use denote.Copied.{Struct-Copied}
+use denote.RawPtr.{Ptr, RawPtr, InBlock, block_ptr, null_ptr, block_of, count_of as offset_of, ptr_val, at_block}
+use denote.Shadow.{makes_shadow}
+use denote.Steps.{nothing as nothing_more}
+use denote.Struct.Laws.{RawPtr-copy}
+use denote.Struct.Struct.{Shape, Struct}
+use denote.Struct.Tuple.{Tuple}
+use Rattle.counting_word.specs.CountingWord.{is_one_handle, is_marked_word}
+use Rattle.handles.specs.Rights.{Right, nothing, a_handle, to_lower, whole_block, right_by_lower, IsWholeBlock}
+use Rattle.core.specs.Sync.RawAtomic.{word}
+use Rattle.std.specs.declared.alloc.Global.{Global}
+use Rattle.handles.specs.Blocks.{frees, value_offset, Names, unit_of_count, placed, counted, stamp, value_and_block, shown, block_rule, sole_or_counted, handle_owns, handle_shares, unshared_block, gain_owns}
+use Rattle.handles.proofs.Steps.{gained}
+use Rattle.handles.specs.contracts.block.Handle as handle_type
+use Rattle.handles.specs.contracts.block.Gain as gain
+
+abbrev pub one_word : Ptr → Val
+one_word p = vstruct (vcons (ptr_val p) vnil)
+
+-- a word and a gain
+abbrev pub word_and_gain : ℕ → Ptr → Val
+word_and_gain n p = vstruct (vcons (vint w64 n) (vcons (one_word p) vnil))
+
+pub one_word-Good : (p : Ptr) → T (has_ty (ty_struct [] (tcons ty_ptr tnil)) (one_word p)) × WT (one_word p)
+one_word-Good (block_ptr b o) = (tt, (tt, tt))
+one_word-Good null_ptr = (tt, (record { fits = lit< tt }, tt))
+
+pub word_and_gain-Good : (n : ℕ) → n < 2 ^ 64 → (p : Ptr) → T (has_ty (ty_struct [] (tcons (ty_int w64) (tcons (ty_struct [] (tcons ty_ptr tnil)) tnil))) (word_and_gain n p)) × WT (word_and_gain n p)
+word_and_gain-Good n fits (block_ptr b o) = (tt, (record { fits = fits }, ((tt, tt), tt)))
+word_and_gain-Good n fits null_ptr = (tt, (record { fits = fits }, ((record { fits = lit< tt }, tt), tt)))
+
+module _ (ν : Sym) (ts : List RattleType) where
+  abbrev pub one_field : Shape
+  one_field = record { name = ν; args = []; types = ts; fields = RawPtr ∷ [] }
+
+  abbrev pub Words : RattleType
+  Words = Struct one_field
+
+  pub words_told : (p : Ptr) (vs : List Val) → Is Words (p, tt) vs → vs ≡ one_word p ∷ []
+  words_told p vs is = is.1.0 ∙ ap (λ (ws : List Val). vstruct (of_list (ws ++ [])) ∷ []) is.1.1.0
+
+  pub words_made : {M : Type 1} {𝓤 : Ura M} (𝓛 : Logic 𝓤) (p : Ptr) → ent 𝓤 (emp 𝓤) (sem 𝓛 (Words.own_val (p, tt) (one_word p ∷ [])))
+  words_made 𝓛 p = makes_shadow 𝓛 (Words.own_val (p, tt) (one_word p ∷ [])) (λ vss. (tt, (tt, tt))) ((ptr_val p ∷ [], tt), (refl, (refl, tt)))
+
+  pub words_open : {M : Type 1} {𝓤 : Ura M} (𝓛 : Logic 𝓤) → Opens 𝓛 Words
+  words_open {M} {𝓤 = 𝓤} 𝓛 = (Struct-Copied 𝓛 one_field (refl, tt) (RawPtr-copy.copied M 𝓤 𝓛, tt)).opens
+
+module _ (R : RattleType) where
+  abbrev pub HandleRow : RattleType
+  HandleRow = handle_type.the_row R
+
+  abbrev pub GainRow : RattleType
+  GainRow = gain.the_row R
+
+  abbrev pub HandleWords : RattleType
+  HandleWords = Words (handle_type.the_type R).name (R ∷ [])
+
+  abbrev pub GainWords : RattleType
+  GainWords = Words (gain.the_type R).name (R ∷ [])
+
+-- what gives no handle of its own
+abbrev pub NoHandle : Right → Type 0
+NoHandle a_handle = ⊥
+NoHandle r = Unit {0}
+
+-- what the arms of an `if` on `!y` know of y
+pub not-so : (y : Bool) → T (not y) → y ≡ false
+not-so true t = absurd t
+not-so false t = refl
+
+pub so : (y : Bool) → T (not (not y)) → y ≡ true
+so true t = refl
+so false t = absurd t
+
+-- the word of a whole block
+pub whole_block_of : (r : Right) → IsWholeBlock r → (w : ℕ) × (r ≡ whole_block w)
+whole_block_of nothing none = absurd none
+whole_block_of a_handle none = absurd none
+whole_block_of to_lower none = absurd none
+whole_block_of (whole_block w) whole = (w, refl)
+
+pub lower-NoHandle : (w : ℕ) → NoHandle (right_by_lower w)
+lower-NoHandle w = at (is_one_handle w) where
+  at : (y : Bool) → NoHandle (if y then whole_block 0 else nothing)
+  at true = tt
+  at false = tt
+
+module _ {M : Type 1} {𝓤 : Ura M} (𝓛 : Logic 𝓤) (R : RattleType) (p : Ptr) (x : R.Denot) (inb : InBlock p) (i : Names) where
+  open 𝓛 use {H}
+
+  abbrev Gained : Right → Fml
+  Gained = gained (value_and_block R p x) (stamp p) (block_of p) (offset_of p + 0) i
+
+  -- what a step gained, as a gain owns it
+  pub gain_kept : (r : Right) → NoHandle r → ent 𝓤 (sep 𝓤 (sem 𝓛 (Gained r)) (sem 𝓛 (finv (block_rule R p x i)))) (H.⇛ (sem 𝓛 (gain_owns R p x r)))
+  gain_kept nothing none = qed 𝓛 (‵ (Gained nothing) ∷ ‵ (finv (block_rule R p x i)) ∷ []) ∵ updating ! $ keep ! [] $ nothing_more ! $ fpack ! (InBlock p) (λ _. ftrue) inb $ now ! $ done !
+  gain_kept a_handle none = absurd none
+  gain_kept to_lower none = qed 𝓛 (‵ (Gained to_lower) ∷ ‵ (finv (block_rule R p x i)) ∷ []) ∵ updating ! $ fjoin ! $ fpack ! Names (λ j. fsep (unit_of_count j) (finv (block_rule R p x j))) i $ nothing_more ! $ fpack ! (InBlock p) (λ _. ftrue) inb $ fjoin ! $ now ! $ done !
+  gain_kept (whole_block w) none = qed 𝓛 (‵ (Gained (whole_block w)) ∷ ‵ (finv (block_rule R p x i)) ∷ []) ∵ updating ! $ fsplit3 ! $ move ! (2 ∷ []) $ fsplit ! $ move ! (3 ∷ 0 ∷ []) $ lent_back ! tt $
+      -- [the value and the block; the stamp; the word; the rule]
+      move ! (0 ∷ 1 ∷ []) $ fjoin ! $ move ! (1 ∷ 0 ∷ []) $ fjoin ! $ nothing_more ! $ fpack ! (InBlock p) (λ _. ftrue) inb $ fjoin ! $ now ! $ keep ! (0 ∷ []) $ done !
+
+  pub gain_shown : (r : Right) → ent 𝓤 (sep 𝓤 (sem 𝓛 (Gained r)) (sep 𝓤 (sem 𝓛 (finv (block_rule R p x i))) (sem 𝓛 (shown R p x (i.shared ∷ []))))) (H.⇛ (sem 𝓛 (gain_owns R p x r)))
+  gain_shown nothing = qed 𝓛 (‵ (Gained nothing) ∷ ‵ (finv (block_rule R p x i)) ∷ ‵ (shown R p x (i.shared ∷ [])) ∷ []) ∵ keep ! (0 ∷ 1 ∷ []) $ by ! (gain_kept nothing tt)
+  gain_shown a_handle = qed 𝓛 (‵ (Gained a_handle) ∷ ‵ (finv (block_rule R p x i)) ∷ ‵ (shown R p x (i.shared ∷ [])) ∷ []) ∵ updating ! $ fjoin3 ! $
+      fpack ! Names (λ j. counted (value_and_block R p x) (stamp p) (block_of p) (offset_of p + 0) j (shown R p x)) i $ fpack ! Bool (sole_or_counted R p x) false $ nothing_more ! $ fpack ! (InBlock p) (λ _. ftrue) inb $ fjoin ! $ now ! $ done !
+  gain_shown to_lower = qed 𝓛 (‵ (Gained to_lower) ∷ ‵ (finv (block_rule R p x i)) ∷ ‵ (shown R p x (i.shared ∷ [])) ∷ []) ∵ keep ! (0 ∷ 1 ∷ []) $ by ! (gain_kept to_lower tt)
+  gain_shown (whole_block w) = qed 𝓛 (‵ (Gained (whole_block w)) ∷ ‵ (finv (block_rule R p x i)) ∷ ‵ (shown R p x (i.shared ∷ [])) ∷ []) ∵ keep ! (0 ∷ 1 ∷ []) $ by ! (gain_kept (whole_block w) tt)
+
+module _ (R : RattleType) (p : Ptr) (x : R.Denot) {M : Type 1} {𝓤 : Ura M} {𝓛 : Logic 𝓤} {K : Type 0} {Γ : List (Item 𝓤)} {G : Goal 𝓤 𝓛.H} where
+  -- the result of a step: the word that it found, and the gain
+  pub returns_gain : K → (n : ℕ) → n < 2 ^ 64 → (r : Right)
+      → Step K 𝓛 (‵ ((Tuple (u64 ∷ GainRow R ∷ [])).own_val (n, record { block = p; value = x; right = r }) (word_and_gain n p ∷ [])) ∷ Γ) G (‵ (gain_owns R p x r) ∷ Γ) G
+  returns_gain t n fits r = step (λ s. let g : (GainRow R).Denot = record { block = p; value = x; right = r } in let v : Val = word_and_gain n p in
+      use0 𝓛 (‵ ((GainWords R).own_val (p, tt) (one_word p ∷ []))) (words_made (gain.the_type R).name (R ∷ []) 𝓛 p) $ fjoin t $ nothing_more t $ flt_i t n (2 ^ 64) fits $ feq_i t (List Val) (vint w64 n ∷ []) (vint w64 n ∷ []) refl $ fjoin t $
+      move t (0 ∷ 2 ∷ 1 ∷ []) $ fjoin3 t $ feq_i t (List Val) (v ∷ []) (v ∷ []) refl $ fjoin t $
+      fpack t (Valss (u64 ∷ GainRow R ∷ [])) (λ uss. fsep (feq (List Val) (v ∷ []) (vstruct (of_list (uss.0 ++ (uss.1.0 ++ []))) ∷ [])) (owns (u64 ∷ GainRow R ∷ []) (n, (g, tt)) uss)) (vint w64 n ∷ [], (one_word p ∷ [], tt)) $ s)
+
+  -- Behind a `&` to a handle: its block has a name for the sharing, of whose token there is a share while the borrow of the `&` is open.
+  -- [the open borrow; the share; the rule; the sharing; the handle's word; the other half of the token]
+  pub behind : K → Soaks G → {κ : Lft} {q : Share} (b o : ℕ)
+      → ((inb : InBlock p) (i : Names) (e : Share) → Seq K 𝓛 (‵ (fobor κ (Share.left q) (flft (i.shared ∷ []) e)) ∷ ‵ (flft (i.shared ∷ []) e) ∷ ‵ (finv (block_rule R p x i)) ∷ ‵ (shown R p x (i.shared ∷ [])) ∷ ‵ (hidden_shr (HandleWords R) κ (p, tt) b o) ∷ ‵ (flft κ (Share.right q)) ∷ Γ) G)
+      → Seq K 𝓛 (‵ (hidden_shr (HandleRow R) κ (record { block = p; value = x }) b o) ∷ ‵ (flft κ q) ∷ Γ) G
+  behind t soaks {κ} {q} b o k = use1 𝓛 (‵ (hidden_shr (HandleWords R) κ (p, tt) b o) ⊛ ‵ (fhide (handle_shares R p x κ))) (id⊢ 𝓤 _) $ split t $ move t (1 ∷ []) $ unhide t $ fsplit t $ fpick t (λ inb. drop t $ fpick t (λ i. fsplit3 t $
+      move t (4 ∷ []) $ use1 𝓛 (‵ (flft κ (Share.left q)) ⊛ ‵ (flft κ (Share.right q))) (𝓛.lfts.lft_split κ q) $ split t $ move t (2 ∷ 0 ∷ []) $ shr_bor-open t soaks (tokens_halve 𝓛 (i.shared ∷ [])) (λ e.
+      -- [the open borrow; the share; the other half; the rule; the sharing; the word]
+      move t (0 ∷ 1 ∷ 3 ∷ 4 ∷ 5 ∷ 2 ∷ []) $ k inb i e)))
+
+module _ {M : Type 1} {𝓤 : Ura M} {𝓛 : Logic 𝓤} {K : Type 0} {Γ : List (Item 𝓤)} {E : Env 𝓤 𝓛.H} where
+  -- a constant that the code writes as a big one
+  pub big_lit : K → {n : ℕ} → n < 2 ^ 64 → Opd K 𝓛 Γ E (int_big w64 n) (vint w64 n)
+  big_lit t {n} fits = record { go = λ Kt g. via 𝓤 (Kt (vint w64 n)) g (guard_i 𝓤 (Fits w64 n) (Kt (vint w64 n)) (record { fits = fits })) }
+
+-- what an unshared block's handle at (b, o) has beside the value
+abbrev pub beside_value : (R : RattleType) → Ptr → ℕ → ℕ → Fml
+beside_value R p b o = let at : Ptr = block_ptr (block_of p) (offset_of p) in fsep (fex Global (frees R at)) (fsep (word (block_of p) (offset_of p + 0) 1) (fsep (stamp at) (cell_at full_share (HandleRow R).mir (one_word at ∷ []) b o)))
+
+module _ {M : Type 1} {𝓤 : Ura M} (𝓛 : Logic 𝓤) (R : RattleType) (p : Ptr) (b o : ℕ) (inb : InBlock p) where
+  -- with any value, that is the handle again
+  pub value_back : (w : R.Denot) → ent 𝓤 (sep 𝓤 (sem 𝓛 ((mem R).own_at w (block_of p) (offset_of p + value_offset R))) (sem 𝓛 (beside_value R p b o))) (sem 𝓛 ((mem (HandleRow R)).own_at (record { block = p; value = w }) b o))
+  unfolding part_of
+  value_back w = let at : Ptr = block_ptr (block_of p) (offset_of p) in
+      qed 𝓛 (‵ (part_at R full_share w (block_of p) (offset_of p + value_offset R)) ∷ ‵ (beside_value R p b o) ∷ []) ∵ move ! (1 ∷ []) $ fsplit3 ! $ move ! (2 ∷ []) $ fsplit ! $
+      -- [the stamp; the cell; what frees; the word; the value]
+      move ! (4 ∷ 2 ∷ []) $ fjoin ! $ move ! (3 ∷ 0 ∷ 1 ∷ []) $ fjoin3 ! $ rewrite ! 0 (λ (z : Ptr). ‵ (unshared_block R z w 1)) (sym (at_block p inb)) refl $ rewrite ! 1 (λ (z : Ptr). ‵ (cell_at full_share (HandleRow R).mir (one_word z ∷ []) b o)) (sym (at_block p inb)) refl $
+      fpack ! Bool (sole_or_counted R p w) true $ nothing_more ! $ fpack ! (InBlock p) (λ _. ftrue) inb $ fjoin ! $ use0 𝓛 (‵ ((HandleWords R).own_val (p, tt) (one_word p ∷ []))) (words_made (handle_type.the_type R).name (R ∷ []) 𝓛 p) $ fjoin ! $
+      move ! (1 ∷ 0 ∷ []) $ fjoin ! $ fpack ! (List Val) (λ vs. fsep (cell_at full_share (HandleRow R).mir vs b o) ((HandleRow R).own_val (record { block = p; value = w }) vs)) (one_word p ∷ []) $ done !

@@ -1,0 +1,63 @@
+-- A handle says the same to every thread, where its value may go to any thread and be seen by any.
+use Rattle.std.proofs.Common.{ℕ, ◌+◌, Bool, true, false, [], ◌∷◌}
+use base.Fml.{Fml, Share}
+use base.Shift.{Keyless}
+use denote.RattleType.{RattleType}
+use denote.RawPtr.{Ptr, block_ptr, null_ptr, block_of, count_of as offset_of, ◌+ₚ◌}
+use denote.Builtin.{RawPtr}
+use denote.Struct.Struct.{exits_of}
+use denote.Struct.Owning.{shape, fields, to}
+use denote.Param.Send.{IsSend, IsSync, Common, AllSend, owning_send, struct_send, struct_sync, sendable}
+use Rattle.std_heap.specs.contracts.Global.{the_row as heap_row}
+use Rattle.std_alloc.proofs.SendSync.{lies, seen, quiet}
+use Rattle.std.proofs.Crossing as crossing
+use Rattle.handles.specs.Blocks.{Names, Stage, living, over, entitled, stage, stamp, left_at, block_type, value_offset, heap_offset, value_and_block, shown, sole_or_counted}
+use Rattle.handles.specs.contracts.block.Handle as handle_type
+
+pointers : IsSend RawPtr
+pointers = search sendable
+
+pointers_shared : IsSync RawPtr
+pointers_shared = search sendable
+
+entitled-Keyless : (i : Names) (e : Share) (y : Bool) → Keyless (entitled i e y)
+entitled-Keyless i e true = λ _. tt
+entitled-Keyless i e false = tt
+
+stage-Keyless : (content kept : Fml) → Keyless content → Keyless kept → (b o : ℕ) (i : Names) (s : Stage) → Keyless (stage content kept b o i s)
+stage-Keyless content kept c k b o i (living false w n) = (tt, ((λ _. tt), ((λ r c. tt), ((c, k), tt))))
+stage-Keyless content kept c k b o i (living true w n) = (tt, ((λ _. tt), ((λ r c. tt), (((λ e. tt), k), tt))))
+stage-Keyless content kept c k b o i over = tt
+
+module _ (R : RattleType) (s : IsSend R) (y : IsSync R) where
+  left-Keyless : (p : Ptr) → Keyless (left_at R p)
+  left-Keyless (block_ptr b o) = tt
+  left-Keyless null_ptr = tt
+
+  content-Keyless : (p : Ptr) (x : R.Denot) → Keyless (value_and_block R p x)
+  content-Keyless p x = (lies R s (p +ₚ value_offset R) x, λ h. (lies heap_row crossing.send (p +ₚ heap_offset R) h, (crossing.frees.frees h (block_type R) p, left-Keyless p)))
+
+  stamp-Keyless : (p : Ptr) → Keyless (stamp p)
+  stamp-Keyless p = λ n. tt
+
+  rule-Keyless : (p : Ptr) (x : R.Denot) (i : Names) (z : Stage) → Keyless (stage (value_and_block R p x) (stamp p) (block_of p) (offset_of p + 0) i z)
+  rule-Keyless p x = stage-Keyless (value_and_block R p x) (stamp p) (content-Keyless p x) (stamp-Keyless p) (block_of p) (offset_of p + 0)
+
+  shown-Common : (p : Ptr) (x : R.Denot) → Common (shown R p x)
+  shown-Common p x = seen R y (p +ₚ value_offset R) x
+
+  owned-Keyless : (p : Ptr) (x : R.Denot) (z : Bool) → Keyless (sole_or_counted R p x z)
+  owned-Keyless p x true = (tt, (content-Keyless p x, stamp-Keyless p))
+  owned-Keyless p x false = λ i. ((λ e. (entitled-Keyless i e, tt)), (rule-Keyless p x i, shown-Common p x (i.shared ∷ [])))
+
+  fields-Send : AllSend (fields (handle_type.the_type R))
+  fields-Send = (pointers, tt)
+
+pub handle-Send : (R : RattleType) → IsSend R → IsSync R → IsSend (handle_type.the_row R)
+handle-Send R s y = let O = handle_type.the_type R in
+    owning_send O (fields-Send R s y) (λ d. ((λ _. tt), owned-Keyless R s y d.block d.value)) (λ k. quiet (to O) (exits_of k (fields O)) ((struct_send (shape O) (fields-Send R s y)).leaving k))
+
+pub handle-Sync : (R : RattleType) → IsSend R → IsSync R → IsSync (handle_type.the_row R)
+handle-Sync R s y = let O = handle_type.the_type R in record {
+  shared = λ d b o κ. ((struct_sync (shape O) (pointers_shared, tt)).shared (to O d) b o κ, ((λ _. tt), λ i. ((λ q. tt), (rule-Keyless R s y d.block d.value i, shown-Common R s y d.block d.value (i.shared ∷ [])))));
+}

@@ -1,0 +1,54 @@
+-- `into_loose` takes a block that nobody shares, with the allocator that it was requested from.
+use Rattle.handles.proofs.Walks.{◌≡◌, ℕ, ◌+◌, ◌-◌, ◌%◌, ◌^◌, ◌<◌, Bool, true, false, List, [], ◌∷◌, ◌++◌, refl, sym, ap, ◌∙◌, subst, lit<, arith, w64, a_type, named, Val, vint, vptr, vunit, inst_fn, full_share, SProp, ent, sep, emp, id⊢, via, fat, Lft, Share, Fml, ftrue, fsep, fex, flft, fhide, finv, WpFn, sem, ‵, raw, ◌⊛◌, some, given, later, mean, at_ret, ◌$◌, ◌∵◌, !, qed, by, move, keep, drop, split, split3, join, fsplit, fsplit3, fjoin, fjoin3, fpick, fpack, pick, learn, use0, use1, use2, use3, await, rewrite, feq_i, feq_l, flt_i, flt_l, suffices, done, unit_lit, stop, fld, hop, load, addr, lit, of_opd, no_more, and_then, first, blocks, exec, Calls-last, returns, enter, alloc_all, pass_all, free_all, look_at, get, get_in, through, sets, sets_last, lands_last, is, env, agg, sub, whole, look_in, obor_close, tables, fact, fact_i, yes, no, RattleType, owns, types_at, plain, Ptr, InBlock, block_ptr, ptr_val, block_of, at_block, nothing_more, only, peeks, heard, looks, shuts, Is, shows, cell_at, param, layouts, RefOf, u64, shr_vals, shr_Tells, Stays, stay_dropped, walk_of, Goes-dropped, after, proved, proved_at, leaves, fm, seq_cst, found, finds, one_word, word_and_gain, one_word-Good, words_told, words_made, words_open, HandleRow, GainRow, HandleWords, GainWords}
+use denote.RawPtr.{count_of as offset_of}
+use denote.Param.{layout}
+use Rattle.std_heap.specs.contracts.Global.{the_row as heap_row}
+use Rattle.std_heap.proofs.Global.TheLaws.{the_row_laws as heap_laws}
+use Rattle.std.specs.contracts.impls.GlobalAllocator.TheImpl.{ghosts}
+use Rattle.core.proofs.alloc.Calls.{Goes-blank}
+use Rattle.std_alloc.proofs.RcSteps.{Ptr-Good}
+use Rattle.handles.proofs.LooseBoxes.{pair_val, LooseRow, loose-Good, loose_opens, loose_shuts}
+use Rattle.handles.specs.contracts.block.Block as block_type
+use types.Run.{look}
+use borrow.Table.OneValue.{part_in, part_out}
+use denote.RawPtr.{lies_at, ◌+ₚ◌}
+use Rattle.core.specs.Sync.RawAtomic.{word}
+use Rattle.handles.specs.Rights.{Right, whole_block, IsWholeBlock}
+use Rattle.handles.specs.Blocks.{stamp, stamp_offset, frees, heap_offset, unshared_block, gain_owns}
+use Rattle.core.proofs.cell.Inside.{Good}
+use types.Kit.{group}
+use denote.Memory.{part_at}
+use Rattle.handles.proofs.Boxes.{Boxed, box_shuts, heap_twice}
+use Rattle.handles.proofs.Fields.{whole_block_of}
+use Rattle.handles.specs.contracts.block.Gain as gain_type
+use Rattle.handles.specs.contracts.block.Gain.into_loose.{ended, clauses}
+use Rattle.handles.specs.contracts.block.Gain.into_loose.Key.{name as #self}
+use Rattle.handles.proofs.block.Gain.into_loose.Statement.{statement}
+use Rattle.handles.proofs.block.Gain.into_loose.Code as code
+
+pub into_loose_spec : {M : Type 1} → statement M
+into_loose_spec 𝓤 𝓛 𝓜 𝓡 wired T L =
+    let H = 𝓛.H in let 𝓣 = tables 𝓤 H 𝓜 𝓡 𝓡.env in let R : RattleType = param 0 T in let En = ended T in let c = clauses T 𝓛 𝓜.mem 𝓡.returns in let inst = layouts (a_type ∷ []) (T, tt) in let fn = inst_fn inst code.function in
+    let self = plain (λ _. GainRow R) in let hs : Stays En.signature.params En.kept = (stay_dropped self no, tt) in
+    proved 𝓛 En hs c 𝓜 𝓡 (Goes-dropped 𝓛 1 self no (λ κs x f. refl), tt) (#self inst) fn (code.unfolded 𝓤 H 𝓜 𝓡 wired (T, tt)) (λ κs. ((λ s. one_word s.block ∷ []), tt)) (λ κs. ((λ s vs so. words_told (gain_type.the_type R).name (R ∷ []) s.block vs so.0), tt)) (λ κs qs bounds a gh are.
+    let κ : Lft = κs.0 in let q : Share = qs.0 in let p : Ptr = a.0.block in let x : T.Denot = a.0.value in let pb : ℕ = block_of p in let po : ℕ = offset_of p in
+    let y : (walk_of 𝓛 En hs c).Ghost = ((κs, qs, bounds, a, (one_word p ∷ [], tt)), gh) in let Post : Val → SProp 𝓤 = (walk_of 𝓛 En hs c).post y in
+    let Block : RattleType = block_type.the_row R in let there : Ptr = block_ptr pb po in
+    qed 𝓛 (((‵ (flft κ q) ⊛ ‵ ftrue) ⊛ ‵ (owns (types_at En.signature.params κs) a y.0.4)) ∷ raw (fact 𝓤 _) ∷ raw (fact 𝓤 (IsWholeBlock a.0.right)) ∷ []) ∵
+    keep ! (2 ∷ 0 ∷ []) $ heard ! (IsWholeBlock a.0.right) (λ asked. let n : ℕ = (whole_block_of a.0.right asked).0 in let is_whole : a.0.right ≡ whole_block n = (whole_block_of a.0.right asked).1 in
+    split ! $ split ! $ join ! $ move ! (1 ∷ []) $ fsplit ! $ fsplit ! $ keep ! (1 ∷ 3 ∷ []) $ rewrite ! 0 (λ (r : Right). ‵ (gain_owns R p x r)) is_whole refl $
+    fsplit ! $ fpick ! (λ inb. drop ! $ let at : p ≡ block_ptr pb po = at_block p inb in rewrite ! 0 (λ (z : Ptr). ‵ (unshared_block R z x n)) at refl $
+    fsplit3 ! $ move ! (1 ∷ []) $ fsplit ! $ move ! (1 ∷ []) $ fpick ! (λ h. fsplit3 ! $
+    -- [the handle of the heap; the right to free; what is left; the value; the word; the stamp; the tokens]
+    use1 𝓛 (some (λ (v : Val). ‵ (fat full_share (denote.Memory.lone heap_row.mir) pb (po + heap_offset R) v) ⊛ ‵ (heap_row.own_val h (v ∷ [])))) (part_out 𝓛 heap_row refl full_share h pb (po + heap_offset R)) $ pick ! (λ v. split ! $
+    use1 𝓛 (given (Good (layout heap_row) v) (‵ (fat full_share (layout heap_row) pb (po + heap_offset R) v))) (𝓛.laws.at_wt full_share (layout heap_row) pb (po + heap_offset R) v) $ learn ! (λ good.
+    enter ! 𝓣.C 𝓣.Λ fn (one_word p ∷ []) Post $ alloc_all ! (λ l. pass_all ! refl (one_word-Good p, tt) $ let Ev = env fn.locals l in
+    sets ! (is ! (of_opd ! (get_in ! (fld ! refl (stop !)) (sub ! 0 refl (whole !)))) (ap ptr_val at)) refl (tt, tt) $ sets ! (of_opd ! (get ! refl)) refl (tt, tt) $
+    first ! $ blocks ! $ sets_last ! (of_opd ! (load ! (through ! refl (fld ! refl (stop !))) (look ! 0 refl))) refl good $ exec ! 𝓣.C 𝓣.Λ Ev (after 3 fn.body) (at_ret Ev Post) $ sets ! (of_opd ! (get ! refl)) refl good $
+    sets ! (agg ! (and_then ! (get ! refl) (and_then ! (get ! refl) (no_more !)))) refl (loose-Good Block heap_row heap_laws ghosts pb po v good) $
+    move ! (1 ∷ []) $ use1 𝓛 (‵ (heap_row.own_val h (v ∷ [])) ⊛ ‵ (heap_row.own_val h (v ∷ []))) (heap_twice 𝓛 h (v ∷ [])) $ split ! $ move ! (2 ∷ 0 ∷ []) $
+    use2 𝓛 (‵ (part_at heap_row full_share h pb (po + heap_offset R))) (part_in 𝓛 heap_row refl full_share h pb (po + heap_offset R) v) $ move ! (0 ∷ 2 ∷ 3 ∷ []) $ fjoin3 ! $ move ! (4 ∷ []) $ fpick ! (λ s.
+    -- [the stamp; what frees; the allocator; the value; the word; the tokens]
+    move ! (4 ∷ 0 ∷ 3 ∷ 1 ∷ []) $ group ! 4 $ use1 𝓛 (‵ (Boxed T L 𝓛 pb po n s x h)) (box_shuts T L 𝓛 pb po n s x h) $ loose_shuts Block heap_row heap_laws ghosts ! pb po v h (record { word = n; stamp = s; value = x; alloc = h }) $
+    use0 𝓛 (raw (fact 𝓤 (a.0.right ≡ whole_block n))) (fact_i 𝓤 (a.0.right ≡ whole_block n) (emp 𝓤) is_whole) $ use0 𝓛 (raw (fact 𝓤 (x ≡ x))) (fact_i 𝓤 (x ≡ x) (emp 𝓤) refl) $ join ! $ nothing_more ! $ nothing_more ! $ fjoin ! $
+    returns ! (look_at ! 0 refl) $ free_all ! refl $ keep ! (3 ∷ 0 ∷ 2 ∷ 1 ∷ []) $ by ! (leaves 𝓛 En hs c y (pair_val (vptr pb po) v) (record { at = there; alloc = h; value = record { word = n; stamp = s; value = x; alloc = h } }) (tt, tt) (tt, tt))))))))))

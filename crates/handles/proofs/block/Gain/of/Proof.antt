@@ -1,0 +1,35 @@
+-- `of` takes a block that nobody shares.
+use Rattle.handles.proofs.Walks.{◌≡◌, ℕ, ◌+◌, ◌-◌, ◌%◌, ◌^◌, ◌<◌, Bool, true, false, List, [], ◌∷◌, ◌++◌, refl, sym, ap, ◌∙◌, subst, lit<, arith, w64, a_type, named, Val, vint, vptr, vunit, inst_fn, full_share, SProp, ent, sep, emp, id⊢, via, fat, Lft, Share, Fml, ftrue, fsep, fex, flft, fhide, finv, WpFn, sem, ‵, raw, ◌⊛◌, some, given, later, mean, at_ret, ◌$◌, ◌∵◌, !, qed, by, move, keep, drop, split, split3, join, fsplit, fsplit3, fjoin, fjoin3, fpick, fpack, pick, learn, use0, use1, use2, use3, await, rewrite, feq_i, feq_l, flt_i, flt_l, suffices, done, unit_lit, stop, fld, hop, load, addr, lit, of_opd, no_more, and_then, first, blocks, exec, Calls-last, returns, enter, alloc_all, pass_all, free_all, look_at, get, get_in, through, sets, sets_last, lands_last, is, env, agg, sub, whole, look_in, obor_close, tables, fact, fact_i, yes, no, RattleType, owns, types_at, plain, Ptr, InBlock, block_ptr, ptr_val, block_of, at_block, nothing_more, only, peeks, heard, looks, shuts, Is, shows, cell_at, param, layouts, RefOf, u64, shr_vals, shr_Tells, Stays, stay_dropped, walk_of, Goes-dropped, after, proved, proved_at, leaves, fm, seq_cst, found, finds, one_word, word_and_gain, one_word-Good, words_told, words_made, words_open, HandleRow, GainRow, HandleWords, GainWords}
+use denote.RawPtr.{count_of as offset_of}
+use denote.Param.{layout}
+use Rattle.std_heap.specs.contracts.Global.{the_row as heap_row}
+use Rattle.std_heap.proofs.Global.TheLaws.{the_row_laws as heap_laws}
+use Rattle.std.specs.contracts.impls.GlobalAllocator.TheImpl.{ghosts}
+use Rattle.core.proofs.alloc.Calls.{Goes-blank}
+use Rattle.std_alloc.proofs.RcSteps.{Ptr-Good}
+use Rattle.handles.proofs.LooseBoxes.{pair_val, LooseRow, loose-Good, loose_opens, loose_shuts}
+use Rattle.handles.specs.contracts.block.Block as block_type
+use Rattle.handles.specs.Blocks.{unshared_block}
+use Rattle.handles.specs.Rights.{Right, whole_block}
+use Rattle.handles.proofs.Boxes.{box_opens}
+use Rattle.handles.specs.contracts.block.Gain as gain_type
+use Rattle.handles.specs.contracts.block.Gain.of.{ended, clauses}
+use Rattle.handles.specs.contracts.block.Gain.of.Key.{name as #self}
+use Rattle.handles.proofs.block.Gain.of.Statement.{statement}
+use Rattle.handles.proofs.block.Gain.of.Code as code
+
+pub of_spec : {M : Type 1} → statement M
+of_spec 𝓤 𝓛 𝓜 𝓡 wired T L =
+    let H = 𝓛.H in let 𝓣 = tables 𝓤 H 𝓜 𝓡 𝓡.env in let R : RattleType = param 0 T in let En = ended T in let c = clauses T 𝓛 𝓜.mem 𝓡.returns in let inst = layouts (a_type ∷ []) (T, tt) in let fn = inst_fn inst code.function in
+    let Loose : RattleType = LooseRow (block_type.the_row R) heap_row heap_laws ghosts in let boxed = plain (λ _. Loose) in let hs : Stays En.signature.params En.kept = (stay_dropped boxed no, tt) in
+    proved_at 𝓛 En hs c 𝓜 𝓡 (Goes-blank 𝓛 1 boxed no (λ κs x f. tt), tt) (#self inst) fn (code.unfolded 𝓤 H 𝓜 𝓡 wired (T, tt)) (λ z are.
+    let κs = z.0.0 in let d : Loose.Denot = z.0.3.0 in let Post : Val → SProp 𝓤 = (walk_of 𝓛 En hs c).post z in let Run : List Val → SProp 𝓤 = λ ws. WpFn 𝓤 H 𝓣.C 𝓣.Λ fn ws Post in let x : T.Denot = d.value.value in let r : Right = whole_block d.value.word in
+    qed 𝓛 (((‵ (flft κs.0 z.0.1.0) ⊛ ‵ ftrue) ⊛ ‵ (owns (types_at En.signature.params κs) z.0.3 z.0.4)) ∷ raw (fact 𝓤 _) ∷ ‵ ftrue ∷ []) ∵
+    keep ! (0 ∷ []) $ split ! $ move ! (1 ∷ []) $ fsplit ! $ loose_opens (block_type.the_row R) heap_row heap_laws ghosts ! d z.0.4.0 (λ b o h placed is_pair good. let p : Ptr = block_ptr b o in
+    -- [the box; its allocator; nothing; the tokens]
+    use1 𝓛 (‵ (unshared_block R p x d.value.word)) (box_opens T L 𝓛 b o d.value.word d.value.stamp x d.value.alloc) $ nothing_more ! $ fpack ! (InBlock p) (λ _. ftrue) tt $ fjoin ! $ use0 𝓛 (‵ ((GainWords R).own_val (p, tt) (one_word p ∷ []))) (words_made (gain_type.the_type R).name (R ∷ []) 𝓛 p) $ fjoin ! $ keep ! (0 ∷ 3 ∷ []) $
+    suffices ! (Run (pair_val (vptr b o) h ∷ [])) (subst (λ (us : List Val). ent 𝓤 (Run (pair_val (vptr b o) h ∷ [])) (Run us)) (sym (λ j. is_pair j ++ [])) (id⊢ 𝓤 _)) $
+    enter ! 𝓣.C 𝓣.Λ fn (pair_val (vptr b o) h ∷ []) Post $ alloc_all ! (λ l. pass_all ! refl (loose-Good (block_type.the_row R) heap_row heap_laws ghosts b o h good, tt) $
+    sets ! (of_opd ! (get_in ! (fld ! refl (stop !)) (sub ! 0 refl (whole !)))) refl (tt, tt) $ sets ! (agg ! (and_then ! (get ! refl) (no_more !))) refl (tt, (tt, tt)) $
+    use0 𝓛 (raw (fact 𝓤 (x ≡ x))) (fact_i 𝓤 (x ≡ x) (emp 𝓤) refl) $ use0 𝓛 (raw (fact 𝓤 (r ≡ r))) (fact_i 𝓤 (r ≡ r) (emp 𝓤) refl) $ join ! $ nothing_more ! $ nothing_more ! $ fjoin ! $
+    returns ! (look_at ! 0 refl) $ free_all ! refl $ keep ! (3 ∷ 0 ∷ 2 ∷ 1 ∷ []) $ by ! (leaves 𝓛 En hs c z (one_word p) (record { block = p; value = x; right = r }) (tt, tt) (tt, tt)))))

@@ -1,0 +1,6 @@
+use Rattle.std.proofs.Common.{subst}
+use Rattle.handles.specs.Attempts.{IsAttempt}
+use Rattle.handles.proofs.block.Handle.first_attempt.Goals as goal
+
+pub returns : goal.returns
+returns g c = (c.read-word.result.0, subst (λ value. IsAttempt value c.read-word.result.0 c.judge.result) c.read-word.ensures.value c.judge.ensures)

@@ -1,0 +1,38 @@
+-- `fill` writes a value into its room.
+use Rattle.handles.proofs.Walks.{◌≡◌, ℕ, ◌+◌, ◌-◌, ◌%◌, ◌^◌, ◌<◌, Bool, true, false, List, [], ◌∷◌, ◌++◌, refl, sym, ap, ◌∙◌, subst, lit<, arith, w64, a_type, named, Val, vint, vptr, vunit, inst_fn, full_share, SProp, ent, sep, emp, id⊢, via, fat, Lft, Share, Fml, ftrue, fsep, fex, flft, fhide, finv, WpFn, sem, ‵, raw, ◌⊛◌, some, given, later, mean, at_ret, ◌$◌, ◌∵◌, !, qed, by, move, keep, drop, split, split3, join, fsplit, fsplit3, fjoin, fjoin3, fpick, fpack, pick, learn, use0, use1, use2, use3, await, rewrite, feq_i, feq_l, flt_i, flt_l, suffices, done, unit_lit, stop, fld, hop, load, addr, lit, of_opd, no_more, and_then, first, blocks, exec, Calls-last, returns, enter, lands_as, alloc_all, pass_all, free_all, look_at, get, get_in, through, sets, sets_last, lands_last, is, env, agg, sub, whole, look_in, obor_close, tables, fact, fact_i, yes, no, RattleType, owns, types_at, plain, Ptr, InBlock, block_ptr, ptr_val, block_of, at_block, nothing_more, only, peeks, heard, looks, shuts, Is, shows, cell_at, param, layouts, RefOf, u64, shr_vals, shr_Tells, Stays, stay_dropped, walk_of, Goes-dropped, after, proved, proved_at, leaves, fm, seq_cst, found, finds, one_word, word_and_gain, one_word-Good, words_told, words_made, words_open, HandleRow, GainRow, HandleWords, GainWords}
+use mir.Syntax.{dcons, dnil}
+use types.Run.{init, assigns_last}
+use denote.Memory.{part_at}
+use denote.Param.{bounded}
+use denote.Param.Laws.{param_laws}
+use Rattle.core.proofs.alloc.Calls.{Al, Goes-blank}
+use Rattle.std_alloc.proofs.BoxSteps.Form as box
+use Rattle.std_alloc.proofs.BoxSteps.Steps.{el_tells, el_in}
+use Rattle.std_alloc.proofs.OfVacant.{Vacant, vacant_val, vacant_typed, Vacant-had}
+use Rattle.std_alloc.proofs.RawLayout.{as_written}
+use Rattle.handles.proofs.LooseBoxes.{pair_val, loose-Good, loose_shuts}
+use Rattle.handles.specs.contracts.block.loose.Loose.fill.{ended, clauses}
+use Rattle.handles.specs.contracts.block.loose.Loose.fill.Key.{name as #self}
+use Rattle.handles.proofs.block.loose.Loose.fill.Statement.{statement}
+use Rattle.handles.proofs.block.loose.Loose.fill.Code as code
+
+pub fill_spec : {M : Type 1} → statement M
+fill_spec 𝓤 𝓛 𝓜 𝓡 wired T A L LA g d dd allocator glued =
+    let H = 𝓛.H in let 𝓣 = tables 𝓤 H 𝓜 𝓡 𝓡.env in let R : RattleType = param 0 T in let Z : RattleType = param 1 A in let LZ = param_laws 1 A LA in let En = ended T A g d dd in let c = clauses T A g d dd 𝓛 𝓜.mem 𝓡.returns in
+    let heap : Al = record { row = A; laws = LA; g = g; d = d; drops = dd } in let E : box.Bx = record { row = T; laws = L; al = heap } in let inst = bounded (a_type ∷ a_type ∷ []) (T, (A, tt)) (dcons d (dcons dd dnil)) in let fn = inst_fn inst code.function in
+    let room = plain (λ _. Vacant heap R) in let item = plain (λ _. R) in let hs : Stays En.signature.params En.kept = (stay_dropped room no, (stay_dropped item no, tt)) in
+    proved_at 𝓛 En hs c 𝓜 𝓡 (Goes-blank 𝓛 2 room no (λ κs x f. tt), (Goes-dropped 𝓛 2 item no (λ κs x f. refl), tt)) (#self inst) fn (code.unfolded 𝓤 H 𝓜 𝓡 wired (T, (A, tt)) d dd) (λ z are.
+    let κs = z.0.0 in let qs = z.0.1 in let a : A.Denot = z.0.3.0.alloc in let x : T.Denot = z.0.3.1.0 in let Post : Val → SProp 𝓤 = (walk_of 𝓛 En hs c).post z in let Run : List Val → SProp 𝓤 = λ ws. WpFn 𝓤 H 𝓣.C 𝓣.Λ fn ws Post in
+    let toks = ‵ (flft κs.0 qs.0) ⊛ ‵ (flft κs.1.0 qs.1.0) ⊛ ‵ ftrue in let asked = raw ((c κs z.0.3).requires z.1) in
+    qed 𝓛 ((toks ⊛ ‵ (owns (types_at En.signature.params κs) z.0.3 z.0.4)) ∷ asked ∷ []) ∵ split ! $ move ! (1 ∷ []) $ fsplit3 ! $
+    Vacant-had heap R ! z.0.3.0 z.0.4.0 (λ b o h at is_room good. move ! (3 ∷ []) $ el_tells E ! x z.0.4.1.0 (λ v is_item fits.
+    -- [what the value owns; the room; the right to free; the allocator; nothing; the tokens; what is asked]
+    move ! (1 ∷ []) $ as_written ! (box.τ E) b o $ let w : Val = vacant_val h b o in
+    suffices ! (Run (w ∷ v ∷ [])) (subst (λ (us : List Val). ent 𝓤 (Run (w ∷ v ∷ [])) (Run us)) (sym (λ j. is_room j ++ (is_item j ++ []))) (id⊢ 𝓤 (Run (w ∷ v ∷ [])))) $
+    enter ! 𝓣.C 𝓣.Λ fn (w ∷ v ∷ []) Post $ alloc_all ! (λ l. pass_all ! refl (vacant_typed heap R h b o good, (fits, tt)) $ let Ev = env fn.locals l in
+    sets ! (of_opd ! (get_in ! (fld ! refl (stop !)) (sub ! 0 refl (whole !)))) refl (tt, tt) $ sets ! (of_opd ! (get_in ! (fld ! refl (stop !)) (sub ! 1 refl (whole !)))) refl good $
+    first ! $ blocks ! $ sets ! (of_opd ! (get ! refl)) refl fits $ assigns_last ! (of_opd ! (get ! refl)) (through ! refl (stop !)) (init ! 0 refl fits) $ exec ! 𝓣.C 𝓣.Λ Ev (after 3 fn.body) (at_ret Ev Post) $
+    sets ! (of_opd ! (get ! refl)) refl good $ sets ! (agg ! (and_then ! (get ! refl) (and_then ! (get ! refl) (no_more !)))) refl (loose-Good R Z LZ g b o h good) $
+    use2 𝓛 (‵ (part_at R full_share x b o)) (el_in E 𝓛 x b o v) $ fjoin ! $ loose_shuts R Z LZ g ! b o h a x $
+    use0 𝓛 (raw (fact 𝓤 (x ≡ x))) (fact_i 𝓤 (x ≡ x) (emp 𝓤) refl) $ nothing_more ! $ nothing_more ! $ fjoin ! $ nothing_more ! $ fjoin ! $
+    returns ! (look_at ! 0 refl) $ free_all ! refl $ keep ! (4 ∷ 0 ∷ 2 ∷ 1 ∷ []) $ by ! (leaves 𝓛 En hs c z (pair_val (vptr b o) h) (record { at = block_ptr b o; alloc = a; value = x }) ((tt, (tt, tt)), (tt, tt)) (tt, (tt, tt)))))))

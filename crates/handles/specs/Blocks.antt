@@ -1,0 +1,157 @@
+-- What a block is made of, and what its handles own and share.
+--
+-- A block lies in one piece of memory: its word, its stamp, its value and the heap that it goes back to. While it has
+-- handles, an invariant holds its word. Two names go with it:
+--   * `shared` is the lifetime for which its value is shared. Each counted handle has one part in 2 ^ 64 of the token
+--     of that lifetime; the invariant has the parts that no handle has.
+--   * `unmarked` is the lifetime that ends with the mark. Its token lies in the invariant until then, so whoever knows
+--     it to be over knows the block to be marked, from then on for good.
+use Rattle.std.specs.Prelude.{◌≡◌, ℕ, ◌+◌, Bool, true, false, List, [], ◌∷◌}
+use base.Fraction.{full_share}
+use base.FractionLaws.{Counts}
+use base.Fml.{Lft, Share, Fml, ftrue, ffalse, fsep, fex, flft, fdead, flent, finv, fleft}
+use mir.Syntax.{Ty, ty_struct}
+use prog.Memory.{size, align, up}
+use types.RcWeak.{part, rest}
+use denote.RattleType.{RattleType}
+use denote.Memory.{lone}
+use denote.RawPtr.{Ptr, InBlock, block_ptr, null_ptr, block_of, count_of as offset_of, lies_at, ◌+ₚ◌}
+use denote.Sharing.{said, beside, some, one, held, always}
+use denote.Struct.Lending.{lent_at}
+use denote.Struct.Members.{Member, raw_tys}
+use Rattle.core.specs.Sync.RawAtomic.{word}
+use Rattle.core.proofs.cell.Borrows.{flag}
+use Rattle.std.specs.declared.alloc.Global.{Global}
+use Rattle.std_heap.specs.contracts.Global.{the_row as heap_row}
+use Rattle.std.specs.contracts.impls.GlobalAllocator.TheImpl.{ghosts}
+use Rattle.counting_word.specs.CountingWord.{StandsFor}
+use Rattle.handles.specs.Rights.{Right, nothing, a_handle, to_lower, whole_block}
+
+abbrev pub fact : Type 0 → Fml
+fact φ = fex φ (λ _. ftrue)
+
+pub record Names : Type 0 where
+  pub shared : ℕ
+  pub unmarked : ℕ
+
+module _ (i : Names) where
+  -- one unit of the count
+  abbrev pub unit_of_count : Fml
+  unit_of_count = part 64 i.shared
+
+  abbrev pub unshared : Fml
+  unshared = fdead (i.shared ∷ [])
+
+  abbrev pub marked : Fml
+  marked = fdead (i.unmarked ∷ [])
+
+  -- a handle's right to its share of the token: it is one part, which the word counts, or the block is marked for good
+  abbrev pub entitled : Share → Bool → Fml
+  entitled e true = fact (Counts 64 e 1)
+  entitled e false = marked
+
+  -- what makes its holder a handle of the block
+  abbrev pub stake : Fml
+  stake = fex Share (λ e. fsep (fex Bool (entitled e)) (flft (i.shared ∷ []) e))
+
+-- A block lives, with its mark, its word and the number of parts that are counted and not in the invariant; or its last
+-- handle is gone.
+pub data Stage : Type 0 where
+  living : Bool → ℕ → ℕ → Stage
+  over : Stage
+
+-- `content` is what is lent for the lifetime of the sharing, and `kept` what stays in the invariant beside the word.
+module _ (content kept : Fml) (b o : ℕ) (i : Names) where
+  -- what the invariant has where n parts are counted. With the mark one more part is gone for good: it is the pool, from
+  -- which new handles are made.
+  abbrev pub beside_word : Bool → ℕ → Fml
+  beside_word false n = fsep (rest 64 i.shared n) (fsep (fsep (flent (i.shared ∷ []) content) kept) (flft (i.unmarked ∷ []) full_share))
+  beside_word true n = fsep (rest 64 i.shared (n + 1)) (fsep (fsep (fex Share (λ e. flft (i.shared ∷ []) e)) kept) (marked i))
+
+  -- The word stands for n counted parts, each of a live handle or of a drop in flight.
+  abbrev pub stage : Stage → Fml
+  stage (living mark w n) = fsep (word b o w) (fsep (fact (StandsFor w mark n n)) (beside_word mark n))
+  stage over = unshared i
+
+  abbrev pub Rule : Fml
+  Rule = fex Stage stage
+
+  -- a handle, whose value is shared as `shown` says
+  abbrev pub counted : (Lft → Fml) → Fml
+  counted shown = fsep (stake i) (fsep (finv Rule) (shown (i.shared ∷ [])))
+
+  abbrev pub counted_shares : (Lft → Fml) → Lft → Fml
+  counted_shares shown = beside (one (λ q. flft (i.shared ∷ []) q)) (beside (always Rule) (held (i.shared ∷ []) shown))
+
+abbrev pub placed : Ptr → Fml
+placed p = fact (InBlock p)
+
+abbrev pub stamp_offset : ℕ
+stamp_offset = 8
+
+-- the stamp, which every handle may change
+abbrev pub stamp : Ptr → Fml
+stamp p = fex ℕ (λ n. word (block_of p) (offset_of p + stamp_offset) n)
+
+module _ (R : RattleType) where
+  abbrev pub item : Member
+  item = record { row = R; ty = lone R.mir }
+
+  abbrev pub heap : Member
+  heap = record { row = heap_row; ty = lone heap_row.mir }
+
+  abbrev pub members : List Member
+  members = flag ∷ flag ∷ item ∷ heap ∷ []
+
+  abbrev pub block_type : Ty
+  block_type = ty_struct [] (raw_tys members)
+
+  abbrev pub value_offset : ℕ
+  value_offset = up (align (lone R.mir)) 16
+
+  abbrev pub heap_offset : ℕ
+  heap_offset = up (align (lone heap_row.mir)) (value_offset + size (lone R.mir))
+
+  -- the room of a block that is not in its fields
+  abbrev pub left_at : Ptr → Fml
+  left_at (block_ptr b o) = fleft full_share block_type (raw_tys members) b o
+  left_at null_ptr = ffalse
+
+  -- what gives the block back
+  abbrev pub frees : Ptr → Global → Fml
+  frees p h = fsep (lies_at heap_row full_share (p +ₚ heap_offset) h) (fsep (ghosts.dealloc_token h block_type p) (left_at p))
+
+  abbrev pub value_and_block : Ptr → R.Denot → Fml
+  value_and_block p x = fsep (lies_at R full_share (p +ₚ value_offset) x) (fex Global (frees p))
+
+  abbrev pub shown : Ptr → R.Denot → Lft → Fml
+  shown p x = lent_at R (p +ₚ value_offset) x
+
+  module _ (p : Ptr) (x : R.Denot) where
+    abbrev pub block_rule : Names → Fml
+    block_rule = Rule (value_and_block p x) (stamp p) (block_of p) (offset_of p + 0)
+
+    -- a whole block that nobody shares, with the word w
+    abbrev pub unshared_block : ℕ → Fml
+    unshared_block w = fsep (word (block_of p) (offset_of p + 0) w) (fsep (value_and_block p x) (stamp p))
+
+    abbrev pub counted_handle : Fml
+    counted_handle = fex Names (λ i. counted (value_and_block p x) (stamp p) (block_of p) (offset_of p + 0) i (shown p x))
+
+    -- The only handle of a new block has it outright, until it is first shared; the invariant is made only then.
+    abbrev pub sole_or_counted : Bool → Fml
+    sole_or_counted true = unshared_block 1
+    sole_or_counted false = counted_handle
+
+    abbrev pub handle_owns : Fml
+    handle_owns = fsep (placed p) (fex Bool sole_or_counted)
+
+    abbrev pub handle_shares : Lft → Fml
+    handle_shares = beside (said (placed p)) (some Names (λ i. counted_shares (value_and_block p x) (stamp p) (block_of p) (offset_of p + 0) i (shown p x)))
+
+    -- what a step left its caller with
+    abbrev pub gain_owns : Right → Fml
+    gain_owns nothing = placed p
+    gain_owns a_handle = handle_owns
+    gain_owns to_lower = fsep (placed p) (fex Names (λ i. fsep (unit_of_count i) (finv (block_rule i))))
+    gain_owns (whole_block w) = fsep (placed p) (unshared_block w)

@@ -1,0 +1,184 @@
+//! Counted handles of a shared value.
+ghost use Rattle.std.specs.Prelude.{◌≡◌, IfOk, IfErr};
+ghost use Rattle.core.specs.Cmp.{on_per};
+
+use crate::block::Handle;
+use crate::unique::UniqueArc;
+use counting_word::{is_alone, is_marked};
+use std::alloc::{AllocError, Global};
+use std::marker::Model;
+use std::ops::Deref;
+use std::sync::Wait;
+use thiserror::Error;
+
+/// How often the trait's `clone` raises the word before it gives up.
+const MOST_RAISES: u8 = 64;
+
+/// A handle of a block whose value is shared. The last handle's end drops the value and gives the block back.
+#[derive(Drop)]
+pub struct Arc<T: Send + Sync> {
+    pub(crate) handle: Handle<T>,
+}
+
+impl<T: Send + Sync> Model for Arc<T> {
+    ghost use Rattle.handles.specs.Shows.{Shows};
+
+    ghost Value = { Shows T };
+
+    ghost view = { λ a. record { value = a.handle.value } };
+}
+
+/// The block has as many handles as its word can count.
+#[derive(Debug, PartialEq, Drop, Error)]
+#[error("the handle limit is reached")]
+pub struct Full;
+
+impl<T: Send + Sync + Drop> Arc<T> {
+    /// The data comes back where there is no memory for the block.
+    pub fn new(alloc: Global, value: T) -> Result<Arc<T>, T>
+        ensures made { IfOk result (λ a. a.value ≡ value) }
+        ensures refused { IfErr result (λ x. x ≡ value) }
+    {
+        match UniqueArc::new(alloc, value) {
+            Ok(unique) => Ok(unique.shareable()),
+            Err(value) => Err(value),
+        }
+    }
+
+    /// A handle of a marked block, which is never given back and whose value is never dropped.
+    pub fn new_leaked(alloc: Global, value: T) -> Result<Arc<T>, T>
+        ensures made { IfOk result (λ a. a.value ≡ value) }
+        ensures refused { IfErr result (λ x. x ≡ value) }
+    {
+        let arc = Arc::new(alloc, value)?;
+        arc.mark_as_intentionally_leaked();
+        Ok(arc)
+    }
+
+    /// The same as `new_leaked`: a block that is marked from the start.
+    pub fn new_static(alloc: Global, value: T) -> Result<Arc<T>, T>
+        ensures made { IfOk result (λ a. a.value ≡ value) }
+        ensures refused { IfErr result (λ x. x ≡ value) }
+    {
+        Arc::new_leaked(alloc, value)
+    }
+
+    /// One more handle of the token's block. It waits as `clone` does.
+    pub fn from_raw_addrefed(raw: &RawArc<T>, rt: &impl Wait) -> Result<Arc<T>, Full>
+        ensures { IfOk result (λ a. a.value ≡ raw.now.value) }
+    {
+        Arc::clone(&raw.arc, rt)
+    }
+
+    /// Tries until the handle is made or the block is full, however often other threads change the count meanwhile.
+    pub fn clone(this: &Arc<T>, rt: &impl Wait) -> Result<Arc<T>, Full>
+        ensures { IfOk result (λ a. a.value ≡ this.now.value) }
+    {
+        match this.handle.clone_unless_full(rt) {
+            Ok(handle) => Ok(Arc { handle }),
+            Err(full) => Err(full),
+        }
+    }
+}
+
+impl<T: Send + Sync> Arc<T> {
+    pub(crate) fn of(handle: Handle<T>) -> Arc<T>
+        ensures { result.value ≡ handle.value }
+    {
+        Arc { handle }
+    }
+
+    /// Whether both are handles of one block. It is exact where no other thread asks the same of these blocks at this
+    /// moment, and may answer `false` for one block where others do. It takes no wait, and never looks at the counts.
+    pub fn ptr_eq(this: &Arc<T>, other: &Arc<T>) -> bool {
+        this.handle.has_block_of(&other.handle)
+    }
+
+    /// Whether this is the only handle of an unmarked block. Another thread's drop may make it so at any moment.
+    #[inline]
+    pub fn is_unique(&self) -> bool {
+        is_alone(self.handle.word())
+    }
+
+    /// Whether the block is marked, which it then stays.
+    #[inline]
+    pub fn is_static(&self) -> bool {
+        is_marked(self.handle.word())
+    }
+
+    /// Marks the block: from then on it is never given back, and its value is never dropped. Marking again is harmless.
+    #[inline]
+    pub fn mark_as_intentionally_leaked(&self) {
+        self.handle.mark();
+    }
+
+    /// The handle as a token, which `from_raw` turns back.
+    pub fn into_raw(this: Arc<T>) -> RawArc<T>
+        ensures { result.value ≡ this.value }
+    {
+        RawArc { arc: this }
+    }
+
+    pub fn from_raw(raw: RawArc<T>) -> Arc<T>
+        ensures { result.value ≡ raw.value }
+    {
+        let RawArc { arc } = raw;
+        arc
+    }
+}
+
+impl<T: Send + Sync> Deref for Arc<T> {
+    type Target = T;
+
+    ghost deref_gives = { λ a x. x ≡ a.value };
+
+    #[inline]
+    fn deref(&self) -> &T
+        ensures { result.now ≡ self.now.value }
+    {
+        self.handle.value()
+    }
+}
+
+/// Refused at the limit, and where other threads changed the count through 64 raises.
+impl<T: Send + Sync + Drop> Clone for Arc<T> {
+    ghost is_clone = { λ a b. b.value ≡ a.value };
+
+    fn clone(&self) -> Result<Arc<T>, AllocError> {
+        Ok(Arc {
+            handle: self.handle.try_clone(MOST_RAISES)?,
+        })
+    }
+}
+
+/// Asks the values, also where both are handles of one block.
+impl<T: Send + Sync + PartialEq> PartialEq for Arc<T> {
+    ghost eq = { λ x y. T.eq x.value y.value };
+
+    ghost laws = { on_per (λ x. x.value) T.laws };
+
+    fn eq(&self, other: &Arc<T>) -> bool {
+        **self == **other
+    }
+}
+
+/// A handle that is kept as a token. It counts as a live handle, and only `Arc::from_raw` ends it.
+pub struct RawArc<T: Send + Sync> {
+    arc: Arc<T>,
+}
+
+impl<T: Send + Sync> Model for RawArc<T> {
+    ghost use Rattle.handles.specs.Shows.{Shows};
+
+    ghost Value = { Shows T };
+
+    ghost view = { λ r. record { value = r.arc.value } };
+}
+
+impl<T: Send + Sync> RawArc<T> {
+    pub fn value(&self) -> &T
+        ensures { result.now ≡ self.now.value }
+    {
+        &self.arc
+    }
+}

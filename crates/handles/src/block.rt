@@ -1,0 +1,191 @@
+// The block of an `Arc`, and each step that is made on it through a raw pointer.
+ghost use Rattle.std.specs.Prelude.{◌≡◌, ◌≢◌, ℕ, ◌+◌, ◌<◌};
+ghost use Rattle.counting_word.specs.CountingWord.{greatest_count};
+ghost use Rattle.handles.specs.Blocks.{handle_owns, handle_shares, gain_owns};
+ghost use Rattle.handles.specs.Rights.{Right, nothing, a_handle, to_lower, whole_block, coded_right, right_by_read, right_by_raise, right_by_last_read, right_by_lower, right_by_claim, IsWholeBlock};
+
+mod lend;
+pub(crate) mod loose;
+
+use atomic_table::exchange;
+use counting_word::{DropPlan, MARK, is_last, plan_drop};
+use loose::Loose;
+use std::alloc::Global;
+use std::marker::{Brand, Model};
+use std::sync::atomic::Ordering::SeqCst;
+use std::sync::atomic::raw;
+
+#[derive(Drop)]
+pub(crate) struct Block<T> {
+    pub(crate) word: u64,
+    // Changed by `Arc::ptr_eq` alone.
+    pub(crate) stamp: u64,
+    pub(crate) value: T,
+    pub(crate) alloc: Global,
+}
+
+// A counted handle of a block.
+pub(crate) struct Handle<T> {
+    block: *const Block<T>,
+    pub(crate) ghost value: { T },
+}
+
+impl<T> Model for Handle<T> {
+    ghost also_owns = { λ a. handle_owns T.row a.block a.value };
+
+    ghost also_shares = { λ a _ κ. handle_shares T.row a.block a.value κ };
+}
+
+// What a step on a word left its caller with.
+pub(crate) struct Gain<T> {
+    block: *const Block<T>,
+    pub(crate) ghost value: { T },
+    pub(crate) ghost right: { Right } by { coded_right },
+}
+
+impl<T> Model for Gain<T> {
+    ghost also_owns = { λ g. gain_owns T.row g.block g.value g.right };
+}
+
+impl<T> Handle<T> {
+    pub(crate) fn sole(block: Loose<Block<T>, Global>) -> Handle<T>
+        requires { block.value.word ≡ 1 }
+        ensures { result.value ≡ block.value.value }
+    {
+        let Loose { at, alloc: _ } = block;
+        Handle { block: at }
+    }
+
+    #[inline]
+    pub(crate) fn value(&self) -> &T
+        ensures { result.now ≡ self.now.value }
+    {
+        let block = self.block;
+        unsafe { &(*block).value }
+    }
+
+    // What the word is. It may change at once.
+    #[inline]
+    pub(crate) fn word(&self) -> u64 {
+        let block = self.block;
+        unsafe { raw::load::<Brand>(&raw const (*block).word, SeqCst) }
+    }
+
+    #[inline]
+    pub(crate) fn read(&self) -> (u64, Gain<T>)
+        ensures right { result.1.right ≡ right_by_read result.0 }
+        ensures value { result.1.value ≡ self.now.value }
+    {
+        let block = self.block;
+        let word = unsafe { raw::load::<Brand>(&raw const (*block).word, SeqCst) };
+        (word, Gain { block })
+    }
+
+    #[inline]
+    pub(crate) fn raise(&self, seen: u64) -> (u64, Gain<T>)
+        requires { seen < greatest_count }
+        ensures right { result.1.right ≡ right_by_raise seen result.0 }
+        ensures value { result.1.value ≡ self.now.value }
+    {
+        let block = self.block;
+        let found = unsafe { exchange::<Brand>(&raw const (*block).word, seen, seen + 1) };
+        (found, Gain { block })
+    }
+
+    #[inline]
+    pub(crate) fn mark(&self) {
+        let block = self.block;
+        let _found = unsafe { raw::fetch_or::<Brand>(&raw const (*block).word, MARK, SeqCst) };
+    }
+
+    pub(crate) fn stamp(&self) -> u64 {
+        let block = self.block;
+        unsafe { raw::load::<Brand>(&raw const (*block).stamp, SeqCst) }
+    }
+
+    // Adds to the stamp, which wraps, and returns what it was.
+    pub(crate) fn add_to_stamp(&self, amount: u64) -> u64 {
+        let block = self.block;
+        unsafe { raw::fetch_add::<Brand>(&raw const (*block).stamp, amount, SeqCst) }
+    }
+
+    #[inline]
+    pub(crate) fn leave(self) -> (u64, Gain<T>)
+        ensures right { result.1.right ≡ right_by_last_read result.0 }
+        ensures value { result.1.value ≡ self.value }
+    {
+        let Handle { block } = self;
+        let word = unsafe { raw::load::<Brand>(&raw const (*block).word, SeqCst) };
+        (word, Gain { block })
+    }
+}
+
+impl<T> Gain<T> {
+    // A block that nobody shares, as a step gains one.
+    pub(crate) fn of(block: Loose<Block<T>, Global>) -> Gain<T>
+        ensures right { result.right ≡ whole_block block.value.word }
+        ensures value { result.value ≡ block.value.value }
+    {
+        let Loose { at, alloc: _ } = block;
+        Gain { block: at }
+    }
+
+    #[inline]
+    pub(crate) fn end(self)
+        requires { self.right ≡ nothing }
+    {
+        let Gain { block: _ } = self;
+    }
+
+    #[inline]
+    pub(crate) fn into_handle(self) -> Handle<T>
+        requires { self.right ≡ a_handle }
+        ensures { result.value ≡ self.value }
+    {
+        let Gain { block } = self;
+        Handle { block }
+    }
+
+    #[inline]
+    pub(crate) fn lower(self) -> (u64, Gain<T>)
+        requires { self.right ≡ to_lower }
+        ensures right { result.1.right ≡ right_by_lower result.0 }
+        ensures value { result.1.value ≡ self.value }
+    {
+        let Gain { block } = self;
+        let found = unsafe { raw::fetch_sub::<Brand>(&raw const (*block).word, 1, SeqCst) };
+        (found, Gain { block })
+    }
+
+    pub(crate) fn into_loose(self) -> Loose<Block<T>, Global>
+        requires { IsWholeBlock self.right }
+        ensures value { result.value.value ≡ self.value }
+        ensures right { self.right ≡ whole_block result.value.word }
+    {
+        let Gain { block } = self;
+        let at = block.cast_mut();
+        let alloc = unsafe { (*at).alloc };
+        Loose { at, alloc }
+    }
+}
+
+impl<T: Drop> Drop for Handle<T> {
+    fn drop(self) {
+        let (word, gain) = self.leave();
+        match plan_drop(word) {
+            DropPlan::Static => gain.end(),
+            DropPlan::Lower => {
+                let (found, gain) = gain.lower();
+                if is_last(found) {
+                    drop(gain.into_loose().into_box());
+                } else {
+                    gain.end();
+                }
+            }
+        }
+    }
+}
+
+unsafe impl<T: Send + Sync> Send for Handle<T> {}
+
+unsafe impl<T: Send + Sync> Sync for Handle<T> {}

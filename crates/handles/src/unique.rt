@@ -1,0 +1,137 @@
+//! A handle that is the only one of its block, so that it may write the value.
+ghost use Rattle.std.specs.Prelude.{◌≡◌, IfOk, IfErr};
+ghost use types.Logic.{sem};
+ghost use Rattle.handles.specs.Rights.{whole_block};
+
+use crate::block::loose::Loose;
+use crate::arc::Arc;
+use crate::block::{Block, Gain, Handle};
+use std_alloc::room::Vacant;
+use std::alloc::{AllocError, AllocFailed, Global};
+use std::marker::Model;
+use std::ops::{Deref, DerefMut};
+
+/// The only handle of its block.
+#[derive(Drop)]
+pub struct UniqueArc<T: Send + Sync> {
+    block: Box<Block<T>>,
+}
+
+impl<T: Send + Sync> Model for UniqueArc<T> {
+    ghost use Rattle.std.specs.Prelude.{◌≡◌};
+    ghost use Rattle.handles.specs.Shows.{Shows};
+
+    ghost Value = { Shows T };
+
+    ghost view = { λ u. record { value = u.block.value.value } };
+
+    ghost invariant = { λ u. u.block.value.word ≡ 1 };
+}
+
+impl<T: Send + Sync + Drop> UniqueArc<T> {
+    pub fn new(alloc: Global, value: T) -> Result<UniqueArc<T>, T>
+        ensures made { IfOk result (λ u. u.value ≡ value) }
+        ensures refused { IfErr result (λ x. x ≡ value) }
+    {
+        match Box::new(
+            alloc,
+            Block {
+                word: 1,
+                stamp: 0,
+                value,
+                alloc,
+            },
+        ) {
+            Ok(block) => Ok(UniqueArc { block }),
+            Err(AllocFailed { value: block }) => {
+                let Block {
+                    word: _,
+                    stamp: _,
+                    value,
+                    alloc: _,
+                } = block;
+                Err(value)
+            }
+        }
+    }
+
+    // The block with its value.
+    pub(crate) fn into_gain(self) -> Gain<T>
+        ensures right { result.right ≡ whole_block 1 }
+        ensures value { result.value ≡ self.value }
+    {
+        let UniqueArc { block } = self;
+        Gain::of(Loose::of(block))
+    }
+
+    pub fn shareable(self) -> Arc<T>
+        ensures { result.value ≡ self.value }
+    {
+        let UniqueArc { block } = self;
+        Arc::of(Handle::sole(Loose::of(block)))
+    }
+}
+
+impl<T: Send + Sync> Deref for UniqueArc<T> {
+    type Target = T;
+
+    ghost deref_gives = { λ u x. x ≡ u.value };
+
+    fn deref(&self) -> &T
+        ensures { result.now ≡ self.now.value }
+    {
+        &self.block.value
+    }
+}
+
+impl<T: Send + Sync> DerefMut for UniqueArc<T> {
+    ghost use Rattle.handles.specs.WriteBack.{LendsUnique};
+
+    ghost deref_mut_gives = { λ u x. x ≡ u.value };
+
+    fn deref_mut(&mut self) -> &mut T
+        ensures* writes_back { sem 𝓛 (LendsUnique T.row self.entry result) }
+        ensures value { result.now ≡ self.old.value }
+    {
+        &mut self.block.value
+    }
+}
+
+/// A block whose value is still to be written. Where it is dropped it gives the block back, and drops no value.
+pub struct UninitArc<T: Send + Sync> {
+    room: Vacant<Block<T>, Global>,
+    alloc: Global,
+}
+
+impl<T: Send + Sync> UniqueArc<T> {
+    pub fn new_uninit(alloc: Global) -> Result<UninitArc<T>, AllocError> {
+        match Vacant::take(alloc) {
+            Ok(room) => Ok(UninitArc { room, alloc }),
+            Err(_) => Err(AllocError),
+        }
+    }
+}
+
+impl<T: Send + Sync + Drop> UninitArc<T> {
+    pub fn write(self, value: T) -> UniqueArc<T>
+        ensures { result.value ≡ value }
+    {
+        let UninitArc { room, alloc } = self;
+        let block = Block {
+            word: 1,
+            stamp: 0,
+            value,
+            alloc,
+        };
+        UniqueArc {
+            block: Loose::fill(room, block).into_box(),
+        }
+    }
+}
+
+impl<T: Send + Sync> Drop for UninitArc<T> {
+    fn drop(self) {
+        let UninitArc { room, alloc: _ } = self;
+        let _ = room.free();
+    }
+}

@@ -1,23 +1,21 @@
 -- A block in memory is its word, its stamp, its value and the heap's handle, with what is left of its place. Assumes `Logic`.
-use Rattle.std.proofs.Common.{◌≡◌, ℕ, zero, ◌+◌, List, [], ◌∷◌, w64}
+use Rattle.std.proofs.Common.{ℕ, zero, ◌+◌, List, [], ◌∷◌, w64}
 use seplogic.Ra.Ura.{Ura}
-use mir.Syntax.{Sym}
 use base.Fraction.{full_share}
 use base.Logic.{ent, sep}
-use base.Fml.{Fml, fsep, fex, fleft}
+use base.Fml.{Fml, fsep, fleft}
 use types.Logic.{Logic, sem}
 use types.Kit.{‵, ◌⊛◌, ◌$◌, ◌∵◌, !, qed, by, move, keep, use1, split, fjoin, fjoin3, fsplit3, fpack, done, fsplit}
 use denote.RattleType.{RattleType}
-use denote.Laws.{Lawful}
 use denote.Memory.{part_at, part_of}
-use denote.RawPtr.{Ptr, block_ptr, lies_at}
-use denote.Param.{param, layout}
+use denote.RawPtr.{block_ptr}
+use denote.Param.{param}
 use denote.Param.Laws.{Laws, param_laws}
 use denote.Steps.{nothing as nothing_more}
 use denote.Plain.{UInt}
 use denote.Struct.Struct.{Struct}
 use denote.Struct.Laws.{u64-laws}
-use denote.Struct.Members.{Member, rows_of, parts_at, raw_tys, lawful_Lones}
+use denote.Struct.Members.{parts_at, raw_tys, lawful_Lones}
 use denote.Struct.Parts.{shape_of, Struct-left, left_Struct}
 use Rattle.core.proofs.tally.Steps.{word_out, word_in}
 use Rattle.core.specs.Sync.RawAtomic.{word}
@@ -30,7 +28,7 @@ use mir.Val.{Val}
 use denote.Struct.Laws.{field_copy, unit-copy}
 use Rattle.std_heap.specs.contracts.Global as heap
 use Rattle.core.specs.contracts.rt.Memory as memory
-use Rattle.handles.specs.Blocks.{members, block_type, stamp_offset, value_offset, heap_offset, left_at, frees, value_and_block, stamp, unshared_block}
+use Rattle.handles.specs.Blocks.{members, block_type, stamp_offset, value_offset, heap_offset, left_at, frees, unshared_block}
 use Rattle.handles.specs.contracts.block.Block as block
 
 module _ (T : RattleType) (L : Laws T) {M : Type 1} {𝓤 : Ura M} (𝓛 : Logic 𝓤) (b o : ℕ) where

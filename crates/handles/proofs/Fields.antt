@@ -1,17 +1,17 @@
 -- The one word of a handle and of a gain, and what a gain owns by the right that a step gave. Assumes `Logic`.
-use Rattle.std.proofs.Common.{◌≡◌, ℕ, zero, suc, ◌+◌, ◌^◌, ◌<◌, Bool, true, false, List, [], ◌∷◌, ◌++◌, refl, ap, ◌∙◌, sym, w64, if◌then◌else◌}
+use Rattle.std.proofs.Common.{◌≡◌, ℕ, ◌+◌, ◌^◌, ◌<◌, Bool, true, false, List, [], ◌∷◌, ◌++◌, refl, ap, ◌∙◌, sym, w64, if◌then◌else◌}
 use seplogic.Ra.Ura.{Ura}
 use lib.Dec.{T, lit<}
 use mathlib.Core.Bool.{not}
 use mir.Syntax.{Sym, int_big, ty_int, ty_ptr, ty_struct, tcons, tnil}
 use mir.Val.{Val, vint, vstruct, vcons, vnil, of_list, has_ty, WT, Fits}
-use base.Logic.{ent, sep, emp, via, id⊢, never_e, guard_i}
+use base.Logic.{ent, sep, emp, via, id⊢, guard_i}
 use prog.Wp.{Env}
 use types.Run.{Opd}
-use base.Fml.{Lft, Share, Fml, fex, feq, fsep, finv, flent, fdead, flft, fobor, fhide, ftrue, ffalse}
+use base.Fml.{Lft, Share, Fml, fex, feq, fsep, finv, flft, fobor, fhide, ftrue}
 use base.Share
 use types.Logic.{Logic, sem}
-use types.Kit.{Item, Goal, Seq, Soaks, Step, step, ‵, ◌⊛◌, later, ◌$◌, ◌∵◌, !, qed, by, keep, drop, move, split, fsplit, fsplit3, fjoin, fjoin3, fpick, fpack, feq_i, flt_i, rewrite, use0, use1, updating, await, now, done}
+use types.Kit.{Item, Goal, Seq, Soaks, Step, step, ‵, ◌⊛◌, ◌$◌, ◌∵◌, !, qed, by, keep, drop, move, split, fsplit, fsplit3, fjoin, fjoin3, fpick, fpack, feq_i, flt_i, rewrite, use0, use1, updating, now, done}
 use types.Tokens.{lent_back, shr_bor-open}
 use types.Within.{tokens_halve}
 use denote.RattleType.{RattleType, Valss, owns}
@@ -27,11 +27,11 @@ use denote.Steps.{nothing as nothing_more}
 use denote.Struct.Laws.{RawPtr-copy}
 use denote.Struct.Struct.{Shape, Struct}
 use denote.Struct.Tuple.{Tuple}
-use Rattle.counting_word.specs.CountingWord.{is_one_handle, is_marked_word}
+use Rattle.counting_word.specs.CountingWord.{is_one_handle}
 use Rattle.handles.specs.Rights.{Right, nothing, a_handle, to_lower, whole_block, right_by_lower, IsWholeBlock}
 use Rattle.core.specs.Sync.RawAtomic.{word}
 use Rattle.std.specs.declared.alloc.Global.{Global}
-use Rattle.handles.specs.Blocks.{frees, value_offset, Names, unit_of_count, placed, counted, stamp, value_and_block, shown, block_rule, sole_or_counted, handle_owns, handle_shares, unshared_block, gain_owns}
+use Rattle.handles.specs.Blocks.{frees, value_offset, Names, unit_of_count, counted, stamp, value_and_block, shown, block_rule, sole_or_counted, handle_shares, unshared_block, gain_owns}
 use Rattle.handles.proofs.Steps.{gained}
 use Rattle.handles.specs.contracts.block.Handle as handle_type
 use Rattle.handles.specs.contracts.block.Gain as gain

@@ -1,15 +1,15 @@
 -- A block that nobody shares becomes a counted one, and what a borrow of a counted handle holds. Assumes `Logic`.
-use Rattle.std.proofs.Common.{◌≡◌, ℕ, ◌+◌, Bool, true, false, List, [], ◌∷◌}
+use Rattle.std.proofs.Common.{ℕ, ◌+◌, Bool, true, false, [], ◌∷◌}
 use seplogic.Ra.Ura.{Ura}
 use lib.Dec.{lit<}
 use base.Fraction.{full_share}
-use base.FractionLaws.{Counts, Counts-all}
+use base.FractionLaws.{Counts-all}
 use base.Logic.{ent, sep, id⊢, upd_i, apply∗, wand}
-use base.Fml.{Lft, Incl, Incl-trans, Share, Fml, ftrue, fsep, fseps, fex, fwand, fupd, fdead, fbor, flft, flent, finv}
+use base.Fml.{Lft, Incl, Incl-trans, Share, Fml, ftrue, fsep, fseps, fex, fwand, fupd, fdead, fbor, flft, finv}
 use contract.BorrowLft.{meet_⊑_left, meet_⊑_right}
 use ghost.Rules.{span, thinned}
 use types.Logic.{Logic, sem, lfts}
-use types.Kit.{‵, raw, ◌⊛◌, some as exists, later, ◌$◌, ◌∵◌, !, qed, by, move, keep, use1, use2, split, split3, join, frame, fsplit, fsplit3, fjoin, fjoin3, fpick, fpack, pick, assume, suffices, group, await, updating, now, done}
+use types.Kit.{‵, raw, ◌⊛◌, some as exists, later, ◌$◌, ◌∵◌, !, qed, by, move, keep, use1, use2, split, split3, join, fsplit, fsplit3, fjoin, fjoin3, fpick, fpack, pick, assume, suffices, group, await, updating, now, done}
 use types.Tokens.{lft_new, bor_new, bor_open, obor_alter, bor_fracture, one_token}
 use types.RcWeak.{part, rest, part_in, cut}
 use denote.Sharing.{ShrLaws, said, beside, some, one, held, always}
@@ -20,13 +20,13 @@ use denote.Steps.{nothing as nothing_more}
 use denote.RawPtr.{Ptr, block_of, count_of as offset_of, lies_at, ◌+ₚ◌}
 use denote.Shares.{Shares-less}
 use denote.Param.Laws.{Laws}
-use denote.Struct.Lending.{Lends, Lends-first, Lends-lies, lent_at, lent_at_shr_laws}
+use denote.Struct.Lending.{Lends, Lends-first, Lends-lies, lent_at_shr_laws}
 use Rattle.core.specs.Sync.RawAtomic.{word}
 use Rattle.std.specs.declared.alloc.Global.{Global}
 use Rattle.std_alloc.proofs.ArcSteps.{Settles}
 use Rattle.counting_word.specs.CountingWord.{StandsFor}
 use Rattle.counting_word.proofs.Words.{stands-one}
-use Rattle.handles.specs.Blocks.{Names, Stage, living, entitled, stake, beside_word, stage, Rule, counted, counted_shares, placed, stamp, shown, frees, value_and_block, value_offset, unshared_block, counted_handle, sole_or_counted, handle_shares}
+use Rattle.handles.specs.Blocks.{Names, Stage, living, entitled, stake, stage, Rule, counted, counted_shares, placed, stamp, shown, frees, value_and_block, value_offset, counted_handle, sole_or_counted, handle_shares}
 use Rattle.handles.proofs.Steps.{stands-unmarked, counted_stake}
 
 -- the word of a new block stands for its one handle

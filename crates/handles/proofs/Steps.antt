@@ -11,18 +11,18 @@ use base.Fraction.{full_share}
 use base.FractionLaws.{Counts}
 use base.Share
 use base.Logic.{SProp, ent, sep, wand, ex, upd, upd_i, via, never, never_e}
-use base.Fml.{Lft, Share, Fml, ftrue, ffalse, fsep, fex, flft, fdead, flent, finv}
+use base.Fml.{Lft, Share, Fml, ftrue, fsep, fex, flft, fdead, flent}
 use prog.Atomic.{either}
 use types.Logic.{Logic, sem}
-use types.Kit.{Item, Goal, Seq, ‵, raw, ◌⊛◌, given, ◌$◌, ◌∵◌, !, qed, by, move, keep, drop, split, group, fsplit, fsplit3, fjoin, fjoin3, fpick, fpack, learn, show, frame, assume, suffices, use1, use2, rewrite, done}
-use types.RcWeak.{part, part_in, rest, rest_some, takes, gives, whole}
+use types.Kit.{Item, Goal, Seq, ‵, ◌⊛◌, given, ◌$◌, ◌∵◌, !, qed, by, move, keep, drop, split, fsplit, fsplit3, fjoin, fjoin3, fpick, fpack, learn, show, frame, assume, suffices, use1, use2, rewrite, done}
+use types.RcWeak.{part_in, rest, rest_some, takes, gives, whole}
 use denote.RawPtr.{block_ptr}
 use denote.Steps.{nothing as nothing_more}
 use Rattle.core.specs.Sync.RawAtomic.{asks, always, word}
 use Rattle.counting_word.specs.CountingWord.{mark_bit, greatest_count, is_marked_word, is_one_handle, marked_word, StandsFor}
 use Rattle.counting_word.proofs.Words.{count_of-unmarked, is_one_handle-marked, is_one_handle-unmarked, stands-marked_word, stands-raised, stands-lowered, stands-positive}
 use Rattle.handles.specs.Rights.{Right, nothing, a_handle, to_lower, whole_block, right_by_read, right_by_raise, right_by_last_read, right_by_lower, right_by_claim}
-use Rattle.handles.specs.Blocks.{fact, Names, unit_of_count, unshared, marked, entitled, stake, Stage, living, over, beside_word, stage, Rule}
+use Rattle.handles.specs.Blocks.{Names, unit_of_count, unshared, marked, entitled, stake, Stage, living, over, beside_word, stage, Rule}
 use Rattle.handles.proofs.Asking as asking
 
 -- Without the mark the drops in flight are among the live handles, however many they are.

@@ -6,7 +6,7 @@
 --     of that lifetime; the invariant has the parts that no handle has.
 --   * `unmarked` is the lifetime that ends with the mark. Its token lies in the invariant until then, so whoever knows
 --     it to be over knows the block to be marked, from then on for good.
-use Rattle.std.specs.Prelude.{◌≡◌, ℕ, ◌+◌, Bool, true, false, List, [], ◌∷◌}
+use Rattle.std.specs.Prelude.{ℕ, ◌+◌, Bool, true, false, List, [], ◌∷◌}
 use base.Fraction.{full_share}
 use base.FractionLaws.{Counts}
 use base.Fml.{Lft, Share, Fml, ftrue, ffalse, fsep, fex, flft, fdead, flent, finv, fleft}

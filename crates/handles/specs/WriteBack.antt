@@ -1,5 +1,5 @@
 -- What a handle shows once a `&mut` that it lent has ended: what was last written through it.
-use Rattle.std.specs.Prelude.{◌≡◌, ⊤}
+use Rattle.std.specs.Prelude.{◌≡◌}
 use Rattle.std.specs.Borrow.{Fml, MutBor, RattleType, Lends, LendsIf, LendsSoOk}
 use Rattle.std.specs.declared.option.Option.{Option}
 use Rattle.std.specs.declared.result.Result.{Result}

@@ -3,13 +3,13 @@ ghost use Rattle.std.specs.Prelude.{◌≡◌, IfOk, IfErr};
 ghost use types.Logic.{sem};
 ghost use Rattle.handles.specs.Rights.{whole_block};
 
-use crate::block::loose::Loose;
 use crate::arc::Arc;
+use crate::block::loose::Loose;
 use crate::block::{Block, Gain, Handle};
-use std_alloc::room::Vacant;
 use std::alloc::{AllocError, AllocFailed, Global};
 use std::marker::Model;
 use std::ops::{Deref, DerefMut};
+use std_alloc::room::Vacant;
 
 /// The only handle of its block.
 #[derive(Drop)]

@@ -1,7 +1,7 @@
 -- A `&` to a handle has a share of the token of its block's sharing. Assumes `Logic`.
 use mathlib.Core.Bool.{Bool, false}
 use mathlib.Core.List.{[], ◌++◌}
-use Prim.Native.Nat.{ℕ, ◌+◌}
+use Prim.Native.Nat.{◌+◌}
 use base.Logic.{ex_i}
 use base.Fml.{Fml, Lft, fex, Incl-trans}
 use contract.BorrowLft.{meet_⊑_left}

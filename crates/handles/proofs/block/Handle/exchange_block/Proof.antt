@@ -1,14 +1,12 @@
 -- `exchange_block` swaps two pointers, and lends the value of the block that nobody shares.
-use Rattle.handles.proofs.Walks.{◌≡◌, ℕ, ◌+◌, ◌-◌, ◌%◌, ◌^◌, ◌<◌, Bool, true, false, List, [], ◌∷◌, ◌++◌, refl, sym, ap, ◌∙◌, subst, lit<, arith, w64, a_type, named, Val, vint, vptr, vunit, inst_fn, full_share, SProp, ent, sep, emp, id⊢, via, fat, Lft, Share, Fml, ftrue, fsep, fex, flft, fhide, finv, WpFn, sem, ‵, raw, ◌⊛◌, some, given, later, mean, at_ret, ◌$◌, ◌∵◌, !, qed, by, move, keep, drop, split, split3, join, fsplit, fsplit3, fjoin, fjoin3, fpick, fpack, pick, learn, use0, use1, use2, use3, await, rewrite, feq_i, feq_l, flt_i, flt_l, suffices, done, unit_lit, stop, fld, hop, load, addr, lit, of_opd, no_more, and_then, first, blocks, exec, Calls-last, returns, enter, lands_as, alloc_all, pass_all, free_all, look_at, get, get_in, through, sets, sets_last, lands_last, is, env, agg, sub, whole, look_in, obor_close, tables, fact, fact_i, yes, no, RattleType, owns, types_at, plain, Ptr, InBlock, block_ptr, ptr_val, block_of, at_block, nothing_more, only, peeks, heard, looks, shuts, Is, shows, cell_at, param, layouts, RefOf, u64, shr_vals, shr_Tells, Stays, stay_dropped, walk_of, Goes-dropped, after, proved, proved_at, leaves, fm, seq_cst, found, finds, one_word, word_and_gain, one_word-Good, words_told, words_made, words_open, HandleRow, GainRow, HandleWords, GainWords}
+use Rattle.handles.proofs.Walks.{◌≡◌, ℕ, ◌+◌, List, [], ◌∷◌, refl, ap, ◌∙◌, a_type, named, Val, vptr, inst_fn, full_share, SProp, emp, Lft, Share, Fml, ftrue, fsep, flft, sem, ‵, raw, ◌⊛◌, some, later, at_ret, ◌$◌, ◌∵◌, !, qed, by, move, keep, drop, split, split3, join, fsplit, fsplit3, fjoin, fjoin3, fpick, pick, use0, use1, await, rewrite, stop, fld, load, addr, of_opd, first, blocks, exec, returns, enter, alloc_all, pass_all, free_all, look_at, get, through, sets, sets_last, env, sub, whole, look_in, tables, fact, fact_i, no, RattleType, owns, types_at, plain, Ptr, block_ptr, block_of, at_block, nothing_more, peeks, heard, Is, shows, cell_at, param, layouts, Stays, stay_dropped, walk_of, after, proved, leaves, one_word, words_told, words_made, HandleRow, GainRow, HandleWords, GainWords}
 use denote.RawPtr.{count_of as offset_of}
 use mir.Syntax.{named}
 use base.Fml.{GName}
-use contract.BorrowLft.{◌⊑◌}
 use types.Kit.{group}
 use types.Run.{assigns}
 use types.Part.{store_in}
 use denote.Follow.{follows, lends_Part}
-use denote.Memory.{mem}
 use denote.Ref.{MutRef, MutBor, mut_vals, mut_Tells}
 use denote.Signature.{mut_ref_to}
 use denote.Steps.{opens, closes}

@@ -1,18 +1,16 @@
 -- `get_mut` lends the value of the only handle, which has the block for itself meanwhile.
-use Rattle.handles.proofs.Walks.{◌≡◌, ℕ, ◌+◌, ◌-◌, ◌%◌, ◌^◌, ◌<◌, Bool, true, false, List, [], ◌∷◌, ◌++◌, refl, sym, ap, ◌∙◌, subst, lit<, arith, w64, a_type, named, Val, vint, vptr, vunit, inst_fn, full_share, SProp, ent, sep, emp, id⊢, via, fat, Lft, Share, Fml, ftrue, fsep, fex, flft, fhide, finv, WpFn, sem, ‵, raw, ◌⊛◌, some, given, later, mean, at_ret, ◌$◌, ◌∵◌, !, qed, by, move, keep, drop, split, split3, join, fsplit, fsplit3, fjoin, fjoin3, fpick, fpack, pick, learn, use0, use1, use2, use3, await, rewrite, feq_i, feq_l, flt_i, flt_l, suffices, done, unit_lit, stop, fld, hop, load, addr, lit, of_opd, no_more, and_then, first, blocks, exec, Calls-last, returns, enter, lands_as, alloc_all, pass_all, free_all, look_at, get, get_in, through, sets, sets_last, lands_last, is, env, agg, sub, whole, look_in, obor_close, tables, fact, fact_i, yes, no, RattleType, owns, types_at, plain, Ptr, InBlock, block_ptr, ptr_val, block_of, at_block, nothing_more, only, peeks, heard, looks, shuts, Is, shows, cell_at, param, layouts, RefOf, u64, shr_vals, shr_Tells, Stays, stay_dropped, walk_of, Goes-dropped, after, proved, proved_at, leaves, fm, seq_cst, found, finds, one_word, word_and_gain, one_word-Good, words_told, words_made, words_open, HandleRow, GainRow, HandleWords, GainWords}
+use Rattle.handles.proofs.Walks.{◌≡◌, ℕ, ◌+◌, ◌^◌, Bool, List, [], ◌∷◌, refl, sym, ap, ◌∙◌, lit<, w64, a_type, named, Val, vint, vptr, inst_fn, full_share, SProp, emp, id⊢, via, Lft, Share, Fml, ftrue, flft, finv, sem, ‵, raw, ◌⊛◌, some, later, mean, at_ret, ◌$◌, ◌∵◌, !, qed, by, move, keep, drop, split, split3, join, fsplit, fsplit3, fjoin, fpick, pick, use0, use1, use2, use3, await, rewrite, feq_i, feq_l, flt_i, stop, fld, load, addr, lit, of_opd, no_more, and_then, first, blocks, exec, Calls-last, returns, enter, lands_as, alloc_all, pass_all, free_all, look_at, get, through, sets, sets_last, lands_last, env, agg, sub, whole, look_in, tables, fact, fact_i, no, RattleType, owns, types_at, plain, Ptr, block_ptr, block_of, at_block, nothing_more, only, peeks, heard, Is, shows, cell_at, param, layouts, Stays, stay_dropped, walk_of, after, proved, leaves, fm, seq_cst, found, finds, one_word, words_told, words_made, HandleRow, HandleWords}
 use denote.RawPtr.{count_of as offset_of}
-use mir.Val.{vbool, vcons, vnil}
+use mir.Val.{vcons, vnil}
 use mir.Syntax.{named}
-use base.Fml.{Incl-refl, GName, fres, fdead, flent, fbor}
+use base.Fml.{Incl-refl, GName, fres}
 use contract.BorrowLft.{◌⊑◌}
 use types.Kit.{group}
 use types.Match.{live}
 use types.Run.{un, branches, skips, returns_within}
 use denote.Builtin.{bool}
 use denote.Follow.{follows, follows_by, lends_Part}
-use denote.Memory.{mem, part_at, part_of}
 use denote.Param.Laws.{param_laws}
-use denote.RawPtr.{lies_at, ◌+ₚ◌}
 use denote.Ref.{MutRef, MutBor, mut_vals, mut_Tells}
 use denote.Signature.{mut_ref_to}
 use denote.Steps.{opens, closes}
@@ -29,7 +27,7 @@ use Rattle.counting_word.specs.CountingWord.{is_one_handle}
 use Rattle.counting_word.specs.contracts.is_alone as callee
 use Rattle.counting_word.proofs.is_alone.Met as theirs
 use Rattle.handles.specs.Rights.{Right, a_handle, whole_block, right_by_claim}
-use Rattle.handles.specs.Blocks.{stamp, value_offset, frees, value_and_block, unshared_block, sole_or_counted, block_rule, gain_owns, counted_handle, handle_owns}
+use Rattle.handles.specs.Blocks.{stamp, value_offset, value_and_block, unshared_block, block_rule, gain_owns, counted_handle}
 use Rattle.handles.specs.BlockWriteBack.{with_value}
 use Rattle.handles.proofs.Steps as steps
 use Rattle.handles.proofs.Fields.{gain_shown, beside_value, value_back, so, not-so}

@@ -1,6 +1,5 @@
 -- `raise` is one compare-exchange of the word.
-use Rattle.handles.proofs.Walks.{◌≡◌, ℕ, ◌+◌, ◌^◌, ◌<◌, arith, u64, heard, List, [], ◌∷◌, refl, sym, ap, ◌∙◌, lit<, a_type, named, Val, vint, vptr, w64, inst_fn, SProp, emp, id⊢, via, Lft, Share, Fml, ftrue, fsep, flft, sem, ‵, raw, ◌⊛◌, later, mean, at_ret, ◌$◌, ◌∵◌, !, qed, by, move, keep, drop, split, join, fsplit, fjoin, use0, use1, use2, use3, await, rewrite, stop, fld, load, addr, lit, of_opd, no_more, and_then, first, blocks, exec, Calls-last, returns, enter, alloc_all, pass_all, free_all, look_at, get, through, sets, lands_last, env, agg, sub, whole, look_in, obor_close, tables, fact, fact_i, yes, RattleType, owns, types_at, plain, Ptr, block_ptr, ptr_val, block_of, at_block, nothing_more, peeks, looks, shuts, Is, shows, cell_at, param, layouts, RefOf, shr_vals, shr_Tells, Stays, stay_dropped, walk_of, Goes-dropped, after, proved, leaves, fm, seq_cst, found, finds, is, finv, one_word, one_word-Good, word_and_gain, words_told, words_open, HandleRow, HandleWords, GainRow}
-use base.Share
+use Rattle.handles.proofs.Walks.{◌≡◌, ℕ, ◌+◌, ◌^◌, ◌<◌, arith, u64, heard, List, [], ◌∷◌, refl, sym, ap, ◌∙◌, a_type, named, Val, vint, vptr, w64, inst_fn, SProp, emp, via, Lft, Share, Fml, ftrue, fsep, flft, ‵, raw, ◌⊛◌, later, mean, at_ret, ◌$◌, ◌∵◌, !, qed, by, move, keep, drop, split, join, fsplit, fjoin, use0, use1, use2, use3, await, rewrite, stop, fld, load, addr, lit, of_opd, no_more, and_then, first, blocks, exec, Calls-last, returns, enter, alloc_all, pass_all, free_all, look_at, get, through, sets, lands_last, env, agg, sub, whole, look_in, obor_close, tables, fact, fact_i, yes, RattleType, owns, types_at, plain, Ptr, block_ptr, block_of, at_block, nothing_more, peeks, looks, shuts, Is, shows, cell_at, param, layouts, RefOf, shr_vals, shr_Tells, Stays, stay_dropped, walk_of, Goes-dropped, after, proved, leaves, fm, found, finds, is, finv, one_word, one_word-Good, word_and_gain, words_told, words_open, HandleRow, HandleWords}
 use denote.RawPtr.{count_of as offset_of}
 use Rattle.atomic_table.proofs.Calls.{exchanges}
 use types.Run.{bin}

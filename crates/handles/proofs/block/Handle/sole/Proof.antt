@@ -1,13 +1,10 @@
 -- `sole` makes the only handle of a new block.
-use Rattle.handles.proofs.Walks.{◌≡◌, ℕ, ◌+◌, ◌-◌, ◌%◌, ◌^◌, ◌<◌, Bool, true, false, List, [], ◌∷◌, ◌++◌, refl, sym, ap, ◌∙◌, subst, lit<, arith, w64, a_type, named, Val, vint, vptr, vunit, inst_fn, full_share, SProp, ent, sep, emp, id⊢, via, fat, Lft, Share, Fml, ftrue, fsep, fex, flft, fhide, finv, WpFn, sem, ‵, raw, ◌⊛◌, some, given, later, mean, at_ret, ◌$◌, ◌∵◌, !, qed, by, move, keep, drop, split, split3, join, fsplit, fsplit3, fjoin, fjoin3, fpick, fpack, pick, learn, use0, use1, use2, use3, await, rewrite, feq_i, feq_l, flt_i, flt_l, suffices, done, unit_lit, stop, fld, hop, load, addr, lit, of_opd, no_more, and_then, first, blocks, exec, Calls-last, returns, enter, alloc_all, pass_all, free_all, look_at, get, get_in, through, sets, sets_last, lands_last, is, env, agg, sub, whole, look_in, obor_close, tables, fact, fact_i, yes, no, RattleType, owns, types_at, plain, Ptr, InBlock, block_ptr, ptr_val, block_of, at_block, nothing_more, only, peeks, heard, looks, shuts, Is, shows, cell_at, param, layouts, RefOf, u64, shr_vals, shr_Tells, Stays, stay_dropped, walk_of, Goes-dropped, after, proved, proved_at, leaves, fm, seq_cst, found, finds, one_word, word_and_gain, one_word-Good, words_told, words_made, words_open, HandleRow, GainRow, HandleWords, GainWords}
-use denote.RawPtr.{count_of as offset_of}
-use denote.Param.{layout}
+use Rattle.handles.proofs.Walks.{◌≡◌, ℕ, Bool, true, List, [], ◌∷◌, ◌++◌, refl, sym, subst, a_type, Val, vptr, inst_fn, SProp, ent, emp, id⊢, ftrue, flft, WpFn, ‵, raw, ◌⊛◌, ◌$◌, ◌∵◌, !, qed, by, move, keep, split, fsplit, fjoin, fpack, use0, use1, rewrite, suffices, stop, fld, of_opd, no_more, and_then, returns, enter, alloc_all, pass_all, free_all, look_at, get, get_in, sets, agg, sub, whole, tables, fact, fact_i, no, RattleType, owns, types_at, plain, Ptr, InBlock, block_ptr, nothing_more, heard, param, layouts, Stays, stay_dropped, walk_of, proved_at, leaves, one_word, words_made, HandleWords}
 use Rattle.std_heap.specs.contracts.Global.{the_row as heap_row}
 use Rattle.std_heap.proofs.Global.TheLaws.{the_row_laws as heap_laws}
 use Rattle.std.specs.contracts.impls.GlobalAllocator.TheImpl.{ghosts}
 use Rattle.core.proofs.alloc.Calls.{Goes-blank}
-use Rattle.std_alloc.proofs.RcSteps.{Ptr-Good}
-use Rattle.handles.proofs.LooseBoxes.{pair_val, LooseRow, loose-Good, loose_opens, loose_shuts}
+use Rattle.handles.proofs.LooseBoxes.{pair_val, LooseRow, loose-Good, loose_opens}
 use Rattle.handles.specs.contracts.block.Block as block_type
 use Rattle.handles.specs.Blocks.{unshared_block, sole_or_counted}
 use Rattle.handles.proofs.Boxes.{box_opens}

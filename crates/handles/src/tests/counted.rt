@@ -1,0 +1,59 @@
+// A value that counts its drops and copies.
+ghost use Rattle.std.specs.Prelude.{◌≡◌};
+
+use std::alloc::AllocError;
+use std::sync::atomic::AtomicU64;
+use std::sync::atomic::Ordering::SeqCst;
+
+#[derive(Drop)]
+pub(super) struct Tally {
+    drops: AtomicU64,
+    copies: AtomicU64,
+}
+
+impl Tally {
+    pub(super) fn new() -> Tally {
+        Tally {
+            drops: AtomicU64::new(0),
+            copies: AtomicU64::new(0),
+        }
+    }
+
+    pub(super) fn drops(&self) -> u64 {
+        self.drops.load(SeqCst)
+    }
+
+    pub(super) fn copies(&self) -> u64 {
+        self.copies.load(SeqCst)
+    }
+}
+
+pub(super) struct Counted<'a> {
+    pub(super) value: u64,
+    tally: &'a Tally,
+}
+
+impl<'a> Counted<'a> {
+    pub(super) fn new(tally: &'a Tally, value: u64) -> Counted<'a> {
+        Counted { value, tally }
+    }
+}
+
+impl Drop for Counted<'_> {
+    fn drop(self) {
+        let Counted { value: _, tally } = self;
+        tally.drops.fetch_add(1, SeqCst);
+    }
+}
+
+impl Clone for Counted<'_> {
+    ghost is_clone = { λ x y. y.value ≡ x.value };
+
+    fn clone(&self) -> Result<Self, AllocError> {
+        self.tally.copies.fetch_add(1, SeqCst);
+        Ok(Counted {
+            value: self.value,
+            tally: self.tally,
+        })
+    }
+}

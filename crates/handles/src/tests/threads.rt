@@ -1,0 +1,172 @@
+// Threads that share one block. Each is joined, and each waiting loop gives up.
+use super::counted::{Counted, Tally};
+use crate::Arc;
+use std::sync::Wait;
+use std::sync::atomic::AtomicBool;
+use std::sync::atomic::Ordering::SeqCst;
+use std::test::Fail;
+use std::thread;
+
+const MOST_TURNS: u64 = 100_000_000;
+
+// Whether the flag was seen set.
+fn sees(flag: &AtomicBool) -> bool {
+    for _ in 0..MOST_TURNS {
+        if flag.load(SeqCst) {
+            return true;
+        }
+    }
+    false
+}
+
+// Sets its flag, waits for the other one, and then clones and drops.
+fn clone_after(own: &AtomicBool, other: &AtomicBool, handle: Arc<Counted<'_>>) -> bool {
+    own.store(true, SeqCst);
+    let met = sees(other);
+    match handle.clone() {
+        Ok(again) => met && again.value == 5 && handle.value == 5,
+        Err(_) => false,
+    }
+}
+
+#[test]
+fn two_threads_clone_at_once(rt: HostRuntime) -> Result<(), Fail> {
+    let tally = Tally::new();
+    let (left, right) = (AtomicBool::new(false), AtomicBool::new(false));
+    let a = Arc::new(rt.alloc(), Counted::new(&tally, 5))
+        .ok()
+        .ok_or("memory")?;
+    let b = a.clone()?;
+    let done = thread::join(
+        &rt,
+        || clone_after(&left, &right, a),
+        || clone_after(&right, &left, b),
+    );
+    assert_eq!(rt; done, (true, true));
+    assert_eq!(rt; tally.drops(), 1);
+    Ok(())
+}
+
+fn clone_often(handle: &Arc<u64>, rt: &impl Wait) -> bool {
+    for _ in 0..1000 {
+        match Arc::clone(handle, rt) {
+            Ok(again) if *again == 7 => {}
+            _ => return false,
+        }
+    }
+    true
+}
+
+#[test]
+fn four_threads_clone_a_lent_handle(rt: HostRuntime) -> Result<(), Fail> {
+    let a = Arc::new(rt.alloc(), 7u64).ok().ok_or("memory")?;
+    let done = thread::join(
+        &rt,
+        || thread::join(&rt, || clone_often(&a, &rt), || clone_often(&a, &rt)),
+        || thread::join(&rt, || clone_often(&a, &rt), || clone_often(&a, &rt)),
+    );
+    assert_eq!(rt; done, ((true, true), (true, true)));
+    assert!(rt; a.is_unique());
+    Ok(())
+}
+
+fn clone_and_drop(handle: Arc<Counted<'_>>) {
+    for _ in 0..1000 {
+        let again: Result<_, _> = handle.clone();
+        drop(again);
+    }
+}
+
+#[test]
+fn a_mark_among_clones_keeps_the_value(rt: HostRuntime) -> Result<(), Fail> {
+    let tally = Tally::new();
+    let kept = Arc::new(rt.alloc(), Counted::new(&tally, 1))
+        .ok()
+        .ok_or("memory")?;
+    let (a, b, c) = (kept.clone()?, kept.clone()?, kept.clone()?);
+    thread::join(
+        &rt,
+        || thread::join(&rt, || clone_and_drop(a), || clone_and_drop(b)),
+        || c.mark_as_intentionally_leaked(),
+    );
+    assert!(rt; kept.is_static());
+    drop(kept);
+    assert_eq!(rt; tally.drops(), 0);
+    Ok(())
+}
+
+fn drop_after(own: &AtomicBool, other: &AtomicBool, handle: Arc<Counted<'_>>) -> bool {
+    own.store(true, SeqCst);
+    let met = sees(other);
+    drop(handle);
+    met
+}
+
+#[test]
+fn the_last_two_handles_drop_the_value_once(rt: HostRuntime) -> Result<(), Fail> {
+    let tally = Tally::new();
+    for round in 1..=1000u64 {
+        let (left, right) = (AtomicBool::new(false), AtomicBool::new(false));
+        let a = Arc::new(rt.alloc(), Counted::new(&tally, round))
+            .ok()
+            .ok_or("memory")?;
+        let b = a.clone()?;
+        let met = thread::join(
+            &rt,
+            || drop_after(&left, &right, a),
+            || drop_after(&right, &left, b),
+        );
+        assert_eq!(rt; met, (true, true));
+        assert_eq!(rt; tally.drops(), round);
+    }
+    Ok(())
+}
+
+// Writes only once the other handle was seen to be gone.
+fn write_when_alone(mut handle: Arc<u64>, go: &AtomicBool, gone: &AtomicBool) -> bool {
+    let refused = Arc::get_mut(&mut handle).is_none();
+    go.store(true, SeqCst);
+    if !sees(gone) {
+        return false;
+    }
+    match Arc::get_mut(&mut handle) {
+        Some(value) => *value = 2,
+        None => return false,
+    }
+    refused && *handle == 2
+}
+
+#[test]
+fn a_handle_writes_once_the_other_is_gone(rt: HostRuntime) -> Result<(), Fail> {
+    let (go, gone) = (AtomicBool::new(false), AtomicBool::new(false));
+    let a = Arc::new(rt.alloc(), 1u64).ok().ok_or("memory")?;
+    let b = a.clone()?;
+    let done = thread::join(
+        &rt,
+        || write_when_alone(a, &go, &gone),
+        || {
+            let told = sees(&go);
+            drop(b);
+            gone.store(true, SeqCst);
+            told
+        },
+    );
+    assert_eq!(rt; done, (true, true));
+    Ok(())
+}
+
+// What it answers is left open while another thread asks, but it answers.
+fn ask_often(a: &Arc<u64>, b: &Arc<u64>) {
+    for _ in 0..1000 {
+        let _ = Arc::ptr_eq(a, b);
+    }
+}
+
+#[test]
+fn blocks_are_told_apart_after_contention(rt: HostRuntime) -> Result<(), Fail> {
+    let a = Arc::new(rt.alloc(), 1u64).ok().ok_or("memory")?;
+    let b = Arc::new(rt.alloc(), 1u64).ok().ok_or("memory")?;
+    thread::join(&rt, || ask_often(&a, &b), || ask_often(&b, &a));
+    assert!(rt; !Arc::ptr_eq(&a, &b) && Arc::ptr_eq(&a, &a));
+    Ok(())
+}

@@ -5,7 +5,6 @@
 pub use counting_core;
 pub use counting_word as word;
 pub use handle_tables::table;
-pub use handles::arc;
 pub use handles::arc::{Arc, Full, RawArc};
-pub use handles::unique;
 pub use handles::unique::{UninitArc, UniqueArc};
+pub use handles::{arc, unique};

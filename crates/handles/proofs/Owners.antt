@@ -4,7 +4,7 @@ use seplogic.Ra.Ura.{Ura}
 use lib.Dec.{lit<}
 use base.Fraction.{full_share}
 use base.FractionLaws.{Counts-all}
-use base.Logic.{ent, sep, id⊢, upd_i, apply∗, wand}
+use base.Logic.{ent, sep, ex_i, id⊢, upd_i, apply∗, wand}
 use base.Fml.{Lft, Incl, Incl-trans, Share, Fml, ftrue, fsep, fseps, fex, fwand, fupd, fdead, fbor, flft, finv}
 use contract.BorrowLft.{meet_⊑_left, meet_⊑_right}
 use ghost.Rules.{span, thinned}
@@ -23,10 +23,11 @@ use denote.Param.Laws.{Laws}
 use denote.Struct.Lending.{Lends, Lends-first, Lends-lies, lent_at_shr_laws}
 use Rattle.core.specs.Sync.RawAtomic.{word}
 use Rattle.std.specs.declared.alloc.Global.{Global}
-use Rattle.std_alloc.proofs.ArcSteps.{Settles}
+use Rattle.std_alloc.proofs.ArcSteps.{Settles, Lends-settled}
+use Rattle.core.specs.Sync.RawAtomic.{word}
 use Rattle.counting_word.specs.CountingWord.{StandsFor}
 use Rattle.counting_word.proofs.Words.{stands-one}
-use Rattle.handles.specs.Blocks.{Names, Stage, living, entitled, stake, stage, Rule, counted, counted_shares, placed, stamp, shown, frees, value_and_block, value_offset, counted_handle, sole_or_counted, handle_shares}
+use Rattle.handles.specs.Blocks.{Names, Stage, living, entitled, stake, stage, Rule, counted, counted_shares, placed, stamp, shown, frees, value_and_block, value_offset, counted_handle, sole_or_counted, handle_shares, owned_as, shared_as, unshared_block, counted_handle}
 use Rattle.handles.proofs.Steps.{stands-unmarked, counted_stake}
 
 -- the word of a new block stands for its one handle
@@ -99,11 +100,14 @@ module _ (R : RattleType) (L : RowLaws R) (p : Ptr) (x : R.Denot) where
   pub shown-ShrLaws : ShrLaws (shown R p x)
   shown-ShrLaws = lent_at_shr_laws R L (p +ₚ value_offset R) x
 
-  pub handle_shares-ShrLaws : ShrLaws (handle_shares R p x)
-  handle_shares-ShrLaws = let C : Fml = value_and_block R p x in let K : Fml = stamp p in let b : ℕ = block_of p in let o : ℕ = offset_of p + 0 in let s : Lft → Fml = shown R p x in let each : Names → Lft → Fml = λ i. counted_shares C K b o i s in
-      beside_shr_laws (said (placed p)) (some Names each) (said_shr_laws (placed p) (λ _. tt))
-      (some_shr_laws Names each (λ i. beside_shr_laws (one (λ q. flft (i.shared ∷ []) q)) (beside (always (Rule C K b o i)) (held (i.shared ∷ []) s)) (one_shr_laws (λ q. flft (i.shared ∷ []) q))
-      (beside_shr_laws (always (Rule C K b o i)) (held (i.shared ∷ []) s) (always_shr_laws (Rule C K b o i)) (held_shr_laws (i.shared ∷ []) s shown-ShrLaws))))
+  shared_as-ShrLaws : (sole : Bool) → ShrLaws (shared_as R p x sole)
+  shared_as-ShrLaws true = shown-ShrLaws
+  shared_as-ShrLaws false = let C : Fml = value_and_block R p x in let K : Fml = stamp p in let b : ℕ = block_of p in let o : ℕ = offset_of p + 0 in let s : Lft → Fml = shown R p x in let each : Names → Lft → Fml = λ i. counted_shares C K b o i s in
+      some_shr_laws Names each (λ i. beside_shr_laws (one (λ q. flft (i.shared ∷ []) q)) (beside (always (Rule C K b o i)) (held (i.shared ∷ []) s)) (one_shr_laws (λ q. flft (i.shared ∷ []) q))
+      (beside_shr_laws (always (Rule C K b o i)) (held (i.shared ∷ []) s) (always_shr_laws (Rule C K b o i)) (held_shr_laws (i.shared ∷ []) s shown-ShrLaws)))
+
+  pub handle_shares-ShrLaws : (sole : Bool) → ShrLaws (handle_shares R p x sole)
+  handle_shares-ShrLaws sole = beside_shr_laws (said (placed p)) (shared_as R p x sole) (said_shr_laws (placed p) (λ _. tt)) (shared_as-ShrLaws sole)
 
 module _ (R : RattleType) (L : Laws R) {M : Type 1} {𝓤 : Ura M} (𝓛 : Logic 𝓤) (p : Ptr) (x : R.Denot) where
   open 𝓛 use {H, A}
@@ -117,3 +121,36 @@ module _ (R : RattleType) (L : Laws R) {M : Type 1} {𝓤 : Ura M} (𝓛 : Logic
           (Lends-first 𝓛 (lies_at R full_share (p +ₚ value_offset R) x) (fex Global (frees R p)) (shown R p x) l
           (Lends-lies 𝓛 R l (p +ₚ value_offset R) x (Shares-less 𝓛 R R.lives l within (L.shares 𝓛) x))) μ q inc
       at false = 𝓛.laws.⇛_intro _
+
+  -- an unshared block, its value first
+  abbrev Turned : Fml
+  Turned = fsep (value_and_block R p x) (fsep (stamp p) (word (block_of p) (offset_of p + 0) 1))
+
+  turns : (l : Lft) → Settles 𝓛 (unshared_block R p x 1) Turned l
+  turns l μ q inc = qed 𝓛 (‵ (unshared_block R p x 1) ∷ ‵ (flft μ q) ∷ []) ∵ updating ! $ fsplit3 ! $ move ! (1 ∷ 2 ∷ 0 ∷ []) $ fjoin3 ! $ now ! $ done !
+
+  turns_back : ent 𝓤 (sem 𝓛 Turned) (sem 𝓛 (unshared_block R p x 1))
+  turns_back = qed 𝓛 (‵ Turned ∷ []) ∵ fsplit3 ! $ move ! (2 ∷ 0 ∷ 1 ∷ []) $ fjoin3 ! $ done !
+
+  -- a block that nobody shares lends its value
+  Lends-unshared : (l : Lft) → Incl l R.lives → Lends 𝓛 (unshared_block R p x 1) (shown R p x) l
+  Lends-unshared l within = Lends-settled 𝓛 (unshared_block R p x 1) Turned l (turns l) (shown R p x) turns_back
+      (Lends-first 𝓛 (value_and_block R p x) (fsep (stamp p) (word (block_of p) (offset_of p + 0) 1)) (shown R p x) l
+      (Lends-first 𝓛 (lies_at R full_share (p +ₚ value_offset R) x) (fex Global (frees R p)) (shown R p x) l
+      (Lends-lies 𝓛 R l (p +ₚ value_offset R) x (Shares-less 𝓛 R R.lives l within (L.shares 𝓛) x))))
+
+  -- what a `&` to a handle has, by whether it is known to be the only one
+  pub Lends-owned : (sole : Bool) (l : Lft) → Incl l R.lives → Lends 𝓛 (owned_as R p x sole) (shared_as R p x sole) l
+  Lends-owned true l within = Lends-unshared l within
+  Lends-owned false l within = Lends-settled 𝓛 (fex Bool (sole_or_counted R p x)) (counted_handle R p x) l (handle_settles l within) (shared_as R p x false)
+      (ex_i 𝓤 (λ y. sem 𝓛 (sole_or_counted R p x y)) false) (Lends-counted (value_and_block R p x) (stamp p) (block_of p) (offset_of p + 0) (shown R p x) (shown-ShrLaws R L.shr_laws p x) 𝓛 l)
+
+  -- that a handle is the only one may be forgotten
+  pub forgets : (sole : Bool) → ent 𝓤 (sem 𝓛 (owned_as R p x sole)) (sem 𝓛 (owned_as R p x false))
+  forgets true = qed 𝓛 (‵ (owned_as R p x true) ∷ []) ∵ fpack ! Bool (sole_or_counted R p x) true $ done !
+  forgets false = id⊢ 𝓤 _
+
+  -- what a `&` to a handle sees of the value
+  pub shown_by : (sole : Bool) (κ : Lft) → ent 𝓤 (sem 𝓛 (shared_as R p x sole κ)) (sem 𝓛 (shown R p x κ))
+  shown_by true κ = id⊢ 𝓤 _
+  shown_by false κ = sees (value_and_block R p x) (stamp p) (block_of p) (offset_of p + 0) (shown R p x) (shown-ShrLaws R L.shr_laws p x) 𝓛 κ

@@ -1,6 +1,6 @@
 -- A handle says the same to every thread, where its value may go to any thread and be seen by any.
 use Rattle.std.proofs.Common.{ℕ, ◌+◌, Bool, true, false, [], ◌∷◌}
-use base.Fml.{Fml, Share}
+use base.Fml.{Fml, Lft, Share}
 use base.Shift.{Keyless}
 use denote.RattleType.{RattleType}
 use denote.RawPtr.{Ptr, block_ptr, null_ptr, block_of, count_of as offset_of, ◌+ₚ◌}
@@ -11,7 +11,7 @@ use denote.Param.Send.{IsSend, IsSync, Common, AllSend, owning_send, struct_send
 use Rattle.std_heap.specs.contracts.Global.{the_row as heap_row}
 use Rattle.std_alloc.proofs.SendSync.{lies, seen, quiet}
 use Rattle.std.proofs.Crossing as crossing
-use Rattle.handles.specs.Blocks.{Names, Stage, living, over, entitled, stage, stamp, left_at, block_type, value_offset, heap_offset, value_and_block, shown, sole_or_counted}
+use Rattle.handles.specs.Blocks.{Names, Stage, living, over, entitled, stage, stamp, left_at, block_type, value_offset, heap_offset, value_and_block, shown, sole_or_counted, owned_as, shared_as}
 use Rattle.handles.specs.contracts.block.Handle as handle_type
 
 pointers : IsSend RawPtr
@@ -46,18 +46,26 @@ module _ (R : RattleType) (s : IsSend R) (y : IsSync R) where
   shown-Common : (p : Ptr) (x : R.Denot) → Common (shown R p x)
   shown-Common p x = seen R y (p +ₚ value_offset R) x
 
-  owned-Keyless : (p : Ptr) (x : R.Denot) (z : Bool) → Keyless (sole_or_counted R p x z)
+  handle-Keyless : (p : Ptr) (x : R.Denot) (z : Bool) → Keyless (sole_or_counted R p x z)
+  handle-Keyless p x true = (tt, (content-Keyless p x, stamp-Keyless p))
+  handle-Keyless p x false = λ i. ((λ e. (entitled-Keyless i e, tt)), (rule-Keyless p x i, shown-Common p x (i.shared ∷ [])))
+
+  owned-Keyless : (p : Ptr) (x : R.Denot) (sole : Bool) → Keyless (owned_as R p x sole)
   owned-Keyless p x true = (tt, (content-Keyless p x, stamp-Keyless p))
-  owned-Keyless p x false = λ i. ((λ e. (entitled-Keyless i e, tt)), (rule-Keyless p x i, shown-Common p x (i.shared ∷ [])))
+  owned-Keyless p x false = handle-Keyless p x
+
+  shared-Keyless : (p : Ptr) (x : R.Denot) (sole : Bool) (κ : Lft) → Keyless (shared_as R p x sole κ)
+  shared-Keyless p x true κ = shown-Common p x κ
+  shared-Keyless p x false κ = λ i. ((λ q. tt), (rule-Keyless p x i, shown-Common p x (i.shared ∷ [])))
 
   fields-Send : AllSend (fields (handle_type.the_type R))
   fields-Send = (pointers, tt)
 
 pub handle-Send : (R : RattleType) → IsSend R → IsSync R → IsSend (handle_type.the_row R)
 handle-Send R s y = let O = handle_type.the_type R in
-    owning_send O (fields-Send R s y) (λ d. ((λ _. tt), owned-Keyless R s y d.block d.value)) (λ k. quiet (to O) (exits_of k (fields O)) ((struct_send (shape O) (fields-Send R s y)).leaving k))
+    owning_send O (fields-Send R s y) (λ d. ((λ _. tt), owned-Keyless R s y d.block d.value d.sole)) (λ k. quiet (to O) (exits_of k (fields O)) ((struct_send (shape O) (fields-Send R s y)).leaving k))
 
 pub handle-Sync : (R : RattleType) → IsSend R → IsSync R → IsSync (handle_type.the_row R)
 handle-Sync R s y = let O = handle_type.the_type R in record {
-  shared = λ d b o κ. ((struct_sync (shape O) (pointers_shared, tt)).shared (to O d) b o κ, ((λ _. tt), λ i. ((λ q. tt), (rule-Keyless R s y d.block d.value i, shown-Common R s y d.block d.value (i.shared ∷ [])))));
+  shared = λ d b o κ. ((struct_sync (shape O) (pointers_shared, tt)).shared (to O d) b o κ, ((λ _. tt), shared-Keyless R s y d.block d.value d.sole κ));
 }

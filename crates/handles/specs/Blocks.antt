@@ -143,15 +143,24 @@ module _ (R : RattleType) where
     sole_or_counted true = unshared_block 1
     sole_or_counted false = counted_handle
 
-    abbrev pub handle_owns : Fml
-    handle_owns = fsep (placed p) (fex Bool sole_or_counted)
+    -- by whether it is known to be the only one
+    abbrev pub owned_as : Bool → Fml
+    owned_as true = unshared_block 1
+    owned_as false = fex Bool sole_or_counted
 
-    abbrev pub handle_shares : Lft → Fml
-    handle_shares = beside (said (placed p)) (some Names (λ i. counted_shares (value_and_block p x) (stamp p) (block_of p) (offset_of p + 0) i (shown p x)))
+    abbrev pub handle_owns : Bool → Fml
+    handle_owns sole = fsep (placed p) (owned_as sole)
+
+    abbrev pub shared_as : Bool → Lft → Fml
+    shared_as true = shown p x
+    shared_as false = some Names (λ i. counted_shares (value_and_block p x) (stamp p) (block_of p) (offset_of p + 0) i (shown p x))
+
+    abbrev pub handle_shares : Bool → Lft → Fml
+    handle_shares sole = beside (said (placed p)) (shared_as sole)
 
     -- what a step left its caller with
     abbrev pub gain_owns : Right → Fml
     gain_owns nothing = placed p
-    gain_owns a_handle = handle_owns
+    gain_owns a_handle = handle_owns false
     gain_owns to_lower = fsep (placed p) (fex Names (λ i. fsep (unit_of_count i) (finv (block_rule i))))
     gain_owns (whole_block w) = fsep (placed p) (unshared_block w)

@@ -15,9 +15,5 @@ LendsIfAlone R a r = LendsIf (arc_row R) R a r (λ w. record { value = w }) a.no
 abbrev pub LendsOwn : (R : RattleType) → MutBor (Shows R.Denot) → {E : Type 0} → Result (MutBor R.Denot) E → Fml
 LendsOwn R a r = LendsSoOk (arc_row R) R a r (λ n w. n.value ≡ w) (λ n. n.value ≡ a.now.value)
 
--- of a handle that got another block
-abbrev pub LendsValue : (R : RattleType) → MutBor (Shows R.Denot) → MutBor R.Denot → Fml
-LendsValue R a r = Lends (arc_row R) R a r (λ w. record { value = w })
-
 abbrev pub LendsUnique : (R : RattleType) → MutBor (Shows R.Denot) → MutBor R.Denot → Fml
 LendsUnique R u r = Lends (unique_row R) R u r (λ w. record { value = w })

@@ -1,5 +1,5 @@
 //! Counted handles of a shared value.
-ghost use Rattle.std.specs.Prelude.{◌≡◌, IfOk, IfErr};
+ghost use Rattle.std.specs.Prelude.{◌≡◌, IfOk, IfErr, false};
 ghost use Rattle.core.specs.Cmp.{on_per};
 
 use crate::block::Handle;
@@ -21,11 +21,14 @@ pub struct Arc<T: Send + Sync> {
 }
 
 impl<T: Send + Sync> Model for Arc<T> {
+    ghost use Rattle.std.specs.Prelude.{◌≡◌, false};
     ghost use Rattle.handles.specs.Shows.{Shows};
 
     ghost Value = { Shows T };
 
     ghost view = { λ a. record { value = a.handle.value } };
+
+    ghost invariant = { λ a. a.handle.sole ≡ false };
 }
 
 /// The block has as many handles as its word can count.
@@ -83,6 +86,7 @@ impl<T: Send + Sync + Drop> Arc<T> {
 
 impl<T: Send + Sync> Arc<T> {
     pub(crate) fn of(handle: Handle<T>) -> Arc<T>
+        requires { handle.sole ≡ false }
         ensures { result.value ≡ handle.value }
     {
         Arc { handle }

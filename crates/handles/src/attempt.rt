@@ -1,5 +1,5 @@
 // A try to make one more handle of a block.
-ghost use Rattle.std.specs.Prelude.{◌≡◌, ◌<◌, ℕ, IfOk};
+ghost use Rattle.std.specs.Prelude.{◌≡◌, ◌<◌, ℕ, IfOk, false};
 ghost use Rattle.counting_word.specs.CountingWord.{greatest_count};
 ghost use Rattle.handles.specs.Rights.{right_by_read, right_by_raise};
 
@@ -29,6 +29,7 @@ impl<T> Handle<T> {
     // One read.
     #[inline]
     pub(crate) fn first_attempt(&self) -> Attempt<T>
+        requires { self.now.sole ≡ false }
         ensures { (word : ℕ) × IsAttempt self.now.value word result }
     {
         let (word, gain) = self.read();
@@ -38,6 +39,7 @@ impl<T> Handle<T> {
     // One raise of a word that was seen.
     #[inline]
     pub(crate) fn next_attempt(&self, seen: Seen) -> Attempt<T>
+        requires { self.now.sole ≡ false }
         ensures { (word : ℕ) × IsAttempt self.now.value word result }
     {
         let Seen { word } = seen;
@@ -53,7 +55,8 @@ impl<T> Handle<T> {
 impl<T: Drop> Handle<T> {
     // By one read and at most so many raises.
     pub(crate) fn try_clone(&self, raises: u8) -> Result<Handle<T>, AllocError>
-        ensures { IfOk result (λ h. h.value ≡ self.now.value) }
+        requires { self.now.sole ≡ false }
+        ensures { IfOk result (λ h. (h.value ≡ self.now.value) × (h.sole ≡ false)) }
     {
         let mut attempt = self.first_attempt();
         for _ in 0..raises {
@@ -71,7 +74,8 @@ impl<T: Drop> Handle<T> {
 
     // By as many raises as it takes.
     pub(crate) fn clone_unless_full(&self, rt: &impl Wait) -> Result<Handle<T>, Full>
-        ensures { IfOk result (λ h. h.value ≡ self.now.value) }
+        requires { self.now.sole ≡ false }
+        ensures { IfOk result (λ h. (h.value ≡ self.now.value) × (h.sole ≡ false)) }
     {
         let mut attempt = self.first_attempt();
         for _ in rt.forever() {
@@ -81,7 +85,7 @@ impl<T: Drop> Handle<T> {
                 Attempt::Lost(seen) => self.next_attempt(seen),
             };
         }
-        Err(Full)
+        unreachable!()
     }
 }
 

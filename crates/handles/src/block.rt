@@ -1,5 +1,5 @@
 // The block of an `Arc`, and each step that is made on it through a raw pointer.
-ghost use Rattle.std.specs.Prelude.{◌≡◌, ◌≢◌, ℕ, ◌+◌, ◌<◌};
+ghost use Rattle.std.specs.Prelude.{◌≡◌, ◌≢◌, ℕ, ◌+◌, ◌<◌, Bool, true, false, IfOk, IfErr};
 ghost use Rattle.counting_word.specs.CountingWord.{greatest_count};
 ghost use Rattle.handles.specs.Blocks.{handle_owns, handle_shares, gain_owns};
 ghost use Rattle.handles.specs.Rights.{Right, nothing, a_handle, to_lower, whole_block, coded_right, right_by_read, right_by_raise, right_by_last_read, right_by_lower, right_by_claim, IsWholeBlock};
@@ -10,7 +10,7 @@ pub(crate) mod loose;
 use atomic_table::exchange;
 use counting_word::{DropPlan, MARK, is_last, plan_drop};
 use loose::Loose;
-use std::alloc::Global;
+use std::alloc::{AllocFailed, Global};
 use std::marker::{Brand, Model};
 use std::sync::atomic::Ordering::SeqCst;
 use std::sync::atomic::raw;
@@ -24,16 +24,47 @@ pub(crate) struct Block<T> {
     pub(crate) alloc: Global,
 }
 
+impl<T: Drop> Block<T> {
+    // A block with one handle, or the value where there is no memory.
+    pub(crate) fn boxed(alloc: Global, value: T) -> Result<Box<Block<T>>, T>
+        ensures made { IfOk result (λ b. (b.value.word ≡ 1) × (b.value.value ≡ value)) }
+        ensures refused { IfErr result (λ x. x ≡ value) }
+    {
+        match Box::new(
+            alloc,
+            Block {
+                word: 1,
+                stamp: 0,
+                value,
+                alloc,
+            },
+        ) {
+            Ok(block) => Ok(block),
+            Err(AllocFailed { value: block }) => {
+                let Block {
+                    word: _,
+                    stamp: _,
+                    value,
+                    alloc: _,
+                } = block;
+                Err(value)
+            }
+        }
+    }
+}
+
 // A counted handle of a block.
 pub(crate) struct Handle<T> {
     block: *const Block<T>,
     pub(crate) ghost value: { T },
+    // Known to be the only handle of its block.
+    pub(crate) ghost sole: { Bool },
 }
 
 impl<T> Model for Handle<T> {
-    ghost also_owns = { λ a. handle_owns T.row a.block a.value };
+    ghost also_owns = { λ h. handle_owns T.row h.block h.value h.sole };
 
-    ghost also_shares = { λ a _ κ. handle_shares T.row a.block a.value κ };
+    ghost also_shares = { λ h _ κ. handle_shares T.row h.block h.value h.sole κ };
 }
 
 // What a step on a word left its caller with.
@@ -50,7 +81,8 @@ impl<T> Model for Gain<T> {
 impl<T> Handle<T> {
     pub(crate) fn sole(block: Loose<Block<T>, Global>) -> Handle<T>
         requires { block.value.word ≡ 1 }
-        ensures { result.value ≡ block.value.value }
+        ensures value { result.value ≡ block.value.value }
+        ensures sole { result.sole ≡ true }
     {
         let Loose { at, alloc: _ } = block;
         Handle { block: at }
@@ -66,13 +98,16 @@ impl<T> Handle<T> {
 
     // What the word is. It may change at once.
     #[inline]
-    pub(crate) fn word(&self) -> u64 {
+    pub(crate) fn word(&self) -> u64
+        requires { self.now.sole ≡ false }
+    {
         let block = self.block;
         unsafe { raw::load::<Brand>(&raw const (*block).word, SeqCst) }
     }
 
     #[inline]
     pub(crate) fn read(&self) -> (u64, Gain<T>)
+        requires { self.now.sole ≡ false }
         ensures right { result.1.right ≡ right_by_read result.0 }
         ensures value { result.1.value ≡ self.now.value }
     {
@@ -83,7 +118,8 @@ impl<T> Handle<T> {
 
     #[inline]
     pub(crate) fn raise(&self, seen: u64) -> (u64, Gain<T>)
-        requires { seen < greatest_count }
+        requires shared { self.now.sole ≡ false }
+        requires room { seen < greatest_count }
         ensures right { result.1.right ≡ right_by_raise seen result.0 }
         ensures value { result.1.value ≡ self.now.value }
     {
@@ -93,20 +129,35 @@ impl<T> Handle<T> {
     }
 
     #[inline]
-    pub(crate) fn mark(&self) {
+    pub(crate) fn mark(&self)
+        requires { self.now.sole ≡ false }
+    {
         let block = self.block;
         let _found = unsafe { raw::fetch_or::<Brand>(&raw const (*block).word, MARK, SeqCst) };
     }
 
-    pub(crate) fn stamp(&self) -> u64 {
+    pub(crate) fn stamp(&self) -> u64
+        requires { self.now.sole ≡ false }
+    {
         let block = self.block;
         unsafe { raw::load::<Brand>(&raw const (*block).stamp, SeqCst) }
     }
 
     // Adds to the stamp, which wraps, and returns what it was.
-    pub(crate) fn add_to_stamp(&self, amount: u64) -> u64 {
+    pub(crate) fn add_to_stamp(&self, amount: u64) -> u64
+        requires { self.now.sole ≡ false }
+    {
         let block = self.block;
         unsafe { raw::fetch_add::<Brand>(&raw const (*block).stamp, amount, SeqCst) }
+    }
+
+    // From now on others may come.
+    pub(crate) fn into_shared(self) -> Handle<T>
+        ensures value { result.value ≡ self.value }
+        ensures sole { result.sole ≡ false }
+    {
+        let Handle { block } = self;
+        Handle { block }
     }
 
     #[inline]
@@ -121,15 +172,6 @@ impl<T> Handle<T> {
 }
 
 impl<T> Gain<T> {
-    // A block that nobody shares, as a step gains one.
-    pub(crate) fn of(block: Loose<Block<T>, Global>) -> Gain<T>
-        ensures right { result.right ≡ whole_block block.value.word }
-        ensures value { result.value ≡ block.value.value }
-    {
-        let Loose { at, alloc: _ } = block;
-        Gain { block: at }
-    }
-
     #[inline]
     pub(crate) fn end(self)
         requires { self.right ≡ nothing }
@@ -140,7 +182,8 @@ impl<T> Gain<T> {
     #[inline]
     pub(crate) fn into_handle(self) -> Handle<T>
         requires { self.right ≡ a_handle }
-        ensures { result.value ≡ self.value }
+        ensures value { result.value ≡ self.value }
+        ensures sole { result.sole ≡ false }
     {
         let Gain { block } = self;
         Handle { block }

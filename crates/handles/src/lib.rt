@@ -2,13 +2,21 @@
 #![tactic(auto)]
 
 pub mod arc;
+pub mod arc_union;
 mod attempt;
 mod block;
+pub mod borrow;
+mod compare;
+mod convert;
 mod copy_on_write;
+pub mod header_slice;
 mod same_block;
 pub mod unique;
 
 pub use arc::{Arc, Full, RawArc};
+pub use arc_union::{ArcUnion, ArcUnionBorrow};
+pub use borrow::ArcBorrow;
+pub use header_slice::{BuildError, HeaderSlice, ThinArc};
 pub use unique::{UninitArc, UniqueArc};
 
 #[cfg(test)]

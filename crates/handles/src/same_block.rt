@@ -4,6 +4,8 @@
 // A stamp that stays as it is belongs to another block, for certain. One that moves by exactly what was added is a sign of
 // one block. Any other change is another thread's, which asks the same of one of the two blocks at this moment. Since that
 // thread could also feign a sign, several have to come in a row, by amounts that differ from round to round.
+ghost use Rattle.std.specs.Prelude.{◌≡◌, false};
+
 use crate::block::Handle;
 
 const SIGNS: u8 = 4;
@@ -12,7 +14,9 @@ const MOST_ROUNDS: u8 = 64;
 
 impl<T> Handle<T> {
     // It errs to `false` where other threads keep it from an answer through all rounds.
-    pub(crate) fn has_block_of(&self, other: &Handle<T>) -> bool {
+    pub(crate) fn has_block_of(&self, other: &Handle<T>) -> bool
+        requires { (self.now.sole ≡ false) × (other.now.sole ≡ false) }
+    {
         let mut signs = 0;
         let mut amount = 1;
         for _ in 0..MOST_ROUNDS {

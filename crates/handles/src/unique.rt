@@ -1,12 +1,11 @@
 //! A handle that is the only one of its block, so that it may write the value.
 ghost use Rattle.std.specs.Prelude.{◌≡◌, IfOk, IfErr};
 ghost use types.Logic.{sem};
-ghost use Rattle.handles.specs.Rights.{whole_block};
 
 use crate::arc::Arc;
 use crate::block::loose::Loose;
-use crate::block::{Block, Gain, Handle};
-use std::alloc::{AllocError, AllocFailed, Global};
+use crate::block::{Block, Handle};
+use std::alloc::{AllocError, Global};
 use std::marker::Model;
 use std::ops::{Deref, DerefMut};
 use std_alloc::room::Vacant;
@@ -33,42 +32,17 @@ impl<T: Send + Sync + Drop> UniqueArc<T> {
         ensures made { IfOk result (λ u. u.value ≡ value) }
         ensures refused { IfErr result (λ x. x ≡ value) }
     {
-        match Box::new(
-            alloc,
-            Block {
-                word: 1,
-                stamp: 0,
-                value,
-                alloc,
-            },
-        ) {
+        match Block::boxed(alloc, value) {
             Ok(block) => Ok(UniqueArc { block }),
-            Err(AllocFailed { value: block }) => {
-                let Block {
-                    word: _,
-                    stamp: _,
-                    value,
-                    alloc: _,
-                } = block;
-                Err(value)
-            }
+            Err(value) => Err(value),
         }
-    }
-
-    // The block with its value.
-    pub(crate) fn into_gain(self) -> Gain<T>
-        ensures right { result.right ≡ whole_block 1 }
-        ensures value { result.value ≡ self.value }
-    {
-        let UniqueArc { block } = self;
-        Gain::of(Loose::of(block))
     }
 
     pub fn shareable(self) -> Arc<T>
         ensures { result.value ≡ self.value }
     {
         let UniqueArc { block } = self;
-        Arc::of(Handle::sole(Loose::of(block)))
+        Arc::of(Handle::sole(Loose::of(block)).into_shared())
     }
 }
 

@@ -1,41 +1,74 @@
 // Writing through the only handle of a block.
-ghost use Rattle.std.specs.Prelude.{◌≡◌, IfSome};
+ghost use Rattle.std.specs.Prelude.{◌≡◌, ◌⊎◌, IfSome, OnOk, OnErr, true, false};
 ghost use types.Logic.{sem};
-ghost use Rattle.handles.specs.BlockWriteBack.{LendsIfAlone, LendsOther};
-ghost use Rattle.handles.specs.Rights.{a_handle, whole_block};
+ghost use Rattle.counting_word.specs.CountingWord.{is_one_handle};
+ghost use Rattle.handles.specs.BlockWriteBack.{LendsIfAlone, LendsSole};
 
-use super::{Gain, Handle};
+use super::loose::Loose;
+use super::{Block, Handle};
 use counting_word::is_alone;
+use std::alloc::{AllocError, Global};
 use std::marker::Brand;
 use std::sync::atomic::Ordering::SeqCst;
 use std::sync::atomic::raw;
 
 impl<T> Handle<T> {
-    // The value, to write to, where no other handle reaches it.
+    // Reads the word, by which the handle knows whether it is the only one.
+    #[inline]
+    fn claim(&mut self) -> u64
+        ensures { self.new ≡ record self.old { sole = is_one_handle result } }
+    {
+        let block = self.block;
+        unsafe { raw::load::<Brand>(&raw const (*block).word, SeqCst) }
+    }
+
+    #[inline]
+    pub(crate) fn value_mut(&mut self) -> &mut T
+        requires { self.old.sole ≡ true }
+        ensures* writes_back { sem 𝓛 (LendsSole T.row self.entry result) }
+        ensures value { result.now ≡ self.old.value }
+    {
+        let block = self.block;
+        unsafe { &mut (*block.cast_mut()).value }
+    }
+
+    #[inline]
+    fn is_sole(&mut self) -> bool
+        ensures { self.new ≡ record self.old { sole = result } }
+    {
+        is_alone(self.claim())
+    }
+
     #[inline]
     pub(crate) fn get_mut(&mut self) -> Option<&mut T>
         ensures* writes_back { sem 𝓛 (LendsIfAlone T.row self.entry result) }
         ensures value { IfSome result (λ x. x.now ≡ self.old.value) }
     {
-        let block = self.block;
-        let word = unsafe { raw::load::<Brand>(&raw const (*block).word, SeqCst) };
-        if !is_alone(word) {
-            return None;
+        if self.is_sole() {
+            Some(self.value_mut())
+        } else {
+            None
         }
-        unsafe { Some(&mut (*block.cast_mut()).value) }
     }
 
-    // Puts the block of `own`, which nobody shares, in place of this one, and lends its value. `own` then has the old handle.
-    pub(crate) fn exchange_block<'a>(&'a mut self, own: &mut Gain<T>) -> &'a mut T
-        requires { own.old.right ≡ whole_block 1 }
-        ensures* writes_back { sem 𝓛 (LendsOther T.row self.entry own.old.block result) }
-        ensures value { result.now ≡ own.old.value }
-        ensures old_right { own.new.right ≡ a_handle }
-        ensures old_value { own.new.value ≡ self.old.value }
+    // Gets a block of its own, unless it is the only handle of its block. The value is copied before anything else changes.
+    pub(crate) fn make_sole(&mut self, alloc: Global) -> Result<(), AllocError>
+    where
+        T: Clone + Drop,
+        ensures sole { OnOk result (self.new.sole ≡ true) }
+        ensures value { OnOk result ((self.new.value ≡ self.old.value) ⊎ T.is_clone self.old.value self.new.value) }
+        ensures refused { OnErr result ((self.new.value ≡ self.old.value) × (self.new.sole ≡ false)) }
     {
-        let block = own.block;
-        own.block = self.block;
-        self.block = block;
-        unsafe { &mut (*block.cast_mut()).value }
+        if self.is_sole() {
+            return Ok(());
+        }
+        let copy = self.value().clone()?;
+        match Block::boxed(alloc, copy) {
+            Ok(block) => {
+                *self = Handle::sole(Loose::of(block));
+                Ok(())
+            }
+            Err(_) => Err(AllocError),
+        }
     }
 }

@@ -1,15 +1,15 @@
 -- `leave` is the load by which a handle ends.
-use Rattle.handles.proofs.Walks.{◌≡◌, ℕ, ◌+◌, [], ◌∷◌, refl, sym, ap, lit<, a_type, Val, vptr, inst_fn, SProp, emp, via, Lft, Share, Fml, ftrue, flft, finv, ‵, raw, ◌⊛◌, later, mean, at_ret, ◌$◌, ◌∵◌, !, qed, by, move, keep, drop, split, join, fsplit, fsplit3, fjoin, fpick, use0, use1, use2, use3, await, stop, fld, addr, lit, of_opd, no_more, and_then, first, blocks, exec, Calls-last, returns, enter, alloc_all, pass_all, free_all, look_at, get, get_in, through, sets, lands_last, is, env, agg, sub, whole, tables, fact, fact_i, no, RattleType, owns, types_at, plain, Ptr, block_ptr, ptr_val, block_of, at_block, nothing_more, heard, param, layouts, Stays, stay_dropped, walk_of, Goes-dropped, after, proved, leaves, fm, seq_cst, found, finds, one_word, word_and_gain, one_word-Good, words_told, HandleRow}
+use Rattle.handles.proofs.Walks.{◌≡◌, ℕ, ◌+◌, false, [], ◌∷◌, refl, sym, ap, lit<, a_type, Val, vptr, inst_fn, SProp, emp, via, Lft, Share, Fml, ftrue, flft, finv, ‵, raw, ◌⊛◌, later, mean, at_ret, ◌$◌, ◌∵◌, !, qed, by, move, keep, drop, split, join, fsplit, fsplit3, fjoin, fpick, use0, use1, use2, use3, await, stop, fld, addr, lit, of_opd, no_more, and_then, first, blocks, exec, Calls-last, returns, enter, alloc_all, pass_all, free_all, look_at, get, get_in, through, sets, lands_last, is, env, agg, sub, whole, tables, fact, fact_i, no, RattleType, owns, types_at, plain, Ptr, block_ptr, ptr_val, block_of, at_block, nothing_more, heard, param, layouts, Stays, stay_dropped, walk_of, Goes-dropped, after, proved, leaves, fm, seq_cst, found, finds, one_word, word_and_gain, one_word-Good, words_told, HandleRow}
 use denote.RawPtr.{count_of as offset_of}
 use base.Fml.{Incl-refl}
 use contract.BorrowLft.{◌⊑◌}
 use denote.Param.Laws.{param_laws}
 use Rattle.atomic_table.proofs.Calls.{loads}
 use Rattle.handles.specs.Rights.{Right, right_by_last_read}
-use Rattle.handles.specs.Blocks.{stamp, value_and_block, block_rule, gain_owns, counted_handle}
+use Rattle.handles.specs.Blocks.{stamp, value_and_block, block_rule, gain_owns, owned_as, counted_handle}
 use Rattle.handles.proofs.Steps as steps
 use Rattle.handles.proofs.Fields.{gain_shown, returns_gain, word_and_gain-Good}
-use Rattle.handles.proofs.Owners.{handle_settles}
+use Rattle.handles.proofs.Owners.{forgets, handle_settles}
 use Rattle.handles.specs.contracts.block.Handle as handle_type
 use Rattle.handles.specs.contracts.block.Handle.leave.{ended, clauses}
 use Rattle.handles.specs.contracts.block.Handle.leave.Key.{name as #self}
@@ -25,7 +25,7 @@ leave_spec 𝓤 𝓛 𝓜 𝓡 wired T L =
     let y : (walk_of 𝓛 En hs c).Ghost = ((κs, qs, bounds, a, (one_word p ∷ [], tt)), gh) in let Post : Val → SProp 𝓤 = (walk_of 𝓛 En hs c).post y in
     qed 𝓛 (((‵ (flft κ q) ⊛ ‵ ftrue) ⊛ ‵ (owns (types_at En.signature.params κs) a y.0.4)) ∷ raw (fact 𝓤 (κ ⊑ T.lives)) ∷ ‵ ftrue ∷ []) ∵
     keep ! (1 ∷ 0 ∷ []) $ heard ! (κ ⊑ T.lives) (λ lives. split ! $ split ! $ move ! (2 ∷ []) $ fsplit ! $ fsplit ! $ keep ! (1 ∷ 3 ∷ 4 ∷ []) $
-    fsplit ! $ fpick ! (λ inb. drop ! $ let at : p ≡ block_ptr pb po = at_block p inb in
+    fsplit ! $ fpick ! (λ inb. drop ! $ let at : p ≡ block_ptr pb po = at_block p inb in use1 𝓛 (‵ (owned_as R p x false)) (forgets R (param_laws 0 T L) 𝓛 p x a.0.sole) $
     use2 𝓛 (later (‵ (counted_handle R p x) ⊛ ‵ (flft κ q))) (handle_settles R (param_laws 0 T L) 𝓛 p x κ lives κ q (Incl-refl κ)) $
     enter ! 𝓣.C 𝓣.Λ fn (one_word p ∷ []) Post $ alloc_all ! (λ l. pass_all ! refl (one_word-Good p, tt) $ let Ev = env fn.locals l in await ! tt $ split ! $ fpick ! (λ i. fsplit3 ! $
     -- [the stake; the rule; the sharing; the token]

@@ -5,8 +5,8 @@ use denote.Opens.{unhide, hide}
 use denote.Memory.{hidden_shr}
 use denote.Param.Laws.{param_laws}
 use denote.Struct.Lending.{lent_at}
-use Rattle.handles.specs.Blocks.{stamp, value_and_block, value_offset, shown, handle_shares}
-use Rattle.handles.proofs.Owners.{sees, shown-ShrLaws}
+use Rattle.handles.specs.Blocks.{value_offset, shown, handle_shares}
+use Rattle.handles.proofs.Owners.{shown_by}
 use Rattle.handles.specs.contracts.block.Handle as handle_type
 use Rattle.handles.specs.contracts.block.Handle.value.{ended, clauses}
 use Rattle.handles.specs.contracts.block.Handle.value.Key.{name as #self}
@@ -23,8 +23,8 @@ value_spec 𝓤 𝓛 𝓜 𝓡 wired T L =
     qed 𝓛 (((‵ (flft κ q) ⊛ ‵ others) ⊛ ‵ (owns (types_at En.signature.params κs) a y.0.4)) ∷ raw ((c κs a).requires gh) ∷ []) ∵
     split ! $ split ! $ move ! (2 ∷ []) $ fsplit ! $ fsplit ! $ keep ! (1 ∷ 3 ∷ 4 ∷ []) $
     enter ! 𝓣.C 𝓣.Λ fn (vptr b o ∷ []) Post $ alloc_all ! (λ l. pass_all ! refl ((tt, tt), tt) $ let Ev = env fn.locals l in
-    use1 𝓛 (‵ (hidden_shr D κ (p, tt) b o) ⊛ ‵ (fhide (handle_shares R p x κ))) (id⊢ 𝓤 _) $ split ! $ move ! (1 ∷ []) $ unhide ! $ fsplit ! $ fpick ! (λ inb. drop ! $ let at : p ≡ block_ptr pb po = at_block p inb in let there : ℕ = po + value_offset R in
-    use1 𝓛 (‵ (shown R p x κ)) (sees (value_and_block R p x) (stamp p) pb (po + 0) (shown R p x) (shown-ShrLaws R (param_laws 0 T L).shr_laws p x) 𝓛 κ) $
+    use1 𝓛 (‵ (hidden_shr D κ (p, tt) b o) ⊛ ‵ (fhide (handle_shares R p x a.0.now.sole κ))) (id⊢ 𝓤 _) $ split ! $ move ! (1 ∷ []) $ unhide ! $ fsplit ! $ fpick ! (λ inb. drop ! $ let at : p ≡ block_ptr pb po = at_block p inb in let there : ℕ = po + value_offset R in
+    use1 𝓛 (‵ (shown R p x κ)) (shown_by R (param_laws 0 T L) 𝓛 p x a.0.now.sole κ) $
     rewrite ! 0 (λ (z : Ptr). ‵ (lent_at R (z +ₚ value_offset R) x κ)) at refl $ fsplit ! $ drop ! $ hide ! $
     -- [the value; the handle's word; the token; the other tokens]
     move ! (1 ∷ 2 ∷ []) $ looks ! tt D (words_open (handle_type.the_type R).name (R ∷ []) 𝓛) (p, tt) b o (λ r vs. move ! (1 ∷ []) $ peeks ! D (Is D) (shows 𝓛 D) (p, tt) vs (λ is_so.

@@ -1,0 +1,156 @@
+//! A handle of one of two types.
+ghost use Rattle.std.specs.Prelude.{◌≡◌, IsTrue, option_map};
+ghost use Rattle.handles.specs.Borrowed.{borrowed};
+ghost use Rattle.handles.specs.Unions.{First, Second, is_first, is_second, first, second, union_eq};
+ghost use Rattle.handles.specs.UnionLaws.{union_eq_per, union_eq_equiv};
+
+use crate::arc::Arc;
+use crate::borrow::ArcBorrow;
+use std::alloc::AllocError;
+use std::fmt;
+use std::fmt::{Debug, Formatter, Write};
+use std::marker::Model;
+
+/// A handle of a first or of a second type. It may be of one kind even where the two types are the same.
+#[derive(Drop)]
+pub struct ArcUnion<A: Send + Sync, B: Send + Sync> {
+    handle: EitherArc<A, B>,
+}
+
+#[derive(Drop)]
+enum EitherArc<A: Send + Sync, B: Send + Sync> {
+    First(Arc<A>),
+    Second(Arc<B>),
+}
+
+impl<A: Send + Sync, B: Send + Sync> Model for ArcUnion<A, B> {
+    ghost use Rattle.handles.specs.Unions.{Union};
+
+    ghost Value = { Union A B };
+
+    ghost use Rattle.handles.specs.UnionHandles.{shown_union};
+
+    ghost view = { λ u. shown_union u.handle };
+}
+
+/// The handle of a union, borrowed.
+#[derive(Debug)]
+#[derive_where(Clone, Copy)]
+pub enum ArcUnionBorrow<'a, A: Send + Sync, B: Send + Sync> {
+    First(ArcBorrow<'a, A>),
+    Second(ArcBorrow<'a, B>),
+}
+
+impl<A: Send + Sync, B: Send + Sync> ArcUnion<A, B> {
+    ghost use Rattle.handles.specs.UnionHandles.{borrowed_union};
+
+    pub fn from_first(handle: Arc<A>) -> ArcUnion<A, B>
+        ensures { result ≡ First handle.value }
+    {
+        ArcUnion {
+            handle: EitherArc::First(handle),
+        }
+    }
+
+    pub fn from_second(handle: Arc<B>) -> ArcUnion<A, B>
+        ensures { result ≡ Second handle.value }
+    {
+        ArcUnion {
+            handle: EitherArc::Second(handle),
+        }
+    }
+
+    pub fn is_first(&self) -> bool
+        ensures { result ≡ is_first self.now }
+    {
+        matches!(self.handle, EitherArc::First(_))
+    }
+
+    pub fn is_second(&self) -> bool
+        ensures { result ≡ is_second self.now }
+    {
+        matches!(self.handle, EitherArc::Second(_))
+    }
+
+    /// The handle, if it is of the first type.
+    pub fn as_first(&self) -> Option<ArcBorrow<'_, A>>
+        ensures { option_map (λ a. (borrowed a).value) result ≡ first self.now }
+    {
+        match &self.handle {
+            EitherArc::First(handle) => Some(handle.borrow_arc()),
+            EitherArc::Second(_) => None,
+        }
+    }
+
+    /// The handle, if it is of the second type.
+    pub fn as_second(&self) -> Option<ArcBorrow<'_, B>>
+        ensures { option_map (λ b. (borrowed b).value) result ≡ second self.now }
+    {
+        match &self.handle {
+            EitherArc::First(_) => None,
+            EitherArc::Second(handle) => Some(handle.borrow_arc()),
+        }
+    }
+
+    pub fn borrow(&self) -> ArcUnionBorrow<'_, A, B>
+        ensures { borrowed_union result ≡ self.now }
+    {
+        match &self.handle {
+            EitherArc::First(handle) => ArcUnionBorrow::First(handle.borrow_arc()),
+            EitherArc::Second(handle) => ArcUnionBorrow::Second(handle.borrow_arc()),
+        }
+    }
+
+    /// Whether both are of one kind and of one block, as exactly as `Arc::ptr_eq` says it.
+    pub fn ptr_eq(this: &Self, other: &Self) -> bool
+        ensures one_kind { IsTrue result → is_first this.now ≡ is_first other.now }
+    {
+        match (&this.handle, &other.handle) {
+            (EitherArc::First(a), EitherArc::First(b)) => Arc::ptr_eq(a, b),
+            (EitherArc::Second(a), EitherArc::Second(b)) => Arc::ptr_eq(a, b),
+            _ => false,
+        }
+    }
+}
+
+/// Refused where the trait's `clone` of the handle is.
+impl<A: Send + Sync + Drop, B: Send + Sync + Drop> Clone for ArcUnion<A, B> {
+    ghost is_clone = { λ u v. v ≡ u };
+
+    fn clone(&self) -> Result<ArcUnion<A, B>, AllocError> {
+        let handle = match &self.handle {
+            EitherArc::First(handle) => EitherArc::First(handle.clone()?),
+            EitherArc::Second(handle) => EitherArc::Second(handle.clone()?),
+        };
+        Ok(ArcUnion { handle })
+    }
+}
+
+/// Asks the values of two of one kind.
+impl<A: Send + Sync + PartialEq, B: Send + Sync + PartialEq> PartialEq for ArcUnion<A, B> {
+    ghost eq = { union_eq A.eq B.eq };
+
+    ghost laws = { union_eq_per A.laws B.laws };
+
+    fn eq(&self, other: &ArcUnion<A, B>) -> bool {
+        match (&self.handle, &other.handle) {
+            (EitherArc::First(a), EitherArc::First(b)) => a == b,
+            (EitherArc::Second(a), EitherArc::Second(b)) => a == b,
+            _ => false,
+        }
+    }
+}
+
+impl<A: Send + Sync + Eq, B: Send + Sync + Eq> Eq for ArcUnion<A, B> {
+    ghost laws = { union_eq_equiv A.Eq.laws B.Eq.laws };
+}
+
+impl<A: Send + Sync + Debug, B: Send + Sync + Debug> Debug for ArcUnion<A, B> {
+    fn fmt<W: Write>(&self, f: &mut Formatter<W>) -> fmt::Result {
+        let borrow = match &self.handle {
+            EitherArc::First(handle) => ArcUnionBorrow::First(ArcBorrow(handle)),
+            EitherArc::Second(handle) => ArcUnionBorrow::Second(ArcBorrow(handle)),
+        };
+        Debug::fmt(&borrow, f)
+    }
+}

@@ -1,0 +1,90 @@
+//! Borrowed handles.
+ghost use Rattle.std.specs.Prelude.{◌≡◌, IfOk};
+ghost use Rattle.std.specs.Fn.{FnOnceTakesAt, FnOnceReturnsAt};
+
+use crate::arc::{Arc, Full};
+use std::ops::Deref;
+use std::sync::Wait;
+
+/// A handle that is borrowed: as a `&Arc<T>`, with no need to write two references. It counts for nothing.
+#[derive(Debug)]
+#[derive_where(Clone, Copy)]
+pub struct ArcBorrow<'a, T: Send + Sync>(pub(crate) &'a Arc<T>);
+
+impl<T: Send + Sync> Arc<T> {
+    ghost use Rattle.handles.specs.Borrowed.{borrowed};
+
+    pub fn borrow_arc(&self) -> ArcBorrow<'_, T>
+        ensures { borrowed result ≡ self.now }
+    {
+        ArcBorrow(self)
+    }
+}
+
+impl<'a, T: Send + Sync> ArcBorrow<'a, T> {
+    ghost use Rattle.handles.specs.Borrowed.{borrowed};
+
+    /// The value, for as long as the handle is borrowed.
+    pub fn get(&self) -> &'a T
+        ensures { result.now ≡ (borrowed self.now).value }
+    {
+        self.0
+    }
+
+    /// One more handle. It waits as `Arc::clone` does.
+    pub fn clone_arc(&self, rt: &impl Wait) -> Result<Arc<T>, Full>
+    where
+        T: Drop,
+        ensures { IfOk result (λ a. a.value ≡ (borrowed self.now).value) }
+    {
+        Arc::clone(self.0, rt)
+    }
+
+    /// Whether both are of one block, as exactly as `Arc::ptr_eq` says it.
+    pub fn ptr_eq(this: &Self, other: &Self) -> bool {
+        Arc::ptr_eq(this.0, other.0)
+    }
+
+    /// What `f` answers on the handle. The count stays as it is, unless `f` changes it.
+    pub fn with_arc<U, F: FnOnce(&Arc<T>) -> U>(&self, f: F) -> U
+        requires { FnOnceTakesAt F.FnOnce f (borrowed self.now) }
+        ensures { FnOnceReturnsAt F.FnOnce f (borrowed self.now) result }
+    {
+        f(self.0)
+    }
+}
+
+impl<T: Send + Sync> Deref for ArcBorrow<'_, T> {
+    type Target = T;
+
+    ghost use Rattle.handles.specs.Borrowed.{borrowed};
+
+    ghost deref_gives = { λ b x. x ≡ (borrowed b).value };
+
+    fn deref(&self) -> &T
+        ensures { result.now ≡ (borrowed self.now).value }
+    {
+        self.0
+    }
+}
+
+/// Asks the values, also where both are of one block.
+impl<T: Send + Sync + PartialEq> PartialEq for ArcBorrow<'_, T> {
+    ghost use Rattle.std.specs.Cmp.{on_per};
+    ghost use Rattle.handles.specs.Borrowed.{borrowed};
+
+    ghost eq = { λ x y. T.eq (borrowed x).value (borrowed y).value };
+
+    ghost laws = { on_per (λ b. (borrowed b).value) T.laws };
+
+    fn eq(&self, other: &Self) -> bool {
+        **self == **other
+    }
+}
+
+impl<T: Send + Sync + Eq> Eq for ArcBorrow<'_, T> {
+    ghost use Rattle.std.specs.Cmp.{on_equiv};
+    ghost use Rattle.handles.specs.Borrowed.{borrowed};
+
+    ghost laws = { on_equiv (λ b. (borrowed b).value) T.Eq.laws };
+}

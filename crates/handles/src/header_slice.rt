@@ -1,0 +1,111 @@
+//! A header and a list of items, which a builder takes from an iterator.
+ghost use Rattle.std.specs.Prelude.{◌≡◌, ◌==◌, ◌&&◌, length};
+ghost use Rattle.std.specs.Borrow.{sem};
+ghost use Rattle.std.specs.Cmp.{on_per, on_equiv, and_per, and_equiv};
+ghost use Rattle.std.specs.Cmp.Lexicographic.{pointwise, lists_per, lists_equiv};
+
+mod build;
+mod items;
+mod makers;
+
+use crate::arc::Arc;
+pub use build::BuildError;
+use items::Items;
+use std::fmt;
+use std::marker::Model;
+
+/// A shared header slice.
+pub type ThinArc<H, T> = Arc<HeaderSlice<H, T>>;
+
+/// A header and items of a number that never changes.
+pub struct HeaderSlice<H, T> {
+    pub header: H,
+    items: Items<T>,
+}
+
+impl<H, T> Model for HeaderSlice<H, T> {
+    ghost use Rattle.handles.specs.HeaderSlice.{HeaderAndItems};
+
+    ghost Value = { HeaderAndItems H T };
+
+    ghost view = { λ s. record { header = s.header; items = s.items.items } };
+}
+
+impl<H, T> HeaderSlice<H, T> {
+    ghost use Rattle.handles.specs.HeaderSlice.Lending.{LendsHeader, LendsItems};
+
+    #[inline]
+    pub(crate) fn header_mut(&mut self) -> &mut H
+        ensures* writes_back { sem 𝓛 (LendsHeader H.row T.row self.entry result) }
+        ensures value { result.now ≡ self.old.header }
+    {
+        &mut self.header
+    }
+
+    /// The items in the order in which they were taken.
+    #[inline]
+    pub fn slice(&self) -> &[T]
+        ensures { result.now ≡ self.now.items }
+    {
+        self.items.slice()
+    }
+
+    /// The items for writing. Their number stays.
+    #[inline]
+    pub fn slice_mut(&mut self) -> &mut [T]
+        ensures* writes_back { sem 𝓛 (LendsItems H.row T.row self.entry result) }
+        ensures value { result.now ≡ self.old.items }
+    {
+        self.items.slice_mut()
+    }
+
+    /// The number of items.
+    #[inline]
+    pub fn len(&self) -> usize
+        ensures { result ≡ length self.now.items }
+    {
+        self.slice().len()
+    }
+
+    #[inline]
+    pub fn is_empty(&self) -> bool
+        ensures { result ≡ (length self.now.items == 0) }
+    {
+        self.slice().is_empty()
+    }
+}
+
+/// The items from first to last, and then the header.
+impl<H: Drop, T: Drop> Drop for HeaderSlice<H, T> {
+    fn drop(self) {
+        let HeaderSlice { header, items } = self;
+        drop(items);
+        drop(header);
+    }
+}
+
+impl<H: PartialEq, T: PartialEq> PartialEq for HeaderSlice<H, T> {
+    ghost eq = { λ x y. H.eq x.header y.header && pointwise T.eq x.items y.items };
+
+    ghost laws = { and_per (on_per (λ s. s.header) H.laws) (on_per (λ s. s.items) (lists_per T.laws)) };
+
+    fn eq(&self, other: &HeaderSlice<H, T>) -> bool {
+        self.header == other.header && self.slice() == other.slice()
+    }
+}
+
+impl<H: Eq, T: Eq> Eq for HeaderSlice<H, T> {
+    ghost laws = { and_equiv (on_equiv (λ s. s.header) H.Eq.laws) (on_equiv (λ s. s.items) (lists_equiv T.Eq.laws)) };
+}
+
+impl<H: fmt::Debug, T: fmt::Debug> fmt::Debug for HeaderSlice<H, T> {
+    fn fmt<W: fmt::Write>(&self, f: &mut fmt::Formatter<W>) -> fmt::Result {
+        f.debug_struct("HeaderSlice")
+            .field("header", &self.header)
+            .field("slice", &self.slice())
+            .finish()
+    }
+}
+
+#[cfg(test)]
+mod tests;

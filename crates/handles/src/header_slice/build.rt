@@ -1,0 +1,79 @@
+// How a header slice takes its items from an iterator.
+ghost use Rattle.std.specs.Prelude.{◌≡◌, [], IfOk, IfErr, OnOk};
+ghost use Rattle.handles.specs.HeaderSlice.Pulls.{GivesRight};
+ghost use Rattle.handles.specs.HeaderSlice.Builders.{Refuses, IsBuilt};
+ghost use Rattle.handles.specs.declared.header_slice.build.BuildError.TheVariants.{Memory};
+
+use super::HeaderSlice;
+use super::items::Items;
+use crate::unique::UniqueArc;
+use std::alloc::{AllocError, Global};
+use thiserror::Error;
+
+/// Why no header slice was built. What was taken until then is dropped.
+#[derive(Clone, Copy, Debug, PartialEq, Eq, Error)]
+pub enum BuildError {
+    #[error("out of memory")]
+    Memory,
+    /// The iterator gave fewer items than it was said to.
+    #[error("ExactSizeIterator over-reported length")]
+    OverReported,
+    /// The iterator gave more items than it was said to.
+    #[error("ExactSizeIterator under-reported length")]
+    UnderReported,
+}
+
+impl From<AllocError> for BuildError {
+    ghost from_gives = { λ _ refusal. refusal ≡ Memory };
+
+    fn from(_error: AllocError) -> BuildError {
+        BuildError::Memory
+    }
+}
+
+// All memory is requested before the source is asked for its first item. A refusal drops what was taken, then the header.
+pub(super) fn build<H: Send + Sync + Drop, T: Send + Sync + Drop, I: Iterator<Item = T>>(
+    alloc: Global,
+    header: H,
+    source: I,
+    number: usize,
+) -> Result<UniqueArc<HeaderSlice<H, T>>, BuildError>
+    requires { I.can_next source }
+    ensures built { IfOk result (λ u. IsBuilt I.next_gives source number header u.value) }
+    ensures refused { IfErr result (Refuses I.next_gives source number) }
+{
+    let mut items = Items::with_room(alloc, number)?;
+    let block = UniqueArc::new_uninit(alloc)?;
+    items.take_all(source, number)?;
+    Ok(block.write(HeaderSlice { header, items }))
+}
+
+impl<T: Drop> Items<T> {
+    // Asks until the number of items was taken and then once more, or until `None`.
+    fn take_all<I: Iterator<Item = T>>(
+        &mut self,
+        mut source: I,
+        number: usize,
+    ) -> Result<(), BuildError>
+        requires can_next { I.can_next source }
+        requires empty { self.old.items ≡ [] }
+        ensures taken { OnOk result (GivesRight I.next_gives source number self.new.items) }
+        ensures refused { IfErr result (Refuses I.next_gives source number) }
+    {
+        while self.len() < number {
+            if self.is_full() {
+                return Err(BuildError::Memory);
+            }
+            match source.next() {
+                Some(item) => self.push(item),
+                None => return Err(BuildError::OverReported),
+            }
+        }
+        let Some(extra) = source.next() else {
+            return Ok(());
+        };
+        self.clear();
+        drop(extra);
+        Err(BuildError::UnderReported)
+    }
+}

@@ -1,0 +1,113 @@
+// The public builders, and writing to what they built before it is shared.
+ghost use Rattle.std.specs.Prelude.{◌≡◌, IfOk, IfErr};
+ghost use Rattle.std.specs.Iterator.{size};
+ghost use Rattle.std.specs.Borrow.{sem};
+ghost use Rattle.handles.specs.HeaderSlice.Builders.{Refuses, IsBuilt};
+
+use super::HeaderSlice;
+use super::build::{BuildError, build};
+use crate::arc::Arc;
+use crate::unique::UniqueArc;
+use std::alloc::Global;
+use std::ops::DerefMut;
+
+impl<H: Send + Sync + Drop, T: Send + Sync + Drop> Arc<HeaderSlice<H, T>> {
+    /// Takes as many items as the iterator says that it has.
+    pub fn from_header_and_iter<I: Iterator<Item = T> + ExactSizeIterator>(
+        alloc: Global,
+        header: H,
+        items: I,
+    ) -> Result<Arc<HeaderSlice<H, T>>, BuildError>
+        requires { I.can_next items }
+        ensures built { IfOk result (λ a. IsBuilt I.next_gives items (size (I.remaining items)) header a.value) }
+        ensures refused { IfErr result (Refuses I.next_gives items (size (I.remaining items))) }
+    {
+        let num_items = items.len();
+        Arc::from_header_and_iter_with_size(alloc, header, items, num_items)
+    }
+
+    /// Asks the iterator until `num_items` items were taken and then once more, but never after a `None`.
+    pub fn from_header_and_iter_with_size<I: Iterator<Item = T>>(
+        alloc: Global,
+        header: H,
+        items: I,
+        num_items: usize,
+    ) -> Result<Arc<HeaderSlice<H, T>>, BuildError>
+        requires { I.can_next items }
+        ensures built { IfOk result (λ a. IsBuilt I.next_gives items num_items header a.value) }
+        ensures refused { IfErr result (Refuses I.next_gives items num_items) }
+    {
+        Ok(build(alloc, header, items, num_items)?.shareable())
+    }
+
+    /// With `is_static` the block is marked: it is never given back, and its value is never dropped.
+    pub fn from_header_and_iter_alloc<I: Iterator<Item = T>>(
+        alloc: Global,
+        header: H,
+        items: I,
+        num_items: usize,
+        is_static: bool,
+    ) -> Result<Arc<HeaderSlice<H, T>>, BuildError>
+        requires { I.can_next items }
+        ensures built { IfOk result (λ a. IsBuilt I.next_gives items num_items header a.value) }
+        ensures refused { IfErr result (Refuses I.next_gives items num_items) }
+    {
+        let slice = Arc::from_header_and_iter_with_size(alloc, header, items, num_items)?;
+        if is_static {
+            slice.mark_as_intentionally_leaked();
+        }
+        Ok(slice)
+    }
+}
+
+impl<H: Send + Sync + Drop, T: Send + Sync + Drop> UniqueArc<HeaderSlice<H, T>> {
+    /// Takes as many items as the iterator says that it has.
+    pub fn from_header_and_iter<I: Iterator<Item = T> + ExactSizeIterator>(
+        alloc: Global,
+        header: H,
+        items: I,
+    ) -> Result<UniqueArc<HeaderSlice<H, T>>, BuildError>
+        requires { I.can_next items }
+        ensures built { IfOk result (λ u. IsBuilt I.next_gives items (size (I.remaining items)) header u.value) }
+        ensures refused { IfErr result (Refuses I.next_gives items (size (I.remaining items))) }
+    {
+        let num_items = items.len();
+        UniqueArc::from_header_and_iter_with_size(alloc, header, items, num_items)
+    }
+
+    /// Asks the iterator until `num_items` items were taken and then once more, but never after a `None`.
+    pub fn from_header_and_iter_with_size<I: Iterator<Item = T>>(
+        alloc: Global,
+        header: H,
+        items: I,
+        num_items: usize,
+    ) -> Result<UniqueArc<HeaderSlice<H, T>>, BuildError>
+        requires { I.can_next items }
+        ensures built { IfOk result (λ u. IsBuilt I.next_gives items num_items header u.value) }
+        ensures refused { IfErr result (Refuses I.next_gives items num_items) }
+    {
+        build(alloc, header, items, num_items)
+    }
+}
+
+impl<H: Send + Sync, T: Send + Sync> UniqueArc<HeaderSlice<H, T>> {
+    ghost use Rattle.handles.specs.HeaderSlice.UniqueLending.{LendsUniqueHeader, LendsUniqueItems};
+
+    /// The header, for writing.
+    #[inline]
+    pub fn header_mut(&mut self) -> &mut H
+        ensures* writes_back { sem 𝓛 (LendsUniqueHeader H.row T.row self.entry result) }
+        ensures value { result.now ≡ self.old.value.header }
+    {
+        self.deref_mut().header_mut()
+    }
+
+    /// The items, for writing. Their number stays.
+    #[inline]
+    pub fn data_mut(&mut self) -> &mut [T]
+        ensures* writes_back { sem 𝓛 (LendsUniqueItems H.row T.row self.entry result) }
+        ensures value { result.now ≡ self.old.value.items }
+    {
+        self.deref_mut().slice_mut()
+    }
+}

@@ -4,8 +4,8 @@ set -euo pipefail
 cd "$(dirname "$0")"
 
 failed=0
-for script in *.core; do
-    if ! ../arcbench core 3 < "$script" | diff "${script%.core}.expected" -; then
+for script in *.core *.table; do
+    if ! ../arcbench "${script##*.}" 3 < "$script" | diff "${script%.*}.expected" -; then
         echo "$script prints something else" >&2
         failed=1
     fi

@@ -1,3 +1,4 @@
 pub mod Lines
 pub mod Numerals
 pub mod StepLines
+pub mod TableLines

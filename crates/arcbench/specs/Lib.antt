@@ -3,3 +3,5 @@ pub mod Fault
 pub mod Line
 pub mod Number
 pub mod StepLine
+pub mod TableAnswer
+pub mod TableLine

@@ -6,10 +6,13 @@ use std::convert::AsStr;
 
 const MOST_OWNERS: usize = 1000;
 
+const MOST_SLOTS: usize = 1000;
+
 /// A program that the arguments ask for.
 #[derive(Clone, Copy, Debug, PartialEq)]
 pub enum Request {
     Core { owners: usize },
+    Table { slots: usize },
 }
 
 impl Request {
@@ -26,6 +29,7 @@ impl Request {
         let size = parse_number(size.as_str().as_bytes())? as usize;
         match kind.as_str() {
             "core" if 1 <= size && size <= MOST_OWNERS => Some(Request::Core { owners: size }),
+            "table" if size <= MOST_SLOTS => Some(Request::Table { slots: size }),
             _ => None,
         }
     }

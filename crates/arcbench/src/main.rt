@@ -1,4 +1,5 @@
-//! `arcbench core OWNERS` runs a script of steps on a counting core and prints an answer a line.
+//! `arcbench core OWNERS` runs a script of steps on a counting core, and `arcbench table SLOTS` one
+//! of commands on a table of handles. Each line is answered by a line.
 #![tactic(auto)]
 
 mod arguments;
@@ -7,6 +8,8 @@ mod fault;
 mod line;
 mod number;
 mod script;
+mod table_line;
+mod table_script;
 
 ghost use Rattle.std.specs.Prelude.{◌≡◌, ◌≤◌, ◌↔◌, ◌⊎◌, IsErrOf, map};
 ghost use Rattle.arcbench.specs.Arguments.{AskNothing};
@@ -57,6 +60,7 @@ fn run<S: AsStr, R: Read, W: Write>(
     let script = script::read(alloc, input)?;
     match request {
         Request::Core { owners } => core_script::run(alloc, owners, &script, output),
+        Request::Table { slots } => table_script::run(alloc, slots, &script, output),
     }
 }
 

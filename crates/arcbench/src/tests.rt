@@ -35,26 +35,26 @@ fn lines_of(alloc: Global, text: &str) -> Result<String, AllocError> {
     Ok(lines)
 }
 
-/// A script, the number of its owners, and its answers.
+/// A script, the size of what it runs on, and its answers.
 struct Row {
     name: &'static str,
-    owners: &'static str,
+    size: &'static str,
     script: &'static str,
     answers: &'static str,
 }
 
 impl Row {
-    fn check(&self, rt: &impl Abort, alloc: Global, status: u8) -> Result<(), AllocError> {
+    fn check(&self, rt: &impl Abort, alloc: Global, kind: &str) -> Result<(), AllocError> {
         let name = self.name;
         let script = lines_of(alloc, self.script)?;
         let answers = lines_of(alloc, self.answers)?;
-        let ran = run_bench(alloc, &["core", self.owners], script.as_bytes());
+        let ran = run_bench(alloc, &[kind, self.size], script.as_bytes());
         assert_eq!(rt;
             str::from_utf8(&ran.output).unwrap_or("no text"),
             answers.as_str(),
             "{name}"
         );
-        assert_eq!(rt; ran.status, status, "{name}");
+        assert_eq!(rt; ran.status, 0, "{name}");
         assert!(rt; ran.errors.is_empty(), "{name}");
         Ok(())
     }
@@ -63,61 +63,61 @@ impl Row {
 const ONE_OWNER: [Row; 10] = [
     Row {
         name: "the last handle gives the value up",
-        owners: "1",
+        size: "1",
         script: "unique 0 0 / drop 0 0 / lower 0",
         answers: "is true / pending / given up 5",
     },
     Row {
         name: "a drop in flight bars all but its lower",
-        owners: "1",
+        size: "1",
         script: "drop 0 0 / unique 0 0 / lower 0 / lower 0",
         answers: "pending / barred / given up 5 / barred",
     },
     Row {
         name: "only what is there is loaded",
-        owners: "1",
+        size: "1",
         script: "load 1 0 / load 0 1 / load 0 0",
         answers: "barred / barred / value 5",
     },
     Row {
         name: "nothing follows the value's end",
-        owners: "1",
+        size: "1",
         script: "drop 0 0 / lower 0 / load 0 0 / lower 0",
         answers: "pending / given up 5 / barred / barred",
     },
     Row {
         name: "a marked block stays",
-        owners: "1",
+        size: "1",
         script: "mark 0 0 / mark 0 0 / unique 0 0 / drop 0 0",
         answers: "marked / marked / is false / ended",
     },
     Row {
         name: "a marked block is not written",
-        owners: "1",
+        size: "1",
         script: "mark 0 0 / getmut 0 0 / drop 0 0 / load 0 0",
         answers: "marked / shared / ended / barred",
     },
     Row {
         name: "a clone in flight bars all but its raise and its quit",
-        owners: "1",
+        size: "1",
         script: "clone 0 0 / drop 0 0 / quit 0 / quit 0",
         answers: "pending / barred / quit / barred",
     },
     Row {
         name: "a clone outlives its origin",
-        owners: "1",
+        size: "1",
         script: "clone 0 0 / raise 0 / unique 0 0 / drop 0 0 / unique 0 1 / lower 0 / unique 0 1 / load 0 0",
         answers: "pending / born 1 / is false / pending / barred / ended / is true / barred",
     },
     Row {
         name: "nothing in flight is gone on with",
-        owners: "1",
+        size: "1",
         script: "raise 0 / lower 0 / quit 0 / clone 0 0 / quit 0 / drop 0 0 / lower 0",
         answers: "barred / barred / barred / pending / quit / pending / given up 5",
     },
     Row {
         name: "the only handle is written in place",
-        owners: "1",
+        size: "1",
         script: "getmut 0 0 / clone 0 0 / write 0 0 9 / endwrite 0 0 / load 0 0",
         answers: "alone / barred / done / done / value 9",
     },
@@ -126,49 +126,49 @@ const ONE_OWNER: [Row; 10] = [
 const TWO_OWNERS: [Row; 8] = [
     Row {
         name: "an owner without a handle is barred",
-        owners: "2",
+        size: "2",
         script: "lower 0 / load 1 0 / load 0 0 / drop 0 1",
         answers: "barred / barred / value 5 / barred",
     },
     Row {
         name: "a handle is given once",
-        owners: "2",
+        size: "2",
         script: "give 0 0 1 / load 0 0 / load 1 0 / give 1 0 1",
         answers: "done / barred / value 5 / barred",
     },
     Row {
         name: "a drop in flight still counts",
-        owners: "2",
+        size: "2",
         script: "lend 0 0 1 / clone 1 0 / raise 1 / return 1 0 / unique 0 0 / drop 1 1 / unique 0 0 / lower 1 / unique 0 0",
         answers: "done / pending / born 1 / done / is false / pending / is false / ended / is true",
     },
     Row {
         name: "a clone in flight when the mark comes",
-        owners: "2",
+        size: "2",
         script: "lend 0 0 1 / clone 1 0 / mark 0 0 / raise 1 / static 1 1",
         answers: "done / pending / marked / born 1 / is true",
     },
     Row {
         name: "a drop in flight when the mark comes",
-        owners: "2",
+        size: "2",
         script: "lend 0 0 1 / clone 1 0 / raise 1 / return 1 0 / drop 1 1 / mark 0 0 / clone 0 0 / lower 1 / drop 0 0 / drop 0 2",
         answers: "done / pending / born 1 / done / pending / marked / born 2 / ended / ended / ended",
     },
     Row {
         name: "a lent handle stays",
-        owners: "2",
+        size: "2",
         script: "lend 0 0 1 / drop 0 0 / getmut 0 0 / lower 0 / drop 1 0",
         answers: "done / barred / barred / barred / barred",
     },
     Row {
         name: "a handle is lent once to another owner",
-        owners: "2",
+        size: "2",
         script: "lend 0 0 0 / lend 0 0 1 / lend 0 0 1 / give 0 0 1 / lend 1 0 0",
         answers: "barred / done / barred / barred / barred",
     },
     Row {
         name: "no handle is returned in the middle of a clone",
-        owners: "2",
+        size: "2",
         script: "lend 0 0 1 / clone 1 0 / return 1 0 / getmut 0 0 / raise 1 / return 1 0 / getmut 0 0 / drop 1 1 / lower 1 / getmut 0 0",
         answers: "done / pending / barred / barred / born 1 / done / shared / pending / ended / alone",
     },
@@ -177,27 +177,114 @@ const TWO_OWNERS: [Row; 8] = [
 const THREE_OWNERS: [Row; 4] = [
     Row {
         name: "a stale read loses once",
-        owners: "3",
+        size: "3",
         script: "lend 0 0 1 / lend 0 0 2 / clone 1 0 / clone 2 0 / raise 2 / raise 1 / raise 1",
         answers: "done / done / pending / pending / born 1 / pending / born 2",
     },
     Row {
         name: "a clone that is given up leaves no trace",
-        owners: "3",
+        size: "3",
         script: "lend 0 0 1 / lend 0 0 2 / clone 1 0 / clone 2 0 / raise 2 / raise 1 / quit 1 / unique 0 0 / drop 2 1 / lower 2 / unique 0 0",
         answers: "done / done / pending / pending / born 1 / pending / quit / is false / pending / ended / is true",
     },
     Row {
         name: "a word that came back lets the raise win",
-        owners: "3",
+        size: "3",
         script: "lend 0 0 1 / lend 0 0 2 / clone 1 0 / clone 2 0 / raise 2 / drop 2 1 / lower 2 / raise 1",
         answers: "done / done / pending / pending / born 1 / pending / ended / born 2",
     },
     Row {
         name: "a drop in flight keeps the word from coming back",
-        owners: "3",
+        size: "3",
         script: "lend 0 0 1 / lend 0 0 2 / clone 1 0 / clone 2 0 / raise 2 / drop 2 1 / raise 1",
         answers: "done / done / pending / pending / born 1 / pending / pending",
+    },
+];
+
+const TABLES: [Row; 14] = [
+    Row {
+        name: "a slot is filled and read",
+        size: "1",
+        script: "get 0 / new 0 5 / get 0 / get 1",
+        answers: "empty / done / value 5 / no slot",
+    },
+    Row {
+        name: "a slot of a shared block gets one of its own",
+        size: "2",
+        script: "new 0 5 / clone 0 1 / ptreq 0 1 / own 0 / ptreq 0 1 / same 0 1",
+        answers: "done / done / is true / done / is false / is true",
+    },
+    Row {
+        name: "no slot is told before an empty one",
+        size: "2",
+        script: "clone 0 1 / clone 0 2 / same 0 0",
+        answers: "empty / no slot / empty",
+    },
+    Row {
+        name: "a clone over its own source leaves it unshared",
+        size: "1",
+        script: "new 0 5 / clone 0 0 / getmut 0 6 / get 0",
+        answers: "done / done / done / value 6",
+    },
+    Row {
+        name: "a clone keeps its value when its source is replaced",
+        size: "2",
+        script: "new 0 5 / clone 0 1 / new 0 8 / get 1 / makemut 1 3 / get 0 / get 1",
+        answers: "done / done / done / value 5 / done / value 8 / value 3",
+    },
+    Row {
+        name: "a table without slots has none",
+        size: "0",
+        script: "new 0 1 / get 0",
+        answers: "no slot / no slot",
+    },
+    Row {
+        name: "a marked block is not written in place",
+        size: "1",
+        script: "new 0 4 / mark 0 / getmut 0 6 / makemut 0 7 / getmut 0 8 / get 0",
+        answers: "done / done / shared / done / done / value 8",
+    },
+    Row {
+        name: "a handle passes through its raw form",
+        size: "2",
+        script: "new 0 5 / raw 0 / get 0 / raw 1 / raw 2",
+        answers: "done / done / value 5 / empty / no slot",
+    },
+    Row {
+        name: "a shared value is copied before it is written",
+        size: "3",
+        script: "new 0 5 / clone 0 1 / getmut 0 9 / makemut 0 9 / ptreq 0 1 / same 0 1 / drop 2 / new 3 1 / get 0 / get 1 / get 2",
+        answers: "done / done / shared / done / is false / is false / empty / no slot / value 9 / value 5 / empty",
+    },
+    Row {
+        name: "a marked block is left for one of its own",
+        size: "2",
+        script: "new 0 4 / mark 0 / own 0 / getmut 0 6 / clone 0 0 / getmut 0 7 / raw 0 / get 0",
+        answers: "done / done / done / done / done / done / done / value 7",
+    },
+    Row {
+        name: "a dropped handle leaves its slot empty",
+        size: "2",
+        script: "new 0 5 / clone 0 1 / drop 0 / get 0 / getmut 1 6 / get 1 / drop 1 / drop 1 / drop 2",
+        answers: "done / done / done / empty / done / value 6 / done / empty / no slot",
+    },
+    Row {
+        name: "each command on an empty slot is told so",
+        size: "1",
+        script: "drop 0 / getmut 0 1 / makemut 0 1 / own 0 / mark 0 / raw 0 / clone 0 0 / ptreq 0 0 / same 0 0 / get 0",
+        answers: "empty / empty / empty / empty / empty / empty / empty / empty / empty / empty",
+    },
+    Row {
+        name: "each command on no slot is told so",
+        size: "0",
+        script: "new 0 1 / drop 0 / getmut 0 1 / makemut 0 1 / own 0 / mark 0 / raw 0 / clone 0 0 / ptreq 0 0 / same 0 0",
+        answers: "no slot / no slot / no slot / no slot / no slot / no slot / no slot / no slot / no slot / no slot",
+    },
+    Row {
+        name: "the largest numbers are read and printed",
+        size: "1",
+        script: "new 0 4294967295 / get 0 / get 4294967295",
+        answers: "done / value 4294967295 / no slot",
     },
 ];
 
@@ -205,7 +292,15 @@ const THREE_OWNERS: [Row; 4] = [
 fn answers_each_step(rt: HostRuntime) -> Result<(), Fail> {
     let alloc = rt.alloc();
     for row in ONE_OWNER.iter().chain(&TWO_OWNERS).chain(&THREE_OWNERS) {
-        row.check(&rt, alloc, 0)?;
+        row.check(&rt, alloc, "core")?;
+    }
+    Ok(())
+}
+
+#[test]
+fn answers_each_line_of_a_table(rt: HostRuntime) -> Result<(), Fail> {
+    for row in &TABLES {
+        row.check(&rt, rt.alloc(), "table")?;
     }
     Ok(())
 }
@@ -295,22 +390,100 @@ const BYTES: [Bytes; 15] = [
     },
 ];
 
-#[test]
-fn stops_at_the_first_faulty_line(rt: HostRuntime) {
-    let alloc = rt.alloc();
+const TABLE_BYTES: [Bytes; 14] = [
+    Bytes {
+        script: b"",
+        output: b"",
+        status: 0,
+    },
+    Bytes {
+        script: b"get 0",
+        output: b"empty\n",
+        status: 0,
+    },
+    Bytes {
+        script: b"new 0 05\n",
+        output: b"fault: line 1\n",
+        status: 2,
+    },
+    Bytes {
+        script: b"new 0 5\nget 0\nput 0 6\nget 0\n",
+        output: b"done\nvalue 5\nfault: line 3\n",
+        status: 2,
+    },
+    Bytes {
+        script: b"unique 0 0\n",
+        output: b"fault: line 1\n",
+        status: 2,
+    },
+    Bytes {
+        script: b"New 0 5\n",
+        output: b"fault: line 1\n",
+        status: 2,
+    },
+    Bytes {
+        script: b"get 0 0\n",
+        output: b"fault: line 1\n",
+        status: 2,
+    },
+    Bytes {
+        script: b"get\n",
+        output: b"fault: line 1\n",
+        status: 2,
+    },
+    Bytes {
+        script: b"drop 0 0\n",
+        output: b"fault: line 1\n",
+        status: 2,
+    },
+    Bytes {
+        script: b"clone 0\n",
+        output: b"fault: line 1\n",
+        status: 2,
+    },
+    Bytes {
+        script: b"same 0 0 0\n",
+        output: b"fault: line 1\n",
+        status: 2,
+    },
+    Bytes {
+        script: b"new 0 4294967295\nnew 0 4294967296\n",
+        output: b"done\nfault: line 2\n",
+        status: 2,
+    },
+    Bytes {
+        script: b"new 0  5\n",
+        output: b"fault: line 1\n",
+        status: 2,
+    },
+    Bytes {
+        script: b"get 0\n\n",
+        output: b"empty\nfault: line 2\n",
+        status: 2,
+    },
+];
+
+/// Runs each script up to its fault.
+fn check_bytes(rt: &impl Abort, alloc: Global, kind: &str, rows: &[Bytes]) {
     for Bytes {
         script,
         output,
         status,
-    } in &BYTES {
-        let ran = run_bench(alloc, &["core", "1"], script);
+    } in rows {
+        let ran = run_bench(alloc, &[kind, "1"], script);
         assert_eq!(rt; ran.output.as_slice(), *output, "{script:?}");
         assert_eq!(rt; ran.status, *status, "{script:?}");
         assert!(rt; ran.errors.is_empty(), "{script:?}");
     }
 }
 
-const WRONG_ARGUMENTS: [&[&str]; 12] = [
+#[test]
+fn stops_at_the_first_faulty_line(rt: HostRuntime) {
+    check_bytes(&rt, rt.alloc(), "core", &BYTES);
+    check_bytes(&rt, rt.alloc(), "table", &TABLE_BYTES);
+}
+
+const WRONG_ARGUMENTS: [&[&str]; 15] = [
     &[],
     &["core"],
     &["core", "0"],
@@ -321,8 +494,11 @@ const WRONG_ARGUMENTS: [&[&str]; 12] = [
     &["", ""],
     &["Core", "1"],
     &["core", "1", "1"],
-    &["table", "1"],
+    &["table"],
+    &["table", "00"],
     &["table", "1001"],
+    &["Table", "1"],
+    &["table", "1", "1"],
 ];
 
 #[test]
@@ -345,6 +521,12 @@ fn judges_arguments_before_input(rt: HostRuntime) {
             .output
             .as_slice(),
         b"barred\n".as_slice()
+    );
+    assert_eq!(rt;
+        run_bench(alloc, &["table", "1000"], b"get 999\nget 1000\n")
+            .output
+            .as_slice(),
+        b"empty\nno slot\n".as_slice()
     );
 }
 

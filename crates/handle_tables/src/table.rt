@@ -1,5 +1,5 @@
 //! A table of `Arc`s.
-ghost use Rattle.std.specs.Prelude.{◌≡◌, IfOk, IsTrue, List, None, OnErr, Option, replicate, slice_get};
+ghost use Rattle.std.specs.Prelude.{◌≡◌, IfOk, IsTrue, List, None, OnErr, Option, length, replicate, slice_get};
 ghost use Rattle.std.specs.List.{list_any};
 ghost use Rattle.std.specs.Option.{option_copied, option_flatten};
 ghost use Rattle.handle_tables.specs.Copies.{CopiesAreEqual, is_own};
@@ -35,6 +35,14 @@ impl<T: Send + Sync + PartialEq + Drop> Table<T> {
         Ok(Table {
             slots: slots::empty(alloc, slots)?,
         })
+    }
+
+    /// How many slots there are, empty ones too.
+    #[inline]
+    pub fn slots(&self) -> usize
+        ensures { result ≡ length self.now }
+    {
+        self.slots.len()
     }
 
     /// The value of a slot: none where the slot is empty or not there.

@@ -182,6 +182,7 @@ fn commands_are_served_one_at_a_time(rt: HostRuntime) -> Result<(), Fail> {
     assert_eq!(rt; table.get(0).copied(), Some(8));
     assert_eq!(rt; table.get(1).copied(), Some(3));
     assert_eq!(rt; table.get(2).copied(), None);
+    assert_eq!(rt; table.slots(), 2);
     Ok(())
 }
 
@@ -207,6 +208,7 @@ fn a_table_without_slots_has_none(rt: HostRuntime) -> Result<(), Fail> {
     let mut table: Table<u32> = Table::new(alloc, 0)?;
     assert_eq!(rt; table.serve(alloc, Command::New(0, 1)), Reply::NoSlot);
     assert_eq!(rt; table.get(0).copied(), None);
+    assert_eq!(rt; table.slots(), 0);
     Ok(())
 }
 

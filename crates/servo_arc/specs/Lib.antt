@@ -11,3 +11,5 @@ pub use Rattle.handles.specs.WriteBack
 pub use Rattle.handle_tables.specs.Copies
 pub use Rattle.handle_tables.specs.PlainTable
 pub use Rattle.handle_tables.specs.Runs
+pub use Rattle.handle_tables.specs.declared.commands.Command
+pub use Rattle.handle_tables.specs.declared.commands.Reply

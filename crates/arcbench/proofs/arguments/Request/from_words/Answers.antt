@@ -1,9 +1,9 @@
-use Rattle.std.proofs.Common.{map, ◌≡◌, ℕ, ◌≤◌, ◌<◌, List, [], ◌∷◌, length, get_or, arith, ◌∙◌, decimal}
+use Rattle.std.proofs.Common.{map, sym, ◌≡◌, ◌≢◌, ℕ, ◌≤◌, ◌<◌, List, [], ◌∷◌, length, get_or, ap, arith, ◌∙◌, codes, decimal}
 use Rattle.std.proofs.lemmas.Fmt.{decimal_injective}
 use Rattle.arcbench.specs.Arguments.{Asks}
 use Rattle.arcbench.specs.Number.{IsNumber}
 use Rattle.arcbench.specs.declared.arguments.Request.{Request}
-use Rattle.arcbench.specs.declared.arguments.Request.TheVariants.{Core}
+use Rattle.arcbench.specs.declared.arguments.Request.TheVariants.{Core, Table}
 use Rattle.arcbench.proofs.arguments.Request.from_words.Goals as goal
 
 -- two words, by their places
@@ -13,19 +13,45 @@ map-pair f (a ∷ []) x y two first second = absurd (omega arith)
 map-pair f (a ∷ b ∷ []) x y two first second = let e : x ≡ a = first in let h : y ≡ b = second in cc
 map-pair f (a ∷ b ∷ d ∷ more) x y two first second = absurd (omega arith)
 
--- two words with a number that no core may have ask for nothing
-no_core : (words : List (List ℕ)) (kind text bytes : List ℕ) (size : ℕ) → words ≡ kind ∷ text ∷ [] → bytes ≡ text → IsNumber bytes size → (1 ≤ size → 1000 < size) → (request : Request) → ¬ (Asks words request)
-no_core words kind text bytes size are same is out (Core owners) asks =
-    let texts : decimal size ≡ decimal owners = cc in
-    let sizes = decimal_injective size owners (omega arith) (omega arith) texts in
-    omega arith
+-- two words, the second a number, tell which word is the first and which number the second
+asked_kind : (words : List (List ℕ)) (kind text bytes asked : List ℕ) (size n : ℕ) → words ≡ kind ∷ text ∷ [] → bytes ≡ text → IsNumber bytes size → words ≡ asked ∷ decimal n ∷ [] → n ≤ 1000 → (kind ≡ asked) × (size ≡ n)
+asked_kind words kind text bytes asked size n are same is asks small =
+    let kinds : kind ≡ asked = cc in
+    let texts : decimal size ≡ decimal n = cc in
+    (kinds, decimal_injective size n (omega arith) (omega arith) texts)
+
+core_is_no_table : codes "core" ≢ codes "table"
+core_is_no_table e = let lengths = ap length e in omega (arith, lengths)
+
+-- a number of owners that no core may have asks for nothing
+no_core : (words : List (List ℕ)) (kind text bytes : List ℕ) (size : ℕ) → words ≡ kind ∷ text ∷ [] → kind ≡ codes "core" → bytes ≡ text → IsNumber bytes size → (1 ≤ size → 1000 < size) → (request : Request) → ¬ (Asks words request)
+no_core words kind text bytes size are core same is out (Core owners) asks =
+    let found = asked_kind words kind text bytes _ size owners are same is asks.0 asks.2 in
+    omega (arith, found.1)
+no_core words kind text bytes size are core same is out (Table slots) asks =
+    let found = asked_kind words kind text bytes _ size slots are same is asks.0 asks.1 in
+    core_is_no_table (sym core ∙ found.0)
+
+-- a number of slots that no table may have asks for nothing
+no_table : (words : List (List ℕ)) (kind text bytes : List ℕ) (size : ℕ) → words ≡ kind ∷ text ∷ [] → kind ≡ codes "table" → bytes ≡ text → IsNumber bytes size → 1000 < size → (request : Request) → ¬ (Asks words request)
+no_table words kind text bytes size are table same is out (Core owners) asks =
+    let found = asked_kind words kind text bytes _ size owners are same is asks.0 asks.2 in
+    core_is_no_table (sym found.0 ∙ table)
+no_table words kind text bytes size are table same is out (Table slots) asks =
+    let found = asked_kind words kind text bytes _ size slots are same is asks.0 asks.1 in
+    omega (arith, found.1)
 
 pub returns-in_default-as_str-clause-wrong : goal.returns-in_default-as_str-clause-wrong
 returns-in_default-as_str-clause-wrong g c =
     let are = map-pair g.S.AsStr.text c.args.words.now c.kind-item.result c.size-item.result (omega arith) c.kind-item.is c.size-item.is in
-    no_core _ _ _ _ _ are (c.as_bytes.ensures.value ∙ c.as_str.ensures) c.in_ok-size.ensures.number (λ some. omega arith)
+    no_core _ _ _ _ _ are (sym c.as_str-2.ensures ∙ c.in-core.is) (c.as_bytes.ensures.value ∙ c.as_str.ensures) c.in_ok-size.ensures.number (λ some. omega arith)
 
 pub returns-in_default-as_str-2-clause-wrong : goal.returns-in_default-as_str-2-clause-wrong
 returns-in_default-as_str-2-clause-wrong g c =
     let are = map-pair g.S.AsStr.text c.args.words.now c.kind-item.result c.size-item.result (omega arith) c.kind-item.is c.size-item.is in
-    no_core _ _ _ _ _ are (c.as_bytes.ensures.value ∙ c.as_str.ensures) c.in_ok-size.ensures.number (λ some. omega arith)
+    no_core _ _ _ _ _ are (sym c.as_str-2.ensures ∙ c.in-core.is) (c.as_bytes.ensures.value ∙ c.as_str.ensures) c.in_ok-size.ensures.number (λ some. omega arith)
+
+pub returns-in_default-as_str-3-clause-wrong : goal.returns-in_default-as_str-3-clause-wrong
+returns-in_default-as_str-3-clause-wrong g c =
+    let are = map-pair g.S.AsStr.text c.args.words.now c.kind-item.result c.size-item.result (omega arith) c.kind-item.is c.size-item.is in
+    no_table _ _ _ _ _ are (sym c.as_str-2.ensures ∙ c.in-table.is) (c.as_bytes.ensures.value ∙ c.as_str.ensures) c.in_ok-size.ensures.number c.if-size-le-MOST_SLOTS.false

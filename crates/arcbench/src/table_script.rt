@@ -1,0 +1,91 @@
+//! Scripts of `table`: their lines are commands on a table of handles, and what its slots read.
+ghost use Rattle.std.specs.Prelude.{◌≡◌, IfErr, IfSome, IfNone, slice_get};
+ghost use Rattle.std.specs.Option.{option_flatten};
+ghost use Rattle.arcbench.specs.declared.table_line.TableLine.{TableLine};
+ghost use Rattle.arcbench.specs.Fault.{IsFaultOfRun};
+ghost use Rattle.arcbench.specs.TableAnswer.{IsAnswered, reading_words, reply_words};
+ghost use Rattle.arcbench.specs.TableLine.{IsTableLine};
+
+use crate::fault::Fault;
+use crate::script;
+use crate::script::{Answer, Interpreter};
+use crate::table_line::{TableLine, read_table_line};
+use servo_arc::table::{Reply, Table};
+use std::alloc::Global;
+use std::io::Write;
+
+pub fn run<W: Write>(
+    alloc: Global,
+    slots: usize,
+    script: &[u8],
+    output: &mut W,
+) -> Result<(), Fault>
+    ensures { IfErr result IsFaultOfRun }
+{
+    let table = Table::new(alloc, slots).map_err(|_| Fault::Memory)?;
+    let mut handles = Handles { alloc, table };
+    script::run(alloc, script, &mut handles, output)
+}
+
+/// A table, and where its commands take their memory.
+#[derive(Drop)]
+struct Handles {
+    alloc: Global,
+    table: Table<u32>,
+}
+
+impl Interpreter for Handles {
+    fn answer_to(&mut self, line: &[u8]) -> Option<Answer>
+        ensures answered { IfSome result (λ answer. (asked : TableLine) × IsTableLine line.now asked ×
+            IsAnswered asked self.old.table answer.words.now answer.number self.new.table) }
+        ensures faulty { IfNone result ((asked : TableLine) → ¬ (IsTableLine line.now asked)) }
+        ensures unchanged { IfNone result (self.new ≡ self.old) }
+    {
+        let line = read_table_line(line)?;
+        Some(self.answer(line))
+    }
+}
+
+impl Handles {
+    fn answer(&mut self, line: TableLine) -> Answer
+        ensures { IsAnswered line self.old.table result.words.now result.number self.new.table }
+    {
+        match line {
+            TableLine::Serve(command) => printed(self.table.serve(self.alloc, command)),
+            TableLine::Get(slot) => reading(&self.table, slot),
+        }
+    }
+}
+
+fn printed(reply: Reply) -> Answer
+    ensures words { result.words.now ≡ reply_words reply }
+    ensures number { result.number ≡ None }
+{
+    let words = match reply {
+        Reply::Done => "done",
+        Reply::Is(true) => "is true",
+        Reply::Is(false) => "is false",
+        Reply::Shared => "shared",
+        Reply::Empty => "empty",
+        Reply::NoSlot => "no slot",
+        Reply::Refused => "refused",
+    };
+    Answer {
+        words,
+        number: None,
+    }
+}
+
+fn reading(table: &Table<u32>, slot: usize) -> Answer
+    ensures words { result.words.now ≡ reading_words (slice_get table.now slot) }
+    ensures number { result.number ≡ option_flatten (slice_get table.now slot) }
+{
+    match table.get(slot) {
+        Some(value) => Answer {
+            words: "value ",
+            number: Some(u64::from(*value)),
+        },
+        None if slot < table.slots() => printed(Reply::Empty),
+        None => printed(Reply::NoSlot),
+    }
+}

@@ -1,5 +1,6 @@
 -- The equality of unions keeps the laws that those of the values keep.
 use Rattle.std.specs.Prelude.{◌≡◌, Bool, true, false, refl}
+use Rattle.std.proofs.Common.{true≢false, sym}
 use Rattle.std.specs.Cmp.{IsPartialEquivalence, IsEquivalence, equiv, partial_equiv_from_equiv}
 use Rattle.handles.specs.Unions.{Union, First, Second, union_eq}
 
@@ -13,8 +14,8 @@ module _ {A B : Type 0} {R : A → A → Bool} {S : B → B → Bool} (r : IsPar
   chained : (u v w : Union A B) → union_eq R S u v ≡ true → union_eq R S v w ≡ true → union_eq R S u w ≡ true
   chained (First a) (First x) (First p) h k = r.trans a x p h k
   chained (First a) (First x) (Second q) h k = k
-  chained (First a) (Second y) w h k = absurd cc
-  chained (Second b) (First x) w h k = absurd cc
+  chained (First a) (Second y) w h k = absurd (true≢false (sym h))
+  chained (Second b) (First x) w h k = absurd (true≢false (sym h))
   chained (Second b) (Second y) (First p) h k = k
   chained (Second b) (Second y) (Second q) h k = s.trans b y q h k
 

@@ -1,7 +1,5 @@
 // What a handle has by its value: equality, order, hash and texts.
 ghost use Rattle.std.specs.Cmp.{on_equiv, on_total, on_po};
-ghost use Rattle.std.specs.Cmp.Rules.{hashing};
-ghost use Rattle.std.proofs.Common.{rules};
 
 use crate::arc::Arc;
 use std::cmp::Ordering;
@@ -41,7 +39,7 @@ impl<T: Send + Sync + Ord> Ord for Arc<T> {
 impl<T: Send + Sync + Hash> Hash for Arc<T> {
     ghost hash_input = { λ a. T.hash_input a.value };
 
-    ghost respects_eq = { Prim.search (hashing, rules) };
+    ghost respects_eq = { λ a b. T.respects_eq a.value b.value };
 
     fn hash<H: Hasher>(&self, state: &mut H) {
         (**self).hash(state)

@@ -44,7 +44,7 @@ struct Row {
 }
 
 impl Row {
-    fn check(&self, rt: &impl Abort, alloc: Global, kind: &str) -> Result<(), AllocError> {
+    fn check(&self, rt: &impl Abort, alloc: Global, kind: &'static str) -> Result<(), AllocError> {
         let name = self.name;
         let script = lines_of(alloc, self.script)?;
         let answers = lines_of(alloc, self.answers)?;

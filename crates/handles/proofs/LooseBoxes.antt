@@ -22,7 +22,7 @@ use Rattle.core.proofs.alloc.Calls.{Al, handle_tells}
 use Rattle.core.proofs.cell.Inside.{Good}
 use Rattle.std_alloc.specs.Box.Ownership.{box_owns}
 use Rattle.std_alloc.proofs.ResultValues.{and_tt}
-use Rattle.handles.specs.contracts.block.loose.Loose as loose
+use Rattle.handles.specs.contracts.block.Loose as loose
 
 abbrev pub pair_val : Val → Val → Val
 pair_val v w = vstruct (vcons v (vcons w vnil))

@@ -1,19 +1,20 @@
 // The block of an `Arc`, and each step that is made on it through a raw pointer.
 ghost use Rattle.std.specs.Prelude.{◌≡◌, ◌≢◌, ℕ, ◌+◌, ◌<◌, Bool, true, false, IfOk, IfErr};
-ghost use Rattle.counting_word.specs.CountingWord.{greatest_count};
+ghost use types.Logic.{sem};
+ghost use Rattle.counting_word.specs.CountingWord.{greatest_count, is_one_handle};
+ghost use Rattle.std_alloc.specs.Box.Ownership.{box_owns};
 ghost use Rattle.handles.specs.Blocks.{handle_owns, handle_shares, gain_owns};
 ghost use Rattle.handles.specs.Rights.{Right, nothing, a_handle, to_lower, whole_block, coded_right, right_by_read, right_by_raise, right_by_last_read, right_by_lower, right_by_claim, IsWholeBlock};
 
 mod lend;
-pub(crate) mod loose;
 
 use atomic_table::exchange;
 use counting_word::{DropPlan, MARK, is_last, plan_drop};
-use loose::Loose;
-use std::alloc::{AllocFailed, Global};
+use std::alloc::{AllocFailed, Allocator, Global};
 use std::marker::{Brand, Model};
 use std::sync::atomic::Ordering::SeqCst;
 use std::sync::atomic::raw;
+use std_alloc::room::Vacant;
 
 #[derive(Drop)]
 pub(crate) struct Block<T> {
@@ -50,6 +51,45 @@ impl<T: Drop> Block<T> {
                 Err(value)
             }
         }
+    }
+}
+
+// A box as its pointer.
+pub(crate) struct Loose<T, A: Allocator> {
+    at: *mut T,
+    alloc: A,
+    pub(crate) ghost value: { T },
+}
+
+impl<T, A: Allocator> Model for Loose<T, A> {
+    ghost also_owns = { λ l. box_owns (A.dealloc_token l.alloc) T.row l.at l.value };
+}
+
+impl<T: Drop, A: Allocator> Loose<T, A> {
+    pub(crate) fn of(boxed: Box<T, A>) -> Loose<T, A>
+        ensures { result.value ≡ boxed.value }
+    {
+        let (at, alloc) = Box::into_raw_with_allocator(boxed);
+        Loose { at, alloc }
+    }
+
+    pub(crate) fn into_box(self) -> Box<T, A>
+        ensures { result.value ≡ self.value }
+    {
+        let Loose { at, alloc } = self;
+        unsafe { Box::from_raw(alloc, at) }
+    }
+}
+
+impl<T, A: Allocator> Loose<T, A> {
+    pub(crate) fn fill(room: Vacant<T, A>, value: T) -> Loose<T, A>
+        ensures { result.value ≡ value }
+    {
+        let Vacant { ptr, alloc } = room;
+        unsafe {
+            ptr.write(value);
+        }
+        Loose { at: ptr, alloc }
     }
 }
 
@@ -100,6 +140,15 @@ impl<T> Handle<T> {
     #[inline]
     pub(crate) fn word(&self) -> u64
         requires { self.now.sole ≡ false }
+    {
+        let block = self.block;
+        unsafe { raw::load::<Brand>(&raw const (*block).word, SeqCst) }
+    }
+
+    // Reads the word, by which the handle knows whether it is the only one.
+    #[inline]
+    fn claim(&mut self) -> u64
+        ensures { self.new ≡ record self.old { sole = is_one_handle result } }
     {
         let block = self.block;
         unsafe { raw::load::<Brand>(&raw const (*block).word, SeqCst) }
@@ -168,6 +217,20 @@ impl<T> Handle<T> {
         let Handle { block } = self;
         let word = unsafe { raw::load::<Brand>(&raw const (*block).word, SeqCst) };
         (word, Gain { block })
+    }
+}
+
+impl<T> Handle<T> {
+    ghost use Rattle.handles.specs.BlockWriteBack.{LendsSole};
+
+    #[inline]
+    pub(crate) fn value_mut(&mut self) -> &mut T
+        requires { self.old.sole ≡ true }
+        ensures* writes_back { sem 𝓛 (LendsSole T.row self.entry result) }
+        ensures value { result.now ≡ self.old.value }
+    {
+        let block = self.block;
+        unsafe { &mut (*block.cast_mut()).value }
     }
 }
 

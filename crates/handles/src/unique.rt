@@ -3,8 +3,7 @@ ghost use Rattle.std.specs.Prelude.{◌≡◌, IfOk, IfErr};
 ghost use types.Logic.{sem};
 
 use crate::arc::Arc;
-use crate::block::loose::Loose;
-use crate::block::{Block, Handle};
+use crate::block::{Block, Handle, Loose};
 use std::alloc::{AllocError, Global};
 use std::marker::Model;
 use std::ops::{Deref, DerefMut};

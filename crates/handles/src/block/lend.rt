@@ -1,37 +1,13 @@
 // Writing through the only handle of a block.
 ghost use Rattle.std.specs.Prelude.{◌≡◌, ◌⊎◌, IfSome, OnOk, OnErr, true, false};
 ghost use types.Logic.{sem};
-ghost use Rattle.counting_word.specs.CountingWord.{is_one_handle};
-ghost use Rattle.handles.specs.BlockWriteBack.{LendsIfAlone, LendsSole};
+ghost use Rattle.handles.specs.BlockWriteBack.{LendsIfAlone};
 
-use super::loose::Loose;
-use super::{Block, Handle};
+use super::{Block, Handle, Loose};
 use counting_word::is_alone;
 use std::alloc::{AllocError, Global};
-use std::marker::Brand;
-use std::sync::atomic::Ordering::SeqCst;
-use std::sync::atomic::raw;
 
 impl<T> Handle<T> {
-    // Reads the word, by which the handle knows whether it is the only one.
-    #[inline]
-    fn claim(&mut self) -> u64
-        ensures { self.new ≡ record self.old { sole = is_one_handle result } }
-    {
-        let block = self.block;
-        unsafe { raw::load::<Brand>(&raw const (*block).word, SeqCst) }
-    }
-
-    #[inline]
-    pub(crate) fn value_mut(&mut self) -> &mut T
-        requires { self.old.sole ≡ true }
-        ensures* writes_back { sem 𝓛 (LendsSole T.row self.entry result) }
-        ensures value { result.now ≡ self.old.value }
-    {
-        let block = self.block;
-        unsafe { &mut (*block.cast_mut()).value }
-    }
-
     #[inline]
     fn is_sole(&mut self) -> bool
         ensures { self.new ≡ record self.old { sole = result } }

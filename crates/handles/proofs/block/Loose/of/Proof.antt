@@ -20,10 +20,10 @@ use Rattle.core.proofs.alloc.Calls.{Goes-blank}
 use Rattle.std_alloc.specs.Box.Ownership.{box_owns}
 use Rattle.std_alloc.proofs.BoxSteps.Form as box
 use Rattle.std_alloc.proofs.BoxSteps.Steps.{box_out, box_in}
-use Rattle.handles.specs.contracts.block.loose.Loose.of.{ended, clauses}
-use Rattle.handles.specs.contracts.block.loose.Loose.of.Key.{name as #self}
-use Rattle.handles.proofs.block.loose.Loose.of.Statement.{statement}
-use Rattle.handles.proofs.block.loose.Loose.of.Code as code
+use Rattle.handles.specs.contracts.block.Loose.of.{ended, clauses}
+use Rattle.handles.specs.contracts.block.Loose.of.Key.{name as #self}
+use Rattle.handles.proofs.block.Loose.of.Statement.{statement}
+use Rattle.handles.proofs.block.Loose.of.Code as code
 
 pub of_spec : {M : Type 1} → statement M
 of_spec 𝓤 𝓛 𝓜 𝓡 wired T A L LA g d dx dd allocator glue glued =

@@ -11,10 +11,10 @@ use Rattle.std_alloc.proofs.BoxSteps.Steps.{el_tells, el_in}
 use Rattle.std_alloc.proofs.OfVacant.{Vacant, vacant_val, vacant_typed, Vacant-had}
 use Rattle.std_alloc.proofs.RawLayout.{as_written}
 use Rattle.handles.proofs.LooseBoxes.{pair_val, loose-Good, loose_shuts}
-use Rattle.handles.specs.contracts.block.loose.Loose.fill.{ended, clauses}
-use Rattle.handles.specs.contracts.block.loose.Loose.fill.Key.{name as #self}
-use Rattle.handles.proofs.block.loose.Loose.fill.Statement.{statement}
-use Rattle.handles.proofs.block.loose.Loose.fill.Code as code
+use Rattle.handles.specs.contracts.block.Loose.fill.{ended, clauses}
+use Rattle.handles.specs.contracts.block.Loose.fill.Key.{name as #self}
+use Rattle.handles.proofs.block.Loose.fill.Statement.{statement}
+use Rattle.handles.proofs.block.Loose.fill.Code as code
 
 pub fill_spec : {M : Type 1} → statement M
 fill_spec 𝓤 𝓛 𝓜 𝓡 wired T A L LA g d dd allocator glued =

@@ -14,10 +14,10 @@ use Rattle.handles.proofs.LooseBoxes.{pair_val, LooseRow, loose-Good, loose_open
 use Rattle.core.proofs.alloc.Calls.{Goes-blank}
 use Rattle.std_alloc.proofs.BoxSteps.Form as box
 use Rattle.std_alloc.proofs.BoxSteps.Steps.{box_out, box_in}
-use Rattle.handles.specs.contracts.block.loose.Loose.into_box.{ended, clauses}
-use Rattle.handles.specs.contracts.block.loose.Loose.into_box.Key.{name as #self}
-use Rattle.handles.proofs.block.loose.Loose.into_box.Statement.{statement}
-use Rattle.handles.proofs.block.loose.Loose.into_box.Code as code
+use Rattle.handles.specs.contracts.block.Loose.into_box.{ended, clauses}
+use Rattle.handles.specs.contracts.block.Loose.into_box.Key.{name as #self}
+use Rattle.handles.proofs.block.Loose.into_box.Statement.{statement}
+use Rattle.handles.proofs.block.Loose.into_box.Code as code
 
 pub into_box_spec : {M : Type 1} → statement M
 into_box_spec 𝓤 𝓛 𝓜 𝓡 wired T A L LA g d dx dd allocator glue glued =

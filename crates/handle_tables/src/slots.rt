@@ -1,5 +1,5 @@
 //! What each command does to the slots.
-ghost use Rattle.std.specs.Prelude.{◌≡◌, ◌<◌, IfOk, None, length, replicate, slice_set};
+ghost use Rattle.std.specs.Prelude.{◌≡◌, ◌<◌, ◌↔◌, IfErr, IfOk, IsOk, None, OnErr, OnOk, Some, length, replicate, slice_set};
 ghost use Rattle.std.specs.Option.{option_map};
 ghost use Rattle.handle_tables.specs.Copies.{CopiesAreEqual};
 ghost use Rattle.handle_tables.specs.Values.{IsServed, arc_value, values_of};
@@ -8,17 +8,29 @@ use crate::commands::{Command, Reply};
 use handles::arc::Arc;
 use std::alloc::{AllocError, Global};
 
-pub(crate) fn empty<T: Send + Sync + Drop>(
-    alloc: Global,
-    slots: usize,
-) -> Result<Vec<Option<Arc<T>>>, AllocError>
-    ensures { IfOk result (λ all. values_of arc_value all.items ≡ replicate slots None) }
+pub(crate) fn empty<H>(alloc: Global, slots: usize) -> Result<Vec<Option<H>>, AllocError>
+    ensures { IfOk result (λ all. all.items ≡ replicate slots None) }
 {
     let mut all = Vec::with_capacity(alloc, slots)?;
     for _ in 0..slots {
         all.push_reserved(None);
     }
     Ok(all)
+}
+
+/// A slot that is not there leaves the handle with the caller.
+#[inline]
+pub(crate) fn put<H: Drop>(slots: &mut [Option<H>], i: usize, handle: H) -> Result<(), H>
+    ensures there { IsOk result ↔ (i < length slots.old) }
+    ensures set { OnOk result (slots.new ≡ slice_set slots.old i (Some handle)) }
+    ensures back { IfErr result (λ back. back ≡ handle) }
+    ensures kept { OnErr result (slots.new ≡ slots.old) }
+{
+    if i >= slots.len() {
+        return Err(handle);
+    }
+    slots[i] = Some(handle);
+    Ok(())
 }
 
 /// Changes a slot that is there. A handle that stood in it ends.

@@ -1,5 +1,5 @@
 //! A table of `Arc`s.
-ghost use Rattle.std.specs.Prelude.{◌≡◌, IfOk, IsTrue, List, None, OnErr, Option, length, replicate, slice_get};
+ghost use Rattle.std.specs.Prelude.{◌≡◌, ◌<◌, ◌↔◌, IfErr, IfOk, IsOk, IsTrue, List, None, OnErr, OnOk, Option, Some, length, replicate, slice_get, slice_set};
 ghost use Rattle.std.specs.List.{list_any};
 ghost use Rattle.std.specs.Option.{option_copied, option_flatten};
 ghost use Rattle.handle_tables.specs.Copies.{CopiesAreEqual, is_own};
@@ -27,7 +27,7 @@ impl<T: Send + Sync> Model for Table<T> {
     ghost view = { λ t. values_of arc_value t.slots.items };
 }
 
-impl<T: Send + Sync + PartialEq + Drop> Table<T> {
+impl<T: Send + Sync + Drop> Table<T> {
     /// A table with that many slots, all of them empty.
     pub fn new(alloc: Global, slots: usize) -> Result<Table<T>, AllocError>
         ensures { IfOk result (λ table. table ≡ replicate slots None) }
@@ -56,6 +56,19 @@ impl<T: Send + Sync + PartialEq + Drop> Table<T> {
         }
     }
 
+    /// Puts the handle in a slot, whose old handle ends. Where there is no such slot the handle comes back.
+    #[inline]
+    pub fn put(&mut self, i: usize, a: Arc<T>) -> Result<(), Arc<T>>
+        ensures there { IsOk result ↔ (i < length self.old) }
+        ensures set { OnOk result (self.new ≡ slice_set self.old i (Some a.value)) }
+        ensures back { IfErr result (λ back. back.value ≡ a.value) }
+        ensures kept { OnErr result (self.new ≡ self.old) }
+    {
+        slots::put(&mut self.slots, i, a)
+    }
+}
+
+impl<T: Send + Sync + PartialEq + Drop> Table<T> {
     #[inline]
     fn serve_plain(&mut self, alloc: Global, command: PlainCommand<T>) -> Reply
         ensures { IsAmong (plain_outcomes_of T.eq command self.old) result self.new }

@@ -4,6 +4,8 @@ use crate::table::{Command, PlainCommand, Reply, Table};
 use std::alloc::{AllocError, Global};
 use std::test::Fail;
 
+mod put;
+
 #[test]
 fn a_shared_value_is_copied_before_it_is_written(rt: HostRuntime) -> Result<(), Fail> {
     let mut table: Table<u32> = Table::new(rt.alloc(), 3)?;

@@ -1,0 +1,46 @@
+//! Handles that are cloned and dropped on one thread.
+use crate::fault::Fault;
+use servo_arc::Arc;
+use std::alloc::Global;
+
+/// The value of the one block that is cloned.
+pub const VALUE: u64 = 7;
+
+/// The clones that `clone_hold` holds at once.
+const HELD: usize = 64;
+
+/// So many clones, one after the other, and the sum of what they showed.
+pub fn clone_often(handle: &Arc<u64>, iterations: u64) -> Result<u64, Fault> {
+    let mut sum = 0u64;
+    for _ in 0..iterations {
+        let again: Arc<u64> = handle.clone()?;
+        sum = sum.wrapping_add(*again);
+    }
+    Ok(sum)
+}
+
+pub fn clone_drop(alloc: Global, iterations: u64) -> Result<u64, Fault> {
+    let handle = Arc::new(alloc, VALUE).map_err(|_| Fault::Refused)?;
+    clone_often(&handle, iterations)
+}
+
+pub fn marked_clone(alloc: Global, iterations: u64) -> Result<u64, Fault> {
+    let handle = Arc::new_leaked(alloc, VALUE).map_err(|_| Fault::Refused)?;
+    clone_often(&handle, iterations)
+}
+
+pub fn clone_hold(alloc: Global, iterations: u64) -> Result<u64, Fault> {
+    let handle = Arc::new(alloc, VALUE).map_err(|_| Fault::Refused)?;
+    let mut held: Vec<Arc<u64>> = Vec::with_capacity(alloc, HELD)?;
+    let mut sum = 0u64;
+    for _ in 0..iterations {
+        for _ in 0..HELD {
+            held.push(handle.clone()?)?;
+        }
+        for again in held.iter() {
+            sum = sum.wrapping_add(**again);
+        }
+        held.clear();
+    }
+    Ok(sum)
+}

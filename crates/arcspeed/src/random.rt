@@ -1,0 +1,31 @@
+//! Numbers that look random, the same in each run and for each pointer that is measured.
+ghost use Rattle.std.specs.Prelude.{◌<◌};
+
+/// A linear congruential sequence. Its upper half is the better one.
+#[derive(Clone, Copy)]
+pub struct Random {
+    pub state: u64,
+}
+
+impl Random {
+    pub fn new() -> Random {
+        Random { state: 1 }
+    }
+
+    /// The next state.
+    pub fn next(&mut self) -> u64 {
+        self.state = self
+            .state
+            .wrapping_mul(6364136223846793005)
+            .wrapping_add(1442695040888963407);
+        self.state
+    }
+
+    /// A number below the bound, by the next state.
+    pub fn below(&mut self, bound: usize) -> usize
+        requires { 0 < bound }
+        ensures { result < bound }
+    {
+        (self.next() >> 33) as usize % bound
+    }
+}

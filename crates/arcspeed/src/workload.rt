@@ -1,0 +1,53 @@
+//! What can be measured.
+ghost use Rattle.std.specs.Prelude.{◌≡◌, ◌≢◌, IfSome, IfNone};
+
+/// A workload, named after the calls that it repeats.
+#[derive(Clone, Copy, Debug, PartialEq, Eq)]
+pub enum Workload {
+    NewDrop,
+    Replace,
+    CloneDrop,
+    CloneHold,
+    DerefSum,
+    MakeMutUnique,
+    MakeMutShared,
+    GetMutUnique,
+    Contend1,
+    Contend2,
+    Contend4,
+    HeaderBuild,
+    HeaderSum,
+    MarkedClone,
+    MarkedClone4,
+    UnionClone,
+}
+
+impl Workload {
+    ghost use Rattle.arcspeed.specs.Names.{name_of};
+
+    /// The workload of that name.
+    pub fn named(name: &str) -> Option<Workload>
+        ensures named { IfSome result (λ workload. name.now ≡ name_of workload) }
+        ensures unknown { IfNone result ((workload : Workload) → name.now ≢ name_of workload) }
+    {
+        Some(match name {
+            "new-drop" => Workload::NewDrop,
+            "replace" => Workload::Replace,
+            "clone-drop" => Workload::CloneDrop,
+            "clone-hold" => Workload::CloneHold,
+            "deref-sum" => Workload::DerefSum,
+            "make-mut-unique" => Workload::MakeMutUnique,
+            "make-mut-shared" => Workload::MakeMutShared,
+            "get-mut-unique" => Workload::GetMutUnique,
+            "contend-1" => Workload::Contend1,
+            "contend-2" => Workload::Contend2,
+            "contend-4" => Workload::Contend4,
+            "header-build" => Workload::HeaderBuild,
+            "header-sum" => Workload::HeaderSum,
+            "marked-clone" => Workload::MarkedClone,
+            "marked-clone-4" => Workload::MarkedClone4,
+            "union-clone" => Workload::UnionClone,
+            _ => return None,
+        })
+    }
+}

@@ -1,0 +1,38 @@
+//! Values that are written through handles.
+use crate::cloned::VALUE;
+use crate::fault::Fault;
+use servo_arc::Arc;
+use std::alloc::Global;
+
+pub fn make_mut_unique(alloc: Global, iterations: u64) -> Result<u64, Fault> {
+    let mut handle = Arc::new(alloc, VALUE).map_err(|_| Fault::Refused)?;
+    for _ in 0..iterations {
+        let value = Arc::make_mut(&mut handle, alloc)?;
+        *value = value.wrapping_add(3);
+    }
+    Ok(*handle)
+}
+
+pub fn get_mut_unique(alloc: Global, iterations: u64) -> Result<u64, Fault> {
+    let mut handle = Arc::new(alloc, VALUE).map_err(|_| Fault::Refused)?;
+    for _ in 0..iterations {
+        if let Some(value) = Arc::get_mut(&mut handle) {
+            *value = value.wrapping_add(3);
+        }
+    }
+    Ok(*handle)
+}
+
+pub fn make_mut_shared(alloc: Global, iterations: u64) -> Result<u64, Fault> {
+    let values = [1u64, 2, 3, 4, 5, 6, 7, 8];
+    let handle = Arc::new(alloc, values).map_err(|_| Fault::Refused)?;
+    let mut sum = 0u64;
+    for i in 0..iterations {
+        let mut own: Arc<[u64; 8]> = handle.clone()?;
+        let place = (i % 8) as usize;
+        let values = Arc::make_mut(&mut own, alloc)?;
+        values[place] = values[place].wrapping_add(i);
+        sum = sum.wrapping_add(values[place]);
+    }
+    Ok(sum)
+}

@@ -1,0 +1,688 @@
+//! Workloads on counted pointers, each run over several implementations.
+//!
+//!     bench IMPLEMENTATION WORKLOAD ITERATIONS     prints a checksum
+//!     bench table [REPEATS]                        prints nanoseconds a unit: medians, the implementations in turn
+//!     bench list                                   prints WORKLOAD UNITS ITERATIONS IMPLEMENTATIONS, a line each
+//!
+//! An implementation is `servo` (the crate that was ported), `std` (the standard library's `Arc`) or `word`: a pointer
+//! of this file's own that makes the port's four steps, each `SeqCst`, in Rust, to tell what they cost by themselves.
+
+use std::env;
+use std::process;
+use std::thread;
+use std::time::Instant;
+
+/// Knuth's generator. Every implementation of the workloads uses it, so that checksums agree.
+fn next(state: u64) -> u64 {
+    state
+        .wrapping_mul(6364136223846793005)
+        .wrapping_add(1442695040888963407)
+}
+
+/// A number below `bound` from the state's upper half.
+fn pick(state: u64, bound: usize) -> usize {
+    (state >> 33) as usize % bound
+}
+
+const HANDLES: u64 = 1_000_000; // of deref-sum
+const SLICES: usize = 1024; // of header-sum
+const ITEMS: u32 = 16; // of header-build and header-sum
+const RING: usize = 64; // handles kept by replace
+
+/// A counted pointer by the port's rules: one word, bit 63 the mark, a clone by a load and a compare-exchange that is
+/// tried again, a drop by a load and a subtraction.
+mod word {
+    use std::ops::Deref;
+    use std::sync::atomic::{AtomicU64, Ordering::SeqCst};
+
+    pub const MARK: u64 = 1 << 63;
+    pub const MAX_REFCOUNT: u64 = MARK - 1;
+
+    struct Block<T> {
+        word: AtomicU64,
+        value: T,
+    }
+
+    pub struct Arc<T> {
+        at: *mut Block<T>,
+    }
+
+    unsafe impl<T: Send + Sync> Send for Arc<T> {}
+    unsafe impl<T: Send + Sync> Sync for Arc<T> {}
+
+    #[derive(Debug)]
+    pub struct Full;
+
+    impl<T> Arc<T> {
+        #[inline]
+        pub fn new(value: T) -> Arc<T> {
+            Arc {
+                at: Box::into_raw(Box::new(Block {
+                    word: AtomicU64::new(1),
+                    value,
+                })),
+            }
+        }
+
+        #[inline]
+        fn word(&self) -> &AtomicU64 {
+            unsafe { &(*self.at).word }
+        }
+
+        #[inline]
+        pub fn try_clone(&self) -> Result<Arc<T>, Full> {
+            let mut seen = self.word().load(SeqCst);
+            loop {
+                if seen & MARK != 0 {
+                    return Ok(Arc { at: self.at });
+                }
+                if seen == MAX_REFCOUNT {
+                    return Err(Full);
+                }
+                match self.word().compare_exchange(seen, seen + 1, SeqCst, SeqCst) {
+                    Ok(_) => return Ok(Arc { at: self.at }),
+                    Err(now) => seen = now,
+                }
+            }
+        }
+
+        #[inline]
+        pub fn is_unique(&self) -> bool {
+            self.word().load(SeqCst) == 1
+        }
+
+        #[inline]
+        pub fn get_mut(this: &mut Arc<T>) -> Option<&mut T> {
+            if this.is_unique() {
+                Some(unsafe { &mut (*this.at).value })
+            } else {
+                None
+            }
+        }
+
+        #[inline]
+        pub fn make_mut(this: &mut Arc<T>) -> &mut T
+        where
+            T: Clone,
+        {
+            if !this.is_unique() {
+                *this = Arc::new((**this).clone());
+            }
+            unsafe { &mut (*this.at).value }
+        }
+
+        #[inline]
+        pub fn mark_as_intentionally_leaked(&self) {
+            self.word().fetch_or(MARK, SeqCst);
+        }
+    }
+
+    impl<T> Clone for Arc<T> {
+        #[inline]
+        fn clone(&self) -> Arc<T> {
+            self.try_clone().expect("the handle limit is reached")
+        }
+    }
+
+    impl<T> Deref for Arc<T> {
+        type Target = T;
+
+        #[inline]
+        fn deref(&self) -> &T {
+            unsafe { &(*self.at).value }
+        }
+    }
+
+    impl<T> Drop for Arc<T> {
+        #[inline]
+        fn drop(&mut self) {
+            if self.word().load(SeqCst) & MARK != 0 {
+                return;
+            }
+            if self.word().fetch_sub(1, SeqCst) == 1 {
+                drop(unsafe { Box::from_raw(self.at) });
+            }
+        }
+    }
+
+    /// Two requests for memory, as in the port: the items, then the block.
+    pub struct HeaderSlice<H> {
+        pub header: H,
+        items: Box<[u32]>,
+    }
+
+    impl<H> HeaderSlice<H> {
+        #[inline]
+        pub fn slice(&self) -> &[u32] {
+            &self.items
+        }
+
+        #[inline]
+        pub fn make(header: H, items: impl ExactSizeIterator<Item = u32>) -> Arc<HeaderSlice<H>> {
+            Arc::new(HeaderSlice {
+                header,
+                items: items.collect(),
+            })
+        }
+    }
+}
+
+/// The workloads that each counted pointer can run.
+macro_rules! shared_workloads {
+    ($name:ident, $($path:tt)+) => {
+        mod $name {
+            use super::*;
+            type Arc<T> = $($path)+<T>;
+
+            pub fn new_drop(n: u64) -> u64 {
+                let mut sum = 0u64;
+                for i in 0..n {
+                    let a = Arc::<u64>::new(i);
+                    sum = sum.wrapping_add(*a);
+                }
+                sum
+            }
+
+            pub fn replace(n: u64) -> u64 {
+                let mut ring: Vec<Arc<u64>> = (0..RING as u64).map(Arc::<u64>::new).collect();
+                let mut sum = 0u64;
+                for i in 0..n {
+                    let slot = &mut ring[i as usize % RING];
+                    sum = sum.wrapping_add(**slot);
+                    *slot = Arc::<u64>::new(i);
+                }
+                sum
+            }
+
+            fn clone_many(a: &Arc<u64>, n: u64) -> u64 {
+                let mut sum = 0u64;
+                for _ in 0..n {
+                    let b = a.clone();
+                    sum = sum.wrapping_add(*b);
+                }
+                sum
+            }
+
+            pub fn clone_drop(n: u64) -> u64 {
+                let a = Arc::<u64>::new(7);
+                clone_many(&a, n)
+            }
+
+            pub fn clone_hold(n: u64) -> u64 {
+                let a = Arc::<u64>::new(7);
+                let mut held: Vec<Arc<u64>> = Vec::with_capacity(RING);
+                let mut sum = 0u64;
+                for _ in 0..n {
+                    for _ in 0..RING {
+                        held.push(a.clone());
+                    }
+                    for b in held.iter() {
+                        sum = sum.wrapping_add(**b);
+                    }
+                    held.clear();
+                }
+                sum
+            }
+
+            fn sum_all(s: &[Arc<u64>]) -> u64 {
+                let mut sum = 0u64;
+                for a in s {
+                    sum = sum.wrapping_add(**a);
+                }
+                sum
+            }
+
+            pub fn deref_sum(n: u64) -> u64 {
+                let mut all: Vec<Arc<u64>> = (0..HANDLES).map(Arc::<u64>::new).collect();
+                let mut state = 1u64;
+                for i in 1..all.len() {
+                    state = next(state);
+                    all.swap(i, pick(state, i + 1));
+                }
+                let mut sum = 0u64;
+                for _ in 0..n {
+                    sum = sum.rotate_left(1).wrapping_add(sum_all(&all));
+                }
+                sum
+            }
+
+            pub fn make_mut_unique(n: u64) -> u64 {
+                let mut a = Arc::<u64>::new(7);
+                for _ in 0..n {
+                    let x = Arc::make_mut(&mut a);
+                    *x = x.wrapping_add(3);
+                }
+                *a
+            }
+
+            pub fn make_mut_shared(n: u64) -> u64 {
+                let a = Arc::<[u64; 8]>::new([1, 2, 3, 4, 5, 6, 7, 8]);
+                let mut sum = 0u64;
+                for i in 0..n {
+                    let mut b = a.clone();
+                    let x = Arc::make_mut(&mut b);
+                    let at = (i & 7) as usize;
+                    x[at] = x[at].wrapping_add(i);
+                    sum = sum.wrapping_add(x[at]);
+                }
+                sum
+            }
+
+            pub fn get_mut_unique(n: u64) -> u64 {
+                let mut a = Arc::<u64>::new(7);
+                for _ in 0..n {
+                    if let Some(x) = Arc::get_mut(&mut a) {
+                        *x = x.wrapping_add(3);
+                    }
+                }
+                *a
+            }
+
+            fn in_threads(threads: usize, a: &Arc<u64>, n: u64) -> u64 {
+                let mut sum = 0u64;
+                thread::scope(|s| {
+                    let all: Vec<_> = (0..threads)
+                        .map(|_| s.spawn(|| clone_many(a, n)))
+                        .collect();
+                    for t in all {
+                        sum = sum.wrapping_add(t.join().unwrap());
+                    }
+                });
+                sum
+            }
+
+            pub fn contend(threads: usize, n: u64) -> u64 {
+                let a = Arc::<u64>::new(7);
+                in_threads(threads, &a, n)
+            }
+
+            #[allow(dead_code)]
+            pub fn on_marked(a: Arc<u64>, threads: usize, n: u64) -> u64 {
+                if threads == 1 {
+                    clone_many(&a, n)
+                } else {
+                    in_threads(threads, &a, n)
+                }
+            }
+
+            #[derive(Clone)]
+            enum Either {
+                First(Arc<u64>),
+                Second(Arc<u32>),
+            }
+
+            impl Either {
+                fn read(&self) -> u64 {
+                    match self {
+                        Either::First(x) => **x,
+                        Either::Second(x) => **x as u64,
+                    }
+                }
+            }
+
+            #[allow(dead_code)]
+            pub fn union_clone(n: u64) -> u64 {
+                let all = [
+                    Either::First(Arc::<u64>::new(7)),
+                    Either::Second(Arc::<u32>::new(9)),
+                ];
+                let mut state = 1u64;
+                let mut sum = 0u64;
+                for _ in 0..n {
+                    state = next(state);
+                    let u = all[pick(state, 2)].clone();
+                    sum = sum.wrapping_add(u.read());
+                }
+                sum
+            }
+        }
+    };
+}
+
+shared_workloads!(servo, servo_arc::Arc);
+shared_workloads!(standard, std::sync::Arc);
+shared_workloads!(word_arc, word::Arc);
+
+/// The header slices: the three pointers build them in different ways.
+macro_rules! header_workloads {
+    ($name:ident, $slice:ty, |$header:ident, $items:ident| $make:expr, |$a:ident| $head:expr, |$b:ident| $read:expr) => {
+        mod $name {
+            use super::*;
+
+            fn make($header: u64, first: u32) -> $slice {
+                let $items = (0..ITEMS).map(move |k| k.wrapping_add(first));
+                $make
+            }
+
+            fn head($a: &$slice) -> u64 {
+                $head
+            }
+
+            fn items($b: &$slice) -> &[u32] {
+                $read
+            }
+
+            pub fn build(n: u64) -> u64 {
+                let mut sum = 0u64;
+                for i in 0..n {
+                    let a = make(i, i as u32);
+                    let last = items(&a).last().copied().unwrap_or(0);
+                    sum = sum.wrapping_add(head(&a)).wrapping_add(last as u64);
+                }
+                sum
+            }
+
+            pub fn sum(n: u64) -> u64 {
+                let all: Vec<$slice> = (0..SLICES).map(|i| make(i as u64, i as u32)).collect();
+                let mut at = 0usize;
+                let mut sum = 0u64;
+                for _ in 0..n {
+                    let a = &all[at % SLICES];
+                    let mut part = head(a);
+                    for x in items(a) {
+                        part = part.wrapping_add(*x as u64);
+                    }
+                    sum = sum.wrapping_add(part);
+                    at = (sum as usize).wrapping_mul(5).wrapping_add(1);
+                }
+                sum
+            }
+        }
+    };
+}
+
+header_workloads!(
+    servo_header,
+    servo_arc::ThinArc<u64, u32>,
+    |header, items| servo_arc::Arc::from_header_and_iter(header, items),
+    |a| a.header,
+    |b| b.slice()
+);
+header_workloads!(
+    word_header,
+    word::Arc<word::HeaderSlice<u64>>,
+    |header, items| word::HeaderSlice::make(header, items),
+    |a| a.header,
+    |b| b.slice()
+);
+header_workloads!(
+    standard_header,
+    (u64, std::sync::Arc<[u32]>),
+    |header, items| (header, items.collect()),
+    |a| a.0,
+    |b| &b.1
+);
+
+/// What only the ported crate has in this form.
+mod only_servo {
+    use super::*;
+    use servo_arc::{Arc, ArcUnion, ArcUnionBorrow};
+
+    pub fn union_clone(n: u64) -> u64 {
+        let all: [ArcUnion<u64, u32>; 2] = [
+            ArcUnion::from_first(Arc::new(7)),
+            ArcUnion::from_second(Arc::new(9)),
+        ];
+        let mut state = 1u64;
+        let mut sum = 0u64;
+        for _ in 0..n {
+            state = next(state);
+            let u = all[pick(state, 2)].clone();
+            sum = sum.wrapping_add(match u.borrow() {
+                ArcUnionBorrow::First(x) => *x,
+                ArcUnionBorrow::Second(x) => *x as u64,
+            });
+        }
+        sum
+    }
+}
+
+fn marked_servo(threads: usize, n: u64) -> u64 {
+    servo::on_marked(servo_arc::Arc::new_leaked(7), threads, n)
+}
+
+fn marked_word(threads: usize, n: u64) -> u64 {
+    let a = word::Arc::new(7);
+    a.mark_as_intentionally_leaked();
+    word_arc::on_marked(a, threads, n)
+}
+
+type Run = fn(u64) -> u64;
+
+struct Workload {
+    name: &'static str,
+    units: u64,      // the measured units of one iteration
+    iterations: u64, // enough for some 100 ms
+    runs: &'static [(&'static str, Run)],
+}
+
+macro_rules! three {
+    ($f:ident) => {
+        &[
+            ("servo", servo::$f as Run),
+            ("std", standard::$f),
+            ("word", word_arc::$f),
+        ]
+    };
+}
+
+macro_rules! contended {
+    ($t:literal) => {
+        &[
+            ("servo", (|n| servo::contend($t, n)) as Run),
+            ("std", |n| standard::contend($t, n)),
+            ("word", |n| word_arc::contend($t, n)),
+        ]
+    };
+}
+
+macro_rules! marked {
+    ($t:literal) => {
+        &[
+            ("servo", (|n| marked_servo($t, n)) as Run),
+            ("word", |n| marked_word($t, n)),
+        ]
+    };
+}
+
+const WORKLOADS: &[Workload] = &[
+    Workload {
+        name: "new-drop",
+        units: 1,
+        iterations: 5_000_000,
+        runs: three!(new_drop),
+    },
+    Workload {
+        name: "replace",
+        units: 1,
+        iterations: 5_000_000,
+        runs: three!(replace),
+    },
+    Workload {
+        name: "clone-drop",
+        units: 1,
+        iterations: 8_000_000,
+        runs: three!(clone_drop),
+    },
+    Workload {
+        name: "clone-hold",
+        units: 64,
+        iterations: 125_000,
+        runs: three!(clone_hold),
+    },
+    Workload {
+        name: "deref-sum",
+        units: 1_000_000,
+        iterations: 60,
+        runs: three!(deref_sum),
+    },
+    Workload {
+        name: "make-mut-unique",
+        units: 1,
+        iterations: 50_000_000,
+        runs: three!(make_mut_unique),
+    },
+    Workload {
+        name: "make-mut-shared",
+        units: 1,
+        iterations: 3_000_000,
+        runs: three!(make_mut_shared),
+    },
+    Workload {
+        name: "get-mut-unique",
+        units: 1,
+        iterations: 50_000_000,
+        runs: three!(get_mut_unique),
+    },
+    Workload {
+        name: "contend-1",
+        units: 1,
+        iterations: 8_000_000,
+        runs: contended!(1),
+    },
+    Workload {
+        name: "contend-2",
+        units: 1,
+        iterations: 4_000_000,
+        runs: contended!(2),
+    },
+    Workload {
+        name: "contend-4",
+        units: 1,
+        iterations: 2_000_000,
+        runs: contended!(4),
+    },
+    Workload {
+        name: "header-build",
+        units: 1,
+        iterations: 3_000_000,
+        runs: &[
+            ("servo", servo_header::build as Run),
+            ("std", standard_header::build),
+            ("word", word_header::build),
+        ],
+    },
+    Workload {
+        name: "header-sum",
+        units: 1,
+        iterations: 10_000_000,
+        runs: &[
+            ("servo", servo_header::sum as Run),
+            ("std", standard_header::sum),
+            ("word", word_header::sum),
+        ],
+    },
+    Workload {
+        name: "marked-clone",
+        units: 1,
+        iterations: 50_000_000,
+        runs: marked!(1),
+    },
+    Workload {
+        name: "marked-clone-4",
+        units: 1,
+        iterations: 50_000_000,
+        runs: marked!(4),
+    },
+    Workload {
+        name: "union-clone",
+        units: 1,
+        iterations: 5_000_000,
+        runs: &[
+            ("servo", only_servo::union_clone as Run),
+            ("std", standard::union_clone),
+            ("word", word_arc::union_clone),
+        ],
+    },
+];
+
+fn median(mut all: Vec<f64>) -> f64 {
+    all.sort_by(|a, b| a.total_cmp(b));
+    let m = all.len() / 2;
+    if all.len() % 2 == 1 {
+        all[m]
+    } else {
+        (all[m - 1] + all[m]) / 2.0
+    }
+}
+
+fn time(run: Run, n: u64) -> f64 {
+    let start = Instant::now();
+    std::hint::black_box(run(std::hint::black_box(n)));
+    start.elapsed().as_nanos() as f64
+}
+
+/// Nanoseconds a unit, each run less one of 0 iterations; the implementations in turn, then medians.
+fn table(repeats: usize) {
+    println!(
+        "{:<16} {:>10} {:>10} {:>10} | {:>10} {:>9}",
+        "workload", "servo", "std", "word", "word/servo", "std/servo"
+    );
+    for w in WORKLOADS {
+        let mut found: Vec<Vec<f64>> = w.runs.iter().map(|_| Vec::new()).collect();
+        for _ in 0..repeats {
+            for (k, (_, run)) in w.runs.iter().enumerate() {
+                let none = time(*run, 0);
+                let some = time(*run, w.iterations);
+                found[k].push((some - none) / (w.iterations * w.units) as f64);
+            }
+        }
+        let medians: Vec<f64> = found.into_iter().map(median).collect();
+        let of = |name: &str| {
+            w.runs
+                .iter()
+                .position(|(x, _)| *x == name)
+                .map(|k| medians[k])
+        };
+        let show = |x: Option<f64>| x.map_or("-".to_string(), |x| format!("{x:.2}"));
+        let ratio = |x: Option<f64>| show(x.zip(of("servo")).map(|(x, y)| x / y));
+        println!(
+            "{:<16} {:>10} {:>10} {:>10} | {:>10} {:>9}",
+            w.name,
+            show(of("servo")),
+            show(of("std")),
+            show(of("word")),
+            ratio(of("word")),
+            ratio(of("std"))
+        );
+    }
+}
+
+fn one(implementation: &str, name: &str, n: &str) -> Option<u64> {
+    let n = n.parse().ok()?;
+    let w = WORKLOADS.iter().find(|w| w.name == name)?;
+    let (_, run) = w.runs.iter().find(|(x, _)| *x == implementation)?;
+    Some(run(n))
+}
+
+fn main() {
+    let args: Vec<String> = env::args().skip(1).collect();
+    let words: Vec<&str> = args.iter().map(|s| s.as_str()).collect();
+    match words.as_slice() {
+        ["list"] => {
+            for w in WORKLOADS {
+                let names: Vec<&str> = w.runs.iter().map(|(x, _)| *x).collect();
+                println!(
+                    "{} {} {} {}",
+                    w.name,
+                    w.units,
+                    w.iterations,
+                    names.join(",")
+                );
+            }
+        }
+        ["table"] => table(9),
+        ["table", k] => table(k.parse().expect("a number of repeats")),
+        [implementation, name, n] => match one(implementation, name, n) {
+            Some(sum) => println!("{sum}"),
+            None => {
+                eprintln!("no such implementation, workload or number");
+                process::exit(2);
+            }
+        },
+        _ => {
+            eprintln!("usage: bench IMPL WORKLOAD ITERATIONS | bench table [REPEATS] | bench list");
+            process::exit(2);
+        }
+    }
+}

@@ -6,6 +6,7 @@ ghost use Rattle.handles.specs.UnionLaws.{union_eq_per, union_eq_equiv};
 
 use crate::arc::Arc;
 use crate::borrow::ArcBorrow;
+use crate::header_slice::HeaderSlice;
 use std::alloc::AllocError;
 use std::fmt;
 use std::fmt::{Debug, Formatter, Write};
@@ -16,6 +17,9 @@ use std::marker::Model;
 pub struct ArcUnion<A: Send + Sync, B: Send + Sync> {
     handle: EitherArc<A, B>,
 }
+
+/// A handle of one of two types of header slices.
+pub type ThinArcUnion<H1, T1, H2, T2> = ArcUnion<HeaderSlice<H1, T1>, HeaderSlice<H2, T2>>;
 
 #[derive(Drop)]
 enum EitherArc<A: Send + Sync, B: Send + Sync> {

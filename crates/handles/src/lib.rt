@@ -14,7 +14,7 @@ mod same_block;
 pub mod unique;
 
 pub use arc::{Arc, Full, RawArc};
-pub use arc_union::{ArcUnion, ArcUnionBorrow};
+pub use arc_union::{ArcUnion, ArcUnionBorrow, ThinArcUnion};
 pub use borrow::ArcBorrow;
 pub use header_slice::{BuildError, HeaderSlice, ThinArc};
 pub use unique::{UninitArc, UniqueArc};

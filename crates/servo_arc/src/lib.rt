@@ -6,7 +6,7 @@ pub use counting_core;
 pub use counting_word as word;
 pub use handle_tables::table;
 pub use handles::arc::{Arc, Full, RawArc};
-pub use handles::arc_union::{ArcUnion, ArcUnionBorrow};
+pub use handles::arc_union::{ArcUnion, ArcUnionBorrow, ThinArcUnion};
 pub use handles::borrow::ArcBorrow;
 pub use handles::header_slice::{BuildError, HeaderSlice, ThinArc};
 pub use handles::unique::{UninitArc, UniqueArc};

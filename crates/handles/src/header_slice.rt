@@ -32,15 +32,7 @@ impl<H, T> Model for HeaderSlice<H, T> {
 }
 
 impl<H, T> HeaderSlice<H, T> {
-    ghost use Rattle.handles.specs.HeaderSlice.Lending.{LendsHeader, LendsItems};
-
-    #[inline]
-    pub(crate) fn header_mut(&mut self) -> &mut H
-        ensures* writes_back { sem 𝓛 (LendsHeader H.row T.row self.entry result) }
-        ensures value { result.now ≡ self.old.header }
-    {
-        &mut self.header
-    }
+    ghost use Rattle.handles.specs.HeaderSlice.Lending.{LendsItems};
 
     /// The items in the order in which they were taken.
     #[inline]

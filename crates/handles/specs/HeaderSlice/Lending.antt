@@ -6,6 +6,3 @@ use Rattle.handles.specs.contracts.header_slice.HeaderSlice.{the_row}
 
 abbrev pub LendsItems : (H T : RattleType) → MutBor (HeaderAndItems H.Denot T.Denot) → MutBor (List T.Denot) → Fml
 LendsItems H T s r = Lends (the_row H T) (Array T 0) s r (λ xs. record { header = s.now.header; items = rewritten s.now.items xs })
-
-abbrev pub LendsHeader : (H T : RattleType) → MutBor (HeaderAndItems H.Denot T.Denot) → MutBor H.Denot → Fml
-LendsHeader H T s r = Lends (the_row H T) H s r (λ h. record { header = h; items = s.now.items })

@@ -99,7 +99,8 @@ impl<H: Send + Sync, T: Send + Sync> UniqueArc<HeaderSlice<H, T>> {
         ensures* writes_back { sem 𝓛 (LendsUniqueHeader H.row T.row self.entry result) }
         ensures value { result.now ≡ self.old.value.header }
     {
-        self.deref_mut().header_mut()
+        let slice = self.deref_mut();
+        &mut slice.header
     }
 
     /// The items, for writing. Their number stays.

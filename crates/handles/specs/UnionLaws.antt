@@ -1,5 +1,5 @@
 -- The equality of unions keeps the laws that those of the values keep.
-use Rattle.std.specs.Prelude.{◌≡◌, Bool, true, false, refl}
+use Rattle.std.specs.Prelude.{◌≡◌, Bool, true, refl}
 use Rattle.std.proofs.Common.{true≢false, sym}
 use Rattle.std.specs.Cmp.{IsPartialEquivalence, IsEquivalence, equiv, partial_equiv_from_equiv}
 use Rattle.handles.specs.Unions.{Union, First, Second, union_eq}

@@ -52,24 +52,32 @@ impl<T> Handle<T> {
     }
 }
 
+// The first attempts stand outside the loops: most clones need no more, and a loop would carry its state through them.
 impl<T: Drop> Handle<T> {
     // By one read and at most so many raises.
     pub(crate) fn try_clone(&self, raises: u8) -> Result<Handle<T>, AllocError>
         requires { self.now.sole ≡ false }
         ensures { IfOk result (λ h. (h.value ≡ self.now.value) × (h.sole ≡ false)) }
     {
-        let mut attempt = self.first_attempt();
+        match self.first_attempt() {
+            Attempt::Made(handle) => Ok(handle),
+            Attempt::Full => Err(AllocError),
+            Attempt::Lost(seen) => self.raise_at_most(raises, seen),
+        }
+    }
+
+    fn raise_at_most(&self, raises: u8, mut seen: Seen) -> Result<Handle<T>, AllocError>
+        requires { self.now.sole ≡ false }
+        ensures { IfOk result (λ h. (h.value ≡ self.now.value) × (h.sole ≡ false)) }
+    {
         for _ in 0..raises {
-            attempt = match attempt {
+            seen = match self.next_attempt(seen) {
                 Attempt::Made(handle) => return Ok(handle),
                 Attempt::Full => return Err(AllocError),
-                Attempt::Lost(seen) => self.next_attempt(seen),
+                Attempt::Lost(again) => again,
             };
         }
-        match attempt {
-            Attempt::Made(handle) => Ok(handle),
-            _ => Err(AllocError),
-        }
+        Err(AllocError)
     }
 
     // By as many raises as it takes.
@@ -77,12 +85,27 @@ impl<T: Drop> Handle<T> {
         requires { self.now.sole ≡ false }
         ensures { IfOk result (λ h. (h.value ≡ self.now.value) × (h.sole ≡ false)) }
     {
-        let mut attempt = self.first_attempt();
+        let seen = match self.first_attempt() {
+            Attempt::Made(handle) => return Ok(handle),
+            Attempt::Full => return Err(Full),
+            Attempt::Lost(seen) => seen,
+        };
+        match self.next_attempt(seen) {
+            Attempt::Made(handle) => Ok(handle),
+            Attempt::Full => Err(Full),
+            Attempt::Lost(again) => self.raise_unless_full(again, rt),
+        }
+    }
+
+    fn raise_unless_full(&self, mut seen: Seen, rt: &impl Wait) -> Result<Handle<T>, Full>
+        requires { self.now.sole ≡ false }
+        ensures { IfOk result (λ h. (h.value ≡ self.now.value) × (h.sole ≡ false)) }
+    {
         for _ in rt.forever() {
-            attempt = match attempt {
+            seen = match self.next_attempt(seen) {
                 Attempt::Made(handle) => return Ok(handle),
                 Attempt::Full => return Err(Full),
-                Attempt::Lost(seen) => self.next_attempt(seen),
+                Attempt::Lost(again) => again,
             };
         }
         unreachable!()

@@ -2,6 +2,8 @@ pub mod Arguments
 pub mod Fault
 pub mod Line
 pub mod Number
+pub mod Script
+pub mod StepAnswer
 pub mod StepLine
 pub mod TableAnswer
 pub mod TableLine

@@ -1,8 +1,13 @@
 //! Scripts of `core`: their lines are steps of a counting core.
-ghost use Rattle.std.specs.Prelude.{ℕ, ◌<◌, IfErr, IfSome, IfNone};
+ghost use Rattle.std.specs.Prelude.{◌≡◌, ℕ, ◌<◌, IfErr, IfOk, IfSome, IfNone};
+ghost use Rattle.counting_core.specs.declared.step.Answer.{Answer};
+ghost use Rattle.servo_arc.specs.Represents.{Continues, Represents};
 ghost use Rattle.servo_arc.specs.Step.{Step};
+ghost use Rattle.servo_arc.specs.Trace.{Open};
 ghost use Rattle.arcbench.specs.declared.line.Operands.TheVariants.{One, Two, Three};
 ghost use Rattle.arcbench.specs.Fault.{IsFaultOfRun};
+ghost use Rattle.arcbench.specs.declared.fault.Fault.TheVariants as Fault;
+ghost use Rattle.arcbench.specs.StepAnswer.{answer_number, answer_words};
 ghost use Rattle.arcbench.specs.StepLine.{IsStepLine, Names};
 
 use crate::fault::Fault;
@@ -25,12 +30,26 @@ pub fn run<W: Write>(
     requires { 0 < owners }
     ensures { IfErr result IsFaultOfRun }
 {
-    let mut core = Core::new(alloc, VALUE, owners).map_err(|_| Fault::Memory)?;
+    let mut core = open(alloc, owners)?;
     script::run(alloc, script, &mut core, output)
 }
 
+fn open(alloc: Global, owners: usize) -> Result<Core<u32>, Fault>
+    requires { 0 < owners }
+    ensures opened { IfOk result (λ core. Represents core (Open 5 owners)) }
+    ensures refused { IfErr result (λ fault. fault ≡ Fault.Memory) }
+{
+    Core::new(alloc, VALUE, owners).map_err(|_| Fault::Memory)
+}
+
 impl Interpreter for Core<u32> {
-    fn answer_to(&mut self, line: &[u8]) -> Option<script::Answer> {
+    fn answer_to(&mut self, line: &[u8]) -> Option<script::Answer>
+        ensures answered { IfSome result (λ printed. (step : Step ℕ) × IsStepLine line.now step ×
+            (answer : Answer ℕ) × Continues self.old step answer self.new ×
+            (printed.words.now ≡ answer_words answer) × (printed.number ≡ answer_number answer)) }
+        ensures faulty { IfNone result ((step : Step ℕ) → ¬ (IsStepLine line.now step)) }
+        ensures unchanged { IfNone result (self.new ≡ self.old) }
+    {
         let step = step_of(line)?;
         Some(printed(self.step(step)))
     }
@@ -112,7 +131,10 @@ fn wide_step(line: &Line<'_>, owner: usize, handle: usize, last: u32) -> Option<
     }
 }
 
-fn printed(answer: Answer<u32>) -> script::Answer {
+fn printed(answer: Answer<u32>) -> script::Answer
+    ensures words { result.words.now ≡ answer_words answer }
+    ensures number { result.number ≡ answer_number answer }
+{
     let (words, number) = match answer {
         Answer::Born(handle) => ("born ", Some(handle as u64)),
         Answer::Full => ("full", None),

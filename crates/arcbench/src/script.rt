@@ -1,6 +1,9 @@
 //! Scripts, whatever the language of their lines.
-ghost use Rattle.std.specs.Prelude.{◌≡◌, ◌⊎◌, IfErr};
-ghost use Rattle.arcbench.specs.Fault.{IsFaultOfRun};
+ghost use Rattle.std.specs.Prelude.{◌≡◌, ◌≢◌, ◌⊎◌, IfErr, IfSome, OnOk, IfOk};
+ghost use Rattle.std.specs.IoError.{error_kind};
+ghost use Rattle.std.specs.Io.KnownBytes.{Appends};
+ghost use Rattle.arcbench.specs.Fault.{IsFaultOfRun, ending};
+ghost use Rattle.arcbench.specs.Script.{answer_text};
 ghost use Rattle.arcbench.specs.declared.fault.Fault.TheVariants as Fault;
 
 use crate::fault::Fault;
@@ -27,13 +30,24 @@ pub trait Interpreter {
 
 /// The whole script.
 pub fn read<R: Read>(alloc: Global, input: &mut R) -> Result<Vec<u8>, Fault>
-    ensures { IfErr result (λ fault. (fault ≡ Fault.Input) ⊎ (fault ≡ Fault.Memory)) }
+    ensures whole { IfOk result (λ script. IfSome (R.remaining input.old) (λ bytes. script.items ≡ bytes)) }
+    ensures fault { IfErr result (λ fault. (fault ≡ Fault.Input) ⊎ (fault ≡ Fault.Memory)) }
 {
     let mut script = Vec::new(alloc);
     match input.read_to_end(&mut script) {
         Ok(_) => Ok(script),
-        Err(error) if error.kind() == ErrorKind::OutOfMemory => Err(Fault::Memory),
-        Err(_) => Err(Fault::Input),
+        Err(error) => Err(read_fault(&error)),
+    }
+}
+
+/// The fault of a read that failed, or that found no memory for what it read.
+fn read_fault(error: &io::Error) -> Fault
+    ensures memory { error_kind error.now ≡ ErrorKind.OutOfMemory → result ≡ Fault.Memory }
+    ensures input { error_kind error.now ≢ ErrorKind.OutOfMemory → result ≡ Fault.Input }
+{
+    match error.kind() {
+        ErrorKind::OutOfMemory => Fault::Memory,
+        _ => Fault::Input,
     }
 }
 
@@ -52,6 +66,13 @@ pub fn run<I: Interpreter, W: Write>(
     let outcome = write_answers(script, interpreter, &mut answers);
     // Taken apart, so that its drop does not try a failed write again.
     let _unwritten = answers.into_parts();
+    end_of(outcome)
+}
+
+/// How a run ends, by the number of its faulty line.
+fn end_of(outcome: io::Result<Option<u64>>) -> Result<(), Fault>
+    ensures { result ≡ ending outcome }
+{
     match outcome {
         Ok(None) => Ok(()),
         Ok(Some(faulty)) => Err(Fault::Line(faulty)),
@@ -80,7 +101,10 @@ fn write_answers<I: Interpreter, W: Write>(
     Ok(faulty)
 }
 
-fn write_answer<W: Write>(answers: &mut W, answer: Answer) -> io::Result<()> {
+fn write_answer<W: Write>(answers: &mut W, answer: Answer) -> io::Result<()>
+    ensures { OnOk result (Appends (W.contents answers.old) (W.contents answers.new)
+        (answer_text answer.words.now answer.number)) }
+{
     answers.write_all(answer.words.as_bytes())?;
     if let Some(number) = answer.number {
         answers.write_all(Buffer::new().format(number).as_bytes())?;

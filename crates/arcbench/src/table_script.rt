@@ -1,8 +1,9 @@
 //! Scripts of `table`: their lines are commands on a table of handles, and what its slots read.
-ghost use Rattle.std.specs.Prelude.{◌≡◌, IfErr, IfSome, IfNone, slice_get};
+ghost use Rattle.std.specs.Prelude.{◌≡◌, IfErr, IfOk, IfSome, IfNone, None, replicate, slice_get};
 ghost use Rattle.std.specs.Option.{option_flatten};
 ghost use Rattle.arcbench.specs.declared.table_line.TableLine.{TableLine};
 ghost use Rattle.arcbench.specs.Fault.{IsFaultOfRun};
+ghost use Rattle.arcbench.specs.declared.fault.Fault.TheVariants as Fault;
 ghost use Rattle.arcbench.specs.TableAnswer.{IsAnswered, reading_words, reply_words};
 ghost use Rattle.arcbench.specs.TableLine.{IsTableLine};
 
@@ -22,8 +23,7 @@ pub fn run<W: Write>(
 ) -> Result<(), Fault>
     ensures { IfErr result IsFaultOfRun }
 {
-    let table = Table::new(alloc, slots).map_err(|_| Fault::Memory)?;
-    let mut handles = Handles { alloc, table };
+    let mut handles = Handles::new(alloc, slots)?;
     script::run(alloc, script, &mut handles, output)
 }
 
@@ -47,6 +47,14 @@ impl Interpreter for Handles {
 }
 
 impl Handles {
+    fn new(alloc: Global, slots: usize) -> Result<Handles, Fault>
+        ensures empty { IfOk result (λ handles. handles.table ≡ replicate slots None) }
+        ensures refused { IfErr result (λ fault. fault ≡ Fault.Memory) }
+    {
+        let table = Table::new(alloc, slots).map_err(|_| Fault::Memory)?;
+        Ok(Handles { alloc, table })
+    }
+
     fn answer(&mut self, line: TableLine) -> Answer
         ensures { IsAnswered line self.old.table result.words.now result.number self.new.table }
     {

@@ -1,4 +1,5 @@
 pub mod Copies
 pub mod PlainTable
+pub mod PlainUnionTable
 pub mod Runs
 pub mod Values

@@ -6,3 +6,6 @@ mod slots;
 pub mod table;
 #[cfg(test)]
 mod tests;
+mod union_commands;
+mod union_slots;
+mod union_table;

@@ -8,6 +8,8 @@ ghost use Rattle.handle_tables.specs.Runs.{IsAmong, Run};
 
 pub use crate::commands::{Command, PlainCommand, Reply};
 use crate::slots;
+pub use crate::union_commands::UnionCommand;
+pub use crate::union_table::UnionTable;
 use handles::arc::Arc;
 use std::alloc::{AllocError, Global};
 use std::marker::Model;

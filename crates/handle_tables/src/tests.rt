@@ -5,6 +5,7 @@ use std::alloc::{AllocError, Global};
 use std::test::Fail;
 
 mod put;
+mod unions;
 
 #[test]
 fn a_shared_value_is_copied_before_it_is_written(rt: HostRuntime) -> Result<(), Fail> {

@@ -7,9 +7,13 @@ pub use Rattle.counting_core.specs.Legal
 pub use Rattle.counting_core.specs.Represents
 pub use Rattle.counting_core.specs.declared.step.Step
 pub use Rattle.handles.specs.Shows
+pub use Rattle.handles.specs.UnionHandles
+pub use Rattle.handles.specs.Unions
 pub use Rattle.handles.specs.WriteBack
 pub use Rattle.handle_tables.specs.Copies
 pub use Rattle.handle_tables.specs.PlainTable
+pub use Rattle.handle_tables.specs.PlainUnionTable
 pub use Rattle.handle_tables.specs.Runs
 pub use Rattle.handle_tables.specs.declared.commands.Command
 pub use Rattle.handle_tables.specs.declared.commands.Reply
+pub use Rattle.handle_tables.specs.declared.union_commands.UnionCommand

@@ -1,44 +1,75 @@
 //! Readers and writers that fail.
+ghost use Rattle.std.specs.Prelude.{None};
 ghost use Rattle.std.specs.Io.{ReadsAtMost, WritesAtMost};
+ghost use Rattle.std.specs.Io.KnownBytes.{ReadConsumes};
 
 use std::alloc::Global;
 use std::io;
 use std::io::{ErrorKind, Read, Write};
 
-/// Gives a line at each read, and fails at the last.
+/// Gives a script a line at each read, and fails at one read.
 #[derive(Drop)]
-pub struct FailingReader {
-    pub reads_before: usize,
+pub struct FailingReader<'a> {
+    script: &'a [u8],
+    reads_before: usize,
+    has_failed: bool,
 }
 
-impl Read for FailingReader {
-    fn read(&mut self, buf: &mut [u8]) -> io::Result<usize>
-        ensures { ReadsAtMost result buf.new }
-    {
-        if self.reads_before == 0 {
-            return Err(io::Error::from(ErrorKind::Other));
+impl<'a> FailingReader<'a> {
+    pub fn new(script: &'a [u8], reads_before: usize) -> Self {
+        FailingReader {
+            script,
+            reads_before,
+            has_failed: false,
         }
-        self.reads_before -= 1;
-        let mut line: &[u8] = b"unique 0 0\n";
-        line.read(buf)
     }
 }
 
-/// Holds what is written, and fails at one write.
+impl Read for FailingReader<'_> {
+    fn read(&mut self, buf: &mut [u8]) -> io::Result<usize>
+        ensures bound { ReadsAtMost result buf.new }
+        ensures bytes { ReadConsumes None None result buf.new }
+    {
+        if self.reads_before == 0 && !self.has_failed {
+            self.has_failed = true;
+            return Err(io::Error::from(ErrorKind::Other));
+        }
+        self.reads_before = self.reads_before.saturating_sub(1);
+        let mut line = self
+            .script
+            .split_inclusive(|byte| *byte == b'\n')
+            .next()
+            .unwrap_or_default();
+        let count = line.read(buf)?;
+        self.script = self.script.get(count..).unwrap_or_default();
+        Ok(count)
+    }
+}
+
+/// Holds what is written, and fails at one write or flush.
 #[derive(Drop)]
 pub struct FailingWriter {
     pub held: Vec<u8>,
-    pub writes_before: usize,
     pub has_failed: bool,
+    calls_before: usize,
 }
 
 impl FailingWriter {
-    pub fn new(alloc: Global, writes_before: usize) -> Self {
+    pub fn new(alloc: Global, calls_before: usize) -> Self {
         FailingWriter {
             held: Vec::new(alloc),
-            writes_before,
             has_failed: false,
+            calls_before,
         }
+    }
+
+    fn fail_in_turn(&mut self) -> io::Result<()> {
+        if self.calls_before == 0 && !self.has_failed {
+            self.has_failed = true;
+            return Err(io::Error::from(ErrorKind::BrokenPipe));
+        }
+        self.calls_before = self.calls_before.saturating_sub(1);
+        Ok(())
     }
 }
 
@@ -46,15 +77,11 @@ impl Write for FailingWriter {
     fn write(&mut self, buf: &[u8]) -> io::Result<usize>
         ensures { WritesAtMost result buf.now }
     {
-        if self.writes_before == 0 && !self.has_failed {
-            self.has_failed = true;
-            return Err(io::Error::from(ErrorKind::BrokenPipe));
-        }
-        self.writes_before = self.writes_before.saturating_sub(1);
+        self.fail_in_turn()?;
         self.held.write(buf)
     }
 
     fn flush(&mut self) -> io::Result<()> {
-        Ok(())
+        self.fail_in_turn()
     }
 }

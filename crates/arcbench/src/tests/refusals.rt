@@ -1,0 +1,112 @@
+//! Runs that hold whichever one request for memory is refused, as `rt try --test --fail-alloc N` refuses the Nth.
+use crate::bench;
+use std::alloc::Global;
+use std::process::Abort;
+
+/// What a run may print, what it then tells on standard error, and its status.
+struct Outcome {
+    output: &'static [u8],
+    errors: &'static [u8],
+    status: u8,
+}
+
+/// A script of cloning, and what it may come to: nothing is refused, the lending, the raise, or a
+/// request outside an answer, which comes before the first line.
+const STEPS: &[u8] = b"lend 0 0 1\nclone 1 0\nraise 1\nraise 1\nquit 1\n";
+
+const OF_STEPS: [Outcome; 4] = [
+    Outcome {
+        output: b"done\npending\nborn 1\nbarred\nbarred\n",
+        errors: b"",
+        status: 0,
+    },
+    Outcome {
+        output: b"memory\nbarred\nbarred\nbarred\nbarred\n",
+        errors: b"",
+        status: 0,
+    },
+    Outcome {
+        output: b"done\npending\nmemory\nborn 1\nbarred\n",
+        errors: b"",
+        status: 0,
+    },
+    Outcome {
+        output: b"",
+        errors: b"fault: memory\n",
+        status: 5,
+    },
+];
+
+/// A script of copies on write, and what it may come to: nothing is refused, one of its commands, or a
+/// request outside an answer.
+const COMMANDS: &[u8] = b"new 0 5\nclone 0 1\nmakemut 0 9\nown 1\nget 0\nget 1\n";
+
+const OF_COMMANDS: [Outcome; 6] = [
+    Outcome {
+        output: b"done\ndone\ndone\ndone\nvalue 9\nvalue 5\n",
+        errors: b"",
+        status: 0,
+    },
+    Outcome {
+        output: b"refused\nempty\nempty\nempty\nempty\nempty\n",
+        errors: b"",
+        status: 0,
+    },
+    Outcome {
+        output: b"done\nrefused\ndone\nempty\nvalue 9\nempty\n",
+        errors: b"",
+        status: 0,
+    },
+    Outcome {
+        output: b"done\ndone\nrefused\ndone\nvalue 5\nvalue 5\n",
+        errors: b"",
+        status: 0,
+    },
+    Outcome {
+        output: b"done\ndone\ndone\nrefused\nvalue 9\nvalue 5\n",
+        errors: b"",
+        status: 0,
+    },
+    Outcome {
+        output: b"",
+        errors: b"fault: memory\n",
+        status: 5,
+    },
+];
+
+const ROOM: usize = 64;
+
+// What was written into a page of which so much is left.
+fn written(page: &[u8; ROOM], left: usize) -> &[u8] {
+    &page[..ROOM.saturating_sub(left)]
+}
+
+// The run asks for memory, and nothing around it does.
+fn check_outcome(
+    rt: &impl Abort,
+    alloc: Global,
+    kind: &'static str,
+    mut script: &[u8],
+    outcomes: &[Outcome],
+) {
+    let (mut output_page, mut errors_page) = ([0u8; ROOM], [0u8; ROOM]);
+    let (mut output, mut errors) = (output_page.as_mut_slice(), errors_page.as_mut_slice());
+    let status = bench(alloc, &[kind, "2"], &mut script, &mut output, &mut errors);
+    let (output_left, errors_left) = (output.len(), errors.len());
+    let output = written(&output_page, output_left);
+    let errors = written(&errors_page, errors_left);
+    let is_right = outcomes.iter().any(|outcome| {
+        outcome.output == output && outcome.errors == errors && outcome.status == status
+    });
+    assert!(rt; is_right, "{output:?} {errors:?} {status}");
+}
+
+#[test]
+fn runs_steps_with_one_request_refused(rt: HostRuntime) {
+    check_outcome(&rt, rt.alloc(), "core", STEPS, &OF_STEPS);
+}
+
+#[test]
+fn runs_commands_with_one_request_refused(rt: HostRuntime) {
+    check_outcome(&rt, rt.alloc(), "table", COMMANDS, &OF_COMMANDS);
+}

@@ -1,7 +1,7 @@
 -- What the lines of a core's script are answered.
 use Rattle.std.specs.Prelude.{ℕ, true, false, List, Option, Some, None, codes}
-use Rattle.counting_core.specs.declared.step.Answer.{Answer}
-use Rattle.counting_core.specs.declared.step.Answer.TheVariants.{Born, Full, Pending, Quit, Ended, GivenUp, Marked, Is, Alone, Shared, Done, Value, Memory, Barred}
+use Rattle.servo_arc.specs.Answer.{Answer}
+use Rattle.servo_arc.specs.Answer.TheVariants.{Born, Full, Pending, Quit, Ended, GivenUp, Marked, Is, Alone, Shared, Done, Value, Memory, Barred}
 
 -- the words of an answer
 abbrev pub answer_words : Answer ℕ → List ℕ

@@ -1,6 +1,6 @@
 //! Scripts of `core`: their lines are steps of a counting core.
 ghost use Rattle.std.specs.Prelude.{◌≡◌, ℕ, ◌<◌, IfErr, IfOk, IfSome, IfNone};
-ghost use Rattle.counting_core.specs.declared.step.Answer.{Answer};
+ghost use Rattle.servo_arc.specs.Answer.{Answer};
 ghost use Rattle.servo_arc.specs.Represents.{Continues, Represents};
 ghost use Rattle.servo_arc.specs.Step.{Step};
 ghost use Rattle.servo_arc.specs.Trace.{Open};

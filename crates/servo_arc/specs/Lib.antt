@@ -5,6 +5,7 @@ pub use Rattle.counting_core.specs.Permitted
 pub use Rattle.counting_core.specs.PlainMachine
 pub use Rattle.counting_core.specs.Legal
 pub use Rattle.counting_core.specs.Represents
+pub use Rattle.counting_core.specs.declared.step.Answer
 pub use Rattle.counting_core.specs.declared.step.Step
 pub use Rattle.handles.specs.Shows
 pub use Rattle.handles.specs.UnionHandles

@@ -98,6 +98,3 @@ impl<H: fmt::Debug, T: fmt::Debug> fmt::Debug for HeaderSlice<H, T> {
             .finish()
     }
 }
-
-#[cfg(test)]
-mod tests;

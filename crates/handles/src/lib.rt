@@ -18,6 +18,3 @@ pub use arc_union::{ArcUnion, ArcUnionBorrow, ThinArcUnion};
 pub use borrow::ArcBorrow;
 pub use header_slice::{BuildError, HeaderSlice, ThinArc};
 pub use unique::{UninitArc, UniqueArc};
-
-#[cfg(test)]
-mod tests;

@@ -1,9 +1,14 @@
-//! In which order the values of a header slice are dropped.
+// In which order the values of a header slice are dropped.
 ghost use Rattle.std.specs.Prelude.{◌==◌};
-ghost use Rattle.std.specs.Cmp.Rules.{comparing};
-ghost use Rattle.std.proofs.Common.{rules};
+ghost use Rattle.std.specs.Cmp.{on_per, partial_equiv_from_equiv};
+ghost use Rattle.std.proofs.lemmas.Cmp.{nat_eq_equiv};
 
-use super::*;
+use servo_arc::{Arc, BuildError, UniqueArc};
+use std::alloc::{AllocError, Global};
+use std::sync::atomic::AtomicU64;
+use std::sync::atomic::Ordering::SeqCst;
+use std::test::Fail;
+use std::vec::IntoIter;
 
 // Puts its name at the end of the log where it is dropped.
 struct Named<'a> {
@@ -22,7 +27,7 @@ impl Drop for Named<'_> {
 impl PartialEq for Named<'_> {
     ghost eq = { λ x y. x.name == y.name };
 
-    ghost laws = { Prim.search (comparing, rules) };
+    ghost laws = { on_per (λ x. x.name) (partial_equiv_from_equiv nat_eq_equiv) };
 
     fn eq(&self, other: &Self) -> bool {
         self.name == other.name

@@ -1,6 +1,7 @@
 // Each call once, at values that count.
-use super::counted::{Counted, Tally};
-use crate::{Arc, Full, RawArc, UniqueArc};
+use crate::counted::{Counted, Tally};
+use crate::made::arc_of;
+use servo_arc::{Arc, Full, RawArc, UniqueArc};
 use std::test::Fail;
 
 fn crosses_threads<T: Send + Sync>() {}
@@ -15,9 +16,7 @@ fn handles_cross_threads() {
 #[test]
 fn the_last_handle_drops_the_value(rt: HostRuntime) -> Result<(), Fail> {
     let tally = Tally::new();
-    let a = Arc::new(rt.alloc(), Counted::new(&tally, 5))
-        .ok()
-        .ok_or("memory")?;
+    let a = arc_of(rt.alloc(), Counted::new(&tally, 5))?;
     let b = a.clone()?;
     assert_eq!(rt; (a.value, b.value), (5, 5));
     drop(a);
@@ -29,7 +28,7 @@ fn the_last_handle_drops_the_value(rt: HostRuntime) -> Result<(), Fail> {
 
 #[test]
 fn a_shared_value_is_not_written(rt: HostRuntime) -> Result<(), Fail> {
-    let mut a = Arc::new(rt.alloc(), 5u64).ok().ok_or("memory")?;
+    let mut a = arc_of(rt.alloc(), 5u64)?;
     let b = a.clone()?;
     assert!(rt; Arc::get_mut(&mut a).is_none());
     assert_eq!(rt; (*a, *b), (5, 5));
@@ -47,9 +46,7 @@ fn a_shared_value_is_not_written(rt: HostRuntime) -> Result<(), Fail> {
 #[test]
 fn a_shared_value_is_copied_once_to_be_written(rt: HostRuntime) -> Result<(), Fail> {
     let tally = Tally::new();
-    let mut a = Arc::new(rt.alloc(), Counted::new(&tally, 5))
-        .ok()
-        .ok_or("memory")?;
+    let mut a = arc_of(rt.alloc(), Counted::new(&tally, 5))?;
     let b = a.clone()?;
     Arc::make_mut(&mut a, rt.alloc())?.value = 9;
     assert_eq!(rt; (a.value, b.value, tally.copies()), (9, 5, 1));
@@ -95,9 +92,7 @@ fn a_static_value_is_marked_from_the_start(rt: HostRuntime) -> Result<(), Fail> 
 #[test]
 fn a_mark_may_be_set_twice(rt: HostRuntime) -> Result<(), Fail> {
     let tally = Tally::new();
-    let a = Arc::new(rt.alloc(), Counted::new(&tally, 1))
-        .ok()
-        .ok_or("memory")?;
+    let a = arc_of(rt.alloc(), Counted::new(&tally, 1))?;
     let b = a.clone()?;
     assert!(rt; !a.is_static());
     a.mark_as_intentionally_leaked();
@@ -111,7 +106,7 @@ fn a_mark_may_be_set_twice(rt: HostRuntime) -> Result<(), Fail> {
 
 #[test]
 fn a_token_is_a_handle(rt: HostRuntime) -> Result<(), Fail> {
-    let raw = Arc::into_raw(Arc::new(rt.alloc(), 7u64).ok().ok_or("memory")?);
+    let raw = Arc::into_raw(arc_of(rt.alloc(), 7u64)?);
     let read = *raw.value();
     let added = Arc::from_raw_addrefed(&raw, &rt);
     let c = Arc::from_raw(raw);
@@ -153,18 +148,18 @@ fn an_unwritten_block_drops_no_value(rt: HostRuntime) -> Result<(), Fail> {
 
 #[test]
 fn equality_asks_the_values(rt: HostRuntime) -> Result<(), Fail> {
-    let a = Arc::new(rt.alloc(), NeverEqual).ok().ok_or("memory")?;
+    let a = arc_of(rt.alloc(), NeverEqual)?;
     let b = a.clone()?;
     assert!(rt; a != b);
-    let c = Arc::new(rt.alloc(), 4u64).ok().ok_or("memory")?;
-    let d = Arc::new(rt.alloc(), 4u64).ok().ok_or("memory")?;
+    let c = arc_of(rt.alloc(), 4u64)?;
+    let d = arc_of(rt.alloc(), 4u64)?;
     assert!(rt; c == d && !Arc::ptr_eq(&c, &d));
     Ok(())
 }
 
 #[test]
 fn clones_may_be_unbounded(rt: HostRuntime) -> Result<(), Fail> {
-    let a = Arc::new(rt.alloc(), 1u64).ok().ok_or("memory")?;
+    let a = arc_of(rt.alloc(), 1u64)?;
     let b = Arc::clone(&a, &rt).ok().ok_or("full")?;
     assert!(rt; Arc::ptr_eq(&a, &b) && *b == 1);
     Ok(())
@@ -172,15 +167,16 @@ fn clones_may_be_unbounded(rt: HostRuntime) -> Result<(), Fail> {
 
 #[test]
 fn the_refusal_has_its_text(rt: HostRuntime) -> Result<(), Fail> {
-    let text = format!(in rt.alloc(); "{}", Full)?;
-    assert_eq!(rt; text.as_str(), "the handle limit is reached");
+    let text = format!(in rt.alloc(); "{} {:?}", Full, Full)?;
+    assert_eq!(rt; text.as_str(), "the handle limit is reached Full");
+    assert_eq!(rt; Full, Full);
     Ok(())
 }
 
 #[test]
 fn many_handles_have_one_block(rt: HostRuntime) -> Result<(), Fail> {
-    let a = Arc::new(rt.alloc(), 1u64).ok().ok_or("memory")?;
-    let b = Arc::new(rt.alloc(), 1u64).ok().ok_or("memory")?;
+    let a = arc_of(rt.alloc(), 1u64)?;
+    let b = arc_of(rt.alloc(), 1u64)?;
     for _ in 0..1000 {
         let again = a.clone()?;
         assert!(rt; Arc::ptr_eq(&a, &again) && Arc::ptr_eq(&again, &a));

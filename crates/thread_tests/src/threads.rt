@@ -1,6 +1,8 @@
 // Threads that share one block. Each is joined, and each waiting loop gives up.
-use super::counted::{Counted, Tally};
-use crate::Arc;
+use handle_tests::counted::{Counted, Tally};
+use handle_tests::made::arc_of;
+use servo_arc::{Arc, ArcUnion};
+use std::alloc::Global;
 use std::sync::Wait;
 use std::sync::atomic::AtomicBool;
 use std::sync::atomic::Ordering::SeqCst;
@@ -33,9 +35,7 @@ fn clone_after(own: &AtomicBool, other: &AtomicBool, handle: Arc<Counted<'_>>) -
 fn two_threads_clone_at_once(rt: HostRuntime) -> Result<(), Fail> {
     let tally = Tally::new();
     let (left, right) = (AtomicBool::new(false), AtomicBool::new(false));
-    let a = Arc::new(rt.alloc(), Counted::new(&tally, 5))
-        .ok()
-        .ok_or("memory")?;
+    let a = arc_of(rt.alloc(), Counted::new(&tally, 5))?;
     let b = a.clone()?;
     let done = thread::join(
         &rt,
@@ -44,6 +44,71 @@ fn two_threads_clone_at_once(rt: HostRuntime) -> Result<(), Fail> {
     );
     assert_eq!(rt; done, (true, true));
     assert_eq!(rt; tally.drops(), 1);
+    Ok(())
+}
+
+// Two handles of one block.
+type Pair<'a> = (Arc<Counted<'a>>, Arc<Counted<'a>>);
+
+fn by_token<'a>(alloc: Global, rt: &impl Wait, tally: &'a Tally) -> Result<Pair<'a>, Fail> {
+    let raw = Arc::into_raw(arc_of(alloc, Counted::new(tally, 5))?);
+    let added = Arc::from_raw_addrefed(&raw, rt);
+    let a = Arc::from_raw(raw);
+    Ok((a, added?))
+}
+
+fn by_borrow<'a>(alloc: Global, rt: &impl Wait, tally: &'a Tally) -> Result<Pair<'a>, Fail> {
+    let a = arc_of(alloc, Counted::new(tally, 5))?;
+    let b = a.borrow_arc().clone_arc(rt)?;
+    Ok((a, b))
+}
+
+#[test]
+fn handles_by_token_and_by_borrow_are_cloned_at_once(rt: HostRuntime) -> Result<(), Fail> {
+    let tally = Tally::new();
+    let pairs = [
+        by_token(rt.alloc(), &rt, &tally)?,
+        by_borrow(rt.alloc(), &rt, &tally)?,
+    ];
+    for (a, b) in pairs {
+        let before = tally.drops();
+        let (left, right) = (AtomicBool::new(false), AtomicBool::new(false));
+        let done = thread::join(
+            &rt,
+            || clone_after(&left, &right, a),
+            || clone_after(&right, &left, b),
+        );
+        assert_eq!(rt;
+            (done, tally.drops().wrapping_sub(before)),
+            ((true, true), 1)
+        );
+    }
+    Ok(())
+}
+
+type Numbers<'a> = ArcUnion<u64, Counted<'a>>;
+
+fn clone_union_after(own: &AtomicBool, other: &AtomicBool, union: Numbers<'_>) -> bool {
+    own.store(true, SeqCst);
+    let met = sees(other);
+    match union.clone() {
+        Ok(again) => met && again.as_second().is_some_and(|borrow| borrow.value == 5),
+        Err(_) => false,
+    }
+}
+
+#[test]
+fn two_threads_clone_a_union_at_once(rt: HostRuntime) -> Result<(), Fail> {
+    let tally = Tally::new();
+    let (left, right) = (AtomicBool::new(false), AtomicBool::new(false));
+    let a = Numbers::from_second(arc_of(rt.alloc(), Counted::new(&tally, 5))?);
+    let b = a.clone()?;
+    let done = thread::join(
+        &rt,
+        || clone_union_after(&left, &right, a),
+        || clone_union_after(&right, &left, b),
+    );
+    assert_eq!(rt; (done, tally.drops()), ((true, true), 1));
     Ok(())
 }
 
@@ -59,7 +124,7 @@ fn clone_often(handle: &Arc<u64>, rt: &impl Wait) -> bool {
 
 #[test]
 fn four_threads_clone_a_lent_handle(rt: HostRuntime) -> Result<(), Fail> {
-    let a = Arc::new(rt.alloc(), 7u64).ok().ok_or("memory")?;
+    let a = arc_of(rt.alloc(), 7u64)?;
     let done = thread::join(
         &rt,
         || thread::join(&rt, || clone_often(&a, &rt), || clone_often(&a, &rt)),
@@ -80,9 +145,7 @@ fn clone_and_drop(handle: Arc<Counted<'_>>) {
 #[test]
 fn a_mark_among_clones_keeps_the_value(rt: HostRuntime) -> Result<(), Fail> {
     let tally = Tally::new();
-    let kept = Arc::new(rt.alloc(), Counted::new(&tally, 1))
-        .ok()
-        .ok_or("memory")?;
+    let kept = arc_of(rt.alloc(), Counted::new(&tally, 1))?;
     let (a, b, c) = (kept.clone()?, kept.clone()?, kept.clone()?);
     thread::join(
         &rt,
@@ -107,9 +170,7 @@ fn the_last_two_handles_drop_the_value_once(rt: HostRuntime) -> Result<(), Fail>
     let tally = Tally::new();
     for round in 1..=1000u64 {
         let (left, right) = (AtomicBool::new(false), AtomicBool::new(false));
-        let a = Arc::new(rt.alloc(), Counted::new(&tally, round))
-            .ok()
-            .ok_or("memory")?;
+        let a = arc_of(rt.alloc(), Counted::new(&tally, round))?;
         let b = a.clone()?;
         let met = thread::join(
             &rt,
@@ -139,7 +200,7 @@ fn write_when_alone(mut handle: Arc<u64>, go: &AtomicBool, gone: &AtomicBool) ->
 #[test]
 fn a_handle_writes_once_the_other_is_gone(rt: HostRuntime) -> Result<(), Fail> {
     let (go, gone) = (AtomicBool::new(false), AtomicBool::new(false));
-    let a = Arc::new(rt.alloc(), 1u64).ok().ok_or("memory")?;
+    let a = arc_of(rt.alloc(), 1u64)?;
     let b = a.clone()?;
     let done = thread::join(
         &rt,
@@ -164,8 +225,8 @@ fn ask_often(a: &Arc<u64>, b: &Arc<u64>) {
 
 #[test]
 fn blocks_are_told_apart_after_contention(rt: HostRuntime) -> Result<(), Fail> {
-    let a = Arc::new(rt.alloc(), 1u64).ok().ok_or("memory")?;
-    let b = Arc::new(rt.alloc(), 1u64).ok().ok_or("memory")?;
+    let a = arc_of(rt.alloc(), 1u64)?;
+    let b = arc_of(rt.alloc(), 1u64)?;
     thread::join(&rt, || ask_often(&a, &b), || ask_often(&b, &a));
     assert!(rt; !Arc::ptr_eq(&a, &b) && Arc::ptr_eq(&a, &a));
     Ok(())

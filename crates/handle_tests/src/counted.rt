@@ -1,40 +1,44 @@
-// A value that counts its drops and copies.
+//! A value that counts its drops and copies.
 ghost use Rattle.std.specs.Prelude.{◌≡◌};
 
 use std::alloc::AllocError;
 use std::sync::atomic::AtomicU64;
 use std::sync::atomic::Ordering::SeqCst;
 
+/// How often values were dropped and copied.
 #[derive(Drop)]
-pub(super) struct Tally {
+pub struct Tally {
     drops: AtomicU64,
     copies: AtomicU64,
 }
 
 impl Tally {
-    pub(super) fn new() -> Tally {
+    pub fn new() -> Tally {
         Tally {
             drops: AtomicU64::new(0),
             copies: AtomicU64::new(0),
         }
     }
 
-    pub(super) fn drops(&self) -> u64 {
+    pub fn drops(&self) -> u64 {
         self.drops.load(SeqCst)
     }
 
-    pub(super) fn copies(&self) -> u64 {
+    pub fn copies(&self) -> u64 {
         self.copies.load(SeqCst)
     }
 }
 
-pub(super) struct Counted<'a> {
-    pub(super) value: u64,
+/// Its drops and copies are counted in a tally, which takes no memory.
+pub struct Counted<'a> {
+    pub value: u64,
     tally: &'a Tally,
 }
 
 impl<'a> Counted<'a> {
-    pub(super) fn new(tally: &'a Tally, value: u64) -> Counted<'a> {
+    pub fn new(tally: &'a Tally, value: u64) -> Counted<'a>
+        ensures { result.value ≡ value }
+    {
         Counted { value, tally }
     }
 }

@@ -1,0 +1,47 @@
+//! How code above uses the handles.
+ghost use Rattle.std.specs.Prelude.{◌≡◌, false, true, IfOk, IfErr};
+
+use servo_arc::{Arc, UniqueArc};
+use std::alloc::{AllocError, Global};
+
+/// How a run of text looks.
+#[derive(Clone, Debug, PartialEq, Drop)]
+pub struct Style {
+    pub size: u32,
+    pub is_bold: bool,
+}
+
+/// A style that is written first and then shared. Where there is no memory for it, the empty style comes back.
+pub fn plain_style(alloc: Global, size: u32) -> Result<Arc<Style>, Style>
+    ensures made { IfOk result (λ style. style.value ≡ record { size = size; is_bold = false }) }
+    ensures refused { IfErr result (λ style. style ≡ record { size = 0; is_bold = false }) }
+{
+    let empty = Style {
+        size: 0,
+        is_bold: false,
+    };
+    let mut style = UniqueArc::new(alloc, empty)?;
+    style.size = size;
+    Ok(style.shareable())
+}
+
+/// The bold form of a style, in a block of its own. Who shares the given style still sees it as it was.
+pub fn with_bold(alloc: Global, style: &Arc<Style>) -> Result<Arc<Style>, AllocError>
+    ensures { IfOk result (λ bold. bold.value ≡ record style.now.value { is_bold = true }) }
+{
+    let mut bold = style.clone()?;
+    Arc::make_mut(&mut bold, alloc)?.is_bold = true;
+    Ok(bold)
+}
+
+/// A style beside its bold form.
+pub fn plain_and_bold(alloc: Global, size: u32) -> Result<(Arc<Style>, Arc<Style>), AllocError>
+    ensures plain { IfOk result (λ styles. styles.0.value ≡ record { size = size; is_bold = false }) }
+    ensures bold { IfOk result (λ styles. styles.1.value ≡ record { size = size; is_bold = true }) }
+{
+    let Ok(plain) = plain_style(alloc, size) else {
+        return Err(AllocError);
+    };
+    let bold = with_bold(alloc, &plain)?;
+    Ok((plain, bold))
+}

@@ -1,0 +1,13 @@
+// One request for memory refused. Each test holds whichever of its requests it is, and says which one it met.
+use std::io::Print;
+use std::test::Fail;
+
+mod builders;
+mod makers;
+mod steps;
+mod tables;
+
+fn tell(rt: &impl Print, request: &str) -> Result<(), Fail> {
+    println!(rt; "refused: {request}")?;
+    Ok(())
+}

@@ -1,0 +1,136 @@
+// What a builder of header slices leaves.
+use super::tell;
+use crate::counted::{Counted, Tally};
+use servo_arc::{Arc, BuildError, HeaderSlice, UniqueArc};
+use std::io::Print;
+use std::process::Abort;
+use std::sync::atomic::AtomicU64;
+use std::sync::atomic::Ordering::SeqCst;
+use std::test::Fail;
+
+// What was asked of an iterator, and what was dropped.
+#[derive(Drop)]
+struct Ledger {
+    asks: AtomicU64,
+    headers: Tally,
+    items: Tally,
+    sources: Tally,
+}
+
+impl Ledger {
+    fn new() -> Ledger {
+        Ledger {
+            asks: AtomicU64::new(0),
+            headers: Tally::new(),
+            items: Tally::new(),
+            sources: Tally::new(),
+        }
+    }
+
+    fn header(&self) -> Counted<'_> {
+        Counted::new(&self.headers, 9)
+    }
+
+    fn two_items(&self) -> Source<'_> {
+        Source {
+            left: 2,
+            ledger: self,
+            end: Counted::new(&self.sources, 0),
+        }
+    }
+}
+
+#[derive(Drop)]
+struct Source<'a> {
+    left: usize,
+    ledger: &'a Ledger,
+    end: Counted<'a>,
+}
+
+impl<'a> Iterator for Source<'a> {
+    ghost use Rattle.std.specs.Iterator.{at_most};
+
+    type Item = Counted<'a>;
+
+    ghost remaining = { λ s. at_most s.left };
+
+    fn next(&mut self) -> Option<Counted<'a>> {
+        self.ledger.asks.fetch_add(1, SeqCst);
+        if self.left == 0 {
+            return None;
+        }
+        self.left -= 1;
+        Some(Counted::new(&self.ledger.items, 5))
+    }
+}
+
+impl ExactSizeIterator for Source<'_> {
+    fn len(&self) -> usize {
+        self.left
+    }
+}
+
+type Built<'a> = Result<Arc<HeaderSlice<Counted<'a>, Counted<'a>>>, BuildError>;
+
+fn check_built(rt: &(impl Abort + Print), ledger: &Ledger, built: Built<'_>) -> Result<(), Fail> {
+    assert_eq!(rt; ledger.sources.drops(), 1);
+    let asks = ledger.asks.load(SeqCst);
+    let drops = (ledger.headers.drops(), ledger.items.drops());
+    match built {
+        Ok(slice) => {
+            assert_eq!(rt; (slice.header.value, slice.len()), (9, 2));
+            assert_eq!(rt; (asks, drops), (3, (0, 0)));
+        }
+        Err(refusal) => {
+            assert_eq!(rt; refusal, BuildError::Memory);
+            assert_eq!(rt; (asks, drops), (0, (1, 0)));
+            tell(rt, "the places of the items or the block")?;
+        }
+    }
+    Ok(())
+}
+
+#[test]
+fn a_refused_builder_asks_for_nothing(rt: HostRuntime) -> Result<(), Fail> {
+    let ledger = Ledger::new();
+    let built = Arc::from_header_and_iter(rt.alloc(), ledger.header(), ledger.two_items());
+    check_built(&rt, &ledger, built)
+}
+
+#[test]
+fn a_refused_builder_with_size_asks_for_nothing(rt: HostRuntime) -> Result<(), Fail> {
+    let ledger = Ledger::new();
+    let (header, items) = (ledger.header(), ledger.two_items());
+    let built = Arc::from_header_and_iter_with_size(rt.alloc(), header, items, 2);
+    check_built(&rt, &ledger, built)
+}
+
+#[test]
+fn a_refused_builder_of_a_static_slice_asks_for_nothing(rt: HostRuntime) -> Result<(), Fail> {
+    let ledger = Ledger::new();
+    let (header, items) = (ledger.header(), ledger.two_items());
+    let built = Arc::from_header_and_iter_alloc(rt.alloc(), header, items, 2, true);
+    check_built(&rt, &ledger, built)
+}
+
+#[test]
+fn a_refused_unique_builder_asks_for_nothing(rt: HostRuntime) -> Result<(), Fail> {
+    let ledger = Ledger::new();
+    let (header, items) = (ledger.header(), ledger.two_items());
+    let built = match UniqueArc::from_header_and_iter(rt.alloc(), header, items) {
+        Ok(unique) => Ok(unique.shareable()),
+        Err(refusal) => Err(refusal),
+    };
+    check_built(&rt, &ledger, built)
+}
+
+#[test]
+fn a_refused_unique_builder_with_size_asks_for_nothing(rt: HostRuntime) -> Result<(), Fail> {
+    let ledger = Ledger::new();
+    let (header, items) = (ledger.header(), ledger.two_items());
+    let built = match UniqueArc::from_header_and_iter_with_size(rt.alloc(), header, items, 2) {
+        Ok(unique) => Ok(unique.shareable()),
+        Err(refusal) => Err(refusal),
+    };
+    check_built(&rt, &ledger, built)
+}

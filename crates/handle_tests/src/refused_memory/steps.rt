@@ -1,0 +1,81 @@
+// What a call on the core leaves, and a run of steps.
+use super::tell;
+use servo_arc::counting_core::{Answer, Core, Step};
+use std::test::Fail;
+
+const LOAD: Step<u32> = Step::Load {
+    owner: 0,
+    handle: 0,
+};
+
+#[test]
+fn a_core_hands_the_value_back(rt: HostRuntime) -> Result<(), Fail> {
+    match Core::new(rt.alloc(), 5u32, 2) {
+        Ok(mut core) => assert_eq!(rt; core.step(LOAD), Answer::Value(5)),
+        Err(value) => {
+            assert_eq!(rt; value, 5);
+            tell(&rt, "the entries")?;
+        }
+    }
+    Ok(())
+}
+
+// A handle is lent and then cloned by the one that borrows it.
+const STEPS: [Step<u32>; 5] = [
+    Step::Lend {
+        owner: 0,
+        handle: 0,
+        to: 1,
+    },
+    Step::Clone {
+        owner: 1,
+        handle: 0,
+    },
+    Step::Raise { owner: 1 },
+    Step::Raise { owner: 1 },
+    Step::Quit { owner: 1 },
+];
+
+const WITH_MEMORY: [Answer<u32>; 5] = [
+    Answer::Done,
+    Answer::Pending,
+    Answer::Born(1),
+    Answer::Barred,
+    Answer::Barred,
+];
+
+const NOT_LENT: [Answer<u32>; 5] = [
+    Answer::Memory,
+    Answer::Barred,
+    Answer::Barred,
+    Answer::Barred,
+    Answer::Barred,
+];
+
+const RAISED_AGAIN: [Answer<u32>; 5] = [
+    Answer::Done,
+    Answer::Pending,
+    Answer::Memory,
+    Answer::Born(1),
+    Answer::Barred,
+];
+
+#[test]
+fn at_most_one_step_of_a_run_is_refused(rt: HostRuntime) -> Result<(), Fail> {
+    let Ok(mut core) = Core::new(rt.alloc(), 5u32, 2) else {
+        return tell(&rt, "the set-up");
+    };
+    let Ok(answers) = core.run(&STEPS) else {
+        // Nothing has happened, so all of it still can.
+        assert_eq!(rt; core.run(&STEPS)?.as_slice(), WITH_MEMORY.as_slice());
+        return tell(&rt, "the room of the answers");
+    };
+    if answers.as_slice() == NOT_LENT.as_slice() {
+        return tell(&rt, "the lending");
+    }
+    if answers.as_slice() == RAISED_AGAIN.as_slice() {
+        return tell(&rt, "the entry of a raise");
+    }
+    assert_eq!(rt; answers.as_slice(), WITH_MEMORY.as_slice());
+    Ok(())
+}

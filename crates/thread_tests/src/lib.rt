@@ -1,0 +1,9 @@
+//! Tests of threads that share one block: clones, drops, marks, writes and tokens against each other.
+#![tactic(auto)]
+
+#[cfg(test)]
+mod many_threads;
+#[cfg(test)]
+mod threads;
+#[cfg(test)]
+mod unions;

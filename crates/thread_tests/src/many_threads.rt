@@ -1,0 +1,115 @@
+// More threads, more handles, and each way in which a handle reaches a thread. Each thread is joined.
+use handle_tests::counted::{Counted, Tally};
+use handle_tests::made::arc_of;
+use servo_arc::{Arc, RawArc, ThinArc};
+use std::test::Fail;
+use std::thread;
+
+const CLONES: u64 = 1000;
+
+// A clone of the trait may be refused while others clone.
+fn clone_if_granted(handle: &Arc<u64>) -> bool {
+    for _ in 0..CLONES {
+        match handle.clone() {
+            Ok(again) if *again != 7 => return false,
+            _ => {}
+        }
+    }
+    true
+}
+
+#[test]
+fn four_threads_clone_within_bounds(rt: HostRuntime) -> Result<(), Fail> {
+    let a = arc_of(rt.alloc(), 7u64)?;
+    let done = thread::join(
+        &rt,
+        || thread::join(&rt, || clone_if_granted(&a), || clone_if_granted(&a)),
+        || thread::join(&rt, || clone_if_granted(&a), || clone_if_granted(&a)),
+    );
+    assert_eq!(rt; done, ((true, true), (true, true)));
+    assert!(rt; a.is_unique() && *a == 7);
+    Ok(())
+}
+
+fn clone_and_drop<T: Send + Sync + Drop>(handle: &Arc<T>) {
+    for _ in 0..CLONES {
+        let again: Result<_, _> = handle.clone();
+        drop(again);
+    }
+}
+
+#[test]
+fn a_header_slice_of_two_threads_is_dropped_once(rt: HostRuntime) -> Result<(), Fail> {
+    let (header, first, second) = (Tally::new(), Tally::new(), Tally::new());
+    let items = vec![in rt.alloc(); Counted::new(&first, 1), Counted::new(&second, 2)]?;
+    let a: ThinArc<Counted<'_>, Counted<'_>> = Arc::from_header_and_iter(
+        rt.alloc(),
+        Counted::new(&header, 3),
+        items.into_iter(),
+    )?;
+    let b = a.clone()?;
+    thread::join(
+        &rt,
+        || {
+            clone_and_drop(&a);
+            drop(a);
+        },
+        || {
+            clone_and_drop(&b);
+            drop(b);
+        },
+    );
+    assert_eq!(rt; (header.drops(), first.drops(), second.drops()), (1, 1, 1));
+    Ok(())
+}
+
+// A token that may be moved to a thread: a closure holds only what may be dropped.
+struct Parcel<'a> {
+    raw: RawArc<Counted<'a>>,
+}
+
+impl<'a> Parcel<'a> {
+    fn open(self) -> Arc<Counted<'a>> {
+        let Parcel { raw } = self;
+        Arc::from_raw(raw)
+    }
+}
+
+impl Drop for Parcel<'_> {
+    fn drop(self) {
+        let Parcel { raw } = self;
+        drop(Arc::from_raw(raw));
+    }
+}
+
+#[test]
+fn a_token_is_spent_on_another_thread(rt: HostRuntime) -> Result<(), Fail> {
+    let tally = Tally::new();
+    let a = arc_of(rt.alloc(), Counted::new(&tally, 5))?;
+    let parcel = Parcel {
+        raw: Arc::into_raw(a.clone()?),
+    };
+    let (read, _) = thread::join(
+        &rt,
+        || parcel.open().value,
+        || {
+            clone_and_drop(&a);
+            drop(a);
+        },
+    );
+    assert_eq!(rt; (read, tally.drops()), (5, 1));
+    Ok(())
+}
+
+#[test]
+fn a_marked_value_outlives_two_threads(rt: HostRuntime) -> Result<(), Fail> {
+    let tally = Tally::new();
+    let a = Arc::new_leaked(rt.alloc(), Counted::new(&tally, 5))
+        .ok()
+        .ok_or("memory")?;
+    thread::join(&rt, || clone_and_drop(&a), || clone_and_drop(&a));
+    assert!(rt; a.is_static() && !a.is_unique());
+    drop(a);
+    assert_eq!(rt; tally.drops(), 0);
+    Ok(())
+}

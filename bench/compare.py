@@ -4,7 +4,8 @@
 `BENCH PEER WORKLOAD N` and `PROGRAM WORKLOAD N` are run in turn, and a second time the peer, as the control: what
 noise alone gives. From each run a run of no iterations is taken off, so that the preparation is not measured. Both have
 to print one checksum. It prints the nanoseconds a unit, the median of the ratios of elapsed time with their middle
-half, the median of the control's, and that of the ratios of processor time.
+half, the median of the control's, and the same of processor time, which counts no time in which the machine was busy
+with other programs.
 
 The status is 1 where a checksum differs or a workload that was named does not run.
 """
@@ -15,8 +16,8 @@ import sys
 
 from measure import instructions, median, middle_half, ratio, timed
 
-COLUMNS = ["workload", "peer_ns", "program_ns", "ratio", "low", "high", "control", "cpu_ratio", "peer_instructions",
-           "program_instructions"]
+COLUMNS = ["workload", "peer_ns", "program_ns", "ratio", "low", "high", "control", "peer_cpu_ns", "program_cpu_ns",
+           "cpu_ratio", "peer_instructions", "program_instructions"]
 
 
 def arguments():
@@ -69,9 +70,12 @@ def measured(commands, units, iterations, repeats):
         runs.append([found[which] for which in range(3)])
     ratios = [ratio(r[1][0], r[0][0]) for r in runs]
     low, high = middle_half(ratios)
+
+    def ns(which, clock):
+        return median([r[which][clock] for r in runs]) / (units * iterations) * 1e9
+
     return {
-        "peer_ns": median([r[0][0] for r in runs]) / (units * iterations) * 1e9,
-        "program_ns": median([r[1][0] for r in runs]) / (units * iterations) * 1e9,
+        "peer_ns": ns(0, 0), "program_ns": ns(1, 0), "peer_cpu_ns": ns(0, 1), "program_cpu_ns": ns(1, 1),
         "ratio": median(ratios), "low": low, "high": high,
         "control": median([ratio(r[2][0], r[0][0]) for r in runs]),
         "cpu_ratio": median([ratio(r[1][1], r[0][1]) for r in runs]),
@@ -90,7 +94,8 @@ def counted(commands, units, iterations):
 
 def shown(name, figures):
     line = (f"{name:<16} {figures['peer_ns']:>9.2f} {figures['program_ns']:>10.2f} {figures['ratio']:>7.2f}"
-            f"   {figures['low']:.2f} .. {figures['high']:.2f} {figures['control']:>8.2f} {figures['cpu_ratio']:>6.2f}")
+            f"   {figures['low']:.2f} .. {figures['high']:.2f} {figures['control']:>8.2f}"
+            f"   {figures['peer_cpu_ns']:>8.2f} {figures['program_cpu_ns']:>8.2f} {figures['cpu_ratio']:>6.2f}")
     if "program_instructions" in figures and "peer_instructions" in figures:
         line += f"   {figures['peer_instructions']:.1f} -> {figures['program_instructions']:.1f}"
     return line
@@ -109,8 +114,8 @@ def main():
     bench, program = os.path.abspath(asked.bench), os.path.abspath(asked.program)
     known = workloads_of(bench, asked.peer)
     rows, wrong = [], 0
-    print(f"{'workload':<16} {'peer ns':>9} {'program ns':>10} {'ratio':>7}   {'middle half':<12} {'control':>8} {'cpu':>6}"
-          + ("   instructions" if asked.instructions else ""))
+    print(f"{'workload':<16} {'peer ns':>9} {'program ns':>10} {'ratio':>7}   {'middle half':<12} {'control':>8}"
+          f"   {'peer cpu':>8} {'program':>8} {'ratio':>6}" + ("   instructions" if asked.instructions else ""))
     for name in asked.workloads or known:
         if name not in known:
             print(f"{name:<16} is none of {asked.peer}")

@@ -37,7 +37,7 @@ def line(x1, y1, x2, y2, color, width=1.0):
 
 
 def axis(place, most, bottom):
-    """A line for each tenth or half, the heavier one at 1."""
+    """A line for each quarter or half, the heavier one at 1."""
     step = 0.25 if most <= 2.5 else 0.5
     count = int(most / step + 1e-9)
     for tick in (step * k for k in range(count + 1)):
@@ -76,7 +76,7 @@ def picture(rows, goals, title):
     yield from axis(place, most, bottom)
     for k, row in enumerate(rows):
         yield from bar(row, TOP + ROW * k, place, goals.get(row["workload"]))
-    yield text(LEFT, bottom + 20, "bar: median ratio; black line: its middle half; ring: the control; green: the goal;"
+    yield text(8, bottom + 20, "bar: median ratio; black line: its middle half; ring: the control; green: the goal;"
                " red: over it")
     yield "</svg>"
 

@@ -6,6 +6,7 @@ mod builders;
 mod makers;
 mod steps;
 mod tables;
+mod union_tables;
 
 fn tell(rt: &impl Print, request: &str) -> Result<(), Fail> {
     println!(rt; "refused: {request}")?;

@@ -1,8 +1,13 @@
 pub mod Asking
 pub mod Boxes
 pub mod Fields
+pub mod LeavingFields
 pub mod LooseBoxes
 pub mod Owners
+pub mod PlacesFields
+pub mod PlacesMade
+pub mod PlacesOpened
+pub mod PlacesShared
 pub mod Sent
 pub mod Steps
 pub mod Walks

@@ -1,7 +1,9 @@
 -- What a header slice is to its holder.
 pub mod Builders
+pub mod ItemsLending
 pub mod Lending
 pub mod PlacesLending
+pub mod PlacesOwnership
 pub mod Pulls
 pub mod UniqueLending
 use Rattle.std.specs.Prelude.{ℕ, List, length}
@@ -12,7 +14,7 @@ pub record HeaderAndItems (H T : Type 0) : Type 0 where
   pub items : List T
 
 -- the items so far, and how many there may be
-pub record Places (T : Type 0) : Type 0 where
+pub record ItemsInRoom (T : Type 0) : Type 0 where
   pub items : List T
   pub room : ℕ
 

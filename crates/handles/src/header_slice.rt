@@ -7,6 +7,7 @@ ghost use Rattle.std.specs.Cmp.Lexicographic.{pointwise, lists_per, lists_equiv}
 mod build;
 mod items;
 mod makers;
+mod places;
 
 use crate::arc::Arc;
 pub use build::BuildError;

@@ -134,3 +134,32 @@ fn a_refused_unique_builder_with_size_asks_for_nothing(rt: HostRuntime) -> Resul
     };
     check_built(&rt, &ledger, built)
 }
+
+// Only the block is asked for: a run whose second request is refused refuses nothing here.
+fn check_one_request<T: Drop + Send + Sync>(
+    rt: &(impl Abort + Print),
+    built: Result<Arc<HeaderSlice<u64, T>>, BuildError>,
+    len: usize,
+) -> Result<(), Fail> {
+    match built {
+        Ok(slice) => assert_eq!(rt; (slice.header, slice.len()), (9, len)),
+        Err(refusal) => {
+            assert_eq!(rt; refusal, BuildError::Memory);
+            tell(rt, "the block alone")?;
+        }
+    }
+    Ok(())
+}
+
+#[test]
+fn a_builder_of_items_without_size_asks_for_its_block_alone(rt: HostRuntime) -> Result<(), Fail> {
+    let built = Arc::from_header_and_iter(rt.alloc(), 9, [(), (), ()].into_iter());
+    check_one_request(&rt, built, 3)
+}
+
+#[test]
+fn a_builder_of_no_items_asks_for_its_block_alone(rt: HostRuntime) -> Result<(), Fail> {
+    let none: [u64; 0] = [];
+    let built = Arc::from_header_and_iter(rt.alloc(), 9, none.into_iter());
+    check_one_request(&rt, built, 0)
+}

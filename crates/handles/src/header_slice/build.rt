@@ -1,5 +1,5 @@
 // How a header slice takes its items from an iterator.
-ghost use Rattle.std.specs.Prelude.{◌≡◌, [], IfOk, IfErr, OnOk};
+ghost use Rattle.std.specs.Prelude.{◌≡◌, [], IfOk, IfErr};
 ghost use Rattle.handles.specs.HeaderSlice.Pulls.{GivesRight};
 ghost use Rattle.handles.specs.HeaderSlice.Builders.{Refuses, IsBuilt};
 ghost use Rattle.handles.specs.declared.header_slice.build.BuildError.TheVariants.{Memory};
@@ -42,37 +42,35 @@ pub(super) fn build<H: Send + Sync + Drop, T: Send + Sync + Drop, I: Iterator<It
     ensures built { IfOk result (λ u. IsBuilt I.next_gives source number header u.value) }
     ensures refused { IfErr result (Refuses I.next_gives source number) }
 {
-    let mut items = Items::with_room(alloc, number)?;
+    let items = Items::with_room(alloc, number)?;
     let block = UniqueArc::new_uninit(alloc)?;
-    items.take_all(source, number)?;
+    let items = items.take_all(source, number)?;
     Ok(block.write(HeaderSlice { header, items }))
 }
 
 impl<T: Drop> Items<T> {
-    // Asks until the number of items was taken and then once more, or until `None`.
+    // Asks until every place is filled and then once more, or until `None`.
     fn take_all<I: Iterator<Item = T>>(
-        &mut self,
+        mut self,
         mut source: I,
         number: usize,
-    ) -> Result<(), BuildError>
+    ) -> Result<Items<T>, BuildError>
         requires can_next { I.can_next source }
-        requires empty { self.old.items ≡ [] }
-        ensures taken { OnOk result (GivesRight I.next_gives source number self.new.items) }
+        requires empty { self.items ≡ [] }
+        requires room { self.room ≡ number }
+        ensures taken { IfOk result (λ i. GivesRight I.next_gives source number i.items) }
         ensures refused { IfErr result (Refuses I.next_gives source number) }
     {
         while self.len() < number {
-            if self.is_full() {
-                return Err(BuildError::Memory);
-            }
             match source.next() {
                 Some(item) => self.push(item),
                 None => return Err(BuildError::OverReported),
             }
         }
         let Some(extra) = source.next() else {
-            return Ok(());
+            return Ok(self);
         };
-        self.clear();
+        drop(self);
         drop(extra);
         Err(BuildError::UnderReported)
     }

@@ -1,57 +1,40 @@
-// Places for items whose number is known before the first of them comes.
-ghost use Rattle.std.specs.Prelude.{◌≡◌, ◌<◌, ◌≤◌, ◌↔◌, [], ◌∷◌, ◌++◌, length, min, IfOk, IsTrue};
+// Items in one block whose room is known before the first of them comes.
+ghost use Rattle.std.specs.Prelude.{◌≡◌, ◌<◌, [], ◌∷◌, ◌++◌, length, IfOk};
 ghost use Rattle.std.specs.Borrow.{sem};
 
+use super::places::{Places, has_no_size};
 use std::alloc::{AllocError, Global};
 use std::marker::Model;
+use std_alloc::room::may_hold;
 
-// The library's vector has room for no more, also where the items have no size.
-const MOST_PLACES: usize = isize::MAX as usize;
-
-#[derive(Drop)]
 pub(super) struct Items<T> {
-    list: Vec<T>,
+    places: Places<T, Global>,
+    alloc: Global,
 }
 
 impl<T> Model for Items<T> {
-    ghost use Rattle.std.specs.Prelude.{vec_capacity};
-    ghost use Rattle.handles.specs.HeaderSlice.{Places};
+    ghost use Rattle.handles.specs.HeaderSlice.{ItemsInRoom};
 
-    ghost Value = { Places T };
+    ghost Value = { ItemsInRoom T };
 
-    ghost view = { λ i. record { items = i.list.items; room = vec_capacity i.list } };
-}
-
-impl<T: Drop> Items<T> {
-    // Drops the items from first to last.
-    pub(super) fn clear(&mut self)
-        ensures { self.new.items ≡ [] }
-    {
-        self.list.clear();
-    }
+    ghost view = { λ i. record { items = i.places.items; room = i.places.room } };
 }
 
 impl<T> Items<T> {
-    ghost use Rattle.handles.specs.HeaderSlice.PlacesLending.{LendsPlaces};
+    ghost use Rattle.handles.specs.HeaderSlice.ItemsLending.{LendsItemsInRoom};
 
+    // Asks for no memory where there is no room or the items have no size.
     pub(super) fn with_room(alloc: Global, room: usize) -> Result<Items<T>, AllocError>
-        ensures { IfOk result (λ i. (i.items ≡ []) × (i.room ≡ min room MOST_PLACES)) }
+        ensures { IfOk result (λ i. (i.items ≡ []) × (i.room ≡ room)) }
     {
-        Ok(Items {
-            list: Vec::with_capacity(alloc, room.min(MOST_PLACES))?,
-        })
-    }
-
-    pub(super) fn len(&self) -> usize
-        ensures { result ≡ length self.now.items }
-    {
-        self.list.len()
-    }
-
-    pub(super) fn is_full(&self) -> bool
-        ensures { IsTrue result ↔ (self.now.room ≤ length self.now.items) }
-    {
-        self.list.len() == self.list.capacity()
+        let places = if room == 0 || has_no_size::<T>() {
+            Places::without_bytes(&alloc, room)
+        } else if may_hold::<T>(room) {
+            Places::reserve(&alloc, room)?
+        } else {
+            return Err(AllocError);
+        };
+        Ok(Items { places, alloc })
     }
 
     pub(super) fn push(&mut self, item: T)
@@ -59,21 +42,40 @@ impl<T> Items<T> {
         ensures items { self.new.items ≡ self.old.items ++ item ∷ [] }
         ensures room { self.new.room ≡ self.old.room }
     {
-        self.list.push_reserved(item);
+        self.places.push(item);
+    }
+
+    pub(super) fn len(&self) -> usize
+        ensures { result ≡ length self.now.items }
+    {
+        self.slice().len()
     }
 
     #[inline]
     pub(super) fn slice(&self) -> &[T]
         ensures { result.now ≡ self.now.items }
     {
-        self.list.as_slice()
+        self.places.slice()
     }
 
     #[inline]
     pub(super) fn slice_mut(&mut self) -> &mut [T]
-        ensures* writes_back { sem 𝓛 (LendsPlaces T.row self.entry result) }
+        ensures* writes_back { sem 𝓛 (LendsItemsInRoom T.row self.entry result) }
         ensures value { result.now ≡ self.old.items }
     {
-        self.list.as_mut_slice()
+        self.places.slice_mut()
+    }
+}
+
+// The items from first to last, and then their block.
+impl<T: Drop> Drop for Items<T> {
+    fn drop(self) {
+        let Items { places, alloc } = self;
+        let number = places.slice().len();
+        let mut leaving = places.into_leaving();
+        for _ in 0..number {
+            drop(leaving.take_first());
+        }
+        leaving.give_back(&alloc);
     }
 }

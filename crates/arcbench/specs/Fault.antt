@@ -1,5 +1,5 @@
 -- How the program tells of a fault by its exit status.
-use Rattle.std.specs.Prelude.{ℕ, ◌≢◌, Option, Some, None, Result, Ok, Err}
+use Rattle.std.specs.Prelude.{ℕ, ◌≢◌}
 use Rattle.arcbench.specs.declared.fault.Fault.{Fault}
 use Rattle.arcbench.specs.declared.fault.Fault.TheVariants.{Arguments, Line, Input, Output, Memory}
 
@@ -13,9 +13,3 @@ status_of Memory = 5
 -- the fault comes once the script was read
 abbrev pub IsFaultOfRun : Fault → Type 0
 IsFaultOfRun fault = (fault ≢ Arguments) × (fault ≢ Input)
-
--- how a run ends: at the faulty line of that number, at a failed write, or else well
-abbrev pub ending : {E : Type 0} → Result (Option ℕ) E → Result Unit Fault
-ending (Ok None) = Ok tt
-ending (Ok (Some number)) = Err (Line number)
-ending (Err _) = Err Output

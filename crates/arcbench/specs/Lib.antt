@@ -1,4 +1,5 @@
 pub mod Arguments
+pub mod CoreScript
 pub mod Fault
 pub mod Line
 pub mod Number
@@ -7,3 +8,5 @@ pub mod StepAnswer
 pub mod StepLine
 pub mod TableAnswer
 pub mod TableLine
+pub mod TableScript
+pub mod Told

@@ -1,14 +1,15 @@
 //! Scripts of `core`: their lines are steps of a counting core.
 ghost use Rattle.std.specs.Prelude.{◌≡◌, ℕ, ◌<◌, IfErr, IfOk, IfSome, IfNone};
-ghost use Rattle.servo_arc.specs.Answer.{Answer};
-ghost use Rattle.servo_arc.specs.Represents.{Continues, Represents};
+ghost use Rattle.servo_arc.specs.Represents.{Represents};
 ghost use Rattle.servo_arc.specs.Step.{Step};
 ghost use Rattle.servo_arc.specs.Trace.{Open};
 ghost use Rattle.arcbench.specs.declared.line.Operands.TheVariants.{One, Two, Three};
+ghost use Rattle.arcbench.specs.CoreScript.{CoreAnswers, NamesNoStep, PrintsLegalTrace};
 ghost use Rattle.arcbench.specs.Fault.{IsFaultOfRun};
 ghost use Rattle.arcbench.specs.declared.fault.Fault.TheVariants as Fault;
 ghost use Rattle.arcbench.specs.StepAnswer.{answer_number, answer_words};
 ghost use Rattle.arcbench.specs.StepLine.{IsStepLine, Names};
+ghost use Rattle.arcbench.specs.Told.{IsTold};
 
 use crate::fault::Fault;
 use crate::line::{Line, Operands, read_line};
@@ -28,7 +29,8 @@ pub fn run<W: Write>(
     output: &mut W,
 ) -> Result<(), Fault>
     requires { 0 < owners }
-    ensures { IfErr result IsFaultOfRun }
+    ensures fault { IfErr result IsFaultOfRun }
+    ensures told { IsTold (PrintsLegalTrace owners script.now) (W.contents output.old) (W.contents output.new) result }
 {
     let mut core = open(alloc, owners)?;
     script::run(alloc, script, &mut core, output)
@@ -43,13 +45,11 @@ fn open(alloc: Global, owners: usize) -> Result<Core<u32>, Fault>
 }
 
 impl Interpreter for Core<u32> {
-    fn answer_to(&mut self, line: &[u8]) -> Option<script::Answer>
-        ensures answered { IfSome result (λ printed. (step : Step ℕ) × IsStepLine line.now step ×
-            (answer : Answer ℕ) × Continues self.old step answer self.new ×
-            (printed.words.now ≡ answer_words answer) × (printed.number ≡ answer_number answer)) }
-        ensures faulty { IfNone result ((step : Step ℕ) → ¬ (IsStepLine line.now step)) }
-        ensures unchanged { IfNone result (self.new ≡ self.old) }
-    {
+    ghost answers = { CoreAnswers };
+
+    ghost is_faulty = { λ _ line. NamesNoStep line };
+
+    fn answer_to(&mut self, line: &[u8]) -> Option<script::Answer> {
         let step = step_of(line)?;
         Some(printed(self.step(step)))
     }
@@ -57,14 +57,14 @@ impl Interpreter for Core<u32> {
 
 fn step_of(line: &[u8]) -> Option<Step<u32>>
     ensures step { IfSome result (IsStepLine line.now) }
-    ensures faulty { IfNone result ((step : Step ℕ) → ¬ (IsStepLine line.now step)) }
+    ensures faulty { IfNone result (NamesNoStep line.now) }
 {
     let line = read_line(line)?;
     match line.operands {
         Operands::One(owner) => owner_step(&line, owner as usize),
         Operands::Two(owner, handle) => handle_step(&line, owner as usize, handle as usize),
         Operands::Three(owner, handle, last) => {
-            wide_step(&line, owner as usize, handle as usize, last)
+            three_number_step(&line, owner as usize, handle as usize, last)
         }
     }
 }
@@ -111,7 +111,7 @@ fn handle_step(line: &Line<'_>, owner: usize, handle: usize) -> Option<Step<u32>
     }
 }
 
-fn wide_step(line: &Line<'_>, owner: usize, handle: usize, last: u32) -> Option<Step<u32>>
+fn three_number_step(line: &Line<'_>, owner: usize, handle: usize, last: u32) -> Option<Step<u32>>
     ensures step { IfSome result (Names line.now.word.now (Three owner handle last)) }
     ensures faulty { IfNone result ((step : Step ℕ) → ¬ (Names line.now.word.now (Three owner handle last) step)) }
 {

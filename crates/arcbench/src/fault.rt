@@ -1,5 +1,6 @@
 //! What ends a run before the end of its script.
 ghost use Rattle.std.specs.Prelude.{◌≡◌};
+ghost use Rattle.arcbench.specs.declared.fault.Fault.TheVariants as Fault;
 
 use std::alloc::AllocError;
 use std::io::Write;
@@ -20,6 +21,8 @@ pub enum Fault {
 }
 
 impl From<AllocError> for Fault {
+    ghost from_gives = { λ _ fault. fault ≡ Fault.Memory };
+
     fn from(_error: AllocError) -> Fault {
         Fault::Memory
     }

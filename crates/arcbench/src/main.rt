@@ -11,8 +11,10 @@ mod script;
 mod table_line;
 mod table_script;
 
-ghost use Rattle.std.specs.Prelude.{◌≡◌, ◌≤◌, ◌↔◌, ◌⊎◌, IsErrOf, map};
-ghost use Rattle.arcbench.specs.Arguments.{AskNothing};
+ghost use Rattle.std.specs.Prelude.{◌≡◌, ◌≤◌, ◌↔◌, ◌⊎◌, IfSome, IsErrOf, map};
+ghost use Rattle.arcbench.specs.Arguments.{AskNothing, Asks};
+ghost use Rattle.arcbench.specs.Told.{IsTold, IsToldByStatus, PrintsAsAsked};
+ghost use Rattle.arcbench.specs.declared.arguments.Request.{Request as Asked};
 ghost use Rattle.arcbench.specs.declared.fault.Fault.TheVariants as Fault;
 
 use arguments::Request;
@@ -39,6 +41,9 @@ pub fn bench<S: AsStr, R: Read, W: Write, E: Write>(
     ensures arguments { (result ≡ 1) ↔ AskNothing (map S.text words.now) }
     ensures unread { result ≡ 1 → input.new ≡ input.old }
     ensures unwritten { (result ≡ 1) ⊎ (result ≡ 3) → output.new ≡ output.old }
+    ensures told { (result ≡ 1) ⊎ ((request : Asked) × Asks (map S.text words.now) request
+        × IfSome (R.remaining input.old) (λ script.
+        IsToldByStatus (PrintsAsAsked request script) (W.contents output.old) (W.contents output.new) result)) }
 {
     match run(alloc, words, input, output) {
         Ok(()) => 0,
@@ -55,6 +60,9 @@ fn run<S: AsStr, R: Read, W: Write>(
     ensures arguments { IsErrOf result Fault.Arguments ↔ AskNothing (map S.text words.now) }
     ensures unread { IsErrOf result Fault.Arguments → input.new ≡ input.old }
     ensures unwritten { IsErrOf result Fault.Arguments ⊎ IsErrOf result Fault.Input → output.new ≡ output.old }
+    ensures told { IsErrOf result Fault.Arguments ⊎ ((request : Asked) × Asks (map S.text words.now) request
+        × IfSome (R.remaining input.old) (λ script.
+        IsTold (PrintsAsAsked request script) (W.contents output.old) (W.contents output.new) result)) }
 {
     let request = Request::from_words(words).ok_or(Fault::Arguments)?;
     let script = script::read(alloc, input)?;

@@ -1,19 +1,23 @@
 //! Scripts, whatever the language of their lines.
-ghost use Rattle.std.specs.Prelude.{◌≡◌, ◌≢◌, ◌⊎◌, IfErr, IfSome, OnOk, IfOk};
+ghost use Rattle.std.specs.Prelude.{◌≡◌, ◌≢◌, ◌⊎◌, ℕ, ◌<◌, List, [], ◌∷◌, ◌++◌, length, Some, None, IfErr, IfSome, IfNone, OnOk, OnErr, IfOk, codes};
 ghost use Rattle.std.specs.IoError.{error_kind};
 ghost use Rattle.std.specs.Io.KnownBytes.{Appends};
-ghost use Rattle.arcbench.specs.Fault.{IsFaultOfRun, ending};
-ghost use Rattle.arcbench.specs.Script.{answer_text};
+ghost use Rattle.arcbench.specs.Fault.{IsFaultOfRun};
+ghost use Rattle.arcbench.specs.Script.{AreLines, IsBegun, Prints, PrintsBeginning, answer_text};
 ghost use Rattle.arcbench.specs.declared.fault.Fault.TheVariants as Fault;
 
 use crate::fault::Fault;
 use itoa::Buffer;
-use std::alloc::Global;
+use std::alloc::{AllocError, Global};
 use std::io;
-use std::io::{BufWriter, ErrorKind, Read, Write};
+use std::io::{ErrorKind, Read, Write};
 
-/// Answers are written in parts of so many bytes.
+/// Answers are gathered until they are so many bytes, and then written as one part. A `BufWriter` in
+/// place of the `Vec` would leave unproved that they reach this output.
 const PART_SIZE: usize = 1 << 16;
+
+/// A part's last answer may go past its size by less than this.
+const ANSWER_ROOM: usize = 64;
 
 /// An answer as it is printed: its words, and the number after them, if there is one.
 #[derive(Clone, Copy)]
@@ -24,8 +28,18 @@ pub struct Answer {
 
 /// What runs the lines of a script, one after the other.
 pub trait Interpreter {
+    // The line may be answered by this text, which leaves the second state.
+    ghost answers: { Self → List ℕ → List ℕ → Self → Type 0 };
+
+    // The line is faulty in this state.
+    ghost is_faulty: { Self → List ℕ → Type 0 };
+
     /// The answer to a line, or nothing where the line is faulty. A faulty line changes nothing.
-    fn answer_to(&mut self, line: &[u8]) -> Option<Answer>;
+    fn answer_to(&mut self, line: &[u8]) -> Option<Answer>
+        ensures answered { IfSome result (λ answer. answers self.old line.now
+            (answer_text answer.words.now answer.number) self.new) }
+        ensures faulty { IfNone result (is_faulty self.old line.now) }
+        ensures unchanged { IfNone result (self.new ≡ self.old) };
 }
 
 /// The whole script.
@@ -58,56 +72,89 @@ pub fn run<I: Interpreter, W: Write>(
     interpreter: &mut I,
     output: &mut W,
 ) -> Result<(), Fault>
-    ensures { IfErr result IsFaultOfRun }
+    ensures fault { IfErr result IsFaultOfRun }
+    ensures to_end { OnOk result ((text : List ℕ)
+        × Prints I.answers I.is_faulty interpreter.old script.now None text interpreter.new
+        × Appends (W.contents output.old) (W.contents output.new) text) }
+    ensures to_faulty_line { IfErr result (λ fault. (number : ℕ) → fault ≡ Fault.Line number → (text : List ℕ)
+        × Prints I.answers I.is_faulty interpreter.old script.now (Some number) text interpreter.new
+        × Appends (W.contents output.old) (W.contents output.new) text) }
+    ensures begun { OnErr result (IsBegun I.answers interpreter.old script.now interpreter.new) }
+    ensures out_of_memory { IfErr result (λ fault. fault ≡ Fault.Memory → (text : List ℕ)
+        × PrintsBeginning I.answers interpreter.old script.now text interpreter.new
+        × Appends (W.contents output.old) (W.contents output.new) text) }
 {
-    let mut answers = BufWriter::with_capacity(alloc, PART_SIZE, output).map_err(
-        |_| Fault::Memory,
-    )?;
-    let outcome = write_answers(script, interpreter, &mut answers);
-    // Taken apart, so that its drop does not try a failed write again.
-    let _unwritten = answers.into_parts();
-    end_of(outcome)
-}
-
-/// How a run ends, by the number of its faulty line.
-fn end_of(outcome: io::Result<Option<u64>>) -> Result<(), Fault>
-    ensures { result ≡ ending outcome }
-{
-    match outcome {
-        Ok(None) => Ok(()),
-        Ok(Some(faulty)) => Err(Fault::Line(faulty)),
-        Err(_) => Err(Fault::Output),
-    }
-}
-
-/// The number of the faulty line that ended the run, if one did.
-fn write_answers<I: Interpreter, W: Write>(
-    script: &[u8],
-    interpreter: &mut I,
-    answers: &mut W,
-) -> io::Result<Option<u64>> {
-    let mut faulty = None;
-    for (number, line) in (1u64..).zip(script.split_inclusive(|byte| *byte == b'\n')) {
-        let line = line.strip_suffix(b"\n").unwrap_or(line);
+    let mut part = Vec::with_capacity(alloc, PART_SIZE + ANSWER_ROOM)?;
+    let mut number = 0;
+    let mut rest = script;
+    while let Some((line, after)) = split_line(rest) {
+        number += 1;
         let Some(answer) = interpreter.answer_to(line) else {
-            let fault = Fault::Line(number);
-            writeln!(answers, "{fault}")?;
-            faulty = Some(number);
-            break;
+            append_answer(&mut part, fault_at(number))?;
+            write_last(&part, output)?;
+            return Err(Fault::Line(number));
         };
-        write_answer(answers, answer)?;
+        append_answer(&mut part, answer)?;
+        if part.len() >= PART_SIZE {
+            write_part(&mut part, output)?;
+        }
+        rest = after;
     }
-    answers.flush()?;
-    Ok(faulty)
+    write_last(&part, output)
 }
 
-fn write_answer<W: Write>(answers: &mut W, answer: Answer) -> io::Result<()>
-    ensures { OnOk result (Appends (W.contents answers.old) (W.contents answers.new)
-        (answer_text answer.words.now answer.number)) }
+/// A faulty line is told of as an answer is.
+fn fault_at(number: u64) -> Answer
+    ensures words { result.words.now ≡ codes "fault: line " }
+    ensures number { result.number ≡ Some number }
 {
-    answers.write_all(answer.words.as_bytes())?;
-    if let Some(number) = answer.number {
-        answers.write_all(Buffer::new().format(number).as_bytes())?;
+    Answer {
+        words: "fault: line ",
+        number: Some(number),
     }
-    answers.write_all(b"\n")
+}
+
+/// The first line of a text, without its line feed, and what comes after it, if a line is left.
+fn split_line(text: &[u8]) -> Option<(&[u8], &[u8])>
+    ensures first { IfSome result (λ split. (lines : List (List ℕ)) → AreLines split.1.now lines
+        → AreLines text.now (split.0.now ∷ lines)) }
+    ensures shorter { IfSome result (λ split. length split.1.now < length text.now) }
+    ensures end { IfNone result (text.now ≡ []) }
+{
+    if text.is_empty() {
+        return None;
+    }
+    match text.iter().position(|byte| *byte == b'\n') {
+        Some(end) => Some((&text[..end], &text[end + 1..])),
+        None => Some((text, &[])),
+    }
+}
+
+fn append_answer(part: &mut Vec<u8>, answer: Answer) -> Result<(), AllocError>
+    ensures { OnOk result (part.new.items ≡ part.old.items ++ answer_text answer.words.now answer.number) }
+{
+    part.extend_from_slice(answer.words.as_bytes())?;
+    if let Some(number) = answer.number {
+        part.extend_from_slice(Buffer::new().format(number).as_bytes())?;
+    }
+    part.extend_from_slice(b"\n")
+}
+
+/// Passes the gathered answers on.
+fn write_part<W: Write>(part: &mut Vec<u8>, output: &mut W) -> Result<(), Fault>
+    ensures written { OnOk result (Appends (W.contents output.old) (W.contents output.new) part.old.items) }
+    ensures emptied { OnOk result (part.new.items ≡ []) }
+    ensures fault { IfErr result (λ fault. fault ≡ Fault.Output) }
+{
+    output.write_all(part).map_err(|_| Fault::Output)?;
+    part.clear();
+    Ok(())
+}
+
+fn write_last<W: Write>(part: &[u8], output: &mut W) -> Result<(), Fault>
+    ensures written { OnOk result (Appends (W.contents output.old) (W.contents output.new) part.now) }
+    ensures fault { IfErr result (λ fault. fault ≡ Fault.Output) }
+{
+    output.write_all(part).map_err(|_| Fault::Output)?;
+    output.flush().map_err(|_| Fault::Output)
 }

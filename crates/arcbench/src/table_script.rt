@@ -1,11 +1,11 @@
 //! Scripts of `table`: their lines are commands on a table of handles, and what its slots read.
 ghost use Rattle.std.specs.Prelude.{◌≡◌, IfErr, IfOk, IfSome, IfNone, None, replicate, slice_get};
 ghost use Rattle.std.specs.Option.{option_flatten};
-ghost use Rattle.arcbench.specs.declared.table_line.TableLine.{TableLine};
 ghost use Rattle.arcbench.specs.Fault.{IsFaultOfRun};
 ghost use Rattle.arcbench.specs.declared.fault.Fault.TheVariants as Fault;
 ghost use Rattle.arcbench.specs.TableAnswer.{IsAnswered, reading_words, reply_words};
-ghost use Rattle.arcbench.specs.TableLine.{IsTableLine};
+ghost use Rattle.arcbench.specs.TableScript.{AsksNothing, PrintsPlainTable, TableAnswers};
+ghost use Rattle.arcbench.specs.Told.{IsTold};
 
 use crate::fault::Fault;
 use crate::script;
@@ -21,7 +21,8 @@ pub fn run<W: Write>(
     script: &[u8],
     output: &mut W,
 ) -> Result<(), Fault>
-    ensures { IfErr result IsFaultOfRun }
+    ensures fault { IfErr result IsFaultOfRun }
+    ensures told { IsTold (PrintsPlainTable slots script.now) (W.contents output.old) (W.contents output.new) result }
 {
     let mut handles = Handles::new(alloc, slots)?;
     script::run(alloc, script, &mut handles, output)
@@ -35,12 +36,11 @@ struct Handles {
 }
 
 impl Interpreter for Handles {
-    fn answer_to(&mut self, line: &[u8]) -> Option<Answer>
-        ensures answered { IfSome result (λ answer. (asked : TableLine) × IsTableLine line.now asked ×
-            IsAnswered asked self.old.table answer.words.now answer.number self.new.table) }
-        ensures faulty { IfNone result ((asked : TableLine) → ¬ (IsTableLine line.now asked)) }
-        ensures unchanged { IfNone result (self.new ≡ self.old) }
-    {
+    ghost answers = { λ old line text new. TableAnswers old.table line text new.table };
+
+    ghost is_faulty = { λ _ line. AsksNothing line };
+
+    fn answer_to(&mut self, line: &[u8]) -> Option<Answer> {
         let line = read_table_line(line)?;
         Some(self.answer(line))
     }

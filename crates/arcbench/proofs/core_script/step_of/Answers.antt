@@ -8,4 +8,4 @@ pub returns-in-Two-clause-faulty : goal.returns-in-Two-clause-faulty
 returns-in-Two-clause-faulty c = no_step _ _ _ _ (rw c.in-Two.is at c.in_ok-line.ensures.line) c.handle_step.ensures.faulty
 
 pub returns-in-Three-clause-faulty : goal.returns-in-Three-clause-faulty
-returns-in-Three-clause-faulty c = no_step _ _ _ _ (rw c.in-Three.is at c.in_ok-line.ensures.line) c.wide_step.ensures.faulty
+returns-in-Three-clause-faulty c = no_step _ _ _ _ (rw c.in-Three.is at c.in_ok-line.ensures.line) c.three_number_step.ensures.faulty

@@ -24,6 +24,7 @@ use Rattle.core.specs.Mem.{type_size}
 use Rattle.core.specs.declared.alloc.Allocator.{Ghosts}
 use Rattle.core.proofs.atomic.Steps.{Ptr-Good}
 use Rattle.core.proofs.ptr.Rows.{El, R, Good, el_own, el_x, elτ, sz, el_out, apart, whole, room_snoc, glued, one_more, next}
+use Rattle.std_alloc.proofs.RawLayout.{as_raw}
 use Rattle.handles.specs.HeaderSlice.PlacesOwnership.{places_own, leaving_own}
 use Rattle.handles.proofs.PlacesFields.{places_val}
 use Rattle.handles.specs.contracts.header_slice.places.Leaving as leaving
@@ -62,7 +63,7 @@ module _ (R : RattleType) (t : Ty → Ptr → Fml) {M : Type 1} {𝓤 : Ura M} (
       qed 𝓛 (‵ (places_own t R (block_ptr b o) filled room items) ∷ []) ∵ fsplit3 ! $ move ! (1 ∷ []) $
       rewrite ! 0 (λ (at : ℕ). ‵ (part_at (Array R filled) full_share items b at)) there refl $ rewrite ! 0 (λ (n : ℕ). ‵ (part_at (Array R n) full_share items b (o + 0 * s))) (sym (sub-zero filled)) refl $
       -- [the items; the bound; the room and the right to give back]
-      move ! (0 ∷ 2 ∷ []) $ fjoin ! $ use0 𝓛 (‵ (froom (ty_array (lone R.mir) 0) b o)) (𝓛.laws.room_nil (lone R.mir) b o) $ move ! (0 ∷ 1 ∷ []) $ fjoin ! $ move ! (1 ∷ 0 ∷ []) $ fjoin ! $ done !
+      move ! (0 ∷ 2 ∷ []) $ fjoin ! $ use0 𝓛 (‵ (froom (ty_array (lone R.mir) 0) b o)) (𝓛.laws.room_nil (lone R.mir) b o) $ as_raw ! (ty_array (lone R.mir) 0) b o $ move ! (0 ∷ 1 ∷ []) $ fjoin ! $ move ! (1 ∷ 0 ∷ []) $ fjoin ! $ done !
 
   -- nothing lies at null
   pub none_at_null : (taken filled room : ℕ) (items : List R.Denot) → ent 𝓤 (sem 𝓛 (leaving_own t R null_ptr taken filled room items)) (never 𝓤)

@@ -23,6 +23,7 @@ use denote.Steps.{nothing as nothing_more}
 use Rattle.std.specs.Mem.{type_size}
 use Rattle.core.specs.declared.alloc.Allocator.{Ghosts}
 use Rattle.handles.specs.HeaderSlice.PlacesOwnership.{gives_back}
+use Rattle.std_alloc.proofs.RawLayout.{as_raw}
 use Rattle.handles.proofs.PlacesFields.{places_val, PlacesRow, PlacesWords, words_made}
 
 -- the size that a word holds is 0 where the size is
@@ -56,6 +57,6 @@ module _ (R Z : RattleType) (g : Ghosts Z.Denot) where
     pub places_made : K → (b o room : ℕ) (a : Z.Denot) → room < 2 ^ 64 → room * type_size R < 2 ^ 63
         → Step K 𝓛 (‵ ((PlacesRow R Z g).own_val (without_items (block_ptr b o) room a) (places_val (block_ptr b o) 0 room ∷ [])) ∷ Γ) G (‵ (froom (ty_array (lone R.mir) room) b o) ∷ ‵ (gives_back R (g.dealloc_token a) (block_ptr b o) room) ∷ Γ) G
     places_made t b o room a small fits = step (λ s. let τ : Ty = lone R.mir in let n : ℕ = type_size R in let v : Val = places_val (block_ptr b o) 0 room in
-        rewrite t 0 (λ (k : ℕ). ‵ (froom (ty_array τ k) b o)) (whole room) refl $ rewrite t 0 (λ (k : ℕ). ‵ (froom (ty_array τ (room - 0)) b k)) (first o n) refl $ fjoin t $
+        rewrite t 0 (λ (k : ℕ). ‵ (froom (ty_array τ k) b o)) (whole room) refl $ rewrite t 0 (λ (k : ℕ). ‵ (froom (ty_array τ (room - 0)) b k)) (first o n) refl $ as_raw t (ty_array τ (room - 0)) b (o + 0 * n) $ fjoin t $
         nothing_more t $ feq_i t ℕ 0 0 refl $ fjoin t $ use1 𝓛 (‵ (part_at (Array R 0) full_share [] b o)) (Array-whole 𝓛 R full_share 0 [] b o) $ fjoin t $ flt_i t (room * n) (2 ^ 63) fits $ fjoin t $
         use0 𝓛 (‵ ((PlacesWords R Z g).own_val (block_ptr b o, (0, (room, (tt, tt)))) (v ∷ []))) (words_made R Z g 𝓛 (block_ptr b o) 0 room (lit< tt) small) $ fjoin t $ s)

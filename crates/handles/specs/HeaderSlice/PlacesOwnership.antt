@@ -6,7 +6,7 @@ use base.Fml.{Lft, Fml, fsep, flt}
 use mir.Syntax.{Ty}
 use denote.RattleType.{RattleType}
 use denote.Array.{Array}
-use denote.RawPtr.{Ptr, lies_at, room_at, ◌+ₚ◌}
+use denote.RawPtr.{Ptr, lies_at, room_for, ◌+ₚ◌}
 use denote.Sharing.{said, beside}
 use denote.Struct.Lending.{lent_at}
 use Rattle.core.specs.Allocator.{array_of}
@@ -19,7 +19,7 @@ module _ (R : RattleType) where
 
   -- the places from the one after `filled` on
   abbrev pub spare : Ptr → ℕ → ℕ → Fml
-  spare p filled room = room_at (Array R (room - filled)) (p +ₚ filled * type_size R)
+  spare p filled room = room_for (array_of R (room - filled)) (p +ₚ filled * type_size R)
 
   module _ (t : Ty → Ptr → Fml) (p : Ptr) (room : ℕ) where
     -- there is a block to give back where the places take bytes
@@ -35,7 +35,7 @@ module _ (t : Ty → Ptr → Fml) (R : RattleType) (p : Ptr) where
   -- the items that are left lie side by side from the place after `taken` on
   abbrev pub leaving_own : ℕ → ℕ → ℕ → List R.Denot → Fml
   leaving_own taken filled room items =
-      fsep (fits R room) (fsep (room_at (Array R taken) p) (fsep (lies_at (Array R (filled - taken)) full_share (p +ₚ taken * type_size R) items) (fsep (spare R p filled room) (gives_back R t p room))))
+      fsep (fits R room) (fsep (room_for (array_of R taken) p) (fsep (lies_at (Array R (filled - taken)) full_share (p +ₚ taken * type_size R) items) (fsep (spare R p filled room) (gives_back R t p room))))
 
 -- a `&` to the places shows their items
 abbrev pub places_share : (R : RattleType) → Ptr → ℕ → ℕ → List R.Denot → Lft → Fml

@@ -1,6 +1,6 @@
 -- `give_back` makes room of the places, and where they take bytes their block goes back.
 use Rattle.handles.proofs.Walks.{◌≡◌, ℕ, ◌^◌, ◌<◌, Bool, List, [], ◌∷◌, refl, sym, ap, ◌∙◌, subst, arith, w64, a_type, named, Val, vint, vptr, vunit, inst_fn, SProp, Lft, Share, ftrue, flft, ‵, raw, ◌⊛◌, given, later, at_ret, ◌$◌, ◌∵◌, !, qed, by, move, keep, drop, split, join, fsplit, fsplit3, fjoin3, learn, use1, use2, await, rewrite, feq_i, unit_lit, stop, fld, of_opd, lit, no_more, and_then, first, blocks, exec, returns, enter, alloc_all, pass_all, free_all, look_at, get, get_in, sets, lands_last, is, env, sub, whole, tables, fact, yes, no, RattleType, owns, types_at, plain, Ptr, block_ptr, ptr_val, nothing_more, heard, param, RefOf, shr_vals, shr_Tells, Stays, stay_dropped, walk_of, Goes-dropped, after, proved, leaves, fm}
-use Rattle.std.proofs.Common.{◌*◌}
+use Rattle.std.proofs.Common.{◌+◌, ◌-◌, ◌*◌}
 use lib.Dec.{T as Holds}
 use lib.ListN.{length}
 use mir.Raw.{raw as bare}
@@ -21,7 +21,7 @@ use Rattle.core.proofs.alloc.Calls.{Al, Goes-blank, Gives, at_gives, Gives-goes,
 use Rattle.core.proofs.ptr.Rows.{El, elτ, sz}
 use Rattle.core.proofs.slots.Leases.{uncapped}
 use Rattle.std_alloc.proofs.Flags.{T_true}
-use Rattle.std_alloc.proofs.RawLayout.{as_raw}
+use Rattle.std_alloc.proofs.RawLayout.{as_raw, as_written}
 use Rattle.std_alloc.specs.Vec.Ownership.{owns_if}
 use Rattle.handles.proofs.header_slice.places.Leaving.TheLaws.{lowers}
 use Rattle.handles.specs.HeaderSlice.PlacesOwnership.{leaving_own}
@@ -50,7 +50,7 @@ give_back_spec 𝓤 𝓛 𝓜 𝓡 wired T A L LA g d dd allocator glued =
     rewrite ! 0 (λ (z : A.Denot). ‵ (leaving_own (g.dealloc_token z) R p taken filled room me.items)) same refl $ let token = g.dealloc_token h in
     in_a_block ! p (λ z. leaving_own token R z taken filled room me.items) (none_at_null R token 𝓛 taken filled room me.items) (λ b o at. fsplit3 ! $ flt_l ! (λ fit. move ! (1 ∷ []) $ fsplit3 ! $ drop ! $
     let bytes : room * s < 2 ^ 64 = omega (arith, fit) in let all_left : filled ≡ taken = omega (arith, me.within.0, ap length empty) in
-    move ! (2 ∷ 0 ∷ []) $ use2 𝓛 (‵ (froom (ty_array τ room) b o)) (whole_room E 𝓛 b o taken filled room all_left me.within.1) $ as_raw ! (ty_array τ room) b o $
+    as_written ! (ty_array τ (room - filled)) b (o + filled * s) $ move ! (2 ∷ []) $ as_written ! (ty_array τ taken) b o $ use2 𝓛 (‵ (froom (ty_array τ room) b o)) (whole_room E 𝓛 b o taken filled room all_left me.within.1) $ as_raw ! (ty_array τ room) b o $
     -- [the room; the right to give back; the `&` to the allocator; its token; the other tokens; nothing]
     let back = at_gives heap 𝓛 𝓜.mem 𝓡.returns κ q at_heap h b o (room * s) (capped (align τ)) (bare (ty_array τ room)) in let product = uncapped room s bytes in
     enter ! 𝓣.C 𝓣.Λ fn (leaving_val p taken filled room ∷ vptr at_heap.0 at_heap.1 ∷ []) Post $ alloc_all ! (λ l. pass_all ! refl (leaving-Good p taken filled room taken_fits filled_fits room_fits, ((tt, tt), tt)) $ let Ev = env fn.locals l in

@@ -18,6 +18,7 @@ use denote.Triple.Walked.{stay_ref, Goes-ref}
 use Rattle.core.proofs.ptr.Rows.{El, Good, elτ, sz, one_below, times_below}
 use Rattle.handles.proofs.header_slice.places.Leaving.TheLaws.{lowers}
 use Rattle.handles.specs.HeaderSlice.PlacesOwnership.{leaving_own}
+use Rattle.std_alloc.proofs.RawLayout.{as_raw, as_written}
 use Rattle.handles.proofs.LeavingFields.{leaving_val, LeavingRow, LeavingWords, leaving_words, first_of, none_at_null, first_out, room_after}
 use Rattle.handles.specs.contracts.header_slice.places.Leaving.take_first.{ended, clauses}
 use Rattle.handles.specs.contracts.header_slice.places.Leaving.take_first.Key.{name as #self}
@@ -52,7 +53,7 @@ take_first_spec 𝓤 𝓛 𝓜 𝓡 wired T A L LA g d dd allocator glued =
     sets ! (bin ! (get ! refl) (size_lit ! (record { fits = tiny })) (record { fits = far })) refl (tt, record { fits = far }) $ sets ! (bin ! (get ! refl) (get ! refl) tt) refl (tt, tt) $
     sets_last ! (of_opd ! (load ! (through ! refl (stop !)) (look ! 0 refl))) refl good $ exec ! 𝓣.C 𝓣.Λ Ev (after 4 fn.body) (at_ret Ev Post) $ sets ! (of_opd ! (get ! refl)) refl good $
     let new : Self.Denot = record { first = p; taken = taken + 1; filled = filled; room = room; of = me.of; items = later; alloc = me.alloc; within = (omega (arith, ap length is_first), enough) } in
-    move ! (4 ∷ 0 ∷ []) $ use2 𝓛 (‵ (froom (ty_array (elτ E) (taken + 1)) pb po)) (room_after E 𝓛 pb po taken filled v) $
+    move ! (4 ∷ 0 ∷ []) $ as_written ! (ty_array (elτ E) taken) pb po $ use2 𝓛 (‵ (froom (ty_array (elτ E) (taken + 1)) pb po)) (room_after E 𝓛 pb po taken filled v) $ as_raw ! (ty_array (elτ E) (taken + 1)) pb po $
     move ! (2 ∷ 3 ∷ []) $ fjoin ! $ move ! (1 ∷ 0 ∷ []) $ fjoin ! $ flt_i ! (room * s) (2 ^ 63) fit $ fjoin ! $ rewrite ! 0 (λ (z : Ptr). ‵ (leaving_own token R z (taken + 1) filled room later)) (sym at) refl $
     use0 𝓛 (‵ ((LeavingWords R Z g).own_val (p, (taken + 1, (filled, (room, (tt, tt))))) (leaving_val p (taken + 1) filled room ∷ []))) (leaving_words R Z g 𝓛 p (taken + 1) filled room up filled_fits room_fits) $ fjoin ! $
     rewrite ! 2 (λ (ws : List Val). ‵ (cell_at full_share Self.mir ws b o)) (ap (λ (z : Ptr). leaving_val z (taken + 1) filled room ∷ []) (sym at)) refl $

@@ -28,6 +28,7 @@ use Rattle.core.proofs.mem.Param as param_steps
 use Rattle.core.proofs.ptr.Rows.{El, elτ, sz, el_in, spare, snoc, one_below, times_below}
 use Rattle.core.proofs.alloc.Shapes.{after}
 use Rattle.atomic_table.proofs.Walks.{proved_at}
+use Rattle.std_alloc.proofs.RawLayout.{as_raw, as_written}
 use Rattle.handles.proofs.PlacesFields.{PlacesRow, places_val}
 use Rattle.handles.proofs.PlacesOpened.{places_opens, places_shuts}
 use Rattle.handles.specs.contracts.header_slice.places.Places.push.{ended, clauses}
@@ -56,14 +57,14 @@ push_spec 𝓤 𝓛 𝓜 𝓡 wired T A L LA g d dd allocator glued =
     let tiny : s < 2 ^ 64 = omega (arith, one_below room s (2 ^ 63) (omega arith) fits) in let more : n + 1 < 2 ^ 64 = omega arith in let far : n * s < 2 ^ 64 = omega (arith, times_below n room s (2 ^ 63) (omega arith) fits) in
     let new : Self.Denot = record { first = block_ptr b o; filled = n + 1; room = room; of = h.of; items = xs ++ x ∷ []; alloc = h.alloc; within = (ap (λ (k : ℕ). k + 1) h.within.0 ∙ sym (length-append xs (x ∷ [])), omega arith) } in
     rewrite ! 3 (λ (us : List Val). ‵ (cell_at full_share Self.mir us rb ro)) words refl $ move ! (1 ∷ []) $
-    use1 𝓛 (‵ (froom τ b (n * s + o)) ⊛ ‵ (froom (ty_array τ (room - (n + 1))) b (o + (n + 1) * s))) (spare E 𝓛 b o n room below) $ split ! $
+    as_written ! (ty_array τ (room - n)) b (o + n * s) $ use1 𝓛 (‵ (froom τ b (n * s + o)) ⊛ ‵ (froom (ty_array τ (room - (n + 1))) b (o + (n + 1) * s))) (spare E 𝓛 b o n room below) $ split ! $
     -- [the place; the room after it; the items; the right to give back; the cell; the open borrow; its two names; the item; nothing; the tokens of T and A]
     sets ! (of_opd ! (load ! (through ! refl (fld ! refl (stop !))) (look_in ! 4 (sub ! 1 refl (whole !))))) refl (tt, record { fits = small_filled }) $ first ! $ blocks ! $
     sets ! (of_opd ! (load ! (through ! refl (fld ! refl (stop !))) (look_in ! 4 (sub ! 0 refl (whole !))))) refl (tt, tt) $ sets ! (bin ! (get ! refl) (size_lit ! (record { fits = tiny })) (record { fits = far })) refl (tt, record { fits = far }) $
     sets ! (bin ! (get ! refl) (get ! refl) tt) refl (tt, tt) $ sets ! (of_opd ! (get ! refl)) refl is_item.2 $ assigns_last ! (of_opd ! (get ! refl)) (through ! refl (stop !)) (init ! 0 refl is_item.2) $ exec ! 𝓣.C 𝓣.Λ Ev (after 2 fn.body) (at_ret Ev Post) $
     sets ! (bin ! (get ! refl) (lit ! tt) (record { fits = more })) refl (tt, record { fits = more }) $ assigns ! (of_opd ! (get ! refl)) (through ! refl (fld ! refl (stop !))) (store_in ! 4 (sub ! 1 refl (whole !)) (tt, record { fits = more })) $
     sets ! (of_opd ! (unit_lit !)) refl (tt, tt) $ move ! (0 ∷ 8 ∷ []) $ use2 𝓛 (‵ (part_at R full_share x b (n * s + o))) (el_in E 𝓛 full_share x b (n * s + o) v) $
-    move ! (2 ∷ 0 ∷ []) $ use2 𝓛 (‵ (part_at (Array R (n + 1)) full_share (xs ++ x ∷ []) b o)) (snoc E 𝓛 b o n xs x) $ move ! (0 ∷ 1 ∷ 2 ∷ []) $
+    move ! (2 ∷ 0 ∷ []) $ use2 𝓛 (‵ (part_at (Array R (n + 1)) full_share (xs ++ x ∷ []) b o)) (snoc E 𝓛 b o n xs x) $ move ! (1 ∷ []) $ as_raw ! (ty_array τ (room - (n + 1))) b (o + (n + 1) * s) $ move ! (1 ∷ []) $
     places_shuts R (param 1 A) g ! new b o refl more small_room fits $ move ! (1 ∷ []) $ closes ! tt Self new (places_val (block_ptr b o) (n + 1) room ∷ []) rb ro $
     -- [the reference's two parts; its token; nothing; the tokens of T and A]
     returns ! (look_at ! 0 refl) $ free_all ! refl $ feq_i ! (List Val) z.0.4.0 (vptr rb ro ∷ []) are.0.0 $ fjoin3 ! $ nothing_more ! $ move ! (3 ∷ 0 ∷ []) $ fjoin ! $ move ! (1 ∷ 0 ∷ []) $ fjoin ! $

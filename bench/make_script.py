@@ -10,7 +10,7 @@ import sys
 OWNERS = 8
 SLOTS = 1000
 
-# The words of a table's script, how often each comes among 1000, and what stands after it.
+# The words of a table's script, the weight of each, and what stands after it.
 TABLE_WORDS = [
     ("new", 200, "slot value"), ("clone", 200, "slot slot"), ("drop", 60, "slot"), ("getmut", 100, "slot value"),
     ("makemut", 100, "slot value"), ("own", 40, "slot"), ("raw", 40, "slot"), ("ptreq", 60, "slot slot"),
@@ -18,38 +18,47 @@ TABLE_WORDS = [
 ]
 
 
-def give_and_end(a, b, born, pick):
+def give_and_end(a, n):
     """One owner clones, gives the clone away, and the other ends it."""
-    n = born
-    return [f"clone 0 0", f"raise 0", f"unique 0 0", f"give 0 {n} {a}", f"load {a} {n}", f"load 0 {n}",
-            f"drop {a} {n}", f"lower {a}"], 1
+    return ["clone 0 0", "raise 0", "unique 0 0", f"give 0 {n} {a}", f"load {a} {n}", f"load 0 {n}", f"drop {a} {n}",
+            f"lower {a}"]
 
 
-def race(a, b, born, pick):
+def race(a, b, n, m):
     """Two owners clone at once, and one of them loses a raise."""
-    n, m = born, born + 1
     return [f"lend 0 0 {a}", f"lend 0 0 {b}", f"clone {a} 0", f"clone {b} 0", f"raise {b}", f"raise {a}", f"raise {a}",
             f"return {a} 0", f"return {b} 0", f"drop {a} {m}", f"drop {b} {n}", f"lower {b}", "getmut 0 0",
-            f"lower {a}"], 2
+            f"lower {a}"]
 
 
-def write(a, b, born, pick):
+def write(a, value):
     """A write, and steps that are barred meanwhile."""
-    value = pick.randrange(2 ** 32)
-    return ["getmut 0 0", f"write 0 0 {value}", "clone 0 0", f"lend 0 0 {a}", "endwrite 0 0", "load 0 0"], 0
+    return ["getmut 0 0", f"write 0 0 {value}", "clone 0 0", f"lend 0 0 {a}", "endwrite 0 0", "load 0 0"]
 
 
-def quit_clone(a, b, born, pick):
+def quit_clone(a):
     """A clone that is quit, and a drop that is barred meanwhile."""
-    return [f"lend 0 0 {a}", f"clone {a} 0", "drop 0 0", f"quit {a}", f"return {a} 0", "static 0 0", "unique 0 0"], 0
+    return [f"lend 0 0 {a}", f"clone {a} 0", "drop 0 0", f"quit {a}", f"return {a} 0", "static 0 0", "unique 0 0"]
+
+
+def scene(a, b, born, pick):
+    """A scene of two owners, after so many births, and how many births it has."""
+    kind = pick.choice([give_and_end, race, write, quit_clone])
+    if kind is give_and_end:
+        return give_and_end(a, born), 1
+    if kind is race:
+        return race(a, b, born, born + 1), 2
+    if kind is write:
+        return write(a, pick.randrange(2 ** 32)), 0
+    return quit_clone(a), 0
 
 
 def core_lines(lines, pick):
     out, born = [], 1
     while len(out) < lines:
         a, b = pick.sample(range(1, OWNERS), 2)
-        scene, births = pick.choice([give_and_end, race, write, quit_clone])(a, b, born, pick)
-        out += scene
+        steps, births = scene(a, b, born, pick)
+        out += steps
         born += births
     return out
 

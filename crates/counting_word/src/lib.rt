@@ -58,6 +58,7 @@ pub fn is_last(old: u64) -> bool
     old == 1
 }
 
+/// What a clone that read this word does next.
 #[inline]
 pub fn plan_clone(word: u64) -> ClonePlan
     ensures { result ≡ clone_plan word }
@@ -71,6 +72,7 @@ pub fn plan_clone(word: u64) -> ClonePlan
     }
 }
 
+/// What a drop that read this word does next.
 #[inline]
 pub fn plan_drop(word: u64) -> DropPlan
     ensures { result ≡ drop_plan word }

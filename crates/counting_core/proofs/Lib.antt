@@ -20,5 +20,5 @@ pub mod Clones
 pub mod Marking
 pub mod Barring
 pub mod Running
-pub mod WorkedRows
+pub mod WorkedTraces
 pub mod ClonesInFlight

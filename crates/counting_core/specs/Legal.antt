@@ -19,7 +19,8 @@ module _ {V : Type 0} where
   clone_event true = Some Clones
   clone_event false = None
 
-  -- A raise loses where the number of live handles is another than the one that its owner saw.
+  -- On an unmarked block below the limit a raise loses where the number of live handles is another than the one that
+  -- its owner saw.
   abbrev pub raise_settles : Replay V → ℕ → Bool
   raise_settles r o = r.machine.mark || (is_full r.machine || nat_eq (length r.machine.live) (r.seen o))
 

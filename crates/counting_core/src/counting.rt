@@ -7,8 +7,9 @@ use std::marker::Model;
 /// One block of a value, with a fixed number of owners.
 ///
 /// It keeps an entry for each handle ever born, so a trace of a billion births takes that much room.
-/// Each step takes O(1), but a lending or a return of a handle, and the use of a lent one, take
-/// O(log n) in the number of its borrowers.
+/// `Core::new` takes O(n) in the number of owners. Each step takes O(1), a birth on average over
+/// the births, but a lending or a return of a handle, and the use of a lent one, take O(log n) in
+/// the number of its borrowers.
 #[derive(Drop)]
 pub struct Core<V> {
     block: Block<V>,

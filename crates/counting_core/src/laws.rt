@@ -67,8 +67,7 @@ pub fn born_straight_after_read<V: Copy>()
     ensures { BornStraightAfterRead V }
 {}
 
-/// A raise loses only to a birth or an end of another owner's: the raises that lost are at most the number of the other
-/// owners times that of the births and the ends.
+/// The raises that lost are at most the births and the ends, times the number of owners less one.
 #[tactic(auto, using(crate::proofs::LostRaises::lost_raises_are_bounded))]
 pub fn lost_raises_are_bounded<V: Copy>()
     ensures { LostRaisesAreBounded V }

@@ -1,4 +1,4 @@
--- Worked interleavings, computed by the definitions.
+-- Worked interleavings, computed by the definitions, to read them by. No contract uses them.
 use Rattle.std.proofs.Common.{◌≡◌, ℕ, true, false, List, [], ◌∷◌, refl}
 use Rattle.counting_core.specs.declared.step.Step.{Step}
 use Rattle.counting_core.specs.declared.step.Step.TheVariants.{Clone, Raise, Quit, Drop, Lower, Mark, Unique, Static, GetMut, Write, EndWrite, Load, Lend, Return, Give}

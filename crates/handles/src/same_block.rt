@@ -1,9 +1,12 @@
 // Whether two handles have one block. The language compares no addresses of two blocks, so this is observed: what is added
 // to the stamp through one handle is seen through the other, if they have one block.
 //
-// A stamp that stays as it is belongs to another block, for certain. One that moves by exactly what was added is a sign of
-// one block. Any other change is another thread's, which asks the same of one of the two blocks at this moment. Since that
-// thread could also feign a sign, several have to come in a row, by amounts that differ from round to round.
+// A stamp that stays as it is says that the blocks are two. One that moves by exactly what was added is a sign of one
+// block. Where no other thread asks the same of either block meanwhile, nothing else can happen, and the answer is exact.
+// Where one does, the answer may be wrong either way: what that thread adds may hide what was added here, or look like
+// it. So several signs have to come in a row, by amounts that differ from each round to the next. That makes a wrong
+// `true` less likely, and does not rule it out: two threads that compare two blocks from opposite ends in step see what
+// one thread sees on one block.
 ghost use Rattle.std.specs.Prelude.{◌≡◌, false};
 
 use crate::block::Handle;
@@ -34,13 +37,15 @@ impl<T> Handle<T> {
             if signs == SIGNS {
                 return true;
             }
-            amount = odd_amount(own);
+            amount = next_amount(amount, own);
         }
         false
     }
 }
 
-// A number that is never 0, so that it moves a stamp, and that says little of the one that it is made of.
-fn odd_amount(stamp: u64) -> u64 {
-    stamp.wrapping_mul(0x9e37_79b9_7f4a_7c15) | 1
+// Another odd number than the last one, which is odd, since twice an odd number is added. So it is never 0, and moves a
+// stamp. It says little of the stamp that it is made of.
+fn next_amount(last: u64, stamp: u64) -> u64 {
+    let odd = stamp.wrapping_mul(0x9e37_79b9_7f4a_7c15) | 1;
+    last.wrapping_add(odd).wrapping_add(odd)
 }

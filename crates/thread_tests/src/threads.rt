@@ -216,7 +216,7 @@ fn a_handle_writes_once_the_other_is_gone(rt: HostRuntime) -> Result<(), Fail> {
     Ok(())
 }
 
-// What it answers is left open while another thread asks, but it answers.
+// While another thread asks about the same blocks both answers are possible. Each call answers.
 fn ask_often(a: &Arc<u64>, b: &Arc<u64>) {
     for _ in 0..1000 {
         let _ = Arc::ptr_eq(a, b);

@@ -10,9 +10,10 @@ use crate::unique::UniqueArc;
 use std::alloc::{AllocError, Global};
 use thiserror::Error;
 
-/// Why no header slice was built. What was taken until then is dropped.
+/// Why no header slice was built. The items taken until then are dropped in order, then the header; the iterator too.
 #[derive(Clone, Copy, Debug, PartialEq, Eq, Error)]
 pub enum BuildError {
+    /// There was no memory, or so many items fit in none. The iterator was not asked for any.
     #[error("out of memory")]
     Memory,
     /// The iterator gave fewer items than it was said to.

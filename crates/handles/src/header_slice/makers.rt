@@ -12,7 +12,7 @@ use std::alloc::Global;
 use std::ops::DerefMut;
 
 impl<H: Send + Sync + Drop, T: Send + Sync + Drop> Arc<HeaderSlice<H, T>> {
-    /// Takes as many items as the iterator says that it has.
+    /// As `from_header_and_iter_with_size`, with the number that `items.len()` says, asked once.
     pub fn from_header_and_iter<I: Iterator<Item = T> + ExactSizeIterator>(
         alloc: Global,
         header: H,
@@ -27,6 +27,9 @@ impl<H: Send + Sync + Drop, T: Send + Sync + Drop> Arc<HeaderSlice<H, T>> {
     }
 
     /// Asks the iterator until `num_items` items were taken and then once more, but never after a `None`.
+    ///
+    /// Before the first item is asked for, memory is requested: at most once for the items, not at all for no items or
+    /// for items without size, and once for the block.
     pub fn from_header_and_iter_with_size<I: Iterator<Item = T>>(
         alloc: Global,
         header: H,
@@ -40,7 +43,8 @@ impl<H: Send + Sync + Drop, T: Send + Sync + Drop> Arc<HeaderSlice<H, T>> {
         Ok(build(alloc, header, items, num_items)?.shareable())
     }
 
-    /// With `is_static` the block is marked: it is never given back, and its value is never dropped.
+    /// As `from_header_and_iter_with_size`. With `is_static` the block is then marked: it is never given back, and its
+    /// value is never dropped.
     pub fn from_header_and_iter_alloc<I: Iterator<Item = T>>(
         alloc: Global,
         header: H,
@@ -61,7 +65,7 @@ impl<H: Send + Sync + Drop, T: Send + Sync + Drop> Arc<HeaderSlice<H, T>> {
 }
 
 impl<H: Send + Sync + Drop, T: Send + Sync + Drop> UniqueArc<HeaderSlice<H, T>> {
-    /// Takes as many items as the iterator says that it has.
+    /// As `from_header_and_iter_with_size`, with the number that `items.len()` says, asked once.
     pub fn from_header_and_iter<I: Iterator<Item = T> + ExactSizeIterator>(
         alloc: Global,
         header: H,
@@ -76,6 +80,9 @@ impl<H: Send + Sync + Drop, T: Send + Sync + Drop> UniqueArc<HeaderSlice<H, T>> 
     }
 
     /// Asks the iterator until `num_items` items were taken and then once more, but never after a `None`.
+    ///
+    /// Before the first item is asked for, memory is requested: at most once for the items, not at all for no items or
+    /// for items without size, and once for the block.
     pub fn from_header_and_iter_with_size<I: Iterator<Item = T>>(
         alloc: Global,
         header: H,

@@ -1,10 +1,10 @@
 // The block of an `Arc`, and each step that is made on it through a raw pointer.
-ghost use Rattle.std.specs.Prelude.{◌≡◌, ◌≢◌, ℕ, ◌+◌, ◌<◌, Bool, true, false, IfOk, IfErr};
+ghost use Rattle.std.specs.Prelude.{◌≡◌, ◌<◌, Bool, true, false, IfOk, IfErr};
 ghost use types.Logic.{sem};
 ghost use Rattle.counting_word.specs.CountingWord.{greatest_count, is_one_handle};
 ghost use Rattle.std_alloc.specs.Box.Ownership.{box_owns};
 ghost use Rattle.handles.specs.Blocks.{handle_owns, handle_shares, gain_owns};
-ghost use Rattle.handles.specs.Rights.{Right, nothing, a_handle, to_lower, whole_block, coded_right, right_by_read, right_by_raise, right_by_last_read, right_by_lower, right_by_claim, IsWholeBlock};
+ghost use Rattle.handles.specs.Rights.{Right, nothing, a_handle, to_lower, whole_block, coded_right, right_by_read, right_by_raise, right_by_last_read, right_by_lower, IsWholeBlock};
 
 mod lend;
 

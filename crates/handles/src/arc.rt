@@ -32,7 +32,7 @@ impl<T: Send + Sync> Model for Arc<T> {
 }
 
 /// The block has as many handles as its word can count.
-#[derive(Debug, PartialEq, Drop, Error)]
+#[derive(Clone, Copy, Debug, PartialEq, Eq, Error)]
 #[error("the handle limit is reached")]
 pub struct Full;
 
@@ -42,10 +42,7 @@ impl<T: Send + Sync + Drop> Arc<T> {
         ensures made { IfOk result (λ a. a.value ≡ value) }
         ensures refused { IfErr result (λ x. x ≡ value) }
     {
-        match UniqueArc::new(alloc, value) {
-            Ok(unique) => Ok(unique.shareable()),
-            Err(value) => Err(value),
-        }
+        Ok(UniqueArc::new(alloc, value)?.shareable())
     }
 
     /// A handle of a marked block, which is never given back and whose value is never dropped.
@@ -58,7 +55,7 @@ impl<T: Send + Sync + Drop> Arc<T> {
         Ok(arc)
     }
 
-    /// The same as `new_leaked`: a block that is marked from the start.
+    /// The same as `new_leaked`, under the original's name for memory that is never given back.
     pub fn new_static(alloc: Global, value: T) -> Result<Arc<T>, T>
         ensures made { IfOk result (λ a. a.value ≡ value) }
         ensures refused { IfErr result (λ x. x ≡ value) }
@@ -66,7 +63,7 @@ impl<T: Send + Sync + Drop> Arc<T> {
         Arc::new_leaked(alloc, value)
     }
 
-    /// One more handle of the token's block. It waits as `clone` does.
+    /// One more handle of the token's block. It tries as often as `Arc::clone(this, rt)`.
     pub fn from_raw_addrefed(raw: &RawArc<T>, rt: &impl Wait) -> Result<Arc<T>, Full>
         ensures { IfOk result (λ a. a.value ≡ raw.now.value) }
     {
@@ -77,10 +74,9 @@ impl<T: Send + Sync + Drop> Arc<T> {
     pub fn clone(this: &Arc<T>, rt: &impl Wait) -> Result<Arc<T>, Full>
         ensures { IfOk result (λ a. a.value ≡ this.now.value) }
     {
-        match this.handle.clone_unless_full(rt) {
-            Ok(handle) => Ok(Arc { handle }),
-            Err(full) => Err(full),
-        }
+        Ok(Arc {
+            handle: this.handle.clone_unless_full(rt)?,
+        })
     }
 }
 
@@ -129,6 +125,7 @@ impl<T: Send + Sync> Arc<T> {
         RawArc { arc: this }
     }
 
+    /// The handle that the token kept.
     pub fn from_raw(raw: RawArc<T>) -> Arc<T>
         ensures { result.value ≡ raw.value }
     {
@@ -150,7 +147,9 @@ impl<T: Send + Sync> Deref for Arc<T> {
     }
 }
 
-/// Refused at the limit, and where other threads changed the count through 64 raises.
+/// Makes one more handle by at most 64 raises of the count, and without memory. The `AllocError` of a refusal stands
+/// for no want of memory, but for the limit or for 64 raises that were lost to other threads. The handle is then as it
+/// was. `Arc::clone(this, rt)` tries on.
 impl<T: Send + Sync + Drop> Clone for Arc<T> {
     ghost is_clone = { λ a b. b.value ≡ a.value };
 
@@ -186,6 +185,7 @@ impl<T: Send + Sync> Model for RawArc<T> {
 }
 
 impl<T: Send + Sync> RawArc<T> {
+    /// The value, for as long as the token is borrowed.
     pub fn value(&self) -> &T
         ensures { result.now ≡ self.now.value }
     {

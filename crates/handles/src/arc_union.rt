@@ -12,7 +12,7 @@ use std::fmt;
 use std::fmt::{Debug, Formatter, Write};
 use std::marker::Model;
 
-/// A handle of a first or of a second type. It may be of one kind even where the two types are the same.
+/// A handle of a first or of a second type. The two kinds stay apart even where their types are the same.
 #[derive(Drop)]
 pub struct ArcUnion<A: Send + Sync, B: Send + Sync> {
     handle: EitherArc<A, B>,
@@ -48,6 +48,7 @@ pub enum ArcUnionBorrow<'a, A: Send + Sync, B: Send + Sync> {
 impl<A: Send + Sync, B: Send + Sync> ArcUnion<A, B> {
     ghost use Rattle.handles.specs.UnionHandles.{borrowed_union};
 
+    /// The handle as one of the first kind. The count stays as it is.
     pub fn from_first(handle: Arc<A>) -> ArcUnion<A, B>
         ensures { result ≡ First handle.value }
     {
@@ -56,6 +57,7 @@ impl<A: Send + Sync, B: Send + Sync> ArcUnion<A, B> {
         }
     }
 
+    /// The handle as one of the second kind. The count stays as it is.
     pub fn from_second(handle: Arc<B>) -> ArcUnion<A, B>
         ensures { result ≡ Second handle.value }
     {
@@ -64,12 +66,14 @@ impl<A: Send + Sync, B: Send + Sync> ArcUnion<A, B> {
         }
     }
 
+    /// Whether the handle is of the first kind.
     pub fn is_first(&self) -> bool
         ensures { result ≡ is_first self.now }
     {
         matches!(self.handle, EitherArc::First(_))
     }
 
+    /// Whether the handle is of the second kind.
     pub fn is_second(&self) -> bool
         ensures { result ≡ is_second self.now }
     {
@@ -96,6 +100,7 @@ impl<A: Send + Sync, B: Send + Sync> ArcUnion<A, B> {
         }
     }
 
+    /// The handle of whichever kind, borrowed. The count stays as it is.
     pub fn borrow(&self) -> ArcUnionBorrow<'_, A, B>
         ensures { borrowed_union result ≡ self.now }
     {
@@ -130,7 +135,7 @@ impl<A: Send + Sync + Drop, B: Send + Sync + Drop> Clone for ArcUnion<A, B> {
     }
 }
 
-/// Asks the values of two of one kind.
+/// Asks the values of two of one kind. Two of different kinds are not equal.
 impl<A: Send + Sync + PartialEq, B: Send + Sync + PartialEq> PartialEq for ArcUnion<A, B> {
     ghost eq = { union_eq A.eq B.eq };
 

@@ -1,7 +1,7 @@
 // A try to make one more handle of a block.
 ghost use Rattle.std.specs.Prelude.{◌≡◌, ◌<◌, ℕ, IfOk, false};
 ghost use Rattle.counting_word.specs.CountingWord.{greatest_count};
-ghost use Rattle.handles.specs.Rights.{right_by_read, right_by_raise};
+ghost use Rattle.handles.specs.Rights.{right_by_read};
 
 use crate::arc::Full;
 use crate::block::{Gain, Handle};
@@ -127,6 +127,7 @@ impl<T> Attempt<T> {
                 gain.end();
                 Attempt::Full
             }
+            // The word that the plan names is `word + 1`, which `raise` stores.
             ClonePlan::Raise(_) => {
                 gain.end();
                 Attempt::Lost(Seen { word })

@@ -6,7 +6,7 @@ use crate::arc::{Arc, Full};
 use std::ops::Deref;
 use std::sync::Wait;
 
-/// A handle that is borrowed: as a `&Arc<T>`, with no need to write two references. It counts for nothing.
+/// A borrowed handle: it reads as a `&T`, and more handles can be made of it. It is not counted.
 #[derive(Debug)]
 #[derive_where(Clone, Copy)]
 pub struct ArcBorrow<'a, T: Send + Sync>(pub(crate) &'a Arc<T>);
@@ -14,6 +14,7 @@ pub struct ArcBorrow<'a, T: Send + Sync>(pub(crate) &'a Arc<T>);
 impl<T: Send + Sync> Arc<T> {
     ghost use Rattle.handles.specs.Borrowed.{borrowed};
 
+    /// The handle, borrowed. The count stays as it is.
     pub fn borrow_arc(&self) -> ArcBorrow<'_, T>
         ensures { borrowed result ≡ self.now }
     {

@@ -19,6 +19,9 @@ impl<T: Send + Sync> Arc<T> {
 
     /// The value, to write to. Where the block has other handles or is marked, it is copied into a new block first, and
     /// this handle is then the only one of that block.
+    ///
+    /// Refused where there is no memory for the block, or where the value's own `clone` is refused. The handle is then
+    /// as it was.
     pub fn make_mut(this: &mut Arc<T>, alloc: Global) -> Result<&mut T, AllocError>
     where
         T: Clone + Drop,

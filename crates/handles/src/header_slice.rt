@@ -18,7 +18,7 @@ use std::marker::Model;
 /// A shared header slice.
 pub type ThinArc<H, T> = Arc<HeaderSlice<H, T>>;
 
-/// A header and items of a number that never changes.
+/// A header beside items, which are neither added nor removed. Only the builders of `Arc` and `UniqueArc` make one.
 pub struct HeaderSlice<H, T> {
     pub header: H,
     items: Items<T>,
@@ -60,6 +60,7 @@ impl<H, T> HeaderSlice<H, T> {
         self.slice().len()
     }
 
+    /// Whether there are no items.
     #[inline]
     pub fn is_empty(&self) -> bool
         ensures { result ≡ (length self.now.items == 0) }

@@ -27,16 +27,17 @@ impl<T: Send + Sync> Model for UniqueArc<T> {
 }
 
 impl<T: Send + Sync + Drop> UniqueArc<T> {
+    /// The only handle of a new block. One request for memory; the value comes back where it is refused.
     pub fn new(alloc: Global, value: T) -> Result<UniqueArc<T>, T>
         ensures made { IfOk result (λ u. u.value ≡ value) }
         ensures refused { IfErr result (λ x. x ≡ value) }
     {
-        match Block::boxed(alloc, value) {
-            Ok(block) => Ok(UniqueArc { block }),
-            Err(value) => Err(value),
-        }
+        Ok(UniqueArc {
+            block: Block::boxed(alloc, value)?,
+        })
     }
 
+    /// The handle, to share. Takes no memory: the block stays where it is.
     pub fn shareable(self) -> Arc<T>
         ensures { result.value ≡ self.value }
     {
@@ -77,6 +78,7 @@ pub struct UninitArc<T: Send + Sync> {
 }
 
 impl<T: Send + Sync> UniqueArc<T> {
+    /// A block whose value is still to be written. One request for memory.
     pub fn new_uninit(alloc: Global) -> Result<UninitArc<T>, AllocError> {
         match Vacant::take(alloc) {
             Ok(room) => Ok(UninitArc { room, alloc }),
@@ -86,6 +88,7 @@ impl<T: Send + Sync> UniqueArc<T> {
 }
 
 impl<T: Send + Sync + Drop> UninitArc<T> {
+    /// Writes the value to the block. Takes no memory.
     pub fn write(self, value: T) -> UniqueArc<T>
         ensures { result.value ≡ value }
     {

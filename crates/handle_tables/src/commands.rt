@@ -13,7 +13,8 @@ pub enum Command<T> {
     GetMut(usize, T),
     /// Writes the value, in a block of the slot's own.
     MakeMut(usize, T),
-    /// Gives the slot's handle a block of its own, with a copy of the value if it had to be made.
+    /// Gives the slot's handle a block of its own, with a copy of the value if it had to be made. Only for types whose
+    /// copies are the same value, and so not for `String` or `Vec`, whose copy has another buffer.
     Own(usize),
     /// Marks the slot's block, which is never given back from then on.
     Mark(usize),

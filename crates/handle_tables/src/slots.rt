@@ -8,7 +8,7 @@ use crate::commands::{Command, Reply};
 use handles::arc::Arc;
 use std::alloc::{AllocError, Global};
 
-pub(crate) fn empty<H>(alloc: Global, slots: usize) -> Result<Vec<Option<H>>, AllocError>
+pub(crate) fn empty_slots<H>(alloc: Global, slots: usize) -> Result<Vec<Option<H>>, AllocError>
     ensures { IfOk result (λ all. all.items ≡ replicate slots None) }
 {
     let mut all = Vec::with_capacity(alloc, slots)?;
@@ -63,7 +63,7 @@ pub(crate) fn start<T: Send + Sync + PartialEq + Drop>(
 }
 
 #[inline]
-pub(crate) fn copy<T: Send + Sync + PartialEq + Drop>(
+pub(crate) fn clone_handle<T: Send + Sync + PartialEq + Drop>(
     slots: &mut [Option<Arc<T>>],
     i: usize,
     j: usize,

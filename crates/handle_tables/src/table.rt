@@ -35,7 +35,7 @@ impl<T: Send + Sync + Drop> Table<T> {
         ensures { IfOk result (λ table. table ≡ replicate slots None) }
     {
         Ok(Table {
-            slots: slots::empty(alloc, slots)?,
+            slots: slots::empty_slots(alloc, slots)?,
         })
     }
 
@@ -77,7 +77,7 @@ impl<T: Send + Sync + PartialEq + Drop> Table<T> {
     {
         match command {
             PlainCommand::New(i, value) => slots::start(&mut self.slots, alloc, i, value),
-            PlainCommand::Clone(i, j) => slots::copy(&mut self.slots, i, j),
+            PlainCommand::Clone(i, j) => slots::clone_handle(&mut self.slots, i, j),
             PlainCommand::Drop(i) => slots::end(&mut self.slots, i),
             PlainCommand::GetMut(i, value) => slots::get_mut(&mut self.slots, i, value),
             PlainCommand::Mark(i) => slots::mark(&self.slots, i),
@@ -108,6 +108,8 @@ impl<T: Send + Sync + PartialEq + Drop> Table<T> {
 
 impl<T: Send + Sync + Clone + PartialEq> Table<T> {
     /// Serves one command. The reply takes no memory.
+    ///
+    /// [`Command::Own`] is only for types whose copies are the same value.
     #[inline]
     pub fn serve(&mut self, alloc: Global, command: Command<T>) -> Reply
         requires copies { IsTrue (is_own command) → CopiesAreEqual T.is_clone }
@@ -115,7 +117,7 @@ impl<T: Send + Sync + Clone + PartialEq> Table<T> {
     {
         match command {
             Command::New(i, value) => slots::start(&mut self.slots, alloc, i, value),
-            Command::Clone(i, j) => slots::copy(&mut self.slots, i, j),
+            Command::Clone(i, j) => slots::clone_handle(&mut self.slots, i, j),
             Command::Drop(i) => slots::end(&mut self.slots, i),
             Command::GetMut(i, value) => slots::get_mut(&mut self.slots, i, value),
             Command::MakeMut(i, value) => slots::make_mut(&mut self.slots, alloc, i, value),
@@ -130,6 +132,8 @@ impl<T: Send + Sync + Clone + PartialEq> Table<T> {
     /// Runs commands in order and gives a reply to each, as [`Table::serve`] does.
     ///
     /// The room for the replies is reserved first: where it is refused, no command was served.
+    ///
+    /// [`Command::Own`] is only for types whose copies are the same value.
     pub fn run(
         &mut self,
         alloc: Global,

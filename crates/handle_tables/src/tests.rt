@@ -1,7 +1,7 @@
 //! What no clause says: that commands are served where memory is ample, and which of two allowed
 //! replies comes when.
 use crate::table::{Command, PlainCommand, Reply, Table};
-use std::alloc::{AllocError, Global};
+use std::alloc::AllocError;
 use std::test::Fail;
 
 mod put;
@@ -246,69 +246,4 @@ fn a_refused_copy_changes_nothing(rt: HostRuntime) -> Result<(), Fail> {
 #[test]
 fn a_table_that_no_memory_holds_is_refused(rt: HostRuntime) {
     assert!(rt; Table::<u32>::new(rt.alloc(), usize::MAX).is_err());
-}
-
-fn some_commands(alloc: Global) -> Result<Vec<Command<u32>>, AllocError> {
-    Ok(vec![in alloc;
-        Command::New(1, 6),
-        Command::Clone(0, 2),
-        Command::MakeMut(0, 7),
-        Command::Clone(1, 0),
-        Command::Own(1),
-    ]?)
-}
-
-fn some_plain_commands(alloc: Global) -> Result<Vec<PlainCommand<u32>>, AllocError> {
-    Ok(vec![in alloc;
-        PlainCommand::New(1, 6),
-        PlainCommand::Clone(0, 2),
-        PlainCommand::New(0, 7),
-    ]?)
-}
-
-fn refusals(replies: &[Reply]) -> usize {
-    replies
-        .iter()
-        .filter(|reply| **reply == Reply::Refused)
-        .count()
-}
-
-/// Passes also where any one request for memory is refused, as `rt try --test --fail-alloc N` does.
-#[test]
-fn one_refused_request_is_one_refusal(rt: HostRuntime) {
-    let alloc = rt.alloc();
-    let Ok(mut table) = Table::<u32>::new(alloc, 3) else {
-        return;
-    };
-    let first = table.serve(alloc, Command::New(0, 5));
-    let (Ok(commands), Reply::Done) = (some_commands(alloc), first) else {
-        return;
-    };
-    let Ok(replies) = table.run(alloc, commands) else {
-        assert_eq!(rt; table.get(0).copied(), Some(5));
-        assert_eq!(rt; table.get(1).copied(), None);
-        return;
-    };
-    assert_eq!(rt; replies.len(), 5);
-    assert!(rt; refusals(&replies) <= 1);
-}
-
-/// As the test above.
-#[test]
-fn one_refused_request_is_one_refusal_in_a_plain_run(rt: HostRuntime) {
-    let alloc = rt.alloc();
-    let Ok(mut table) = Table::<u32>::new(alloc, 3) else {
-        return;
-    };
-    let first = table.serve(alloc, Command::New(0, 5));
-    let (Ok(commands), Reply::Done) = (some_plain_commands(alloc), first) else {
-        return;
-    };
-    let Ok(replies) = table.run_plain(alloc, commands) else {
-        assert_eq!(rt; table.get(0).copied(), Some(5));
-        assert_eq!(rt; table.get(1).copied(), None);
-        return;
-    };
-    assert_eq!(rt; replies.len(), 3);
-    assert!(rt; refusals(&replies) <= 1);
 }

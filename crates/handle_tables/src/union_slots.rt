@@ -47,7 +47,7 @@ pub(crate) fn second<A: Send + Sync + PartialEq + Drop, B: Send + Sync + Partial
 }
 
 #[inline]
-pub(crate) fn copy<A: Send + Sync + PartialEq + Drop, B: Send + Sync + PartialEq + Drop>(
+pub(crate) fn clone_handle<A: Send + Sync + PartialEq + Drop, B: Send + Sync + PartialEq + Drop>(
     slots: &mut [Option<ArcUnion<A, B>>],
     i: usize,
     j: usize,

@@ -33,7 +33,7 @@ impl<A: Send + Sync + Drop, B: Send + Sync + Drop> UnionTable<A, B> {
         ensures { IfOk result (λ table. table ≡ replicate slots None) }
     {
         Ok(UnionTable {
-            slots: slots::empty(alloc, slots)?,
+            slots: slots::empty_slots(alloc, slots)?,
         })
     }
 
@@ -77,7 +77,7 @@ impl<A: Send + Sync + PartialEq + Drop, B: Send + Sync + PartialEq + Drop> Union
         match command {
             UnionCommand::First(i, a) => union_slots::first(&mut self.slots, alloc, i, a),
             UnionCommand::Second(i, b) => union_slots::second(&mut self.slots, alloc, i, b),
-            UnionCommand::Clone(i, j) => union_slots::copy(&mut self.slots, i, j),
+            UnionCommand::Clone(i, j) => union_slots::clone_handle(&mut self.slots, i, j),
             UnionCommand::Drop(i) => union_slots::end(&mut self.slots, i),
             UnionCommand::IsFirst(i) => union_slots::is_first(&self.slots, i),
             UnionCommand::IsSecond(i) => union_slots::is_second(&self.slots, i),

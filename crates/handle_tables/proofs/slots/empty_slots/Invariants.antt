@@ -1,5 +1,5 @@
 use Rattle.std.proofs.Common.{◌≡◌, ◌≤◌, replicate, None, vec_len, vec_capacity}
-use Rattle.handle_tables.proofs.slots.empty.Given as goal
+use Rattle.handle_tables.proofs.slots.empty_slots.Given as goal
 
 abbrev pub invariant-loop : goal.invariant-loop
 invariant-loop g l = record {

@@ -1,5 +1,8 @@
-//! Counted pointers without weak references. Each module stands in a crate of its own, and this
-//! one gathers them under one name.
+//! Counted pointers without weak references.
+//!
+//! `Arc` shares a value, `UniqueArc` writes it first, `ArcUnion` is one of two, `ThinArc` a header with a list. `table`
+//! runs commands on handles; `counting_core` and `word` are their protocol. The modules stand in the crates below, and
+//! this one has no code.
 #![tactic(auto)]
 
 pub use counting_core;

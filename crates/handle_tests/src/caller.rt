@@ -1,7 +1,9 @@
 //! How code above uses the handles.
 ghost use Rattle.std.specs.Prelude.{◌≡◌, false, true, IfOk, IfErr};
+ghost use Rattle.servo_arc.specs.Borrowed.{borrowed};
+ghost use Rattle.servo_arc.specs.HeaderSlice.Builders.{IsBuilt, Refuses};
 
-use servo_arc::{Arc, UniqueArc};
+use servo_arc::{Arc, ArcBorrow, BuildError, ThinArc, UniqueArc};
 use std::alloc::{AllocError, Global};
 
 /// How a run of text looks.
@@ -44,4 +46,25 @@ pub fn plain_and_bold(alloc: Global, size: u32) -> Result<(Arc<Style>, Arc<Style
     };
     let bold = with_bold(alloc, &plain)?;
     Ok((plain, bold))
+}
+
+/// The size of a style that is borrowed.
+pub fn size_of(style: ArcBorrow<'_, Style>) -> u32
+    ensures { result ≡ (borrowed style.entry).value.size }
+{
+    style.get().size
+}
+
+/// Letters under their style. They are refused for want of memory, or where the iterator does not give just `number`.
+pub fn styled<I: Iterator<Item = char>>(
+    alloc: Global,
+    style: Style,
+    letters: I,
+    number: usize,
+) -> Result<ThinArc<Style, char>, BuildError>
+    requires { I.can_next letters }
+    ensures built { IfOk result (λ text. IsBuilt I.next_gives letters number style text.value) }
+    ensures refused { IfErr result (Refuses I.next_gives letters number) }
+{
+    Arc::from_header_and_iter_with_size(alloc, style, letters, number)
 }

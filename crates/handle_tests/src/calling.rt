@@ -1,6 +1,6 @@
 // The caller of the documentation, called.
-use crate::caller::{Style, plain_and_bold};
-use servo_arc::Arc;
+use crate::caller::{Style, plain_and_bold, plain_style, size_of, styled};
+use servo_arc::{Arc, BuildError};
 use std::test::Fail;
 
 #[test]
@@ -11,5 +11,25 @@ fn a_bold_style_leaves_the_plain_one(rt: HostRuntime) -> Result<(), Fail> {
         assert!(rt; style.is_unique());
     }
     assert!(rt; !Arc::ptr_eq(&plain, &bold));
+    Ok(())
+}
+
+#[test]
+fn a_borrowed_style_has_its_size(rt: HostRuntime) -> Result<(), Fail> {
+    let style = plain_style(rt.alloc(), 12).ok().ok_or("memory")?;
+    assert_eq!(rt; size_of(style.borrow_arc()), 12);
+    Ok(())
+}
+
+#[test]
+fn letters_stand_under_their_style(rt: HostRuntime) -> Result<(), Fail> {
+    let style = Style {
+        size: 12,
+        is_bold: false,
+    };
+    let text = styled(rt.alloc(), style.clone()?, ['a', 'b'].into_iter(), 2)?;
+    assert_eq!(rt; (&text.header, text.slice()), (&style, &['a', 'b'][..]));
+    let refused = styled(rt.alloc(), style, ['a', 'b'].into_iter(), 3).err();
+    assert_eq!(rt; refused, Some(BuildError::OverReported));
     Ok(())
 }

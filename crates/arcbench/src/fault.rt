@@ -6,16 +6,23 @@ use std::alloc::AllocError;
 use std::io::Write;
 use thiserror::Error;
 
+/// What ended a run. Its text is one line, without a line feed. `Line` is told as the last line of the output,
+/// `Output` nowhere, and the others on standard error.
 #[derive(Debug, Drop, Error)]
 pub enum Fault {
+    /// The argument words are wrong.
     #[error("fault: arguments")]
     Arguments,
+    /// The line of this number is faulty. The first is line 1.
     #[error("fault: line {0}")]
     Line(u64),
+    /// The script cannot be read.
     #[error("fault: input")]
     Input,
+    /// The output cannot be written.
     #[error("fault: output")]
     Output,
+    /// Memory is refused outside the answer to a line.
     #[error("fault: memory")]
     Memory,
 }

@@ -15,6 +15,11 @@ use servo_arc::table::{Reply, Table};
 use std::alloc::Global;
 use std::io::Write;
 
+/// Runs the script on a new table of so many empty slots. Writes the answer to each line, up to the first line that
+/// asks nothing of a table, and in place of its answer the fault.
+///
+/// Ends with `Line` at that line, with `Output` where a write fails, and with `Memory` where the table or the room for
+/// the answers is refused. A command that is refused memory is answered so, and the run goes on.
 pub fn run<W: Write>(
     alloc: Global,
     slots: usize,

@@ -20,8 +20,22 @@ fn a_core_hands_the_value_back(rt: HostRuntime) -> Result<(), Fail> {
     Ok(())
 }
 
-// A handle is lent and then cloned by the one that borrows it.
-const STEPS: [Step<u32>; 5] = [
+const CLONE: Step<u32> = Step::Clone {
+    owner: 0,
+    handle: 0,
+};
+
+const RAISE: Step<u32> = Step::Raise { owner: 0 };
+
+// A handle is lent and then cloned by the one that borrows it. The core has room for four handles from the first on, and
+// three clones before fill it. So the birth of this one asks for memory, and theirs do not.
+const STEPS: [Step<u32>; 11] = [
+    CLONE,
+    RAISE,
+    CLONE,
+    RAISE,
+    CLONE,
+    RAISE,
     Step::Lend {
         owner: 0,
         handle: 0,
@@ -36,15 +50,27 @@ const STEPS: [Step<u32>; 5] = [
     Step::Quit { owner: 1 },
 ];
 
-const WITH_MEMORY: [Answer<u32>; 5] = [
-    Answer::Done,
+const WITH_MEMORY: [Answer<u32>; 11] = [
     Answer::Pending,
     Answer::Born(1),
+    Answer::Pending,
+    Answer::Born(2),
+    Answer::Pending,
+    Answer::Born(3),
+    Answer::Done,
+    Answer::Pending,
+    Answer::Born(4),
     Answer::Barred,
     Answer::Barred,
 ];
 
-const NOT_LENT: [Answer<u32>; 5] = [
+const NOT_LENT: [Answer<u32>; 11] = [
+    Answer::Pending,
+    Answer::Born(1),
+    Answer::Pending,
+    Answer::Born(2),
+    Answer::Pending,
+    Answer::Born(3),
     Answer::Memory,
     Answer::Barred,
     Answer::Barred,
@@ -52,11 +78,17 @@ const NOT_LENT: [Answer<u32>; 5] = [
     Answer::Barred,
 ];
 
-const RAISED_AGAIN: [Answer<u32>; 5] = [
+const RAISED_AGAIN: [Answer<u32>; 11] = [
+    Answer::Pending,
+    Answer::Born(1),
+    Answer::Pending,
+    Answer::Born(2),
+    Answer::Pending,
+    Answer::Born(3),
     Answer::Done,
     Answer::Pending,
     Answer::Memory,
-    Answer::Born(1),
+    Answer::Born(4),
     Answer::Barred,
 ];
 

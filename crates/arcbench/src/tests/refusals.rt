@@ -10,23 +10,25 @@ struct Outcome {
     status: u8,
 }
 
-/// A script of cloning, and what it may come to: nothing is refused, the lending, the raise, or a
-/// request outside an answer, which comes before the first line.
-const STEPS: &[u8] = b"lend 0 0 1\nclone 1 0\nraise 1\nraise 1\nquit 1\n";
+/// A script of cloning, and what it may come to: nothing is refused, the lending, the last clone's raise, or a request
+/// outside an answer, which comes before the first line. The core has room for four handles from the first on, and three
+/// clones fill it, so the birth of the last one asks for memory.
+const STEPS: &[u8] = b"clone 0 0\nraise 0\nclone 0 0\nraise 0\nclone 0 0\nraise 0\n\
+    lend 0 0 1\nclone 1 0\nraise 1\nraise 1\nquit 1\n";
 
 const OF_STEPS: [Outcome; 4] = [
     Outcome {
-        output: b"done\npending\nborn 1\nbarred\nbarred\n",
+        output: b"pending\nborn 1\npending\nborn 2\npending\nborn 3\ndone\npending\nborn 4\nbarred\nbarred\n",
         errors: b"",
         status: 0,
     },
     Outcome {
-        output: b"memory\nbarred\nbarred\nbarred\nbarred\n",
+        output: b"pending\nborn 1\npending\nborn 2\npending\nborn 3\nmemory\nbarred\nbarred\nbarred\nbarred\n",
         errors: b"",
         status: 0,
     },
     Outcome {
-        output: b"done\npending\nmemory\nborn 1\nbarred\n",
+        output: b"pending\nborn 1\npending\nborn 2\npending\nborn 3\ndone\npending\nmemory\nborn 4\nbarred\n",
         errors: b"",
         status: 0,
     },
@@ -74,7 +76,7 @@ const OF_COMMANDS: [Outcome; 6] = [
     },
 ];
 
-const ROOM: usize = 64;
+const ROOM: usize = 128;
 
 // What was written into a page of which so much is left.
 fn written(page: &[u8; ROOM], left: usize) -> &[u8] {

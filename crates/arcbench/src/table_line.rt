@@ -21,7 +21,7 @@ pub fn read_table_line(text: &[u8]) -> Option<TableLine>
     let line = read_line(text)?;
     match line.operands {
         Operands::One(slot) => slot_line(&line, slot as usize),
-        Operands::Two(slot, last) => wide_line(&line, slot as usize, last),
+        Operands::Two(slot, last) => two_number_line(&line, slot as usize, last),
         Operands::Three(_, _, _) => None,
     }
 }
@@ -47,7 +47,7 @@ fn slot_line(line: &Line<'_>, slot: usize) -> Option<TableLine>
     Some(TableLine::Serve(command))
 }
 
-fn wide_line(line: &Line<'_>, slot: usize, last: u32) -> Option<TableLine>
+fn two_number_line(line: &Line<'_>, slot: usize, last: u32) -> Option<TableLine>
     ensures line { IfSome result (Names line.now.word.now (Two slot last)) }
     ensures faulty { IfNone result ((l : TableLine) → ¬ (Names line.now.word.now (Two slot last) l)) }
 {

@@ -11,8 +11,8 @@ struct Outcome {
 }
 
 /// A script of cloning, and what it may come to: nothing is refused, the lending, the last clone's raise, or a request
-/// outside an answer, which comes before the first line. The core has room for four handles from the first on, and three
-/// clones fill it, so the birth of the last one asks for memory.
+/// outside an answer, which comes before the first line. The core has room for four handles from the first on, and
+/// three clones fill it, so the birth of the last one asks for memory.
 const STEPS: &[u8] = b"clone 0 0\nraise 0\nclone 0 0\nraise 0\nclone 0 0\nraise 0\n\
     lend 0 0 1\nclone 1 0\nraise 1\nraise 1\nquit 1\n";
 

@@ -27,8 +27,8 @@ const CLONE: Step<u32> = Step::Clone {
 
 const RAISE: Step<u32> = Step::Raise { owner: 0 };
 
-// A handle is lent and then cloned by the one that borrows it. The core has room for four handles from the first on, and
-// three clones before fill it. So the birth of this one asks for memory, and theirs do not.
+// A handle is lent and then cloned by the one that borrows it. The core has room for four handles from the first on,
+// and three clones before fill it. So the birth of this one asks for memory, and theirs do not.
 const STEPS: [Step<u32>; 11] = [
     CLONE,
     RAISE,

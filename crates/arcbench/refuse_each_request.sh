@@ -3,8 +3,8 @@
 #
 #     refuse_each_request.sh [LAST]
 #
-# In run N, from 1 to LAST, the Nth request of each test is refused. The test of steps makes six requests, and the sixth
-# is a raise's; the test of commands makes five. So without LAST the last run is the seventh, which meets none. Of the
+# In run N, from 1 to LAST, the Nth request of each test is refused. The longer test of steps makes six requests, and the
+# sixth is a raise's; the two others make five. So without LAST the last run is the seventh, which meets none. Of the
 # other tests, which hold without a refusal alone, nothing is asked. Prints a line for each run, and fails if a test did
 # not hold in one. Each run builds the tests anew.
 set -euo pipefail

@@ -39,6 +39,33 @@ const OF_STEPS: [Outcome; 4] = [
     },
 ];
 
+/// The same without the three clones before. The core has room for the birth then, so that its raise is not refused;
+/// the third outcome is what a core would come to that asked for memory there.
+const STEPS_WITH_ROOM: &[u8] = b"lend 0 0 1\nclone 1 0\nraise 1\nraise 1\nquit 1\n";
+
+const OF_STEPS_WITH_ROOM: [Outcome; 4] = [
+    Outcome {
+        output: b"done\npending\nborn 1\nbarred\nbarred\n",
+        errors: b"",
+        status: 0,
+    },
+    Outcome {
+        output: b"memory\nbarred\nbarred\nbarred\nbarred\n",
+        errors: b"",
+        status: 0,
+    },
+    Outcome {
+        output: b"done\npending\nmemory\nborn 1\nbarred\n",
+        errors: b"",
+        status: 0,
+    },
+    Outcome {
+        output: b"",
+        errors: b"fault: memory\n",
+        status: 5,
+    },
+];
+
 /// A script of copies on write, and what it may come to: nothing is refused, one of its commands, or a
 /// request outside an answer.
 const COMMANDS: &[u8] = b"new 0 5\nclone 0 1\nmakemut 0 9\nown 1\nget 0\nget 1\n";
@@ -106,6 +133,17 @@ fn check_outcome(
 #[test]
 fn runs_steps_with_one_request_refused(rt: HostRuntime) {
     check_outcome(&rt, rt.alloc(), "core", STEPS, &OF_STEPS);
+}
+
+#[test]
+fn runs_steps_with_room_and_one_request_refused(rt: HostRuntime) {
+    check_outcome(
+        &rt,
+        rt.alloc(),
+        "core",
+        STEPS_WITH_ROOM,
+        &OF_STEPS_WITH_ROOM,
+    );
 }
 
 #[test]

@@ -1,89 +1,81 @@
 -- When a step is an event of the plain machine, and which traces are legal.
-use Rattle.std.specs.Prelude.{◌≡◌, ℕ, Bool, true, false, ◌&&◌, ◌||◌, ◌⊎◌, IsTrue, nat_eq, if◌then◌else◌, length, Option, Some, None, option_map}
+use Rattle.std.specs.Prelude.{◌≡◌, ℕ, Bool, true, false, ◌||◌, ◌⊎◌, IsTrue, nat_eq, if◌then◌else◌, length}
+use Rattle.counting_word.specs.CountingWord.{IsLimit}
 use Rattle.counting_core.specs.declared.step.Step.{Step}
-use Rattle.counting_core.specs.declared.step.Step.TheVariants.{Clone, Raise, Quit, Drop, Lower, Mark, Unique, Static, GetMut, Write, Load, Lend}
+use Rattle.counting_core.specs.declared.step.Step.TheVariants.{Clone, Raise, Quit, Drop, Lower, Mark, Unique, Static}
+use Rattle.counting_core.specs.declared.step.Step.TheVariants.{GetMut, Write, EndWrite, IntoUnique, Share, Load, Lend, Return, Give}
 use Rattle.counting_core.specs.declared.step.Answer.{Answer}
 use Rattle.counting_core.specs.declared.step.Answer.TheVariants.{Born, Pending, Done, Memory, Barred, Quit as Quitted}
-use Rattle.counting_core.specs.Trace.{Trace, Open, Then, owner_of, takes_effect, is_pending, dropping, situation}
+use Rattle.counting_core.specs.Trace.{Trace, Open, Then, Situation, owner_of, dropped_by, put, situation}
 use Rattle.counting_core.specs.Permitted.{permitted}
-use Rattle.counting_core.specs.PlainMachine.{Machine, Event, Clones, Ends, Marks, AsksUnique, AsksStatic, AsksMut, Writes, Loads, opened, is_full, reply, next}
+use Rattle.counting_core.specs.PlainMachine.{Machine, Event, Clones, Ends, Marks, AsksUnique, AsksStatic, AsksMut, AsksSole}
+use Rattle.counting_core.specs.PlainMachine.{Writes, Loads, opened, is_full, respond}
+
+-- A permitted step is an event of the plain machine, or it is silent and has this answer.
+pub data Move (V : Type 0) : Type 0 where
+  Visible : (event : Event V) → Move V
+  Silent : (answer : Answer V) → Move V
 
 -- The machine after a trace, and how many handles lived after each owner's last step that was answered Pending.
 pub record Replay (V : Type 0) : Type 0 where
   pub machine : Machine V
-  pub seen : ℕ → ℕ
+  pub lived : ℕ → ℕ
 
 module _ {V : Type 0} where
-  -- a clone or a raise is an event where it leaves no clone in flight
-  abbrev pub clone_event : Bool → Option (Event V)
-  clone_event true = Some Clones
-  clone_event false = None
-
   -- On an unmarked block below the limit a raise loses where the number of live handles is another than the one that
   -- its owner saw.
   abbrev pub raise_settles : Replay V → ℕ → Bool
-  raise_settles r o = r.machine.mark || (is_full r.machine || nat_eq (length r.machine.live) (r.seen o))
+  raise_settles r o = r.machine.mark || (is_full r.machine || nat_eq (length r.machine.live) (r.lived o))
 
-  -- The event that a permitted step is, where it is one; `in_flight` is the handle of its owner's drop in flight.
-  abbrev pub event : Replay V → Option ℕ → Step V → Option (Event V)
-  event r in_flight (Clone o h) = clone_event (r.machine.mark || is_full r.machine)
-  event r in_flight (Raise o) = clone_event (raise_settles r o)
-  event r in_flight (Drop o h) = if r.machine.mark then Some (Ends h) else None
-  event r in_flight (Lower o) = option_map Ends in_flight
-  event r in_flight (Mark o h) = Some Marks
-  event r in_flight (Unique o h) = Some (AsksUnique h)
-  event r in_flight (Static o h) = Some AsksStatic
-  event r in_flight (GetMut o h) = Some (AsksMut h)
-  event r in_flight (Write o h v) = Some (Writes v)
-  event r in_flight (Load o h) = Some Loads
-  event r in_flight _ = None
+  abbrev pub move : Replay V → Situation → Step V → Move V
+  move r u (Clone o h) = if r.machine.mark || is_full r.machine then Visible Clones else Silent Pending
+  move r u (Raise o) = if raise_settles r o then Visible Clones else Silent Pending
+  move r u (Quit o) = Silent Quitted
+  move r u (Drop o h) = if r.machine.mark then Visible (Ends h) else Silent Pending
+  move r u (Lower o) = Visible (Ends (dropped_by (u.activity o)))
+  move r u (Mark o h) = Visible Marks
+  move r u (Unique o h) = Visible (AsksUnique h)
+  move r u (Static o h) = Visible AsksStatic
+  move r u (GetMut o h) = Visible (AsksMut h)
+  move r u (Write o h v) = Visible (Writes v)
+  move r u (EndWrite o h) = Silent Done
+  move r u (IntoUnique o h) = Visible (AsksSole h)
+  move r u (Share o h) = Silent Done
+  move r u (Load o h) = Visible Loads
+  move r u (Lend o h to) = Silent Done
+  move r u (Return o h) = Silent Done
+  move r u (Give o h to) = Silent Done
 
-  -- the answer of a permitted step that is no event
-  abbrev pub quiet_answer : Step V → Answer V
-  quiet_answer (Clone o h) = Pending
-  quiet_answer (Raise o) = Pending
-  quiet_answer (Drop o h) = Pending
-  quiet_answer (Quit o) = Quitted
-  quiet_answer _ = Done
+  -- the answer to a move, and the machine after it
+  abbrev pub outcome : Machine V → Move V → Answer V × Machine V
+  outcome m (Visible event) = respond m event
+  outcome m (Silent answer) = (answer, m)
 
-  abbrev pub answer_by : Machine V → Step V → Option (Event V) → Answer V
-  answer_by m s None = quiet_answer s
-  answer_by m s (Some e) = reply m e
-
-  abbrev pub machine_by : Machine V → Option (Event V) → Machine V
-  machine_by m None = m
-  machine_by m (Some e) = next m e
-
-  abbrev pub machine_after : Replay V → Option ℕ → Step V → Answer V → Machine V
-  machine_after r in_flight s a = if takes_effect a then machine_by r.machine (event r in_flight s) else r.machine
-
-  abbrev pub replay_after : Replay V → Option ℕ → Step V → Answer V → Replay V
-  replay_after r in_flight s a =
-      record {
-        machine = machine_after r in_flight s a;
-        seen = λ o.
-            if is_pending a && nat_eq (owner_of s) o then length (machine_after r in_flight s a).live else r.seen o;
-      }
+  -- what a step with its answer makes of a replay
+  abbrev pub replay_after : Replay V → Situation → Step V → Answer V → Replay V
+  replay_after r u s Barred = r
+  replay_after r u s Memory = r
+  replay_after r u s Pending = record r { lived = put r.lived (owner_of s) (length r.machine.live) }
+  replay_after r u s a = record r { machine = (outcome r.machine (move r u s)).1 }
 
   abbrev pub replay : Trace V → Replay V
-  replay (Open v n) = record { machine = opened v; seen = λ o. 0 }
-  replay (Then t s a) = replay_after (replay t) (dropping t (owner_of s)) s a
+  replay (Open v n limit) = record { machine = opened v limit; lived = λ o. 0 }
+  replay (Then t s a) = replay_after (replay t) (situation t) s a
 
-  -- the answer that is due to a permitted step, want of memory aside
+  -- the answer to a step, want of memory aside
   abbrev pub due : Trace V → Step V → Answer V
-  due t s = answer_by (replay t).machine s (event (replay t) (dropping t (owner_of s)) s)
+  due t s =
+      if permitted (situation t) s then (outcome (replay t).machine (move (replay t) (situation t) s)).0 else Barred
 
   -- memory is taken by a birth and by a lending
   abbrev pub takes_memory : Step V → Answer V → Bool
-  takes_memory (Lend o h to) a = true
-  takes_memory _ (Born n) = true
-  takes_memory _ _ = false
+  takes_memory s (Born n) = true
+  takes_memory (Lend o h to) Done = true
+  takes_memory s a = false
 
--- An answer is Barred exactly where the step is not permitted; else it is the one that is due, or Memory.
-pub record IsAnswer {V : Type 0} (t : Trace V) (s : Step V) (a : Answer V) : Type 0 where
-  pub barred : permitted (situation t) s ≡ false → a ≡ Barred
-  pub answered : permitted (situation t) s ≡ true → (a ≡ due t s) ⊎ ((a ≡ Memory) × IsTrue (takes_memory s (due t s)))
+  abbrev pub IsAnswer : Trace V → Step V → Answer V → Type 0
+  IsAnswer t s a = (a ≡ due t s) ⊎ ((a ≡ Memory) × IsTrue (takes_memory s (due t s)))
 
-abbrev pub IsLegal : {V : Type 0} → Trace V → Type 0
-IsLegal (Open v n) = Unit {0}
-IsLegal (Then t s a) = IsLegal t × IsAnswer t s a
+  abbrev pub IsLegal : Trace V → Type 0
+  IsLegal (Open v n limit) = IsLimit limit
+  IsLegal (Then t s a) = IsLegal t × IsAnswer t s a

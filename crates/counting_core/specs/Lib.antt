@@ -3,6 +3,6 @@ pub mod Permitted
 pub mod PlainMachine
 pub mod Legal
 pub mod Represents
-pub mod Fields
 pub mod Laws
 pub mod LostRaises
+pub mod BlockSteps

@@ -1,63 +1,79 @@
 -- Which step is permitted to whom.
-use Rattle.std.specs.Prelude.{ℕ, Bool, true, false, not, ◌&&◌, ◌||◌, nat_eq, nat_lt, List, [], ◌∷◌, Option, Some, None}
+use Rattle.std.specs.Prelude.{ℕ, Bool, true, false, not, ◌&&◌, ◌||◌, nat_eq, nat_lt, length}
 use Rattle.std.specs.List.{list_any}
+use Rattle.counting_core.specs.declared.handle.Access.{Access}
+use Rattle.counting_core.specs.declared.handle.Access.TheVariants.{Shared, Written, Sole}
+use Rattle.counting_core.specs.declared.owner.Activity.{Activity}
+use Rattle.counting_core.specs.declared.owner.Activity.TheVariants.{Idle, Cloning, Dropping}
 use Rattle.counting_core.specs.declared.step.Step.{Step}
-use Rattle.counting_core.specs.declared.step.Step.TheVariants.{Clone, Raise, Quit, Drop, Lower, Mark, Unique, Static, GetMut, Write, EndWrite, Load, Lend, Return, Give}
-use Rattle.counting_core.specs.Trace.{Situation, owner_of}
+use Rattle.counting_core.specs.declared.step.Step.TheVariants.{Clone, Raise, Quit, Drop, Lower, Mark, Unique, Static}
+use Rattle.counting_core.specs.declared.step.Step.TheVariants.{GetMut, Write, EndWrite, IntoUnique, Share, Load, Lend, Return, Give}
+use Rattle.counting_core.specs.Trace.{HandleState, Situation, owner_of}
 
-abbrev pub holds : Situation → ℕ → ℕ → Bool
-holds t o h = t.lives h && nat_eq (t.holder h) o
+abbrev pub is_shared : Access → Bool
+is_shared Shared = true
+is_shared Written = false
+is_shared Sole = false
 
-abbrev pub is_lent_to : Situation → ℕ → ℕ → Bool
-is_lent_to t h o = list_any (nat_eq o) (t.borrowers h)
+abbrev pub is_written : Access → Bool
+is_written Shared = false
+is_written Written = true
+is_written Sole = false
 
-abbrev pub is_nobody : List ℕ → Bool
-is_nobody [] = true
-is_nobody (o ∷ os) = false
+abbrev pub is_sole : Access → Bool
+is_sole Shared = false
+is_sole Written = false
+is_sole Sole = true
 
--- holds it or was lent it, and it is not being written
-abbrev pub may_use : Situation → ℕ → ℕ → Bool
-may_use t o h = t.lives h && ((nat_eq (t.holder h) o || is_lent_to t h o) && not (t.written h))
+-- what the owner o may do with a handle in the state k
+module _ (k : HandleState) (o : ℕ) where
+  abbrev pub holds : Bool
+  holds = k.lives && nat_eq k.holder o
 
--- holds it, lent to nobody, and it is not being written
-abbrev pub has_to_itself : Situation → ℕ → ℕ → Bool
-has_to_itself t o h = holds t o h && (is_nobody (t.borrowers h) && not (t.written h))
+  abbrev pub is_lent_to : Bool
+  is_lent_to = list_any (nat_eq o) k.borrowers
+
+  -- holds it, and it is lent to nobody
+  abbrev pub has_alone : Bool
+  has_alone = holds && nat_eq (length k.borrowers) 0
+
+  -- holds it or was lent it, and it is neither being written nor sole
+  abbrev pub may_use : Bool
+  may_use = k.lives && ((nat_eq k.holder o || is_lent_to) && is_shared k.access)
+
+  abbrev pub may_take : Bool
+  may_take = has_alone && is_shared k.access
+
+  abbrev pub is_writing : Bool
+  is_writing = holds && is_written k.access
+
+  abbrev pub has_sole : Bool
+  has_sole = has_alone && is_sole k.access
 
 abbrev pub is_another : Situation → ℕ → ℕ → Bool
-is_another t o to = nat_lt to t.owners && not (nat_eq to o)
+is_another u o to = nat_lt to u.owners && not (nat_eq to o)
 
--- an owner with nothing in flight
-abbrev pub permitted_idle : {V : Type 0} → Situation → Step V → Bool
-permitted_idle t (Clone o h) = may_use t o h
-permitted_idle t (Mark o h) = may_use t o h
-permitted_idle t (Load o h) = may_use t o h
-permitted_idle t (Unique o h) = may_use t o h
-permitted_idle t (Static o h) = may_use t o h
-permitted_idle t (Drop o h) = has_to_itself t o h
-permitted_idle t (GetMut o h) = has_to_itself t o h
-permitted_idle t (Give o h to) = has_to_itself t o h && is_another t o to
-permitted_idle t (Lend o h to) = holds t o h && (not (t.written h) && (is_another t o to && not (is_lent_to t h to)))
-permitted_idle t (Return o h) = t.lives h && is_lent_to t h o
-permitted_idle t (Write o h v) = holds t o h && t.written h
-permitted_idle t (EndWrite o h) = holds t o h && t.written h
-permitted_idle t (Raise o) = false
-permitted_idle t (Quit o) = false
-permitted_idle t (Lower o) = false
-
-abbrev pub is_raise_or_quit : {V : Type 0} → Step V → Bool
-is_raise_or_quit (Raise o) = true
-is_raise_or_quit (Quit o) = true
-is_raise_or_quit _ = false
-
-abbrev pub is_lower : {V : Type 0} → Step V → Bool
-is_lower (Lower o) = true
-is_lower _ = false
-
--- by the owner's clone in flight and its drop in flight
-abbrev pub permitted_by : {V : Type 0} → Option ℕ → Option ℕ → Situation → Step V → Bool
-permitted_by (Some h) dropping t s = is_raise_or_quit s
-permitted_by None (Some h) t s = is_lower s
-permitted_by None None t s = permitted_idle t s
+-- by what the owner of the step is in the middle of
+abbrev pub permitted_by : {V : Type 0} → Situation → Activity → Step V → Bool
+permitted_by u (Cloning h) (Raise o) = true
+permitted_by u (Cloning h) (Quit o) = true
+permitted_by u (Dropping h) (Lower o) = true
+permitted_by u Idle (Clone o h) = may_use (u.handle h) o
+permitted_by u Idle (Mark o h) = may_use (u.handle h) o
+permitted_by u Idle (Load o h) = may_use (u.handle h) o || has_sole (u.handle h) o
+permitted_by u Idle (Unique o h) = may_use (u.handle h) o
+permitted_by u Idle (Static o h) = may_use (u.handle h) o
+permitted_by u Idle (GetMut o h) = may_take (u.handle h) o
+permitted_by u Idle (IntoUnique o h) = may_take (u.handle h) o
+permitted_by u Idle (Drop o h) = may_take (u.handle h) o || has_sole (u.handle h) o
+permitted_by u Idle (Give o h to) = (may_take (u.handle h) o || has_sole (u.handle h) o) && is_another u o to
+permitted_by u Idle (Lend o h to) =
+    holds (u.handle h) o && (is_shared (u.handle h).access && (is_another u o to && not (is_lent_to (u.handle h) to)))
+permitted_by u Idle (Return o h) = (u.handle h).lives && is_lent_to (u.handle h) o
+permitted_by u Idle (Write o h v) = is_writing (u.handle h) o || has_sole (u.handle h) o
+permitted_by u Idle (EndWrite o h) = is_writing (u.handle h) o
+permitted_by u Idle (Share o h) = has_sole (u.handle h) o
+permitted_by u activity s = false
 
 abbrev pub permitted : {V : Type 0} → Situation → Step V → Bool
-permitted t s = nat_lt (owner_of s) t.owners && permitted_by (t.cloning (owner_of s)) (t.dropping (owner_of s)) t s
+permitted u s = nat_lt (owner_of s) u.owners && permitted_by u (u.activity (owner_of s)) s

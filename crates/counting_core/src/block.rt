@@ -1,56 +1,36 @@
 //! One block and its owners, and each of their steps.
+ghost use Rattle.std.specs.Prelude.{◌≡◌, ◌++◌, ◌∷◌, [], length, IfSome, IfNone};
+ghost use Rattle.counting_core.specs.Trace.{newborn};
+ghost use Rattle.counting_core.specs.BlockSteps.{state, IsReached, MayStep, StepsTo};
+
+use crate::handle::{Access, Handle};
+use crate::owner::{Activity, Owner};
 use crate::step::{Answer, Step};
 use counting_word::{
     ClonePlan, DropPlan, is_alone, is_last, is_marked, plan_clone, plan_drop, with_mark,
 };
 use std::alloc::Global;
-use std::collections::BTreeSet;
 
-/// What an owner is in the middle of.
-#[derive(Clone, Copy)]
-pub(crate) enum Activity {
-    Idle,
-    /// A clone of the handle, which saw this word last.
-    Cloning { handle: usize, seen: u64 },
-    /// A drop of the handle, which has still to lower the word.
-    Dropping { handle: usize },
-}
-
-/// What is known of a handle that was born.
-#[derive(Drop)]
-pub(crate) struct Entry {
-    pub(crate) lives: bool,
-    pub(crate) holder: usize,
-    pub(crate) borrowers: BTreeSet<usize>,
-    pub(crate) written: bool,
-}
-
+/// The fields of a core. That some trace has led to them holds between steps, so it is said of the core, and proved
+/// once for all steps.
 #[derive(Drop)]
 pub(crate) struct Block<V> {
     pub(crate) alloc: Global,
     pub(crate) value: V,
     pub(crate) word: u64,
-    pub(crate) entries: Vec<Entry>,
-    pub(crate) owners: Vec<Activity>,
+    pub(crate) limit: u64,
+    pub(crate) handles: Vec<Handle>,
+    pub(crate) owners: Vec<Owner>,
 }
 
-ghost use Rattle.std.specs.Prelude.{◌≡◌, ◌++◌, ◌∷◌, [], length, IfSome, IfNone, true};
-ghost use Rattle.counting_core.specs.Fields.{fields, newborn, Moves, IsFree, IsInFlight, IsReached};
-
 /// The number of a new handle, or nothing where memory is refused.
-pub(crate) fn push_newborn(entries: &mut Vec<Entry>, alloc: Global, holder: usize) -> Option<usize>
-    ensures number { IfSome result (λ n. n ≡ length entries.old.items) }
-    ensures born { IfSome result (λ _. entries.new.items ≡ entries.old.items ++ newborn holder ∷ []) }
-    ensures refused { IfNone result (entries.new.items ≡ entries.old.items) }
+pub(crate) fn push_newborn(handles: &mut Vec<Handle>, alloc: Global, holder: usize) -> Option<usize>
+    ensures number { IfSome result (λ n. n ≡ length handles.old.items) }
+    ensures born { IfSome result (λ _. handles.new.items ≡ handles.old.items ++ newborn holder ∷ []) }
+    ensures refused { IfNone result (handles.new.items ≡ handles.old.items) }
 {
-    let number = entries.len();
-    let entry = Entry {
-        lives: true,
-        holder,
-        borrowers: BTreeSet::new(alloc),
-        written: false,
-    };
-    match entries.push(entry) {
+    let number = handles.len();
+    match handles.push(Handle::newborn(alloc, holder)) {
         Ok(()) => Some(number),
         Err(_) => None,
     }
@@ -58,41 +38,39 @@ pub(crate) fn push_newborn(entries: &mut Vec<Entry>, alloc: Global, holder: usiz
 
 impl<V: Copy> Block<V> {
     fn load(&mut self, owner: usize, handle: usize) -> Answer<V>
-        requires { IsFree (fields self.old) (Step.Load owner handle) }
-        ensures { Moves (fields self.old) (Step.Load owner handle) result (fields self.new) }
+        requires { MayStep (state self.old) Activity.Idle (Step.Load owner handle) }
+        ensures { StepsTo (state self.old) (Step.Load owner handle) result (state self.new) }
     {
         Answer::Value(self.value)
     }
 
     fn unique(&mut self, owner: usize, handle: usize) -> Answer<V>
-        requires { IsFree (fields self.old) (Step.Unique owner handle) }
-        ensures { Moves (fields self.old) (Step.Unique owner handle) result (fields self.new) }
+        requires { MayStep (state self.old) Activity.Idle (Step.Unique owner handle) }
+        ensures { StepsTo (state self.old) (Step.Unique owner handle) result (state self.new) }
     {
         Answer::Is(is_alone(self.word))
     }
 
     fn is_static(&mut self, owner: usize, handle: usize) -> Answer<V>
-        requires { IsFree (fields self.old) (Step.Static owner handle) }
-        ensures { Moves (fields self.old) (Step.Static owner handle) result (fields self.new) }
+        requires { MayStep (state self.old) Activity.Idle (Step.Static owner handle) }
+        ensures { StepsTo (state self.old) (Step.Static owner handle) result (state self.new) }
     {
         Answer::Is(is_marked(self.word))
     }
 
     fn clone_handle(&mut self, owner: usize, handle: usize) -> Answer<V>
-        requires { IsFree (fields self.old) (Step.Clone owner handle) }
-        ensures { Moves (fields self.old) (Step.Clone owner handle) result (fields self.new) }
+        requires { MayStep (state self.old) Activity.Idle (Step.Clone owner handle) }
+        ensures { StepsTo (state self.old) (Step.Clone owner handle) result (state self.new) }
     {
-        match plan_clone(self.word) {
-            ClonePlan::Static => {
-                let Some(number) = push_newborn(&mut self.entries, self.alloc, owner) else {
-                    return Answer::Memory;
-                };
-                Answer::Born(number)
-            }
+        match plan_clone(self.word, self.limit) {
+            ClonePlan::Static => match push_newborn(&mut self.handles, self.alloc, owner) {
+                Some(number) => Answer::Born(number),
+                None => Answer::Memory,
+            },
             ClonePlan::Full => Answer::Full,
             ClonePlan::Raise(_) => {
-                self.owners[owner] = Activity::Cloning {
-                    handle,
+                self.owners[owner] = Owner {
+                    activity: Activity::Cloning { handle },
                     seen: self.word,
                 };
                 Answer::Pending
@@ -100,21 +78,22 @@ impl<V: Copy> Block<V> {
         }
     }
 
-    // A compare-exchange from the word that the owner saw last. One that loses has read the word anew.
-    pub(crate) fn raise(&mut self, owner: usize, handle: usize, seen: u64) -> Answer<V>
-        requires { IsInFlight (fields self.old) owner (Activity.Cloning handle seen) }
-        ensures { Moves (fields self.old) (Step.Raise owner) result (fields self.new) }
+    // A compare-exchange from the word that the owner saw last. One that fails has read the word anew.
+    fn raise(&mut self, owner: usize, handle: usize) -> Answer<V>
+        requires { MayStep (state self.old) (Activity.Cloning handle) (Step.Raise owner) }
+        ensures { StepsTo (state self.old) (Step.Raise owner) result (state self.new) }
     {
-        let next = match plan_clone(self.word) {
+        let next = match plan_clone(self.word, self.limit) {
             ClonePlan::Static => self.word,
             ClonePlan::Full => {
-                self.owners[owner] = Activity::Idle;
+                self.owners[owner] = Owner::IDLE;
                 return Answer::Full;
             }
             ClonePlan::Raise(next) => {
+                let seen = self.owners[owner].seen;
                 if self.word != seen {
-                    self.owners[owner] = Activity::Cloning {
-                        handle,
+                    self.owners[owner] = Owner {
+                        activity: Activity::Cloning { handle },
                         seen: self.word,
                     };
                     return Answer::Pending;
@@ -122,47 +101,46 @@ impl<V: Copy> Block<V> {
                 next
             }
         };
-        let Some(number) = push_newborn(&mut self.entries, self.alloc, owner) else {
+        let Some(number) = push_newborn(&mut self.handles, self.alloc, owner) else {
             return Answer::Memory;
         };
         self.word = next;
-        self.owners[owner] = Activity::Idle;
+        self.owners[owner] = Owner::IDLE;
         Answer::Born(number)
     }
 
-    pub(crate) fn quit(&mut self, owner: usize, handle: usize, seen: u64) -> Answer<V>
-        requires { IsInFlight (fields self.old) owner (Activity.Cloning handle seen) }
-        ensures { Moves (fields self.old) (Step.Quit owner) result (fields self.new) }
+    fn quit(&mut self, owner: usize, handle: usize) -> Answer<V>
+        requires { MayStep (state self.old) (Activity.Cloning handle) (Step.Quit owner) }
+        ensures { StepsTo (state self.old) (Step.Quit owner) result (state self.new) }
     {
-        self.owners[owner] = Activity::Idle;
+        self.owners[owner] = Owner::IDLE;
         Answer::Quit
     }
 
     fn drop_handle(&mut self, owner: usize, handle: usize) -> Answer<V>
-        requires { IsFree (fields self.old) (Step.Drop owner handle) }
-        ensures { Moves (fields self.old) (Step.Drop owner handle) result (fields self.new) }
+        requires { MayStep (state self.old) Activity.Idle (Step.Drop owner handle) }
+        ensures { StepsTo (state self.old) (Step.Drop owner handle) result (state self.new) }
     {
         match plan_drop(self.word) {
             DropPlan::Static => {
-                self.entries[handle].lives = false;
+                self.handles[handle].end();
                 Answer::Ended
             }
             DropPlan::Lower => {
-                self.owners[owner] = Activity::Dropping { handle };
+                self.owners[owner].activity = Activity::Dropping { handle };
                 Answer::Pending
             }
         }
     }
 
-    pub(crate) fn lower(&mut self, owner: usize, handle: usize) -> Answer<V>
-        requires reached { IsReached (fields self.old) }
-        requires in_flight { IsInFlight (fields self.old) owner (Activity.Dropping handle) }
-        ensures { Moves (fields self.old) (Step.Lower owner) result (fields self.new) }
+    fn lower(&mut self, owner: usize, handle: usize) -> Answer<V>
+        requires { MayStep (state self.old) (Activity.Dropping handle) (Step.Lower owner) }
+        ensures { StepsTo (state self.old) (Step.Lower owner) result (state self.new) }
     {
         let old = self.word;
         self.word = old - 1;
-        self.owners[owner] = Activity::Idle;
-        self.entries[handle].lives = false;
+        self.owners[owner] = Owner::IDLE;
+        self.handles[handle].end();
         if is_last(old) {
             Answer::GivenUp(self.value)
         } else {
@@ -171,71 +149,91 @@ impl<V: Copy> Block<V> {
     }
 
     fn mark(&mut self, owner: usize, handle: usize) -> Answer<V>
-        requires { IsFree (fields self.old) (Step.Mark owner handle) }
-        ensures { Moves (fields self.old) (Step.Mark owner handle) result (fields self.new) }
+        requires { MayStep (state self.old) Activity.Idle (Step.Mark owner handle) }
+        ensures { StepsTo (state self.old) (Step.Mark owner handle) result (state self.new) }
     {
         self.word = with_mark(self.word);
         Answer::Marked
     }
 
     fn get_mut(&mut self, owner: usize, handle: usize) -> Answer<V>
-        requires { IsFree (fields self.old) (Step.GetMut owner handle) }
-        ensures { Moves (fields self.old) (Step.GetMut owner handle) result (fields self.new) }
+        requires { MayStep (state self.old) Activity.Idle (Step.GetMut owner handle) }
+        ensures { StepsTo (state self.old) (Step.GetMut owner handle) result (state self.new) }
     {
         if is_alone(self.word) {
-            self.entries[handle].written = true;
+            self.handles[handle].set_access(Access::Written);
             Answer::Alone
         } else {
             Answer::Shared
         }
     }
 
+    fn into_unique(&mut self, owner: usize, handle: usize) -> Answer<V>
+        requires { MayStep (state self.old) Activity.Idle (Step.IntoUnique owner handle) }
+        ensures { StepsTo (state self.old) (Step.IntoUnique owner handle) result (state self.new) }
+    {
+        if is_alone(self.word) {
+            self.handles[handle].set_access(Access::Sole);
+            Answer::Sole
+        } else {
+            Answer::Shared
+        }
+    }
+
+    fn share(&mut self, owner: usize, handle: usize) -> Answer<V>
+        requires { MayStep (state self.old) Activity.Idle (Step.Share owner handle) }
+        ensures { StepsTo (state self.old) (Step.Share owner handle) result (state self.new) }
+    {
+        self.handles[handle].set_access(Access::Shared);
+        Answer::Done
+    }
+
     fn write(&mut self, owner: usize, handle: usize, value: V) -> Answer<V>
-        requires { IsFree (fields self.old) (Step.Write owner handle value) }
-        ensures { Moves (fields self.old) (Step.Write owner handle value) result (fields self.new) }
+        requires { MayStep (state self.old) Activity.Idle (Step.Write owner handle value) }
+        ensures { StepsTo (state self.old) (Step.Write owner handle value) result (state self.new) }
     {
         self.value = value;
         Answer::Done
     }
 
     fn end_write(&mut self, owner: usize, handle: usize) -> Answer<V>
-        requires { IsFree (fields self.old) (Step.EndWrite owner handle) }
-        ensures { Moves (fields self.old) (Step.EndWrite owner handle) result (fields self.new) }
+        requires { MayStep (state self.old) Activity.Idle (Step.EndWrite owner handle) }
+        ensures { StepsTo (state self.old) (Step.EndWrite owner handle) result (state self.new) }
     {
-        self.entries[handle].written = false;
+        self.handles[handle].set_access(Access::Shared);
         Answer::Done
     }
 
     fn lend(&mut self, owner: usize, handle: usize, to: usize) -> Answer<V>
-        requires { IsFree (fields self.old) (Step.Lend owner handle to) }
-        ensures { Moves (fields self.old) (Step.Lend owner handle to) result (fields self.new) }
+        requires { MayStep (state self.old) Activity.Idle (Step.Lend owner handle to) }
+        ensures { StepsTo (state self.old) (Step.Lend owner handle to) result (state self.new) }
     {
-        let Ok(_) = self.entries[handle].borrowers.insert(to) else {
-            return Answer::Memory;
-        };
-        Answer::Done
+        match self.handles[handle].lend_to(to) {
+            Ok(()) => Answer::Done,
+            Err(_) => Answer::Memory,
+        }
     }
 
-    fn give_back(&mut self, owner: usize, handle: usize) -> Answer<V>
-        requires { IsFree (fields self.old) (Step.Return owner handle) }
-        ensures { Moves (fields self.old) (Step.Return owner handle) result (fields self.new) }
+    fn return_handle(&mut self, owner: usize, handle: usize) -> Answer<V>
+        requires { MayStep (state self.old) Activity.Idle (Step.Return owner handle) }
+        ensures { StepsTo (state self.old) (Step.Return owner handle) result (state self.new) }
     {
-        self.entries[handle].borrowers.remove(&owner);
+        self.handles[handle].take_back_from(owner);
         Answer::Done
     }
 
     fn give(&mut self, owner: usize, handle: usize, to: usize) -> Answer<V>
-        requires { IsFree (fields self.old) (Step.Give owner handle to) }
-        ensures { Moves (fields self.old) (Step.Give owner handle to) result (fields self.new) }
+        requires { MayStep (state self.old) Activity.Idle (Step.Give owner handle to) }
+        ensures { StepsTo (state self.old) (Step.Give owner handle to) result (state self.new) }
     {
-        self.entries[handle].holder = to;
+        self.handles[handle].give_to(to);
         Answer::Done
     }
 
     // A step of an owner that has nothing in flight, and to whom it is permitted.
-    pub(crate) fn act(&mut self, step: Step<V>) -> Answer<V>
-        requires { IsFree (fields self.old) step }
-        ensures { Moves (fields self.old) step result (fields self.new) }
+    fn act(&mut self, step: Step<V>) -> Answer<V>
+        requires { MayStep (state self.old) Activity.Idle step }
+        ensures { StepsTo (state self.old) step result (state self.new) }
     {
         match step {
             Step::Clone { owner, handle } => self.clone_handle(owner, handle),
@@ -249,25 +247,27 @@ impl<V: Copy> Block<V> {
                 handle,
                 value,
             } => self.write(owner, handle, value),
+            Step::IntoUnique { owner, handle } => self.into_unique(owner, handle),
+            Step::Share { owner, handle } => self.share(owner, handle),
             Step::EndWrite { owner, handle } => self.end_write(owner, handle),
             Step::Load { owner, handle } => self.load(owner, handle),
             Step::Lend { owner, handle, to } => self.lend(owner, handle, to),
-            Step::Return { owner, handle } => self.give_back(owner, handle),
+            Step::Return { owner, handle } => self.return_handle(owner, handle),
             Step::Give { owner, handle, to } => self.give(owner, handle, to),
-            Step::Raise { .. } | Step::Quit { .. } | Step::Lower { .. } => Answer::Barred,
+            Step::Raise { .. } | Step::Quit { .. } | Step::Lower { .. } => unreachable!(),
         }
     }
 
     // By what the owner is in the middle of; an owner with a call in flight may only go on with it.
     pub(crate) fn step(&mut self, step: Step<V>) -> Answer<V>
-        requires { IsReached (fields self.old) }
-        ensures { Moves (fields self.old) step result (fields self.new) }
+        requires { IsReached (state self.old) }
+        ensures { StepsTo (state self.old) step result (state self.new) }
     {
         let owner = step.owner();
         if owner >= self.owners.len() {
             return Answer::Barred;
         }
-        match self.owners[owner] {
+        match self.owners[owner].activity {
             Activity::Idle => {
                 if self.permits(&step) {
                     self.act(step)
@@ -275,9 +275,9 @@ impl<V: Copy> Block<V> {
                     Answer::Barred
                 }
             }
-            Activity::Cloning { handle, seen } => match step {
-                Step::Raise { .. } => self.raise(owner, handle, seen),
-                Step::Quit { .. } => self.quit(owner, handle, seen),
+            Activity::Cloning { handle } => match step {
+                Step::Raise { .. } => self.raise(owner, handle),
+                Step::Quit { .. } => self.quit(owner, handle),
                 _ => Answer::Barred,
             },
             Activity::Dropping { handle } => match step {

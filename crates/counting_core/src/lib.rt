@@ -9,12 +9,11 @@
 
 mod block;
 mod counting;
+mod handle;
 pub mod laws;
+mod owner;
 mod permission;
 mod step;
 
 pub use counting::Core;
 pub use step::{Answer, Step};
-
-#[cfg(test)]
-mod tests;

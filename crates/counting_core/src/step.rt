@@ -1,8 +1,11 @@
 //! The steps of the owners of a block, and what they are answered.
+ghost use Rattle.std.specs.Prelude.{◌≡◌, ⊤};
+
+use std::alloc::AllocError;
 
 /// A step of `owner`, mostly on `handle`. Owners and handles are numbers from 0 on; a handle has the
 /// number of its birth.
-#[derive(Clone, Copy, Debug, PartialEq)]
+#[derive(Copy, Debug, PartialEq)]
 pub enum Step<V> {
     /// Reads the word, to make another handle of the block.
     Clone {
@@ -57,6 +60,17 @@ pub enum Step<V> {
         owner: usize,
         handle: usize,
     },
+    /// Reads the word, to have the only handle to itself: its holder then writes the value at will, and nobody
+    /// else may use the handle.
+    IntoUnique {
+        owner: usize,
+        handle: usize,
+    },
+    /// Lets a handle that was taken so be used as any other again.
+    Share {
+        owner: usize,
+        handle: usize,
+    },
     /// Reads the value.
     Load {
         owner: usize,
@@ -102,6 +116,8 @@ pub enum Answer<V> {
     Is(bool),
     /// The handle is the only one, and is being written from now on.
     Alone,
+    /// The handle is the only one, and its holder has it alone until it is shared again.
+    Sole,
     /// There may be other handles, so that nothing may be written.
     Shared,
     /// The step was made.
@@ -114,8 +130,17 @@ pub enum Answer<V> {
     Barred,
 }
 
+impl<V: Copy> Clone for Step<V> {
+    ghost is_clone = { λ step copy. copy ≡ step };
+
+    ghost is_infallible = { λ _. ⊤ };
+
+    fn clone(&self) -> Result<Self, AllocError> {
+        Ok(*self)
+    }
+}
+
 impl<V: Copy> Step<V> {
-    ghost use Rattle.std.specs.Prelude.{◌≡◌};
     ghost use Rattle.counting_core.specs.Trace.{owner_of};
 
     /// The owner whose step it is.
@@ -134,6 +159,8 @@ impl<V: Copy> Step<V> {
             | Step::GetMut { owner, .. }
             | Step::Write { owner, .. }
             | Step::EndWrite { owner, .. }
+            | Step::IntoUnique { owner, .. }
+            | Step::Share { owner, .. }
             | Step::Load { owner, .. }
             | Step::Lend { owner, .. }
             | Step::Return { owner, .. }

@@ -1,19 +1,26 @@
 -- The counting word of a block: bit 63 is the mark, bits 0 to 62 are the count.
-use Rattle.std.specs.Prelude.{◌≡◌, ℕ, ◌+◌, ◌%◌, ◌≤◌, Bool, true, false, nat_le, nat_eq, if◌then◌else◌}
+use Rattle.std.specs.Prelude.{◌≡◌, ℕ, ◌+◌, ◌-◌, ◌^◌, ◌%◌, ◌≤◌, Bool, true, false, nat_le, nat_eq, if◌then◌else◌}
 
--- bit 63, which is 2 ^ 63
+-- bit 63
 abbrev pub mark_bit : ℕ
-mark_bit = 9223372036854775808
+mark_bit = 2 ^ 63
 
--- the greatest count, which is 2 ^ 63 - 1
 abbrev pub greatest_count : ℕ
-greatest_count = 9223372036854775807
+greatest_count = mark_bit - 1
+
+-- a limit that a block may have
+abbrev pub IsLimit : ℕ → Type 0
+IsLimit limit = (1 ≤ limit) × (limit ≤ greatest_count)
 
 abbrev pub is_marked_word : ℕ → Bool
 is_marked_word word = nat_le mark_bit word
 
 abbrev pub count_of : ℕ → ℕ
 count_of word = word % mark_bit
+
+-- an unmarked count is not above the limit
+abbrev pub IsWithin : ℕ → ℕ → Type 0
+IsWithin word limit = is_marked_word word ≡ false → count_of word ≤ limit
 
 -- no mark, and a count of one
 abbrev pub is_one_handle : ℕ → Bool

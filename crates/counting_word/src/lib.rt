@@ -5,13 +5,14 @@
 #![tactic(auto)]
 
 ghost use Rattle.std.specs.Prelude.{◌≡◌};
-ghost use Rattle.counting_word.specs.CountingWord.{is_marked_word, is_one_handle, marked_word};
+ghost use Rattle.counting_word.specs.CountingWord.{is_marked_word, is_one_handle, marked_word, IsLimit, IsWithin};
 ghost use Rattle.counting_word.specs.Plans.{clone_plan, drop_plan};
 
 /// Bit 63. It is set for a block that is never given back, and it is never cleared.
 pub const MARK: u64 = 1 << 63;
 
-/// The greatest count: the most handles that a block without the mark can have.
+/// The greatest count: the most handles that a block without the mark can have. A block may have a
+/// limit of its own from 1 to this one.
 pub const MAX_REFCOUNT: u64 = MARK - 1;
 
 /// What a clone does after it read the word.
@@ -58,14 +59,16 @@ pub fn is_last(old: u64) -> bool
     old == 1
 }
 
-/// What a clone that read this word does next.
+/// What a clone that read this word does next, of a block with this limit.
 #[inline]
-pub fn plan_clone(word: u64) -> ClonePlan
-    ensures { result ≡ clone_plan word }
+pub fn plan_clone(word: u64, limit: u64) -> ClonePlan
+    requires limit { IsLimit limit }
+    requires within { IsWithin word limit }
+    ensures { result ≡ clone_plan word limit }
 {
     if is_marked(word) {
         ClonePlan::Static
-    } else if word == MAX_REFCOUNT {
+    } else if word == limit {
         ClonePlan::Full
     } else {
         ClonePlan::Raise(word + 1)
@@ -86,11 +89,9 @@ pub fn plan_drop(word: u64) -> DropPlan
 
 /// The word of the same block once it is marked. Marking twice changes nothing.
 #[inline]
+#[tactic(auto, using(crate::proofs::Words::marks))]
 pub fn with_mark(word: u64) -> u64
     ensures { result ≡ marked_word word }
 {
     word | MARK
 }
-
-#[cfg(test)]
-mod tests;

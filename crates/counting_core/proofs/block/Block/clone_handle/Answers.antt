@@ -1,16 +1,26 @@
-use Rattle.counting_core.specs.Fields.{fields}
-use Rattle.counting_core.proofs.Clones.{clone-born, clone-unborn, clone-full, clone-pending}
+use Rattle.std.proofs.Common.{sym, ◌∙◌}
+use Rattle.counting_word.proofs.Plans.{clone_plan-says}
+use Rattle.counting_core.specs.BlockSteps.{state}
+use Rattle.counting_core.proofs.Traces.LiveCounts.{core_limit, core_within}
+use Rattle.counting_core.proofs.Steps.Births.{clone-born}
+use Rattle.counting_core.proofs.Steps.Owners.{clone-full, clone-pending}
 use Rattle.counting_core.proofs.block.Block.clone_handle.Goals as goal
 
-pub returns-in_default : goal.returns-in_default
-returns-in_default g c = clone-unborn (fields c.args.self.now) c.args.owner c.args.handle c.requires c.plan_clone.result c.plan_clone.ensures c.in-Static.is c.push_newborn.new.entries.items c.in_default.ensures.refused
+pub plan_clone-requires-clause-limit : goal.plan_clone-requires-clause-limit
+plan_clone-requires-clause-limit g c = core_limit (state c.args.self.now) c.requires.reached.0 c.requires.reached.1
+
+pub plan_clone-requires-clause-within : goal.plan_clone-requires-clause-within
+plan_clone-requires-clause-within g c = core_within (state c.args.self.now) c.requires.reached.0 c.requires.reached.1
 
 pub returns-in-Some : goal.returns-in-Some
 returns-in-Some g c =
-    clone-born (fields c.args.self.now) c.args.owner c.args.handle c.requires c.plan_clone.result c.plan_clone.ensures c.in-Static.is c.in-Some.number c.in-Some.ensures.number c.push_newborn.new.entries.items c.in-Some.ensures.born
+    clone-born (state c.args.self.now) c.args.owner c.args.handle (clone_plan-says c.args.self.now.word c.args.self.now.limit _ (sym c.in-Static.is ∙ c.plan_clone.ensures)) c.requires
+    c.in-Some.number c.in-Some.ensures.number c.push_newborn.new.handles.items c.in-Some.ensures.born
 
 pub returns-in-Full : goal.returns-in-Full
-returns-in-Full g c = clone-full (fields c.args.self.now) c.args.owner c.args.handle c.requires c.plan_clone.result c.plan_clone.ensures c.in-Full.is
+returns-in-Full g c =
+    clone-full (state c.args.self.now) c.args.owner c.args.handle (clone_plan-says c.args.self.now.word c.args.self.now.limit _ (sym c.in-Full.is ∙ c.plan_clone.ensures)) c.requires
 
 pub returns-in-Raise : goal.returns-in-Raise
-returns-in-Raise g c = clone-pending (fields c.args.self.now) c.args.owner c.args.handle c.requires c.plan_clone.result c.plan_clone.ensures _ c.in-Raise.is
+returns-in-Raise g c =
+    clone-pending (state c.args.self.now) c.args.owner c.args.handle _ (clone_plan-says c.args.self.now.word c.args.self.now.limit _ (sym c.in-Raise.is ∙ c.plan_clone.ensures)) c.requires

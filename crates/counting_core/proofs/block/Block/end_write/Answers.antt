@@ -1,6 +1,8 @@
-use Rattle.counting_core.specs.Fields.{fields}
-use Rattle.counting_core.proofs.Entries.{moves-end_write}
+use Rattle.counting_core.specs.BlockSteps.{state}
+use Rattle.counting_core.proofs.Steps.Handles.{moves-end_write}
 use Rattle.counting_core.proofs.block.Block.end_write.Goals as goal
 
 pub returns : goal.returns
-returns g c = moves-end_write (fields c.args.self.now) c.args.owner c.args.handle c.index_mut.result.now c.index_mut.ensures.value c.requires
+returns g c =
+    moves-end_write (state c.args.self.now) c.args.owner c.args.handle c.index_mut.result.now c.set_access.new.self
+    c.index_mut.ensures.value c.set_access.ensures c.requires

@@ -1,6 +1,6 @@
-use Rattle.counting_core.specs.Fields.{fields}
-use Rattle.counting_core.proofs.Marking.{moves-mark}
+use Rattle.counting_core.specs.BlockSteps.{state}
+use Rattle.counting_core.proofs.Steps.Marking.{moves-mark}
 use Rattle.counting_core.proofs.block.Block.mark.Goals as goal
 
 pub returns : goal.returns
-returns g c = moves-mark (fields c.args.self.now) c.args.owner c.args.handle c.with_mark-self.result c.with_mark-self.ensures c.requires
+returns g c = moves-mark (state c.args.self.now) c.args.owner c.args.handle c.with_mark-self.result c.with_mark-self.ensures c.requires

@@ -1,26 +1,39 @@
-use Rattle.counting_core.specs.Fields.{fields}
-use Rattle.counting_core.proofs.Clones.{raise-full, raise-lost, raise-static, raise-won, raise-born, raise-unborn}
+use Rattle.std.proofs.Common.{sym, ◌∙◌}
+use Rattle.counting_word.proofs.Plans.{clone_plan-says}
+use Rattle.counting_core.specs.BlockSteps.{state}
+use Rattle.counting_core.proofs.Traces.LiveCounts.{core_limit, core_within}
+use Rattle.counting_core.proofs.Steps.Owners.{raise-full, raise-lost}
+use Rattle.counting_core.proofs.Steps.Births.{raise-static, raise-won, raise-born, raise-unborn}
 use Rattle.counting_core.proofs.block.Block.raise.Goals as goal
 use Rattle.counting_core.proofs.block.Block.raise.Goals.{in-Static, in-Raise+else-self-seen}
 
+pub plan_clone-requires-clause-limit : goal.plan_clone-requires-clause-limit
+plan_clone-requires-clause-limit g c = core_limit (state c.args.self.now) c.requires.reached.0 c.requires.reached.1
+
+pub plan_clone-requires-clause-within : goal.plan_clone-requires-clause-within
+plan_clone-requires-clause-within g c = core_within (state c.args.self.now) c.requires.reached.0 c.requires.reached.1
+
 pub returns-in-Full : goal.returns-in-Full
-returns-in-Full g c = raise-full (fields c.args.self.now) c.args.owner c.args.handle c.args.seen c.requires c.plan_clone.result c.plan_clone.ensures c.in-Full.is
+returns-in-Full g c =
+    raise-full (state c.args.self.now) c.args.owner c.args.handle (clone_plan-says c.args.self.now.word c.args.self.now.limit _ (sym c.in-Full.is ∙ c.plan_clone.ensures)) c.requires
 
 pub returns-then-self-seen : goal.returns-then-self-seen
-returns-then-self-seen g c = raise-lost (fields c.args.self.now) c.args.owner c.args.handle c.args.seen c.requires c.plan_clone.result c.plan_clone.ensures _ c.in-Raise.is c.if-self-seen.true
+returns-then-self-seen g c =
+    raise-lost (state c.args.self.now) c.args.owner c.args.handle _ (clone_plan-says c.args.self.now.word c.args.self.now.limit _ (sym c.in-Raise.is ∙ c.plan_clone.ensures))
+    c.index.result.now c.index.ensures c.if-self-seen.true c.requires
 
 pub returns-in_default : goal.returns-in_default
 returns-in_default g c =
-    raise-unborn (fields c.args.self.now) c.args.owner c.args.handle c.args.seen c.requires c.plan_clone.result c.plan_clone.ensures c.match-plan_clone.next
+    raise-unborn (state c.args.self.now) c.args.owner c.args.handle c.match-plan_clone.next
     (elim c.match-plan_clone.branch [
-      | in-Static w ↦ raise-static (fields c.args.self.now) c.args.owner c.args.handle c.args.seen c.requires c.plan_clone.result c.plan_clone.ensures w.in-Static.is c.match-plan_clone.next w.next-is
-      | in-Raise+else-self-seen w ↦ raise-won (fields c.args.self.now) c.args.owner c.args.handle c.args.seen c.requires c.plan_clone.result c.plan_clone.ensures w.in-Raise.next w.in-Raise.is w.if-self-seen.false c.match-plan_clone.next w.next-is
-    ]) c.push_newborn.new.entries.items c.in_default.ensures.refused
+      | in-Static w ↦ raise-static (state c.args.self.now) c.args.owner c.args.handle (clone_plan-says c.args.self.now.word c.args.self.now.limit _ (sym w.in-Static.is ∙ c.plan_clone.ensures)) c.match-plan_clone.next w.next-is
+      | in-Raise+else-self-seen w ↦ raise-won (state c.args.self.now) c.args.owner c.args.handle w.in-Raise.next (clone_plan-says c.args.self.now.word c.args.self.now.limit _ (sym w.in-Raise.is ∙ c.plan_clone.ensures)) c.requires w.index.result.now w.index.ensures w.if-self-seen.false c.match-plan_clone.next w.next-is
+    ]) c.requires c.push_newborn.new.handles.items c.in_default.ensures.refused
 
 pub returns : goal.returns
 returns g c =
-    raise-born (fields c.args.self.now) c.args.owner c.args.handle c.args.seen c.requires c.plan_clone.result c.plan_clone.ensures c.match-plan_clone.next
+    raise-born (state c.args.self.now) c.args.owner c.args.handle c.match-plan_clone.next
     (elim c.match-plan_clone.branch [
-      | in-Static w ↦ raise-static (fields c.args.self.now) c.args.owner c.args.handle c.args.seen c.requires c.plan_clone.result c.plan_clone.ensures w.in-Static.is c.match-plan_clone.next w.next-is
-      | in-Raise+else-self-seen w ↦ raise-won (fields c.args.self.now) c.args.owner c.args.handle c.args.seen c.requires c.plan_clone.result c.plan_clone.ensures w.in-Raise.next w.in-Raise.is w.if-self-seen.false c.match-plan_clone.next w.next-is
-    ]) c.in-Some.number c.in-Some.ensures.number c.push_newborn.new.entries.items c.in-Some.ensures.born
+      | in-Static w ↦ raise-static (state c.args.self.now) c.args.owner c.args.handle (clone_plan-says c.args.self.now.word c.args.self.now.limit _ (sym w.in-Static.is ∙ c.plan_clone.ensures)) c.match-plan_clone.next w.next-is
+      | in-Raise+else-self-seen w ↦ raise-won (state c.args.self.now) c.args.owner c.args.handle w.in-Raise.next (clone_plan-says c.args.self.now.word c.args.self.now.limit _ (sym w.in-Raise.is ∙ c.plan_clone.ensures)) c.requires w.index.result.now w.index.ensures w.if-self-seen.false c.match-plan_clone.next w.next-is
+    ]) c.requires c.in-Some.number c.in-Some.ensures.number c.push_newborn.new.handles.items c.in-Some.ensures.born

@@ -1,5 +1,5 @@
 use Rattle.std.proofs.Common.{rules}
-use Rattle.counting_core.proofs.Running.{continues_all-more}
+use Rattle.counting_core.proofs.Steps.Running.{continues_all-more}
 use Rattle.counting_core.proofs.counting.Core.run.Goals as goal
 
 pub loop-step-preserved : goal.loop-step-preserved

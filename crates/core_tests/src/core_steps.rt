@@ -1,0 +1,189 @@
+//! Each public call once, and the laws at a concrete type. What `arcbench` prints for whole scripts
+//! is tested in `script_tests`.
+use counting_core::{Answer, Core, Step, laws};
+use counting_word::MAX_REFCOUNT;
+use std::test::Fail;
+
+#[test]
+fn a_new_core_has_one_handle(rt: HostRuntime) -> Result<(), Fail> {
+    let mut core = Core::new(rt.alloc(), 5u32, 2, MAX_REFCOUNT).map_err(|_| "memory")?;
+    assert_eq!(rt;
+        core.step(Step::Load {
+            owner: 0,
+            handle: 0
+        }),
+        Answer::Value(5)
+    );
+    assert_eq!(rt;
+        core.step(Step::Unique {
+            owner: 0,
+            handle: 0
+        }),
+        Answer::Is(true)
+    );
+    assert_eq!(rt;
+        core.step(Step::Load {
+            owner: 1,
+            handle: 0
+        }),
+        Answer::Barred
+    );
+    Ok(())
+}
+
+#[test]
+fn a_run_answers_each_step_in_order(rt: HostRuntime) -> Result<(), Fail> {
+    let mut core = Core::new(rt.alloc(), 5u32, 1, MAX_REFCOUNT).map_err(|_| "memory")?;
+    let clone = Step::Clone {
+        owner: 0,
+        handle: 0,
+    };
+    let answers = core.run(&[
+        clone,
+        Step::Raise { owner: 0 },
+        Step::Drop {
+            owner: 0,
+            handle: 0,
+        },
+        Step::Lower { owner: 0 },
+        clone,
+    ])?;
+    assert_eq!(rt;
+        answers.as_slice(),
+        [
+            Answer::Pending,
+            Answer::Born(1),
+            Answer::Pending,
+            Answer::Ended,
+            Answer::Barred,
+        ]
+        .as_slice()
+    );
+    assert!(rt; core.run(&[])?.is_empty());
+    Ok(())
+}
+
+// A clone through a lent handle takes the last place that the limit leaves. The holder's next one is full until the
+// block is marked.
+#[test]
+fn a_core_keeps_its_limit(rt: HostRuntime) -> Result<(), Fail> {
+    let mut core = Core::new(rt.alloc(), 5u32, 2, 2).map_err(|_| "memory")?;
+    let clone = Step::Clone {
+        owner: 0,
+        handle: 0,
+    };
+    let answers = core.run(&[
+        Step::Lend {
+            owner: 0,
+            handle: 0,
+            to: 1,
+        },
+        Step::Clone {
+            owner: 1,
+            handle: 0,
+        },
+        Step::Raise { owner: 1 },
+        clone,
+        Step::Mark {
+            owner: 0,
+            handle: 0,
+        },
+        clone,
+    ])?;
+    assert_eq!(rt;
+        answers.as_slice(),
+        [
+            Answer::Done,
+            Answer::Pending,
+            Answer::Born(1),
+            Answer::Full,
+            Answer::Marked,
+            Answer::Born(2),
+        ]
+        .as_slice()
+    );
+    Ok(())
+}
+
+#[test]
+fn a_step_has_an_owner(rt: HostRuntime) -> Result<(), Fail> {
+    let give = Step::Give {
+        owner: 7,
+        handle: 1,
+        to: 2,
+    };
+    let write = Step::Write {
+        owner: 3,
+        handle: 0,
+        value: 9u32,
+    };
+    assert_eq!(rt; Step::<u32>::owner(&Step::Raise { owner: 4 }), 4);
+    assert_eq!(rt; Step::<u32>::owner(&give), 7);
+    assert_eq!(rt; write.owner(), 3);
+    assert_eq!(rt; give.clone()?, give);
+    Ok(())
+}
+
+#[test]
+fn a_sole_handle_is_shared_again(rt: HostRuntime) -> Result<(), Fail> {
+    let mut core = Core::new(rt.alloc(), 5u32, 2, MAX_REFCOUNT).map_err(|_| "memory")?;
+    let into_unique = Step::IntoUnique {
+        owner: 0,
+        handle: 0,
+    };
+    let share = Step::Share {
+        owner: 0,
+        handle: 0,
+    };
+    let clone = Step::Clone {
+        owner: 0,
+        handle: 0,
+    };
+    let answers = core.run(&[
+        share,
+        into_unique,
+        into_unique,
+        Step::Write {
+            owner: 0,
+            handle: 0,
+            value: 9,
+        },
+        clone,
+        share,
+        clone,
+    ])?;
+    assert_eq!(rt;
+        answers.as_slice(),
+        [
+            Answer::Barred,
+            Answer::Sole,
+            Answer::Barred,
+            Answer::Done,
+            Answer::Barred,
+            Answer::Done,
+            Answer::Pending,
+        ]
+        .as_slice()
+    );
+    assert_eq!(rt; into_unique.owner(), 0);
+    Ok(())
+}
+
+#[test]
+fn the_laws_hold_at_a_type() {
+    laws::each_step_has_one_answer::<u32>();
+    laws::barred_exactly_if_not_permitted::<u32>();
+    laws::live_handles_live::<u32>();
+    laws::count_is_the_number_of_live_handles::<u32>();
+    laws::no_lower_wraps::<u32>();
+    laws::no_count_passes_limit::<u32>();
+    laws::marked_exactly_if_answered::<u32>();
+    laws::marked_block_keeps_its_value::<u32>();
+    laws::given_up_by_last_end::<u32>();
+    laws::given_up_once::<u32>();
+    laws::full_exactly_at_limit::<u32>();
+    laws::born_straight_after_read::<u32>();
+    laws::lost_raises_are_bounded::<u32>();
+    laws::sole_handle_is_the_only_one::<u32>();
+    laws::sole_drop_gives_up::<u32>();
+}

@@ -1,0 +1,9 @@
+pub mod Moving
+pub mod Edits
+pub mod Asking
+pub mod Handles
+pub mod Owners
+pub mod Births
+pub mod Ending
+pub mod Marking
+pub mod Running

@@ -1,0 +1,14 @@
+pub mod Deeds
+pub mod LegalSteps
+pub mod Limits
+pub mod HandleLists
+pub mod Places
+pub mod LiveHandles
+pub mod InFlight
+pub mod NumberBelow
+pub mod GivenUp
+pub mod Marks
+pub mod SoleHandles
+pub mod CloneReads
+pub mod LostRaises
+pub mod LiveCounts

@@ -1,0 +1,94 @@
+-- The live handles of a trace's machine: none twice, each born, and the ones that the trace lets live.
+use Rattle.std.proofs.Common.{◌≡◌, ℕ, ◌+◌, ◌<◌, Bool, true, false, not, ◌&&◌, ◌||◌, nat_eq, [], count_by, refl, sym, ◌∙◌, ap, subst, arith, lt_irrefl, true≢false, if◌then◌else◌, eqb-true}
+use Rattle.std.proofs.lemmas.Bool.{and_parts, false_from_ne_true}
+use Rattle.counting_core.specs.declared.owner.Activity.{Activity}
+use Rattle.counting_core.specs.declared.owner.Activity.TheVariants.{Dropping}
+use Rattle.counting_core.specs.declared.step.Step.{Step}
+use Rattle.counting_core.specs.declared.step.Answer.{Answer}
+use Rattle.counting_core.specs.declared.step.Answer.TheVariants.{Memory, Barred}
+use Rattle.counting_core.specs.Trace.{Trace, Open, Then, HandleState, unborn, newborn, Situation, situation, after, dropped_by, ended, put}
+use Rattle.counting_core.specs.PlainMachine.{Machine}
+use Rattle.counting_core.specs.Legal.{Replay, replay, IsLegal}
+use Rattle.counting_core.proofs.Traces.Places.{part-put, part_kept-put}
+use Rattle.counting_core.proofs.Traces.HandleLists.{has, IsApart, once, has-without, has-push, apart-without, apart-push}
+use Rattle.counting_core.proofs.Traces.Deeds.{Deed, clone_bears, raise_bears, drop_ends, lower_ends, lower_gives_up, marks, finds_alone, writes, ends_write, becomes_sole, shares, lends, returns, gives, grown, shrunk}
+use Rattle.counting_core.proofs.Traces.LegalSteps.{happens}
+
+module _ {V : Type 0} where
+  -- The machine's live handles are those that live, each once, and each was born.
+  pub record IsCounted (hs : ℕ → HandleState) (m : Machine V) : Type 0 where
+    pub apart : IsApart m.live
+    pub below : (h : ℕ) → has h m.live ≡ true → h < m.births
+    pub same : (h : ℕ) → has h m.live ≡ (hs h).lives
+
+  module _ (hs : ℕ → HandleState) (m : Machine V) (c : IsCounted hs m) where
+    -- the next handle to be born does not live yet
+    pub next-dead : (hs m.births).lives ≡ false
+    next-dead = false_from_ne_true _ (λ e. lt_irrefl m.births (c.below m.births (c.same m.births ∙ e)))
+
+    counted-born : (o : ℕ) → IsCounted (put hs m.births (newborn o)) (grown m)
+    counted-born o = record {
+      apart = apart-push m.births m.live (c.same m.births ∙ next-dead) c.apart;
+      below = λ h e. below h (nat_eq m.births h) refl (sym (has-push h m.births m.live) ∙ e);
+      same = λ h.
+          has-push h m.births m.live ∙ ap (λ b. nat_eq m.births h || b) (c.same h)
+          ∙ either (nat_eq m.births h) (hs h).lives ∙ sym (part-put hs m.births (newborn o) (λ k. k.lives) h);
+    } where
+      below : (h : ℕ) (b : Bool) → nat_eq m.births h ≡ b → (b || has h m.live) ≡ true → h < m.births + 1
+      below h true q e = let is : m.births ≡ h = eqb-true m.births h q in omega arith
+      below h false q e = let lt : h < m.births = c.below h e in omega arith
+
+      either : (b l : Bool) → (b || l) ≡ (if b then true else l)
+      either true l = refl
+      either false l = refl
+
+    counted-ended : (h : ℕ) → IsCounted (put hs h (record (hs h) { lives = false })) (shrunk m h)
+    counted-ended h = record {
+      apart = apart-without h m.live c.apart;
+      below = λ k e. c.below k (and_parts (not (nat_eq h k)) (has k m.live) (sym (has-without k h m.live) ∙ e)).1;
+      same = λ k.
+          has-without k h m.live ∙ ap (λ b. not (nat_eq h k) && b) (c.same k)
+          ∙ either (nat_eq h k) (hs k).lives ∙ sym (part-put hs h (record (hs h) { lives = false }) (λ s. s.lives) k);
+    } where
+      either : (b l : Bool) → (not b && l) ≡ (if b then false else l)
+      either true l = refl
+      either false l = refl
+
+    -- a change of a handle that lives as before
+    counted-kept : (h : ℕ) (s : HandleState) → s.lives ≡ (hs h).lives → IsCounted (put hs h s) m
+    counted-kept h s e = record { apart = c.apart; below = c.below; same = λ k. c.same k ∙ sym (part_kept-put hs h s (λ x. x.lives) e k) }
+
+  counted-lowered : (r : Replay V) (u : Situation) (o h : ℕ) → u.activity o ≡ Dropping h → IsCounted u.handle r.machine
+      → IsCounted (ended u (dropped_by (u.activity o))).handle (shrunk r.machine h)
+  counted-lowered r u o h e c = subst (λ (a : Activity). IsCounted (ended u (dropped_by a)).handle (shrunk r.machine h)) (sym e) (counted-ended u.handle r.machine c h)
+
+  counted-then : (r : Replay V) (u : Situation) (s : Step V) (a : Answer V) (m : Machine V) → Deed r u s a m
+      → IsCounted u.handle r.machine → IsCounted (after u s a).handle m
+  counted-then r u s a m (clone_bears o h mark room) c = counted-born u.handle r.machine c o
+  counted-then r u s a m (raise_bears o settles room) c = counted-born u.handle r.machine c o
+  counted-then r u s a m (drop_ends o h mark) c = counted-ended u.handle r.machine c h
+  counted-then r u s a m (lower_ends o h e more) c = counted-lowered r u o h e c
+  counted-then r u s a m (lower_gives_up o h e last) c = counted-lowered r u o h e c
+  counted-then r u s a m (finds_alone o h only) c = counted-kept u.handle m c h _ refl
+  counted-then r u s a m (ends_write o h) c = counted-kept u.handle m c h _ refl
+  counted-then r u s a m (becomes_sole o h only) c = counted-kept u.handle m c h _ refl
+  counted-then r u s a m (shares o h) c = counted-kept u.handle m c h _ refl
+  counted-then r u s a m (lends o h to) c = counted-kept u.handle m c h _ refl
+  counted-then r u s a m (returns o h) c = counted-kept u.handle m c h _ refl
+  counted-then r u s a m (gives o h to) c = counted-kept u.handle m c h _ refl
+  counted-then r u s a m (marks o h) c = record { apart = c.apart; below = c.below; same = c.same }
+  counted-then r u s a m (writes o h v) c = record { apart = c.apart; below = c.below; same = c.same }
+  counted-then r u s a m _ c = c
+
+  pub counted : (t : Trace V) → IsLegal t → IsCounted (situation t).handle (replay t).machine
+  counted (Open v n limit) legal =
+      counted-born (λ h. unborn) (record { value = v; live = []; mark = false; births = 0; limit = limit })
+      (record { apart = tt; below = λ h e. absurd (true≢false (sym e)); same = λ h. refl }) 0
+  counted (Then t s Barred) legal = counted t legal.0
+  counted (Then t s Memory) legal = counted t legal.0
+  counted (Then t s a) legal = counted-then (replay t) (situation t) s a _ (happens t s a refl legal.1).deed (counted t legal.0)
+
+  -- the machine's live handles are those that the trace lets live, each once
+  pub live_handles_live : (t : Trace V) → IsLegal t → (h : ℕ)
+      → count_by (nat_eq h) (replay t).machine.live ≡ (if ((situation t).handle h).lives then 1 else 0)
+  live_handles_live t legal h = once h (replay t).machine.live (counted t legal).apart ∙ ap (λ b. if b then 1 else 0) ((counted t legal).same h)

@@ -1,0 +1,28 @@
+-- A function with another value at one place.
+use Rattle.std.proofs.Common.{◌≡◌, ℕ, Bool, true, false, nat_eq, refl, sym, subst, eqb-true, if◌then◌else◌}
+use mathlib.Core.Path.{fun_ext}
+use Rattle.counting_core.specs.Trace.{put}
+
+module _ {A : Type 0} (f : ℕ → A) (i : ℕ) (y : A) where
+  -- what holds of the value put, and of the others where they are, holds of all
+  pub put-all : (P : ℕ → A → Type 0) → P i y → ((k : ℕ) → nat_eq i k ≡ false → P k (f k)) → (k : ℕ) → P k (put f i y k)
+  put-all P here others k = at (nat_eq i k) refl where
+    at : (b : Bool) → nat_eq i k ≡ b → P k (if b then y else f k)
+    at true e = subst (λ n. P n y) (eqb-true i k e) here
+    at false e = others k e
+
+  -- a value that is put where it was already
+  pub put-same : f i ≡ y → put f i y ≡ f
+  put-same same = fun_ext (put-all (λ k z. z ≡ f k) (sym same) (λ k _. refl))
+
+  module _ {B : Type 0} (part : A → B) where
+    -- a part of the value put
+    pub part-put : (k : ℕ) → part (put f i y k) ≡ put (λ n. part (f n)) i (part y) k
+    part-put k = at (nat_eq i k) where
+      at : (b : Bool) → part (if b then y else f k) ≡ (if b then part y else part (f k))
+      at true = refl
+      at false = refl
+
+    -- a part that is as it was
+    pub part_kept-put : part y ≡ part (f i) → (k : ℕ) → part (put f i y k) ≡ part (f k)
+    part_kept-put same = put-all (λ k z. part z ≡ part (f k)) same (λ k _. refl)

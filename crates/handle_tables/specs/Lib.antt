@@ -1,5 +1,3 @@
-pub mod Copies
 pub mod PlainTable
 pub mod PlainUnionTable
 pub mod Runs
-pub mod Values

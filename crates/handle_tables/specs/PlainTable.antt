@@ -1,7 +1,7 @@
 -- The plain table: a list of optional values. No slot shares anything with another.
 use Rattle.std.specs.Prelude.{ℕ, Bool, true, false, List, [], ◌∷◌, Option, Some, None, slice_get, slice_set}
 use Rattle.handle_tables.specs.declared.commands.Command.{Command}
-use Rattle.handle_tables.specs.declared.commands.Command.TheVariants.{New, Clone, Drop, GetMut, MakeMut, Own, Mark, Raw, PtrEq, Same}
+use Rattle.handle_tables.specs.declared.commands.Command.TheVariants.{New, Clone, Drop, GetMut, IntoUnique, MakeMut, Own, Mark, Raw, PtrEq, Same}
 use Rattle.handle_tables.specs.declared.commands.PlainCommand.{PlainCommand}
 use Rattle.handle_tables.specs.declared.commands.PlainCommand.TheVariants as plain
 use Rattle.handle_tables.specs.declared.commands.Reply.{Reply}
@@ -55,6 +55,7 @@ module _ {V : Type 0} where
   outcomes_of equal (Clone i j) slots = at slots j (reading slots i (λ v. sets slots j v ∷ stays slots Refused ∷ []))
   outcomes_of equal (Drop i) slots = reading slots i (λ _. empties slots i ∷ [])
   outcomes_of equal (GetMut i w) slots = reading slots i (λ _. sets slots i w ∷ stays slots Shared ∷ [])
+  outcomes_of equal (IntoUnique i w) slots = reading slots i (λ _. sets slots i w ∷ stays slots Shared ∷ [])
   outcomes_of equal (MakeMut i w) slots = reading slots i (λ _. sets slots i w ∷ stays slots Refused ∷ [])
   outcomes_of equal (Own i) slots = reading slots i (λ _. stays slots Done ∷ stays slots Refused ∷ [])
   outcomes_of equal (Mark i) slots = reading slots i (λ _. stays slots Done ∷ [])
@@ -62,12 +63,18 @@ module _ {V : Type 0} where
   outcomes_of equal (PtrEq i j) slots = at slots j (reading slots i (λ _. reading slots j (λ _. stays slots (Is true) ∷ stays slots (Is false) ∷ [])))
   outcomes_of equal (Same i j) slots = at slots j (reading slots i (λ v. reading slots j (λ w. stays slots (Is (equal v w)) ∷ [])))
 
+  -- only Own may leave a copy in its slot
+  abbrev pub is_own : Command V → Bool
+  is_own (Own i) = true
+  is_own _ = false
+
   -- a plain command means what the command of its name means
   abbrev pub plain_outcomes_of : (V → V → Bool) → PlainCommand V → Meaning V
   plain_outcomes_of equal (plain.New i v) = outcomes_of equal (New i v)
   plain_outcomes_of equal (plain.Clone i j) = outcomes_of equal (Clone i j)
   plain_outcomes_of equal (plain.Drop i) = outcomes_of equal (Drop i)
   plain_outcomes_of equal (plain.GetMut i v) = outcomes_of equal (GetMut i v)
+  plain_outcomes_of equal (plain.IntoUnique i v) = outcomes_of equal (IntoUnique i v)
   plain_outcomes_of equal (plain.Mark i) = outcomes_of equal (Mark i)
   plain_outcomes_of equal (plain.Raw i) = outcomes_of equal (Raw i)
   plain_outcomes_of equal (plain.PtrEq i j) = outcomes_of equal (PtrEq i j)

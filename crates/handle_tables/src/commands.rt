@@ -11,6 +11,8 @@ pub enum Command<T> {
     Drop(usize),
     /// Writes the value in place, if the slot's handle is the only one of an unmarked block.
     GetMut(usize, T),
+    /// As `GetMut`, with the slot's handle as a `UniqueArc` meanwhile.
+    IntoUnique(usize, T),
     /// Writes the value, in a block of the slot's own.
     MakeMut(usize, T),
     /// Gives the slot's handle a block of its own, with a copy of the value if it had to be made. Only for types whose
@@ -33,6 +35,7 @@ pub enum PlainCommand<T> {
     Clone(usize, usize),
     Drop(usize),
     GetMut(usize, T),
+    IntoUnique(usize, T),
     Mark(usize),
     Raw(usize),
     PtrEq(usize, usize),

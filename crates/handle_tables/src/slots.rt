@@ -1,8 +1,8 @@
 //! What each command does to the slots.
 ghost use Rattle.std.specs.Prelude.{◌≡◌, ◌<◌, ◌↔◌, IfErr, IfOk, IsOk, None, OnErr, OnOk, Some, length, replicate, slice_set};
-ghost use Rattle.std.specs.Option.{option_map};
-ghost use Rattle.handle_tables.specs.Copies.{CopiesAreEqual};
-ghost use Rattle.handle_tables.specs.Values.{IsServed, arc_value, values_of};
+ghost use Rattle.handles.specs.Copies.{CopiesAreEqual};
+ghost use Rattle.handle_tables.specs.PlainTable.{outcomes_of};
+ghost use Rattle.handle_tables.specs.Runs.{IsAmong};
 
 use crate::commands::{Command, Reply};
 use handles::arc::Arc;
@@ -33,16 +33,6 @@ pub(crate) fn put<H: Drop>(slots: &mut [Option<H>], i: usize, handle: H) -> Resu
     Ok(())
 }
 
-/// Changes a slot that is there. A handle that stood in it ends.
-#[inline]
-fn set<T: Send + Sync + Drop>(slots: &mut [Option<Arc<T>>], i: usize, slot: Option<Arc<T>>)
-    requires { i < length slots.old }
-    ensures { values_of arc_value slots.new
-        ≡ slice_set (values_of arc_value slots.old) i (option_map arc_value slot) }
-{
-    slots[i] = slot;
-}
-
 #[inline]
 pub(crate) fn start<T: Send + Sync + PartialEq + Drop>(
     slots: &mut [Option<Arc<T>>],
@@ -50,15 +40,15 @@ pub(crate) fn start<T: Send + Sync + PartialEq + Drop>(
     i: usize,
     value: T,
 ) -> Reply
-    ensures { IsServed T.eq (Command.New i value) slots.old result slots.new }
+    ensures { IsAmong (outcomes_of T.eq (Command.New i value) slots.old) result slots.new }
 {
     if i >= slots.len() {
         return Reply::NoSlot;
     }
-    let Ok(handle) = Arc::new(alloc, value) else {
+    let Ok(made) = Arc::new(alloc, value) else {
         return Reply::Refused;
     };
-    set(slots, i, Some(handle));
+    slots[i] = Some(made);
     Reply::Done
 }
 
@@ -68,7 +58,7 @@ pub(crate) fn clone_handle<T: Send + Sync + PartialEq + Drop>(
     i: usize,
     j: usize,
 ) -> Reply
-    ensures { IsServed T.eq (Command.Clone i j) slots.old result slots.new }
+    ensures { IsAmong (outcomes_of T.eq (Command.Clone i j) slots.old) result slots.new }
 {
     let (Some(source), Some(_)) = (slots.get(i), slots.get(j)) else {
         return Reply::NoSlot;
@@ -79,7 +69,7 @@ pub(crate) fn clone_handle<T: Send + Sync + PartialEq + Drop>(
     let Ok(handle) = source.clone() else {
         return Reply::Refused;
     };
-    set(slots, j, Some(handle));
+    slots[j] = Some(handle);
     Reply::Done
 }
 
@@ -88,25 +78,26 @@ pub(crate) fn end<T: Send + Sync + PartialEq + Drop>(
     slots: &mut [Option<Arc<T>>],
     i: usize,
 ) -> Reply
-    ensures { IsServed T.eq (Command.Drop i) slots.old result slots.new }
+    ensures { IsAmong (outcomes_of T.eq (Command.Drop i) slots.old) result slots.new }
 {
     match slots.get(i) {
         None => Reply::NoSlot,
         Some(None) => Reply::Empty,
         Some(Some(_)) => {
-            set(slots, i, None);
+            slots[i] = None;
             Reply::Done
         }
     }
 }
 
 #[inline]
+#[tactic(auto, using(crate::proofs::SlotLemmas::slot_is, crate::proofs::SlotLemmas::set_same))]
 pub(crate) fn get_mut<T: Send + Sync + PartialEq + Drop>(
     slots: &mut [Option<Arc<T>>],
     i: usize,
     value: T,
 ) -> Reply
-    ensures { IsServed T.eq (Command.GetMut i value) slots.old result slots.new }
+    ensures { IsAmong (outcomes_of T.eq (Command.GetMut i value) slots.old) result slots.new }
 {
     if i >= slots.len() {
         return Reply::NoSlot;
@@ -122,13 +113,42 @@ pub(crate) fn get_mut<T: Send + Sync + PartialEq + Drop>(
 }
 
 #[inline]
+#[tactic(auto, using(crate::proofs::SlotLemmas::slot_is, crate::proofs::SlotLemmas::set_same, crate::proofs::SlotLemmas::set_twice))]
+pub(crate) fn into_unique<T: Send + Sync + PartialEq + Drop>(
+    slots: &mut [Option<Arc<T>>],
+    i: usize,
+    value: T,
+) -> Reply
+    ensures { IsAmong (outcomes_of T.eq (Command.IntoUnique i value) slots.old) result slots.new }
+{
+    if i >= slots.len() {
+        return Reply::NoSlot;
+    }
+    let Some(handle) = slots[i].take() else {
+        return Reply::Empty;
+    };
+    match Arc::into_unique(handle) {
+        Ok(mut unique) => {
+            *unique = value;
+            slots[i] = Some(unique.shareable());
+            Reply::Done
+        }
+        Err(shared) => {
+            slots[i] = Some(shared);
+            Reply::Shared
+        }
+    }
+}
+
+#[inline]
+#[tactic(auto, using(crate::proofs::SlotLemmas::slot_is, crate::proofs::SlotLemmas::set_same))]
 pub(crate) fn make_mut<T: Send + Sync + Clone + PartialEq>(
     slots: &mut [Option<Arc<T>>],
     alloc: Global,
     i: usize,
     value: T,
 ) -> Reply
-    ensures { IsServed T.eq (Command.MakeMut i value) slots.old result slots.new }
+    ensures { IsAmong (outcomes_of T.eq (Command.MakeMut i value) slots.old) result slots.new }
 {
     if i >= slots.len() {
         return Reply::NoSlot;
@@ -144,13 +164,14 @@ pub(crate) fn make_mut<T: Send + Sync + Clone + PartialEq>(
 }
 
 #[inline]
+#[tactic(auto, using(crate::proofs::SlotLemmas::slot_is, crate::proofs::SlotLemmas::set_same))]
 pub(crate) fn own<T: Send + Sync + Clone + PartialEq>(
     slots: &mut [Option<Arc<T>>],
     alloc: Global,
     i: usize,
 ) -> Reply
     requires { CopiesAreEqual T.is_clone }
-    ensures { IsServed T.eq (Command.Own i) slots.old result slots.new }
+    ensures { IsAmong (outcomes_of T.eq (Command.Own i) slots.old) result slots.new }
 {
     if i >= slots.len() {
         return Reply::NoSlot;
@@ -166,7 +187,7 @@ pub(crate) fn own<T: Send + Sync + Clone + PartialEq>(
 
 #[inline]
 pub(crate) fn mark<T: Send + Sync + PartialEq + Drop>(slots: &[Option<Arc<T>>], i: usize) -> Reply
-    ensures { IsServed T.eq (Command.Mark i) slots.now result slots.now }
+    ensures { IsAmong (outcomes_of T.eq (Command.Mark i) slots.now) result slots.now }
 {
     match slots.get(i) {
         None => Reply::NoSlot,
@@ -179,11 +200,12 @@ pub(crate) fn mark<T: Send + Sync + PartialEq + Drop>(slots: &[Option<Arc<T>>], 
 }
 
 #[inline]
+#[tactic(auto, using(crate::proofs::SlotLemmas::slot_is, crate::proofs::SlotLemmas::set_same, crate::proofs::SlotLemmas::set_twice))]
 pub(crate) fn raw<T: Send + Sync + PartialEq + Drop>(
     slots: &mut [Option<Arc<T>>],
     i: usize,
 ) -> Reply
-    ensures { IsServed T.eq (Command.Raw i) slots.old result slots.new }
+    ensures { IsAmong (outcomes_of T.eq (Command.Raw i) slots.old) result slots.new }
 {
     if i >= slots.len() {
         return Reply::NoSlot;
@@ -201,7 +223,7 @@ pub(crate) fn ptr_eq<T: Send + Sync + PartialEq + Drop>(
     i: usize,
     j: usize,
 ) -> Reply
-    ensures { IsServed T.eq (Command.PtrEq i j) slots.now result slots.now }
+    ensures { IsAmong (outcomes_of T.eq (Command.PtrEq i j) slots.now) result slots.now }
 {
     let (Some(a), Some(b)) = (slots.get(i), slots.get(j)) else {
         return Reply::NoSlot;
@@ -218,7 +240,7 @@ pub(crate) fn same<T: Send + Sync + PartialEq + Drop>(
     i: usize,
     j: usize,
 ) -> Reply
-    ensures { IsServed T.eq (Command.Same i j) slots.now result slots.now }
+    ensures { IsAmong (outcomes_of T.eq (Command.Same i j) slots.now) result slots.now }
 {
     let (Some(a), Some(b)) = (slots.get(i), slots.get(j)) else {
         return Reply::NoSlot;

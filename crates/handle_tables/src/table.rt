@@ -2,8 +2,8 @@
 ghost use Rattle.std.specs.Prelude.{◌≡◌, ◌<◌, ◌↔◌, IfErr, IfOk, IsOk, IsTrue, List, None, OnErr, OnOk, Option, Some, length, replicate, slice_get, slice_set};
 ghost use Rattle.std.specs.List.{list_any};
 ghost use Rattle.std.specs.Option.{option_copied, option_flatten};
-ghost use Rattle.handle_tables.specs.Copies.{CopiesAreEqual, is_own};
-ghost use Rattle.handle_tables.specs.PlainTable.{outcomes_of, plain_outcomes_of};
+ghost use Rattle.handles.specs.Copies.{CopiesAreEqual};
+ghost use Rattle.handle_tables.specs.PlainTable.{is_own, outcomes_of, plain_outcomes_of};
 ghost use Rattle.handle_tables.specs.Runs.{IsAmong, Run};
 
 pub use crate::commands::{Command, PlainCommand, Reply};
@@ -22,11 +22,10 @@ pub struct Table<T: Send + Sync> {
 
 impl<T: Send + Sync> Model for Table<T> {
     ghost use Rattle.std.specs.Prelude.{List, Option};
-    ghost use Rattle.handle_tables.specs.Values.{arc_value, values_of};
 
     ghost Value = { List (Option T) };
 
-    ghost view = { λ t. values_of arc_value t.slots.items };
+    ghost view = { λ t. t.slots.items };
 }
 
 impl<T: Send + Sync + Drop> Table<T> {
@@ -62,8 +61,8 @@ impl<T: Send + Sync + Drop> Table<T> {
     #[inline]
     pub fn put(&mut self, i: usize, a: Arc<T>) -> Result<(), Arc<T>>
         ensures there { IsOk result ↔ (i < length self.old) }
-        ensures set { OnOk result (self.new ≡ slice_set self.old i (Some a.value)) }
-        ensures back { IfErr result (λ back. back.value ≡ a.value) }
+        ensures set { OnOk result (self.new ≡ slice_set self.old i (Some a)) }
+        ensures back { IfErr result (λ back. back ≡ a) }
         ensures kept { OnErr result (self.new ≡ self.old) }
     {
         slots::put(&mut self.slots, i, a)
@@ -80,6 +79,7 @@ impl<T: Send + Sync + PartialEq + Drop> Table<T> {
             PlainCommand::Clone(i, j) => slots::clone_handle(&mut self.slots, i, j),
             PlainCommand::Drop(i) => slots::end(&mut self.slots, i),
             PlainCommand::GetMut(i, value) => slots::get_mut(&mut self.slots, i, value),
+            PlainCommand::IntoUnique(i, value) => slots::into_unique(&mut self.slots, i, value),
             PlainCommand::Mark(i) => slots::mark(&self.slots, i),
             PlainCommand::Raw(i) => slots::raw(&mut self.slots, i),
             PlainCommand::PtrEq(i, j) => slots::ptr_eq(&self.slots, i, j),
@@ -120,6 +120,7 @@ impl<T: Send + Sync + Clone + PartialEq> Table<T> {
             Command::Clone(i, j) => slots::clone_handle(&mut self.slots, i, j),
             Command::Drop(i) => slots::end(&mut self.slots, i),
             Command::GetMut(i, value) => slots::get_mut(&mut self.slots, i, value),
+            Command::IntoUnique(i, value) => slots::into_unique(&mut self.slots, i, value),
             Command::MakeMut(i, value) => slots::make_mut(&mut self.slots, alloc, i, value),
             Command::Own(i) => slots::own(&mut self.slots, alloc, i),
             Command::Mark(i) => slots::mark(&self.slots, i),

@@ -31,7 +31,7 @@ use Rattle.counting_word.specs.CountingWord.{is_one_handle}
 use Rattle.handles.specs.Rights.{Right, nothing, a_handle, to_lower, whole_block, right_by_lower, IsWholeBlock}
 use Rattle.core.specs.Sync.RawAtomic.{word}
 use Rattle.std.specs.declared.alloc.Global.{Global}
-use Rattle.handles.specs.Blocks.{handle_owns, frees, value_offset, Names, unit_of_count, counted, stamp, value_and_block, shown, block_rule, sole_or_counted, handle_shares, unshared_block, gain_owns}
+use Rattle.handles.specs.Blocks.{HeldRow, handle_owns, frees, held_offset, Names, unit_of_count, counted, stamp, held_and_block, shown, block_rule, sole_or_counted, handle_shares, unshared_block, gain_owns}
 use Rattle.handles.proofs.Steps.{gained}
 use Rattle.handles.specs.contracts.block.Handle as handle_type
 use Rattle.handles.specs.contracts.block.Gain as gain
@@ -107,11 +107,11 @@ lower-NoHandle w = at (is_one_handle w) where
   at true = tt
   at false = tt
 
-module _ {M : Type 1} {𝓤 : Ura M} (𝓛 : Logic 𝓤) (R : RattleType) (p : Ptr) (x : R.Denot) (inb : InBlock p) (i : Names) where
+module _ {M : Type 1} {𝓤 : Ura M} (𝓛 : Logic 𝓤) (R : RattleType) (p : Ptr) (x : (HeldRow R).Denot) (inb : InBlock p) (i : Names) where
   open 𝓛 use {H}
 
   abbrev Gained : Right → Fml
-  Gained = gained (value_and_block R p x) (stamp p) (block_of p) (offset_of p + 0) i
+  Gained = gained (held_and_block R p x) (stamp p) (block_of p) (offset_of p + 0) i
 
   -- what a step gained, as a gain owns it
   pub gain_kept : (r : Right) → NoHandle r → ent 𝓤 (sep 𝓤 (sem 𝓛 (Gained r)) (sem 𝓛 (finv (block_rule R p x i)))) (H.⇛ (sem 𝓛 (gain_owns R p x r)))
@@ -119,21 +119,21 @@ module _ {M : Type 1} {𝓤 : Ura M} (𝓛 : Logic 𝓤) (R : RattleType) (p : P
   gain_kept a_handle none = absurd none
   gain_kept to_lower none = qed 𝓛 (‵ (Gained to_lower) ∷ ‵ (finv (block_rule R p x i)) ∷ []) ∵ updating ! $ fjoin ! $ fpack ! Names (λ j. fsep (unit_of_count j) (finv (block_rule R p x j))) i $ nothing_more ! $ fpack ! (InBlock p) (λ _. ftrue) inb $ fjoin ! $ now ! $ done !
   gain_kept (whole_block w) none = qed 𝓛 (‵ (Gained (whole_block w)) ∷ ‵ (finv (block_rule R p x i)) ∷ []) ∵ updating ! $ fsplit3 ! $ move ! (2 ∷ []) $ fsplit ! $ move ! (3 ∷ 0 ∷ []) $ lent_back ! tt $
-      -- [the value and the block; the stamp; the word; the rule]
+      -- [what is held and the block; the stamp; the word; the rule]
       move ! (0 ∷ 1 ∷ []) $ fjoin ! $ move ! (1 ∷ 0 ∷ []) $ fjoin ! $ nothing_more ! $ fpack ! (InBlock p) (λ _. ftrue) inb $ fjoin ! $ now ! $ keep ! (0 ∷ []) $ done !
 
   pub gain_shown : (r : Right) → ent 𝓤 (sep 𝓤 (sem 𝓛 (Gained r)) (sep 𝓤 (sem 𝓛 (finv (block_rule R p x i))) (sem 𝓛 (shown R p x (i.shared ∷ []))))) (H.⇛ (sem 𝓛 (gain_owns R p x r)))
   gain_shown nothing = qed 𝓛 (‵ (Gained nothing) ∷ ‵ (finv (block_rule R p x i)) ∷ ‵ (shown R p x (i.shared ∷ [])) ∷ []) ∵ keep ! (0 ∷ 1 ∷ []) $ by ! (gain_kept nothing tt)
   gain_shown a_handle = qed 𝓛 (‵ (Gained a_handle) ∷ ‵ (finv (block_rule R p x i)) ∷ ‵ (shown R p x (i.shared ∷ [])) ∷ []) ∵ updating ! $ fjoin3 ! $
-      fpack ! Names (λ j. counted (value_and_block R p x) (stamp p) (block_of p) (offset_of p + 0) j (shown R p x)) i $ fpack ! Bool (sole_or_counted R p x) false $ nothing_more ! $ fpack ! (InBlock p) (λ _. ftrue) inb $ fjoin ! $ now ! $ done !
+      fpack ! Names (λ j. counted (held_and_block R p x) (stamp p) x.limit.count (block_of p) (offset_of p + 0) j (shown R p x)) i $ fpack ! Bool (sole_or_counted R p x) false $ nothing_more ! $ fpack ! (InBlock p) (λ _. ftrue) inb $ fjoin ! $ now ! $ done !
   gain_shown to_lower = qed 𝓛 (‵ (Gained to_lower) ∷ ‵ (finv (block_rule R p x i)) ∷ ‵ (shown R p x (i.shared ∷ [])) ∷ []) ∵ keep ! (0 ∷ 1 ∷ []) $ by ! (gain_kept to_lower tt)
   gain_shown (whole_block w) = qed 𝓛 (‵ (Gained (whole_block w)) ∷ ‵ (finv (block_rule R p x i)) ∷ ‵ (shown R p x (i.shared ∷ [])) ∷ []) ∵ keep ! (0 ∷ 1 ∷ []) $ by ! (gain_kept (whole_block w) tt)
 
-module _ (R : RattleType) (p : Ptr) (x : R.Denot) {M : Type 1} {𝓤 : Ura M} {𝓛 : Logic 𝓤} {K : Type 0} {Γ : List (Item 𝓤)} {G : Goal 𝓤 𝓛.H} where
+module _ (R : RattleType) (p : Ptr) (x : (HeldRow R).Denot) {M : Type 1} {𝓤 : Ura M} {𝓛 : Logic 𝓤} {K : Type 0} {Γ : List (Item 𝓤)} {G : Goal 𝓤 𝓛.H} where
   -- the result of a step: the word that it found, and the gain
   pub returns_gain : K → (n : ℕ) → n < 2 ^ 64 → (r : Right)
-      → Step K 𝓛 (‵ ((Tuple (u64 ∷ GainRow R ∷ [])).own_val (n, record { block = p; value = x; right = r }) (word_and_gain n p ∷ [])) ∷ Γ) G (‵ (gain_owns R p x r) ∷ Γ) G
-  returns_gain t n fits r = step (λ s. let g : (GainRow R).Denot = record { block = p; value = x; right = r } in let v : Val = word_and_gain n p in
+      → Step K 𝓛 (‵ ((Tuple (u64 ∷ GainRow R ∷ [])).own_val (n, record { block = p; held = x; right = r }) (word_and_gain n p ∷ [])) ∷ Γ) G (‵ (gain_owns R p x r) ∷ Γ) G
+  returns_gain t n fits r = step (λ s. let g : (GainRow R).Denot = record { block = p; held = x; right = r } in let v : Val = word_and_gain n p in
       use0 𝓛 (‵ ((GainWords R).own_val (p, tt) (one_word p ∷ []))) (words_made (gain.the_type R).name (R ∷ []) 𝓛 p) $ fjoin t $ nothing_more t $ flt_i t n (2 ^ 64) fits $ feq_i t (List Val) (vint w64 n ∷ []) (vint w64 n ∷ []) refl $ fjoin t $
       move t (0 ∷ 2 ∷ 1 ∷ []) $ fjoin3 t $ feq_i t (List Val) (v ∷ []) (v ∷ []) refl $ fjoin t $
       fpack t (Valss (u64 ∷ GainRow R ∷ [])) (λ uss. fsep (feq (List Val) (v ∷ []) (vstruct (of_list (uss.0 ++ (uss.1.0 ++ []))) ∷ [])) (owns (u64 ∷ GainRow R ∷ []) (n, (g, tt)) uss)) (vint w64 n ∷ [], (one_word p ∷ [], tt)) $ s)
@@ -142,7 +142,7 @@ module _ (R : RattleType) (p : Ptr) (x : R.Denot) {M : Type 1} {𝓤 : Ura M} {�
   -- [the open borrow; the share; the rule; the sharing; the handle's word; the other half of the token]
   pub behind : K → Soaks G → {κ : Lft} {q : Share} (sole : Bool) → sole ≡ false → (b o : ℕ)
       → ((inb : InBlock p) (i : Names) (e : Share) → Seq K 𝓛 (‵ (fobor κ (Share.left q) (flft (i.shared ∷ []) e)) ∷ ‵ (flft (i.shared ∷ []) e) ∷ ‵ (finv (block_rule R p x i)) ∷ ‵ (shown R p x (i.shared ∷ [])) ∷ ‵ (hidden_shr (HandleWords R) κ (p, tt) b o) ∷ ‵ (flft κ (Share.right q)) ∷ Γ) G)
-      → Seq K 𝓛 (‵ (hidden_shr (HandleRow R) κ (record { block = p; value = x; sole = sole }) b o) ∷ ‵ (flft κ q) ∷ Γ) G
+      → Seq K 𝓛 (‵ (hidden_shr (HandleRow R) κ (record { block = p; held = x; sole = sole }) b o) ∷ ‵ (flft κ q) ∷ Γ) G
   behind t soaks {κ} {q} sole shared b o k = use1 𝓛 (‵ (hidden_shr (HandleWords R) κ (p, tt) b o) ⊛ ‵ (fhide (handle_shares R p x sole κ))) (id⊢ 𝓤 _) $ split t $ move t (1 ∷ []) $ unhide t $ rewrite t 0 (λ (z : Bool). ‵ (handle_shares R p x z κ)) shared refl $ fsplit t $ fpick t (λ inb. drop t $ fpick t (λ i. fsplit3 t $
       move t (4 ∷ []) $ use1 𝓛 (‵ (flft κ (Share.left q)) ⊛ ‵ (flft κ (Share.right q))) (𝓛.lfts.lft_split κ q) $ split t $ move t (2 ∷ 0 ∷ []) $ shr_bor-open t soaks (tokens_halve 𝓛 (i.shared ∷ [])) (λ e.
       -- [the open borrow; the share; the other half; the rule; the sharing; the word]
@@ -153,23 +153,23 @@ module _ {M : Type 1} {𝓤 : Ura M} {𝓛 : Logic 𝓤} {K : Type 0} {Γ : List
   pub big_lit : K → {n : ℕ} → n < 2 ^ 64 → Opd K 𝓛 Γ E (int_big w64 n) (vint w64 n)
   big_lit t {n} fits = record { go = λ Kt g. via 𝓤 (Kt (vint w64 n)) g (guard_i 𝓤 (Fits w64 n) (Kt (vint w64 n)) (record { fits = fits })) }
 
-module _ {M : Type 1} {𝓤 : Ura M} (𝓛 : Logic 𝓤) (R : RattleType) (p : Ptr) (x : R.Denot) where
+module _ {M : Type 1} {𝓤 : Ura M} (𝓛 : Logic 𝓤) (R : RattleType) (p : Ptr) (x : (HeldRow R).Denot) where
   -- a claim tells whether the handle is the only one
   pub claim_tells : (alone : Bool) → ent 𝓤 (sem 𝓛 (gain_owns R p x (if alone then whole_block 1 else a_handle))) (sem 𝓛 (handle_owns R p x alone))
   claim_tells true = id⊢ 𝓤 _
   claim_tells false = id⊢ 𝓤 _
 
--- what an unshared block's handle at (b, o) has beside the value
-abbrev pub beside_value : (R : RattleType) → Ptr → ℕ → ℕ → Fml
-beside_value R p b o = let at : Ptr = block_ptr (block_of p) (offset_of p) in fsep (fex Global (frees R at)) (fsep (word (block_of p) (offset_of p + 0) 1) (fsep (stamp at) (cell_at full_share (HandleRow R).mir (one_word at ∷ []) b o)))
+-- what an unshared block's handle at (b, o) has beside what the block holds
+abbrev pub beside_held : (R : RattleType) → Ptr → ℕ → ℕ → Fml
+beside_held R p b o = let at : Ptr = block_ptr (block_of p) (offset_of p) in fsep (fex Global (frees R at)) (fsep (word (block_of p) (offset_of p + 0) 1) (fsep (stamp at) (cell_at full_share (HandleRow R).mir (one_word at ∷ []) b o)))
 
 module _ {M : Type 1} {𝓤 : Ura M} (𝓛 : Logic 𝓤) (R : RattleType) (p : Ptr) (b o : ℕ) (inb : InBlock p) where
-  -- with any value, that is the handle again
-  pub value_back : (w : R.Denot) → ent 𝓤 (sep 𝓤 (sem 𝓛 ((mem R).own_at w (block_of p) (offset_of p + value_offset R))) (sem 𝓛 (beside_value R p b o))) (sem 𝓛 ((mem (HandleRow R)).own_at (record { block = p; value = w; sole = false }) b o))
+  -- with anything held, that is the handle again
+  pub held_back : (w : (HeldRow R).Denot) → ent 𝓤 (sep 𝓤 (sem 𝓛 ((mem (HeldRow R)).own_at w (block_of p) (offset_of p + held_offset R))) (sem 𝓛 (beside_held R p b o))) (sem 𝓛 ((mem (HandleRow R)).own_at (record { block = p; held = w; sole = false }) b o))
   unfolding part_of
-  value_back w = let at : Ptr = block_ptr (block_of p) (offset_of p) in
-      qed 𝓛 (‵ (part_at R full_share w (block_of p) (offset_of p + value_offset R)) ∷ ‵ (beside_value R p b o) ∷ []) ∵ move ! (1 ∷ []) $ fsplit3 ! $ move ! (2 ∷ []) $ fsplit ! $
+  held_back w = let at : Ptr = block_ptr (block_of p) (offset_of p) in
+      qed 𝓛 (‵ (part_at (HeldRow R) full_share w (block_of p) (offset_of p + held_offset R)) ∷ ‵ (beside_held R p b o) ∷ []) ∵ move ! (1 ∷ []) $ fsplit3 ! $ move ! (2 ∷ []) $ fsplit ! $
       -- [the stamp; the cell; what frees; the word; the value]
       move ! (4 ∷ 2 ∷ []) $ fjoin ! $ move ! (3 ∷ 0 ∷ 1 ∷ []) $ fjoin3 ! $ rewrite ! 0 (λ (z : Ptr). ‵ (unshared_block R z w 1)) (sym (at_block p inb)) refl $ rewrite ! 1 (λ (z : Ptr). ‵ (cell_at full_share (HandleRow R).mir (one_word z ∷ []) b o)) (sym (at_block p inb)) refl $
       fpack ! Bool (sole_or_counted R p w) true $ nothing_more ! $ fpack ! (InBlock p) (λ _. ftrue) inb $ fjoin ! $ use0 𝓛 (‵ ((HandleWords R).own_val (p, tt) (one_word p ∷ []))) (words_made (handle_type.the_type R).name (R ∷ []) 𝓛 p) $ fjoin ! $
-      move ! (1 ∷ 0 ∷ []) $ fjoin ! $ fpack ! (List Val) (λ vs. fsep (cell_at full_share (HandleRow R).mir vs b o) ((HandleRow R).own_val (record { block = p; value = w; sole = false }) vs)) (one_word p ∷ []) $ done !
+      move ! (1 ∷ 0 ∷ []) $ fjoin ! $ fpack ! (List Val) (λ vs. fsep (cell_at full_share (HandleRow R).mir vs b o) ((HandleRow R).own_val (record { block = p; held = w; sole = false }) vs)) (one_word p ∷ []) $ done !

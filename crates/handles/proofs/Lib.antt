@@ -1,5 +1,6 @@
 pub mod Asking
 pub mod Boxes
+pub mod BuilderRuns
 pub mod Fields
 pub mod LeavingFields
 pub mod LooseBoxes

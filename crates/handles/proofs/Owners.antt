@@ -1,12 +1,12 @@
 -- A block that nobody shares becomes a counted one, and what a borrow of a counted handle holds. Assumes `Logic`.
-use Rattle.std.proofs.Common.{ℕ, ◌+◌, Bool, true, false, [], ◌∷◌}
+use Rattle.std.proofs.Common.{ℕ, ◌+◌, Bool, true, false, [], ◌∷◌, ◌++◌, ◌%◌, ◌≤◌, arith}
 use seplogic.Ra.Ura.{Ura}
 use lib.Dec.{lit<}
 use base.Fraction.{full_share}
 use base.FractionLaws.{Counts-all}
 use base.Logic.{ent, sep, ex_i, id⊢, upd_i, apply∗, wand}
 use base.Fml.{Lft, Incl, Incl-trans, Share, Fml, ftrue, fsep, fseps, fex, fwand, fupd, fdead, fbor, flft, finv}
-use contract.BorrowLft.{meet_⊑_left, meet_⊑_right}
+use contract.BorrowLft.{meet_⊑_left, meet_⊑_right, ⊑_meet, ⊑_static}
 use ghost.Rules.{span, thinned}
 use types.Logic.{Logic, sem, lfts}
 use types.Kit.{‵, raw, ◌⊛◌, some as exists, later, ◌$◌, ◌∵◌, !, qed, by, move, keep, use1, use2, split, split3, join, fsplit, fsplit3, fjoin, fjoin3, fpick, fpack, pick, assume, suffices, group, await, updating, now, done}
@@ -15,7 +15,7 @@ use types.RcWeak.{part, rest, part_in, cut}
 use denote.Sharing.{ShrLaws, said, beside, some, one, held, always}
 use denote.SharingLaws.{contraction, said_shr_laws, some_shr_laws, beside_shr_laws, one_shr_laws, always_shr_laws, held_shr_laws}
 use denote.Moves.{moves_from}
-use denote.RattleType.{RattleType, RowLaws}
+use denote.RattleType.{RattleType}
 use denote.Steps.{nothing as nothing_more}
 use denote.RawPtr.{Ptr, block_of, count_of as offset_of, lies_at, ◌+ₚ◌}
 use denote.Shares.{Shares-less}
@@ -25,38 +25,38 @@ use Rattle.core.specs.Sync.RawAtomic.{word}
 use Rattle.std.specs.declared.alloc.Global.{Global}
 use Rattle.std_alloc.proofs.ArcSteps.{Settles, Lends-settled}
 use Rattle.core.specs.Sync.RawAtomic.{word}
-use Rattle.counting_word.specs.CountingWord.{StandsFor}
 use Rattle.counting_word.proofs.Words.{stands-one}
-use Rattle.handles.specs.Blocks.{Names, Stage, living, entitled, stake, stage, Rule, counted, counted_shares, placed, stamp, shown, frees, value_and_block, value_offset, counted_handle, sole_or_counted, handle_shares, owned_as, shared_as, unshared_block, counted_handle}
+use Rattle.handles.proofs.block.Held.TheLaws.{the_row_laws as held_laws}
+use Rattle.handles.specs.Blocks.{HeldRow, Says, Names, Stage, living, entitled, stake, stage, Rule, counted, counted_shares, placed, stamp, shown, frees, held_and_block, held_offset, counted_handle, sole_or_counted, handle_shares, owned_as, shared_as, unshared_block, counted_handle}
 use Rattle.handles.proofs.Steps.{stands-unmarked, counted_stake}
 
 -- the word of a new block stands for its one handle
-stands-new : StandsFor 1 false 1 1
-stands-new = stands-unmarked 1 1 0 1 stands-one
+says-new : (limit : ℕ) → 1 ≤ limit → Says limit 1 false 1
+says-new limit some = let within : 1 % 9223372036854775808 ≤ limit = omega (arith, some) in (stands-unmarked 1 1 0 1 stands-one, λ _. within)
 
-module _ (content kept : Fml) (b o : ℕ) (t : Lft → Fml) (L : ShrLaws t) where
+module _ (content kept : Fml) (limit b o : ℕ) (t : Lft → Fml) (L : ShrLaws t) where
   abbrev Held : Names → Fml
-  Held i = counted content kept b o i t
+  Held i = counted content kept limit b o i t
 
   abbrev Shared : Names → Lft → Fml
-  Shared i = counted_shares content kept b o i t
+  Shared i = counted_shares content kept limit b o i t
 
   module _ {M : Type 1} {𝓤 : Ura M} (𝓛 : Logic 𝓤) where
     open 𝓛 use {H, A}
 
     -- the rule of a block is made when it is first shared
-    pub becomes_counted : (l : Lft) → Lends 𝓛 content t l → Settles 𝓛 (fsep (word b o 1) (fsep content kept)) (fex Names Held) l
-    becomes_counted l lends μ q inc =
+    pub becomes_counted : 1 ≤ limit → (l : Lft) → Lends 𝓛 content t l → Settles 𝓛 (fsep (word b o 1) (fsep content kept)) (fex Names Held) l
+    becomes_counted some l lends μ q inc =
         qed 𝓛 (‵ (fsep (word b o 1) (fsep content kept)) ∷ ‵ (flft μ q) ∷ []) ∵ updating ! $ fsplit3 ! $ lft_new ! tt (λ m. lft_new ! tt (λ a. let i : Names = record { shared = a; unmarked = m } in
         use1 𝓛 (‵ (rest 64 a 1) ⊛ ‵ (part 64 a)) (cut 64 𝓛 a 0 full_share (lit< tt) (Counts-all 64)) $ split ! $ move ! (4 ∷ []) $ bor_new ! tt (a ∷ []) $
         -- [the borrow; the lender; the parts; the part; the mark's token; the word; what is kept; the token]
-        move ! (1 ∷ 6 ∷ []) $ fjoin ! $ move ! (0 ∷ 4 ∷ []) $ fjoin ! $ move ! (2 ∷ 0 ∷ []) $ fjoin ! $ nothing_more ! $ fpack ! (StandsFor 1 false 1 1) (λ _. ftrue) stands-new $ move ! (4 ∷ 0 ∷ 1 ∷ []) $ fjoin3 ! $
-        fpack ! Stage (stage content kept b o i) (living false 1 1) $ use1 𝓛 (later (‵ (finv (Rule content kept b o i)))) (𝓛.invs.inv_new (Rule content kept b o i)) $ await ! tt $ move ! (2 ∷ []) $ fpick ! (λ e. fpick ! (λ c.
+        move ! (1 ∷ 6 ∷ []) $ fjoin ! $ move ! (0 ∷ 4 ∷ []) $ fjoin ! $ move ! (2 ∷ 0 ∷ []) $ fjoin ! $ nothing_more ! $ fpack ! (Says limit 1 false 1) (λ _. ftrue) (says-new limit some) $ move ! (4 ∷ 0 ∷ 1 ∷ []) $ fjoin3 ! $
+        fpack ! Stage (stage content kept limit b o i) (living false 1 1) $ use1 𝓛 (later (‵ (finv (Rule content kept limit b o i)))) (𝓛.invs.inv_new (Rule content kept limit b o i)) $ await ! tt $ move ! (2 ∷ []) $ fpick ! (λ e. fpick ! (λ c.
         -- [the part; the rule; the borrow; the token]
         move ! (0 ∷ 3 ∷ []) $ join ! $ move ! (2 ∷ 0 ∷ []) $
         use2 𝓛 (later (‵ (t (a ∷ [])) ⊛ ‵ (flft (a ∷ []) e) ⊛ ‵ (flft μ q)))
         (lends (a ∷ []) ((a ∷ [], e) ∷ (μ, q) ∷ []) (Incl-trans (meet_⊑_right (a ∷ []) μ) inc) (meet_⊑_left (a ∷ []) μ)) $ await ! tt $ split3 ! $
-        move ! (1 ∷ []) $ use1 𝓛 (‵ (part 64 a)) (part_in 64 𝓛 a e c) $ use1 𝓛 (‵ (stake i)) (counted_stake 𝓛 content kept b o i) $ move ! (0 ∷ 3 ∷ 1 ∷ []) $ fjoin3 ! $ fpack ! Names Held i $ now ! $ done !))))
+        move ! (1 ∷ []) $ use1 𝓛 (‵ (part 64 a)) (part_in 64 𝓛 a e c) $ use1 𝓛 (‵ (stake i)) (counted_stake 𝓛 content kept limit b o i) $ move ! (0 ∷ 3 ∷ 1 ∷ []) $ fjoin3 ! $ fpack ! Names Held i $ now ! $ done !))))
 
     module _ (κ : Lft) where
       abbrev Owns : Fml
@@ -66,15 +66,15 @@ module _ (content kept : Fml) (b o : ℕ) (t : Lft → Fml) (L : ShrLaws t) wher
       Lent = some Names Shared κ
 
       -- a borrow that lends the token out gets the handle back with it
-      comes_back : (i : Names) (e : Share) → ent 𝓤 (sep 𝓤 (sem 𝓛 (fex Bool (entitled i e))) (sep 𝓤 (sem 𝓛 (finv (Rule content kept b o i))) (sem 𝓛 (t (i.shared ∷ [])))))
+      comes_back : (i : Names) (e : Share) → ent 𝓤 (sep 𝓤 (sem 𝓛 (fex Bool (entitled i e))) (sep 𝓤 (sem 𝓛 (finv (Rule content kept limit b o i))) (sem 𝓛 (t (i.shared ∷ [])))))
           (sem 𝓛 (fwand (fsep (fdead κ) (fseps (flft (i.shared ∷ []) e ∷ []))) (fupd Owns)))
       unfolding fseps
-      comes_back i e = let a : Lft = i.shared ∷ [] in qed 𝓛 (‵ (fex Bool (entitled i e)) ∷ ‵ (finv (Rule content kept b o i)) ∷ ‵ (t a) ∷ []) ∵ assume ! (‵ (fsep (fdead κ) (fsep (flft a e) ftrue))) $ suffices ! (sem 𝓛 Owns) (upd_i 𝓤 (sem 𝓛 Owns)) $
+      comes_back i e = let a : Lft = i.shared ∷ [] in qed 𝓛 (‵ (fex Bool (entitled i e)) ∷ ‵ (finv (Rule content kept limit b o i)) ∷ ‵ (t a) ∷ []) ∵ assume ! (‵ (fsep (fdead κ) (fsep (flft a e) ftrue))) $ suffices ! (sem 𝓛 Owns) (upd_i 𝓤 (sem 𝓛 Owns)) $
           fsplit3 ! $ move ! (3 ∷ 1 ∷ []) $ fjoin ! $ fpack ! Share (λ e. fsep (fex Bool (entitled i e)) (flft a e)) e $ keep ! (0 ∷ 3 ∷ 4 ∷ []) $ fjoin3 ! $ fpack ! Names Held i $ done !
 
       by_token : (q : Share) → ent 𝓤 (sep 𝓤 (A.bor κ Owns) (A.lft κ q)) (H.⇛ (sep 𝓤 (sem 𝓛 Lent) (A.lft κ q)))
       unfolding fseps
-      by_token q = qed 𝓛 (‵ (fbor κ Owns) ∷ ‵ (flft κ q) ∷ []) ∵ updating ! $ bor_open ! tt $ move ! (1 ∷ []) $ fpick ! (λ i. let a : Lft = i.shared ∷ [] in let I : Fml = Rule content kept b o i in fsplit3 ! $ fpick ! (λ e. fsplit ! $
+      by_token q = qed 𝓛 (‵ (fbor κ Owns) ∷ ‵ (flft κ q) ∷ []) ∵ updating ! $ bor_open ! tt $ move ! (1 ∷ []) $ fpick ! (λ i. let a : Lft = i.shared ∷ [] in let I : Fml = Rule content kept limit b o i in fsplit3 ! $ fpick ! (λ e. fsplit ! $
           -- [the entitlement; the token's share; the rule; the sharing; the open borrow]
           move ! (2 ∷ []) $ use1 𝓛 (‵ (finv I) ⊛ ‵ (finv I)) (𝓛.invs.inv_dup I) $ split ! $ move ! (4 ∷ []) $
           use1 𝓛 (‵ (t a) ⊛ ‵ (t a)) (contraction 𝓛 t L a) $ split ! $ move ! (4 ∷ 2 ∷ 0 ∷ []) $ group ! 3 $
@@ -96,35 +96,42 @@ module _ (content kept : Fml) (b o : ℕ) (t : Lft → Fml) (L : ShrLaws t) wher
     pub sees : (κ : Lft) → ent 𝓤 (sem 𝓛 (some Names Shared κ)) (sem 𝓛 (t κ))
     sees κ = qed 𝓛 (‵ (some Names Shared κ) ∷ []) ∵ fpick ! (λ i. fsplit3 ! $ keep ! (0 ∷ 2 ∷ []) $ by ! (moves_from 𝓛 t L κ (i.shared ∷ []) (i.shared ∷ []) (meet_⊑_left (i.shared ∷ []) κ)))
 
-module _ (R : RattleType) (L : RowLaws R) (p : Ptr) (x : R.Denot) where
+module _ (R : RattleType) (L : Laws R) (p : Ptr) (x : (HeldRow R).Denot) where
   pub shown-ShrLaws : ShrLaws (shown R p x)
-  shown-ShrLaws = lent_at_shr_laws R L (p +ₚ value_offset R) x
+  shown-ShrLaws = lent_at_shr_laws (HeldRow R) (held_laws R L).shr_laws (p +ₚ held_offset R) x
 
   shared_as-ShrLaws : (sole : Bool) → ShrLaws (shared_as R p x sole)
   shared_as-ShrLaws true = shown-ShrLaws
-  shared_as-ShrLaws false = let C : Fml = value_and_block R p x in let K : Fml = stamp p in let b : ℕ = block_of p in let o : ℕ = offset_of p + 0 in let s : Lft → Fml = shown R p x in let each : Names → Lft → Fml = λ i. counted_shares C K b o i s in
-      some_shr_laws Names each (λ i. beside_shr_laws (one (λ q. flft (i.shared ∷ []) q)) (beside (always (Rule C K b o i)) (held (i.shared ∷ []) s)) (one_shr_laws (λ q. flft (i.shared ∷ []) q))
-      (beside_shr_laws (always (Rule C K b o i)) (held (i.shared ∷ []) s) (always_shr_laws (Rule C K b o i)) (held_shr_laws (i.shared ∷ []) s shown-ShrLaws)))
+  shared_as-ShrLaws false = let C : Fml = held_and_block R p x in let K : Fml = stamp p in let b : ℕ = block_of p in let o : ℕ = offset_of p + 0 in let n : ℕ = x.limit.count in let s : Lft → Fml = shown R p x in let each : Names → Lft → Fml = λ i. counted_shares C K n b o i s in
+      some_shr_laws Names each (λ i. beside_shr_laws (one (λ q. flft (i.shared ∷ []) q)) (beside (always (Rule C K n b o i)) (held (i.shared ∷ []) s)) (one_shr_laws (λ q. flft (i.shared ∷ []) q))
+      (beside_shr_laws (always (Rule C K n b o i)) (held (i.shared ∷ []) s) (always_shr_laws (Rule C K n b o i)) (held_shr_laws (i.shared ∷ []) s shown-ShrLaws)))
 
   pub handle_shares-ShrLaws : (sole : Bool) → ShrLaws (handle_shares R p x sole)
   handle_shares-ShrLaws sole = beside_shr_laws (said (placed p)) (shared_as R p x sole) (said_shr_laws (placed p) (λ _. tt)) (shared_as-ShrLaws sole)
 
-module _ (R : RattleType) (L : Laws R) {M : Type 1} {𝓤 : Ura M} (𝓛 : Logic 𝓤) (p : Ptr) (x : R.Denot) where
+module _ (R : RattleType) (L : Laws R) {M : Type 1} {𝓤 : Ura M} (𝓛 : Logic 𝓤) (p : Ptr) (x : (HeldRow R).Denot) where
   open 𝓛 use {H, A}
+
+  -- what a block holds lives as long as its value
+  held_lives : (l : Lft) → Incl l R.lives → Incl l (HeldRow R).lives
+  held_lives l within = ⊑_meet l (R.lives ++ []) (R.lives ++ []) one one
+    where
+      one : Incl l (R.lives ++ [])
+      one = ⊑_meet l R.lives [] within (⊑_static l)
 
   -- a new block's handle becomes a counted one, and a counted one stays as it is
   pub handle_settles : (l : Lft) → Incl l R.lives → Settles 𝓛 (fex Bool (sole_or_counted R p x)) (counted_handle R p x) l
   handle_settles l within μ q inc = qed 𝓛 (‵ (fex Bool (sole_or_counted R p x)) ∷ ‵ (flft μ q) ∷ []) ∵ fpick ! (λ y. by ! (at y))
     where
       at : (y : Bool) → ent 𝓤 (sep 𝓤 (sem 𝓛 (sole_or_counted R p x y)) (A.lft μ q)) (H.⇛ (sep 𝓤 (sem 𝓛 (counted_handle R p x)) (A.lft μ q)))
-      at true = becomes_counted (value_and_block R p x) (stamp p) (block_of p) (offset_of p + 0) (shown R p x) (shown-ShrLaws R L.shr_laws p x) 𝓛 l
-          (Lends-first 𝓛 (lies_at R full_share (p +ₚ value_offset R) x) (fex Global (frees R p)) (shown R p x) l
-          (Lends-lies 𝓛 R l (p +ₚ value_offset R) x (Shares-less 𝓛 R R.lives l within (L.shares 𝓛) x))) μ q inc
+      at true = becomes_counted (held_and_block R p x) (stamp p) x.limit.count (block_of p) (offset_of p + 0) (shown R p x) (shown-ShrLaws R L p x) 𝓛 x.limit.in_range.0 l
+          (Lends-first 𝓛 (lies_at (HeldRow R) full_share (p +ₚ held_offset R) x) (fex Global (frees R p)) (shown R p x) l
+          (Lends-lies 𝓛 (HeldRow R) l (p +ₚ held_offset R) x (Shares-less 𝓛 (HeldRow R) (HeldRow R).lives l (held_lives l within) ((held_laws R L).shares 𝓛) x))) μ q inc
       at false = 𝓛.laws.⇛_intro _
 
   -- an unshared block, its value first
   abbrev Turned : Fml
-  Turned = fsep (value_and_block R p x) (fsep (stamp p) (word (block_of p) (offset_of p + 0) 1))
+  Turned = fsep (held_and_block R p x) (fsep (stamp p) (word (block_of p) (offset_of p + 0) 1))
 
   turns : (l : Lft) → Settles 𝓛 (unshared_block R p x 1) Turned l
   turns l μ q inc = qed 𝓛 (‵ (unshared_block R p x 1) ∷ ‵ (flft μ q) ∷ []) ∵ updating ! $ fsplit3 ! $ move ! (1 ∷ 2 ∷ 0 ∷ []) $ fjoin3 ! $ now ! $ done !
@@ -135,15 +142,15 @@ module _ (R : RattleType) (L : Laws R) {M : Type 1} {𝓤 : Ura M} (𝓛 : Logic
   -- a block that nobody shares lends its value
   Lends-unshared : (l : Lft) → Incl l R.lives → Lends 𝓛 (unshared_block R p x 1) (shown R p x) l
   Lends-unshared l within = Lends-settled 𝓛 (unshared_block R p x 1) Turned l (turns l) (shown R p x) turns_back
-      (Lends-first 𝓛 (value_and_block R p x) (fsep (stamp p) (word (block_of p) (offset_of p + 0) 1)) (shown R p x) l
-      (Lends-first 𝓛 (lies_at R full_share (p +ₚ value_offset R) x) (fex Global (frees R p)) (shown R p x) l
-      (Lends-lies 𝓛 R l (p +ₚ value_offset R) x (Shares-less 𝓛 R R.lives l within (L.shares 𝓛) x))))
+      (Lends-first 𝓛 (held_and_block R p x) (fsep (stamp p) (word (block_of p) (offset_of p + 0) 1)) (shown R p x) l
+      (Lends-first 𝓛 (lies_at (HeldRow R) full_share (p +ₚ held_offset R) x) (fex Global (frees R p)) (shown R p x) l
+      (Lends-lies 𝓛 (HeldRow R) l (p +ₚ held_offset R) x (Shares-less 𝓛 (HeldRow R) (HeldRow R).lives l (held_lives l within) ((held_laws R L).shares 𝓛) x))))
 
   -- what a `&` to a handle has, by whether it is known to be the only one
   pub Lends-owned : (sole : Bool) (l : Lft) → Incl l R.lives → Lends 𝓛 (owned_as R p x sole) (shared_as R p x sole) l
   Lends-owned true l within = Lends-unshared l within
   Lends-owned false l within = Lends-settled 𝓛 (fex Bool (sole_or_counted R p x)) (counted_handle R p x) l (handle_settles l within) (shared_as R p x false)
-      (ex_i 𝓤 (λ y. sem 𝓛 (sole_or_counted R p x y)) false) (Lends-counted (value_and_block R p x) (stamp p) (block_of p) (offset_of p + 0) (shown R p x) (shown-ShrLaws R L.shr_laws p x) 𝓛 l)
+      (ex_i 𝓤 (λ y. sem 𝓛 (sole_or_counted R p x y)) false) (Lends-counted (held_and_block R p x) (stamp p) x.limit.count (block_of p) (offset_of p + 0) (shown R p x) (shown-ShrLaws R L p x) 𝓛 l)
 
   -- that a handle is the only one may be forgotten
   pub forgets : (sole : Bool) → ent 𝓤 (sem 𝓛 (owned_as R p x sole)) (sem 𝓛 (owned_as R p x false))
@@ -153,4 +160,4 @@ module _ (R : RattleType) (L : Laws R) {M : Type 1} {𝓤 : Ura M} (𝓛 : Logic
   -- what a `&` to a handle sees of the value
   pub shown_by : (sole : Bool) (κ : Lft) → ent 𝓤 (sem 𝓛 (shared_as R p x sole κ)) (sem 𝓛 (shown R p x κ))
   shown_by true κ = id⊢ 𝓤 _
-  shown_by false κ = sees (value_and_block R p x) (stamp p) (block_of p) (offset_of p + 0) (shown R p x) (shown-ShrLaws R L.shr_laws p x) 𝓛 κ
+  shown_by false κ = sees (held_and_block R p x) (stamp p) x.limit.count (block_of p) (offset_of p + 0) (shown R p x) (shown-ShrLaws R L p x) 𝓛 κ

@@ -11,7 +11,8 @@ use denote.Param.Send.{IsSend, IsSync, Common, AllSend, owning_send, struct_send
 use Rattle.std_heap.specs.contracts.Global.{the_row as heap_row}
 use Rattle.std_alloc.proofs.SendSync.{lies, seen, quiet}
 use Rattle.std.proofs.Crossing as crossing
-use Rattle.handles.specs.Blocks.{Names, Stage, living, over, entitled, stage, stamp, left_at, block_type, value_offset, heap_offset, value_and_block, shown, sole_or_counted, owned_as, shared_as}
+use Rattle.handles.proofs.block.Held.TheSendSync.{the_send as held_send, the_sync as held_sync}
+use Rattle.handles.specs.Blocks.{HeldRow, Names, Stage, living, over, entitled, stage, stamp, left_at, block_type, held_offset, heap_offset, held_and_block, shown, sole_or_counted, owned_as, shared_as}
 use Rattle.handles.specs.contracts.block.Handle as handle_type
 
 pointers : IsSend RawPtr
@@ -24,37 +25,37 @@ entitled-Keyless : (i : Names) (e : Share) (y : Bool) → Keyless (entitled i e 
 entitled-Keyless i e true = λ _. tt
 entitled-Keyless i e false = tt
 
-stage-Keyless : (content kept : Fml) → Keyless content → Keyless kept → (b o : ℕ) (i : Names) (s : Stage) → Keyless (stage content kept b o i s)
-stage-Keyless content kept c k b o i (living false w n) = (tt, ((λ _. tt), ((λ r c. tt), ((c, k), tt))))
-stage-Keyless content kept c k b o i (living true w n) = (tt, ((λ _. tt), ((λ r c. tt), (((λ e. tt), k), tt))))
-stage-Keyless content kept c k b o i over = tt
+stage-Keyless : (content kept : Fml) → Keyless content → Keyless kept → (limit b o : ℕ) (i : Names) (s : Stage) → Keyless (stage content kept limit b o i s)
+stage-Keyless content kept c k limit b o i (living false w n) = (tt, ((λ _. tt), ((λ r c. tt), ((c, k), tt))))
+stage-Keyless content kept c k limit b o i (living true w n) = (tt, ((λ _. tt), ((λ r c. tt), (((λ e. tt), k), tt))))
+stage-Keyless content kept c k limit b o i over = tt
 
 module _ (R : RattleType) (s : IsSend R) (y : IsSync R) where
   left-Keyless : (p : Ptr) → Keyless (left_at R p)
   left-Keyless (block_ptr b o) = tt
   left-Keyless null_ptr = tt
 
-  content-Keyless : (p : Ptr) (x : R.Denot) → Keyless (value_and_block R p x)
-  content-Keyless p x = (lies R s (p +ₚ value_offset R) x, λ h. (lies heap_row crossing.send (p +ₚ heap_offset R) h, (crossing.frees.frees h (block_type R) p, left-Keyless p)))
+  content-Keyless : (p : Ptr) (x : (HeldRow R).Denot) → Keyless (held_and_block R p x)
+  content-Keyless p x = (lies (HeldRow R) (held_send R s) (p +ₚ held_offset R) x, λ h. (lies heap_row crossing.send (p +ₚ heap_offset R) h, (crossing.frees.frees h (block_type R) p, left-Keyless p)))
 
   stamp-Keyless : (p : Ptr) → Keyless (stamp p)
   stamp-Keyless p = λ n. tt
 
-  rule-Keyless : (p : Ptr) (x : R.Denot) (i : Names) (z : Stage) → Keyless (stage (value_and_block R p x) (stamp p) (block_of p) (offset_of p + 0) i z)
-  rule-Keyless p x = stage-Keyless (value_and_block R p x) (stamp p) (content-Keyless p x) (stamp-Keyless p) (block_of p) (offset_of p + 0)
+  rule-Keyless : (p : Ptr) (x : (HeldRow R).Denot) (i : Names) (z : Stage) → Keyless (stage (held_and_block R p x) (stamp p) x.limit.count (block_of p) (offset_of p + 0) i z)
+  rule-Keyless p x = stage-Keyless (held_and_block R p x) (stamp p) (content-Keyless p x) (stamp-Keyless p) x.limit.count (block_of p) (offset_of p + 0)
 
-  shown-Common : (p : Ptr) (x : R.Denot) → Common (shown R p x)
-  shown-Common p x = seen R y (p +ₚ value_offset R) x
+  shown-Common : (p : Ptr) (x : (HeldRow R).Denot) → Common (shown R p x)
+  shown-Common p x = seen (HeldRow R) (held_sync R y) (p +ₚ held_offset R) x
 
-  handle-Keyless : (p : Ptr) (x : R.Denot) (z : Bool) → Keyless (sole_or_counted R p x z)
+  handle-Keyless : (p : Ptr) (x : (HeldRow R).Denot) (z : Bool) → Keyless (sole_or_counted R p x z)
   handle-Keyless p x true = (tt, (content-Keyless p x, stamp-Keyless p))
   handle-Keyless p x false = λ i. ((λ e. (entitled-Keyless i e, tt)), (rule-Keyless p x i, shown-Common p x (i.shared ∷ [])))
 
-  owned-Keyless : (p : Ptr) (x : R.Denot) (sole : Bool) → Keyless (owned_as R p x sole)
+  owned-Keyless : (p : Ptr) (x : (HeldRow R).Denot) (sole : Bool) → Keyless (owned_as R p x sole)
   owned-Keyless p x true = (tt, (content-Keyless p x, stamp-Keyless p))
   owned-Keyless p x false = handle-Keyless p x
 
-  shared-Keyless : (p : Ptr) (x : R.Denot) (sole : Bool) (κ : Lft) → Keyless (shared_as R p x sole κ)
+  shared-Keyless : (p : Ptr) (x : (HeldRow R).Denot) (sole : Bool) (κ : Lft) → Keyless (shared_as R p x sole κ)
   shared-Keyless p x true κ = shown-Common p x κ
   shared-Keyless p x false κ = λ i. ((λ q. tt), (rule-Keyless p x i, shown-Common p x (i.shared ∷ [])))
 
@@ -63,9 +64,9 @@ module _ (R : RattleType) (s : IsSend R) (y : IsSync R) where
 
 pub handle-Send : (R : RattleType) → IsSend R → IsSync R → IsSend (handle_type.the_row R)
 handle-Send R s y = let O = handle_type.the_type R in
-    owning_send O (fields-Send R s y) (λ d. ((λ _. tt), owned-Keyless R s y d.block d.value d.sole)) (λ k. quiet (to O) (exits_of k (fields O)) ((struct_send (shape O) (fields-Send R s y)).leaving k))
+    owning_send O (fields-Send R s y) (λ d. ((λ _. tt), owned-Keyless R s y d.block d.held d.sole)) (λ k. quiet (to O) (exits_of k (fields O)) ((struct_send (shape O) (fields-Send R s y)).leaving k))
 
 pub handle-Sync : (R : RattleType) → IsSend R → IsSync R → IsSync (handle_type.the_row R)
 handle-Sync R s y = let O = handle_type.the_type R in record {
-  shared = λ d b o κ. ((struct_sync (shape O) (pointers_shared, tt)).shared (to O d) b o κ, ((λ _. tt), shared-Keyless R s y d.block d.value d.sole κ));
+  shared = λ d b o κ. ((struct_sync (shape O) (pointers_shared, tt)).shared (to O d) b o κ, ((λ _. tt), shared-Keyless R s y d.block d.held d.sole κ));
 }

@@ -3,14 +3,23 @@ use Rattle.std.specs.Prelude.{false}
 use Rattle.std.specs.Borrow.{Fml, MutBor, RattleType, Lends, LendsIf}
 use Rattle.std.specs.declared.option.Option.{Option}
 use Rattle.handles.specs.declared.block.Handle.{Handle}
+use Rattle.handles.specs.declared.block.Held.{Held}
 use Rattle.handles.specs.contracts.block.Handle.{the_row}
+use Rattle.handles.specs.contracts.block.Held.{the_row as held_row}
 
+abbrev pub with_held : {X : Type 0} → Handle X → Held X → Handle X
+with_held h w = record { block = h.block; held = w; sole = false }
+
+-- the limit stays
 abbrev pub with_value : {X : Type 0} → Handle X → X → Handle X
-with_value h w = record { block = h.block; value = w; sole = false }
+with_value h w = with_held h (record { limit = h.held.limit; value = w })
+
+abbrev pub LendsHeld : (R : RattleType) → MutBor (Handle R.Denot) → MutBor (Held R.Denot) → Fml
+LendsHeld R h r = Lends (the_row R) (held_row R) h r (with_held h.now)
 
 abbrev pub LendsSole : (R : RattleType) → MutBor (Handle R.Denot) → MutBor R.Denot → Fml
 LendsSole R h r = Lends (the_row R) R h r (with_value h.now)
 
 -- at `None` the value is as it was
 abbrev pub LendsIfAlone : (R : RattleType) → MutBor (Handle R.Denot) → Option (MutBor R.Denot) → Fml
-LendsIfAlone R h r = LendsIf (the_row R) R h r (with_value h.now) (with_value h.now h.now.value)
+LendsIfAlone R h r = LendsIf (the_row R) R h r (with_value h.now) (with_value h.now h.now.held.value)

@@ -1,9 +1,9 @@
 -- What a block is made of, and what its handles own and share.
 --
--- A block lies in one piece of memory: its word, its stamp, its value and the heap that it goes back to. While it has
--- handles, an invariant holds its word. Two names go with it:
---   * `shared` is the lifetime for which its value is shared. Each counted handle has one part in 2 ^ 64 of the token
---     of that lifetime; the invariant has the parts that no handle has.
+-- A block lies in one piece of memory: its word, its stamp, what it holds (its limit and its value) and the heap that
+-- it goes back to. While it has handles, an invariant holds its word. Two names go with it:
+--   * `shared` is the lifetime for which what it holds is shared. Each counted handle has one part in 2 ^ 64 of the
+--     token of that lifetime; the invariant has the parts that no handle has.
 --   * `unmarked` is the lifetime that ends with the mark. Its token lies in the invariant until then, so whoever knows
 --     it to be over knows the block to be marked, from then on for good.
 use Rattle.std.specs.Prelude.{ℕ, ◌+◌, Bool, true, false, List, [], ◌∷◌}
@@ -24,7 +24,8 @@ use Rattle.core.proofs.cell.Borrows.{flag}
 use Rattle.std.specs.declared.alloc.Global.{Global}
 use Rattle.std_heap.specs.contracts.Global.{the_row as heap_row}
 use Rattle.std.specs.contracts.impls.GlobalAllocator.TheImpl.{ghosts}
-use Rattle.counting_word.specs.CountingWord.{StandsFor}
+use Rattle.counting_word.specs.CountingWord.{StandsFor, IsWithin}
+use Rattle.handles.specs.contracts.block.Held.{the_row as held_row}
 use Rattle.handles.specs.Rights.{Right, nothing, a_handle, to_lower, whole_block}
 
 abbrev pub fact : Type 0 → Fml
@@ -60,17 +61,21 @@ pub data Stage : Type 0 where
   living : Bool → ℕ → ℕ → Stage
   over : Stage
 
+-- What a word says: it stands for n counted parts, and without the mark they are not above the limit.
+abbrev pub Says : ℕ → ℕ → Bool → ℕ → Type 0
+Says limit w mark n = StandsFor w mark n n × IsWithin w limit
+
 -- `content` is what is lent for the lifetime of the sharing, and `kept` what stays in the invariant beside the word.
-module _ (content kept : Fml) (b o : ℕ) (i : Names) where
+module _ (content kept : Fml) (limit b o : ℕ) (i : Names) where
   -- what the invariant has where n parts are counted. With the mark one more part is gone for good: it is the pool, from
   -- which new handles are made.
   abbrev pub beside_word : Bool → ℕ → Fml
   beside_word false n = fsep (rest 64 i.shared n) (fsep (fsep (flent (i.shared ∷ []) content) kept) (flft (i.unmarked ∷ []) full_share))
   beside_word true n = fsep (rest 64 i.shared (n + 1)) (fsep (fsep (fex Share (λ e. flft (i.shared ∷ []) e)) kept) (marked i))
 
-  -- The word stands for n counted parts, each of a live handle or of a drop in flight.
+  -- Each counted part is of a live handle or of a drop in flight.
   abbrev pub stage : Stage → Fml
-  stage (living mark w n) = fsep (word b o w) (fsep (fact (StandsFor w mark n n)) (beside_word mark n))
+  stage (living mark w n) = fsep (word b o w) (fsep (fact (Says limit w mark n)) (beside_word mark n))
   stage over = unshared i
 
   abbrev pub Rule : Fml
@@ -94,8 +99,11 @@ abbrev pub stamp : Ptr → Fml
 stamp p = fex ℕ (λ n. word (block_of p) (offset_of p + stamp_offset) n)
 
 module _ (R : RattleType) where
+  abbrev pub HeldRow : RattleType
+  HeldRow = held_row R
+
   abbrev pub item : Member
-  item = record { row = R; ty = lone R.mir }
+  item = record { row = HeldRow; ty = lone HeldRow.mir }
 
   abbrev pub heap : Member
   heap = record { row = heap_row; ty = lone heap_row.mir }
@@ -106,11 +114,11 @@ module _ (R : RattleType) where
   abbrev pub block_type : Ty
   block_type = ty_struct [] (raw_tys members)
 
-  abbrev pub value_offset : ℕ
-  value_offset = up (align (lone R.mir)) 16
+  abbrev pub held_offset : ℕ
+  held_offset = up (align (lone HeldRow.mir)) 16
 
   abbrev pub heap_offset : ℕ
-  heap_offset = up (align (lone heap_row.mir)) (value_offset + size (lone R.mir))
+  heap_offset = up (align (lone heap_row.mir)) (held_offset + size (lone HeldRow.mir))
 
   -- the room of a block that is not in its fields
   abbrev pub left_at : Ptr → Fml
@@ -121,22 +129,22 @@ module _ (R : RattleType) where
   abbrev pub frees : Ptr → Global → Fml
   frees p h = fsep (lies_at heap_row full_share (p +ₚ heap_offset) h) (fsep (ghosts.dealloc_token h block_type p) (left_at p))
 
-  abbrev pub value_and_block : Ptr → R.Denot → Fml
-  value_and_block p x = fsep (lies_at R full_share (p +ₚ value_offset) x) (fex Global (frees p))
+  abbrev pub held_and_block : Ptr → HeldRow.Denot → Fml
+  held_and_block p x = fsep (lies_at HeldRow full_share (p +ₚ held_offset) x) (fex Global (frees p))
 
-  abbrev pub shown : Ptr → R.Denot → Lft → Fml
-  shown p x = lent_at R (p +ₚ value_offset) x
+  abbrev pub shown : Ptr → HeldRow.Denot → Lft → Fml
+  shown p x = lent_at HeldRow (p +ₚ held_offset) x
 
-  module _ (p : Ptr) (x : R.Denot) where
+  module _ (p : Ptr) (x : HeldRow.Denot) where
     abbrev pub block_rule : Names → Fml
-    block_rule = Rule (value_and_block p x) (stamp p) (block_of p) (offset_of p + 0)
+    block_rule = Rule (held_and_block p x) (stamp p) x.limit.count (block_of p) (offset_of p + 0)
 
     -- a whole block that nobody shares, with the word w
     abbrev pub unshared_block : ℕ → Fml
-    unshared_block w = fsep (word (block_of p) (offset_of p + 0) w) (fsep (value_and_block p x) (stamp p))
+    unshared_block w = fsep (word (block_of p) (offset_of p + 0) w) (fsep (held_and_block p x) (stamp p))
 
     abbrev pub counted_handle : Fml
-    counted_handle = fex Names (λ i. counted (value_and_block p x) (stamp p) (block_of p) (offset_of p + 0) i (shown p x))
+    counted_handle = fex Names (λ i. counted (held_and_block p x) (stamp p) x.limit.count (block_of p) (offset_of p + 0) i (shown p x))
 
     -- The only handle of a new block has it outright, until it is first shared; the invariant is made only then.
     abbrev pub sole_or_counted : Bool → Fml
@@ -153,7 +161,7 @@ module _ (R : RattleType) where
 
     abbrev pub shared_as : Bool → Lft → Fml
     shared_as true = shown p x
-    shared_as false = some Names (λ i. counted_shares (value_and_block p x) (stamp p) (block_of p) (offset_of p + 0) i (shown p x))
+    shared_as false = some Names (λ i. counted_shares (held_and_block p x) (stamp p) x.limit.count (block_of p) (offset_of p + 0) i (shown p x))
 
     abbrev pub handle_shares : Bool → Lft → Fml
     handle_shares sole = beside (said (placed p)) (shared_as sole)

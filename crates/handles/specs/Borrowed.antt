@@ -1,7 +1,6 @@
 -- What a borrowed handle is of.
-use Rattle.handles.specs.Shows.{Shows}
 use Rattle.handles.specs.declared.borrow.ArcBorrow.{ArcBorrow}
 
 -- the handle that is borrowed
-abbrev pub borrowed : {X : Type 0} → ArcBorrow X → Shows X
+abbrev pub borrowed : {X : Type 0} → ArcBorrow X → X
 borrowed b = b.0.now

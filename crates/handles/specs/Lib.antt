@@ -2,10 +2,11 @@ pub mod Attempts
 pub mod BlockWriteBack
 pub mod Blocks
 pub mod Borrowed
+pub mod Copies
 pub mod HeaderSlice
 pub mod Rights
-pub mod Shows
 pub mod UnionHandles
 pub mod UnionLaws
 pub mod Unions
 pub mod WriteBack
+pub mod formers

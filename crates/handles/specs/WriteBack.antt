@@ -3,17 +3,16 @@ use Rattle.std.specs.Prelude.{◌≡◌}
 use Rattle.std.specs.Borrow.{Fml, MutBor, RattleType, Lends, LendsIf, LendsSoOk}
 use Rattle.std.specs.declared.option.Option.{Option}
 use Rattle.std.specs.declared.result.Result.{Result}
-use Rattle.handles.specs.Shows.{Shows}
 use Rattle.handles.specs.contracts.arc.Arc.{the_row as arc_row}
 use Rattle.handles.specs.contracts.unique.UniqueArc.{the_row as unique_row}
 
 -- of the only handle; another one is as it was
-abbrev pub LendsIfAlone : (R : RattleType) → MutBor (Shows R.Denot) → Option (MutBor R.Denot) → Fml
-LendsIfAlone R a r = LendsIf (arc_row R) R a r (λ w. record { value = w }) a.now
+abbrev pub LendsIfAlone : (R : RattleType) → MutBor R.Denot → Option (MutBor R.Denot) → Fml
+LendsIfAlone R a r = LendsIf (arc_row R) R a r (λ w. w) a.now
 
 -- of a handle that gets a block of its own if it needs one; at `Err` it is as it was
-abbrev pub LendsOwn : (R : RattleType) → MutBor (Shows R.Denot) → {E : Type 0} → Result (MutBor R.Denot) E → Fml
-LendsOwn R a r = LendsSoOk (arc_row R) R a r (λ n w. n.value ≡ w) (λ n. n.value ≡ a.now.value)
+abbrev pub LendsOwn : (R : RattleType) → MutBor R.Denot → {E : Type 0} → Result (MutBor R.Denot) E → Fml
+LendsOwn R a r = LendsSoOk (arc_row R) R a r (λ n w. n ≡ w) (λ n. n ≡ a.now)
 
-abbrev pub LendsUnique : (R : RattleType) → MutBor (Shows R.Denot) → MutBor R.Denot → Fml
-LendsUnique R u r = Lends (unique_row R) R u r (λ w. record { value = w })
+abbrev pub LendsUnique : (R : RattleType) → MutBor R.Denot → MutBor R.Denot → Fml
+LendsUnique R u r = Lends (unique_row R) R u r (λ w. w)

@@ -1,8 +1,9 @@
 //! Counted handles of a shared value.
 ghost use Rattle.std.specs.Prelude.{◌≡◌, IfOk, IfErr, false};
-ghost use Rattle.core.specs.Cmp.{on_per};
+ghost use Rattle.counting_word.specs.CountingWord.{IsLimit};
 
 use crate::block::Handle;
+use crate::limit::Limit;
 use crate::unique::UniqueArc;
 use counting_word::{is_alone, is_marked};
 use std::alloc::{AllocError, Global};
@@ -22,16 +23,15 @@ pub struct Arc<T: Send + Sync> {
 
 impl<T: Send + Sync> Model for Arc<T> {
     ghost use Rattle.std.specs.Prelude.{◌≡◌, false};
-    ghost use Rattle.handles.specs.Shows.{Shows};
 
-    ghost Value = { Shows T };
+    ghost Value = { T };
 
-    ghost view = { λ a. record { value = a.handle.value } };
+    ghost view = { λ a. a.handle.held.value };
 
     ghost invariant = { λ a. a.handle.sole ≡ false };
 }
 
-/// The block has as many handles as its word can count.
+/// The block has as many handles as its limit allows.
 #[derive(Clone, Copy, Debug, PartialEq, Eq, Error)]
 #[error("the handle limit is reached")]
 pub struct Full;
@@ -39,15 +39,25 @@ pub struct Full;
 impl<T: Send + Sync + Drop> Arc<T> {
     /// The data comes back where there is no memory for the block.
     pub fn new(alloc: Global, value: T) -> Result<Arc<T>, T>
-        ensures made { IfOk result (λ a. a.value ≡ value) }
+        ensures made { IfOk result (λ a. a ≡ value) }
         ensures refused { IfErr result (λ x. x ≡ value) }
     {
         Ok(UniqueArc::new(alloc, value)?.shareable())
     }
 
+    /// As `new`, of a block that has at most `limit` handles until it is marked. All handles of the block, however they
+    /// are made, count to this limit; every other maker's blocks count to `MAX_REFCOUNT`.
+    pub fn new_with_limit(alloc: Global, value: T, limit: u64) -> Result<Arc<T>, T>
+        requires { IsLimit limit }
+        ensures made { IfOk result (λ a. a ≡ value) }
+        ensures refused { IfErr result (λ x. x ≡ value) }
+    {
+        Ok(UniqueArc::with_limit(alloc, value, Limit::of(limit))?.shareable())
+    }
+
     /// A handle of a marked block, which is never given back and whose value is never dropped.
     pub fn new_leaked(alloc: Global, value: T) -> Result<Arc<T>, T>
-        ensures made { IfOk result (λ a. a.value ≡ value) }
+        ensures made { IfOk result (λ a. a ≡ value) }
         ensures refused { IfErr result (λ x. x ≡ value) }
     {
         let arc = Arc::new(alloc, value)?;
@@ -57,7 +67,7 @@ impl<T: Send + Sync + Drop> Arc<T> {
 
     /// The same as `new_leaked`, under the original's name for memory that is never given back.
     pub fn new_static(alloc: Global, value: T) -> Result<Arc<T>, T>
-        ensures made { IfOk result (λ a. a.value ≡ value) }
+        ensures made { IfOk result (λ a. a ≡ value) }
         ensures refused { IfErr result (λ x. x ≡ value) }
     {
         Arc::new_leaked(alloc, value)
@@ -65,14 +75,14 @@ impl<T: Send + Sync + Drop> Arc<T> {
 
     /// One more handle of the token's block. It tries as often as `Arc::clone(this, rt)`.
     pub fn from_raw_addrefed(raw: &RawArc<T>, rt: &impl Wait) -> Result<Arc<T>, Full>
-        ensures { IfOk result (λ a. a.value ≡ raw.now.value) }
+        ensures { IfOk result (λ a. a ≡ raw.now) }
     {
         Arc::clone(&raw.arc, rt)
     }
 
     /// Tries until the handle is made or the block is full, however often other threads change the count meanwhile.
     pub fn clone(this: &Arc<T>, rt: &impl Wait) -> Result<Arc<T>, Full>
-        ensures { IfOk result (λ a. a.value ≡ this.now.value) }
+        ensures { IfOk result (λ a. a ≡ this.now) }
     {
         Ok(Arc {
             handle: this.handle.clone_unless_full(rt)?,
@@ -83,7 +93,7 @@ impl<T: Send + Sync + Drop> Arc<T> {
 impl<T: Send + Sync> Arc<T> {
     pub(crate) fn of(handle: Handle<T>) -> Arc<T>
         requires { handle.sole ≡ false }
-        ensures { result.value ≡ handle.value }
+        ensures { result ≡ handle.held.value }
     {
         Arc { handle }
     }
@@ -120,14 +130,14 @@ impl<T: Send + Sync> Arc<T> {
 
     /// The handle as a token, which `from_raw` turns back.
     pub fn into_raw(this: Arc<T>) -> RawArc<T>
-        ensures { result.value ≡ this.value }
+        ensures { result ≡ this }
     {
         RawArc { arc: this }
     }
 
     /// The handle that the token kept.
     pub fn from_raw(raw: RawArc<T>) -> Arc<T>
-        ensures { result.value ≡ raw.value }
+        ensures { result ≡ raw }
     {
         let RawArc { arc } = raw;
         arc
@@ -137,11 +147,11 @@ impl<T: Send + Sync> Arc<T> {
 impl<T: Send + Sync> Deref for Arc<T> {
     type Target = T;
 
-    ghost deref_gives = { λ a x. x ≡ a.value };
+    ghost deref_gives = { λ a x. x ≡ a };
 
     #[inline]
     fn deref(&self) -> &T
-        ensures { result.now ≡ self.now.value }
+        ensures { result.now ≡ self.now }
     {
         self.handle.value()
     }
@@ -151,7 +161,7 @@ impl<T: Send + Sync> Deref for Arc<T> {
 /// for no want of memory, but for the limit or for 64 raises that were lost to other threads. The handle is then as it
 /// was. `Arc::clone(this, rt)` tries on.
 impl<T: Send + Sync + Drop> Clone for Arc<T> {
-    ghost is_clone = { λ a b. b.value ≡ a.value };
+    ghost is_clone = { λ a b. b ≡ a };
 
     fn clone(&self) -> Result<Arc<T>, AllocError> {
         Ok(Arc {
@@ -162,9 +172,9 @@ impl<T: Send + Sync + Drop> Clone for Arc<T> {
 
 /// Asks the values, also where both are handles of one block.
 impl<T: Send + Sync + PartialEq> PartialEq for Arc<T> {
-    ghost eq = { λ x y. T.eq x.value y.value };
+    ghost eq = { T.eq };
 
-    ghost laws = { on_per (λ x. x.value) T.laws };
+    ghost laws = { T.laws };
 
     fn eq(&self, other: &Arc<T>) -> bool {
         **self == **other
@@ -177,17 +187,15 @@ pub struct RawArc<T: Send + Sync> {
 }
 
 impl<T: Send + Sync> Model for RawArc<T> {
-    ghost use Rattle.handles.specs.Shows.{Shows};
+    ghost Value = { T };
 
-    ghost Value = { Shows T };
-
-    ghost view = { λ r. record { value = r.arc.value } };
+    ghost view = { λ r. r.arc };
 }
 
 impl<T: Send + Sync> RawArc<T> {
     /// The value, for as long as the token is borrowed.
     pub fn value(&self) -> &T
-        ensures { result.now ≡ self.now.value }
+        ensures { result.now ≡ self.now }
     {
         &self.arc
     }

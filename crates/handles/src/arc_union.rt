@@ -50,7 +50,7 @@ impl<A: Send + Sync, B: Send + Sync> ArcUnion<A, B> {
 
     /// The handle as one of the first kind. The count stays as it is.
     pub fn from_first(handle: Arc<A>) -> ArcUnion<A, B>
-        ensures { result ≡ First handle.value }
+        ensures { result ≡ First handle }
     {
         ArcUnion {
             handle: EitherArc::First(handle),
@@ -59,7 +59,7 @@ impl<A: Send + Sync, B: Send + Sync> ArcUnion<A, B> {
 
     /// The handle as one of the second kind. The count stays as it is.
     pub fn from_second(handle: Arc<B>) -> ArcUnion<A, B>
-        ensures { result ≡ Second handle.value }
+        ensures { result ≡ Second handle }
     {
         ArcUnion {
             handle: EitherArc::Second(handle),
@@ -82,7 +82,7 @@ impl<A: Send + Sync, B: Send + Sync> ArcUnion<A, B> {
 
     /// The handle, if it is of the first type.
     pub fn as_first(&self) -> Option<ArcBorrow<'_, A>>
-        ensures { option_map (λ a. (borrowed a).value) result ≡ first self.now }
+        ensures { option_map borrowed result ≡ first self.now }
     {
         match &self.handle {
             EitherArc::First(handle) => Some(handle.borrow_arc()),
@@ -92,7 +92,7 @@ impl<A: Send + Sync, B: Send + Sync> ArcUnion<A, B> {
 
     /// The handle, if it is of the second type.
     pub fn as_second(&self) -> Option<ArcBorrow<'_, B>>
-        ensures { option_map (λ b. (borrowed b).value) result ≡ second self.now }
+        ensures { option_map borrowed result ≡ second self.now }
     {
         match &self.handle {
             EitherArc::First(_) => None,

@@ -1,19 +1,21 @@
 // A try to make one more handle of a block.
 ghost use Rattle.std.specs.Prelude.{◌≡◌, ◌<◌, ℕ, IfOk, false};
-ghost use Rattle.counting_word.specs.CountingWord.{greatest_count};
+ghost use Rattle.counting_word.specs.CountingWord.{IsWithin};
 ghost use Rattle.handles.specs.Rights.{right_by_read};
 
 use crate::arc::Full;
 use crate::block::{Gain, Handle};
+use crate::limit::Limit;
 use counting_word::{ClonePlan, plan_clone};
 use std::alloc::AllocError;
 use std::sync::Wait;
 
-// An unmarked word that a raise may still add to.
+// An unmarked word that a raise may still add to, and the limit of its block.
 #[derive(Drop)]
 pub(crate) struct Seen {
     pub(crate) word: u64,
-    ghost below_limit: { word < greatest_count },
+    pub(crate) limit: Limit,
+    ghost below_limit: { word < limit.count },
 }
 
 #[derive(Drop)]
@@ -30,24 +32,25 @@ impl<T> Handle<T> {
     #[inline]
     pub(crate) fn first_attempt(&self) -> Attempt<T>
         requires { self.now.sole ≡ false }
-        ensures { (word : ℕ) × IsAttempt self.now.value word result }
+        ensures { (word : ℕ) × IsAttempt self.now.held word result }
     {
         let (word, gain) = self.read();
-        Attempt::judge(word, gain)
+        Attempt::judge(word, self.limit(), gain)
     }
 
     // One raise of a word that was seen.
     #[inline]
     pub(crate) fn next_attempt(&self, seen: Seen) -> Attempt<T>
-        requires { self.now.sole ≡ false }
-        ensures { (word : ℕ) × IsAttempt self.now.value word result }
+        requires shared { self.now.sole ≡ false }
+        requires limit { seen.limit ≡ self.now.held.limit }
+        ensures { (word : ℕ) × IsAttempt self.now.held word result }
     {
-        let Seen { word } = seen;
+        let Seen { word, limit } = seen;
         let (found, gain) = self.raise(word);
         if found == word {
             Attempt::Made(gain.into_handle())
         } else {
-            Attempt::judge(found, gain)
+            Attempt::judge(found, limit, gain)
         }
     }
 }
@@ -57,7 +60,7 @@ impl<T: Drop> Handle<T> {
     // By one read and at most so many raises.
     pub(crate) fn try_clone(&self, raises: u8) -> Result<Handle<T>, AllocError>
         requires { self.now.sole ≡ false }
-        ensures { IfOk result (λ h. (h.value ≡ self.now.value) × (h.sole ≡ false)) }
+        ensures { IfOk result (λ h. (h.held ≡ self.now.held) × (h.sole ≡ false)) }
     {
         match self.first_attempt() {
             Attempt::Made(handle) => Ok(handle),
@@ -67,8 +70,9 @@ impl<T: Drop> Handle<T> {
     }
 
     fn raise_at_most(&self, raises: u8, mut seen: Seen) -> Result<Handle<T>, AllocError>
-        requires { self.now.sole ≡ false }
-        ensures { IfOk result (λ h. (h.value ≡ self.now.value) × (h.sole ≡ false)) }
+        requires shared { self.now.sole ≡ false }
+        requires limit { seen.limit ≡ self.now.held.limit }
+        ensures { IfOk result (λ h. (h.held ≡ self.now.held) × (h.sole ≡ false)) }
     {
         for _ in 0..raises {
             seen = match self.next_attempt(seen) {
@@ -83,7 +87,7 @@ impl<T: Drop> Handle<T> {
     // By as many raises as it takes.
     pub(crate) fn clone_unless_full(&self, rt: &impl Wait) -> Result<Handle<T>, Full>
         requires { self.now.sole ≡ false }
-        ensures { IfOk result (λ h. (h.value ≡ self.now.value) × (h.sole ≡ false)) }
+        ensures { IfOk result (λ h. (h.held ≡ self.now.held) × (h.sole ≡ false)) }
     {
         let seen = match self.first_attempt() {
             Attempt::Made(handle) => return Ok(handle),
@@ -98,8 +102,9 @@ impl<T: Drop> Handle<T> {
     }
 
     fn raise_unless_full(&self, mut seen: Seen, rt: &impl Wait) -> Result<Handle<T>, Full>
-        requires { self.now.sole ≡ false }
-        ensures { IfOk result (λ h. (h.value ≡ self.now.value) × (h.sole ≡ false)) }
+        requires shared { self.now.sole ≡ false }
+        requires limit { seen.limit ≡ self.now.held.limit }
+        ensures { IfOk result (λ h. (h.held ≡ self.now.held) × (h.sole ≡ false)) }
     {
         for _ in rt.forever() {
             seen = match self.next_attempt(seen) {
@@ -117,11 +122,13 @@ impl<T> Attempt<T> {
 
     // By the word that was read.
     #[inline]
-    fn judge(word: u64, gain: Gain<T>) -> Attempt<T>
-        requires { gain.right ≡ right_by_read word }
-        ensures { IsAttempt gain.value word result }
+    fn judge(word: u64, limit: Limit, gain: Gain<T>) -> Attempt<T>
+        requires right { gain.right ≡ right_by_read word }
+        requires limit { limit ≡ gain.held.limit }
+        requires within { IsWithin word limit.count }
+        ensures { IsAttempt gain.held word result }
     {
-        match plan_clone(word) {
+        match plan_clone(word, limit.count) {
             ClonePlan::Static => Attempt::Made(gain.into_handle()),
             ClonePlan::Full => {
                 gain.end();
@@ -130,7 +137,7 @@ impl<T> Attempt<T> {
             // The word that the plan names is `word + 1`, which `raise` stores.
             ClonePlan::Raise(_) => {
                 gain.end();
-                Attempt::Lost(Seen { word })
+                Attempt::Lost(Seen { word, limit })
             }
         }
     }

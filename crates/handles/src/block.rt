@@ -1,13 +1,15 @@
 // The block of an `Arc`, and each step that is made on it through a raw pointer.
 ghost use Rattle.std.specs.Prelude.{◌≡◌, ◌<◌, Bool, true, false, IfOk, IfErr};
 ghost use types.Logic.{sem};
-ghost use Rattle.counting_word.specs.CountingWord.{greatest_count, is_one_handle};
+ghost use Rattle.counting_word.specs.CountingWord.{is_one_handle, IsWithin};
 ghost use Rattle.std_alloc.specs.Box.Ownership.{box_owns};
 ghost use Rattle.handles.specs.Blocks.{handle_owns, handle_shares, gain_owns};
+ghost use Rattle.handles.specs.declared.block.Held.{Held};
 ghost use Rattle.handles.specs.Rights.{Right, nothing, a_handle, to_lower, whole_block, coded_right, right_by_read, right_by_raise, right_by_last_read, right_by_lower, IsWholeBlock};
 
 mod lend;
 
+use crate::limit::Limit;
 use atomic_table::exchange;
 use counting_word::{DropPlan, MARK, is_last, plan_drop};
 use std::alloc::{AllocFailed, Allocator, Global};
@@ -21,14 +23,23 @@ pub(crate) struct Block<T> {
     pub(crate) word: u64,
     // Changed by `Arc::ptr_eq` alone.
     pub(crate) stamp: u64,
-    pub(crate) value: T,
+    pub(crate) held: Held<T>,
     pub(crate) alloc: Global,
+}
+
+// What every handle of a block may read without an atomic step.
+#[derive(Drop)]
+pub(crate) struct Held<T> {
+    // Written once, when the block is made.
+    pub(crate) limit: Limit,
+    pub(crate) value: T,
 }
 
 impl<T: Drop> Block<T> {
     // A block with one handle, or the value where there is no memory.
-    pub(crate) fn boxed(alloc: Global, value: T) -> Result<Box<Block<T>>, T>
-        ensures made { IfOk result (λ b. (b.value.word ≡ 1) × (b.value.value ≡ value)) }
+    pub(crate) fn boxed(alloc: Global, value: T, limit: Limit) -> Result<Box<Block<T>>, T>
+        ensures made { IfOk result (λ b. (b.value.word ≡ 1) × (b.value.held.value ≡ value)) }
+        ensures limit { IfOk result (λ b. b.value.held.limit ≡ limit) }
         ensures refused { IfErr result (λ x. x ≡ value) }
     {
         match Box::new(
@@ -36,7 +47,7 @@ impl<T: Drop> Block<T> {
             Block {
                 word: 1,
                 stamp: 0,
-                value,
+                held: Held { limit, value },
                 alloc,
             },
         ) {
@@ -45,9 +56,10 @@ impl<T: Drop> Block<T> {
                 let Block {
                     word: _,
                     stamp: _,
-                    value,
+                    held,
                     alloc: _,
                 } = block;
+                let Held { limit: _, value } = held;
                 Err(value)
             }
         }
@@ -96,32 +108,32 @@ impl<T, A: Allocator> Loose<T, A> {
 // A counted handle of a block.
 pub(crate) struct Handle<T> {
     block: *const Block<T>,
-    pub(crate) ghost value: { T },
+    pub(crate) ghost held: { Held T },
     // Known to be the only handle of its block.
     pub(crate) ghost sole: { Bool },
 }
 
 impl<T> Model for Handle<T> {
-    ghost also_owns = { λ h. handle_owns T.row h.block h.value h.sole };
+    ghost also_owns = { λ h. handle_owns T.row h.block h.held h.sole };
 
-    ghost also_shares = { λ h _ κ. handle_shares T.row h.block h.value h.sole κ };
+    ghost also_shares = { λ h _ κ. handle_shares T.row h.block h.held h.sole κ };
 }
 
 // What a step on a word left its caller with.
 pub(crate) struct Gain<T> {
     block: *const Block<T>,
-    pub(crate) ghost value: { T },
+    pub(crate) ghost held: { Held T },
     pub(crate) ghost right: { Right } by { coded_right },
 }
 
 impl<T> Model for Gain<T> {
-    ghost also_owns = { λ g. gain_owns T.row g.block g.value g.right };
+    ghost also_owns = { λ g. gain_owns T.row g.block g.held g.right };
 }
 
 impl<T> Handle<T> {
     pub(crate) fn sole(block: Loose<Block<T>, Global>) -> Handle<T>
         requires { block.value.word ≡ 1 }
-        ensures value { result.value ≡ block.value.value }
+        ensures held { result.held ≡ block.value.held }
         ensures sole { result.sole ≡ true }
     {
         let Loose { at, alloc: _ } = block;
@@ -129,11 +141,25 @@ impl<T> Handle<T> {
     }
 
     #[inline]
-    pub(crate) fn value(&self) -> &T
-        ensures { result.now ≡ self.now.value }
+    fn held(&self) -> &Held<T>
+        ensures { result.now ≡ self.now.held }
     {
         let block = self.block;
-        unsafe { &(*block).value }
+        unsafe { &(*block).held }
+    }
+
+    #[inline]
+    pub(crate) fn value(&self) -> &T
+        ensures { result.now ≡ self.now.held.value }
+    {
+        &self.held().value
+    }
+
+    #[inline]
+    pub(crate) fn limit(&self) -> Limit
+        ensures { result ≡ self.now.held.limit }
+    {
+        self.held().limit
     }
 
     // What the word is. It may change at once.
@@ -158,7 +184,8 @@ impl<T> Handle<T> {
     pub(crate) fn read(&self) -> (u64, Gain<T>)
         requires { self.now.sole ≡ false }
         ensures right { result.1.right ≡ right_by_read result.0 }
-        ensures value { result.1.value ≡ self.now.value }
+        ensures held { result.1.held ≡ self.now.held }
+        ensures within { IsWithin result.0 self.now.held.limit.count }
     {
         let block = self.block;
         let word = unsafe { raw::load::<Brand>(&raw const (*block).word, SeqCst) };
@@ -168,9 +195,10 @@ impl<T> Handle<T> {
     #[inline]
     pub(crate) fn raise(&self, seen: u64) -> (u64, Gain<T>)
         requires shared { self.now.sole ≡ false }
-        requires room { seen < greatest_count }
+        requires room { seen < self.now.held.limit.count }
         ensures right { result.1.right ≡ right_by_raise seen result.0 }
-        ensures value { result.1.value ≡ self.now.value }
+        ensures held { result.1.held ≡ self.now.held }
+        ensures within { IsWithin result.0 self.now.held.limit.count }
     {
         let block = self.block;
         let found = unsafe { exchange::<Brand>(&raw const (*block).word, seen, seen + 1) };
@@ -202,17 +230,28 @@ impl<T> Handle<T> {
 
     // From now on others may come.
     pub(crate) fn into_shared(self) -> Handle<T>
-        ensures value { result.value ≡ self.value }
+        ensures held { result.held ≡ self.held }
         ensures sole { result.sole ≡ false }
     {
         let Handle { block } = self;
         Handle { block }
     }
 
+    // The block of the only handle.
+    #[inline]
+    fn into_gain(self) -> Gain<T>
+        requires { self.sole ≡ true }
+        ensures right { result.right ≡ whole_block 1 }
+        ensures held { result.held ≡ self.held }
+    {
+        let Handle { block } = self;
+        Gain { block }
+    }
+
     #[inline]
     pub(crate) fn leave(self) -> (u64, Gain<T>)
         ensures right { result.1.right ≡ right_by_last_read result.0 }
-        ensures value { result.1.value ≡ self.value }
+        ensures held { result.1.held ≡ self.held }
     {
         let Handle { block } = self;
         let word = unsafe { raw::load::<Brand>(&raw const (*block).word, SeqCst) };
@@ -221,16 +260,25 @@ impl<T> Handle<T> {
 }
 
 impl<T> Handle<T> {
-    ghost use Rattle.handles.specs.BlockWriteBack.{LendsSole};
+    ghost use Rattle.handles.specs.BlockWriteBack.{LendsHeld, LendsSole};
+
+    #[inline]
+    fn held_mut(&mut self) -> &mut Held<T>
+        requires { self.old.sole ≡ true }
+        ensures* writes_back { sem 𝓛 (LendsHeld T.row self.entry result) }
+        ensures held { result.now ≡ self.old.held }
+    {
+        let block = self.block;
+        unsafe { &mut (*block.cast_mut()).held }
+    }
 
     #[inline]
     pub(crate) fn value_mut(&mut self) -> &mut T
         requires { self.old.sole ≡ true }
         ensures* writes_back { sem 𝓛 (LendsSole T.row self.entry result) }
-        ensures value { result.now ≡ self.old.value }
+        ensures value { result.now ≡ self.old.held.value }
     {
-        let block = self.block;
-        unsafe { &mut (*block.cast_mut()).value }
+        &mut self.held_mut().value
     }
 }
 
@@ -245,7 +293,7 @@ impl<T> Gain<T> {
     #[inline]
     pub(crate) fn into_handle(self) -> Handle<T>
         requires { self.right ≡ a_handle }
-        ensures value { result.value ≡ self.value }
+        ensures held { result.held ≡ self.held }
         ensures sole { result.sole ≡ false }
     {
         let Gain { block } = self;
@@ -256,7 +304,7 @@ impl<T> Gain<T> {
     pub(crate) fn lower(self) -> (u64, Gain<T>)
         requires { self.right ≡ to_lower }
         ensures right { result.1.right ≡ right_by_lower result.0 }
-        ensures value { result.1.value ≡ self.value }
+        ensures held { result.1.held ≡ self.held }
     {
         let Gain { block } = self;
         let found = unsafe { raw::fetch_sub::<Brand>(&raw const (*block).word, 1, SeqCst) };
@@ -265,7 +313,7 @@ impl<T> Gain<T> {
 
     pub(crate) fn into_loose(self) -> Loose<Block<T>, Global>
         requires { IsWholeBlock self.right }
-        ensures value { result.value.value ≡ self.value }
+        ensures held { result.value.held ≡ self.held }
         ensures right { self.right ≡ whole_block result.value.word }
     {
         let Gain { block } = self;

@@ -27,7 +27,7 @@ impl<'a, T: Send + Sync> ArcBorrow<'a, T> {
 
     /// The value, for as long as the handle is borrowed.
     pub fn get(&self) -> &'a T
-        ensures { result.now ≡ (borrowed self.now).value }
+        ensures { result.now ≡ borrowed self.now }
     {
         self.0
     }
@@ -36,7 +36,7 @@ impl<'a, T: Send + Sync> ArcBorrow<'a, T> {
     pub fn clone_arc(&self, rt: &impl Wait) -> Result<Arc<T>, Full>
     where
         T: Drop,
-        ensures { IfOk result (λ a. a.value ≡ (borrowed self.now).value) }
+        ensures { IfOk result (λ a. a ≡ borrowed self.now) }
     {
         Arc::clone(self.0, rt)
     }
@@ -60,10 +60,10 @@ impl<T: Send + Sync> Deref for ArcBorrow<'_, T> {
 
     ghost use Rattle.handles.specs.Borrowed.{borrowed};
 
-    ghost deref_gives = { λ b x. x ≡ (borrowed b).value };
+    ghost deref_gives = { λ b x. x ≡ borrowed b };
 
     fn deref(&self) -> &T
-        ensures { result.now ≡ (borrowed self.now).value }
+        ensures { result.now ≡ borrowed self.now }
     {
         self.0
     }
@@ -74,9 +74,9 @@ impl<T: Send + Sync + PartialEq> PartialEq for ArcBorrow<'_, T> {
     ghost use Rattle.std.specs.Cmp.{on_per};
     ghost use Rattle.handles.specs.Borrowed.{borrowed};
 
-    ghost eq = { λ x y. T.eq (borrowed x).value (borrowed y).value };
+    ghost eq = { λ x y. T.eq (borrowed x) (borrowed y) };
 
-    ghost laws = { on_per (λ b. (borrowed b).value) T.laws };
+    ghost laws = { on_per borrowed T.laws };
 
     fn eq(&self, other: &Self) -> bool {
         **self == **other
@@ -87,5 +87,5 @@ impl<T: Send + Sync + Eq> Eq for ArcBorrow<'_, T> {
     ghost use Rattle.std.specs.Cmp.{on_equiv};
     ghost use Rattle.handles.specs.Borrowed.{borrowed};
 
-    ghost laws = { on_equiv (λ b. (borrowed b).value) T.Eq.laws };
+    ghost laws = { on_equiv borrowed T.Eq.laws };
 }

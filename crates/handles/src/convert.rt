@@ -9,7 +9,7 @@ impl<T: Send + Sync + Drop> Arc<T> {
     pub fn try_default(alloc: Global) -> Result<Arc<T>, T>
     where
         T: Default,
-        ensures made { IfOk result (λ a. T.is_default a.value) }
+        ensures made { IfOk result T.is_default }
         ensures refused { IfErr result T.is_default }
     {
         Arc::new(alloc, T::default())
@@ -17,7 +17,7 @@ impl<T: Send + Sync + Drop> Arc<T> {
 
     /// The same as `new`.
     pub fn from_value(alloc: Global, value: T) -> Result<Arc<T>, T>
-        ensures made { IfOk result (λ a. a.value ≡ value) }
+        ensures made { IfOk result (λ a. a ≡ value) }
         ensures refused { IfErr result (λ x. x ≡ value) }
     {
         Arc::new(alloc, value)

@@ -12,7 +12,7 @@ impl<T: Send + Sync> Arc<T> {
     #[inline]
     pub fn get_mut(this: &mut Arc<T>) -> Option<&mut T>
         ensures* writes_back { sem 𝓛 (LendsIfAlone T.row this.entry result) }
-        ensures value { IfSome result (λ x. x.now ≡ this.old.value) }
+        ensures value { IfSome result (λ x. x.now ≡ this.old) }
     {
         this.handle.get_mut()
     }
@@ -26,7 +26,7 @@ impl<T: Send + Sync> Arc<T> {
     where
         T: Clone + Drop,
         ensures* writes_back { sem 𝓛 (LendsOwn T.row this.entry result) }
-        ensures value { IfOk result (λ x. (x.now ≡ this.old.value) ⊎ T.is_clone this.old.value x.now) }
+        ensures value { IfOk result (λ x. (x.now ≡ this.old) ⊎ T.is_clone this.old x.now) }
     {
         this.handle.make_sole(alloc)?;
         Ok(this.handle.value_mut())

@@ -10,6 +10,7 @@ mod compare;
 mod convert;
 mod copy_on_write;
 pub mod header_slice;
+mod limit;
 mod same_block;
 pub mod unique;
 

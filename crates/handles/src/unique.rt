@@ -3,7 +3,8 @@ ghost use Rattle.std.specs.Prelude.{◌≡◌, IfOk, IfErr};
 ghost use types.Logic.{sem};
 
 use crate::arc::Arc;
-use crate::block::{Block, Handle, Loose};
+use crate::block::{Block, Handle, Held, Loose};
+use crate::limit::Limit;
 use std::alloc::{AllocError, Global};
 use std::marker::Model;
 use std::ops::{Deref, DerefMut};
@@ -17,11 +18,10 @@ pub struct UniqueArc<T: Send + Sync> {
 
 impl<T: Send + Sync> Model for UniqueArc<T> {
     ghost use Rattle.std.specs.Prelude.{◌≡◌};
-    ghost use Rattle.handles.specs.Shows.{Shows};
 
-    ghost Value = { Shows T };
+    ghost Value = { T };
 
-    ghost view = { λ u. record { value = u.block.value.value } };
+    ghost view = { λ u. u.block.value.held.value };
 
     ghost invariant = { λ u. u.block.value.word ≡ 1 };
 }
@@ -29,45 +29,67 @@ impl<T: Send + Sync> Model for UniqueArc<T> {
 impl<T: Send + Sync + Drop> UniqueArc<T> {
     /// The only handle of a new block. One request for memory; the value comes back where it is refused.
     pub fn new(alloc: Global, value: T) -> Result<UniqueArc<T>, T>
-        ensures made { IfOk result (λ u. u.value ≡ value) }
+        ensures made { IfOk result (λ u. u ≡ value) }
+        ensures refused { IfErr result (λ x. x ≡ value) }
+    {
+        UniqueArc::with_limit(alloc, value, Limit::GREATEST)
+    }
+
+    pub(crate) fn with_limit(alloc: Global, value: T, limit: Limit) -> Result<UniqueArc<T>, T>
+        ensures made { IfOk result (λ u. u ≡ value) }
         ensures refused { IfErr result (λ x. x ≡ value) }
     {
         Ok(UniqueArc {
-            block: Block::boxed(alloc, value)?,
+            block: Block::boxed(alloc, value, limit)?,
         })
     }
 
     /// The handle, to share. Takes no memory: the block stays where it is.
     pub fn shareable(self) -> Arc<T>
-        ensures { result.value ≡ self.value }
+        ensures { result ≡ self }
     {
         let UniqueArc { block } = self;
         Arc::of(Handle::sole(Loose::of(block)).into_shared())
     }
 }
 
+impl<T: Send + Sync + Drop> Arc<T> {
+    /// The handle, to write to, if it is the only one of an unmarked block; else it comes back as it was.
+    ///
+    /// It asks as `get_mut` does, by one read of the count. Takes no memory: the block stays where it is.
+    pub fn into_unique(this: Arc<T>) -> Result<UniqueArc<T>, Arc<T>>
+        ensures alone { IfOk result (λ u. u ≡ this) }
+        ensures shared { IfErr result (λ a. a ≡ this) }
+    {
+        match this.handle.into_block() {
+            Ok(block) => Ok(UniqueArc { block }),
+            Err(handle) => Err(Arc::of(handle)),
+        }
+    }
+}
+
 impl<T: Send + Sync> Deref for UniqueArc<T> {
     type Target = T;
 
-    ghost deref_gives = { λ u x. x ≡ u.value };
+    ghost deref_gives = { λ u x. x ≡ u };
 
     fn deref(&self) -> &T
-        ensures { result.now ≡ self.now.value }
+        ensures { result.now ≡ self.now }
     {
-        &self.block.value
+        &self.block.held.value
     }
 }
 
 impl<T: Send + Sync> DerefMut for UniqueArc<T> {
     ghost use Rattle.handles.specs.WriteBack.{LendsUnique};
 
-    ghost deref_mut_gives = { λ u x. x ≡ u.value };
+    ghost deref_mut_gives = { λ u x. x ≡ u };
 
     fn deref_mut(&mut self) -> &mut T
         ensures* writes_back { sem 𝓛 (LendsUnique T.row self.entry result) }
-        ensures value { result.now ≡ self.old.value }
+        ensures value { result.now ≡ self.old }
     {
-        &mut self.block.value
+        &mut self.block.held.value
     }
 }
 
@@ -90,13 +112,16 @@ impl<T: Send + Sync> UniqueArc<T> {
 impl<T: Send + Sync + Drop> UninitArc<T> {
     /// Writes the value to the block. Takes no memory.
     pub fn write(self, value: T) -> UniqueArc<T>
-        ensures { result.value ≡ value }
+        ensures { result ≡ value }
     {
         let UninitArc { room, alloc } = self;
         let block = Block {
             word: 1,
             stamp: 0,
-            value,
+            held: Held {
+                limit: Limit::GREATEST,
+                value,
+            },
             alloc,
         };
         UniqueArc {

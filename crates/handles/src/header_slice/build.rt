@@ -1,7 +1,7 @@
 // How a header slice takes its items from an iterator.
 ghost use Rattle.std.specs.Prelude.{◌≡◌, [], IfOk, IfErr};
 ghost use Rattle.handles.specs.HeaderSlice.Pulls.{GivesRight};
-ghost use Rattle.handles.specs.HeaderSlice.Builders.{Refuses, IsBuilt};
+ghost use Rattle.handles.specs.HeaderSlice.Builders.{IsBuiltUpTo, RefusesUpTo};
 ghost use Rattle.handles.specs.declared.header_slice.build.BuildError.TheVariants.{Memory};
 
 use super::HeaderSlice;
@@ -36,12 +36,12 @@ impl From<AllocError> for BuildError {
 pub(super) fn build<H: Send + Sync + Drop, T: Send + Sync + Drop, I: Iterator<Item = T>>(
     alloc: Global,
     header: H,
-    source: I,
+    source: &mut I,
     number: usize,
 ) -> Result<UniqueArc<HeaderSlice<H, T>>, BuildError>
-    requires { I.can_next source }
-    ensures built { IfOk result (λ u. IsBuilt I.next_gives source number header u.value) }
-    ensures refused { IfErr result (Refuses I.next_gives source number) }
+    requires { I.can_next source.old }
+    ensures built { IfOk result (IsBuiltUpTo I.next_gives source.old number source.new header) }
+    ensures refused { IfErr result (RefusesUpTo I.next_gives source.old number source.new) }
 {
     let items = Items::with_room(alloc, number)?;
     let block = UniqueArc::new_uninit(alloc)?;
@@ -53,14 +53,14 @@ impl<T: Drop> Items<T> {
     // Asks until every place is filled and then once more, or until `None`.
     fn take_all<I: Iterator<Item = T>>(
         mut self,
-        mut source: I,
+        source: &mut I,
         number: usize,
     ) -> Result<Items<T>, BuildError>
-        requires can_next { I.can_next source }
+        requires can_next { I.can_next source.old }
         requires empty { self.items ≡ [] }
         requires room { self.room ≡ number }
-        ensures taken { IfOk result (λ i. GivesRight I.next_gives source number i.items) }
-        ensures refused { IfErr result (Refuses I.next_gives source number) }
+        ensures taken { IfOk result (λ i. GivesRight I.next_gives source.old number source.new i.items) }
+        ensures refused { IfErr result (RefusesUpTo I.next_gives source.old number source.new) }
     {
         while self.len() < number {
             match source.next() {

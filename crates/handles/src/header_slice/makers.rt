@@ -2,7 +2,7 @@
 ghost use Rattle.std.specs.Prelude.{◌≡◌, IfOk, IfErr};
 ghost use Rattle.std.specs.Iterator.{size};
 ghost use Rattle.std.specs.Borrow.{sem};
-ghost use Rattle.handles.specs.HeaderSlice.Builders.{Refuses, IsBuilt};
+ghost use Rattle.handles.specs.HeaderSlice.Builders.{IsBuilt, Refuses, RefusesRun, TakesAll};
 
 use super::HeaderSlice;
 use super::build::{BuildError, build};
@@ -19,8 +19,10 @@ impl<H: Send + Sync + Drop, T: Send + Sync + Drop> Arc<HeaderSlice<H, T>> {
         items: I,
     ) -> Result<Arc<HeaderSlice<H, T>>, BuildError>
         requires { I.can_next items }
-        ensures built { IfOk result (λ a. IsBuilt I.next_gives items (size (I.remaining items)) header a.value) }
+        ensures built { IfOk result (IsBuilt I.next_gives items (size (I.remaining items)) header) }
         ensures refused { IfErr result (Refuses I.next_gives items (size (I.remaining items))) }
+        ensures runs { IfOk result (TakesAll I.next_gives items) }
+        ensures refused_runs { IfErr result (RefusesRun I.next_gives items (size (I.remaining items))) }
     {
         let num_items = items.len();
         Arc::from_header_and_iter_with_size(alloc, header, items, num_items)
@@ -37,10 +39,12 @@ impl<H: Send + Sync + Drop, T: Send + Sync + Drop> Arc<HeaderSlice<H, T>> {
         num_items: usize,
     ) -> Result<Arc<HeaderSlice<H, T>>, BuildError>
         requires { I.can_next items }
-        ensures built { IfOk result (λ a. IsBuilt I.next_gives items num_items header a.value) }
+        ensures built { IfOk result (IsBuilt I.next_gives items num_items header) }
         ensures refused { IfErr result (Refuses I.next_gives items num_items) }
+        ensures runs { IfOk result (TakesAll I.next_gives items) }
+        ensures refused_runs { IfErr result (RefusesRun I.next_gives items num_items) }
     {
-        Ok(build(alloc, header, items, num_items)?.shareable())
+        Ok(UniqueArc::from_header_and_iter_with_size(alloc, header, items, num_items)?.shareable())
     }
 
     /// As `from_header_and_iter_with_size`. With `is_static` the block is then marked: it is never given back, and its
@@ -53,8 +57,10 @@ impl<H: Send + Sync + Drop, T: Send + Sync + Drop> Arc<HeaderSlice<H, T>> {
         is_static: bool,
     ) -> Result<Arc<HeaderSlice<H, T>>, BuildError>
         requires { I.can_next items }
-        ensures built { IfOk result (λ a. IsBuilt I.next_gives items num_items header a.value) }
+        ensures built { IfOk result (IsBuilt I.next_gives items num_items header) }
         ensures refused { IfErr result (Refuses I.next_gives items num_items) }
+        ensures runs { IfOk result (TakesAll I.next_gives items) }
+        ensures refused_runs { IfErr result (RefusesRun I.next_gives items num_items) }
     {
         let slice = Arc::from_header_and_iter_with_size(alloc, header, items, num_items)?;
         if is_static {
@@ -72,8 +78,10 @@ impl<H: Send + Sync + Drop, T: Send + Sync + Drop> UniqueArc<HeaderSlice<H, T>> 
         items: I,
     ) -> Result<UniqueArc<HeaderSlice<H, T>>, BuildError>
         requires { I.can_next items }
-        ensures built { IfOk result (λ u. IsBuilt I.next_gives items (size (I.remaining items)) header u.value) }
+        ensures built { IfOk result (IsBuilt I.next_gives items (size (I.remaining items)) header) }
         ensures refused { IfErr result (Refuses I.next_gives items (size (I.remaining items))) }
+        ensures runs { IfOk result (TakesAll I.next_gives items) }
+        ensures refused_runs { IfErr result (RefusesRun I.next_gives items (size (I.remaining items))) }
     {
         let num_items = items.len();
         UniqueArc::from_header_and_iter_with_size(alloc, header, items, num_items)
@@ -86,14 +94,16 @@ impl<H: Send + Sync + Drop, T: Send + Sync + Drop> UniqueArc<HeaderSlice<H, T>> 
     pub fn from_header_and_iter_with_size<I: Iterator<Item = T>>(
         alloc: Global,
         header: H,
-        items: I,
+        mut items: I,
         num_items: usize,
     ) -> Result<UniqueArc<HeaderSlice<H, T>>, BuildError>
         requires { I.can_next items }
-        ensures built { IfOk result (λ u. IsBuilt I.next_gives items num_items header u.value) }
+        ensures built { IfOk result (IsBuilt I.next_gives items num_items header) }
         ensures refused { IfErr result (Refuses I.next_gives items num_items) }
+        ensures runs { IfOk result (TakesAll I.next_gives items) }
+        ensures refused_runs { IfErr result (RefusesRun I.next_gives items num_items) }
     {
-        build(alloc, header, items, num_items)
+        build(alloc, header, &mut items, num_items)
     }
 }
 
@@ -104,7 +114,7 @@ impl<H: Send + Sync, T: Send + Sync> UniqueArc<HeaderSlice<H, T>> {
     #[inline]
     pub fn header_mut(&mut self) -> &mut H
         ensures* writes_back { sem 𝓛 (LendsUniqueHeader H.row T.row self.entry result) }
-        ensures value { result.now ≡ self.old.value.header }
+        ensures value { result.now ≡ self.old.header }
     {
         let slice = self.deref_mut();
         &mut slice.header
@@ -114,7 +124,7 @@ impl<H: Send + Sync, T: Send + Sync> UniqueArc<HeaderSlice<H, T>> {
     #[inline]
     pub fn data_mut(&mut self) -> &mut [T]
         ensures* writes_back { sem 𝓛 (LendsUniqueItems H.row T.row self.entry result) }
-        ensures value { result.now ≡ self.old.value.items }
+        ensures value { result.now ≡ self.old.items }
     {
         self.deref_mut().slice_mut()
     }

@@ -10,7 +10,7 @@ use Rattle.handles.specs.contracts.block.Block as block_type
 use types.Run.{look}
 use borrow.Table.OneValue.{part_in, part_out}
 use Rattle.handles.specs.Rights.{Right, whole_block, IsWholeBlock}
-use Rattle.handles.specs.Blocks.{heap_offset, unshared_block, gain_owns}
+use Rattle.handles.specs.Blocks.{HeldRow, heap_offset, unshared_block, gain_owns}
 use Rattle.core.proofs.cell.Inside.{Good}
 use types.Kit.{group}
 use denote.Memory.{part_at}
@@ -27,7 +27,7 @@ into_loose_spec 𝓤 𝓛 𝓜 𝓡 wired T L =
     let H = 𝓛.H in let 𝓣 = tables 𝓤 H 𝓜 𝓡 𝓡.env in let R : RattleType = param 0 T in let En = ended T in let c = clauses T 𝓛 𝓜.mem 𝓡.returns in let inst = layouts (a_type ∷ []) (T, tt) in let fn = inst_fn inst code.function in
     let self = plain (λ _. GainRow R) in let hs : Stays En.signature.params En.kept = (stay_dropped self no, tt) in
     proved 𝓛 En hs c 𝓜 𝓡 (Goes-dropped 𝓛 1 self no (λ κs x f. refl), tt) (#self inst) fn (code.unfolded 𝓤 H 𝓜 𝓡 wired (T, tt)) (λ κs. ((λ s. one_word s.block ∷ []), tt)) (λ κs. ((λ s vs so. words_told (gain_type.the_type R).name (R ∷ []) s.block vs so.0), tt)) (λ κs qs bounds a gh are.
-    let κ : Lft = κs.0 in let q : Share = qs.0 in let p : Ptr = a.0.block in let x : T.Denot = a.0.value in let pb : ℕ = block_of p in let po : ℕ = offset_of p in
+    let κ : Lft = κs.0 in let q : Share = qs.0 in let p : Ptr = a.0.block in let x : (HeldRow R).Denot = a.0.held in let pb : ℕ = block_of p in let po : ℕ = offset_of p in
     let y : (walk_of 𝓛 En hs c).Ghost = ((κs, qs, bounds, a, (one_word p ∷ [], tt)), gh) in let Post : Val → SProp 𝓤 = (walk_of 𝓛 En hs c).post y in
     let Block : RattleType = block_type.the_row R in let there : Ptr = block_ptr pb po in
     qed 𝓛 (((‵ (flft κ q) ⊛ ‵ ftrue) ⊛ ‵ (owns (types_at En.signature.params κs) a y.0.4)) ∷ raw (fact 𝓤 _) ∷ raw (fact 𝓤 (IsWholeBlock a.0.right)) ∷ []) ∵
@@ -45,6 +45,6 @@ into_loose_spec 𝓤 𝓛 𝓜 𝓡 wired T L =
     move ! (1 ∷ []) $ use1 𝓛 (‵ (heap_row.own_val h (v ∷ [])) ⊛ ‵ (heap_row.own_val h (v ∷ []))) (heap_twice 𝓛 h (v ∷ [])) $ split ! $ move ! (2 ∷ 0 ∷ []) $
     use2 𝓛 (‵ (part_at heap_row full_share h pb (po + heap_offset R))) (part_in 𝓛 heap_row refl full_share h pb (po + heap_offset R) v) $ move ! (0 ∷ 2 ∷ 3 ∷ []) $ fjoin3 ! $ move ! (4 ∷ []) $ fpick ! (λ s.
     -- [the stamp; what frees; the allocator; the value; the word; the tokens]
-    move ! (4 ∷ 0 ∷ 3 ∷ 1 ∷ []) $ group ! 4 $ use1 𝓛 (‵ (Boxed T L 𝓛 pb po n s x h)) (box_shuts T L 𝓛 pb po n s x h) $ loose_shuts Block heap_row heap_laws ghosts ! pb po v h (record { word = n; stamp = s; value = x; alloc = h }) $
+    move ! (4 ∷ 0 ∷ 3 ∷ 1 ∷ []) $ group ! 4 $ use1 𝓛 (‵ (Boxed T L 𝓛 pb po n s x h)) (box_shuts T L 𝓛 pb po n s x h) $ loose_shuts Block heap_row heap_laws ghosts ! pb po v h (record { word = n; stamp = s; held = x; alloc = h }) $
     use0 𝓛 (raw (fact 𝓤 (a.0.right ≡ whole_block n))) (fact_i 𝓤 (a.0.right ≡ whole_block n) (emp 𝓤) is_whole) $ use0 𝓛 (raw (fact 𝓤 (x ≡ x))) (fact_i 𝓤 (x ≡ x) (emp 𝓤) refl) $ join ! $ nothing_more ! $ nothing_more ! $ fjoin ! $
-    returns ! (look_at ! 0 refl) $ free_all ! refl $ keep ! (3 ∷ 0 ∷ 2 ∷ 1 ∷ []) $ by ! (leaves 𝓛 En hs c y (pair_val (vptr pb po) v) (record { at = there; alloc = h; value = record { word = n; stamp = s; value = x; alloc = h } }) (tt, tt) (tt, tt))))))))))
+    returns ! (look_at ! 0 refl) $ free_all ! refl $ keep ! (3 ∷ 0 ∷ 2 ∷ 1 ∷ []) $ by ! (leaves 𝓛 En hs c y (pair_val (vptr pb po) v) (record { at = there; alloc = h; value = record { word = n; stamp = s; held = x; alloc = h } }) (tt, tt) (tt, tt))))))))))

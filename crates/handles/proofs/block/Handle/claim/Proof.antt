@@ -12,7 +12,7 @@ use denote.Triple.Walked.{Goes-ref, stay_ref}
 use Rattle.atomic_table.proofs.Calls.{loads}
 use Rattle.counting_word.specs.CountingWord.{is_one_handle}
 use Rattle.handles.specs.Rights.{right_by_claim}
-use Rattle.handles.specs.Blocks.{stamp, value_and_block, block_rule, gain_owns, counted_handle, owned_as, handle_owns}
+use Rattle.handles.specs.Blocks.{HeldRow, stamp, held_and_block, block_rule, gain_owns, counted_handle, owned_as, handle_owns}
 use Rattle.handles.proofs.Steps as steps
 use Rattle.handles.proofs.Fields.{gain_shown, claim_tells}
 use Rattle.handles.proofs.Owners.{forgets, handle_settles}
@@ -27,7 +27,7 @@ claim_spec 𝓤 𝓛 𝓜 𝓡 wired T L =
     let H = 𝓛.H in let 𝓣 = tables 𝓤 H 𝓜 𝓡 𝓡.env in let R : RattleType = param 0 T in let En = ended T in let c = clauses T 𝓛 𝓜.mem 𝓡.returns in let inst = layouts (a_type ∷ []) (T, tt) in let fn = inst_fn inst code.function in
     let Self : RattleType = HandleRow R in let D : RattleType = HandleWords R in let row = plain (λ _. Self) in let hs : Stays En.signature.params En.kept = (stay_ref (0 ∷ []) tt row, tt) in
     proved 𝓛 En hs c 𝓜 𝓡 (Goes-ref 𝓛 2 0 tt row, tt) (#self inst) fn (code.unfolded 𝓤 H 𝓜 𝓡 wired (T, tt)) (λ κs. (mut_vals, tt)) (λ κs. (mut_Tells (named 0) κs.0 Self, tt)) (λ κs qs bounds a gh are.
-    let b : ℕ = a.0.ref_ptr.0 in let o : ℕ = a.0.ref_ptr.1 in let κ : Lft = κs.0 in let q : Share = qs.0 in let μ : Lft = κs.1.0 in let r : Share = qs.1.0 in let me : Self.Denot = a.0.now in let p : Ptr = me.block in let x : T.Denot = me.value in let γ : GName = a.0.ghost_name in
+    let b : ℕ = a.0.ref_ptr.0 in let o : ℕ = a.0.ref_ptr.1 in let κ : Lft = κs.0 in let q : Share = qs.0 in let μ : Lft = κs.1.0 in let r : Share = qs.1.0 in let me : Self.Denot = a.0.now in let p : Ptr = me.block in let x : (HeldRow R).Denot = me.held in let γ : GName = a.0.ghost_name in
     let pb : ℕ = block_of p in let po : ℕ = offset_of p in
     let y : (walk_of 𝓛 En hs c).Ghost = ((κs, qs, bounds, a, (vptr b o ∷ [], tt)), gh) in let Post : Val → SProp 𝓤 = (walk_of 𝓛 En hs c).post y in
     qed 𝓛 (((‵ (flft κ q) ⊛ ‵ (flft μ r) ⊛ ‵ ftrue) ⊛ ‵ (owns (types_at En.signature.params κs) a y.0.4)) ∷ raw (fact 𝓤 (μ ⊑ T.lives)) ∷ ‵ ftrue ∷ []) ∵
@@ -40,12 +40,12 @@ claim_spec 𝓤 𝓛 𝓜 𝓡 wired T L =
     -- [what it owns; its cell; the open borrow; its two names; its place; nothing; the token of T; nothing]
     use1 𝓛 (‵ (owned_as R p x false)) (forgets R (param_laws 0 T L) 𝓛 p x me.sole) $ move ! (0 ∷ 7 ∷ []) $
     use2 𝓛 (later (‵ (counted_handle R p x) ⊛ ‵ (flft μ r))) (handle_settles R (param_laws 0 T L) 𝓛 p x μ lives μ r (Incl-refl μ)) $ await ! tt $ split ! $ fpick ! (λ i. fsplit3 ! $
-    let I : Fml = block_rule R p x i in let aft : ℕ → Fml = steps.after_claim 𝓛 (value_and_block R p x) (stamp p) pb (po + 0) i in
+    let I : Fml = block_rule R p x i in let aft : ℕ → Fml = steps.after_claim 𝓛 (held_and_block R p x) (stamp p) x.limit.count pb (po + 0) i in
     sets ! (of_opd ! (load ! (through ! refl (fld ! refl (stop !))) (look_in ! 4 (sub ! 0 refl (whole !))))) refl (tt, tt) $
     first ! $ blocks ! $ sets ! (addr ! (through ! refl (fld ! refl (stop !)))) refl (tt, tt) $ move ! (1 ∷ []) $ use1 𝓛 (‵ (finv I) ⊛ ‵ (finv I)) (𝓛.invs.inv_dup I) $ split ! $ move ! (0 ∷ 2 ∷ []) $
-    use2 𝓛 (raw (𝓣.C _ (vptr pb (po + 0) ∷ seq_cst ∷ []) (λ u. mean 𝓛 (found aft u)))) (via 𝓤 _ (steps.claims 𝓛 (value_and_block R p x) (stamp p) pb (po + 0) i) (loads 𝓛 𝓜 𝓡 (code.calls-core::raw_atomic::load 𝓡.env wired) (block_ptr pb (po + 0)) aft)) $
+    use2 𝓛 (raw (𝓣.C _ (vptr pb (po + 0) ∷ seq_cst ∷ []) (λ u. mean 𝓛 (found aft u)))) (via 𝓤 _ (steps.claims 𝓛 (held_and_block R p x) (stamp p) x.limit.count pb (po + 0) i) (loads 𝓛 𝓜 𝓡 (code.calls-core::raw_atomic::load 𝓡.env wired) (block_ptr pb (po + 0)) aft)) $
     sets ! (agg ! (and_then ! (lit ! tt) (no_more !))) refl (tt, (record { fits = lit< tt }, tt)) $
-    Calls-last ! (fm 𝓛 𝓜 𝓡) (found aft) (and_then ! (get ! refl) (and_then ! (get ! refl) (no_more !))) (λ u. finds ! aft (λ n fits. let told : Self.Denot = record { block = p; value = x; sole = is_one_handle n } in
+    Calls-last ! (fm 𝓛 𝓜 𝓡) (found aft) (and_then ! (get ! refl) (and_then ! (get ! refl) (no_more !))) (λ u. finds ! aft (λ n fits. let told : Self.Denot = record { block = p; held = x; sole = is_one_handle n } in
     lands_last ! refl (tt, record { fits = fits }) $ exec ! 𝓣.C 𝓣.Λ Ev (after 2 fn.body) (at_ret Ev Post) $ sets ! (of_opd ! (get ! refl)) refl (tt, record { fits = fits }) $
     use3 𝓛 (later (‵ (gain_owns R p x (right_by_claim n)))) (gain_shown 𝓛 R p x inb i (right_by_claim n)) $ await ! tt $ use1 𝓛 (‵ (handle_owns R p x (is_one_handle n))) (claim_tells 𝓛 R p x (is_one_handle n)) $
     -- [what is gained; the token of T; the cell; the open borrow; its two names; its place; nothing; nothing]

@@ -6,7 +6,7 @@ use Rattle.std.specs.contracts.impls.GlobalAllocator.TheImpl.{ghosts}
 use Rattle.core.proofs.alloc.Calls.{Goes-blank}
 use Rattle.handles.proofs.LooseBoxes.{pair_val, LooseRow, loose-Good, loose_opens}
 use Rattle.handles.specs.contracts.block.Block as block_type
-use Rattle.handles.specs.Blocks.{unshared_block}
+use Rattle.handles.specs.Blocks.{HeldRow, unshared_block}
 use Rattle.handles.proofs.Boxes.{box_opens}
 use Rattle.handles.specs.contracts.block.Handle as handle_type
 use Rattle.handles.specs.contracts.block.Handle.sole.{ended, clauses}
@@ -19,7 +19,7 @@ sole_spec 𝓤 𝓛 𝓜 𝓡 wired T L =
     let H = 𝓛.H in let 𝓣 = tables 𝓤 H 𝓜 𝓡 𝓡.env in let R : RattleType = param 0 T in let En = ended T in let c = clauses T 𝓛 𝓜.mem 𝓡.returns in let inst = layouts (a_type ∷ []) (T, tt) in let fn = inst_fn inst code.function in
     let Loose : RattleType = LooseRow (block_type.the_row R) heap_row heap_laws ghosts in let boxed = plain (λ _. Loose) in let hs : Stays En.signature.params En.kept = (stay_dropped boxed no, tt) in
     proved_at 𝓛 En hs c 𝓜 𝓡 (Goes-blank 𝓛 1 boxed no (λ κs x f. tt), tt) (#self inst) fn (code.unfolded 𝓤 H 𝓜 𝓡 wired (T, tt)) (λ z are.
-    let κs = z.0.0 in let d : Loose.Denot = z.0.3.0 in let Post : Val → SProp 𝓤 = (walk_of 𝓛 En hs c).post z in let Run : List Val → SProp 𝓤 = λ ws. WpFn 𝓤 H 𝓣.C 𝓣.Λ fn ws Post in let x : T.Denot = d.value.value in
+    let κs = z.0.0 in let d : Loose.Denot = z.0.3.0 in let Post : Val → SProp 𝓤 = (walk_of 𝓛 En hs c).post z in let Run : List Val → SProp 𝓤 = λ ws. WpFn 𝓤 H 𝓣.C 𝓣.Λ fn ws Post in let x : (HeldRow R).Denot = d.value.held in
     qed 𝓛 (((‵ (flft κs.0 z.0.1.0) ⊛ ‵ ftrue) ⊛ ‵ (owns (types_at En.signature.params κs) z.0.3 z.0.4)) ∷ raw (fact 𝓤 _) ∷ raw (fact 𝓤 (d.value.word ≡ 1)) ∷ []) ∵
     keep ! (2 ∷ 0 ∷ []) $ heard ! (d.value.word ≡ 1) (λ one. split ! $ move ! (1 ∷ []) $ fsplit ! $ loose_opens (block_type.the_row R) heap_row heap_laws ghosts ! d z.0.4.0 (λ b o h placed is_pair good. let p : Ptr = block_ptr b o in
     -- [the box; its allocator; nothing; the tokens]
@@ -29,4 +29,4 @@ sole_spec 𝓤 𝓛 𝓜 𝓡 wired T L =
     enter ! 𝓣.C 𝓣.Λ fn (pair_val (vptr b o) h ∷ []) Post $ alloc_all ! (λ l. pass_all ! refl (loose-Good (block_type.the_row R) heap_row heap_laws ghosts b o h good, tt) $
     sets ! (of_opd ! (get_in ! (fld ! refl (stop !)) (sub ! 0 refl (whole !)))) refl (tt, tt) $ sets ! (agg ! (and_then ! (get ! refl) (no_more !))) refl (tt, (tt, tt)) $
     use0 𝓛 (raw (fact 𝓤 (true ≡ true))) (fact_i 𝓤 (true ≡ true) (emp 𝓤) refl) $ use0 𝓛 (raw (fact 𝓤 (x ≡ x))) (fact_i 𝓤 (x ≡ x) (emp 𝓤) refl) $ join ! $ nothing_more ! $ nothing_more ! $ fjoin ! $
-    returns ! (look_at ! 0 refl) $ free_all ! refl $ keep ! (3 ∷ 0 ∷ 2 ∷ 1 ∷ []) $ by ! (leaves 𝓛 En hs c z (one_word p) (record { block = p; value = x; sole = true }) (tt, tt) (tt, tt))))))
+    returns ! (look_at ! 0 refl) $ free_all ! refl $ keep ! (3 ∷ 0 ∷ 2 ∷ 1 ∷ []) $ by ! (leaves 𝓛 En hs c z (one_word p) (record { block = p; held = x; sole = true }) (tt, tt) (tt, tt))))))

@@ -1,0 +1,8 @@
+use Rattle.handles.proofs.BuilderRuns.{built_takes_all, refused_run}
+use Rattle.handles.proofs.header_slice.makers.UniqueArc+HeaderSlice+H+T.from_header_and_iter_with_size.Goals as goal
+
+pub returns-clause-runs : goal.returns-clause-runs
+returns-clause-runs g c = built_takes_all _ _ _ _ c.args.header c.build.result c.build.ensures.built
+
+pub returns-clause-refused_runs : goal.returns-clause-refused_runs
+returns-clause-refused_runs g c = refused_run _ _ _ _ c.build.result c.build.ensures.refused

@@ -1,0 +1,37 @@
+//! Ways back through the other handles.
+use servo_arc::{Arc, ArcBorrow, ArcUnion, RawArc, ThinArc, UniqueArc};
+
+#[derive(Drop)]
+pub struct Unique {
+    pub value: u32,
+    pub next: Option<UniqueArc<Unique>>,
+}
+
+#[derive(Drop)]
+pub struct ArcInUnique {
+    pub value: u32,
+    pub next: Option<UniqueArc<Arc<ArcInUnique>>>,
+}
+
+/// A token ends by `Arc::from_raw` alone, so this type cannot be dropped.
+pub struct Token {
+    pub value: u32,
+    pub next: Option<RawArc<Token>>,
+}
+
+#[derive(Drop, Debug, Clone, PartialEq, Eq)]
+pub struct FirstOfUnion {
+    pub value: u32,
+    pub next: ArcUnion<FirstOfUnion, u32>,
+}
+
+#[derive(Drop, Debug, Clone, PartialEq, Eq)]
+pub struct Rose {
+    pub kids: ThinArc<u32, Rose>,
+}
+
+#[derive(Debug, Clone, Copy, PartialEq, Eq)]
+pub struct Borrowing<'a> {
+    pub value: u32,
+    pub next: Option<ArcBorrow<'a, Borrowing<'a>>>,
+}

@@ -1,0 +1,115 @@
+// Threads that share a count.
+ghost use Rattle.std.specs.Prelude.{◌≡◌, ◌+◌, ◌<◌};
+ghost use Rattle.servo_arc.specs.Passes.{handles};
+
+use crate::caller::look_in_two_threads;
+use servo_arc::shared_count::{CountPass, EndReply, SharedCount, TryClone};
+use std::sync::atomic::AtomicU64;
+use std::sync::atomic::Ordering::SeqCst;
+use std::test::Fail;
+use std::thread::{Threads, join};
+
+const TURNS: u32 = 10_000;
+
+const MOST_TURNS: u64 = 100_000_000;
+
+#[test]
+fn one_of_two_threads_is_told_that_it_was_last(rt: HostRuntime) -> Result<(), Fail> {
+    let (first, second) = look_in_two_threads(&rt, rt.alloc(), &[0, 7, 0])?;
+    assert!(rt; first != second);
+    Ok(())
+}
+
+// What a thread was told.
+#[derive(Clone, Copy, Debug, PartialEq, Eq)]
+struct Replies {
+    born: u64,
+    ended: u64,
+    last: u64,
+}
+
+// Waits until three threads are here.
+fn arrive(here: &AtomicU64) {
+    here.fetch_add(1, SeqCst);
+    for _ in 0..MOST_TURNS {
+        if here.load(SeqCst) >= 3 {
+            return;
+        }
+    }
+}
+
+fn end_one(count: &SharedCount, pass: &mut CountPass, replies: &mut Replies)
+    requires { (pass.old.count ≡ count.now) × (0 < handles pass.old) }
+    ensures { (pass.new.count ≡ pass.old.count) × (handles pass.new + 1 ≡ handles pass.old) }
+{
+    match count.end(pass) {
+        EndReply::Ended => replies.ended = replies.ended.saturating_add(1),
+        EndReply::Last => replies.last = replies.last.saturating_add(1),
+    }
+}
+
+// Clones and ends, often, and at last ends the pass's own handle.
+fn churn(count: &SharedCount, pass: CountPass, here: &AtomicU64) -> (CountPass, Replies)
+    requires { (pass.count ≡ count.now) × (handles pass ≡ 1) }
+    ensures { result.0.count ≡ count.now }
+{
+    let mut pass = pass;
+    let mut replies = Replies {
+        born: 0,
+        ended: 0,
+        last: 0,
+    };
+    arrive(here);
+    for _ in 0..TURNS {
+        if pass.owned() == 1 && count.try_clone(&mut pass) == TryClone::Born {
+            replies.born = replies.born.saturating_add(1);
+            end_one(count, &mut pass, &mut replies);
+        }
+    }
+    if pass.owned() == 1 {
+        end_one(count, &mut pass, &mut replies);
+    }
+    (pass, replies)
+}
+
+fn churn_two<R: Threads + Sync>(
+    rt: &R,
+    count: &SharedCount,
+    b: CountPass,
+    c: CountPass,
+    here: &AtomicU64,
+) -> ((CountPass, Replies), (CountPass, Replies))
+    requires b { (b.count ≡ count.now) × (handles b ≡ 1) }
+    requires c { (c.count ≡ count.now) × (handles c ≡ 1) }
+    ensures { (result.0.0.count ≡ count.now) × (result.1.0.count ≡ count.now) }
+{
+    join(rt, || churn(count, b, here), || churn(count, c, here))
+}
+
+#[test]
+fn three_threads_are_told_once_that_one_was_last(rt: HostRuntime) -> Result<(), Fail> {
+    let (count, mut passes) = SharedCount::open(rt.alloc(), 3)?;
+    let c = passes.pop().unwrap();
+    let b = passes.pop().unwrap();
+    let a = passes.pop().unwrap();
+    let here = AtomicU64::new(0);
+    let ((mut a, first), ((mut b, second), (c, third))) = join(
+        &rt,
+        || churn(&count, a, &here),
+        || churn_two(&rt, &count, b, c, &here),
+    );
+    count.meet(&mut a, &mut b);
+    for (owned, told) in [(a.owned(), first), (b.owned(), second), (c.owned(), third)] {
+        assert!(rt;
+            owned == 0 && told.ended.saturating_add(told.last) == told.born.saturating_add(1)
+        );
+    }
+    assert!(rt;
+        first
+            .last
+            .saturating_add(second.last)
+            .saturating_add(third.last)
+            == 1
+    );
+    Ok(())
+}

@@ -1,0 +1,112 @@
+-- A clone and an end between their two steps.
+use Rattle.std.proofs.Common.{◌≡◌, ◌≢◌, ℕ, ◌<◌, List, sym, refl, ap, ◌∙◌, subst, arith}
+use Rattle.atomic_table.specs.Seated.{TableId}
+use Rattle.atomic_table.specs.Table.{Allows}
+use Rattle.counting_word.specs.CountingWord.{greatest_count}
+use Rattle.counting_word.specs.Plans.{clone_plan, drop_plan}
+use Rattle.counting_word.specs.declared.ClonePlan.{ClonePlan}
+use Rattle.counting_word.specs.declared.DropPlan.{DropPlan}
+use Rattle.shared_count.specs.declared.history.Call.{Call}
+use Rattle.shared_count.specs.declared.history.Call.TheVariants.{Clone}
+use Rattle.shared_count.specs.declared.history.TryClone.{TryClone}
+use Rattle.shared_count.specs.declared.history.TryClone.TheVariants.{Born, Full, Overtaken}
+use Rattle.shared_count.specs.declared.history.Event.{Event}
+use Rattle.shared_count.specs.declared.view.Known.{Known}
+use Rattle.shared_count.specs.declared.view.Part.TheVariants.{InDrop}
+use Rattle.shared_count.specs.History.{left_by, owned_by}
+use Rattle.shared_count.specs.Extends.{OthersExtend}
+use Rattle.shared_count.specs.Passes.{CountId}
+use Rattle.shared_count.specs.Inside.Shares.{seeing}
+use Rattle.shared_count.specs.Inside.Rule.{Keeps}
+use Rattle.shared_count.specs.Inside.Steps.{SeatState, with_part, Made, Looked, Counts, Counted, Judged, Begun}
+use Rattle.shared_count.specs.Inside.Seats.{pass_at, CanCall, Replied}
+use Rattle.shared_count.proofs.Histories.{owned_by-others, others-trans, overtaken, overtaken_after}
+
+-- what a step told, by the plan that it led to
+pub judged_by : (x : Known) (p : ClonePlan) (found : ℕ) (m : SeatState) → p ≡ clone_plan found greatest_count
+    → Judged x (clone_plan found greatest_count) found m → Judged x p found m
+judged_by x p found m is = subst (λ (z : ClonePlan). Judged x z found m) (sym is)
+
+pub begun_by : (x : Known) (p : DropPlan) (found : ℕ) (m : SeatState) → p ≡ drop_plan found
+    → Begun x (drop_plan found) m → Begun x p m
+begun_by x p found m is = subst (λ (z : DropPlan). Begun x z m) (sym is)
+
+-- a call that was made after a look at the count
+pub made_after : (x : Known) (h : List Event) (c : Call) (m : SeatState) → OthersExtend x.name x.seen h
+    → Made (seeing x h) c m → Made x c m
+made_after x h c m g made = record {
+  seen = made.seen;
+  call = record {
+    before = made.call.before;
+    others = others-trans x.name x.seen h made.call.before g made.call.others;
+    ends = made.call.ends;
+  };
+  sees = record { seat = made.sees.seat; legal = made.sees.legal };
+}
+
+replied_after : (x : Known) (h : List Event) (r : TryClone) (m : SeatState) → OthersExtend x.name x.seen h
+    → Replied (seeing x h) r m → Replied x r m
+replied_after x h Born m g made = made_after x h (Clone Born) m g made
+replied_after x h Full m g made = made_after x h (Clone Full) m g made
+replied_after x h Overtaken m g over = (
+  over.0,
+  overtaken_after x.passes x.name x.seen h over.0 g over.1,
+  record { seat = over.2.seat; legal = over.2.legal },
+)
+
+module _ (n : ℕ) (m m' : SeatState) (can : CanCall n m) where
+  abbrev x : Known
+  x = pass_at m
+
+  -- a clone that was left half done
+  module _ (found : ℕ) (read : Counted x found m') where
+    abbrev h : List Event
+    h = read.looked.seen
+
+    pub can_raise : CanCall n m'
+    can_raise = subst (CanCall n) (sym read.looked.sees.seat)
+        (record { whole = refl; opened = can.opened; owns = own }) where
+          own : 0 < owned_by x.passes x.name h
+          own =
+              let same = owned_by-others x.passes x.name x.seen h read.looked.others in
+              let was = can.owns in
+              omega arith
+
+    pub has_read : Counts found (left_by n (pass_at m').seen)
+    has_read = subst (λ (z : SeatState). Counts found (left_by n (pass_at z).seen)) (sym read.looked.sees.seat)
+        (subst (λ (i : ℕ). Counts found (left_by i h)) can.opened read.counts)
+
+    pub replied : (r : TryClone) (m'' : SeatState) → Replied (pass_at m') r m'' → Replied x r m''
+    replied r m'' told = replied_after x h r m'' read.looked.others
+        (subst (λ (z : SeatState). Replied (pass_at z) r m'') read.looked.sees.seat told)
+
+  -- a raise that lost
+  pub lost : (word found : ℕ) → Counts word (left_by n x.seen) → Counted x found m' → found ≢ word
+      → Replied x Overtaken m'
+  lost word found was now other = (
+    now.looked.seen,
+    overtaken x.passes x.name x.seen now.looked.seen word found now.looked.others now.looked.sees.legal can.owns
+        (subst (λ (i : ℕ). Counts word (left_by i x.seen)) (sym can.opened) was) now.counts other now.room,
+    now.looked.sees,
+  )
+
+  -- an end that was left half done
+  pub can_lower : (t u : TableId) (key id : ℕ) (self : CountId) (f : ℕ → ℕ)
+      (says : SeatState → ℕ → SeatState → Type 0) → record { table = u; passes = key } ≡ self → u.words ≡ 1
+      → t ≡ self.table → n ≡ self.passes → Looked x InDrop m'
+      → ((y : Known) → 0 < owned_by key y.name y.seen
+      → Allows (Keeps key) u.slots id (with_part y InDrop) 0 f (says (with_part y InDrop)))
+      → (t ≡ u) × (0 < u.words) × Allows (Keeps key) u.slots id m' 0 f (says m')
+  can_lower t u key id self f says mine one same passes read may = (
+    same ∙ sym (ap (λ (c : CountId). c.table) mine),
+    omega arith,
+    subst (λ (z : SeatState). Allows (Keeps key) u.slots id z 0 f (says z)) (sym read.sees.seat)
+        (may (seeing x read.seen) own),
+  ) where
+    opened : x.passes ≡ key
+    opened = can.opened ∙ passes ∙ sym (ap (λ (c : CountId). c.passes) mine)
+
+    own : 0 < owned_by key x.name read.seen
+    own = let same = owned_by-others x.passes x.name x.seen read.seen read.others in let was = can.owns in
+        let some : 0 < owned_by x.passes x.name read.seen = omega arith in
+        subst (λ (i : ℕ). 0 < owned_by i x.name read.seen) opened some

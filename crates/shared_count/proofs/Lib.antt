@@ -1,0 +1,12 @@
+pub mod Histories
+pub mod Sums
+pub mod Moves
+pub mod Drops
+pub mod Plays
+pub mod SplitsAndJoins
+pub mod Opens
+pub mod Calls
+pub mod Meetings
+pub mod HalfDone
+pub mod LegalHistories
+pub mod WorkedHistories

@@ -1,0 +1,233 @@
+-- Each kind of step keeps the rule, and tells what it says.
+use Rattle.std.proofs.Common.{◌≡◌, ◌≢◌, ℕ, suc, ◌+◌, ◌-◌, ◌%◌, ◌^◌, ◌<◌, ◌≤◌, Bool, true, false, nat_eq, List, [], ◌∷◌, length, get_or, set, sym, refl, ap, ◌∙◌, subst, arith, eq-eqb, ne_eqb, if◌then◌else◌, sum_by}
+use Rattle.std.specs.Prelude.{bit_or}
+use mathlib.Core.Logic.{dite}
+use mathlib.Core.Option.{none, some}
+use native.Mathlib.Decide.{ℕ_discrete}
+use prog.Atomic.{either}
+use lib.ListN.{get_elem?}
+use Rattle.atomic_table.specs.Table.{step, keeps, stepped, Allows}
+use Rattle.counting_word.specs.CountingWord.{mark_bit, greatest_count, is_marked_word, count_of, is_one_handle}
+use Rattle.counting_word.specs.Plans.{clone_plan, drop_plan}
+use Rattle.counting_word.specs.declared.ClonePlan.{ClonePlan}
+use Rattle.counting_word.specs.declared.ClonePlan.TheVariants as plan
+use Rattle.counting_word.specs.declared.DropPlan.{DropPlan}
+use Rattle.counting_word.specs.declared.DropPlan.TheVariants as drop_as
+use Rattle.counting_word.proofs.Words.{word-unmarked, exactly-marked, exactly-unmarked, is_one_handle-exactly, stands-live, stands-in_drop, within_greatest, below_limit, stands-raise, stands-lower, word-lowered, bit_or-mark_bit, stands-marked_word}
+use Rattle.counting_word.proofs.Plans.{ClonePlanSays, clone_plan-says, DropPlanSays, drop_plan-says}
+use Rattle.shared_count.specs.declared.history.Call.{Call}
+use Rattle.shared_count.specs.declared.history.Call.TheVariants.{Clone, End, Mark, Unique, Static}
+use Rattle.shared_count.specs.declared.history.TryClone.{TryClone}
+use Rattle.shared_count.specs.declared.history.TryClone.TheVariants.{Born, Full}
+use Rattle.shared_count.specs.declared.history.EndReply.TheVariants.{Ended}
+use Rattle.shared_count.specs.declared.view.Known.{Known}
+use Rattle.shared_count.specs.declared.view.Part.{Part}
+use Rattle.shared_count.specs.declared.view.Part.TheVariants.{Whole, InDrop}
+use Rattle.shared_count.specs.declared.view.Share.{Share}
+use Rattle.shared_count.specs.History.{CountState, handles_of, without, next, has_exactly, end_reply, IsReply, left_by, owned_by}
+use Rattle.shared_count.specs.Inside.Shares.{share, drops}
+use Rattle.shared_count.specs.Inside.Rule.{Means, Keeps}
+use Rattle.shared_count.specs.Inside.Steps.{SeatState, with_part, Made, Counts, Counted, Judged, Begun, TellsUnique, TellsStatic, TellsMark, TellsClone, TellsRaise, TellsEnd, TellsLower}
+use Rattle.shared_count.proofs.Histories.{owned_by-others, without-taken, none_left}
+use Rattle.shared_count.proofs.Moves.{Table, know, calls, called, looks, looked, drops-set, for_known}
+use Rattle.shared_count.proofs.Drops.{covered}
+
+-- a step of the pass x on the word of the table s, which may become w
+module _ (n : ℕ) (s : Table) (k : Keeps n s) (id : ℕ) (x : Known) where
+  abbrev Now : CountState
+  Now = left_by n k.log
+
+  abbrev Word : ℕ
+  Word = get_or s.words 0 0
+
+  abbrev live : ℕ
+  live = length Now.owners
+
+  abbrev in_drop : ℕ
+  in_drop = sum_by drops s.views
+
+  -- the step leaves the word at w, keeps the rule, and tells this
+  abbrev Goes : ℕ → (SeatState → Type 0) → Type 0
+  Goes w says = (v : List Share) × Keeps n (stepped s 0 w id [] v keeps) × says (v, [])
+
+  owns_now : (part : Part) → get_elem? s.views id ≡ some (share x part ∷ []) → 0 < owned_by n x.name x.seen
+      → 0 < handles_of x.name Now
+  owns_now part at own =
+      let here = know n s k id x part 0 at in
+      let same = owned_by-others n x.name x.seen k.log here.begins in
+      omega arith
+
+  module _ (at : get_elem? s.views id ≡ some (share x Whole ∷ [])) (own : 0 < owned_by n x.name x.seen) where
+    unmoved : (y : Known) → in_drop ≡ sum_by drops (set s.views id (share y Whole ∷ []))
+    unmoved y = let sum = drops-set s.views id x y Whole Whole at in omega arith
+
+    -- a call that is answered by the word as it is
+    answered : (c : Call) (w : ℕ) → IsReply Now x.name c → Means w (next Now x.name c) in_drop → Goes w (Made x c)
+    answered c w reply stands = let y : Known = called n s k id x Whole w at c in
+        let r = calls n s k id x Whole w at c refl own reply (subst (Means w (next Now x.name c)) (unmoved y) stands) in
+        (share y Whole ∷ [], r.0, r.1)
+
+    counted : is_marked_word Word ≡ false → Word < greatest_count → Goes Word (λ m. Counted x Word m)
+    counted unmarked room =
+        let y : Known = looked n s k id x Whole Word at Whole in
+        let r = looks n s k id x Whole Word at Whole refl (λ e. absurd (cc))
+        (subst (Means Word Now) (unmoved y) k.word) in
+        let here = know n s k id x Whole Word at in
+        let is : live ≡ Word = sym (word-unmarked Word live in_drop Now.mark unmarked k.word) in (
+          share y Whole ∷ [],
+          r.0,
+          record {
+            looked = record { seen = k.log; others = r.1; sees = r.2 };
+            counts = subst (λ (m : ℕ). Counts Word (left_by m k.log)) (sym here.opened)
+                (sym k.word.same_mark ∙ unmarked, is);
+            room = room;
+          },
+        )
+
+    -- a clone is judged by the word as it is
+    judged : Goes Word (λ m. Judged x (clone_plan Word greatest_count) Word m)
+    judged = by_plan (clone_plan Word greatest_count) (clone_plan-says Word greatest_count (clone_plan Word greatest_count) refl) where
+      reply_is : (b : Bool) → has_exactly greatest_count Now ≡ b → (r : TryClone) → r ≡ (if b then Full else Born)
+          → IsReply Now x.name (Clone r)
+      reply_is b e r is = is ∙ ap (λ (z : Bool). if z then Full else Born) (sym e)
+
+      by_plan : (p : ClonePlan) → ClonePlanSays Word greatest_count p → Goes Word (Judged x p Word)
+      by_plan plan.Static marked = answered (Clone Born) Word
+          (reply_is false (exactly-marked Word live in_drop greatest_count Now.mark marked k.word) Born refl)
+          (stands-live Word live (suc live) in_drop Now.mark marked k.word)
+      by_plan plan.Full says = answered (Clone Full) Word
+          (reply_is true (exactly-unmarked Word live in_drop greatest_count Now.mark says.0 k.word ∙ says.1) Full refl)
+          k.word
+      by_plan (plan.Raise _) says = counted says.0 (below_limit Word greatest_count (within_greatest Word) says.0 says.1)
+
+    -- a raise that wins
+    won : is_marked_word Word ≡ false → nat_eq (count_of Word) greatest_count ≡ false
+        → Goes (Word + 1) (Made x (Clone Born))
+    won unmarked room = answered (Clone Born) (Word + 1)
+        (ap (λ (b : Bool). if b then Full else Born)
+        (sym (exactly-unmarked Word live in_drop greatest_count Now.mark unmarked k.word ∙ room)))
+        (stands-raise Word live (suc live) in_drop in_drop Now.mark unmarked (below_limit Word greatest_count (within_greatest Word) unmarked room)
+        (omega arith) k.word)
+
+    -- an end is begun, by the word as it is
+    begun : Goes Word (λ m. Begun x (drop_plan Word) m)
+    begun = by_plan (drop_plan Word) (drop_plan-says Word (drop_plan Word) refl) where
+      by_plan : (p : DropPlan) → DropPlanSays Word p → Goes Word (Begun x p)
+      by_plan drop_as.Static marked = answered (End Ended) Word
+          (ap end_reply (sym (none_left x.name Now Ended (owns_now Whole at own)
+          ∙ exactly-marked Word live in_drop 1 Now.mark marked k.word)))
+          (stands-live Word live (length (next Now x.name (End Ended)).owners) in_drop Now.mark marked k.word)
+      by_plan drop_as.Lower unmarked = let y : Known = looked n s k id x Whole Word at InDrop in
+          let r = looks n s k id x Whole Word at InDrop refl (λ _. own)
+          (stands-in_drop Word live in_drop (sum_by drops (set s.views id (share y InDrop ∷ []))) Now.mark unmarked
+          k.word) in
+          (share y InDrop ∷ [], r.0, record { seen = k.log; others = r.1; sees = r.2 })
+
+  -- a drop lowers the word
+  lowered : get_elem? s.views id ≡ some (share x InDrop ∷ []) → 0 < owned_by n x.name x.seen
+      → (1 ≤ Word) × Goes (Word - 1) (Made x (End (end_reply (is_one_handle Word))))
+  lowered at own =
+      let c : Call = End (end_reply (is_one_handle Word)) in
+      let y : Known = called n s k id x InDrop (Word - 1) at c in
+      let owner = owns_now InDrop at own in
+      let fewer = without-taken x.name Now.owners owner in
+      let sum = drops-set s.views id x y InDrop Whole at in
+      let less = stands-lower Word live (length (without x.name Now.owners)) in_drop
+      (sum_by drops (set s.views id (share y Whole ∷ []))) Now.mark fewer.shorter (omega arith) k.word in
+      let reply : IsReply Now x.name c = ap end_reply (is_one_handle-exactly Word live in_drop Now.mark k.word
+      ∙ sym (none_left x.name Now (end_reply (is_one_handle Word)) owner)) in
+      let r = calls n s k id x InDrop (Word - 1) at c refl own reply less.1 in
+      (less.0, (share y Whole ∷ [], r.0, r.1))
+
+module _ (n slots id : ℕ) (x : Known) where
+  -- a step of a pass that owns a handle
+  abbrev May : Part → (ℕ → ℕ) → (SeatState → ℕ → SeatState → Type 0) → Type 0
+  May part f says = 0 < owned_by n x.name x.seen
+      → Allows (Keeps n) slots id (with_part x part) 0 f (says (with_part x part))
+
+  pub asks_unique : May Whole (λ r. r) (TellsUnique (step slots 0 0 0 none))
+  asks_unique own s k _ at _ =
+      let w : ℕ = get_or s.words 0 0 in
+      let c : Call = Unique (is_one_handle w) in
+      let l : CountState = left_by n k.log in
+      let is = is_one_handle-exactly w (length l.owners) (sum_by drops s.views) l.mark k.word in
+      let r = answered n s k id x at own c w is k.word in
+      (r.0, keeps, tt, r.1, for_known x Whole (λ z. Made z c (r.0, [])) r.2)
+
+  pub asks_static : May Whole (λ r. r) (TellsStatic (step slots 0 0 0 none))
+  asks_static own s k _ at _ =
+      let w : ℕ = get_or s.words 0 0 in
+      let c : Call = Static (is_marked_word w) in
+      let r = answered n s k id x at own c w k.word.same_mark k.word in
+      (r.0, keeps, tt, r.1, for_known x Whole (λ z. Made z c (r.0, [])) r.2)
+
+  pub marks : May Whole (λ r. bit_or r mark_bit) (TellsMark (step slots 0 mark_bit 0 none))
+  marks own s k _ at small =
+      let w : ℕ = get_or s.words 0 0 in
+      let l : CountState = left_by n k.log in
+      let stands = stands-marked_word w (length l.owners) (sum_by drops s.views) l.mark k.word (covered n s k) in
+      let r = answered n s k id x at own Mark (bit_or w mark_bit) tt
+      (subst (λ (z : ℕ). Means z (next l x.name Mark) (sum_by drops s.views)) (sym (bit_or-mark_bit w small)) stands) in
+      (r.0, keeps, tt, r.1, for_known x Whole (λ z. Made z Mark (r.0, [])) r.2)
+
+  pub begins_clone : May Whole (λ r. r) (TellsClone (step slots 0 0 0 none))
+  begins_clone own s k _ at _ =
+      let w : ℕ = get_or s.words 0 0 in
+      let r = judged n s k id x at own in
+      (r.0, keeps, tt, r.1, for_known x Whole (λ z. Judged z (clone_plan w greatest_count) w (r.0, [])) r.2)
+
+  pub begins_end : May Whole (λ r. r) (TellsEnd (step slots 0 0 0 none))
+  begins_end own s k _ at _ =
+      let w : ℕ = get_or s.words 0 0 in
+      let r = begun n s k id x at own in
+      (r.0, keeps, tt, r.1, for_known x Whole (λ z. Begun z (drop_plan w) (r.0, [])) r.2)
+
+  pub lowers : May InDrop (λ r. (r + (2 ^ 64 - 1)) % 2 ^ 64) (TellsLower (step slots 0 1 0 none))
+  lowers own s k _ at small =
+      let w : ℕ = get_or s.words 0 0 in
+      let c : Call = End (end_reply (is_one_handle w)) in
+      let r = lowered n s k id x at own in (
+        r.1.0,
+        keeps,
+        tt,
+        subst (λ (z : ℕ). Keeps n (stepped s 0 z id [] r.1.0 keeps)) (sym (word-lowered w r.0 small)) r.1.1,
+        for_known x InDrop (λ z. Made z c (r.1.0, [])) r.1.2,
+      )
+
+  pub raises : (old new : ℕ) → plan.Raise new ≡ clone_plan old greatest_count
+      → May Whole (λ r. either (nat_eq r old) new r) (TellsRaise (step slots 0 old new none))
+  raises old new made own s k _ at _ = let r = dite (ℕ_discrete w old) hit miss in (r.0, keeps, tt, r.1, r.2) where
+    w : ℕ
+    w = get_or s.words 0 0
+
+    Says : Known → SeatState → Type 0
+    Says z m = (w ≡ old → Made z (Clone Born) m) × (w ≢ old → Judged z (clone_plan w greatest_count) w m)
+
+    K : ℕ → List Share → Type 0
+    K z v = Keeps n (stepped s 0 z id [] v keeps)
+
+    Done : Type 0
+    Done = (v : List Share) × K (either (nat_eq w old) new w) v
+        × ((z : Known) → with_part x Whole ≡ with_part z Whole → Says z (v, []))
+
+    plan_says : ClonePlanSays old greatest_count (plan.Raise new)
+    plan_says = clone_plan-says old greatest_count (plan.Raise new) made
+
+    hit : w ≡ old → Done
+    hit e =
+        let unmarked : is_marked_word w ≡ false = ap is_marked_word e ∙ plan_says.0 in
+        let room = ap (λ (z : ℕ). nat_eq (count_of z) greatest_count) e ∙ plan_says.1 in
+        let r = won n s k id x at own unmarked room in
+        let kept : K new r.0 = subst (λ (z : ℕ). K z r.0) (ap (λ (z : ℕ). z + 1) e ∙ sym plan_says.2) r.1 in (
+          r.0,
+          subst (λ b. K (either b new w) r.0) (sym (eq-eqb w old e)) kept,
+          for_known x Whole (λ z. Says z (r.0, [])) ((λ _. r.2), λ other. absurd (other e)),
+        )
+
+    miss : w ≢ old → Done
+    miss other =
+        let r = judged n s k id x at own in (
+          r.0,
+          subst (λ b. K (either b new w) r.0) (sym (ne_eqb w old other)) r.1,
+          for_known x Whole (λ z. Says z (r.0, [])) ((λ e. absurd (other e)), λ _. r.2),
+        )

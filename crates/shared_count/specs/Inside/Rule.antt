@@ -1,0 +1,33 @@
+-- The rule of the word.
+use Rattle.std.specs.Prelude.{◌≡◌, ℕ, ◌<◌, ◌≤◌, List, length, slice_index, All, sum_by}
+use mathlib.Core.Option.{some}
+use lib.ListN.{get_elem?}
+use Rattle.atomic_table.specs.Table.{State}
+use Rattle.counting_word.specs.CountingWord.{StandsFor}
+use Rattle.shared_count.specs.declared.history.Event.{Event}
+use Rattle.shared_count.specs.declared.view.Part.TheVariants.{InDrop}
+use Rattle.shared_count.specs.declared.view.Share.{Share}
+use Rattle.shared_count.specs.History.{CountState, IsLegal, left_by, owned_by}
+use Rattle.shared_count.specs.Extends.{OthersExtend}
+use Rattle.shared_count.specs.Inside.Shares.{halves, drops}
+
+-- What a share knows is the beginning of the log up to some point, from which on its pass made no call. A pass in a
+-- drop owns a handle.
+pub record Knows (n : ℕ) (log : List Event) (s : Share) : Type 0 where
+  pub opened : s.known.passes ≡ n
+  pub begins : OthersExtend s.known.name s.known.seen log
+  pub owns : s.part ≡ InDrop → 0 < owned_by n s.known.name log
+
+-- the word stands for this state, with so many drops in flight
+abbrev pub Means : ℕ → CountState → ℕ → Type 0
+Means word s in_drop = StandsFor word s.mark (length s.owners) in_drop
+
+-- The rule of a count that was opened with n passes: its word stands for the state that a legal log leaves and for the
+-- drops in flight, each seat knows a beginning of that log, and no pass has more than its two halves.
+pub record Keeps (n : ℕ) (s : State (Unit {0}) (List Share)) : Type 0 where
+  pub log : List Event
+  pub legal : IsLegal n log
+  pub one_word : length s.words ≡ 1
+  pub word : Means (slice_index s.words 0) (left_by n log) (sum_by drops s.views)
+  pub seats : (id : ℕ) (shares : List Share) → get_elem? s.views id ≡ some shares → All (Knows n log) shares
+  pub apart : (p : ℕ) → sum_by (halves p) s.views ≤ 2

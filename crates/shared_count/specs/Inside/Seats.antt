@@ -1,0 +1,60 @@
+-- What the functions on seats ask and leave, and the pass that a seat is.
+use Rattle.std.specs.Prelude.{◌≡◌, ℕ, ◌<◌, List, [], ◌∷◌}
+use Rattle.atomic_table.specs.Seated.{TableId}
+use Rattle.shared_count.specs.declared.history.Call.TheVariants.{Clone}
+use Rattle.shared_count.specs.declared.history.TryClone.{TryClone}
+use Rattle.shared_count.specs.declared.history.TryClone.TheVariants.{Born, Full, Overtaken}
+use Rattle.shared_count.specs.declared.history.Event.{Event}
+use Rattle.shared_count.specs.declared.view.Known.{Known}
+use Rattle.shared_count.specs.declared.view.Part.TheVariants.{Half, Whole}
+use Rattle.shared_count.specs.declared.view.Share.{Share}
+use Rattle.shared_count.specs.History.{IsLegal, owned_by}
+use Rattle.shared_count.specs.Extends.{OvertakersExtend}
+use Rattle.shared_count.specs.Passes.{Pass}
+use Rattle.shared_count.specs.Inside.Shares.{known, seeing}
+use Rattle.shared_count.specs.Inside.Steps.{SeatState, with_part, Sees, Made, Met}
+
+-- what is known of the pass whose share is the first
+abbrev pub first_known : List Share → Known
+first_known [] = known 0 0 []
+first_known (s ∷ ss) = s.known
+
+-- what the seat of a pass knows of it
+abbrev pub pass_at : SeatState → Known
+pass_at m = first_known m.0
+
+abbrev pub handles_at : SeatState → ℕ
+handles_at m = owned_by (pass_at m).passes (pass_at m).name (pass_at m).seen
+
+-- the seat of a whole pass, of a count that was opened with n passes, which owns a handle
+pub record CanCall (n : ℕ) (m : SeatState) : Type 0 where
+  pub whole : m ≡ with_part (pass_at m) Whole
+  pub opened : (pass_at m).passes ≡ n
+  pub owns : 0 < handles_at m
+
+-- what a clone of the pass x leaves, by its reply
+abbrev pub Replied : Known → TryClone → SeatState → Type 0
+Replied x Born m = Made x (Clone Born) m
+Replied x Full m = Made x (Clone Full) m
+Replied x Overtaken m = (h : List Event) × OvertakersExtend x.passes x.name x.seen h × Sees x Whole h m
+
+-- the pass x and the note of the pass y have seen one history
+pub record MetByNote (x y : Known) (m note : SeatState) : Type 0 where
+  pub seen : List Event
+  pub met : Met x y seen
+  pub first : m ≡ with_part (seeing x seen) Whole
+  pub second : note ≡ with_part (seeing y seen) Half
+
+-- the pass of a seat of this table
+abbrev pub pass_of : TableId → SeatState → Pass
+pass_of table m = record {
+  count = record { table = table; passes = (pass_at m).passes };
+  name = (pass_at m).name;
+  seen = (pass_at m).seen;
+}
+
+-- the seat of a whole pass, which owns so many handles
+pub record IsPass (m : SeatState) (owned : ℕ) : Type 0 where
+  pub whole : m ≡ with_part (pass_at m) Whole
+  pub legal : IsLegal (pass_at m).passes (pass_at m).seen
+  pub owns : owned ≡ handles_at m

@@ -1,0 +1,5 @@
+pub mod Extends
+pub mod History
+pub mod HistoryLaws
+pub mod Inside
+pub mod Passes

@@ -1,0 +1,150 @@
+//! The count, and the calls of its passes.
+ghost use Rattle.std.specs.Prelude.{◌≡◌, ◌≢◌, ◌+◌, ◌<◌, map, All, IfOk};
+ghost use Rattle.std.specs.List.{range_with_len};
+ghost use Rattle.shared_count.specs.Passes.{first_pass, handles, born_count, Called, HasSeenMore, WasOvertaken};
+ghost use Rattle.shared_count.specs.declared.history.Call.TheVariants.{Clone, End, Mark, Unique, Static};
+ghost use Rattle.shared_count.specs.declared.history.TryClone.TheVariants.{Overtaken};
+
+mod ask;
+mod clone;
+mod end;
+mod meet;
+
+use crate::history::{EndReply, TryClone};
+use crate::notes::Deal;
+use crate::pass::CountPass;
+use crate::rule::CountRule;
+use crate::view::View;
+use atomic_table::{Seat, Table};
+use std::alloc::{AllocError, Global};
+use std::marker::Model;
+
+/// A count of handles in one word, which its passes change by single atomic steps.
+///
+/// Each call asks that the pass is of this count, and all but `meet` that it owns a handle.
+///
+/// To a contract a count is which one it is, and how many `passes` it was opened with.
+#[derive(Drop)]
+pub struct SharedCount {
+    table: Table<(), View, usize, CountRule, Global>,
+}
+
+impl Model for SharedCount {
+    ghost use Rattle.std.specs.Prelude.{◌≡◌};
+    ghost use Rattle.shared_count.specs.Passes.{CountId};
+
+    ghost Value = { CountId };
+
+    ghost view = { λ c. record { table = c.table.shared.table_id; passes = c.table.shared.key } };
+
+    ghost invariant = { λ c. c.table.shared.table_id.words ≡ 1 };
+}
+
+impl SharedCount {
+    /// A count of n handles, one for each of its n passes.
+    ///
+    /// It makes three requests for memory, one for the passes and two for the table of the word, and answers
+    /// `AllocError` where one is refused. It loads the word n times. No other call takes memory.
+    pub fn open(alloc: Global, n: usize) -> Result<(SharedCount, Vec<CountPass>), AllocError>
+        requires { 0 < n }
+        ensures opened { IfOk result (λ r. r.0.passes ≡ n) }
+        ensures passes { IfOk result (λ r. r.1.items ≡ map (first_pass r.0) (range_with_len 0 n)) }
+        ensures owned { IfOk result (λ r. All (λ p. handles p ≡ 1) r.1.items) }
+    {
+        let mut passes = Vec::with_capacity(alloc, n)?;
+        let (table, mut seat): (Table<(), View, usize, CountRule, Global>, Seat<(), View>) =
+            Table::of_words(alloc, &[n as u64], &n)?;
+        for _ in 0..n {
+            let seat = table.shared.split_seat::<Deal>(&mut seat);
+            passes.push(CountPass { seat, owned: 1 })?;
+        }
+        Ok((SharedCount { table }, passes))
+    }
+
+    /// One more handle for the pass: a load, and at most one compare-exchange.
+    ///
+    /// It never tries again. Where another pass changed the count in between, it answers `Overtaken`.
+    pub fn try_clone(&self, pass: &mut CountPass) -> TryClone
+        requires count { pass.old.count ≡ self.now }
+        requires owns { 0 < handles pass.old }
+        requires room { handles pass.old < u64.MAX }
+        ensures pass { (pass.new.count ≡ pass.old.count) × (pass.new.name ≡ pass.old.name) }
+        ensures call { result ≢ Overtaken → Called pass.old (Clone result) pass.new }
+        ensures overtaken { result ≡ Overtaken → WasOvertaken pass.old pass.new }
+        ensures owned { handles pass.new ≡ handles pass.old + born_count result }
+    {
+        let reply = self.clone_with(&mut pass.seat);
+        pass.owned += reply.born();
+        reply
+    }
+
+    /// Ends one handle of the pass: a load, and at most one subtraction.
+    pub fn end(&self, pass: &mut CountPass) -> EndReply
+        requires count { pass.old.count ≡ self.now }
+        requires owns { 0 < handles pass.old }
+        ensures pass { (pass.new.count ≡ pass.old.count) × (pass.new.name ≡ pass.old.name) }
+        ensures call { Called pass.old (End result) pass.new }
+        ensures owned { handles pass.new + 1 ≡ handles pass.old }
+    {
+        let reply = self.end_with(&mut pass.seat);
+        pass.owned -= 1;
+        reply
+    }
+
+    /// Marks the count for good, by one or: from then on no end is the last. Marking twice changes nothing.
+    pub fn mark(&self, pass: &mut CountPass)
+        requires count { pass.old.count ≡ self.now }
+        requires owns { 0 < handles pass.old }
+        ensures pass { (pass.new.count ≡ pass.old.count) × (pass.new.name ≡ pass.old.name) }
+        ensures call { Called pass.old Mark pass.new }
+        ensures owned { handles pass.new ≡ handles pass.old }
+    {
+        self.mark_with(&mut pass.seat);
+    }
+
+    /// Whether the count is unmarked and has one handle, which is then that of this pass. It is one load.
+    pub fn is_unique(&self, pass: &mut CountPass) -> bool
+        requires count { pass.old.count ≡ self.now }
+        requires owns { 0 < handles pass.old }
+        ensures pass { (pass.new.count ≡ pass.old.count) × (pass.new.name ≡ pass.old.name) }
+        ensures call { Called pass.old (Unique result) pass.new }
+        ensures owned { handles pass.new ≡ handles pass.old }
+    {
+        self.is_unique_with(&mut pass.seat)
+    }
+
+    /// Whether the count is marked. It is one load.
+    pub fn is_static(&self, pass: &mut CountPass) -> bool
+        requires count { pass.old.count ≡ self.now }
+        requires owns { 0 < handles pass.old }
+        ensures pass { (pass.new.count ≡ pass.old.count) × (pass.new.name ≡ pass.old.name) }
+        ensures call { Called pass.old (Static result) pass.new }
+        ensures owned { handles pass.new ≡ handles pass.old }
+    {
+        self.is_static_with(&mut pass.seat)
+    }
+
+    /// Lets both passes see one history, in which all calls of both stand. They need not own a handle.
+    ///
+    /// It is five loads, of which one is a look at the count.
+    pub fn meet(&self, first: &mut CountPass, second: &mut CountPass)
+        requires first { first.old.count ≡ self.now }
+        requires second { second.old.count ≡ self.now }
+        ensures first_pass { (first.new.count ≡ first.old.count)
+            × (first.new.name ≡ first.old.name) }
+        ensures second_pass { (second.new.count ≡ second.old.count)
+            × (second.new.name ≡ second.old.name) }
+
+        // Each has seen the same, and made no call.
+        ensures first_seen { HasSeenMore first.old first.new }
+        ensures second_seen { HasSeenMore second.old second.new }
+        ensures together { first.new.seen ≡ second.new.seen }
+        ensures apart { first.old.name ≢ second.old.name }
+        ensures first_owned { handles first.new ≡ handles first.old }
+        ensures second_owned { handles second.new ≡ handles second.old }
+    {
+        let note = self.write_note(&mut second.seat);
+        let note = self.read_note(&mut first.seat, note);
+        self.take_back(&mut second.seat, note);
+    }
+}

@@ -1,0 +1,28 @@
+// What a table has by its items: equality and a text.
+ghost use Rattle.std.specs.Cmp.Lexicographic.{pointwise, lists_per, lists_equiv};
+
+use crate::table::CowTable;
+use std::fmt;
+use std::fmt::{Debug, Formatter, Write};
+
+/// Asks the items, also where both tables share their pages.
+impl<T: Send + Sync + PartialEq> PartialEq for CowTable<T> {
+    ghost eq = { pointwise T.eq };
+
+    ghost laws = { lists_per T.laws };
+
+    fn eq(&self, other: &CowTable<T>) -> bool {
+        self.len == other.len && self.into_iter().zip(other).all(|(x, y)| x == y)
+    }
+}
+
+impl<T: Send + Sync + Eq> Eq for CowTable<T> {
+    ghost laws = { lists_equiv T.Eq.laws };
+}
+
+/// As a list of the items.
+impl<T: Send + Sync + Debug> Debug for CowTable<T> {
+    fn fmt<W: Write>(&self, f: &mut Formatter<W>) -> fmt::Result {
+        f.debug_list().entries(self).finish()
+    }
+}

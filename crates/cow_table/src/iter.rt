@@ -1,0 +1,140 @@
+//! The items of a table, one after another.
+ghost use Rattle.std.specs.Prelude.{◌≡◌, ⊤};
+ghost use Rattle.std.specs.Iterator.{YieldsFirstRef, YieldsLastRef, item_count};
+
+use crate::table::CowTable;
+use servo_arc::Arc;
+use std::alloc::AllocError;
+use std::iter::FusedIterator;
+use std::marker::Model;
+
+/// An iterator over the items of a `CowTable`, from the first to the last.
+#[derive(Drop)]
+pub struct Iter<'a, T: Send + Sync> {
+    // What is left of a page at either end, and the pages between them, none of which is empty.
+    front: &'a [T],
+    pages: &'a [Arc<Vec<T>>],
+    back: &'a [T],
+    len: usize,
+}
+
+impl<'a, T: Send + Sync> Model for Iter<'a, T> {
+    ghost use Rattle.std.specs.Prelude.{List};
+    ghost use Rattle.cow_table.specs.Pages.{joined, AreBetween};
+
+    ghost Value = { List T };
+
+    ghost view = { λ i. joined i.front.now i.pages.now i.back.now };
+
+    ghost invariant = { λ i. AreBetween i.front.now i.pages.now i.back.now i.len };
+}
+
+impl<'a, T: Send + Sync> IntoIterator for &'a CowTable<T> {
+    type Item = &'a T;
+
+    type IntoIter = Iter<'a, T>;
+
+    ghost into_iter_gives = { λ t r. r ≡ t.now };
+
+    #[tactic(auto, using(crate::proofs::Filled::begins))]
+    fn into_iter(self) -> Iter<'a, T> {
+        Iter {
+            front: &[],
+            pages: self.pages.as_slice(),
+            back: &[],
+            len: self.len,
+        }
+    }
+}
+
+impl<T: Send + Sync> CowTable<T> {
+    /// An iterator over the items, in order.
+    pub fn iter(&self) -> Iter<'_, T>
+        ensures { result ≡ self.now }
+    {
+        self.into_iter()
+    }
+}
+
+impl<'a, T: Send + Sync> Iterator for Iter<'a, T> {
+    type Item = &'a T;
+
+    ghost next_gives = { YieldsFirstRef (λ s. s) };
+
+    ghost remaining = { item_count (λ s. s) };
+
+    #[tactic(auto, using(crate::proofs::Filled::forward))]
+    fn next(&mut self) -> Option<&'a T> {
+        let front = self.front;
+        if let Some((item, rest)) = front.split_first() {
+            self.front = rest;
+            self.len -= 1;
+            return Some(item);
+        }
+        let pages = self.pages;
+        if let Some((page, pages)) = pages.split_first() {
+            let (item, rest) = page.split_first().unwrap();
+            self.front = rest;
+            self.pages = pages;
+            self.len -= 1;
+            return Some(item);
+        }
+        let (item, rest) = self.back.split_first()?;
+        self.back = rest;
+        self.len -= 1;
+        Some(item)
+    }
+
+    fn size_hint(&self) -> (usize, Option<usize>) {
+        (self.len, Some(self.len))
+    }
+}
+
+impl<'a, T: Send + Sync> DoubleEndedIterator for Iter<'a, T> {
+    ghost next_back_gives = { YieldsLastRef (λ s. s) };
+
+    #[tactic(auto, using(crate::proofs::Filled::backward))]
+    fn next_back(&mut self) -> Option<&'a T> {
+        let back = self.back;
+        if let Some((item, rest)) = back.split_last() {
+            self.back = rest;
+            self.len -= 1;
+            return Some(item);
+        }
+        let pages = self.pages;
+        if let Some((page, pages)) = pages.split_last() {
+            let (item, rest) = page.split_last().unwrap();
+            self.back = rest;
+            self.pages = pages;
+            self.len -= 1;
+            return Some(item);
+        }
+        let (item, rest) = self.front.split_last()?;
+        self.front = rest;
+        self.len -= 1;
+        Some(item)
+    }
+}
+
+impl<'a, T: Send + Sync> ExactSizeIterator for Iter<'a, T> {
+    fn len(&self) -> usize {
+        self.len
+    }
+}
+
+impl<'a, T: Send + Sync> FusedIterator for Iter<'a, T> {}
+
+impl<'a, T: Send + Sync> Clone for Iter<'a, T> {
+    ghost is_clone = { λ s r. r ≡ s };
+
+    ghost is_infallible = { λ _. ⊤ };
+
+    fn clone(&self) -> Result<Iter<'a, T>, AllocError> {
+        Ok(Iter {
+            front: self.front,
+            pages: self.pages,
+            back: self.back,
+            len: self.len,
+        })
+    }
+}

@@ -1,0 +1,40 @@
+// How many items a page has.
+ghost use Rattle.std.specs.Prelude.{◌≡◌, ◌<◌, ◌^◌, ◌/◌, ◌%◌};
+ghost use Rattle.std.specs.Option.{ForSome};
+
+// The length of a page. Where it is a power of two, items are found without a division.
+#[derive(Clone, Copy)]
+pub(crate) struct PageLength {
+    pub(crate) items: usize,
+    // The length as a power of two, if it is one.
+    shift: Option<u32>,
+    ghost positive: { 0 < items },
+    ghost power: { ForSome shift (λ k. (k < 64) × (items ≡ 2 ^ k)) },
+}
+
+impl PageLength {
+    pub(crate) fn new(items: usize) -> PageLength
+        requires { 0 < items }
+        ensures { result.items ≡ items }
+    {
+        let power = items.ilog2();
+        let shift = if 1usize << power == items {
+            Some(power)
+        } else {
+            None
+        };
+        PageLength { items, shift }
+    }
+
+    // The page in which an item lies, and its place there.
+    #[inline]
+    pub(crate) fn locate(self, i: usize) -> (usize, usize)
+        ensures page { result.0 ≡ i / self.items }
+        ensures place { result.1 ≡ i % self.items }
+    {
+        match self.shift {
+            Some(shift) => (i >> shift, i & (self.items - 1)),
+            None => (i / self.items, i % self.items),
+        }
+    }
+}

@@ -1,0 +1,23 @@
+//! Lists whose items count their copies and drops.
+use cow_table::CowTable;
+use handle_tests::counted::{Counted, Tally};
+use std::alloc::{AllocError, Global};
+
+/// Items 0, 1 and so on.
+pub fn counted_items<'a>(alloc: Global, tally: &'a Tally, len: u64) -> Option<Vec<Counted<'a>>> {
+    let mut items = Vec::new(alloc);
+    for value in 0..len {
+        items.push(Counted::new(tally, value)).ok()?;
+    }
+    Some(items)
+}
+
+/// The same in pages of two.
+pub fn counted_table<'a>(
+    alloc: Global,
+    tally: &'a Tally,
+    len: u64,
+) -> Result<CowTable<Counted<'a>>, AllocError> {
+    let items = counted_items(alloc, tally, len).ok_or(AllocError)?;
+    CowTable::from_items(alloc, items, 2)
+}

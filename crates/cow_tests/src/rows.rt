@@ -1,0 +1,185 @@
+// What versions read, which pages they share, and the texts.
+ghost use Rattle.std.specs.Prelude.{◌<◌};
+
+use cow_table::{CowTable, Iter, SetError};
+use std::alloc::{AllocError, Global};
+use std::test::Fail;
+
+fn table_of(alloc: Global, items: &[u32], page_len: usize) -> Result<CowTable<u32>, AllocError>
+    requires { 0 < page_len }
+{
+    CowTable::from_items(alloc, items.to_vec(alloc)?, page_len)
+}
+
+// By each of the ways to read.
+fn reads(table: &CowTable<u32>, items: &[u32]) -> bool {
+    let by_number = items
+        .iter()
+        .enumerate()
+        .all(|(i, item)| table.get(i) == Some(item));
+    by_number
+        && table.get(items.len()).is_none()
+        && table.len() == items.len()
+        && table.is_empty() == items.is_empty()
+        && table.iter().eq(items)
+        && table.iter().rev().eq(items.iter().rev())
+}
+
+fn shared_pages(a: &CowTable<u32>, b: &CowTable<u32>) -> [bool; 4] {
+    [0, 1, 2, 3].map(|p| CowTable::page_ptr_eq(a, b, p))
+}
+
+#[test]
+fn a_version_changes_alone(rt: HostRuntime) -> Result<(), Fail> {
+    let a = table_of(rt.alloc(), &[1, 2, 3, 4, 5], 2)?;
+    let mut b: CowTable<u32> = a.clone()?;
+    assert_eq!(rt; shared_pages(&a, &b), [true, true, true, false]);
+    assert_eq!(rt; b.set(rt.alloc(), 2, 9), Ok(()));
+    assert!(rt; reads(&a, &[1, 2, 3, 4, 5]) && reads(&b, &[1, 2, 9, 4, 5]));
+    assert_eq!(rt; shared_pages(&a, &b), [true, false, true, false]);
+    assert_eq!(rt; b.set(rt.alloc(), 5, 0), Err(SetError::NoPlace));
+    assert!(rt; reads(&b, &[1, 2, 9, 4, 5]));
+    Ok(())
+}
+
+#[test]
+fn a_page_may_be_longer_than_the_list(rt: HostRuntime) -> Result<(), Fail> {
+    let mut c = table_of(rt.alloc(), &[1, 2, 3], 5)?;
+    let mut d: CowTable<u32> = c.clone()?;
+    assert_eq!(rt; shared_pages(&c, &d), [true, false, false, false]);
+    assert_eq!(rt; d.set(rt.alloc(), 2, 7), Ok(()));
+    assert!(rt; reads(&c, &[1, 2, 3]) && reads(&d, &[1, 2, 7]));
+    assert_eq!(rt; shared_pages(&c, &d), [false; 4]);
+    assert_eq!(rt; c.set(rt.alloc(), 3, 0), Err(SetError::NoPlace));
+    Ok(())
+}
+
+#[test]
+fn an_empty_list_has_no_place(rt: HostRuntime) -> Result<(), Fail> {
+    let mut empty = table_of(rt.alloc(), &[], 3)?;
+    assert_eq!(rt; (empty.len(), empty.get(0)), (0, None));
+    assert_eq!(rt; empty.set(rt.alloc(), 0, 1), Err(SetError::NoPlace));
+    let again: CowTable<u32> = empty.clone()?;
+    assert_eq!(rt; shared_pages(&empty, &again), [false; 4]);
+    assert!(rt; reads(&empty, &[]));
+    Ok(())
+}
+
+#[test]
+fn pages_of_each_length_read_as_the_list(rt: HostRuntime) -> Result<(), Fail> {
+    let alloc = rt.alloc();
+    let items = [10, 11, 12, 13, 14, 15, 16, 17, 18];
+    for page_len in [1usize, 2, 3, 4, 5, 7, 8, 9, 10, 64, usize::MAX] {
+        let table = table_of(alloc, &items, page_len.max(1))?;
+        for (i, _) in items.iter().enumerate() {
+            let mut version: CowTable<u32> = table.clone()?;
+            let mut expected = items;
+            expected[i % 9] = 0;
+            let set = version.set(alloc, i, 0);
+            assert!(rt;
+                set == Ok(()) && reads(&version, &expected),
+                "{i} by {page_len}"
+            );
+        }
+        assert!(rt; reads(&table, &items), "{page_len}");
+    }
+    Ok(())
+}
+
+#[test]
+fn items_are_read_from_both_ends(rt: HostRuntime) -> Result<(), Fail> {
+    let table = table_of(rt.alloc(), &[1, 2, 3, 4, 5], 2)?;
+    let mut items: Iter<'_, u32> = table.iter();
+    let ends = [
+        items.next(),
+        items.next_back(),
+        items.next(),
+        items.next_back(),
+    ];
+    assert_eq!(rt; ends, [Some(&1), Some(&5), Some(&2), Some(&4)]);
+    let again: Iter<'_, u32> = items.clone()?;
+    assert_eq!(rt; (items.len(), items.size_hint()), (1, (1, Some(1))));
+    assert_eq!(rt;
+        [items.next(), items.next_back(), items.next()],
+        [Some(&3), None, None]
+    );
+    assert_eq!(rt; again.copied().last(), Some(3));
+    Ok(())
+}
+
+#[test]
+fn an_item_that_is_there_is_read_by_its_index(rt: HostRuntime) -> Result<(), Fail> {
+    let table = table_of(rt.alloc(), &[1, 2, 3, 4, 5], 2)?;
+    assert_eq!(rt; table.len(), 5);
+    let mut sum = 0u32;
+    for i in 0..table.len() {
+        sum = sum.wrapping_mul(10).wrapping_add(table[i]);
+    }
+    assert_eq!(rt; sum, 12345);
+    Ok(())
+}
+
+#[test]
+fn a_table_shows_its_items(rt: HostRuntime) -> Result<(), Fail> {
+    let alloc = rt.alloc();
+    for (items, text) in [(&[][..], "[]"), (&[1, 2, 3][..], "[1, 2, 3]")] {
+        let table = table_of(alloc, items, 2)?;
+        assert_eq!(rt; format!(in alloc; "{table:?}")?.as_str(), text);
+    }
+    Ok(())
+}
+
+#[test]
+fn tables_are_equal_by_their_items(rt: HostRuntime) -> Result<(), Fail> {
+    let alloc = rt.alloc();
+    let table = table_of(alloc, &[1, 2, 3], 2)?;
+    assert!(rt; table == table_of(alloc, &[1, 2, 3], 5)?);
+    for other in [
+        &[1, 2][..],
+        &[1, 2, 3, 4][..],
+        &[1, 2, 4][..],
+        &[0, 2, 3][..],
+    ] {
+        assert!(rt; table != table_of(alloc, other, 2)?, "{other:?}");
+    }
+    Ok(())
+}
+
+// Equal to nothing, not even to itself.
+#[derive(Debug, Drop)]
+struct Odd;
+
+impl PartialEq for Odd {
+    ghost use Rattle.std.specs.Prelude.{false, refl};
+    ghost use Rattle.std.specs.Cmp.{IsPartialEquivalence};
+
+    ghost eq = { λ _ _. false };
+
+    ghost laws = { record { symm = λ x y. refl; trans = λ x y z a b. a } };
+
+    fn eq(&self, _other: &Odd) -> bool {
+        false
+    }
+}
+
+#[test]
+fn shared_items_are_asked_too(rt: HostRuntime) -> Result<(), Fail> {
+    let odd = CowTable::from_items(rt.alloc(), vec![in rt.alloc(); Odd]?, 1)?;
+    let same: CowTable<Odd> = odd.clone()?;
+    assert!(rt; odd != same && odd != odd && CowTable::page_ptr_eq(&odd, &same, 0));
+    Ok(())
+}
+
+#[test]
+fn errors_have_their_texts(rt: HostRuntime) -> Result<(), Fail> {
+    let alloc = rt.alloc();
+    assert_eq!(rt;
+        format!(in alloc; "{}", SetError::NoPlace)?.as_str(),
+        "no such place"
+    );
+    assert_eq!(rt;
+        format!(in alloc; "{}", SetError::Memory)?.as_str(),
+        "out of memory"
+    );
+    Ok(())
+}

@@ -1,0 +1,113 @@
+// Versions on several threads, each of which is joined.
+use crate::editions::{Edition, publish, read_all};
+use crate::made::counted_table;
+use cow_table::CowTable;
+use crossbeam_channel::{Receiver, Sender, unbounded};
+use handle_tests::counted::{Counted, Tally};
+use std::alloc::{AllocError, Global};
+use std::test::Fail;
+use std::thread;
+
+const EDITIONS: u64 = 1000;
+
+type Ends = (Sender<Edition, Global>, Receiver<Edition, Global>);
+
+fn channel(alloc: Global) -> Result<Ends, AllocError> {
+    unbounded(alloc)
+}
+
+#[test]
+fn four_threads_read_what_one_publishes(rt: HostRuntime) -> Result<(), Fail> {
+    let alloc = rt.alloc();
+    let items = CowTable::from_items(alloc, vec![in alloc; 0u64; 8]?, 3)?;
+    let (to_a, a) = channel(alloc)?;
+    let (to_b, b) = channel(alloc)?;
+    let (to_c, c) = channel(alloc)?;
+    let (to_d, d) = channel(alloc)?;
+    let readers = [to_a, to_b, to_c, to_d];
+    let rt = &rt;
+    let (published, read) = thread::join(
+        rt,
+        move || {
+            let readers = readers;
+            publish(rt, alloc, items, EDITIONS, &readers)
+        },
+        || {
+            thread::join(
+                rt,
+                || thread::join(rt, || read_all(rt, a), || read_all(rt, b)),
+                || thread::join(rt, || read_all(rt, c), || read_all(rt, d)),
+            )
+        },
+    );
+    let all = Some(EDITIONS);
+    assert_eq!(rt; (published, read), (Ok(()), ((all, all), (all, all))));
+    Ok(())
+}
+
+// Item k is k, but for the one that was written.
+fn has_at(version: &CowTable<Counted<'_>>, place: usize, value: u64) -> bool {
+    let mut items = version.iter().enumerate();
+    items.all(|(k, item)| item.value == if k == place { value } else { k as u64 })
+}
+
+// Whether the version has the value if it could be set. A refusal may come, since other threads clone the same pages.
+fn is_written<'a>(
+    alloc: Global,
+    mut version: CowTable<Counted<'a>>,
+    place: usize,
+    value: Counted<'a>,
+) -> bool {
+    let expected = value.value;
+    version.set(alloc, place, value).is_err() || has_at(&version, place, expected)
+}
+
+// What each of the threads reads: a table and the tally of its items.
+#[derive(Drop)]
+struct Original<'a> {
+    table: CowTable<Counted<'a>>,
+    tally: &'a Tally,
+}
+
+impl<'a> Original<'a> {
+    // Writes to a thousand versions, but for those that were refused. Returns how many values it made for them.
+    fn write_versions(&self, alloc: Global, value: u64) -> Option<u64> {
+        let mut values = 0u64;
+        for i in 0..1000usize {
+            let version: Result<CowTable<Counted<'a>>, AllocError> = self.table.clone();
+            if let Ok(version) = version {
+                if !is_written(alloc, version, i % 5, Counted::new(self.tally, value)) {
+                    return None;
+                }
+                values = values.wrapping_add(1);
+            }
+        }
+        Some(values)
+    }
+}
+
+#[test]
+fn four_threads_write_versions_of_one_table(rt: HostRuntime) -> Result<(), Fail> {
+    let alloc = rt.alloc();
+    let tally = Tally::new();
+    let mut original = Original {
+        table: counted_table(alloc, &tally, 5)?,
+        tally: &tally,
+    };
+    let write = |value: u64| original.write_versions(alloc, value);
+    let ((a, b), (c, d)) = thread::join(
+        &rt,
+        || thread::join(&rt, || write(10), || write(20)),
+        || thread::join(&rt, || write(30), || write(40)),
+    );
+    let mut values = 0u64;
+    for written in [a, b, c, d] {
+        values = values.wrapping_add(written.ok_or("another item")?);
+    }
+    let copies = tally.copies();
+    assert!(rt; has_at(&original.table, 5, 0));
+    assert_eq!(rt; tally.drops(), copies.wrapping_add(values));
+    let set = original.table.set(alloc, 0, Counted::new(&tally, 9));
+    assert_eq!(rt; (set, tally.copies()), (Ok(()), copies));
+    Ok(())
+}

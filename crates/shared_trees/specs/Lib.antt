@@ -1,0 +1,5 @@
+pub mod ForkFalls
+pub mod Forks
+pub mod ListFalls
+pub mod Lists
+pub mod Maps

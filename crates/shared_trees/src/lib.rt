@@ -1,0 +1,12 @@
+//! Lists and trees whose versions share what they have in common: a change makes a new version, and the old one stays.
+#![tactic(auto)]
+
+mod links;
+mod list;
+mod list_iter;
+mod map;
+pub mod versions;
+
+pub use list::List;
+pub use list_iter::ListIter;
+pub use map::TreeMap;

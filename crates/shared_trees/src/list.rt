@@ -1,0 +1,130 @@
+//! A list that shares its rest.
+ghost use Rattle.std.specs.Prelude.{◌≡◌, ◌∷◌, [], ◌↔◌, IsTrue, IfOk, drop, length, slice_get};
+ghost use Rattle.std.specs.Option.{option_copied};
+
+use crate::links::Links;
+use servo_arc::Arc;
+use std::alloc::{AllocError, Global};
+use std::marker::Model;
+
+/// A list whose versions share their last items: to push an item in front makes a list, and the old one stays.
+#[derive(Drop)]
+pub struct List<T: Send + Sync> {
+    pub(crate) links: Links<T>,
+}
+
+impl<T: Send + Sync> Model for List<T> {
+    ghost use Rattle.std.specs.Prelude.{List};
+
+    ghost Value = { List T };
+
+    ghost view = { λ l. l.links };
+}
+
+/// One more handle of the same list: one raise of a count, with no copy and no memory.
+impl<T: Send + Sync + Drop> Clone for List<T> {
+    ghost is_clone = { λ a b. b ≡ a };
+
+    fn clone(&self) -> Result<List<T>, AllocError> {
+        Ok(List {
+            links: self.links.clone()?,
+        })
+    }
+}
+
+impl<T: Send + Sync> List<T> {
+    /// The empty list, which takes no memory.
+    pub fn new() -> List<T>
+        ensures { result ≡ [] }
+    {
+        List {
+            links: Links::new(),
+        }
+    }
+
+    /// The number of items, in O(1).
+    pub fn len(&self) -> usize
+        ensures { result ≡ length self.now }
+    {
+        self.links.len()
+    }
+
+    /// Whether there are no items.
+    pub fn is_empty(&self) -> bool
+        ensures { IsTrue result ↔ (self.now ≡ []) }
+    {
+        self.len() == 0
+    }
+
+    /// The item that was pushed last.
+    pub fn first(&self) -> Option<&T>
+        ensures { option_copied result ≡ slice_get self.now 0 }
+    {
+        let (item, _) = self.links.split_first()?;
+        Some(item)
+    }
+
+    /// The item of that number, counted from 0, in as many steps.
+    pub fn get(&self, index: usize) -> Option<&T>
+        ensures { option_copied result ≡ slice_get self.now index }
+    {
+        let mut links = &self.links;
+        let mut left = index;
+        while left > 0 {
+            links = &links.first.as_ref()?.rest;
+            left -= 1;
+        }
+        let (item, _) = links.split_first()?;
+        Some(item)
+    }
+}
+
+impl<T: Send + Sync + Drop> List<T> {
+    /// The list with one more item in front. The list itself stays.
+    ///
+    /// It requests memory for one node and raises one count. It is refused if there is no memory, as the `clone` of an
+    /// `Arc` is, and at `usize::MAX` items. Then the item is dropped.
+    pub fn push(&self, alloc: Global, value: T) -> Result<List<T>, AllocError>
+        ensures { IfOk result (λ list. list ≡ value ∷ self.now) }
+    {
+        let links = self.links.clone()?;
+        Ok(List {
+            links: links.with_first(alloc, value)?,
+        })
+    }
+
+    /// What comes after the first item, by one raise of a count. Nothing comes after the empty list.
+    pub fn rest(&self) -> Result<List<T>, AllocError>
+        ensures { IfOk result (λ list. list ≡ drop 1 self.now) }
+    {
+        match self.links.split_first() {
+            None => Ok(List::new()),
+            Some((_, rest)) => Ok(List {
+                links: rest.clone()?,
+            }),
+        }
+    }
+
+    /// Ends node by node in a loop, as far as no other version has them. So a long list takes no more stack than a short
+    /// one; a plain drop ends each node inside the one before, and may run out of stack.
+    pub fn end(self) {
+        let Links { mut first, len: _ } = self.links;
+        while let Some(mut node) = first {
+            first = match Arc::get_mut(&mut node) {
+                Some(node) => {
+                    node.rest.len = 0;
+                    node.rest.first.take()
+                }
+                None => None,
+            };
+        }
+    }
+
+    /// Whether both have the same first node, as exactly as `Arc::ptr_eq` says it. Empty lists have none.
+    pub fn ptr_eq(this: &List<T>, other: &List<T>) -> bool {
+        match (&this.links.first, &other.links.first) {
+            (Some(node), Some(same)) => Arc::ptr_eq(node, same),
+            _ => false,
+        }
+    }
+}

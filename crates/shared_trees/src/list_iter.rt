@@ -1,0 +1,83 @@
+//! The items of a list, one after another.
+ghost use Rattle.std.specs.Prelude.{◌≡◌, ⊤};
+ghost use Rattle.std.specs.Iterator.{YieldsFirstRef, item_count};
+
+use crate::links::Links;
+use crate::list::List;
+use std::alloc::AllocError;
+use std::iter::FusedIterator;
+use std::marker::Model;
+
+/// An iterator over the items of a `List`, from the one that was pushed last.
+#[derive(Drop)]
+pub struct ListIter<'a, T: Send + Sync> {
+    links: &'a Links<T>,
+}
+
+impl<'a, T: Send + Sync> Model for ListIter<'a, T> {
+    ghost use Rattle.std.specs.Prelude.{List};
+
+    ghost Value = { List T };
+
+    ghost view = { λ i. i.links.now };
+}
+
+impl<'a, T: Send + Sync> IntoIterator for &'a List<T> {
+    type Item = &'a T;
+
+    type IntoIter = ListIter<'a, T>;
+
+    ghost into_iter_gives = { λ list r. r ≡ list.now };
+
+    fn into_iter(self) -> ListIter<'a, T> {
+        ListIter { links: &self.links }
+    }
+}
+
+impl<T: Send + Sync> List<T> {
+    /// An iterator over the items, from the one that was pushed last.
+    pub fn iter(&self) -> ListIter<'_, T>
+        ensures { result ≡ self.now }
+    {
+        self.into_iter()
+    }
+}
+
+impl<'a, T: Send + Sync> Iterator for ListIter<'a, T> {
+    type Item = &'a T;
+
+    ghost next_gives = { YieldsFirstRef (λ s. s) };
+
+    ghost remaining = { item_count (λ s. s) };
+
+    fn next(&mut self) -> Option<&'a T> {
+        let links = self.links;
+        let node = links.first.as_ref()?;
+        self.links = &node.rest;
+        Some(&node.value)
+    }
+
+    fn size_hint(&self) -> (usize, Option<usize>) {
+        let links = self.links;
+        (links.len, Some(links.len))
+    }
+}
+
+impl<'a, T: Send + Sync> ExactSizeIterator for ListIter<'a, T> {
+    fn len(&self) -> usize {
+        let links = self.links;
+        links.len
+    }
+}
+
+impl<'a, T: Send + Sync> FusedIterator for ListIter<'a, T> {}
+
+impl<'a, T: Send + Sync> Clone for ListIter<'a, T> {
+    ghost is_clone = { λ s r. r ≡ s };
+
+    ghost is_infallible = { λ _. ⊤ };
+
+    fn clone(&self) -> Result<ListIter<'a, T>, AllocError> {
+        Ok(ListIter { links: self.links })
+    }
+}

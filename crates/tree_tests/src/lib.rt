@@ -1,0 +1,7 @@
+//! Tests of `shared_trees`: what no contract says.
+#![tactic(auto)]
+
+#[cfg(test)]
+mod lists;
+#[cfg(test)]
+mod maps;

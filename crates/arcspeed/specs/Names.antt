@@ -1,7 +1,7 @@
 -- How the workloads are called.
 use Rattle.std.specs.Prelude.{ℕ, List, codes}
 use Rattle.arcspeed.specs.declared.workload.Workload.{Workload}
-use Rattle.arcspeed.specs.declared.workload.Workload.TheVariants.{NewDrop, Replace, CloneDrop, CloneHold, DerefSum, MakeMutUnique, MakeMutShared, GetMutUnique, Contend1, Contend2, Contend4, HeaderBuild, HeaderSum, MarkedClone, MarkedClone4, UnionClone}
+use Rattle.arcspeed.specs.declared.workload.Workload.TheVariants.{NewDrop, Replace, CloneDrop, CloneHold, DerefSum, MakeMutUnique, MakeMutShared, GetMutUnique, Contend1, Contend2, Contend4, HeaderBuild, HeaderSum, MarkedClone, MarkedClone4, UnionClone, CowVersion, CowSet, CowGet}
 
 abbrev pub name_of : Workload → List ℕ
 name_of NewDrop = codes "new-drop"
@@ -20,3 +20,6 @@ name_of HeaderSum = codes "header-sum"
 name_of MarkedClone = codes "marked-clone"
 name_of MarkedClone4 = codes "marked-clone-4"
 name_of UnionClone = codes "union-clone"
+name_of CowVersion = codes "cow-version"
+name_of CowSet = codes "cow-set"
+name_of CowGet = codes "cow-get"

@@ -1,4 +1,5 @@
 //! Why a workload gave no checksum.
+use cow_table::SetError;
 use servo_arc::Full;
 use servo_arc::header_slice::BuildError;
 use std::alloc::{AllocError, AllocFailed};
@@ -34,6 +35,12 @@ impl From<Full> for Fault {
 
 impl From<BuildError> for Fault {
     fn from(_error: BuildError) -> Fault {
+        Fault::Refused
+    }
+}
+
+impl From<SetError> for Fault {
+    fn from(_error: SetError) -> Fault {
         Fault::Refused
     }
 }

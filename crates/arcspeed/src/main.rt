@@ -11,6 +11,7 @@ mod random;
 mod read;
 mod threads;
 mod union;
+mod versions;
 mod workload;
 mod written;
 
@@ -60,6 +61,9 @@ fn checksum<R: Threads + Wait + Sync>(
         Workload::MarkedClone => cloned::marked_clone(alloc, iterations),
         Workload::MarkedClone4 => threads::marked_clone(rt, alloc, 4, iterations),
         Workload::UnionClone => union::union_clone(alloc, iterations),
+        Workload::CowVersion => versions::cow_version(alloc, iterations),
+        Workload::CowSet => versions::cow_set(alloc, iterations),
+        Workload::CowGet => versions::cow_get(alloc, iterations),
     }
 }
 

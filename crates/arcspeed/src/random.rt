@@ -21,11 +21,20 @@ impl Random {
         self.state
     }
 
+    /// A number below the bound, by this state.
+    pub fn pick(&self, bound: usize) -> usize
+        requires { 0 < bound }
+        ensures { result < bound }
+    {
+        (self.state >> 33) as usize % bound
+    }
+
     /// A number below the bound, by the next state.
     pub fn below(&mut self, bound: usize) -> usize
         requires { 0 < bound }
         ensures { result < bound }
     {
-        (self.next() >> 33) as usize % bound
+        let _next = self.next();
+        self.pick(bound)
     }
 }

@@ -20,6 +20,9 @@ pub enum Workload {
     MarkedClone,
     MarkedClone4,
     UnionClone,
+    CowVersion,
+    CowSet,
+    CowGet,
 }
 
 impl Workload {
@@ -47,6 +50,9 @@ impl Workload {
             "marked-clone" => Workload::MarkedClone,
             "marked-clone-4" => Workload::MarkedClone4,
             "union-clone" => Workload::UnionClone,
+            "cow-version" => Workload::CowVersion,
+            "cow-set" => Workload::CowSet,
+            "cow-get" => Workload::CowGet,
             _ => return None,
         })
     }

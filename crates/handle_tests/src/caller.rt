@@ -1,7 +1,8 @@
 //! How code above uses the handles.
-ghost use Rattle.std.specs.Prelude.{◌≡◌, false, true, IfOk, IfErr};
+ghost use Rattle.std.specs.Prelude.{◌≡◌, if◌then◌else◌, false, true, IfOk, IfErr};
 ghost use Rattle.servo_arc.specs.Borrowed.{borrowed};
 ghost use Rattle.servo_arc.specs.HeaderSlice.Builders.{IsBuilt, Refuses};
+ghost use Rattle.servo_arc.specs.BuildError.TheVariants.{Memory};
 
 use servo_arc::{Arc, ArcBorrow, BuildError, ThinArc, UniqueArc};
 use std::alloc::{AllocError, Global};
@@ -15,7 +16,7 @@ pub struct Style {
 
 /// A style that is written first and then shared. Where there is no memory for it, the empty style comes back.
 pub fn plain_style(alloc: Global, size: u32) -> Result<Arc<Style>, Style>
-    ensures made { IfOk result (λ style. style.value ≡ record { size = size; is_bold = false }) }
+    ensures made { IfOk result (λ style. style ≡ record { size = size; is_bold = false }) }
     ensures refused { IfErr result (λ style. style ≡ record { size = 0; is_bold = false }) }
 {
     let empty = Style {
@@ -29,7 +30,7 @@ pub fn plain_style(alloc: Global, size: u32) -> Result<Arc<Style>, Style>
 
 /// The bold form of a style, in a block of its own. Who shares the given style still sees it as it was.
 pub fn with_bold(alloc: Global, style: &Arc<Style>) -> Result<Arc<Style>, AllocError>
-    ensures { IfOk result (λ bold. bold.value ≡ record style.now.value { is_bold = true }) }
+    ensures { IfOk result (λ bold. bold ≡ record style.now { is_bold = true }) }
 {
     let mut bold = style.clone()?;
     Arc::make_mut(&mut bold, alloc)?.is_bold = true;
@@ -38,8 +39,8 @@ pub fn with_bold(alloc: Global, style: &Arc<Style>) -> Result<Arc<Style>, AllocE
 
 /// A style beside its bold form.
 pub fn plain_and_bold(alloc: Global, size: u32) -> Result<(Arc<Style>, Arc<Style>), AllocError>
-    ensures plain { IfOk result (λ styles. styles.0.value ≡ record { size = size; is_bold = false }) }
-    ensures bold { IfOk result (λ styles. styles.1.value ≡ record { size = size; is_bold = true }) }
+    ensures plain { IfOk result (λ styles. styles.0 ≡ record { size = size; is_bold = false }) }
+    ensures bold { IfOk result (λ styles. styles.1 ≡ record { size = size; is_bold = true }) }
 {
     let Ok(plain) = plain_style(alloc, size) else {
         return Err(AllocError);
@@ -50,7 +51,7 @@ pub fn plain_and_bold(alloc: Global, size: u32) -> Result<(Arc<Style>, Arc<Style
 
 /// The size of a style that is borrowed.
 pub fn size_of(style: ArcBorrow<'_, Style>) -> u32
-    ensures { result ≡ (borrowed style.entry).value.size }
+    ensures { result ≡ (borrowed style.entry).size }
 {
     style.get().size
 }
@@ -63,8 +64,52 @@ pub fn styled<I: Iterator<Item = char>>(
     number: usize,
 ) -> Result<ThinArc<Style, char>, BuildError>
     requires { I.can_next letters }
-    ensures built { IfOk result (λ text. IsBuilt I.next_gives letters number style text.value) }
+    ensures built { IfOk result (λ text. IsBuilt I.next_gives letters number style text) }
     ensures refused { IfErr result (Refuses I.next_gives letters number) }
 {
     Arc::from_header_and_iter_with_size(alloc, style, letters, number)
+}
+
+/// The numbers of a slice under their rule. Only want of memory refuses it.
+pub fn properties(
+    alloc: Global,
+    rule: u32,
+    numbers: &[u32],
+) -> Result<ThinArc<u32, u32>, BuildError>
+    ensures built { IfOk result (λ list. list ≡ record { header = rule; items = numbers.now }) }
+    ensures refused { IfErr result (λ refusal. refusal ≡ Memory) }
+{
+    Arc::from_header_and_iter(alloc, rule, numbers.iter().copied())
+}
+
+/// The same of a vector, which is used up.
+pub fn properties_of(
+    alloc: Global,
+    rule: u32,
+    numbers: Vec<u32>,
+) -> Result<ThinArc<u32, u32>, BuildError>
+    ensures built { IfOk result (λ list. list ≡ record { header = rule; items = numbers.items }) }
+    ensures refused { IfErr result (λ refusal. refusal ≡ Memory) }
+{
+    Arc::from_header_and_iter(alloc, rule, numbers.into_iter())
+}
+
+/// The rule that the properties stand under.
+pub fn rule_of(list: &ThinArc<u32, u32>) -> u32
+    ensures { result ≡ list.now.header }
+{
+    list.header
+}
+
+/// Puts the properties under another rule, where nobody else shares them.
+pub fn put_under(list: &mut ThinArc<u32, u32>, rule: u32) -> bool
+    ensures { list.new ≡ (if result then record list.old { header = rule } else list.old) }
+{
+    match Arc::get_mut(list) {
+        Some(slice) => {
+            slice.header = rule;
+            true
+        }
+        None => false,
+    }
 }

@@ -1,5 +1,8 @@
 // The caller of the documentation, called.
-use crate::caller::{Style, plain_and_bold, plain_style, size_of, styled};
+use crate::caller::{
+    Style, plain_and_bold, plain_style, properties, properties_of, put_under, rule_of, size_of,
+    styled,
+};
 use servo_arc::{Arc, BuildError};
 use std::test::Fail;
 
@@ -31,5 +34,18 @@ fn letters_stand_under_their_style(rt: HostRuntime) -> Result<(), Fail> {
     assert_eq!(rt; (&text.header, text.slice()), (&style, &['a', 'b'][..]));
     let refused = styled(rt.alloc(), style, ['a', 'b'].into_iter(), 3).err();
     assert_eq!(rt; refused, Some(BuildError::OverReported));
+    Ok(())
+}
+
+#[test]
+fn properties_stand_under_their_rule(rt: HostRuntime) -> Result<(), Fail> {
+    let mut list = properties(rt.alloc(), 7, &[1, 2, 3])?;
+    assert!(rt; (rule_of(&list), list.slice()) == (7, &[1, 2, 3][..]));
+    let other = list.clone()?;
+    assert!(rt; !put_under(&mut list, 8) && rule_of(&other) == 7);
+    drop(other);
+    assert!(rt; put_under(&mut list, 8) && rule_of(&list) == 8);
+    let of_vector = properties_of(rt.alloc(), 7, vec![in rt.alloc(); 4, 5]?)?;
+    assert!(rt; of_vector.slice() == &[4, 5][..]);
     Ok(())
 }

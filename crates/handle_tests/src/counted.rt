@@ -51,7 +51,7 @@ impl Drop for Counted<'_> {
 }
 
 impl Clone for Counted<'_> {
-    ghost is_clone = { λ x y. y.value ≡ x.value };
+    ghost is_clone = { λ x y. y ≡ x };
 
     fn clone(&self) -> Result<Self, AllocError> {
         self.tally.copies.fetch_add(1, SeqCst);

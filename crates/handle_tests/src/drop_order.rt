@@ -36,6 +36,8 @@ impl PartialEq for Named<'_> {
 
 const HEADER: u64 = 9;
 
+const TWELVE: &[u64] = &[1, 2, 3, 4, 5, 6, 7, 8, 1, 2, 3, 4];
+
 fn items_named<'a>(
     alloc: Global,
     names: &[u64],
@@ -57,6 +59,19 @@ fn drops_items_in_order_and_then_the_header(rt: HostRuntime) -> Result<(), Fail>
         (0, &[1][..], Some(BuildError::UnderReported), 19),
         (0, &[][..], None, 9),
         (usize::MAX, &[][..], Some(BuildError::Memory), 9),
+        (12, TWELVE, None, 1_234_567_812_349),
+        (
+            13,
+            TWELVE,
+            Some(BuildError::OverReported),
+            1_234_567_812_349,
+        ),
+        (
+            11,
+            TWELVE,
+            Some(BuildError::UnderReported),
+            1_234_567_812_349,
+        ),
     ];
     for (num_items, names, refusal, expected) in rows {
         let log = AtomicU64::new(0);

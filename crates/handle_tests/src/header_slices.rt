@@ -71,8 +71,8 @@ fn swap<H: Send + Sync, T: Send + Sync>(
     x: &mut UniqueArc<HeaderSlice<H, T>>,
     y: &mut UniqueArc<HeaderSlice<H, T>>,
 )
-    ensures x { x.new.value ≡ y.old.value }
-    ensures y { y.new.value ≡ x.old.value }
+    ensures x { x.new ≡ y.old }
+    ensures y { y.new ≡ x.old }
 {
     mem::swap(&mut **x, &mut **y);
 }

@@ -149,15 +149,16 @@ fn takes_items_without_size(rt: HostRuntime) -> Result<(), Fail> {
     Ok(())
 }
 
-// Gives fewer items than it says that it has.
+// Gives fewer items than it says that it has, and counts how often it was asked for their number.
 #[derive(Drop)]
-struct Boasting {
+struct Boasting<'a> {
     claimed: usize,
     left: u8,
+    asked: &'a AtomicU64,
     ghost enough: { left ≤ claimed },
 }
 
-impl Iterator for Boasting {
+impl Iterator for Boasting<'_> {
     ghost use Rattle.std.specs.Iterator.{at_most};
 
     type Item = u8;
@@ -171,33 +172,47 @@ impl Iterator for Boasting {
         *self = Boasting {
             claimed: self.claimed - 1,
             left: self.left - 1,
+            asked: self.asked,
         };
         Some(self.left)
     }
 }
 
-impl ExactSizeIterator for Boasting {
+impl ExactSizeIterator for Boasting<'_> {
     fn len(&self) -> usize {
+        self.asked.fetch_add(1, SeqCst);
         self.claimed
     }
 }
 
+fn boaster(claimed: usize, asked: &AtomicU64) -> Boasting<'_>
+    requires { 3 ≤ claimed }
+{
+    Boasting {
+        claimed,
+        left: 3,
+        asked,
+    }
+}
+
 #[test]
-fn asks_the_iterator_for_the_number(rt: HostRuntime) -> Result<(), Fail> {
+fn asks_the_iterator_for_the_number_once(rt: HostRuntime) -> Result<(), Fail> {
+    let asked = AtomicU64::new(0);
     for claimed in [3, 4] {
         let expected = if claimed == 3 {
             Ok(&[2, 1, 0][..])
         } else {
             Err(BuildError::OverReported)
         };
-        match Arc::from_header_and_iter(rt.alloc(), 1u64, Boasting { claimed, left: 3 }) {
+        match Arc::from_header_and_iter(rt.alloc(), 1u64, boaster(claimed, &asked)) {
             Ok(shared) => assert_eq!(rt; Ok(shared.slice()), expected),
             Err(refusal) => assert_eq!(rt; Err(refusal), expected),
         }
-        match UniqueArc::from_header_and_iter(rt.alloc(), 1u64, Boasting { claimed, left: 3 }) {
+        match UniqueArc::from_header_and_iter(rt.alloc(), 1u64, boaster(claimed, &asked)) {
             Ok(unique) => assert_eq!(rt; Ok(unique.slice()), expected),
             Err(refusal) => assert_eq!(rt; Err(refusal), expected),
         }
     }
+    assert_eq!(rt; asked.load(SeqCst), 4);
     Ok(())
 }

@@ -16,10 +16,12 @@ mod drop_order;
 mod header_slices;
 #[cfg(test)]
 mod iterators;
+#[cfg(test)]
+mod limits;
 pub mod made;
 #[cfg(test)]
 mod one_thread;
 #[cfg(test)]
-mod refused_memory;
+mod table_slots;
 #[cfg(test)]
 mod unions;

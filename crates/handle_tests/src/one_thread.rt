@@ -133,6 +133,38 @@ fn a_unique_handle_is_written_and_then_shared(rt: HostRuntime) -> Result<(), Fai
 }
 
 #[test]
+fn a_lone_handle_is_unique_again(rt: HostRuntime) -> Result<(), Fail> {
+    let tally = Tally::new();
+    let a = arc_of(rt.alloc(), Counted::new(&tally, 5))?;
+    let mut unique = Arc::into_unique(a).ok().ok_or("shared")?;
+    unique.value = 6;
+    let a = unique.shareable();
+    let b = a.clone()?;
+    assert_eq!(rt; (a.value, b.value), (6, 6));
+    let a = Arc::into_unique(a).err().ok_or("unique")?;
+    assert!(rt; Arc::ptr_eq(&a, &b) && !b.is_unique());
+    drop(a);
+    let unique = Arc::into_unique(b).ok().ok_or("shared")?;
+    assert_eq!(rt; (unique.value, tally.copies(), tally.drops()), (6, 0, 0));
+    drop(unique);
+    assert_eq!(rt; tally.drops(), 1);
+    Ok(())
+}
+
+#[test]
+fn a_handle_of_a_marked_block_is_never_unique_again(rt: HostRuntime) -> Result<(), Fail> {
+    let tally = Tally::new();
+    let a = Arc::new_leaked(rt.alloc(), Counted::new(&tally, 5))
+        .ok()
+        .ok_or("memory")?;
+    let a = Arc::into_unique(a).err().ok_or("unique")?;
+    assert!(rt; a.is_static() && a.value == 5);
+    drop(a);
+    assert_eq!(rt; tally.drops(), 0);
+    Ok(())
+}
+
+#[test]
 fn an_unwritten_block_drops_no_value(rt: HostRuntime) -> Result<(), Fail> {
     let tally = Tally::new();
     drop(UniqueArc::<Counted<'_>>::new_uninit(rt.alloc())?);

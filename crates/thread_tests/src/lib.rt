@@ -2,8 +2,14 @@
 #![tactic(auto)]
 
 #[cfg(test)]
+mod limits;
+#[cfg(test)]
 mod many_threads;
 #[cfg(test)]
 mod threads;
 #[cfg(test)]
 mod unions;
+#[cfg(test)]
+mod unique_again;
+#[cfg(test)]
+mod wrong_answers;

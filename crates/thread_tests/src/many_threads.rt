@@ -31,6 +31,34 @@ fn four_threads_clone_within_bounds(rt: HostRuntime) -> Result<(), Fail> {
     Ok(())
 }
 
+const TRIES: u64 = 250_000;
+
+fn count_refused(handle: &Arc<u64>) -> u64 {
+    let mut refused = 0u64;
+    for _ in 0..TRIES {
+        if handle.clone().is_err() {
+            refused = refused.wrapping_add(1);
+        }
+    }
+    refused
+}
+
+// A clone is refused after 64 lost raises, which four threads that only clone hardly ever bring about. After 4 of them
+// more than one in a hundred would be refused where the threads run at once.
+#[test]
+fn four_threads_are_seldom_refused(rt: HostRuntime) -> Result<(), Fail> {
+    let a = arc_of(rt.alloc(), 7u64)?;
+    let ((one, two), (three, four)) = thread::join(
+        &rt,
+        || thread::join(&rt, || count_refused(&a), || count_refused(&a)),
+        || thread::join(&rt, || count_refused(&a), || count_refused(&a)),
+    );
+    let refused = one.wrapping_add(two).wrapping_add(three).wrapping_add(four);
+    println!(rt; "refused {refused} times of {}", 4 * TRIES)?;
+    assert!(rt; refused < TRIES / 25);
+    Ok(())
+}
+
 fn clone_and_drop<T: Send + Sync + Drop>(handle: &Arc<T>) {
     for _ in 0..CLONES {
         let again: Result<_, _> = handle.clone();

@@ -1,32 +1,32 @@
-// Threads that share one block. Each is joined, and each waiting loop gives up.
+// Threads that share one block. Each is joined. Where two should act at the same moment, they look for each other
+// before, and go on alone where the other is not run for long: what is asserted holds either way.
 use handle_tests::counted::{Counted, Tally};
 use handle_tests::made::arc_of;
 use servo_arc::{Arc, ArcUnion};
 use std::alloc::Global;
-use std::sync::Wait;
 use std::sync::atomic::AtomicBool;
 use std::sync::atomic::Ordering::SeqCst;
+use std::sync::{Barrier, Wait};
 use std::test::Fail;
 use std::thread;
 
 const MOST_TURNS: u64 = 100_000_000;
 
-// Whether the flag was seen set.
-fn sees(flag: &AtomicBool) -> bool {
+// Sets its flag and looks for the other one.
+fn meet(own: &AtomicBool, other: &AtomicBool) {
+    own.store(true, SeqCst);
     for _ in 0..MOST_TURNS {
-        if flag.load(SeqCst) {
-            return true;
+        if other.load(SeqCst) {
+            return;
         }
     }
-    false
 }
 
-// Sets its flag, waits for the other one, and then clones and drops.
+// Clones and drops when the other thread does.
 fn clone_after(own: &AtomicBool, other: &AtomicBool, handle: Arc<Counted<'_>>) -> bool {
-    own.store(true, SeqCst);
-    let met = sees(other);
+    meet(own, other);
     match handle.clone() {
-        Ok(again) => met && again.value == 5 && handle.value == 5,
+        Ok(again) => again.value == 5 && handle.value == 5,
         Err(_) => false,
     }
 }
@@ -89,10 +89,9 @@ fn handles_by_token_and_by_borrow_are_cloned_at_once(rt: HostRuntime) -> Result<
 type Numbers<'a> = ArcUnion<u64, Counted<'a>>;
 
 fn clone_union_after(own: &AtomicBool, other: &AtomicBool, union: Numbers<'_>) -> bool {
-    own.store(true, SeqCst);
-    let met = sees(other);
+    meet(own, other);
     match union.clone() {
-        Ok(again) => met && again.as_second().is_some_and(|borrow| borrow.value == 5),
+        Ok(again) => again.as_second().is_some_and(|borrow| borrow.value == 5),
         Err(_) => false,
     }
 }
@@ -158,11 +157,9 @@ fn a_mark_among_clones_keeps_the_value(rt: HostRuntime) -> Result<(), Fail> {
     Ok(())
 }
 
-fn drop_after(own: &AtomicBool, other: &AtomicBool, handle: Arc<Counted<'_>>) -> bool {
-    own.store(true, SeqCst);
-    let met = sees(other);
+fn drop_after(own: &AtomicBool, other: &AtomicBool, handle: Arc<Counted<'_>>) {
+    meet(own, other);
     drop(handle);
-    met
 }
 
 #[test]
@@ -172,24 +169,21 @@ fn the_last_two_handles_drop_the_value_once(rt: HostRuntime) -> Result<(), Fail>
         let (left, right) = (AtomicBool::new(false), AtomicBool::new(false));
         let a = arc_of(rt.alloc(), Counted::new(&tally, round))?;
         let b = a.clone()?;
-        let met = thread::join(
+        thread::join(
             &rt,
             || drop_after(&left, &right, a),
             || drop_after(&right, &left, b),
         );
-        assert_eq!(rt; met, (true, true));
         assert_eq!(rt; tally.drops(), round);
     }
     Ok(())
 }
 
-// Writes only once the other handle was seen to be gone.
-fn write_when_alone(mut handle: Arc<u64>, go: &AtomicBool, gone: &AtomicBool) -> bool {
+// Asks before the other handle goes, and writes once it is gone.
+fn write_when_alone(mut handle: Arc<u64>, both: &Barrier, rt: &impl Wait) -> bool {
     let refused = Arc::get_mut(&mut handle).is_none();
-    go.store(true, SeqCst);
-    if !sees(gone) {
-        return false;
-    }
+    both.wait(rt);
+    both.wait(rt);
     match Arc::get_mut(&mut handle) {
         Some(value) => *value = 2,
         None => return false,
@@ -199,20 +193,19 @@ fn write_when_alone(mut handle: Arc<u64>, go: &AtomicBool, gone: &AtomicBool) ->
 
 #[test]
 fn a_handle_writes_once_the_other_is_gone(rt: HostRuntime) -> Result<(), Fail> {
-    let (go, gone) = (AtomicBool::new(false), AtomicBool::new(false));
+    let both = Barrier::new(2);
     let a = arc_of(rt.alloc(), 1u64)?;
     let b = a.clone()?;
-    let done = thread::join(
+    let (written, ()) = thread::join(
         &rt,
-        || write_when_alone(a, &go, &gone),
+        || write_when_alone(a, &both, &rt),
         || {
-            let told = sees(&go);
+            both.wait(&rt);
             drop(b);
-            gone.store(true, SeqCst);
-            told
+            both.wait(&rt);
         },
     );
-    assert_eq!(rt; done, (true, true));
+    assert!(rt; written);
     Ok(())
 }
 

@@ -1,5 +1,5 @@
 // What a call on a table of unions leaves.
-use super::tell;
+use crate::telling::tell;
 use servo_arc::ArcUnionBorrow;
 use servo_arc::table::{Reply, UnionCommand, UnionTable};
 use std::alloc::AllocError;

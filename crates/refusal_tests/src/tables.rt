@@ -1,5 +1,5 @@
 // What a call on a table of handles leaves.
-use super::tell;
+use crate::telling::tell;
 use servo_arc::table::{Command, PlainCommand, Reply, Table};
 use std::alloc::{AllocError, Global};
 use std::test::Fail;

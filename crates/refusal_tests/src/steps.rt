@@ -1,6 +1,7 @@
 // What a call on the core leaves, and a run of steps.
-use super::tell;
+use crate::telling::tell;
 use servo_arc::counting_core::{Answer, Core, Step};
+use servo_arc::word::MAX_REFCOUNT;
 use std::test::Fail;
 
 const LOAD: Step<u32> = Step::Load {
@@ -10,7 +11,7 @@ const LOAD: Step<u32> = Step::Load {
 
 #[test]
 fn a_core_hands_the_value_back(rt: HostRuntime) -> Result<(), Fail> {
-    match Core::new(rt.alloc(), 5u32, 2) {
+    match Core::new(rt.alloc(), 5u32, 2, MAX_REFCOUNT) {
         Ok(mut core) => assert_eq!(rt; core.step(LOAD), Answer::Value(5)),
         Err(value) => {
             assert_eq!(rt; value, 5);
@@ -94,7 +95,7 @@ const RAISED_AGAIN: [Answer<u32>; 11] = [
 
 #[test]
 fn at_most_one_step_of_a_run_is_refused(rt: HostRuntime) -> Result<(), Fail> {
-    let Ok(mut core) = Core::new(rt.alloc(), 5u32, 2) else {
+    let Ok(mut core) = Core::new(rt.alloc(), 5u32, 2, MAX_REFCOUNT) else {
         return tell(&rt, "the set-up");
     };
     let Ok(answers) = core.run(&STEPS) else {

@@ -1,6 +1,6 @@
 // What a builder of header slices leaves.
-use super::tell;
-use crate::counted::{Counted, Tally};
+use crate::telling::tell;
+use handle_tests::counted::{Counted, Tally};
 use servo_arc::{Arc, BuildError, HeaderSlice, UniqueArc};
 use std::io::Print;
 use std::process::Abort;

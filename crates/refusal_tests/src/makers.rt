@@ -1,6 +1,6 @@
 // What a call that makes a handle or copies its value leaves.
-use super::tell;
-use crate::counted::{Counted, Tally};
+use crate::telling::tell;
+use handle_tests::counted::{Counted, Tally};
 use servo_arc::{Arc, UniqueArc};
 use std::alloc::{AllocError, Global};
 use std::io::Print;
@@ -28,6 +28,13 @@ fn check_made(
 fn new_hands_the_value_back(rt: HostRuntime) -> Result<(), Fail> {
     let tally = Tally::new();
     let made = Arc::new(rt.alloc(), Counted::new(&tally, 5));
+    check_made(&rt, &tally, made)
+}
+
+#[test]
+fn new_with_limit_hands_the_value_back(rt: HostRuntime) -> Result<(), Fail> {
+    let tally = Tally::new();
+    let made = Arc::new_with_limit(rt.alloc(), Counted::new(&tally, 5), 2);
     check_made(&rt, &tally, made)
 }
 

@@ -1,0 +1,23 @@
+//! Two handles share a block until one of them writes.
+#![tactic(auto)]
+
+ghost use Rattle.std.specs.Prelude.{◌≡◌, IfOk};
+
+use servo_arc::Arc;
+use std::alloc::{AllocError, Global};
+
+/// What two handles of a 5 read once a 9 was written through the second of them.
+fn written_once(alloc: Global) -> Result<(u32, u32), AllocError>
+    ensures { IfOk result (λ read. read ≡ (5, 9)) }
+{
+    let first = Arc::new(alloc, 5).map_err(|_| AllocError)?;
+    let mut second = first.clone()?;
+    *Arc::make_mut(&mut second, alloc)? = 9;
+    Ok((*first, *second))
+}
+
+fn main(rt: HostRuntime) -> Result<(), anyhow::Error> {
+    let (first, second) = written_once(rt.alloc())?;
+    println!(rt; "{first} {second}")?;
+    Ok(())
+}

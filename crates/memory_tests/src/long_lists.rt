@@ -1,0 +1,67 @@
+// The end of a list of a million nodes, each the only owner of the next. A loop takes the nodes apart one after the
+// other. A plain drop would be one drop inside the other, and may run out of stack.
+use servo_arc::Arc;
+use std::alloc::Global;
+use std::sync::atomic::AtomicU64;
+use std::sync::atomic::Ordering::SeqCst;
+use std::test::Fail;
+
+const NODES: u64 = 1_000_000;
+
+// Counts its drops.
+struct Value<'a> {
+    drops: &'a AtomicU64,
+}
+
+impl Drop for Value<'_> {
+    fn drop(self) {
+        let Value { drops } = self;
+        drops.fetch_add(1, SeqCst);
+    }
+}
+
+#[derive(Drop)]
+struct Node<'a> {
+    value: Value<'a>,
+    next: Option<Arc<Node<'a>>>,
+}
+
+fn long_list(alloc: Global, drops: &AtomicU64) -> Result<Option<Arc<Node<'_>>>, Fail> {
+    let mut list = None;
+    for _ in 0..NODES {
+        let node = Node {
+            value: Value { drops },
+            next: list,
+        };
+        list = Some(Arc::new(alloc, node).ok().ok_or("memory")?);
+    }
+    Ok(list)
+}
+
+fn end_by_into_unique(mut list: Option<Arc<Node<'_>>>) {
+    while let Some(node) = list {
+        list = match Arc::into_unique(node) {
+            Ok(mut unique) => unique.next.take(),
+            Err(_) => None,
+        };
+    }
+}
+
+fn end_by_get_mut(mut list: Option<Arc<Node<'_>>>) {
+    while let Some(mut node) = list {
+        list = match Arc::get_mut(&mut node) {
+            Some(alone) => alone.next.take(),
+            None => None,
+        };
+    }
+}
+
+#[test]
+fn a_long_list_ends_in_a_loop(rt: HostRuntime) -> Result<(), Fail> {
+    let drops = AtomicU64::new(0);
+    end_by_into_unique(long_list(rt.alloc(), &drops)?);
+    assert_eq!(rt; drops.load(SeqCst), NODES);
+    end_by_get_mut(long_list(rt.alloc(), &drops)?);
+    assert_eq!(rt; drops.load(SeqCst), 2 * NODES);
+    Ok(())
+}

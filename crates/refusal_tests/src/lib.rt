@@ -1,0 +1,22 @@
+//! Tests in which one request for memory is refused, as `rt try --test --fail-alloc N` refuses the Nth of each. Each test
+//! holds whichever of its requests it is, and says which one it met.
+#![tactic(auto)]
+
+#[cfg(test)]
+mod builders;
+#[cfg(test)]
+mod counts;
+#[cfg(test)]
+mod makers;
+#[cfg(test)]
+mod scripts_run;
+#[cfg(test)]
+mod steps;
+#[cfg(test)]
+mod tables;
+#[cfg(test)]
+mod telling;
+#[cfg(test)]
+mod union_tables;
+#[cfg(test)]
+mod versions;

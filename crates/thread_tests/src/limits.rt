@@ -1,0 +1,75 @@
+// Threads that clone one lent handle of a block with a limit. Each is joined.
+use servo_arc::{Arc, Full};
+use std::sync::atomic::AtomicU64;
+use std::sync::atomic::Ordering::SeqCst;
+use std::sync::{Barrier, Wait};
+use std::test::Fail;
+use std::thread;
+
+// The lent handle and two clones.
+const LIMIT: u64 = 3;
+
+const ROUNDS: u64 = 1000;
+
+// Asks for three clones, which is one too many even for one thread. They are counted after they were granted and until
+// they are dropped.
+fn stays_within(handle: &Arc<u64>, clones: &AtomicU64, rt: &impl Wait) -> bool {
+    let kept = [
+        Arc::clone(handle, rt).ok(),
+        handle.clone().ok(),
+        Arc::clone(handle, rt).ok(),
+    ];
+    let mut number = 0u64;
+    let mut are_right = true;
+    for clone in kept.iter() {
+        if let Some(again) = clone {
+            number = number.wrapping_add(1);
+            are_right = are_right && **again == 7;
+        }
+    }
+    let others = clones.fetch_add(number, SeqCst);
+    clones.fetch_sub(number, SeqCst);
+    drop(kept);
+    are_right && others.wrapping_add(number) < LIMIT
+}
+
+fn ask_often(handle: &Arc<u64>, clones: &AtomicU64, start: &Barrier, rt: &impl Wait) -> bool {
+    start.wait(rt);
+    for _ in 0..ROUNDS {
+        if !stays_within(handle, clones, rt) {
+            return false;
+        }
+    }
+    true
+}
+
+#[test]
+fn four_threads_have_no_more_handles_than_the_limit(rt: HostRuntime) -> Result<(), Fail> {
+    let a = Arc::new_with_limit(rt.alloc(), 7u64, LIMIT)
+        .ok()
+        .ok_or("memory")?;
+    let (clones, start) = (AtomicU64::new(0), Barrier::new(4));
+    let done = thread::join(
+        &rt,
+        || {
+            thread::join(
+                &rt,
+                || ask_often(&a, &clones, &start, &rt),
+                || ask_often(&a, &clones, &start, &rt),
+            )
+        },
+        || {
+            thread::join(
+                &rt,
+                || ask_often(&a, &clones, &start, &rt),
+                || ask_often(&a, &clones, &start, &rt),
+            )
+        },
+    );
+    assert_eq!(rt; done, ((true, true), (true, true)));
+    assert!(rt; a.is_unique() && clones.load(SeqCst) == 0);
+    let (b, c) = (Arc::clone(&a, &rt)?, Arc::clone(&a, &rt)?);
+    assert_eq!(rt; Arc::clone(&a, &rt).err(), Some(Full));
+    assert_eq!(rt; (*b, *c), (7, 7));
+    Ok(())
+}

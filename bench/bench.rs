@@ -6,6 +6,9 @@
 //!
 //! An implementation is `servo` (the crate that was ported), `std` (the standard library's `Arc`) or `word`: a pointer
 //! of this file's own that makes the port's four steps, each `SeqCst`, in Rust, to tell what they cost by themselves.
+//! Versions of a list are also in `plain`, a `Vec` that each version copies.
+
+mod versions;
 
 use std::env;
 use std::process;
@@ -596,6 +599,11 @@ const WORKLOADS: &[Workload] = &[
     },
 ];
 
+/// These and those of the other files.
+fn workloads() -> impl Iterator<Item = &'static Workload> {
+    WORKLOADS.iter().chain(versions::WORKLOADS)
+}
+
 fn median(mut all: Vec<f64>) -> f64 {
     all.sort_by(|a, b| a.total_cmp(b));
     let m = all.len() / 2;
@@ -618,7 +626,7 @@ fn table(repeats: usize) {
         "{:<16} {:>10} {:>10} {:>10} | {:>10} {:>9}",
         "workload", "servo", "std", "word", "word/servo", "std/servo"
     );
-    for w in WORKLOADS {
+    for w in workloads() {
         let mut found: Vec<Vec<f64>> = w.runs.iter().map(|_| Vec::new()).collect();
         for _ in 0..repeats {
             for (k, (_, run)) in w.runs.iter().enumerate() {
@@ -650,7 +658,7 @@ fn table(repeats: usize) {
 
 fn one(implementation: &str, name: &str, n: &str) -> Option<u64> {
     let n = n.parse().ok()?;
-    let w = WORKLOADS.iter().find(|w| w.name == name)?;
+    let w = workloads().find(|w| w.name == name)?;
     let (_, run) = w.runs.iter().find(|(x, _)| *x == implementation)?;
     Some(run(n))
 }
@@ -660,7 +668,7 @@ fn main() {
     let words: Vec<&str> = args.iter().map(|s| s.as_str()).collect();
     match words.as_slice() {
         ["list"] => {
-            for w in WORKLOADS {
+            for w in workloads() {
                 let names: Vec<&str> = w.runs.iter().map(|(x, _)| *x).collect();
                 println!(
                     "{} {} {} {}",

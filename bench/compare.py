@@ -25,7 +25,7 @@ def arguments():
     parser.add_argument("bench", help="the program of the peers")
     parser.add_argument("program", help="the program that is measured")
     parser.add_argument("workloads", nargs="*", help="all that the peer has, if none is named")
-    parser.add_argument("--peer", default="servo", help="servo, std or word")
+    parser.add_argument("--peer", default="servo", help="servo, std, word or plain")
     parser.add_argument("--repeats", type=int, default=11)
     parser.add_argument("--scale", type=float, default=1.0, help="multiplies the iterations")
     parser.add_argument("--instructions", action="store_true", help="counts them too, by callgrind")

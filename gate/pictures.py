@@ -1,0 +1,108 @@
+#!/usr/bin/env python3
+"""Draws examples of the counting core as pictures: a column for each owner, a row for each step with its answer, and the
+word after it. The answers come from the file beside the script, and the word follows from the steps and answers alone.
+
+    gate/pictures.py [--check]
+
+writes docs/pictures/NAME.svg for each example of NAMES. With --check it writes nothing, and ends with 1 where a picture
+is not as it would be drawn.
+"""
+import sys
+from pathlib import Path
+
+ROOT = Path(__file__).resolve().parent.parent
+NAMES = [
+    "stale_read_loses_once",
+    "clone_in_flight_when_marked",
+    "drop_in_flight_when_marked",
+    "drop_in_flight_still_counts",
+    "word_that_came_back",
+    "limit_reached",
+    "way_back",
+]
+ROW = 26
+COLUMN = 190
+WORD = 120
+TOP = 44
+
+STYLE = """<style>
+  text { font: 14px system-ui, sans-serif; fill: currentColor; }
+  .small { font-size: 12px; opacity: 0.75; }
+  .step { fill: #4a7fd4; fill-opacity: 0.16; stroke: #4a7fd4; }
+  .lost { fill: #d4804a; fill-opacity: 0.2; stroke: #d4804a; }
+  .line { stroke: currentColor; stroke-opacity: 0.3; }
+  :root { color: #222; }
+  @media (prefers-color-scheme: dark) { :root { color: #ddd; } }
+</style>"""
+
+
+def words_after(steps):
+    """The word after each step, by its answer: (whether it is marked, its count)."""
+    marked, count = False, 1
+    words = []
+    for (command, *_), answer in steps:
+        if answer.startswith("born") and command == "raise" and not marked:
+            count += 1
+        elif command == "lower" and answer != "barred":
+            count -= 1
+        elif answer == "marked":
+            marked = True
+        words.append(f"mark + {count}" if marked else str(count))
+    return words
+
+
+def read(name):
+    """The steps of an example, each with its answer."""
+    examples = ROOT / "examples"
+    lines = (examples / f"{name}.core").read_text().splitlines()
+    answers = (examples / f"{name}.expected").read_text().splitlines()
+    return [(line.split(), answer) for line, answer in zip(lines, answers, strict=True)]
+
+
+def drawn(name):
+    steps = read(name)
+    owners = 1 + max(int(operands[0]) for (_, *operands), _ in steps)
+    width = owners * COLUMN + WORD + 20
+    height = TOP + ROW * len(steps) + 10
+    end = TOP + ROW * len(steps)
+    parts = [
+        f'<svg xmlns="http://www.w3.org/2000/svg" viewBox="0 0 {width} {height}" width="{width}" height="{height}" role="img">',
+        f"<title>{name.replace('_', ' ')}</title>",
+        STYLE,
+    ]
+    for owner in range(owners):
+        middle = owner * COLUMN + COLUMN // 2
+        parts.append(f'<text x="{middle}" y="20" text-anchor="middle">owner {owner}</text>')
+        parts.append(f'<line class="line" x1="{middle}" y1="30" x2="{middle}" y2="{end}"/>')
+    word_at = owners * COLUMN + WORD // 2
+    parts.append(f'<text x="{word_at}" y="20" text-anchor="middle">word</text>')
+    parts.append(f'<text class="small" x="{word_at}" y="{TOP - 6}" text-anchor="middle">1</text>')
+    before = "1"
+    for row, (((command, owner, *operands), answer), word) in enumerate(zip(steps, words_after(steps))):
+        y = TOP + ROW * row
+        left = int(owner) * COLUMN + 8
+        kind = "lost" if (command, answer) == ("raise", "pending") else "step"
+        label = " ".join([command, *operands])
+        parts.append(f'<rect class="{kind}" x="{left}" y="{y + 2}" width="{COLUMN - 16}" height="{ROW - 4}" rx="4"/>')
+        parts.append(f'<text x="{left + 8}" y="{y + 18}">{label}</text>')
+        parts.append(f'<text x="{left + COLUMN - 24}" y="{y + 18}" text-anchor="end">{answer}</text>')
+        parts.append(f'<text class="{"" if word != before else "small"}" x="{word_at}" y="{y + 18}" text-anchor="middle">{word}</text>')
+        before = word
+    return "\n".join([*parts, "</svg>", ""])
+
+
+def main():
+    folder = ROOT / "docs" / "pictures"
+    other = []
+    for name in NAMES:
+        path = folder / f"{name}.svg"
+        if "--check" not in sys.argv:
+            path.write_text(drawn(name))
+        elif not path.exists() or path.read_text() != drawn(name):
+            other.append(name)
+    print("\n".join([f"{name}: the picture is another" for name in other] + [f"pictures: {len(NAMES)}, {len(other)} not as drawn"]))
+    return 1 if other else 0
+
+
+if __name__ == "__main__":
+    sys.exit(main())

@@ -72,6 +72,6 @@ returns-in_ok-clone-3 g t c =
     let rises : IsRising (n.less ++ n.entry ∷ n.greater) = cc in
     let h : c.args.key < n.entry.0 = omega arith in
     let put : with_entry c.args.key c.args.value (n.less ++ n.entry ∷ n.greater)
-        ≡ with_entry c.args.key c.args.value n.less ++ n.entry ∷ n.greater =
+    ≡ with_entry c.args.key c.args.value n.less ++ n.entry ∷ n.greater =
     with_left c.args.key c.args.value n.less n.entry n.greater h rises in
     IfOk-weaker c.with_sides-then-key-here-2.result _ _ (λ map made. cc (put, is, c.in_ok-less-2.ensures, c.in_ok-clone-3.ensures.cases)) c.with_sides-then-key-here-2.ensures

@@ -1,0 +1,256 @@
+#!/usr/bin/env python3
+"""Tries the planted faults, crates/NAME/must-fail/*.edit: the prover has to refuse each of them.
+
+A function is proved from its own body and the contracts of what it calls. So faults in the bodies of different functions
+do not see each other, and are tried together: each function that a fault changes has to keep an open goal of its own.
+A fault that changes more than bodies, or that leaves no goal open in one of them, is tried alone.
+
+    gate/faults.py                 tries all faults, and says how many a clause refuses
+    gate/faults.py NAME[/EDIT]..   tries those of a crate, or one of them, and says which goals each leaves open
+
+The proofs that the sound crates have in their folders out/ are used where they are current.
+"""
+
+import os
+import re
+import shutil
+import subprocess
+import sys
+import tempfile
+import threading
+import time
+from concurrent.futures import ThreadPoolExecutor
+from dataclasses import dataclass, field
+
+ROOT = os.path.dirname(os.path.dirname(os.path.abspath(__file__)))
+HEAD = re.compile(r"( *)(?:pub(?:\([a-z]+\))? )?(?:const )?(?:unsafe )?fn (\w+)")
+TOLD = re.compile(r"(note: )?(?:\./)?((?:src|specs|proofs)/[^:\s]+):(\d+):\d+: (?!note)(.*)")
+UNREAD = re.compile(r"is not in scope|has no field|is no name|operand is missing|expected the end|cannot continue")
+AT_ONCE = 2
+
+
+@dataclass(frozen=True)
+class Function:
+    file: str
+    name: str
+    body: int  # the first line of its body
+    end: int
+
+    def has(self, file, line):
+        """Whether what the prover told of a place is told of this function or of its proof."""
+        if file == self.file:
+            return self.head <= line <= self.end
+        module = re.sub(r"^src/|(/?lib|/?main)?\.rt$", "", self.file)
+        folder = os.path.dirname(file)
+        return folder.startswith(f"proofs/{module}") and os.path.basename(folder).lstrip("+") == self.name
+
+    head: int = 0
+
+
+@dataclass
+class Fault:
+    crate: str
+    name: str
+    lines: dict = field(default_factory=dict)  # by file and number, what stands there with the fault
+    functions: list = field(default_factory=list)
+    is_alone: bool = False
+
+
+@dataclass
+class Verdict:
+    is_refused: bool
+    goals: list
+    by_clause: bool = False
+
+
+class BadFault(Exception):
+    pass
+
+
+def functions_of(file, text):
+    """The functions of a file that have a body, told by its layout: a body ends at a brace below its head."""
+    lines, found = text.split("\n"), []
+    for at, line in enumerate(lines):
+        head = HEAD.match(line)
+        if not head:
+            continue
+        indent = head[1]
+        is_opening = lambda it: it == indent + "{" or it.endswith("{") and not it.startswith(indent + " ")
+        is_end = lambda it: it == indent + "}" or it.endswith(";") and not it.startswith(indent + " ")
+        opening = next((i for i in range(at, len(lines)) if is_opening(lines[i]) or is_end(lines[i])), at)
+        if line.endswith("}") or not is_opening(lines[opening]):
+            continue
+        end = next(i for i in range(opening, len(lines)) if lines[i] == indent + "}")
+        found.append(Function(file, head[2], opening + 1, end, at))
+    return found
+
+
+def text_of(path):
+    with open(path, encoding="utf-8") as it:
+        return it.read()
+
+
+def read_fault(crate, name):
+    folder = f"{ROOT}/crates/{crate}"
+    path, old, before, after = None, None, {}, {}
+    for line in text_of(f"{folder}/must-fail/{name}.edit").split("\n"):
+        if line.startswith("file: "):
+            path = line[len("file: ") :].strip()
+            if path not in before:
+                before[path] = after[path] = text_of(f"{folder}/{path}")
+        elif line.startswith("old: "):
+            old = line[len("old: ") :]
+        elif line.startswith("new:"):
+            if after[path].count(old) != 1:
+                raise BadFault(f"a text stands {after[path].count(old)} times in {path}, and not once: {old}")
+            after[path] = after[path].replace(old, line[len("new:") :].removeprefix(" "))
+    fault = Fault(crate, name)
+    for path in before:
+        functions = functions_of(path, before[path]) if path.endswith(".rt") else []
+        for at, (sound, wrong) in enumerate(zip(before[path].split("\n"), after[path].split("\n"))):
+            if sound == wrong:
+                continue
+            fault.lines[path, at] = wrong
+            inside = [it for it in functions if it.body <= at < it.end]
+            fault.functions += [it for it in inside if it not in fault.functions]
+            fault.is_alone |= not inside
+    if not fault.lines:
+        raise BadFault("it changes nothing")
+    return fault
+
+
+def together(faults):
+    """Parts the faults so that those of a part do not see each other."""
+    parts = []
+    for fault in faults:
+        if fault.is_alone:
+            parts.append([fault])
+            continue
+        for part in parts:
+            taken = [it for other in part for it in other.functions]
+            if not part[0].is_alone and not any(it in taken for it in fault.functions):
+                part.append(fault)
+                break
+        else:
+            parts.append([fault])
+    return parts
+
+
+class Copy:
+    """A copy of the crates, so that nobody's sources change."""
+
+    def __init__(self, room):
+        self.room = room
+        for name in ("crates.txt", "HANDLES"):
+            shutil.copy(f"{ROOT}/{name}", room)
+        subprocess.run(["git", "init", "-q", room], check=True)
+        subprocess.run(["cp", "-r", "--reflink=auto", f"{ROOT}/crates", room], check=True)
+        for crate in os.listdir(f"{room}/crates"):
+            shutil.rmtree(f"{room}/crates/{crate}/must-fail", ignore_errors=True)
+
+    def check(self, crate, faults=()):
+        """Checks the crate with these faults, and gives what was told: whether it was proved, and each line with a place."""
+        folder = f"{self.room}/crates/{crate}"
+        sound = {path: text_of(f"{folder}/{path}") for fault in faults for path, _ in fault.lines}
+        texts = {path: text.split("\n") for path, text in sound.items()}
+        for fault in faults:
+            for (path, at), line in fault.lines.items():
+                texts[path][at] = line
+        self.write(folder, {path: "\n".join(lines) for path, lines in texts.items()})
+        try:
+            how = {"stdin": subprocess.DEVNULL, "stdout": subprocess.PIPE, "stderr": subprocess.STDOUT, "text": True, "errors": "replace"}
+            said = subprocess.run(["rt", "check"], cwd=folder, **how).stdout
+        finally:
+            self.write(folder, sound)
+        if "\nlogic=proved" in said:
+            return True, []
+        if "\nlogic=not-proved" not in said:
+            return False, [(None, 0, said[-600:])]
+        return False, [(it[2], int(it[3]) - 1, it[4]) for it in map(TOLD.match, said.split("\n")) if it]
+
+    @staticmethod
+    def write(folder, texts):
+        for path, text in texts.items():
+            with open(f"{folder}/{path}", "w", encoding="utf-8") as it:
+                it.write(text)
+
+
+def is_unread(goal):
+    """Whether the prover could not read what the fault says, so that no contract was tried."""
+    file, _, text = goal
+    if file is None:
+        return True
+    return file.startswith(("src/", "specs/")) and text.startswith("error: ") and (not text.startswith("error: `") or bool(UNREAD.search(re.sub("`[^`]*`", "", text))))
+
+
+def judged(is_proved, goals):
+    if is_proved:
+        return Verdict(False, [(None, 0, "the crate is still proved")])
+    unread = [it for it in goals if is_unread(it)]
+    if unread or not goals:
+        return Verdict(False, unread)
+    return Verdict(True, goals, any(file.startswith("src/") for file, _, _ in goals))
+
+
+def try_part(copy, crate, part):
+    """The verdicts of faults that do not see each other, by name."""
+    is_proved, goals = copy.check(crate, part)
+    if len(part) == 1:
+        return {part[0].name: judged(is_proved, goals)}
+    verdicts = {}
+    for fault in part:
+        own = [[it for it in goals if it[0] and function.has(it[0], it[1])] for function in fault.functions]
+        told = [it for some in own for it in some]
+        if all(own) and not any(map(is_unread, goals)):
+            verdicts[fault.name] = Verdict(True, told, all(any(it[0].startswith("src/") for it in some) for some in own))
+        else:
+            verdicts |= try_part(copy, crate, [fault])
+    return verdicts
+
+
+def try_crate(copy, crate, names):
+    started, verdicts, faults = time.time(), {}, []
+    for name in names:
+        try:
+            faults.append(read_fault(crate, name))
+        except BadFault as why:
+            verdicts[name] = Verdict(False, [(None, 0, f"the fault cannot be planted: {why}")])
+    parts = together(faults)
+    if not copy.check(crate)[0]:
+        return {name: Verdict(False, [(None, 0, "the sound crate is not proved")]) for name in names}
+    for part in parts:
+        verdicts |= try_part(copy, crate, part)
+    print(f"{crate}: {len(names)} faults in {len(parts)} parts, {time.time() - started:.0f} s", flush=True)
+    return verdicts
+
+
+def wanted(words):
+    """The faults by crate."""
+    found = {}
+    for crate in sorted(os.listdir(f"{ROOT}/crates")):
+        folder = f"{ROOT}/crates/{crate}/must-fail"
+        names = sorted(it.removesuffix(".edit") for it in os.listdir(folder)) if os.path.isdir(folder) else []
+        found[crate] = [it for it in names if not words or crate in words or f"{crate}/{it}" in words]
+    return {crate: names for crate, names in found.items() if names}
+
+
+def main(words):
+    faults = wanted(words)
+    with tempfile.TemporaryDirectory(prefix="faults-") as room, ThreadPoolExecutor(AT_ONCE) as pool:
+        copy = Copy(room)
+        given = {crate: pool.submit(try_crate, copy, crate, names) for crate, names in faults.items()}
+        verdicts = {f"{crate}/{name}": it for crate in faults for name, it in given[crate].result().items()}
+    for name, verdict in sorted(verdicts.items()):
+        if words or not verdict.is_refused or not verdict.by_clause:
+            kind = "NOT REFUSED" if not verdict.is_refused else "refused by a clause" if verdict.by_clause else "refused by a proof by hand"
+            print(f"{name}: {kind}")
+            for file, line, text in verdict.goals[: 9 if words else 1]:
+                print(f"    {file}:{line + 1}: {text[:160]}" if file else f"    {text}")
+    refused = [it for it in verdicts.values() if it.is_refused]
+    clauses = sum(it.by_clause for it in refused)
+    print(f"faults: {len(refused)} refused ({clauses} by a clause, {len(refused) - clauses} by a proof by hand alone), {len(verdicts) - len(refused)} not")
+    return len(refused) < len(verdicts) or not verdicts
+
+
+if __name__ == "__main__":
+    sys.exit(main(sys.argv[1:]))

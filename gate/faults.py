@@ -136,17 +136,30 @@ def together(faults):
     return parts
 
 
-class Copy:
-    """A copy of the crates, so that nobody's sources change."""
+def dependencies():
+    """The crates, and by each those that it stands on."""
+    lines = (it.split("#")[0] for it in text_of(f"{ROOT}/crates.txt").split("\n") if ":" in it)
+    heads = {head.split()[0]: rest.split() for head, _, rest in (it.partition(":") for it in lines)}
+    return {crate: [it for it in below if it in heads] for crate, below in heads.items()}
 
-    def __init__(self, room):
+
+def all_below(crate, below):
+    return {it for one in below[crate] for it in (one, *all_below(one, below))}
+
+
+class Copy:
+    """A copy of the crates and of what they stand on, so that nobody's sources change."""
+
+    def __init__(self, room, crates):
         self.room = room
         for name in ("crates.txt", "HANDLES"):
             shutil.copy(f"{ROOT}/{name}", room)
-        subprocess.run(["git", "init", "-q", room], check=True)
-        subprocess.run(["cp", "-r", "--reflink=auto", f"{ROOT}/crates", room], check=True)
-        for crate in os.listdir(f"{room}/crates"):
-            shutil.rmtree(f"{room}/crates/{crate}/must-fail", ignore_errors=True)
+        os.mkdir(f"{room}/.git")  # the top of a repository
+        below = dependencies()
+        for crate in below:
+            is_needed = any(crate == it or crate in all_below(it, below) for it in crates)
+            left_out = shutil.ignore_patterns("must-fail", *([] if is_needed else ["out"]))
+            shutil.copytree(f"{ROOT}/crates/{crate}", f"{room}/crates/{crate}", ignore=left_out)
 
     def check(self, crate, faults=()):
         """Checks the crate with these faults, and gives what was told: whether it was proved, and each line with a place."""
@@ -220,7 +233,7 @@ def try_crate(copy, crate, names):
         return {name: Verdict(False, [(None, 0, "the sound crate is not proved")]) for name in names}
     for part in parts:
         verdicts |= try_part(copy, crate, part)
-    print(f"{crate}: {len(names)} faults in {len(parts)} parts, {time.time() - started:.0f} s", flush=True)
+        print(f"{crate}: {len(verdicts)} of {len(names)} faults, {time.time() - started:.0f} s", flush=True)
     return verdicts
 
 
@@ -237,7 +250,7 @@ def wanted(words):
 def main(words):
     faults = wanted(words)
     with tempfile.TemporaryDirectory(prefix="faults-") as room, ThreadPoolExecutor(AT_ONCE) as pool:
-        copy = Copy(room)
+        copy = Copy(room, faults)
         given = {crate: pool.submit(try_crate, copy, crate, names) for crate, names in faults.items()}
         verdicts = {f"{crate}/{name}": it for crate in faults for name, it in given[crate].result().items()}
     for name, verdict in sorted(verdicts.items()):

@@ -5,6 +5,6 @@ set -eu
 cd "$(dirname "$0")/.."
 copy=$(mktemp -d)
 trap 'rm -rf "$copy"' EXIT
-tar -c --exclude=out --exclude=must-fail crates crates.txt HANDLES | tar -x -C "$copy"
+tar -c --exclude=./.git --exclude=out --exclude=must-fail . | tar -x -C "$copy"
 cd "$copy"
 rt ci

@@ -4,12 +4,12 @@ use servo_arc::word::MAX_REFCOUNT;
 use std::test::Fail;
 
 #[test]
-fn a_run_takes_a_thousand_steps(rt: HostRuntime) -> Result<(), Fail> {
-    let mut core = Core::new(rt.alloc(), 5u32, 500, MAX_REFCOUNT)
+fn a_run_takes_two_thousand_steps(rt: HostRuntime) -> Result<(), Fail> {
+    let mut core = Core::new(rt.alloc(), 5u32, 1001, MAX_REFCOUNT)
         .ok()
         .ok_or("memory")?;
     let mut steps = Vec::new(rt.alloc());
-    for to in 1..500usize {
+    for to in 1..1001usize {
         steps.push(Step::Give {
             owner: to - 1,
             handle: 0,
@@ -23,6 +23,6 @@ fn a_run_takes_a_thousand_steps(rt: HostRuntime) -> Result<(), Fail> {
     let answers = core.run(&steps)?;
     let pair = [Answer::Done, Answer::Value(5)];
     let right = answers.chunks(2).all(|answers| answers == pair.as_slice());
-    assert!(rt; answers.len() == 998 && right);
+    assert!(rt; answers.len() == 2000 && right);
     Ok(())
 }

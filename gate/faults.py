@@ -17,7 +17,6 @@ import shutil
 import subprocess
 import sys
 import tempfile
-import threading
 import time
 from concurrent.futures import ThreadPoolExecutor
 from dataclasses import dataclass, field
@@ -25,6 +24,7 @@ from dataclasses import dataclass, field
 ROOT = os.path.dirname(os.path.dirname(os.path.abspath(__file__)))
 HEAD = re.compile(r"( *)(?:pub(?:\([a-z]+\))? )?(?:const )?(?:unsafe )?fn (\w+)")
 TOLD = re.compile(r"(note: )?(?:\./)?((?:src|specs|proofs)/[^:\s]+):(\d+):\d+: (?!note)(.*)")
+ENDLESS = re.compile(r"fn \w+::(\S+): (no proof: expected .*)")  # a loop or recursion that nobody shows to end
 UNREAD = re.compile(r"is not in scope|has no field|is no name|operand is missing|expected the end|cannot continue")
 AT_ONCE = 2
 
@@ -148,22 +148,23 @@ def all_below(crate, below):
 
 
 class Copy:
-    """A copy of the crates and of what they stand on, so that nobody's sources change."""
+    """A copy of a crate and of what it stands on, which no other crate's faults reach."""
 
-    def __init__(self, room, crates):
-        self.room = room
+    def __init__(self, room, crate):
+        self.crate = crate
+        self.folder = f"{room}/crates/{crate}"
         for name in ("crates.txt", "HANDLES"):
             shutil.copy(f"{ROOT}/{name}", room)
         os.mkdir(f"{room}/.git")  # the top of a repository
         below = dependencies()
-        for crate in below:
-            is_needed = any(crate == it or crate in all_below(it, below) for it in crates)
+        for name in below:
+            is_needed = name == crate or name in all_below(crate, below)
             left_out = shutil.ignore_patterns("must-fail", *([] if is_needed else ["out"]))
-            shutil.copytree(f"{ROOT}/crates/{crate}", f"{room}/crates/{crate}", ignore=left_out)
+            shutil.copytree(f"{ROOT}/crates/{name}", f"{room}/crates/{name}", ignore=left_out)
 
-    def check(self, crate, faults=()):
+    def check(self, faults=()):
         """Checks the crate with these faults, and gives what was told: whether it was proved, and each line with a place."""
-        folder = f"{self.room}/crates/{crate}"
+        folder = self.folder
         sound = {path: text_of(f"{folder}/{path}") for fault in faults for path, _ in fault.lines}
         texts = {path: text.split("\n") for path, text in sound.items()}
         for fault in faults:
@@ -179,7 +180,9 @@ class Copy:
             return True, []
         if "\nlogic=not-proved" not in said:
             return False, [(None, 0, said[-600:])]
-        return False, [(it[2], int(it[3]) - 1, it[4]) for it in map(TOLD.match, said.split("\n")) if it]
+        told = [(it[2], int(it[3]) - 1, it[4]) for it in map(TOLD.match, said.split("\n")) if it]
+        endless = [(f"proofs/{it[1].replace('::', '/')}/Invariants.antt", 0, it[2]) for it in map(ENDLESS.match, said.split("\n")) if it]
+        return False, told + endless
 
     @staticmethod
     def write(folder, texts):
@@ -196,18 +199,24 @@ def is_unread(goal):
     return file.startswith(("src/", "specs/")) and text.startswith("error: ") and (not text.startswith("error: `") or bool(UNREAD.search(re.sub("`[^`]*`", "", text))))
 
 
+def is_of_the_code(goal):
+    """Whether it is a clause or a loop's end that is not proved, and not a proof by hand that does not fit."""
+    file, _, text = goal
+    return file.startswith("src/") or text.startswith("no proof")
+
+
 def judged(is_proved, goals):
     if is_proved:
         return Verdict(False, [(None, 0, "the crate is still proved")])
     unread = [it for it in goals if is_unread(it)]
-    if unread or not goals:
+    if unread:
         return Verdict(False, unread)
-    return Verdict(True, goals, any(file.startswith("src/") for file, _, _ in goals))
+    return Verdict(True, goals, any(map(is_of_the_code, goals)))
 
 
-def try_part(copy, crate, part):
+def try_part(copy, part):
     """The verdicts of faults that do not see each other, by name."""
-    is_proved, goals = copy.check(crate, part)
+    is_proved, goals = copy.check(part)
     if len(part) == 1:
         return {part[0].name: judged(is_proved, goals)}
     verdicts = {}
@@ -215,25 +224,26 @@ def try_part(copy, crate, part):
         own = [[it for it in goals if it[0] and function.has(it[0], it[1])] for function in fault.functions]
         told = [it for some in own for it in some]
         if all(own) and not any(map(is_unread, goals)):
-            verdicts[fault.name] = Verdict(True, told, all(any(it[0].startswith("src/") for it in some) for some in own))
+            verdicts[fault.name] = Verdict(True, told, all(any(map(is_of_the_code, some)) for some in own))
         else:
-            verdicts |= try_part(copy, crate, [fault])
+            verdicts |= try_part(copy, [fault])
     return verdicts
 
 
-def try_crate(copy, crate, names):
+def try_crate(crate, names):
     started, verdicts, faults = time.time(), {}, []
     for name in names:
         try:
             faults.append(read_fault(crate, name))
         except BadFault as why:
             verdicts[name] = Verdict(False, [(None, 0, f"the fault cannot be planted: {why}")])
-    parts = together(faults)
-    if not copy.check(crate)[0]:
-        return {name: Verdict(False, [(None, 0, "the sound crate is not proved")]) for name in names}
-    for part in parts:
-        verdicts |= try_part(copy, crate, part)
-        print(f"{crate}: {len(verdicts)} of {len(names)} faults, {time.time() - started:.0f} s", flush=True)
+    with tempfile.TemporaryDirectory(prefix="faults-") as room:
+        copy = Copy(room, crate)
+        if not copy.check()[0]:
+            return {name: Verdict(False, [(None, 0, "the sound crate is not proved")]) for name in names}
+        for part in together(faults):
+            verdicts |= try_part(copy, part)
+            print(f"{crate}: {len(verdicts)} of {len(names)} faults, {time.time() - started:.0f} s", flush=True)
     return verdicts
 
 
@@ -249,9 +259,8 @@ def wanted(words):
 
 def main(words):
     faults = wanted(words)
-    with tempfile.TemporaryDirectory(prefix="faults-") as room, ThreadPoolExecutor(AT_ONCE) as pool:
-        copy = Copy(room, faults)
-        given = {crate: pool.submit(try_crate, copy, crate, names) for crate, names in faults.items()}
+    with ThreadPoolExecutor(AT_ONCE) as pool:
+        given = {crate: pool.submit(try_crate, crate, names) for crate, names in faults.items()}
         verdicts = {f"{crate}/{name}": it for crate in faults for name, it in given[crate].result().items()}
     for name, verdict in sorted(verdicts.items()):
         if words or not verdict.is_refused or not verdict.by_clause:

@@ -81,6 +81,8 @@ def functions_of(file, text):
         if line.endswith("}") or not is_opening(lines[opening]):
             continue
         end = next(i for i in range(opening, len(lines)) if lines[i] == indent + "}")
+        while lines[at - 1].startswith(indent + "#["):  # what is told of a function with attributes is told of the first
+            at -= 1
         found.append(Function(file, head[2], opening + 1, end, at))
     return found
 

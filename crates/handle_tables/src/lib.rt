@@ -4,8 +4,6 @@
 mod commands;
 mod slots;
 pub mod table;
-#[cfg(test)]
-mod tests;
 mod union_commands;
 mod union_slots;
 mod union_table;

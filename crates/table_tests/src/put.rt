@@ -1,5 +1,5 @@
 //! Handles that are made outside and put into a table.
-use crate::table::{PlainCommand, Reply, Table};
+use handle_tables::table::{PlainCommand, Reply, Table};
 use handles::arc::Arc;
 use handles::header_slice::{HeaderSlice, ThinArc};
 use std::alloc::Global;

@@ -1,11 +1,8 @@
 //! What no clause says: that commands are served where memory is ample, and which of two allowed
 //! replies comes when.
-use crate::table::{Command, PlainCommand, Reply, Table};
+use handle_tables::table::{Command, PlainCommand, Reply, Table};
 use std::alloc::AllocError;
 use std::test::Fail;
-
-mod put;
-mod unions;
 
 #[test]
 fn a_shared_value_is_copied_before_it_is_written(rt: HostRuntime) -> Result<(), Fail> {

@@ -1,6 +1,6 @@
 //! What no clause says of a table of unions: that commands are served where memory is ample, and
 //! which of two allowed replies comes when.
-use crate::table::{Reply, UnionCommand, UnionTable};
+use handle_tables::table::{Reply, UnionCommand, UnionTable};
 use handles::arc::Arc;
 use handles::arc_union::{ArcUnion, ArcUnionBorrow, ThinArcUnion};
 use handles::header_slice::HeaderSlice;

@@ -1,6 +1,6 @@
 //! Long runs of a core by one call.
-use servo_arc::counting_core::{Answer, Core, Step};
-use servo_arc::word::MAX_REFCOUNT;
+use counting_core::{Answer, Core, Step};
+use counting_word::MAX_REFCOUNT;
 use std::test::Fail;
 
 #[test]

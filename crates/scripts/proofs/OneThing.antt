@@ -1,9 +1,9 @@
 -- A line asks for one thing at most: what is written can be told from its word and its numbers.
 use Rattle.std.proofs.Common.{◌≡◌, ℕ, ◌==◌, cond, List, [], ◌∷◌, Option, Some, None, codes, refl, sym, ◌∙◌}
 use Rattle.std.specs.Cmp.Lexicographic.{pointwise}
-use Rattle.servo_arc.specs.Step.{Step}
-use Rattle.servo_arc.specs.Step.TheVariants.{Clone, Raise, Quit, Drop, Lower, Mark, Unique, Static, GetMut, Write, EndWrite, IntoUnique, Share, Load, Lend, Return, Give}
-use Rattle.servo_arc.specs.Command.TheVariants as command
+use Rattle.counting_core.specs.declared.step.Step.{Step}
+use Rattle.counting_core.specs.declared.step.Step.TheVariants.{Clone, Raise, Quit, Drop, Lower, Mark, Unique, Static, GetMut, Write, EndWrite, IntoUnique, Share, Load, Lend, Return, Give}
+use Rattle.handle_tables.specs.declared.commands.Command.TheVariants as command
 use Rattle.scripts.specs.declared.line.Numbers.{Numbers}
 use Rattle.scripts.specs.declared.line.Numbers.TheVariants.{One, Two, Three}
 use Rattle.scripts.specs.declared.table_line.TableLine.{TableLine}

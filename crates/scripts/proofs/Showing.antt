@@ -1,10 +1,10 @@
 -- A run over states shows as a run over what the states show: cores as traces, and runners as the slots of their tables.
 use Rattle.std.proofs.Common.{◌≡◌, ℕ, ◌<◌, arith, List, [], ◌∷◌, ◌++◌, None, Some, Option, Ok, Err, IfSome, refl, sym, subst, replicate}
-use Rattle.servo_arc.specs.PlainTable.{Slots}
-use Rattle.servo_arc.specs.Represents.{CoreState, Represents}
-use Rattle.servo_arc.specs.Trace.{Trace, Open, Then}
+use Rattle.handle_tables.specs.PlainTable.{Slots}
+use Rattle.counting_core.specs.Represents.{CoreState, Represents}
+use Rattle.counting_core.specs.Trace.{Trace, Open, Then}
 use Rattle.scripts.specs.CoreScript.{CoreAnswers, TraceAnswers, PrintsLegalTrace}
-use Rattle.servo_arc.specs.CountingWord.{IsLimit}
+use Rattle.counting_word.specs.CountingWord.{IsLimit}
 use Rattle.scripts.specs.Arguments.{AskLimit, Asks}
 use Rattle.scripts.specs.Fault.{Outcome, PrintsUpTo}
 use Rattle.scripts.specs.Line.{SaysNothing}

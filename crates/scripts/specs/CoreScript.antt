@@ -1,10 +1,10 @@
 -- What a script of a core comes to.
 use Rattle.std.specs.Prelude.{◌≡◌, ℕ, List}
-use Rattle.servo_arc.specs.Answer.{Answer}
-use Rattle.servo_arc.specs.Legal.{IsLegal}
-use Rattle.servo_arc.specs.Represents.{CoreState, Continues}
-use Rattle.servo_arc.specs.Step.{Step}
-use Rattle.servo_arc.specs.Trace.{Trace, Open, Then}
+use Rattle.counting_core.specs.declared.step.Answer.{Answer}
+use Rattle.counting_core.specs.Legal.{IsLegal}
+use Rattle.counting_core.specs.Represents.{CoreState, Continues}
+use Rattle.counting_core.specs.declared.step.Step.{Step}
+use Rattle.counting_core.specs.Trace.{Trace, Open, Then}
 use Rattle.scripts.specs.Fault.{Outcome, PrintsUpTo}
 use Rattle.scripts.specs.Line.{Says, SaysNothing}
 use Rattle.scripts.specs.Script.{answer_text}

@@ -1,6 +1,6 @@
 -- What a script of a table comes to.
 use Rattle.std.specs.Prelude.{◌≡◌, ℕ, List, Option, None, replicate}
-use Rattle.servo_arc.specs.PlainTable.{Slots}
+use Rattle.handle_tables.specs.PlainTable.{Slots}
 use Rattle.scripts.specs.Fault.{Outcome, PrintsUpTo}
 use Rattle.scripts.specs.Line.{Says, SaysNothing}
 use Rattle.scripts.specs.Script.{answer_text}

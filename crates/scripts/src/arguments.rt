@@ -3,7 +3,7 @@ ghost use Rattle.std.specs.Prelude.{ℕ, IfSome, IfNone, map};
 ghost use Rattle.scripts.specs.Arguments.{AskLimit};
 
 use crate::number::parse_number;
-use servo_arc::word::MAX_REFCOUNT;
+use counting_word::MAX_REFCOUNT;
 use std::convert::AsStr;
 
 const MOST_OWNERS: usize = 1000;

@@ -1,8 +1,8 @@
 //! Scripts of `core`: their lines are steps of a counting core.
 ghost use Rattle.std.specs.Prelude.{◌≡◌, ◌<◌, IfErr, IfOk};
-ghost use Rattle.servo_arc.specs.CountingWord.{IsLimit};
-ghost use Rattle.servo_arc.specs.Represents.{Represents};
-ghost use Rattle.servo_arc.specs.Trace.{Open};
+ghost use Rattle.counting_word.specs.CountingWord.{IsLimit};
+ghost use Rattle.counting_core.specs.Represents.{Represents};
+ghost use Rattle.counting_core.specs.Trace.{Open};
 ghost use Rattle.scripts.specs.CoreScript.{CoreAnswers, PrintsLegalTrace};
 ghost use Rattle.scripts.specs.Fault.{IsFaultOfRun};
 ghost use Rattle.scripts.specs.Line.{SaysNothing};
@@ -15,7 +15,7 @@ use crate::fault::Fault;
 use crate::script;
 use crate::script::{Interpreter, Printed};
 use crate::step_line::read_step;
-use servo_arc::counting_core::{Answer, Core};
+use counting_core::{Answer, Core};
 use std::alloc::Global;
 use std::io::Write;
 

@@ -1,12 +1,12 @@
 //! The lines of a core's script: each is a step.
 ghost use Rattle.std.specs.Prelude.{ℕ, IfSome, IfNone};
-ghost use Rattle.servo_arc.specs.Step.{Step as CoreStep};
+ghost use Rattle.counting_core.specs.declared.step.Step.{Step as CoreStep};
 ghost use Rattle.scripts.specs.Line.{Says, SaysNothing, Writes};
 ghost use Rattle.scripts.specs.StepLine.{step_line};
 
 use crate::line::Numbers::{One, Three, Two};
 use crate::line::{Line, read_line};
-use servo_arc::counting_core::Step;
+use counting_core::Step;
 
 /// The step that the line writes, or nothing where it writes none.
 pub fn read_step(text: &[u8]) -> Option<Step<u32>>

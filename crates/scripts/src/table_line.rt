@@ -6,7 +6,7 @@ ghost use Rattle.scripts.specs.TableLine.{table_line};
 
 use crate::line::Numbers::{One, Two};
 use crate::line::{Line, read_line};
-use servo_arc::table::Command;
+use handle_tables::table::Command;
 
 /// What a line asks of a table.
 #[derive(Drop)]

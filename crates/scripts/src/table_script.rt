@@ -12,7 +12,7 @@ use crate::fault::Fault;
 use crate::script;
 use crate::script::{Interpreter, Printed};
 use crate::table_line::{TableLine, read_table_line};
-use servo_arc::table::{Reply, Table};
+use handle_tables::table::{Reply, Table};
 use std::alloc::Global;
 use std::io::Write;
 

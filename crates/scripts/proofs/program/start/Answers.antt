@@ -1,5 +1,5 @@
 use Rattle.std.proofs.Common.{◌∷◌, [], Err, inr, refl, codes, decimal, arith}
-use Rattle.servo_arc.specs.CountingWord.{greatest_count}
+use Rattle.counting_word.specs.CountingWord.{greatest_count}
 use Rattle.scripts.specs.declared.arguments.Request.TheVariants.{Core}
 use Rattle.scripts.specs.declared.fault.Fault.TheVariants.{Memory}
 use Rattle.scripts.proofs.Showing.{did_nothing}

@@ -33,7 +33,8 @@ AT_ONCE = 2
 class Function:
     file: str
     name: str
-    body: int  # the first line of its body
+    head: int  # the lines on which it begins, its body begins, and it ends
+    body: int
     end: int
 
     def has(self, file, line):
@@ -43,8 +44,6 @@ class Function:
         module = re.sub(r"^src/|(/?lib|/?main)?\.rt$", "", self.file)
         folder = os.path.dirname(file)
         return folder.startswith(f"proofs/{module}") and os.path.basename(folder).lstrip("+") == self.name
-
-    head: int = 0
 
 
 @dataclass
@@ -81,7 +80,9 @@ def functions_of(file, text):
         if line.endswith("}") or not is_opening(lines[opening]):
             continue
         end = next(i for i in range(opening, len(lines)) if lines[i] == indent + "}")
-        found.append(Function(file, head[2], opening + 1, end, at))
+        while lines[at - 1].startswith(indent + "#["):  # what is told of a function with attributes is told of the first
+            at -= 1
+        found.append(Function(file, head[2], at, opening + 1, end))
     return found
 
 

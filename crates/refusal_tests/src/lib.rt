@@ -17,6 +17,8 @@ mod tables;
 #[cfg(test)]
 mod telling;
 #[cfg(test)]
+mod trees;
+#[cfg(test)]
 mod union_tables;
 #[cfg(test)]
 mod versions;

@@ -5,8 +5,10 @@ mod links;
 mod list;
 mod list_iter;
 mod map;
+mod map_iter;
 pub mod versions;
 
 pub use list::List;
 pub use list_iter::ListIter;
 pub use map::TreeMap;
+pub use map_iter::MapIter;

@@ -1,5 +1,5 @@
 //! A search tree that shares its branches.
-ghost use Rattle.std.specs.Prelude.{◌≡◌, ◌∷◌, ◌++◌, [], ◌↔◌, ℕ, None, Some, cond, nat_eq, IsTrue, IfOk, is_some, length, slice_get};
+ghost use Rattle.std.specs.Prelude.{◌≡◌, List, ◌∷◌, ◌++◌, [], ◌↔◌, ℕ, None, Some, cond, nat_eq, IsTrue, IfOk, is_some, length, slice_get};
 ghost use Rattle.std.specs.Option.{option_copied};
 ghost use Rattle.servo_arc.specs.Copies.{CopiesAreEqual};
 ghost use Rattle.shared_trees.specs.Maps.{IsRising, above, below, lookup, with_entry, without};
@@ -13,7 +13,7 @@ use std::marker::Model;
 #[derive(Drop)]
 pub struct TreeMap<V: Send + Sync> {
     root: Option<Arc<Fork<V>>>,
-    len: usize,
+    pub(crate) len: usize,
 }
 
 #[cycle(map)]
@@ -106,18 +106,39 @@ impl<V: Send + Sync> TreeMap<V> {
     }
 
     /// The entry of that number, counted from 0 in the order of the keys.
-    #[tactic(auto, using(crate::proofs::Rising::counting))]
     pub fn entry(&self, index: usize) -> Option<&(u64, V)>
         ensures { option_copied result ≡ slice_get self.now index }
     {
+        self.numbered(index)
+    }
+}
+
+// The entries by their numbers. It is a trait, since the prover lets `next`, which is a trait's method, call the methods of
+// traits alone at a `V` with bounds.
+pub(crate) trait Numbered {
+    type Entry;
+
+    ghost entries: { Self → List Self.Entry };
+
+    fn numbered(&self, index: usize) -> Option<&Self::Entry>
+        ensures { option_copied result ≡ slice_get (entries self.now) index };
+}
+
+impl<V: Send + Sync> Numbered for TreeMap<V> {
+    type Entry = (u64, V);
+
+    ghost entries = { λ map. map };
+
+    #[tactic(auto, using(crate::proofs::Rising::counting))]
+    fn numbered(&self, index: usize) -> Option<&(u64, V)> {
         let fork = self.root.as_ref()?;
-        let before = fork.less.len();
+        let before = fork.less.len;
         if index < before {
-            fork.less.entry(index)
+            fork.less.numbered(index)
         } else if index == before {
             Some(&fork.entry)
         } else {
-            fork.greater.entry(index - before - 1)
+            fork.greater.numbered(index - before - 1)
         }
     }
 }
@@ -184,7 +205,8 @@ impl<V: Send + Sync + Clone> TreeMap<V> {
     pub fn insert(&self, alloc: Global, key: u64, value: V) -> Result<TreeMap<V>, AllocError>
         requires copies { CopiesAreEqual V.is_clone }
         ensures entries { IfOk result (λ map. map ≡ with_entry key value self.now) }
-        ensures changes { IfOk result (λ map. (k : ℕ) → lookup k map ≡ cond (nat_eq k key) (Some value) (lookup k self.now)) }
+        ensures changes { IfOk result (λ map. (k : ℕ)
+            → lookup k map ≡ cond (nat_eq k key) (Some value) (lookup k self.now)) }
     {
         let map = self.inserted(alloc, key, value)?;
         Ok(map)
@@ -197,7 +219,8 @@ impl<V: Send + Sync + Clone> TreeMap<V> {
     pub fn remove(&self, alloc: Global, key: u64) -> Result<TreeMap<V>, AllocError>
         requires copies { CopiesAreEqual V.is_clone }
         ensures entries { IfOk result (λ map. map ≡ without key self.now) }
-        ensures changes { IfOk result (λ map. (k : ℕ) → lookup k map ≡ cond (nat_eq k key) None (lookup k self.now)) }
+        ensures changes { IfOk result (λ map. (k : ℕ)
+            → lookup k map ≡ cond (nat_eq k key) None (lookup k self.now)) }
     {
         let map = self.removed(alloc, key)?;
         Ok(map)

@@ -1,7 +1,12 @@
-//! Tests of `shared_trees`: what no contract says.
+//! Tests of `shared_trees`: what no contract says. Beside them stands a caller, which shows how code above uses the crate.
 #![tactic(auto)]
 
+#[cfg(test)]
+mod copies;
+pub mod editions;
 #[cfg(test)]
 mod lists;
 #[cfg(test)]
 mod maps;
+#[cfg(test)]
+mod threads;

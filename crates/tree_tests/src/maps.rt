@@ -50,3 +50,20 @@ fn keys_in_order_make_no_list(rt: HostRuntime) -> Result<(), Fail> {
     assert!(rt; found && map.len() == 100_000);
     Ok(())
 }
+
+#[test]
+fn entries_come_in_order_from_either_end(rt: HostRuntime) -> Result<(), Fail> {
+    let map = up_to(rt.alloc(), 100)?;
+    assert!(rt; map.iter().map(|entry| entry.0).eq(0..100));
+    assert!(rt; map.iter().rev().map(|entry| entry.0).eq((0..100).rev()));
+    let mut entries = map.iter();
+    let ends = (entries.next().copied(), entries.next_back().copied());
+    assert_eq!(rt; ends, (Some((0, 0)), Some((99, 99))));
+    assert_eq!(rt; (entries.len(), entries.clone()?.count()), (98, 98));
+    let empty: TreeMap<u64> = TreeMap::new();
+    assert_eq!(rt;
+        (empty.iter().next(), empty.iter().next_back()),
+        (None, None)
+    );
+    Ok(())
+}

@@ -1,0 +1,42 @@
+// Versions on several threads, each of which is joined.
+use crate::editions::{Edition, publish, read_all};
+use crossbeam_channel::{Receiver, Sender, unbounded};
+use std::alloc::{AllocError, Global};
+use std::test::Fail;
+use std::thread;
+
+const EDITIONS: u64 = 1000;
+
+type Ends = (Sender<Edition, Global>, Receiver<Edition, Global>);
+
+fn channel(alloc: Global) -> Result<Ends, AllocError> {
+    unbounded(alloc)
+}
+
+#[test]
+fn four_threads_read_what_one_publishes(rt: HostRuntime) -> Result<(), Fail> {
+    let alloc = rt.alloc();
+    let (to_a, a) = channel(alloc)?;
+    let (to_b, b) = channel(alloc)?;
+    let (to_c, c) = channel(alloc)?;
+    let (to_d, d) = channel(alloc)?;
+    let readers = [to_a, to_b, to_c, to_d];
+    let rt = &rt;
+    let (published, read) = thread::join(
+        rt,
+        move || {
+            let readers = readers;
+            publish(rt, alloc, EDITIONS, &readers)
+        },
+        || {
+            thread::join(
+                rt,
+                || thread::join(rt, || read_all(rt, a), || read_all(rt, b)),
+                || thread::join(rt, || read_all(rt, c), || read_all(rt, d)),
+            )
+        },
+    );
+    let all = Some(EDITIONS);
+    assert_eq!(rt; (published, read), (Ok(()), ((all, all), (all, all))));
+    Ok(())
+}

@@ -91,6 +91,14 @@ fn a_size_that_overflows_is_refused(rt: HostRuntime) -> Result<(), Fail> {
     Ok(())
 }
 
+// A cap that nobody asked for would refuse it.
+#[test]
+fn a_count_has_a_thousand_passes(rt: HostRuntime) -> Result<(), Fail> {
+    let (_count, passes) = SharedCount::open(rt.alloc(), 1000)?;
+    assert!(rt; passes.len() == 1000);
+    Ok(())
+}
+
 #[test]
 fn each_law_may_be_called() {
     laws::beginnings_are_legal();

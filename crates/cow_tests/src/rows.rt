@@ -86,6 +86,15 @@ fn pages_of_each_length_read_as_the_list(rt: HostRuntime) -> Result<(), Fail> {
     Ok(())
 }
 
+// A cap that nobody asked for would refuse it.
+#[test]
+fn a_table_has_two_thousand_items(rt: HostRuntime) -> Result<(), Fail> {
+    let items: Vec<u32> = (0..2000).collect(rt.alloc())?;
+    let table = CowTable::from_items(rt.alloc(), items, 3)?;
+    assert!(rt; table.len() == 2000 && table.get(1999) == Some(&1999));
+    Ok(())
+}
+
 #[test]
 fn items_are_read_from_both_ends(rt: HostRuntime) -> Result<(), Fail> {
     let table = table_of(rt.alloc(), &[1, 2, 3, 4, 5], 2)?;

@@ -22,6 +22,8 @@ pub mod made;
 #[cfg(test)]
 mod one_thread;
 #[cfg(test)]
+mod sizes;
+#[cfg(test)]
 mod table_slots;
 #[cfg(test)]
 mod unions;

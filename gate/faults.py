@@ -75,7 +75,7 @@ def functions_of(file, text):
             continue
         indent = head[1]
         is_opening = lambda it: it == indent + "{" or it.endswith("{") and not it.startswith(indent + " ")
-        is_end = lambda it: it == indent + "}" or it.endswith(";") and not it.startswith(indent + " ")
+        is_end = lambda it: it == indent + "}" or it.endswith(";")
         opening = next((i for i in range(at, len(lines)) if is_opening(lines[i]) or is_end(lines[i])), at)
         if line.endswith("}") or not is_opening(lines[opening]):
             continue

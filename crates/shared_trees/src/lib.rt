@@ -5,8 +5,13 @@ mod links;
 mod list;
 mod list_iter;
 mod map;
+pub mod restyle;
+mod rose;
+mod style;
 pub mod versions;
 
 pub use list::List;
 pub use list_iter::ListIter;
 pub use map::TreeMap;
+pub use rose::{Rose, RoseError};
+pub use style::{Border, Declared, Font, Inline, Rule, Source, Style, declared_by};

@@ -5,3 +5,7 @@
 mod lists;
 #[cfg(test)]
 mod maps;
+#[cfg(test)]
+mod roses;
+#[cfg(test)]
+mod styles;

@@ -11,6 +11,8 @@ mod makers;
 #[cfg(test)]
 mod scripts_run;
 #[cfg(test)]
+mod shapes;
+#[cfg(test)]
 mod steps;
 #[cfg(test)]
 mod tables;

@@ -3,3 +3,5 @@ pub mod Forks
 pub mod ListFalls
 pub mod Lists
 pub mod Maps
+pub mod Roses
+pub mod Styles

@@ -6,9 +6,14 @@ mod list;
 mod list_iter;
 mod map;
 mod map_iter;
+pub mod restyle;
+mod rose;
+mod style;
 pub mod versions;
 
 pub use list::List;
 pub use list_iter::ListIter;
 pub use map::TreeMap;
 pub use map_iter::MapIter;
+pub use rose::{Rose, RoseError};
+pub use style::{Border, Declared, Font, Inline, Rule, Source, Style, declared_by};

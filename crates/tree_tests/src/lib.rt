@@ -9,4 +9,8 @@ mod lists;
 #[cfg(test)]
 mod maps;
 #[cfg(test)]
+mod roses;
+#[cfg(test)]
+mod styles;
+#[cfg(test)]
 mod threads;

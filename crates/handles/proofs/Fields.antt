@@ -9,17 +9,16 @@ use base.Logic.{ent, sep, emp, via, id⊢, guard_i}
 use prog.Wp.{Env}
 use types.Run.{Opd}
 use base.Fml.{Lft, Share, Fml, fex, feq, fsep, finv, flft, fobor, fhide, ftrue}
-use base.Share
 use types.Logic.{Logic, sem}
-use types.Kit.{Item, Goal, Seq, Soaks, Step, step, ‵, ◌⊛◌, ◌$◌, ◌∵◌, !, qed, by, keep, drop, move, split, fsplit, fsplit3, fjoin, fjoin3, fpick, fpack, feq_i, flt_i, rewrite, use0, use1, updating, now, done}
-use types.Tokens.{lent_back, shr_bor-open}
-use types.Within.{tokens_halve}
+use contract.Monad.{fact, fact_i}
+use types.Kit.{Item, Goal, Step, step, ‵, raw, ◌$◌, ◌∵◌, !, qed, by, keep, drop, move, split, fsplit, fsplit3, fjoin, fjoin3, fpick, fpack, feq_i, flt_i, rewrite, use0, use1, updating, now, done}
+use types.Tokens.{lent_back}
 use denote.RattleType.{RattleType, Valss, owns}
 use denote.Laws.{Is}
 use denote.Builtin.{u64}
 use base.Fraction.{full_share}
-use denote.Memory.{hidden_shr, cell_at, mem, part_at, part_of}
-use denote.Opens.{Opens, unhide}
+use denote.Memory.{cell_at, mem, part_at, part_of}
+use denote.Opens.{Opens}
 use denote.Copied.{Struct-Copied}
 use denote.RawPtr.{Ptr, RawPtr, InBlock, block_ptr, null_ptr, block_of, count_of as offset_of, ptr_val, at_block}
 use denote.Shadow.{makes_shadow}
@@ -28,10 +27,10 @@ use denote.Struct.Laws.{RawPtr-copy}
 use denote.Struct.Struct.{Shape, Struct}
 use denote.Struct.Tuple.{Tuple}
 use Rattle.counting_word.specs.CountingWord.{is_one_handle}
-use Rattle.handles.specs.Rights.{Right, nothing, a_handle, to_lower, whole_block, right_by_lower, IsWholeBlock}
+use Rattle.handles.specs.Inside.Rights.{Right, nothing, a_handle, to_lower, whole_block, right_by_lower, IsWholeBlock}
 use Rattle.core.specs.Sync.RawAtomic.{word}
 use Rattle.std.specs.declared.alloc.Global.{Global}
-use Rattle.handles.specs.Blocks.{HeldRow, handle_owns, frees, held_offset, Names, unit_of_count, counted, stamp, held_and_block, shown, block_rule, sole_or_counted, handle_shares, unshared_block, gain_owns}
+use Rattle.handles.specs.Inside.Blocks.{HeldRow, handle_owns, frees, held_offset, Names, unit_of_count, counted, stamp, held_and_block, shown, block_rule, sole_or_counted, unshared_block, gain_owns}
 use Rattle.handles.proofs.Steps.{gained}
 use Rattle.handles.specs.contracts.block.Handle as handle_type
 use Rattle.handles.specs.contracts.block.Gain as gain
@@ -138,15 +137,14 @@ module _ (R : RattleType) (p : Ptr) (x : (HeldRow R).Denot) {M : Type 1} {𝓤 :
       move t (0 ∷ 2 ∷ 1 ∷ []) $ fjoin3 t $ feq_i t (List Val) (v ∷ []) (v ∷ []) refl $ fjoin t $
       fpack t (Valss (u64 ∷ GainRow R ∷ [])) (λ uss. fsep (feq (List Val) (v ∷ []) (vstruct (of_list (uss.0 ++ (uss.1.0 ++ []))) ∷ [])) (owns (u64 ∷ GainRow R ∷ []) (n, (g, tt)) uss)) (vint w64 n ∷ [], (one_word p ∷ [], tt)) $ s)
 
-  -- Behind a `&` to a handle: its block has a name for the sharing, of whose token there is a share while the borrow of the `&` is open.
-  -- [the open borrow; the share; the rule; the sharing; the handle's word; the other half of the token]
-  pub behind : K → Soaks G → {κ : Lft} {q : Share} (sole : Bool) → sole ≡ false → (b o : ℕ)
-      → ((inb : InBlock p) (i : Names) (e : Share) → Seq K 𝓛 (‵ (fobor κ (Share.left q) (flft (i.shared ∷ []) e)) ∷ ‵ (flft (i.shared ∷ []) e) ∷ ‵ (finv (block_rule R p x i)) ∷ ‵ (shown R p x (i.shared ∷ [])) ∷ ‵ (hidden_shr (HandleWords R) κ (p, tt) b o) ∷ ‵ (flft κ (Share.right q)) ∷ Γ) G)
-      → Seq K 𝓛 (‵ (hidden_shr (HandleRow R) κ (record { block = p; held = x; sole = sole }) b o) ∷ ‵ (flft κ q) ∷ Γ) G
-  behind t soaks {κ} {q} sole shared b o k = use1 𝓛 (‵ (hidden_shr (HandleWords R) κ (p, tt) b o) ⊛ ‵ (fhide (handle_shares R p x sole κ))) (id⊢ 𝓤 _) $ split t $ move t (1 ∷ []) $ unhide t $ rewrite t 0 (λ (z : Bool). ‵ (handle_shares R p x z κ)) shared refl $ fsplit t $ fpick t (λ inb. drop t $ fpick t (λ i. fsplit3 t $
-      move t (4 ∷ []) $ use1 𝓛 (‵ (flft κ (Share.left q)) ⊛ ‵ (flft κ (Share.right q))) (𝓛.lfts.lft_split κ q) $ split t $ move t (2 ∷ 0 ∷ []) $ shr_bor-open t soaks (tokens_halve 𝓛 (i.shared ∷ [])) (λ e.
-      -- [the open borrow; the share; the other half; the rule; the sharing; the word]
-      move t (0 ∷ 1 ∷ 3 ∷ 4 ∷ 5 ∷ 2 ∷ []) $ k inb i e)))
+module _ {M : Type 1} {𝓤 : Ura M} {𝓛 : Logic 𝓤} {K : Type 0} {Γ : List (Item 𝓤)} {G : Goal 𝓤 𝓛.H} where
+  -- what is known is a fact of the context
+  pub known : K → (φ : Type 0) → φ → Step K 𝓛 (raw (fact 𝓤 φ) ∷ Γ) G Γ G
+  known t φ y = use0 𝓛 (raw (fact 𝓤 φ)) (fact_i 𝓤 φ (emp 𝓤) y)
+
+  -- a number owns nothing but that it fits
+  pub is_number : K → (n : ℕ) → n < 2 ^ 64 → Step K 𝓛 (‵ (u64.own_val n (vint w64 n ∷ [])) ∷ Γ) G Γ G
+  is_number t n fits = step (λ s. flt_i t n (2 ^ 64) fits $ feq_i t (List Val) (vint w64 n ∷ []) (vint w64 n ∷ []) refl $ fjoin t $ s)
 
 module _ {M : Type 1} {𝓤 : Ura M} {𝓛 : Logic 𝓤} {K : Type 0} {Γ : List (Item 𝓤)} {E : Env 𝓤 𝓛.H} where
   -- a constant that the code writes as a big one

@@ -25,7 +25,7 @@ use Rattle.core.specs.declared.alloc.Allocator.{Ghosts}
 use Rattle.core.proofs.atomic.Steps.{Ptr-Good}
 use Rattle.core.proofs.ptr.Rows.{El, R, Good, el_own, el_x, elτ, sz, el_out, apart, whole, room_snoc, glued, one_more, next}
 use Rattle.std_alloc.proofs.RawLayout.{as_raw}
-use Rattle.handles.specs.HeaderSlice.PlacesOwnership.{places_own, leaving_own}
+use Rattle.handles.specs.Inside.PlacesOwnership.{places_own, leaving_own}
 use Rattle.handles.proofs.PlacesFields.{places_val}
 use Rattle.handles.specs.contracts.header_slice.places.Leaving as leaving
 

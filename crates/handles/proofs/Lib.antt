@@ -1,4 +1,5 @@
 pub mod Asking
+pub mod BorrowedHandle
 pub mod Boxes
 pub mod BuilderRuns
 pub mod Fields
@@ -9,6 +10,7 @@ pub mod PlacesFields
 pub mod PlacesMade
 pub mod PlacesOpened
 pub mod PlacesShared
+pub mod PlacesWalks
 pub mod Sent
 pub mod Steps
 pub mod Walks

@@ -27,7 +27,7 @@ use Rattle.std_alloc.proofs.ArcSteps.{Settles, Lends-settled}
 use Rattle.core.specs.Sync.RawAtomic.{word}
 use Rattle.counting_word.proofs.Words.{stands-one}
 use Rattle.handles.proofs.block.Held.TheLaws.{the_row_laws as held_laws}
-use Rattle.handles.specs.Blocks.{HeldRow, Says, Names, Stage, living, entitled, stake, stage, Rule, counted, counted_shares, placed, stamp, shown, frees, held_and_block, held_offset, counted_handle, sole_or_counted, handle_shares, owned_as, shared_as, unshared_block, counted_handle}
+use Rattle.handles.specs.Inside.Blocks.{HeldRow, Says, Names, Stage, living, entitled, stake, stage, Rule, counted, counted_shares, placed, stamp, shown, frees, held_and_block, held_offset, counted_handle, sole_or_counted, handle_shares, owned_as, shared_as, unshared_block, counted_handle}
 use Rattle.handles.proofs.Steps.{stands-unmarked, counted_stake}
 
 -- the word of a new block stands for its one handle

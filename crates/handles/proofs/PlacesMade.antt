@@ -22,7 +22,7 @@ use denote.RawPtr.{Ptr, block_ptr}
 use denote.Steps.{nothing as nothing_more}
 use Rattle.std.specs.Mem.{type_size}
 use Rattle.core.specs.declared.alloc.Allocator.{Ghosts}
-use Rattle.handles.specs.HeaderSlice.PlacesOwnership.{gives_back}
+use Rattle.handles.specs.Inside.PlacesOwnership.{gives_back}
 use Rattle.std_alloc.proofs.RawLayout.{as_raw}
 use Rattle.handles.proofs.PlacesFields.{places_val, PlacesRow, PlacesWords, words_made}
 

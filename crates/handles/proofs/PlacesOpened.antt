@@ -23,8 +23,8 @@ use denote.Steps.{facts}
 use Rattle.std.specs.Mem.{type_size}
 use Rattle.core.specs.declared.alloc.Allocator.{Ghosts}
 use Rattle.core.proofs.ptr.Rows.{El, apart, whole}
-use Rattle.handles.specs.HeaderSlice.PlacesLending.{with_items}
-use Rattle.handles.specs.HeaderSlice.PlacesOwnership.{spare, gives_back, places_own}
+use Rattle.handles.specs.Inside.PlacesLending.{with_items}
+use Rattle.handles.specs.Inside.PlacesOwnership.{spare, gives_back, places_own}
 use Rattle.handles.proofs.PlacesFields.{places_val, PlacesRow, PlacesWords, words_told, words_made}
 
 module _ (R Z : RattleType) (g : Ghosts Z.Denot) where

@@ -28,7 +28,7 @@ use Rattle.core.specs.Allocator.{array_of}
 use Rattle.std_alloc.specs.Vec.Ownership.{owns_if}
 use Rattle.std_alloc.proofs.SendSync.{FreesAnywhere, quiet, lies, seen}
 use Rattle.std.specs.Mem.{type_size}
-use Rattle.handles.specs.HeaderSlice.PlacesOwnership.{fits, spare, gives_back, places_own, places_share}
+use Rattle.handles.specs.Inside.PlacesOwnership.{fits, spare, gives_back, places_own, places_share}
 use Rattle.handles.proofs.PlacesFields.{PlacesType, PlacesRow, PlacesWords}
 
 module _ (R : RattleType) (p : Ptr) (filled room : ℕ) (items : List R.Denot) where

@@ -12,7 +12,7 @@ use Rattle.std_heap.specs.contracts.Global.{the_row as heap_row}
 use Rattle.std_alloc.proofs.SendSync.{lies, seen, quiet}
 use Rattle.std.proofs.Crossing as crossing
 use Rattle.handles.proofs.block.Held.TheSendSync.{the_send as held_send, the_sync as held_sync}
-use Rattle.handles.specs.Blocks.{HeldRow, Names, Stage, living, over, entitled, stage, stamp, left_at, block_type, held_offset, heap_offset, held_and_block, shown, sole_or_counted, owned_as, shared_as}
+use Rattle.handles.specs.Inside.Blocks.{HeldRow, Names, Stage, living, over, entitled, stage, stamp, left_at, block_type, held_offset, heap_offset, held_and_block, shown, sole_or_counted, owned_as, shared_as}
 use Rattle.handles.specs.contracts.block.Handle as handle_type
 
 pointers : IsSend RawPtr
@@ -28,7 +28,7 @@ entitled-Keyless i e false = tt
 stage-Keyless : (content kept : Fml) → Keyless content → Keyless kept → (limit b o : ℕ) (i : Names) (s : Stage) → Keyless (stage content kept limit b o i s)
 stage-Keyless content kept c k limit b o i (living false w n) = (tt, ((λ _. tt), ((λ r c. tt), ((c, k), tt))))
 stage-Keyless content kept c k limit b o i (living true w n) = (tt, ((λ _. tt), ((λ r c. tt), (((λ e. tt), k), tt))))
-stage-Keyless content kept c k limit b o i over = tt
+stage-Keyless content kept c k limit b o i over = (tt, tt)
 
 module _ (R : RattleType) (s : IsSend R) (y : IsSync R) where
   left-Keyless : (p : Ptr) → Keyless (left_at R p)

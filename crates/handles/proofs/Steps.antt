@@ -20,9 +20,9 @@ use denote.RawPtr.{block_ptr}
 use denote.Steps.{nothing as nothing_more}
 use Rattle.core.specs.Sync.RawAtomic.{asks, always, word}
 use Rattle.counting_word.specs.CountingWord.{mark_bit, greatest_count, count_of, is_marked_word, is_one_handle, marked_word, IsWithin, StandsFor}
-use Rattle.counting_word.proofs.Words.{count_of-unmarked, is_one_handle-marked, is_one_handle-unmarked, stands-marked_word, stands-raised, stands-lowered, stands-positive}
-use Rattle.handles.specs.Rights.{Right, nothing, a_handle, to_lower, whole_block, right_by_read, right_by_raise, right_by_last_read, right_by_lower, right_by_claim}
-use Rattle.handles.specs.Blocks.{Names, fact, Says, unit_of_count, unshared, marked, entitled, stake, Stage, living, over, beside_word, stage, Rule}
+use Rattle.counting_word.proofs.Words.{bit_or-mark_bit, count_of-unmarked, is_one_handle-marked, is_one_handle-unmarked, stands-marked_word, stands-raised, stands-lowered, stands-positive}
+use Rattle.handles.specs.Inside.Rights.{Right, nothing, a_handle, to_lower, whole_block, right_by_read, right_by_raise, right_by_last_read, right_by_lower, right_by_claim}
+use Rattle.handles.specs.Inside.Blocks.{Names, fact, Says, unit_of_count, unshared, marked, entitled, stake, Stage, living, over, beside_word, stage, Rule}
 use Rattle.handles.proofs.Asking as asking
 
 -- Without the mark the drops in flight are among the live handles, however many they are.
@@ -44,24 +44,6 @@ says-fewer limit word less n k mark s fewer t = (
       let at_most : count_of word ≤ limit = s.1 (s.0.same_mark ∙ none) in
       subst (λ z. z ≤ limit) (sym few) (le_trans fewer (subst (λ z. z ≤ limit) many at_most)),
 )
-
--- the word that a mark leaves
-bit_or-mark_bit : (w : ℕ) → w < 2 ^ 64 → bit_or w (2 ^ 63) ≡ marked_word w
-bit_or-mark_bit w fits = at (is_marked_word w) refl where
-  at : (y : Bool) → is_marked_word w ≡ y → bit_or w (2 ^ 63) ≡ (if y then w else w + mark_bit)
-  at false unmarked =
-      let low : w < 9223372036854775808 = leb-false mark_bit w unmarked in
-      let e : w ≡ 0 * 2 ^ 63 + w = omega arith in
-      let h : bit_or (0 * 2 ^ 63 + w) (2 ^ 63) ≡ 2 ^ 63 + bit_or w 0 = or_block 63 0 1 w 0 low (omega arith) in
-      let sum : 2 ^ 63 + w ≡ w + 9223372036854775808 = omega arith in
-      ap (λ (z : ℕ). bit_or z (2 ^ 63)) e ∙ h ∙ ap (λ (z : ℕ). 2 ^ 63 + z) (or_zero_r w) ∙ sum
-  at true marked =
-      let high : 9223372036854775808 ≤ w = leb-true mark_bit w marked in
-      let c : ℕ = w - 9223372036854775808 in
-      let low : c < 2 ^ 63 = omega arith in
-      let e : w ≡ 2 ^ 63 + c = omega arith in
-      let h : bit_or (2 ^ 63 + c) (2 ^ 63) ≡ 2 ^ 63 + bit_or c 0 = or_block 63 1 1 c 0 low (omega arith) in
-      ap (λ (z : ℕ). bit_or z (2 ^ 63)) e ∙ h ∙ ap (λ (z : ℕ). 2 ^ 63 + z) (or_zero_r c) ∙ sym e
 
 module _ (content kept : Fml) (b o : ℕ) (i : Names) where
   -- what a step leaves by the right that it gives
@@ -122,6 +104,10 @@ module _ {M : Type 1} {𝓤 : Ura M} (𝓛 : Logic 𝓤) (content kept : Fml) (l
   no_token : (κ : Lft) (e : Share) (X : Pr) → A.lft κ e ∗ A.dead κ ⊢ X
   no_token κ e X = via 𝓤 (never 𝓤) (𝓛.lfts.lft-dead κ e) (never_e 𝓤 X)
 
+  -- a marked block is never given back
+  pub marked-not-over : A.dead m ∗ ⟦ St over ⟧ ⊢ never 𝓤
+  marked-not-over = qed 𝓛 (‵ (fdead m) ∷ ‵ (St over) ∷ []) ∵ move ! (1 ∷ []) $ fsplit ! $ keep ! (1 ∷ 2 ∷ []) $ by ! (no_token m full_share (never 𝓤))
+
   -- another name for the right that was gained
   regained : (r s : Right) → s ≡ r → ⟦ Gained r ⟧ ⊢ ⟦ Gained s ⟧
   regained r s e = subst (λ z. ⟦ Gained r ⟧ ⊢ ⟦ Gained z ⟧) (sym e) (base.Logic.id⊢ 𝓤 ⟦ Gained r ⟧)
@@ -160,7 +146,7 @@ module _ {M : Type 1} {𝓤 : Ura M} (𝓛 : Logic 𝓤) (content kept : Fml) (l
         at : (j : ℕ) (s : Stage) → ⟦ St s ⟧ ∗ ⟦ X ⟧ ⊢ ex 𝓤 (asking.Lies 𝓛 b o I f after j)
         at j (living mark w n) = qed 𝓛 (‵ (St (living mark w n)) ∷ ‵ X ∷ []) ∵ fsplit3 ! $ move ! (1 ∷ []) $ fpick ! (λ s. drop ! $ fits ! w (λ small.
             show ! (asking.Lies 𝓛 b o I f after j) w $ frame ! $ assume ! (‵ (word b o (f w))) $ by ! (steps j mark w n small s)))
-        at j over = via 𝓤 (never 𝓤) over-not (never_e 𝓤 _)
+        at j over = qed 𝓛 (‵ (St over) ∷ ‵ X ∷ []) ∵ fsplit ! $ keep ! (0 ∷ 2 ∷ []) $ by ! (via 𝓤 (never 𝓤) over-not (never_e 𝓤 _))
 
   -- a step through a `&`, which has a share of the token
   module _ (q : Share) where
@@ -193,16 +179,6 @@ module _ {M : Type 1} {𝓤 : Ura M} (𝓛 : Logic 𝓤) (content kept : Fml) (l
         at : Steps (λ w. w) after_read (flft a q)
         at j true w n small s = found_marked (right_by_read w) (ap (λ y. if y then a_handle else nothing) s.0.same_mark) j w n s
         at j false w n small s = found_unmarked (right_by_read w) (ap (λ y. if y then a_handle else nothing) s.0.same_mark) j w n s
-
-    -- a read that gains nothing
-    abbrev pub after_look : ℕ → Fml
-    after_look w = flft a q
-
-    pub looks : A.inv I ∗ A.lft a q ⊢ asks 𝓛 (block_ptr b o) (λ w. w) always after_look
-    looks = stepped (λ w. w) after_look (flft a q) at no_share
-      where
-        at : Steps (λ w. w) after_look (flft a q)
-        at j mark w n small s = qed 𝓛 (‵ (word b o w) ∷ ‵ (Beside mark n) ∷ ‵ (flft a q) ∷ []) ∵ use2 𝓛 (‵ I) (lives mark w n s) $ by ! (asking.closes 𝓛 b o I (after_look w) j)
 
     module _ (seen : ℕ) (below : seen < limit) (bounded : limit ≤ greatest_count) where
       abbrev pub raised : ℕ → ℕ
@@ -318,10 +294,10 @@ module _ {M : Type 1} {𝓤 : Ura M} (𝓛 : Logic 𝓤) (content kept : Fml) (l
   last_one : (after : ℕ → Fml) (j w v : ℕ) → after w ≡ Gained (whole_block v) → ⟦ word b o v ⟧ ∗ (⟦ Beside false 1 ⟧ ∗ ⟦ unit_of_count i ⟧) ⊢ asking.Ending 𝓛 b o I (after w) j
   last_one after j w v e = subst (λ F. ⟦ word b o v ⟧ ∗ (⟦ Beside false 1 ⟧ ∗ ⟦ unit_of_count i ⟧) ⊢ asking.Ending 𝓛 b o I F j) (sym e)
       (qed 𝓛 (‵ (word b o v) ∷ ‵ (Beside false 1) ∷ ‵ (unit_of_count i) ∷ []) ∵ move ! (1 ∷ []) $ fsplit3 ! $ move ! (0 ∷ 4 ∷ []) $ use2 𝓛 (‵ (flft a full_share)) (whole 64 𝓛 i.shared) $
-      suffices ! _ (asking.ends_first 𝓛 b o I (Gained (whole_block v)) i.shared j (⟦ word b o v ⟧ ∗ ⟦ Lender ⟧) ended) $ keep ! (0 ∷ 3 ∷ 1 ∷ []) $ done !)
+      suffices ! _ (asking.ends_first 𝓛 b o I (Gained (whole_block v)) i.shared j (⟦ word b o v ⟧ ∗ (⟦ Lender ⟧ ∗ A.lft m full_share)) ended) $ keep ! (0 ∷ 3 ∷ 1 ∷ 2 ∷ []) $ done !)
     where
-      ended : A.dead a ∗ (⟦ word b o v ⟧ ∗ ⟦ Lender ⟧) ⊢ ⟦ I ⟧ ∗ ⟦ Gained (whole_block v) ⟧
-      ended = qed 𝓛 (‵ (fdead a) ∷ ‵ (word b o v) ∷ ‵ Lender ∷ []) ∵ use1 𝓛 (‵ (fdead a) ⊛ ‵ (fdead a)) (𝓛.lfts.dead_dup a) $ split ! $ fpack ! Stage St over $ frame ! $
+      ended : A.dead a ∗ (⟦ word b o v ⟧ ∗ (⟦ Lender ⟧ ∗ A.lft m full_share)) ⊢ ⟦ I ⟧ ∗ ⟦ Gained (whole_block v) ⟧
+      ended = qed 𝓛 (‵ (fdead a) ∷ ‵ (word b o v) ∷ ‵ Lender ∷ ‵ (flft m full_share) ∷ []) ∵ use1 𝓛 (‵ (fdead a) ⊛ ‵ (fdead a)) (𝓛.lfts.dead_dup a) $ split ! $ move ! (0 ∷ 4 ∷ []) $ fjoin ! $ fpack ! Stage St over $ frame ! $
           move ! (1 ∷ 0 ∷ 2 ∷ []) $ fjoin3 ! $ done !
 
   -- a lower
@@ -454,4 +430,4 @@ module _ {M : Type 1} {𝓤 : Ura M} (𝓛 : Logic 𝓤) (content : Fml) (limit 
           use1 𝓛 (‵ kept_word ⊛ ‵ (Others mark n)) (comes_out mark n) $ split ! $ fpick ! (λ k. show ! (asking.Lies 𝓛 b o' J f (λ _. flft κ q) j) k $ frame ! $ assume ! (‵ (word b o' (f k))) $
           fpack ! ℕ (λ k. word b o' k) (f k) $ use2 𝓛 (‵ (beside_word content kept_word limit b o i mark n)) (goes_in mark n) $ move ! (1 ∷ 2 ∷ 0 ∷ []) $ fjoin3 ! $
           fpack ! Stage (stage content kept_word limit b o i) (living mark w n) $ by ! (asking.closes 𝓛 b o' J (flft κ q) j))
-      at j over = via 𝓤 (never 𝓤) (qed 𝓛 (‵ (fdead κ) ∷ ‵ (flft κ q) ∷ []) ∵ move ! (1 ∷ 0 ∷ []) $ by ! (𝓛.lfts.lft-dead κ q)) (never_e 𝓤 (Goes j))
+      at j over = via 𝓤 (never 𝓤) (qed 𝓛 (‵ (stage content kept_word limit b o i over) ∷ ‵ (flft κ q) ∷ []) ∵ fsplit ! $ keep ! (2 ∷ 0 ∷ []) $ by ! (𝓛.lfts.lft-dead κ q)) (never_e 𝓤 (Goes j))

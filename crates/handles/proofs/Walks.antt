@@ -19,15 +19,19 @@ pub use contract.Monad.{fact, fact_i}
 pub use denote.Exit.{yes, no}
 pub use denote.RattleType.{RattleType, owns}
 pub use denote.Signature.{types_at, plain}
-pub use denote.RawPtr.{Ptr, InBlock, block_ptr, ptr_val, block_of, at_block}
+pub use denote.RawPtr.{Ptr, InBlock, block_ptr, ptr_val, block_of, count_of as offset_of, at_block}
 pub use denote.Steps.{nothing as nothing_more, only, peeks, heard, looks, shuts}
 pub use denote.Laws.{Is, shows}
 pub use denote.Memory.{cell_at}
-pub use denote.Param.{param, layouts}
+pub use denote.Param.{param, layout, layouts, bounded}
+pub use denote.Param.Laws.{param_laws}
 pub use denote.Builtin.{RefOf, u64}
 pub use denote.Ref.{shr_vals, shr_Tells}
 pub use denote.Triple.Walked.{Stays, stay_dropped, walk_of, Goes-dropped}
 pub use Rattle.core.proofs.alloc.Shapes.{after}
 pub use Rattle.atomic_table.proofs.Walks.{proved, proved_at, leaves}
 pub use Rattle.atomic_table.proofs.Calls.{fm, seq_cst, found, finds}
-pub use Rattle.handles.proofs.Fields.{one_word, word_and_gain, one_word-Good, words_told, words_made, words_open, HandleRow, GainRow, HandleWords, GainWords}
+pub use Rattle.handles.specs.Inside.Rights.{Right}
+pub use Rattle.handles.specs.Inside.Blocks.{HeldRow, stamp, held_and_block, block_rule, gain_owns}
+pub use Rattle.handles.proofs.Fields.{one_word, word_and_gain, one_word-Good, words_told, words_made, words_open, HandleRow, GainRow, HandleWords, GainWords, known, is_number, returns_gain, word_and_gain-Good}
+pub use Rattle.handles.proofs.BorrowedHandle.{opens_word, opens_handle, shows_gain, closes_borrow}

@@ -6,5 +6,5 @@ abbrev pub CopiesAreEqual : {V : Type 0} → (V → V → Type 0) → Type 0
 CopiesAreEqual {V} is_clone = (x y : V) → is_clone x y → y ≡ x
 
 -- y is x itself or a copy of it
-abbrev pub IsSameOrCopy : {V : Type 0} → (V → V → Type 0) → V → V → Type 0
-IsSameOrCopy is_clone x y = (y ≡ x) ⊎ is_clone x y
+abbrev pub SameOrCopy : {V : Type 0} → (V → V → Type 0) → V → V → Type 0
+SameOrCopy is_clone x y = (y ≡ x) ⊎ is_clone x y

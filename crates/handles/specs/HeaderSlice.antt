@@ -1,9 +1,6 @@
 -- What a header slice is to its holder.
 pub mod Builders
-pub mod ItemsLending
 pub mod Lending
-pub mod PlacesLending
-pub mod PlacesOwnership
 pub mod Pulls
 pub mod UniqueLending
 use Rattle.std.specs.Prelude.{ℕ, List, length}

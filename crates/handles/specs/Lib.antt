@@ -1,10 +1,8 @@
 pub mod Attempts
-pub mod BlockWriteBack
-pub mod Blocks
 pub mod Borrowed
 pub mod Copies
 pub mod HeaderSlice
-pub mod Rights
+pub mod Inside
 pub mod UnionHandles
 pub mod UnionLaws
 pub mod Unions

@@ -4,7 +4,8 @@ use Rattle.std.proofs.Common.{true≢false, sym}
 use Rattle.std.specs.Cmp.{IsPartialEquivalence, IsEquivalence, equiv, partial_equiv_from_equiv}
 use Rattle.handles.specs.Unions.{Union, First, Second, union_eq}
 
-module _ {A B : Type 0} {R : A → A → Bool} {S : B → B → Bool} (r : IsPartialEquivalence R) (s : IsPartialEquivalence S) where
+module _ {A B : Type 0} {R : A → A → Bool} {S : B → B → Bool}
+    (r : IsPartialEquivalence R) (s : IsPartialEquivalence S) where
   flipped : (u v : Union A B) → union_eq R S u v ≡ union_eq R S v u
   flipped (First a) (First x) = r.symm a x
   flipped (First a) (Second y) = refl

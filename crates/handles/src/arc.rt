@@ -2,6 +2,10 @@
 ghost use Rattle.std.specs.Prelude.{◌≡◌, IfOk, IfErr, false};
 ghost use Rattle.counting_word.specs.CountingWord.{IsLimit};
 
+mod compare;
+mod convert;
+mod copy_on_write;
+
 use crate::block::Handle;
 use crate::limit::Limit;
 use crate::unique::UniqueArc;
@@ -167,17 +171,6 @@ impl<T: Send + Sync + Drop> Clone for Arc<T> {
         Ok(Arc {
             handle: self.handle.try_clone(MOST_RAISES)?,
         })
-    }
-}
-
-/// Asks the values, also where both are handles of one block.
-impl<T: Send + Sync + PartialEq> PartialEq for Arc<T> {
-    ghost eq = { T.eq };
-
-    ghost laws = { T.laws };
-
-    fn eq(&self, other: &Arc<T>) -> bool {
-        **self == **other
     }
 }
 

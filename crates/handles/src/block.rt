@@ -1,13 +1,31 @@
 // The block of an `Arc`, and each step that is made on it through a raw pointer.
+//
+// function      step on the word    holds before        holds after
+// word          load                `&Handle`           the same
+// read          load                `&Handle`           the same; a handle more if the word is marked
+// raise         compare-exchange    `&Handle`           the same; a handle more if it wins or finds the mark
+// mark          or                  `&Handle`           the same
+// claim         load                `&mut Handle`       the same, and knows whether it is sole
+// leave         load                `Handle`            one unit to lower; nothing if the word is marked
+// lower         subtract            one unit            nothing; the whole block if it was the last
+// sole          none                a loose block       the sole `Handle`
+// into_shared   none                `Handle`            a `Handle` that is not known to be sole
+// into_gain     none                the sole `Handle`   the whole block
+// into_handle   none                a handle gained     `Handle`
+// into_loose    none                the whole block     a loose block
+//
+// `stamp` and `add_to_stamp` make a load and an addition on the stamp.
 ghost use Rattle.std.specs.Prelude.{◌≡◌, ◌<◌, Bool, true, false, IfOk, IfErr};
 ghost use types.Logic.{sem};
 ghost use Rattle.counting_word.specs.CountingWord.{is_one_handle, IsWithin};
 ghost use Rattle.std_alloc.specs.Box.Ownership.{box_owns};
-ghost use Rattle.handles.specs.Blocks.{handle_owns, handle_shares, gain_owns};
+ghost use Rattle.handles.specs.Inside.Blocks.{handle_owns, handle_shares, gain_owns};
 ghost use Rattle.handles.specs.declared.block.Held.{Held};
-ghost use Rattle.handles.specs.Rights.{Right, nothing, a_handle, to_lower, whole_block, coded_right, right_by_read, right_by_raise, right_by_last_read, right_by_lower, IsWholeBlock};
+ghost use Rattle.handles.specs.Inside.Rights.{Right, nothing, a_handle, to_lower, whole_block, coded_right, IsWholeBlock};
+ghost use Rattle.handles.specs.Inside.Rights.{right_by_read, right_by_raise, right_by_last_read, right_by_lower};
 
 mod lend;
+mod same_block;
 
 use crate::limit::Limit;
 use atomic_table::exchange;
@@ -22,9 +40,9 @@ use std_alloc::room::Vacant;
 pub(crate) struct Block<T> {
     pub(crate) word: u64,
     // Changed by `Arc::ptr_eq` alone.
-    pub(crate) stamp: u64,
+    stamp: u64,
     pub(crate) held: Held<T>,
-    pub(crate) alloc: Global,
+    alloc: Global,
 }
 
 // What every handle of a block may read without an atomic step.
@@ -35,22 +53,50 @@ pub(crate) struct Held<T> {
     pub(crate) value: T,
 }
 
+impl<T> Block<T> {
+    // A block with one handle.
+    fn first(alloc: Global, value: T, limit: Limit) -> Block<T>
+        ensures word { result.word ≡ 1 }
+        ensures value { result.held.value ≡ value }
+        ensures limit { result.held.limit ≡ limit }
+    {
+        Block {
+            word: 1,
+            stamp: 0,
+            held: Held { limit, value },
+            alloc,
+        }
+    }
+
+    #[inline]
+    pub(crate) fn value(&self) -> &T
+        ensures { result.now ≡ self.now.held.value }
+    {
+        &self.held.value
+    }
+}
+
+impl<T> Block<T> {
+    ghost use Rattle.handles.specs.Inside.BlockWriteBack.{LendsValue};
+
+    #[inline]
+    pub(crate) fn value_mut(&mut self) -> &mut T
+        ensures* writes_back { sem 𝓛 (LendsValue T.row self.entry result) }
+        ensures value { result.now ≡ self.old.held.value }
+    {
+        let held = &mut self.held;
+        &mut held.value
+    }
+}
+
 impl<T: Drop> Block<T> {
-    // A block with one handle, or the value where there is no memory.
+    // In a box of its own, or the value where there is no memory.
     pub(crate) fn boxed(alloc: Global, value: T, limit: Limit) -> Result<Box<Block<T>>, T>
         ensures made { IfOk result (λ b. (b.value.word ≡ 1) × (b.value.held.value ≡ value)) }
         ensures limit { IfOk result (λ b. b.value.held.limit ≡ limit) }
         ensures refused { IfErr result (λ x. x ≡ value) }
     {
-        match Box::new(
-            alloc,
-            Block {
-                word: 1,
-                stamp: 0,
-                held: Held { limit, value },
-                alloc,
-            },
-        ) {
+        match Box::new(alloc, Block::first(alloc, value, limit)) {
             Ok(block) => Ok(block),
             Err(AllocFailed { value: block }) => {
                 let Block {
@@ -63,6 +109,13 @@ impl<T: Drop> Block<T> {
                 Err(value)
             }
         }
+    }
+
+    // In the room that was taken for it.
+    pub(crate) fn written(room: Vacant<Block<T>, Global>, alloc: Global, value: T) -> Box<Block<T>>
+        ensures { (result.value.word ≡ 1) × (result.value.held.value ≡ value) }
+    {
+        Loose::fill(room, Block::first(alloc, value, Limit::GREATEST)).into_box()
     }
 }
 
@@ -94,7 +147,7 @@ impl<T: Drop, A: Allocator> Loose<T, A> {
 }
 
 impl<T, A: Allocator> Loose<T, A> {
-    pub(crate) fn fill(room: Vacant<T, A>, value: T) -> Loose<T, A>
+    fn fill(room: Vacant<T, A>, value: T) -> Loose<T, A>
         ensures { result.value ≡ value }
     {
         let Vacant { ptr, alloc } = room;
@@ -167,8 +220,8 @@ impl<T> Handle<T> {
     pub(crate) fn word(&self) -> u64
         requires { self.now.sole ≡ false }
     {
-        let block = self.block;
-        unsafe { raw::load::<Brand>(&raw const (*block).word, SeqCst) }
+        let (word, Gain { block: _ }) = self.read();
+        word
     }
 
     // Reads the word, by which the handle knows whether it is the only one.
@@ -260,7 +313,7 @@ impl<T> Handle<T> {
 }
 
 impl<T> Handle<T> {
-    ghost use Rattle.handles.specs.BlockWriteBack.{LendsHeld, LendsSole};
+    ghost use Rattle.handles.specs.Inside.BlockWriteBack.{LendsHeld, LendsSole};
 
     #[inline]
     fn held_mut(&mut self) -> &mut Held<T>

@@ -6,12 +6,8 @@ pub mod arc_union;
 mod attempt;
 mod block;
 pub mod borrow;
-mod compare;
-mod convert;
-mod copy_on_write;
 pub mod header_slice;
 mod limit;
-mod same_block;
 pub mod unique;
 
 pub use arc::{Arc, Full, RawArc};

@@ -3,7 +3,7 @@ ghost use Rattle.std.specs.Prelude.{◌≡◌, IfOk, IfErr};
 ghost use types.Logic.{sem};
 
 use crate::arc::Arc;
-use crate::block::{Block, Handle, Held, Loose};
+use crate::block::{Block, Handle, Loose};
 use crate::limit::Limit;
 use std::alloc::{AllocError, Global};
 use std::marker::Model;
@@ -76,7 +76,7 @@ impl<T: Send + Sync> Deref for UniqueArc<T> {
     fn deref(&self) -> &T
         ensures { result.now ≡ self.now }
     {
-        &self.block.held.value
+        self.block.value()
     }
 }
 
@@ -89,7 +89,7 @@ impl<T: Send + Sync> DerefMut for UniqueArc<T> {
         ensures* writes_back { sem 𝓛 (LendsUnique T.row self.entry result) }
         ensures value { result.now ≡ self.old }
     {
-        &mut self.block.held.value
+        self.block.value_mut()
     }
 }
 
@@ -115,17 +115,8 @@ impl<T: Send + Sync + Drop> UninitArc<T> {
         ensures { result ≡ value }
     {
         let UninitArc { room, alloc } = self;
-        let block = Block {
-            word: 1,
-            stamp: 0,
-            held: Held {
-                limit: Limit::GREATEST,
-                value,
-            },
-            alloc,
-        };
         UniqueArc {
-            block: Loose::fill(room, block).into_box(),
+            block: Block::written(room, alloc, value),
         }
     }
 }

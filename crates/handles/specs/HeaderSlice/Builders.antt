@@ -1,7 +1,7 @@
 -- What a builder that wants n items answers, by what it heard.
 use Rattle.std.specs.Prelude.{◌≡◌, ⊤, ℕ, ◌+◌, ◌<◌, Option}
 use Rattle.std.specs.Iterator.Runs.{SomeRun, WholeRun}
-use Rattle.handles.specs.HeaderSlice.{HeaderAndItems}
+use Rattle.handles.specs.HeaderSlice.{HeaderAndItems, ItemsInRoom}
 use Rattle.handles.specs.HeaderSlice.Pulls.{GivesRight, GivesFewer, GivesMore}
 use Rattle.handles.specs.declared.header_slice.build.BuildError.{BuildError}
 use Rattle.handles.specs.declared.header_slice.build.BuildError.TheVariants.{Memory, OverReported, UnderReported}
@@ -10,6 +10,10 @@ module _ {S A : Type 0} (steps : S → Option A → S → Type 0) (source : S) (
   -- the header with just the items that came, and the iterator as it is then
   abbrev pub IsBuiltUpTo : {H : Type 0} → S → H → HeaderAndItems H A → Type 0
   IsBuiltUpTo after header slice = (slice.header ≡ header) × GivesRight steps source n after slice.items
+
+  -- just the items that came
+  abbrev pub TakesUpTo : S → ItemsInRoom A → Type 0
+  TakesUpTo after taken = GivesRight steps source n after taken.items
 
   -- where memory is refused, the iterator was not asked at all
   abbrev pub RefusesUpTo : S → BuildError → Type 0
@@ -29,7 +33,7 @@ module _ {S A : Type 0} (steps : S → Option A → S → Type 0) (source : S) (
   RefusesRun OverReported = WholeRun steps source (λ p. p.len < n)
   RefusesRun UnderReported = SomeRun steps source (λ p. p.len ≡ n + 1)
 
--- A run of the iterator took just the items of the slice, as the library says it of what takes all items of an iterator.
--- By it a slice that is built from a vector, or from a chain over a slice, is known to be that list.
+-- A run of the iterator took just the items of the slice, as the library says it of what takes all items of an
+-- iterator. By it a slice that is built from a vector, or from a chain over a slice, is known to be that list.
 abbrev pub TakesAll : {S A H : Type 0} → (S → Option A → S → Type 0) → S → HeaderAndItems H A → Type 0
 TakesAll steps source slice = WholeRun steps source (λ p. p.items ≡ slice.items)

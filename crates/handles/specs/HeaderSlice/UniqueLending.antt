@@ -10,4 +10,5 @@ module _ (H T : RattleType) (u : MutBor (HeaderAndItems H.Denot T.Denot)) where
   LendsUniqueHeader r = Lends (unique_row (slice_row H T)) H u r (λ h. record { header = h; items = u.now.items })
 
   abbrev pub LendsUniqueItems : MutBor (List T.Denot) → Fml
-  LendsUniqueItems r = Lends (unique_row (slice_row H T)) (Array T 0) u r (λ xs. record { header = u.now.header; items = rewritten u.now.items xs })
+  LendsUniqueItems r = Lends (unique_row (slice_row H T)) (Array T 0) u r
+      (λ xs. record { header = u.now.header; items = rewritten u.now.items xs })

@@ -1,8 +1,8 @@
 // Writing through the only handle of a block.
 ghost use Rattle.std.specs.Prelude.{◌≡◌, IfSome, IfOk, IfErr, OnOk, OnErr, true, false};
 ghost use types.Logic.{sem};
-ghost use Rattle.handles.specs.BlockWriteBack.{LendsIfAlone};
-ghost use Rattle.handles.specs.Copies.{IsSameOrCopy};
+ghost use Rattle.handles.specs.Inside.BlockWriteBack.{LendsIfAlone};
+ghost use Rattle.handles.specs.Copies.{SameOrCopy};
 
 use super::{Block, Handle, Loose};
 use counting_word::is_alone;
@@ -46,7 +46,7 @@ impl<T> Handle<T> {
     where
         T: Clone + Drop,
         ensures sole { OnOk result (self.new.sole ≡ true) }
-        ensures value { OnOk result (IsSameOrCopy T.is_clone self.old.held.value self.new.held.value) }
+        ensures copy { OnOk result (SameOrCopy T.is_clone self.old.held.value self.new.held.value) }
         ensures limit { self.new.held.limit ≡ self.old.held.limit }
         ensures refused { OnErr result ((self.new.held ≡ self.old.held) × (self.new.sole ≡ false)) }
     {

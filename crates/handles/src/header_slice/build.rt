@@ -1,7 +1,6 @@
 // How a header slice takes its items from an iterator.
 ghost use Rattle.std.specs.Prelude.{◌≡◌, [], IfOk, IfErr};
-ghost use Rattle.handles.specs.HeaderSlice.Pulls.{GivesRight};
-ghost use Rattle.handles.specs.HeaderSlice.Builders.{IsBuiltUpTo, RefusesUpTo};
+ghost use Rattle.handles.specs.HeaderSlice.Builders.{IsBuiltUpTo, TakesUpTo, RefusesUpTo};
 ghost use Rattle.handles.specs.declared.header_slice.build.BuildError.TheVariants.{Memory};
 
 use super::HeaderSlice;
@@ -59,7 +58,7 @@ impl<T: Drop> Items<T> {
         requires can_next { I.can_next source.old }
         requires empty { self.items ≡ [] }
         requires room { self.room ≡ number }
-        ensures taken { IfOk result (λ i. GivesRight I.next_gives source.old number source.new i.items) }
+        ensures taken { IfOk result (TakesUpTo I.next_gives source.old number source.new) }
         ensures refused { IfErr result (RefusesUpTo I.next_gives source.old number source.new) }
     {
         while self.len() < number {

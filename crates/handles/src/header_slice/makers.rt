@@ -22,7 +22,7 @@ impl<H: Send + Sync + Drop, T: Send + Sync + Drop> Arc<HeaderSlice<H, T>> {
         ensures built { IfOk result (IsBuilt I.next_gives items (size (I.remaining items)) header) }
         ensures refused { IfErr result (Refuses I.next_gives items (size (I.remaining items))) }
         ensures runs { IfOk result (TakesAll I.next_gives items) }
-        ensures refused_runs { IfErr result (RefusesRun I.next_gives items (size (I.remaining items))) }
+        ensures refusals { IfErr result (RefusesRun I.next_gives items (size (I.remaining items))) }
     {
         let num_items = items.len();
         Arc::from_header_and_iter_with_size(alloc, header, items, num_items)
@@ -42,7 +42,7 @@ impl<H: Send + Sync + Drop, T: Send + Sync + Drop> Arc<HeaderSlice<H, T>> {
         ensures built { IfOk result (IsBuilt I.next_gives items num_items header) }
         ensures refused { IfErr result (Refuses I.next_gives items num_items) }
         ensures runs { IfOk result (TakesAll I.next_gives items) }
-        ensures refused_runs { IfErr result (RefusesRun I.next_gives items num_items) }
+        ensures refusals { IfErr result (RefusesRun I.next_gives items num_items) }
     {
         Ok(UniqueArc::from_header_and_iter_with_size(alloc, header, items, num_items)?.shareable())
     }
@@ -60,7 +60,7 @@ impl<H: Send + Sync + Drop, T: Send + Sync + Drop> Arc<HeaderSlice<H, T>> {
         ensures built { IfOk result (IsBuilt I.next_gives items num_items header) }
         ensures refused { IfErr result (Refuses I.next_gives items num_items) }
         ensures runs { IfOk result (TakesAll I.next_gives items) }
-        ensures refused_runs { IfErr result (RefusesRun I.next_gives items num_items) }
+        ensures refusals { IfErr result (RefusesRun I.next_gives items num_items) }
     {
         let slice = Arc::from_header_and_iter_with_size(alloc, header, items, num_items)?;
         if is_static {
@@ -81,7 +81,7 @@ impl<H: Send + Sync + Drop, T: Send + Sync + Drop> UniqueArc<HeaderSlice<H, T>> 
         ensures built { IfOk result (IsBuilt I.next_gives items (size (I.remaining items)) header) }
         ensures refused { IfErr result (Refuses I.next_gives items (size (I.remaining items))) }
         ensures runs { IfOk result (TakesAll I.next_gives items) }
-        ensures refused_runs { IfErr result (RefusesRun I.next_gives items (size (I.remaining items))) }
+        ensures refusals { IfErr result (RefusesRun I.next_gives items (size (I.remaining items))) }
     {
         let num_items = items.len();
         UniqueArc::from_header_and_iter_with_size(alloc, header, items, num_items)
@@ -101,7 +101,7 @@ impl<H: Send + Sync + Drop, T: Send + Sync + Drop> UniqueArc<HeaderSlice<H, T>> 
         ensures built { IfOk result (IsBuilt I.next_gives items num_items header) }
         ensures refused { IfErr result (Refuses I.next_gives items num_items) }
         ensures runs { IfOk result (TakesAll I.next_gives items) }
-        ensures refused_runs { IfErr result (RefusesRun I.next_gives items num_items) }
+        ensures refusals { IfErr result (RefusesRun I.next_gives items num_items) }
     {
         build(alloc, header, &mut items, num_items)
     }

@@ -3,7 +3,7 @@ ghost use Rattle.std.specs.Prelude.{◌≡◌, ◌≢◌, ◌*◌, ◌<◌, ◌�
 ghost use Rattle.std.specs.Borrow.{sem};
 ghost use Rattle.std.specs.Mem.{type_size};
 ghost use Rattle.std.specs.Vec.Ownership.{FitsInBlock};
-ghost use Rattle.handles.specs.HeaderSlice.PlacesOwnership.{places_own, places_share, leaving_own};
+ghost use Rattle.handles.specs.Inside.PlacesOwnership.{places_own, places_share, leaving_own};
 
 use std::alloc::{AllocError, Allocator};
 use std::marker::{Model, PhantomData};
@@ -128,7 +128,7 @@ impl<T, A: Allocator> Places<T, A> {
 }
 
 impl<T, A: Allocator> Places<T, A> {
-    ghost use Rattle.handles.specs.HeaderSlice.PlacesLending.{LendsPlaces};
+    ghost use Rattle.handles.specs.Inside.PlacesLending.{LendsPlaces};
 
     #[inline]
     pub(super) fn slice_mut(&mut self) -> &mut [T]

@@ -19,8 +19,10 @@ abbrev pub with_value : {X Y : Type 0} → Handle X → Y → Handle Y
 with_value h y = record { block = h.block; held = record { limit = h.held.limit; value = y }; sole = h.sole }
 
 abbrev pub the_former : Former {0} → Former {0}
-the_former g = via (pair (const (Ptr × Limit × Bool)) g) (λ X. Handle (g.Of X)) (λ X h. ((h.block, h.held.limit, h.sole), h.held.value))
-    (λ X v. record { block = v.0.0; held = record { limit = v.0.1; value = v.1 }; sole = v.0.2 }) (λ X h. refl) (λ X v. refl)
+the_former g = via (pair (const (Ptr × Limit × Bool)) g) (λ X. Handle (g.Of X))
+    (λ X h. ((h.block, h.held.limit, h.sole), h.held.value))
+    (λ X v. record { block = v.0.0; held = record { limit = v.0.1; value = v.1 }; sole = v.0.2 })
+    (λ X h. refl) (λ X v. refl)
 
 abbrev pub the_weighed : {g : Former {0}} → Weighed g → Weighed (the_former g)
 the_weighed w = record { weight = λ X μ h. w.weight X μ h.held.value; puts = λ X μ h. w.puts X μ h.held.value }
@@ -30,9 +32,14 @@ module _ (R S : RattleType) (h : R.Denot → S.Denot) where
   unfolding part_of
   the_places a = record {
     mir_same = refl;
-    own_same = λ d i. (C.the_row (one_value R (a.mir_same i) (a.own_same d.held.value i) (a.shr_same d.held.value i) gnil)).own_val (with_value d tt);
-    shr_same = λ d i. (C.the_row (one_value R (a.mir_same i) (a.own_same d.held.value i) (a.shr_same d.held.value i) gnil)).shr_at (with_value d tt);
+    own_same = λ d i.
+        (C.the_row (one_value R (a.mir_same i) (a.own_same d.held.value i) (a.shr_same d.held.value i) gnil)).own_val
+        (with_value d tt);
+    shr_same = λ d i.
+        (C.the_row (one_value R (a.mir_same i) (a.own_same d.held.value i) (a.shr_same d.held.value i) gnil)).shr_at
+        (with_value d tt);
   }
 
   pub the_codes_placed : Recodes R S h → Recodes (C.the_row R) (C.the_row S) ((the_former this).map R.Denot S.Denot h)
-  the_codes_placed e d i = (C.the_row (one_value R R.mir (λ _. ftrue) (λ _ _. nothing) (e d.held.value i))).coded.code (with_value d tt)
+  the_codes_placed e d i = (C.the_row (one_value R R.mir (λ _. ftrue) (λ _ _. nothing) (e d.held.value i))).coded.code
+      (with_value d tt)

@@ -38,7 +38,8 @@ the_weighed w = w
 abbrev pub the_items : (X : Type 0) → X → List X
 the_items X u = u ∷ []
 
-pub the_items_listed : (X : Type 0) (u : X) → listed (one_more none_left) (children (the_former this) X u) ≡ the_items X u
+pub the_items_listed : (X : Type 0) (u : X) → listed (one_more none_left) (children (the_former this) X u)
+    ≡ the_items X u
 the_items_listed X u = refl
 
 -- what a box of a block has beside the value
@@ -56,8 +57,11 @@ in_box b y = record { ptr = b.ptr; alloc = b.alloc; value = y }
 
 abbrev fields : Former {0}
 fields = via (pair (const Rest) this) Inside
-    (λ X a. ((a.block.ptr, a.block.alloc, a.block.value.word, a.block.value.stamp, a.block.value.held.limit, a.block.value.alloc), a.block.value.held.value))
-    (λ X v. record { block = record { ptr = v.0.0; alloc = v.0.1; value = record { word = v.0.2; stamp = v.0.3; held = record { limit = v.0.4; value = v.1 }; alloc = v.0.5 } } })
+    (λ X a. let b : Block X = a.block.value in
+    ((a.block.ptr, a.block.alloc, b.word, b.stamp, b.held.limit, b.alloc), b.held.value))
+    (λ X v. let held : Held X = record { limit = v.0.4; value = v.1 } in
+    let block : Block X = record { word = v.0.2; stamp = v.0.3; held = held; alloc = v.0.5 } in
+    record { block = record { ptr = v.0.0; alloc = v.0.1; value = block } })
     (λ X a. refl) (λ X v. refl)
 
 abbrev box_of : RattleType → RattleType
@@ -68,24 +72,37 @@ module _ (R S : RattleType) (h : R.Denot → S.Denot) where
   unfolding part_of
   box_places a = record {
     mir_same = refl;
-    own_same = λ b i. (box_of (one_value R (a.mir_same i) (a.own_same b.value i) (a.shr_same b.value i) gnil)).own_val (in_box b tt);
-    shr_same = λ b i. (box_of (one_value R (a.mir_same i) (a.own_same b.value i) (a.shr_same b.value i) gnil)).shr_at (in_box b tt);
+    own_same = λ b i. (box_of (one_value R (a.mir_same i) (a.own_same b.value i) (a.shr_same b.value i) gnil)).own_val
+        (in_box b tt);
+    shr_same = λ b i. (box_of (one_value R (a.mir_same i) (a.own_same b.value i) (a.shr_same b.value i) gnil)).shr_at
+        (in_box b tt);
   }
 
 module _ (R S : RattleType) (h : R.Denot → S.Denot) where
   held_places : Alike R S h → Alike (held.the_row R) (held.the_row S) (λ d. in_held d (h d.value))
-  held_places a = struct_places (held.the_type R) (held.the_type S) ((λ n. n), (h, tt)) _ (λ d. refl) refl (stays limit.the_row, (laid _ _ _ a, tt))
+  held_places a = struct_places (held.the_type R) (held.the_type S) ((λ n. n), (h, tt)) _ (λ d. refl) refl
+      (stays limit.the_row, (laid _ _ _ a, tt))
 
   block_places : Alike R S h → Alike (block.the_row R) (block.the_row S) (λ b. in_block b (h b.held.value))
-  block_places a = struct_places (block.the_type R) (block.the_type S) ((λ n. n), ((λ n. n), ((λ d. in_held d (h d.value)), ((λ g. g), tt)))) _ (λ b. refl) refl
-      ((refl, (λ n. refl, λ n. refl)), ((refl, (λ n. refl, λ n. refl)), (laid _ _ _ (held_places a), (stays heap.the_row, tt))))
+  block_places a = struct_places (block.the_type R) (block.the_type S)
+      ((λ n. n), ((λ n. n), ((λ d. in_held d (h d.value)), ((λ g. g), tt)))) _ (λ b. refl) refl (
+        (refl, (λ n. refl, λ n. refl)),
+        (
+          (refl, (λ n. refl, λ n. refl)),
+          (laid _ _ _ (held_places a), (stays heap.the_row, tt)),
+        ),
+      )
 
   pub the_places : Alike R S h → Alike (C.the_row R) (C.the_row S) ((the_former this).map R.Denot S.Denot h)
-  the_places a = view_places fields (the_former this) view (λ X Y k u. refl) (λ X u. refl) R.Denot S.Denot h (C.the_row R).coded (C.the_row S).coded
+  the_places a = view_places fields (the_former this) view (λ X Y k u. refl) (λ X u. refl) R.Denot S.Denot h
+      (C.the_row R).coded (C.the_row S).coded
       (invariant R.Denot) (invariant S.Denot) (λ u. ℕ_set _ _) (λ u. ℕ_set _ _) (λ u e. e) (λ u e. e)
       (over (I.the_row R)) (over (I.the_row S))
-      (struct_places (I.the_type R) (I.the_type S) ((λ b. in_box b (in_block b.value (h b.value.held.value))), tt) _ (λ d. refl) refl
-      (laid _ _ _ (box_places (block.the_row R) (block.the_row S) (λ b. in_block b (h b.held.value)) (block_places a)), tt))
+      (struct_places (I.the_type R) (I.the_type S) ((λ b. in_box b (in_block b.value (h b.value.held.value))), tt) _
+      (λ d. refl) refl (
+        laid _ _ _ (box_places (block.the_row R) (block.the_row S) (λ b. in_block b (h b.held.value)) (block_places a)),
+        tt,
+      ))
 
   pub the_codes_placed : Recodes R S h → Recodes (C.the_row R) (C.the_row S) ((the_former this).map R.Denot S.Denot h)
   the_codes_placed e d = e d

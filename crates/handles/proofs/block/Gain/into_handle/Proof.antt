@@ -1,8 +1,6 @@
 -- `into_handle` makes the handle that was gained.
-use Rattle.handles.proofs.Walks.{◌≡◌, ℕ, false, [], ◌∷◌, refl, a_type, Val, inst_fn, SProp, emp, Lft, Share, ftrue, flft, ‵, raw, ◌⊛◌, ◌$◌, ◌∵◌, !, qed, by, move, keep, split, join, fsplit, fjoin, use0, rewrite, stop, fld, of_opd, no_more, and_then, returns, enter, alloc_all, pass_all, free_all, look_at, get, get_in, sets, agg, sub, whole, tables, fact, fact_i, no, RattleType, owns, types_at, plain, Ptr, block_of, nothing_more, heard, param, layouts, Stays, stay_dropped, walk_of, Goes-dropped, proved, leaves, one_word, one_word-Good, words_told, words_made, GainRow, HandleWords}
-use denote.RawPtr.{count_of as offset_of}
-use Rattle.handles.specs.Rights.{Right, a_handle}
-use Rattle.handles.specs.Blocks.{HeldRow, gain_owns}
+use Rattle.handles.proofs.Walks.{◌≡◌, ℕ, false, [], ◌∷◌, refl, a_type, Val, inst_fn, SProp, Lft, Share, ftrue, flft, ‵, raw, ◌⊛◌, ◌$◌, ◌∵◌, !, qed, by, move, keep, split, join, fsplit, fjoin, use0, rewrite, stop, fld, of_opd, no_more, and_then, returns, enter, alloc_all, pass_all, free_all, look_at, get, get_in, sets, env, agg, sub, whole, tables, fact, no, RattleType, owns, types_at, plain, Ptr, block_of, offset_of, nothing_more, heard, param, layouts, Stays, stay_dropped, walk_of, Goes-dropped, proved, leaves, Right, HeldRow, gain_owns, one_word, one_word-Good, words_told, words_made, GainRow, HandleWords, known}
+use Rattle.handles.specs.Inside.Rights.{a_handle}
 use Rattle.handles.specs.contracts.block.Handle as handle_type
 use Rattle.handles.specs.contracts.block.Gain as gain_type
 use Rattle.std_alloc.proofs.RcSteps.{Ptr-Good}
@@ -24,5 +22,5 @@ into_handle_spec 𝓤 𝓛 𝓜 𝓡 wired T L =
     enter ! 𝓣.C 𝓣.Λ fn (one_word p ∷ []) Post $ alloc_all ! (λ l. pass_all ! refl (one_word-Good p, tt) $
     sets ! (of_opd ! (get_in ! (fld ! refl (stop !)) (sub ! 0 refl (whole !)))) refl (Ptr-Good p) $ sets ! (agg ! (and_then ! (get ! refl) (no_more !))) refl (one_word-Good p) $
     use0 𝓛 (‵ ((HandleWords R).own_val (p, tt) (one_word p ∷ []))) (words_made (handle_type.the_type R).name (R ∷ []) 𝓛 p) $ fjoin ! $
-    use0 𝓛 (raw (fact 𝓤 (false ≡ false))) (fact_i 𝓤 (false ≡ false) (emp 𝓤) refl) $ use0 𝓛 (raw (fact 𝓤 (x ≡ x))) (fact_i 𝓤 (x ≡ x) (emp 𝓤) refl) $ join ! $ nothing_more ! $ nothing_more ! $ fjoin ! $
+    known ! (false ≡ false) refl $ known ! (x ≡ x) refl $ join ! $ nothing_more ! $ nothing_more ! $ fjoin ! $
     returns ! (look_at ! 0 refl) $ free_all ! refl $ keep ! (3 ∷ 0 ∷ 2 ∷ 1 ∷ []) $ by ! (leaves 𝓛 En hs c y (one_word p) (record { block = p; held = x; sole = false }) (tt, tt) (tt, tt)))))

@@ -1,7 +1,5 @@
 -- `into_loose` takes a block that nobody shares, with the allocator that it was requested from.
-use Rattle.handles.proofs.Walks.{◌≡◌, ℕ, ◌+◌, [], ◌∷◌, refl, ap, a_type, Val, vptr, inst_fn, full_share, SProp, emp, fat, Lft, Share, ftrue, flft, ‵, raw, ◌⊛◌, some, given, at_ret, ◌$◌, ◌∵◌, !, qed, by, move, keep, drop, split, join, fsplit, fsplit3, fjoin, fjoin3, fpick, pick, learn, use0, use1, use2, rewrite, stop, fld, load, of_opd, no_more, and_then, first, blocks, exec, returns, enter, alloc_all, pass_all, free_all, look_at, get, get_in, through, sets, sets_last, is, env, agg, sub, whole, tables, fact, fact_i, no, RattleType, owns, types_at, plain, Ptr, block_ptr, ptr_val, block_of, at_block, nothing_more, heard, param, layouts, Stays, stay_dropped, walk_of, Goes-dropped, after, proved, leaves, one_word, one_word-Good, words_told, GainRow}
-use denote.RawPtr.{count_of as offset_of}
-use denote.Param.{layout}
+use Rattle.handles.proofs.Walks.{◌≡◌, ℕ, ◌+◌, [], ◌∷◌, refl, ap, a_type, Val, vptr, inst_fn, full_share, SProp, fat, Lft, Share, ftrue, flft, ‵, raw, ◌⊛◌, some, given, at_ret, ◌$◌, ◌∵◌, !, qed, by, move, keep, drop, split, join, fsplit, fsplit3, fjoin, fjoin3, fpick, pick, learn, use1, use2, rewrite, stop, fld, load, of_opd, no_more, and_then, first, blocks, exec, returns, enter, alloc_all, pass_all, free_all, look_at, get, get_in, through, sets, sets_last, is, env, agg, sub, whole, tables, fact, no, RattleType, owns, types_at, plain, Ptr, block_ptr, ptr_val, block_of, offset_of, at_block, nothing_more, heard, param, layout, layouts, Stays, stay_dropped, walk_of, Goes-dropped, after, proved, leaves, Right, HeldRow, stamp, gain_owns, one_word, one_word-Good, words_told, GainRow, known}
 use Rattle.std_heap.specs.contracts.Global.{the_row as heap_row}
 use Rattle.std_heap.proofs.Global.TheLaws.{the_row_laws as heap_laws}
 use Rattle.std.specs.contracts.impls.GlobalAllocator.TheImpl.{ghosts}
@@ -9,8 +7,8 @@ use Rattle.handles.proofs.LooseBoxes.{pair_val, loose-Good, loose_shuts}
 use Rattle.handles.specs.contracts.block.Block as block_type
 use types.Run.{look}
 use borrow.Table.OneValue.{part_in, part_out}
-use Rattle.handles.specs.Rights.{Right, whole_block, IsWholeBlock}
-use Rattle.handles.specs.Blocks.{HeldRow, heap_offset, unshared_block, gain_owns}
+use Rattle.handles.specs.Inside.Rights.{whole_block, IsWholeBlock}
+use Rattle.handles.specs.Inside.Blocks.{heap_offset, unshared_block}
 use Rattle.core.proofs.cell.Inside.{Good}
 use types.Kit.{group}
 use denote.Memory.{part_at}
@@ -46,5 +44,5 @@ into_loose_spec 𝓤 𝓛 𝓜 𝓡 wired T L =
     use2 𝓛 (‵ (part_at heap_row full_share h pb (po + heap_offset R))) (part_in 𝓛 heap_row refl full_share h pb (po + heap_offset R) v) $ move ! (0 ∷ 2 ∷ 3 ∷ []) $ fjoin3 ! $ move ! (4 ∷ []) $ fpick ! (λ s.
     -- [the stamp; what frees; the allocator; the value; the word; the tokens]
     move ! (4 ∷ 0 ∷ 3 ∷ 1 ∷ []) $ group ! 4 $ use1 𝓛 (‵ (Boxed T L 𝓛 pb po n s x h)) (box_shuts T L 𝓛 pb po n s x h) $ loose_shuts Block heap_row heap_laws ghosts ! pb po v h (record { word = n; stamp = s; held = x; alloc = h }) $
-    use0 𝓛 (raw (fact 𝓤 (a.0.right ≡ whole_block n))) (fact_i 𝓤 (a.0.right ≡ whole_block n) (emp 𝓤) is_whole) $ use0 𝓛 (raw (fact 𝓤 (x ≡ x))) (fact_i 𝓤 (x ≡ x) (emp 𝓤) refl) $ join ! $ nothing_more ! $ nothing_more ! $ fjoin ! $
+    known ! (a.0.right ≡ whole_block n) is_whole $ known ! (x ≡ x) refl $ join ! $ nothing_more ! $ nothing_more ! $ fjoin ! $
     returns ! (look_at ! 0 refl) $ free_all ! refl $ keep ! (3 ∷ 0 ∷ 2 ∷ 1 ∷ []) $ by ! (leaves 𝓛 En hs c y (pair_val (vptr pb po) v) (record { at = there; alloc = h; value = record { word = n; stamp = s; held = x; alloc = h } }) (tt, tt) (tt, tt))))))))))

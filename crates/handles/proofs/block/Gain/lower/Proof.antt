@@ -1,11 +1,9 @@
 -- `lower` is one subtraction from the word.
-use Rattle.handles.proofs.Walks.{◌≡◌, ℕ, ◌+◌, [], ◌∷◌, refl, sym, ap, lit<, w64, a_type, Val, vint, vptr, inst_fn, SProp, emp, via, Lft, Share, Fml, ftrue, flft, finv, ‵, raw, ◌⊛◌, later, mean, at_ret, ◌$◌, ◌∵◌, !, qed, by, move, keep, drop, split, join, fsplit, fjoin, fpick, use0, use1, use2, await, rewrite, stop, fld, addr, lit, of_opd, no_more, and_then, first, blocks, exec, Calls-last, returns, enter, alloc_all, pass_all, free_all, look_at, get, get_in, through, sets, lands_last, is, env, agg, sub, whole, tables, fact, fact_i, no, RattleType, owns, types_at, plain, Ptr, block_ptr, ptr_val, block_of, at_block, nothing_more, heard, param, layouts, Stays, stay_dropped, walk_of, Goes-dropped, after, proved, leaves, fm, seq_cst, found, finds, one_word, word_and_gain, one_word-Good, words_told, GainRow}
-use denote.RawPtr.{count_of as offset_of}
+use Rattle.handles.proofs.Walks.{◌≡◌, ℕ, ◌+◌, [], ◌∷◌, refl, sym, ap, lit<, w64, a_type, Val, vint, vptr, inst_fn, SProp, via, Lft, Share, Fml, ftrue, flft, finv, ‵, raw, ◌⊛◌, later, mean, at_ret, ◌$◌, ◌∵◌, !, qed, by, move, keep, drop, split, join, fsplit, fjoin, fpick, use1, use2, await, rewrite, stop, fld, addr, lit, of_opd, no_more, and_then, first, blocks, exec, Calls-last, returns, enter, alloc_all, pass_all, free_all, look_at, get, get_in, through, sets, lands_last, is, env, agg, sub, whole, tables, fact, no, RattleType, owns, types_at, plain, Ptr, block_ptr, ptr_val, block_of, offset_of, at_block, nothing_more, heard, param, layouts, Stays, stay_dropped, walk_of, Goes-dropped, after, proved, leaves, fm, seq_cst, found, finds, Right, HeldRow, stamp, held_and_block, block_rule, gain_owns, one_word, word_and_gain, one_word-Good, words_told, GainRow, known, returns_gain, word_and_gain-Good}
 use Rattle.atomic_table.proofs.Calls.{subs}
-use Rattle.handles.specs.Rights.{Right, to_lower, right_by_lower}
-use Rattle.handles.specs.Blocks.{HeldRow, stamp, held_and_block, block_rule, gain_owns}
+use Rattle.handles.specs.Inside.Rights.{to_lower, right_by_lower}
 use Rattle.handles.proofs.Steps as steps
-use Rattle.handles.proofs.Fields.{lower-NoHandle, gain_kept, returns_gain, word_and_gain-Good}
+use Rattle.handles.proofs.Fields.{lower-NoHandle, gain_kept}
 use Rattle.handles.specs.contracts.block.Gain as gain_type
 use Rattle.handles.specs.contracts.block.Gain.lower.{ended, clauses}
 use Rattle.handles.specs.contracts.block.Gain.lower.Key.{name as #self}
@@ -33,5 +31,5 @@ lower_spec 𝓤 𝓛 𝓜 𝓡 wired T L =
     lands_last ! refl (tt, record { fits = fits }) $ exec ! 𝓣.C 𝓣.Λ Ev (after 2 fn.body) (at_ret Ev Post) $ sets ! (of_opd ! (get ! refl)) refl (tt, record { fits = fits }) $
     use2 𝓛 (later (‵ (gain_owns R p x r'))) (gain_kept 𝓛 R p x inb i r' (lower-NoHandle n)) $ await ! tt $
     sets ! (is ! (agg ! (and_then ! (get ! refl) (no_more !))) (ap one_word (sym at))) refl (one_word-Good p) $ sets ! (agg ! (and_then ! (get ! refl) (and_then ! (get ! refl) (no_more !)))) refl (word_and_gain-Good n fits p) $
-    returns_gain R p x ! n fits r' $ use0 𝓛 (raw (fact 𝓤 (x ≡ x))) (fact_i 𝓤 (x ≡ x) (emp 𝓤) refl) $ use0 𝓛 (raw (fact 𝓤 (r' ≡ r'))) (fact_i 𝓤 (r' ≡ r') (emp 𝓤) refl) $ join ! $ nothing_more ! $ nothing_more ! $ fjoin ! $
+    returns_gain R p x ! n fits r' $ known ! (x ≡ x) refl $ known ! (r' ≡ r') refl $ join ! $ nothing_more ! $ nothing_more ! $ fjoin ! $
     returns ! (look_at ! 0 refl) $ free_all ! refl $ keep ! (3 ∷ 0 ∷ 2 ∷ 1 ∷ []) $ by ! (leaves 𝓛 En hs c y (word_and_gain n p) (n, record { block = p; held = x; right = r' }) (tt, tt) (tt, tt)))))))))

@@ -9,7 +9,7 @@ use denote.Param.Shared.{copy_shared}
 use denote.Struct.Field.{RawPtr-field}
 use denote.Struct.Laws.{RawPtr-copy}
 use denote.Struct.Lending.{of_Lends, Lends-both, Lends-said}
-use Rattle.handles.specs.Blocks.{placed, owned_as, shared_as}
+use Rattle.handles.specs.Inside.Blocks.{placed, owned_as, shared_as}
 use Rattle.handles.specs.contracts.block.Handle as C
 use Rattle.handles.proofs.block.Handle.TheLaw.Statement.{statement}
 use Rattle.handles.proofs.Owners.{handle_shares-ShrLaws, Lends-owned}

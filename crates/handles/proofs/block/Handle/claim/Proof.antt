@@ -1,18 +1,15 @@
 -- `claim` is one load of the word, by which the handle knows whether it is the only one.
-use Rattle.handles.proofs.Walks.{◌≡◌, ℕ, ◌+◌, ◌^◌, false, List, [], ◌∷◌, refl, sym, ap, ◌∙◌, lit<, w64, a_type, named, Val, vint, vptr, inst_fn, full_share, SProp, emp, via, Lft, Share, Fml, ftrue, flft, finv, ‵, raw, ◌⊛◌, later, mean, at_ret, ◌$◌, ◌∵◌, !, qed, by, move, keep, drop, split, split3, join, fsplit, fsplit3, fjoin, fjoin3, fpick, use0, use1, use2, use3, await, rewrite, feq_i, flt_i, stop, fld, load, addr, lit, of_opd, no_more, and_then, first, blocks, exec, Calls-last, returns, enter, alloc_all, pass_all, free_all, look_at, get, through, sets, lands_last, env, agg, sub, whole, look_in, tables, fact, fact_i, RattleType, owns, types_at, plain, Ptr, block_ptr, block_of, at_block, nothing_more, peeks, heard, Is, shows, cell_at, param, layouts, Stays, walk_of, after, proved, leaves, fm, seq_cst, found, finds, one_word, words_told, words_made, HandleRow, HandleWords}
-use denote.RawPtr.{count_of as offset_of}
-use mir.Syntax.{named}
+use Rattle.handles.proofs.Walks.{◌≡◌, ℕ, ◌+◌, ◌^◌, false, List, [], ◌∷◌, refl, sym, ap, ◌∙◌, lit<, w64, a_type, named, Val, vint, vptr, inst_fn, full_share, SProp, via, Lft, Share, Fml, ftrue, flft, finv, ‵, raw, ◌⊛◌, later, mean, at_ret, ◌$◌, ◌∵◌, !, qed, by, move, keep, drop, split, split3, join, fsplit, fsplit3, fjoin, fjoin3, fpick, use0, use1, use2, use3, await, rewrite, feq_i, flt_i, stop, fld, load, addr, lit, of_opd, no_more, and_then, first, blocks, exec, Calls-last, returns, enter, alloc_all, pass_all, free_all, look_at, get, through, sets, lands_last, env, agg, sub, whole, look_in, tables, fact, RattleType, owns, types_at, plain, Ptr, block_ptr, block_of, offset_of, at_block, nothing_more, peeks, heard, Is, shows, cell_at, param, layouts, param_laws, Stays, walk_of, after, proved, leaves, fm, seq_cst, found, finds, HeldRow, stamp, held_and_block, block_rule, gain_owns, one_word, words_told, words_made, HandleRow, HandleWords, known}
 use base.Fml.{GName}
 use denote.Ref.{mut_vals, mut_Tells}
 use denote.Steps.{opens, closes}
 use base.Fml.{Incl-refl}
 use contract.BorrowLft.{◌⊑◌}
-use denote.Param.Laws.{param_laws}
 use denote.Triple.Walked.{Goes-ref, stay_ref}
 use Rattle.atomic_table.proofs.Calls.{loads}
 use Rattle.counting_word.specs.CountingWord.{is_one_handle}
-use Rattle.handles.specs.Rights.{right_by_claim}
-use Rattle.handles.specs.Blocks.{HeldRow, stamp, held_and_block, block_rule, gain_owns, counted_handle, owned_as, handle_owns}
+use Rattle.handles.specs.Inside.Rights.{right_by_claim}
+use Rattle.handles.specs.Inside.Blocks.{counted_handle, owned_as, handle_owns}
 use Rattle.handles.proofs.Steps as steps
 use Rattle.handles.proofs.Fields.{gain_shown, claim_tells}
 use Rattle.handles.proofs.Owners.{forgets, handle_settles}
@@ -53,7 +50,7 @@ claim_spec 𝓤 𝓛 𝓜 𝓡 wired T L =
     use0 𝓛 (‵ (D.own_val (p, tt) (one_word p ∷ []))) (words_made (handle_type.the_type R).name (R ∷ []) 𝓛 p) $ fjoin ! $ move ! (2 ∷ 0 ∷ 3 ∷ 4 ∷ 5 ∷ []) $ closes ! tt Self told (one_word p ∷ []) b o $
     -- [its name; its borrow; its token; the token of T; its place; nothing; nothing]
     move ! (4 ∷ 0 ∷ 1 ∷ []) $ fjoin3 ! $ move ! (2 ∷ 3 ∷ []) $ join ! $ move ! (2 ∷ 0 ∷ []) $ join ! $
-    flt_i ! n (2 ^ 64) fits $ feq_i ! (List Val) (vint w64 n ∷ []) (vint w64 n ∷ []) refl $ fjoin ! $ use0 𝓛 (raw (fact 𝓤 (told ≡ told))) (fact_i 𝓤 (told ≡ told) (emp 𝓤) refl) $
+    flt_i ! n (2 ^ 64) fits $ feq_i ! (List Val) (vint w64 n ∷ []) (vint w64 n ∷ []) refl $ fjoin ! $ known ! (told ≡ told) refl $
     -- [the fact; the result; the tokens; the reference; nothing]
     nothing_more ! $ move ! (4 ∷ 0 ∷ []) $ fjoin ! $
     returns ! (look_at ! 0 refl) $ free_all ! refl $ keep ! (3 ∷ 0 ∷ 2 ∷ 1 ∷ []) $ by ! (leaves 𝓛 En hs c y (vint w64 n) n (told, tt) (tt, tt)))))))))))

@@ -1,11 +1,10 @@
 -- `held` shows what every handle of the block sees.
-use Rattle.handles.proofs.Walks.{◌≡◌, ℕ, ◌+◌, List, [], ◌∷◌, refl, sym, ap, ◌∙◌, a_type, named, Val, vptr, inst_fn, SProp, emp, id⊢, Lft, Share, Fml, ftrue, fsep, flft, fhide, ‵, raw, ◌⊛◌, at_ret, ◌$◌, ◌∵◌, !, qed, by, move, keep, drop, split, join, fsplit, fjoin, fpick, use0, use1, rewrite, feq_i, stop, fld, load, addr, of_opd, first, blocks, exec, returns, enter, alloc_all, pass_all, free_all, look_at, get, through, sets, sets_last, env, sub, whole, look_in, tables, fact, fact_i, yes, RattleType, owns, types_at, plain, Ptr, block_ptr, block_of, at_block, nothing_more, peeks, looks, shuts, Is, shows, cell_at, param, layouts, RefOf, shr_vals, shr_Tells, Stays, stay_dropped, walk_of, Goes-dropped, after, proved, leaves, one_word, words_told, words_open, HandleRow, HandleWords}
-use denote.RawPtr.{count_of as offset_of, ◌+ₚ◌}
+use Rattle.handles.proofs.Walks.{◌≡◌, ℕ, ◌+◌, List, [], ◌∷◌, refl, a_type, named, Val, vptr, inst_fn, SProp, id⊢, Lft, Share, Fml, ftrue, fsep, flft, fhide, ‵, raw, ◌⊛◌, at_ret, ◌$◌, ◌∵◌, !, qed, by, move, keep, drop, split, join, fsplit, fjoin, fpick, use1, rewrite, feq_i, stop, fld, load, addr, of_opd, first, blocks, exec, returns, enter, alloc_all, pass_all, free_all, look_at, get, through, sets, sets_last, env, sub, whole, look_in, tables, yes, RattleType, owns, types_at, plain, Ptr, block_ptr, block_of, offset_of, at_block, nothing_more, shuts, param, layouts, param_laws, RefOf, shr_vals, shr_Tells, Stays, stay_dropped, walk_of, Goes-dropped, after, proved, leaves, HeldRow, one_word, HandleRow, HandleWords, known, opens_word}
+use denote.RawPtr.{◌+ₚ◌}
 use denote.Opens.{unhide, hide}
 use denote.Memory.{hidden_shr}
-use denote.Param.Laws.{param_laws}
 use denote.Struct.Lending.{lent_at}
-use Rattle.handles.specs.Blocks.{HeldRow, held_offset, shown, handle_shares}
+use Rattle.handles.specs.Inside.Blocks.{held_offset, shown, handle_shares}
 use Rattle.handles.proofs.Owners.{shown_by}
 use Rattle.handles.specs.contracts.block.Handle as handle_type
 use Rattle.handles.specs.contracts.block.Handle.held.{ended, clauses}
@@ -23,16 +22,13 @@ held_spec 𝓤 𝓛 𝓜 𝓡 wired T L =
     qed 𝓛 (((‵ (flft κ q) ⊛ ‵ others) ⊛ ‵ (owns (types_at En.signature.params κs) a y.0.4)) ∷ raw ((c κs a).requires gh) ∷ []) ∵
     split ! $ split ! $ move ! (2 ∷ []) $ fsplit ! $ fsplit ! $ keep ! (1 ∷ 3 ∷ 4 ∷ []) $
     enter ! 𝓣.C 𝓣.Λ fn (vptr b o ∷ []) Post $ alloc_all ! (λ l. pass_all ! refl ((tt, tt), tt) $ let Ev = env fn.locals l in
-    use1 𝓛 (‵ (hidden_shr D κ (p, tt) b o) ⊛ ‵ (fhide (handle_shares R p x a.0.now.sole κ))) (id⊢ 𝓤 _) $ split ! $ move ! (1 ∷ []) $ unhide ! $ fsplit ! $ fpick ! (λ inb. drop ! $ let at : p ≡ block_ptr pb po = at_block p inb in let there : ℕ = po + held_offset R in
+    use1 𝓛 (‵ (hidden_shr D κ (p, tt) b o) ⊛ ‵ (fhide (handle_shares R p x a.0.now.sole κ))) (id⊢ 𝓤 _) $ split ! $ move ! (1 ∷ []) $ unhide ! $ fsplit ! $ fpick ! (λ inb. drop ! $ let there : ℕ = po + held_offset R in
     use1 𝓛 (‵ (shown R p x κ)) (shown_by R (param_laws 0 T L) 𝓛 p x a.0.now.sole κ) $
-    rewrite ! 0 (λ (z : Ptr). ‵ (lent_at (HeldRow R) (z +ₚ held_offset R) x κ)) at refl $ fsplit ! $ drop ! $ hide ! $
+    rewrite ! 0 (λ (z : Ptr). ‵ (lent_at (HeldRow R) (z +ₚ held_offset R) x κ)) (at_block p inb) refl $ fsplit ! $ drop ! $ hide ! $
     -- [what is held; the handle's word; the token; the other tokens]
-    move ! (1 ∷ 2 ∷ []) $ looks ! tt D (words_open (handle_type.the_type R).name (R ∷ []) 𝓛) (p, tt) b o (λ r vs. move ! (1 ∷ []) $ peeks ! D (Is D) (shows 𝓛 D) (p, tt) vs (λ is_so.
-    let ev : vs ≡ one_word (block_ptr pb po) ∷ [] = words_told (handle_type.the_type R).name (R ∷ []) p vs is_so ∙ ap (λ (z : Ptr). one_word z ∷ []) at in
-    rewrite ! 1 (λ (ws : List Val). ‵ (cell_at r D.mir ws b o)) ev refl $
-    sets ! (of_opd ! (load ! (through ! refl (fld ! refl (stop !))) (look_in ! 1 (sub ! 0 refl (whole !))))) refl (tt, tt) $
-    rewrite ! 1 (λ (ws : List Val). ‵ (cell_at r D.mir ws b o)) (sym ev) refl $ move ! (1 ∷ 0 ∷ 2 ∷ []) $ shuts ! tt D r (p, tt) vs b o $ move ! (1 ∷ []) $ drop ! $
+    move ! (1 ∷ 2 ∷ []) $ opens_word R p ! tt inb b o (λ r.
+    sets ! (of_opd ! (load ! (through ! refl (fld ! refl (stop !))) (look_in ! 0 (sub ! 0 refl (whole !))))) refl (tt, tt) $ shuts ! tt D r (p, tt) (one_word (block_ptr pb po) ∷ []) b o $
     first ! $ blocks ! $ sets_last ! (addr ! (through ! refl (fld ! refl (stop !)))) refl (tt, tt) $ exec ! 𝓣.C 𝓣.Λ Ev (after 2 fn.body) (at_ret Ev Post) $ sets ! (of_opd ! (get ! refl)) refl (tt, tt) $
     move ! (0 ∷ 2 ∷ []) $ join ! $ move ! (1 ∷ []) $ feq_i ! (List Val) (vptr pb there ∷ []) (vptr pb there ∷ []) refl $ fjoin ! $
-    use0 𝓛 (raw (fact 𝓤 (x ≡ x))) (fact_i 𝓤 (x ≡ x) (emp 𝓤) refl) $ nothing_more ! $ nothing_more ! $ fjoin ! $
-    returns ! (look_at ! 0 refl) $ free_all ! refl $ keep ! (3 ∷ 0 ∷ 2 ∷ 1 ∷ []) $ by ! (leaves 𝓛 En hs c y (vptr pb there) (record { ref_ptr = (pb, there); now = x }) (tt, tt) (tt, tt)))))))
+    known ! (x ≡ x) refl $ nothing_more ! $ nothing_more ! $ fjoin ! $
+    returns ! (look_at ! 0 refl) $ free_all ! refl $ keep ! (3 ∷ 0 ∷ 2 ∷ 1 ∷ []) $ by ! (leaves 𝓛 En hs c y (vptr pb there) (record { ref_ptr = (pb, there); now = x }) (tt, tt) (tt, tt))))))

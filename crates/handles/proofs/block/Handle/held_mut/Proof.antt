@@ -1,7 +1,5 @@
 -- `held_mut` lends what is held by the block of a handle that is known to be the only one.
-use Rattle.handles.proofs.Walks.{◌≡◌, ℕ, ◌+◌, Bool, true, List, [], ◌∷◌, refl, ap, ◌∙◌, a_type, named, Val, vptr, inst_fn, full_share, SProp, emp, Lft, Share, ftrue, flft, sem, ‵, raw, ◌⊛◌, some, later, at_ret, ◌$◌, ◌∵◌, !, qed, by, move, keep, drop, split, split3, join, fsplit, fsplit3, fjoin, fpick, pick, use0, use1, await, rewrite, stop, fld, load, addr, of_opd, first, blocks, exec, returns, enter, alloc_all, pass_all, free_all, look_at, get, through, sets, sets_last, env, sub, whole, look_in, tables, fact, fact_i, no, RattleType, owns, types_at, plain, Ptr, block_ptr, block_of, at_block, nothing_more, peeks, heard, Is, shows, cell_at, param, layouts, Stays, stay_dropped, walk_of, after, proved, leaves, one_word, words_told, HandleRow, HandleWords}
-use denote.RawPtr.{count_of as offset_of}
-use mir.Syntax.{named}
+use Rattle.handles.proofs.Walks.{◌≡◌, ℕ, ◌+◌, Bool, true, List, [], ◌∷◌, refl, ap, ◌∙◌, a_type, named, Val, vptr, inst_fn, full_share, SProp, Lft, Share, ftrue, flft, sem, ‵, raw, ◌⊛◌, some, later, at_ret, ◌$◌, ◌∵◌, !, qed, by, move, keep, drop, split, split3, join, fsplit, fsplit3, fjoin, fpick, pick, use1, await, rewrite, stop, fld, load, addr, of_opd, first, blocks, exec, returns, enter, alloc_all, pass_all, free_all, look_at, get, through, sets, sets_last, env, sub, whole, look_in, tables, fact, no, RattleType, owns, types_at, plain, Ptr, block_ptr, block_of, offset_of, at_block, nothing_more, peeks, heard, Is, shows, cell_at, param, layouts, Stays, stay_dropped, walk_of, after, proved, leaves, HeldRow, one_word, words_told, HandleRow, HandleWords, known}
 use base.Fml.{GName}
 use denote.Ref.{MutRef, MutBor, mut_vals, mut_Tells}
 use denote.Signature.{mut_ref_to}
@@ -9,8 +7,8 @@ use denote.Steps.{opens}
 use types.Kit.{group}
 use denote.Follow.{follows, lends_Part}
 use denote.Triple.Walked.{Goes-spent_ref}
-use Rattle.handles.specs.Blocks.{HeldRow, held_offset, handle_owns, unshared_block}
-use Rattle.handles.specs.BlockWriteBack.{with_held}
+use Rattle.handles.specs.Inside.Blocks.{held_offset, handle_owns, unshared_block}
+use Rattle.handles.specs.Inside.BlockWriteBack.{with_held}
 use Rattle.handles.proofs.Fields.{beside_held, held_back}
 use Rattle.handles.specs.contracts.block.Handle as handle_type
 use Rattle.handles.specs.contracts.block.Handle.held_mut.{ended, clauses}
@@ -42,5 +40,5 @@ held_mut_spec 𝓤 𝓛 𝓜 𝓡 wired T L =
     (lends_Part 𝓛 Self (HeldRow R) (with_held me) (named 0) κ q b o pb there γ (sem 𝓛 (beside_held R p b o)) (held_back 𝓛 R p b o inb) (Self.coded.code me) (Self.coded.code me) x) $ await ! tt $ pick ! (λ δ.
     let lent : MutBor (HeldRow R).Denot = record { ref_ptr = (pb, there); ghost_name = δ; now = x } in
     -- [the result; the token; what follows; nothing; the token of T; nothing]
-    split3 ! $ move ! (4 ∷ 5 ∷ []) $ join ! $ move ! (2 ∷ 0 ∷ []) $ join ! $ use0 𝓛 (raw (fact 𝓤 (x ≡ x))) (fact_i 𝓤 (x ≡ x) (emp 𝓤) refl) $ move ! (3 ∷ 0 ∷ []) $ join ! $ nothing_more ! $ nothing_more ! $ fjoin ! $
+    split3 ! $ move ! (4 ∷ 5 ∷ []) $ join ! $ move ! (2 ∷ 0 ∷ []) $ join ! $ known ! (x ≡ x) refl $ move ! (3 ∷ 0 ∷ []) $ join ! $ nothing_more ! $ nothing_more ! $ fjoin ! $
     returns ! (look_at ! 0 refl) $ free_all ! refl $ keep ! (2 ∷ 0 ∷ 3 ∷ 1 ∷ []) $ by ! (leaves 𝓛 En hs c y (vptr pb there) lent (tt, tt) (tt, tt)))))))))

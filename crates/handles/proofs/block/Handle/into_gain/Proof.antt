@@ -1,8 +1,7 @@
 -- `into_gain` takes the block of a handle that is known to be the only one.
-use Rattle.handles.proofs.Walks.{◌≡◌, ℕ, Bool, true, [], ◌∷◌, refl, a_type, Val, inst_fn, SProp, emp, Lft, Share, ftrue, flft, ‵, raw, ◌⊛◌, ◌$◌, ◌∵◌, !, qed, by, move, keep, split, join, fsplit, fjoin, use0, rewrite, stop, fld, of_opd, no_more, and_then, returns, enter, alloc_all, pass_all, free_all, look_at, get, get_in, sets, agg, sub, whole, tables, fact, fact_i, no, RattleType, owns, types_at, plain, Ptr, block_of, nothing_more, heard, param, layouts, Stays, stay_dropped, walk_of, Goes-dropped, proved, leaves, one_word, one_word-Good, words_told, words_made, HandleRow, GainWords}
-use denote.RawPtr.{count_of as offset_of}
-use Rattle.handles.specs.Rights.{Right, whole_block}
-use Rattle.handles.specs.Blocks.{HeldRow, handle_owns}
+use Rattle.handles.proofs.Walks.{◌≡◌, ℕ, Bool, true, [], ◌∷◌, refl, a_type, Val, inst_fn, SProp, Lft, Share, ftrue, flft, ‵, raw, ◌⊛◌, ◌$◌, ◌∵◌, !, qed, by, move, keep, split, join, fsplit, fjoin, use0, rewrite, stop, fld, of_opd, no_more, and_then, returns, enter, alloc_all, pass_all, free_all, look_at, get, get_in, sets, env, agg, sub, whole, tables, fact, no, RattleType, owns, types_at, plain, Ptr, block_of, offset_of, nothing_more, heard, param, layouts, Stays, stay_dropped, walk_of, Goes-dropped, proved, leaves, Right, HeldRow, one_word, one_word-Good, words_told, words_made, HandleRow, GainWords, known}
+use Rattle.handles.specs.Inside.Rights.{whole_block}
+use Rattle.handles.specs.Inside.Blocks.{handle_owns}
 use Rattle.handles.specs.contracts.block.Handle as handle_type
 use Rattle.handles.specs.contracts.block.Gain as gain_type
 use Rattle.std_alloc.proofs.RcSteps.{Ptr-Good}
@@ -24,5 +23,5 @@ into_gain_spec 𝓤 𝓛 𝓜 𝓡 wired T L =
     enter ! 𝓣.C 𝓣.Λ fn (one_word p ∷ []) Post $ alloc_all ! (λ l. pass_all ! refl (one_word-Good p, tt) $
     sets ! (of_opd ! (get_in ! (fld ! refl (stop !)) (sub ! 0 refl (whole !)))) refl (Ptr-Good p) $ sets ! (agg ! (and_then ! (get ! refl) (no_more !))) refl (one_word-Good p) $
     use0 𝓛 (‵ ((GainWords R).own_val (p, tt) (one_word p ∷ []))) (words_made (gain_type.the_type R).name (R ∷ []) 𝓛 p) $ fjoin ! $
-    use0 𝓛 (raw (fact 𝓤 (x ≡ x))) (fact_i 𝓤 (x ≡ x) (emp 𝓤) refl) $ use0 𝓛 (raw (fact 𝓤 (r ≡ r))) (fact_i 𝓤 (r ≡ r) (emp 𝓤) refl) $ join ! $ nothing_more ! $ nothing_more ! $ fjoin ! $
+    known ! (x ≡ x) refl $ known ! (r ≡ r) refl $ join ! $ nothing_more ! $ nothing_more ! $ fjoin ! $
     returns ! (look_at ! 0 refl) $ free_all ! refl $ keep ! (3 ∷ 0 ∷ 2 ∷ 1 ∷ []) $ by ! (leaves 𝓛 En hs c y (one_word p) (record { block = p; held = x; right = r }) (tt, tt) (tt, tt)))))

@@ -1,14 +1,12 @@
 -- `leave` is the load by which a handle ends.
-use Rattle.handles.proofs.Walks.{◌≡◌, ℕ, ◌+◌, false, [], ◌∷◌, refl, sym, ap, lit<, a_type, Val, vptr, inst_fn, SProp, emp, via, Lft, Share, Fml, ftrue, flft, finv, ‵, raw, ◌⊛◌, later, mean, at_ret, ◌$◌, ◌∵◌, !, qed, by, move, keep, drop, split, join, fsplit, fsplit3, fjoin, fpick, use0, use1, use2, use3, await, stop, fld, addr, lit, of_opd, no_more, and_then, first, blocks, exec, Calls-last, returns, enter, alloc_all, pass_all, free_all, look_at, get, get_in, through, sets, lands_last, is, env, agg, sub, whole, tables, fact, fact_i, no, RattleType, owns, types_at, plain, Ptr, block_ptr, ptr_val, block_of, at_block, nothing_more, heard, param, layouts, Stays, stay_dropped, walk_of, Goes-dropped, after, proved, leaves, fm, seq_cst, found, finds, one_word, word_and_gain, one_word-Good, words_told, HandleRow}
-use denote.RawPtr.{count_of as offset_of}
+use Rattle.handles.proofs.Walks.{◌≡◌, ℕ, ◌+◌, false, [], ◌∷◌, refl, sym, ap, lit<, a_type, Val, vptr, inst_fn, SProp, via, Lft, Share, Fml, ftrue, flft, finv, ‵, raw, ◌⊛◌, later, mean, at_ret, ◌$◌, ◌∵◌, !, qed, by, move, keep, drop, split, join, fsplit, fsplit3, fjoin, fpick, use1, use2, use3, await, stop, fld, addr, lit, of_opd, no_more, and_then, first, blocks, exec, Calls-last, returns, enter, alloc_all, pass_all, free_all, look_at, get, get_in, through, sets, lands_last, is, env, agg, sub, whole, tables, fact, no, RattleType, owns, types_at, plain, Ptr, block_ptr, ptr_val, block_of, offset_of, at_block, nothing_more, heard, param, layouts, param_laws, Stays, stay_dropped, walk_of, Goes-dropped, after, proved, leaves, fm, seq_cst, found, finds, Right, HeldRow, stamp, held_and_block, block_rule, gain_owns, one_word, word_and_gain, one_word-Good, words_told, HandleRow, known, returns_gain, word_and_gain-Good}
 use base.Fml.{Incl-refl}
 use contract.BorrowLft.{◌⊑◌}
-use denote.Param.Laws.{param_laws}
 use Rattle.atomic_table.proofs.Calls.{loads}
-use Rattle.handles.specs.Rights.{Right, right_by_last_read}
-use Rattle.handles.specs.Blocks.{HeldRow, stamp, held_and_block, block_rule, gain_owns, owned_as, counted_handle}
+use Rattle.handles.specs.Inside.Rights.{right_by_last_read}
+use Rattle.handles.specs.Inside.Blocks.{owned_as, counted_handle}
 use Rattle.handles.proofs.Steps as steps
-use Rattle.handles.proofs.Fields.{gain_shown, returns_gain, word_and_gain-Good}
+use Rattle.handles.proofs.Fields.{gain_shown}
 use Rattle.handles.proofs.Owners.{forgets, handle_settles}
 use Rattle.handles.specs.contracts.block.Handle as handle_type
 use Rattle.handles.specs.contracts.block.Handle.leave.{ended, clauses}
@@ -38,5 +36,5 @@ leave_spec 𝓤 𝓛 𝓜 𝓡 wired T L =
     lands_last ! refl (tt, record { fits = fits }) $ exec ! 𝓣.C 𝓣.Λ Ev (after 2 fn.body) (at_ret Ev Post) $ sets ! (of_opd ! (get ! refl)) refl (tt, record { fits = fits }) $
     use3 𝓛 (later (‵ (gain_owns R p x r'))) (gain_shown 𝓛 R p x inb i r') $ await ! tt $ move ! (1 ∷ 2 ∷ []) $ join ! $ move ! (1 ∷ 0 ∷ []) $
     sets ! (is ! (agg ! (and_then ! (get ! refl) (no_more !))) (ap one_word (sym at))) refl (one_word-Good p) $ sets ! (agg ! (and_then ! (get ! refl) (and_then ! (get ! refl) (no_more !)))) refl (word_and_gain-Good n fits p) $
-    returns_gain R p x ! n fits r' $ use0 𝓛 (raw (fact 𝓤 (x ≡ x))) (fact_i 𝓤 (x ≡ x) (emp 𝓤) refl) $ use0 𝓛 (raw (fact 𝓤 (r' ≡ r'))) (fact_i 𝓤 (r' ≡ r') (emp 𝓤) refl) $ join ! $ nothing_more ! $ nothing_more ! $ fjoin ! $
+    returns_gain R p x ! n fits r' $ known ! (x ≡ x) refl $ known ! (r' ≡ r') refl $ join ! $ nothing_more ! $ nothing_more ! $ fjoin ! $
     returns ! (look_at ! 0 refl) $ free_all ! refl $ keep ! (3 ∷ 0 ∷ 2 ∷ 1 ∷ []) $ by ! (leaves 𝓛 En hs c y (word_and_gain n p) (n, record { block = p; held = x; right = r' }) (tt, tt) (tt, tt)))))))))

@@ -1,12 +1,12 @@
 -- `sole` makes the only handle of a new block.
-use Rattle.handles.proofs.Walks.{◌≡◌, ℕ, true, List, [], ◌∷◌, ◌++◌, refl, sym, subst, a_type, Val, vptr, inst_fn, SProp, ent, emp, id⊢, ftrue, flft, WpFn, ‵, raw, ◌⊛◌, ◌$◌, ◌∵◌, !, qed, by, move, keep, split, join, fsplit, fjoin, fpack, use0, use1, rewrite, suffices, stop, fld, of_opd, no_more, and_then, returns, enter, alloc_all, pass_all, free_all, look_at, get, get_in, sets, agg, sub, whole, tables, fact, fact_i, no, RattleType, owns, types_at, plain, Ptr, InBlock, block_ptr, nothing_more, heard, param, layouts, Stays, stay_dropped, walk_of, proved_at, leaves, one_word, words_made, HandleWords}
+use Rattle.handles.proofs.Walks.{◌≡◌, ℕ, true, List, [], ◌∷◌, ◌++◌, refl, sym, subst, a_type, Val, vptr, inst_fn, SProp, ent, id⊢, ftrue, flft, WpFn, ‵, raw, ◌⊛◌, ◌$◌, ◌∵◌, !, qed, by, move, keep, split, join, fsplit, fjoin, fpack, use0, use1, rewrite, suffices, stop, fld, of_opd, no_more, and_then, returns, enter, alloc_all, pass_all, free_all, look_at, get, get_in, sets, env, agg, sub, whole, tables, fact, no, RattleType, owns, types_at, plain, Ptr, InBlock, block_ptr, nothing_more, heard, param, layouts, Stays, stay_dropped, walk_of, proved_at, leaves, HeldRow, stamp, one_word, words_made, HandleWords, known}
 use Rattle.std_heap.specs.contracts.Global.{the_row as heap_row}
 use Rattle.std_heap.proofs.Global.TheLaws.{the_row_laws as heap_laws}
 use Rattle.std.specs.contracts.impls.GlobalAllocator.TheImpl.{ghosts}
 use Rattle.core.proofs.alloc.Calls.{Goes-blank}
 use Rattle.handles.proofs.LooseBoxes.{pair_val, LooseRow, loose-Good, loose_opens}
 use Rattle.handles.specs.contracts.block.Block as block_type
-use Rattle.handles.specs.Blocks.{HeldRow, unshared_block}
+use Rattle.handles.specs.Inside.Blocks.{unshared_block}
 use Rattle.handles.proofs.Boxes.{box_opens}
 use Rattle.handles.specs.contracts.block.Handle as handle_type
 use Rattle.handles.specs.contracts.block.Handle.sole.{ended, clauses}
@@ -28,5 +28,5 @@ sole_spec 𝓤 𝓛 𝓜 𝓡 wired T L =
     suffices ! (Run (pair_val (vptr b o) h ∷ [])) (subst (λ (us : List Val). ent 𝓤 (Run (pair_val (vptr b o) h ∷ [])) (Run us)) (sym (λ j. is_pair j ++ [])) (id⊢ 𝓤 _)) $
     enter ! 𝓣.C 𝓣.Λ fn (pair_val (vptr b o) h ∷ []) Post $ alloc_all ! (λ l. pass_all ! refl (loose-Good (block_type.the_row R) heap_row heap_laws ghosts b o h good, tt) $
     sets ! (of_opd ! (get_in ! (fld ! refl (stop !)) (sub ! 0 refl (whole !)))) refl (tt, tt) $ sets ! (agg ! (and_then ! (get ! refl) (no_more !))) refl (tt, (tt, tt)) $
-    use0 𝓛 (raw (fact 𝓤 (true ≡ true))) (fact_i 𝓤 (true ≡ true) (emp 𝓤) refl) $ use0 𝓛 (raw (fact 𝓤 (x ≡ x))) (fact_i 𝓤 (x ≡ x) (emp 𝓤) refl) $ join ! $ nothing_more ! $ nothing_more ! $ fjoin ! $
+    known ! (true ≡ true) refl $ known ! (x ≡ x) refl $ join ! $ nothing_more ! $ nothing_more ! $ fjoin ! $
     returns ! (look_at ! 0 refl) $ free_all ! refl $ keep ! (3 ∷ 0 ∷ 2 ∷ 1 ∷ []) $ by ! (leaves 𝓛 En hs c z (one_word p) (record { block = p; held = x; sole = true }) (tt, tt) (tt, tt))))))

@@ -1,10 +1,8 @@
 -- `fill` writes a value into its room.
-use Rattle.handles.proofs.Walks.{◌≡◌, List, [], ◌∷◌, ◌++◌, refl, sym, subst, a_type, Val, vptr, inst_fn, full_share, SProp, ent, emp, id⊢, ftrue, flft, WpFn, ‵, raw, ◌⊛◌, at_ret, ◌$◌, ◌∵◌, !, qed, by, move, keep, split, fsplit3, fjoin, use0, use2, suffices, stop, fld, of_opd, no_more, and_then, first, blocks, exec, returns, enter, alloc_all, pass_all, free_all, look_at, get, get_in, through, sets, env, agg, sub, whole, tables, fact, fact_i, no, RattleType, owns, types_at, plain, block_ptr, nothing_more, param, Stays, stay_dropped, walk_of, Goes-dropped, after, proved_at, leaves}
+use Rattle.handles.proofs.Walks.{◌≡◌, List, [], ◌∷◌, ◌++◌, refl, sym, subst, a_type, Val, vptr, inst_fn, full_share, SProp, ent, id⊢, ftrue, flft, WpFn, ‵, raw, ◌⊛◌, at_ret, ◌$◌, ◌∵◌, !, qed, by, move, keep, split, fsplit3, fjoin, use2, suffices, stop, fld, of_opd, no_more, and_then, first, blocks, exec, returns, enter, alloc_all, pass_all, free_all, look_at, get, get_in, through, sets, env, agg, sub, whole, tables, no, RattleType, owns, types_at, plain, block_ptr, nothing_more, param, bounded, param_laws, Stays, stay_dropped, walk_of, Goes-dropped, after, proved_at, leaves, known}
 use mir.Syntax.{dcons, dnil}
 use types.Run.{init, assigns_last}
 use denote.Memory.{part_at}
-use denote.Param.{bounded}
-use denote.Param.Laws.{param_laws}
 use Rattle.core.proofs.alloc.Calls.{Al, Goes-blank}
 use Rattle.std_alloc.proofs.BoxSteps.Form as box
 use Rattle.std_alloc.proofs.BoxSteps.Steps.{el_tells, el_in}
@@ -34,5 +32,5 @@ fill_spec 𝓤 𝓛 𝓜 𝓡 wired T A L LA g d dd allocator glued =
     first ! $ blocks ! $ sets ! (of_opd ! (get ! refl)) refl fits $ assigns_last ! (of_opd ! (get ! refl)) (through ! refl (stop !)) (init ! 0 refl fits) $ exec ! 𝓣.C 𝓣.Λ Ev (after 3 fn.body) (at_ret Ev Post) $
     sets ! (of_opd ! (get ! refl)) refl good $ sets ! (agg ! (and_then ! (get ! refl) (and_then ! (get ! refl) (no_more !)))) refl (loose-Good R Z LZ g b o h good) $
     use2 𝓛 (‵ (part_at R full_share x b o)) (el_in E 𝓛 x b o v) $ fjoin ! $ loose_shuts R Z LZ g ! b o h a x $
-    use0 𝓛 (raw (fact 𝓤 (x ≡ x))) (fact_i 𝓤 (x ≡ x) (emp 𝓤) refl) $ nothing_more ! $ nothing_more ! $ fjoin ! $ nothing_more ! $ fjoin ! $
+    known ! (x ≡ x) refl $ nothing_more ! $ nothing_more ! $ fjoin ! $ nothing_more ! $ fjoin ! $
     returns ! (look_at ! 0 refl) $ free_all ! refl $ keep ! (4 ∷ 0 ∷ 2 ∷ 1 ∷ []) $ by ! (leaves 𝓛 En hs c z (pair_val (vptr b o) h) (record { at = block_ptr b o; alloc = a; value = x }) ((tt, (tt, tt)), (tt, tt)) (tt, (tt, tt)))))))

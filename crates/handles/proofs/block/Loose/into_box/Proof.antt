@@ -1,8 +1,6 @@
 -- `into_box` makes the box again.
-use Rattle.handles.proofs.Walks.{◌≡◌, List, [], ◌∷◌, ◌++◌, refl, sym, ap, subst, a_type, Val, vptr, inst_fn, SProp, ent, id⊢, ftrue, flft, WpFn, ‵, raw, ◌⊛◌, some, later, at_ret, ◌$◌, ◌∵◌, !, qed, by, move, keep, drop, split, split3, join, fsplit, fjoin, pick, use1, await, rewrite, feq_i, suffices, stop, fld, of_opd, no_more, and_then, first, blocks, exec, returns, enter, alloc_all, pass_all, free_all, look_at, get, get_in, sets, lands_last, env, sub, whole, tables, fact, no, RattleType, owns, types_at, plain, block_ptr, nothing_more, only, param, Stays, stay_dropped, walk_of, after, proved_at, leaves, fm}
+use Rattle.handles.proofs.Walks.{◌≡◌, List, [], ◌∷◌, ◌++◌, refl, sym, ap, subst, a_type, Val, vptr, inst_fn, SProp, ent, id⊢, ftrue, flft, WpFn, ‵, raw, ◌⊛◌, some, later, at_ret, ◌$◌, ◌∵◌, !, qed, by, move, keep, drop, split, split3, join, fsplit, fjoin, pick, use1, await, rewrite, feq_i, suffices, stop, fld, of_opd, no_more, and_then, first, blocks, exec, returns, enter, alloc_all, pass_all, free_all, look_at, get, get_in, sets, lands_last, env, sub, whole, tables, fact, no, RattleType, owns, types_at, plain, block_ptr, nothing_more, only, param, layout, bounded, param_laws, Stays, stay_dropped, walk_of, after, proved_at, leaves, fm}
 use mir.Syntax.{dcons, dnil}
-use denote.Param.{layout, bounded}
-use denote.Param.Laws.{param_laws}
 use denote.Triple.Clauses.{Lasts, lasts}
 use denote.Triple.Spec.{triple_of}
 use contract.BorrowLft.{◌⊑◌}

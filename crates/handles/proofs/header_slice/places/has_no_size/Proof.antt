@@ -1,22 +1,9 @@
 -- `has_no_size` compares the size that a word holds.
-use Rattle.std.proofs.Common.{◌≡◌, Bool, List, [], ◌∷◌, refl}
-use mir.Syntax.{a_type}
-use mir.Val.{Val, vbool}
-use mir.MapTy.{inst_fn}
-use base.Logic.{SProp, emp}
-use base.Fml.{ftrue, flft}
+use Rattle.handles.proofs.PlacesWalks.{◌≡◌, Bool, List, [], ◌∷◌, refl, a_type, Val, inst_fn, SProp, emp, ftrue, flft, ‵, raw, ◌⊛◌, ◌$◌, ◌∵◌, !, qed, by, move, keep, split, join, use0, feq_i, lit, returns, enter, alloc_all, pass_all, free_all, look_at, sets, tables, fact, fact_i, nothing_more, layout, layouts, walk_of, proved, leaves, capped, bin, size_word}
+use mir.Val.{vbool}
 use Rattle.std.specs.Prelude.{IsTrue, ◌↔◌}
 use lib.Dec.{eqb}
-use prog.Memory.{size, capped}
-use types.Kit.{‵, raw, ◌⊛◌, ◌$◌, ◌∵◌, !, qed, by, move, keep, split, join, use0, feq_i}
-use types.Run.{lit, bin, size_word, returns, enter}
-use types.ByLocal.{alloc_all, pass_all, free_all, look_at, sets}
-use contract.Running.{tables}
-use contract.Monad.{fact, fact_i}
-use denote.Steps.{nothing as nothing_more}
-use denote.Param.{layout, layouts}
-use denote.Triple.Walked.{walk_of}
-use Rattle.atomic_table.proofs.Walks.{proved, leaves}
+use prog.Memory.{size}
 use Rattle.handles.proofs.PlacesMade.{capped_zero}
 use Rattle.handles.specs.contracts.header_slice.places.has_no_size.{ended, clauses}
 use Rattle.handles.specs.contracts.header_slice.places.has_no_size.Key.{name as #self}

@@ -32,7 +32,8 @@ module _ {X Y A : Type 0} (p : Places X A) where
   Fits ys = (p.filled ≡ length ys) × (p.filled ≤ p.room)
 
   abbrev pub holding : (ys : List Y) → Fits ys → Places Y A
-  holding ys ok = record { first = p.first; filled = p.filled; room = p.room; of = p.of; items = ys; alloc = p.alloc; within = ok }
+  holding ys ok =
+      record { first = p.first; filled = p.filled; room = p.room; of = p.of; items = ys; alloc = p.alloc; within = ok }
 
   pub fits : (ys : List Y) → length ys ≡ length p.items → Fits ys
   fits ys e = (p.within.0 ∙ sym e, p.within.1)
@@ -47,12 +48,16 @@ abbrev pub mapped : {X Y A : Type 0} → (X → Y) → Places X A → Places Y A
 mapped h p = holding p (map h p.items) (fits p (map h p.items) (length-map p.items h))
 
 module _ (g : Former {0}) (A : Type 0) where
-  pub length_got : (X : Type 0) (xs : List g.Shape) (n : Count) (v : Row X (list_count g xs n)) → length (list_get g X xs n v).0 ≡ length xs
+  pub length_got : (X : Type 0) (xs : List g.Shape) (n : Count) (v : Row X (list_count g xs n))
+      → length (list_get g X xs n v).0 ≡ length xs
   length_got X [] n v = refl
   length_got X (x ∷ xs) n v = ap suc (length_got X xs n (g.get X x (list_count g xs n) v).1)
 
-  abbrev pub got : (X : Type 0) (a : Places g.Shape A) (n : Count) → Row X (list_count g a.items n) → Places (g.Of X) A × Row X n
-  got X a n v = let r : List (g.Of X) × Row X n = list_get g X a.items n v in (holding a r.0 (fits a r.0 (length_got X a.items n v)), r.1)
+  abbrev pub got : (X : Type 0) (a : Places g.Shape A) (n : Count) → Row X (list_count g a.items n)
+      → Places (g.Of X) A × Row X n
+  got X a n v =
+      let r : List (g.Of X) × Row X n = list_get g X a.items n v in
+      (holding a r.0 (fits a r.0 (length_got X a.items n v)), r.1)
 
   abbrev pub the_former : Former {0}
   the_former = record {
@@ -63,22 +68,39 @@ module _ (g : Former {0}) (A : Type 0) where
     put = λ X p. (list g).put X p.items;
     get = got;
     map = λ X Y h. mapped (g.map X Y h);
-    get-put = λ X p n t i. (holding_along p _ _ (λ j. ((list g).get-put X p.items n t j).0) (got X (mapped (g.shape X) p) n ((list g).put X p.items n t)).0.within p.within i, ((list g).get-put X p.items n t i).1);
-    put-get = λ X a n v i. (holding_along a _ _ (λ j. ((list g).put-get X a.items n v j).0) (mapped (g.shape X) (got X a n v).0).within a.within i, ((list g).put-get X a.items n v i).1);
-    get-map = λ X Y h a n v i. (holding_along a _ _ (λ j. ((list g).get-map X Y h a.items n v j).0) (got Y a n (over h (list_count g a.items n) v)).0.within (mapped (g.map X Y h) (got X a n v).0).within i, ((list g).get-map X Y h a.items n v i).1);
+    get-put = λ X p n t i. (
+      holding_along p _ _ (λ j. ((list g).get-put X p.items n t j).0)
+          (got X (mapped (g.shape X) p) n ((list g).put X p.items n t)).0.within p.within i,
+      ((list g).get-put X p.items n t i).1,
+    );
+    put-get = λ X a n v i. (
+      holding_along a _ _ (λ j. ((list g).put-get X a.items n v j).0)
+          (mapped (g.shape X) (got X a n v).0).within a.within i,
+      ((list g).put-get X a.items n v i).1,
+    );
+    get-map = λ X Y h a n v i. (
+      holding_along a _ _ (λ j. ((list g).get-map X Y h a.items n v j).0)
+          (got Y a n (over h (list_count g a.items n) v)).0.within (mapped (g.map X Y h) (got X a n v).0).within i,
+      ((list g).get-map X Y h a.items n v i).1,
+    );
   }
 
 module _ (A : RattleType) (G : Ghosts A.Denot) (R S : RattleType) (h : R.Denot → S.Denot) where
-  pub the_places : Alike R S h → Alike (C.the_row R A G) (C.the_row S A G) ((the_former this A.Denot).map R.Denot S.Denot h)
+  pub the_places : Alike R S h → Alike (C.the_row R A G) (C.the_row S A G)
+      ((the_former this A.Denot).map R.Denot S.Denot h)
   the_places a =
       let width : size (lone S.mir) ≡ size (lone R.mir) = λ i. size (lone (a.mir_same i)) in
       record {
         mir_same = refl;
         own_same = λ p i vs. fsep ((Struct (shape (C.the_type R A G))).own_val (to (C.the_type R A G) p) vs)
             (fsep (flt (p.room * width i) (2 ^ 63))
-            (fsep (lies_placed (Array R p.filled) (Array S p.filled) (map h) (Array-places R S h a p.filled) full_share p.first p.items i)
+            (fsep (lies_placed (Array R p.filled) (Array S p.filled) (map h) (Array-places R S h a p.filled) full_share
+            p.first p.items i)
             (fsep (room_for (raw (ty_array (lone (a.mir_same i)) (p.room - p.filled))) (p.first +ₚ p.filled * width i))
-            (owns_if (not (p.room * width i == 0)) (G.dealloc_token p.alloc (raw (ty_array (lone (a.mir_same i)) p.room)) p.first)))));
+            (owns_if (not (p.room * width i == 0))
+            (G.dealloc_token p.alloc (raw (ty_array (lone (a.mir_same i)) p.room)) p.first)))));
         shr_same = λ p i b o. beside ((Struct (shape (C.the_type R A G))).shr_at (to (C.the_type R A G) p) b o)
-            (beside (said (flt (p.room * width i) (2 ^ 63))) (lent_at_placed (Array R p.filled) (Array S p.filled) (map h) (Array-places R S h a p.filled) p.first p.items i));
+            (beside (said (flt (p.room * width i) (2 ^ 63)))
+            (lent_at_placed (Array R p.filled) (Array S p.filled) (map h) (Array-places R S h a p.filled) p.first
+            p.items i));
       }

@@ -4,5 +4,5 @@ use Rattle.handles.proofs.header_slice.makers.UniqueArc+HeaderSlice+H+T.from_hea
 pub returns-clause-runs : goal.returns-clause-runs
 returns-clause-runs g c = built_takes_all _ _ _ _ c.args.header c.build.result c.build.ensures.built
 
-pub returns-clause-refused_runs : goal.returns-clause-refused_runs
-returns-clause-refused_runs g c = refused_run _ _ _ _ c.build.result c.build.ensures.refused
+pub returns-clause-refusals : goal.returns-clause-refusals
+returns-clause-refusals g c = refused_run _ _ _ _ c.build.result c.build.ensures.refused

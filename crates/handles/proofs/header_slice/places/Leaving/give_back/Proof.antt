@@ -1,31 +1,19 @@
 -- `give_back` makes room of the places, and where they take bytes their block goes back.
-use Rattle.handles.proofs.Walks.{◌≡◌, ℕ, ◌^◌, ◌<◌, Bool, List, [], ◌∷◌, refl, sym, ap, ◌∙◌, subst, arith, w64, a_type, named, Val, vint, vptr, vunit, inst_fn, SProp, Lft, Share, ftrue, flft, ‵, raw, ◌⊛◌, given, later, at_ret, ◌$◌, ◌∵◌, !, qed, by, move, keep, drop, split, join, fsplit, fsplit3, fjoin3, learn, use1, use2, await, rewrite, feq_i, unit_lit, stop, fld, of_opd, lit, no_more, and_then, first, blocks, exec, returns, enter, alloc_all, pass_all, free_all, look_at, get, get_in, sets, lands_last, is, env, sub, whole, tables, fact, yes, no, RattleType, owns, types_at, plain, Ptr, block_ptr, ptr_val, nothing_more, heard, param, RefOf, shr_vals, shr_Tells, Stays, stay_dropped, walk_of, Goes-dropped, after, proved, leaves, fm}
-use Rattle.std.proofs.Common.{◌+◌, ◌-◌, ◌*◌}
+use Rattle.handles.proofs.PlacesWalks.{◌≡◌, ℕ, ◌+◌, ◌-◌, ◌^◌, ◌<◌, Bool, List, [], ◌∷◌, refl, sym, ap, ◌∙◌, subst, arith, w64, a_type, named, Val, vint, vptr, vunit, inst_fn, SProp, Lft, Share, ftrue, flft, ‵, raw, ◌⊛◌, given, later, at_ret, ◌$◌, ◌∵◌, !, qed, by, move, keep, drop, split, join, fsplit, fsplit3, fjoin3, learn, use1, use2, use3, await, rewrite, feq_i, flt_l, unit_lit, stop, fld, lit, of_opd, no_more, and_then, first, blocks, exec, returns, enter, alloc_all, pass_all, free_all, look_at, get, get_in, sets, lands_last, is, env, sub, whole, tables, fact, yes, no, RattleType, owns, types_at, plain, Ptr, block_ptr, ptr_val, nothing_more, heard, param, bounded, param_laws, RefOf, shr_vals, shr_Tells, Stays, stay_dropped, walk_of, Goes-dropped, after, proved, leaves, fm, Al, Goes-blank, elτ, sz, uncapped, LeavingRow, leaving-Good, leaving_val, none_at_null, leaving_own, ◌*◌, as_raw, as_written, owns_if, Incl-trans, froom, ◌⊑◌, in_a_block, length, dcons, dnil, ty_array, capped_fits, align, capped, align_word, bin, size_word}
 use lib.Dec.{T as Holds}
-use lib.ListN.{length}
 use mir.Raw.{raw as bare}
-use mir.Syntax.{Ty, ty_array, ty_unit, dcons, dnil}
+use mir.Syntax.{Ty, ty_unit}
 use mir.Val.{has_ty, WT}
-use base.Fml.{froom, Incl-trans}
-use prog.Capped.{capped_is, capped_fits}
-use prog.Memory.{align, capped}
+use prog.Capped.{capped_is}
 use prog.RawLaws.{size-raw, align-raw}
-use contract.BorrowLft.{◌⊑◌}
-use types.Kit.{Sq, prop, flt_l, use3}
-use types.Run.{bin, size_word, align_word, branches, skips}
-use denote.Param.{bounded}
-use denote.Param.Laws.{param_laws}
-use denote.RawPtr.{in_a_block}
+use types.Kit.{Sq, prop}
+use types.Run.{branches, skips}
 use denote.Triple.Call.{calls_at_last}
-use Rattle.core.proofs.alloc.Calls.{Al, Goes-blank, Gives, at_gives, Gives-goes, Gives-Gives}
-use Rattle.core.proofs.ptr.Rows.{El, elτ, sz}
-use Rattle.core.proofs.slots.Leases.{uncapped}
+use Rattle.core.proofs.alloc.Calls.{Gives, at_gives, Gives-goes, Gives-Gives}
+use Rattle.core.proofs.ptr.Rows.{El}
 use Rattle.std_alloc.proofs.Flags.{T_true}
-use Rattle.std_alloc.proofs.RawLayout.{as_raw, as_written}
-use Rattle.std_alloc.specs.Vec.Ownership.{owns_if}
 use Rattle.handles.proofs.header_slice.places.Leaving.TheLaws.{lowers}
-use Rattle.handles.specs.HeaderSlice.PlacesOwnership.{leaving_own}
-use Rattle.handles.proofs.LeavingFields.{leaving_val, leaving-Good, LeavingRow, none_at_null, whole_room}
+use Rattle.handles.proofs.LeavingFields.{whole_room}
 use Rattle.handles.specs.contracts.header_slice.places.Leaving.give_back.{ended, clauses}
 use Rattle.handles.specs.contracts.header_slice.places.Leaving.give_back.Key.{name as #self}
 use Rattle.handles.proofs.header_slice.places.Leaving.give_back.Statement.{statement}

@@ -1,25 +1,9 @@
 -- `take_first` reads the first item that is left, and its place is empty.
-use Rattle.handles.proofs.Walks.{◌≡◌, ℕ, ◌+◌, ◌-◌, ◌^◌, ◌<◌, List, [], ◌∷◌, refl, sym, ap, ◌∙◌, arith, a_type, named, Val, vptr, inst_fn, full_share, SProp, emp, Lft, Share, ftrue, flft, ‵, raw, ◌⊛◌, some, given, at_ret, ◌$◌, ◌∵◌, !, qed, by, move, keep, drop, split, split3, join, fsplit, fsplit3, fjoin, fjoin3, pick, learn, use0, use1, use2, rewrite, feq_i, stop, fld, load, lit, of_opd, first, blocks, exec, returns, enter, alloc_all, pass_all, free_all, look_at, get, through, sets, sets_last, env, sub, whole, look_in, tables, fact, fact_i, RattleType, owns, types_at, plain, Ptr, nothing_more, peeks, heard, Is, shows, cell_at, param, Stays, walk_of, after, proved, leaves}
-use Rattle.std.proofs.Common.{◌*◌, ◌≤◌}
-use mir.Syntax.{ty_array, dcons, dnil}
-use base.Fml.{fat, froom}
-use types.Kit.{flt_l, flt_i}
-use types.Part.{store_in}
-use types.Run.{look, bin, size_lit, assigns}
-use lib.ListN.{length}
-use denote.Array.{Array}
-use denote.Memory.{part_at}
-use denote.Param.{bounded}
-use denote.Param.Laws.{param_laws}
-use denote.RawPtr.{in_a_block}
-use denote.Ref.{mut_vals, mut_Tells}
-use denote.Steps.{opens, closes}
-use denote.Triple.Walked.{stay_ref, Goes-ref}
-use Rattle.core.proofs.ptr.Rows.{El, Good, elτ, sz, one_below, times_below}
+use Rattle.handles.proofs.PlacesWalks.{◌≡◌, ℕ, ◌+◌, ◌-◌, ◌^◌, ◌<◌, List, [], ◌∷◌, refl, sym, ap, ◌∙◌, arith, a_type, named, Val, vptr, inst_fn, full_share, SProp, emp, fat, Lft, Share, ftrue, flft, ‵, raw, ◌⊛◌, some, given, at_ret, ◌$◌, ◌∵◌, !, qed, by, move, keep, drop, split, split3, join, fsplit, fsplit3, fjoin, fjoin3, pick, learn, use0, use1, use2, rewrite, feq_i, flt_i, flt_l, stop, fld, load, lit, of_opd, first, blocks, exec, returns, enter, alloc_all, pass_all, free_all, look_at, get, through, sets, sets_last, env, sub, whole, look_in, tables, fact, fact_i, RattleType, owns, types_at, plain, Ptr, nothing_more, peeks, heard, Is, shows, cell_at, param, bounded, param_laws, Stays, walk_of, after, proved, leaves, elτ, one_below, sz, times_below, LeavingRow, LeavingWords, leaving_val, leaving_words, none_at_null, leaving_own, ◌*◌, ◌≤◌, as_raw, as_written, froom, Array, part_at, in_a_block, mut_Tells, mut_vals, closes, opens, Goes-ref, stay_ref, length, dcons, dnil, ty_array, store_in, assigns, bin, size_lit}
+use types.Run.{look}
+use Rattle.core.proofs.ptr.Rows.{El, Good}
 use Rattle.handles.proofs.header_slice.places.Leaving.TheLaws.{lowers}
-use Rattle.handles.specs.HeaderSlice.PlacesOwnership.{leaving_own}
-use Rattle.std_alloc.proofs.RawLayout.{as_raw, as_written}
-use Rattle.handles.proofs.LeavingFields.{leaving_val, LeavingRow, LeavingWords, leaving_words, first_of, none_at_null, first_out, room_after}
+use Rattle.handles.proofs.LeavingFields.{first_of, first_out, room_after}
 use Rattle.handles.specs.contracts.header_slice.places.Leaving.take_first.{ended, clauses}
 use Rattle.handles.specs.contracts.header_slice.places.Leaving.take_first.Key.{name as #self}
 use Rattle.handles.proofs.header_slice.places.Leaving.take_first.Statement.{statement}

@@ -1,14 +1,8 @@
 -- `into_leaving` makes of the places those that no item has left yet.
-use Rattle.handles.proofs.Walks.{◌≡◌, ℕ, ◌^◌, ◌<◌, [], ◌∷◌, refl, lit<, arith, a_type, Val, inst_fn, SProp, emp, ftrue, flft, ‵, raw, ◌⊛◌, ◌$◌, ◌∵◌, !, qed, by, move, keep, split, join, fsplit, fjoin, use0, use1, stop, fld, lit, of_opd, no_more, and_then, returns, enter, alloc_all, pass_all, free_all, look_at, get, get_in, sets, agg, sub, whole, tables, fact, fact_i, no, RattleType, owns, types_at, plain, Ptr, nothing_more, param, Stays, stay_dropped, walk_of, proved, leaves}
-use mir.Syntax.{dcons, dnil}
-use denote.Param.{bounded}
-use denote.Param.Laws.{param_laws}
-use Rattle.core.proofs.alloc.Calls.{Goes-blank}
+use Rattle.handles.proofs.PlacesWalks.{◌≡◌, ℕ, ◌^◌, ◌<◌, [], ◌∷◌, refl, lit<, arith, a_type, Val, inst_fn, SProp, emp, ftrue, flft, ‵, raw, ◌⊛◌, ◌$◌, ◌∵◌, !, qed, by, move, keep, split, join, fsplit, fjoin, use0, use1, stop, fld, lit, of_opd, no_more, and_then, returns, enter, alloc_all, pass_all, free_all, look_at, get, get_in, sets, agg, sub, whole, tables, fact, fact_i, no, RattleType, owns, types_at, plain, Ptr, nothing_more, param, bounded, param_laws, Stays, stay_dropped, walk_of, proved, leaves, Goes-blank, LeavingRow, LeavingWords, leaving-Good, leaving_val, leaving_words, PlacesRow, places_val, leaving_own, dcons, dnil}
 use Rattle.core.proofs.atomic.Steps.{Ptr-Good}
 use Rattle.handles.proofs.header_slice.places.Places.TheLaws.{lowers}
-use Rattle.handles.specs.HeaderSlice.PlacesOwnership.{leaving_own}
-use Rattle.handles.proofs.LeavingFields.{leaving_val, places-Good, leaving-Good, LeavingRow, LeavingWords, leaving_words, none_left}
-use Rattle.handles.proofs.PlacesFields.{places_val, PlacesRow}
+use Rattle.handles.proofs.LeavingFields.{places-Good, none_left}
 use Rattle.handles.specs.contracts.header_slice.places.Places.into_leaving.{ended, clauses}
 use Rattle.handles.specs.contracts.header_slice.places.Places.into_leaving.Key.{name as #self}
 use Rattle.handles.proofs.header_slice.places.Places.into_leaving.Statement.{statement}

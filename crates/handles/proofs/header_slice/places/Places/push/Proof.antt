@@ -1,36 +1,12 @@
 -- `push` writes an item into the first place after the others.
-use Rattle.std.proofs.Common.{ℕ, ◌+◌, ◌-◌, ◌*◌, ◌^◌, ◌<◌, List, [], ◌∷◌, ◌++◌, refl, sym, ap, ◌∙◌, subst, arith}
+use Rattle.handles.proofs.PlacesWalks.{ℕ, ◌+◌, ◌-◌, ◌^◌, ◌<◌, List, [], ◌∷◌, ◌++◌, refl, sym, ap, ◌∙◌, subst, arith, a_type, Val, vptr, vunit, inst_fn, full_share, SProp, ent, id⊢, ftrue, flft, WpFn, ‵, raw, ◌⊛◌, at_ret, ◌$◌, ◌∵◌, !, qed, move, keep, drop, split, split3, join, fsplit3, fjoin, fjoin3, use1, use2, rewrite, feq_i, suffices, done, unit_lit, stop, fld, load, lit, of_opd, first, blocks, exec, returns, enter, alloc_all, pass_all, free_all, look_at, get, through, sets, env, sub, whole, look_in, tables, fact, no, RattleType, owns, types_at, plain, block_ptr, nothing_more, heard, cell_at, param, bounded, Stays, stay_dropped, walk_of, Goes-dropped, after, proved_at, elτ, one_below, sz, times_below, PlacesRow, places_val, places_opens, ◌*◌, as_raw, as_written, froom, Array, part_at, closes, opens, Goes-ref, stay_ref, dcons, dnil, ty_array, store_in, assigns, bin, size_lit}
 use lib.ListN.{length-append}
-use mir.Syntax.{a_type, dcons, dnil, ty_array}
-use mir.Val.{Val, vptr, vunit}
-use mir.MapTy.{inst_fn}
-use base.Fraction.{full_share}
-use base.Logic.{SProp, ent, id⊢}
-use base.Fml.{ftrue, flft, froom}
-use prog.Wp.{WpFn}
-use types.Kit.{‵, raw, ◌⊛◌, at_ret, ◌$◌, ◌∵◌, !, qed, move, keep, drop, split, split3, join, fsplit3, fjoin, fjoin3, feq_i, use1, use2, rewrite, suffices, done}
-use types.Run.{size_lit, init, stop, fld, load, lit, unit_lit, of_opd, bin, assigns, assigns_last, first, blocks, exec, returns, enter}
-use types.ByLocal.{alloc_all, pass_all, free_all, look_at, get, through, sets, env}
-use types.Part.{whole, sub, look_in, store_in}
-use contract.Monad.{fact}
-use contract.Running.{tables}
-use denote.Exit.{no}
-use denote.RattleType.{RattleType, owns}
-use denote.Memory.{cell_at, part_at}
-use denote.Array.{Array}
-use denote.RawPtr.{block_ptr}
-use denote.Param.{param, bounded}
-use denote.Signature.{types_at, plain}
-use denote.Steps.{nothing as nothing_more, opens, closes, heard}
-use denote.Triple.Walked.{Stays, stay_ref, stay_dropped, walk_of, ends_at, Goes-ref, Goes-dropped}
+use types.Run.{init, assigns_last}
+use denote.Triple.Walked.{ends_at}
 use Rattle.core.proofs.mem.Facts.{says_three}
 use Rattle.core.proofs.mem.Param as param_steps
-use Rattle.core.proofs.ptr.Rows.{El, elτ, sz, el_in, spare, snoc, one_below, times_below}
-use Rattle.core.proofs.alloc.Shapes.{after}
-use Rattle.atomic_table.proofs.Walks.{proved_at}
-use Rattle.std_alloc.proofs.RawLayout.{as_raw, as_written}
-use Rattle.handles.proofs.PlacesFields.{PlacesRow, places_val}
-use Rattle.handles.proofs.PlacesOpened.{places_opens, places_shuts}
+use Rattle.core.proofs.ptr.Rows.{El, el_in, spare, snoc}
+use Rattle.handles.proofs.PlacesOpened.{places_shuts}
 use Rattle.handles.specs.contracts.header_slice.places.Places.push.{ended, clauses}
 use Rattle.handles.specs.contracts.header_slice.places.Places.push.Key.{name as #self}
 use Rattle.handles.proofs.header_slice.places.Places.push.Statement.{statement}

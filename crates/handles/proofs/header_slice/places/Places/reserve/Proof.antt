@@ -1,53 +1,10 @@
 -- `reserve` asks the allocator for an array, and makes places of it that hold nothing yet.
-use Rattle.std.proofs.Common.{◌≡◌, ◌≢◌, ℕ, ◌*◌, ◌^◌, ◌<◌, Bool, true, false, [], ◌∷◌, refl, sym, ap, subst, lit<, arith, w64}
-use Rattle.std.specs.Prelude.{IfOk, Ok, Err}
-use Rattle.std.specs.Mem.{type_size}
-use Rattle.std.specs.Vec.Ownership.{FitsInBlock}
-use mir.Syntax.{a_type, named, dcons, dnil, ty_array}
-use mir.Val.{Val, vint, vptr, vstruct, vcons, vnil}
-use mir.MapTy.{inst_fn}
-use base.Logic.{SProp, ent, sep, emp}
-use base.Fml.{Lft, Share, Fml, ftrue, fsep, flft, Incl-trans}
-use prog.Memory.{align, capped}
-use prog.Capped.{capped_fits}
-use prog.Wp.{Wp, after_seq, at_return}
-use types.Logic.{sem}
-use types.Match.{live, vrt, in_variant}
-use types.Part.{whole, agg}
-use types.Kit.{Post as After, any_q, ‵, raw, ◌⊛◌, later, at_ret, ◌$◌, ◌∵◌, !, qed, by, move, keep, drop, split, join, fsplit, fjoin, use0, use1, use2, await, rewrite}
-use types.Run.{lit, stop, fld, of_opd, bin, size_word, align_word, no_more, and_then, first, switches_on, exec, returns, enter}
-use types.ByLocal.{alloc_all, pass_all, free_all, look_at, get, get_in, get_tag, is, sets, sets_last, lands_as, env}
-use contract.Running.{tables}
-use contract.Monad.{fact, fact_i}
-use contract.BorrowLft.{◌⊑◌}
-use denote.Exit.{yes}
-use denote.Laws.{Is}
-use denote.RattleType.{RattleType, owns}
-use denote.Signature.{types_at, plain}
-use denote.Param.{param, layout, bounded}
-use denote.Builtin.{RefOf, usize}
-use denote.Plain.{uint_vals, uint_Tells}
-use denote.Ref.{shr_vals, shr_Tells}
-use denote.RawPtr.{block_ptr}
-use denote.Struct.Struct.{Struct, Struct-Makes}
+use Rattle.handles.proofs.PlacesWalks.{◌≡◌, ℕ, ◌^◌, ◌<◌, Bool, true, false, [], ◌∷◌, refl, sym, ap, subst, lit<, arith, w64, a_type, named, Val, vint, vptr, inst_fn, SProp, ent, sep, emp, Lft, Share, Fml, ftrue, fsep, flft, sem, ‵, raw, ◌⊛◌, later, at_ret, ◌$◌, ◌∵◌, !, qed, by, move, keep, drop, split, join, fsplit, fjoin, use0, use1, use2, await, rewrite, stop, fld, lit, of_opd, no_more, and_then, first, exec, returns, enter, lands_as, alloc_all, pass_all, free_all, look_at, get, get_in, sets, sets_last, is, env, agg, whole, tables, fact, fact_i, yes, RattleType, owns, types_at, plain, block_ptr, nothing_more, heard, Is, param, layout, bounded, RefOf, shr_vals, shr_Tells, Stays, stay_dropped, walk_of, Goes-dropped, after, proved, leaves, fm, Al, Answer-typed, Answered, Takes, Takes-gives, Takes-goes, answers, at_takes, token, arm_body, head, block_align, block_size, block_ty, uncapped, PlacesRow, places_val, has_bytes, places_made, without_items, ◌*◌, ◌≢◌, type_size, Err, IfOk, Ok, FitsInBlock, as_written, first_Good, err_of, ok_of, owns_if, Incl-trans, ◌⊑◌, usize, uint_Tells, uint_vals, owned, Struct, Struct-Makes, calls_at, dcons, dnil, ty_array, vcons, vnil, vstruct, capped_fits, align, capped, Wp, after_seq, at_return, get_tag, After, any_q, in_variant, live, vrt, align_word, bin, size_word, switches_on}
 use denote.Struct.Declared as Declared
-use denote.Steps.{nothing as nothing_more, heard, owned}
-use denote.Triple.Call.{calls_at}
-use denote.Triple.Walked.{Stays, stay_dropped, walk_of, Goes-dropped}
 use Rattle.core.specs.contracts.result.Result as result
 use Rattle.core.specs.contracts.alloc.AllocError as refusal
-use Rattle.core.proofs.alloc.Calls.{Al, Answer-typed, token, Takes, at_takes, Answered, Takes-goes, Takes-gives, answers}
-use Rattle.core.proofs.alloc.Shapes.{after, head, arm_body}
 use Rattle.core.proofs.mem.Param.{El}
-use Rattle.core.proofs.slots.Leases.{uncapped, block_ty, block_size, block_align}
-use Rattle.std_alloc.proofs.RawLayout.{as_written}
-use Rattle.std_alloc.proofs.RcSteps.{Good, first_Good}
-use Rattle.std_alloc.proofs.ResultValues.{ok_of, err_of}
-use Rattle.atomic_table.proofs.Walks.{proved, leaves}
-use Rattle.atomic_table.proofs.Calls.{fm}
-use Rattle.std_alloc.specs.Vec.Ownership.{owns_if}
-use Rattle.handles.proofs.PlacesFields.{PlacesRow, places_val}
-use Rattle.handles.proofs.PlacesMade.{without_items, places_made, has_bytes}
+use Rattle.std_alloc.proofs.RcSteps.{Good}
 use Rattle.handles.specs.contracts.header_slice.places.Places.reserve.{ended, clauses}
 use Rattle.handles.specs.contracts.header_slice.places.Places.reserve.Key.{name as #self}
 use Rattle.handles.proofs.header_slice.places.Places.reserve.Statement.{statement}

@@ -1,38 +1,12 @@
 -- `slice` shows the items that the places lend. Assumes `Logic`.
-use Rattle.std.proofs.Common.{◌≡◌, ◌≤◌, ℕ, ◌*◌, ◌^◌, ◌<◌, List, [], ◌∷◌, refl, sym, ap, subst, ◌∙◌}
+use Rattle.handles.proofs.PlacesWalks.{◌≡◌, ℕ, ◌^◌, ◌<◌, List, [], ◌∷◌, refl, sym, ap, ◌∙◌, subst, a_type, named, Val, vptr, inst_fn, SProp, emp, id⊢, Lft, Share, Fml, ftrue, fsep, flft, fhide, ‵, raw, ◌⊛◌, at_ret, ◌$◌, ◌∵◌, !, qed, by, move, keep, drop, split, join, fsplit, fjoin, use0, use1, rewrite, feq_i, flt_i, flt_l, stop, fld, load, of_opd, no_more, and_then, first, blocks, exec, returns, enter, alloc_all, pass_all, free_all, look_at, get, through, sets, sets_last, env, agg, sub, whole, look_in, tables, fact, fact_i, yes, RattleType, owns, types_at, plain, Ptr, InBlock, block_ptr, block_of, offset_of, at_block, nothing_more, peeks, heard, looks, shuts, Is, shows, cell_at, param, bounded, RefOf, shr_vals, shr_Tells, Stays, stay_dropped, walk_of, Goes-dropped, after, proved, leaves, PlacesRow, places_val, ◌*◌, ◌≤◌, type_size, slice_val, length, dcons, dnil}
 use native.Mathlib.Nat.{mul-le-mul_right, lt_of_le_of_lt}
-use lib.ListN.{length}
-use mir.Syntax.{a_type, named, dcons, dnil}
-use mir.Val.{Val, vptr}
-use mir.MapTy.{inst_fn}
-use base.Logic.{SProp, emp, id⊢}
-use base.Fml.{Lft, Share, Fml, ftrue, fsep, flft, fhide}
-use types.Kit.{‵, raw, ◌⊛◌, at_ret, ◌$◌, ◌∵◌, !, qed, by, move, keep, drop, split, join, fsplit, fjoin, use0, use1, rewrite, feq_i, flt_i, flt_l}
-use types.Run.{stop, fld, load, of_opd, no_more, and_then, first, blocks, exec, returns, enter}
-use types.ByLocal.{alloc_all, pass_all, free_all, look_at, get, through, sets, sets_last, env}
-use types.Part.{agg, sub, whole, look_in}
-use contract.Running.{tables}
-use contract.Monad.{fact, fact_i}
-use denote.Exit.{yes}
-use denote.RattleType.{RattleType, owns}
-use denote.Signature.{types_at, plain}
-use denote.RawPtr.{Ptr, InBlock, block_ptr, block_of, count_of as offset_of, at_block}
-use denote.Steps.{nothing as nothing_more, heard, peeks, looks, shuts}
-use denote.Laws.{Is, shows}
-use denote.Memory.{cell_at, hidden_shr}
+use denote.Memory.{hidden_shr}
 use denote.Opens.{unhide, hide}
-use denote.Param.{param, bounded}
-use denote.Builtin.{RefOf}
-use denote.Ref.{shr_vals, shr_Tells}
-use denote.Slice.{slice_val}
 use denote.Struct.Lending.{in_block_says}
 use denote.Struct.Owning.{to}
-use denote.Triple.Walked.{Stays, stay_dropped, walk_of, Goes-dropped}
-use Rattle.core.proofs.alloc.Shapes.{after}
-use Rattle.atomic_table.proofs.Walks.{proved, leaves}
-use Rattle.std.specs.Mem.{type_size}
-use Rattle.handles.specs.HeaderSlice.PlacesOwnership.{places_share}
-use Rattle.handles.proofs.PlacesFields.{places_val, PlacesType, PlacesRow, PlacesWords, words_told}
+use Rattle.handles.specs.Inside.PlacesOwnership.{places_share}
+use Rattle.handles.proofs.PlacesFields.{PlacesType, PlacesWords, words_told}
 use Rattle.handles.proofs.PlacesShared.{words_open}
 use Rattle.handles.specs.contracts.header_slice.places.Places.slice.{ended, clauses}
 use Rattle.handles.specs.contracts.header_slice.places.Places.slice.Key.{name as #self}

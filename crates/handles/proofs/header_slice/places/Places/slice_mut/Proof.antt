@@ -1,39 +1,17 @@
 -- `slice_mut` lends the items, and the places follow them.
-use Rattle.std.proofs.Common.{◌≡◌, ℕ, ◌*◌, ◌^◌, ◌<◌, List, [], ◌∷◌, refl, sym, arith}
-use lib.ListN.{length}
-use mir.Syntax.{a_type, dcons, dnil, named}
-use mir.Val.{Val, vptr}
-use mir.MapTy.{inst_fn}
-use base.Fraction.{full_share}
-use base.Logic.{SProp, emp}
-use base.Fml.{Lft, GName, Share, ftrue, flft}
-use types.Logic.{sem}
-use types.Kit.{‵, raw, ◌⊛◌, some, later, at_ret, ◌$◌, ◌∵◌, !, qed, by, move, keep, drop, split, split3, join, fsplit, fsplit3, fjoin, fjoin3, pick, group, use0, use1, await, rewrite}
+use Rattle.handles.proofs.PlacesWalks.{◌≡◌, ℕ, ◌^◌, ◌<◌, List, [], ◌∷◌, refl, sym, arith, a_type, named, Val, vptr, inst_fn, full_share, SProp, emp, Lft, Share, ftrue, flft, sem, ‵, raw, ◌⊛◌, some, later, at_ret, ◌$◌, ◌∵◌, !, qed, by, move, keep, drop, split, split3, join, fsplit, fsplit3, fjoin, fjoin3, pick, use0, use1, await, rewrite, stop, fld, load, of_opd, no_more, and_then, first, blocks, exec, returns, enter, alloc_all, pass_all, free_all, look_at, get, through, sets, sets_last, env, agg, sub, whole, look_in, tables, fact, fact_i, no, RattleType, owns, types_at, plain, nothing_more, cell_at, param, bounded, Stays, stay_dropped, walk_of, after, proved, leaves, times_below, PlacesRow, places_opens, ◌*◌, type_size, Array, mut_Tells, mut_vals, slice_val, opens, length, dcons, dnil}
+use base.Fml.{GName}
+use types.Kit.{group}
 use types.SemTy.{cells}
-use types.Run.{stop, fld, load, of_opd, no_more, and_then, first, blocks, exec, returns, enter}
-use types.ByLocal.{alloc_all, pass_all, free_all, look_at, get, through, sets, sets_last, env}
-use types.Part.{whole, sub, look_in, agg}
-use contract.Monad.{fact, fact_i}
-use contract.Running.{tables}
-use denote.Exit.{no}
-use denote.RattleType.{RattleType, owns}
-use denote.Memory.{cell_at, mem}
-use denote.Array.{Array}
+use denote.Memory.{mem}
 use denote.Follow.{follows}
 use denote.FollowSlice.{lends_Elements}
-use denote.Param.{param, bounded}
-use denote.Ref.{MutBor, mut_vals, mut_Tells}
-use denote.Signature.{types_at, plain, mut_ref_to}
-use denote.Slice.{MutSlice, slice_val}
-use denote.Steps.{nothing as nothing_more, opens}
-use denote.Triple.Walked.{Stays, stay_dropped, walk_of, Goes-spent_ref}
-use Rattle.core.proofs.alloc.Shapes.{after}
-use Rattle.core.proofs.ptr.Rows.{times_below}
-use Rattle.std.specs.Mem.{type_size}
-use Rattle.atomic_table.proofs.Walks.{proved, leaves}
-use Rattle.handles.specs.HeaderSlice.PlacesLending.{with_items}
-use Rattle.handles.proofs.PlacesFields.{PlacesRow}
-use Rattle.handles.proofs.PlacesOpened.{places_opens, Beside, items_out, items_back}
+use denote.Ref.{MutBor}
+use denote.Signature.{mut_ref_to}
+use denote.Slice.{MutSlice}
+use denote.Triple.Walked.{Goes-spent_ref}
+use Rattle.handles.specs.Inside.PlacesLending.{with_items}
+use Rattle.handles.proofs.PlacesOpened.{Beside, items_out, items_back}
 use Rattle.handles.specs.contracts.header_slice.places.Places.slice_mut.{ended, clauses}
 use Rattle.handles.specs.contracts.header_slice.places.Places.slice_mut.Key.{name as #self}
 use Rattle.handles.proofs.header_slice.places.Places.slice_mut.Statement.{statement}

@@ -1,34 +1,9 @@
 -- `without_bytes` makes places that hold nothing yet and take no memory, at the address of an empty array.
-use Rattle.std.proofs.Common.{◌≡◌, ℕ, ◌*◌, ◌^◌, ◌<◌, Bool, [], ◌∷◌, refl, lit<, arith, w64}
-use Rattle.std.specs.Mem.{type_size}
-use Rattle.std_alloc.specs.Vec.Ownership.{owns_if}
-use mir.Syntax.{a_type, named, dcons, dnil, ty_array}
-use mir.Val.{Val, vint, vptr}
-use mir.MapTy.{inst_fn}
-use base.Logic.{SProp, emp}
-use base.Fml.{ftrue, flft, froom}
-use types.Part.{agg}
-use types.Kit.{‵, raw, ◌⊛◌, ◌$◌, ◌∵◌, !, qed, by, move, keep, drop, split, join, fjoin, use0, rewrite}
-use types.Run.{lit, stop, from, addr, no_more, and_then, returns, enter}
-use types.ByLocal.{alloc_all, pass_all, free_all, look_at, get, sets}
-use contract.Running.{tables}
-use contract.Monad.{fact, fact_i}
-use contract.BorrowLft.{◌⊑◌}
-use denote.Exit.{yes}
-use denote.RattleType.{RattleType, owns}
-use denote.Signature.{types_at, plain}
-use denote.Param.{param, layout, bounded}
-use denote.Builtin.{RefOf, usize}
-use denote.Plain.{uint_vals, uint_Tells}
-use denote.Ref.{shr_vals, shr_Tells}
-use denote.RawPtr.{block_ptr}
-use denote.Steps.{nothing as nothing_more, heard}
-use denote.Triple.Walked.{Stays, stay_dropped, walk_of, Goes-dropped}
+use Rattle.handles.proofs.PlacesWalks.{◌≡◌, ℕ, ◌^◌, ◌<◌, Bool, [], ◌∷◌, refl, lit<, arith, w64, a_type, named, Val, vint, vptr, inst_fn, SProp, emp, ftrue, flft, ‵, raw, ◌⊛◌, ◌$◌, ◌∵◌, !, qed, by, move, keep, drop, split, join, fjoin, use0, rewrite, stop, addr, lit, no_more, and_then, returns, enter, alloc_all, pass_all, free_all, look_at, get, sets, agg, tables, fact, fact_i, yes, RattleType, owns, types_at, plain, block_ptr, nothing_more, heard, param, layout, bounded, RefOf, shr_vals, shr_Tells, Stays, stay_dropped, walk_of, Goes-dropped, proved, leaves, PlacesRow, places_val, places_made, without_items, ◌*◌, type_size, owns_if, froom, ◌⊑◌, usize, uint_Tells, uint_vals, dcons, dnil, ty_array}
+use types.Run.{from}
 use Rattle.core.specs.Allocator.{array_of}
 use Rattle.std_alloc.proofs.RcSteps.{Good}
-use Rattle.atomic_table.proofs.Walks.{proved, leaves}
-use Rattle.handles.proofs.PlacesFields.{PlacesRow, places_val}
-use Rattle.handles.proofs.PlacesMade.{without_items, places_made, no_bytes, no_memory}
+use Rattle.handles.proofs.PlacesMade.{no_bytes, no_memory}
 use Rattle.handles.specs.contracts.header_slice.places.Places.without_bytes.{ended, clauses}
 use Rattle.handles.specs.contracts.header_slice.places.Places.without_bytes.Key.{name as #self}
 use Rattle.handles.proofs.header_slice.places.Places.without_bytes.Statement.{statement}

@@ -2,7 +2,7 @@
 ghost use Rattle.std.specs.Prelude.{◌≡◌, ◌⊎◌, IfSome, IfOk};
 ghost use types.Logic.{sem};
 
-use crate::arc::Arc;
+use super::Arc;
 use std::alloc::{AllocError, Global};
 
 impl<T: Send + Sync> Arc<T> {

@@ -1,7 +1,7 @@
 // Handles in place of `Default` and `From`, which take no allocator.
 ghost use Rattle.std.specs.Prelude.{◌≡◌, IfOk, IfErr};
 
-use crate::arc::Arc;
+use super::Arc;
 use std::alloc::Global;
 
 impl<T: Send + Sync + Drop> Arc<T> {

@@ -1,10 +1,13 @@
--- What a block's handle holds once a `&mut` to its value has ended: what was last written through it. Others may come then.
+-- What a block's handle holds once a `&mut` to its value has ended: what was last written through it. Others may come
+-- then.
 use Rattle.std.specs.Prelude.{false}
 use Rattle.std.specs.Borrow.{Fml, MutBor, RattleType, Lends, LendsIf}
 use Rattle.std.specs.declared.option.Option.{Option}
 use Rattle.handles.specs.declared.block.Handle.{Handle}
+use Rattle.handles.specs.declared.block.Block.{Block}
 use Rattle.handles.specs.declared.block.Held.{Held}
 use Rattle.handles.specs.contracts.block.Handle.{the_row}
+use Rattle.handles.specs.contracts.block.Block.{the_row as block_row}
 use Rattle.handles.specs.contracts.block.Held.{the_row as held_row}
 
 abbrev pub with_held : {X : Type 0} → Handle X → Held X → Handle X
@@ -13,6 +16,15 @@ with_held h w = record { block = h.block; held = w; sole = false }
 -- the limit stays
 abbrev pub with_value : {X : Type 0} → Handle X → X → Handle X
 with_value h w = with_held h (record { limit = h.held.limit; value = w })
+
+-- of a block that nobody shares
+abbrev pub LendsValue : (R : RattleType) → MutBor (Block R.Denot) → MutBor R.Denot → Fml
+LendsValue R b r = Lends (block_row R) R b r (λ w. record {
+  word = b.now.word;
+  stamp = b.now.stamp;
+  held = record { limit = b.now.held.limit; value = w };
+  alloc = b.now.alloc;
+})
 
 abbrev pub LendsHeld : (R : RattleType) → MutBor (Handle R.Denot) → MutBor (Held R.Denot) → Fml
 LendsHeld R h r = Lends (the_row R) (held_row R) h r (with_held h.now)

@@ -26,7 +26,7 @@ use Rattle.std_heap.specs.contracts.Global.{the_row as heap_row}
 use Rattle.std.specs.contracts.impls.GlobalAllocator.TheImpl.{ghosts}
 use Rattle.counting_word.specs.CountingWord.{StandsFor, IsWithin}
 use Rattle.handles.specs.contracts.block.Held.{the_row as held_row}
-use Rattle.handles.specs.Rights.{Right, nothing, a_handle, to_lower, whole_block}
+use Rattle.handles.specs.Inside.Rights.{Right, nothing, a_handle, to_lower, whole_block}
 
 abbrev pub fact : Type 0 → Fml
 fact φ = fex φ (λ _. ftrue)
@@ -67,16 +67,19 @@ Says limit w mark n = StandsFor w mark n n × IsWithin w limit
 
 -- `content` is what is lent for the lifetime of the sharing, and `kept` what stays in the invariant beside the word.
 module _ (content kept : Fml) (limit b o : ℕ) (i : Names) where
-  -- what the invariant has where n parts are counted. With the mark one more part is gone for good: it is the pool, from
-  -- which new handles are made.
+  -- what the invariant has where n parts are counted. With the mark one more part is gone for good: it is the pool,
+  -- from which new handles are made.
   abbrev pub beside_word : Bool → ℕ → Fml
-  beside_word false n = fsep (rest 64 i.shared n) (fsep (fsep (flent (i.shared ∷ []) content) kept) (flft (i.unmarked ∷ []) full_share))
-  beside_word true n = fsep (rest 64 i.shared (n + 1)) (fsep (fsep (fex Share (λ e. flft (i.shared ∷ []) e)) kept) (marked i))
+  beside_word false n = fsep (rest 64 i.shared n)
+      (fsep (fsep (flent (i.shared ∷ []) content) kept) (flft (i.unmarked ∷ []) full_share))
+  beside_word true n = fsep (rest 64 i.shared (n + 1))
+      (fsep (fsep (fex Share (λ e. flft (i.shared ∷ []) e)) kept) (marked i))
 
   -- Each counted part is of a live handle or of a drop in flight.
+  -- A block that is over has the token of `unmarked` for good: it never was marked.
   abbrev pub stage : Stage → Fml
   stage (living mark w n) = fsep (word b o w) (fsep (fact (Says limit w mark n)) (beside_word mark n))
-  stage over = unshared i
+  stage over = fsep (unshared i) (flft (i.unmarked ∷ []) full_share)
 
   abbrev pub Rule : Fml
   Rule = fex Stage stage
@@ -127,7 +130,8 @@ module _ (R : RattleType) where
 
   -- what gives the block back
   abbrev pub frees : Ptr → Global → Fml
-  frees p h = fsep (lies_at heap_row full_share (p +ₚ heap_offset) h) (fsep (ghosts.dealloc_token h block_type p) (left_at p))
+  frees p h = fsep (lies_at heap_row full_share (p +ₚ heap_offset) h)
+      (fsep (ghosts.dealloc_token h block_type p) (left_at p))
 
   abbrev pub held_and_block : Ptr → HeldRow.Denot → Fml
   held_and_block p x = fsep (lies_at HeldRow full_share (p +ₚ held_offset) x) (fex Global (frees p))
@@ -144,7 +148,8 @@ module _ (R : RattleType) where
     unshared_block w = fsep (word (block_of p) (offset_of p + 0) w) (fsep (held_and_block p x) (stamp p))
 
     abbrev pub counted_handle : Fml
-    counted_handle = fex Names (λ i. counted (held_and_block p x) (stamp p) x.limit.count (block_of p) (offset_of p + 0) i (shown p x))
+    counted_handle = fex Names (λ i.
+        counted (held_and_block p x) (stamp p) x.limit.count (block_of p) (offset_of p + 0) i (shown p x))
 
     -- The only handle of a new block has it outright, until it is first shared; the invariant is made only then.
     abbrev pub sole_or_counted : Bool → Fml
@@ -161,7 +166,8 @@ module _ (R : RattleType) where
 
     abbrev pub shared_as : Bool → Lft → Fml
     shared_as true = shown p x
-    shared_as false = some Names (λ i. counted_shares (held_and_block p x) (stamp p) x.limit.count (block_of p) (offset_of p + 0) i (shown p x))
+    shared_as false = some Names (λ i.
+        counted_shares (held_and_block p x) (stamp p) x.limit.count (block_of p) (offset_of p + 0) i (shown p x))
 
     abbrev pub handle_shares : Bool → Lft → Fml
     handle_shares sole = beside (said (placed p)) (shared_as sole)

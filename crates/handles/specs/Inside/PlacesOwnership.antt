@@ -30,12 +30,15 @@ module _ (t : Ty → Ptr → Fml) (R : RattleType) (p : Ptr) where
   -- the items lie side by side from the first place on
   abbrev pub places_own : ℕ → ℕ → List R.Denot → Fml
   places_own filled room items =
-      fsep (fits R room) (fsep (lies_at (Array R filled) full_share p items) (fsep (spare R p filled room) (gives_back R t p room)))
+      fsep (fits R room) (fsep (lies_at (Array R filled) full_share p items)
+      (fsep (spare R p filled room) (gives_back R t p room)))
 
   -- the items that are left lie side by side from the place after `taken` on
   abbrev pub leaving_own : ℕ → ℕ → ℕ → List R.Denot → Fml
   leaving_own taken filled room items =
-      fsep (fits R room) (fsep (room_for (array_of R taken) p) (fsep (lies_at (Array R (filled - taken)) full_share (p +ₚ taken * type_size R) items) (fsep (spare R p filled room) (gives_back R t p room))))
+      fsep (fits R room) (fsep (room_for (array_of R taken) p)
+      (fsep (lies_at (Array R (filled - taken)) full_share (p +ₚ taken * type_size R) items)
+      (fsep (spare R p filled room) (gives_back R t p room))))
 
 -- a `&` to the places shows their items
 abbrev pub places_share : (R : RattleType) → Ptr → ℕ → ℕ → List R.Denot → Lft → Fml

@@ -9,7 +9,7 @@
 // one thread sees on one block.
 ghost use Rattle.std.specs.Prelude.{◌≡◌, false};
 
-use crate::block::Handle;
+use super::Handle;
 
 const SIGNS: u8 = 4;
 

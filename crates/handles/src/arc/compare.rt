@@ -1,10 +1,21 @@
 // What a handle has by its value: equality, order, hash and texts.
-use crate::arc::Arc;
+use super::Arc;
 use std::cmp::Ordering;
 use std::fmt;
 use std::fmt::{Debug, Display, Formatter, Write};
 use std::hash::{Hash, Hasher};
 use std::ops::Deref;
+
+/// Asks the values, also where both are handles of one block.
+impl<T: Send + Sync + PartialEq> PartialEq for Arc<T> {
+    ghost eq = { T.eq };
+
+    ghost laws = { T.laws };
+
+    fn eq(&self, other: &Arc<T>) -> bool {
+        **self == **other
+    }
+}
 
 impl<T: Send + Sync + Eq> Eq for Arc<T> {
     ghost laws = { T.Eq.laws };

@@ -1,0 +1,7 @@
+-- What contracts inside the crate cite, and no public one.
+pub mod BlockWriteBack
+pub mod Blocks
+pub mod ItemsLending
+pub mod PlacesLending
+pub mod PlacesOwnership
+pub mod Rights

@@ -8,6 +8,7 @@
 //! of this file's own that makes the port's four steps, each `SeqCst`, in Rust, to tell what they cost by themselves.
 //! Versions of a list are also in `plain`, a `Vec` that each version copies.
 
+mod trees;
 mod versions;
 
 use std::env;
@@ -601,7 +602,10 @@ const WORKLOADS: &[Workload] = &[
 
 /// These and those of the other files.
 fn workloads() -> impl Iterator<Item = &'static Workload> {
-    WORKLOADS.iter().chain(versions::WORKLOADS)
+    WORKLOADS
+        .iter()
+        .chain(versions::WORKLOADS)
+        .chain(trees::WORKLOADS)
 }
 
 fn median(mut all: Vec<f64>) -> f64 {

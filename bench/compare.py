@@ -1,143 +1,255 @@
 #!/usr/bin/env python3
-"""Compares a program's workloads with those of a peer.
+"""Compares a program's workloads with those of each pointer that has them.
 
-`BENCH PEER WORKLOAD N` and `PROGRAM WORKLOAD N` are run in turn, and a second time the peer, as the control: what
-noise alone gives. From each run a run of no iterations is taken off, so that the preparation is not measured. Both have
-to print one checksum. It prints the nanoseconds a unit, the median of the ratios of elapsed time with their middle
-half, the median of the control's, and the same of processor time, which counts no time in which the machine was busy
-with other programs.
+`BENCH POINTER WORKLOAD N` and `PROGRAM WORKLOAD N` are run in turn: the ported crate `servo`, the program, `std`, `word`
+and `servo` again, which is the control: what noise alone gives. From each run a run of no iterations is taken off, so
+that the preparation is not measured. N is chosen so that a run of `servo` takes about --seconds, and twice as long as
+its preparation. All have to print one checksum.
 
-The status is 1 where a checksum differs or a workload that was named does not run.
+It prints the nanoseconds a unit of each, the ratio of the program's elapsed time to that of each pointer, the middle
+half of the first of these ratios and of the control, and a verdict: whether the ratio, or the nanoseconds where they are
+the goal, are within the goal. With --script it does the same for scripts, which `servo` alone runs. The verdict is
+`busy` where the control's middle half strays from 1 by more than --noise: then the machine was too busy to judge.
+
+The status is 1 where a checksum differs or a workload that was named does not run, else 3 where a goal was missed, else 4
+where a goal could not be judged.
 """
 import argparse
 import os
 import subprocess
 import sys
+import tempfile
 
 from measure import instructions, median, middle_half, ratio, timed
 
-COLUMNS = ["workload", "peer_ns", "program_ns", "ratio", "low", "high", "control", "peer_cpu_ns", "program_cpu_ns",
-           "cpu_ratio", "peer_instructions", "program_instructions"]
+PEERS = ["servo", "std", "word"]
+COLUMNS = (["workload", "program_ns"] + [peer + "_ns" for peer in PEERS] + ["ratio", "low", "high"]
+           + [peer + "_ratio" for peer in PEERS[1:]]
+           + ["control", "control_low", "control_high", "cpu_ratio", "goal", "verdict", "program_instructions"]
+           + [peer + "_instructions" for peer in PEERS])
 
 
 def arguments():
     parser = argparse.ArgumentParser(description=__doc__, formatter_class=argparse.RawDescriptionHelpFormatter)
-    parser.add_argument("bench", help="the program of the peers")
+    parser.add_argument("bench", help="the program of the pointers")
     parser.add_argument("program", help="the program that is measured")
-    parser.add_argument("workloads", nargs="*", help="all that the peer has, if none is named")
-    parser.add_argument("--peer", default="servo", help="servo, std, word or plain")
-    parser.add_argument("--repeats", type=int, default=11)
-    parser.add_argument("--scale", type=float, default=1.0, help="multiplies the iterations")
+    parser.add_argument("workloads", nargs="*", help="all that `servo` has, if none is named")
+    parser.add_argument("--script", nargs=5, action="append", default=[],
+                        metavar=("KIND", "SIZE", "FILE", "PEER", "PROGRAM"), help="also a script, run by these two")
+    parser.add_argument("--scripts-only", action="store_true", help="no workloads")
+    parser.add_argument("--goals", help="lines WORKLOAD and RATIO, or WORKLOAD and NUMBER ns, with a tab between them")
+    parser.add_argument("--repeats", type=int, default=15)
+    parser.add_argument("--seconds", type=float, default=0.12, help="about what a run of `servo` takes")
+    parser.add_argument("--noise", type=float, default=0.08)
     parser.add_argument("--instructions", action="store_true", help="counts them too, by callgrind")
     parser.add_argument("--table", help="a file for the figures, a line a workload, with tabs")
     return parser.parse_args()
 
 
-def workloads_of(bench, peer):
-    """The units and the iterations of each workload that the peer has."""
+def read_goals(path):
+    """The greatest ratio, or the most nanoseconds, of each workload that has a goal."""
+    found = {}
+    if path:
+        with open(path, encoding="utf-8") as file:
+            for line in file:
+                name, goal = line.rstrip("\n").split("\t")
+                found[name] = (float(goal.removesuffix(" ns")), goal.endswith(" ns"))
+    return found
+
+
+def workloads_of(bench):
+    """The units, the iterations and the pointers of each workload."""
     listed = subprocess.run([bench, "list"], capture_output=True, text=True, check=True).stdout
     found = {}
     for line in listed.splitlines():
         name, units, iterations, peers = line.split()
-        if peer in peers.split(","):
-            found[name] = (int(units), int(iterations))
+        if PEERS[0] in peers.split(","):
+            found[name] = (int(units), int(iterations), [p for p in PEERS if p in peers.split(",")])
     return found
 
 
-def checksum(command):
-    done = timed(command)[0]
-    return done.stdout.strip() if done.returncode == 0 else None
+class Workload:
+    """One workload, as each program runs it."""
+
+    def __init__(self, bench, program, name, known):
+        self.name = name
+        self.units, self.iterations, self.peers = known
+        self.commands = {peer: [bench, peer, name] for peer in self.peers}
+        self.commands["program"] = [program, name]
+
+    def wrong(self):
+        """What is wrong with the program's checksum, or None."""
+        few = [str(min(self.iterations, 1000))]
+        found = {}
+        for who, command in self.commands.items():
+            done = timed(command + few)[0]
+            found[who] = done.stdout if done.returncode == 0 else None
+        if found["program"] is None:
+            return "does not run"
+        return None if len(set(found.values())) == 1 else "has another checksum"
+
+    def run(self, who, iterations):
+        """The elapsed and the processor seconds of the iterations alone."""
+        none = timed(self.commands[who] + ["0"])
+        some = timed(self.commands[who] + [str(iterations)])
+        return some[1] - none[1], some[2] - none[2]
+
+    def prepare(self, seconds):
+        """Chooses the iterations. A long preparation wants more of them, or its noise would drown them."""
+        none = timed(self.commands[PEERS[0]] + ["0"])[1]
+        taken = max(self.run(PEERS[0], self.iterations)[0], 1e-4)
+        self.iterations = max(1, round(self.iterations * max(seconds, 2 * none) / taken))
+        self.count = self.units * self.iterations
+
+    def measure(self, who):
+        return self.run(who, self.iterations)
+
+    def instructions(self):
+        few = max(1, self.iterations // 100)
+        for who, command in self.commands.items():
+            none, some = instructions(command + ["0"]), instructions(command + [str(few)])
+            if None not in (none, some):
+                yield who + "_instructions", (some - none) / (few * self.units)
 
 
-def net(command, iterations):
-    """The elapsed and the processor seconds of the iterations alone."""
-    none = timed(command + ["0"])
-    some = timed(command + [str(iterations)])
-    return some[1] - none[1], some[2] - none[2]
+class Script:
+    """A script, as the program and its peer run it."""
+
+    def __init__(self, kind, size, script, peer, program):
+        self.name = "script-" + kind
+        self.script = script
+        self.peers = PEERS[:1]
+        self.commands = {PEERS[0]: [os.path.abspath(peer), kind, size], "program": [os.path.abspath(program), kind, size]}
+        with open(script, "rb") as file:
+            self.count = file.read().count(b"\n")
+
+    def run(self, who, script, made):
+        with open(script, "rb") as given:
+            made.seek(0)
+            made.truncate()
+            return timed(self.commands[who], given, made)
+
+    def wrong(self):
+        found = set()
+        for who in self.commands:
+            with tempfile.TemporaryFile() as made:
+                status = self.run(who, self.script, made)[0].returncode
+                made.seek(0)
+                found.add((status, made.read()))
+        return None if len(found) == 1 else "has another output or status"
+
+    def prepare(self, seconds):
+        pass
+
+    def measure(self, who):
+        with tempfile.TemporaryFile() as made:
+            none, some = self.run(who, os.devnull, made), self.run(who, self.script, made)
+        return some[1] - none[1], some[2] - none[2]
+
+    def instructions(self):
+        return ()
 
 
-def net_instructions(command, iterations):
-    none, some = instructions(command + ["0"]), instructions(command + [str(iterations)])
-    return None if None in (none, some) else some - none
-
-
-def measured(commands, units, iterations, repeats):
-    """The figures of one workload. The commands are the peer, the program and the peer again."""
+def measured(workload, repeats):
+    """The figures of one workload, of all programs in turn."""
+    turns = [PEERS[0], "program"] + workload.peers[1:] + ["control"]
     runs = []
     for k in range(repeats):
-        order = range(3) if k % 2 == 0 else reversed(range(3))
-        found = {which: net(commands[which], iterations) for which in order}
-        runs.append([found[which] for which in range(3)])
-    ratios = [ratio(r[1][0], r[0][0]) for r in runs]
-    low, high = middle_half(ratios)
+        order = turns if k % 2 == 0 else turns[::-1]
+        runs.append({who: workload.measure(PEERS[0] if who == "control" else who) for who in order})
 
-    def ns(which, clock):
-        return median([r[which][clock] for r in runs]) / (units * iterations) * 1e9
+    def ratios(one, other, clock=0):
+        return [ratio(run[one][clock], run[other][clock]) for run in runs]
 
-    return {
-        "peer_ns": ns(0, 0), "program_ns": ns(1, 0), "peer_cpu_ns": ns(0, 1), "program_cpu_ns": ns(1, 1),
-        "ratio": median(ratios), "low": low, "high": high,
-        "control": median([ratio(r[2][0], r[0][0]) for r in runs]),
-        "cpu_ratio": median([ratio(r[1][1], r[0][1]) for r in runs]),
-    }
+    figures = {who + "_ns": median([run[who][0] for run in runs]) / workload.count * 1e9 for who in workload.commands}
+    ours, control = ratios("program", PEERS[0]), ratios("control", PEERS[0])
+    figures["ratio"], figures["control"] = median(ours), median(control)
+    figures["low"], figures["high"] = middle_half(ours)
+    figures["control_low"], figures["control_high"] = middle_half(control)
+    figures["cpu_ratio"] = median(ratios("program", PEERS[0], 1))
+    figures.update({peer + "_ratio": median(ratios("program", peer)) for peer in workload.peers[1:]})
+    return figures
 
 
-def counted(commands, units, iterations):
-    few = max(1, iterations // 100)
-    found = {}
-    for name, command in zip(("peer_instructions", "program_instructions"), commands):
-        count = net_instructions(command, few)
-        if count is not None:
-            found[name] = count / (few * units)
-    return found
+def judge(figures, goal, noise):
+    """Adds the verdict. A goal in nanoseconds is met or missed on a busy machine too, which only slows a program."""
+    if goal is None:
+        figures["verdict"] = "no goal"
+        return
+    most, in_ns = goal
+    figures["goal"] = f"{most:.2f} ns" if in_ns else f"{most:.2f}"
+    strays = max(figures["control_high"] - 1, 1 - figures["control_low"])
+    if (figures["program_ns"] if in_ns else figures["ratio"]) <= most:
+        figures["verdict"] = "met" if in_ns or strays <= noise else "busy"
+    else:
+        figures["verdict"] = "missed" if strays <= noise else "busy"
+
+
+HEAD = (f"{'workload':<16} {'program':>9} {'servo':>9} {'std':>9} {'word':>9} {'/servo':>7} {'middle half':>13}"
+        f" {'/std':>6} {'/word':>6} {'control':>21} {'goal':>8} verdict")
 
 
 def shown(name, figures):
-    line = (f"{name:<16} {figures['peer_ns']:>9.2f} {figures['program_ns']:>10.2f} {figures['ratio']:>7.2f}"
-            f"   {figures['low']:.2f} .. {figures['high']:.2f} {figures['control']:>8.2f}"
-            f"   {figures['peer_cpu_ns']:>8.2f} {figures['program_cpu_ns']:>8.2f} {figures['cpu_ratio']:>6.2f}")
-    if "program_instructions" in figures and "peer_instructions" in figures:
-        line += f"   {figures['peer_instructions']:.1f} -> {figures['program_instructions']:.1f}"
-    return line
+    def number(column, width):
+        return f"{figures[column]:>{width}.2f}" if column in figures else " " * (width - 1) + "-"
+
+    line = " ".join([f"{name:<16}", number("program_ns", 9)] + [number(peer + "_ns", 9) for peer in PEERS]
+                    + [number("ratio", 7), f"{figures['low']:.2f} .. {figures['high']:.2f}".rjust(13)]
+                    + [number(peer + "_ratio", 6) for peer in PEERS[1:]]
+                    + [f"{figures['control']:.2f} ({figures['control_low']:.2f} .. {figures['control_high']:.2f})".rjust(21),
+                       f"{figures.get('goal', '-'):>8}", figures["verdict"]])
+    counts = [f"{who} {figures[who + '_instructions']:.1f}" for who in ["program"] + PEERS
+              if who + "_instructions" in figures]
+    return line + ("   instructions: " + ", ".join(counts) if counts else "")
 
 
 def write_table(path, rows):
     with open(path, "w", encoding="utf-8") as file:
         file.write("\t".join(COLUMNS) + "\n")
         for name, figures in rows:
-            cells = [f"{figures[c]:.3f}" if c in figures else "" for c in COLUMNS[1:]]
-            file.write("\t".join([name] + cells) + "\n")
+            cells = [figures.get(column, "") for column in COLUMNS[1:]]
+            file.write("\t".join([name] + [c if isinstance(c, str) else f"{c:.3f}" for c in cells]) + "\n")
+
+
+def chosen(asked):
+    """The workloads that were asked for, and how many names there are none of."""
+    bench, program = os.path.abspath(asked.bench), os.path.abspath(asked.program)
+    known = workloads_of(bench)
+    found, wrong = [], 0
+    for name in [] if asked.scripts_only else asked.workloads or known:
+        if name in known:
+            found.append(Workload(bench, program, name, known[name]))
+        else:
+            print(f"{name:<16} is none of {PEERS[0]}")
+            wrong += 1
+    return found + [Script(*words) for words in asked.script], wrong
 
 
 def main():
     asked = arguments()
-    bench, program = os.path.abspath(asked.bench), os.path.abspath(asked.program)
-    known = workloads_of(bench, asked.peer)
-    rows, wrong = [], 0
-    print(f"{'workload':<16} {'peer ns':>9} {'program ns':>10} {'ratio':>7}   {'middle half':<12} {'control':>8}"
-          f"   {'peer cpu':>8} {'program':>8} {'ratio':>6}" + ("   instructions" if asked.instructions else ""))
-    for name in asked.workloads or known:
-        if name not in known:
-            print(f"{name:<16} is none of {asked.peer}")
+    goals = read_goals(asked.goals)
+    workloads, wrong = chosen(asked)
+    rows = []
+    print("nanoseconds a unit, and the ratio of the program's elapsed time to that of each\n" + HEAD)
+    for workload in workloads:
+        complaint = workload.wrong()
+        if complaint:
+            print(f"{workload.name:<16} {complaint}")
             wrong += 1
             continue
-        units, iterations = known[name]
-        iterations = max(1, int(iterations * asked.scale))
-        peer, ours = [bench, asked.peer, name], [program, name]
-        few = [str(min(iterations, 1000))]
-        expected, got = checksum(peer + few), checksum(ours + few)
-        if got is None or got != expected:
-            print(f"{name:<16} {'has another checksum' if got else 'does not run'}")
-            wrong += 1
-            continue
-        figures = measured([peer, ours, peer], units, iterations, asked.repeats)
+        workload.prepare(asked.seconds)
+        figures = measured(workload, asked.repeats)
+        judge(figures, goals.get(workload.name), asked.noise)
         if asked.instructions:
-            figures.update(counted([peer, ours], units, iterations))
-        rows.append((name, figures))
-        print(shown(name, figures), flush=True)
+            figures.update(workload.instructions())
+        rows.append((workload.name, figures))
+        print(shown(workload.name, figures), flush=True)
     if asked.table:
         write_table(asked.table, rows)
-    sys.exit(1 if wrong else 0)
+    verdicts = [figures["verdict"] for _, figures in rows]
+    met, missed, busy = (verdicts.count(word) for word in ("met", "missed", "busy"))
+    print(f"{met} goals met, {missed} missed, {busy} not judged" + (": the machine was too busy" if busy else ""))
+    sys.exit(1 if wrong else 3 if missed else 4 if busy else 0)
 
 
 main()

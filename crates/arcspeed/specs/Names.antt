@@ -1,7 +1,7 @@
 -- How the workloads are called.
 use Rattle.std.specs.Prelude.{ℕ, List, codes}
 use Rattle.arcspeed.specs.declared.workload.Workload.{Workload}
-use Rattle.arcspeed.specs.declared.workload.Workload.TheVariants.{NewDrop, Replace, CloneDrop, CloneHold, DerefSum, MakeMutUnique, MakeMutShared, GetMutUnique, Contend1, Contend2, Contend4, HeaderBuild, HeaderSum, MarkedClone, MarkedClone4, UnionClone, CowVersion, CowSet, CowGet}
+use Rattle.arcspeed.specs.declared.workload.Workload.TheVariants.{NewDrop, Replace, CloneDrop, CloneHold, DerefSum, MakeMutUnique, MakeMutShared, GetMutUnique, Contend1, Contend2, Contend4, HeaderBuild, HeaderSum, MarkedClone, MarkedClone4, UnionClone, CowVersion, CowSet, CowGet, TreeInsert, TreeGet, ListBuild, ListWalk}
 
 abbrev pub name_of : Workload → List ℕ
 name_of NewDrop = codes "new-drop"
@@ -23,3 +23,7 @@ name_of UnionClone = codes "union-clone"
 name_of CowVersion = codes "cow-version"
 name_of CowSet = codes "cow-set"
 name_of CowGet = codes "cow-get"
+name_of TreeInsert = codes "tree-insert"
+name_of TreeGet = codes "tree-get"
+name_of ListBuild = codes "list-build"
+name_of ListWalk = codes "list-walk"

@@ -6,10 +6,12 @@
 mod cloned;
 mod fault;
 mod header;
+mod lists;
 mod made;
 mod random;
 mod read;
 mod threads;
+mod trees;
 mod union;
 mod versions;
 mod workload;
@@ -64,6 +66,10 @@ fn checksum<R: Threads + Wait + Sync>(
         Workload::CowVersion => versions::cow_version(alloc, iterations),
         Workload::CowSet => versions::cow_set(alloc, iterations),
         Workload::CowGet => versions::cow_get(alloc, iterations),
+        Workload::TreeInsert => trees::tree_insert(alloc, iterations),
+        Workload::TreeGet => trees::tree_get(alloc, iterations),
+        Workload::ListBuild => lists::list_build(alloc, iterations),
+        Workload::ListWalk => lists::list_walk(alloc, iterations),
     }
 }
 

@@ -23,6 +23,10 @@ pub enum Workload {
     CowVersion,
     CowSet,
     CowGet,
+    TreeInsert,
+    TreeGet,
+    ListBuild,
+    ListWalk,
 }
 
 impl Workload {
@@ -53,6 +57,10 @@ impl Workload {
             "cow-version" => Workload::CowVersion,
             "cow-set" => Workload::CowSet,
             "cow-get" => Workload::CowGet,
+            "tree-insert" => Workload::TreeInsert,
+            "tree-get" => Workload::TreeGet,
+            "list-build" => Workload::ListBuild,
+            "list-walk" => Workload::ListWalk,
             _ => return None,
         })
     }

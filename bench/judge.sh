@@ -1,0 +1,26 @@
+#!/bin/sh
+# judge.sh SOURCE [OPTION..]
+#
+# Builds all that is measured, and measures it: each workload and both scripts, beside each pointer, with a verdict by
+# goals.tsv. SOURCE is the source file of the crate that was ported. The options go to compare.py, as --instructions. It
+# takes about ten minutes once the crates are proved; BENCH_OUT is where it builds, bench/out if it is not set.
+set -eu
+if [ $# -lt 1 ]; then
+    echo "usage: judge.sh SOURCE [OPTION..]" >&2
+    exit 2
+fi
+here=$(cd "$(dirname "$0")" && pwd)
+out=${BENCH_OUT:-$here/out}
+source=$1
+shift
+mkdir -p "$out"
+"$here/build_peers.sh" "$out" "$source"
+(cd "$here/../crates/arcspeed" && rt run -- new-drop 0) >/dev/null
+"$here/../arcbench" core 1 </dev/null
+for kind in core table; do
+    "$here/make_script.py" "$kind" 1000000 >"$out/$kind.txt"
+done
+arcbench=$here/../out/arcbench
+exec "$here/compare.py" "$out/bench" "$here/../crates/arcspeed/out/arcspeed" --goals "$here/goals.tsv" \
+    --script core 8 "$out/core.txt" "$out/script" "$arcbench" \
+    --script table 1000 "$out/table.txt" "$out/script" "$arcbench" "$@"

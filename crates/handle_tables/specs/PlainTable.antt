@@ -68,14 +68,18 @@ module _ {V : Type 0} where
   is_own (Own i) = true
   is_own _ = false
 
+  -- the command of the same name
+  abbrev pub command_of : PlainCommand V → Command V
+  command_of (plain.New i v) = New i v
+  command_of (plain.Clone i j) = Clone i j
+  command_of (plain.Drop i) = Drop i
+  command_of (plain.GetMut i v) = GetMut i v
+  command_of (plain.IntoUnique i v) = IntoUnique i v
+  command_of (plain.Mark i) = Mark i
+  command_of (plain.Raw i) = Raw i
+  command_of (plain.PtrEq i j) = PtrEq i j
+  command_of (plain.Same i j) = Same i j
+
   -- a plain command means what the command of its name means
   abbrev pub plain_outcomes_of : (V → V → Bool) → PlainCommand V → Meaning V
-  plain_outcomes_of equal (plain.New i v) = outcomes_of equal (New i v)
-  plain_outcomes_of equal (plain.Clone i j) = outcomes_of equal (Clone i j)
-  plain_outcomes_of equal (plain.Drop i) = outcomes_of equal (Drop i)
-  plain_outcomes_of equal (plain.GetMut i v) = outcomes_of equal (GetMut i v)
-  plain_outcomes_of equal (plain.IntoUnique i v) = outcomes_of equal (IntoUnique i v)
-  plain_outcomes_of equal (plain.Mark i) = outcomes_of equal (Mark i)
-  plain_outcomes_of equal (plain.Raw i) = outcomes_of equal (Raw i)
-  plain_outcomes_of equal (plain.PtrEq i j) = outcomes_of equal (PtrEq i j)
-  plain_outcomes_of equal (plain.Same i j) = outcomes_of equal (Same i j)
+  plain_outcomes_of equal command = outcomes_of equal (command_of command)

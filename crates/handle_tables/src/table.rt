@@ -7,6 +7,7 @@ ghost use Rattle.handle_tables.specs.PlainTable.{is_own, outcomes_of, plain_outc
 ghost use Rattle.handle_tables.specs.Runs.{IsAmong, Run};
 
 pub use crate::commands::{Command, PlainCommand, Reply};
+pub use crate::laws;
 use crate::slots;
 pub use crate::union_commands::UnionCommand;
 pub use crate::union_table::UnionTable;

@@ -1,6 +1,6 @@
 //! What no clause says: that commands are served where memory is ample, and which of two allowed
 //! replies comes when.
-use crate::table::{Command, PlainCommand, Reply, Table};
+use crate::table::{Command, PlainCommand, Reply, Table, laws};
 use std::alloc::AllocError;
 use std::test::Fail;
 
@@ -246,4 +246,11 @@ fn a_refused_copy_changes_nothing(rt: HostRuntime) -> Result<(), Fail> {
 #[test]
 fn a_table_that_no_memory_holds_is_refused(rt: HostRuntime) {
     assert!(rt; Table::<u32>::new(rt.alloc(), usize::MAX).is_err());
+}
+
+#[test]
+fn the_laws_hold_at_types() {
+    laws::number_of_slots_stays::<u32, u32, u8>();
+    laws::other_slots_stay::<u32, u32, u8>();
+    laws::only_done_changes::<u32, u32, u8>();
 }

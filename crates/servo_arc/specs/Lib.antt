@@ -22,6 +22,7 @@ pub use Rattle.handles.specs.declared.header_slice.build.BuildError
 pub use Rattle.handle_tables.specs.PlainTable
 pub use Rattle.handle_tables.specs.PlainUnionTable
 pub use Rattle.handle_tables.specs.Runs
+pub use Rattle.handle_tables.specs.TableLaws
 pub use Rattle.handle_tables.specs.declared.commands.Command
 pub use Rattle.handle_tables.specs.declared.commands.PlainCommand
 pub use Rattle.handle_tables.specs.declared.commands.Reply

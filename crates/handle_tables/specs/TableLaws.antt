@@ -1,0 +1,47 @@
+-- What commands never do to slots, whatever they mean.
+use Rattle.std.specs.Prelude.{◌≡◌, ◌≢◌, ℕ, List, Option, Some, None, length, slice_get}
+use Rattle.handle_tables.specs.declared.commands.Command.{Command}
+use Rattle.handle_tables.specs.declared.commands.Command.TheVariants.{New, Clone, Drop, GetMut, IntoUnique, MakeMut}
+use Rattle.handle_tables.specs.declared.commands.PlainCommand.{PlainCommand}
+use Rattle.handle_tables.specs.declared.commands.Reply.{Reply}
+use Rattle.handle_tables.specs.declared.commands.Reply.TheVariants.{Done}
+use Rattle.handle_tables.specs.declared.union_commands.UnionCommand.{UnionCommand}
+use Rattle.handle_tables.specs.declared.union_commands.UnionCommand.TheVariants as union
+use Rattle.handle_tables.specs.PlainTable.{Slots, Meaning, command_of}
+use Rattle.handle_tables.specs.Runs.{IsAmong, Run}
+
+-- the slot that a command writes, if it writes one
+abbrev pub written : {V : Type 0} → Command V → Option ℕ
+written (New i v) = Some i
+written (Clone i j) = Some j
+written (Drop i) = Some i
+written (GetMut i v) = Some i
+written (IntoUnique i v) = Some i
+written (MakeMut i v) = Some i
+written _ = None
+
+abbrev pub plain_written : {V : Type 0} → PlainCommand V → Option ℕ
+plain_written command = written (command_of command)
+
+abbrev pub union_written : {A B : Type 0} → UnionCommand A B → Option ℕ
+union_written (union.First i a) = Some i
+union_written (union.Second i b) = Some i
+union_written (union.Clone i j) = Some j
+union_written (union.Drop i) = Some i
+union_written _ = None
+
+module _ {C V : Type 0} (meaning : C → Meaning V) where
+  abbrev pub NumberOfSlotsStays : Type 0
+  NumberOfSlotsStays =
+      (commands : List C) (old new : Slots V) (replies : List Reply)
+      → Run meaning commands old replies new → length new ≡ length old
+
+  abbrev pub OtherSlotsStay : (C → Option ℕ) → Type 0
+  OtherSlotsStay written_by =
+      (command : C) (old new : Slots V) (reply : Reply) (i : ℕ)
+      → IsAmong (meaning command old) reply new → written_by command ≢ Some i → slice_get new i ≡ slice_get old i
+
+  abbrev pub OnlyDoneChanges : Type 0
+  OnlyDoneChanges =
+      (command : C) (old new : Slots V) (reply : Reply)
+      → IsAmong (meaning command old) reply new → reply ≢ Done → new ≡ old

@@ -49,11 +49,23 @@ module _ {V : Type 0} where
   abbrev pub reading : Slots V → ℕ → (V → List (Outcome V)) → List (Outcome V)
   reading slots i outcomes = if_filled slots (slice_get slots i) outcomes
 
+  -- slot j gets a clone of slot i's handle
+  abbrev pub clones : ℕ → ℕ → Meaning V
+  clones i j slots = at slots j (reading slots i (λ v. sets slots j v ∷ stays slots Refused ∷ []))
+
+  -- slot i's handle ends
+  abbrev pub ends : ℕ → Meaning V
+  ends i slots = reading slots i (λ _. empties slots i ∷ [])
+
+  -- whether two slots have equal values
+  abbrev pub compares : (V → V → Bool) → ℕ → ℕ → Meaning V
+  compares equal i j slots = at slots j (reading slots i (λ v. reading slots j (λ w. stays slots (Is (equal v w)) ∷ [])))
+
   -- what each command means, over values with this equality
   abbrev pub outcomes_of : (V → V → Bool) → Command V → Meaning V
   outcomes_of equal (New i v) slots = at slots i (sets slots i v ∷ stays slots Refused ∷ [])
-  outcomes_of equal (Clone i j) slots = at slots j (reading slots i (λ v. sets slots j v ∷ stays slots Refused ∷ []))
-  outcomes_of equal (Drop i) slots = reading slots i (λ _. empties slots i ∷ [])
+  outcomes_of equal (Clone i j) slots = clones i j slots
+  outcomes_of equal (Drop i) slots = ends i slots
   outcomes_of equal (GetMut i w) slots = reading slots i (λ _. sets slots i w ∷ stays slots Shared ∷ [])
   outcomes_of equal (IntoUnique i w) slots = reading slots i (λ _. sets slots i w ∷ stays slots Shared ∷ [])
   outcomes_of equal (MakeMut i w) slots = reading slots i (λ _. sets slots i w ∷ stays slots Refused ∷ [])
@@ -61,7 +73,7 @@ module _ {V : Type 0} where
   outcomes_of equal (Mark i) slots = reading slots i (λ _. stays slots Done ∷ [])
   outcomes_of equal (Raw i) slots = reading slots i (λ _. stays slots Done ∷ [])
   outcomes_of equal (PtrEq i j) slots = at slots j (reading slots i (λ _. reading slots j (λ _. stays slots (Is true) ∷ stays slots (Is false) ∷ [])))
-  outcomes_of equal (Same i j) slots = at slots j (reading slots i (λ v. reading slots j (λ w. stays slots (Is (equal v w)) ∷ [])))
+  outcomes_of equal (Same i j) slots = compares equal i j slots
 
   -- only Own may leave a copy in its slot
   abbrev pub is_own : Command V → Bool

@@ -4,7 +4,7 @@ use Rattle.handles.specs.Unions.{Union, First, Second, is_first, is_second, unio
 use Rattle.handle_tables.specs.declared.commands.Reply.TheVariants.{Is, Refused}
 use Rattle.handle_tables.specs.declared.union_commands.UnionCommand.{UnionCommand}
 use Rattle.handle_tables.specs.declared.union_commands.UnionCommand.TheVariants as command
-use Rattle.handle_tables.specs.PlainTable.{Slots, Outcome, Meaning, at, reading, sets, empties, stays}
+use Rattle.handle_tables.specs.PlainTable.{Slots, Outcome, Meaning, at, reading, sets, stays, clones, ends, compares}
 
 module _ {A B : Type 0} where
   -- whether two handles are of one block is open, but no block is of both kinds
@@ -22,11 +22,11 @@ module _ {A B : Type 0} (first_eq : A → A → Bool) (second_eq : B → B → B
   abbrev pub union_outcomes_of : UnionCommand A B → Meaning (Union A B)
   union_outcomes_of (command.First i a) slots = at slots i (sets slots i (First a) ∷ stays slots Refused ∷ [])
   union_outcomes_of (command.Second i b) slots = at slots i (sets slots i (Second b) ∷ stays slots Refused ∷ [])
-  union_outcomes_of (command.Clone i j) slots = at slots j (reading slots i (λ u. sets slots j u ∷ stays slots Refused ∷ []))
-  union_outcomes_of (command.Drop i) slots = reading slots i (λ _. empties slots i ∷ [])
+  union_outcomes_of (command.Clone i j) slots = clones i j slots
+  union_outcomes_of (command.Drop i) slots = ends i slots
   union_outcomes_of (command.IsFirst i) slots = reading slots i (λ u. stays slots (Is (is_first u)) ∷ [])
   union_outcomes_of (command.IsSecond i) slots = reading slots i (λ u. stays slots (Is (is_second u)) ∷ [])
   union_outcomes_of (command.ReadFirst i a) slots = reading slots i (λ u. stays slots (Is (equal u (First a))) ∷ [])
   union_outcomes_of (command.ReadSecond i b) slots = reading slots i (λ u. stays slots (Is (equal u (Second b))) ∷ [])
   union_outcomes_of (command.PtrEq i j) slots = at slots j (reading slots i (λ u. reading slots j (λ w. of_one_block slots u w)))
-  union_outcomes_of (command.Same i j) slots = at slots j (reading slots i (λ u. reading slots j (λ w. stays slots (Is (equal u w)) ∷ [])))
+  union_outcomes_of (command.Same i j) slots = compares equal i j slots

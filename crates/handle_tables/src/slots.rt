@@ -1,7 +1,7 @@
 //! What each command does to the slots.
 ghost use Rattle.std.specs.Prelude.{◌≡◌, ◌<◌, ◌↔◌, IfErr, IfOk, IsOk, None, OnErr, OnOk, Some, length, replicate, slice_set};
 ghost use Rattle.handles.specs.Copies.{CopiesAreEqual};
-ghost use Rattle.handle_tables.specs.PlainTable.{outcomes_of};
+ghost use Rattle.handle_tables.specs.PlainTable.{clones, compares, ends, outcomes_of};
 ghost use Rattle.handle_tables.specs.Runs.{IsAmong};
 
 use crate::commands::{Command, Reply};
@@ -53,12 +53,9 @@ pub(crate) fn start<T: Send + Sync + PartialEq + Drop>(
 }
 
 #[inline]
-pub(crate) fn clone_handle<T: Send + Sync + PartialEq + Drop>(
-    slots: &mut [Option<Arc<T>>],
-    i: usize,
-    j: usize,
-) -> Reply
-    ensures { IsAmong (outcomes_of T.eq (Command.Clone i j) slots.old) result slots.new }
+pub(crate) fn clone_handle<H: Clone>(slots: &mut [Option<H>], i: usize, j: usize) -> Reply
+    requires { CopiesAreEqual H.is_clone }
+    ensures { IsAmong (clones i j slots.old) result slots.new }
 {
     let (Some(source), Some(_)) = (slots.get(i), slots.get(j)) else {
         return Reply::NoSlot;
@@ -74,11 +71,8 @@ pub(crate) fn clone_handle<T: Send + Sync + PartialEq + Drop>(
 }
 
 #[inline]
-pub(crate) fn end<T: Send + Sync + PartialEq + Drop>(
-    slots: &mut [Option<Arc<T>>],
-    i: usize,
-) -> Reply
-    ensures { IsAmong (outcomes_of T.eq (Command.Drop i) slots.old) result slots.new }
+pub(crate) fn end<H: Drop>(slots: &mut [Option<H>], i: usize) -> Reply
+    ensures { IsAmong (ends i slots.old) result slots.new }
 {
     match slots.get(i) {
         None => Reply::NoSlot,
@@ -235,12 +229,8 @@ pub(crate) fn ptr_eq<T: Send + Sync + PartialEq + Drop>(
 }
 
 #[inline]
-pub(crate) fn same<T: Send + Sync + PartialEq + Drop>(
-    slots: &[Option<Arc<T>>],
-    i: usize,
-    j: usize,
-) -> Reply
-    ensures { IsAmong (outcomes_of T.eq (Command.Same i j) slots.now) result slots.now }
+pub(crate) fn same<H: PartialEq>(slots: &[Option<H>], i: usize, j: usize) -> Reply
+    ensures { IsAmong (compares H.eq i j slots.now) result slots.now }
 {
     let (Some(a), Some(b)) = (slots.get(i), slots.get(j)) else {
         return Reply::NoSlot;

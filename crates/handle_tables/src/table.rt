@@ -91,6 +91,7 @@ impl<T: Send + Sync + PartialEq + Drop> Table<T> {
     /// Runs commands in order and gives a reply to each.
     ///
     /// The room for the replies is reserved first: where it is refused, no command was served.
+    /// What [`Table::run`] says of locks and atomics holds here too.
     pub fn run_plain(
         &mut self,
         alloc: Global,
@@ -135,7 +136,9 @@ impl<T: Send + Sync + Clone + PartialEq> Table<T> {
     ///
     /// The room for the replies is reserved first: where it is refused, no command was served.
     ///
-    /// [`Command::Own`] is only for types whose copies are the same value.
+    /// [`Command::Own`] is only for types whose copies are the same value. The values of a table hold no lock and no
+    /// atomic: what a lock guards or an atomic holds is written through a shared handle, so that every slot of that
+    /// block reads the change, and no clause speaks of it.
     pub fn run(
         &mut self,
         alloc: Global,

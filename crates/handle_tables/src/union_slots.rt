@@ -47,44 +47,6 @@ pub(crate) fn second<A: Send + Sync + PartialEq + Drop, B: Send + Sync + Partial
 }
 
 #[inline]
-pub(crate) fn clone_handle<A: Send + Sync + PartialEq + Drop, B: Send + Sync + PartialEq + Drop>(
-    slots: &mut [Option<ArcUnion<A, B>>],
-    i: usize,
-    j: usize,
-) -> Reply
-    ensures { IsAmong (union_outcomes_of A.eq B.eq (UnionCommand.Clone i j) slots.old) result slots.new }
-{
-    let (Some(source), Some(_)) = (slots.get(i), slots.get(j)) else {
-        return Reply::NoSlot;
-    };
-    let Some(source) = source else {
-        return Reply::Empty;
-    };
-    let Ok(handle) = source.clone() else {
-        return Reply::Refused;
-    };
-    slots[j] = Some(handle);
-    Reply::Done
-}
-
-#[inline]
-pub(crate) fn end<A: Send + Sync + PartialEq + Drop, B: Send + Sync + PartialEq + Drop>(
-    slots: &mut [Option<ArcUnion<A, B>>],
-    i: usize,
-) -> Reply
-    ensures { IsAmong (union_outcomes_of A.eq B.eq (UnionCommand.Drop i) slots.old) result slots.new }
-{
-    match slots.get(i) {
-        None => Reply::NoSlot,
-        Some(None) => Reply::Empty,
-        Some(Some(_)) => {
-            slots[i] = None;
-            Reply::Done
-        }
-    }
-}
-
-#[inline]
 pub(crate) fn is_first<A: Send + Sync + PartialEq, B: Send + Sync + PartialEq>(
     slots: &[Option<ArcUnion<A, B>>],
     i: usize,
@@ -167,21 +129,4 @@ pub(crate) fn ptr_eq<A: Send + Sync + PartialEq, B: Send + Sync + PartialEq>(
         return Reply::Empty;
     };
     Reply::Is(ArcUnion::ptr_eq(a, b))
-}
-
-#[inline]
-pub(crate) fn same<A: Send + Sync + PartialEq, B: Send + Sync + PartialEq>(
-    slots: &[Option<ArcUnion<A, B>>],
-    i: usize,
-    j: usize,
-) -> Reply
-    ensures { IsAmong (union_outcomes_of A.eq B.eq (UnionCommand.Same i j) slots.now) result slots.now }
-{
-    let (Some(a), Some(b)) = (slots.get(i), slots.get(j)) else {
-        return Reply::NoSlot;
-    };
-    let (Some(a), Some(b)) = (a, b) else {
-        return Reply::Empty;
-    };
-    Reply::Is(*a == *b)
 }

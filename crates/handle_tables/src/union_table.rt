@@ -77,20 +77,21 @@ impl<A: Send + Sync + PartialEq + Drop, B: Send + Sync + PartialEq + Drop> Union
         match command {
             UnionCommand::First(i, a) => union_slots::first(&mut self.slots, alloc, i, a),
             UnionCommand::Second(i, b) => union_slots::second(&mut self.slots, alloc, i, b),
-            UnionCommand::Clone(i, j) => union_slots::clone_handle(&mut self.slots, i, j),
-            UnionCommand::Drop(i) => union_slots::end(&mut self.slots, i),
+            UnionCommand::Clone(i, j) => slots::clone_handle(&mut self.slots, i, j),
+            UnionCommand::Drop(i) => slots::end(&mut self.slots, i),
             UnionCommand::IsFirst(i) => union_slots::is_first(&self.slots, i),
             UnionCommand::IsSecond(i) => union_slots::is_second(&self.slots, i),
             UnionCommand::ReadFirst(i, a) => union_slots::read_first(&self.slots, i, &a),
             UnionCommand::ReadSecond(i, b) => union_slots::read_second(&self.slots, i, &b),
             UnionCommand::PtrEq(i, j) => union_slots::ptr_eq(&self.slots, i, j),
-            UnionCommand::Same(i, j) => union_slots::same(&self.slots, i, j),
+            UnionCommand::Same(i, j) => slots::same(&self.slots, i, j),
         }
     }
 
     /// Runs commands in order and gives a reply to each, as [`UnionTable::serve`] does.
     ///
     /// The room for the replies is reserved first: where it is refused, no command was served.
+    /// What [`Table::run`](crate::table::Table::run) says of locks and atomics holds here too.
     pub fn run(
         &mut self,
         alloc: Global,

@@ -2,15 +2,13 @@
 use Rattle.std.proofs.Common.{◌≡◌, ◌≢◌, ◌⊎◌, inl, inr, ⊎_elim, ℕ, zero, suc, Bool, true, false, List, [], ◌∷◌, Option, Some, None, length, slice_get, slice_set, refl, ◌∙◌, ap}
 use Rattle.std.proofs.lemmas.List.{length-set}
 use Rattle.handles.specs.Unions.{Union, First, Second, is_first, is_second, union_eq}
-use Rattle.handle_tables.specs.declared.commands.Command.{Command}
 use Rattle.handle_tables.specs.declared.commands.Command.TheVariants.{New, Clone, Drop, GetMut, IntoUnique, MakeMut, Own, Mark, Raw, PtrEq, Same}
 use Rattle.handle_tables.specs.declared.commands.Reply.{Reply}
 use Rattle.handle_tables.specs.declared.commands.Reply.TheVariants.{Done, Is, Shared, Empty, NoSlot, Refused}
-use Rattle.handle_tables.specs.declared.union_commands.UnionCommand.{UnionCommand}
 use Rattle.handle_tables.specs.declared.union_commands.UnionCommand.TheVariants as union
 use Rattle.handle_tables.specs.PlainTable.{Slots, Outcome, Meaning, stays, sets, empties, if_there, if_filled, at, reading, command_of, outcomes_of, plain_outcomes_of}
 use Rattle.handle_tables.specs.PlainUnionTable.{of_one_block, union_outcomes_of}
-use Rattle.handle_tables.specs.Runs.{IsAmong, Run}
+use Rattle.handle_tables.specs.Runs.{IsAmong}
 use Rattle.handle_tables.specs.TableLaws.{written, plain_written, union_written, NumberOfSlotsStays, OtherSlotsStay, OnlyDoneChanges}
 
 module _ {V : Type 0} where

@@ -1,6 +1,6 @@
 -- Entries whose keys rise, around one of them.
-use Rattle.std.proofs.Common.{◌≡◌, ℕ, ◌<◌, ◌≤◌, Bool, true, false, ◌&&◌, cond, eqb, ltb, List, [], ◌∷◌, ◌++◌, length, slice_get, zero, suc, ◌-◌, refl, ap, sym, ◌∙◌, subst, append_assoc, arith, length-append}
-use Rattle.std.proofs.lemmas.Bool.{ltb-true, ltb-false, lt-ltb, le-ltb, eq-eqb, ne_eqb, false≢true}
+use Rattle.std.proofs.Common.{◌≡◌, ℕ, ◌<◌, ◌≤◌, true, false, cond, eqb, ltb, List, [], ◌∷◌, ◌++◌, length, slice_get, zero, suc, ◌-◌, refl, ap, sym, ◌∙◌, subst, append_assoc, arith, length-append}
+use Rattle.std.proofs.lemmas.Bool.{ltb-true, ltb-false, lt-ltb, le-ltb, eq-eqb, ne_eqb, and_from, and_parts}
 use Rattle.std.proofs.lemmas.List.{append-nil}
 use Rattle.std.proofs.lemmas.List.Elements.{filter-append}
 use Rattle.std.specs.Prelude.{None, Some}
@@ -19,18 +19,6 @@ by_place {C = C} j q a b c =
           ] refl
     ] refl
 
-first : (a b : Bool) → (a && b) ≡ true → a ≡ true
-first true b t = refl
-first false b t = absurd (false≢true t)
-
-second : (a b : Bool) → (a && b) ≡ true → b ≡ true
-second true b t = t
-second false b t = absurd (false≢true t)
-
-both : (a b : Bool) → a ≡ true → b ≡ true → (a && b) ≡ true
-both true b p q = q
-both false b p q = p
-
 pub rising_nil : (V : Type 0) → IsRising {V = V} []
 unfolding is_rising
 rising_nil V = refl
@@ -46,21 +34,23 @@ module _ {V : Type 0} where
 
   to_above : (k : ℕ) (es : List (ℕ × V)) → all_above k es ≡ true → AreAbove k es
   to_above k [] t = tt
-  to_above k (e ∷ es) t = (ltb-true k e.0 (first (ltb k e.0) (all_above k es) t), to_above k es (second (ltb k e.0) (all_above k es) t))
+  to_above k (e ∷ es) t =
+      let parts = and_parts (ltb k e.0) (all_above k es) t in (ltb-true k e.0 parts.0, to_above k es parts.1)
 
   from_above : (k : ℕ) (es : List (ℕ × V)) → AreAbove k es → all_above k es ≡ true
   from_above k [] a = refl
-  from_above k (e ∷ es) a = both (ltb k e.0) (all_above k es) (lt-ltb k e.0 a.0) (from_above k es a.1)
+  from_above k (e ∷ es) a = and_from (ltb k e.0) (all_above k es) (lt-ltb k e.0 a.0) (from_above k es a.1)
 
   to : (es : List (ℕ × V)) → IsRising es → Rises es
   unfolding is_rising
   to [] t = tt
-  to (e ∷ es) t = (to_above e.0 es (first (all_above e.0 es) (is_rising es) t), to es (second (all_above e.0 es) (is_rising es) t))
+  to (e ∷ es) t =
+      let parts = and_parts (all_above e.0 es) (is_rising es) t in (to_above e.0 es parts.0, to es parts.1)
 
   from : (es : List (ℕ × V)) → Rises es → IsRising es
   unfolding is_rising
   from [] s = refl
-  from (e ∷ es) s = both (all_above e.0 es) (is_rising es) (from_above e.0 es s.0) (from es s.1)
+  from (e ∷ es) s = and_from (all_above e.0 es) (is_rising es) (from_above e.0 es s.0) (from es s.1)
 
   abbrev AreBelow : ℕ → List (ℕ × V) → Type 0
   AreBelow key [] = Unit {0}
@@ -94,12 +84,12 @@ module _ {V : Type 0} where
   rises_back [] m s = s
   rises_back (x ∷ l) m s = rises_back l m s.1
 
-  left_below : (l : List (ℕ × V)) (k : ℕ) (v : V) (r : List (ℕ × V)) → Rises (l ++ (k, v) ∷ r) → AreBelow k l
-  left_below [] k v r s = tt
-  left_below (x ∷ l) k v r s = ((above_back x.0 l ((k, v) ∷ r) s.0).0, left_below l k v r s.1)
+  left_below : (l : List (ℕ × V)) (e : ℕ × V) (r : List (ℕ × V)) → Rises (l ++ e ∷ r) → AreBelow e.0 l
+  left_below [] e r s = tt
+  left_below (x ∷ l) e r s = ((above_back x.0 l (e ∷ r) s.0).0, left_below l e r s.1)
 
-  right_above : (l : List (ℕ × V)) (k : ℕ) (v : V) (r : List (ℕ × V)) → Rises (l ++ (k, v) ∷ r) → AreAbove k r
-  right_above l k v r s = (rises_back l ((k, v) ∷ r) s).0
+  right_above : (l : List (ℕ × V)) (e : ℕ × V) (r : List (ℕ × V)) → Rises (l ++ e ∷ r) → AreAbove e.0 r
+  right_above l e r s = (rises_back l (e ∷ r) s).0
 
   below_all : (q : ℕ) (l : List (ℕ × V)) → AreBelow q l → below q l ≡ l
   unfolding below
@@ -128,45 +118,54 @@ module _ {V : Type 0} where
       rw (le-ltb q x.0 (omega arith)) (above_none q k l h a.1)
 
   -- what is below a key, and what is above it
-  pub below_left : (q : ℕ) (l : List (ℕ × V)) (k : ℕ) (v : V) (r : List (ℕ × V)) → q ≤ k → Rises (l ++ (k, v) ∷ r)
-      → below q (l ++ (k, v) ∷ r) ≡ below q l
+  pub below_left : (q : ℕ) (l : List (ℕ × V)) (e : ℕ × V) (r : List (ℕ × V)) → q < e.0 → IsRising (l ++ e ∷ r)
+      → below q (l ++ e ∷ r) ≡ below q l
   unfolding below
-  below_left q l k v r h s =
-      filter-append _ l ((k, v) ∷ r)
-      ∙ rw (le-ltb k q h, below_none q k r h (right_above l k v r s)) (append-nil (below q l))
+  below_left q l e r h s =
+      let rises = to (l ++ e ∷ r) s in
+      filter-append _ l (e ∷ r)
+      ∙ rw (le-ltb e.0 q (omega arith), below_none q e.0 r (omega arith) (right_above l e r rises)) (append-nil (below q l))
 
-  pub above_left : (q : ℕ) (l : List (ℕ × V)) (k : ℕ) (v : V) (r : List (ℕ × V)) → q < k → Rises (l ++ (k, v) ∷ r)
-      → above q (l ++ (k, v) ∷ r) ≡ above q l ++ (k, v) ∷ r
+  pub above_left : (q : ℕ) (l : List (ℕ × V)) (e : ℕ × V) (r : List (ℕ × V)) → q < e.0 → IsRising (l ++ e ∷ r)
+      → above q (l ++ e ∷ r) ≡ above q l ++ e ∷ r
   unfolding above
-  above_left q l k v r h s =
-      filter-append _ l ((k, v) ∷ r)
-      ∙ rw (lt-ltb q k h, above_all q k r (omega arith) (right_above l k v r s)) refl
+  above_left q l e r h s =
+      let rises = to (l ++ e ∷ r) s in
+      filter-append _ l (e ∷ r)
+      ∙ rw (lt-ltb q e.0 h, above_all q e.0 r (omega arith) (right_above l e r rises)) refl
 
-  pub below_right : (q : ℕ) (l : List (ℕ × V)) (k : ℕ) (v : V) (r : List (ℕ × V)) → k < q → Rises (l ++ (k, v) ∷ r)
-      → below q (l ++ (k, v) ∷ r) ≡ l ++ (k, v) ∷ below q r
+  pub below_right : (q : ℕ) (l : List (ℕ × V)) (e : ℕ × V) (r : List (ℕ × V)) → e.0 < q → IsRising (l ++ e ∷ r)
+      → below q (l ++ e ∷ r) ≡ l ++ e ∷ below q r
   unfolding below
-  below_right q l k v r h s =
-      filter-append _ l ((k, v) ∷ r)
-      ∙ rw (lt-ltb k q h, below_all q l (below_more k q l (omega arith) (left_below l k v r s))) refl
+  below_right q l e r h s =
+      let rises = to (l ++ e ∷ r) s in
+      filter-append _ l (e ∷ r)
+      ∙ rw (lt-ltb e.0 q h, below_all q l (below_more e.0 q l (omega arith) (left_below l e r rises))) refl
 
-  pub above_right : (q : ℕ) (l : List (ℕ × V)) (k : ℕ) (v : V) (r : List (ℕ × V)) → k ≤ q → Rises (l ++ (k, v) ∷ r)
-      → above q (l ++ (k, v) ∷ r) ≡ above q r
+  pub above_right : (q : ℕ) (l : List (ℕ × V)) (e : ℕ × V) (r : List (ℕ × V)) → e.0 < q → IsRising (l ++ e ∷ r)
+      → above q (l ++ e ∷ r) ≡ above q r
   unfolding above
-  above_right q l k v r h s =
-      filter-append _ l ((k, v) ∷ r)
-      ∙ rw (le-ltb q k h, above_none q k l h (left_below l k v r s)) refl
+  above_right q l e r h s =
+      let rises = to (l ++ e ∷ r) s in
+      filter-append _ l (e ∷ r)
+      ∙ rw (le-ltb q e.0 (omega arith), above_none q e.0 l (omega arith) (left_below l e r rises)) refl
 
-  pub below_here : (q : ℕ) (l : List (ℕ × V)) (k : ℕ) (v : V) (r : List (ℕ × V)) → q ≡ k → Rises (l ++ (k, v) ∷ r)
-      → below q (l ++ (k, v) ∷ r) ≡ l
+  pub below_here : (q : ℕ) (l : List (ℕ × V)) (e : ℕ × V) (r : List (ℕ × V)) → q ≡ e.0 → IsRising (l ++ e ∷ r)
+      → below q (l ++ e ∷ r) ≡ l
   unfolding below
-  below_here q l k v r is s =
-      below_left q l k v r (omega arith) s ∙ below_all q l (below_more k q l (omega arith) (left_below l k v r s))
+  below_here q l e r is s =
+      let rises = to (l ++ e ∷ r) s in
+      filter-append _ l (e ∷ r)
+      ∙ rw (le-ltb e.0 q (omega arith), below_none q e.0 r (omega arith) (right_above l e r rises), below_all q l (below_more e.0 q l (omega arith) (left_below l e r rises)))
+      (append-nil l)
 
-  pub above_here : (q : ℕ) (l : List (ℕ × V)) (k : ℕ) (v : V) (r : List (ℕ × V)) → q ≡ k → Rises (l ++ (k, v) ∷ r)
-      → above q (l ++ (k, v) ∷ r) ≡ r
+  pub above_here : (q : ℕ) (l : List (ℕ × V)) (e : ℕ × V) (r : List (ℕ × V)) → q ≡ e.0 → IsRising (l ++ e ∷ r)
+      → above q (l ++ e ∷ r) ≡ r
   unfolding above
-  above_here q l k v r is s =
-      above_right q l k v r (omega arith) s ∙ above_all q k r (omega arith) (right_above l k v r s)
+  above_here q l e r is s =
+      let rises = to (l ++ e ∷ r) s in
+      filter-append _ l (e ∷ r)
+      ∙ rw (le-ltb q e.0 (omega arith), above_none q e.0 l (omega arith) (left_below l e r rises)) (above_all q e.0 r (omega arith) (right_above l e r rises))
 
   -- what is found
   lookup_above : (q k : ℕ) (r : List (ℕ × V)) → q ≤ k → AreAbove k r → lookup q r ≡ None
@@ -335,23 +334,6 @@ module _ {V : Type 0} where
       skipped j (below q es) (above q es) (below_more q j (below q es) (omega arith) (under q es))
       ∙ rw (ne_eqb j q (omega arith)) (kept_above j q es h))
 
-  pub without_absent : (q : ℕ) (es : List (ℕ × V)) → Rises es → lookup q es ≡ None → without q es ≡ es
-  unfolding without below above
-  without_absent q [] s none = refl
-  without_absent q (x ∷ es) s none =
-      by_place q x.0
-      (λ h.
-      let b : below q (x ∷ es) ≡ [] = below_left q [] x.0 x.1 es (omega arith) s in
-      let a : above q (x ∷ es) ≡ x ∷ es = above_left q [] x.0 x.1 es h s in
-      ap (λ l. l ++ above q (x ∷ es)) b ∙ a)
-      (λ is. let found : Some x.1 ≡ None = sym (lookup_here q [] x.0 x.1 es is s) ∙ none in cc)
-      (λ h.
-      let b : below q (x ∷ es) ≡ x ∷ below q es = below_right q [] x.0 x.1 es h s in
-      let a : above q (x ∷ es) ≡ above q es = above_right q [] x.0 x.1 es (omega arith) s in
-      let rest : without q es ≡ es =
-      without_absent q es s.1 (sym (lookup_right q [] x.0 x.1 es h s) ∙ none) in
-      ap (λ l. l ++ above q (x ∷ es)) b ∙ ap (λ r. (x ∷ below q es) ++ r) a ∙ ap (λ r. x ∷ r) rest)
-
   -- the entry of that number
   pub entry_left : (l : List (ℕ × V)) (e : ℕ × V) (r : List (ℕ × V)) (i : ℕ) → i < length l
       → slice_get (l ++ e ∷ r) i ≡ slice_get l i
@@ -395,9 +377,6 @@ module _ {V : Type 0} where
   pub rising_front : (l m : List (ℕ × V)) → IsRising (l ++ m) → IsRising l
   rising_front l m s = from l (rises_front l m (to (l ++ m) s))
 
-  pub rising_back : (l m : List (ℕ × V)) → IsRising (l ++ m) → IsRising m
-  rising_back l m s = from m (rises_back l m (to (l ++ m) s))
-
   pub found_left : (q : ℕ) (l : List (ℕ × V)) (e : ℕ × V) (r : List (ℕ × V)) → q < e.0 → IsRising (l ++ e ∷ r)
       → lookup q (l ++ e ∷ r) ≡ lookup q l
   found_left q l e r h s = lookup_left q l e.0 e.1 r h (to (l ++ e ∷ r) s)
@@ -430,24 +409,24 @@ module _ {V : Type 0} where
       → with_entry q w (l ++ e ∷ r) ≡ with_entry q w l ++ e ∷ r
   unfolding with_entry
   with_left q w l e r h s =
-      ap (λ es. es ++ (q, w) ∷ above q (l ++ e ∷ r)) (below_left q l e.0 e.1 r (omega arith) (to (l ++ e ∷ r) s))
-      ∙ ap (λ es. below q l ++ (q, w) ∷ es) (above_left q l e.0 e.1 r h (to (l ++ e ∷ r) s))
+      ap (λ es. es ++ (q, w) ∷ above q (l ++ e ∷ r)) (below_left q l e r h s)
+      ∙ ap (λ es. below q l ++ (q, w) ∷ es) (above_left q l e r h s)
       ∙ sym (append_assoc (below q l) ((q, w) ∷ above q l) (e ∷ r))
 
   pub with_right : (q : ℕ) (w : V) (l : List (ℕ × V)) (e : ℕ × V) (r : List (ℕ × V)) → e.0 < q → IsRising (l ++ e ∷ r)
       → with_entry q w (l ++ e ∷ r) ≡ l ++ e ∷ with_entry q w r
   unfolding with_entry
   with_right q w l e r h s =
-      ap (λ es. es ++ (q, w) ∷ above q (l ++ e ∷ r)) (below_right q l e.0 e.1 r h (to (l ++ e ∷ r) s))
-      ∙ ap (λ es. (l ++ e ∷ below q r) ++ (q, w) ∷ es) (above_right q l e.0 e.1 r (omega arith) (to (l ++ e ∷ r) s))
+      ap (λ es. es ++ (q, w) ∷ above q (l ++ e ∷ r)) (below_right q l e r h s)
+      ∙ ap (λ es. (l ++ e ∷ below q r) ++ (q, w) ∷ es) (above_right q l e r h s)
       ∙ append_assoc l (e ∷ below q r) ((q, w) ∷ above q r)
 
   pub with_here : (q : ℕ) (w : V) (l : List (ℕ × V)) (e : ℕ × V) (r : List (ℕ × V)) → q ≡ e.0 → IsRising (l ++ e ∷ r)
       → with_entry q w (l ++ e ∷ r) ≡ l ++ (q, w) ∷ r
   unfolding with_entry
   with_here q w l e r is s =
-      ap (λ es. es ++ (q, w) ∷ above q (l ++ e ∷ r)) (below_here q l e.0 e.1 r is (to (l ++ e ∷ r) s))
-      ∙ ap (λ es. l ++ (q, w) ∷ es) (above_here q l e.0 e.1 r is (to (l ++ e ∷ r) s))
+      ap (λ es. es ++ (q, w) ∷ above q (l ++ e ∷ r)) (below_here q l e r is s)
+      ∙ ap (λ es. l ++ (q, w) ∷ es) (above_here q l e r is s)
 
   pub with_parts : (q : ℕ) (w : V) (es : List (ℕ × V)) → with_entry q w es ≡ below q es ++ (q, w) ∷ above q es
   unfolding with_entry
@@ -457,48 +436,24 @@ module _ {V : Type 0} where
       → without q (l ++ e ∷ r) ≡ without q l ++ e ∷ r
   unfolding without
   without_left q l e r h s =
-      ap (λ es. es ++ above q (l ++ e ∷ r)) (below_left q l e.0 e.1 r (omega arith) (to (l ++ e ∷ r) s))
-      ∙ ap (λ es. below q l ++ es) (above_left q l e.0 e.1 r h (to (l ++ e ∷ r) s))
+      ap (λ es. es ++ above q (l ++ e ∷ r)) (below_left q l e r h s)
+      ∙ ap (λ es. below q l ++ es) (above_left q l e r h s)
       ∙ sym (append_assoc (below q l) (above q l) (e ∷ r))
 
   pub without_right : (q : ℕ) (l : List (ℕ × V)) (e : ℕ × V) (r : List (ℕ × V)) → e.0 < q → IsRising (l ++ e ∷ r)
       → without q (l ++ e ∷ r) ≡ l ++ e ∷ without q r
   unfolding without
   without_right q l e r h s =
-      ap (λ es. es ++ above q (l ++ e ∷ r)) (below_right q l e.0 e.1 r h (to (l ++ e ∷ r) s))
-      ∙ ap (λ es. (l ++ e ∷ below q r) ++ es) (above_right q l e.0 e.1 r (omega arith) (to (l ++ e ∷ r) s))
+      ap (λ es. es ++ above q (l ++ e ∷ r)) (below_right q l e r h s)
+      ∙ ap (λ es. (l ++ e ∷ below q r) ++ es) (above_right q l e r h s)
       ∙ append_assoc l (e ∷ below q r) (above q r)
 
   pub without_here : (q : ℕ) (l : List (ℕ × V)) (e : ℕ × V) (r : List (ℕ × V)) → q ≡ e.0 → IsRising (l ++ e ∷ r)
       → without q (l ++ e ∷ r) ≡ l ++ r
   unfolding without
   without_here q l e r is s =
-      ap (λ es. es ++ above q (l ++ e ∷ r)) (below_here q l e.0 e.1 r is (to (l ++ e ∷ r) s))
-      ∙ ap (λ es. l ++ es) (above_here q l e.0 e.1 r is (to (l ++ e ∷ r) s))
-
-  pub below_of_left : (q : ℕ) (l : List (ℕ × V)) (e : ℕ × V) (r : List (ℕ × V)) → q < e.0 → IsRising (l ++ e ∷ r)
-      → below q (l ++ e ∷ r) ≡ below q l
-  below_of_left q l e r h s = below_left q l e.0 e.1 r (omega arith) (to (l ++ e ∷ r) s)
-
-  pub above_of_left : (q : ℕ) (l : List (ℕ × V)) (e : ℕ × V) (r : List (ℕ × V)) → q < e.0 → IsRising (l ++ e ∷ r)
-      → above q (l ++ e ∷ r) ≡ above q l ++ e ∷ r
-  above_of_left q l e r h s = above_left q l e.0 e.1 r h (to (l ++ e ∷ r) s)
-
-  pub below_of_right : (q : ℕ) (l : List (ℕ × V)) (e : ℕ × V) (r : List (ℕ × V)) → e.0 < q → IsRising (l ++ e ∷ r)
-      → below q (l ++ e ∷ r) ≡ l ++ e ∷ below q r
-  below_of_right q l e r h s = below_right q l e.0 e.1 r h (to (l ++ e ∷ r) s)
-
-  pub above_of_right : (q : ℕ) (l : List (ℕ × V)) (e : ℕ × V) (r : List (ℕ × V)) → e.0 < q → IsRising (l ++ e ∷ r)
-      → above q (l ++ e ∷ r) ≡ above q r
-  above_of_right q l e r h s = above_right q l e.0 e.1 r (omega arith) (to (l ++ e ∷ r) s)
-
-  pub below_of_here : (q : ℕ) (l : List (ℕ × V)) (e : ℕ × V) (r : List (ℕ × V)) → q ≡ e.0 → IsRising (l ++ e ∷ r)
-      → below q (l ++ e ∷ r) ≡ l
-  below_of_here q l e r is s = below_here q l e.0 e.1 r is (to (l ++ e ∷ r) s)
-
-  pub above_of_here : (q : ℕ) (l : List (ℕ × V)) (e : ℕ × V) (r : List (ℕ × V)) → q ≡ e.0 → IsRising (l ++ e ∷ r)
-      → above q (l ++ e ∷ r) ≡ r
-  above_of_here q l e r is s = above_here q l e.0 e.1 r is (to (l ++ e ∷ r) s)
+      ap (λ es. es ++ above q (l ++ e ∷ r)) (below_here q l e r is s)
+      ∙ ap (λ es. l ++ es) (above_here q l e r is s)
 
   -- a map that is put together again rises
   pub rising_at_here : (q : ℕ) (w : V) (l : List (ℕ × V)) (e : ℕ × V) (r : List (ℕ × V)) → q ≡ e.0 → IsRising (l ++ e ∷ r)
@@ -530,11 +485,11 @@ module _ {V : Type 0} where
 
   pub rising_above_left : (q : ℕ) (l : List (ℕ × V)) (e : ℕ × V) (r : List (ℕ × V)) → q < e.0 → IsRising (l ++ e ∷ r)
       → IsRising (above q l ++ e ∷ r)
-  rising_above_left q l e r h s = subst IsRising (above_of_left q l e r h s) (rising_above q (l ++ e ∷ r) s)
+  rising_above_left q l e r h s = subst IsRising (above_left q l e r h s) (rising_above q (l ++ e ∷ r) s)
 
   pub rising_below_right : (q : ℕ) (l : List (ℕ × V)) (e : ℕ × V) (r : List (ℕ × V)) → e.0 < q → IsRising (l ++ e ∷ r)
       → IsRising (l ++ e ∷ below q r)
-  rising_below_right q l e r h s = subst IsRising (below_of_right q l e r h s) (rising_below q (l ++ e ∷ r) s)
+  rising_below_right q l e r h s = subst IsRising (below_right q l e r h s) (rising_below q (l ++ e ∷ r) s)
 
   -- two maps one after the other, of which one has an entry between two sides
   pub rising_into_left : (l : List (ℕ × V)) (e : ℕ × V) (r m : List (ℕ × V)) → IsRising ((l ++ e ∷ r) ++ m)
@@ -570,7 +525,7 @@ pub ruleset looking = (found_left, found_right, found_here)
 
 pub ruleset counting = (entry_left, entry_right, entry_here, length-append)
 
-pub ruleset splitting = (below_nil, above_nil, below_of_left, below_of_right, below_of_here, above_of_left, above_of_right, above_of_here, rising_above_left, rising_below_right)
+pub ruleset splitting = (below_nil, above_nil, below_left, below_right, below_here, above_left, above_right, above_here, rising_above_left, rising_below_right)
 
 pub ruleset inserting = (rising_one, with_nil, with_left, with_right, with_here, with_parts, rising_at_here, rising_parts, rising_with_left, rising_with_right)
 

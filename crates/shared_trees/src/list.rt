@@ -1,5 +1,5 @@
 //! A list that shares its rest.
-ghost use Rattle.std.specs.Prelude.{◌≡◌, ◌∷◌, [], ◌↔◌, IsTrue, IfOk, drop, length, slice_get};
+ghost use Rattle.std.specs.Prelude.{◌≡◌, ◌<◌, ◌∷◌, [], ◌↔◌, IsTrue, IfOk, drop, length, slice_get};
 ghost use Rattle.std.specs.Option.{option_copied};
 
 use crate::links::Links;
@@ -121,7 +121,9 @@ impl<T: Send + Sync + Drop> List<T> {
     }
 
     /// Whether both have the same first node, as exactly as `Arc::ptr_eq` says it. Empty lists have none.
-    pub fn ptr_eq(this: &List<T>, other: &List<T>) -> bool {
+    pub fn ptr_eq(this: &List<T>, other: &List<T>) -> bool
+        ensures { IsTrue result → (0 < length this.now) × (0 < length other.now) }
+    {
         match (&this.links.first, &other.links.first) {
             (Some(node), Some(same)) => Arc::ptr_eq(node, same),
             _ => false,

@@ -1,5 +1,5 @@
 //! A search tree that shares its branches.
-ghost use Rattle.std.specs.Prelude.{◌≡◌, List, ◌∷◌, ◌++◌, [], ◌↔◌, ℕ, None, Some, cond, nat_eq, IsTrue, IfOk, is_some, length, slice_get};
+ghost use Rattle.std.specs.Prelude.{◌≡◌, ◌<◌, List, ◌∷◌, ◌++◌, [], ◌↔◌, ℕ, None, Some, cond, nat_eq, IsTrue, IfOk, is_some, length, slice_get};
 ghost use Rattle.std.specs.Option.{option_copied};
 ghost use Rattle.servo_arc.specs.Copies.{CopiesAreEqual};
 ghost use Rattle.shared_trees.specs.Maps.{IsRising, above, below, lookup, with_entry, without};
@@ -145,7 +145,9 @@ impl<V: Send + Sync> Numbered for TreeMap<V> {
 
 impl<V: Send + Sync> TreeMap<V> {
     /// Whether both have the same root, as exactly as `Arc::ptr_eq` says it. Empty maps have none.
-    pub fn ptr_eq(this: &TreeMap<V>, other: &TreeMap<V>) -> bool {
+    pub fn ptr_eq(this: &TreeMap<V>, other: &TreeMap<V>) -> bool
+        ensures { IsTrue result → (0 < length this.now) × (0 < length other.now) }
+    {
         match (&this.root, &other.root) {
             (Some(fork), Some(same)) => Arc::ptr_eq(fork, same),
             _ => false,

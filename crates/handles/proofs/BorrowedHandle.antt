@@ -6,7 +6,7 @@ use mir.Val.{Val}
 use base.Logic.{id⊢}
 use base.Fml.{Lft, Share, Fml, flft, fobor, fhide, finv}
 use base.Share
-use types.Logic.{Logic, sem}
+use types.Logic.{Logic}
 use types.Kit.{Item, Goal, Seq, Soaks, Step, step, ‵, ◌⊛◌, later, ◌$◌, move, drop, split, fsplit, fsplit3, fpick, rewrite, use1, use2, use3, await}
 use types.Tokens.{obor_close, shr_bor-open}
 use types.Within.{tokens_halve}

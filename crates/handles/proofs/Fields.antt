@@ -8,10 +8,10 @@ use mir.Val.{Val, vint, vstruct, vcons, vnil, of_list, has_ty, WT, Fits}
 use base.Logic.{ent, sep, emp, via, id⊢, guard_i}
 use prog.Wp.{Env}
 use types.Run.{Opd}
-use base.Fml.{Lft, Share, Fml, fex, feq, fsep, finv, flft, fobor, fhide, ftrue}
+use base.Fml.{Fml, fex, feq, fsep, finv, ftrue}
 use types.Logic.{Logic, sem}
 use contract.Monad.{fact, fact_i}
-use types.Kit.{Item, Goal, Step, step, ‵, raw, ◌$◌, ◌∵◌, !, qed, by, keep, drop, move, split, fsplit, fsplit3, fjoin, fjoin3, fpick, fpack, feq_i, flt_i, rewrite, use0, use1, updating, now, done}
+use types.Kit.{Item, Goal, Step, step, ‵, raw, ◌$◌, ◌∵◌, !, qed, by, keep, move, fsplit, fsplit3, fjoin, fjoin3, fpack, feq_i, flt_i, rewrite, use0, updating, now, done}
 use types.Tokens.{lent_back}
 use denote.RattleType.{RattleType, Valss, owns}
 use denote.Laws.{Is}

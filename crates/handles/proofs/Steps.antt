@@ -1,16 +1,16 @@
 -- The steps on a block's word, each under the block's rule: what its maker puts in, and what it leaves the maker with.
 -- Assumes `Logic`.
-use Rattle.std.proofs.Common.{◌≡◌, ◌≢◌, ℕ, zero, suc, ◌+◌, ◌-◌, ◌*◌, ◌%◌, ◌^◌, ◌<◌, ◌≤◌, eqb, Bool, true, false, List, [], ◌∷◌, sym, refl, ap, ◌∙◌, subst, arith, le_trans, eq-eqb, ne_eqb, w64, true≢false, leb-true, leb-false, if◌then◌else◌}
+use Rattle.std.proofs.Common.{◌≡◌, ◌≢◌, ℕ, zero, suc, ◌+◌, ◌-◌, ◌%◌, ◌^◌, ◌<◌, ◌≤◌, eqb, Bool, true, false, List, [], ◌∷◌, sym, refl, ap, ◌∙◌, subst, arith, le_trans, eq-eqb, ne_eqb, w64, true≢false, leb-true, leb-false, if◌then◌else◌}
 use mathlib.Core.Logic.{dite}
 use native.Mathlib.Decide.{ℕ_discrete}
 use seplogic.Ra.Ura.{Ura}
-use lib.Bits.{bit_or, or_block, or_zero_r}
+use lib.Bits.{bit_or}
 use mir.Syntax.{ty_int}
 use mir.Val.{vint, has_ty, WT}
 use base.Fraction.{full_share}
 use base.FractionLaws.{Counts}
 use base.Share
-use base.Logic.{SProp, ent, sep, wand, ex, upd, upd_i, via, never, never_e}
+use base.Logic.{SProp, ent, sep, wand, ex, upd_i, via, never, never_e}
 use base.Fml.{Lft, Share, Fml, ftrue, fsep, fex, flft, fdead, flent}
 use prog.Atomic.{either}
 use types.Logic.{Logic, sem}

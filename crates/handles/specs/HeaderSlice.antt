@@ -1,5 +1,6 @@
 -- What a header slice is to its holder.
 pub mod Builders
+pub mod Laws
 pub mod Lending
 pub mod Pulls
 pub mod UniqueLending

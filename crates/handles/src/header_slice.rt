@@ -1,8 +1,8 @@
 //! A header and a list of items, which a builder takes from an iterator.
 ghost use Rattle.std.specs.Prelude.{◌≡◌, ◌==◌, ◌&&◌, length};
 ghost use Rattle.std.specs.Borrow.{sem};
-ghost use Rattle.std.specs.Cmp.{on_per, on_equiv, and_per, and_equiv};
-ghost use Rattle.std.specs.Cmp.Lexicographic.{pointwise, lists_per, lists_equiv};
+ghost use Rattle.std.specs.Cmp.Lexicographic.{pointwise};
+ghost use Rattle.handles.specs.HeaderSlice.Laws.{slices_per, slices_equiv};
 
 mod build;
 mod items;
@@ -81,7 +81,7 @@ impl<H: Drop, T: Drop> Drop for HeaderSlice<H, T> {
 impl<H: PartialEq, T: PartialEq> PartialEq for HeaderSlice<H, T> {
     ghost eq = { λ x y. H.eq x.header y.header && pointwise T.eq x.items y.items };
 
-    ghost laws = { and_per (on_per (λ s. s.header) H.laws) (on_per (λ s. s.items) (lists_per T.laws)) };
+    ghost laws = { slices_per H.laws T.laws };
 
     fn eq(&self, other: &HeaderSlice<H, T>) -> bool {
         self.header == other.header && self.slice() == other.slice()
@@ -89,7 +89,7 @@ impl<H: PartialEq, T: PartialEq> PartialEq for HeaderSlice<H, T> {
 }
 
 impl<H: Eq, T: Eq> Eq for HeaderSlice<H, T> {
-    ghost laws = { and_equiv (on_equiv (λ s. s.header) H.Eq.laws) (on_equiv (λ s. s.items) (lists_equiv T.Eq.laws)) };
+    ghost laws = { slices_equiv H.Eq.laws T.Eq.laws };
 }
 
 impl<H: fmt::Debug, T: fmt::Debug> fmt::Debug for HeaderSlice<H, T> {

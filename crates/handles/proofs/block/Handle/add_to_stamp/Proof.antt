@@ -4,7 +4,6 @@ use Rattle.atomic_table.proofs.Calls.{adds}
 use denote.Plain.{uint_vals, uint_Tells}
 use Rattle.handles.specs.Inside.Blocks.{stamp_offset}
 use Rattle.handles.proofs.Steps as steps
-use Rattle.handles.specs.contracts.block.Handle as handle_type
 use Rattle.handles.specs.contracts.block.Handle.add_to_stamp.{ended, clauses}
 use Rattle.handles.specs.contracts.block.Handle.add_to_stamp.Key.{name as #self}
 use Rattle.handles.proofs.block.Handle.add_to_stamp.Statement.{statement}

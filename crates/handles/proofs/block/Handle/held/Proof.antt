@@ -6,7 +6,6 @@ use denote.Memory.{hidden_shr}
 use denote.Struct.Lending.{lent_at}
 use Rattle.handles.specs.Inside.Blocks.{held_offset, shown, handle_shares}
 use Rattle.handles.proofs.Owners.{shown_by}
-use Rattle.handles.specs.contracts.block.Handle as handle_type
 use Rattle.handles.specs.contracts.block.Handle.held.{ended, clauses}
 use Rattle.handles.specs.contracts.block.Handle.held.Key.{name as #self}
 use Rattle.handles.proofs.block.Handle.held.Statement.{statement}

@@ -3,7 +3,6 @@ use Rattle.handles.proofs.Walks.{◌≡◌, ℕ, ◌+◌, ◌^◌, false, [], �
 use Rattle.atomic_table.proofs.Calls.{ors}
 use Rattle.handles.proofs.Steps as steps
 use Rattle.handles.proofs.Fields.{big_lit}
-use Rattle.handles.specs.contracts.block.Handle as handle_type
 use Rattle.handles.specs.contracts.block.Handle.mark.{ended, clauses}
 use Rattle.handles.specs.contracts.block.Handle.mark.Key.{name as #self}
 use Rattle.handles.proofs.block.Handle.mark.Statement.{statement}

@@ -7,7 +7,6 @@ use denote.Plain.{uint_vals, uint_Tells}
 use Rattle.counting_word.specs.CountingWord.{greatest_count, IsWithin}
 use Rattle.handles.specs.Inside.Rights.{right_by_raise}
 use Rattle.handles.proofs.Steps as steps
-use Rattle.handles.specs.contracts.block.Handle as handle_type
 use Rattle.handles.specs.contracts.block.Handle.raise.{ended, clauses}
 use Rattle.handles.specs.contracts.block.Handle.raise.Key.{name as #self}
 use Rattle.handles.proofs.block.Handle.raise.Statement.{statement}

@@ -4,7 +4,6 @@ use Rattle.atomic_table.proofs.Calls.{loads}
 use Rattle.counting_word.specs.CountingWord.{IsWithin}
 use Rattle.handles.specs.Inside.Rights.{right_by_read}
 use Rattle.handles.proofs.Steps as steps
-use Rattle.handles.specs.contracts.block.Handle as handle_type
 use Rattle.handles.specs.contracts.block.Handle.read.{ended, clauses}
 use Rattle.handles.specs.contracts.block.Handle.read.Key.{name as #self}
 use Rattle.handles.proofs.block.Handle.read.Statement.{statement}

@@ -3,7 +3,6 @@ use Rattle.handles.proofs.Walks.{◌≡◌, ℕ, ◌+◌, false, [], ◌∷◌, 
 use Rattle.atomic_table.proofs.Calls.{loads}
 use Rattle.handles.specs.Inside.Blocks.{stamp_offset}
 use Rattle.handles.proofs.Steps as steps
-use Rattle.handles.specs.contracts.block.Handle as handle_type
 use Rattle.handles.specs.contracts.block.Handle.stamp.{ended, clauses}
 use Rattle.handles.specs.contracts.block.Handle.stamp.Key.{name as #self}
 use Rattle.handles.proofs.block.Handle.stamp.Statement.{statement}

@@ -6,6 +6,7 @@ mod compare;
 mod convert;
 mod copy_on_write;
 
+use crate::attempt::Attempt;
 use crate::block::Handle;
 use crate::limit::Limit;
 use crate::unique::UniqueArc;
@@ -88,9 +89,13 @@ impl<T: Send + Sync + Drop> Arc<T> {
     pub fn clone(this: &Arc<T>, rt: &impl Wait) -> Result<Arc<T>, Full>
         ensures { IfOk result (λ a. a ≡ this.now) }
     {
-        Ok(Arc {
-            handle: this.handle.clone_unless_full(rt)?,
-        })
+        // Only a clone that lost a raise makes the call that may wait.
+        let handle = match this.handle.first_attempt() {
+            Attempt::Made(handle) => handle,
+            Attempt::Full => return Err(Full),
+            Attempt::Lost(seen) => this.handle.raise_unless_full(seen, rt)?,
+        };
+        Ok(Arc { handle })
     }
 }
 

@@ -6,7 +6,7 @@ ghost use Rattle.handles.specs.Inside.Rights.{right_by_read};
 use crate::arc::Full;
 use crate::block::{Gain, Handle};
 use crate::limit::Limit;
-use counting_word::{ClonePlan, plan_clone};
+use counting_word::{ClonePlan, is_marked, plan_clone};
 use std::alloc::AllocError;
 use std::sync::Wait;
 
@@ -28,14 +28,22 @@ pub(crate) enum Attempt<T> {
 impl<T> Handle<T> {
     ghost use Rattle.handles.specs.Attempts.{IsAttempt};
 
-    // One read.
+    // One read, and one raise if the word that was read allows it.
     #[inline]
     pub(crate) fn first_attempt(&self) -> Attempt<T>
         requires { self.now.sole ≡ false }
-        ensures { (word : ℕ) × IsAttempt self.now.held word result }
+        ensures { IsAttempt self.now.held result }
     {
         let (word, gain) = self.read();
-        Attempt::judge(word, self.limit(), gain)
+        // The plan says so too. Asked first, a mark costs one branch, and no kind of plan is built and then told apart.
+        if is_marked(word) {
+            return Attempt::Made(gain.into_handle());
+        }
+        match Attempt::judge(word, self.limit(), gain) {
+            Attempt::Made(handle) => Attempt::Made(handle),
+            Attempt::Full => Attempt::Full,
+            Attempt::Lost(seen) => self.next_attempt(seen),
+        }
     }
 
     // One raise of a word that was seen.
@@ -43,7 +51,7 @@ impl<T> Handle<T> {
     pub(crate) fn next_attempt(&self, seen: Seen) -> Attempt<T>
         requires shared { self.now.sole ≡ false }
         requires limit { seen.limit ≡ self.now.held.limit }
-        ensures { (word : ℕ) × IsAttempt self.now.held word result }
+        ensures { IsAttempt self.now.held result }
     {
         let Seen { word, limit } = seen;
         let (found, gain) = self.raise(word);
@@ -55,9 +63,9 @@ impl<T> Handle<T> {
     }
 }
 
-// The first attempts stand outside the loops: most clones need no more, and a loop would carry its state through them.
+// The first attempt stands outside the loops: most clones need no more, and a loop would carry its state through it.
 impl<T: Drop> Handle<T> {
-    // By one read and at most so many raises.
+    // By one read and at most so many raises, but at least one.
     pub(crate) fn try_clone(&self, raises: u8) -> Result<Handle<T>, AllocError>
         requires { self.now.sole ≡ false }
         ensures { IfOk result (λ h. (h.held ≡ self.now.held) × (h.sole ≡ false)) }
@@ -74,7 +82,8 @@ impl<T: Drop> Handle<T> {
         requires limit { seen.limit ≡ self.now.held.limit }
         ensures { IfOk result (λ h. (h.held ≡ self.now.held) × (h.sole ≡ false)) }
     {
-        for _ in 0..raises {
+        // The first attempt made one.
+        for _ in 1..raises {
             seen = match self.next_attempt(seen) {
                 Attempt::Made(handle) => return Ok(handle),
                 Attempt::Full => return Err(AllocError),
@@ -85,23 +94,11 @@ impl<T: Drop> Handle<T> {
     }
 
     // By as many raises as it takes.
-    pub(crate) fn clone_unless_full(&self, rt: &impl Wait) -> Result<Handle<T>, Full>
-        requires { self.now.sole ≡ false }
-        ensures { IfOk result (λ h. (h.held ≡ self.now.held) × (h.sole ≡ false)) }
-    {
-        let seen = match self.first_attempt() {
-            Attempt::Made(handle) => return Ok(handle),
-            Attempt::Full => return Err(Full),
-            Attempt::Lost(seen) => seen,
-        };
-        match self.next_attempt(seen) {
-            Attempt::Made(handle) => Ok(handle),
-            Attempt::Full => Err(Full),
-            Attempt::Lost(again) => self.raise_unless_full(again, rt),
-        }
-    }
-
-    fn raise_unless_full(&self, mut seen: Seen, rt: &impl Wait) -> Result<Handle<T>, Full>
+    pub(crate) fn raise_unless_full(
+        &self,
+        mut seen: Seen,
+        rt: &impl Wait,
+    ) -> Result<Handle<T>, Full>
         requires shared { self.now.sole ≡ false }
         requires limit { seen.limit ≡ self.now.held.limit }
         ensures { IfOk result (λ h. (h.held ≡ self.now.held) × (h.sole ≡ false)) }
@@ -118,7 +115,7 @@ impl<T: Drop> Handle<T> {
 }
 
 impl<T> Attempt<T> {
-    ghost use Rattle.handles.specs.Attempts.{IsAttempt};
+    ghost use Rattle.handles.specs.Attempts.{IsAttempt, IsPlanned};
 
     // By the word that was read.
     #[inline]
@@ -126,7 +123,8 @@ impl<T> Attempt<T> {
         requires right { gain.right ≡ right_by_read word }
         requires limit { limit ≡ gain.held.limit }
         requires within { IsWithin word limit.count }
-        ensures { IsAttempt gain.held word result }
+        ensures shows { IsAttempt gain.held result }
+        ensures plan { IsPlanned word limit.count result }
     {
         match plan_clone(word, limit.count) {
             ClonePlan::Static => Attempt::Made(gain.into_handle()),

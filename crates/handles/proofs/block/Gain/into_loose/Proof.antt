@@ -1,5 +1,5 @@
 -- `into_loose` takes a block that nobody shares, with the allocator that it was requested from.
-use Rattle.handles.proofs.Walks.{◌≡◌, ℕ, ◌+◌, [], ◌∷◌, refl, ap, a_type, Val, vptr, inst_fn, full_share, SProp, fat, Lft, Share, ftrue, flft, ‵, raw, ◌⊛◌, some, given, at_ret, ◌$◌, ◌∵◌, !, qed, by, move, keep, drop, split, join, fsplit, fsplit3, fjoin, fjoin3, fpick, pick, learn, use1, use2, rewrite, stop, fld, load, of_opd, no_more, and_then, first, blocks, exec, returns, enter, alloc_all, pass_all, free_all, look_at, get, get_in, through, sets, sets_last, is, env, agg, sub, whole, tables, fact, no, RattleType, owns, types_at, plain, Ptr, block_ptr, ptr_val, block_of, offset_of, at_block, nothing_more, heard, param, layout, layouts, Stays, stay_dropped, walk_of, Goes-dropped, after, proved, leaves, Right, HeldRow, stamp, gain_owns, one_word, one_word-Good, words_told, GainRow, known}
+use Rattle.handles.proofs.Walks.{◌≡◌, ℕ, ◌+◌, [], ◌∷◌, refl, ap, a_type, Val, vptr, inst_fn, full_share, SProp, fat, Lft, Share, ftrue, flft, ‵, raw, ◌⊛◌, some, given, at_ret, ◌$◌, ◌∵◌, !, qed, by, move, keep, drop, split, join, fsplit, fsplit3, fjoin, fjoin3, fpick, pick, learn, use1, use2, rewrite, stop, fld, load, of_opd, no_more, and_then, first, blocks, exec, returns, enter, alloc_all, pass_all, free_all, look_at, get, get_in, through, sets, sets_last, is, env, agg, sub, whole, tables, fact, no, RattleType, owns, types_at, plain, Ptr, block_ptr, ptr_val, block_of, offset_of, at_block, nothing_more, heard, param, layout, layouts, Stays, stay_dropped, walk_of, Goes-dropped, after, proved, leaves, Right, HeldRow, gain_owns, one_word, one_word-Good, words_told, GainRow, known}
 use Rattle.std_heap.specs.contracts.Global.{the_row as heap_row}
 use Rattle.std_heap.proofs.Global.TheLaws.{the_row_laws as heap_laws}
 use Rattle.std.specs.contracts.impls.GlobalAllocator.TheImpl.{ghosts}

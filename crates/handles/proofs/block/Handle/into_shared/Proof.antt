@@ -1,5 +1,5 @@
 -- `into_shared` forgets that a handle is the only one.
-use Rattle.handles.proofs.Walks.{◌≡◌, ℕ, false, [], ◌∷◌, refl, a_type, Val, inst_fn, SProp, Lft, Share, ftrue, flft, ‵, raw, ◌⊛◌, ◌$◌, ◌∵◌, !, qed, by, move, keep, split, join, fsplit, fjoin, use0, use1, stop, fld, of_opd, no_more, and_then, returns, enter, alloc_all, pass_all, free_all, look_at, get, get_in, sets, env, agg, sub, whole, tables, fact, no, RattleType, owns, types_at, plain, Ptr, block_of, offset_of, nothing_more, param, layouts, param_laws, Stays, stay_dropped, walk_of, Goes-dropped, proved, leaves, HeldRow, one_word, one_word-Good, words_told, words_made, HandleRow, HandleWords, known}
+use Rattle.handles.proofs.Walks.{◌≡◌, ℕ, false, [], ◌∷◌, refl, a_type, Val, inst_fn, SProp, Lft, Share, ftrue, flft, ‵, raw, ◌⊛◌, ◌$◌, ◌∵◌, !, qed, by, move, keep, split, join, fsplit, fjoin, use0, use1, stop, fld, of_opd, no_more, and_then, returns, enter, alloc_all, pass_all, free_all, look_at, get, get_in, sets, agg, sub, whole, tables, fact, no, RattleType, owns, types_at, plain, Ptr, block_of, offset_of, nothing_more, param, layouts, param_laws, Stays, stay_dropped, walk_of, Goes-dropped, proved, leaves, HeldRow, one_word, one_word-Good, words_told, words_made, HandleRow, HandleWords, known}
 use Rattle.handles.specs.Inside.Blocks.{owned_as}
 use Rattle.handles.proofs.Owners.{forgets}
 use Rattle.handles.specs.contracts.block.Handle as handle_type

@@ -1,5 +1,5 @@
 -- `sole` makes the only handle of a new block.
-use Rattle.handles.proofs.Walks.{◌≡◌, ℕ, true, List, [], ◌∷◌, ◌++◌, refl, sym, subst, a_type, Val, vptr, inst_fn, SProp, ent, id⊢, ftrue, flft, WpFn, ‵, raw, ◌⊛◌, ◌$◌, ◌∵◌, !, qed, by, move, keep, split, join, fsplit, fjoin, fpack, use0, use1, rewrite, suffices, stop, fld, of_opd, no_more, and_then, returns, enter, alloc_all, pass_all, free_all, look_at, get, get_in, sets, env, agg, sub, whole, tables, fact, no, RattleType, owns, types_at, plain, Ptr, InBlock, block_ptr, nothing_more, heard, param, layouts, Stays, stay_dropped, walk_of, proved_at, leaves, HeldRow, stamp, one_word, words_made, HandleWords, known}
+use Rattle.handles.proofs.Walks.{◌≡◌, ℕ, true, List, [], ◌∷◌, ◌++◌, refl, sym, subst, a_type, Val, vptr, inst_fn, SProp, ent, id⊢, ftrue, flft, WpFn, ‵, raw, ◌⊛◌, ◌$◌, ◌∵◌, !, qed, by, move, keep, split, join, fsplit, fjoin, fpack, use0, use1, rewrite, suffices, stop, fld, of_opd, no_more, and_then, returns, enter, alloc_all, pass_all, free_all, look_at, get, get_in, sets, agg, sub, whole, tables, fact, no, RattleType, owns, types_at, plain, Ptr, InBlock, block_ptr, nothing_more, heard, param, layouts, Stays, stay_dropped, walk_of, proved_at, leaves, HeldRow, one_word, words_made, HandleWords, known}
 use Rattle.std_heap.specs.contracts.Global.{the_row as heap_row}
 use Rattle.std_heap.proofs.Global.TheLaws.{the_row_laws as heap_laws}
 use Rattle.std.specs.contracts.impls.GlobalAllocator.TheImpl.{ghosts}

@@ -1,5 +1,5 @@
 -- `of` takes a box apart.
-use Rattle.handles.proofs.Walks.{◌≡◌, List, [], ◌∷◌, ◌++◌, refl, sym, ap, ◌∙◌, subst, a_type, Val, vptr, inst_fn, SProp, ent, id⊢, ftrue, flft, WpFn, sem, ‵, raw, ◌⊛◌, some, later, ◌$◌, ◌∵◌, !, qed, by, move, keep, drop, split, split3, join, fsplit, fjoin, fpick, pick, use1, await, rewrite, feq_l, suffices, stop, fld, of_opd, no_more, and_then, returns, enter, lands_as, alloc_all, pass_all, free_all, look_at, get, get_in, sets, env, agg, sub, whole, tables, fact, no, RattleType, owns, types_at, plain, Ptr, block_ptr, ptr_val, nothing_more, only, heard, param, layout, bounded, param_laws, Stays, stay_dropped, walk_of, proved_at, leaves, fm, known}
+use Rattle.handles.proofs.Walks.{◌≡◌, List, [], ◌∷◌, ◌++◌, refl, sym, ap, ◌∙◌, subst, a_type, Val, vptr, inst_fn, SProp, ent, id⊢, ftrue, flft, WpFn, sem, ‵, raw, ◌⊛◌, some, later, ◌$◌, ◌∵◌, !, qed, by, move, keep, drop, split, split3, join, fsplit, fjoin, fpick, pick, use1, await, rewrite, feq_l, suffices, stop, fld, of_opd, no_more, and_then, returns, enter, lands_as, alloc_all, pass_all, free_all, look_at, get, get_in, sets, agg, sub, whole, tables, fact, no, RattleType, owns, types_at, plain, Ptr, block_ptr, ptr_val, nothing_more, only, heard, param, layout, bounded, param_laws, Stays, stay_dropped, walk_of, proved_at, leaves, fm, known}
 use mir.Syntax.{dcons, dnil}
 use denote.Triple.Clauses.{Lasts, lasts}
 use denote.Triple.Spec.{triple_of}

@@ -3,7 +3,7 @@
 
 A function is proved from its own body and the contracts of what it calls. So faults in the bodies of different functions
 do not see each other, and are tried together: each function that a fault changes has to keep an open goal of its own.
-A fault that changes more than bodies, or that leaves no goal open in one of them, is tried alone.
+A fault that changes more than bodies is tried alone; and one that leaves no goal open in one of them at last, too.
 
     gate/faults.py                 tries all faults, and says how many a clause refuses
     gate/faults.py NAME[/EDIT]..   tries those of a crate, or one of them, and says which goals each leaves open
@@ -23,6 +23,7 @@ from dataclasses import dataclass, field
 
 ROOT = os.path.dirname(os.path.dirname(os.path.abspath(__file__)))
 HEAD = re.compile(r"( *)(?:pub(?:\([a-z]+\))? )?(?:const )?(?:unsafe )?fn (\w+)")
+ADDED = re.compile(r" *(?:pub(?:\([a-z]+\))? )?fn (\w+)")
 TOLD = re.compile(r"(note: )?(?:\./)?((?:src|specs|proofs)/[^:\s]+):(\d+):\d+: (?!note)(.*)")
 ENDLESS = re.compile(r"fn \w+::(\S+): (no proof: expected .*)")  # a loop or recursion that nobody shows to end
 UNREAD = re.compile(r"is not in scope|has no field|is no name|operand is missing|expected the end|cannot continue")
@@ -51,8 +52,13 @@ class Fault:
     crate: str
     name: str
     lines: dict = field(default_factory=dict)  # by file and number, what stands there with the fault
-    functions: list = field(default_factory=list)
+    functions: list = field(default_factory=list)  # whose bodies it changes
+    added: list = field(default_factory=list)  # functions that it adds, each in a line of its own
     is_alone: bool = False
+
+    def sees(self, other):
+        """Whether both change one function or one line."""
+        return any(it in self.functions for it in other.functions) or any(it in self.lines for it in other.lines)
 
 
 @dataclass
@@ -114,7 +120,10 @@ def read_fault(crate, name):
             fault.lines[path, at] = wrong
             inside = [it for it in functions if it.body <= at < it.end]
             fault.functions += [it for it in inside if it not in fault.functions]
-            fault.is_alone |= not inside
+            if ADDED.match(wrong) and (wrong.endswith(sound.strip()) or sound.lstrip().startswith("//")):
+                fault.added.append(Function(path, ADDED.match(wrong)[1], at, at, at))
+            else:
+                fault.is_alone |= not inside
     if not fault.lines:
         raise BadFault("it changes nothing")
     return fault
@@ -128,8 +137,7 @@ def together(faults):
             parts.append([fault])
             continue
         for part in parts:
-            taken = [it for other in part for it in other.functions]
-            if not part[0].is_alone and not any(it in taken for it in fault.functions):
+            if not part[0].is_alone and not any(map(fault.sees, part)):
                 part.append(fault)
                 break
         else:
@@ -220,14 +228,19 @@ def try_part(copy, part):
     is_proved, goals = copy.check(part)
     if len(part) == 1:
         return {part[0].name: judged(is_proved, goals)}
-    verdicts = {}
+    verdicts, rest = {}, []
     for fault in part:
-        own = [[it for it in goals if it[0] and function.has(it[0], it[1])] for function in fault.functions]
-        told = [it for some in own for it in some]
-        if all(own) and not any(map(is_unread, goals)):
-            verdicts[fault.name] = Verdict(True, told, all(any(map(is_of_the_code, some)) for some in own))
+        of = lambda function: [it for it in goals if it[0] and function.has(it[0], it[1])]
+        own, added = list(map(of, fault.functions)), list(map(of, fault.added))
+        told = [it for some in own + added for it in some]
+        if told and all(own) and not any(map(is_unread, goals)):
+            verdicts[fault.name] = Verdict(True, told, all(any(map(is_of_the_code, some)) for some in own or [told]))
         else:
-            verdicts |= try_part(copy, [fault])
+            rest.append(fault)
+    # A function is not checked while one that it calls has no proof, so those of which nothing was told are tried without the others.
+    half = len(part) // 2
+    for again in [rest] if len(rest) < len(part) else [part[:half], part[half:]]:
+        verdicts |= try_part(copy, again) if again else {}
     return verdicts
 
 

@@ -8,7 +8,7 @@ A fault that changes more than bodies is tried alone; and one that leaves no goa
     gate/faults.py                 tries all faults, and says how many a clause refuses
     gate/faults.py NAME[/EDIT]..   tries those of a crate, or one of them, and says which goals each leaves open
 
-The proofs that the sound crates have in their folders out/ are used where they are current.
+The crates without faults are proved first, in their folders out/, and copied with these proofs.
 """
 
 import os
@@ -244,6 +244,13 @@ def try_part(copy, part):
     return verdicts
 
 
+def is_proved(crate):
+    """Whether the crate itself is proved, which leaves its proofs in its folder out/ for the copies."""
+    print(f"{crate}: {len(wanted([crate])[crate])} faults, first the crate without them", flush=True)
+    folder = f"{ROOT}/crates/{crate}"
+    return subprocess.run(["rt", "check"], cwd=folder, stdin=subprocess.DEVNULL, stdout=subprocess.DEVNULL, stderr=subprocess.STDOUT).returncode == 0
+
+
 def try_crate(crate, names):
     started, verdicts, faults = time.time(), {}, []
     for name in names:
@@ -253,8 +260,6 @@ def try_crate(crate, names):
             verdicts[name] = Verdict(False, [(None, 0, f"the fault cannot be planted: {why}")])
     with tempfile.TemporaryDirectory(prefix="faults-") as room:
         copy = Copy(room, crate)
-        if not copy.check()[0]:
-            return {name: Verdict(False, [(None, 0, "the sound crate is not proved")]) for name in names}
         for part in together(faults):
             verdicts |= try_part(copy, part)
             print(f"{crate}: {len(verdicts)} of {len(names)} faults, {time.time() - started:.0f} s", flush=True)
@@ -273,6 +278,11 @@ def wanted(words):
 
 def main(words):
     faults = wanted(words)
+    # One after another, since they stand on each other.
+    unproved = [crate for crate in faults if not is_proved(crate)]
+    if unproved:
+        print(f"faults: not tried, since these are not proved without them: {' '.join(unproved)}")
+        return True
     with ThreadPoolExecutor(AT_ONCE) as pool:
         given = {crate: pool.submit(try_crate, crate, names) for crate, names in faults.items()}
         verdicts = {f"{crate}/{name}": it for crate in faults for name, it in given[crate].result().items()}

@@ -30,7 +30,7 @@ use Rattle.counting_word.specs.CountingWord.{is_one_handle}
 use Rattle.handles.specs.Inside.Rights.{Right, nothing, a_handle, to_lower, whole_block, right_by_lower, IsWholeBlock}
 use Rattle.core.specs.Sync.RawAtomic.{word}
 use Rattle.std.specs.declared.alloc.Global.{Global}
-use Rattle.handles.specs.Inside.Blocks.{HeldRow, handle_owns, frees, held_offset, Names, unit_of_count, counted, stamp, held_and_block, shown, block_rule, sole_or_counted, unshared_block, gain_owns}
+use Rattle.handles.specs.Inside.Blocks.{HeldRow, handle_owns, frees, held_offset, Names, unit_of_count, counted, stamp, held_and_block, shown, block_rule, Sharing, not_yet, begun, held_as, unshared_block, gain_owns}
 use Rattle.handles.proofs.Steps.{gained}
 use Rattle.handles.specs.contracts.block.Handle as handle_type
 use Rattle.handles.specs.contracts.block.Gain as gain
@@ -124,7 +124,7 @@ module _ {M : Type 1} {𝓤 : Ura M} (𝓛 : Logic 𝓤) (R : RattleType) (p : P
   pub gain_shown : (r : Right) → ent 𝓤 (sep 𝓤 (sem 𝓛 (Gained r)) (sep 𝓤 (sem 𝓛 (finv (block_rule R p x i))) (sem 𝓛 (shown R p x (i.shared ∷ []))))) (H.⇛ (sem 𝓛 (gain_owns R p x r)))
   gain_shown nothing = qed 𝓛 (‵ (Gained nothing) ∷ ‵ (finv (block_rule R p x i)) ∷ ‵ (shown R p x (i.shared ∷ [])) ∷ []) ∵ keep ! (0 ∷ 1 ∷ []) $ by ! (gain_kept nothing tt)
   gain_shown a_handle = qed 𝓛 (‵ (Gained a_handle) ∷ ‵ (finv (block_rule R p x i)) ∷ ‵ (shown R p x (i.shared ∷ [])) ∷ []) ∵ updating ! $ fjoin3 ! $
-      fpack ! Names (λ j. counted (held_and_block R p x) (stamp p) x.limit.count (block_of p) (offset_of p + 0) j (shown R p x)) i $ fpack ! Bool (sole_or_counted R p x) false $ nothing_more ! $ fpack ! (InBlock p) (λ _. ftrue) inb $ fjoin ! $ now ! $ done !
+      fpack ! Names (λ j. counted (held_and_block R p x) (stamp p) x.limit.count (block_of p) (offset_of p + 0) j (shown R p x)) i $ fpack ! Sharing (held_as R p x) begun $ nothing_more ! $ fpack ! (InBlock p) (λ _. ftrue) inb $ fjoin ! $ now ! $ done !
   gain_shown to_lower = qed 𝓛 (‵ (Gained to_lower) ∷ ‵ (finv (block_rule R p x i)) ∷ ‵ (shown R p x (i.shared ∷ [])) ∷ []) ∵ keep ! (0 ∷ 1 ∷ []) $ by ! (gain_kept to_lower tt)
   gain_shown (whole_block w) = qed 𝓛 (‵ (Gained (whole_block w)) ∷ ‵ (finv (block_rule R p x i)) ∷ ‵ (shown R p x (i.shared ∷ [])) ∷ []) ∵ keep ! (0 ∷ 1 ∷ []) $ by ! (gain_kept (whole_block w) tt)
 
@@ -169,5 +169,5 @@ module _ {M : Type 1} {𝓤 : Ura M} (𝓛 : Logic 𝓤) (R : RattleType) (p : P
       qed 𝓛 (‵ (part_at (HeldRow R) full_share w (block_of p) (offset_of p + held_offset R)) ∷ ‵ (beside_held R p b o) ∷ []) ∵ move ! (1 ∷ []) $ fsplit3 ! $ move ! (2 ∷ []) $ fsplit ! $
       -- [the stamp; the cell; what frees; the word; the value]
       move ! (4 ∷ 2 ∷ []) $ fjoin ! $ move ! (3 ∷ 0 ∷ 1 ∷ []) $ fjoin3 ! $ rewrite ! 0 (λ (z : Ptr). ‵ (unshared_block R z w 1)) (sym (at_block p inb)) refl $ rewrite ! 1 (λ (z : Ptr). ‵ (cell_at full_share (HandleRow R).mir (one_word z ∷ []) b o)) (sym (at_block p inb)) refl $
-      fpack ! Bool (sole_or_counted R p w) true $ nothing_more ! $ fpack ! (InBlock p) (λ _. ftrue) inb $ fjoin ! $ use0 𝓛 (‵ ((HandleWords R).own_val (p, tt) (one_word p ∷ []))) (words_made (handle_type.the_type R).name (R ∷ []) 𝓛 p) $ fjoin ! $
+      fpack ! Sharing (held_as R p w) not_yet $ nothing_more ! $ fpack ! (InBlock p) (λ _. ftrue) inb $ fjoin ! $ use0 𝓛 (‵ ((HandleWords R).own_val (p, tt) (one_word p ∷ []))) (words_made (handle_type.the_type R).name (R ∷ []) 𝓛 p) $ fjoin ! $
       move ! (1 ∷ 0 ∷ []) $ fjoin ! $ fpack ! (List Val) (λ vs. fsep (cell_at full_share (HandleRow R).mir vs b o) ((HandleRow R).own_val (record { block = p; held = w; sole = false }) vs)) (one_word p ∷ []) $ done !

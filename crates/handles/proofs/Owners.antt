@@ -1,5 +1,5 @@
 -- A block that nobody shares becomes a counted one, and what a borrow of a counted handle holds. Assumes `Logic`.
-use Rattle.std.proofs.Common.{ℕ, ◌+◌, Bool, true, false, [], ◌∷◌, ◌++◌, ◌%◌, ◌≤◌, arith}
+use Rattle.std.proofs.Common.{ℕ, ◌+◌, Bool, true, false, [], ◌∷◌, ◌++◌, ◌%◌, ◌≤◌, arith, refl, sym, subst, true≢false, inl, inr}
 use seplogic.Ra.Ura.{Ura}
 use lib.Dec.{lit<}
 use base.Fraction.{full_share}
@@ -10,7 +10,7 @@ use contract.BorrowLft.{meet_⊑_left, meet_⊑_right, ⊑_meet, ⊑_static}
 use ghost.Rules.{span, thinned}
 use types.Logic.{Logic, sem, lfts}
 use types.Kit.{‵, raw, ◌⊛◌, some as exists, later, ◌$◌, ◌∵◌, !, qed, by, move, keep, use1, use2, split, split3, join, fsplit, fsplit3, fjoin, fjoin3, fpick, fpack, pick, assume, suffices, group, await, updating, now, done}
-use types.Tokens.{lft_new, bor_new, bor_open, obor_alter, bor_fracture, one_token}
+use types.Tokens.{lft_new, lft_end, bor_new, bor_open, obor_alter, bor_fracture, one_token}
 use types.RcWeak.{part, rest, part_in, cut}
 use denote.Sharing.{ShrLaws, said, beside, some, one, held, always}
 use denote.SharingLaws.{contraction, said_shr_laws, some_shr_laws, beside_shr_laws, one_shr_laws, always_shr_laws, held_shr_laws}
@@ -25,14 +25,19 @@ use Rattle.core.specs.Sync.RawAtomic.{word}
 use Rattle.std.specs.declared.alloc.Global.{Global}
 use Rattle.std_alloc.proofs.ArcSteps.{Settles, Lends-settled}
 use Rattle.core.specs.Sync.RawAtomic.{word}
+use Rattle.counting_word.specs.CountingWord.{is_one_handle, marked_word}
 use Rattle.counting_word.proofs.Words.{stands-one}
 use Rattle.handles.proofs.block.Held.TheLaws.{the_row_laws as held_laws}
-use Rattle.handles.specs.Inside.Blocks.{HeldRow, Says, Names, Stage, living, entitled, stake, stage, Rule, counted, counted_shares, placed, stamp, shown, frees, held_and_block, held_offset, counted_handle, sole_or_counted, handle_shares, owned_as, shared_as, unshared_block, counted_handle}
-use Rattle.handles.proofs.Steps.{stands-unmarked, counted_stake}
+use Rattle.handles.specs.Inside.Blocks.{HeldRow, Says, Names, Stage, living, entitled, stake, stage, Rule, counted, counted_shares, placed, stamp, shown, frees, held_and_block, held_offset, counted_handle, Sharing, not_yet, marked_not_yet, begun, held_as, IsFirst, handle_shares, owned_as, shared_as, unshared_block, counted_handle}
+use Rattle.handles.proofs.Steps.{stands-unmarked, says-marked, counted_stake, makes_one}
 
 -- the word of a new block stands for its one handle
 says-new : (limit : ℕ) → 1 ≤ limit → Says limit 1 false 1
 says-new limit some = let within : 1 % 9223372036854775808 ≤ limit = omega (arith, some) in (stands-unmarked 1 1 0 1 stands-one, λ _. within)
+
+-- the word of a new block with the mark, from whose pool every handle is made
+says-new_mark : (limit : ℕ) → Says limit (marked_word 1) true 0
+says-new_mark limit = says-marked limit (marked_word 1) 0 (record { same_mark = refl; counts_live = λ none. absurd (true≢false none); covers_drops = λ _. omega arith })
 
 module _ (content kept : Fml) (limit b o : ℕ) (t : Lft → Fml) (L : ShrLaws t) where
   abbrev Held : Names → Fml
@@ -57,6 +62,22 @@ module _ (content kept : Fml) (limit b o : ℕ) (t : Lft → Fml) (L : ShrLaws t
         use2 𝓛 (later (‵ (t (a ∷ [])) ⊛ ‵ (flft (a ∷ []) e) ⊛ ‵ (flft μ q)))
         (lends (a ∷ []) ((a ∷ [], e) ∷ (μ, q) ∷ []) (Incl-trans (meet_⊑_right (a ∷ []) μ) inc) (meet_⊑_left (a ∷ []) μ)) $ await ! tt $ split3 ! $
         move ! (1 ∷ []) $ use1 𝓛 (‵ (part 64 a)) (part_in 64 𝓛 a e c) $ use1 𝓛 (‵ (stake i)) (counted_stake 𝓛 content kept limit b o i) $ move ! (0 ∷ 3 ∷ 1 ∷ []) $ fjoin3 ! $ fpack ! Names Held i $ now ! $ done !))))
+
+    -- with the mark, its lifetime is over and the handle is made from the pool
+    pub becomes_marked : (l : Lft) → Lends 𝓛 content t l → Settles 𝓛 (fsep (word b o (marked_word 1)) (fsep content kept)) (fex Names Held) l
+    becomes_marked l lends μ q inc =
+        qed 𝓛 (‵ (fsep (word b o (marked_word 1)) (fsep content kept)) ∷ ‵ (flft μ q) ∷ []) ∵ updating ! $ fsplit3 ! $ lft_new ! tt (λ m. lft_new ! tt (λ a. let i : Names = record { shared = a; unmarked = m } in
+        use1 𝓛 (‵ (rest 64 a 1) ⊛ ‵ (part 64 a)) (cut 64 𝓛 a 0 full_share (lit< tt) (Counts-all 64)) $ split ! $ move ! (4 ∷ []) $ bor_new ! tt (a ∷ []) $ move ! (3 ∷ []) $ fpick ! (λ e. fpick ! (λ c.
+        -- [the part; the borrow; the lender; the parts; the mark's token; the word; what is kept; the token]
+        move ! (0 ∷ 7 ∷ []) $ join ! $ move ! (1 ∷ 0 ∷ []) $
+        use2 𝓛 (later (‵ (t (a ∷ [])) ⊛ ‵ (flft (a ∷ []) e) ⊛ ‵ (flft μ q)))
+        (lends (a ∷ []) ((a ∷ [], e) ∷ (μ, q) ∷ []) (Incl-trans (meet_⊑_right (a ∷ []) μ) inc) (meet_⊑_left (a ∷ []) μ)) $ await ! tt $ split3 ! $
+        -- [the sharing; the part; the token; the lender; the parts; the mark's token; the word; what is kept]
+        move ! (5 ∷ []) $ lft_end ! tt $ move ! (2 ∷ []) $ fpack ! Share (λ e. flft (a ∷ []) e) e $ move ! (0 ∷ 7 ∷ []) $ fjoin ! $ move ! (5 ∷ 0 ∷ 1 ∷ []) $ fjoin3 ! $
+        -- [what is beside the word; the sharing; the token; the lender; the word]
+        move ! (4 ∷ 0 ∷ []) $ use2 𝓛 (‵ (Rule content kept limit b o i) ⊛ ‵ (stake i)) (makes_one 𝓛 content kept limit b o i (marked_word 1) 0 (says-new_mark limit)) $ split ! $
+        use1 𝓛 (later (‵ (finv (Rule content kept limit b o i)))) (𝓛.invs.inv_new (Rule content kept limit b o i)) $ await ! tt $
+        move ! (1 ∷ 0 ∷ 2 ∷ []) $ fjoin3 ! $ fpack ! Names Held i $ now ! $ keep ! (0 ∷ 1 ∷ []) $ done !))))
 
     module _ (κ : Lft) where
       abbrev Owns : Fml
@@ -120,14 +141,17 @@ module _ (R : RattleType) (L : Laws R) {M : Type 1} {𝓤 : Ura M} (𝓛 : Logic
       one = ⊑_meet l R.lives [] within (⊑_static l)
 
   -- a new block's handle becomes a counted one, and a counted one stays as it is
-  pub handle_settles : (l : Lft) → Incl l R.lives → Settles 𝓛 (fex Bool (sole_or_counted R p x)) (counted_handle R p x) l
-  handle_settles l within μ q inc = qed 𝓛 (‵ (fex Bool (sole_or_counted R p x)) ∷ ‵ (flft μ q) ∷ []) ∵ fpick ! (λ y. by ! (at y))
+  pub handle_settles : (l : Lft) → Incl l R.lives → Settles 𝓛 (fex Sharing (held_as R p x)) (counted_handle R p x) l
+  handle_settles l within μ q inc = qed 𝓛 (‵ (fex Sharing (held_as R p x)) ∷ ‵ (flft μ q) ∷ []) ∵ fpick ! (λ y. by ! (at y))
     where
-      at : (y : Bool) → ent 𝓤 (sep 𝓤 (sem 𝓛 (sole_or_counted R p x y)) (A.lft μ q)) (H.⇛ (sep 𝓤 (sem 𝓛 (counted_handle R p x)) (A.lft μ q)))
-      at true = becomes_counted (held_and_block R p x) (stamp p) x.limit.count (block_of p) (offset_of p + 0) (shown R p x) (shown-ShrLaws R L p x) 𝓛 x.limit.in_range.0 l
-          (Lends-first 𝓛 (lies_at (HeldRow R) full_share (p +ₚ held_offset R) x) (fex Global (frees R p)) (shown R p x) l
-          (Lends-lies 𝓛 (HeldRow R) l (p +ₚ held_offset R) x (Shares-less 𝓛 (HeldRow R) (HeldRow R).lives l (held_lives l within) ((held_laws R L).shares 𝓛) x))) μ q inc
-      at false = 𝓛.laws.⇛_intro _
+      lent : Lends 𝓛 (held_and_block R p x) (shown R p x) l
+      lent = Lends-first 𝓛 (lies_at (HeldRow R) full_share (p +ₚ held_offset R) x) (fex Global (frees R p)) (shown R p x) l
+          (Lends-lies 𝓛 (HeldRow R) l (p +ₚ held_offset R) x (Shares-less 𝓛 (HeldRow R) (HeldRow R).lives l (held_lives l within) ((held_laws R L).shares 𝓛) x))
+
+      at : (y : Sharing) → ent 𝓤 (sep 𝓤 (sem 𝓛 (held_as R p x y)) (A.lft μ q)) (H.⇛ (sep 𝓤 (sem 𝓛 (counted_handle R p x)) (A.lft μ q)))
+      at not_yet = becomes_counted (held_and_block R p x) (stamp p) x.limit.count (block_of p) (offset_of p + 0) (shown R p x) (shown-ShrLaws R L p x) 𝓛 x.limit.in_range.0 l lent μ q inc
+      at marked_not_yet = becomes_marked (held_and_block R p x) (stamp p) x.limit.count (block_of p) (offset_of p + 0) (shown R p x) (shown-ShrLaws R L p x) 𝓛 l lent μ q inc
+      at begun = 𝓛.laws.⇛_intro _
 
   -- an unshared block, its value first
   abbrev Turned : Fml
@@ -149,13 +173,19 @@ module _ (R : RattleType) (L : Laws R) {M : Type 1} {𝓤 : Ura M} (𝓛 : Logic
   -- what a `&` to a handle has, by whether it is known to be the only one
   pub Lends-owned : (sole : Bool) (l : Lft) → Incl l R.lives → Lends 𝓛 (owned_as R p x sole) (shared_as R p x sole) l
   Lends-owned true l within = Lends-unshared l within
-  Lends-owned false l within = Lends-settled 𝓛 (fex Bool (sole_or_counted R p x)) (counted_handle R p x) l (handle_settles l within) (shared_as R p x false)
-      (ex_i 𝓤 (λ y. sem 𝓛 (sole_or_counted R p x y)) false) (Lends-counted (held_and_block R p x) (stamp p) x.limit.count (block_of p) (offset_of p + 0) (shown R p x) (shown-ShrLaws R L p x) 𝓛 l)
+  Lends-owned false l within = Lends-settled 𝓛 (fex Sharing (held_as R p x)) (counted_handle R p x) l (handle_settles l within) (shared_as R p x false)
+      (ex_i 𝓤 (λ y. sem 𝓛 (held_as R p x y)) begun) (Lends-counted (held_and_block R p x) (stamp p) x.limit.count (block_of p) (offset_of p + 0) (shown R p x) (shown-ShrLaws R L p x) 𝓛 l)
 
   -- that a handle is the only one may be forgotten
   pub forgets : (sole : Bool) → ent 𝓤 (sem 𝓛 (owned_as R p x sole)) (sem 𝓛 (owned_as R p x false))
-  forgets true = qed 𝓛 (‵ (owned_as R p x true) ∷ []) ∵ fpack ! Bool (sole_or_counted R p x) true $ done !
+  forgets true = qed 𝓛 (‵ (owned_as R p x true) ∷ []) ∵ fpack ! Sharing (held_as R p x) not_yet $ done !
   forgets false = id⊢ 𝓤 _
+
+  -- a new block's handle is the only one if the block is not marked
+  pub first_owned : (w : ℕ) → IsFirst w → ent 𝓤 (sem 𝓛 (unshared_block R p x w)) (sem 𝓛 (owned_as R p x (is_one_handle w)))
+  first_owned w (inl one) = subst (λ z. ent 𝓤 (sem 𝓛 (unshared_block R p x z)) (sem 𝓛 (owned_as R p x (is_one_handle z)))) (sym one) (id⊢ 𝓤 _)
+  first_owned w (inr marked) = subst (λ z. ent 𝓤 (sem 𝓛 (unshared_block R p x z)) (sem 𝓛 (owned_as R p x (is_one_handle z)))) (sym marked)
+      (qed 𝓛 (‵ (unshared_block R p x (marked_word 1)) ∷ []) ∵ fpack ! Sharing (held_as R p x) marked_not_yet $ done !)
 
   -- what a `&` to a handle sees of the value
   pub shown_by : (sole : Bool) (κ : Lft) → ent 𝓤 (sem 𝓛 (shared_as R p x sole κ)) (sem 𝓛 (shown R p x κ))

@@ -12,7 +12,7 @@ use Rattle.std_heap.specs.contracts.Global.{the_row as heap_row}
 use Rattle.std_alloc.proofs.SendSync.{lies, seen, quiet}
 use Rattle.std.proofs.Crossing as crossing
 use Rattle.handles.proofs.block.Held.TheSendSync.{the_send as held_send, the_sync as held_sync}
-use Rattle.handles.specs.Inside.Blocks.{HeldRow, Names, Stage, living, over, entitled, stage, stamp, left_at, block_type, held_offset, heap_offset, held_and_block, shown, sole_or_counted, owned_as, shared_as}
+use Rattle.handles.specs.Inside.Blocks.{HeldRow, Names, Stage, living, over, entitled, stage, stamp, left_at, block_type, held_offset, heap_offset, held_and_block, shown, Sharing, not_yet, marked_not_yet, begun, held_as, owned_as, shared_as}
 use Rattle.handles.specs.contracts.block.Handle as handle_type
 
 pointers : IsSend RawPtr
@@ -47,9 +47,10 @@ module _ (R : RattleType) (s : IsSend R) (y : IsSync R) where
   shown-Common : (p : Ptr) (x : (HeldRow R).Denot) → Common (shown R p x)
   shown-Common p x = seen (HeldRow R) (held_sync R y) (p +ₚ held_offset R) x
 
-  handle-Keyless : (p : Ptr) (x : (HeldRow R).Denot) (z : Bool) → Keyless (sole_or_counted R p x z)
-  handle-Keyless p x true = (tt, (content-Keyless p x, stamp-Keyless p))
-  handle-Keyless p x false = λ i. ((λ e. (entitled-Keyless i e, tt)), (rule-Keyless p x i, shown-Common p x (i.shared ∷ [])))
+  handle-Keyless : (p : Ptr) (x : (HeldRow R).Denot) (z : Sharing) → Keyless (held_as R p x z)
+  handle-Keyless p x not_yet = (tt, (content-Keyless p x, stamp-Keyless p))
+  handle-Keyless p x marked_not_yet = (tt, (content-Keyless p x, stamp-Keyless p))
+  handle-Keyless p x begun = λ i. ((λ e. (entitled-Keyless i e, tt)), (rule-Keyless p x i, shown-Common p x (i.shared ∷ [])))
 
   owned-Keyless : (p : Ptr) (x : (HeldRow R).Denot) (sole : Bool) → Keyless (owned_as R p x sole)
   owned-Keyless p x true = (tt, (content-Keyless p x, stamp-Keyless p))

@@ -120,7 +120,7 @@ module _ {M : Type 1} {𝓤 : Ura M} (𝓛 : Logic 𝓤) (content kept : Fml) (l
   marked_stake e = qed 𝓛 (‵ (fdead m) ∷ ‵ (flft a e) ∷ []) ∵ fpack ! Bool (entitled i e) false $ fjoin ! $ fpack ! Share (λ e. fsep (fex Bool (entitled i e)) (flft a e)) e $ done !
 
   -- a marked block makes one handle more
-  makes_one : (w n : ℕ) → Says limit w true n → ⟦ word b o w ⟧ ∗ ⟦ Beside true n ⟧ ⊢ ⟦ I ⟧ ∗ ⟦ stake i ⟧
+  pub makes_one : (w n : ℕ) → Says limit w true n → ⟦ word b o w ⟧ ∗ ⟦ Beside true n ⟧ ⊢ ⟦ I ⟧ ∗ ⟦ stake i ⟧
   makes_one w n s = qed 𝓛 (‵ (word b o w) ∷ ‵ (Beside true n) ∷ []) ∵ move ! (1 ∷ []) $ fsplit3 ! $ move ! (1 ∷ []) $ fsplit ! $
       fpick ! (λ e. use1 𝓛 (‵ (flft a (Share.left e)) ⊛ ‵ (flft a (Share.right e))) (𝓛.lfts.lft_split a e) $ split ! $ fpack ! Share (λ e. flft a e) (Share.left e) $
       -- [a half of the share; the other; what is kept; the parts; the mark; the word]

@@ -65,9 +65,7 @@ impl<T: Send + Sync + Drop> Arc<T> {
         ensures made { IfOk result (λ a. a ≡ value) }
         ensures refused { IfErr result (λ x. x ≡ value) }
     {
-        let arc = Arc::new(alloc, value)?;
-        arc.mark_as_intentionally_leaked();
-        Ok(arc)
+        Ok(UniqueArc::new(alloc, value)?.leaked())
     }
 
     /// The same as `new_leaked`, under the original's name for memory that is never given back.

@@ -8,7 +8,7 @@
 // claim         load                `&mut Handle`       the same, and knows whether it is sole
 // leave         load                `Handle`            one unit to lower; nothing if the word is marked
 // lower         subtract            one unit            nothing; the whole block if it was the last
-// sole          none                a loose block       the sole `Handle`
+// first         none                a new loose block   the sole `Handle`; any other if the word is marked
 // into_shared   none                `Handle`            a `Handle` that is not known to be sole
 // into_gain     none                the sole `Handle`   the whole block
 // into_handle   none                a handle gained     `Handle`
@@ -17,9 +17,9 @@
 // `stamp` and `add_to_stamp` make a load and an addition on the stamp.
 ghost use Rattle.std.specs.Prelude.{◌≡◌, ◌<◌, Bool, true, false, IfOk, IfErr};
 ghost use types.Logic.{sem};
-ghost use Rattle.counting_word.specs.CountingWord.{is_one_handle, IsWithin};
+ghost use Rattle.counting_word.specs.CountingWord.{is_one_handle, marked_word, IsWithin};
 ghost use Rattle.std_alloc.specs.Box.Ownership.{box_owns};
-ghost use Rattle.handles.specs.Inside.Blocks.{handle_owns, handle_shares, gain_owns};
+ghost use Rattle.handles.specs.Inside.Blocks.{IsFirst, handle_owns, handle_shares, gain_owns};
 ghost use Rattle.handles.specs.declared.block.Held.{Held};
 ghost use Rattle.handles.specs.Inside.Rights.{Right, nothing, a_handle, to_lower, whole_block, coded_right, IsWholeBlock};
 ghost use Rattle.handles.specs.Inside.Rights.{right_by_read, right_by_raise, right_by_last_read, right_by_lower};
@@ -29,7 +29,7 @@ mod same_block;
 
 use crate::limit::Limit;
 use atomic_table::exchange;
-use counting_word::{DropPlan, MARK, is_last, plan_drop};
+use counting_word::{DropPlan, MARK, is_last, plan_drop, with_mark};
 use std::alloc::{AllocFailed, Allocator, Global};
 use std::marker::{Brand, Model};
 use std::sync::atomic::Ordering::SeqCst;
@@ -73,6 +73,14 @@ impl<T> Block<T> {
         ensures { result.now ≡ self.now.held.value }
     {
         &self.held.value
+    }
+
+    // Before the block is shared, so no atomic step.
+    #[inline]
+    pub(crate) fn mark(&mut self)
+        ensures { self.new ≡ record self.old { word = marked_word self.old.word } }
+    {
+        self.word = with_mark(self.word);
     }
 }
 
@@ -184,10 +192,11 @@ impl<T> Model for Gain<T> {
 }
 
 impl<T> Handle<T> {
-    pub(crate) fn sole(block: Loose<Block<T>, Global>) -> Handle<T>
-        requires { block.value.word ≡ 1 }
+    // Of a new block: the only handle, if the block is not marked.
+    pub(crate) fn first(block: Loose<Block<T>, Global>) -> Handle<T>
+        requires { IsFirst block.value.word }
         ensures held { result.held ≡ block.value.held }
-        ensures sole { result.sole ≡ true }
+        ensures sole { result.sole ≡ is_one_handle block.value.word }
     {
         let Loose { at, alloc: _ } = block;
         Handle { block: at }

@@ -49,7 +49,26 @@ impl<T: Send + Sync + Drop> UniqueArc<T> {
         ensures { result ≡ self }
     {
         let UniqueArc { block } = self;
-        Arc::of(Handle::sole(Loose::of(block)).into_shared())
+        Arc::of(Handle::first(Loose::of(block)).into_shared())
+    }
+
+    // As `shareable`, of a block that is marked before it is shared.
+    pub(crate) fn leaked(self) -> Arc<T>
+        ensures { result ≡ self }
+    {
+        let UniqueArc { mut block } = self;
+        block.mark();
+        Arc::of(Handle::first(Loose::of(block)))
+    }
+
+    pub(crate) fn into_arc(self, is_static: bool) -> Arc<T>
+        ensures { result ≡ self }
+    {
+        if is_static {
+            self.leaked()
+        } else {
+            self.shareable()
+        }
     }
 }
 

@@ -6,7 +6,7 @@
 --     token of that lifetime; the invariant has the parts that no handle has.
 --   * `unmarked` is the lifetime that ends with the mark. Its token lies in the invariant until then, so whoever knows
 --     it to be over knows the block to be marked, from then on for good.
-use Rattle.std.specs.Prelude.{ℕ, ◌+◌, Bool, true, false, List, [], ◌∷◌}
+use Rattle.std.specs.Prelude.{◌≡◌, ◌⊎◌, ℕ, ◌+◌, Bool, true, false, List, [], ◌∷◌}
 use base.Fraction.{full_share}
 use base.FractionLaws.{Counts}
 use base.Fml.{Lft, Share, Fml, ftrue, ffalse, fsep, fex, flft, fdead, flent, finv, fleft}
@@ -24,7 +24,7 @@ use Rattle.core.proofs.cell.Borrows.{flag}
 use Rattle.std.specs.declared.alloc.Global.{Global}
 use Rattle.std_heap.specs.contracts.Global.{the_row as heap_row}
 use Rattle.std.specs.contracts.impls.GlobalAllocator.TheImpl.{ghosts}
-use Rattle.counting_word.specs.CountingWord.{StandsFor, IsWithin}
+use Rattle.counting_word.specs.CountingWord.{StandsFor, IsWithin, marked_word}
 use Rattle.handles.specs.contracts.block.Held.{the_row as held_row}
 use Rattle.handles.specs.Inside.Rights.{Right, nothing, a_handle, to_lower, whole_block}
 
@@ -91,6 +91,16 @@ module _ (content kept : Fml) (limit b o : ℕ) (i : Names) where
   abbrev pub counted_shares : (Lft → Fml) → Lft → Fml
   counted_shares shown = beside (one (λ q. flft (i.shared ∷ []) q)) (beside (always Rule) (held (i.shared ∷ []) shown))
 
+-- A new block is not shared yet, and was made with the mark or without; or it was shared before.
+pub data Sharing : Type 0 where
+  not_yet : Sharing
+  marked_not_yet : Sharing
+  begun : Sharing
+
+-- the word of a new block
+abbrev pub IsFirst : ℕ → Type 0
+IsFirst word = (word ≡ 1) ⊎ (word ≡ marked_word 1)
+
 abbrev pub placed : Ptr → Fml
 placed p = fact (InBlock p)
 
@@ -152,14 +162,15 @@ module _ (R : RattleType) where
         counted (held_and_block p x) (stamp p) x.limit.count (block_of p) (offset_of p + 0) i (shown p x))
 
     -- The only handle of a new block has it outright, until it is first shared; the invariant is made only then.
-    abbrev pub sole_or_counted : Bool → Fml
-    sole_or_counted true = unshared_block 1
-    sole_or_counted false = counted_handle
+    abbrev pub held_as : Sharing → Fml
+    held_as not_yet = unshared_block 1
+    held_as marked_not_yet = unshared_block (marked_word 1)
+    held_as begun = counted_handle
 
     -- by whether it is known to be the only one
     abbrev pub owned_as : Bool → Fml
     owned_as true = unshared_block 1
-    owned_as false = fex Bool sole_or_counted
+    owned_as false = fex Sharing held_as
 
     abbrev pub handle_owns : Bool → Fml
     handle_owns sole = fsep (placed p) (owned_as sole)

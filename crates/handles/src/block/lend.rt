@@ -56,7 +56,7 @@ impl<T> Handle<T> {
         let copy = self.value().clone()?;
         match Block::boxed(alloc, copy, self.limit()) {
             Ok(block) => {
-                *self = Handle::sole(Loose::of(block));
+                *self = Handle::first(Loose::of(block));
                 Ok(())
             }
             Err(_) => Err(AllocError),

@@ -44,11 +44,11 @@ impl<H: Send + Sync + Drop, T: Send + Sync + Drop> Arc<HeaderSlice<H, T>> {
         ensures runs { IfOk result (TakesAll I.next_gives items) }
         ensures refusals { IfErr result (RefusesRun I.next_gives items num_items) }
     {
-        Ok(UniqueArc::from_header_and_iter_with_size(alloc, header, items, num_items)?.shareable())
+        Arc::from_header_and_iter_alloc(alloc, header, items, num_items, false)
     }
 
-    /// As `from_header_and_iter_with_size`. With `is_static` the block is then marked: it is never given back, and its
-    /// value is never dropped.
+    /// As `from_header_and_iter_with_size`. With `is_static` the block is marked: it is never given back, and its value
+    /// is never dropped.
     pub fn from_header_and_iter_alloc<I: Iterator<Item = T>>(
         alloc: Global,
         header: H,
@@ -62,11 +62,8 @@ impl<H: Send + Sync + Drop, T: Send + Sync + Drop> Arc<HeaderSlice<H, T>> {
         ensures runs { IfOk result (TakesAll I.next_gives items) }
         ensures refusals { IfErr result (RefusesRun I.next_gives items num_items) }
     {
-        let slice = Arc::from_header_and_iter_with_size(alloc, header, items, num_items)?;
-        if is_static {
-            slice.mark_as_intentionally_leaked();
-        }
-        Ok(slice)
+        let slice = UniqueArc::from_header_and_iter_with_size(alloc, header, items, num_items);
+        Ok(slice?.into_arc(is_static))
     }
 }
 

@@ -34,7 +34,8 @@ const ITEMS: u32 = 16; // of header-build and header-sum
 const RING: usize = 64; // handles kept by replace
 
 /// A counted pointer by the port's rules: one word, bit 63 the mark, a clone by a load and a compare-exchange that is
-/// tried again, a drop by a load and a subtraction.
+/// tried again, a drop by a load and a subtraction. Its block has the port's other two words too: the stamp, which no
+/// workload uses, and the limit.
 mod word {
     use std::ops::Deref;
     use std::sync::atomic::{AtomicU64, Ordering::SeqCst};
@@ -44,6 +45,8 @@ mod word {
 
     struct Block<T> {
         word: AtomicU64,
+        _stamp: AtomicU64,
+        limit: u64,
         value: T,
     }
 
@@ -63,6 +66,8 @@ mod word {
             Arc {
                 at: Box::into_raw(Box::new(Block {
                     word: AtomicU64::new(1),
+                    _stamp: AtomicU64::new(0),
+                    limit: MAX_REFCOUNT,
                     value,
                 })),
             }
@@ -80,7 +85,7 @@ mod word {
                 if seen & MARK != 0 {
                     return Ok(Arc { at: self.at });
                 }
-                if seen == MAX_REFCOUNT {
+                if seen >= unsafe { (*self.at).limit } {
                     return Err(Full);
                 }
                 match self.word().compare_exchange(seen, seen + 1, SeqCst, SeqCst) {

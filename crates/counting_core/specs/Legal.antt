@@ -3,12 +3,14 @@ use Rattle.std.specs.Prelude.{◌≡◌, ℕ, Bool, true, false, ◌||◌, ◌�
 use Rattle.counting_word.specs.CountingWord.{IsLimit}
 use Rattle.counting_core.specs.declared.step.Step.{Step}
 use Rattle.counting_core.specs.declared.step.Step.TheVariants.{Clone, Raise, Quit, Drop, Lower, Mark, Unique, Static}
-use Rattle.counting_core.specs.declared.step.Step.TheVariants.{GetMut, Write, EndWrite, IntoUnique, Share, Load, Lend, Return, Give}
+use Rattle.counting_core.specs.declared.step.Step.TheVariants.{GetMut, Write, EndWrite, IntoUnique, Share}
+use Rattle.counting_core.specs.declared.step.Step.TheVariants.{Load, Lend, Return, Give}
 use Rattle.counting_core.specs.declared.step.Answer.{Answer}
 use Rattle.counting_core.specs.declared.step.Answer.TheVariants.{Born, Pending, Done, Memory, Barred, Quit as Quitted}
 use Rattle.counting_core.specs.Trace.{Trace, Open, Then, Situation, owner_of, dropped_by, put, situation}
 use Rattle.counting_core.specs.Permitted.{permitted}
-use Rattle.counting_core.specs.PlainMachine.{Machine, Event, Clones, Ends, Marks, AsksUnique, AsksStatic, AsksMut, AsksSole}
+use Rattle.counting_core.specs.PlainMachine.{Machine, Event, Clones, Ends, Marks}
+use Rattle.counting_core.specs.PlainMachine.{AsksUnique, AsksStatic, AsksMut, AsksSole}
 use Rattle.counting_core.specs.PlainMachine.{Writes, Loads, opened, is_full, respond}
 
 -- A permitted step is an event of the plain machine, or it is silent and has this answer.

@@ -7,7 +7,8 @@ use Rattle.counting_core.specs.declared.owner.Activity.{Activity}
 use Rattle.counting_core.specs.declared.owner.Activity.TheVariants.{Idle, Cloning, Dropping}
 use Rattle.counting_core.specs.declared.step.Step.{Step}
 use Rattle.counting_core.specs.declared.step.Step.TheVariants.{Clone, Raise, Quit, Drop, Lower, Mark, Unique, Static}
-use Rattle.counting_core.specs.declared.step.Step.TheVariants.{GetMut, Write, EndWrite, IntoUnique, Share, Load, Lend, Return, Give}
+use Rattle.counting_core.specs.declared.step.Step.TheVariants.{GetMut, Write, EndWrite, IntoUnique, Share}
+use Rattle.counting_core.specs.declared.step.Step.TheVariants.{Load, Lend, Return, Give}
 use Rattle.counting_core.specs.Trace.{HandleState, Situation, owner_of}
 
 abbrev pub is_shared : Access → Bool

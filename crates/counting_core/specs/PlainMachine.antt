@@ -3,7 +3,8 @@
 use Rattle.std.specs.Prelude.{ℕ, ◌+◌, Bool, true, false, not, ◌&&◌, nat_eq, if◌then◌else◌, List, [], ◌∷◌, ◌++◌, length}
 use Rattle.std.specs.List.{list_any, filter}
 use Rattle.counting_core.specs.declared.step.Answer.{Answer}
-use Rattle.counting_core.specs.declared.step.Answer.TheVariants.{Born, Full, Ended, GivenUp, Marked, Is, Alone, Sole, Shared}
+use Rattle.counting_core.specs.declared.step.Answer.TheVariants.{Born, Full, Ended, GivenUp, Marked}
+use Rattle.counting_core.specs.declared.step.Answer.TheVariants.{Is, Alone, Sole, Shared}
 use Rattle.counting_core.specs.declared.step.Answer.TheVariants.{Done, Value}
 
 pub record Machine (V : Type 0) : Type 0 where

@@ -9,7 +9,8 @@ use Rattle.counting_core.specs.declared.owner.Activity.{Activity}
 use Rattle.counting_core.specs.declared.owner.Activity.TheVariants.{Idle, Cloning, Dropping}
 use Rattle.counting_core.specs.declared.step.Step.{Step}
 use Rattle.counting_core.specs.declared.step.Step.TheVariants.{Clone, Raise, Quit, Drop, Lower, Mark, Unique, Static}
-use Rattle.counting_core.specs.declared.step.Step.TheVariants.{GetMut, Write, EndWrite, IntoUnique, Share, Load, Lend, Return, Give}
+use Rattle.counting_core.specs.declared.step.Step.TheVariants.{GetMut, Write, EndWrite, IntoUnique, Share}
+use Rattle.counting_core.specs.declared.step.Step.TheVariants.{Load, Lend, Return, Give}
 use Rattle.counting_core.specs.declared.step.Answer.{Answer}
 use Rattle.counting_core.specs.declared.step.Answer.TheVariants.{Born, Full, Pending, Ended, GivenUp, Alone, Sole, Done}
 use Rattle.counting_core.specs.declared.step.Answer.TheVariants.{Quit as Quitted}

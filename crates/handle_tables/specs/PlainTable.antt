@@ -1,7 +1,8 @@
 -- The plain table: a list of optional values. No slot shares anything with another.
 use Rattle.std.specs.Prelude.{ℕ, Bool, true, false, List, [], ◌∷◌, Option, Some, None, slice_get, slice_set}
 use Rattle.handle_tables.specs.declared.commands.Command.{Command}
-use Rattle.handle_tables.specs.declared.commands.Command.TheVariants.{New, Clone, Drop, GetMut, IntoUnique, MakeMut, Own, Mark, Raw, PtrEq, Same}
+use Rattle.handle_tables.specs.declared.commands.Command.TheVariants.{New, Clone, Drop, GetMut, IntoUnique, MakeMut}
+use Rattle.handle_tables.specs.declared.commands.Command.TheVariants.{Own, Mark, Raw, PtrEq, Same}
 use Rattle.handle_tables.specs.declared.commands.PlainCommand.{PlainCommand}
 use Rattle.handle_tables.specs.declared.commands.PlainCommand.TheVariants as plain
 use Rattle.handle_tables.specs.declared.commands.Reply.{Reply}
@@ -59,7 +60,8 @@ module _ {V : Type 0} where
 
   -- whether two slots have equal values
   abbrev pub compares : (V → V → Bool) → ℕ → ℕ → Meaning V
-  compares equal i j slots = at slots j (reading slots i (λ v. reading slots j (λ w. stays slots (Is (equal v w)) ∷ [])))
+  compares equal i j slots =
+      at slots j (reading slots i (λ v. reading slots j (λ w. stays slots (Is (equal v w)) ∷ [])))
 
   -- what each command means, over values with this equality
   abbrev pub outcomes_of : (V → V → Bool) → Command V → Meaning V
@@ -72,7 +74,8 @@ module _ {V : Type 0} where
   outcomes_of equal (Own i) slots = reading slots i (λ _. stays slots Done ∷ stays slots Refused ∷ [])
   outcomes_of equal (Mark i) slots = reading slots i (λ _. stays slots Done ∷ [])
   outcomes_of equal (Raw i) slots = reading slots i (λ _. stays slots Done ∷ [])
-  outcomes_of equal (PtrEq i j) slots = at slots j (reading slots i (λ _. reading slots j (λ _. stays slots (Is true) ∷ stays slots (Is false) ∷ [])))
+  outcomes_of equal (PtrEq i j) slots =
+      at slots j (reading slots i (λ _. reading slots j (λ _. stays slots (Is true) ∷ stays slots (Is false) ∷ [])))
   outcomes_of equal (Same i j) slots = compares equal i j slots
 
   -- only Own may leave a copy in its slot

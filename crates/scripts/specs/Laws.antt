@@ -11,7 +11,8 @@ EachTextHasItsLines = (text : List ℕ) →
     (lines : List (List ℕ)) × AreLines text lines × ((others : List (List ℕ)) → AreLines text others → lines ≡ others)
 
 abbrev pub AsksForOneThing : {A : Type 0} → (A → List ℕ × Numbers) → Type 0
-AsksForOneThing {A} language = (line : List ℕ) (one other : A) → Says language line one → Says language line other → one ≡ other
+AsksForOneThing {A} language =
+    (line : List ℕ) (one other : A) → Says language line one → Says language line other → one ≡ other
 
 abbrev pub EachLineIsOneStep : Type 0
 EachLineIsOneStep = AsksForOneThing step_line

@@ -22,7 +22,8 @@ abbrev pub WroteBeginning : List ℕ → Option (List ℕ) → Option (List ℕ)
 WroteBeginning text old new = (done left : List ℕ) × (text ≡ done ++ left) × Appends old new done
 
 -- What the words ask for was done with the bytes of the input, if those can be known.
-pub record DidAsAsked (words : List (List ℕ)) (input : Option (List ℕ)) (outcome : Outcome) (old new : Option (List ℕ)) : Type 0 where
+pub record DidAsAsked (words : List (List ℕ)) (input : Option (List ℕ)) (outcome : Outcome)
+    (old new : Option (List ℕ)) : Type 0 where
   pub request : Request
   pub asks : Asks words request
   pub wrote : IfSome input (λ script. Wrote (PrintsAsAsked request script outcome) old new)

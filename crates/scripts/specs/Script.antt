@@ -48,7 +48,8 @@ module _ {S : Type 0} (answers : S → List ℕ → List ℕ → S → Type 0) w
   -- each line is answered in turn, from the state that the one before left
   abbrev pub AreAnswered : S → List (List ℕ) → List (List ℕ) → S → Type 0
   AreAnswered old [] [] new = new ≡ old
-  AreAnswered old (line ∷ lines) (text ∷ texts) new = (next : S) × answers old line text next × AreAnswered next lines texts new
+  AreAnswered old (line ∷ lines) (text ∷ texts) new =
+      (next : S) × answers old line text next × AreAnswered next lines texts new
   AreAnswered old [] (text ∷ texts) new = ⊥
   AreAnswered old (line ∷ lines) [] new = ⊥
 

@@ -1,7 +1,8 @@
 -- What the lines of a core's script are answered: words, and the number after them, if there is one.
 use Rattle.std.specs.Prelude.{ℕ, true, false, List, Option, Some, None, codes}
 use Rattle.counting_core.specs.declared.step.Answer.{Answer}
-use Rattle.counting_core.specs.declared.step.Answer.TheVariants.{Born, Full, Pending, Quit, Ended, GivenUp, Marked, Is, Alone, Sole, Shared, Done, Value, Memory, Barred}
+use Rattle.counting_core.specs.declared.step.Answer.TheVariants.{Born, Full, Pending, Quit, Ended, GivenUp, Marked, Is}
+use Rattle.counting_core.specs.declared.step.Answer.TheVariants.{Alone, Sole, Shared, Done, Value, Memory, Barred}
 
 abbrev pub printed_answer : Answer ℕ → List ℕ × Option ℕ
 printed_answer (Born handle) = (codes "born ", Some handle)

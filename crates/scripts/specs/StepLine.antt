@@ -1,7 +1,9 @@
 -- How the steps of a core are written as lines.
 use Rattle.std.specs.Prelude.{ℕ, List, codes}
 use Rattle.counting_core.specs.declared.step.Step.{Step}
-use Rattle.counting_core.specs.declared.step.Step.TheVariants.{Clone, Raise, Quit, Drop, Lower, Mark, Unique, Static, GetMut, Write, EndWrite, IntoUnique, Share, Load, Lend, Return, Give}
+use Rattle.counting_core.specs.declared.step.Step.TheVariants.{Clone, Raise, Quit, Drop, Lower, Mark}
+use Rattle.counting_core.specs.declared.step.Step.TheVariants.{Unique, Static, GetMut, Write, EndWrite, IntoUnique}
+use Rattle.counting_core.specs.declared.step.Step.TheVariants.{Share, Load, Lend, Return, Give}
 use Rattle.scripts.specs.declared.line.Numbers.{Numbers}
 use Rattle.scripts.specs.declared.line.Numbers.TheVariants.{One, Two, Three}
 

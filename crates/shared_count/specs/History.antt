@@ -1,5 +1,6 @@
 -- The history of a count: the calls of its passes with their replies, the earliest first.
-use Rattle.std.specs.Prelude.{◌≡◌, ℕ, ◌<◌, Bool, true, false, not, ◌&&◌, if◌then◌else◌, nat_eq, List, [], ◌∷◌, length, count_by, filter}
+use Rattle.std.specs.Prelude.{◌≡◌, ℕ, ◌<◌, Bool, true, false, not, ◌&&◌}
+use Rattle.std.specs.Prelude.{if◌then◌else◌, nat_eq, List, [], ◌∷◌, length, count_by, filter}
 use Rattle.std.specs.List.{range_with_len}
 use Rattle.counting_word.specs.CountingWord.{greatest_count}
 use Rattle.shared_count.specs.declared.history.TryClone.TheVariants.{Born, Full}

@@ -1,5 +1,6 @@
 -- What every legal history keeps.
-use Rattle.std.specs.Prelude.{◌≡◌, ℕ, ◌<◌, Bool, true, false, nat_lt, if◌then◌else◌, List, ◌++◌, length, count_by, sum_by}
+use Rattle.std.specs.Prelude.{◌≡◌, ℕ, ◌<◌, Bool, true, false, nat_lt}
+use Rattle.std.specs.Prelude.{if◌then◌else◌, List, ◌++◌, length, count_by, sum_by}
 use Rattle.std.specs.List.{range_with_len}
 use Rattle.shared_count.specs.declared.history.EndReply.TheVariants.{Last}
 use Rattle.shared_count.specs.declared.history.Call.{Call}

@@ -88,7 +88,8 @@ TellsClone st = Tells Whole (λ x found. Judged x (clone_plan found greatest_cou
 -- a raise wins where it finds the word that it expects, and else is judged by the word that it found
 abbrev pub TellsRaise : Step (Unit {0}) → SeatState → ℕ → SeatState → Type 0
 TellsRaise st = Tells Whole (λ x found m.
-    (found ≡ st.first → Made x (Clone Born) m) × (found ≢ st.first → Judged x (clone_plan found greatest_count) found m))
+    (found ≡ st.first → Made x (Clone Born) m)
+    × (found ≢ st.first → Judged x (clone_plan found greatest_count) found m))
 
 abbrev pub TellsEnd : Step (Unit {0}) → SeatState → ℕ → SeatState → Type 0
 TellsEnd st = Tells Whole (λ x found. Begun x (drop_plan found))

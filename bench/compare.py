@@ -7,9 +7,9 @@ that the preparation is not measured. N is chosen so that a run of `servo` takes
 its preparation. All have to print one checksum.
 
 It prints the nanoseconds a unit of each, the ratio of the program's elapsed time to that of each pointer, the middle
-half of the first of these ratios and of the control, and a verdict: whether the ratio, or the nanoseconds where they are
-the goal, are within the goal. With --script it does the same for scripts, which `servo` alone runs. The verdict is
-`busy` where the control's middle half strays from 1 by more than --noise: then the machine was too busy to judge.
+half of the first of these ratios and of the control, and a verdict: whether the figure that has a goal is within it. With
+--script it does the same for scripts, which `servo` alone runs. The verdict is `busy` where the control's middle half
+strays from 1 by more than --noise, unless the figure is farther off still: then the machine was too busy to judge.
 
 The status is 1 where a checksum differs or a workload that was named does not run, else 3 where a goal was missed, else 4
 where a goal could not be judged.
@@ -37,7 +37,7 @@ def arguments():
     parser.add_argument("--script", nargs=5, action="append", default=[],
                         metavar=("KIND", "SIZE", "FILE", "PEER", "PROGRAM"), help="also a script, run by these two")
     parser.add_argument("--scripts-only", action="store_true", help="no workloads")
-    parser.add_argument("--goals", help="lines WORKLOAD and RATIO, or WORKLOAD and NUMBER ns, with a tab between them")
+    parser.add_argument("--goals", help="lines WORKLOAD and GOAL with a tab between them: a ratio to `servo`, as 1.05, to `word`, as 1.05 word, or 1.50 ns")
     parser.add_argument("--repeats", type=int, default=15)
     parser.add_argument("--seconds", type=float, default=0.12, help="about what a run of `servo` takes")
     parser.add_argument("--noise", type=float, default=0.08)
@@ -47,13 +47,14 @@ def arguments():
 
 
 def read_goals(path):
-    """The greatest ratio, or the most nanoseconds, of each workload that has a goal."""
+    """Of each workload that has a goal: the figure that is judged, the most that it may be, and the goal's text."""
     found = {}
     if path:
         with open(path, encoding="utf-8") as file:
             for line in file:
                 name, goal = line.rstrip("\n").split("\t")
-                found[name] = (float(goal.removesuffix(" ns")), goal.endswith(" ns"))
+                most, _, of = goal.partition(" ")
+                found[name] = ({"": "ratio", "ns": "program_ns", "word": "word_ratio"}[of], float(most), goal)
     return found
 
 
@@ -172,17 +173,15 @@ def measured(workload, repeats):
 
 
 def judge(figures, goal, noise):
-    """Adds the verdict. A goal in nanoseconds is met or missed on a busy machine too, which only slows a program."""
+    """Adds the verdict. On a busy machine too a goal in nanoseconds is met, and any is missed that lies far off."""
     if goal is None:
         figures["verdict"] = "no goal"
         return
-    most, in_ns = goal
-    figures["goal"] = f"{most:.2f} ns" if in_ns else f"{most:.2f}"
+    of, most, figures["goal"] = goal
+    is_met = figures[of] <= most
     strays = max(figures["control_high"] - 1, 1 - figures["control_low"])
-    if (figures["program_ns"] if in_ns else figures["ratio"]) <= most:
-        figures["verdict"] = "met" if in_ns or strays <= noise else "busy"
-    else:
-        figures["verdict"] = "missed" if strays <= noise else "busy"
+    is_sure = strays <= noise or (of == "program_ns" if is_met else of == "ratio" and figures["low"] > most * (1 + strays))
+    figures["verdict"] = ("met" if is_met else "missed") if is_sure else "busy"
 
 
 HEAD = (f"{'workload':<16} {'program':>9} {'servo':>9} {'std':>9} {'word':>9} {'/servo':>7} {'middle half':>13}"

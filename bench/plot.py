@@ -2,7 +2,7 @@
 """Draws the ratios of a table that `compare.py --table` wrote as an SVG, on standard output.
 
 Each workload is a bar up to its median ratio, with a line over the middle half, a ring for the control and, where GOALS
-names a ratio, a mark for its goal. GOALS has lines WORKLOAD and RATIO, with a tab between them.
+has a ratio to the ported crate, a mark for it. GOALS has lines WORKLOAD and GOAL, with a tab between them.
 """
 import argparse
 import csv
@@ -26,7 +26,7 @@ def read_goals(path):
         return {}
     with open(path, encoding="utf-8") as file:
         goals = [line.rstrip("\n").split("\t") for line in file if line.strip()]
-    return {name: float(goal) for name, goal in goals if not goal.endswith(" ns")}
+    return {name: float(goal) for name, goal in goals if " " not in goal}
 
 
 def text(x, y, words, anchor="start"):

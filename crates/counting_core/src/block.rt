@@ -26,7 +26,8 @@ pub(crate) struct Block<V> {
 /// The number of a new handle, or nothing where memory is refused.
 pub(crate) fn push_newborn(handles: &mut Vec<Handle>, alloc: Global, holder: usize) -> Option<usize>
     ensures number { IfSome result (λ n. n ≡ length handles.old.items) }
-    ensures born { IfSome result (λ _. handles.new.items ≡ handles.old.items ++ newborn holder ∷ []) }
+    ensures born { IfSome result (λ _.
+        handles.new.items ≡ handles.old.items ++ newborn holder ∷ []) }
     ensures refused { IfNone result (handles.new.items ≡ handles.old.items) }
 {
     let number = handles.len();

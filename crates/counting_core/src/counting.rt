@@ -64,7 +64,8 @@ impl<V: Copy> Core<V> {
     pub fn step(&mut self, step: Step<V>) -> Answer<V>
         ensures reached { (trace : Trace V) × Represents self.old trace }
         ensures continues { Continues self.old step result self.new }
-        ensures unchanged { (result ≡ Answer.Barred) ⊎ (result ≡ Answer.Memory) → self.new ≡ self.old }
+        ensures unchanged { (result ≡ Answer.Barred) ⊎ (result ≡ Answer.Memory)
+            → self.new ≡ self.old }
     {
         self.block.step(step)
     }
@@ -72,7 +73,8 @@ impl<V: Copy> Core<V> {
     /// The answers of the steps, in order. Their room is reserved first, so an `Err` did nothing.
     pub fn run(&mut self, steps: &[Step<V>]) -> Result<Vec<Answer<V>>, AllocError>
         ensures reached { (trace : Trace V) × Represents self.old trace }
-        ensures ran { IfOk result (λ answers. ContinuesAll self.old steps.now answers.items self.new) }
+        ensures ran { IfOk result (λ answers.
+            ContinuesAll self.old steps.now answers.items self.new) }
         ensures refused { OnErr result (self.new ≡ self.old) }
     {
         let mut answers = Vec::with_capacity(self.block.alloc, steps.len())?;

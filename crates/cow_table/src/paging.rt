@@ -32,7 +32,8 @@ fn next_page<T: Send + Sync + Drop>(
     rest: &mut IntoIter<T>,
     page_len: usize,
 ) -> Result<Arc<Vec<T>>, AllocError>
-    ensures items { IfOk result (λ page. into_iter_items rest.old ≡ page.items ++ into_iter_items rest.new) }
+    ensures items { IfOk result (λ page.
+        into_iter_items rest.old ≡ page.items ++ into_iter_items rest.new) }
     ensures len { IfOk result (λ page. vec_len page ≡ min page_len (into_iter_len rest.old)) }
 {
     let len = page_len.min(rest.len());

@@ -167,7 +167,8 @@ fn own_page<T: Send + Sync + Clone>(
     requires copies { CopiesAreEqual T.is_clone }
     requires there { page < vec_len pages.old }
     ensures* writes_back { sem 𝓛 (LendsPage T.row pages.entry page result) }
-    ensures items { IfOk result (λ own. own.now.items ≡ vec_items (slice_index_or pages.old.items page own.now)) }
+    ensures items { IfOk result (λ own.
+        own.now.items ≡ vec_items (slice_index_or pages.old.items page own.now)) }
 {
     let pages = Arc::make_mut(pages, alloc)?;
     Arc::make_mut(&mut pages[page], alloc)

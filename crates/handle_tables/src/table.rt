@@ -97,7 +97,8 @@ impl<T: Send + Sync + PartialEq + Drop> Table<T> {
         alloc: Global,
         commands: Vec<PlainCommand<T>>,
     ) -> Result<Vec<Reply>, AllocError>
-        ensures ok { IfOk result (λ replies. Run (plain_outcomes_of T.eq) commands.items self.old replies.items self.new) }
+        ensures ok { IfOk result (λ replies.
+            Run (plain_outcomes_of T.eq) commands.items self.old replies.items self.new) }
         ensures err { OnErr result (self.new ≡ self.old) }
     {
         let mut replies = Vec::with_capacity(alloc, commands.len())?;
@@ -145,7 +146,8 @@ impl<T: Send + Sync + Clone + PartialEq> Table<T> {
         commands: Vec<Command<T>>,
     ) -> Result<Vec<Reply>, AllocError>
         requires copies { IsTrue (list_any is_own commands.items) → CopiesAreEqual T.is_clone }
-        ensures ok { IfOk result (λ replies. Run (outcomes_of T.eq) commands.items self.old replies.items self.new) }
+        ensures ok { IfOk result (λ replies.
+            Run (outcomes_of T.eq) commands.items self.old replies.items self.new) }
         ensures err { OnErr result (self.new ≡ self.old) }
     {
         let mut replies = Vec::with_capacity(alloc, commands.len())?;

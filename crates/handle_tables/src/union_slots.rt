@@ -15,7 +15,8 @@ pub(crate) fn first<A: Send + Sync + PartialEq + Drop, B: Send + Sync + PartialE
     i: usize,
     value: A,
 ) -> Reply
-    ensures { IsAmong (union_outcomes_of A.eq B.eq (UnionCommand.First i value) slots.old) result slots.new }
+    ensures { IsAmong (union_outcomes_of A.eq B.eq (UnionCommand.First i value) slots.old)
+        result slots.new }
 {
     if slots.get(i).is_none() {
         return Reply::NoSlot;
@@ -34,7 +35,8 @@ pub(crate) fn second<A: Send + Sync + PartialEq + Drop, B: Send + Sync + Partial
     i: usize,
     value: B,
 ) -> Reply
-    ensures { IsAmong (union_outcomes_of A.eq B.eq (UnionCommand.Second i value) slots.old) result slots.new }
+    ensures { IsAmong (union_outcomes_of A.eq B.eq (UnionCommand.Second i value) slots.old)
+        result slots.new }
 {
     if slots.get(i).is_none() {
         return Reply::NoSlot;
@@ -51,7 +53,8 @@ pub(crate) fn is_first<A: Send + Sync + PartialEq, B: Send + Sync + PartialEq>(
     slots: &[Option<ArcUnion<A, B>>],
     i: usize,
 ) -> Reply
-    ensures { IsAmong (union_outcomes_of A.eq B.eq (UnionCommand.IsFirst i) slots.now) result slots.now }
+    ensures { IsAmong (union_outcomes_of A.eq B.eq (UnionCommand.IsFirst i) slots.now)
+        result slots.now }
 {
     match slots.get(i) {
         None => Reply::NoSlot,
@@ -65,7 +68,8 @@ pub(crate) fn is_second<A: Send + Sync + PartialEq, B: Send + Sync + PartialEq>(
     slots: &[Option<ArcUnion<A, B>>],
     i: usize,
 ) -> Reply
-    ensures { IsAmong (union_outcomes_of A.eq B.eq (UnionCommand.IsSecond i) slots.now) result slots.now }
+    ensures { IsAmong (union_outcomes_of A.eq B.eq (UnionCommand.IsSecond i) slots.now)
+        result slots.now }
 {
     match slots.get(i) {
         None => Reply::NoSlot,
@@ -80,7 +84,8 @@ pub(crate) fn read_first<A: Send + Sync + PartialEq, B: Send + Sync + PartialEq>
     i: usize,
     value: &A,
 ) -> Reply
-    ensures { IsAmong (union_outcomes_of A.eq B.eq (UnionCommand.ReadFirst i value.now) slots.now) result slots.now }
+    ensures { IsAmong (union_outcomes_of A.eq B.eq (UnionCommand.ReadFirst i value.now) slots.now)
+        result slots.now }
 {
     let Some(slot) = slots.get(i) else {
         return Reply::NoSlot;
@@ -100,7 +105,8 @@ pub(crate) fn read_second<A: Send + Sync + PartialEq, B: Send + Sync + PartialEq
     i: usize,
     value: &B,
 ) -> Reply
-    ensures { IsAmong (union_outcomes_of A.eq B.eq (UnionCommand.ReadSecond i value.now) slots.now) result slots.now }
+    ensures { IsAmong (union_outcomes_of A.eq B.eq (UnionCommand.ReadSecond i value.now) slots.now)
+        result slots.now }
 {
     let Some(slot) = slots.get(i) else {
         return Reply::NoSlot;
@@ -120,7 +126,8 @@ pub(crate) fn ptr_eq<A: Send + Sync + PartialEq, B: Send + Sync + PartialEq>(
     i: usize,
     j: usize,
 ) -> Reply
-    ensures { IsAmong (union_outcomes_of A.eq B.eq (UnionCommand.PtrEq i j) slots.now) result slots.now }
+    ensures { IsAmong (union_outcomes_of A.eq B.eq (UnionCommand.PtrEq i j) slots.now)
+        result slots.now }
 {
     let (Some(a), Some(b)) = (slots.get(i), slots.get(j)) else {
         return Reply::NoSlot;

@@ -97,7 +97,8 @@ impl<A: Send + Sync + PartialEq + Drop, B: Send + Sync + PartialEq + Drop> Union
         alloc: Global,
         commands: Vec<UnionCommand<A, B>>,
     ) -> Result<Vec<Reply>, AllocError>
-        ensures ok { IfOk result (λ replies. Run (union_outcomes_of A.eq B.eq) commands.items self.old replies.items self.new) }
+        ensures ok { IfOk result (λ replies.
+            Run (union_outcomes_of A.eq B.eq) commands.items self.old replies.items self.new) }
         ensures err { OnErr result (self.new ≡ self.old) }
     {
         let mut replies = Vec::with_capacity(alloc, commands.len())?;

@@ -63,7 +63,8 @@ impl Fault {
     pub fn report<E: Write>(self, errors: &mut E) -> u8
         ensures status { result ≡ status_of self }
         ensures quiet { note_of self ≡ [] → errors.new ≡ errors.old }
-        ensures told { WroteBeginning (note_of self) (E.contents errors.old) (E.contents errors.new) }
+        ensures told { WroteBeginning (note_of self)
+            (E.contents errors.old) (E.contents errors.new) }
     {
         let _ = write_whole(self.note().as_bytes(), errors);
         self.status()

@@ -23,7 +23,8 @@ pub struct Line<'a> {
 
 pub fn read_line(text: &[u8]) -> Option<Line<'_>>
     ensures line { IfSome result (λ line. IsLine text.now line.word.now line.numbers) }
-    ensures none { IfNone result ((word : List ℕ) (numbers : LineNumbers) → ¬ (IsLine text.now word numbers)) }
+    ensures none { IfNone result ((word : List ℕ) (numbers : LineNumbers)
+        → ¬ (IsLine text.now word numbers)) }
 {
     let (word, rest) = split_at_space(text);
     let numbers = read_numbers(rest?)?;
@@ -33,7 +34,8 @@ pub fn read_line(text: &[u8]) -> Option<Line<'_>>
 fn read_numbers(text: &[u8]) -> Option<Numbers>
     ensures written { IfSome result (λ numbers. text.now ≡ numbers_text numbers) }
     ensures in_range { IfSome result AreInRange }
-    ensures none { IfNone result ((numbers : LineNumbers) → AreInRange numbers → text.now ≢ numbers_text numbers) }
+    ensures none { IfNone result ((numbers : LineNumbers) → AreInRange numbers
+        → text.now ≢ numbers_text numbers) }
 {
     let (first, rest) = take_number(text)?;
     let Some(text) = rest else {
@@ -49,7 +51,8 @@ fn read_numbers(text: &[u8]) -> Option<Numbers>
 
 /// The number before the first space, and what stands after that space.
 fn take_number(text: &[u8]) -> Option<(u32, Option<&[u8]>)>
-    ensures written { IfSome result (λ taken. text.now ≡ with_rest (decimal taken.0) (option_copied taken.1)) }
+    ensures written { IfSome result (λ taken.
+        text.now ≡ with_rest (decimal taken.0) (option_copied taken.1)) }
     ensures in_range { IfSome result (λ taken. taken.0 < 2 ^ 32) }
     ensures none { IfNone result ((number : ℕ) (rest : Option (List ℕ)) → number < 2 ^ 32 →
         text.now ≢ with_rest (decimal number) rest) }

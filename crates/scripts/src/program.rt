@@ -51,10 +51,13 @@ fn run<S: AsStr, R: Read, W: Write>(
 ) -> Result<(), Fault>
     ensures arguments { IsErrOf result Fault.Arguments ↔ AreWrong (map S.text words.now) }
     ensures unread { IsErrOf result Fault.Arguments → input.new ≡ input.old }
-    ensures read { IsErrOf result Fault.Arguments ⊎ IsErrOf result Fault.Input ⊎ IsErrOf result Fault.Memory
+    ensures read { IsErrOf result Fault.Arguments ⊎ IsErrOf result Fault.Input
+        ⊎ IsErrOf result Fault.Memory
         ⊎ IsAtEnd (R.remaining input.new) }
-    ensures unwritten { IsErrOf result Fault.Arguments ⊎ IsErrOf result Fault.Input → output.new ≡ output.old }
-    ensures wrote { IsErrOf result Fault.Arguments ⊎ DidAsAsked (map S.text words.now) (R.remaining input.old) result
+    ensures unwritten { IsErrOf result Fault.Arguments ⊎ IsErrOf result Fault.Input
+        → output.new ≡ output.old }
+    ensures wrote { IsErrOf result Fault.Arguments
+        ⊎ DidAsAsked (map S.text words.now) (R.remaining input.old) result
         (W.contents output.old) (W.contents output.new) }
 {
     let request = Request::from_words(words).ok_or(Fault::Arguments)?;
@@ -102,7 +105,8 @@ pub fn start<V: Env, R: Read, W: Write, E: Write>(
     ensures range { result ≤ 5 }
     ensures read { (result ≡ 0) ⊎ (result ≡ 2) ⊎ (result ≡ 4) → IsAtEnd (R.remaining input.new) }
     ensures unwritten { (result ≡ 1) ⊎ (result ≡ 3) → output.new ≡ output.old }
-    ensures wrote { (result ≡ 1) ⊎ ((words : List (List ℕ)) × DidByStatus words (R.remaining input.old) result
+    ensures wrote { (result ≡ 1)
+        ⊎ ((words : List (List ℕ)) × DidByStatus words (R.remaining input.old) result
         (W.contents output.old) (W.contents output.new)) }
     ensures quiet { result ≢ 1 → result ≢ 3 → result ≢ 5 → errors.new ≡ errors.old }
     ensures told { (fault : EndedBy) → result ≡ status_of fault

@@ -70,7 +70,8 @@ pub trait Interpreter {
 
 /// The whole script.
 pub fn read<R: Read>(alloc: Global, input: &mut R) -> Result<Vec<u8>, Fault>
-    ensures whole { IfOk result (λ script. IfSome (R.remaining input.old) (λ bytes. script.items ≡ bytes)) }
+    ensures whole { IfOk result (λ script. IfSome (R.remaining input.old) (λ bytes.
+        script.items ≡ bytes)) }
     ensures end { OnOk result (IsAtEnd (R.remaining input.new)) }
     ensures fault { IfErr result (λ fault. (fault ≡ Fault.Input) ⊎ (fault ≡ Fault.Memory)) }
 {
@@ -100,7 +101,8 @@ pub fn run<I: Interpreter, W: Write>(
     output: &mut W,
 ) -> Result<(), Fault>
     ensures fault { IfErr result IsFaultOfRun }
-    ensures wrote { Wrote (λ text. PrintsUpTo I.answers I.is_faulty interpreter.old script.now result text interpreter.new)
+    ensures wrote { Wrote (λ text. PrintsUpTo I.answers I.is_faulty
+        interpreter.old script.now result text interpreter.new)
         (W.contents output.old) (W.contents output.new) }
 {
     let mut part = Vec::with_capacity(alloc, PART_SIZE + ANSWER_ROOM)?;
@@ -147,7 +149,8 @@ fn split_line(text: &[u8]) -> Option<(&[u8], &[u8])>
 }
 
 fn append_answer(part: &mut Vec<u8>, answer: Printed) -> Result<(), AllocError>
-    ensures { OnOk result (part.new.items ≡ part.old.items ++ answer_text (answer.words.now, answer.number)) }
+    ensures { OnOk result (
+        part.new.items ≡ part.old.items ++ answer_text (answer.words.now, answer.number)) }
 {
     part.extend_from_slice(answer.words.as_bytes())?;
     if let Some(number) = answer.number {
@@ -158,7 +161,8 @@ fn append_answer(part: &mut Vec<u8>, answer: Printed) -> Result<(), AllocError>
 
 /// Passes the gathered answers on.
 fn write_part<W: Write>(part: &mut Vec<u8>, output: &mut W) -> Result<(), Fault>
-    ensures written { OnOk result (Appends (W.contents output.old) (W.contents output.new) part.old.items) }
+    ensures written { OnOk result (Appends
+        (W.contents output.old) (W.contents output.new) part.old.items) }
     ensures begun { WroteBeginning part.old.items (W.contents output.old) (W.contents output.new) }
     ensures emptied { OnOk result (part.new.items ≡ []) }
     ensures fault { IfErr result (λ fault. fault ≡ Fault.Output) }
@@ -169,7 +173,8 @@ fn write_part<W: Write>(part: &mut Vec<u8>, output: &mut W) -> Result<(), Fault>
 }
 
 fn write_last<W: Write>(part: &[u8], output: &mut W) -> Result<(), Fault>
-    ensures written { OnOk result (Appends (W.contents output.old) (W.contents output.new) part.now) }
+    ensures written { OnOk result (Appends
+        (W.contents output.old) (W.contents output.new) part.now) }
     ensures begun { WroteBeginning part.now (W.contents output.old) (W.contents output.new) }
     ensures fault { IfErr result (λ fault. fault ≡ Fault.Output) }
 {

@@ -18,7 +18,8 @@ pub fn read_step(text: &[u8]) -> Option<Step<u32>>
 
 fn step_of(line: Line<'_>) -> Option<Step<u32>>
     ensures step { IfSome result (Writes step_line line.entry.word.now line.entry.numbers) }
-    ensures none { IfNone result ((step : CoreStep ℕ) → ¬ (Writes step_line line.entry.word.now line.entry.numbers step)) }
+    ensures none { IfNone result ((step : CoreStep ℕ)
+        → ¬ (Writes step_line line.entry.word.now line.entry.numbers step)) }
 {
     Some(match (line.word, line.numbers) {
         (b"clone", Two(owner, handle)) => Step::Clone {

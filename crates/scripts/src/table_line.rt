@@ -25,7 +25,8 @@ pub fn read_table_line(text: &[u8]) -> Option<TableLine>
 
 fn asked_by(line: Line<'_>) -> Option<TableLine>
     ensures line { IfSome result (Writes table_line line.entry.word.now line.entry.numbers) }
-    ensures none { IfNone result ((asked : Asked) → ¬ (Writes table_line line.entry.word.now line.entry.numbers asked)) }
+    ensures none { IfNone result ((asked : Asked)
+        → ¬ (Writes table_line line.entry.word.now line.entry.numbers asked)) }
 {
     let command = match (line.word, line.numbers) {
         (b"get", One(slot)) => return Some(TableLine::Get(slot as usize)),

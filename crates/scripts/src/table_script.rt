@@ -28,7 +28,8 @@ pub fn run<W: Write>(
     output: &mut W,
 ) -> Result<(), Fault>
     ensures fault { IfErr result IsFaultOfRun }
-    ensures wrote { Wrote (PrintsPlainTable slots script.now result) (W.contents output.old) (W.contents output.new) }
+    ensures wrote { Wrote (PrintsPlainTable slots script.now result)
+        (W.contents output.old) (W.contents output.new) }
 {
     let mut runner = TableRunner::new(alloc, slots)?;
     script::run(alloc, script, &mut runner, output)
@@ -62,7 +63,8 @@ impl TableRunner {
     }
 
     fn answer(&mut self, asked: TableLine) -> Printed
-        ensures { IsAnsweredBy asked self.old.table (result.words.now, result.number) self.new.table }
+        ensures { IsAnsweredBy asked self.old.table
+            (result.words.now, result.number) self.new.table }
     {
         match asked {
             TableLine::Serve(command) => printed(self.table.serve(self.alloc, command)),

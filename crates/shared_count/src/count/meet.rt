@@ -49,7 +49,8 @@ impl SharedCount {
         requires table { seat.old.table_id ≡ self.now.table }
         requires note_table { note.table_id ≡ self.now.table }
         requires pass { seat.old.me ≡ with_part (pass_at seat.old.me) Half }
-        requires note { note.me ≡ with_part (seeing (pass_at seat.old.me) (pass_at note.me).seen) Half }
+        requires note { note.me
+            ≡ with_part (seeing (pass_at seat.old.me) (pass_at note.me).seen) Half }
         ensures table { seat.new.table_id ≡ seat.old.table_id }
         ensures pass { seat.new.me ≡ with_part (pass_at note.me) Whole }
     {

@@ -6,7 +6,8 @@
   to a definition has all its lines, as #L12-L15. A label such as "`StandsFor`, 4 lines" has their number;
 - a link such as "[9 edits](crates/counting_word/must-fail)" or "[9 tests](crates/core_tests/src)" has the number of
   edits or of tests in that folder;
-- a block of code that names a file, as ```rust crates/first_example/src/main.rt, stands in that file as it is.
+- a block of code that names a file, as ```rust crates/first_example/src/main.rt, stands in that file as it is;
+- an indented line such as "handles may_wait=4: counting_word" is one of crates.txt.
 
     gate/links.py [--fix]
 
@@ -23,6 +24,7 @@ LINES = re.compile(r"L(\d+)(?:-L(\d+))?$")
 LENGTH = re.compile(r", (\d+) lines?$")
 COUNT = re.compile(r"(\d+) (edit|test)s?$")
 QUOTE = re.compile(r"```\w+ (\S+)\n(.*?)```", re.S)
+CRATE = re.compile(r"^    (\w+(?: \w+=\S+)*:(?: \w+)*)$", re.M)
 
 
 def slug(heading):
@@ -125,6 +127,8 @@ def check(document, fix):
         source = ROOT / file
         if not source.exists() or quoted not in source.read_text():
             wrong.append(f"{document.relative_to(ROOT)}: {file} does not have what is quoted of it")
+    crates = (ROOT / "crates.txt").read_text().splitlines()
+    wrong += [f"{document.relative_to(ROOT)}: crates.txt has no line {it}" for it in CRATE.findall(text) if it not in crates]
     fixed = "".join(part if part.startswith("```") else LINK.sub(look, part) for part in parts)
     if fixed != text:
         document.write_text(fixed)

@@ -248,7 +248,8 @@ def is_proved(crate):
     """Whether the crate itself is proved, which leaves its proofs in its folder out/ for the copies."""
     print(f"{crate}: {len(wanted([crate])[crate])} faults, first the crate without them", flush=True)
     folder = f"{ROOT}/crates/{crate}"
-    return subprocess.run(["rt", "check"], cwd=folder, stdin=subprocess.DEVNULL, stdout=subprocess.DEVNULL, stderr=subprocess.STDOUT).returncode == 0
+    verb = "lib" if os.path.isfile(f"{folder}/src/lib.rt") else "check"  # which leaves a library for the crates above, too
+    return subprocess.run(["rt", verb], cwd=folder, stdin=subprocess.DEVNULL, stdout=subprocess.DEVNULL, stderr=subprocess.STDOUT).returncode == 0
 
 
 def try_crate(crate, names):
@@ -284,7 +285,8 @@ def main(words):
         print(f"faults: not tried, since these are not proved without them: {' '.join(unproved)}")
         return True
     with ThreadPoolExecutor(AT_ONCE) as pool:
-        given = {crate: pool.submit(try_crate, crate, names) for crate, names in faults.items()}
+        longest_first = sorted(faults, key=lambda it: -len(faults[it]))
+        given = {crate: pool.submit(try_crate, crate, faults[crate]) for crate in longest_first}
         verdicts = {f"{crate}/{name}": it for crate in faults for name, it in given[crate].result().items()}
     for name, verdict in sorted(verdicts.items()):
         if words or not verdict.is_refused or not verdict.by_clause:

@@ -87,13 +87,14 @@ impl<T: Send + Sync + Drop> Arc<T> {
     pub fn clone(this: &Arc<T>, rt: &impl Wait) -> Result<Arc<T>, Full>
         ensures { IfOk result (λ a. a ≡ this.now) }
     {
-        // Only a clone that lost a raise makes the call that may wait.
-        let handle = match this.handle.first_attempt() {
-            Attempt::Made(handle) => handle,
-            Attempt::Full => return Err(Full),
-            Attempt::Lost(seen) => this.handle.raise_unless_full(seen, rt)?,
-        };
-        Ok(Arc { handle })
+        match this.handle.first_attempt() {
+            Attempt::Made(handle) => Ok(Arc { handle }),
+            Attempt::Full => Err(Full),
+            // Only a clone that lost a raise makes the call that may wait.
+            Attempt::Lost(seen) => Ok(Arc {
+                handle: this.handle.raise_unless_full(seen, rt)?,
+            }),
+        }
     }
 }
 

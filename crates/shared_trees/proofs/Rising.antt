@@ -527,8 +527,8 @@ pub ruleset counting = (entry_left, entry_right, entry_here, length-append)
 
 pub ruleset splitting = (below_nil, above_nil, below_left, below_right, below_here, above_left, above_right, above_here, rising_above_left, rising_below_right)
 
-pub ruleset inserting = (rising_one, with_nil, with_left, with_right, with_here, with_parts, rising_at_here, rising_parts, rising_with_left, rising_with_right)
+pub ruleset inserting = (lookup_with, rising_one, with_nil, with_left, with_right, with_here, with_parts, rising_at_here, rising_parts, rising_with_left, rising_with_right)
 
-pub ruleset removing = (without_nil, without_left, without_right, without_here, rising_without_left, rising_without_right, rising_sides)
+pub ruleset removing = (lookup_without, without_nil, without_left, without_right, without_here, rising_without_left, rising_without_right, rising_sides)
 
 pub ruleset joining = (rising_into_left, rising_from_left, rising_into_right, rising_from_right, append_assoc)

@@ -1,11 +1,14 @@
--- Each side of a map has fewer entries than the map.
-use Rattle.std.specs.Prelude.{◌≤◌, ◌∷◌, ℕ, length, Option, None, Some}
+-- Each side of a fork has fewer entries than the fork.
+use Rattle.std.specs.Prelude.{◌≤◌, [], ◌∷◌, ℕ, length}
 use Rattle.std.proofs.Common.{arith, length-append}
-use Rattle.shared_trees.specs.declared.map.Fork.{Fork}
-use Rattle.shared_trees.specs.declared.map.TreeMap.TheDeep.{deep-TreeMap}
-use Rattle.shared_trees.specs.Forks.{entries}
+use Rattle.shared_trees.specs.declared.map.Sides.{Sides}
+use Rattle.shared_trees.specs.declared.map.Sides.TheVariants.{Neither, Less, Greater, Both}
+use Rattle.shared_trees.specs.declared.map.Fork.TheDeep.{deep-Fork}
+use Rattle.shared_trees.specs.Forks.{around}
 
-pub depth_le-length-entries : {V : Type 0} → (root : Option (Fork V)) → (len : ℕ)
-    → deep-TreeMap V (record { root = root; len = len }) ≤ length (entries root)
-depth_le-length-entries None len = omega arith
-depth_le-length-entries (Some fork) len = omega (arith, length-append fork.less (fork.entry ∷ fork.greater))
+pub depth_le-length-around : {V : Type 0} → (len : ℕ) → (sides : Sides V) → (entry : ℕ × V)
+    → deep-Fork V (record { len = len; sides = sides; entry = entry }) ≤ length (around sides entry)
+depth_le-length-around len Neither entry = omega arith
+depth_le-length-around len (Less less) entry = omega (arith, length-append less (entry ∷ []))
+depth_le-length-around len (Greater greater) entry = omega arith
+depth_le-length-around len (Both less greater) entry = omega (arith, length-append less (entry ∷ greater))

@@ -2,6 +2,7 @@
 ghost use Rattle.std.specs.Prelude.{◌≡◌, ◌<◌, List, ◌∷◌, ◌++◌, [], ◌↔◌, ℕ, None, Some, cond, nat_eq, IsTrue, IfOk, is_some, length, slice_get};
 ghost use Rattle.std.specs.Option.{option_copied};
 ghost use Rattle.servo_arc.specs.Copies.{CopiesAreEqual};
+ghost use Rattle.shared_trees.specs.Forks.{lesser, upper};
 ghost use Rattle.shared_trees.specs.Maps.{IsRising, above, below, lookup, with_entry, without};
 
 use servo_arc::Arc;
@@ -9,38 +10,54 @@ use std::alloc::{AllocError, Global};
 use std::marker::Model;
 
 /// A map from numbers to values, in the order of its keys. Its versions share the branches that a change left alone.
-#[cycle(map)]
 #[derive(Drop)]
 pub struct TreeMap<V: Send + Sync> {
     root: Option<Arc<Fork<V>>>,
-    pub(crate) len: usize,
 }
 
 #[cycle(map)]
 #[derive(Drop)]
 struct Fork<V: Send + Sync> {
-    less: TreeMap<V>,
+    len: usize,
+    sides: Sides<V>,
     entry: (u64, V),
-    greater: TreeMap<V>,
+}
+
+// The trees on the two sides of an entry. One tag tells which are there, where two `Option`s would take a word each.
+#[cycle(map)]
+#[derive(Drop)]
+enum Sides<V: Send + Sync> {
+    Neither,
+    Less(Arc<Fork<V>>),
+    Greater(Arc<Fork<V>>),
+    Both(Arc<Fork<V>>, Arc<Fork<V>>),
 }
 
 impl<V: Send + Sync> Model for TreeMap<V> {
+    ghost use Rattle.std.specs.Prelude.{List, ℕ, [], unwrap_or};
+
+    ghost Value = { List (ℕ × V) };
+
+    ghost view = { λ m. unwrap_or m.root [] };
+}
+
+impl<V: Send + Sync> Model for Fork<V> {
     ghost use Rattle.std.specs.Prelude.{◌≡◌, List, ℕ, length};
 
     ghost Value = { List (ℕ × V) };
 
     ghost use Rattle.shared_trees.specs.Maps.{IsRising};
-    ghost use Rattle.shared_trees.specs.Forks.{entries};
+    ghost use Rattle.shared_trees.specs.Forks.{around};
 
-    ghost view = { λ m. entries m.root };
+    ghost view = { λ f. around f.sides f.entry };
 
-    ghost invariant = { λ m. (m.len ≡ length (entries m.root)) × IsRising (entries m.root) };
+    ghost invariant = { λ f. (f.len ≡ length (around f.sides f.entry)) × IsRising (around f.sides f.entry) };
 
     ghost size = { length };
 
-    ghost use Rattle.shared_trees.specs.ForkFalls.{depth_le-length-entries};
+    ghost use Rattle.shared_trees.specs.ForkFalls.{depth_le-length-around};
 
-    ghost size_decreases = { λ m h. depth_le-length-entries m.root m.len };
+    ghost size_decreases = { λ f h. depth_le-length-around f.len f.sides f.entry };
 }
 
 /// One more handle of the same tree: one raise of a count, with no copy and no memory.
@@ -52,50 +69,37 @@ impl<V: Send + Sync + Drop> Clone for TreeMap<V> {
             None => None,
             Some(fork) => Some(fork.clone()?),
         };
-        Ok(TreeMap {
-            root,
-            len: self.len,
-        })
+        Ok(TreeMap { root })
     }
 }
 
 impl<V: Send + Sync> TreeMap<V> {
     /// The empty map, which takes no memory.
-    #[tactic(auto, using(crate::proofs::Rising::rising_nil))]
     pub fn new() -> TreeMap<V>
         ensures { result ≡ [] }
     {
-        TreeMap { root: None, len: 0 }
+        TreeMap { root: None }
     }
 
     /// The number of entries, in O(1).
     pub fn len(&self) -> usize
         ensures { result ≡ length self.now }
     {
-        self.len
+        self.count()
     }
 
     /// Whether there are no entries.
     pub fn is_empty(&self) -> bool
         ensures { IsTrue result ↔ (self.now ≡ []) }
     {
-        self.len == 0
+        self.len() == 0
     }
 
     /// The value under the key.
-    #[tactic(auto, using(crate::proofs::Rising::looking))]
     pub fn get(&self, key: u64) -> Option<&V>
         ensures { option_copied result ≡ lookup key self.now }
     {
-        let fork = self.root.as_ref()?;
-        let (here, value) = &fork.entry;
-        if key < *here {
-            fork.less.get(key)
-        } else if *here < key {
-            fork.greater.get(key)
-        } else {
-            Some(value)
-        }
+        self.root.as_ref()?.get(key)
     }
 
     /// Whether there is a value under the key.
@@ -120,6 +124,9 @@ pub(crate) trait Numbered {
 
     ghost entries: { Self → List Self.Entry };
 
+    fn count(&self) -> usize
+        ensures { result ≡ length (entries self.now) };
+
     fn numbered(&self, index: usize) -> Option<&Self::Entry>
         ensures { option_copied result ≡ slice_get (entries self.now) index };
 }
@@ -129,16 +136,46 @@ impl<V: Send + Sync> Numbered for TreeMap<V> {
 
     ghost entries = { λ map. map };
 
+    fn count(&self) -> usize {
+        match &self.root {
+            None => 0,
+            Some(fork) => fork.count(),
+        }
+    }
+
+    fn numbered(&self, index: usize) -> Option<&(u64, V)> {
+        self.root.as_ref()?.numbered(index)
+    }
+}
+
+impl<V: Send + Sync> Numbered for Fork<V> {
+    type Entry = (u64, V);
+
+    ghost entries = { λ fork. fork };
+
+    fn count(&self) -> usize {
+        self.len
+    }
+
     #[tactic(auto, using(crate::proofs::Rising::counting))]
     fn numbered(&self, index: usize) -> Option<&(u64, V)> {
-        let fork = self.root.as_ref()?;
-        let before = fork.less.len;
+        let before = match &self.sides {
+            Sides::Less(fork) | Sides::Both(fork, _) => fork.count(),
+            Sides::Neither | Sides::Greater(_) => 0,
+        };
+        if index == before {
+            return Some(&self.entry);
+        }
         if index < before {
-            fork.less.numbered(index)
-        } else if index == before {
-            Some(&fork.entry)
+            match &self.sides {
+                Sides::Less(fork) | Sides::Both(fork, _) => fork.numbered(index),
+                Sides::Neither | Sides::Greater(_) => None,
+            }
         } else {
-            fork.greater.numbered(index - before - 1)
+            match &self.sides {
+                Sides::Greater(fork) | Sides::Both(_, fork) => fork.numbered(index - before - 1),
+                Sides::Neither | Sides::Less(_) => None,
+            }
         }
     }
 }
@@ -149,53 +186,112 @@ impl<V: Send + Sync> TreeMap<V> {
         ensures { IsTrue result → (0 < length this.now) × (0 < length other.now) }
     {
         match (&this.root, &other.root) {
-            (Some(fork), Some(same)) => Arc::ptr_eq(fork, same),
+            // Forks of two keys are two: that takes no step on their counts.
+            (Some(fork), Some(same)) => { fork.entry.0 == same.entry.0 && Arc::ptr_eq(fork, same) }
             _ => false,
         }
     }
 }
 
-impl<V: Send + Sync + Drop> TreeMap<V> {
-    // The tree of these sides.
+impl<V: Send + Sync> Fork<V> {
+    #[tactic(auto, using(crate::proofs::Rising::looking))]
+    fn get(&self, key: u64) -> Option<&V>
+        ensures { option_copied result ≡ lookup key self.now }
+    {
+        let (here, value) = &self.entry;
+        if key < *here {
+            match &self.sides {
+                Sides::Less(fork) | Sides::Both(fork, _) => fork.get(key),
+                Sides::Neither | Sides::Greater(_) => None,
+            }
+        } else if *here < key {
+            match &self.sides {
+                Sides::Greater(fork) | Sides::Both(_, fork) => fork.get(key),
+                Sides::Neither | Sides::Less(_) => None,
+            }
+        } else {
+            Some(value)
+        }
+    }
+}
+
+impl<V: Send + Sync + Drop> Sides<V> {
+    fn of(less: TreeMap<V>, greater: TreeMap<V>) -> Sides<V>
+        ensures { (lesser result ≡ less) × (upper result ≡ greater) }
+    {
+        match (less.root, greater.root) {
+            (None, None) => Sides::Neither,
+            (Some(less), None) => Sides::Less(less),
+            (None, Some(greater)) => Sides::Greater(greater),
+            (Some(less), Some(greater)) => Sides::Both(less, greater),
+        }
+    }
+
+    // One more handle of the tree on that side.
+    fn less(&self) -> Result<TreeMap<V>, AllocError>
+        ensures { IfOk result (λ map. map ≡ lesser self.now) }
+    {
+        match self {
+            Sides::Less(fork) | Sides::Both(fork, _) => Ok(TreeMap::with_root(fork.clone()?)),
+            Sides::Neither | Sides::Greater(_) => Ok(TreeMap::new()),
+        }
+    }
+
+    fn greater(&self) -> Result<TreeMap<V>, AllocError>
+        ensures { IfOk result (λ map. map ≡ upper self.now) }
+    {
+        match self {
+            Sides::Greater(fork) | Sides::Both(_, fork) => Ok(TreeMap::with_root(fork.clone()?)),
+            Sides::Neither | Sides::Less(_) => Ok(TreeMap::new()),
+        }
+    }
+}
+
+impl<V: Send + Sync> TreeMap<V> {
+    fn with_root(fork: Arc<Fork<V>>) -> TreeMap<V>
+        ensures { result ≡ fork }
+    {
+        TreeMap { root: Some(fork) }
+    }
+}
+
+impl<V: Send + Sync + Drop> Fork<V> {
+    // The tree of this entry and these sides.
     fn of(
         alloc: Global,
         less: TreeMap<V>,
         entry: (u64, V),
         greater: TreeMap<V>,
-    ) -> Result<TreeMap<V>, AllocError>
+    ) -> Result<Arc<Fork<V>>, AllocError>
         requires rising { IsRising (less ++ entry ∷ greater) }
-        ensures { IfOk result (λ map. map ≡ less ++ entry ∷ greater) }
+        ensures { IfOk result (λ fork. fork ≡ less ++ entry ∷ greater) }
     {
-        let sides = less.len.checked_add(greater.len).ok_or(AllocError)?;
-        let len = sides.checked_add(1).ok_or(AllocError)?;
+        let beside = less.len().checked_add(greater.len()).ok_or(AllocError)?;
+        let len = beside.checked_add(1).ok_or(AllocError)?;
         let fork = Fork {
-            less,
-            entry,
-            greater,
-        };
-        let root = Arc::new(alloc, fork).map_err(|_| AllocError)?;
-        Ok(TreeMap {
-            root: Some(root),
             len,
-        })
+            sides: Sides::of(less, greater),
+            entry,
+        };
+        Arc::new(alloc, fork).map_err(|_| AllocError)
     }
 }
 
 impl<V: Send + Sync + Clone> Fork<V> {
-    // The tree of this entry with other sides.
-    fn with_sides(
-        &self,
+    // The tree of a copy of this entry and these sides.
+    fn beside(
         alloc: Global,
         less: TreeMap<V>,
+        entry: &(u64, V),
         greater: TreeMap<V>,
-    ) -> Result<TreeMap<V>, AllocError>
+    ) -> Result<Arc<Fork<V>>, AllocError>
         requires copies { CopiesAreEqual V.is_clone }
-        requires rising { IsRising (less ++ self.now.entry ∷ greater) }
-        ensures { IfOk result (λ map. map ≡ less ++ self.now.entry ∷ greater) }
+        requires rising { IsRising (less ++ entry.now ∷ greater) }
+        ensures { IfOk result (λ fork. fork ≡ less ++ entry.now ∷ greater) }
     {
-        let (key, value) = &self.entry;
+        let (key, value) = entry;
         let value = value.clone()?;
-        TreeMap::of(alloc, less, (*key, value), greater)
+        Fork::of(alloc, less, (*key, value), greater)
     }
 }
 
@@ -203,57 +299,61 @@ impl<V: Send + Sync + Clone> TreeMap<V> {
     /// The map with the value under the key. The map itself stays.
     ///
     /// It makes a node for each on the path to the key, and shares all others.
-    #[tactic(auto, using(crate::proofs::Rising::lookup_with))]
+    #[tactic(auto, using(crate::proofs::Rising::inserting))]
     pub fn insert(&self, alloc: Global, key: u64, value: V) -> Result<TreeMap<V>, AllocError>
         requires copies { CopiesAreEqual V.is_clone }
         ensures entries { IfOk result (λ map. map ≡ with_entry key value self.now) }
         ensures changes { IfOk result (λ map. (k : ℕ)
             → lookup k map ≡ cond (nat_eq k key) (Some value) (lookup k self.now)) }
     {
-        let map = self.inserted(alloc, key, value)?;
-        Ok(map)
+        let fork = match &self.root {
+            None => Fork::leaf(alloc, key, value)?,
+            Some(fork) => fork.inserted(alloc, key, value)?,
+        };
+        Ok(TreeMap::with_root(fork))
     }
 
     /// The map without a value under the key. The map itself stays.
     ///
     /// It makes a node for each on the path to the key and below it between the two sides, and shares all others.
-    #[tactic(auto, using(crate::proofs::Rising::lookup_without))]
+    #[tactic(auto, using(crate::proofs::Rising::removing))]
     pub fn remove(&self, alloc: Global, key: u64) -> Result<TreeMap<V>, AllocError>
         requires copies { CopiesAreEqual V.is_clone }
         ensures entries { IfOk result (λ map. map ≡ without key self.now) }
         ensures changes { IfOk result (λ map. (k : ℕ)
             → lookup k map ≡ cond (nat_eq k key) None (lookup k self.now)) }
     {
-        let map = self.removed(alloc, key)?;
-        Ok(map)
+        match &self.root {
+            None => Ok(TreeMap::new()),
+            Some(fork) => Ok(fork.removed(alloc, key)?),
+        }
     }
+}
 
+impl<V: Send + Sync + Clone> Fork<V> {
     #[tactic(auto, using(crate::proofs::Rising::inserting))]
-    fn inserted(&self, alloc: Global, key: u64, value: V) -> Result<TreeMap<V>, AllocError>
+    fn inserted(&self, alloc: Global, key: u64, value: V) -> Result<Arc<Fork<V>>, AllocError>
         requires copies { CopiesAreEqual V.is_clone }
-        ensures { IfOk result (λ map. map ≡ with_entry key value self.now) }
+        ensures { IfOk result (λ fork. fork ≡ with_entry key value self.now) }
     {
-        let Some(fork) = &self.root else {
-            return TreeMap::of(alloc, TreeMap::new(), (key, value), TreeMap::new());
-        };
-        let fork: &Fork<V> = fork;
-        let here = fork.entry.0;
-        if key == here {
-            TreeMap::of(
-                alloc,
-                fork.less.clone()?,
-                (key, value),
-                fork.greater.clone()?,
-            )
-        } else if outranks(key, here) {
+        let here = self.entry.0;
+        if key == here || outranks(key, here) {
             let (less, greater) = self.split(alloc, key)?;
-            TreeMap::of(alloc, less, (key, value), greater)
+            Fork::of(alloc, less, (key, value), greater)
         } else if key < here {
-            let less = fork.less.inserted(alloc, key, value)?;
-            fork.with_sides(alloc, less, fork.greater.clone()?)
+            let less = match &self.sides {
+                Sides::Less(fork) | Sides::Both(fork, _) => fork.inserted(alloc, key, value)?,
+                Sides::Neither | Sides::Greater(_) => Fork::leaf(alloc, key, value)?,
+            };
+            let less = TreeMap::with_root(less);
+            Fork::beside(alloc, less, &self.entry, self.sides.greater()?)
         } else {
-            let greater = fork.greater.inserted(alloc, key, value)?;
-            fork.with_sides(alloc, fork.less.clone()?, greater)
+            let greater = match &self.sides {
+                Sides::Greater(fork) | Sides::Both(_, fork) => fork.inserted(alloc, key, value)?,
+                Sides::Neither | Sides::Less(_) => Fork::leaf(alloc, key, value)?,
+            };
+            let greater = TreeMap::with_root(greater);
+            Fork::beside(alloc, self.sides.less()?, &self.entry, greater)
         }
     }
 
@@ -262,19 +362,23 @@ impl<V: Send + Sync + Clone> TreeMap<V> {
         requires copies { CopiesAreEqual V.is_clone }
         ensures { IfOk result (λ map. map ≡ without key self.now) }
     {
-        let Some(fork) = &self.root else {
-            return Ok(TreeMap::new());
-        };
-        let fork: &Fork<V> = fork;
-        let here = fork.entry.0;
+        let here = self.entry.0;
         if key < here {
-            let less = fork.less.removed(alloc, key)?;
-            fork.with_sides(alloc, less, fork.greater.clone()?)
+            let less = match &self.sides {
+                Sides::Less(fork) | Sides::Both(fork, _) => fork.removed(alloc, key)?,
+                Sides::Neither | Sides::Greater(_) => TreeMap::new(),
+            };
+            let fork = Fork::beside(alloc, less, &self.entry, self.sides.greater()?)?;
+            Ok(TreeMap::with_root(fork))
         } else if here < key {
-            let greater = fork.greater.removed(alloc, key)?;
-            fork.with_sides(alloc, fork.less.clone()?, greater)
+            let greater = match &self.sides {
+                Sides::Greater(fork) | Sides::Both(_, fork) => fork.removed(alloc, key)?,
+                Sides::Neither | Sides::Less(_) => TreeMap::new(),
+            };
+            let fork = Fork::beside(alloc, self.sides.less()?, &self.entry, greater)?;
+            Ok(TreeMap::with_root(fork))
         } else {
-            join(alloc, &fork.less, &fork.greater)
+            self.sides.joined(alloc)
         }
     }
 
@@ -282,23 +386,49 @@ impl<V: Send + Sync + Clone> TreeMap<V> {
     #[tactic(auto, using(crate::proofs::Rising::splitting))]
     fn split(&self, alloc: Global, key: u64) -> Result<(TreeMap<V>, TreeMap<V>), AllocError>
         requires copies { CopiesAreEqual V.is_clone }
-        ensures { IfOk result (λ parts. (parts.0 ≡ below key self.now) × (parts.1 ≡ above key self.now)) }
+        ensures { IfOk result (λ parts. parts ≡ (below key self.now, above key self.now)) }
     {
-        let Some(fork) = &self.root else {
-            return Ok((TreeMap::new(), TreeMap::new()));
-        };
-        let fork: &Fork<V> = fork;
-        let here = fork.entry.0;
+        let here = self.entry.0;
         if key < here {
-            let (less, between) = fork.less.split(alloc, key)?;
-            let greater = fork.with_sides(alloc, between, fork.greater.clone()?)?;
-            Ok((less, greater))
+            let (less, between) = match &self.sides {
+                Sides::Less(fork) | Sides::Both(fork, _) => fork.split(alloc, key)?,
+                Sides::Neither | Sides::Greater(_) => (TreeMap::new(), TreeMap::new()),
+            };
+            let fork = Fork::beside(alloc, between, &self.entry, self.sides.greater()?)?;
+            Ok((less, TreeMap::with_root(fork)))
         } else if here < key {
-            let (between, greater) = fork.greater.split(alloc, key)?;
-            let less = fork.with_sides(alloc, fork.less.clone()?, between)?;
-            Ok((less, greater))
+            let (between, greater) = match &self.sides {
+                Sides::Greater(fork) | Sides::Both(_, fork) => fork.split(alloc, key)?,
+                Sides::Neither | Sides::Less(_) => (TreeMap::new(), TreeMap::new()),
+            };
+            let fork = Fork::beside(alloc, self.sides.less()?, &self.entry, between)?;
+            Ok((TreeMap::with_root(fork), greater))
         } else {
-            Ok((fork.less.clone()?, fork.greater.clone()?))
+            Ok((self.sides.less()?, self.sides.greater()?))
+        }
+    }
+}
+
+impl<V: Send + Sync + Drop> Fork<V> {
+    #[tactic(auto, using(crate::proofs::Rising::rising_one))]
+    fn leaf(alloc: Global, key: u64, value: V) -> Result<Arc<Fork<V>>, AllocError>
+        ensures { IfOk result (λ fork. fork ≡ (key, value) ∷ []) }
+    {
+        Fork::of(alloc, TreeMap::new(), (key, value), TreeMap::new())
+    }
+}
+
+impl<V: Send + Sync + Clone> Sides<V> {
+    // The tree of what is on both sides.
+    fn joined(&self, alloc: Global) -> Result<TreeMap<V>, AllocError>
+        requires copies { CopiesAreEqual V.is_clone }
+        requires rising { IsRising (lesser self.now ++ upper self.now) }
+        ensures { IfOk result (λ map. map ≡ lesser self.now ++ upper self.now) }
+    {
+        match self {
+            Sides::Both(less, greater) => Ok(TreeMap::with_root(join(alloc, less, greater)?)),
+            Sides::Less(fork) | Sides::Greater(fork) => Ok(TreeMap::with_root(fork.clone()?)),
+            Sides::Neither => Ok(TreeMap::new()),
         }
     }
 }
@@ -307,27 +437,28 @@ impl<V: Send + Sync + Clone> TreeMap<V> {
 #[tactic(auto, using(crate::proofs::Rising::joining))]
 fn join<V: Send + Sync + Clone>(
     alloc: Global,
-    less: &TreeMap<V>,
-    greater: &TreeMap<V>,
-) -> Result<TreeMap<V>, AllocError>
+    less: &Arc<Fork<V>>,
+    greater: &Arc<Fork<V>>,
+) -> Result<Arc<Fork<V>>, AllocError>
     requires copies { CopiesAreEqual V.is_clone }
     requires rising { IsRising (less.now ++ greater.now) }
-    ensures { IfOk result (λ map. map ≡ less.now ++ greater.now) }
+    ensures { IfOk result (λ fork. fork ≡ less.now ++ greater.now) }
 {
-    let (Some(low), Some(high)) = (&less.root, &greater.root) else {
-        return if less.is_empty() {
-            greater.clone()
-        } else {
-            less.clone()
-        };
-    };
-    let (low, high): (&Fork<V>, &Fork<V>) = (low, high);
+    let (low, high): (&Fork<V>, &Fork<V>) = (less, greater);
     if outranks(low.entry.0, high.entry.0) {
-        let between = join(alloc, &low.greater, greater)?;
-        low.with_sides(alloc, low.less.clone()?, between)
+        let between = match &low.sides {
+            Sides::Greater(fork) | Sides::Both(_, fork) => join(alloc, fork, greater)?,
+            Sides::Neither | Sides::Less(_) => greater.clone()?,
+        };
+        let between = TreeMap::with_root(between);
+        Fork::beside(alloc, low.sides.less()?, &low.entry, between)
     } else {
-        let between = join(alloc, less, &high.less)?;
-        high.with_sides(alloc, between, high.greater.clone()?)
+        let between = match &high.sides {
+            Sides::Less(fork) | Sides::Both(fork, _) => join(alloc, less, fork)?,
+            Sides::Neither | Sides::Greater(_) => less.clone()?,
+        };
+        let between = TreeMap::with_root(between);
+        Fork::beside(alloc, between, &high.entry, high.sides.greater()?)
     }
 }
 

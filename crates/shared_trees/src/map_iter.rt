@@ -40,7 +40,7 @@ impl<'a, V: Send + Sync> IntoIterator for &'a TreeMap<V> {
         MapIter {
             map: self,
             from: 0,
-            to: self.len,
+            to: self.count(),
         }
     }
 }

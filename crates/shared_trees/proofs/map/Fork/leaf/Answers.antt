@@ -1,0 +1,8 @@
+-- One entry rises.
+use Rattle.std.proofs.Common.{◌≡◌, ◌∷◌, ◌++◌, [], rules}
+use Rattle.shared_trees.proofs.Rising.{rising_one}
+use Rattle.shared_trees.proofs.map.Fork.leaf.Goals as goal
+
+pub of-requires-clause-rising : goal.of-requires-clause-rising
+of-requires-clause-rising g c κs within =
+    rw (c.new.ensures, c.new-2.ensures) (rising_one c.args.key c.args.value)

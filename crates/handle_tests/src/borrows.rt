@@ -1,7 +1,7 @@
 // Borrowed handles.
-use crate::made::arc_of;
+use crate::made::handle_of;
+use facts::{again, holds, ok, same};
 use servo_arc::{Arc, ArcBorrow};
-use std::test::Fail;
 
 // It outlives the borrow that it came by.
 fn value_of<'a>(handle: &'a Arc<u32>) -> &'a u32 {
@@ -10,21 +10,21 @@ fn value_of<'a>(handle: &'a Arc<u32>) -> &'a u32 {
 }
 
 #[test]
-fn a_borrow_reads_and_clones(rt: HostRuntime) -> Result<(), Fail> {
-    let a = arc_of(rt.alloc(), 7u32)?;
+fn a_borrow_reads_and_clones(rt: HostRuntime) {
+    let a = handle_of(&rt, 7u32);
     let b = a.borrow_arc();
-    assert_eq!(rt; (*b.get(), *b, *value_of(&a)), (7, 7, 7));
-    assert_eq!(rt;
+    same(&rt, (*b.get(), *b, *value_of(&a)), (7, 7, 7));
+    same(
+        &rt,
         b.with_arc(|handle: &Arc<u32>| (**handle).wrapping_add(1)),
-        8
+        8,
     );
-    assert!(rt; b.with_arc(|handle: &Arc<u32>| handle.is_unique()));
-    let c = b.clone_arc(&rt).ok().ok_or("full")?;
-    assert!(rt; *c == 7 && Arc::ptr_eq(&a, &c) && !a.is_unique());
-    assert!(rt; ArcBorrow::ptr_eq(&b, &c.borrow_arc()));
-    let other = arc_of(rt.alloc(), 7u32)?;
-    assert!(rt; !ArcBorrow::ptr_eq(&b, &other.borrow_arc()));
-    Ok(())
+    holds(&rt, b.with_arc(|handle: &Arc<u32>| handle.is_unique()));
+    let c = ok(&rt, b.clone_arc(&rt));
+    holds(&rt, *c == 7 && Arc::ptr_eq(&a, &c) && !a.is_unique());
+    holds(&rt, ArcBorrow::ptr_eq(&b, &c.borrow_arc()));
+    let other = handle_of(&rt, 7u32);
+    holds(&rt, !ArcBorrow::ptr_eq(&b, &other.borrow_arc()));
 }
 
 fn are_equal<T: Eq>(x: &T, y: &T) -> bool {
@@ -32,21 +32,22 @@ fn are_equal<T: Eq>(x: &T, y: &T) -> bool {
 }
 
 #[test]
-fn borrows_are_copied_and_compared_by_value(rt: HostRuntime) -> Result<(), Fail> {
-    let a = arc_of(rt.alloc(), 7u32)?;
-    let same = arc_of(rt.alloc(), 7u32)?;
-    let other = arc_of(rt.alloc(), 8u32)?;
+fn borrows_are_copied_and_compared_by_value(rt: HostRuntime) {
+    let a = handle_of(&rt, 7u32);
+    let equal = handle_of(&rt, 7u32);
+    let other = handle_of(&rt, 8u32);
     let b = a.borrow_arc();
-    let again = b;
-    assert!(rt; b == again && b == b.clone()? && b == same.borrow_arc() && b != other.borrow_arc());
-    assert!(rt; are_equal(&b, &same.borrow_arc()) && a.is_unique());
-    Ok(())
+    let copied = b;
+    holds(
+        &rt,
+        b == copied && b == again(&rt, &b) && b == equal.borrow_arc() && b != other.borrow_arc(),
+    );
+    holds(&rt, are_equal(&b, &equal.borrow_arc()) && a.is_unique());
 }
 
 #[test]
-fn a_borrow_has_its_text(rt: HostRuntime) -> Result<(), Fail> {
-    let a = arc_of(rt.alloc(), 7u32)?;
-    let text = format!(in rt.alloc(); "{:?}", a.borrow_arc())?;
-    assert_eq!(rt; text.as_str(), "ArcBorrow(7)");
-    Ok(())
+fn a_borrow_has_its_text(rt: HostRuntime) {
+    let a = handle_of(&rt, 7u32);
+    let text = ok(&rt, format!(in rt.alloc(); "{:?}", a.borrow_arc()));
+    same(&rt, text.as_str(), "ArcBorrow(7)");
 }

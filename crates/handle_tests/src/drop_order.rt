@@ -3,11 +3,12 @@ ghost use Rattle.std.specs.Prelude.{◌==◌};
 ghost use Rattle.std.specs.Cmp.{on_per, partial_equiv_from_equiv};
 ghost use Rattle.std.proofs.lemmas.Cmp.{nat_eq_equiv};
 
+use facts::{again, holds, ok, same};
 use servo_arc::{Arc, BuildError, UniqueArc};
 use std::alloc::{AllocError, Global};
+use std::process::Abort;
 use std::sync::atomic::AtomicU64;
 use std::sync::atomic::Ordering::SeqCst;
-use std::test::Fail;
 use std::vec::IntoIter;
 
 // Puts its name at the end of the log where it is dropped.
@@ -50,8 +51,50 @@ fn items_named<'a>(
     Ok(items.into_iter())
 }
 
+#[derive(Clone, Copy)]
+struct Row<'a> {
+    num_items: usize,
+    names: &'a [u64],
+    refusal: Option<BuildError>,
+    expected: u64,
+}
+
+fn drops_shared(rt: &(impl Abort + AllocGlobal), row: Row<'_>) {
+    let log = AtomicU64::new(0);
+    let header = Named {
+        name: HEADER,
+        log: &log,
+    };
+    let items = ok(rt, items_named(rt.alloc(), row.names, &log));
+    match Arc::from_header_and_iter_with_size(rt.alloc(), header, items, row.num_items) {
+        Ok(shared) => {
+            same(rt, (log.load(SeqCst), row.refusal), (0, None));
+            drop(shared);
+        }
+        Err(error) => same(rt, Some(error), row.refusal),
+    }
+    same(rt, log.load(SeqCst), row.expected);
+}
+
+fn drops_unique(rt: &(impl Abort + AllocGlobal), row: Row<'_>) {
+    let log = AtomicU64::new(0);
+    let header = Named {
+        name: HEADER,
+        log: &log,
+    };
+    let items = ok(rt, items_named(rt.alloc(), row.names, &log));
+    match UniqueArc::from_header_and_iter_with_size(rt.alloc(), header, items, row.num_items) {
+        Ok(unique) => {
+            same(rt, (log.load(SeqCst), row.refusal), (0, None));
+            drop(unique);
+        }
+        Err(error) => same(rt, Some(error), row.refusal),
+    }
+    same(rt, log.load(SeqCst), row.expected);
+}
+
 #[test]
-fn drops_items_in_order_and_then_the_header(rt: HostRuntime) -> Result<(), Fail> {
+fn drops_items_in_order_and_then_the_header(rt: HostRuntime) {
     let rows = [
         (3, &[1, 2, 3][..], None, 1239),
         (3, &[1, 2][..], Some(BuildError::OverReported), 129),
@@ -74,67 +117,46 @@ fn drops_items_in_order_and_then_the_header(rt: HostRuntime) -> Result<(), Fail>
         ),
     ];
     for (num_items, names, refusal, expected) in rows {
-        let log = AtomicU64::new(0);
-        let header = Named {
-            name: HEADER,
-            log: &log,
+        let row = Row {
+            num_items,
+            names,
+            refusal,
+            expected,
         };
-        let items = items_named(rt.alloc(), names, &log)?;
-        match Arc::from_header_and_iter_with_size(rt.alloc(), header, items, num_items) {
-            Ok(shared) => {
-                assert_eq!(rt; (log.load(SeqCst), refusal), (0, None));
-                drop(shared);
-            }
-            Err(error) => assert_eq!(rt; Some(error), refusal),
-        }
-        assert_eq!(rt; log.load(SeqCst), expected);
-
-        let log = AtomicU64::new(0);
-        let header = Named {
-            name: HEADER,
-            log: &log,
-        };
-        let items = items_named(rt.alloc(), names, &log)?;
-        match UniqueArc::from_header_and_iter_with_size(rt.alloc(), header, items, num_items) {
-            Ok(unique) => {
-                assert_eq!(rt; (log.load(SeqCst), refusal), (0, None));
-                drop(unique);
-            }
-            Err(error) => assert_eq!(rt; Some(error), refusal),
-        }
-        assert_eq!(rt; log.load(SeqCst), expected);
+        drops_shared(&rt, row);
+        drops_unique(&rt, row);
     }
-    Ok(())
 }
 
 #[test]
-fn drops_the_header_once(rt: HostRuntime) -> Result<(), Fail> {
+fn drops_the_header_once(rt: HostRuntime) {
     let log = AtomicU64::new(0);
     let header = Named {
         name: HEADER,
         log: &log,
     };
-    let items = vec![in rt.alloc(); 5u64, 6]?.into_iter();
-    let shared = Arc::from_header_and_iter(rt.alloc(), header, items)?;
-    let other = shared.clone()?;
+    let items = ok(&rt, vec![in rt.alloc(); 5u64, 6]).into_iter();
+    let shared = ok(&rt, Arc::from_header_and_iter(rt.alloc(), header, items));
+    let other = again(&rt, &shared);
     drop(other);
-    assert!(rt; *shared == *shared);
-    assert_eq!(rt; log.load(SeqCst), 0);
+    holds(&rt, *shared == *shared);
+    same(&rt, log.load(SeqCst), 0);
     drop(shared);
-    assert_eq!(rt; log.load(SeqCst), HEADER);
-    Ok(())
+    same(&rt, log.load(SeqCst), HEADER);
 }
 
 #[test]
-fn keeps_the_values_of_a_static_slice(rt: HostRuntime) -> Result<(), Fail> {
+fn keeps_the_values_of_a_static_slice(rt: HostRuntime) {
     let log = AtomicU64::new(0);
     let header = Named {
         name: HEADER,
         log: &log,
     };
-    let items = items_named(rt.alloc(), &[1, 2], &log)?;
-    let shared = Arc::from_header_and_iter_alloc(rt.alloc(), header, items, 2, true)?;
+    let items = ok(&rt, items_named(rt.alloc(), &[1, 2], &log));
+    let shared = ok(
+        &rt,
+        Arc::from_header_and_iter_alloc(rt.alloc(), header, items, 2, true),
+    );
     drop(shared);
-    assert_eq!(rt; log.load(SeqCst), 0);
-    Ok(())
+    same(&rt, log.load(SeqCst), 0);
 }

@@ -1,9 +1,11 @@
 // What header slices read, how they are written before they are shared, and their texts.
 ghost use Rattle.std.specs.Prelude.{◌≡◌};
 
+use facts::{holds, ok, same};
 use servo_arc::{Arc, BuildError, HeaderSlice, ThinArc, UniqueArc};
 use std::alloc::{AllocError, Global};
 use std::mem;
+use std::process::Abort;
 use std::test::Fail;
 
 #[derive(Clone, Copy)]
@@ -21,50 +23,56 @@ fn with_padding(i: u64) -> Padded {
     }
 }
 
+// The header, the length and what the first two items have.
+fn read(slice: &HeaderSlice<u8, Padded>) -> (u8, usize, Option<u64>, Option<u64>) {
+    let number = |index: usize| slice.slice().get(index).map(|item: &Padded| item.i);
+    (slice.header, slice.len(), number(0), number(1))
+}
+
 #[test]
 fn reads_padded_items(rt: HostRuntime) -> Result<(), Fail> {
+    let expected = (0, 2, Some(0xdead), Some(0xbeef));
     let items = vec![in rt.alloc(); with_padding(0xdead), with_padding(0xbeef)]?;
     let shared = Arc::from_header_and_iter(rt.alloc(), 0u8, items.into_iter())?;
-    assert_eq!(rt; (shared.header, shared.len()), (0, 2));
-    assert_eq!(rt;
-        (shared.slice()[0].i, shared.slice()[1].i),
-        (0xdead, 0xbeef)
-    );
+    same(&rt, read(&shared), expected);
 
     let items = vec![in rt.alloc(); with_padding(0xdead), with_padding(0xbeef)]?;
     let unique = UniqueArc::from_header_and_iter(rt.alloc(), 0u8, items.into_iter())?;
-    assert_eq!(rt; (unique.header, unique.len()), (0, 2));
-    assert_eq!(rt;
-        (unique.slice()[0].i, unique.slice()[1].i),
-        (0xdead, 0xbeef)
+    same(&rt, read(&unique), expected);
+    Ok(())
+}
+
+#[test]
+fn reads_an_empty_slice(rt: HostRuntime) {
+    let none: Vec<u32> = Vec::new(rt.alloc());
+    let shared = ok(
+        &rt,
+        Arc::from_header_and_iter_with_size(rt.alloc(), 100u8, none.into_iter(), 0),
     );
-    Ok(())
+    same(&rt, (shared.header, shared.len()), (100, 0));
+    holds(&rt, shared.is_empty() && shared.slice().is_empty());
+
+    let none: Vec<u32> = Vec::new(rt.alloc());
+    let unique = ok(
+        &rt,
+        UniqueArc::from_header_and_iter_with_size(rt.alloc(), 100u8, none.into_iter(), 0),
+    );
+    same(&rt, (unique.header, unique.len()), (100, 0));
+    holds(&rt, unique.is_empty() && unique.slice().is_empty());
 }
 
 #[test]
-fn reads_an_empty_slice(rt: HostRuntime) -> Result<(), Fail> {
-    let none: Vec<u32> = Vec::new(rt.alloc());
-    let shared = Arc::from_header_and_iter_with_size(rt.alloc(), 100u8, none.into_iter(), 0)?;
-    assert_eq!(rt; (shared.header, shared.len()), (100, 0));
-    assert!(rt; shared.is_empty() && shared.slice().is_empty());
-
-    let none: Vec<u32> = Vec::new(rt.alloc());
-    let unique = UniqueArc::from_header_and_iter_with_size(rt.alloc(), 100u8, none.into_iter(), 0)?;
-    assert_eq!(rt; (unique.header, unique.len()), (100, 0));
-    assert!(rt; unique.is_empty() && unique.slice().is_empty());
-    Ok(())
-}
-
-#[test]
-fn marks_a_static_slice(rt: HostRuntime) -> Result<(), Fail> {
+fn marks_a_static_slice(rt: HostRuntime) {
     for is_static in [false, true] {
-        let items = vec![in rt.alloc(); 1u64, 2]?.into_iter();
-        let mut shared = Arc::from_header_and_iter_alloc(rt.alloc(), 0u8, items, 2, is_static)?;
-        assert_eq!(rt; shared.slice(), &[1, 2][..]);
-        assert_eq!(rt; shared.is_static(), is_static);
-        assert_eq!(rt; Arc::get_mut(&mut shared).is_none(), is_static);
+        let items = ok(&rt, vec![in rt.alloc(); 1u64, 2]).into_iter();
+        let mut shared = ok(
+            &rt,
+            Arc::from_header_and_iter_alloc(rt.alloc(), 0u8, items, 2, is_static),
+        );
+        same(&rt, shared.slice(), &[1, 2][..]);
+        same(&rt, shared.is_static(), is_static);
+        same(&rt, Arc::get_mut(&mut shared).is_none(), is_static);
     }
-    Ok(())
 }
 
 fn swap<H: Send + Sync, T: Send + Sync>(
@@ -78,66 +86,73 @@ fn swap<H: Send + Sync, T: Send + Sync>(
 }
 
 #[test]
-fn swaps_header_and_items(rt: HostRuntime) -> Result<(), Fail> {
-    let one = vec![in rt.alloc(); 5u64]?.into_iter();
-    let two = vec![in rt.alloc(); 6u64, 7]?.into_iter();
-    let mut x = UniqueArc::from_header_and_iter(rt.alloc(), 1u8, one)?;
-    let mut y = UniqueArc::from_header_and_iter(rt.alloc(), 2u8, two)?;
+fn swaps_header_and_items(rt: HostRuntime) {
+    let one = ok(&rt, vec![in rt.alloc(); 5u64]).into_iter();
+    let two = ok(&rt, vec![in rt.alloc(); 6u64, 7]).into_iter();
+    let mut x = ok(&rt, UniqueArc::from_header_and_iter(rt.alloc(), 1u8, one));
+    let mut y = ok(&rt, UniqueArc::from_header_and_iter(rt.alloc(), 2u8, two));
     swap(&mut x, &mut y);
-    assert_eq!(rt; (x.header, x.slice(), x.len()), (2, &[6, 7][..], 2));
-    assert_eq!(rt; (y.header, y.slice(), y.len()), (1, &[5][..], 1));
-    Ok(())
+    same(&rt, (x.header, x.slice(), x.len()), (2, &[6, 7][..], 2));
+    same(&rt, (y.header, y.slice(), y.len()), (1, &[5][..], 1));
 }
 
 #[test]
-fn writes_before_it_is_shared(rt: HostRuntime) -> Result<(), Fail> {
-    let items = vec![in rt.alloc(); 5u64, 6]?.into_iter();
-    let mut unique = UniqueArc::from_header_and_iter(rt.alloc(), 1u8, items)?;
+fn writes_before_it_is_shared(rt: HostRuntime) {
+    let items = ok(&rt, vec![in rt.alloc(); 5u64, 6]).into_iter();
+    let mut unique = ok(&rt, UniqueArc::from_header_and_iter(rt.alloc(), 1u8, items));
     *unique.header_mut() = 3;
-    assert_eq!(rt; unique.data_mut().len(), 2);
+    holds(&rt, unique.data_mut().len() == 2);
     unique.data_mut()[1] = 9;
     let shared = unique.shareable();
-    assert_eq!(rt; shared.header, 3);
-    assert_eq!(rt; shared.slice(), &[5, 9][..]);
-    Ok(())
+    same(&rt, shared.header, 3);
+    same(&rt, shared.slice(), &[5, 9][..]);
 }
 
 #[test]
-fn writes_what_only_one_handle_shows(rt: HostRuntime) -> Result<(), Fail> {
-    let items = vec![in rt.alloc(); 5u64, 6]?.into_iter();
-    let mut shared: ThinArc<u8, u64> = Arc::from_header_and_iter(rt.alloc(), 1u8, items)?;
-    let Some(slice) = Arc::get_mut(&mut shared) else {
-        return Err(Fail::new("shared"));
-    };
+fn writes_what_only_one_handle_shows(rt: HostRuntime) {
+    let items = ok(&rt, vec![in rt.alloc(); 5u64, 6]).into_iter();
+    let mut shared: ThinArc<u8, u64> = ok(&rt, Arc::from_header_and_iter(rt.alloc(), 1u8, items));
+    let slice = Arc::get_mut(&mut shared).expect(&rt, "shared");
     slice.header = 3;
-    assert!(rt; !slice.is_empty());
+    holds(&rt, !slice.is_empty());
     slice.slice_mut()[0] = 8;
-    assert_eq!(rt; (shared.header, shared.slice()), (3, &[8, 6][..]));
-    Ok(())
+    same(&rt, (shared.header, shared.slice()), (3, &[8, 6][..]));
 }
 
 fn are_equal<T: Eq>(x: &T, y: &T) -> bool {
     x == y
 }
 
-#[test]
-fn compares_header_and_items(rt: HostRuntime) -> Result<(), Fail> {
-    let alloc = rt.alloc();
-    let a = Arc::from_header_and_iter(alloc, 1u8, vec![in alloc; 5u8, 6]?.into_iter())?;
-    let same = Arc::from_header_and_iter(alloc, 1u8, vec![in alloc; 5u8, 6]?.into_iter())?;
-    let other_header = Arc::from_header_and_iter(alloc, 2u8, vec![in alloc; 5u8, 6]?.into_iter())?;
-    let other_items = Arc::from_header_and_iter(alloc, 1u8, vec![in alloc; 5u8, 7]?.into_iter())?;
-    assert!(rt; *a == *same && are_equal(&*a, &*same));
-    assert!(rt; *a != *other_header && *a != *other_items);
-    Ok(())
+fn two_items(rt: &(impl Abort + AllocGlobal), header: u8, items: [u8; 2]) -> ThinArc<u8, u8> {
+    ok(
+        rt,
+        Arc::from_header_and_iter(rt.alloc(), header, items.into_iter()),
+    )
 }
 
 #[test]
-fn prints(rt: HostRuntime) -> Result<(), Fail> {
+fn compares_header_and_items(rt: HostRuntime) {
+    let a = two_items(&rt, 1, [5, 6]);
+    let equal = two_items(&rt, 1, [5, 6]);
+    let other_header = two_items(&rt, 2, [5, 6]);
+    let other_items = two_items(&rt, 1, [5, 7]);
+    holds(&rt, *a == *equal && are_equal(&*a, &*equal));
+    holds(&rt, *a != *other_header && *a != *other_items);
+}
+
+#[test]
+fn prints(rt: HostRuntime) {
     let alloc = rt.alloc();
-    let slice = UniqueArc::from_header_and_iter(alloc, 100u8, vec![in alloc; 5u8, 6]?.into_iter())?;
-    let text = format!(in alloc; "{:?}", *slice)?;
-    assert_eq!(rt; text.as_str(), "HeaderSlice { header: 100, slice: [5, 6] }");
+    let slice = ok(
+        &rt,
+        UniqueArc::from_header_and_iter(alloc, 100u8, ok(&rt, vec![in alloc; 5u8, 6]).into_iter()),
+    );
+    let text = ok(&rt, format!(in alloc; "{:?}", *slice));
+    same(
+        &rt,
+        text.as_str(),
+        "HeaderSlice { header: 100, slice: [5, 6] }",
+    );
     let texts = [
         (BuildError::Memory, "out of memory"),
         (
@@ -150,10 +165,13 @@ fn prints(rt: HostRuntime) -> Result<(), Fail> {
         ),
     ];
     for (error, expected) in texts {
-        assert_eq!(rt; format!(in alloc; "{error}")?.as_str(), expected);
+        same(
+            &rt,
+            ok(&rt, format!(in alloc; "{error}")).as_str(),
+            expected,
+        );
     }
-    assert_eq!(rt; BuildError::from(AllocError), BuildError::Memory);
-    Ok(())
+    same(&rt, BuildError::from(AllocError), BuildError::Memory);
 }
 
 fn crosses_threads<T: Send + Sync>() {}

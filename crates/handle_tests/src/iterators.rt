@@ -1,13 +1,13 @@
 // How often an iterator is asked, and what is built of what it answers.
 ghost use Rattle.std.specs.Prelude.{◌≤◌};
 
+use facts::{ok, same};
 use servo_arc::{Arc, BuildError, UniqueArc};
 use std::alloc::{AllocError, Global};
 use std::fmt::Debug;
 use std::process::Abort;
 use std::sync::atomic::AtomicU64;
 use std::sync::atomic::Ordering::SeqCst;
-use std::test::Fail;
 use std::vec::IntoIter;
 
 // Gives these answers in turn and then only `None`, so that it may go on after a `None`, and counts how often it was asked.
@@ -45,31 +45,34 @@ fn source_of<'a, T: Copy>(
     })
 }
 
-fn run<T: Copy + Debug + PartialEq + Send + Sync>(
-    rt: &impl Abort,
-    alloc: Global,
+fn run_shared<T: Copy + Debug + PartialEq + Send + Sync>(
+    rt: &(impl Abort + AllocGlobal),
     row: Row<T>,
-) -> Result<(), AllocError> {
+) {
     let asked = AtomicU64::new(0);
-    let source = source_of(alloc, row.answers, &asked)?;
-    match Arc::from_header_and_iter_with_size(alloc, 7u8, source, row.num_items) {
-        Ok(shared) => assert_eq!(rt; Ok(shared.slice()), row.expected),
-        Err(refusal) => assert_eq!(rt; Err(refusal), row.expected),
+    let source = ok(rt, source_of(rt.alloc(), row.answers, &asked));
+    match Arc::from_header_and_iter_with_size(rt.alloc(), 7u8, source, row.num_items) {
+        Ok(shared) => same(rt, Ok(shared.slice()), row.expected),
+        Err(refusal) => same(rt, Err(refusal), row.expected),
     }
-    assert_eq!(rt; asked.load(SeqCst), row.asks);
+    same(rt, asked.load(SeqCst), row.asks);
+}
 
+fn run_unique<T: Copy + Debug + PartialEq + Send + Sync>(
+    rt: &(impl Abort + AllocGlobal),
+    row: Row<T>,
+) {
     let asked = AtomicU64::new(0);
-    let source = source_of(alloc, row.answers, &asked)?;
-    match UniqueArc::from_header_and_iter_with_size(alloc, 7u8, source, row.num_items) {
-        Ok(unique) => assert_eq!(rt; Ok(unique.slice()), row.expected),
-        Err(refusal) => assert_eq!(rt; Err(refusal), row.expected),
+    let source = ok(rt, source_of(rt.alloc(), row.answers, &asked));
+    match UniqueArc::from_header_and_iter_with_size(rt.alloc(), 7u8, source, row.num_items) {
+        Ok(unique) => same(rt, Ok(unique.slice()), row.expected),
+        Err(refusal) => same(rt, Err(refusal), row.expected),
     }
-    assert_eq!(rt; asked.load(SeqCst), row.asks);
-    Ok(())
+    same(rt, asked.load(SeqCst), row.asks);
 }
 
 #[test]
-fn asks_once_more_and_never_after_none(rt: HostRuntime) -> Result<(), Fail> {
+fn asks_once_more_and_never_after_none(rt: HostRuntime) {
     let rows = [
         (3, &[Some(1), Some(2)][..], Err(BuildError::OverReported), 3),
         (
@@ -116,13 +119,13 @@ fn asks_once_more_and_never_after_none(rt: HostRuntime) -> Result<(), Fail> {
             expected,
             asks,
         };
-        run(&rt, rt.alloc(), row)?;
+        run_shared(&rt, row);
+        run_unique(&rt, row);
     }
-    Ok(())
 }
 
 #[test]
-fn takes_items_without_size(rt: HostRuntime) -> Result<(), Fail> {
+fn takes_items_without_size(rt: HostRuntime) {
     let rows = [
         (
             3,
@@ -144,9 +147,9 @@ fn takes_items_without_size(rt: HostRuntime) -> Result<(), Fail> {
             expected,
             asks,
         };
-        run(&rt, rt.alloc(), row)?;
+        run_shared(&rt, row);
+        run_unique(&rt, row);
     }
-    Ok(())
 }
 
 // Gives fewer items than it says that it has, and counts how often it was asked for their number.
@@ -196,7 +199,7 @@ fn boaster(claimed: usize, asked: &AtomicU64) -> Boasting<'_>
 }
 
 #[test]
-fn asks_the_iterator_for_the_number_once(rt: HostRuntime) -> Result<(), Fail> {
+fn asks_the_iterator_for_the_number_once(rt: HostRuntime) {
     let asked = AtomicU64::new(0);
     for claimed in [3, 4] {
         let expected = if claimed == 3 {
@@ -205,14 +208,13 @@ fn asks_the_iterator_for_the_number_once(rt: HostRuntime) -> Result<(), Fail> {
             Err(BuildError::OverReported)
         };
         match Arc::from_header_and_iter(rt.alloc(), 1u64, boaster(claimed, &asked)) {
-            Ok(shared) => assert_eq!(rt; Ok(shared.slice()), expected),
-            Err(refusal) => assert_eq!(rt; Err(refusal), expected),
+            Ok(shared) => same(&rt, Ok(shared.slice()), expected),
+            Err(refusal) => same(&rt, Err(refusal), expected),
         }
         match UniqueArc::from_header_and_iter(rt.alloc(), 1u64, boaster(claimed, &asked)) {
-            Ok(unique) => assert_eq!(rt; Ok(unique.slice()), expected),
-            Err(refusal) => assert_eq!(rt; Err(refusal), expected),
+            Ok(unique) => same(&rt, Ok(unique.slice()), expected),
+            Err(refusal) => same(&rt, Err(refusal), expected),
         }
     }
-    assert_eq!(rt; asked.load(SeqCst), 4);
-    Ok(())
+    same(&rt, asked.load(SeqCst), 4);
 }

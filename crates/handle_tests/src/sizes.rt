@@ -1,7 +1,7 @@
 // Long runs and a long slice: a cap that nobody asked for would refuse them.
+use facts::{holds, ok};
 use servo_arc::table::{Command, PlainCommand, Reply, Table, UnionCommand, UnionTable};
 use servo_arc::{Arc, ThinArc};
-use std::test::Fail;
 
 const PAIRS: u32 = 1000;
 
@@ -11,48 +11,56 @@ fn is_done_and_true(replies: &[Reply]) -> bool {
 }
 
 #[test]
-fn a_run_takes_two_thousand_commands(rt: HostRuntime) -> Result<(), Fail> {
+fn a_run_takes_two_thousand_commands(rt: HostRuntime) {
     let mut commands = Vec::new(rt.alloc());
     for value in 0..PAIRS {
-        commands.push(Command::New(0, value))?;
-        commands.push(Command::Same(0, 0))?;
+        ok(&rt, commands.push(Command::New(0, value)));
+        ok(&rt, commands.push(Command::Same(0, 0)));
     }
-    let mut table = Table::new(rt.alloc(), 1)?;
-    let replies = table.run(rt.alloc(), commands)?;
-    assert!(rt; is_done_and_true(&replies) && table.get(0) == Some(&999));
-    Ok(())
+    let mut table = ok(&rt, Table::new(rt.alloc(), 1));
+    let replies = ok(&rt, table.run(rt.alloc(), commands));
+    holds(
+        &rt,
+        is_done_and_true(&replies) && table.get(0) == Some(&999),
+    );
 }
 
 #[test]
-fn a_plain_run_takes_two_thousand_commands(rt: HostRuntime) -> Result<(), Fail> {
+fn a_plain_run_takes_two_thousand_commands(rt: HostRuntime) {
     let mut commands = Vec::new(rt.alloc());
     for value in 0..PAIRS {
-        commands.push(PlainCommand::New(0, value))?;
-        commands.push(PlainCommand::Same(0, 0))?;
+        ok(&rt, commands.push(PlainCommand::New(0, value)));
+        ok(&rt, commands.push(PlainCommand::Same(0, 0)));
     }
-    let mut table = Table::new(rt.alloc(), 1)?;
-    let replies = table.run_plain(rt.alloc(), commands)?;
-    assert!(rt; is_done_and_true(&replies) && table.get(0) == Some(&999));
-    Ok(())
+    let mut table = ok(&rt, Table::new(rt.alloc(), 1));
+    let replies = ok(&rt, table.run_plain(rt.alloc(), commands));
+    holds(
+        &rt,
+        is_done_and_true(&replies) && table.get(0) == Some(&999),
+    );
 }
 
 #[test]
-fn a_run_on_unions_takes_two_thousand_commands(rt: HostRuntime) -> Result<(), Fail> {
+fn a_run_on_unions_takes_two_thousand_commands(rt: HostRuntime) {
     let mut commands = Vec::new(rt.alloc());
     for value in 0..PAIRS {
-        commands.push(UnionCommand::First(0, value))?;
-        commands.push(UnionCommand::ReadFirst(0, value))?;
+        ok(&rt, commands.push(UnionCommand::First(0, value)));
+        ok(&rt, commands.push(UnionCommand::ReadFirst(0, value)));
     }
-    let mut table: UnionTable<u32, u32> = UnionTable::new(rt.alloc(), 1)?;
-    let replies = table.run(rt.alloc(), commands)?;
-    assert!(rt; is_done_and_true(&replies));
-    Ok(())
+    let mut table: UnionTable<u32, u32> = ok(&rt, UnionTable::new(rt.alloc(), 1));
+    let replies = ok(&rt, table.run(rt.alloc(), commands));
+    holds(&rt, is_done_and_true(&replies));
 }
 
 #[test]
-fn a_header_slice_takes_two_thousand_items(rt: HostRuntime) -> Result<(), Fail> {
-    let numbers: Vec<u32> = (0..2000).collect(rt.alloc())?;
-    let list: ThinArc<u8, u32> = Arc::from_header_and_iter(rt.alloc(), 7, numbers.into_iter())?;
-    assert!(rt; list.len() == 2000 && list.slice().last() == Some(&1999));
-    Ok(())
+fn a_header_slice_takes_two_thousand_items(rt: HostRuntime) {
+    let numbers: Vec<u32> = ok(&rt, (0..2000).collect(rt.alloc()));
+    let list: ThinArc<u8, u32> = ok(
+        &rt,
+        Arc::from_header_and_iter(rt.alloc(), 7, numbers.into_iter()),
+    );
+    holds(
+        &rt,
+        list.len() == 2000 && list.slice().last() == Some(&1999),
+    );
 }

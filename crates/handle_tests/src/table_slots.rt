@@ -1,4 +1,5 @@
 // Commands on slots that are not the first, over slots that are filled.
+use facts::holds;
 use servo_arc::table::{Command, Reply, Table, UnionCommand, UnionTable};
 use std::alloc::Global;
 use std::test::Fail;
@@ -35,8 +36,11 @@ fn a_mark_is_of_one_slot(rt: HostRuntime) -> Result<(), Fail> {
     ]?;
     let (replies, table) = replies_of(rt.alloc(), 3, commands)?;
     let told = [Reply::Done, Reply::Done, Reply::Shared, Reply::Done];
-    assert!(rt; replies.ends_with(&told));
-    assert!(rt; [table.get(0), table.get(1), table.get(2)] == [Some(&8), Some(&6), Some(&8)]);
+    holds(&rt, replies.ends_with(&told));
+    holds(
+        &rt,
+        [table.get(0), table.get(1), table.get(2)] == [Some(&8), Some(&6), Some(&8)],
+    );
     Ok(())
 }
 
@@ -61,9 +65,10 @@ fn a_slot_gets_a_block_of_its_own(rt: HostRuntime) -> Result<(), Fail> {
         Reply::Done,
         Reply::Is(false),
     ];
-    assert!(rt; replies.ends_with(&told));
-    assert!(rt;
-        [table.get(0), table.get(1), table.get(2)] == [Some(&5), Some(&5), Some(&4_294_967_295)]
+    holds(&rt, replies.ends_with(&told));
+    holds(
+        &rt,
+        [table.get(0), table.get(1), table.get(2)] == [Some(&5), Some(&5), Some(&4_294_967_295)],
     );
     Ok(())
 }
@@ -89,7 +94,7 @@ fn unions_of_equal_values_are_told_apart(rt: HostRuntime) -> Result<(), Fail> {
         Reply::Is(true),
         Reply::Is(false),
     ];
-    assert!(rt; replies.ends_with(&told));
+    holds(&rt, replies.ends_with(&told));
     Ok(())
 }
 
@@ -114,6 +119,6 @@ fn a_filled_slot_takes_the_other_kind(rt: HostRuntime) -> Result<(), Fail> {
         Reply::Is(true),
         Reply::Is(false),
     ];
-    assert!(rt; replies.ends_with(&told));
+    holds(&rt, replies.ends_with(&told));
     Ok(())
 }

@@ -1,14 +1,20 @@
 //! Handles that are made outside and put into a table.
+use facts::{again, holds, ok, same};
 use handle_tables::table::{PlainCommand, Reply, Table};
 use handles::arc::Arc;
 use handles::header_slice::{HeaderSlice, ThinArc};
-use std::alloc::Global;
+use std::process::Abort;
 use std::test::Fail;
 
-fn thin_of(alloc: Global, header: u32, items: Vec<u32>) -> Result<ThinArc<u32, u32>, Fail> {
-    let num_items = items.len();
-    let thin = Arc::from_header_and_iter_with_size(alloc, header, items.into_iter(), num_items)?;
-    Ok(thin)
+fn thin_of(rt: &(impl Abort + AllocGlobal), header: u32, items: &[u32]) -> ThinArc<u32, u32> {
+    let (items, num_items) = (ok(rt, items.to_vec(rt.alloc())), items.len());
+    let thin = Arc::from_header_and_iter_with_size(
+        rt.alloc(),
+        header,
+        items.into_iter(),
+        num_items,
+    );
+    ok(rt, thin)
 }
 
 fn read(table: &Table<HeaderSlice<u32, u32>>, i: usize) -> Option<(u32, &[u32])> {
@@ -16,22 +22,21 @@ fn read(table: &Table<HeaderSlice<u32, u32>>, i: usize) -> Option<(u32, &[u32])>
 }
 
 #[test]
-fn a_header_slice_is_put_and_shared(rt: HostRuntime) -> Result<(), Fail> {
+fn a_header_slice_is_put_and_shared(rt: HostRuntime) {
     let alloc = rt.alloc();
-    let mut table: Table<HeaderSlice<u32, u32>> = Table::new(alloc, 2)?;
-    assert!(rt;
-        table
-            .put(0, thin_of(alloc, 1, vec![in alloc; 5, 6]?)?)
-            .is_ok()
+    let mut table: Table<HeaderSlice<u32, u32>> = ok(&rt, Table::new(alloc, 2));
+    holds(&rt, table.put(0, thin_of(&rt, 1, &[5, 6])).is_ok());
+    let commands = ok(
+        &rt,
+        vec![in alloc;
+            PlainCommand::Clone(0, 1),
+            PlainCommand::Same(0, 1),
+            PlainCommand::PtrEq(0, 1),
+            PlainCommand::Mark(0),
+            PlainCommand::Drop(0),
+        ],
     );
-    let commands = vec![in alloc;
-        PlainCommand::Clone(0, 1),
-        PlainCommand::Same(0, 1),
-        PlainCommand::PtrEq(0, 1),
-        PlainCommand::Mark(0),
-        PlainCommand::Drop(0),
-    ]?;
-    let replies = table.run_plain(alloc, commands)?;
+    let replies = ok(&rt, table.run_plain(alloc, commands));
     let expected = [
         Reply::Done,
         Reply::Is(true),
@@ -39,32 +44,29 @@ fn a_header_slice_is_put_and_shared(rt: HostRuntime) -> Result<(), Fail> {
         Reply::Done,
         Reply::Done,
     ];
-    assert_eq!(rt; replies.as_slice(), expected.as_slice());
-    assert_eq!(rt; read(&table, 1), Some((1, &[5, 6][..])));
-    assert_eq!(rt; read(&table, 0), None);
-    Ok(())
+    same(&rt, replies.as_slice(), expected.as_slice());
+    same(&rt, read(&table, 1), Some((1, &[5, 6][..])));
+    same(&rt, read(&table, 0), None);
 }
 
 #[test]
-fn a_handle_comes_back_where_there_is_no_slot(rt: HostRuntime) -> Result<(), Fail> {
+fn a_handle_comes_back_where_there_is_no_slot(rt: HostRuntime) {
     let alloc = rt.alloc();
-    let mut table: Table<HeaderSlice<u32, u32>> = Table::new(alloc, 2)?;
-    let given = thin_of(alloc, 3, vec![in alloc; 7]?)?;
-    let back = table.put(2, given).err().ok_or("a third slot")?;
-    assert_eq!(rt; (back.header, back.slice()), (3, &[7][..]));
-    assert_eq!(rt; (read(&table, 0), read(&table, 1)), (None, None));
-    Ok(())
+    let mut table: Table<HeaderSlice<u32, u32>> = ok(&rt, Table::new(alloc, 2));
+    let given = thin_of(&rt, 3, &[7]);
+    let back = table.put(2, given).err().expect(&rt, "a third slot");
+    same(&rt, (back.header, back.slice()), (3, &[7][..]));
+    same(&rt, (read(&table, 0), read(&table, 1)), (None, None));
 }
 
 #[test]
-fn a_slot_has_the_handle_that_was_put(rt: HostRuntime) -> Result<(), Fail> {
+fn a_slot_has_the_handle_that_was_put(rt: HostRuntime) {
     let alloc = rt.alloc();
-    let mut table: Table<HeaderSlice<u32, u32>> = Table::new(alloc, 2)?;
-    let kept = thin_of(alloc, 1, vec![in alloc; 5]?)?;
-    assert!(rt; table.put(1, kept.clone()?).is_ok());
-    assert!(rt; !kept.is_unique());
-    assert!(rt; table.put(1, thin_of(alloc, 2, vec![in alloc; 8]?)?).is_ok());
-    assert!(rt; kept.is_unique());
-    assert_eq!(rt; read(&table, 1), Some((2, &[8][..])));
-    Ok(())
+    let mut table: Table<HeaderSlice<u32, u32>> = ok(&rt, Table::new(alloc, 2));
+    let kept = thin_of(&rt, 1, &[5]);
+    holds(&rt, table.put(1, again(&rt, &kept)).is_ok());
+    holds(&rt, !kept.is_unique());
+    holds(&rt, table.put(1, thin_of(&rt, 2, &[8])).is_ok());
+    holds(&rt, kept.is_unique());
+    same(&rt, read(&table, 1), Some((2, &[8][..])));
 }

@@ -1,23 +1,26 @@
 //! What no clause says: that commands are served where memory is ample, and which of two allowed
 //! replies comes when.
+use facts::{holds, ok, same};
 use handle_tables::table::{Command, PlainCommand, Reply, Table, laws};
 use std::alloc::AllocError;
-use std::test::Fail;
 
 #[test]
-fn a_shared_value_is_copied_before_it_is_written(rt: HostRuntime) -> Result<(), Fail> {
-    let mut table: Table<u32> = Table::new(rt.alloc(), 3)?;
-    let commands = vec![in rt.alloc();
-        Command::New(0, 5),
-        Command::Clone(0, 1),
-        Command::GetMut(0, 9),
-        Command::MakeMut(0, 9),
-        Command::PtrEq(0, 1),
-        Command::Same(0, 1),
-        Command::Drop(2),
-        Command::New(3, 1),
-    ]?;
-    let replies = table.run(rt.alloc(), commands)?;
+fn a_shared_value_is_copied_before_it_is_written(rt: HostRuntime) {
+    let mut table: Table<u32> = ok(&rt, Table::new(rt.alloc(), 3));
+    let commands = ok(
+        &rt,
+        vec![in rt.alloc();
+            Command::New(0, 5),
+            Command::Clone(0, 1),
+            Command::GetMut(0, 9),
+            Command::MakeMut(0, 9),
+            Command::PtrEq(0, 1),
+            Command::Same(0, 1),
+            Command::Drop(2),
+            Command::New(3, 1),
+        ],
+    );
+    let replies = ok(&rt, table.run(rt.alloc(), commands));
     let expected = [
         Reply::Done,
         Reply::Done,
@@ -28,44 +31,48 @@ fn a_shared_value_is_copied_before_it_is_written(rt: HostRuntime) -> Result<(), 
         Reply::Empty,
         Reply::NoSlot,
     ];
-    assert_eq!(rt; replies.as_slice(), expected.as_slice());
-    assert_eq!(rt; table.get(0).copied(), Some(9));
-    assert_eq!(rt; table.get(1).copied(), Some(5));
-    assert_eq!(rt; table.get(2).copied(), None);
-    Ok(())
+    same(&rt, replies.as_slice(), expected.as_slice());
+    same(&rt, table.get(0).copied(), Some(9));
+    same(&rt, table.get(1).copied(), Some(5));
+    same(&rt, table.get(2).copied(), None);
 }
 
 #[test]
-fn a_marked_block_is_left_for_one_of_its_own(rt: HostRuntime) -> Result<(), Fail> {
-    let mut table: Table<u32> = Table::new(rt.alloc(), 2)?;
-    let commands = vec![in rt.alloc();
-        Command::New(0, 4),
-        Command::Mark(0),
-        Command::Own(0),
-        Command::GetMut(0, 6),
-        Command::Clone(0, 0),
-        Command::GetMut(0, 7),
-        Command::Raw(0),
-    ]?;
-    let replies = table.run(rt.alloc(), commands)?;
-    assert_eq!(rt; replies.as_slice(), [Reply::Done; 7].as_slice());
-    assert_eq!(rt; table.get(0).copied(), Some(7));
-    Ok(())
+fn a_marked_block_is_left_for_one_of_its_own(rt: HostRuntime) {
+    let mut table: Table<u32> = ok(&rt, Table::new(rt.alloc(), 2));
+    let commands = ok(
+        &rt,
+        vec![in rt.alloc();
+            Command::New(0, 4),
+            Command::Mark(0),
+            Command::Own(0),
+            Command::GetMut(0, 6),
+            Command::Clone(0, 0),
+            Command::GetMut(0, 7),
+            Command::Raw(0),
+        ],
+    );
+    let replies = ok(&rt, table.run(rt.alloc(), commands));
+    same(&rt, replies.as_slice(), [Reply::Done; 7].as_slice());
+    same(&rt, table.get(0).copied(), Some(7));
 }
 
 #[test]
-fn a_plain_run_shares_and_reads(rt: HostRuntime) -> Result<(), Fail> {
-    let mut table: Table<u32> = Table::new(rt.alloc(), 3)?;
-    let commands = vec![in rt.alloc();
-        PlainCommand::New(0, 5),
-        PlainCommand::Clone(0, 1),
-        PlainCommand::GetMut(0, 9),
-        PlainCommand::PtrEq(0, 1),
-        PlainCommand::Same(0, 1),
-        PlainCommand::Drop(2),
-        PlainCommand::New(3, 1),
-    ]?;
-    let replies = table.run_plain(rt.alloc(), commands)?;
+fn a_plain_run_shares_and_reads(rt: HostRuntime) {
+    let mut table: Table<u32> = ok(&rt, Table::new(rt.alloc(), 3));
+    let commands = ok(
+        &rt,
+        vec![in rt.alloc();
+            PlainCommand::New(0, 5),
+            PlainCommand::Clone(0, 1),
+            PlainCommand::GetMut(0, 9),
+            PlainCommand::PtrEq(0, 1),
+            PlainCommand::Same(0, 1),
+            PlainCommand::Drop(2),
+            PlainCommand::New(3, 1),
+        ],
+    );
+    let replies = ok(&rt, table.run_plain(rt.alloc(), commands));
     let expected = [
         Reply::Done,
         Reply::Done,
@@ -75,28 +82,30 @@ fn a_plain_run_shares_and_reads(rt: HostRuntime) -> Result<(), Fail> {
         Reply::Empty,
         Reply::NoSlot,
     ];
-    assert_eq!(rt; replies.as_slice(), expected.as_slice());
-    assert_eq!(rt; table.get(0).copied(), Some(5));
-    assert_eq!(rt; table.get(1).copied(), Some(5));
-    assert_eq!(rt; table.get(2).copied(), None);
-    Ok(())
+    same(&rt, replies.as_slice(), expected.as_slice());
+    same(&rt, table.get(0).copied(), Some(5));
+    same(&rt, table.get(1).copied(), Some(5));
+    same(&rt, table.get(2).copied(), None);
 }
 
 #[test]
-fn a_plain_run_passes_handles_through_tokens(rt: HostRuntime) -> Result<(), Fail> {
-    let mut table: Table<u32> = Table::new(rt.alloc(), 2)?;
-    let commands = vec![in rt.alloc();
-        PlainCommand::New(0, 4),
-        PlainCommand::GetMut(0, 6),
-        PlainCommand::Clone(0, 0),
-        PlainCommand::GetMut(0, 7),
-        PlainCommand::Raw(0),
-        PlainCommand::Raw(1),
-        PlainCommand::Raw(2),
-        PlainCommand::Mark(0),
-        PlainCommand::GetMut(0, 8),
-    ]?;
-    let replies = table.run_plain(rt.alloc(), commands)?;
+fn a_plain_run_passes_handles_through_tokens(rt: HostRuntime) {
+    let mut table: Table<u32> = ok(&rt, Table::new(rt.alloc(), 2));
+    let commands = ok(
+        &rt,
+        vec![in rt.alloc();
+            PlainCommand::New(0, 4),
+            PlainCommand::GetMut(0, 6),
+            PlainCommand::Clone(0, 0),
+            PlainCommand::GetMut(0, 7),
+            PlainCommand::Raw(0),
+            PlainCommand::Raw(1),
+            PlainCommand::Raw(2),
+            PlainCommand::Mark(0),
+            PlainCommand::GetMut(0, 8),
+        ],
+    );
+    let replies = ok(&rt, table.run_plain(rt.alloc(), commands));
     let expected = [
         Reply::Done,
         Reply::Done,
@@ -108,24 +117,26 @@ fn a_plain_run_passes_handles_through_tokens(rt: HostRuntime) -> Result<(), Fail
         Reply::Done,
         Reply::Shared,
     ];
-    assert_eq!(rt; replies.as_slice(), expected.as_slice());
-    assert_eq!(rt; table.get(0).copied(), Some(7));
-    Ok(())
+    same(&rt, replies.as_slice(), expected.as_slice());
+    same(&rt, table.get(0).copied(), Some(7));
 }
 
 #[test]
-fn texts_are_compared_by_content(rt: HostRuntime) -> Result<(), Fail> {
-    let mut table: Table<String> = Table::new(rt.alloc(), 3)?;
-    let commands = vec![in rt.alloc();
-        Command::New(0, String::from_str(rt.alloc(), "left")?),
-        Command::New(1, String::from_str(rt.alloc(), "left")?),
-        Command::Same(0, 1),
-        Command::PtrEq(0, 1),
-        Command::Clone(0, 2),
-        Command::MakeMut(0, String::from_str(rt.alloc(), "right")?),
-        Command::Same(0, 2),
-    ]?;
-    let replies = table.run(rt.alloc(), commands)?;
+fn texts_are_compared_by_content(rt: HostRuntime) {
+    let mut table: Table<String> = ok(&rt, Table::new(rt.alloc(), 3));
+    let commands = ok(
+        &rt,
+        vec![in rt.alloc();
+            Command::New(0, ok(&rt, String::from_str(rt.alloc(), "left"))),
+            Command::New(1, ok(&rt, String::from_str(rt.alloc(), "left"))),
+            Command::Same(0, 1),
+            Command::PtrEq(0, 1),
+            Command::Clone(0, 2),
+            Command::MakeMut(0, ok(&rt, String::from_str(rt.alloc(), "right"))),
+            Command::Same(0, 2),
+        ],
+    );
+    let replies = ok(&rt, table.run(rt.alloc(), commands));
     let expected = [
         Reply::Done,
         Reply::Done,
@@ -135,10 +146,9 @@ fn texts_are_compared_by_content(rt: HostRuntime) -> Result<(), Fail> {
         Reply::Done,
         Reply::Is(false),
     ];
-    assert_eq!(rt; replies.as_slice(), expected.as_slice());
-    assert_eq!(rt; table.get(0).map(|text| text.as_str()), Some("right"));
-    assert_eq!(rt; table.get(2).map(|text| text.as_str()), Some("left"));
-    Ok(())
+    same(&rt, replies.as_slice(), expected.as_slice());
+    same(&rt, table.get(0).map(|text| text.as_str()), Some("right"));
+    same(&rt, table.get(2).map(|text| text.as_str()), Some("left"));
 }
 
 /// A value without `Clone`.
@@ -148,68 +158,83 @@ struct Ticket {
 }
 
 #[test]
-fn plain_runs_need_no_clone_of_values(rt: HostRuntime) -> Result<(), Fail> {
-    let mut table: Table<Ticket> = Table::new(rt.alloc(), 2)?;
-    let commands = vec![in rt.alloc();
-        PlainCommand::New(0, Ticket { number: 1 }),
-        PlainCommand::Clone(0, 1),
-        PlainCommand::Drop(0),
-        PlainCommand::GetMut(1, Ticket { number: 2 }),
-    ]?;
-    let replies = table.run_plain(rt.alloc(), commands)?;
-    assert_eq!(rt; replies.as_slice(), [Reply::Done; 4].as_slice());
-    assert_eq!(rt; table.get(0).map(|ticket| ticket.number), None);
-    assert_eq!(rt; table.get(1).map(|ticket| ticket.number), Some(2));
-    Ok(())
+fn plain_runs_need_no_clone_of_values(rt: HostRuntime) {
+    let mut table: Table<Ticket> = ok(&rt, Table::new(rt.alloc(), 2));
+    let commands = ok(
+        &rt,
+        vec![in rt.alloc();
+            PlainCommand::New(0, Ticket { number: 1 }),
+            PlainCommand::Clone(0, 1),
+            PlainCommand::Drop(0),
+            PlainCommand::GetMut(1, Ticket { number: 2 }),
+        ],
+    );
+    let replies = ok(&rt, table.run_plain(rt.alloc(), commands));
+    same(&rt, replies.as_slice(), [Reply::Done; 4].as_slice());
+    same(&rt, table.get(0).map(|ticket| ticket.number), None);
+    same(&rt, table.get(1).map(|ticket| ticket.number), Some(2));
 }
 
 #[test]
-fn commands_are_served_one_at_a_time(rt: HostRuntime) -> Result<(), Fail> {
+fn commands_are_served_one_at_a_time(rt: HostRuntime) {
     let alloc = rt.alloc();
-    let mut table: Table<u32> = Table::new(alloc, 2)?;
-    assert_eq!(rt; table.serve(alloc, Command::Clone(0, 1)), Reply::Empty);
-    assert_eq!(rt; table.serve(alloc, Command::Clone(0, 2)), Reply::NoSlot);
-    assert_eq!(rt; table.serve(alloc, Command::Same(0, 0)), Reply::Empty);
-    assert_eq!(rt; table.serve(alloc, Command::New(0, 5)), Reply::Done);
-    assert_eq!(rt; table.serve(alloc, Command::Clone(0, 1)), Reply::Done);
-    assert_eq!(rt; table.serve(alloc, Command::PtrEq(0, 1)), Reply::Is(true));
-    assert_eq!(rt; table.serve(alloc, Command::Own(0)), Reply::Done);
-    assert_eq!(rt; table.serve(alloc, Command::PtrEq(0, 1)), Reply::Is(false));
-    assert_eq!(rt; table.serve(alloc, Command::Same(0, 1)), Reply::Is(true));
-    assert_eq!(rt; table.serve(alloc, Command::New(0, 8)), Reply::Done);
-    assert_eq!(rt; table.get(1).copied(), Some(5));
-    assert_eq!(rt; table.serve(alloc, Command::MakeMut(1, 3)), Reply::Done);
-    assert_eq!(rt; table.get(0).copied(), Some(8));
-    assert_eq!(rt; table.get(1).copied(), Some(3));
-    assert_eq!(rt; table.get(2).copied(), None);
-    assert_eq!(rt; table.slots(), 2);
-    Ok(())
+    let mut table: Table<u32> = ok(&rt, Table::new(alloc, 2));
+    same(&rt, table.serve(alloc, Command::Clone(0, 1)), Reply::Empty);
+    same(&rt, table.serve(alloc, Command::Clone(0, 2)), Reply::NoSlot);
+    same(&rt, table.serve(alloc, Command::Same(0, 0)), Reply::Empty);
+    same(&rt, table.serve(alloc, Command::New(0, 5)), Reply::Done);
+    same(&rt, table.serve(alloc, Command::Clone(0, 1)), Reply::Done);
+    same(
+        &rt,
+        table.serve(alloc, Command::PtrEq(0, 1)),
+        Reply::Is(true),
+    );
+    same(&rt, table.serve(alloc, Command::Own(0)), Reply::Done);
+    same(
+        &rt,
+        table.serve(alloc, Command::PtrEq(0, 1)),
+        Reply::Is(false),
+    );
+    same(
+        &rt,
+        table.serve(alloc, Command::Same(0, 1)),
+        Reply::Is(true),
+    );
+    same(&rt, table.serve(alloc, Command::New(0, 8)), Reply::Done);
+    same(&rt, table.get(1).copied(), Some(5));
+    same(&rt, table.serve(alloc, Command::MakeMut(1, 3)), Reply::Done);
+    same(&rt, table.get(0).copied(), Some(8));
+    same(&rt, table.get(1).copied(), Some(3));
+    same(&rt, table.get(2).copied(), None);
+    same(&rt, table.slots(), 2);
 }
 
 #[test]
-fn a_marked_block_is_never_written(rt: HostRuntime) -> Result<(), Fail> {
+fn a_marked_block_is_never_written(rt: HostRuntime) {
     let alloc = rt.alloc();
-    let mut table: Table<u32> = Table::new(alloc, 1)?;
-    assert_eq!(rt; table.serve(alloc, Command::New(0, 4)), Reply::Done);
-    assert_eq!(rt; table.serve(alloc, Command::Clone(0, 0)), Reply::Done);
-    assert_eq!(rt; table.serve(alloc, Command::GetMut(0, 5)), Reply::Done);
-    assert_eq!(rt; table.serve(alloc, Command::Mark(0)), Reply::Done);
-    assert_eq!(rt; table.serve(alloc, Command::GetMut(0, 6)), Reply::Shared);
-    assert_eq!(rt; table.get(0).copied(), Some(5));
-    assert_eq!(rt; table.serve(alloc, Command::MakeMut(0, 7)), Reply::Done);
-    assert_eq!(rt; table.serve(alloc, Command::GetMut(0, 8)), Reply::Done);
-    assert_eq!(rt; table.get(0).copied(), Some(8));
-    Ok(())
+    let mut table: Table<u32> = ok(&rt, Table::new(alloc, 1));
+    same(&rt, table.serve(alloc, Command::New(0, 4)), Reply::Done);
+    same(&rt, table.serve(alloc, Command::Clone(0, 0)), Reply::Done);
+    same(&rt, table.serve(alloc, Command::GetMut(0, 5)), Reply::Done);
+    same(&rt, table.serve(alloc, Command::Mark(0)), Reply::Done);
+    same(
+        &rt,
+        table.serve(alloc, Command::GetMut(0, 6)),
+        Reply::Shared,
+    );
+    same(&rt, table.get(0).copied(), Some(5));
+    same(&rt, table.serve(alloc, Command::MakeMut(0, 7)), Reply::Done);
+    same(&rt, table.serve(alloc, Command::GetMut(0, 8)), Reply::Done);
+    same(&rt, table.get(0).copied(), Some(8));
 }
 
 #[test]
-fn a_table_without_slots_has_none(rt: HostRuntime) -> Result<(), Fail> {
+fn a_table_without_slots_has_none(rt: HostRuntime) {
     let alloc = rt.alloc();
-    let mut table: Table<u32> = Table::new(alloc, 0)?;
-    assert_eq!(rt; table.serve(alloc, Command::New(0, 1)), Reply::NoSlot);
-    assert_eq!(rt; table.get(0).copied(), None);
-    assert_eq!(rt; table.slots(), 0);
-    Ok(())
+    let mut table: Table<u32> = ok(&rt, Table::new(alloc, 0));
+    same(&rt, table.serve(alloc, Command::New(0, 1)), Reply::NoSlot);
+    same(&rt, table.get(0).copied(), None);
+    same(&rt, table.slots(), 0);
 }
 
 /// A value whose copy is always refused.
@@ -225,24 +250,26 @@ impl Clone for Original {
 }
 
 #[test]
-fn a_refused_copy_changes_nothing(rt: HostRuntime) -> Result<(), Fail> {
-    let mut table: Table<Original> = Table::new(rt.alloc(), 2)?;
-    let commands = vec![in rt.alloc();
-        Command::New(0, Original { number: 1 }),
-        Command::Clone(0, 1),
-        Command::MakeMut(0, Original { number: 2 }),
-        Command::PtrEq(0, 1),
-    ]?;
-    let replies = table.run(rt.alloc(), commands)?;
+fn a_refused_copy_changes_nothing(rt: HostRuntime) {
+    let mut table: Table<Original> = ok(&rt, Table::new(rt.alloc(), 2));
+    let commands = ok(
+        &rt,
+        vec![in rt.alloc();
+            Command::New(0, Original { number: 1 }),
+            Command::Clone(0, 1),
+            Command::MakeMut(0, Original { number: 2 }),
+            Command::PtrEq(0, 1),
+        ],
+    );
+    let replies = ok(&rt, table.run(rt.alloc(), commands));
     let expected = [Reply::Done, Reply::Done, Reply::Refused, Reply::Is(true)];
-    assert_eq!(rt; replies.as_slice(), expected.as_slice());
-    assert_eq!(rt; table.get(0).map(|original| original.number), Some(1));
-    Ok(())
+    same(&rt, replies.as_slice(), expected.as_slice());
+    same(&rt, table.get(0).map(|original| original.number), Some(1));
 }
 
 #[test]
 fn a_table_that_no_memory_holds_is_refused(rt: HostRuntime) {
-    assert!(rt; Table::<u32>::new(rt.alloc(), usize::MAX).is_err());
+    holds(&rt, Table::<u32>::new(rt.alloc(), usize::MAX).is_err());
 }
 
 #[test]

@@ -1,9 +1,9 @@
 // Threads that clone one lent handle of a block with a limit. Each is joined.
+use facts::{holds, ok, same};
 use servo_arc::{Arc, Full};
 use std::sync::atomic::AtomicU64;
 use std::sync::atomic::Ordering::SeqCst;
 use std::sync::{Barrier, Wait};
-use std::test::Fail;
 use std::thread;
 
 // The lent handle and two clones.
@@ -44,10 +44,8 @@ fn ask_often(handle: &Arc<u64>, clones: &AtomicU64, start: &Barrier, rt: &impl W
 }
 
 #[test]
-fn four_threads_have_no_more_handles_than_the_limit(rt: HostRuntime) -> Result<(), Fail> {
-    let a = Arc::new_with_limit(rt.alloc(), 7u64, LIMIT)
-        .ok()
-        .ok_or("memory")?;
+fn four_threads_have_no_more_handles_than_the_limit(rt: HostRuntime) {
+    let a = ok(&rt, Arc::new_with_limit(rt.alloc(), 7u64, LIMIT));
     let (clones, start) = (AtomicU64::new(0), Barrier::new(4));
     let done = thread::join(
         &rt,
@@ -66,10 +64,9 @@ fn four_threads_have_no_more_handles_than_the_limit(rt: HostRuntime) -> Result<(
             )
         },
     );
-    assert_eq!(rt; done, ((true, true), (true, true)));
-    assert!(rt; a.is_unique() && clones.load(SeqCst) == 0);
-    let (b, c) = (Arc::clone(&a, &rt)?, Arc::clone(&a, &rt)?);
-    assert_eq!(rt; Arc::clone(&a, &rt).err(), Some(Full));
-    assert_eq!(rt; (*b, *c), (7, 7));
-    Ok(())
+    same(&rt, done, ((true, true), (true, true)));
+    holds(&rt, a.is_unique() && clones.load(SeqCst) == 0);
+    let (b, c) = (ok(&rt, Arc::clone(&a, &rt)), ok(&rt, Arc::clone(&a, &rt)));
+    same(&rt, Arc::clone(&a, &rt).err(), Some(Full));
+    same(&rt, (*b, *c), (7, 7));
 }

@@ -1,13 +1,13 @@
 // Threads that share one block. Each is joined. Where two should act at the same moment, they look for each other
 // before, and go on alone where the other is not run for long: what is asserted holds either way.
+use facts::{again, holds, ok, same};
 use handle_tests::counted::{Counted, Tally};
-use handle_tests::made::arc_of;
+use handle_tests::made::handle_of;
 use servo_arc::{Arc, ArcUnion};
-use std::alloc::Global;
+use std::process::Abort;
 use std::sync::atomic::AtomicBool;
 use std::sync::atomic::Ordering::SeqCst;
 use std::sync::{Barrier, Wait};
-use std::test::Fail;
 use std::thread;
 
 const MOST_TURNS: u64 = 100_000_000;
@@ -32,44 +32,40 @@ fn clone_after(own: &AtomicBool, other: &AtomicBool, handle: Arc<Counted<'_>>) -
 }
 
 #[test]
-fn two_threads_clone_at_once(rt: HostRuntime) -> Result<(), Fail> {
+fn two_threads_clone_at_once(rt: HostRuntime) {
     let tally = Tally::new();
     let (left, right) = (AtomicBool::new(false), AtomicBool::new(false));
-    let a = arc_of(rt.alloc(), Counted::new(&tally, 5))?;
-    let b = a.clone()?;
+    let a = handle_of(&rt, Counted::new(&tally, 5));
+    let b = again(&rt, &a);
     let done = thread::join(
         &rt,
         || clone_after(&left, &right, a),
         || clone_after(&right, &left, b),
     );
-    assert_eq!(rt; done, (true, true));
-    assert_eq!(rt; tally.drops(), 1);
-    Ok(())
+    same(&rt, done, (true, true));
+    same(&rt, tally.drops(), 1);
 }
 
 // Two handles of one block.
 type Pair<'a> = (Arc<Counted<'a>>, Arc<Counted<'a>>);
 
-fn by_token<'a>(alloc: Global, rt: &impl Wait, tally: &'a Tally) -> Result<Pair<'a>, Fail> {
-    let raw = Arc::into_raw(arc_of(alloc, Counted::new(tally, 5))?);
+fn by_token<'a>(rt: &(impl Abort + AllocGlobal + Wait), tally: &'a Tally) -> Pair<'a> {
+    let raw = Arc::into_raw(handle_of(rt, Counted::new(tally, 5)));
     let added = Arc::from_raw_addrefed(&raw, rt);
     let a = Arc::from_raw(raw);
-    Ok((a, added?))
+    (a, ok(rt, added))
 }
 
-fn by_borrow<'a>(alloc: Global, rt: &impl Wait, tally: &'a Tally) -> Result<Pair<'a>, Fail> {
-    let a = arc_of(alloc, Counted::new(tally, 5))?;
-    let b = a.borrow_arc().clone_arc(rt)?;
-    Ok((a, b))
+fn by_borrow<'a>(rt: &(impl Abort + AllocGlobal + Wait), tally: &'a Tally) -> Pair<'a> {
+    let a = handle_of(rt, Counted::new(tally, 5));
+    let b = ok(rt, a.borrow_arc().clone_arc(rt));
+    (a, b)
 }
 
 #[test]
-fn handles_by_token_and_by_borrow_are_cloned_at_once(rt: HostRuntime) -> Result<(), Fail> {
+fn handles_by_token_and_by_borrow_are_cloned_at_once(rt: HostRuntime) {
     let tally = Tally::new();
-    let pairs = [
-        by_token(rt.alloc(), &rt, &tally)?,
-        by_borrow(rt.alloc(), &rt, &tally)?,
-    ];
+    let pairs = [by_token(&rt, &tally), by_borrow(&rt, &tally)];
     for (a, b) in pairs {
         let before = tally.drops();
         let (left, right) = (AtomicBool::new(false), AtomicBool::new(false));
@@ -78,12 +74,12 @@ fn handles_by_token_and_by_borrow_are_cloned_at_once(rt: HostRuntime) -> Result<
             || clone_after(&left, &right, a),
             || clone_after(&right, &left, b),
         );
-        assert_eq!(rt;
+        same(
+            &rt,
             (done, tally.drops().wrapping_sub(before)),
-            ((true, true), 1)
+            ((true, true), 1),
         );
     }
-    Ok(())
 }
 
 type Numbers<'a> = ArcUnion<u64, Counted<'a>>;
@@ -97,18 +93,17 @@ fn clone_union_after(own: &AtomicBool, other: &AtomicBool, union: Numbers<'_>) -
 }
 
 #[test]
-fn two_threads_clone_a_union_at_once(rt: HostRuntime) -> Result<(), Fail> {
+fn two_threads_clone_a_union_at_once(rt: HostRuntime) {
     let tally = Tally::new();
     let (left, right) = (AtomicBool::new(false), AtomicBool::new(false));
-    let a = Numbers::from_second(arc_of(rt.alloc(), Counted::new(&tally, 5))?);
-    let b = a.clone()?;
+    let a = Numbers::from_second(handle_of(&rt, Counted::new(&tally, 5)));
+    let b = again(&rt, &a);
     let done = thread::join(
         &rt,
         || clone_union_after(&left, &right, a),
         || clone_union_after(&right, &left, b),
     );
-    assert_eq!(rt; (done, tally.drops()), ((true, true), 1));
-    Ok(())
+    same(&rt, (done, tally.drops()), ((true, true), 1));
 }
 
 fn clone_often(handle: &Arc<u64>, rt: &impl Wait) -> bool {
@@ -122,16 +117,15 @@ fn clone_often(handle: &Arc<u64>, rt: &impl Wait) -> bool {
 }
 
 #[test]
-fn four_threads_clone_a_lent_handle(rt: HostRuntime) -> Result<(), Fail> {
-    let a = arc_of(rt.alloc(), 7u64)?;
+fn four_threads_clone_a_lent_handle(rt: HostRuntime) {
+    let a = handle_of(&rt, 7u64);
     let done = thread::join(
         &rt,
         || thread::join(&rt, || clone_often(&a, &rt), || clone_often(&a, &rt)),
         || thread::join(&rt, || clone_often(&a, &rt), || clone_often(&a, &rt)),
     );
-    assert_eq!(rt; done, ((true, true), (true, true)));
-    assert!(rt; a.is_unique());
-    Ok(())
+    same(&rt, done, ((true, true), (true, true)));
+    holds(&rt, a.is_unique());
 }
 
 fn clone_and_drop(handle: Arc<Counted<'_>>) {
@@ -142,19 +136,18 @@ fn clone_and_drop(handle: Arc<Counted<'_>>) {
 }
 
 #[test]
-fn a_mark_among_clones_keeps_the_value(rt: HostRuntime) -> Result<(), Fail> {
+fn a_mark_among_clones_keeps_the_value(rt: HostRuntime) {
     let tally = Tally::new();
-    let kept = arc_of(rt.alloc(), Counted::new(&tally, 1))?;
-    let (a, b, c) = (kept.clone()?, kept.clone()?, kept.clone()?);
+    let kept = handle_of(&rt, Counted::new(&tally, 1));
+    let (a, b, c) = (again(&rt, &kept), again(&rt, &kept), again(&rt, &kept));
     thread::join(
         &rt,
         || thread::join(&rt, || clone_and_drop(a), || clone_and_drop(b)),
         || c.mark_as_intentionally_leaked(),
     );
-    assert!(rt; kept.is_static());
+    holds(&rt, kept.is_static());
     drop(kept);
-    assert_eq!(rt; tally.drops(), 0);
-    Ok(())
+    same(&rt, tally.drops(), 0);
 }
 
 fn drop_after(own: &AtomicBool, other: &AtomicBool, handle: Arc<Counted<'_>>) {
@@ -163,20 +156,19 @@ fn drop_after(own: &AtomicBool, other: &AtomicBool, handle: Arc<Counted<'_>>) {
 }
 
 #[test]
-fn the_last_two_handles_drop_the_value_once(rt: HostRuntime) -> Result<(), Fail> {
+fn the_last_two_handles_drop_the_value_once(rt: HostRuntime) {
     let tally = Tally::new();
     for round in 1..=1000u64 {
         let (left, right) = (AtomicBool::new(false), AtomicBool::new(false));
-        let a = arc_of(rt.alloc(), Counted::new(&tally, round))?;
-        let b = a.clone()?;
+        let a = handle_of(&rt, Counted::new(&tally, round));
+        let b = again(&rt, &a);
         thread::join(
             &rt,
             || drop_after(&left, &right, a),
             || drop_after(&right, &left, b),
         );
-        assert_eq!(rt; tally.drops(), round);
+        same(&rt, tally.drops(), round);
     }
-    Ok(())
 }
 
 // Asks before the other handle goes, and writes once it is gone.
@@ -192,10 +184,10 @@ fn write_when_alone(mut handle: Arc<u64>, both: &Barrier, rt: &impl Wait) -> boo
 }
 
 #[test]
-fn a_handle_writes_once_the_other_is_gone(rt: HostRuntime) -> Result<(), Fail> {
+fn a_handle_writes_once_the_other_is_gone(rt: HostRuntime) {
     let both = Barrier::new(2);
-    let a = arc_of(rt.alloc(), 1u64)?;
-    let b = a.clone()?;
+    let a = handle_of(&rt, 1u64);
+    let b = again(&rt, &a);
     let (written, ()) = thread::join(
         &rt,
         || write_when_alone(a, &both, &rt),
@@ -205,8 +197,7 @@ fn a_handle_writes_once_the_other_is_gone(rt: HostRuntime) -> Result<(), Fail> {
             both.wait(&rt);
         },
     );
-    assert!(rt; written);
-    Ok(())
+    holds(&rt, written);
 }
 
 // While another thread asks about the same blocks both answers are possible. Each call answers.
@@ -217,10 +208,9 @@ fn ask_often(a: &Arc<u64>, b: &Arc<u64>) {
 }
 
 #[test]
-fn blocks_are_told_apart_after_contention(rt: HostRuntime) -> Result<(), Fail> {
-    let a = arc_of(rt.alloc(), 1u64)?;
-    let b = arc_of(rt.alloc(), 1u64)?;
+fn blocks_are_told_apart_after_contention(rt: HostRuntime) {
+    let a = handle_of(&rt, 1u64);
+    let b = handle_of(&rt, 1u64);
     thread::join(&rt, || ask_often(&a, &b), || ask_often(&b, &a));
-    assert!(rt; !Arc::ptr_eq(&a, &b) && Arc::ptr_eq(&a, &a));
-    Ok(())
+    holds(&rt, !Arc::ptr_eq(&a, &b) && Arc::ptr_eq(&a, &a));
 }

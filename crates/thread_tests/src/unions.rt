@@ -1,8 +1,8 @@
 // Unions on two threads, each of which is joined.
+use facts::{again, same};
 use handle_tests::counted::{Counted, Tally};
-use handle_tests::made::arc_of;
+use handle_tests::made::handle_of;
 use servo_arc::ArcUnion;
-use std::test::Fail;
 use std::thread;
 
 fn clone_and_drop(union: ArcUnion<Counted<'_>, Counted<'_>>) -> bool {
@@ -16,23 +16,22 @@ fn clone_and_drop(union: ArcUnion<Counted<'_>, Counted<'_>>) -> bool {
 }
 
 #[test]
-fn unions_of_both_kinds_on_two_threads_drop_each_value_once(rt: HostRuntime) -> Result<(), Fail> {
+fn unions_of_both_kinds_on_two_threads_drop_each_value_once(rt: HostRuntime) {
     let (first_tally, second_tally) = (Tally::new(), Tally::new());
-    let first = ArcUnion::<_, Counted<'_>>::from_first(arc_of(
-        rt.alloc(),
+    let first = ArcUnion::<_, Counted<'_>>::from_first(handle_of(
+        &rt,
         Counted::new(&first_tally, 1),
-    )?);
-    let second = ArcUnion::<Counted<'_>, _>::from_second(arc_of(
-        rt.alloc(),
+    ));
+    let second = ArcUnion::<Counted<'_>, _>::from_second(handle_of(
+        &rt,
         Counted::new(&second_tally, 2),
-    )?);
-    let (first_again, second_again) = (first.clone()?, second.clone()?);
+    ));
+    let (first_again, second_again) = (again(&rt, &first), again(&rt, &second));
     let done = thread::join(
         &rt,
         || clone_and_drop(first) && clone_and_drop(second),
         || clone_and_drop(second_again) && clone_and_drop(first_again),
     );
-    assert_eq!(rt; done, (true, true));
-    assert_eq!(rt; (first_tally.drops(), second_tally.drops()), (1, 1));
-    Ok(())
+    same(&rt, done, (true, true));
+    same(&rt, (first_tally.drops(), second_tally.drops()), (1, 1));
 }

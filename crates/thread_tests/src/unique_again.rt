@@ -1,10 +1,10 @@
 // A handle asks to be unique again while another thread drops the other handle of its block.
-use handle_tests::made::arc_of;
+use facts::{again, same};
+use handle_tests::made::handle_of;
 use servo_arc::{Arc, UniqueArc};
 use std::sync::atomic::AtomicBool;
 use std::sync::atomic::Ordering::SeqCst;
 use std::sync::{Barrier, Wait};
-use std::test::Fail;
 use std::thread;
 
 const TRIES: u64 = 100_000_000;
@@ -32,10 +32,10 @@ fn unique_at_last(
 }
 
 #[test]
-fn a_handle_is_unique_once_the_other_is_gone(rt: HostRuntime) -> Result<(), Fail> {
+fn a_handle_is_unique_once_the_other_is_gone(rt: HostRuntime) {
     let (both, gone) = (Barrier::new(2), AtomicBool::new(false));
-    let a = arc_of(rt.alloc(), 1u64)?;
-    let b = a.clone()?;
+    let a = handle_of(&rt, 1u64);
+    let b = again(&rt, &a);
     let (unique, ()) = thread::join(
         &rt,
         || unique_at_last(a, &both, &gone, &rt),
@@ -46,8 +46,7 @@ fn a_handle_is_unique_once_the_other_is_gone(rt: HostRuntime) -> Result<(), Fail
             both.wait(&rt);
         },
     );
-    let mut unique = unique.ok_or("shared")?;
+    let mut unique = unique.expect(&rt, "shared");
     *unique = 2;
-    assert_eq!(rt; *unique.shareable(), 2);
-    Ok(())
+    same(&rt, *unique.shareable(), 2);
 }

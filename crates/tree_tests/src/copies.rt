@@ -1,8 +1,8 @@
 // How many nodes a change makes, and what it drops. A node that a change makes out of an old one has a copy of its value.
+use facts::{again, holds, ok, same};
 use handle_tests::counted::{Counted, Tally};
 use shared_trees::{List, TreeMap};
 use std::alloc::{AllocError, Global};
-use std::test::Fail;
 
 const KEYS: u64 = 1000;
 
@@ -27,50 +27,50 @@ fn up_to<'a>(
 }
 
 #[test]
-fn a_change_copies_its_path_alone(rt: HostRuntime) -> Result<(), Fail> {
+fn a_change_copies_its_path_alone(rt: HostRuntime) {
     let tally = Tally::new();
-    let map = up_to(rt.alloc(), &tally, KEYS)?;
-    assert_eq!(rt; map.len() as u64, KEYS);
-    assert!(rt; tally.copies() <= KEYS.wrapping_mul(MOST_COPIES));
+    let map = ok(&rt, up_to(rt.alloc(), &tally, KEYS));
+    same(&rt, map.len() as u64, KEYS);
+    holds(&rt, tally.copies() <= KEYS.wrapping_mul(MOST_COPIES));
     let before = tally.copies();
-    let mut less = map.clone()?;
+    let mut less = again(&rt, &map);
     for key in 0..KEYS {
-        less = less.remove(rt.alloc(), key)?;
+        less = ok(&rt, less.remove(rt.alloc(), key));
     }
     let copies = tally.copies().wrapping_sub(before);
-    assert!(rt; less.is_empty() && copies <= KEYS.wrapping_mul(MOST_COPIES));
-    Ok(())
+    holds(
+        &rt,
+        less.is_empty() && copies <= KEYS.wrapping_mul(MOST_COPIES),
+    );
 }
 
 // Both versions have all the nodes but those on the path, and each value ends with the last version that has it.
 #[test]
-fn a_value_ends_with_its_last_version(rt: HostRuntime) -> Result<(), Fail> {
+fn a_value_ends_with_its_last_version(rt: HostRuntime) {
     let tally = Tally::new();
-    let old = up_to(rt.alloc(), &tally, KEYS)?;
+    let old = ok(&rt, up_to(rt.alloc(), &tally, KEYS));
     let made = KEYS.wrapping_add(tally.copies());
-    assert_eq!(rt; made.wrapping_sub(tally.drops()), KEYS);
+    same(&rt, made.wrapping_sub(tally.drops()), KEYS);
     let copies = tally.copies();
-    let new = old.insert(rt.alloc(), 500, Counted::new(&tally, 0))?;
+    let new = ok(&rt, old.insert(rt.alloc(), 500, Counted::new(&tally, 0)));
     let own = tally.copies().wrapping_sub(copies).wrapping_add(1);
     let drops = tally.drops();
     drop(new);
-    assert_eq!(rt; tally.drops().wrapping_sub(drops), own);
+    same(&rt, tally.drops().wrapping_sub(drops), own);
     drop(old);
     let made = KEYS.wrapping_add(1).wrapping_add(tally.copies());
-    assert_eq!(rt; tally.drops(), made);
-    Ok(())
+    same(&rt, tally.drops(), made);
 }
 
 #[test]
-fn a_list_copies_nothing(rt: HostRuntime) -> Result<(), Fail> {
+fn a_list_copies_nothing(rt: HostRuntime) {
     let tally = Tally::new();
-    let old = List::new().push(rt.alloc(), Counted::new(&tally, 1))?;
-    let new = old.push(rt.alloc(), Counted::new(&tally, 2))?;
-    let again: List<Counted<'_>> = new.clone()?;
+    let old = ok(&rt, List::new().push(rt.alloc(), Counted::new(&tally, 1)));
+    let new = ok(&rt, old.push(rt.alloc(), Counted::new(&tally, 2)));
+    let copy = again(&rt, &new);
     drop(new);
     drop(old);
-    assert_eq!(rt; (tally.drops(), again.len()), (0, 2));
-    again.end();
-    assert_eq!(rt; (tally.drops(), tally.copies()), (2, 0));
-    Ok(())
+    same(&rt, (tally.drops(), copy.len()), (0, 2));
+    copy.end();
+    same(&rt, (tally.drops(), tally.copies()), (2, 0));
 }

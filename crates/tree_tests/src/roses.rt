@@ -1,8 +1,8 @@
 // What rose trees share and drop.
+use facts::{holds, ok, same};
 use handle_tests::counted::{Counted, Tally};
 use shared_trees::{Rose, RoseError};
 use std::alloc::{AllocError, Global};
-use std::test::Fail;
 
 // 1 over 2, 3 and 4, of which 3 is over 5 and 6.
 fn six<'a>(alloc: Global, tally: &'a Tally) -> Result<Rose<Counted<'a>>, AllocError> {
@@ -25,61 +25,70 @@ fn is_shared<V: Send + Sync>(a: &Rose<V>, b: &Rose<V>, path: &[usize]) -> bool {
 }
 
 #[test]
-fn a_change_leaves_the_old_tree(rt: HostRuntime) -> Result<(), Fail> {
+fn a_change_leaves_the_old_tree(rt: HostRuntime) {
     let tally = Tally::new();
-    let old = six(rt.alloc(), &tally)?;
-    let new = old.with_value(rt.alloc(), &[1, 0], Counted::new(&tally, 9));
-    let new = new.map_err(|_| AllocError)?;
-    assert_eq!(rt; value_at(&old, &[1, 0]), Some(5));
-    assert_eq!(rt; value_at(&new, &[1, 0]), Some(9));
-    assert_eq!(rt;
+    let old = ok(&rt, six(rt.alloc(), &tally));
+    let new = ok(
+        &rt,
+        old.with_value(rt.alloc(), &[1, 0], Counted::new(&tally, 9)),
+    );
+    same(&rt, value_at(&old, &[1, 0]), Some(5));
+    same(&rt, value_at(&new, &[1, 0]), Some(9));
+    same(
+        &rt,
         (value_at(&new, &[]), value_at(&new, &[1])),
-        (Some(1), Some(3))
+        (Some(1), Some(3)),
     );
-    assert_eq!(rt;
+    same(
+        &rt,
         (value_at(&new, &[0]), value_at(&new, &[2])),
-        (Some(2), Some(4))
+        (Some(2), Some(4)),
     );
-    assert_eq!(rt;
+    same(
+        &rt,
         (value_at(&new, &[1, 1]), value_at(&new, &[3])),
-        (Some(6), None)
+        (Some(6), None),
     );
-    Ok(())
 }
 
 #[test]
-fn a_change_shares_what_is_beside_its_path(rt: HostRuntime) -> Result<(), Fail> {
+fn a_change_shares_what_is_beside_its_path(rt: HostRuntime) {
     let tally = Tally::new();
-    let old = six(rt.alloc(), &tally)?;
-    let new = old.with_value(rt.alloc(), &[1, 0], Counted::new(&tally, 9));
-    let new = new.map_err(|_| AllocError)?;
-    assert!(rt; is_shared(&old, &new, &[0]) && is_shared(&old, &new, &[2]));
-    assert!(rt; is_shared(&old, &new, &[1, 1]));
-    assert!(rt; !is_shared(&old, &new, &[]) && !is_shared(&old, &new, &[1]));
-    assert!(rt; !is_shared(&old, &new, &[1, 0]));
-    Ok(())
+    let old = ok(&rt, six(rt.alloc(), &tally));
+    let new = ok(
+        &rt,
+        old.with_value(rt.alloc(), &[1, 0], Counted::new(&tally, 9)),
+    );
+    holds(
+        &rt,
+        is_shared(&old, &new, &[0]) && is_shared(&old, &new, &[2]),
+    );
+    holds(&rt, is_shared(&old, &new, &[1, 1]));
+    holds(
+        &rt,
+        !is_shared(&old, &new, &[]) && !is_shared(&old, &new, &[1]),
+    );
+    holds(&rt, !is_shared(&old, &new, &[1, 0]));
 }
 
 // The two nodes above the place are made of copies, and the place is given its value.
 #[test]
-fn a_value_ends_with_its_last_tree(rt: HostRuntime) -> Result<(), Fail> {
+fn a_value_ends_with_its_last_tree(rt: HostRuntime) {
     let tally = Tally::new();
-    let old = six(rt.alloc(), &tally)?;
+    let old = ok(&rt, six(rt.alloc(), &tally));
     let new = old.with_value(rt.alloc(), &[1, 0], Counted::new(&tally, 9));
-    assert_eq!(rt; (tally.copies(), tally.drops()), (2, 0));
+    same(&rt, (tally.copies(), tally.drops()), (2, 0));
     drop(old);
-    assert_eq!(rt; tally.drops(), 3);
+    same(&rt, tally.drops(), 3);
     drop(new);
-    assert_eq!(rt; tally.drops(), 9);
-    Ok(())
+    same(&rt, tally.drops(), 9);
 }
 
 #[test]
-fn there_is_no_place_outside_the_tree(rt: HostRuntime) -> Result<(), Fail> {
+fn there_is_no_place_outside_the_tree(rt: HostRuntime) {
     let tally = Tally::new();
-    let old = six(rt.alloc(), &tally)?;
+    let old = ok(&rt, six(rt.alloc(), &tally));
     let new = old.with_value(rt.alloc(), &[1, 2], Counted::new(&tally, 9));
-    assert!(rt; matches!(new, Err(RoseError::NoSuchPlace)));
-    assert_eq!(rt; (tally.copies(), tally.drops()), (0, 1));
-    Ok(())
+    holds(&rt, matches!(new, Err(RoseError::NoSuchPlace)));
+    same(&rt, (tally.copies(), tally.drops()), (0, 1));
 }

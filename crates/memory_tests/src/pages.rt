@@ -34,3 +34,13 @@ fn an_unwritten_block_is_given_back(rt: HostRuntime) -> Result<(), Fail> {
     }
     Ok(())
 }
+
+// Half as often, since each slice has two pages.
+#[test]
+fn a_header_slice_gives_both_its_items_back(rt: HostRuntime) -> Result<(), Fail> {
+    for _ in 0..TIMES / 2 {
+        let slice = Arc::from_header_and_iter(rt.alloc(), 0u8, [PAGE, PAGE].into_iter())?;
+        drop(slice);
+    }
+    Ok(())
+}

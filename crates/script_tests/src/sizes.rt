@@ -63,9 +63,9 @@ fn a_script_of_megabytes_is_run_to_its_end(rt: HostRuntime) -> Result<(), Fail> 
 #[test]
 fn values_are_as_great_as_numbers(rt: HostRuntime) -> Result<(), Fail> {
     let script = b"new 999 4294967295\nget 999\ngetmut 999 4294967294\nget 999\nclone 999 0\n\
-        makemut 999 4294967295\nget 999\nget 0\n";
-    let answers =
-        b"done\nvalue 4294967295\ndone\nvalue 4294967294\ndone\ndone\nvalue 4294967295\nvalue 4294967294\n";
+        makemut 999 4294967295\nget 999\nget 0\nintounique 0 4294967295\nget 0\n";
+    let answers = b"done\nvalue 4294967295\ndone\nvalue 4294967294\ndone\ndone\nvalue 4294967295\n\
+        value 4294967294\ndone\nvalue 4294967295\n";
     let ran = run_bench(rt.alloc(), &["table", "1000"], script);
     assert!(rt; ran.status == 0 && ran.output.as_slice() == answers.as_slice());
     let script = b"getmut 0 0\nwrite 0 0 4294967295\nendwrite 0 0\nload 0 0\ndrop 0 0\nlower 0\n";

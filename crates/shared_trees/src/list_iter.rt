@@ -1,6 +1,7 @@
 //! The items of a list, one after another.
-ghost use Rattle.std.specs.Prelude.{◌≡◌, ⊤};
-ghost use Rattle.std.specs.Iterator.{YieldsFirstRef, item_count};
+ghost use Rattle.std.specs.Prelude.{◌≡◌, IfSome, Some, length, ⊤};
+ghost use Rattle.std.specs.Iterator.{UpTo, YieldsFirstRef, item_count};
+ghost use Rattle.std.specs.Iterator.SizeHint.{IsWithinCount};
 
 use crate::links::Links;
 use crate::list::List;
@@ -57,7 +58,11 @@ impl<'a, T: Send + Sync> Iterator for ListIter<'a, T> {
         Some(&node.value)
     }
 
-    fn size_hint(&self) -> (usize, Option<usize>) {
+    fn size_hint(&self) -> (usize, Option<usize>)
+        ensures lower { IsWithinCount result.0 (item_count (λ s. s) self.now) }
+        ensures upper { IfSome result.1 (UpTo (item_count (λ s. s) self.now)) }
+        ensures exact { result ≡ (length self.now, Some (length self.now)) }
+    {
         let links = self.links;
         (links.len, Some(links.len))
     }

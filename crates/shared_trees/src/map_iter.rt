@@ -1,6 +1,7 @@
 //! The entries of a map, one after another.
-ghost use Rattle.std.specs.Prelude.{◌≡◌, ⊤};
-ghost use Rattle.std.specs.Iterator.{YieldsFirstRef, YieldsLastRef, item_count};
+ghost use Rattle.std.specs.Prelude.{◌≡◌, IfSome, Some, length, ⊤};
+ghost use Rattle.std.specs.Iterator.{UpTo, YieldsFirstRef, YieldsLastRef, item_count};
+ghost use Rattle.std.specs.Iterator.SizeHint.{IsWithinCount};
 
 use crate::map::{Numbered, TreeMap};
 use std::alloc::AllocError;
@@ -73,7 +74,11 @@ impl<'a, V: Send + Sync> Iterator for MapIter<'a, V> {
     }
 
     #[tactic(auto, using(crate::proofs::Ranges::ranges))]
-    fn size_hint(&self) -> (usize, Option<usize>) {
+    fn size_hint(&self) -> (usize, Option<usize>)
+        ensures lower { IsWithinCount result.0 (item_count (λ s. s) self.now) }
+        ensures upper { IfSome result.1 (UpTo (item_count (λ s. s) self.now)) }
+        ensures exact { result ≡ (length self.now, Some (length self.now)) }
+    {
         let left = self.to - self.from;
         (left, Some(left))
     }

@@ -1,7 +1,9 @@
 // What styles share.
 use facts::{again, holds, ok, same};
 use servo_arc::{Arc, ArcUnion};
-use shared_trees::{Declared, Inline, Rule, Style, declared_by};
+use shared_trees::restyle::restyle;
+use shared_trees::{Declared, Inline, Rose, Rule, Style, declared_by};
+use std::alloc::{AllocError, Global};
 
 const LARGE: Declared = Declared {
     font_size: Some(40),
@@ -34,4 +36,51 @@ fn a_change_leaves_the_style_of_another_holder(rt: HostRuntime) {
     holds(&rt, old.source.is_none());
     let source = new.source.as_ref().expect(&rt, "no source");
     holds(&rt, source.is_first() && declared_by(source) == LARGE);
+}
+
+const THICK: Declared = Declared {
+    font_size: None,
+    border_width: Some(3),
+};
+
+#[test]
+fn a_rule_leaves_the_groups_that_all_styles_share(rt: HostRuntime) {
+    let plain = ok(&rt, Style::initial(rt.alloc()));
+    let rule = Rule {
+        weight: 7,
+        declared: THICK,
+    };
+    let rule = ok(&rt, Arc::new(rt.alloc(), rule));
+    let thick = ok(&rt, plain.under_rule(rt.alloc(), rule));
+    holds(&rt, Arc::ptr_eq(&plain.font, &thick.font));
+    holds(&rt, !Arc::ptr_eq(&plain.border, &thick.border));
+    same(&rt, (plain.border.width, thick.border.width), (0, 3));
+    holds(&rt, plain.font.is_static() && plain.border.is_static());
+    holds(&rt, !thick.border.is_static());
+}
+
+// A plain element over two others.
+fn three_elements(alloc: Global) -> Result<Rose<Style>, AllocError> {
+    let plain = Style::initial(alloc)?;
+    let low = vec![in alloc;
+        Rose::leaf(alloc, plain.clone()?)?,
+        Rose::leaf(alloc, plain.clone()?)?,
+    ]?;
+    Rose::with_children(alloc, plain, low)
+}
+
+fn font_size_at(tree: &Rose<Style>, path: &[usize]) -> Option<u32> {
+    Some(tree.at(path)?.value().font.size)
+}
+
+#[test]
+fn one_element_is_styled_anew(rt: HostRuntime) {
+    let old = ok(&rt, three_elements(rt.alloc()));
+    let inline = ok(&rt, Arc::new(rt.alloc(), Inline { declared: LARGE }));
+    let source = ArcUnion::from_second(inline);
+    let new = ok(&rt, restyle(rt.alloc(), &old, &[1], source));
+    for (path, before, after) in [(&[][..], 16, 16), (&[0], 16, 16), (&[1], 16, 40)] {
+        same(&rt, font_size_at(&old, path), Some(before));
+        same(&rt, font_size_at(&new, path), Some(after));
+    }
 }

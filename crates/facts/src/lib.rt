@@ -1,5 +1,5 @@
 //! What tests assert, by plain calls. After a macro or a `?` a test may end early, with all that it has by then: each of
-//! them makes its proof longer. A fact that does not hold is told with the line of the test, since this crate is not its.
+//! them makes its proof longer. What does not hold is told with the test's line, the last one in its own crate.
 #![tactic(auto)]
 
 ghost use Rattle.std.specs.Prelude.{◌≡◌, Ok, IsTrue};

@@ -5,6 +5,7 @@ use Rattle.shared_trees.specs.declared.links.Node.{Node}
 use Rattle.shared_trees.specs.declared.links.Links.TheDeep.{deep-Links}
 use Rattle.shared_trees.specs.Lists.{items}
 
-pub depth_le-length-items : {T : Type 0} → (first : Option (Node T)) → (len : ℕ) → deep-Links T (record { first = first; len = len }) ≤ length (items first)
+pub depth_le-length-items : {T : Type 0} → (first : Option (Node T)) → (len : ℕ)
+    → deep-Links T (record { first = first; len = len }) ≤ length (items first)
 depth_le-length-items None len = omega arith
 depth_le-length-items (Some node) len = omega arith

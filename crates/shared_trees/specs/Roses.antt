@@ -17,9 +17,13 @@ abbrev pub at : {V : Type 0} → List ℕ → Rose V → Option (Rose V)
 at [] tree = Some tree
 at (i ∷ path) tree = option_and_then (at path) (slice_get (children tree) i)
 
+-- the tree with another child in that place
+abbrev pub with_child : {V : Type 0} → ℕ → Rose V → Rose V → Rose V
+with_child i child tree = branch (root tree) (set (children tree) i child)
+
 -- the tree with another value at the end of a path
 abbrev pub with_value : {V : Type 0} → List ℕ → V → Rose V → Option (Rose V)
 with_value [] v tree = Some (branch v (children tree))
 with_value (i ∷ path) v tree =
-    option_map (λ changed. branch (root tree) (set (children tree) i changed))
+    option_map (λ changed. with_child i changed tree)
     (option_and_then (with_value path v) (slice_get (children tree) i))

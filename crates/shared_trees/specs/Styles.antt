@@ -1,10 +1,13 @@
 -- A style is its groups of properties. It takes from a source what that declares, and keeps the rest.
-use Rattle.std.specs.Prelude.{None, Some, unwrap_or}
+use Rattle.std.specs.Prelude.{ℕ, List, Option, None, Some, unwrap_or}
+use Rattle.std.specs.Option.{option_and_then}
 use Rattle.servo_arc.specs.Unions.{Union, First, Second}
 use Rattle.shared_trees.specs.declared.style.Declared.{Declared}
 use Rattle.shared_trees.specs.declared.style.Rule.{Rule}
 use Rattle.shared_trees.specs.declared.style.Inline.{Inline}
 use Rattle.shared_trees.specs.declared.style.Style.{Style}
+use Rattle.shared_trees.specs.declared.rose.Rose.{Rose}
+use Rattle.shared_trees.specs.Roses.{at, root, with_value}
 
 -- what a source declares, of whichever kind it is
 abbrev pub declared : Union Rule Inline → Declared
@@ -24,3 +27,8 @@ initial = record {
   border = record { width = 0; radius = 0 };
   source = None;
 }
+
+-- the tree of elements in which the one at a path takes from a source what that declares
+abbrev pub restyled : Union Rule Inline → List ℕ → Rose Style → Option (Rose Style)
+restyled source path tree =
+    option_and_then (λ element. with_value path (cascaded source (root element)) tree) (at path tree)

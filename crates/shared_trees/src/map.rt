@@ -28,9 +28,9 @@ struct Fork<V: Send + Sync> {
 #[derive(Drop)]
 enum Sides<V: Send + Sync> {
     Neither,
-    Less(Arc<Fork<V>>),
     Greater(Arc<Fork<V>>),
     Both(Arc<Fork<V>>, Arc<Fork<V>>),
+    Less(Arc<Fork<V>>),
 }
 
 impl<V: Send + Sync> Model for TreeMap<V> {
@@ -198,19 +198,22 @@ impl<V: Send + Sync> Fork<V> {
     fn get(&self, key: u64) -> Option<&V>
         ensures { option_copied result ≡ lookup key self.now }
     {
-        let (here, value) = &self.entry;
-        if key < *here {
-            match &self.sides {
-                Sides::Less(fork) | Sides::Both(fork, _) => fork.get(key),
-                Sides::Neither | Sides::Greater(_) => None,
+        let mut fork = self;
+        loop {
+            let (here, value) = &fork.entry;
+            if key < *here {
+                let (Sides::Less(less) | Sides::Both(less, _)) = &fork.sides else {
+                    return None;
+                };
+                fork = less;
+            } else if *here < key {
+                let (Sides::Greater(greater) | Sides::Both(_, greater)) = &fork.sides else {
+                    return None;
+                };
+                fork = greater;
+            } else {
+                return Some(value);
             }
-        } else if *here < key {
-            match &self.sides {
-                Sides::Greater(fork) | Sides::Both(_, fork) => fork.get(key),
-                Sides::Neither | Sides::Less(_) => None,
-            }
-        } else {
-            Some(value)
         }
     }
 }

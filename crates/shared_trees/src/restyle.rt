@@ -1,8 +1,8 @@
 //! Callers that make two versions of a rose tree or a style and read both: the old one stays as it was, by contract.
-ghost use Rattle.std.specs.Prelude.{◌≡◌, ◌∷◌, [], Some, IfOk, IfSome};
+ghost use Rattle.std.specs.Prelude.{◌≡◌, [], Some, IfOk};
 ghost use Rattle.servo_arc.specs.Unions.{Second};
-ghost use Rattle.shared_trees.specs.Roses.{at, branch, root, with_value};
-ghost use Rattle.shared_trees.specs.Styles.{cascaded, initial};
+ghost use Rattle.shared_trees.specs.Roses.{branch, root};
+ghost use Rattle.shared_trees.specs.Styles.{cascaded, initial, restyled};
 
 use crate::rose::{Rose, RoseError};
 use crate::style::{Inline, Source, Style};
@@ -32,7 +32,7 @@ pub fn before_and_after(
 
 /// The initial style, and the style under what stands at an element.
 pub fn two_styles(alloc: Global, inline: Arc<Inline>) -> Result<(Style, Style), AllocError>
-    ensures { IfOk result (λ styles. (styles.0 ≡ initial) × (styles.1 ≡ cascaded (Second inline) initial)) }
+    ensures { IfOk result (λ styles. styles ≡ (initial, cascaded (Second inline) initial)) }
 {
     let plain = Style::initial(alloc)?;
     let styled = plain.under_inline(alloc, inline)?;
@@ -46,7 +46,7 @@ pub fn restyle(
     path: &[usize],
     source: Source,
 ) -> Result<Rose<Style>, RoseError>
-    ensures { IfOk result (λ new. IfSome (at path.now tree.now) (λ element. Some new ≡ with_value path.now (cascaded source (root element)) tree.now)) }
+    ensures { IfOk result (λ new. Some new ≡ restyled source path.now tree.now) }
 {
     let element = tree.at(path).ok_or(RoseError::NoSuchPlace)?;
     let mut style = element.value().clone()?;

@@ -1,8 +1,8 @@
 //! A tree of any number of children, whose versions share their branches.
-ghost use Rattle.std.specs.Prelude.{◌≡◌, ◌↔◌, [], Err, None, Some, IfOk, ◌<◌, length, set, slice_get};
+ghost use Rattle.std.specs.Prelude.{◌≡◌, ◌↔◌, [], Err, None, Some, IfOk, ◌<◌, length, slice_get};
 ghost use Rattle.std.specs.Option.{option_copied};
 ghost use Rattle.servo_arc.specs.Copies.{CopiesAreEqual};
-ghost use Rattle.shared_trees.specs.Roses.{at, branch, children, root, with_value};
+ghost use Rattle.shared_trees.specs.Roses.{at, branch, children, root, with_child, with_value};
 ghost use Rattle.shared_trees.specs.declared.rose.RoseError.TheVariants.{NoSuchPlace};
 
 use servo_arc::{Arc, ThinArc};
@@ -129,7 +129,7 @@ impl<V: Send + Sync + Clone> Rose<V> {
     fn with_child(&self, alloc: Global, index: usize, child: Rose<V>) -> Result<Rose<V>, AllocError>
         requires copies { CopiesAreEqual V.is_clone }
         requires place { index < length (children self.now) }
-        ensures { IfOk result (λ tree. tree ≡ branch (root self.now) (set (children self.now) index child)) }
+        ensures { IfOk result (λ tree. tree ≡ with_child index child self.now) }
     {
         let mut children = self.children().to_vec(alloc)?;
         children[index] = child;

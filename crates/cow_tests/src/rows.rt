@@ -2,8 +2,8 @@
 ghost use Rattle.std.specs.Prelude.{◌<◌};
 
 use cow_table::{CowTable, Iter, SetError};
+use facts::{again, holds, holds_at, ok, same};
 use std::alloc::{AllocError, Global};
-use std::test::Fail;
 
 fn table_of(alloc: Global, items: &[u32], page_len: usize) -> Result<CowTable<u32>, AllocError>
     requires { 0 < page_len }
@@ -30,74 +30,73 @@ fn shared_pages(a: &CowTable<u32>, b: &CowTable<u32>) -> [bool; 4] {
 }
 
 #[test]
-fn a_version_changes_alone(rt: HostRuntime) -> Result<(), Fail> {
-    let a = table_of(rt.alloc(), &[1, 2, 3, 4, 5], 2)?;
-    let mut b: CowTable<u32> = a.clone()?;
-    assert_eq!(rt; shared_pages(&a, &b), [true, true, true, false]);
-    assert_eq!(rt; b.set(rt.alloc(), 2, 9), Ok(()));
-    assert!(rt; reads(&a, &[1, 2, 3, 4, 5]) && reads(&b, &[1, 2, 9, 4, 5]));
-    assert_eq!(rt; shared_pages(&a, &b), [true, false, true, false]);
-    assert_eq!(rt; b.set(rt.alloc(), 5, 0), Err(SetError::NoPlace));
-    assert!(rt; reads(&b, &[1, 2, 9, 4, 5]));
-    Ok(())
+fn a_version_changes_alone(rt: HostRuntime) {
+    let a = ok(&rt, table_of(rt.alloc(), &[1, 2, 3, 4, 5], 2));
+    let mut b = again(&rt, &a);
+    same(&rt, shared_pages(&a, &b), [true, true, true, false]);
+    same(&rt, b.set(rt.alloc(), 2, 9), Ok(()));
+    holds(
+        &rt,
+        reads(&a, &[1, 2, 3, 4, 5]) && reads(&b, &[1, 2, 9, 4, 5]),
+    );
+    same(&rt, shared_pages(&a, &b), [true, false, true, false]);
+    same(&rt, b.set(rt.alloc(), 5, 0), Err(SetError::NoPlace));
+    holds(&rt, reads(&b, &[1, 2, 9, 4, 5]));
 }
 
 #[test]
-fn a_page_may_be_longer_than_the_list(rt: HostRuntime) -> Result<(), Fail> {
-    let mut c = table_of(rt.alloc(), &[1, 2, 3], 5)?;
-    let mut d: CowTable<u32> = c.clone()?;
-    assert_eq!(rt; shared_pages(&c, &d), [true, false, false, false]);
-    assert_eq!(rt; d.set(rt.alloc(), 2, 7), Ok(()));
-    assert!(rt; reads(&c, &[1, 2, 3]) && reads(&d, &[1, 2, 7]));
-    assert_eq!(rt; shared_pages(&c, &d), [false; 4]);
-    assert_eq!(rt; c.set(rt.alloc(), 3, 0), Err(SetError::NoPlace));
-    Ok(())
+fn a_page_may_be_longer_than_the_list(rt: HostRuntime) {
+    let mut c = ok(&rt, table_of(rt.alloc(), &[1, 2, 3], 5));
+    let mut d = again(&rt, &c);
+    same(&rt, shared_pages(&c, &d), [true, false, false, false]);
+    same(&rt, d.set(rt.alloc(), 2, 7), Ok(()));
+    holds(&rt, reads(&c, &[1, 2, 3]) && reads(&d, &[1, 2, 7]));
+    same(&rt, shared_pages(&c, &d), [false; 4]);
+    same(&rt, c.set(rt.alloc(), 3, 0), Err(SetError::NoPlace));
 }
 
 #[test]
-fn an_empty_list_has_no_place(rt: HostRuntime) -> Result<(), Fail> {
-    let mut empty = table_of(rt.alloc(), &[], 3)?;
-    assert_eq!(rt; (empty.len(), empty.get(0)), (0, None));
-    assert_eq!(rt; empty.set(rt.alloc(), 0, 1), Err(SetError::NoPlace));
-    let again: CowTable<u32> = empty.clone()?;
-    assert_eq!(rt; shared_pages(&empty, &again), [false; 4]);
-    assert!(rt; reads(&empty, &[]));
-    Ok(())
+fn an_empty_list_has_no_place(rt: HostRuntime) {
+    let mut empty = ok(&rt, table_of(rt.alloc(), &[], 3));
+    same(&rt, (empty.len(), empty.get(0)), (0, None));
+    same(&rt, empty.set(rt.alloc(), 0, 1), Err(SetError::NoPlace));
+    let copy = again(&rt, &empty);
+    same(&rt, shared_pages(&empty, &copy), [false; 4]);
+    holds(&rt, reads(&empty, &[]));
 }
 
 #[test]
-fn pages_of_each_length_read_as_the_list(rt: HostRuntime) -> Result<(), Fail> {
+fn pages_of_each_length_read_as_the_list(rt: HostRuntime) {
     let alloc = rt.alloc();
     let items = [10, 11, 12, 13, 14, 15, 16, 17, 18];
     for page_len in [1usize, 2, 3, 4, 5, 7, 8, 9, 10, 64, usize::MAX] {
-        let table = table_of(alloc, &items, page_len.max(1))?;
+        let table = ok(&rt, table_of(alloc, &items, page_len.max(1)));
         for (i, _) in items.iter().enumerate() {
-            let mut version: CowTable<u32> = table.clone()?;
+            let mut version = again(&rt, &table);
             let mut expected = items;
             expected[i % 9] = 0;
             let set = version.set(alloc, i, 0);
-            assert!(rt;
+            holds_at(
+                &rt,
+                (i, page_len),
                 set == Ok(()) && reads(&version, &expected),
-                "{i} by {page_len}"
             );
         }
-        assert!(rt; reads(&table, &items), "{page_len}");
+        holds_at(&rt, page_len, reads(&table, &items));
     }
-    Ok(())
 }
 
 // A cap that nobody asked for would refuse it.
 #[test]
-fn a_table_has_two_thousand_items(rt: HostRuntime) -> Result<(), Fail> {
-    let items: Vec<u32> = (0..2000).collect(rt.alloc())?;
-    let table = CowTable::from_items(rt.alloc(), items, 3)?;
-    assert!(rt; table.len() == 2000 && table.get(1999) == Some(&1999));
-    Ok(())
+fn a_table_has_two_thousand_items(rt: HostRuntime) {
+    let items: Vec<u32> = ok(&rt, (0..2000).collect(rt.alloc()));
+    let table = ok(&rt, CowTable::from_items(rt.alloc(), items, 3));
+    holds(&rt, table.len() == 2000 && table.get(1999) == Some(&1999));
 }
 
 #[test]
-fn items_are_read_from_both_ends(rt: HostRuntime) -> Result<(), Fail> {
-    let table = table_of(rt.alloc(), &[1, 2, 3, 4, 5], 2)?;
+fn items_are_read_from_both_ends(rt: HostRuntime) {
+    let table = ok(&rt, table_of(rt.alloc(), &[1, 2, 3, 4, 5], 2));
     let mut items: Iter<'_, u32> = table.iter();
     let ends = [
         items.next(),
@@ -106,52 +105,48 @@ fn items_are_read_from_both_ends(rt: HostRuntime) -> Result<(), Fail> {
         items.next_back(),
     ];
     assert_eq!(rt; ends, [Some(&1), Some(&5), Some(&2), Some(&4)]);
-    let again: Iter<'_, u32> = items.clone()?;
-    assert_eq!(rt; (items.len(), items.size_hint()), (1, (1, Some(1))));
+    let copy = again(&rt, &items);
+    same(&rt, (items.len(), items.size_hint()), (1, (1, Some(1))));
     assert_eq!(rt;
         [items.next(), items.next_back(), items.next()],
         [Some(&3), None, None]
     );
-    assert_eq!(rt; again.copied().last(), Some(3));
-    Ok(())
+    same(&rt, copy.copied().last(), Some(3));
 }
 
 #[test]
-fn an_item_that_is_there_is_read_by_its_index(rt: HostRuntime) -> Result<(), Fail> {
-    let table = table_of(rt.alloc(), &[1, 2, 3, 4, 5], 2)?;
-    assert_eq!(rt; table.len(), 5);
+fn an_item_that_is_there_is_read_by_its_index(rt: HostRuntime) {
+    let table = ok(&rt, table_of(rt.alloc(), &[1, 2, 3, 4, 5], 2));
+    holds(&rt, table.len() == 5);
     let mut sum = 0u32;
     for i in 0..table.len() {
         sum = sum.wrapping_mul(10).wrapping_add(table[i]);
     }
-    assert_eq!(rt; sum, 12345);
-    Ok(())
+    same(&rt, sum, 12345);
 }
 
 #[test]
-fn a_table_shows_its_items(rt: HostRuntime) -> Result<(), Fail> {
+fn a_table_shows_its_items(rt: HostRuntime) {
     let alloc = rt.alloc();
     for (items, text) in [(&[][..], "[]"), (&[1, 2, 3][..], "[1, 2, 3]")] {
-        let table = table_of(alloc, items, 2)?;
-        assert_eq!(rt; format!(in alloc; "{table:?}")?.as_str(), text);
+        let table = ok(&rt, table_of(alloc, items, 2));
+        same(&rt, ok(&rt, format!(in alloc; "{table:?}")).as_str(), text);
     }
-    Ok(())
 }
 
 #[test]
-fn tables_are_equal_by_their_items(rt: HostRuntime) -> Result<(), Fail> {
+fn tables_are_equal_by_their_items(rt: HostRuntime) {
     let alloc = rt.alloc();
-    let table = table_of(alloc, &[1, 2, 3], 2)?;
-    assert!(rt; table == table_of(alloc, &[1, 2, 3], 5)?);
+    let table = ok(&rt, table_of(alloc, &[1, 2, 3], 2));
+    holds(&rt, table == ok(&rt, table_of(alloc, &[1, 2, 3], 5)));
     for other in [
         &[1, 2][..],
         &[1, 2, 3, 4][..],
         &[1, 2, 4][..],
         &[0, 2, 3][..],
     ] {
-        assert!(rt; table != table_of(alloc, other, 2)?, "{other:?}");
+        holds_at(&rt, other, table != ok(&rt, table_of(alloc, other, 2)));
     }
-    Ok(())
 }
 
 // Equal to nothing, not even to itself.
@@ -172,23 +167,27 @@ impl PartialEq for Odd {
 }
 
 #[test]
-fn shared_items_are_asked_too(rt: HostRuntime) -> Result<(), Fail> {
-    let odd = CowTable::from_items(rt.alloc(), vec![in rt.alloc(); Odd]?, 1)?;
-    let same: CowTable<Odd> = odd.clone()?;
-    assert!(rt; odd != same && odd != odd && CowTable::page_ptr_eq(&odd, &same, 0));
-    Ok(())
+fn shared_items_are_asked_too(rt: HostRuntime) {
+    let items = ok(&rt, vec![in rt.alloc(); Odd]);
+    let odd = ok(&rt, CowTable::from_items(rt.alloc(), items, 1));
+    let copy = again(&rt, &odd);
+    holds(
+        &rt,
+        odd != copy && odd != odd && CowTable::page_ptr_eq(&odd, &copy, 0),
+    );
 }
 
 #[test]
-fn errors_have_their_texts(rt: HostRuntime) -> Result<(), Fail> {
+fn errors_have_their_texts(rt: HostRuntime) {
     let alloc = rt.alloc();
-    assert_eq!(rt;
-        format!(in alloc; "{}", SetError::NoPlace)?.as_str(),
-        "no such place"
+    same(
+        &rt,
+        ok(&rt, format!(in alloc; "{}", SetError::NoPlace)).as_str(),
+        "no such place",
     );
-    assert_eq!(rt;
-        format!(in alloc; "{}", SetError::Memory)?.as_str(),
-        "out of memory"
+    same(
+        &rt,
+        ok(&rt, format!(in alloc; "{}", SetError::Memory)).as_str(),
+        "out of memory",
     );
-    Ok(())
 }

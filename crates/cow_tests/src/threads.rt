@@ -3,9 +3,9 @@ use crate::editions::{Edition, publish, read_all};
 use crate::made::counted_table;
 use cow_table::CowTable;
 use crossbeam_channel::{Receiver, Sender, unbounded};
+use facts::{holds, ok, same};
 use handle_tests::counted::{Counted, Tally};
 use std::alloc::{AllocError, Global};
-use std::test::Fail;
 use std::thread;
 
 const EDITIONS: u64 = 1000;
@@ -17,13 +17,14 @@ fn channel(alloc: Global) -> Result<Ends, AllocError> {
 }
 
 #[test]
-fn four_threads_read_what_one_publishes(rt: HostRuntime) -> Result<(), Fail> {
+fn four_threads_read_what_one_publishes(rt: HostRuntime) {
     let alloc = rt.alloc();
-    let items = CowTable::from_items(alloc, vec![in alloc; 0u64; 8]?, 3)?;
-    let (to_a, a) = channel(alloc)?;
-    let (to_b, b) = channel(alloc)?;
-    let (to_c, c) = channel(alloc)?;
-    let (to_d, d) = channel(alloc)?;
+    let zeros = ok(&rt, vec![in alloc; 0u64; 8]);
+    let items = ok(&rt, CowTable::from_items(alloc, zeros, 3));
+    let (to_a, a) = ok(&rt, channel(alloc));
+    let (to_b, b) = ok(&rt, channel(alloc));
+    let (to_c, c) = ok(&rt, channel(alloc));
+    let (to_d, d) = ok(&rt, channel(alloc));
     let readers = [to_a, to_b, to_c, to_d];
     let rt = &rt;
     let (published, read) = thread::join(
@@ -41,8 +42,7 @@ fn four_threads_read_what_one_publishes(rt: HostRuntime) -> Result<(), Fail> {
         },
     );
     let all = Some(EDITIONS);
-    assert_eq!(rt; (published, read), (Ok(()), ((all, all), (all, all))));
-    Ok(())
+    same(rt, (published, read), (Ok(()), ((all, all), (all, all))));
 }
 
 // Item k is k, but for the one that was written.
@@ -87,11 +87,11 @@ impl<'a> Original<'a> {
 }
 
 #[test]
-fn four_threads_write_versions_of_one_table(rt: HostRuntime) -> Result<(), Fail> {
+fn four_threads_write_versions_of_one_table(rt: HostRuntime) {
     let alloc = rt.alloc();
     let tally = Tally::new();
     let mut original = Original {
-        table: counted_table(alloc, &tally, 5)?,
+        table: ok(&rt, counted_table(alloc, &tally, 5)),
         tally: &tally,
     };
     let write = |value: u64| original.write_versions(alloc, value);
@@ -102,12 +102,11 @@ fn four_threads_write_versions_of_one_table(rt: HostRuntime) -> Result<(), Fail>
     );
     let mut values = 0u64;
     for written in [a, b, c, d] {
-        values = values.wrapping_add(written.ok_or("another item")?);
+        values = values.wrapping_add(written.expect(&rt, "another item"));
     }
     let copies = tally.copies();
-    assert!(rt; has_at(&original.table, 5, 0));
-    assert_eq!(rt; tally.drops(), copies.wrapping_add(values));
+    holds(&rt, has_at(&original.table, 5, 0));
+    same(&rt, tally.drops(), copies.wrapping_add(values));
     let set = original.table.set(alloc, 0, Counted::new(&tally, 9));
-    assert_eq!(rt; (set, tally.copies()), (Ok(()), copies));
-    Ok(())
+    same(&rt, (set, tally.copies()), (Ok(()), copies));
 }

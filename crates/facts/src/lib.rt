@@ -28,3 +28,20 @@ pub fn ok<T, E: Drop>(rt: &impl Abort, given: Result<T, E>) -> T
 pub fn again<T: Clone + Drop>(rt: &impl Abort, value: &T) -> T {
     ok(rt, value.clone())
 }
+
+/// The same in a row of a table, which is told where the fact does not hold.
+pub fn holds_at<R: Debug + Drop>(rt: &impl Abort, row: R, fact: bool)
+    ensures { IsTrue fact }
+{
+    assert!(rt; fact, "what should hold does not at {row:?}");
+}
+
+/// The same in a row of a table.
+pub fn same_at<R: Debug + Drop, T: PartialEq + Debug + Drop>(
+    rt: &impl Abort,
+    row: R,
+    found: T,
+    expected: T,
+) {
+    assert_eq!(rt; found, expected, "at {row:?}");
+}

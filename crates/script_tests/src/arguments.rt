@@ -1,6 +1,7 @@
 //! The argument words that are wrong, and the largest that are right.
 use crate::fakes::FailingReader;
 use crate::runs::run_bench;
+use facts::{holds_at, same, same_at};
 use scripts::bench;
 
 const WRONG_ARGUMENTS: [&[&str]; 22] = [
@@ -35,24 +36,27 @@ fn judges_arguments_before_input(rt: HostRuntime) {
         let mut input = FailingReader::new(b"unique 0 0\n", 0);
         let (mut output, mut errors) = (Vec::new(alloc), Vec::new(alloc));
         let status = bench(alloc, *words, &mut input, &mut output, &mut errors);
-        assert_eq!(rt; status, 1, "{words:?}");
-        assert!(rt; output.is_empty(), "{words:?}");
-        assert_eq!(rt;
+        same_at(&rt, words, status, 1);
+        holds_at(&rt, words, output.is_empty());
+        same_at(
+            &rt,
+            words,
             errors.as_slice(),
             b"fault: arguments\n".as_slice(),
-            "{words:?}"
         );
     }
-    assert_eq!(rt;
+    same(
+        &rt,
         run_bench(alloc, &["core", "1000"], b"load 999 0\n")
             .output
             .as_slice(),
-        b"barred\n".as_slice()
+        b"barred\n".as_slice(),
     );
-    assert_eq!(rt;
+    same(
+        &rt,
         run_bench(alloc, &["table", "1000"], b"get 999\nget 1000\n")
             .output
             .as_slice(),
-        b"empty\nno slot\n".as_slice()
+        b"empty\nno slot\n".as_slice(),
     );
 }

@@ -1,5 +1,6 @@
 //! Scripts byte by byte: what a line may be, and what is printed up to the first faulty one.
 use crate::runs::run_bench;
+use facts::{holds_at, same_at};
 use std::alloc::Global;
 use std::process::Abort;
 
@@ -169,9 +170,9 @@ fn check_bytes(rt: &impl Abort, alloc: Global, kind: &str, rows: &[Bytes]) {
         status,
     } in rows {
         let ran = run_bench(alloc, &[kind, "1"], script);
-        assert_eq!(rt; ran.output.as_slice(), *output, "{script:?}");
-        assert_eq!(rt; ran.status, *status, "{script:?}");
-        assert!(rt; ran.errors.is_empty(), "{script:?}");
+        same_at(rt, script, ran.output.as_slice(), *output);
+        same_at(rt, script, ran.status, *status);
+        holds_at(rt, script, ran.errors.is_empty());
     }
 }
 

@@ -1,5 +1,6 @@
 //! Runs whose input, output or standard error fails.
 use crate::fakes::{FailingReader, FailingWriter};
+use facts::{holds, holds_at, same, same_at};
 use scripts::bench;
 use std::alloc::{AllocError, Global};
 use std::io;
@@ -45,9 +46,9 @@ fn tells_of_input_that_cannot_be_read(rt: HostRuntime) {
             } else {
                 (*answers, b"".as_slice(), 0)
             };
-            assert_eq!(rt; status, wanted, "{kind} {reads_before}");
-            assert_eq!(rt; output.as_slice(), printed, "{kind} {reads_before}");
-            assert_eq!(rt; errors.as_slice(), told, "{kind} {reads_before}");
+            same_at(&rt, (kind, reads_before), status, wanted);
+            same_at(&rt, (kind, reads_before), output.as_slice(), printed);
+            same_at(&rt, (kind, reads_before), errors.as_slice(), told);
         }
     }
 }
@@ -63,9 +64,9 @@ fn ends_at_a_failed_write(rt: HostRuntime) {
         ] {
             let (mut output, mut errors) = (FailingWriter::new(alloc, 0), Vec::new(alloc));
             let status = bench(alloc, &[kind, "1"], &mut &*script, &mut output, &mut errors);
-            assert_eq!(rt; status, 4, "{kind} {script:?}");
-            assert!(rt; output.held.is_empty(), "{kind} {script:?}");
-            assert!(rt; errors.is_empty(), "{kind} {script:?}");
+            same_at(&rt, (kind, script), status, 4);
+            holds_at(&rt, (kind, script), output.held.is_empty());
+            holds_at(&rt, (kind, script), errors.is_empty());
         }
     }
 }
@@ -118,23 +119,30 @@ fn writes_nothing_after_a_failed_part(rt: HostRuntime) -> Result<(), Fail> {
                 &mut output,
                 &mut errors,
             );
-            assert!(rt; answers.starts_with(&output.held), "{kind} {writes_before}");
-            assert_eq!(rt;
+            holds_at(
+                &rt,
+                (kind, writes_before),
+                answers.starts_with(&output.held),
+            );
+            same_at(
+                &rt,
+                (kind, writes_before),
                 output.held == answers,
                 3 <= writes_before,
-                "{kind} {writes_before}"
             );
-            assert_eq!(rt;
+            same_at(
+                &rt,
+                (kind, writes_before),
                 output.has_failed,
                 writes_before <= 3,
-                "{kind} {writes_before}"
             );
-            assert_eq!(rt;
+            same_at(
+                &rt,
+                (kind, writes_before),
                 status,
                 if output.has_failed { 4 } else { 0 },
-                "{kind} {writes_before}"
             );
-            assert!(rt; errors.is_empty(), "{kind} {writes_before}");
+            holds_at(&rt, (kind, writes_before), errors.is_empty());
         }
     }
     Ok(())
@@ -145,11 +153,11 @@ fn keeps_the_status_where_errors_cannot_be_written(rt: HostRuntime) {
     let alloc = rt.alloc();
     let (mut output, mut errors) = (Vec::new(alloc), FailingWriter::new(alloc, 0));
     let status = bench(alloc, &["core"], &mut io::empty(), &mut output, &mut errors);
-    assert_eq!(rt; status, 1);
-    assert!(rt; errors.has_failed);
+    same(&rt, status, 1);
+    holds(&rt, errors.has_failed);
     let (mut input, mut errors) = (FailingReader::new(b"", 0), FailingWriter::new(alloc, 0));
     let status = bench(alloc, &["table", "1"], &mut input, &mut output, &mut errors);
-    assert_eq!(rt; status, 3);
-    assert!(rt; errors.has_failed);
-    assert!(rt; output.is_empty());
+    same(&rt, status, 3);
+    holds(&rt, errors.has_failed);
+    holds(&rt, output.is_empty());
 }

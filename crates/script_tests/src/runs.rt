@@ -1,4 +1,5 @@
 // Runs of the program, and rows of them.
+use facts::{holds_at, same_at};
 use scripts::bench;
 use std::alloc::{AllocError, Global};
 use std::process::Abort;
@@ -55,13 +56,14 @@ impl Row {
             words.push(word)?;
         }
         let ran = run_bench(alloc, &words, script.as_bytes());
-        assert_eq!(rt;
+        same_at(
+            rt,
+            name,
             str::from_utf8(&ran.output).unwrap_or("no text"),
             answers.as_str(),
-            "{name}"
         );
-        assert_eq!(rt; ran.status, 0, "{name}");
-        assert!(rt; ran.errors.is_empty(), "{name}");
+        same_at(rt, name, ran.status, 0);
+        holds_at(rt, name, ran.errors.is_empty());
         Ok(())
     }
 }

@@ -1,5 +1,6 @@
 //! Runs of the whole program, from the arguments of an environment.
 use crate::environment::Arguments;
+use facts::same_at;
 use scripts::start;
 
 /// Arguments and a script, and what the program then prints, tells on standard error, and ends with.
@@ -101,8 +102,8 @@ fn starts_on_its_arguments(rt: HostRuntime) {
         let (mut output, mut errors) = (Vec::new(alloc), Vec::new(alloc));
         let arguments = Arguments(row.words);
         let status = start(&arguments, alloc, &mut script, &mut output, &mut errors);
-        assert_eq!(rt; status, row.status, "{:?}", row.words);
-        assert_eq!(rt; output.as_slice(), row.output, "{:?}", row.words);
-        assert_eq!(rt; errors.as_slice(), row.errors, "{:?}", row.words);
+        same_at(&rt, row.words, status, row.status);
+        same_at(&rt, row.words, output.as_slice(), row.output);
+        same_at(&rt, row.words, errors.as_slice(), row.errors);
     }
 }

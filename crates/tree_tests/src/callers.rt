@@ -21,11 +21,11 @@ fn callers_read_both_trees_and_styles(rt: HostRuntime) -> Result<(), Fail> {
     let values = restyle::before_and_after(rt.alloc(), &old, 7).map_err(|_| AllocError)?;
     assert_eq!(rt; values, (1, 7));
     let declared = Declared {
-        font_size: Some(40),
+        font_size: Some(u32::MAX),
         border_width: None,
     };
     let inline = Arc::new(rt.alloc(), Inline { declared }).map_err(|_| AllocError)?;
     let (plain, styled) = restyle::two_styles(rt.alloc(), inline)?;
-    assert_eq!(rt; (plain.font.size, styled.font.size), (16, 40));
+    assert_eq!(rt; (plain.font.size, styled.font.size), (16, u32::MAX));
     Ok(())
 }

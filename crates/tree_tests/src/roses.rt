@@ -83,3 +83,38 @@ fn there_is_no_place_outside_the_tree(rt: HostRuntime) -> Result<(), Fail> {
     assert_eq!(rt; (tally.copies(), tally.drops()), (0, 1));
     Ok(())
 }
+
+// A cap that nobody asked for would refuse these trees, or a change of them.
+const MANY: u64 = 1000;
+
+#[test]
+fn a_wide_tree_is_changed_at_its_last_child(rt: HostRuntime) -> Result<(), Fail> {
+    let mut leaves = Vec::new(rt.alloc());
+    for value in 0..MANY {
+        leaves.push(Rose::leaf(rt.alloc(), value)?)?;
+    }
+    let old = Rose::with_children(rt.alloc(), MANY, leaves)?;
+    let new = old
+        .with_value(rt.alloc(), &[999], 7)
+        .map_err(|_| AllocError)?;
+    let read = |tree: &Rose<u64>| tree.child(999).map(|child| *child.value());
+    assert_eq!(rt; (read(&old), read(&new)), (Some(999), Some(7)));
+    assert!(rt; is_shared(&old, &new, &[998]) && new.children().len() == 1000);
+    Ok(())
+}
+
+#[test]
+fn a_deep_tree_is_changed_at_its_leaf(rt: HostRuntime) -> Result<(), Fail> {
+    let mut old = Rose::leaf(rt.alloc(), 0)?;
+    for value in 1..=MANY {
+        old = Rose::with_children(rt.alloc(), value, vec![in rt.alloc(); old]?)?;
+    }
+    let path = [0; 1000];
+    let new = old
+        .with_value(rt.alloc(), &path, 7)
+        .map_err(|_| AllocError)?;
+    let read = |tree: &Rose<u64>| tree.at(&path).map(|leaf| *leaf.value());
+    assert_eq!(rt; (read(&old), read(&new)), (Some(0), Some(7)));
+    assert_eq!(rt; *new.value(), MANY);
+    Ok(())
+}

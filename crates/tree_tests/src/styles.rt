@@ -42,7 +42,7 @@ fn a_change_leaves_the_style_of_another_holder(rt: HostRuntime) -> Result<(), Fa
 
 const THICK: Declared = Declared {
     font_size: None,
-    border_width: Some(3),
+    border_width: Some(u32::MAX),
 };
 
 #[test]
@@ -56,7 +56,7 @@ fn a_rule_leaves_the_groups_that_all_styles_share(rt: HostRuntime) -> Result<(),
     let thick = plain.under_rule(rt.alloc(), rule)?;
     assert!(rt; Arc::ptr_eq(&plain.font, &thick.font));
     assert!(rt; !Arc::ptr_eq(&plain.border, &thick.border));
-    assert_eq!(rt; (plain.border.width, thick.border.width), (0, 3));
+    assert_eq!(rt; (plain.border.width, thick.border.width), (0, u32::MAX));
     assert!(rt; plain.font.is_static() && plain.border.is_static());
     assert!(rt; !thick.border.is_static());
     Ok(())

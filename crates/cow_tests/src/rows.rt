@@ -90,8 +90,10 @@ fn pages_of_each_length_read_as_the_list(rt: HostRuntime) -> Result<(), Fail> {
 #[test]
 fn a_table_has_two_thousand_items(rt: HostRuntime) -> Result<(), Fail> {
     let items: Vec<u32> = (0..2000).collect(rt.alloc())?;
-    let table = CowTable::from_items(rt.alloc(), items, 3)?;
+    let mut table = CowTable::from_items(rt.alloc(), items, 3)?;
     assert!(rt; table.len() == 2000 && table.get(1999) == Some(&1999));
+    assert_eq!(rt; table.set(rt.alloc(), 1999, 7), Ok(()));
+    assert!(rt; table.get(1999) == Some(&7) && table.get(1998) == Some(&1998));
     Ok(())
 }
 

@@ -56,3 +56,24 @@ fn a_header_slice_takes_two_thousand_items(rt: HostRuntime) -> Result<(), Fail> 
     assert!(rt; list.len() == 2000 && list.slice().last() == Some(&1999));
     Ok(())
 }
+
+#[test]
+fn tables_have_two_thousand_slots(rt: HostRuntime) -> Result<(), Fail> {
+    let alloc = rt.alloc();
+    let mut table: Table<u32> = Table::new(alloc, 2000)?;
+    assert_eq!(rt; table.serve(alloc, Command::New(1999, 7)), Reply::Done);
+    assert_eq!(rt; table.serve(alloc, Command::Clone(1999, 1000)), Reply::Done);
+    assert_eq!(rt; (table.slots(), table.get(1000)), (2000, Some(&7)));
+    let mut unions: UnionTable<u32, u32> = UnionTable::new(alloc, 2000)?;
+    assert_eq!(rt;
+        unions.serve(alloc, UnionCommand::Second(1999, 7)),
+        Reply::Done
+    );
+    assert_eq!(rt;
+        unions.serve(alloc, UnionCommand::Clone(1999, 1000)),
+        Reply::Done
+    );
+    let read = unions.serve(alloc, UnionCommand::ReadSecond(1000, 7));
+    assert_eq!(rt; read, Reply::Is(true));
+    Ok(())
+}

@@ -90,8 +90,13 @@ fn pages_of_each_length_read_as_the_list(rt: HostRuntime) {
 #[test]
 fn a_table_has_two_thousand_items(rt: HostRuntime) {
     let items: Vec<u32> = ok(&rt, (0..2000).collect(rt.alloc()));
-    let table = ok(&rt, CowTable::from_items(rt.alloc(), items, 3));
+    let mut table = ok(&rt, CowTable::from_items(rt.alloc(), items, 3));
     holds(&rt, table.len() == 2000 && table.get(1999) == Some(&1999));
+    same(&rt, table.set(rt.alloc(), 1999, 7), Ok(()));
+    holds(
+        &rt,
+        table.get(1999) == Some(&7) && table.get(1998) == Some(&1998),
+    );
 }
 
 #[test]

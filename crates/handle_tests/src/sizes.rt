@@ -64,3 +64,29 @@ fn a_header_slice_takes_two_thousand_items(rt: HostRuntime) {
         list.len() == 2000 && list.slice().last() == Some(&1999),
     );
 }
+
+#[test]
+fn tables_have_two_thousand_slots(rt: HostRuntime) {
+    let alloc = rt.alloc();
+    let mut table: Table<u32> = ok(&rt, Table::new(alloc, 2000));
+    same(&rt, table.serve(alloc, Command::New(1999, 7)), Reply::Done);
+    same(
+        &rt,
+        table.serve(alloc, Command::Clone(1999, 1000)),
+        Reply::Done,
+    );
+    same(&rt, (table.slots(), table.get(1000)), (2000, Some(&7)));
+    let mut unions: UnionTable<u32, u32> = ok(&rt, UnionTable::new(alloc, 2000));
+    same(
+        &rt,
+        unions.serve(alloc, UnionCommand::Second(1999, 7)),
+        Reply::Done,
+    );
+    same(
+        &rt,
+        unions.serve(alloc, UnionCommand::Clone(1999, 1000)),
+        Reply::Done,
+    );
+    let read = unions.serve(alloc, UnionCommand::ReadSecond(1000, 7));
+    same(&rt, read, Reply::Is(true));
+}

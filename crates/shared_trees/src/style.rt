@@ -88,8 +88,8 @@ impl Style {
         })
     }
 
-    /// Takes what the source says, and copies the groups that it says something of if others share them. If it is
-    /// refused, some groups may be copies, and all values are as they were.
+    /// Takes what the source says, and copies the groups that it says something of, also if no other style shares them.
+    /// If it is refused, the style is as it was.
     pub fn cascade(&mut self, alloc: Global, source: Source) -> Result<(), AllocError>
         ensures took { IfOk result (λ _. self.new ≡ cascaded source self.old) }
         ensures refused { IfErr result (λ _. self.new ≡ self.old) }

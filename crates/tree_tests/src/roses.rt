@@ -92,3 +92,36 @@ fn there_is_no_place_outside_the_tree(rt: HostRuntime) {
     holds(&rt, matches!(new, Err(RoseError::NoSuchPlace)));
     same(&rt, (tally.copies(), tally.drops()), (0, 1));
 }
+
+// A cap that nobody asked for would refuse these trees, or a change of them.
+const MANY: u64 = 1000;
+
+#[test]
+fn a_wide_tree_is_changed_at_its_last_child(rt: HostRuntime) {
+    let mut leaves = Vec::new(rt.alloc());
+    for value in 0..MANY {
+        ok(&rt, leaves.push(ok(&rt, Rose::leaf(rt.alloc(), value))));
+    }
+    let old = ok(&rt, Rose::with_children(rt.alloc(), MANY, leaves));
+    let new = ok(&rt, old.with_value(rt.alloc(), &[999], 7));
+    let read = |tree: &Rose<u64>| tree.child(999).map(|child| *child.value());
+    same(&rt, (read(&old), read(&new)), (Some(999), Some(7)));
+    holds(
+        &rt,
+        is_shared(&old, &new, &[998]) && new.children().len() == 1000,
+    );
+}
+
+#[test]
+fn a_deep_tree_is_changed_at_its_leaf(rt: HostRuntime) {
+    let mut old = ok(&rt, Rose::leaf(rt.alloc(), 0));
+    for value in 1..=MANY {
+        let below = ok(&rt, vec![in rt.alloc(); old]);
+        old = ok(&rt, Rose::with_children(rt.alloc(), value, below));
+    }
+    let path = [0; 1000];
+    let new = ok(&rt, old.with_value(rt.alloc(), &path, 7));
+    let read = |tree: &Rose<u64>| tree.at(&path).map(|leaf| *leaf.value());
+    same(&rt, (read(&old), read(&new)), (Some(0), Some(7)));
+    same(&rt, *new.value(), MANY);
+}

@@ -40,7 +40,7 @@ fn a_change_leaves_the_style_of_another_holder(rt: HostRuntime) {
 
 const THICK: Declared = Declared {
     font_size: None,
-    border_width: Some(3),
+    border_width: Some(u32::MAX),
 };
 
 #[test]
@@ -54,7 +54,7 @@ fn a_rule_leaves_the_groups_that_all_styles_share(rt: HostRuntime) {
     let thick = ok(&rt, plain.under_rule(rt.alloc(), rule));
     holds(&rt, Arc::ptr_eq(&plain.font, &thick.font));
     holds(&rt, !Arc::ptr_eq(&plain.border, &thick.border));
-    same(&rt, (plain.border.width, thick.border.width), (0, 3));
+    same(&rt, (plain.border.width, thick.border.width), (0, u32::MAX));
     holds(&rt, plain.font.is_static() && plain.border.is_static());
     holds(&rt, !thick.border.is_static());
 }

@@ -1,5 +1,5 @@
 // Long runs and a long slice: a cap that nobody asked for would refuse them.
-use facts::{holds, ok};
+use facts::{holds, ok, same};
 use servo_arc::table::{Command, PlainCommand, Reply, Table, UnionCommand, UnionTable};
 use servo_arc::{Arc, ThinArc};
 

@@ -1,5 +1,6 @@
 //! A search tree that shares its branches.
-ghost use Rattle.std.specs.Prelude.{◌≡◌, ◌<◌, List, ◌∷◌, ◌++◌, [], ◌↔◌, ℕ, None, Some, cond, nat_eq, IsTrue, IfOk, is_some, length, slice_get};
+ghost use Rattle.std.specs.Prelude.{◌≡◌, ◌<◌, ◌↔◌, ℕ, IsTrue, IfOk, cond, nat_eq};
+ghost use Rattle.std.specs.Prelude.{List, ◌∷◌, ◌++◌, [], None, Some, is_some, length, slice_get};
 ghost use Rattle.std.specs.Option.{option_copied};
 ghost use Rattle.servo_arc.specs.Copies.{CopiesAreEqual};
 ghost use Rattle.shared_trees.specs.Forks.{lesser, upper};
@@ -51,7 +52,8 @@ impl<V: Send + Sync> Model for Fork<V> {
 
     ghost view = { λ f. around f.sides f.entry };
 
-    ghost invariant = { λ f. (f.len ≡ length (around f.sides f.entry)) × IsRising (around f.sides f.entry) };
+    ghost invariant = { λ f. (f.len ≡ length (around f.sides f.entry))
+        × IsRising (around f.sides f.entry) };
 
     ghost size = { length };
 

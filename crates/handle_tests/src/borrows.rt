@@ -1,4 +1,5 @@
 // Borrowed handles.
+use crate::by_bound::are_equal;
 use crate::made::handle_of;
 use facts::{again, holds, ok, same};
 use servo_arc::{Arc, ArcBorrow};
@@ -25,10 +26,6 @@ fn a_borrow_reads_and_clones(rt: HostRuntime) {
     holds(&rt, ArcBorrow::ptr_eq(&b, &c.borrow_arc()));
     let other = handle_of(&rt, 7u32);
     holds(&rt, !ArcBorrow::ptr_eq(&b, &other.borrow_arc()));
-}
-
-fn are_equal<T: Eq>(x: &T, y: &T) -> bool {
-    x == y
 }
 
 #[test]

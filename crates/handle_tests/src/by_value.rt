@@ -1,4 +1,5 @@
 // What a handle has by its value: order, hash and texts.
+use crate::by_bound::are_equal;
 use crate::made::handle_of;
 use facts::{again, holds, ok, same};
 use servo_arc::Arc;
@@ -27,10 +28,6 @@ fn handles_are_sorted(rt: HostRuntime) {
     ok(&rt, handles.sort());
     let text = ok(&rt, format!(in rt.alloc(); "{:?}", handles));
     same(&rt, text.as_str(), "[1, 2, 3]");
-}
-
-fn are_equal<T: Eq>(x: &T, y: &T) -> bool {
-    x == y
 }
 
 #[test]

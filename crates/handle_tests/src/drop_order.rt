@@ -51,7 +51,7 @@ fn items_named<'a>(
     Ok(items.into_iter())
 }
 
-#[derive(Clone, Copy)]
+#[derive(Drop)]
 struct Row<'a> {
     num_items: usize,
     names: &'a [u64],
@@ -59,7 +59,7 @@ struct Row<'a> {
     expected: u64,
 }
 
-fn drops_shared(rt: &(impl Abort + AllocGlobal), row: Row<'_>) {
+fn drops_shared(rt: &(impl Abort + AllocGlobal), row: &Row<'_>) {
     let log = AtomicU64::new(0);
     let header = Named {
         name: HEADER,
@@ -76,7 +76,7 @@ fn drops_shared(rt: &(impl Abort + AllocGlobal), row: Row<'_>) {
     same(rt, log.load(SeqCst), row.expected);
 }
 
-fn drops_unique(rt: &(impl Abort + AllocGlobal), row: Row<'_>) {
+fn drops_unique(rt: &(impl Abort + AllocGlobal), row: &Row<'_>) {
     let log = AtomicU64::new(0);
     let header = Named {
         name: HEADER,
@@ -123,8 +123,8 @@ fn drops_items_in_order_and_then_the_header(rt: HostRuntime) {
             refusal,
             expected,
         };
-        drops_shared(&rt, row);
-        drops_unique(&rt, row);
+        drops_shared(&rt, &row);
+        drops_unique(&rt, &row);
     }
 }
 

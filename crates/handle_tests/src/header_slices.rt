@@ -1,12 +1,13 @@
 // What header slices read, how they are written before they are shared, and their texts.
 ghost use Rattle.std.specs.Prelude.{◌≡◌};
 
+use crate::by_bound::{are_equal, crosses_threads};
 use facts::{holds, ok, same};
 use servo_arc::{Arc, BuildError, HeaderSlice, ThinArc, UniqueArc};
 use std::alloc::{AllocError, Global};
 use std::mem;
 use std::process::Abort;
-use std::test::Fail;
+use std::vec::IntoIter;
 
 #[derive(Clone, Copy)]
 struct Padded {
@@ -29,17 +30,21 @@ fn read(slice: &HeaderSlice<u8, Padded>) -> (u8, usize, Option<u64>, Option<u64>
     (slice.header, slice.len(), number(0), number(1))
 }
 
+fn two_padded(rt: &(impl Abort + AllocGlobal)) -> IntoIter<Padded> {
+    let items = vec![in rt.alloc(); with_padding(0xdead), with_padding(0xbeef)];
+    ok(rt, items).into_iter()
+}
+
 #[test]
-fn reads_padded_items(rt: HostRuntime) -> Result<(), Fail> {
+fn reads_padded_items(rt: HostRuntime) {
     let expected = (0, 2, Some(0xdead), Some(0xbeef));
-    let items = vec![in rt.alloc(); with_padding(0xdead), with_padding(0xbeef)]?;
-    let shared = Arc::from_header_and_iter(rt.alloc(), 0u8, items.into_iter())?;
+    let items = two_padded(&rt);
+    let shared = ok(&rt, Arc::from_header_and_iter(rt.alloc(), 0u8, items));
     same(&rt, read(&shared), expected);
 
-    let items = vec![in rt.alloc(); with_padding(0xdead), with_padding(0xbeef)]?;
-    let unique = UniqueArc::from_header_and_iter(rt.alloc(), 0u8, items.into_iter())?;
+    let items = two_padded(&rt);
+    let unique = ok(&rt, UniqueArc::from_header_and_iter(rt.alloc(), 0u8, items));
     same(&rt, read(&unique), expected);
-    Ok(())
 }
 
 #[test]
@@ -119,10 +124,6 @@ fn writes_what_only_one_handle_shows(rt: HostRuntime) {
     same(&rt, (shared.header, shared.slice()), (3, &[8, 6][..]));
 }
 
-fn are_equal<T: Eq>(x: &T, y: &T) -> bool {
-    x == y
-}
-
 fn two_items(rt: &(impl Abort + AllocGlobal), header: u8, items: [u8; 2]) -> ThinArc<u8, u8> {
     ok(
         rt,
@@ -173,8 +174,6 @@ fn prints(rt: HostRuntime) {
     }
     same(&rt, BuildError::from(AllocError), BuildError::Memory);
 }
-
-fn crosses_threads<T: Send + Sync>() {}
 
 #[test]
 fn header_slices_cross_threads() {

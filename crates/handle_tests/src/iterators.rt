@@ -26,7 +26,7 @@ impl<T: Drop> Iterator for Answers<'_, T> {
     }
 }
 
-#[derive(Clone, Copy)]
+#[derive(Drop)]
 struct Row<'a, T> {
     num_items: usize,
     answers: &'a [Option<T>],
@@ -47,7 +47,7 @@ fn source_of<'a, T: Copy>(
 
 fn run_shared<T: Copy + Debug + PartialEq + Send + Sync>(
     rt: &(impl Abort + AllocGlobal),
-    row: Row<T>,
+    row: &Row<T>,
 ) {
     let asked = AtomicU64::new(0);
     let source = ok(rt, source_of(rt.alloc(), row.answers, &asked));
@@ -60,7 +60,7 @@ fn run_shared<T: Copy + Debug + PartialEq + Send + Sync>(
 
 fn run_unique<T: Copy + Debug + PartialEq + Send + Sync>(
     rt: &(impl Abort + AllocGlobal),
-    row: Row<T>,
+    row: &Row<T>,
 ) {
     let asked = AtomicU64::new(0);
     let source = ok(rt, source_of(rt.alloc(), row.answers, &asked));
@@ -119,8 +119,8 @@ fn asks_once_more_and_never_after_none(rt: HostRuntime) {
             expected,
             asks,
         };
-        run_shared(&rt, row);
-        run_unique(&rt, row);
+        run_shared(&rt, &row);
+        run_unique(&rt, &row);
     }
 }
 
@@ -147,8 +147,8 @@ fn takes_items_without_size(rt: HostRuntime) {
             expected,
             asks,
         };
-        run_shared(&rt, row);
-        run_unique(&rt, row);
+        run_shared(&rt, &row);
+        run_unique(&rt, &row);
     }
 }
 

@@ -5,6 +5,8 @@
 #[cfg(test)]
 mod borrows;
 #[cfg(test)]
+mod by_bound;
+#[cfg(test)]
 mod by_value;
 pub mod caller;
 #[cfg(test)]

@@ -1,10 +1,9 @@
 // Each call once, at values that count.
+use crate::by_bound::crosses_threads;
 use crate::counted::{Counted, Tally};
 use crate::made::handle_of;
 use facts::{again, holds, ok, same};
 use servo_arc::{Arc, Full, RawArc, UniqueArc};
-
-fn crosses_threads<T: Send + Sync>() {}
 
 #[test]
 fn handles_cross_threads() {

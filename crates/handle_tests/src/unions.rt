@@ -1,11 +1,10 @@
 // Unions of handles.
+use crate::by_bound::{are_equal, crosses_threads};
 use crate::made::handle_of;
 use facts::{again, holds, ok, same};
 use servo_arc::{Arc, ArcBorrow, ArcUnion, ArcUnionBorrow};
 
 type Numbers = ArcUnion<u32, u32>;
-
-fn crosses_threads<T: Send + Sync>() {}
 
 #[test]
 fn unions_cross_threads() {
@@ -26,10 +25,6 @@ fn a_first_is_no_second(rt: HostRuntime) {
     same(&rt, first.as_first().map(|a| *a), Some(7));
     same(&rt, second.as_second().map(|b| *b), Some(7));
     holds(&rt, first != second && !ArcUnion::ptr_eq(&first, &second));
-}
-
-fn are_equal<T: Eq>(x: &T, y: &T) -> bool {
-    x == y
 }
 
 #[test]

@@ -1,12 +1,12 @@
 // What a builder of header slices leaves.
 use crate::telling::tell;
+use facts::same;
 use handle_tests::counted::{Counted, Tally};
 use servo_arc::{Arc, BuildError, HeaderSlice, UniqueArc};
 use std::io::Print;
 use std::process::Abort;
 use std::sync::atomic::AtomicU64;
 use std::sync::atomic::Ordering::SeqCst;
-use std::test::Fail;
 
 // What was asked of an iterator, and what was dropped.
 #[derive(Drop)]
@@ -72,33 +72,32 @@ impl ExactSizeIterator for Source<'_> {
 
 type Built<'a> = Result<Arc<HeaderSlice<Counted<'a>, Counted<'a>>>, BuildError>;
 
-fn check_built(rt: &(impl Abort + Print), ledger: &Ledger, built: Built<'_>) -> Result<(), Fail> {
-    assert_eq!(rt; ledger.sources.drops(), 1);
+fn check_built(rt: &(impl Abort + Print), ledger: &Ledger, built: Built<'_>) {
+    same(rt, ledger.sources.drops(), 1);
     let asks = ledger.asks.load(SeqCst);
     let drops = (ledger.headers.drops(), ledger.items.drops());
     match built {
         Ok(slice) => {
-            assert_eq!(rt; (slice.header.value, slice.len()), (9, 2));
-            assert_eq!(rt; (asks, drops), (3, (0, 0)));
+            same(rt, (slice.header.value, slice.len()), (9, 2));
+            same(rt, (asks, drops), (3, (0, 0)));
         }
         Err(refusal) => {
-            assert_eq!(rt; refusal, BuildError::Memory);
-            assert_eq!(rt; (asks, drops), (0, (1, 0)));
-            tell(rt, "the places of the items or the block")?;
+            same(rt, refusal, BuildError::Memory);
+            same(rt, (asks, drops), (0, (1, 0)));
+            tell(rt, "the places of the items or the block");
         }
     }
-    Ok(())
 }
 
 #[test]
-fn a_refused_builder_asks_for_nothing(rt: HostRuntime) -> Result<(), Fail> {
+fn a_refused_builder_asks_for_nothing(rt: HostRuntime) {
     let ledger = Ledger::new();
     let built = Arc::from_header_and_iter(rt.alloc(), ledger.header(), ledger.two_items());
     check_built(&rt, &ledger, built)
 }
 
 #[test]
-fn a_refused_builder_with_size_asks_for_nothing(rt: HostRuntime) -> Result<(), Fail> {
+fn a_refused_builder_with_size_asks_for_nothing(rt: HostRuntime) {
     let ledger = Ledger::new();
     let (header, items) = (ledger.header(), ledger.two_items());
     let built = Arc::from_header_and_iter_with_size(rt.alloc(), header, items, 2);
@@ -106,7 +105,7 @@ fn a_refused_builder_with_size_asks_for_nothing(rt: HostRuntime) -> Result<(), F
 }
 
 #[test]
-fn a_refused_builder_of_a_static_slice_asks_for_nothing(rt: HostRuntime) -> Result<(), Fail> {
+fn a_refused_builder_of_a_static_slice_asks_for_nothing(rt: HostRuntime) {
     let ledger = Ledger::new();
     let (header, items) = (ledger.header(), ledger.two_items());
     let built = Arc::from_header_and_iter_alloc(rt.alloc(), header, items, 2, true);
@@ -114,7 +113,7 @@ fn a_refused_builder_of_a_static_slice_asks_for_nothing(rt: HostRuntime) -> Resu
 }
 
 #[test]
-fn a_refused_unique_builder_asks_for_nothing(rt: HostRuntime) -> Result<(), Fail> {
+fn a_refused_unique_builder_asks_for_nothing(rt: HostRuntime) {
     let ledger = Ledger::new();
     let (header, items) = (ledger.header(), ledger.two_items());
     let built = match UniqueArc::from_header_and_iter(rt.alloc(), header, items) {
@@ -125,7 +124,7 @@ fn a_refused_unique_builder_asks_for_nothing(rt: HostRuntime) -> Result<(), Fail
 }
 
 #[test]
-fn a_refused_unique_builder_with_size_asks_for_nothing(rt: HostRuntime) -> Result<(), Fail> {
+fn a_refused_unique_builder_with_size_asks_for_nothing(rt: HostRuntime) {
     let ledger = Ledger::new();
     let (header, items) = (ledger.header(), ledger.two_items());
     let built = match UniqueArc::from_header_and_iter_with_size(rt.alloc(), header, items, 2) {
@@ -140,25 +139,24 @@ fn check_one_request<T: Drop + Send + Sync>(
     rt: &(impl Abort + Print),
     built: Result<Arc<HeaderSlice<u64, T>>, BuildError>,
     len: usize,
-) -> Result<(), Fail> {
+) {
     match built {
-        Ok(slice) => assert_eq!(rt; (slice.header, slice.len()), (9, len)),
+        Ok(slice) => same(rt, (slice.header, slice.len()), (9, len)),
         Err(refusal) => {
-            assert_eq!(rt; refusal, BuildError::Memory);
-            tell(rt, "the block alone")?;
+            same(rt, refusal, BuildError::Memory);
+            tell(rt, "the block alone");
         }
     }
-    Ok(())
 }
 
 #[test]
-fn a_builder_of_items_without_size_asks_for_its_block_alone(rt: HostRuntime) -> Result<(), Fail> {
+fn a_builder_of_items_without_size_asks_for_its_block_alone(rt: HostRuntime) {
     let built = Arc::from_header_and_iter(rt.alloc(), 9, [(), (), ()].into_iter());
     check_one_request(&rt, built, 3)
 }
 
 #[test]
-fn a_builder_of_no_items_asks_for_its_block_alone(rt: HostRuntime) -> Result<(), Fail> {
+fn a_builder_of_no_items_asks_for_its_block_alone(rt: HostRuntime) {
     let none: [u64; 0] = [];
     let built = Arc::from_header_and_iter(rt.alloc(), 9, none.into_iter());
     check_one_request(&rt, built, 0)

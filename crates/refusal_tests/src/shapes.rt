@@ -1,10 +1,10 @@
 // What a change of a rose tree or of a style leaves.
 use crate::telling::tell;
+use facts::{again, holds, same};
 use handle_tests::counted::{Counted, Tally};
 use servo_arc::{Arc, ArcUnion};
 use shared_trees::{Declared, Inline, Rose, RoseError, Style};
 use std::alloc::{AllocError, Global};
-use std::test::Fail;
 
 // 1 over 2 and 3.
 fn three<'a>(alloc: Global, tally: &'a Tally) -> Result<Rose<Counted<'a>>, AllocError> {
@@ -14,28 +14,27 @@ fn three<'a>(alloc: Global, tally: &'a Tally) -> Result<Rose<Counted<'a>>, Alloc
 }
 
 #[test]
-fn a_refused_change_leaves_the_tree(rt: HostRuntime) -> Result<(), Fail> {
+fn a_refused_change_leaves_the_tree(rt: HostRuntime) {
     let tally = Tally::new();
     let Ok(old) = three(rt.alloc(), &tally) else {
         return tell(&rt, "the set-up");
     };
     let changed = old.with_value(rt.alloc(), &[1], Counted::new(&tally, 9));
     let values = old.children().iter().map(|child| child.value().value);
-    assert!(rt; old.value().value == 1 && values.eq([2, 3]));
+    holds(&rt, old.value().value == 1 && values.eq([2, 3]));
     match changed {
-        Ok(new) => assert_eq!(rt; (new.children().len(), tally.drops()), (2, 0)),
+        Ok(new) => same(&rt, (new.children().len(), tally.drops()), (2, 0)),
         Err(error) => {
-            assert_eq!(rt; error, RoseError::Memory);
+            same(&rt, error, RoseError::Memory);
             // The new value, and the copies that were made by then.
-            assert_eq!(rt; tally.drops(), tally.copies().wrapping_add(1));
-            tell(&rt, "a list of children or a node")?;
+            same(&rt, tally.drops(), tally.copies().wrapping_add(1));
+            tell(&rt, "a list of children or a node");
         }
     }
-    Ok(())
 }
 
 #[test]
-fn a_refused_cascade_leaves_both_styles(rt: HostRuntime) -> Result<(), Fail> {
+fn a_refused_cascade_leaves_both_styles(rt: HostRuntime) {
     let declared = Declared {
         font_size: Some(40),
         border_width: Some(2),
@@ -44,15 +43,14 @@ fn a_refused_cascade_leaves_both_styles(rt: HostRuntime) -> Result<(), Fail> {
     let (Ok(old), Ok(inline)) = (Style::initial(rt.alloc()), inline) else {
         return tell(&rt, "the set-up");
     };
-    let mut new: Style = old.clone()?;
+    let mut new: Style = again(&rt, &old);
     let taken = new.cascade(rt.alloc(), ArcUnion::from_second(inline));
-    assert_eq!(rt; (old.font.size, old.border.width), (16, 0));
+    same(&rt, (old.font.size, old.border.width), (16, 0));
     match taken {
-        Ok(()) => assert_eq!(rt; (new.font.size, new.border.width), (40, 2)),
+        Ok(()) => same(&rt, (new.font.size, new.border.width), (40, 2)),
         Err(AllocError) => {
-            assert!(rt; new == old);
-            tell(&rt, "a copy of a group")?;
+            holds(&rt, new == old);
+            tell(&rt, "a copy of a group");
         }
     }
-    Ok(())
 }

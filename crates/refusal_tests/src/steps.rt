@@ -1,8 +1,8 @@
 // What a call on the core leaves, and a run of steps.
 use crate::telling::tell;
+use facts::{ok, same};
 use servo_arc::counting_core::{Answer, Core, Step};
 use servo_arc::word::MAX_REFCOUNT;
-use std::test::Fail;
 
 const LOAD: Step<u32> = Step::Load {
     owner: 0,
@@ -10,15 +10,14 @@ const LOAD: Step<u32> = Step::Load {
 };
 
 #[test]
-fn a_core_hands_the_value_back(rt: HostRuntime) -> Result<(), Fail> {
+fn a_core_hands_the_value_back(rt: HostRuntime) {
     match Core::new(rt.alloc(), 5u32, 2, MAX_REFCOUNT) {
-        Ok(mut core) => assert_eq!(rt; core.step(LOAD), Answer::Value(5)),
+        Ok(mut core) => same(&rt, core.step(LOAD), Answer::Value(5)),
         Err(value) => {
-            assert_eq!(rt; value, 5);
-            tell(&rt, "the entries")?;
+            same(&rt, value, 5);
+            tell(&rt, "the entries");
         }
     }
-    Ok(())
 }
 
 const CLONE: Step<u32> = Step::Clone {
@@ -94,13 +93,17 @@ const RAISED_AGAIN: [Answer<u32>; 11] = [
 ];
 
 #[test]
-fn at_most_one_step_of_a_run_is_refused(rt: HostRuntime) -> Result<(), Fail> {
+fn at_most_one_step_of_a_run_is_refused(rt: HostRuntime) {
     let Ok(mut core) = Core::new(rt.alloc(), 5u32, 2, MAX_REFCOUNT) else {
         return tell(&rt, "the set-up");
     };
     let Ok(answers) = core.run(&STEPS) else {
         // Nothing has happened, so all of it still can.
-        assert_eq!(rt; core.run(&STEPS)?.as_slice(), WITH_MEMORY.as_slice());
+        same(
+            &rt,
+            ok(&rt, core.run(&STEPS)).as_slice(),
+            WITH_MEMORY.as_slice(),
+        );
         return tell(&rt, "the room of the answers");
     };
     if answers.as_slice() == NOT_LENT.as_slice() {
@@ -109,6 +112,5 @@ fn at_most_one_step_of_a_run_is_refused(rt: HostRuntime) -> Result<(), Fail> {
     if answers.as_slice() == RAISED_AGAIN.as_slice() {
         return tell(&rt, "the entry of a raise");
     }
-    assert_eq!(rt; answers.as_slice(), WITH_MEMORY.as_slice());
-    Ok(())
+    same(&rt, answers.as_slice(), WITH_MEMORY.as_slice());
 }

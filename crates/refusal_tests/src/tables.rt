@@ -1,16 +1,15 @@
 // What a call on a table of handles leaves.
 use crate::telling::tell;
+use facts::same;
 use servo_arc::table::{Command, PlainCommand, Reply, Table};
 use std::alloc::{AllocError, Global};
-use std::test::Fail;
 
 #[test]
-fn a_table_is_refused(rt: HostRuntime) -> Result<(), Fail> {
+fn a_table_is_refused(rt: HostRuntime) {
     match Table::<u32>::new(rt.alloc(), 3) {
-        Ok(table) => assert_eq!(rt; table.slots(), 3),
-        Err(AllocError) => tell(&rt, "the slots")?,
+        Ok(table) => same(&rt, table.slots(), 3),
+        Err(AllocError) => tell(&rt, "the slots"),
     }
-    Ok(())
 }
 
 type Slots = [Option<u32>; 4];
@@ -42,7 +41,7 @@ fn slots_of(table: &Table<u32>) -> Slots {
 }
 
 #[test]
-fn at_most_one_command_of_a_run_is_refused(rt: HostRuntime) -> Result<(), Fail> {
+fn at_most_one_command_of_a_run_is_refused(rt: HostRuntime) {
     let Some(mut table) = shared_table(rt.alloc()) else {
         return tell(&rt, "the set-up");
     };
@@ -54,7 +53,7 @@ fn at_most_one_command_of_a_run_is_refused(rt: HostRuntime) -> Result<(), Fail> 
         return tell(&rt, "the commands");
     };
     let Ok(replies) = table.run(rt.alloc(), commands) else {
-        assert_eq!(rt; slots_of(&table), SHARED);
+        same(&rt, slots_of(&table), SHARED);
         return tell(&rt, "the room of the replies");
     };
     let expected = match replies.as_slice() {
@@ -62,17 +61,16 @@ fn at_most_one_command_of_a_run_is_refused(rt: HostRuntime) -> Result<(), Fail> 
         [Reply::Refused, Reply::Done, Reply::Done] => [Some(5), Some(5), Some(5), Some(7)],
         [Reply::Done, Reply::Refused, Reply::Done] => [Some(9), Some(5), Some(5), Some(7)],
         [Reply::Done, Reply::Done, Reply::Refused] => [Some(9), Some(5), Some(5), None],
-        _ => return Err(Fail::new("other replies")),
+        _ => panic!(rt; "other replies"),
     };
-    assert_eq!(rt; slots_of(&table), expected);
+    same(&rt, slots_of(&table), expected);
     if replies.contains(&Reply::Refused) {
-        tell(&rt, "a block of a command")?;
+        tell(&rt, "a block of a command");
     }
-    Ok(())
 }
 
 #[test]
-fn at_most_one_command_of_a_plain_run_is_refused(rt: HostRuntime) -> Result<(), Fail> {
+fn at_most_one_command_of_a_plain_run_is_refused(rt: HostRuntime) {
     let Some(mut table) = shared_table(rt.alloc()) else {
         return tell(&rt, "the set-up");
     };
@@ -85,7 +83,7 @@ fn at_most_one_command_of_a_plain_run_is_refused(rt: HostRuntime) -> Result<(), 
         return tell(&rt, "the commands");
     };
     let Ok(replies) = table.run_plain(rt.alloc(), commands) else {
-        assert_eq!(rt; slots_of(&table), SHARED);
+        same(&rt, slots_of(&table), SHARED);
         return tell(&rt, "the room of the replies");
     };
     let expected = match replies.as_slice() {
@@ -93,11 +91,10 @@ fn at_most_one_command_of_a_plain_run_is_refused(rt: HostRuntime) -> Result<(), 
             [Some(7), Some(5), Some(5), Some(7)]
         }
         [Reply::Refused, Reply::Empty, Reply::Empty, Reply::Is(true)] => SHARED,
-        _ => return Err(Fail::new("other replies")),
+        _ => panic!(rt; "other replies"),
     };
-    assert_eq!(rt; slots_of(&table), expected);
+    same(&rt, slots_of(&table), expected);
     if replies.contains(&Reply::Refused) {
-        tell(&rt, "the block of a new handle")?;
+        tell(&rt, "the block of a new handle");
     }
-    Ok(())
 }

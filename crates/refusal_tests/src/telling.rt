@@ -1,8 +1,8 @@
 // Which request was refused.
+use facts::ok;
 use std::io::Print;
-use std::test::Fail;
+use std::process::Abort;
 
-pub fn tell(rt: &impl Print, request: &str) -> Result<(), Fail> {
-    println!(rt; "refused: {request}")?;
-    Ok(())
+pub fn tell(rt: &(impl Abort + Print), request: &str) {
+    ok(rt, println!(rt; "refused: {request}"));
 }

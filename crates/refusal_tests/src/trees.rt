@@ -1,26 +1,25 @@
 // What a call on versions of a list or a map leaves.
 use crate::telling::tell;
+use facts::{again, holds, same};
 use handle_tests::counted::{Counted, Tally};
 use shared_trees::{List, TreeMap};
 use std::alloc::{AllocError, Global};
-use std::test::Fail;
 
 #[test]
-fn a_refused_push_leaves_the_list(rt: HostRuntime) -> Result<(), Fail> {
+fn a_refused_push_leaves_the_list(rt: HostRuntime) {
     let tally = Tally::new();
     let Ok(old) = List::new().push(rt.alloc(), Counted::new(&tally, 1)) else {
         return tell(&rt, "the set-up");
     };
     let pushed = old.push(rt.alloc(), Counted::new(&tally, 2));
-    assert!(rt; old.iter().map(|item| item.value).eq([1]));
+    holds(&rt, old.iter().map(|item| item.value).eq([1]));
     match pushed {
-        Ok(new) => assert_eq!(rt; (new.len(), tally.drops()), (2, 0)),
+        Ok(new) => same(&rt, (new.len(), tally.drops()), (2, 0)),
         Err(AllocError) => {
-            assert_eq!(rt; tally.drops(), 1);
-            tell(&rt, "a node")?;
+            same(&rt, tally.drops(), 1);
+            tell(&rt, "a node");
         }
     }
-    Ok(())
 }
 
 // The even keys below 8, with half of each.
@@ -47,39 +46,37 @@ fn kept_none(tally: &Tally, made: u64) -> bool {
 }
 
 #[test]
-fn a_refused_insert_leaves_both_versions(rt: HostRuntime) -> Result<(), Fail> {
+fn a_refused_insert_leaves_both_versions(rt: HostRuntime) {
     let tally = Tally::new();
     let Ok(old) = halves(rt.alloc(), &tally) else {
         return tell(&rt, "the set-up");
     };
-    let again: TreeMap<Counted<'_>> = old.clone()?;
+    let copy = again(&rt, &old);
     let changed = old.insert(rt.alloc(), 3, Counted::new(&tally, 9));
-    assert!(rt; has_halves(&old) && TreeMap::ptr_eq(&old, &again));
+    holds(&rt, has_halves(&old) && TreeMap::ptr_eq(&old, &copy));
     match changed {
-        Ok(new) => assert_eq!(rt; new.get(3).map(|value| value.value), Some(9)),
+        Ok(new) => same(&rt, new.get(3).map(|value| value.value), Some(9)),
         Err(AllocError) => {
-            assert!(rt; kept_none(&tally, 5));
-            tell(&rt, "a node of the path or of the key")?;
+            holds(&rt, kept_none(&tally, 5));
+            tell(&rt, "a node of the path or of the key");
         }
     }
-    Ok(())
 }
 
 #[test]
-fn a_refused_remove_leaves_both_versions(rt: HostRuntime) -> Result<(), Fail> {
+fn a_refused_remove_leaves_both_versions(rt: HostRuntime) {
     let tally = Tally::new();
     let Ok(old) = halves(rt.alloc(), &tally) else {
         return tell(&rt, "the set-up");
     };
     for key in [0, 2, 4, 6] {
-        let again: TreeMap<Counted<'_>> = old.clone()?;
+        let copy = again(&rt, &old);
         let changed = old.remove(rt.alloc(), key);
-        assert!(rt; has_halves(&old) && TreeMap::ptr_eq(&old, &again));
+        holds(&rt, has_halves(&old) && TreeMap::ptr_eq(&old, &copy));
         match changed {
-            Ok(new) => assert_eq!(rt; (new.contains(key), new.len()), (false, 3)),
-            Err(AllocError) => tell(&rt, "a node of the path")?,
+            Ok(new) => same(&rt, (new.contains(key), new.len()), (false, 3)),
+            Err(AllocError) => tell(&rt, "a node of the path"),
         }
-        assert!(rt; kept_none(&tally, 4));
+        holds(&rt, kept_none(&tally, 4));
     }
-    Ok(())
 }

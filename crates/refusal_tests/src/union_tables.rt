@@ -1,19 +1,18 @@
 // What a call on a table of unions leaves.
 use crate::telling::tell;
+use facts::same;
 use servo_arc::ArcUnionBorrow;
 use servo_arc::table::{Reply, UnionCommand, UnionTable};
 use std::alloc::AllocError;
-use std::test::Fail;
 
 type Numbers = UnionTable<u32, u32>;
 
 #[test]
-fn a_table_of_unions_is_refused(rt: HostRuntime) -> Result<(), Fail> {
+fn a_table_of_unions_is_refused(rt: HostRuntime) {
     match Numbers::new(rt.alloc(), 3) {
-        Ok(table) => assert_eq!(rt; table.slots(), 3),
-        Err(AllocError) => tell(&rt, "the slots")?,
+        Ok(table) => same(&rt, table.slots(), 3),
+        Err(AllocError) => tell(&rt, "the slots"),
     }
-    Ok(())
 }
 
 // Whether the slot's handle is a first, and its value.
@@ -33,7 +32,7 @@ fn slots_of(table: &Numbers) -> [Slot; 3] {
 }
 
 #[test]
-fn at_most_one_command_on_unions_is_refused(rt: HostRuntime) -> Result<(), Fail> {
+fn at_most_one_command_on_unions_is_refused(rt: HostRuntime) {
     let Ok(mut table) = Numbers::new(rt.alloc(), 3) else {
         return tell(&rt, "the set-up");
     };
@@ -45,7 +44,7 @@ fn at_most_one_command_on_unions_is_refused(rt: HostRuntime) -> Result<(), Fail>
         return tell(&rt, "the commands");
     };
     let Ok(replies) = table.run(rt.alloc(), commands) else {
-        assert_eq!(rt; slots_of(&table), EMPTY);
+        same(&rt, slots_of(&table), EMPTY);
         return tell(&rt, "the room of the replies");
     };
     let (first, second) = (Some((true, 7)), Some((false, 9)));
@@ -53,11 +52,10 @@ fn at_most_one_command_on_unions_is_refused(rt: HostRuntime) -> Result<(), Fail>
         [Reply::Done, Reply::Done, Reply::Done] => [first, second, second],
         [Reply::Refused, Reply::Done, Reply::Done] => [None, second, second],
         [Reply::Done, Reply::Refused, Reply::Empty] => [first, None, None],
-        _ => return Err(Fail::new("other replies")),
+        _ => panic!(rt; "other replies"),
     };
-    assert_eq!(rt; slots_of(&table), expected);
+    same(&rt, slots_of(&table), expected);
     if replies.contains(&Reply::Refused) {
-        tell(&rt, "a block of a command")?;
+        tell(&rt, "a block of a command");
     }
-    Ok(())
 }

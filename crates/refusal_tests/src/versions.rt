@@ -2,24 +2,23 @@
 use crate::telling::tell;
 use cow_table::{CowTable, SetError};
 use cow_tests::made::counted_items;
+use facts::{holds, same};
 use handle_tests::counted::Tally;
 use std::alloc::{AllocError, Global};
-use std::test::Fail;
 
 #[test]
-fn items_that_get_no_pages_are_dropped(rt: HostRuntime) -> Result<(), Fail> {
+fn items_that_get_no_pages_are_dropped(rt: HostRuntime) {
     let tally = Tally::new();
     let Some(items) = counted_items(rt.alloc(), &tally, 5) else {
         return tell(&rt, "the set-up");
     };
     match CowTable::from_items(rt.alloc(), items, 2) {
-        Ok(table) => assert_eq!(rt; (table.len(), tally.drops()), (5, 0)),
+        Ok(table) => same(&rt, (table.len(), tally.drops()), (5, 0)),
         Err(AllocError) => {
-            assert_eq!(rt; tally.drops(), 5);
-            tell(&rt, "a page, the list of pages or a block")?;
+            same(&rt, tally.drops(), 5);
+            tell(&rt, "a page, the list of pages or a block");
         }
     }
-    Ok(())
 }
 
 // Two versions that share all three of their pages.
@@ -31,24 +30,26 @@ fn versions(alloc: Global) -> Option<(CowTable<u32>, CowTable<u32>)> {
 }
 
 #[test]
-fn a_refused_set_leaves_both_versions(rt: HostRuntime) -> Result<(), Fail> {
+fn a_refused_set_leaves_both_versions(rt: HostRuntime) {
     let Some((a, mut b)) = versions(rt.alloc()) else {
         return tell(&rt, "the set-up");
     };
     let set = b.set(rt.alloc(), 2, 9);
     let shared = [0, 1, 2].map(|p| CowTable::page_ptr_eq(&a, &b, p));
-    assert!(rt; a.iter().eq(&[1, 2, 3, 4, 5]));
+    holds(&rt, a.iter().eq(&[1, 2, 3, 4, 5]));
     match set {
         Ok(()) => {
-            assert!(rt; b.iter().eq(&[1, 2, 9, 4, 5]) && shared == [true, false, true]);
+            holds(
+                &rt,
+                b.iter().eq(&[1, 2, 9, 4, 5]) && shared == [true, false, true],
+            );
         }
         Err(error) => {
-            assert_eq!(rt; error, SetError::Memory);
-            assert!(rt; b.iter().eq(&[1, 2, 3, 4, 5]) && shared == [true; 3]);
-            tell(&rt, "the list of pages, the page or a block")?;
+            same(&rt, error, SetError::Memory);
+            holds(&rt, b.iter().eq(&[1, 2, 3, 4, 5]) && shared == [true; 3]);
+            tell(&rt, "the list of pages, the page or a block");
         }
     }
-    Ok(())
 }
 
 // A value whose copy is always refused.
@@ -73,29 +74,31 @@ fn originals(alloc: Global) -> Option<(CowTable<Original>, CowTable<Original>)> 
 }
 
 #[test]
-fn a_refused_copy_leaves_both_versions(rt: HostRuntime) -> Result<(), Fail> {
+fn a_refused_copy_leaves_both_versions(rt: HostRuntime) {
     let Some((a, mut b)) = originals(rt.alloc()) else {
         return tell(&rt, "the set-up");
     };
-    assert_eq!(rt; b.set(rt.alloc(), 1, Original(9)), Err(SetError::Memory));
-    assert!(rt; a == b && CowTable::page_ptr_eq(&a, &b, 0));
+    same(
+        &rt,
+        b.set(rt.alloc(), 1, Original(9)),
+        Err(SetError::Memory),
+    );
+    holds(&rt, a == b && CowTable::page_ptr_eq(&a, &b, 0));
     drop(a);
-    assert_eq!(rt; b.set(rt.alloc(), 1, Original(9)), Ok(()));
-    assert!(rt; b.iter().eq(&[Original(1), Original(9)]));
-    Ok(())
+    same(&rt, b.set(rt.alloc(), 1, Original(9)), Ok(()));
+    holds(&rt, b.iter().eq(&[Original(1), Original(9)]));
 }
 
 // Neither a version nor a write to a lone one requests memory.
 #[test]
-fn a_lone_set_is_never_refused(rt: HostRuntime) -> Result<(), Fail> {
+fn a_lone_set_is_never_refused(rt: HostRuntime) {
     let Some((mut a, b)) = versions(rt.alloc()) else {
         return tell(&rt, "the set-up");
     };
     drop(b);
     for i in 0..5 {
-        assert_eq!(rt; a.set(rt.alloc(), i, 0), Ok(()));
+        same(&rt, a.set(rt.alloc(), i, 0), Ok(()));
     }
     let again: Result<CowTable<u32>, AllocError> = a.clone();
-    assert!(rt; again.is_ok());
-    Ok(())
+    holds(&rt, again.is_ok());
 }

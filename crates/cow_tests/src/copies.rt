@@ -24,49 +24,49 @@ fn makes_copies<'a>(
 #[test]
 fn a_lone_version_copies_nothing(rt: HostRuntime) {
     let tally = Tally::new();
-    let mut table = ok(&rt, counted_table(rt.alloc(), &tally, 5));
+    let mut table = ok!(&rt, counted_table(rt.alloc(), &tally, 5));
     let copies = [(0, 0), (1, 0), (2, 0), (4, 0), (0, 0)];
-    same(
+    same!(
         &rt,
         makes_copies(rt.alloc(), &tally, &mut table, &copies),
         Ok(true),
     );
-    same(&rt, tally.drops(), 5);
+    same!(&rt, tally.drops(), 5);
     drop(table);
-    same(&rt, tally.drops(), 10);
+    same!(&rt, tally.drops(), 10);
 }
 
 #[test]
 fn a_shared_version_copies_a_page_once(rt: HostRuntime) {
     let tally = Tally::new();
-    let mut a = ok(&rt, counted_table(rt.alloc(), &tally, 5));
-    let mut b = again(&rt, &a);
+    let mut a = ok!(&rt, counted_table(rt.alloc(), &tally, 5));
+    let mut b = again!(&rt, &a);
     let by_b = [(2, 2), (3, 2), (4, 3)];
-    same(
+    same!(
         &rt,
         makes_copies(rt.alloc(), &tally, &mut b, &by_b),
         Ok(true),
     );
     let by_a = [(2, 3), (0, 5), (1, 5), (4, 5)];
-    same(
+    same!(
         &rt,
         makes_copies(rt.alloc(), &tally, &mut a, &by_a),
         Ok(true),
     );
     drop(a);
     drop(b);
-    same(&rt, (tally.copies(), tally.drops()), (5, 5 + 5 + 7));
+    same!(&rt, (tally.copies(), tally.drops()), (5, 5 + 5 + 7));
 }
 
 #[test]
 fn a_version_that_is_gone_shares_nothing(rt: HostRuntime) {
     let tally = Tally::new();
-    let mut a = ok(&rt, counted_table(rt.alloc(), &tally, 5));
-    let b = again(&rt, &a);
-    let c = again(&rt, &b);
+    let mut a = ok!(&rt, counted_table(rt.alloc(), &tally, 5));
+    let b = again!(&rt, &a);
+    let c = again!(&rt, &b);
     drop(b);
     drop(c);
-    same(
+    same!(
         &rt,
         makes_copies(rt.alloc(), &tally, &mut a, &[(0, 0), (3, 0)]),
         Ok(true),

@@ -19,12 +19,12 @@ fn channel(alloc: Global) -> Result<Ends, AllocError> {
 #[test]
 fn four_threads_read_what_one_publishes(rt: HostRuntime) {
     let alloc = rt.alloc();
-    let zeros = ok(&rt, vec![in alloc; 0u64; 8]);
-    let items = ok(&rt, CowTable::from_items(alloc, zeros, 3));
-    let (to_a, a) = ok(&rt, channel(alloc));
-    let (to_b, b) = ok(&rt, channel(alloc));
-    let (to_c, c) = ok(&rt, channel(alloc));
-    let (to_d, d) = ok(&rt, channel(alloc));
+    let zeros = ok!(&rt, vec![in alloc; 0u64; 8]);
+    let items = ok!(&rt, CowTable::from_items(alloc, zeros, 3));
+    let (to_a, a) = ok!(&rt, channel(alloc));
+    let (to_b, b) = ok!(&rt, channel(alloc));
+    let (to_c, c) = ok!(&rt, channel(alloc));
+    let (to_d, d) = ok!(&rt, channel(alloc));
     let readers = [to_a, to_b, to_c, to_d];
     let rt = &rt;
     let (published, read) = thread::join(
@@ -42,7 +42,7 @@ fn four_threads_read_what_one_publishes(rt: HostRuntime) {
         },
     );
     let all = Some(EDITIONS);
-    same(rt, (published, read), (Ok(()), ((all, all), (all, all))));
+    same!(rt, (published, read), (Ok(()), ((all, all), (all, all))));
 }
 
 // Item k is k, but for the one that was written.
@@ -91,7 +91,7 @@ fn four_threads_write_versions_of_one_table(rt: HostRuntime) {
     let alloc = rt.alloc();
     let tally = Tally::new();
     let mut original = Original {
-        table: ok(&rt, counted_table(alloc, &tally, 5)),
+        table: ok!(&rt, counted_table(alloc, &tally, 5)),
         tally: &tally,
     };
     let write = |value: u64| original.write_versions(alloc, value);
@@ -105,8 +105,8 @@ fn four_threads_write_versions_of_one_table(rt: HostRuntime) {
         values = values.wrapping_add(written.expect(&rt, "another item"));
     }
     let copies = tally.copies();
-    holds(&rt, has_at(&original.table, 5, 0));
-    same(&rt, tally.drops(), copies.wrapping_add(values));
+    holds!(&rt, has_at(&original.table, 5, 0));
+    same!(&rt, tally.drops(), copies.wrapping_add(values));
     let set = original.table.set(alloc, 0, Counted::new(&tally, 9));
-    same(&rt, (set, tally.copies()), (Ok(()), copies));
+    same!(&rt, (set, tally.copies()), (Ok(()), copies));
 }

@@ -1,47 +1,69 @@
-//! What tests assert, by plain calls. After a macro or a `?` a test may end early, with all that it has by then: each of
-//! them makes its proof longer. What does not hold is told with the test's line, the last one in its own crate.
+//! What tests assert. `assert!` and `?` may end a test early, with all that it has by then, and each such end makes its
+//! proof longer. These end the process inside of one call, and tell the expression.
 #![tactic(auto)]
 
-ghost use Rattle.std.specs.Prelude.{◌≡◌, Ok, IsTrue};
-
 use std::fmt::Debug;
-use std::process::Abort;
 
-pub fn holds(rt: &impl Abort, fact: bool)
-    ensures { IsTrue fact }
-{
-    assert!(rt; fact, "what should hold does not");
+/// Two values that should be the same.
+#[derive(Debug, Drop)]
+pub struct Differ<T> {
+    found: T,
+    expected: T,
 }
 
-pub fn same<T: PartialEq + Debug + Drop>(rt: &impl Abort, found: T, expected: T) {
-    assert_eq!(rt; found, expected);
+pub fn compared<T: PartialEq + Debug + Drop>(found: T, expected: T) -> Result<(), Differ<T>> {
+    if found == expected {
+        Ok(())
+    } else {
+        Err(Differ { found, expected })
+    }
+}
+
+#[macro_export]
+macro_rules! holds {
+    ($rt:expr, $fact:expr $(,)?) => {
+        ($fact).then_some(()).expect($rt, stringify!($fact))
+    };
+}
+
+/// As `holds`, in a row of a table.
+#[macro_export]
+macro_rules! holds_at {
+    ($rt:expr, $row:expr, $fact:expr $(,)?) => {
+        ($fact)
+            .then_some(())
+            .ok_or($row)
+            .expect($rt, stringify!($fact))
+    };
+}
+
+#[macro_export]
+macro_rules! same {
+    ($rt:expr, $found:expr, $expected:expr $(,)?) => {
+        $crate::compared($found, $expected).expect($rt, stringify!($found))
+    };
+}
+
+/// As `same`, in a row of a table.
+#[macro_export]
+macro_rules! same_at {
+    ($rt:expr, $row:expr, $found:expr, $expected:expr $(,)?) => {
+        $crate::compared(($row, $found), ($row, $expected)).expect($rt, stringify!($found))
+    };
 }
 
 /// What a call gave that has to succeed.
-pub fn ok<T, E: Drop>(rt: &impl Abort, given: Result<T, E>) -> T
-    ensures { given ≡ Ok result }
-{
-    given.ok().expect(rt, "refused")
+#[macro_export]
+macro_rules! ok {
+    ($rt:expr, $given:expr $(,)?) => {
+        ($given).ok().expect($rt, stringify!($given))
+    };
 }
 
 /// A copy. There has to be room for it.
-pub fn again<T: Clone + Drop>(rt: &impl Abort, value: &T) -> T {
-    ok(rt, value.clone())
-}
-
-/// The same in a row of a table, which is told where the fact does not hold.
-pub fn holds_at<R: Debug + Drop>(rt: &impl Abort, row: R, fact: bool)
-    ensures { IsTrue fact }
-{
-    assert!(rt; fact, "what should hold does not at {row:?}");
-}
-
-/// The same in a row of a table.
-pub fn same_at<R: Debug + Drop, T: PartialEq + Debug + Drop>(
-    rt: &impl Abort,
-    row: R,
-    found: T,
-    expected: T,
-) {
-    assert_eq!(rt; found, expected, "at {row:?}");
+#[macro_export]
+macro_rules! again {
+    ($rt:expr, $value:expr $(,)?) => {
+        ($value).clone().ok().expect($rt, stringify!($value))
+    };
 }

@@ -1,6 +1,6 @@
 // Borrowed handles.
 use crate::by_bound::are_equal;
-use crate::made::handle_of;
+use crate::made::arc_of;
 use facts::{again, holds, ok, same};
 use servo_arc::{Arc, ArcBorrow};
 
@@ -12,39 +12,39 @@ fn value_of<'a>(handle: &'a Arc<u32>) -> &'a u32 {
 
 #[test]
 fn a_borrow_reads_and_clones(rt: HostRuntime) {
-    let a = handle_of(&rt, 7u32);
+    let a = ok!(&rt, arc_of(rt.alloc(), 7u32));
     let b = a.borrow_arc();
-    same(&rt, (*b.get(), *b, *value_of(&a)), (7, 7, 7));
-    same(
+    same!(&rt, (*b.get(), *b, *value_of(&a)), (7, 7, 7));
+    same!(
         &rt,
         b.with_arc(|handle: &Arc<u32>| (**handle).wrapping_add(1)),
         8,
     );
-    holds(&rt, b.with_arc(|handle: &Arc<u32>| handle.is_unique()));
-    let c = ok(&rt, b.clone_arc(&rt));
-    holds(&rt, *c == 7 && Arc::ptr_eq(&a, &c) && !a.is_unique());
-    holds(&rt, ArcBorrow::ptr_eq(&b, &c.borrow_arc()));
-    let other = handle_of(&rt, 7u32);
-    holds(&rt, !ArcBorrow::ptr_eq(&b, &other.borrow_arc()));
+    holds!(&rt, b.with_arc(|handle: &Arc<u32>| handle.is_unique()));
+    let c = ok!(&rt, b.clone_arc(&rt));
+    holds!(&rt, *c == 7 && Arc::ptr_eq(&a, &c) && !a.is_unique());
+    holds!(&rt, ArcBorrow::ptr_eq(&b, &c.borrow_arc()));
+    let other = ok!(&rt, arc_of(rt.alloc(), 7u32));
+    holds!(&rt, !ArcBorrow::ptr_eq(&b, &other.borrow_arc()));
 }
 
 #[test]
 fn borrows_are_copied_and_compared_by_value(rt: HostRuntime) {
-    let a = handle_of(&rt, 7u32);
-    let equal = handle_of(&rt, 7u32);
-    let other = handle_of(&rt, 8u32);
+    let a = ok!(&rt, arc_of(rt.alloc(), 7u32));
+    let equal = ok!(&rt, arc_of(rt.alloc(), 7u32));
+    let other = ok!(&rt, arc_of(rt.alloc(), 8u32));
     let b = a.borrow_arc();
     let copied = b;
-    holds(
+    holds!(
         &rt,
-        b == copied && b == again(&rt, &b) && b == equal.borrow_arc() && b != other.borrow_arc(),
+        b == copied && b == again!(&rt, &b) && b == equal.borrow_arc() && b != other.borrow_arc(),
     );
-    holds(&rt, are_equal(&b, &equal.borrow_arc()) && a.is_unique());
+    holds!(&rt, are_equal(&b, &equal.borrow_arc()) && a.is_unique());
 }
 
 #[test]
 fn a_borrow_has_its_text(rt: HostRuntime) {
-    let a = handle_of(&rt, 7u32);
-    let text = ok(&rt, format!(in rt.alloc(); "{:?}", a.borrow_arc()));
-    same(&rt, text.as_str(), "ArcBorrow(7)");
+    let a = ok!(&rt, arc_of(rt.alloc(), 7u32));
+    let text = ok!(&rt, format!(in rt.alloc(); "{:?}", a.borrow_arc()));
+    same!(&rt, text.as_str(), "ArcBorrow(7)");
 }

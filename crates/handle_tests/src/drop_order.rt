@@ -65,15 +65,15 @@ fn drops_shared(rt: &(impl Abort + AllocGlobal), row: &Row<'_>) {
         name: HEADER,
         log: &log,
     };
-    let items = ok(rt, items_named(rt.alloc(), row.names, &log));
+    let items = ok!(rt, items_named(rt.alloc(), row.names, &log));
     match Arc::from_header_and_iter_with_size(rt.alloc(), header, items, row.num_items) {
         Ok(shared) => {
-            same(rt, (log.load(SeqCst), row.refusal), (0, None));
+            same!(rt, (log.load(SeqCst), row.refusal), (0, None));
             drop(shared);
         }
-        Err(error) => same(rt, Some(error), row.refusal),
+        Err(error) => same!(rt, Some(error), row.refusal),
     }
-    same(rt, log.load(SeqCst), row.expected);
+    same!(rt, log.load(SeqCst), row.expected);
 }
 
 fn drops_unique(rt: &(impl Abort + AllocGlobal), row: &Row<'_>) {
@@ -82,15 +82,15 @@ fn drops_unique(rt: &(impl Abort + AllocGlobal), row: &Row<'_>) {
         name: HEADER,
         log: &log,
     };
-    let items = ok(rt, items_named(rt.alloc(), row.names, &log));
+    let items = ok!(rt, items_named(rt.alloc(), row.names, &log));
     match UniqueArc::from_header_and_iter_with_size(rt.alloc(), header, items, row.num_items) {
         Ok(unique) => {
-            same(rt, (log.load(SeqCst), row.refusal), (0, None));
+            same!(rt, (log.load(SeqCst), row.refusal), (0, None));
             drop(unique);
         }
-        Err(error) => same(rt, Some(error), row.refusal),
+        Err(error) => same!(rt, Some(error), row.refusal),
     }
-    same(rt, log.load(SeqCst), row.expected);
+    same!(rt, log.load(SeqCst), row.expected);
 }
 
 #[test]
@@ -135,14 +135,14 @@ fn drops_the_header_once(rt: HostRuntime) {
         name: HEADER,
         log: &log,
     };
-    let items = ok(&rt, vec![in rt.alloc(); 5u64, 6]).into_iter();
-    let shared = ok(&rt, Arc::from_header_and_iter(rt.alloc(), header, items));
-    let other = again(&rt, &shared);
+    let items = ok!(&rt, vec![in rt.alloc(); 5u64, 6]).into_iter();
+    let shared = ok!(&rt, Arc::from_header_and_iter(rt.alloc(), header, items));
+    let other = again!(&rt, &shared);
     drop(other);
-    holds(&rt, *shared == *shared);
-    same(&rt, log.load(SeqCst), 0);
+    holds!(&rt, *shared == *shared);
+    same!(&rt, log.load(SeqCst), 0);
     drop(shared);
-    same(&rt, log.load(SeqCst), HEADER);
+    same!(&rt, log.load(SeqCst), HEADER);
 }
 
 #[test]
@@ -152,11 +152,11 @@ fn keeps_the_values_of_a_static_slice(rt: HostRuntime) {
         name: HEADER,
         log: &log,
     };
-    let items = ok(&rt, items_named(rt.alloc(), &[1, 2], &log));
-    let shared = ok(
+    let items = ok!(&rt, items_named(rt.alloc(), &[1, 2], &log));
+    let shared = ok!(
         &rt,
         Arc::from_header_and_iter_alloc(rt.alloc(), header, items, 2, true),
     );
     drop(shared);
-    same(&rt, log.load(SeqCst), 0);
+    same!(&rt, log.load(SeqCst), 0);
 }

@@ -50,12 +50,12 @@ fn run_shared<T: Copy + Debug + PartialEq + Send + Sync>(
     row: &Row<T>,
 ) {
     let asked = AtomicU64::new(0);
-    let source = ok(rt, source_of(rt.alloc(), row.answers, &asked));
+    let source = ok!(rt, source_of(rt.alloc(), row.answers, &asked));
     match Arc::from_header_and_iter_with_size(rt.alloc(), 7u8, source, row.num_items) {
-        Ok(shared) => same(rt, Ok(shared.slice()), row.expected),
-        Err(refusal) => same(rt, Err(refusal), row.expected),
+        Ok(shared) => same!(rt, Ok(shared.slice()), row.expected),
+        Err(refusal) => same!(rt, Err(refusal), row.expected),
     }
-    same(rt, asked.load(SeqCst), row.asks);
+    same!(rt, asked.load(SeqCst), row.asks);
 }
 
 fn run_unique<T: Copy + Debug + PartialEq + Send + Sync>(
@@ -63,12 +63,12 @@ fn run_unique<T: Copy + Debug + PartialEq + Send + Sync>(
     row: &Row<T>,
 ) {
     let asked = AtomicU64::new(0);
-    let source = ok(rt, source_of(rt.alloc(), row.answers, &asked));
+    let source = ok!(rt, source_of(rt.alloc(), row.answers, &asked));
     match UniqueArc::from_header_and_iter_with_size(rt.alloc(), 7u8, source, row.num_items) {
-        Ok(unique) => same(rt, Ok(unique.slice()), row.expected),
-        Err(refusal) => same(rt, Err(refusal), row.expected),
+        Ok(unique) => same!(rt, Ok(unique.slice()), row.expected),
+        Err(refusal) => same!(rt, Err(refusal), row.expected),
     }
-    same(rt, asked.load(SeqCst), row.asks);
+    same!(rt, asked.load(SeqCst), row.asks);
 }
 
 #[test]
@@ -208,13 +208,13 @@ fn asks_the_iterator_for_the_number_once(rt: HostRuntime) {
             Err(BuildError::OverReported)
         };
         match Arc::from_header_and_iter(rt.alloc(), 1u64, boaster(claimed, &asked)) {
-            Ok(shared) => same(&rt, Ok(shared.slice()), expected),
-            Err(refusal) => same(&rt, Err(refusal), expected),
+            Ok(shared) => same!(&rt, Ok(shared.slice()), expected),
+            Err(refusal) => same!(&rt, Err(refusal), expected),
         }
         match UniqueArc::from_header_and_iter(rt.alloc(), 1u64, boaster(claimed, &asked)) {
-            Ok(unique) => same(&rt, Ok(unique.slice()), expected),
-            Err(refusal) => same(&rt, Err(refusal), expected),
+            Ok(unique) => same!(&rt, Ok(unique.slice()), expected),
+            Err(refusal) => same!(&rt, Err(refusal), expected),
         }
     }
-    same(&rt, asked.load(SeqCst), 4);
+    same!(&rt, asked.load(SeqCst), 4);
 }

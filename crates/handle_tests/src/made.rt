@@ -1,13 +1,12 @@
 //! A handle that a test begins with.
-ghost use Rattle.std.specs.Prelude.{◌≡◌};
+ghost use Rattle.std.specs.Prelude.{◌≡◌, IfOk};
 
-use facts::ok;
 use servo_arc::Arc;
-use std::process::Abort;
+use std::alloc::Global;
 
-/// There has to be memory for it.
-pub fn handle_of<T: Send + Sync + Drop>(rt: &(impl Abort + AllocGlobal), value: T) -> Arc<T>
-    ensures { result ≡ value }
+/// The error is for a test to end with.
+pub fn arc_of<T: Send + Sync + Drop>(alloc: Global, value: T) -> Result<Arc<T>, &'static str>
+    ensures { IfOk result (λ a. a ≡ value) }
 {
-    ok(rt, Arc::new(rt.alloc(), value))
+    Arc::new(alloc, value).ok().ok_or("memory")
 }

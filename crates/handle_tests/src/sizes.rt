@@ -14,12 +14,12 @@ fn is_done_and_true(replies: &[Reply]) -> bool {
 fn a_run_takes_two_thousand_commands(rt: HostRuntime) {
     let mut commands = Vec::new(rt.alloc());
     for value in 0..PAIRS {
-        ok(&rt, commands.push(Command::New(0, value)));
-        ok(&rt, commands.push(Command::Same(0, 0)));
+        ok!(&rt, commands.push(Command::New(0, value)));
+        ok!(&rt, commands.push(Command::Same(0, 0)));
     }
-    let mut table = ok(&rt, Table::new(rt.alloc(), 1));
-    let replies = ok(&rt, table.run(rt.alloc(), commands));
-    holds(
+    let mut table = ok!(&rt, Table::new(rt.alloc(), 1));
+    let replies = ok!(&rt, table.run(rt.alloc(), commands));
+    holds!(
         &rt,
         is_done_and_true(&replies) && table.get(0) == Some(&999),
     );
@@ -29,12 +29,12 @@ fn a_run_takes_two_thousand_commands(rt: HostRuntime) {
 fn a_plain_run_takes_two_thousand_commands(rt: HostRuntime) {
     let mut commands = Vec::new(rt.alloc());
     for value in 0..PAIRS {
-        ok(&rt, commands.push(PlainCommand::New(0, value)));
-        ok(&rt, commands.push(PlainCommand::Same(0, 0)));
+        ok!(&rt, commands.push(PlainCommand::New(0, value)));
+        ok!(&rt, commands.push(PlainCommand::Same(0, 0)));
     }
-    let mut table = ok(&rt, Table::new(rt.alloc(), 1));
-    let replies = ok(&rt, table.run_plain(rt.alloc(), commands));
-    holds(
+    let mut table = ok!(&rt, Table::new(rt.alloc(), 1));
+    let replies = ok!(&rt, table.run_plain(rt.alloc(), commands));
+    holds!(
         &rt,
         is_done_and_true(&replies) && table.get(0) == Some(&999),
     );
@@ -44,22 +44,22 @@ fn a_plain_run_takes_two_thousand_commands(rt: HostRuntime) {
 fn a_run_on_unions_takes_two_thousand_commands(rt: HostRuntime) {
     let mut commands = Vec::new(rt.alloc());
     for value in 0..PAIRS {
-        ok(&rt, commands.push(UnionCommand::First(0, value)));
-        ok(&rt, commands.push(UnionCommand::ReadFirst(0, value)));
+        ok!(&rt, commands.push(UnionCommand::First(0, value)));
+        ok!(&rt, commands.push(UnionCommand::ReadFirst(0, value)));
     }
-    let mut table: UnionTable<u32, u32> = ok(&rt, UnionTable::new(rt.alloc(), 1));
-    let replies = ok(&rt, table.run(rt.alloc(), commands));
-    holds(&rt, is_done_and_true(&replies));
+    let mut table: UnionTable<u32, u32> = ok!(&rt, UnionTable::new(rt.alloc(), 1));
+    let replies = ok!(&rt, table.run(rt.alloc(), commands));
+    holds!(&rt, is_done_and_true(&replies));
 }
 
 #[test]
 fn a_header_slice_takes_two_thousand_items(rt: HostRuntime) {
-    let numbers: Vec<u32> = ok(&rt, (0..2000).collect(rt.alloc()));
-    let list: ThinArc<u8, u32> = ok(
+    let numbers: Vec<u32> = ok!(&rt, (0..2000).collect(rt.alloc()));
+    let list: ThinArc<u8, u32> = ok!(
         &rt,
         Arc::from_header_and_iter(rt.alloc(), 7, numbers.into_iter()),
     );
-    holds(
+    holds!(
         &rt,
         list.len() == 2000 && list.slice().last() == Some(&1999),
     );
@@ -68,25 +68,25 @@ fn a_header_slice_takes_two_thousand_items(rt: HostRuntime) {
 #[test]
 fn tables_have_two_thousand_slots(rt: HostRuntime) {
     let alloc = rt.alloc();
-    let mut table: Table<u32> = ok(&rt, Table::new(alloc, 2000));
-    same(&rt, table.serve(alloc, Command::New(1999, 7)), Reply::Done);
-    same(
+    let mut table: Table<u32> = ok!(&rt, Table::new(alloc, 2000));
+    same!(&rt, table.serve(alloc, Command::New(1999, 7)), Reply::Done);
+    same!(
         &rt,
         table.serve(alloc, Command::Clone(1999, 1000)),
         Reply::Done,
     );
-    same(&rt, (table.slots(), table.get(1000)), (2000, Some(&7)));
-    let mut unions: UnionTable<u32, u32> = ok(&rt, UnionTable::new(alloc, 2000));
-    same(
+    same!(&rt, (table.slots(), table.get(1000)), (2000, Some(&7)));
+    let mut unions: UnionTable<u32, u32> = ok!(&rt, UnionTable::new(alloc, 2000));
+    same!(
         &rt,
         unions.serve(alloc, UnionCommand::Second(1999, 7)),
         Reply::Done,
     );
-    same(
+    same!(
         &rt,
         unions.serve(alloc, UnionCommand::Clone(1999, 1000)),
         Reply::Done,
     );
     let read = unions.serve(alloc, UnionCommand::ReadSecond(1000, 7));
-    same(&rt, read, Reply::Is(true));
+    same!(&rt, read, Reply::Is(true));
 }

@@ -36,8 +36,8 @@ fn a_mark_is_of_one_slot(rt: HostRuntime) -> Result<(), Fail> {
     ]?;
     let (replies, table) = replies_of(rt.alloc(), 3, commands)?;
     let told = [Reply::Done, Reply::Done, Reply::Shared, Reply::Done];
-    holds(&rt, replies.ends_with(&told));
-    holds(
+    holds!(&rt, replies.ends_with(&told));
+    holds!(
         &rt,
         [table.get(0), table.get(1), table.get(2)] == [Some(&8), Some(&6), Some(&8)],
     );
@@ -65,8 +65,8 @@ fn a_slot_gets_a_block_of_its_own(rt: HostRuntime) -> Result<(), Fail> {
         Reply::Done,
         Reply::Is(false),
     ];
-    holds(&rt, replies.ends_with(&told));
-    holds(
+    holds!(&rt, replies.ends_with(&told));
+    holds!(
         &rt,
         [table.get(0), table.get(1), table.get(2)] == [Some(&5), Some(&5), Some(&4_294_967_295)],
     );
@@ -94,7 +94,7 @@ fn unions_of_equal_values_are_told_apart(rt: HostRuntime) -> Result<(), Fail> {
         Reply::Is(true),
         Reply::Is(false),
     ];
-    holds(&rt, replies.ends_with(&told));
+    holds!(&rt, replies.ends_with(&told));
     Ok(())
 }
 
@@ -119,6 +119,6 @@ fn a_filled_slot_takes_the_other_kind(rt: HostRuntime) -> Result<(), Fail> {
         Reply::Is(true),
         Reply::Is(false),
     ];
-    holds(&rt, replies.ends_with(&told));
+    holds!(&rt, replies.ends_with(&told));
     Ok(())
 }

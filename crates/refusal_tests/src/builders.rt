@@ -73,17 +73,17 @@ impl ExactSizeIterator for Source<'_> {
 type Built<'a> = Result<Arc<HeaderSlice<Counted<'a>, Counted<'a>>>, BuildError>;
 
 fn check_built(rt: &(impl Abort + Print), ledger: &Ledger, built: Built<'_>) {
-    same(rt, ledger.sources.drops(), 1);
+    same!(rt, ledger.sources.drops(), 1);
     let asks = ledger.asks.load(SeqCst);
     let drops = (ledger.headers.drops(), ledger.items.drops());
     match built {
         Ok(slice) => {
-            same(rt, (slice.header.value, slice.len()), (9, 2));
-            same(rt, (asks, drops), (3, (0, 0)));
+            same!(rt, (slice.header.value, slice.len()), (9, 2));
+            same!(rt, (asks, drops), (3, (0, 0)));
         }
         Err(refusal) => {
-            same(rt, refusal, BuildError::Memory);
-            same(rt, (asks, drops), (0, (1, 0)));
+            same!(rt, refusal, BuildError::Memory);
+            same!(rt, (asks, drops), (0, (1, 0)));
             tell(rt, "the places of the items or the block");
         }
     }
@@ -141,9 +141,9 @@ fn check_one_request<T: Drop + Send + Sync>(
     len: usize,
 ) {
     match built {
-        Ok(slice) => same(rt, (slice.header, slice.len()), (9, len)),
+        Ok(slice) => same!(rt, (slice.header, slice.len()), (9, len)),
         Err(refusal) => {
-            same(rt, refusal, BuildError::Memory);
+            same!(rt, refusal, BuildError::Memory);
             tell(rt, "the block alone");
         }
     }

@@ -11,9 +11,9 @@ fn open_alone_takes_memory(rt: HostRuntime) {
         return tell(&rt, "a request of open");
     };
     count.meet(&mut p, &mut q);
-    holds(&rt, count.try_clone(&mut p) == TryClone::Born);
-    holds(&rt, !count.is_unique(&mut p));
+    holds!(&rt, count.try_clone(&mut p) == TryClone::Born);
+    holds!(&rt, !count.is_unique(&mut p));
     count.mark(&mut q);
-    holds(&rt, count.is_static(&mut p));
-    holds(&rt, count.end(&mut p) == EndReply::Ended);
+    holds!(&rt, count.is_static(&mut p));
+    holds!(&rt, count.end(&mut p) == EndReply::Ended);
 }

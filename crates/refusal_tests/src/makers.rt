@@ -13,11 +13,11 @@ fn check_made(
     made: Result<Arc<Counted<'_>>, Counted<'_>>,
 ) {
     match made {
-        Ok(handle) => same(rt, (handle.value, tally.drops()), (5, 0)),
+        Ok(handle) => same!(rt, (handle.value, tally.drops()), (5, 0)),
         Err(value) => {
-            same(rt, (value.value, tally.drops()), (5, 0));
+            same!(rt, (value.value, tally.drops()), (5, 0));
             drop(value);
-            same(rt, tally.drops(), 1);
+            same!(rt, tally.drops(), 1);
             tell(rt, "the block");
         }
     }
@@ -71,9 +71,9 @@ fn a_unique_handle_hands_the_value_back(rt: HostRuntime) {
 #[test]
 fn the_default_that_was_made_comes_back(rt: HostRuntime) {
     match Arc::<u32>::try_default(rt.alloc()) {
-        Ok(handle) => same(&rt, *handle, 0),
+        Ok(handle) => same!(&rt, *handle, 0),
         Err(value) => {
-            same(&rt, value, 0);
+            same!(&rt, value, 0);
             tell(&rt, "the block");
         }
     }
@@ -85,7 +85,7 @@ fn an_unwritten_block_is_refused(rt: HostRuntime) {
     match UniqueArc::new_uninit(rt.alloc()) {
         Ok(unwritten) => {
             let unique = unwritten.write(Counted::new(&tally, 5));
-            same(&rt, (unique.value, tally.drops()), (5, 0));
+            same!(&rt, (unique.value, tally.drops()), (5, 0));
         }
         Err(AllocError) => tell(&rt, "the block"),
     }
@@ -107,13 +107,13 @@ fn a_refused_copy_leaves_the_handle(rt: HostRuntime) {
     match Arc::make_mut(&mut a, rt.alloc()) {
         Ok(list) => {
             list.clear();
-            holds(&rt, a.is_empty() && !Arc::ptr_eq(&a, &b));
+            holds!(&rt, a.is_empty() && !Arc::ptr_eq(&a, &b));
         }
         Err(AllocError) => {
-            same(&rt, a.as_slice(), [1, 2, 3].as_slice());
-            holds(&rt, Arc::ptr_eq(&a, &b) && !a.is_unique());
+            same!(&rt, a.as_slice(), [1, 2, 3].as_slice());
+            holds!(&rt, Arc::ptr_eq(&a, &b) && !a.is_unique());
             tell(&rt, "the block or the copy");
         }
     }
-    same(&rt, b.as_slice(), [1, 2, 3].as_slice());
+    same!(&rt, b.as_slice(), [1, 2, 3].as_slice());
 }

@@ -21,13 +21,13 @@ fn a_refused_change_leaves_the_tree(rt: HostRuntime) {
     };
     let changed = old.with_value(rt.alloc(), &[1], Counted::new(&tally, 9));
     let values = old.children().iter().map(|child| child.value().value);
-    holds(&rt, old.value().value == 1 && values.eq([2, 3]));
+    holds!(&rt, old.value().value == 1 && values.eq([2, 3]));
     match changed {
-        Ok(new) => same(&rt, (new.children().len(), tally.drops()), (2, 0)),
+        Ok(new) => same!(&rt, (new.children().len(), tally.drops()), (2, 0)),
         Err(error) => {
-            same(&rt, error, RoseError::Memory);
+            same!(&rt, error, RoseError::Memory);
             // The new value, and the copies that were made by then.
-            same(&rt, tally.drops(), tally.copies().wrapping_add(1));
+            same!(&rt, tally.drops(), tally.copies().wrapping_add(1));
             tell(&rt, "a list of children or a node");
         }
     }
@@ -43,13 +43,13 @@ fn a_refused_cascade_leaves_both_styles(rt: HostRuntime) {
     let (Ok(old), Ok(inline)) = (Style::initial(rt.alloc()), inline) else {
         return tell(&rt, "the set-up");
     };
-    let mut new: Style = again(&rt, &old);
+    let mut new: Style = again!(&rt, &old);
     let taken = new.cascade(rt.alloc(), ArcUnion::from_second(inline));
-    same(&rt, (old.font.size, old.border.width), (16, 0));
+    same!(&rt, (old.font.size, old.border.width), (16, 0));
     match taken {
-        Ok(()) => same(&rt, (new.font.size, new.border.width), (40, 2)),
+        Ok(()) => same!(&rt, (new.font.size, new.border.width), (40, 2)),
         Err(AllocError) => {
-            holds(&rt, new == old);
+            holds!(&rt, new == old);
             tell(&rt, "a copy of a group");
         }
     }

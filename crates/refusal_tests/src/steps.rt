@@ -12,9 +12,9 @@ const LOAD: Step<u32> = Step::Load {
 #[test]
 fn a_core_hands_the_value_back(rt: HostRuntime) {
     match Core::new(rt.alloc(), 5u32, 2, MAX_REFCOUNT) {
-        Ok(mut core) => same(&rt, core.step(LOAD), Answer::Value(5)),
+        Ok(mut core) => same!(&rt, core.step(LOAD), Answer::Value(5)),
         Err(value) => {
-            same(&rt, value, 5);
+            same!(&rt, value, 5);
             tell(&rt, "the entries");
         }
     }
@@ -99,9 +99,9 @@ fn at_most_one_step_of_a_run_is_refused(rt: HostRuntime) {
     };
     let Ok(answers) = core.run(&STEPS) else {
         // Nothing has happened, so all of it still can.
-        same(
+        same!(
             &rt,
-            ok(&rt, core.run(&STEPS)).as_slice(),
+            ok!(&rt, core.run(&STEPS)).as_slice(),
             WITH_MEMORY.as_slice(),
         );
         return tell(&rt, "the room of the answers");
@@ -112,5 +112,5 @@ fn at_most_one_step_of_a_run_is_refused(rt: HostRuntime) {
     if answers.as_slice() == RAISED_AGAIN.as_slice() {
         return tell(&rt, "the entry of a raise");
     }
-    same(&rt, answers.as_slice(), WITH_MEMORY.as_slice());
+    same!(&rt, answers.as_slice(), WITH_MEMORY.as_slice());
 }

@@ -7,7 +7,7 @@ use std::alloc::{AllocError, Global};
 #[test]
 fn a_table_is_refused(rt: HostRuntime) {
     match Table::<u32>::new(rt.alloc(), 3) {
-        Ok(table) => same(&rt, table.slots(), 3),
+        Ok(table) => same!(&rt, table.slots(), 3),
         Err(AllocError) => tell(&rt, "the slots"),
     }
 }
@@ -53,7 +53,7 @@ fn at_most_one_command_of_a_run_is_refused(rt: HostRuntime) {
         return tell(&rt, "the commands");
     };
     let Ok(replies) = table.run(rt.alloc(), commands) else {
-        same(&rt, slots_of(&table), SHARED);
+        same!(&rt, slots_of(&table), SHARED);
         return tell(&rt, "the room of the replies");
     };
     let expected = match replies.as_slice() {
@@ -63,7 +63,7 @@ fn at_most_one_command_of_a_run_is_refused(rt: HostRuntime) {
         [Reply::Done, Reply::Done, Reply::Refused] => [Some(9), Some(5), Some(5), None],
         _ => panic!(rt; "other replies"),
     };
-    same(&rt, slots_of(&table), expected);
+    same!(&rt, slots_of(&table), expected);
     if replies.contains(&Reply::Refused) {
         tell(&rt, "a block of a command");
     }
@@ -83,7 +83,7 @@ fn at_most_one_command_of_a_plain_run_is_refused(rt: HostRuntime) {
         return tell(&rt, "the commands");
     };
     let Ok(replies) = table.run_plain(rt.alloc(), commands) else {
-        same(&rt, slots_of(&table), SHARED);
+        same!(&rt, slots_of(&table), SHARED);
         return tell(&rt, "the room of the replies");
     };
     let expected = match replies.as_slice() {
@@ -93,7 +93,7 @@ fn at_most_one_command_of_a_plain_run_is_refused(rt: HostRuntime) {
         [Reply::Refused, Reply::Empty, Reply::Empty, Reply::Is(true)] => SHARED,
         _ => panic!(rt; "other replies"),
     };
-    same(&rt, slots_of(&table), expected);
+    same!(&rt, slots_of(&table), expected);
     if replies.contains(&Reply::Refused) {
         tell(&rt, "the block of a new handle");
     }

@@ -4,5 +4,5 @@ use std::io::Print;
 use std::process::Abort;
 
 pub fn tell(rt: &(impl Abort + Print), request: &str) {
-    ok(rt, println!(rt; "refused: {request}"));
+    ok!(rt, println!(rt; "refused: {request}"));
 }

@@ -12,11 +12,11 @@ fn a_refused_push_leaves_the_list(rt: HostRuntime) {
         return tell(&rt, "the set-up");
     };
     let pushed = old.push(rt.alloc(), Counted::new(&tally, 2));
-    holds(&rt, old.iter().map(|item| item.value).eq([1]));
+    holds!(&rt, old.iter().map(|item| item.value).eq([1]));
     match pushed {
-        Ok(new) => same(&rt, (new.len(), tally.drops()), (2, 0)),
+        Ok(new) => same!(&rt, (new.len(), tally.drops()), (2, 0)),
         Err(AllocError) => {
-            same(&rt, tally.drops(), 1);
+            same!(&rt, tally.drops(), 1);
             tell(&rt, "a node");
         }
     }
@@ -51,13 +51,13 @@ fn a_refused_insert_leaves_both_versions(rt: HostRuntime) {
     let Ok(old) = halves(rt.alloc(), &tally) else {
         return tell(&rt, "the set-up");
     };
-    let copy = again(&rt, &old);
+    let copy = again!(&rt, &old);
     let changed = old.insert(rt.alloc(), 3, Counted::new(&tally, 9));
-    holds(&rt, has_halves(&old) && TreeMap::ptr_eq(&old, &copy));
+    holds!(&rt, has_halves(&old) && TreeMap::ptr_eq(&old, &copy));
     match changed {
-        Ok(new) => same(&rt, new.get(3).map(|value| value.value), Some(9)),
+        Ok(new) => same!(&rt, new.get(3).map(|value| value.value), Some(9)),
         Err(AllocError) => {
-            holds(&rt, kept_none(&tally, 5));
+            holds!(&rt, kept_none(&tally, 5));
             tell(&rt, "a node of the path or of the key");
         }
     }
@@ -70,13 +70,13 @@ fn a_refused_remove_leaves_both_versions(rt: HostRuntime) {
         return tell(&rt, "the set-up");
     };
     for key in [0, 2, 4, 6] {
-        let copy = again(&rt, &old);
+        let copy = again!(&rt, &old);
         let changed = old.remove(rt.alloc(), key);
-        holds(&rt, has_halves(&old) && TreeMap::ptr_eq(&old, &copy));
+        holds!(&rt, has_halves(&old) && TreeMap::ptr_eq(&old, &copy));
         match changed {
-            Ok(new) => same(&rt, (new.contains(key), new.len()), (false, 3)),
+            Ok(new) => same!(&rt, (new.contains(key), new.len()), (false, 3)),
             Err(AllocError) => tell(&rt, "a node of the path"),
         }
-        holds(&rt, kept_none(&tally, 4));
+        holds!(&rt, kept_none(&tally, 4));
     }
 }

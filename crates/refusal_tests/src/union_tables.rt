@@ -10,7 +10,7 @@ type Numbers = UnionTable<u32, u32>;
 #[test]
 fn a_table_of_unions_is_refused(rt: HostRuntime) {
     match Numbers::new(rt.alloc(), 3) {
-        Ok(table) => same(&rt, table.slots(), 3),
+        Ok(table) => same!(&rt, table.slots(), 3),
         Err(AllocError) => tell(&rt, "the slots"),
     }
 }
@@ -44,7 +44,7 @@ fn at_most_one_command_on_unions_is_refused(rt: HostRuntime) {
         return tell(&rt, "the commands");
     };
     let Ok(replies) = table.run(rt.alloc(), commands) else {
-        same(&rt, slots_of(&table), EMPTY);
+        same!(&rt, slots_of(&table), EMPTY);
         return tell(&rt, "the room of the replies");
     };
     let (first, second) = (Some((true, 7)), Some((false, 9)));
@@ -54,7 +54,7 @@ fn at_most_one_command_on_unions_is_refused(rt: HostRuntime) {
         [Reply::Done, Reply::Refused, Reply::Empty] => [first, None, None],
         _ => panic!(rt; "other replies"),
     };
-    same(&rt, slots_of(&table), expected);
+    same!(&rt, slots_of(&table), expected);
     if replies.contains(&Reply::Refused) {
         tell(&rt, "a block of a command");
     }

@@ -13,9 +13,9 @@ fn items_that_get_no_pages_are_dropped(rt: HostRuntime) {
         return tell(&rt, "the set-up");
     };
     match CowTable::from_items(rt.alloc(), items, 2) {
-        Ok(table) => same(&rt, (table.len(), tally.drops()), (5, 0)),
+        Ok(table) => same!(&rt, (table.len(), tally.drops()), (5, 0)),
         Err(AllocError) => {
-            same(&rt, tally.drops(), 5);
+            same!(&rt, tally.drops(), 5);
             tell(&rt, "a page, the list of pages or a block");
         }
     }
@@ -36,17 +36,17 @@ fn a_refused_set_leaves_both_versions(rt: HostRuntime) {
     };
     let set = b.set(rt.alloc(), 2, 9);
     let shared = [0, 1, 2].map(|p| CowTable::page_ptr_eq(&a, &b, p));
-    holds(&rt, a.iter().eq(&[1, 2, 3, 4, 5]));
+    holds!(&rt, a.iter().eq(&[1, 2, 3, 4, 5]));
     match set {
         Ok(()) => {
-            holds(
+            holds!(
                 &rt,
                 b.iter().eq(&[1, 2, 9, 4, 5]) && shared == [true, false, true],
             );
         }
         Err(error) => {
-            same(&rt, error, SetError::Memory);
-            holds(&rt, b.iter().eq(&[1, 2, 3, 4, 5]) && shared == [true; 3]);
+            same!(&rt, error, SetError::Memory);
+            holds!(&rt, b.iter().eq(&[1, 2, 3, 4, 5]) && shared == [true; 3]);
             tell(&rt, "the list of pages, the page or a block");
         }
     }
@@ -78,15 +78,15 @@ fn a_refused_copy_leaves_both_versions(rt: HostRuntime) {
     let Some((a, mut b)) = originals(rt.alloc()) else {
         return tell(&rt, "the set-up");
     };
-    same(
+    same!(
         &rt,
         b.set(rt.alloc(), 1, Original(9)),
         Err(SetError::Memory),
     );
-    holds(&rt, a == b && CowTable::page_ptr_eq(&a, &b, 0));
+    holds!(&rt, a == b && CowTable::page_ptr_eq(&a, &b, 0));
     drop(a);
-    same(&rt, b.set(rt.alloc(), 1, Original(9)), Ok(()));
-    holds(&rt, b.iter().eq(&[Original(1), Original(9)]));
+    same!(&rt, b.set(rt.alloc(), 1, Original(9)), Ok(()));
+    holds!(&rt, b.iter().eq(&[Original(1), Original(9)]));
 }
 
 // Neither a version nor a write to a lone one requests memory.
@@ -97,8 +97,8 @@ fn a_lone_set_is_never_refused(rt: HostRuntime) {
     };
     drop(b);
     for i in 0..5 {
-        same(&rt, a.set(rt.alloc(), i, 0), Ok(()));
+        same!(&rt, a.set(rt.alloc(), i, 0), Ok(()));
     }
     let again: Result<CowTable<u32>, AllocError> = a.clone();
-    holds(&rt, again.is_ok());
+    holds!(&rt, again.is_ok());
 }

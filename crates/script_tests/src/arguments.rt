@@ -36,23 +36,23 @@ fn judges_arguments_before_input(rt: HostRuntime) {
         let mut input = FailingReader::new(b"unique 0 0\n", 0);
         let (mut output, mut errors) = (Vec::new(alloc), Vec::new(alloc));
         let status = bench(alloc, *words, &mut input, &mut output, &mut errors);
-        same_at(&rt, words, status, 1);
-        holds_at(&rt, words, output.is_empty());
-        same_at(
+        same_at!(&rt, words, status, 1);
+        holds_at!(&rt, words, output.is_empty());
+        same_at!(
             &rt,
             words,
             errors.as_slice(),
             b"fault: arguments\n".as_slice(),
         );
     }
-    same(
+    same!(
         &rt,
         run_bench(alloc, &["core", "1000"], b"load 999 0\n")
             .output
             .as_slice(),
         b"barred\n".as_slice(),
     );
-    same(
+    same!(
         &rt,
         run_bench(alloc, &["table", "1000"], b"get 999\nget 1000\n")
             .output

@@ -170,9 +170,9 @@ fn check_bytes(rt: &impl Abort, alloc: Global, kind: &str, rows: &[Bytes]) {
         status,
     } in rows {
         let ran = run_bench(alloc, &[kind, "1"], script);
-        same_at(rt, script, ran.output.as_slice(), *output);
-        same_at(rt, script, ran.status, *status);
-        holds_at(rt, script, ran.errors.is_empty());
+        same_at!(rt, script, ran.output.as_slice(), *output);
+        same_at!(rt, script, ran.status, *status);
+        holds_at!(rt, script, ran.errors.is_empty());
     }
 }
 

@@ -24,6 +24,6 @@ fn a_run_takes_two_thousand_steps(rt: HostRuntime) -> Result<(), Fail> {
     let answers = core.run(&steps)?;
     let pair = [Answer::Done, Answer::Value(5)];
     let right = answers.chunks(2).all(|answers| answers == pair.as_slice());
-    holds(&rt, answers.len() == 2000 && right);
+    holds!(&rt, answers.len() == 2000 && right);
     Ok(())
 }

@@ -46,9 +46,9 @@ fn tells_of_input_that_cannot_be_read(rt: HostRuntime) {
             } else {
                 (*answers, b"".as_slice(), 0)
             };
-            same_at(&rt, (kind, reads_before), status, wanted);
-            same_at(&rt, (kind, reads_before), output.as_slice(), printed);
-            same_at(&rt, (kind, reads_before), errors.as_slice(), told);
+            same_at!(&rt, (kind, reads_before), status, wanted);
+            same_at!(&rt, (kind, reads_before), output.as_slice(), printed);
+            same_at!(&rt, (kind, reads_before), errors.as_slice(), told);
         }
     }
 }
@@ -64,9 +64,9 @@ fn ends_at_a_failed_write(rt: HostRuntime) {
         ] {
             let (mut output, mut errors) = (FailingWriter::new(alloc, 0), Vec::new(alloc));
             let status = bench(alloc, &[kind, "1"], &mut &*script, &mut output, &mut errors);
-            same_at(&rt, (kind, script), status, 4);
-            holds_at(&rt, (kind, script), output.held.is_empty());
-            holds_at(&rt, (kind, script), errors.is_empty());
+            same_at!(&rt, (kind, script), status, 4);
+            holds_at!(&rt, (kind, script), output.held.is_empty());
+            holds_at!(&rt, (kind, script), errors.is_empty());
         }
     }
 }
@@ -119,30 +119,30 @@ fn writes_nothing_after_a_failed_part(rt: HostRuntime) -> Result<(), Fail> {
                 &mut output,
                 &mut errors,
             );
-            holds_at(
+            holds_at!(
                 &rt,
                 (kind, writes_before),
                 answers.starts_with(&output.held),
             );
-            same_at(
+            same_at!(
                 &rt,
                 (kind, writes_before),
                 output.held == answers,
                 3 <= writes_before,
             );
-            same_at(
+            same_at!(
                 &rt,
                 (kind, writes_before),
                 output.has_failed,
                 writes_before <= 3,
             );
-            same_at(
+            same_at!(
                 &rt,
                 (kind, writes_before),
                 status,
                 if output.has_failed { 4 } else { 0 },
             );
-            holds_at(&rt, (kind, writes_before), errors.is_empty());
+            holds_at!(&rt, (kind, writes_before), errors.is_empty());
         }
     }
     Ok(())
@@ -153,11 +153,11 @@ fn keeps_the_status_where_errors_cannot_be_written(rt: HostRuntime) {
     let alloc = rt.alloc();
     let (mut output, mut errors) = (Vec::new(alloc), FailingWriter::new(alloc, 0));
     let status = bench(alloc, &["core"], &mut io::empty(), &mut output, &mut errors);
-    same(&rt, status, 1);
-    holds(&rt, errors.has_failed);
+    same!(&rt, status, 1);
+    holds!(&rt, errors.has_failed);
     let (mut input, mut errors) = (FailingReader::new(b"", 0), FailingWriter::new(alloc, 0));
     let status = bench(alloc, &["table", "1"], &mut input, &mut output, &mut errors);
-    same(&rt, status, 3);
-    holds(&rt, errors.has_failed);
-    holds(&rt, output.is_empty());
+    same!(&rt, status, 3);
+    holds!(&rt, errors.has_failed);
+    holds!(&rt, output.is_empty());
 }

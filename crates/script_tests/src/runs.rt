@@ -56,14 +56,14 @@ impl Row {
             words.push(word)?;
         }
         let ran = run_bench(alloc, &words, script.as_bytes());
-        same_at(
+        same_at!(
             rt,
             name,
             str::from_utf8(&ran.output).unwrap_or("no text"),
             answers.as_str(),
         );
-        same_at(rt, name, ran.status, 0);
-        holds_at(rt, name, ran.errors.is_empty());
+        same_at!(rt, name, ran.status, 0);
+        holds_at!(rt, name, ran.errors.is_empty());
         Ok(())
     }
 }

@@ -102,8 +102,8 @@ fn starts_on_its_arguments(rt: HostRuntime) {
         let (mut output, mut errors) = (Vec::new(alloc), Vec::new(alloc));
         let arguments = Arguments(row.words);
         let status = start(&arguments, alloc, &mut script, &mut output, &mut errors);
-        same_at(&rt, row.words, status, row.status);
-        same_at(&rt, row.words, output.as_slice(), row.output);
-        same_at(&rt, row.words, errors.as_slice(), row.errors);
+        same_at!(&rt, row.words, status, row.status);
+        same_at!(&rt, row.words, output.as_slice(), row.output);
+        same_at!(&rt, row.words, errors.as_slice(), row.errors);
     }
 }

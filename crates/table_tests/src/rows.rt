@@ -6,8 +6,8 @@ use std::alloc::AllocError;
 
 #[test]
 fn a_shared_value_is_copied_before_it_is_written(rt: HostRuntime) {
-    let mut table: Table<u32> = ok(&rt, Table::new(rt.alloc(), 3));
-    let commands = ok(
+    let mut table: Table<u32> = ok!(&rt, Table::new(rt.alloc(), 3));
+    let commands = ok!(
         &rt,
         vec![in rt.alloc();
             Command::New(0, 5),
@@ -20,7 +20,7 @@ fn a_shared_value_is_copied_before_it_is_written(rt: HostRuntime) {
             Command::New(3, 1),
         ],
     );
-    let replies = ok(&rt, table.run(rt.alloc(), commands));
+    let replies = ok!(&rt, table.run(rt.alloc(), commands));
     let expected = [
         Reply::Done,
         Reply::Done,
@@ -31,16 +31,16 @@ fn a_shared_value_is_copied_before_it_is_written(rt: HostRuntime) {
         Reply::Empty,
         Reply::NoSlot,
     ];
-    same(&rt, replies.as_slice(), expected.as_slice());
-    same(&rt, table.get(0).copied(), Some(9));
-    same(&rt, table.get(1).copied(), Some(5));
-    same(&rt, table.get(2).copied(), None);
+    same!(&rt, replies.as_slice(), expected.as_slice());
+    same!(&rt, table.get(0).copied(), Some(9));
+    same!(&rt, table.get(1).copied(), Some(5));
+    same!(&rt, table.get(2).copied(), None);
 }
 
 #[test]
 fn a_marked_block_is_left_for_one_of_its_own(rt: HostRuntime) {
-    let mut table: Table<u32> = ok(&rt, Table::new(rt.alloc(), 2));
-    let commands = ok(
+    let mut table: Table<u32> = ok!(&rt, Table::new(rt.alloc(), 2));
+    let commands = ok!(
         &rt,
         vec![in rt.alloc();
             Command::New(0, 4),
@@ -52,15 +52,15 @@ fn a_marked_block_is_left_for_one_of_its_own(rt: HostRuntime) {
             Command::Raw(0),
         ],
     );
-    let replies = ok(&rt, table.run(rt.alloc(), commands));
-    same(&rt, replies.as_slice(), [Reply::Done; 7].as_slice());
-    same(&rt, table.get(0).copied(), Some(7));
+    let replies = ok!(&rt, table.run(rt.alloc(), commands));
+    same!(&rt, replies.as_slice(), [Reply::Done; 7].as_slice());
+    same!(&rt, table.get(0).copied(), Some(7));
 }
 
 #[test]
 fn a_plain_run_shares_and_reads(rt: HostRuntime) {
-    let mut table: Table<u32> = ok(&rt, Table::new(rt.alloc(), 3));
-    let commands = ok(
+    let mut table: Table<u32> = ok!(&rt, Table::new(rt.alloc(), 3));
+    let commands = ok!(
         &rt,
         vec![in rt.alloc();
             PlainCommand::New(0, 5),
@@ -72,7 +72,7 @@ fn a_plain_run_shares_and_reads(rt: HostRuntime) {
             PlainCommand::New(3, 1),
         ],
     );
-    let replies = ok(&rt, table.run_plain(rt.alloc(), commands));
+    let replies = ok!(&rt, table.run_plain(rt.alloc(), commands));
     let expected = [
         Reply::Done,
         Reply::Done,
@@ -82,16 +82,16 @@ fn a_plain_run_shares_and_reads(rt: HostRuntime) {
         Reply::Empty,
         Reply::NoSlot,
     ];
-    same(&rt, replies.as_slice(), expected.as_slice());
-    same(&rt, table.get(0).copied(), Some(5));
-    same(&rt, table.get(1).copied(), Some(5));
-    same(&rt, table.get(2).copied(), None);
+    same!(&rt, replies.as_slice(), expected.as_slice());
+    same!(&rt, table.get(0).copied(), Some(5));
+    same!(&rt, table.get(1).copied(), Some(5));
+    same!(&rt, table.get(2).copied(), None);
 }
 
 #[test]
 fn a_plain_run_passes_handles_through_tokens(rt: HostRuntime) {
-    let mut table: Table<u32> = ok(&rt, Table::new(rt.alloc(), 2));
-    let commands = ok(
+    let mut table: Table<u32> = ok!(&rt, Table::new(rt.alloc(), 2));
+    let commands = ok!(
         &rt,
         vec![in rt.alloc();
             PlainCommand::New(0, 4),
@@ -105,7 +105,7 @@ fn a_plain_run_passes_handles_through_tokens(rt: HostRuntime) {
             PlainCommand::GetMut(0, 8),
         ],
     );
-    let replies = ok(&rt, table.run_plain(rt.alloc(), commands));
+    let replies = ok!(&rt, table.run_plain(rt.alloc(), commands));
     let expected = [
         Reply::Done,
         Reply::Done,
@@ -117,26 +117,26 @@ fn a_plain_run_passes_handles_through_tokens(rt: HostRuntime) {
         Reply::Done,
         Reply::Shared,
     ];
-    same(&rt, replies.as_slice(), expected.as_slice());
-    same(&rt, table.get(0).copied(), Some(7));
+    same!(&rt, replies.as_slice(), expected.as_slice());
+    same!(&rt, table.get(0).copied(), Some(7));
 }
 
 #[test]
 fn texts_are_compared_by_content(rt: HostRuntime) {
-    let mut table: Table<String> = ok(&rt, Table::new(rt.alloc(), 3));
-    let commands = ok(
+    let mut table: Table<String> = ok!(&rt, Table::new(rt.alloc(), 3));
+    let commands = ok!(
         &rt,
         vec![in rt.alloc();
-            Command::New(0, ok(&rt, String::from_str(rt.alloc(), "left"))),
-            Command::New(1, ok(&rt, String::from_str(rt.alloc(), "left"))),
+            Command::New(0, ok!(&rt, String::from_str(rt.alloc(), "left"))),
+            Command::New(1, ok!(&rt, String::from_str(rt.alloc(), "left"))),
             Command::Same(0, 1),
             Command::PtrEq(0, 1),
             Command::Clone(0, 2),
-            Command::MakeMut(0, ok(&rt, String::from_str(rt.alloc(), "right"))),
+            Command::MakeMut(0, ok!(&rt, String::from_str(rt.alloc(), "right"))),
             Command::Same(0, 2),
         ],
     );
-    let replies = ok(&rt, table.run(rt.alloc(), commands));
+    let replies = ok!(&rt, table.run(rt.alloc(), commands));
     let expected = [
         Reply::Done,
         Reply::Done,
@@ -146,9 +146,9 @@ fn texts_are_compared_by_content(rt: HostRuntime) {
         Reply::Done,
         Reply::Is(false),
     ];
-    same(&rt, replies.as_slice(), expected.as_slice());
-    same(&rt, table.get(0).map(|text| text.as_str()), Some("right"));
-    same(&rt, table.get(2).map(|text| text.as_str()), Some("left"));
+    same!(&rt, replies.as_slice(), expected.as_slice());
+    same!(&rt, table.get(0).map(|text| text.as_str()), Some("right"));
+    same!(&rt, table.get(2).map(|text| text.as_str()), Some("left"));
 }
 
 /// A value without `Clone`.
@@ -159,8 +159,8 @@ struct Ticket {
 
 #[test]
 fn plain_runs_need_no_clone_of_values(rt: HostRuntime) {
-    let mut table: Table<Ticket> = ok(&rt, Table::new(rt.alloc(), 2));
-    let commands = ok(
+    let mut table: Table<Ticket> = ok!(&rt, Table::new(rt.alloc(), 2));
+    let commands = ok!(
         &rt,
         vec![in rt.alloc();
             PlainCommand::New(0, Ticket { number: 1 }),
@@ -169,72 +169,72 @@ fn plain_runs_need_no_clone_of_values(rt: HostRuntime) {
             PlainCommand::GetMut(1, Ticket { number: 2 }),
         ],
     );
-    let replies = ok(&rt, table.run_plain(rt.alloc(), commands));
-    same(&rt, replies.as_slice(), [Reply::Done; 4].as_slice());
-    same(&rt, table.get(0).map(|ticket| ticket.number), None);
-    same(&rt, table.get(1).map(|ticket| ticket.number), Some(2));
+    let replies = ok!(&rt, table.run_plain(rt.alloc(), commands));
+    same!(&rt, replies.as_slice(), [Reply::Done; 4].as_slice());
+    same!(&rt, table.get(0).map(|ticket| ticket.number), None);
+    same!(&rt, table.get(1).map(|ticket| ticket.number), Some(2));
 }
 
 #[test]
 fn commands_are_served_one_at_a_time(rt: HostRuntime) {
     let alloc = rt.alloc();
-    let mut table: Table<u32> = ok(&rt, Table::new(alloc, 2));
-    same(&rt, table.serve(alloc, Command::Clone(0, 1)), Reply::Empty);
-    same(&rt, table.serve(alloc, Command::Clone(0, 2)), Reply::NoSlot);
-    same(&rt, table.serve(alloc, Command::Same(0, 0)), Reply::Empty);
-    same(&rt, table.serve(alloc, Command::New(0, 5)), Reply::Done);
-    same(&rt, table.serve(alloc, Command::Clone(0, 1)), Reply::Done);
-    same(
+    let mut table: Table<u32> = ok!(&rt, Table::new(alloc, 2));
+    same!(&rt, table.serve(alloc, Command::Clone(0, 1)), Reply::Empty);
+    same!(&rt, table.serve(alloc, Command::Clone(0, 2)), Reply::NoSlot);
+    same!(&rt, table.serve(alloc, Command::Same(0, 0)), Reply::Empty);
+    same!(&rt, table.serve(alloc, Command::New(0, 5)), Reply::Done);
+    same!(&rt, table.serve(alloc, Command::Clone(0, 1)), Reply::Done);
+    same!(
         &rt,
         table.serve(alloc, Command::PtrEq(0, 1)),
         Reply::Is(true),
     );
-    same(&rt, table.serve(alloc, Command::Own(0)), Reply::Done);
-    same(
+    same!(&rt, table.serve(alloc, Command::Own(0)), Reply::Done);
+    same!(
         &rt,
         table.serve(alloc, Command::PtrEq(0, 1)),
         Reply::Is(false),
     );
-    same(
+    same!(
         &rt,
         table.serve(alloc, Command::Same(0, 1)),
         Reply::Is(true),
     );
-    same(&rt, table.serve(alloc, Command::New(0, 8)), Reply::Done);
-    same(&rt, table.get(1).copied(), Some(5));
-    same(&rt, table.serve(alloc, Command::MakeMut(1, 3)), Reply::Done);
-    same(&rt, table.get(0).copied(), Some(8));
-    same(&rt, table.get(1).copied(), Some(3));
-    same(&rt, table.get(2).copied(), None);
-    same(&rt, table.slots(), 2);
+    same!(&rt, table.serve(alloc, Command::New(0, 8)), Reply::Done);
+    same!(&rt, table.get(1).copied(), Some(5));
+    same!(&rt, table.serve(alloc, Command::MakeMut(1, 3)), Reply::Done);
+    same!(&rt, table.get(0).copied(), Some(8));
+    same!(&rt, table.get(1).copied(), Some(3));
+    same!(&rt, table.get(2).copied(), None);
+    same!(&rt, table.slots(), 2);
 }
 
 #[test]
 fn a_marked_block_is_never_written(rt: HostRuntime) {
     let alloc = rt.alloc();
-    let mut table: Table<u32> = ok(&rt, Table::new(alloc, 1));
-    same(&rt, table.serve(alloc, Command::New(0, 4)), Reply::Done);
-    same(&rt, table.serve(alloc, Command::Clone(0, 0)), Reply::Done);
-    same(&rt, table.serve(alloc, Command::GetMut(0, 5)), Reply::Done);
-    same(&rt, table.serve(alloc, Command::Mark(0)), Reply::Done);
-    same(
+    let mut table: Table<u32> = ok!(&rt, Table::new(alloc, 1));
+    same!(&rt, table.serve(alloc, Command::New(0, 4)), Reply::Done);
+    same!(&rt, table.serve(alloc, Command::Clone(0, 0)), Reply::Done);
+    same!(&rt, table.serve(alloc, Command::GetMut(0, 5)), Reply::Done);
+    same!(&rt, table.serve(alloc, Command::Mark(0)), Reply::Done);
+    same!(
         &rt,
         table.serve(alloc, Command::GetMut(0, 6)),
         Reply::Shared,
     );
-    same(&rt, table.get(0).copied(), Some(5));
-    same(&rt, table.serve(alloc, Command::MakeMut(0, 7)), Reply::Done);
-    same(&rt, table.serve(alloc, Command::GetMut(0, 8)), Reply::Done);
-    same(&rt, table.get(0).copied(), Some(8));
+    same!(&rt, table.get(0).copied(), Some(5));
+    same!(&rt, table.serve(alloc, Command::MakeMut(0, 7)), Reply::Done);
+    same!(&rt, table.serve(alloc, Command::GetMut(0, 8)), Reply::Done);
+    same!(&rt, table.get(0).copied(), Some(8));
 }
 
 #[test]
 fn a_table_without_slots_has_none(rt: HostRuntime) {
     let alloc = rt.alloc();
-    let mut table: Table<u32> = ok(&rt, Table::new(alloc, 0));
-    same(&rt, table.serve(alloc, Command::New(0, 1)), Reply::NoSlot);
-    same(&rt, table.get(0).copied(), None);
-    same(&rt, table.slots(), 0);
+    let mut table: Table<u32> = ok!(&rt, Table::new(alloc, 0));
+    same!(&rt, table.serve(alloc, Command::New(0, 1)), Reply::NoSlot);
+    same!(&rt, table.get(0).copied(), None);
+    same!(&rt, table.slots(), 0);
 }
 
 /// A value whose copy is always refused.
@@ -251,8 +251,8 @@ impl Clone for Original {
 
 #[test]
 fn a_refused_copy_changes_nothing(rt: HostRuntime) {
-    let mut table: Table<Original> = ok(&rt, Table::new(rt.alloc(), 2));
-    let commands = ok(
+    let mut table: Table<Original> = ok!(&rt, Table::new(rt.alloc(), 2));
+    let commands = ok!(
         &rt,
         vec![in rt.alloc();
             Command::New(0, Original { number: 1 }),
@@ -261,15 +261,15 @@ fn a_refused_copy_changes_nothing(rt: HostRuntime) {
             Command::PtrEq(0, 1),
         ],
     );
-    let replies = ok(&rt, table.run(rt.alloc(), commands));
+    let replies = ok!(&rt, table.run(rt.alloc(), commands));
     let expected = [Reply::Done, Reply::Done, Reply::Refused, Reply::Is(true)];
-    same(&rt, replies.as_slice(), expected.as_slice());
-    same(&rt, table.get(0).map(|original| original.number), Some(1));
+    same!(&rt, replies.as_slice(), expected.as_slice());
+    same!(&rt, table.get(0).map(|original| original.number), Some(1));
 }
 
 #[test]
 fn a_table_that_no_memory_holds_is_refused(rt: HostRuntime) {
-    holds(&rt, Table::<u32>::new(rt.alloc(), usize::MAX).is_err());
+    holds!(&rt, Table::<u32>::new(rt.alloc(), usize::MAX).is_err());
 }
 
 #[test]

@@ -11,8 +11,8 @@ type Numbers = UnionTable<u32, u32>;
 
 #[test]
 fn a_shared_first_gives_way_to_a_second(rt: HostRuntime) {
-    let mut table = ok(&rt, Numbers::new(rt.alloc(), 2));
-    let commands = ok(
+    let mut table = ok!(&rt, Numbers::new(rt.alloc(), 2));
+    let commands = ok!(
         &rt,
         vec![in rt.alloc();
             UnionCommand::First(0, 7),
@@ -29,7 +29,7 @@ fn a_shared_first_gives_way_to_a_second(rt: HostRuntime) {
             UnionCommand::IsFirst(2),
         ],
     );
-    let replies = ok(&rt, table.run(rt.alloc(), commands));
+    let replies = ok!(&rt, table.run(rt.alloc(), commands));
     let expected = [
         Reply::Done,
         Reply::Done,
@@ -44,7 +44,7 @@ fn a_shared_first_gives_way_to_a_second(rt: HostRuntime) {
         Reply::Empty,
         Reply::NoSlot,
     ];
-    same(&rt, replies.as_slice(), expected.as_slice());
+    same!(&rt, replies.as_slice(), expected.as_slice());
 }
 
 /// The kind of a slot's handle, whether it is a first, and its value.
@@ -57,60 +57,60 @@ fn read(table: &Numbers, i: usize) -> Option<(bool, u32)> {
 
 #[test]
 fn unions_of_both_kinds_are_put(rt: HostRuntime) {
-    let mut table = ok(&rt, Numbers::new(rt.alloc(), 2));
-    let first = ArcUnion::from_first(ok(&rt, Arc::new(rt.alloc(), 4)));
-    let second = ArcUnion::from_second(ok(&rt, Arc::new(rt.alloc(), 5)));
-    holds(
+    let mut table = ok!(&rt, Numbers::new(rt.alloc(), 2));
+    let first = ArcUnion::from_first(ok!(&rt, Arc::new(rt.alloc(), 4)));
+    let second = ArcUnion::from_second(ok!(&rt, Arc::new(rt.alloc(), 5)));
+    holds!(
         &rt,
-        table.put(0, again(&rt, &first)).is_ok() && table.put(1, second).is_ok(),
+        table.put(0, again!(&rt, &first)).is_ok() && table.put(1, second).is_ok(),
     );
-    same(&rt, read(&table, 0), Some((true, 4)));
-    same(&rt, read(&table, 1), Some((false, 5)));
+    same!(&rt, read(&table, 0), Some((true, 4)));
+    same!(&rt, read(&table, 1), Some((false, 5)));
     let back = table.put(2, first);
-    same(
+    same!(
         &rt,
         back.map_err(|u| u.as_first().map(|a| *a)),
         Err(Some(4)),
     );
-    same(&rt, read(&table, 0), Some((true, 4)));
-    same(&rt, (read(&table, 2), table.slots()), (None, 2));
+    same!(&rt, read(&table, 0), Some((true, 4)));
+    same!(&rt, (read(&table, 2), table.slots()), (None, 2));
 }
 
 #[test]
 fn a_union_is_cloned_onto_itself(rt: HostRuntime) {
     let alloc = rt.alloc();
-    let mut table = ok(&rt, Numbers::new(alloc, 1));
-    same(
+    let mut table = ok!(&rt, Numbers::new(alloc, 1));
+    same!(
         &rt,
         table.serve(alloc, UnionCommand::Second(0, 6)),
         Reply::Done,
     );
-    same(
+    same!(
         &rt,
         table.serve(alloc, UnionCommand::Clone(0, 0)),
         Reply::Done,
     );
-    same(
+    same!(
         &rt,
         table.serve(alloc, UnionCommand::PtrEq(0, 0)),
         Reply::Is(true),
     );
-    same(
+    same!(
         &rt,
         table.serve(alloc, UnionCommand::Same(0, 0)),
         Reply::Is(true),
     );
-    same(
+    same!(
         &rt,
         table.serve(alloc, UnionCommand::ReadSecond(0, 6)),
         Reply::Is(true),
     );
-    same(
+    same!(
         &rt,
         table.serve(alloc, UnionCommand::ReadSecond(0, 7)),
         Reply::Is(false),
     );
-    same(
+    same!(
         &rt,
         table.serve(alloc, UnionCommand::IsSecond(0)),
         Reply::Is(true),
@@ -138,12 +138,12 @@ fn commands_on(
 #[test]
 fn a_missing_slot_is_said_before_an_empty_one(rt: HostRuntime) {
     let alloc = rt.alloc();
-    let mut table = ok(&rt, Numbers::new(alloc, 2));
-    let replies = ok(&rt, table.run(alloc, ok(&rt, commands_on(alloc, 0, 1))));
-    same(&rt, replies.as_slice(), [Reply::Empty; 8].as_slice());
-    let replies = ok(&rt, table.run(alloc, ok(&rt, commands_on(alloc, 2, 0))));
-    same(&rt, replies.as_slice(), [Reply::NoSlot; 8].as_slice());
-    let missing_second = ok(
+    let mut table = ok!(&rt, Numbers::new(alloc, 2));
+    let replies = ok!(&rt, table.run(alloc, ok!(&rt, commands_on(alloc, 0, 1))));
+    same!(&rt, replies.as_slice(), [Reply::Empty; 8].as_slice());
+    let replies = ok!(&rt, table.run(alloc, ok!(&rt, commands_on(alloc, 2, 0))));
+    same!(&rt, replies.as_slice(), [Reply::NoSlot; 8].as_slice());
+    let missing_second = ok!(
         &rt,
         vec![in alloc;
             UnionCommand::Clone(0, 2),
@@ -153,25 +153,25 @@ fn a_missing_slot_is_said_before_an_empty_one(rt: HostRuntime) {
             UnionCommand::Second(2, 1),
         ],
     );
-    let replies = ok(&rt, table.run(alloc, missing_second));
-    same(&rt, replies.as_slice(), [Reply::NoSlot; 5].as_slice());
+    let replies = ok!(&rt, table.run(alloc, missing_second));
+    same!(&rt, replies.as_slice(), [Reply::NoSlot; 5].as_slice());
 }
 
 /// A union of header slices, one in a table of its own type.
 #[test]
 fn header_slices_are_read_by_their_kind(rt: HostRuntime) {
     let alloc = rt.alloc();
-    let mut table: UnionTable<HeaderSlice<u8, u32>, HeaderSlice<u32, u64>> = ok(
+    let mut table: UnionTable<HeaderSlice<u8, u32>, HeaderSlice<u32, u64>> = ok!(
         &rt,
         UnionTable::new(alloc, 1),
     );
-    let items = ok(&rt, vec![in alloc; 5u64, 6]).into_iter();
-    let handle = ok(&rt, Arc::from_header_and_iter(alloc, 9u32, items));
+    let items = ok!(&rt, vec![in alloc; 5u64, 6]).into_iter();
+    let handle = ok!(&rt, Arc::from_header_and_iter(alloc, 9u32, items));
     let union: ThinArcUnion<u8, u32, u32, u64> = ArcUnion::from_second(handle);
-    holds(&rt, table.put(0, union).is_ok());
+    holds!(&rt, table.put(0, union).is_ok());
     let read = match table.get(0) {
         Some(ArcUnionBorrow::Second(slice)) => Some((slice.header, slice.get().slice())),
         _ => None,
     };
-    same(&rt, read, Some((9, &[5, 6][..])));
+    same!(&rt, read, Some((9, &[5, 6][..])));
 }

@@ -45,7 +45,7 @@ fn ask_often(handle: &Arc<u64>, clones: &AtomicU64, start: &Barrier, rt: &impl W
 
 #[test]
 fn four_threads_have_no_more_handles_than_the_limit(rt: HostRuntime) {
-    let a = ok(&rt, Arc::new_with_limit(rt.alloc(), 7u64, LIMIT));
+    let a = ok!(&rt, Arc::new_with_limit(rt.alloc(), 7u64, LIMIT));
     let (clones, start) = (AtomicU64::new(0), Barrier::new(4));
     let done = thread::join(
         &rt,
@@ -64,9 +64,9 @@ fn four_threads_have_no_more_handles_than_the_limit(rt: HostRuntime) {
             )
         },
     );
-    same(&rt, done, ((true, true), (true, true)));
-    holds(&rt, a.is_unique() && clones.load(SeqCst) == 0);
-    let (b, c) = (ok(&rt, Arc::clone(&a, &rt)), ok(&rt, Arc::clone(&a, &rt)));
-    same(&rt, Arc::clone(&a, &rt).err(), Some(Full));
-    same(&rt, (*b, *c), (7, 7));
+    same!(&rt, done, ((true, true), (true, true)));
+    holds!(&rt, a.is_unique() && clones.load(SeqCst) == 0);
+    let (b, c) = (ok!(&rt, Arc::clone(&a, &rt)), ok!(&rt, Arc::clone(&a, &rt)));
+    same!(&rt, Arc::clone(&a, &rt).err(), Some(Full));
+    same!(&rt, (*b, *c), (7, 7));
 }

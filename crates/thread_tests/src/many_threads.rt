@@ -1,7 +1,7 @@
 // More threads, more handles, and each way in which a handle reaches a thread. Each thread is joined.
 use facts::{again, holds, ok, same};
 use handle_tests::counted::{Counted, Tally};
-use handle_tests::made::handle_of;
+use handle_tests::made::arc_of;
 use servo_arc::{Arc, RawArc, ThinArc};
 use std::thread;
 
@@ -20,14 +20,14 @@ fn clone_if_granted(handle: &Arc<u64>) -> bool {
 
 #[test]
 fn four_threads_clone_within_bounds(rt: HostRuntime) {
-    let a = handle_of(&rt, 7u64);
+    let a = ok!(&rt, arc_of(rt.alloc(), 7u64));
     let done = thread::join(
         &rt,
         || thread::join(&rt, || clone_if_granted(&a), || clone_if_granted(&a)),
         || thread::join(&rt, || clone_if_granted(&a), || clone_if_granted(&a)),
     );
-    same(&rt, done, ((true, true), (true, true)));
-    holds(&rt, a.is_unique() && *a == 7);
+    same!(&rt, done, ((true, true), (true, true)));
+    holds!(&rt, a.is_unique() && *a == 7);
 }
 
 const TRIES: u64 = 250_000;
@@ -46,18 +46,18 @@ fn count_refused(handle: &Arc<u64>) -> u64 {
 // more than one in a hundred would be refused where the threads run at once.
 #[test]
 fn four_threads_are_seldom_refused(rt: HostRuntime) {
-    let a = handle_of(&rt, 7u64);
+    let a = ok!(&rt, arc_of(rt.alloc(), 7u64));
     let ((one, two), (three, four)) = thread::join(
         &rt,
         || thread::join(&rt, || count_refused(&a), || count_refused(&a)),
         || thread::join(&rt, || count_refused(&a), || count_refused(&a)),
     );
     let refused = one.wrapping_add(two).wrapping_add(three).wrapping_add(four);
-    ok(
+    ok!(
         &rt,
         println!(rt; "refused {refused} times of {}", 4 * TRIES),
     );
-    holds(&rt, refused < TRIES / 25);
+    holds!(&rt, refused < TRIES / 25);
 }
 
 fn clone_and_drop<T: Send + Sync + Drop>(handle: &Arc<T>) {
@@ -70,15 +70,15 @@ fn clone_and_drop<T: Send + Sync + Drop>(handle: &Arc<T>) {
 #[test]
 fn a_header_slice_of_two_threads_is_dropped_once(rt: HostRuntime) {
     let (header, first, second) = (Tally::new(), Tally::new(), Tally::new());
-    let items = ok(
+    let items = ok!(
         &rt,
         vec![in rt.alloc(); Counted::new(&first, 1), Counted::new(&second, 2)],
     );
-    let a: ThinArc<Counted<'_>, Counted<'_>> = ok(
+    let a: ThinArc<Counted<'_>, Counted<'_>> = ok!(
         &rt,
         Arc::from_header_and_iter(rt.alloc(), Counted::new(&header, 3), items.into_iter()),
     );
-    let b = again(&rt, &a);
+    let b = again!(&rt, &a);
     thread::join(
         &rt,
         || {
@@ -90,7 +90,7 @@ fn a_header_slice_of_two_threads_is_dropped_once(rt: HostRuntime) {
             drop(b);
         },
     );
-    same(
+    same!(
         &rt,
         (header.drops(), first.drops(), second.drops()),
         (1, 1, 1),
@@ -119,9 +119,9 @@ impl Drop for Parcel<'_> {
 #[test]
 fn a_token_is_spent_on_another_thread(rt: HostRuntime) {
     let tally = Tally::new();
-    let a = handle_of(&rt, Counted::new(&tally, 5));
+    let a = ok!(&rt, arc_of(rt.alloc(), Counted::new(&tally, 5)));
     let parcel = Parcel {
-        raw: Arc::into_raw(again(&rt, &a)),
+        raw: Arc::into_raw(again!(&rt, &a)),
     };
     let (read, _) = thread::join(
         &rt,
@@ -131,15 +131,15 @@ fn a_token_is_spent_on_another_thread(rt: HostRuntime) {
             drop(a);
         },
     );
-    same(&rt, (read, tally.drops()), (5, 1));
+    same!(&rt, (read, tally.drops()), (5, 1));
 }
 
 #[test]
 fn a_marked_value_outlives_two_threads(rt: HostRuntime) {
     let tally = Tally::new();
-    let a = ok(&rt, Arc::new_leaked(rt.alloc(), Counted::new(&tally, 5)));
+    let a = ok!(&rt, Arc::new_leaked(rt.alloc(), Counted::new(&tally, 5)));
     thread::join(&rt, || clone_and_drop(&a), || clone_and_drop(&a));
-    holds(&rt, a.is_static() && !a.is_unique());
+    holds!(&rt, a.is_static() && !a.is_unique());
     drop(a);
-    same(&rt, tally.drops(), 0);
+    same!(&rt, tally.drops(), 0);
 }

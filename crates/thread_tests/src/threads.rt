@@ -2,7 +2,7 @@
 // before, and go on alone where the other is not run for long: what is asserted holds either way.
 use facts::{again, holds, ok, same};
 use handle_tests::counted::{Counted, Tally};
-use handle_tests::made::handle_of;
+use handle_tests::made::arc_of;
 use servo_arc::{Arc, ArcUnion};
 use std::process::Abort;
 use std::sync::atomic::AtomicBool;
@@ -35,30 +35,30 @@ fn clone_after(own: &AtomicBool, other: &AtomicBool, handle: Arc<Counted<'_>>) -
 fn two_threads_clone_at_once(rt: HostRuntime) {
     let tally = Tally::new();
     let (left, right) = (AtomicBool::new(false), AtomicBool::new(false));
-    let a = handle_of(&rt, Counted::new(&tally, 5));
-    let b = again(&rt, &a);
+    let a = ok!(&rt, arc_of(rt.alloc(), Counted::new(&tally, 5)));
+    let b = again!(&rt, &a);
     let done = thread::join(
         &rt,
         || clone_after(&left, &right, a),
         || clone_after(&right, &left, b),
     );
-    same(&rt, done, (true, true));
-    same(&rt, tally.drops(), 1);
+    same!(&rt, done, (true, true));
+    same!(&rt, tally.drops(), 1);
 }
 
 // Two handles of one block.
 type Pair<'a> = (Arc<Counted<'a>>, Arc<Counted<'a>>);
 
 fn by_token<'a>(rt: &(impl Abort + AllocGlobal + Wait), tally: &'a Tally) -> Pair<'a> {
-    let raw = Arc::into_raw(handle_of(rt, Counted::new(tally, 5)));
+    let raw = Arc::into_raw(ok!(rt, arc_of(rt.alloc(), Counted::new(tally, 5))));
     let added = Arc::from_raw_addrefed(&raw, rt);
     let a = Arc::from_raw(raw);
-    (a, ok(rt, added))
+    (a, ok!(rt, added))
 }
 
 fn by_borrow<'a>(rt: &(impl Abort + AllocGlobal + Wait), tally: &'a Tally) -> Pair<'a> {
-    let a = handle_of(rt, Counted::new(tally, 5));
-    let b = ok(rt, a.borrow_arc().clone_arc(rt));
+    let a = ok!(rt, arc_of(rt.alloc(), Counted::new(tally, 5)));
+    let b = ok!(rt, a.borrow_arc().clone_arc(rt));
     (a, b)
 }
 
@@ -74,7 +74,7 @@ fn handles_by_token_and_by_borrow_are_cloned_at_once(rt: HostRuntime) {
             || clone_after(&left, &right, a),
             || clone_after(&right, &left, b),
         );
-        same(
+        same!(
             &rt,
             (done, tally.drops().wrapping_sub(before)),
             ((true, true), 1),
@@ -96,14 +96,14 @@ fn clone_union_after(own: &AtomicBool, other: &AtomicBool, union: Numbers<'_>) -
 fn two_threads_clone_a_union_at_once(rt: HostRuntime) {
     let tally = Tally::new();
     let (left, right) = (AtomicBool::new(false), AtomicBool::new(false));
-    let a = Numbers::from_second(handle_of(&rt, Counted::new(&tally, 5)));
-    let b = again(&rt, &a);
+    let a = Numbers::from_second(ok!(&rt, arc_of(rt.alloc(), Counted::new(&tally, 5))));
+    let b = again!(&rt, &a);
     let done = thread::join(
         &rt,
         || clone_union_after(&left, &right, a),
         || clone_union_after(&right, &left, b),
     );
-    same(&rt, (done, tally.drops()), ((true, true), 1));
+    same!(&rt, (done, tally.drops()), ((true, true), 1));
 }
 
 fn clone_often(handle: &Arc<u64>, rt: &impl Wait) -> bool {
@@ -118,14 +118,14 @@ fn clone_often(handle: &Arc<u64>, rt: &impl Wait) -> bool {
 
 #[test]
 fn four_threads_clone_a_lent_handle(rt: HostRuntime) {
-    let a = handle_of(&rt, 7u64);
+    let a = ok!(&rt, arc_of(rt.alloc(), 7u64));
     let done = thread::join(
         &rt,
         || thread::join(&rt, || clone_often(&a, &rt), || clone_often(&a, &rt)),
         || thread::join(&rt, || clone_often(&a, &rt), || clone_often(&a, &rt)),
     );
-    same(&rt, done, ((true, true), (true, true)));
-    holds(&rt, a.is_unique());
+    same!(&rt, done, ((true, true), (true, true)));
+    holds!(&rt, a.is_unique());
 }
 
 fn clone_and_drop(handle: Arc<Counted<'_>>) {
@@ -138,16 +138,16 @@ fn clone_and_drop(handle: Arc<Counted<'_>>) {
 #[test]
 fn a_mark_among_clones_keeps_the_value(rt: HostRuntime) {
     let tally = Tally::new();
-    let kept = handle_of(&rt, Counted::new(&tally, 1));
-    let (a, b, c) = (again(&rt, &kept), again(&rt, &kept), again(&rt, &kept));
+    let kept = ok!(&rt, arc_of(rt.alloc(), Counted::new(&tally, 1)));
+    let (a, b, c) = (again!(&rt, &kept), again!(&rt, &kept), again!(&rt, &kept));
     thread::join(
         &rt,
         || thread::join(&rt, || clone_and_drop(a), || clone_and_drop(b)),
         || c.mark_as_intentionally_leaked(),
     );
-    holds(&rt, kept.is_static());
+    holds!(&rt, kept.is_static());
     drop(kept);
-    same(&rt, tally.drops(), 0);
+    same!(&rt, tally.drops(), 0);
 }
 
 fn drop_after(own: &AtomicBool, other: &AtomicBool, handle: Arc<Counted<'_>>) {
@@ -160,14 +160,14 @@ fn the_last_two_handles_drop_the_value_once(rt: HostRuntime) {
     let tally = Tally::new();
     for round in 1..=1000u64 {
         let (left, right) = (AtomicBool::new(false), AtomicBool::new(false));
-        let a = handle_of(&rt, Counted::new(&tally, round));
-        let b = again(&rt, &a);
+        let a = ok!(&rt, arc_of(rt.alloc(), Counted::new(&tally, round)));
+        let b = again!(&rt, &a);
         thread::join(
             &rt,
             || drop_after(&left, &right, a),
             || drop_after(&right, &left, b),
         );
-        same(&rt, tally.drops(), round);
+        same!(&rt, tally.drops(), round);
     }
 }
 
@@ -186,8 +186,8 @@ fn write_when_alone(mut handle: Arc<u64>, both: &Barrier, rt: &impl Wait) -> boo
 #[test]
 fn a_handle_writes_once_the_other_is_gone(rt: HostRuntime) {
     let both = Barrier::new(2);
-    let a = handle_of(&rt, 1u64);
-    let b = again(&rt, &a);
+    let a = ok!(&rt, arc_of(rt.alloc(), 1u64));
+    let b = again!(&rt, &a);
     let (written, ()) = thread::join(
         &rt,
         || write_when_alone(a, &both, &rt),
@@ -197,7 +197,7 @@ fn a_handle_writes_once_the_other_is_gone(rt: HostRuntime) {
             both.wait(&rt);
         },
     );
-    holds(&rt, written);
+    holds!(&rt, written);
 }
 
 // While another thread asks about the same blocks both answers are possible. Each call answers.
@@ -209,8 +209,8 @@ fn ask_often(a: &Arc<u64>, b: &Arc<u64>) {
 
 #[test]
 fn blocks_are_told_apart_after_contention(rt: HostRuntime) {
-    let a = handle_of(&rt, 1u64);
-    let b = handle_of(&rt, 1u64);
+    let a = ok!(&rt, arc_of(rt.alloc(), 1u64));
+    let b = ok!(&rt, arc_of(rt.alloc(), 1u64));
     thread::join(&rt, || ask_often(&a, &b), || ask_often(&b, &a));
-    holds(&rt, !Arc::ptr_eq(&a, &b) && Arc::ptr_eq(&a, &a));
+    holds!(&rt, !Arc::ptr_eq(&a, &b) && Arc::ptr_eq(&a, &a));
 }

@@ -1,7 +1,7 @@
 // Unions on two threads, each of which is joined.
-use facts::{again, same};
+use facts::{again, ok, same};
 use handle_tests::counted::{Counted, Tally};
-use handle_tests::made::handle_of;
+use handle_tests::made::arc_of;
 use servo_arc::ArcUnion;
 use std::thread;
 
@@ -18,20 +18,20 @@ fn clone_and_drop(union: ArcUnion<Counted<'_>, Counted<'_>>) -> bool {
 #[test]
 fn unions_of_both_kinds_on_two_threads_drop_each_value_once(rt: HostRuntime) {
     let (first_tally, second_tally) = (Tally::new(), Tally::new());
-    let first = ArcUnion::<_, Counted<'_>>::from_first(handle_of(
+    let first = ArcUnion::<_, Counted<'_>>::from_first(ok!(
         &rt,
-        Counted::new(&first_tally, 1),
+        arc_of(rt.alloc(), Counted::new(&first_tally, 1))
     ));
-    let second = ArcUnion::<Counted<'_>, _>::from_second(handle_of(
+    let second = ArcUnion::<Counted<'_>, _>::from_second(ok!(
         &rt,
-        Counted::new(&second_tally, 2),
+        arc_of(rt.alloc(), Counted::new(&second_tally, 2))
     ));
-    let (first_again, second_again) = (again(&rt, &first), again(&rt, &second));
+    let (first_again, second_again) = (again!(&rt, &first), again!(&rt, &second));
     let done = thread::join(
         &rt,
         || clone_and_drop(first) && clone_and_drop(second),
         || clone_and_drop(second_again) && clone_and_drop(first_again),
     );
-    same(&rt, done, (true, true));
-    same(&rt, (first_tally.drops(), second_tally.drops()), (1, 1));
+    same!(&rt, done, (true, true));
+    same!(&rt, (first_tally.drops(), second_tally.drops()), (1, 1));
 }

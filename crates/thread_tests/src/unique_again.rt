@@ -1,6 +1,6 @@
 // A handle asks to be unique again while another thread drops the other handle of its block.
-use facts::{again, same};
-use handle_tests::made::handle_of;
+use facts::{again, ok, same};
+use handle_tests::made::arc_of;
 use servo_arc::{Arc, UniqueArc};
 use std::sync::atomic::AtomicBool;
 use std::sync::atomic::Ordering::SeqCst;
@@ -34,8 +34,8 @@ fn unique_at_last(
 #[test]
 fn a_handle_is_unique_once_the_other_is_gone(rt: HostRuntime) {
     let (both, gone) = (Barrier::new(2), AtomicBool::new(false));
-    let a = handle_of(&rt, 1u64);
-    let b = again(&rt, &a);
+    let a = ok!(&rt, arc_of(rt.alloc(), 1u64));
+    let b = again!(&rt, &a);
     let (unique, ()) = thread::join(
         &rt,
         || unique_at_last(a, &both, &gone, &rt),
@@ -48,5 +48,5 @@ fn a_handle_is_unique_once_the_other_is_gone(rt: HostRuntime) {
     );
     let mut unique = unique.expect(&rt, "shared");
     *unique = 2;
-    same(&rt, *unique.shareable(), 2);
+    same!(&rt, *unique.shareable(), 2);
 }

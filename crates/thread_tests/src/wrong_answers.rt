@@ -1,7 +1,7 @@
 // How often `ptr_eq` errs while other threads ask the same of these blocks, as it may. Each test prints its figure; what
 // it asserts is that the answers are right again once the other threads are gone.
 use facts::{again, holds, ok};
-use handle_tests::made::handle_of;
+use handle_tests::made::arc_of;
 use servo_arc::Arc;
 use std::io::Print;
 use std::process::Abort;
@@ -20,23 +20,23 @@ fn count_true(a: &Arc<u64>, b: &Arc<u64>) -> u64 {
 }
 
 fn tell(rt: &(impl Abort + Print), answer: &str, wrong: u64, calls: u64) {
-    ok(rt, println!(rt; "{answer} {wrong} times of {calls}"));
+    ok!(rt, println!(rt; "{answer} {wrong} times of {calls}"));
 }
 
 #[test]
 fn two_threads_ask_about_one_block(rt: HostRuntime) {
-    let a = handle_of(&rt, 1u64);
-    let b = again(&rt, &a);
+    let a = ok!(&rt, arc_of(rt.alloc(), 1u64));
+    let b = again!(&rt, &a);
     let told = thread::join(&rt, || count_true(&a, &b), || count_true(&a, &b));
     let wrong = (2 * CALLS).wrapping_sub(told.0).wrapping_sub(told.1);
     tell(&rt, "one block, two threads: false", wrong, 2 * CALLS);
-    holds(&rt, Arc::ptr_eq(&a, &b));
+    holds!(&rt, Arc::ptr_eq(&a, &b));
 }
 
 #[test]
 fn four_threads_ask_about_one_block(rt: HostRuntime) {
-    let a = handle_of(&rt, 1u64);
-    let b = again(&rt, &a);
+    let a = ok!(&rt, arc_of(rt.alloc(), 1u64));
+    let b = again!(&rt, &a);
     let (one, two) = thread::join(
         &rt,
         || thread::join(&rt, || count_true(&a, &b), || count_true(&a, &b)),
@@ -49,23 +49,23 @@ fn four_threads_ask_about_one_block(rt: HostRuntime) {
         .wrapping_add(two.1);
     let wrong = (4 * CALLS).wrapping_sub(told);
     tell(&rt, "one block, four threads: false", wrong, 4 * CALLS);
-    holds(&rt, Arc::ptr_eq(&a, &b));
+    holds!(&rt, Arc::ptr_eq(&a, &b));
 }
 
 #[test]
 fn two_threads_ask_about_two_blocks_from_one_end(rt: HostRuntime) {
-    let a = handle_of(&rt, 1u64);
-    let b = handle_of(&rt, 1u64);
+    let a = ok!(&rt, arc_of(rt.alloc(), 1u64));
+    let b = ok!(&rt, arc_of(rt.alloc(), 1u64));
     let told = thread::join(&rt, || count_true(&a, &b), || count_true(&a, &b));
     let wrong = told.0.wrapping_add(told.1);
     tell(&rt, "two blocks, from one end: true", wrong, 2 * CALLS);
-    holds(&rt, !Arc::ptr_eq(&a, &b));
+    holds!(&rt, !Arc::ptr_eq(&a, &b));
 }
 
 #[test]
 fn two_threads_ask_about_two_blocks_from_opposite_ends(rt: HostRuntime) {
-    let a = handle_of(&rt, 1u64);
-    let b = handle_of(&rt, 1u64);
+    let a = ok!(&rt, arc_of(rt.alloc(), 1u64));
+    let b = ok!(&rt, arc_of(rt.alloc(), 1u64));
     let told = thread::join(&rt, || count_true(&a, &b), || count_true(&b, &a));
     let wrong = told.0.wrapping_add(told.1);
     tell(
@@ -74,5 +74,5 @@ fn two_threads_ask_about_two_blocks_from_opposite_ends(rt: HostRuntime) {
         wrong,
         2 * CALLS,
     );
-    holds(&rt, !Arc::ptr_eq(&a, &b));
+    holds!(&rt, !Arc::ptr_eq(&a, &b));
 }

@@ -29,16 +29,16 @@ fn up_to<'a>(
 #[test]
 fn a_change_copies_its_path_alone(rt: HostRuntime) {
     let tally = Tally::new();
-    let map = ok(&rt, up_to(rt.alloc(), &tally, KEYS));
-    same(&rt, map.len() as u64, KEYS);
-    holds(&rt, tally.copies() <= KEYS.wrapping_mul(MOST_COPIES));
+    let map = ok!(&rt, up_to(rt.alloc(), &tally, KEYS));
+    same!(&rt, map.len() as u64, KEYS);
+    holds!(&rt, tally.copies() <= KEYS.wrapping_mul(MOST_COPIES));
     let before = tally.copies();
-    let mut less = again(&rt, &map);
+    let mut less = again!(&rt, &map);
     for key in 0..KEYS {
-        less = ok(&rt, less.remove(rt.alloc(), key));
+        less = ok!(&rt, less.remove(rt.alloc(), key));
     }
     let copies = tally.copies().wrapping_sub(before);
-    holds(
+    holds!(
         &rt,
         less.is_empty() && copies <= KEYS.wrapping_mul(MOST_COPIES),
     );
@@ -48,29 +48,29 @@ fn a_change_copies_its_path_alone(rt: HostRuntime) {
 #[test]
 fn a_value_ends_with_its_last_version(rt: HostRuntime) {
     let tally = Tally::new();
-    let old = ok(&rt, up_to(rt.alloc(), &tally, KEYS));
+    let old = ok!(&rt, up_to(rt.alloc(), &tally, KEYS));
     let made = KEYS.wrapping_add(tally.copies());
-    same(&rt, made.wrapping_sub(tally.drops()), KEYS);
+    same!(&rt, made.wrapping_sub(tally.drops()), KEYS);
     let copies = tally.copies();
-    let new = ok(&rt, old.insert(rt.alloc(), 500, Counted::new(&tally, 0)));
+    let new = ok!(&rt, old.insert(rt.alloc(), 500, Counted::new(&tally, 0)));
     let own = tally.copies().wrapping_sub(copies).wrapping_add(1);
     let drops = tally.drops();
     drop(new);
-    same(&rt, tally.drops().wrapping_sub(drops), own);
+    same!(&rt, tally.drops().wrapping_sub(drops), own);
     drop(old);
     let made = KEYS.wrapping_add(1).wrapping_add(tally.copies());
-    same(&rt, tally.drops(), made);
+    same!(&rt, tally.drops(), made);
 }
 
 #[test]
 fn a_list_copies_nothing(rt: HostRuntime) {
     let tally = Tally::new();
-    let old = ok(&rt, List::new().push(rt.alloc(), Counted::new(&tally, 1)));
-    let new = ok(&rt, old.push(rt.alloc(), Counted::new(&tally, 2)));
-    let copy = again(&rt, &new);
+    let old = ok!(&rt, List::new().push(rt.alloc(), Counted::new(&tally, 1)));
+    let new = ok!(&rt, old.push(rt.alloc(), Counted::new(&tally, 2)));
+    let copy = again!(&rt, &new);
     drop(new);
     drop(old);
-    same(&rt, (tally.drops(), copy.len()), (0, 2));
+    same!(&rt, (tally.drops(), copy.len()), (0, 2));
     copy.end();
-    same(&rt, (tally.drops(), tally.copies()), (2, 0));
+    same!(&rt, (tally.drops(), tally.copies()), (2, 0));
 }

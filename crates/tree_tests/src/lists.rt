@@ -13,14 +13,14 @@ fn up_to(alloc: Global, len: u64) -> Result<List<u64>, AllocError> {
 
 #[test]
 fn versions_read_as_they_were_made(rt: HostRuntime) {
-    let old = ok(&rt, up_to(rt.alloc(), 3));
-    let new = ok(&rt, old.push(rt.alloc(), 9));
-    holds(
+    let old = ok!(&rt, up_to(rt.alloc(), 3));
+    let new = ok!(&rt, old.push(rt.alloc(), 9));
+    holds!(
         &rt,
         old.iter().eq(&[2, 1, 0]) && new.iter().eq(&[9, 2, 1, 0]),
     );
-    same(&rt, (old.len(), new.len()), (3, 4));
-    same(
+    same!(&rt, (old.len(), new.len()), (3, 4));
+    same!(
         &rt,
         (
             new.first().copied(),
@@ -33,20 +33,20 @@ fn versions_read_as_they_were_made(rt: HostRuntime) {
 
 #[test]
 fn the_rest_of_a_pushed_list_is_the_list(rt: HostRuntime) {
-    let old = ok(&rt, up_to(rt.alloc(), 3));
-    let new = ok(&rt, old.push(rt.alloc(), 9));
-    let rest = ok(&rt, new.rest());
-    holds(&rt, List::ptr_eq(&rest, &old) && !List::ptr_eq(&new, &old));
+    let old = ok!(&rt, up_to(rt.alloc(), 3));
+    let new = ok!(&rt, old.push(rt.alloc(), 9));
+    let rest = ok!(&rt, new.rest());
+    holds!(&rt, List::ptr_eq(&rest, &old) && !List::ptr_eq(&new, &old));
     let empty: List<u64> = List::new();
-    holds(&rt, ok(&rt, empty.rest()).is_empty());
+    holds!(&rt, ok!(&rt, empty.rest()).is_empty());
 }
 
 const MANY: u64 = 10_000_000;
 
 #[test]
 fn ten_million_nodes_end_in_a_loop(rt: HostRuntime) {
-    let list = ok(&rt, up_to(rt.alloc(), MANY));
-    same(
+    let list = ok!(&rt, up_to(rt.alloc(), MANY));
+    same!(
         &rt,
         (list.len() as u64, list.get(9_999_999).copied()),
         (MANY, Some(0)),
@@ -56,8 +56,8 @@ fn ten_million_nodes_end_in_a_loop(rt: HostRuntime) {
 
 #[test]
 fn an_end_leaves_what_others_share(rt: HostRuntime) {
-    let old = ok(&rt, up_to(rt.alloc(), 3));
-    let new = ok(&rt, old.push(rt.alloc(), 9));
+    let old = ok!(&rt, up_to(rt.alloc(), 3));
+    let new = ok!(&rt, old.push(rt.alloc(), 9));
     new.end();
-    holds(&rt, old.iter().eq(&[2, 1, 0]));
+    holds!(&rt, old.iter().eq(&[2, 1, 0]));
 }

@@ -19,21 +19,21 @@ fn three(alloc: Global) -> Result<TreeMap<u32>, AllocError> {
 #[test]
 fn versions_read_as_they_were_made(rt: HostRuntime) {
     let alloc = rt.alloc();
-    let old = ok(&rt, three(alloc));
-    let changed = ok(&rt, old.insert(alloc, 3, 31));
-    let new = ok(&rt, changed.remove(alloc, 8));
-    holds(&rt, has_entries(&old, &[(3, 30), (5, 50), (8, 80)]));
-    holds(&rt, has_entries(&new, &[(3, 31), (5, 50)]));
-    same(&rt, (old.contains(8), new.contains(8)), (true, false));
+    let old = ok!(&rt, three(alloc));
+    let changed = ok!(&rt, old.insert(alloc, 3, 31));
+    let new = ok!(&rt, changed.remove(alloc, 8));
+    holds!(&rt, has_entries(&old, &[(3, 30), (5, 50), (8, 80)]));
+    holds!(&rt, has_entries(&new, &[(3, 31), (5, 50)]));
+    same!(&rt, (old.contains(8), new.contains(8)), (true, false));
 }
 
 #[test]
 fn a_copy_of_a_map_shares_its_root(rt: HostRuntime) {
     let alloc = rt.alloc();
-    let map = ok(&rt, three(alloc));
-    let copy = again(&rt, &map);
-    let changed = ok(&rt, map.insert(alloc, 5, 51));
-    holds(
+    let map = ok!(&rt, three(alloc));
+    let copy = again!(&rt, &map);
+    let changed = ok!(&rt, map.insert(alloc, 5, 51));
+    holds!(
         &rt,
         TreeMap::ptr_eq(&map, &copy) && !TreeMap::ptr_eq(&map, &changed),
     );
@@ -50,25 +50,29 @@ fn up_to(alloc: Global, len: u64) -> Result<TreeMap<u64>, AllocError> {
 // Keys in order, which would make a plain tree a list: a walk of each would then take hours.
 #[test]
 fn keys_in_order_make_no_list(rt: HostRuntime) {
-    let map = ok(&rt, up_to(rt.alloc(), 100_000));
+    let map = ok!(&rt, up_to(rt.alloc(), 100_000));
     let found = (0..100_000).all(|key| map.get(key).copied() == Some(key));
-    holds(&rt, found && map.len() == 100_000);
+    holds!(&rt, found && map.len() == 100_000);
 }
 
 #[test]
 fn entries_come_in_order_from_either_end(rt: HostRuntime) {
-    let map = ok(&rt, up_to(rt.alloc(), 100));
-    holds(&rt, map.iter().map(|entry| entry.0).eq(0..100));
-    holds(
+    let map = ok!(&rt, up_to(rt.alloc(), 100));
+    holds!(&rt, map.iter().map(|entry| entry.0).eq(0..100));
+    holds!(
         &rt,
         map.iter().rev().map(|entry| entry.0).eq((0..100).rev()),
     );
     let mut entries = map.iter();
     let ends = (entries.next().copied(), entries.next_back().copied());
-    same(&rt, ends, (Some((0, 0)), Some((99, 99))));
-    same(&rt, (entries.len(), again(&rt, &entries).count()), (98, 98));
+    same!(&rt, ends, (Some((0, 0)), Some((99, 99))));
+    same!(
+        &rt,
+        (entries.len(), again!(&rt, &entries).count()),
+        (98, 98)
+    );
     let empty: TreeMap<u64> = TreeMap::new();
-    same(
+    same!(
         &rt,
         (empty.iter().next(), empty.iter().next_back()),
         (None, None),

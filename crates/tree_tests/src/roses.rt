@@ -27,24 +27,24 @@ fn is_shared<V: Send + Sync>(a: &Rose<V>, b: &Rose<V>, path: &[usize]) -> bool {
 #[test]
 fn a_change_leaves_the_old_tree(rt: HostRuntime) {
     let tally = Tally::new();
-    let old = ok(&rt, six(rt.alloc(), &tally));
-    let new = ok(
+    let old = ok!(&rt, six(rt.alloc(), &tally));
+    let new = ok!(
         &rt,
         old.with_value(rt.alloc(), &[1, 0], Counted::new(&tally, 9)),
     );
-    same(&rt, value_at(&old, &[1, 0]), Some(5));
-    same(&rt, value_at(&new, &[1, 0]), Some(9));
-    same(
+    same!(&rt, value_at(&old, &[1, 0]), Some(5));
+    same!(&rt, value_at(&new, &[1, 0]), Some(9));
+    same!(
         &rt,
         (value_at(&new, &[]), value_at(&new, &[1])),
         (Some(1), Some(3)),
     );
-    same(
+    same!(
         &rt,
         (value_at(&new, &[0]), value_at(&new, &[2])),
         (Some(2), Some(4)),
     );
-    same(
+    same!(
         &rt,
         (value_at(&new, &[1, 1]), value_at(&new, &[3])),
         (Some(6), None),
@@ -54,43 +54,43 @@ fn a_change_leaves_the_old_tree(rt: HostRuntime) {
 #[test]
 fn a_change_shares_what_is_beside_its_path(rt: HostRuntime) {
     let tally = Tally::new();
-    let old = ok(&rt, six(rt.alloc(), &tally));
-    let new = ok(
+    let old = ok!(&rt, six(rt.alloc(), &tally));
+    let new = ok!(
         &rt,
         old.with_value(rt.alloc(), &[1, 0], Counted::new(&tally, 9)),
     );
-    holds(
+    holds!(
         &rt,
         is_shared(&old, &new, &[0]) && is_shared(&old, &new, &[2]),
     );
-    holds(&rt, is_shared(&old, &new, &[1, 1]));
-    holds(
+    holds!(&rt, is_shared(&old, &new, &[1, 1]));
+    holds!(
         &rt,
         !is_shared(&old, &new, &[]) && !is_shared(&old, &new, &[1]),
     );
-    holds(&rt, !is_shared(&old, &new, &[1, 0]));
+    holds!(&rt, !is_shared(&old, &new, &[1, 0]));
 }
 
 // The two nodes above the place are made of copies, and the place is given its value.
 #[test]
 fn a_value_ends_with_its_last_tree(rt: HostRuntime) {
     let tally = Tally::new();
-    let old = ok(&rt, six(rt.alloc(), &tally));
+    let old = ok!(&rt, six(rt.alloc(), &tally));
     let new = old.with_value(rt.alloc(), &[1, 0], Counted::new(&tally, 9));
-    same(&rt, (tally.copies(), tally.drops()), (2, 0));
+    same!(&rt, (tally.copies(), tally.drops()), (2, 0));
     drop(old);
-    same(&rt, tally.drops(), 3);
+    same!(&rt, tally.drops(), 3);
     drop(new);
-    same(&rt, tally.drops(), 9);
+    same!(&rt, tally.drops(), 9);
 }
 
 #[test]
 fn there_is_no_place_outside_the_tree(rt: HostRuntime) {
     let tally = Tally::new();
-    let old = ok(&rt, six(rt.alloc(), &tally));
+    let old = ok!(&rt, six(rt.alloc(), &tally));
     let new = old.with_value(rt.alloc(), &[1, 2], Counted::new(&tally, 9));
-    holds(&rt, matches!(new, Err(RoseError::NoSuchPlace)));
-    same(&rt, (tally.copies(), tally.drops()), (0, 1));
+    holds!(&rt, matches!(new, Err(RoseError::NoSuchPlace)));
+    same!(&rt, (tally.copies(), tally.drops()), (0, 1));
 }
 
 // A cap that nobody asked for would refuse these trees, or a change of them.
@@ -100,13 +100,13 @@ const MANY: u64 = 1000;
 fn a_wide_tree_is_changed_at_its_last_child(rt: HostRuntime) {
     let mut leaves = Vec::new(rt.alloc());
     for value in 0..MANY {
-        ok(&rt, leaves.push(ok(&rt, Rose::leaf(rt.alloc(), value))));
+        ok!(&rt, leaves.push(ok!(&rt, Rose::leaf(rt.alloc(), value))));
     }
-    let old = ok(&rt, Rose::with_children(rt.alloc(), MANY, leaves));
-    let new = ok(&rt, old.with_value(rt.alloc(), &[999], 7));
+    let old = ok!(&rt, Rose::with_children(rt.alloc(), MANY, leaves));
+    let new = ok!(&rt, old.with_value(rt.alloc(), &[999], 7));
     let read = |tree: &Rose<u64>| tree.child(999).map(|child| *child.value());
-    same(&rt, (read(&old), read(&new)), (Some(999), Some(7)));
-    holds(
+    same!(&rt, (read(&old), read(&new)), (Some(999), Some(7)));
+    holds!(
         &rt,
         is_shared(&old, &new, &[998]) && new.children().len() == 1000,
     );
@@ -114,14 +114,14 @@ fn a_wide_tree_is_changed_at_its_last_child(rt: HostRuntime) {
 
 #[test]
 fn a_deep_tree_is_changed_at_its_leaf(rt: HostRuntime) {
-    let mut old = ok(&rt, Rose::leaf(rt.alloc(), 0));
+    let mut old = ok!(&rt, Rose::leaf(rt.alloc(), 0));
     for value in 1..=MANY {
-        let below = ok(&rt, vec![in rt.alloc(); old]);
-        old = ok(&rt, Rose::with_children(rt.alloc(), value, below));
+        let below = ok!(&rt, vec![in rt.alloc(); old]);
+        old = ok!(&rt, Rose::with_children(rt.alloc(), value, below));
     }
     let path = [0; 1000];
-    let new = ok(&rt, old.with_value(rt.alloc(), &path, 7));
+    let new = ok!(&rt, old.with_value(rt.alloc(), &path, 7));
     let read = |tree: &Rose<u64>| tree.at(&path).map(|leaf| *leaf.value());
-    same(&rt, (read(&old), read(&new)), (Some(0), Some(7)));
-    same(&rt, *new.value(), MANY);
+    same!(&rt, (read(&old), read(&new)), (Some(0), Some(7)));
+    same!(&rt, *new.value(), MANY);
 }

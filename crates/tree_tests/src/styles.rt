@@ -12,30 +12,30 @@ const LARGE: Declared = Declared {
 
 #[test]
 fn a_style_shares_the_groups_that_its_source_leaves_out(rt: HostRuntime) {
-    let plain = ok(&rt, Style::initial(rt.alloc()));
-    let inline = ok(&rt, Arc::new(rt.alloc(), Inline { declared: LARGE }));
-    let large = ok(&rt, plain.under_inline(rt.alloc(), inline));
-    holds(&rt, Arc::ptr_eq(&plain.border, &large.border));
-    holds(&rt, !Arc::ptr_eq(&plain.font, &large.font));
-    same(&rt, (plain.font.size, large.font.size), (16, 40));
-    same(&rt, (large.font.line_height, large.border.width), (20, 0));
+    let plain = ok!(&rt, Style::initial(rt.alloc()));
+    let inline = ok!(&rt, Arc::new(rt.alloc(), Inline { declared: LARGE }));
+    let large = ok!(&rt, plain.under_inline(rt.alloc(), inline));
+    holds!(&rt, Arc::ptr_eq(&plain.border, &large.border));
+    holds!(&rt, !Arc::ptr_eq(&plain.font, &large.font));
+    same!(&rt, (plain.font.size, large.font.size), (16, 40));
+    same!(&rt, (large.font.line_height, large.border.width), (20, 0));
 }
 
 #[test]
 fn a_change_leaves_the_style_of_another_holder(rt: HostRuntime) {
-    let old = ok(&rt, Style::initial(rt.alloc()));
-    let mut new: Style = again(&rt, &old);
-    holds(&rt, Arc::ptr_eq(&old.font, &new.font));
+    let old = ok!(&rt, Style::initial(rt.alloc()));
+    let mut new: Style = again!(&rt, &old);
+    holds!(&rt, Arc::ptr_eq(&old.font, &new.font));
     let rule = Rule {
         weight: 7,
         declared: LARGE,
     };
-    let rule = ok(&rt, Arc::new(rt.alloc(), rule));
-    ok(&rt, new.cascade(rt.alloc(), ArcUnion::from_first(rule)));
-    same(&rt, (old.font.size, new.font.size), (16, 40));
-    holds(&rt, old.source.is_none());
+    let rule = ok!(&rt, Arc::new(rt.alloc(), rule));
+    ok!(&rt, new.cascade(rt.alloc(), ArcUnion::from_first(rule)));
+    same!(&rt, (old.font.size, new.font.size), (16, 40));
+    holds!(&rt, old.source.is_none());
     let source = new.source.as_ref().expect(&rt, "no source");
-    holds(&rt, source.is_first() && declared_by(source) == LARGE);
+    holds!(&rt, source.is_first() && declared_by(source) == LARGE);
 }
 
 const THICK: Declared = Declared {
@@ -45,18 +45,18 @@ const THICK: Declared = Declared {
 
 #[test]
 fn a_rule_leaves_the_groups_that_all_styles_share(rt: HostRuntime) {
-    let plain = ok(&rt, Style::initial(rt.alloc()));
+    let plain = ok!(&rt, Style::initial(rt.alloc()));
     let rule = Rule {
         weight: 7,
         declared: THICK,
     };
-    let rule = ok(&rt, Arc::new(rt.alloc(), rule));
-    let thick = ok(&rt, plain.under_rule(rt.alloc(), rule));
-    holds(&rt, Arc::ptr_eq(&plain.font, &thick.font));
-    holds(&rt, !Arc::ptr_eq(&plain.border, &thick.border));
-    same(&rt, (plain.border.width, thick.border.width), (0, u32::MAX));
-    holds(&rt, plain.font.is_static() && plain.border.is_static());
-    holds(&rt, !thick.border.is_static());
+    let rule = ok!(&rt, Arc::new(rt.alloc(), rule));
+    let thick = ok!(&rt, plain.under_rule(rt.alloc(), rule));
+    holds!(&rt, Arc::ptr_eq(&plain.font, &thick.font));
+    holds!(&rt, !Arc::ptr_eq(&plain.border, &thick.border));
+    same!(&rt, (plain.border.width, thick.border.width), (0, u32::MAX));
+    holds!(&rt, plain.font.is_static() && plain.border.is_static());
+    holds!(&rt, !thick.border.is_static());
 }
 
 // A plain element over two others.
@@ -75,12 +75,12 @@ fn font_size_at(tree: &Rose<Style>, path: &[usize]) -> Option<u32> {
 
 #[test]
 fn one_element_is_styled_anew(rt: HostRuntime) {
-    let old = ok(&rt, three_elements(rt.alloc()));
-    let inline = ok(&rt, Arc::new(rt.alloc(), Inline { declared: LARGE }));
+    let old = ok!(&rt, three_elements(rt.alloc()));
+    let inline = ok!(&rt, Arc::new(rt.alloc(), Inline { declared: LARGE }));
     let source = ArcUnion::from_second(inline);
-    let new = ok(&rt, restyle(rt.alloc(), &old, &[1], source));
+    let new = ok!(&rt, restyle(rt.alloc(), &old, &[1], source));
     for (path, before, after) in [(&[][..], 16, 16), (&[0], 16, 16), (&[1], 16, 40)] {
-        same(&rt, font_size_at(&old, path), Some(before));
-        same(&rt, font_size_at(&new, path), Some(after));
+        same!(&rt, font_size_at(&old, path), Some(before));
+        same!(&rt, font_size_at(&new, path), Some(after));
     }
 }

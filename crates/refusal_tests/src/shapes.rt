@@ -1,6 +1,6 @@
 // What a change of a rose tree or of a style leaves.
 use crate::telling::tell;
-use facts::{again, holds, same};
+use facts::{again, holds, ok, same};
 use handle_tests::counted::{Counted, Tally};
 use servo_arc::{Arc, ArcUnion};
 use shared_trees::{Declared, Inline, Rose, RoseError, Style};
@@ -53,4 +53,24 @@ fn a_refused_cascade_leaves_both_styles(rt: HostRuntime) {
             tell(&rt, "a copy of a group");
         }
     }
+}
+
+#[test]
+fn a_style_of_groups_of_its_own_takes_no_memory(rt: HostRuntime) {
+    let declared = Declared {
+        font_size: Some(40),
+        border_width: Some(2),
+    };
+    let inline = Arc::new(rt.alloc(), Inline { declared });
+    let (Ok(mut style), Ok(first)) = (Style::initial(rt.alloc()), inline) else {
+        return tell(&rt, "the set-up");
+    };
+    let second = again!(&rt, &first);
+    if let Err(AllocError) = style.cascade(rt.alloc(), ArcUnion::from_second(first)) {
+        return tell(&rt, "a copy of a group that all styles share");
+    }
+    ok!(
+        &rt,
+        style.cascade(rt.alloc(), ArcUnion::from_second(second)),
+    );
 }

@@ -1,5 +1,5 @@
 -- A rose tree is its value and its children. A path has the number of a child for each step down.
-use Rattle.std.specs.Prelude.{ℕ, List, [], ◌∷◌, Option, None, Some, set, slice_get}
+use Rattle.std.specs.Prelude.{ℕ, List, [], ◌∷◌, Option, Some, set, slice_get}
 use Rattle.std.specs.Option.{option_map, option_and_then}
 use Rattle.shared_trees.specs.declared.rose.Rose.{Rose, out-Rose, roll-Rose}
 

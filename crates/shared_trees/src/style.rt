@@ -88,14 +88,26 @@ impl Style {
         })
     }
 
-    /// Takes what the source says, and copies the groups that it says something of, also if no other style shares them.
-    /// If it is refused, the style is as it was.
+    /// Takes what the source says. It writes a group that no other style shares in place, and copies any other. If it is
+    /// refused, the style is as it was.
     pub fn cascade(&mut self, alloc: Global, source: Source) -> Result<(), AllocError>
         ensures took { IfOk result (λ _. self.new ≡ cascaded source self.old) }
         ensures refused { IfErr result (λ _. self.new ≡ self.old) }
     {
-        let style = self.clone()?;
-        *self = style.cascaded(alloc, source)?;
+        let declared = declared_by(&source);
+        match (declared.font_size, declared.border_width) {
+            (None, None) => {}
+            (Some(size), None) => Arc::make_mut(&mut self.font, alloc)?.size = size,
+            (None, Some(width)) => Arc::make_mut(&mut self.border, alloc)?.width = width,
+            (Some(size), Some(width)) => {
+                // Both may be written before one is, so that nothing is half done.
+                let font = Arc::make_mut(&mut self.font, alloc)?;
+                let border = Arc::make_mut(&mut self.border, alloc)?;
+                font.size = size;
+                border.width = width;
+            }
+        }
+        self.source = Some(source);
         Ok(())
     }
 
@@ -103,14 +115,7 @@ impl Style {
     fn cascaded(mut self, alloc: Global, source: Source) -> Result<Style, AllocError>
         ensures { IfOk result (λ style. style ≡ cascaded source self) }
     {
-        let declared = declared_by(&source);
-        if let Some(size) = declared.font_size {
-            Arc::make_mut(&mut self.font, alloc)?.size = size;
-        }
-        if let Some(width) = declared.border_width {
-            Arc::make_mut(&mut self.border, alloc)?.width = width;
-        }
-        self.source = Some(source);
+        self.cascade(alloc, source)?;
         Ok(self)
     }
 

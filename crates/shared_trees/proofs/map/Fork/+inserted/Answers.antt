@@ -1,9 +1,9 @@
 -- The map with the entry rises, side by side.
-use Rattle.std.proofs.Common.{◌≡◌, ◌∷◌, ◌++◌, ◌<◌, ap, sym, subst, ◌∙◌, arith, rules}
+use Rattle.std.proofs.Common.{◌≡◌, ◌∷◌, ◌++◌, ◌<◌, ap, subst, arith, rules}
 use Rattle.std.proofs.lemmas.Result.{IfOk-weaker}
-use Rattle.shared_trees.specs.Forks.{lesser, upper, around}
+use Rattle.shared_trees.specs.Forks.{lesser, upper}
 use Rattle.shared_trees.specs.Maps.{IsRising, with_entry, above, below}
-use Rattle.shared_trees.proofs.Rising.{rising_one, rising_parts, rising_with_left, rising_with_right, with_nil, with_left, with_right, with_parts}
+use Rattle.shared_trees.proofs.Rising.{rising_parts, rising_with_left, rising_with_right, with_nil, with_left, with_right}
 use Rattle.shared_trees.proofs.map.Fork.+inserted.Goals.{in-Neither+in_ok-less-in-Neither, in-Less+in_ok-less-in-Less}
 use Rattle.shared_trees.proofs.map.Fork.+inserted.Goals.{in-Neither-sides+in_ok-greater-in-Neither-sides, in-Greater+in_ok-greater-in-Greater}
 use Rattle.shared_trees.proofs.map.Fork.+inserted.Goals as goal

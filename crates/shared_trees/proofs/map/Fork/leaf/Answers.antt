@@ -1,5 +1,4 @@
 -- One entry rises.
-use Rattle.std.proofs.Common.{◌≡◌, ◌∷◌, ◌++◌, [], rules}
 use Rattle.shared_trees.proofs.Rising.{rising_one}
 use Rattle.shared_trees.proofs.map.Fork.leaf.Goals as goal
 

@@ -3,18 +3,18 @@ use Rattle.std.specs.Prelude.{ℕ, List, [], ◌∷◌, ◌++◌}
 use Rattle.shared_trees.specs.declared.map.Sides.{Sides}
 use Rattle.shared_trees.specs.declared.map.Sides.TheVariants.{Neither, Less, Greater, Both}
 
--- the entries on the one side, and on the other
-abbrev pub lesser : {V : Type 0} → Sides V → List (ℕ × V)
-lesser Neither = []
-lesser (Less less) = less
-lesser (Greater greater) = []
-lesser (Both less greater) = less
+-- the entries of lesser keys, and those of greater ones
+abbrev pub less_side : {V : Type 0} → Sides V → List (ℕ × V)
+less_side Neither = []
+less_side (Less less) = less
+less_side (Greater greater) = []
+less_side (Both less greater) = less
 
-abbrev pub upper : {V : Type 0} → Sides V → List (ℕ × V)
-upper Neither = []
-upper (Less less) = []
-upper (Greater greater) = greater
-upper (Both less greater) = greater
+abbrev pub greater_side : {V : Type 0} → Sides V → List (ℕ × V)
+greater_side Neither = []
+greater_side (Less less) = []
+greater_side (Greater greater) = greater
+greater_side (Both less greater) = greater
 
 abbrev pub around : {V : Type 0} → Sides V → (ℕ × V) → List (ℕ × V)
-around sides entry = lesser sides ++ entry ∷ upper sides
+around sides entry = less_side sides ++ entry ∷ greater_side sides

@@ -3,7 +3,7 @@ ghost use Rattle.std.specs.Prelude.{◌≡◌, ◌<◌, ◌↔◌, ℕ, IsTrue, 
 ghost use Rattle.std.specs.Prelude.{List, ◌∷◌, ◌++◌, [], None, Some, is_some, length, slice_get};
 ghost use Rattle.std.specs.Option.{option_copied};
 ghost use Rattle.servo_arc.specs.Copies.{CopiesAreEqual};
-ghost use Rattle.shared_trees.specs.Forks.{lesser, upper};
+ghost use Rattle.shared_trees.specs.Forks.{less_side, greater_side};
 ghost use Rattle.shared_trees.specs.Maps.{IsRising, above, below, lookup, with_entry, without};
 
 use servo_arc::Arc;
@@ -222,7 +222,7 @@ impl<V: Send + Sync> Fork<V> {
 
 impl<V: Send + Sync + Drop> Sides<V> {
     fn of(less: TreeMap<V>, greater: TreeMap<V>) -> Sides<V>
-        ensures { (lesser result ≡ less) × (upper result ≡ greater) }
+        ensures { (less_side result ≡ less) × (greater_side result ≡ greater) }
     {
         match (less.root, greater.root) {
             (None, None) => Sides::Neither,
@@ -234,7 +234,7 @@ impl<V: Send + Sync + Drop> Sides<V> {
 
     // One more handle of the tree on that side.
     fn less(&self) -> Result<TreeMap<V>, AllocError>
-        ensures { IfOk result (λ map. map ≡ lesser self.now) }
+        ensures { IfOk result (λ map. map ≡ less_side self.now) }
     {
         match self {
             Sides::Less(fork) | Sides::Both(fork, _) => Ok(TreeMap::with_root(fork.clone()?)),
@@ -243,7 +243,7 @@ impl<V: Send + Sync + Drop> Sides<V> {
     }
 
     fn greater(&self) -> Result<TreeMap<V>, AllocError>
-        ensures { IfOk result (λ map. map ≡ upper self.now) }
+        ensures { IfOk result (λ map. map ≡ greater_side self.now) }
     {
         match self {
             Sides::Greater(fork) | Sides::Both(_, fork) => Ok(TreeMap::with_root(fork.clone()?)),
@@ -427,8 +427,8 @@ impl<V: Send + Sync + Clone> Sides<V> {
     // The tree of what is on both sides.
     fn joined(&self, alloc: Global) -> Result<TreeMap<V>, AllocError>
         requires copies { CopiesAreEqual V.is_clone }
-        requires rising { IsRising (lesser self.now ++ upper self.now) }
-        ensures { IfOk result (λ map. map ≡ lesser self.now ++ upper self.now) }
+        requires rising { IsRising (less_side self.now ++ greater_side self.now) }
+        ensures { IfOk result (λ map. map ≡ less_side self.now ++ greater_side self.now) }
     {
         match self {
             Sides::Both(less, greater) => Ok(TreeMap::with_root(join(alloc, less, greater)?)),

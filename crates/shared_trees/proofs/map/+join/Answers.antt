@@ -2,7 +2,7 @@
 use Rattle.std.proofs.Common.{◌≡◌, [], ◌∷◌, ◌++◌, ap, sym, subst, ◌∙◌, append_assoc, rules}
 use Rattle.std.proofs.lemmas.List.{append-nil}
 use Rattle.std.proofs.lemmas.Result.{IfOk-weaker}
-use Rattle.shared_trees.specs.Forks.{lesser, upper}
+use Rattle.shared_trees.specs.Forks.{less_side, greater_side}
 use Rattle.shared_trees.specs.Maps.{IsRising}
 use Rattle.shared_trees.proofs.Rising.{into_left, into_right, rising_from_left, rising_from_right}
 use Rattle.shared_trees.proofs.map.+join.Goals.{in-Neither+in_ok-between-in-Neither, in-Greater+in_ok-between-in-Greater}
@@ -14,32 +14,32 @@ join-requires-clause-rising g t c κs within =
     let less = c.args.less.now in
     let greater = c.args.greater.now in
     let low = c.low.inside in
-    let is : lesser low.sides ++ low.entry ∷ upper low.sides ≡ less = c.low.view_is ∙ c.deref-low.ensures in
-    let side : c.in-Greater.fork ≡ upper low.sides = search rules in
-    rw side (into_left less (lesser low.sides) low.entry (upper low.sides) greater is c.requires.rising)
+    let is : less_side low.sides ++ low.entry ∷ greater_side low.sides ≡ less = c.low.view_is ∙ c.deref-low.ensures in
+    let side : c.in-Greater.fork ≡ greater_side low.sides = search rules in
+    rw side (into_left less (less_side low.sides) low.entry (greater_side low.sides) greater is c.requires.rising)
 
 pub beside-requires-clause-rising : goal.beside-requires-clause-rising
 beside-requires-clause-rising g t c κs within =
     let less = c.args.less.now in
     let greater = c.args.greater.now in
     let low = c.low.inside in
-    let is : lesser low.sides ++ low.entry ∷ upper low.sides ≡ less = c.low.view_is ∙ c.deref-low.ensures in
-    let made : c.match-low.between ≡ upper low.sides ++ greater =
+    let is : less_side low.sides ++ low.entry ∷ greater_side low.sides ≡ less = c.low.view_is ∙ c.deref-low.ensures in
+    let made : c.match-low.between ≡ greater_side low.sides ++ greater =
     elim c.match-low.branch [
       | in-Neither+in_ok-between-in-Neither w ↦ search rules
       | in-Greater+in_ok-between-in-Greater w ↦ search rules
     ] in
-    let rises : IsRising ((lesser low.sides ++ low.entry ∷ upper low.sides) ++ greater) =
+    let rises : IsRising ((less_side low.sides ++ low.entry ∷ greater_side low.sides) ++ greater) =
     subst (λ es. IsRising (es ++ greater)) (sym is) c.requires.rising in
-    rw (c.in_ok-less.ensures, c.with_root-between.ensures, made) (rising_from_left (lesser low.sides) low.entry (upper low.sides) greater rises)
+    rw (c.in_ok-less.ensures, c.with_root-between.ensures, made) (rising_from_left (less_side low.sides) low.entry (greater_side low.sides) greater rises)
 
 pub returns-in_ok-less : goal.returns-in_ok-less
 returns-in_ok-less g t c =
     let less = c.args.less.now in
     let greater = c.args.greater.now in
     let low = c.low.inside in
-    let is : lesser low.sides ++ low.entry ∷ upper low.sides ≡ less = c.low.view_is ∙ c.deref-low.ensures in
-    let made : c.match-low.between ≡ upper low.sides ++ greater =
+    let is : less_side low.sides ++ low.entry ∷ greater_side low.sides ≡ less = c.low.view_is ∙ c.deref-low.ensures in
+    let made : c.match-low.between ≡ greater_side low.sides ++ greater =
     elim c.match-low.branch [
       | in-Neither+in_ok-between-in-Neither w ↦ search rules
       | in-Greater+in_ok-between-in-Greater w ↦ search rules
@@ -47,8 +47,8 @@ returns-in_ok-less g t c =
     IfOk-weaker c.beside.result _ _
     (λ fork put. put
     ∙ ap (λ es. es ++ low.entry ∷ c.with_root-between.result) c.in_ok-less.ensures
-    ∙ ap (λ es. lesser low.sides ++ low.entry ∷ es) (c.with_root-between.ensures ∙ made)
-    ∙ sym (append_assoc (lesser low.sides) (low.entry ∷ upper low.sides) greater)
+    ∙ ap (λ es. less_side low.sides ++ low.entry ∷ es) (c.with_root-between.ensures ∙ made)
+    ∙ sym (append_assoc (less_side low.sides) (low.entry ∷ greater_side low.sides) greater)
     ∙ ap (λ es. es ++ greater) is)
     c.beside.ensures
 
@@ -57,48 +57,48 @@ join-requires-in-Less-clause-rising g t c κs within =
     let less = c.args.less.now in
     let greater = c.args.greater.now in
     let high = c.high.inside in
-    let is : lesser high.sides ++ high.entry ∷ upper high.sides ≡ greater = c.high.view_is ∙ c.deref-high.ensures in
-    let side : c.in-Less.fork ≡ lesser high.sides = search rules in
-    rw side (into_right greater less (lesser high.sides) high.entry (upper high.sides) is c.requires.rising)
+    let is : less_side high.sides ++ high.entry ∷ greater_side high.sides ≡ greater = c.high.view_is ∙ c.deref-high.ensures in
+    let side : c.in-Less.fork ≡ less_side high.sides = search rules in
+    rw side (into_right greater less (less_side high.sides) high.entry (greater_side high.sides) is c.requires.rising)
 
 pub beside-requires-else-outranks-clause-rising : goal.beside-requires-else-outranks-clause-rising
 beside-requires-else-outranks-clause-rising g t c κs within =
     let less = c.args.less.now in
     let greater = c.args.greater.now in
     let high = c.high.inside in
-    let is : lesser high.sides ++ high.entry ∷ upper high.sides ≡ greater = c.high.view_is ∙ c.deref-high.ensures in
-    let made : c.match-high.between ≡ less ++ lesser high.sides =
+    let is : less_side high.sides ++ high.entry ∷ greater_side high.sides ≡ greater = c.high.view_is ∙ c.deref-high.ensures in
+    let made : c.match-high.between ≡ less ++ less_side high.sides =
     elim c.match-high.branch [
       | in-Neither-sides+in_ok-between-in-Neither-sides w ↦
-          let none : lesser high.sides ≡ [] = search rules in
+          let none : less_side high.sides ≡ [] = search rules in
           w.between-is ∙ w.in_ok-between-in-Neither-sides.ensures.cases ∙ sym (append-nil less) ∙ ap (λ es. less ++ es) (sym none)
       | in-Less+in_ok-between-in-Less w ↦
-          let side : w.in-Less.fork ≡ lesser high.sides = search rules in
+          let side : w.in-Less.fork ≡ less_side high.sides = search rules in
           w.between-is ∙ w.in_ok-between-in-Less.ensures ∙ ap (λ es. less ++ es) side
     ] in
-    let rises : IsRising (less ++ (lesser high.sides ++ high.entry ∷ upper high.sides)) =
+    let rises : IsRising (less ++ (less_side high.sides ++ high.entry ∷ greater_side high.sides)) =
     subst (λ es. IsRising (less ++ es)) (sym is) c.requires.rising in
-    rw (c.with_root-between-else-outranks.ensures, made, c.in_ok-greater.ensures) (rising_from_right less (lesser high.sides) high.entry (upper high.sides) rises)
+    rw (c.with_root-between-else-outranks.ensures, made, c.in_ok-greater.ensures) (rising_from_right less (less_side high.sides) high.entry (greater_side high.sides) rises)
 
 pub returns-in_ok-greater : goal.returns-in_ok-greater
 returns-in_ok-greater g t c =
     let less = c.args.less.now in
     let greater = c.args.greater.now in
     let high = c.high.inside in
-    let is : lesser high.sides ++ high.entry ∷ upper high.sides ≡ greater = c.high.view_is ∙ c.deref-high.ensures in
-    let made : c.match-high.between ≡ less ++ lesser high.sides =
+    let is : less_side high.sides ++ high.entry ∷ greater_side high.sides ≡ greater = c.high.view_is ∙ c.deref-high.ensures in
+    let made : c.match-high.between ≡ less ++ less_side high.sides =
     elim c.match-high.branch [
       | in-Neither-sides+in_ok-between-in-Neither-sides w ↦
-          let none : lesser high.sides ≡ [] = search rules in
+          let none : less_side high.sides ≡ [] = search rules in
           w.between-is ∙ w.in_ok-between-in-Neither-sides.ensures.cases ∙ sym (append-nil less) ∙ ap (λ es. less ++ es) (sym none)
       | in-Less+in_ok-between-in-Less w ↦
-          let side : w.in-Less.fork ≡ lesser high.sides = search rules in
+          let side : w.in-Less.fork ≡ less_side high.sides = search rules in
           w.between-is ∙ w.in_ok-between-in-Less.ensures ∙ ap (λ es. less ++ es) side
     ] in
     IfOk-weaker c.beside-else-outranks-2.result _ _
     (λ fork put. put
     ∙ ap (λ es. es ++ high.entry ∷ c.in_ok-greater.field-0) (c.with_root-between-else-outranks.ensures ∙ made)
-    ∙ ap (λ es. (less ++ lesser high.sides) ++ high.entry ∷ es) c.in_ok-greater.ensures
-    ∙ append_assoc less (lesser high.sides) (high.entry ∷ upper high.sides)
+    ∙ ap (λ es. (less ++ less_side high.sides) ++ high.entry ∷ es) c.in_ok-greater.ensures
+    ∙ append_assoc less (less_side high.sides) (high.entry ∷ greater_side high.sides)
     ∙ ap (λ es. less ++ es) is)
     c.beside-else-outranks-2.ensures

@@ -1,7 +1,7 @@
 -- The map with the entry rises, side by side.
 use Rattle.std.proofs.Common.{◌≡◌, ◌∷◌, ◌++◌, ◌<◌, ap, subst, arith, rules}
 use Rattle.std.proofs.lemmas.Result.{IfOk-weaker}
-use Rattle.shared_trees.specs.Forks.{lesser, upper}
+use Rattle.shared_trees.specs.Forks.{less_side, greater_side}
 use Rattle.shared_trees.specs.Maps.{IsRising, with_entry, above, below}
 use Rattle.shared_trees.proofs.Rising.{rising_parts, rising_with_left, rising_with_right, with_nil, with_left, with_right}
 use Rattle.shared_trees.proofs.map.Fork.+inserted.Goals.{in-Neither+in_ok-less-in-Neither, in-Less+in_ok-less-in-Less}
@@ -21,14 +21,14 @@ beside-requires-clause-rising g t c κs within =
     let key = c.args.key in
     let value = c.args.value in
     let fork = c.self.inside in
-    let made : c.match-self.less ≡ with_entry key value (lesser fork.sides) =
+    let made : c.match-self.less ≡ with_entry key value (less_side fork.sides) =
     elim c.match-self.branch [
       | in-Neither+in_ok-less-in-Neither w ↦ search (rules, with_nil)
       | in-Less+in_ok-less-in-Less w ↦ search rules
     ] in
     let h : key < fork.entry.0 = omega arith in
-    let put : IsRising (with_entry key value (lesser fork.sides) ++ fork.entry ∷ upper fork.sides) =
-    rising_with_left key value (lesser fork.sides) fork.entry (upper fork.sides) h c.self.invariant.1 in
+    let put : IsRising (with_entry key value (less_side fork.sides) ++ fork.entry ∷ greater_side fork.sides) =
+    rising_with_left key value (less_side fork.sides) fork.entry (greater_side fork.sides) h c.self.invariant.1 in
     cc (made, c.with_root-less.ensures, c.in_ok-greater.ensures)
 
 pub beside-requires-else-key-here-2-clause-rising : goal.beside-requires-else-key-here-2-clause-rising
@@ -36,14 +36,14 @@ beside-requires-else-key-here-2-clause-rising g t c κs within =
     let key = c.args.key in
     let value = c.args.value in
     let fork = c.self.inside in
-    let made : c.match-self-2.greater ≡ with_entry key value (upper fork.sides) =
+    let made : c.match-self-2.greater ≡ with_entry key value (greater_side fork.sides) =
     elim c.match-self-2.branch [
       | in-Neither-sides+in_ok-greater-in-Neither-sides w ↦ search (rules, with_nil)
       | in-Greater+in_ok-greater-in-Greater w ↦ search rules
     ] in
     let h : fork.entry.0 < key = omega arith in
-    let put : IsRising (lesser fork.sides ++ fork.entry ∷ with_entry key value (upper fork.sides)) =
-    rising_with_right key value (lesser fork.sides) fork.entry (upper fork.sides) h c.self.invariant.1 in
+    let put : IsRising (less_side fork.sides ++ fork.entry ∷ with_entry key value (greater_side fork.sides)) =
+    rising_with_right key value (less_side fork.sides) fork.entry (greater_side fork.sides) h c.self.invariant.1 in
     cc (made, c.with_root-greater.ensures, c.in_ok-less-2.ensures)
 
 pub returns-in_ok-greater : goal.returns-in_ok-greater
@@ -51,13 +51,13 @@ returns-in_ok-greater g t c =
     let key = c.args.key in
     let value = c.args.value in
     let fork = c.self.inside in
-    let made : c.match-self.less ≡ with_entry key value (lesser fork.sides) =
+    let made : c.match-self.less ≡ with_entry key value (less_side fork.sides) =
     elim c.match-self.branch [
       | in-Neither+in_ok-less-in-Neither w ↦ search (rules, with_nil)
       | in-Less+in_ok-less-in-Less w ↦ search rules
     ] in
     let h : key < fork.entry.0 = omega arith in
-    let put = with_left key value (lesser fork.sides) fork.entry (upper fork.sides) h c.self.invariant.1 in
+    let put = with_left key value (less_side fork.sides) fork.entry (greater_side fork.sides) h c.self.invariant.1 in
     IfOk-weaker c.beside-then-key-here-2.result _ _
     (λ map is. cc (put, made, c.self.view_is, c.with_root-less.ensures, c.in_ok-greater.ensures))
     c.beside-then-key-here-2.ensures
@@ -67,13 +67,13 @@ returns-in_ok-less-2 g t c =
     let key = c.args.key in
     let value = c.args.value in
     let fork = c.self.inside in
-    let made : c.match-self-2.greater ≡ with_entry key value (upper fork.sides) =
+    let made : c.match-self-2.greater ≡ with_entry key value (greater_side fork.sides) =
     elim c.match-self-2.branch [
       | in-Neither-sides+in_ok-greater-in-Neither-sides w ↦ search (rules, with_nil)
       | in-Greater+in_ok-greater-in-Greater w ↦ search rules
     ] in
     let h : fork.entry.0 < key = omega arith in
-    let put = with_right key value (lesser fork.sides) fork.entry (upper fork.sides) h c.self.invariant.1 in
+    let put = with_right key value (less_side fork.sides) fork.entry (greater_side fork.sides) h c.self.invariant.1 in
     IfOk-weaker c.beside-else-key-here-2.result _ _
     (λ map is. cc (put, made, c.self.view_is, c.with_root-greater.ensures, c.in_ok-less-2.ensures))
     c.beside-else-key-here-2.ensures

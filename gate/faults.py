@@ -3,12 +3,13 @@
 
 A function is proved from its own body and the contracts of what it calls. So faults in the bodies of different functions
 do not see each other, and are tried together: each function that a fault changes has to keep an open goal of its own.
-A fault that changes more than bodies is tried alone; and one that leaves no goal open in one of them at last, too.
+The same holds of faults in different files that change the heads of functions or impls, but no clause. A fault that
+changes a clause is tried alone; and one that leaves no goal open in one of its functions at last, too.
 
     gate/faults.py                 tries all faults, and says how many a clause refuses
     gate/faults.py NAME[/EDIT]..   tries those of a crate, or one of them, and says which goals each leaves open
 
-The crates without faults are proved first, in their folders out/, and copied with these proofs.
+The crates without faults are proved first, in their folders out/, and each check begins with these proofs.
 """
 
 import os
@@ -18,7 +19,7 @@ import subprocess
 import sys
 import tempfile
 import time
-from concurrent.futures import ThreadPoolExecutor
+from concurrent.futures import ThreadPoolExecutor, as_completed
 from dataclasses import dataclass, field
 
 ROOT = os.path.dirname(os.path.dirname(os.path.abspath(__file__)))
@@ -26,8 +27,9 @@ HEAD = re.compile(r"( *)(?:pub(?:\([a-z]+\))? )?(?:const )?(?:unsafe )?fn (\w+)"
 ADDED = re.compile(r" *(?:pub(?:\([a-z]+\))? )?fn (\w+)")
 TOLD = re.compile(r"(note: )?(?:\./)?((?:src|specs|proofs)/[^:\s]+):(\d+):\d+: (?!note)(.*)")
 ENDLESS = re.compile(r"fn \w+::(\S+): (no proof: expected .*)")  # a loop or recursion that nobody shows to end
+CLAUSE = re.compile(r"\b(?:ensures|requires|ghost)\b")
 UNREAD = re.compile(r"is not in scope|has no field|is no name|operand is missing|expected the end|cannot continue")
-AT_ONCE = 2
+AT_ONCE = min(4, os.cpu_count())
 
 
 @dataclass(frozen=True)
@@ -54,10 +56,14 @@ class Fault:
     lines: dict = field(default_factory=dict)  # by file and number, what stands there with the fault
     functions: list = field(default_factory=list)  # whose bodies it changes
     added: list = field(default_factory=list)  # functions that it adds, each in a line of its own
-    is_alone: bool = False
+    heads: set = field(default_factory=set)  # files in which it changes more than bodies
+    is_alone: bool = False  # whether a clause is among that
 
     def sees(self, other):
-        """Whether both change one function or one line."""
+        """Whether both change one function or one line, or one changes more than bodies in a file of the other."""
+        files = {path for path, _ in self.lines}, {path for path, _ in other.lines}
+        if self.heads & files[1] or other.heads & files[0]:
+            return True
         return any(it in self.functions for it in other.functions) or any(it in self.lines for it in other.lines)
 
 
@@ -122,8 +128,9 @@ def read_fault(crate, name):
             fault.functions += [it for it in inside if it not in fault.functions]
             if ADDED.match(wrong) and (wrong.endswith(sound.strip()) or sound.lstrip().startswith("//")):
                 fault.added.append(Function(path, ADDED.match(wrong)[1], at, at, at))
-            else:
-                fault.is_alone |= not inside
+            elif not inside:
+                fault.heads.add(path)
+                fault.is_alone |= bool(CLAUSE.search(sound) or CLAUSE.search(wrong))
     if not fault.lines:
         raise BadFault("it changes nothing")
     return fault
@@ -156,48 +163,52 @@ def all_below(crate, below):
     return {it for one in below[crate] for it in (one, *all_below(one, below))}
 
 
-class Copy:
-    """A copy of a crate and of what it stands on, which no other crate's faults reach."""
+def copy_or_link(source, to):
+    """Copies a file. What was proved is linked, where that can be: a check replaces such a file, and never writes into it."""
+    try:
+        return os.link(source, to) if "/out/" in source else shutil.copy(source, to)
+    except OSError:
+        return shutil.copy(source, to)
 
-    def __init__(self, room, crate):
-        self.crate = crate
-        self.folder = f"{room}/crates/{crate}"
-        for name in ("crates.txt", "HANDLES"):
-            shutil.copy(f"{ROOT}/{name}", room)
-        os.mkdir(f"{room}/.git")  # the top of a repository
-        below = dependencies()
-        for name in below:
-            is_needed = name == crate or name in all_below(crate, below)
-            left_out = shutil.ignore_patterns("must-fail", *([] if is_needed else ["out"]))
-            shutil.copytree(f"{ROOT}/crates/{name}", f"{room}/crates/{name}", ignore=left_out)
 
-    def check(self, faults=()):
-        """Checks the crate with these faults, and gives what was told: whether it was proved, and each line with a place."""
-        folder = self.folder
-        sound = {path: text_of(f"{folder}/{path}") for fault in faults for path, _ in fault.lines}
-        texts = {path: text.split("\n") for path, text in sound.items()}
-        for fault in faults:
-            for (path, at), line in fault.lines.items():
-                texts[path][at] = line
-        self.write(folder, {path: "\n".join(lines) for path, lines in texts.items()})
-        try:
-            how = {"stdin": subprocess.DEVNULL, "stdout": subprocess.PIPE, "stderr": subprocess.STDOUT, "text": True, "errors": "replace"}
-            said = subprocess.run(["rt", "check"], cwd=folder, **how).stdout
-        finally:
-            self.write(folder, sound)
-        if "\nlogic=proved" in said:
-            return True, []
-        if "\nlogic=not-proved" not in said:
-            return False, [(None, 0, said[-600:])]
-        told = [(it[2], int(it[3]) - 1, it[4]) for it in map(TOLD.match, said.split("\n")) if it]
-        endless = [(f"proofs/{it[1].replace('::', '/')}/Invariants.antt", 0, it[2]) for it in map(ENDLESS.match, said.split("\n")) if it]
-        return False, told + endless
+def copied_to(room, crate):
+    """The folder of a copy of the crate, with what was proved of it and of what it stands on."""
+    for name in ("crates.txt", "HANDLES"):
+        shutil.copy(f"{ROOT}/{name}", room)
+    os.mkdir(f"{room}/.git")  # the top of a repository
+    below = dependencies()
+    for name in below:
+        is_needed = name == crate or name in all_below(crate, below)
+        left_out = shutil.ignore_patterns("must-fail", *([] if is_needed else ["out"]))
+        shutil.copytree(f"{ROOT}/crates/{name}", f"{room}/crates/{name}", ignore=left_out, copy_function=copy_or_link)
+    return f"{room}/crates/{crate}"
 
-    @staticmethod
-    def write(folder, texts):
-        for path, text in texts.items():
-            with open(f"{folder}/{path}", "w", encoding="utf-8") as it:
-                it.write(text)
+
+def plant(folder, faults):
+    texts = {path: text_of(f"{folder}/{path}").split("\n") for fault in faults for path, _ in fault.lines}
+    for fault in faults:
+        for (path, at), line in fault.lines.items():
+            texts[path][at] = line
+    for path, lines in texts.items():
+        with open(f"{folder}/{path}", "w", encoding="utf-8") as it:
+            it.write("\n".join(lines))
+
+
+def check(crate, faults):
+    """Checks a copy of the crate with these faults, and gives what was told: whether it was proved, and each line with a place."""
+    with tempfile.TemporaryDirectory(prefix="faults-", dir=f"{ROOT}/out") as room:
+        folder = copied_to(room, crate)
+        plant(folder, faults)
+        how = {"stdin": subprocess.DEVNULL, "stdout": subprocess.PIPE, "stderr": subprocess.STDOUT, "text": True, "errors": "replace"}
+        # Several run at once, and after a small change more jobs only take more time.
+        said = subprocess.run(["rt", "check", "--jobs", "1"], cwd=folder, **how).stdout
+    if "\nlogic=proved" in said:
+        return True, []
+    if "\nlogic=not-proved" not in said:
+        return False, [(None, 0, said[-600:])]
+    told = [(it[2], int(it[3]) - 1, it[4]) for it in map(TOLD.match, said.split("\n")) if it]
+    endless = [(f"proofs/{it[1].replace('::', '/')}/Invariants.antt", 0, it[2]) for it in map(ENDLESS.match, said.split("\n")) if it]
+    return False, told + endless
 
 
 def is_unread(goal):
@@ -223,24 +234,25 @@ def judged(is_proved, goals):
     return Verdict(True, goals, any(map(is_of_the_code, goals)))
 
 
-def try_part(copy, part):
-    """The verdicts of faults that do not see each other, by name."""
-    is_proved, goals = copy.check(part)
+def try_part(part):
+    """The verdicts of faults of a crate that do not see each other, by name."""
+    crate = part[0].crate
+    is_proved, goals = check(crate, part)
     if len(part) == 1:
-        return {part[0].name: judged(is_proved, goals)}
+        return {f"{crate}/{part[0].name}": judged(is_proved, goals)}
     verdicts, rest = {}, []
     for fault in part:
         of = lambda function: [it for it in goals if it[0] and function.has(it[0], it[1])]
         own, added = list(map(of, fault.functions)), list(map(of, fault.added))
         told = [it for some in own + added for it in some]
         if told and all(own) and not any(map(is_unread, goals)):
-            verdicts[fault.name] = Verdict(True, told, all(any(map(is_of_the_code, some)) for some in own or [told]))
+            verdicts[f"{crate}/{fault.name}"] = Verdict(True, told, all(any(map(is_of_the_code, some)) for some in own or [told]))
         else:
             rest.append(fault)
     # A function is not checked while one that it calls has no proof, so those of which nothing was told are tried without the others.
     half = len(part) // 2
     for again in [rest] if len(rest) < len(part) else [part[:half], part[half:]]:
-        verdicts |= try_part(copy, again) if again else {}
+        verdicts |= try_part(again) if again else {}
     return verdicts
 
 
@@ -252,18 +264,30 @@ def is_proved(crate):
     return subprocess.run(["rt", verb], cwd=folder, stdin=subprocess.DEVNULL, stdout=subprocess.DEVNULL, stderr=subprocess.STDOUT).returncode == 0
 
 
-def try_crate(crate, names):
-    started, verdicts, faults = time.time(), {}, []
+def parts_of(crate, names):
+    """The faults of a crate, parted, and a verdict on each that cannot be planted."""
+    faults, verdicts = [], {}
     for name in names:
         try:
             faults.append(read_fault(crate, name))
         except BadFault as why:
-            verdicts[name] = Verdict(False, [(None, 0, f"the fault cannot be planted: {why}")])
-    with tempfile.TemporaryDirectory(prefix="faults-") as room:
-        copy = Copy(room, crate)
-        for part in together(faults):
-            verdicts |= try_part(copy, part)
-            print(f"{crate}: {len(verdicts)} of {len(names)} faults, {time.time() - started:.0f} s", flush=True)
+            verdicts[f"{crate}/{name}"] = Verdict(False, [(None, 0, f"the fault cannot be planted: {why}")])
+    return together(faults), verdicts
+
+
+def try_all(faults):
+    """The verdicts of all faults, by crate and name."""
+    started, parts, verdicts = time.time(), [], {}
+    for crate, names in faults.items():
+        more, bad = parts_of(crate, names)
+        parts += more
+        verdicts |= bad
+    number = sum(map(len, faults.values()))
+    with ThreadPoolExecutor(AT_ONCE) as pool:
+        # The largest first, since they take longest.
+        for given in as_completed([pool.submit(try_part, it) for it in sorted(parts, key=len, reverse=True)]):
+            verdicts |= given.result()
+            print(f"{len(verdicts)} of {number} faults, {time.time() - started:.0f} s", flush=True)
     return verdicts
 
 
@@ -284,10 +308,8 @@ def main(words):
     if unproved:
         print(f"faults: not tried, since these are not proved without them: {' '.join(unproved)}")
         return True
-    with ThreadPoolExecutor(AT_ONCE) as pool:
-        longest_first = sorted(faults, key=lambda it: -len(faults[it]))
-        given = {crate: pool.submit(try_crate, crate, faults[crate]) for crate in longest_first}
-        verdicts = {f"{crate}/{name}": it for crate in faults for name, it in given[crate].result().items()}
+    os.makedirs(f"{ROOT}/out", exist_ok=True)
+    verdicts = try_all(faults)
     for name, verdict in sorted(verdicts.items()):
         if words or not verdict.is_refused or not verdict.by_clause:
             kind = "NOT REFUSED" if not verdict.is_refused else "refused by a clause" if verdict.by_clause else "refused by a proof by hand"

@@ -1,10 +1,14 @@
 #!/usr/bin/env bash
 # Proves every crate and its tests from nothing, and runs the tests and the programs: `rt ci`, on a copy without the
 # planted faults. `rt ci` would try these one by one; gate/faults.py tries many in one check.
+#
+#     gate/proofs.sh [FOLDER]    keeps the built tests of refusal_tests there
 set -eu
+folder=${1:+$(realpath "$1")}
 cd "$(dirname "$0")/.."
 copy=$(mktemp -d)
 trap 'rm -rf "$copy"' EXIT
 tar -c --exclude=./.git --exclude=out --exclude=must-fail . | tar -x -C "$copy"
 cd "$copy"
 rt ci
+[[ -z $folder ]] || cp crates/refusal_tests/out/refusal_tests_tests "$folder"

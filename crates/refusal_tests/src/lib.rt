@@ -1,5 +1,5 @@
-//! Tests in which one request for memory is refused, as `rt try --test --fail-alloc N` refuses the Nth of each. Each test
-//! holds whichever of its requests it is, and says which one it met.
+//! Tests in which one request for memory is refused: `gate/refused_memory.sh` refuses the Nth of each. A test holds
+//! whichever of its requests it is, and says which one it met.
 #![tactic(auto)]
 
 #[cfg(test)]

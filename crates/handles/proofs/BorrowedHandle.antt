@@ -1,6 +1,6 @@
 -- One atomic step through a `&` to a handle: how a walk reads the pointer, and how it gives back what it borrowed for the step.
 -- Assumes `Logic`.
-use Rattle.std.proofs.Common.{◌≡◌, ℕ, ◌+◌, Bool, false, List, [], ◌∷◌, refl, ap, ◌∙◌}
+use Rattle.std.proofs.Common.{◌≡◌, ℕ, Bool, false, List, [], ◌∷◌, refl, ap, ◌∙◌}
 use seplogic.Ra.Ura.{Ura}
 use mir.Val.{Val}
 use base.Logic.{id⊢}
@@ -17,10 +17,10 @@ use denote.Opens.{Shut, unhide}
 use denote.RawPtr.{Ptr, InBlock, block_ptr, block_of, count_of as offset_of, at_block}
 use denote.Steps.{looks, peeks}
 use Rattle.handles.specs.Inside.Rights.{Right}
-use Rattle.handles.specs.Inside.Blocks.{HeldRow, Names, stamp, held_and_block, block_rule, shown, handle_shares, gain_owns}
+use Rattle.handles.specs.Inside.Blocks.{HeldRow, Names, block_rule, shown, handle_shares, gain_owns}
 use Rattle.handles.specs.contracts.block.Handle as handle_type
 use Rattle.handles.proofs.Fields.{one_word, words_told, words_open, HandleRow, HandleWords, gain_shown}
-use Rattle.handles.proofs.Steps.{gained}
+use Rattle.handles.proofs.Steps.Shared.{block_at, gained}
 
 -- the pointer of a handle, as its block and its offset
 abbrev pub parted : Ptr → Ptr
@@ -52,7 +52,7 @@ module _ (R : RattleType) (p : Ptr) (x : (HeldRow R).Denot) {M : Type 1} {𝓤 :
 
   -- a gain that was made through a `&`
   pub shows_gain : K → Soaks G → InBlock p → (i : Names) (r : Right)
-      → Step K 𝓛 (‵ (gain_owns R p x r) ∷ Γ) G (‵ (gained (held_and_block R p x) (stamp p) (block_of p) (offset_of p + 0) i r) ∷ ‵ (finv (block_rule R p x i)) ∷ ‵ (shown R p x (i.shared ∷ [])) ∷ Γ) G
+      → Step K 𝓛 (‵ (gain_owns R p x r) ∷ Γ) G (‵ (gained (block_at R p x i) r) ∷ ‵ (finv (block_rule R p x i)) ∷ ‵ (shown R p x (i.shared ∷ [])) ∷ Γ) G
   shows_gain t soaks inb i r = step (λ s. use3 𝓛 (later (‵ (gain_owns R p x r))) (gain_shown 𝓛 R p x inb i r) $ await t soaks $ s)
 
 module _ {M : Type 1} {𝓤 : Ura M} {𝓛 : Logic 𝓤} {K : Type 0} {Γ : List (Item 𝓤)} {G : Goal 𝓤 𝓛.H} where

@@ -31,7 +31,7 @@ use Rattle.handles.specs.Inside.Rights.{Right, nothing, a_handle, to_lower, whol
 use Rattle.core.specs.Sync.RawAtomic.{word}
 use Rattle.std.specs.declared.alloc.Global.{Global}
 use Rattle.handles.specs.Inside.Blocks.{HeldRow, handle_owns, frees, held_offset, Names, unit_of_count, counted, stamp, held_and_block, shown, block_rule, Sharing, not_yet, begun, held_as, unshared_block, gain_owns}
-use Rattle.handles.proofs.Steps.{gained}
+use Rattle.handles.proofs.Steps.Shared.{block_at, gained}
 use Rattle.handles.specs.contracts.block.Handle as handle_type
 use Rattle.handles.specs.contracts.block.Gain as gain
 
@@ -110,7 +110,7 @@ module _ {M : Type 1} {𝓤 : Ura M} (𝓛 : Logic 𝓤) (R : RattleType) (p : P
   open 𝓛 use {H}
 
   abbrev Gained : Right → Fml
-  Gained = gained (held_and_block R p x) (stamp p) (block_of p) (offset_of p + 0) i
+  Gained = gained (block_at R p x i)
 
   -- what a step gained, as a gain owns it
   pub gain_kept : (r : Right) → NoHandle r → ent 𝓤 (sep 𝓤 (sem 𝓛 (Gained r)) (sem 𝓛 (finv (block_rule R p x i)))) (H.⇛ (sem 𝓛 (gain_owns R p x r)))

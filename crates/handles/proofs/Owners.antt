@@ -29,7 +29,8 @@ use Rattle.counting_word.specs.CountingWord.{is_one_handle, marked_word}
 use Rattle.counting_word.proofs.Words.{stands-one}
 use Rattle.handles.proofs.block.Held.TheLaws.{the_row_laws as held_laws}
 use Rattle.handles.specs.Inside.Blocks.{HeldRow, Says, Names, Stage, living, entitled, stake, stage, Rule, counted, counted_shares, placed, stamp, shown, frees, held_and_block, held_offset, counted_handle, Sharing, not_yet, marked_not_yet, begun, held_as, IsFirst, handle_shares, owned_as, shared_as, unshared_block, counted_handle}
-use Rattle.handles.proofs.Steps.{stands-unmarked, says-marked, counted_stake, makes_one}
+use Rattle.handles.proofs.Steps.Says.{stands-unmarked, says-marked}
+use Rattle.handles.proofs.Steps.Shared.{SharedBlock, counted_stake, makes_one}
 
 -- the word of a new block stands for its one handle
 says-new : (limit : ℕ) → 1 ≤ limit → Says limit 1 false 1
@@ -61,12 +62,13 @@ module _ (content kept : Fml) (limit b o : ℕ) (t : Lft → Fml) (L : ShrLaws t
         move ! (0 ∷ 3 ∷ []) $ join ! $ move ! (2 ∷ 0 ∷ []) $
         use2 𝓛 (later (‵ (t (a ∷ [])) ⊛ ‵ (flft (a ∷ []) e) ⊛ ‵ (flft μ q)))
         (lends (a ∷ []) ((a ∷ [], e) ∷ (μ, q) ∷ []) (Incl-trans (meet_⊑_right (a ∷ []) μ) inc) (meet_⊑_left (a ∷ []) μ)) $ await ! tt $ split3 ! $
-        move ! (1 ∷ []) $ use1 𝓛 (‵ (part 64 a)) (part_in 64 𝓛 a e c) $ use1 𝓛 (‵ (stake i)) (counted_stake 𝓛 content kept limit b o i) $ move ! (0 ∷ 3 ∷ 1 ∷ []) $ fjoin3 ! $ fpack ! Names Held i $ now ! $ done !))))
+        move ! (1 ∷ []) $ use1 𝓛 (‵ (part 64 a)) (part_in 64 𝓛 a e c) $ use1 𝓛 (‵ (stake i)) (counted_stake 𝓛 i) $ move ! (0 ∷ 3 ∷ 1 ∷ []) $ fjoin3 ! $ fpack ! Names Held i $ now ! $ done !))))
 
     -- with the mark, its lifetime is over and the handle is made from the pool
     pub becomes_marked : (l : Lft) → Lends 𝓛 content t l → Settles 𝓛 (fsep (word b o (marked_word 1)) (fsep content kept)) (fex Names Held) l
     becomes_marked l lends μ q inc =
         qed 𝓛 (‵ (fsep (word b o (marked_word 1)) (fsep content kept)) ∷ ‵ (flft μ q) ∷ []) ∵ updating ! $ fsplit3 ! $ lft_new ! tt (λ m. lft_new ! tt (λ a. let i : Names = record { shared = a; unmarked = m } in
+        let s : SharedBlock = record { content = content; kept = kept; limit = limit; block = b; offset = o; names = i } in
         use1 𝓛 (‵ (rest 64 a 1) ⊛ ‵ (part 64 a)) (cut 64 𝓛 a 0 full_share (lit< tt) (Counts-all 64)) $ split ! $ move ! (4 ∷ []) $ bor_new ! tt (a ∷ []) $ move ! (3 ∷ []) $ fpick ! (λ e. fpick ! (λ c.
         -- [the part; the borrow; the lender; the parts; the mark's token; the word; what is kept; the token]
         move ! (0 ∷ 7 ∷ []) $ join ! $ move ! (1 ∷ 0 ∷ []) $
@@ -75,7 +77,7 @@ module _ (content kept : Fml) (limit b o : ℕ) (t : Lft → Fml) (L : ShrLaws t
         -- [the sharing; the part; the token; the lender; the parts; the mark's token; the word; what is kept]
         move ! (5 ∷ []) $ lft_end ! tt $ move ! (2 ∷ []) $ fpack ! Share (λ e. flft (a ∷ []) e) e $ move ! (0 ∷ 7 ∷ []) $ fjoin ! $ move ! (5 ∷ 0 ∷ 1 ∷ []) $ fjoin3 ! $
         -- [what is beside the word; the sharing; the token; the lender; the word]
-        move ! (4 ∷ 0 ∷ []) $ use2 𝓛 (‵ (Rule content kept limit b o i) ⊛ ‵ (stake i)) (makes_one 𝓛 content kept limit b o i (marked_word 1) 0 (says-new_mark limit)) $ split ! $
+        move ! (4 ∷ 0 ∷ []) $ use2 𝓛 (‵ (Rule content kept limit b o i) ⊛ ‵ (stake i)) (makes_one 𝓛 s (marked_word 1) 0 (says-new_mark limit)) $ split ! $
         use1 𝓛 (later (‵ (finv (Rule content kept limit b o i)))) (𝓛.invs.inv_new (Rule content kept limit b o i)) $ await ! tt $
         move ! (1 ∷ 0 ∷ 2 ∷ []) $ fjoin3 ! $ fpack ! Names Held i $ now ! $ keep ! (0 ∷ 1 ∷ []) $ done !))))
 

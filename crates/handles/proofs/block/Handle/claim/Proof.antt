@@ -1,5 +1,5 @@
 -- `claim` is one load of the word, by which the handle knows whether it is the only one.
-use Rattle.handles.proofs.Walks.{◌≡◌, ℕ, ◌+◌, ◌^◌, false, List, [], ◌∷◌, refl, sym, ap, ◌∙◌, lit<, w64, a_type, named, Val, vint, vptr, inst_fn, full_share, SProp, via, Lft, Share, Fml, ftrue, flft, finv, ‵, raw, ◌⊛◌, later, mean, at_ret, ◌$◌, ◌∵◌, !, qed, by, move, keep, drop, split, split3, join, fsplit, fsplit3, fjoin, fjoin3, fpick, use0, use1, use2, use3, await, rewrite, feq_i, flt_i, stop, fld, load, addr, lit, of_opd, no_more, and_then, first, blocks, exec, Calls-last, returns, enter, alloc_all, pass_all, free_all, look_at, get, through, sets, lands_last, env, agg, sub, whole, look_in, tables, fact, RattleType, owns, types_at, plain, Ptr, block_ptr, block_of, offset_of, at_block, nothing_more, peeks, heard, Is, shows, cell_at, param, layouts, param_laws, Stays, walk_of, after, proved, leaves, fm, seq_cst, found, finds, HeldRow, stamp, held_and_block, block_rule, gain_owns, one_word, words_told, words_made, HandleRow, HandleWords, known}
+use Rattle.handles.proofs.Walks.{◌≡◌, ℕ, ◌+◌, ◌^◌, false, List, [], ◌∷◌, refl, sym, ap, ◌∙◌, lit<, w64, a_type, named, Val, vint, vptr, inst_fn, full_share, SProp, via, Lft, Share, Fml, ftrue, flft, finv, ‵, raw, ◌⊛◌, later, mean, at_ret, ◌$◌, ◌∵◌, !, qed, by, move, keep, drop, split, split3, join, fsplit, fsplit3, fjoin, fjoin3, fpick, use0, use1, use2, use3, await, rewrite, feq_i, flt_i, stop, fld, load, addr, lit, of_opd, no_more, and_then, first, blocks, exec, Calls-last, returns, enter, alloc_all, pass_all, free_all, look_at, get, through, sets, lands_last, env, agg, sub, whole, look_in, tables, fact, RattleType, owns, types_at, plain, Ptr, block_ptr, block_of, offset_of, at_block, nothing_more, peeks, heard, Is, shows, cell_at, param, layouts, param_laws, Stays, walk_of, after, proved, leaves, fm, seq_cst, found, finds, HeldRow, block_rule, gain_owns, one_word, words_told, words_made, HandleRow, HandleWords, known}
 use base.Fml.{GName}
 use denote.Ref.{mut_vals, mut_Tells}
 use denote.Steps.{opens, closes}
@@ -10,7 +10,8 @@ use Rattle.atomic_table.proofs.Calls.{loads}
 use Rattle.counting_word.specs.CountingWord.{is_one_handle}
 use Rattle.handles.specs.Inside.Rights.{right_by_claim}
 use Rattle.handles.specs.Inside.Blocks.{counted_handle, owned_as, handle_owns}
-use Rattle.handles.proofs.Steps as steps
+use Rattle.handles.proofs.Steps.Shared.{block_at}
+use Rattle.handles.proofs.Steps.Claims.{claims, after_claim}
 use Rattle.handles.proofs.Fields.{gain_shown, claim_tells}
 use Rattle.handles.proofs.Owners.{forgets, handle_settles}
 use Rattle.handles.specs.contracts.block.Handle as handle_type
@@ -37,10 +38,10 @@ claim_spec 𝓤 𝓛 𝓜 𝓡 wired T L =
     -- [what it owns; its cell; the open borrow; its two names; its place; nothing; the token of T; nothing]
     use1 𝓛 (‵ (owned_as R p x false)) (forgets R (param_laws 0 T L) 𝓛 p x me.sole) $ move ! (0 ∷ 7 ∷ []) $
     use2 𝓛 (later (‵ (counted_handle R p x) ⊛ ‵ (flft μ r))) (handle_settles R (param_laws 0 T L) 𝓛 p x μ lives μ r (Incl-refl μ)) $ await ! tt $ split ! $ fpick ! (λ i. fsplit3 ! $
-    let I : Fml = block_rule R p x i in let aft : ℕ → Fml = steps.after_claim 𝓛 (held_and_block R p x) (stamp p) x.limit.count pb (po + 0) i in
+    let I : Fml = block_rule R p x i in let aft : ℕ → Fml = after_claim (block_at R p x i) in
     sets ! (of_opd ! (load ! (through ! refl (fld ! refl (stop !))) (look_in ! 4 (sub ! 0 refl (whole !))))) refl (tt, tt) $
     first ! $ blocks ! $ sets ! (addr ! (through ! refl (fld ! refl (stop !)))) refl (tt, tt) $ move ! (1 ∷ []) $ use1 𝓛 (‵ (finv I) ⊛ ‵ (finv I)) (𝓛.invs.inv_dup I) $ split ! $ move ! (0 ∷ 2 ∷ []) $
-    use2 𝓛 (raw (𝓣.C _ (vptr pb (po + 0) ∷ seq_cst ∷ []) (λ u. mean 𝓛 (found aft u)))) (via 𝓤 _ (steps.claims 𝓛 (held_and_block R p x) (stamp p) x.limit.count pb (po + 0) i) (loads 𝓛 𝓜 𝓡 (code.calls-core::raw_atomic::load 𝓡.env wired) (block_ptr pb (po + 0)) aft)) $
+    use2 𝓛 (raw (𝓣.C _ (vptr pb (po + 0) ∷ seq_cst ∷ []) (λ u. mean 𝓛 (found aft u)))) (via 𝓤 _ (claims 𝓛 (block_at R p x i)) (loads 𝓛 𝓜 𝓡 (code.calls-core::raw_atomic::load 𝓡.env wired) (block_ptr pb (po + 0)) aft)) $
     sets ! (agg ! (and_then ! (lit ! tt) (no_more !))) refl (tt, (record { fits = lit< tt }, tt)) $
     Calls-last ! (fm 𝓛 𝓜 𝓡) (found aft) (and_then ! (get ! refl) (and_then ! (get ! refl) (no_more !))) (λ u. finds ! aft (λ n fits. let told : Self.Denot = record { block = p; held = x; sole = is_one_handle n } in
     lands_last ! refl (tt, record { fits = fits }) $ exec ! 𝓣.C 𝓣.Λ Ev (after 2 fn.body) (at_ret Ev Post) $ sets ! (of_opd ! (get ! refl)) refl (tt, record { fits = fits }) $

@@ -1,11 +1,12 @@
 -- `leave` is the load by which a handle ends.
-use Rattle.handles.proofs.Walks.{◌≡◌, ℕ, ◌+◌, false, [], ◌∷◌, refl, sym, ap, lit<, a_type, Val, vptr, inst_fn, SProp, via, Lft, Share, Fml, ftrue, flft, finv, ‵, raw, ◌⊛◌, later, mean, at_ret, ◌$◌, ◌∵◌, !, qed, by, move, keep, drop, split, join, fsplit, fsplit3, fjoin, fpick, use1, use2, use3, await, stop, fld, addr, lit, of_opd, no_more, and_then, first, blocks, exec, Calls-last, returns, enter, alloc_all, pass_all, free_all, look_at, get, get_in, through, sets, lands_last, is, env, agg, sub, whole, tables, fact, no, RattleType, owns, types_at, plain, Ptr, block_ptr, ptr_val, block_of, offset_of, at_block, nothing_more, heard, param, layouts, param_laws, Stays, stay_dropped, walk_of, Goes-dropped, after, proved, leaves, fm, seq_cst, found, finds, Right, HeldRow, stamp, held_and_block, block_rule, gain_owns, one_word, word_and_gain, one_word-Good, words_told, HandleRow, known, returns_gain, word_and_gain-Good}
+use Rattle.handles.proofs.Walks.{◌≡◌, ℕ, ◌+◌, false, [], ◌∷◌, refl, sym, ap, lit<, a_type, Val, vptr, inst_fn, SProp, via, Lft, Share, Fml, ftrue, flft, finv, ‵, raw, ◌⊛◌, later, mean, at_ret, ◌$◌, ◌∵◌, !, qed, by, move, keep, drop, split, join, fsplit, fsplit3, fjoin, fpick, use1, use2, use3, await, stop, fld, addr, lit, of_opd, no_more, and_then, first, blocks, exec, Calls-last, returns, enter, alloc_all, pass_all, free_all, look_at, get, get_in, through, sets, lands_last, is, env, agg, sub, whole, tables, fact, no, RattleType, owns, types_at, plain, Ptr, block_ptr, ptr_val, block_of, offset_of, at_block, nothing_more, heard, param, layouts, param_laws, Stays, stay_dropped, walk_of, Goes-dropped, after, proved, leaves, fm, seq_cst, found, finds, Right, HeldRow, block_rule, gain_owns, one_word, word_and_gain, one_word-Good, words_told, HandleRow, known, returns_gain, word_and_gain-Good}
 use base.Fml.{Incl-refl}
 use contract.BorrowLft.{◌⊑◌}
 use Rattle.atomic_table.proofs.Calls.{loads}
 use Rattle.handles.specs.Inside.Rights.{right_by_last_read}
 use Rattle.handles.specs.Inside.Blocks.{owned_as, counted_handle}
-use Rattle.handles.proofs.Steps as steps
+use Rattle.handles.proofs.Steps.Shared.{block_at}
+use Rattle.handles.proofs.Steps.Leaves.{last_reads, after_last_read}
 use Rattle.handles.proofs.Fields.{gain_shown}
 use Rattle.handles.proofs.Owners.{forgets, handle_settles}
 use Rattle.handles.specs.contracts.block.Handle as handle_type
@@ -27,10 +28,10 @@ leave_spec 𝓤 𝓛 𝓜 𝓡 wired T L =
     use2 𝓛 (later (‵ (counted_handle R p x) ⊛ ‵ (flft κ q))) (handle_settles R (param_laws 0 T L) 𝓛 p x κ lives κ q (Incl-refl κ)) $
     enter ! 𝓣.C 𝓣.Λ fn (one_word p ∷ []) Post $ alloc_all ! (λ l. pass_all ! refl (one_word-Good p, tt) $ let Ev = env fn.locals l in await ! tt $ split ! $ fpick ! (λ i. fsplit3 ! $
     -- [the stake; the rule; the sharing; the token]
-    let I : Fml = block_rule R p x i in let aft : ℕ → Fml = steps.after_last_read 𝓛 (held_and_block R p x) (stamp p) x.limit.count pb (po + 0) i in
+    let I : Fml = block_rule R p x i in let aft : ℕ → Fml = after_last_read (block_at R p x i) in
     sets ! (is ! (of_opd ! (get_in ! (fld ! refl (stop !)) (sub ! 0 refl (whole !)))) (ap ptr_val at)) refl (tt, tt) $ first ! $ blocks ! $ sets ! (addr ! (through ! refl (fld ! refl (stop !)))) refl (tt, tt) $
     move ! (1 ∷ []) $ use1 𝓛 (‵ (finv I) ⊛ ‵ (finv I)) (𝓛.invs.inv_dup I) $ split ! $ move ! (0 ∷ 2 ∷ []) $
-    use2 𝓛 (raw (𝓣.C _ (vptr pb (po + 0) ∷ seq_cst ∷ []) (λ u. mean 𝓛 (found aft u)))) (via 𝓤 _ (steps.last_reads 𝓛 (held_and_block R p x) (stamp p) x.limit.count pb (po + 0) i) (loads 𝓛 𝓜 𝓡 (code.calls-core::raw_atomic::load 𝓡.env wired) (block_ptr pb (po + 0)) aft)) $
+    use2 𝓛 (raw (𝓣.C _ (vptr pb (po + 0) ∷ seq_cst ∷ []) (λ u. mean 𝓛 (found aft u)))) (via 𝓤 _ (last_reads 𝓛 (block_at R p x i)) (loads 𝓛 𝓜 𝓡 (code.calls-core::raw_atomic::load 𝓡.env wired) (block_ptr pb (po + 0)) aft)) $
     sets ! (agg ! (and_then ! (lit ! tt) (no_more !))) refl (tt, (record { fits = lit< tt }, tt)) $
     Calls-last ! (fm 𝓛 𝓜 𝓡) (found aft) (and_then ! (get ! refl) (and_then ! (get ! refl) (no_more !))) (λ u. finds ! aft (λ n fits. let r' : Right = right_by_last_read n in
     lands_last ! refl (tt, record { fits = fits }) $ exec ! 𝓣.C 𝓣.Λ Ev (after 2 fn.body) (at_ret Ev Post) $ sets ! (of_opd ! (get ! refl)) refl (tt, record { fits = fits }) $

@@ -1,9 +1,10 @@
 -- `read` is one load of the word.
-use Rattle.handles.proofs.Walks.{◌≡◌, ℕ, ◌+◌, false, [], ◌∷◌, refl, sym, ap, lit<, a_type, named, Val, vptr, inst_fn, SProp, via, Lft, Share, Fml, ftrue, fsep, flft, finv, ‵, raw, ◌⊛◌, mean, at_ret, ◌$◌, ◌∵◌, !, qed, by, move, keep, drop, split, join, fsplit, fsplit3, fjoin, fpick, use1, use2, stop, fld, load, addr, lit, of_opd, no_more, and_then, first, blocks, exec, Calls-last, returns, enter, alloc_all, pass_all, free_all, look_at, get, through, sets, lands_last, is, env, agg, sub, whole, look_in, tables, fact, yes, RattleType, owns, types_at, plain, Ptr, block_ptr, block_of, offset_of, at_block, nothing_more, heard, shuts, param, layouts, RefOf, shr_vals, shr_Tells, Stays, stay_dropped, walk_of, Goes-dropped, after, proved, leaves, fm, seq_cst, found, finds, Right, HeldRow, stamp, held_and_block, block_rule, one_word, word_and_gain, one_word-Good, HandleRow, HandleWords, known, returns_gain, word_and_gain-Good, opens_handle, shows_gain, closes_borrow}
+use Rattle.handles.proofs.Walks.{◌≡◌, ℕ, ◌+◌, false, [], ◌∷◌, refl, sym, ap, lit<, a_type, named, Val, vptr, inst_fn, SProp, via, Lft, Share, Fml, ftrue, fsep, flft, finv, ‵, raw, ◌⊛◌, mean, at_ret, ◌$◌, ◌∵◌, !, qed, by, move, keep, drop, split, join, fsplit, fsplit3, fjoin, fpick, use1, use2, stop, fld, load, addr, lit, of_opd, no_more, and_then, first, blocks, exec, Calls-last, returns, enter, alloc_all, pass_all, free_all, look_at, get, through, sets, lands_last, is, env, agg, sub, whole, look_in, tables, fact, yes, RattleType, owns, types_at, plain, Ptr, block_ptr, block_of, offset_of, at_block, nothing_more, heard, shuts, param, layouts, RefOf, shr_vals, shr_Tells, Stays, stay_dropped, walk_of, Goes-dropped, after, proved, leaves, fm, seq_cst, found, finds, Right, HeldRow, block_rule, one_word, word_and_gain, one_word-Good, HandleRow, HandleWords, known, returns_gain, word_and_gain-Good, opens_handle, shows_gain, closes_borrow}
 use Rattle.atomic_table.proofs.Calls.{loads}
 use Rattle.counting_word.specs.CountingWord.{IsWithin}
 use Rattle.handles.specs.Inside.Rights.{right_by_read}
-use Rattle.handles.proofs.Steps as steps
+use Rattle.handles.proofs.Steps.Shared.{block_at}
+use Rattle.handles.proofs.Steps.Reads.{reads, after_read}
 use Rattle.handles.specs.contracts.block.Handle.read.{ended, clauses}
 use Rattle.handles.specs.contracts.block.Handle.read.Key.{name as #self}
 use Rattle.handles.proofs.block.Handle.read.Statement.{statement}
@@ -22,9 +23,9 @@ read_spec 𝓤 𝓛 𝓜 𝓡 wired T L =
     -- [the word; what it says; the token's way back; the open borrow; the share; the rule; the sharing; the other tokens]
     sets ! (of_opd ! (load ! (through ! refl (fld ! refl (stop !))) (look_in ! 0 (sub ! 0 refl (whole !))))) refl (tt, tt) $ shuts ! tt D r (p, tt) (one_word (block_ptr pb po) ∷ []) b o $
     -- [half of the token; the open borrow; the share; the rule; the sharing; the other tokens]
-    let I : Fml = block_rule R p x i in let aft : ℕ → Fml = steps.after_read 𝓛 (held_and_block R p x) (stamp p) x.limit.count pb (po + 0) i e in
+    let I : Fml = block_rule R p x i in let aft : ℕ → Fml = after_read (block_at R p x i) e in
     first ! $ blocks ! $ sets ! (addr ! (through ! refl (fld ! refl (stop !)))) refl (tt, tt) $ move ! (3 ∷ []) $ use1 𝓛 (‵ (finv I) ⊛ ‵ (finv I)) (𝓛.invs.inv_dup I) $ split ! $ move ! (0 ∷ 4 ∷ []) $
-    use2 𝓛 (raw (𝓣.C _ (vptr pb (po + 0) ∷ seq_cst ∷ []) (λ u. mean 𝓛 (found aft u)))) (via 𝓤 _ (steps.reads 𝓛 (held_and_block R p x) (stamp p) x.limit.count pb (po + 0) i e) (loads 𝓛 𝓜 𝓡 (code.calls-core::raw_atomic::load 𝓡.env wired) (block_ptr pb (po + 0)) aft)) $
+    use2 𝓛 (raw (𝓣.C _ (vptr pb (po + 0) ∷ seq_cst ∷ []) (λ u. mean 𝓛 (found aft u)))) (via 𝓤 _ (reads 𝓛 (block_at R p x i) e) (loads 𝓛 𝓜 𝓡 (code.calls-core::raw_atomic::load 𝓡.env wired) (block_ptr pb (po + 0)) aft)) $
     sets ! (agg ! (and_then ! (lit ! tt) (no_more !))) refl (tt, (record { fits = lit< tt }, tt)) $
     Calls-last ! (fm 𝓛 𝓜 𝓡) (found aft) (and_then ! (get ! refl) (and_then ! (get ! refl) (no_more !))) (λ u. finds ! aft (λ n fits. let r' : Right = right_by_read n in
     lands_last ! refl (tt, record { fits = fits }) $ exec ! 𝓣.C 𝓣.Λ Ev (after 2 fn.body) (at_ret Ev Post) $ sets ! (of_opd ! (get ! refl)) refl (tt, record { fits = fits }) $

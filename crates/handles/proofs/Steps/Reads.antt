@@ -1,0 +1,43 @@
+-- A read of the word through a `&` to a handle, and what every step through a `&` leaves. Assumes `Logic`.
+use base.Fml.{ftrue}
+use Rattle.counting_word.specs.CountingWord.{IsWithin}
+use Rattle.handles.specs.Inside.Rights.{Right}
+use Rattle.handles.specs.Inside.Blocks.{fact}
+use Rattle.handles.proofs.Asking as asking
+use Rattle.handles.proofs.Steps.Shared.{unshared, ◌≡◌, ℕ, true, false, [], ◌∷◌, ap, if◌then◌else◌, Ura, ent, never, Share, Fml, fsep, flft, Logic, sem, ‵, ◌⊛◌, ◌$◌, ◌∵◌, !, qed, by, move, split, fjoin, fpack, use1, use2, nothing_more, nothing, a_handle, right_by_read, Says, stake, SharedBlock, shared, counts, beside, rule, gained, no_token, lives, regained, makes_one, Lands, Asks, Steps, stepped}
+
+module _ (s : SharedBlock) (q : Share) where
+  -- its maker has a share of the token
+  abbrev pub a_share : Fml
+  a_share = flft (shared s) q
+
+  -- the share comes back, with what is told of the word w and with the right r
+  abbrev pub told : ℕ → Right → Fml
+  told w r = fsep a_share (fsep (fact (IsWithin w s.limit)) (gained s r))
+
+  abbrev pub after_read : ℕ → Fml
+  after_read w = told w (right_by_read w)
+
+module _ {M : Type 1} {𝓤 : Ura M} (𝓛 : Logic 𝓤) (s : SharedBlock) (q : Share) where
+  pub no_share : ent 𝓤 (sem 𝓛 (fsep (unshared s.names) (a_share s q))) (never 𝓤)
+  no_share = qed 𝓛 (‵ (unshared s.names) ∷ ‵ (a_share s q) ∷ []) ∵ move ! (1 ∷ 0 ∷ []) $ by ! (no_token 𝓛 (shared s) q (never 𝓤))
+
+  pub shut : (r : Right) (j w : ℕ) → IsWithin w s.limit → ent 𝓤 (sem 𝓛 (fsep (rule s) (fsep (gained s r) (a_share s q)))) (asking.Ending 𝓛 (rule s) (told s q w r) j)
+  shut r j w within = qed 𝓛 (‵ (rule s) ∷ ‵ (gained s r) ∷ ‵ (a_share s q) ∷ []) ∵ move ! (1 ∷ []) $ nothing_more ! $ fpack ! (IsWithin w s.limit) (λ _. ftrue) within $ fjoin ! $
+      move ! (2 ∷ 0 ∷ []) $ fjoin ! $ move ! (1 ∷ 0 ∷ []) $ by ! (asking.closes 𝓛 (rule s) (told s q w r) j)
+
+  -- the word is as it was, and the rest comes by what is read
+  pub found_marked : (r : Right) → r ≡ a_handle → (j w n : ℕ) → Says s.limit w true n → Lands 𝓛 s w true n (a_share s q) (told s q w r) j
+  found_marked r e j w n says = qed 𝓛 (‵ (counts s w) ∷ ‵ (beside s true n) ∷ ‵ (a_share s q) ∷ []) ∵ use2 𝓛 (‵ (rule s) ⊛ ‵ (stake s.names)) (makes_one 𝓛 s w n says) $ split ! $ move ! (1 ∷ []) $
+      use1 𝓛 (‵ (gained s r)) (regained 𝓛 s a_handle r e) $ move ! (1 ∷ 0 ∷ []) $ by ! (shut r j w says.1)
+
+  pub found_unmarked : (r : Right) → r ≡ nothing → (j w n : ℕ) → Says s.limit w false n → Lands 𝓛 s w false n (a_share s q) (told s q w r) j
+  found_unmarked r e j w n says = qed 𝓛 (‵ (counts s w) ∷ ‵ (beside s false n) ∷ ‵ (a_share s q) ∷ []) ∵ use2 𝓛 (‵ (rule s)) (lives 𝓛 s false w n says) $ nothing_more ! $
+      use1 𝓛 (‵ (gained s r)) (regained 𝓛 s nothing r e) $ move ! (1 ∷ 0 ∷ []) $ by ! (shut r j w says.1)
+
+  pub reads : Asks 𝓛 s (λ w. w) (a_share s q) (after_read s q)
+  reads = stepped 𝓛 s (λ w. w) (after_read s q) (a_share s q) at no_share
+    where
+      at : Steps 𝓛 s (λ w. w) (after_read s q) (a_share s q)
+      at j true w n small says = found_marked (right_by_read w) (ap (λ y. if y then a_handle else nothing) says.0.same_mark) j w n says
+      at j false w n small says = found_unmarked (right_by_read w) (ap (λ y. if y then a_handle else nothing) says.0.same_mark) j w n says

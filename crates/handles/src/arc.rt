@@ -84,6 +84,7 @@ impl<T: Send + Sync + Drop> Arc<T> {
     }
 
     /// Tries until the handle is made or the block is full, however often other threads change the count meanwhile.
+    #[inline]
     pub fn clone(this: &Arc<T>, rt: &impl Wait) -> Result<Arc<T>, Full>
         ensures { IfOk result (λ a. a ≡ this.now) }
     {
@@ -171,6 +172,7 @@ impl<T: Send + Sync> Deref for Arc<T> {
 impl<T: Send + Sync + Drop> Clone for Arc<T> {
     ghost is_clone = { λ a b. b ≡ a };
 
+    #[inline]
     fn clone(&self) -> Result<Arc<T>, AllocError> {
         Ok(Arc {
             handle: self.handle.try_clone(MOST_RAISES)?,

@@ -203,7 +203,7 @@ impl<T> Handle<T> {
     }
 
     #[inline]
-    fn held(&self) -> &Held<T>
+    pub(crate) fn held(&self) -> &Held<T>
         ensures { result.now ≡ self.now.held }
     {
         let block = self.block;
@@ -248,21 +248,26 @@ impl<T> Handle<T> {
         ensures right { result.1.right ≡ right_by_read result.0 }
         ensures held { result.1.held ≡ self.now.held }
         ensures within { IsWithin result.0 self.now.held.limit.count }
+        ensures block { result.1.block ≡ self.now.block }
     {
         let block = self.block;
         let word = unsafe { raw::load::<Brand>(&raw const (*block).word, SeqCst) };
         (word, Gain { block })
     }
 
+    // By the pointer of what the last read gained, which is at hand.
     #[inline]
-    pub(crate) fn raise(&self, seen: u64) -> (u64, Gain<T>)
+    pub(crate) fn raise(&self, seen: u64, gain: Gain<T>) -> (u64, Gain<T>)
         requires shared { self.now.sole ≡ false }
         requires room { seen < self.now.held.limit.count }
+        requires block { gain.block ≡ self.now.block }
+        requires right { gain.right ≡ nothing }
         ensures right { result.1.right ≡ right_by_raise seen result.0 }
         ensures held { result.1.held ≡ self.now.held }
         ensures within { IsWithin result.0 self.now.held.limit.count }
+        ensures block { result.1.block ≡ self.now.block }
     {
-        let block = self.block;
+        let Gain { block } = gain;
         let found = unsafe { exchange::<Brand>(&raw const (*block).word, seen, seen + 1) };
         (found, Gain { block })
     }

@@ -1,6 +1,7 @@
 use Rattle.std.proofs.Common.{◌≡◌}
 use Rattle.handles.proofs.block.Handle.raise_unless_full.Given as goal
 
--- the limit that was read is the block's
+-- what was gained is of this block
 abbrev pub invariant-loop : goal.invariant-loop
-invariant-loop g l = l.seen.limit ≡ l.self.held.limit
+invariant-loop g l =
+    (l.seen.gain.held ≡ l.self.held) × (l.seen.gain.block ≡ l.self.block)

@@ -32,4 +32,4 @@ read_spec 𝓤 𝓛 𝓜 𝓡 wired T L =
     -- [the share, the word's bound and the gain; the rule; half of the token; the open borrow; the sharing; the other tokens]
     fsplit3 ! $ move ! (1 ∷ []) $ fpick ! (λ within. drop ! $ move ! (0 ∷ 3 ∷ 4 ∷ []) $ closes_borrow ! tt $ move ! (0 ∷ 4 ∷ []) $ join ! $ move ! (1 ∷ 2 ∷ 3 ∷ []) $ shows_gain R p x ! tt inb i r' $
     sets ! (is ! (agg ! (and_then ! (get ! refl) (no_more !))) (ap one_word (sym (at_block p inb)))) refl (one_word-Good p) $ sets ! (agg ! (and_then ! (get ! refl) (and_then ! (get ! refl) (no_more !)))) refl (word_and_gain-Good n fits p) $
-    returns_gain R p x ! n fits r' $ known ! (IsWithin n x.limit.count) within $ known ! (x ≡ x) refl $ join ! $ known ! (r' ≡ r') refl $ join ! $ nothing_more ! $ nothing_more ! $ fjoin ! $ returns ! (look_at ! 0 refl) $ free_all ! refl $ keep ! (3 ∷ 0 ∷ 2 ∷ 1 ∷ []) $ by ! (leaves 𝓛 En hs c y (word_and_gain n p) (n, record { block = p; held = x; right = r' }) (tt, tt) (tt, tt)))))))))
+    returns_gain R p x ! n fits r' $ known ! (p ≡ p) refl $ known ! (IsWithin n x.limit.count) within $ join ! $ known ! (x ≡ x) refl $ join ! $ known ! (r' ≡ r') refl $ join ! $ nothing_more ! $ nothing_more ! $ fjoin ! $ returns ! (look_at ! 0 refl) $ free_all ! refl $ keep ! (3 ∷ 0 ∷ 2 ∷ 1 ∷ []) $ by ! (leaves 𝓛 En hs c y (word_and_gain n p) (n, record { block = p; held = x; right = r' }) (tt, tt) (tt, tt)))))))))

@@ -1,12 +1,12 @@
 //! A search tree that shares its branches.
-ghost use Rattle.std.specs.Prelude.{◌≡◌, ◌<◌, ◌↔◌, ℕ, IsTrue, IfOk, cond, nat_eq};
-ghost use Rattle.std.specs.Prelude.{List, ◌∷◌, ◌++◌, [], None, Some, is_some, length, slice_get};
+ghost use Rattle.std.specs.Prelude.{◌≡◌, ◌<◌, ◌+◌, ◌↔◌, ℕ, IsTrue, IfOk, cond, nat_eq};
+ghost use Rattle.std.specs.Prelude.{List, ◌∷◌, ◌++◌, [], None, Some, IfSome, is_some, length, slice_get};
 ghost use Rattle.std.specs.Option.{option_copied};
 ghost use Rattle.servo_arc.specs.Copies.{CopiesAreEqual};
-ghost use Rattle.shared_trees.specs.Forks.{less_side, greater_side};
+ghost use Rattle.shared_trees.specs.Forks.{around, less_side, greater_side};
 ghost use Rattle.shared_trees.specs.Maps.{IsRising, above, below, lookup, with_entry, without};
 
-use servo_arc::Arc;
+use servo_arc::{Arc, UniqueArc};
 use std::alloc::{AllocError, Global};
 use std::marker::Model;
 
@@ -220,6 +220,21 @@ impl<V: Send + Sync> Fork<V> {
     }
 }
 
+impl<V: Send + Sync> Sides<V> {
+    // How many entries both sides have, if a `usize` can say it.
+    #[inline(always)]
+    fn len(&self) -> Option<usize>
+        ensures { IfSome result (λ n. n
+            ≡ length (less_side self.now) + length (greater_side self.now)) }
+    {
+        match self {
+            Sides::Neither => Some(0),
+            Sides::Less(fork) | Sides::Greater(fork) => Some(fork.len),
+            Sides::Both(less, greater) => less.len.checked_add(greater.len),
+        }
+    }
+}
+
 impl<V: Send + Sync + Drop> Sides<V> {
     fn of(less: TreeMap<V>, greater: TreeMap<V>) -> Sides<V>
         ensures { (less_side result ≡ less) × (greater_side result ≡ greater) }
@@ -229,6 +244,30 @@ impl<V: Send + Sync + Drop> Sides<V> {
             (Some(less), None) => Sides::Less(less),
             (None, Some(greater)) => Sides::Greater(greater),
             (Some(less), Some(greater)) => Sides::Both(less, greater),
+        }
+    }
+
+    // These sides, but for the tree of lesser keys.
+    #[inline]
+    fn with_less(&self, less: Arc<Fork<V>>) -> Result<Sides<V>, AllocError>
+        ensures less { IfOk result (λ sides. less_side sides ≡ less) }
+        ensures greater { IfOk result (λ sides. greater_side sides ≡ greater_side self.now) }
+    {
+        match self {
+            Sides::Neither | Sides::Less(_) => Ok(Sides::Less(less)),
+            Sides::Greater(fork) | Sides::Both(_, fork) => Ok(Sides::Both(less, fork.clone()?)),
+        }
+    }
+
+    // These sides, but for the tree of greater keys.
+    #[inline]
+    fn with_greater(&self, greater: Arc<Fork<V>>) -> Result<Sides<V>, AllocError>
+        ensures less { IfOk result (λ sides. less_side sides ≡ less_side self.now) }
+        ensures greater { IfOk result (λ sides. greater_side sides ≡ greater) }
+    {
+        match self {
+            Sides::Neither | Sides::Greater(_) => Ok(Sides::Greater(greater)),
+            Sides::Less(fork) | Sides::Both(fork, _) => Ok(Sides::Both(fork.clone()?, greater)),
         }
     }
 
@@ -261,29 +300,34 @@ impl<V: Send + Sync> TreeMap<V> {
 }
 
 impl<V: Send + Sync + Drop> Fork<V> {
-    // The tree of this entry and these sides.
-    fn of(
-        alloc: Global,
-        less: TreeMap<V>,
-        entry: (u64, V),
-        greater: TreeMap<V>,
-    ) -> Result<Arc<Fork<V>>, AllocError>
-        requires rising { IsRising (less ++ entry ∷ greater) }
-        ensures { IfOk result (λ fork. fork ≡ less ++ entry ∷ greater) }
+    // The tree of this entry and these sides. Inlined, so that sides which the caller just made never lie in memory.
+    #[inline(always)]
+    fn of(alloc: Global, sides: Sides<V>, entry: (u64, V)) -> Result<Arc<Fork<V>>, AllocError>
+        requires rising { IsRising (around sides entry) }
+        ensures { IfOk result (λ fork. fork ≡ around sides entry) }
     {
-        let beside = less.len().checked_add(greater.len()).ok_or(AllocError)?;
+        let beside = sides.len().ok_or(AllocError)?;
         let len = beside.checked_add(1).ok_or(AllocError)?;
-        let fork = Fork {
-            len,
-            sides: Sides::of(less, greater),
-            entry,
-        };
-        Arc::new(alloc, fork).map_err(|_| AllocError)
+        // The room is taken first, so that the fork is made in its place.
+        let room = UniqueArc::new_uninit(alloc)?;
+        Ok(room.write(Fork { len, sides, entry }).shareable())
     }
 }
 
 impl<V: Send + Sync + Clone> Fork<V> {
-    // The tree of a copy of this entry and these sides.
+    // The same with a copy of the entry.
+    #[inline(always)]
+    fn copied(alloc: Global, sides: Sides<V>, entry: &(u64, V)) -> Result<Arc<Fork<V>>, AllocError>
+        requires copies { CopiesAreEqual V.is_clone }
+        requires rising { IsRising (around sides entry.now) }
+        ensures { IfOk result (λ fork. fork ≡ around sides entry.now) }
+    {
+        let (key, value) = entry;
+        let value = value.clone()?;
+        Fork::of(alloc, sides, (*key, value))
+    }
+
+    // The tree of a copy of this entry and of what these maps have.
     fn beside(
         alloc: Global,
         less: TreeMap<V>,
@@ -294,9 +338,7 @@ impl<V: Send + Sync + Clone> Fork<V> {
         requires rising { IsRising (less ++ entry.now ∷ greater) }
         ensures { IfOk result (λ fork. fork ≡ less ++ entry.now ∷ greater) }
     {
-        let (key, value) = entry;
-        let value = value.clone()?;
-        Fork::of(alloc, less, (*key, value), greater)
+        Fork::copied(alloc, Sides::of(less, greater), entry)
     }
 }
 
@@ -343,23 +385,32 @@ impl<V: Send + Sync + Clone> Fork<V> {
     {
         let here = self.entry.0;
         if key == here || outranks(key, here) {
-            let (less, greater) = self.split(alloc, key)?;
-            Fork::of(alloc, less, (key, value), greater)
+            self.with_top(alloc, key, value)
         } else if key < here {
             let less = match &self.sides {
                 Sides::Less(fork) | Sides::Both(fork, _) => fork.inserted(alloc, key, value)?,
                 Sides::Neither | Sides::Greater(_) => Fork::leaf(alloc, key, value)?,
             };
-            let less = TreeMap::with_root(less);
-            Fork::beside(alloc, less, &self.entry, self.sides.greater()?)
+            Fork::copied(alloc, self.sides.with_less(less)?, &self.entry)
         } else {
             let greater = match &self.sides {
                 Sides::Greater(fork) | Sides::Both(_, fork) => fork.inserted(alloc, key, value)?,
                 Sides::Neither | Sides::Less(_) => Fork::leaf(alloc, key, value)?,
             };
-            let greater = TreeMap::with_root(greater);
-            Fork::beside(alloc, self.sides.less()?, &self.entry, greater)
+            Fork::copied(alloc, self.sides.with_greater(greater)?, &self.entry)
         }
+    }
+
+    // The tree with this entry at its top, where the way down ends. Not inlined, so that the way does not pay for it.
+    #[inline(never)]
+    #[tactic(auto, using(crate::proofs::Rising::inserting))]
+    fn with_top(&self, alloc: Global, key: u64, value: V) -> Result<Arc<Fork<V>>, AllocError>
+        requires copies { CopiesAreEqual V.is_clone }
+        requires rising { IsRising self.now }
+        ensures { IfOk result (λ fork. fork ≡ with_entry key value self.now) }
+    {
+        let (less, greater) = self.split(alloc, key)?;
+        Fork::of(alloc, Sides::of(less, greater), (key, value))
     }
 
     #[tactic(auto, using(crate::proofs::Rising::removing))]
@@ -415,11 +466,13 @@ impl<V: Send + Sync + Clone> Fork<V> {
 }
 
 impl<V: Send + Sync + Drop> Fork<V> {
+    // The tree of one entry. Not inlined, as `with_top`.
+    #[inline(never)]
     #[tactic(auto, using(crate::proofs::Rising::rising_one))]
     fn leaf(alloc: Global, key: u64, value: V) -> Result<Arc<Fork<V>>, AllocError>
         ensures { IfOk result (λ fork. fork ≡ (key, value) ∷ []) }
     {
-        Fork::of(alloc, TreeMap::new(), (key, value), TreeMap::new())
+        Fork::of(alloc, Sides::Neither, (key, value))
     }
 }
 

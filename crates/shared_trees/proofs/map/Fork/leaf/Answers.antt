@@ -3,5 +3,4 @@ use Rattle.shared_trees.proofs.Rising.{rising_one}
 use Rattle.shared_trees.proofs.map.Fork.leaf.Goals as goal
 
 pub of-requires-clause-rising : goal.of-requires-clause-rising
-of-requires-clause-rising g c κs within =
-    rw (c.new.ensures, c.new-2.ensures) (rising_one c.args.key c.args.value)
+of-requires-clause-rising g c κs within = rising_one c.args.key c.args.value

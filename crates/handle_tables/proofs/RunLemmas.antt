@@ -1,12 +1,11 @@
 -- Whole runs.
 use Rattle.std.proofs.Common.{List, [], ◌∷◌, ◌++◌, subst, refl}
 use Rattle.handle_tables.specs.declared.commands.Reply.{Reply}
-use Rattle.handle_tables.specs.PlainTable.{Slots, Meaning}
-use Rattle.handle_tables.specs.Runs.{IsAmong, Run}
+use Rattle.handle_tables.specs.Runs.{IsAmong, Means, Run}
 
-module _ {C V : Type 0} (meaning : C → Meaning V) where
+module _ {C X : Type 0} (meaning : C → Means X) where
   -- a run goes on by one command
-  pub run_more : (commands : List C) (old : Slots V) (replies : List Reply) (mid new : Slots V) (command : C) (reply : Reply)
+  pub run_more : (commands : List C) (old : X) (replies : List Reply) (mid new : X) (command : C) (reply : Reply)
       → Run meaning commands old replies mid → IsAmong (meaning command mid) reply new → Run meaning (commands ++ command ∷ []) old (replies ++ reply ∷ []) new
   run_more [] old [] mid new command reply run step = (new, subst (λ m. IsAmong (meaning command m) reply new) run step, refl)
   run_more (c ∷ cs) old (r ∷ rs) mid new command reply run step = (run.0, run.1, run_more cs run.0 rs mid new command reply run.2 step)

@@ -7,6 +7,7 @@ use Rattle.handle_tables.specs.declared.commands.PlainCommand.{PlainCommand}
 use Rattle.handle_tables.specs.declared.commands.PlainCommand.TheVariants as plain
 use Rattle.handle_tables.specs.declared.commands.Reply.{Reply}
 use Rattle.handle_tables.specs.declared.commands.Reply.TheVariants.{Done, Is, Shared, Empty, NoSlot, Refused}
+use Rattle.handle_tables.specs.Runs.{Means}
 
 -- slots, each with a value or empty
 abbrev pub Slots : Type 0 → Type 0
@@ -18,7 +19,7 @@ Outcome V = Reply × Slots V
 
 -- what a command means: its outcomes, by the slots that it finds
 abbrev pub Meaning : Type 0 → Type 0
-Meaning V = Slots V → List (Outcome V)
+Meaning V = Means (Slots V)
 
 module _ {V : Type 0} where
   -- this reply, and no change

@@ -3,6 +3,7 @@
 
 mod commands;
 pub mod laws;
+mod run;
 mod slots;
 pub mod table;
 mod union_commands;

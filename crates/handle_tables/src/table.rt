@@ -8,6 +8,7 @@ ghost use Rattle.handle_tables.specs.Runs.{IsAmong, Run};
 
 pub use crate::commands::{Command, PlainCommand, Reply};
 pub use crate::laws;
+use crate::run::run;
 use crate::slots;
 pub use crate::union_commands::UnionCommand;
 pub use crate::union_table::UnionTable;
@@ -101,11 +102,12 @@ impl<T: Send + Sync + PartialEq + Drop> Table<T> {
             Run (plain_outcomes_of T.eq) commands.items self.old replies.items self.new) }
         ensures err { OnErr result (self.new ≡ self.old) }
     {
-        let mut replies = Vec::with_capacity(alloc, commands.len())?;
-        for command in commands {
-            replies.push_reserved(self.serve_plain(alloc, command));
-        }
-        Ok(replies)
+        run(
+            self,
+            alloc,
+            commands,
+            |table, command| table.serve_plain(alloc, command),
+        )
     }
 }
 
@@ -150,10 +152,13 @@ impl<T: Send + Sync + Clone + PartialEq> Table<T> {
             Run (outcomes_of T.eq) commands.items self.old replies.items self.new) }
         ensures err { OnErr result (self.new ≡ self.old) }
     {
-        let mut replies = Vec::with_capacity(alloc, commands.len())?;
-        for command in commands {
-            replies.push_reserved(self.serve(alloc, command));
-        }
-        Ok(replies)
+        run(
+            self,
+            alloc,
+            commands,
+            |table, command|
+                requires { IsTrue (is_own command) → CopiesAreEqual T.is_clone }
+            { table.serve(alloc, command) },
+        )
     }
 }

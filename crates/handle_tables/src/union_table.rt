@@ -6,6 +6,7 @@ ghost use Rattle.handle_tables.specs.PlainUnionTable.{union_outcomes_of};
 ghost use Rattle.handle_tables.specs.Runs.{IsAmong, Run};
 
 use crate::commands::Reply;
+use crate::run::run;
 use crate::union_commands::UnionCommand;
 use crate::{slots, union_slots};
 use handles::arc_union::{ArcUnion, ArcUnionBorrow};
@@ -101,10 +102,11 @@ impl<A: Send + Sync + PartialEq + Drop, B: Send + Sync + PartialEq + Drop> Union
             Run (union_outcomes_of A.eq B.eq) commands.items self.old replies.items self.new) }
         ensures err { OnErr result (self.new ≡ self.old) }
     {
-        let mut replies = Vec::with_capacity(alloc, commands.len())?;
-        for command in commands {
-            replies.push_reserved(self.serve(alloc, command));
-        }
-        Ok(replies)
+        run(
+            self,
+            alloc,
+            commands,
+            |table, command| table.serve(alloc, command),
+        )
     }
 }

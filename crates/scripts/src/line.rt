@@ -9,9 +9,9 @@ use crate::number::parse_number;
 /// The numbers after the word of a line.
 #[derive(Clone, Copy)]
 pub enum Numbers {
-    One(u32),
-    Two(u32, u32),
-    Three(u32, u32, u32),
+    One(usize),
+    Two(usize, usize),
+    Three(usize, usize, usize),
 }
 
 /// A line that is a word and one to three numbers, each after one space.
@@ -45,12 +45,12 @@ fn read_numbers(text: &[u8]) -> Option<Numbers>
     let Some(text) = rest else {
         return Some(Numbers::Two(first, second));
     };
-    let third = parse_number(text)?;
+    let third = parse_number(text)? as usize;
     Some(Numbers::Three(first, second, third))
 }
 
 /// The number before the first space, and what stands after that space.
-fn take_number(text: &[u8]) -> Option<(u32, Option<&[u8]>)>
+fn take_number(text: &[u8]) -> Option<(usize, Option<&[u8]>)>
     ensures written { IfSome result (λ taken.
         text.now ≡ with_rest (decimal taken.0) (option_copied taken.1)) }
     ensures in_range { IfSome result (λ taken. taken.0 < 2 ^ 32) }
@@ -58,7 +58,7 @@ fn take_number(text: &[u8]) -> Option<(u32, Option<&[u8]>)>
         text.now ≢ with_rest (decimal number) rest) }
 {
     let (word, rest) = split_at_space(text);
-    Some((parse_number(word)?, rest))
+    Some((parse_number(word)? as usize, rest))
 }
 
 /// The part before the first space, and the part after it, if there is a space.

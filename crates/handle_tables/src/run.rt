@@ -16,7 +16,8 @@ pub(crate) fn run<S, C: Drop, F: Fn(&mut S, C) -> Reply>(
 ) -> Result<Vec<Reply>, AllocError>
     requires callable { All (λ c. (s : _) → F.pre serve s c) commands.items }
     ensures ok { (meaning : C → Means S)
-        → ((s : _) (c : C) (r : Reply) (t : _) → F.post serve s c r t → IsAmong (meaning c s.now) r t.now)
+        → ((s : _) (c : C) (r : Reply) (t : _) → F.post serve s c r t
+        → IsAmong (meaning c s.now) r t.now)
         → IfOk result (λ replies. Run meaning commands.items table.old replies.items table.new) }
     ensures err { OnErr result (table.new ≡ table.old) }
 {

@@ -60,9 +60,8 @@ impl<T> Handle<T> {
                 gain.end();
                 Attempt::Full
             }
-            // The word that the plan names is `word + 1`, which `raise` stores.
-            ClonePlan::Raise(_) => {
-                let (found, gain) = self.raise(word, gain);
+            ClonePlan::Raise(next) => {
+                let (found, gain) = self.raise(word, next, gain);
                 if found == word {
                     Attempt::Made(gain.into_handle())
                 } else {

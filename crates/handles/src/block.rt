@@ -15,7 +15,7 @@
 // into_loose    none                the whole block     a loose block
 //
 // `stamp` and `add_to_stamp` make a load and an addition on the stamp.
-ghost use Rattle.std.specs.Prelude.{◌≡◌, ◌<◌, Bool, true, false, IfOk, IfErr};
+ghost use Rattle.std.specs.Prelude.{◌≡◌, ◌<◌, ◌+◌, Bool, true, false, IfOk, IfErr};
 ghost use types.Logic.{sem};
 ghost use Rattle.counting_word.specs.CountingWord.{is_one_handle, marked_word, IsWithin};
 ghost use Rattle.std_alloc.specs.Box.Ownership.{box_owns};
@@ -257,9 +257,10 @@ impl<T> Handle<T> {
 
     // By the pointer of what the last read gained, which is at hand.
     #[inline]
-    pub(crate) fn raise(&self, seen: u64, gain: Gain<T>) -> (u64, Gain<T>)
+    pub(crate) fn raise(&self, seen: u64, next: u64, gain: Gain<T>) -> (u64, Gain<T>)
         requires shared { self.now.sole ≡ false }
         requires room { seen < self.now.held.limit.count }
+        requires next { next ≡ seen + 1 }
         requires block { gain.block ≡ self.now.block }
         requires right { gain.right ≡ nothing }
         ensures right { result.1.right ≡ right_by_raise seen result.0 }
@@ -268,7 +269,7 @@ impl<T> Handle<T> {
         ensures block { result.1.block ≡ self.now.block }
     {
         let Gain { block } = gain;
-        let found = unsafe { exchange::<Brand>(&raw const (*block).word, seen, seen + 1) };
+        let found = unsafe { exchange::<Brand>(&raw const (*block).word, seen, next) };
         (found, Gain { block })
     }
 

@@ -8,9 +8,9 @@ use Rattle.handles.proofs.Steps.Shared.{◌≡◌, ◌≢◌, ℕ, ◌+◌, ◌%
 use Rattle.handles.proofs.Steps.Says.{stands-unmarked}
 use Rattle.handles.proofs.Steps.Reads.{a_share, told, no_share, shut, found_marked, found_unmarked}
 
--- the word that a raise from `seen` makes of w
-abbrev pub raised : ℕ → ℕ → ℕ
-raised seen w = either (eqb w seen) (seen + 1) w
+-- the word that a raise from `seen` to `next` makes of w
+abbrev pub raised : ℕ → ℕ → ℕ → ℕ
+raised seen next w = either (eqb w seen) next w
 
 abbrev pub after_raise : SharedBlock → Share → ℕ → ℕ → Fml
 after_raise s q seen w = told s q w (right_by_raise seen w)
@@ -37,8 +37,8 @@ module _ {M : Type 1} {𝓤 : Ura M} (𝓛 : Logic 𝓤) (s : SharedBlock) (q : 
       use1 𝓛 (‵ (stake s.names)) (counted_stake 𝓛 s.names) $ use1 𝓛 (‵ (gained s (right_by_raise seen seen))) (regained 𝓛 s a_handle (right_by_raise seen seen) wins) $
       move ! (1 ∷ 0 ∷ []) $ by ! (shut 𝓛 s q (right_by_raise seen seen) j seen says.1)
 
-  pub raises : Asks 𝓛 s (raised seen) (a_share s q) (after_raise s q seen)
-  raises = stepped 𝓛 s (raised seen) (after_raise s q seen) (a_share s q) at (no_share 𝓛 s q)
+  pub raises : (next : ℕ) → next ≡ seen + 1 → Asks 𝓛 s (raised seen next) (a_share s q) (after_raise s q seen)
+  raises next is_next = subst (λ m. Asks 𝓛 s (raised seen m) (a_share s q) (after_raise s q seen)) (sym is_next) (stepped 𝓛 s (raised seen (seen + 1)) (after_raise s q seen) (a_share s q) at (no_share 𝓛 s q))
     where
       F : ℕ → Bool → ℕ → ℕ → Bool → Type 1
       F j mark w n y = Lands 𝓛 s (either y (seen + 1) w) mark n (a_share s q) (after_raise s q seen w) j
@@ -52,7 +52,7 @@ module _ {M : Type 1} {𝓤 : Ura M} (𝓛 : Logic 𝓤) (s : SharedBlock) (q : 
           let high : 9223372036854775808 ≤ seen = leb-true mark_bit seen says.0.same_mark in absurd (omega arith)
       same_word j false n says = won j n says
 
-      at : Steps 𝓛 s (raised seen) (after_raise s q seen) (a_share s q)
+      at : Steps 𝓛 s (raised seen (seen + 1)) (after_raise s q seen) (a_share s q)
       at j mark w n small says = dite (ℕ_discrete w seen)
           (λ same. subst (λ z. F j mark z n (eqb z seen)) (sym same) (subst (F j mark seen n) (sym (eq-eqb seen seen refl)) (same_word j mark n (subst (λ z. Says s.limit z mark n) same says))))
           (λ other. subst (F j mark w n) (sym (ne_eqb w seen other)) (missed j mark w n other says))

@@ -2,7 +2,6 @@
 use Rattle.std.proofs.Common.{◌≤◌}
 use Rattle.handles.proofs.Walks.{◌≡◌, ℕ, ◌+◌, ◌^◌, ◌<◌, false, [], ◌∷◌, refl, sym, ap, arith, w64, a_type, named, Val, vint, vptr, inst_fn, SProp, via, Lft, Share, Fml, ftrue, fsep, flft, finv, ‵, raw, ◌⊛◌, mean, at_ret, ◌$◌, ◌∵◌, !, qed, by, move, keep, drop, split, join, fsplit, fsplit3, fjoin, fpick, use1, use2, stop, fld, load, addr, lit, of_opd, no_more, and_then, first, blocks, exec, Calls-last, returns, enter, alloc_all, pass_all, free_all, look_at, get, through, sets, lands_last, is, env, agg, sub, whole, look_in, tables, fact, yes, RattleType, owns, types_at, plain, Ptr, block_ptr, block_of, offset_of, at_block, nothing_more, heard, shuts, param, layouts, RefOf, u64, shr_vals, shr_Tells, Stays, stay_dropped, walk_of, Goes-dropped, after, proved, leaves, fm, found, finds, Right, HeldRow, block_rule, one_word, word_and_gain, one_word-Good, HandleRow, HandleWords, known, returns_gain, word_and_gain-Good, opens_handle, shows_gain, closes_borrow, words_told, GainRow, ptr_val, get_in, no}
 use Rattle.atomic_table.proofs.Calls.{exchanges}
-use types.Run.{bin}
 use denote.Plain.{uint_vals, uint_Tells}
 use Rattle.counting_word.specs.CountingWord.{greatest_count, IsWithin}
 use Rattle.handles.specs.Inside.Rights.{right_by_raise}
@@ -18,24 +17,23 @@ use Rattle.handles.proofs.block.Handle.raise.Code as code
 pub raise_spec : {M : Type 1} → statement M
 raise_spec 𝓤 𝓛 𝓜 𝓡 wired T L =
     let 𝓣 = tables 𝓤 𝓛.H 𝓜 𝓡 𝓡.env in let R : RattleType = param 0 T in let En = ended T in let c = clauses T 𝓛 𝓜.mem 𝓡.returns in let inst = layouts (a_type ∷ []) (T, tt) in let fn = inst_fn inst code.function in
-    let self = RefOf (0 ∷ []) tt (plain (λ _. HandleRow R)) (λ _. tt) in let number = plain (λ _. u64) in let gained = plain (λ _. GainRow R) in let hs : Stays En.signature.params En.kept = (stay_dropped self yes, (stay_dropped number yes, (stay_dropped gained no, tt))) in
-    proved 𝓛 En hs c 𝓜 𝓡 (Goes-dropped 𝓛 2 self yes (λ κs x f. refl), (Goes-dropped 𝓛 2 number yes (λ κs x f. refl), (Goes-dropped 𝓛 2 gained no (λ κs x f. refl), tt))) (#self inst) fn (code.unfolded 𝓤 𝓛.H 𝓜 𝓡 wired (T, tt)) (λ κs. (shr_vals, (uint_vals w64, ((λ s. one_word s.block ∷ []), tt)))) (λ κs. (shr_Tells (named 0) κs.0 (HandleRow R), (uint_Tells w64, ((λ s vs so. words_told (gain_type.the_type R).name (R ∷ []) s.block vs so.0), tt)))) (λ κs qs bounds a gh are.
-    let b : ℕ = a.0.ref_ptr.0 in let o : ℕ = a.0.ref_ptr.1 in let κ : Lft = κs.0 in let q : Share = qs.0 in let others : Fml = fsep (flft κs.1.0 qs.1.0) ftrue in let p : Ptr = a.0.now.block in let x : (HeldRow R).Denot = a.0.now.held in let pb : ℕ = block_of p in let po : ℕ = offset_of p in let seen : ℕ = a.1.0 in let same : Ptr = a.1.1.0.block in
-    let y : (walk_of 𝓛 En hs c).Ghost = ((κs, qs, bounds, a, (vptr b o ∷ [], (vint w64 seen ∷ [], (one_word same ∷ [], tt)))), gh) in let Post : Val → SProp 𝓤 = (walk_of 𝓛 En hs c).post y in let D : RattleType = HandleWords R in
-    qed 𝓛 (((‵ (flft κ q) ⊛ ‵ others) ⊛ ‵ (owns (types_at En.signature.params κs) a y.0.4)) ∷ raw (fact 𝓤 _) ∷ raw (fact 𝓤 (a.0.now.sole ≡ false)) ∷ raw (fact 𝓤 (seen < a.0.now.held.limit.count)) ∷ raw (fact 𝓤 (same ≡ p)) ∷ raw (fact 𝓤 _) ∷ []) ∵ keep ! (2 ∷ 3 ∷ 4 ∷ 0 ∷ []) $ heard ! (a.0.now.sole ≡ false) (λ shared. heard ! (seen < a.0.now.held.limit.count) (λ below. heard ! (same ≡ p) (λ is_same. let bounded : x.limit.count ≤ greatest_count = x.limit.in_range.1 in let most : x.limit.count ≤ 9223372036854775807 = bounded in let room : seen + 1 < 2 ^ 64 = omega (arith, below, most) in
+    let self = RefOf (0 ∷ []) tt (plain (λ _. HandleRow R)) (λ _. tt) in let number = plain (λ _. u64) in let gained = plain (λ _. GainRow R) in let hs : Stays En.signature.params En.kept = (stay_dropped self yes, (stay_dropped number yes, (stay_dropped number yes, (stay_dropped gained no, tt)))) in
+    proved 𝓛 En hs c 𝓜 𝓡 (Goes-dropped 𝓛 2 self yes (λ κs x f. refl), (Goes-dropped 𝓛 2 number yes (λ κs x f. refl), (Goes-dropped 𝓛 2 number yes (λ κs x f. refl), (Goes-dropped 𝓛 2 gained no (λ κs x f. refl), tt)))) (#self inst) fn (code.unfolded 𝓤 𝓛.H 𝓜 𝓡 wired (T, tt)) (λ κs. (shr_vals, (uint_vals w64, (uint_vals w64, ((λ s. one_word s.block ∷ []), tt))))) (λ κs. (shr_Tells (named 0) κs.0 (HandleRow R), (uint_Tells w64, (uint_Tells w64, ((λ s vs so. words_told (gain_type.the_type R).name (R ∷ []) s.block vs so.0), tt))))) (λ κs qs bounds a gh are.
+    let b : ℕ = a.0.ref_ptr.0 in let o : ℕ = a.0.ref_ptr.1 in let κ : Lft = κs.0 in let q : Share = qs.0 in let others : Fml = fsep (flft κs.1.0 qs.1.0) ftrue in let p : Ptr = a.0.now.block in let x : (HeldRow R).Denot = a.0.now.held in let pb : ℕ = block_of p in let po : ℕ = offset_of p in let seen : ℕ = a.1.0 in let next : ℕ = a.1.1.0 in let same : Ptr = a.1.1.1.0.block in
+    let y : (walk_of 𝓛 En hs c).Ghost = ((κs, qs, bounds, a, (vptr b o ∷ [], (vint w64 seen ∷ [], (vint w64 next ∷ [], (one_word same ∷ [], tt))))), gh) in let Post : Val → SProp 𝓤 = (walk_of 𝓛 En hs c).post y in let D : RattleType = HandleWords R in
+    qed 𝓛 (((‵ (flft κ q) ⊛ ‵ others) ⊛ ‵ (owns (types_at En.signature.params κs) a y.0.4)) ∷ raw (fact 𝓤 _) ∷ raw (fact 𝓤 (a.0.now.sole ≡ false)) ∷ raw (fact 𝓤 (seen < a.0.now.held.limit.count)) ∷ raw (fact 𝓤 (next ≡ seen + 1)) ∷ raw (fact 𝓤 (same ≡ p)) ∷ raw (fact 𝓤 _) ∷ []) ∵ keep ! (2 ∷ 3 ∷ 4 ∷ 5 ∷ 0 ∷ []) $ heard ! (a.0.now.sole ≡ false) (λ shared. heard ! (seen < a.0.now.held.limit.count) (λ below. heard ! (next ≡ seen + 1) (λ is_next. heard ! (same ≡ p) (λ is_same. let bounded : x.limit.count ≤ greatest_count = x.limit.in_range.1 in
     split ! $ split ! $ move ! (2 ∷ []) $ fsplit ! $ fsplit ! $ keep ! (1 ∷ 3 ∷ 4 ∷ []) $
-    enter ! 𝓣.C 𝓣.Λ fn (vptr b o ∷ vint w64 seen ∷ one_word same ∷ []) Post $ alloc_all ! (λ l. pass_all ! refl ((tt, tt), ((tt, record { fits = are.1.0.1 }), (one_word-Good same, tt))) $ let Ev = env fn.locals l in
+    enter ! 𝓣.C 𝓣.Λ fn (vptr b o ∷ vint w64 seen ∷ vint w64 next ∷ one_word same ∷ []) Post $ alloc_all ! (λ l. pass_all ! refl ((tt, tt), ((tt, record { fits = are.1.0.1 }), ((tt, record { fits = are.1.1.0.1 }), (one_word-Good same, tt)))) $ let Ev = env fn.locals l in
     opens_handle R p x ! tt a.0.now.sole shared b o (λ inb i e r.
     -- [the word; what it says; the token's way back; the open borrow; the share; the rule; the sharing; the other tokens]
     sets ! (is ! (of_opd ! (get_in ! (fld ! refl (stop !)) (sub ! 0 refl (whole !)))) (ap ptr_val (is_same ∙ at_block p inb))) refl (tt, tt) $ shuts ! tt D r (p, tt) (one_word (block_ptr pb po) ∷ []) b o $
     -- [half of the token; the open borrow; the share; the rule; the sharing; the other tokens]
     let I : Fml = block_rule R p x i in let aft : ℕ → Fml = after_raise (block_at R p x i) e seen in
     first ! $ blocks ! $ sets ! (addr ! (through ! refl (fld ! refl (stop !)))) refl (tt, tt) $ move ! (3 ∷ []) $ use1 𝓛 (‵ (finv I) ⊛ ‵ (finv I)) (𝓛.invs.inv_dup I) $ split ! $ move ! (0 ∷ 4 ∷ []) $
-    use2 𝓛 (raw (𝓣.C _ (vptr pb (po + 0) ∷ vint w64 seen ∷ vint w64 (seen + 1) ∷ []) (λ u. mean 𝓛 (found aft u)))) (via 𝓤 _ (raises 𝓛 (block_at R p x i) e seen below bounded) (exchanges 𝓛 𝓜 𝓡 (code.calls-atomic_table::exchange 𝓡.env wired) (block_ptr pb (po + 0)) seen (seen + 1) are.1.0.1 room aft)) $
-    sets ! (bin ! (get ! refl) (lit ! tt) (record { fits = room })) refl (tt, record { fits = room }) $
+    use2 𝓛 (raw (𝓣.C _ (vptr pb (po + 0) ∷ vint w64 seen ∷ vint w64 next ∷ []) (λ u. mean 𝓛 (found aft u)))) (via 𝓤 _ (raises 𝓛 (block_at R p x i) e seen below bounded next is_next) (exchanges 𝓛 𝓜 𝓡 (code.calls-atomic_table::exchange 𝓡.env wired) (block_ptr pb (po + 0)) seen next are.1.0.1 are.1.1.0.1 aft)) $
     Calls-last ! (fm 𝓛 𝓜 𝓡) (found aft) (and_then ! (get ! refl) (and_then ! (get ! refl) (and_then ! (get ! refl) (no_more !)))) (λ u. finds ! aft (λ n fits. let r' : Right = right_by_raise seen n in
     lands_last ! refl (tt, record { fits = fits }) $ exec ! 𝓣.C 𝓣.Λ Ev (after 2 fn.body) (at_ret Ev Post) $ sets ! (of_opd ! (get ! refl)) refl (tt, record { fits = fits }) $
     -- [the share, the word's bound and the gain; the rule; half of the token; the open borrow; the sharing; the other tokens]
     fsplit3 ! $ move ! (1 ∷ []) $ fpick ! (λ within. drop ! $ move ! (0 ∷ 3 ∷ 4 ∷ []) $ closes_borrow ! tt $ move ! (0 ∷ 4 ∷ []) $ join ! $ move ! (1 ∷ 2 ∷ 3 ∷ []) $ shows_gain R p x ! tt inb i r' $
     sets ! (is ! (agg ! (and_then ! (get ! refl) (no_more !))) (ap one_word (sym (at_block p inb)))) refl (one_word-Good p) $ sets ! (agg ! (and_then ! (get ! refl) (and_then ! (get ! refl) (no_more !)))) refl (word_and_gain-Good n fits p) $
-    returns_gain R p x ! n fits r' $ known ! (p ≡ p) refl $ known ! (IsWithin n x.limit.count) within $ join ! $ known ! (x ≡ x) refl $ join ! $ known ! (r' ≡ r') refl $ join ! $ nothing_more ! $ nothing_more ! $ fjoin ! $ nothing_more ! $ fjoin ! $ nothing_more ! $ fjoin ! $ returns ! (look_at ! 0 refl) $ free_all ! refl $ keep ! (3 ∷ 0 ∷ 2 ∷ 1 ∷ []) $ by ! (leaves 𝓛 En hs c y (word_and_gain n p) (n, record { block = p; held = x; right = r' }) (tt, (tt, (tt, tt))) (tt, (tt, (tt, tt)))))))))))))
+    returns_gain R p x ! n fits r' $ known ! (p ≡ p) refl $ known ! (IsWithin n x.limit.count) within $ join ! $ known ! (x ≡ x) refl $ join ! $ known ! (r' ≡ r') refl $ join ! $ nothing_more ! $ nothing_more ! $ fjoin ! $ nothing_more ! $ fjoin ! $ nothing_more ! $ fjoin ! $ nothing_more ! $ fjoin ! $ returns ! (look_at ! 0 refl) $ free_all ! refl $ keep ! (3 ∷ 0 ∷ 2 ∷ 1 ∷ []) $ by ! (leaves 𝓛 En hs c y (word_and_gain n p) (n, record { block = p; held = x; right = r' }) (tt, (tt, (tt, (tt, tt)))) (tt, (tt, (tt, (tt, tt)))))))))))))))

@@ -15,7 +15,7 @@
 // into_loose    none                the whole block     a loose block
 //
 // `stamp` and `add_to_stamp` make a load and an addition on the stamp.
-ghost use Rattle.std.specs.Prelude.{◌≡◌, ◌<◌, ◌+◌, Bool, true, false, IfOk, IfErr};
+ghost use Rattle.std.specs.Prelude.{◌≡◌, ◌<◌, ◌+◌, Bool, true, false, IfOk, IfErr, IfSome};
 ghost use types.Logic.{sem};
 ghost use Rattle.counting_word.specs.CountingWord.{is_one_handle, marked_word, IsWithin};
 ghost use Rattle.std_alloc.specs.Box.Ownership.{box_owns};
@@ -106,17 +106,21 @@ impl<T: Drop> Block<T> {
     {
         match Box::new(alloc, Block::first(alloc, value, limit)) {
             Ok(block) => Ok(block),
-            Err(AllocFailed { value: block }) => {
-                let Block {
-                    word: _,
-                    stamp: _,
-                    held,
-                    alloc: _,
-                } = block;
-                let Held { limit: _, value } = held;
-                Err(value)
-            }
+            Err(AllocFailed { value: block }) => Err(block.into_value()),
         }
+    }
+
+    pub(crate) fn into_value(self) -> T
+        ensures { result ≡ self.held.value }
+    {
+        let Block {
+            word: _,
+            stamp: _,
+            held,
+            alloc: _,
+        } = self;
+        let Held { limit: _, value } = held;
+        value
     }
 
     // In the room that was taken for it.
@@ -391,20 +395,34 @@ impl<T> Gain<T> {
     }
 }
 
-impl<T: Drop> Drop for Handle<T> {
-    fn drop(self) {
+impl<T: Drop> Handle<T> {
+    // Ends the handle, and gives the block if that was its last one.
+    #[inline]
+    pub(crate) fn end(self) -> Option<Box<Block<T>>>
+        ensures { IfSome result (λ block. block.value.held ≡ self.held) }
+    {
         let (word, gain) = self.leave();
         match plan_drop(word) {
-            DropPlan::Static => gain.end(),
+            DropPlan::Static => {
+                gain.end();
+                None
+            }
             DropPlan::Lower => {
                 let (found, gain) = gain.lower();
                 if is_last(found) {
-                    drop(gain.into_loose().into_box());
+                    Some(gain.into_loose().into_box())
                 } else {
                     gain.end();
+                    None
                 }
             }
         }
+    }
+}
+
+impl<T: Drop> Drop for Handle<T> {
+    fn drop(self) {
+        drop(self.end());
     }
 }
 

@@ -1,5 +1,5 @@
-// Handles in place of `Default` and `From`, which take no allocator.
-ghost use Rattle.std.specs.Prelude.{◌≡◌, IfOk, IfErr};
+// From a value to a handle, in place of `Default` and `From`, which take no allocator; and back.
+ghost use Rattle.std.specs.Prelude.{◌≡◌, IfOk, IfErr, IfSome};
 
 use super::Arc;
 use std::alloc::Global;
@@ -21,5 +21,16 @@ impl<T: Send + Sync + Drop> Arc<T> {
         ensures refused { IfErr result (λ x. x ≡ value) }
     {
         Arc::new(alloc, value)
+    }
+
+    /// Ends the handle as a drop does, and gives the value if it was the last handle of an unmarked block.
+    ///
+    /// If all handles of an unmarked block end by this call, exactly one of the calls gives the value, however many threads
+    /// make them. So what is built of handles can be taken apart by a loop; a drop would end each inside the one before.
+    pub fn into_inner(this: Arc<T>) -> Option<T>
+        ensures { IfSome result (λ value. value ≡ this) }
+    {
+        let block = this.handle.end()?;
+        Some(Box::into_inner(block).into_value())
     }
 }

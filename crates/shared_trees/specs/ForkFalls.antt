@@ -1,9 +1,9 @@
 -- Each side of a fork has fewer entries than the fork.
 use Rattle.std.specs.Prelude.{◌≤◌, [], ◌∷◌, ℕ, length}
 use Rattle.std.proofs.Common.{arith, length-append}
-use Rattle.shared_trees.specs.declared.map.Sides.{Sides}
-use Rattle.shared_trees.specs.declared.map.Sides.TheVariants.{Neither, Less, Greater, Both}
-use Rattle.shared_trees.specs.declared.map.Fork.TheDeep.{deep-Fork}
+use Rattle.shared_trees.specs.declared.map.sides.Sides.{Sides}
+use Rattle.shared_trees.specs.declared.map.sides.Sides.TheVariants.{Neither, Less, Greater, Both}
+use Rattle.shared_trees.specs.declared.map.fork.Fork.TheDeep.{deep-Fork}
 use Rattle.shared_trees.specs.Forks.{around}
 
 pub depth_le-length-around : {V : Type 0} → (len : ℕ) → (sides : Sides V) → (entry : ℕ × V)

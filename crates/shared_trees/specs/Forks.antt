@@ -1,7 +1,7 @@
 -- What a fork and its sides are seen as.
 use Rattle.std.specs.Prelude.{ℕ, List, [], ◌∷◌, ◌++◌}
-use Rattle.shared_trees.specs.declared.map.Sides.{Sides}
-use Rattle.shared_trees.specs.declared.map.Sides.TheVariants.{Neither, Less, Greater, Both}
+use Rattle.shared_trees.specs.declared.map.sides.Sides.{Sides}
+use Rattle.shared_trees.specs.declared.map.sides.Sides.TheVariants.{Neither, Less, Greater, Both}
 
 -- the entries of lesser keys, and those of greater ones
 abbrev pub less_side : {V : Type 0} → Sides V → List (ℕ × V)

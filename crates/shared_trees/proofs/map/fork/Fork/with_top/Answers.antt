@@ -2,7 +2,7 @@
 use Rattle.std.proofs.Common.{◌≡◌, ap}
 use Rattle.shared_trees.specs.Maps.{above, below}
 use Rattle.shared_trees.proofs.Rising.{rising_parts}
-use Rattle.shared_trees.proofs.map.Fork.with_top.Goals as goal
+use Rattle.shared_trees.proofs.map.fork.Fork.with_top.Goals as goal
 
 pub of-requires-2-clause-rising : goal.of-requires-2-clause-rising
 of-requires-2-clause-rising g c κs within =

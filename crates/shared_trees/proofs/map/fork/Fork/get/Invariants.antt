@@ -1,6 +1,6 @@
 use Rattle.std.proofs.Common.{◌≡◌}
 use Rattle.shared_trees.specs.Maps.{lookup}
-use Rattle.shared_trees.proofs.map.Fork.get.Given as goal
+use Rattle.shared_trees.proofs.map.fork.Fork.get.Given as goal
 
 -- the key is looked up in what is left to walk
 abbrev pub invariant-loop-here : goal.invariant-loop-here

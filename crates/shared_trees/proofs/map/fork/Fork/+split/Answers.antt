@@ -3,9 +3,9 @@ use Rattle.std.proofs.Common.{◌≡◌, ◌∷◌, ◌++◌, ◌<◌, ap, sym, 
 use Rattle.shared_trees.specs.Forks.{less_side, greater_side}
 use Rattle.shared_trees.specs.Maps.{IsRising, above, below}
 use Rattle.shared_trees.proofs.Rising.{rising_above_left, rising_below_right, below_nil, above_nil, below_left, above_left, below_right, above_right}
-use Rattle.shared_trees.proofs.map.Fork.+split.Goals.{in-Neither, in-Less+in_ok-less-in-Less}
-use Rattle.shared_trees.proofs.map.Fork.+split.Goals.{in-Neither-sides, in-Greater+in_ok-between-in-Greater}
-use Rattle.shared_trees.proofs.map.Fork.+split.Goals as goal
+use Rattle.shared_trees.proofs.map.fork.Fork.+split.Goals.{in-Neither, in-Less+in_ok-less-in-Less}
+use Rattle.shared_trees.proofs.map.fork.Fork.+split.Goals.{in-Neither-sides, in-Greater+in_ok-between-in-Greater}
+use Rattle.shared_trees.proofs.map.fork.Fork.+split.Goals as goal
 
 pub beside-requires-clause-rising : goal.beside-requires-clause-rising
 beside-requires-clause-rising g t c κs within =

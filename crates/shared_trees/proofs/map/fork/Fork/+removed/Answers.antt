@@ -3,9 +3,9 @@ use Rattle.std.proofs.Common.{◌≡◌, ◌∷◌, ◌++◌, ◌<◌, ap, sym, 
 use Rattle.shared_trees.specs.Forks.{less_side, greater_side}
 use Rattle.shared_trees.specs.Maps.{IsRising, without}
 use Rattle.shared_trees.proofs.Rising.{rising_without_left, rising_without_right, rising_sides, without_nil, without_left, without_right}
-use Rattle.shared_trees.proofs.map.Fork.+removed.Goals.{in-Neither, in-Less+in_ok-less-in-Less}
-use Rattle.shared_trees.proofs.map.Fork.+removed.Goals.{in-Neither-sides, in-Greater+in_ok-greater-in-Greater}
-use Rattle.shared_trees.proofs.map.Fork.+removed.Goals as goal
+use Rattle.shared_trees.proofs.map.fork.Fork.+removed.Goals.{in-Neither, in-Less+in_ok-less-in-Less}
+use Rattle.shared_trees.proofs.map.fork.Fork.+removed.Goals.{in-Neither-sides, in-Greater+in_ok-greater-in-Greater}
+use Rattle.shared_trees.proofs.map.fork.Fork.+removed.Goals as goal
 
 pub beside-requires-clause-rising : goal.beside-requires-clause-rising
 beside-requires-clause-rising g t c κs within =

@@ -4,9 +4,9 @@ use Rattle.std.proofs.lemmas.Result.{IfOk-weaker}
 use Rattle.shared_trees.specs.Forks.{less_side, greater_side}
 use Rattle.shared_trees.specs.Maps.{IsRising, with_entry}
 use Rattle.shared_trees.proofs.Rising.{rising_with_left, rising_with_right, with_nil, with_left, with_right}
-use Rattle.shared_trees.proofs.map.Fork.+inserted.Goals.{in-Neither+in_ok-less-in-Neither, in-Less+in_ok-less-in-Less}
-use Rattle.shared_trees.proofs.map.Fork.+inserted.Goals.{in-Neither-sides+in_ok-greater-in-Neither-sides, in-Greater+in_ok-greater-in-Greater}
-use Rattle.shared_trees.proofs.map.Fork.+inserted.Goals as goal
+use Rattle.shared_trees.proofs.map.fork.Fork.+inserted.Goals.{in-Neither+in_ok-less-in-Neither, in-Less+in_ok-less-in-Less}
+use Rattle.shared_trees.proofs.map.fork.Fork.+inserted.Goals.{in-Neither-sides+in_ok-greater-in-Neither-sides, in-Greater+in_ok-greater-in-Greater}
+use Rattle.shared_trees.proofs.map.fork.Fork.+inserted.Goals as goal
 
 pub with_top-requires-clause-rising : goal.with_top-requires-clause-rising
 with_top-requires-clause-rising g t c κs within = subst IsRising c.self.view_is c.self.invariant.1

@@ -5,9 +5,9 @@ use Rattle.std.proofs.lemmas.Result.{IfOk-weaker}
 use Rattle.shared_trees.specs.Forks.{less_side, greater_side}
 use Rattle.shared_trees.specs.Maps.{IsRising}
 use Rattle.shared_trees.proofs.Rising.{into_left, into_right, rising_from_left, rising_from_right}
-use Rattle.shared_trees.proofs.map.+join.Goals.{in-Neither+in_ok-between-in-Neither, in-Greater+in_ok-between-in-Greater}
-use Rattle.shared_trees.proofs.map.+join.Goals.{in-Neither-sides+in_ok-between-in-Neither-sides, in-Less+in_ok-between-in-Less}
-use Rattle.shared_trees.proofs.map.+join.Goals as goal
+use Rattle.shared_trees.proofs.map.remove.+join.Goals.{in-Neither+in_ok-between-in-Neither, in-Greater+in_ok-between-in-Greater}
+use Rattle.shared_trees.proofs.map.remove.+join.Goals.{in-Neither-sides+in_ok-between-in-Neither-sides, in-Less+in_ok-between-in-Less}
+use Rattle.shared_trees.proofs.map.remove.+join.Goals as goal
 
 pub join-requires-clause-rising : goal.join-requires-clause-rising
 join-requires-clause-rising g t c κs within =

@@ -5,7 +5,7 @@ ghost use Rattle.cow_table.specs.declared.error.SetError.TheVariants.{Memory};
 use std::alloc::AllocError;
 use thiserror::Error;
 
-/// Why `CowTable::set` changed nothing.
+/// Why `CowTable::set` set nothing. Its version reads as it did, though it may no longer share its list of pages.
 #[derive(Clone, Copy, Debug, PartialEq, Eq, Error)]
 pub enum SetError {
     /// The list has no item of that number.

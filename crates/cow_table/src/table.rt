@@ -113,9 +113,10 @@ impl<T: Send + Sync> CowTable<T> {
 
     /// Sets the item of that number in this version alone.
     ///
-    /// If other versions share the list of pages or the page of this item, a copy of it is made first, by two requests
-    /// for memory and those of the items' own clones. A version that shares nothing copies and requests nothing. If the
-    /// item is not set, the given value is dropped.
+    /// If other versions share the list of pages, it is copied first, with one more handle of each page; if they share
+    /// the page of this item, that is copied, with a clone of each of its items. Each of the two copies takes two requests
+    /// for memory, beside those of the clones. A version that shares nothing copies and requests nothing. If the item is
+    /// not set, the given value is dropped.
     ///
     /// It is only for types whose copies are the same value, and so not for `String` or `Vec`, whose copy has another
     /// buffer.

@@ -1,5 +1,5 @@
 // How many items are copied and dropped, alone and shared.
-use crate::made::counted_table;
+use crate::made::{counted_pages, counted_table};
 use cow_table::{CowTable, SetError};
 use facts::{again, holds, ok, same};
 use handle_tests::counted::{Counted, Tally};
@@ -71,4 +71,16 @@ fn a_version_that_is_gone_shares_nothing(rt: HostRuntime) {
         makes_copies(rt.alloc(), &tally, &mut a, &[(0, 0), (3, 0)]),
         Ok(true),
     );
+}
+
+// Pages are as long as was asked for, and each is told from the others.
+#[test]
+fn a_long_page_is_copied_whole(rt: HostRuntime) {
+    let tally = Tally::new();
+    let a = ok!(&rt, counted_pages(rt.alloc(), &tally, 200, 64));
+    let mut b = again!(&rt, &a);
+    ok!(&rt, b.set(rt.alloc(), 70, Counted::new(&tally, 9)));
+    same!(&rt, tally.copies(), 64);
+    let shared = [0, 1, 2, 3, 4].map(|p| CowTable::page_ptr_eq(&a, &b, p));
+    same!(&rt, shared, [true, false, true, true, false]);
 }

@@ -18,6 +18,16 @@ pub fn counted_table<'a>(
     tally: &'a Tally,
     len: u64,
 ) -> Result<CowTable<Counted<'a>>, AllocError> {
+    counted_pages(alloc, tally, len, 2)
+}
+
+/// The same in pages of that length.
+pub fn counted_pages<'a>(
+    alloc: Global,
+    tally: &'a Tally,
+    len: u64,
+    page_len: usize,
+) -> Result<CowTable<Counted<'a>>, AllocError> {
     let items = counted_items(alloc, tally, len).ok_or(AllocError)?;
-    CowTable::from_items(alloc, items, 2)
+    CowTable::from_items(alloc, items, page_len)
 }

@@ -42,7 +42,7 @@ pub enum PlainCommand<T> {
     Same(usize, usize),
 }
 
-/// The reply to a command. Only `Done` may go with a change.
+/// The reply to a command. Only `Done` may go with a change. The value of a command with another reply is dropped.
 #[derive(Clone, Copy, Debug, PartialEq, Eq)]
 pub enum Reply {
     Done,

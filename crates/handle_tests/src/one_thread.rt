@@ -152,6 +152,26 @@ fn a_handle_of_a_marked_block_is_never_unique_again(rt: HostRuntime) {
 }
 
 #[test]
+fn the_last_handle_gives_the_value(rt: HostRuntime) {
+    let tally = Tally::new();
+    let a = ok!(&rt, arc_of(rt.alloc(), Counted::new(&tally, 5)));
+    let b = again!(&rt, &a);
+    holds!(&rt, Arc::into_inner(a).is_none() && b.is_unique());
+    let last = Arc::into_inner(b).expect(&rt, "the last handle");
+    same!(&rt, (last.value, tally.copies(), tally.drops()), (5, 0, 0));
+    drop(last);
+    same!(&rt, tally.drops(), 1);
+}
+
+#[test]
+fn no_handle_of_a_marked_block_gives_the_value(rt: HostRuntime) {
+    let tally = Tally::new();
+    let a = ok!(&rt, Arc::new_leaked(rt.alloc(), Counted::new(&tally, 5)));
+    holds!(&rt, Arc::into_inner(a).is_none());
+    same!(&rt, tally.drops(), 0);
+}
+
+#[test]
 fn an_unwritten_block_drops_no_value(rt: HostRuntime) {
     let tally = Tally::new();
     drop(ok!(&rt, UniqueArc::<Counted<'_>>::new_uninit(rt.alloc())));

@@ -47,10 +47,10 @@ fn end_by_into_unique(mut list: Option<Arc<Node<'_>>>) {
     }
 }
 
-fn end_by_get_mut(mut list: Option<Arc<Node<'_>>>) {
-    while let Some(mut node) = list {
-        list = match Arc::get_mut(&mut node) {
-            Some(alone) => alone.next.take(),
+fn end_by_into_inner(mut list: Option<Arc<Node<'_>>>) {
+    while let Some(node) = list {
+        list = match Arc::into_inner(node) {
+            Some(node) => node.next,
             None => None,
         };
     }
@@ -61,7 +61,7 @@ fn a_long_list_ends_in_a_loop(rt: HostRuntime) -> Result<(), Fail> {
     let drops = AtomicU64::new(0);
     end_by_into_unique(long_list(rt.alloc(), &drops)?);
     assert_eq!(rt; drops.load(SeqCst), NODES);
-    end_by_get_mut(long_list(rt.alloc(), &drops)?);
+    end_by_into_inner(long_list(rt.alloc(), &drops)?);
     assert_eq!(rt; drops.load(SeqCst), 2 * NODES);
     Ok(())
 }

@@ -103,6 +103,7 @@ pub fn start<V: Env, R: Read, W: Write, E: Write>(
     errors: &mut E,
 ) -> u8
     ensures range { result ≤ 5 }
+    ensures unread { result ≡ 1 → input.new ≡ input.old }
     ensures read { (result ≡ 0) ⊎ (result ≡ 2) ⊎ (result ≡ 4) → IsAtEnd (R.remaining input.new) }
     ensures unwritten { (result ≡ 1) ⊎ (result ≡ 3) → output.new ≡ output.old }
     ensures wrote { (result ≡ 1)

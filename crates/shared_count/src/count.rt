@@ -63,7 +63,8 @@ impl SharedCount {
 
     /// One more handle for the pass: a load, and at most one compare-exchange.
     ///
-    /// It never tries again. Where another pass changed the count in between, it answers `Overtaken`.
+    /// It never tries again. If another pass changed the count in between, the exchange may lose; it then answers
+    /// `Overtaken`, unless it finds the count marked or full.
     pub fn try_clone(&self, pass: &mut CountPass) -> TryClone
         requires count { pass.old.count ≡ self.now }
         requires owns { 0 < handles pass.old }

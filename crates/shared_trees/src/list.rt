@@ -93,7 +93,8 @@ impl<T: Send + Sync + Drop> List<T> {
         })
     }
 
-    /// What comes after the first item, by one raise of a count. Nothing comes after the empty list.
+    /// What comes after the first item, by one raise of a count. Nothing comes after the empty list. It is refused as the
+    /// `clone` of an `Arc` is.
     pub fn rest(&self) -> Result<List<T>, AllocError>
         ensures { IfOk result (λ list. list ≡ drop 1 self.now) }
     {
@@ -106,15 +107,13 @@ impl<T: Send + Sync + Drop> List<T> {
     }
 
     /// Ends node by node in a loop, as far as no other version has them. So a long list takes no more stack than a short
-    /// one; a plain drop ends each node inside the one before, and may run out of stack.
+    /// one, also if threads end versions of it at once; a plain drop ends each node inside the one before, and may run
+    /// out of stack.
     pub fn end(self) {
-        let Links { mut first, len: _ } = self.links;
-        while let Some(mut node) = first {
-            first = match Arc::get_mut(&mut node) {
-                Some(node) => {
-                    node.rest.len = 0;
-                    node.rest.first.take()
-                }
+        let mut first = self.links.first;
+        while let Some(node) = first {
+            first = match Arc::into_inner(node) {
+                Some(node) => node.rest.first,
                 None => None,
             };
         }

@@ -103,7 +103,8 @@ impl<V: Send + Sync> TreeMap<V> {
 impl<V: Send + Sync + Clone> TreeMap<V> {
     /// The map with the value under the key. The map itself stays.
     ///
-    /// It makes a node for each on the path to the key, and shares all others.
+    /// It makes a node for each on the path to the key, and shares all others. It is refused if there is no memory, if the
+    /// `clone` of a value or of a handle is, and at `usize::MAX` entries. Then the value is dropped.
     #[tactic(auto, using(crate::proofs::Rising::inserting))]
     pub fn insert(&self, alloc: Global, key: u64, value: V) -> Result<TreeMap<V>, AllocError>
         requires copies { CopiesAreEqual V.is_clone }
@@ -120,7 +121,8 @@ impl<V: Send + Sync + Clone> TreeMap<V> {
 
     /// The map without a value under the key. The map itself stays.
     ///
-    /// It makes a node for each on the path to the key and below it between the two sides, and shares all others.
+    /// It makes a node for each on the path to the key and below it between the two sides, and shares all others. It is
+    /// refused if there is no memory, or if the `clone` of a value or of a handle is.
     #[tactic(auto, using(crate::proofs::Rising::removing))]
     pub fn remove(&self, alloc: Global, key: u64) -> Result<TreeMap<V>, AllocError>
         requires copies { CopiesAreEqual V.is_clone }

@@ -10,7 +10,7 @@ use std::marker::Model;
 
 /// An iterator over the entries of a `TreeMap`, in the order of their keys.
 ///
-/// It takes no memory: for each entry it goes down from the root, in O(log n).
+/// It takes no memory: for each entry it goes down from the root, in as many steps as the tree is deep.
 #[derive(Drop)]
 pub struct MapIter<'a, V: Send + Sync> {
     // The entries that are left are those from the one number up to the other.

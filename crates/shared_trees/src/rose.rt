@@ -7,6 +7,7 @@ ghost use Rattle.shared_trees.specs.declared.rose.RoseError.TheVariants.{NoSuchP
 
 use servo_arc::{Arc, ThinArc};
 use std::alloc::{AllocError, Global};
+use thiserror::Error;
 
 /// A value with the trees below it, in one block. A tree is changed by making another, which shares all branches that
 /// the change left alone.
@@ -16,11 +17,13 @@ pub struct Rose<V: Send + Sync> {
 }
 
 /// Why no version was made. The tree stays as it was.
-#[derive(Clone, Copy, Debug, PartialEq, Eq)]
+#[derive(Clone, Copy, Debug, PartialEq, Eq, Error)]
 pub enum RoseError {
     /// The path leads out of the tree. No memory was requested.
+    #[error("no such place")]
     NoSuchPlace,
     /// There was no memory, or a `clone` was refused.
+    #[error("out of memory")]
     Memory,
 }
 
@@ -84,14 +87,14 @@ impl<V: Send + Sync> Rose<V> {
 }
 
 impl<V: Send + Sync + Drop> Rose<V> {
-    /// A tree of that value alone.
+    /// A tree of that value alone. It is refused if there is no memory, and the value is then dropped.
     pub fn leaf(alloc: Global, value: V) -> Result<Rose<V>, AllocError>
         ensures { IfOk result (λ tree. tree ≡ branch value []) }
     {
         Rose::with_children(alloc, value, Vec::new(alloc))
     }
 
-    /// The value with these trees below it.
+    /// The value with these trees below it. It is refused if there is no memory, and all that it was given is then dropped.
     pub fn with_children(
         alloc: Global,
         value: V,
@@ -110,7 +113,7 @@ impl<V: Send + Sync + Clone> Rose<V> {
     /// The tree with that value at the end of the path. The tree itself stays.
     ///
     /// It makes a node for each on the path, of a copy of its value and of handles of its children, and shares all
-    /// other trees.
+    /// other trees. If it is refused, the value is dropped.
     pub fn with_value(&self, alloc: Global, path: &[usize], value: V) -> Result<Rose<V>, RoseError>
         requires copies { CopiesAreEqual V.is_clone }
         ensures made { IfOk result (λ tree. Some tree ≡ with_value path.now value self.now) }

@@ -81,15 +81,21 @@ impl Style {
             width: 0,
             radius: 0,
         };
+        let font = Arc::new(alloc, font).map_err(|_| AllocError)?;
+        let border = Arc::new_leaked(alloc, border).map_err(|_| AllocError)?;
+        // Not before both are there, so that nothing is lost if one is refused.
+        font.mark_as_intentionally_leaked();
         Ok(Style {
-            font: Arc::new_leaked(alloc, font).map_err(|_| AllocError)?,
-            border: Arc::new_leaked(alloc, border).map_err(|_| AllocError)?,
+            font,
+            border,
             source: None,
         })
     }
 
-    /// Takes what the source says. It writes a group that no other style shares in place, and copies any other. If it is
-    /// refused, the style is as it was.
+    /// Takes what the source says. It writes a group that no other style shares in place, and copies any other.
+    ///
+    /// It is refused if there is no memory for a copy. The style then reads as it was, though it may no longer share a
+    /// group, and the source is dropped.
     pub fn cascade(&mut self, alloc: Global, source: Source) -> Result<(), AllocError>
         ensures took { IfOk result (λ _. self.new ≡ cascaded source self.old) }
         ensures refused { IfErr result (λ _. self.new ≡ self.old) }
@@ -119,14 +125,15 @@ impl Style {
         Ok(self)
     }
 
-    /// The style under a rule of a sheet.
+    /// The style under a rule of a sheet. It is refused as `cascade` is, or if a `clone` of a handle is; then the rule is
+    /// dropped.
     pub fn under_rule(&self, alloc: Global, rule: Arc<Rule>) -> Result<Style, AllocError>
         ensures { IfOk result (λ style. style ≡ cascaded (First rule) self.now) }
     {
         self.clone()?.cascaded(alloc, ArcUnion::from_first(rule))
     }
 
-    /// The style under what stands at the element itself.
+    /// The style under what stands at the element itself. It is refused as `under_rule` is.
     pub fn under_inline(&self, alloc: Global, inline: Arc<Inline>) -> Result<Style, AllocError>
         ensures { IfOk result (λ style. style ≡ cascaded (Second inline) self.now) }
     {

@@ -2,6 +2,8 @@
 #![tactic(auto)]
 
 #[cfg(test)]
+mod last_value;
+#[cfg(test)]
 mod limits;
 #[cfg(test)]
 mod many_threads;

@@ -3,7 +3,7 @@ use facts::{holds, ok, same};
 use shared_trees::List;
 use std::alloc::{AllocError, Global};
 
-fn up_to(alloc: Global, len: u64) -> Result<List<u64>, AllocError> {
+pub(crate) fn up_to(alloc: Global, len: u64) -> Result<List<u64>, AllocError> {
     let mut list = List::new();
     for value in 0..len {
         list = list.push(alloc, value)?;

@@ -125,3 +125,19 @@ fn a_deep_tree_is_changed_at_its_leaf(rt: HostRuntime) {
     same!(&rt, (read(&old), read(&new)), (Some(0), Some(7)));
     same!(&rt, *new.value(), MANY);
 }
+
+#[test]
+fn errors_have_their_texts(rt: HostRuntime) {
+    let alloc = rt.alloc();
+    let text = |error: RoseError| format!(in alloc; "{error}");
+    same!(
+        &rt,
+        ok!(&rt, text(RoseError::NoSuchPlace)).as_str(),
+        "no such place",
+    );
+    same!(
+        &rt,
+        ok!(&rt, text(RoseError::Memory)).as_str(),
+        "out of memory",
+    );
+}

@@ -1,7 +1,10 @@
 // Versions on several threads, each of which is joined.
 use crate::editions::{Edition, publish, read_all};
+use crate::lists::up_to;
 use crossbeam_channel::{Receiver, Sender, unbounded};
+use facts::{again, ok};
 use std::alloc::{AllocError, Global};
+use std::sync::Barrier;
 use std::test::Fail;
 use std::thread;
 
@@ -39,4 +42,30 @@ fn four_threads_read_what_one_publishes(rt: HostRuntime) -> Result<(), Fail> {
     let all = Some(EDITIONS);
     assert_eq!(rt; (published, read), (Ok(()), ((all, all), (all, all))));
     Ok(())
+}
+
+const ROUNDS: u32 = 20;
+
+// So many that a drop of each inside the one before would run out of stack.
+const NODES: u64 = 200_000;
+
+// Whichever thread ends its version last has to end the nodes, and neither knows that before.
+#[test]
+fn two_threads_end_one_long_list(rt: HostRuntime) {
+    for _ in 0..ROUNDS {
+        let list = ok!(&rt, up_to(rt.alloc(), NODES));
+        let same = again!(&rt, &list);
+        let both = Barrier::new(2);
+        thread::join(
+            &rt,
+            || {
+                both.wait(&rt);
+                list.end();
+            },
+            || {
+                both.wait(&rt);
+                same.end();
+            },
+        );
+    }
 }

@@ -20,9 +20,15 @@ use denote.Struct.Owning.{shape}
 use Rattle.core.specs.declared.alloc.Allocator.{Ghosts}
 use Rattle.core.proofs.alloc.Calls.{Al, handle_tells}
 use Rattle.core.proofs.cell.Inside.{Good}
+use Rattle.std_heap.specs.contracts.Global.{the_row as heap_row}
+use Rattle.std_heap.specs.contracts.GlobalAllocator.TheImpl.{ghosts, dict}
+use Rattle.std_heap.proofs.Global.TheLaws.{the_row_laws as heap_laws}
 use Rattle.std_alloc.specs.Box.Ownership.{box_owns}
 use Rattle.std_alloc.proofs.ResultValues.{and_tt}
 use Rattle.handles.specs.contracts.block.Loose as loose
+
+abbrev pub heap : Al
+heap = record { row = heap_row; laws = heap_laws; g = ghosts; d = dict; drops = impl [] tnil dnil }
 
 abbrev pub pair_val : Val → Val → Val
 pair_val v w = vstruct (vcons v (vcons w vnil))

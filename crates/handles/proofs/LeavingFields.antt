@@ -7,8 +7,8 @@ use lib.Dec.{T}
 use seplogic.Ra.Ura.{Ura}
 use base.Fraction.{full_share}
 use base.Logic.{ent, sep, emp, ex, guard, via, never, never_e, id⊢}
-use base.Fml.{Fml, fat, froom}
-use mir.Syntax.{Ty, ty_int, ty_ptr, ty_struct, ty_array, tcons, tnil}
+use base.Fml.{fat, froom}
+use mir.Syntax.{ty_int, ty_ptr, ty_struct, ty_array, tcons, tnil}
 use mir.Val.{Val, vint, vstruct, vcons, vnil, has_ty, WT}
 use types.Logic.{Logic, sem}
 use types.Kit.{‵, ◌⊛◌, some, given, ◌$◌, ◌∵◌, !, qed, by, move, keep, pick, learn, show, check, split, use0, use1, use2, fsplit, fsplit3, fjoin, rewrite, done}
@@ -21,53 +21,49 @@ use denote.Shadow.{makes_shadow}
 use denote.Struct.Struct.{Struct, as_fields}
 use denote.Struct.Owning.{shape}
 use Rattle.core.specs.Mem.{type_size}
-use Rattle.core.specs.declared.alloc.Allocator.{Ghosts}
 use Rattle.core.proofs.atomic.Steps.{Ptr-Good}
 use Rattle.core.proofs.ptr.Rows.{El, R, Good, el_own, el_x, elτ, sz, el_out, apart, whole, room_snoc, glued, one_more, next}
 use Rattle.std_alloc.proofs.RawLayout.{as_raw}
 use Rattle.handles.specs.Inside.PlacesOwnership.{places_own, leaving_own}
 use Rattle.handles.proofs.PlacesFields.{places_val}
-use Rattle.handles.specs.contracts.header_slice.places.Leaving as leaving
+pub use Rattle.handles.specs.contracts.header_slice.places.Leaving.{the_type as LeavingType, the_row as LeavingRow}
 
 abbrev pub leaving_val : Ptr → ℕ → ℕ → ℕ → Val
-leaving_val p taken filled room = vstruct (vcons (ptr_val p) (vcons (vint w64 taken) (vcons (vint w64 filled) (vcons (vint w64 room) (vcons (vstruct vnil) vnil)))))
+leaving_val p taken filled room = vstruct (vcons (ptr_val p) (vcons (vint w64 taken) (vcons (vint w64 filled) (vcons (vint w64 room) vnil))))
 
 pub places-Good : (p : Ptr) (filled room : ℕ) → filled < 2 ^ 64 → room < 2 ^ 64
-    → T (has_ty (ty_struct [] (tcons ty_ptr (tcons (ty_int w64) (tcons (ty_int w64) (tcons (ty_struct [] tnil) tnil))))) (places_val p filled room)) × WT (places_val p filled room)
-places-Good p filled room filled_fits room_fits = as_fields (ty_ptr ∷ ty_int w64 ∷ ty_int w64 ∷ ty_struct [] tnil ∷ []) (ptr_val p ∷ vint w64 filled ∷ vint w64 room ∷ vstruct vnil ∷ [])
-    (Ptr-Good p, ((tt, record { fits = filled_fits }), ((tt, record { fits = room_fits }), ((tt, tt), tt))))
+    → T (has_ty (ty_struct [] (tcons ty_ptr (tcons (ty_int w64) (tcons (ty_int w64) tnil)))) (places_val p filled room)) × WT (places_val p filled room)
+places-Good p filled room filled_fits room_fits = as_fields (ty_ptr ∷ ty_int w64 ∷ ty_int w64 ∷ []) (ptr_val p ∷ vint w64 filled ∷ vint w64 room ∷ [])
+    (Ptr-Good p, ((tt, record { fits = filled_fits }), ((tt, record { fits = room_fits }), tt)))
 
 pub leaving-Good : (p : Ptr) (taken filled room : ℕ) → taken < 2 ^ 64 → filled < 2 ^ 64 → room < 2 ^ 64
-    → T (has_ty (ty_struct [] (tcons ty_ptr (tcons (ty_int w64) (tcons (ty_int w64) (tcons (ty_int w64) (tcons (ty_struct [] tnil) tnil)))))) (leaving_val p taken filled room)) × WT (leaving_val p taken filled room)
-leaving-Good p taken filled room taken_fits filled_fits room_fits = as_fields (ty_ptr ∷ ty_int w64 ∷ ty_int w64 ∷ ty_int w64 ∷ ty_struct [] tnil ∷ []) (ptr_val p ∷ vint w64 taken ∷ vint w64 filled ∷ vint w64 room ∷ vstruct vnil ∷ [])
-    (Ptr-Good p, ((tt, record { fits = taken_fits }), ((tt, record { fits = filled_fits }), ((tt, record { fits = room_fits }), ((tt, tt), tt)))))
+    → T (has_ty (ty_struct [] (tcons ty_ptr (tcons (ty_int w64) (tcons (ty_int w64) (tcons (ty_int w64) tnil))))) (leaving_val p taken filled room)) × WT (leaving_val p taken filled room)
+leaving-Good p taken filled room taken_fits filled_fits room_fits = as_fields (ty_ptr ∷ ty_int w64 ∷ ty_int w64 ∷ ty_int w64 ∷ []) (ptr_val p ∷ vint w64 taken ∷ vint w64 filled ∷ vint w64 room ∷ [])
+    (Ptr-Good p, ((tt, record { fits = taken_fits }), ((tt, record { fits = filled_fits }), ((tt, record { fits = room_fits }), tt))))
 
-module _ (R Z : RattleType) (g : Ghosts Z.Denot) where
-  abbrev pub LeavingRow : RattleType
-  LeavingRow = leaving.the_row R Z g
-
+module _ (R : RattleType) where
   abbrev pub LeavingWords : RattleType
-  LeavingWords = Struct (shape (leaving.the_type R Z g))
+  LeavingWords = Struct (shape (LeavingType R))
 
   pub leaving_words : {M : Type 1} {𝓤 : Ura M} (𝓛 : Logic 𝓤) (p : Ptr) (taken filled room : ℕ) → taken < 2 ^ 64 → filled < 2 ^ 64 → room < 2 ^ 64
-      → ent 𝓤 (emp 𝓤) (sem 𝓛 (LeavingWords.own_val (p, (taken, (filled, (room, (tt, tt))))) (leaving_val p taken filled room ∷ [])))
-  leaving_words 𝓛 p taken filled room taken_fits filled_fits room_fits = makes_shadow 𝓛 (LeavingWords.own_val (p, (taken, (filled, (room, (tt, tt))))) (leaving_val p taken filled room ∷ []))
-      (λ vss. (tt, (tt, ((tt, tt), ((tt, tt), ((tt, tt), ((λ uss. (tt, tt)), tt)))))))
-      ((ptr_val p ∷ [], (vint w64 taken ∷ [], (vint w64 filled ∷ [], (vint w64 room ∷ [], (vstruct vnil ∷ [], tt))))), (refl, (refl, ((refl, taken_fits), ((refl, filled_fits), ((refl, room_fits), ((tt, (refl, tt)), tt)))))))
+      → ent 𝓤 (emp 𝓤) (sem 𝓛 (LeavingWords.own_val (p, (taken, (filled, (room, tt)))) (leaving_val p taken filled room ∷ [])))
+  leaving_words 𝓛 p taken filled room taken_fits filled_fits room_fits = makes_shadow 𝓛 (LeavingWords.own_val (p, (taken, (filled, (room, tt)))) (leaving_val p taken filled room ∷ []))
+      (λ vss. (tt, (tt, ((tt, tt), ((tt, tt), ((tt, tt), tt))))))
+      ((ptr_val p ∷ [], (vint w64 taken ∷ [], (vint w64 filled ∷ [], (vint w64 room ∷ [], tt)))), (refl, (refl, ((refl, taken_fits), ((refl, filled_fits), ((refl, room_fits), tt))))))
 
-module _ (R : RattleType) (t : Ty → Ptr → Fml) {M : Type 1} {𝓤 : Ura M} (𝓛 : Logic 𝓤) where
+module _ (R : RattleType) {M : Type 1} {𝓤 : Ura M} (𝓛 : Logic 𝓤) where
   -- no item has left the places yet
-  pub none_left : (p : Ptr) (filled room : ℕ) (items : List R.Denot) → ent 𝓤 (sem 𝓛 (places_own t R p filled room items)) (sem 𝓛 (leaving_own t R p 0 filled room items))
-  none_left null_ptr filled room items = via 𝓤 (never 𝓤) (qed 𝓛 (‵ (places_own t R null_ptr filled room items) ∷ []) ∵ fsplit3 ! $ keep ! (1 ∷ []) $ by ! (id⊢ 𝓤 (never 𝓤))) (never_e 𝓤 _)
+  pub none_left : (p : Ptr) (filled room : ℕ) (items : List R.Denot) → ent 𝓤 (sem 𝓛 (places_own R p filled room items)) (sem 𝓛 (leaving_own R p 0 filled room items))
+  none_left null_ptr filled room items = via 𝓤 (never 𝓤) (qed 𝓛 (‵ (places_own R null_ptr filled room items) ∷ []) ∵ fsplit3 ! $ keep ! (1 ∷ []) $ by ! (id⊢ 𝓤 (never 𝓤))) (never_e 𝓤 _)
   none_left (block_ptr b o) filled room items = let s : ℕ = type_size R in let none : 0 * s ≡ 0 = zero-mul s in let there : o ≡ o + 0 * s = omega arith in
-      qed 𝓛 (‵ (places_own t R (block_ptr b o) filled room items) ∷ []) ∵ fsplit3 ! $ move ! (1 ∷ []) $
+      qed 𝓛 (‵ (places_own R (block_ptr b o) filled room items) ∷ []) ∵ fsplit3 ! $ move ! (1 ∷ []) $
       rewrite ! 0 (λ (at : ℕ). ‵ (part_at (Array R filled) full_share items b at)) there refl $ rewrite ! 0 (λ (n : ℕ). ‵ (part_at (Array R n) full_share items b (o + 0 * s))) (sym (sub-zero filled)) refl $
       -- [the items; the bound; the room and the right to give back]
       move ! (0 ∷ 2 ∷ []) $ fjoin ! $ use0 𝓛 (‵ (froom (ty_array (lone R.mir) 0) b o)) (𝓛.laws.room_nil (lone R.mir) b o) $ as_raw ! (ty_array (lone R.mir) 0) b o $ move ! (0 ∷ 1 ∷ []) $ fjoin ! $ move ! (1 ∷ 0 ∷ []) $ fjoin ! $ done !
 
   -- nothing lies at null
-  pub none_at_null : (taken filled room : ℕ) (items : List R.Denot) → ent 𝓤 (sem 𝓛 (leaving_own t R null_ptr taken filled room items)) (never 𝓤)
-  none_at_null taken filled room items = qed 𝓛 (‵ (leaving_own t R null_ptr taken filled room items) ∷ []) ∵ fsplit3 ! $ keep ! (1 ∷ []) $ by ! (id⊢ 𝓤 (never 𝓤))
+  pub none_at_null : (taken filled room : ℕ) (items : List R.Denot) → ent 𝓤 (sem 𝓛 (leaving_own R null_ptr taken filled room items)) (never 𝓤)
+  none_at_null taken filled room items = qed 𝓛 (‵ (leaving_own R null_ptr taken filled room items) ∷ []) ∵ fsplit3 ! $ keep ! (1 ∷ []) $ by ! (id⊢ 𝓤 (never 𝓤))
 
 pub first_of : {X : Type 0} (xs : List X) → 0 < length xs → (x : X) × ((others : List X) × (xs ≡ x ∷ others))
 first_of [] asked = absurd (not-suc-le-zero asked)

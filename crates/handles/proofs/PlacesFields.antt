@@ -9,29 +9,22 @@ use denote.Laws.{Is}
 use denote.RawPtr.{Ptr, ptr_val}
 use denote.Shadow.{makes_shadow}
 use denote.Struct.Struct.{Struct}
-use denote.Struct.Owning.{Owning, shape}
-use Rattle.core.specs.declared.alloc.Allocator.{Ghosts}
-use Rattle.handles.specs.contracts.header_slice.places.Places as places
+use denote.Struct.Owning.{shape}
+pub use Rattle.handles.specs.contracts.header_slice.places.Places.{the_type as PlacesType, the_row as PlacesRow}
 
 abbrev pub places_val : Ptr → ℕ → ℕ → Val
-places_val p filled room = vstruct (vcons (ptr_val p) (vcons (vint w64 filled) (vcons (vint w64 room) (vcons (vstruct vnil) vnil))))
+places_val p filled room = vstruct (vcons (ptr_val p) (vcons (vint w64 filled) (vcons (vint w64 room) vnil)))
 
-module _ (R Z : RattleType) (g : Ghosts Z.Denot) where
-  abbrev pub PlacesType : Owning
-  PlacesType = places.the_type R Z g
-
-  abbrev pub PlacesRow : RattleType
-  PlacesRow = places.the_row R Z g
-
+module _ (R : RattleType) where
   -- the fields, as a plain struct
   abbrev pub PlacesWords : RattleType
-  PlacesWords = Struct (shape PlacesType)
+  PlacesWords = Struct (shape (PlacesType R))
 
-  pub words_told : (p : Ptr) (filled room : ℕ) (vs : List Val) → Is PlacesWords (p, (filled, (room, (tt, tt)))) vs
+  pub words_told : (p : Ptr) (filled room : ℕ) (vs : List Val) → Is PlacesWords (p, (filled, (room, tt))) vs
       → (vs ≡ places_val p filled room ∷ []) × (filled < 2 ^ 64) × (room < 2 ^ 64)
-  words_told p filled room vs is = (is.1.0 ∙ (λ j. vstruct (of_list (is.1.1.0 j ++ (is.1.1.1.0.0 j ++ (is.1.1.1.1.0.0 j ++ (is.1.1.1.1.1.0.1.0 j ++ []))))) ∷ []), is.1.1.1.0.1, is.1.1.1.1.0.1)
+  words_told p filled room vs is = (is.1.0 ∙ (λ j. vstruct (of_list (is.1.1.0 j ++ (is.1.1.1.0.0 j ++ (is.1.1.1.1.0.0 j ++ [])))) ∷ []), is.1.1.1.0.1, is.1.1.1.1.0.1)
 
   pub words_made : {M : Type 1} {𝓤 : Ura M} (𝓛 : Logic 𝓤) (p : Ptr) (filled room : ℕ) → filled < 2 ^ 64 → room < 2 ^ 64
-      → ent 𝓤 (emp 𝓤) (sem 𝓛 (PlacesWords.own_val (p, (filled, (room, (tt, tt)))) (places_val p filled room ∷ [])))
-  words_made 𝓛 p filled room small_filled small_room = makes_shadow 𝓛 (PlacesWords.own_val (p, (filled, (room, (tt, tt)))) (places_val p filled room ∷ [])) (λ vss. (tt, (tt, ((tt, tt), ((tt, tt), ((λ uss. (tt, tt)), tt))))))
-      ((ptr_val p ∷ [], (vint w64 filled ∷ [], (vint w64 room ∷ [], (vstruct vnil ∷ [], tt)))), (refl, (refl, ((refl, small_filled), ((refl, small_room), ((tt, (refl, tt)), tt))))))
+      → ent 𝓤 (emp 𝓤) (sem 𝓛 (PlacesWords.own_val (p, (filled, (room, tt))) (places_val p filled room ∷ [])))
+  words_made 𝓛 p filled room small_filled small_room = makes_shadow 𝓛 (PlacesWords.own_val (p, (filled, (room, tt))) (places_val p filled room ∷ [])) (λ vss. (tt, (tt, ((tt, tt), ((tt, tt), tt)))))
+      ((ptr_val p ∷ [], (vint w64 filled ∷ [], (vint w64 room ∷ [], tt))), (refl, (refl, ((refl, small_filled), ((refl, small_room), tt)))))

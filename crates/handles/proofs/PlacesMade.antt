@@ -21,7 +21,6 @@ use denote.Memory.{lone, part_at}
 use denote.RawPtr.{Ptr, block_ptr}
 use denote.Steps.{nothing as nothing_more}
 use Rattle.std.specs.Mem.{type_size}
-use Rattle.core.specs.declared.alloc.Allocator.{Ghosts}
 use Rattle.handles.specs.Inside.PlacesOwnership.{gives_back}
 use Rattle.std_alloc.proofs.RawLayout.{as_raw}
 use Rattle.handles.proofs.PlacesFields.{places_val, PlacesRow, PlacesWords, words_made}
@@ -48,15 +47,15 @@ no_memory {𝓤 = 𝓤} 𝓛 τ n b o none = qed 𝓛 [] ∵ use0 𝓛 (‵ (fro
     use1 𝓛 (‵ (froom (ty_array τ n) b o) ⊛ raw (wand 𝓤 (sem 𝓛 (froom (ty_array τ n) b o)) (sem 𝓛 (froom (ty_array τ 0) b o)))) (𝓛.laws.room_as (ty_array τ 0) (ty_array τ n) b o (none ∙ sym (zero-mul (size τ))) (dv_self (align τ))) $
     split ! $ keep ! (0 ∷ []) $ done !
 
-module _ (R Z : RattleType) (g : Ghosts Z.Denot) where
-  abbrev pub without_items : Ptr → ℕ → Z.Denot → (PlacesRow R Z g).Denot
-  without_items p room a = record { first = p; filled = 0; room = room; of = record {}; items = []; alloc = a; within = (refl, omega arith) }
+module _ (R : RattleType) where
+  abbrev pub without_items : Ptr → ℕ → (PlacesRow R).Denot
+  without_items p room = record { first = p; filled = 0; room = room; items = []; within = (refl, omega arith) }
 
   module _ {M : Type 1} {𝓤 : Ura M} {𝓛 : Logic 𝓤} {K : Type 0} {Γ : List (Item 𝓤)} {G : Goal 𝓤 𝓛.H} where
     -- [the room; the right to give the block back]
-    pub places_made : K → (b o room : ℕ) (a : Z.Denot) → room < 2 ^ 64 → room * type_size R < 2 ^ 63
-        → Step K 𝓛 (‵ ((PlacesRow R Z g).own_val (without_items (block_ptr b o) room a) (places_val (block_ptr b o) 0 room ∷ [])) ∷ Γ) G (‵ (froom (ty_array (lone R.mir) room) b o) ∷ ‵ (gives_back R (g.dealloc_token a) (block_ptr b o) room) ∷ Γ) G
-    places_made t b o room a small fits = step (λ s. let τ : Ty = lone R.mir in let n : ℕ = type_size R in let v : Val = places_val (block_ptr b o) 0 room in
+    pub places_made : K → (b o room : ℕ) → room < 2 ^ 64 → room * type_size R < 2 ^ 63
+        → Step K 𝓛 (‵ ((PlacesRow R).own_val (without_items (block_ptr b o) room) (places_val (block_ptr b o) 0 room ∷ [])) ∷ Γ) G (‵ (froom (ty_array (lone R.mir) room) b o) ∷ ‵ (gives_back R (block_ptr b o) room) ∷ Γ) G
+    places_made t b o room small fits = step (λ s. let τ : Ty = lone R.mir in let n : ℕ = type_size R in let v : Val = places_val (block_ptr b o) 0 room in
         rewrite t 0 (λ (k : ℕ). ‵ (froom (ty_array τ k) b o)) (whole room) refl $ rewrite t 0 (λ (k : ℕ). ‵ (froom (ty_array τ (room - 0)) b k)) (first o n) refl $ as_raw t (ty_array τ (room - 0)) b (o + 0 * n) $ fjoin t $
         nothing_more t $ feq_i t ℕ 0 0 refl $ fjoin t $ use1 𝓛 (‵ (part_at (Array R 0) full_share [] b o)) (Array-whole 𝓛 R full_share 0 [] b o) $ fjoin t $ flt_i t (room * n) (2 ^ 63) fits $ fjoin t $
-        use0 𝓛 (‵ ((PlacesWords R Z g).own_val (block_ptr b o, (0, (room, (tt, tt)))) (v ∷ []))) (words_made R Z g 𝓛 (block_ptr b o) 0 room (lit< tt) small) $ fjoin t $ s)
+        use0 𝓛 (‵ ((PlacesWords R).own_val (block_ptr b o, (0, (room, tt))) (v ∷ []))) (words_made R 𝓛 (block_ptr b o) 0 room (lit< tt) small) $ fjoin t $ s)

@@ -1,21 +1,20 @@
 -- The names that the walks over the places of items cite.
-pub use Rattle.handles.proofs.Walks.{◌≡◌, ℕ, ◌+◌, ◌-◌, ◌^◌, ◌<◌, Bool, true, false, List, [], ◌∷◌, ◌++◌, refl, sym, ap, ◌∙◌, subst, lit<, arith, w64, a_type, named, Val, vint, vptr, vunit, inst_fn, full_share, SProp, ent, sep, emp, id⊢, fat, Lft, Share, Fml, ftrue, fsep, flft, fhide, WpFn, sem, ‵, raw, ◌⊛◌, some, given, later, at_ret, ◌$◌, ◌∵◌, !, qed, by, move, keep, drop, split, split3, join, fsplit, fsplit3, fjoin, fjoin3, pick, learn, use0, use1, use2, use3, await, rewrite, feq_i, flt_i, flt_l, suffices, done, unit_lit, stop, fld, load, addr, lit, of_opd, no_more, and_then, first, blocks, exec, returns, enter, lands_as, alloc_all, pass_all, free_all, look_at, get, get_in, through, sets, sets_last, lands_last, is, env, agg, sub, whole, look_in, tables, fact, fact_i, yes, no, RattleType, owns, types_at, plain, Ptr, InBlock, block_ptr, ptr_val, block_of, offset_of, at_block, nothing_more, peeks, heard, looks, shuts, Is, shows, cell_at, param, layout, layouts, bounded, param_laws, RefOf, shr_vals, shr_Tells, Stays, stay_dropped, walk_of, Goes-dropped, after, proved, proved_at, leaves, fm}
+pub use Rattle.handles.proofs.Walks.{◌≡◌, ℕ, ◌+◌, ◌-◌, ◌^◌, ◌<◌, Bool, true, false, List, [], ◌∷◌, ◌++◌, refl, sym, ap, ◌∙◌, subst, lit<, arith, w64, a_type, named, Val, vint, vptr, vunit, inst_fn, full_share, SProp, ent, sep, emp, id⊢, fat, Lft, Share, Fml, ftrue, fsep, flft, fhide, WpFn, sem, ‵, raw, ◌⊛◌, some, given, later, at_ret, ◌$◌, ◌∵◌, !, qed, by, move, keep, drop, split, split3, join, fsplit, fsplit3, fjoin, fjoin3, pick, learn, use0, use1, use2, use3, await, rewrite, feq_i, flt_i, flt_l, suffices, done, unit_lit, stop, fld, load, addr, lit, of_opd, no_more, and_then, first, blocks, exec, returns, enter, lands_as, alloc_all, pass_all, free_all, look_at, get, get_in, through, sets, sets_last, lands_last, is, env, agg, sub, whole, look_in, tables, fact, fact_i, yes, no, RattleType, owns, types_at, plain, Ptr, InBlock, block_ptr, ptr_val, block_of, offset_of, at_block, nothing_more, peeks, heard, looks, shuts, Is, shows, cell_at, param, layout, layouts, param_laws, RefOf, shr_vals, shr_Tells, Stays, stay_dropped, walk_of, Goes-dropped, after, proved, proved_at, leaves, fm}
 pub use Rattle.std.proofs.Common.{◌*◌, ◌≢◌, ◌≤◌}
 pub use Rattle.std.specs.Mem.{type_size}
 pub use Rattle.std.specs.Prelude.{Err, IfOk, Ok}
 pub use Rattle.std.specs.Vec.Ownership.{FitsInBlock}
 pub use Rattle.std_alloc.proofs.RawLayout.{as_raw, as_written}
-pub use Rattle.std_alloc.proofs.RcSteps.{first_Good}
+pub use Rattle.std_alloc.proofs.RcSteps.{Good, first_Good}
 pub use Rattle.std_alloc.proofs.ResultValues.{err_of, ok_of}
 pub use Rattle.std_alloc.specs.Vec.Ownership.{owns_if}
 pub use lib.ListN.{length}
-pub use mir.Syntax.{dcons, dnil, ty_array}
+pub use mir.Syntax.{ty_array}
 pub use mir.Val.{vcons, vnil, vstruct}
-pub use base.Fml.{Incl-trans, froom}
+pub use base.Fml.{froom}
 pub use prog.Capped.{capped_fits}
 pub use prog.Memory.{align, capped}
 pub use prog.Wp.{Wp, after_seq, at_return}
-pub use contract.BorrowLft.{◌⊑◌}
 pub use types.ByLocal.{get_tag}
 pub use types.Kit.{Post as After, any_q}
 pub use types.Match.{in_variant, live, vrt}
@@ -31,13 +30,16 @@ pub use denote.Slice.{slice_val}
 pub use denote.Steps.{closes, opens, owned}
 pub use denote.Struct.Struct.{Struct, Struct-Makes}
 pub use denote.Triple.Call.{calls_at}
+pub use denote.Triple.Carry.{spared}
+pub use denote.Triple.Table.{run_framed}
 pub use denote.Triple.Walked.{Goes-ref, stay_ref}
-pub use Rattle.core.proofs.alloc.Calls.{Al, Answer-typed, Answered, Goes-blank, Takes, Takes-gives, Takes-goes, answers, at_takes, token}
+pub use Rattle.core.proofs.alloc.Calls.{Answer-typed, Answered, Goes-blank, Takes, Takes-gives, Takes-goes, answers, at_takes, token}
 pub use Rattle.core.proofs.alloc.Shapes.{arm_body, head}
 pub use Rattle.core.proofs.ptr.Rows.{elτ, one_below, sz, times_below}
 pub use Rattle.core.proofs.slots.Leases.{block_align, block_size, block_ty, uncapped}
+pub use Rattle.handles.proofs.LooseBoxes.{heap, Global, ◌⊑◌, ⊑_static}
 pub use Rattle.handles.proofs.LeavingFields.{LeavingRow, LeavingWords, leaving-Good, leaving_val, leaving_words, none_at_null}
 pub use Rattle.handles.proofs.PlacesFields.{PlacesRow, places_val}
 pub use Rattle.handles.proofs.PlacesMade.{has_bytes, places_made, without_items}
 pub use Rattle.handles.proofs.PlacesOpened.{places_opens}
-pub use Rattle.handles.specs.Inside.PlacesOwnership.{leaving_own}
+pub use Rattle.handles.specs.Inside.PlacesOwnership.{right_to_free, leaving_own}

@@ -18,6 +18,7 @@
 ghost use Rattle.std.specs.Prelude.{◌≡◌, ◌<◌, ◌+◌, Bool, true, false, IfOk, IfErr, IfSome};
 ghost use types.Logic.{sem};
 ghost use Rattle.counting_word.specs.CountingWord.{is_one_handle, marked_word, IsWithin};
+ghost use Rattle.std.specs.contracts.impls.GlobalAllocator.TheImpl.{ghosts};
 ghost use Rattle.std_alloc.specs.Box.Ownership.{box_owns};
 ghost use Rattle.handles.specs.Inside.Blocks.{IsFirst, handle_owns, handle_shares, gain_owns};
 ghost use Rattle.handles.specs.declared.block.Held.{Held};
@@ -30,7 +31,7 @@ mod same_block;
 use crate::limit::Limit;
 use atomic_table::exchange;
 use counting_word::{DropPlan, MARK, is_last, plan_drop, with_mark};
-use std::alloc::{AllocFailed, Allocator, Global};
+use std::alloc::{AllocFailed, Global};
 use std::marker::{Brand, Model};
 use std::sync::atomic::Ordering::SeqCst;
 use std::sync::atomic::raw;
@@ -132,25 +133,25 @@ impl<T: Drop> Block<T> {
 }
 
 // A box as its pointer.
-pub(crate) struct Loose<T, A: Allocator> {
+pub(crate) struct Loose<T> {
     at: *mut T,
-    alloc: A,
+    alloc: Global,
     pub(crate) ghost value: { T },
 }
 
-impl<T, A: Allocator> Model for Loose<T, A> {
-    ghost also_owns = { λ l. box_owns (A.dealloc_token l.alloc) T.row l.at l.value };
+impl<T> Model for Loose<T> {
+    ghost also_owns = { λ l. box_owns (ghosts.dealloc_token l.alloc) T.row l.at l.value };
 }
 
-impl<T: Drop, A: Allocator> Loose<T, A> {
-    pub(crate) fn of(boxed: Box<T, A>) -> Loose<T, A>
+impl<T: Drop> Loose<T> {
+    pub(crate) fn of(boxed: Box<T>) -> Loose<T>
         ensures { result.value ≡ boxed.value }
     {
         let (at, alloc) = Box::into_raw_with_allocator(boxed);
         Loose { at, alloc }
     }
 
-    pub(crate) fn into_box(self) -> Box<T, A>
+    pub(crate) fn into_box(self) -> Box<T>
         ensures { result.value ≡ self.value }
     {
         let Loose { at, alloc } = self;
@@ -158,8 +159,8 @@ impl<T: Drop, A: Allocator> Loose<T, A> {
     }
 }
 
-impl<T, A: Allocator> Loose<T, A> {
-    fn fill(room: Vacant<T, A>, value: T) -> Loose<T, A>
+impl<T> Loose<T> {
+    fn fill(room: Vacant<T, Global>, value: T) -> Loose<T>
         ensures { result.value ≡ value }
     {
         let Vacant { ptr, alloc } = room;
@@ -197,7 +198,7 @@ impl<T> Model for Gain<T> {
 
 impl<T> Handle<T> {
     // Of a new block: the only handle, if the block is not marked.
-    pub(crate) fn first(block: Loose<Block<T>, Global>) -> Handle<T>
+    pub(crate) fn first(block: Loose<Block<T>>) -> Handle<T>
         requires { IsFirst block.value.word }
         ensures held { result.held ≡ block.value.held }
         ensures sole { result.sole ≡ is_one_handle block.value.word }
@@ -383,7 +384,7 @@ impl<T> Gain<T> {
         (found, Gain { block })
     }
 
-    pub(crate) fn into_loose(self) -> Loose<Block<T>, Global>
+    pub(crate) fn into_loose(self) -> Loose<Block<T>>
         requires { IsWholeBlock self.right }
         ensures held { result.value.held ≡ self.held }
         ensures right { self.right ≡ whole_block result.value.word }

@@ -1,4 +1,4 @@
--- What the places for items of the row R own and lend. Below, t is the right to give a block back.
+-- What the places for items of the row R own and lend.
 use Rattle.std.specs.Prelude.{ℕ, ◌-◌, ◌*◌, ◌^◌, List, ◌==◌, not}
 use Rattle.std.specs.Mem.{type_size}
 use base.Fraction.{full_share}
@@ -10,7 +10,12 @@ use denote.RawPtr.{Ptr, lies_at, room_for, ◌+ₚ◌}
 use denote.Sharing.{said, beside}
 use denote.Struct.Lending.{lent_at}
 use Rattle.core.specs.Allocator.{array_of}
+use Rattle.std.specs.contracts.impls.GlobalAllocator.TheImpl.{ghosts}
 use Rattle.std_alloc.specs.Vec.Ownership.{owns_if}
+
+-- the right to give a block back to the heap, whose handle has no other value
+abbrev pub right_to_free : Ty → Ptr → Fml
+right_to_free = ghosts.dealloc_token (record { memory = record { seal = tt } })
 
 module _ (R : RattleType) where
   -- all places together take fewer than 2 ^ 63 bytes
@@ -21,25 +26,23 @@ module _ (R : RattleType) where
   abbrev pub spare : Ptr → ℕ → ℕ → Fml
   spare p filled room = room_for (array_of R (room - filled)) (p +ₚ filled * type_size R)
 
-  module _ (t : Ty → Ptr → Fml) (p : Ptr) (room : ℕ) where
-    -- there is a block to give back where the places take bytes
-    abbrev pub gives_back : Fml
-    gives_back = owns_if (not (room * type_size R == 0)) (t (array_of R room) p)
+  -- there is a block to give back where the places take bytes
+  abbrev pub gives_back : Ptr → ℕ → Fml
+  gives_back p room = owns_if (not (room * type_size R == 0)) (right_to_free (array_of R room) p)
 
-module _ (t : Ty → Ptr → Fml) (R : RattleType) (p : Ptr) where
   -- the items lie side by side from the first place on
-  abbrev pub places_own : ℕ → ℕ → List R.Denot → Fml
-  places_own filled room items =
-      fsep (fits R room) (fsep (lies_at (Array R filled) full_share p items)
-      (fsep (spare R p filled room) (gives_back R t p room)))
+  abbrev pub places_own : Ptr → ℕ → ℕ → List R.Denot → Fml
+  places_own p filled room items =
+      fsep (fits room) (fsep (lies_at (Array R filled) full_share p items)
+      (fsep (spare p filled room) (gives_back p room)))
 
   -- the items that are left lie side by side from the place after `taken` on
-  abbrev pub leaving_own : ℕ → ℕ → ℕ → List R.Denot → Fml
-  leaving_own taken filled room items =
-      fsep (fits R room) (fsep (room_for (array_of R taken) p)
+  abbrev pub leaving_own : Ptr → ℕ → ℕ → ℕ → List R.Denot → Fml
+  leaving_own p taken filled room items =
+      fsep (fits room) (fsep (room_for (array_of R taken) p)
       (fsep (lies_at (Array R (filled - taken)) full_share (p +ₚ taken * type_size R) items)
-      (fsep (spare R p filled room) (gives_back R t p room))))
+      (fsep (spare p filled room) (gives_back p room))))
 
--- a `&` to the places shows their items
-abbrev pub places_share : (R : RattleType) → Ptr → ℕ → ℕ → List R.Denot → Lft → Fml
-places_share R p filled room items = beside (said (fits R room)) (lent_at (Array R filled) p items)
+  -- a `&` to the places shows their items
+  abbrev pub places_share : Ptr → ℕ → ℕ → List R.Denot → Lft → Fml
+  places_share p filled room items = beside (said (fits room)) (lent_at (Array R filled) p items)

@@ -8,7 +8,7 @@ use std::marker::Model;
 use std_alloc::room::may_hold;
 
 pub(super) struct Items<T> {
-    places: Places<T, Global>,
+    places: Places<T>,
     alloc: Global,
 }
 
@@ -28,7 +28,7 @@ impl<T> Items<T> {
         ensures { IfOk result (λ i. (i.items ≡ []) × (i.room ≡ room)) }
     {
         let places = if room == 0 || has_no_size::<T>() {
-            Places::without_bytes(&alloc, room)
+            Places::without_bytes(room)
         } else if may_hold::<T>(room) {
             Places::reserve(&alloc, room)?
         } else {

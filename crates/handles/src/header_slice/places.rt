@@ -5,46 +5,42 @@ ghost use Rattle.std.specs.Mem.{type_size};
 ghost use Rattle.std.specs.Vec.Ownership.{FitsInBlock};
 ghost use Rattle.handles.specs.Inside.PlacesOwnership.{places_own, places_share, leaving_own};
 
-use std::alloc::{AllocError, Allocator};
-use std::marker::{Model, PhantomData};
+use std::alloc::{AllocError, Allocator, Global};
+use std::marker::Model;
 use std::mem::{align_of, size_of};
 use std::slice;
 
 // The first `filled` of `room` places hold items. Places that take no bytes have no block.
-pub(super) struct Places<T, A: Allocator> {
+pub(super) struct Places<T> {
     first: *const T,
     pub(super) filled: usize,
     pub(super) room: usize,
-    of: PhantomData<A>,
     pub(super) ghost items: { List T },
-    pub(super) ghost alloc: { A },
     ghost within: { (filled ≡ length items) × (filled ≤ room) },
 }
 
-impl<T, A: Allocator> Model for Places<T, A> {
-    ghost also_owns = { λ p. places_own (A.dealloc_token p.alloc) T.row p.first p.filled p.room p.items };
+impl<T> Model for Places<T> {
+    ghost also_owns = { λ p. places_own T.row p.first p.filled p.room p.items };
 
     ghost also_shares = { λ p _ κ. places_share T.row p.first p.filled p.room p.items κ };
 }
 
-unsafe impl<T: Send, A: Allocator + Send> Send for Places<T, A> {}
+unsafe impl<T: Send> Send for Places<T> {}
 
-unsafe impl<T: Sync, A: Allocator + Sync> Sync for Places<T, A> {}
+unsafe impl<T: Sync> Sync for Places<T> {}
 
 // Places whose items leave them, first to last. Those before `taken` have left.
-pub(super) struct Leaving<T, A: Allocator> {
+pub(super) struct Leaving<T> {
     first: *const T,
     taken: usize,
     filled: usize,
     room: usize,
-    of: PhantomData<A>,
     pub(super) ghost items: { List T },
-    pub(super) ghost alloc: { A },
     ghost within: { (filled ≡ taken + length items) × (filled ≤ room) },
 }
 
-impl<T, A: Allocator> Model for Leaving<T, A> {
-    ghost also_owns = { λ p. leaving_own (A.dealloc_token p.alloc) T.row p.first p.taken p.filled p.room p.items };
+impl<T> Model for Leaving<T> {
+    ghost also_owns = { λ p. leaving_own T.row p.first p.taken p.filled p.room p.items };
 }
 
 // Whether values of the type take no bytes.
@@ -54,34 +50,31 @@ pub(super) fn has_no_size<T>() -> bool
     size_of::<T>() == 0
 }
 
-impl<T, A: Allocator> Places<T, A> {
+impl<T> Places<T> {
     // Asks for no memory, since the places take none.
-    pub(super) fn without_bytes(_alloc: &A, room: usize) -> Places<T, A>
+    pub(super) fn without_bytes(room: usize) -> Places<T>
         requires { room * type_size T.row ≡ 0 }
         ensures items { result.items ≡ [] }
         ensures room { result.room ≡ room }
-        ensures alloc { result.alloc ≡ _alloc.now }
     {
         let none: [T; 0] = [];
         Places {
             first: &raw const none as *const T,
             filled: 0,
             room,
-            of: PhantomData,
         }
     }
 
-    pub(super) fn reserve(alloc: &A, room: usize) -> Result<Places<T, A>, AllocError>
+    pub(super) fn reserve(alloc: &Global, room: usize) -> Result<Places<T>, AllocError>
         requires fits { FitsInBlock T.row room }
         requires has_bytes { room * type_size T.row ≢ 0 }
-        ensures { IfOk result (λ p. (p.items ≡ []) × (p.room ≡ room) × (p.alloc ≡ alloc.now)) }
+        ensures { IfOk result (λ p. (p.items ≡ []) × (p.room ≡ room)) }
     {
         match alloc.allocate(room * size_of::<T>(), align_of::<T>()) {
             Ok(block) => Ok(Places {
                 first: block as *const T,
                 filled: 0,
                 room,
-                of: PhantomData,
             }),
             Err(refused) => Err(refused),
         }
@@ -91,7 +84,6 @@ impl<T, A: Allocator> Places<T, A> {
         requires { self.old.filled < self.old.room }
         ensures items { self.new.items ≡ self.old.items ++ item ∷ [] }
         ensures room { self.new.room ≡ self.old.room }
-        ensures alloc { self.new.alloc ≡ self.old.alloc }
     {
         let at = self.filled;
         unsafe {
@@ -107,59 +99,53 @@ impl<T, A: Allocator> Places<T, A> {
         unsafe { slice::from_raw_parts(self.first, self.filled) }
     }
 
-    pub(super) fn into_leaving(self) -> Leaving<T, A>
+    pub(super) fn into_leaving(self) -> Leaving<T>
         ensures items { result.items ≡ self.items }
-        ensures alloc { result.alloc ≡ self.alloc }
     {
         let Places {
             first,
             filled,
             room,
-            of,
         } = self;
         Leaving {
             first,
             taken: 0,
             filled,
             room,
-            of,
         }
     }
 }
 
-impl<T, A: Allocator> Places<T, A> {
+impl<T> Places<T> {
     ghost use Rattle.handles.specs.Inside.PlacesLending.{LendsPlaces};
 
     #[inline]
     pub(super) fn slice_mut(&mut self) -> &mut [T]
-        ensures* writes_back { sem 𝓛 (LendsPlaces T.row A.row A.Allocator self.entry result) }
+        ensures* writes_back { sem 𝓛 (LendsPlaces T.row self.entry result) }
         ensures value { result.now ≡ self.old.items }
     {
         unsafe { slice::from_raw_parts_mut(self.first.cast_mut(), self.filled) }
     }
 }
 
-impl<T, A: Allocator> Leaving<T, A> {
+impl<T> Leaving<T> {
     pub(super) fn take_first(&mut self) -> T
         requires { 0 < length self.old.items }
         ensures items { self.old.items ≡ result ∷ self.new.items }
-        ensures alloc { self.new.alloc ≡ self.old.alloc }
     {
         let at = self.taken;
         self.taken = at + 1;
         unsafe { self.first.add(at).read() }
     }
 
-    pub(super) fn give_back(self, alloc: &A)
+    pub(super) fn give_back(self, alloc: &Global)
         requires empty { self.items ≡ [] }
-        requires alloc { self.alloc ≡ alloc.now }
     {
         let Leaving {
             first,
             taken: _,
             filled: _,
             room,
-            of: _,
         } = self;
         let bytes = room * size_of::<T>();
         if bytes != 0 {

@@ -1,9 +1,6 @@
 -- `into_loose` takes a block that nobody shares, with the allocator that it was requested from.
 use Rattle.handles.proofs.Walks.{◌≡◌, ℕ, ◌+◌, [], ◌∷◌, refl, ap, a_type, Val, vptr, inst_fn, full_share, SProp, fat, Lft, Share, ftrue, flft, ‵, raw, ◌⊛◌, some, given, at_ret, ◌$◌, ◌∵◌, !, qed, by, move, keep, drop, split, join, fsplit, fsplit3, fjoin, fjoin3, fpick, pick, learn, use1, use2, rewrite, stop, fld, load, of_opd, no_more, and_then, first, blocks, exec, returns, enter, alloc_all, pass_all, free_all, look_at, get, get_in, through, sets, sets_last, is, env, agg, sub, whole, tables, fact, no, RattleType, owns, types_at, plain, Ptr, block_ptr, ptr_val, block_of, offset_of, at_block, nothing_more, heard, param, layout, layouts, Stays, stay_dropped, walk_of, Goes-dropped, after, proved, leaves, Right, HeldRow, gain_owns, one_word, one_word-Good, words_told, GainRow, known}
-use Rattle.std_heap.specs.contracts.Global.{the_row as heap_row}
-use Rattle.std_heap.proofs.Global.TheLaws.{the_row_laws as heap_laws}
-use Rattle.std.specs.contracts.impls.GlobalAllocator.TheImpl.{ghosts}
-use Rattle.handles.proofs.LooseBoxes.{pair_val, loose-Good, loose_shuts}
+use Rattle.handles.proofs.LooseBoxes.{heap_row, pair_val, loose-Good, loose_shuts}
 use Rattle.handles.specs.contracts.block.Block as block_type
 use types.Run.{look}
 use borrow.Table.OneValue.{part_in, part_out}
@@ -39,10 +36,10 @@ into_loose_spec 𝓤 𝓛 𝓜 𝓡 wired T L =
     enter ! 𝓣.C 𝓣.Λ fn (one_word p ∷ []) Post $ alloc_all ! (λ l. pass_all ! refl (one_word-Good p, tt) $ let Ev = env fn.locals l in
     sets ! (is ! (of_opd ! (get_in ! (fld ! refl (stop !)) (sub ! 0 refl (whole !)))) (ap ptr_val at)) refl (tt, tt) $ sets ! (of_opd ! (get ! refl)) refl (tt, tt) $
     first ! $ blocks ! $ sets_last ! (of_opd ! (load ! (through ! refl (fld ! refl (stop !))) (look ! 0 refl))) refl good $ exec ! 𝓣.C 𝓣.Λ Ev (after 3 fn.body) (at_ret Ev Post) $ sets ! (of_opd ! (get ! refl)) refl good $
-    sets ! (agg ! (and_then ! (get ! refl) (and_then ! (get ! refl) (no_more !)))) refl (loose-Good Block heap_row heap_laws ghosts pb po v good) $
+    sets ! (agg ! (and_then ! (get ! refl) (and_then ! (get ! refl) (no_more !)))) refl (loose-Good pb po v good) $
     move ! (1 ∷ []) $ use1 𝓛 (‵ (heap_row.own_val h (v ∷ [])) ⊛ ‵ (heap_row.own_val h (v ∷ []))) (heap_twice 𝓛 h (v ∷ [])) $ split ! $ move ! (2 ∷ 0 ∷ []) $
     use2 𝓛 (‵ (part_at heap_row full_share h pb (po + heap_offset R))) (part_in 𝓛 heap_row refl full_share h pb (po + heap_offset R) v) $ move ! (0 ∷ 2 ∷ 3 ∷ []) $ fjoin3 ! $ move ! (4 ∷ []) $ fpick ! (λ s.
     -- [the stamp; what frees; the allocator; the value; the word; the tokens]
-    move ! (4 ∷ 0 ∷ 3 ∷ 1 ∷ []) $ group ! 4 $ use1 𝓛 (‵ (Boxed T L 𝓛 pb po n s x h)) (box_shuts T L 𝓛 pb po n s x h) $ loose_shuts Block heap_row heap_laws ghosts ! pb po v h (record { word = n; stamp = s; held = x; alloc = h }) $
+    move ! (4 ∷ 0 ∷ 3 ∷ 1 ∷ []) $ group ! 4 $ use1 𝓛 (‵ (Boxed T L 𝓛 pb po n s x h)) (box_shuts T L 𝓛 pb po n s x h) $ loose_shuts Block ! pb po v h (record { word = n; stamp = s; held = x; alloc = h }) $
     known ! (a.0.right ≡ whole_block n) is_whole $ known ! (x ≡ x) refl $ join ! $ nothing_more ! $ nothing_more ! $ fjoin ! $
     returns ! (look_at ! 0 refl) $ free_all ! refl $ keep ! (3 ∷ 0 ∷ 2 ∷ 1 ∷ []) $ by ! (leaves 𝓛 En hs c y (pair_val (vptr pb po) v) (record { at = there; alloc = h; value = record { word = n; stamp = s; held = x; alloc = h } }) (tt, tt) (tt, tt))))))))))

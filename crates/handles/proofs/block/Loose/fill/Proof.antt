@@ -1,27 +1,26 @@
 -- `fill` writes a value into its room.
-use Rattle.handles.proofs.Walks.{◌≡◌, List, [], ◌∷◌, ◌++◌, refl, sym, subst, a_type, Val, vptr, inst_fn, full_share, SProp, ent, id⊢, ftrue, flft, WpFn, ‵, raw, ◌⊛◌, at_ret, ◌$◌, ◌∵◌, !, qed, by, move, keep, split, fsplit3, fjoin, use2, suffices, stop, fld, of_opd, no_more, and_then, first, blocks, exec, returns, enter, alloc_all, pass_all, free_all, look_at, get, get_in, through, sets, env, agg, sub, whole, tables, no, RattleType, owns, types_at, plain, block_ptr, nothing_more, param, bounded, param_laws, Stays, stay_dropped, walk_of, Goes-dropped, after, proved_at, leaves, known}
-use mir.Syntax.{dcons, dnil}
+use Rattle.handles.proofs.Walks.{◌≡◌, List, [], ◌∷◌, ◌++◌, refl, sym, subst, a_type, Val, vptr, inst_fn, full_share, SProp, ent, id⊢, ftrue, flft, WpFn, ‵, raw, ◌⊛◌, at_ret, ◌$◌, ◌∵◌, !, qed, by, move, keep, split, fsplit3, fjoin, use2, suffices, stop, fld, of_opd, no_more, and_then, first, blocks, exec, returns, enter, alloc_all, pass_all, free_all, look_at, get, get_in, through, sets, env, agg, sub, whole, tables, no, RattleType, owns, types_at, plain, block_ptr, nothing_more, param, layouts, Stays, stay_dropped, walk_of, Goes-dropped, after, proved_at, leaves, known}
 use types.Run.{init, assigns_last}
 use denote.Memory.{part_at}
-use Rattle.core.proofs.alloc.Calls.{Al, Goes-blank}
 use Rattle.std_alloc.proofs.BoxSteps.Form as box
 use Rattle.std_alloc.proofs.BoxSteps.Steps.{el_tells, el_in}
-use Rattle.std_alloc.proofs.OfVacant.{Vacant, vacant_val, vacant_typed, Vacant-had}
+use Rattle.std_alloc.specs.contracts.room.vacant.Vacant as vacant
+use Rattle.std_alloc.proofs.OfVacant.{vacant_val, vacant_typed, Vacant-had}
 use Rattle.std_alloc.proofs.RawLayout.{as_written}
-use Rattle.handles.proofs.LooseBoxes.{pair_val, loose-Good, loose_shuts}
+use Rattle.handles.proofs.LooseBoxes.{Global, Goes-blank, heap, pair_val, loose-Good, loose_shuts}
 use Rattle.handles.specs.contracts.block.Loose.fill.{ended, clauses}
 use Rattle.handles.specs.contracts.block.Loose.fill.Key.{name as #self}
 use Rattle.handles.proofs.block.Loose.fill.Statement.{statement}
 use Rattle.handles.proofs.block.Loose.fill.Code as code
 
 pub fill_spec : {M : Type 1} → statement M
-fill_spec 𝓤 𝓛 𝓜 𝓡 wired T A L LA g d dd allocator glued =
-    let H = 𝓛.H in let 𝓣 = tables 𝓤 H 𝓜 𝓡 𝓡.env in let R : RattleType = param 0 T in let Z : RattleType = param 1 A in let LZ = param_laws 1 A LA in let En = ended T A g d dd in let c = clauses T A g d dd 𝓛 𝓜.mem 𝓡.returns in
-    let heap : Al = record { row = A; laws = LA; g = g; d = d; drops = dd } in let E : box.Bx = record { row = T; laws = L; al = heap } in let inst = bounded (a_type ∷ a_type ∷ []) (T, (A, tt)) (dcons d (dcons dd dnil)) in let fn = inst_fn inst code.function in
-    let room = plain (λ _. Vacant heap R) in let item = plain (λ _. R) in let hs : Stays En.signature.params En.kept = (stay_dropped room no, (stay_dropped item no, tt)) in
-    proved_at 𝓛 En hs c 𝓜 𝓡 (Goes-blank 𝓛 2 room no (λ κs x f. tt), (Goes-dropped 𝓛 2 item no (λ κs x f. refl), tt)) (#self inst) fn (code.unfolded 𝓤 H 𝓜 𝓡 wired (T, (A, tt)) d dd) (λ z are.
-    let κs = z.0.0 in let qs = z.0.1 in let a : A.Denot = z.0.3.0.alloc in let x : T.Denot = z.0.3.1.0 in let Post : Val → SProp 𝓤 = (walk_of 𝓛 En hs c).post z in let Run : List Val → SProp 𝓤 = λ ws. WpFn 𝓤 H 𝓣.C 𝓣.Λ fn ws Post in
-    let toks = ‵ (flft κs.0 qs.0) ⊛ ‵ (flft κs.1.0 qs.1.0) ⊛ ‵ ftrue in let asked = raw ((c κs z.0.3).requires z.1) in
+fill_spec 𝓤 𝓛 𝓜 𝓡 wired T L =
+    let H = 𝓛.H in let 𝓣 = tables 𝓤 H 𝓜 𝓡 𝓡.env in let R : RattleType = param 0 T in let En = ended T in let c = clauses T 𝓛 𝓜.mem 𝓡.returns in
+    let E : box.Bx = record { row = T; laws = L; al = heap } in let inst = layouts (a_type ∷ []) (T, tt) in let fn = inst_fn inst code.function in
+    let room = plain (λ _. vacant.the_row R heap.row heap.g) in let item = plain (λ _. R) in let hs : Stays En.signature.params En.kept = (stay_dropped room no, (stay_dropped item no, tt)) in
+    proved_at 𝓛 En hs c 𝓜 𝓡 (Goes-blank 𝓛 1 room no (λ κs x f. tt), (Goes-dropped 𝓛 1 item no (λ κs x f. refl), tt)) (#self inst) fn (code.unfolded 𝓤 H 𝓜 𝓡 wired (T, tt)) (λ z are.
+    let κs = z.0.0 in let qs = z.0.1 in let a : Global = z.0.3.0.alloc in let x : T.Denot = z.0.3.1.0 in let Post : Val → SProp 𝓤 = (walk_of 𝓛 En hs c).post z in let Run : List Val → SProp 𝓤 = λ ws. WpFn 𝓤 H 𝓣.C 𝓣.Λ fn ws Post in
+    let toks = ‵ (flft κs.0 qs.0) ⊛ ‵ ftrue in let asked = raw ((c κs z.0.3).requires z.1) in
     qed 𝓛 ((toks ⊛ ‵ (owns (types_at En.signature.params κs) z.0.3 z.0.4)) ∷ asked ∷ []) ∵ split ! $ move ! (1 ∷ []) $ fsplit3 ! $
     Vacant-had heap R ! z.0.3.0 z.0.4.0 (λ b o h at is_room good. move ! (3 ∷ []) $ el_tells E ! x z.0.4.1.0 (λ v is_item fits.
     -- [what the value owns; the room; the right to free; the allocator; nothing; the tokens; what is asked]
@@ -30,7 +29,7 @@ fill_spec 𝓤 𝓛 𝓜 𝓡 wired T A L LA g d dd allocator glued =
     enter ! 𝓣.C 𝓣.Λ fn (w ∷ v ∷ []) Post $ alloc_all ! (λ l. pass_all ! refl (vacant_typed heap R h b o good, (fits, tt)) $ let Ev = env fn.locals l in
     sets ! (of_opd ! (get_in ! (fld ! refl (stop !)) (sub ! 0 refl (whole !)))) refl (tt, tt) $ sets ! (of_opd ! (get_in ! (fld ! refl (stop !)) (sub ! 1 refl (whole !)))) refl good $
     first ! $ blocks ! $ sets ! (of_opd ! (get ! refl)) refl fits $ assigns_last ! (of_opd ! (get ! refl)) (through ! refl (stop !)) (init ! 0 refl fits) $ exec ! 𝓣.C 𝓣.Λ Ev (after 3 fn.body) (at_ret Ev Post) $
-    sets ! (of_opd ! (get ! refl)) refl good $ sets ! (agg ! (and_then ! (get ! refl) (and_then ! (get ! refl) (no_more !)))) refl (loose-Good R Z LZ g b o h good) $
-    use2 𝓛 (‵ (part_at R full_share x b o)) (el_in E 𝓛 x b o v) $ fjoin ! $ loose_shuts R Z LZ g ! b o h a x $
+    sets ! (agg ! (and_then ! (get ! refl) (and_then ! (get ! refl) (no_more !)))) refl (loose-Good b o h good) $
+    use2 𝓛 (‵ (part_at R full_share x b o)) (el_in E 𝓛 x b o v) $ fjoin ! $ loose_shuts R ! b o h a x $
     known ! (x ≡ x) refl $ nothing_more ! $ nothing_more ! $ fjoin ! $ nothing_more ! $ fjoin ! $
-    returns ! (look_at ! 0 refl) $ free_all ! refl $ keep ! (4 ∷ 0 ∷ 2 ∷ 1 ∷ []) $ by ! (leaves 𝓛 En hs c z (pair_val (vptr b o) h) (record { at = block_ptr b o; alloc = a; value = x }) ((tt, (tt, tt)), (tt, tt)) (tt, (tt, tt)))))))
+    returns ! (look_at ! 0 refl) $ free_all ! refl $ keep ! (4 ∷ 0 ∷ 2 ∷ 1 ∷ []) $ by ! (leaves 𝓛 En hs c z (pair_val (vptr b o) h) (record { at = block_ptr b o; alloc = a; value = x }) (tt, (tt, tt)) (tt, (tt, tt)))))))

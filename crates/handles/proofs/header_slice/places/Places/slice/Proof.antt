@@ -1,5 +1,5 @@
 -- `slice` shows the items that the places lend. Assumes `Logic`.
-use Rattle.handles.proofs.PlacesWalks.{◌≡◌, ℕ, ◌^◌, ◌<◌, List, [], ◌∷◌, refl, sym, ap, ◌∙◌, subst, a_type, named, Val, vptr, inst_fn, SProp, emp, id⊢, Lft, Share, Fml, ftrue, fsep, flft, fhide, ‵, raw, ◌⊛◌, at_ret, ◌$◌, ◌∵◌, !, qed, by, move, keep, drop, split, join, fsplit, fjoin, use0, use1, rewrite, feq_i, flt_i, flt_l, stop, fld, load, of_opd, no_more, and_then, first, blocks, exec, returns, enter, alloc_all, pass_all, free_all, look_at, get, through, sets, sets_last, env, agg, sub, whole, look_in, tables, fact, fact_i, yes, RattleType, owns, types_at, plain, Ptr, InBlock, block_ptr, block_of, offset_of, at_block, nothing_more, peeks, heard, looks, shuts, Is, shows, cell_at, param, bounded, RefOf, shr_vals, shr_Tells, Stays, stay_dropped, walk_of, Goes-dropped, after, proved, leaves, PlacesRow, places_val, ◌*◌, ◌≤◌, type_size, slice_val, length, dcons, dnil}
+use Rattle.handles.proofs.PlacesWalks.{◌≡◌, ℕ, ◌^◌, ◌<◌, List, [], ◌∷◌, refl, sym, ap, ◌∙◌, subst, a_type, named, Val, vptr, inst_fn, SProp, emp, id⊢, Lft, Share, Fml, ftrue, fsep, flft, fhide, ‵, raw, ◌⊛◌, at_ret, ◌$◌, ◌∵◌, !, qed, by, move, keep, drop, split, join, fsplit, fjoin, use0, use1, rewrite, feq_i, flt_i, flt_l, stop, fld, load, of_opd, no_more, and_then, first, blocks, exec, returns, enter, alloc_all, pass_all, free_all, look_at, get, through, sets, sets_last, env, agg, sub, whole, look_in, tables, fact, fact_i, yes, RattleType, owns, types_at, plain, Ptr, InBlock, block_ptr, block_of, offset_of, at_block, nothing_more, peeks, heard, looks, shuts, Is, shows, cell_at, param, layouts, RefOf, shr_vals, shr_Tells, Stays, stay_dropped, walk_of, Goes-dropped, after, proved, leaves, PlacesRow, places_val, ◌*◌, ◌≤◌, type_size, slice_val, length}
 use native.Mathlib.Nat.{mul-le-mul_right, lt_of_le_of_lt}
 use denote.Memory.{hidden_shr}
 use denote.Opens.{unhide, hide}
@@ -14,14 +14,14 @@ use Rattle.handles.proofs.header_slice.places.Places.slice.Statement.{statement}
 use Rattle.handles.proofs.header_slice.places.Places.slice.Code as code
 
 pub slice_spec : {M : Type 1} → statement M
-slice_spec 𝓤 𝓛 𝓜 𝓡 wired T A L LA g d dd met md =
-    let H = 𝓛.H in let 𝓣 = tables 𝓤 H 𝓜 𝓡 𝓡.env in let R : RattleType = param 0 T in let B : RattleType = param 1 A in let En = ended T A g d dd in let c = clauses T A g d dd 𝓛 𝓜.mem 𝓡.returns in
-    let inst = bounded (a_type ∷ a_type ∷ []) (T, (A, tt)) (dcons d (dcons dd dnil)) in let fn = inst_fn inst code.function in
-    let self = RefOf (0 ∷ []) tt (plain (λ _. PlacesRow R B g)) (λ _. tt) in let hs : Stays En.signature.params En.kept = (stay_dropped self yes, tt) in
-    proved 𝓛 En hs c 𝓜 𝓡 (Goes-dropped 𝓛 3 self yes (λ κs x f. refl), tt) (#self inst) fn (code.unfolded 𝓤 H 𝓜 𝓡 wired (T, (A, tt)) d dd) (λ κs. (shr_vals, tt)) (λ κs. (shr_Tells (named 0) κs.0 (PlacesRow R B g), tt)) (λ κs qs bounds a gh are.
-    let b : ℕ = a.0.ref_ptr.0 in let o : ℕ = a.0.ref_ptr.1 in let κ : Lft = κs.0 in let q : Share = qs.0 in let others : Fml = fsep (flft κs.1.0 qs.1.0) (fsep (flft κs.1.1.0 qs.1.1.0) ftrue) in
+slice_spec 𝓤 𝓛 𝓜 𝓡 wired T L =
+    let H = 𝓛.H in let 𝓣 = tables 𝓤 H 𝓜 𝓡 𝓡.env in let R : RattleType = param 0 T in let En = ended T in let c = clauses T 𝓛 𝓜.mem 𝓡.returns in
+    let inst = layouts (a_type ∷ []) (T, tt) in let fn = inst_fn inst code.function in
+    let self = RefOf (0 ∷ []) tt (plain (λ _. PlacesRow R)) (λ _. tt) in let hs : Stays En.signature.params En.kept = (stay_dropped self yes, tt) in
+    proved 𝓛 En hs c 𝓜 𝓡 (Goes-dropped 𝓛 2 self yes (λ κs x f. refl), tt) (#self inst) fn (code.unfolded 𝓤 H 𝓜 𝓡 wired (T, tt)) (λ κs. (shr_vals, tt)) (λ κs. (shr_Tells (named 0) κs.0 (PlacesRow R), tt)) (λ κs qs bounds a gh are.
+    let b : ℕ = a.0.ref_ptr.0 in let o : ℕ = a.0.ref_ptr.1 in let κ : Lft = κs.0 in let q : Share = qs.0 in let others : Fml = fsep (flft κs.1.0 qs.1.0) ftrue in
     let s = a.0.now in let p : Ptr = s.first in let pb : ℕ = block_of p in let po : ℕ = offset_of p in
-    let y : (walk_of 𝓛 En hs c).Ghost = ((κs, qs, bounds, a, (vptr b o ∷ [], tt)), gh) in let Post : Val → SProp 𝓤 = (walk_of 𝓛 En hs c).post y in let D : RattleType = PlacesWords R B g in let O = PlacesType R B g in
+    let y : (walk_of 𝓛 En hs c).Ghost = ((κs, qs, bounds, a, (vptr b o ∷ [], tt)), gh) in let Post : Val → SProp 𝓤 = (walk_of 𝓛 En hs c).post y in let D : RattleType = PlacesWords R in let O = PlacesType R in
     qed 𝓛 (((‵ (flft κ q) ⊛ ‵ others) ⊛ ‵ (owns (types_at En.signature.params κs) a y.0.4)) ∷ raw ((c κs a).requires gh) ∷ []) ∵
     split ! $ split ! $ move ! (2 ∷ []) $ fsplit ! $ fsplit ! $ keep ! (1 ∷ 3 ∷ 4 ∷ []) $
     enter ! 𝓣.C 𝓣.Λ fn (vptr b o ∷ []) Post $ alloc_all ! (λ l. pass_all ! refl ((tt, tt), tt) $ let Ev = env fn.locals l in
@@ -29,7 +29,7 @@ slice_spec 𝓤 𝓛 𝓜 𝓡 wired T A L LA g d dd met md =
     use1 𝓛 (raw (fact 𝓤 (InBlock p))) (in_block_says 𝓛 p) $ heard ! (InBlock p) (λ inb. fsplit ! $ drop ! $ hide ! $
     -- [the items; the fields; the token; the other tokens]
     let at : p ≡ block_ptr pb po = at_block p inb in let xs : List T.Denot = s.items in let n : ℕ = length xs in let long : s.filled ≡ n = s.within.0 in let small : n * type_size R < 2 ^ 63 = lt_of_le_of_lt (mul-le-mul_right (type_size R) (subst (λ (k : ℕ). k ≤ s.room) long s.within.1)) fit in
-    move ! (1 ∷ 2 ∷ []) $ looks ! tt D (words_open R B g 𝓛) (to O s) b o (λ r vs. move ! (1 ∷ []) $ peeks ! D (Is D) (shows 𝓛 D) (to O s) vs (λ is_so. let told = words_told R B g p s.filled s.room vs is_so in let fits : s.filled < 2 ^ 64 = told.1 in
+    move ! (1 ∷ 2 ∷ []) $ looks ! tt D (words_open R 𝓛) (to O s) b o (λ r vs. move ! (1 ∷ []) $ peeks ! D (Is D) (shows 𝓛 D) (to O s) vs (λ is_so. let told = words_told R p s.filled s.room vs is_so in let fits : s.filled < 2 ^ 64 = told.1 in
     let ev : vs ≡ places_val (block_ptr pb po) s.filled s.room ∷ [] = told.0 ∙ ap (λ (z : Ptr). places_val z s.filled s.room ∷ []) at in let Cell = λ (ws : List Val). ‵ (cell_at r D.mir ws b o) in
     rewrite ! 1 Cell ev refl $ first ! $ blocks ! $
     sets ! (of_opd ! (load ! (through ! refl (fld ! refl (stop !))) (look_in ! 1 (sub ! 0 refl (whole !))))) refl (tt, tt) $

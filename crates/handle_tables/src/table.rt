@@ -91,7 +91,7 @@ impl<T: Send + Sync + PartialEq + Drop> Table<T> {
 
     /// Runs commands in order and gives a reply to each.
     ///
-    /// The room for the replies is reserved first: where it is refused, no command was served.
+    /// The room for the replies is reserved first: if it is refused, no command was served, and all are dropped.
     /// What [`Table::run`] says of locks and atomics holds here too.
     pub fn run_plain(
         &mut self,
@@ -137,7 +137,7 @@ impl<T: Send + Sync + Clone + PartialEq> Table<T> {
 
     /// Runs commands in order and gives a reply to each, as [`Table::serve`] does.
     ///
-    /// The room for the replies is reserved first: where it is refused, no command was served.
+    /// The room for the replies is reserved first: if it is refused, no command was served, and all are dropped.
     ///
     /// [`Command::Own`] is only for types whose copies are the same value. The values of a table hold no lock and no
     /// atomic: what a lock guards or an atomic holds is written through a shared handle, so that every slot of that

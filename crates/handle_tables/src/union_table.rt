@@ -91,7 +91,7 @@ impl<A: Send + Sync + PartialEq + Drop, B: Send + Sync + PartialEq + Drop> Union
 
     /// Runs commands in order and gives a reply to each, as [`UnionTable::serve`] does.
     ///
-    /// The room for the replies is reserved first: where it is refused, no command was served.
+    /// The room for the replies is reserved first: if it is refused, no command was served, and all are dropped.
     /// What [`Table::run`](crate::table::Table::run) says of locks and atomics holds here too.
     pub fn run(
         &mut self,

@@ -21,7 +21,8 @@ impl<T: Send + Sync> Model for List<T> {
     ghost view = { λ l. l.links };
 }
 
-/// One more handle of the same list: one raise of a count, with no copy and no memory.
+/// One more handle of the same list: one raise of a count, with no copy and no memory. It is refused as the
+/// `clone` of an `Arc` is.
 impl<T: Send + Sync + Drop> Clone for List<T> {
     ghost is_clone = { λ a b. b ≡ a };
 

@@ -32,7 +32,8 @@ impl<V: Send + Sync> Model for TreeMap<V> {
     ghost view = { λ m. unwrap_or m.root [] };
 }
 
-/// One more handle of the same tree: one raise of a count, with no copy and no memory.
+/// One more handle of the same tree: one raise of a count, with no copy and no memory. It is refused as the
+/// `clone` of an `Arc` is.
 impl<V: Send + Sync + Drop> Clone for TreeMap<V> {
     ghost is_clone = { λ a b. b ≡ a };
 

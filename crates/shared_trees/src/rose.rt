@@ -37,7 +37,8 @@ impl From<AllocError> for RoseError {
     }
 }
 
-/// One more handle of the same tree: one raise of a count, with no copy and no memory.
+/// One more handle of the same tree: one raise of a count, with no copy and no memory. It is refused as the
+/// `clone` of an `Arc` is.
 impl<V: Send + Sync + Drop> Clone for Rose<V> {
     ghost is_clone = { λ a b. b ≡ a };
 

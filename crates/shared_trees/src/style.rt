@@ -51,7 +51,8 @@ pub struct Style {
     pub source: Option<Source>,
 }
 
-/// One more handle of each group and of the source, with no copy and no memory.
+/// One more handle of each group and of the source, with no copy and no memory. It is refused as the `clone` of an
+/// `Arc` is.
 impl Clone for Style {
     ghost is_clone = { λ a b. b ≡ a };
 

@@ -56,8 +56,8 @@ impl<T: Send + Sync + Drop> CowTable<T> {
     }
 }
 
-/// Makes a version, by one raise of a count, with no copy and no memory. It is refused as the `clone` of an `Arc` is: at
-/// the limit of the count, or after 64 raises that were lost to other threads.
+/// Makes a version, by one raise of a count, with no copy and no memory. It is refused as the `clone` of an `Arc` is:
+/// at the limit of the count, or after 64 raises that were lost to other threads.
 impl<T: Send + Sync + Drop> Clone for CowTable<T> {
     ghost is_clone = { λ a b. b ≡ a };
 
@@ -114,9 +114,9 @@ impl<T: Send + Sync> CowTable<T> {
     /// Sets the item of that number in this version alone.
     ///
     /// If other versions share the list of pages, it is copied first, with one more handle of each page; if they share
-    /// the page of this item, that is copied, with a clone of each of its items. Each of the two copies takes two requests
-    /// for memory, beside those of the clones. A version that shares nothing copies and requests nothing. If the item is
-    /// not set, the given value is dropped.
+    /// the page of this item, that is copied, with a clone of each of its items. Each of the two copies takes two
+    /// requests for memory, beside those of the clones. A version that shares nothing copies and requests nothing. If
+    /// the item is not set, the given value is dropped.
     ///
     /// It is only for types whose copies are the same value, and so not for `String` or `Vec`, whose copy has another
     /// buffer.

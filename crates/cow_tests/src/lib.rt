@@ -1,4 +1,5 @@
-//! Tests of `cow_table`: what no contract says. Beside them stand two callers, which show how code above uses the crate.
+//! Tests of `cow_table`: what no contract says. Beside them stand two callers, which show how code above uses the
+//! crate.
 #![tactic(auto)]
 
 #[cfg(test)]

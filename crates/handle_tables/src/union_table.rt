@@ -13,7 +13,8 @@ use handles::arc_union::{ArcUnion, ArcUnionBorrow};
 use std::alloc::{AllocError, Global};
 use std::marker::Model;
 
-/// Slots, each empty or with a handle of one of two types. Handles may share a block; the values that the slots read never show it.
+/// Slots, each empty or with a handle of one of two types. Handles may share a block; the values that the slots read
+/// never show it.
 #[derive(Drop)]
 pub struct UnionTable<A: Send + Sync, B: Send + Sync> {
     slots: Vec<Option<ArcUnion<A, B>>>,

@@ -10,7 +10,8 @@ use std::sync::atomic::AtomicU64;
 use std::sync::atomic::Ordering::SeqCst;
 use std::vec::IntoIter;
 
-// Gives these answers in turn and then only `None`, so that it may go on after a `None`, and counts how often it was asked.
+// Gives these answers in turn and then only `None`, so that it may go on after a `None`, and counts how often it was
+// asked.
 #[derive(Drop)]
 struct Answers<'a, T> {
     left: IntoIter<Option<T>>,

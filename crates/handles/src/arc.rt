@@ -20,8 +20,8 @@ use thiserror::Error;
 /// How often the trait's `clone` raises the word before it gives up.
 const MOST_RAISES: u8 = 64;
 
-/// A handle of a block whose value is shared. The last handle's end drops the value and gives the block back, unless the
-/// block is marked.
+/// A handle of a block whose value is shared. The last handle's end drops the value and gives the block back, unless
+/// the block is marked.
 #[derive(Drop)]
 pub struct Arc<T: Send + Sync> {
     pub(crate) handle: Handle<T>,

@@ -1,5 +1,6 @@
-//! Types that lead back to themselves through a handle: one for each way back, with each derive that the toolchain offers
-//! there, and walks over them. Whether the files of `handles/specs/formers` fit is seen only where such a type stands.
+//! Types that lead back to themselves through a handle: one for each way back, with each derive that the toolchain
+//! offers there, and walks over them. Whether the files of `handles/specs/formers` fit is seen only where such a type
+//! stands.
 #![tactic(auto)]
 
 pub mod by_arc;

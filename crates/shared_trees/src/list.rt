@@ -94,7 +94,8 @@ impl<T: Send + Sync + Drop> List<T> {
         })
     }
 
-    /// What comes after the first item, by one raise of a count. Nothing comes after the empty list. It is refused as the
+    /// What comes after the first item, by one raise of a count. Nothing comes after the empty list. It is refused as
+    /// the
     /// `clone` of an `Arc` is.
     pub fn rest(&self) -> Result<List<T>, AllocError>
         ensures { IfOk result (λ list. list ≡ drop 1 self.now) }
@@ -107,9 +108,9 @@ impl<T: Send + Sync + Drop> List<T> {
         }
     }
 
-    /// Ends node by node in a loop, as far as no other version has them. So a long list takes no more stack than a short
-    /// one, also if threads end versions of it at once; a plain drop ends each node inside the one before, and may run
-    /// out of stack.
+    /// Ends node by node in a loop, as far as no other version has them. So a long list takes no more stack than a
+    /// short one, also if threads end versions of it at once; a plain drop ends each node inside the one before, and
+    /// may run out of stack.
     pub fn end(self) {
         let mut first = self.links.first;
         while let Some(node) = first {

@@ -95,7 +95,8 @@ impl<V: Send + Sync + Drop> Rose<V> {
         Rose::with_children(alloc, value, Vec::new(alloc))
     }
 
-    /// The value with these trees below it. It is refused if there is no memory, and all that it was given is then dropped.
+    /// The value with these trees below it. It is refused if there is no memory, and all that it was given is then
+    /// dropped.
     pub fn with_children(
         alloc: Global,
         value: V,

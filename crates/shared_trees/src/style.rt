@@ -126,8 +126,8 @@ impl Style {
         Ok(self)
     }
 
-    /// The style under a rule of a sheet. It is refused as `cascade` is, or if a `clone` of a handle is; then the rule is
-    /// dropped.
+    /// The style under a rule of a sheet. It is refused as `cascade` is, or if a `clone` of a handle is; then the rule
+    /// is dropped.
     pub fn under_rule(&self, alloc: Global, rule: Arc<Rule>) -> Result<Style, AllocError>
         ensures { IfOk result (λ style. style ≡ cascaded (First rule) self.now) }
     {

@@ -1,5 +1,5 @@
-// How often `ptr_eq` errs while other threads ask the same of these blocks, as it may. Each test prints its figure; what
-// it asserts is that the answers are right again once the other threads are gone.
+// How often `ptr_eq` errs while other threads ask the same of these blocks, as it may. Each test prints its figure;
+// what it asserts is that the answers are right again once the other threads are gone.
 use facts::{again, holds, ok};
 use handle_tests::made::arc_of;
 use servo_arc::Arc;

@@ -1,4 +1,5 @@
-// How many nodes a change makes, and what it drops. A node that a change makes out of an old one has a copy of its value.
+// How many nodes a change makes, and what it drops. A node that a change makes out of an old one has a copy of its
+// value.
 use facts::{again, holds, ok, same};
 use handle_tests::counted::{Counted, Tally};
 use shared_trees::{List, TreeMap};

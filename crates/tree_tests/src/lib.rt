@@ -1,4 +1,5 @@
-//! Tests of `shared_trees`: what no contract says. Beside them stands a caller, which shows how code above uses the crate.
+//! Tests of `shared_trees`: what no contract says. Beside them stands a caller, which shows how code above uses the
+//! crate.
 #![tactic(auto)]
 
 #[cfg(test)]

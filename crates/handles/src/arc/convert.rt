@@ -25,8 +25,9 @@ impl<T: Send + Sync + Drop> Arc<T> {
 
     /// Ends the handle as a drop does, and gives the value if it was the last handle of an unmarked block.
     ///
-    /// If all handles of an unmarked block end by this call, exactly one of the calls gives the value, however many threads
-    /// make them. So what is built of handles can be taken apart by a loop; a drop would end each inside the one before.
+    /// If all handles of an unmarked block end by this call, exactly one of the calls gives the value, however many
+    /// threads make them. So what is built of handles can be taken apart by a loop; a drop would end each inside the
+    /// one before.
     pub fn into_inner(this: Arc<T>) -> Option<T>
         ensures { IfSome result (λ value. value ≡ this) }
     {

@@ -41,7 +41,8 @@ impl<T> Handle<T> {
         Ok(self.into_gain().into_loose().into_box())
     }
 
-    // Gets a block of its own, unless it is the only handle of its block. The value is copied before anything else changes.
+    // Gets a block of its own, unless it is the only handle of its block. The value is copied before anything else
+    // changes.
     pub(crate) fn make_sole(&mut self, alloc: Global) -> Result<(), AllocError>
     where
         T: Clone + Drop,

@@ -1,10 +1,11 @@
-// Whether two handles have one block. The language compares no addresses of two blocks, so this is observed: what is added
-// to the stamp through one handle is seen through the other, if they have one block.
+// Whether two handles have one block. The language compares no addresses of two blocks, so this is observed: what is
+// added to the stamp through one handle is seen through the other, if they have one block.
 //
 // A stamp that stays as it is says that the blocks are two. One that moves by exactly what was added is a sign of one
-// block. Where no other thread asks the same of either block meanwhile, nothing else can happen, and the answer is exact.
-// Where one does, the answer may be wrong either way: what that thread adds may hide what was added here, or look like
-// it. So several signs have to come in a row, by amounts that differ from each round to the next. That makes a wrong
+// block. Where no other thread asks the same of either block meanwhile, nothing else can happen, and the answer is
+// exact. Where one does, the answer may be wrong either way: what that thread adds may hide what was added here, or
+// look like it. So several signs have to come in a row, by amounts that differ from each round to the next. That makes
+// a wrong
 // `true` less likely, and does not rule it out: two threads that compare two blocks from opposite ends in step see what
 // one thread sees on one block.
 ghost use Rattle.std.specs.Prelude.{◌≡◌, false};

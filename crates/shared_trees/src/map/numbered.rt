@@ -6,8 +6,8 @@ use super::TreeMap;
 use super::fork::Fork;
 use super::sides::Sides;
 
-// The entries by their numbers. It is a trait, since the prover lets `next`, which is a trait's method, call the methods of
-// traits alone at a `V` with bounds.
+// The entries by their numbers. It is a trait, since the prover lets `next`, which is a trait's method, call the
+// methods of traits alone at a `V` with bounds.
 pub(crate) trait Numbered {
     type Entry;
 

@@ -1,6 +1,6 @@
 -- `raise` is one compare-exchange of the word.
 use Rattle.std.proofs.Common.{◌≤◌}
-use Rattle.handles.proofs.Walks.{◌≡◌, ℕ, ◌+◌, ◌^◌, ◌<◌, false, [], ◌∷◌, refl, sym, ap, arith, w64, a_type, named, Val, vint, vptr, inst_fn, SProp, via, Lft, Share, Fml, ftrue, fsep, flft, finv, ‵, raw, ◌⊛◌, mean, at_ret, ◌$◌, ◌∵◌, !, qed, by, move, keep, drop, split, join, fsplit, fsplit3, fjoin, fpick, use1, use2, stop, fld, load, addr, lit, of_opd, no_more, and_then, first, blocks, exec, Calls-last, returns, enter, alloc_all, pass_all, free_all, look_at, get, through, sets, lands_last, is, env, agg, sub, whole, look_in, tables, fact, yes, RattleType, owns, types_at, plain, Ptr, block_ptr, block_of, offset_of, at_block, nothing_more, heard, shuts, param, layouts, RefOf, u64, shr_vals, shr_Tells, Stays, stay_dropped, walk_of, Goes-dropped, after, proved, leaves, fm, found, finds, Right, HeldRow, block_rule, one_word, word_and_gain, one_word-Good, HandleRow, HandleWords, known, returns_gain, word_and_gain-Good, opens_handle, shows_gain, closes_borrow, words_told, GainRow, ptr_val, get_in, no}
+use Rattle.handles.proofs.Walks.{◌≡◌, ℕ, ◌+◌, ◌<◌, false, [], ◌∷◌, refl, sym, ap, w64, a_type, named, Val, vint, vptr, inst_fn, SProp, via, Lft, Share, Fml, ftrue, fsep, flft, finv, ‵, raw, ◌⊛◌, mean, at_ret, ◌$◌, ◌∵◌, !, qed, by, move, keep, drop, split, join, fsplit, fsplit3, fjoin, fpick, use1, use2, stop, fld, addr, of_opd, no_more, and_then, first, blocks, exec, Calls-last, returns, enter, alloc_all, pass_all, free_all, look_at, get, through, sets, lands_last, is, env, agg, sub, whole, tables, fact, yes, RattleType, owns, types_at, plain, Ptr, block_ptr, block_of, offset_of, at_block, nothing_more, heard, shuts, param, layouts, RefOf, u64, shr_vals, shr_Tells, Stays, stay_dropped, walk_of, Goes-dropped, after, proved, leaves, fm, found, finds, Right, HeldRow, block_rule, one_word, word_and_gain, one_word-Good, HandleRow, HandleWords, known, returns_gain, word_and_gain-Good, opens_handle, shows_gain, closes_borrow, words_told, GainRow, ptr_val, get_in, no}
 use Rattle.atomic_table.proofs.Calls.{exchanges}
 use denote.Plain.{uint_vals, uint_Tells}
 use Rattle.counting_word.specs.CountingWord.{greatest_count, IsWithin}

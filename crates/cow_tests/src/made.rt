@@ -1,4 +1,6 @@
 //! Lists whose items count their copies and drops.
+ghost use Rattle.std.specs.Prelude.{◌<◌};
+
 use cow_table::CowTable;
 use handle_tests::counted::{Counted, Tally};
 use std::alloc::{AllocError, Global};
@@ -27,7 +29,9 @@ pub fn counted_pages<'a>(
     tally: &'a Tally,
     len: u64,
     page_len: usize,
-) -> Result<CowTable<Counted<'a>>, AllocError> {
+) -> Result<CowTable<Counted<'a>>, AllocError>
+    requires { 0 < page_len }
+{
     let items = counted_items(alloc, tally, len).ok_or(AllocError)?;
     CowTable::from_items(alloc, items, page_len)
 }

@@ -397,8 +397,8 @@ impl<T> Gain<T> {
 }
 
 impl<T: Drop> Handle<T> {
-    // Ends the handle, and gives the block if that was its last one.
-    #[inline]
+    // Ends the handle, and gives the block if that was its last one. Inlined, so that a drop builds no `Option`.
+    #[inline(always)]
     pub(crate) fn end(self) -> Option<Box<Block<T>>>
         ensures { IfSome result (λ block. block.value.held ≡ self.held) }
     {

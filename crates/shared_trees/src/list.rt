@@ -95,8 +95,7 @@ impl<T: Send + Sync + Drop> List<T> {
     }
 
     /// What comes after the first item, by one raise of a count. Nothing comes after the empty list. It is refused as
-    /// the
-    /// `clone` of an `Arc` is.
+    /// the `clone` of an `Arc` is.
     pub fn rest(&self) -> Result<List<T>, AllocError>
         ensures { IfOk result (λ list. list ≡ drop 1 self.now) }
     {

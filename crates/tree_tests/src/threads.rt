@@ -46,7 +46,7 @@ fn four_threads_read_what_one_publishes(rt: HostRuntime) -> Result<(), Fail> {
 
 const ROUNDS: u32 = 20;
 
-// So many that a drop of each inside the one before would run out of stack.
+// So many that a drop of each inside the one before may run out of stack.
 const NODES: u64 = 200_000;
 
 // Whichever thread ends its version last has to end the nodes, and neither knows that before.

@@ -5,9 +5,8 @@
 // block. Where no other thread asks the same of either block meanwhile, nothing else can happen, and the answer is
 // exact. Where one does, the answer may be wrong either way: what that thread adds may hide what was added here, or
 // look like it. So several signs have to come in a row, by amounts that differ from each round to the next. That makes
-// a wrong
-// `true` less likely, and does not rule it out: two threads that compare two blocks from opposite ends in step see what
-// one thread sees on one block.
+// a wrong `true` less likely, and does not rule it out: two threads that compare two blocks from opposite ends in step
+// see what one thread sees on one block.
 ghost use Rattle.std.specs.Prelude.{◌≡◌, false};
 
 use super::Handle;

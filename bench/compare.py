@@ -8,11 +8,11 @@ its preparation. All have to print one checksum.
 
 It prints the nanoseconds a unit of each, the ratio of the program's elapsed time to that of each pointer, the middle
 half of the first of these ratios and of the control, and a verdict: whether the figure that has a goal is within it. With
---script it does the same for scripts, which `servo` alone runs. The verdict is `busy` where the control's middle half
+--script it does the same for scripts, which `servo` alone runs. The verdict is `busy` if the control's middle half
 strays from 1 by more than --noise, unless the figure is farther off still: then the machine was too busy to judge.
 
-The status is 1 where a checksum differs or a workload that was named does not run, else 3 where a goal was missed, else 4
-where a goal could not be judged.
+The status is 1 if a checksum differs or a workload that was named does not run, else 3 if a goal was missed, else 4
+if a goal could not be judged.
 """
 import argparse
 import os

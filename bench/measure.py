@@ -34,7 +34,7 @@ def ratio(one, other):
 
 
 def instructions(command):
-    """The instructions of one run by valgrind's callgrind, or None where there is none."""
+    """The instructions of one run by valgrind's callgrind, or None if valgrind is not there."""
     with tempfile.TemporaryDirectory() as folder:
         counted = subprocess.run(
             ["valgrind", "--tool=callgrind", "--callgrind-out-file=" + os.path.join(folder, "out")] + command,

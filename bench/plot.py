@@ -1,7 +1,7 @@
 #!/usr/bin/env python3
 """Draws the ratios of a table that `compare.py --table` wrote as an SVG, on standard output.
 
-Each workload is a bar up to its median ratio, with a line over the middle half, a ring for the control and, where GOALS
+Each workload is a bar up to its median ratio, with a line over the middle half, a ring for the control and, if GOALS
 has a ratio to the ported crate, a mark for it. GOALS has lines WORKLOAD and GOAL, with a tab between them.
 """
 import argparse

@@ -1,5 +1,5 @@
 #!/usr/bin/env bash
-# Counts the instructions and requests for memory of the built program, where valgrind is installed: a step costs the same with 10 handles and with
+# Counts the instructions and requests for memory of the built program, if valgrind is installed: a step costs the same with 10 handles and with
 # 100,000, a birth the same on the average of 50,000 and of 100,000, lending no more than the logarithm of the borrowers,
 # and a command on a table of 1000 slots what it costs on 10.
 set -u

@@ -164,7 +164,7 @@ def all_below(crate, below):
 
 
 def copy_or_link(source, to):
-    """Copies a file. What was proved is linked, where that can be: a check replaces such a file, and never writes into it."""
+    """Copies a file. What was proved is linked, if that can be: a check replaces such a file, and never writes into it."""
     try:
         return os.link(source, to) if "/out/" in source else shutil.copy(source, to)
     except OSError:

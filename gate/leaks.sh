@@ -1,5 +1,5 @@
 #!/usr/bin/env bash
-# Runs the examples under valgrind, where that is installed: no memory is read that was freed, and just the blocks that a
+# Runs the examples under valgrind, if that is installed: no memory is read that was freed, and just the blocks that a
 # script marks are never freed.
 set -u
 cd "$(dirname "$0")/.."

@@ -11,7 +11,7 @@
 
     gate/links.py [--fix]
 
-With --fix it corrects lines and numbers. It ends with 1 where something is wrong that it did not correct.
+With --fix it corrects lines and numbers. It ends with 1 if something is wrong that it did not correct.
 """
 import re
 import subprocess

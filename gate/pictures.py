@@ -4,7 +4,7 @@ word after it. The answers come from the file beside the script, and the word fo
 
     gate/pictures.py [--check]
 
-writes docs/pictures/NAME.svg for each example of NAMES. With --check it writes nothing, and ends with 1 where a picture
+writes docs/pictures/NAME.svg for each example of NAMES. With --check it writes nothing, and ends with 1 if a picture
 is not as it would be drawn.
 """
 import sys

@@ -1,6 +1,6 @@
 #!/usr/bin/env bash
 # Refuses each single request for memory in turn: in run N each test of crates/refusal_tests has its Nth request refused,
-# until a run meets no refusal. A test holds whichever request is refused, and prints `refused: ..` where it met one.
+# until a run meets no refusal. A test holds whichever request is refused, and prints `refused: ..` if it met one.
 #
 #     gate/refused_memory.sh [PROGRAM]    the tests, built; without it they are proved and built here
 #

@@ -24,7 +24,7 @@ pub record Replay (V : Type 0) : Type 0 where
   pub lived : ℕ → ℕ
 
 module _ {V : Type 0} where
-  -- On an unmarked block below the limit a raise loses where the number of live handles is another than the one that
+  -- On an unmarked block below the limit a raise loses if the number of live handles is another than the one that
   -- its owner saw.
   abbrev pub raise_settles : Replay V → ℕ → Bool
   raise_settles r o = r.machine.mark || (is_full r.machine || nat_eq (length r.machine.live) (r.lived o))

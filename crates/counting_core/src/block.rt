@@ -23,7 +23,7 @@ pub(crate) struct Block<V> {
     pub(crate) owners: Vec<Owner>,
 }
 
-/// The number of a new handle, or nothing where memory is refused.
+/// The number of a new handle, or nothing if memory is refused.
 pub(crate) fn push_newborn(handles: &mut Vec<Handle>, alloc: Global, holder: usize) -> Option<usize>
     ensures number { IfSome result (λ n. n ≡ length handles.old.items) }
     ensures born { IfSome result (λ _.

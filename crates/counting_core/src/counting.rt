@@ -34,7 +34,7 @@ impl<V: Copy> Core<V> {
     ghost use Rattle.counting_core.specs.Represents.{Represents, Continues, ContinuesAll};
 
     /// A block of one handle, number 0, that owner 0 holds, and that never has more handles than its limit while it
-    /// has no mark. Where memory is refused the value comes back.
+    /// has no mark. If memory is refused the value comes back.
     pub fn new(alloc: Global, value: V, owners: usize, limit: u64) -> Result<Self, V>
         requires owners { 0 < owners }
         requires limit { IsLimit limit }

@@ -8,7 +8,7 @@ pub fn each_step_has_one_answer<V: Copy>()
     ensures { EachStepHasOneAnswer V }
 {}
 
-/// A step is answered Barred exactly where it is not permitted.
+/// A step is answered Barred exactly if it is not permitted.
 #[tactic(auto, using(crate::proofs::Traces::LegalSteps::barred_if_not_permitted))]
 pub fn barred_exactly_if_not_permitted<V: Copy>()
     ensures { BarredExactlyIfNotPermitted V }
@@ -26,7 +26,7 @@ pub fn count_is_the_number_of_live_handles<V: Copy>()
     ensures { CountIsTheNumberOfLiveHandles V }
 {}
 
-/// Where a lower is permitted the word's count is not zero, marked or not, so no lower wraps.
+/// If a lower is permitted the word's count is not zero, marked or not, so no lower wraps.
 #[tactic(auto, using(crate::proofs::Traces::LiveCounts::lower_counts))]
 pub fn no_lower_wraps<V: Copy>()
     ensures { NoLowerWraps V }
@@ -38,7 +38,7 @@ pub fn no_count_passes_limit<V: Copy>()
     ensures { NoCountPassesLimit V }
 {}
 
-/// A block is marked exactly where some answer was Marked.
+/// A block is marked exactly if some answer was Marked.
 #[tactic(auto, using(crate::proofs::Traces::Marks::marked_if_answered))]
 pub fn marked_exactly_if_answered<V: Copy>()
     ensures { MarkedExactlyIfAnswered V }
@@ -50,7 +50,7 @@ pub fn marked_block_keeps_its_value<V: Copy>()
     ensures { MarkedBlockKeepsItsValue V }
 {}
 
-/// An end gives the value up exactly where it leaves no handle of an unmarked block.
+/// An end gives the value up exactly if it leaves no handle of an unmarked block.
 #[tactic(auto, using(crate::proofs::Traces::GivenUp::given_up_by_last_end))]
 pub fn given_up_by_last_end<V: Copy>()
     ensures { GivenUpByLastEnd V }
@@ -62,7 +62,7 @@ pub fn given_up_once<V: Copy>()
     ensures { GivenUpOnce V }
 {}
 
-/// A clone is refused exactly where its read finds the limit, without a mark.
+/// A clone is refused exactly if its read finds the limit, without a mark.
 #[tactic(auto, using(crate::proofs::Traces::CloneReads::full_exactly_at_limit))]
 pub fn full_exactly_at_limit<V: Copy>()
     ensures { FullExactlyAtLimit V }

@@ -35,13 +35,13 @@ is_one_handle-marked word marked =
     let high : 9223372036854775808 ≤ word = leb-true mark_bit word marked in
     ne_eqb word 1 (λ one. omega arith)
 
--- an unmarked word is that of one handle exactly where one handle lives
+-- an unmarked word is that of one handle exactly if one handle lives
 pub is_one_handle-unmarked : (word live in_drop : ℕ) → StandsFor word false live in_drop
     → is_one_handle word ≡ nat_eq live 1
 is_one_handle-unmarked word live in_drop s =
     ap (λ (n : ℕ). nat_eq n 1) (word-unmarked word live in_drop false s.same_mark s)
 
--- a word is that of one handle exactly where the block is unmarked with one live handle
+-- a word is that of one handle exactly if the block is unmarked with one live handle
 pub is_one_handle-exactly : (word live in_drop : ℕ) (mark : Bool) → StandsFor word mark live in_drop
     → is_one_handle word ≡ (not mark && nat_eq live 1)
 is_one_handle-exactly word live in_drop true s = is_one_handle-marked word s.same_mark
@@ -166,7 +166,7 @@ bit_or-mark_bit word fits = at (is_marked_word word) refl where
 
 pub ruleset marks = (bit_or-mark_bit)
 
--- a mark: where no more drops are in flight than handles live
+-- a mark: if no more drops are in flight than handles live
 pub stands-marked_word : (word live in_drop : ℕ) (mark : Bool) → StandsFor word mark live in_drop → in_drop ≤ live
     → StandsFor (marked_word word) true live in_drop
 stands-marked_word word live in_drop true s few =

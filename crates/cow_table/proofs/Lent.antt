@@ -6,7 +6,7 @@ use Rattle.std.specs.List.{AllZip}
 use Rattle.std.specs.Vec.{vec_items}
 use Rattle.std.specs.declared.vec.Vec.{Vec}
 
--- where copies of items are equal, a vector that is lent has the items of the old one, whether it was copied or not
+-- if copies of items are equal, a vector that is lent has the items of the old one, whether it was copied or not
 pub lent_items : {X A : Type 0} (R : X → X → Type 0) → ((x y : X) → R x y → y ≡ x) → (old lent : Vec X A)
     → (lent ≡ old) ⊎ (AllZip R (vec_items old) (vec_items lent) × (vec_len lent ≡ vec_len old))
     → vec_items lent ≡ vec_items old

@@ -5,7 +5,7 @@ use crate::table::CowTable;
 use std::fmt;
 use std::fmt::{Debug, Formatter, Write};
 
-/// Asks the items, also where both tables share their pages.
+/// Asks the items, also if both tables share their pages.
 impl<T: Send + Sync + PartialEq> PartialEq for CowTable<T> {
     ghost eq = { pointwise T.eq };
 

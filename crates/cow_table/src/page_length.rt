@@ -2,7 +2,7 @@
 ghost use Rattle.std.specs.Prelude.{◌≡◌, ◌<◌, ◌^◌, ◌/◌, ◌%◌};
 ghost use Rattle.std.specs.Option.{ForSome};
 
-// The length of a page. Where it is a power of two, items are found without a division.
+// The length of a page. If it is a power of two, items are found without a division.
 #[derive(Clone, Copy)]
 pub(crate) struct PageLength {
     pub(crate) items: usize,

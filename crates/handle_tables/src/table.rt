@@ -48,7 +48,7 @@ impl<T: Send + Sync + Drop> Table<T> {
         self.slots.len()
     }
 
-    /// The value of a slot: none where the slot is empty or not there.
+    /// The value of a slot: none if the slot is empty or not there.
     #[inline]
     pub fn get(&self, i: usize) -> Option<&T>
         ensures { option_copied result ≡ option_flatten (slice_get self.now i) }
@@ -59,7 +59,7 @@ impl<T: Send + Sync + Drop> Table<T> {
         }
     }
 
-    /// Puts the handle in a slot, whose old handle ends. Where there is no such slot the handle comes back.
+    /// Puts the handle in a slot, whose old handle ends. If there is no such slot the handle comes back.
     #[inline]
     pub fn put(&mut self, i: usize, a: Arc<T>) -> Result<(), Arc<T>>
         ensures there { IsOk result ↔ (i < length self.old) }

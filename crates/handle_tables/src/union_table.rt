@@ -47,7 +47,7 @@ impl<A: Send + Sync + Drop, B: Send + Sync + Drop> UnionTable<A, B> {
         self.slots.len()
     }
 
-    /// The handle of a slot: none where the slot is empty or not there.
+    /// The handle of a slot: none if the slot is empty or not there.
     #[inline]
     pub fn get(&self, i: usize) -> Option<ArcUnionBorrow<'_, A, B>>
         ensures { option_map borrowed_union result ≡ option_flatten (slice_get self.now i) }
@@ -58,7 +58,7 @@ impl<A: Send + Sync + Drop, B: Send + Sync + Drop> UnionTable<A, B> {
         }
     }
 
-    /// Puts the handle in a slot, whose old handle ends. Where there is no such slot the handle comes back.
+    /// Puts the handle in a slot, whose old handle ends. If there is no such slot the handle comes back.
     #[inline]
     pub fn put(&mut self, i: usize, u: ArcUnion<A, B>) -> Result<(), ArcUnion<A, B>>
         ensures there { IsOk result ↔ (i < length self.old) }

@@ -14,7 +14,7 @@ pub struct Style {
     pub is_bold: bool,
 }
 
-/// A style that is written first and then shared. Where there is no memory for it, the empty style comes back.
+/// A style that is written first and then shared. If there is no memory for it, the empty style comes back.
 pub fn plain_style(alloc: Global, size: u32) -> Result<Arc<Style>, Style>
     ensures made { IfOk result (λ style. style ≡ record { size = size; is_bold = false }) }
     ensures refused { IfErr result (λ style. style ≡ record { size = 0; is_bold = false }) }
@@ -56,7 +56,7 @@ pub fn size_of(style: ArcBorrow<'_, Style>) -> u32
     style.get().size
 }
 
-/// Letters under their style. They are refused for want of memory, or where the iterator does not give just `number`.
+/// Letters under their style. They are refused for want of memory, or if the iterator does not give just `number`.
 pub fn styled<I: Iterator<Item = char>>(
     alloc: Global,
     style: Style,
@@ -101,7 +101,7 @@ pub fn rule_of(list: &ThinArc<u32, u32>) -> u32
     list.header
 }
 
-/// Puts the properties under another rule, where nobody else shares them.
+/// Puts the properties under another rule, if nobody else shares them.
 pub fn put_under(list: &mut ThinArc<u32, u32>, rule: u32) -> bool
     ensures { list.new ≡ (if result then record list.old { header = rule } else list.old) }
 {

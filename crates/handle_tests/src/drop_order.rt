@@ -11,7 +11,7 @@ use std::sync::atomic::AtomicU64;
 use std::sync::atomic::Ordering::SeqCst;
 use std::vec::IntoIter;
 
-// Puts its name at the end of the log where it is dropped.
+// Puts its name at the end of the log when it is dropped.
 struct Named<'a> {
     name: u64,
     log: &'a AtomicU64,

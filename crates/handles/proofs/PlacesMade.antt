@@ -1,4 +1,4 @@
--- Room for an array makes places that hold nothing yet, and where they take no bytes it comes from nothing. Assumes `Logic`.
+-- Room for an array makes places that hold nothing yet, and if they take no bytes it comes from nothing. Assumes `Logic`.
 use Rattle.std.proofs.Common.{◌≡◌, ◌≢◌, ℕ, ◌+◌, ◌-◌, ◌*◌, ◌^◌, ◌<◌, true, false, List, [], ◌∷◌, refl, sym, ap, ◌∙◌, subst, lit<, arith, ne_eqb}
 use Rattle.std.specs.Prelude.{IsTrue, ◌↔◌, not}
 use lib.Dec.{T, eqb, eqb→eq}
@@ -25,7 +25,7 @@ use Rattle.handles.specs.Inside.PlacesOwnership.{gives_back}
 use Rattle.std_alloc.proofs.RawLayout.{as_raw}
 use Rattle.handles.proofs.PlacesFields.{places_val, PlacesRow, PlacesWords, words_made}
 
--- the size that a word holds is 0 where the size is
+-- the size that a word holds is 0 if the size is
 pub capped_zero : (n : ℕ) → IsTrue (eqb (capped n) 0) ↔ (n ≡ 0)
 capped_zero n = (λ e. let none : capped n ≡ 0 = eqb→eq (capped n) 0 (subst T (sym e) tt) in let low : n < 2 ^ 63 = capped_small n (omega arith) in sym (capped_is n (omega arith)) ∙ none, λ e. ap (λ k. eqb (capped k) 0) e)
 

@@ -57,7 +57,7 @@ module _ (R : RattleType) where
   fields-Sync : AllSync (fields O)
   fields-Sync = (search sendable, (search sendable, (search sendable, tt)))
 
-  -- places may go where their items may: any thread may free their block
+  -- places may go to a thread if their items may: any thread may free their block
   pub places-Send : IsSend R → IsSend (PlacesRow R)
   places-Send s = owning_send O fields-Send
       (λ d. (tt, (lies (Array R d.filled) (array_send R d.filled s) d.first d.items, (room-Keyless _ (d.first +ₚ d.filled * type_size R), owns_if-Keyless (not (d.room * type_size R == 0)) _ (crossing.frees.frees handle (array_of R d.room) d.first)))))

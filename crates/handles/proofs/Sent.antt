@@ -1,4 +1,4 @@
--- A handle says the same to every thread, where its value may go to any thread and be seen by any.
+-- A handle says the same to every thread, if its value may go to any thread and be seen by any.
 use Rattle.std.proofs.Common.{ℕ, ◌+◌, Bool, true, false, [], ◌∷◌}
 use base.Fml.{Fml, Lft, Share}
 use base.Shift.{Keyless}

@@ -43,7 +43,7 @@ impl<T: Send + Sync> Model for Arc<T> {
 pub struct Full;
 
 impl<T: Send + Sync + Drop> Arc<T> {
-    /// The data comes back where there is no memory for the block.
+    /// The value comes back if there is no memory for the block.
     pub fn new(alloc: Global, value: T) -> Result<Arc<T>, T>
         ensures made { IfOk result (λ a. a ≡ value) }
         ensures refused { IfErr result (λ x. x ≡ value) }
@@ -110,7 +110,7 @@ impl<T: Send + Sync> Arc<T> {
 
     /// Whether both are handles of one block.
     ///
-    /// The answer is exact where no other `ptr_eq` runs on either block meanwhile. Where one does, it may be wrong
+    /// The answer is exact if no other `ptr_eq` runs on either block meanwhile. If one does, it may be wrong
     /// either way: two threads that compare two blocks from opposite ends at once may both hear `true`.
     ///
     /// It never looks at the counts and takes no wait. It adds to a word of the block that nothing else uses: at most

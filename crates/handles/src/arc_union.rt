@@ -12,7 +12,7 @@ use std::fmt;
 use std::fmt::{Debug, Formatter, Write};
 use std::marker::Model;
 
-/// A handle of a first or of a second type. The two kinds stay apart even where their types are the same.
+/// A handle of a first or of a second type. The two kinds stay apart even if their types are the same.
 #[derive(Drop)]
 pub struct ArcUnion<A: Send + Sync, B: Send + Sync> {
     handle: EitherArc<A, B>,
@@ -122,7 +122,7 @@ impl<A: Send + Sync, B: Send + Sync> ArcUnion<A, B> {
     }
 }
 
-/// Refused where the trait's `clone` of the handle is.
+/// Refused if the trait's `clone` of the handle is.
 impl<A: Send + Sync + Drop, B: Send + Sync + Drop> Clone for ArcUnion<A, B> {
     ghost is_clone = { λ u v. v ≡ u };
 

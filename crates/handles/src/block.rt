@@ -99,7 +99,7 @@ impl<T> Block<T> {
 }
 
 impl<T: Drop> Block<T> {
-    // In a box of its own, or the value where there is no memory.
+    // In a box of its own, or the value if there is no memory.
     pub(crate) fn boxed(alloc: Global, value: T, limit: Limit) -> Result<Box<Block<T>>, T>
         ensures made { IfOk result (λ b. (b.value.word ≡ 1) × (b.value.held.value ≡ value)) }
         ensures limit { IfOk result (λ b. b.value.held.limit ≡ limit) }

@@ -69,7 +69,7 @@ impl<T: Send + Sync> Deref for ArcBorrow<'_, T> {
     }
 }
 
-/// Asks the values, also where both are of one block.
+/// Asks the values, also if both are of one block.
 impl<T: Send + Sync + PartialEq> PartialEq for ArcBorrow<'_, T> {
     ghost use Rattle.std.specs.Cmp.{on_per};
     ghost use Rattle.handles.specs.Borrowed.{borrowed};

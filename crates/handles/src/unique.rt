@@ -27,7 +27,7 @@ impl<T: Send + Sync> Model for UniqueArc<T> {
 }
 
 impl<T: Send + Sync + Drop> UniqueArc<T> {
-    /// The only handle of a new block. One request for memory; the value comes back where it is refused.
+    /// The only handle of a new block. One request for memory; the value comes back if it is refused.
     pub fn new(alloc: Global, value: T) -> Result<UniqueArc<T>, T>
         ensures made { IfOk result (λ u. u ≡ value) }
         ensures refused { IfErr result (λ x. x ≡ value) }
@@ -112,7 +112,7 @@ impl<T: Send + Sync> DerefMut for UniqueArc<T> {
     }
 }
 
-/// A block whose value is still to be written. Where it is dropped it gives the block back, and drops no value.
+/// A block whose value is still to be written. When it is dropped it gives the block back, and drops no value.
 pub struct UninitArc<T: Send + Sync> {
     room: Vacant<Block<T>, Global>,
     alloc: Global,

@@ -4,7 +4,7 @@ use Rattle.scripts.specs.declared.line.Numbers.{Numbers}
 use Rattle.scripts.specs.Line.{IsLine, Writes, SaysNothing}
 use Rattle.scripts.proofs.Lines.{IsLine_same}
 
--- where nothing is written by the word and the numbers of a line, the line asks for nothing
+-- if nothing is written by the word and the numbers of a line, the line asks for nothing
 pub says_nothing : {A : Type 0} (language : A → List ℕ × Numbers) (found : Option A) (text word : List ℕ) (numbers : Numbers) → IsLine text word numbers
     → IfNone found ((asked : A) → ¬ (Writes language word numbers asked)) → IfNone found (SaysNothing language text)
 says_nothing language (Some asked) text word numbers line none = tt

@@ -18,7 +18,7 @@ abbrev beside : {A : Type 0} → List ℕ → List (List ℕ × A) → Option A
 beside word [] = None
 beside word ((name, asked) ∷ rows) = cond (pointwise (λ a b. a == b) word name) (Some asked) (beside word rows)
 
--- where what is asked can be told, it is one thing
+-- if what is asked can be told, it is one thing
 asks_for_one_thing : {A : Type 0} (language : A → List ℕ × Numbers) (told : List ℕ → Numbers → Option A) → ((asked : A) → told (language asked).0 (language asked).1 ≡ Some asked) → AsksForOneThing language
 asks_for_one_thing language told tells line one other says says_too =
     let (word, numbers) = IsLine_same line (language one).0 (language other).0 (language one).1 (language other).1 says says_too in

@@ -100,7 +100,7 @@ asked_limit [] limit is = let greatest : limit ≡ 9223372036854775807 = is in (
 asked_limit (word ∷ []) limit asks = let small : limit < 4294967296 = asks.0.1 in (asks.1, omega arith)
 asked_limit (word ∷ other ∷ words) limit asks = absurd asks
 
--- where nothing was run, nothing was printed
+-- if nothing was run, nothing was printed
 pub did_nothing : (words : List (List ℕ)) (input : Option (List ℕ)) (request : Request) → Asks words request → (outcome : Outcome) (held : Option (List ℕ)) → IsStop outcome → DidAsAsked words input outcome held held
 did_nothing words input request asks outcome held stop = record { request = request; asks = asks; wrote = nothing input }
   where

@@ -32,7 +32,7 @@ abbrev pub IsFaultOfRun : Fault → Type 0
 IsFaultOfRun fault = (fault ≢ Arguments) × (fault ≢ Input)
 
 module _ {S : Type 0} (answers : S → List ℕ → List ℕ → S → Type 0) (is_faulty : List ℕ → Type 0) where
-  -- What a run with this outcome has written of its script. Where the input, the output or memory failed, that is a
+  -- What a run with this outcome has written of its script. If the input, the output or memory failed, that is a
   -- beginning of what a run writes.
   abbrev pub PrintsUpTo : S → List ℕ → Outcome → List ℕ → S → Type 0
   PrintsUpTo old script (Ok _) text new = Prints answers is_faulty old script AllLines text new

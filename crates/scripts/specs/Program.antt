@@ -1,4 +1,4 @@
--- What the program writes on its output, where what is written there can be known.
+-- What the program writes on its output, if what is written there can be known.
 use Rattle.std.specs.Prelude.{◌≡◌, ℕ, List, Option, IfSome, ◌++◌}
 use Rattle.std.specs.Io.KnownBytes.{Appends}
 use Rattle.scripts.specs.Arguments.{Asks}

@@ -20,7 +20,7 @@ pub enum Request {
 impl Request {
     ghost use Rattle.scripts.specs.Arguments.{AreWrong, Asks};
 
-    /// What the words ask for, or nothing where they are wrong.
+    /// What the words ask for, or nothing if they are wrong.
     pub fn from_words<S: AsStr>(words: &[S]) -> Option<Request>
         ensures asked { IfSome result (Asks (map S.text words.now)) }
         ensures wrong { IfNone result (AreWrong (map S.text words.now)) }
@@ -42,7 +42,7 @@ impl Request {
     }
 }
 
-/// The limit that the words after the number of owners ask for, or nothing where they are wrong.
+/// The limit that the words after the number of owners ask for, or nothing if they are wrong.
 fn limit_from_words<S: AsStr>(words: &[S]) -> Option<u64>
     ensures asked { IfSome result (AskLimit (map S.text words.now)) }
     ensures wrong { IfNone result ((limit : ℕ) → ¬ (AskLimit (map S.text words.now) limit)) }

@@ -25,7 +25,7 @@ const VALUE: u32 = 5;
 /// Runs the script on a new core, in which owner 0 holds the only handle, of a block of `VALUE` and this limit. Writes
 /// the answer to each line, up to the first line that is no step, and in place of its answer the fault.
 ///
-/// Ends with `Line` at that line, with `Output` where a write fails, and with `Memory` where the core or the room for
+/// Ends with `Line` at that line, with `Output` if a write fails, and with `Memory` if the core or the room for
 /// the answers is refused. A step that is refused memory is answered so, and the run goes on.
 pub fn run<W: Write>(
     alloc: Global,

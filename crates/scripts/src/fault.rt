@@ -58,7 +58,7 @@ impl Fault {
         }
     }
 
-    /// Tells standard error of the fault, if it is told there, and answers its status. Where that cannot be written
+    /// Tells standard error of the fault, if it is told there, and answers its status. If that cannot be written
     /// nobody is left to tell, and the status stays.
     pub fn report<E: Write>(self, errors: &mut E) -> u8
         ensures status { result ≡ status_of self }

@@ -10,7 +10,7 @@ use std::io::{ErrorKind, Write};
 pub struct Stopped;
 
 /// Writes all the bytes, in as many writes as it takes. `write_all` of the library would leave unproved what is written
-/// where a write fails.
+/// when a write fails.
 pub fn write_whole<W: Write>(bytes: &[u8], output: &mut W) -> Result<(), Stopped>
     ensures whole { OnOk result (Appends
         (W.contents output.old) (W.contents output.new) bytes.now) }

@@ -60,7 +60,7 @@ pub trait Interpreter {
     // The line asks for nothing.
     ghost is_faulty: { List ℕ → Type 0 };
 
-    /// The answer to a line, or nothing where the line is faulty. A faulty line changes nothing.
+    /// The answer to a line, or nothing if the line is faulty. A faulty line changes nothing.
     fn answer_to(&mut self, line: &[u8]) -> Option<Printed>
         ensures answered { IfSome result (λ printed. answers self.old line.now
             (answer_text (printed.words.now, printed.number)) self.new) }

@@ -8,7 +8,7 @@ use crate::line::Numbers::{One, Three, Two};
 use crate::line::{Line, read_line};
 use counting_core::Step;
 
-/// The step that the line writes, or nothing where it writes none.
+/// The step that the line writes, or nothing if it writes none.
 pub fn read_step(text: &[u8]) -> Option<Step<u32>>
     ensures step { IfSome result (Says step_line text.now) }
     ensures none { IfNone result (SaysNothing step_line text.now) }

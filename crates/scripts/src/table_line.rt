@@ -15,7 +15,7 @@ pub enum TableLine {
     Get(usize),
 }
 
-/// What the line asks, or nothing where it asks for nothing.
+/// What the line asks, or nothing if it asks for nothing.
 pub fn read_table_line(text: &[u8]) -> Option<TableLine>
     ensures line { IfSome result (Says table_line text.now) }
     ensures none { IfNone result (SaysNothing table_line text.now) }

@@ -19,7 +19,7 @@ use std::io::Write;
 /// Runs the script on a new table of so many empty slots. Writes the answer to each line, up to the first line that
 /// asks nothing of a table, and in place of its answer the fault.
 ///
-/// Ends with `Line` at that line, with `Output` where a write fails, and with `Memory` where the table or the room for
+/// Ends with `Line` at that line, with `Output` if a write fails, and with `Memory` if the table or the room for
 /// the answers is refused. A command that is refused memory is answered so, and the run goes on.
 pub fn run<W: Write>(
     alloc: Global,

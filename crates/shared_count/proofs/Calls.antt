@@ -19,7 +19,7 @@ use Rattle.shared_count.specs.Inside.Steps.{SeatState, with_part, Sees, Made}
 use Rattle.shared_count.specs.Inside.Seats.{pass_at, handles_at, CanCall, Replied, pass_of, IsPass}
 use Rattle.shared_count.proofs.Histories.{one_if-same, count-cons, owned_by-others, calls_of-others, calls_of-call, left_by-call, without-taken}
 
--- a step on the word is allowed to a seat that can call, where it is to each pass that owns a handle
+-- a step on the word is allowed to a seat that can call, if it is to each pass that owns a handle
 pub can_step : (t u : TableId) (key id : ℕ) (m : SeatState) (self : CountId) (f : ℕ → ℕ)
     (says : SeatState → ℕ → SeatState → Type 0) → record { table = u; passes = key } ≡ self → u.words ≡ 1
     → t ≡ self.table → CanCall self.passes m

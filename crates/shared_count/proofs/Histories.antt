@@ -148,7 +148,7 @@ one_less : (a b : ℕ) → a + 1 ≡ b → nat_eq a 0 ≡ nat_eq b 1
 one_less a b e = by_name a 0 (λ t. t ≡ nat_eq b 1)
     (λ z. sym (eq-eqb b 1 (omega arith))) (λ n. sym (ne_eqb b 1 (λ h. n (omega arith))))
 
--- none is left exactly where there was one
+-- none is left exactly if there was one
 pub none_left : (p : ℕ) (s : CountState) (reply : EndReply) → 0 < handles_of p s
     → has_exactly 0 (next s p (End reply)) ≡ has_exactly 1 s
 none_left p s reply own = ap (λ (b : Bool). not s.mark && b)

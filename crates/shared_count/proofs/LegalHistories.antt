@@ -192,7 +192,7 @@ is_last-next s q Mark some reply = refl
 is_last-next s q (Unique b) some reply = sym some
 is_last-next s q (Static b) some reply = sym some
 
--- nobody calls where no handle is left
+-- nobody calls if no handle is left
 none_owned : (q : ℕ) (xs : List ℕ) → length xs ≡ 0 → count_by (nat_eq q) xs ≡ 0
 none_owned q [] e = refl
 none_owned q (x ∷ xs) e = absurd (omega arith)

@@ -44,7 +44,7 @@ impl SharedCount {
     /// A count of n handles, one for each of its n passes.
     ///
     /// It makes three requests for memory, one for the passes and two for the table of the word, and answers
-    /// `AllocError` where one is refused. It loads the word n times. No other call takes memory.
+    /// `AllocError` if one is refused. It loads the word n times. No other call takes memory.
     pub fn open(alloc: Global, n: usize) -> Result<(SharedCount, Vec<CountPass>), AllocError>
         requires { 0 < n }
         ensures opened { IfOk result (λ r. r.0.passes ≡ n) }

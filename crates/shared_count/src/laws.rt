@@ -19,19 +19,19 @@ pub fn calls_are_of_passes()
     ensures { CallsAreOfPasses }
 {}
 
-/// A count is marked exactly where one of them marked it.
+/// A count is marked exactly if one of them marked it.
 #[tactic(auto, using(crate::proofs::LegalHistories::marked_if_called))]
 pub fn marked_exactly_if_called()
     ensures { MarkedExactlyIfCalled }
 {}
 
-/// `Last` is told once where an unmarked count is left with no handle, and else never.
+/// `Last` is told once if an unmarked count is left with no handle, and else never.
 #[tactic(auto, using(crate::proofs::LegalHistories::last_is_told_once))]
 pub fn last_is_told_once()
     ensures { LastIsToldOnce }
 {}
 
-/// Where no pass owns a handle any more, and none marked the count, exactly one of their ends was the last.
+/// If no pass owns a handle any more, and none marked the count, exactly one of their ends was the last.
 #[tactic(auto, using(crate::proofs::LegalHistories::one_end_is_last))]
 pub fn one_end_is_last()
     ensures { OneEndIsLast }

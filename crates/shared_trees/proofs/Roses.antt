@@ -1,4 +1,4 @@
--- A value can be set where a path leads to a tree, and nowhere else.
+-- A value can be set if the path leads to a tree, and else not.
 use Rattle.std.proofs.Common.{◌≡◌, ℕ, List, [], ◌∷◌, refl, ap, arith}
 use Rattle.std.specs.Prelude.{Option, None, Some, slice_get}
 use Rattle.std.specs.Option.{option_map, option_and_then}

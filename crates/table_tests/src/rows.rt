@@ -1,4 +1,4 @@
-//! What no clause says: that commands are served where memory is ample, and which of two allowed
+//! What no clause says: that commands are served if memory is ample, and which of two allowed
 //! replies comes when.
 use facts::{holds, ok, same};
 use handle_tables::table::{Command, PlainCommand, Reply, Table, laws};

@@ -1,4 +1,4 @@
-//! What no clause says of a table of unions: that commands are served where memory is ample, and
+//! What no clause says of a table of unions: that commands are served if memory is ample, and
 //! which of two allowed replies comes when.
 use facts::{again, holds, ok, same};
 use handle_tables::table::{Reply, UnionCommand, UnionTable};

@@ -43,7 +43,7 @@ fn count_refused(handle: &Arc<u64>) -> u64 {
 }
 
 // A clone is refused after 64 lost raises, which four threads that only clone hardly ever bring about. After 4 of them
-// more than one in a hundred would be refused where the threads run at once.
+// more than one in a hundred would be refused if the threads run at once.
 #[test]
 fn four_threads_are_seldom_refused(rt: HostRuntime) {
     let a = ok!(&rt, arc_of(rt.alloc(), 7u64));

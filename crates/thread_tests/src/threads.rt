@@ -1,5 +1,5 @@
-// Threads that share one block. Each is joined. Where two should act at the same moment, they look for each other
-// before, and go on alone where the other is not run for long: what is asserted holds either way.
+// Threads that share one block. Each is joined. If two should act at the same moment, they look for each other
+// before, and go on alone if the other is not run for long: what is asserted holds either way.
 use facts::{again, holds, ok, same};
 use handle_tests::counted::{Counted, Tally};
 use handle_tests::made::arc_of;

@@ -1,4 +1,4 @@
-// What the callers in `shared_trees` answer where memory is ample.
+// What the callers in `shared_trees` answer if memory is ample.
 use facts::{holds, ok, same};
 use servo_arc::Arc;
 use shared_trees::{Declared, Inline, TreeMap, restyle, versions};

@@ -18,7 +18,7 @@ use Rattle.counting_core.proofs.Traces.LiveHandles.{counted}
 use Rattle.counting_core.proofs.Steps.Moving.{moves-same, permitted-may}
 
 module _ {V : Type 0} (f : CoreState V) where
-  -- the word is that of one handle exactly where a handle that lives is the only one
+  -- the word is that of one handle exactly if a handle that lives is the only one
   pub is_one_handle-only : (t : Trace V) → Represents f t → (h : ℕ) → (handle f h).lives ≡ true
       → is_one_handle f.word ≡ is_only (replay t).machine h
   is_one_handle-only t r h lives =

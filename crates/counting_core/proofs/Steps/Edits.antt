@@ -31,7 +31,7 @@ module _ {A : Type 0} where
                   get_or-eq_default (xs ++ y ∷ []) d past ∙ sym (get_or-eq_default xs d le)
             ]
 
-  -- a count where one place changed
+  -- a count when one place changed
   pub count_by-set : (p : A → Bool) (xs : List A) (i : ℕ) (y d : A) → i < length xs
       → count_by p (set xs i y) + (if p (get_or xs i d) then 1 else 0) ≡ count_by p xs + (if p y then 1 else 0)
   count_by-set p xs i y d lt = sum_by-set (λ x. if p x then 1 else 0) xs i y d lt

@@ -42,7 +42,7 @@ module _ {V : Type 0} (f : CoreState V) (o : ℕ) (new : Owner) (within : o < le
     activity = (ap (λ (os : ℕ → Owner). λ q. (os q).activity) owner-set ∙ fun_ext (part-put (owner f) o new (λ p. p.activity))) i;
   }
 
-  -- the drops in flight stay as many where the owner had none and has none
+  -- the drops in flight stay as many if the owner had none and has none
   pub drops-owner : is_dropping (owner f o).activity ≡ is_dropping new.activity
       → drops_in_flight (with_owner f o new) ≡ drops_in_flight f
   drops-owner same =
@@ -50,7 +50,7 @@ module _ {V : Type 0} (f : CoreState V) (o : ℕ) (new : Owner) (within : o < le
       let one : one_if (is_dropping (owner f o).activity) ≡ one_if (is_dropping new.activity) = ap one_if same in
       omega arith
 
-  -- what the clones in flight saw, where the owner's own is settled or saw the word now
+  -- what the clones in flight saw, if the owner's own is settled or saw the word now
   pub seen-owner : (x : Step V) (a : Answer V) (t : Trace V) → Represents f t → owner_of x ≡ o
       → ((h : ℕ) → new.activity ≡ Cloning h → (is_marked_word new.seen ≡ false) × (count_of new.seen ≡ (replay_after (replay t) (situation_of f) x a).lived o))
       → (q h : ℕ) → (owner (with_owner f o new) q).activity ≡ Cloning h
@@ -87,7 +87,7 @@ module _ {V : Type 0} (f : CoreState V) where
   pub mark-is : (t : Trace V) → Represents f t → (b : Bool) → is_marked_word f.word ≡ b → (replay t).machine.mark ≡ b
   mark-is t r b e = sym r.word.same_mark ∙ e
 
-  -- the machine is full exactly where the count of its unmarked word is the limit
+  -- the machine is full exactly if the count of its unmarked word is the limit
   pub is_full-unmarked : (t : Trace V) → Represents f t → is_marked_word f.word ≡ false → (b : Bool)
       → nat_eq (count_of f.word) f.limit ≡ b → is_full (replay t).machine ≡ b
   is_full-unmarked t r unmarked b e =
@@ -128,7 +128,7 @@ module _ {V : Type 0} (f : CoreState V) where
         → StepsTo f (Raise o) Full (with_owner f o idle)
     raise-full says may = moves-settled (Raise o) refl may Full refl refl (λ t r. raise_full o (is_full-unmarked t r says.0 true says.1))
 
-    -- as many handles live as the owner saw exactly where the word is the one that it saw
+    -- as many handles live as the owner saw exactly if the word is the one that it saw
     pub same_number : (may : MayStep f (Cloning h) (Raise o)) (t : Trace V) → Represents f t
         → is_marked_word f.word ≡ false → (b : Bool) → nat_eq f.word (owner f o).seen ≡ b
         → nat_eq (length (replay t).machine.live) ((replay t).lived o) ≡ b
@@ -137,7 +137,7 @@ module _ {V : Type 0} (f : CoreState V) where
         ap (λ n. nat_eq n ((replay t).lived o)) (sym (word-unmarked f.word _ _ _ unmarked r.word))
         ∙ ap (nat_eq f.word) (sym saw.1 ∙ count_of-unmarked (owner f o).seen saw.0) ∙ e
 
-    -- below the limit a raise settles exactly where the word is the one that its owner saw
+    -- below the limit a raise settles exactly if the word is the one that its owner saw
     pub settles-by : (n : ℕ) → ClonePlanSays f.word f.limit (RaisePlan n)
         → (may : MayStep f (Cloning h) (Raise o)) (t : Trace V) → Represents f t → (b : Bool)
         → nat_eq f.word (owner f o).seen ≡ b → raise_settles (replay t) o ≡ b

@@ -34,7 +34,7 @@ module _ {V : Type 0} where
   full-answer r u s a m (raise_loses o lost) read full = absurd (true≢false (sym full ∙ (or_parts _ _ (or_parts _ _ lost).1).0))
   full-answer r u s a m _ read full = absurd (true≢false (sym read))
 
-  -- a clone is refused exactly where its read finds the limit, without a mark
+  -- a clone is refused exactly if its read finds the limit, without a mark
   pub full_exactly_at_limit : (t : Trace V) (s : Step V) (a : Answer V) → IsLegal (Then t s a)
       → (a ≡ Full) ↔ ((permitted (situation t) s ≡ true) × (is_clone_read s ≡ true) × (has_mark t ≡ false) × (length (live_handles t) ≡ limit_of t))
   full_exactly_at_limit t s a legal = (found a legal, refused) where

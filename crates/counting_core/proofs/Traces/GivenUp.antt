@@ -32,11 +32,11 @@ abbrev IsOver : Situation → Type 0
 IsOver u = (h : ℕ) → (u.handle h).lives ≡ false
 
 module _ {V : Type 0} where
-  -- the answer to an end: the value, where the machine has no mark and no handle is left
+  -- the answer to an end: the value, if the machine has no mark and no handle is left
   abbrev pub end_answer : Machine V → Machine V → Answer V
   end_answer m after = if not m.mark && nat_eq (length after.live) 0 then GivenUp m.value else Ended
 
-  -- a live handle is the only one where none is left without it
+  -- a live handle is the only one if none is left without it
   only-last : (hs : ℕ → HandleState) (m : Machine V) → IsCounted hs m → (h : ℕ) → (hs h).lives ≡ true
       → is_only m h ≡ (not m.mark && nat_eq (length (without h m.live)) 0)
   only-last hs m c h lives =
@@ -58,7 +58,7 @@ module _ {V : Type 0} where
   ends-happen Memory e = e
   ends-happen _ e = refl
 
-  -- an end is answered with the value where it was the last one of an unmarked block
+  -- an end is answered with the value if it was the last one of an unmarked block
   pub given_up_by_last_end : (t : Trace V) (s : Step V) (a : Answer V) → IsLegal (Then t s a) → is_end a ≡ true
       → a ≡ end_answer (replay t).machine (replay (Then t s a)).machine
   given_up_by_last_end t s a legal end =

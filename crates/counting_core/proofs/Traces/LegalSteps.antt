@@ -69,7 +69,7 @@ module _ {V : Type 0} where
       → IsLegal (Then t s (due t s)) × ((a : Answer V) → IsLegal (Then t s a) → (a ≡ due t s) ⊎ (a ≡ Memory))
   one_answer t s legal = ((legal, inl refl), λ a other. ⊎_elim inl (λ m. inr m.0) other.1)
 
-  -- and it is Barred exactly where the step is not permitted
+  -- and it is Barred exactly if the step is not permitted
   pub barred_if_not_permitted : (t : Trace V) (s : Step V) (a : Answer V) → IsLegal (Then t s a)
       → (a ≡ Barred) ↔ (permitted (situation t) s ≡ false)
   barred_if_not_permitted t s a legal = (given, refused) where

@@ -42,7 +42,7 @@ holder-is : (k : HandleState) (o : ℕ) → has_alone k o ≡ true → k.holder 
 holder-is k o own = grind arith
 
 module _ {V : Type 0} (core : CoreState V) (t : Trace V) (r : Represents core t) where
-  -- a handle is among the live ones where the core has it live
+  -- a handle is among the live ones if the core has it live
   lives-seen : (h : ℕ) → has h (live_handles t) ≡ (handle core h).lives
   lives-seen h = (counted t r.legal).same h ∙ ap (λ (u : Situation). (u.handle h).lives) (sym r.same_situation)
 
@@ -104,7 +104,7 @@ module _ {V : Type 0} (core : CoreState V) (t : Trace V) (r : Represents core t)
         let count : count_of core.word ≡ length (live_handles t) = r.word.counts_live m in
         omega arith
 
-  -- where a lower is permitted, there is a handle to count
+  -- if a lower is permitted, there is a handle to count
   pub lower_counts : (o : ℕ) → permitted {V = V} (situation t) (Lower o) ≡ true → 1 ≤ count_of core.word
   lower_counts o may = by_activity (owner core o).activity refl parts.1 where
     parts : (nat_lt o (length core.owners) ≡ true) × (permitted_by {V = V} (situation_of core) (owner core o).activity (Lower o) ≡ true)

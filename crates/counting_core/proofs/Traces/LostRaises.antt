@@ -1,4 +1,4 @@
--- Why raises that lose are few. A clone in flight is stale where the live handles are no longer as many as it saw. A
+-- Why raises that lose are few. A clone in flight is stale if the live handles are no longer as many as it saw. A
 -- raise that loses makes one clone fewer stale, and a birth or an end at most those of the other owners.
 use Rattle.std.proofs.Common.{◌≡◌, ℕ, ◌+◌, ◌-◌, ◌*◌, ◌<◌, ◌≤◌, Bool, true, false, not, ◌&&◌, if◌then◌else◌, nat_eq, length, refl, sym, ◌∙◌, ap, ap₂, arith, true≢false, eqb-true, ltb-true, mul-add}
 use Rattle.std.proofs.lemmas.Bool.{and_parts, and_from, and_left, and_right, or_parts}

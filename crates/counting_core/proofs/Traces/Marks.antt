@@ -13,13 +13,13 @@ use Rattle.counting_core.proofs.Traces.LegalSteps.{happens}
 use Rattle.counting_core.proofs.Traces.GivenUp.{given-up}
 
 module _ {V : Type 0} where
-  -- a step marks where it is answered Marked
+  -- a step marks if it is answered Marked
   mark-then : (r : Replay V) (u : Situation) (s : Step V) (a : Answer V) (m : Machine V) → Deed r u s a m
       → m.mark ≡ (is_marked_answer a || r.machine.mark)
   mark-then r u s a m (marks o h) = refl
   mark-then r u s a m _ = refl
 
-  -- a machine is marked where some answer was Marked
+  -- a machine is marked if some answer was Marked
   pub marked_if_answered : (t : Trace V) → IsLegal t → has_mark t ≡ some_answer is_marked_answer t
   marked_if_answered (Open v n limit) legal = refl
   marked_if_answered (Then t s Barred) legal = marked_if_answered t legal.0

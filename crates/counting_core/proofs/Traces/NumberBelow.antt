@@ -20,7 +20,7 @@ number-le f g more (suc n) = by_last (f n) (g n) (more n) (number-le f g more n)
   by_last false true more le = omega arith
   by_last false false more le = omega arith
 
--- and one fewer, where one that passed no longer does
+-- and one fewer, if one that passed no longer does
 pub number-less : (f g : ℕ → Bool) → ((q : ℕ) → f q ≡ true → g q ≡ true) → (o : ℕ) → f o ≡ false → (n : ℕ) → o < n
     → number_below f n + (if g o then 1 else 0) ≤ number_below g n
 number-less f g more o fails zero lt = absurd (omega arith)
@@ -47,12 +47,12 @@ number-less f g more o fails (suc n) lt = by_last (nat_eq o n) refl (f n) refl (
     earlier false fa true gb c so = omega arith
     earlier false fa false gb c so = omega arith
 
--- none pass where the test fails always
+-- none pass if the test fails always
 pub number-none : (n : ℕ) → number_below (λ q. false) n ≡ 0
 number-none zero = refl
 number-none (suc n) = let rest : number_below (λ q. false) n ≡ 0 = number-none n in omega arith
 
--- and all where it never does
+-- and all if it never does
 pub number-all : (n : ℕ) → number_below (λ q. true) n ≡ n
 number-all zero = refl
 number-all (suc n) = let rest : number_below (λ q. true) n ≡ n = number-all n in omega arith

@@ -94,7 +94,7 @@ module _ {V : Type 0} where
     alone-not_sole : (h : ℕ) (k : HandleState) → is_sole k.access ≡ false → SolesAreAlone (put hs h k) m
     alone-not_sole h k other = alone-put h k (not-sole m h k other)
 
-    -- where there is no other sole handle, the machine may change too
+    -- if there is no other sole handle, the machine may change too
     alone-only : (n : Machine V) (h : ℕ) (k : HandleState) → IsAloneIfSole n h k
         → ((g : ℕ) → nat_eq h g ≡ false → (hs g).lives ≡ true → is_sole (hs g).access ≡ true → ⊥)
         → SolesAreAlone (put hs h k) n

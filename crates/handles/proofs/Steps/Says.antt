@@ -1,4 +1,4 @@
--- What the word of a block says, where its mark or its count changes.
+-- What the word of a block says, when its mark or its count changes.
 use Rattle.std.proofs.Common.{◌≡◌, ℕ, ◌≤◌, Bool, true, false, sym, ◌∙◌, subst, le_trans, true≢false}
 use Rattle.counting_word.specs.CountingWord.{count_of, StandsFor}
 use Rattle.handles.specs.Inside.Blocks.{Says}

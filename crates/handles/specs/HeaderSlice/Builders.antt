@@ -15,7 +15,7 @@ module _ {S A : Type 0} (steps : S → Option A → S → Type 0) (source : S) (
   abbrev pub TakesUpTo : S → ItemsInRoom A → Type 0
   TakesUpTo after taken = GivesRight steps source n after taken.items
 
-  -- where memory is refused, the iterator was not asked at all
+  -- if memory is refused, the iterator was not asked at all
   abbrev pub RefusesUpTo : S → BuildError → Type 0
   RefusesUpTo after Memory = after ≡ source
   RefusesUpTo after OverReported = GivesFewer steps source n after

@@ -67,7 +67,7 @@ Says limit w mark n = StandsFor w mark n n × IsWithin w limit
 
 -- `content` is what is lent for the lifetime of the sharing, and `kept` what stays in the invariant beside the word.
 module _ (content kept : Fml) (limit b o : ℕ) (i : Names) where
-  -- what the invariant has where n parts are counted. With the mark one more part is gone for good: it is the pool,
+  -- what the invariant has when n parts are counted. With the mark one more part is gone for good: it is the pool,
   -- from which new handles are made.
   abbrev pub beside_word : Bool → ℕ → Fml
   beside_word false n = fsep (rest 64 i.shared n)

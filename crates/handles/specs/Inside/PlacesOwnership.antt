@@ -26,7 +26,7 @@ module _ (R : RattleType) where
   abbrev pub spare : Ptr → ℕ → ℕ → Fml
   spare p filled room = room_for (array_of R (room - filled)) (p +ₚ filled * type_size R)
 
-  -- there is a block to give back where the places take bytes
+  -- there is a block to give back if the places take bytes
   abbrev pub gives_back : Ptr → ℕ → Fml
   gives_back p room = owns_if (not (room * type_size R == 0)) (right_to_free (array_of R room) p)
 

@@ -6,7 +6,7 @@ use std::fmt::{Debug, Display, Formatter, Write};
 use std::hash::{Hash, Hasher};
 use std::ops::Deref;
 
-/// Asks the values, also where both are handles of one block.
+/// Asks the values, also if both are handles of one block.
 impl<T: Send + Sync + PartialEq> PartialEq for Arc<T> {
     ghost eq = { T.eq };
 

@@ -5,7 +5,7 @@ use super::Arc;
 use std::alloc::Global;
 
 impl<T: Send + Sync + Drop> Arc<T> {
-    /// A handle of a default. The one that was made comes back where there is no memory for the block.
+    /// A handle of a default. The one that was made comes back if there is no memory for the block.
     pub fn try_default(alloc: Global) -> Result<Arc<T>, T>
     where
         T: Default,

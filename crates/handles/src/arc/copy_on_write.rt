@@ -8,7 +8,7 @@ use std::alloc::{AllocError, Global};
 impl<T: Send + Sync> Arc<T> {
     ghost use Rattle.handles.specs.WriteBack.{LendsIfAlone, LendsOwn};
 
-    /// The value, to write to, where this is the only handle of an unmarked block.
+    /// The value, to write to, if this is the only handle of an unmarked block.
     #[inline]
     pub fn get_mut(this: &mut Arc<T>) -> Option<&mut T>
         ensures* writes_back { sem 𝓛 (LendsIfAlone T.row this.entry result) }
@@ -17,10 +17,10 @@ impl<T: Send + Sync> Arc<T> {
         this.handle.get_mut()
     }
 
-    /// The value, to write to. Where the block has other handles or is marked, it is copied into a new block first, and
+    /// The value, to write to. If the block has other handles or is marked, it is copied into a new block first, and
     /// this handle is then the only one of that block.
     ///
-    /// Refused where there is no memory for the block, or where the value's own `clone` is refused. The handle is then
+    /// Refused if there is no memory for the block, or if the value's own `clone` is refused. The handle is then
     /// as it was.
     pub fn make_mut(this: &mut Arc<T>, alloc: Global) -> Result<&mut T, AllocError>
     where

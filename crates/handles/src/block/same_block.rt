@@ -2,8 +2,8 @@
 // added to the stamp through one handle is seen through the other, if they have one block.
 //
 // A stamp that stays as it is says that the blocks are two. One that moves by exactly what was added is a sign of one
-// block. Where no other thread asks the same of either block meanwhile, nothing else can happen, and the answer is
-// exact. Where one does, the answer may be wrong either way: what that thread adds may hide what was added here, or
+// block. If no other thread asks the same of either block meanwhile, nothing else can happen, and the answer is
+// exact. If one does, the answer may be wrong either way: what that thread adds may hide what was added here, or
 // look like it. So several signs have to come in a row, by amounts that differ from each round to the next. That makes
 // a wrong `true` less likely, and does not rule it out: two threads that compare two blocks from opposite ends in step
 // see what one thread sees on one block.
@@ -16,7 +16,7 @@ const SIGNS: u8 = 4;
 const MOST_ROUNDS: u8 = 64;
 
 impl<T> Handle<T> {
-    // It errs to `false` where other threads keep it from an answer through all rounds.
+    // It errs to `false` if other threads keep it from an answer through all rounds.
     pub(crate) fn has_block_of(&self, other: &Handle<T>) -> bool
         requires { (self.now.sole ≡ false) × (other.now.sole ≡ false) }
     {

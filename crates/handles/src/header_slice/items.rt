@@ -23,7 +23,7 @@ impl<T> Model for Items<T> {
 impl<T> Items<T> {
     ghost use Rattle.handles.specs.Inside.ItemsLending.{LendsItemsInRoom};
 
-    // Asks for no memory where there is no room or the items have no size.
+    // Asks for no memory if there is no room or the items have no size.
     pub(super) fn with_room(alloc: Global, room: usize) -> Result<Items<T>, AllocError>
         ensures { IfOk result (λ i. (i.items ≡ []) × (i.room ≡ room)) }
     {

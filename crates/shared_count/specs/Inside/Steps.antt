@@ -85,7 +85,7 @@ TellsMark st = Tells Whole (λ x found. Made x Mark)
 abbrev pub TellsClone : Step (Unit {0}) → SeatState → ℕ → SeatState → Type 0
 TellsClone st = Tells Whole (λ x found. Judged x (clone_plan found greatest_count) found)
 
--- a raise wins where it finds the word that it expects, and else is judged by the word that it found
+-- a raise wins if it finds the word that it expects, and else is judged by the word that it found
 abbrev pub TellsRaise : Step (Unit {0}) → SeatState → ℕ → SeatState → Type 0
 TellsRaise st = Tells Whole (λ x found m.
     (found ≡ st.first → Made x (Clone Born) m)

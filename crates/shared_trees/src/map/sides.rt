@@ -7,7 +7,7 @@ use super::fork::Fork;
 use servo_arc::Arc;
 use std::alloc::AllocError;
 
-// The trees on the two sides of an entry. One tag tells which are there, where two `Option`s would take a word each.
+// The trees on the two sides of an entry. One tag tells which are there; two `Option`s would take a word each.
 #[cycle(map)]
 #[derive(Drop)]
 pub(super) enum Sides<V: Send + Sync> {

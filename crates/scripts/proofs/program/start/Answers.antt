@@ -6,7 +6,7 @@ use Rattle.scripts.proofs.Showing.{did_nothing}
 use Rattle.scripts.proofs.Stops.{memory_is_stop}
 use Rattle.scripts.proofs.program.start.Goals as goal
 
--- where memory for the arguments is refused, nothing that they may have asked for was done
+-- if memory for the arguments is refused, nothing that they may have asked for was done
 pub returns-in-Err-clause-wrote : goal.returns-in-Err-clause-wrote
 returns-in-Err-clause-wrote g c =
     let words = codes "core" ∷ decimal 1 ∷ [] in

@@ -16,7 +16,7 @@ load-word-requires c =
     (TellsClone (step shared.table_id.slots 0 0 0 none)) c.self.view_is c.self.invariant c.requires.table
     c.requires.pass (begins_clone shared.key shared.table_id.slots seat.id)
 
--- the read, where it leaves the clone half done
+-- the read, if it leaves the clone half done
 read : (c : goal.After-raise_with-arg-1)
     → Counted (pass_at c.args.seat.now.me) c.load-word.result c.load-word.new.seat.me
 read c = let x = pass_at c.args.seat.now.me in

@@ -1,4 +1,4 @@
--- `give_back` makes room of the places, and where they take bytes their block goes back.
+-- `give_back` makes room of the places, and if they take bytes their block goes back.
 use Rattle.handles.proofs.PlacesWalks.{◌≡◌, ℕ, ◌+◌, ◌-◌, ◌^◌, ◌<◌, Bool, List, [], ◌∷◌, refl, sym, ap, ◌∙◌, subst, arith, w64, a_type, named, Val, vint, vptr, vunit, inst_fn, SProp, Lft, Share, ftrue, flft, ‵, raw, ◌⊛◌, given, later, at_ret, ◌$◌, ◌∵◌, !, qed, by, move, keep, drop, split, join, fsplit, fsplit3, fjoin3, learn, use1, use2, use3, await, rewrite, feq_i, flt_l, unit_lit, stop, fld, lit, of_opd, no_more, and_then, first, blocks, exec, returns, enter, alloc_all, pass_all, free_all, look_at, get, get_in, sets, lands_last, is, env, sub, whole, tables, fact, yes, no, RattleType, owns, types_at, plain, Ptr, block_ptr, ptr_val, nothing_more, heard, param, layouts, param_laws, RefOf, shr_vals, shr_Tells, Stays, stay_dropped, walk_of, Goes-dropped, after, proved, leaves, fm, heap, spared, run_framed, ⊑_static, Global, Goes-blank, elτ, sz, uncapped, LeavingRow, leaving-Good, leaving_val, none_at_null, right_to_free, leaving_own, ◌*◌, as_raw, as_written, owns_if, froom, in_a_block, length, ty_array, capped_fits, align, capped, align_word, bin, size_word}
 use lib.Dec.{T as Holds}
 use mir.Raw.{raw as bare}

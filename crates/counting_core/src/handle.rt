@@ -31,7 +31,12 @@ impl Model for Handle {
 
     ghost Value = { HandleState };
 
-    ghost view = { λ h. record { lives = h.lives; holder = h.holder; borrowers = h.borrowers.keys; access = h.access } };
+    ghost view = { λ h. record {
+      lives = h.lives;
+      holder = h.holder;
+      borrowers = h.borrowers.keys;
+      access = h.access;
+    } };
 }
 
 impl Handle {

@@ -16,7 +16,8 @@ impl History {
     /// Sets an item, and keeps the version before.
     pub fn set(&mut self, alloc: Global, i: usize, value: u32) -> Result<(), SetError>
         ensures set { OnOk result (self.new.now ≡ slice_set self.old.now i value) }
-        ensures kept { OnOk result (self.new.before.items ≡ self.old.before.items ++ self.old.now ∷ []) }
+        ensures kept { OnOk result (
+            self.new.before.items ≡ self.old.before.items ++ self.old.now ∷ []) }
         ensures err { OnErr result (self.new.now ≡ self.old.now) }
         ensures err_before { OnErr result (self.new.before.items ≡ self.old.before.items) }
     {
@@ -30,7 +31,8 @@ impl History {
     /// Goes back to the version before, if there is one.
     pub fn undo(&mut self) -> bool
         ensures there { IsTrue result ↔ (0 < length self.old.before.items) }
-        ensures back { OnTrue result (self.old.before.items ≡ self.new.before.items ++ self.new.now ∷ []) }
+        ensures back { OnTrue result (
+            self.old.before.items ≡ self.new.before.items ++ self.new.now ∷ []) }
     {
         match self.before.pop() {
             Some(version) => {

@@ -8,13 +8,11 @@ mod fault;
 mod header;
 mod lists;
 mod made;
-mod random;
 mod read;
 mod threads;
 mod trees;
 mod union;
 mod versions;
-mod workload;
 mod written;
 
 use fault::Fault;
@@ -24,7 +22,7 @@ use std::env::Env;
 use std::process::ExitCode;
 use std::sync::Wait;
 use std::thread::Threads;
-use workload::Workload;
+use workloads::Workload;
 
 /// What the words after the program's own name ask for.
 fn request(rt: &impl Env, alloc: Global) -> Result<(Workload, u64), Fault> {

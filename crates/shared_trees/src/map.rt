@@ -105,8 +105,7 @@ impl<V: Send + Sync + Clone> TreeMap<V> {
     /// The map with the value under the key. The map itself stays.
     ///
     /// It makes a node for each on the path to the key, and shares all others. It is refused if there is no memory, if
-    /// the
-    /// `clone` of a value or of a handle is, and at `usize::MAX` entries. Then the value is dropped.
+    /// the `clone` of a value or of a handle is, and at `usize::MAX` entries. Then the value is dropped.
     #[tactic(auto, using(crate::proofs::Rising::inserting))]
     pub fn insert(&self, alloc: Global, key: u64, value: V) -> Result<TreeMap<V>, AllocError>
         requires copies { CopiesAreEqual V.is_clone }

@@ -1,12 +1,12 @@
 -- How the workloads are called.
 use Rattle.std.specs.Prelude.{ℕ, List, codes}
-use Rattle.arcspeed.specs.declared.workload.Workload.{Workload}
-use Rattle.arcspeed.specs.declared.workload.Workload.TheVariants.{NewDrop, Replace, CloneDrop, CloneHold}
-use Rattle.arcspeed.specs.declared.workload.Workload.TheVariants.{DerefSum, MakeMutUnique, MakeMutShared, GetMutUnique}
-use Rattle.arcspeed.specs.declared.workload.Workload.TheVariants.{Contend1, Contend2, Contend4, HeaderBuild}
-use Rattle.arcspeed.specs.declared.workload.Workload.TheVariants.{HeaderSum, MarkedClone, MarkedClone4, UnionClone}
-use Rattle.arcspeed.specs.declared.workload.Workload.TheVariants.{CowVersion, CowSet, CowGet, TreeInsert}
-use Rattle.arcspeed.specs.declared.workload.Workload.TheVariants.{TreeGet, ListBuild, ListWalk}
+use Rattle.workloads.specs.declared.workload.Workload.{Workload}
+use Rattle.workloads.specs.declared.workload.Workload.TheVariants.{NewDrop, Replace, CloneDrop, CloneHold}
+use Rattle.workloads.specs.declared.workload.Workload.TheVariants.{DerefSum, MakeMutUnique, MakeMutShared, GetMutUnique}
+use Rattle.workloads.specs.declared.workload.Workload.TheVariants.{Contend1, Contend2, Contend4, HeaderBuild}
+use Rattle.workloads.specs.declared.workload.Workload.TheVariants.{HeaderSum, MarkedClone, MarkedClone4, UnionClone}
+use Rattle.workloads.specs.declared.workload.Workload.TheVariants.{CowVersion, CowSet, CowGet, TreeInsert}
+use Rattle.workloads.specs.declared.workload.Workload.TheVariants.{TreeGet, ListBuild, ListWalk}
 
 abbrev pub name_of : Workload → List ℕ
 name_of NewDrop = codes "new-drop"

@@ -2,7 +2,7 @@
 ghost use Rattle.std.specs.Prelude.{◌≡◌, ◌≢◌, IfSome, IfNone};
 
 /// A workload, named after the calls that it repeats.
-#[derive(Clone, Copy, Debug, PartialEq, Eq)]
+#[derive(Clone, Copy)]
 pub enum Workload {
     NewDrop,
     Replace,
@@ -30,7 +30,7 @@ pub enum Workload {
 }
 
 impl Workload {
-    ghost use Rattle.arcspeed.specs.Names.{name_of};
+    ghost use Rattle.workloads.specs.Names.{name_of};
 
     /// The workload of that name.
     pub fn named(name: &str) -> Option<Workload>

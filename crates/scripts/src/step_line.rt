@@ -1,7 +1,8 @@
 //! The lines of a core's script: each is a step.
-ghost use Rattle.std.specs.Prelude.{ℕ, IfSome, IfNone};
+ghost use Rattle.std.specs.Prelude.{ℕ, ◌<◌, ◌^◌, IfSome, IfNone};
 ghost use Rattle.counting_core.specs.declared.step.Step.{Step as CoreStep};
 ghost use Rattle.scripts.specs.Line.{AreInRange, Says, SaysNothing, Writes};
+ghost use Rattle.scripts.specs.declared.line.Numbers.TheVariants.{One, Two, Three};
 ghost use Rattle.scripts.specs.StepLine.{step_line};
 
 use crate::line::Numbers::{One, Three, Two};
@@ -22,28 +23,69 @@ fn step_of(line: Line<'_>) -> Option<Step<u32>>
     ensures none { IfNone result ((step : CoreStep ℕ)
         → ¬ (Writes step_line line.entry.word.now line.entry.numbers step)) }
 {
-    Some(match (line.word, line.numbers) {
-        (b"clone", Two(owner, handle)) => Step::Clone { owner, handle },
-        (b"raise", One(owner)) => Step::Raise { owner },
-        (b"quit", One(owner)) => Step::Quit { owner },
-        (b"drop", Two(owner, handle)) => Step::Drop { owner, handle },
-        (b"lower", One(owner)) => Step::Lower { owner },
-        (b"mark", Two(owner, handle)) => Step::Mark { owner, handle },
-        (b"unique", Two(owner, handle)) => Step::Unique { owner, handle },
-        (b"static", Two(owner, handle)) => Step::Static { owner, handle },
-        (b"getmut", Two(owner, handle)) => Step::GetMut { owner, handle },
-        (b"write", Three(owner, handle, value)) => Step::Write {
+    match line.numbers {
+        One(owner) => step_of_owner(line.word, owner),
+        Two(owner, handle) => step_on_handle(line.word, owner, handle),
+        Three(owner, handle, third) => step_with_third(line.word, owner, handle, third),
+    }
+}
+
+fn step_of_owner(word: &[u8], owner: usize) -> Option<Step<u32>>
+    ensures step { IfSome result (Writes step_line word.now (One owner)) }
+    ensures none { IfNone result ((step : CoreStep ℕ)
+        → ¬ (Writes step_line word.now (One owner) step)) }
+{
+    Some(match word {
+        b"raise" => Step::Raise { owner },
+        b"quit" => Step::Quit { owner },
+        b"lower" => Step::Lower { owner },
+        _ => return None,
+    })
+}
+
+fn step_on_handle(word: &[u8], owner: usize, handle: usize) -> Option<Step<u32>>
+    ensures step { IfSome result (Writes step_line word.now (Two owner handle)) }
+    ensures none { IfNone result ((step : CoreStep ℕ)
+        → ¬ (Writes step_line word.now (Two owner handle) step)) }
+{
+    Some(match word {
+        b"clone" => Step::Clone { owner, handle },
+        b"drop" => Step::Drop { owner, handle },
+        b"mark" => Step::Mark { owner, handle },
+        b"unique" => Step::Unique { owner, handle },
+        b"static" => Step::Static { owner, handle },
+        b"getmut" => Step::GetMut { owner, handle },
+        b"endwrite" => Step::EndWrite { owner, handle },
+        b"intounique" => Step::IntoUnique { owner, handle },
+        b"share" => Step::Share { owner, handle },
+        b"load" => Step::Load { owner, handle },
+        b"return" => Step::Return { owner, handle },
+        _ => return None,
+    })
+}
+
+fn step_with_third(word: &[u8], owner: usize, handle: usize, third: usize) -> Option<Step<u32>>
+    requires { third < 2 ^ 32 }
+    ensures step { IfSome result (Writes step_line word.now (Three owner handle third)) }
+    ensures none { IfNone result ((step : CoreStep ℕ)
+        → ¬ (Writes step_line word.now (Three owner handle third) step)) }
+{
+    Some(match word {
+        b"write" => Step::Write {
             owner,
             handle,
-            value: value as u32,
+            value: third as u32,
         },
-        (b"endwrite", Two(owner, handle)) => Step::EndWrite { owner, handle },
-        (b"intounique", Two(owner, handle)) => Step::IntoUnique { owner, handle },
-        (b"share", Two(owner, handle)) => Step::Share { owner, handle },
-        (b"load", Two(owner, handle)) => Step::Load { owner, handle },
-        (b"lend", Three(owner, handle, to)) => Step::Lend { owner, handle, to },
-        (b"return", Two(owner, handle)) => Step::Return { owner, handle },
-        (b"give", Three(owner, handle, to)) => Step::Give { owner, handle, to },
+        b"lend" => Step::Lend {
+            owner,
+            handle,
+            to: third,
+        },
+        b"give" => Step::Give {
+            owner,
+            handle,
+            to: third,
+        },
         _ => return None,
     })
 }

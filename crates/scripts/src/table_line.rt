@@ -1,10 +1,11 @@
 //! The lines of a table's script: each is a command, or asks what a slot reads.
-ghost use Rattle.std.specs.Prelude.{IfSome, IfNone};
+ghost use Rattle.std.specs.Prelude.{◌<◌, ◌^◌, IfSome, IfNone};
 ghost use Rattle.scripts.specs.declared.table_line.TableLine.{TableLine as Asked};
+ghost use Rattle.scripts.specs.declared.line.Numbers.TheVariants.{One, Two};
 ghost use Rattle.scripts.specs.Line.{AreInRange, Says, SaysNothing, Writes};
 ghost use Rattle.scripts.specs.TableLine.{table_line};
 
-use crate::line::Numbers::{One, Two};
+use crate::line::Numbers::{One, Three, Two};
 use crate::line::{Line, read_line};
 use handle_tables::table::Command;
 
@@ -29,19 +30,43 @@ fn asked_by(line: Line<'_>) -> Option<TableLine>
     ensures none { IfNone result ((asked : Asked)
         → ¬ (Writes table_line line.entry.word.now line.entry.numbers asked)) }
 {
-    let command = match (line.word, line.numbers) {
-        (b"get", One(slot)) => return Some(TableLine::Get(slot)),
-        (b"new", Two(slot, value)) => Command::New(slot, value as u32),
-        (b"clone", Two(slot, other)) => Command::Clone(slot, other),
-        (b"drop", One(slot)) => Command::Drop(slot),
-        (b"getmut", Two(slot, value)) => Command::GetMut(slot, value as u32),
-        (b"intounique", Two(slot, value)) => Command::IntoUnique(slot, value as u32),
-        (b"makemut", Two(slot, value)) => Command::MakeMut(slot, value as u32),
-        (b"own", One(slot)) => Command::Own(slot),
-        (b"mark", One(slot)) => Command::Mark(slot),
-        (b"raw", One(slot)) => Command::Raw(slot),
-        (b"ptreq", Two(slot, other)) => Command::PtrEq(slot, other),
-        (b"same", Two(slot, other)) => Command::Same(slot, other),
+    match line.numbers {
+        One(slot) => asked_of_slot(line.word, slot),
+        Two(slot, second) => asked_with_second(line.word, slot, second),
+        Three(..) => None,
+    }
+}
+
+fn asked_of_slot(word: &[u8], slot: usize) -> Option<TableLine>
+    ensures line { IfSome result (Writes table_line word.now (One slot)) }
+    ensures none { IfNone result ((asked : Asked)
+        → ¬ (Writes table_line word.now (One slot) asked)) }
+{
+    let command = match word {
+        b"get" => return Some(TableLine::Get(slot)),
+        b"drop" => Command::Drop(slot),
+        b"own" => Command::Own(slot),
+        b"mark" => Command::Mark(slot),
+        b"raw" => Command::Raw(slot),
+        _ => return None,
+    };
+    Some(TableLine::Serve(command))
+}
+
+fn asked_with_second(word: &[u8], slot: usize, second: usize) -> Option<TableLine>
+    requires { second < 2 ^ 32 }
+    ensures line { IfSome result (Writes table_line word.now (Two slot second)) }
+    ensures none { IfNone result ((asked : Asked)
+        → ¬ (Writes table_line word.now (Two slot second) asked)) }
+{
+    let command = match word {
+        b"new" => Command::New(slot, second as u32),
+        b"clone" => Command::Clone(slot, second),
+        b"getmut" => Command::GetMut(slot, second as u32),
+        b"intounique" => Command::IntoUnique(slot, second as u32),
+        b"makemut" => Command::MakeMut(slot, second as u32),
+        b"ptreq" => Command::PtrEq(slot, second),
+        b"same" => Command::Same(slot, second),
         _ => return None,
     };
     Some(TableLine::Serve(command))

@@ -9,7 +9,8 @@ changes a clause is tried alone; and one that leaves no goal open in one of its 
     gate/faults.py                 tries all faults, and says how many a clause refuses
     gate/faults.py NAME[/EDIT]..   tries those of a crate, or one of them, and says which goals each leaves open
 
-The crates without faults are proved first, in their folders out/, and each check begins with these proofs.
+The crates without faults are proved first, in their folders out/, and each check begins with these proofs. Of a crate on
+which no other stands, only the modules of its faults are proved, if the faults change bodies alone.
 """
 
 import os
@@ -21,12 +22,14 @@ import tempfile
 import time
 from concurrent.futures import ThreadPoolExecutor, as_completed
 from dataclasses import dataclass, field
+from functools import cache
 
 ROOT = os.path.dirname(os.path.dirname(os.path.abspath(__file__)))
 HEAD = re.compile(r"( *)(?:pub(?:\([a-z]+\))? )?(?:const )?(?:unsafe )?fn (\w+)")
 ADDED = re.compile(r" *(?:pub(?:\([a-z]+\))? )?fn (\w+)")
 TOLD = re.compile(r"(note: )?(?:\./)?((?:src|specs|proofs)/[^:\s]+):(\d+):\d+: (?!note)(.*)")
 ENDLESS = re.compile(r"fn \w+::(\S+): (no proof: expected .*)")  # a loop or recursion that nobody shows to end
+VERDICT = re.compile(r"^(logic=proved|logic=not-proved|only=(\d+) proved=(\d+)$)", re.M)
 CLAUSE = re.compile(r"\b(?:ensures|requires|ghost)\b")
 UNREAD = re.compile(r"is not in scope|has no field|is no name|operand is missing|expected the end|cannot continue")
 AT_ONCE = min(4, os.cpu_count())
@@ -152,6 +155,7 @@ def together(faults):
     return parts
 
 
+@cache
 def dependencies():
     """The crates, and by each those that it stands on."""
     lines = (it.split("#")[0] for it in text_of(f"{ROOT}/crates.txt").split("\n") if ":" in it)
@@ -159,8 +163,24 @@ def dependencies():
     return {crate: [it for it in below if it in heads] for crate, below in heads.items()}
 
 
-def all_below(crate, below):
-    return {it for one in below[crate] for it in (one, *all_below(one, below))}
+def all_below(crate):
+    return {it for one in dependencies()[crate] for it in (one, *all_below(one))}
+
+
+@cache
+def enough(crate):
+    """The flags by which a check reads no more of the crate than its faults need."""
+    crates, faults = wanted([]), []
+    if any(crate in all_below(it) for it in crates):
+        return []
+    for name in crates[crate]:
+        try:
+            faults.append(read_fault(crate, name))
+        except BadFault:
+            pass  # which is told when the faults are parted
+    modules = {path.removeprefix("src/").removesuffix(".rt").replace("/", "::") for it in faults for path, _ in it.lines}
+    is_whole = any(it.heads for it in faults) or not modules.isdisjoint(("lib", "main"))
+    return [] if is_whole else [word for it in sorted(modules) for word in ("--only", it)]
 
 
 def copy_or_link(source, to):
@@ -176,9 +196,8 @@ def copied_to(room, crate):
     for name in ("crates.txt", "HANDLES"):
         shutil.copy(f"{ROOT}/{name}", room)
     os.mkdir(f"{room}/.git")  # the top of a repository
-    below = dependencies()
-    for name in below:
-        is_needed = name == crate or name in all_below(crate, below)
+    for name in dependencies():
+        is_needed = name == crate or name in all_below(crate)
         left_out = shutil.ignore_patterns("must-fail", *([] if is_needed else ["out"]))
         shutil.copytree(f"{ROOT}/crates/{name}", f"{room}/crates/{name}", ignore=left_out, copy_function=copy_or_link)
     return f"{room}/crates/{crate}"
@@ -201,11 +220,12 @@ def check(crate, faults):
         plant(folder, faults)
         how = {"stdin": subprocess.DEVNULL, "stdout": subprocess.PIPE, "stderr": subprocess.STDOUT, "text": True, "errors": "replace"}
         # Several run at once, and after a small change more jobs only take more time.
-        said = subprocess.run(["rt", "check", "--jobs", "1"], cwd=folder, **how).stdout
-    if "\nlogic=proved" in said:
-        return True, []
-    if "\nlogic=not-proved" not in said:
+        said = subprocess.run(["rt", "check", "--jobs", "1", *enough(crate)], cwd=folder, **how).stdout
+    verdict = VERDICT.search(said)
+    if not verdict:
         return False, [(None, 0, said[-600:])]
+    if verdict[1] == "logic=proved" or verdict[2] and verdict[2] == verdict[3]:
+        return True, []
     told = [(it[2], int(it[3]) - 1, it[4]) for it in map(TOLD.match, said.split("\n")) if it]
     endless = [(f"proofs/{it[1].replace('::', '/')}/Invariants.antt", 0, it[2]) for it in map(ENDLESS.match, said.split("\n")) if it]
     return False, told + endless
@@ -258,10 +278,32 @@ def try_part(part):
 
 def is_proved(crate):
     """Whether the crate itself is proved, which leaves its proofs in its folder out/ for the copies."""
-    print(f"{crate}: {len(wanted([crate])[crate])} faults, first the crate without them", flush=True)
-    folder = f"{ROOT}/crates/{crate}"
-    verb = "lib" if os.path.isfile(f"{folder}/src/lib.rt") else "check"  # which leaves a library for the crates above, too
-    return subprocess.run(["rt", verb], cwd=folder, stdin=subprocess.DEVNULL, stdout=subprocess.DEVNULL, stderr=subprocess.STDOUT).returncode == 0
+    started, is_library = time.time(), os.path.isfile(f"{ROOT}/crates/{crate}/src/lib.rt")
+    verb = "lib" if is_library and not enough(crate) else "check"  # the first leaves a library for the crates above, too
+    with tempfile.TemporaryDirectory(prefix="proofs-", dir=f"{ROOT}/out") as room:
+        folder = copied_to(room, crate)  # since a check holds the folders of all crates below
+        how = {"stdin": subprocess.DEVNULL, "stdout": subprocess.DEVNULL, "stderr": subprocess.STDOUT}
+        if subprocess.run(["rt", verb, "--jobs", "1", *enough(crate)], cwd=folder, **how).returncode:
+            return False
+        shutil.rmtree(f"{ROOT}/crates/{crate}/out", ignore_errors=True)
+        os.rename(f"{folder}/out", f"{ROOT}/crates/{crate}/out")
+    print(f"{crate}: proved, {time.time() - started:.0f} s", flush=True)
+    return True
+
+
+def prove_all(crates):
+    """Proves crates and those that they stand on, several at once, and gives those that are not proved."""
+    needed = {it for crate in crates for it in (crate, *all_below(crate))}
+    proved = {}
+
+    def prove(crate):
+        return all(proved[it].result() for it in dependencies()[crate]) and is_proved(crate)
+
+    with ThreadPoolExecutor(AT_ONCE) as pool:
+        # The lowest first, so that none waits for one behind it.
+        for crate in sorted(needed, key=lambda it: len(all_below(it))):
+            proved[crate] = pool.submit(prove, crate)
+    return [it for it in sorted(needed) if not proved[it].result()]
 
 
 def parts_of(crate, names):
@@ -303,12 +345,12 @@ def wanted(words):
 
 def main(words):
     faults = wanted(words)
-    # One after another, since they stand on each other.
-    unproved = [crate for crate in faults if not is_proved(crate)]
+    os.makedirs(f"{ROOT}/out", exist_ok=True)
+    print(f"{sum(map(len, faults.values()))} faults of {len(faults)} crates, first the crates without them", flush=True)
+    unproved = prove_all(faults)
     if unproved:
         print(f"faults: not tried, since these are not proved without them: {' '.join(unproved)}")
         return True
-    os.makedirs(f"{ROOT}/out", exist_ok=True)
     verdicts = try_all(faults)
     for name, verdict in sorted(verdicts.items()):
         if words or not verdict.is_refused or not verdict.by_clause:

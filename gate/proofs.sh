@@ -10,5 +10,8 @@ copy=$(mktemp -d)
 trap 'rm -rf "$copy"' EXIT
 tar -c --exclude=./.git --exclude=out --exclude=must-fail . | tar -x -C "$copy"
 cd "$copy"
+# As many checks at once as there are processors and memory for, and one job for each: several jobs of a check do part of
+# its work more than once.
+export RT_JOBS=$(awk -v most="$(nproc)" '/^MemAvailable/ { n = int($2 / 3e6); print n < 1 ? 1 : n < most ? n : most }' /proc/meminfo)
 rt ci
 [[ -z $folder ]] || cp crates/refusal_tests/out/refusal_tests_tests "$folder"

@@ -1,15 +1,12 @@
 -- What a command may change: nothing, or the one slot that it writes.
 use Rattle.std.proofs.Common.{◌≡◌, ◌≢◌, ◌⊎◌, inl, inr, ⊎_elim, ℕ, zero, suc, Bool, true, false, List, [], ◌∷◌, Option, Some, None, length, slice_get, slice_set, refl, ◌∙◌, ap}
 use Rattle.std.proofs.lemmas.List.{length-set}
-use Rattle.handles.specs.Unions.{Union, First, Second, is_first, is_second, union_eq}
 use Rattle.handle_tables.specs.declared.commands.Command.TheVariants.{New, Clone, Drop, GetMut, IntoUnique, MakeMut, Own, Mark, Raw, PtrEq, Same}
 use Rattle.handle_tables.specs.declared.commands.Reply.{Reply}
 use Rattle.handle_tables.specs.declared.commands.Reply.TheVariants.{Done, Is, Shared, Empty, NoSlot, Refused}
-use Rattle.handle_tables.specs.declared.union_commands.UnionCommand.TheVariants as union
 use Rattle.handle_tables.specs.PlainTable.{Slots, Outcome, Meaning, stays, sets, empties, if_there, if_filled, at, reading, command_of, outcomes_of, plain_outcomes_of}
-use Rattle.handle_tables.specs.PlainUnionTable.{of_one_block, union_outcomes_of}
 use Rattle.handle_tables.specs.Runs.{IsAmong}
-use Rattle.handle_tables.specs.TableLaws.{written, plain_written, union_written, NumberOfSlotsStays, OtherSlotsStay, OnlyDoneChanges}
+use Rattle.handle_tables.specs.TableLaws.{written, plain_written, NumberOfSlotsStays, OtherSlotsStay, OnlyDoneChanges}
 
 module _ {V : Type 0} where
   get-set_other : (slots : Slots V) (i k : ℕ) (slot : Option V) → i ≢ k → slice_get (slice_set slots i slot) k ≡ slice_get slots k
@@ -20,29 +17,29 @@ module _ {V : Type 0} where
   get-set_other (x ∷ xs) (suc i) (suc k) slot other = get-set_other xs i k slot (λ e. other (ap suc e))
 
   -- the slots stay, or the written one is set
-  record Sets (old : Slots V) (target : Option ℕ) (reply : Reply) (new : Slots V) : Type 0 where
+  pub record Sets (old : Slots V) (target : Option ℕ) (reply : Reply) (new : Slots V) : Type 0 where
     slot : ℕ
     is_target : target ≡ Some slot
     is_done : reply ≡ Done
     value : Option V
     is_set : new ≡ slice_set old slot value
 
-  record Changes (old : Slots V) (target : Option ℕ) (outcomes : List (Outcome V)) : Type 0 where
+  pub record Changes (old : Slots V) (target : Option ℕ) (outcomes : List (Outcome V)) : Type 0 where
     by : (reply : Reply) (new : Slots V) → IsAmong outcomes reply new → (new ≡ old) ⊎ Sets old target reply new
 
-  stay : (old : Slots V) (target : Option ℕ) (reply : Reply) → Changes old target (stays old reply ∷ [])
+  pub stay : (old : Slots V) (target : Option ℕ) (reply : Reply) → Changes old target (stays old reply ∷ [])
   stay old target r = record { by = λ reply new. ⊎_elim (λ is. inl is.1) (λ never. absurd never) }
 
-  two_stay : (old : Slots V) (target : Option ℕ) (reply other : Reply) → Changes old target (stays old reply ∷ stays old other ∷ [])
+  pub two_stay : (old : Slots V) (target : Option ℕ) (reply other : Reply) → Changes old target (stays old reply ∷ stays old other ∷ [])
   two_stay old target r s = record { by = λ reply new. ⊎_elim (λ is. inl is.1) ((stay old target s).by reply new) }
 
   set : (old : Slots V) (i : ℕ) (slot : Option V) (reply : Reply) (new : Slots V) → (reply ≡ Done) × (new ≡ slice_set old i slot) → Sets old (Some i) reply new
   set old i slot reply new is = record { slot = i; is_target = refl; is_done = is.0; value = slot; is_set = is.1 }
 
-  empty : (old : Slots V) (i : ℕ) → Changes old (Some i) (empties old i ∷ [])
+  pub empty : (old : Slots V) (i : ℕ) → Changes old (Some i) (empties old i ∷ [])
   empty old i = record { by = λ reply new. ⊎_elim (λ is. inr (set old i None reply new is)) (λ never. absurd never) }
 
-  set_or : (old : Slots V) (i : ℕ) (value : V) (refused : Reply) → Changes old (Some i) (sets old i value ∷ stays old refused ∷ [])
+  pub set_or : (old : Slots V) (i : ℕ) (value : V) (refused : Reply) → Changes old (Some i) (sets old i value ∷ stays old refused ∷ [])
   set_or old i value r = record { by = λ reply new. ⊎_elim (λ is. inr (set old i (Some value) reply new is)) ((stay old (Some i) r).by reply new) }
 
   there : (old : Slots V) (target : Option ℕ) (outcomes : List (Outcome V)) → Changes old target outcomes → (found : Option (Option V)) → Changes old target (if_there old found outcomes)
@@ -54,14 +51,14 @@ module _ {V : Type 0} where
   filled old target outcomes rest (Some None) = stay old target Empty
   filled old target outcomes rest (Some (Some v)) = rest v
 
-  at_slot : (old : Slots V) (target : Option ℕ) (i : ℕ) {outcomes : List (Outcome V)} → Changes old target outcomes → Changes old target (at old i outcomes)
+  pub at_slot : (old : Slots V) (target : Option ℕ) (i : ℕ) {outcomes : List (Outcome V)} → Changes old target outcomes → Changes old target (at old i outcomes)
   at_slot old target i {outcomes} rest = there old target outcomes rest (slice_get old i)
 
-  reads : (old : Slots V) (target : Option ℕ) (i : ℕ) {outcomes : V → List (Outcome V)} → ((v : V) → Changes old target (outcomes v)) → Changes old target (reading old i outcomes)
+  pub reads : (old : Slots V) (target : Option ℕ) (i : ℕ) {outcomes : V → List (Outcome V)} → ((v : V) → Changes old target (outcomes v)) → Changes old target (reading old i outcomes)
   reads old target i {outcomes} rest = filled old target outcomes rest (slice_get old i)
 
   -- every command changes what it writes, and no more
-  abbrev AllChange : {C : Type 0} → (C → Meaning V) → (C → Option ℕ) → Type 0
+  abbrev pub AllChange : {C : Type 0} → (C → Meaning V) → (C → Option ℕ) → Type 0
   AllChange {C} meaning written_by = (command : C) (old : Slots V) → Changes old (written_by command) (meaning command old)
 
   module _ {C : Type 0} (meaning : C → Meaning V) (written_by : C → Option ℕ) (all : AllChange meaning written_by) where
@@ -69,21 +66,21 @@ module _ {V : Type 0} where
     length-one old new target reply (inl same) = ap length same
     length-one old new target reply (inr sets) = ap length sets.is_set ∙ length-set old sets.slot sets.value
 
-    number_stays : NumberOfSlotsStays meaning
+    pub number_stays : NumberOfSlotsStays meaning
     number_stays [] old new [] run = ap length run
     number_stays (c ∷ cs) old new (r ∷ rs) run =
         number_stays cs run.0 new rs run.2 ∙ length-one old run.0 (written_by c) r ((all c old).by r run.0 run.1)
     number_stays [] old new (r ∷ rs) run = absurd run
     number_stays (c ∷ cs) old new [] run = absurd run
 
-    others_stay : OtherSlotsStay meaning written_by
+    pub others_stay : OtherSlotsStay meaning written_by
     others_stay command old new reply i among other = among_one ((all command old).by reply new among) where
       among_one : (new ≡ old) ⊎ Sets old (written_by command) reply new → slice_get new i ≡ slice_get old i
       among_one (inl same) = ap (λ slots. slice_get slots i) same
       among_one (inr sets) = ap (λ slots. slice_get slots i) sets.is_set
           ∙ get-set_other old sets.slot i sets.value (λ e. other (sets.is_target ∙ ap Some e))
 
-    only_done : OnlyDoneChanges meaning
+    pub only_done : OnlyDoneChanges meaning
     only_done command old new reply among undone = among_one ((all command old).by reply new among) where
       among_one : (new ≡ old) ⊎ Sets old (written_by command) reply new → new ≡ old
       among_one (inl same) = same
@@ -122,32 +119,3 @@ module _ {V : Type 0} where
 
   pub only_done_table : (equal : V → V → Bool) → OnlyDoneChanges (outcomes_of equal)
   only_done_table equal = only_done _ _ (command_changes equal)
-
-module _ {A B : Type 0} where
-  one_block : (old : Slots (Union A B)) (u w : Union A B) → Changes old None (of_one_block old u w)
-  one_block old (First a) (First x) = two_stay old None (Is true) (Is false)
-  one_block old (First a) (Second y) = stay old None (Is false)
-  one_block old (Second b) (First x) = stay old None (Is false)
-  one_block old (Second b) (Second y) = two_stay old None (Is true) (Is false)
-
-module _ {A B : Type 0} (first_eq : A → A → Bool) (second_eq : B → B → Bool) where
-  union_changes : AllChange (union_outcomes_of first_eq second_eq) union_written
-  union_changes (union.First i a) old = at_slot old _ i (set_or old i (First a) Refused)
-  union_changes (union.Second i b) old = at_slot old _ i (set_or old i (Second b) Refused)
-  union_changes (union.Clone i j) old = at_slot old _ j (reads old _ i (λ u. set_or old j u Refused))
-  union_changes (union.Drop i) old = reads old _ i (λ _. empty old i)
-  union_changes (union.IsFirst i) old = reads old _ i (λ u. stay old _ (Is (is_first u)))
-  union_changes (union.IsSecond i) old = reads old _ i (λ u. stay old _ (Is (is_second u)))
-  union_changes (union.ReadFirst i a) old = reads old _ i (λ u. stay old _ (Is (union_eq first_eq second_eq u (First a))))
-  union_changes (union.ReadSecond i b) old = reads old _ i (λ u. stay old _ (Is (union_eq first_eq second_eq u (Second b))))
-  union_changes (union.PtrEq i j) old = at_slot old _ j (reads old _ i (λ u. reads old _ j (λ w. one_block old u w)))
-  union_changes (union.Same i j) old = at_slot old _ j (reads old _ i (λ u. reads old _ j (λ w. stay old _ (Is (union_eq first_eq second_eq u w)))))
-
-  pub number_stays_union : NumberOfSlotsStays (union_outcomes_of first_eq second_eq)
-  number_stays_union = number_stays _ _ union_changes
-
-  pub others_stay_union : OtherSlotsStay (union_outcomes_of first_eq second_eq) union_written
-  others_stay_union = others_stay _ _ union_changes
-
-  pub only_done_union : OnlyDoneChanges (union_outcomes_of first_eq second_eq)
-  only_done_union = only_done _ _ union_changes

@@ -1,4 +1,3 @@
 pub mod PlainTable
-pub mod PlainUnionTable
 pub mod Runs
 pub mod TableLaws

@@ -5,8 +5,6 @@ use Rattle.handle_tables.specs.declared.commands.Command.TheVariants.{New, Clone
 use Rattle.handle_tables.specs.declared.commands.PlainCommand.{PlainCommand}
 use Rattle.handle_tables.specs.declared.commands.Reply.{Reply}
 use Rattle.handle_tables.specs.declared.commands.Reply.TheVariants.{Done}
-use Rattle.handle_tables.specs.declared.union_commands.UnionCommand.{UnionCommand}
-use Rattle.handle_tables.specs.declared.union_commands.UnionCommand.TheVariants as union
 use Rattle.handle_tables.specs.PlainTable.{Slots, Meaning, command_of}
 use Rattle.handle_tables.specs.Runs.{IsAmong, Run}
 
@@ -22,13 +20,6 @@ written _ = None
 
 abbrev pub plain_written : {V : Type 0} → PlainCommand V → Option ℕ
 plain_written command = written (command_of command)
-
-abbrev pub union_written : {A B : Type 0} → UnionCommand A B → Option ℕ
-union_written (union.First i a) = Some i
-union_written (union.Second i b) = Some i
-union_written (union.Clone i j) = Some j
-union_written (union.Drop i) = Some i
-union_written _ = None
 
 module _ {C V : Type 0} (meaning : C → Meaning V) where
   abbrev pub NumberOfSlotsStays : Type 0

@@ -1,11 +1,9 @@
 //! Tables of handles, on which runs of commands answer as on tables of plain values.
 #![tactic(auto)]
 
+mod arc_slots;
 mod commands;
 pub mod laws;
-mod run;
-mod slots;
+pub mod run;
+pub mod slots;
 pub mod table;
-mod union_commands;
-mod union_slots;
-mod union_table;

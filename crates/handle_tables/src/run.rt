@@ -8,7 +8,7 @@ use std::alloc::{AllocError, Global};
 /// Serves commands in order and gives a reply to each.
 ///
 /// The room for the replies is reserved first: if it is refused, no command was served, and all are dropped.
-pub(crate) fn run<S, C: Drop, F: Fn(&mut S, C) -> Reply>(
+pub fn run<S, C: Drop, F: Fn(&mut S, C) -> Reply>(
     table: &mut S,
     alloc: Global,
     commands: Vec<C>,

@@ -9,9 +9,7 @@ ghost use Rattle.handle_tables.specs.Runs.{IsAmong, Run};
 pub use crate::commands::{Command, PlainCommand, Reply};
 pub use crate::laws;
 use crate::run::run;
-use crate::slots;
-pub use crate::union_commands::UnionCommand;
-pub use crate::union_table::UnionTable;
+use crate::{arc_slots, slots};
 use handles::arc::Arc;
 use std::alloc::{AllocError, Global};
 use std::marker::Model;
@@ -77,14 +75,14 @@ impl<T: Send + Sync + PartialEq + Drop> Table<T> {
         ensures { IsAmong (plain_outcomes_of T.eq command self.old) result self.new }
     {
         match command {
-            PlainCommand::New(i, value) => slots::start(&mut self.slots, alloc, i, value),
+            PlainCommand::New(i, value) => arc_slots::start(&mut self.slots, alloc, i, value),
             PlainCommand::Clone(i, j) => slots::clone_handle(&mut self.slots, i, j),
             PlainCommand::Drop(i) => slots::end(&mut self.slots, i),
-            PlainCommand::GetMut(i, value) => slots::get_mut(&mut self.slots, i, value),
-            PlainCommand::IntoUnique(i, value) => slots::into_unique(&mut self.slots, i, value),
-            PlainCommand::Mark(i) => slots::mark(&self.slots, i),
-            PlainCommand::Raw(i) => slots::raw(&mut self.slots, i),
-            PlainCommand::PtrEq(i, j) => slots::ptr_eq(&self.slots, i, j),
+            PlainCommand::GetMut(i, value) => arc_slots::get_mut(&mut self.slots, i, value),
+            PlainCommand::IntoUnique(i, value) => arc_slots::into_unique(&mut self.slots, i, value),
+            PlainCommand::Mark(i) => arc_slots::mark(&self.slots, i),
+            PlainCommand::Raw(i) => arc_slots::raw(&mut self.slots, i),
+            PlainCommand::PtrEq(i, j) => arc_slots::ptr_eq(&self.slots, i, j),
             PlainCommand::Same(i, j) => slots::same(&self.slots, i, j),
         }
     }
@@ -121,16 +119,16 @@ impl<T: Send + Sync + Clone + PartialEq> Table<T> {
         ensures { IsAmong (outcomes_of T.eq command self.old) result self.new }
     {
         match command {
-            Command::New(i, value) => slots::start(&mut self.slots, alloc, i, value),
+            Command::New(i, value) => arc_slots::start(&mut self.slots, alloc, i, value),
             Command::Clone(i, j) => slots::clone_handle(&mut self.slots, i, j),
             Command::Drop(i) => slots::end(&mut self.slots, i),
-            Command::GetMut(i, value) => slots::get_mut(&mut self.slots, i, value),
-            Command::IntoUnique(i, value) => slots::into_unique(&mut self.slots, i, value),
-            Command::MakeMut(i, value) => slots::make_mut(&mut self.slots, alloc, i, value),
-            Command::Own(i) => slots::own(&mut self.slots, alloc, i),
-            Command::Mark(i) => slots::mark(&self.slots, i),
-            Command::Raw(i) => slots::raw(&mut self.slots, i),
-            Command::PtrEq(i, j) => slots::ptr_eq(&self.slots, i, j),
+            Command::GetMut(i, value) => arc_slots::get_mut(&mut self.slots, i, value),
+            Command::IntoUnique(i, value) => arc_slots::into_unique(&mut self.slots, i, value),
+            Command::MakeMut(i, value) => arc_slots::make_mut(&mut self.slots, alloc, i, value),
+            Command::Own(i) => arc_slots::own(&mut self.slots, alloc, i),
+            Command::Mark(i) => arc_slots::mark(&self.slots, i),
+            Command::Raw(i) => arc_slots::raw(&mut self.slots, i),
+            Command::PtrEq(i, j) => arc_slots::ptr_eq(&self.slots, i, j),
             Command::Same(i, j) => slots::same(&self.slots, i, j),
         }
     }

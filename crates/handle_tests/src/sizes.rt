@@ -1,6 +1,7 @@
 // Long runs and a long slice: a cap that nobody asked for would refuse them.
 use facts::{holds, ok, same};
-use servo_arc::table::{Command, PlainCommand, Reply, Table, UnionCommand, UnionTable};
+use servo_arc::table::{Command, PlainCommand, Reply, Table};
+use servo_arc::union_table::{UnionCommand, UnionTable};
 use servo_arc::{Arc, ThinArc};
 
 const PAIRS: u32 = 1000;

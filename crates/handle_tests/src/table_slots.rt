@@ -1,6 +1,7 @@
 // Commands on slots that are not the first, over slots that are filled.
 use facts::holds;
-use servo_arc::table::{Command, Reply, Table, UnionCommand, UnionTable};
+use servo_arc::table::{Command, Reply, Table};
+use servo_arc::union_table::{UnionCommand, UnionTable};
 use std::alloc::Global;
 use std::test::Fail;
 

@@ -2,7 +2,8 @@
 use crate::telling::tell;
 use facts::same;
 use servo_arc::ArcUnionBorrow;
-use servo_arc::table::{Reply, UnionCommand, UnionTable};
+use servo_arc::table::Reply;
+use servo_arc::union_table::{UnionCommand, UnionTable};
 use std::alloc::AllocError;
 
 type Numbers = UnionTable<u32, u32>;

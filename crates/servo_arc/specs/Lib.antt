@@ -20,13 +20,13 @@ pub use Rattle.handles.specs.Unions
 pub use Rattle.handles.specs.WriteBack
 pub use Rattle.handles.specs.declared.header_slice.build.BuildError
 pub use Rattle.handle_tables.specs.PlainTable
-pub use Rattle.handle_tables.specs.PlainUnionTable
 pub use Rattle.handle_tables.specs.Runs
 pub use Rattle.handle_tables.specs.TableLaws
 pub use Rattle.handle_tables.specs.declared.commands.Command
 pub use Rattle.handle_tables.specs.declared.commands.PlainCommand
 pub use Rattle.handle_tables.specs.declared.commands.Reply
-pub use Rattle.handle_tables.specs.declared.union_commands.UnionCommand
+pub use Rattle.union_tables.specs.PlainUnionTable
+pub use Rattle.union_tables.specs.declared.union_commands.UnionCommand
 pub use Rattle.shared_count.specs.History
 pub use Rattle.shared_count.specs.Extends
 pub use Rattle.shared_count.specs.Passes

@@ -1,7 +1,7 @@
 //! Counted pointers without weak references.
 //!
 //! `Arc` shares a value, `UniqueArc` writes it first, `ArcUnion` is one of two, `ThinArc` a header with a list. `table`
-//! runs commands on handles; `counting_core` and `word` are their protocol. `shared_count` is a count without a value,
+//! and `union_table` run commands on handles; `counting_core` and `word` are their protocol. `shared_count` is a count without a value,
 //! whose replies form one history over threads. The modules stand in the crates below, and this one has no code.
 #![tactic(auto)]
 
@@ -15,3 +15,4 @@ pub use handles::header_slice::{BuildError, HeaderSlice, ThinArc};
 pub use handles::unique::{UninitArc, UniqueArc};
 pub use handles::{arc, arc_union, borrow, header_slice, unique};
 pub use shared_count;
+pub use union_tables::union_table;

@@ -274,7 +274,7 @@ fn a_table_that_no_memory_holds_is_refused(rt: HostRuntime) {
 
 #[test]
 fn the_laws_hold_at_types() {
-    laws::number_of_slots_stays::<u32, u32, u8>();
-    laws::other_slots_stay::<u32, u32, u8>();
-    laws::only_done_changes::<u32, u32, u8>();
+    laws::number_of_slots_stays::<u32>();
+    laws::other_slots_stay::<u32>();
+    laws::only_done_changes::<u32>();
 }

@@ -1,11 +1,12 @@
 //! What no clause says of a table of unions: that commands are served if memory is ample, and
 //! which of two allowed replies comes when.
 use facts::{again, holds, ok, same};
-use handle_tables::table::{Reply, UnionCommand, UnionTable};
+use handle_tables::table::Reply;
 use handles::arc::Arc;
 use handles::arc_union::{ArcUnion, ArcUnionBorrow, ThinArcUnion};
 use handles::header_slice::HeaderSlice;
 use std::alloc::{AllocError, Global};
+use union_tables::union_table::{UnionCommand, UnionTable, laws};
 
 type Numbers = UnionTable<u32, u32>;
 
@@ -174,4 +175,11 @@ fn header_slices_are_read_by_their_kind(rt: HostRuntime) {
         _ => None,
     };
     same!(&rt, read, Some((9, &[5, 6][..])));
+}
+
+#[test]
+fn the_laws_hold_at_types() {
+    laws::number_of_slots_stays::<u32, u8>();
+    laws::other_slots_stay::<u32, u8>();
+    laws::only_done_changes::<u32, u8>();
 }

@@ -1,8 +1,5 @@
-use Rattle.handle_tables.proofs.Changes.{number_stays_table, number_stays_union}
+use Rattle.handle_tables.proofs.Changes.{number_stays_table}
 use Rattle.handle_tables.proofs.laws.number_of_slots_stays.Goals as goal
 
 pub returns-clause-table : goal.returns-clause-table
 returns-clause-table g c = number_stays_table g.T.PartialEq.eq
-
-pub returns-clause-union : goal.returns-clause-union
-returns-clause-union g c = number_stays_union g.A.PartialEq.eq g.B.PartialEq.eq

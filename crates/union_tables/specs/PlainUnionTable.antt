@@ -1,9 +1,9 @@
 -- The plain table of unions: each value is a first or a second.
-use Rattle.std.specs.Prelude.{Bool, true, false, List, [], ◌∷◌}
+use Rattle.std.specs.Prelude.{ℕ, Bool, true, false, List, [], ◌∷◌, Option, Some, None}
 use Rattle.handles.specs.Unions.{Union, First, Second, is_first, is_second, union_eq}
 use Rattle.handle_tables.specs.declared.commands.Reply.TheVariants.{Is, Refused}
-use Rattle.handle_tables.specs.declared.union_commands.UnionCommand.{UnionCommand}
-use Rattle.handle_tables.specs.declared.union_commands.UnionCommand.TheVariants as command
+use Rattle.union_tables.specs.declared.union_commands.UnionCommand.{UnionCommand}
+use Rattle.union_tables.specs.declared.union_commands.UnionCommand.TheVariants as command
 use Rattle.handle_tables.specs.PlainTable.{Slots, Outcome, Meaning, at, reading, sets, stays, clones, ends, compares}
 
 module _ {A B : Type 0} where
@@ -13,6 +13,14 @@ module _ {A B : Type 0} where
   of_one_block slots (First a) (Second y) = stays slots (Is false) ∷ []
   of_one_block slots (Second b) (First x) = stays slots (Is false) ∷ []
   of_one_block slots (Second b) (Second y) = stays slots (Is true) ∷ stays slots (Is false) ∷ []
+
+  -- the slot that a command writes, if it writes one
+  abbrev pub union_written : UnionCommand A B → Option ℕ
+  union_written (command.First i a) = Some i
+  union_written (command.Second i b) = Some i
+  union_written (command.Clone i j) = Some j
+  union_written (command.Drop i) = Some i
+  union_written _ = None
 
 -- what each command means, over firsts and seconds with these equalities
 module _ {A B : Type 0} (first_eq : A → A → Bool) (second_eq : B → B → Bool) where

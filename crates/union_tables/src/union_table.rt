@@ -2,13 +2,15 @@
 ghost use Rattle.std.specs.Prelude.{◌≡◌, ◌<◌, ◌↔◌, IfErr, IfOk, IsOk, List, None, OnErr, OnOk, Option, Some, length, option_map, replicate, slice_get, slice_set};
 ghost use Rattle.std.specs.Option.{option_flatten};
 ghost use Rattle.handles.specs.UnionHandles.{borrowed_union};
-ghost use Rattle.handle_tables.specs.PlainUnionTable.{union_outcomes_of};
+ghost use Rattle.union_tables.specs.PlainUnionTable.{union_outcomes_of};
 ghost use Rattle.handle_tables.specs.Runs.{IsAmong, Run};
 
-use crate::commands::Reply;
-use crate::run::run;
-use crate::union_commands::UnionCommand;
-use crate::{slots, union_slots};
+pub use crate::laws;
+pub use crate::union_commands::UnionCommand;
+use crate::union_slots;
+use handle_tables::run::run;
+use handle_tables::slots;
+use handle_tables::table::Reply;
 use handles::arc_union::{ArcUnion, ArcUnionBorrow};
 use std::alloc::{AllocError, Global};
 use std::marker::Model;
@@ -93,7 +95,7 @@ impl<A: Send + Sync + PartialEq + Drop, B: Send + Sync + PartialEq + Drop> Union
     /// Runs commands in order and gives a reply to each, as [`UnionTable::serve`] does.
     ///
     /// The room for the replies is reserved first: if it is refused, no command was served, and all are dropped.
-    /// What [`Table::run`](crate::table::Table::run) says of locks and atomics holds here too.
+    /// What [`Table::run`](handle_tables::table::Table::run) says of locks and atomics holds here too.
     pub fn run(
         &mut self,
         alloc: Global,

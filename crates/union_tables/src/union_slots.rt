@@ -1,9 +1,9 @@
 //! What each command does to slots of unions.
-ghost use Rattle.handle_tables.specs.PlainUnionTable.{union_outcomes_of};
+ghost use Rattle.union_tables.specs.PlainUnionTable.{union_outcomes_of};
 ghost use Rattle.handle_tables.specs.Runs.{IsAmong};
 
-use crate::commands::Reply;
 use crate::union_commands::UnionCommand;
+use handle_tables::table::Reply;
 use handles::arc::Arc;
 use handles::arc_union::ArcUnion;
 use std::alloc::Global;

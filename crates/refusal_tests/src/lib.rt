@@ -21,6 +21,6 @@ mod telling;
 #[cfg(test)]
 mod trees;
 #[cfg(test)]
-mod union_tables;
+mod unions_in_slots;
 #[cfg(test)]
 mod versions;

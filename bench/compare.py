@@ -8,8 +8,11 @@ its preparation. All have to print one checksum.
 
 It prints the nanoseconds a unit of each, the ratio of the program's elapsed time to that of each pointer, the middle
 half of the first of these ratios and of the control, and a verdict: whether the figure that has a goal is within it. With
---script it does the same for scripts, which `servo` alone runs. The verdict is `busy` if the control's middle half
-strays from 1 by more than --noise, unless the figure is farther off still: then the machine was too busy to judge.
+--script it does the same for scripts, which `servo` alone runs.
+
+If the control's middle half strays from 1 by more than --noise, the machine was too busy for medians. Other work only
+adds time, so the least times are judged then: `least` in the verdict says so. If their control strays too, by a quarter
+of --noise, the verdict is `busy`, unless the figure is farther off still.
 
 The status is 1 if a checksum differs or a workload that was named does not run, else 3 if a goal was missed, else 4
 if a goal could not be judged.
@@ -20,12 +23,13 @@ import subprocess
 import sys
 import tempfile
 
-from measure import instructions, median, middle_half, ratio, timed
+from measure import Run, instructions, least, median, middle_half, ratio, timed
 
 PEERS = ["servo", "std", "word"]
 COLUMNS = (["workload", "program_ns"] + [peer + "_ns" for peer in PEERS] + ["ratio", "low", "high"]
            + [peer + "_ratio" for peer in PEERS[1:]]
-           + ["control", "control_low", "control_high", "cpu_ratio", "goal", "verdict", "program_instructions"]
+           + ["control", "control_low", "control_high", "cpu_ratio", "least_ns", "least_ratio", "least_word_ratio",
+              "least_control", "goal", "verdict", "program_instructions"]
            + [peer + "_instructions" for peer in PEERS])
 
 
@@ -90,15 +94,12 @@ class Workload:
         return None if len(set(found.values())) == 1 else "has another checksum"
 
     def run(self, who, iterations):
-        """The elapsed and the processor seconds of the iterations alone."""
-        none = timed(self.commands[who] + ["0"])
-        some = timed(self.commands[who] + [str(iterations)])
-        return some[1] - none[1], some[2] - none[2]
+        return Run(*timed(self.commands[who] + ["0"])[1:], *timed(self.commands[who] + [str(iterations)])[1:])
 
     def prepare(self, seconds):
         """Chooses the iterations. A long preparation wants more of them, or its noise would drown them."""
         none = timed(self.commands[PEERS[0]] + ["0"])[1]
-        taken = max(self.run(PEERS[0], self.iterations)[0], 1e-4)
+        taken = max(self.run(PEERS[0], self.iterations).elapsed, 1e-4)
         self.iterations = max(1, round(self.iterations * max(seconds, 2 * none) / taken))
         self.count = self.units * self.iterations
 
@@ -144,8 +145,7 @@ class Script:
 
     def measure(self, who):
         with tempfile.TemporaryFile() as made:
-            none, some = self.run(who, os.devnull, made), self.run(who, self.script, made)
-        return some[1] - none[1], some[2] - none[2]
+            return Run(*self.run(who, os.devnull, made)[1:], *self.run(who, self.script, made)[1:])
 
     def instructions(self):
         return ()
@@ -159,15 +159,20 @@ def measured(workload, repeats):
         order = turns if k % 2 == 0 else turns[::-1]
         runs.append({who: workload.measure(PEERS[0] if who == "control" else who) for who in order})
 
-    def ratios(one, other, clock=0):
-        return [ratio(run[one][clock], run[other][clock]) for run in runs]
+    def ratios(one, other, clock="elapsed"):
+        return [ratio(getattr(run[one], clock), getattr(run[other], clock)) for run in runs]
 
-    figures = {who + "_ns": median([run[who][0] for run in runs]) / workload.count * 1e9 for who in workload.commands}
+    figures = {who + "_ns": median([run[who].elapsed for run in runs]) / workload.count * 1e9 for who in workload.commands}
     ours, control = ratios("program", PEERS[0]), ratios("control", PEERS[0])
     figures["ratio"], figures["control"] = median(ours), median(control)
     figures["low"], figures["high"] = middle_half(ours)
     figures["control_low"], figures["control_high"] = middle_half(control)
-    figures["cpu_ratio"] = median(ratios("program", PEERS[0], 1))
+    figures["cpu_ratio"] = median(ratios("program", PEERS[0], "processor"))
+    lowest = {who: least([run[who] for run in runs]) for who in turns}
+    figures["least_ns"] = lowest["program"] / workload.count * 1e9
+    figures["least_ratio"], figures["least_control"] = (ratio(lowest[who], lowest[PEERS[0]]) for who in ("program", "control"))
+    if "word" in lowest:
+        figures["least_word_ratio"] = ratio(lowest["program"], lowest["word"])
     figures.update({peer + "_ratio": median(ratios("program", peer)) for peer in workload.peers[1:]})
     return figures
 
@@ -181,11 +186,17 @@ def judge(figures, goal, noise):
     is_met = figures[of] <= most
     strays = max(figures["control_high"] - 1, 1 - figures["control_low"])
     is_sure = strays <= noise or (of == "program_ns" if is_met else of == "ratio" and figures["low"] > most * (1 + strays))
-    figures["verdict"] = ("met" if is_met else "missed") if is_sure else "busy"
+    if is_sure:
+        figures["verdict"] = "met" if is_met else "missed"
+    elif abs(figures["least_control"] - 1) <= noise / 4:
+        of_least = {"ratio": "least_ratio", "program_ns": "least_ns", "word_ratio": "least_word_ratio"}[of]
+        figures["verdict"] = "met by least" if figures[of_least] <= most else "missed by least"
+    else:
+        figures["verdict"] = "busy"
 
 
 HEAD = (f"{'workload':<16} {'program':>9} {'servo':>9} {'std':>9} {'word':>9} {'/servo':>7} {'middle half':>13}"
-        f" {'/std':>6} {'/word':>6} {'control':>21} {'goal':>8} verdict")
+        f" {'/std':>6} {'/word':>6} {'control':>21} {'least':>6} {'control':>7} {'goal':>8} verdict")
 
 
 def shown(name, figures):
@@ -196,7 +207,8 @@ def shown(name, figures):
                     + [number("ratio", 7), f"{figures['low']:.2f} .. {figures['high']:.2f}".rjust(13)]
                     + [number(peer + "_ratio", 6) for peer in PEERS[1:]]
                     + [f"{figures['control']:.2f} ({figures['control_low']:.2f} .. {figures['control_high']:.2f})".rjust(21),
-                       f"{figures.get('goal', '-'):>8}", figures["verdict"]])
+                       number("least_ratio", 6), number("least_control", 7), f"{figures.get('goal', '-'):>8}",
+                       figures["verdict"]])
     counts = [f"{who} {figures[who + '_instructions']:.1f}" for who in ["program"] + PEERS
               if who + "_instructions" in figures]
     return line + ("   instructions: " + ", ".join(counts) if counts else "")
@@ -245,7 +257,7 @@ def main():
         print(shown(workload.name, figures), flush=True)
     if asked.table:
         write_table(asked.table, rows)
-    verdicts = [figures["verdict"] for _, figures in rows]
+    verdicts = [figures["verdict"].split()[0] for _, figures in rows]
     met, missed, busy = (verdicts.count(word) for word in ("met", "missed", "busy"))
     print(f"{met} goals met, {missed} missed, {busy} not judged" + (": the machine was too busy" if busy else ""))
     sys.exit(1 if wrong else 3 if missed else 4 if busy else 0)

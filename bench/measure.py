@@ -5,6 +5,7 @@ import resource
 import subprocess
 import tempfile
 import time
+from typing import NamedTuple
 
 
 def timed(command, given=subprocess.DEVNULL, made=subprocess.PIPE):
@@ -15,6 +16,27 @@ def timed(command, given=subprocess.DEVNULL, made=subprocess.PIPE):
     elapsed = time.perf_counter() - start
     after = resource.getrusage(resource.RUSAGE_CHILDREN)
     return done, elapsed, after.ru_utime + after.ru_stime - before.ru_utime - before.ru_stime
+
+
+class Run(NamedTuple):
+    """The seconds of a run of no iterations, and of one of some."""
+    none_elapsed: float
+    none_processor: float
+    some_elapsed: float
+    some_processor: float
+
+    @property
+    def elapsed(self):
+        return self.some_elapsed - self.none_elapsed
+
+    @property
+    def processor(self):
+        return self.some_processor - self.none_processor
+
+
+def least(runs):
+    """The least elapsed seconds of the iterations alone."""
+    return min(run.some_elapsed for run in runs) - min(run.none_elapsed for run in runs)
 
 
 def median(values):

@@ -42,6 +42,7 @@ mod word {
 
     pub const MARK: u64 = 1 << 63;
     pub const MAX_REFCOUNT: u64 = MARK - 1;
+    const PAUSES: u16 = 256;
 
     struct Block<T> {
         word: AtomicU64,
@@ -80,17 +81,38 @@ mod word {
 
         #[inline]
         pub fn try_clone(&self) -> Result<Arc<T>, Full> {
-            let mut seen = self.word().load(SeqCst);
+            match self.attempt(self.word().load(SeqCst))? {
+                Ok(handle) => Ok(handle),
+                Err(found) => self.try_on(found),
+            }
+        }
+
+        /// A clone from a word that was seen, or the word that its raise found in place of it.
+        #[inline]
+        fn attempt(&self, seen: u64) -> Result<Result<Arc<T>, u64>, Full> {
+            if seen & MARK != 0 {
+                return Ok(Ok(Arc { at: self.at }));
+            }
+            if seen >= unsafe { (*self.at).limit } {
+                return Err(Full);
+            }
+            let raised = self.word().compare_exchange(seen, seen + 1, SeqCst, SeqCst);
+            Ok(raised.map(|_| Arc { at: self.at }))
+        }
+
+        /// Once it has its handle, it leaves the word to the others for a moment.
+        #[cold]
+        #[inline(never)]
+        fn try_on(&self, mut seen: u64) -> Result<Arc<T>, Full> {
             loop {
-                if seen & MARK != 0 {
-                    return Ok(Arc { at: self.at });
-                }
-                if seen >= unsafe { (*self.at).limit } {
-                    return Err(Full);
-                }
-                match self.word().compare_exchange(seen, seen + 1, SeqCst, SeqCst) {
-                    Ok(_) => return Ok(Arc { at: self.at }),
-                    Err(now) => seen = now,
+                match self.attempt(seen)? {
+                    Ok(handle) => {
+                        for _ in 0..PAUSES {
+                            std::hint::spin_loop();
+                        }
+                        return Ok(handle);
+                    }
+                    Err(found) => seen = found,
                 }
             }
         }

@@ -84,7 +84,8 @@ impl<T: Send + Sync + Drop> Arc<T> {
         Arc::clone(&raw.arc, rt)
     }
 
-    /// Tries until the handle is made or the block is full, however often other threads change the count meanwhile.
+    /// Tries until the handle is made or the block is full, however often other threads change the count meanwhile. After
+    /// a lost raise it pauses, once it has the handle, for about a microsecond, which lets the others raise.
     #[inline]
     pub fn clone(this: &Arc<T>, rt: &impl Wait) -> Result<Arc<T>, Full>
         ensures { IfOk result (λ a. a ≡ this.now) }

@@ -7,7 +7,11 @@ use crate::arc::Full;
 use crate::block::{Gain, Handle, Held};
 use counting_word::{ClonePlan, is_marked, plan_clone};
 use std::alloc::AllocError;
+use std::hint;
 use std::sync::Wait;
+
+// How often a clone that lost a raise pauses, once it has its handle.
+const PAUSES: u16 = 256;
 
 // A word that was read, and what its reader then holds.
 pub(crate) struct Seen<T> {
@@ -97,7 +101,10 @@ impl<T: Drop> Handle<T> {
         // The first attempt made one.
         for _ in 1..raises {
             seen = match self.next_attempt(held, seen) {
-                Attempt::Made(handle) => return Ok(handle),
+                Attempt::Made(handle) => {
+                    let_others_raise();
+                    return Ok(handle);
+                }
                 Attempt::Full => return Err(AllocError),
                 Attempt::Lost(again) => again,
             };
@@ -126,11 +133,22 @@ impl<T: Drop> Handle<T> {
         let held = self.held();
         for _ in rt.forever() {
             seen = match self.next_attempt(held, seen) {
-                Attempt::Made(handle) => return Ok(handle),
+                Attempt::Made(handle) => {
+                    let_others_raise();
+                    return Ok(handle);
+                }
                 Attempt::Full => return Err(Full),
                 Attempt::Lost(again) => again,
             };
         }
         unreachable!()
+    }
+}
+
+// Threads that clone at once make each other lose. Who has lost, and has its handle at last, leaves the word to the others
+// for a moment. A pause before the next raise would start it from an old word, which loses again.
+fn let_others_raise() {
+    for _ in 0..PAUSES {
+        hint::spin_loop();
     }
 }

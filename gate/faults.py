@@ -6,13 +6,18 @@ do not see each other, and are tried together: each function that a fault change
 The same holds of faults in different files that change the heads of functions or impls, but no clause. A fault that
 changes a clause is tried alone; and one that leaves no goal open in one of its functions at last, too.
 
-    gate/faults.py                 tries all faults, and says how many a clause refuses
+    gate/faults.py [--anew]        tries all faults, and says how many a clause refuses
     gate/faults.py NAME[/EDIT]..   tries those of a crate, or one of them, and says which goals each leaves open
 
 The crates without faults are proved first, in their folders out/, and each check begins with these proofs. Of a crate on
 which no other stands, only the modules of its faults are proved, if the faults change bodies alone.
+
+That a fault was refused is kept on this machine, under a sum of all that the check read. A later run, in any checkout,
+tries those of which nothing is kept; with --anew, or with names, it tries all that it is told to.
 """
 
+import hashlib
+import json
 import os
 import re
 import shutil
@@ -33,6 +38,7 @@ VERDICT = re.compile(r"^(logic=proved|logic=not-proved|only=(\d+) proved=(\d+)$)
 CLAUSE = re.compile(r"\b(?:ensures|requires|ghost)\b")
 UNREAD = re.compile(r"is not in scope|has no field|is no name|operand is missing|expected the end|cannot continue")
 AT_ONCE = min(4, os.cpu_count())
+KEPT = os.path.join(os.environ.get("XDG_CACHE_HOME") or os.path.expanduser("~/.cache"), "jurvegyat", "refused")
 
 
 @dataclass(frozen=True)
@@ -165,6 +171,48 @@ def dependencies():
 
 def all_below(crate):
     return {it for one in dependencies()[crate] for it in (one, *all_below(one))}
+
+
+@cache
+def sum_of(crate):
+    """A sum of all that a check of the crate reads, and of what judges it."""
+    names = sorted({crate, *all_below(crate)})
+    paths = [f"{at}/{it}" for name in names for part in ("src", "specs", "proofs") for at, _, files in os.walk(f"{ROOT}/crates/{name}/{part}") for it in files]
+    kit = subprocess.run(["rt", "version"], capture_output=True, text=True).stdout
+    texts = [(os.path.relpath(it, ROOT), text_of(it)) for it in sorted(paths)]
+    lines = [it for it in text_of(f"{ROOT}/crates.txt").split("\n") if re.split("[ :]", it)[0] in names]
+    return hashlib.sha256(repr((kit, text_of(__file__), lines, texts)).encode()).hexdigest()
+
+
+def place_of(crate, name):
+    """Where it is kept that this fault was refused."""
+    fault = text_of(f"{ROOT}/crates/{crate}/must-fail/{name}.edit")
+    return os.path.join(KEPT, hashlib.sha256(repr((sum_of(crate), name, fault)).encode()).hexdigest())
+
+
+def kept_of(faults):
+    """The verdicts that earlier runs kept, by crate and name."""
+    found = {}
+    for crate, names in faults.items():
+        for name in names:
+            try:
+                found[f"{crate}/{name}"] = Verdict(True, *json.loads(text_of(place_of(crate, name))))
+            except (OSError, ValueError, TypeError):
+                pass  # nothing is kept of it, or nothing that can be read
+    return found
+
+
+def keep(verdicts):
+    """Keeps which faults were refused. If it cannot, a later run tries them again."""
+    try:
+        os.makedirs(KEPT, exist_ok=True)
+        for name, verdict in verdicts.items():
+            if verdict.is_refused:
+                with tempfile.NamedTemporaryFile("w", dir=KEPT, delete=False, encoding="utf-8") as it:
+                    json.dump([verdict.goals, verdict.by_clause], it)
+                os.replace(it.name, place_of(*name.split("/")))
+    except OSError as why:
+        print(f"faults: nothing is kept: {why}")
 
 
 @cache
@@ -344,14 +392,22 @@ def wanted(words):
 
 
 def main(words):
+    is_anew, words = "--anew" in words, [it for it in words if it != "--anew"]
     faults = wanted(words)
     os.makedirs(f"{ROOT}/out", exist_ok=True)
     print(f"{sum(map(len, faults.values()))} faults of {len(faults)} crates, first the crates without them", flush=True)
-    unproved = prove_all(faults)
+    verdicts = {} if is_anew or words else kept_of(faults)
+    if verdicts:
+        print(f"{len(verdicts)} of them were refused in an earlier run, over the same files", flush=True)
+    left = {crate: [it for it in names if f"{crate}/{it}" not in verdicts] for crate, names in faults.items()}
+    left = {crate: names for crate, names in left.items() if names}
+    unproved = prove_all(left)
     if unproved:
         print(f"faults: not tried, since these are not proved without them: {' '.join(unproved)}")
         return True
-    verdicts = try_all(faults)
+    tried = try_all(left)
+    keep(tried)
+    verdicts |= tried
     for name, verdict in sorted(verdicts.items()):
         if words or not verdict.is_refused or not verdict.by_clause:
             kind = "NOT REFUSED" if not verdict.is_refused else "refused by a clause" if verdict.by_clause else "refused by a proof by hand"

@@ -2,9 +2,10 @@
 # Proves every crate and its tests from nothing, and runs the tests and the programs: `rt ci`, on a copy without the
 # planted faults. `rt ci` would try these one by one; gate/faults.py tries many in one check.
 #
-#     gate/proofs.sh [FOLDER]    keeps the built tests of refusal_tests there
+#     gate/proofs.sh [FOLDER [--anew]]    leaves the built tests of refusal_tests there; the rest goes to `rt ci`
 set -eu
 folder=${1:+$(realpath "$1")}
+[[ $# = 0 ]] || shift
 cd "$(dirname "$0")/.."
 copy=$(mktemp -d)
 trap 'rm -rf "$copy"' EXIT
@@ -13,5 +14,5 @@ cd "$copy"
 # As many checks at once as there are processors and memory for, and one job for each: several jobs of a check do part of
 # its work more than once.
 export RT_JOBS=$(awk -v most="$(nproc)" '/^MemAvailable/ { n = int($2 / 3e6); print n < 1 ? 1 : n < most ? n : most }' /proc/meminfo)
-rt ci
+rt ci "$@"
 [[ -z $folder ]] || cp crates/refusal_tests/out/refusal_tests_tests "$folder"

@@ -4,14 +4,14 @@ use Rattle.std.specs.Cmp.Lexicographic.{pointwise}
 use Rattle.counting_core.specs.declared.step.Step.{Step}
 use Rattle.counting_core.specs.declared.step.Step.TheVariants.{Clone, Raise, Quit, Drop, Lower, Mark, Unique, Static, GetMut, Write, EndWrite, IntoUnique, Share, Load, Lend, Return, Give}
 use Rattle.handle_tables.specs.declared.commands.Command.TheVariants as command
-use Rattle.scripts.specs.declared.line.Numbers.{Numbers}
-use Rattle.scripts.specs.declared.line.Numbers.TheVariants.{One, Two, Three}
+use Rattle.script_text.specs.declared.line.Numbers.{Numbers}
+use Rattle.script_text.specs.declared.line.Numbers.TheVariants.{One, Two, Three}
+use Rattle.script_text.proofs.Lines.{IsLine_same}
 use Rattle.scripts.specs.declared.table_line.TableLine.{TableLine}
 use Rattle.scripts.specs.declared.table_line.TableLine.TheVariants.{Serve, Get}
 use Rattle.scripts.specs.Laws.{AsksForOneThing, EachLineIsOneStep, EachLineAsksOneThingOfATable}
 use Rattle.scripts.specs.StepLine.{step_line}
 use Rattle.scripts.specs.TableLine.{table_line}
-use Rattle.scripts.proofs.Lines.{IsLine_same}
 
 -- what stands beside the word in a list
 abbrev beside : {A : Type 0} → List ℕ → List (List ℕ × A) → Option A

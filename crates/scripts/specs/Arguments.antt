@@ -1,7 +1,7 @@
 -- What argument words ask for.
 use Rattle.std.specs.Prelude.{◌≡◌, ℕ, ◌≤◌, List, [], ◌∷◌, codes, decimal}
 use Rattle.counting_word.specs.CountingWord.{greatest_count}
-use Rattle.scripts.specs.Number.{IsNumber}
+use Rattle.script_text.specs.Number.{IsNumber}
 use Rattle.scripts.specs.declared.arguments.Request.{Request}
 use Rattle.scripts.specs.declared.arguments.Request.TheVariants.{Core, Table}
 

@@ -5,9 +5,9 @@ use Rattle.counting_core.specs.Legal.{IsLegal}
 use Rattle.counting_core.specs.Represents.{CoreState, Continues}
 use Rattle.counting_core.specs.declared.step.Step.{Step}
 use Rattle.counting_core.specs.Trace.{Trace, Open, Then}
-use Rattle.scripts.specs.Fault.{Outcome, PrintsUpTo}
-use Rattle.scripts.specs.Line.{Says, SaysNothing}
-use Rattle.scripts.specs.Script.{answer_text}
+use Rattle.script_text.specs.Fault.{Outcome, PrintsUpTo}
+use Rattle.script_text.specs.Line.{Says, SaysNothing}
+use Rattle.script_text.specs.Script.{answer_text}
 use Rattle.scripts.specs.StepAnswer.{printed_answer}
 use Rattle.scripts.specs.StepLine.{step_line}
 

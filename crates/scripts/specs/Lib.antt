@@ -1,11 +1,7 @@
 pub mod Arguments
 pub mod CoreScript
-pub mod Fault
 pub mod Laws
-pub mod Line
-pub mod Number
 pub mod Program
-pub mod Script
 pub mod StepAnswer
 pub mod StepLine
 pub mod TableAnswer

@@ -1,9 +1,9 @@
 -- What the program writes on its output, if what is written there can be known.
-use Rattle.std.specs.Prelude.{◌≡◌, ℕ, List, Option, IfSome, ◌++◌}
-use Rattle.std.specs.Io.KnownBytes.{Appends}
+use Rattle.std.specs.Prelude.{◌≡◌, ℕ, List, Option, IfSome}
+use Rattle.script_text.specs.Fault.{Outcome, status_after}
+use Rattle.script_text.specs.Written.{Wrote}
 use Rattle.scripts.specs.Arguments.{Asks}
 use Rattle.scripts.specs.CoreScript.{PrintsLegalTrace}
-use Rattle.scripts.specs.Fault.{Outcome, status_after}
 use Rattle.scripts.specs.TableScript.{PrintsPlainTable}
 use Rattle.scripts.specs.declared.arguments.Request.{Request}
 use Rattle.scripts.specs.declared.arguments.Request.TheVariants.{Core, Table}
@@ -12,14 +12,6 @@ use Rattle.scripts.specs.declared.arguments.Request.TheVariants.{Core, Table}
 abbrev pub PrintsAsAsked : Request → List ℕ → Outcome → List ℕ → Type 0
 PrintsAsAsked (Core owners limit) = PrintsLegalTrace owners limit
 PrintsAsAsked (Table slots) = PrintsPlainTable slots
-
--- just such a text was written
-abbrev pub Wrote : (List ℕ → Type 0) → Option (List ℕ) → Option (List ℕ) → Type 0
-Wrote is_right old new = (text : List ℕ) × is_right text × Appends old new text
-
--- nothing but a beginning of the text was written
-abbrev pub WroteBeginning : List ℕ → Option (List ℕ) → Option (List ℕ) → Type 0
-WroteBeginning text old new = (done left : List ℕ) × (text ≡ done ++ left) × Appends old new done
 
 -- What the words ask for was done with the bytes of the input, if those can be known.
 pub record DidAsAsked (words : List (List ℕ)) (input : Option (List ℕ)) (outcome : Outcome)

@@ -4,8 +4,8 @@ use Rattle.counting_core.specs.declared.step.Step.{Step}
 use Rattle.counting_core.specs.declared.step.Step.TheVariants.{Clone, Raise, Quit, Drop, Lower, Mark}
 use Rattle.counting_core.specs.declared.step.Step.TheVariants.{Unique, Static, GetMut, Write, EndWrite, IntoUnique}
 use Rattle.counting_core.specs.declared.step.Step.TheVariants.{Share, Load, Lend, Return, Give}
-use Rattle.scripts.specs.declared.line.Numbers.{Numbers}
-use Rattle.scripts.specs.declared.line.Numbers.TheVariants.{One, Two, Three}
+use Rattle.script_text.specs.declared.line.Numbers.{Numbers}
+use Rattle.script_text.specs.declared.line.Numbers.TheVariants.{One, Two, Three}
 
 abbrev pub step_line : Step ℕ → List ℕ × Numbers
 step_line (Clone owner handle) = (codes "clone", Two owner handle)

@@ -2,8 +2,8 @@
 use Rattle.std.specs.Prelude.{ℕ, List, codes}
 use Rattle.handle_tables.specs.declared.commands.Command.TheVariants.{New, Clone, Drop, GetMut, IntoUnique, MakeMut}
 use Rattle.handle_tables.specs.declared.commands.Command.TheVariants.{Own, Mark, Raw, PtrEq, Same}
-use Rattle.scripts.specs.declared.line.Numbers.{Numbers}
-use Rattle.scripts.specs.declared.line.Numbers.TheVariants.{One, Two}
+use Rattle.script_text.specs.declared.line.Numbers.{Numbers}
+use Rattle.script_text.specs.declared.line.Numbers.TheVariants.{One, Two}
 use Rattle.scripts.specs.declared.table_line.TableLine.{TableLine}
 use Rattle.scripts.specs.declared.table_line.TableLine.TheVariants.{Serve, Get}
 

@@ -1,9 +1,9 @@
 -- What a script of a table comes to.
 use Rattle.std.specs.Prelude.{◌≡◌, ℕ, List, Option, None, replicate}
 use Rattle.handle_tables.specs.PlainTable.{Slots}
-use Rattle.scripts.specs.Fault.{Outcome, PrintsUpTo}
-use Rattle.scripts.specs.Line.{Says, SaysNothing}
-use Rattle.scripts.specs.Script.{answer_text}
+use Rattle.script_text.specs.Fault.{Outcome, PrintsUpTo}
+use Rattle.script_text.specs.Line.{Says, SaysNothing}
+use Rattle.script_text.specs.Script.{answer_text}
 use Rattle.scripts.specs.TableAnswer.{IsAnsweredBy}
 use Rattle.scripts.specs.TableLine.{table_line}
 use Rattle.scripts.specs.declared.table_line.TableLine.{TableLine}

@@ -2,8 +2,8 @@
 ghost use Rattle.std.specs.Prelude.{ℕ, IfSome, IfNone, map};
 ghost use Rattle.scripts.specs.Arguments.{AskLimit};
 
-use crate::number::parse_number;
 use counting_word::MAX_REFCOUNT;
+use script_text::number::parse_number;
 use std::convert::AsStr;
 
 const MOST_OWNERS: usize = 1000;

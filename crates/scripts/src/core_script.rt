@@ -3,19 +3,19 @@ ghost use Rattle.std.specs.Prelude.{◌≡◌, ◌<◌, IfErr, IfOk};
 ghost use Rattle.counting_word.specs.CountingWord.{IsLimit};
 ghost use Rattle.counting_core.specs.Represents.{Represents};
 ghost use Rattle.counting_core.specs.Trace.{Open};
+ghost use Rattle.script_text.specs.Fault.{IsFaultOfRun};
+ghost use Rattle.script_text.specs.Line.{SaysNothing};
+ghost use Rattle.script_text.specs.Written.{Wrote};
+ghost use Rattle.script_text.specs.declared.fault.Fault.TheVariants as Fault;
 ghost use Rattle.scripts.specs.CoreScript.{CoreAnswers, PrintsLegalTrace};
-ghost use Rattle.scripts.specs.Fault.{IsFaultOfRun};
-ghost use Rattle.scripts.specs.Line.{SaysNothing};
-ghost use Rattle.scripts.specs.Program.{Wrote};
 ghost use Rattle.scripts.specs.StepAnswer.{printed_answer};
 ghost use Rattle.scripts.specs.StepLine.{step_line};
-ghost use Rattle.scripts.specs.declared.fault.Fault.TheVariants as Fault;
 
-use crate::fault::Fault;
-use crate::script;
-use crate::script::{Interpreter, Printed};
 use crate::step_line::read_step;
 use counting_core::{Answer, Core};
+use script_text::fault::Fault;
+use script_text::script;
+use script_text::script::{Interpreter, Printed};
 use std::alloc::Global;
 use std::io::Write;
 
@@ -40,27 +40,36 @@ pub fn run<W: Write>(
     ensures wrote { Wrote (PrintsLegalTrace owners limit script.now result)
         (W.contents output.old) (W.contents output.new) }
 {
-    let mut core = open(alloc, owners, limit)?;
-    script::run(alloc, script, &mut core, output)
+    let mut runner = CoreRunner::open(alloc, owners, limit)?;
+    script::run(alloc, script, &mut runner, output)
 }
 
-fn open(alloc: Global, owners: usize, limit: u64) -> Result<Core<u32>, Fault>
-    requires owners { 0 < owners }
-    requires limit { IsLimit limit }
-    ensures opened { IfOk result (λ core. Represents core (Open 5 owners limit)) }
-    ensures refused { IfErr result (λ fault. fault ≡ Fault.Memory) }
-{
-    Core::new(alloc, VALUE, owners, limit).map_err(|_| Fault::Memory)
+/// A core on which a script runs.
+#[derive(Drop)]
+struct CoreRunner {
+    core: Core<u32>,
 }
 
-impl Interpreter for Core<u32> {
-    ghost answers = { CoreAnswers };
+impl Interpreter for CoreRunner {
+    ghost answers = { λ old line text new. CoreAnswers old.core line text new.core };
 
     ghost is_faulty = { SaysNothing step_line };
 
     fn answer_to(&mut self, line: &[u8]) -> Option<Printed> {
         let step = read_step(line)?;
-        Some(printed(self.step(step)))
+        Some(printed(self.core.step(step)))
+    }
+}
+
+impl CoreRunner {
+    fn open(alloc: Global, owners: usize, limit: u64) -> Result<CoreRunner, Fault>
+        requires owners { 0 < owners }
+        requires limit { IsLimit limit }
+        ensures opened { IfOk result (λ runner. Represents runner.core (Open 5 owners limit)) }
+        ensures refused { IfErr result (λ fault. fault ≡ Fault.Memory) }
+    {
+        let core = Core::new(alloc, VALUE, owners, limit).map_err(|_| Fault::Memory)?;
+        Ok(CoreRunner { core })
     }
 }
 

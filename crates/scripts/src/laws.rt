@@ -1,11 +1,5 @@
-//! What is true of every script.
-ghost use Rattle.scripts.specs.Laws.{EachTextHasItsLines, EachLineIsOneStep, EachLineAsksOneThingOfATable};
-
-/// Each text has lines, and no others.
-#[tactic(auto, using(crate::proofs::ScriptLines::each_text_has_its_lines))]
-pub fn each_text_has_its_lines()
-    ensures { EachTextHasItsLines }
-{}
+//! What is true of every line of a script.
+ghost use Rattle.scripts.specs.Laws.{EachLineIsOneStep, EachLineAsksOneThingOfATable};
 
 /// A line of a core's script is one step at most.
 pub fn each_line_is_one_step()

@@ -18,13 +18,8 @@
 
 mod arguments;
 mod core_script;
-mod fault;
 pub mod laws;
-mod line;
-mod number;
-mod output;
 mod program;
-mod script;
 mod step_line;
 mod table_line;
 mod table_script;

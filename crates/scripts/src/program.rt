@@ -1,15 +1,17 @@
 // The program, from its arguments to its exit status.
 ghost use Rattle.std.specs.Prelude.{◌≡◌, ◌≢◌, ◌≤◌, ◌↔◌, ◌⊎◌, ℕ, List, IsErrOf, map};
 ghost use Rattle.std.specs.Io.KnownBytes.{IsAtEnd};
+ghost use Rattle.script_text.specs.Fault.{note_of, status_of};
+ghost use Rattle.script_text.specs.Written.{WroteBeginning};
+ghost use Rattle.script_text.specs.declared.fault.Fault.{Fault as EndedBy};
+ghost use Rattle.script_text.specs.declared.fault.Fault.TheVariants as Fault;
 ghost use Rattle.scripts.specs.Arguments.{AreWrong};
-ghost use Rattle.scripts.specs.Fault.{note_of, status_of};
-ghost use Rattle.scripts.specs.Program.{DidAsAsked, DidByStatus, WroteBeginning};
-ghost use Rattle.scripts.specs.declared.fault.Fault.{Fault as EndedBy};
-ghost use Rattle.scripts.specs.declared.fault.Fault.TheVariants as Fault;
+ghost use Rattle.scripts.specs.Program.{DidAsAsked, DidByStatus};
 
 use crate::arguments::Request;
-use crate::fault::Fault;
-use crate::{core_script, script, table_script};
+use crate::{core_script, table_script};
+use script_text::fault::Fault;
+use script_text::script;
 use std::alloc::{AllocError, Global};
 use std::convert::AsStr;
 use std::env::{Env, FillError};

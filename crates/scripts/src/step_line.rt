@@ -1,13 +1,13 @@
 //! The lines of a core's script: each is a step.
 ghost use Rattle.std.specs.Prelude.{ℕ, ◌<◌, ◌^◌, IfSome, IfNone};
 ghost use Rattle.counting_core.specs.declared.step.Step.{Step as CoreStep};
-ghost use Rattle.scripts.specs.Line.{AreInRange, Says, SaysNothing, Writes};
-ghost use Rattle.scripts.specs.declared.line.Numbers.TheVariants.{One, Two, Three};
+ghost use Rattle.script_text.specs.Line.{AreInRange, Says, SaysNothing, Writes};
+ghost use Rattle.script_text.specs.declared.line.Numbers.TheVariants.{One, Two, Three};
 ghost use Rattle.scripts.specs.StepLine.{step_line};
 
-use crate::line::Numbers::{One, Three, Two};
-use crate::line::{Line, read_line};
 use counting_core::Step;
+use script_text::line::Numbers::{One, Three, Two};
+use script_text::line::{Line, read_line};
 
 /// The step that the line writes, or nothing if it writes none.
 pub fn read_step(text: &[u8]) -> Option<Step<u32>>

@@ -1,13 +1,13 @@
 //! The lines of a table's script: each is a command, or asks what a slot reads.
 ghost use Rattle.std.specs.Prelude.{◌<◌, ◌^◌, IfSome, IfNone};
+ghost use Rattle.script_text.specs.declared.line.Numbers.TheVariants.{One, Two};
+ghost use Rattle.script_text.specs.Line.{AreInRange, Says, SaysNothing, Writes};
 ghost use Rattle.scripts.specs.declared.table_line.TableLine.{TableLine as Asked};
-ghost use Rattle.scripts.specs.declared.line.Numbers.TheVariants.{One, Two};
-ghost use Rattle.scripts.specs.Line.{AreInRange, Says, SaysNothing, Writes};
 ghost use Rattle.scripts.specs.TableLine.{table_line};
 
-use crate::line::Numbers::{One, Three, Two};
-use crate::line::{Line, read_line};
 use handle_tables::table::Command;
+use script_text::line::Numbers::{One, Three, Two};
+use script_text::line::{Line, read_line};
 
 /// What a line asks of a table.
 #[derive(Drop)]

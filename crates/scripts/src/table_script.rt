@@ -1,18 +1,18 @@
 //! Scripts of `table`: their lines are commands on a table of handles, and what its slots read.
 ghost use Rattle.std.specs.Prelude.{◌≡◌, IfErr, IfOk, None, replicate, slice_get};
-ghost use Rattle.scripts.specs.Fault.{IsFaultOfRun};
-ghost use Rattle.scripts.specs.Line.{SaysNothing};
-ghost use Rattle.scripts.specs.Program.{Wrote};
+ghost use Rattle.script_text.specs.Fault.{IsFaultOfRun};
+ghost use Rattle.script_text.specs.Line.{SaysNothing};
+ghost use Rattle.script_text.specs.Written.{Wrote};
+ghost use Rattle.script_text.specs.declared.fault.Fault.TheVariants as Fault;
 ghost use Rattle.scripts.specs.TableAnswer.{IsAnsweredBy, printed_reply, printed_slot};
 ghost use Rattle.scripts.specs.TableLine.{table_line};
 ghost use Rattle.scripts.specs.TableScript.{PrintsPlainTable, TableAnswers};
-ghost use Rattle.scripts.specs.declared.fault.Fault.TheVariants as Fault;
 
-use crate::fault::Fault;
-use crate::script;
-use crate::script::{Interpreter, Printed};
 use crate::table_line::{TableLine, read_table_line};
 use handle_tables::table::{Reply, Table};
+use script_text::fault::Fault;
+use script_text::script;
+use script_text::script::{Interpreter, Printed};
 use std::alloc::Global;
 use std::io::Write;
 

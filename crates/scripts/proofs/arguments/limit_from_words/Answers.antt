@@ -1,7 +1,7 @@
 use Rattle.std.proofs.Common.{map, ◌≡◌, ℕ, ◌<◌, List, [], ◌∷◌, length, get_or, subst, arith, ◌∙◌, decimal}
 use Rattle.std.proofs.lemmas.Fmt.{decimal_injective}
+use Rattle.script_text.specs.Number.{IsNumber}
 use Rattle.scripts.specs.Arguments.{AskLimit}
-use Rattle.scripts.specs.Number.{IsNumber}
 use Rattle.scripts.proofs.arguments.limit_from_words.Goals as goal
 
 -- a word by its place

@@ -1,9 +1,9 @@
+use Rattle.script_text.proofs.Stops.{refused_stops}
 use Rattle.scripts.proofs.Showing.{core_wrote, core_stopped}
-use Rattle.scripts.proofs.Stops.{refused_stops}
 use Rattle.scripts.proofs.core_script.run.Goals as goal
 
-pub returns-in_err-core-clause-wrote : goal.returns-in_err-core-clause-wrote
-returns-in_err-core-clause-wrote g c = core_stopped _ _ c.requires.limit _ _ _ (refused_stops _ c.in_err-core.ensures.refused _ c.from_residual.ensures.1)
+pub returns-in_err-runner-clause-wrote : goal.returns-in_err-runner-clause-wrote
+returns-in_err-runner-clause-wrote g c = core_stopped _ _ c.requires.limit _ _ _ (refused_stops _ c.in_err-runner.ensures.refused _ c.from_residual.ensures.1)
 
 pub returns-clause-wrote : goal.returns-clause-wrote
-returns-clause-wrote g c = core_wrote _ _ _ _ _ _ _ _ c.in_ok-core.ensures.opened c.run.ensures.wrote
+returns-clause-wrote g c = core_wrote (λ runner. runner.core) _ _ _ _ _ _ _ _ c.in_ok-runner.ensures.opened c.run.ensures.wrote

@@ -1,9 +1,9 @@
 use Rattle.std.proofs.Common.{◌≡◌, Option, Some, None, Ok, IfSome, inr, subst, sym}
 use Rattle.std.specs.Option.{ok_or}
+use Rattle.script_text.specs.declared.fault.Fault.{Fault}
+use Rattle.script_text.proofs.Stops.{reading_stops}
 use Rattle.scripts.specs.declared.arguments.Request.{Request}
-use Rattle.scripts.specs.declared.fault.Fault.{Fault}
 use Rattle.scripts.proofs.Showing.{did_nothing}
-use Rattle.scripts.proofs.Stops.{reading_stops}
 use Rattle.scripts.proofs.program.run.Goals as goal
 
 -- what is known of the request that was found

@@ -1,5 +1,5 @@
+use Rattle.script_text.proofs.Languages.{says_nothing}
 use Rattle.scripts.specs.StepLine.{step_line}
-use Rattle.scripts.proofs.Languages.{says_nothing}
 use Rattle.scripts.proofs.step_line.read_step.Goals as goal
 
 pub returns-clause-none : goal.returns-clause-none

@@ -1,5 +1,5 @@
+use Rattle.script_text.proofs.Languages.{says_nothing}
 use Rattle.scripts.specs.TableLine.{table_line}
-use Rattle.scripts.proofs.Languages.{says_nothing}
 use Rattle.scripts.proofs.table_line.read_table_line.Goals as goal
 
 pub returns-clause-none : goal.returns-clause-none

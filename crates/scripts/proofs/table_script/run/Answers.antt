@@ -1,5 +1,5 @@
+use Rattle.script_text.proofs.Stops.{refused_stops}
 use Rattle.scripts.proofs.Showing.{table_wrote, table_stopped}
-use Rattle.scripts.proofs.Stops.{refused_stops}
 use Rattle.scripts.proofs.table_script.run.Goals as goal
 
 pub returns-in_err-runner-clause-wrote : goal.returns-in_err-runner-clause-wrote

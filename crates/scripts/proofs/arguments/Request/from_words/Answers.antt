@@ -1,7 +1,7 @@
 use Rattle.std.proofs.Common.{map, sym, ◌≡◌, ◌≢◌, ℕ, ◌≤◌, ◌<◌, List, [], ◌∷◌, length, get_or, ap, arith, ◌∙◌, codes, decimal}
 use Rattle.std.proofs.lemmas.Fmt.{decimal_injective}
+use Rattle.script_text.specs.Number.{IsNumber}
 use Rattle.scripts.specs.Arguments.{Asks}
-use Rattle.scripts.specs.Number.{IsNumber}
 use Rattle.scripts.specs.declared.arguments.Request.{Request}
 use Rattle.scripts.specs.declared.arguments.Request.TheVariants.{Core, Table}
 use Rattle.scripts.proofs.arguments.Request.from_words.Goals as goal

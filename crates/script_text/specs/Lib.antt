@@ -1,0 +1,6 @@
+pub mod Fault
+pub mod Laws
+pub mod Line
+pub mod Number
+pub mod Script
+pub mod Written

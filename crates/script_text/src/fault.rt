@@ -1,0 +1,72 @@
+//! What ends a run before the end of its script.
+ghost use Rattle.std.specs.Prelude.{◌≡◌, []};
+ghost use Rattle.script_text.specs.Written.{WroteBeginning};
+ghost use Rattle.script_text.specs.declared.fault.Fault.TheVariants as Fault;
+
+use crate::output::write_whole;
+use std::alloc::AllocError;
+use std::io::Write;
+
+/// What ended a run. `Line` is told as the last line of the output, `Output` nowhere, and the others on standard error.
+#[derive(Clone, Copy, Debug, PartialEq, Eq)]
+pub enum Fault {
+    /// The argument words are wrong.
+    Arguments,
+    /// The line of this number is faulty. The first is line 1.
+    Line(u64),
+    /// The script cannot be read.
+    Input,
+    /// The output cannot be written.
+    Output,
+    /// Memory is refused outside the answer to a line.
+    Memory,
+}
+
+impl From<AllocError> for Fault {
+    ghost from_gives = { λ _ fault. fault ≡ Fault.Memory };
+
+    fn from(_error: AllocError) -> Fault {
+        Fault::Memory
+    }
+}
+
+impl Fault {
+    ghost use Rattle.script_text.specs.Fault.{note_of, status_of};
+
+    /// The exit status that tells of the fault.
+    fn status(self) -> u8
+        ensures { result ≡ status_of self }
+    {
+        match self {
+            Fault::Arguments => 1,
+            Fault::Line(_) => 2,
+            Fault::Input => 3,
+            Fault::Output => 4,
+            Fault::Memory => 5,
+        }
+    }
+
+    /// The line that standard error is told, or nothing.
+    fn note(self) -> &'static str
+        ensures { result.now ≡ note_of self }
+    {
+        match self {
+            Fault::Arguments => "fault: arguments\n",
+            Fault::Input => "fault: input\n",
+            Fault::Memory => "fault: memory\n",
+            Fault::Line(_) | Fault::Output => "",
+        }
+    }
+
+    /// Tells standard error of the fault, if it is told there, and answers its status. If that cannot be written
+    /// nobody is left to tell, and the status stays.
+    pub fn report<E: Write>(self, errors: &mut E) -> u8
+        ensures status { result ≡ status_of self }
+        ensures quiet { note_of self ≡ [] → errors.new ≡ errors.old }
+        ensures told { WroteBeginning (note_of self)
+            (E.contents errors.old) (E.contents errors.new) }
+    {
+        let _ = write_whole(self.note().as_bytes(), errors);
+        self.status()
+    }
+}

@@ -1,0 +1,185 @@
+//! Scripts, whatever the language of their lines.
+ghost use Rattle.std.specs.Prelude.{◌≡◌, ◌≢◌, ◌⊎◌, ℕ, ◌<◌, List, [], ◌∷◌, ◌++◌, length, Some, None, IfErr, IfSome, IfNone, OnOk, OnErr, IfOk, codes};
+ghost use Rattle.std.specs.IoError.{error_kind};
+ghost use Rattle.std.specs.Io.KnownBytes.{Appends, IsAtEnd};
+ghost use Rattle.script_text.specs.Fault.{IsFaultOfRun, PrintsUpTo};
+ghost use Rattle.script_text.specs.Script.{AreLines, answer_text};
+ghost use Rattle.script_text.specs.Written.{Wrote, WroteBeginning};
+ghost use Rattle.script_text.specs.declared.fault.Fault.TheVariants as Fault;
+
+use crate::fault::Fault;
+use crate::output::write_whole;
+use itoa::Buffer;
+use std::alloc::{AllocError, Global};
+use std::io;
+use std::io::{ErrorKind, Read, Write};
+
+/// Answers are gathered until they are so many bytes, and then written as one part. A `BufWriter` in
+/// place of the `Vec` would leave unproved that they reach this output.
+const PART_SIZE: usize = 1 << 16;
+
+/// A part's last answer may go past its size by less than this.
+const ANSWER_ROOM: usize = 64;
+
+/// An answer as it is printed: its words, and the number after them, if there is one.
+#[derive(Clone, Copy)]
+pub struct Printed {
+    pub words: &'static str,
+    pub number: Option<u64>,
+}
+
+impl Printed {
+    /// Words alone.
+    #[inline]
+    pub fn words(words: &'static str) -> Printed
+        ensures words { result.words.now ≡ words.now }
+        ensures number { result.number ≡ None }
+    {
+        Printed {
+            words,
+            number: None,
+        }
+    }
+
+    /// Words, and the number after them.
+    #[inline]
+    pub fn with_number(words: &'static str, number: u64) -> Printed
+        ensures words { result.words.now ≡ words.now }
+        ensures number { result.number ≡ Some number }
+    {
+        Printed {
+            words,
+            number: Some(number),
+        }
+    }
+}
+
+/// What runs the lines of a script, one after the other.
+pub trait Interpreter {
+    // The line may be answered by this text, which leaves the second state.
+    ghost answers: { Self → List ℕ → List ℕ → Self → Type 0 };
+
+    // The line asks for nothing.
+    ghost is_faulty: { List ℕ → Type 0 };
+
+    /// The answer to a line, or nothing if the line is faulty. A faulty line changes nothing.
+    fn answer_to(&mut self, line: &[u8]) -> Option<Printed>
+        ensures answered { IfSome result (λ printed. answers self.old line.now
+            (answer_text (printed.words.now, printed.number)) self.new) }
+        ensures faulty { IfNone result (is_faulty line.now) }
+        ensures unchanged { IfNone result (self.new ≡ self.old) };
+}
+
+/// The whole script.
+pub fn read<R: Read>(alloc: Global, input: &mut R) -> Result<Vec<u8>, Fault>
+    ensures whole { IfOk result (λ script. IfSome (R.remaining input.old) (λ bytes.
+        script.items ≡ bytes)) }
+    ensures end { OnOk result (IsAtEnd (R.remaining input.new)) }
+    ensures fault { IfErr result (λ fault. (fault ≡ Fault.Input) ⊎ (fault ≡ Fault.Memory)) }
+{
+    let mut script = Vec::new(alloc);
+    match input.read_to_end(&mut script) {
+        Ok(_) => Ok(script),
+        Err(error) => Err(read_fault(&error)),
+    }
+}
+
+/// The fault of a read that failed, or that found no memory for what it read.
+fn read_fault(error: &io::Error) -> Fault
+    ensures memory { error_kind error.now ≡ ErrorKind.OutOfMemory → result ≡ Fault.Memory }
+    ensures input { error_kind error.now ≢ ErrorKind.OutOfMemory → result ≡ Fault.Input }
+{
+    match error.kind() {
+        ErrorKind::OutOfMemory => Fault::Memory,
+        _ => Fault::Input,
+    }
+}
+
+/// Runs the lines up to the first faulty one, and writes their answers and that fault.
+pub fn run<I: Interpreter, W: Write>(
+    alloc: Global,
+    script: &[u8],
+    interpreter: &mut I,
+    output: &mut W,
+) -> Result<(), Fault>
+    ensures fault { IfErr result IsFaultOfRun }
+    ensures wrote { Wrote (λ text. PrintsUpTo I.answers I.is_faulty
+        interpreter.old script.now result text interpreter.new)
+        (W.contents output.old) (W.contents output.new) }
+{
+    let mut part = Vec::with_capacity(alloc, PART_SIZE + ANSWER_ROOM)?;
+    let mut number = 0;
+    let mut rest = script;
+    while let Some((line, after)) = split_line(rest) {
+        number += 1;
+        let Some(answer) = interpreter.answer_to(line) else {
+            append_answer(&mut part, fault_at(number))?;
+            write_last(&part, output)?;
+            return Err(Fault::Line(number));
+        };
+        append_answer(&mut part, answer)?;
+        if part.len() >= PART_SIZE {
+            write_part(&mut part, output)?;
+        }
+        rest = after;
+    }
+    write_last(&part, output)
+}
+
+/// A faulty line is told of as an answer is.
+fn fault_at(number: u64) -> Printed
+    ensures words { result.words.now ≡ codes "fault: line " }
+    ensures number { result.number ≡ Some number }
+{
+    Printed::with_number("fault: line ", number)
+}
+
+/// The first line of a text, without its line feed, and what comes after it, if a line is left.
+fn split_line(text: &[u8]) -> Option<(&[u8], &[u8])>
+    ensures first { IfSome result (λ split. (lines : List (List ℕ)) → AreLines split.1.now lines
+        → AreLines text.now (split.0.now ∷ lines)) }
+    ensures shorter { IfSome result (λ split. length split.1.now < length text.now) }
+    ensures end { IfNone result (text.now ≡ []) }
+{
+    if text.is_empty() {
+        return None;
+    }
+    match text.iter().position(|byte| *byte == b'\n') {
+        Some(end) => Some((&text[..end], &text[end + 1..])),
+        None => Some((text, &[])),
+    }
+}
+
+fn append_answer(part: &mut Vec<u8>, answer: Printed) -> Result<(), AllocError>
+    ensures { OnOk result (
+        part.new.items ≡ part.old.items ++ answer_text (answer.words.now, answer.number)) }
+{
+    part.extend_from_slice(answer.words.as_bytes())?;
+    if let Some(number) = answer.number {
+        part.extend_from_slice(Buffer::new().format(number).as_bytes())?;
+    }
+    part.extend_from_slice(b"\n")
+}
+
+/// Passes the gathered answers on.
+fn write_part<W: Write>(part: &mut Vec<u8>, output: &mut W) -> Result<(), Fault>
+    ensures written { OnOk result (Appends
+        (W.contents output.old) (W.contents output.new) part.old.items) }
+    ensures begun { WroteBeginning part.old.items (W.contents output.old) (W.contents output.new) }
+    ensures emptied { OnOk result (part.new.items ≡ []) }
+    ensures fault { IfErr result (λ fault. fault ≡ Fault.Output) }
+{
+    write_whole(part, output).map_err(|_| Fault::Output)?;
+    part.clear();
+    Ok(())
+}
+
+fn write_last<W: Write>(part: &[u8], output: &mut W) -> Result<(), Fault>
+    ensures written { OnOk result (Appends
+        (W.contents output.old) (W.contents output.new) part.now) }
+    ensures begun { WroteBeginning part.now (W.contents output.old) (W.contents output.new) }
+    ensures fault { IfErr result (λ fault. fault ≡ Fault.Output) }
+{
+    write_whole(part, output).map_err(|_| Fault::Output)?;
+    output.flush().map_err(|_| Fault::Output)
+}

@@ -1,35 +1,42 @@
 #!/usr/bin/env python3
 """Compares a program's workloads with those of each pointer that has them.
 
-`BENCH POINTER WORKLOAD N` and `PROGRAM WORKLOAD N` are run in turn: the ported crate `servo`, the program, `std`, `word`
-and `servo` again, which is the control: what noise alone gives. From each run a run of no iterations is taken off, so
-that the preparation is not measured. N is chosen so that a run of `servo` takes about --seconds, and twice as long as
-its preparation. All have to print one checksum.
+`BENCH POINTER WORKLOAD N` and `PROGRAM WORKLOAD N` are run in turn: the ported crate `servo` twice, first as the
+control, which shows what noise alone gives; the program, `word` and `std`. Each run follows one of no iterations, which
+is taken off, so that the preparation is not measured. N is chosen so that a run of `servo` takes about --seconds, and
+twice as long as its preparation. All have to print one checksum.
 
 It prints the nanoseconds a unit of each, the ratio of the program's elapsed time to that of each pointer, the middle
-half of the first of these ratios and of the control, and a verdict: whether the figure that has a goal is within it. With
---script it does the same for scripts, which `servo` alone runs.
+half of the first of these ratios, the control, the figure that has a goal, and a verdict. With --script it does the
+same for scripts, which `servo` alone runs.
 
-If the control's middle half strays from 1 by more than --noise, the machine was too busy for medians. Other work only
-adds time, so the least times are judged then: `least` in the verdict says so. If their control strays too, by a quarter
-of --noise, the verdict is `busy`, unless the figure is farther off still.
+Judged is the interval in which the median lies, 95 times of 100. A round is below the median as a coin shows heads, so
+it reaches from the k-th least round to the k-th greatest, with the greatest k for which fewer than k heads in as many
+tosses are seen at most 2.5 times of 100: of 15 rounds from the 4th to the 12th. That takes the rounds to be
+independent, and no more. A goal is `met` if all of the interval is within it, and `missed` if none is. Until then it
+measures on, up to --most rounds and --most-seconds; if they do not tell, the figure is `at the goal`: it differs from
+the goal by less than these rounds can tell. Since it looks after each round, of figures just at the goal 7 or 8 of 100
+are called met, and as many missed. If the control's interval is farther than --noise from 1, the verdict is `busy`: the
+order or the machine favours one.
 
 The status is 1 if a checksum differs or a workload that was named does not run, else 3 if a goal was missed, else 4
-if a goal could not be judged.
+if a goal could not be judged: a figure was at it, or the machine busy.
 """
 import argparse
 import os
 import subprocess
 import sys
 import tempfile
+import time
 
-from measure import Run, instructions, least, median, middle_half, ratio, timed
+from measure import Run, instructions, interval, least, median, middle_half, ratio, timed
 
 PEERS = ["servo", "std", "word"]
-COLUMNS = (["workload", "program_ns"] + [peer + "_ns" for peer in PEERS] + ["ratio", "low", "high"]
+UNTOLD = ("at the goal", "busy")
+COLUMNS = (["workload", "rounds", "program_ns"] + [peer + "_ns" for peer in PEERS] + ["ratio", "low", "high"]
            + [peer + "_ratio" for peer in PEERS[1:]]
-           + ["control", "control_low", "control_high", "cpu_ratio", "least_ns", "least_ratio", "least_word_ratio",
-              "least_control", "goal", "verdict", "program_instructions"]
+           + ["least_ratio", "control", "control_from", "control_to", "goal", "judged_from", "judged_to", "verdict",
+              "program_instructions"]
            + [peer + "_instructions" for peer in PEERS])
 
 
@@ -42,9 +49,11 @@ def arguments():
                         metavar=("KIND", "SIZE", "FILE", "PEER", "PROGRAM"), help="also a script, run by these two")
     parser.add_argument("--scripts-only", action="store_true", help="no workloads")
     parser.add_argument("--goals", help="lines WORKLOAD and GOAL with a tab between them: a ratio to `servo`, as 1.05, to `word`, as 1.05 word, or 1.50 ns")
-    parser.add_argument("--repeats", type=int, default=15)
+    parser.add_argument("--repeats", type=int, default=15, help="the least rounds of a workload")
+    parser.add_argument("--most", type=int, default=61, help="the most rounds, if fewer do not tell")
+    parser.add_argument("--most-seconds", type=float, default=60, help="after which only the least rounds are begun")
     parser.add_argument("--seconds", type=float, default=0.12, help="about what a run of `servo` takes")
-    parser.add_argument("--noise", type=float, default=0.08)
+    parser.add_argument("--noise", type=float, default=0.02, help="how far the control may be from 1")
     parser.add_argument("--instructions", action="store_true", help="counts them too, by callgrind")
     parser.add_argument("--table", help="a file for the figures, a line a workload, with tabs")
     return parser.parse_args()
@@ -87,20 +96,20 @@ class Workload:
         few = [str(min(self.iterations, 1000))]
         found = {}
         for who, command in self.commands.items():
-            done = timed(command + few)[0]
+            done, _ = timed(command + few)
             found[who] = done.stdout if done.returncode == 0 else None
         if found["program"] is None:
             return "does not run"
         return None if len(set(found.values())) == 1 else "has another checksum"
 
     def run(self, who, iterations):
-        return Run(*timed(self.commands[who] + ["0"])[1:], *timed(self.commands[who] + [str(iterations)])[1:])
+        return Run(*(timed(self.commands[who] + [str(count)])[1] for count in (0, iterations)))
 
     def prepare(self, seconds):
         """Chooses the iterations. A long preparation wants more of them, or its noise would drown them."""
-        none = timed(self.commands[PEERS[0]] + ["0"])[1]
-        taken = max(self.run(PEERS[0], self.iterations).elapsed, 1e-4)
-        self.iterations = max(1, round(self.iterations * max(seconds, 2 * none) / taken))
+        runs = [self.run(PEERS[0], self.iterations) for _ in range(3)]
+        wanted = max(seconds, 2 * min(run.none for run in runs))
+        self.iterations = max(1, round(self.iterations * wanted / max(least(runs), 1e-4)))
         self.count = self.units * self.iterations
 
     def measure(self, who):
@@ -145,70 +154,79 @@ class Script:
 
     def measure(self, who):
         with tempfile.TemporaryFile() as made:
-            return Run(*self.run(who, os.devnull, made)[1:], *self.run(who, self.script, made)[1:])
+            return Run(*(self.run(who, script, made)[1] for script in (os.devnull, self.script)))
 
     def instructions(self):
         return ()
 
 
-def measured(workload, repeats):
-    """The figures of one workload, of all programs in turn."""
-    turns = [PEERS[0], "program"] + workload.peers[1:] + ["control"]
-    runs = []
-    for k in range(repeats):
-        order = turns if k % 2 == 0 else turns[::-1]
-        runs.append({who: workload.measure(PEERS[0] if who == "control" else who) for who in order})
+def one_round(workload, backward):
+    """A run of each program. Those that are compared are neighbours, and every other round goes backward."""
+    turns = ["control", PEERS[0], "program"] + workload.peers[:0:-1]
+    order = turns[::-1] if backward else turns
+    return {who: workload.measure(PEERS[0] if who == "control" else who) for who in order}
 
-    def ratios(one, other, clock="elapsed"):
-        return [ratio(getattr(run[one], clock), getattr(run[other], clock)) for run in runs]
 
-    figures = {who + "_ns": median([run[who].elapsed for run in runs]) / workload.count * 1e9 for who in workload.commands}
-    ours, control = ratios("program", PEERS[0]), ratios("control", PEERS[0])
-    figures["ratio"], figures["control"] = median(ours), median(control)
-    figures["low"], figures["high"] = middle_half(ours)
-    figures["control_low"], figures["control_high"] = middle_half(control)
-    figures["cpu_ratio"] = median(ratios("program", PEERS[0], "processor"))
-    lowest = {who: least([run[who] for run in runs]) for who in turns}
-    figures["least_ns"] = lowest["program"] / workload.count * 1e9
-    figures["least_ratio"], figures["least_control"] = (ratio(lowest[who], lowest[PEERS[0]]) for who in ("program", "control"))
-    if "word" in lowest:
-        figures["least_word_ratio"] = ratio(lowest["program"], lowest["word"])
-    figures.update({peer + "_ratio": median(ratios("program", peer)) for peer in workload.peers[1:]})
+def of_rounds(workload, rounds):
+    """What each round gave for each figure that has a median."""
+    def ratios(one, other):
+        return [ratio(runs[one].elapsed, runs[other].elapsed) for runs in rounds]
+
+    found = {who + "_ns": [runs[who].elapsed / workload.count * 1e9 for runs in rounds] for who in workload.commands}
+    found.update({peer + "_ratio": ratios("program", peer) for peer in workload.peers[1:]})
+    return found | {"ratio": ratios("program", PEERS[0]), "control": ratios("control", PEERS[0])}
+
+
+def figures_of(workload, rounds, goal, noise):
+    """The figures of one workload, with the verdict."""
+    found = of_rounds(workload, rounds)
+    figures = {"rounds": len(rounds), "verdict": "no goal"} | {name: median(values) for name, values in found.items()}
+    figures["low"], figures["high"] = middle_half(found["ratio"])
+    figures["control_from"], figures["control_to"] = interval(found["control"])
+    figures["least_ratio"] = ratio(*(least([runs[who] for runs in rounds]) for who in ("program", PEERS[0])))
+    if goal:
+        of, most, figures["goal"] = goal
+        figures["judged_from"], figures["judged_to"] = interval(found[of])
+        figures["verdict"] = verdict(figures, most, noise)
     return figures
 
 
-def judge(figures, goal, noise):
-    """Adds the verdict. On a busy machine too a goal in nanoseconds is met, and any is missed that lies far off."""
-    if goal is None:
-        figures["verdict"] = "no goal"
-        return
-    of, most, figures["goal"] = goal
-    is_met = figures[of] <= most
-    strays = max(figures["control_high"] - 1, 1 - figures["control_low"])
-    is_sure = strays <= noise or (of == "program_ns" if is_met else of == "ratio" and figures["low"] > most * (1 + strays))
-    if is_sure:
-        figures["verdict"] = "met" if is_met else "missed"
-    elif abs(figures["least_control"] - 1) <= noise / 4:
-        of_least = {"ratio": "least_ratio", "program_ns": "least_ns", "word_ratio": "least_word_ratio"}[of]
-        figures["verdict"] = "met by least" if figures[of_least] <= most else "missed by least"
-    else:
-        figures["verdict"] = "busy"
+def verdict(figures, most, noise):
+    if not figures["control_from"] - noise <= 1 <= figures["control_to"] + noise:
+        return "busy"
+    if figures["judged_to"] <= most:
+        return "met"
+    return "missed" if figures["judged_from"] > most else "at the goal"
+
+
+def measured(workload, goal, asked):
+    """The figures of one workload, of as many rounds as the verdict needs."""
+    end = time.monotonic() + asked.most_seconds
+    rounds = [one_round(workload, k % 2) for k in range(asked.repeats)]
+    figures = figures_of(workload, rounds, goal, asked.noise)
+    while figures["verdict"] in UNTOLD and len(rounds) < asked.most and time.monotonic() < end:
+        rounds.append(one_round(workload, len(rounds) % 2))
+        figures = figures_of(workload, rounds, goal, asked.noise)
+    return figures
 
 
 HEAD = (f"{'workload':<16} {'program':>9} {'servo':>9} {'std':>9} {'word':>9} {'/servo':>7} {'middle half':>13}"
-        f" {'/std':>6} {'/word':>6} {'control':>21} {'least':>6} {'control':>7} {'goal':>8} verdict")
+        f" {'/std':>6} {'/word':>6} {'least':>6} {'control':>21} {'goal':>9} {'judged':>15} {'rounds':>6} verdict")
 
 
 def shown(name, figures):
     def number(column, width):
         return f"{figures[column]:>{width}.2f}" if column in figures else " " * (width - 1) + "-"
 
+    def span(low, high):
+        return f"{figures[low]:.2f} .. {figures[high]:.2f}" if low in figures else "-"
+
+    control = f"{figures['control']:.2f} ({span('control_from', 'control_to')})"
     line = " ".join([f"{name:<16}", number("program_ns", 9)] + [number(peer + "_ns", 9) for peer in PEERS]
-                    + [number("ratio", 7), f"{figures['low']:.2f} .. {figures['high']:.2f}".rjust(13)]
+                    + [number("ratio", 7), f"{span('low', 'high'):>13}"]
                     + [number(peer + "_ratio", 6) for peer in PEERS[1:]]
-                    + [f"{figures['control']:.2f} ({figures['control_low']:.2f} .. {figures['control_high']:.2f})".rjust(21),
-                       number("least_ratio", 6), number("least_control", 7), f"{figures.get('goal', '-'):>8}",
-                       figures["verdict"]])
+                    + [number("least_ratio", 6), f"{control:>21}", f"{figures.get('goal', '-'):>9}",
+                       f"{span('judged_from', 'judged_to'):>15}", f"{figures['rounds']:>6}", figures["verdict"]])
     counts = [f"{who} {figures[who + '_instructions']:.1f}" for who in ["program"] + PEERS
               if who + "_instructions" in figures]
     return line + ("   instructions: " + ", ".join(counts) if counts else "")
@@ -219,7 +237,7 @@ def write_table(path, rows):
         file.write("\t".join(COLUMNS) + "\n")
         for name, figures in rows:
             cells = [figures.get(column, "") for column in COLUMNS[1:]]
-            file.write("\t".join([name] + [c if isinstance(c, str) else f"{c:.3f}" for c in cells]) + "\n")
+            file.write("\t".join([name] + [f"{c:.3f}" if isinstance(c, float) else str(c) for c in cells]) + "\n")
 
 
 def chosen(asked):
@@ -249,18 +267,17 @@ def main():
             wrong += 1
             continue
         workload.prepare(asked.seconds)
-        figures = measured(workload, asked.repeats)
-        judge(figures, goals.get(workload.name), asked.noise)
+        figures = measured(workload, goals.get(workload.name), asked)
         if asked.instructions:
             figures.update(workload.instructions())
         rows.append((workload.name, figures))
         print(shown(workload.name, figures), flush=True)
     if asked.table:
         write_table(asked.table, rows)
-    verdicts = [figures["verdict"].split()[0] for _, figures in rows]
-    met, missed, busy = (verdicts.count(word) for word in ("met", "missed", "busy"))
-    print(f"{met} goals met, {missed} missed, {busy} not judged" + (": the machine was too busy" if busy else ""))
-    sys.exit(1 if wrong else 3 if missed else 4 if busy else 0)
+    verdicts = [figures["verdict"] for _, figures in rows]
+    met, missed, at_goal, busy = (verdicts.count(word) for word in ("met", "missed") + UNTOLD)
+    print(f"{met} goals met, {missed} missed, {at_goal} at the goal, {busy} busy")
+    sys.exit(1 if wrong else 3 if missed else 4 if at_goal or busy else 0)
 
 
 main()

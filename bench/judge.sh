@@ -3,7 +3,7 @@
 #
 # Builds all that is measured, and measures it: each workload and both scripts, beside each pointer, with a verdict by
 # goals.tsv. SOURCE is the source file of the crate that was ported. The options go to compare.py, as --instructions. It
-# takes about ten minutes once the crates are proved; BENCH_OUT is where it builds, bench/out if it is not set.
+# takes 10 to 20 minutes once the crates are proved; BENCH_OUT is where it builds, bench/out if it is not set.
 set -eu
 if [ $# -lt 1 ]; then
     echo "usage: judge.sh SOURCE [OPTION..]" >&2

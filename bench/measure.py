@@ -1,7 +1,8 @@
 """What the comparisons share: one timed run, medians, and instructions."""
+import itertools
+import math
 import os
 import re
-import resource
 import subprocess
 import tempfile
 import time
@@ -9,40 +10,42 @@ from typing import NamedTuple
 
 
 def timed(command, given=subprocess.DEVNULL, made=subprocess.PIPE):
-    """The finished run, with its elapsed and its processor seconds."""
-    before = resource.getrusage(resource.RUSAGE_CHILDREN)
+    """The finished run, with its elapsed seconds."""
     start = time.perf_counter()
     done = subprocess.run(command, stdin=given, stdout=made, stderr=subprocess.DEVNULL)
-    elapsed = time.perf_counter() - start
-    after = resource.getrusage(resource.RUSAGE_CHILDREN)
-    return done, elapsed, after.ru_utime + after.ru_stime - before.ru_utime - before.ru_stime
+    return done, time.perf_counter() - start
 
 
 class Run(NamedTuple):
-    """The seconds of a run of no iterations, and of one of some."""
-    none_elapsed: float
-    none_processor: float
-    some_elapsed: float
-    some_processor: float
+    """The elapsed seconds of a run of no iterations, and of one of some."""
+    none: float
+    some: float
 
     @property
     def elapsed(self):
-        return self.some_elapsed - self.none_elapsed
-
-    @property
-    def processor(self):
-        return self.some_processor - self.none_processor
+        return self.some - self.none
 
 
 def least(runs):
     """The least elapsed seconds of the iterations alone."""
-    return min(run.some_elapsed for run in runs) - min(run.none_elapsed for run in runs)
+    return min(run.some for run in runs) - min(run.none for run in runs)
 
 
 def median(values):
     values = sorted(values)
     half = len(values) // 2
     return values[half] if len(values) % 2 else (values[half - 1] + values[half]) / 2
+
+
+def interval(values):
+    """The k-th least and the k-th greatest value: between them lies the median of many more, 95 times of 100.
+
+    k is the greatest for which fewer than k heads in as many tosses are seen at most 2.5 times of 100.
+    """
+    values = sorted(values)
+    ways = itertools.accumulate(math.comb(len(values), below) for below in range(len(values)))
+    rank = sum(count <= 0.025 * 2 ** len(values) for count in ways)
+    return (values[rank - 1], values[-rank]) if rank else (-math.inf, math.inf)
 
 
 def middle_half(values):

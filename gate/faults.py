@@ -339,21 +339,6 @@ def is_proved(crate):
     return True
 
 
-def prove_all(crates):
-    """Proves crates and those that they stand on, several at once, and gives those that are not proved."""
-    needed = {it for crate in crates for it in (crate, *all_below(crate))}
-    proved = {}
-
-    def prove(crate):
-        return all(proved[it].result() for it in dependencies()[crate]) and is_proved(crate)
-
-    with ThreadPoolExecutor(AT_ONCE) as pool:
-        # The lowest first, so that none waits for one behind it.
-        for crate in sorted(needed, key=lambda it: len(all_below(it))):
-            proved[crate] = pool.submit(prove, crate)
-    return [it for it in sorted(needed) if not proved[it].result()]
-
-
 def parts_of(crate, names):
     """The faults of a crate, parted, and a verdict on each that cannot be planted."""
     faults, verdicts = [], {}
@@ -366,19 +351,32 @@ def parts_of(crate, names):
 
 
 def try_all(faults):
-    """The verdicts of all faults, by crate and name."""
-    started, parts, verdicts = time.time(), [], {}
-    for crate, names in faults.items():
-        more, bad = parts_of(crate, names)
-        parts += more
-        verdicts |= bad
-    number = sum(map(len, faults.values()))
+    """The verdicts of all faults, by crate and name, and the crates that are not proved without them.
+
+    The faults of a crate are tried as soon as it is proved, while others still are.
+    """
+    started, number = time.time(), sum(map(len, faults.values()))
+    needed = {it for crate in faults for it in (crate, *all_below(crate))}
+    proved, tries, verdicts = {}, [], {}
+
+    def prove(crate):
+        return all(proved[it].result() for it in dependencies()[crate]) and is_proved(crate)
+
     with ThreadPoolExecutor(AT_ONCE) as pool:
-        # The largest first, since they take longest.
-        for given in as_completed([pool.submit(try_part, it) for it in sorted(parts, key=len, reverse=True)]):
+        # The lowest first, so that none waits for one behind it.
+        for crate in sorted(needed, key=lambda it: len(all_below(it))):
+            proved[crate] = pool.submit(prove, crate)
+        crates = {future: crate for crate, future in proved.items()}
+        for future in as_completed(crates):
+            if future.result() and crates[future] in faults:
+                parts, bad = parts_of(crates[future], faults[crates[future]])
+                verdicts |= bad
+                # The largest first, since they take longest.
+                tries += [pool.submit(try_part, it) for it in sorted(parts, key=len, reverse=True)]
+        for given in as_completed(tries):
             verdicts |= given.result()
             print(f"{len(verdicts)} of {number} faults, {time.time() - started:.0f} s", flush=True)
-    return verdicts
+    return verdicts, [it for it in sorted(needed) if not proved[it].result()]
 
 
 def wanted(words):
@@ -401,11 +399,7 @@ def main(words):
         print(f"{len(verdicts)} of them were refused in an earlier run, over the same files", flush=True)
     left = {crate: [it for it in names if f"{crate}/{it}" not in verdicts] for crate, names in faults.items()}
     left = {crate: names for crate, names in left.items() if names}
-    unproved = prove_all(left)
-    if unproved:
-        print(f"faults: not tried, since these are not proved without them: {' '.join(unproved)}")
-        return True
-    tried = try_all(left)
+    tried, unproved = try_all(left)
     keep(tried)
     verdicts |= tried
     for name, verdict in sorted(verdicts.items()):
@@ -417,8 +411,10 @@ def main(words):
     refused = [it for it in verdicts.values() if it.is_refused]
     clauses = sum(it.by_clause for it in refused)
     print(f"faults: {len(refused)} refused ({clauses} by a clause, {len(refused) - clauses} by a proof by hand alone), {len(verdicts) - len(refused)} not")
-    return len(refused) < len(verdicts) or not verdicts
+    if unproved:
+        print(f"faults: not tried, since these are not proved without them: {' '.join(unproved)}")
+    return unproved or len(refused) < len(verdicts) or not verdicts
 
 
 if __name__ == "__main__":
-    sys.exit(main(sys.argv[1:]))
+    sys.exit(bool(main(sys.argv[1:])))

@@ -19,16 +19,19 @@ pub fn clone_often(handle: &Arc<u64>, iterations: u64) -> Result<u64, Fault> {
     Ok(sum)
 }
 
+#[inline(never)]
 pub fn clone_drop(alloc: Global, iterations: u64) -> Result<u64, Fault> {
     let handle = Arc::new(alloc, VALUE).map_err(|_| Fault::Refused)?;
     clone_often(&handle, iterations)
 }
 
+#[inline(never)]
 pub fn marked_clone(alloc: Global, iterations: u64) -> Result<u64, Fault> {
     let handle = Arc::new_leaked(alloc, VALUE).map_err(|_| Fault::Refused)?;
     clone_often(&handle, iterations)
 }
 
+#[inline(never)]
 pub fn clone_hold(alloc: Global, iterations: u64) -> Result<u64, Fault> {
     let handle = Arc::new(alloc, VALUE).map_err(|_| Fault::Refused)?;
     let mut held: Vec<Arc<u64>> = Vec::with_capacity(alloc, HELD)?;

@@ -15,6 +15,7 @@ fn make(alloc: Global, number: u64) -> Result<ThinArc<u64, u32>, Fault> {
     Ok(Arc::from_header_and_iter(alloc, number, items)?)
 }
 
+#[inline(never)]
 pub fn header_build(alloc: Global, iterations: u64) -> Result<u64, Fault> {
     let mut sum = 0u64;
     for i in 0..iterations {
@@ -25,6 +26,7 @@ pub fn header_build(alloc: Global, iterations: u64) -> Result<u64, Fault> {
     Ok(sum)
 }
 
+#[inline(never)]
 pub fn header_sum(alloc: Global, iterations: u64) -> Result<u64, Fault> {
     let mut slices = Vec::with_capacity(alloc, SLICES)?;
     for j in 0..SLICES {

@@ -23,6 +23,7 @@ fn sum_of(list: &List<u64>) -> u64 {
 }
 
 /// Builds the list and ends it.
+#[inline(never)]
 pub fn list_build(alloc: Global, iterations: u64) -> Result<u64, Fault> {
     let mut sum = 0u64;
     for _ in 0..iterations {
@@ -34,6 +35,7 @@ pub fn list_build(alloc: Global, iterations: u64) -> Result<u64, Fault> {
     Ok(sum)
 }
 
+#[inline(never)]
 pub fn list_walk(alloc: Global, iterations: u64) -> Result<u64, Fault> {
     let list = list(alloc)?;
     let mut sum = 0u64;

@@ -6,6 +6,7 @@ use std::alloc::Global;
 /// The handles that `replace` keeps.
 const RING: usize = 64;
 
+#[inline(never)]
 pub fn new_drop(alloc: Global, iterations: u64) -> Result<u64, Fault> {
     let mut sum = 0u64;
     for i in 0..iterations {
@@ -15,6 +16,7 @@ pub fn new_drop(alloc: Global, iterations: u64) -> Result<u64, Fault> {
     Ok(sum)
 }
 
+#[inline(never)]
 pub fn replace(alloc: Global, iterations: u64) -> Result<u64, Fault> {
     let mut ring = Vec::with_capacity(alloc, RING)?;
     for i in 0..RING {

@@ -7,6 +7,7 @@ use workloads::Random;
 /// So many that they and their blocks are more than a cache has room for.
 const HANDLES: u64 = 1_000_000;
 
+#[inline(never)]
 pub fn deref_sum(alloc: Global, iterations: u64) -> Result<u64, Fault> {
     let mut handles = Vec::new(alloc);
     for i in 0..HANDLES {

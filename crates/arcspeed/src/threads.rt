@@ -8,6 +8,7 @@ use std::thread;
 use std::thread::Threads;
 
 /// Each thread makes so many clones, and waits until it has each of them.
+#[inline(never)]
 pub fn contend<R: Threads + Wait + Sync>(
     rt: &R,
     alloc: Global,
@@ -25,6 +26,7 @@ pub fn contend<R: Threads + Wait + Sync>(
 }
 
 /// Each thread makes so many clones of a marked block.
+#[inline(never)]
 pub fn marked_clone<R: Threads + Sync>(
     rt: &R,
     alloc: Global,

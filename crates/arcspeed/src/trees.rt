@@ -20,6 +20,7 @@ fn read(map: &TreeMap<u64>, key: usize) -> u64 {
 }
 
 /// Each version has another value under one key, and ends the version before it.
+#[inline(never)]
 pub fn tree_insert(alloc: Global, iterations: u64) -> Result<u64, Fault> {
     let mut map = map(alloc)?;
     let mut random = Random::new();
@@ -34,6 +35,7 @@ pub fn tree_insert(alloc: Global, iterations: u64) -> Result<u64, Fault> {
     Ok(sum)
 }
 
+#[inline(never)]
 pub fn tree_get(alloc: Global, iterations: u64) -> Result<u64, Fault> {
     let map = map(alloc)?;
     let mut random = Random::new();

@@ -4,6 +4,7 @@ use servo_arc::{Arc, ArcUnion, ArcUnionBorrow};
 use std::alloc::Global;
 use workloads::Random;
 
+#[inline(never)]
 pub fn union_clone(alloc: Global, iterations: u64) -> Result<u64, Fault> {
     let first = Arc::new(alloc, 7u64).map_err(|_| Fault::Refused)?;
     let second = Arc::new(alloc, 9u32).map_err(|_| Fault::Refused)?;

@@ -21,6 +21,7 @@ fn read(table: &CowTable<u64>, i: usize) -> u64 {
     table.get(i).copied().unwrap_or(0)
 }
 
+#[inline(never)]
 pub fn cow_version(alloc: Global, iterations: u64) -> Result<u64, Fault> {
     let mut table = table(alloc)?;
     let mut random = Random::new();
@@ -35,6 +36,7 @@ pub fn cow_version(alloc: Global, iterations: u64) -> Result<u64, Fault> {
     Ok(sum)
 }
 
+#[inline(never)]
 pub fn cow_set(alloc: Global, iterations: u64) -> Result<u64, Fault> {
     let mut table = table(alloc)?;
     let mut random = Random::new();
@@ -45,6 +47,7 @@ pub fn cow_set(alloc: Global, iterations: u64) -> Result<u64, Fault> {
     Ok(read(&table, 0).wrapping_add(read(&table, random.pick(ITEMS))))
 }
 
+#[inline(never)]
 pub fn cow_get(alloc: Global, iterations: u64) -> Result<u64, Fault> {
     let table = table(alloc)?;
     let mut random = Random::new();

@@ -4,6 +4,7 @@ use crate::fault::Fault;
 use servo_arc::Arc;
 use std::alloc::Global;
 
+#[inline(never)]
 pub fn make_mut_unique(alloc: Global, iterations: u64) -> Result<u64, Fault> {
     let mut handle = Arc::new(alloc, VALUE).map_err(|_| Fault::Refused)?;
     for _ in 0..iterations {
@@ -13,6 +14,7 @@ pub fn make_mut_unique(alloc: Global, iterations: u64) -> Result<u64, Fault> {
     Ok(*handle)
 }
 
+#[inline(never)]
 pub fn get_mut_unique(alloc: Global, iterations: u64) -> Result<u64, Fault> {
     let mut handle = Arc::new(alloc, VALUE).map_err(|_| Fault::Refused)?;
     for _ in 0..iterations {
@@ -23,6 +25,7 @@ pub fn get_mut_unique(alloc: Global, iterations: u64) -> Result<u64, Fault> {
     Ok(*handle)
 }
 
+#[inline(never)]
 pub fn make_mut_shared(alloc: Global, iterations: u64) -> Result<u64, Fault> {
     let values = [1u64, 2, 3, 4, 5, 6, 7, 8];
     let handle = Arc::new(alloc, values).map_err(|_| Fault::Refused)?;

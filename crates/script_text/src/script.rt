@@ -1,5 +1,5 @@
 //! Scripts, whatever the language of their lines.
-ghost use Rattle.std.specs.Prelude.{◌≡◌, ◌≢◌, ◌⊎◌, ℕ, ◌<◌, List, [], ◌∷◌, ◌++◌, length, Some, None, IfErr, IfSome, IfNone, OnOk, OnErr, IfOk, codes};
+ghost use Rattle.std.specs.Prelude.{◌≡◌, ◌≢◌, ◌⊎◌, ℕ, ◌<◌, List, [], ◌∷◌, ◌++◌, length, Some, IfErr, IfSome, IfNone, OnOk, IfOk};
 ghost use Rattle.std.specs.IoError.{error_kind};
 ghost use Rattle.std.specs.Io.KnownBytes.{Appends, IsAtEnd};
 ghost use Rattle.script_text.specs.Fault.{IsFaultOfRun, PrintsUpTo};
@@ -21,39 +21,6 @@ const PART_SIZE: usize = 1 << 16;
 /// A part's last answer may go past its size by less than this.
 const ANSWER_ROOM: usize = 64;
 
-/// An answer as it is printed: its words, and the number after them, if there is one.
-#[derive(Clone, Copy)]
-pub struct Printed {
-    pub words: &'static str,
-    pub number: Option<u64>,
-}
-
-impl Printed {
-    /// Words alone.
-    #[inline]
-    pub fn words(words: &'static str) -> Printed
-        ensures words { result.words.now ≡ words.now }
-        ensures number { result.number ≡ None }
-    {
-        Printed {
-            words,
-            number: None,
-        }
-    }
-
-    /// Words, and the number after them.
-    #[inline]
-    pub fn with_number(words: &'static str, number: u64) -> Printed
-        ensures words { result.words.now ≡ words.now }
-        ensures number { result.number ≡ Some number }
-    {
-        Printed {
-            words,
-            number: Some(number),
-        }
-    }
-}
-
 /// What runs the lines of a script, one after the other.
 pub trait Interpreter {
     // The line may be answered by this text, which leaves the second state.
@@ -62,12 +29,15 @@ pub trait Interpreter {
     // The line asks for nothing.
     ghost is_faulty: { List ℕ → Type 0 };
 
-    /// The answer to a line, or nothing if the line is faulty. A faulty line changes nothing.
-    fn answer_to(&mut self, line: &[u8]) -> Option<Printed>
-        ensures answered { IfSome result (λ printed. answers self.old line.now
-            (answer_text (printed.words.now, printed.number)) self.new) }
+    /// Appends the answer to a line to what is gathered. It is `None` if the line is faulty, which changes nothing.
+    /// A line whose answer finds no memory has run all the same.
+    fn answer_to(&mut self, line: &[u8], gathered: &mut Vec<u8>) -> Option<Result<(), AllocError>>
+        ensures answered { IfSome result (λ appended. (text : List ℕ)
+            × answers self.old line.now text self.new
+            × OnOk appended (gathered.new.items ≡ gathered.old.items ++ text)) }
         ensures faulty { IfNone result (is_faulty line.now) }
-        ensures unchanged { IfNone result (self.new ≡ self.old) };
+        ensures unchanged { IfNone result (self.new ≡ self.old) }
+        ensures kept { IfNone result (gathered.new.items ≡ gathered.old.items) };
 }
 
 /// The whole script.
@@ -112,26 +82,18 @@ pub fn run<I: Interpreter, W: Write>(
     let mut rest = script;
     while let Some((line, after)) = split_line(rest) {
         number += 1;
-        let Some(answer) = interpreter.answer_to(line) else {
-            append_answer(&mut part, fault_at(number))?;
+        let Some(appended) = interpreter.answer_to(line, &mut part) else {
+            append_with_number(&mut part, b"fault: line ", number)?;
             write_last(&part, output)?;
             return Err(Fault::Line(number));
         };
-        append_answer(&mut part, answer)?;
+        appended?;
         if part.len() >= PART_SIZE {
             write_part(&mut part, output)?;
         }
         rest = after;
     }
     write_last(&part, output)
-}
-
-/// A faulty line is told of as an answer is.
-fn fault_at(number: u64) -> Printed
-    ensures words { result.words.now ≡ codes "fault: line " }
-    ensures number { result.number ≡ Some number }
-{
-    Printed::with_number("fault: line ", number)
 }
 
 /// The first line of a text, without its line feed, and what comes after it, if a line is left.
@@ -150,15 +112,18 @@ fn split_line(text: &[u8]) -> Option<(&[u8], &[u8])>
     }
 }
 
-fn append_answer(part: &mut Vec<u8>, answer: Printed) -> Result<(), AllocError>
-    ensures { OnOk result (
-        part.new.items ≡ part.old.items ++ answer_text (answer.words.now, answer.number)) }
+/// Appends an answer of words and a number. One of words alone is appended as it stands, with its line feed.
+pub fn append_with_number(
+    gathered: &mut Vec<u8>,
+    words: &[u8],
+    number: u64,
+) -> Result<(), AllocError>
+    ensures { OnOk result (gathered.new.items
+        ≡ gathered.old.items ++ answer_text (words.now, Some number)) }
 {
-    part.extend_from_slice(answer.words.as_bytes())?;
-    if let Some(number) = answer.number {
-        part.extend_from_slice(Buffer::new().format(number).as_bytes())?;
-    }
-    part.extend_from_slice(b"\n")
+    gathered.extend_from_slice(words)?;
+    gathered.extend_from_slice(Buffer::new().format(number).as_bytes())?;
+    gathered.extend_from_slice(b"\n")
 }
 
 /// Passes the gathered answers on.

@@ -1,10 +1,11 @@
 //! Scripts of `core`: their lines are steps of a counting core.
-ghost use Rattle.std.specs.Prelude.{◌≡◌, ◌<◌, IfErr, IfOk};
+ghost use Rattle.std.specs.Prelude.{◌≡◌, ◌<◌, ◌++◌, IfErr, IfOk, OnOk};
 ghost use Rattle.counting_word.specs.CountingWord.{IsLimit};
 ghost use Rattle.counting_core.specs.Represents.{Represents};
 ghost use Rattle.counting_core.specs.Trace.{Open};
 ghost use Rattle.script_text.specs.Fault.{IsFaultOfRun};
 ghost use Rattle.script_text.specs.Line.{SaysNothing};
+ghost use Rattle.script_text.specs.Script.{answer_text};
 ghost use Rattle.script_text.specs.Written.{Wrote};
 ghost use Rattle.script_text.specs.declared.fault.Fault.TheVariants as Fault;
 ghost use Rattle.scripts.specs.CoreScript.{CoreAnswers, PrintsLegalTrace};
@@ -15,8 +16,8 @@ use crate::step_line::read_step;
 use counting_core::{Answer, Core};
 use script_text::fault::Fault;
 use script_text::script;
-use script_text::script::{Interpreter, Printed};
-use std::alloc::Global;
+use script_text::script::{Interpreter, append_with_number};
+use std::alloc::{AllocError, Global};
 use std::io::Write;
 
 /// The value of each block that a script opens.
@@ -55,9 +56,9 @@ impl Interpreter for CoreRunner {
 
     ghost is_faulty = { SaysNothing step_line };
 
-    fn answer_to(&mut self, line: &[u8]) -> Option<Printed> {
+    fn answer_to(&mut self, line: &[u8], gathered: &mut Vec<u8>) -> Option<Result<(), AllocError>> {
         let step = read_step(line)?;
-        Some(printed(self.core.step(step)))
+        Some(append_answer(gathered, self.core.step(step)))
     }
 }
 
@@ -73,26 +74,27 @@ impl CoreRunner {
     }
 }
 
-fn printed(answer: Answer<u32>) -> Printed
-    ensures words { result.words.now ≡ (printed_answer answer).0 }
-    ensures number { result.number ≡ (printed_answer answer).1 }
+// Each answer by itself, so that its bytes are copied without a loop.
+fn append_answer(gathered: &mut Vec<u8>, answer: Answer<u32>) -> Result<(), AllocError>
+    ensures { OnOk result (gathered.new.items
+        ≡ gathered.old.items ++ answer_text (printed_answer answer)) }
 {
     match answer {
-        Answer::Born(handle) => Printed::with_number("born ", handle as u64),
-        Answer::Full => Printed::words("full"),
-        Answer::Pending => Printed::words("pending"),
-        Answer::Quit => Printed::words("quit"),
-        Answer::Ended => Printed::words("ended"),
-        Answer::GivenUp(value) => Printed::with_number("given up ", u64::from(value)),
-        Answer::Marked => Printed::words("marked"),
-        Answer::Is(true) => Printed::words("is true"),
-        Answer::Is(false) => Printed::words("is false"),
-        Answer::Alone => Printed::words("alone"),
-        Answer::Sole => Printed::words("sole"),
-        Answer::Shared => Printed::words("shared"),
-        Answer::Done => Printed::words("done"),
-        Answer::Value(value) => Printed::with_number("value ", u64::from(value)),
-        Answer::Memory => Printed::words("memory"),
-        Answer::Barred => Printed::words("barred"),
+        Answer::Born(handle) => append_with_number(gathered, b"born ", handle as u64),
+        Answer::Full => gathered.extend_from_slice(b"full\n"),
+        Answer::Pending => gathered.extend_from_slice(b"pending\n"),
+        Answer::Quit => gathered.extend_from_slice(b"quit\n"),
+        Answer::Ended => gathered.extend_from_slice(b"ended\n"),
+        Answer::GivenUp(value) => append_with_number(gathered, b"given up ", u64::from(value)),
+        Answer::Marked => gathered.extend_from_slice(b"marked\n"),
+        Answer::Is(true) => gathered.extend_from_slice(b"is true\n"),
+        Answer::Is(false) => gathered.extend_from_slice(b"is false\n"),
+        Answer::Alone => gathered.extend_from_slice(b"alone\n"),
+        Answer::Sole => gathered.extend_from_slice(b"sole\n"),
+        Answer::Shared => gathered.extend_from_slice(b"shared\n"),
+        Answer::Done => gathered.extend_from_slice(b"done\n"),
+        Answer::Value(value) => append_with_number(gathered, b"value ", u64::from(value)),
+        Answer::Memory => gathered.extend_from_slice(b"memory\n"),
+        Answer::Barred => gathered.extend_from_slice(b"barred\n"),
     }
 }

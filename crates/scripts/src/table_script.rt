@@ -1,7 +1,8 @@
 //! Scripts of `table`: their lines are commands on a table of handles, and what its slots read.
-ghost use Rattle.std.specs.Prelude.{◌≡◌, IfErr, IfOk, None, replicate, slice_get};
+ghost use Rattle.std.specs.Prelude.{◌≡◌, ◌++◌, ℕ, List, Option, IfErr, IfOk, OnOk, None, replicate, slice_get};
 ghost use Rattle.script_text.specs.Fault.{IsFaultOfRun};
 ghost use Rattle.script_text.specs.Line.{SaysNothing};
+ghost use Rattle.script_text.specs.Script.{answer_text};
 ghost use Rattle.script_text.specs.Written.{Wrote};
 ghost use Rattle.script_text.specs.declared.fault.Fault.TheVariants as Fault;
 ghost use Rattle.scripts.specs.TableAnswer.{IsAnsweredBy, printed_reply, printed_slot};
@@ -12,8 +13,8 @@ use crate::table_line::{TableLine, read_table_line};
 use handle_tables::table::{Reply, Table};
 use script_text::fault::Fault;
 use script_text::script;
-use script_text::script::{Interpreter, Printed};
-use std::alloc::Global;
+use script_text::script::{Interpreter, append_with_number};
+use std::alloc::{AllocError, Global};
 use std::io::Write;
 
 /// Runs the script on a new table of so many empty slots. Writes the answer to each line, up to the first line that
@@ -47,9 +48,9 @@ impl Interpreter for TableRunner {
 
     ghost is_faulty = { SaysNothing table_line };
 
-    fn answer_to(&mut self, line: &[u8]) -> Option<Printed> {
+    fn answer_to(&mut self, line: &[u8], gathered: &mut Vec<u8>) -> Option<Result<(), AllocError>> {
         let asked = read_table_line(line)?;
-        Some(self.answer(asked))
+        Some(self.answer(asked, gathered))
     }
 }
 
@@ -62,39 +63,43 @@ impl TableRunner {
         Ok(TableRunner { alloc, table })
     }
 
-    fn answer(&mut self, asked: TableLine) -> Printed
-        ensures { IsAnsweredBy asked self.old.table
-            (result.words.now, result.number) self.new.table }
+    fn answer(&mut self, asked: TableLine, gathered: &mut Vec<u8>) -> Result<(), AllocError>
+        ensures { (printed : List ℕ × Option ℕ)
+            × IsAnsweredBy asked self.old.table printed self.new.table
+            × OnOk result (gathered.new.items ≡ gathered.old.items ++ answer_text printed) }
     {
         match asked {
-            TableLine::Serve(command) => printed(self.table.serve(self.alloc, command)),
-            TableLine::Get(slot) => reading(&self.table, slot),
+            TableLine::Serve(command) => {
+                append_reply(gathered, self.table.serve(self.alloc, command))
+            }
+            TableLine::Get(slot) => append_reading(gathered, &self.table, slot),
         }
     }
 }
 
-fn printed(reply: Reply) -> Printed
-    ensures words { result.words.now ≡ (printed_reply reply).0 }
-    ensures number { result.number ≡ (printed_reply reply).1 }
+// Each reply by itself, so that its bytes are copied without a loop.
+fn append_reply(gathered: &mut Vec<u8>, reply: Reply) -> Result<(), AllocError>
+    ensures { OnOk result (gathered.new.items
+        ≡ gathered.old.items ++ answer_text (printed_reply reply)) }
 {
-    Printed::words(match reply {
-        Reply::Done => "done",
-        Reply::Is(true) => "is true",
-        Reply::Is(false) => "is false",
-        Reply::Shared => "shared",
-        Reply::Empty => "empty",
-        Reply::NoSlot => "no slot",
-        Reply::Refused => "refused",
-    })
+    match reply {
+        Reply::Done => gathered.extend_from_slice(b"done\n"),
+        Reply::Is(true) => gathered.extend_from_slice(b"is true\n"),
+        Reply::Is(false) => gathered.extend_from_slice(b"is false\n"),
+        Reply::Shared => gathered.extend_from_slice(b"shared\n"),
+        Reply::Empty => gathered.extend_from_slice(b"empty\n"),
+        Reply::NoSlot => gathered.extend_from_slice(b"no slot\n"),
+        Reply::Refused => gathered.extend_from_slice(b"refused\n"),
+    }
 }
 
-fn reading(table: &Table<u32>, slot: usize) -> Printed
-    ensures words { result.words.now ≡ (printed_slot (slice_get table.now slot)).0 }
-    ensures number { result.number ≡ (printed_slot (slice_get table.now slot)).1 }
+fn append_reading(gathered: &mut Vec<u8>, table: &Table<u32>, slot: usize) -> Result<(), AllocError>
+    ensures { OnOk result (gathered.new.items
+        ≡ gathered.old.items ++ answer_text (printed_slot (slice_get table.now slot))) }
 {
     match table.get(slot) {
-        Some(value) => Printed::with_number("value ", u64::from(*value)),
-        None if slot < table.slots() => printed(Reply::Empty),
-        None => printed(Reply::NoSlot),
+        Some(value) => append_with_number(gathered, b"value ", u64::from(*value)),
+        None if slot < table.slots() => append_reply(gathered, Reply::Empty),
+        None => append_reply(gathered, Reply::NoSlot),
     }
 }

@@ -38,6 +38,7 @@ VERDICT = re.compile(r"^(logic=proved|logic=not-proved|only=(\d+) proved=(\d+)$)
 CLAUSE = re.compile(r"\b(?:ensures|requires|ghost)\b")
 UNREAD = re.compile(r"is not in scope|has no field|is no name|operand is missing|expected the end|cannot continue")
 AT_ONCE = min(4, os.cpu_count())
+MOST = 16  # faults of one check, since the last crate that is proved has many, and its checks should end together
 KEPT = os.path.join(os.environ.get("XDG_CACHE_HOME") or os.path.expanduser("~/.cache"), "jurvegyat", "refused")
 
 
@@ -153,7 +154,7 @@ def together(faults):
             parts.append([fault])
             continue
         for part in parts:
-            if not part[0].is_alone and not any(map(fault.sees, part)):
+            if not part[0].is_alone and len(part) < MOST and not any(map(fault.sees, part)):
                 part.append(fault)
                 break
         else:

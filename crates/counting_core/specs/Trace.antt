@@ -1,5 +1,5 @@
 -- What a trace says of the handles and the owners of a block, by its answers alone.
-use Rattle.std.specs.Prelude.{ℕ, Bool, true, false, nat_eq, if◌then◌else◌, List, [], ◌∷◌}
+use Rattle.std.specs.Prelude.{ℕ, Bool, Option, None, Some, true, false, nat_eq, if◌then◌else◌, List, [], ◌∷◌}
 use Rattle.std.specs.Ordering.{nat_cmp}
 use Rattle.std.specs.BTreeSet.{insert_key}
 use Rattle.std.specs.Set.{remove_key}
@@ -81,6 +81,25 @@ module _ {V : Type 0} where
   owner_of (Lend o h to) = o
   owner_of (Return o h) = o
   owner_of (Give o h to) = o
+
+  abbrev pub handle_of : Step V → Option ℕ
+  handle_of (Raise o) = None
+  handle_of (Quit o) = None
+  handle_of (Lower o) = None
+  handle_of (Clone o h) = Some h
+  handle_of (Drop o h) = Some h
+  handle_of (Mark o h) = Some h
+  handle_of (Unique o h) = Some h
+  handle_of (Static o h) = Some h
+  handle_of (GetMut o h) = Some h
+  handle_of (Write o h v) = Some h
+  handle_of (EndWrite o h) = Some h
+  handle_of (IntoUnique o h) = Some h
+  handle_of (Share o h) = Some h
+  handle_of (Load o h) = Some h
+  handle_of (Lend o h to) = Some h
+  handle_of (Return o h) = Some h
+  handle_of (Give o h to) = Some h
 
   -- What a step makes of a situation, by its answer. Barred, Memory and answers that are no change count for nothing.
   abbrev pub after : Situation → Step V → Answer V → Situation

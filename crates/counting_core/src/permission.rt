@@ -18,58 +18,36 @@ impl<V: Copy> Block<V> {
     pub(crate) fn permits(&self, step: &Step<V>) -> bool
         ensures { result ≡ permitted_by (situation_of (state self.now)) Activity.Idle step.now }
     {
+        let Some(handle) = step.handle() else {
+            return false;
+        };
+        let Some(state) = self.handles.get(handle) else {
+            return false;
+        };
         match *step {
-            Step::Clone { owner, handle }
-            | Step::Mark { owner, handle }
-            | Step::Unique { owner, handle }
-            | Step::Static { owner, handle } => {
-                self.handles
-                    .get(handle)
-                    .is_some_and(|state| state.may_be_used_by(owner))
+            Step::Clone { owner, .. }
+            | Step::Mark { owner, .. }
+            | Step::Unique { owner, .. }
+            | Step::Static { owner, .. } => state.may_be_used_by(owner),
+            Step::Load { owner, .. } => state.may_be_used_by(owner) || state.is_sole_of(owner),
+            Step::GetMut { owner, .. } | Step::IntoUnique { owner, .. } => {
+                state.may_be_taken_by(owner)
             }
-            Step::Load { owner, handle } => {
-                self.handles.get(handle).is_some_and(|state| state.may_be_used_by(owner)
-                    || state.is_sole_of(owner))
-            }
-            Step::GetMut { owner, handle } | Step::IntoUnique { owner, handle } => {
-                self.handles
-                    .get(handle)
-                    .is_some_and(|state| state.may_be_taken_by(owner))
-            }
-            Step::Drop { owner, handle } => {
-                self.handles.get(handle).is_some_and(|state| state.may_be_taken_by(owner)
-                    || state.is_sole_of(owner))
-            }
-            Step::Give { owner, handle, to } => {
-                self.handles.get(handle).is_some_and(|state| state.may_be_taken_by(owner)
-                    || state.is_sole_of(owner))
+            Step::Drop { owner, .. } => state.may_be_taken_by(owner) || state.is_sole_of(owner),
+            Step::Give { owner, to, .. } => {
+                (state.may_be_taken_by(owner) || state.is_sole_of(owner))
                     && self.is_another(owner, to)
             }
-            Step::Lend { owner, handle, to } => {
-                self.handles.get(handle).is_some_and(|state| state.is_held_by(owner)
+            Step::Lend { owner, to, .. } => {
+                state.is_held_by(owner)
                     && state.is_shared()
-                    && !state.is_lent_to(to))
+                    && !state.is_lent_to(to)
                     && self.is_another(owner, to)
             }
-            Step::Return { owner, handle } => {
-                self.handles
-                    .get(handle)
-                    .is_some_and(|state| state.is_live() && state.is_lent_to(owner))
-            }
-            Step::Write { owner, handle, .. } => {
-                self.handles.get(handle).is_some_and(|state| state.is_written_by(owner)
-                    || state.is_sole_of(owner))
-            }
-            Step::EndWrite { owner, handle } => {
-                self.handles
-                    .get(handle)
-                    .is_some_and(|state| state.is_written_by(owner))
-            }
-            Step::Share { owner, handle } => {
-                self.handles
-                    .get(handle)
-                    .is_some_and(|state| state.is_sole_of(owner))
-            }
+            Step::Return { owner, .. } => state.is_live() && state.is_lent_to(owner),
+            Step::Write { owner, .. } => state.is_written_by(owner) || state.is_sole_of(owner),
+            Step::EndWrite { owner, .. } => state.is_written_by(owner),
+            Step::Share { owner, .. } => state.is_sole_of(owner),
             Step::Raise { .. } | Step::Quit { .. } | Step::Lower { .. } => false,
         }
     }

@@ -141,7 +141,7 @@ impl<V: Copy> Clone for Step<V> {
 }
 
 impl<V: Copy> Step<V> {
-    ghost use Rattle.counting_core.specs.Trace.{owner_of};
+    ghost use Rattle.counting_core.specs.Trace.{handle_of, owner_of};
 
     /// The owner whose step it is.
     pub fn owner(&self) -> usize
@@ -165,6 +165,29 @@ impl<V: Copy> Step<V> {
             | Step::Lend { owner, .. }
             | Step::Return { owner, .. }
             | Step::Give { owner, .. } => owner,
+        }
+    }
+
+    // The handle that the step is on. A raise, a quit and a lower go on with what is in flight, and are on none.
+    pub(crate) fn handle(&self) -> Option<usize>
+        ensures { result ≡ handle_of self.now }
+    {
+        match *self {
+            Step::Raise { .. } | Step::Quit { .. } | Step::Lower { .. } => None,
+            Step::Clone { handle, .. }
+            | Step::Drop { handle, .. }
+            | Step::Mark { handle, .. }
+            | Step::Unique { handle, .. }
+            | Step::Static { handle, .. }
+            | Step::GetMut { handle, .. }
+            | Step::Write { handle, .. }
+            | Step::EndWrite { handle, .. }
+            | Step::IntoUnique { handle, .. }
+            | Step::Share { handle, .. }
+            | Step::Load { handle, .. }
+            | Step::Lend { handle, .. }
+            | Step::Return { handle, .. }
+            | Step::Give { handle, .. } => Some(handle),
         }
     }
 }

@@ -1,0 +1,115 @@
+#!/usr/bin/env bash
+# Proves and builds the program `arcbench`, and says on standard error how far that is. If it cannot, it says why.
+set -u
+root=$(dirname "$(dirname "$(readlink -f "$0")")")
+out=$root/out
+. "$root/gate/current.sh"
+
+fail() {
+    echo "arcbench: $*" >&2
+    exit 1
+}
+
+# The crates that a crate stands on, lowest first, and itself.
+crates_below() {
+    local line dependency
+    line=$(grep -E "^$1( |:)" "$root/crates.txt") || return 0
+    for dependency in ${line#*:}; do crates_below "$dependency"; done
+    echo "$1"
+}
+
+# What a crate is proved from: its line, its files, and all that it stands on.
+sum_of() {
+    local name
+    for name in $(crates_below "$1"); do
+        (cd "$root" && grep -E "^$name( |:)" crates.txt && find "crates/$name/src" "crates/$name/specs" "crates/$name/proofs" -type f -print0 2>/dev/null |
+            LC_ALL=C sort -z | xargs -0r sha256sum)
+    done | sha256sum
+}
+
+is_done() {
+    [[ -f $out/sums/$1 && $(<"$out/sums/$1") = "$(sum_of "$1")" ]]
+}
+
+# do_crate NUMBER NAME TOP COMMAND.. : proves or builds a crate below the folder TOP, unless that was done before.
+do_crate() {
+    local number=$1 name=$2 top=$3 sum started=$SECONDS messages
+    shift 3
+    is_done "$name" && return
+    command -v rt >/dev/null || fail "the toolchain's command rt is not there, which has to prove and build the program"
+    sum=$(sum_of "$name")
+    if ! messages=$(cd "$top/crates/$name" && "$@" 2>&1 </dev/null); then
+        echo "$messages" >&2
+        fail "the crate $name cannot be proved and built"
+    fi
+    echo "[$number] $name: $((SECONDS - started)) s" >&2
+    echo "$sum" 2>/dev/null >"$out/sums/$name" || fail "cannot write to $out"
+}
+
+# Proves the core in a copy, since two runs of `rt` wait for the folder of what both stand on. The proofs stay there too,
+# since there is where a first run of another checkout looks for them.
+do_core() {
+    local number=$1 copy=$out/core
+    {
+        rm -rf "$copy" && mkdir -p "$copy/.git" "$copy/crates" && cp -r "$root"/crates/counting_{word,core} "$copy/crates" &&
+            grep -E '^counting_(word|core)( |:)' "$root/crates.txt" >"$copy/crates.txt"
+    } 2>/dev/null || fail "cannot copy the core to $out"
+    do_crate "$number" counting_core "$copy" rt lib --jobs 1
+    {
+        rm -rf "$root/crates/counting_core/out" && cp -r "$copy/crates/counting_core/out" "$root/crates/counting_core" &&
+            rm -r "$copy/.git" && find "$copy" -type f ! -path '*/out/incremental/*' -delete
+    } 2>/dev/null || fail "cannot copy the core's proofs from $out"
+}
+
+# beside COMMAND.. : begins what the tables do not need, with one job, since a first run waits for the tables. It is a group
+# of processes of its own, which ends with the launcher.
+groups=()
+beside() {
+    set -m
+    "$@" &
+    groups+=($!)
+    set +m
+    trap 'kill -- "${groups[@]/#/-}" 2>/dev/null' EXIT
+}
+
+wait_for_all_beside() {
+    local group
+    for group in "${groups[@]}"; do wait "$group" || exit; done
+    trap - EXIT
+}
+
+# list_sources FOLDERS.. : what crates in these folders are made from, as gate/current.sh reads it.
+list_sources() (
+    cd "$root" && mapfile -t outermost < <(echo crates.txt && find "$@" -maxdepth 1 -name src -o -maxdepth 1 -name specs -o -maxdepth 1 -name proofs)
+    echo "outermost='${outermost[*]}'"
+    printf 'set --'
+    find "${outermost[@]}" -printf " '%p'"
+    echo
+)
+
+build() {
+    local crates number=0 name
+    mapfile -t crates < <(crates_below arcbench | awk '!seen[$0]++')
+    # From before, so that an edit meanwhile counts as a change.
+    touch "$out/started" 2>/dev/null || fail "cannot write to $out"
+    for name in "${crates[@]}"; do
+        number=$((number + 1))
+        case $name in
+            counting_core) is_done "$name" || beside do_core "$number/${#crates[@]}" ;;
+            script_text) beside do_crate "$number/${#crates[@]}" "$name" "$root" rt lib --jobs 1 ;;
+            scripts) wait_for_all_beside ;;&
+            arcbench) do_crate "$number/${#crates[@]}" "$name" "$root" rt run -- core 1 ;;
+            *) do_crate "$number/${#crates[@]}" "$name" "$root" rt lib ;;
+        esac
+    done
+    # Moved into place, so that a program that still runs keeps its own file, and a start never reads half a list.
+    {
+        list_sources "${crates[@]/#/crates/}" >"$out/sources.new" && mv "$out/sources.new" "$out/sources.sh" &&
+            cp "$root/crates/arcbench/out/arcbench" "$program.new" && touch -r "$out/started" "$program.new" &&
+            mv "$program.new" "$program"
+    } 2>/dev/null || fail "cannot copy the program to $out"
+}
+
+mkdir -p "$out/sums" 2>/dev/null || fail "cannot make the folder $out/sums"
+exec {lock}<"$root/arcbench" && flock "$lock" || fail "cannot lock $root/arcbench"
+is_current || build

@@ -9,6 +9,8 @@ folder=${1:+$(realpath "$1")}
 cd "$(dirname "$0")/.."
 copy=$(mktemp -d)
 trap 'rm -rf "$copy"' EXIT
+# An `rt ci` that keeps nothing proves all in each run, and does not know the word. One that knows it finds no repository here.
+[[ ${1:-} = --anew ]] && ! (cd "$copy" && rt ci --anew 2>&1 | grep -q 'failed$') && shift
 tar -c --exclude=./.git --exclude=out --exclude=must-fail . | tar -x -C "$copy"
 cd "$copy"
 # As many checks at once as there are processors and memory for, and one job for each: several jobs of a check do part of

@@ -246,8 +246,9 @@ def copied_to(room, crate):
         shutil.copy(f"{ROOT}/{name}", room)
     os.mkdir(f"{room}/.git")  # the top of a repository
     for name in dependencies():
-        is_needed = name == crate or name in all_below(crate)
-        left_out = shutil.ignore_patterns("must-fail", *([] if is_needed else ["out"]))
+        # Of a crate below, a check reads the library alone, and not what its proof kept.
+        unread = [] if name == crate else ["incremental"] if name in all_below(crate) else ["out"]
+        left_out = shutil.ignore_patterns("must-fail", *unread)
         shutil.copytree(f"{ROOT}/crates/{name}", f"{room}/crates/{name}", ignore=left_out, copy_function=copy_or_link)
     return f"{room}/crates/{crate}"
 

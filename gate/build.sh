@@ -1,5 +1,6 @@
 #!/usr/bin/env bash
-# Proves and builds the program `arcbench`, and says on standard error how far that is. If it cannot, it says why.
+# Proves and builds the program `arcbench`, says on standard error how far that is, and runs it. If it cannot, the status is
+# 125, after the reason.
 set -u
 root=$(dirname "$(dirname "$(readlink -f "$0")")")
 out=$root/out
@@ -7,7 +8,7 @@ out=$root/out
 
 fail() {
     echo "arcbench: $*" >&2
-    exit 1
+    exit 125
 }
 
 # The crates that a crate stands on, lowest first, and itself.
@@ -113,3 +114,5 @@ build() {
 mkdir -p "$out/sums" 2>/dev/null || fail "cannot make the folder $out/sums"
 exec {lock}<"$root/arcbench" && flock "$lock" || fail "cannot lock $root/arcbench"
 is_current || build
+exec {lock}<&-
+exec "$program" "$@"

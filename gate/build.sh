@@ -4,6 +4,7 @@
 set -u
 root=$(dirname "$(dirname "$(readlink -f "$0")")")
 out=$root/out
+cd "$root" || exit 125
 . "$root/gate/current.sh"
 
 fail() {
@@ -83,9 +84,9 @@ wait_for_all_beside() {
 list_sources() (
     cd "$root" && mapfile -t outermost < <(echo crates.txt && find "$@" -maxdepth 1 -name src -o -name specs -o -name proofs)
     echo "outermost='${outermost[*]}'"
-    printf 'set --'
-    find "${outermost[@]}" -printf " '%p'"
-    echo
+    printf '! ['
+    find "${outermost[@]}" -printf " '%p' -nt out/arcbench -o"
+    echo " '' ]"
 )
 
 build() {
@@ -105,7 +106,7 @@ build() {
     done
     # Moved into place, so that a program that still runs keeps its own file, and a start never reads half a list.
     {
-        list_sources "${crates[@]/#/crates/}" >"$out/sources.new" && mv "$out/sources.new" "$out/sources.sh" &&
+        list_sources "${crates[@]/#/crates/}" >"$out/newer.new" && mv "$out/newer.new" "$out/newer.sh" &&
             cp "$root/crates/arcbench/out/arcbench" "$program.new" && touch -r "$out/started" "$program.new" &&
             mv "$program.new" "$program"
     } 2>/dev/null || fail "cannot copy the program to $out"

@@ -82,7 +82,7 @@ wait_for_all_beside() {
 
 # list_sources FOLDERS.. : what crates in these folders are made from, as gate/current.sh reads it.
 list_sources() (
-    cd "$root" && mapfile -t outermost < <(echo crates.txt && find "$@" -maxdepth 1 -name src -o -name specs -o -name proofs)
+    mapfile -t outermost < <(echo crates.txt && find "$@" -maxdepth 1 -name src -o -name specs -o -name proofs)
     echo "outermost='${outermost[*]}'"
     printf '! ['
     find "${outermost[@]}" -printf " '%p' -nt out/arcbench -o"

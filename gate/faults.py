@@ -4,7 +4,12 @@
 A function is proved from its own body and the contracts of what it calls. So faults in the bodies of different functions
 do not see each other, and are tried together: each function that a fault changes has to keep an open goal of its own.
 The same holds of faults in different files that change the heads of functions or impls, but no clause. A fault that
-changes a clause is tried alone; and one that leaves no goal open in one of its functions at last, too.
+changes a clause is tried alone.
+
+Two faults of one function cannot stand in it at once, and of a function that calls one without a proof nothing may be
+told. What is left of a crate for such a reason is tried in a second round, each fault in a copy of its function, below it
+and under another name. There are no copies of a function with a proof by hand, which has its name, or in the impl of a
+trait. A fault of which nothing is told then either is tried alone.
 
     gate/faults.py [--anew]        tries all faults, and says how many a clause refuses
     gate/faults.py NAME[/EDIT]..   tries those of a crate, or one of them, and says which goals each leaves open
@@ -25,12 +30,16 @@ import subprocess
 import sys
 import tempfile
 import time
-from concurrent.futures import ThreadPoolExecutor, as_completed
-from dataclasses import dataclass, field
+from collections import Counter
+from concurrent.futures import FIRST_COMPLETED, ThreadPoolExecutor, wait
+from dataclasses import dataclass, field, replace
 from functools import cache
+from typing import NamedTuple
 
 ROOT = os.path.dirname(os.path.dirname(os.path.abspath(__file__)))
 HEAD = re.compile(r"( *)(?:pub(?:\([a-z]+\))? )?(?:const )?(?:unsafe )?fn (\w+)")
+COPY = re.compile(r"_with_fault_(\d+)\b")  # what the name of a copy ends with: the number of its fault in the check
+OUTER = re.compile(r"(?:pub(?:\([a-z]+\))? )?(?:unsafe )?(?:impl|trait)\b")
 ADDED = re.compile(r" *(?:pub(?:\([a-z]+\))? )?fn (\w+)")
 TOLD = re.compile(r"(note: )?(?:\./)?((?:src|specs|proofs)/[^:\s]+):(\d+):\d+: (?!note)(.*)")
 ENDLESS = re.compile(r"fn \w+::(\S+): (no proof: expected .*)")  # a loop or recursion that nobody shows to end
@@ -49,6 +58,7 @@ class Function:
     head: int  # the lines on which it begins, its body begins, and it ends
     body: int
     end: int
+    is_of_trait: bool
 
     def has(self, file, line):
         """Whether what the prover told of a place is told of this function or of its proof."""
@@ -68,13 +78,30 @@ class Fault:
     added: list = field(default_factory=list)  # functions that it adds, each in a line of its own
     heads: set = field(default_factory=set)  # files in which it changes more than bodies
     is_alone: bool = False  # whether a clause is among that
+    can_be_copied: bool = False  # whether its functions can
+    is_copied: bool = False  # whether it is planted in copies of them
 
     def sees(self, other):
         """Whether both change one function or one line, or one changes more than bodies in a file of the other."""
         files = {path for path, _ in self.lines}, {path for path, _ in other.lines}
         if self.heads & files[1] or other.heads & files[0]:
             return True
+        if self.is_copied or other.is_copied:
+            return False
         return any(it in self.functions for it in other.functions) or any(it in self.lines for it in other.lines)
+
+
+class Line(NamedTuple):
+    text: str
+    at: int  # where it stands without faults
+    copied_for: str | None  # the fault in whose copy of a function it is
+
+
+class Goal(NamedTuple):
+    file: str | None
+    line: int
+    text: str
+    copied_for: str | None  # the fault in whose copy of a function it is
 
 
 @dataclass
@@ -102,9 +129,11 @@ def functions_of(file, text):
         if line.endswith("}") or not is_opening(lines[opening]):
             continue
         end = next(i for i in range(opening, len(lines)) if lines[i] == indent + "}")
+        outer = next((i for i in range(at, -1, -1) if OUTER.match(lines[i])), at) if indent else at
         while lines[at - 1].startswith(indent + "#["):  # what is told of a function with attributes is told of the first
             at -= 1
-        found.append(Function(file, head[2], at, opening + 1, end))
+        is_of_trait = bool(indent) and bool(re.search(r"^[a-z() ]*trait | for ", " ".join(lines[outer:at]).split("{")[0]))
+        found.append(Function(file, head[2], at, opening + 1, end, is_of_trait))
     return found
 
 
@@ -137,29 +166,32 @@ def read_fault(crate, name):
             inside = [it for it in functions if it.body <= at < it.end]
             fault.functions += [it for it in inside if it not in fault.functions]
             if ADDED.match(wrong) and (wrong.endswith(sound.strip()) or sound.lstrip().startswith("//")):
-                fault.added.append(Function(path, ADDED.match(wrong)[1], at, at, at))
+                fault.added.append(Function(path, ADDED.match(wrong)[1], at, at, at, False))
             elif not inside:
                 fault.heads.add(path)
                 fault.is_alone |= bool(CLAUSE.search(sound) or CLAUSE.search(wrong))
     if not fault.lines:
         raise BadFault("it changes nothing")
+    proofs = [f"{os.path.relpath(at, folder)}/Proof.antt" for at, _, _ in os.walk(f"{folder}/proofs")]
+    is_by_itself = lambda it: not it.is_of_trait and not any(it.has(proof, 0) for proof in proofs)
+    fault.can_be_copied = not fault.heads and not fault.added and all(map(is_by_itself, fault.functions))
     return fault
 
 
 def together(faults):
-    """Parts the faults so that those of a part do not see each other."""
-    parts = []
-    for fault in faults:
-        if fault.is_alone:
-            parts.append([fault])
-            continue
-        for part in parts:
-            if not part[0].is_alone and len(part) < MOST and not any(map(fault.sees, part)):
-                part.append(fault)
-                break
+    """Parts the faults so that those of a part do not see each other, and gives those that are left for copies."""
+    parts, left = [], []
+    for fault in sorted(faults, key=lambda it: it.can_be_copied):
+        open_parts = [it for it in parts if not fault.is_alone and not it[0].is_alone and len(it) < MOST]
+        part = next((it for it in open_parts if not any(map(fault.sees, it))), None)
+        if part:
+            part.append(fault)
+        elif open_parts and fault.can_be_copied:
+            left.append(fault)
         else:
             parts.append([fault])
-    return parts
+    # The largest first, since they take longest.
+    return sorted(parts, key=len, reverse=True), left
 
 
 @cache
@@ -253,51 +285,86 @@ def copied_to(room, crate):
     return f"{room}/crates/{crate}"
 
 
+def copy_of(function, lines, number):
+    """A copy of a function, in lines of its file, under a name with this number."""
+    head = next(at for at in range(function.head, function.end) if HEAD.match(lines[at].text))
+    named = lines[head]._replace(text=HEAD.sub(rf"\g<0>_with_fault_{number}", lines[head].text))
+    return [named if at == head else lines[at] for at in range(function.head, function.end + 1)]
+
+
+def planted(file, text, faults):
+    """The lines of a file with these faults."""
+    sound = [Line(it, at, None) for at, it in enumerate(text.split("\n"))]
+    lines = [[it] for it in sound]  # and below the end of a function, its copies
+    for number, fault in enumerate(faults):
+        wrong = {at: it for (path, at), it in fault.lines.items() if path == file}
+        if fault.is_copied:
+            faulty = [Line(wrong.get(it.at, it.text), it.at, fault.name) for it in sound]
+            for it in fault.functions:
+                if it.file == file:
+                    lines[it.end] += copy_of(it, faulty, number)
+        else:
+            for at, it in wrong.items():
+                lines[at][0] = Line(it, at, None)
+    return [it for some in lines for it in some]
+
+
 def plant(folder, faults):
-    texts = {path: text_of(f"{folder}/{path}").split("\n") for fault in faults for path, _ in fault.lines}
-    for fault in faults:
-        for (path, at), line in fault.lines.items():
-            texts[path][at] = line
-    for path, lines in texts.items():
+    """Plants the faults, and gives the lines of the files that they change."""
+    files = {path for fault in faults for path, _ in fault.lines}
+    lines = {it: planted(it, text_of(f"{folder}/{it}"), faults) for it in files}
+    for path, some in lines.items():
         with open(f"{folder}/{path}", "w", encoding="utf-8") as it:
-            it.write("\n".join(lines))
+            it.write("\n".join(line.text for line in some))
+    return lines
+
+
+def goals_in(said, faults, lines):
+    """What was told of a place, as if each fault stood in its function and not in a copy of it."""
+    found = []
+    for told in filter(None, map(TOLD.match, said.split("\n"))):
+        file, at = told[2], int(told[3]) - 1
+        line = lines[file][at] if file in lines else Line("", at, None)
+        found.append(Goal(file, line.at, told[4], line.copied_for))
+    for told in filter(None, map(ENDLESS.match, said.split("\n"))):
+        copy = COPY.search(told[1])
+        file = f"proofs/{COPY.sub('', told[1]).replace('::', '/')}/Invariants.antt"
+        found.append(Goal(file, 0, told[2], faults[int(copy[1])].name if copy else None))
+    return found
 
 
 def check(crate, faults):
-    """Checks a copy of the crate with these faults, and gives what was told: whether it was proved, and each line with a place."""
+    """Checks a copy of the crate with these faults, and gives whether it was proved, and each goal that was told with a place."""
     with tempfile.TemporaryDirectory(prefix="faults-", dir=f"{ROOT}/out") as room:
         folder = copied_to(room, crate)
-        plant(folder, faults)
+        lines = plant(folder, faults)
         how = {"stdin": subprocess.DEVNULL, "stdout": subprocess.PIPE, "stderr": subprocess.STDOUT, "text": True, "errors": "replace"}
         # Several run at once, and after a small change more jobs only take more time.
         said = subprocess.run(["rt", "check", "--jobs", "1", *enough(crate)], cwd=folder, **how).stdout
     verdict = VERDICT.search(said)
     if not verdict:
-        return False, [(None, 0, said[-600:])]
+        return False, [Goal(None, 0, said[-600:], None)]
     if verdict[1] == "logic=proved" or verdict[2] and verdict[2] == verdict[3]:
         return True, []
-    told = [(it[2], int(it[3]) - 1, it[4]) for it in map(TOLD.match, said.split("\n")) if it]
-    endless = [(f"proofs/{it[1].replace('::', '/')}/Invariants.antt", 0, it[2]) for it in map(ENDLESS.match, said.split("\n")) if it]
-    return False, told + endless
+    return False, goals_in(said, faults, lines)
 
 
 def is_unread(goal):
     """Whether the prover could not read what the fault says, so that no contract was tried."""
-    file, _, text = goal
-    if file is None:
+    if goal.file is None:
         return True
-    return file.startswith(("src/", "specs/")) and text.startswith("error: ") and (not text.startswith("error: `") or bool(UNREAD.search(re.sub("`[^`]*`", "", text))))
+    text = goal.text
+    return goal.file.startswith(("src/", "specs/")) and text.startswith("error: ") and (not text.startswith("error: `") or bool(UNREAD.search(re.sub("`[^`]*`", "", text))))
 
 
 def is_of_the_code(goal):
     """Whether it is a clause or a loop's end that is not proved, and not a proof by hand that does not fit."""
-    file, _, text = goal
-    return file.startswith("src/") or text.startswith("no proof")
+    return goal.file.startswith("src/") or goal.text.startswith("no proof")
 
 
 def judged(is_proved, goals):
     if is_proved:
-        return Verdict(False, [(None, 0, "the crate is still proved")])
+        return Verdict(False, [Goal(None, 0, "the crate is still proved", None)])
     unread = [it for it in goals if is_unread(it)]
     if unread:
         return Verdict(False, unread)
@@ -305,25 +372,22 @@ def judged(is_proved, goals):
 
 
 def try_part(part):
-    """The verdicts of faults of a crate that do not see each other, by name."""
+    """The verdicts of faults of a crate that do not see each other, by name, and the faults of which nothing was told."""
     crate = part[0].crate
     is_proved, goals = check(crate, part)
     if len(part) == 1:
-        return {f"{crate}/{part[0].name}": judged(is_proved, goals)}
+        return {f"{crate}/{part[0].name}": judged(is_proved, goals)}, []
     verdicts, rest = {}, []
     for fault in part:
-        of = lambda function: [it for it in goals if it[0] and function.has(it[0], it[1])]
+        name = fault.name if fault.is_copied else None
+        of = lambda function: [it for it in goals if it.file and it.copied_for == name and function.has(it.file, it.line)]
         own, added = list(map(of, fault.functions)), list(map(of, fault.added))
         told = [it for some in own + added for it in some]
         if told and all(own) and not any(map(is_unread, goals)):
             verdicts[f"{crate}/{fault.name}"] = Verdict(True, told, all(any(map(is_of_the_code, some)) for some in own or [told]))
         else:
             rest.append(fault)
-    # A function is not checked while one that it calls has no proof, so those of which nothing was told are tried without the others.
-    half = len(part) // 2
-    for again in [rest] if len(rest) < len(part) else [part[:half], part[half:]]:
-        verdicts |= try_part(again) if again else {}
-    return verdicts
+    return verdicts, rest
 
 
 def is_proved(crate):
@@ -341,15 +405,24 @@ def is_proved(crate):
     return True
 
 
-def parts_of(crate, names):
-    """The faults of a crate, parted, and a verdict on each that cannot be planted."""
+def read_faults(crate, names):
+    """The faults of a crate, and a verdict on each that cannot be planted."""
     faults, verdicts = [], {}
     for name in names:
         try:
             faults.append(read_fault(crate, name))
         except BadFault as why:
-            verdicts[f"{crate}/{name}"] = Verdict(False, [(None, 0, f"the fault cannot be planted: {why}")])
-    return together(faults), verdicts
+            verdicts[f"{crate}/{name}"] = Verdict(False, [Goal(None, 0, f"the fault cannot be planted: {why}", None)])
+    return faults, verdicts
+
+
+def parts_of_round(number, faults):
+    """Parts what is to be tried of a crate, and gives what is left for the next round: in place, then in copies, at last each alone."""
+    if number == 1:
+        return together(faults)
+    if number == 2:
+        return together([replace(it, is_copied=it.can_be_copied) for it in faults])
+    return [[replace(it, is_copied=False)] for it in faults], []
 
 
 def try_all(faults):
@@ -359,25 +432,35 @@ def try_all(faults):
     """
     started, number = time.time(), sum(map(len, faults.values()))
     needed = {it for crate in faults for it in (crate, *all_below(crate))}
-    proved, tries, verdicts = {}, [], {}
+    proved, verdicts, left, rounds, running = {}, {}, {}, Counter(), {}
 
     def prove(crate):
         return all(proved[it].result() for it in dependencies()[crate]) and is_proved(crate)
 
     with ThreadPoolExecutor(AT_ONCE) as pool:
+
+        def begin_round(crate):
+            rounds[crate] += 1
+            parts, left[crate] = parts_of_round(rounds[crate], left[crate])
+            running.update({pool.submit(try_part, it): crate for it in parts})
+
         # The lowest first, so that none waits for one behind it.
         for crate in sorted(needed, key=lambda it: len(all_below(it))):
             proved[crate] = pool.submit(prove, crate)
-        crates = {future: crate for crate, future in proved.items()}
-        for future in as_completed(crates):
-            if future.result() and crates[future] in faults:
-                parts, bad = parts_of(crates[future], faults[crates[future]])
-                verdicts |= bad
-                # The largest first, since they take longest.
-                tries += [pool.submit(try_part, it) for it in sorted(parts, key=len, reverse=True)]
-        for given in as_completed(tries):
-            verdicts |= given.result()
-            print(f"{len(verdicts)} of {number} faults, {time.time() - started:.0f} s", flush=True)
+            running[proved[crate]] = crate
+        while running:
+            for future in wait(running, return_when=FIRST_COMPLETED).done:
+                crate = running.pop(future)
+                if future is not proved[crate]:
+                    told, rest = future.result()
+                    verdicts |= told
+                    left[crate] += rest
+                    print(f"{len(verdicts)} of {number} faults, {time.time() - started:.0f} s", flush=True)
+                elif future.result() and crate in faults:
+                    left[crate], bad = read_faults(crate, faults[crate])
+                    verdicts |= bad
+                if left.get(crate) and crate not in running.values():
+                    begin_round(crate)
     return verdicts, [it for it in sorted(needed) if not proved[it].result()]
 
 
@@ -408,7 +491,7 @@ def main(words):
         if words or not verdict.is_refused or not verdict.by_clause:
             kind = "NOT REFUSED" if not verdict.is_refused else "refused by a clause" if verdict.by_clause else "refused by a proof by hand"
             print(f"{name}: {kind}")
-            for file, line, text in verdict.goals[: 9 if words else 1]:
+            for file, line, text, _ in verdict.goals[: 9 if words else 1]:
                 print(f"    {file}:{line + 1}: {text[:160]}" if file else f"    {text}")
     refused = [it for it in verdicts.values() if it.is_refused]
     clauses = sum(it.by_clause for it in refused)

@@ -23,5 +23,6 @@ mod program;
 mod step_line;
 mod table_line;
 mod table_script;
+mod words;
 
 pub use program::{bench, start};

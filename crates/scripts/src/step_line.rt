@@ -5,6 +5,7 @@ ghost use Rattle.script_text.specs.Line.{AreInRange, Says, SaysNothing, Writes};
 ghost use Rattle.script_text.specs.declared.line.Numbers.TheVariants.{One, Two, Three};
 ghost use Rattle.scripts.specs.StepLine.{step_line};
 
+use crate::words::is;
 use counting_core::Step;
 use script_text::line::Numbers::{One, Three, Two};
 use script_text::line::{Line, read_line};
@@ -35,11 +36,14 @@ fn step_of_owner(word: &[u8], owner: usize) -> Option<Step<u32>>
     ensures none { IfNone result ((step : CoreStep ℕ)
         → ¬ (Writes step_line word.now (One owner) step)) }
 {
-    Some(match word {
-        b"raise" => Step::Raise { owner },
-        b"quit" => Step::Quit { owner },
-        b"lower" => Step::Lower { owner },
-        _ => return None,
+    Some(if is(word, b"raise") {
+        Step::Raise { owner }
+    } else if is(word, b"quit") {
+        Step::Quit { owner }
+    } else if is(word, b"lower") {
+        Step::Lower { owner }
+    } else {
+        return None;
     })
 }
 
@@ -48,19 +52,30 @@ fn step_on_handle(word: &[u8], owner: usize, handle: usize) -> Option<Step<u32>>
     ensures none { IfNone result ((step : CoreStep ℕ)
         → ¬ (Writes step_line word.now (Two owner handle) step)) }
 {
-    Some(match word {
-        b"clone" => Step::Clone { owner, handle },
-        b"drop" => Step::Drop { owner, handle },
-        b"mark" => Step::Mark { owner, handle },
-        b"unique" => Step::Unique { owner, handle },
-        b"static" => Step::Static { owner, handle },
-        b"getmut" => Step::GetMut { owner, handle },
-        b"endwrite" => Step::EndWrite { owner, handle },
-        b"intounique" => Step::IntoUnique { owner, handle },
-        b"share" => Step::Share { owner, handle },
-        b"load" => Step::Load { owner, handle },
-        b"return" => Step::Return { owner, handle },
-        _ => return None,
+    Some(if is(word, b"clone") {
+        Step::Clone { owner, handle }
+    } else if is(word, b"drop") {
+        Step::Drop { owner, handle }
+    } else if is(word, b"mark") {
+        Step::Mark { owner, handle }
+    } else if is(word, b"unique") {
+        Step::Unique { owner, handle }
+    } else if is(word, b"static") {
+        Step::Static { owner, handle }
+    } else if is(word, b"getmut") {
+        Step::GetMut { owner, handle }
+    } else if is(word, b"endwrite") {
+        Step::EndWrite { owner, handle }
+    } else if is(word, b"intounique") {
+        Step::IntoUnique { owner, handle }
+    } else if is(word, b"share") {
+        Step::Share { owner, handle }
+    } else if is(word, b"load") {
+        Step::Load { owner, handle }
+    } else if is(word, b"return") {
+        Step::Return { owner, handle }
+    } else {
+        return None;
     })
 }
 
@@ -70,22 +85,25 @@ fn step_with_third(word: &[u8], owner: usize, handle: usize, third: usize) -> Op
     ensures none { IfNone result ((step : CoreStep ℕ)
         → ¬ (Writes step_line word.now (Three owner handle third) step)) }
 {
-    Some(match word {
-        b"write" => Step::Write {
+    Some(if is(word, b"write") {
+        Step::Write {
             owner,
             handle,
             value: third as u32,
-        },
-        b"lend" => Step::Lend {
+        }
+    } else if is(word, b"lend") {
+        Step::Lend {
             owner,
             handle,
             to: third,
-        },
-        b"give" => Step::Give {
+        }
+    } else if is(word, b"give") {
+        Step::Give {
             owner,
             handle,
             to: third,
-        },
-        _ => return None,
+        }
+    } else {
+        return None;
     })
 }

@@ -5,6 +5,7 @@ ghost use Rattle.script_text.specs.Line.{AreInRange, Says, SaysNothing, Writes};
 ghost use Rattle.scripts.specs.declared.table_line.TableLine.{TableLine as Asked};
 ghost use Rattle.scripts.specs.TableLine.{table_line};
 
+use crate::words::is;
 use handle_tables::table::Command;
 use script_text::line::Numbers::{One, Three, Two};
 use script_text::line::{Line, read_line};
@@ -42,13 +43,18 @@ fn asked_of_slot(word: &[u8], slot: usize) -> Option<TableLine>
     ensures none { IfNone result ((asked : Asked)
         → ¬ (Writes table_line word.now (One slot) asked)) }
 {
-    let command = match word {
-        b"get" => return Some(TableLine::Get(slot)),
-        b"drop" => Command::Drop(slot),
-        b"own" => Command::Own(slot),
-        b"mark" => Command::Mark(slot),
-        b"raw" => Command::Raw(slot),
-        _ => return None,
+    let command = if is(word, b"get") {
+        return Some(TableLine::Get(slot));
+    } else if is(word, b"drop") {
+        Command::Drop(slot)
+    } else if is(word, b"own") {
+        Command::Own(slot)
+    } else if is(word, b"mark") {
+        Command::Mark(slot)
+    } else if is(word, b"raw") {
+        Command::Raw(slot)
+    } else {
+        return None;
     };
     Some(TableLine::Serve(command))
 }
@@ -59,15 +65,22 @@ fn asked_with_second(word: &[u8], slot: usize, second: usize) -> Option<TableLin
     ensures none { IfNone result ((asked : Asked)
         → ¬ (Writes table_line word.now (Two slot second) asked)) }
 {
-    let command = match word {
-        b"new" => Command::New(slot, second as u32),
-        b"clone" => Command::Clone(slot, second),
-        b"getmut" => Command::GetMut(slot, second as u32),
-        b"intounique" => Command::IntoUnique(slot, second as u32),
-        b"makemut" => Command::MakeMut(slot, second as u32),
-        b"ptreq" => Command::PtrEq(slot, second),
-        b"same" => Command::Same(slot, second),
-        _ => return None,
+    let command = if is(word, b"new") {
+        Command::New(slot, second as u32)
+    } else if is(word, b"clone") {
+        Command::Clone(slot, second)
+    } else if is(word, b"getmut") {
+        Command::GetMut(slot, second as u32)
+    } else if is(word, b"intounique") {
+        Command::IntoUnique(slot, second as u32)
+    } else if is(word, b"makemut") {
+        Command::MakeMut(slot, second as u32)
+    } else if is(word, b"ptreq") {
+        Command::PtrEq(slot, second)
+    } else if is(word, b"same") {
+        Command::Same(slot, second)
+    } else {
+        return None;
     };
     Some(TableLine::Serve(command))
 }

@@ -172,8 +172,9 @@ def read_fault(crate, name):
                 fault.is_alone |= bool(CLAUSE.search(sound) or CLAUSE.search(wrong))
     if not fault.lines:
         raise BadFault("it changes nothing")
-    proofs = [f"{os.path.relpath(at, folder)}/Proof.antt" for at, _, _ in os.walk(f"{folder}/proofs")]
-    is_by_itself = lambda it: not it.is_of_trait and not any(it.has(proof, 0) for proof in proofs)
+    # By the name alone, since the proof of a method lies with its type, which another file may declare.
+    by_hand = {os.path.basename(at).lstrip("+") for at, _, _ in os.walk(f"{folder}/proofs")}
+    is_by_itself = lambda it: not it.is_of_trait and it.name not in by_hand
     fault.can_be_copied = not fault.heads and not fault.added and all(map(is_by_itself, fault.functions))
     return fault
 

@@ -1,8 +1,8 @@
 // How many items are copied and dropped, alone and shared.
 use crate::made::{counted_pages, counted_table};
 use cow_table::{CowTable, SetError};
+use facts::counted::{Counted, Tally};
 use facts::{again, holds, ok, same};
-use handle_tests::counted::{Counted, Tally};
 use std::alloc::Global;
 
 // Sets the items at some places in turn. Whether so many copies were made by then as stands beside each place.

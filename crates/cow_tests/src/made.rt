@@ -2,7 +2,7 @@
 ghost use Rattle.std.specs.Prelude.{◌<◌};
 
 use cow_table::CowTable;
-use handle_tests::counted::{Counted, Tally};
+use facts::counted::{Counted, Tally};
 use std::alloc::{AllocError, Global};
 
 /// Items 0, 1 and so on.

@@ -3,8 +3,8 @@ use crate::editions::{Edition, publish, read_all};
 use crate::made::counted_table;
 use cow_table::CowTable;
 use crossbeam_channel::{Receiver, Sender, unbounded};
+use facts::counted::{Counted, Tally};
 use facts::{holds, ok, same};
-use handle_tests::counted::{Counted, Tally};
 use std::alloc::{AllocError, Global};
 use std::thread;
 

@@ -1,6 +1,9 @@
-//! What tests assert. `assert!` and `?` may end a test early, with all that it has by then, and each such end makes its
-//! proof longer. These end the process inside of one call, and tell the expression.
+//! What tests assert, and a value that counts its drops and copies. `assert!` and `?` may end a test early, with all that
+//! it has by then, and each such end makes its proof longer. The macros here end the process inside of one call, and tell
+//! the expression.
 #![tactic(auto)]
+
+pub mod counted;
 
 use std::fmt::Debug;
 

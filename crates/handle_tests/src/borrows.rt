@@ -12,7 +12,7 @@ fn value_of<'a>(handle: &'a Arc<u32>) -> &'a u32 {
 
 #[test]
 fn a_borrow_reads_and_clones(rt: HostRuntime) {
-    let a = ok!(&rt, arc_of(rt.alloc(), 7u32));
+    let a = arc_of(&rt, 7u32);
     let b = a.borrow_arc();
     same!(&rt, (*b.get(), *b, *value_of(&a)), (7, 7, 7));
     same!(
@@ -24,15 +24,15 @@ fn a_borrow_reads_and_clones(rt: HostRuntime) {
     let c = ok!(&rt, b.clone_arc(&rt));
     holds!(&rt, *c == 7 && Arc::ptr_eq(&a, &c) && !a.is_unique());
     holds!(&rt, ArcBorrow::ptr_eq(&b, &c.borrow_arc()));
-    let other = ok!(&rt, arc_of(rt.alloc(), 7u32));
+    let other = arc_of(&rt, 7u32);
     holds!(&rt, !ArcBorrow::ptr_eq(&b, &other.borrow_arc()));
 }
 
 #[test]
 fn borrows_are_copied_and_compared_by_value(rt: HostRuntime) {
-    let a = ok!(&rt, arc_of(rt.alloc(), 7u32));
-    let equal = ok!(&rt, arc_of(rt.alloc(), 7u32));
-    let other = ok!(&rt, arc_of(rt.alloc(), 8u32));
+    let a = arc_of(&rt, 7u32);
+    let equal = arc_of(&rt, 7u32);
+    let other = arc_of(&rt, 8u32);
     let b = a.borrow_arc();
     let copied = b;
     holds!(
@@ -44,7 +44,7 @@ fn borrows_are_copied_and_compared_by_value(rt: HostRuntime) {
 
 #[test]
 fn a_borrow_has_its_text(rt: HostRuntime) {
-    let a = ok!(&rt, arc_of(rt.alloc(), 7u32));
+    let a = arc_of(&rt, 7u32);
     let text = ok!(&rt, format!(in rt.alloc(); "{:?}", a.borrow_arc()));
     same!(&rt, text.as_str(), "ArcBorrow(7)");
 }

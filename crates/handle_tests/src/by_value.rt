@@ -9,11 +9,8 @@ use std::collections::HashMap;
 #[test]
 fn a_map_is_keyed_by_handles(rt: HostRuntime) {
     let mut map = HashMap::new(rt.alloc());
-    ok!(&rt, map.insert(ok!(&rt, arc_of(rt.alloc(), 7u32)), 1u8));
-    let (seven, eight) = (
-        ok!(&rt, arc_of(rt.alloc(), 7u32)),
-        ok!(&rt, arc_of(rt.alloc(), 8u32)),
-    );
+    ok!(&rt, map.insert(arc_of(&rt, 7u32), 1u8));
+    let (seven, eight) = (arc_of(&rt, 7u32), arc_of(&rt, 8u32));
     same!(&rt, map.get(&seven).copied(), Some(1));
     same!(&rt, map.get(&eight).copied(), None);
 }
@@ -22,11 +19,7 @@ fn a_map_is_keyed_by_handles(rt: HostRuntime) {
 fn handles_are_sorted(rt: HostRuntime) {
     let mut handles = ok!(
         &rt,
-        vec![in rt.alloc();
-            ok!(&rt, arc_of(rt.alloc(), 3u32)),
-            ok!(&rt, arc_of(rt.alloc(), 1u32)),
-            ok!(&rt, arc_of(rt.alloc(), 2u32)),
-        ],
+        vec![in rt.alloc(); arc_of(&rt, 3u32), arc_of(&rt, 1u32), arc_of(&rt, 2u32),],
     );
     ok!(&rt, handles.sort());
     let text = ok!(&rt, format!(in rt.alloc(); "{:?}", handles));
@@ -35,10 +28,7 @@ fn handles_are_sorted(rt: HostRuntime) {
 
 #[test]
 fn the_greater_value_is_the_greater_handle(rt: HostRuntime) {
-    let (one, two) = (
-        ok!(&rt, arc_of(rt.alloc(), 1u32)),
-        ok!(&rt, arc_of(rt.alloc(), 2u32)),
-    );
+    let (one, two) = (arc_of(&rt, 1u32), arc_of(&rt, 2u32));
     same!(&rt, one.cmp(&two), Ordering::Less);
     same!(&rt, two.partial_cmp(&one), Some(Ordering::Greater));
     holds!(&rt, one < two && are_equal(&one, &again!(&rt, &one)));
@@ -46,8 +36,8 @@ fn the_greater_value_is_the_greater_handle(rt: HostRuntime) {
 
 #[test]
 fn a_handle_prints_as_its_value(rt: HostRuntime) {
-    let seven = ok!(&rt, arc_of(rt.alloc(), 7u32));
-    let word = ok!(&rt, arc_of(rt.alloc(), "a word"));
+    let seven = arc_of(&rt, 7u32);
+    let word = arc_of(&rt, "a word");
     let text = ok!(
         &rt,
         format!(in rt.alloc(); "{} {:?} {:04} {} {:?}", seven, seven, seven, word, word),

@@ -1,5 +1,5 @@
-//! Tests of the handles and of what stands on them, through `servo_arc`: what no contract says. Beside them stand a
-//! caller, which shows how code above uses the crate, and the values that tests count.
+//! Tests of the handles and of what stands on them, through `servo_arc`: what no contract says. Beside them stands a
+//! caller, which shows how code above uses the crate.
 #![tactic(auto)]
 
 #[cfg(test)]
@@ -11,7 +11,6 @@ mod by_value;
 pub mod caller;
 #[cfg(test)]
 mod calling;
-pub mod counted;
 #[cfg(test)]
 mod drop_order;
 #[cfg(test)]
@@ -20,12 +19,23 @@ mod header_slices;
 mod iterators;
 #[cfg(test)]
 mod limits;
-pub mod made;
+#[cfg(test)]
+mod long_lists;
+#[cfg(test)]
+mod made;
 #[cfg(test)]
 mod one_thread;
 #[cfg(test)]
+mod pages;
+#[cfg(test)]
+mod put;
+#[cfg(test)]
 mod sizes;
 #[cfg(test)]
+mod table_rows;
+#[cfg(test)]
 mod table_slots;
+#[cfg(test)]
+mod union_rows;
 #[cfg(test)]
 mod unions;

@@ -1,7 +1,7 @@
 // Each call once, at values that count.
 use crate::by_bound::crosses_threads;
-use crate::counted::{Counted, Tally};
 use crate::made::arc_of;
+use facts::counted::{Counted, Tally};
 use facts::{again, holds, ok, same};
 use servo_arc::{Arc, Full, RawArc, UniqueArc};
 
@@ -15,7 +15,7 @@ fn handles_cross_threads() {
 #[test]
 fn the_last_handle_drops_the_value(rt: HostRuntime) {
     let tally = Tally::new();
-    let a = ok!(&rt, arc_of(rt.alloc(), Counted::new(&tally, 5)));
+    let a = arc_of(&rt, Counted::new(&tally, 5));
     let b = again!(&rt, &a);
     same!(&rt, (a.value, b.value), (5, 5));
     drop(a);
@@ -26,7 +26,7 @@ fn the_last_handle_drops_the_value(rt: HostRuntime) {
 
 #[test]
 fn a_shared_value_is_not_written(rt: HostRuntime) {
-    let mut a = ok!(&rt, arc_of(rt.alloc(), 5u64));
+    let mut a = arc_of(&rt, 5u64);
     let b = again!(&rt, &a);
     holds!(&rt, Arc::get_mut(&mut a).is_none());
     same!(&rt, (*a, *b), (5, 5));
@@ -43,7 +43,7 @@ fn a_shared_value_is_not_written(rt: HostRuntime) {
 #[test]
 fn a_shared_value_is_copied_once_to_be_written(rt: HostRuntime) {
     let tally = Tally::new();
-    let mut a = ok!(&rt, arc_of(rt.alloc(), Counted::new(&tally, 5)));
+    let mut a = arc_of(&rt, Counted::new(&tally, 5));
     let b = again!(&rt, &a);
     ok!(&rt, Arc::make_mut(&mut a, rt.alloc())).value = 9;
     same!(&rt, (a.value, b.value, tally.copies()), (9, 5, 1));
@@ -84,7 +84,7 @@ fn a_static_value_is_marked_from_the_start(rt: HostRuntime) {
 #[test]
 fn a_mark_may_be_set_twice(rt: HostRuntime) {
     let tally = Tally::new();
-    let a = ok!(&rt, arc_of(rt.alloc(), Counted::new(&tally, 1)));
+    let a = arc_of(&rt, Counted::new(&tally, 1));
     let b = again!(&rt, &a);
     holds!(&rt, !a.is_static());
     a.mark_as_intentionally_leaked();
@@ -97,7 +97,7 @@ fn a_mark_may_be_set_twice(rt: HostRuntime) {
 
 #[test]
 fn a_token_is_a_handle(rt: HostRuntime) {
-    let raw = Arc::into_raw(ok!(&rt, arc_of(rt.alloc(), 7u64)));
+    let raw = Arc::into_raw(arc_of(&rt, 7u64));
     let read = *raw.value();
     let added = Arc::from_raw_addrefed(&raw, &rt);
     let c = Arc::from_raw(raw);
@@ -122,7 +122,7 @@ fn a_unique_handle_is_written_and_then_shared(rt: HostRuntime) {
 #[test]
 fn a_lone_handle_is_unique_again(rt: HostRuntime) {
     let tally = Tally::new();
-    let a = ok!(&rt, arc_of(rt.alloc(), Counted::new(&tally, 5)));
+    let a = arc_of(&rt, Counted::new(&tally, 5));
     let mut unique = ok!(&rt, Arc::into_unique(a));
     unique.value = 6;
     let a = unique.shareable();
@@ -154,7 +154,7 @@ fn a_handle_of_a_marked_block_is_never_unique_again(rt: HostRuntime) {
 #[test]
 fn the_last_handle_gives_the_value(rt: HostRuntime) {
     let tally = Tally::new();
-    let a = ok!(&rt, arc_of(rt.alloc(), Counted::new(&tally, 5)));
+    let a = arc_of(&rt, Counted::new(&tally, 5));
     let b = again!(&rt, &a);
     holds!(&rt, Arc::into_inner(a).is_none() && b.is_unique());
     let last = Arc::into_inner(b).expect(&rt, "the last handle");
@@ -186,17 +186,17 @@ fn an_unwritten_block_drops_no_value(rt: HostRuntime) {
 
 #[test]
 fn equality_asks_the_values(rt: HostRuntime) {
-    let a = ok!(&rt, arc_of(rt.alloc(), NeverEqual));
+    let a = arc_of(&rt, NeverEqual);
     let b = again!(&rt, &a);
     holds!(&rt, a != b);
-    let c = ok!(&rt, arc_of(rt.alloc(), 4u64));
-    let d = ok!(&rt, arc_of(rt.alloc(), 4u64));
+    let c = arc_of(&rt, 4u64);
+    let d = arc_of(&rt, 4u64);
     holds!(&rt, c == d && !Arc::ptr_eq(&c, &d));
 }
 
 #[test]
 fn clones_may_be_unbounded(rt: HostRuntime) {
-    let a = ok!(&rt, arc_of(rt.alloc(), 1u64));
+    let a = arc_of(&rt, 1u64);
     let b = ok!(&rt, Arc::clone(&a, &rt));
     holds!(&rt, Arc::ptr_eq(&a, &b) && *b == 1);
 }
@@ -210,8 +210,8 @@ fn the_refusal_has_its_text(rt: HostRuntime) {
 
 #[test]
 fn many_handles_have_one_block(rt: HostRuntime) {
-    let a = ok!(&rt, arc_of(rt.alloc(), 1u64));
-    let b = ok!(&rt, arc_of(rt.alloc(), 1u64));
+    let a = arc_of(&rt, 1u64);
+    let b = arc_of(&rt, 1u64);
     for _ in 0..1000 {
         let c = again!(&rt, &a);
         holds!(&rt, Arc::ptr_eq(&a, &c) && Arc::ptr_eq(&c, &a));

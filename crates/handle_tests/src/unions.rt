@@ -14,8 +14,8 @@ fn unions_cross_threads() {
 
 #[test]
 fn a_first_is_no_second(rt: HostRuntime) {
-    let first = Numbers::from_first(ok!(&rt, arc_of(rt.alloc(), 7)));
-    let second = Numbers::from_second(ok!(&rt, arc_of(rt.alloc(), 7)));
+    let first = Numbers::from_first(arc_of(&rt, 7));
+    let second = Numbers::from_second(arc_of(&rt, 7));
     holds!(&rt, first.is_first() && !first.is_second());
     holds!(&rt, second.is_second() && !second.is_first());
     holds!(
@@ -29,9 +29,9 @@ fn a_first_is_no_second(rt: HostRuntime) {
 
 #[test]
 fn unions_of_one_kind_are_compared_by_value(rt: HostRuntime) {
-    let seven = Numbers::from_first(ok!(&rt, arc_of(rt.alloc(), 7)));
-    let other = Numbers::from_first(ok!(&rt, arc_of(rt.alloc(), 7)));
-    let eight = Numbers::from_first(ok!(&rt, arc_of(rt.alloc(), 8)));
+    let seven = Numbers::from_first(arc_of(&rt, 7));
+    let other = Numbers::from_first(arc_of(&rt, 7));
+    let eight = Numbers::from_first(arc_of(&rt, 8));
     holds!(
         &rt,
         seven == other && seven != eight && are_equal(&seven, &other),
@@ -39,7 +39,7 @@ fn unions_of_one_kind_are_compared_by_value(rt: HostRuntime) {
     holds!(&rt, !ArcUnion::ptr_eq(&seven, &other));
     let copy = again!(&rt, &seven);
     holds!(&rt, seven == copy && ArcUnion::ptr_eq(&seven, &copy));
-    let one_block = ok!(&rt, arc_of(rt.alloc(), 7));
+    let one_block = arc_of(&rt, 7);
     let shared = Numbers::from_second(again!(&rt, &one_block));
     holds!(
         &rt,
@@ -49,7 +49,7 @@ fn unions_of_one_kind_are_compared_by_value(rt: HostRuntime) {
 
 #[test]
 fn a_borrow_of_a_union_is_cloned_without_bound(rt: HostRuntime) {
-    let union = ArcUnion::<u32, u64>::from_second(ok!(&rt, arc_of(rt.alloc(), 7u64)));
+    let union = ArcUnion::<u32, u64>::from_second(arc_of(&rt, 7u64));
     let borrow = union.borrow();
     let copied = borrow;
     holds!(&rt, matches!(borrow, ArcUnionBorrow::Second(_)));
@@ -62,8 +62,8 @@ fn a_borrow_of_a_union_is_cloned_without_bound(rt: HostRuntime) {
 
 #[test]
 fn unions_have_their_texts(rt: HostRuntime) {
-    let first = Numbers::from_first(ok!(&rt, arc_of(rt.alloc(), 7)));
-    let second = Numbers::from_second(ok!(&rt, arc_of(rt.alloc(), 7)));
+    let first = Numbers::from_first(arc_of(&rt, 7));
+    let second = Numbers::from_second(arc_of(&rt, 7));
     let text = ok!(&rt, format!(in rt.alloc(); "{:?} {:?}", first, second));
     same!(
         &rt,

@@ -1,7 +1,7 @@
 // What a builder of header slices leaves.
 use crate::telling::tell;
+use facts::counted::{Counted, Tally};
 use facts::same;
-use handle_tests::counted::{Counted, Tally};
 use servo_arc::{Arc, BuildError, HeaderSlice, UniqueArc};
 use std::io::Print;
 use std::process::Abort;

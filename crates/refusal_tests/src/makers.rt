@@ -1,7 +1,7 @@
 // What a call that makes a handle or copies its value leaves.
 use crate::telling::tell;
+use facts::counted::{Counted, Tally};
 use facts::{holds, same};
-use handle_tests::counted::{Counted, Tally};
 use servo_arc::{Arc, UniqueArc};
 use std::alloc::{AllocError, Global};
 use std::io::Print;

@@ -1,7 +1,7 @@
 // What a change of a rose tree or of a style leaves.
 use crate::telling::tell;
+use facts::counted::{Counted, Tally};
 use facts::{again, holds, ok, same};
-use handle_tests::counted::{Counted, Tally};
 use servo_arc::{Arc, ArcUnion};
 use shared_trees::{Declared, Inline, Rose, RoseError, Style};
 use std::alloc::{AllocError, Global};

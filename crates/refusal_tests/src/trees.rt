@@ -1,7 +1,7 @@
 // What a call on versions of a list or a map leaves.
 use crate::telling::tell;
+use facts::counted::{Counted, Tally};
 use facts::{again, holds, same};
-use handle_tests::counted::{Counted, Tally};
 use shared_trees::{List, TreeMap};
 use std::alloc::{AllocError, Global};
 

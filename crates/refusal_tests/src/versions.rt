@@ -2,8 +2,8 @@
 use crate::telling::tell;
 use cow_table::{CowTable, SetError};
 use cow_tests::made::counted_items;
+use facts::counted::Tally;
 use facts::{holds, same};
-use handle_tests::counted::Tally;
 use std::alloc::{AllocError, Global};
 
 #[test]

@@ -1,6 +1,6 @@
 // Two threads end the two handles of a block at once, by the call that gives the value to the last of them.
+use crate::made::arc_of;
 use facts::{again, holds, ok};
-use handle_tests::made::arc_of;
 use servo_arc::Arc;
 use std::sync::Barrier;
 use std::thread;
@@ -10,7 +10,7 @@ const ROUNDS: u64 = 1000;
 #[test]
 fn one_of_two_threads_gets_the_value(rt: HostRuntime) {
     for value in 0..ROUNDS {
-        let a = ok!(&rt, arc_of(rt.alloc(), value));
+        let a = arc_of(&rt, value);
         let b = again!(&rt, &a);
         let both = Barrier::new(2);
         let given = thread::join(

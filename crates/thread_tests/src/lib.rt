@@ -6,6 +6,8 @@ mod last_value;
 #[cfg(test)]
 mod limits;
 #[cfg(test)]
+mod made;
+#[cfg(test)]
 mod many_threads;
 #[cfg(test)]
 mod threads;

@@ -1,7 +1,7 @@
 // More threads, more handles, and each way in which a handle reaches a thread. Each thread is joined.
+use crate::made::arc_of;
+use facts::counted::{Counted, Tally};
 use facts::{again, holds, ok, same};
-use handle_tests::counted::{Counted, Tally};
-use handle_tests::made::arc_of;
 use servo_arc::{Arc, RawArc, ThinArc};
 use std::thread;
 
@@ -20,7 +20,7 @@ fn clone_if_granted(handle: &Arc<u64>) -> bool {
 
 #[test]
 fn four_threads_clone_within_bounds(rt: HostRuntime) {
-    let a = ok!(&rt, arc_of(rt.alloc(), 7u64));
+    let a = arc_of(&rt, 7u64);
     let done = thread::join(
         &rt,
         || thread::join(&rt, || clone_if_granted(&a), || clone_if_granted(&a)),
@@ -46,7 +46,7 @@ fn count_refused(handle: &Arc<u64>) -> u64 {
 // more than one in a hundred would be refused if the threads run at once.
 #[test]
 fn four_threads_are_seldom_refused(rt: HostRuntime) {
-    let a = ok!(&rt, arc_of(rt.alloc(), 7u64));
+    let a = arc_of(&rt, 7u64);
     let ((one, two), (three, four)) = thread::join(
         &rt,
         || thread::join(&rt, || count_refused(&a), || count_refused(&a)),
@@ -119,7 +119,7 @@ impl Drop for Parcel<'_> {
 #[test]
 fn a_token_is_spent_on_another_thread(rt: HostRuntime) {
     let tally = Tally::new();
-    let a = ok!(&rt, arc_of(rt.alloc(), Counted::new(&tally, 5)));
+    let a = arc_of(&rt, Counted::new(&tally, 5));
     let parcel = Parcel {
         raw: Arc::into_raw(again!(&rt, &a)),
     };

@@ -1,8 +1,8 @@
 // Threads that share one block. Each is joined. If two should act at the same moment, they look for each other
 // before, and go on alone if the other is not run for long: what is asserted holds either way.
+use crate::made::arc_of;
+use facts::counted::{Counted, Tally};
 use facts::{again, holds, ok, same};
-use handle_tests::counted::{Counted, Tally};
-use handle_tests::made::arc_of;
 use servo_arc::{Arc, ArcUnion};
 use std::process::Abort;
 use std::sync::atomic::AtomicBool;
@@ -35,7 +35,7 @@ fn clone_after(own: &AtomicBool, other: &AtomicBool, handle: Arc<Counted<'_>>) -
 fn two_threads_clone_at_once(rt: HostRuntime) {
     let tally = Tally::new();
     let (left, right) = (AtomicBool::new(false), AtomicBool::new(false));
-    let a = ok!(&rt, arc_of(rt.alloc(), Counted::new(&tally, 5)));
+    let a = arc_of(&rt, Counted::new(&tally, 5));
     let b = again!(&rt, &a);
     let done = thread::join(
         &rt,
@@ -50,14 +50,14 @@ fn two_threads_clone_at_once(rt: HostRuntime) {
 type Pair<'a> = (Arc<Counted<'a>>, Arc<Counted<'a>>);
 
 fn by_token<'a>(rt: &(impl Abort + AllocGlobal + Wait), tally: &'a Tally) -> Pair<'a> {
-    let raw = Arc::into_raw(ok!(rt, arc_of(rt.alloc(), Counted::new(tally, 5))));
+    let raw = Arc::into_raw(arc_of(rt, Counted::new(tally, 5)));
     let added = Arc::from_raw_addrefed(&raw, rt);
     let a = Arc::from_raw(raw);
     (a, ok!(rt, added))
 }
 
 fn by_borrow<'a>(rt: &(impl Abort + AllocGlobal + Wait), tally: &'a Tally) -> Pair<'a> {
-    let a = ok!(rt, arc_of(rt.alloc(), Counted::new(tally, 5)));
+    let a = arc_of(rt, Counted::new(tally, 5));
     let b = ok!(rt, a.borrow_arc().clone_arc(rt));
     (a, b)
 }
@@ -96,7 +96,7 @@ fn clone_union_after(own: &AtomicBool, other: &AtomicBool, union: Numbers<'_>) -
 fn two_threads_clone_a_union_at_once(rt: HostRuntime) {
     let tally = Tally::new();
     let (left, right) = (AtomicBool::new(false), AtomicBool::new(false));
-    let a = Numbers::from_second(ok!(&rt, arc_of(rt.alloc(), Counted::new(&tally, 5))));
+    let a = Numbers::from_second(arc_of(&rt, Counted::new(&tally, 5)));
     let b = again!(&rt, &a);
     let done = thread::join(
         &rt,
@@ -118,7 +118,7 @@ fn clone_often(handle: &Arc<u64>, rt: &impl Wait) -> bool {
 
 #[test]
 fn four_threads_clone_a_lent_handle(rt: HostRuntime) {
-    let a = ok!(&rt, arc_of(rt.alloc(), 7u64));
+    let a = arc_of(&rt, 7u64);
     let done = thread::join(
         &rt,
         || thread::join(&rt, || clone_often(&a, &rt), || clone_often(&a, &rt)),
@@ -138,7 +138,7 @@ fn clone_and_drop(handle: Arc<Counted<'_>>) {
 #[test]
 fn a_mark_among_clones_keeps_the_value(rt: HostRuntime) {
     let tally = Tally::new();
-    let kept = ok!(&rt, arc_of(rt.alloc(), Counted::new(&tally, 1)));
+    let kept = arc_of(&rt, Counted::new(&tally, 1));
     let (a, b, c) = (again!(&rt, &kept), again!(&rt, &kept), again!(&rt, &kept));
     thread::join(
         &rt,
@@ -160,7 +160,7 @@ fn the_last_two_handles_drop_the_value_once(rt: HostRuntime) {
     let tally = Tally::new();
     for round in 1..=1000u64 {
         let (left, right) = (AtomicBool::new(false), AtomicBool::new(false));
-        let a = ok!(&rt, arc_of(rt.alloc(), Counted::new(&tally, round)));
+        let a = arc_of(&rt, Counted::new(&tally, round));
         let b = again!(&rt, &a);
         thread::join(
             &rt,
@@ -186,7 +186,7 @@ fn write_when_alone(mut handle: Arc<u64>, both: &Barrier, rt: &impl Wait) -> boo
 #[test]
 fn a_handle_writes_once_the_other_is_gone(rt: HostRuntime) {
     let both = Barrier::new(2);
-    let a = ok!(&rt, arc_of(rt.alloc(), 1u64));
+    let a = arc_of(&rt, 1u64);
     let b = again!(&rt, &a);
     let (written, ()) = thread::join(
         &rt,
@@ -209,8 +209,8 @@ fn ask_often(a: &Arc<u64>, b: &Arc<u64>) {
 
 #[test]
 fn blocks_are_told_apart_after_contention(rt: HostRuntime) {
-    let a = ok!(&rt, arc_of(rt.alloc(), 1u64));
-    let b = ok!(&rt, arc_of(rt.alloc(), 1u64));
+    let a = arc_of(&rt, 1u64);
+    let b = arc_of(&rt, 1u64);
     thread::join(&rt, || ask_often(&a, &b), || ask_often(&b, &a));
     holds!(&rt, !Arc::ptr_eq(&a, &b) && Arc::ptr_eq(&a, &a));
 }

@@ -1,7 +1,7 @@
 // Unions on two threads, each of which is joined.
+use crate::made::arc_of;
+use facts::counted::{Counted, Tally};
 use facts::{again, ok, same};
-use handle_tests::counted::{Counted, Tally};
-use handle_tests::made::arc_of;
 use servo_arc::ArcUnion;
 use std::thread;
 
@@ -18,13 +18,10 @@ fn clone_and_drop(union: ArcUnion<Counted<'_>, Counted<'_>>) -> bool {
 #[test]
 fn unions_of_both_kinds_on_two_threads_drop_each_value_once(rt: HostRuntime) {
     let (first_tally, second_tally) = (Tally::new(), Tally::new());
-    let first = ArcUnion::<_, Counted<'_>>::from_first(ok!(
+    let first = ArcUnion::<_, Counted<'_>>::from_first(arc_of(&rt, Counted::new(&first_tally, 1)));
+    let second = ArcUnion::<Counted<'_>, _>::from_second(arc_of(
         &rt,
-        arc_of(rt.alloc(), Counted::new(&first_tally, 1))
-    ));
-    let second = ArcUnion::<Counted<'_>, _>::from_second(ok!(
-        &rt,
-        arc_of(rt.alloc(), Counted::new(&second_tally, 2))
+        Counted::new(&second_tally, 2),
     ));
     let (first_again, second_again) = (again!(&rt, &first), again!(&rt, &second));
     let done = thread::join(

@@ -1,6 +1,6 @@
 // A handle asks to be unique again while another thread drops the other handle of its block.
+use crate::made::arc_of;
 use facts::{again, ok, same};
-use handle_tests::made::arc_of;
 use servo_arc::{Arc, UniqueArc};
 use std::sync::atomic::AtomicBool;
 use std::sync::atomic::Ordering::SeqCst;
@@ -34,7 +34,7 @@ fn unique_at_last(
 #[test]
 fn a_handle_is_unique_once_the_other_is_gone(rt: HostRuntime) {
     let (both, gone) = (Barrier::new(2), AtomicBool::new(false));
-    let a = ok!(&rt, arc_of(rt.alloc(), 1u64));
+    let a = arc_of(&rt, 1u64);
     let b = again!(&rt, &a);
     let (unique, ()) = thread::join(
         &rt,

@@ -1,7 +1,7 @@
 // How often `ptr_eq` errs while other threads ask the same of these blocks, as it may. Each test prints its figure;
 // what it asserts is that the answers are right again once the other threads are gone.
+use crate::made::arc_of;
 use facts::{again, holds, ok};
-use handle_tests::made::arc_of;
 use servo_arc::Arc;
 use std::io::Print;
 use std::process::Abort;
@@ -25,7 +25,7 @@ fn tell(rt: &(impl Abort + Print), answer: &str, wrong: u64, calls: u64) {
 
 #[test]
 fn two_threads_ask_about_one_block(rt: HostRuntime) {
-    let a = ok!(&rt, arc_of(rt.alloc(), 1u64));
+    let a = arc_of(&rt, 1u64);
     let b = again!(&rt, &a);
     let told = thread::join(&rt, || count_true(&a, &b), || count_true(&a, &b));
     let wrong = (2 * CALLS).wrapping_sub(told.0).wrapping_sub(told.1);
@@ -35,7 +35,7 @@ fn two_threads_ask_about_one_block(rt: HostRuntime) {
 
 #[test]
 fn four_threads_ask_about_one_block(rt: HostRuntime) {
-    let a = ok!(&rt, arc_of(rt.alloc(), 1u64));
+    let a = arc_of(&rt, 1u64);
     let b = again!(&rt, &a);
     let (one, two) = thread::join(
         &rt,
@@ -54,8 +54,8 @@ fn four_threads_ask_about_one_block(rt: HostRuntime) {
 
 #[test]
 fn two_threads_ask_about_two_blocks_from_one_end(rt: HostRuntime) {
-    let a = ok!(&rt, arc_of(rt.alloc(), 1u64));
-    let b = ok!(&rt, arc_of(rt.alloc(), 1u64));
+    let a = arc_of(&rt, 1u64);
+    let b = arc_of(&rt, 1u64);
     let told = thread::join(&rt, || count_true(&a, &b), || count_true(&a, &b));
     let wrong = told.0.wrapping_add(told.1);
     tell(&rt, "two blocks, from one end: true", wrong, 2 * CALLS);
@@ -64,8 +64,8 @@ fn two_threads_ask_about_two_blocks_from_one_end(rt: HostRuntime) {
 
 #[test]
 fn two_threads_ask_about_two_blocks_from_opposite_ends(rt: HostRuntime) {
-    let a = ok!(&rt, arc_of(rt.alloc(), 1u64));
-    let b = ok!(&rt, arc_of(rt.alloc(), 1u64));
+    let a = arc_of(&rt, 1u64);
+    let b = arc_of(&rt, 1u64);
     let told = thread::join(&rt, || count_true(&a, &b), || count_true(&b, &a));
     let wrong = told.0.wrapping_add(told.1);
     tell(

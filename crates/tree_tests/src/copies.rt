@@ -1,7 +1,7 @@
 // How many nodes a change makes, and what it drops. A node that a change makes out of an old one has a copy of its
 // value.
+use facts::counted::{Counted, Tally};
 use facts::{again, holds, ok, same};
-use handle_tests::counted::{Counted, Tally};
 use shared_trees::{List, TreeMap};
 use std::alloc::{AllocError, Global};
 

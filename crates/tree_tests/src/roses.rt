@@ -1,6 +1,6 @@
 // What rose trees share and drop.
+use facts::counted::{Counted, Tally};
 use facts::{holds, ok, same};
-use handle_tests::counted::{Counted, Tally};
 use shared_trees::{Rose, RoseError};
 use std::alloc::{AllocError, Global};
 

@@ -1,12 +1,10 @@
 //! What no clause says of a table of unions: that commands are served if memory is ample, and
 //! which of two allowed replies comes when.
 use facts::{again, holds, ok, same};
-use handle_tables::table::Reply;
-use handles::arc::Arc;
-use handles::arc_union::{ArcUnion, ArcUnionBorrow, ThinArcUnion};
-use handles::header_slice::HeaderSlice;
+use servo_arc::table::Reply;
+use servo_arc::union_table::{UnionCommand, UnionTable, laws};
+use servo_arc::{Arc, ArcUnion, ArcUnionBorrow, HeaderSlice, ThinArcUnion};
 use std::alloc::{AllocError, Global};
-use union_tables::union_table::{UnionCommand, UnionTable, laws};
 
 type Numbers = UnionTable<u32, u32>;
 

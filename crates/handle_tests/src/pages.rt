@@ -1,4 +1,6 @@
-// A page is 4 KiB of values, so that no two of them lie in one page of the machine.
+// Memory is given back. Each test asks for a page 8,388,608 times and lets it go, one after the other: were they kept,
+// that would be 32 GiB. So a machine with more memory than that learns nothing from them. A page is 4 KiB of values, so
+// that no two of them lie in one page of the machine.
 use servo_arc::{Arc, UniqueArc};
 use std::test::Fail;
 

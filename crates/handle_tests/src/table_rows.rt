@@ -1,7 +1,7 @@
 //! What no clause says: that commands are served if memory is ample, and which of two allowed
 //! replies comes when.
 use facts::{holds, ok, same};
-use handle_tables::table::{Command, PlainCommand, Reply, Table, laws};
+use servo_arc::table::{Command, PlainCommand, Reply, Table, laws};
 use std::alloc::AllocError;
 
 #[test]

@@ -1,8 +1,7 @@
 //! Handles that are made outside and put into a table.
 use facts::{again, holds, ok, same};
-use handle_tables::table::{PlainCommand, Reply, Table};
-use handles::arc::Arc;
-use handles::header_slice::{HeaderSlice, ThinArc};
+use servo_arc::table::{PlainCommand, Reply, Table};
+use servo_arc::{Arc, HeaderSlice, ThinArc};
 use std::process::Abort;
 use std::test::Fail;
 

@@ -6,6 +6,7 @@ root=$(dirname "$(dirname "$(readlink -f "$0")")")
 out=$root/out
 cd "$root" || exit 125
 . "$root/gate/current.sh"
+. "$root/gate/jobs.sh"
 
 fail() {
     echo "arcbench: $*" >&2
@@ -33,10 +34,15 @@ is_done() {
     [[ -f $out/sums/$1 && $(<"$out/sums/$1") = "$(sum_of "$1")" ]]
 }
 
-# do_crate NUMBER NAME TOP COMMAND.. : proves or builds a crate below the folder TOP, unless that was done before.
+are_done() {
+    local name
+    for name; do is_done "$name" || return; done
+}
+
+# do_crate NAME TOP COMMAND.. : proves or builds a crate below the folder TOP, unless that was done before.
 do_crate() {
-    local number=$1 name=$2 top=$3 sum started=$SECONDS messages
-    shift 3
+    local name=$1 top=$2 sum started=$SECONDS messages
+    shift 2
     is_done "$name" && return
     command -v rt >/dev/null || fail "the toolchain's command rt is not there, which has to prove and build the program"
     sum=$(sum_of "$name")
@@ -44,27 +50,48 @@ do_crate() {
         echo "$messages" >&2
         fail "the crate $name cannot be proved and built"
     fi
-    echo "[$number] $name: $((SECONDS - started)) s" >&2
+    echo "[$(number_of "$name")/${#crates[@]}] $name: $((SECONDS - started)) s" >&2
     echo "$sum" 2>/dev/null >"$out/sums/$name" || fail "cannot write to $out"
 }
 
-# Proves the core in a copy, since two runs of `rt` wait for the folder of what both stand on. The proofs stay there too,
-# since there is where a first run of another checkout looks for them.
-do_core() {
-    local number=$1 copy=$out/core
-    {
-        rm -rf "$copy" && mkdir -p "$copy/.git" "$copy/crates" && cp -r "$root"/crates/counting_{word,core} "$copy/crates" &&
-            grep -E '^counting_(word|core)( |:)' "$root/crates.txt" >"$copy/crates.txt"
-    } 2>/dev/null || fail "cannot copy the core to $out"
-    do_crate "$number" counting_core "$copy" rt lib --jobs 1
-    {
-        rm -rf "$root/crates/counting_core/out" && cp -r "$copy/crates/counting_core/out" "$root/crates/counting_core" &&
-            rm -r "$copy/.git" && find "$copy" -type f ! -path '*/out/incremental/*' -delete
-    } 2>/dev/null || fail "cannot copy the core's proofs from $out"
+number_of() {
+    local number=1
+    while [[ ${crates[number - 1]} != "$1" ]]; do number=$((number + 1)); done
+    echo "$number"
 }
 
-# beside COMMAND.. : begins what the tables do not need, with one job, since a first run waits for the tables. It is a group
-# of processes of its own, which ends with the launcher.
+# What the tables do not need is proved in a copy, since two runs of `rt` wait for the folder of what both stand on. The
+# proofs stay there too, since there is where a first run of another checkout looks for them.
+copy=$out/core
+in_copy=(counting_core script_text core_scripts)
+
+make_copy() {
+    local names=(counting_word "${in_copy[@]}")
+    {
+        rm -rf "$copy" && mkdir -p "$copy/.git" "$copy/crates" && cp -r "${names[@]/#/$root/crates/}" "$copy/crates" &&
+            grep -E "^($(IFS='|' && echo "${names[*]}"))( |:)" "$root/crates.txt" >"$copy/crates.txt"
+    } 2>/dev/null || fail "cannot copy the core to $out"
+}
+
+# do_in_copy NAMES.. : one after another, with one job, since a first run waits for the tables.
+do_in_copy() {
+    local name
+    for name; do
+        is_done "$name" && continue
+        do_crate "$name" "$copy" rt lib --jobs 1
+        {
+            rm -rf "$root/crates/$name/out" && cp -r "$copy/crates/$name/out" "$root/crates/$name"
+        } 2>/dev/null || fail "cannot copy the proofs of $name from $out"
+    done
+}
+
+leave_proofs_alone() {
+    [[ -d $copy ]] || return
+    rm -rf "$copy/.git"
+    find "$copy" -type f ! -path '*/out/incremental/*' -delete
+}
+
+# beside COMMAND.. : begins what nothing waits for yet, as a group of processes of its own, which ends with the launcher.
 groups=()
 beside() {
     set -m
@@ -90,18 +117,26 @@ list_sources() (
 )
 
 build() {
-    local crates number=0 name
+    local name jobs
+    # One is left for what is proved beside, and four jobs of a crate take longer than three.
+    jobs=$(checks_at_once) && jobs=$((jobs > 1 ? jobs - 1 : 1))
     mapfile -t crates < <(crates_below arcbench | awk '!seen[$0]++')
     # From before, so that an edit meanwhile counts as a change.
     touch "$out/started" 2>/dev/null || fail "cannot write to $out"
     for name in "${crates[@]}"; do
-        number=$((number + 1))
         case $name in
-            counting_core) is_done "$name" || beside do_core "$number/${#crates[@]}" ;;
-            script_text) beside do_crate "$number/${#crates[@]}" "$name" "$root" rt lib --jobs 1 ;;
-            scripts) wait_for_all_beside ;;&
-            arcbench) do_crate "$number/${#crates[@]}" "$name" "$root" rt run -- core 1 ;;
-            *) do_crate "$number/${#crates[@]}" "$name" "$root" rt lib ;;
+            counting_core)
+                are_done "${in_copy[@]}" || make_copy
+                beside do_in_copy counting_core core_scripts
+                ;;
+            script_text) beside do_in_copy script_text ;;
+            core_scripts) ;;
+            scripts)
+                wait_for_all_beside
+                leave_proofs_alone
+                ;;&
+            arcbench) do_crate "$name" "$root" rt run -- core 1 ;;
+            *) do_crate "$name" "$root" rt lib --jobs "$jobs" ;;
         esac
     done
     # Moved into place, so that a program that still runs keeps its own file, and a start never reads half a list.

@@ -7,14 +7,14 @@ set -eu
 folder=${1:+$(realpath "$1")}
 [[ $# = 0 ]] || shift
 cd "$(dirname "$0")/.."
+. gate/jobs.sh
 copy=$(mktemp -d)
 trap 'rm -rf "$copy"' EXIT
 # An `rt ci` that keeps nothing proves all in each run, and does not know the word. One that knows it finds no repository here.
 [[ ${1:-} = --anew ]] && ! (cd "$copy" && rt ci --anew 2>&1 | grep -q 'failed$') && shift
 tar -c --exclude=./.git --exclude=out --exclude=must-fail . | tar -x -C "$copy"
 cd "$copy"
-# As many checks at once as there are processors and memory for, and one job for each: several jobs of a check do part of
-# its work more than once.
-export RT_JOBS=$(awk -v most="$(nproc)" '/^MemAvailable/ { n = int($2 / 3e6); print n < 1 ? 1 : n < most ? n : most }' /proc/meminfo)
+# One job for each check, since several jobs of a check do part of its work more than once.
+export RT_JOBS=$(checks_at_once)
 rt ci "$@"
 [[ -z $folder ]] || cp crates/refusal_tests/out/refusal_tests_tests "$folder"

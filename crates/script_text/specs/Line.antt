@@ -45,3 +45,7 @@ module _ {A : Type 0} (language : A → List ℕ × Numbers) where
   -- the line asks for nothing, so it is no line of the language
   abbrev pub SaysNothing : List ℕ → Type 0
   SaysNothing line = (asked : A) → ¬ (Says line asked)
+
+  -- a line asks for one thing at most
+  abbrev pub AsksForOneThing : Type 0
+  AsksForOneThing = (line : List ℕ) (one other : A) → Says line one → Says line other → one ≡ other

@@ -1,56 +1,13 @@
--- A line asks for one thing at most: what is written can be told from its word and its numbers.
-use Rattle.std.proofs.Common.{◌≡◌, ℕ, ◌==◌, cond, List, [], ◌∷◌, Option, Some, None, codes, refl, sym, ◌∙◌}
-use Rattle.std.specs.Cmp.Lexicographic.{pointwise}
-use Rattle.counting_core.specs.declared.step.Step.{Step}
-use Rattle.counting_core.specs.declared.step.Step.TheVariants.{Clone, Raise, Quit, Drop, Lower, Mark, Unique, Static, GetMut, Write, EndWrite, IntoUnique, Share, Load, Lend, Return, Give}
+-- A line asks for one thing at most: which, can be told from its word and its numbers.
+use Rattle.std.proofs.Common.{◌≡◌, ℕ, List, [], ◌∷◌, Option, Some, None, codes, refl}
 use Rattle.handle_tables.specs.declared.commands.Command.TheVariants as command
 use Rattle.script_text.specs.declared.line.Numbers.{Numbers}
 use Rattle.script_text.specs.declared.line.Numbers.TheVariants.{One, Two, Three}
-use Rattle.script_text.proofs.Lines.{IsLine_same}
+use Rattle.script_text.proofs.Languages.{beside, asks_for_one_thing}
 use Rattle.scripts.specs.declared.table_line.TableLine.{TableLine}
 use Rattle.scripts.specs.declared.table_line.TableLine.TheVariants.{Serve, Get}
-use Rattle.scripts.specs.Laws.{AsksForOneThing, EachLineIsOneStep, EachLineAsksOneThingOfATable}
-use Rattle.scripts.specs.StepLine.{step_line}
+use Rattle.scripts.specs.Laws.{EachLineAsksOneThingOfATable}
 use Rattle.scripts.specs.TableLine.{table_line}
-
--- what stands beside the word in a list
-abbrev beside : {A : Type 0} → List ℕ → List (List ℕ × A) → Option A
-beside word [] = None
-beside word ((name, asked) ∷ rows) = cond (pointwise (λ a b. a == b) word name) (Some asked) (beside word rows)
-
--- if what is asked can be told, it is one thing
-asks_for_one_thing : {A : Type 0} (language : A → List ℕ × Numbers) (told : List ℕ → Numbers → Option A) → ((asked : A) → told (language asked).0 (language asked).1 ≡ Some asked) → AsksForOneThing language
-asks_for_one_thing language told tells line one other says says_too =
-    let (word, numbers) = IsLine_same line (language one).0 (language other).0 (language one).1 (language other).1 says says_too in
-    let same : Some one ≡ Some other = sym (tells one) ∙ (λ i. told (word i) (numbers i)) ∙ tells other in
-    cc
-
-abbrev step_told : List ℕ → Numbers → Option (Step ℕ)
-step_told word (One a) = beside word ((codes "raise", Raise a) ∷ (codes "quit", Quit a) ∷ (codes "lower", Lower a) ∷ [])
-step_told word (Two a b) = beside word ((codes "clone", Clone a b) ∷ (codes "drop", Drop a b) ∷ (codes "mark", Mark a b) ∷ (codes "unique", Unique a b) ∷ (codes "static", Static a b) ∷ (codes "getmut", GetMut a b) ∷ (codes "endwrite", EndWrite a b) ∷ (codes "intounique", IntoUnique a b) ∷ (codes "share", Share a b) ∷ (codes "load", Load a b) ∷ (codes "return", Return a b) ∷ [])
-step_told word (Three a b c) = beside word ((codes "write", Write a b c) ∷ (codes "lend", Lend a b c) ∷ (codes "give", Give a b c) ∷ [])
-
-step_tells : (step : Step ℕ) → step_told (step_line step).0 (step_line step).1 ≡ Some step
-step_tells (Clone a b) = refl
-step_tells (Raise a) = refl
-step_tells (Quit a) = refl
-step_tells (Drop a b) = refl
-step_tells (Lower a) = refl
-step_tells (Mark a b) = refl
-step_tells (Unique a b) = refl
-step_tells (Static a b) = refl
-step_tells (GetMut a b) = refl
-step_tells (Write a b c) = refl
-step_tells (EndWrite a b) = refl
-step_tells (IntoUnique a b) = refl
-step_tells (Share a b) = refl
-step_tells (Load a b) = refl
-step_tells (Lend a b c) = refl
-step_tells (Return a b) = refl
-step_tells (Give a b c) = refl
-
-pub each_line_is_one_step : EachLineIsOneStep
-each_line_is_one_step = asks_for_one_thing step_line step_told step_tells
 
 abbrev table_told : List ℕ → Numbers → Option TableLine
 table_told word (One a) = beside word ((codes "get", Get a) ∷ (codes "drop", Serve (command.Drop a)) ∷ (codes "own", Serve (command.Own a)) ∷ (codes "mark", Serve (command.Mark a)) ∷ (codes "raw", Serve (command.Raw a)) ∷ [])

@@ -17,12 +17,9 @@
 #![tactic(auto)]
 
 mod arguments;
-mod core_script;
 pub mod laws;
 mod program;
-mod step_line;
 mod table_line;
 mod table_script;
-mod words;
 
 pub use program::{bench, start};

@@ -3,12 +3,12 @@ ghost use Rattle.std.specs.Prelude.{ℕ, ◌<◌, ◌^◌, IfSome, IfNone};
 ghost use Rattle.counting_core.specs.declared.step.Step.{Step as CoreStep};
 ghost use Rattle.script_text.specs.Line.{AreInRange, Says, SaysNothing, Writes};
 ghost use Rattle.script_text.specs.declared.line.Numbers.TheVariants.{One, Two, Three};
-ghost use Rattle.scripts.specs.StepLine.{step_line};
+ghost use Rattle.core_scripts.specs.StepLine.{step_line};
 
-use crate::words::is;
 use counting_core::Step;
 use script_text::line::Numbers::{One, Three, Two};
 use script_text::line::{Line, read_line};
+use script_text::words::is;
 
 /// The step that the line writes, or nothing if it writes none.
 pub fn read_step(text: &[u8]) -> Option<Step<u32>>

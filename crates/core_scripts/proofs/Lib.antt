@@ -1,0 +1,2 @@
+pub mod OneThing
+pub mod Showing

@@ -1,0 +1,4 @@
+pub mod CoreScript
+pub mod Laws
+pub mod StepAnswer
+pub mod StepLine

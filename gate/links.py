@@ -4,7 +4,7 @@
 - each file and heading that a link leads to is there;
 - a link to lines of a source, as [`Arc::new`](crates/handles/src/arc.rt#L45), names what begins on that line, and a link
   to a definition has all its lines, as #L12-L15. A label such as "`StandsFor`, 4 lines" has their number;
-- a link such as "[9 edits](crates/counting_word/must-fail)" or "[9 tests](crates/core_tests/src)" has the number of
+- a link such as "[9 edits](crates/counting_word/must-fail)" or "[9 tests](crates/handle_tests/src)" has the number of
   edits or of tests in that folder;
 - a block of code that names a file, as ```rust crates/first_example/src/main.rt, stands in that file as it is;
 - an indented line such as "handles may_wait=4: counting_word" is one of crates.txt.

@@ -1,5 +1,5 @@
-//! Tests of the handles and of what stands on them, through `servo_arc`: what no contract says. Beside them stands a
-//! caller, which shows how code above uses the crate.
+//! Tests of the word, the core, the handles and what stands on them, in one thread and through `servo_arc`: what no
+//! contract says.
 #![tactic(auto)]
 
 #[cfg(test)]
@@ -8,9 +8,8 @@ mod borrows;
 mod by_bound;
 #[cfg(test)]
 mod by_value;
-pub mod caller;
 #[cfg(test)]
-mod calling;
+mod core_steps;
 #[cfg(test)]
 mod drop_order;
 #[cfg(test)]
@@ -39,3 +38,5 @@ mod table_slots;
 mod union_rows;
 #[cfg(test)]
 mod unions;
+#[cfg(test)]
+mod word;

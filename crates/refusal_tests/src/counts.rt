@@ -1,6 +1,6 @@
 // What a shared count that could not be opened leaves.
 use crate::telling::tell;
-use count_tests::opened::open_two;
+use callers::opened::open_two;
 use facts::holds;
 use servo_arc::shared_count::{EndReply, TryClone};
 

@@ -1,6 +1,6 @@
 // What a run of a script prints that is refused memory.
 use crate::telling::tell;
-use script_tests::environment::Arguments;
+use callers::environment::Arguments;
 use scripts::start;
 use std::alloc::Global;
 use std::io::Print;

@@ -1,7 +1,7 @@
 // What a call on versions of a list leaves.
 use crate::telling::tell;
+use callers::counted_lists::counted_items;
 use cow_table::{CowTable, SetError};
-use cow_tests::made::counted_items;
 use facts::counted::Tally;
 use facts::{holds, same};
 use std::alloc::{AllocError, Global};

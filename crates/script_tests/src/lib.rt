@@ -9,7 +9,6 @@ mod bytes;
 mod core_rows;
 #[cfg(test)]
 mod core_runs;
-pub mod environment;
 #[cfg(test)]
 mod failing_io;
 #[cfg(test)]

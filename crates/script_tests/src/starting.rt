@@ -1,5 +1,5 @@
 //! Runs of the whole program, from the arguments of an environment.
-use crate::environment::Arguments;
+use callers::environment::Arguments;
 use facts::same_at;
 use scripts::start;
 

@@ -1,8 +1,8 @@
 use Rattle.std.proofs.Common.{ℕ, ◌∙◌, ap, subst}
 use Rattle.servo_arc.specs.History.{IsLegal, owned_by, calls_of}
 use Rattle.servo_arc.specs.Passes.{CountId}
-use Rattle.count_tests.proofs.TwoPasses.{own_is, spent_is, one_was_last}
-use Rattle.count_tests.proofs.caller.settle.Goals as goal
+use Rattle.callers.proofs.TwoPasses.{own_is, spent_is, one_was_last}
+use Rattle.callers.proofs.two_threads.settle.Goals as goal
 
 pub returns : goal.returns
 returns c =

@@ -1,5 +1,5 @@
-// The worked rows, in one thread.
-use crate::opened::{open_one, open_two};
+// The worked rows of the shared count, in one thread.
+use callers::opened::{open_one, open_two};
 use servo_arc::shared_count::{EndReply, SharedCount, TryClone, laws};
 use std::test::Fail;
 

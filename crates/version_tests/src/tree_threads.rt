@@ -1,6 +1,6 @@
 // Versions on several threads, each of which is joined.
-use crate::editions::{Edition, publish, read_all};
 use crate::lists::up_to;
+use callers::map_editions::{Edition, publish, read_all};
 use crossbeam_channel::{Receiver, Sender, unbounded};
 use facts::{again, ok};
 use std::alloc::{AllocError, Global};

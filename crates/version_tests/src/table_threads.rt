@@ -1,6 +1,6 @@
 // Versions on several threads, each of which is joined.
-use crate::editions::{Edition, publish, read_all};
-use crate::made::counted_table;
+use callers::counted_lists::counted_table;
+use callers::list_editions::{Edition, publish, read_all};
 use cow_table::CowTable;
 use crossbeam_channel::{Receiver, Sender, unbounded};
 use facts::counted::{Counted, Tally};

@@ -1,5 +1,5 @@
 // How many items are copied and dropped, alone and shared.
-use crate::made::{counted_pages, counted_table};
+use callers::counted_lists::{counted_pages, counted_table};
 use cow_table::{CowTable, SetError};
 use facts::counted::{Counted, Tally};
 use facts::{again, holds, ok, same};

@@ -2,7 +2,7 @@
 ghost use Rattle.std.specs.Prelude.{◌≡◌, ◌+◌, ◌<◌};
 ghost use Rattle.servo_arc.specs.Passes.{handles};
 
-use crate::caller::look_in_two_threads;
+use callers::two_threads::look_in_two_threads;
 use servo_arc::shared_count::{CountPass, EndReply, SharedCount, TryClone};
 use std::sync::atomic::AtomicU64;
 use std::sync::atomic::Ordering::SeqCst;

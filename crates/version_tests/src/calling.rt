@@ -1,5 +1,5 @@
 // The caller of the documentation, called.
-use crate::caller::{
+use callers::styles::{
     Style, plain_and_bold, plain_style, properties, properties_of, put_under, rule_of, size_of,
     styled,
 };

@@ -1,54 +1,60 @@
 //! Each public call once, and the laws at a concrete type. What `arcbench` prints for whole scripts
 //! is tested in `script_tests`.
-use counting_core::{Answer, Core, Step, laws};
-use counting_word::MAX_REFCOUNT;
-use std::test::Fail;
+use facts::{again, holds, ok, same};
+use servo_arc::counting_core::{Answer, Core, Step, laws};
+use servo_arc::word::MAX_REFCOUNT;
 
 #[test]
-fn a_new_core_has_one_handle(rt: HostRuntime) -> Result<(), Fail> {
-    let mut core = Core::new(rt.alloc(), 5u32, 2, MAX_REFCOUNT).map_err(|_| "memory")?;
-    assert_eq!(rt;
+fn a_new_core_has_one_handle(rt: HostRuntime) {
+    let mut core = ok!(&rt, Core::new(rt.alloc(), 5u32, 2, MAX_REFCOUNT));
+    same!(
+        &rt,
         core.step(Step::Load {
             owner: 0,
             handle: 0
         }),
         Answer::Value(5)
     );
-    assert_eq!(rt;
+    same!(
+        &rt,
         core.step(Step::Unique {
             owner: 0,
             handle: 0
         }),
         Answer::Is(true)
     );
-    assert_eq!(rt;
+    same!(
+        &rt,
         core.step(Step::Load {
             owner: 1,
             handle: 0
         }),
         Answer::Barred
     );
-    Ok(())
 }
 
 #[test]
-fn a_run_answers_each_step_in_order(rt: HostRuntime) -> Result<(), Fail> {
-    let mut core = Core::new(rt.alloc(), 5u32, 1, MAX_REFCOUNT).map_err(|_| "memory")?;
+fn a_run_answers_each_step_in_order(rt: HostRuntime) {
+    let mut core = ok!(&rt, Core::new(rt.alloc(), 5u32, 1, MAX_REFCOUNT));
     let clone = Step::Clone {
         owner: 0,
         handle: 0,
     };
-    let answers = core.run(&[
-        clone,
-        Step::Raise { owner: 0 },
-        Step::Drop {
-            owner: 0,
-            handle: 0,
-        },
-        Step::Lower { owner: 0 },
-        clone,
-    ])?;
-    assert_eq!(rt;
+    let answers = ok!(
+        &rt,
+        core.run(&[
+            clone,
+            Step::Raise { owner: 0 },
+            Step::Drop {
+                owner: 0,
+                handle: 0,
+            },
+            Step::Lower { owner: 0 },
+            clone,
+        ])
+    );
+    same!(
+        &rt,
         answers.as_slice(),
         [
             Answer::Pending,
@@ -59,38 +65,41 @@ fn a_run_answers_each_step_in_order(rt: HostRuntime) -> Result<(), Fail> {
         ]
         .as_slice()
     );
-    assert!(rt; core.run(&[])?.is_empty());
-    Ok(())
+    holds!(&rt, ok!(&rt, core.run(&[])).is_empty());
 }
 
 // A clone through a lent handle takes the last place that the limit leaves. The holder's next one is full until the
 // block is marked.
 #[test]
-fn a_core_keeps_its_limit(rt: HostRuntime) -> Result<(), Fail> {
-    let mut core = Core::new(rt.alloc(), 5u32, 2, 2).map_err(|_| "memory")?;
+fn a_core_keeps_its_limit(rt: HostRuntime) {
+    let mut core = ok!(&rt, Core::new(rt.alloc(), 5u32, 2, 2));
     let clone = Step::Clone {
         owner: 0,
         handle: 0,
     };
-    let answers = core.run(&[
-        Step::Lend {
-            owner: 0,
-            handle: 0,
-            to: 1,
-        },
-        Step::Clone {
-            owner: 1,
-            handle: 0,
-        },
-        Step::Raise { owner: 1 },
-        clone,
-        Step::Mark {
-            owner: 0,
-            handle: 0,
-        },
-        clone,
-    ])?;
-    assert_eq!(rt;
+    let answers = ok!(
+        &rt,
+        core.run(&[
+            Step::Lend {
+                owner: 0,
+                handle: 0,
+                to: 1,
+            },
+            Step::Clone {
+                owner: 1,
+                handle: 0,
+            },
+            Step::Raise { owner: 1 },
+            clone,
+            Step::Mark {
+                owner: 0,
+                handle: 0,
+            },
+            clone,
+        ])
+    );
+    same!(
+        &rt,
         answers.as_slice(),
         [
             Answer::Done,
@@ -102,11 +111,10 @@ fn a_core_keeps_its_limit(rt: HostRuntime) -> Result<(), Fail> {
         ]
         .as_slice()
     );
-    Ok(())
 }
 
 #[test]
-fn a_step_has_an_owner(rt: HostRuntime) -> Result<(), Fail> {
+fn a_step_has_an_owner(rt: HostRuntime) {
     let give = Step::Give {
         owner: 7,
         handle: 1,
@@ -117,16 +125,15 @@ fn a_step_has_an_owner(rt: HostRuntime) -> Result<(), Fail> {
         handle: 0,
         value: 9u32,
     };
-    assert_eq!(rt; Step::<u32>::owner(&Step::Raise { owner: 4 }), 4);
-    assert_eq!(rt; Step::<u32>::owner(&give), 7);
-    assert_eq!(rt; write.owner(), 3);
-    assert_eq!(rt; give.clone()?, give);
-    Ok(())
+    same!(&rt, Step::<u32>::owner(&Step::Raise { owner: 4 }), 4);
+    same!(&rt, Step::<u32>::owner(&give), 7);
+    same!(&rt, write.owner(), 3);
+    same!(&rt, again!(&rt, &give), give);
 }
 
 #[test]
-fn a_sole_handle_is_shared_again(rt: HostRuntime) -> Result<(), Fail> {
-    let mut core = Core::new(rt.alloc(), 5u32, 2, MAX_REFCOUNT).map_err(|_| "memory")?;
+fn a_sole_handle_is_shared_again(rt: HostRuntime) {
+    let mut core = ok!(&rt, Core::new(rt.alloc(), 5u32, 2, MAX_REFCOUNT));
     let into_unique = Step::IntoUnique {
         owner: 0,
         handle: 0,
@@ -139,20 +146,24 @@ fn a_sole_handle_is_shared_again(rt: HostRuntime) -> Result<(), Fail> {
         owner: 0,
         handle: 0,
     };
-    let answers = core.run(&[
-        share,
-        into_unique,
-        into_unique,
-        Step::Write {
-            owner: 0,
-            handle: 0,
-            value: 9,
-        },
-        clone,
-        share,
-        clone,
-    ])?;
-    assert_eq!(rt;
+    let answers = ok!(
+        &rt,
+        core.run(&[
+            share,
+            into_unique,
+            into_unique,
+            Step::Write {
+                owner: 0,
+                handle: 0,
+                value: 9,
+            },
+            clone,
+            share,
+            clone,
+        ])
+    );
+    same!(
+        &rt,
         answers.as_slice(),
         [
             Answer::Barred,
@@ -165,8 +176,7 @@ fn a_sole_handle_is_shared_again(rt: HostRuntime) -> Result<(), Fail> {
         ]
         .as_slice()
     );
-    assert_eq!(rt; into_unique.owner(), 0);
-    Ok(())
+    same!(&rt, into_unique.owner(), 0);
 }
 
 #[test]

@@ -1,0 +1,12 @@
+//! Code above the crates, as their users write it, with contracts of its own: it shows what callers can prove. Beside it
+//! stands what tests begin with.
+#![tactic(auto)]
+
+pub mod counted_lists;
+pub mod environment;
+pub mod history;
+pub mod list_editions;
+pub mod map_editions;
+pub mod opened;
+pub mod styles;
+pub mod two_threads;

@@ -12,9 +12,11 @@ copy=$(mktemp -d)
 trap 'rm -rf "$copy"' EXIT
 # An `rt ci` that keeps nothing proves all in each run, and does not know the word. One that knows it finds no repository here.
 [[ ${1:-} = --anew ]] && ! (cd "$copy" && rt ci --anew 2>&1 | grep -q 'failed$') && shift
+# So that no later part takes what an earlier run left.
+[[ -z $folder ]] || rm -f "$folder/refusal_tests_tests"
 tar -c --exclude=./.git --exclude=out --exclude=must-fail . | tar -x -C "$copy"
 cd "$copy"
 # One job for each check, since several jobs of a check do part of its work more than once.
 export RT_JOBS=$(checks_at_once)
 rt ci "$@"
-[[ -z $folder ]] || cp crates/refusal_tests/out/refusal_tests_tests "$folder"
+[[ -z $folder ]] || cp crates/refusal_tests/out/refusal_tests_tests "$folder/"

@@ -48,15 +48,9 @@ impl<V: Send + Sync> Fork<V> {
         loop {
             let (here, value) = &fork.entry;
             if key < *here {
-                let (Sides::Less(less) | Sides::Both(less, _)) = &fork.sides else {
-                    return None;
-                };
-                fork = less;
+                fork = fork.sides.less()?;
             } else if *here < key {
-                let (Sides::Greater(greater) | Sides::Both(_, greater)) = &fork.sides else {
-                    return None;
-                };
-                fork = greater;
+                fork = fork.sides.greater()?;
             } else {
                 return Some(value);
             }

@@ -25,15 +25,15 @@ impl<V: Send + Sync + Clone> Fork<V> {
         if key == here || outranks(key, here) {
             self.with_top(alloc, key, value)
         } else if key < here {
-            let less = match &self.sides {
-                Sides::Less(fork) | Sides::Both(fork, _) => fork.inserted(alloc, key, value)?,
-                Sides::Neither | Sides::Greater(_) => Fork::leaf(alloc, key, value)?,
+            let less = match self.sides.less() {
+                Some(fork) => fork.inserted(alloc, key, value)?,
+                None => Fork::leaf(alloc, key, value)?,
             };
             Fork::copied(alloc, self.sides.with_less(less)?, &self.entry)
         } else {
-            let greater = match &self.sides {
-                Sides::Greater(fork) | Sides::Both(_, fork) => fork.inserted(alloc, key, value)?,
-                Sides::Neither | Sides::Less(_) => Fork::leaf(alloc, key, value)?,
+            let greater = match self.sides.greater() {
+                Some(fork) => fork.inserted(alloc, key, value)?,
+                None => Fork::leaf(alloc, key, value)?,
             };
             Fork::copied(alloc, self.sides.with_greater(greater)?, &self.entry)
         }
@@ -59,21 +59,21 @@ impl<V: Send + Sync + Clone> Fork<V> {
     {
         let here = self.entry.0;
         if key < here {
-            let (less, between) = match &self.sides {
-                Sides::Less(fork) | Sides::Both(fork, _) => fork.split(alloc, key)?,
-                Sides::Neither | Sides::Greater(_) => (TreeMap::new(), TreeMap::new()),
+            let (less, between) = match self.sides.less() {
+                Some(fork) => fork.split(alloc, key)?,
+                None => (TreeMap::new(), TreeMap::new()),
             };
-            let fork = Fork::beside(alloc, between, &self.entry, self.sides.greater()?)?;
+            let fork = Fork::beside(alloc, between, &self.entry, self.sides.greater_map()?)?;
             Ok((less, TreeMap::with_root(fork)))
         } else if here < key {
-            let (between, greater) = match &self.sides {
-                Sides::Greater(fork) | Sides::Both(_, fork) => fork.split(alloc, key)?,
-                Sides::Neither | Sides::Less(_) => (TreeMap::new(), TreeMap::new()),
+            let (between, greater) = match self.sides.greater() {
+                Some(fork) => fork.split(alloc, key)?,
+                None => (TreeMap::new(), TreeMap::new()),
             };
-            let fork = Fork::beside(alloc, self.sides.less()?, &self.entry, between)?;
+            let fork = Fork::beside(alloc, self.sides.less_map()?, &self.entry, between)?;
             Ok((TreeMap::with_root(fork), greater))
         } else {
-            Ok((self.sides.less()?, self.sides.greater()?))
+            Ok((self.sides.less_map()?, self.sides.greater_map()?))
         }
     }
 }

@@ -19,18 +19,18 @@ impl<V: Send + Sync + Clone> Fork<V> {
     {
         let here = self.entry.0;
         if key < here {
-            let less = match &self.sides {
-                Sides::Less(fork) | Sides::Both(fork, _) => fork.removed(alloc, key)?,
-                Sides::Neither | Sides::Greater(_) => TreeMap::new(),
+            let less = match self.sides.less() {
+                Some(fork) => fork.removed(alloc, key)?,
+                None => TreeMap::new(),
             };
-            let fork = Fork::beside(alloc, less, &self.entry, self.sides.greater()?)?;
+            let fork = Fork::beside(alloc, less, &self.entry, self.sides.greater_map()?)?;
             Ok(TreeMap::with_root(fork))
         } else if here < key {
-            let greater = match &self.sides {
-                Sides::Greater(fork) | Sides::Both(_, fork) => fork.removed(alloc, key)?,
-                Sides::Neither | Sides::Less(_) => TreeMap::new(),
+            let greater = match self.sides.greater() {
+                Some(fork) => fork.removed(alloc, key)?,
+                None => TreeMap::new(),
             };
-            let fork = Fork::beside(alloc, self.sides.less()?, &self.entry, greater)?;
+            let fork = Fork::beside(alloc, self.sides.less_map()?, &self.entry, greater)?;
             Ok(TreeMap::with_root(fork))
         } else {
             self.sides.joined(alloc)
@@ -66,18 +66,18 @@ fn join<V: Send + Sync + Clone>(
 {
     let (low, high): (&Fork<V>, &Fork<V>) = (less, greater);
     if outranks(low.entry.0, high.entry.0) {
-        let between = match &low.sides {
-            Sides::Greater(fork) | Sides::Both(_, fork) => join(alloc, fork, greater)?,
-            Sides::Neither | Sides::Less(_) => greater.clone()?,
+        let between = match low.sides.greater() {
+            Some(fork) => join(alloc, fork, greater)?,
+            None => greater.clone()?,
         };
         let between = TreeMap::with_root(between);
-        Fork::beside(alloc, low.sides.less()?, &low.entry, between)
+        Fork::beside(alloc, low.sides.less_map()?, &low.entry, between)
     } else {
-        let between = match &high.sides {
-            Sides::Less(fork) | Sides::Both(fork, _) => join(alloc, less, fork)?,
-            Sides::Neither | Sides::Greater(_) => less.clone()?,
+        let between = match high.sides.less() {
+            Some(fork) => join(alloc, less, fork)?,
+            None => less.clone()?,
         };
         let between = TreeMap::with_root(between);
-        Fork::beside(alloc, between, &high.entry, high.sides.greater()?)
+        Fork::beside(alloc, between, &high.entry, high.sides.greater_map()?)
     }
 }

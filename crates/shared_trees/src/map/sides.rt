@@ -1,5 +1,6 @@
 //! What stands on the two sides of a fork.
-ghost use Rattle.std.specs.Prelude.{◌≡◌, ◌+◌, IfOk, IfSome, length};
+ghost use Rattle.std.specs.Prelude.{◌≡◌, ◌+◌, [], IfOk, IfSome, length, unwrap_or};
+ghost use Rattle.std.specs.Option.{option_copied};
 ghost use Rattle.shared_trees.specs.Forks.{less_side, greater_side};
 
 use super::TreeMap;
@@ -30,6 +31,27 @@ impl<V: Send + Sync> Sides<V> {
             Sides::Both(less, greater) => less.len.checked_add(greater.len),
         }
     }
+
+    // The tree of lesser keys, if there are any.
+    #[inline(always)]
+    pub(super) fn less(&self) -> Option<&Arc<Fork<V>>>
+        ensures { unwrap_or (option_copied result) [] ≡ less_side self.now }
+    {
+        match self {
+            Sides::Less(fork) | Sides::Both(fork, _) => Some(fork),
+            Sides::Neither | Sides::Greater(_) => None,
+        }
+    }
+
+    #[inline(always)]
+    pub(super) fn greater(&self) -> Option<&Arc<Fork<V>>>
+        ensures { unwrap_or (option_copied result) [] ≡ greater_side self.now }
+    {
+        match self {
+            Sides::Greater(fork) | Sides::Both(_, fork) => Some(fork),
+            Sides::Neither | Sides::Less(_) => None,
+        }
+    }
 }
 
 impl<V: Send + Sync + Drop> Sides<V> {
@@ -50,9 +72,9 @@ impl<V: Send + Sync + Drop> Sides<V> {
         ensures less { IfOk result (λ sides. less_side sides ≡ less) }
         ensures greater { IfOk result (λ sides. greater_side sides ≡ greater_side self.now) }
     {
-        match self {
-            Sides::Neither | Sides::Less(_) => Ok(Sides::Less(less)),
-            Sides::Greater(fork) | Sides::Both(_, fork) => Ok(Sides::Both(less, fork.clone()?)),
+        match self.greater() {
+            Some(fork) => Ok(Sides::Both(less, fork.clone()?)),
+            None => Ok(Sides::Less(less)),
         }
     }
 
@@ -62,28 +84,28 @@ impl<V: Send + Sync + Drop> Sides<V> {
         ensures less { IfOk result (λ sides. less_side sides ≡ less_side self.now) }
         ensures greater { IfOk result (λ sides. greater_side sides ≡ greater) }
     {
-        match self {
-            Sides::Neither | Sides::Greater(_) => Ok(Sides::Greater(greater)),
-            Sides::Less(fork) | Sides::Both(fork, _) => Ok(Sides::Both(fork.clone()?, greater)),
+        match self.less() {
+            Some(fork) => Ok(Sides::Both(fork.clone()?, greater)),
+            None => Ok(Sides::Greater(greater)),
         }
     }
 
-    // One more handle of the tree on that side.
-    pub(super) fn less(&self) -> Result<TreeMap<V>, AllocError>
+    // The entries of lesser keys as a map: one more handle of their tree.
+    pub(super) fn less_map(&self) -> Result<TreeMap<V>, AllocError>
         ensures { IfOk result (λ map. map ≡ less_side self.now) }
     {
-        match self {
-            Sides::Less(fork) | Sides::Both(fork, _) => Ok(TreeMap::with_root(fork.clone()?)),
-            Sides::Neither | Sides::Greater(_) => Ok(TreeMap::new()),
+        match self.less() {
+            Some(fork) => Ok(TreeMap::with_root(fork.clone()?)),
+            None => Ok(TreeMap::new()),
         }
     }
 
-    pub(super) fn greater(&self) -> Result<TreeMap<V>, AllocError>
+    pub(super) fn greater_map(&self) -> Result<TreeMap<V>, AllocError>
         ensures { IfOk result (λ map. map ≡ greater_side self.now) }
     {
-        match self {
-            Sides::Greater(fork) | Sides::Both(_, fork) => Ok(TreeMap::with_root(fork.clone()?)),
-            Sides::Neither | Sides::Less(_) => Ok(TreeMap::new()),
+        match self.greater() {
+            Some(fork) => Ok(TreeMap::with_root(fork.clone()?)),
+            None => Ok(TreeMap::new()),
         }
     }
 }

@@ -1,12 +1,12 @@
 -- What is between two trees lies in the entries of both.
-use Rattle.std.proofs.Common.{◌≡◌, [], ◌∷◌, ◌++◌, ap, sym, subst, ◌∙◌, append_assoc, rules}
+use Rattle.std.proofs.Common.{◌≡◌, ◌∷◌, ◌++◌, ap, sym, subst, ◌∙◌, append_assoc}
 use Rattle.std.proofs.lemmas.List.{append-nil}
 use Rattle.std.proofs.lemmas.Result.{IfOk-weaker}
 use Rattle.shared_trees.specs.Forks.{less_side, greater_side}
 use Rattle.shared_trees.specs.Maps.{IsRising}
 use Rattle.shared_trees.proofs.Rising.{into_left, into_right, rising_from_left, rising_from_right}
-use Rattle.shared_trees.proofs.map.remove.+join.Goals.{in-Neither+in_ok-between-in-Neither, in-Greater+in_ok-between-in-Greater}
-use Rattle.shared_trees.proofs.map.remove.+join.Goals.{in-Neither-sides+in_ok-between-in-Neither-sides, in-Less+in_ok-between-in-Less}
+use Rattle.shared_trees.proofs.map.remove.+join.Goals.{in-Some+in_ok-between-in-Some, in-None+in_ok-between-in-None}
+use Rattle.shared_trees.proofs.map.remove.+join.Goals.{in-Some-less+in_ok-between-in-Some-less, in-None-less+in_ok-between-in-None-less}
 use Rattle.shared_trees.proofs.map.remove.+join.Goals as goal
 
 pub join-requires-clause-rising : goal.join-requires-clause-rising
@@ -15,8 +15,7 @@ join-requires-clause-rising g t c κs within =
     let greater = c.args.greater.now in
     let low = c.low.inside in
     let is : less_side low.sides ++ low.entry ∷ greater_side low.sides ≡ less = c.low.view_is ∙ c.deref-low.ensures in
-    let side : c.in-Greater.fork ≡ greater_side low.sides = search rules in
-    rw side (into_left less (less_side low.sides) low.entry (greater_side low.sides) greater is c.requires.rising)
+    rw c.in-Some.ensures (into_left less (less_side low.sides) low.entry (greater_side low.sides) greater is c.requires.rising)
 
 pub beside-requires-clause-rising : goal.beside-requires-clause-rising
 beside-requires-clause-rising g t c κs within =
@@ -24,42 +23,41 @@ beside-requires-clause-rising g t c κs within =
     let greater = c.args.greater.now in
     let low = c.low.inside in
     let is : less_side low.sides ++ low.entry ∷ greater_side low.sides ≡ less = c.low.view_is ∙ c.deref-low.ensures in
-    let made : c.match-low.between ≡ greater_side low.sides ++ greater =
-    elim c.match-low.branch [
-      | in-Neither+in_ok-between-in-Neither w ↦ search rules
-      | in-Greater+in_ok-between-in-Greater w ↦ search rules
+    let made : c.match-greater.between ≡ greater_side low.sides ++ greater =
+    elim c.match-greater.branch [
+      | in-Some+in_ok-between-in-Some w ↦ w.between-is ∙ w.in_ok-between-in-Some.ensures ∙ ap (λ es. es ++ greater) w.in-Some.ensures
+      | in-None+in_ok-between-in-None w ↦ w.between-is ∙ w.in_ok-between-in-None.ensures.cases ∙ ap (λ es. es ++ greater) w.in-None.ensures
     ] in
     let rises : IsRising ((less_side low.sides ++ low.entry ∷ greater_side low.sides) ++ greater) =
     subst (λ es. IsRising (es ++ greater)) (sym is) c.requires.rising in
-    rw (c.in_ok-less.ensures, c.with_root-between.ensures, made) (rising_from_left (less_side low.sides) low.entry (greater_side low.sides) greater rises)
+    rw (c.in_ok-less_map.ensures, c.with_root-between.ensures, made) (rising_from_left (less_side low.sides) low.entry (greater_side low.sides) greater rises)
 
-pub returns-in_ok-less : goal.returns-in_ok-less
-returns-in_ok-less g t c =
+pub returns-in_ok-less_map : goal.returns-in_ok-less_map
+returns-in_ok-less_map g t c =
     let less = c.args.less.now in
     let greater = c.args.greater.now in
     let low = c.low.inside in
     let is : less_side low.sides ++ low.entry ∷ greater_side low.sides ≡ less = c.low.view_is ∙ c.deref-low.ensures in
-    let made : c.match-low.between ≡ greater_side low.sides ++ greater =
-    elim c.match-low.branch [
-      | in-Neither+in_ok-between-in-Neither w ↦ search rules
-      | in-Greater+in_ok-between-in-Greater w ↦ search rules
+    let made : c.match-greater.between ≡ greater_side low.sides ++ greater =
+    elim c.match-greater.branch [
+      | in-Some+in_ok-between-in-Some w ↦ w.between-is ∙ w.in_ok-between-in-Some.ensures ∙ ap (λ es. es ++ greater) w.in-Some.ensures
+      | in-None+in_ok-between-in-None w ↦ w.between-is ∙ w.in_ok-between-in-None.ensures.cases ∙ ap (λ es. es ++ greater) w.in-None.ensures
     ] in
     IfOk-weaker c.beside.result _ _
     (λ fork put. put
-    ∙ ap (λ es. es ++ low.entry ∷ c.with_root-between.result) c.in_ok-less.ensures
+    ∙ ap (λ es. es ++ low.entry ∷ c.with_root-between.result) c.in_ok-less_map.ensures
     ∙ ap (λ es. less_side low.sides ++ low.entry ∷ es) (c.with_root-between.ensures ∙ made)
     ∙ sym (append_assoc (less_side low.sides) (low.entry ∷ greater_side low.sides) greater)
     ∙ ap (λ es. es ++ greater) is)
     c.beside.ensures
 
-pub join-requires-in-Less-clause-rising : goal.join-requires-in-Less-clause-rising
-join-requires-in-Less-clause-rising g t c κs within =
+pub join-requires-in-Some-less-clause-rising : goal.join-requires-in-Some-less-clause-rising
+join-requires-in-Some-less-clause-rising g t c κs within =
     let less = c.args.less.now in
     let greater = c.args.greater.now in
     let high = c.high.inside in
     let is : less_side high.sides ++ high.entry ∷ greater_side high.sides ≡ greater = c.high.view_is ∙ c.deref-high.ensures in
-    let side : c.in-Less.fork ≡ less_side high.sides = search rules in
-    rw side (into_right greater less (less_side high.sides) high.entry (greater_side high.sides) is c.requires.rising)
+    rw c.in-Some-less.ensures (into_right greater less (less_side high.sides) high.entry (greater_side high.sides) is c.requires.rising)
 
 pub beside-requires-else-outranks-clause-rising : goal.beside-requires-else-outranks-clause-rising
 beside-requires-else-outranks-clause-rising g t c κs within =
@@ -67,38 +65,34 @@ beside-requires-else-outranks-clause-rising g t c κs within =
     let greater = c.args.greater.now in
     let high = c.high.inside in
     let is : less_side high.sides ++ high.entry ∷ greater_side high.sides ≡ greater = c.high.view_is ∙ c.deref-high.ensures in
-    let made : c.match-high.between ≡ less ++ less_side high.sides =
-    elim c.match-high.branch [
-      | in-Neither-sides+in_ok-between-in-Neither-sides w ↦
-          let none : less_side high.sides ≡ [] = search rules in
-          w.between-is ∙ w.in_ok-between-in-Neither-sides.ensures.cases ∙ sym (append-nil less) ∙ ap (λ es. less ++ es) (sym none)
-      | in-Less+in_ok-between-in-Less w ↦
-          let side : w.in-Less.fork ≡ less_side high.sides = search rules in
-          w.between-is ∙ w.in_ok-between-in-Less.ensures ∙ ap (λ es. less ++ es) side
+    let made : c.match-less.between ≡ less ++ less_side high.sides =
+    elim c.match-less.branch [
+      | in-Some-less+in_ok-between-in-Some-less w ↦
+          w.between-is ∙ w.in_ok-between-in-Some-less.ensures ∙ ap (λ es. less ++ es) w.in-Some-less.ensures
+      | in-None-less+in_ok-between-in-None-less w ↦
+          w.between-is ∙ w.in_ok-between-in-None-less.ensures.cases ∙ sym (append-nil less) ∙ ap (λ es. less ++ es) w.in-None-less.ensures
     ] in
     let rises : IsRising (less ++ (less_side high.sides ++ high.entry ∷ greater_side high.sides)) =
     subst (λ es. IsRising (less ++ es)) (sym is) c.requires.rising in
-    rw (c.with_root-between-else-outranks.ensures, made, c.in_ok-greater.ensures) (rising_from_right less (less_side high.sides) high.entry (greater_side high.sides) rises)
+    rw (c.with_root-between-else-outranks.ensures, made, c.in_ok-greater_map.ensures) (rising_from_right less (less_side high.sides) high.entry (greater_side high.sides) rises)
 
-pub returns-in_ok-greater : goal.returns-in_ok-greater
-returns-in_ok-greater g t c =
+pub returns-in_ok-greater_map : goal.returns-in_ok-greater_map
+returns-in_ok-greater_map g t c =
     let less = c.args.less.now in
     let greater = c.args.greater.now in
     let high = c.high.inside in
     let is : less_side high.sides ++ high.entry ∷ greater_side high.sides ≡ greater = c.high.view_is ∙ c.deref-high.ensures in
-    let made : c.match-high.between ≡ less ++ less_side high.sides =
-    elim c.match-high.branch [
-      | in-Neither-sides+in_ok-between-in-Neither-sides w ↦
-          let none : less_side high.sides ≡ [] = search rules in
-          w.between-is ∙ w.in_ok-between-in-Neither-sides.ensures.cases ∙ sym (append-nil less) ∙ ap (λ es. less ++ es) (sym none)
-      | in-Less+in_ok-between-in-Less w ↦
-          let side : w.in-Less.fork ≡ less_side high.sides = search rules in
-          w.between-is ∙ w.in_ok-between-in-Less.ensures ∙ ap (λ es. less ++ es) side
+    let made : c.match-less.between ≡ less ++ less_side high.sides =
+    elim c.match-less.branch [
+      | in-Some-less+in_ok-between-in-Some-less w ↦
+          w.between-is ∙ w.in_ok-between-in-Some-less.ensures ∙ ap (λ es. less ++ es) w.in-Some-less.ensures
+      | in-None-less+in_ok-between-in-None-less w ↦
+          w.between-is ∙ w.in_ok-between-in-None-less.ensures.cases ∙ sym (append-nil less) ∙ ap (λ es. less ++ es) w.in-None-less.ensures
     ] in
     IfOk-weaker c.beside-else-outranks-2.result _ _
     (λ fork put. put
-    ∙ ap (λ es. es ++ high.entry ∷ c.in_ok-greater.field-0) (c.with_root-between-else-outranks.ensures ∙ made)
-    ∙ ap (λ es. (less ++ less_side high.sides) ++ high.entry ∷ es) c.in_ok-greater.ensures
+    ∙ ap (λ es. es ++ high.entry ∷ c.in_ok-greater_map.field-0) (c.with_root-between-else-outranks.ensures ∙ made)
+    ∙ ap (λ es. (less ++ less_side high.sides) ++ high.entry ∷ es) c.in_ok-greater_map.ensures
     ∙ append_assoc less (less_side high.sides) (high.entry ∷ greater_side high.sides)
     ∙ ap (λ es. less ++ es) is)
     c.beside-else-outranks-2.ensures

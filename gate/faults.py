@@ -2,14 +2,14 @@
 """Tries the planted faults, crates/NAME/must-fail/*.edit: the prover has to refuse each of them.
 
 A function is proved from its own body and the contracts of what it calls. So faults in the bodies of different functions
-do not see each other, and are tried together: each function that a fault changes has to keep an open goal of its own.
-The same holds of faults in different files that change the heads of functions or impls, but no clause. A fault that
-changes a clause is tried alone.
+do not see each other, and are tried together: a goal has to stay open in a function that the fault changes. The same holds
+of faults in different files that change the heads of functions or impls, but no clause. A fault that changes a clause is
+tried alone.
 
-Two faults of one function cannot stand in it at once, and of a function that calls one without a proof nothing may be
-told. What is left of a crate for such a reason is tried in a second round, each fault in a copy of its function, below it
-and under another name. There are no copies of a function with a proof by hand, which has its name, or in the impl of a
-trait. A fault of which nothing is told then either is tried alone.
+A fault stands in a copy of its function, if there can be one: below the function, under another name, and with a copy of
+the proof by hand, if there is one. So one check tries many faults of a function, and whatever calls it stays proved. There
+is no copy in the impl of a trait, or of a function that calls itself and has a proof by hand. Of a function that calls one
+without a proof nothing may be told: the faults of which nothing is told are tried again, at last each alone and in place.
 
     gate/faults.py [--anew]        tries all faults, and says how many a clause refuses
     gate/faults.py NAME[/EDIT]..   tries those of a crate, or one of them, and says which goals each leaves open
@@ -30,10 +30,10 @@ import subprocess
 import sys
 import tempfile
 import time
-from collections import Counter
 from concurrent.futures import FIRST_COMPLETED, ThreadPoolExecutor, wait
 from dataclasses import dataclass, field, replace
 from functools import cache
+from glob import glob
 from typing import NamedTuple
 
 ROOT = os.path.dirname(os.path.dirname(os.path.abspath(__file__)))
@@ -47,7 +47,7 @@ VERDICT = re.compile(r"^(logic=proved|logic=not-proved|only=(\d+) proved=(\d+)$)
 CLAUSE = re.compile(r"\b(?:ensures|requires|ghost)\b")
 UNREAD = re.compile(r"is not in scope|has no field|is no name|operand is missing|expected the end|cannot continue")
 AT_ONCE = min(4, os.cpu_count())
-MOST = 16  # faults of one check, since the last crate that is proved has many, and its checks should end together
+MOST = 28  # faults of one check, so that the checks of the last crates end together
 KEPT = os.path.join(os.environ.get("XDG_CACHE_HOME") or os.path.expanduser("~/.cache"), "jurvegyat", "refused")
 
 
@@ -59,14 +59,33 @@ class Function:
     body: int
     end: int
     is_of_trait: bool
+    types: tuple = ()  # the words of the head of its impl
+
+    @property
+    def module(self):
+        return re.sub(r"^src/|(/?lib|/?main)?\.rt$", "", self.file)
+
+    def is_proved_in(self, folder):
+        """Whether a proof by hand of it lies in this folder: with its module, or with its type, which another file may declare."""
+        parent, name = os.path.split(folder)
+        if name.lstrip("+") != self.name:
+            return False
+        if not self.types:
+            return parent == os.path.join("proofs", self.module).rstrip("/")
+        names = {*self.types, *(it + of for it in self.types for of in self.types)}  # an impl's folder may have both its names
+        return os.path.basename(parent).split("+")[0] in names
 
     def has(self, file, line):
         """Whether what the prover told of a place is told of this function or of its proof."""
-        if file == self.file:
-            return self.head <= line <= self.end
-        module = re.sub(r"^src/|(/?lib|/?main)?\.rt$", "", self.file)
-        folder = os.path.dirname(file)
-        return folder.startswith(f"proofs/{module}") and os.path.basename(folder).lstrip("+") == self.name
+        return self.head <= line <= self.end if file == self.file else self.is_proved_in(os.path.dirname(file))
+
+    def proofs_by_hand(self, crate_folder):
+        """The folders of its proof by hand, one or none. None if it calls itself, or if it cannot be told which is its."""
+        proofs = {os.path.dirname(it) for it in glob("proofs/**/*.antt", root_dir=crate_folder, recursive=True)}
+        of_this_name = [it for it in proofs if os.path.basename(it).lstrip("+") == self.name]
+        its = list(filter(self.is_proved_in, of_this_name))
+        is_told = len(its) == 1 and "+" not in os.path.basename(its[0])
+        return its if is_told or not of_this_name else None
 
 
 @dataclass
@@ -132,8 +151,9 @@ def functions_of(file, text):
         outer = next((i for i in range(at, -1, -1) if OUTER.match(lines[i])), at) if indent else at
         while lines[at - 1].startswith(indent + "#["):  # what is told of a function with attributes is told of the first
             at -= 1
-        is_of_trait = bool(indent) and bool(re.search(r"^[a-z() ]*trait | for ", " ".join(lines[outer:at]).split("{")[0]))
-        found.append(Function(file, head[2], at, opening + 1, end, is_of_trait))
+        head_of_impl = " ".join(lines[outer:at]).split("{")[0] if indent else ""
+        is_of_trait = bool(re.search(r"^[a-z() ]*trait | for ", head_of_impl))
+        found.append(Function(file, head[2], at, opening + 1, end, is_of_trait, tuple(re.findall(r"\w+", head_of_impl))))
     return found
 
 
@@ -172,27 +192,24 @@ def read_fault(crate, name):
                 fault.is_alone |= bool(CLAUSE.search(sound) or CLAUSE.search(wrong))
     if not fault.lines:
         raise BadFault("it changes nothing")
-    # By the name alone, since the proof of a method lies with its type, which another file may declare.
-    by_hand = {os.path.basename(at).lstrip("+") for at, _, _ in os.walk(f"{folder}/proofs")}
-    is_by_itself = lambda it: not it.is_of_trait and it.name not in by_hand
+    is_by_itself = lambda it: not it.is_of_trait and it.proofs_by_hand(folder) is not None
     fault.can_be_copied = not fault.heads and not fault.added and all(map(is_by_itself, fault.functions))
     return fault
 
 
 def together(faults):
-    """Parts the faults so that those of a part do not see each other, and gives those that are left for copies."""
-    parts, left = [], []
+    """Parts the faults so that those of a part do not see each other."""
+    parts = []
     for fault in sorted(faults, key=lambda it: it.can_be_copied):
+        fault = replace(fault, is_copied=fault.can_be_copied)
         open_parts = [it for it in parts if not fault.is_alone and not it[0].is_alone and len(it) < MOST]
         part = next((it for it in open_parts if not any(map(fault.sees, it))), None)
         if part:
             part.append(fault)
-        elif open_parts and fault.can_be_copied:
-            left.append(fault)
         else:
             parts.append([fault])
     # The largest first, since they take longest.
-    return sorted(parts, key=len, reverse=True), left
+    return sorted(parts, key=len, reverse=True)
 
 
 @cache
@@ -310,8 +327,22 @@ def planted(file, text, faults):
     return [it for some in lines for it in some]
 
 
+def copy_proof(folder, proof, number):
+    """Copies a proof by hand for a copy of its function."""
+    copy = f"{proof}_with_fault_{number}"
+    names = [it.replace("/", ".") for it in (proof, copy)]
+    os.mkdir(f"{folder}/{copy}")
+    for file in os.listdir(f"{folder}/{proof}"):
+        with open(f"{folder}/{copy}/{file}", "w", encoding="utf-8") as it:
+            it.write(re.sub(rf"\.{names[0]}\b", f".{names[1]}", text_of(f"{folder}/{proof}/{file}")))
+
+
 def plant(folder, faults):
     """Plants the faults, and gives the lines of the files that they change."""
+    for number, fault in enumerate(faults):
+        for function in fault.functions if fault.is_copied else []:
+            for proof in function.proofs_by_hand(folder):
+                copy_proof(folder, proof, number)
     files = {path for fault in faults for path, _ in fault.lines}
     lines = {it: planted(it, text_of(f"{folder}/{it}"), faults) for it in files}
     for path, some in lines.items():
@@ -323,14 +354,18 @@ def plant(folder, faults):
 def goals_in(said, faults, lines):
     """What was told of a place, as if each fault stood in its function and not in a copy of it."""
     found = []
+
+    def copied_for(file):
+        copy = COPY.search(file)
+        return faults[int(copy[1])].name if copy else None
+
     for told in filter(None, map(TOLD.match, said.split("\n"))):
         file, at = told[2], int(told[3]) - 1
-        line = lines[file][at] if file in lines else Line("", at, None)
-        found.append(Goal(file, line.at, told[4], line.copied_for))
+        line = lines[file][at] if file in lines else Line("", at, copied_for(file))
+        found.append(Goal(COPY.sub("", file), line.at, told[4], line.copied_for))
     for told in filter(None, map(ENDLESS.match, said.split("\n"))):
-        copy = COPY.search(told[1])
-        file = f"proofs/{COPY.sub('', told[1]).replace('::', '/')}/Invariants.antt"
-        found.append(Goal(file, 0, told[2], faults[int(copy[1])].name if copy else None))
+        file = f"proofs/{told[1].replace('::', '/')}/Invariants.antt"
+        found.append(Goal(COPY.sub("", file), 0, told[2], copied_for(file)))
     return found
 
 
@@ -373,22 +408,21 @@ def judged(is_proved, goals):
 
 
 def try_part(part):
-    """The verdicts of faults of a crate that do not see each other, by name, and the faults of which nothing was told."""
+    """The verdicts of faults of a crate that do not see each other, by name, and parts of those of which nothing was told."""
     crate = part[0].crate
     is_proved, goals = check(crate, part)
-    if len(part) == 1:
+    if len(part) == 1 and not part[0].is_copied:
         return {f"{crate}/{part[0].name}": judged(is_proved, goals)}, []
     verdicts, rest = {}, []
     for fault in part:
         name = fault.name if fault.is_copied else None
         of = lambda function: [it for it in goals if it.file and it.copied_for == name and function.has(it.file, it.line)]
-        own, added = list(map(of, fault.functions)), list(map(of, fault.added))
-        told = [it for some in own + added for it in some]
-        if told and all(own) and not any(map(is_unread, goals)):
-            verdicts[f"{crate}/{fault.name}"] = Verdict(True, told, all(any(map(is_of_the_code, some)) for some in own or [told]))
+        told = [it for it in map(of, fault.functions + fault.added) if it]
+        if told and not any(map(is_unread, goals)):
+            verdicts[f"{crate}/{fault.name}"] = Verdict(True, sum(told, []), all(any(map(is_of_the_code, some)) for some in told))
         else:
             rest.append(fault)
-    return verdicts, rest
+    return verdicts, together(rest) if len(rest) < len(part) else [[replace(it, is_copied=False)] for it in rest]
 
 
 def is_proved(crate):
@@ -417,15 +451,6 @@ def read_faults(crate, names):
     return faults, verdicts
 
 
-def parts_of_round(number, faults):
-    """Parts what is to be tried of a crate, and gives what is left for the next round: in place, then in copies, at last each alone."""
-    if number == 1:
-        return together(faults)
-    if number == 2:
-        return together([replace(it, is_copied=it.can_be_copied) for it in faults])
-    return [[replace(it, is_copied=False)] for it in faults], []
-
-
 def try_all(faults):
     """The verdicts of all faults, by crate and name, and the crates that are not proved without them.
 
@@ -433,16 +458,14 @@ def try_all(faults):
     """
     started, number = time.time(), sum(map(len, faults.values()))
     needed = {it for crate in faults for it in (crate, *all_below(crate))}
-    proved, verdicts, left, rounds, running = {}, {}, {}, Counter(), {}
+    proved, verdicts, running = {}, {}, {}
 
     def prove(crate):
         return all(proved[it].result() for it in dependencies()[crate]) and is_proved(crate)
 
     with ThreadPoolExecutor(AT_ONCE) as pool:
 
-        def begin_round(crate):
-            rounds[crate] += 1
-            parts, left[crate] = parts_of_round(rounds[crate], left[crate])
+        def begin(crate, parts):
             running.update({pool.submit(try_part, it): crate for it in parts})
 
         # The lowest first, so that none waits for one behind it.
@@ -455,13 +478,12 @@ def try_all(faults):
                 if future is not proved[crate]:
                     told, rest = future.result()
                     verdicts |= told
-                    left[crate] += rest
+                    begin(crate, rest)
                     print(f"{len(verdicts)} of {number} faults, {time.time() - started:.0f} s", flush=True)
                 elif future.result() and crate in faults:
-                    left[crate], bad = read_faults(crate, faults[crate])
+                    found, bad = read_faults(crate, faults[crate])
                     verdicts |= bad
-                if left.get(crate) and crate not in running.values():
-                    begin_round(crate)
+                    begin(crate, together(found))
     return verdicts, [it for it in sorted(needed) if not proved[it].result()]
 
 

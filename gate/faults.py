@@ -7,9 +7,10 @@ of faults in different files that change the heads of functions or impls, but no
 tried alone.
 
 A fault stands in a copy of its function, if there can be one: below the function, under another name, and with a copy of
-the proof by hand, if there is one. So one check tries many faults of a function, and whatever calls it stays proved. There
-is no copy in the impl of a trait, or of a function that calls itself and has a proof by hand. Of a function that calls one
-without a proof nothing may be told: the faults of which nothing is told are tried again, at last each alone and in place.
+the proof by hand, if there is one. So one check tries many faults of a function, and whatever calls it stays proved. If
+there is a proof by hand, the check has a copy without a fault too, which has to be proved. There is no copy in the impl of
+a trait, or of a function that calls itself and has a proof by hand. Of a function that calls one without a proof nothing
+may be told: the faults of which nothing is told are tried again, at last each alone and in place.
 
     gate/faults.py [--anew]        tries all faults, and says how many a clause refuses
     gate/faults.py NAME[/EDIT]..   tries those of a crate, or one of them, and says which goals each leaves open
@@ -43,6 +44,7 @@ OUTER = re.compile(r"(?:pub(?:\([a-z]+\))? )?(?:unsafe )?(?:impl|trait)\b")
 ADDED = re.compile(r" *(?:pub(?:\([a-z]+\))? )?fn (\w+)")
 TOLD = re.compile(r"(note: )?(?:\./)?((?:src|specs|proofs)/[^:\s]+):(\d+):\d+: (?!note)(.*)")
 ENDLESS = re.compile(r"fn \w+::(\S+): (no proof: expected .*)")  # a loop or recursion that nobody shows to end
+COPY_PROVED = re.compile(r"^fn \S+_with_fault_(\d+): proved$", re.M)
 VERDICT = re.compile(r"^(logic=proved|logic=not-proved|only=(\d+) proved=(\d+)$)", re.M)
 CLAUSE = re.compile(r"\b(?:ensures|requires|ghost)\b")
 UNREAD = re.compile(r"is not in scope|has no field|is no name|operand is missing|expected the end|cannot continue")
@@ -80,11 +82,12 @@ class Function:
         return self.head <= line <= self.end if file == self.file else self.is_proved_in(os.path.dirname(file))
 
     def proofs_by_hand(self, crate_folder):
-        """The folders of its proof by hand, one or none. None if it calls itself, or if it cannot be told which is its."""
+        """The folders of its proof by hand, one or none. None if a copy cannot have it, or if it cannot be told which is its."""
         proofs = {os.path.dirname(it) for it in glob("proofs/**/*.antt", root_dir=crate_folder, recursive=True)}
         of_this_name = [it for it in proofs if os.path.basename(it).lstrip("+") == self.name]
         its = list(filter(self.is_proved_in, of_this_name))
-        is_told = len(its) == 1 and "+" not in os.path.basename(its[0])
+        are_answers = lambda it: {*os.listdir(f"{crate_folder}/{it}")} <= {"Answers.antt", "Invariants.antt"}
+        is_told = len(its) == 1 and "+" not in os.path.basename(its[0]) and are_answers(its[0])
         return its if is_told or not of_this_name else None
 
 
@@ -370,7 +373,10 @@ def goals_in(said, faults, lines):
 
 
 def check(crate, faults):
-    """Checks a copy of the crate with these faults, and gives whether it was proved, and each goal that was told with a place."""
+    """Checks a copy of the crate with these faults.
+
+    It gives whether that was proved, each goal that was told with a place, and the names of the faults whose copy was proved.
+    """
     with tempfile.TemporaryDirectory(prefix="faults-", dir=f"{ROOT}/out") as room:
         folder = copied_to(room, crate)
         lines = plant(folder, faults)
@@ -379,10 +385,11 @@ def check(crate, faults):
         said = subprocess.run(["rt", "check", "--jobs", "1", *enough(crate)], cwd=folder, **how).stdout
     verdict = VERDICT.search(said)
     if not verdict:
-        return False, [Goal(None, 0, said[-600:], None)]
+        return False, [Goal(None, 0, said[-600:], None)], set()
+    proved = {faults[int(it)].name for it in COPY_PROVED.findall(said)}
     if verdict[1] == "logic=proved" or verdict[2] and verdict[2] == verdict[3]:
-        return True, []
-    return False, goals_in(said, faults, lines)
+        return True, [], proved
+    return False, goals_in(said, faults, lines), proved
 
 
 def is_unread(goal):
@@ -407,10 +414,20 @@ def judged(is_proved, goals):
     return Verdict(True, goals, any(map(is_of_the_code, goals)))
 
 
+def copies_without_fault(part):
+    """By function, a copy without a fault, of each function whose copies have a proof by hand."""
+    crate = part[0].crate
+    copied = {it: None for fault in part if fault.is_copied for it in fault.functions}
+    by_hand = [it for it in copied if it.proofs_by_hand(f"{ROOT}/crates/{crate}")]
+    return {it: Fault(crate, f"none, at {it.file}:{it.head + 1}", functions=[it], is_copied=True) for it in by_hand}
+
+
 def try_part(part):
     """The verdicts of faults of a crate that do not see each other, by name, and parts of those of which nothing was told."""
     crate = part[0].crate
-    is_proved, goals = check(crate, part)
+    sound = copies_without_fault(part)
+    is_proved, goals, proved = check(crate, part + list(sound.values()))
+    unproved = [it for it, copy in sound.items() if copy.name not in proved]
     if len(part) == 1 and not part[0].is_copied:
         return {f"{crate}/{part[0].name}": judged(is_proved, goals)}, []
     verdicts, rest = {}, []
@@ -418,7 +435,7 @@ def try_part(part):
         name = fault.name if fault.is_copied else None
         of = lambda function: [it for it in goals if it.file and it.copied_for == name and function.has(it.file, it.line)]
         told = [it for it in map(of, fault.functions + fault.added) if it]
-        if told and not any(map(is_unread, goals)):
+        if told and not any(map(is_unread, goals)) and not (fault.is_copied and any(it in unproved for it in fault.functions)):
             verdicts[f"{crate}/{fault.name}"] = Verdict(True, sum(told, []), all(any(map(is_of_the_code, some)) for some in told))
         else:
             rest.append(fault)

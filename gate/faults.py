@@ -337,7 +337,7 @@ def copy_proof(folder, proof, number):
     os.mkdir(f"{folder}/{copy}")
     for file in os.listdir(f"{folder}/{proof}"):
         with open(f"{folder}/{copy}/{file}", "w", encoding="utf-8") as it:
-            it.write(re.sub(rf"\.{names[0]}\b", f".{names[1]}", text_of(f"{folder}/{proof}/{file}")))
+            it.write(re.sub(rf"\.{re.escape(names[0])}\b", f".{names[1]}", text_of(f"{folder}/{proof}/{file}")))
 
 
 def plant(folder, faults):

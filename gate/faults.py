@@ -9,14 +9,18 @@ tried alone.
 A fault stands in a copy of its function, if there can be one: below the function, under another name, and with a copy of
 the proof by hand, if there is one. So one check tries many faults of a function, and whatever calls it stays proved. If
 there is a proof by hand, the check has a copy without a fault too, which has to be proved. There is no copy in the impl of
-a trait, or of a function that calls itself and has a proof by hand. Of a function that calls one without a proof nothing
-may be told: the faults of which nothing is told are tried again, at last each alone and in place.
+a trait, or of a function that calls itself and has a proof by hand.
+
+Of a function that calls one without a proof nothing may be told. So faults in place are tried apart from copies, which may
+call any of them, and apart from what calls them by name. Faults of which nothing is told all the same are tried again, at
+last each alone and in place.
 
     gate/faults.py [--anew]        tries all faults, and says how many a clause refuses
     gate/faults.py NAME[/EDIT]..   tries those of a crate, or one of them, and says which goals each leaves open
 
 The crates without faults are proved first, in their folders out/, and each check begins with these proofs. Of a crate on
-which no other stands, only the modules of its faults are proved, if the faults change bodies alone.
+which no other stands, only the modules of its faults are proved, if the faults change bodies alone, and in the same check
+if that is the only one.
 
 That a fault was refused is kept on this machine, under a sum of all that the check read. A later run, in any checkout,
 tries those of which nothing is kept; with --anew, or with names, it tries all that it is told to.
@@ -46,10 +50,9 @@ TOLD = re.compile(r"(note: )?(?:\./)?((?:src|specs|proofs)/[^:\s]+):(\d+):\d+: (
 ENDLESS = re.compile(r"fn \w+::(\S+): (no proof: expected .*)")  # a loop or recursion that nobody shows to end
 COPY_PROVED = re.compile(r"^fn \S+_with_fault_(\d+): proved$", re.M)
 VERDICT = re.compile(r"^(logic=proved|logic=not-proved|only=(\d+) proved=(\d+)$)", re.M)
-CLAUSE = re.compile(r"\b(?:ensures|requires|ghost)\b")
+CLAUSE = re.compile(r"\b(?:ensures|requires|ghost(?! use))\b")
 UNREAD = re.compile(r"is not in scope|has no field|is no name|operand is missing|expected the end|cannot continue")
 AT_ONCE = min(4, os.cpu_count())
-MOST = 28  # faults of one check, so that the checks of the last crates end together
 KEPT = os.path.join(os.environ.get("XDG_CACHE_HOME") or os.path.expanduser("~/.cache"), "jurvegyat", "refused")
 
 
@@ -62,6 +65,7 @@ class Function:
     end: int
     is_of_trait: bool
     types: tuple = ()  # the words of the head of its impl
+    calls: frozenset = frozenset()  # the names of what it may call
 
     @property
     def module(self):
@@ -104,13 +108,19 @@ class Fault:
     is_copied: bool = False  # whether it is planted in copies of them
 
     def sees(self, other):
-        """Whether both change one function or one line, or one changes more than bodies in a file of the other."""
+        """Whether nothing might be told of one of them, or it might be told of the other, if they were tried together."""
         files = {path for path, _ in self.lines}, {path for path, _ in other.lines}
         if self.heads & files[1] or other.heads & files[0]:
             return True
         if self.is_copied or other.is_copied:
-            return False
+            return self.is_copied != other.is_copied
+        if self.is_called_by(other) or other.is_called_by(self):
+            return True
         return any(it in self.functions for it in other.functions) or any(it in self.lines for it in other.lines)
+
+    def is_called_by(self, other):
+        """Whether a function of the other may call one of this fault, so that nothing may be told of the other."""
+        return any(it.name in caller.calls for it in self.functions for caller in other.functions)
 
 
 class Line(NamedTuple):
@@ -156,7 +166,9 @@ def functions_of(file, text):
             at -= 1
         head_of_impl = " ".join(lines[outer:at]).split("{")[0] if indent else ""
         is_of_trait = bool(re.search(r"^[a-z() ]*trait | for ", head_of_impl))
-        found.append(Function(file, head[2], at, opening + 1, end, is_of_trait, tuple(re.findall(r"\w+", head_of_impl))))
+        inside = " ".join(lines[opening + 1 : end])
+        calls = frozenset(re.findall(r"(\w+)\(", inside.replace("**", "deref()")))
+        found.append(Function(file, head[2], at, opening + 1, end, is_of_trait, tuple(re.findall(r"\w+", head_of_impl)), calls))
     return found
 
 
@@ -205,7 +217,7 @@ def together(faults):
     parts = []
     for fault in sorted(faults, key=lambda it: it.can_be_copied):
         fault = replace(fault, is_copied=fault.can_be_copied)
-        open_parts = [it for it in parts if not fault.is_alone and not it[0].is_alone and len(it) < MOST]
+        open_parts = [it for it in parts if not fault.is_alone and not it[0].is_alone]
         part = next((it for it in open_parts if not any(map(fault.sees, it))), None)
         if part:
             part.append(fault)
@@ -270,16 +282,17 @@ def keep(verdicts):
 
 
 @cache
+def is_top(crate):
+    """Whether no crate with faults stands on it."""
+    return not any(crate in all_below(it) for it in wanted([]))
+
+
+@cache
 def enough(crate):
     """The flags by which a check reads no more of the crate than its faults need."""
-    crates, faults = wanted([]), []
-    if any(crate in all_below(it) for it in crates):
+    if not is_top(crate):
         return []
-    for name in crates[crate]:
-        try:
-            faults.append(read_fault(crate, name))
-        except BadFault:
-            pass  # which is told when the faults are parted
+    faults, _ = read_faults(crate, wanted([])[crate])
     modules = {path.removeprefix("src/").removesuffix(".rt").replace("/", "::") for it in faults for path, _ in it.lines}
     is_whole = any(it.heads for it in faults) or not modules.isdisjoint(("lib", "main"))
     return [] if is_whole else [word for it in sorted(modules) for word in ("--only", it)]
@@ -475,15 +488,20 @@ def try_all(faults):
     """
     started, number = time.time(), sum(map(len, faults.values()))
     needed = {it for crate in faults for it in (crate, *all_below(crate))}
-    proved, verdicts, running = {}, {}, {}
+    proved, verdicts, running, parts = {}, {}, {}, {}
+    for crate, names in faults.items():
+        found, bad = read_faults(crate, names)
+        verdicts |= bad
+        parts[crate] = together(found)
 
     def prove(crate):
-        return all(proved[it].result() for it in dependencies()[crate]) and is_proved(crate)
+        is_one_check = is_top(crate) and len(parts.get(crate, [])) == 1  # and needs no proof before; `rt ci` proves the rest
+        return all(proved[it].result() for it in dependencies()[crate]) and (is_one_check or is_proved(crate))
 
     with ThreadPoolExecutor(AT_ONCE) as pool:
 
-        def begin(crate, parts):
-            running.update({pool.submit(try_part, it): crate for it in parts})
+        def begin(crate, some):
+            running.update({pool.submit(try_part, it): crate for it in some})
 
         # The lowest first, so that none waits for one behind it.
         for crate in sorted(needed, key=lambda it: len(all_below(it))):
@@ -497,10 +515,8 @@ def try_all(faults):
                     verdicts |= told
                     begin(crate, rest)
                     print(f"{len(verdicts)} of {number} faults, {time.time() - started:.0f} s", flush=True)
-                elif future.result() and crate in faults:
-                    found, bad = read_faults(crate, faults[crate])
-                    verdicts |= bad
-                    begin(crate, together(found))
+                elif future.result():
+                    begin(crate, parts.get(crate, []))
     return verdicts, [it for it in sorted(needed) if not proved[it].result()]
 
 

@@ -1,5 +1,5 @@
 //! Handles that are cloned and dropped on one thread.
-use crate::fault::Fault;
+use crate::fault::{Fault, made};
 use servo_arc::Arc;
 use std::alloc::Global;
 
@@ -21,19 +21,19 @@ pub fn clone_often(handle: &Arc<u64>, iterations: u64) -> Result<u64, Fault> {
 
 #[inline(never)]
 pub fn clone_drop(alloc: Global, iterations: u64) -> Result<u64, Fault> {
-    let handle = Arc::new(alloc, VALUE).map_err(|_| Fault::Refused)?;
+    let handle = made(Arc::new(alloc, VALUE))?;
     clone_often(&handle, iterations)
 }
 
 #[inline(never)]
 pub fn marked_clone(alloc: Global, iterations: u64) -> Result<u64, Fault> {
-    let handle = Arc::new_leaked(alloc, VALUE).map_err(|_| Fault::Refused)?;
+    let handle = made(Arc::new_leaked(alloc, VALUE))?;
     clone_often(&handle, iterations)
 }
 
 #[inline(never)]
 pub fn clone_hold(alloc: Global, iterations: u64) -> Result<u64, Fault> {
-    let handle = Arc::new(alloc, VALUE).map_err(|_| Fault::Refused)?;
+    let handle = made(Arc::new(alloc, VALUE))?;
     let mut held: Vec<Arc<u64>> = Vec::with_capacity(alloc, HELD)?;
     let mut sum = 0u64;
     for _ in 0..iterations {

@@ -15,6 +15,12 @@ pub enum Fault {
     Output,
 }
 
+/// A handle that was made, unless memory was refused.
+#[inline]
+pub fn made<T: Drop, E: Drop>(given: Result<T, E>) -> Result<T, Fault> {
+    given.ok().ok_or(Fault::Refused)
+}
+
 impl From<AllocError> for Fault {
     fn from(_error: AllocError) -> Fault {
         Fault::Refused

@@ -1,5 +1,5 @@
 //! Handles that are made and dropped.
-use crate::fault::Fault;
+use crate::fault::{Fault, made};
 use servo_arc::Arc;
 use std::alloc::Global;
 
@@ -10,7 +10,7 @@ const RING: usize = 64;
 pub fn new_drop(alloc: Global, iterations: u64) -> Result<u64, Fault> {
     let mut sum = 0u64;
     for i in 0..iterations {
-        let handle = Arc::new(alloc, i).map_err(|_| Fault::Refused)?;
+        let handle = made(Arc::new(alloc, i))?;
         sum = sum.wrapping_add(*handle);
     }
     Ok(sum)
@@ -20,13 +20,13 @@ pub fn new_drop(alloc: Global, iterations: u64) -> Result<u64, Fault> {
 pub fn replace(alloc: Global, iterations: u64) -> Result<u64, Fault> {
     let mut ring = Vec::with_capacity(alloc, RING)?;
     for i in 0..RING {
-        ring.push(Arc::new(alloc, i as u64).map_err(|_| Fault::Refused)?)?;
+        ring.push(made(Arc::new(alloc, i as u64))?)?;
     }
     let mut sum = 0u64;
     for i in 0..iterations {
         if let Some(slot) = ring.get_mut(i as usize % RING) {
             sum = sum.wrapping_add(**slot);
-            *slot = Arc::new(alloc, i).map_err(|_| Fault::Refused)?;
+            *slot = made(Arc::new(alloc, i))?;
         }
     }
     Ok(sum)

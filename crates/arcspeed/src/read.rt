@@ -1,5 +1,5 @@
 //! Values that are read through handles.
-use crate::fault::Fault;
+use crate::fault::{Fault, made};
 use servo_arc::Arc;
 use std::alloc::Global;
 use workloads::Random;
@@ -11,7 +11,7 @@ const HANDLES: u64 = 1_000_000;
 pub fn deref_sum(alloc: Global, iterations: u64) -> Result<u64, Fault> {
     let mut handles = Vec::new(alloc);
     for i in 0..HANDLES {
-        handles.push(Arc::new(alloc, i).map_err(|_| Fault::Refused)?)?;
+        handles.push(made(Arc::new(alloc, i))?)?;
     }
     shuffle(&mut handles);
     let mut sum = 0u64;

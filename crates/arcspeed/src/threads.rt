@@ -1,6 +1,6 @@
 //! One block that several threads clone and drop at once.
 use crate::cloned::{VALUE, clone_often};
-use crate::fault::Fault;
+use crate::fault::{Fault, made};
 use servo_arc::Arc;
 use std::alloc::Global;
 use std::sync::Wait;
@@ -15,7 +15,7 @@ pub fn contend<R: Threads + Wait + Sync>(
     threads: usize,
     iterations: u64,
 ) -> Result<u64, Fault> {
-    let handle = Arc::new(alloc, VALUE).map_err(|_| Fault::Refused)?;
+    let handle = made(Arc::new(alloc, VALUE))?;
     let sums = thread::map_indices(
         rt,
         alloc,
@@ -33,7 +33,7 @@ pub fn marked_clone<R: Threads + Sync>(
     threads: usize,
     iterations: u64,
 ) -> Result<u64, Fault> {
-    let handle = Arc::new_leaked(alloc, VALUE).map_err(|_| Fault::Refused)?;
+    let handle = made(Arc::new_leaked(alloc, VALUE))?;
     let sums = thread::map_indices(rt, alloc, threads, &|_| clone_often(&handle, iterations))?;
     total(&sums)
 }

@@ -1,13 +1,13 @@
 //! Handles of one of two types.
-use crate::fault::Fault;
+use crate::fault::{Fault, made};
 use servo_arc::{Arc, ArcUnion, ArcUnionBorrow};
 use std::alloc::Global;
 use workloads::Random;
 
 #[inline(never)]
 pub fn union_clone(alloc: Global, iterations: u64) -> Result<u64, Fault> {
-    let first = Arc::new(alloc, 7u64).map_err(|_| Fault::Refused)?;
-    let second = Arc::new(alloc, 9u32).map_err(|_| Fault::Refused)?;
+    let first = made(Arc::new(alloc, 7u64))?;
+    let second = made(Arc::new(alloc, 9u32))?;
     let unions: [ArcUnion<u64, u32>; 2] = [
         ArcUnion::from_first(first),
         ArcUnion::from_second(second),

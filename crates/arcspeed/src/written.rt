@@ -1,12 +1,12 @@
 //! Values that are written through handles.
 use crate::cloned::VALUE;
-use crate::fault::Fault;
+use crate::fault::{Fault, made};
 use servo_arc::Arc;
 use std::alloc::Global;
 
 #[inline(never)]
 pub fn make_mut_unique(alloc: Global, iterations: u64) -> Result<u64, Fault> {
-    let mut handle = Arc::new(alloc, VALUE).map_err(|_| Fault::Refused)?;
+    let mut handle = made(Arc::new(alloc, VALUE))?;
     for _ in 0..iterations {
         let value = Arc::make_mut(&mut handle, alloc)?;
         *value = value.wrapping_add(3);
@@ -16,7 +16,7 @@ pub fn make_mut_unique(alloc: Global, iterations: u64) -> Result<u64, Fault> {
 
 #[inline(never)]
 pub fn get_mut_unique(alloc: Global, iterations: u64) -> Result<u64, Fault> {
-    let mut handle = Arc::new(alloc, VALUE).map_err(|_| Fault::Refused)?;
+    let mut handle = made(Arc::new(alloc, VALUE))?;
     for _ in 0..iterations {
         if let Some(value) = Arc::get_mut(&mut handle) {
             *value = value.wrapping_add(3);
@@ -28,7 +28,7 @@ pub fn get_mut_unique(alloc: Global, iterations: u64) -> Result<u64, Fault> {
 #[inline(never)]
 pub fn make_mut_shared(alloc: Global, iterations: u64) -> Result<u64, Fault> {
     let values = [1u64, 2, 3, 4, 5, 6, 7, 8];
-    let handle = Arc::new(alloc, values).map_err(|_| Fault::Refused)?;
+    let handle = made(Arc::new(alloc, values))?;
     let mut sum = 0u64;
     for i in 0..iterations {
         let mut own: Arc<[u64; 8]> = handle.clone()?;

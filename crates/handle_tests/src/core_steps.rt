@@ -1,5 +1,5 @@
 //! Each public call once, and the laws at a concrete type. What `arcbench` prints for whole scripts
-//! is tested in `script_tests`.
+//! is tested in `script_runs`.
 use facts::{again, holds, ok, same};
 use servo_arc::counting_core::{Answer, Core, Step, laws};
 use servo_arc::word::MAX_REFCOUNT;

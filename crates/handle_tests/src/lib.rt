@@ -1,5 +1,5 @@
-//! Tests of the word, the core, the handles and what stands on them, in one thread and through `servo_arc`: what no
-//! contract says.
+//! Tests of the word, the core, the handles and what stands on them, in one thread and through `servo_arc`, and of the
+//! scripts of `arcbench`: what no contract says.
 #![tactic(auto)]
 
 #[cfg(test)]
@@ -8,6 +8,8 @@ mod borrows;
 mod by_bound;
 #[cfg(test)]
 mod by_value;
+#[cfg(test)]
+mod core_runs;
 #[cfg(test)]
 mod core_steps;
 #[cfg(test)]
@@ -29,11 +31,15 @@ mod pages;
 #[cfg(test)]
 mod put;
 #[cfg(test)]
+mod script_runs;
+#[cfg(test)]
 mod sizes;
 #[cfg(test)]
 mod table_rows;
 #[cfg(test)]
 mod table_slots;
+#[cfg(test)]
+mod telling;
 #[cfg(test)]
 mod union_rows;
 #[cfg(test)]

@@ -1,10 +1,23 @@
-//! Tests of versions, of `cow_table` and of `shared_trees`, and of the callers: what no contract says.
+//! Tests of what is shared. Threads share one block or one count: clones, drops, marks, writes and tokens against each
+//! other. Versions of `cow_table` and of `shared_trees` share pages and nodes, as do the callers: what no contract says.
 #![tactic(auto)]
 
 #[cfg(test)]
 mod calling;
 #[cfg(test)]
+mod count_rows;
+#[cfg(test)]
+mod count_threads;
+#[cfg(test)]
+mod last_value;
+#[cfg(test)]
+mod limits_on_threads;
+#[cfg(test)]
 mod lists;
+#[cfg(test)]
+mod made;
+#[cfg(test)]
+mod many_threads;
 #[cfg(test)]
 mod maps;
 #[cfg(test)]
@@ -18,8 +31,16 @@ mod table_rows;
 #[cfg(test)]
 mod table_threads;
 #[cfg(test)]
+mod threads;
+#[cfg(test)]
 mod tree_callers;
 #[cfg(test)]
 mod tree_copies;
 #[cfg(test)]
 mod tree_threads;
+#[cfg(test)]
+mod unions_on_threads;
+#[cfg(test)]
+mod unique_again;
+#[cfg(test)]
+mod wrong_answers;

@@ -1,5 +1,5 @@
 use Rattle.std.proofs.Common.{◌≡◌}
-use Rattle.thread_tests.proofs.count_threads.churn.Given as goal
+use Rattle.sharing_tests.proofs.count_threads.churn.Given as goal
 
 abbrev pub invariant-loop : goal.invariant-loop
 invariant-loop l = l.pass.count ≡ l.count

@@ -1,5 +1,5 @@
 //! Runs whose input, output or standard error fails.
-use crate::fakes::{FailingReader, FailingWriter};
+use super::fakes::{FailingReader, FailingWriter};
 use facts::{holds, holds_at, same, same_at};
 use scripts::bench;
 use std::alloc::{AllocError, Global};

@@ -1,5 +1,5 @@
 //! Scripts of commands on a table, and their answers.
-use crate::runs::Row;
+use super::runs::Row;
 use std::test::Fail;
 
 const TABLES: [Row; 16] = [

@@ -1,5 +1,5 @@
 //! Scripts of steps, and their answers.
-use crate::runs::Row;
+use super::runs::Row;
 use std::test::Fail;
 
 const ONE_OWNER: [Row; 13] = [

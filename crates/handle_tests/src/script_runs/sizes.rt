@@ -1,5 +1,5 @@
 //! Scripts, cores and tables that are large: caps that nobody asked for would end them.
-use crate::runs::run_bench;
+use super::runs::run_bench;
 use facts::holds;
 use std::alloc::{AllocError, Global};
 use std::fmt::Write;

@@ -1,5 +1,5 @@
 //! Scripts byte by byte: what a line may be, and what is printed up to the first faulty one.
-use crate::runs::run_bench;
+use super::runs::run_bench;
 use facts::{holds_at, same_at};
 use std::alloc::Global;
 use std::process::Abort;

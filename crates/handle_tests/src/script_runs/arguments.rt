@@ -1,6 +1,6 @@
 //! The argument words that are wrong, and the largest that are right.
-use crate::fakes::FailingReader;
-use crate::runs::run_bench;
+use super::fakes::FailingReader;
+use super::runs::run_bench;
 use facts::{holds_at, same, same_at};
 use scripts::bench;
 

@@ -1,7 +1,7 @@
 //! Long runs of a core by one call.
-use counting_core::{Answer, Core, Step};
-use counting_word::MAX_REFCOUNT;
 use facts::holds;
+use servo_arc::counting_core::{Answer, Core, Step};
+use servo_arc::word::MAX_REFCOUNT;
 use std::test::Fail;
 
 #[test]

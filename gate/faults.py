@@ -52,7 +52,7 @@ COPY_PROVED = re.compile(r"^fn \S+_with_fault_(\d+): proved$", re.M)
 VERDICT = re.compile(r"^(logic=proved|logic=not-proved|only=(\d+) proved=(\d+)$)", re.M)
 CLAUSE = re.compile(r"\b(?:ensures|requires|ghost(?! use))\b")
 UNREAD = re.compile(r"is not in scope|has no field|is no name|operand is missing|expected the end|cannot continue")
-AT_ONCE = min(4, os.cpu_count())
+AT_ONCE = int(subprocess.run(["bash", "-c", ". gate/jobs.sh && checks_at_once"], cwd=ROOT, capture_output=True, check=True).stdout)
 KEPT = os.path.join(os.environ.get("XDG_CACHE_HOME") or os.path.expanduser("~/.cache"), "jurvegyat", "refused")
 
 
@@ -514,6 +514,8 @@ def try_all(faults):
                     told, rest = future.result()
                     verdicts |= told
                     begin(crate, rest)
+                    if rest:
+                        print(f"{crate}: nothing was told of {' '.join(it.name for some in rest for it in some)}: tried again")
                     print(f"{len(verdicts)} of {number} faults, {time.time() - started:.0f} s", flush=True)
                 elif future.result():
                     begin(crate, parts.get(crate, []))

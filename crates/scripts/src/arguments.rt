@@ -11,7 +11,7 @@ const MOST_OWNERS: usize = 1000;
 const MOST_SLOTS: usize = 1000;
 
 /// A program that the arguments ask for.
-#[derive(Clone, Copy, Debug, PartialEq)]
+#[derive(Clone, Copy)]
 pub enum Request {
     Core { owners: usize, limit: u64 },
     Table { slots: usize },

@@ -3,8 +3,8 @@
 
 A function is proved from its own body and the contracts of what it calls. So faults in the bodies of different functions
 do not see each other, and are tried together: a goal has to stay open in a function that the fault changes. The same holds
-of faults in different files that change the heads of functions or impls, but no clause. A fault that changes a clause is
-tried alone.
+of a fault that changes the heads of functions or impls, but no clause, and one in a function that neither is of these nor
+calls any by name. A fault that changes a clause is tried alone.
 
 A fault stands in a copy of its function, if there can be one: below the function, under another name, and with a copy of
 the proof by hand, if there is one. So one check tries many faults of a function, and whatever calls it stays proved. If
@@ -19,8 +19,7 @@ last each alone and in place.
     gate/faults.py NAME[/EDIT]..   tries those of a crate, or one of them, and says which goals each leaves open
 
 The crates without faults are proved first, in their folders out/, and each check begins with these proofs. Of a crate on
-which no other stands, only the modules of its faults are proved, if the faults change bodies alone, and in the same check
-if that is the only one.
+which no other stands, a check proves the functions with faults and those that they call, and no more.
 
 That a fault was refused is kept on this machine, under a sum of all that the check read. A later run, in any checkout,
 tries those of which nothing is kept; with --anew, or with names, it tries all that it is told to.
@@ -103,20 +102,27 @@ class Fault:
     functions: list = field(default_factory=list)  # whose bodies it changes
     added: list = field(default_factory=list)  # functions that it adds, each in a line of its own
     heads: set = field(default_factory=set)  # files in which it changes more than bodies
+    headed: list = field(default_factory=list)  # functions whose heads it changes, or that of their impl
     is_alone: bool = False  # whether a clause is among that
     can_be_copied: bool = False  # whether its functions can
     is_copied: bool = False  # whether it is planted in copies of them
 
     def sees(self, other):
         """Whether nothing might be told of one of them, or it might be told of the other, if they were tried together."""
-        files = {path for path, _ in self.lines}, {path for path, _ in other.lines}
-        if self.heads & files[1] or other.heads & files[0]:
+        if self.changes_a_head_for(other) or other.changes_a_head_for(self):
             return True
         if self.is_copied or other.is_copied:
             return self.is_copied != other.is_copied
         if self.is_called_by(other) or other.is_called_by(self):
             return True
         return any(it in self.functions for it in other.functions) or any(it in self.lines for it in other.lines)
+
+    def changes_a_head_for(self, other):
+        """Whether a function of the other is in an impl, or calls a function, whose head this one changes, or its proof may."""
+        names = {it.name for it in self.headed}
+        proofs = {it for it in self.heads if not it.endswith(".rt")}
+        is_there = lambda it: it in self.headed or not names.isdisjoint(it.calls)
+        return any(map(is_there, other.functions)) or any(path in proofs for path, _ in other.lines)
 
     def is_called_by(self, other):
         """Whether a function of the other may call one of this fault, so that nothing may be told of the other."""
@@ -172,6 +178,13 @@ def functions_of(file, text):
     return found
 
 
+def headed_at(at, functions, lines):
+    """The functions whose head is on this line: one, or those from there to the end of the impl."""
+    own = [it for it in functions if it.head <= at < it.body]
+    end = lines.index("}", at) if not own and "}" in lines[at:] else at
+    return own or [it for it in functions if at <= it.head < end]
+
+
 def text_of(path):
     with open(path, encoding="utf-8") as it:
         return it.read()
@@ -204,6 +217,7 @@ def read_fault(crate, name):
                 fault.added.append(Function(path, ADDED.match(wrong)[1], at, at, at, False))
             elif not inside:
                 fault.heads.add(path)
+                fault.headed += headed_at(at, functions, before[path].split("\n"))
                 fault.is_alone |= bool(CLAUSE.search(sound) or CLAUSE.search(wrong))
     if not fault.lines:
         raise BadFault("it changes nothing")
@@ -288,14 +302,20 @@ def is_top(crate):
 
 
 @cache
-def enough(crate):
-    """The flags by which a check reads no more of the crate than its faults need."""
-    if not is_top(crate):
+def names_in(crate):
+    """The names of the functions of the crate, each as often as it stands there."""
+    files = glob("src/**/*.rt", root_dir=f"{ROOT}/crates/{crate}", recursive=True)
+    return [function.name for it in files for function in functions_of(it, text_of(f"{ROOT}/crates/{crate}/{it}"))]
+
+
+def only(crate, faults):
+    """The flags by which a check of a crate on which no other stands proves no more than these faults need."""
+    if not is_top(crate) or any(it.heads for it in faults):
         return []
-    faults, _ = read_faults(crate, wanted([])[crate])
-    modules = {path.removeprefix("src/").removesuffix(".rt").replace("/", "::") for it in faults for path, _ in it.lines}
-    is_whole = any(it.heads for it in faults) or not modules.isdisjoint(("lib", "main"))
-    return [] if is_whole else [word for it in sorted(modules) for word in ("--only", it)]
+    in_place = {function for it in faults if not it.is_copied for function in it.functions}
+    paths = {it.name if names_in(crate).count(it.name) == 1 else it.module.replace("/", "::") for it in in_place}
+    paths |= {f"{function.name}_with_fault_{at}" for at, it in enumerate(faults) if it.is_copied for function in it.functions}
+    return [word for it in sorted(paths) for word in ("--only", it)]
 
 
 def copy_or_link(source, to):
@@ -395,7 +415,7 @@ def check(crate, faults):
         lines = plant(folder, faults)
         how = {"stdin": subprocess.DEVNULL, "stdout": subprocess.PIPE, "stderr": subprocess.STDOUT, "text": True, "errors": "replace"}
         # Several run at once, and after a small change more jobs only take more time.
-        said = subprocess.run(["rt", "check", "--jobs", "1", *enough(crate)], cwd=folder, **how).stdout
+        said = subprocess.run(["rt", "check", "--jobs", "1", *only(crate, faults)], cwd=folder, **how).stdout
     verdict = VERDICT.search(said)
     if not verdict:
         return False, [Goal(None, 0, said[-600:], None)], set()
@@ -456,13 +476,12 @@ def try_part(part):
 
 
 def is_proved(crate):
-    """Whether the crate itself is proved, which leaves its proofs in its folder out/ for the copies."""
-    started, is_library = time.time(), os.path.isfile(f"{ROOT}/crates/{crate}/src/lib.rt")
-    verb = "lib" if is_library and not enough(crate) else "check"  # the first leaves a library for the crates above, too
+    """Whether the crate itself is proved, which leaves its proofs in its folder out/ for the copies, and its library."""
+    started = time.time()
     with tempfile.TemporaryDirectory(prefix="proofs-", dir=f"{ROOT}/out") as room:
         folder = copied_to(room, crate)  # since a check holds the folders of all crates below
         how = {"stdin": subprocess.DEVNULL, "stdout": subprocess.DEVNULL, "stderr": subprocess.STDOUT}
-        if subprocess.run(["rt", verb, "--jobs", "1", *enough(crate)], cwd=folder, **how).returncode:
+        if subprocess.run(["rt", "lib", "--jobs", "1"], cwd=folder, **how).returncode:
             return False
         shutil.rmtree(f"{ROOT}/crates/{crate}/out", ignore_errors=True)
         os.rename(f"{folder}/out", f"{ROOT}/crates/{crate}/out")
@@ -495,8 +514,8 @@ def try_all(faults):
         parts[crate] = together(found)
 
     def prove(crate):
-        is_one_check = is_top(crate) and len(parts.get(crate, [])) == 1  # and needs no proof before; `rt ci` proves the rest
-        return all(proved[it].result() for it in dependencies()[crate]) and (is_one_check or is_proved(crate))
+        # One on which no other stands needs no proof before, and that the rest of it is proved `rt ci` says.
+        return all(proved[it].result() for it in dependencies()[crate]) and (is_top(crate) or is_proved(crate))
 
     with ThreadPoolExecutor(AT_ONCE) as pool:
 

@@ -37,9 +37,9 @@ mod sizes;
 #[cfg(test)]
 mod table_rows;
 #[cfg(test)]
-mod table_slots;
-#[cfg(test)]
 mod telling;
+#[cfg(test)]
+mod told;
 #[cfg(test)]
 mod union_rows;
 #[cfg(test)]

@@ -1,142 +1,190 @@
 //! What no clause says: that commands are served if memory is ample, and which of two allowed
 //! replies comes when.
+use crate::told::{parted, same_slots};
 use facts::{holds, ok, same};
 use servo_arc::table::{Command, PlainCommand, Reply, Table, laws};
-use std::alloc::AllocError;
+use std::alloc::{AllocError, Global};
+use std::process::Abort;
+
+/// Runs commands on empty slots, as many as there are values left. Each gets the reply beside it.
+fn check(rt: &impl Abort, alloc: Global, told: Vec<(Command<u32>, Reply)>, left: &[Option<u32>]) {
+    let mut table = ok!(rt, Table::new(alloc, left.len()));
+    let (commands, expected) = ok!(rt, parted(alloc, told));
+    same!(rt, ok!(rt, table.run(alloc, commands)), expected);
+    same_slots(rt, &table, left);
+}
+
+fn check_plain(
+    rt: &impl Abort,
+    alloc: Global,
+    told: Vec<(PlainCommand<u32>, Reply)>,
+    left: &[Option<u32>],
+) {
+    let mut table = ok!(rt, Table::new(alloc, left.len()));
+    let (commands, expected) = ok!(rt, parted(alloc, told));
+    same!(rt, ok!(rt, table.run_plain(alloc, commands)), expected);
+    same_slots(rt, &table, left);
+}
 
 #[test]
 fn a_shared_value_is_copied_before_it_is_written(rt: HostRuntime) {
-    let mut table: Table<u32> = ok!(&rt, Table::new(rt.alloc(), 3));
-    let commands = ok!(
-        &rt,
-        vec![in rt.alloc();
-            Command::New(0, 5),
-            Command::Clone(0, 1),
-            Command::GetMut(0, 9),
-            Command::MakeMut(0, 9),
-            Command::PtrEq(0, 1),
-            Command::Same(0, 1),
-            Command::Drop(2),
-            Command::New(3, 1),
-        ],
-    );
-    let replies = ok!(&rt, table.run(rt.alloc(), commands));
-    let expected = [
-        Reply::Done,
-        Reply::Done,
-        Reply::Shared,
-        Reply::Done,
-        Reply::Is(false),
-        Reply::Is(false),
-        Reply::Empty,
-        Reply::NoSlot,
+    let told = vec![in rt.alloc();
+        (Command::New(0, 5), Reply::Done),
+        (Command::Clone(0, 1), Reply::Done),
+        (Command::GetMut(0, 9), Reply::Shared),
+        (Command::MakeMut(0, 9), Reply::Done),
+        (Command::PtrEq(0, 1), Reply::Is(false)),
+        (Command::Same(0, 1), Reply::Is(false)),
+        (Command::Drop(2), Reply::Empty),
+        (Command::New(3, 1), Reply::NoSlot),
     ];
-    same!(&rt, replies.as_slice(), expected.as_slice());
-    same!(&rt, table.get(0).copied(), Some(9));
-    same!(&rt, table.get(1).copied(), Some(5));
-    same!(&rt, table.get(2).copied(), None);
+    check(&rt, rt.alloc(), ok!(&rt, told), &[Some(9), Some(5), None]);
 }
 
 #[test]
 fn a_marked_block_is_left_for_one_of_its_own(rt: HostRuntime) {
-    let mut table: Table<u32> = ok!(&rt, Table::new(rt.alloc(), 2));
-    let commands = ok!(
-        &rt,
-        vec![in rt.alloc();
-            Command::New(0, 4),
-            Command::Mark(0),
-            Command::Own(0),
-            Command::GetMut(0, 6),
-            Command::Clone(0, 0),
-            Command::GetMut(0, 7),
-            Command::Raw(0),
-        ],
-    );
-    let replies = ok!(&rt, table.run(rt.alloc(), commands));
-    same!(&rt, replies.as_slice(), [Reply::Done; 7].as_slice());
-    same!(&rt, table.get(0).copied(), Some(7));
+    let told = vec![in rt.alloc();
+        (Command::New(0, 4), Reply::Done),
+        (Command::Mark(0), Reply::Done),
+        (Command::Own(0), Reply::Done),
+        (Command::GetMut(0, 6), Reply::Done),
+        (Command::Clone(0, 0), Reply::Done),
+        (Command::GetMut(0, 7), Reply::Done),
+        (Command::Raw(0), Reply::Done),
+    ];
+    check(&rt, rt.alloc(), ok!(&rt, told), &[Some(7), None]);
+}
+
+#[test]
+fn a_mark_is_of_one_slot(rt: HostRuntime) {
+    let told = vec![in rt.alloc();
+        (Command::New(0, 5), Reply::Done),
+        (Command::New(1, 6), Reply::Done),
+        (Command::New(2, 7), Reply::Done),
+        (Command::Mark(1), Reply::Done),
+        (Command::GetMut(0, 8), Reply::Done),
+        (Command::GetMut(1, 8), Reply::Shared),
+        (Command::GetMut(2, 8), Reply::Done),
+    ];
+    let left = [Some(8), Some(6), Some(8)];
+    check(&rt, rt.alloc(), ok!(&rt, told), &left);
+}
+
+#[test]
+fn a_slot_gets_a_block_of_its_own(rt: HostRuntime) {
+    let told = vec![in rt.alloc();
+        (Command::New(0, 5), Reply::Done),
+        (Command::Clone(0, 1), Reply::Done),
+        (Command::Clone(0, 2), Reply::Done),
+        (Command::Own(1), Reply::Done),
+        (Command::PtrEq(0, 1), Reply::Is(false)),
+        (Command::PtrEq(0, 2), Reply::Is(true)),
+        (Command::PtrEq(1, 2), Reply::Is(false)),
+        (Command::MakeMut(2, 4_294_967_295), Reply::Done),
+        (Command::PtrEq(0, 2), Reply::Is(false)),
+    ];
+    let left = [Some(5), Some(5), Some(4_294_967_295)];
+    check(&rt, rt.alloc(), ok!(&rt, told), &left);
+}
+
+#[test]
+fn a_marked_block_is_never_written(rt: HostRuntime) {
+    let told = vec![in rt.alloc();
+        (Command::New(0, 4), Reply::Done),
+        (Command::Clone(0, 0), Reply::Done),
+        (Command::GetMut(0, 5), Reply::Done),
+        (Command::Mark(0), Reply::Done),
+        (Command::GetMut(0, 6), Reply::Shared),
+        (Command::Same(0, 0), Reply::Is(true)),
+    ];
+    check(&rt, rt.alloc(), ok!(&rt, told), &[Some(5)]);
+    let told = vec![in rt.alloc();
+        (Command::New(0, 5), Reply::Done),
+        (Command::Mark(0), Reply::Done),
+        (Command::GetMut(0, 6), Reply::Shared),
+        (Command::MakeMut(0, 7), Reply::Done),
+        (Command::GetMut(0, 8), Reply::Done),
+    ];
+    check(&rt, rt.alloc(), ok!(&rt, told), &[Some(8)]);
+}
+
+#[test]
+fn a_table_without_slots_has_none(rt: HostRuntime) {
+    let told = vec![in rt.alloc(); (Command::New(0, 1), Reply::NoSlot)];
+    check(&rt, rt.alloc(), ok!(&rt, told), &[]);
 }
 
 #[test]
 fn a_plain_run_shares_and_reads(rt: HostRuntime) {
-    let mut table: Table<u32> = ok!(&rt, Table::new(rt.alloc(), 3));
-    let commands = ok!(
-        &rt,
-        vec![in rt.alloc();
-            PlainCommand::New(0, 5),
-            PlainCommand::Clone(0, 1),
-            PlainCommand::GetMut(0, 9),
-            PlainCommand::PtrEq(0, 1),
-            PlainCommand::Same(0, 1),
-            PlainCommand::Drop(2),
-            PlainCommand::New(3, 1),
-        ],
-    );
-    let replies = ok!(&rt, table.run_plain(rt.alloc(), commands));
-    let expected = [
-        Reply::Done,
-        Reply::Done,
-        Reply::Shared,
-        Reply::Is(true),
-        Reply::Is(true),
-        Reply::Empty,
-        Reply::NoSlot,
+    let told = vec![in rt.alloc();
+        (PlainCommand::New(0, 5), Reply::Done),
+        (PlainCommand::Clone(0, 1), Reply::Done),
+        (PlainCommand::GetMut(0, 9), Reply::Shared),
+        (PlainCommand::PtrEq(0, 1), Reply::Is(true)),
+        (PlainCommand::Same(0, 1), Reply::Is(true)),
+        (PlainCommand::Drop(2), Reply::Empty),
+        (PlainCommand::New(3, 1), Reply::NoSlot),
     ];
-    same!(&rt, replies.as_slice(), expected.as_slice());
-    same!(&rt, table.get(0).copied(), Some(5));
-    same!(&rt, table.get(1).copied(), Some(5));
-    same!(&rt, table.get(2).copied(), None);
+    check_plain(&rt, rt.alloc(), ok!(&rt, told), &[Some(5), Some(5), None]);
 }
 
 #[test]
 fn a_plain_run_passes_handles_through_tokens(rt: HostRuntime) {
-    let mut table: Table<u32> = ok!(&rt, Table::new(rt.alloc(), 2));
-    let commands = ok!(
-        &rt,
-        vec![in rt.alloc();
-            PlainCommand::New(0, 4),
-            PlainCommand::GetMut(0, 6),
-            PlainCommand::Clone(0, 0),
-            PlainCommand::GetMut(0, 7),
-            PlainCommand::Raw(0),
-            PlainCommand::Raw(1),
-            PlainCommand::Raw(2),
-            PlainCommand::Mark(0),
-            PlainCommand::GetMut(0, 8),
-        ],
-    );
-    let replies = ok!(&rt, table.run_plain(rt.alloc(), commands));
-    let expected = [
-        Reply::Done,
-        Reply::Done,
-        Reply::Done,
-        Reply::Done,
-        Reply::Done,
-        Reply::Empty,
-        Reply::NoSlot,
-        Reply::Done,
-        Reply::Shared,
+    let told = vec![in rt.alloc();
+        (PlainCommand::New(0, 4), Reply::Done),
+        (PlainCommand::GetMut(0, 6), Reply::Done),
+        (PlainCommand::Clone(0, 0), Reply::Done),
+        (PlainCommand::GetMut(0, 7), Reply::Done),
+        (PlainCommand::Raw(0), Reply::Done),
+        (PlainCommand::Raw(1), Reply::Empty),
+        (PlainCommand::Raw(2), Reply::NoSlot),
+        (PlainCommand::Mark(0), Reply::Done),
+        (PlainCommand::GetMut(0, 8), Reply::Shared),
     ];
-    same!(&rt, replies.as_slice(), expected.as_slice());
-    same!(&rt, table.get(0).copied(), Some(7));
+    check_plain(&rt, rt.alloc(), ok!(&rt, told), &[Some(7), None]);
+}
+
+#[test]
+fn commands_are_served_one_at_a_time(rt: HostRuntime) {
+    let told = vec![in rt.alloc();
+        (Command::Clone(0, 1), Reply::Empty),
+        (Command::Clone(0, 2), Reply::NoSlot),
+        (Command::Same(0, 0), Reply::Empty),
+        (Command::New(0, 5), Reply::Done),
+        (Command::Clone(0, 1), Reply::Done),
+        (Command::PtrEq(0, 1), Reply::Is(true)),
+        (Command::Own(0), Reply::Done),
+        (Command::PtrEq(0, 1), Reply::Is(false)),
+        (Command::Same(0, 1), Reply::Is(true)),
+        (Command::New(0, 8), Reply::Done),
+    ];
+    let mut table = ok!(&rt, Table::<u32>::new(rt.alloc(), 2));
+    for (command, reply) in ok!(&rt, told) {
+        same!(&rt, table.serve(rt.alloc(), command), reply);
+    }
+    same_slots(&rt, &table, &[Some(8), Some(5)]);
+    same!(
+        &rt,
+        table.serve(rt.alloc(), Command::MakeMut(1, 3)),
+        Reply::Done,
+    );
+    same_slots(&rt, &table, &[Some(8), Some(3)]);
 }
 
 #[test]
 fn texts_are_compared_by_content(rt: HostRuntime) {
+    let text = |text: &str| String::from_str(rt.alloc(), text);
     let mut table: Table<String> = ok!(&rt, Table::new(rt.alloc(), 3));
-    let commands = ok!(
-        &rt,
-        vec![in rt.alloc();
-            Command::New(0, ok!(&rt, String::from_str(rt.alloc(), "left"))),
-            Command::New(1, ok!(&rt, String::from_str(rt.alloc(), "left"))),
-            Command::Same(0, 1),
-            Command::PtrEq(0, 1),
-            Command::Clone(0, 2),
-            Command::MakeMut(0, ok!(&rt, String::from_str(rt.alloc(), "right"))),
-            Command::Same(0, 2),
-        ],
-    );
-    let replies = ok!(&rt, table.run(rt.alloc(), commands));
+    let commands = vec![in rt.alloc();
+        Command::New(0, ok!(&rt, text("left"))),
+        Command::New(1, ok!(&rt, text("left"))),
+        Command::Same(0, 1),
+        Command::PtrEq(0, 1),
+        Command::Clone(0, 2),
+        Command::MakeMut(0, ok!(&rt, text("right"))),
+        Command::Same(0, 2),
+    ];
+    let replies = ok!(&rt, table.run(rt.alloc(), ok!(&rt, commands)));
     let expected = [
         Reply::Done,
         Reply::Done,
@@ -147,8 +195,10 @@ fn texts_are_compared_by_content(rt: HostRuntime) {
         Reply::Is(false),
     ];
     same!(&rt, replies.as_slice(), expected.as_slice());
-    same!(&rt, table.get(0).map(|text| text.as_str()), Some("right"));
-    same!(&rt, table.get(2).map(|text| text.as_str()), Some("left"));
+    let read = [table.get(0), table.get(1), table.get(2)].map(|text| text.map(
+        |text| text.as_str(),
+    ));
+    same!(&rt, read, [Some("right"), Some("left"), Some("left")]);
 }
 
 /// A value without `Clone`.
@@ -160,81 +210,19 @@ struct Ticket {
 #[test]
 fn plain_runs_need_no_clone_of_values(rt: HostRuntime) {
     let mut table: Table<Ticket> = ok!(&rt, Table::new(rt.alloc(), 2));
-    let commands = ok!(
-        &rt,
-        vec![in rt.alloc();
-            PlainCommand::New(0, Ticket { number: 1 }),
-            PlainCommand::Clone(0, 1),
-            PlainCommand::Drop(0),
-            PlainCommand::GetMut(1, Ticket { number: 2 }),
-        ],
-    );
-    let replies = ok!(&rt, table.run_plain(rt.alloc(), commands));
+    let commands = vec![in rt.alloc();
+        PlainCommand::New(0, Ticket { number: 1 }),
+        PlainCommand::Clone(0, 1),
+        PlainCommand::Drop(0),
+        PlainCommand::GetMut(1, Ticket { number: 2 }),
+    ];
+    let replies = ok!(&rt, table.run_plain(rt.alloc(), ok!(&rt, commands)));
     same!(&rt, replies.as_slice(), [Reply::Done; 4].as_slice());
-    same!(&rt, table.get(0).map(|ticket| ticket.number), None);
-    same!(&rt, table.get(1).map(|ticket| ticket.number), Some(2));
-}
-
-#[test]
-fn commands_are_served_one_at_a_time(rt: HostRuntime) {
-    let alloc = rt.alloc();
-    let mut table: Table<u32> = ok!(&rt, Table::new(alloc, 2));
-    same!(&rt, table.serve(alloc, Command::Clone(0, 1)), Reply::Empty);
-    same!(&rt, table.serve(alloc, Command::Clone(0, 2)), Reply::NoSlot);
-    same!(&rt, table.serve(alloc, Command::Same(0, 0)), Reply::Empty);
-    same!(&rt, table.serve(alloc, Command::New(0, 5)), Reply::Done);
-    same!(&rt, table.serve(alloc, Command::Clone(0, 1)), Reply::Done);
     same!(
         &rt,
-        table.serve(alloc, Command::PtrEq(0, 1)),
-        Reply::Is(true),
+        [table.get(0), table.get(1)],
+        [None, Some(&Ticket { number: 2 })],
     );
-    same!(&rt, table.serve(alloc, Command::Own(0)), Reply::Done);
-    same!(
-        &rt,
-        table.serve(alloc, Command::PtrEq(0, 1)),
-        Reply::Is(false),
-    );
-    same!(
-        &rt,
-        table.serve(alloc, Command::Same(0, 1)),
-        Reply::Is(true),
-    );
-    same!(&rt, table.serve(alloc, Command::New(0, 8)), Reply::Done);
-    same!(&rt, table.get(1).copied(), Some(5));
-    same!(&rt, table.serve(alloc, Command::MakeMut(1, 3)), Reply::Done);
-    same!(&rt, table.get(0).copied(), Some(8));
-    same!(&rt, table.get(1).copied(), Some(3));
-    same!(&rt, table.get(2).copied(), None);
-    same!(&rt, table.slots(), 2);
-}
-
-#[test]
-fn a_marked_block_is_never_written(rt: HostRuntime) {
-    let alloc = rt.alloc();
-    let mut table: Table<u32> = ok!(&rt, Table::new(alloc, 1));
-    same!(&rt, table.serve(alloc, Command::New(0, 4)), Reply::Done);
-    same!(&rt, table.serve(alloc, Command::Clone(0, 0)), Reply::Done);
-    same!(&rt, table.serve(alloc, Command::GetMut(0, 5)), Reply::Done);
-    same!(&rt, table.serve(alloc, Command::Mark(0)), Reply::Done);
-    same!(
-        &rt,
-        table.serve(alloc, Command::GetMut(0, 6)),
-        Reply::Shared,
-    );
-    same!(&rt, table.get(0).copied(), Some(5));
-    same!(&rt, table.serve(alloc, Command::MakeMut(0, 7)), Reply::Done);
-    same!(&rt, table.serve(alloc, Command::GetMut(0, 8)), Reply::Done);
-    same!(&rt, table.get(0).copied(), Some(8));
-}
-
-#[test]
-fn a_table_without_slots_has_none(rt: HostRuntime) {
-    let alloc = rt.alloc();
-    let mut table: Table<u32> = ok!(&rt, Table::new(alloc, 0));
-    same!(&rt, table.serve(alloc, Command::New(0, 1)), Reply::NoSlot);
-    same!(&rt, table.get(0).copied(), None);
-    same!(&rt, table.slots(), 0);
 }
 
 /// A value whose copy is always refused.
@@ -252,19 +240,16 @@ impl Clone for Original {
 #[test]
 fn a_refused_copy_changes_nothing(rt: HostRuntime) {
     let mut table: Table<Original> = ok!(&rt, Table::new(rt.alloc(), 2));
-    let commands = ok!(
-        &rt,
-        vec![in rt.alloc();
-            Command::New(0, Original { number: 1 }),
-            Command::Clone(0, 1),
-            Command::MakeMut(0, Original { number: 2 }),
-            Command::PtrEq(0, 1),
-        ],
-    );
-    let replies = ok!(&rt, table.run(rt.alloc(), commands));
+    let commands = vec![in rt.alloc();
+        Command::New(0, Original { number: 1 }),
+        Command::Clone(0, 1),
+        Command::MakeMut(0, Original { number: 2 }),
+        Command::PtrEq(0, 1),
+    ];
+    let replies = ok!(&rt, table.run(rt.alloc(), ok!(&rt, commands)));
     let expected = [Reply::Done, Reply::Done, Reply::Refused, Reply::Is(true)];
     same!(&rt, replies.as_slice(), expected.as_slice());
-    same!(&rt, table.get(0).map(|original| original.number), Some(1));
+    same!(&rt, table.get(0), Some(&Original { number: 1 }));
 }
 
 #[test]

@@ -1,49 +1,73 @@
 //! What no clause says of a table of unions: that commands are served if memory is ample, and
 //! which of two allowed replies comes when.
+use crate::told::parted;
 use facts::{again, holds, ok, same};
 use servo_arc::table::Reply;
 use servo_arc::union_table::{UnionCommand, UnionTable, laws};
 use servo_arc::{Arc, ArcUnion, ArcUnionBorrow, HeaderSlice, ThinArcUnion};
 use std::alloc::{AllocError, Global};
+use std::process::Abort;
 
 type Numbers = UnionTable<u32, u32>;
 
+type Told = (UnionCommand<u32, u32>, Reply);
+
+/// Runs commands on so many empty slots. Each gets the reply beside it.
+fn check(rt: &impl Abort, alloc: Global, slots: usize, told: Vec<Told>) {
+    let mut table = ok!(rt, Numbers::new(alloc, slots));
+    let (commands, expected) = ok!(rt, parted(alloc, told));
+    same!(rt, ok!(rt, table.run(alloc, commands)), expected);
+}
+
 #[test]
 fn a_shared_first_gives_way_to_a_second(rt: HostRuntime) {
-    let mut table = ok!(&rt, Numbers::new(rt.alloc(), 2));
-    let commands = ok!(
-        &rt,
-        vec![in rt.alloc();
-            UnionCommand::First(0, 7),
-            UnionCommand::Clone(0, 1),
-            UnionCommand::PtrEq(0, 1),
-            UnionCommand::ReadFirst(1, 7),
-            UnionCommand::ReadSecond(1, 7),
-            UnionCommand::IsSecond(0),
-            UnionCommand::Second(1, 7),
-            UnionCommand::Same(0, 1),
-            UnionCommand::PtrEq(0, 1),
-            UnionCommand::Drop(0),
-            UnionCommand::IsFirst(0),
-            UnionCommand::IsFirst(2),
-        ],
-    );
-    let replies = ok!(&rt, table.run(rt.alloc(), commands));
-    let expected = [
-        Reply::Done,
-        Reply::Done,
-        Reply::Is(true),
-        Reply::Is(true),
-        Reply::Is(false),
-        Reply::Is(false),
-        Reply::Done,
-        Reply::Is(false),
-        Reply::Is(false),
-        Reply::Done,
-        Reply::Empty,
-        Reply::NoSlot,
+    let told = vec![in rt.alloc();
+        (UnionCommand::First(0, 7), Reply::Done),
+        (UnionCommand::Clone(0, 1), Reply::Done),
+        (UnionCommand::PtrEq(0, 1), Reply::Is(true)),
+        (UnionCommand::ReadFirst(1, 7), Reply::Is(true)),
+        (UnionCommand::ReadSecond(1, 7), Reply::Is(false)),
+        (UnionCommand::IsSecond(0), Reply::Is(false)),
+        (UnionCommand::Second(1, 7), Reply::Done),
+        (UnionCommand::Same(0, 1), Reply::Is(false)),
+        (UnionCommand::PtrEq(0, 1), Reply::Is(false)),
+        (UnionCommand::Drop(0), Reply::Done),
+        (UnionCommand::IsFirst(0), Reply::Empty),
+        (UnionCommand::IsFirst(2), Reply::NoSlot),
     ];
-    same!(&rt, replies.as_slice(), expected.as_slice());
+    check(&rt, rt.alloc(), 2, ok!(&rt, told));
+}
+
+#[test]
+fn unions_of_equal_values_are_told_apart(rt: HostRuntime) {
+    let told = vec![in rt.alloc();
+        (UnionCommand::First(0, 7), Reply::Done),
+        (UnionCommand::First(1, 7), Reply::Done),
+        (UnionCommand::Second(2, 7), Reply::Done),
+        (UnionCommand::Second(3, 7), Reply::Done),
+        (UnionCommand::PtrEq(0, 1), Reply::Is(false)),
+        (UnionCommand::Same(0, 1), Reply::Is(true)),
+        (UnionCommand::PtrEq(2, 3), Reply::Is(false)),
+        (UnionCommand::Same(2, 3), Reply::Is(true)),
+        (UnionCommand::Same(1, 2), Reply::Is(false)),
+    ];
+    check(&rt, rt.alloc(), 4, ok!(&rt, told));
+}
+
+#[test]
+fn a_filled_slot_takes_the_other_kind(rt: HostRuntime) {
+    let told = vec![in rt.alloc();
+        (UnionCommand::First(0, 7), Reply::Done),
+        (UnionCommand::Second(1, 7), Reply::Done),
+        (UnionCommand::First(1, 8), Reply::Done),
+        (UnionCommand::Second(0, 9), Reply::Done),
+        (UnionCommand::IsSecond(0), Reply::Is(true)),
+        (UnionCommand::IsFirst(1), Reply::Is(true)),
+        (UnionCommand::ReadSecond(0, 9), Reply::Is(true)),
+        (UnionCommand::ReadFirst(1, 8), Reply::Is(true)),
+        (UnionCommand::ReadFirst(1, 7), Reply::Is(false)),
+    ];
+    check(&rt, rt.alloc(), 2, ok!(&rt, told));
 }
 
 /// The kind of a slot's handle, whether it is a first, and its value.
@@ -63,97 +87,62 @@ fn unions_of_both_kinds_are_put(rt: HostRuntime) {
         &rt,
         table.put(0, again!(&rt, &first)).is_ok() && table.put(1, second).is_ok(),
     );
-    same!(&rt, read(&table, 0), Some((true, 4)));
-    same!(&rt, read(&table, 1), Some((false, 5)));
     let back = table.put(2, first);
     same!(
         &rt,
         back.map_err(|u| u.as_first().map(|a| *a)),
         Err(Some(4)),
     );
-    same!(&rt, read(&table, 0), Some((true, 4)));
-    same!(&rt, (read(&table, 2), table.slots()), (None, 2));
+    let slots = [0, 1, 2].map(|i| read(&table, i));
+    same!(&rt, slots, [Some((true, 4)), Some((false, 5)), None]);
+    same!(&rt, table.slots(), 2);
 }
 
 #[test]
 fn a_union_is_cloned_onto_itself(rt: HostRuntime) {
-    let alloc = rt.alloc();
-    let mut table = ok!(&rt, Numbers::new(alloc, 1));
-    same!(
-        &rt,
-        table.serve(alloc, UnionCommand::Second(0, 6)),
-        Reply::Done,
-    );
-    same!(
-        &rt,
-        table.serve(alloc, UnionCommand::Clone(0, 0)),
-        Reply::Done,
-    );
-    same!(
-        &rt,
-        table.serve(alloc, UnionCommand::PtrEq(0, 0)),
-        Reply::Is(true),
-    );
-    same!(
-        &rt,
-        table.serve(alloc, UnionCommand::Same(0, 0)),
-        Reply::Is(true),
-    );
-    same!(
-        &rt,
-        table.serve(alloc, UnionCommand::ReadSecond(0, 6)),
-        Reply::Is(true),
-    );
-    same!(
-        &rt,
-        table.serve(alloc, UnionCommand::ReadSecond(0, 7)),
-        Reply::Is(false),
-    );
-    same!(
-        &rt,
-        table.serve(alloc, UnionCommand::IsSecond(0)),
-        Reply::Is(true),
-    );
+    let told = vec![in rt.alloc();
+        (UnionCommand::Second(0, 6), Reply::Done),
+        (UnionCommand::Clone(0, 0), Reply::Done),
+        (UnionCommand::PtrEq(0, 0), Reply::Is(true)),
+        (UnionCommand::Same(0, 0), Reply::Is(true)),
+        (UnionCommand::ReadSecond(0, 6), Reply::Is(true)),
+        (UnionCommand::ReadSecond(0, 7), Reply::Is(false)),
+        (UnionCommand::IsSecond(0), Reply::Is(true)),
+    ];
+    let mut table = ok!(&rt, Numbers::new(rt.alloc(), 1));
+    for (command, reply) in ok!(&rt, told) {
+        same!(&rt, table.serve(rt.alloc(), command), reply);
+    }
 }
 
-fn commands_on(
-    alloc: Global,
-    i: usize,
-    j: usize,
-) -> Result<Vec<UnionCommand<u32, u32>>, AllocError> {
-    let commands = vec![in alloc;
-        UnionCommand::Clone(i, j),
-        UnionCommand::Drop(i),
-        UnionCommand::IsFirst(i),
-        UnionCommand::IsSecond(i),
-        UnionCommand::ReadFirst(i, 1),
-        UnionCommand::ReadSecond(i, 1),
-        UnionCommand::PtrEq(i, j),
-        UnionCommand::Same(i, j),
+/// Commands on two slots, which all get that reply.
+fn told_of(alloc: Global, i: usize, j: usize, reply: Reply) -> Result<Vec<Told>, AllocError> {
+    let told = vec![in alloc;
+        (UnionCommand::Clone(i, j), reply),
+        (UnionCommand::Drop(i), reply),
+        (UnionCommand::IsFirst(i), reply),
+        (UnionCommand::IsSecond(i), reply),
+        (UnionCommand::ReadFirst(i, 1), reply),
+        (UnionCommand::ReadSecond(i, 1), reply),
+        (UnionCommand::PtrEq(i, j), reply),
+        (UnionCommand::Same(i, j), reply),
     ]?;
-    Ok(commands)
+    Ok(told)
 }
 
 #[test]
 fn a_missing_slot_is_said_before_an_empty_one(rt: HostRuntime) {
     let alloc = rt.alloc();
-    let mut table = ok!(&rt, Numbers::new(alloc, 2));
-    let replies = ok!(&rt, table.run(alloc, ok!(&rt, commands_on(alloc, 0, 1))));
-    same!(&rt, replies.as_slice(), [Reply::Empty; 8].as_slice());
-    let replies = ok!(&rt, table.run(alloc, ok!(&rt, commands_on(alloc, 2, 0))));
-    same!(&rt, replies.as_slice(), [Reply::NoSlot; 8].as_slice());
-    let missing_second = ok!(
-        &rt,
-        vec![in alloc;
-            UnionCommand::Clone(0, 2),
-            UnionCommand::PtrEq(0, 2),
-            UnionCommand::Same(0, 2),
-            UnionCommand::First(2, 1),
-            UnionCommand::Second(2, 1),
-        ],
-    );
-    let replies = ok!(&rt, table.run(alloc, missing_second));
-    same!(&rt, replies.as_slice(), [Reply::NoSlot; 5].as_slice());
+    check(&rt, alloc, 2, ok!(&rt, told_of(alloc, 0, 1, Reply::Empty)));
+    check(&rt, alloc, 2, ok!(&rt, told_of(alloc, 2, 0, Reply::NoSlot)));
+    let missing_second = vec![in alloc;
+        (UnionCommand::Clone(0, 2), Reply::NoSlot),
+        (UnionCommand::PtrEq(0, 2), Reply::NoSlot),
+        (UnionCommand::Same(0, 2), Reply::NoSlot),
+        (UnionCommand::First(2, 1), Reply::NoSlot),
+        (UnionCommand::Second(2, 1), Reply::NoSlot),
+    ];
+    check(&rt, alloc, 2, ok!(&rt, missing_second));
 }
 
 /// A union of header slices, one in a table of its own type.

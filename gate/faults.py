@@ -17,9 +17,12 @@ last each alone and in place.
 
     gate/faults.py [--anew]        tries all faults, and says how many a clause refuses
     gate/faults.py NAME[/EDIT]..   tries those of a crate, or one of them, and says which goals each leaves open
+    gate/faults.py --take COPY TO  takes the libraries that `rt ci` left in a copy of the repository
 
-The crates without faults are proved first, in their folders out/, and each check begins with these proofs. Of a crate on
-which no other stands, a check proves the functions with faults and those that they call, and no more.
+The crates of the program are proved without faults first, in their folders out/, so that it can be built of them, and
+each check of theirs begins with these proofs. A check of any other crate proves the functions with faults and those that
+they call, and no more, over the libraries that `rt ci` left in out/libraries. If these are not of the same files, the
+crates below are proved as those of the program are.
 
 That a fault was refused is kept on this machine, under a sum of all that the check read. A later run, in any checkout,
 tries those of which nothing is kept; with --anew, or with names, it tries all that it is told to.
@@ -51,6 +54,9 @@ COPY_PROVED = re.compile(r"^fn \S+_with_fault_(\d+): proved$", re.M)
 VERDICT = re.compile(r"^(logic=proved|logic=not-proved|only=(\d+) proved=(\d+)$)", re.M)
 CLAUSE = re.compile(r"\b(?:ensures|requires|ghost(?! use))\b")
 UNREAD = re.compile(r"is not in scope|has no field|is no name|operand is missing|expected the end|cannot continue")
+KIT = os.path.dirname(os.path.dirname(os.path.realpath(shutil.which("rt"))))
+LIBRARIES = f"{ROOT}/out/libraries"  # where gate/proofs.sh leaves those that `rt ci` proved
+BEGUN = f"{ROOT}/out/begun"  # what the first of several checks of a crate over those libraries proved, for the later ones
 AT_ONCE = int(subprocess.run(["bash", "-c", ". gate/jobs.sh && checks_at_once"], cwd=ROOT, capture_output=True, check=True).stdout)
 KEPT = os.path.join(os.environ.get("XDG_CACHE_HOME") or os.path.expanduser("~/.cache"), "jurvegyat", "refused")
 
@@ -63,6 +69,7 @@ class Function:
     body: int
     end: int
     is_of_trait: bool
+    impl: str = ""  # the name that the prover gives its impl
     types: tuple = ()  # the words of the head of its impl
     calls: frozenset = frozenset()  # the names of what it may call
 
@@ -174,8 +181,19 @@ def functions_of(file, text):
         is_of_trait = bool(re.search(r"^[a-z() ]*trait | for ", head_of_impl))
         inside = " ".join(lines[opening + 1 : end])
         calls = frozenset(re.findall(r"(\w+)\(", inside.replace("**", "deref()")))
-        found.append(Function(file, head[2], at, opening + 1, end, is_of_trait, tuple(re.findall(r"\w+", head_of_impl)), calls))
+        types = tuple(re.findall(r"\w+", head_of_impl))
+        found.append(Function(file, head[2], at, opening + 1, end, is_of_trait, name_of_impl(head_of_impl), types, calls))
     return found
+
+
+def name_of_impl(head):
+    """The name that the prover gives an impl: that of its type, of its trait, and of what the trait is applied to."""
+    of_trait = re.search(r"(\w+)(?:<(.*)>)? for (&?)(?:'\w+ )?(\w+)", head)
+    if of_trait:
+        trait, applied, is_reference, of = of_trait.groups(default="")
+        return ("Ref" if is_reference else "") + of + trait + "".join(re.findall(r"\w+", applied))
+    alone = re.search(r"(\w+)(?:<[^<>]*>)?\s*$", head)
+    return alone[1] if alone else ""
 
 
 def headed_at(at, functions, lines):
@@ -242,11 +260,15 @@ def together(faults):
 
 
 @cache
+def listed():
+    """The crates, and by each the libraries that it stands on, those of the toolchain too."""
+    lines = (it.split("#")[0] for it in text_of(f"{ROOT}/crates.txt").split("\n") if ":" in it)
+    return {head.split()[0]: rest.split() for head, _, rest in (it.partition(":") for it in lines)}
+
+
 def dependencies():
     """The crates, and by each those that it stands on."""
-    lines = (it.split("#")[0] for it in text_of(f"{ROOT}/crates.txt").split("\n") if ":" in it)
-    heads = {head.split()[0]: rest.split() for head, _, rest in (it.partition(":") for it in lines)}
-    return {crate: [it for it in below if it in heads] for crate, below in heads.items()}
+    return {crate: [it for it in below if it in listed()] for crate, below in listed().items()}
 
 
 def all_below(crate):
@@ -254,20 +276,20 @@ def all_below(crate):
 
 
 @cache
-def sum_of(crate):
-    """A sum of all that a check of the crate reads, and of what judges it."""
+def sum_of(crate, root=ROOT):
+    """A sum of all that a check of the crate reads."""
     names = sorted({crate, *all_below(crate)})
-    paths = [f"{at}/{it}" for name in names for part in ("src", "specs", "proofs") for at, _, files in os.walk(f"{ROOT}/crates/{name}/{part}") for it in files]
+    paths = [f"{at}/{it}" for name in names for part in ("src", "specs", "proofs") for at, _, files in os.walk(f"{root}/crates/{name}/{part}") for it in files]
     kit = subprocess.run(["rt", "version"], capture_output=True, text=True).stdout
-    texts = [(os.path.relpath(it, ROOT), text_of(it)) for it in sorted(paths)]
-    lines = [it for it in text_of(f"{ROOT}/crates.txt").split("\n") if re.split("[ :]", it)[0] in names]
-    return hashlib.sha256(repr((kit, text_of(__file__), lines, texts)).encode()).hexdigest()
+    texts = [(os.path.relpath(it, root), text_of(it)) for it in sorted(paths)]
+    lines = [it for it in text_of(f"{root}/crates.txt").split("\n") if re.split("[ :]", it)[0] in names]
+    return hashlib.sha256(repr((kit, lines, texts)).encode()).hexdigest()
 
 
 def place_of(crate, name):
-    """Where it is kept that this fault was refused."""
+    """Where it is kept that this fault was refused, by all that the check read and by what judged it."""
     fault = text_of(f"{ROOT}/crates/{crate}/must-fail/{name}.edit")
-    return os.path.join(KEPT, hashlib.sha256(repr((sum_of(crate), name, fault)).encode()).hexdigest())
+    return os.path.join(KEPT, hashlib.sha256(repr((sum_of(crate), text_of(__file__), name, fault)).encode()).hexdigest())
 
 
 def kept_of(faults):
@@ -301,19 +323,47 @@ def is_top(crate):
     return not any(crate in all_below(it) for it in wanted([]))
 
 
+def take(copy, to):
+    """Takes the libraries that `rt ci` left in a copy of the repository, and the sum of what each was made of."""
+    os.mkdir(to)
+    left = [it for it in dependencies() if os.path.isdir(f"{copy}/crates/{it}/out/rlib/{it}.rlib")]
+    for crate in left:
+        shutil.move(f"{copy}/crates/{crate}/out/rlib/{crate}.rlib", to)
+    with open(f"{to}/sums.json", "w", encoding="utf-8") as it:
+        json.dump({crate: sum_of(crate, copy) for crate in left}, it)
+
+
 @cache
-def names_in(crate):
-    """The names of the functions of the crate, each as often as it stands there."""
-    files = glob("src/**/*.rt", root_dir=f"{ROOT}/crates/{crate}", recursive=True)
-    return [function.name for it in files for function in functions_of(it, text_of(f"{ROOT}/crates/{crate}/{it}"))]
+def taken():
+    """By crate, the sums of what these libraries were made of."""
+    return json.loads(text_of(f"{LIBRARIES}/sums.json")) if os.path.isfile(f"{LIBRARIES}/sums.json") else {}
+
+
+@cache
+def is_over_ci(crate):
+    """Whether the crate is checked over libraries that `rt ci` left: it is not of the program, and they are of the same files."""
+    return crate not in all_below("arcbench") and all(taken().get(it) == sum_of(it) for it in all_below(crate))
+
+
+def command(crate):
+    """The command that checks a crate in its folder."""
+    if not is_over_ci(crate):
+        return ["rt", "check"]
+    root = next(it for it in ("src/lib.rt", "src/main.rt") if os.path.isfile(f"{ROOT}/crates/{crate}/{it}"))
+    place = lambda it: LIBRARIES if it in listed() else f"{KIT}/rlibs"
+    libraries = [word for it in ["std", *listed()[crate]] for word in ("--extern", f"{it}={place(it)}/{it}.rlib")]
+    others = ["-L", f"dependency={LIBRARIES}", "-L", f"dependency={KIT}/rlibs"]
+    begun = ["--incremental", "out/incremental"] if os.path.isdir(f"{BEGUN}/{crate}") else []
+    logic = ["--antt-project", f"{KIT}/rattle/logic/antt-project.json", "--logic-built", f"{KIT}/logic_built"]
+    return [f"{KIT}/bin/rattle", "check", "--crate-name", crate, root, *libraries, *others, *logic, *begun]
 
 
 def only(crate, faults):
-    """The flags by which a check of a crate on which no other stands proves no more than these faults need."""
-    if not is_top(crate) or any(it.heads for it in faults):
+    """The flags by which a check that begins with no proof of the crate proves no more than these faults need."""
+    if not (is_top(crate) or is_over_ci(crate)) or any(it.heads for it in faults):
         return []
     in_place = {function for it in faults if not it.is_copied for function in it.functions}
-    paths = {it.name if names_in(crate).count(it.name) == 1 else it.module.replace("/", "::") for it in in_place}
+    paths = {f"{it.impl or it.module.replace('/', '::')}::{it.name}".removeprefix("::") for it in in_place}
     paths |= {f"{function.name}_with_fault_{at}" for at, it in enumerate(faults) if it.is_copied for function in it.functions}
     return [word for it in sorted(paths) for word in ("--only", it)]
 
@@ -331,11 +381,14 @@ def copied_to(room, crate):
     for name in ("crates.txt", "HANDLES"):
         shutil.copy(f"{ROOT}/{name}", room)
     os.mkdir(f"{room}/.git")  # the top of a repository
-    for name in dependencies():
+    copied = [crate] if is_over_ci(crate) else dependencies()
+    for name in copied:
         # Of a crate below, a check reads the library alone, and not what its proof kept.
-        unread = [] if name == crate else ["incremental"] if name in all_below(crate) else ["out"]
+        unread = ["out"] if is_over_ci(crate) else [] if name == crate else ["incremental"] if name in all_below(crate) else ["out"]
         left_out = shutil.ignore_patterns("must-fail", *unread)
         shutil.copytree(f"{ROOT}/crates/{name}", f"{room}/crates/{name}", ignore=left_out, copy_function=copy_or_link)
+    if is_over_ci(crate) and os.path.isdir(f"{BEGUN}/{crate}"):
+        shutil.copytree(f"{BEGUN}/{crate}", f"{room}/crates/{crate}/out/incremental", copy_function=copy_or_link)
     return f"{room}/crates/{crate}"
 
 
@@ -415,7 +468,9 @@ def check(crate, faults):
         lines = plant(folder, faults)
         how = {"stdin": subprocess.DEVNULL, "stdout": subprocess.PIPE, "stderr": subprocess.STDOUT, "text": True, "errors": "replace"}
         # Several run at once, and after a small change more jobs only take more time.
-        said = subprocess.run(["rt", "check", "--jobs", "1", *only(crate, faults)], cwd=folder, **how).stdout
+        said = subprocess.run([*command(crate), "--jobs", "1", *only(crate, faults)], cwd=folder, **how).stdout
+        if os.path.isdir(f"{BEGUN}/{crate}") and not os.listdir(f"{BEGUN}/{crate}"):
+            os.rename(f"{folder}/out/incremental", f"{BEGUN}/{crate}")
     verdict = VERDICT.search(said)
     if not verdict:
         return False, [Goal(None, 0, said[-600:], None)], set()
@@ -506,21 +561,25 @@ def try_all(faults):
     The faults of a crate are tried as soon as it is proved, while others still are.
     """
     started, number = time.time(), sum(map(len, faults.values()))
-    needed = {it for crate in faults for it in (crate, *all_below(crate))}
-    proved, verdicts, running, parts = {}, {}, {}, {}
+    needed = {it for crate in faults for it in ([crate] if is_over_ci(crate) else [crate, *all_below(crate)])}
+    proved, verdicts, running, waiting = {}, {}, {}, {}
     for crate, names in faults.items():
         found, bad = read_faults(crate, names)
         verdicts |= bad
-        parts[crate] = together(found)
+        waiting[crate] = together(found)
 
     def prove(crate):
-        # One on which no other stands needs no proof before, and that the rest of it is proved `rt ci` says.
+        # What begins with no proof needs none before. That the rest of it is proved `rt ci` says.
+        if is_over_ci(crate):
+            return True
         return all(proved[it].result() for it in dependencies()[crate]) and (is_top(crate) or is_proved(crate))
 
     with ThreadPoolExecutor(AT_ONCE) as pool:
 
-        def begin(crate, some):
-            running.update({pool.submit(try_part, it): crate for it in some})
+        def begin(crate, most=None):
+            parts = waiting.pop(crate, [])
+            running.update({pool.submit(try_part, it): crate for it in parts[:most]})
+            waiting[crate] = parts[most:] if most else []
 
         # The lowest first, so that none waits for one behind it.
         for crate in sorted(needed, key=lambda it: len(all_below(it))):
@@ -532,12 +591,16 @@ def try_all(faults):
                 if future is not proved[crate]:
                     told, rest = future.result()
                     verdicts |= told
-                    begin(crate, rest)
+                    waiting[crate] += rest
                     if rest:
                         print(f"{crate}: nothing was told of {' '.join(it.name for some in rest for it in some)}: tried again")
                     print(f"{len(verdicts)} of {number} faults, {time.time() - started:.0f} s", flush=True)
+                    begin(crate)
+                elif future.result() and is_over_ci(crate) and len(waiting.get(crate, [])) > 1:
+                    os.mkdir(f"{BEGUN}/{crate}")
+                    begin(crate, 1)
                 elif future.result():
-                    begin(crate, parts.get(crate, []))
+                    begin(crate)
     return verdicts, [it for it in sorted(needed) if not proved[it].result()]
 
 
@@ -554,14 +617,16 @@ def wanted(words):
 def main(words):
     is_anew, words = "--anew" in words, [it for it in words if it != "--anew"]
     faults = wanted(words)
-    os.makedirs(f"{ROOT}/out", exist_ok=True)
-    print(f"{sum(map(len, faults.values()))} faults of {len(faults)} crates, first the crates without them", flush=True)
+    shutil.rmtree(BEGUN, ignore_errors=True)
+    os.makedirs(BEGUN)
+    print(f"{sum(map(len, faults.values()))} faults of {len(faults)} crates", flush=True)
     verdicts = {} if is_anew or words else kept_of(faults)
     if verdicts:
         print(f"{len(verdicts)} of them were refused in an earlier run, over the same files", flush=True)
     left = {crate: [it for it in names if f"{crate}/{it}" not in verdicts] for crate, names in faults.items()}
     left = {crate: names for crate, names in left.items() if names}
     tried, unproved = try_all(left)
+    shutil.rmtree(BEGUN)
     keep(tried)
     verdicts |= tried
     for name, verdict in sorted(verdicts.items()):
@@ -579,4 +644,4 @@ def main(words):
 
 
 if __name__ == "__main__":
-    sys.exit(bool(main(sys.argv[1:])))
+    sys.exit(take(*sys.argv[2:]) if sys.argv[1:2] == ["--take"] else bool(main(sys.argv[1:])))

@@ -56,7 +56,7 @@ CLAUSE = re.compile(r"\b(?:ensures|requires|ghost(?! use))\b")
 UNREAD = re.compile(r"is not in scope|has no field|is no name|operand is missing|expected the end|cannot continue")
 KIT = os.path.dirname(os.path.dirname(os.path.realpath(shutil.which("rt"))))
 LIBRARIES = f"{ROOT}/out/libraries"  # where gate/proofs.sh leaves those that `rt ci` proved
-BEGUN = f"{ROOT}/out/begun"  # what the first of several checks of a crate over those libraries proved, for the later ones
+BEGUN = f"{ROOT}/out/begun-{os.getpid()}"  # what the first of several checks of a crate over those libraries proved, for the later ones
 AT_ONCE = int(subprocess.run(["bash", "-c", ". gate/jobs.sh && checks_at_once"], cwd=ROOT, capture_output=True, check=True).stdout)
 KEPT = os.path.join(os.environ.get("XDG_CACHE_HOME") or os.path.expanduser("~/.cache"), "jurvegyat", "refused")
 
@@ -617,7 +617,6 @@ def wanted(words):
 def main(words):
     is_anew, words = "--anew" in words, [it for it in words if it != "--anew"]
     faults = wanted(words)
-    shutil.rmtree(BEGUN, ignore_errors=True)
     os.makedirs(BEGUN)
     print(f"{sum(map(len, faults.values()))} faults of {len(faults)} crates", flush=True)
     verdicts = {} if is_anew or words else kept_of(faults)
@@ -626,8 +625,8 @@ def main(words):
     left = {crate: [it for it in names if f"{crate}/{it}" not in verdicts] for crate, names in faults.items()}
     left = {crate: names for crate, names in left.items() if names}
     tried, unproved = try_all(left)
-    shutil.rmtree(BEGUN)
     keep(tried)
+    shutil.rmtree(BEGUN)
     verdicts |= tried
     for name, verdict in sorted(verdicts.items()):
         if words or not verdict.is_refused or not verdict.by_clause:

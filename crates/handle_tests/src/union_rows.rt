@@ -12,9 +12,8 @@ type Numbers = UnionTable<u32, u32>;
 
 type Told = (UnionCommand<u32, u32>, Reply);
 
-/// Runs commands on so many empty slots. Each gets the reply beside it.
-fn check(rt: &impl Abort, alloc: Global, slots: usize, told: Vec<Told>) {
-    let mut table = ok!(rt, Numbers::new(alloc, slots));
+/// Runs commands. Each gets the reply beside it.
+fn check(rt: &impl Abort, alloc: Global, table: &mut Numbers, told: Vec<Told>) {
     let (commands, expected) = ok!(rt, parted(alloc, told));
     same!(rt, ok!(rt, table.run(alloc, commands)), expected);
 }
@@ -35,7 +34,8 @@ fn a_shared_first_gives_way_to_a_second(rt: HostRuntime) {
         (UnionCommand::IsFirst(0), Reply::Empty),
         (UnionCommand::IsFirst(2), Reply::NoSlot),
     ];
-    check(&rt, rt.alloc(), 2, ok!(&rt, told));
+    let mut table = ok!(&rt, Numbers::new(rt.alloc(), 2));
+    check(&rt, rt.alloc(), &mut table, ok!(&rt, told));
 }
 
 #[test]
@@ -51,7 +51,8 @@ fn unions_of_equal_values_are_told_apart(rt: HostRuntime) {
         (UnionCommand::Same(2, 3), Reply::Is(true)),
         (UnionCommand::Same(1, 2), Reply::Is(false)),
     ];
-    check(&rt, rt.alloc(), 4, ok!(&rt, told));
+    let mut table = ok!(&rt, Numbers::new(rt.alloc(), 4));
+    check(&rt, rt.alloc(), &mut table, ok!(&rt, told));
 }
 
 #[test]
@@ -67,7 +68,8 @@ fn a_filled_slot_takes_the_other_kind(rt: HostRuntime) {
         (UnionCommand::ReadFirst(1, 8), Reply::Is(true)),
         (UnionCommand::ReadFirst(1, 7), Reply::Is(false)),
     ];
-    check(&rt, rt.alloc(), 2, ok!(&rt, told));
+    let mut table = ok!(&rt, Numbers::new(rt.alloc(), 2));
+    check(&rt, rt.alloc(), &mut table, ok!(&rt, told));
 }
 
 /// The kind of a slot's handle, whether it is a first, and its value.
@@ -87,14 +89,15 @@ fn unions_of_both_kinds_are_put(rt: HostRuntime) {
         &rt,
         table.put(0, again!(&rt, &first)).is_ok() && table.put(1, second).is_ok(),
     );
+    let filled = [Some((true, 4)), Some((false, 5)), None];
+    same!(&rt, [0, 1, 2].map(|i| read(&table, i)), filled);
     let back = table.put(2, first);
     same!(
         &rt,
         back.map_err(|u| u.as_first().map(|a| *a)),
         Err(Some(4)),
     );
-    let slots = [0, 1, 2].map(|i| read(&table, i));
-    same!(&rt, slots, [Some((true, 4)), Some((false, 5)), None]);
+    same!(&rt, [0, 1, 2].map(|i| read(&table, i)), filled);
     same!(&rt, table.slots(), 2);
 }
 
@@ -133,8 +136,19 @@ fn told_of(alloc: Global, i: usize, j: usize, reply: Reply) -> Result<Vec<Told>,
 #[test]
 fn a_missing_slot_is_said_before_an_empty_one(rt: HostRuntime) {
     let alloc = rt.alloc();
-    check(&rt, alloc, 2, ok!(&rt, told_of(alloc, 0, 1, Reply::Empty)));
-    check(&rt, alloc, 2, ok!(&rt, told_of(alloc, 2, 0, Reply::NoSlot)));
+    let mut table = ok!(&rt, Numbers::new(alloc, 2));
+    check(
+        &rt,
+        alloc,
+        &mut table,
+        ok!(&rt, told_of(alloc, 0, 1, Reply::Empty)),
+    );
+    check(
+        &rt,
+        alloc,
+        &mut table,
+        ok!(&rt, told_of(alloc, 2, 0, Reply::NoSlot)),
+    );
     let missing_second = vec![in alloc;
         (UnionCommand::Clone(0, 2), Reply::NoSlot),
         (UnionCommand::PtrEq(0, 2), Reply::NoSlot),
@@ -142,7 +156,7 @@ fn a_missing_slot_is_said_before_an_empty_one(rt: HostRuntime) {
         (UnionCommand::First(2, 1), Reply::NoSlot),
         (UnionCommand::Second(2, 1), Reply::NoSlot),
     ];
-    check(&rt, alloc, 2, ok!(&rt, missing_second));
+    check(&rt, alloc, &mut table, ok!(&rt, missing_second));
 }
 
 /// A union of header slices, one in a table of its own type.

@@ -68,51 +68,6 @@ fn a_run_answers_each_step_in_order(rt: HostRuntime) {
     holds!(&rt, ok!(&rt, core.run(&[])).is_empty());
 }
 
-// A clone through a lent handle takes the last place that the limit leaves. The holder's next one is full until the
-// block is marked.
-#[test]
-fn a_core_keeps_its_limit(rt: HostRuntime) {
-    let mut core = ok!(&rt, Core::new(rt.alloc(), 5u32, 2, 2));
-    let clone = Step::Clone {
-        owner: 0,
-        handle: 0,
-    };
-    let answers = ok!(
-        &rt,
-        core.run(&[
-            Step::Lend {
-                owner: 0,
-                handle: 0,
-                to: 1,
-            },
-            Step::Clone {
-                owner: 1,
-                handle: 0,
-            },
-            Step::Raise { owner: 1 },
-            clone,
-            Step::Mark {
-                owner: 0,
-                handle: 0,
-            },
-            clone,
-        ])
-    );
-    same!(
-        &rt,
-        answers.as_slice(),
-        [
-            Answer::Done,
-            Answer::Pending,
-            Answer::Born(1),
-            Answer::Full,
-            Answer::Marked,
-            Answer::Born(2),
-        ]
-        .as_slice()
-    );
-}
-
 #[test]
 fn a_step_has_an_owner(rt: HostRuntime) {
     let give = Step::Give {
@@ -129,54 +84,6 @@ fn a_step_has_an_owner(rt: HostRuntime) {
     same!(&rt, Step::<u32>::owner(&give), 7);
     same!(&rt, write.owner(), 3);
     same!(&rt, again!(&rt, &give), give);
-}
-
-#[test]
-fn a_sole_handle_is_shared_again(rt: HostRuntime) {
-    let mut core = ok!(&rt, Core::new(rt.alloc(), 5u32, 2, MAX_REFCOUNT));
-    let into_unique = Step::IntoUnique {
-        owner: 0,
-        handle: 0,
-    };
-    let share = Step::Share {
-        owner: 0,
-        handle: 0,
-    };
-    let clone = Step::Clone {
-        owner: 0,
-        handle: 0,
-    };
-    let answers = ok!(
-        &rt,
-        core.run(&[
-            share,
-            into_unique,
-            into_unique,
-            Step::Write {
-                owner: 0,
-                handle: 0,
-                value: 9,
-            },
-            clone,
-            share,
-            clone,
-        ])
-    );
-    same!(
-        &rt,
-        answers.as_slice(),
-        [
-            Answer::Barred,
-            Answer::Sole,
-            Answer::Barred,
-            Answer::Done,
-            Answer::Barred,
-            Answer::Done,
-            Answer::Pending,
-        ]
-        .as_slice()
-    );
-    same!(&rt, into_unique.owner(), 0);
 }
 
 #[test]

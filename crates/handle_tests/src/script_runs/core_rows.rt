@@ -78,8 +78,8 @@ const ONE_OWNER: [Row; 13] = [
     Row {
         name: "nothing but its own steps is allowed on a sole handle",
         size: "1",
-        script: "share 0 0 / intounique 0 0 / mark 0 0 / unique 0 0 / static 0 0 / getmut 0 0 / intounique 0 0 / clone 0 0 / load 0 0 / share 0 0 / unique 0 0",
-        answers: "barred / sole / barred / barred / barred / barred / barred / barred / value 5 / done / is true",
+        script: "share 0 0 / intounique 0 0 / mark 0 0 / unique 0 0 / static 0 0 / getmut 0 0 / intounique 0 0 / clone 0 0 / load 0 0 / share 0 0 / unique 0 0 / clone 0 0",
+        answers: "barred / sole / barred / barred / barred / barred / barred / barred / value 5 / done / is true / pending",
     },
 ];
 
@@ -187,10 +187,10 @@ const THREE_OWNERS: [Row; 4] = [
 
 const LIMITED: [Row; 5] = [
     Row {
-        name: "a block of two handles is full",
+        name: "a block of two handles is full until it is marked",
         size: "2 2",
-        script: "lend 0 0 1 / clone 1 0 / raise 1 / clone 0 0",
-        answers: "done / pending / born 1 / full",
+        script: "lend 0 0 1 / clone 1 0 / raise 1 / clone 0 0 / mark 0 0 / clone 0 0",
+        answers: "done / pending / born 1 / full / marked / born 2",
     },
     Row {
         name: "a raise finds the limit",

@@ -2,7 +2,7 @@
 use super::runs::Row;
 use std::test::Fail;
 
-const TABLES: [Row; 16] = [
+const TABLES: [Row; 19] = [
     Row {
         name: "a slot is filled and read",
         size: "1",
@@ -44,6 +44,24 @@ const TABLES: [Row; 16] = [
         size: "1",
         script: "new 0 4 / mark 0 / getmut 0 6 / makemut 0 7 / getmut 0 8 / get 0",
         answers: "done / done / shared / done / done / value 8",
+    },
+    Row {
+        name: "a mark is of one slot",
+        size: "3",
+        script: "new 0 5 / new 1 6 / new 2 7 / mark 1 / getmut 0 8 / getmut 1 8 / getmut 2 8 / get 0 / get 1 / get 2",
+        answers: "done / done / done / done / done / shared / done / value 8 / value 6 / value 8",
+    },
+    Row {
+        name: "a block that was written in place is not written after its mark",
+        size: "1",
+        script: "new 0 4 / clone 0 0 / getmut 0 5 / mark 0 / getmut 0 6 / get 0 / makemut 0 7 / getmut 0 8 / get 0",
+        answers: "done / done / done / done / shared / value 5 / done / done / value 8",
+    },
+    Row {
+        name: "each slot but one keeps the shared block",
+        size: "3",
+        script: "new 0 5 / clone 0 1 / clone 0 2 / own 1 / ptreq 0 1 / ptreq 0 2 / ptreq 1 2 / makemut 2 4294967295 / ptreq 0 2 / get 0 / get 1 / get 2",
+        answers: "done / done / done / done / is false / is true / is false / done / is false / value 5 / value 5 / value 4294967295",
     },
     Row {
         name: "a handle is unique again only alone",

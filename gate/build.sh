@@ -3,22 +3,14 @@
 # 125, after the reason.
 set -u
 root=$(dirname "$(dirname "$(readlink -f "$0")")")
-out=$root/out
 cd "$root" || exit 125
 . "$root/gate/current.sh"
+. "$root/gate/install.sh"
 . "$root/gate/jobs.sh"
 
 fail() {
     echo "arcbench: $*" >&2
     exit 125
-}
-
-# The crates that a crate stands on, lowest first, and itself.
-crates_below() {
-    local line dependency
-    line=$(grep -E "^$1( |:)" "$root/crates.txt") || return 0
-    for dependency in ${line#*:}; do crates_below "$dependency"; done
-    echo "$1"
 }
 
 # What a crate is proved from: its line, its files, and all that it stands on.
@@ -107,22 +99,12 @@ wait_for_all_beside() {
     trap - EXIT
 }
 
-# list_sources FOLDERS.. : what crates in these folders are made from, as gate/current.sh reads it.
-list_sources() (
-    mapfile -t outermost < <(echo crates.txt && find "$@" -maxdepth 1 -name src -o -name specs -o -name proofs)
-    echo "outermost='${outermost[*]}'"
-    printf '! ['
-    find "${outermost[@]}" -printf " '%p' -nt out/arcbench -o"
-    echo " '' ]"
-)
-
 build() {
     local name jobs
     # One is left for what is proved beside, and four jobs of a crate take longer than three.
     jobs=$(checks_at_once) && jobs=$((jobs > 1 ? jobs - 1 : 1))
     mapfile -t crates < <(crates_below arcbench | awk '!seen[$0]++')
-    # From before, so that an edit meanwhile counts as a change.
-    touch "$out/started" 2>/dev/null || fail "cannot write to $out"
+    note_start || fail "cannot write to $out"
     for name in "${crates[@]}"; do
         case $name in
             counting_core)
@@ -139,12 +121,7 @@ build() {
             *) do_crate "$name" "$root" rt lib --jobs "$jobs" ;;
         esac
     done
-    # Moved into place, so that a program that still runs keeps its own file, and a start never reads half a list.
-    {
-        list_sources "${crates[@]/#/crates/}" >"$out/newer.new" && mv "$out/newer.new" "$out/newer.sh" &&
-            cp "$root/crates/arcbench/out/arcbench" "$program.new" && touch -r "$out/started" "$program.new" &&
-            mv "$program.new" "$program"
-    } 2>/dev/null || fail "cannot copy the program to $out"
+    install_program "$root/crates/arcbench/out/arcbench" || fail "cannot copy the program to $out"
 }
 
 mkdir -p "$out/sums" 2>/dev/null || fail "cannot make the folder $out/sums"

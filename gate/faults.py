@@ -19,10 +19,8 @@ last each alone and in place.
     gate/faults.py NAME[/EDIT]..   tries those of a crate, or one of them, and says which goals each leaves open
     gate/faults.py --take COPY TO  takes the libraries that `rt ci` left in a copy of the repository
 
-The crates of the program are proved without faults first, in their folders out/, so that it can be built of them, and
-each check of theirs begins with these proofs. A check of any other crate proves the functions with faults and those that
-they call, and no more, over the libraries that `rt ci` left in out/libraries. If these are not of the same files, the
-crates below are proved as those of the program are.
+A check proves the functions with faults and those that they call, and no more, over the libraries that `rt ci` left in
+out/libraries. If one of these is not of the same files, it is proved and built anew.
 
 That a fault was refused is kept on this machine, under a sum of all that the check read. A later run, in any checkout,
 tries those of which nothing is kept; with --anew, or with names, it tries all that it is told to.
@@ -56,7 +54,7 @@ CLAUSE = re.compile(r"\b(?:ensures|requires|ghost(?! use))\b")
 UNREAD = re.compile(r"is not in scope|has no field|is no name|operand is missing|expected the end|cannot continue")
 KIT = os.path.dirname(os.path.dirname(os.path.realpath(shutil.which("rt"))))
 LIBRARIES = f"{ROOT}/out/libraries"  # where gate/proofs.sh leaves those that `rt ci` proved
-BEGUN = f"{ROOT}/out/begun-{os.getpid()}"  # what the first of several checks of a crate over those libraries proved, for the later ones
+BEGUN = f"{ROOT}/out/begun-{os.getpid()}"  # what the first of several checks of a crate proved, for the later ones
 AT_ONCE = int(subprocess.run(["bash", "-c", ". gate/jobs.sh && checks_at_once"], cwd=ROOT, capture_output=True, check=True).stdout)
 KEPT = os.path.join(os.environ.get("XDG_CACHE_HOME") or os.path.expanduser("~/.cache"), "jurvegyat", "refused")
 
@@ -317,50 +315,41 @@ def keep(verdicts):
         print(f"faults: nothing is kept: {why}")
 
 
-@cache
-def is_top(crate):
-    """Whether no crate with faults stands on it."""
-    return not any(crate in all_below(it) for it in wanted([]))
-
-
 def take(copy, to):
     """Takes the libraries that `rt ci` left in a copy of the repository, and the sum of what each was made of."""
     os.mkdir(to)
-    left = [it for it in dependencies() if os.path.isdir(f"{copy}/crates/{it}/out/rlib/{it}.rlib")]
-    for crate in left:
-        shutil.move(f"{copy}/crates/{crate}/out/rlib/{crate}.rlib", to)
-    with open(f"{to}/sums.json", "w", encoding="utf-8") as it:
-        json.dump({crate: sum_of(crate, copy) for crate in left}, it)
+    for crate in dependencies():
+        if os.path.isdir(f"{copy}/crates/{crate}/out/rlib/{crate}.rlib"):
+            shutil.move(f"{copy}/crates/{crate}/out/rlib/{crate}.rlib", to)
+            sign(crate, sum_of(crate, copy), to)
 
 
-@cache
-def taken():
-    """By crate, the sums of what these libraries were made of."""
-    return json.loads(text_of(f"{LIBRARIES}/sums.json")) if os.path.isfile(f"{LIBRARIES}/sums.json") else {}
+def sign(crate, sum, folder):
+    """Says what the library of a crate in this folder was made of."""
+    with open(f"{folder}/{crate}.sum", "w", encoding="utf-8") as it:
+        it.write(sum)
 
 
-@cache
-def is_over_ci(crate):
-    """Whether the crate is checked over libraries that `rt ci` left: it is not of the program, and they are of the same files."""
-    return crate not in all_below("arcbench") and all(taken().get(it) == sum_of(it) for it in all_below(crate))
+def is_there(crate):
+    """Whether there is a library of the crate that was made of its files as they are."""
+    sum = f"{LIBRARIES}/{crate}.sum"
+    return os.path.isfile(sum) and text_of(sum) == sum_of(crate)
 
 
-def command(crate):
-    """The command that checks a crate in its folder."""
-    if not is_over_ci(crate):
-        return ["rt", "check"]
+def command(verb, crate):
+    """The command that checks or builds a crate in its folder."""
     root = next(it for it in ("src/lib.rt", "src/main.rt") if os.path.isfile(f"{ROOT}/crates/{crate}/{it}"))
     place = lambda it: LIBRARIES if it in listed() else f"{KIT}/rlibs"
     libraries = [word for it in ["std", *listed()[crate]] for word in ("--extern", f"{it}={place(it)}/{it}.rlib")]
     others = ["-L", f"dependency={LIBRARIES}", "-L", f"dependency={KIT}/rlibs"]
-    begun = ["--incremental", "out/incremental"] if os.path.isdir(f"{BEGUN}/{crate}") else []
     logic = ["--antt-project", f"{KIT}/rattle/logic/antt-project.json", "--logic-built", f"{KIT}/logic_built"]
-    return [f"{KIT}/bin/rattle", "check", "--crate-name", crate, root, *libraries, *others, *logic, *begun]
+    # Several run at once, and more jobs of one only take more time.
+    return [f"{KIT}/bin/rattle", verb, "--crate-name", crate, root, *libraries, *others, *logic, "--jobs", "1"]
 
 
-def only(crate, faults):
-    """The flags by which a check that begins with no proof of the crate proves no more than these faults need."""
-    if not (is_top(crate) or is_over_ci(crate)) or any(it.heads for it in faults):
+def only(faults, later):
+    """The flags by which a check proves no more than these faults need. Those that change heads need all, also if they come later."""
+    if any(it.heads or it.added for it in (*faults, *later)):
         return []
     in_place = {function for it in faults if not it.is_copied for function in it.functions}
     paths = {f"{it.impl or it.module.replace('/', '::')}::{it.name}".removeprefix("::") for it in in_place}
@@ -368,28 +357,21 @@ def only(crate, faults):
     return [word for it in sorted(paths) for word in ("--only", it)]
 
 
-def copy_or_link(source, to):
-    """Copies a file. What was proved is linked, if that can be: a check replaces such a file, and never writes into it."""
+def link_or_copy(source, to):
+    """Links a file, if that can be: a check replaces what an earlier one proved, and never writes into it."""
     try:
-        return os.link(source, to) if "/out/" in source else shutil.copy(source, to)
+        os.link(source, to)
     except OSError:
-        return shutil.copy(source, to)
+        shutil.copy(source, to)
 
 
 def copied_to(room, crate):
-    """The folder of a copy of the crate, with what was proved of it and of what it stands on."""
-    for name in ("crates.txt", "HANDLES"):
-        shutil.copy(f"{ROOT}/{name}", room)
-    os.mkdir(f"{room}/.git")  # the top of a repository
-    copied = [crate] if is_over_ci(crate) else dependencies()
-    for name in copied:
-        # Of a crate below, a check reads the library alone, and not what its proof kept.
-        unread = ["out"] if is_over_ci(crate) else [] if name == crate else ["incremental"] if name in all_below(crate) else ["out"]
-        left_out = shutil.ignore_patterns("must-fail", *unread)
-        shutil.copytree(f"{ROOT}/crates/{name}", f"{room}/crates/{name}", ignore=left_out, copy_function=copy_or_link)
-    if is_over_ci(crate) and os.path.isdir(f"{BEGUN}/{crate}"):
-        shutil.copytree(f"{BEGUN}/{crate}", f"{room}/crates/{crate}/out/incremental", copy_function=copy_or_link)
-    return f"{room}/crates/{crate}"
+    """The folder of a copy of the crate, with what the first check of it proved, if that is there."""
+    folder = f"{room}/{crate}"
+    shutil.copytree(f"{ROOT}/crates/{crate}", folder, ignore=shutil.ignore_patterns("must-fail", "out"))
+    if os.path.isdir(f"{BEGUN}/{crate}"):
+        shutil.copytree(f"{BEGUN}/{crate}", f"{folder}/out/incremental", copy_function=link_or_copy)
+    return folder
 
 
 def copy_of(function, lines, number):
@@ -458,8 +440,8 @@ def goals_in(said, faults, lines):
     return found
 
 
-def check(crate, faults):
-    """Checks a copy of the crate with these faults.
+def check(crate, faults, later):
+    """Checks a copy of the crate with these faults, of which the first check leaves what it proved for the later faults.
 
     It gives whether that was proved, each goal that was told with a place, and the names of the faults whose copy was proved.
     """
@@ -467,10 +449,11 @@ def check(crate, faults):
         folder = copied_to(room, crate)
         lines = plant(folder, faults)
         how = {"stdin": subprocess.DEVNULL, "stdout": subprocess.PIPE, "stderr": subprocess.STDOUT, "text": True, "errors": "replace"}
-        # Several run at once, and after a small change more jobs only take more time.
-        said = subprocess.run([*command(crate), "--jobs", "1", *only(crate, faults)], cwd=folder, **how).stdout
-        if os.path.isdir(f"{BEGUN}/{crate}") and not os.listdir(f"{BEGUN}/{crate}"):
-            os.rename(f"{folder}/out/incremental", f"{BEGUN}/{crate}")
+        begun = f"{BEGUN}/{crate}"
+        keeps = ["--incremental", "out/incremental"] if later or os.path.isdir(begun) else []
+        said = subprocess.run([*command("check", crate), *only(faults, later), *keeps], cwd=folder, **how).stdout
+        if later and os.path.isdir(f"{folder}/out/incremental"):
+            os.rename(f"{folder}/out/incremental", begun)
     verdict = VERDICT.search(said)
     if not verdict:
         return False, [Goal(None, 0, said[-600:], None)], set()
@@ -510,11 +493,11 @@ def copies_without_fault(part):
     return {it: Fault(crate, f"none, at {it.file}:{it.head + 1}", functions=[it], is_copied=True) for it in by_hand}
 
 
-def try_part(part):
+def try_part(part, later=()):
     """The verdicts of faults of a crate that do not see each other, by name, and parts of those of which nothing was told."""
     crate = part[0].crate
     sound = copies_without_fault(part)
-    is_proved, goals, proved = check(crate, part + list(sound.values()))
+    is_proved, goals, proved = check(crate, part + list(sound.values()), later)
     unproved = [it for it, copy in sound.items() if copy.name not in proved]
     if len(part) == 1 and not part[0].is_copied:
         return {f"{crate}/{part[0].name}": judged(is_proved, goals)}, []
@@ -530,16 +513,19 @@ def try_part(part):
     return verdicts, together(rest) if len(rest) < len(part) else [[replace(it, is_copied=False)] for it in rest]
 
 
-def is_proved(crate):
-    """Whether the crate itself is proved, which leaves its proofs in its folder out/ for the copies, and its library."""
-    started = time.time()
-    with tempfile.TemporaryDirectory(prefix="proofs-", dir=f"{ROOT}/out") as room:
-        folder = copied_to(room, crate)  # since a check holds the folders of all crates below
-        how = {"stdin": subprocess.DEVNULL, "stdout": subprocess.DEVNULL, "stderr": subprocess.STDOUT}
-        if subprocess.run(["rt", "lib", "--jobs", "1"], cwd=folder, **how).returncode:
-            return False
-        shutil.rmtree(f"{ROOT}/crates/{crate}/out", ignore_errors=True)
-        os.rename(f"{folder}/out", f"{ROOT}/crates/{crate}/out")
+def is_built(crate, proved):
+    """Whether a library is proved, if those below are. It is built in out/libraries, unless it is there."""
+    if not all(proved[it].result() for it in dependencies()[crate]):
+        return False
+    if is_there(crate):
+        return True
+    started, made = time.time(), f"{BEGUN}/{crate}.rlib"
+    how = {"stdin": subprocess.DEVNULL, "stdout": subprocess.DEVNULL, "stderr": subprocess.STDOUT}
+    if subprocess.run([*command("build", crate), "--statements", "-o", made], cwd=f"{ROOT}/crates/{crate}", **how).returncode:
+        return False
+    shutil.rmtree(f"{LIBRARIES}/{crate}.rlib", ignore_errors=True)
+    shutil.move(made, LIBRARIES)
+    sign(crate, sum_of(crate), LIBRARIES)
     print(f"{crate}: proved, {time.time() - started:.0f} s", flush=True)
     return True
 
@@ -556,52 +542,36 @@ def read_faults(crate, names):
 
 
 def try_all(faults):
-    """The verdicts of all faults, by crate and name, and the crates that are not proved without them.
-
-    The faults of a crate are tried as soon as it is proved, while others still are.
-    """
+    """The verdicts of all faults, by crate and name, and the libraries that are not proved without them."""
     started, number = time.time(), sum(map(len, faults.values()))
-    needed = {it for crate in faults for it in ([crate] if is_over_ci(crate) else [crate, *all_below(crate)])}
+    needed = sorted({it for crate in faults for it in all_below(crate)}, key=lambda it: len(all_below(it)))
     proved, verdicts, running, waiting = {}, {}, {}, {}
-    for crate, names in faults.items():
-        found, bad = read_faults(crate, names)
-        verdicts |= bad
-        waiting[crate] = together(found)
-
-    def prove(crate):
-        # What begins with no proof needs none before. That the rest of it is proved `rt ci` says.
-        if is_over_ci(crate):
-            return True
-        return all(proved[it].result() for it in dependencies()[crate]) and (is_top(crate) or is_proved(crate))
-
     with ThreadPoolExecutor(AT_ONCE) as pool:
-
-        def begin(crate, most=None):
-            parts = waiting.pop(crate, [])
-            running.update({pool.submit(try_part, it): crate for it in parts[:most]})
-            waiting[crate] = parts[most:] if most else []
-
         # The lowest first, so that none waits for one behind it.
-        for crate in sorted(needed, key=lambda it: len(all_below(it))):
-            proved[crate] = pool.submit(prove, crate)
-            running[proved[crate]] = crate
+        for crate in needed:
+            proved[crate] = pool.submit(is_built, crate, proved)
+        unproved = [it for it in needed if not proved[it].result()]
+
+        def begin(parts, later=()):
+            running.update({pool.submit(try_part, it, later): it[0].crate for it in parts})
+
+        # The most faults first, since they take longest.
+        for crate in sorted(faults, key=lambda it: len(faults[it]), reverse=True):
+            if all_below(crate).isdisjoint(unproved):
+                found, bad = read_faults(crate, faults[crate])
+                verdicts |= bad
+                first, *waiting[crate] = together(found) or [[]]
+                begin([first] if first else [], sum(waiting[crate], []))
         while running:
             for future in wait(running, return_when=FIRST_COMPLETED).done:
                 crate = running.pop(future)
-                if future is not proved[crate]:
-                    told, rest = future.result()
-                    verdicts |= told
-                    waiting[crate] += rest
-                    if rest:
-                        print(f"{crate}: nothing was told of {' '.join(it.name for some in rest for it in some)}: tried again")
-                    print(f"{len(verdicts)} of {number} faults, {time.time() - started:.0f} s", flush=True)
-                    begin(crate)
-                elif future.result() and is_over_ci(crate) and len(waiting.get(crate, [])) > 1:
-                    os.mkdir(f"{BEGUN}/{crate}")
-                    begin(crate, 1)
-                elif future.result():
-                    begin(crate)
-    return verdicts, [it for it in sorted(needed) if not proved[it].result()]
+                told, rest = future.result()
+                verdicts |= told
+                if rest:
+                    print(f"{crate}: nothing was told of {' '.join(it.name for some in rest for it in some)}: tried again")
+                print(f"{len(verdicts)} of {number} faults, {time.time() - started:.0f} s", flush=True)
+                begin(waiting.pop(crate, []) + rest)
+    return verdicts, unproved
 
 
 def wanted(words):
@@ -618,6 +588,7 @@ def main(words):
     is_anew, words = "--anew" in words, [it for it in words if it != "--anew"]
     faults = wanted(words)
     os.makedirs(BEGUN)
+    os.makedirs(LIBRARIES, exist_ok=True)
     print(f"{sum(map(len, faults.values()))} faults of {len(faults)} crates", flush=True)
     verdicts = {} if is_anew or words else kept_of(faults)
     if verdicts:

@@ -20,7 +20,9 @@ last each alone and in place.
     gate/faults.py --take COPY TO  takes the libraries that `rt ci` left in a copy of the repository
 
 A check proves the functions with faults and those that they call, and no more, over the libraries that `rt ci` left in
-out/libraries. If one of these is not of the same files, it is proved and built anew.
+out/libraries. If one of these is not of the same files, it is proved and built anew, and so is the crate itself: of a crate
+that is not proved without faults none is tried. Of a crate on which no other stands there is no library, and only `rt ci`
+says whether it is proved.
 
 That a fault was refused is kept on this machine, under a sum of all that the check read. A later run, in any checkout,
 tries those of which nothing is kept; with --anew, or with names, it tries all that it is told to.
@@ -35,7 +37,7 @@ from concurrent.futures import FIRST_COMPLETED, ThreadPoolExecutor, wait
 from dataclasses import replace
 
 from judge.checks import BEGUN, Goal, check
-from judge.crates import ROOT, all_below
+from judge.crates import ROOT, all_below, libraries_of
 from judge.fault import BadFault, Fault, read_fault, together
 from judge.libraries import LIBRARIES, is_built, take
 from judge.verdicts import Verdict, is_of_the_code, is_unread, judged, keep, kept_of
@@ -85,7 +87,7 @@ def read_faults(crate, names):
 def try_all(faults):
     """The verdicts of all faults, by crate and name, and the libraries that are not proved without them."""
     started, number = time.time(), sum(map(len, faults.values()))
-    needed = sorted({it for crate in faults for it in all_below(crate)}, key=lambda it: len(all_below(it)))
+    needed = sorted({it for crate in faults for it in libraries_of(crate)}, key=lambda it: len(all_below(it)))
     proved, verdicts, running, waiting = {}, {}, {}, {}
     with ThreadPoolExecutor(AT_ONCE) as pool:
         # The lowest first, so that none waits for one behind it.
@@ -98,7 +100,7 @@ def try_all(faults):
 
         # The most faults first, since they take longest.
         for crate in sorted(faults, key=lambda it: len(faults[it]), reverse=True):
-            if all_below(crate).isdisjoint(unproved):
+            if libraries_of(crate).isdisjoint(unproved):
                 found, bad = read_faults(crate, faults[crate])
                 verdicts |= bad
                 first, *waiting[crate] = together(found) or [[]]

@@ -33,6 +33,12 @@ def all_below(crate):
     return {it for one in dependencies()[crate] for it in (one, *all_below(one))}
 
 
+def libraries_of(crate):
+    """The libraries that the crate stands on, and its own if another crate stands on it."""
+    is_library = any(crate in below for below in dependencies().values())
+    return all_below(crate) | ({crate} if is_library else set())
+
+
 @cache
 def sum_of(crate, root=ROOT):
     """A sum of all that a check of the crate reads."""

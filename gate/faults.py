@@ -19,10 +19,10 @@ last each alone and in place.
     gate/faults.py NAME[/EDIT]..   tries those of a crate, or one of them, and says which goals each leaves open
     gate/faults.py --take COPY TO  takes the libraries that `rt ci` left in a copy of the repository
 
-A check proves the functions with faults and those that they call, and no more, over the libraries that `rt ci` left in
-out/libraries. If one of these is not of the same files, it is proved and built anew, and so is the crate itself: of a crate
-that is not proved without faults none is tried. Of a crate on which no other stands there is no library, and only `rt ci`
-says whether it is proved.
+A check proves the functions with faults. What they call is taken as its contract says: other proofs are holes, except in
+impls of traits. It stands on the libraries that `rt ci` left in out/libraries. If one of these is not of the same files, it
+is proved and built anew, and so is the crate itself: of a crate that is not proved without faults none is tried. Of a crate
+on which no other stands there is no library, and only `rt ci` says whether it is proved.
 
 That a fault was refused is kept on this machine, under a sum of all that the check read. A later run, in any checkout,
 tries those of which nothing is kept; with --anew, or with names, it tries all that it is told to.

@@ -8,6 +8,7 @@ import tempfile
 from typing import NamedTuple
 
 from judge.crates import ROOT
+from judge.holes import leave_holes
 from judge.libraries import command
 from judge.planting import Line, plant
 
@@ -15,8 +16,9 @@ BEGUN = f"{ROOT}/out/begun-{os.getpid()}"  # what the first of several checks of
 COPY = re.compile(r"_with_fault_(\d+)\b")  # what the name of a copy ends with: the number of its fault in the check
 TOLD = re.compile(r"(note: )?(?:\./)?((?:src|specs|proofs)/[^:\s]+):(\d+):\d+: (?!note)(.*)")
 ENDLESS = re.compile(r"fn \w+::(\S+): (no proof: expected .*)")  # a loop or recursion that nobody shows to end
-COPY_PROVED = re.compile(r"^fn \S+_with_fault_(\d+): proved$", re.M)
-VERDICT = re.compile(r"^(logic=proved|logic=not-proved|only=(\d+) proved=(\d+)$)", re.M)
+COPY_PROVED = re.compile(r"^fn \S+_with_fault_(\d+): (?:no holes|depends on a hole in .*)$", re.M)
+NOT_PROVED = re.compile(r"^fn \S+: (?:no proof|not proved|could not tell)", re.M)
+ENDED = re.compile(r"^(?:only=\d+ )?holes=\d+$", re.M)
 
 
 class Goal(NamedTuple):
@@ -31,7 +33,7 @@ def only(faults, later):
     if any(it.heads or it.added for it in (*faults, *later)):
         return []
     in_place = {function for it in faults if not it.is_copied for function in it.functions}
-    paths = {f"{it.impl or it.module.replace('/', '::')}::{it.name}".removeprefix("::") for it in in_place}
+    paths = {f"{it.impl or '::'.join(it.module)}::{it.name}".removeprefix("::") for it in in_place}
     paths |= {f"{function.name}_with_fault_{at}" for at, it in enumerate(faults) if it.is_copied for function in it.functions}
     return [word for it in sorted(paths) for word in ("--only", it)]
 
@@ -53,8 +55,8 @@ def copied_to(room, crate):
     return folder
 
 
-def goals_in(said, faults, lines):
-    """What was told of a place, as if each fault stood in its function and not in a copy of it."""
+def goals_in(said, faults, lines, holes):
+    """What was told of a place, as if each fault stood in its function and not in a copy of it. Of holes it is not told."""
     found = []
 
     def copied_for(file):
@@ -64,7 +66,8 @@ def goals_in(said, faults, lines):
     for told in filter(None, map(TOLD.match, said.split("\n"))):
         file, at = told[2], int(told[3]) - 1
         line = lines[file][at] if file in lines else Line("", at, copied_for(file))
-        found.append(Goal(COPY.sub("", file), line.at, told[4], line.copied_for))
+        if file not in holes:
+            found.append(Goal(COPY.sub("", file), line.at, told[4], line.copied_for))
     for told in filter(None, map(ENDLESS.match, said.split("\n"))):
         file = f"proofs/{told[1].replace('::', '/')}/Invariants.antt"
         found.append(Goal(COPY.sub("", file), 0, told[2], copied_for(file)))
@@ -79,16 +82,14 @@ def check(crate, faults, later):
     with tempfile.TemporaryDirectory(prefix="faults-", dir=f"{ROOT}/out") as room:
         folder = copied_to(room, crate)
         lines = plant(folder, faults)
-        how = {"stdin": subprocess.DEVNULL, "stdout": subprocess.PIPE, "stderr": subprocess.STDOUT, "text": True, "errors": "replace"}
-        begun = f"{BEGUN}/{crate}"
-        keeps = ["--incremental", "out/incremental"] if later or os.path.isdir(begun) else []
-        said = subprocess.run([*command("check", crate), *only(faults, later), *keeps], cwd=folder, **how).stdout
-        if later and os.path.isdir(f"{folder}/out/incremental"):
-            os.rename(f"{folder}/out/incremental", begun)
-    verdict = VERDICT.search(said)
-    if not verdict:
+        begun, kept = f"{BEGUN}/{crate}", f"{folder}/out/incremental"
+        holes = leave_holes(folder, crate, faults)
+        how = ["--allow-holes", *only(faults, later), *(["--incremental", kept] if later or os.path.isdir(begun) else [])]
+        streams = {"stdin": subprocess.DEVNULL, "stdout": subprocess.PIPE, "stderr": subprocess.STDOUT, "text": True, "errors": "replace"}
+        said = subprocess.run([*command("check", crate), *how], cwd=folder, **streams).stdout
+        if later and os.path.isdir(kept):
+            os.rename(kept, begun)
+    if not ENDED.search(said):
         return False, [Goal(None, 0, said[-600:], None)], set()
     proved = {faults[int(it)].name for it in COPY_PROVED.findall(said)}
-    if verdict[1] == "logic=proved" or verdict[2] and verdict[2] == verdict[3]:
-        return True, [], proved
-    return False, goals_in(said, faults, lines), proved
+    return not NOT_PROVED.search(said), goals_in(said, faults, lines, holes), proved

@@ -9,6 +9,11 @@ HEAD = re.compile(r"( *)(?:pub(?:\([a-z]+\))? )?(?:const )?(?:unsafe )?fn (\w+)"
 OUTER = re.compile(r"(?:pub(?:\([a-z]+\))? )?(?:unsafe )?(?:impl|trait)\b")
 
 
+def module_of(file):
+    """The words of the path of the module that a file is."""
+    return [it for it in re.sub(r"^src/|(/?lib|/?main)?\.rt$", "", file).split("/") if it]
+
+
 @dataclass(frozen=True)
 class Function:
     file: str
@@ -23,7 +28,7 @@ class Function:
 
     @property
     def module(self):
-        return re.sub(r"^src/|(/?lib|/?main)?\.rt$", "", self.file)
+        return module_of(self.file)
 
     def is_proved_in(self, folder):
         """Whether a proof by hand of it lies in this folder: with its module, or with its type, which another file may declare."""
@@ -31,7 +36,7 @@ class Function:
         if name.lstrip("+") != self.name:
             return False
         if not self.types:
-            return parent == os.path.join("proofs", self.module).rstrip("/")
+            return parent == "/".join(["proofs", *self.module])
         names = {*self.types, *(it + of for it in self.types for of in self.types)}  # an impl's folder may have both its names
         return os.path.basename(parent).split("+")[0] in names
 

@@ -39,8 +39,8 @@ def judged(is_proved, goals):
     if is_proved:
         return Verdict(False, [Goal(None, 0, "the crate is still proved", None)])
     unread = [it for it in goals if is_unread(it)]
-    if unread:
-        return Verdict(False, unread)
+    if unread or not goals:
+        return Verdict(False, unread or [Goal(None, 0, "no goal was told", None)])
     return Verdict(True, goals, any(map(is_of_the_code, goals)))
 
 

@@ -2,7 +2,7 @@
 
 import os
 import re
-import shutil
+from contextlib import suppress
 from glob import glob
 
 from judge.crates import ROOT, text_of
@@ -35,8 +35,10 @@ def leave_holes(folder, crate, faults):
         if not function.is_of_trait and function.name not in faulty:
             holes.add(folder_of(function, modules))
     for hole in holes:
-        shutil.rmtree(f"{folder}/{hole}", ignore_errors=True)
-        os.makedirs(f"{folder}/{hole}")
+        os.makedirs(f"{folder}/{hole}", exist_ok=True)
+        for file in ("Answers.antt", "Invariants.antt"):
+            with suppress(FileNotFoundError):
+                os.remove(f"{folder}/{hole}/{file}")
         name, place = os.path.basename(hole), ".".join([crate, *hole.split("/")])
         with open(f"{folder}/{hole}/Proof.antt", "w", encoding="utf-8") as it:
             it.write(HOLE.format(name=name, said_in=place if name.startswith("+") else f"{place}.Statement"))

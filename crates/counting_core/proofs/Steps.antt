@@ -7,3 +7,5 @@ pub mod Births
 pub mod Ending
 pub mod Marking
 pub mod Running
+pub mod FullWords
+pub mod ByTheWord

@@ -12,3 +12,4 @@ pub mod SoleHandles
 pub mod CloneReads
 pub mod LostRaises
 pub mod LiveCounts
+pub mod Rooms

@@ -5,4 +5,6 @@ pub mod Legal
 pub mod Represents
 pub mod Laws
 pub mod LostRaises
+pub mod ByWord
+pub mod HandleSteps
 pub mod BlockSteps

@@ -2,6 +2,7 @@
 ghost use Rattle.std.specs.Prelude.{◌≡◌, ◌++◌, ◌∷◌, [], length, IfSome, IfNone};
 ghost use Rattle.counting_core.specs.Trace.{newborn};
 ghost use Rattle.counting_core.specs.BlockSteps.{state, IsReached, MayStep, StepsTo};
+ghost use Rattle.counting_core.specs.ByWord.{FollowsWord};
 
 use crate::handle::{Access, Handle};
 use crate::owner::{Activity, Owner};
@@ -40,28 +41,32 @@ pub(crate) fn push_newborn(handles: &mut Vec<Handle>, alloc: Global, holder: usi
 impl<V: Copy> Block<V> {
     fn load(&mut self, owner: usize, handle: usize) -> Answer<V>
         requires { MayStep (state self.old) Activity.Idle (Step.Load owner handle) }
-        ensures { StepsTo (state self.old) (Step.Load owner handle) result (state self.new) }
+        ensures steps { StepsTo (state self.old) (Step.Load owner handle) result (state self.new) }
+        ensures word { FollowsWord (state self.old) (Step.Load owner handle) result (state self.new) }
     {
         Answer::Value(self.value)
     }
 
     fn unique(&mut self, owner: usize, handle: usize) -> Answer<V>
         requires { MayStep (state self.old) Activity.Idle (Step.Unique owner handle) }
-        ensures { StepsTo (state self.old) (Step.Unique owner handle) result (state self.new) }
+        ensures steps { StepsTo (state self.old) (Step.Unique owner handle) result (state self.new) }
+        ensures word { FollowsWord (state self.old) (Step.Unique owner handle) result (state self.new) }
     {
         Answer::Is(is_alone(self.word))
     }
 
     fn is_static(&mut self, owner: usize, handle: usize) -> Answer<V>
         requires { MayStep (state self.old) Activity.Idle (Step.Static owner handle) }
-        ensures { StepsTo (state self.old) (Step.Static owner handle) result (state self.new) }
+        ensures steps { StepsTo (state self.old) (Step.Static owner handle) result (state self.new) }
+        ensures word { FollowsWord (state self.old) (Step.Static owner handle) result (state self.new) }
     {
         Answer::Is(is_marked(self.word))
     }
 
     fn clone_handle(&mut self, owner: usize, handle: usize) -> Answer<V>
         requires { MayStep (state self.old) Activity.Idle (Step.Clone owner handle) }
-        ensures { StepsTo (state self.old) (Step.Clone owner handle) result (state self.new) }
+        ensures steps { StepsTo (state self.old) (Step.Clone owner handle) result (state self.new) }
+        ensures word { FollowsWord (state self.old) (Step.Clone owner handle) result (state self.new) }
     {
         match plan_clone(self.word, self.limit) {
             ClonePlan::Static => match push_newborn(&mut self.handles, self.alloc, owner) {
@@ -82,7 +87,8 @@ impl<V: Copy> Block<V> {
     // A compare-exchange from the word that the owner saw last. One that fails has read the word anew.
     fn raise(&mut self, owner: usize, handle: usize) -> Answer<V>
         requires { MayStep (state self.old) (Activity.Cloning handle) (Step.Raise owner) }
-        ensures { StepsTo (state self.old) (Step.Raise owner) result (state self.new) }
+        ensures steps { StepsTo (state self.old) (Step.Raise owner) result (state self.new) }
+        ensures word { FollowsWord (state self.old) (Step.Raise owner) result (state self.new) }
     {
         let next = match plan_clone(self.word, self.limit) {
             ClonePlan::Static => self.word,
@@ -112,7 +118,8 @@ impl<V: Copy> Block<V> {
 
     fn quit(&mut self, owner: usize, handle: usize) -> Answer<V>
         requires { MayStep (state self.old) (Activity.Cloning handle) (Step.Quit owner) }
-        ensures { StepsTo (state self.old) (Step.Quit owner) result (state self.new) }
+        ensures steps { StepsTo (state self.old) (Step.Quit owner) result (state self.new) }
+        ensures word { FollowsWord (state self.old) (Step.Quit owner) result (state self.new) }
     {
         self.owners[owner] = Owner::IDLE;
         Answer::Quit
@@ -120,7 +127,8 @@ impl<V: Copy> Block<V> {
 
     fn drop_handle(&mut self, owner: usize, handle: usize) -> Answer<V>
         requires { MayStep (state self.old) Activity.Idle (Step.Drop owner handle) }
-        ensures { StepsTo (state self.old) (Step.Drop owner handle) result (state self.new) }
+        ensures steps { StepsTo (state self.old) (Step.Drop owner handle) result (state self.new) }
+        ensures word { FollowsWord (state self.old) (Step.Drop owner handle) result (state self.new) }
     {
         match plan_drop(self.word) {
             DropPlan::Static => {
@@ -136,7 +144,8 @@ impl<V: Copy> Block<V> {
 
     fn lower(&mut self, owner: usize, handle: usize) -> Answer<V>
         requires { MayStep (state self.old) (Activity.Dropping handle) (Step.Lower owner) }
-        ensures { StepsTo (state self.old) (Step.Lower owner) result (state self.new) }
+        ensures steps { StepsTo (state self.old) (Step.Lower owner) result (state self.new) }
+        ensures word { FollowsWord (state self.old) (Step.Lower owner) result (state self.new) }
     {
         let old = self.word;
         self.word = old - 1;
@@ -151,7 +160,8 @@ impl<V: Copy> Block<V> {
 
     fn mark(&mut self, owner: usize, handle: usize) -> Answer<V>
         requires { MayStep (state self.old) Activity.Idle (Step.Mark owner handle) }
-        ensures { StepsTo (state self.old) (Step.Mark owner handle) result (state self.new) }
+        ensures steps { StepsTo (state self.old) (Step.Mark owner handle) result (state self.new) }
+        ensures word { FollowsWord (state self.old) (Step.Mark owner handle) result (state self.new) }
     {
         self.word = with_mark(self.word);
         Answer::Marked
@@ -159,7 +169,8 @@ impl<V: Copy> Block<V> {
 
     fn get_mut(&mut self, owner: usize, handle: usize) -> Answer<V>
         requires { MayStep (state self.old) Activity.Idle (Step.GetMut owner handle) }
-        ensures { StepsTo (state self.old) (Step.GetMut owner handle) result (state self.new) }
+        ensures steps { StepsTo (state self.old) (Step.GetMut owner handle) result (state self.new) }
+        ensures word { FollowsWord (state self.old) (Step.GetMut owner handle) result (state self.new) }
     {
         if is_alone(self.word) {
             self.handles[handle].set_access(Access::Written);
@@ -171,7 +182,8 @@ impl<V: Copy> Block<V> {
 
     fn into_unique(&mut self, owner: usize, handle: usize) -> Answer<V>
         requires { MayStep (state self.old) Activity.Idle (Step.IntoUnique owner handle) }
-        ensures { StepsTo (state self.old) (Step.IntoUnique owner handle) result (state self.new) }
+        ensures steps { StepsTo (state self.old) (Step.IntoUnique owner handle) result (state self.new) }
+        ensures word { FollowsWord (state self.old) (Step.IntoUnique owner handle) result (state self.new) }
     {
         if is_alone(self.word) {
             self.handles[handle].set_access(Access::Sole);
@@ -183,7 +195,8 @@ impl<V: Copy> Block<V> {
 
     fn share(&mut self, owner: usize, handle: usize) -> Answer<V>
         requires { MayStep (state self.old) Activity.Idle (Step.Share owner handle) }
-        ensures { StepsTo (state self.old) (Step.Share owner handle) result (state self.new) }
+        ensures steps { StepsTo (state self.old) (Step.Share owner handle) result (state self.new) }
+        ensures word { FollowsWord (state self.old) (Step.Share owner handle) result (state self.new) }
     {
         self.handles[handle].set_access(Access::Shared);
         Answer::Done
@@ -191,7 +204,8 @@ impl<V: Copy> Block<V> {
 
     fn write(&mut self, owner: usize, handle: usize, value: V) -> Answer<V>
         requires { MayStep (state self.old) Activity.Idle (Step.Write owner handle value) }
-        ensures { StepsTo (state self.old) (Step.Write owner handle value) result (state self.new) }
+        ensures steps { StepsTo (state self.old) (Step.Write owner handle value) result (state self.new) }
+        ensures word { FollowsWord (state self.old) (Step.Write owner handle value) result (state self.new) }
     {
         self.value = value;
         Answer::Done
@@ -199,7 +213,8 @@ impl<V: Copy> Block<V> {
 
     fn end_write(&mut self, owner: usize, handle: usize) -> Answer<V>
         requires { MayStep (state self.old) Activity.Idle (Step.EndWrite owner handle) }
-        ensures { StepsTo (state self.old) (Step.EndWrite owner handle) result (state self.new) }
+        ensures steps { StepsTo (state self.old) (Step.EndWrite owner handle) result (state self.new) }
+        ensures word { FollowsWord (state self.old) (Step.EndWrite owner handle) result (state self.new) }
     {
         self.handles[handle].set_access(Access::Shared);
         Answer::Done
@@ -207,7 +222,8 @@ impl<V: Copy> Block<V> {
 
     fn lend(&mut self, owner: usize, handle: usize, to: usize) -> Answer<V>
         requires { MayStep (state self.old) Activity.Idle (Step.Lend owner handle to) }
-        ensures { StepsTo (state self.old) (Step.Lend owner handle to) result (state self.new) }
+        ensures steps { StepsTo (state self.old) (Step.Lend owner handle to) result (state self.new) }
+        ensures word { FollowsWord (state self.old) (Step.Lend owner handle to) result (state self.new) }
     {
         match self.handles[handle].lend_to(to) {
             Ok(()) => Answer::Done,
@@ -217,7 +233,8 @@ impl<V: Copy> Block<V> {
 
     fn return_handle(&mut self, owner: usize, handle: usize) -> Answer<V>
         requires { MayStep (state self.old) Activity.Idle (Step.Return owner handle) }
-        ensures { StepsTo (state self.old) (Step.Return owner handle) result (state self.new) }
+        ensures steps { StepsTo (state self.old) (Step.Return owner handle) result (state self.new) }
+        ensures word { FollowsWord (state self.old) (Step.Return owner handle) result (state self.new) }
     {
         self.handles[handle].take_back_from(owner);
         Answer::Done
@@ -225,7 +242,8 @@ impl<V: Copy> Block<V> {
 
     fn give(&mut self, owner: usize, handle: usize, to: usize) -> Answer<V>
         requires { MayStep (state self.old) Activity.Idle (Step.Give owner handle to) }
-        ensures { StepsTo (state self.old) (Step.Give owner handle to) result (state self.new) }
+        ensures steps { StepsTo (state self.old) (Step.Give owner handle to) result (state self.new) }
+        ensures word { FollowsWord (state self.old) (Step.Give owner handle to) result (state self.new) }
     {
         self.handles[handle].give_to(to);
         Answer::Done
@@ -234,7 +252,8 @@ impl<V: Copy> Block<V> {
     // A step of an owner that has nothing in flight, and to whom it is permitted.
     fn act(&mut self, step: Step<V>) -> Answer<V>
         requires { MayStep (state self.old) Activity.Idle step }
-        ensures { StepsTo (state self.old) step result (state self.new) }
+        ensures steps { StepsTo (state self.old) step result (state self.new) }
+        ensures word { FollowsWord (state self.old) step result (state self.new) }
     {
         match step {
             Step::Clone { owner, handle } => self.clone_handle(owner, handle),
@@ -262,7 +281,8 @@ impl<V: Copy> Block<V> {
     // By what the owner is in the middle of; an owner with a call in flight may only go on with it.
     pub(crate) fn step(&mut self, step: Step<V>) -> Answer<V>
         requires { IsReached (state self.old) }
-        ensures { StepsTo (state self.old) step result (state self.new) }
+        ensures steps { StepsTo (state self.old) step result (state self.new) }
+        ensures word { FollowsWord (state self.old) step result (state self.new) }
     {
         let owner = step.owner();
         if owner >= self.owners.len() {

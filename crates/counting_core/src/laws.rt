@@ -1,5 +1,6 @@
 //! What holds of every legal trace, and of every core that represents one.
 ghost use Rattle.counting_core.specs.Laws.{EachStepHasOneAnswer, BarredExactlyIfNotPermitted, LiveHandlesLive, CountIsTheNumberOfLiveHandles, NoLowerWraps, NoCountPassesLimit, MarkedExactlyIfAnswered, MarkedBlockKeepsItsValue, GivenUpByLastEnd, GivenUpOnce, FullExactlyAtLimit, BornStraightAfterRead, SoleHandleIsTheOnlyOne, SoleDropGivesUp};
+ghost use Rattle.counting_core.specs.HandleSteps.{AnswersAreByTheWord, StepsAreThoseOfHandles};
 ghost use Rattle.counting_core.specs.LostRaises.{LostRaisesAreBounded};
 
 /// After every legal trace each step has a legal answer, and no other but Memory.
@@ -88,4 +89,14 @@ pub fn sole_handle_is_the_only_one<V: Copy>()
 /// The drop of a sole handle gives the value up.
 pub fn sole_drop_gives_up<V: Copy>()
     ensures { SoleDropGivesUp V }
+{}
+
+/// In each core that represents a trace the due answer to a permitted step is the one by the word that it finds.
+pub fn answers_are_by_the_word<V: Copy>()
+    ensures { AnswersAreByTheWord V }
+{}
+
+/// By its answer and its word a step on the word is the atomic step of a handle.
+pub fn steps_are_those_of_handles<V: Copy>()
+    ensures { StepsAreThoseOfHandles V }
 {}

@@ -1,2 +1,4 @@
 pub mod CountingWord
 pub mod Plans
+pub mod Rights
+pub mod WordSteps

@@ -16,7 +16,7 @@ use denote.Memory.{hidden_shr, cell_at, part_at}
 use denote.Opens.{Shut, unhide}
 use denote.RawPtr.{Ptr, InBlock, block_ptr, block_of, count_of as offset_of, at_block}
 use denote.Steps.{looks, peeks}
-use Rattle.handles.specs.Inside.Rights.{Right}
+use Rattle.counting_word.specs.Rights.{Right}
 use Rattle.handles.specs.Inside.Blocks.{HeldRow, Names, block_rule, shown, handle_shares, gain_owns}
 use Rattle.handles.specs.contracts.block.Handle as handle_type
 use Rattle.handles.proofs.Fields.{one_word, words_told, words_open, HandleRow, HandleWords, gain_shown}

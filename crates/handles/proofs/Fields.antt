@@ -27,7 +27,7 @@ use denote.Struct.Laws.{RawPtr-copy}
 use denote.Struct.Struct.{Shape, Struct}
 use denote.Struct.Tuple.{Tuple}
 use Rattle.counting_word.specs.CountingWord.{is_one_handle}
-use Rattle.handles.specs.Inside.Rights.{Right, nothing, a_handle, to_lower, whole_block, right_by_lower, IsWholeBlock}
+use Rattle.counting_word.specs.Rights.{Right, nothing, a_handle, to_lower, whole_block, right_by_lower, IsWholeBlock}
 use Rattle.core.specs.Sync.RawAtomic.{word}
 use Rattle.std.specs.declared.alloc.Global.{Global}
 use Rattle.handles.specs.Inside.Blocks.{HeldRow, handle_owns, frees, held_offset, Names, unit_of_count, counted, stamp, held_and_block, shown, block_rule, Sharing, not_yet, begun, held_as, unshared_block, gain_owns}

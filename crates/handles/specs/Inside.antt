@@ -4,4 +4,3 @@ pub mod Blocks
 pub mod ItemsLending
 pub mod PlacesLending
 pub mod PlacesOwnership
-pub mod Rights

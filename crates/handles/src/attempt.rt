@@ -1,7 +1,7 @@
 // A try to make one more handle of a block.
 ghost use Rattle.std.specs.Prelude.{◌≡◌, ℕ, IfOk, false};
 ghost use Rattle.counting_word.specs.CountingWord.{IsWithin};
-ghost use Rattle.handles.specs.Inside.Rights.{right_by_read};
+ghost use Rattle.counting_word.specs.Rights.{right_by_read};
 
 use crate::arc::Full;
 use crate::block::{Gain, Handle, Held};

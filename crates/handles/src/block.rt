@@ -22,8 +22,8 @@ ghost use Rattle.std.specs.contracts.impls.GlobalAllocator.TheImpl.{ghosts};
 ghost use Rattle.std_alloc.specs.Box.Ownership.{box_owns};
 ghost use Rattle.handles.specs.Inside.Blocks.{IsFirst, handle_owns, handle_shares, gain_owns};
 ghost use Rattle.handles.specs.declared.block.Held.{Held};
-ghost use Rattle.handles.specs.Inside.Rights.{Right, nothing, a_handle, to_lower, whole_block, coded_right, IsWholeBlock};
-ghost use Rattle.handles.specs.Inside.Rights.{right_by_read, right_by_raise, right_by_last_read, right_by_lower};
+ghost use Rattle.counting_word.specs.Rights.{Right, nothing, a_handle, to_lower, whole_block, coded_right, IsWholeBlock};
+ghost use Rattle.counting_word.specs.Rights.{right_by_read, right_by_raise, right_by_last_read, right_by_lower};
 
 mod lend;
 mod same_block;

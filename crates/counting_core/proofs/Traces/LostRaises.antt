@@ -43,7 +43,7 @@ module _ {V : Type 0} where
   owners-kept u (Clone o h) a = refl
   owners-kept u s a = refl
 
-  activity-kept : (u : Situation) (s : Step V) (a : Answer V) (q : ℕ) → nat_eq (owner_of s) q ≡ false
+  pub activity-kept : (u : Situation) (s : Step V) (a : Answer V) (q : ℕ) → nat_eq (owner_of s) q ≡ false
       → (after u s a).activity q ≡ u.activity q
   activity-kept u s (Born n) q other = ap (λ b. if b then Idle else u.activity q) other
   activity-kept u s Full q other = ap (λ b. if b then Idle else u.activity q) other

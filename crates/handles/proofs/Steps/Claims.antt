@@ -1,5 +1,5 @@
 -- A read by the holder of a handle that nobody borrows: if it finds 1, that is the only one. Assumes `Logic`.
-use Rattle.handles.specs.Inside.Rights.{right_by_claim}
+use Rattle.counting_word.specs.Rights.{right_by_claim}
 use Rattle.handles.proofs.Asking as asking
 use Rattle.handles.proofs.Steps.Shared.{◌≡◌, ◌≢◌, ℕ, Bool, true, false, [], ◌∷◌, sym, refl, ap, ◌∙◌, subst, eq-eqb, ne_eqb, if◌then◌else◌, dite, ℕ_discrete, Ura, ent, Share, Fml, fsep, fex, flft, Logic, sem, ‵, ◌$◌, ◌∵◌, !, qed, by, move, keep, drop, fjoin, fpick, fpack, use1, use2, part_in, is_one_handle, count_of-unmarked, is_one_handle-marked, is_one_handle-unmarked, a_handle, whole_block, Says, unit_of_count, entitled, stake, SharedBlock, shared, counts, beside, rule, gained, counted_stake, lives, regained, Lands, Asks}
 use Rattle.handles.proofs.Steps.Leaves.{a_stake, not_yet_marked, HeldSteps, held_step}

@@ -1,6 +1,6 @@
 -- The read by which a handle ends, and what every step by a handle's holder has. Assumes `Logic`.
 use Rattle.counting_word.specs.CountingWord.{is_marked_word}
-use Rattle.handles.specs.Inside.Rights.{to_lower, right_by_last_read}
+use Rattle.counting_word.specs.Rights.{to_lower, right_by_last_read}
 use Rattle.handles.proofs.Asking as asking
 use Rattle.handles.proofs.Steps.Shared.{◌≡◌, ℕ, ◌^◌, ◌<◌, Bool, true, false, [], ◌∷◌, ap, if◌then◌else◌, Ura, SProp, ent, never, Share, Fml, fsep, flft, Logic, sem, ‵, ◌$◌, ◌∵◌, !, qed, by, move, keep, drop, fsplit, fsplit3, fpick, use1, use2, part_in, nothing_more, nothing, Says, unit_of_count, unshared, marked, entitled, stake, SharedBlock, shared, unmarked, counts, beside, rule, gained, no_token, lives, regained, Lands, Asks, stepped}
 

@@ -3,7 +3,7 @@ use types.Kit.{given, learn, rewrite}
 use types.RcWeak.{rest_some, gives, whole}
 use Rattle.std.proofs.Common.{zero, suc, ◌-◌}
 use Rattle.counting_word.proofs.Words.{stands-lowered, stands-positive}
-use Rattle.handles.specs.Inside.Rights.{right_by_lower}
+use Rattle.counting_word.specs.Rights.{right_by_lower}
 use Rattle.handles.proofs.Asking as asking
 use Rattle.handles.proofs.Steps.Shared.{◌≡◌, ℕ, ◌+◌, ◌%◌, ◌^◌, ◌<◌, ◌≤◌, Bool, true, false, [], ◌∷◌, sym, refl, ap, ◌∙◌, subst, arith, eq-eqb, ne_eqb, if◌then◌else◌, dite, ℕ_discrete, Ura, full_share, ent, never, Share, Fml, fsep, fex, flft, flent, Logic, sem, ‵, ◌⊛◌, ◌$◌, ◌∵◌, !, qed, by, move, keep, drop, split, fsplit, fsplit3, fjoin, fjoin3, fpick, fpack, frame, suffices, use1, use2, done, rest, nothing_more, is_one_handle, StandsFor, count_of-unmarked, is_one_handle-marked, is_one_handle-unmarked, nothing, whole_block, Says, unit_of_count, unshared, Stage, over, SharedBlock, shared, unmarked, counts, beside, at_stage, rule, gained, Entails, no_token, lives, regained, Lands, Asks, Steps, stepped}
 use Rattle.handles.proofs.Steps.Says.{says-fewer}

@@ -1,7 +1,7 @@
 -- A read of the word through a `&` to a handle, and what every step through a `&` leaves. Assumes `Logic`.
 use base.Fml.{ftrue}
 use Rattle.counting_word.specs.CountingWord.{IsWithin}
-use Rattle.handles.specs.Inside.Rights.{Right}
+use Rattle.counting_word.specs.Rights.{Right}
 use Rattle.handles.specs.Inside.Blocks.{fact}
 use Rattle.handles.proofs.Asking as asking
 use Rattle.handles.proofs.Steps.Shared.{unshared, ◌≡◌, ℕ, true, false, [], ◌∷◌, ap, if◌then◌else◌, Ura, ent, never, Share, Fml, fsep, flft, Logic, sem, ‵, ◌⊛◌, ◌$◌, ◌∵◌, !, qed, by, move, split, fjoin, fpack, use1, use2, nothing_more, nothing, a_handle, right_by_read, Says, stake, SharedBlock, shared, counts, beside, rule, gained, no_token, lives, regained, makes_one, Lands, Asks, Steps, stepped}

@@ -15,7 +15,7 @@ use denote.RattleType.{RattleType}
 use denote.RawPtr.{Ptr, block_ptr, block_of, count_of as offset_of}
 pub use denote.Steps.{nothing as nothing_more}
 use Rattle.core.specs.Sync.RawAtomic.{asks, always, word}
-pub use Rattle.handles.specs.Inside.Rights.{Right, to_lower, nothing, a_handle, whole_block, right_by_read}
+pub use Rattle.counting_word.specs.Rights.{Right, to_lower, nothing, a_handle, whole_block, right_by_read}
 pub use Rattle.handles.specs.Inside.Blocks.{HeldRow, Names, living, beside_word, stage, Rule, stamp, held_and_block, Says, unit_of_count, unshared, marked, entitled, stake, Stage, over}
 use Rattle.handles.proofs.Asking as asking
 pub use Rattle.counting_word.specs.CountingWord.{mark_bit, StandsFor, is_one_handle}

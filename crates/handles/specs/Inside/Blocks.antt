@@ -26,7 +26,7 @@ use Rattle.std_heap.specs.contracts.Global.{the_row as heap_row}
 use Rattle.std.specs.contracts.impls.GlobalAllocator.TheImpl.{ghosts}
 use Rattle.counting_word.specs.CountingWord.{StandsFor, IsWithin, marked_word}
 use Rattle.handles.specs.contracts.block.Held.{the_row as held_row}
-use Rattle.handles.specs.Inside.Rights.{Right, nothing, a_handle, to_lower, whole_block}
+use Rattle.counting_word.specs.Rights.{Right, nothing, a_handle, to_lower, whole_block}
 
 abbrev pub fact : Type 0 → Fml
 fact φ = fex φ (λ _. ftrue)

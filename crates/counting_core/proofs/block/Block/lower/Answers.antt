@@ -12,12 +12,12 @@ index_mut-requires-2 g c =
     subst (λ n. c.args.handle < n) (sym c.args.self.now.handles.ok.0)
     (born (state c.args.self.now) c.args.handle (dropped_lives (state c.args.self.now) c.args.owner c.args.handle c.requires))
 
-pub returns-then-is_last : goal.returns-then-is_last
-returns-then-is_last g c =
+pub returns-then-is_last-clause-steps : goal.returns-then-is_last-clause-steps
+returns-then-is_last-clause-steps g c =
     moves-lower (state c.args.self.now) c.args.owner c.args.handle c.requires c.index_mut-2.result.now c.end.new.self
     c.index_mut-2.ensures.value c.end.ensures true (sym c.is_last.ensures ∙ c.if-is_last.true)
 
-pub returns-else-is_last : goal.returns-else-is_last
-returns-else-is_last g c =
+pub returns-else-is_last-clause-steps : goal.returns-else-is_last-clause-steps
+returns-else-is_last-clause-steps g c =
     moves-lower (state c.args.self.now) c.args.owner c.args.handle c.requires c.index_mut-2.result.now c.end.new.self
     c.index_mut-2.ensures.value c.end.ensures false (sym c.is_last.ensures ∙ c.if-is_last.false)

@@ -1,6 +1,6 @@
 -- `into_handle` makes the handle that was gained.
 use Rattle.handles.proofs.Walks.{◌≡◌, ℕ, false, [], ◌∷◌, refl, a_type, Val, inst_fn, SProp, Lft, Share, ftrue, flft, ‵, raw, ◌⊛◌, ◌$◌, ◌∵◌, !, qed, by, move, keep, split, join, fsplit, fjoin, use0, rewrite, stop, fld, of_opd, no_more, and_then, returns, enter, alloc_all, pass_all, free_all, look_at, get, get_in, sets, agg, sub, whole, tables, fact, no, RattleType, owns, types_at, plain, Ptr, block_of, offset_of, nothing_more, heard, param, layouts, Stays, stay_dropped, walk_of, Goes-dropped, proved, leaves, Right, HeldRow, gain_owns, one_word, one_word-Good, words_told, words_made, GainRow, HandleWords, known}
-use Rattle.handles.specs.Inside.Rights.{a_handle}
+use Rattle.counting_word.specs.Rights.{a_handle}
 use Rattle.handles.specs.contracts.block.Handle as handle_type
 use Rattle.handles.specs.contracts.block.Gain as gain_type
 use Rattle.std_alloc.proofs.RcSteps.{Ptr-Good}

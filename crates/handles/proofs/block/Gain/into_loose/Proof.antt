@@ -4,7 +4,7 @@ use Rattle.handles.proofs.LooseBoxes.{heap_row, pair_val, loose-Good, loose_shut
 use Rattle.handles.specs.contracts.block.Block as block_type
 use types.Run.{look}
 use borrow.Table.OneValue.{part_in, part_out}
-use Rattle.handles.specs.Inside.Rights.{whole_block, IsWholeBlock}
+use Rattle.counting_word.specs.Rights.{whole_block, IsWholeBlock}
 use Rattle.handles.specs.Inside.Blocks.{heap_offset, unshared_block}
 use Rattle.core.proofs.cell.Inside.{Good}
 use types.Kit.{group}

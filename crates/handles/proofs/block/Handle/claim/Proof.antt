@@ -8,7 +8,7 @@ use contract.BorrowLft.{◌⊑◌}
 use denote.Triple.Walked.{Goes-ref, stay_ref}
 use Rattle.atomic_table.proofs.Calls.{loads}
 use Rattle.counting_word.specs.CountingWord.{is_one_handle}
-use Rattle.handles.specs.Inside.Rights.{right_by_claim}
+use Rattle.counting_word.specs.Rights.{right_by_claim}
 use Rattle.handles.specs.Inside.Blocks.{counted_handle, owned_as, handle_owns}
 use Rattle.handles.proofs.Steps.Shared.{block_at}
 use Rattle.handles.proofs.Steps.Claims.{claims, after_claim}

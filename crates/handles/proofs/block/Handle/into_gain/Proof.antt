@@ -1,6 +1,6 @@
 -- `into_gain` takes the block of a handle that is known to be the only one.
 use Rattle.handles.proofs.Walks.{◌≡◌, ℕ, Bool, true, [], ◌∷◌, refl, a_type, Val, inst_fn, SProp, Lft, Share, ftrue, flft, ‵, raw, ◌⊛◌, ◌$◌, ◌∵◌, !, qed, by, move, keep, split, join, fsplit, fjoin, use0, rewrite, stop, fld, of_opd, no_more, and_then, returns, enter, alloc_all, pass_all, free_all, look_at, get, get_in, sets, agg, sub, whole, tables, fact, no, RattleType, owns, types_at, plain, Ptr, block_of, offset_of, nothing_more, heard, param, layouts, Stays, stay_dropped, walk_of, Goes-dropped, proved, leaves, Right, HeldRow, one_word, one_word-Good, words_told, words_made, HandleRow, GainWords, known}
-use Rattle.handles.specs.Inside.Rights.{whole_block}
+use Rattle.counting_word.specs.Rights.{whole_block}
 use Rattle.handles.specs.Inside.Blocks.{handle_owns}
 use Rattle.handles.specs.contracts.block.Handle as handle_type
 use Rattle.handles.specs.contracts.block.Gain as gain_type

@@ -3,7 +3,7 @@ use Rattle.handles.proofs.Walks.{◌≡◌, ℕ, ◌+◌, false, [], ◌∷◌, 
 use base.Fml.{Incl-refl}
 use contract.BorrowLft.{◌⊑◌}
 use Rattle.atomic_table.proofs.Calls.{loads}
-use Rattle.handles.specs.Inside.Rights.{right_by_last_read}
+use Rattle.counting_word.specs.Rights.{right_by_last_read}
 use Rattle.handles.specs.Inside.Blocks.{owned_as, counted_handle}
 use Rattle.handles.proofs.Steps.Shared.{block_at}
 use Rattle.handles.proofs.Steps.Leaves.{last_reads, after_last_read}

@@ -4,7 +4,7 @@ use Rattle.handles.proofs.Walks.{◌≡◌, ℕ, ◌+◌, ◌<◌, false, [], �
 use Rattle.atomic_table.proofs.Calls.{exchanges}
 use denote.Plain.{uint_vals, uint_Tells}
 use Rattle.counting_word.specs.CountingWord.{greatest_count, IsWithin}
-use Rattle.handles.specs.Inside.Rights.{right_by_raise}
+use Rattle.counting_word.specs.Rights.{right_by_raise}
 use Rattle.std.proofs.Common.{◌∙◌}
 use Rattle.handles.specs.contracts.block.Gain as gain_type
 use Rattle.handles.proofs.Steps.Shared.{block_at}

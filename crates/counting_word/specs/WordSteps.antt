@@ -1,6 +1,7 @@
 -- The atomic steps on the word of a block: what each leaves its maker with, and which word it leaves, by the word that it
 -- finds. The steps of a handle and those of the core are steps of this table.
-use Rattle.std.specs.Prelude.{ℕ, ◌+◌, ◌-◌, nat_eq, if◌then◌else◌}
+use Rattle.std.specs.Prelude.{◌≡◌, ℕ, zero, suc, ◌+◌, ◌-◌, nat_eq, if◌then◌else◌, List, [], ◌∷◌, ◌++◌, refl}
+use Rattle.std.specs.Coded.{Coded, code_by, coded_ℕ}
 use Rattle.counting_word.specs.CountingWord.{marked_word}
 use Rattle.counting_word.specs.Rights.{Right, nothing, right_by_read, right_by_raise, right_by_last_read, right_by_lower, right_by_claim}
 
@@ -29,8 +30,52 @@ right_by lowers found = right_by_lower found
 right_by claims found = right_by_claim found
 right_by marks found = nothing
 
+-- one less, which wraps at 0
+abbrev pub lowered : ℕ → ℕ
+lowered zero = 18446744073709551615
+lowered (suc word) = word
+
 abbrev pub word_by : WordStep → ℕ → ℕ
 word_by (raises_from seen) found = if nat_eq found seen then found + 1 else found
-word_by lowers found = found - 1
+word_by lowers found = lowered found
 word_by marks found = marked_word found
 word_by step found = found
+
+-- The word that steps leave, in order, from this one on; and from the word of a new block.
+abbrev pub left_from : ℕ → List WordStep → ℕ
+left_from word [] = word
+left_from word (s ∷ ss) = left_from (word_by s word) ss
+
+abbrev pub left_by : List WordStep → ℕ
+left_by steps = left_from 1 steps
+
+abbrev number_of : WordStep → ℕ
+number_of reads = 0
+number_of asks = 1
+number_of reads_last = 2
+number_of lowers = 3
+number_of claims = 4
+number_of marks = 5
+number_of (raises_from seen) = suc (suc (suc (suc (suc (suc seen)))))
+
+abbrev step_of : ℕ → WordStep
+step_of zero = reads
+step_of (suc zero) = asks
+step_of (suc (suc zero)) = reads_last
+step_of (suc (suc (suc zero))) = lowers
+step_of (suc (suc (suc (suc zero)))) = claims
+step_of (suc (suc (suc (suc (suc zero))))) = marks
+step_of (suc (suc (suc (suc (suc (suc seen)))))) = raises_from seen
+
+pub step_of-number_of : (s : WordStep) → step_of (number_of s) ≡ s
+step_of-number_of reads = refl
+step_of-number_of asks = refl
+step_of-number_of reads_last = refl
+step_of-number_of lowers = refl
+step_of-number_of claims = refl
+step_of-number_of marks = refl
+step_of-number_of (raises_from seen) = refl
+
+-- a step as a number, by which proofs tell steps apart
+abbrev pub coded_step : Coded WordStep
+coded_step = code_by ℕ coded_ℕ number_of step_of step_of-number_of

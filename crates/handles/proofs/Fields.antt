@@ -11,7 +11,7 @@ use types.Run.{Opd}
 use base.Fml.{Fml, fex, feq, fsep, finv, ftrue}
 use types.Logic.{Logic, sem}
 use contract.Monad.{fact, fact_i}
-use types.Kit.{Item, Goal, Step, step, ‵, raw, ◌$◌, ◌∵◌, !, qed, by, keep, move, fsplit, fsplit3, fjoin, fjoin3, fpack, feq_i, flt_i, rewrite, use0, updating, now, done}
+use types.Kit.{drop, Item, Goal, Step, step, ‵, raw, ◌$◌, ◌∵◌, !, qed, by, keep, move, fsplit, fsplit3, fjoin, fjoin3, fpack, feq_i, flt_i, rewrite, use0, updating, now, done}
 use types.Tokens.{lent_back}
 use denote.RattleType.{RattleType, Valss, owns}
 use denote.Laws.{Is}
@@ -117,7 +117,7 @@ module _ {M : Type 1} {𝓤 : Ura M} (𝓛 : Logic 𝓤) (R : RattleType) (p : P
   gain_kept nothing none = qed 𝓛 (‵ (Gained nothing) ∷ ‵ (finv (block_rule R p x i)) ∷ []) ∵ updating ! $ keep ! [] $ nothing_more ! $ fpack ! (InBlock p) (λ _. ftrue) inb $ now ! $ done !
   gain_kept a_handle none = absurd none
   gain_kept to_lower none = qed 𝓛 (‵ (Gained to_lower) ∷ ‵ (finv (block_rule R p x i)) ∷ []) ∵ updating ! $ fjoin ! $ fpack ! Names (λ j. fsep (unit_of_count j) (finv (block_rule R p x j))) i $ nothing_more ! $ fpack ! (InBlock p) (λ _. ftrue) inb $ fjoin ! $ now ! $ done !
-  gain_kept (whole_block w) none = qed 𝓛 (‵ (Gained (whole_block w)) ∷ ‵ (finv (block_rule R p x i)) ∷ []) ∵ updating ! $ fsplit3 ! $ move ! (2 ∷ []) $ fsplit ! $ move ! (3 ∷ 0 ∷ []) $ lent_back ! tt $
+  gain_kept (whole_block w) none = qed 𝓛 (‵ (Gained (whole_block w)) ∷ ‵ (finv (block_rule R p x i)) ∷ []) ∵ updating ! $ fsplit3 ! $ fsplit ! $ move ! (1 ∷ []) $ drop ! $ move ! (2 ∷ []) $ fsplit ! $ move ! (3 ∷ 0 ∷ []) $ lent_back ! tt $
       -- [what is held and the block; the stamp; the word; the rule]
       move ! (0 ∷ 1 ∷ []) $ fjoin ! $ move ! (1 ∷ 0 ∷ []) $ fjoin ! $ nothing_more ! $ fpack ! (InBlock p) (λ _. ftrue) inb $ fjoin ! $ now ! $ keep ! (0 ∷ []) $ done !
 

@@ -14,3 +14,4 @@ pub mod PlacesWalks
 pub mod Sent
 pub mod Steps
 pub mod Walks
+mod Framing

@@ -1,15 +1,19 @@
 -- A block that nobody shares becomes a counted one, and what a borrow of a counted handle holds. Assumes `Logic`.
-use Rattle.std.proofs.Common.{ℕ, ◌+◌, Bool, true, false, [], ◌∷◌, ◌++◌, ◌%◌, ◌≤◌, arith, refl, sym, subst, true≢false, inl, inr}
+use Rattle.std.proofs.Common.{◌≡◌, List, ℕ, ◌+◌, Bool, true, false, [], ◌∷◌, ◌++◌, ◌%◌, ◌≤◌, arith, refl, sym, subst, true≢false, inl, inr}
 use seplogic.Ra.Ura.{Ura}
 use lib.Dec.{lit<}
 use base.Fraction.{full_share}
 use base.FractionLaws.{Counts-all}
-use base.Logic.{ent, sep, ex_i, id⊢, upd_i, apply∗, wand}
+use base.Logic.{via, ent, sep, ex_i, id⊢, upd_i, apply∗, wand}
 use base.Fml.{Lft, Incl, Incl-trans, Share, Fml, ftrue, fsep, fseps, fex, fwand, fupd, fdead, fbor, flft, finv}
 use contract.BorrowLft.{meet_⊑_left, meet_⊑_right, ⊑_meet, ⊑_static}
 use ghost.Rules.{span, thinned}
 use types.Logic.{Logic, sem, lfts}
-use types.Kit.{‵, raw, ◌⊛◌, some as exists, later, ◌$◌, ◌∵◌, !, qed, by, move, keep, use1, use2, split, split3, join, fsplit, fsplit3, fjoin, fjoin3, fpick, fpack, pick, assume, suffices, group, await, updating, now, done}
+use types.Kit.{use0, ‵, raw, ◌⊛◌, some as exists, later, ◌$◌, ◌∵◌, !, qed, by, move, keep, use1, use2, split, split3, join, fsplit, fsplit3, fjoin, fjoin3, fpick, fpack, pick, assume, suffices, group, await, updating, now, done}
+use types.Growing.{latest_new}
+use types.Owned.{basic}
+use base.Growing.{latest}
+use Rattle.counting_word.specs.WordSteps.{WordStep, marks, left_by}
 use types.Tokens.{lft_new, lft_end, bor_new, bor_open, obor_alter, bor_fracture, one_token}
 use types.RcWeak.{part, rest, part_in, cut}
 use denote.Sharing.{ShrLaws, said, beside, some, one, held, always}
@@ -28,7 +32,7 @@ use Rattle.core.specs.Sync.RawAtomic.{word}
 use Rattle.counting_word.specs.CountingWord.{is_one_handle, marked_word}
 use Rattle.counting_word.proofs.Words.{stands-one}
 use Rattle.handles.proofs.block.Held.TheLaws.{the_row_laws as held_laws}
-use Rattle.handles.specs.Inside.Blocks.{HeldRow, Says, Names, Stage, living, entitled, stake, stage, Rule, counted, counted_shares, placed, stamp, shown, frees, held_and_block, held_offset, counted_handle, Sharing, not_yet, marked_not_yet, begun, held_as, IsFirst, handle_shares, owned_as, shared_as, unshared_block, counted_handle}
+use Rattle.handles.specs.Inside.Blocks.{fact, logs, kept_log, HeldRow, Says, Names, Stage, living, entitled, stake, stage, Rule, counted, counted_shares, placed, stamp, shown, frees, held_and_block, held_offset, counted_handle, Sharing, not_yet, marked_not_yet, begun, held_as, IsFirst, handle_shares, owned_as, shared_as, unshared_block, counted_handle}
 use Rattle.handles.proofs.Steps.Says.{stands-unmarked, says-marked}
 use Rattle.handles.proofs.Steps.Shared.{SharedBlock, counted_stake, makes_one}
 
@@ -53,7 +57,7 @@ module _ (content kept : Fml) (limit b o : ℕ) (t : Lft → Fml) (L : ShrLaws t
     -- the rule of a block is made when it is first shared
     pub becomes_counted : 1 ≤ limit → (l : Lft) → Lends 𝓛 content t l → Settles 𝓛 (fsep (word b o 1) (fsep content kept)) (fex Names Held) l
     becomes_counted some l lends μ q inc =
-        qed 𝓛 (‵ (fsep (word b o 1) (fsep content kept)) ∷ ‵ (flft μ q) ∷ []) ∵ updating ! $ fsplit3 ! $ lft_new ! tt (λ m. lft_new ! tt (λ a. let i : Names = record { shared = a; unmarked = m } in
+        qed 𝓛 (‵ (fsep (word b o 1) (fsep content kept)) ∷ ‵ (flft μ q) ∷ []) ∵ updating ! $ fsplit3 ! $ use0 𝓛 (later (exists (λ (γ : ℕ). ‵ (latest logs full_share γ (kept_log []))))) (via 𝓤 _ (latest_new logs 𝓛 (kept_log [])) (basic 𝓛 _)) $ await ! tt $ pick ! (λ γ. nothing_more ! $ fpack ! (left_by ([]) ≡ 1) (λ _. ftrue) refl $ move ! (1 ∷ 0 ∷ []) $ fjoin ! $ fpack ! (List WordStep) (λ log. fsep (latest logs full_share γ (kept_log log)) (fact (left_by log ≡ 1))) ([]) $ move ! (1 ∷ 0 ∷ []) $ fjoin ! $ lft_new ! tt (λ m. lft_new ! tt (λ a. let i : Names = record { shared = a; unmarked = m; log = γ } in
         use1 𝓛 (‵ (rest 64 a 1) ⊛ ‵ (part 64 a)) (cut 64 𝓛 a 0 full_share (lit< tt) (Counts-all 64)) $ split ! $ move ! (4 ∷ []) $ bor_new ! tt (a ∷ []) $
         -- [the borrow; the lender; the parts; the part; the mark's token; the word; what is kept; the token]
         move ! (1 ∷ 6 ∷ []) $ fjoin ! $ move ! (0 ∷ 4 ∷ []) $ fjoin ! $ move ! (2 ∷ 0 ∷ []) $ fjoin ! $ nothing_more ! $ fpack ! (Says limit 1 false 1) (λ _. ftrue) (says-new limit some) $ move ! (4 ∷ 0 ∷ 1 ∷ []) $ fjoin3 ! $
@@ -62,12 +66,12 @@ module _ (content kept : Fml) (limit b o : ℕ) (t : Lft → Fml) (L : ShrLaws t
         move ! (0 ∷ 3 ∷ []) $ join ! $ move ! (2 ∷ 0 ∷ []) $
         use2 𝓛 (later (‵ (t (a ∷ [])) ⊛ ‵ (flft (a ∷ []) e) ⊛ ‵ (flft μ q)))
         (lends (a ∷ []) ((a ∷ [], e) ∷ (μ, q) ∷ []) (Incl-trans (meet_⊑_right (a ∷ []) μ) inc) (meet_⊑_left (a ∷ []) μ)) $ await ! tt $ split3 ! $
-        move ! (1 ∷ []) $ use1 𝓛 (‵ (part 64 a)) (part_in 64 𝓛 a e c) $ use1 𝓛 (‵ (stake i)) (counted_stake 𝓛 i) $ move ! (0 ∷ 3 ∷ 1 ∷ []) $ fjoin3 ! $ fpack ! Names Held i $ now ! $ done !))))
+        move ! (1 ∷ []) $ use1 𝓛 (‵ (part 64 a)) (part_in 64 𝓛 a e c) $ use1 𝓛 (‵ (stake i)) (counted_stake 𝓛 i) $ move ! (0 ∷ 3 ∷ 1 ∷ []) $ fjoin3 ! $ fpack ! Names Held i $ now ! $ done !)))))
 
     -- with the mark, its lifetime is over and the handle is made from the pool
     pub becomes_marked : (l : Lft) → Lends 𝓛 content t l → Settles 𝓛 (fsep (word b o (marked_word 1)) (fsep content kept)) (fex Names Held) l
     becomes_marked l lends μ q inc =
-        qed 𝓛 (‵ (fsep (word b o (marked_word 1)) (fsep content kept)) ∷ ‵ (flft μ q) ∷ []) ∵ updating ! $ fsplit3 ! $ lft_new ! tt (λ m. lft_new ! tt (λ a. let i : Names = record { shared = a; unmarked = m } in
+        qed 𝓛 (‵ (fsep (word b o (marked_word 1)) (fsep content kept)) ∷ ‵ (flft μ q) ∷ []) ∵ updating ! $ fsplit3 ! $ use0 𝓛 (later (exists (λ (γ : ℕ). ‵ (latest logs full_share γ (kept_log (marks ∷ [])))))) (via 𝓤 _ (latest_new logs 𝓛 (kept_log (marks ∷ []))) (basic 𝓛 _)) $ await ! tt $ pick ! (λ γ. nothing_more ! $ fpack ! (left_by (marks ∷ []) ≡ marked_word 1) (λ _. ftrue) refl $ move ! (1 ∷ 0 ∷ []) $ fjoin ! $ fpack ! (List WordStep) (λ log. fsep (latest logs full_share γ (kept_log log)) (fact (left_by log ≡ marked_word 1))) (marks ∷ []) $ move ! (1 ∷ 0 ∷ []) $ fjoin ! $ lft_new ! tt (λ m. lft_new ! tt (λ a. let i : Names = record { shared = a; unmarked = m; log = γ } in
         let s : SharedBlock = record { content = content; kept = kept; limit = limit; block = b; offset = o; names = i } in
         use1 𝓛 (‵ (rest 64 a 1) ⊛ ‵ (part 64 a)) (cut 64 𝓛 a 0 full_share (lit< tt) (Counts-all 64)) $ split ! $ move ! (4 ∷ []) $ bor_new ! tt (a ∷ []) $ move ! (3 ∷ []) $ fpick ! (λ e. fpick ! (λ c.
         -- [the part; the borrow; the lender; the parts; the mark's token; the word; what is kept; the token]
@@ -79,7 +83,7 @@ module _ (content kept : Fml) (limit b o : ℕ) (t : Lft → Fml) (L : ShrLaws t
         -- [what is beside the word; the sharing; the token; the lender; the word]
         move ! (4 ∷ 0 ∷ []) $ use2 𝓛 (‵ (Rule content kept limit b o i) ⊛ ‵ (stake i)) (makes_one 𝓛 s (marked_word 1) 0 (says-new_mark limit)) $ split ! $
         use1 𝓛 (later (‵ (finv (Rule content kept limit b o i)))) (𝓛.invs.inv_new (Rule content kept limit b o i)) $ await ! tt $
-        move ! (1 ∷ 0 ∷ 2 ∷ []) $ fjoin3 ! $ fpack ! Names Held i $ now ! $ keep ! (0 ∷ 1 ∷ []) $ done !))))
+        move ! (1 ∷ 0 ∷ 2 ∷ []) $ fjoin3 ! $ fpack ! Names Held i $ now ! $ keep ! (0 ∷ 1 ∷ []) $ done !)))))
 
     module _ (κ : Lft) where
       abbrev Owns : Fml

@@ -2,6 +2,10 @@
 use Rattle.std.proofs.Common.{ℕ, ◌+◌, Bool, true, false, [], ◌∷◌}
 use base.Fml.{Fml, Lft, Share}
 use base.Shift.{Keyless}
+use base.Fraction.{full_share}
+use base.Growing.{latest}
+use Rattle.std.proofs.Common.{List}
+use Rattle.counting_word.specs.WordSteps.{WordStep}
 use denote.RattleType.{RattleType}
 use denote.RawPtr.{Ptr, block_ptr, null_ptr, block_of, count_of as offset_of, ◌+ₚ◌}
 use denote.Builtin.{RawPtr}
@@ -12,7 +16,7 @@ use Rattle.std_heap.specs.contracts.Global.{the_row as heap_row}
 use Rattle.std_alloc.proofs.SendSync.{lies, seen, quiet}
 use Rattle.std.proofs.Crossing as crossing
 use Rattle.handles.proofs.block.Held.TheSendSync.{the_send as held_send, the_sync as held_sync}
-use Rattle.handles.specs.Inside.Blocks.{HeldRow, Names, Stage, living, over, entitled, stage, stamp, left_at, block_type, held_offset, heap_offset, held_and_block, shown, Sharing, not_yet, marked_not_yet, begun, held_as, owned_as, shared_as}
+use Rattle.handles.specs.Inside.Blocks.{HeldRow, Names, Stage, living, over, entitled, stage, logs, kept_log, stamp, left_at, block_type, held_offset, heap_offset, held_and_block, shown, Sharing, not_yet, marked_not_yet, begun, held_as, owned_as, shared_as}
 use Rattle.handles.specs.contracts.block.Handle as handle_type
 
 pointers : IsSend RawPtr
@@ -25,9 +29,13 @@ entitled-Keyless : (i : Names) (e : Share) (y : Bool) → Keyless (entitled i e 
 entitled-Keyless i e true = λ _. tt
 entitled-Keyless i e false = tt
 
+latest-Keyless : (i : Names) (log : List WordStep) → Keyless (latest logs full_share i.log (kept_log log))
+unfolding latest
+latest-Keyless i log = tt
+
 stage-Keyless : (content kept : Fml) → Keyless content → Keyless kept → (limit b o : ℕ) (i : Names) (s : Stage) → Keyless (stage content kept limit b o i s)
-stage-Keyless content kept c k limit b o i (living false w n) = (tt, ((λ _. tt), ((λ r c. tt), ((c, k), tt))))
-stage-Keyless content kept c k limit b o i (living true w n) = (tt, ((λ _. tt), ((λ r c. tt), (((λ e. tt), k), tt))))
+stage-Keyless content kept c k limit b o i (living false w n) = ((tt, λ log. (latest-Keyless i log, λ _. tt)), ((λ _. tt), ((λ r c. tt), ((c, k), tt))))
+stage-Keyless content kept c k limit b o i (living true w n) = ((tt, λ log. (latest-Keyless i log, λ _. tt)), ((λ _. tt), ((λ r c. tt), (((λ e. tt), k), tt))))
 stage-Keyless content kept c k limit b o i over = (tt, tt)
 
 module _ (R : RattleType) (s : IsSend R) (y : IsSync R) where

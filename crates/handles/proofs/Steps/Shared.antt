@@ -7,7 +7,7 @@ use mir.Val.{vint, has_ty, WT}
 pub use base.Fraction.{full_share}
 use base.FractionLaws.{Counts}
 use base.Share
-pub use base.Logic.{ex, upd_i, via, never_e, id⊢, SProp, ent, sep, never}
+pub use base.Logic.{ex, upd, upd_i, via, never_e, id⊢, SProp, ent, sep, never}
 pub use base.Fml.{Lft, fdead, finv, ftrue, Share, Fml, fsep, fex, flft, flent}
 pub use types.Logic.{Logic, sem}
 pub use types.Kit.{Item, Goal, Seq, given, learn, show, assume, ‵, ◌⊛◌, ◌$◌, ◌∵◌, !, qed, by, move, keep, drop, split, fsplit, fsplit3, fjoin, fjoin3, fpick, fpack, frame, suffices, use1, use2, done}
@@ -16,11 +16,20 @@ use denote.RawPtr.{Ptr, block_ptr, block_of, count_of as offset_of}
 pub use denote.Steps.{nothing as nothing_more}
 use Rattle.core.specs.Sync.RawAtomic.{asks, always, word}
 pub use Rattle.counting_word.specs.Rights.{Right, to_lower, nothing, a_handle, whole_block, right_by_read}
-pub use Rattle.handles.specs.Inside.Blocks.{HeldRow, Names, living, beside_word, stage, Rule, stamp, held_and_block, Says, unit_of_count, unshared, marked, entitled, stake, Stage, over}
+pub use Rattle.handles.specs.Inside.Blocks.{HeldRow, Names, living, beside_word, stage, Rule, stamp, held_and_block, Says, unit_of_count, unshared, marked, entitled, stake, Stage, over, fact, logs, kept_log, reached, recorded, logged}
+pub use Rattle.counting_word.specs.WordSteps.{WordStep, word_by, left_by}
+use Rattle.counting_word.proofs.WordLogs.{left_by-more}
+use Rattle.handles.proofs.Framing.{shifted_framed}
 use Rattle.handles.proofs.Asking as asking
 pub use Rattle.counting_word.specs.CountingWord.{mark_bit, StandsFor, is_one_handle}
 pub use mathlib.Core.Logic.{dite}
 pub use native.Mathlib.Decide.{ℕ_discrete}
+use types.Kit.{settle, raw}
+use types.Growing.{latest_grows, latest_shows}
+use base.Growing.{latest}
+use base.Stored.{Gv}
+use mathlib.Core.List.{IsPrefix}
+use Rattle.std.proofs.Common.{◌++◌, map}
 pub use types.RcWeak.{rest, takes, part_in}
 pub use Rattle.counting_word.proofs.Words.{count_of-unmarked, is_one_handle-marked, is_one_handle-unmarked}
 
@@ -45,8 +54,13 @@ module _ (s : SharedBlock) where
   abbrev pub unmarked : Lft
   unmarked = s.names.unmarked ∷ []
 
+  -- the word, and the log that leaves it
   abbrev pub counts : ℕ → Fml
-  counts = word s.block s.offset
+  counts w = fsep (word s.block s.offset w) (recorded s.names w)
+
+  -- what a step leaves, and that it is in the log
+  abbrev pub and_logged : WordStep → (ℕ → Fml) → ℕ → Fml
+  and_logged step after w = fsep (logged s.names step w) (after w)
 
   abbrev pub beside : Bool → ℕ → Fml
   beside = beside_word s.content s.kept s.limit s.block s.offset s.names
@@ -110,18 +124,42 @@ module _ {M : Type 1} {𝓤 : Ura M} (𝓛 : Logic 𝓤) where
 
     -- what lies there is a word
     module _ {K : Type 0} {Γ : List (Item 𝓤)} {G : Goal 𝓤 H} where
-      fits : K → (n : ℕ) → (n < 2 ^ 64 → Seq K 𝓛 (‵ (counts s n) ∷ Γ) G) → Seq K 𝓛 (‵ (counts s n) ∷ Γ) G
-      fits t n k = use1 𝓛 (given (lib.Dec.T (has_ty (ty_int w64) (vint w64 n)) × WT (vint w64 n)) (‵ (counts s n))) (𝓛.laws.at_wt full_share (ty_int w64) s.block s.offset (vint w64 n)) $ learn t (λ g. k g.1.fits)
+      fits : K → (n : ℕ) → (n < 2 ^ 64 → Seq K 𝓛 (‵ (word s.block s.offset n) ∷ Γ) G) → Seq K 𝓛 (‵ (word s.block s.offset n) ∷ Γ) G
+      fits t n k = use1 𝓛 (given (lib.Dec.T (has_ty (ty_int w64) (vint w64 n)) × WT (vint w64 n)) (‵ (word s.block s.offset n))) (𝓛.laws.at_wt full_share (ty_int w64) s.block s.offset (vint w64 n)) $ learn t (λ g. k g.1.fits)
 
-    -- A step is proved by what it does on a living block: its maker has X, which no block that is over leaves to anyone.
-    module _ (f : ℕ → ℕ) (after : ℕ → Fml) (X : Fml) where
+    -- A step is proved by what it does on a living block: its maker has X, which no block that is over leaves to anyone. It
+    -- goes into the log.
+    module _ (step : WordStep) (f : ℕ → ℕ) (is : (w : ℕ) → w < 2 ^ 64 → word_by step w ≡ f w) (after : ℕ → Fml) (X : Fml) where
       abbrev pub Steps : Type 1
       Steps = (j : ℕ) (mark : Bool) (w n : ℕ) → w < 2 ^ 64 → Says s.limit w mark n → Lands (f w) mark n X (after w) j
 
-      pub stepped : Steps → ent 𝓤 (sem 𝓛 (fsep (unshared s.names) X)) (never 𝓤) → Asks f X after
-      stepped steps over-not = asking.opened 𝓛 (rule s) s.block s.offset f after X (λ j. qed 𝓛 (‵ (rule s) ∷ ‵ X ∷ []) ∵ suffices ! _ (upd_i 𝓤 (ex 𝓤 (asking.Lies 𝓛 (rule s) s.block s.offset f after j))) $ fpick ! (λ g. by ! (at j g)))
+      begins : (log : List WordStep) → IsPrefix (kept_log log) (kept_log (log ++ step ∷ []))
+      begins [] = (kept_log (step ∷ []), refl)
+      begins (x ∷ xs) = let more : IsPrefix (kept_log xs) (kept_log (xs ++ step ∷ [])) = begins xs in (more.0, ap (λ (l : List Gv). kept_log (x ∷ []) ++ l) more.1)
+
+      records : (w : ℕ) → w < 2 ^ 64 → ent 𝓤 (sem 𝓛 (recorded s.names w)) (upd 𝓤 (sem 𝓛 (fsep (recorded s.names (f w)) (logged s.names step w))))
+      records w small = let γ : ℕ = s.names.log in let Z : SProp 𝓤 = sem 𝓛 (fsep (recorded s.names (f w)) (logged s.names step w)) in qed 𝓛 (‵ (recorded s.names w) ∷ []) ∵ fpick ! (λ log. fsplit ! $ move ! (1 ∷ []) $ fpick ! (λ left. drop ! $ let more : List WordStep = log ++ step ∷ [] in
+          use1 𝓛 (raw (upd 𝓤 (sem 𝓛 (latest logs full_share γ (kept_log more))))) (latest_grows logs 𝓛 γ (kept_log log) (kept_log more) (begins log)) $ settle 𝓛 Z (‵ (latest logs full_share γ (kept_log more))) $
+          use1 𝓛 (‵ (latest logs full_share γ (kept_log more)) ⊛ ‵ (reached s.names more)) (latest_shows logs 𝓛 full_share γ (kept_log more) (kept_log more) (logs.same (kept_log more))) $ split ! $ suffices ! _ (upd_i 𝓤 Z) $
+          nothing_more ! $ fpack ! (left_by more ≡ f w) (λ _. ftrue) (left_by-more log step w left ∙ is w small) $ move ! (1 ∷ 0 ∷ []) $ fjoin ! $
+          fpack ! (List WordStep) (λ log. fsep (latest logs full_share γ (kept_log log)) (fact (left_by log ≡ f w))) more $ move ! (1 ∷ []) $
+          nothing_more ! $ fpack ! (left_by log ≡ w) (λ _. ftrue) left $ move ! (1 ∷ 0 ∷ []) $ fjoin ! $
+          fpack ! (List WordStep) (λ log. fsep (reached s.names (log ++ step ∷ [])) (fact (left_by log ≡ w))) log $ move ! (1 ∷ 0 ∷ []) $ fjoin ! $ done !))
+
+      pub stepped : Steps → ent 𝓤 (sem 𝓛 (fsep (unshared s.names) X)) (never 𝓤) → Asks f X (and_logged s step after)
+      stepped steps over-not = asking.opened 𝓛 (rule s) s.block s.offset f (and_logged s step after) X (λ j. qed 𝓛 (‵ (rule s) ∷ ‵ X ∷ []) ∵ fpick ! (λ g. by ! (at j g)))
         where
-          at : (j : ℕ) (g : Stage) → ent 𝓤 (sem 𝓛 (fsep (at_stage s g) X)) (ex 𝓤 (asking.Lies 𝓛 (rule s) s.block s.offset f after j))
-          at j (living mark w n) = qed 𝓛 (‵ (at_stage s (living mark w n)) ∷ ‵ X ∷ []) ∵ fsplit3 ! $ move ! (1 ∷ []) $ fpick ! (λ says. drop ! $ fits ! w (λ small.
-              show ! (asking.Lies 𝓛 (rule s) s.block s.offset f after j) w $ frame ! $ assume ! (‵ (counts s (f w))) $ by ! (steps j mark w n small says)))
+          Goes : ℕ → SProp 𝓤
+          Goes j = ex 𝓤 (asking.Lies 𝓛 (rule s) s.block s.offset f (and_logged s step after) j)
+
+          swaps : (w : ℕ) → ent 𝓤 (sep 𝓤 (sem 𝓛 (after w)) (sem 𝓛 (logged s.names step w))) (sem 𝓛 (and_logged s step after w))
+          swaps w = qed 𝓛 (‵ (after w) ∷ ‵ (logged s.names step w) ∷ []) ∵ move ! (1 ∷ 0 ∷ []) $ fjoin ! $ done !
+
+          at : (j : ℕ) (g : Stage) → ent 𝓤 (sem 𝓛 (fsep (at_stage s g) X)) (upd 𝓤 (Goes j))
+          at j (living mark w n) = qed 𝓛 (‵ (at_stage s (living mark w n)) ∷ ‵ X ∷ []) ∵ fsplit3 ! $ move ! (1 ∷ []) $ fpick ! (λ says. drop ! $ fsplit ! $ fits ! w (λ small. move ! (1 ∷ []) $
+              use1 𝓛 (raw (upd 𝓤 (sem 𝓛 (fsep (recorded s.names (f w)) (logged s.names step w))))) (records w small) $ settle 𝓛 (Goes j) (‵ (fsep (recorded s.names (f w)) (logged s.names step w))) $ fsplit ! $
+              -- [the log; what is in it; the word; what is beside it; what its maker has]
+              suffices ! _ (upd_i 𝓤 (Goes j)) $ show ! (asking.Lies 𝓛 (rule s) s.block s.offset f (and_logged s step after) j) w $ move ! (2 ∷ []) $ frame ! $ assume ! (‵ (word s.block s.offset (f w))) $
+              fjoin ! $ move ! (0 ∷ 2 ∷ 3 ∷ []) $ fjoin3 ! $ use1 𝓛 (raw (asking.Ending 𝓛 (rule s) (after w) j)) (steps j mark w n small says) $
+              by ! (shifted_framed 𝓛 (sem 𝓛 (after w)) (sem 𝓛 (and_logged s step after w)) (sem 𝓛 (logged s.names step w)) (swaps w) ((j, rule s) ∷ []))))
           at j over = qed 𝓛 (‵ (at_stage s over) ∷ ‵ X ∷ []) ∵ fsplit ! $ keep ! (0 ∷ 2 ∷ []) $ by ! (via 𝓤 (never 𝓤) over-not (never_e 𝓤 _))

@@ -6,8 +6,10 @@
 --     token of that lifetime; the invariant has the parts that no handle has.
 --   * `unmarked` is the lifetime that ends with the mark. Its token lies in the invariant until then, so whoever knows
 --     it to be over knows the block to be marked, from then on for good.
-use Rattle.std.specs.Prelude.{◌≡◌, ◌⊎◌, ℕ, ◌+◌, Bool, true, false, List, [], ◌∷◌}
+use Rattle.std.specs.Prelude.{◌≡◌, ◌⊎◌, ℕ, ◌+◌, Bool, true, false, List, [], ◌∷◌, ◌++◌, map}
 use base.Fraction.{full_share}
+use base.Stored.{Gv, Coded}
+use base.Growing.{Order, prefixes, latest, at_least}
 use base.FractionLaws.{Counts}
 use base.Fml.{Lft, Share, Fml, ftrue, ffalse, fsep, fex, flft, fdead, flent, finv, fleft}
 use mir.Syntax.{Ty, ty_struct}
@@ -26,6 +28,7 @@ use Rattle.std_heap.specs.contracts.Global.{the_row as heap_row}
 use Rattle.std.specs.contracts.impls.GlobalAllocator.TheImpl.{ghosts}
 use Rattle.counting_word.specs.CountingWord.{StandsFor, IsWithin, marked_word}
 use Rattle.handles.specs.contracts.block.Held.{the_row as held_row}
+use Rattle.counting_word.specs.WordSteps.{WordStep, coded_step, left_by}
 use Rattle.counting_word.specs.Rights.{Right, nothing, a_handle, to_lower, whole_block}
 
 abbrev pub fact : Type 0 → Fml
@@ -34,6 +37,17 @@ fact φ = fex φ (λ _. ftrue)
 pub record Names : Type 0 where
   pub shared : ℕ
   pub unmarked : ℕ
+  pub log : ℕ
+
+-- logs are kept as their ghost values
+abbrev pub itself : Coded Gv
+itself = record { code = λ g. g; inj = λ x y p. p }
+
+abbrev pub logs : Order (List Gv)
+logs = prefixes itself
+
+abbrev pub kept_log : List WordStep → List Gv
+kept_log log = map (λ (s : WordStep). coded_step.code s) log
 
 module _ (i : Names) where
   -- one unit of the count
@@ -45,6 +59,18 @@ module _ (i : Names) where
 
   abbrev pub marked : Fml
   marked = fdead (i.unmarked ∷ [])
+
+  -- the log of the sharing began with these steps
+  abbrev pub reached : List WordStep → Fml
+  reached log = at_least logs i.log (kept_log log)
+
+  -- the log of the sharing, whose steps leave this word
+  abbrev pub recorded : ℕ → Fml
+  recorded w = fex (List WordStep) (λ log. fsep (latest logs full_share i.log (kept_log log)) (fact (left_by log ≡ w)))
+
+  -- the log had this step, which found this word
+  abbrev pub logged : WordStep → ℕ → Fml
+  logged s w = fex (List WordStep) (λ log. fsep (reached (log ++ s ∷ [])) (fact (left_by log ≡ w)))
 
   -- a handle's right to its share of the token: it is one part, which the word counts, or the block is marked for good
   abbrev pub entitled : Share → Bool → Fml
@@ -78,7 +104,7 @@ module _ (content kept : Fml) (limit b o : ℕ) (i : Names) where
   -- Each counted part is of a live handle or of a drop in flight.
   -- A block that is over has the token of `unmarked` for good: it never was marked.
   abbrev pub stage : Stage → Fml
-  stage (living mark w n) = fsep (word b o w) (fsep (fact (Says limit w mark n)) (beside_word mark n))
+  stage (living mark w n) = fsep (fsep (word b o w) (recorded i w)) (fsep (fact (Says limit w mark n)) (beside_word mark n))
   stage over = fsep (unshared i) (flft (i.unmarked ∷ []) full_share)
 
   abbrev pub Rule : Fml

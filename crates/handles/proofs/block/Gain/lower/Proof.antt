@@ -2,7 +2,8 @@
 use Rattle.handles.proofs.Walks.{◌≡◌, ℕ, ◌+◌, [], ◌∷◌, refl, sym, ap, lit<, w64, a_type, Val, vint, vptr, inst_fn, SProp, via, Lft, Share, Fml, ftrue, flft, finv, ‵, raw, ◌⊛◌, later, mean, at_ret, ◌$◌, ◌∵◌, !, qed, by, move, keep, drop, split, join, fsplit, fjoin, fpick, use1, use2, await, rewrite, stop, fld, addr, lit, of_opd, no_more, and_then, first, blocks, exec, Calls-last, returns, enter, alloc_all, pass_all, free_all, look_at, get, get_in, through, sets, lands_last, is, env, agg, sub, whole, tables, fact, no, RattleType, owns, types_at, plain, Ptr, block_ptr, ptr_val, block_of, offset_of, at_block, nothing_more, heard, param, layouts, Stays, stay_dropped, walk_of, Goes-dropped, after, proved, leaves, fm, seq_cst, found, finds, Right, HeldRow, block_rule, gain_owns, one_word, word_and_gain, one_word-Good, words_told, GainRow, known, returns_gain, word_and_gain-Good}
 use Rattle.atomic_table.proofs.Calls.{subs}
 use Rattle.counting_word.specs.Rights.{to_lower, right_by_lower}
-use Rattle.handles.proofs.Steps.Shared.{block_at}
+use Rattle.counting_word.specs.WordSteps as step
+use Rattle.handles.proofs.Steps.Shared.{block_at, and_logged}
 use Rattle.handles.proofs.Steps.Lowers.{lowers, after_lower}
 use Rattle.handles.proofs.Fields.{lower-NoHandle, gain_kept}
 use Rattle.handles.specs.contracts.block.Gain as gain_type
@@ -23,13 +24,13 @@ lower_spec 𝓤 𝓛 𝓜 𝓡 wired T L =
     rewrite ! 0 (λ (r : Right). ‵ (gain_owns R p x r)) asked refl $ fsplit ! $ fpick ! (λ inb. drop ! $ let at : p ≡ block_ptr pb po = at_block p inb in
     enter ! 𝓣.C 𝓣.Λ fn (one_word p ∷ []) Post $ fpick ! (λ i. fsplit ! $ alloc_all ! (λ l. pass_all ! refl (one_word-Good p, tt) $ let Ev = env fn.locals l in
     -- [the part; the rule; the tokens]
-    let I : Fml = block_rule R p x i in let aft : ℕ → Fml = after_lower (block_at R p x i) in
+    let I : Fml = block_rule R p x i in let aft : ℕ → Fml = and_logged (block_at R p x i) step.lowers (after_lower (block_at R p x i)) in
     sets ! (is ! (of_opd ! (get_in ! (fld ! refl (stop !)) (sub ! 0 refl (whole !)))) (ap ptr_val at)) refl (tt, tt) $ first ! $ blocks ! $ sets ! (addr ! (through ! refl (fld ! refl (stop !)))) refl (tt, tt) $
     move ! (1 ∷ []) $ use1 𝓛 (‵ (finv I) ⊛ ‵ (finv I)) (𝓛.invs.inv_dup I) $ split ! $ move ! (0 ∷ 2 ∷ []) $
     use2 𝓛 (raw (𝓣.C _ (vptr pb (po + 0) ∷ vint w64 1 ∷ seq_cst ∷ []) (λ u. mean 𝓛 (found aft u)))) (via 𝓤 _ (lowers 𝓛 (block_at R p x i)) (subs 𝓛 𝓜 𝓡 (code.calls-core::raw_atomic::fetch_sub 𝓡.env wired) (block_ptr pb (po + 0)) 1 (lit< tt) aft)) $
     sets ! (agg ! (and_then ! (lit ! tt) (no_more !))) refl (tt, (record { fits = lit< tt }, tt)) $
     Calls-last ! (fm 𝓛 𝓜 𝓡) (found aft) (and_then ! (get ! refl) (and_then ! (lit ! tt) (and_then ! (get ! refl) (no_more !)))) (λ u. finds ! aft (λ n fits. let r' : Right = right_by_lower n in
-    lands_last ! refl (tt, record { fits = fits }) $ exec ! 𝓣.C 𝓣.Λ Ev (after 2 fn.body) (at_ret Ev Post) $ sets ! (of_opd ! (get ! refl)) refl (tt, record { fits = fits }) $
+    lands_last ! refl (tt, record { fits = fits }) $ exec ! 𝓣.C 𝓣.Λ Ev (after 2 fn.body) (at_ret Ev Post) $ sets ! (of_opd ! (get ! refl)) refl (tt, record { fits = fits }) $ fsplit ! $ drop ! $
     use2 𝓛 (later (‵ (gain_owns R p x r'))) (gain_kept 𝓛 R p x inb i r' (lower-NoHandle n)) $ await ! tt $
     sets ! (is ! (agg ! (and_then ! (get ! refl) (no_more !))) (ap one_word (sym at))) refl (one_word-Good p) $ sets ! (agg ! (and_then ! (get ! refl) (and_then ! (get ! refl) (no_more !)))) refl (word_and_gain-Good n fits p) $
     returns_gain R p x ! n fits r' $ known ! (x ≡ x) refl $ known ! (r' ≡ r') refl $ join ! $ nothing_more ! $ nothing_more ! $ fjoin ! $

@@ -10,7 +10,8 @@ use Rattle.atomic_table.proofs.Calls.{loads}
 use Rattle.counting_word.specs.CountingWord.{is_one_handle}
 use Rattle.counting_word.specs.Rights.{right_by_claim}
 use Rattle.handles.specs.Inside.Blocks.{counted_handle, owned_as, handle_owns}
-use Rattle.handles.proofs.Steps.Shared.{block_at}
+use Rattle.counting_word.specs.WordSteps as step
+use Rattle.handles.proofs.Steps.Shared.{block_at, and_logged}
 use Rattle.handles.proofs.Steps.Claims.{claims, after_claim}
 use Rattle.handles.proofs.Fields.{gain_shown, claim_tells}
 use Rattle.handles.proofs.Owners.{forgets, handle_settles}
@@ -38,13 +39,13 @@ claim_spec 𝓤 𝓛 𝓜 𝓡 wired T L =
     -- [what it owns; its cell; the open borrow; its two names; its place; nothing; the token of T; nothing]
     use1 𝓛 (‵ (owned_as R p x false)) (forgets R (param_laws 0 T L) 𝓛 p x me.sole) $ move ! (0 ∷ 7 ∷ []) $
     use2 𝓛 (later (‵ (counted_handle R p x) ⊛ ‵ (flft μ r))) (handle_settles R (param_laws 0 T L) 𝓛 p x μ lives μ r (Incl-refl μ)) $ await ! tt $ split ! $ fpick ! (λ i. fsplit3 ! $
-    let I : Fml = block_rule R p x i in let aft : ℕ → Fml = after_claim (block_at R p x i) in
+    let I : Fml = block_rule R p x i in let aft : ℕ → Fml = and_logged (block_at R p x i) step.claims (after_claim (block_at R p x i)) in
     sets ! (of_opd ! (load ! (through ! refl (fld ! refl (stop !))) (look_in ! 4 (sub ! 0 refl (whole !))))) refl (tt, tt) $
     first ! $ blocks ! $ sets ! (addr ! (through ! refl (fld ! refl (stop !)))) refl (tt, tt) $ move ! (1 ∷ []) $ use1 𝓛 (‵ (finv I) ⊛ ‵ (finv I)) (𝓛.invs.inv_dup I) $ split ! $ move ! (0 ∷ 2 ∷ []) $
     use2 𝓛 (raw (𝓣.C _ (vptr pb (po + 0) ∷ seq_cst ∷ []) (λ u. mean 𝓛 (found aft u)))) (via 𝓤 _ (claims 𝓛 (block_at R p x i)) (loads 𝓛 𝓜 𝓡 (code.calls-core::raw_atomic::load 𝓡.env wired) (block_ptr pb (po + 0)) aft)) $
     sets ! (agg ! (and_then ! (lit ! tt) (no_more !))) refl (tt, (record { fits = lit< tt }, tt)) $
     Calls-last ! (fm 𝓛 𝓜 𝓡) (found aft) (and_then ! (get ! refl) (and_then ! (get ! refl) (no_more !))) (λ u. finds ! aft (λ n fits. let told : Self.Denot = record { block = p; held = x; sole = is_one_handle n } in
-    lands_last ! refl (tt, record { fits = fits }) $ exec ! 𝓣.C 𝓣.Λ Ev (after 2 fn.body) (at_ret Ev Post) $ sets ! (of_opd ! (get ! refl)) refl (tt, record { fits = fits }) $
+    lands_last ! refl (tt, record { fits = fits }) $ exec ! 𝓣.C 𝓣.Λ Ev (after 2 fn.body) (at_ret Ev Post) $ sets ! (of_opd ! (get ! refl)) refl (tt, record { fits = fits }) $ fsplit ! $ drop ! $
     use3 𝓛 (later (‵ (gain_owns R p x (right_by_claim n)))) (gain_shown 𝓛 R p x inb i (right_by_claim n)) $ await ! tt $ use1 𝓛 (‵ (handle_owns R p x (is_one_handle n))) (claim_tells 𝓛 R p x (is_one_handle n)) $
     -- [what is gained; the token of T; the cell; the open borrow; its two names; its place; nothing; nothing]
     rewrite ! 2 (λ (z : Ptr). ‵ (cell_at full_share Self.mir (one_word z ∷ []) b o)) (sym at) refl $

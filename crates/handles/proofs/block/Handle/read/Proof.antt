@@ -3,7 +3,8 @@ use Rattle.handles.proofs.Walks.{◌≡◌, ℕ, ◌+◌, false, [], ◌∷◌, 
 use Rattle.atomic_table.proofs.Calls.{loads}
 use Rattle.counting_word.specs.CountingWord.{IsWithin}
 use Rattle.counting_word.specs.Rights.{right_by_read}
-use Rattle.handles.proofs.Steps.Shared.{block_at}
+use Rattle.counting_word.specs.WordSteps as step
+use Rattle.handles.proofs.Steps.Shared.{block_at, and_logged}
 use Rattle.handles.proofs.Steps.Reads.{reads, after_read}
 use Rattle.handles.specs.contracts.block.Handle.read.{ended, clauses}
 use Rattle.handles.specs.contracts.block.Handle.read.Key.{name as #self}
@@ -23,12 +24,12 @@ read_spec 𝓤 𝓛 𝓜 𝓡 wired T L =
     -- [the word; what it says; the token's way back; the open borrow; the share; the rule; the sharing; the other tokens]
     sets ! (of_opd ! (load ! (through ! refl (fld ! refl (stop !))) (look_in ! 0 (sub ! 0 refl (whole !))))) refl (tt, tt) $ shuts ! tt D r (p, tt) (one_word (block_ptr pb po) ∷ []) b o $
     -- [half of the token; the open borrow; the share; the rule; the sharing; the other tokens]
-    let I : Fml = block_rule R p x i in let aft : ℕ → Fml = after_read (block_at R p x i) e in
+    let I : Fml = block_rule R p x i in let aft : ℕ → Fml = and_logged (block_at R p x i) step.reads (after_read (block_at R p x i) e) in
     first ! $ blocks ! $ sets ! (addr ! (through ! refl (fld ! refl (stop !)))) refl (tt, tt) $ move ! (3 ∷ []) $ use1 𝓛 (‵ (finv I) ⊛ ‵ (finv I)) (𝓛.invs.inv_dup I) $ split ! $ move ! (0 ∷ 4 ∷ []) $
     use2 𝓛 (raw (𝓣.C _ (vptr pb (po + 0) ∷ seq_cst ∷ []) (λ u. mean 𝓛 (found aft u)))) (via 𝓤 _ (reads 𝓛 (block_at R p x i) e) (loads 𝓛 𝓜 𝓡 (code.calls-core::raw_atomic::load 𝓡.env wired) (block_ptr pb (po + 0)) aft)) $
     sets ! (agg ! (and_then ! (lit ! tt) (no_more !))) refl (tt, (record { fits = lit< tt }, tt)) $
     Calls-last ! (fm 𝓛 𝓜 𝓡) (found aft) (and_then ! (get ! refl) (and_then ! (get ! refl) (no_more !))) (λ u. finds ! aft (λ n fits. let r' : Right = right_by_read n in
-    lands_last ! refl (tt, record { fits = fits }) $ exec ! 𝓣.C 𝓣.Λ Ev (after 2 fn.body) (at_ret Ev Post) $ sets ! (of_opd ! (get ! refl)) refl (tt, record { fits = fits }) $
+    lands_last ! refl (tt, record { fits = fits }) $ exec ! 𝓣.C 𝓣.Λ Ev (after 2 fn.body) (at_ret Ev Post) $ sets ! (of_opd ! (get ! refl)) refl (tt, record { fits = fits }) $ fsplit ! $ drop ! $
     -- [the share, the word's bound and the gain; the rule; half of the token; the open borrow; the sharing; the other tokens]
     fsplit3 ! $ move ! (1 ∷ []) $ fpick ! (λ within. drop ! $ move ! (0 ∷ 3 ∷ 4 ∷ []) $ closes_borrow ! tt $ move ! (0 ∷ 4 ∷ []) $ join ! $ move ! (1 ∷ 2 ∷ 3 ∷ []) $ shows_gain R p x ! tt inb i r' $
     sets ! (is ! (agg ! (and_then ! (get ! refl) (no_more !))) (ap one_word (sym (at_block p inb)))) refl (one_word-Good p) $ sets ! (agg ! (and_then ! (get ! refl) (and_then ! (get ! refl) (no_more !)))) refl (word_and_gain-Good n fits p) $

@@ -1,7 +1,7 @@
 -- The atomic steps on the word of a block: what each leaves its maker with, and which word it leaves, by the word that it
 -- finds. The steps of a handle and those of the core are steps of this table.
 use Rattle.std.specs.Prelude.{◌≡◌, ℕ, zero, suc, ◌+◌, ◌-◌, nat_eq, if◌then◌else◌, List, [], ◌∷◌, ◌++◌, refl}
-use Rattle.std.specs.Coded.{Coded, code_by, coded_ℕ}
+use Rattle.std.specs.Coded.{Coded, code_by, coded_ℕ, coded_list}
 use Rattle.counting_word.specs.CountingWord.{marked_word}
 use Rattle.counting_word.specs.Rights.{Right, nothing, right_by_read, right_by_raise, right_by_last_read, right_by_lower, right_by_claim}
 
@@ -79,3 +79,12 @@ step_of-number_of (raises_from seen) = refl
 -- a step as a number, by which proofs tell steps apart
 abbrev pub coded_step : Coded WordStep
 coded_step = code_by ℕ coded_ℕ number_of step_of step_of-number_of
+
+abbrev pub coded_log : Coded (List WordStep)
+coded_log = coded_list coded_step
+
+-- The new log goes on from the old one, and ends with this step, which found this word.
+pub record Adds (old : List WordStep) (s : WordStep) (found : ℕ) (new : List WordStep) : Type 0 where
+  pub others : List WordStep
+  pub found_word : left_by (old ++ others) ≡ found
+  pub ends : new ≡ (old ++ others) ++ s ∷ []

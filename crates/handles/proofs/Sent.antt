@@ -29,14 +29,14 @@ entitled-Keyless : (i : Names) (e : Share) (y : Bool) → Keyless (entitled i e 
 entitled-Keyless i e true = λ _. tt
 entitled-Keyless i e false = tt
 
-latest-Keyless : (i : Names) (log : List WordStep) → Keyless (latest logs full_share i.log (kept_log log))
+latest-Keyless : (η : ℕ) (log : List WordStep) → Keyless (latest logs full_share η (kept_log log))
 unfolding latest
-latest-Keyless i log = tt
+latest-Keyless η log = tt
 
-stage-Keyless : (content kept : Fml) → Keyless content → Keyless kept → (limit b o : ℕ) (i : Names) (s : Stage) → Keyless (stage content kept limit b o i s)
-stage-Keyless content kept c k limit b o i (living false w n) = ((tt, λ log. (latest-Keyless i log, λ _. tt)), ((λ _. tt), ((λ r c. tt), ((c, k), tt))))
-stage-Keyless content kept c k limit b o i (living true w n) = ((tt, λ log. (latest-Keyless i log, λ _. tt)), ((λ _. tt), ((λ r c. tt), (((λ e. tt), k), tt))))
-stage-Keyless content kept c k limit b o i over = (tt, tt)
+stage-Keyless : (content kept : Fml) → Keyless content → Keyless kept → (limit b o η : ℕ) (i : Names) (s : Stage) → Keyless (stage content kept limit b o η i s)
+stage-Keyless content kept c k limit b o η i (living false w n) = ((tt, λ log. (latest-Keyless η log, λ _. tt)), ((λ _. tt), ((λ r c. tt), ((c, k), tt))))
+stage-Keyless content kept c k limit b o η i (living true w n) = ((tt, λ log. (latest-Keyless η log, λ _. tt)), ((λ _. tt), ((λ r c. tt), (((λ e. tt), k), tt))))
+stage-Keyless content kept c k limit b o η i over = (tt, tt)
 
 module _ (R : RattleType) (s : IsSend R) (y : IsSync R) where
   left-Keyless : (p : Ptr) → Keyless (left_at R p)
@@ -49,33 +49,33 @@ module _ (R : RattleType) (s : IsSend R) (y : IsSync R) where
   stamp-Keyless : (p : Ptr) → Keyless (stamp p)
   stamp-Keyless p = λ n. tt
 
-  rule-Keyless : (p : Ptr) (x : (HeldRow R).Denot) (i : Names) (z : Stage) → Keyless (stage (held_and_block R p x) (stamp p) x.limit.count (block_of p) (offset_of p + 0) i z)
-  rule-Keyless p x = stage-Keyless (held_and_block R p x) (stamp p) (content-Keyless p x) (stamp-Keyless p) x.limit.count (block_of p) (offset_of p + 0)
+  rule-Keyless : (p : Ptr) (x : (HeldRow R).Denot) (η : ℕ) (i : Names) (z : Stage) → Keyless (stage (held_and_block R p x) (stamp p) x.limit.count (block_of p) (offset_of p + 0) η i z)
+  rule-Keyless p x η = stage-Keyless (held_and_block R p x) (stamp p) (content-Keyless p x) (stamp-Keyless p) x.limit.count (block_of p) (offset_of p + 0) η
 
   shown-Common : (p : Ptr) (x : (HeldRow R).Denot) → Common (shown R p x)
   shown-Common p x = seen (HeldRow R) (held_sync R y) (p +ₚ held_offset R) x
 
-  handle-Keyless : (p : Ptr) (x : (HeldRow R).Denot) (z : Sharing) → Keyless (held_as R p x z)
-  handle-Keyless p x not_yet = (tt, (content-Keyless p x, stamp-Keyless p))
-  handle-Keyless p x marked_not_yet = (tt, (content-Keyless p x, stamp-Keyless p))
-  handle-Keyless p x begun = λ i. ((λ e. (entitled-Keyless i e, tt)), (rule-Keyless p x i, shown-Common p x (i.shared ∷ [])))
+  handle-Keyless : (p : Ptr) (x : (HeldRow R).Denot) (η : ℕ) (z : Sharing) → Keyless (held_as R p x η z)
+  handle-Keyless p x η not_yet = ((tt, λ log. (latest-Keyless η log, λ _. tt)), (content-Keyless p x, stamp-Keyless p))
+  handle-Keyless p x η marked_not_yet = ((tt, λ log. (latest-Keyless η log, λ _. tt)), (content-Keyless p x, stamp-Keyless p))
+  handle-Keyless p x η begun = λ i. ((λ e. (entitled-Keyless i e, tt)), (rule-Keyless p x η i, shown-Common p x (i.shared ∷ [])))
 
-  owned-Keyless : (p : Ptr) (x : (HeldRow R).Denot) (sole : Bool) → Keyless (owned_as R p x sole)
-  owned-Keyless p x true = (tt, (content-Keyless p x, stamp-Keyless p))
-  owned-Keyless p x false = handle-Keyless p x
+  owned-Keyless : (p : Ptr) (x : (HeldRow R).Denot) (η : ℕ) (sole : Bool) → Keyless (owned_as R p x η sole)
+  owned-Keyless p x η true = ((tt, λ log. (latest-Keyless η log, λ _. tt)), (content-Keyless p x, stamp-Keyless p))
+  owned-Keyless p x η false = handle-Keyless p x η
 
-  shared-Keyless : (p : Ptr) (x : (HeldRow R).Denot) (sole : Bool) (κ : Lft) → Keyless (shared_as R p x sole κ)
-  shared-Keyless p x true κ = shown-Common p x κ
-  shared-Keyless p x false κ = λ i. ((λ q. tt), (rule-Keyless p x i, shown-Common p x (i.shared ∷ [])))
+  shared-Keyless : (p : Ptr) (x : (HeldRow R).Denot) (η : ℕ) (sole : Bool) (κ : Lft) → Keyless (shared_as R p x η sole κ)
+  shared-Keyless p x η true κ = shown-Common p x κ
+  shared-Keyless p x η false κ = λ i. ((λ q. tt), (rule-Keyless p x η i, shown-Common p x (i.shared ∷ [])))
 
   fields-Send : AllSend (fields (handle_type.the_type R))
   fields-Send = (pointers, tt)
 
 pub handle-Send : (R : RattleType) → IsSend R → IsSync R → IsSend (handle_type.the_row R)
 handle-Send R s y = let O = handle_type.the_type R in
-    owning_send O (fields-Send R s y) (λ d. ((λ _. tt), owned-Keyless R s y d.block d.held d.sole)) (λ k. quiet (to O) (exits_of k (fields O)) ((struct_send (shape O) (fields-Send R s y)).leaving k))
+    owning_send O (fields-Send R s y) (λ d. ((λ _. tt), owned-Keyless R s y d.block d.held d.id d.sole)) (λ k. quiet (to O) (exits_of k (fields O)) ((struct_send (shape O) (fields-Send R s y)).leaving k))
 
 pub handle-Sync : (R : RattleType) → IsSend R → IsSync R → IsSync (handle_type.the_row R)
 handle-Sync R s y = let O = handle_type.the_type R in record {
-  shared = λ d b o κ. ((struct_sync (shape O) (pointers_shared, tt)).shared (to O d) b o κ, ((λ _. tt), shared-Keyless R s y d.block d.held d.sole κ));
+  shared = λ d b o κ. ((struct_sync (shape O) (pointers_shared, tt)).shared (to O d) b o κ, ((λ _. tt), shared-Keyless R s y d.block d.held d.id d.sole κ));
 }

@@ -8,9 +8,9 @@ use Rattle.handles.specs.declared.attempt.Attempt.TheVariants.{Made, Full, Lost}
 
 -- A handle that was made holds the same, and so does what a lost raise gained.
 abbrev pub IsAttempt : {X : Type 0} → Handle X → Attempt X → Type 0
-IsAttempt of (Made h) = (h.held ≡ of.held) × (h.sole ≡ false)
+IsAttempt of (Made h) = (h.held ≡ of.held) × (h.sole ≡ false) × (h.id ≡ of.id)
 IsAttempt of Full = Unit {0}
-IsAttempt of (Lost seen) = (seen.gain.held ≡ of.held) × (seen.gain.block ≡ of.block)
+IsAttempt of (Lost seen) = (seen.gain.held ≡ of.held) × (seen.gain.block ≡ of.block) × (seen.gain.id ≡ of.id)
 
 -- What the plan is by the word that was seen: a handle is made with no further step or by a raise.
 abbrev pub IsPlanned : {X : Type 0} → ℕ → ℕ → Attempt X → Type 0

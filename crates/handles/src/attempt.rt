@@ -50,6 +50,7 @@ impl<T> Handle<T> {
         requires held { held.now ≡ self.now.held }
         requires gained { seen.gain.held ≡ self.now.held }
         requires block { seen.gain.block ≡ self.now.block }
+        requires id { seen.gain.id ≡ self.now.id }
         ensures shows { IsAttempt self.now result }
         ensures plan { IsPlanned seen.word self.now.held.limit.count result }
     {
@@ -95,6 +96,7 @@ impl<T: Drop> Handle<T> {
         requires shared { self.now.sole ≡ false }
         requires gained { seen.gain.held ≡ self.now.held }
         requires block { seen.gain.block ≡ self.now.block }
+        requires id { seen.gain.id ≡ self.now.id }
         ensures { IfOk result (λ h. (h.held ≡ self.now.held) × (h.sole ≡ false)) }
     {
         let held = self.held();
@@ -128,6 +130,7 @@ impl<T: Drop> Handle<T> {
         requires shared { self.now.sole ≡ false }
         requires gained { seen.gain.held ≡ self.now.held }
         requires block { seen.gain.block ≡ self.now.block }
+        requires id { seen.gain.id ≡ self.now.id }
         ensures { IfOk result (λ h. (h.held ≡ self.now.held) × (h.sole ≡ false)) }
     {
         let held = self.held();

@@ -2,7 +2,7 @@
 use Rattle.counting_word.specs.WordSteps as step
 use Rattle.counting_word.specs.Rights.{right_by_claim}
 use Rattle.handles.proofs.Asking as asking
-use Rattle.handles.proofs.Steps.Shared.{◌≡◌, ◌≢◌, ℕ, Bool, true, false, [], ◌∷◌, sym, refl, ap, ◌∙◌, subst, eq-eqb, ne_eqb, if◌then◌else◌, dite, ℕ_discrete, Ura, ent, Share, Fml, fsep, fex, flft, Logic, sem, ‵, ◌$◌, ◌∵◌, !, qed, by, move, keep, drop, fjoin, fpick, fpack, use1, use2, part_in, is_one_handle, count_of-unmarked, is_one_handle-marked, is_one_handle-unmarked, a_handle, whole_block, Says, unit_of_count, entitled, stake, SharedBlock, shared, counts, beside, rule, gained, counted_stake, lives, regained, Lands, Asks, and_logged}
+use Rattle.handles.proofs.Steps.Shared.{◌≡◌, ◌≢◌, ℕ, Bool, true, false, [], ◌∷◌, sym, refl, ap, ◌∙◌, subst, eq-eqb, ne_eqb, if◌then◌else◌, dite, ℕ_discrete, Ura, ent, Share, Fml, fsep, fex, flft, Logic, sem, ‵, ◌$◌, ◌∵◌, !, qed, by, move, keep, drop, fjoin, fpick, fpack, use1, use2, part_in, is_one_handle, count_of-unmarked, is_one_handle-marked, is_one_handle-unmarked, a_handle, whole_block, Says, unit_of_count, entitled, stake, SharedBlock, shared, counts, beside, rule, gained, counted_stake, lives, regained, Lands, Asks, and_logged, ftrue}
 use Rattle.handles.proofs.Steps.Leaves.{a_stake, not_yet_marked, HeldSteps, held_step}
 use Rattle.handles.proofs.Steps.Lowers.{last_one}
 
@@ -10,7 +10,7 @@ abbrev pub after_claim : SharedBlock → ℕ → Fml
 after_claim s w = gained s (right_by_claim w)
 
 module _ {M : Type 1} {𝓤 : Ura M} (𝓛 : Logic 𝓤) (s : SharedBlock) where
-  pub claims : Asks 𝓛 s (λ w. w) (stake s.names) (and_logged s step.claims (after_claim s))
+  pub claims : Asks 𝓛 s (λ w. w) (fsep ftrue (stake s.names)) (and_logged s [] step.claims (after_claim s))
   claims = held_step 𝓛 s step.claims (λ w. w) (λ w _. refl) (after_claim s) at
     where
       a_unit : Fml

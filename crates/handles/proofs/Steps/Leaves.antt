@@ -3,7 +3,7 @@ use Rattle.counting_word.specs.CountingWord.{is_marked_word}
 use Rattle.counting_word.specs.WordSteps.{reads_last}
 use Rattle.counting_word.specs.Rights.{to_lower, right_by_last_read}
 use Rattle.handles.proofs.Asking as asking
-use Rattle.handles.proofs.Steps.Shared.{◌≡◌, ℕ, ◌^◌, ◌<◌, Bool, true, false, [], ◌∷◌, ap, if◌then◌else◌, Ura, SProp, ent, never, Share, Fml, fsep, flft, Logic, sem, ‵, ◌$◌, ◌∵◌, !, qed, by, move, keep, drop, fsplit, fsplit3, fpick, use1, use2, part_in, nothing_more, nothing, Says, unit_of_count, unshared, marked, entitled, stake, SharedBlock, shared, unmarked, counts, beside, rule, gained, no_token, lives, regained, Lands, Asks, stepped, and_logged, WordStep, word_by, refl}
+use Rattle.handles.proofs.Steps.Shared.{◌≡◌, ℕ, ◌^◌, ◌<◌, Bool, true, false, [], ◌∷◌, ap, if◌then◌else◌, Ura, SProp, ent, never, Share, Fml, fsep, flft, Logic, sem, ‵, ◌$◌, ◌∵◌, !, qed, by, move, keep, drop, fsplit, fsplit3, fpick, use1, use2, part_in, nothing_more, nothing, Says, unit_of_count, unshared, marked, entitled, stake, SharedBlock, shared, unmarked, counts, beside, rule, gained, no_token, lives, regained, Lands, Asks, stepped, and_logged, unknown, ftrue, WordStep, word_by, refl}
 
 -- what the holder of a handle has: a share e of the token, to which it is entitled as y says
 abbrev pub a_stake : SharedBlock → Bool → Share → Fml
@@ -24,11 +24,11 @@ module _ {M : Type 1} {𝓤 : Ura M} (𝓛 : Logic 𝓤) (s : SharedBlock) where
     abbrev pub HeldSteps : Type 1
     HeldSteps = (j : ℕ) (mark y : Bool) (e : Share) (w n : ℕ) → w < 2 ^ 64 → Says s.limit w mark n → Lands 𝓛 s (f w) mark n (a_stake s y e) (after w) j
 
-    pub held_step : HeldSteps → Asks 𝓛 s f (stake s.names) (and_logged s what after)
-    held_step steps = stepped 𝓛 s what f is after (stake s.names) (λ j mark w n small says. qed 𝓛 (‵ (counts s (f w)) ∷ ‵ (beside s mark n) ∷ ‵ (stake s.names) ∷ []) ∵ move ! (2 ∷ []) $
+    pub held_step : HeldSteps → Asks 𝓛 s f (fsep ftrue (stake s.names)) (and_logged s [] what after)
+    held_step steps = stepped 𝓛 s [] ftrue (unknown 𝓛 s) what f is after (stake s.names) (λ j mark w n small says. qed 𝓛 (‵ (counts s (f w)) ∷ ‵ (beside s mark n) ∷ ‵ (stake s.names) ∷ []) ∵ move ! (2 ∷ []) $
         fpick ! (λ e. fsplit ! $ fpick ! (λ y. move ! (2 ∷ 3 ∷ 0 ∷ 1 ∷ []) $ by ! (steps j mark y e w n small says)))) no_stake
 
-  pub last_reads : Asks 𝓛 s (λ w. w) (stake s.names) (and_logged s reads_last (after_last_read s))
+  pub last_reads : Asks 𝓛 s (λ w. w) (fsep ftrue (stake s.names)) (and_logged s [] reads_last (after_last_read s))
   last_reads = held_step reads_last (λ w. w) (λ w _. refl) (after_last_read s) at
     where
       right_is : (w : ℕ) (y : Bool) → is_marked_word w ≡ y → right_by_last_read w ≡ (if y then nothing else to_lower)

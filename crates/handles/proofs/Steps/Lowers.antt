@@ -7,7 +7,8 @@ use Rattle.counting_word.specs.WordSteps as step
 use Rattle.counting_word.proofs.WordLogs.{subtracted}
 use Rattle.counting_word.specs.Rights.{right_by_lower}
 use Rattle.handles.proofs.Asking as asking
-use Rattle.handles.proofs.Steps.Shared.{◌≡◌, ℕ, ◌+◌, ◌%◌, ◌^◌, ◌<◌, ◌≤◌, Bool, true, false, [], ◌∷◌, sym, refl, ap, ◌∙◌, subst, arith, eq-eqb, ne_eqb, if◌then◌else◌, dite, ℕ_discrete, Ura, full_share, ent, never, Share, Fml, fsep, fex, flft, flent, Logic, sem, ‵, ◌⊛◌, ◌$◌, ◌∵◌, !, qed, by, move, keep, drop, split, fsplit, fsplit3, fjoin, fjoin3, fpick, fpack, frame, suffices, use1, use2, done, rest, nothing_more, is_one_handle, StandsFor, count_of-unmarked, is_one_handle-marked, is_one_handle-unmarked, nothing, whole_block, Says, unit_of_count, unshared, Stage, over, SharedBlock, shared, unmarked, counts, beside, at_stage, rule, gained, Entails, no_token, lives, regained, Lands, Asks, Steps, stepped, and_logged}
+use Rattle.handles.proofs.Steps.Shared.{◌≡◌, ℕ, ◌+◌, ◌%◌, ◌^◌, ◌<◌, ◌≤◌, Bool, true, false, [], ◌∷◌, sym, refl, ap, ◌∙◌, subst, arith, eq-eqb, ne_eqb, if◌then◌else◌, dite, ℕ_discrete, Ura, full_share, ent, never, Share, Fml, fsep, fex, flft, flent, Logic, sem, ‵, ◌⊛◌, ◌$◌, ◌∵◌, !, qed, by, move, keep, drop, split, fsplit, fsplit3, fjoin, fjoin3, fpick, fpack, frame, suffices, use1, use2, done, rest, nothing_more, is_one_handle, StandsFor, count_of-unmarked, is_one_handle-marked, is_one_handle-unmarked, nothing, whole_block, Says, unit_of_count, unshared, Stage, over, SharedBlock, shared, unmarked, counts, beside, at_stage, rule, gained, Entails, no_token, lives, regained, Lands, Asks, Steps, stepped, and_logged, begun_with, WordStep, List}
+use Rattle.handles.specs.Inside.Blocks.{reached}
 use Rattle.handles.proofs.Steps.Says.{says-fewer}
 
 abbrev pub lowered : ℕ → ℕ
@@ -36,8 +37,8 @@ module _ {M : Type 1} {𝓤 : Ura M} (𝓛 : Logic 𝓤) (s : SharedBlock) where
       ended = qed 𝓛 (‵ (unshared s.names) ∷ ‵ (counts s v) ∷ ‵ Lender ∷ ‵ (flft (unmarked s) full_share) ∷ []) ∵ use1 𝓛 (‵ (unshared s.names) ⊛ ‵ (unshared s.names)) (𝓛.lfts.dead_dup (shared s)) $ split ! $
           move ! (0 ∷ 4 ∷ []) $ fjoin ! $ fpack ! Stage (at_stage s) over $ frame ! $ move ! (1 ∷ 0 ∷ 2 ∷ []) $ fjoin3 ! $ done !
 
-  pub lowers : Asks 𝓛 s lowered a_unit (and_logged s step.lowers (after_lower s))
-  lowers = stepped 𝓛 s step.lowers lowered (λ w small. sym (subtracted w small)) (after_lower s) a_unit at no_unit
+  pub lowers : (old : List WordStep) → Asks 𝓛 s lowered (fsep (reached s.log old) a_unit) (and_logged s old step.lowers (after_lower s))
+  lowers old = stepped 𝓛 s old (reached s.log old) (begun_with 𝓛 s old) step.lowers lowered (λ w small. sym (subtracted w small)) (after_lower s) a_unit at no_unit
     where
       no_unit : ent 𝓤 (sem 𝓛 (fsep (unshared s.names) a_unit)) (never 𝓤)
       no_unit = qed 𝓛 (‵ (unshared s.names) ∷ ‵ a_unit ∷ []) ∵ move ! (1 ∷ []) $ fpick ! (λ e. fpick ! (λ c. by ! (no_token 𝓛 (shared s) e (never 𝓤))))
@@ -86,7 +87,7 @@ module _ {M : Type 1} {𝓤 : Ura M} (𝓛 : Logic 𝓤) (s : SharedBlock) where
           rewrite ! 0 (λ (z : ℕ). ‵ (rest 64 s.names.shared z)) count refl $ move ! (0 ∷ 1 ∷ []) $ fjoin ! $ move ! (1 ∷ 0 ∷ []) $ use2 𝓛 (‵ (rule s)) (lives 𝓛 s true (lowered w) (n - 1) (one_less true w n some small says)) $
           by ! (stays j w (is_one_handle-marked w says.0.same_mark))
 
-      at : Steps 𝓛 s step.lowers lowered (λ w small. sym (subtracted w small)) (after_lower s) a_unit
+      at : Steps 𝓛 s old (reached s.log old) (begun_with 𝓛 s old) step.lowers lowered (λ w small. sym (subtracted w small)) (after_lower s) a_unit
       at j false w n small says = qed 𝓛 (‵ (counts s (lowered w)) ∷ ‵ (beside s false n) ∷ ‵ a_unit ∷ []) ∵ move ! (1 ∷ []) $ fsplit ! $ use1 𝓛 (given (0 < n) (‵ (rest 64 s.names.shared n))) (rest_some 64 𝓛 s.names.shared n) $
           learn ! (λ some. fjoin ! $ move ! (1 ∷ 0 ∷ []) $ by ! (dite (ℕ_discrete n 1) (λ one. unmarked_last j w n one says) (λ other. unmarked_more j w n (omega arith) small says)))
       at j true w zero small says = qed 𝓛 (‵ (counts s (lowered w)) ∷ ‵ (beside s true 0) ∷ ‵ a_unit ∷ []) ∵ drop ! $ by ! (none_left j w)

@@ -1,11 +1,13 @@
 -- A raise of the word through a `&` to a handle. Assumes `Logic`.
+use Rattle.handles.proofs.Steps.Shared.{fsep}
 use prog.Atomic.{either}
 use Rattle.std.proofs.Common.{eqb, leb-true}
 use Rattle.counting_word.specs.CountingWord.{greatest_count}
 use Rattle.counting_word.proofs.Words.{stands-raised}
 use Rattle.counting_word.specs.WordSteps as step
 use Rattle.counting_word.specs.Rights.{right_by_raise}
-use Rattle.handles.proofs.Steps.Shared.{◌≡◌, ◌≢◌, ℕ, ◌+◌, ◌%◌, ◌<◌, ◌≤◌, Bool, true, false, [], ◌∷◌, sym, refl, ap, ◌∙◌, subst, arith, eq-eqb, ne_eqb, if◌then◌else◌, dite, ℕ_discrete, Ura, Share, Fml, Logic, ‵, ◌⊛◌, ◌$◌, ◌∵◌, !, qed, by, move, split, fsplit, fjoin, use1, use2, rest, takes, mark_bit, StandsFor, count_of-unmarked, nothing, a_handle, right_by_read, Says, unit_of_count, stake, SharedBlock, counts, beside, rule, gained, counted_stake, lives, regained, Lands, Asks, Steps, stepped, and_logged}
+use Rattle.handles.proofs.Steps.Shared.{◌≡◌, ◌≢◌, ℕ, ◌+◌, ◌%◌, ◌<◌, ◌≤◌, Bool, true, false, [], ◌∷◌, sym, refl, ap, ◌∙◌, subst, arith, eq-eqb, ne_eqb, if◌then◌else◌, dite, ℕ_discrete, Ura, Share, Fml, Logic, ‵, ◌⊛◌, ◌$◌, ◌∵◌, !, qed, by, move, split, fsplit, fjoin, use1, use2, rest, takes, mark_bit, StandsFor, count_of-unmarked, nothing, a_handle, right_by_read, Says, unit_of_count, stake, SharedBlock, counts, beside, rule, gained, counted_stake, lives, regained, Lands, Asks, Steps, stepped, and_logged, begun_with, WordStep, List}
+use Rattle.handles.specs.Inside.Blocks.{reached}
 use Rattle.handles.proofs.Steps.Says.{stands-unmarked}
 use Rattle.handles.proofs.Steps.Reads.{a_share, told, no_share, shut, found_marked, found_unmarked}
 
@@ -19,7 +21,7 @@ after_raise s q seen w = told s q w (right_by_raise seen w)
 lost : (seen w : ℕ) → w ≢ seen → right_by_raise seen w ≡ right_by_read w
 lost seen w other = ap (λ y. if y then a_handle else right_by_read w) (ne_eqb w seen other)
 
-module _ {M : Type 1} {𝓤 : Ura M} (𝓛 : Logic 𝓤) (s : SharedBlock) (q : Share) (seen : ℕ) (below : seen < s.limit) (bounded : s.limit ≤ greatest_count) where
+module _ {M : Type 1} {𝓤 : Ura M} (𝓛 : Logic 𝓤) (s : SharedBlock) (q : Share) (seen : ℕ) (old : List WordStep) (below : seen < s.limit) (bounded : s.limit ≤ greatest_count) where
   -- a raise that wins
   won : (j n : ℕ) → Says s.limit seen false n → Lands 𝓛 s (seen + 1) false n (a_share s q) (after_raise s q seen seen) j
   won j n says =
@@ -43,8 +45,8 @@ module _ {M : Type 1} {𝓤 : Ura M} (𝓛 : Logic 𝓤) (s : SharedBlock) (q : 
       (λ same. ap (λ (b : Bool). if b then w + 1 else w) (eq-eqb w seen same) ∙ ap (λ z. z + 1) same ∙ sym (ap (λ (b : Bool). either b (seen + 1) w) (eq-eqb w seen same)))
       (λ other. ap (λ (b : Bool). if b then w + 1 else w) (ne_eqb w seen other) ∙ sym (ap (λ (b : Bool). either b (seen + 1) w) (ne_eqb w seen other)))
 
-  pub raises : (next : ℕ) → next ≡ seen + 1 → Asks 𝓛 s (raised seen next) (a_share s q) (and_logged s (step.raises_from seen) (after_raise s q seen))
-  raises next is_next = subst (λ m. Asks 𝓛 s (raised seen m) (a_share s q) (and_logged s (step.raises_from seen) (after_raise s q seen))) (sym is_next) (stepped 𝓛 s (step.raises_from seen) (raised seen (seen + 1)) (λ w _. is_raised w) (after_raise s q seen) (a_share s q) at (no_share 𝓛 s q))
+  pub raises : (next : ℕ) → next ≡ seen + 1 → Asks 𝓛 s (raised seen next) (fsep (reached s.log old) (a_share s q)) (and_logged s old (step.raises_from seen) (after_raise s q seen))
+  raises next is_next = subst (λ m. Asks 𝓛 s (raised seen m) (fsep (reached s.log old) (a_share s q)) (and_logged s old (step.raises_from seen) (after_raise s q seen))) (sym is_next) (stepped 𝓛 s old (reached s.log old) (begun_with 𝓛 s old) (step.raises_from seen) (raised seen (seen + 1)) (λ w _. is_raised w) (after_raise s q seen) (a_share s q) at (no_share 𝓛 s q))
     where
       F : ℕ → Bool → ℕ → ℕ → Bool → Type 1
       F j mark w n y = Lands 𝓛 s (either y (seen + 1) w) mark n (a_share s q) (after_raise s q seen w) j
@@ -58,7 +60,7 @@ module _ {M : Type 1} {𝓤 : Ura M} (𝓛 : Logic 𝓤) (s : SharedBlock) (q : 
           let high : 9223372036854775808 ≤ seen = leb-true mark_bit seen says.0.same_mark in absurd (omega arith)
       same_word j false n says = won j n says
 
-      at : Steps 𝓛 s (step.raises_from seen) (raised seen (seen + 1)) (λ w _. is_raised w) (after_raise s q seen) (a_share s q)
+      at : Steps 𝓛 s old (reached s.log old) (begun_with 𝓛 s old) (step.raises_from seen) (raised seen (seen + 1)) (λ w _. is_raised w) (after_raise s q seen) (a_share s q)
       at j mark w n small says = dite (ℕ_discrete w seen)
           (λ same. subst (λ z. F j mark z n (eqb z seen)) (sym same) (subst (F j mark seen n) (sym (eq-eqb seen seen refl)) (same_word j mark n (subst (λ z. Says s.limit z mark n) same says))))
           (λ other. subst (F j mark w n) (sym (ne_eqb w seen other)) (missed j mark w n other says))

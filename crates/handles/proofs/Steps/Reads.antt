@@ -3,9 +3,10 @@ use base.Fml.{ftrue}
 use Rattle.counting_word.specs.CountingWord.{IsWithin}
 use Rattle.counting_word.specs.WordSteps as step
 use Rattle.counting_word.specs.Rights.{Right}
-use Rattle.handles.specs.Inside.Blocks.{fact}
+use Rattle.handles.specs.Inside.Blocks.{fact, logged}
+use Rattle.handles.proofs.Steps.Shared.{WordStep, List, fsplit, fsplit3, done}
 use Rattle.handles.proofs.Asking as asking
-use Rattle.handles.proofs.Steps.Shared.{unshared, ◌≡◌, ℕ, true, false, [], ◌∷◌, ap, if◌then◌else◌, Ura, ent, never, Share, Fml, fsep, flft, Logic, sem, ‵, ◌⊛◌, ◌$◌, ◌∵◌, !, qed, by, move, split, fjoin, fpack, use1, use2, nothing_more, nothing, a_handle, right_by_read, Says, stake, SharedBlock, shared, counts, beside, rule, gained, no_token, lives, regained, makes_one, Lands, Asks, Steps, stepped, and_logged, refl}
+use Rattle.handles.proofs.Steps.Shared.{unshared, ◌≡◌, ℕ, true, false, [], ◌∷◌, ap, if◌then◌else◌, Ura, ent, never, Share, Fml, fsep, flft, Logic, sem, ‵, ◌⊛◌, ◌$◌, ◌∵◌, !, qed, by, move, split, fjoin, fpack, use1, use2, nothing_more, nothing, a_handle, right_by_read, Says, stake, SharedBlock, shared, counts, beside, rule, gained, no_token, lives, regained, makes_one, Lands, Asks, Steps, stepped, and_logged, unknown, refl}
 
 module _ (s : SharedBlock) (q : Share) where
   -- its maker has a share of the token
@@ -19,7 +20,14 @@ module _ (s : SharedBlock) (q : Share) where
   abbrev pub after_read : ℕ → Fml
   after_read w = told w (right_by_read w)
 
+  -- and with what is in the log
+  abbrev pub told_with : List WordStep → WordStep → ℕ → Right → Fml
+  told_with old what w r = fsep a_share (fsep (fact (IsWithin w s.limit)) (fsep (logged s.log old what w) (gained s r)))
+
 module _ {M : Type 1} {𝓤 : Ura M} (𝓛 : Logic 𝓤) (s : SharedBlock) (q : Share) where
+  pub told_logged : (old : List WordStep) (what : WordStep) (w : ℕ) (r : Right) → ent 𝓤 (sem 𝓛 (fsep (logged s.log old what w) (told s q w r))) (sem 𝓛 (told_with s q old what w r))
+  told_logged old what w r = qed 𝓛 (‵ (fsep (logged s.log old what w) (told s q w r)) ∷ []) ∵ fsplit ! $ move ! (1 ∷ []) $ fsplit3 ! $ move ! (3 ∷ 2 ∷ []) $ fjoin ! $ move ! (2 ∷ 0 ∷ []) $ fjoin ! $ move ! (1 ∷ 0 ∷ []) $ fjoin ! $ done !
+
   pub no_share : ent 𝓤 (sem 𝓛 (fsep (unshared s.names) (a_share s q))) (never 𝓤)
   no_share = qed 𝓛 (‵ (unshared s.names) ∷ ‵ (a_share s q) ∷ []) ∵ move ! (1 ∷ 0 ∷ []) $ by ! (no_token 𝓛 (shared s) q (never 𝓤))
 
@@ -36,9 +44,9 @@ module _ {M : Type 1} {𝓤 : Ura M} (𝓛 : Logic 𝓤) (s : SharedBlock) (q : 
   found_unmarked r e j w n says = qed 𝓛 (‵ (counts s w) ∷ ‵ (beside s false n) ∷ ‵ (a_share s q) ∷ []) ∵ use2 𝓛 (‵ (rule s)) (lives 𝓛 s false w n says) $ nothing_more ! $
       use1 𝓛 (‵ (gained s r)) (regained 𝓛 s nothing r e) $ move ! (1 ∷ 0 ∷ []) $ by ! (shut r j w says.1)
 
-  pub reads : Asks 𝓛 s (λ w. w) (a_share s q) (and_logged s step.reads (after_read s q))
-  reads = stepped 𝓛 s step.reads (λ w. w) (λ w _. refl) (after_read s q) (a_share s q) at no_share
+  pub reads : Asks 𝓛 s (λ w. w) (fsep ftrue (a_share s q)) (and_logged s [] step.reads (after_read s q))
+  reads = stepped 𝓛 s [] ftrue (unknown 𝓛 s) step.reads (λ w. w) (λ w _. refl) (after_read s q) (a_share s q) at no_share
     where
-      at : Steps 𝓛 s step.reads (λ w. w) (λ w _. refl) (after_read s q) (a_share s q)
+      at : Steps 𝓛 s [] ftrue (unknown 𝓛 s) step.reads (λ w. w) (λ w _. refl) (after_read s q) (a_share s q)
       at j true w n small says = found_marked (right_by_read w) (ap (λ y. if y then a_handle else nothing) says.0.same_mark) j w n says
       at j false w n small says = found_unmarked (right_by_read w) (ap (λ y. if y then a_handle else nothing) says.0.same_mark) j w n says

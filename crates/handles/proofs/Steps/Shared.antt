@@ -1,5 +1,6 @@
 -- What the steps on the word of a shared block have in common: the block, and how a step is proved by what it does while
 -- the block lives. Assumes `Logic`.
+use base.Logic.{guard}
 pub use Rattle.std.proofs.Common.{List, w64, ◌≡◌, ℕ, ◌+◌, ◌^◌, ◌<◌, Bool, true, false, [], ◌∷◌, sym, subst, ap, if◌then◌else◌, ◌≢◌, ◌%◌, ◌≤◌, refl, ◌∙◌, arith, eq-eqb, ne_eqb}
 pub use seplogic.Ra.Ura.{Ura}
 use mir.Syntax.{ty_int}
@@ -17,19 +18,19 @@ pub use denote.Steps.{nothing as nothing_more}
 use Rattle.core.specs.Sync.RawAtomic.{asks, always, word}
 pub use Rattle.counting_word.specs.Rights.{Right, to_lower, nothing, a_handle, whole_block, right_by_read}
 pub use Rattle.handles.specs.Inside.Blocks.{HeldRow, Names, living, beside_word, stage, Rule, stamp, held_and_block, Says, unit_of_count, unshared, marked, entitled, stake, Stage, over, fact, logs, kept_log, reached, recorded, logged}
-pub use Rattle.counting_word.specs.WordSteps.{WordStep, word_by, left_by}
+pub use Rattle.counting_word.specs.WordSteps.{WordStep, word_by, left_by, Adds, coded_step}
 use Rattle.counting_word.proofs.WordLogs.{left_by-more}
 use Rattle.handles.proofs.Framing.{shifted_framed}
 use Rattle.handles.proofs.Asking as asking
 pub use Rattle.counting_word.specs.CountingWord.{mark_bit, StandsFor, is_one_handle}
 pub use mathlib.Core.Logic.{dite}
 pub use native.Mathlib.Decide.{ℕ_discrete}
-use types.Kit.{settle, raw}
-use types.Growing.{latest_grows, latest_shows}
+use types.Kit.{settle, raw, check}
+use types.Growing.{latest_grows, latest_shows, latest_bounds}
 use base.Growing.{latest}
 use base.Stored.{Gv}
 use mathlib.Core.List.{IsPrefix}
-use Rattle.std.proofs.Common.{◌++◌, map}
+use Rattle.std.proofs.Common.{◌++◌, map, ap₂}
 pub use types.RcWeak.{rest, takes, part_in}
 pub use Rattle.counting_word.proofs.Words.{count_of-unmarked, is_one_handle-marked, is_one_handle-unmarked}
 
@@ -41,11 +42,12 @@ pub record SharedBlock : Type 1 where
   pub limit : ℕ
   pub block : ℕ
   pub offset : ℕ
+  pub log : ℕ
   pub names : Names
 
 -- the block of a counted handle
-abbrev pub block_at : (R : RattleType) → Ptr → (HeldRow R).Denot → Names → SharedBlock
-block_at R p x i = record { content = held_and_block R p x; kept = stamp p; limit = x.limit.count; block = block_of p; offset = offset_of p + 0; names = i }
+abbrev pub block_at : (R : RattleType) → Ptr → (HeldRow R).Denot → ℕ → Names → SharedBlock
+block_at R p x id i = record { log = id; content = held_and_block R p x; kept = stamp p; limit = x.limit.count; block = block_of p; offset = offset_of p + 0; names = i }
 
 module _ (s : SharedBlock) where
   abbrev pub shared : Lft
@@ -56,20 +58,20 @@ module _ (s : SharedBlock) where
 
   -- the word, and the log that leaves it
   abbrev pub counts : ℕ → Fml
-  counts w = fsep (word s.block s.offset w) (recorded s.names w)
+  counts w = fsep (word s.block s.offset w) (recorded s.log w)
 
   -- what a step leaves, and that it is in the log
-  abbrev pub and_logged : WordStep → (ℕ → Fml) → ℕ → Fml
-  and_logged step after w = fsep (logged s.names step w) (after w)
+  abbrev pub and_logged : List WordStep → WordStep → (ℕ → Fml) → ℕ → Fml
+  and_logged old step after w = fsep (logged s.log old step w) (after w)
 
   abbrev pub beside : Bool → ℕ → Fml
-  beside = beside_word s.content s.kept s.limit s.block s.offset s.names
+  beside = beside_word s.content s.kept s.limit s.block s.offset s.log s.names
 
   abbrev pub at_stage : Stage → Fml
-  at_stage = stage s.content s.kept s.limit s.block s.offset s.names
+  at_stage = stage s.content s.kept s.limit s.block s.offset s.log s.names
 
   abbrev pub rule : Fml
-  rule = Rule s.content s.kept s.limit s.block s.offset s.names
+  rule = Rule s.content s.kept s.limit s.block s.offset s.log s.names
 
   -- what a step leaves by the right that it gives
   abbrev pub gained : Right → Fml
@@ -129,7 +131,8 @@ module _ {M : Type 1} {𝓤 : Ura M} (𝓛 : Logic 𝓤) where
 
     -- A step is proved by what it does on a living block: its maker has X, which no block that is over leaves to anyone. It
     -- goes into the log.
-    module _ (step : WordStep) (f : ℕ → ℕ) (is : (w : ℕ) → w < 2 ^ 64 → word_by step w ≡ f w) (after : ℕ → Fml) (X : Fml) where
+    module _ (old : List WordStep) (Old : Fml) (known : (log : List WordStep) → ent 𝓤 (sep 𝓤 (sem 𝓛 (latest logs full_share s.log (kept_log log))) (sem 𝓛 Old)) (guard 𝓤 (IsPrefix old log) (sem 𝓛 (latest logs full_share s.log (kept_log log)))))
+        (step : WordStep) (f : ℕ → ℕ) (is : (w : ℕ) → w < 2 ^ 64 → word_by step w ≡ f w) (after : ℕ → Fml) (X : Fml) where
       abbrev pub Steps : Type 1
       Steps = (j : ℕ) (mark : Bool) (w n : ℕ) → w < 2 ^ 64 → Says s.limit w mark n → Lands (f w) mark n X (after w) j
 
@@ -137,29 +140,53 @@ module _ {M : Type 1} {𝓤 : Ura M} (𝓛 : Logic 𝓤) where
       begins [] = (kept_log (step ∷ []), refl)
       begins (x ∷ xs) = let more : IsPrefix (kept_log xs) (kept_log (xs ++ step ∷ [])) = begins xs in (more.0, ap (λ (l : List Gv). kept_log (x ∷ []) ++ l) more.1)
 
-      records : (w : ℕ) → w < 2 ^ 64 → ent 𝓤 (sem 𝓛 (recorded s.names w)) (upd 𝓤 (sem 𝓛 (fsep (recorded s.names (f w)) (logged s.names step w))))
-      records w small = let γ : ℕ = s.names.log in let Z : SProp 𝓤 = sem 𝓛 (fsep (recorded s.names (f w)) (logged s.names step w)) in qed 𝓛 (‵ (recorded s.names w) ∷ []) ∵ fpick ! (λ log. fsplit ! $ move ! (1 ∷ []) $ fpick ! (λ left. drop ! $ let more : List WordStep = log ++ step ∷ [] in
+      added : (log : List WordStep) (w : ℕ) → left_by log ≡ w → IsPrefix old log → Adds old step w (log ++ step ∷ [])
+      added log w left more = record { others = more.0; found_word = ap left_by more.1 ∙ left; ends = ap (λ (l : List WordStep). l ++ step ∷ []) (sym more.1) }
+
+      records : (w : ℕ) → w < 2 ^ 64 → ent 𝓤 (sem 𝓛 (fsep (recorded s.log w) Old)) (upd 𝓤 (sem 𝓛 (fsep (recorded s.log (f w)) (logged s.log old step w))))
+      records w small = let γ : ℕ = s.log in let Z : SProp 𝓤 = sem 𝓛 (fsep (recorded s.log (f w)) (logged s.log old step w)) in qed 𝓛 (‵ (recorded s.log w) ∷ ‵ Old ∷ []) ∵ fpick ! (λ log. fsplit ! $ move ! (1 ∷ []) $ fpick ! (λ left. drop ! $ let more : List WordStep = log ++ step ∷ [] in
+          use2 𝓛 (given (IsPrefix old log) (‵ (latest logs full_share γ (kept_log log)))) (known log) $ learn ! (λ begun.
           use1 𝓛 (raw (upd 𝓤 (sem 𝓛 (latest logs full_share γ (kept_log more))))) (latest_grows logs 𝓛 γ (kept_log log) (kept_log more) (begins log)) $ settle 𝓛 Z (‵ (latest logs full_share γ (kept_log more))) $
-          use1 𝓛 (‵ (latest logs full_share γ (kept_log more)) ⊛ ‵ (reached s.names more)) (latest_shows logs 𝓛 full_share γ (kept_log more) (kept_log more) (logs.same (kept_log more))) $ split ! $ suffices ! _ (upd_i 𝓤 Z) $
+          use1 𝓛 (‵ (latest logs full_share γ (kept_log more)) ⊛ ‵ (reached s.log more)) (latest_shows logs 𝓛 full_share γ (kept_log more) (kept_log more) (logs.same (kept_log more))) $ split ! $ suffices ! _ (upd_i 𝓤 Z) $
           nothing_more ! $ fpack ! (left_by more ≡ f w) (λ _. ftrue) (left_by-more log step w left ∙ is w small) $ move ! (1 ∷ 0 ∷ []) $ fjoin ! $
           fpack ! (List WordStep) (λ log. fsep (latest logs full_share γ (kept_log log)) (fact (left_by log ≡ f w))) more $ move ! (1 ∷ []) $
-          nothing_more ! $ fpack ! (left_by log ≡ w) (λ _. ftrue) left $ move ! (1 ∷ 0 ∷ []) $ fjoin ! $
-          fpack ! (List WordStep) (λ log. fsep (reached s.names (log ++ step ∷ [])) (fact (left_by log ≡ w))) log $ move ! (1 ∷ 0 ∷ []) $ fjoin ! $ done !))
+          nothing_more ! $ fpack ! (Adds old step w more) (λ _. ftrue) (added log w left begun) $ move ! (1 ∷ 0 ∷ []) $ fjoin ! $
+          fpack ! (List WordStep) (λ log. fsep (reached s.log log) (fact (Adds old step w log))) more $ move ! (1 ∷ 0 ∷ []) $ fjoin ! $ done !)))
 
-      pub stepped : Steps → ent 𝓤 (sem 𝓛 (fsep (unshared s.names) X)) (never 𝓤) → Asks f X (and_logged s step after)
-      stepped steps over-not = asking.opened 𝓛 (rule s) s.block s.offset f (and_logged s step after) X (λ j. qed 𝓛 (‵ (rule s) ∷ ‵ X ∷ []) ∵ fpick ! (λ g. by ! (at j g)))
+      pub stepped : Steps → ent 𝓤 (sem 𝓛 (fsep (unshared s.names) X)) (never 𝓤) → Asks f (fsep Old X) (and_logged s old step after)
+      stepped steps over-not = asking.opened 𝓛 (rule s) s.block s.offset f (and_logged s old step after) (fsep Old X) (λ j. qed 𝓛 (‵ (rule s) ∷ ‵ (fsep Old X) ∷ []) ∵ fpick ! (λ g. by ! (at j g)))
         where
           Goes : ℕ → SProp 𝓤
-          Goes j = ex 𝓤 (asking.Lies 𝓛 (rule s) s.block s.offset f (and_logged s step after) j)
+          Goes j = ex 𝓤 (asking.Lies 𝓛 (rule s) s.block s.offset f (and_logged s old step after) j)
 
-          swaps : (w : ℕ) → ent 𝓤 (sep 𝓤 (sem 𝓛 (after w)) (sem 𝓛 (logged s.names step w))) (sem 𝓛 (and_logged s step after w))
-          swaps w = qed 𝓛 (‵ (after w) ∷ ‵ (logged s.names step w) ∷ []) ∵ move ! (1 ∷ 0 ∷ []) $ fjoin ! $ done !
+          swaps : (w : ℕ) → ent 𝓤 (sep 𝓤 (sem 𝓛 (after w)) (sem 𝓛 (logged s.log old step w))) (sem 𝓛 (and_logged s old step after w))
+          swaps w = qed 𝓛 (‵ (after w) ∷ ‵ (logged s.log old step w) ∷ []) ∵ move ! (1 ∷ 0 ∷ []) $ fjoin ! $ done !
 
-          at : (j : ℕ) (g : Stage) → ent 𝓤 (sem 𝓛 (fsep (at_stage s g) X)) (upd 𝓤 (Goes j))
-          at j (living mark w n) = qed 𝓛 (‵ (at_stage s (living mark w n)) ∷ ‵ X ∷ []) ∵ fsplit3 ! $ move ! (1 ∷ []) $ fpick ! (λ says. drop ! $ fsplit ! $ fits ! w (λ small. move ! (1 ∷ []) $
-              use1 𝓛 (raw (upd 𝓤 (sem 𝓛 (fsep (recorded s.names (f w)) (logged s.names step w))))) (records w small) $ settle 𝓛 (Goes j) (‵ (fsep (recorded s.names (f w)) (logged s.names step w))) $ fsplit ! $
+          at : (j : ℕ) (g : Stage) → ent 𝓤 (sem 𝓛 (fsep (at_stage s g) (fsep Old X))) (upd 𝓤 (Goes j))
+          at j (living mark w n) = qed 𝓛 (‵ (at_stage s (living mark w n)) ∷ ‵ (fsep Old X) ∷ []) ∵ move ! (1 ∷ []) $ fsplit ! $ move ! (2 ∷ []) $ fsplit3 ! $ move ! (1 ∷ []) $ fpick ! (λ says. drop ! $ fsplit ! $ fits ! w (λ small.
+              -- [the word; the log; what is beside it; what is known of the log; what its maker has]
+              move ! (1 ∷ 3 ∷ []) $ fjoin ! $
+              use1 𝓛 (raw (upd 𝓤 (sem 𝓛 (fsep (recorded s.log (f w)) (logged s.log old step w))))) (records w small) $ settle 𝓛 (Goes j) (‵ (fsep (recorded s.log (f w)) (logged s.log old step w))) $ fsplit ! $
               -- [the log; what is in it; the word; what is beside it; what its maker has]
-              suffices ! _ (upd_i 𝓤 (Goes j)) $ show ! (asking.Lies 𝓛 (rule s) s.block s.offset f (and_logged s step after) j) w $ move ! (2 ∷ []) $ frame ! $ assume ! (‵ (word s.block s.offset (f w))) $
-              fjoin ! $ move ! (0 ∷ 2 ∷ 3 ∷ []) $ fjoin3 ! $ use1 𝓛 (raw (asking.Ending 𝓛 (rule s) (after w) j)) (steps j mark w n small says) $
-              by ! (shifted_framed 𝓛 (sem 𝓛 (after w)) (sem 𝓛 (and_logged s step after w)) (sem 𝓛 (logged s.names step w)) (swaps w) ((j, rule s) ∷ []))))
-          at j over = qed 𝓛 (‵ (at_stage s over) ∷ ‵ X ∷ []) ∵ fsplit ! $ keep ! (0 ∷ 2 ∷ []) $ by ! (via 𝓤 (never 𝓤) over-not (never_e 𝓤 _))
+              suffices ! _ (upd_i 𝓤 (Goes j)) $ show ! (asking.Lies 𝓛 (rule s) s.block s.offset f (and_logged s old step after) j) w $ move ! (2 ∷ []) $ frame ! $ assume ! (‵ (word s.block s.offset (f w))) $
+              move ! (0 ∷ 1 ∷ []) $ fjoin ! $ move ! (0 ∷ 2 ∷ 3 ∷ []) $ fjoin3 ! $ use1 𝓛 (raw (asking.Ending 𝓛 (rule s) (after w) j)) (steps j mark w n small says) $
+              by ! (shifted_framed 𝓛 (sem 𝓛 (after w)) (sem 𝓛 (and_logged s old step after w)) (sem 𝓛 (logged s.log old step w)) (swaps w) ((j, rule s) ∷ []))))
+          at j over = qed 𝓛 (‵ (at_stage s over) ∷ ‵ (fsep Old X) ∷ []) ∵ move ! (1 ∷ []) $ fsplit ! $ move ! (2 ∷ []) $ fsplit ! $ keep ! (0 ∷ 3 ∷ []) $ by ! (via 𝓤 (never 𝓤) over-not (never_e 𝓤 _))
+
+    -- nothing is known of the log
+    pub unknown : (log : List WordStep) → ent 𝓤 (sep 𝓤 (sem 𝓛 (latest logs full_share s.log (kept_log log))) (sem 𝓛 ftrue)) (guard 𝓤 (IsPrefix [] log) (sem 𝓛 (latest logs full_share s.log (kept_log log))))
+    unknown log = qed 𝓛 (‵ (latest logs full_share s.log (kept_log log)) ∷ ‵ ftrue ∷ []) ∵ check ! (log, refl) $ keep ! (0 ∷ []) $ done !
+
+    uncoded : (xs ys : List WordStep) (gs : List Gv) → kept_log xs ++ gs ≡ kept_log ys → IsPrefix xs ys
+    uncoded [] ys gs e = (ys, refl)
+    uncoded (x ∷ xs) [] gs e = absurd (cc)
+    uncoded (x ∷ xs) (y ∷ ys) gs e =
+        let same : x ≡ y = coded_step.inj x y (cc) in
+        let rest : IsPrefix xs ys = uncoded xs ys gs (cc) in
+        (rest.0, ap₂ (λ (a : WordStep) (l : List WordStep). a ∷ l) same rest.1)
+
+    -- the log began with these steps
+    pub begun_with : (old log : List WordStep) → ent 𝓤 (sep 𝓤 (sem 𝓛 (latest logs full_share s.log (kept_log log))) (sem 𝓛 (reached s.log old))) (guard 𝓤 (IsPrefix old log) (sem 𝓛 (latest logs full_share s.log (kept_log log))))
+    begun_with old log = qed 𝓛 (‵ (latest logs full_share s.log (kept_log log)) ∷ ‵ (reached s.log old) ∷ []) ∵
+        use2 𝓛 (given (IsPrefix (kept_log old) (kept_log log)) (‵ (latest logs full_share s.log (kept_log log)) ⊛ ‵ (reached s.log old))) (latest_bounds logs 𝓛 full_share s.log (kept_log log) (kept_log old)) $
+        learn ! (λ begun. split ! $ check ! (uncoded old log begun.0 begun.1) $ keep ! (0 ∷ []) $ done !)

@@ -11,7 +11,7 @@ use Rattle.handles.specs.contracts.block.Block.{the_row as block_row}
 use Rattle.handles.specs.contracts.block.Held.{the_row as held_row}
 
 abbrev pub with_held : {X : Type 0} → Handle X → Held X → Handle X
-with_held h w = record { block = h.block; held = w; sole = false }
+with_held h w = record { block = h.block; held = w; sole = false; id = h.id }
 
 -- the limit stays
 abbrev pub with_value : {X : Type 0} → Handle X → X → Handle X

@@ -28,7 +28,8 @@ use Rattle.std_heap.specs.contracts.Global.{the_row as heap_row}
 use Rattle.std.specs.contracts.impls.GlobalAllocator.TheImpl.{ghosts}
 use Rattle.counting_word.specs.CountingWord.{StandsFor, IsWithin, marked_word}
 use Rattle.handles.specs.contracts.block.Held.{the_row as held_row}
-use Rattle.counting_word.specs.WordSteps.{WordStep, coded_step, left_by}
+use Rattle.counting_word.specs.WordSteps.{WordStep, coded_step, Adds}
+use Rattle.counting_word.specs.WordSteps.{left_by}
 use Rattle.counting_word.specs.Rights.{Right, nothing, a_handle, to_lower, whole_block}
 
 abbrev pub fact : Type 0 → Fml
@@ -37,7 +38,6 @@ fact φ = fex φ (λ _. ftrue)
 pub record Names : Type 0 where
   pub shared : ℕ
   pub unmarked : ℕ
-  pub log : ℕ
 
 -- logs are kept as their ghost values
 abbrev pub itself : Coded Gv
@@ -49,6 +49,20 @@ logs = prefixes itself
 abbrev pub kept_log : List WordStep → List Gv
 kept_log log = map (λ (s : WordStep). coded_step.code s) log
 
+-- Each block has a log of the steps that are made on its word, under a ghost name of its own, which is its id.
+module _ (id : ℕ) where
+  -- the log began with these steps
+  abbrev pub reached : List WordStep → Fml
+  reached log = at_least logs id (kept_log log)
+
+  -- the log, whose steps leave this word
+  abbrev pub recorded : ℕ → Fml
+  recorded w = fex (List WordStep) (λ log. fsep (latest logs full_share id (kept_log log)) (fact (left_by log ≡ w)))
+
+  -- one more step was made, which found this word, and the log is this one with it
+  abbrev pub logged : List WordStep → WordStep → ℕ → Fml
+  logged old s w = fex (List WordStep) (λ log. fsep (reached log) (fact (Adds old s w log)))
+
 module _ (i : Names) where
   -- one unit of the count
   abbrev pub unit_of_count : Fml
@@ -59,18 +73,6 @@ module _ (i : Names) where
 
   abbrev pub marked : Fml
   marked = fdead (i.unmarked ∷ [])
-
-  -- the log of the sharing began with these steps
-  abbrev pub reached : List WordStep → Fml
-  reached log = at_least logs i.log (kept_log log)
-
-  -- the log of the sharing, whose steps leave this word
-  abbrev pub recorded : ℕ → Fml
-  recorded w = fex (List WordStep) (λ log. fsep (latest logs full_share i.log (kept_log log)) (fact (left_by log ≡ w)))
-
-  -- the log had this step, which found this word
-  abbrev pub logged : WordStep → ℕ → Fml
-  logged s w = fex (List WordStep) (λ log. fsep (reached (log ++ s ∷ [])) (fact (left_by log ≡ w)))
 
   -- a handle's right to its share of the token: it is one part, which the word counts, or the block is marked for good
   abbrev pub entitled : Share → Bool → Fml
@@ -92,7 +94,7 @@ abbrev pub Says : ℕ → ℕ → Bool → ℕ → Type 0
 Says limit w mark n = StandsFor w mark n n × IsWithin w limit
 
 -- `content` is what is lent for the lifetime of the sharing, and `kept` what stays in the invariant beside the word.
-module _ (content kept : Fml) (limit b o : ℕ) (i : Names) where
+module _ (content kept : Fml) (limit b o id : ℕ) (i : Names) where
   -- what the invariant has when n parts are counted. With the mark one more part is gone for good: it is the pool,
   -- from which new handles are made.
   abbrev pub beside_word : Bool → ℕ → Fml
@@ -104,7 +106,7 @@ module _ (content kept : Fml) (limit b o : ℕ) (i : Names) where
   -- Each counted part is of a live handle or of a drop in flight.
   -- A block that is over has the token of `unmarked` for good: it never was marked.
   abbrev pub stage : Stage → Fml
-  stage (living mark w n) = fsep (fsep (word b o w) (recorded i w)) (fsep (fact (Says limit w mark n)) (beside_word mark n))
+  stage (living mark w n) = fsep (fsep (word b o w) (recorded id w)) (fsep (fact (Says limit w mark n)) (beside_word mark n))
   stage over = fsep (unshared i) (flft (i.unmarked ∷ []) full_share)
 
   abbrev pub Rule : Fml
@@ -175,17 +177,21 @@ module _ (R : RattleType) where
   abbrev pub shown : Ptr → HeldRow.Denot → Lft → Fml
   shown p x = lent_at HeldRow (p +ₚ held_offset) x
 
-  module _ (p : Ptr) (x : HeldRow.Denot) where
+  -- a new block, which has no log yet
+  abbrev pub bare_block : Ptr → HeldRow.Denot → ℕ → Fml
+  bare_block p x w = fsep (word (block_of p) (offset_of p + 0) w) (fsep (held_and_block p x) (stamp p))
+
+  module _ (p : Ptr) (x : HeldRow.Denot) (id : ℕ) where
     abbrev pub block_rule : Names → Fml
-    block_rule = Rule (held_and_block p x) (stamp p) x.limit.count (block_of p) (offset_of p + 0)
+    block_rule = Rule (held_and_block p x) (stamp p) x.limit.count (block_of p) (offset_of p + 0) id
 
     -- a whole block that nobody shares, with the word w
     abbrev pub unshared_block : ℕ → Fml
-    unshared_block w = fsep (word (block_of p) (offset_of p + 0) w) (fsep (held_and_block p x) (stamp p))
+    unshared_block w = fsep (fsep (word (block_of p) (offset_of p + 0) w) (recorded id w)) (fsep (held_and_block p x) (stamp p))
 
     abbrev pub counted_handle : Fml
     counted_handle = fex Names (λ i.
-        counted (held_and_block p x) (stamp p) x.limit.count (block_of p) (offset_of p + 0) i (shown p x))
+        counted (held_and_block p x) (stamp p) x.limit.count (block_of p) (offset_of p + 0) id i (shown p x))
 
     -- The only handle of a new block has it outright, until it is first shared; the invariant is made only then.
     abbrev pub held_as : Sharing → Fml
@@ -204,14 +210,17 @@ module _ (R : RattleType) where
     abbrev pub shared_as : Bool → Lft → Fml
     shared_as true = shown p x
     shared_as false = some Names (λ i.
-        counted_shares (held_and_block p x) (stamp p) x.limit.count (block_of p) (offset_of p + 0) i (shown p x))
+        counted_shares (held_and_block p x) (stamp p) x.limit.count (block_of p) (offset_of p + 0) id i (shown p x))
 
     abbrev pub handle_shares : Bool → Lft → Fml
     handle_shares sole = beside (said (placed p)) (shared_as sole)
 
-    -- what a step left its caller with
-    abbrev pub gain_owns : Right → Fml
-    gain_owns nothing = placed p
-    gain_owns a_handle = handle_owns false
-    gain_owns to_lower = fsep (placed p) (fex Names (λ i. fsep (unit_of_count i) (finv (block_rule i))))
-    gain_owns (whole_block w) = fsep (placed p) (unshared_block w)
+    abbrev pub gain_by : Right → Fml
+    gain_by nothing = placed p
+    gain_by a_handle = handle_owns false
+    gain_by to_lower = fsep (placed p) (fex Names (λ i. fsep (unit_of_count i) (finv (block_rule i))))
+    gain_by (whole_block w) = fsep (placed p) (unshared_block w)
+
+    -- what a step left its caller with: a right, and that the log is no shorter
+    abbrev pub gain_owns : Right → List WordStep → Fml
+    gain_owns r log = fsep (reached id log) (gain_by r)

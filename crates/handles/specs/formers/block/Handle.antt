@@ -1,5 +1,5 @@
 -- `Handle` as a type that may hold the type that holds it.
-use Rattle.std.specs.Prelude.{Bool}
+use Rattle.std.specs.Prelude.{Bool, ℕ}
 use mathlib.Core.Path.{refl}
 use mathlib.Core.Former.{Former, this, const, pair, via}
 use base.Stored.{gnil}
@@ -16,12 +16,12 @@ use Rattle.handles.specs.declared.limit.Limit.{Limit}
 use Rattle.handles.specs.contracts.block.Handle as C
 
 abbrev pub with_value : {X Y : Type 0} → Handle X → Y → Handle Y
-with_value h y = record { block = h.block; held = record { limit = h.held.limit; value = y }; sole = h.sole }
+with_value h y = record { block = h.block; held = record { limit = h.held.limit; value = y }; sole = h.sole; id = h.id }
 
 abbrev pub the_former : Former {0} → Former {0}
-the_former g = via (pair (const (Ptr × Limit × Bool)) g) (λ X. Handle (g.Of X))
-    (λ X h. ((h.block, h.held.limit, h.sole), h.held.value))
-    (λ X v. record { block = v.0.0; held = record { limit = v.0.1; value = v.1 }; sole = v.0.2 })
+the_former g = via (pair (const (Ptr × Limit × Bool × ℕ)) g) (λ X. Handle (g.Of X))
+    (λ X h. ((h.block, h.held.limit, h.sole, h.id), h.held.value))
+    (λ X v. record { block = v.0.0; held = record { limit = v.0.1; value = v.1 }; sole = v.0.2; id = v.0.3 })
     (λ X h. refl) (λ X v. refl)
 
 abbrev pub the_weighed : {g : Former {0}} → Weighed g → Weighed (the_former g)

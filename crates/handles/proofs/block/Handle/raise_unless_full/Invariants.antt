@@ -4,4 +4,4 @@ use Rattle.handles.proofs.block.Handle.raise_unless_full.Given as goal
 -- what was gained is of this block
 abbrev pub invariant-loop : goal.invariant-loop
 invariant-loop g l =
-    (l.seen.gain.held ≡ l.self.held) × (l.seen.gain.block ≡ l.self.block)
+    (l.seen.gain.held ≡ l.self.held) × (l.seen.gain.block ≡ l.self.block) × (l.seen.gain.id ≡ l.self.id)

@@ -11,7 +11,7 @@ after_claim s w = gained s (right_by_claim w)
 
 module _ {M : Type 1} {𝓤 : Ura M} (𝓛 : Logic 𝓤) (s : SharedBlock) where
   pub claims : Asks 𝓛 s (λ w. w) (fsep ftrue (stake s.names)) (and_logged s [] step.claims (after_claim s))
-  claims = held_step 𝓛 s step.claims (λ w. w) (λ w _. refl) (after_claim s) at
+  claims = held_step 𝓛 s step.claims (λ w. w) (λ w _. refl) (after_claim s) (λ w. tt) at
     where
       a_unit : Fml
       a_unit = unit_of_count s.names
@@ -30,7 +30,7 @@ module _ {M : Type 1} {𝓤 : Ura M} (𝓛 : Logic 𝓤) (s : SharedBlock) where
           let gains : right_by_claim w ≡ whole_block 1 = ap (λ z. if z then whole_block 1 else a_handle) (eq-eqb w 1 is) in
           subst (λ z. Lands 𝓛 s z false n a_unit (after_claim s w) j) (sym is) (subst (λ k. Lands 𝓛 s 1 false k a_unit (after_claim s w) j) (sym one) (last_one 𝓛 s (after_claim s w) j 1 (ap (gained s) gains)))
 
-      at : HeldSteps 𝓛 s step.claims (λ w. w) (λ w _. refl) (after_claim s)
+      at : HeldSteps 𝓛 s step.claims (λ w. w) (λ w _. refl) (after_claim s) (λ w. tt)
       at j false true e w n small says = qed 𝓛 (‵ (counts s w) ∷ ‵ (beside s false n) ∷ ‵ (entitled s.names e true) ∷ ‵ (flft (shared s) e) ∷ []) ∵ move ! (2 ∷ []) $
           fpick ! (λ c. drop ! $ move ! (2 ∷ []) $ use1 𝓛 (‵ a_unit) (part_in 64 𝓛 s.names.shared e c) $ move ! (1 ∷ 2 ∷ 0 ∷ []) $
           by ! (dite (ℕ_discrete n 1) (λ one. alone j w n one says) (λ other. more j w n other says)))

@@ -1,9 +1,9 @@
 -- The read by which a handle ends, and what every step by a handle's holder has. Assumes `Logic`.
 use Rattle.counting_word.specs.CountingWord.{is_marked_word}
-use Rattle.counting_word.specs.WordSteps.{reads_last}
+use Rattle.counting_word.specs.WordSteps.{reads_last, MayStep}
 use Rattle.counting_word.specs.Rights.{to_lower, right_by_last_read}
 use Rattle.handles.proofs.Asking as asking
-use Rattle.handles.proofs.Steps.Shared.{◌≡◌, ℕ, ◌^◌, ◌<◌, Bool, true, false, [], ◌∷◌, ap, if◌then◌else◌, Ura, SProp, ent, never, Share, Fml, fsep, flft, Logic, sem, ‵, ◌$◌, ◌∵◌, !, qed, by, move, keep, drop, fsplit, fsplit3, fpick, use1, use2, part_in, nothing_more, nothing, Says, unit_of_count, unshared, marked, entitled, stake, SharedBlock, shared, unmarked, counts, beside, rule, gained, no_token, lives, regained, Lands, Asks, stepped, and_logged, unknown, ftrue, WordStep, word_by, refl}
+use Rattle.handles.proofs.Steps.Shared.{◌≡◌, ℕ, ◌^◌, ◌<◌, Bool, true, false, [], ◌∷◌, ap, if◌then◌else◌, Ura, SProp, ent, never, Share, Fml, fsep, flft, Logic, sem, ‵, ◌$◌, ◌∵◌, !, qed, by, move, keep, drop, fsplit, fsplit3, fpick, use1, use2, part_in, nothing_more, nothing, Says, unit_of_count, unshared, marked, entitled, stake, SharedBlock, shared, unmarked, counts, beside, rule, gained, no_token, lives, regained, Lands, Asks, stepped, inl, and_logged, unknown, ftrue, WordStep, word_by, refl}
 
 -- what the holder of a handle has: a share e of the token, to which it is entitled as y says
 abbrev pub a_stake : SharedBlock → Bool → Share → Fml
@@ -20,21 +20,21 @@ module _ {M : Type 1} {𝓤 : Ura M} (𝓛 : Logic 𝓤) (s : SharedBlock) where
   pub not_yet_marked : (e : Share) (n : ℕ) (X : SProp 𝓤) → ent 𝓤 (sem 𝓛 (fsep (beside s false n) (a_stake s false e))) X
   not_yet_marked e n X = qed 𝓛 (‵ (beside s false n) ∷ ‵ (marked s.names) ∷ ‵ (flft (shared s) e) ∷ []) ∵ fsplit3 ! $ keep ! (2 ∷ 3 ∷ []) $ by ! (no_token 𝓛 (unmarked s) base.Fraction.full_share X)
 
-  module _ (what : WordStep) (f : ℕ → ℕ) (is : (w : ℕ) → w < 2 ^ 64 → word_by what w ≡ f w) (after : ℕ → Fml) where
+  module _ (what : WordStep) (f : ℕ → ℕ) (is : (w : ℕ) → w < 2 ^ 64 → word_by what w ≡ f w) (after : ℕ → Fml) (free : (w : ℕ) → MayStep w what) where
     abbrev pub HeldSteps : Type 1
     HeldSteps = (j : ℕ) (mark y : Bool) (e : Share) (w n : ℕ) → w < 2 ^ 64 → Says s.limit w mark n → Lands 𝓛 s (f w) mark n (a_stake s y e) (after w) j
 
     pub held_step : HeldSteps → Asks 𝓛 s f (fsep ftrue (stake s.names)) (and_logged s [] what after)
-    held_step steps = stepped 𝓛 s [] ftrue (unknown 𝓛 s) what f is after (stake s.names) (λ j mark w n small says. qed 𝓛 (‵ (counts s (f w)) ∷ ‵ (beside s mark n) ∷ ‵ (stake s.names) ∷ []) ∵ move ! (2 ∷ []) $
+    held_step steps = stepped 𝓛 s [] ftrue (unknown 𝓛 s) what f is after (stake s.names) (λ j mark w n says. inl (free w)) (λ j mark w n small says. qed 𝓛 (‵ (counts s (f w)) ∷ ‵ (beside s mark n) ∷ ‵ (stake s.names) ∷ []) ∵ move ! (2 ∷ []) $
         fpick ! (λ e. fsplit ! $ fpick ! (λ y. move ! (2 ∷ 3 ∷ 0 ∷ 1 ∷ []) $ by ! (steps j mark y e w n small says)))) no_stake
 
   pub last_reads : Asks 𝓛 s (λ w. w) (fsep ftrue (stake s.names)) (and_logged s [] reads_last (after_last_read s))
-  last_reads = held_step reads_last (λ w. w) (λ w _. refl) (after_last_read s) at
+  last_reads = held_step reads_last (λ w. w) (λ w _. refl) (after_last_read s) (λ w. tt) at
     where
       right_is : (w : ℕ) (y : Bool) → is_marked_word w ≡ y → right_by_last_read w ≡ (if y then nothing else to_lower)
       right_is w y e = ap (λ z. if z then nothing else to_lower) e
 
-      at : HeldSteps reads_last (λ w. w) (λ w _. refl) (after_last_read s)
+      at : HeldSteps reads_last (λ w. w) (λ w _. refl) (after_last_read s) (λ w. tt)
       at j false true e w n small says = qed 𝓛 (‵ (counts s w) ∷ ‵ (beside s false n) ∷ ‵ (entitled s.names e true) ∷ ‵ (flft (shared s) e) ∷ []) ∵ use2 𝓛 (‵ (rule s)) (lives 𝓛 s false w n says) $ move ! (1 ∷ []) $
           fpick ! (λ c. drop ! $ move ! (1 ∷ []) $ use1 𝓛 (‵ (unit_of_count s.names)) (part_in 64 𝓛 s.names.shared e c) $
           use1 𝓛 (‵ (after_last_read s w)) (regained 𝓛 s to_lower (right_by_last_read w) (right_is w false says.0.same_mark)) $ move ! (1 ∷ 0 ∷ []) $ by ! (asking.closes 𝓛 (rule s) (after_last_read s w) j))

@@ -5,7 +5,7 @@ use Rattle.counting_word.specs.CountingWord.{marked_word}
 use Rattle.counting_word.proofs.Words.{bit_or-mark_bit, stands-marked_word}
 use Rattle.counting_word.specs.WordSteps as step
 use Rattle.handles.proofs.Asking as asking
-use Rattle.handles.proofs.Steps.Shared.{◌≡◌, ℕ, ◌+◌, ◌^◌, ◌<◌, Bool, true, false, [], ◌∷◌, sym, refl, ◌∙◌, subst, arith, Ura, ftrue, Share, Fml, fsep, flft, Logic, ‵, ◌⊛◌, ◌$◌, ◌∵◌, !, qed, by, move, keep, split, fsplit, fsplit3, fjoin, fjoin3, fpick, fpack, suffices, use1, use2, done, rest, takes, mark_bit, count_of-unmarked, Says, unit_of_count, marked, SharedBlock, shared, counts, beside, rule, Entails, lives, Lands, Asks, Steps, stepped, and_logged, unknown}
+use Rattle.handles.proofs.Steps.Shared.{◌≡◌, ℕ, ◌+◌, ◌^◌, ◌<◌, Bool, true, false, [], ◌∷◌, sym, refl, ◌∙◌, subst, arith, Ura, ftrue, Share, Fml, fsep, flft, Logic, ‵, ◌⊛◌, ◌$◌, ◌∵◌, !, qed, by, move, keep, split, fsplit, fsplit3, fjoin, fjoin3, fpick, fpack, suffices, use1, use2, done, rest, takes, mark_bit, count_of-unmarked, Says, unit_of_count, marked, SharedBlock, shared, counts, beside, rule, Entails, lives, Lands, Asks, Steps, stepped, inl, and_logged, unknown}
 use Rattle.handles.proofs.Steps.Says.{says-marked}
 use Rattle.handles.proofs.Steps.Reads.{a_share, no_share}
 
@@ -15,7 +15,7 @@ after_mark s q w = a_share s q
 
 module _ {M : Type 1} {𝓤 : Ura M} (𝓛 : Logic 𝓤) (s : SharedBlock) (q : Share) where
   pub marks : Asks 𝓛 s (λ w. bit_or w (2 ^ 63)) (fsep ftrue (a_share s q)) (and_logged s [] step.marks (after_mark s q))
-  marks = stepped 𝓛 s [] ftrue (unknown 𝓛 s) step.marks (λ w. bit_or w (2 ^ 63)) (λ w small. sym (bit_or-mark_bit w small)) (after_mark s q) (a_share s q) at (no_share 𝓛 s q)
+  marks = stepped 𝓛 s [] ftrue (unknown 𝓛 s) step.marks (λ w. bit_or w (2 ^ 63)) (λ w small. sym (bit_or-mark_bit w small)) (after_mark s q) (a_share s q) (λ j mark w n says. inl tt) at (no_share 𝓛 s q)
     where
       -- what the block had, but for its lender
       Had : ℕ → ℕ → Fml
@@ -40,5 +40,5 @@ module _ {M : Type 1} {𝓤 : Ura M} (𝓛 : Logic 𝓤) (s : SharedBlock) (q : 
       at_word j true w n small says = qed 𝓛 (‵ (counts s (marked_word w)) ∷ ‵ (beside s true n) ∷ ‵ (a_share s q) ∷ []) ∵
           use2 𝓛 (‵ (rule s)) (lives 𝓛 s true (marked_word w) n (says-marked s.limit (marked_word w) n (stands-marked_word w n n true says.0 (omega arith)))) $ by ! (asking.closes 𝓛 (rule s) (after_mark s q w) j)
 
-      at : Steps 𝓛 s [] ftrue (unknown 𝓛 s) step.marks (λ w. bit_or w (2 ^ 63)) (λ w small. sym (bit_or-mark_bit w small)) (after_mark s q) (a_share s q)
+      at : Steps 𝓛 s [] ftrue (unknown 𝓛 s) step.marks (λ w. bit_or w (2 ^ 63)) (λ w small. sym (bit_or-mark_bit w small)) (after_mark s q) (a_share s q) (λ j mark w n says. inl tt)
       at j mark w n small says = subst (λ z. Lands 𝓛 s z mark n (a_share s q) (after_mark s q w) j) (sym (bit_or-mark_bit w small)) (at_word j mark w n small says)

@@ -6,7 +6,7 @@ use Rattle.counting_word.specs.CountingWord.{greatest_count}
 use Rattle.counting_word.proofs.Words.{stands-raised}
 use Rattle.counting_word.specs.WordSteps as step
 use Rattle.counting_word.specs.Rights.{right_by_raise}
-use Rattle.handles.proofs.Steps.Shared.{◌≡◌, ◌≢◌, ℕ, ◌+◌, ◌%◌, ◌<◌, ◌≤◌, Bool, true, false, [], ◌∷◌, sym, refl, ap, ◌∙◌, subst, arith, eq-eqb, ne_eqb, if◌then◌else◌, dite, ℕ_discrete, Ura, Share, Fml, Logic, ‵, ◌⊛◌, ◌$◌, ◌∵◌, !, qed, by, move, split, fsplit, fjoin, use1, use2, rest, takes, mark_bit, StandsFor, count_of-unmarked, nothing, a_handle, right_by_read, Says, unit_of_count, stake, SharedBlock, counts, beside, rule, gained, counted_stake, lives, regained, Lands, Asks, Steps, stepped, and_logged, begun_with, WordStep, List}
+use Rattle.handles.proofs.Steps.Shared.{◌≡◌, ◌≢◌, ℕ, ◌+◌, ◌%◌, ◌<◌, ◌≤◌, Bool, true, false, [], ◌∷◌, sym, refl, ap, ◌∙◌, subst, arith, eq-eqb, ne_eqb, if◌then◌else◌, dite, ℕ_discrete, Ura, Share, Fml, Logic, ‵, ◌⊛◌, ◌$◌, ◌∵◌, !, qed, by, move, split, fsplit, fjoin, use1, use2, rest, takes, mark_bit, StandsFor, count_of-unmarked, nothing, a_handle, right_by_read, Says, unit_of_count, stake, SharedBlock, counts, beside, rule, gained, counted_stake, lives, regained, Lands, Asks, Steps, stepped, inl, and_logged, begun_with, WordStep, List}
 use Rattle.handles.specs.Inside.Blocks.{reached}
 use Rattle.handles.proofs.Steps.Says.{stands-unmarked}
 use Rattle.handles.proofs.Steps.Reads.{a_share, told, no_share, shut, found_marked, found_unmarked}
@@ -40,13 +40,16 @@ module _ {M : Type 1} {𝓤 : Ura M} (𝓛 : Logic 𝓤) (s : SharedBlock) (q : 
       use1 𝓛 (‵ (stake s.names)) (counted_stake 𝓛 s.names) $ use1 𝓛 (‵ (gained s (right_by_raise seen seen))) (regained 𝓛 s a_handle (right_by_raise seen seen) wins) $
       move ! (1 ∷ 0 ∷ []) $ by ! (shut 𝓛 s q (right_by_raise seen seen) j seen says.1)
 
+  under : seen < greatest_count
+  under = let most : s.limit ≤ 9223372036854775807 = bounded in omega (arith, below, most)
+
   is_raised : (w : ℕ) → step.word_by (step.raises_from seen) w ≡ raised seen (seen + 1) w
   is_raised w = dite (ℕ_discrete w seen)
       (λ same. ap (λ (b : Bool). if b then w + 1 else w) (eq-eqb w seen same) ∙ ap (λ z. z + 1) same ∙ sym (ap (λ (b : Bool). either b (seen + 1) w) (eq-eqb w seen same)))
       (λ other. ap (λ (b : Bool). if b then w + 1 else w) (ne_eqb w seen other) ∙ sym (ap (λ (b : Bool). either b (seen + 1) w) (ne_eqb w seen other)))
 
   pub raises : (next : ℕ) → next ≡ seen + 1 → Asks 𝓛 s (raised seen next) (fsep (reached s.log old) (a_share s q)) (and_logged s old (step.raises_from seen) (after_raise s q seen))
-  raises next is_next = subst (λ m. Asks 𝓛 s (raised seen m) (fsep (reached s.log old) (a_share s q)) (and_logged s old (step.raises_from seen) (after_raise s q seen))) (sym is_next) (stepped 𝓛 s old (reached s.log old) (begun_with 𝓛 s old) (step.raises_from seen) (raised seen (seen + 1)) (λ w _. is_raised w) (after_raise s q seen) (a_share s q) at (no_share 𝓛 s q))
+  raises next is_next = subst (λ m. Asks 𝓛 s (raised seen m) (fsep (reached s.log old) (a_share s q)) (and_logged s old (step.raises_from seen) (after_raise s q seen))) (sym is_next) (stepped 𝓛 s old (reached s.log old) (begun_with 𝓛 s old) (step.raises_from seen) (raised seen (seen + 1)) (λ w _. is_raised w) (after_raise s q seen) (a_share s q) (λ j mark w n says. inl under) at (no_share 𝓛 s q))
     where
       F : ℕ → Bool → ℕ → ℕ → Bool → Type 1
       F j mark w n y = Lands 𝓛 s (either y (seen + 1) w) mark n (a_share s q) (after_raise s q seen w) j
@@ -60,7 +63,7 @@ module _ {M : Type 1} {𝓤 : Ura M} (𝓛 : Logic 𝓤) (s : SharedBlock) (q : 
           let high : 9223372036854775808 ≤ seen = leb-true mark_bit seen says.0.same_mark in absurd (omega arith)
       same_word j false n says = won j n says
 
-      at : Steps 𝓛 s old (reached s.log old) (begun_with 𝓛 s old) (step.raises_from seen) (raised seen (seen + 1)) (λ w _. is_raised w) (after_raise s q seen) (a_share s q)
+      at : Steps 𝓛 s old (reached s.log old) (begun_with 𝓛 s old) (step.raises_from seen) (raised seen (seen + 1)) (λ w _. is_raised w) (after_raise s q seen) (a_share s q) (λ j mark w n says. inl under)
       at j mark w n small says = dite (ℕ_discrete w seen)
           (λ same. subst (λ z. F j mark z n (eqb z seen)) (sym same) (subst (F j mark seen n) (sym (eq-eqb seen seen refl)) (same_word j mark n (subst (λ z. Says s.limit z mark n) same says))))
           (λ other. subst (F j mark w n) (sym (ne_eqb w seen other)) (missed j mark w n other says))

@@ -6,7 +6,7 @@ use Rattle.counting_word.specs.Rights.{Right}
 use Rattle.handles.specs.Inside.Blocks.{fact, logged}
 use Rattle.handles.proofs.Steps.Shared.{WordStep, List, fsplit, fsplit3, done}
 use Rattle.handles.proofs.Asking as asking
-use Rattle.handles.proofs.Steps.Shared.{unshared, ◌≡◌, ℕ, true, false, [], ◌∷◌, ap, if◌then◌else◌, Ura, ent, never, Share, Fml, fsep, flft, Logic, sem, ‵, ◌⊛◌, ◌$◌, ◌∵◌, !, qed, by, move, split, fjoin, fpack, use1, use2, nothing_more, nothing, a_handle, right_by_read, Says, stake, SharedBlock, shared, counts, beside, rule, gained, no_token, lives, regained, makes_one, Lands, Asks, Steps, stepped, and_logged, unknown, refl}
+use Rattle.handles.proofs.Steps.Shared.{unshared, ◌≡◌, ℕ, true, false, [], ◌∷◌, ap, if◌then◌else◌, Ura, ent, never, Share, Fml, fsep, flft, Logic, sem, ‵, ◌⊛◌, ◌$◌, ◌∵◌, !, qed, by, move, split, fjoin, fpack, use1, use2, nothing_more, nothing, a_handle, right_by_read, Says, stake, SharedBlock, shared, counts, beside, rule, gained, no_token, lives, regained, makes_one, Lands, Asks, Steps, stepped, inl, and_logged, unknown, refl}
 
 module _ (s : SharedBlock) (q : Share) where
   -- its maker has a share of the token
@@ -45,8 +45,8 @@ module _ {M : Type 1} {𝓤 : Ura M} (𝓛 : Logic 𝓤) (s : SharedBlock) (q : 
       use1 𝓛 (‵ (gained s r)) (regained 𝓛 s nothing r e) $ move ! (1 ∷ 0 ∷ []) $ by ! (shut r j w says.1)
 
   pub reads : Asks 𝓛 s (λ w. w) (fsep ftrue (a_share s q)) (and_logged s [] step.reads (after_read s q))
-  reads = stepped 𝓛 s [] ftrue (unknown 𝓛 s) step.reads (λ w. w) (λ w _. refl) (after_read s q) (a_share s q) at no_share
+  reads = stepped 𝓛 s [] ftrue (unknown 𝓛 s) step.reads (λ w. w) (λ w _. refl) (after_read s q) (a_share s q) (λ j mark w n says. inl tt) at no_share
     where
-      at : Steps 𝓛 s [] ftrue (unknown 𝓛 s) step.reads (λ w. w) (λ w _. refl) (after_read s q) (a_share s q)
+      at : Steps 𝓛 s [] ftrue (unknown 𝓛 s) step.reads (λ w. w) (λ w _. refl) (after_read s q) (a_share s q) (λ j mark w n says. inl tt)
       at j true w n small says = found_marked (right_by_read w) (ap (λ y. if y then a_handle else nothing) says.0.same_mark) j w n says
       at j false w n small says = found_unmarked (right_by_read w) (ap (λ y. if y then a_handle else nothing) says.0.same_mark) j w n says

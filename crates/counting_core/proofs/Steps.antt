@@ -9,3 +9,4 @@ pub mod Marking
 pub mod Running
 pub mod FullWords
 pub mod ByTheWord
+pub mod TraceLogs

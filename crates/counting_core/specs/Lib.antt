@@ -6,5 +6,6 @@ pub mod Represents
 pub mod Laws
 pub mod LostRaises
 pub mod ByWord
+pub mod TraceLogs
 pub mod HandleSteps
 pub mod BlockSteps

@@ -1,3 +1,4 @@
 pub mod Plans
 pub mod Words
 pub mod WordLogs
+pub mod PlainLogs

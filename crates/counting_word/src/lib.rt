@@ -8,6 +8,8 @@ ghost use Rattle.std.specs.Prelude.{◌≡◌};
 ghost use Rattle.counting_word.specs.CountingWord.{is_marked_word, is_one_handle, marked_word, IsLimit, IsWithin};
 ghost use Rattle.counting_word.specs.Plans.{clone_plan, drop_plan};
 
+pub mod laws;
+
 /// Bit 63. It is set for a block that is never given back, and it is never cleared.
 pub const MARK: u64 = 1 << 63;
 

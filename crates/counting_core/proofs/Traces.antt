@@ -13,3 +13,5 @@ pub mod CloneReads
 pub mod LostRaises
 pub mod LiveCounts
 pub mod Rooms
+pub mod Shapes
+pub mod Runs

@@ -9,3 +9,4 @@ pub mod ByWord
 pub mod TraceLogs
 pub mod HandleSteps
 pub mod BlockSteps
+pub mod Runs

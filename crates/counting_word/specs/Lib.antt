@@ -3,3 +3,4 @@ pub mod Plans
 pub mod Rights
 pub mod WordSteps
 pub mod PlainLogs
+pub mod Tallies

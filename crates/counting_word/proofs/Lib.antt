@@ -2,3 +2,4 @@ pub mod Plans
 pub mod Words
 pub mod WordLogs
 pub mod PlainLogs
+pub mod Tallies

@@ -1,8 +1,8 @@
 -- What a log says of handles, with no word: how many there are, how many drops are in flight, and whether there is a mark.
-use Rattle.std.specs.Prelude.{ℕ, ◌+◌, ◌-◌, ◌<◌, ◌≤◌, Bool, true, false, nat_eq, if◌then◌else◌, List, [], ◌∷◌, ◌++◌}
-use Rattle.counting_word.specs.CountingWord.{greatest_count}
+use Rattle.std.specs.Prelude.{◌≡◌, ℕ, ◌+◌, ◌-◌, ◌<◌, ◌≤◌, Bool, true, false, nat_eq, if◌then◌else◌, List, [], ◌∷◌, ◌++◌}
+use Rattle.counting_word.specs.CountingWord.{greatest_count, is_marked_word, count_of}
 use Rattle.counting_word.specs.Rights.{Right, nothing, a_handle, to_lower, whole_block}
-use Rattle.counting_word.specs.WordSteps.{WordStep, reads, asks, raises_from, reads_last, lowers, claims, marks}
+use Rattle.counting_word.specs.WordSteps.{WordStep, reads, asks, raises_from, reads_last, lowers, claims, marks, right_by, left_by, IsLegal}
 
 -- A handle that has made its last read is one no more: it is a drop in flight, until its lower.
 pub record Tally : Type 0 where
@@ -80,3 +80,39 @@ spelled_from p (s ∷ ss) = spelled_step p s ++ spelled_from (tally_after p s) s
 
 abbrev pub spelled : List WordStep → List Entry
 spelled log = spelled_from first log
+
+-- what a step leaves its maker with
+abbrev pub tally_right : Tally → WordStep → Right
+tally_right p reads = if p.mark then a_handle else nothing
+tally_right p asks = nothing
+tally_right p (raises_from seen) = if has_exactly seen p then a_handle else (if p.mark then a_handle else nothing)
+tally_right p reads_last = if p.mark then nothing else to_lower
+tally_right p lowers = if has_exactly 1 p then whole_block 0 else nothing
+tally_right p claims = if has_exactly 1 p then whole_block 1 else a_handle
+tally_right p marks = nothing
+
+-- The word has the mark. Without one it is the number of handles and drops in flight, and with it, it covers the drops.
+pub record Counts (word : ℕ) (p : Tally) : Type 0 where
+  pub same_mark : is_marked_word word ≡ p.mark
+  pub same_count : p.mark ≡ false → word ≡ p.handles + p.drops
+  pub covers_drops : p.mark ≡ true → p.drops ≤ count_of word
+
+-- A run that comes to this tally and leaves this word.
+pub record Keeps (log : List WordStep) (p : Tally) (word : ℕ) : Type 0 where
+  pub runs : IsRun log
+  pub same_tally : tally_of log ≡ p
+  pub leaves : left_by log ≡ word
+
+-- The new log is a run, goes on from the old one, and ends with this step, which found this word.
+pub record Adds (old : List WordStep) (s : WordStep) (found : ℕ) (new : List WordStep) : Type 0 where
+  pub runs : IsRun new
+  pub others : List WordStep
+  pub found_word : left_by (old ++ others) ≡ found
+  pub ends : new ≡ (old ++ others) ++ s ∷ []
+
+-- Each run is a legal log, whose word counts its handles, and each step leaves its maker with the right by the tally.
+abbrev pub RunsAreCounted : Type 0
+RunsAreCounted =
+    (log : List WordStep) → IsRun log
+    → IsLegal log × Counts (left_by log) (tally_of log)
+    × ((s : WordStep) → IsRun (log ++ s ∷ []) → right_by s (left_by log) ≡ tally_right (tally_of log) s)

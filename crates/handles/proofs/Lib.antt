@@ -11,6 +11,7 @@ pub mod PlacesMade
 pub mod PlacesOpened
 pub mod PlacesShared
 pub mod PlacesWalks
+pub mod Rows
 pub mod Sent
 pub mod Steps
 pub mod Walks

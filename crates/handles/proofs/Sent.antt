@@ -6,6 +6,7 @@ use base.Fraction.{full_share}
 use base.Growing.{latest}
 use Rattle.std.proofs.Common.{List}
 use Rattle.counting_word.specs.WordSteps.{WordStep}
+use Rattle.handles.proofs.Rows.{row-Keyless, pass-Keyless}
 use denote.RattleType.{RattleType}
 use denote.RawPtr.{Ptr, block_ptr, null_ptr, block_of, count_of as offset_of, ◌+ₚ◌}
 use denote.Builtin.{RawPtr}
@@ -34,8 +35,8 @@ unfolding latest
 latest-Keyless η log = tt
 
 stage-Keyless : (content kept : Fml) → Keyless content → Keyless kept → (limit b o η : ℕ) (i : Names) (s : Stage) → Keyless (stage content kept limit b o η i s)
-stage-Keyless content kept c k limit b o η i (living false w n) = ((tt, λ log. (latest-Keyless η log, λ _. tt)), ((λ _. tt), ((λ r c. tt), ((c, k), tt))))
-stage-Keyless content kept c k limit b o η i (living true w n) = ((tt, λ log. (latest-Keyless η log, λ _. tt)), ((λ _. tt), ((λ r c. tt), (((λ e. tt), k), tt))))
+stage-Keyless content kept c k limit b o η i (living false w n) = ((tt, λ p. ((λ log. (latest-Keyless η log, λ _. tt)), (row-Keyless i.handles p.handles, row-Keyless i.drops p.drops))), ((λ _. tt), ((λ r c. tt), ((c, k), tt))))
+stage-Keyless content kept c k limit b o η i (living true w n) = ((tt, λ p. ((λ log. (latest-Keyless η log, λ _. tt)), (row-Keyless i.handles p.handles, row-Keyless i.drops p.drops))), ((λ _. tt), ((λ r c. tt), (((λ e. tt), k), tt))))
 stage-Keyless content kept c k limit b o η i over = (tt, tt)
 
 module _ (R : RattleType) (s : IsSend R) (y : IsSync R) where
@@ -58,7 +59,7 @@ module _ (R : RattleType) (s : IsSend R) (y : IsSync R) where
   handle-Keyless : (p : Ptr) (x : (HeldRow R).Denot) (η : ℕ) (z : Sharing) → Keyless (held_as R p x η z)
   handle-Keyless p x η not_yet = ((tt, λ log. (latest-Keyless η log, λ _. tt)), (content-Keyless p x, stamp-Keyless p))
   handle-Keyless p x η marked_not_yet = ((tt, λ log. (latest-Keyless η log, λ _. tt)), (content-Keyless p x, stamp-Keyless p))
-  handle-Keyless p x η begun = λ i. ((λ e. (entitled-Keyless i e, tt)), (rule-Keyless p x η i, shown-Common p x (i.shared ∷ [])))
+  handle-Keyless p x η begun = λ i. (((λ e. (entitled-Keyless i e, tt)), pass-Keyless i.handles i.own full_share), (rule-Keyless p x η i, shown-Common p x (i.shared ∷ [])))
 
   owned-Keyless : (p : Ptr) (x : (HeldRow R).Denot) (η : ℕ) (sole : Bool) → Keyless (owned_as R p x η sole)
   owned-Keyless p x η true = ((tt, λ log. (latest-Keyless η log, λ _. tt)), (content-Keyless p x, stamp-Keyless p))
@@ -66,7 +67,7 @@ module _ (R : RattleType) (s : IsSend R) (y : IsSync R) where
 
   shared-Keyless : (p : Ptr) (x : (HeldRow R).Denot) (η : ℕ) (sole : Bool) (κ : Lft) → Keyless (shared_as R p x η sole κ)
   shared-Keyless p x η true κ = shown-Common p x κ
-  shared-Keyless p x η false κ = λ i. ((λ q. tt), (rule-Keyless p x η i, shown-Common p x (i.shared ∷ [])))
+  shared-Keyless p x η false κ = λ i. ((λ q. tt), ((λ q. (tt, pass-Keyless i.handles i.own q)), (rule-Keyless p x η i, shown-Common p x (i.shared ∷ []))))
 
   fields-Send : AllSend (fields (handle_type.the_type R))
   fields-Send = (pointers, tt)

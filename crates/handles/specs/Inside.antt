@@ -1,3 +1,4 @@
+pub mod Rows
 -- What contracts inside the crate cite, and no public one.
 pub mod BlockWriteBack
 pub mod Blocks

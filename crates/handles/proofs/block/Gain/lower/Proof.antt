@@ -2,7 +2,8 @@
 use Rattle.handles.proofs.Steps.Shared.{List}
 use types.Kit.{some as exists, given, pick, learn}
 use Rattle.std.proofs.Common.{List}
-use Rattle.counting_word.specs.WordSteps.{WordStep, Adds}
+use Rattle.counting_word.specs.WordSteps.{WordStep}
+use Rattle.counting_word.specs.Tallies.{Adds}
 use Rattle.handles.proofs.Walks.{◌≡◌, ℕ, ◌+◌, [], ◌∷◌, refl, sym, ap, lit<, w64, a_type, Val, vint, vptr, inst_fn, SProp, via, Lft, Share, Fml, ftrue, flft, finv, ‵, raw, ◌⊛◌, later, mean, at_ret, ◌$◌, ◌∵◌, !, qed, by, move, keep, drop, split, join, fsplit, fjoin, fpick, use1, use2, await, rewrite, stop, fld, addr, lit, of_opd, no_more, and_then, first, blocks, exec, Calls-last, returns, enter, alloc_all, pass_all, free_all, look_at, get, get_in, through, sets, lands_last, is, env, agg, sub, whole, tables, fact, no, RattleType, owns, types_at, plain, Ptr, block_ptr, ptr_val, block_of, offset_of, at_block, nothing_more, heard, param, layouts, Stays, stay_dropped, walk_of, Goes-dropped, after, proved, leaves, fm, seq_cst, found, finds, Right, HeldRow, block_rule, gain_owns, one_word, word_and_gain, one_word-Good, words_told, GainRow, known, returns_gain, word_and_gain-Good}
 use Rattle.atomic_table.proofs.Calls.{subs}
 use Rattle.counting_word.specs.Rights.{to_lower, right_by_lower}

@@ -2,7 +2,7 @@
 use Rattle.handles.proofs.Walks.{◌≡◌, ℕ, ◌+◌, ◌%◌, ◌^◌, false, [], ◌∷◌, refl, lit<, w64, a_type, named, Val, vint, vptr, inst_fn, SProp, via, Lft, Share, Fml, ftrue, fsep, flft, ‵, raw, ◌⊛◌, mean, at_ret, ◌$◌, ◌∵◌, !, qed, by, move, keep, split, join, fsplit, fjoin, use2, stop, fld, load, addr, lit, of_opd, no_more, and_then, first, blocks, exec, Calls-last, returns, enter, alloc_all, pass_all, free_all, look_at, get, through, sets, lands_last, env, agg, sub, whole, look_in, tables, fact, yes, RattleType, owns, types_at, plain, Ptr, block_ptr, block_of, offset_of, nothing_more, heard, shuts, param, layouts, RefOf, u64, shr_vals, shr_Tells, Stays, stay_dropped, walk_of, Goes-dropped, after, proved, leaves, fm, seq_cst, found, finds, HeldRow, one_word, HandleRow, HandleWords, is_number, opens_handle, closes_borrow}
 use Rattle.atomic_table.proofs.Calls.{adds}
 use denote.Plain.{uint_vals, uint_Tells}
-use Rattle.handles.specs.Inside.Blocks.{stamp_offset}
+use Rattle.handles.specs.Inside.Blocks.{stamp_offset, lent_share}
 use Rattle.handles.proofs.Steps.Shared.{block_at}
 use Rattle.handles.proofs.Steps.Stamps.{stamps}
 use Rattle.handles.specs.contracts.block.Handle.add_to_stamp.{ended, clauses}
@@ -23,7 +23,7 @@ add_to_stamp_spec 𝓤 𝓛 𝓜 𝓡 wired T L =
     -- [the word; what it says; the token's way back; the open borrow; the share; the rule; the sharing; the other tokens]
     sets ! (of_opd ! (load ! (through ! refl (fld ! refl (stop !))) (look_in ! 0 (sub ! 0 refl (whole !))))) refl (tt, tt) $ shuts ! tt D r (p, tt) (one_word (block_ptr pb po) ∷ []) b o $
     -- [half of the token; the open borrow; the share; the rule; the sharing; the other tokens]
-    let at_stamp : ℕ = po + stamp_offset in let aft : ℕ → Fml = λ _. flft (i.shared ∷ []) e in
+    let at_stamp : ℕ = po + stamp_offset in let aft : ℕ → Fml = λ _. lent_share i e in
     first ! $ blocks ! $ sets ! (addr ! (through ! refl (fld ! refl (stop !)))) refl (tt, tt) $ move ! (3 ∷ 2 ∷ []) $
     use2 𝓛 (raw (𝓣.C _ (vptr pb at_stamp ∷ vint w64 amount ∷ seq_cst ∷ []) (λ u. mean 𝓛 (found aft u)))) (via 𝓤 _ (stamps 𝓛 (block_at R p x η i) at_stamp e (λ n. (n + amount) % 2 ^ 64)) (adds 𝓛 𝓜 𝓡 (code.calls-core::raw_atomic::fetch_add 𝓡.env wired) (block_ptr pb at_stamp) amount are.1.0.1 aft)) $
     sets ! (agg ! (and_then ! (lit ! tt) (no_more !))) refl (tt, (record { fits = lit< tt }, tt)) $

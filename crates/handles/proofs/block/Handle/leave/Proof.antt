@@ -2,7 +2,8 @@
 use types.Kit.{some as exists}
 use types.Kit.{some as exists, given, pick, learn}
 use Rattle.std.proofs.Common.{List}
-use Rattle.counting_word.specs.WordSteps.{WordStep, Adds}
+use Rattle.counting_word.specs.WordSteps.{WordStep}
+use Rattle.counting_word.specs.Tallies.{Adds}
 use Rattle.handles.proofs.Walks.{◌≡◌, ℕ, ◌+◌, false, [], ◌∷◌, refl, sym, ap, lit<, a_type, Val, vptr, inst_fn, SProp, via, Lft, Share, Fml, ftrue, flft, finv, ‵, raw, ◌⊛◌, later, mean, at_ret, ◌$◌, ◌∵◌, !, qed, by, move, keep, drop, split, join, fsplit, fsplit3, fjoin, fpick, use1, use2, use3, await, stop, fld, addr, lit, of_opd, no_more, and_then, first, blocks, exec, Calls-last, returns, enter, alloc_all, pass_all, free_all, look_at, get, get_in, through, sets, lands_last, is, env, agg, sub, whole, tables, fact, no, RattleType, owns, types_at, plain, Ptr, block_ptr, ptr_val, block_of, offset_of, at_block, nothing_more, heard, param, layouts, param_laws, Stays, stay_dropped, walk_of, Goes-dropped, after, proved, leaves, fm, seq_cst, found, finds, Right, HeldRow, block_rule, gain_owns, one_word, word_and_gain, one_word-Good, words_told, HandleRow, known, returns_gain, word_and_gain-Good}
 use base.Fml.{Incl-refl}
 use contract.BorrowLft.{◌⊑◌}

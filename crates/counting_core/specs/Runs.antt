@@ -1,13 +1,11 @@
 -- The converse of logs of traces: each run of handles on a block is one of the core.
-use Rattle.std.specs.Prelude.{◌≡◌, ℕ, ◌+◌, List, [], ◌∷◌, ◌++◌, length, map}
+use Rattle.std.specs.Prelude.{◌≡◌, ◌+◌, List, [], ◌++◌, length, map}
 use Rattle.counting_word.specs.CountingWord.{greatest_count}
 use Rattle.counting_word.specs.WordSteps.{WordStep}
-use Rattle.counting_word.specs.Tallies.{Tally, tally_of, Entry, IsRun, spelled}
-use Rattle.counting_core.specs.declared.step.Step.{Step}
-use Rattle.counting_core.specs.declared.step.Answer.{Answer}
+use Rattle.counting_word.specs.Tallies.{tally_of, Entry, IsRun, spelled}
 use Rattle.counting_core.specs.declared.step.Answer.TheVariants.{Memory, Barred}
 use Rattle.counting_core.specs.Trace.{Trace, Open, Then, limit_of}
-use Rattle.counting_core.specs.Legal.{replay, IsLegal}
+use Rattle.counting_core.specs.Legal.{IsLegal}
 use Rattle.counting_core.specs.Laws.{live_handles, has_mark}
 use Rattle.counting_core.specs.HandleSteps.{right_of}
 use Rattle.counting_core.specs.TraceLogs.{log_step}

@@ -1,6 +1,6 @@
 -- In each run the word counts the handles.
-use Rattle.std.proofs.Common.{◌≡◌, ℕ, zero, suc, ◌+◌, ◌-◌, ◌%◌, ◌^◌, ◌<◌, ◌≤◌, Bool, true, false, nat_eq, if◌then◌else◌, List, [], ◌∷◌, ◌++◌, refl, sym, ◌∙◌, ap, ap₂, subst, arith, true≢false, eqb-true, leb-true, leb-false}
-use Rattle.counting_word.specs.CountingWord.{is_marked_word, is_one_handle, marked_word, count_of, greatest_count, mark_bit}
+use Rattle.std.proofs.Common.{◌≡◌, ℕ, zero, suc, ◌+◌, ◌-◌, ◌%◌, ◌<◌, ◌≤◌, Bool, true, false, nat_eq, if◌then◌else◌, List, [], ◌∷◌, ◌++◌, refl, sym, ◌∙◌, ap, subst, arith, true≢false, leb-false}
+use Rattle.counting_word.specs.CountingWord.{marked_word, count_of, greatest_count, mark_bit}
 use Rattle.counting_word.specs.WordSteps.{WordStep, reads, asks, raises_from, reads_last, lowers, claims, marks, right_by, word_by, lowered, left_from, left_by, MayStep, IsLegalFrom, IsLegal}
 use Rattle.counting_word.specs.PlainLogs.{Plain, Shows, plain_after}
 use Rattle.counting_word.specs.Tallies.{Tally, first, has_exactly, one_more, after_read, after_last_read, tally_after, MayMake, IsRunFrom, IsRun, tally_from, tally_of, tally_right, IsTallied, Keeps}
@@ -86,9 +86,9 @@ module _ (w : ℕ) (p : Tally) (c : IsTallied w p) where
         same_count = λ e. let is : w ≡ p.handles + p.drops = c.same_count e in same ∙ omega arith;
         covers_drops = λ m. let le : p.drops ≤ count_of w = c.covers_drops m in subst (λ (v : ℕ). p.drops - 1 ≤ v % 9223372036854775808) (sym same) (omega (arith, le, positive));
       } where
-    less : (v : ℕ) → 1 ≤ count_of v → lowered v ≡ v - 1
-    less zero some = absurd (omega arith)
-    less (suc k) some = let one_less : lowered (suc k) ≡ k = refl in omega arith
+        less : (v : ℕ) → 1 ≤ count_of v → lowered v ≡ v - 1
+        less zero some = absurd (omega arith)
+        less (suc k) some = let one_less : lowered (suc k) ≡ k = refl in omega arith
 
   mark-counts : IsTallied (marked_word w) (record p { mark = true })
   mark-counts =
@@ -97,10 +97,10 @@ module _ (w : ℕ) (p : Tally) (c : IsTallied w p) where
         same_count = λ none. absurd (true≢false none);
         covers_drops = λ _. at p.mark refl;
       } where
-    at : (m : Bool) → p.mark ≡ m → p.drops ≤ count_of (marked_word w)
-    at true e = subst (λ (v : ℕ). p.drops ≤ count_of v) (sym (ap (λ (b : Bool). if b then w else w + mark_bit) (c.same_mark ∙ e))) (c.covers_drops e)
-    at false e = let is : w ≡ p.handles + p.drops = c.same_count e in let low : w < 9223372036854775808 = leb-false mark_bit w (c.same_mark ∙ e) in
-        subst (λ (v : ℕ). p.drops ≤ count_of v) (sym (ap (λ (b : Bool). if b then w else w + mark_bit) (c.same_mark ∙ e))) (omega (arith, is, low))
+        at : (m : Bool) → p.mark ≡ m → p.drops ≤ count_of (marked_word w)
+        at true e = subst (λ (v : ℕ). p.drops ≤ count_of v) (sym (ap (λ (b : Bool). if b then w else w + mark_bit) (c.same_mark ∙ e))) (c.covers_drops e)
+        at false e = let is : w ≡ p.handles + p.drops = c.same_count e in let low : w < 9223372036854775808 = leb-false mark_bit w (c.same_mark ∙ e) in
+            subst (λ (v : ℕ). p.drops ≤ count_of v) (sym (ap (λ (b : Bool). if b then w else w + mark_bit) (c.same_mark ∙ e))) (omega (arith, is, low))
 
   pub counts-after : (s : WordStep) → MayMake p s → IsTallied (word_by s w) (tally_after p s)
   counts-after reads may = read-counts

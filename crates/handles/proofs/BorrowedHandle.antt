@@ -10,8 +10,6 @@ use types.Logic.{Logic}
 use types.Kit.{some as exists, given, pick, learn, Item, Goal, Seq, Soaks, Step, step, ‵, ◌⊛◌, later, ◌$◌, ◌∵◌, !, qed, fjoin, frame, done, move, drop, split, fsplit, fsplit3, fpick, rewrite, use1, use2, use3, await}
 use types.Tokens.{obor_close, shr_bor-open}
 use ghost.Rules.{Halves}
-use base.Logic.{ent, sep}
-use types.Logic.{sem}
 use Rattle.handles.proofs.Rows.{pass_halves, pass_joins}
 use Rattle.handles.specs.Inside.Rows.{pass}
 use denote.RattleType.{RattleType}

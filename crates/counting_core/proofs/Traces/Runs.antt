@@ -1,32 +1,28 @@
 -- Each run of handles on a block is a legal trace.
-use Rattle.std.proofs.Common.{◌≡◌, ℕ, zero, suc, ◌+◌, ◌-◌, ◌<◌, ◌≤◌, Bool, true, false, not, ◌&&◌, ◌||◌, nat_eq, nat_lt, List, [], ◌∷◌, ◌++◌, map, length, append_assoc, append-nil, length-append, if◌then◌else◌, refl, sym, ◌∙◌, ap, ap₂, subst, arith, true≢false, eqb-true, ne_eqb, eq-eqb, lt-ltb, lt_irrefl, le_refl}
-use Rattle.std.specs.List.{list_any}
-use Rattle.std.proofs.lemmas.Bool.{and_from, and_parts, or_from, or_left, or_right, false_from_ne_true, eqb-false}
+use Rattle.std.proofs.Common.{◌≡◌, ℕ, suc, ◌+◌, ◌-◌, ◌<◌, ◌≤◌, Bool, true, false, not, ◌&&◌, ◌||◌, nat_eq, nat_lt, List, [], ◌∷◌, ◌++◌, length, append_assoc, append-nil, if◌then◌else◌, refl, sym, ◌∙◌, ap, ap₂, subst, arith, true≢false, eqb-true, ne_eqb, lt-ltb, lt_irrefl}
+use Rattle.std.proofs.lemmas.Bool.{and_from, and_parts, or_left, or_right, false_from_ne_true}
 use Rattle.counting_word.specs.CountingWord.{greatest_count}
-use Rattle.counting_word.specs.Rights.{Right, nothing, a_handle, to_lower, whole_block}
+use Rattle.counting_word.specs.Rights.{nothing, a_handle, to_lower, whole_block}
 use Rattle.counting_word.specs.WordSteps.{WordStep, reads, asks, raises_from, reads_last, lowers, claims, marks}
-use Rattle.counting_word.specs.Tallies.{Tally, first, has_exactly, one_more, after_read, after_last_read, tally_after, MayMake, IsRunFrom, IsRun, tally_from, tally_of, Entry, entry_of_read, spelled_step, spelled_from, spelled}
+use Rattle.counting_word.specs.Tallies.{Tally, first, has_exactly, one_more, after_read, after_last_read, tally_after, MayMake, IsRunFrom, IsRun, tally_from, Entry, entry_of_read, spelled_step, spelled_from, spelled}
 use Rattle.counting_core.specs.declared.handle.Access.TheVariants.{Shared as SharedAccess, Written}
 use Rattle.counting_core.specs.declared.owner.Activity.{Activity}
 use Rattle.counting_core.specs.declared.owner.Activity.TheVariants.{Idle, Cloning, Dropping}
-use Rattle.counting_core.specs.declared.step.Step.{Step}
-use Rattle.counting_core.specs.declared.step.Step.TheVariants.{Clone, Raise, Quit, Drop, Lower, Mark, Unique, Static, GetMut, EndWrite, Give}
+use Rattle.counting_core.specs.declared.step.Step.TheVariants.{Clone, Raise, Quit, Drop, Lower, Mark, Unique, GetMut, EndWrite, Give}
 use Rattle.counting_core.specs.declared.step.Answer.{Answer}
 use Rattle.counting_core.specs.declared.step.Answer.TheVariants.{Born, Full, Pending, Ended, GivenUp, Marked, Is, Alone, Shared, Done, Quit as Quitted}
-use Rattle.counting_core.specs.Trace.{Trace, Open, Then, HandleState, unborn, newborn, Situation, situation, owner_of, limit_of, put, dropped_by}
+use Rattle.counting_core.specs.Trace.{Trace, Open, Then, HandleState, unborn, Situation, situation, limit_of, put, dropped_by}
 use Rattle.counting_core.specs.Permitted.{has_alone, may_use, may_take, is_writing, permitted_by}
 use Rattle.counting_core.specs.PlainMachine.{Machine, is_full, is_only, without}
-use Rattle.counting_core.specs.Legal.{Replay, replay, raise_settles, IsLegal}
-use Rattle.counting_core.specs.HandleSteps.{right_of}
-use Rattle.counting_core.specs.TraceLogs.{log_step}
+use Rattle.counting_core.specs.Legal.{replay, raise_settles, IsLegal}
 use Rattle.counting_core.specs.Runs.{entries_of, Runs}
 use Rattle.counting_core.proofs.Traces.Places.{put-all}
-use Rattle.counting_core.proofs.Traces.HandleLists.{has, IsApart, nat_eq-same, length-without}
-use Rattle.counting_core.proofs.Traces.Deeds.{Deed, clone_reads, clone_bears, clone_full, raise_bears, quits, drop_reads, drop_ends, lower_ends, lower_gives_up, marks as deed_marks, asks_unique, finds_alone, finds_shared, ends_write, gives, grown, shrunk}
+use Rattle.counting_core.proofs.Traces.HandleLists.{has, nat_eq-same, length-without}
+use Rattle.counting_core.proofs.Traces.Deeds.{clone_reads, clone_bears, clone_full, raise_bears, quits, drop_reads, drop_ends, lower_ends, lower_gives_up, marks as deed_marks, asks_unique, finds_alone, finds_shared, ends_write, gives, grown, shrunk}
 use Rattle.counting_core.proofs.Traces.LiveHandles.{counted}
 use Rattle.counting_core.proofs.Traces.InFlight.{Fits, all_fit}
 use Rattle.counting_core.proofs.Traces.Limits.{machine_limit}
-use Rattle.counting_core.proofs.Traces.Shapes.{held_by_0, Drops, Shape, Made, makes, zero-apart, zero-idle, put-over, put-idle, keeps, bears, later}
+use Rattle.counting_core.proofs.Traces.Shapes.{held_by_0, Drops, Shape, Made, makes, zero-idle, put-over, put-idle, keeps, bears, later}
 
 module _ {V : Type 0} where
   -- a trace that has gone on by these entries
@@ -60,7 +56,9 @@ module _ {V : Type 0} where
     asked : Goes owners k p t ((asks, nothing) ∷ [])
     asked = let done : Made t (Unique 0 h) (Is (is_only (replay t).machine h)) (replay t).machine = makes t (Unique 0 h) (Is (is_only (replay t).machine h)) (replay t).machine Idle s.legal refl within idle-0 usable (asks_unique 0 h) in
         record {
-          now = Then t (Unique 0 h) (Is (is_only (replay t).machine h)); hs = h ∷ hs; ds = ds;
+          now = Then t (Unique 0 h) (Is (is_only (replay t).machine h));
+          hs = h ∷ hs;
+          ds = ds;
           shape = keeps owners k p (h ∷ hs) ds t s p _ done.legal s.owned refl s.marked refl refl refl (λ _. refl) (λ _. refl);
           entries = refl;
         }
@@ -68,7 +66,9 @@ module _ {V : Type 0} where
     marked_now : Goes owners k (record p { mark = true }) t ((marks, nothing) ∷ [])
     marked_now = let done : Made t (Mark 0 h) Marked (record (replay t).machine { mark = true }) = makes t (Mark 0 h) Marked (record (replay t).machine { mark = true }) Idle s.legal refl within idle-0 usable (deed_marks 0 h) in
         record {
-          now = Then t (Mark 0 h) Marked; hs = h ∷ hs; ds = ds;
+          now = Then t (Mark 0 h) Marked;
+          hs = h ∷ hs;
+          ds = ds;
           shape = keeps owners k p (h ∷ hs) ds t s (record p { mark = true }) _ done.legal s.owned refl refl refl refl refl (λ _. refl) (λ _. refl);
           entries = refl;
         }
@@ -76,9 +76,11 @@ module _ {V : Type 0} where
     -- a read by which a handle is born
     read_bears : p.mark ≡ true → Goes owners k (one_more p) t ((reads, a_handle) ∷ [])
     read_bears mark = let m : Machine V = (replay t).machine in let done : Made t (Clone 0 h) (Born m.births) (grown m) = makes t (Clone 0 h) (Born m.births) (grown m) Idle s.legal refl within idle-0 usable
-            (clone_bears 0 h (s.marked ∙ mark) (full-by ∙ ap (λ b. not b && nat_eq (p.handles + p.drops) greatest_count) mark)) in
+        (clone_bears 0 h (s.marked ∙ mark) (full-by ∙ ap (λ b. not b && nat_eq (p.handles + p.drops) greatest_count) mark)) in
         record {
-          now = Then t (Clone 0 h) (Born m.births); hs = m.births ∷ h ∷ hs; ds = ds;
+          now = Then t (Clone 0 h) (Born m.births);
+          hs = m.births ∷ h ∷ hs;
+          ds = ds;
           shape = bears owners k p (h ∷ hs) ds t s _ done.legal s.owned refl (ap (λ (x : Machine V). x.mark) done.machine) (ap (λ (x : Machine V). x.live) done.machine) (λ _. refl) (put-idle owners k p (h ∷ hs) ds t s);
           entries = refl;
         }
@@ -91,27 +93,33 @@ module _ {V : Type 0} where
 
       at : (b : Bool) → is_full m ≡ b → Goes owners k p t ((reads, nothing) ∷ [])
       at true full = let done : Made t (Clone 0 h) Full m = makes t (Clone 0 h) Full m Idle s.legal refl within idle-0 usable (clone_full 0 h full) in record {
-        now = Then t (Clone 0 h) Full; hs = h ∷ hs; ds = ds;
+        now = Then t (Clone 0 h) Full;
+        hs = h ∷ hs;
+        ds = ds;
         shape = keeps owners k p (h ∷ hs) ds t s p _ done.legal s.owned refl (ap (λ (x : Machine V). x.mark) done.machine ∙ s.marked) (ap (λ (x : Machine V). length x.live) done.machine) refl refl (λ _. refl) (put-idle owners k p (h ∷ hs) ds t s);
         entries = refl;
       }
       at false room =
           let read : Made t (Clone 0 h) Pending m = makes t (Clone 0 h) Pending m Idle s.legal refl within idle-0 usable (clone_reads 0 h (s.marked ∙ mark) room) in
           let quit : Made (Then t (Clone 0 h) Pending) (Quit 0) Quitted m = makes (Then t (Clone 0 h) Pending) (Quit 0) Quitted m (Cloning h) read.legal refl within refl refl (quits 0) in record {
-        now = Then (Then t (Clone 0 h) Pending) (Quit 0) Quitted; hs = h ∷ hs; ds = ds;
-        shape = keeps owners k p (h ∷ hs) ds t s p _ quit.legal s.owned refl (ap (λ (x : Machine V). x.mark) quit.machine ∙ s.marked) (ap (λ (x : Machine V). length x.live) quit.machine) refl refl (λ _. refl) (put-over owners k p (h ∷ hs) ds t s (Cloning h));
-        entries = append-nil _;
-      }
+            now = Then (Then t (Clone 0 h) Pending) (Quit 0) Quitted;
+            hs = h ∷ hs;
+            ds = ds;
+            shape = keeps owners k p (h ∷ hs) ds t s p _ quit.legal s.owned refl (ap (λ (x : Machine V). x.mark) quit.machine ∙ s.marked) (ap (λ (x : Machine V). length x.live) quit.machine) refl refl (λ _. refl) (put-over owners k p (h ∷ hs) ds t s (Cloning h));
+            entries = append-nil _;
+          }
 
     -- a raise that wins, right after its read
     raise_wins : (seen : ℕ) → seen < greatest_count → has_exactly seen p ≡ true → Goes owners k (one_more p) t ((reads, nothing) ∷ (raises_from seen, a_handle) ∷ [])
     raise_wins seen low won = record {
-        now = n; hs = m.births ∷ h ∷ hs; ds = ds;
-        shape = bears owners k p (h ∷ hs) ds t s n raised.legal s.owned refl (ap (λ (x : Machine V). x.mark) raised.machine ∙ ap (λ (x : Machine V). x.mark) read.machine)
-            (ap (λ (x : Machine V). x.live) raised.machine ∙ ap (λ (x : Machine V). (grown x).live) read.machine)
-            (λ _. refl) (put-over owners k p (h ∷ hs) ds t s (Cloning h));
-        entries = append_assoc (entries_of t) ((reads, nothing) ∷ []) _ ∙ ap (λ z. entries_of t ++ (reads, nothing) ∷ (raises_from z, a_handle) ∷ []) saw;
-      } where
+      now = n;
+      hs = m.births ∷ h ∷ hs;
+      ds = ds;
+      shape = bears owners k p (h ∷ hs) ds t s n raised.legal s.owned refl (ap (λ (x : Machine V). x.mark) raised.machine ∙ ap (λ (x : Machine V). x.mark) read.machine)
+          (ap (λ (x : Machine V). x.live) raised.machine ∙ ap (λ (x : Machine V). (grown x).live) read.machine)
+          (λ _. refl) (put-over owners k p (h ∷ hs) ds t s (Cloning h));
+      entries = append_assoc (entries_of t) ((reads, nothing) ∷ []) _ ∙ ap (λ z. entries_of t ++ (reads, nothing) ∷ (raises_from z, a_handle) ∷ []) saw;
+    } where
       m : Machine V
       m = (replay t).machine
 
@@ -149,10 +157,10 @@ module _ {V : Type 0} where
     only-by : is_only (replay t).machine h ≡ has_exactly 1 p
     only-by = ap₂ (λ (m : Bool) (n : ℕ). not m && (nat_eq n 1 && has h (replay t).machine.live)) s.marked s.live
         ∙ ap (λ b. not p.mark && (nat_eq (p.handles + p.drops) 1 && b)) first-lives ∙ at p.mark (nat_eq (p.handles + p.drops) 1) where
-      at : (m b : Bool) → (not m && (b && true)) ≡ (if m then false else b)
-      at true b = refl
-      at false true = refl
-      at false false = refl
+          at : (m b : Bool) → (not m && (b && true)) ≡ (if m then false else b)
+          at true b = refl
+          at false true = refl
+          at false false = refl
 
     put-here : (x : HandleState) → put (situation t).handle h x h ≡ x
     put-here x = ap (λ b. if b then x else (situation t).handle h) (nat_eq-same h)
@@ -184,13 +192,17 @@ module _ {V : Type 0} where
       at true one =
           let found : Made t (GetMut 0 h) Alone m = makes t (GetMut 0 h) Alone m Idle s.legal refl within idle-0 takable (finds_alone 0 h (only-by ∙ one)) in
           let over : Made t1 (EndWrite 0 h) Done (replay t1).machine = makes t1 (EndWrite 0 h) Done (replay t1).machine Idle found.legal refl within idle-0 (ap (λ (x : HandleState). is_writing x 0) here) (ends_write 0 h) in record {
-        now = Then t1 (EndWrite 0 h) Done; hs = h ∷ hs; ds = ds;
-        shape = keeps owners k p (h ∷ hs) ds t s p _ over.legal s.owned refl (ap (λ (x : Machine V). x.mark) over.machine ∙ ap (λ (x : Machine V). x.mark) found.machine ∙ s.marked)
-            (ap (λ (x : Machine V). length x.live) over.machine ∙ ap (λ (x : Machine V). length x.live) found.machine) refl refl as_before (λ _. refl);
-        entries = append-nil _;
-      }
+            now = Then t1 (EndWrite 0 h) Done;
+            hs = h ∷ hs;
+            ds = ds;
+            shape = keeps owners k p (h ∷ hs) ds t s p _ over.legal s.owned refl (ap (λ (x : Machine V). x.mark) over.machine ∙ ap (λ (x : Machine V). x.mark) found.machine ∙ s.marked)
+                (ap (λ (x : Machine V). length x.live) over.machine ∙ ap (λ (x : Machine V). length x.live) found.machine) refl refl as_before (λ _. refl);
+            entries = append-nil _;
+          }
       at false more = let found : Made t (GetMut 0 h) Shared m = makes t (GetMut 0 h) Shared m Idle s.legal refl within idle-0 takable (finds_shared 0 h (only-by ∙ more)) in record {
-        now = Then t (GetMut 0 h) Shared; hs = h ∷ hs; ds = ds;
+        now = Then t (GetMut 0 h) Shared;
+        hs = h ∷ hs;
+        ds = ds;
         shape = keeps owners k p (h ∷ hs) ds t s p _ found.legal s.owned refl (ap (λ (x : Machine V). x.mark) found.machine ∙ s.marked) (ap (λ (x : Machine V). length x.live) found.machine) refl refl (λ _. refl) (λ _. refl);
         entries = refl;
       }
@@ -235,24 +247,30 @@ module _ {V : Type 0} where
 
       left_by_unmarked : p.mark ≡ false → Goes owners (suc k) (record p { handles = p.handles - 1; drops = p.drops + 1 }) t ((reads_last, to_lower) ∷ [])
       left_by_unmarked mark = record {
-          now = t2; hs = hs; ds = k ∷ ds;
-          shape = record {
-            legal = read.legal; owned = s.owned; begun = omega arith; limited = s.limited;
-            marked = ap (λ (x : Machine V). x.mark) read.machine ∙ ap (λ (x : Machine V). x.mark) gave.machine ∙ s.marked;
-            live = ap (λ (x : Machine V). length x.live) read.machine ∙ ap (λ (x : Machine V). length x.live) gave.machine ∙ s.live ∙ (omega (arith, one_fewer));
-            handles = omega (arith, one_fewer);
-            drops = ap (λ z. suc z) s.drops ∙ (omega arith);
-            apart = s.apart.1; drops_apart = (new-drop, s.drops_apart);
-            held = λ j there. ap (λ b. if b then given else (situation t).handle j) (others j there) ∙ s.held j (ap (λ b. nat_eq j h || b) there ∙ or_right (nat_eq j h) true refl);
-            busy = λ o there. put-all (situation t).activity k (Dropping h) (λ q c. has q (k ∷ ds) ≡ true → (1 ≤ q) × (q < suc k) × ((x : ℕ) × (c ≡ Dropping x)))
-                (λ _. (s.begun, omega arith, (h, refl)))
-                (λ q other there. let b : Drops k t q = s.busy q (in-rest q other there) in let below : q < k = b.1 in (b.0, omega arith, b.2)) o there;
-            idle = λ o absent. put-all (situation t).activity k (Dropping h) (λ q c. has q (k ∷ ds) ≡ false → c ≡ Idle)
-                (λ none. absurd (true≢false (sym (ap (λ b. b || has k ds) (nat_eq-same k)) ∙ none)))
-                (λ q other none. s.idle q (not-in-rest q none)) o absent;
-          };
-          entries = ap (λ (l : List Entry). l ++ (reads_last, to_lower) ∷ []) (append-nil (entries_of t));
-        } where
+        now = t2;
+        hs = hs;
+        ds = k ∷ ds;
+        shape = record {
+          legal = read.legal;
+          owned = s.owned;
+          begun = omega arith;
+          limited = s.limited;
+          marked = ap (λ (x : Machine V). x.mark) read.machine ∙ ap (λ (x : Machine V). x.mark) gave.machine ∙ s.marked;
+          live = ap (λ (x : Machine V). length x.live) read.machine ∙ ap (λ (x : Machine V). length x.live) gave.machine ∙ s.live ∙ (omega (arith, one_fewer));
+          handles = omega (arith, one_fewer);
+          drops = ap (λ z. suc z) s.drops ∙ (omega arith);
+          apart = s.apart.1;
+          drops_apart = (new-drop, s.drops_apart);
+          held = λ j there. ap (λ b. if b then given else (situation t).handle j) (others j there) ∙ s.held j (ap (λ b. nat_eq j h || b) there ∙ or_right (nat_eq j h) true refl);
+          busy = λ o there. put-all (situation t).activity k (Dropping h) (λ q c. has q (k ∷ ds) ≡ true → (1 ≤ q) × (q < suc k) × ((x : ℕ) × (c ≡ Dropping x)))
+              (λ _. (s.begun, omega arith, (h, refl)))
+              (λ q other there. let b : Drops k t q = s.busy q (in-rest q other there) in let below : q < k = b.1 in (b.0, omega arith, b.2)) o there;
+          idle = λ o absent. put-all (situation t).activity k (Dropping h) (λ q c. has q (k ∷ ds) ≡ false → c ≡ Idle)
+              (λ none. absurd (true≢false (sym (ap (λ b. b || has k ds) (nat_eq-same k)) ∙ none)))
+              (λ q other none. s.idle q (not-in-rest q none)) o absent;
+        };
+        entries = ap (λ (l : List Entry). l ++ (reads_last, to_lower) ∷ []) (append-nil (entries_of t));
+      } where
         read : Made t1 (Drop k h) Pending (replay t1).machine
         read = makes t1 (Drop k h) Pending (replay t1).machine Idle gave.legal refl free-1 new-idle may (drop_reads k h (ap (λ (x : Machine V). x.mark) gave.machine ∙ s.marked ∙ mark))
 
@@ -267,20 +285,26 @@ module _ {V : Type 0} where
 
       left_by_marked : p.mark ≡ true → Goes owners (suc k) (record p { handles = p.handles - 1 }) t ((reads_last, nothing) ∷ [])
       left_by_marked mark = record {
-          now = t2; hs = hs; ds = ds;
-          shape = record {
-            legal = read.legal; owned = s.owned; begun = omega arith; limited = s.limited;
-            marked = ap (λ (x : Machine V). x.mark) read.machine ∙ ap (λ (x : Machine V). x.mark) gave.machine ∙ s.marked;
-            live = ap (λ (x : Machine V). length x.live) read.machine ∙ ap (λ (x : Machine V). length (shrunk x h).live) gave.machine ∙ fewer;
-            handles = omega (arith, one_fewer);
-            drops = s.drops;
-            apart = s.apart.1; drops_apart = s.drops_apart;
-            held = λ j there. ap (λ b. if b then record ((situation t1).handle h) { lives = false } else (if b then given else (situation t).handle j)) (others j there) ∙ s.held j (ap (λ b. nat_eq j h || b) there ∙ or_right (nat_eq j h) true refl);
-            busy = λ o there. let b : Drops k t o = s.busy o there in let below : o < k = b.1 in (b.0, omega arith, b.2);
-            idle = s.idle;
-          };
-          entries = ap (λ (l : List Entry). l ++ (reads_last, nothing) ∷ []) (append-nil (entries_of t));
-        } where
+        now = t2;
+        hs = hs;
+        ds = ds;
+        shape = record {
+          legal = read.legal;
+          owned = s.owned;
+          begun = omega arith;
+          limited = s.limited;
+          marked = ap (λ (x : Machine V). x.mark) read.machine ∙ ap (λ (x : Machine V). x.mark) gave.machine ∙ s.marked;
+          live = ap (λ (x : Machine V). length x.live) read.machine ∙ ap (λ (x : Machine V). length (shrunk x h).live) gave.machine ∙ fewer;
+          handles = omega (arith, one_fewer);
+          drops = s.drops;
+          apart = s.apart.1;
+          drops_apart = s.drops_apart;
+          held = λ j there. ap (λ b. if b then record ((situation t1).handle h) { lives = false } else (if b then given else (situation t).handle j)) (others j there) ∙ s.held j (ap (λ b. nat_eq j h || b) there ∙ or_right (nat_eq j h) true refl);
+          busy = λ o there. let b : Drops k t o = s.busy o there in let below : o < k = b.1 in (b.0, omega arith, b.2);
+          idle = s.idle;
+        };
+        entries = ap (λ (l : List Entry). l ++ (reads_last, nothing) ∷ []) (append-nil (entries_of t));
+      } where
         read : Made t1 (Drop k h) Ended (shrunk (replay t1).machine h)
         read = makes t1 (Drop k h) Ended (shrunk (replay t1).machine h) Idle gave.legal refl free-1 new-idle may (drop_ends k h (ap (λ (x : Machine V). x.mark) gave.machine ∙ s.marked ∙ mark))
 
@@ -320,10 +344,10 @@ module _ {V : Type 0} where
     only-lower : is_only n h ≡ has_exactly 1 p
     only-lower = ap₂ (λ (m : Bool) (n : ℕ). not m && (nat_eq n 1 && has h (replay t).machine.live)) s.marked s.live
         ∙ ap (λ b. not p.mark && (nat_eq (p.handles + p.drops) 1 && b)) dropped-lives ∙ at p.mark (nat_eq (p.handles + p.drops) 1) where
-      at : (m b : Bool) → (not m && (b && true)) ≡ (if m then false else b)
-      at true b = refl
-      at false true = refl
-      at false false = refl
+          at : (m b : Bool) → (not m && (b && true)) ≡ (if m then false else b)
+          at true b = refl
+          at false true = refl
+          at false false = refl
 
     within-o : o < (situation t).owners
     within-o = let below : o < k = dropping.1 in let owned : (situation t).owners ≡ owners = s.owned in omega (arith, few)
@@ -342,12 +366,16 @@ module _ {V : Type 0} where
     ended : (a : Answer V) → Made t (Lower o) a (shrunk n h) → situation (Then t (Lower o) a) ≡ situation (Then t (Lower o) Ended)
         → Shape owners k (record p { drops = p.drops - 1 }) hs ds (Then t (Lower o) a)
     ended a done same = record {
-      legal = done.legal; owned = ap (λ (u : Situation). u.owners) same ∙ s.owned; begun = s.begun; limited = s.limited;
+      legal = done.legal;
+      owned = ap (λ (u : Situation). u.owners) same ∙ s.owned;
+      begun = s.begun;
+      limited = s.limited;
       marked = ap (λ (x : Machine V). x.mark) done.machine ∙ s.marked;
       live = ap (λ (x : Machine V). length x.live) done.machine ∙ fewer;
       handles = s.handles;
       drops = let drops : suc (length ds) ≡ p.drops = s.drops in omega arith;
-      apart = s.apart; drops_apart = s.drops_apart.1;
+      apart = s.apart;
+      drops_apart = s.drops_apart.1;
       held = λ j there. ap (λ (u : Situation). u.handle j) same ∙ ap (λ b. if b then record ((situation t).handle (dropped_by ((situation t).activity o))) { lives = false } else (situation t).handle j) (kept-other j there) ∙ s.held j there;
       busy = λ q there. let b : Drops k t q = s.busy q (in-all q there) in (b.0, b.1, (b.2.0, ap (λ (u : Situation). u.activity q) same ∙ ap (λ b. if b then Idle else (situation t).activity q) (another q there) ∙ b.2.1));
       idle = λ q absent. ap (λ (u : Situation). u.activity q) same ∙ put-all (situation t).activity o Idle (λ r c. has r ds ≡ false → c ≡ Idle) (λ _. refl) (λ r other none. s.idle r (none-of r other none)) q absent;
@@ -365,10 +393,18 @@ module _ {V : Type 0} where
     lowered = at (has_exactly 1 p) refl where
       at : (b : Bool) → has_exactly 1 p ≡ b → Goes owners k (record p { drops = p.drops - 1 }) t ((lowers, if b then whole_block 0 else nothing) ∷ [])
       at true one = let done : Made t (Lower o) (GivenUp n.value) (shrunk n h) = makes t (Lower o) (GivenUp n.value) (shrunk n h) (Dropping h) s.legal refl within-o is refl (lower_gives_up o h is (only-lower ∙ one)) in record {
-        now = Then t (Lower o) (GivenUp n.value); hs = hs; ds = ds; shape = ended (GivenUp n.value) done refl; entries = refl;
+        now = Then t (Lower o) (GivenUp n.value);
+        hs = hs;
+        ds = ds;
+        shape = ended (GivenUp n.value) done refl;
+        entries = refl;
       }
       at false more = let done : Made t (Lower o) Ended (shrunk n h) = makes t (Lower o) Ended (shrunk n h) (Dropping h) s.legal refl within-o is refl (lower_ends o h is (only-lower ∙ more)) in record {
-        now = Then t (Lower o) Ended; hs = hs; ds = ds; shape = ended Ended done refl; entries = refl;
+        now = Then t (Lower o) Ended;
+        hs = hs;
+        ds = ds;
+        shape = ended Ended done refl;
+        entries = refl;
       }
 
   after : (owners k : ℕ) (p : Tally) (t : Trace V) (es : List Entry) → Goes owners k p t es → Goes owners (suc k) p t es
@@ -425,7 +461,11 @@ module _ {V : Type 0} where
       let g : Goes owners (suc k) (tally_after p w) t (spelled_step p w) = by_step owners k p t (omega arith) w hs ds run.0 s in
       let e : Ends (tally_from (tally_after p w) ws) g.now (spelled_from (tally_after p w) ws) = runs-on ws owners (suc k) (tally_after p w) g.hs g.ds g.now g.shape (omega arith) run.1 in
       record {
-        now = e.now; legal = e.legal; limited = e.limited; live = e.live; marked = e.marked;
+        now = e.now;
+        legal = e.legal;
+        limited = e.limited;
+        live = e.live;
+        marked = e.marked;
         entries = e.entries ∙ ap (λ (l : List Entry). l ++ spelled_from (tally_after p w) ws) g.entries ∙ append_assoc (entries_of t) (spelled_step p w) (spelled_from (tally_after p w) ws);
       }
 
@@ -433,10 +473,19 @@ pub runs_are_traces : {V : Type 0} → V → (log : List WordStep) → IsRun log
 runs_are_traces {V} v log run =
     let e : Ends (tally_from first log) (Open v (1 + length log) greatest_count) (spelled log) = runs-on log (1 + length log) 1 first (0 ∷ []) [] (Open v (1 + length log) greatest_count) begins (omega arith) run in
     (e.now, record { legal = e.legal; same_limit = e.limited; same_entries = e.entries; same_live = e.live; same_mark = e.marked }) where
-  begins : Shape (1 + length log) 1 first (0 ∷ []) [] (Open v (1 + length log) greatest_count)
-  begins = record {
-    legal = (omega arith, omega arith); owned = refl; begun = omega arith; limited = refl; marked = refl; live = refl; handles = refl; drops = refl; apart = (refl, tt); drops_apart = tt;
-    held = λ h there. put-all (λ _. unborn) 0 held_by_0 (λ j z. has j (0 ∷ []) ≡ true → z ≡ held_by_0) (λ _. refl) (λ j other there. absurd (true≢false (sym there ∙ grind (arith, other)))) h there;
-    busy = λ o there. absurd (true≢false (sym there));
-    idle = λ o _. refl;
-  }
+      begins : Shape (1 + length log) 1 first (0 ∷ []) [] (Open v (1 + length log) greatest_count)
+      begins = record {
+        legal = (omega arith, omega arith);
+        owned = refl;
+        begun = omega arith;
+        limited = refl;
+        marked = refl;
+        live = refl;
+        handles = refl;
+        drops = refl;
+        apart = (refl, tt);
+        drops_apart = tt;
+        held = λ h there. put-all (λ _. unborn) 0 held_by_0 (λ j z. has j (0 ∷ []) ≡ true → z ≡ held_by_0) (λ _. refl) (λ j other there. absurd (true≢false (sym there ∙ grind (arith, other)))) h there;
+        busy = λ o there. absurd (true≢false (sym there));
+        idle = λ o _. refl;
+      }

@@ -2,7 +2,7 @@
 use Rattle.counting_word.specs.WordSteps as step
 use Rattle.counting_word.specs.Rights.{right_by_claim}
 use Rattle.handles.proofs.Asking as asking
-use Rattle.handles.proofs.Steps.Shared.{◌≡◌, ◌≢◌, ℕ, Bool, true, false, [], ◌∷◌, sym, refl, ap, ◌∙◌, subst, eq-eqb, ne_eqb, if◌then◌else◌, dite, ℕ_discrete, Ura, ent, Share, Fml, fsep, fex, flft, Logic, sem, ‵, ◌$◌, ◌∵◌, !, qed, by, move, keep, drop, fjoin, fpick, fpack, use1, use2, part_in, is_one_handle, count_of-unmarked, is_one_handle-marked, is_one_handle-unmarked, a_handle, whole_block, Says, unit_of_count, entitled, stake, SharedBlock, shared, counts, beside, rule, gained, counted_stake, lives, regained, Lands, Asks, and_logged, ftrue, title, pass, row, gains, passed, passes_on, Entails, noted, recorded, alone, Tally, IsTallied, Keeps, fact, logs, kept_log, List, WordStep, Right, given, learn, nothing_more, full_share, fsplit, done, ◌≤◌, ◌+◌, arith}
+use Rattle.handles.proofs.Steps.Shared.{◌≡◌, ◌≢◌, ℕ, Bool, true, false, [], ◌∷◌, sym, refl, ap, ◌∙◌, subst, eq-eqb, ne_eqb, if◌then◌else◌, dite, ℕ_discrete, Ura, ent, Share, Fml, fsep, fex, flft, Logic, sem, ‵, ◌$◌, ◌∵◌, !, qed, by, move, keep, drop, fjoin, fpick, fpack, use1, use2, part_in, is_one_handle, count_of-unmarked, is_one_handle-marked, is_one_handle-unmarked, a_handle, whole_block, Says, unit_of_count, entitled, stake, SharedBlock, shared, counts, beside, rule, gained, counted_stake, lives, regained, Lands, Asks, and_logged, ftrue, title, pass, row, gains, passes_on, Entails, noted, recorded, alone, Tally, IsTallied, Keeps, fact, logs, kept_log, List, WordStep, Right, given, learn, nothing_more, full_share, fsplit, done, ◌≤◌, ◌+◌, arith}
 use base.Growing.{latest}
 use base.Logic.{id⊢}
 use Rattle.counting_word.proofs.Tallies.{keeps-counts, tallied}
@@ -67,9 +67,9 @@ module _ {M : Type 1} {𝓤 : Ura M} (𝓛 : Logic 𝓤) (s : SharedBlock) where
           let wins : right_by_claim w ≡ whole_block 1 = ap (λ z. if z then whole_block 1 else a_handle) (eq-eqb w 1 is) in
           subst (λ z. Lands 𝓛 s z false n (fsep a_unit Own) (after_claim s w) j) (sym is) (subst (λ k. Lands 𝓛 s 1 false k (fsep a_unit Own) (after_claim s w) j) (sym one)
           (subst (λ (r : Right). Lands 𝓛 s 1 false 1 (fsep a_unit Own) (gains s r) j) (sym wins) whole-one)) where
-        whole-one : Lands 𝓛 s 1 false 1 (fsep a_unit Own) (gains s (whole_block 1)) j
-        whole-one = qed 𝓛 (‵ (counts s 1) ∷ ‵ (beside s false 1) ∷ ‵ (fsep a_unit Own) ∷ []) ∵ nothing_more ! $ move ! (3 ∷ 0 ∷ []) $ fjoin ! $ move ! (1 ∷ 2 ∷ 0 ∷ []) $
-            by ! (passes_on 𝓛 s 1 false 1 (fsep a_unit Own) ftrue (gained s (whole_block 1)) (gains s (whole_block 1)) j (id⊢ 𝓤 _) (last_one 𝓛 s (gained s (whole_block 1)) j 1 Own one-counted refl))
+            whole-one : Lands 𝓛 s 1 false 1 (fsep a_unit Own) (gains s (whole_block 1)) j
+            whole-one = qed 𝓛 (‵ (counts s 1) ∷ ‵ (beside s false 1) ∷ ‵ (fsep a_unit Own) ∷ []) ∵ nothing_more ! $ move ! (3 ∷ 0 ∷ []) $ fjoin ! $ move ! (1 ∷ 2 ∷ 0 ∷ []) $
+                by ! (passes_on 𝓛 s 1 false 1 (fsep a_unit Own) ftrue (gained s (whole_block 1)) (gains s (whole_block 1)) j (id⊢ 𝓤 _) (last_one 𝓛 s (gained s (whole_block 1)) j 1 Own one-counted refl))
 
       at : HeldSteps 𝓛 s step.claims (λ w. w) (λ w _. refl) (after_claim s) (λ _. Own) (turns_none 𝓛 s full_share step.claims (λ p some. some) (λ p. refl) (λ p. refl))
       at j false true e w n small says = qed 𝓛 (‵ (counts s w) ∷ ‵ (beside s false n) ∷ ‵ (fsep (a_stake s true e) Own) ∷ []) ∵ move ! (2 ∷ []) $ fsplit ! $ fsplit ! $

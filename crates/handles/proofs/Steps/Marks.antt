@@ -6,7 +6,7 @@ use Rattle.counting_word.specs.CountingWord.{marked_word}
 use Rattle.counting_word.proofs.Words.{bit_or-mark_bit, stands-marked_word}
 use Rattle.counting_word.specs.WordSteps as step
 use Rattle.handles.proofs.Asking as asking
-use Rattle.handles.proofs.Steps.Shared.{◌≡◌, ℕ, ◌+◌, ◌^◌, ◌<◌, Bool, true, false, [], ◌∷◌, sym, refl, ◌∙◌, subst, arith, Ura, ftrue, Share, Fml, fsep, flft, Logic, ‵, ◌⊛◌, ◌$◌, ◌∵◌, !, qed, by, move, keep, split, fsplit, fsplit3, fjoin, fjoin3, fpick, fpack, suffices, use1, use2, done, rest, takes, mark_bit, count_of-unmarked, Says, unit_of_count, marked, SharedBlock, shared, counts, beside, rule, Entails, lives, Lands, Asks, Steps, stepped, pass, passes_on, and_logged, unknown}
+use Rattle.handles.proofs.Steps.Shared.{◌≡◌, ℕ, ◌+◌, ◌^◌, ◌<◌, Bool, true, false, [], ◌∷◌, sym, refl, ◌∙◌, subst, arith, Ura, ftrue, Share, Fml, fsep, flft, Logic, ‵, ◌⊛◌, ◌$◌, ◌∵◌, !, qed, by, move, keep, split, fsplit, fsplit3, fjoin, fjoin3, fpick, fpack, suffices, use1, use2, done, rest, takes, mark_bit, count_of-unmarked, Says, unit_of_count, marked, SharedBlock, shared, counts, beside, rule, Entails, lives, Lands, Asks, stepped, pass, passes_on, and_logged, unknown}
 use Rattle.handles.proofs.Steps.Says.{says-marked}
 use Rattle.handles.proofs.Steps.Reads.{bare_share, a_share, no_share}
 use Rattle.handles.proofs.Steps.Turns.{turns_none}

@@ -6,7 +6,7 @@ use Rattle.counting_word.specs.CountingWord.{greatest_count}
 use Rattle.counting_word.proofs.Words.{stands-raised}
 use Rattle.counting_word.specs.WordSteps as step
 use Rattle.counting_word.specs.Rights.{right_by_raise}
-use Rattle.handles.proofs.Steps.Shared.{◌≡◌, ◌≢◌, ℕ, ◌+◌, ◌%◌, ◌<◌, ◌≤◌, Bool, true, false, [], ◌∷◌, sym, refl, ap, ◌∙◌, subst, arith, eq-eqb, ne_eqb, if◌then◌else◌, dite, ℕ_discrete, Ura, Share, Fml, Logic, ‵, ◌⊛◌, ◌$◌, ◌∵◌, !, qed, by, move, split, fsplit, fjoin, use1, use2, rest, takes, mark_bit, StandsFor, count_of-unmarked, nothing, a_handle, right_by_read, Says, unit_of_count, title, pass, passed, passes_on, SharedBlock, counts, beside, rule, gained, counted_stake, lives, regained, Lands, Asks, Steps, stepped, inl, and_logged, begun_with, WordStep, List}
+use Rattle.handles.proofs.Steps.Shared.{◌≡◌, ◌≢◌, ℕ, ◌+◌, ◌%◌, ◌<◌, ◌≤◌, Bool, true, false, [], ◌∷◌, sym, refl, ap, ◌∙◌, subst, arith, eq-eqb, ne_eqb, if◌then◌else◌, dite, ℕ_discrete, Ura, Share, Fml, Logic, ‵, ◌⊛◌, ◌$◌, ◌∵◌, !, qed, by, move, split, fsplit, fjoin, use1, use2, rest, takes, mark_bit, StandsFor, count_of-unmarked, nothing, a_handle, right_by_read, Says, unit_of_count, title, pass, passed, passes_on, SharedBlock, counts, beside, rule, gained, counted_stake, lives, regained, Lands, Asks, stepped, and_logged, begun_with, WordStep, List}
 use Rattle.handles.specs.Inside.Blocks.{reached}
 use Rattle.handles.proofs.Steps.Says.{stands-unmarked}
 use Rattle.handles.proofs.Steps.Reads.{bare_share, a_share, bare_told, told, told_passed, no_share, shut, found_marked, found_unmarked}

@@ -7,7 +7,7 @@ use Rattle.handles.specs.Inside.Blocks.{fact, logged}
 use Rattle.handles.proofs.Steps.Shared.{WordStep, List, fsplit, fsplit3, done}
 use Rattle.handles.proofs.Asking as asking
 use Rattle.handles.proofs.Steps.Turns.{turns_read}
-use Rattle.handles.proofs.Steps.Shared.{unshared, ◌≡◌, ℕ, true, false, [], ◌∷◌, ap, if◌then◌else◌, Ura, ent, never, Share, Fml, fsep, flft, Logic, sem, ‵, ◌⊛◌, ◌$◌, ◌∵◌, !, qed, by, move, split, fjoin, fpack, use1, use2, nothing_more, nothing, a_handle, right_by_read, Says, title, SharedBlock, shared, counts, beside, rule, gained, gains, passed, pass, Bool, passes_on, Entails, no_token, lives, regained, makes_one, Lands, Asks, Steps, stepped, and_logged, unknown, refl}
+use Rattle.handles.proofs.Steps.Shared.{unshared, ◌≡◌, ℕ, true, false, [], ◌∷◌, ap, if◌then◌else◌, Ura, ent, never, Share, Fml, fsep, flft, Logic, sem, ‵, ◌⊛◌, ◌$◌, ◌∵◌, !, qed, by, move, split, fjoin, fpack, use1, use2, nothing_more, nothing, a_handle, right_by_read, Says, title, SharedBlock, shared, counts, beside, rule, gained, gains, passed, pass, Bool, passes_on, Entails, no_token, lives, regained, makes_one, Lands, Asks, stepped, and_logged, unknown, refl}
 
 module _ (s : SharedBlock) (q : Share) where
   -- its maker has a share of the token, and of the pass of a handle

@@ -3,9 +3,8 @@ use Rattle.counting_word.proofs.Plans.{clone_plan-says}
 use Rattle.counting_core.specs.BlockSteps.{state}
 use Rattle.counting_core.proofs.Traces.LiveCounts.{core_limit, core_within}
 use Rattle.counting_core.proofs.Steps.Owners.{raise-full, raise-lost}
-use Rattle.std.proofs.Common.{Bool, ℕ, ◌+◌, ap, if◌then◌else◌, length}
-use Rattle.counting_core.specs.declared.step.Answer.{Answer}
-use Rattle.counting_core.specs.declared.step.Answer.TheVariants.{Born, Full}
+use Rattle.std.proofs.Common.{Bool, ◌+◌, ap, if◌then◌else◌, length}
+use Rattle.counting_core.specs.declared.step.Answer.TheVariants.{Born}
 use Rattle.counting_word.specs.declared.ClonePlan.{ClonePlan}
 use Rattle.counting_word.specs.Plans.{clone_plan}
 use Rattle.counting_core.specs.ByWord.{cloned}

@@ -7,7 +7,7 @@ use Rattle.handles.specs.Inside.Blocks.{bare_block}
 use Rattle.handles.proofs.Walks.{◌≡◌, Bool, List, [], ◌∷◌, ◌++◌, refl, sym, subst, a_type, Val, vptr, inst_fn, SProp, ent, id⊢, ftrue, flft, WpFn, ‵, raw, ◌⊛◌, ◌$◌, ◌∵◌, !, qed, by, move, keep, split, join, fsplit, fjoin, fpack, use0, use1, suffices, stop, fld, of_opd, no_more, and_then, returns, enter, alloc_all, pass_all, free_all, look_at, get, get_in, sets, agg, sub, whole, tables, fact, no, RattleType, owns, types_at, plain, Ptr, InBlock, block_ptr, nothing_more, heard, param, layouts, param_laws, Stays, stay_dropped, walk_of, proved_at, leaves, HeldRow, one_word, words_made, HandleWords, known}
 use Rattle.handles.proofs.LooseBoxes.{Goes-blank, pair_val, LooseRow, loose-Good, loose_opens}
 use Rattle.handles.specs.contracts.block.Block as block_type
-use Rattle.handles.specs.Inside.Blocks.{IsFirst, unshared_block, owned_as}
+use Rattle.handles.specs.Inside.Blocks.{IsFirst, owned_as}
 use Rattle.counting_word.specs.CountingWord.{is_one_handle}
 use Rattle.handles.proofs.Owners.{first_owned}
 use Rattle.handles.proofs.Boxes.{box_opens}

@@ -6,7 +6,6 @@ use types.Kit.{some as exists}
 use Rattle.handles.proofs.Walks.{use1}
 use Rattle.std.proofs.Common.{List}
 use Rattle.counting_word.specs.WordSteps.{WordStep}
-use Rattle.counting_word.specs.Tallies.{Adds}
 use Rattle.handles.proofs.Walks.{◌≡◌, ℕ, Bool, true, [], ◌∷◌, refl, a_type, Val, inst_fn, SProp, Lft, Share, ftrue, flft, ‵, raw, ◌⊛◌, ◌$◌, ◌∵◌, !, qed, by, move, keep, split, join, fsplit, fjoin, use0, rewrite, stop, fld, of_opd, no_more, and_then, returns, enter, alloc_all, pass_all, free_all, look_at, get, get_in, sets, agg, sub, whole, tables, fact, no, RattleType, owns, types_at, plain, Ptr, block_of, offset_of, nothing_more, heard, param, layouts, Stays, stay_dropped, walk_of, Goes-dropped, proved, leaves, Right, HeldRow, one_word, one_word-Good, words_told, words_made, HandleRow, GainWords, known}
 use Rattle.counting_word.specs.Rights.{whole_block}
 use Rattle.handles.specs.Inside.Blocks.{handle_owns}

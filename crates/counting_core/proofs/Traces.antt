@@ -15,3 +15,4 @@ pub mod LiveCounts
 pub mod Rooms
 pub mod Shapes
 pub mod Runs
+pub mod TraceRuns

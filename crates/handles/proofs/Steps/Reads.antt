@@ -6,7 +6,8 @@ use Rattle.counting_word.specs.Rights.{Right}
 use Rattle.handles.specs.Inside.Blocks.{fact, logged}
 use Rattle.handles.proofs.Steps.Shared.{WordStep, List, fsplit, fsplit3, done}
 use Rattle.handles.proofs.Asking as asking
-use Rattle.handles.proofs.Steps.Turns.{turns_read}
+use Rattle.handles.proofs.Steps.Turns.{turns_read, turns_none}
+use base.Logic.{id⊢}
 use Rattle.handles.proofs.Steps.Shared.{unshared, ◌≡◌, ℕ, true, false, [], ◌∷◌, ap, if◌then◌else◌, Ura, ent, never, Share, Fml, fsep, flft, Logic, sem, ‵, ◌⊛◌, ◌$◌, ◌∵◌, !, qed, by, move, split, fjoin, fpack, use1, use2, nothing_more, nothing, a_handle, right_by_read, Says, title, SharedBlock, shared, counts, beside, rule, gained, gains, passed, pass, Bool, passes_on, Entails, no_token, lives, regained, makes_one, Lands, Asks, stepped, and_logged, unknown, refl}
 
 module _ (s : SharedBlock) (q : Share) where
@@ -56,6 +57,12 @@ module _ {M : Type 1} {𝓤 : Ura M} (𝓛 : Logic 𝓤) (s : SharedBlock) (q : 
   told_passed w r = qed 𝓛 (‵ (bare_told s q w r) ∷ ‵ (fsep (pass s.names.handles s.names.own q) (passed s r)) ∷ []) ∵ fsplit3 ! $ move ! (3 ∷ []) $ fsplit ! $
       -- [the pass; the pass that goes with the right; the share; what is told; the right]
       move ! (2 ∷ 0 ∷ []) $ fjoin ! $ move ! (3 ∷ 1 ∷ []) $ fjoin ! $ move ! (2 ∷ 0 ∷ []) $ fjoin ! $ move ! (1 ∷ 0 ∷ []) $ fjoin ! $ done !
+
+  -- a load that only asks
+  pub asks : Asks 𝓛 s (λ w. w) (fsep ftrue (a_share s q)) (and_logged s [] step.asks (λ _. a_share s q))
+  asks = stepped 𝓛 s [] ftrue (unknown 𝓛 s) step.asks (λ w. w) (λ w _. refl) (λ _. a_share s q) (bare_share s q) (pass s.names.handles s.names.own q) (λ _. pass s.names.handles s.names.own q) (turns_none 𝓛 s q step.asks (λ p some. some) (λ p. refl) (λ p. refl))
+      (λ j mark w n small says. passes_on 𝓛 s w mark n (bare_share s q) (pass s.names.handles s.names.own q) (bare_share s q) (a_share s q) j (id⊢ 𝓤 _)
+      (qed 𝓛 (‵ (counts s w) ∷ ‵ (beside s mark n) ∷ ‵ (bare_share s q) ∷ []) ∵ use2 𝓛 (‵ (rule s)) (lives 𝓛 s mark w n says) $ by ! (asking.closes 𝓛 (rule s) (bare_share s q) j))) no_share
 
   pub reads : Asks 𝓛 s (λ w. w) (fsep ftrue (a_share s q)) (and_logged s [] step.reads (after_read s q))
   reads = stepped 𝓛 s [] ftrue (unknown 𝓛 s) step.reads (λ w. w) (λ w _. refl) (after_read s q) (bare_share s q) (pass s.names.handles s.names.own q) (λ w. fsep (pass s.names.handles s.names.own q) (passed s (right_by_read w))) (turns_read 𝓛 s q)

@@ -124,13 +124,13 @@ impl<T: Send + Sync> Arc<T> {
     /// thread that borrows this handle may end that by a clone. To write, ask `get_mut`.
     #[inline]
     pub fn is_unique(&self) -> bool {
-        is_alone(self.handle.word())
+        is_alone(self.handle.word().0)
     }
 
     /// Whether the block is marked, which it then stays.
     #[inline]
     pub fn is_static(&self) -> bool {
-        is_marked(self.handle.word())
+        is_marked(self.handle.word().0)
     }
 
     /// Marks the block: from then on it is never given back, and its value is never dropped. Marking again is harmless.

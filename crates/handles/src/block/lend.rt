@@ -13,7 +13,7 @@ impl<T> Handle<T> {
     fn is_sole(&mut self) -> bool
         ensures { self.new ≡ record self.old { sole = result } }
     {
-        is_alone(self.claim())
+        is_alone(self.claim().0)
     }
 
     #[inline]

@@ -18,7 +18,7 @@ use Rattle.handles.specs.Inside.Blocks.{counted_handle, owned_as, handle_owns}
 use Rattle.counting_word.specs.WordSteps as step
 use Rattle.handles.proofs.Steps.Shared.{block_at, and_logged}
 use Rattle.handles.proofs.Steps.Claims.{claims, after_claim}
-use Rattle.handles.proofs.Fields.{gain_shown, claim_tells}
+use Rattle.handles.proofs.Fields.{gain_shown, claim_tells, returns_logged, word_and_logged, word_and_logged-Good}
 use Rattle.handles.proofs.Owners.{forgets, handle_settles}
 use Rattle.handles.specs.contracts.block.Handle as handle_type
 use Rattle.handles.specs.contracts.block.Handle.claim.{ended, clauses}
@@ -49,15 +49,25 @@ claim_spec 𝓤 𝓛 𝓜 𝓡 wired T L =
     first ! $ blocks ! $ sets ! (addr ! (through ! refl (fld ! refl (stop !)))) refl (tt, tt) $ move ! (1 ∷ []) $ use1 𝓛 (‵ (finv I) ⊛ ‵ (finv I)) (𝓛.invs.inv_dup I) $ split ! $ move ! (0 ∷ 2 ∷ []) $ move ! (1 ∷ []) $ nothing_more ! $ move ! (0 ∷ 1 ∷ []) $ fjoin ! $ move ! (1 ∷ 0 ∷ []) $
     use2 𝓛 (raw (𝓣.C _ (vptr pb (po + 0) ∷ seq_cst ∷ []) (λ u. mean 𝓛 (found aft u)))) (via 𝓤 _ (claims 𝓛 (block_at R p x η i)) (loads 𝓛 𝓜 𝓡 (code.calls-core::raw_atomic::load 𝓡.env wired) (block_ptr pb (po + 0)) aft)) $
     sets ! (agg ! (and_then ! (lit ! tt) (no_more !))) refl (tt, (record { fits = lit< tt }, tt)) $
-    Calls-last ! (fm 𝓛 𝓜 𝓡) (found aft) (and_then ! (get ! refl) (and_then ! (get ! refl) (no_more !))) (λ u. finds ! aft (λ n fits. let told : Self.Denot = record { block = p; held = x; sole = is_one_handle n; id = η } in
-    lands_last ! refl (tt, record { fits = fits }) $ exec ! 𝓣.C 𝓣.Λ Ev (after 2 fn.body) (at_ret Ev Post) $ sets ! (of_opd ! (get ! refl)) refl (tt, record { fits = fits }) $
-    use3 𝓛 (later (exists (λ (log : List WordStep). given (Adds [] step.claims n log) (‵ (gain_owns R p x η (right_by_claim n) log))))) (gain_shown 𝓛 R p x η inb i [] step.claims n (right_by_claim n)) $ await ! tt $ pick ! (λ log. learn ! (λ adds. fsplit ! $ drop ! $ use1 𝓛 (‵ (handle_owns R p x η (is_one_handle n))) (claim_tells 𝓛 R p x η (is_one_handle n)) $
-    -- [what is gained; the token of T; the cell; the open borrow; its two names; its place; nothing; nothing]
-    rewrite ! 2 (λ (z : Ptr). ‵ (cell_at full_share Self.mir (one_word z ∷ []) b o)) (sym at) refl $
-    use0 𝓛 (‵ (D.own_val (p, tt) (one_word p ∷ []))) (words_made (handle_type.the_type R).name (R ∷ []) 𝓛 p) $ fjoin ! $ move ! (2 ∷ 0 ∷ 3 ∷ 4 ∷ 5 ∷ []) $ closes ! tt Self told (one_word p ∷ []) b o $
-    -- [its name; its borrow; its token; the token of T; its place; nothing; nothing]
-    move ! (4 ∷ 0 ∷ 1 ∷ []) $ fjoin3 ! $ move ! (2 ∷ 3 ∷ []) $ join ! $ move ! (2 ∷ 0 ∷ []) $ join ! $
-    flt_i ! n (2 ^ 64) fits $ feq_i ! (List Val) (vint w64 n ∷ []) (vint w64 n ∷ []) refl $ fjoin ! $ known ! (told ≡ told) refl $
-    -- [the fact; the result; the tokens; the reference; nothing]
+    Calls-last ! (fm 𝓛 𝓜 𝓡) (found aft) (and_then ! (get ! refl) (and_then ! (get ! refl) (no_more !))) (λ u. finds ! aft (λ n fits.
+    let told : Self.Denot = record { block = p; held = x; sole = is_one_handle n; id = η } in
+    lands_last ! refl (tt, record { fits = fits }) $ exec ! 𝓣.C 𝓣.Λ Ev (after 2 fn.body) (at_ret Ev Post) $
+    sets ! (of_opd ! (get ! refl)) refl (tt, record { fits = fits }) $
+    use3 𝓛 (later (exists (λ (log : List WordStep).
+    given (Adds [] step.claims n log) (‵ (gain_owns R p x η (right_by_claim n) log)))))
+    (gain_shown 𝓛 R p x η inb i [] step.claims n (right_by_claim n)) $ await ! tt $ pick ! (λ log. learn ! (λ adds.
+    fsplit ! $ move ! (1 ∷ []) $ use1 𝓛 (‵ (handle_owns R p x η (is_one_handle n))) (claim_tells 𝓛 R p x η (is_one_handle n)) $
+    -- [what is gained; that the log was reached; the token of T; the cell; the open borrow; its two names; its place]
+    rewrite ! 3 (λ (z : Ptr). ‵ (cell_at full_share Self.mir (one_word z ∷ []) b o)) (sym at) refl $
+    use0 𝓛 (‵ (D.own_val (p, tt) (one_word p ∷ []))) (words_made (handle_type.the_type R).name (R ∷ []) 𝓛 p) $ fjoin ! $
+    move ! (3 ∷ 0 ∷ 4 ∷ 5 ∷ 6 ∷ []) $ closes ! tt Self told (one_word p ∷ []) b o $
+    -- [its name; its borrow; its token; that the log was reached; the token of T; its place; nothing; nothing]
+    move ! (5 ∷ 0 ∷ 1 ∷ []) $ fjoin3 ! $ move ! (3 ∷ 4 ∷ []) $ join ! $ move ! (2 ∷ 0 ∷ []) $ join ! $ move ! (2 ∷ []) $
+    sets ! (agg ! (no_more !)) refl (tt, tt) $
+    sets ! (agg ! (and_then ! (get ! refl) (and_then ! (get ! refl) (no_more !)))) refl (word_and_logged-Good n fits) $
+    returns_logged η n ! fits log $
+    known ! (Adds [] step.claims n log) adds $ known ! (η ≡ η) refl $ join ! $ known ! (told ≡ told) refl $ join ! $
+    -- [the facts; the result; the tokens; the reference; nothing]
     nothing_more ! $ move ! (4 ∷ 0 ∷ []) $ fjoin ! $
-    returns ! (look_at ! 0 refl) $ free_all ! refl $ keep ! (3 ∷ 0 ∷ 2 ∷ 1 ∷ []) $ by ! (leaves 𝓛 En hs c y (vint w64 n) n (told, tt) (tt, tt)))))))))))))
+    returns ! (look_at ! 0 refl) $ free_all ! refl $ keep ! (3 ∷ 0 ∷ 2 ∷ 1 ∷ []) $
+    by ! (leaves 𝓛 En hs c y (word_and_logged n) (n, record { id = η; log = log }) (told, tt) (tt, tt)))))))))))))

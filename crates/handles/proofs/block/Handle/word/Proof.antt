@@ -1,6 +1,8 @@
 -- `word` is one load of the word, which only asks.
-use Rattle.handles.proofs.Walks.{drop, ◌≡◌, ℕ, ◌+◌, false, [], ◌∷◌, refl, lit<, w64, a_type, named, Val, vint, vptr, inst_fn, SProp, via, Lft, Share, Fml, ftrue, fsep, flft, ‵, raw, ◌⊛◌, mean, at_ret, ◌$◌, ◌∵◌, !, qed, by, move, keep, split, join, fsplit, fjoin, use2, stop, fld, load, addr, lit, of_opd, no_more, and_then, first, blocks, exec, Calls-last, returns, enter, alloc_all, pass_all, free_all, look_at, get, through, sets, lands_last, env, agg, sub, whole, look_in, tables, fact, yes, RattleType, owns, types_at, plain, Ptr, block_ptr, block_of, offset_of, nothing_more, heard, shuts, param, layouts, RefOf, shr_vals, shr_Tells, Stays, stay_dropped, walk_of, Goes-dropped, after, proved, leaves, fm, seq_cst, found, finds, HeldRow, one_word, HandleRow, HandleWords, is_number, opens_handle, closes_borrow}
+use Rattle.handles.proofs.Walks.{drop, ◌≡◌, ℕ, ◌+◌, false, [], ◌∷◌, refl, lit<, w64, a_type, named, Val, vint, vptr, inst_fn, SProp, via, Lft, Share, Fml, ftrue, fsep, flft, ‵, raw, ◌⊛◌, mean, at_ret, ◌$◌, ◌∵◌, !, qed, by, move, keep, split, join, fsplit, fjoin, use2, stop, fld, load, addr, lit, of_opd, no_more, and_then, first, blocks, exec, Calls-last, returns, enter, alloc_all, pass_all, free_all, look_at, get, through, sets, lands_last, env, agg, sub, whole, look_in, tables, fact, yes, RattleType, owns, types_at, plain, Ptr, block_ptr, block_of, offset_of, nothing_more, heard, shuts, param, layouts, RefOf, shr_vals, shr_Tells, Stays, stay_dropped, walk_of, Goes-dropped, after, proved, leaves, fm, seq_cst, found, finds, HeldRow, one_word, HandleRow, HandleWords, opens_handle, closes_borrow, known}
 use Rattle.atomic_table.proofs.Calls.{loads}
+use Rattle.counting_word.specs.Tallies.{Adds}
+use Rattle.handles.proofs.Fields.{tells, returns_logged, word_and_logged, word_and_logged-Good}
 use Rattle.handles.proofs.Steps.Shared.{block_at, and_logged}
 use Rattle.counting_word.specs.WordSteps as step
 use Rattle.handles.proofs.Steps.Reads.{asks, a_share}
@@ -27,6 +29,14 @@ word_spec 𝓤 𝓛 𝓜 𝓡 wired T L =
     use2 𝓛 (raw (𝓣.C _ (vptr pb (po + 0) ∷ seq_cst ∷ []) (λ u. mean 𝓛 (found aft u)))) (via 𝓤 _ (asks 𝓛 (block_at R p x η i) e) (loads 𝓛 𝓜 𝓡 (code.calls-core::raw_atomic::load 𝓡.env wired) (block_ptr pb (po + 0)) aft)) $
     sets ! (agg ! (and_then ! (lit ! tt) (no_more !))) refl (tt, (record { fits = lit< tt }, tt)) $
     Calls-last ! (fm 𝓛 𝓜 𝓡) (found aft) (and_then ! (get ! refl) (and_then ! (get ! refl) (no_more !))) (λ u. finds ! aft (λ n fits.
-    lands_last ! refl (tt, record { fits = fits }) $ exec ! 𝓣.C 𝓣.Λ Ev (after 2 fn.body) (at_ret Ev Post) $ sets ! (of_opd ! (get ! refl)) refl (tt, record { fits = fits }) $ fsplit ! $ drop ! $
-    -- [the share; half of the token; the open borrow; the sharing; the other tokens]
-    closes_borrow ! tt $ move ! (0 ∷ 2 ∷ []) $ join ! $ is_number ! n fits $ nothing_more ! $ nothing_more ! $ nothing_more ! $ fjoin ! $ returns ! (look_at ! 0 refl) $ free_all ! refl $ keep ! (3 ∷ 0 ∷ 2 ∷ 1 ∷ []) $ by ! (leaves 𝓛 En hs c y (vint w64 n) n (tt, tt) (tt, tt))))))))
+    lands_last ! refl (tt, record { fits = fits }) $ exec ! 𝓣.C 𝓣.Λ Ev (after 2 fn.body) (at_ret Ev Post) $
+    sets ! (of_opd ! (get ! refl)) refl (tt, record { fits = fits }) $ fsplit ! $
+    tells η n ! [] step.asks (λ log adds.
+    sets ! (agg ! (no_more !)) refl (tt, tt) $
+    sets ! (agg ! (and_then ! (get ! refl) (and_then ! (get ! refl) (no_more !)))) refl (word_and_logged-Good n fits) $
+    -- [the result; the share; half of the token; the open borrow; the sharing; the other tokens]
+    returns_logged η n ! fits log $ move ! (1 ∷ 2 ∷ 3 ∷ []) $ closes_borrow ! tt $ move ! (0 ∷ 3 ∷ []) $ join ! $
+    move ! (1 ∷ []) $ known ! (Adds [] step.asks n log) adds $ known ! (η ≡ η) refl $ join ! $
+    nothing_more ! $ nothing_more ! $ fjoin ! $ returns ! (look_at ! 0 refl) $ free_all ! refl $
+    keep ! (3 ∷ 0 ∷ 2 ∷ 1 ∷ []) $
+    by ! (leaves 𝓛 En hs c y (word_and_logged n) (n, record { id = η; log = log }) (tt, tt) (tt, tt)))))))))

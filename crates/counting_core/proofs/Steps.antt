@@ -9,4 +9,3 @@ pub mod Marking
 pub mod Running
 pub mod FullWords
 pub mod ByTheWord
-pub mod TraceLogs

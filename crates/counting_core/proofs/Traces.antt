@@ -14,5 +14,8 @@ pub mod LostRaises
 pub mod LiveCounts
 pub mod Rooms
 pub mod Shapes
+pub mod HandleRuns
+pub mod EndRuns
 pub mod Runs
+pub mod Drops
 pub mod TraceRuns

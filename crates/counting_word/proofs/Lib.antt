@@ -1,5 +1,5 @@
 pub mod Plans
 pub mod Words
 pub mod WordLogs
-pub mod PlainLogs
 pub mod Tallies
+mod WorkedLogs

@@ -2,5 +2,4 @@ pub mod CountingWord
 pub mod Plans
 pub mod Rights
 pub mod WordSteps
-pub mod PlainLogs
 pub mod Tallies

@@ -27,7 +27,8 @@ use denote.Struct.Laws.{field_copy, unit-copy}
 use Rattle.std_heap.specs.contracts.Global as heap
 use Rattle.core.specs.contracts.rt.Memory as memory
 use Rattle.handles.proofs.block.Held.TheLaws.{the_row_laws as held_laws}
-use Rattle.handles.specs.Inside.Blocks.{HeldRow, members, block_type, stamp_offset, held_offset, heap_offset, left_at, frees, bare_block}
+use Rattle.handles.specs.Inside.Blocks.{HeldRow, members, block_type, stamp_offset, held_offset, heap_offset, left_at}
+use Rattle.handles.specs.Inside.Blocks.{frees, bare_block}
 use Rattle.handles.specs.contracts.block.Block as block
 
 module _ (T : RattleType) (L : Laws T) {M : Type 1} {𝓤 : Ura M} (𝓛 : Logic 𝓤) (b o : ℕ) where
@@ -64,7 +65,8 @@ module _ (T : RattleType) (L : Laws T) {M : Type 1} {𝓤 : Ura M} (𝓛 : Logic
   Boxed w s x h = box_owns (ghosts.dealloc_token h) BlockRow (block_ptr b o) (record { word = w; stamp = s; held = x; alloc = h })
 
   -- a box of a block is a block that nobody shares
-  pub box_opens : (w s : ℕ) (x : (HeldRow R).Denot) (h : Global) → ent 𝓤 (sem 𝓛 (Boxed w s x h)) (sem 𝓛 (bare_block R (block_ptr b o) x w))
+  pub box_opens : (w s : ℕ) (x : (HeldRow R).Denot) (h : Global)
+      → ent 𝓤 (sem 𝓛 (Boxed w s x h)) (sem 𝓛 (bare_block R (block_ptr b o) x w))
   box_opens w s x h = qed 𝓛 (‵ (Boxed w s x h) ∷ []) ∵ fsplit ! $ use1 𝓛 (‵ (Apart w s x h)) (block_out w s x h) $ fsplit3 ! $ move ! (2 ∷ []) $ fsplit3 ! $
       -- [what is held; the handle; what is left; the word; the stamp; the right to free]
       move ! (1 ∷ 5 ∷ 2 ∷ []) $ fjoin3 ! $ fpack ! Global (frees R (block_ptr b o)) h $ move ! (1 ∷ 0 ∷ []) $ fjoin ! $ move ! (2 ∷ []) $ fpack ! ℕ (λ n. word b (o + stamp_offset) n) s $

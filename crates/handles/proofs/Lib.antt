@@ -3,7 +3,9 @@ pub mod BorrowedHandle
 pub mod Boxes
 pub mod BuilderRuns
 pub mod Fields
+pub mod HeldParts
 pub mod LeavingFields
+pub mod LoggedSteps
 pub mod LooseBoxes
 pub mod Owners
 pub mod PlacesFields

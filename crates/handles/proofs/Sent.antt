@@ -17,7 +17,9 @@ use Rattle.std_heap.specs.contracts.Global.{the_row as heap_row}
 use Rattle.std_alloc.proofs.SendSync.{lies, seen, quiet}
 use Rattle.std.proofs.Crossing as crossing
 use Rattle.handles.proofs.block.Held.TheSendSync.{the_send as held_send, the_sync as held_sync}
-use Rattle.handles.specs.Inside.Blocks.{HeldRow, Names, Stage, living, over, entitled, stage, logs, kept_log, stamp, left_at, block_type, held_offset, heap_offset, held_and_block, shown, Sharing, not_yet, marked_not_yet, begun, held_as, owned_as, shared_as}
+use Rattle.handles.specs.Inside.Blocks.{HeldRow, Names, Stage, living, over, entitled, stage, logs, kept_log, stamp}
+use Rattle.handles.specs.Inside.Blocks.{left_at, block_type, held_offset, heap_offset, held_and_block, shown, Sharing}
+use Rattle.handles.specs.Inside.Blocks.{not_yet, marked_not_yet, begun, held_as, owned_as, shared_as}
 use Rattle.handles.specs.contracts.block.Handle as handle_type
 
 pointers : IsSend RawPtr
@@ -34,9 +36,28 @@ latest-Keyless : (η : ℕ) (log : List WordStep) → Keyless (latest logs full_
 unfolding latest
 latest-Keyless η log = tt
 
-stage-Keyless : (content kept : Fml) → Keyless content → Keyless kept → (limit b o η : ℕ) (i : Names) (s : Stage) → Keyless (stage content kept limit b o η i s)
-stage-Keyless content kept c k limit b o η i (living false w n) = ((tt, λ p. ((λ log. (latest-Keyless η log, λ _. tt)), (row-Keyless i.handles p.handles, row-Keyless i.drops p.drops))), ((λ _. tt), ((λ r c. tt), ((c, k), tt))))
-stage-Keyless content kept c k limit b o η i (living true w n) = ((tt, λ p. ((λ log. (latest-Keyless η log, λ _. tt)), (row-Keyless i.handles p.handles, row-Keyless i.drops p.drops))), ((λ _. tt), ((λ r c. tt), (((λ e. tt), k), tt))))
+stage-Keyless : (content kept : Fml) → Keyless content → Keyless kept → (limit b o η : ℕ) (i : Names) (s : Stage)
+    → Keyless (stage content kept limit b o η i s)
+stage-Keyless content kept c k limit b o η i (living false w n) = (
+  (
+    tt,
+    λ p. (
+      (λ log. (latest-Keyless η log, λ _. tt)),
+      (row-Keyless i.handles p.handles, row-Keyless i.drops p.drops),
+    ),
+  ),
+  ((λ _. tt), ((λ r c. tt), ((c, k), tt))),
+)
+stage-Keyless content kept c k limit b o η i (living true w n) = (
+  (
+    tt,
+    λ p. (
+      (λ log. (latest-Keyless η log, λ _. tt)),
+      (row-Keyless i.handles p.handles, row-Keyless i.drops p.drops),
+    ),
+  ),
+  ((λ _. tt), ((λ r c. tt), (((λ e. tt), k), tt))),
+)
 stage-Keyless content kept c k limit b o η i over = (tt, tt)
 
 module _ (R : RattleType) (s : IsSend R) (y : IsSync R) where
@@ -50,33 +71,52 @@ module _ (R : RattleType) (s : IsSend R) (y : IsSync R) where
   stamp-Keyless : (p : Ptr) → Keyless (stamp p)
   stamp-Keyless p = λ n. tt
 
-  rule-Keyless : (p : Ptr) (x : (HeldRow R).Denot) (η : ℕ) (i : Names) (z : Stage) → Keyless (stage (held_and_block R p x) (stamp p) x.limit.count (block_of p) (offset_of p + 0) η i z)
-  rule-Keyless p x η = stage-Keyless (held_and_block R p x) (stamp p) (content-Keyless p x) (stamp-Keyless p) x.limit.count (block_of p) (offset_of p + 0) η
+  rule-Keyless : (p : Ptr) (x : (HeldRow R).Denot) (η : ℕ) (i : Names) (z : Stage)
+      → Keyless (stage (held_and_block R p x) (stamp p) x.limit.count (block_of p) (offset_of p + 0) η i z)
+  rule-Keyless p x η = stage-Keyless (held_and_block R p x) (stamp p) (content-Keyless p x)
+      (stamp-Keyless p) x.limit.count (block_of p) (offset_of p + 0) η
 
   shown-Common : (p : Ptr) (x : (HeldRow R).Denot) → Common (shown R p x)
   shown-Common p x = seen (HeldRow R) (held_sync R y) (p +ₚ held_offset R) x
 
   handle-Keyless : (p : Ptr) (x : (HeldRow R).Denot) (η : ℕ) (z : Sharing) → Keyless (held_as R p x η z)
   handle-Keyless p x η not_yet = ((tt, λ log. (latest-Keyless η log, λ _. tt)), (content-Keyless p x, stamp-Keyless p))
-  handle-Keyless p x η marked_not_yet = ((tt, λ log. (latest-Keyless η log, λ _. tt)), (content-Keyless p x, stamp-Keyless p))
-  handle-Keyless p x η begun = λ i. (((λ e. (entitled-Keyless i e, tt)), pass-Keyless i.handles i.own full_share), (rule-Keyless p x η i, shown-Common p x (i.shared ∷ [])))
+  handle-Keyless p x η marked_not_yet = (
+    (tt, λ log. (latest-Keyless η log, λ _. tt)),
+    (content-Keyless p x, stamp-Keyless p),
+  )
+  handle-Keyless p x η begun = λ i. (
+    ((λ e. (entitled-Keyless i e, tt)), pass-Keyless i.handles i.own full_share),
+    (rule-Keyless p x η i, shown-Common p x (i.shared ∷ [])),
+  )
 
   owned-Keyless : (p : Ptr) (x : (HeldRow R).Denot) (η : ℕ) (sole : Bool) → Keyless (owned_as R p x η sole)
   owned-Keyless p x η true = ((tt, λ log. (latest-Keyless η log, λ _. tt)), (content-Keyless p x, stamp-Keyless p))
   owned-Keyless p x η false = handle-Keyless p x η
 
-  shared-Keyless : (p : Ptr) (x : (HeldRow R).Denot) (η : ℕ) (sole : Bool) (κ : Lft) → Keyless (shared_as R p x η sole κ)
+  shared-Keyless : (p : Ptr) (x : (HeldRow R).Denot) (η : ℕ) (sole : Bool) (κ : Lft)
+      → Keyless (shared_as R p x η sole κ)
   shared-Keyless p x η true κ = shown-Common p x κ
-  shared-Keyless p x η false κ = λ i. ((λ q. tt), ((λ q. (tt, pass-Keyless i.handles i.own q)), (rule-Keyless p x η i, shown-Common p x (i.shared ∷ []))))
+  shared-Keyless p x η false κ = λ i. (
+    (λ q. tt),
+    (
+      (λ q. (tt, pass-Keyless i.handles i.own q)),
+      (rule-Keyless p x η i, shown-Common p x (i.shared ∷ [])),
+    ),
+  )
 
   fields-Send : AllSend (fields (handle_type.the_type R))
   fields-Send = (pointers, tt)
 
 pub handle-Send : (R : RattleType) → IsSend R → IsSync R → IsSend (handle_type.the_row R)
 handle-Send R s y = let O = handle_type.the_type R in
-    owning_send O (fields-Send R s y) (λ d. ((λ _. tt), owned-Keyless R s y d.block d.held d.id d.sole)) (λ k. quiet (to O) (exits_of k (fields O)) ((struct_send (shape O) (fields-Send R s y)).leaving k))
+    owning_send O (fields-Send R s y) (λ d. ((λ _. tt), owned-Keyless R s y d.block d.held d.id d.sole))
+    (λ k. quiet (to O) (exits_of k (fields O)) ((struct_send (shape O) (fields-Send R s y)).leaving k))
 
 pub handle-Sync : (R : RattleType) → IsSend R → IsSync R → IsSync (handle_type.the_row R)
 handle-Sync R s y = let O = handle_type.the_type R in record {
-  shared = λ d b o κ. ((struct_sync (shape O) (pointers_shared, tt)).shared (to O d) b o κ, ((λ _. tt), shared-Keyless R s y d.block d.held d.id d.sole κ));
+  shared = λ d b o κ. (
+    (struct_sync (shape O) (pointers_shared, tt)).shared (to O d) b o κ,
+    ((λ _. tt), shared-Keyless R s y d.block d.held d.id d.sole κ),
+  );
 }

@@ -6,10 +6,17 @@ use Rattle.counting_word.specs.CountingWord.{greatest_count}
 use Rattle.counting_word.proofs.Words.{stands-raised}
 use Rattle.counting_word.specs.WordSteps as step
 use Rattle.counting_word.specs.Rights.{right_by_raise}
-use Rattle.handles.proofs.Steps.Shared.{◌≡◌, ◌≢◌, ℕ, ◌+◌, ◌%◌, ◌<◌, ◌≤◌, Bool, true, false, [], ◌∷◌, sym, refl, ap, ◌∙◌, subst, arith, eq-eqb, ne_eqb, if◌then◌else◌, dite, ℕ_discrete, Ura, Share, Fml, Logic, ‵, ◌⊛◌, ◌$◌, ◌∵◌, !, qed, by, move, split, fsplit, fjoin, use1, use2, rest, takes, mark_bit, StandsFor, count_of-unmarked, nothing, a_handle, right_by_read, Says, unit_of_count, title, pass, passed, passes_on, SharedBlock, counts, beside, rule, gained, counted_stake, lives, regained, Lands, Asks, stepped, and_logged, begun_with, WordStep, List}
+use Rattle.handles.proofs.Steps.Shared.{◌≡◌, ◌≢◌, ℕ, ◌+◌, ◌%◌, ◌<◌, ◌≤◌, Bool, true, false, [], ◌∷◌, sym, refl, ap, ◌∙◌}
+use Rattle.handles.proofs.Steps.Shared.{subst, arith, eq-eqb, ne_eqb, if◌then◌else◌, dite, ℕ_discrete, Ura, Share, Fml}
+use Rattle.handles.proofs.Steps.Shared.{Logic, ‵, ◌⊛◌, ◌$◌, ◌∵◌, !, qed, by, move, split, fsplit, fjoin, use1, use2}
+use Rattle.handles.proofs.Steps.Shared.{rest, takes, mark_bit, StandsFor, count_of-unmarked, nothing, a_handle}
+use Rattle.handles.proofs.Steps.Shared.{right_by_read, Says, unit_of_count, title, pass, passed, passes_on, SharedBlock}
+use Rattle.handles.proofs.Steps.Shared.{counts, beside, rule, gained, counted_stake, lives, regained, Lands, Asks}
+use Rattle.handles.proofs.Steps.Shared.{stepped, and_logged, begun_with, WordStep, List}
 use Rattle.handles.specs.Inside.Blocks.{reached}
 use Rattle.handles.proofs.Steps.Says.{stands-unmarked}
-use Rattle.handles.proofs.Steps.Reads.{bare_share, a_share, bare_told, told, told_passed, no_share, shut, found_marked, found_unmarked}
+use Rattle.handles.proofs.Steps.Reads.{bare_share, a_share, bare_told, told, told_passed, no_share, shut, found_marked}
+use Rattle.handles.proofs.Steps.Reads.{found_unmarked}
 use Rattle.handles.proofs.Steps.Turns.{turns_raise}
 
 -- the word that a raise from `seen` to `next` makes of w
@@ -25,11 +32,13 @@ bare_raise s q seen w = bare_told s q w (right_by_raise seen w)
 lost : (seen w : ℕ) → w ≢ seen → right_by_raise seen w ≡ right_by_read w
 lost seen w other = ap (λ y. if y then a_handle else right_by_read w) (ne_eqb w seen other)
 
-module _ {M : Type 1} {𝓤 : Ura M} (𝓛 : Logic 𝓤) (s : SharedBlock) (q : Share) (seen : ℕ) (old : List WordStep) (below : seen < s.limit) (bounded : s.limit ≤ greatest_count) where
+module _ {M : Type 1} {𝓤 : Ura M} (𝓛 : Logic 𝓤) (s : SharedBlock) (q : Share) (seen : ℕ) (old : List WordStep)
+    (below : seen < s.limit) where
   -- a raise that wins
-  won : (j n : ℕ) → Says s.limit seen false n → Lands 𝓛 s (seen + 1) false n (bare_share s q) (bare_raise s q seen seen) j
+  won : (j n : ℕ) → Says s.limit seen false n → Lands 𝓛 s (seen + 1) false n (bare_share s q)
+      (bare_raise s q seen seen) j
   won j n says =
-      let most : s.limit ≤ 9223372036854775807 = bounded in
+      let most : s.limit ≤ 9223372036854775807 = s.most in
       let low : seen < 9223372036854775807 = omega (arith, below, most) in
       let same : n ≡ seen = sym (says.0.counts_live refl) ∙ count_of-unmarked seen says.0.same_mark in
       let room : n ≢ greatest_count = λ full. absurd (omega arith) in
@@ -41,24 +50,30 @@ module _ {M : Type 1} {𝓤 : Ura M} (𝓛 : Logic 𝓤) (s : SharedBlock) (q : 
       use1 𝓛 (‵ (rest 64 s.names.shared (n + 1)) ⊛ ‵ (unit_of_count s.names)) (takes 64 𝓛 s.names.shared n (omega arith)) $ split ! $
       -- [the parts; the part; the lender and the mark; the word; the token]
       move ! (0 ∷ 2 ∷ []) $ fjoin ! $ move ! (2 ∷ 0 ∷ []) $ use2 𝓛 (‵ (rule s)) (lives 𝓛 s false (seen + 1) (n + 1) next) $ move ! (1 ∷ []) $
-      use1 𝓛 (‵ (title s.names)) (counted_stake 𝓛 s.names) $ use1 𝓛 (‵ (gained s (right_by_raise seen seen))) (regained 𝓛 s a_handle (right_by_raise seen seen) wins) $
+      use1 𝓛 (‵ (title s.names)) (counted_stake 𝓛 s.names) $
+      use1 𝓛 (‵ (gained s (right_by_raise seen seen))) (regained 𝓛 s a_handle (right_by_raise seen seen) wins) $
       move ! (1 ∷ 0 ∷ []) $ by ! (shut 𝓛 s q (right_by_raise seen seen) j seen says.1)
-
-  under : seen < greatest_count
-  under = let most : s.limit ≤ 9223372036854775807 = bounded in omega (arith, below, most)
 
   is_raised : (w : ℕ) → step.word_by (step.raises_from seen) w ≡ raised seen (seen + 1) w
   is_raised w = dite (ℕ_discrete w seen)
-      (λ same. ap (λ (b : Bool). if b then w + 1 else w) (eq-eqb w seen same) ∙ ap (λ z. z + 1) same ∙ sym (ap (λ (b : Bool). either b (seen + 1) w) (eq-eqb w seen same)))
-      (λ other. ap (λ (b : Bool). if b then w + 1 else w) (ne_eqb w seen other) ∙ sym (ap (λ (b : Bool). either b (seen + 1) w) (ne_eqb w seen other)))
+      (λ same. ap (λ (b : Bool). if b then w + 1 else w) (eq-eqb w seen same) ∙ ap (λ z. z + 1) same
+      ∙ sym (ap (λ (b : Bool). either b (seen + 1) w) (eq-eqb w seen same)))
+      (λ other. ap (λ (b : Bool). if b then w + 1 else w) (ne_eqb w seen other)
+      ∙ sym (ap (λ (b : Bool). either b (seen + 1) w) (ne_eqb w seen other)))
 
   abbrev Also : ℕ → Fml
   Also w = fsep (pass s.names.handles s.names.own q) (passed s (right_by_raise seen w))
 
-  pub raises : (next : ℕ) → next ≡ seen + 1 → Asks 𝓛 s (raised seen next) (fsep (reached s.log old) (a_share s q)) (and_logged s old (step.raises_from seen) (after_raise s q seen))
-  raises next is_next = subst (λ m. Asks 𝓛 s (raised seen m) (fsep (reached s.log old) (a_share s q)) (and_logged s old (step.raises_from seen) (after_raise s q seen))) (sym is_next)
-      (stepped 𝓛 s old (reached s.log old) (begun_with 𝓛 s old) (step.raises_from seen) (raised seen (seen + 1)) (λ w _. is_raised w) (after_raise s q seen) (bare_share s q) (pass s.names.handles s.names.own q) Also (turns_raise 𝓛 s q seen under)
-      (λ j mark w n small says. passes_on 𝓛 s (raised seen (seen + 1) w) mark n (bare_share s q) (Also w) (bare_raise s q seen w) (after_raise s q seen w) j (told_passed 𝓛 s q w (right_by_raise seen w)) (at j mark w n says)) (no_share 𝓛 s q))
+  pub raises : (next : ℕ) → next ≡ seen + 1 → Asks 𝓛 s (raised seen next) (fsep (reached s.log old) (a_share s q))
+      (and_logged s old (step.raises_from seen) (after_raise s q seen))
+  raises next is_next = subst (λ m. Asks 𝓛 s (raised seen m) (fsep (reached s.log old) (a_share s q))
+      (and_logged s old (step.raises_from seen) (after_raise s q seen))) (sym is_next)
+      (stepped 𝓛 s old (reached s.log old) (begun_with 𝓛 s old) (step.raises_from seen) (raised seen (seen + 1))
+      (λ w _. is_raised w) (after_raise s q seen) (bare_share s q) (pass s.names.handles s.names.own q) Also
+      (turns_raise 𝓛 s q seen below)
+      (λ j mark w n small says. passes_on 𝓛 s (raised seen (seen + 1) w) mark n (bare_share s q) (Also w)
+      (bare_raise s q seen w) (after_raise s q seen w) j (told_passed 𝓛 s q w (right_by_raise seen w))
+      (at j mark w n says)) (no_share 𝓛 s q))
     where
       F : ℕ → Bool → ℕ → ℕ → Bool → Type 1
       F j mark w n y = Lands 𝓛 s (either y (seen + 1) w) mark n (bare_share s q) (bare_raise s q seen w) j
@@ -68,7 +83,8 @@ module _ {M : Type 1} {𝓤 : Ura M} (𝓛 : Logic 𝓤) (s : SharedBlock) (q : 
       missed j false w n other says = found_unmarked 𝓛 s q (right_by_raise seen w) (lost seen w other ∙ ap (λ y. if y then a_handle else nothing) says.0.same_mark) j w n says
 
       same_word : (j : ℕ) (mark : Bool) (n : ℕ) → Says s.limit seen mark n → F j mark seen n true
-      same_word j true n says = let most : s.limit ≤ 9223372036854775807 = bounded in let low : seen < 9223372036854775807 = omega (arith, below, most) in
+      same_word j true n says = let most : s.limit ≤ 9223372036854775807 = s.most in
+          let low : seen < 9223372036854775807 = omega (arith, below, most) in
           let high : 9223372036854775808 ≤ seen = leb-true mark_bit seen says.0.same_mark in absurd (omega arith)
       same_word j false n says = won j n says
 

@@ -8,7 +8,12 @@ use Rattle.handles.proofs.Steps.Shared.{WordStep, List, fsplit, fsplit3, done}
 use Rattle.handles.proofs.Asking as asking
 use Rattle.handles.proofs.Steps.Turns.{turns_read, turns_none}
 use base.Logic.{id⊢}
-use Rattle.handles.proofs.Steps.Shared.{unshared, ◌≡◌, ℕ, true, false, [], ◌∷◌, ap, if◌then◌else◌, Ura, ent, never, Share, Fml, fsep, flft, Logic, sem, ‵, ◌⊛◌, ◌$◌, ◌∵◌, !, qed, by, move, split, fjoin, fpack, use1, use2, nothing_more, nothing, a_handle, right_by_read, Says, title, SharedBlock, shared, counts, beside, rule, gained, gains, passed, pass, Bool, passes_on, Entails, no_token, lives, regained, makes_one, Lands, Asks, stepped, and_logged, unknown, refl}
+use Rattle.handles.proofs.Steps.Shared.{unshared, ◌≡◌, ℕ, true, false, [], ◌∷◌, ap, if◌then◌else◌, Ura, ent, never}
+use Rattle.handles.proofs.Steps.Shared.{Share, Fml, fsep, flft, Logic, sem, ‵, ◌⊛◌, ◌$◌, ◌∵◌, !, qed, by, move, split}
+use Rattle.handles.proofs.Steps.Shared.{fjoin, fpack, use1, use2, nothing_more, nothing, a_handle, right_by_read, Says}
+use Rattle.handles.proofs.Steps.Shared.{title, SharedBlock, shared, counts, beside, rule, gained, gains, passed, pass}
+use Rattle.handles.proofs.Steps.Shared.{Bool, passes_on, Entails, no_token, lives, regained, makes_one, Lands, Asks}
+use Rattle.handles.proofs.Steps.Shared.{stepped, and_logged, unknown, refl}
 
 module _ (s : SharedBlock) (q : Share) where
   -- its maker has a share of the token, and of the pass of a handle
@@ -30,44 +35,70 @@ module _ (s : SharedBlock) (q : Share) where
 
   -- and with what is in the log
   abbrev pub told_with : List WordStep → WordStep → ℕ → Right → Fml
-  told_with old what w r = fsep a_share (fsep (fact (IsWithin w s.limit)) (fsep (logged s.log old what w) (gains s r)))
+  told_with old what w r = fsep a_share (fsep (fact (IsWithin w s.limit)) (fsep (logged s.limit s.log old what w)
+      (gains s r)))
 
 module _ {M : Type 1} {𝓤 : Ura M} (𝓛 : Logic 𝓤) (s : SharedBlock) (q : Share) where
-  pub told_logged : (old : List WordStep) (what : WordStep) (w : ℕ) (r : Right) → ent 𝓤 (sem 𝓛 (fsep (logged s.log old what w) (told s q w r))) (sem 𝓛 (told_with s q old what w r))
-  told_logged old what w r = qed 𝓛 (‵ (fsep (logged s.log old what w) (told s q w r)) ∷ []) ∵ fsplit ! $ move ! (1 ∷ []) $ fsplit3 ! $ move ! (3 ∷ 2 ∷ []) $ fjoin ! $ move ! (2 ∷ 0 ∷ []) $ fjoin ! $ move ! (1 ∷ 0 ∷ []) $ fjoin ! $ done !
+  pub told_logged : (old : List WordStep) (what : WordStep) (w : ℕ) (r : Right)
+      → ent 𝓤 (sem 𝓛 (fsep (logged s.limit s.log old what w) (told s q w r))) (sem 𝓛 (told_with s q old what w r))
+  told_logged old what w r = qed 𝓛 (‵ (fsep (logged s.limit s.log old what w) (told s q w r)) ∷ []) ∵ fsplit ! $
+      move ! (1 ∷ []) $ fsplit3 ! $ move ! (3 ∷ 2 ∷ []) $ fjoin ! $ move ! (2 ∷ 0 ∷ []) $ fjoin ! $
+      move ! (1 ∷ 0 ∷ []) $ fjoin ! $ done !
 
   pub no_share : ent 𝓤 (sem 𝓛 (fsep (unshared s.names) (bare_share s q))) (never 𝓤)
-  no_share = qed 𝓛 (‵ (unshared s.names) ∷ ‵ (bare_share s q) ∷ []) ∵ move ! (1 ∷ 0 ∷ []) $ by ! (no_token 𝓛 (shared s) q (never 𝓤))
+  no_share = qed 𝓛 (‵ (unshared s.names) ∷ ‵ (bare_share s q) ∷ []) ∵ move ! (1 ∷ 0 ∷ []) $
+      by ! (no_token 𝓛 (shared s) q (never 𝓤))
 
-  pub shut : (r : Right) (j w : ℕ) → IsWithin w s.limit → ent 𝓤 (sem 𝓛 (fsep (rule s) (fsep (gained s r) (bare_share s q)))) (asking.Ending 𝓛 (rule s) (bare_told s q w r) j)
-  shut r j w within = qed 𝓛 (‵ (rule s) ∷ ‵ (gained s r) ∷ ‵ (bare_share s q) ∷ []) ∵ move ! (1 ∷ []) $ nothing_more ! $ fpack ! (IsWithin w s.limit) (λ _. ftrue) within $ fjoin ! $
+  pub shut : (r : Right) (j w : ℕ) → IsWithin w s.limit
+      → ent 𝓤 (sem 𝓛 (fsep (rule s) (fsep (gained s r) (bare_share s q)))) (asking.Ending 𝓛 (rule s)
+      (bare_told s q w r) j)
+  shut r j w within = qed 𝓛 (‵ (rule s) ∷ ‵ (gained s r) ∷ ‵ (bare_share s q) ∷ []) ∵ move ! (1 ∷ []) $ nothing_more ! $
+      fpack ! (IsWithin w s.limit) (λ _. ftrue) within $ fjoin ! $
       move ! (2 ∷ 0 ∷ []) $ fjoin ! $ move ! (1 ∷ 0 ∷ []) $ by ! (asking.closes 𝓛 (rule s) (bare_told s q w r) j)
 
   -- the word is as it was, and the rest comes by what is read
-  pub found_marked : (r : Right) → r ≡ a_handle → (j w n : ℕ) → Says s.limit w true n → Lands 𝓛 s w true n (bare_share s q) (bare_told s q w r) j
-  found_marked r e j w n says = qed 𝓛 (‵ (counts s w) ∷ ‵ (beside s true n) ∷ ‵ (bare_share s q) ∷ []) ∵ use2 𝓛 (‵ (rule s) ⊛ ‵ (title s.names)) (makes_one 𝓛 s w n says) $ split ! $ move ! (1 ∷ []) $
+  pub found_marked : (r : Right) → r ≡ a_handle → (j w n : ℕ) → Says s.limit w true n
+      → Lands 𝓛 s w true n (bare_share s q) (bare_told s q w r) j
+  found_marked r e j w n says = qed 𝓛 (‵ (counts s w) ∷ ‵ (beside s true n) ∷ ‵ (bare_share s q) ∷ []) ∵
+      use2 𝓛 (‵ (rule s) ⊛ ‵ (title s.names)) (makes_one 𝓛 s w n says) $ split ! $ move ! (1 ∷ []) $
       use1 𝓛 (‵ (gained s r)) (regained 𝓛 s a_handle r e) $ move ! (1 ∷ 0 ∷ []) $ by ! (shut r j w says.1)
 
-  pub found_unmarked : (r : Right) → r ≡ nothing → (j w n : ℕ) → Says s.limit w false n → Lands 𝓛 s w false n (bare_share s q) (bare_told s q w r) j
-  found_unmarked r e j w n says = qed 𝓛 (‵ (counts s w) ∷ ‵ (beside s false n) ∷ ‵ (bare_share s q) ∷ []) ∵ use2 𝓛 (‵ (rule s)) (lives 𝓛 s false w n says) $ nothing_more ! $
+  pub found_unmarked : (r : Right) → r ≡ nothing → (j w n : ℕ) → Says s.limit w false n
+      → Lands 𝓛 s w false n (bare_share s q) (bare_told s q w r) j
+  found_unmarked r e j w n says = qed 𝓛 (‵ (counts s w) ∷ ‵ (beside s false n) ∷ ‵ (bare_share s q) ∷ []) ∵
+      use2 𝓛 (‵ (rule s)) (lives 𝓛 s false w n says) $ nothing_more ! $
       use1 𝓛 (‵ (gained s r)) (regained 𝓛 s nothing r e) $ move ! (1 ∷ 0 ∷ []) $ by ! (shut r j w says.1)
 
   -- the passes are told too
-  pub told_passed : (w : ℕ) (r : Right) → Entails 𝓛 (fsep (bare_told s q w r) (fsep (pass s.names.handles s.names.own q) (passed s r))) (told s q w r)
-  told_passed w r = qed 𝓛 (‵ (bare_told s q w r) ∷ ‵ (fsep (pass s.names.handles s.names.own q) (passed s r)) ∷ []) ∵ fsplit3 ! $ move ! (3 ∷ []) $ fsplit ! $
+  pub told_passed : (w : ℕ) (r : Right) → Entails 𝓛 (fsep (bare_told s q w r) (fsep (pass s.names.handles s.names.own q)
+      (passed s r))) (told s q w r)
+  told_passed w r = qed 𝓛 (‵ (bare_told s q w r) ∷ ‵ (fsep (pass s.names.handles s.names.own q) (passed s r)) ∷ []) ∵
+      fsplit3 ! $ move ! (3 ∷ []) $ fsplit ! $
       -- [the pass; the pass that goes with the right; the share; what is told; the right]
-      move ! (2 ∷ 0 ∷ []) $ fjoin ! $ move ! (3 ∷ 1 ∷ []) $ fjoin ! $ move ! (2 ∷ 0 ∷ []) $ fjoin ! $ move ! (1 ∷ 0 ∷ []) $ fjoin ! $ done !
+      move ! (2 ∷ 0 ∷ []) $ fjoin ! $ move ! (3 ∷ 1 ∷ []) $ fjoin ! $ move ! (2 ∷ 0 ∷ []) $ fjoin ! $
+      move ! (1 ∷ 0 ∷ []) $ fjoin ! $ done !
 
   -- a load that only asks
   pub asks : Asks 𝓛 s (λ w. w) (fsep ftrue (a_share s q)) (and_logged s [] step.asks (λ _. a_share s q))
-  asks = stepped 𝓛 s [] ftrue (unknown 𝓛 s) step.asks (λ w. w) (λ w _. refl) (λ _. a_share s q) (bare_share s q) (pass s.names.handles s.names.own q) (λ _. pass s.names.handles s.names.own q) (turns_none 𝓛 s q step.asks (λ p some. some) (λ p. refl) (λ p. refl))
-      (λ j mark w n small says. passes_on 𝓛 s w mark n (bare_share s q) (pass s.names.handles s.names.own q) (bare_share s q) (a_share s q) j (id⊢ 𝓤 _)
-      (qed 𝓛 (‵ (counts s w) ∷ ‵ (beside s mark n) ∷ ‵ (bare_share s q) ∷ []) ∵ use2 𝓛 (‵ (rule s)) (lives 𝓛 s mark w n says) $ by ! (asking.closes 𝓛 (rule s) (bare_share s q) j))) no_share
+  asks = stepped 𝓛 s [] ftrue (unknown 𝓛 s) step.asks (λ w. w) (λ w _. refl) (λ _. a_share s q) (bare_share s q)
+      (pass s.names.handles s.names.own q) (λ _. pass s.names.handles s.names.own q) (turns_none 𝓛 s q step.asks
+      (λ p some. some) (λ p. refl) (λ p. refl))
+      (λ j mark w n small says. passes_on 𝓛 s w mark n (bare_share s q) (pass s.names.handles s.names.own q)
+      (bare_share s q) (a_share s q) j (id⊢ 𝓤 _)
+      (qed 𝓛 (‵ (counts s w) ∷ ‵ (beside s mark n) ∷ ‵ (bare_share s q) ∷ []) ∵
+      use2 𝓛 (‵ (rule s)) (lives 𝓛 s mark w n says) $ by ! (asking.closes 𝓛 (rule s) (bare_share s q) j))) no_share
 
   pub reads : Asks 𝓛 s (λ w. w) (fsep ftrue (a_share s q)) (and_logged s [] step.reads (after_read s q))
-  reads = stepped 𝓛 s [] ftrue (unknown 𝓛 s) step.reads (λ w. w) (λ w _. refl) (after_read s q) (bare_share s q) (pass s.names.handles s.names.own q) (λ w. fsep (pass s.names.handles s.names.own q) (passed s (right_by_read w))) (turns_read 𝓛 s q)
-      (λ j mark w n small says. passes_on 𝓛 s w mark n (bare_share s q) (fsep (pass s.names.handles s.names.own q) (passed s (right_by_read w))) (bare_told s q w (right_by_read w)) (after_read s q w) j (told_passed w (right_by_read w)) (at j mark w n says)) no_share
+  reads = stepped 𝓛 s [] ftrue (unknown 𝓛 s) step.reads (λ w. w) (λ w _. refl) (after_read s q) (bare_share s q)
+      (pass s.names.handles s.names.own q) (λ w. fsep (pass s.names.handles s.names.own q) (passed s (right_by_read w)))
+      (turns_read 𝓛 s q)
+      (λ j mark w n small says. passes_on 𝓛 s w mark n (bare_share s q) (fsep (pass s.names.handles s.names.own q)
+      (passed s (right_by_read w))) (bare_told s q w (right_by_read w)) (after_read s q w) j
+      (told_passed w (right_by_read w)) (at j mark w n says)) no_share
     where
-      at : (j : ℕ) (mark : Bool) (w n : ℕ) → Says s.limit w mark n → Lands 𝓛 s w mark n (bare_share s q) (bare_told s q w (right_by_read w)) j
-      at j true w n says = found_marked (right_by_read w) (ap (λ y. if y then a_handle else nothing) says.0.same_mark) j w n says
-      at j false w n says = found_unmarked (right_by_read w) (ap (λ y. if y then a_handle else nothing) says.0.same_mark) j w n says
+      at : (j : ℕ) (mark : Bool) (w n : ℕ) → Says s.limit w mark n
+          → Lands 𝓛 s w mark n (bare_share s q) (bare_told s q w (right_by_read w)) j
+      at j true w n says = found_marked (right_by_read w)
+          (ap (λ y. if y then a_handle else nothing) says.0.same_mark) j w n says
+      at j false w n says = found_unmarked (right_by_read w)
+          (ap (λ y. if y then a_handle else nothing) says.0.same_mark) j w n says

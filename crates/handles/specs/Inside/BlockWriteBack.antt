@@ -5,17 +5,17 @@ use Rattle.std.specs.Borrow.{Fml, MutBor, RattleType, Lends, LendsIf}
 use Rattle.std.specs.declared.option.Option.{Option}
 use Rattle.handles.specs.declared.block.Handle.{Handle}
 use Rattle.handles.specs.declared.block.Block.{Block}
-use Rattle.handles.specs.declared.block.Held.{Held}
 use Rattle.handles.specs.contracts.block.Handle.{the_row}
 use Rattle.handles.specs.contracts.block.Block.{the_row as block_row}
-use Rattle.handles.specs.contracts.block.Held.{the_row as held_row}
-
-abbrev pub with_held : {X : Type 0} → Handle X → Held X → Handle X
-with_held h w = record { block = h.block; held = w; sole = false; id = h.id }
 
 -- the limit stays
 abbrev pub with_value : {X : Type 0} → Handle X → X → Handle X
-with_value h w = with_held h (record { limit = h.held.limit; value = w })
+with_value h w = record {
+  block = h.block;
+  held = record { limit = h.held.limit; value = w };
+  sole = false;
+  id = h.id;
+}
 
 -- of a block that nobody shares
 abbrev pub LendsValue : (R : RattleType) → MutBor (Block R.Denot) → MutBor R.Denot → Fml
@@ -25,9 +25,6 @@ LendsValue R b r = Lends (block_row R) R b r (λ w. record {
   held = record { limit = b.now.held.limit; value = w };
   alloc = b.now.alloc;
 })
-
-abbrev pub LendsHeld : (R : RattleType) → MutBor (Handle R.Denot) → MutBor (Held R.Denot) → Fml
-LendsHeld R h r = Lends (the_row R) (held_row R) h r (with_held h.now)
 
 abbrev pub LendsSole : (R : RattleType) → MutBor (Handle R.Denot) → MutBor R.Denot → Fml
 LendsSole R h r = Lends (the_row R) R h r (with_value h.now)

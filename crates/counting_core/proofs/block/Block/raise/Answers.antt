@@ -47,5 +47,11 @@ returns-clause-steps g c =
 pub returns-in-Full-clause-word : goal.returns-in-Full-clause-word
 returns-in-Full-clause-word g c =
     let f = state c.args.self.now in
-    let other = full-other f c.args.owner c.args.handle (clone_plan-says f.word f.limit _ (sym c.in-Full.is ∙ c.plan_clone.ensures)) c.requires in
-    (sym (ap (λ (b : Bool). if b then (Born (length f.handles), f.word + 1) else (cloned f (clone_plan f.word f.limit), f.word)) other ∙ ap (λ (p : ClonePlan). (cloned f p, f.word)) (sym c.plan_clone.ensures ∙ c.in-Full.is)), tt)
+    let other = full-other f c.args.owner c.args.handle (clone_plan-says f.word f.limit _ (sym c.in-Full.is
+    ∙ c.plan_clone.ensures)) c.requires in (
+      sym (ap (λ (b : Bool). if b then (Born (length f.handles), f.word + 1) else (
+        cloned f (clone_plan f.word f.limit),
+        f.word,
+      )) other ∙ ap (λ (p : ClonePlan). (cloned f p, f.word)) (sym c.plan_clone.ensures ∙ c.in-Full.is)),
+      tt,
+    )

@@ -22,14 +22,18 @@ into_loose_spec 𝓤 𝓛 𝓜 𝓡 wired T L =
     let H = 𝓛.H in let 𝓣 = tables 𝓤 H 𝓜 𝓡 𝓡.env in let R : RattleType = param 0 T in let En = ended T in let c = clauses T 𝓛 𝓜.mem 𝓡.returns in let inst = layouts (a_type ∷ []) (T, tt) in let fn = inst_fn inst code.function in
     let self = plain (λ _. GainRow R) in let hs : Stays En.signature.params En.kept = (stay_dropped self no, tt) in
     proved 𝓛 En hs c 𝓜 𝓡 (Goes-dropped 𝓛 1 self no (λ κs x f. refl), tt) (#self inst) fn (code.unfolded 𝓤 H 𝓜 𝓡 wired (T, tt)) (λ κs. ((λ s. one_word s.block ∷ []), tt)) (λ κs. ((λ s vs so. words_told (gain_type.the_type R).name (R ∷ []) s.block vs so.0), tt)) (λ κs qs bounds a gh are.
-    let κ : Lft = κs.0 in let q : Share = qs.0 in let p : Ptr = a.0.block in let x : (HeldRow R).Denot = a.0.held in let η : ℕ = a.0.id in let pb : ℕ = block_of p in let po : ℕ = offset_of p in
+    let κ : Lft = κs.0 in let q : Share = qs.0 in let p : Ptr = a.0.block in let x : (HeldRow R).Denot = a.0.held in
+    let η : ℕ = a.0.id in let pb : ℕ = block_of p in let po : ℕ = offset_of p in
     let y : (walk_of 𝓛 En hs c).Ghost = ((κs, qs, bounds, a, (one_word p ∷ [], tt)), gh) in let Post : Val → SProp 𝓤 = (walk_of 𝓛 En hs c).post y in
     let Block : RattleType = block_type.the_row R in let there : Ptr = block_ptr pb po in
     qed 𝓛 (((‵ (flft κ q) ⊛ ‵ ftrue) ⊛ ‵ (owns (types_at En.signature.params κs) a y.0.4)) ∷ raw (fact 𝓤 _) ∷ raw (fact 𝓤 (IsWholeBlock a.0.right)) ∷ []) ∵
     keep ! (2 ∷ 0 ∷ []) $ heard ! (IsWholeBlock a.0.right) (λ asked. let n : ℕ = (whole_block_of a.0.right asked).0 in let is_whole : a.0.right ≡ whole_block n = (whole_block_of a.0.right asked).1 in
-    split ! $ split ! $ join ! $ move ! (1 ∷ []) $ fsplit ! $ fsplit ! $ keep ! (1 ∷ 3 ∷ []) $ rewrite ! 0 (λ (r : Right). ‵ (gain_owns R p x η r a.0.log)) is_whole refl $ fsplit ! $ drop ! $
-    fsplit ! $ fpick ! (λ inb. drop ! $ let at : p ≡ block_ptr pb po = at_block p inb in rewrite ! 0 (λ (z : Ptr). ‵ (unshared_block R z x η n)) at refl $
-    fsplit3 ! $ fsplit ! $ move ! (1 ∷ []) $ drop ! $ move ! (1 ∷ []) $ fsplit ! $ move ! (1 ∷ []) $ fpick ! (λ h. fsplit3 ! $
+    split ! $ split ! $ join ! $ move ! (1 ∷ []) $ fsplit ! $ fsplit ! $ keep ! (1 ∷ 3 ∷ []) $
+    rewrite ! 0 (λ (r : Right). ‵ (gain_owns R p x η r a.0.log)) is_whole refl $ fsplit ! $ drop ! $
+    fsplit ! $ fpick ! (λ inb. drop ! $ let at : p ≡ block_ptr pb po = at_block p inb in
+    rewrite ! 0 (λ (z : Ptr). ‵ (unshared_block R z x η n)) at refl $
+    fsplit3 ! $ fsplit ! $ move ! (1 ∷ []) $ drop ! $ move ! (1 ∷ []) $ fsplit ! $ move ! (1 ∷ []) $
+    fpick ! (λ h. fsplit3 ! $
     -- [the handle of the heap; the right to free; what is left; the value; the word; the stamp; the tokens]
     use1 𝓛 (some (λ (v : Val). ‵ (fat full_share (denote.Memory.lone heap_row.mir) pb (po + heap_offset R) v) ⊛ ‵ (heap_row.own_val h (v ∷ [])))) (part_out 𝓛 heap_row refl full_share h pb (po + heap_offset R)) $ pick ! (λ v. split ! $
     use1 𝓛 (given (Good (layout heap_row) v) (‵ (fat full_share (layout heap_row) pb (po + heap_offset R) v))) (𝓛.laws.at_wt full_share (layout heap_row) pb (po + heap_offset R) v) $ learn ! (λ good.

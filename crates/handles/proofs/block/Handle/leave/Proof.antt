@@ -26,22 +26,43 @@ leave_spec 𝓤 𝓛 𝓜 𝓡 wired T L =
     let H = 𝓛.H in let 𝓣 = tables 𝓤 H 𝓜 𝓡 𝓡.env in let R : RattleType = param 0 T in let En = ended T in let c = clauses T 𝓛 𝓜.mem 𝓡.returns in let inst = layouts (a_type ∷ []) (T, tt) in let fn = inst_fn inst code.function in
     let self = plain (λ _. HandleRow R) in let hs : Stays En.signature.params En.kept = (stay_dropped self no, tt) in
     proved 𝓛 En hs c 𝓜 𝓡 (Goes-dropped 𝓛 1 self no (λ κs x f. refl), tt) (#self inst) fn (code.unfolded 𝓤 H 𝓜 𝓡 wired (T, tt)) (λ κs. ((λ s. one_word s.block ∷ []), tt)) (λ κs. ((λ s vs so. words_told (handle_type.the_type R).name (R ∷ []) s.block vs so.0), tt)) (λ κs qs bounds a gh are.
-    let κ : Lft = κs.0 in let q : Share = qs.0 in let p : Ptr = a.0.block in let x : (HeldRow R).Denot = a.0.held in let η : ℕ = a.0.id in let pb : ℕ = block_of p in let po : ℕ = offset_of p in
+    let κ : Lft = κs.0 in let q : Share = qs.0 in let p : Ptr = a.0.block in let x : (HeldRow R).Denot = a.0.held in
+    let η : ℕ = a.0.id in let pb : ℕ = block_of p in let po : ℕ = offset_of p in
     let y : (walk_of 𝓛 En hs c).Ghost = ((κs, qs, bounds, a, (one_word p ∷ [], tt)), gh) in let Post : Val → SProp 𝓤 = (walk_of 𝓛 En hs c).post y in
     qed 𝓛 (((‵ (flft κ q) ⊛ ‵ ftrue) ⊛ ‵ (owns (types_at En.signature.params κs) a y.0.4)) ∷ raw (fact 𝓤 (κ ⊑ T.lives)) ∷ ‵ ftrue ∷ []) ∵
     keep ! (1 ∷ 0 ∷ []) $ heard ! (κ ⊑ T.lives) (λ lives. split ! $ split ! $ move ! (2 ∷ []) $ fsplit ! $ fsplit ! $ keep ! (1 ∷ 3 ∷ 4 ∷ []) $
-    fsplit ! $ fpick ! (λ inb. drop ! $ let at : p ≡ block_ptr pb po = at_block p inb in use1 𝓛 (‵ (owned_as R p x η false)) (forgets R (param_laws 0 T L) 𝓛 p x η a.0.sole) $
-    use2 𝓛 (later (‵ (counted_handle R p x η) ⊛ ‵ (flft κ q))) (handle_settles R (param_laws 0 T L) 𝓛 p x η κ lives κ q (Incl-refl κ)) $
+    fsplit ! $ fpick ! (λ inb. drop ! $ let at : p ≡ block_ptr pb po = at_block p inb in
+    use1 𝓛 (‵ (owned_as R p x η false)) (forgets R (param_laws 0 T L) 𝓛 p x η a.0.sole) $
+    use2 𝓛 (later (‵ (counted_handle R p x η) ⊛ ‵ (flft κ q))) (handle_settles R (param_laws 0 T L) 𝓛 p x η κ lives κ q
+    (Incl-refl κ)) $
     enter ! 𝓣.C 𝓣.Λ fn (one_word p ∷ []) Post $ alloc_all ! (λ l. pass_all ! refl (one_word-Good p, tt) $ let Ev = env fn.locals l in await ! tt $ split ! $ fpick ! (λ i. fsplit3 ! $
     -- [the stake; the rule; the sharing; the token]
-    let I : Fml = block_rule R p x η i in let aft : ℕ → Fml = and_logged (block_at R p x η i) [] step.reads_last (after_last_read (block_at R p x η i)) in
+    let I : Fml = block_rule R p x η i in
+    let aft : ℕ → Fml = and_logged (block_at R p x η i) [] step.reads_last (after_last_read (block_at R p x η i)) in
     sets ! (is ! (of_opd ! (get_in ! (fld ! refl (stop !)) (sub ! 0 refl (whole !)))) (ap ptr_val at)) refl (tt, tt) $ first ! $ blocks ! $ sets ! (addr ! (through ! refl (fld ! refl (stop !)))) refl (tt, tt) $
-    move ! (1 ∷ []) $ use1 𝓛 (‵ (finv I) ⊛ ‵ (finv I)) (𝓛.invs.inv_dup I) $ split ! $ move ! (0 ∷ 2 ∷ []) $ move ! (1 ∷ []) $ nothing_more ! $ move ! (0 ∷ 1 ∷ []) $ fjoin ! $ move ! (1 ∷ 0 ∷ []) $
-    use2 𝓛 (raw (𝓣.C _ (vptr pb (po + 0) ∷ seq_cst ∷ []) (λ u. mean 𝓛 (found aft u)))) (via 𝓤 _ (last_reads 𝓛 (block_at R p x η i)) (loads 𝓛 𝓜 𝓡 (code.calls-core::raw_atomic::load 𝓡.env wired) (block_ptr pb (po + 0)) aft)) $
+    move ! (1 ∷ []) $ use1 𝓛 (‵ (finv I) ⊛ ‵ (finv I)) (𝓛.invs.inv_dup I) $ split ! $ move ! (0 ∷ 2 ∷ []) $
+    move ! (1 ∷ []) $ nothing_more ! $ move ! (0 ∷ 1 ∷ []) $ fjoin ! $ move ! (1 ∷ 0 ∷ []) $
+    use2 𝓛 (raw (𝓣.C _ (vptr pb (po + 0) ∷ seq_cst ∷ []) (λ u. mean 𝓛 (found aft u))))
+    (via 𝓤 _ (last_reads 𝓛 (block_at R p x η i)) (loads 𝓛 𝓜 𝓡 (code.calls-core::raw_atomic::load 𝓡.env wired)
+    (block_ptr pb (po + 0)) aft)) $
     sets ! (agg ! (and_then ! (lit ! tt) (no_more !))) refl (tt, (record { fits = lit< tt }, tt)) $
     Calls-last ! (fm 𝓛 𝓜 𝓡) (found aft) (and_then ! (get ! refl) (and_then ! (get ! refl) (no_more !))) (λ u. finds ! aft (λ n fits. let r' : Right = right_by_last_read n in
     lands_last ! refl (tt, record { fits = fits }) $ exec ! 𝓣.C 𝓣.Λ Ev (after 2 fn.body) (at_ret Ev Post) $ sets ! (of_opd ! (get ! refl)) refl (tt, record { fits = fits }) $
-    use3 𝓛 (later (exists (λ (log : List WordStep). given (Adds [] step.reads_last n log) (‵ (gain_owns R p x η r' log))))) (gain_shown 𝓛 R p x η inb i [] step.reads_last n r') $ await ! tt $ pick ! (λ log. learn ! (λ adds. move ! (1 ∷ 2 ∷ []) $ join ! $ move ! (1 ∷ 0 ∷ []) $
+    use3 𝓛 (later (exists (λ (log : List WordStep). given (Adds x.limit.count [] step.reads_last n log)
+    (‵ (gain_owns R p x η r' log))))) (gain_shown 𝓛 R p x η inb i [] step.reads_last n r') $ await ! tt $
+    pick ! (λ log. learn ! (λ adds. move ! (1 ∷ 2 ∷ []) $ join ! $ move ! (1 ∷ 0 ∷ []) $
     sets ! (is ! (agg ! (and_then ! (get ! refl) (no_more !))) (ap one_word (sym at))) refl (one_word-Good p) $ sets ! (agg ! (and_then ! (get ! refl) (and_then ! (get ! refl) (no_more !)))) refl (word_and_gain-Good n fits p) $
-    returns_gain R p x η ! n fits r' log $ known ! (Adds [] step.reads_last n log) adds $ known ! (η ≡ η) refl $ join ! $ known ! (x ≡ x) refl $ join ! $ known ! (r' ≡ r') refl $ join ! $ nothing_more ! $ nothing_more ! $ fjoin ! $
-    returns ! (look_at ! 0 refl) $ free_all ! refl $ keep ! (3 ∷ 0 ∷ 2 ∷ 1 ∷ []) $ by ! (leaves 𝓛 En hs c y (word_and_gain n p) (n, record { block = p; held = x; right = r'; id = η; log = log }) (tt, tt) (tt, tt)))))))))))
+    returns_gain R p x η ! n fits r' log $ known ! (Adds x.limit.count [] step.reads_last n log) adds $
+    known ! (η ≡ η) refl $ join ! $ known ! (x ≡ x) refl $ join ! $ known ! (r' ≡ r') refl $ join ! $
+    nothing_more ! $ nothing_more ! $ fjoin ! $
+    returns ! (look_at ! 0 refl) $ free_all ! refl $ keep ! (3 ∷ 0 ∷ 2 ∷ 1 ∷ []) $
+    by ! (leaves 𝓛 En hs c y (word_and_gain n p) (
+      n,
+      record {
+        block = p;
+        held = x;
+        right = r';
+        id = η;
+        log = log;
+      },
+    ) (tt, tt) (tt, tt)))))))))))

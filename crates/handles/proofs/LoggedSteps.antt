@@ -1,0 +1,63 @@
+-- What a step that gives no right hands back: the word that it found, and that it is in the log. Assumes `Logic`.
+use Rattle.std.proofs.Common.{ℕ, ◌^◌, ◌<◌, List, [], ◌∷◌, ◌++◌, refl, w64}
+use seplogic.Ra.Ura.{Ura}
+use lib.Dec.{T}
+use mir.Syntax.{ty_int, ty_struct, tcons, tnil}
+use mir.Val.{Val, vint, vstruct, vcons, vnil, of_list, has_ty, WT}
+use base.Logic.{ent, emp}
+use base.Fml.{feq, fsep}
+use types.Logic.{Logic, sem}
+use types.Kit.{Item, Goal, Seq, Step, step, ‵, ◌$◌, move, drop, fsplit, fjoin, fjoin3, fpick, fpack, feq_i, flt_i, use0}
+use denote.RattleType.{RattleType, Valss, owns}
+use denote.Builtin.{u64}
+use denote.Shadow.{makes_shadow}
+use denote.Steps.{nothing as nothing_more}
+use denote.Struct.Owning.{shape}
+use denote.Struct.Struct.{Struct}
+use denote.Struct.Tuple.{Tuple}
+use Rattle.counting_word.specs.WordSteps.{WordStep}
+use Rattle.counting_word.specs.Tallies.{Adds}
+use Rattle.handles.specs.Inside.Blocks.{reached, logged}
+use Rattle.handles.specs.contracts.block.Logged as logged_type
+
+-- a word, and that a step is in the log, which has no bytes
+abbrev pub word_and_logged : ℕ → Val
+word_and_logged n = vstruct (vcons (vint w64 n) (vcons (vstruct vnil) vnil))
+
+pub word_and_logged-Good : (n : ℕ) → n < 2 ^ 64
+    → T (has_ty (ty_struct [] (tcons (ty_int w64) (tcons (ty_struct [] tnil) tnil))) (word_and_logged n))
+    × WT (word_and_logged n)
+word_and_logged-Good n fits = (tt, (record { fits = fits }, (tt, tt)))
+
+abbrev pub LoggedRow : RattleType
+LoggedRow = logged_type.the_row
+
+abbrev NoBytes : RattleType
+NoBytes = Struct (shape logged_type.the_type)
+
+no_bytes-made : {M : Type 1} {𝓤 : Ura M} (𝓛 : Logic 𝓤)
+    → ent 𝓤 (emp 𝓤) (sem 𝓛 (NoBytes.own_val tt (vstruct vnil ∷ [])))
+no_bytes-made 𝓛 = makes_shadow 𝓛 (NoBytes.own_val tt (vstruct vnil ∷ [])) (λ vss. (tt, tt)) (tt, (refl, tt))
+
+module _ (limit id n : ℕ) {M : Type 1} {𝓤 : Ura M} {𝓛 : Logic 𝓤} {K : Type 0} {Γ : List (Item 𝓤)} {G : Goal 𝓤 𝓛.H} where
+  -- what a step has put into the log
+  pub tells : K → (old : List WordStep) (what : WordStep)
+      → ((log : List WordStep) → Adds limit old what n log → Seq K 𝓛 (‵ (reached id log) ∷ Γ) G)
+      → Seq K 𝓛 (‵ (logged limit id old what n) ∷ Γ) G
+  tells t old what k =
+      fpick t (λ log. fsplit t $ move t (1 ∷ []) $ fpick t (λ adds. drop t $ k log adds))
+
+module _ (id n : ℕ) {M : Type 1} {𝓤 : Ura M} {𝓛 : Logic 𝓤} {K : Type 0} {Γ : List (Item 𝓤)} {G : Goal 𝓤 𝓛.H} where
+  -- the result of a step that gives no right: the word that it found, and what is in the log
+  pub returns_logged : K → n < 2 ^ 64 → (log : List WordStep)
+      → Step K 𝓛 (‵ ((Tuple (u64 ∷ LoggedRow ∷ [])).own_val (n, record { id = id; log = log }) (word_and_logged n ∷ []))
+      ∷ Γ)
+      G (‵ (reached id log) ∷ Γ) G
+  returns_logged t fits log = step (λ s. let v : Val = word_and_logged n in
+      use0 𝓛 (‵ (NoBytes.own_val tt (vstruct vnil ∷ []))) (no_bytes-made 𝓛) $ fjoin t $ nothing_more t $
+      flt_i t n (2 ^ 64) fits $ feq_i t (List Val) (vint w64 n ∷ []) (vint w64 n ∷ []) refl $ fjoin t $
+      move t (0 ∷ 2 ∷ 1 ∷ []) $ fjoin3 t $ feq_i t (List Val) (v ∷ []) (v ∷ []) refl $ fjoin t $
+      fpack t (Valss (u64 ∷ LoggedRow ∷ []))
+      (λ uss. fsep (feq (List Val) (v ∷ []) (vstruct (of_list (uss.0 ++ (uss.1.0 ++ []))) ∷ []))
+      (owns (u64 ∷ LoggedRow ∷ []) (n, (record { id = id; log = log }, tt)) uss))
+      (vint w64 n ∷ [], (vstruct vnil ∷ [], tt)) $ s)

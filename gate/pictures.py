@@ -4,8 +4,8 @@ word after it. The answers come from the file beside the script, and the word fo
 
     gate/pictures.py [--check]
 
-writes docs/pictures/NAME.svg for each example of NAMES. With --check it writes nothing, and ends with 1 if a picture
-is not as it would be drawn.
+writes docs/pictures/NAME.svg for each example of NAMES, and LOGGED once more, with the log of the block beside its trace.
+With --check it writes nothing, and ends with 1 if a picture is not as it would be drawn.
 """
 import sys
 from pathlib import Path
@@ -20,6 +20,20 @@ NAMES = [
     "limit_reached",
     "way_back",
 ]
+LOGGED = ("log_beside_its_trace", "drop_in_flight_when_marked")
+# The atomic step that a command is on the word, if it is one.
+ATOMIC = {
+    "clone": "reads",
+    "raise": "raises from",
+    "drop": "reads last",
+    "lower": "lowers",
+    "mark": "marks",
+    "unique": "asks",
+    "static": "asks",
+    "getmut": "claims",
+    "intounique": "claims",
+}
+LOG = 290
 ROW = 26
 COLUMN = 190
 WORD = 120
@@ -59,15 +73,39 @@ def read(name):
     return [(line.split(), answer) for line, answer in zip(lines, answers, strict=True)]
 
 
-def drawn(name):
+def right_of(command, answer):
+    """What an atomic step leaves its maker with."""
+    if command in ("clone", "raise") and answer.startswith("born"):
+        return "a handle"
+    if command == "drop" and answer == "pending":
+        return "one to lower"
+    if answer.startswith("given up") or answer in ("alone", "sole"):
+        return "the whole block"
+    return "a handle" if answer == "shared" else "nothing"
+
+
+def log_of(steps):
+    """The entry of each step in the log of the block, and what it leaves its maker with; or nothing, if it is no step
+    on the word."""
+    seen = {}
+    log = []
+    for ((command, owner, *_), answer), word in zip(steps, ["1", *words_after(steps)]):
+        entry = ATOMIC.get(command) if answer != "barred" else None
+        log.append(entry and (f"{entry} {seen[owner]}" if command == "raise" else entry, right_of(command, answer)))
+        if command in ("clone", "raise"):
+            seen[owner] = word
+    return log
+
+
+def drawn(name, logged=False):
     steps = read(name)
     owners = 1 + max(int(operands[0]) for (_, *operands), _ in steps)
-    width = owners * COLUMN + WORD + 20
+    width = owners * COLUMN + WORD + 20 + (LOG if logged else 0)
     height = TOP + ROW * len(steps) + 10
     end = TOP + ROW * len(steps)
     parts = [
         f'<svg xmlns="http://www.w3.org/2000/svg" viewBox="0 0 {width} {height}" width="{width}" height="{height}" role="img">',
-        f"<title>{name.replace('_', ' ')}</title>",
+        f"<title>{(LOGGED[0] if logged else name).replace('_', ' ')}</title>",
         STYLE,
     ]
     for owner in range(owners):
@@ -88,19 +126,31 @@ def drawn(name):
         parts.append(f'<text x="{left + COLUMN - 24}" y="{y + 18}" text-anchor="end">{answer}</text>')
         parts.append(f'<text class="{"" if word != before else "small"}" x="{word_at}" y="{y + 18}" text-anchor="middle">{word}</text>')
         before = word
-    return "\n".join([*parts, "</svg>", ""])
+    return "\n".join([*parts, *(drawn_log(log_of(steps), word_at + WORD // 2) if logged else []), "</svg>", ""])
+
+
+def drawn_log(log, left):
+    parts = [f'<text x="{left + 8}" y="20">log</text>', f'<text x="{left + LOG - 8}" y="20" text-anchor="end">leaves</text>']
+    for row, entry in enumerate(log):
+        y = TOP + ROW * row
+        if entry:
+            parts.append(f'<rect class="step" x="{left}" y="{y + 2}" width="{LOG}" height="{ROW - 4}" rx="4"/>')
+            parts.append(f'<text x="{left + 8}" y="{y + 18}">{entry[0]}</text>')
+            parts.append(f'<text x="{left + LOG - 8}" y="{y + 18}" text-anchor="end">{entry[1]}</text>')
+    return parts
 
 
 def main():
     folder = ROOT / "docs" / "pictures"
+    pictures = {name: drawn(name) for name in NAMES} | {LOGGED[0]: drawn(LOGGED[1], logged=True)}
     other = []
-    for name in NAMES:
+    for name, picture in pictures.items():
         path = folder / f"{name}.svg"
         if "--check" not in sys.argv:
-            path.write_text(drawn(name))
-        elif not path.exists() or path.read_text() != drawn(name):
+            path.write_text(picture)
+        elif not path.exists() or path.read_text() != picture:
             other.append(name)
-    print("\n".join([f"{name}: the picture is another" for name in other] + [f"pictures: {len(NAMES)}, {len(other)} not as drawn"]))
+    print("\n".join([f"{name}: the picture is another" for name in other] + [f"pictures: {len(pictures)}, {len(other)} not as drawn"]))
     return 1 if other else 0
 
 

@@ -18,4 +18,5 @@ pub mod HandleRuns
 pub mod EndRuns
 pub mod Runs
 pub mod Drops
+pub mod Told
 pub mod TraceRuns

@@ -1,12 +1,13 @@
 -- A log written by hand, computed by the definitions, to read them by. No contract uses it.
-use Rattle.std.proofs.Common.{◌≡◌, ℕ, ◌+◌, ◌-◌, true, List, [], ◌∷◌, refl, arith}
+use Rattle.std.proofs.Common.{◌≡◌, ℕ, ◌+◌, true, List, [], ◌∷◌, refl, arith}
 use Rattle.counting_word.specs.CountingWord.{mark_bit}
 use Rattle.counting_word.specs.Rights.{Right, nothing, a_handle, to_lower}
 use Rattle.counting_word.specs.WordSteps.{WordStep, reads, asks, raises_from, reads_last, lowers, claims, marks}
 use Rattle.counting_word.specs.WordSteps.{right_by, word_by, left_by}
 use Rattle.counting_word.specs.Tallies.{Tally, first, tally_after, tally_of, tally_right, IsRun}
 
--- A clone; a drop, in whose middle the block is marked; a clone by the mark; a `get_mut`; a drop by the mark; and a raise
+-- A clone; a drop, in whose middle the block is marked; a clone by the mark; a `get_mut`; a drop by the mark; and a
+-- raise
 -- that finds the mark.
 written : List WordStep
 written =

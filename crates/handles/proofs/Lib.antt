@@ -2,6 +2,7 @@ pub mod Asking
 pub mod BorrowedHandle
 pub mod Boxes
 pub mod BuilderRuns
+pub mod CountedBorrows
 pub mod Fields
 pub mod HeldParts
 pub mod LeavingFields

@@ -1,5 +1,5 @@
 -- The owners whose drop is in flight have handles of their own.
-use Rattle.std.proofs.Common.{◌≡◌, ◌≢◌, ℕ, ◌+◌, ◌-◌, ◌≤◌, true, false, not, ◌||◌, nat_eq, List, [], ◌∷◌, length}
+use Rattle.std.proofs.Common.{◌≡◌, ℕ, ◌+◌, ◌≤◌, true, not, ◌||◌, nat_eq, List, [], ◌∷◌, length}
 use Rattle.std.proofs.Common.{sym, ◌∙◌, ap, arith, true≢false, eqb-true, ◌⊎◌, inl, inr}
 use Rattle.std.proofs.lemmas.Bool.{and_parts, and_from, false_from_ne_true}
 use Rattle.std.proofs.lemmas.Grind.{common_steps}

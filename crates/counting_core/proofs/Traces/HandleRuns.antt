@@ -1,5 +1,5 @@
 -- The steps of a run by a handle that stays, as steps of owner 0.
-use Rattle.std.proofs.Common.{◌≡◌, ℕ, ◌+◌, ◌-◌, ◌<◌, Bool, true, false, not, ◌&&◌, ◌||◌, nat_eq, List, [], ◌∷◌}
+use Rattle.std.proofs.Common.{◌≡◌, ℕ, ◌+◌, ◌<◌, Bool, true, false, not, ◌&&◌, ◌||◌, nat_eq, List, [], ◌∷◌}
 use Rattle.std.proofs.Common.{◌++◌, length, append_assoc, append-nil, if◌then◌else◌, refl, sym, ◌∙◌, ap, ap₂, subst}
 use Rattle.std.proofs.Common.{arith, true≢false, eqb-true, ne_eqb}
 use Rattle.std.proofs.lemmas.Bool.{or_right}

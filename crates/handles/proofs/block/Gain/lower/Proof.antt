@@ -1,5 +1,4 @@
 -- `lower` is one subtraction from the word.
-use Rattle.handles.proofs.Steps.Shared.{List}
 use types.Kit.{some as exists, given, pick, learn}
 use Rattle.std.proofs.Common.{List}
 use Rattle.counting_word.specs.WordSteps.{WordStep}

@@ -1,5 +1,4 @@
 -- `leave` is the load by which a handle ends.
-use types.Kit.{some as exists}
 use types.Kit.{some as exists, given, pick, learn}
 use Rattle.std.proofs.Common.{List}
 use Rattle.counting_word.specs.WordSteps.{WordStep}

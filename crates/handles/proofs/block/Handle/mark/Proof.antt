@@ -1,8 +1,8 @@
 -- `mark` sets bit 63 of the word.
-use Rattle.handles.proofs.Walks.{drop, ◌≡◌, ℕ, ◌+◌, ◌^◌, false, [], ◌∷◌, refl, lit<, w64, a_type, named, Val, vint}
-use Rattle.handles.proofs.Walks.{vptr, vunit, inst_fn, SProp, via, Lft, Share, Fml, ftrue, fsep, flft, ‵, raw, ◌⊛◌}
+use Rattle.handles.proofs.Walks.{◌≡◌, ℕ, ◌+◌, ◌^◌, false, [], ◌∷◌, refl, lit<, w64, a_type, named, Val, vint}
+use Rattle.handles.proofs.Walks.{vptr, inst_fn, SProp, via, Lft, Share, Fml, ftrue, fsep, flft, ‵, raw, ◌⊛◌}
 use Rattle.handles.proofs.Walks.{mean, at_ret, ◌$◌, ◌∵◌, !, qed, by, move, keep, split, join, fsplit, fjoin, use2}
-use Rattle.handles.proofs.Walks.{feq_i, unit_lit, stop, fld, load, addr, lit, of_opd, no_more, and_then, first, blocks}
+use Rattle.handles.proofs.Walks.{stop, fld, load, addr, lit, of_opd, no_more, and_then, first, blocks}
 use Rattle.handles.proofs.Walks.{exec, Calls-last, returns, enter, alloc_all, pass_all, free_all, look_at, get, through}
 use Rattle.handles.proofs.Walks.{sets, lands_last, env, agg, sub, whole, look_in, tables, fact, yes, RattleType, owns}
 use Rattle.handles.proofs.Walks.{types_at, plain, Ptr, block_ptr, block_of, offset_of, nothing_more, heard, shuts}

@@ -1,5 +1,5 @@
 -- `word` is one load of the word, which only asks.
-use Rattle.handles.proofs.Walks.{drop, ◌≡◌, ℕ, ◌+◌, false, [], ◌∷◌, refl, lit<, w64, a_type, named, Val, vint, vptr}
+use Rattle.handles.proofs.Walks.{◌≡◌, ℕ, ◌+◌, false, [], ◌∷◌, refl, lit<, a_type, named, Val, vptr}
 use Rattle.handles.proofs.Walks.{inst_fn, SProp, via, Lft, Share, Fml, ftrue, fsep, flft, ‵, raw, ◌⊛◌, mean, at_ret}
 use Rattle.handles.proofs.Walks.{◌$◌, ◌∵◌, !, qed, by, move, keep, split, join, fsplit, fjoin, use2, stop, fld, load}
 use Rattle.handles.proofs.Walks.{addr, lit, of_opd, no_more, and_then, first, blocks, exec, Calls-last, returns, enter}

@@ -17,7 +17,7 @@ use Rattle.counting_core.specs.TraceLogs.{log_of}
 use Rattle.counting_core.proofs.Traces.Places.{put-all}
 use Rattle.counting_core.proofs.Traces.HandleLists.{has, IsApart, has-without, length-without, apart-without}
 use Rattle.counting_core.proofs.Traces.LiveHandles.{counted}
-use Rattle.counting_core.proofs.Traces.InFlight.{all_fit, begins}
+use Rattle.counting_core.proofs.Traces.InFlight.{all_fit}
 use Rattle.counting_core.proofs.Traces.Drops.{mapped-length, alone-alone, Has, has-lives, has-is, dropped-alone}
 use Rattle.counting_core.proofs.Traces.Drops.{AreDropping}
 

@@ -4,10 +4,13 @@ pub mod Boxes
 pub mod BuilderRuns
 pub mod CountedBorrows
 pub mod Fields
+pub mod Founds
 pub mod HeldParts
 pub mod LeavingFields
 pub mod LoggedSteps
 pub mod LooseBoxes
+pub mod MarkedLogs
+pub mod MarkedShared
 pub mod Owners
 pub mod PlacesFields
 pub mod PlacesMade

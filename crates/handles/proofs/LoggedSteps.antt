@@ -1,5 +1,5 @@
 -- What a step that gives no right hands back: the word that it found, and that it is in the log. Assumes `Logic`.
-use Rattle.std.proofs.Common.{ℕ, ◌^◌, ◌<◌, List, [], ◌∷◌, ◌++◌, refl, w64}
+use Rattle.std.proofs.Common.{◌≡◌, ℕ, ◌^◌, ◌<◌, List, [], ◌∷◌, ◌++◌, refl, w64}
 use seplogic.Ra.Ura.{Ura}
 use lib.Dec.{T}
 use mir.Syntax.{ty_int, ty_struct, tcons, tnil}
@@ -9,6 +9,7 @@ use base.Fml.{feq, fsep}
 use types.Logic.{Logic, sem}
 use types.Kit.{Item, Goal, Seq, Step, step, ‵, ◌$◌, move, drop, fsplit, fjoin, fjoin3, fpick, fpack, feq_i, flt_i, use0}
 use denote.RattleType.{RattleType, Valss, owns}
+use denote.Laws.{Is}
 use denote.Builtin.{u64}
 use denote.Shadow.{makes_shadow}
 use denote.Steps.{nothing as nothing_more}
@@ -32,12 +33,15 @@ word_and_logged-Good n fits = (tt, (record { fits = fits }, (tt, tt)))
 abbrev pub LoggedRow : RattleType
 LoggedRow = logged_type.the_row
 
-abbrev NoBytes : RattleType
+abbrev pub NoBytes : RattleType
 NoBytes = Struct (shape logged_type.the_type)
 
-no_bytes-made : {M : Type 1} {𝓤 : Ura M} (𝓛 : Logic 𝓤)
+pub no_bytes-made : {M : Type 1} {𝓤 : Ura M} (𝓛 : Logic 𝓤)
     → ent 𝓤 (emp 𝓤) (sem 𝓛 (NoBytes.own_val tt (vstruct vnil ∷ [])))
 no_bytes-made 𝓛 = makes_shadow 𝓛 (NoBytes.own_val tt (vstruct vnil ∷ [])) (λ vss. (tt, tt)) (tt, (refl, tt))
+
+pub no_bytes_told : (vs : List Val) → Is NoBytes tt vs → vs ≡ vstruct vnil ∷ []
+no_bytes_told vs is = is.1.0
 
 module _ (limit id n : ℕ) {M : Type 1} {𝓤 : Ura M} {𝓛 : Logic 𝓤} {K : Type 0} {Γ : List (Item 𝓤)} {G : Goal 𝓤 𝓛.H} where
   -- what a step has put into the log

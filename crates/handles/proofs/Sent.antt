@@ -21,6 +21,7 @@ use Rattle.handles.specs.Inside.Blocks.{HeldRow, Names, Stage, living, over, ent
 use Rattle.handles.specs.Inside.Blocks.{left_at, block_type, held_offset, heap_offset, held_and_block, shown, Sharing}
 use Rattle.handles.specs.Inside.Blocks.{not_yet, marked_not_yet, begun, held_as, owned_as, shared_as}
 use Rattle.handles.specs.contracts.block.Handle as handle_type
+use Rattle.handles.specs.contracts.block.marked.Marked as marked_type
 
 pointers : IsSend RawPtr
 pointers = search sendable
@@ -118,5 +119,19 @@ handle-Sync R s y = let O = handle_type.the_type R in record {
   shared = λ d b o κ. (
     (struct_sync (shape O) (pointers_shared, tt)).shared (to O d) b o κ,
     ((λ _. tt), shared-Keyless R s y d.block d.held d.id d.sole κ),
+  );
+}
+
+pub marked-Sync : (R : RattleType) → IsSend R → IsSync R → IsSync (marked_type.the_row R)
+marked-Sync R s y = record {
+  shared = λ x b o κ. let p : Ptr = block_ptr b o in λ t. let i : Names = t.1 in (
+    tt,
+    (
+      (λ q. tt),
+      (
+        (λ q. (tt, pass-Keyless i.handles i.own q)),
+        (rule-Keyless R s y p x t.0 i, shown-Common R s y p x (i.shared ∷ [])),
+      ),
+    ),
   );
 }

@@ -5,6 +5,7 @@ pub mod Turns
 pub mod Reads
 pub mod Raises
 pub mod Marks
+pub mod Born
 pub mod Leaves
 pub mod Lowers
 pub mod Claims

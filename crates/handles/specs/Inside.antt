@@ -3,5 +3,6 @@ pub mod Rows
 pub mod BlockWriteBack
 pub mod Blocks
 pub mod ItemsLending
+pub mod Marked
 pub mod PlacesLending
 pub mod PlacesOwnership

@@ -1,8 +1,10 @@
 pub mod Attempts
 pub mod Borrowed
 pub mod Copies
+pub mod Founds
 pub mod HeaderSlice
 pub mod Inside
+pub mod Stays
 pub mod UnionHandles
 pub mod UnionLaws
 pub mod Unions

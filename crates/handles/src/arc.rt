@@ -92,11 +92,12 @@ impl<T: Send + Sync + Drop> Arc<T> {
     {
         match this.handle.first_attempt() {
             Attempt::Made(handle) => Ok(Arc { handle }),
-            Attempt::Full => Err(Full),
+            Attempt::Full(_) => Err(Full),
             // Only a clone that lost a raise makes the call that may wait.
-            Attempt::Lost(seen) => Ok(Arc {
-                handle: this.handle.raise_unless_full(seen, rt)?,
-            }),
+            Attempt::Lost(seen) => match this.handle.raise_unless_full(seen, rt) {
+                Ok(handle) => Ok(Arc { handle }),
+                Err(_) => Err(Full),
+            },
         }
     }
 }
@@ -176,9 +177,10 @@ impl<T: Send + Sync + Drop> Clone for Arc<T> {
 
     #[inline]
     fn clone(&self) -> Result<Arc<T>, AllocError> {
-        Ok(Arc {
-            handle: self.handle.try_clone(MOST_RAISES)?,
-        })
+        match self.handle.try_clone(MOST_RAISES) {
+            Ok(handle) => Ok(Arc { handle }),
+            Err(_) => Err(AllocError),
+        }
     }
 }
 

@@ -1,12 +1,11 @@
 // A try to make one more handle of a block.
-ghost use Rattle.std.specs.Prelude.{◌≡◌, ℕ, IfOk, false};
+ghost use Rattle.std.specs.Prelude.{◌≡◌, ℕ, IfOk, IfErr, false};
 ghost use Rattle.counting_word.specs.CountingWord.{IsWithin};
 ghost use Rattle.counting_word.specs.Rights.{right_by_read};
+ghost use Rattle.handles.specs.Founds.{Found, LostRaise};
 
-use crate::arc::Full;
-use crate::block::{Gain, Handle, Held};
+use crate::block::{Gain, Handle, Held, Logged};
 use counting_word::{ClonePlan, is_marked, plan_clone};
-use std::alloc::AllocError;
 use std::hint;
 use std::sync::Wait;
 
@@ -19,11 +18,13 @@ pub(crate) struct Seen<T> {
     pub(crate) gain: Gain<T>,
     ghost right: { gain.right ≡ right_by_read word },
     ghost within: { IsWithin word gain.held.limit.count },
+    ghost found: { Found word gain.log },
 }
 
 pub(crate) enum Attempt<T> {
     Made(Handle<T>),
-    Full,
+    // The word that was read says so, which is in the log.
+    Full(Logged),
     // A raise that found this word, and not the one that it started from.
     Lost(Seen<T>),
 }
@@ -45,6 +46,7 @@ impl<T> Handle<T> {
 
     // One raise, if the word that was seen allows it.
     #[inline]
+    #[tactic(auto, using(crate::proofs::Founds::found_full, crate::proofs::Founds::lost_raise))]
     pub(crate) fn next_attempt(&self, held: &Held<T>, seen: Seen<T>) -> Attempt<T>
         requires shared { self.now.sole ≡ false }
         requires held { held.now ≡ self.now.held }
@@ -61,10 +63,7 @@ impl<T> Handle<T> {
         }
         match plan_clone(word, held.limit.count) {
             ClonePlan::Static => Attempt::Made(gain.into_handle()),
-            ClonePlan::Full => {
-                gain.end();
-                Attempt::Full
-            }
+            ClonePlan::Full => Attempt::Full(gain.into_logged()),
             ClonePlan::Raise(next) => {
                 let (found, gain) = self.raise(word, next, gain);
                 if found == word {
@@ -79,25 +78,30 @@ impl<T> Handle<T> {
 
 // The first attempt stands outside the loops: most clones need no more, and a loop would carry its state through it.
 impl<T: Drop> Handle<T> {
+    ghost use Rattle.handles.specs.Attempts.{IsFullOf, IsRefusedOf};
+
     // By one read and at most so many raises, but at least one.
     #[inline]
-    pub(crate) fn try_clone(&self, raises: u8) -> Result<Handle<T>, AllocError>
+    pub(crate) fn try_clone(&self, raises: u8) -> Result<Handle<T>, Logged>
         requires { self.now.sole ≡ false }
-        ensures { IfOk result (λ h. (h.held ≡ self.now.held) × (h.sole ≡ false)) }
+        ensures made { IfOk result (λ h. (h.held ≡ self.now.held) × (h.sole ≡ false)) }
+        ensures refused { IfErr result (IsRefusedOf self.now) }
     {
         match self.first_attempt() {
             Attempt::Made(handle) => Ok(handle),
-            Attempt::Full => Err(AllocError),
+            Attempt::Full(told) => Err(told),
             Attempt::Lost(seen) => self.raise_at_most(raises, seen),
         }
     }
 
-    fn raise_at_most(&self, raises: u8, mut seen: Seen<T>) -> Result<Handle<T>, AllocError>
+    fn raise_at_most(&self, raises: u8, mut seen: Seen<T>) -> Result<Handle<T>, Logged>
         requires shared { self.now.sole ≡ false }
         requires gained { seen.gain.held ≡ self.now.held }
         requires block { seen.gain.block ≡ self.now.block }
         requires id { seen.gain.id ≡ self.now.id }
-        ensures { IfOk result (λ h. (h.held ≡ self.now.held) × (h.sole ≡ false)) }
+        requires lost { LostRaise seen.gain.log }
+        ensures made { IfOk result (λ h. (h.held ≡ self.now.held) × (h.sole ≡ false)) }
+        ensures refused { IfErr result (IsRefusedOf self.now) }
     {
         let held = self.held();
         // The first attempt made one.
@@ -107,14 +111,13 @@ impl<T: Drop> Handle<T> {
                     let_others_raise();
                     return Ok(handle);
                 }
-                Attempt::Full => return Err(AllocError),
+                Attempt::Full(told) => return Err(told),
                 Attempt::Lost(again) => again,
             };
         }
         let Seen { word, gain } = seen;
         if !is_marked(word) {
-            gain.end();
-            return Err(AllocError);
+            return Err(gain.into_logged());
         }
         Ok(gain.into_handle())
     }
@@ -126,12 +129,14 @@ impl<T: Drop> Handle<T> {
         &self,
         mut seen: Seen<T>,
         rt: &impl Wait,
-    ) -> Result<Handle<T>, Full>
+    ) -> Result<Handle<T>, Logged>
         requires shared { self.now.sole ≡ false }
         requires gained { seen.gain.held ≡ self.now.held }
         requires block { seen.gain.block ≡ self.now.block }
         requires id { seen.gain.id ≡ self.now.id }
-        ensures { IfOk result (λ h. (h.held ≡ self.now.held) × (h.sole ≡ false)) }
+        requires lost { LostRaise seen.gain.log }
+        ensures made { IfOk result (λ h. (h.held ≡ self.now.held) × (h.sole ≡ false)) }
+        ensures full { IfErr result (IsFullOf self.now) }
     {
         let held = self.held();
         for _ in rt.forever() {
@@ -140,7 +145,7 @@ impl<T: Drop> Handle<T> {
                     let_others_raise();
                     return Ok(handle);
                 }
-                Attempt::Full => return Err(Full),
+                Attempt::Full(told) => return Err(told),
                 Attempt::Lost(again) => again,
             };
         }

@@ -1,6 +1,7 @@
 //! A handle that is the only one of its block, so that it may write the value.
 ghost use Rattle.std.specs.Prelude.{◌≡◌, IfOk, IfErr};
 ghost use types.Logic.{sem};
+ghost use Rattle.counting_word.specs.CountingWord.{marked_word};
 
 use crate::arc::Arc;
 use crate::block::{Block, Handle, Loose};
@@ -52,13 +53,21 @@ impl<T: Send + Sync + Drop> UniqueArc<T> {
         Arc::of(Handle::first(Loose::of(block)).into_shared())
     }
 
-    // As `shareable`, of a block that is marked before it is shared.
-    pub(crate) fn leaked(self) -> Arc<T>
-        ensures { result ≡ self }
+    // The block, marked before it is shared.
+    pub(crate) fn into_marked_block(self) -> Loose<Block<T>>
+        ensures word { result.value.word ≡ marked_word 1 }
+        ensures value { result.value.held.value ≡ self }
     {
         let UniqueArc { mut block } = self;
         block.mark();
-        Arc::of(Handle::first(Loose::of(block)))
+        Loose::of(block)
+    }
+
+    // As `shareable`, of a block that is marked.
+    pub(crate) fn leaked(self) -> Arc<T>
+        ensures { result ≡ self }
+    {
+        Arc::of(Handle::first(self.into_marked_block()))
     }
 
     pub(crate) fn into_arc(self, is_static: bool) -> Arc<T>

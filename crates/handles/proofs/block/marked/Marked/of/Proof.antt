@@ -1,0 +1,64 @@
+-- `of` gives a new block that is marked away for good.
+use Rattle.handles.proofs.Walks.{◌≡◌, ℕ, List, [], ◌∷◌, ◌++◌, refl, sym, subst, a_type, Val, vptr, inst_fn, SProp}
+use Rattle.handles.proofs.Walks.{ent, id⊢, Lft, Share, ftrue, fsep, flft, WpFn, sem, later, await, at_ret, ‵}
+use Rattle.handles.proofs.Walks.{raw, ◌⊛◌, ◌$◌, ◌∵◌, !, qed, by, move, keep, split, join, fsplit, fjoin, use1}
+use Rattle.handles.proofs.Walks.{use2, suffices, feq_i, stop, fld, addr, of_opd, first, blocks, exec, returns}
+use Rattle.handles.proofs.Walks.{enter, alloc_all, pass_all, free_all, look_at, get, get_in, through, sets}
+use Rattle.handles.proofs.Walks.{sets_last, env, sub, whole, tables, fact, no, RattleType, owns, types_at, plain}
+use Rattle.handles.proofs.Walks.{Ptr, block_ptr, nothing_more, heard, param, layouts, param_laws, Stays}
+use Rattle.handles.proofs.Walks.{stay_dropped, walk_of, after, proved_at, leaves, HeldRow, known}
+use denote.Opens.{hide}
+use contract.BorrowLft.{◌⊑◌}
+use Rattle.counting_word.specs.CountingWord.{marked_word}
+use Rattle.handles.proofs.LooseBoxes.{Goes-blank, pair_val, LooseRow, loose-Good, loose_opens}
+use Rattle.handles.specs.contracts.block.Block as block_type
+use Rattle.handles.specs.Inside.Blocks.{bare_block}
+use Rattle.handles.specs.Inside.Marked.{marked_shares}
+use Rattle.handles.proofs.MarkedShared.{new_lasts}
+use Rattle.handles.proofs.Boxes.{box_opens}
+use Rattle.handles.specs.contracts.block.marked.Marked.of.{ended, clauses}
+use Rattle.handles.specs.contracts.block.marked.Marked.of.Key.{name as #self}
+use Rattle.handles.proofs.block.marked.Marked.of.Statement.{statement}
+use Rattle.handles.proofs.block.marked.Marked.of.Code as code
+
+pub of_spec : {M : Type 1} → statement M
+of_spec 𝓤 𝓛 𝓜 𝓡 wired T L =
+    let H = 𝓛.H in let 𝓣 = tables 𝓤 H 𝓜 𝓡 𝓡.env in let R : RattleType = param 0 T in let En = ended T in
+    let c = clauses T 𝓛 𝓜.mem 𝓡.returns in
+    let inst = layouts (a_type ∷ []) (T, tt) in let fn = inst_fn inst code.function in
+    let Loose : RattleType = LooseRow (block_type.the_row R) in let boxed = plain (λ _. Loose) in
+    let hs : Stays En.signature.params En.kept = (stay_dropped boxed no, tt) in
+    proved_at 𝓛 En hs c 𝓜 𝓡 (Goes-blank 𝓛 2 boxed no (λ κs x f. tt), tt)
+    (#self inst) fn (code.unfolded 𝓤 H 𝓜 𝓡 wired (T, tt)) (λ z are.
+    let κ : Lft = z.0.0.1.0 in let q : Share = z.0.1.1.0 in let a : Lft = z.0.0.0 in
+    let d : Loose.Denot = z.0.3.0 in let x : (HeldRow R).Denot = d.value.held in
+    let Post : Val → SProp 𝓤 = (walk_of 𝓛 En hs c).post z in
+    let Run : List Val → SProp 𝓤 = λ ws. WpFn 𝓤 H 𝓣.C 𝓣.Λ fn ws Post in
+    qed 𝓛 (((‵ (flft a z.0.1.0) ⊛ ‵ (fsep (flft κ q) ftrue))
+    ⊛ ‵ (owns (types_at En.signature.params z.0.0) z.0.3 z.0.4))
+    ∷ raw (fact 𝓤 (κ ⊑ T.lives)) ∷ raw (fact 𝓤 (d.value.word ≡ marked_word 1)) ∷ []) ∵
+    keep ! (2 ∷ 1 ∷ 0 ∷ []) $ heard ! (d.value.word ≡ marked_word 1) (λ is_marked. heard ! (κ ⊑ T.lives)
+    (λ lives. split ! $ move ! (1 ∷ []) $ fsplit ! $
+    loose_opens (block_type.the_row R) ! d z.0.4.0 (λ b o h placed is_pair good. let p : Ptr = block_ptr b o in
+    -- [the box; its allocator; nothing; the tokens]
+    use1 𝓛 (‵ (bare_block R p x d.value.word)) (box_opens T L 𝓛 b o d.value.word d.value.stamp x d.value.alloc) $
+    keep ! (0 ∷ 3 ∷ []) $
+    use1 𝓛 (‵ (bare_block R p x (marked_word 1))) (subst (λ (w : ℕ). ent 𝓤 (sem 𝓛 (bare_block R p x d.value.word))
+    (sem 𝓛 (bare_block R p x w))) is_marked (id⊢ 𝓤 _)) $
+    move ! (1 ∷ []) $ split ! $ move ! (1 ∷ []) $ fsplit ! $ move ! (3 ∷ 0 ∷ []) $
+    use2 𝓛 (later (‵ (marked_shares R p x a) ⊛ ‵ (flft κ q))) (new_lasts R (param_laws 0 T L) p x 𝓛 κ q lives a) $
+    suffices ! (Run (pair_val (vptr b o) h ∷ [])) (subst (λ (us : List Val). ent 𝓤 (Run (pair_val (vptr b o) h
+    ∷ [])) (Run us)) (sym (λ j. is_pair j ++ [])) (id⊢ 𝓤 _)) $
+    enter ! 𝓣.C 𝓣.Λ fn (pair_val (vptr b o) h ∷ []) Post $
+    alloc_all ! (λ l. pass_all ! refl (loose-Good b o h good, tt) $ let Ev = env fn.locals l in await ! tt $
+    split ! $
+    -- [what lasts; its token; no more; the other token]
+    move ! (1 ∷ 2 ∷ []) $ fjoin ! $ move ! (2 ∷ 0 ∷ []) $ join ! $ move ! (1 ∷ []) $
+    sets ! (of_opd ! (get_in ! (fld ! refl (stop !)) (sub ! 0 refl (whole !)))) refl (tt, tt) $
+    first ! $ blocks ! $ sets ! (of_opd ! (get ! refl)) refl (tt, tt) $
+    sets_last ! (addr ! (through ! refl (stop !))) refl (tt, tt) $
+    exec ! 𝓣.C 𝓣.Λ Ev (after 2 fn.body) (at_ret Ev Post) $ sets ! (of_opd ! (get ! refl)) refl (tt, tt) $
+    hide ! $ feq_i ! (List Val) (vptr b o ∷ []) (vptr b o ∷ []) refl $ fjoin ! $ known ! (x ≡ x) refl $
+    nothing_more ! $ nothing_more ! $ fjoin ! $
+    returns ! (look_at ! 0 refl) $ free_all ! refl $ keep ! (3 ∷ 0 ∷ 2 ∷ 1 ∷ []) $
+    by ! (leaves 𝓛 En hs c z (vptr b o) (record { ref_ptr = (b, o); now = x }) (tt, tt) (tt, tt)))))))

@@ -1,0 +1,109 @@
+// A block that is marked for good, and what may be had of it again and again.
+ghost use Rattle.std.specs.Prelude.{◌≡◌, IfOk, IfErr, false};
+ghost use base.Fml.{ffalse};
+ghost use Rattle.counting_word.specs.CountingWord.{marked_word};
+ghost use Rattle.handles.specs.declared.block.Held.{Held};
+ghost use Rattle.handles.specs.Founds.{FoundUnmarked};
+ghost use Rattle.handles.specs.Inside.Marked.{HasMark, marked_shares};
+
+use super::{Block, Handle, Held, Logged, Loose};
+use counting_word::is_marked;
+use std::marker::{Move, Owns};
+
+// No `Marked` is ever owned. A `&` to one says that the block there is marked, so that it is never given back. To the
+// log it is a handle that never ends. Its field is not read: the block itself would be a value `T`, through which no
+// type leads back to itself.
+pub(crate) struct Marked<T> {
+    _block: *const Block<T>,
+}
+
+impl<T> Owns for Marked<T> {
+    ghost Value = { Held T };
+
+    ghost shr_at = { λ x p κ. marked_shares T.row p x κ };
+}
+
+impl<T> Move for Marked<T> {
+    ghost own_val = { λ _ _. ffalse };
+}
+
+unsafe impl<T: Send + Sync> Sync for Marked<T> {}
+
+impl<T> Marked<T> {
+    // Of a new block, marked before it is shared.
+    pub(crate) fn of<'a>(block: Loose<Block<T>>) -> &'a Marked<T>
+    where
+        T: 'a,
+        requires { block.value.word ≡ marked_word 1 }
+        ensures { result.now ≡ block.value.held }
+    {
+        let Loose { at, alloc: _ } = block;
+        unsafe { &*(at as *const Marked<T>) }
+    }
+
+    #[inline]
+    pub(crate) fn held(&self) -> &Held<T>
+        ensures { result.now ≡ self.now }
+    {
+        let block = self as *const Marked<T> as *const Block<T>;
+        unsafe { &(*block).held }
+    }
+
+    #[inline]
+    pub(crate) fn value(&self) -> &T
+        ensures { result.now ≡ self.now.value }
+    {
+        &self.held().value
+    }
+
+    // One handle more, with no step on the word. The log has it as the read that it is spared.
+    #[inline]
+    pub(crate) fn handle(&self) -> Handle<T>
+        ensures held { result.held ≡ self.now }
+        ensures sole { result.sole ≡ false }
+    {
+        let block = self as *const Marked<T> as *const Block<T>;
+        Handle { block }
+    }
+}
+
+impl<T> Handle<T> {
+    // By a step of any handle of the block that met the mark. It makes no step itself.
+    pub(crate) fn marked_by<'a>(&self, known: Logged) -> &'a Marked<T>
+    where
+        T: 'a,
+        requires shared { self.now.sole ≡ false }
+        requires block { known.id ≡ self.now.id }
+        requires mark { HasMark known.log }
+        ensures { result.now ≡ self.now.held }
+    {
+        let Logged {} = known;
+        let block = self.block;
+        unsafe { &*(block as *const Marked<T>) }
+    }
+
+    pub(crate) fn to_marked<'a>(&self) -> &'a Marked<T>
+    where
+        T: 'a,
+        requires { self.now.sole ≡ false }
+        ensures { result.now ≡ self.now.held }
+    {
+        self.marked_by(self.mark().1)
+    }
+
+    // By one load of the word, which is in the log if it found no mark.
+    pub(crate) fn find_marked<'a>(&self) -> Result<&'a Marked<T>, Logged>
+    where
+        T: 'a,
+        requires { self.now.sole ≡ false }
+        ensures found { IfOk result (λ m. m.now ≡ self.now.held) }
+        ensures none { IfErr result (λ told. (told.id ≡ self.now.id) × FoundUnmarked told.log) }
+    {
+        let (word, told) = self.word();
+        if is_marked(word) {
+            Ok(self.marked_by(told))
+        } else {
+            Err(told)
+        }
+    }
+}

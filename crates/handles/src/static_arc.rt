@@ -1,0 +1,133 @@
+//! Handles of values that stay for good.
+ghost use Rattle.std.specs.Prelude.{◌≡◌, IfOk, IfErr, IfSome, true, ⊤};
+
+mod compare;
+
+use crate::arc::Arc;
+use crate::block::marked::Marked;
+use crate::unique::UniqueArc;
+use std::alloc::{AllocError, Global};
+use std::ops::Deref;
+
+/// A handle that knows its block to be marked: the value stays for good, and counted handles are had without end.
+///
+/// It is one pointer, is copied as a reference is, and is not counted itself.
+pub struct StaticArc<'a, T: Send + Sync>(&'a Marked<T>);
+
+/// Never refused. As a `Copy` type it needs no `clone`, but what is generic over `Clone` does.
+impl<T: Send + Sync> Clone for StaticArc<'_, T> {
+    ghost is_clone = { λ x y. y ≡ x };
+
+    ghost is_infallible = { λ _. ⊤ };
+
+    fn clone(&self) -> Result<Self, AllocError> {
+        Ok(*self)
+    }
+}
+
+impl<T: Send + Sync> Copy for StaticArc<'_, T> {}
+
+impl<'a, T: Send + Sync + Drop> StaticArc<'a, T> {
+    ghost use Rattle.handles.specs.Stays.{value_of};
+
+    /// One request for memory, which is never given back. The value comes back if it is refused.
+    pub fn new(alloc: Global, value: T) -> Result<StaticArc<'a, T>, T>
+        ensures made { IfOk result (λ s. value_of s ≡ value) }
+        ensures refused { IfErr result (λ x. x ≡ value) }
+    {
+        Ok(UniqueArc::new(alloc, value)?.into_static())
+    }
+}
+
+impl<'a, T: Send + Sync> StaticArc<'a, T> {
+    ghost use Rattle.handles.specs.Stays.{value_of};
+
+    // Of a block that is marked, as the type of the reference says.
+    pub(crate) fn of(marked: &'a Marked<T>) -> StaticArc<'a, T>
+        ensures { value_of result ≡ marked.now.value }
+    {
+        StaticArc(marked)
+    }
+
+    /// The value, for good.
+    #[inline]
+    pub fn get(&self) -> &'a T
+        ensures { result.now ≡ value_of self.now }
+    {
+        self.0.value()
+    }
+
+    /// One more counted handle. It is never refused, and takes no step on the count: neither an atomic one nor a load.
+    /// Its end takes one load.
+    #[inline]
+    pub fn arc(&self) -> Arc<T>
+        ensures { result ≡ value_of self.now }
+    {
+        Arc::of(self.0.handle())
+    }
+
+    /// Always `true`, with no look at the block.
+    #[inline]
+    pub fn is_static(&self) -> bool
+        ensures { result ≡ true }
+    {
+        true
+    }
+}
+
+impl<T: Send + Sync> Arc<T> {
+    ghost use Rattle.handles.specs.Stays.{value_of};
+
+    /// A handle that knows the mark, if one load of the word finds it. It leaves an unmarked block unmarked.
+    pub fn find_static<'a>(&self) -> Option<StaticArc<'a, T>>
+    where
+        T: 'a,
+        ensures { IfSome result (λ s. value_of s ≡ self.now) }
+    {
+        match self.handle.find_marked() {
+            Ok(marked) => Some(StaticArc::of(marked)),
+            Err(_) => None,
+        }
+    }
+}
+
+impl<T: Send + Sync + Drop> Arc<T> {
+    ghost use Rattle.handles.specs.Stays.{value_of};
+
+    /// Marks the block by an or, and ends the handle by a load. Other handles of the block stay as they are.
+    pub fn into_static<'a>(self) -> StaticArc<'a, T>
+    where
+        T: 'a,
+        ensures { value_of result ≡ self }
+    {
+        StaticArc::of(self.handle.to_marked())
+    }
+}
+
+impl<T: Send + Sync + Drop> UniqueArc<T> {
+    ghost use Rattle.handles.specs.Stays.{value_of};
+
+    /// Marks the block with no atomic step, since nobody shares it yet.
+    pub fn into_static<'a>(self) -> StaticArc<'a, T>
+    where
+        T: 'a,
+        ensures { value_of result ≡ self }
+    {
+        StaticArc::of(Marked::of(self.into_marked_block()))
+    }
+}
+
+impl<T: Send + Sync> Deref for StaticArc<'_, T> {
+    type Target = T;
+
+    ghost use Rattle.handles.specs.Stays.{value_of};
+
+    ghost deref_gives = { λ s x. x ≡ value_of s };
+
+    #[inline]
+    fn deref(&self) -> &T
+        ensures { result.now ≡ value_of self.now }
+    {
+        self.0.value()
+    }
+}

@@ -1,11 +1,11 @@
 -- What a count and a pass mean, and what a call of a pass leaves.
-use Rattle.std.specs.Prelude.{◌≡◌, ℕ, List, [], ◌∷◌, ◌++◌}
+use Rattle.std.specs.Prelude.{◌≡◌, ℕ, true, List, [], ◌∷◌, ◌++◌}
 use Rattle.atomic_table.specs.Seated.{TableId}
 use Rattle.shared_count.specs.declared.history.TryClone.{TryClone}
 use Rattle.shared_count.specs.declared.history.TryClone.TheVariants.{Born}
 use Rattle.shared_count.specs.declared.history.Call.{Call}
 use Rattle.shared_count.specs.declared.history.Event.{Event}
-use Rattle.shared_count.specs.History.{IsLegal, owned_by, calls_of}
+use Rattle.shared_count.specs.History.{IsLegal, left_by, owned_by, calls_of}
 use Rattle.shared_count.specs.Extends.{event, OthersExtend, CallExtends, OvertakersExtend}
 
 -- which count it is, and how many passes it was opened with
@@ -26,6 +26,10 @@ first_pass count name = record { count = count; name = name; seen = [] }
 -- how many handles the pass owns, by what it has seen
 abbrev pub handles : Pass → ℕ
 handles p = owned_by p.count.passes p.name p.seen
+
+-- the history that the pass has seen has a mark in it
+abbrev pub HasSeenMark : Pass → Type 0
+HasSeenMark p = (left_by p.count.passes p.seen).mark ≡ true
 
 -- how many handles a clone with this reply adds
 abbrev pub born_count : TryClone → ℕ

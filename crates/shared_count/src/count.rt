@@ -1,9 +1,10 @@
 //! The count, and the calls of its passes.
 ghost use Rattle.std.specs.Prelude.{◌≡◌, ◌≢◌, ◌+◌, ◌<◌, map, All, IfOk};
 ghost use Rattle.std.specs.List.{range_with_len};
-ghost use Rattle.shared_count.specs.Passes.{first_pass, handles, born_count, Called, HasSeenMore, WasOvertaken};
+ghost use Rattle.shared_count.specs.Passes.{first_pass, handles, born_count};
+ghost use Rattle.shared_count.specs.Passes.{Called, HasSeenMark, HasSeenMore, WasOvertaken};
 ghost use Rattle.shared_count.specs.declared.history.Call.TheVariants.{Clone, End, Mark, Unique, Static};
-ghost use Rattle.shared_count.specs.declared.history.TryClone.TheVariants.{Overtaken};
+ghost use Rattle.shared_count.specs.declared.history.TryClone.TheVariants.{Born, Overtaken};
 
 mod ask;
 mod clone;
@@ -72,6 +73,7 @@ impl SharedCount {
         ensures pass { (pass.new.count ≡ pass.old.count) × (pass.new.name ≡ pass.old.name) }
         ensures call { result ≢ Overtaken → Called pass.old (Clone result) pass.new }
         ensures overtaken { result ≡ Overtaken → WasOvertaken pass.old pass.new }
+        ensures marked { HasSeenMark pass.old → result ≡ Born }
         ensures owned { handles pass.new ≡ handles pass.old + born_count result }
     {
         let reply = self.clone_with(&mut pass.seat);

@@ -1,0 +1,57 @@
+-- What a clone by a pass that has seen the mark answers.
+use Rattle.std.proofs.Common.{◌≡◌, ◌≢◌, ℕ, Bool, true, not, ◌&&◌, nat_eq, List, [], ◌∷◌, ◌++◌, length, sym}
+use Rattle.std.proofs.Common.{refl, ap, ◌∙◌, subst, true≢false, if◌then◌else◌}
+use Rattle.counting_word.specs.CountingWord.{greatest_count}
+use Rattle.shared_count.specs.declared.history.Call.{Call}
+use Rattle.shared_count.specs.declared.history.TryClone.{TryClone}
+use Rattle.shared_count.specs.declared.history.TryClone.TheVariants.{Born, Full, Overtaken}
+use Rattle.shared_count.specs.declared.history.Call.TheVariants.{Clone, End, Mark, Unique, Static}
+use Rattle.shared_count.specs.declared.history.Event.{Event}
+use Rattle.shared_count.specs.History.{CountState, opening, next, IsLegal, IsLegalFrom}
+use Rattle.shared_count.specs.History.{state_after, left_by}
+use Rattle.shared_count.specs.Extends.{event, OthersExtend}
+use Rattle.shared_count.specs.Passes.{Pass, Called, WasOvertaken, HasSeenMark}
+use Rattle.shared_count.proofs.Histories.{state_after-append, legal_rest}
+
+mark-next : (s : CountState) (p : ℕ) (c : Call) → s.mark ≡ true → (next s p c).mark ≡ true
+mark-next s p (Clone Born) m = m
+mark-next s p (Clone Full) m = m
+mark-next s p (Clone Overtaken) m = m
+mark-next s p (End r) m = m
+mark-next s p Mark m = refl
+mark-next s p (Unique b) m = m
+mark-next s p (Static b) m = m
+
+mark-after : (s : CountState) (a : List Event) → s.mark ≡ true → (state_after s a).mark ≡ true
+mark-after s [] m = m
+mark-after s (e ∷ es) m = mark-after (next s e.caller e.call) es (mark-next s e.caller e.call m)
+
+mark-others : (n p : ℕ) (a b : List Event) → OthersExtend p a b → (left_by n a).mark ≡ true → (left_by n b).mark ≡ true
+mark-others n p a b others m =
+    ap (λ (h : List Event). (left_by n h).mark) others.begins
+    ∙ ap (λ (s : CountState). s.mark) (state_after-append (opening n) a others.added)
+    ∙ mark-after (left_by n a) others.added m
+
+marked-Called : (old new : Pass) (reply : TryClone) → HasSeenMark old → Called old (Clone reply) new → reply ≡ Born
+marked-Called old new reply marked called =
+    let n : ℕ = old.count.passes in
+    let before : List Event = called.extends.before in
+    let made : List Event = event old.name (Clone reply) ∷ [] in
+    let legal : IsLegalFrom (opening n) (before ++ made) = subst (IsLegal n) called.extends.ends called.legal in
+    let last : IsLegalFrom (left_by n before) made = legal_rest (opening n) before made legal in
+    let m : (left_by n before).mark ≡ true = mark-others n old.name old.seen before called.extends.others marked in
+    last.1 ∙ ap (λ (b : Bool).
+    if not b && nat_eq (length (left_by n before).owners) greatest_count then Full else Born) m
+
+marked-not-overtaken : (old new : Pass) → HasSeenMark old → WasOvertaken old new → ⊥
+marked-not-overtaken old new marked was =
+    let seen : (left_by old.count.passes new.seen).mark ≡ true =
+    mark-others old.count.passes old.name old.seen new.seen was.extends.others marked in
+    true≢false (sym seen ∙ was.extends.room.0)
+
+pub seen_mark-born : (old new : Pass) (reply : TryClone) → (reply ≢ Overtaken → Called old (Clone reply) new)
+    → (reply ≡ Overtaken → WasOvertaken old new) → HasSeenMark old → reply ≡ Born
+seen_mark-born old new Born called overtaken marked = refl
+seen_mark-born old new Full called overtaken marked = marked-Called old new Full marked (called (λ e. cc))
+seen_mark-born old new Overtaken called overtaken marked =
+    absurd (marked-not-overtaken old new marked (overtaken refl))

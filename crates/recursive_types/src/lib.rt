@@ -5,5 +5,6 @@
 
 pub mod by_arc;
 pub mod by_other_handles;
+pub mod by_static;
 pub mod crossing;
 pub mod walks;

@@ -15,6 +15,7 @@ pub use Rattle.counting_core.specs.declared.step.Step
 pub use Rattle.handles.specs.Borrowed
 pub use Rattle.handles.specs.Copies
 pub use Rattle.handles.specs.HeaderSlice
+pub use Rattle.handles.specs.Stays
 pub use Rattle.handles.specs.UnionHandles
 pub use Rattle.handles.specs.Unions
 pub use Rattle.handles.specs.WriteBack

@@ -12,6 +12,7 @@ pub use handles::arc::{Arc, Full, RawArc};
 pub use handles::arc_union::{ArcUnion, ArcUnionBorrow, ThinArcUnion};
 pub use handles::borrow::ArcBorrow;
 pub use handles::header_slice::{BuildError, HeaderSlice, ThinArc};
+pub use handles::static_arc::StaticArc;
 pub use handles::unique::{UninitArc, UniqueArc};
 pub use handles::{arc, arc_union, borrow, header_slice, unique};
 pub use shared_count;

@@ -1,6 +1,7 @@
 //! Lists and trees whose versions share what they have in common: a change makes a new version, and the old one stays.
 #![tactic(auto)]
 
+pub mod defaults;
 mod links;
 mod list;
 mod list_iter;
@@ -11,6 +12,7 @@ mod rose;
 mod style;
 pub mod versions;
 
+pub use defaults::Defaults;
 pub use list::List;
 pub use list_iter::ListIter;
 pub use map::TreeMap;

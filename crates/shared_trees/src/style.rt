@@ -3,6 +3,7 @@ ghost use Rattle.std.specs.Prelude.{◌≡◌, None, Some, IfOk, IfErr};
 ghost use Rattle.servo_arc.specs.Unions.{First, Second};
 ghost use Rattle.shared_trees.specs.Styles.{cascaded, declared, initial};
 
+use crate::defaults::Defaults;
 use servo_arc::{Arc, ArcUnion, ArcUnionBorrow};
 use std::alloc::{AllocError, Global};
 
@@ -70,27 +71,12 @@ impl Clone for Style {
 }
 
 impl Style {
-    /// The style of an element of which nothing is said. Its groups are never given back: all styles may share them.
+    /// The style of an element of which nothing is said, with groups of its own, which are never given back. A program
+    /// that makes many keeps one `Defaults`.
     pub fn initial(alloc: Global) -> Result<Style, AllocError>
         ensures { IfOk result (λ style. style ≡ initial) }
     {
-        let font = Font {
-            size: 16,
-            line_height: 20,
-        };
-        let border = Border {
-            width: 0,
-            radius: 0,
-        };
-        let font = Arc::new(alloc, font).map_err(|_| AllocError)?;
-        let border = Arc::new_leaked(alloc, border).map_err(|_| AllocError)?;
-        // Not before both are there, so that nothing is lost if one is refused.
-        font.mark_as_intentionally_leaked();
-        Ok(Style {
-            font,
-            border,
-            source: None,
-        })
+        Ok(Defaults::new(alloc)?.style())
     }
 
     /// Takes what the source says. It writes a group that no other style shares in place, and copies any other.

@@ -35,6 +35,8 @@ mod script_runs;
 #[cfg(test)]
 mod sizes;
 #[cfg(test)]
+mod static_arcs;
+#[cfg(test)]
 mod table_rows;
 #[cfg(test)]
 mod telling;

@@ -23,6 +23,8 @@ mod maps;
 #[cfg(test)]
 mod roses;
 #[cfg(test)]
+mod static_threads;
+#[cfg(test)]
 mod styles;
 #[cfg(test)]
 mod table_copies;

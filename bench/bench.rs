@@ -615,6 +615,13 @@ const WORKLOADS: &[Workload] = &[
         iterations: 50_000_000,
         runs: marked!(4),
     },
+    // Beside handles that only know the mark by a load.
+    Workload {
+        name: "static-clone",
+        units: 1,
+        iterations: 50_000_000,
+        runs: marked!(1),
+    },
     Workload {
         name: "union-clone",
         units: 1,

@@ -1,6 +1,6 @@
 //! Handles that are cloned and dropped on one thread.
 use crate::fault::{Fault, made};
-use servo_arc::Arc;
+use servo_arc::{Arc, StaticArc};
 use std::alloc::Global;
 
 /// The value of the one block that is cloned.
@@ -29,6 +29,18 @@ pub fn clone_drop(alloc: Global, iterations: u64) -> Result<u64, Fault> {
 pub fn marked_clone(alloc: Global, iterations: u64) -> Result<u64, Fault> {
     let handle = made(Arc::new_leaked(alloc, VALUE))?;
     clone_often(&handle, iterations)
+}
+
+/// Counted handles of a static one, which is never refused one.
+#[inline(never)]
+pub fn static_clone(alloc: Global, iterations: u64) -> Result<u64, Fault> {
+    let kept: StaticArc<'static, u64> = made(StaticArc::new(alloc, VALUE))?;
+    let mut sum = 0u64;
+    for _ in 0..iterations {
+        let again = kept.arc();
+        sum = sum.wrapping_add(*again);
+    }
+    Ok(sum)
 }
 
 #[inline(never)]

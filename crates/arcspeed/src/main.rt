@@ -60,6 +60,7 @@ fn checksum<R: Threads + Wait + Sync>(
         Workload::HeaderSum => header::header_sum(alloc, iterations),
         Workload::MarkedClone => cloned::marked_clone(alloc, iterations),
         Workload::MarkedClone4 => threads::marked_clone(rt, alloc, 4, iterations),
+        Workload::StaticClone => cloned::static_clone(alloc, iterations),
         Workload::UnionClone => union::union_clone(alloc, iterations),
         Workload::CowVersion => versions::cow_version(alloc, iterations),
         Workload::CowSet => versions::cow_set(alloc, iterations),

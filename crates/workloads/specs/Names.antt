@@ -4,9 +4,9 @@ use Rattle.workloads.specs.declared.workload.Workload.{Workload}
 use Rattle.workloads.specs.declared.workload.Workload.TheVariants.{NewDrop, Replace, CloneDrop, CloneHold}
 use Rattle.workloads.specs.declared.workload.Workload.TheVariants.{DerefSum, MakeMutUnique, MakeMutShared, GetMutUnique}
 use Rattle.workloads.specs.declared.workload.Workload.TheVariants.{Contend1, Contend2, Contend4, HeaderBuild}
-use Rattle.workloads.specs.declared.workload.Workload.TheVariants.{HeaderSum, MarkedClone, MarkedClone4, UnionClone}
-use Rattle.workloads.specs.declared.workload.Workload.TheVariants.{CowVersion, CowSet, CowGet, TreeInsert}
-use Rattle.workloads.specs.declared.workload.Workload.TheVariants.{TreeGet, ListBuild, ListWalk}
+use Rattle.workloads.specs.declared.workload.Workload.TheVariants.{HeaderSum, MarkedClone, MarkedClone4, StaticClone}
+use Rattle.workloads.specs.declared.workload.Workload.TheVariants.{UnionClone, CowVersion, CowSet, CowGet}
+use Rattle.workloads.specs.declared.workload.Workload.TheVariants.{TreeInsert, TreeGet, ListBuild, ListWalk}
 
 abbrev pub name_of : Workload → List ℕ
 name_of NewDrop = codes "new-drop"
@@ -24,6 +24,7 @@ name_of HeaderBuild = codes "header-build"
 name_of HeaderSum = codes "header-sum"
 name_of MarkedClone = codes "marked-clone"
 name_of MarkedClone4 = codes "marked-clone-4"
+name_of StaticClone = codes "static-clone"
 name_of UnionClone = codes "union-clone"
 name_of CowVersion = codes "cow-version"
 name_of CowSet = codes "cow-set"

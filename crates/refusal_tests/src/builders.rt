@@ -1,8 +1,9 @@
 // What a builder of header slices leaves.
 use crate::telling::tell;
 use facts::counted::{Counted, Tally};
-use facts::same;
+use facts::{same, same_at};
 use servo_arc::{Arc, BuildError, HeaderSlice, UniqueArc};
+use std::alloc::Global;
 use std::io::Print;
 use std::process::Abort;
 use std::sync::atomic::AtomicU64;
@@ -31,12 +32,18 @@ impl Ledger {
         Counted::new(&self.headers, 9)
     }
 
-    fn two_items(&self) -> Source<'_> {
+    fn source(&self, len: usize) -> Source<'_> {
         Source {
-            left: 2,
+            left: len,
             ledger: self,
             end: Counted::new(&self.sources, 0),
         }
+    }
+
+    // How often the iterator was asked, and how many headers and items were dropped.
+    fn asks_and_drops(&self) -> [u64; 3] {
+        let asks = self.asks.load(SeqCst);
+        [asks, self.headers.drops(), self.items.drops()]
     }
 }
 
@@ -70,94 +77,95 @@ impl ExactSizeIterator for Source<'_> {
     }
 }
 
-type Built<'a> = Result<Arc<HeaderSlice<Counted<'a>, Counted<'a>>>, BuildError>;
+#[derive(Clone, Copy, Debug, PartialEq)]
+enum Builder {
+    OfArc,
+    OfArcWithSize,
+    OfArcAlloc,
+    OfStaticArc,
+    OfUnique,
+    OfUniqueWithSize,
+}
 
-fn check_built(rt: &(impl Abort + Print), ledger: &Ledger, built: Built<'_>) {
-    same!(rt, ledger.sources.drops(), 1);
-    let asks = ledger.asks.load(SeqCst);
-    let drops = (ledger.headers.drops(), ledger.items.drops());
+const BUILDERS: [Builder; 6] = [
+    Builder::OfArc,
+    Builder::OfArcWithSize,
+    Builder::OfArcAlloc,
+    Builder::OfStaticArc,
+    Builder::OfUnique,
+    Builder::OfUniqueWithSize,
+];
+
+type Counts<'a> = HeaderSlice<Counted<'a>, Counted<'a>>;
+
+type Built<'a> = Result<Arc<Counts<'a>>, BuildError>;
+
+fn shared<'a>(built: Result<UniqueArc<Counts<'a>>, BuildError>) -> Built<'a> {
     match built {
-        Ok(slice) => {
-            same!(rt, (slice.header.value, slice.len()), (9, 2));
-            same!(rt, (asks, drops), (3, (0, 0)));
-        }
-        Err(refusal) => {
-            same!(rt, refusal, BuildError::Memory);
-            same!(rt, (asks, drops), (0, (1, 0)));
-            tell(rt, "the places of the items or the block");
+        Ok(unique) => Ok(unique.shareable()),
+        Err(refusal) => Err(refusal),
+    }
+}
+
+fn build<'a>(builder: Builder, alloc: Global, ledger: &'a Ledger, len: usize) -> Built<'a> {
+    let (header, items) = (ledger.header(), ledger.source(len));
+    match builder {
+        Builder::OfArc => Arc::from_header_and_iter(alloc, header, items),
+        Builder::OfArcWithSize => Arc::from_header_and_iter_with_size(alloc, header, items, len),
+        Builder::OfArcAlloc => Arc::from_header_and_iter_alloc(alloc, header, items, len, false),
+        Builder::OfStaticArc => Arc::from_header_and_iter_alloc(alloc, header, items, len, true),
+        Builder::OfUnique => shared(UniqueArc::from_header_and_iter(alloc, header, items)),
+        Builder::OfUniqueWithSize => {
+            shared(UniqueArc::from_header_and_iter_with_size(alloc, header, items, len))
         }
     }
 }
 
-#[test]
-fn a_refused_builder_asks_for_nothing(rt: HostRuntime) {
+// A header and the items of a marked slice are never dropped.
+fn check_builder(rt: &(impl Abort + Print + AllocGlobal), builder: Builder, len: usize) {
     let ledger = Ledger::new();
-    let built = Arc::from_header_and_iter(rt.alloc(), ledger.header(), ledger.two_items());
-    check_built(&rt, &ledger, built)
-}
-
-#[test]
-fn a_refused_builder_with_size_asks_for_nothing(rt: HostRuntime) {
-    let ledger = Ledger::new();
-    let (header, items) = (ledger.header(), ledger.two_items());
-    let built = Arc::from_header_and_iter_with_size(rt.alloc(), header, items, 2);
-    check_built(&rt, &ledger, built)
-}
-
-#[test]
-fn a_refused_builder_of_a_static_slice_asks_for_nothing(rt: HostRuntime) {
-    let ledger = Ledger::new();
-    let (header, items) = (ledger.header(), ledger.two_items());
-    let built = Arc::from_header_and_iter_alloc(rt.alloc(), header, items, 2, true);
-    check_built(&rt, &ledger, built)
-}
-
-#[test]
-fn a_refused_unique_builder_asks_for_nothing(rt: HostRuntime) {
-    let ledger = Ledger::new();
-    let (header, items) = (ledger.header(), ledger.two_items());
-    let built = match UniqueArc::from_header_and_iter(rt.alloc(), header, items) {
-        Ok(unique) => Ok(unique.shareable()),
-        Err(refusal) => Err(refusal),
-    };
-    check_built(&rt, &ledger, built)
-}
-
-#[test]
-fn a_refused_unique_builder_with_size_asks_for_nothing(rt: HostRuntime) {
-    let ledger = Ledger::new();
-    let (header, items) = (ledger.header(), ledger.two_items());
-    let built = match UniqueArc::from_header_and_iter_with_size(rt.alloc(), header, items, 2) {
-        Ok(unique) => Ok(unique.shareable()),
-        Err(refusal) => Err(refusal),
-    };
-    check_built(&rt, &ledger, built)
-}
-
-// Only the block is asked for: a run whose second request is refused refuses nothing here.
-fn check_one_request<T: Drop + Send + Sync>(
-    rt: &(impl Abort + Print),
-    built: Result<Arc<HeaderSlice<u64, T>>, BuildError>,
-    len: usize,
-) {
-    match built {
-        Ok(slice) => same!(rt, (slice.header, slice.len()), (9, len)),
+    let number = len as u64;
+    let (expected, made) = match build(builder, rt.alloc(), &ledger, len) {
+        Ok(slice) => {
+            let made = (slice.header.value, slice.len(), ledger.asks_and_drops());
+            drop(slice);
+            let is_static = builder == Builder::OfStaticArc;
+            let after = if is_static { [0, 0] } else { [1, number] };
+            ([number.wrapping_add(1), after[0], after[1]], made)
+        }
         Err(refusal) => {
             same!(rt, refusal, BuildError::Memory);
-            tell(rt, "the block alone");
+            tell!(rt, "{builder:?} of {len} items: nothing asked");
+            ([0, 1, 0], (9, len, [number.wrapping_add(1), 0, 0]))
+        }
+    };
+    same_at!(
+        rt,
+        (builder, len),
+        made,
+        (9, len, [number.wrapping_add(1), 0, 0])
+    );
+    same_at!(rt, (builder, len), ledger.asks_and_drops(), expected);
+    same!(rt, ledger.sources.drops(), 1);
+}
+
+// The largest has 65,536 bytes of items.
+#[test]
+fn a_refused_builder_asks_for_nothing(rt: HostRuntime) {
+    for builder in BUILDERS {
+        for len in [0, 1, 3, 100, 4096] {
+            check_builder(&rt, builder, len);
         }
     }
 }
 
 #[test]
 fn a_builder_of_items_without_size_asks_for_its_block_alone(rt: HostRuntime) {
-    let built = Arc::from_header_and_iter(rt.alloc(), 9, [(), (), ()].into_iter());
-    check_one_request(&rt, built, 3)
-}
-
-#[test]
-fn a_builder_of_no_items_asks_for_its_block_alone(rt: HostRuntime) {
-    let none: [u64; 0] = [];
-    let built = Arc::from_header_and_iter(rt.alloc(), 9, none.into_iter());
-    check_one_request(&rt, built, 0)
+    match Arc::from_header_and_iter(rt.alloc(), 9, [(), (), ()].into_iter()) {
+        Ok(slice) => same!(&rt, (slice.header, slice.len()), (9, 3)),
+        Err(refusal) => {
+            same!(&rt, refusal, BuildError::Memory);
+            tell!(&rt, "no block");
+        }
+    }
 }

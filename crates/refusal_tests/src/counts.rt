@@ -4,11 +4,11 @@ use callers::opened::open_two;
 use facts::holds;
 use servo_arc::shared_count::{EndReply, TryClone};
 
-// `open` makes three requests, and no other call makes one.
+// No other call makes a request.
 #[test]
 fn open_alone_takes_memory(rt: HostRuntime) {
     let Ok((count, mut p, mut q)) = open_two(rt.alloc()) else {
-        return tell(&rt, "a request of open");
+        return tell!(&rt, "no count");
     };
     count.meet(&mut p, &mut q);
     holds!(&rt, count.try_clone(&mut p) == TryClone::Born);

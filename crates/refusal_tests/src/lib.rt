@@ -1,5 +1,5 @@
-//! Tests in which one request for memory is refused: `gate/refused_memory.sh` refuses the Nth of each. A test holds
-//! whichever of its requests it is, and says which one it met.
+//! Tests in which one request for memory is refused: `gate/refused_memory.sh` refuses each of a test in turn. A test
+//! holds whichever it is, and tells what it came to. `outcomes.txt` has what all of them may come to, and have to.
 #![tactic(auto)]
 
 #[cfg(test)]
@@ -20,7 +20,5 @@ mod tables;
 mod telling;
 #[cfg(test)]
 mod trees;
-#[cfg(test)]
-mod unions_in_slots;
 #[cfg(test)]
 mod versions;

@@ -2,118 +2,139 @@
 use crate::telling::tell;
 use facts::counted::{Counted, Tally};
 use facts::{holds, same};
+use servo_arc::word::MAX_REFCOUNT;
 use servo_arc::{Arc, UniqueArc};
 use std::alloc::{AllocError, Global};
 use std::io::Print;
 use std::process::Abort;
 
-fn check_made(
-    rt: &(impl Abort + Print),
-    tally: &Tally,
-    made: Result<Arc<Counted<'_>>, Counted<'_>>,
-) {
-    match made {
-        Ok(handle) => same!(rt, (handle.value, tally.drops()), (5, 0)),
-        Err(value) => {
-            same!(rt, (value.value, tally.drops()), (5, 0));
-            drop(value);
-            same!(rt, tally.drops(), 1);
-            tell(rt, "the block");
+#[derive(Clone, Copy, Debug)]
+enum Maker {
+    New,
+    NewWithLimit,
+    NewLeaked,
+    NewStatic,
+    FromValue,
+    Unique,
+}
+
+const MAKERS: [Maker; 6] = [
+    Maker::New,
+    Maker::NewWithLimit,
+    Maker::NewLeaked,
+    Maker::NewStatic,
+    Maker::FromValue,
+    Maker::Unique,
+];
+
+fn made<T: Send + Sync + Drop>(maker: Maker, alloc: Global, value: T) -> Result<Arc<T>, T> {
+    match maker {
+        Maker::New => Arc::new(alloc, value),
+        Maker::NewWithLimit => Arc::new_with_limit(alloc, value, 2),
+        Maker::NewLeaked => Arc::new_leaked(alloc, value),
+        Maker::NewStatic => Arc::new_static(alloc, value),
+        Maker::FromValue => Arc::from_value(alloc, value),
+        Maker::Unique => match UniqueArc::new(alloc, value) {
+            Ok(unique) => Ok(unique.shareable()),
+            Err(value) => Err(value),
+        },
+    }
+}
+
+#[test]
+fn a_refused_maker_hands_the_value_back(rt: HostRuntime) {
+    for maker in MAKERS {
+        let tally = Tally::new();
+        match made(maker, rt.alloc(), Counted::new(&tally, 5)) {
+            Ok(handle) => same!(&rt, (handle.value, tally.drops()), (5, 0)),
+            Err(value) => {
+                same!(&rt, (value.value, tally.drops()), (5, 0));
+                drop(value);
+                same!(&rt, tally.drops(), 1);
+                tell!(&rt, "{maker:?}: the value back");
+            }
         }
     }
 }
 
 #[test]
-fn new_hands_the_value_back(rt: HostRuntime) {
-    let tally = Tally::new();
-    let made = Arc::new(rt.alloc(), Counted::new(&tally, 5));
-    check_made(&rt, &tally, made)
-}
-
-#[test]
-fn new_with_limit_hands_the_value_back(rt: HostRuntime) {
-    let tally = Tally::new();
-    let made = Arc::new_with_limit(rt.alloc(), Counted::new(&tally, 5), 2);
-    check_made(&rt, &tally, made)
-}
-
-#[test]
-fn new_leaked_hands_the_value_back(rt: HostRuntime) {
-    let tally = Tally::new();
-    let made = Arc::new_leaked(rt.alloc(), Counted::new(&tally, 5));
-    check_made(&rt, &tally, made)
-}
-
-#[test]
-fn new_static_hands_the_value_back(rt: HostRuntime) {
-    let tally = Tally::new();
-    let made = Arc::new_static(rt.alloc(), Counted::new(&tally, 5));
-    check_made(&rt, &tally, made)
-}
-
-#[test]
-fn from_value_hands_the_value_back(rt: HostRuntime) {
-    let tally = Tally::new();
-    let made = Arc::from_value(rt.alloc(), Counted::new(&tally, 5));
-    check_made(&rt, &tally, made)
-}
-
-#[test]
-fn a_unique_handle_hands_the_value_back(rt: HostRuntime) {
-    let tally = Tally::new();
-    let made = match UniqueArc::new(rt.alloc(), Counted::new(&tally, 5)) {
-        Ok(unique) => Ok(unique.shareable()),
-        Err(value) => Err(value),
-    };
-    check_made(&rt, &tally, made)
-}
-
-#[test]
-fn the_default_that_was_made_comes_back(rt: HostRuntime) {
+fn a_refused_default_comes_back_and_an_unwritten_block_is_none(rt: HostRuntime) {
     match Arc::<u32>::try_default(rt.alloc()) {
         Ok(handle) => same!(&rt, *handle, 0),
-        Err(value) => {
-            same!(&rt, value, 0);
-            tell(&rt, "the block");
-        }
+        Err(value) => tell!(&rt, "try_default: {value} back"),
     }
-}
-
-#[test]
-fn an_unwritten_block_is_refused(rt: HostRuntime) {
     let tally = Tally::new();
     match UniqueArc::new_uninit(rt.alloc()) {
         Ok(unwritten) => {
             let unique = unwritten.write(Counted::new(&tally, 5));
             same!(&rt, (unique.value, tally.drops()), (5, 0));
         }
-        Err(AllocError) => tell(&rt, "the block"),
+        Err(AllocError) => tell!(&rt, "new_uninit: no block"),
+    }
+}
+
+// Makes a block of that value, and drops it. A block that is kept past a size or at one limit is not given back.
+fn check_block<T: Send + Sync + Drop>(
+    rt: &(impl Abort + Print + AllocGlobal),
+    value: T,
+    limit: u64,
+    tally: &Tally,
+) {
+    let drops = tally.drops();
+    match Arc::new_with_limit(rt.alloc(), value, limit.clamp(1, MAX_REFCOUNT)) {
+        Ok(handle) => drop(handle),
+        Err(value) => {
+            drop(value);
+            tell!(rt, "a block: the value back");
+        }
+    }
+    same!(rt, tally.drops(), drops.wrapping_add(1));
+}
+
+#[test]
+fn blocks_of_each_size_and_limit_are_given_back(rt: HostRuntime) {
+    let tally = Tally::new();
+    for limit in [1, 2, 3, 1000, MAX_REFCOUNT] {
+        check_block(&rt, Counted::new(&tally, 5), limit, &tally);
+        check_block(&rt, (Counted::new(&tally, 5), [0u8; 1000]), limit, &tally);
+        check_block(&rt, (Counted::new(&tally, 5), [0u8; 65_536]), limit, &tally);
     }
 }
 
 // Two handles of one block.
-fn shared_list(alloc: Global) -> Option<(Arc<Vec<u32>>, Arc<Vec<u32>>)> {
-    let list = vec![in alloc; 1, 2, 3].ok()?;
-    let a = Arc::new(alloc, list).ok()?;
+fn shared_list(alloc: Global, len: usize, limit: u64) -> Option<(Arc<Vec<u32>>, Arc<Vec<u32>>)> {
+    let list = vec![in alloc; 7u32; len].ok()?;
+    let a = Arc::new_with_limit(alloc, list, limit.clamp(2, MAX_REFCOUNT)).ok()?;
     let b = a.clone().ok()?;
     Some((a, b))
 }
 
-#[test]
-fn a_refused_copy_leaves_the_handle(rt: HostRuntime) {
-    let Some((mut a, b)) = shared_list(rt.alloc()) else {
-        return tell(&rt, "the set-up");
+fn has_sevens(handle: &Arc<Vec<u32>>, len: usize) -> bool {
+    handle.len() == len && handle.iter().all(|item| *item == 7)
+}
+
+fn check_copy(rt: &(impl Abort + Print + AllocGlobal), len: usize, limit: u64) {
+    let Some((mut a, b)) = shared_list(rt.alloc(), len, limit) else {
+        return tell!(rt, "the set-up");
     };
     match Arc::make_mut(&mut a, rt.alloc()) {
         Ok(list) => {
             list.clear();
-            holds!(&rt, a.is_empty() && !Arc::ptr_eq(&a, &b));
+            holds!(rt, a.is_empty() && !Arc::ptr_eq(&a, &b));
         }
         Err(AllocError) => {
-            same!(&rt, a.as_slice(), [1, 2, 3].as_slice());
-            holds!(&rt, Arc::ptr_eq(&a, &b) && !a.is_unique());
-            tell(&rt, "the block or the copy");
+            holds!(rt, has_sevens(&a, len) && Arc::ptr_eq(&a, &b));
+            tell!(rt, "make_mut: the handle as before");
         }
     }
-    same!(&rt, b.as_slice(), [1, 2, 3].as_slice());
+    holds!(rt, has_sevens(&b, len));
+}
+
+#[test]
+fn a_refused_copy_leaves_the_handle(rt: HostRuntime) {
+    for limit in [2, 3, 1000, MAX_REFCOUNT] {
+        for len in [1, 3, 1000, 16_384] {
+            check_copy(&rt, len, limit);
+        }
+    }
 }

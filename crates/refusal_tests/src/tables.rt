@@ -1,22 +1,26 @@
-// What a call on a table of handles leaves.
+// What a call on a table of handles, or on one of unions, leaves.
 use crate::telling::tell;
 use facts::same;
+use servo_arc::ArcUnionBorrow;
 use servo_arc::table::{Command, PlainCommand, Reply, Table};
+use servo_arc::union_table::{UnionCommand, UnionTable};
 use std::alloc::{AllocError, Global};
 
 #[test]
-fn a_table_is_refused(rt: HostRuntime) {
-    match Table::<u32>::new(rt.alloc(), 3) {
-        Ok(table) => same!(&rt, table.slots(), 3),
-        Err(AllocError) => tell(&rt, "the slots"),
+fn a_refused_table_is_none(rt: HostRuntime) {
+    for slots in [1usize, 3, 1000] {
+        match Table::<u32>::new(rt.alloc(), slots) {
+            Ok(table) => same!(&rt, table.slots(), slots),
+            Err(AllocError) => tell!(&rt, "{slots} slots: no table"),
+        }
+        match UnionTable::<u32, u32>::new(rt.alloc(), slots) {
+            Ok(table) => same!(&rt, table.slots(), slots),
+            Err(AllocError) => tell!(&rt, "{slots} slots of unions: no table"),
+        }
     }
 }
 
-type Slots = [Option<u32>; 4];
-
 // The first three slots share a block, and the last one is empty.
-const SHARED: Slots = [Some(5), Some(5), Some(5), None];
-
 fn shared_table(alloc: Global) -> Option<Table<u32>> {
     let mut table = Table::new(alloc, 4).ok()?;
     for command in [
@@ -31,70 +35,63 @@ fn shared_table(alloc: Global) -> Option<Table<u32>> {
     Some(table)
 }
 
-fn slots_of(table: &Table<u32>) -> Slots {
-    [
-        table.get(0).copied(),
-        table.get(1).copied(),
-        table.get(2).copied(),
-        table.get(3).copied(),
-    ]
+fn slots_of(table: &Table<u32>) -> [Option<u32>; 4] {
+    [0, 1, 2, 3].map(|i| table.get(i).copied())
 }
 
 #[test]
-fn at_most_one_command_of_a_run_is_refused(rt: HostRuntime) {
-    let Some(mut table) = shared_table(rt.alloc()) else {
-        return tell(&rt, "the set-up");
+fn one_refusal_in_a_run(rt: HostRuntime) {
+    let commands = vec![in rt.alloc(); Command::MakeMut(0, 9), Command::Own(1), Command::New(3, 7)];
+    let (Some(mut table), Ok(commands)) = (shared_table(rt.alloc()), commands) else {
+        return tell!(&rt, "the set-up");
     };
-    let Ok(commands) = vec![in rt.alloc();
-        Command::MakeMut(0, 9),
-        Command::Own(1),
-        Command::New(3, 7),
-    ] else {
-        return tell(&rt, "the commands");
-    };
-    let Ok(replies) = table.run(rt.alloc(), commands) else {
-        same!(&rt, slots_of(&table), SHARED);
-        return tell(&rt, "the room of the replies");
-    };
-    let expected = match replies.as_slice() {
-        [Reply::Done, Reply::Done, Reply::Done] => [Some(9), Some(5), Some(5), Some(7)],
-        [Reply::Refused, Reply::Done, Reply::Done] => [Some(5), Some(5), Some(5), Some(7)],
-        [Reply::Done, Reply::Refused, Reply::Done] => [Some(9), Some(5), Some(5), Some(7)],
-        [Reply::Done, Reply::Done, Reply::Refused] => [Some(9), Some(5), Some(5), None],
-        _ => panic!(rt; "other replies"),
-    };
-    same!(&rt, slots_of(&table), expected);
-    if replies.contains(&Reply::Refused) {
-        tell(&rt, "a block of a command");
+    match table.run(rt.alloc(), commands) {
+        Ok(replies) => tell!(&rt, "{:?}", replies.as_slice()),
+        Err(AllocError) => tell!(&rt, "the room of the replies"),
     }
+    tell!(&rt, "{:?}", slots_of(&table));
 }
 
 #[test]
-fn at_most_one_command_of_a_plain_run_is_refused(rt: HostRuntime) {
-    let Some(mut table) = shared_table(rt.alloc()) else {
-        return tell(&rt, "the set-up");
-    };
-    let Ok(commands) = vec![in rt.alloc();
+fn one_refusal_in_a_plain_run(rt: HostRuntime) {
+    let commands = vec![in rt.alloc();
         PlainCommand::New(3, 7),
         PlainCommand::Clone(3, 0),
         PlainCommand::GetMut(3, 8),
         PlainCommand::Same(0, 1),
-    ] else {
-        return tell(&rt, "the commands");
+    ];
+    let (Some(mut table), Ok(commands)) = (shared_table(rt.alloc()), commands) else {
+        return tell!(&rt, "the set-up");
     };
-    let Ok(replies) = table.run_plain(rt.alloc(), commands) else {
-        same!(&rt, slots_of(&table), SHARED);
-        return tell(&rt, "the room of the replies");
-    };
-    let expected = match replies.as_slice() {
-        [Reply::Done, Reply::Done, Reply::Shared, Reply::Is(false)] => {
-            [Some(7), Some(5), Some(5), Some(7)]
-        }
-        [Reply::Refused, Reply::Empty, Reply::Empty, Reply::Is(true)] => SHARED,
-        _ => panic!(rt; "other replies"),
-    };
-    same!(&rt, slots_of(&table), expected);
-    if replies.contains(&Reply::Refused) {
-        tell(&rt, "the block of a new handle");
+    match table.run_plain(rt.alloc(), commands) {
+        Ok(replies) => tell!(&rt, "{:?}", replies.as_slice()),
+        Err(AllocError) => tell!(&rt, "the room of the replies"),
     }
+    tell!(&rt, "{:?}", slots_of(&table));
+}
+
+// Whether the slot's handle is a first, and its value.
+fn union_of(table: &UnionTable<u32, u32>, i: usize) -> Option<(bool, u32)> {
+    table.get(i).map(|handle| match handle {
+        ArcUnionBorrow::First(a) => (true, *a),
+        ArcUnionBorrow::Second(b) => (false, *b),
+    })
+}
+
+#[test]
+fn one_refusal_on_unions(rt: HostRuntime) {
+    let commands = vec![in rt.alloc();
+        UnionCommand::First(0, 7),
+        UnionCommand::Second(1, 9),
+        UnionCommand::Clone(1, 2),
+    ];
+    let (Ok(mut table), Ok(commands)) = (UnionTable::new(rt.alloc(), 3), commands) else {
+        return tell!(&rt, "the set-up");
+    };
+    match table.run(rt.alloc(), commands) {
+        Ok(replies) => tell!(&rt, "{:?}", replies.as_slice()),
+        Err(AllocError) => tell!(&rt, "the room of the replies"),
+    }
+    let slots = [0, 1, 2].map(|i| union_of(&table, i));
+    tell!(&rt, "{slots:?}");
 }

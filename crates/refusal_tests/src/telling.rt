@@ -1,8 +1,8 @@
-// Which request was refused.
-use facts::ok;
-use std::io::Print;
-use std::process::Abort;
-
-pub fn tell(rt: &(impl Abort + Print), request: &str) {
-    ok!(rt, println!(rt; "refused: {request}"));
+// What a run came to. `gate/refused_memory.sh` gathers what all runs tell.
+macro_rules! tell {
+    ($rt:expr, $($text:tt)*) => {
+        facts::ok!($rt, println!($rt; $($text)*))
+    };
 }
+
+pub(crate) use tell;

@@ -9,7 +9,7 @@ use std::alloc::{AllocError, Global};
 fn a_refused_push_leaves_the_list(rt: HostRuntime) {
     let tally = Tally::new();
     let Ok(old) = List::new().push(rt.alloc(), Counted::new(&tally, 1)) else {
-        return tell(&rt, "the set-up");
+        return tell!(&rt, "the set-up");
     };
     let pushed = old.push(rt.alloc(), Counted::new(&tally, 2));
     holds!(&rt, old.iter().map(|item| item.value).eq([1]));
@@ -17,7 +17,7 @@ fn a_refused_push_leaves_the_list(rt: HostRuntime) {
         Ok(new) => same!(&rt, (new.len(), tally.drops()), (2, 0)),
         Err(AllocError) => {
             same!(&rt, tally.drops(), 1);
-            tell(&rt, "a node");
+            tell!(&rt, "a node");
         }
     }
 }
@@ -49,7 +49,7 @@ fn kept_none(tally: &Tally, made: u64) -> bool {
 fn a_refused_insert_leaves_both_versions(rt: HostRuntime) {
     let tally = Tally::new();
     let Ok(old) = halves(rt.alloc(), &tally) else {
-        return tell(&rt, "the set-up");
+        return tell!(&rt, "the set-up");
     };
     let copy = again!(&rt, &old);
     let changed = old.insert(rt.alloc(), 3, Counted::new(&tally, 9));
@@ -58,7 +58,7 @@ fn a_refused_insert_leaves_both_versions(rt: HostRuntime) {
         Ok(new) => same!(&rt, new.get(3).map(|value| value.value), Some(9)),
         Err(AllocError) => {
             holds!(&rt, kept_none(&tally, 5));
-            tell(&rt, "a node of the path or of the key");
+            tell!(&rt, "a node of the path or of the key");
         }
     }
 }
@@ -67,7 +67,7 @@ fn a_refused_insert_leaves_both_versions(rt: HostRuntime) {
 fn a_refused_remove_leaves_both_versions(rt: HostRuntime) {
     let tally = Tally::new();
     let Ok(old) = halves(rt.alloc(), &tally) else {
-        return tell(&rt, "the set-up");
+        return tell!(&rt, "the set-up");
     };
     for key in [0, 2, 4, 6] {
         let copy = again!(&rt, &old);
@@ -75,7 +75,7 @@ fn a_refused_remove_leaves_both_versions(rt: HostRuntime) {
         holds!(&rt, has_halves(&old) && TreeMap::ptr_eq(&old, &copy));
         match changed {
             Ok(new) => same!(&rt, (new.contains(key), new.len()), (false, 3)),
-            Err(AllocError) => tell(&rt, "a node of the path"),
+            Err(AllocError) => tell!(&rt, "a node of the path"),
         }
         holds!(&rt, kept_none(&tally, 4));
     }

@@ -14,10 +14,6 @@ fn a_bold_style_leaves_the_plain_one(rt: HostRuntime) {
         holds!(&rt, style.is_unique());
     }
     holds!(&rt, !Arc::ptr_eq(&plain, &bold));
-}
-
-#[test]
-fn a_borrowed_style_has_its_size(rt: HostRuntime) {
     let style = ok!(&rt, plain_style(rt.alloc(), 12));
     same!(&rt, size_of(style.borrow_arc()), 12);
 }

@@ -2,16 +2,15 @@
 ghost use Rattle.std.specs.Prelude.{◌≡◌, ◌+◌, ◌<◌};
 ghost use Rattle.servo_arc.specs.Passes.{handles};
 
+use crate::waiting::arrive;
 use callers::two_threads::look_in_two_threads;
 use servo_arc::shared_count::{CountPass, EndReply, SharedCount, TryClone};
+use std::process::Abort;
 use std::sync::atomic::AtomicU64;
-use std::sync::atomic::Ordering::SeqCst;
 use std::test::Fail;
 use std::thread::{Threads, join};
 
 const TURNS: u32 = 10_000;
-
-const MOST_TURNS: u64 = 100_000_000;
 
 #[test]
 fn one_of_two_threads_is_told_that_it_was_last(rt: HostRuntime) -> Result<(), Fail> {
@@ -28,16 +27,6 @@ struct Replies {
     last: u64,
 }
 
-// Waits until three threads are here.
-fn arrive(here: &AtomicU64) {
-    here.fetch_add(1, SeqCst);
-    for _ in 0..MOST_TURNS {
-        if here.load(SeqCst) >= 3 {
-            return;
-        }
-    }
-}
-
 fn end_one(count: &SharedCount, pass: &mut CountPass, replies: &mut Replies)
     requires { (pass.old.count ≡ count.now) × (0 < handles pass.old) }
     ensures { (pass.new.count ≡ pass.old.count) × (handles pass.new + 1 ≡ handles pass.old) }
@@ -49,7 +38,12 @@ fn end_one(count: &SharedCount, pass: &mut CountPass, replies: &mut Replies)
 }
 
 // Clones and ends, often, and at last ends the pass's own handle.
-fn churn(count: &SharedCount, pass: CountPass, here: &AtomicU64) -> (CountPass, Replies)
+fn churn(
+    rt: &impl Abort,
+    count: &SharedCount,
+    pass: CountPass,
+    here: &AtomicU64,
+) -> (CountPass, Replies)
     requires { (pass.count ≡ count.now) × (handles pass ≡ 1) }
     ensures { result.0.count ≡ count.now }
 {
@@ -59,7 +53,7 @@ fn churn(count: &SharedCount, pass: CountPass, here: &AtomicU64) -> (CountPass, 
         ended: 0,
         last: 0,
     };
-    arrive(here);
+    arrive(rt, here, 3);
     for _ in 0..TURNS {
         if pass.owned() == 1 && count.try_clone(&mut pass) == TryClone::Born {
             replies.born = replies.born.saturating_add(1);
@@ -72,7 +66,7 @@ fn churn(count: &SharedCount, pass: CountPass, here: &AtomicU64) -> (CountPass, 
     (pass, replies)
 }
 
-fn churn_two<R: Threads + Sync>(
+fn churn_two<R: Abort + Threads + Sync>(
     rt: &R,
     count: &SharedCount,
     b: CountPass,
@@ -83,7 +77,11 @@ fn churn_two<R: Threads + Sync>(
     requires c { (c.count ≡ count.now) × (handles c ≡ 1) }
     ensures { (result.0.0.count ≡ count.now) × (result.1.0.count ≡ count.now) }
 {
-    join(rt, || churn(count, b, here), || churn(count, c, here))
+    join(
+        rt,
+        || churn(rt, count, b, here),
+        || churn(rt, count, c, here),
+    )
 }
 
 #[test]
@@ -95,7 +93,7 @@ fn three_threads_are_told_once_that_one_was_last(rt: HostRuntime) -> Result<(), 
     let here = AtomicU64::new(0);
     let ((mut a, first), ((mut b, second), (c, third))) = join(
         &rt,
-        || churn(&count, a, &here),
+        || churn(&rt, &count, a, &here),
         || churn_two(&rt, &count, b, c, &here),
     );
     count.meet(&mut a, &mut b);

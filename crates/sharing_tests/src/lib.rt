@@ -3,6 +3,8 @@
 #![tactic(auto)]
 
 #[cfg(test)]
+mod alone_again;
+#[cfg(test)]
 mod calling;
 #[cfg(test)]
 mod count_rows;
@@ -43,6 +45,6 @@ mod tree_threads;
 #[cfg(test)]
 mod unions_on_threads;
 #[cfg(test)]
-mod unique_again;
+mod waiting;
 #[cfg(test)]
 mod wrong_answers;

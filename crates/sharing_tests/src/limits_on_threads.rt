@@ -1,9 +1,11 @@
 // Threads that clone one lent handle of a block with a limit. Each is joined.
+use crate::waiting::arrive;
 use facts::{holds, ok, same};
 use servo_arc::{Arc, Full};
+use std::process::Abort;
+use std::sync::Wait;
 use std::sync::atomic::AtomicU64;
 use std::sync::atomic::Ordering::SeqCst;
-use std::sync::{Barrier, Wait};
 use std::thread;
 
 // The lent handle and two clones.
@@ -33,8 +35,13 @@ fn stays_within(handle: &Arc<u64>, clones: &AtomicU64, rt: &impl Wait) -> bool {
     are_right && others.wrapping_add(number) < LIMIT
 }
 
-fn ask_often(handle: &Arc<u64>, clones: &AtomicU64, start: &Barrier, rt: &impl Wait) -> bool {
-    start.wait(rt);
+fn ask_often(
+    handle: &Arc<u64>,
+    clones: &AtomicU64,
+    here: &AtomicU64,
+    rt: &(impl Abort + Wait),
+) -> bool {
+    arrive(rt, here, 4);
     for _ in 0..ROUNDS {
         if !stays_within(handle, clones, rt) {
             return false;
@@ -46,21 +53,21 @@ fn ask_often(handle: &Arc<u64>, clones: &AtomicU64, start: &Barrier, rt: &impl W
 #[test]
 fn four_threads_have_no_more_handles_than_the_limit(rt: HostRuntime) {
     let a = ok!(&rt, Arc::new_with_limit(rt.alloc(), 7u64, LIMIT));
-    let (clones, start) = (AtomicU64::new(0), Barrier::new(4));
+    let (clones, here) = (AtomicU64::new(0), AtomicU64::new(0));
     let done = thread::join(
         &rt,
         || {
             thread::join(
                 &rt,
-                || ask_often(&a, &clones, &start, &rt),
-                || ask_often(&a, &clones, &start, &rt),
+                || ask_often(&a, &clones, &here, &rt),
+                || ask_often(&a, &clones, &here, &rt),
             )
         },
         || {
             thread::join(
                 &rt,
-                || ask_often(&a, &clones, &start, &rt),
-                || ask_often(&a, &clones, &start, &rt),
+                || ask_often(&a, &clones, &here, &rt),
+                || ask_often(&a, &clones, &here, &rt),
             )
         },
     );

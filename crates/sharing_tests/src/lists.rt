@@ -11,32 +11,23 @@ pub(crate) fn up_to(alloc: Global, len: u64) -> Result<List<u64>, AllocError> {
     Ok(list)
 }
 
+// The rest of a pushed list is the list, and an end leaves what others share.
 #[test]
 fn versions_read_as_they_were_made(rt: HostRuntime) {
     let old = ok!(&rt, up_to(rt.alloc(), 3));
     let new = ok!(&rt, old.push(rt.alloc(), 9));
-    holds!(
-        &rt,
-        old.iter().eq(&[2, 1, 0]) && new.iter().eq(&[9, 2, 1, 0]),
-    );
-    same!(&rt, (old.len(), new.len()), (3, 4));
+    let rest = ok!(&rt, new.rest());
+    let places = [0, 3, 4].map(|place| new.get(place).copied());
     same!(
         &rt,
-        (
-            new.first().copied(),
-            new.get(3).copied(),
-            new.get(4).copied(),
-        ),
-        (Some(9), Some(0), None),
+        (old.len(), new.len(), new.first().copied()),
+        (3, 4, Some(9))
     );
-}
-
-#[test]
-fn the_rest_of_a_pushed_list_is_the_list(rt: HostRuntime) {
-    let old = ok!(&rt, up_to(rt.alloc(), 3));
-    let new = ok!(&rt, old.push(rt.alloc(), 9));
-    let rest = ok!(&rt, new.rest());
+    same!(&rt, places, [Some(9), Some(0), None]);
+    holds!(&rt, new.iter().eq(&[9, 2, 1, 0]));
     holds!(&rt, List::ptr_eq(&rest, &old) && !List::ptr_eq(&new, &old));
+    new.end();
+    holds!(&rt, old.iter().eq(&[2, 1, 0]));
     let empty: List<u64> = List::new();
     holds!(&rt, ok!(&rt, empty.rest()).is_empty());
 }
@@ -52,12 +43,4 @@ fn ten_million_nodes_end_in_a_loop(rt: HostRuntime) {
         (MANY, Some(0)),
     );
     list.end();
-}
-
-#[test]
-fn an_end_leaves_what_others_share(rt: HostRuntime) {
-    let old = ok!(&rt, up_to(rt.alloc(), 3));
-    let new = ok!(&rt, old.push(rt.alloc(), 9));
-    new.end();
-    holds!(&rt, old.iter().eq(&[2, 1, 0]));
 }

@@ -1,6 +1,6 @@
 // What rose trees share and drop.
 use facts::counted::{Counted, Tally};
-use facts::{holds, ok, same};
+use facts::{holds, ok, same, same_at};
 use shared_trees::{Rose, RoseError};
 use std::alloc::{AllocError, Global};
 
@@ -24,60 +24,33 @@ fn is_shared<V: Send + Sync>(a: &Rose<V>, b: &Rose<V>, path: &[usize]) -> bool {
     }
 }
 
-#[test]
-fn a_change_leaves_the_old_tree(rt: HostRuntime) {
-    let tally = Tally::new();
-    let old = ok!(&rt, six(rt.alloc(), &tally));
-    let new = ok!(
-        &rt,
-        old.with_value(rt.alloc(), &[1, 0], Counted::new(&tally, 9)),
-    );
-    same!(&rt, value_at(&old, &[1, 0]), Some(5));
-    same!(&rt, value_at(&new, &[1, 0]), Some(9));
-    same!(
-        &rt,
-        (value_at(&new, &[]), value_at(&new, &[1])),
-        (Some(1), Some(3)),
-    );
-    same!(
-        &rt,
-        (value_at(&new, &[0]), value_at(&new, &[2])),
-        (Some(2), Some(4)),
-    );
-    same!(
-        &rt,
-        (value_at(&new, &[1, 1]), value_at(&new, &[3])),
-        (Some(6), None),
-    );
-}
+// A path, the values there before and after a change at [1, 0], and whether both trees share the node.
+type Row = (&'static [usize], Option<u64>, Option<u64>, bool);
 
-#[test]
-fn a_change_shares_what_is_beside_its_path(rt: HostRuntime) {
-    let tally = Tally::new();
-    let old = ok!(&rt, six(rt.alloc(), &tally));
-    let new = ok!(
-        &rt,
-        old.with_value(rt.alloc(), &[1, 0], Counted::new(&tally, 9)),
-    );
-    holds!(
-        &rt,
-        is_shared(&old, &new, &[0]) && is_shared(&old, &new, &[2]),
-    );
-    holds!(&rt, is_shared(&old, &new, &[1, 1]));
-    holds!(
-        &rt,
-        !is_shared(&old, &new, &[]) && !is_shared(&old, &new, &[1]),
-    );
-    holds!(&rt, !is_shared(&old, &new, &[1, 0]));
-}
+const ROWS: [Row; 7] = [
+    (&[], Some(1), Some(1), false),
+    (&[0], Some(2), Some(2), true),
+    (&[1], Some(3), Some(3), false),
+    (&[2], Some(4), Some(4), true),
+    (&[3], None, None, false),
+    (&[1, 0], Some(5), Some(9), false),
+    (&[1, 1], Some(6), Some(6), true),
+];
 
-// The two nodes above the place are made of copies, and the place is given its value.
+// The two nodes above the place are made of copies, and the place is given its value. Each value ends with its last
+// tree.
 #[test]
-fn a_value_ends_with_its_last_tree(rt: HostRuntime) {
+fn a_change_makes_its_path_alone(rt: HostRuntime) {
     let tally = Tally::new();
     let old = ok!(&rt, six(rt.alloc(), &tally));
-    let new = old.with_value(rt.alloc(), &[1, 0], Counted::new(&tally, 9));
+    let changed = old.with_value(rt.alloc(), &[1, 0], Counted::new(&tally, 9));
+    let new = ok!(&rt, changed);
     same!(&rt, (tally.copies(), tally.drops()), (2, 0));
+    for (path, before, after, shared) in ROWS {
+        let found = (value_at(&old, path), value_at(&new, path));
+        same_at!(&rt, path, found, (before, after));
+        same_at!(&rt, path, is_shared(&old, &new, path), shared);
+    }
     drop(old);
     same!(&rt, tally.drops(), 3);
     drop(new);
@@ -129,15 +102,10 @@ fn a_deep_tree_is_changed_at_its_leaf(rt: HostRuntime) {
 #[test]
 fn errors_have_their_texts(rt: HostRuntime) {
     let alloc = rt.alloc();
-    let text = |error: RoseError| format!(in alloc; "{error}");
-    same!(
-        &rt,
-        ok!(&rt, text(RoseError::NoSuchPlace)).as_str(),
-        "no such place",
-    );
-    same!(
-        &rt,
-        ok!(&rt, text(RoseError::Memory)).as_str(),
-        "out of memory",
-    );
+    for (error, text) in [
+        (RoseError::NoSuchPlace, "no such place"),
+        (RoseError::Memory, "out of memory"),
+    ] {
+        same!(&rt, ok!(&rt, format!(in alloc; "{error}")).as_str(), text);
+    }
 }

@@ -10,15 +10,40 @@ const LARGE: Declared = Declared {
     border_width: None,
 };
 
+const THICK: Declared = Declared {
+    font_size: None,
+    border_width: Some(u32::MAX),
+};
+
+// A style shares the groups that its source leaves out, and those that all styles share stay as they are.
 #[test]
-fn a_style_shares_the_groups_that_its_source_leaves_out(rt: HostRuntime) {
+fn a_style_has_the_groups_of_its_source_alone(rt: HostRuntime) {
     let plain = ok!(&rt, Style::initial(rt.alloc()));
     let inline = ok!(&rt, Arc::new(rt.alloc(), Inline { declared: LARGE }));
     let large = ok!(&rt, plain.under_inline(rt.alloc(), inline));
-    holds!(&rt, Arc::ptr_eq(&plain.border, &large.border));
-    holds!(&rt, !Arc::ptr_eq(&plain.font, &large.font));
-    same!(&rt, (plain.font.size, large.font.size), (16, 40));
-    same!(&rt, (large.font.line_height, large.border.width), (20, 0));
+    let rule = Rule {
+        weight: 7,
+        declared: THICK,
+    };
+    let rule = ok!(&rt, Arc::new(rt.alloc(), rule));
+    let thick = ok!(&rt, plain.under_rule(rt.alloc(), rule));
+    let styles = [&plain, &large, &thick];
+    let sizes = styles.map(|style| (style.font.size, style.font.line_height, style.border.width));
+    let has_fonts = styles.map(|style| Arc::ptr_eq(&plain.font, &style.font));
+    let has_borders = styles.map(|style| Arc::ptr_eq(&plain.border, &style.border));
+    let static_fonts = styles.map(|style| style.font.is_static());
+    let static_borders = styles.map(|style| style.border.is_static());
+    same!(&rt, sizes, [(16, 20, 0), (40, 20, 0), (16, 20, u32::MAX)]);
+    same!(
+        &rt,
+        (has_fonts, has_borders),
+        ([true, false, true], [true, true, false])
+    );
+    same!(
+        &rt,
+        (static_fonts, static_borders),
+        ([true, false, true], [true, true, false])
+    );
 }
 
 #[test]
@@ -36,27 +61,6 @@ fn a_change_leaves_the_style_of_another_holder(rt: HostRuntime) {
     holds!(&rt, old.source.is_none());
     let source = new.source.as_ref().expect(&rt, "no source");
     holds!(&rt, source.is_first() && declared_by(source) == LARGE);
-}
-
-const THICK: Declared = Declared {
-    font_size: None,
-    border_width: Some(u32::MAX),
-};
-
-#[test]
-fn a_rule_leaves_the_groups_that_all_styles_share(rt: HostRuntime) {
-    let plain = ok!(&rt, Style::initial(rt.alloc()));
-    let rule = Rule {
-        weight: 7,
-        declared: THICK,
-    };
-    let rule = ok!(&rt, Arc::new(rt.alloc(), rule));
-    let thick = ok!(&rt, plain.under_rule(rt.alloc(), rule));
-    holds!(&rt, Arc::ptr_eq(&plain.font, &thick.font));
-    holds!(&rt, !Arc::ptr_eq(&plain.border, &thick.border));
-    same!(&rt, (plain.border.width, thick.border.width), (0, u32::MAX));
-    holds!(&rt, plain.font.is_static() && plain.border.is_static());
-    holds!(&rt, !thick.border.is_static());
 }
 
 // A plain element over two others.

@@ -2,7 +2,7 @@
 ghost use Rattle.std.specs.Prelude.{◌<◌};
 
 use cow_table::{CowTable, Iter, SetError};
-use facts::{again, holds, holds_at, ok, same};
+use facts::{again, holds, holds_at, ok, same, same_at};
 use std::alloc::{AllocError, Global};
 
 fn table_of(alloc: Global, items: &[u32], page_len: usize) -> Result<CowTable<u32>, AllocError>
@@ -29,40 +29,71 @@ fn shared_pages(a: &CowTable<u32>, b: &CowTable<u32>) -> [bool; 4] {
     [0, 1, 2, 3].map(|p| CowTable::page_ptr_eq(a, b, p))
 }
 
+// What a version sets, beside another one of the same items.
+struct Row {
+    items: &'static [u32],
+    page_len: usize,
+    place: usize,
+    value: u32,
+    set: Result<(), SetError>,
+    new_items: &'static [u32],
+    // Before and after.
+    shared: [[bool; 4]; 2],
+}
+
+const ROWS: [Row; 3] = [
+    Row {
+        items: &[1, 2, 3, 4, 5],
+        page_len: 2,
+        place: 2,
+        value: 9,
+        set: Ok(()),
+        new_items: &[1, 2, 9, 4, 5],
+        shared: [[true, true, true, false], [true, false, true, false]],
+    },
+    Row {
+        items: &[1, 2, 3],
+        page_len: 5,
+        place: 2,
+        value: 7,
+        set: Ok(()),
+        new_items: &[1, 2, 7],
+        shared: [[true, false, false, false], [false; 4]],
+    },
+    Row {
+        items: &[],
+        page_len: 3,
+        place: 0,
+        value: 1,
+        set: Err(SetError::NoPlace),
+        new_items: &[],
+        shared: [[false; 4], [false; 4]],
+    },
+];
+
+// Neither version has a place past its items.
 #[test]
 fn a_version_changes_alone(rt: HostRuntime) {
-    let a = ok!(&rt, table_of(rt.alloc(), &[1, 2, 3, 4, 5], 2));
-    let mut b = again!(&rt, &a);
-    same!(&rt, shared_pages(&a, &b), [true, true, true, false]);
-    same!(&rt, b.set(rt.alloc(), 2, 9), Ok(()));
-    holds!(
-        &rt,
-        reads(&a, &[1, 2, 3, 4, 5]) && reads(&b, &[1, 2, 9, 4, 5]),
-    );
-    same!(&rt, shared_pages(&a, &b), [true, false, true, false]);
-    same!(&rt, b.set(rt.alloc(), 5, 0), Err(SetError::NoPlace));
-    holds!(&rt, reads(&b, &[1, 2, 9, 4, 5]));
-}
-
-#[test]
-fn a_page_may_be_longer_than_the_list(rt: HostRuntime) {
-    let mut c = ok!(&rt, table_of(rt.alloc(), &[1, 2, 3], 5));
-    let mut d = again!(&rt, &c);
-    same!(&rt, shared_pages(&c, &d), [true, false, false, false]);
-    same!(&rt, d.set(rt.alloc(), 2, 7), Ok(()));
-    holds!(&rt, reads(&c, &[1, 2, 3]) && reads(&d, &[1, 2, 7]));
-    same!(&rt, shared_pages(&c, &d), [false; 4]);
-    same!(&rt, c.set(rt.alloc(), 3, 0), Err(SetError::NoPlace));
-}
-
-#[test]
-fn an_empty_list_has_no_place(rt: HostRuntime) {
-    let mut empty = ok!(&rt, table_of(rt.alloc(), &[], 3));
-    same!(&rt, (empty.len(), empty.get(0)), (0, None));
-    same!(&rt, empty.set(rt.alloc(), 0, 1), Err(SetError::NoPlace));
-    let copy = again!(&rt, &empty);
-    same!(&rt, shared_pages(&empty, &copy), [false; 4]);
-    holds!(&rt, reads(&empty, &[]));
+    let no_place = Err(SetError::NoPlace);
+    for (number, row) in ROWS.iter().enumerate() {
+        let mut old = ok!(&rt, table_of(rt.alloc(), row.items, row.page_len.max(1)));
+        let mut new = again!(&rt, &old);
+        let before = shared_pages(&old, &new);
+        let sets = [
+            new.set(rt.alloc(), row.place, row.value),
+            new.set(rt.alloc(), row.items.len(), 0),
+            old.set(rt.alloc(), row.items.len(), 0),
+        ];
+        let shared = [before, shared_pages(&old, &new)];
+        let are_read = reads(&old, row.items) && reads(&new, row.new_items);
+        same_at!(
+            &rt,
+            number,
+            (sets, are_read),
+            ([row.set, no_place, no_place], true)
+        );
+        same_at!(&rt, number, shared, row.shared);
+    }
 }
 
 #[test]
@@ -100,7 +131,7 @@ fn a_table_has_two_thousand_items(rt: HostRuntime) {
 }
 
 #[test]
-fn items_are_read_from_both_ends(rt: HostRuntime) {
+fn items_are_read_from_both_ends_and_by_their_index(rt: HostRuntime) {
     let table = ok!(&rt, table_of(rt.alloc(), &[1, 2, 3, 4, 5], 2));
     let mut items: Iter<'_, u32> = table.iter();
     let ends = [
@@ -109,33 +140,34 @@ fn items_are_read_from_both_ends(rt: HostRuntime) {
         items.next(),
         items.next_back(),
     ];
-    assert_eq!(rt; ends, [Some(&1), Some(&5), Some(&2), Some(&4)]);
     let copy = again!(&rt, &items);
-    same!(&rt, (items.len(), items.size_hint()), (1, (1, Some(1))));
-    assert_eq!(rt;
-        [items.next(), items.next_back(), items.next()],
-        [Some(&3), None, None]
+    let left = (items.len(), items.size_hint());
+    let rest = [items.next(), items.next_back(), items.next()];
+    same!(&rt, ends, [Some(&1), Some(&5), Some(&2), Some(&4)]);
+    same!(
+        &rt,
+        (left, rest),
+        ((1, (1, Some(1))), [Some(&3), None, None])
     );
-    same!(&rt, copy.copied().last(), Some(3));
-}
-
-#[test]
-fn an_item_that_is_there_is_read_by_its_index(rt: HostRuntime) {
-    let table = ok!(&rt, table_of(rt.alloc(), &[1, 2, 3, 4, 5], 2));
-    holds!(&rt, table.len() == 5);
     let mut sum = 0u32;
     for i in 0..table.len() {
         sum = sum.wrapping_mul(10).wrapping_add(table[i]);
     }
-    same!(&rt, sum, 12345);
+    same!(&rt, (copy.copied().last(), sum), (Some(3), 12345));
 }
 
 #[test]
-fn a_table_shows_its_items(rt: HostRuntime) {
+fn tables_and_errors_have_their_texts(rt: HostRuntime) {
     let alloc = rt.alloc();
     for (items, text) in [(&[][..], "[]"), (&[1, 2, 3][..], "[1, 2, 3]")] {
         let table = ok!(&rt, table_of(alloc, items, 2));
         same!(&rt, ok!(&rt, format!(in alloc; "{table:?}")).as_str(), text);
+    }
+    for (error, text) in [
+        (SetError::NoPlace, "no such place"),
+        (SetError::Memory, "out of memory"),
+    ] {
+        same!(&rt, ok!(&rt, format!(in alloc; "{error}")).as_str(), text);
     }
 }
 
@@ -179,20 +211,5 @@ fn shared_items_are_asked_too(rt: HostRuntime) {
     holds!(
         &rt,
         odd != copy && odd != odd && CowTable::page_ptr_eq(&odd, &copy, 0),
-    );
-}
-
-#[test]
-fn errors_have_their_texts(rt: HostRuntime) {
-    let alloc = rt.alloc();
-    same!(
-        &rt,
-        ok!(&rt, format!(in alloc; "{}", SetError::NoPlace)).as_str(),
-        "no such place",
-    );
-    same!(
-        &rt,
-        ok!(&rt, format!(in alloc; "{}", SetError::Memory)).as_str(),
-        "out of memory",
     );
 }

@@ -4,21 +4,17 @@ use servo_arc::Arc;
 use shared_trees::{Declared, Inline, TreeMap, restyle, versions};
 
 #[test]
-fn callers_read_both_lists_and_maps(rt: HostRuntime) {
+fn callers_read_both_versions(rt: HostRuntime) {
     let (old, new) = ok!(&rt, versions::two_lists(rt.alloc()));
     holds!(&rt, old.iter().eq(&[1]) && new.iter().eq(&[2, 1]));
     let map = ok!(&rt, TreeMap::new().insert(rt.alloc(), 3, 4));
     let values = ok!(&rt, versions::before_and_after(rt.alloc(), &map, 3, 5));
     same!(&rt, values, (Some(4), Some(5)));
-}
-
-#[test]
-fn callers_read_both_trees_and_styles(rt: HostRuntime) {
-    let (old, new) = ok!(&rt, restyle::two_leaves(rt.alloc()));
-    same!(&rt, (*old.value(), *new.value()), (1, 2));
+    let (old_leaf, new_leaf) = ok!(&rt, restyle::two_leaves(rt.alloc()));
+    same!(&rt, (*old_leaf.value(), *new_leaf.value()), (1, 2));
     same!(
         &rt,
-        ok!(&rt, restyle::before_and_after(rt.alloc(), &old, 7)),
+        ok!(&rt, restyle::before_and_after(rt.alloc(), &old_leaf, 7)),
         (1, 7),
     );
     let declared = Declared {

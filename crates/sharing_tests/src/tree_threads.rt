@@ -1,10 +1,13 @@
 // Versions on several threads, each of which is joined.
 use crate::lists::up_to;
+use crate::waiting::arrive;
 use callers::map_editions::{Edition, publish, read_all};
 use crossbeam_channel::{Receiver, Sender, unbounded};
 use facts::{again, ok};
+use shared_trees::List;
 use std::alloc::{AllocError, Global};
-use std::sync::Barrier;
+use std::process::Abort;
+use std::sync::atomic::AtomicU64;
 use std::test::Fail;
 use std::thread;
 
@@ -49,23 +52,18 @@ const ROUNDS: u32 = 20;
 // So many that a drop of each inside the one before may run out of stack.
 const NODES: u64 = 200_000;
 
+fn end(rt: &impl Abort, here: &AtomicU64, list: List<u64>) {
+    arrive(rt, here, 2);
+    list.end();
+}
+
 // Whichever thread ends its version last has to end the nodes, and neither knows that before.
 #[test]
 fn two_threads_end_one_long_list(rt: HostRuntime) {
     for _ in 0..ROUNDS {
+        let here = AtomicU64::new(0);
         let list = ok!(&rt, up_to(rt.alloc(), NODES));
         let same = again!(&rt, &list);
-        let both = Barrier::new(2);
-        thread::join(
-            &rt,
-            || {
-                both.wait(&rt);
-                list.end();
-            },
-            || {
-                both.wait(&rt);
-                same.end();
-            },
-        );
+        thread::join(&rt, || end(&rt, &here, list), || end(&rt, &here, same));
     }
 }

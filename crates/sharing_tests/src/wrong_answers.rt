@@ -1,78 +1,78 @@
-// How often `ptr_eq` errs while other threads ask the same of these blocks, as it may. Each test prints its figure;
-// what it asserts is that the answers are right again once the other threads are gone.
+// How often `ptr_eq` errs while other threads ask the same of these blocks, as it may. Each figure is printed, and has
+// a bound: with one sign in place of four, a fifth to a half of all answers on two blocks was wrong. Once the other
+// threads are gone the answers are right again.
 use crate::made::arc_of;
-use facts::{again, holds, ok};
+use facts::{again, holds, holds_at, ok};
 use servo_arc::Arc;
-use std::io::Print;
-use std::process::Abort;
 use std::thread;
+use std::thread::{Threads, join};
 
 const CALLS: u64 = 250_000;
 
-fn count_true(a: &Arc<u64>, b: &Arc<u64>) -> u64 {
+// Whether two threads keep in step differs from round to round, and the worst one is told.
+const ROUNDS: u64 = 20;
+
+type Pair<'a> = (&'a Arc<u64>, &'a Arc<u64>);
+
+fn count_true(pair: Pair<'_>) -> u64 {
     let mut told = 0u64;
     for _ in 0..CALLS {
-        if Arc::ptr_eq(a, b) {
+        if Arc::ptr_eq(pair.0, pair.1) {
             told = told.wrapping_add(1);
         }
     }
     told
 }
 
-fn tell(rt: &(impl Abort + Print), answer: &str, wrong: u64, calls: u64) {
-    ok!(rt, println!(rt; "{answer} {wrong} times of {calls}"));
+// Of the calls of two threads at once.
+fn count_true_of_two<R: Threads + Sync>(rt: &R, one: Pair<'_>, other: Pair<'_>) -> u64 {
+    let (first, second) = join(rt, || count_true(one), || count_true(other));
+    first.wrapping_add(second)
 }
 
 #[test]
-fn two_threads_ask_about_one_block(rt: HostRuntime) {
+fn two_threads_are_seldom_told_wrong(rt: HostRuntime) {
     let a = arc_of(&rt, 1u64);
     let b = again!(&rt, &a);
-    let told = thread::join(&rt, || count_true(&a, &b), || count_true(&a, &b));
-    let wrong = (2 * CALLS).wrapping_sub(told.0).wrapping_sub(told.1);
-    tell(&rt, "one block, two threads: false", wrong, 2 * CALLS);
-    holds!(&rt, Arc::ptr_eq(&a, &b));
+    let c = arc_of(&rt, 1u64);
+    let all = 2 * CALLS;
+    let mut most = [0u64; 3];
+    for _ in 0..ROUNDS {
+        let of_one = count_true_of_two(&rt, (&a, &b), (&a, &b));
+        let from_one_end = count_true_of_two(&rt, (&a, &c), (&a, &c));
+        let from_opposite_ends = count_true_of_two(&rt, (&a, &c), (&c, &a));
+        most = [
+            most[0].max(all.wrapping_sub(of_one)),
+            most[1].max(from_one_end),
+            most[2].max(from_opposite_ends),
+        ];
+    }
+    let rows = [
+        ("one block: false", most[0]),
+        ("two blocks, from one end: true", most[1]),
+        ("two blocks, from opposite ends: true", most[2]),
+    ];
+    for (answer, wrong) in rows {
+        ok!(&rt, println!(rt; "{answer} {wrong} times of {all}"));
+        holds_at!(&rt, answer, wrong < all / 6);
+    }
+    holds!(&rt, Arc::ptr_eq(&a, &b) && !Arc::ptr_eq(&a, &c));
 }
 
 #[test]
-fn four_threads_ask_about_one_block(rt: HostRuntime) {
+fn four_threads_are_seldom_told_wrong(rt: HostRuntime) {
     let a = arc_of(&rt, 1u64);
     let b = again!(&rt, &a);
+    let all = 4 * CALLS;
     let (one, two) = thread::join(
         &rt,
-        || thread::join(&rt, || count_true(&a, &b), || count_true(&a, &b)),
-        || thread::join(&rt, || count_true(&a, &b), || count_true(&a, &b)),
+        || count_true_of_two(&rt, (&a, &b), (&a, &b)),
+        || count_true_of_two(&rt, (&a, &b), (&a, &b)),
     );
-    let told = one
-        .0
-        .wrapping_add(one.1)
-        .wrapping_add(two.0)
-        .wrapping_add(two.1);
-    let wrong = (4 * CALLS).wrapping_sub(told);
-    tell(&rt, "one block, four threads: false", wrong, 4 * CALLS);
-    holds!(&rt, Arc::ptr_eq(&a, &b));
-}
-
-#[test]
-fn two_threads_ask_about_two_blocks_from_one_end(rt: HostRuntime) {
-    let a = arc_of(&rt, 1u64);
-    let b = arc_of(&rt, 1u64);
-    let told = thread::join(&rt, || count_true(&a, &b), || count_true(&a, &b));
-    let wrong = told.0.wrapping_add(told.1);
-    tell(&rt, "two blocks, from one end: true", wrong, 2 * CALLS);
-    holds!(&rt, !Arc::ptr_eq(&a, &b));
-}
-
-#[test]
-fn two_threads_ask_about_two_blocks_from_opposite_ends(rt: HostRuntime) {
-    let a = arc_of(&rt, 1u64);
-    let b = arc_of(&rt, 1u64);
-    let told = thread::join(&rt, || count_true(&a, &b), || count_true(&b, &a));
-    let wrong = told.0.wrapping_add(told.1);
-    tell(
+    let wrong = all.wrapping_sub(one).wrapping_sub(two);
+    ok!(
         &rt,
-        "two blocks, from opposite ends: true",
-        wrong,
-        2 * CALLS,
+        println!(rt; "one block, four threads: false {wrong} times of {all}")
     );
-    holds!(&rt, !Arc::ptr_eq(&a, &b));
+    holds!(&rt, Arc::ptr_eq(&a, &b) && wrong < all / 6);
 }

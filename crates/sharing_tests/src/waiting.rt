@@ -1,0 +1,27 @@
+// Waiting for other threads, by a counter of those that have come. A thread that waits for too long ends the test badly.
+use std::process::Abort;
+use std::sync::atomic::AtomicU64;
+use std::sync::atomic::Ordering::SeqCst;
+
+pub const MOST_TURNS: u64 = 100_000_000;
+
+/// Whether so many have come, in this turn of a waiting loop. The step on the counter takes longer than a load, which
+/// leaves the others time to run.
+pub fn have_come(rt: &impl Abort, came: &AtomicU64, number: u64, turn: u64) -> bool {
+    assert!(rt; turn < MOST_TURNS, "another thread did not come");
+    came.fetch_add(0, SeqCst) >= number
+}
+
+pub fn wait_for(rt: &impl Abort, came: &AtomicU64, number: u64) {
+    for turn in 0..=MOST_TURNS {
+        if have_come(rt, came, number, turn) {
+            return;
+        }
+    }
+}
+
+/// Comes, and waits for the others, so that all of them go on at once.
+pub fn arrive(rt: &impl Abort, came: &AtomicU64, number: u64) {
+    came.fetch_add(1, SeqCst);
+    wait_for(rt, came, number)
+}

@@ -3,160 +3,149 @@ ghost use Rattle.std.specs.Prelude.{◌==◌};
 ghost use Rattle.std.specs.Cmp.{on_per, partial_equiv_from_equiv};
 ghost use Rattle.std.proofs.lemmas.Cmp.{nat_eq_equiv};
 
-use facts::{again, holds, ok, same};
-use servo_arc::{Arc, BuildError, UniqueArc};
+use facts::{again, ok, same, same_at};
+use servo_arc::{Arc, BuildError, HeaderSlice, UniqueArc};
 use std::alloc::{AllocError, Global};
 use std::process::Abort;
 use std::sync::atomic::AtomicU64;
 use std::sync::atomic::Ordering::SeqCst;
 use std::vec::IntoIter;
 
-// Puts its name at the end of the log when it is dropped.
-struct Named<'a> {
-    name: u64,
-    log: &'a AtomicU64,
+/// How many values were dropped, and how many of them out of their turn.
+#[derive(Drop)]
+struct Log {
+    drops: AtomicU64,
+    misplaced: AtomicU64,
 }
 
-impl Drop for Named<'_> {
-    fn drop(self) {
-        let Named { name, log } = self;
-        let before = log.load(SeqCst);
-        log.store(before.wrapping_mul(10).wrapping_add(name), SeqCst);
+impl Log {
+    fn new() -> Log {
+        Log {
+            drops: AtomicU64::new(0),
+            misplaced: AtomicU64::new(0),
+        }
+    }
+
+    fn read(&self) -> (u64, u64) {
+        (self.drops.load(SeqCst), self.misplaced.load(SeqCst))
     }
 }
 
-impl PartialEq for Named<'_> {
-    ghost eq = { λ x y. x.name == y.name };
+/// A value whose turn comes after so many drops.
+struct Placed<'a> {
+    turn: u64,
+    log: &'a Log,
+}
 
-    ghost laws = { on_per (λ x. x.name) (partial_equiv_from_equiv nat_eq_equiv) };
+impl Drop for Placed<'_> {
+    fn drop(self) {
+        let Placed { turn, log } = self;
+        if log.drops.fetch_add(1, SeqCst) != turn {
+            log.misplaced.fetch_add(1, SeqCst);
+        }
+    }
+}
+
+impl PartialEq for Placed<'_> {
+    ghost eq = { λ x y. x.turn == y.turn };
+
+    ghost laws = { on_per (λ x. x.turn) (partial_equiv_from_equiv nat_eq_equiv) };
 
     fn eq(&self, other: &Self) -> bool {
-        self.name == other.name
+        self.turn == other.turn
     }
 }
 
-const HEADER: u64 = 9;
+fn in_turn(alloc: Global, number: u64, log: &Log) -> Result<IntoIter<Placed<'_>>, AllocError> {
+    let mut made = Vec::new(alloc);
+    for turn in 0..number {
+        made.push(Placed { turn, log })?;
+    }
+    Ok(made.into_iter())
+}
 
-const TWELVE: &[u64] = &[1, 2, 3, 4, 5, 6, 7, 8, 1, 2, 3, 4];
+/// So many items are asked for, so many are there, and so it is refused.
+type Row = (usize, u64, Option<BuildError>);
 
-fn items_named<'a>(
+type Built<'a> = Result<Arc<HeaderSlice<Placed<'a>, Placed<'a>>>, BuildError>;
+
+fn built<'a>(
     alloc: Global,
-    names: &[u64],
-    log: &'a AtomicU64,
-) -> Result<IntoIter<Named<'a>>, AllocError> {
-    let mut items = Vec::with_capacity(alloc, names.len())?;
-    for &name in names {
-        items.push(Named { name, log })?;
+    row: Row,
+    is_shared: bool,
+    log: &'a Log,
+) -> Result<Built<'a>, AllocError> {
+    let (num_items, number, _) = row;
+    let items = in_turn(alloc, number, log)?;
+    let header = Placed { turn: number, log };
+    if is_shared {
+        return Ok(Arc::from_header_and_iter_with_size(alloc, header, items, num_items));
     }
-    Ok(items.into_iter())
+    match UniqueArc::from_header_and_iter_with_size(alloc, header, items, num_items) {
+        Ok(unique) => Ok(Ok(unique.shareable())),
+        Err(refusal) => Ok(Err(refusal)),
+    }
 }
 
-#[derive(Drop)]
-struct Row<'a> {
-    num_items: usize,
-    names: &'a [u64],
-    refusal: Option<BuildError>,
-    expected: u64,
-}
-
-fn drops_shared(rt: &(impl Abort + AllocGlobal), row: &Row<'_>) {
-    let log = AtomicU64::new(0);
-    let header = Named {
-        name: HEADER,
-        log: &log,
-    };
-    let items = ok!(rt, items_named(rt.alloc(), row.names, &log));
-    match Arc::from_header_and_iter_with_size(rt.alloc(), header, items, row.num_items) {
-        Ok(shared) => {
-            same!(rt, (log.load(SeqCst), row.refusal), (0, None));
-            drop(shared);
-        }
-        Err(error) => same!(rt, Some(error), row.refusal),
-    }
-    same!(rt, log.load(SeqCst), row.expected);
-}
-
-fn drops_unique(rt: &(impl Abort + AllocGlobal), row: &Row<'_>) {
-    let log = AtomicU64::new(0);
-    let header = Named {
-        name: HEADER,
-        log: &log,
-    };
-    let items = ok!(rt, items_named(rt.alloc(), row.names, &log));
-    match UniqueArc::from_header_and_iter_with_size(rt.alloc(), header, items, row.num_items) {
-        Ok(unique) => {
-            same!(rt, (log.load(SeqCst), row.refusal), (0, None));
-            drop(unique);
-        }
-        Err(error) => same!(rt, Some(error), row.refusal),
-    }
-    same!(rt, log.load(SeqCst), row.expected);
+// All that was taken and then the header is dropped, each in its turn, and nothing before the slice is.
+fn drops_in_turn(rt: &(impl Abort + AllocGlobal), row: Row, is_shared: bool) {
+    let (_, items, refusal) = row;
+    let all = items.wrapping_add(1);
+    let log = Log::new();
+    let built = ok!(rt, built(rt.alloc(), row, is_shared, &log));
+    let before = if built.is_ok() { 0 } else { all };
+    let seen = (built.as_ref().err().copied(), log.read());
+    same_at!(rt, (row, is_shared), seen, (refusal, (before, 0)));
+    drop(built);
+    same_at!(rt, (row, is_shared), log.read(), (all, 0));
 }
 
 #[test]
 fn drops_items_in_order_and_then_the_header(rt: HostRuntime) {
+    let over = Some(BuildError::OverReported);
+    let under = Some(BuildError::UnderReported);
     let rows = [
-        (3, &[1, 2, 3][..], None, 1239),
-        (3, &[1, 2][..], Some(BuildError::OverReported), 129),
-        (1, &[1, 2][..], Some(BuildError::UnderReported), 129),
-        (0, &[1][..], Some(BuildError::UnderReported), 19),
-        (0, &[][..], None, 9),
-        (usize::MAX, &[][..], Some(BuildError::Memory), 9),
-        (12, TWELVE, None, 1_234_567_812_349),
-        (
-            13,
-            TWELVE,
-            Some(BuildError::OverReported),
-            1_234_567_812_349,
-        ),
-        (
-            11,
-            TWELVE,
-            Some(BuildError::UnderReported),
-            1_234_567_812_349,
-        ),
+        (3, 3, None),
+        (3, 2, over),
+        (1, 2, under),
+        (0, 1, under),
+        (0, 0, None),
+        (usize::MAX, 0, Some(BuildError::Memory)),
+        (12, 12, None),
+        (13, 12, over),
+        (11, 12, under),
+        (100, 100, None),
+        (101, 100, over),
+        (99, 100, under),
+        (5000, 5000, None),
     ];
-    for (num_items, names, refusal, expected) in rows {
-        let row = Row {
-            num_items,
-            names,
-            refusal,
-            expected,
-        };
-        drops_shared(&rt, &row);
-        drops_unique(&rt, &row);
+    for row in rows {
+        drops_in_turn(&rt, row, true);
+        drops_in_turn(&rt, row, false);
     }
 }
 
 #[test]
 fn drops_the_header_once(rt: HostRuntime) {
-    let log = AtomicU64::new(0);
-    let header = Named {
-        name: HEADER,
-        log: &log,
-    };
+    let log = Log::new();
     let items = ok!(&rt, vec![in rt.alloc(); 5u64, 6]).into_iter();
+    let header = Placed { turn: 0, log: &log };
     let shared = ok!(&rt, Arc::from_header_and_iter(rt.alloc(), header, items));
-    let other = again!(&rt, &shared);
-    drop(other);
-    holds!(&rt, *shared == *shared);
-    same!(&rt, log.load(SeqCst), 0);
+    drop(again!(&rt, &shared));
+    let is_itself = *shared == *shared;
+    let before = log.read();
     drop(shared);
-    same!(&rt, log.load(SeqCst), HEADER);
+    same!(&rt, (is_itself, before, log.read()), (true, (0, 0), (1, 0)));
 }
 
 #[test]
 fn keeps_the_values_of_a_static_slice(rt: HostRuntime) {
-    let log = AtomicU64::new(0);
-    let header = Named {
-        name: HEADER,
-        log: &log,
-    };
-    let items = ok!(&rt, items_named(rt.alloc(), &[1, 2], &log));
-    let shared = ok!(
+    let log = Log::new();
+    let items = ok!(&rt, in_turn(rt.alloc(), 2, &log));
+    let header = Placed { turn: 2, log: &log };
+    drop(ok!(
         &rt,
         Arc::from_header_and_iter_alloc(rt.alloc(), header, items, 2, true),
-    );
-    drop(shared);
-    same!(&rt, log.load(SeqCst), 0);
+    ));
+    same!(&rt, log.read(), (0, 0));
 }

@@ -1,8 +1,8 @@
 // How often an iterator is asked, and what is built of what it answers.
 ghost use Rattle.std.specs.Prelude.{◌≤◌};
 
-use facts::{ok, same};
-use servo_arc::{Arc, BuildError, UniqueArc};
+use facts::{ok, same, same_at};
+use servo_arc::{Arc, BuildError, ThinArc, UniqueArc};
 use std::alloc::{AllocError, Global};
 use std::fmt::Debug;
 use std::process::Abort;
@@ -46,30 +46,39 @@ fn source_of<'a, T: Copy>(
     })
 }
 
-fn run_shared<T: Copy + Debug + PartialEq + Send + Sync>(
-    rt: &(impl Abort + AllocGlobal),
+type Built<T> = Result<ThinArc<u8, T>, BuildError>;
+
+fn check_built<T: Debug + PartialEq + Send + Sync + Drop>(
+    rt: &impl Abort,
     row: &Row<T>,
+    built: Built<T>,
+    asked: &AtomicU64,
 ) {
-    let asked = AtomicU64::new(0);
-    let source = ok!(rt, source_of(rt.alloc(), row.answers, &asked));
-    match Arc::from_header_and_iter_with_size(rt.alloc(), 7u8, source, row.num_items) {
-        Ok(shared) => same!(rt, Ok(shared.slice()), row.expected),
-        Err(refusal) => same!(rt, Err(refusal), row.expected),
+    match built {
+        Ok(slice) => same_at!(rt, row.num_items, Ok(slice.slice()), row.expected),
+        Err(refusal) => same_at!(rt, row.num_items, Err(refusal), row.expected),
     }
-    same!(rt, asked.load(SeqCst), row.asks);
+    same_at!(rt, row.num_items, asked.load(SeqCst), row.asks);
 }
 
-fn run_unique<T: Copy + Debug + PartialEq + Send + Sync>(
+// Each row through both makers.
+fn check<T: Copy + Debug + PartialEq + Send + Sync + Drop>(
     rt: &(impl Abort + AllocGlobal),
     row: &Row<T>,
 ) {
+    let alloc = rt.alloc();
     let asked = AtomicU64::new(0);
-    let source = ok!(rt, source_of(rt.alloc(), row.answers, &asked));
-    match UniqueArc::from_header_and_iter_with_size(rt.alloc(), 7u8, source, row.num_items) {
-        Ok(unique) => same!(rt, Ok(unique.slice()), row.expected),
-        Err(refusal) => same!(rt, Err(refusal), row.expected),
-    }
-    same!(rt, asked.load(SeqCst), row.asks);
+    let source = ok!(rt, source_of(alloc, row.answers, &asked));
+    let shared = Arc::from_header_and_iter_with_size(alloc, 7u8, source, row.num_items);
+    check_built(rt, row, shared, &asked);
+    let asked = AtomicU64::new(0);
+    let source = ok!(rt, source_of(alloc, row.answers, &asked));
+    let unique = UniqueArc::from_header_and_iter_with_size(alloc, 7u8, source, row.num_items);
+    let shared = match unique {
+        Ok(unique) => Ok(unique.shareable()),
+        Err(refusal) => Err(refusal),
+    };
+    check_built(rt, row, shared, &asked);
 }
 
 #[test]
@@ -120,8 +129,7 @@ fn asks_once_more_and_never_after_none(rt: HostRuntime) {
             expected,
             asks,
         };
-        run_shared(&rt, &row);
-        run_unique(&rt, &row);
+        check(&rt, &row);
     }
 }
 
@@ -148,8 +156,7 @@ fn takes_items_without_size(rt: HostRuntime) {
             expected,
             asks,
         };
-        run_shared(&rt, &row);
-        run_unique(&rt, &row);
+        check(&rt, &row);
     }
 }
 
@@ -189,11 +196,9 @@ impl ExactSizeIterator for Boasting<'_> {
     }
 }
 
-fn boaster(claimed: usize, asked: &AtomicU64) -> Boasting<'_>
-    requires { 3 ≤ claimed }
-{
+fn boaster(claimed: usize, asked: &AtomicU64) -> Boasting<'_> {
     Boasting {
-        claimed,
+        claimed: claimed.max(3),
         left: 3,
         asked,
     }
@@ -201,20 +206,19 @@ fn boaster(claimed: usize, asked: &AtomicU64) -> Boasting<'_>
 
 #[test]
 fn asks_the_iterator_for_the_number_once(rt: HostRuntime) {
+    let alloc = rt.alloc();
     let asked = AtomicU64::new(0);
-    for claimed in [3, 4] {
-        let expected = if claimed == 3 {
-            Ok(&[2, 1, 0][..])
-        } else {
-            Err(BuildError::OverReported)
-        };
-        match Arc::from_header_and_iter(rt.alloc(), 1u64, boaster(claimed, &asked)) {
-            Ok(shared) => same!(&rt, Ok(shared.slice()), expected),
-            Err(refusal) => same!(&rt, Err(refusal), expected),
+    let rows = [(3, Ok(&[2, 1, 0][..])), (4, Err(BuildError::OverReported))];
+    for (claimed, expected) in rows {
+        let shared = Arc::from_header_and_iter(alloc, 1u8, boaster(claimed, &asked));
+        let unique = UniqueArc::from_header_and_iter(alloc, 1u8, boaster(claimed, &asked));
+        match shared {
+            Ok(slice) => same_at!(&rt, claimed, Ok(slice.slice()), expected),
+            Err(refusal) => same_at!(&rt, claimed, Err(refusal), expected),
         }
-        match UniqueArc::from_header_and_iter(rt.alloc(), 1u64, boaster(claimed, &asked)) {
-            Ok(unique) => same!(&rt, Ok(unique.slice()), expected),
-            Err(refusal) => same!(&rt, Err(refusal), expected),
+        match unique {
+            Ok(slice) => same_at!(&rt, claimed, Ok(slice.slice()), expected),
+            Err(refusal) => same_at!(&rt, claimed, Err(refusal), expected),
         }
     }
     same!(&rt, asked.load(SeqCst), 4);

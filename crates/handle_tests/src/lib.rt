@@ -3,13 +3,9 @@
 #![tactic(auto)]
 
 #[cfg(test)]
-mod borrows;
-#[cfg(test)]
 mod by_bound;
 #[cfg(test)]
 mod by_value;
-#[cfg(test)]
-mod core_runs;
 #[cfg(test)]
 mod core_steps;
 #[cfg(test)]
@@ -18,6 +14,8 @@ mod drop_order;
 mod header_slices;
 #[cfg(test)]
 mod iterators;
+#[cfg(test)]
+mod laws;
 #[cfg(test)]
 mod limits;
 #[cfg(test)]
@@ -31,6 +29,8 @@ mod pages;
 #[cfg(test)]
 mod put;
 #[cfg(test)]
+mod same_blocks;
+#[cfg(test)]
 mod script_runs;
 #[cfg(test)]
 mod sizes;
@@ -40,6 +40,8 @@ mod static_arcs;
 mod table_rows;
 #[cfg(test)]
 mod telling;
+#[cfg(test)]
+mod texts;
 #[cfg(test)]
 mod told;
 #[cfg(test)]

@@ -1,5 +1,5 @@
 // Handles that know their block to be marked, in one thread.
-use crate::by_bound::{are_equal, crosses_threads};
+use crate::by_bound::are_equal;
 use crate::made::arc_of;
 use facts::counted::{Counted, Tally};
 use facts::{again, holds, ok, same};
@@ -9,11 +9,6 @@ use std::collections::HashMap;
 use std::sync::OnceLock;
 
 type Kept<T> = StaticArc<'static, T>;
-
-#[test]
-fn static_handles_cross_threads() {
-    crosses_threads::<Kept<u64>>();
-}
 
 #[test]
 fn a_static_value_gives_handles_without_end(rt: HostRuntime) {

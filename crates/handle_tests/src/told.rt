@@ -1,8 +1,6 @@
 //! Commands, each with the reply that it should get.
-use facts::same_at;
-use servo_arc::table::{Reply, Table};
+use servo_arc::table::Reply;
 use std::alloc::{AllocError, Global};
-use std::process::Abort;
 
 pub fn parted<C: Drop>(
     alloc: Global,
@@ -14,12 +12,4 @@ pub fn parted<C: Drop>(
         replies.push(reply)?;
     }
     Ok((commands, replies))
-}
-
-pub fn same_slots(rt: &impl Abort, table: &Table<u32>, left: &[Option<u32>]) {
-    for (i, value) in left.iter().enumerate() {
-        same_at!(rt, i, table.get(i).copied(), *value);
-    }
-    same_at!(rt, left.len(), table.get(left.len()).copied(), None);
-    same_at!(rt, left.len(), table.slots(), left.len());
 }

@@ -1,49 +1,85 @@
-// Unions of handles.
-use crate::by_bound::{are_equal, crosses_threads};
+// Borrowed handles, and unions of handles.
+use crate::by_bound::are_equal;
 use crate::made::arc_of;
-use facts::{again, holds, ok, same};
+use facts::{again, ok, same};
 use servo_arc::{Arc, ArcBorrow, ArcUnion, ArcUnionBorrow};
 
 type Numbers = ArcUnion<u32, u32>;
 
-#[test]
-fn unions_cross_threads() {
-    crosses_threads::<Numbers>();
-    crosses_threads::<ArcBorrow<'_, u32>>();
+// It outlives the borrow that it came by.
+fn value_of<'a>(handle: &'a Arc<u32>) -> &'a u32 {
+    let borrow = handle.borrow_arc();
+    borrow.get()
 }
 
 #[test]
-fn a_first_is_no_second(rt: HostRuntime) {
+fn a_borrow_reads_and_clones(rt: HostRuntime) {
+    let (a, other) = (arc_of(&rt, 7u32), arc_of(&rt, 7u32));
+    let b = a.borrow_arc();
+    let next = b.with_arc(|handle: &Arc<u32>| (**handle).wrapping_add(1));
+    let was_unique = b.with_arc(|handle: &Arc<u32>| handle.is_unique());
+    let c = ok!(&rt, b.clone_arc(&rt));
+    let same = [
+        Arc::ptr_eq(&a, &c),
+        ArcBorrow::ptr_eq(&b, &c.borrow_arc()),
+        ArcBorrow::ptr_eq(&b, &other.borrow_arc()),
+    ];
+    same!(
+        &rt,
+        (*b.get(), *value_of(&a), *c, next, was_unique, a.is_unique()),
+        (7, 7, 7, 8, true, false),
+    );
+    same!(&rt, same, [true, true, false]);
+}
+
+#[test]
+fn borrows_are_copied_and_compared_by_value(rt: HostRuntime) {
+    let (a, equal, other) = (arc_of(&rt, 7u32), arc_of(&rt, 7u32), arc_of(&rt, 8u32));
+    let b = a.borrow_arc();
+    let copied = b;
+    let found = [
+        b == copied,
+        b == again!(&rt, &b),
+        are_equal(&b, &equal.borrow_arc()),
+        b == other.borrow_arc(),
+        a.is_unique(),
+    ];
+    same!(&rt, found, [true, true, true, false, true]);
+}
+
+fn is_seven(borrow: Option<ArcBorrow<'_, u32>>) -> bool {
+    matches!(borrow, Some(value) if *value == 7)
+}
+
+#[test]
+fn unions_are_compared_by_kind_and_value(rt: HostRuntime) {
     let first = Numbers::from_first(arc_of(&rt, 7));
     let second = Numbers::from_second(arc_of(&rt, 7));
-    holds!(&rt, first.is_first() && !first.is_second());
-    holds!(&rt, second.is_second() && !second.is_first());
-    holds!(
-        &rt,
-        first.as_second().is_none() && second.as_first().is_none(),
-    );
-    same!(&rt, first.as_first().map(|a| *a), Some(7));
-    same!(&rt, second.as_second().map(|b| *b), Some(7));
-    holds!(&rt, first != second && !ArcUnion::ptr_eq(&first, &second));
-}
-
-#[test]
-fn unions_of_one_kind_are_compared_by_value(rt: HostRuntime) {
-    let seven = Numbers::from_first(arc_of(&rt, 7));
     let other = Numbers::from_first(arc_of(&rt, 7));
     let eight = Numbers::from_first(arc_of(&rt, 8));
-    holds!(
+    let kinds = [
+        (first.is_first(), first.is_second()),
+        (second.is_first(), second.is_second()),
+    ];
+    let halves = [
+        (is_seven(first.as_first()), first.as_second().is_none()),
+        (second.as_first().is_none(), is_seven(second.as_second())),
+    ];
+    let equal = [
+        are_equal(&first, &other),
+        first == second,
+        first == eight,
+        Numbers::ptr_eq(&first, &second),
+        Numbers::ptr_eq(&first, &other),
+    ];
+    same!(
         &rt,
-        seven == other && seven != eight && are_equal(&seven, &other),
-    );
-    holds!(&rt, !ArcUnion::ptr_eq(&seven, &other));
-    let copy = again!(&rt, &seven);
-    holds!(&rt, seven == copy && ArcUnion::ptr_eq(&seven, &copy));
-    let one_block = arc_of(&rt, 7);
-    let shared = Numbers::from_second(again!(&rt, &one_block));
-    holds!(
-        &rt,
-        !ArcUnion::ptr_eq(&Numbers::from_first(one_block), &shared),
+        (kinds, halves, equal),
+        (
+            [(true, false), (false, true)],
+            [(true, true), (true, true)],
+            [true, false, false, false, false],
+        ),
     );
 }
 
@@ -52,27 +88,13 @@ fn a_borrow_of_a_union_is_cloned_without_bound(rt: HostRuntime) {
     let union = ArcUnion::<u32, u64>::from_second(arc_of(&rt, 7u64));
     let borrow = union.borrow();
     let copied = borrow;
-    holds!(&rt, matches!(borrow, ArcUnionBorrow::Second(_)));
     let read = match again!(&rt, &copied) {
-        ArcUnionBorrow::First(_) => None,
-        ArcUnionBorrow::Second(borrow) => borrow.clone_arc(&rt).ok().map(|handle| *handle),
+        ArcUnionBorrow::First(_) => 0,
+        ArcUnionBorrow::Second(borrow) => *ok!(&rt, borrow.clone_arc(&rt)),
     };
-    same!(&rt, read, Some(7));
-}
-
-#[test]
-fn unions_have_their_texts(rt: HostRuntime) {
-    let first = Numbers::from_first(arc_of(&rt, 7));
-    let second = Numbers::from_second(arc_of(&rt, 7));
-    let text = ok!(&rt, format!(in rt.alloc(); "{:?} {:?}", first, second));
     same!(
         &rt,
-        text.as_str(),
-        "First(ArcBorrow(7)) Second(ArcBorrow(7))",
+        (matches!(borrow, ArcUnionBorrow::Second(_)), read),
+        (true, 7),
     );
-    let borrowed = ok!(
-        &rt,
-        format!(in rt.alloc(); "{:?} {:?}", first.borrow(), second.borrow()),
-    );
-    same!(&rt, borrowed.as_str(), text.as_str());
 }

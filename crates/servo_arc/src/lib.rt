@@ -1,13 +1,13 @@
 //! Counted pointers without weak references.
 //!
 //! `Arc` shares a value, `UniqueArc` writes it first, `ArcUnion` is one of two, `ThinArc` a header with a list. `table`
-//! and `union_table` run commands on handles; `counting_core` and `word` are their protocol. `shared_count` is a count without a value,
-//! whose replies form one history over threads. The modules stand in the crates below, and this one has no code.
+//! runs commands on handles and on unions; `union_table` is another name for the latter. `counting_core` and `word` are
+//! their protocol. `shared_count` is a count without a value, whose replies form one history over threads. The modules
+//! stand in the crates below, and this one has no code.
 #![tactic(auto)]
 
 pub use counting_core;
 pub use counting_word as word;
-pub use handle_tables::table;
 pub use handles::arc::{Arc, Full, RawArc};
 pub use handles::arc_union::{ArcUnion, ArcUnionBorrow, ThinArcUnion};
 pub use handles::borrow::ArcBorrow;
@@ -17,3 +17,9 @@ pub use handles::unique::{UninitArc, UniqueArc};
 pub use handles::{arc, arc_union, borrow, header_slice, unique};
 pub use shared_count;
 pub use union_tables::union_table;
+
+/// Tables of handles, and of unions of them.
+pub mod table {
+    pub use handle_tables::table::{Command, PlainCommand, Reply, Table, laws};
+    pub use union_tables::union_table::{UnionCommand, UnionTable};
+}

@@ -2,7 +2,7 @@
 use super::runs::Row;
 use std::test::Fail;
 
-const ONE_OWNER: [Row; 13] = [
+const ONE_OWNER: [Row; 14] = [
     Row {
         name: "the last handle gives the value up",
         size: "1",
@@ -54,8 +54,14 @@ const ONE_OWNER: [Row; 13] = [
     Row {
         name: "nothing in flight is gone on with",
         size: "1",
-        script: "raise 0 / lower 0 / quit 0 / clone 0 0 / quit 0 / drop 0 0 / lower 0",
-        answers: "barred / barred / barred / pending / quit / pending / given up 5",
+        script: "raise 0 / lower 0 / quit 0",
+        answers: "barred / barred / barred",
+    },
+    Row {
+        name: "a clone that is given up makes no handle",
+        size: "1",
+        script: "clone 0 0 / quit 0 / drop 0 0 / lower 0",
+        answers: "pending / quit / pending / given up 5",
     },
     Row {
         name: "the only handle is written in place",
@@ -83,7 +89,7 @@ const ONE_OWNER: [Row; 13] = [
     },
 ];
 
-const TWO_OWNERS: [Row; 12] = [
+const TWO_OWNERS: [Row; 13] = [
     Row {
         name: "an owner without a handle is barred",
         size: "2",
@@ -109,7 +115,13 @@ const TWO_OWNERS: [Row; 12] = [
         answers: "done / pending / marked / born 1 / is true",
     },
     Row {
-        name: "a drop in flight when the mark comes",
+        name: "a drop in flight when the mark comes gives no value up",
+        size: "2",
+        script: "lend 0 0 1 / clone 1 0 / raise 1 / return 1 0 / drop 1 1 / mark 0 0 / lower 1 / drop 0 0",
+        answers: "done / pending / born 1 / done / pending / marked / ended / ended",
+    },
+    Row {
+        name: "a clone after the mark is born beside a drop in flight",
         size: "2",
         script: "lend 0 0 1 / clone 1 0 / raise 1 / return 1 0 / drop 1 1 / mark 0 0 / clone 0 0 / lower 1 / drop 0 0 / drop 0 2",
         answers: "done / pending / born 1 / done / pending / marked / born 2 / ended / ended / ended",

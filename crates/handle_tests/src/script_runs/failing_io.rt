@@ -1,6 +1,6 @@
 //! Runs whose input, output or standard error fails.
-use super::fakes::{FailingReader, FailingWriter};
-use facts::{holds, holds_at, same, same_at};
+use super::fakes::{FailingReader, FailingWriter, ShortWriter};
+use facts::{same, same_at};
 use scripts::bench;
 use std::alloc::{AllocError, Global};
 use std::io;
@@ -41,15 +41,30 @@ fn tells_of_input_that_cannot_be_read(rt: HostRuntime) {
             let mut input = FailingReader::new(*script, reads_before);
             let (mut output, mut errors) = (Vec::new(alloc), Vec::new(alloc));
             let status = bench(alloc, &[*kind, "1"], &mut input, &mut output, &mut errors);
-            let (printed, told, wanted) = if reads_before < READS {
+            let expected = if reads_before < READS {
                 (b"".as_slice(), b"fault: input\n".as_slice(), 3)
             } else {
                 (*answers, b"".as_slice(), 0)
             };
-            same_at!(&rt, (kind, reads_before), status, wanted);
-            same_at!(&rt, (kind, reads_before), output.as_slice(), printed);
-            same_at!(&rt, (kind, reads_before), errors.as_slice(), told);
+            let seen = (output.as_slice(), errors.as_slice(), status);
+            same_at!(&rt, (kind, reads_before), seen, expected);
         }
+    }
+}
+
+#[test]
+fn reads_a_script_that_comes_byte_by_byte(rt: HostRuntime) {
+    let alloc = rt.alloc();
+    for Short {
+        kind,
+        script,
+        answers,
+    } in &SHORT {
+        let (mut output, mut errors) = (Vec::new(alloc), Vec::new(alloc));
+        let mut input = FailingReader::by_bytes(*script, usize::MAX);
+        let status = bench(alloc, &[*kind, "1"], &mut input, &mut output, &mut errors);
+        let seen = (output.as_slice(), errors.len(), status);
+        same_at!(&rt, kind, seen, (*answers, 0, 0));
     }
 }
 
@@ -64,9 +79,8 @@ fn ends_at_a_failed_write(rt: HostRuntime) {
         ] {
             let (mut output, mut errors) = (FailingWriter::new(alloc, 0), Vec::new(alloc));
             let status = bench(alloc, &[kind, "1"], &mut &*script, &mut output, &mut errors);
-            same_at!(&rt, (kind, script), status, 4);
-            holds_at!(&rt, (kind, script), output.held.is_empty());
-            holds_at!(&rt, (kind, script), errors.is_empty());
+            let seen = (status, output.held.len(), errors.len());
+            same_at!(&rt, (kind, script), seen, (4, 0, 0));
         }
     }
 }
@@ -119,30 +133,43 @@ fn writes_nothing_after_a_failed_part(rt: HostRuntime) -> Result<(), Fail> {
                 &mut output,
                 &mut errors,
             );
-            holds_at!(
-                &rt,
-                (kind, writes_before),
+            let seen = (
                 answers.starts_with(&output.held),
-            );
-            same_at!(
-                &rt,
-                (kind, writes_before),
                 output.held == answers,
-                3 <= writes_before,
-            );
-            same_at!(
-                &rt,
-                (kind, writes_before),
                 output.has_failed,
-                writes_before <= 3,
+                status,
+                errors.len(),
             );
+            let (is_whole, has_failed) = (3 <= writes_before, writes_before <= 3);
+            let wanted = if has_failed { 4 } else { 0 };
             same_at!(
                 &rt,
                 (kind, writes_before),
-                status,
-                if output.has_failed { 4 } else { 0 },
+                seen,
+                (true, is_whole, has_failed, wanted, 0),
             );
-            holds_at!(&rt, (kind, writes_before), errors.is_empty());
+        }
+    }
+    Ok(())
+}
+
+#[test]
+fn writes_all_through_short_and_interrupted_writes(rt: HostRuntime) -> Result<(), Fail> {
+    let alloc = rt.alloc();
+    for Repeated { kind, line, answer } in &REPEATED {
+        let script = repeat(alloc, *line, LINES)?;
+        let answers = repeat(alloc, *answer, LINES)?;
+        for most in [1, 7, 1000, 65_535] {
+            let (mut output, mut errors) = (ShortWriter::new(alloc, most), Vec::new(alloc));
+            let status = bench(
+                alloc,
+                &[*kind, "1"],
+                &mut script.as_slice(),
+                &mut output,
+                &mut errors,
+            );
+            let seen = (output.held == answers, status, errors.len());
+            same_at!(&rt, (kind, most), seen, (true, 0, 0));
         }
     }
     Ok(())
@@ -151,13 +178,19 @@ fn writes_nothing_after_a_failed_part(rt: HostRuntime) -> Result<(), Fail> {
 #[test]
 fn keeps_the_status_where_errors_cannot_be_written(rt: HostRuntime) {
     let alloc = rt.alloc();
-    let (mut output, mut errors) = (Vec::new(alloc), FailingWriter::new(alloc, 0));
-    let status = bench(alloc, &["core"], &mut io::empty(), &mut output, &mut errors);
-    same!(&rt, status, 1);
-    holds!(&rt, errors.has_failed);
+    let (mut output, mut told) = (Vec::new(alloc), FailingWriter::new(alloc, 0));
+    let wrong = bench(alloc, &["core"], &mut io::empty(), &mut output, &mut told);
     let (mut input, mut errors) = (FailingReader::new(b"", 0), FailingWriter::new(alloc, 0));
-    let status = bench(alloc, &["table", "1"], &mut input, &mut output, &mut errors);
-    same!(&rt, status, 3);
-    holds!(&rt, errors.has_failed);
-    holds!(&rt, output.is_empty());
+    let unread = bench(alloc, &["table", "1"], &mut input, &mut output, &mut errors);
+    same!(
+        &rt,
+        (
+            wrong,
+            told.has_failed,
+            unread,
+            errors.has_failed,
+            output.len()
+        ),
+        (1, true, 3, true, 0),
+    );
 }

@@ -7,10 +7,11 @@ use std::alloc::Global;
 use std::io;
 use std::io::{ErrorKind, Read, Write};
 
-/// Gives a script a line at each read, and fails at one read.
+/// Gives a script a line, or less of one, at each read, and fails at one read.
 #[derive(Drop)]
 pub struct FailingReader<'a> {
     script: &'a [u8],
+    most: usize,
     reads_before: usize,
     has_failed: bool,
 }
@@ -19,6 +20,17 @@ impl<'a> FailingReader<'a> {
     pub fn new(script: &'a [u8], reads_before: usize) -> Self {
         FailingReader {
             script,
+            most: usize::MAX,
+            reads_before,
+            has_failed: false,
+        }
+    }
+
+    /// Gives a byte at each read.
+    pub fn by_bytes(script: &'a [u8], reads_before: usize) -> Self {
+        FailingReader {
+            script,
+            most: 1,
             reads_before,
             has_failed: false,
         }
@@ -40,6 +52,7 @@ impl Read for FailingReader<'_> {
             .split_inclusive(|byte| *byte == b'\n')
             .next()
             .unwrap_or_default();
+        line = line.get(..self.most).unwrap_or(line);
         let count = line.read(buf)?;
         self.script = self.script.get(count..).unwrap_or_default();
         Ok(count)
@@ -83,5 +96,39 @@ impl Write for FailingWriter {
 
     fn flush(&mut self) -> io::Result<()> {
         self.fail_in_turn()
+    }
+}
+
+/// Holds what is written. Each write is interrupted first, and then takes a few bytes of it.
+#[derive(Drop)]
+pub struct ShortWriter {
+    pub held: Vec<u8>,
+    most: usize,
+    was_interrupted: bool,
+}
+
+impl ShortWriter {
+    pub fn new(alloc: Global, most: usize) -> Self {
+        ShortWriter {
+            held: Vec::new(alloc),
+            most,
+            was_interrupted: false,
+        }
+    }
+}
+
+impl Write for ShortWriter {
+    fn write(&mut self, buf: &[u8]) -> io::Result<usize>
+        ensures { WritesAtMost result buf.now }
+    {
+        self.was_interrupted = !self.was_interrupted;
+        if self.was_interrupted {
+            return Err(io::Error::from(ErrorKind::Interrupted));
+        }
+        self.held.write(buf.get(..self.most).unwrap_or(buf))
+    }
+
+    fn flush(&mut self) -> io::Result<()> {
+        Ok(())
     }
 }

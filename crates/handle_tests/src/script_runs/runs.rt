@@ -1,5 +1,5 @@
 // Runs of the program, and rows of them.
-use facts::{holds_at, same_at};
+use facts::same_at;
 use scripts::bench;
 use std::alloc::{AllocError, Global};
 use std::process::Abort;
@@ -20,6 +20,15 @@ pub fn run_bench(alloc: Global, words: &[&str], mut script: &[u8]) -> Ran {
         errors,
         status,
     }
+}
+
+/// The lines, so many times.
+pub fn repeated(alloc: Global, lines: &str, times: usize) -> Result<String, AllocError> {
+    let mut script = String::with_capacity(alloc, times.saturating_mul(lines.len()))?;
+    for _ in 0..times {
+        script.push_str(lines)?;
+    }
+    Ok(script)
 }
 
 /// The lines of a text in which they are separated by ` / `.
@@ -56,14 +65,13 @@ impl Row {
             words.push(word)?;
         }
         let ran = run_bench(alloc, &words, script.as_bytes());
+        let printed = str::from_utf8(&ran.output).unwrap_or("no text");
         same_at!(
             rt,
             name,
-            str::from_utf8(&ran.output).unwrap_or("no text"),
-            answers.as_str(),
+            (printed, ran.status, ran.errors.len()),
+            (answers.as_str(), 0, 0),
         );
-        same_at!(rt, name, ran.status, 0);
-        holds_at!(rt, name, ran.errors.is_empty());
         Ok(())
     }
 }

@@ -2,7 +2,7 @@
 use super::runs::Row;
 use std::test::Fail;
 
-const TABLES: [Row; 19] = [
+const TABLES: [Row; 20] = [
     Row {
         name: "a slot is filled and read",
         size: "1",
@@ -62,6 +62,12 @@ const TABLES: [Row; 19] = [
         size: "3",
         script: "new 0 5 / clone 0 1 / clone 0 2 / own 1 / ptreq 0 1 / ptreq 0 2 / ptreq 1 2 / makemut 2 4294967295 / ptreq 0 2 / get 0 / get 1 / get 2",
         answers: "done / done / done / done / is false / is true / is false / done / is false / value 5 / value 5 / value 4294967295",
+    },
+    Row {
+        name: "high slots of equal values are told apart, and a shared one gets its own",
+        size: "1000",
+        script: "new 999 5 / new 998 5 / ptreq 999 998 / same 999 998 / clone 999 997 / ptreq 997 999 / own 999 / ptreq 997 999 / ptreq 999 998 / same 997 999 / own 999 / get 999",
+        answers: "done / done / is false / is true / done / is true / done / is false / is false / is true / done / value 5",
     },
     Row {
         name: "a handle is unique again only alone",

@@ -25,7 +25,8 @@ TraceAnswers old line text new =
 
 -- The script is answered, line by line, as some legal trace of a block of the value 5, so many owners and this limit
 -- goes, and this is what a run with that outcome has written.
-pub record PrintsLegalTrace (owners limit : ℕ) (script : List ℕ) (outcome : Outcome) (text : List ℕ) : Type 0 where
+pub record PrintsLegalTrace (owners limit : ℕ) (script : List ℕ) (outcome : Outcome) (text : List ℕ)
+    : Type 0 where
   pub trace : Trace ℕ
   pub legal : IsLegal trace
   pub prints : PrintsUpTo TraceAnswers (SaysNothing step_line) (Open 5 owners limit) script outcome text trace

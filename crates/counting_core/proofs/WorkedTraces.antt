@@ -2,9 +2,12 @@
 use Rattle.std.proofs.Common.{◌≡◌, ℕ, true, false, List, [], ◌∷◌, refl}
 use Rattle.counting_word.specs.CountingWord.{greatest_count}
 use Rattle.counting_core.specs.declared.step.Step.{Step}
-use Rattle.counting_core.specs.declared.step.Step.TheVariants.{Clone, Raise, Quit, Drop, Lower, Mark, Unique, Static, GetMut, Write, EndWrite, IntoUnique, Share, Load, Lend, Return, Give}
+use Rattle.counting_core.specs.declared.step.Step.TheVariants.{Clone, Raise, Quit, Drop, Lower, Mark, Unique, Static}
+use Rattle.counting_core.specs.declared.step.Step.TheVariants.{GetMut, Write, EndWrite, IntoUnique, Share, Load, Lend}
+use Rattle.counting_core.specs.declared.step.Step.TheVariants.{Return, Give}
 use Rattle.counting_core.specs.declared.step.Answer.{Answer}
-use Rattle.counting_core.specs.declared.step.Answer.TheVariants.{Born, Full, Pending, Quit as Quitted, Ended, GivenUp, Marked, Is, Alone, Sole, Shared, Done, Value, Barred}
+use Rattle.counting_core.specs.declared.step.Answer.TheVariants.{Born, Full, Pending, Quit as Quitted, Ended, GivenUp}
+use Rattle.counting_core.specs.declared.step.Answer.TheVariants.{Marked, Is, Alone, Sole, Shared, Done, Value, Barred}
 use Rattle.counting_core.specs.Trace.{Trace, Open, Then}
 use Rattle.counting_core.specs.Legal.{due}
 
@@ -19,13 +22,15 @@ the_last_handle :
 the_last_handle = refl
 
 a_drop_in_flight_still_counts :
-    answers (Open 5 2 greatest_count) (Lend 0 0 1 ∷ Clone 1 0 ∷ Raise 1 ∷ Return 1 0 ∷ Unique 0 0 ∷ Drop 1 1 ∷ Unique 0 0 ∷ Lower 1
+    answers (Open 5 2 greatest_count)
+    (Lend 0 0 1 ∷ Clone 1 0 ∷ Raise 1 ∷ Return 1 0 ∷ Unique 0 0 ∷ Drop 1 1 ∷ Unique 0 0 ∷ Lower 1
     ∷ Unique 0 0 ∷ [])
     ≡ (Done ∷ Pending ∷ Born 1 ∷ Done ∷ Is false ∷ Pending ∷ Is false ∷ Ended ∷ Is true ∷ [])
 a_drop_in_flight_still_counts = refl
 
 a_stale_read_loses_once :
-    answers (Open 5 3 greatest_count) (Lend 0 0 1 ∷ Lend 0 0 2 ∷ Clone 1 0 ∷ Clone 2 0 ∷ Raise 2 ∷ Raise 1 ∷ Raise 1 ∷ [])
+    answers (Open 5 3 greatest_count)
+    (Lend 0 0 1 ∷ Lend 0 0 2 ∷ Clone 1 0 ∷ Clone 2 0 ∷ Raise 2 ∷ Raise 1 ∷ Raise 1 ∷ [])
     ≡ (Done ∷ Done ∷ Pending ∷ Pending ∷ Born 1 ∷ Pending ∷ Born 2 ∷ [])
 a_stale_read_loses_once = refl
 
@@ -35,7 +40,8 @@ a_clone_in_flight_at_the_mark :
 a_clone_in_flight_at_the_mark = refl
 
 a_drop_in_flight_at_the_mark :
-    answers (Open 5 2 greatest_count) (Lend 0 0 1 ∷ Clone 1 0 ∷ Raise 1 ∷ Return 1 0 ∷ Drop 1 1 ∷ Mark 0 0 ∷ Lower 1 ∷ Drop 0 0 ∷ [])
+    answers (Open 5 2 greatest_count)
+    (Lend 0 0 1 ∷ Clone 1 0 ∷ Raise 1 ∷ Return 1 0 ∷ Drop 1 1 ∷ Mark 0 0 ∷ Lower 1 ∷ Drop 0 0 ∷ [])
     ≡ (Done ∷ Pending ∷ Born 1 ∷ Done ∷ Pending ∷ Marked ∷ Ended ∷ Ended ∷ [])
 a_drop_in_flight_at_the_mark = refl
 
@@ -50,9 +56,11 @@ a_value_is_written :
 a_value_is_written = refl
 
 a_clone_given_up_leaves_no_trace :
-    answers (Open 5 3 greatest_count) (Lend 0 0 1 ∷ Lend 0 0 2 ∷ Clone 1 0 ∷ Clone 2 0 ∷ Raise 2 ∷ Raise 1 ∷ Quit 1 ∷ Unique 0 0
+    answers (Open 5 3 greatest_count)
+    (Lend 0 0 1 ∷ Lend 0 0 2 ∷ Clone 1 0 ∷ Clone 2 0 ∷ Raise 2 ∷ Raise 1 ∷ Quit 1 ∷ Unique 0 0
     ∷ Drop 2 1 ∷ Lower 2 ∷ Unique 0 0 ∷ [])
-    ≡ (Done ∷ Done ∷ Pending ∷ Pending ∷ Born 1 ∷ Pending ∷ Quitted ∷ Is false ∷ Pending ∷ Ended ∷ Is true ∷ [])
+    ≡ (Done ∷ Done ∷ Pending ∷ Pending ∷ Born 1 ∷ Pending ∷ Quitted ∷ Is false ∷ Pending ∷ Ended
+    ∷ Is true ∷ [])
 a_clone_given_up_leaves_no_trace = refl
 
 nothing_follows_the_value :
@@ -66,18 +74,21 @@ only_a_holder_or_a_borrower_reads :
 only_a_holder_or_a_borrower_reads = refl
 
 alone_after_another_drop :
-    answers (Open 5 2 greatest_count) (Lend 0 0 1 ∷ Clone 1 0 ∷ Return 1 0 ∷ GetMut 0 0 ∷ Raise 1 ∷ Return 1 0 ∷ GetMut 0 0
+    answers (Open 5 2 greatest_count)
+    (Lend 0 0 1 ∷ Clone 1 0 ∷ Return 1 0 ∷ GetMut 0 0 ∷ Raise 1 ∷ Return 1 0 ∷ GetMut 0 0
     ∷ Drop 1 1 ∷ Lower 1 ∷ GetMut 0 0 ∷ [])
     ≡ (Done ∷ Pending ∷ Barred ∷ Barred ∷ Born 1 ∷ Done ∷ Shared ∷ Pending ∷ Ended ∷ Alone ∷ [])
 alone_after_another_drop = refl
 
 a_count_that_came_back :
-    answers (Open 5 3 greatest_count) (Lend 0 0 1 ∷ Lend 0 0 2 ∷ Clone 1 0 ∷ Clone 2 0 ∷ Raise 2 ∷ Drop 2 1 ∷ Lower 2 ∷ Raise 1 ∷ [])
+    answers (Open 5 3 greatest_count)
+    (Lend 0 0 1 ∷ Lend 0 0 2 ∷ Clone 1 0 ∷ Clone 2 0 ∷ Raise 2 ∷ Drop 2 1 ∷ Lower 2 ∷ Raise 1 ∷ [])
     ≡ (Done ∷ Done ∷ Pending ∷ Pending ∷ Born 1 ∷ Pending ∷ Ended ∷ Born 2 ∷ [])
 a_count_that_came_back = refl
 
 a_count_that_did_not :
-    answers (Open 5 3 greatest_count) (Lend 0 0 1 ∷ Lend 0 0 2 ∷ Clone 1 0 ∷ Clone 2 0 ∷ Raise 2 ∷ Drop 2 1 ∷ Raise 1 ∷ [])
+    answers (Open 5 3 greatest_count)
+    (Lend 0 0 1 ∷ Lend 0 0 2 ∷ Clone 1 0 ∷ Clone 2 0 ∷ Raise 2 ∷ Drop 2 1 ∷ Raise 1 ∷ [])
     ≡ (Done ∷ Done ∷ Pending ∷ Pending ∷ Born 1 ∷ Pending ∷ Pending ∷ [])
 a_count_that_did_not = refl
 
@@ -87,7 +98,8 @@ lendings_are_of_the_holder :
 lendings_are_of_the_holder = refl
 
 a_clone_and_its_original :
-    answers (Open 5 1 greatest_count) (Clone 0 0 ∷ Raise 0 ∷ Unique 0 0 ∷ Drop 0 0 ∷ Unique 0 1 ∷ Lower 0 ∷ Unique 0 1 ∷ Load 0 0
+    answers (Open 5 1 greatest_count)
+    (Clone 0 0 ∷ Raise 0 ∷ Unique 0 0 ∷ Drop 0 0 ∷ Unique 0 1 ∷ Lower 0 ∷ Unique 0 1 ∷ Load 0 0
     ∷ [])
     ≡ (Pending ∷ Born 1 ∷ Is false ∷ Pending ∷ Barred ∷ Ended ∷ Is true ∷ Barred ∷ [])
 a_clone_and_its_original = refl
@@ -103,7 +115,8 @@ nothing_in_flight_to_go_on_with :
 nothing_in_flight_to_go_on_with = refl
 
 a_marked_block_clones_and_drops_at_once :
-    answers (Open 5 2 greatest_count) (Lend 0 0 1 ∷ Clone 1 0 ∷ Raise 1 ∷ Return 1 0 ∷ Drop 1 1 ∷ Mark 0 0 ∷ Clone 0 0 ∷ Lower 1
+    answers (Open 5 2 greatest_count)
+    (Lend 0 0 1 ∷ Clone 1 0 ∷ Raise 1 ∷ Return 1 0 ∷ Drop 1 1 ∷ Mark 0 0 ∷ Clone 0 0 ∷ Lower 1
     ∷ Drop 0 0 ∷ Drop 0 2 ∷ [])
     ≡ (Done ∷ Pending ∷ Born 1 ∷ Done ∷ Pending ∷ Marked ∷ Born 2 ∷ Ended ∷ Ended ∷ Ended ∷ [])
 a_marked_block_clones_and_drops_at_once = refl
@@ -134,18 +147,21 @@ a_block_of_two_handles :
 a_block_of_two_handles = refl
 
 the_limit_is_found_by_a_raise :
-    answers (Open 5 3 2) (Lend 0 0 1 ∷ Lend 0 0 2 ∷ Clone 1 0 ∷ Clone 2 0 ∷ Raise 2 ∷ Raise 1 ∷ Raise 1 ∷ [])
+    answers (Open 5 3 2) (Lend 0 0 1 ∷ Lend 0 0 2 ∷ Clone 1 0 ∷ Clone 2 0 ∷ Raise 2 ∷ Raise 1 ∷ Raise 1
+    ∷ [])
     ≡ (Done ∷ Done ∷ Pending ∷ Pending ∷ Born 1 ∷ Full ∷ Barred ∷ [])
 the_limit_is_found_by_a_raise = refl
 
 the_way_back_to_a_sole_handle :
-    answers (Open 5 2 greatest_count) (IntoUnique 0 0 ∷ Write 0 0 9 ∷ Clone 0 0 ∷ Lend 0 0 1 ∷ EndWrite 0 0 ∷ Give 0 0 1 ∷ Load 1 0
+    answers (Open 5 2 greatest_count)
+    (IntoUnique 0 0 ∷ Write 0 0 9 ∷ Clone 0 0 ∷ Lend 0 0 1 ∷ EndWrite 0 0 ∷ Give 0 0 1 ∷ Load 1 0
     ∷ Share 1 0 ∷ Share 1 0 ∷ [])
     ≡ (Sole ∷ Done ∷ Barred ∷ Barred ∷ Barred ∷ Done ∷ Value 9 ∷ Done ∷ Barred ∷ [])
 the_way_back_to_a_sole_handle = refl
 
 sole_once_the_other_is_dropped :
-    answers (Open 5 1 greatest_count) (Clone 0 0 ∷ Raise 0 ∷ IntoUnique 0 0 ∷ Drop 0 1 ∷ Lower 0 ∷ IntoUnique 0 0 ∷ Drop 0 0 ∷ Lower 0
+    answers (Open 5 1 greatest_count)
+    (Clone 0 0 ∷ Raise 0 ∷ IntoUnique 0 0 ∷ Drop 0 1 ∷ Lower 0 ∷ IntoUnique 0 0 ∷ Drop 0 0 ∷ Lower 0
     ∷ [])
     ≡ (Pending ∷ Born 1 ∷ Shared ∷ Pending ∷ Ended ∷ Sole ∷ Pending ∷ GivenUp 5 ∷ [])
 sole_once_the_other_is_dropped = refl

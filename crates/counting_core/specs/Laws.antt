@@ -1,5 +1,6 @@
 -- What every legal trace keeps, and every core that represents one.
-use Rattle.std.specs.Prelude.{◌≡◌, ℕ, ◌≤◌, Bool, true, false, not, ◌&&◌, ◌||◌, ◌⊎◌, ◌↔◌, nat_eq, if◌then◌else◌}
+use Rattle.std.specs.Prelude.{◌≡◌, ℕ, ◌≤◌, Bool, true, false, not, ◌&&◌, ◌||◌, ◌⊎◌}
+use Rattle.std.specs.Prelude.{◌↔◌, nat_eq, if◌then◌else◌}
 use Rattle.std.specs.Prelude.{List, [], ◌∷◌, length, count_by}
 use Rattle.counting_word.specs.CountingWord.{is_marked_word, count_of}
 use Rattle.counting_core.specs.declared.step.Step.{Step}
@@ -65,7 +66,8 @@ CountIsTheNumberOfLiveHandles V =
 
 abbrev pub NoLowerWraps : Type 0 → Type 0
 NoLowerWraps V =
-    (core : CoreState V) (t : Trace V) (o : ℕ) → Represents core t → permitted {V = V} (situation t) (Lower o) ≡ true
+    (core : CoreState V) (t : Trace V) (o : ℕ) → Represents core t → permitted {V = V} (situation t) (Lower o)
+    ≡ true
     → 1 ≤ count_of core.word
 
 abbrev pub NoCountPassesLimit : Type 0 → Type 0
@@ -87,7 +89,8 @@ GivenUpByLastEnd V =
 
 abbrev pub GivenUpOnce : Type 0 → Type 0
 GivenUpOnce V =
-    (t : Trace V) (s : Step V) (a : Answer V) → IsLegal (Then t s a) → some_answer is_given_up t ≡ true → a ≡ Barred
+    (t : Trace V) (s : Step V) (a : Answer V) → IsLegal (Then t s a)
+    → some_answer is_given_up t ≡ true → a ≡ Barred
 
 abbrev pub FullExactlyAtLimit : Type 0 → Type 0
 FullExactlyAtLimit V =

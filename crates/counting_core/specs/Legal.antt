@@ -1,5 +1,6 @@
 -- When a step is an event of the plain machine, and which traces are legal.
-use Rattle.std.specs.Prelude.{◌≡◌, ℕ, Bool, true, false, ◌||◌, ◌⊎◌, IsTrue, nat_eq, if◌then◌else◌, length}
+use Rattle.std.specs.Prelude.{◌≡◌, ℕ, Bool, true, false, ◌||◌, ◌⊎◌, IsTrue, nat_eq}
+use Rattle.std.specs.Prelude.{if◌then◌else◌, length}
 use Rattle.counting_word.specs.CountingWord.{IsLimit}
 use Rattle.counting_core.specs.declared.step.Step.{Step}
 use Rattle.counting_core.specs.declared.step.Step.TheVariants.{Clone, Raise, Quit, Drop, Lower, Mark, Unique, Static}

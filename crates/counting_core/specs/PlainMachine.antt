@@ -1,6 +1,7 @@
 -- The plain machine: a value, the live handles, a mark, the number of births, and the limit, which no event changes. It
 -- has no word, and no call of it is ever half done.
-use Rattle.std.specs.Prelude.{ℕ, ◌+◌, Bool, true, false, not, ◌&&◌, nat_eq, if◌then◌else◌, List, [], ◌∷◌, ◌++◌, length}
+use Rattle.std.specs.Prelude.{ℕ, ◌+◌, Bool, true, false, not, ◌&&◌, nat_eq, if◌then◌else◌, List, []}
+use Rattle.std.specs.Prelude.{◌∷◌, ◌++◌, length}
 use Rattle.std.specs.List.{list_any, filter}
 use Rattle.counting_core.specs.declared.step.Answer.{Answer}
 use Rattle.counting_core.specs.declared.step.Answer.TheVariants.{Born, Full, Ended, GivenUp, Marked}

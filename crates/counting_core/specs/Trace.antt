@@ -1,5 +1,6 @@
 -- What a trace says of the handles and the owners of a block, by its answers alone.
-use Rattle.std.specs.Prelude.{ℕ, Bool, Option, None, Some, true, false, nat_eq, if◌then◌else◌, List, [], ◌∷◌}
+use Rattle.std.specs.Prelude.{ℕ, Bool, Option, None, Some, true, false, nat_eq, if◌then◌else◌, List, []}
+use Rattle.std.specs.Prelude.{◌∷◌}
 use Rattle.std.specs.Ordering.{nat_cmp}
 use Rattle.std.specs.BTreeSet.{insert_key}
 use Rattle.std.specs.Set.{remove_key}

@@ -1,9 +1,13 @@
 -- What a word tells, and what it stands for after each step on it.
-use Rattle.std.proofs.Common.{◌≡◌, ◌≢◌, ℕ, ◌+◌, ◌-◌, ◌*◌, ◌/◌, ◌%◌, ◌^◌, ◌<◌, ◌≤◌, Bool, true, false, not, ◌&&◌, nat_eq, bit_or, bit_and, refl, sym, ◌∙◌, ap, arith, true≢false, leb-true, leb-false, le-leb, eq-eqb, ne_eqb, if◌then◌else◌}
+use Rattle.std.proofs.Common.{◌≡◌, ◌≢◌, ℕ, ◌+◌, ◌-◌, ◌*◌, ◌/◌, ◌%◌, ◌^◌, ◌<◌}
+use Rattle.std.proofs.Common.{◌≤◌, Bool, true, false, not, ◌&&◌, nat_eq, bit_or, bit_and, refl, sym}
+use Rattle.std.proofs.Common.{◌∙◌, ap, arith, true≢false, leb-true, leb-false, le-leb, eq-eqb, ne_eqb}
+use Rattle.std.proofs.Common.{if◌then◌else◌}
 use Rattle.std.proofs.lemmas.Bool.{lt-leb}
 use Rattle.std.proofs.lemmas.Nat.Bits.{and_high}
 use Rattle.std.specs.Int.Bits.{or_add_and}
-use Rattle.counting_word.specs.CountingWord.{mark_bit, greatest_count, is_marked_word, count_of, is_one_handle, marked_word, IsWithin, StandsFor}
+use Rattle.counting_word.specs.CountingWord.{mark_bit, greatest_count, is_marked_word, count_of, is_one_handle}
+use Rattle.counting_word.specs.CountingWord.{marked_word, IsWithin, StandsFor}
 
 pub count_of-unmarked : (word : ℕ) → is_marked_word word ≡ false → count_of word ≡ word
 count_of-unmarked word unmarked =
@@ -79,7 +83,8 @@ stands-in_drop word live in_drop in_drop' mark unmarked s = record {
 
 -- no count is above the greatest
 pub within_greatest : (word : ℕ) → IsWithin word greatest_count
-within_greatest word unmarked = let at_most : word % 9223372036854775808 ≤ 9223372036854775807 = omega arith in at_most
+within_greatest word unmarked = let at_most : word % 9223372036854775808 ≤ 9223372036854775807 = omega arith in
+    at_most
 
 -- an unmarked word whose count is not the limit has room for one more
 pub below_limit : (word limit : ℕ) → IsWithin word limit → is_marked_word word ≡ false
@@ -108,7 +113,8 @@ stands-raise word live live' in_drop in_drop' mark unmarked room more s =
     }
 
 -- a lower, which ends a drop in flight and its handle, and which meets a word that is not 0
-pub stands-lower : (word live live' in_drop in_drop' : ℕ) (mark : Bool) → live' + 1 ≡ live → in_drop' + 1 ≡ in_drop
+pub stands-lower : (word live live' in_drop in_drop' : ℕ) (mark : Bool)
+    → live' + 1 ≡ live → in_drop' + 1 ≡ in_drop
     → StandsFor word mark live in_drop → (1 ≤ word) × StandsFor (word - 1) mark live' in_drop'
 stands-lower word live live' in_drop in_drop' true fewer dropped s =
     let high : 9223372036854775808 ≤ word = leb-true mark_bit word s.same_mark in
@@ -167,7 +173,8 @@ bit_or-mark_bit word fits = at (is_marked_word word) refl where
 pub ruleset marks = (bit_or-mark_bit)
 
 -- a mark: if no more drops are in flight than handles live
-pub stands-marked_word : (word live in_drop : ℕ) (mark : Bool) → StandsFor word mark live in_drop → in_drop ≤ live
+pub stands-marked_word : (word live in_drop : ℕ) (mark : Bool)
+    → StandsFor word mark live in_drop → in_drop ≤ live
     → StandsFor (marked_word word) true live in_drop
 stands-marked_word word live in_drop true s few =
     let same : marked_word word ≡ word = ap (λ b. if b then word else word + mark_bit) s.same_mark in
@@ -204,6 +211,7 @@ pub stands-lowered : (word live in_drop : ℕ) (mark : Bool) → StandsFor word 
 stands-lowered word live in_drop mark s =
     (stands-lower word (live + 1) live (in_drop + 1) in_drop mark refl refl s).1
 
-pub stands-positive : (word live in_drop : ℕ) (mark : Bool) → StandsFor word mark (live + 1) (in_drop + 1) → 1 ≤ word
+pub stands-positive : (word live in_drop : ℕ) (mark : Bool) → StandsFor word mark (live + 1) (in_drop + 1)
+    → 1 ≤ word
 stands-positive word live in_drop mark s =
     (stands-lower word (live + 1) live (in_drop + 1) in_drop mark refl refl s).0

@@ -7,11 +7,11 @@ use Rattle.counting_word.specs.WordSteps.{right_by, word_by, left_by}
 use Rattle.counting_word.specs.Tallies.{Tally, first, tally_after, tally_of, tally_right, IsRun}
 
 -- A clone; a drop, in whose middle the block is marked; a clone by the mark; a `get_mut`; a drop by the mark; and a
--- raise
--- that finds the mark.
+-- raise that finds the mark.
 written : List WordStep
 written =
-    reads ∷ raises_from 1 ∷ reads_last ∷ marks ∷ reads ∷ lowers ∷ claims ∷ reads_last ∷ raises_from 1 ∷ asks ∷ []
+    reads ∷ raises_from 1 ∷ reads_last ∷ marks ∷ reads ∷ lowers ∷ claims ∷ reads_last ∷ raises_from 1
+    ∷ asks ∷ []
 
 -- the word that each step finds
 abbrev found_by : ℕ → List WordStep → List ℕ
@@ -28,7 +28,8 @@ rights_from p [] = []
 rights_from p (s ∷ ss) = tally_right p s ∷ rights_from (tally_after p s) ss
 
 abbrev rights : List Right
-rights = nothing ∷ a_handle ∷ to_lower ∷ nothing ∷ a_handle ∷ nothing ∷ a_handle ∷ nothing ∷ a_handle ∷ nothing ∷ []
+rights = nothing ∷ a_handle ∷ to_lower ∷ nothing ∷ a_handle ∷ nothing ∷ a_handle ∷ nothing ∷ a_handle
+    ∷ nothing ∷ []
 
 abbrev marked : ℕ → ℕ
 marked n = mark_bit + n

@@ -1,5 +1,6 @@
 -- The counting word of a block: bit 63 is the mark, bits 0 to 62 are the count.
-use Rattle.std.specs.Prelude.{◌≡◌, ℕ, ◌+◌, ◌-◌, ◌^◌, ◌%◌, ◌≤◌, Bool, true, false, nat_le, nat_eq, if◌then◌else◌}
+use Rattle.std.specs.Prelude.{◌≡◌, ℕ, ◌+◌, ◌-◌, ◌^◌, ◌%◌, ◌≤◌, Bool, true, false, nat_le}
+use Rattle.std.specs.Prelude.{nat_eq, if◌then◌else◌}
 
 -- bit 63
 abbrev pub mark_bit : ℕ

@@ -1,7 +1,10 @@
 -- Where an item lies in its pages, and what a write there leaves.
-use Rattle.std.proofs.Common.{◌≡◌, ℕ, zero, suc, ◌+◌, ◌-◌, ◌*◌, ◌/◌, ◌%◌, ◌<◌, List, [], ◌∷◌, ◌++◌, length, get_or, set, refl, sym, ap, ◌∙◌, subst, arith, vec_len, length-append}
+use Rattle.std.proofs.Common.{◌≡◌, ℕ, zero, suc, ◌+◌, ◌-◌, ◌*◌, ◌/◌, ◌%◌, ◌<◌, List, []}
+use Rattle.std.proofs.Common.{◌∷◌, ◌++◌, length, get_or, set, refl, sym, ap, ◌∙◌, subst, arith, vec_len}
+use Rattle.std.proofs.Common.{length-append}
 use Rattle.std.proofs.Math.Nat.{suc-mul, add-sub_cancel_left}
-use Rattle.std.proofs.lemmas.List.{length-set, get_or_append_left, get_or-append_right, set-append_left, set-append_right}
+use Rattle.std.proofs.lemmas.List.{length-set, get_or_append_left, get_or-append_right, set-append_left}
+use Rattle.std.proofs.lemmas.List.{set-append_right}
 use Rattle.std.proofs.lemmas.Nat.{div-add-mod', mod_below}
 use Rattle.std.specs.Vec.{vec_items}
 use Rattle.std.specs.declared.vec.Vec.{Vec}
@@ -42,7 +45,8 @@ module _ {T A : Type 0} where
             ∙ ap (λ k. get_or (items_of pages) k x) back
             ∙ lies.reads d x;
         writes = λ d new x is.
-            ap (λ items. vec_items page ++ items) (lies.writes d new x is ∙ ap (λ k. set (items_of pages) k x) (sym back))
+            ap (λ items. vec_items page ++ items) (lies.writes d new x is ∙ ap (λ k. set (items_of pages) k x)
+            (sym back))
             ∙ sym (set-append_right (vec_items page) (items_of pages) n (n + i) x long (omega arith));
       }
 
@@ -70,7 +74,8 @@ module _ {T A : Type 0} where
       subst (λ k. Lies (page ∷ rest) (suc q) r k) same (Lies-later page rest n q r (q * n + r) paged.0 later)
 
 -- Item i of a list in pages: p and r are the page and the place that the code computes.
-module _ {T A : Type 0} (n : ℕ) (pages : List (Vec T A)) (i p r : ℕ) (page_is : p ≡ i / n) (place_is : r ≡ i % n)
+module _ {T A : Type 0} (n : ℕ) (pages : List (Vec T A)) (i p r : ℕ) (page_is : p ≡ i / n)
+    (place_is : r ≡ i % n)
     (positive : 0 < n) (paged : IsPaged n pages) (inside : i < length (items_of pages)) where
   at : Lies pages p r i
   at =

@@ -1,15 +1,20 @@
 -- What a command may change: nothing, or the one slot that it writes.
-use Rattle.std.proofs.Common.{◌≡◌, ◌≢◌, ◌⊎◌, inl, inr, ⊎_elim, ℕ, zero, suc, Bool, true, false, List, [], ◌∷◌, Option, Some, None, length, slice_get, slice_set, refl, ◌∙◌, ap}
+use Rattle.std.proofs.Common.{◌≡◌, ◌≢◌, ◌⊎◌, inl, inr, ⊎_elim, ℕ, zero, suc, Bool, true, false}
+use Rattle.std.proofs.Common.{List, [], ◌∷◌, Option, Some, None, length, slice_get, slice_set, refl, ◌∙◌}
+use Rattle.std.proofs.Common.{ap}
 use Rattle.std.proofs.lemmas.List.{length-set}
-use Rattle.handle_tables.specs.declared.commands.Command.TheVariants.{New, Clone, Drop, GetMut, IntoUnique, MakeMut, Own, Mark, Raw, PtrEq, Same}
+use Rattle.handle_tables.specs.declared.commands.Command.TheVariants.{New, Clone, Drop, GetMut, IntoUnique, MakeMut}
+use Rattle.handle_tables.specs.declared.commands.Command.TheVariants.{Own, Mark, Raw, PtrEq, Same}
 use Rattle.handle_tables.specs.declared.commands.Reply.{Reply}
 use Rattle.handle_tables.specs.declared.commands.Reply.TheVariants.{Done, Is, Shared, Empty, NoSlot, Refused}
-use Rattle.handle_tables.specs.PlainTable.{Slots, Outcome, Meaning, stays, sets, empties, if_there, if_filled, at, reading, command_of, outcomes_of, plain_outcomes_of}
+use Rattle.handle_tables.specs.PlainTable.{Slots, Outcome, Meaning, stays, sets, empties, if_there, if_filled, at}
+use Rattle.handle_tables.specs.PlainTable.{reading, command_of, outcomes_of, plain_outcomes_of}
 use Rattle.handle_tables.specs.Runs.{IsAmong}
 use Rattle.handle_tables.specs.TableLaws.{written, plain_written, NumberOfSlotsStays, OtherSlotsStay, OnlyDoneChanges}
 
 module _ {V : Type 0} where
-  get-set_other : (slots : Slots V) (i k : ℕ) (slot : Option V) → i ≢ k → slice_get (slice_set slots i slot) k ≡ slice_get slots k
+  get-set_other : (slots : Slots V) (i k : ℕ) (slot : Option V) → i ≢ k → slice_get (slice_set slots i slot)
+      k ≡ slice_get slots k
   get-set_other [] i k slot other = refl
   get-set_other (x ∷ xs) zero zero slot other = absurd (other refl)
   get-set_other (x ∷ xs) zero (suc k) slot other = refl
@@ -30,39 +35,57 @@ module _ {V : Type 0} where
   pub stay : (old : Slots V) (target : Option ℕ) (reply : Reply) → Changes old target (stays old reply ∷ [])
   stay old target r = record { by = λ reply new. ⊎_elim (λ is. inl is.1) (λ never. absurd never) }
 
-  pub two_stay : (old : Slots V) (target : Option ℕ) (reply other : Reply) → Changes old target (stays old reply ∷ stays old other ∷ [])
+  pub two_stay : (old : Slots V) (target : Option ℕ) (reply other : Reply)
+      → Changes old target (stays old reply ∷ stays old other ∷ [])
   two_stay old target r s = record { by = λ reply new. ⊎_elim (λ is. inl is.1) ((stay old target s).by reply new) }
 
-  set : (old : Slots V) (i : ℕ) (slot : Option V) (reply : Reply) (new : Slots V) → (reply ≡ Done) × (new ≡ slice_set old i slot) → Sets old (Some i) reply new
+  set : (old : Slots V) (i : ℕ) (slot : Option V) (reply : Reply) (new : Slots V) → (reply ≡ Done)
+      × (new ≡ slice_set old i slot) → Sets old (Some i) reply new
   set old i slot reply new is = record { slot = i; is_target = refl; is_done = is.0; value = slot; is_set = is.1 }
 
   pub empty : (old : Slots V) (i : ℕ) → Changes old (Some i) (empties old i ∷ [])
-  empty old i = record { by = λ reply new. ⊎_elim (λ is. inr (set old i None reply new is)) (λ never. absurd never) }
+  empty old i = record {
+    by = λ reply new. ⊎_elim (λ is. inr (set old i None reply new is))
+        (λ never. absurd never);
+  }
 
-  pub set_or : (old : Slots V) (i : ℕ) (value : V) (refused : Reply) → Changes old (Some i) (sets old i value ∷ stays old refused ∷ [])
-  set_or old i value r = record { by = λ reply new. ⊎_elim (λ is. inr (set old i (Some value) reply new is)) ((stay old (Some i) r).by reply new) }
+  pub set_or : (old : Slots V) (i : ℕ) (value : V) (refused : Reply) → Changes old (Some i)
+      (sets old i value ∷ stays old refused ∷ [])
+  set_or old i value r = record {
+    by = λ reply new. ⊎_elim (λ is. inr (set old i (Some value) reply new is))
+        ((stay old (Some i) r).by reply new);
+  }
 
-  there : (old : Slots V) (target : Option ℕ) (outcomes : List (Outcome V)) → Changes old target outcomes → (found : Option (Option V)) → Changes old target (if_there old found outcomes)
+  there : (old : Slots V) (target : Option ℕ) (outcomes : List (Outcome V))
+      → Changes old target outcomes → (found : Option (Option V))
+      → Changes old target (if_there old found outcomes)
   there old target outcomes rest None = stay old target NoSlot
   there old target outcomes rest (Some slot) = rest
 
-  filled : (old : Slots V) (target : Option ℕ) (outcomes : V → List (Outcome V)) → ((v : V) → Changes old target (outcomes v)) → (found : Option (Option V)) → Changes old target (if_filled old found outcomes)
+  filled : (old : Slots V) (target : Option ℕ) (outcomes : V → List (Outcome V)) → ((v : V)
+      → Changes old target (outcomes v)) → (found : Option (Option V))
+      → Changes old target (if_filled old found outcomes)
   filled old target outcomes rest None = stay old target NoSlot
   filled old target outcomes rest (Some None) = stay old target Empty
   filled old target outcomes rest (Some (Some v)) = rest v
 
-  pub at_slot : (old : Slots V) (target : Option ℕ) (i : ℕ) {outcomes : List (Outcome V)} → Changes old target outcomes → Changes old target (at old i outcomes)
+  pub at_slot : (old : Slots V) (target : Option ℕ) (i : ℕ)
+      {outcomes : List (Outcome V)} → Changes old target outcomes → Changes old target (at old i outcomes)
   at_slot old target i {outcomes} rest = there old target outcomes rest (slice_get old i)
 
-  pub reads : (old : Slots V) (target : Option ℕ) (i : ℕ) {outcomes : V → List (Outcome V)} → ((v : V) → Changes old target (outcomes v)) → Changes old target (reading old i outcomes)
+  pub reads : (old : Slots V) (target : Option ℕ) (i : ℕ) {outcomes : V → List (Outcome V)} → ((v : V)
+      → Changes old target (outcomes v)) → Changes old target (reading old i outcomes)
   reads old target i {outcomes} rest = filled old target outcomes rest (slice_get old i)
 
   -- every command changes what it writes, and no more
   abbrev pub AllChange : {C : Type 0} → (C → Meaning V) → (C → Option ℕ) → Type 0
-  AllChange {C} meaning written_by = (command : C) (old : Slots V) → Changes old (written_by command) (meaning command old)
+  AllChange {C} meaning written_by = (command : C) (old : Slots V) → Changes old (written_by command)
+      (meaning command old)
 
-  module _ {C : Type 0} (meaning : C → Meaning V) (written_by : C → Option ℕ) (all : AllChange meaning written_by) where
-    length-one : (old new : Slots V) (target : Option ℕ) (reply : Reply) → (new ≡ old) ⊎ Sets old target reply new → length new ≡ length old
+  module _ {C : Type 0} (meaning : C → Meaning V) (written_by : C → Option ℕ)
+      (all : AllChange meaning written_by) where
+    length-one : (old new : Slots V) (target : Option ℕ) (reply : Reply) → (new ≡ old)
+        ⊎ Sets old target reply new → length new ≡ length old
     length-one old new target reply (inl same) = ap length same
     length-one old new target reply (inr sets) = ap length sets.is_set ∙ length-set old sets.slot sets.value
 
@@ -96,8 +119,10 @@ module _ {V : Type 0} where
   command_changes equal (Own i) old = reads old _ i (λ _. two_stay old _ Done Refused)
   command_changes equal (Mark i) old = reads old _ i (λ _. stay old _ Done)
   command_changes equal (Raw i) old = reads old _ i (λ _. stay old _ Done)
-  command_changes equal (PtrEq i j) old = at_slot old _ j (reads old _ i (λ _. reads old _ j (λ _. two_stay old _ (Is true) (Is false))))
-  command_changes equal (Same i j) old = at_slot old _ j (reads old _ i (λ v. reads old _ j (λ w. stay old _ (Is (equal v w)))))
+  command_changes equal (PtrEq i j)
+      old = at_slot old _ j (reads old _ i (λ _. reads old _ j (λ _. two_stay old _ (Is true) (Is false))))
+  command_changes equal (Same i j)
+      old = at_slot old _ j (reads old _ i (λ v. reads old _ j (λ w. stay old _ (Is (equal v w)))))
 
   plain_changes : (equal : V → V → Bool) → AllChange (plain_outcomes_of equal) plain_written
   plain_changes equal command = command_changes equal (command_of command)

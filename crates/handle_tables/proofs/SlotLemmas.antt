@@ -4,7 +4,8 @@ use Rattle.std.proofs.lemmas.Option.{slice_get-get_or}
 use Rattle.std.proofs.lemmas.List.{set-get_or, set-set}
 
 module _ {S : Type 0} (slots : List S) (i : ℕ) where
-  pub slot_is : (slot default : S) → i < length slots → get_or slots i default ≡ slot → slice_get slots i ≡ Some slot
+  pub slot_is : (slot default : S)
+      → i < length slots → get_or slots i default ≡ slot → slice_get slots i ≡ Some slot
   slot_is slot default there is = slice_get-get_or slots i default there ∙ ap Some is
 
   pub set_same : (slot default : S) → get_or slots i default ≡ slot → slice_set slots i slot ≡ slots

@@ -76,7 +76,8 @@ module _ {V : Type 0} where
   outcomes_of equal (Mark i) slots = reading slots i (λ _. stays slots Done ∷ [])
   outcomes_of equal (Raw i) slots = reading slots i (λ _. stays slots Done ∷ [])
   outcomes_of equal (PtrEq i j) slots =
-      at slots j (reading slots i (λ _. reading slots j (λ _. stays slots (Is true) ∷ stays slots (Is false) ∷ [])))
+      at slots j (reading slots i (λ _. reading slots j (λ _. stays slots (Is true) ∷ stays slots (Is false)
+      ∷ [])))
   outcomes_of equal (Same i j) slots = compares equal i j slots
 
   -- only Own may leave a copy in its slot

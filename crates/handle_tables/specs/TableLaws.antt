@@ -30,7 +30,8 @@ module _ {C V : Type 0} (meaning : C → Meaning V) where
   abbrev pub OtherSlotsStay : (C → Option ℕ) → Type 0
   OtherSlotsStay written_by =
       (command : C) (old new : Slots V) (reply : Reply) (i : ℕ)
-      → IsAmong (meaning command old) reply new → written_by command ≢ Some i → slice_get new i ≡ slice_get old i
+      → IsAmong (meaning command old)
+      reply new → written_by command ≢ Some i → slice_get new i ≡ slice_get old i
 
   abbrev pub OnlyDoneChanges : Type 0
   OnlyDoneChanges =

@@ -1,4 +1,5 @@
--- One atomic step through a `&` to a handle: how a walk reads the pointer, and how it gives back what it borrowed for the step.
+-- One atomic step through a `&` to a handle: how a walk reads the pointer, and how it gives back what it borrowed for
+-- the step.
 -- Assumes `Logic`.
 use Rattle.std.proofs.Common.{◌≡◌, ℕ, Bool, false, List, [], ◌∷◌, refl, ap, ◌∙◌}
 use seplogic.Ra.Ura.{Ura}
@@ -7,7 +8,8 @@ use base.Logic.{id⊢}
 use base.Fml.{Lft, Share, Fml, flft, fobor, fhide, finv, fsep}
 use base.Share
 use types.Logic.{Logic}
-use types.Kit.{some as exists, given, pick, learn, Item, Goal, Seq, Soaks, Step, step, ‵, ◌⊛◌, later, ◌$◌, ◌∵◌, !, qed}
+use types.Kit.{some as exists, given, pick, learn, Item, Goal, Seq, Soaks, Step, step, ‵, ◌⊛◌, later, ◌$◌}
+use types.Kit.{◌∵◌, !, qed}
 use types.Kit.{fjoin, frame, done, move, drop, split, fsplit, fsplit3, fpick, rewrite, use1, use2, use3, await}
 use types.Tokens.{obor_close, shr_bor-open}
 use ghost.Rules.{Halves}
@@ -39,10 +41,12 @@ module _ {M : Type 1} {𝓤 : Ura M} (𝓛 : Logic 𝓤) (i : Names) where
         use1 𝓛 (‵ (pass i.handles i.own (Share.left q)) ⊛ ‵ (pass i.handles i.own (Share.right q)))
         (pass_halves 𝓛 i.handles i.own q) $ split ! $ move ! (2 ∷ 0 ∷ []) $ fjoin ! $ frame ! $
         move ! (1 ∷ 0 ∷ []) $ fjoin ! $ done !;
-    join = λ q. qed 𝓛 (‵ (lent_share i (Share.left q)) ∷ ‵ (lent_share i (Share.right q)) ∷ []) ∵ fsplit ! $
+    join = λ q. qed 𝓛 (‵ (lent_share i (Share.left q)) ∷ ‵ (lent_share i (Share.right q)) ∷ [])
+        ∵ fsplit ! $
         move ! (2 ∷ []) $ fsplit ! $ move ! (2 ∷ 0 ∷ []) $
         use2 𝓛 (‵ (flft (i.shared ∷ []) q)) (𝓛.lfts.lft_join (i.shared ∷ []) q) $ move ! (2 ∷ 1 ∷ []) $
-        use2 𝓛 (‵ (pass i.handles i.own q)) (pass_joins 𝓛 i.handles i.own q) $ move ! (1 ∷ 0 ∷ []) $ fjoin ! $
+        use2 𝓛 (‵ (pass i.handles i.own q)) (pass_joins 𝓛 i.handles i.own q) $ move ! (1 ∷ 0 ∷ []) $
+        fjoin ! $
         done !;
   }
 
@@ -50,46 +54,65 @@ module _ {M : Type 1} {𝓤 : Ura M} (𝓛 : Logic 𝓤) (i : Names) where
 abbrev pub parted : Ptr → Ptr
 parted p = block_ptr (block_of p) (offset_of p)
 
-module _ (R : RattleType) (p : Ptr) {M : Type 1} {𝓤 : Ura M} {𝓛 : Logic 𝓤} {K : Type 0} {Γ : List (Item 𝓤)} {G : Goal 𝓤 𝓛.H} where
+module _ (R : RattleType) (p : Ptr)
+    {M : Type 1} {𝓤 : Ura M} {𝓛 : Logic 𝓤} {K : Type 0} {Γ : List (Item 𝓤)} {G : Goal 𝓤 𝓛.H} where
   -- The one word of a handle lies open; `shuts` gives the token back.
   -- [the word; what it says; the token's way back]
   pub opens_word : K → Soaks G → InBlock p → {κ : Lft} {q : Share} (b o : ℕ)
-      → ((r : Share) → Seq K 𝓛 (‵ (cell_at r (HandleWords R).mir (one_word (parted p) ∷ []) b o) ∷ ‵ ((HandleWords R).own_val (p, tt) (one_word (parted p) ∷ [])) ∷ Shut 𝓛 κ q (part_at (HandleWords R) r (p, tt) b o) ∷ Γ) G)
+      → ((r : Share) → Seq K 𝓛 (‵ (cell_at r (HandleWords R).mir (one_word (parted p) ∷ []) b o)
+      ∷ ‵ ((HandleWords R).own_val (p, tt) (one_word (parted p) ∷ []))
+      ∷ Shut 𝓛 κ q (part_at (HandleWords R) r (p, tt) b o) ∷ Γ) G)
       → Seq K 𝓛 (‵ (hidden_shr (HandleWords R) κ (p, tt) b o) ∷ ‵ (flft κ q) ∷ Γ) G
-  opens_word t soaks inb b o k = let D : RattleType = HandleWords R in let ν = (handle_type.the_type R).name in looks t soaks D (words_open ν (R ∷ []) 𝓛) (p, tt) b o (λ r vs. move t (3 ∷ []) $ drop t $ move t (1 ∷ []) $
-      peeks t D (Is D) (shows 𝓛 D) (p, tt) vs (λ is_so. let e : vs ≡ one_word (parted p) ∷ [] = words_told ν (R ∷ []) p vs is_so ∙ ap (λ (z : Ptr). one_word z ∷ []) (at_block p inb) in
-      rewrite t 0 (λ (ws : List Val). ‵ (D.own_val (p, tt) ws)) e refl $ rewrite t 1 (λ (ws : List Val). ‵ (cell_at r D.mir ws b o)) e refl $ move t (1 ∷ []) $ k r))
+  opens_word t soaks inb b o k = let D : RattleType = HandleWords R in let ν = (handle_type.the_type R).name in
+      looks t soaks D (words_open ν (R ∷ []) 𝓛) (p, tt) b o (λ r vs. move t (3 ∷ []) $ drop t $
+      move t (1 ∷ []) $
+      peeks t D (Is D) (shows 𝓛 D) (p, tt) vs (λ is_so. let e : vs ≡ one_word (parted p)
+      ∷ [] = words_told ν (R ∷ []) p vs is_so ∙ ap (λ (z : Ptr). one_word z ∷ []) (at_block p inb) in
+      rewrite t 0 (λ (ws : List Val). ‵ (D.own_val (p, tt) ws)) e refl $
+      rewrite t 1 (λ (ws : List Val). ‵ (cell_at r D.mir ws b o)) e refl $ move t (1 ∷ []) $ k r))
 
 module _ (R : RattleType) (p : Ptr) (x : (HeldRow R).Denot)
-    (η : ℕ) {M : Type 1} {𝓤 : Ura M} {𝓛 : Logic 𝓤} {K : Type 0} {Γ : List (Item 𝓤)} {G : Goal 𝓤 𝓛.H} where
-  -- A counted handle's block has a name for the sharing, of whose token there is a share while the borrow of the `&` is open.
+    (η : ℕ) {M : Type 1} {𝓤 : Ura M} {𝓛 : Logic 𝓤} {K : Type 0} {Γ : List (Item 𝓤)} {G : Goal 𝓤
+    𝓛.H} where
+  -- A counted handle's block has a name for the sharing, of whose token there is a share while the borrow of the `&`
+  -- is open.
   -- [the word; what it says; its token's way back; the open borrow; the share; the rule; the sharing]
   pub opens_handle : K → Soaks G → {κ : Lft} {q : Share} (sole : Bool) → sole ≡ false → (b o : ℕ)
-      → ((inb : InBlock p) (i : Names) (e r : Share) → Seq K 𝓛 (‵ (cell_at r (HandleWords R).mir (one_word (parted p) ∷ []) b o) ∷ ‵ ((HandleWords R).own_val (p, tt) (one_word (parted p) ∷ [])) ∷ Shut 𝓛 κ (Share.right q) (part_at (HandleWords R) r (p, tt) b o)
+      → ((inb : InBlock p) (i : Names) (e r : Share)
+      → Seq K 𝓛 (‵ (cell_at r (HandleWords R).mir (one_word (parted p) ∷ []) b o)
+      ∷ ‵ ((HandleWords R).own_val (p, tt) (one_word (parted p) ∷ [])) ∷ Shut 𝓛 κ (Share.right q)
+      (part_at (HandleWords R) r (p, tt) b o)
       ∷ ‵ (fobor κ (Share.left q) (lent_share i e)) ∷ ‵ (lent_share i e) ∷ ‵ (finv (block_rule R p x η i))
       ∷ ‵ (shown R p x (i.shared ∷ [])) ∷ Γ) G)
-      → Seq K 𝓛 (‵ (hidden_shr (HandleRow R) κ (record { block = p; held = x; sole = sole; id = η }) b o) ∷ ‵ (flft κ q)
+      → Seq K 𝓛 (‵ (hidden_shr (HandleRow R) κ (record { block = p; held = x; sole = sole; id = η }) b o)
+      ∷ ‵ (flft κ q)
       ∷ Γ) G
   opens_handle t soaks {κ} {q} sole shared b o k = use1 𝓛 (‵ (hidden_shr (HandleWords R) κ (p, tt) b o)
       ⊛ ‵ (fhide (handle_shares R p x η sole κ))) (id⊢ 𝓤 _) $ split t $ move t (1 ∷ []) $ unhide t $
       rewrite t 0 (λ (z : Bool). ‵ (handle_shares R p x η z κ)) shared refl $ fsplit t $
       fpick t (λ inb. drop t $ fpick t (λ i. fsplit3 t $ drop t $ move t (1 ∷ []) $ fsplit t $ move t (2 ∷ []) $
       -- [what opens the share; the rule; the sharing; the word; the token]
-      move t (4 ∷ []) $ use1 𝓛 (‵ (flft κ (Share.left q)) ⊛ ‵ (flft κ (Share.right q))) (𝓛.lfts.lft_split κ q) $
+      move t (4 ∷ []) $ use1 𝓛 (‵ (flft κ (Share.left q)) ⊛ ‵ (flft κ (Share.right q)))
+      (𝓛.lfts.lft_split κ q) $
       split t $ move t (2 ∷ 0 ∷ []) $ shr_bor-open t soaks (lent_halves 𝓛 i) (λ e.
       -- [the open borrow; the share; half of the token; the rule; the sharing; the word]
       move t (5 ∷ 2 ∷ []) $ opens_word R p t soaks inb b o (λ r. k inb i e r))))
 
   -- a gain that was made through a `&`
-  pub shows_gain : K → Soaks G → InBlock p → (i : Names) (r : Right) (old : List WordStep) (what : WordStep) (n : ℕ)
-      → ((log : List WordStep) → Adds x.limit.count old what n log → Seq K 𝓛 (‵ (gain_owns R p x η r log) ∷ Γ) G)
+  pub shows_gain : K → Soaks G → InBlock p → (i : Names) (r : Right) (old : List WordStep) (what : WordStep)
+      (n : ℕ)
+      → ((log : List WordStep) → Adds x.limit.count old what n log → Seq K 𝓛 (‵ (gain_owns R p x η r log)
+      ∷ Γ) G)
       → Seq K 𝓛 (‵ (fsep (logged x.limit.count η old what n) (gains (block_at R p x η i) r))
       ∷ ‵ (finv (block_rule R p x η i)) ∷ ‵ (shown R p x (i.shared ∷ [])) ∷ Γ) G
   shows_gain t soaks inb i r old what n k = use3 𝓛 (later
       (exists (λ (log : List WordStep). given (Adds x.limit.count old what n log) (‵ (gain_owns R p x η r log)))))
       (gain_shown 𝓛 R p x η inb i old what n r) $ await t soaks $ pick t (λ log. learn t (k log))
 
-module _ {M : Type 1} {𝓤 : Ura M} {𝓛 : Logic 𝓤} {K : Type 0} {Γ : List (Item 𝓤)} {G : Goal 𝓤 𝓛.H} where
-  -- The borrow closes again.
-  pub closes_borrow : K → Soaks G → {κ : Lft} {q : Share} {P : Fml} → Step K 𝓛 (‵ (flft κ q) ∷ Γ) G (‵ P ∷ ‵ (flft κ (Share.right q)) ∷ ‵ (fobor κ (Share.left q) P) ∷ Γ) G
-  closes_borrow t soaks {κ} {q} = step (λ s. move t (2 ∷ 0 ∷ []) $ obor_close t soaks $ drop t $ use2 𝓛 (‵ (flft κ q)) (𝓛.lfts.lft_join κ q) $ s)
+module _ {M : Type 1} {𝓤 : Ura M} {𝓛 : Logic 𝓤} {K : Type 0} {Γ : List (Item 𝓤)} {G : Goal 𝓤 𝓛.H}
+  where
+    -- The borrow closes again.
+    pub closes_borrow : K → Soaks G → {κ : Lft} {q : Share} {P : Fml} → Step K 𝓛 (‵ (flft κ q) ∷ Γ)
+        G (‵ P ∷ ‵ (flft κ (Share.right q)) ∷ ‵ (fobor κ (Share.left q) P) ∷ Γ) G
+    closes_borrow t soaks {κ} {q} = step (λ s. move t (2 ∷ 0 ∷ []) $ obor_close t soaks $ drop t $
+        use2 𝓛 (‵ (flft κ q)) (𝓛.lfts.lft_join κ q) $ s)

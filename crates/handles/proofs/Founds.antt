@@ -1,5 +1,6 @@
 -- What the last step of a log found, from what the step says.
-use Rattle.std.proofs.Common.{◌≡◌, ◌≢◌, ℕ, Bool, false, if◌then◌else◌, List, [], ◌∷◌, ◌++◌, refl, sym, ap, ◌∙◌, ne_eqb}
+use Rattle.std.proofs.Common.{◌≡◌, ◌≢◌, ℕ, Bool, false, if◌then◌else◌, List, [], ◌∷◌}
+use Rattle.std.proofs.Common.{◌++◌, refl, sym, ap, ◌∙◌, ne_eqb}
 use Rattle.counting_word.specs.CountingWord.{is_marked_word}
 use Rattle.counting_word.specs.Plans.{clone_plan}
 use Rattle.counting_word.specs.declared.ClonePlan.TheVariants.{Full}
@@ -15,7 +16,8 @@ found-last (t ∷ ts) s found word = found-last ts s word (word_by t word)
 
 pub found_word : (limit : ℕ) (old : List WordStep) (s : WordStep) (word : ℕ) (log : List WordStep)
     → Adds limit old s word log → Found word log
-found_word limit old s word log adds = ap found_by adds.ends ∙ found-last (old ++ adds.others) s 1 1 ∙ adds.found_word
+found_word limit old s word log adds = ap found_by adds.ends ∙ found-last (old ++ adds.others)
+    s 1 1 ∙ adds.found_word
 
 pub found_full : (word limit : ℕ) (log same : List WordStep) → Found word log → clone_plan word limit ≡ Full
     → same ≡ log
@@ -28,7 +30,8 @@ pub found_unmarked : (limit : ℕ) (old : List WordStep) (s : WordStep) (word : 
 found_unmarked limit old s word log adds is = ap is_marked_word (found_word limit old s word log adds) ∙ is
 
 -- what a lost raise leaves its maker with
-pub lost_right : (seen found : ℕ) (r : Right) → r ≡ right_by_raise seen found → found ≢ seen → r ≡ right_by_read found
+pub lost_right : (seen found : ℕ) (r : Right)
+    → r ≡ right_by_raise seen found → found ≢ seen → r ≡ right_by_read found
 lost_right seen found r is differs = is ∙ ap (λ (b : Bool). if b then a_handle else right_by_read found)
     (ne_eqb found seen differs)
 

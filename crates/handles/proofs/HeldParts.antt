@@ -8,7 +8,8 @@ use mir.Syntax.{Ty, ty_struct}
 use mir.Val.{Val}
 use prog.Memory.{align, up}
 use types.Logic.{Logic, sem}
-use types.Kit.{‵, ◌⊛◌, ◌$◌, ◌∵◌, !, qed, by, move, keep, use0, use1, split, fjoin, fjoin3, fsplit, fsplit3, fpack}
+use types.Kit.{‵, ◌⊛◌, ◌$◌, ◌∵◌, !, qed, by, move, keep, use0, use1, split, fjoin, fjoin3, fsplit}
+use types.Kit.{fsplit3, fpack}
 use types.Kit.{rewrite, done}
 use denote.RattleType.{RattleType}
 use denote.Memory.{lone, mem, cell_at, part_at, part_of}
@@ -36,30 +37,34 @@ beside_held R p limit η b o = let at : Ptr = block_ptr (block_of p) (offset_of 
     fsep (fex Global (frees R at)) (fsep (fsep (word (block_of p) (offset_of p + 0) 1) (recorded limit η 1))
     (fsep (stamp at) (cell_at full_share (HandleRow R).mir (one_word at ∷ []) b o)))
 
-module _ {M : Type 1} {𝓤 : Ura M} (𝓛 : Logic 𝓤) (R : RattleType) (p : Ptr) (η b o : ℕ) (inb : InBlock p) where
-  -- with anything held, that is the handle again
-  held_back : (w : (HeldRow R).Denot) → ent 𝓤 (sep 𝓤
-      (sem 𝓛 ((mem (HeldRow R)).own_at w (block_of p) (offset_of p + held_offset R)))
-      (sem 𝓛 (beside_held R p w.limit.count η b o))) (sem 𝓛 ((mem (HandleRow R)).own_at (record {
-        block = p;
-        held = w;
-        sole = false;
-        id = η;
-      }) b o))
-  unfolding part_of
-  held_back w = let at : Ptr = block_ptr (block_of p) (offset_of p) in
-      qed 𝓛 (‵ (part_at (HeldRow R) full_share w (block_of p) (offset_of p + held_offset R))
-      ∷ ‵ (beside_held R p w.limit.count η b o) ∷ []) ∵ move ! (1 ∷ []) $ fsplit3 ! $ move ! (2 ∷ []) $ fsplit ! $
-      -- [the stamp; the cell; what frees; the word; the value]
-      move ! (4 ∷ 2 ∷ []) $ fjoin ! $ move ! (3 ∷ 0 ∷ 1 ∷ []) $ fjoin3 ! $
-      rewrite ! 0 (λ (z : Ptr). ‵ (unshared_block R z w η 1)) (sym (at_block p inb)) refl $
-      rewrite ! 1 (λ (z : Ptr). ‵ (cell_at full_share (HandleRow R).mir (one_word z ∷ []) b o))
-      (sym (at_block p inb)) refl $
-      fpack ! Sharing (held_as R p w η) not_yet $ nothing_more ! $ fpack ! (InBlock p) (λ _. ftrue) inb $ fjoin ! $
-      use0 𝓛 (‵ ((HandleWords R).own_val (p, tt) (one_word p ∷ []))) (words_made (handle_type.the_type R).name (R
-      ∷ []) 𝓛 p) $ fjoin ! $
-      move ! (1 ∷ 0 ∷ []) $ fjoin ! $ fpack ! (List Val) (λ vs. fsep (cell_at full_share (HandleRow R).mir vs b o)
-      ((HandleRow R).own_val (record { block = p; held = w; sole = false; id = η }) vs)) (one_word p ∷ []) $ done !
+module _ {M : Type 1} {𝓤 : Ura M} (𝓛 : Logic 𝓤) (R : RattleType) (p : Ptr) (η b o : ℕ) (inb : InBlock p)
+  where
+    -- with anything held, that is the handle again
+    held_back : (w : (HeldRow R).Denot) → ent 𝓤 (sep 𝓤
+        (sem 𝓛 ((mem (HeldRow R)).own_at w (block_of p) (offset_of p + held_offset R)))
+        (sem 𝓛 (beside_held R p w.limit.count η b o))) (sem 𝓛 ((mem (HandleRow R)).own_at (record {
+          block = p;
+          held = w;
+          sole = false;
+          id = η;
+        }) b o))
+    unfolding part_of
+    held_back w = let at : Ptr = block_ptr (block_of p) (offset_of p) in
+        qed 𝓛 (‵ (part_at (HeldRow R) full_share w (block_of p) (offset_of p + held_offset R))
+        ∷ ‵ (beside_held R p w.limit.count η b o) ∷ []) ∵ move ! (1 ∷ []) $ fsplit3 ! $ move ! (2 ∷ []) $
+        fsplit ! $
+        -- [the stamp; the cell; what frees; the word; the value]
+        move ! (4 ∷ 2 ∷ []) $ fjoin ! $ move ! (3 ∷ 0 ∷ 1 ∷ []) $ fjoin3 ! $
+        rewrite ! 0 (λ (z : Ptr). ‵ (unshared_block R z w η 1)) (sym (at_block p inb)) refl $
+        rewrite ! 1 (λ (z : Ptr). ‵ (cell_at full_share (HandleRow R).mir (one_word z ∷ []) b o))
+        (sym (at_block p inb)) refl $
+        fpack ! Sharing (held_as R p w η) not_yet $ nothing_more ! $ fpack ! (InBlock p) (λ _. ftrue) inb $ fjoin ! $
+        use0 𝓛 (‵ ((HandleWords R).own_val (p, tt) (one_word p ∷ [])))
+        (words_made (handle_type.the_type R).name (R
+        ∷ []) 𝓛 p) $ fjoin ! $
+        move ! (1 ∷ 0 ∷ []) $ fjoin ! $
+        fpack ! (List Val) (λ vs. fsep (cell_at full_share (HandleRow R).mir vs b o)
+        ((HandleRow R).own_val (record { block = p; held = w; sole = false; id = η }) vs)) (one_word p ∷ []) $ done !
 
 module _ (T : RattleType) where
   abbrev R : RattleType
@@ -96,7 +101,8 @@ module _ (T : RattleType) where
         use1 𝓛 (‵ (parts_at full_share parts zero (x.limit, (x.value, tt)) b o)
         ⊛ ‵ (fleft full_share held_type (raw_tys parts) b o))
         (Struct-left 𝓛 full_share (held.the_type R).name parts
-        (lawful_Lones 𝓛 parts (limit_laws.lawful 𝓛, ((param_laws 0 T L).lawful 𝓛, tt))) (x.limit, (x.value, tt)) b o) $
+        (lawful_Lones 𝓛 parts (limit_laws.lawful 𝓛, ((param_laws 0 T L).lawful 𝓛, tt)))
+        (x.limit, (x.value, tt)) b o) $
         split ! $ fsplit3 ! $
         -- [the limit; the value; nothing; what is left]
         move ! (0 ∷ 3 ∷ []) $ fjoin ! $ move ! (1 ∷ 0 ∷ []) $ fjoin ! $ keep ! (0 ∷ []) $ done !

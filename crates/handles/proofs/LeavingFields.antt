@@ -1,5 +1,7 @@
--- The words of the places and of the leaving places, and what they own on the way from the one to the other. Assumes `Logic`.
-use Rattle.std.proofs.Common.{◌≡◌, ℕ, ◌+◌, ◌-◌, ◌*◌, ◌^◌, ◌<◌, ◌≤◌, List, [], ◌∷◌, refl, sym, ap, ◌∙◌, w64, arith}
+-- The words of the places and of the leaving places, and what they own on the way from the one to the other. Assumes
+-- `Logic`.
+use Rattle.std.proofs.Common.{◌≡◌, ℕ, ◌+◌, ◌-◌, ◌*◌, ◌^◌, ◌<◌, ◌≤◌, List, []}
+use Rattle.std.proofs.Common.{◌∷◌, refl, sym, ap, ◌∙◌, w64, arith}
 use native.Mathlib.Nat.{add_assoc, add_comm, zero-mul, sub-zero, not-suc-le-zero}
 use Prim.Native.Nat.{suc}
 use lib.ListN.{length}
@@ -11,7 +13,8 @@ use base.Fml.{fat, froom}
 use mir.Syntax.{ty_int, ty_ptr, ty_struct, ty_array, tcons, tnil}
 use mir.Val.{Val, vint, vstruct, vcons, vnil, has_ty, WT}
 use types.Logic.{Logic, sem}
-use types.Kit.{‵, ◌⊛◌, some, given, ◌$◌, ◌∵◌, !, qed, by, move, keep, pick, learn, show, check, split, use0, use1, use2, fsplit, fsplit3, fjoin, rewrite, done}
+use types.Kit.{‵, ◌⊛◌, some, given, ◌$◌, ◌∵◌, !, qed, by, move, keep, pick, learn, show, check, split}
+use types.Kit.{use0, use1, use2, fsplit, fsplit3, fjoin, rewrite, done}
 use denote.RattleType.{RattleType}
 use denote.Memory.{lone, part_at}
 use denote.Array.{Array}
@@ -22,48 +25,90 @@ use denote.Struct.Struct.{Struct, as_fields}
 use denote.Struct.Owning.{shape}
 use Rattle.core.specs.Mem.{type_size}
 use Rattle.core.proofs.atomic.Steps.{Ptr-Good}
-use Rattle.core.proofs.ptr.Rows.{El, R, Good, el_own, el_x, elτ, sz, el_out, apart, whole, room_snoc, glued, one_more, next}
+use Rattle.core.proofs.ptr.Rows.{El, R, Good, el_own, el_x, elτ, sz, el_out, apart, whole, room_snoc, glued, one_more}
+use Rattle.core.proofs.ptr.Rows.{next}
 use Rattle.std_alloc.proofs.RawLayout.{as_raw}
 use Rattle.handles.specs.Inside.PlacesOwnership.{places_own, leaving_own}
 use Rattle.handles.proofs.PlacesFields.{places_val}
 pub use Rattle.handles.specs.contracts.header_slice.places.Leaving.{the_type as LeavingType, the_row as LeavingRow}
 
 abbrev pub leaving_val : Ptr → ℕ → ℕ → ℕ → Val
-leaving_val p taken filled room = vstruct (vcons (ptr_val p) (vcons (vint w64 taken) (vcons (vint w64 filled) (vcons (vint w64 room) vnil))))
+leaving_val p taken filled room = vstruct (vcons (ptr_val p) (vcons (vint w64 taken) (vcons (vint w64 filled)
+    (vcons (vint w64 room) vnil))))
 
 pub places-Good : (p : Ptr) (filled room : ℕ) → filled < 2 ^ 64 → room < 2 ^ 64
-    → T (has_ty (ty_struct [] (tcons ty_ptr (tcons (ty_int w64) (tcons (ty_int w64) tnil)))) (places_val p filled room)) × WT (places_val p filled room)
-places-Good p filled room filled_fits room_fits = as_fields (ty_ptr ∷ ty_int w64 ∷ ty_int w64 ∷ []) (ptr_val p ∷ vint w64 filled ∷ vint w64 room ∷ [])
+    → T (has_ty (ty_struct [] (tcons ty_ptr (tcons (ty_int w64) (tcons (ty_int w64) tnil))))
+    (places_val p filled room)) × WT (places_val p filled room)
+places-Good p filled room filled_fits room_fits = as_fields (ty_ptr ∷ ty_int w64 ∷ ty_int w64 ∷ [])
+    (ptr_val p ∷ vint w64 filled ∷ vint w64 room ∷ [])
     (Ptr-Good p, ((tt, record { fits = filled_fits }), ((tt, record { fits = room_fits }), tt)))
 
 pub leaving-Good : (p : Ptr) (taken filled room : ℕ) → taken < 2 ^ 64 → filled < 2 ^ 64 → room < 2 ^ 64
-    → T (has_ty (ty_struct [] (tcons ty_ptr (tcons (ty_int w64) (tcons (ty_int w64) (tcons (ty_int w64) tnil))))) (leaving_val p taken filled room)) × WT (leaving_val p taken filled room)
-leaving-Good p taken filled room taken_fits filled_fits room_fits = as_fields (ty_ptr ∷ ty_int w64 ∷ ty_int w64 ∷ ty_int w64 ∷ []) (ptr_val p ∷ vint w64 taken ∷ vint w64 filled ∷ vint w64 room ∷ [])
-    (Ptr-Good p, ((tt, record { fits = taken_fits }), ((tt, record { fits = filled_fits }), ((tt, record { fits = room_fits }), tt))))
+    → T (has_ty (ty_struct [] (tcons ty_ptr (tcons (ty_int w64) (tcons (ty_int w64) (tcons (ty_int w64) tnil)))))
+    (leaving_val p taken filled room)) × WT (leaving_val p taken filled room)
+leaving-Good p taken filled room taken_fits filled_fits room_fits = as_fields (ty_ptr ∷ ty_int w64 ∷ ty_int w64
+    ∷ ty_int w64 ∷ []) (ptr_val p ∷ vint w64 taken ∷ vint w64 filled ∷ vint w64 room ∷ []) (
+      Ptr-Good p,
+      (
+        (tt, record { fits = taken_fits }),
+        (
+          (tt, record { fits = filled_fits }),
+          (
+            (
+              tt,
+              record {
+                fits =
+                    room_fits;
+              },
+            ),
+            tt,
+          ),
+        ),
+      ),
+    )
 
 module _ (R : RattleType) where
   abbrev pub LeavingWords : RattleType
   LeavingWords = Struct (shape (LeavingType R))
 
-  pub leaving_words : {M : Type 1} {𝓤 : Ura M} (𝓛 : Logic 𝓤) (p : Ptr) (taken filled room : ℕ) → taken < 2 ^ 64 → filled < 2 ^ 64 → room < 2 ^ 64
-      → ent 𝓤 (emp 𝓤) (sem 𝓛 (LeavingWords.own_val (p, (taken, (filled, (room, tt)))) (leaving_val p taken filled room ∷ [])))
-  leaving_words 𝓛 p taken filled room taken_fits filled_fits room_fits = makes_shadow 𝓛 (LeavingWords.own_val (p, (taken, (filled, (room, tt)))) (leaving_val p taken filled room ∷ []))
-      (λ vss. (tt, (tt, ((tt, tt), ((tt, tt), ((tt, tt), tt))))))
-      ((ptr_val p ∷ [], (vint w64 taken ∷ [], (vint w64 filled ∷ [], (vint w64 room ∷ [], tt)))), (refl, (refl, ((refl, taken_fits), ((refl, filled_fits), ((refl, room_fits), tt))))))
+  pub leaving_words : {M : Type 1} {𝓤 : Ura M} (𝓛 : Logic 𝓤) (p : Ptr) (taken filled room : ℕ)
+      → taken < 2 ^ 64 → filled < 2 ^ 64 → room < 2 ^ 64
+      → ent 𝓤 (emp 𝓤) (sem 𝓛 (LeavingWords.own_val (p, (taken, (filled, (room, tt))))
+      (leaving_val p taken filled room ∷ [])))
+  leaving_words 𝓛 p taken filled room taken_fits filled_fits room_fits = makes_shadow 𝓛 (LeavingWords.own_val
+      (p, (taken, (filled, (room, tt)))) (leaving_val p taken filled room ∷ []))
+      (λ vss. (tt, (tt, ((tt, tt), ((tt, tt), ((tt, tt), tt)))))) (
+        (ptr_val p ∷ [], (vint w64 taken ∷ [], (vint w64 filled ∷ [], (vint w64 room ∷ [], tt)))),
+        (
+          refl,
+          (refl, ((refl, taken_fits), ((refl, filled_fits), ((refl, room_fits), tt)))),
+        ),
+      )
 
 module _ (R : RattleType) {M : Type 1} {𝓤 : Ura M} (𝓛 : Logic 𝓤) where
   -- no item has left the places yet
-  pub none_left : (p : Ptr) (filled room : ℕ) (items : List R.Denot) → ent 𝓤 (sem 𝓛 (places_own R p filled room items)) (sem 𝓛 (leaving_own R p 0 filled room items))
-  none_left null_ptr filled room items = via 𝓤 (never 𝓤) (qed 𝓛 (‵ (places_own R null_ptr filled room items) ∷ []) ∵ fsplit3 ! $ keep ! (1 ∷ []) $ by ! (id⊢ 𝓤 (never 𝓤))) (never_e 𝓤 _)
-  none_left (block_ptr b o) filled room items = let s : ℕ = type_size R in let none : 0 * s ≡ 0 = zero-mul s in let there : o ≡ o + 0 * s = omega arith in
+  pub none_left : (p : Ptr) (filled room : ℕ) (items : List R.Denot)
+      → ent 𝓤 (sem 𝓛 (places_own R p filled room items)) (sem 𝓛 (leaving_own R p 0 filled room items))
+  none_left null_ptr filled room items = via 𝓤 (never 𝓤)
+      (qed 𝓛 (‵ (places_own R null_ptr filled room items) ∷ []) ∵ fsplit3 ! $ keep ! (1 ∷ []) $
+      by ! (id⊢ 𝓤 (never 𝓤))) (never_e 𝓤 _)
+  none_left (block_ptr b o) filled room items = let s : ℕ = type_size R in let none : 0 * s ≡ 0 = zero-mul s in
+      let there : o ≡ o + 0 * s = omega arith in
       qed 𝓛 (‵ (places_own R (block_ptr b o) filled room items) ∷ []) ∵ fsplit3 ! $ move ! (1 ∷ []) $
-      rewrite ! 0 (λ (at : ℕ). ‵ (part_at (Array R filled) full_share items b at)) there refl $ rewrite ! 0 (λ (n : ℕ). ‵ (part_at (Array R n) full_share items b (o + 0 * s))) (sym (sub-zero filled)) refl $
+      rewrite ! 0 (λ (at : ℕ). ‵ (part_at (Array R filled) full_share items b at)) there refl $
+      rewrite ! 0 (λ (n : ℕ). ‵ (part_at (Array R n) full_share items b (o + 0 * s)))
+      (sym (sub-zero filled)) refl $
       -- [the items; the bound; the room and the right to give back]
-      move ! (0 ∷ 2 ∷ []) $ fjoin ! $ use0 𝓛 (‵ (froom (ty_array (lone R.mir) 0) b o)) (𝓛.laws.room_nil (lone R.mir) b o) $ as_raw ! (ty_array (lone R.mir) 0) b o $ move ! (0 ∷ 1 ∷ []) $ fjoin ! $ move ! (1 ∷ 0 ∷ []) $ fjoin ! $ done !
+      move ! (0 ∷ 2 ∷ []) $ fjoin ! $
+      use0 𝓛 (‵ (froom (ty_array (lone R.mir) 0) b o)) (𝓛.laws.room_nil (lone R.mir) b o) $
+      as_raw ! (ty_array (lone R.mir) 0) b o $ move ! (0 ∷ 1 ∷ []) $ fjoin ! $ move ! (1 ∷ 0 ∷ []) $
+      fjoin ! $ done !
 
   -- nothing lies at null
-  pub none_at_null : (taken filled room : ℕ) (items : List R.Denot) → ent 𝓤 (sem 𝓛 (leaving_own R null_ptr taken filled room items)) (never 𝓤)
-  none_at_null taken filled room items = qed 𝓛 (‵ (leaving_own R null_ptr taken filled room items) ∷ []) ∵ fsplit3 ! $ keep ! (1 ∷ []) $ by ! (id⊢ 𝓤 (never 𝓤))
+  pub none_at_null : (taken filled room : ℕ) (items : List R.Denot)
+      → ent 𝓤 (sem 𝓛 (leaving_own R null_ptr taken filled room items)) (never 𝓤)
+  none_at_null taken filled room items = qed 𝓛 (‵ (leaving_own R null_ptr taken filled room items) ∷ [])
+      ∵ fsplit3 ! $ keep ! (1 ∷ []) $ by ! (id⊢ 𝓤 (never 𝓤))
 
 pub first_of : {X : Type 0} (xs : List X) → 0 < length xs → (x : X) × ((others : List X) × (xs ≡ x ∷ others))
 first_of [] asked = absurd (not-suc-le-zero asked)
@@ -79,23 +124,43 @@ module _ (E : El) {M : Type 1} {𝓤 : Ura M} (𝓛 : Logic 𝓤) (b o taken fil
   after_it = add_assoc o (taken * s) s ∙ ap (λ (k : ℕ). o + k) (sym (next taken s))
 
   -- the first item that is left, at the place where the machine finds it, and the others
-  pub first_out : (x : el_x E) (others : List (el_x E)) → ent 𝓤 (sem 𝓛 (part_at (Array (R E) (filled - taken)) full_share (x ∷ others) b (o + taken * s)))
-      (ex 𝓤 (λ (v : Val). guard 𝓤 (Good E v) (sep 𝓤 (H.at full_share (elτ E) b (taken * s + o) v) (sep 𝓤 (sem 𝓛 (el_own E x (v ∷ []))) (sem 𝓛 (part_at (Array (R E) (filled - (taken + 1))) full_share others b (o + (taken + 1) * s)))))))
+  pub first_out : (x : el_x E) (others : List (el_x E)) → ent 𝓤 (sem 𝓛 (part_at (Array (R E)
+      (filled - taken)) full_share (x ∷ others) b (o + taken * s)))
+      (ex 𝓤 (λ (v : Val). guard 𝓤 (Good E v) (sep 𝓤 (H.at full_share (elτ E) b (taken * s + o) v)
+      (sep 𝓤 (sem 𝓛 (el_own E x (v ∷ []))) (sem 𝓛 (part_at (Array (R E) (filled - (taken + 1)))
+      full_share others b (o + (taken + 1) * s)))))))
   first_out x others = let left : ℕ = filled - taken in
       qed 𝓛 (‵ (part_at (Array (R E) left) full_share (x ∷ others) b (o + taken * s)) ∷ []) ∵
-      use1 𝓛 (given (length (x ∷ others) ≡ left) (‵ (row (R E) full_share (x ∷ others) b (o + taken * s)))) (apart E 𝓛 full_share left (x ∷ others) b (o + taken * s)) $ learn ! (λ long. fsplit ! $ move ! (1 ∷ []) $
+      use1 𝓛 (given (length (x ∷ others) ≡ left) (‵ (row (R E) full_share (x ∷ others)
+      b (o + taken * s)))) (apart E 𝓛 full_share left (x ∷ others) b (o + taken * s)) $
+      learn ! (λ long. fsplit ! $ move ! (1 ∷ []) $
       let fewer : length others ≡ filled - (taken + 1) = omega (arith, long) in
-      rewrite ! 0 (λ (k : ℕ). ‵ (row (R E) full_share others b k)) after_it refl $ use1 𝓛 (‵ (part_at (Array (R E) (filled - (taken + 1))) full_share others b (o + (taken + 1) * s))) (whole E 𝓛 full_share (filled - (taken + 1)) others b (o + (taken + 1) * s) fewer) $ move ! (1 ∷ []) $
+      rewrite ! 0 (λ (k : ℕ). ‵ (row (R E) full_share others b k)) after_it refl $
+      use1 𝓛 (‵ (part_at (Array (R E) (filled - (taken + 1))) full_share others b (o + (taken + 1) * s)))
+      (whole E 𝓛 full_share (filled - (taken + 1)) others b (o + (taken + 1) * s) fewer) $ move ! (1 ∷ []) $
       rewrite ! 0 (λ (k : ℕ). ‵ (part_at (R E) full_share x b k)) (add_comm o (taken * s)) refl $
-      use1 𝓛 (some (λ (v : Val). given (Good E v) (‵ (fat full_share (elτ E) b (taken * s + o) v) ⊛ ‵ (el_own E x (v ∷ []))))) (el_out E 𝓛 full_share x b (taken * s + o)) $ pick ! (λ v. learn ! (λ good. split ! $
-      show ! (λ (w : Val). guard 𝓤 (Good E w) (sep 𝓤 (H.at full_share (elτ E) b (taken * s + o) w) (sep 𝓤 (sem 𝓛 (el_own E x (w ∷ []))) (sem 𝓛 (part_at (Array (R E) (filled - (taken + 1))) full_share others b (o + (taken + 1) * s)))))) v $ check ! good $ done !)))
+      use1 𝓛 (some (λ (v : Val). given (Good E v) (‵ (fat full_share (elτ E) b (taken * s + o) v)
+      ⊛ ‵ (el_own E x (v ∷ []))))) (el_out E 𝓛 full_share x b (taken * s + o)) $
+      pick ! (λ v. learn ! (λ good. split ! $
+      show ! (λ (w : Val). guard 𝓤 (Good E w) (sep 𝓤 (H.at full_share (elτ E) b (taken * s + o) w)
+      (sep 𝓤 (sem 𝓛 (el_own E x (w ∷ []))) (sem 𝓛 (part_at (Array (R E) (filled - (taken + 1)))
+      full_share others b (o + (taken + 1) * s)))))) v $ check ! good $ done !)))
 
   -- its place is room again, beside the room before it
-  pub room_after : (v : Val) → ent 𝓤 (sep 𝓤 (H.room (ty_array (elτ E) taken) b o) (H.at full_share (elτ E) b (taken * s + o) v)) (H.room (ty_array (elτ E) (taken + 1)) b o)
-  room_after v = qed 𝓛 (‵ (froom (ty_array (elτ E) taken) b o) ∷ ‵ (fat full_share (elτ E) b (taken * s + o) v) ∷ []) ∵ move ! (1 ∷ []) $ use1 𝓛 (‵ (froom (elτ E) b (taken * s + o))) (𝓛.laws.at_room (elτ E) b (taken * s + o) v) $ move ! (1 ∷ 0 ∷ []) $
-      use2 𝓛 (‵ (froom (ty_array (elτ E) (suc taken)) b o)) (room_snoc E 𝓛 b o taken) $ rewrite ! 0 (λ (k : ℕ). ‵ (froom (ty_array (elτ E) k) b o)) (sym (one_more taken)) refl $ done !
+  pub room_after : (v : Val) → ent 𝓤 (sep 𝓤 (H.room (ty_array (elτ E) taken) b o) (H.at full_share (elτ E)
+      b (taken * s + o) v)) (H.room (ty_array (elτ E) (taken + 1)) b o)
+  room_after v = qed 𝓛 (‵ (froom (ty_array (elτ E) taken) b o) ∷ ‵ (fat full_share (elτ E)
+      b (taken * s + o) v) ∷ []) ∵ move ! (1 ∷ []) $
+      use1 𝓛 (‵ (froom (elτ E) b (taken * s + o))) (𝓛.laws.at_room (elτ E) b (taken * s + o) v) $
+      move ! (1 ∷ 0 ∷ []) $
+      use2 𝓛 (‵ (froom (ty_array (elτ E) (suc taken)) b o)) (room_snoc E 𝓛 b o taken) $
+      rewrite ! 0 (λ (k : ℕ). ‵ (froom (ty_array (elτ E) k) b o)) (sym (one_more taken)) refl $ done !
 
   -- with no item left, the room before and the room after are the whole block's
-  pub whole_room : (room : ℕ) → filled ≡ taken → filled ≤ room → ent 𝓤 (sep 𝓤 (H.room (ty_array (elτ E) taken) b o) (H.room (ty_array (elτ E) (room - filled)) b (o + filled * s))) (H.room (ty_array (elτ E) room) b o)
-  whole_room room none enough = qed 𝓛 (‵ (froom (ty_array (elτ E) taken) b o) ∷ ‵ (froom (ty_array (elτ E) (room - filled)) b (o + filled * s)) ∷ []) ∵
-      rewrite ! 1 (λ (k : ℕ). ‵ (froom (ty_array (elτ E) (room - k)) b (o + k * s))) none refl $ by ! (glued E 𝓛 taken (room - taken) room b o (omega arith))
+  pub whole_room : (room : ℕ)
+      → filled ≡ taken → filled ≤ room → ent 𝓤 (sep 𝓤 (H.room (ty_array (elτ E) taken) b o)
+      (H.room (ty_array (elτ E) (room - filled)) b (o + filled * s))) (H.room (ty_array (elτ E) room) b o)
+  whole_room room none enough = qed 𝓛 (‵ (froom (ty_array (elτ E) taken) b o) ∷ ‵ (froom (ty_array (elτ E)
+      (room - filled)) b (o + filled * s)) ∷ []) ∵
+      rewrite ! 1 (λ (k : ℕ). ‵ (froom (ty_array (elτ E) (room - k)) b (o + k * s))) none refl $
+      by ! (glued E 𝓛 taken (room - taken) room b o (omega arith))

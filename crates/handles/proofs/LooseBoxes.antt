@@ -1,4 +1,5 @@
--- The heap where what is called has a type parameter; and a box that is kept as its pointer and its allocator, taken apart and put together. Assumes `Logic`.
+-- The heap where what is called has a type parameter; and a box that is kept as its pointer and its allocator, taken
+-- apart and put together. Assumes `Logic`.
 use Rattle.std.proofs.Common.{◌≡◌, ℕ, List, [], ◌∷◌, ◌++◌, refl, ap, ◌∙◌, true, ◌&&◌}
 use lib.Dec.{T}
 use seplogic.Ra.Ura.{Ura}
@@ -46,31 +47,50 @@ pub heap_arg-laws : Laws heap_arg
 heap_arg-laws = arg_laws (bare (layout heap_row)) no heap_row heap_laws refl
 
 abbrev pub heap : Al
-heap = record { row = heap_row; laws = heap_laws; g = ghosts; d = dict; drops = impl (none ∷ []) (tcons (layout heap_arg) tnil) dnil }
+heap = record {
+  row = heap_row;
+  laws = heap_laws;
+  g = ghosts;
+  d = dict;
+  drops = impl (none ∷ [])
+      (tcons (layout heap_arg) tnil) dnil;
+}
 
 abbrev pub pair_val : Val → Val → Val
 pair_val v w = vstruct (vcons v (vcons w vnil))
 
-pub loose-Good : (b o : ℕ) (h : Val) → Good (layout heap_row) h → T (has_ty (layout heap_row) h && true) × WT (pair_val (vptr b o) h)
+pub loose-Good : (b o : ℕ) (h : Val) → Good (layout heap_row) h → T (has_ty (layout heap_row) h && true)
+    × WT (pair_val (vptr b o) h)
 loose-Good b o h good = (and_tt (has_ty (layout heap_row) h) good.0, (tt, (good.1, tt)))
 
 module _ (R : RattleType) where
   abbrev pub Owned : Global → Ptr → R.Denot → Fml
   Owned a p x = box_owns (ghosts.dealloc_token a) R p x
 
-  module _ {M : Type 1} {𝓤 : Ura M} {𝓛 : Logic 𝓤} {K : Type 0} {Γ : List (Item 𝓤)} {G : Goal 𝓤 𝓛.H} where
+  module _ {M : Type 1} {𝓤 : Ura M} {𝓛 : Logic 𝓤} {K : Type 0} {Γ : List (Item 𝓤)} {G : Goal 𝓤
+      𝓛.H} where
     -- [what is owned; the allocator]
     pub loose_opens : K → (d : (LooseRow R).Denot) (vs : List Val)
-        → ((b o : ℕ) (h : Val) → d.at ≡ block_ptr b o → vs ≡ pair_val (vptr b o) h ∷ [] → Good (layout heap_row) h → Seq K 𝓛 (‵ (Owned d.alloc (block_ptr b o) d.value) ∷ ‵ (heap_row.own_val d.alloc (h ∷ [])) ∷ Γ) G)
+        → ((b o : ℕ) (h : Val) → d.at ≡ block_ptr b o → vs ≡ pair_val (vptr b o)
+        h ∷ [] → Good (layout heap_row) h → Seq K 𝓛 (‵ (Owned d.alloc (block_ptr b o) d.value)
+        ∷ ‵ (heap_row.own_val d.alloc (h ∷ [])) ∷ Γ) G)
         → Seq K 𝓛 (‵ ((LooseRow R).own_val d vs) ∷ Γ) G
-    loose_opens t d vs k = fsplit t $ fpick t (λ vss. fsplit t $ feq_l t (λ is_pair. fsplit t $ feq_l t (λ is_ptr. fsplit t $
+    loose_opens t d vs k = fsplit t $ fpick t (λ vss. fsplit t $ feq_l t (λ is_pair. fsplit t $
+        feq_l t (λ is_ptr. fsplit t $
         handle_tells heap t d.alloc vss.1.0 (λ h is_handle good. move t (1 ∷ []) $ drop t $ move t (1 ∷ []) $
-        in_a_block t d.at (λ p. Owned d.alloc p d.value) (fst∗ 𝓤 (never 𝓤) (sem 𝓛 (ghosts.dealloc_token d.alloc (bare (lone R.mir)) null_ptr))) (λ b o placed.
+        in_a_block t d.at (λ p. Owned d.alloc p d.value) (fst∗ 𝓤 (never 𝓤)
+        (sem 𝓛 (ghosts.dealloc_token d.alloc (bare (lone R.mir)) null_ptr))) (λ b o placed.
         let pointer : vss.0 ≡ vptr b o ∷ [] = is_ptr ∙ ap (λ (p : Ptr). ptr_val p ∷ []) placed in
         k b o h placed (is_pair ∙ (λ j. vstruct (of_list (pointer j ++ (is_handle j ++ []))) ∷ [])) good)))))
 
     pub loose_shuts : K → (b o : ℕ) (h : Val) (a : Global) (x : R.Denot)
-        → Step K 𝓛 (‵ ((LooseRow R).own_val (record { at = block_ptr b o; alloc = a; value = x }) (pair_val (vptr b o) h ∷ [])) ∷ Γ) G (‵ (Owned a (block_ptr b o) x) ∷ ‵ (heap_row.own_val a (h ∷ [])) ∷ Γ) G
+        → Step K 𝓛 (‵ ((LooseRow R).own_val (record { at = block_ptr b o; alloc = a; value = x })
+        (pair_val (vptr b o) h ∷ [])) ∷ Γ) G (‵ (Owned a (block_ptr b o) x)
+        ∷ ‵ (heap_row.own_val a (h ∷ [])) ∷ Γ) G
     loose_shuts t b o h a x = step (λ s. let v : Val = pair_val (vptr b o) h in
-        nothing_more t $ move t (2 ∷ 0 ∷ []) $ fjoin t $ feq_i t (List Val) (vptr b o ∷ []) (vptr b o ∷ []) refl $ fjoin t $ feq_i t (List Val) (v ∷ []) (v ∷ []) refl $ fjoin t $
-        fpack t (Valss (RawPtr ∷ heap_row ∷ [])) (within (shape (LooseType R)) (to (LooseType R) (record { at = block_ptr b o; alloc = a; value = x })) (v ∷ [])) (vptr b o ∷ [], (h ∷ [], tt)) $ fjoin t $ s)
+        nothing_more t $ move t (2 ∷ 0 ∷ []) $ fjoin t $
+        feq_i t (List Val) (vptr b o ∷ []) (vptr b o ∷ []) refl $ fjoin t $
+        feq_i t (List Val) (v ∷ []) (v ∷ []) refl $ fjoin t $
+        fpack t (Valss (RawPtr ∷ heap_row ∷ [])) (within (shape (LooseType R)) (to (LooseType R)
+        (record { at = block_ptr b o; alloc = a; value = x })) (v ∷ [])) (vptr b o ∷ [], (h ∷ [], tt)) $
+        fjoin t $ s)

@@ -1,6 +1,7 @@
 -- A log with a mark in it: which steps show one, and that it stays.
 use mathlib.Core.List.{IsPrefix}
-use Rattle.std.proofs.Common.{◌≡◌, ℕ, Bool, true, false, if◌then◌else◌, List, [], ◌∷◌, ◌++◌, refl, sym, ◌∙◌, ap, subst}
+use Rattle.std.proofs.Common.{◌≡◌, ℕ, Bool, true, false, if◌then◌else◌, List, [], ◌∷◌, ◌++◌}
+use Rattle.std.proofs.Common.{refl, sym, ◌∙◌, ap, subst}
 use Rattle.counting_word.specs.CountingWord.{IsLimit, is_marked_word}
 use Rattle.counting_word.specs.WordSteps.{WordStep, reads, asks, raises_from, reads_last, lowers, claims, marks}
 use Rattle.counting_word.specs.WordSteps.{word_by, left_from, left_by}
@@ -51,7 +52,8 @@ marks_shown limit found log a = subst HasMark (sym a.ends) (ap (λ (q : Tally). 
     (tally-more first ([] ++ a.others) marks))
 
 -- a question shows a mark by its answer
-pub asks_shown : (limit : ℕ) → IsLimit limit → (found : ℕ) (log : List WordStep) → Adds limit [] asks found log
+pub asks_shown : (limit : ℕ) → IsLimit limit → (found : ℕ) (log : List WordStep)
+    → Adds limit [] asks found log
     → is_marked_word found ≡ true → HasMark log
 asks_shown limit in_range found log a is =
     let same : left_by log ≡ found = ap left_by a.ends ∙ left-asks ([] ++ a.others) 1 ∙ a.found_word in

@@ -7,7 +7,8 @@ use base.Fml.{Lft, Incl, Incl-refl, Share, Fml, fsep, fex, flft}
 use base.Share
 use contract.BorrowLft.{meet_⊑_left, ⊑_static}
 use types.Logic.{Logic, sem}
-use types.Kit.{‵, ◌⊛◌, later, some, pick, await, use2, ◌$◌, ◌∵◌, !, qed, by, move, drop, split, fsplit, fsplit3}
+use types.Kit.{‵, ◌⊛◌, later, some, pick, await, use2, ◌$◌, ◌∵◌, !, qed, by, move, drop, split}
+use types.Kit.{fsplit, fsplit3}
 use types.Kit.{fjoin, fpick, fpack, use1, updating, now, done}
 use types.Tokens.{shr_bor_shorten, bor_new, bor_fracture}
 use denote.RattleType.{RattleType}
@@ -52,14 +53,16 @@ module _ (R : RattleType) (L : Laws R) (p : Ptr) (x : (HeldRow R).Denot) where
   module _ {M : Type 1} {𝓤 : Ura M} (𝓛 : Logic 𝓤) where
     -- the value is seen at every lifetime
     pub stays_shown : (κ : Lft) → ent 𝓤 (sem 𝓛 (marked_shares R p x κ)) (sem 𝓛 (shown R p x κ))
-    stays_shown κ = qed 𝓛 (‵ (marked_shares R p x κ) ∷ []) ∵ fpick ! (λ t. let a : Lft = t.1.shared ∷ [] in
+    stays_shown κ = qed 𝓛 (‵ (marked_shares R p x κ) ∷ [])
+        ∵ fpick ! (λ t. let a : Lft = t.1.shared ∷ [] in
         fsplit ! $ drop ! $ fsplit ! $ shr_bor_shorten ! κ (⊑_static κ) $ move ! (1 ∷ []) $ fsplit ! $ drop ! $
         fsplit ! $ drop ! $
         move ! (1 ∷ 0 ∷ []) $ by ! (moves_from 𝓛 (shown R p x) shows-ShrLaws κ a a (meet_⊑_left a κ)))
 
     -- a counted handle of a marked block, given away for good
     pub becomes_lasting : (η : ℕ) (i : Names) (κ : Lft)
-        → ent 𝓤 (sem 𝓛 (fsep (marked i) (counted_of R p x η i))) (𝓛.H.⇛ (sem 𝓛 (marked_shares R p x κ)))
+        → ent 𝓤 (sem 𝓛 (fsep (marked i) (counted_of R p x η i)))
+        (𝓛.H.⇛ (sem 𝓛 (marked_shares R p x κ)))
     becomes_lasting η i κ = let a : Lft = i.shared ∷ [] in
         qed 𝓛 (‵ (fsep (marked i) (counted_of R p x η i)) ∷ []) ∵ updating ! $
         fsplit ! $ move ! (1 ∷ []) $ fsplit3 ! $ fsplit ! $ fpick ! (λ d. fsplit ! $ drop ! $
@@ -80,10 +83,13 @@ module _ (R : RattleType) (L : Laws R) (p : Ptr) (x : (HeldRow R).Denot) where
     pub new_lasts : (μ : Lft) (q : Share) → Incl μ R.lives → (κ : Lft)
         → ent 𝓤 (sep 𝓤 (sem 𝓛 (bare_block R p x (marked_word 1))) (sem 𝓛 (flft μ q)))
         (𝓛.H.⇛ (sep 𝓤 (sem 𝓛 (marked_shares R p x κ)) (sem 𝓛 (flft μ q))))
-    new_lasts μ q lives κ = qed 𝓛 (‵ (bare_block R p x (marked_word 1)) ∷ ‵ (flft μ q) ∷ []) ∵ updating ! $
-        use1 𝓛 (later (some (λ (η : ℕ). ‵ (unshared_block R p x η (marked_word 1))))) (begins_marked R L 𝓛 p x) $
+    new_lasts μ q lives κ = qed 𝓛 (‵ (bare_block R p x (marked_word 1)) ∷ ‵ (flft μ q) ∷ [])
+        ∵ updating ! $
+        use1 𝓛 (later (some (λ (η : ℕ). ‵ (unshared_block R p x η (marked_word 1)))))
+        (begins_marked R L 𝓛 p x) $
         await ! tt $ pick ! (λ η.
         use2 𝓛 (later (‵ (fex Names (λ i. fsep (marked i) (counted_of R p x η i))) ⊛ ‵ (flft μ q)))
         (known_settles R L 𝓛 p x η μ lives μ q (Incl-refl μ)) $
-        await ! tt $ split ! $ fpick ! (λ i. use1 𝓛 (later (‵ (marked_shares R p x κ))) (becomes_lasting η i κ) $
+        await ! tt $ split ! $ fpick ! (λ i. use1 𝓛 (later (‵ (marked_shares R p x κ)))
+        (becomes_lasting η i κ) $
         await ! tt $ now ! $ done !))

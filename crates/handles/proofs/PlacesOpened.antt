@@ -1,4 +1,5 @@
--- Places are taken apart and put together: the items, the room after them and the right to give the block back. Assumes `Logic`.
+-- Places are taken apart and put together: the items, the room after them and the right to give the block back.
+-- Assumes `Logic`.
 use Rattle.std.proofs.Common.{◌≡◌, ℕ, ◌*◌, ◌^◌, ◌<◌, List, [], ◌∷◌, refl, sym, ap, ◌∙◌}
 use lib.ListN.{length}
 use lib.ListN.{drop as skip}
@@ -9,7 +10,8 @@ use base.Fraction.{full_share}
 use base.Logic.{ent, sep, id⊢, never}
 use base.Fml.{Fml, fsep}
 use types.Logic.{Logic, sem}
-use types.Kit.{Item, Goal, Seq, Step, step, ‵, given, ◌$◌, ◌∵◌, !, qed, by, move, keep, use0, use1, learn, fsplit, fsplit3, fjoin, fjoin3, fpack, flt_i, flt_l, rewrite, done}
+use types.Kit.{Item, Goal, Seq, Step, step, ‵, given, ◌$◌, ◌∵◌, !, qed, by, move, keep, use0, use1, learn}
+use types.Kit.{fsplit, fsplit3, fjoin, fjoin3, fpack, flt_i, flt_l, rewrite, done}
 use types.SemTy.{cells}
 use denote.RattleType.{RattleType}
 use denote.Laws.{Is, shows}
@@ -29,49 +31,75 @@ use Rattle.handles.proofs.PlacesFields.{places_val, PlacesRow, PlacesWords, word
 module _ (R : RattleType) where
   -- all but the items: the room after them, the right to give the block back, and the four words at (rb, ro)
   abbrev pub Beside : (PlacesRow R).Denot → ℕ → ℕ → ℕ → ℕ → Fml
-  Beside d b o rb ro = fsep (spare R (block_ptr b o) d.filled d.room) (fsep (gives_back R (block_ptr b o) d.room) (cell_at full_share (PlacesRow R).mir (places_val (block_ptr b o) d.filled d.room ∷ []) rb ro))
+  Beside d b o rb ro = fsep (spare R (block_ptr b o) d.filled d.room) (fsep (gives_back R (block_ptr b o) d.room)
+      (cell_at full_share (PlacesRow R).mir (places_val (block_ptr b o) d.filled d.room ∷ []) rb ro))
 
   -- no places lie at null
-  pub none_at_null : {M : Type 1} {𝓤 : Ura M} (𝓛 : Logic 𝓤) (d : (PlacesRow R).Denot) → ent 𝓤 (sem 𝓛 (places_own R null_ptr d.filled d.room d.items)) (never 𝓤)
-  none_at_null {𝓤 = 𝓤} 𝓛 d = qed 𝓛 (‵ (places_own R null_ptr d.filled d.room d.items) ∷ []) ∵ fsplit3 ! $ move ! (1 ∷ []) $ keep ! (0 ∷ []) $ by ! (id⊢ 𝓤 (never 𝓤))
+  pub none_at_null : {M : Type 1} {𝓤 : Ura M} (𝓛 : Logic 𝓤) (d : (PlacesRow R).Denot)
+      → ent 𝓤 (sem 𝓛 (places_own R null_ptr d.filled d.room d.items)) (never 𝓤)
+  none_at_null {𝓤 = 𝓤} 𝓛 d = qed 𝓛 (‵ (places_own R null_ptr d.filled d.room d.items) ∷ [])
+      ∵ fsplit3 ! $ move ! (1 ∷ []) $ keep ! (0 ∷ []) $ by ! (id⊢ 𝓤 (never 𝓤))
 
-  module _ {M : Type 1} {𝓤 : Ura M} {𝓛 : Logic 𝓤} {K : Type 0} {Γ : List (Item 𝓤)} {G : Goal 𝓤 𝓛.H} where
+  module _ {M : Type 1} {𝓤 : Ura M} {𝓛 : Logic 𝓤} {K : Type 0} {Γ : List (Item 𝓤)} {G : Goal 𝓤
+      𝓛.H} where
     -- [the items; the room after them; the right to give the block back]
     pub places_opens : K → (d : (PlacesRow R).Denot) (vs : List Val)
-        → ((b o : ℕ) → d.first ≡ block_ptr b o → vs ≡ places_val (block_ptr b o) d.filled d.room ∷ [] → d.filled < 2 ^ 64 → d.room < 2 ^ 64 → d.room * type_size R < 2 ^ 63
-        → Seq K 𝓛 (‵ (part_at (Array R d.filled) full_share d.items b o) ∷ ‵ (spare R (block_ptr b o) d.filled d.room) ∷ ‵ (gives_back R (block_ptr b o) d.room) ∷ Γ) G)
+        → ((b o : ℕ) → d.first ≡ block_ptr b o → vs ≡ places_val (block_ptr b o)
+        d.filled d.room ∷ [] → d.filled < 2 ^ 64 → d.room < 2 ^ 64 → d.room * type_size R < 2 ^ 63
+        → Seq K 𝓛 (‵ (part_at (Array R d.filled) full_share d.items b o) ∷ ‵ (spare R (block_ptr b o)
+        d.filled d.room) ∷ ‵ (gives_back R (block_ptr b o) d.room) ∷ Γ) G)
         → Seq K 𝓛 (‵ ((PlacesRow R).own_val d vs) ∷ Γ) G
-    places_opens t d vs k = fsplit t $ facts t (PlacesWords R) (Is (PlacesWords R)) (shows 𝓛 (PlacesWords R)) (d.first, (d.filled, (d.room, tt))) vs (λ is. let told = words_told R d.first d.filled d.room vs is in
-        in_a_block t d.first (λ p. places_own R p d.filled d.room d.items) (none_at_null 𝓛 d) (λ b o at. fsplit t $ flt_l t (λ fits. fsplit3 t $
+    places_opens t d vs k = fsplit t $
+        facts t (PlacesWords R) (Is (PlacesWords R)) (shows 𝓛 (PlacesWords R)) (d.first, (d.filled, (d.room, tt)))
+        vs (λ is. let told = words_told R d.first d.filled d.room vs is in
+        in_a_block t d.first (λ p. places_own R p d.filled d.room d.items) (none_at_null 𝓛 d)
+        (λ b o at. fsplit t $ flt_l t (λ fits. fsplit3 t $
         k b o at (told.0 ∙ ap (λ (p : Ptr). places_val p d.filled d.room ∷ []) at) told.1 told.2 fits)))
 
-    pub places_shuts : K → (d : (PlacesRow R).Denot) (b o : ℕ) → d.first ≡ block_ptr b o → d.filled < 2 ^ 64 → d.room < 2 ^ 64 → d.room * type_size R < 2 ^ 63
+    pub places_shuts : K → (d : (PlacesRow R).Denot) (b o : ℕ)
+        → d.first ≡ block_ptr b o → d.filled < 2 ^ 64 → d.room < 2 ^ 64 → d.room * type_size R < 2 ^ 63
         → Step K 𝓛 (‵ ((PlacesRow R).own_val d (places_val (block_ptr b o) d.filled d.room ∷ [])) ∷ Γ) G
-        (‵ (part_at (Array R d.filled) full_share d.items b o) ∷ ‵ (spare R (block_ptr b o) d.filled d.room) ∷ ‵ (gives_back R (block_ptr b o) d.room) ∷ Γ) G
-    places_shuts t d b o at small_filled small_room fits = step (λ s. let v : Val = places_val (block_ptr b o) d.filled d.room in
-        fjoin3 t $ flt_i t (d.room * type_size R) (2 ^ 63) fits $ fjoin t $ use0 𝓛 (‵ ((PlacesWords R).own_val (block_ptr b o, (d.filled, (d.room, tt))) (v ∷ []))) (words_made R 𝓛 (block_ptr b o) d.filled d.room small_filled small_room) $ fjoin t $
-        rewrite t 0 (λ (p : Ptr). ‵ (fsep ((PlacesWords R).own_val (p, (d.filled, (d.room, tt))) (v ∷ [])) (places_own R p d.filled d.room d.items))) (sym at) refl $ s)
+        (‵ (part_at (Array R d.filled) full_share d.items b o) ∷ ‵ (spare R (block_ptr b o) d.filled d.room)
+        ∷ ‵ (gives_back R (block_ptr b o) d.room) ∷ Γ) G
+    places_shuts t d b o at small_filled small_room fits = step (λ s. let v : Val = places_val (block_ptr b o)
+        d.filled d.room in
+        fjoin3 t $ flt_i t (d.room * type_size R) (2 ^ 63) fits $ fjoin t $
+        use0 𝓛 (‵ ((PlacesWords R).own_val (block_ptr b o, (d.filled, (d.room, tt))) (v ∷ [])))
+        (words_made R 𝓛 (block_ptr b o) d.filled d.room small_filled small_room) $ fjoin t $
+        rewrite t 0 (λ (p : Ptr). ‵ (fsep ((PlacesWords R).own_val (p, (d.filled, (d.room, tt))) (v ∷ []))
+        (places_own R p d.filled d.room d.items))) (sym at) refl $ s)
 
-module _ (T : RattleType) (L : Laws T) {M : Type 1} {𝓤 : Ura M} (𝓛 : Logic 𝓤) (d : (PlacesRow (param 0 T)).Denot) (b o : ℕ) where
+module _ (T : RattleType) (L : Laws T) {M : Type 1} {𝓤 : Ura M} (𝓛 : Logic 𝓤)
+    (d : (PlacesRow (param 0 T)).Denot) (b o : ℕ) where
   abbrev R : RattleType
   R = param 0 T
 
   abbrev element : El
   element = record { row = T; laws = L }
 
-  pub items_out : ent 𝓤 (sem 𝓛 (part_at (Array R d.filled) full_share d.items b o)) (sem 𝓛 (cells (mem R) d.items b o))
+  pub items_out : ent 𝓤 (sem 𝓛 (part_at (Array R d.filled) full_share d.items b o)) (sem 𝓛 (cells (mem R)
+      d.items b o))
   items_out = qed 𝓛 (‵ (part_at (Array R d.filled) full_share d.items b o) ∷ []) ∵
-      use1 𝓛 (given (length d.items ≡ d.filled) (‵ (row R full_share d.items b o))) (apart element 𝓛 full_share d.filled d.items b o) $ learn ! (λ _. by ! (whole_in 𝓛 R d.items b o))
+      use1 𝓛 (given (length d.items ≡ d.filled) (‵ (row R full_share d.items b o)))
+      (apart element 𝓛 full_share d.filled d.items b o) $ learn ! (λ _. by ! (whole_in 𝓛 R d.items b o))
 
   -- items that were lent and written come back
-  pub items_back : d.first ≡ block_ptr b o → d.filled < 2 ^ 64 → d.room < 2 ^ 64 → d.room * type_size R < 2 ^ 63 → (rb ro : ℕ) (written : List T.Denot) → length written ≡ length d.items
-      → ent 𝓤 (sep 𝓤 (sem 𝓛 (cells (mem R) written b o)) (sem 𝓛 (Beside R d b o rb ro))) (sem 𝓛 ((mem (PlacesRow R)).own_at (with_items d written) rb ro))
+  pub items_back : d.first ≡ block_ptr b o → d.filled < 2 ^ 64 → d.room < 2 ^ 64 → d.room * type_size R < 2 ^
+      63 → (rb ro : ℕ) (written : List T.Denot) → length written ≡ length d.items
+      → ent 𝓤 (sep 𝓤 (sem 𝓛 (cells (mem R) written b o)) (sem 𝓛 (Beside R d b o rb ro)))
+      (sem 𝓛 ((mem (PlacesRow R)).own_at (with_items d written) rb ro))
   unfolding part_of
-  items_back at small_filled small_room fits rb ro written same = let new : (PlacesRow R).Denot = with_items d written in
+  items_back at small_filled small_room fits rb ro written same = let new : (PlacesRow R).Denot = with_items d
+      written in
       let all : new.items ≡ written = take_at written (skip (length written) d.items) (length d.items) same in
-      qed 𝓛 (‵ (cells (mem R) written b o) ∷ ‵ (Beside R d b o rb ro) ∷ []) ∵ use1 𝓛 (‵ (row R full_share written b o)) (whole_out 𝓛 R written b o) $
-      use1 𝓛 (‵ (part_at (Array R d.filled) full_share written b o)) (whole element 𝓛 full_share d.filled written b o (same ∙ sym d.within.0)) $
-      rewrite ! 0 (λ (items : List T.Denot). ‵ (part_at (Array R d.filled) full_share items b o)) (sym all) refl $ move ! (1 ∷ []) $ fsplit3 ! $
+      qed 𝓛 (‵ (cells (mem R) written b o) ∷ ‵ (Beside R d b o rb ro) ∷ [])
+      ∵ use1 𝓛 (‵ (row R full_share written b o)) (whole_out 𝓛 R written b o) $
+      use1 𝓛 (‵ (part_at (Array R d.filled) full_share written b o))
+      (whole element 𝓛 full_share d.filled written b o (same ∙ sym d.within.0)) $
+      rewrite ! 0 (λ (items : List T.Denot). ‵ (part_at (Array R d.filled) full_share items b o)) (sym all) refl $
+      move ! (1 ∷ []) $ fsplit3 ! $
       -- [the room; the right to give back; the words; the items]
-      move ! (3 ∷ 0 ∷ 1 ∷ []) $ places_shuts R ! new b o at small_filled small_room fits $ move ! (1 ∷ 0 ∷ []) $ fjoin ! $
-      fpack ! (List Val) (λ us. fsep (cell_at full_share (PlacesRow R).mir us rb ro) ((PlacesRow R).own_val new us)) (places_val (block_ptr b o) d.filled d.room ∷ []) $ done !
+      move ! (3 ∷ 0 ∷ 1 ∷ []) $ places_shuts R ! new b o at small_filled small_room fits $
+      move ! (1 ∷ 0 ∷ []) $ fjoin ! $
+      fpack ! (List Val) (λ us. fsep (cell_at full_share (PlacesRow R).mir us rb ro) ((PlacesRow R).own_val new us))
+      (places_val (block_ptr b o) d.filled d.room ∷ []) $ done !

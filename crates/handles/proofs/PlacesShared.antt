@@ -15,7 +15,8 @@ use denote.Sharing.{ShrLaws, said}
 use denote.SharingLaws.{said_shr_laws, beside_shr_laws}
 use denote.Shares.{Shares, Shares-Array}
 use denote.Param.Laws.{Laws}
-use denote.Param.Send.{IsSend, IsSync, AllSend, AllSync, array_send, array_sync, owning_send, struct_send, struct_sync, sendable}
+use denote.Param.Send.{IsSend, IsSync, AllSend, AllSync, array_send, array_sync, owning_send, struct_send, struct_sync}
+use denote.Param.Send.{sendable}
 use denote.Struct.Lending.{lent_at, lent_at_shr_laws, Lends, Lends-first, Lends-lies, Lends-said, Lends-both}
 use denote.Struct.Owning.{Owning, shape, fields, to}
 use denote.Struct.Struct.{exits_of}
@@ -33,11 +34,17 @@ use Rattle.handles.proofs.PlacesFields.{PlacesType, PlacesRow, PlacesWords}
 
 module _ (R : RattleType) (p : Ptr) (filled room : ℕ) (items : List R.Denot) where
   pub places_share-ShrLaws : RowLaws R → ShrLaws (places_share R p filled room items)
-  places_share-ShrLaws L = beside_shr_laws (said (fits R room)) (lent_at (Array R filled) p items) (said_shr_laws (fits R room) tt) (lent_at_shr_laws (Array R filled) (Array-row_laws R L filled) p items)
+  places_share-ShrLaws L = beside_shr_laws (said (fits R room)) (lent_at (Array R filled) p items)
+      (said_shr_laws (fits R room) tt) (lent_at_shr_laws (Array R filled) (Array-row_laws R L filled) p items)
 
-  pub Lends-places : {M : Type 1} {𝓤 : Ura M} (𝓛 : Logic 𝓤) → Laws R → (l : Lft) → Shares 𝓛 R l → Lends 𝓛 (places_own R p filled room items) (places_share R p filled room items) l
-  Lends-places 𝓛 L l s = let run : Fml = lies_at (Array R filled) full_share p items in let others : Fml = fsep (spare R p filled room) (gives_back R p room) in let lent : Lft → Fml = lent_at (Array R filled) p items in
-      Lends-both 𝓛 (fits R room) (fsep run others) (said (fits R room)) lent l (Lends-said 𝓛 (fits R room) tt l) (Lends-first 𝓛 run others lent l (Lends-lies 𝓛 (Array R filled) l p items (Shares-Array 𝓛 R (subst Single (sym L.one) tt) filled l s items)))
+  pub Lends-places : {M : Type 1} {𝓤 : Ura M} (𝓛 : Logic 𝓤) → Laws R → (l : Lft)
+      → Shares 𝓛 R l → Lends 𝓛 (places_own R p filled room items) (places_share R p filled room items) l
+  Lends-places 𝓛 L l s = let run : Fml = lies_at (Array R filled) full_share p items in
+      let others : Fml = fsep (spare R p filled room) (gives_back R p room) in
+      let lent : Lft → Fml = lent_at (Array R filled) p items in
+      Lends-both 𝓛 (fits R room) (fsep run others) (said (fits R room)) lent l (Lends-said 𝓛 (fits R room)
+      tt l) (Lends-first 𝓛 run others lent l (Lends-lies 𝓛 (Array R filled)
+      l p items (Shares-Array 𝓛 R (subst Single (sym L.one) tt) filled l s items)))
 
 room-Keyless : (τ : Ty) (p : Ptr) → Keyless (room_for τ p)
 room-Keyless τ (block_ptr b o) = tt
@@ -60,15 +67,33 @@ module _ (R : RattleType) where
   -- places may go to a thread if their items may: any thread may free their block
   pub places-Send : IsSend R → IsSend (PlacesRow R)
   places-Send s = owning_send O fields-Send
-      (λ d. (tt, (lies (Array R d.filled) (array_send R d.filled s) d.first d.items, (room-Keyless _ (d.first +ₚ d.filled * type_size R), owns_if-Keyless (not (d.room * type_size R == 0)) _ (crossing.frees.frees handle (array_of R d.room) d.first)))))
+      (λ d. (
+        tt,
+        (
+          lies (Array R d.filled) (array_send R d.filled s)
+              d.first d.items,
+          (
+            room-Keyless _ (d.first +ₚ d.filled * type_size R),
+            owns_if-Keyless (not (d.room *
+                type_size R == 0)) _ (crossing.frees.frees handle (array_of R d.room) d.first),
+          ),
+        ),
+      ))
       (λ k. quiet (to O) (exits_of k (fields O)) ((struct_send (shape O) fields-Send).leaving k))
 
   pub places-Sync : IsSync R → IsSync (PlacesRow R)
-  places-Sync y = record { shared = λ d b o κ. ((struct_sync (shape O) fields-Sync).shared (to O d) b o κ, (tt, seen (Array R d.filled) (array_sync R d.filled y) d.first d.items κ)) }
+  places-Sync y = record {
+    shared = λ d b o κ. (
+      (struct_sync (shape O) fields-Sync).shared (to O d)
+          b o κ,
+      (tt, seen (Array R d.filled) (array_sync R d.filled y) d.first d.items κ),
+    );
+  }
 
   -- the three fields of places are Copy
   abbrev words_copy : Copyables O.parts
   words_copy = (RawPtr-copy, (usize-copy, (usize-copy, tt)))
 
   pub words_open : {M : Type 1} {𝓤 : Ura M} (𝓛 : Logic 𝓤) → Opens 𝓛 (PlacesWords R)
-  words_open {M} {𝓤 = 𝓤} 𝓛 = (Struct-Copied 𝓛 (shape O) (alones O.parts words_copy) (copieds 𝓛 O.parts words_copy)).opens
+  words_open {M} {𝓤 = 𝓤} 𝓛 = (Struct-Copied 𝓛 (shape O) (alones O.parts words_copy)
+      (copieds 𝓛 O.parts words_copy)).opens

@@ -1,5 +1,18 @@
 -- The names that the walks over the places of items cite.
-pub use Rattle.handles.proofs.Walks.{◌≡◌, ℕ, ◌+◌, ◌-◌, ◌^◌, ◌<◌, Bool, true, false, List, [], ◌∷◌, ◌++◌, refl, sym, ap, ◌∙◌, subst, lit<, arith, w64, a_type, named, Val, vint, vptr, vunit, inst_fn, full_share, SProp, ent, sep, emp, id⊢, fat, Lft, Share, Fml, ftrue, fsep, flft, fhide, WpFn, sem, ‵, raw, ◌⊛◌, some, given, later, at_ret, ◌$◌, ◌∵◌, !, qed, by, move, keep, drop, split, split3, join, fsplit, fsplit3, fjoin, fjoin3, pick, learn, use0, use1, use2, use3, await, rewrite, feq_i, flt_i, flt_l, suffices, done, unit_lit, stop, fld, load, addr, lit, of_opd, no_more, and_then, first, blocks, exec, returns, enter, lands_as, alloc_all, pass_all, free_all, look_at, get, get_in, through, sets, sets_last, lands_last, is, env, agg, sub, whole, look_in, tables, fact, fact_i, yes, no, RattleType, owns, types_at, plain, Ptr, InBlock, block_ptr, ptr_val, block_of, offset_of, at_block, nothing_more, peeks, heard, looks, shuts, Is, shows, cell_at, param, layout, layouts, param_laws, RefOf, shr_vals, shr_Tells, Stays, stay_dropped, walk_of, Goes-dropped, after, proved, proved_at, leaves, fm}
+pub use Rattle.handles.proofs.Walks.{◌≡◌, ℕ, ◌+◌, ◌-◌, ◌^◌, ◌<◌, Bool, true, false, List, []}
+pub use Rattle.handles.proofs.Walks.{◌∷◌, ◌++◌, refl, sym, ap, ◌∙◌, subst, lit<, arith, w64, a_type}
+pub use Rattle.handles.proofs.Walks.{named, Val, vint, vptr, vunit, inst_fn, full_share, SProp, ent, sep, emp, id⊢}
+pub use Rattle.handles.proofs.Walks.{fat, Lft, Share, Fml, ftrue, fsep, flft, fhide, WpFn, sem, ‵, raw, ◌⊛◌}
+pub use Rattle.handles.proofs.Walks.{some, given, later, at_ret, ◌$◌, ◌∵◌, !, qed, by, move, keep, drop}
+pub use Rattle.handles.proofs.Walks.{split, split3, join, fsplit, fsplit3, fjoin, fjoin3, pick, learn, use0, use1, use2}
+pub use Rattle.handles.proofs.Walks.{use3, await, rewrite, feq_i, flt_i, flt_l, suffices, done, unit_lit, stop, fld}
+pub use Rattle.handles.proofs.Walks.{load, addr, lit, of_opd, no_more, and_then, first, blocks, exec, returns, enter}
+pub use Rattle.handles.proofs.Walks.{lands_as, alloc_all, pass_all, free_all, look_at, get, get_in, through, sets}
+pub use Rattle.handles.proofs.Walks.{sets_last, lands_last, is, env, agg, sub, whole, look_in, tables, fact, fact_i}
+pub use Rattle.handles.proofs.Walks.{yes, no, RattleType, owns, types_at, plain, Ptr, InBlock, block_ptr, ptr_val}
+pub use Rattle.handles.proofs.Walks.{block_of, offset_of, at_block, nothing_more, peeks, heard, looks, shuts, Is, shows}
+pub use Rattle.handles.proofs.Walks.{cell_at, param, layout, layouts, param_laws, RefOf, shr_vals, shr_Tells, Stays}
+pub use Rattle.handles.proofs.Walks.{stay_dropped, walk_of, Goes-dropped, after, proved, proved_at, leaves, fm}
 pub use Rattle.std.proofs.Common.{◌*◌, ◌≢◌, ◌≤◌}
 pub use Rattle.std.specs.Mem.{type_size}
 pub use Rattle.std.specs.Prelude.{Err, IfOk, Ok}
@@ -33,12 +46,14 @@ pub use denote.Triple.Call.{calls_at}
 pub use denote.Triple.Carry.{spared}
 pub use denote.Triple.Table.{run_framed}
 pub use denote.Triple.Walked.{Goes-ref, stay_ref}
-pub use Rattle.core.proofs.alloc.Calls.{Answer-typed, Answered, Goes-blank, Takes, Takes-gives, Takes-goes, answers, at_takes, token}
+pub use Rattle.core.proofs.alloc.Calls.{Answer-typed, Answered, Goes-blank, Takes, Takes-gives, Takes-goes, answers}
+pub use Rattle.core.proofs.alloc.Calls.{at_takes, token}
 pub use Rattle.core.proofs.alloc.Shapes.{arm_body, head}
 pub use Rattle.core.proofs.ptr.Rows.{elτ, one_below, sz, times_below}
 pub use Rattle.core.proofs.slots.Leases.{block_align, block_size, block_ty, uncapped}
 pub use Rattle.handles.proofs.LooseBoxes.{heap, Global, ◌⊑◌, ⊑_static}
-pub use Rattle.handles.proofs.LeavingFields.{LeavingRow, LeavingWords, leaving-Good, leaving_val, leaving_words, none_at_null}
+pub use Rattle.handles.proofs.LeavingFields.{LeavingRow, LeavingWords, leaving-Good, leaving_val, leaving_words}
+pub use Rattle.handles.proofs.LeavingFields.{none_at_null}
 pub use Rattle.handles.proofs.PlacesFields.{PlacesRow, places_val}
 pub use Rattle.handles.proofs.PlacesMade.{has_bytes, places_made, without_items}
 pub use Rattle.handles.proofs.PlacesOpened.{places_opens}

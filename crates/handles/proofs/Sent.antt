@@ -37,7 +37,8 @@ latest-Keyless : (η : ℕ) (log : List WordStep) → Keyless (latest logs full_
 unfolding latest
 latest-Keyless η log = tt
 
-stage-Keyless : (content kept : Fml) → Keyless content → Keyless kept → (limit b o η : ℕ) (i : Names) (s : Stage)
+stage-Keyless : (content kept : Fml) → Keyless content → Keyless kept → (limit b o η : ℕ) (i : Names)
+    (s : Stage)
     → Keyless (stage content kept limit b o η i s)
 stage-Keyless content kept c k limit b o η i (living false w n) = (
   (
@@ -67,7 +68,18 @@ module _ (R : RattleType) (s : IsSend R) (y : IsSync R) where
   left-Keyless null_ptr = tt
 
   content-Keyless : (p : Ptr) (x : (HeldRow R).Denot) → Keyless (held_and_block R p x)
-  content-Keyless p x = (lies (HeldRow R) (held_send R s) (p +ₚ held_offset R) x, λ h. (lies heap_row crossing.send (p +ₚ heap_offset R) h, (crossing.frees.frees h (block_type R) p, left-Keyless p)))
+  content-Keyless p x = (
+    lies (HeldRow R) (held_send R s) (p +ₚ held_offset R)
+        x,
+    λ h. (
+      lies heap_row crossing.send (p +ₚ heap_offset R) h,
+      (
+        crossing.frees.frees h (block_type R)
+            p,
+        left-Keyless p,
+      ),
+    ),
+  )
 
   stamp-Keyless : (p : Ptr) → Keyless (stamp p)
   stamp-Keyless p = λ n. tt
@@ -81,7 +93,13 @@ module _ (R : RattleType) (s : IsSend R) (y : IsSync R) where
   shown-Common p x = seen (HeldRow R) (held_sync R y) (p +ₚ held_offset R) x
 
   handle-Keyless : (p : Ptr) (x : (HeldRow R).Denot) (η : ℕ) (z : Sharing) → Keyless (held_as R p x η z)
-  handle-Keyless p x η not_yet = ((tt, λ log. (latest-Keyless η log, λ _. tt)), (content-Keyless p x, stamp-Keyless p))
+  handle-Keyless p x η not_yet = (
+    (tt, λ log. (latest-Keyless η log, λ _. tt)),
+    (
+      content-Keyless p x,
+      stamp-Keyless p,
+    ),
+  )
   handle-Keyless p x η marked_not_yet = (
     (tt, λ log. (latest-Keyless η log, λ _. tt)),
     (content-Keyless p x, stamp-Keyless p),

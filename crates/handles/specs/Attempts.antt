@@ -21,7 +21,8 @@ abbrev pub IsAttempt : {X : Type 0} → Handle X → Attempt X → Type 0
 IsAttempt of (Made h) = (h.held ≡ of.held) × (h.sole ≡ false) × (h.id ≡ of.id)
 IsAttempt of (Full told) = IsFullOf of told
 IsAttempt of (Lost seen) =
-    (seen.gain.held ≡ of.held) × (seen.gain.block ≡ of.block) × (seen.gain.id ≡ of.id) × LostRaise seen.gain.log
+    (seen.gain.held ≡ of.held) × (seen.gain.block ≡ of.block) × (seen.gain.id ≡ of.id)
+    × LostRaise seen.gain.log
 
 -- What the plan is by the word that was seen: a handle is made with no further step or by a raise.
 abbrev pub IsPlanned : {X : Type 0} → ℕ → ℕ → Attempt X → Type 0

@@ -26,4 +26,5 @@ FoundUnmarked log = is_marked_word (found_by log) ≡ false
 
 -- another word than the one that it raised from
 abbrev pub LostRaise : List WordStep → Type 0
-LostRaise log = (others : List WordStep) × (seen : ℕ) × (log ≡ others ++ raises_from seen ∷ []) × (found_by log ≢ seen)
+LostRaise log = (others : List WordStep) × (seen : ℕ) × (log ≡ others ++ raises_from seen ∷ [])
+    × (found_by log ≢ seen)

@@ -12,7 +12,8 @@ module _ {A B : Type 0} {R : A → A → Bool} {S : B → B → Bool}
   flipped (Second b) (First x) = refl
   flipped (Second b) (Second y) = s.symm b y
 
-  chained : (u v w : Union A B) → union_eq R S u v ≡ true → union_eq R S v w ≡ true → union_eq R S u w ≡ true
+  chained : (u v w : Union A B)
+      → union_eq R S u v ≡ true → union_eq R S v w ≡ true → union_eq R S u w ≡ true
   chained (First a) (First x) (First p) h k = r.trans a x p h k
   chained (First a) (First x) (Second q) h k = k
   chained (First a) (Second y) w h k = absurd (true≢false (sym h))

@@ -1,5 +1,6 @@
 -- A line can be read in one way alone.
-use Rattle.std.proofs.Common.{◌≡◌, ◌≢◌, ℕ, ◌^◌, ◌<◌, suc, List, [], ◌∷◌, ◌++◌, Option, Some, None, refl, sym, ◌∙◌, arith}
+use Rattle.std.proofs.Common.{◌≡◌, ◌≢◌, ℕ, ◌^◌, ◌<◌, suc, List, [], ◌∷◌, ◌++◌, Option}
+use Rattle.std.proofs.Common.{Some, None, refl, sym, ◌∙◌, arith}
 use Rattle.std.proofs.lemmas.Grind.{common_steps}
 use Rattle.std.proofs.lemmas.Str.Parse.{digit_at}
 use Rattle.std.proofs.lemmas.Fmt.{decimal_injective}
@@ -41,7 +42,8 @@ spaceless_first c cs h = h 0 0 (omega arith)
 spaceless_others : (c : ℕ) (cs : List ℕ) → IsSpaceless (c ∷ cs) → IsSpaceless cs
 spaceless_others c cs h = λ k d within. h (suc k) d (omega arith)
 
-append_same : (a b : List ℕ) (x y : Option (List ℕ)) → IsSpaceless a → IsSpaceless b → a ++ after x ≡ b ++ after y → SameParts a b x y
+append_same : (a b : List ℕ) (x y : Option (List ℕ))
+    → IsSpaceless a → IsSpaceless b → a ++ after x ≡ b ++ after y → SameParts a b x y
 append_same [] [] x y ha hb e = record { first = refl; rest = after-injective x y e }
 append_same [] (d ∷ b) x y ha hb e = absurd (spaceless_first d b hb (after-first x d (b ++ after y) e))
 append_same (c ∷ a) [] x y ha hb e = absurd (spaceless_first c a ha (after-first y c (a ++ after x) (sym e)))
@@ -52,7 +54,8 @@ append_same (c ∷ a) (d ∷ b) x y ha hb e =
     record { first = cc; rest = same.rest }
 
 -- a text has one first part without a space
-pub with_rest_same : (a b : List ℕ) (x y : Option (List ℕ)) → IsSpaceless a → IsSpaceless b → with_rest a x ≡ with_rest b y → SameParts a b x y
+pub with_rest_same : (a b : List ℕ) (x y : Option (List ℕ))
+    → IsSpaceless a → IsSpaceless b → with_rest a x ≡ with_rest b y → SameParts a b x y
 with_rest_same a b x y ha hb e =
     append_same a b x y ha hb (sym (with_rest-append a x) ∙ e ∙ with_rest-append b y)
 
@@ -85,13 +88,16 @@ first_in_range (Two a b) h = h.0
 first_in_range (Three a b c) h = h.0
 
 -- two texts that begin with a number have the same number and the same after it
-pub numbers_same : (m n : ℕ) (x y : Option (List ℕ)) → m < 2 ^ 32 → n < 2 ^ 32 → with_rest (decimal m) x ≡ with_rest (decimal n) y → (m ≡ n) × (x ≡ y)
+pub numbers_same : (m n : ℕ) (x y : Option (List ℕ)) → m < 2 ^ 32 → n < 2 ^ 32 → with_rest (decimal m)
+    x ≡ with_rest (decimal n) y → (m ≡ n) × (x ≡ y)
 numbers_same m n x y hm hn e =
     let same = with_rest_same _ _ x y (IsSpaceless-decimal m hm) (IsSpaceless-decimal n hn) e in
     (decimal_injective m n (omega arith) (omega arith) same.first, same.rest)
 
 -- the operands are more than one number, and what stands after the first is no number and its rest
-pub no_second : (text rest : List ℕ) (n : ℕ) → n < 2 ^ 32 → text ≡ with_rest (decimal n) (Some rest) → ((m : ℕ) (more : Option (List ℕ)) → m < 2 ^ 32 → rest ≢ with_rest (decimal m) more) → (o : Numbers) → AreInRange o → text ≢ numbers_text o
+pub no_second : (text rest : List ℕ) (n : ℕ) → n < 2 ^ 32 → text ≡ with_rest (decimal n) (Some rest)
+    → ((m : ℕ) (more : Option (List ℕ)) → m < 2 ^ 32 → rest ≢ with_rest (decimal m) more)
+    → (o : Numbers) → AreInRange o → text ≢ numbers_text o
 no_second text rest n small is none (One a) h e =
     let same = numbers_same n a (Some rest) None small h (sym is ∙ e) in cc
 no_second text rest n small is none (Two a b) h e =
@@ -102,7 +108,9 @@ no_second text rest n small is none (Three a b c) h e =
     none b (Some (decimal c)) h.1 cc
 
 -- the operands are more than two numbers, and what stands after the second is no number
-pub no_third : (text rest last : List ℕ) (n m : ℕ) → n < 2 ^ 32 → m < 2 ^ 32 → text ≡ with_rest (decimal n) (Some rest) → rest ≡ with_rest (decimal m) (Some last) → ((k : ℕ) → ¬ (IsNumber last k)) → (o : Numbers) → AreInRange o → text ≢ numbers_text o
+pub no_third : (text rest last : List ℕ) (n m : ℕ)
+    → n < 2 ^ 32 → m < 2 ^ 32 → text ≡ with_rest (decimal n) (Some rest) → rest ≡ with_rest (decimal m)
+    (Some last) → ((k : ℕ) → ¬ (IsNumber last k)) → (o : Numbers) → AreInRange o → text ≢ numbers_text o
 no_third text rest last n m hn hm is then none (One a) h e =
     let same = numbers_same n a (Some rest) None hn h (sym is ∙ e) in cc
 no_third text rest last n m hn hm is then none (Two a b) h e =
@@ -116,7 +124,8 @@ no_third text rest last n m hn hm is then none (Three a b c) h e =
     let last_is : last ≡ decimal c = cc in
     none c (last_is, h.2)
 
-others_same : (o p : Numbers) → AreInRange o → AreInRange p → first_of o ≡ first_of p → rest_of o ≡ rest_of p → o ≡ p
+others_same : (o p : Numbers)
+    → AreInRange o → AreInRange p → first_of o ≡ first_of p → rest_of o ≡ rest_of p → o ≡ p
 others_same (One a) (One d) ho hp e r = cc
 others_same (One a) (Two d f) ho hp e r = cc
 others_same (One a) (Three d f g) ho hp e r = cc
@@ -139,12 +148,15 @@ others_same (Three a b c) (Three d f g) ho hp e r =
 
 numbers_text_same : (o p : Numbers) → AreInRange o → AreInRange p → numbers_text o ≡ numbers_text p → o ≡ p
 numbers_text_same o p ho hp e =
-    let same = numbers_same (first_of o) (first_of p) (rest_of o) (rest_of p) (first_in_range o ho) (first_in_range p hp) (sym (numbers_text-with_rest o) ∙ e ∙ numbers_text-with_rest p) in
+    let same = numbers_same (first_of o) (first_of p) (rest_of o) (rest_of p) (first_in_range o ho)
+    (first_in_range p hp) (sym (numbers_text-with_rest o) ∙ e ∙ numbers_text-with_rest p) in
     others_same o p ho hp same.0 same.1
 
 -- a text is the line of one word and one list of numbers
-pub IsLine_same : (text v w : List ℕ) (o p : Numbers) → IsLine text v o → IsLine text w p → (v ≡ w) × (o ≡ p)
+pub IsLine_same : (text v w : List ℕ) (o p : Numbers) → IsLine text v o → IsLine text w p → (v ≡ w)
+    × (o ≡ p)
 IsLine_same text v w o p a b =
-    let same = with_rest_same v w (Some (numbers_text o)) (Some (numbers_text p)) a.one_word b.one_word (sym a.written ∙ b.written) in
+    let same = with_rest_same v w (Some (numbers_text o)) (Some (numbers_text p))
+    a.one_word b.one_word (sym a.written ∙ b.written) in
     let texts : numbers_text o ≡ numbers_text p = cc in
     (same.first, numbers_text_same o p a.in_range b.in_range texts)

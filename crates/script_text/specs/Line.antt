@@ -1,5 +1,6 @@
 -- How the lines of scripts are written: a word, and one to three numbers.
-use Rattle.std.specs.Prelude.{◌≡◌, ◌≢◌, ℕ, ◌^◌, ◌<◌, List, ◌∷◌, ◌++◌, All, Option, Some, None, decimal}
+use Rattle.std.specs.Prelude.{◌≡◌, ◌≢◌, ℕ, ◌^◌, ◌<◌, List, ◌∷◌, ◌++◌, All, Option, Some}
+use Rattle.std.specs.Prelude.{None, decimal}
 use Rattle.script_text.specs.declared.line.Numbers.{Numbers}
 use Rattle.script_text.specs.declared.line.Numbers.TheVariants.{One, Two, Three}
 

@@ -1,5 +1,6 @@
 -- The lines of a script, how a run of them ends, and what it prints.
-use Rattle.std.specs.Prelude.{◌≡◌, ◌≢◌, ℕ, ◌+◌, List, [], ◌∷◌, ◌++◌, length, All, Option, Some, None, codes, decimal}
+use Rattle.std.specs.Prelude.{◌≡◌, ◌≢◌, ℕ, ◌+◌, List, [], ◌∷◌, ◌++◌, length, All, Option}
+use Rattle.std.specs.Prelude.{Some, None, codes, decimal}
 use Rattle.std.specs.List.{concat, flat_map}
 
 -- the byte of a line feed
@@ -57,7 +58,8 @@ module _ {S : Type 0} (answers : S → List ℕ → List ℕ → S → Type 0) (
   abbrev pub AreRun : S → List (List ℕ) → List (List ℕ) → Reach → S → Type 0
   AreRun old lines texts AllLines new = AreAnswered answers old lines texts new
   AreRun old lines texts (FaultyLine number) new =
-      (before : List (List ℕ)) × (faulty : List ℕ) × (after : List (List ℕ)) × (lines ≡ before ++ faulty ∷ after)
+      (before : List (List ℕ)) × (faulty : List ℕ) × (after : List (List ℕ))
+      × (lines ≡ before ++ faulty ∷ after)
       × (number ≡ length before + 1) × AreAnswered answers old before texts new × is_faulty faulty
   AreRun old lines texts SomeLines new =
       (before after : List (List ℕ)) × (lines ≡ before ++ after) × AreAnswered answers old before texts new

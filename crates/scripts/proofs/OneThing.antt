@@ -10,8 +10,13 @@ use Rattle.scripts.specs.Laws.{EachLineAsksOneThingOfATable}
 use Rattle.scripts.specs.TableLine.{table_line}
 
 abbrev table_told : List ℕ → Numbers → Option TableLine
-table_told word (One a) = beside word ((codes "get", Get a) ∷ (codes "drop", Serve (command.Drop a)) ∷ (codes "own", Serve (command.Own a)) ∷ (codes "mark", Serve (command.Mark a)) ∷ (codes "raw", Serve (command.Raw a)) ∷ [])
-table_told word (Two a b) = beside word ((codes "new", Serve (command.New a b)) ∷ (codes "clone", Serve (command.Clone a b)) ∷ (codes "getmut", Serve (command.GetMut a b)) ∷ (codes "intounique", Serve (command.IntoUnique a b)) ∷ (codes "makemut", Serve (command.MakeMut a b)) ∷ (codes "ptreq", Serve (command.PtrEq a b)) ∷ (codes "same", Serve (command.Same a b)) ∷ [])
+table_told word (One a) = beside word ((codes "get", Get a) ∷ (codes "drop", Serve (command.Drop a))
+    ∷ (codes "own", Serve (command.Own a)) ∷ (codes "mark", Serve (command.Mark a))
+    ∷ (codes "raw", Serve (command.Raw a)) ∷ [])
+table_told word (Two a b) = beside word ((codes "new", Serve (command.New a b))
+    ∷ (codes "clone", Serve (command.Clone a b)) ∷ (codes "getmut", Serve (command.GetMut a b))
+    ∷ (codes "intounique", Serve (command.IntoUnique a b)) ∷ (codes "makemut", Serve (command.MakeMut a b))
+    ∷ (codes "ptreq", Serve (command.PtrEq a b)) ∷ (codes "same", Serve (command.Same a b)) ∷ [])
 table_told word (Three a b c) = None
 
 table_tells : (asked : TableLine) → table_told (table_line asked).0 (table_line asked).1 ≡ Some asked

@@ -14,7 +14,8 @@ AskLimit (word ∷ other ∷ words) limit = ⊥
 -- the words, without the program's own name, ask for the request
 abbrev pub Asks : List (List ℕ) → Request → Type 0
 Asks words (Core owners limit) =
-    (others : List (List ℕ)) × (words ≡ codes "core" ∷ decimal owners ∷ others) × (1 ≤ owners) × (owners ≤ 1000)
+    (others : List (List ℕ)) × (words ≡ codes "core" ∷ decimal owners ∷ others) × (1 ≤ owners)
+    × (owners ≤ 1000)
     × AskLimit others limit
 Asks words (Table slots) =
     (words ≡ codes "table" ∷ decimal slots ∷ []) × (slots ≤ 1000)

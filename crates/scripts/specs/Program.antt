@@ -21,6 +21,7 @@ pub record DidAsAsked (words : List (List ℕ)) (input : Option (List ℕ)) (out
   pub wrote : IfSome input (λ script. Wrote (PrintsAsAsked request script outcome) old new)
 
 -- the same, by the exit status
-abbrev pub DidByStatus : List (List ℕ) → Option (List ℕ) → ℕ → Option (List ℕ) → Option (List ℕ) → Type 0
+abbrev pub DidByStatus : List (List ℕ) → Option (List ℕ) → ℕ → Option (List ℕ) → Option (List ℕ)
+    → Type 0
 DidByStatus words input status old new =
     (outcome : Outcome) × (status ≡ status_after outcome) × DidAsAsked words input outcome old new

@@ -17,11 +17,13 @@ use Rattle.shared_count.specs.Inside.Shares.{seeing}
 use Rattle.shared_count.specs.Inside.Rule.{Keeps}
 use Rattle.shared_count.specs.Inside.Steps.{SeatState, with_part, Sees, Made}
 use Rattle.shared_count.specs.Inside.Seats.{pass_at, handles_at, CanCall, Replied, pass_of, IsPass}
-use Rattle.shared_count.proofs.Histories.{one_if-same, count-cons, owned_by-others, calls_of-others, calls_of-call, left_by-call, without-taken}
+use Rattle.shared_count.proofs.Histories.{one_if-same, count-cons, owned_by-others, calls_of-others, calls_of-call}
+use Rattle.shared_count.proofs.Histories.{left_by-call, without-taken}
 
 -- a step on the word is allowed to a seat that can call, if it is to each pass that owns a handle
 pub can_step : (t u : TableId) (key id : ℕ) (m : SeatState) (self : CountId) (f : ℕ → ℕ)
-    (says : SeatState → ℕ → SeatState → Type 0) → record { table = u; passes = key } ≡ self → u.words ≡ 1
+    (says : SeatState → ℕ → SeatState → Type 0)
+    → record { table = u; passes = key } ≡ self → u.words ≡ 1
     → t ≡ self.table → CanCall self.passes m
     → ((x : Known) → 0 < owned_by key x.name x.seen
     → Allows (Keeps key) u.slots id (with_part x Whole) 0 f (says (with_part x Whole)))
@@ -106,7 +108,8 @@ module _ {t : TableId} {m : SeatState} {owned : ℕ} {p : Pass} (is : IsPass m o
         let sum = owned_by-call x.passes x.name c x.seen made.seen owns made.call in
         omega arith
 
-    pub pass_made : {owned' : ℕ} (c : Call) → Made x c m' → owned' + losses c ≡ owned + gains c → IsPass m' owned'
+    pub pass_made : {owned' : ℕ} (c : Call)
+        → Made x c m' → owned' + losses c ≡ owned + gains c → IsPass m' owned'
     pass_made {owned'} c made count =
         let was = is.owns in
         let sum = owned_by-call x.passes x.name c x.seen made.seen owns made.call in
@@ -139,7 +142,8 @@ module _ {t : TableId} {m : SeatState} {owned : ℕ} {p : Pass} (is : IsPass m o
         let same = owned_by-others x.passes x.name x.seen over.0 over.1.others in
         omega arith
 
-    pub pass_replied : {owned' : ℕ} (r : TryClone) → Replied x r m' → owned' ≡ owned + born_count r → IsPass m' owned'
+    pub pass_replied : {owned' : ℕ} (r : TryClone)
+        → Replied x r m' → owned' ≡ owned + born_count r → IsPass m' owned'
     pass_replied Born made count = pass_made (Clone Born) made (omega arith)
     pass_replied Full made count = pass_made (Clone Full) made (omega arith)
     pass_replied {owned'} Overtaken over count =

@@ -1,5 +1,6 @@
 -- No more passes are in a drop than there are handles.
-use Rattle.std.proofs.Common.{◌≡◌, ℕ, suc, ◌+◌, ◌*◌, ◌<◌, ◌≤◌, nat_eq, List, [], ◌∷◌, ◌++◌, length, refl, sym, subst, arith, length-append, All, count_by, sum_by}
+use Rattle.std.proofs.Common.{◌≡◌, ℕ, suc, ◌+◌, ◌*◌, ◌<◌, ◌≤◌, nat_eq, List, [], ◌∷◌}
+use Rattle.std.proofs.Common.{◌++◌, length, refl, sym, subst, arith, length-append, All, count_by, sum_by}
 use Rattle.std.proofs.lemmas.List.Elements.{All-head, All-tail}
 use Rattle.std.proofs.lemmas.List.Sums.{sum_by-append, sum_by-cons}
 use mathlib.Core.Logic.{dite}
@@ -32,7 +33,8 @@ all_dropping [] = []
 all_dropping (v ∷ vs) = dropping v ++ all_dropping vs
 
 -- are as many as the drops
-length-with_name : (part : Part) (p : ℕ) (ps : List ℕ) → length (with_name part p ps) ≡ drops_in part + length ps
+length-with_name : (part : Part) (p : ℕ) (ps : List ℕ) → length (with_name part p ps)
+    ≡ drops_in part + length ps
 unfolding with_name
 length-with_name InDrop p ps = omega arith
 length-with_name Half p ps = omega arith
@@ -78,7 +80,8 @@ halves-dropping x (s ∷ ss) =
     let sum = halves-cons x s ss in
     omega arith
 
-count-append : (x : ℕ) (a b : List ℕ) → count_by (nat_eq x) (a ++ b) ≡ count_by (nat_eq x) a + count_by (nat_eq x) b
+count-append : (x : ℕ) (a b : List ℕ) → count_by (nat_eq x) (a ++ b) ≡ count_by (nat_eq x)
+    a + count_by (nat_eq x) b
 count-append x a b = sum_by-append (λ y. one_if (nat_eq x y)) a b
 
 halves-all : (x : ℕ) (vs : List (List Share)) → 2 * count_by (nat_eq x) (all_dropping vs) ≤ sum_by (halves x) vs
@@ -103,14 +106,16 @@ module _ (n x : ℕ) (log : List Event) where
       (λ e. subst (λ (z : ℕ). 0 < owned_by n z log) (sym e) (own refl))
       (λ ne. let z = one_if-other x p ne in let c = count-cons x p ps in later (omega arith))
 
-  owns-dropping : (v : List Share) → All (Knows n log) v → 0 < count_by (nat_eq x) (dropping v) → 0 < owned_by n x log
+  owns-dropping : (v : List Share) → All (Knows n log) v → 0 < count_by (nat_eq x) (dropping v)
+      → 0 < owned_by n x log
   unfolding dropping
   owns-dropping [] k h = absurd (omega arith)
   owns-dropping (s ∷ ss) k h = let here : Knows n log s = All-head (Knows n log) s ss k in
       owns-with_name s.known.name s.part (dropping ss) here.owns
       (λ some. owns-dropping ss (All-tail (Knows n log) s ss k) some) h
 
-  owns-all : (vs : List (List Share)) → ((j : ℕ) (v : List Share) → get_elem? vs j ≡ some v → All (Knows n log) v)
+  owns-all : (vs : List (List Share)) → ((j : ℕ) (v : List Share)
+      → get_elem? vs j ≡ some v → All (Knows n log) v)
       → 0 < count_by (nat_eq x) (all_dropping vs) → 0 < owned_by n x log
   unfolding all_dropping
   owns-all [] k h = absurd (omega arith)

@@ -92,7 +92,8 @@ module _ (n : ℕ) (m m' : SeatState) (can : CanCall n m) where
 
   -- an end that was left half done
   pub can_lower : (t u : TableId) (key id : ℕ) (self : CountId) (f : ℕ → ℕ)
-      (says : SeatState → ℕ → SeatState → Type 0) → record { table = u; passes = key } ≡ self → u.words ≡ 1
+      (says : SeatState → ℕ → SeatState → Type 0)
+      → record { table = u; passes = key } ≡ self → u.words ≡ 1
       → t ≡ self.table → n ≡ self.passes → Looked x InDrop m'
       → ((y : Known) → 0 < owned_by key y.name y.seen
       → Allows (Keeps key) u.slots id (with_part y InDrop) 0 f (says (with_part y InDrop)))

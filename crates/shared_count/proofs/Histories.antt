@@ -1,5 +1,8 @@
 -- Facts about histories, and about the states that they leave.
-use Rattle.std.proofs.Common.{◌≡◌, ◌≢◌, ℕ, suc, ◌+◌, ◌<◌, ◌≤◌, Bool, true, false, ◌&&◌, not, nat_eq, eqb-true, ◌⊎◌, inl, inr, ⊎_elim, List, [], ◌∷◌, ◌++◌, length, sym, refl, ap, ◌∙◌, subst, arith, eq-eqb, ne_eqb, append_assoc, append-nil, if◌then◌else◌, count_by, IsTrue, ◌||◌}
+use Rattle.std.proofs.Common.{◌≡◌, ◌≢◌, ℕ, suc, ◌+◌, ◌<◌, ◌≤◌, Bool, true, false, ◌&&◌}
+use Rattle.std.proofs.Common.{not, nat_eq, eqb-true, ◌⊎◌, inl, inr, ⊎_elim, List, [], ◌∷◌, ◌++◌}
+use Rattle.std.proofs.Common.{length, sym, refl, ap, ◌∙◌, subst, arith, eq-eqb, ne_eqb, append_assoc, append-nil}
+use Rattle.std.proofs.Common.{if◌then◌else◌, count_by, IsTrue, ◌||◌}
 use Rattle.std.proofs.lemmas.List.Elements.{filter-append}
 use Rattle.std.proofs.lemmas.List.Folds.{list_any-append}
 use Rattle.std.proofs.lemmas.List.Sums.{sum_by-cons}
@@ -12,8 +15,10 @@ use Rattle.shared_count.specs.declared.history.EndReply.TheVariants.{Ended, Last
 use Rattle.shared_count.specs.declared.history.EndReply.{EndReply}
 use Rattle.shared_count.specs.declared.history.Call.TheVariants.{Clone, End, Mark, Unique, Static}
 use Rattle.shared_count.specs.declared.history.Event.{Event}
-use Rattle.shared_count.specs.History.{CountState, opening, handles_of, without, next, has_exactly, end_reply, IsReply, IsLegalFrom, IsLegal, state_after, left_by, owned_by, calls_of}
-use Rattle.shared_count.specs.Extends.{OthersExtend, CallExtends, event, is_born_or_ended, has_born_or_ended, OvertakersExtend}
+use Rattle.shared_count.specs.History.{CountState, opening, handles_of, without, next, has_exactly, end_reply, IsReply}
+use Rattle.shared_count.specs.History.{IsLegalFrom, IsLegal, state_after, left_by, owned_by, calls_of}
+use Rattle.shared_count.specs.Extends.{OthersExtend, CallExtends, event, is_born_or_ended, has_born_or_ended}
+use Rattle.shared_count.specs.Extends.{OvertakersExtend}
 use Rattle.shared_count.specs.Inside.Steps.{Counts}
 
 -- a fact about the test of two names
@@ -28,7 +33,8 @@ same_name p F x = by_name p p F (λ _. x) (λ n. absurd (n refl))
 abbrev pub one_if : Bool → ℕ
 one_if b = if b then 1 else 0
 
-pub count-cons : (p x : ℕ) (xs : List ℕ) → count_by (nat_eq p) (x ∷ xs) ≡ one_if (nat_eq p x) + count_by (nat_eq p) xs
+pub count-cons : (p x : ℕ) (xs : List ℕ) → count_by (nat_eq p) (x ∷ xs) ≡ one_if (nat_eq p x)
+    + count_by (nat_eq p) xs
 count-cons p x xs = sum_by-cons (λ y. one_if (nat_eq p y)) x xs
 
 pub one_if-same : (p : ℕ) → one_if (nat_eq p p) ≡ 1
@@ -37,7 +43,8 @@ one_if-same p = same_name p (λ t. one_if t ≡ 1) refl
 pub one_if-other : (p x : ℕ) → p ≢ x → one_if (nat_eq p x) ≡ 0
 one_if-other p x n = by_name p x (λ t. one_if t ≡ 0) (λ e. absurd (n e)) (λ _. refl)
 
-pub count-without : (p q : ℕ) (b : List ℕ) → p ≢ q → count_by (nat_eq p) (without q b) ≡ count_by (nat_eq p) b
+pub count-without : (p q : ℕ) (b : List ℕ) → p ≢ q → count_by (nat_eq p) (without q b)
+    ≡ count_by (nat_eq p) b
 count-without p q [] n = refl
 count-without p q (x ∷ xs) n = by_name q x F
     (λ e. let c = count-cons p x xs in let z = one_if-other p x (λ h. n (h ∙ sym e)) in omega arith)
@@ -61,7 +68,8 @@ without-taken p (x ∷ xs) h = let c = count-cons p x xs in by_name p x F
       F : Bool → Type 0
       F t = IsTaken p (x ∷ xs) (if t then xs else (x ∷ without p xs))
 
-pub state_after-append : (s : CountState) (a b : List Event) → state_after s (a ++ b) ≡ state_after (state_after s a) b
+pub state_after-append : (s : CountState) (a b : List Event) → state_after s (a ++ b)
+    ≡ state_after (state_after s a) b
 state_after-append s [] b = refl
 state_after-append s (e ∷ es) b = state_after-append (next s e.caller e.call) es b
 
@@ -79,7 +87,8 @@ no_calls x p c n =
     by_name x p (λ t. (if t then (event p c ∷ []) else []) ≡ []) (λ e. absurd (n e)) (λ _. refl)
 
 -- a call changes the handles of its own pass alone
-pub handles_of-next : (p q : ℕ) (s : CountState) (c : Call) → p ≢ q → handles_of p (next s q c) ≡ handles_of p s
+pub handles_of-next : (p q : ℕ) (s : CountState) (c : Call) → p ≢ q → handles_of p (next s q c)
+    ≡ handles_of p s
 handles_of-next p q s (Clone Born) n =
     let z = one_if-other p q n in let c = count-cons p q s.owners in omega arith
 handles_of-next p q s (Clone Full) n = refl
@@ -133,15 +142,18 @@ calls_of-call p c a b k =
     ∙ ap (λ (z : List Event). calls_of p a ++ z)
     (same_name p (λ t. (if t then (event p c ∷ []) else []) ≡ event p c ∷ []) refl)
 
-pub others-append : (p : ℕ) (a b d : List Event) → OthersExtend p a b → calls_of p d ≡ [] → OthersExtend p a (b ++ d)
+pub others-append : (p : ℕ) (a b d : List Event)
+    → OthersExtend p a b → calls_of p d ≡ [] → OthersExtend p a (b ++ d)
 others-append p a b d g none =
     others-trans p a b (b ++ d) g (record { added = d; begins = refl; no_own = none })
 
-pub legal-call : (n p : ℕ) (c : Call) (h : List Event) → IsLegal n h → 0 < owned_by n p h → IsReply (left_by n h) p c
+pub legal-call : (n p : ℕ) (c : Call) (h : List Event)
+    → IsLegal n h → 0 < owned_by n p h → IsReply (left_by n h) p c
     → IsLegal n (h ++ event p c ∷ [])
 legal-call n p c h l own reply = legal-append (opening n) h (event p c ∷ []) l (own, reply, tt)
 
-pub left_by-call : (n p : ℕ) (c : Call) (h : List Event) → left_by n (h ++ event p c ∷ []) ≡ next (left_by n h) p c
+pub left_by-call : (n p : ℕ) (c : Call) (h : List Event) → left_by n (h ++ event p c ∷ [])
+    ≡ next (left_by n h) p c
 left_by-call n p c h = state_after-append (opening n) h (event p c ∷ [])
 
 one_less : (a b : ℕ) → a + 1 ≡ b → nat_eq a 0 ≡ nat_eq b 1
@@ -185,7 +197,8 @@ never_overtaken true e = cc
 never_overtaken false e = cc
 
 -- an end is not the last while another pass owns a handle
-not_last : (p q : ℕ) (s : CountState) → p ≢ q → 0 < handles_of p s → 0 < handles_of q s → IsReply s q (End Last) → ⊥
+not_last : (p q : ℕ) (s : CountState)
+    → p ≢ q → 0 < handles_of p s → 0 < handles_of q s → IsReply s q (End Last) → ⊥
 not_last p q s n hp hq last =
     let two = two_owners p q s.owners n in
     let one : has_exactly 1 s ≡ true =
@@ -197,10 +210,12 @@ not_last p q s n hp hq last =
 -- While p owns a handle, others change the owners by births and by ends that are not the last alone.
 module _ (p q : ℕ) (s : CountState) (n : p ≢ q) (hp : 0 < handles_of p s) (hq : 0 < handles_of q s) where
   abbrev Changed : Call → List Event → Type 0
-  Changed c es = IsTrue (is_born_or_ended c || has_born_or_ended es) ⊎ ((state_after (next s q c) es).owners ≡ s.owners)
+  Changed c es = IsTrue (is_born_or_ended c || has_born_or_ended es) ⊎ ((state_after (next s q c)
+      es).owners ≡ s.owners)
 
   changed_at : (c : Call) (es : List Event) → IsReply s q c
-      → IsTrue (has_born_or_ended es) ⊎ ((state_after (next s q c) es).owners ≡ (next s q c).owners) → Changed c es
+      → IsTrue (has_born_or_ended es) ⊎ ((state_after (next s q c) es).owners ≡ (next s q c).owners)
+      → Changed c es
   changed_at (Clone Born) es a r = inl refl
   changed_at (Clone Full) es a r = r
   changed_at (Clone Overtaken) es a r = absurd (never_overtaken (has_exactly greatest_count s) a)
@@ -210,7 +225,8 @@ module _ (p q : ℕ) (s : CountState) (n : p ≢ q) (hp : 0 < handles_of p s) (h
   changed_at (Unique b) es a r = r
   changed_at (Static b) es a r = r
 
-changed_or_same : (p : ℕ) (d : List Event) (s : CountState) → 0 < handles_of p s → calls_of p d ≡ [] → IsLegalFrom s d
+changed_or_same : (p : ℕ) (d : List Event) (s : CountState)
+    → 0 < handles_of p s → calls_of p d ≡ [] → IsLegalFrom s d
     → IsTrue (has_born_or_ended d) ⊎ ((state_after s d).owners ≡ s.owners)
 changed_or_same p [] s own none l = inr refl
 changed_or_same p (e ∷ es) s own none l =
@@ -220,7 +236,8 @@ changed_or_same p (e ∷ es) s own none l =
     changed_at p e.caller s r.0 own l.0 e.call es l.1 (changed_or_same p es s' (omega arith) r.1 l.2)
 
 -- a pass that saw the count with k handles, and then with another number of them, was overtaken
-pub overtaken : (n p : ℕ) (a b : List Event) (k found : ℕ) → OthersExtend p a b → IsLegal n b → 0 < owned_by n p a
+pub overtaken : (n p : ℕ) (a b : List Event) (k found : ℕ)
+    → OthersExtend p a b → IsLegal n b → 0 < owned_by n p a
     → Counts k (left_by n a) → Counts found (left_by n b) → found ≢ k → found < greatest_count
     → OvertakersExtend n p a b
 overtaken n p a b k found g legal own was is other low =
@@ -251,7 +268,8 @@ overtaken_after n p a b c g o = record {
   or_true false y e = e
 
 -- a list whose entries all are among the owners, as often, is no longer
-pub fits_owners : (xs b : List ℕ) → ((x : ℕ) → count_by (nat_eq x) xs ≤ count_by (nat_eq x) b) → length xs ≤ length b
+pub fits_owners : (xs b : List ℕ) → ((x : ℕ) → count_by (nat_eq x) xs ≤ count_by (nat_eq x) b)
+    → length xs ≤ length b
 fits_owners [] b h = omega arith
 fits_owners (y ∷ ys) b h =
     let here = h y in

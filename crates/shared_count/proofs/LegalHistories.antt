@@ -1,5 +1,7 @@
 -- The laws of legal histories.
-use Rattle.std.proofs.Common.{◌≡◌, ℕ, zero, suc, ◌+◌, ◌<◌, ◌≤◌, Bool, true, false, ◌&&◌, ◌||◌, not, nat_eq, nat_lt, eqb-true, List, [], ◌∷◌, ◌++◌, length, sym, refl, ap, ◌∙◌, arith, eq-eqb, ne_eqb, if◌then◌else◌, count_by, sum_by}
+use Rattle.std.proofs.Common.{◌≡◌, ℕ, zero, suc, ◌+◌, ◌<◌, ◌≤◌, Bool, true, false, ◌&&◌}
+use Rattle.std.proofs.Common.{◌||◌, not, nat_eq, nat_lt, eqb-true, List, [], ◌∷◌, ◌++◌, length, sym, refl}
+use Rattle.std.proofs.Common.{ap, ◌∙◌, arith, eq-eqb, ne_eqb, if◌then◌else◌, count_by, sum_by}
 use Rattle.std.specs.List.{range_with_len}
 use Rattle.std.proofs.lemmas.List.FromFn.{length-range_with_len}
 use Rattle.std.proofs.lemmas.Bool.{lt-ltb}
@@ -11,8 +13,10 @@ use Rattle.shared_count.specs.declared.history.TryClone.TheVariants.{Born, Full,
 use Rattle.shared_count.specs.declared.history.EndReply.{EndReply}
 use Rattle.shared_count.specs.declared.history.Call.TheVariants.{Clone, End, Mark, Unique, Static}
 use Rattle.shared_count.specs.declared.history.Event.{Event}
-use Rattle.shared_count.specs.History.{CountState, opening, handles_of, next, has_exactly, end_reply, IsReply, IsLegalFrom, state_after, left_by, owned_by, calls_of}
-use Rattle.shared_count.specs.HistoryLaws.{is_mark, is_last, count_calls, BeginningsAreLegal, HandlesAreOwned, CallsAreOfPasses, MarkedExactlyIfCalled, LastIsToldOnce, OneEndIsLast}
+use Rattle.shared_count.specs.History.{CountState, opening, handles_of, next, has_exactly, end_reply, IsReply}
+use Rattle.shared_count.specs.History.{IsLegalFrom, state_after, left_by, owned_by, calls_of}
+use Rattle.shared_count.specs.HistoryLaws.{is_mark, is_last, count_calls, BeginningsAreLegal, HandlesAreOwned}
+use Rattle.shared_count.specs.HistoryLaws.{CallsAreOfPasses, MarkedExactlyIfCalled, LastIsToldOnce, OneEndIsLast}
 use Rattle.shared_count.proofs.Histories.{by_name, one_if, count-cons, handles_of-next}
 
 legal_from_front : (s : CountState) (a b : List Event) → IsLegalFrom s (a ++ b) → IsLegalFrom s a
@@ -34,7 +38,8 @@ sum-add f g both (x ∷ xs) each =
     let c = sum_by-cons both x xs in
     omega arith
 
-sum-none : (f : ℕ → ℕ) (a n : ℕ) → ((p : ℕ) → a ≤ p → p < a + n → f p ≡ 0) → sum_by f (range_with_len a n) ≡ 0
+sum-none : (f : ℕ → ℕ) (a n : ℕ) → ((p : ℕ) → a ≤ p → p < a + n → f p ≡ 0)
+    → sum_by f (range_with_len a n) ≡ 0
 sum-none f a zero none = refl
 sum-none f a (suc n) none =
     let rest = sum-none f (a + 1) n (λ p low high. none p (omega arith) (omega arith)) in
@@ -69,7 +74,8 @@ caller_below : (n q : ℕ) (s : CountState) → OwnedBelow n s → 0 < handles_o
 caller_below n q s below own =
     dite (dec_le n q) (λ above. let none = below q above in absurd (omega arith)) (λ h. omega arith)
 
-below-next : (n q : ℕ) (s : CountState) (c : Call) → OwnedBelow n s → 0 < handles_of q s → OwnedBelow n (next s q c)
+below-next : (n q : ℕ) (s : CountState) (c : Call)
+    → OwnedBelow n s → 0 < handles_of q s → OwnedBelow n (next s q c)
 below-next n q s c below own p above =
     let low = caller_below n q s below own in
     handles_of-next p q s c (λ e. omega arith) ∙ below p above
@@ -160,12 +166,14 @@ one_more true here rest all e = refl
 one_more false true rest all e = sym (lt-ltb 0 all (omega arith))
 one_more false false rest all e = let same : rest ≡ all = omega arith in ap (nat_lt 0) same
 
-mark-after : (s : CountState) (h : List Event) → (state_after s h).mark ≡ (s.mark || nat_lt 0 (count_calls is_mark h))
+mark-after : (s : CountState) (h : List Event)
+    → (state_after s h).mark ≡ (s.mark || nat_lt 0 (count_calls is_mark h))
 mark-after s [] = or_false s.mark
 mark-after s (e ∷ es) =
     mark-after (next s e.caller e.call) es
     ∙ ap (λ (b : Bool). b || nat_lt 0 (count_calls is_mark es)) (mark-next s e.caller e.call)
-    ∙ one_more s.mark (is_mark e.call) (count_calls is_mark es) (count_calls is_mark (e ∷ es)) (calls-cons is_mark e es)
+    ∙ one_more s.mark (is_mark e.call) (count_calls is_mark es) (count_calls is_mark (e ∷ es))
+    (calls-cons is_mark e es)
 
 pub marked_if_called : MarkedExactlyIfCalled
 marked_if_called n h = mark-after (opening n) h
@@ -215,7 +223,8 @@ abbrev ToldOnce : CountState → List Event → Type 0
 ToldOnce s h = count_calls is_last h ≡ one_if (has_exactly 0 (state_after s h))
 
 -- after a call that leaves s, by whether it was the last end
-told_after : (b : Bool) (s : CountState) (e : Event) (es : List Event) → has_exactly 0 s ≡ b → is_last e.call ≡ b
+told_after : (b : Bool) (s : CountState) (e : Event) (es : List Event)
+    → has_exactly 0 s ≡ b → is_last e.call ≡ b
     → IsLegalFrom s es → (b ≡ false → ToldOnce s es)
     → count_calls is_last (e ∷ es) ≡ one_if (has_exactly 0 (state_after s es))
 told_after true s e es none last legal later =

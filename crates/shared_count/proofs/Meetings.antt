@@ -18,7 +18,8 @@ use Rattle.shared_count.proofs.Calls.{pass_seen}
 use Rattle.shared_count.proofs.SplitsAndJoins.{writes_note, meets}
 
 -- a seat of a count is a seat of its table
-pub of_table : (t u : TableId) (key : ℕ) (self : CountId) → record { table = u; passes = key } ≡ self → t ≡ self.table
+pub of_table : (t u : TableId) (key : ℕ) (self : CountId)
+    → record { table = u; passes = key } ≡ self → t ≡ self.table
     → t ≡ u
 of_table t u key self mine same = same ∙ sym (ap (λ (c : CountId). c.table) mine)
 
@@ -64,7 +65,8 @@ module _ (m note note' m' : SeatState) (h : List Event) (written : note ≡ with
   back_others = subst (λ (z : SeatState). OthersExtend (pass_at z).name (pass_at z).seen h) written
 
 -- two passes of one count know of one number of passes
-pub one_opening : (t u : TableId) (m n : SeatState) (p q : Pass) (self : CountId) → pass_of t m ≡ p → pass_of u n ≡ q
+pub one_opening : (t u : TableId) (m n : SeatState) (p q : Pass) (self : CountId)
+    → pass_of t m ≡ p → pass_of u n ≡ q
     → p.count ≡ self → q.count ≡ self → (pass_at m).passes ≡ (pass_at n).passes
 one_opening t u m n p q self view view' mine mine' =
     ap (λ (z : Pass). z.count.passes) view ∙ ap (λ (c : CountId). c.passes) (mine ∙ sym mine')

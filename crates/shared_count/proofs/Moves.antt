@@ -1,5 +1,7 @@
 -- A step on one seat keeps the rule.
-use Rattle.std.proofs.Common.{◌≡◌, ◌≢◌, ℕ, ◌+◌, ◌<◌, ⊎_elim, nat_eq, List, [], ◌∷◌, ◌++◌, get_or, set, sym, refl, ap, ◌∙◌, subst, arith, append-nil, length-set, get_or-set_same, All, sum_by}
+use Rattle.std.proofs.Common.{◌≡◌, ◌≢◌, ℕ, ◌+◌, ◌<◌, ⊎_elim, nat_eq, List, [], ◌∷◌}
+use Rattle.std.proofs.Common.{◌++◌, get_or, set, sym, refl, ap, ◌∙◌, subst, arith, append-nil, length-set}
+use Rattle.std.proofs.Common.{get_or-set_same, All, sum_by}
 use Rattle.std.proofs.lemmas.List.Elements.{All-nil, All-cons, All-head, All-tail}
 use mathlib.Core.Option.{Option, none, some, some-injective}
 use lib.ListN.{get_elem?}
@@ -16,8 +18,10 @@ use Rattle.shared_count.specs.Extends.{OthersExtend, event}
 use Rattle.shared_count.specs.Inside.Shares.{share, seeing, halves_in, halves, drops}
 use Rattle.shared_count.specs.Inside.Rule.{Knows, Means, Keeps}
 use Rattle.shared_count.specs.Inside.Steps.{SeatState, with_part, Sees, Made}
-use Rattle.shared_count.proofs.Histories.{owned_by-others, others-refl, others-append, no_calls, legal-call, left_by-call}
-use Rattle.shared_count.proofs.Sums.{sum-set, sum-two, halves_if, halves-cons, halves-one, halves_if-same, halves_if-as, halves_in-some, drops_in, drops-one}
+use Rattle.shared_count.proofs.Histories.{owned_by-others, others-refl, others-append, no_calls, legal-call}
+use Rattle.shared_count.proofs.Histories.{left_by-call}
+use Rattle.shared_count.proofs.Sums.{sum-set, sum-two, halves_if, halves-cons, halves-one, halves_if-same, halves_if-as}
+use Rattle.shared_count.proofs.Sums.{halves_in-some, drops_in, drops-one}
 
 abbrev pub Table : Type 0
 Table = State (Unit {0}) (List Share)
@@ -108,7 +112,8 @@ module _ (n : ℕ) (s : Table) (k : Keeps n s) (id : ℕ) (x : Known) (part : Pa
       out : (p : ℕ) → halves p (share x part ∷ []) < 2 → calls_of p (event x.name c ∷ []) ≡ []
       out p few = no_calls p x.name c (λ e.
           let is : halves_if (nat_eq p x.name) part ≡ halves_in part =
-          subst (λ (z : ℕ). halves_if (nat_eq z x.name) part ≡ halves_in part) (sym e) (halves_if-same x.name part) in
+          subst (λ (z : ℕ). halves_if (nat_eq z x.name) part ≡ halves_in part) (sym e)
+          (halves_if-same x.name part) in
           let all = halves-one p (share x part) in
           absurd (omega arith))
 

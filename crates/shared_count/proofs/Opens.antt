@@ -1,8 +1,11 @@
 -- The passes that a count is opened with.
-use Rattle.std.proofs.Common.{◌≡◌, ℕ, zero, suc, ◌+◌, ◌-◌, ◌<◌, ◌≤◌, Bool, false, nat_eq, List, [], ◌∷◌, ◌++◌, length, get_or, map, sym, refl, ap, ◌∙◌, subst, arith, All, count_by, sum_by}
+use Rattle.std.proofs.Common.{◌≡◌, ℕ, zero, suc, ◌+◌, ◌-◌, ◌<◌, ◌≤◌, Bool, false, nat_eq}
+use Rattle.std.proofs.Common.{List, [], ◌∷◌, ◌++◌, length, get_or, map, sym, refl, ap, ◌∙◌, subst}
+use Rattle.std.proofs.Common.{arith, All, count_by, sum_by}
 use Rattle.std.specs.List.{range_with_len}
 use Rattle.std.proofs.lemmas.List.Elements.{All-nil, All-cons, All-from_get_or}
-use Rattle.std.proofs.lemmas.List.FromFn.{length-range_with_len, length-map-range_with_len, get_or-map-range_with_len, map-range_with_len_more}
+use Rattle.std.proofs.lemmas.List.FromFn.{length-range_with_len, length-map-range_with_len, get_or-map-range_with_len}
+use Rattle.std.proofs.lemmas.List.FromFn.{map-range_with_len_more}
 use mathlib.Core.Option.{some, some-injective, some-ne-none}
 use lib.ListN.{get_elem?}
 use Rattle.atomic_table.specs.Table.{opening as start}
@@ -20,7 +23,8 @@ use Rattle.shared_count.specs.Inside.Seats.{pass_of, IsPass}
 use Rattle.shared_count.proofs.Histories.{by_name, one_if, count-cons, others-refl}
 use Rattle.shared_count.proofs.Sums.{halves_if, halves-cons, drops-cons}
 
-halves-newcomers : (x n p k : ℕ) → (halves x (newcomers n p k) ≤ 2) × (x < p → halves x (newcomers n p k) ≡ 0)
+halves-newcomers : (x n p k : ℕ) → (halves x (newcomers n p k) ≤ 2) × (x < p → halves x (newcomers n p k)
+    ≡ 0)
 halves-newcomers x n p zero = (omega arith, λ _. refl)
 halves-newcomers x n p (suc k) =
     let rest = halves-newcomers x n (p + 1) k in

@@ -1,5 +1,6 @@
 -- What a clone by a pass that has seen the mark answers.
-use Rattle.std.proofs.Common.{◌≡◌, ◌≢◌, ℕ, Bool, true, not, ◌&&◌, nat_eq, List, [], ◌∷◌, ◌++◌, length, sym}
+use Rattle.std.proofs.Common.{◌≡◌, ◌≢◌, ℕ, Bool, true, false, not, ◌&&◌, nat_eq, List, [], ◌∷◌}
+use Rattle.std.proofs.Common.{◌++◌, length, sym}
 use Rattle.std.proofs.Common.{refl, ap, ◌∙◌, subst, true≢false, if◌then◌else◌}
 use Rattle.counting_word.specs.CountingWord.{greatest_count}
 use Rattle.shared_count.specs.declared.history.Call.{Call}
@@ -7,7 +8,7 @@ use Rattle.shared_count.specs.declared.history.TryClone.{TryClone}
 use Rattle.shared_count.specs.declared.history.TryClone.TheVariants.{Born, Full, Overtaken}
 use Rattle.shared_count.specs.declared.history.Call.TheVariants.{Clone, End, Mark, Unique, Static}
 use Rattle.shared_count.specs.declared.history.Event.{Event}
-use Rattle.shared_count.specs.History.{CountState, opening, next, IsLegal, IsLegalFrom}
+use Rattle.shared_count.specs.History.{CountState, opening, next, has_exactly, IsReply, IsLegal, IsLegalFrom}
 use Rattle.shared_count.specs.History.{state_after, left_by}
 use Rattle.shared_count.specs.Extends.{event, OthersExtend}
 use Rattle.shared_count.specs.Passes.{Pass, Called, WasOvertaken, HasSeenMark}
@@ -26,13 +27,15 @@ mark-after : (s : CountState) (a : List Event) → s.mark ≡ true → (state_af
 mark-after s [] m = m
 mark-after s (e ∷ es) m = mark-after (next s e.caller e.call) es (mark-next s e.caller e.call m)
 
-mark-others : (n p : ℕ) (a b : List Event) → OthersExtend p a b → (left_by n a).mark ≡ true → (left_by n b).mark ≡ true
+mark-others : (n p : ℕ) (a b : List Event)
+    → OthersExtend p a b → (left_by n a).mark ≡ true → (left_by n b).mark ≡ true
 mark-others n p a b others m =
     ap (λ (h : List Event). (left_by n h).mark) others.begins
     ∙ ap (λ (s : CountState). s.mark) (state_after-append (opening n) a others.added)
     ∙ mark-after (left_by n a) others.added m
 
-marked-Called : (old new : Pass) (reply : TryClone) → HasSeenMark old → Called old (Clone reply) new → reply ≡ Born
+marked-Called : (old new : Pass) (reply : TryClone) → HasSeenMark old → Called old (Clone reply)
+    new → reply ≡ Born
 marked-Called old new reply marked called =
     let n : ℕ = old.count.passes in
     let before : List Event = called.extends.before in

@@ -1,5 +1,7 @@
 -- Each kind of step keeps the rule, and tells what it says.
-use Rattle.std.proofs.Common.{◌≡◌, ◌≢◌, ℕ, suc, ◌+◌, ◌-◌, ◌%◌, ◌^◌, ◌<◌, ◌≤◌, Bool, true, false, nat_eq, List, [], ◌∷◌, length, get_or, set, sym, refl, ap, ◌∙◌, subst, arith, eq-eqb, ne_eqb, if◌then◌else◌, sum_by}
+use Rattle.std.proofs.Common.{◌≡◌, ◌≢◌, ℕ, suc, ◌+◌, ◌-◌, ◌%◌, ◌^◌, ◌<◌, ◌≤◌}
+use Rattle.std.proofs.Common.{Bool, true, false, nat_eq, List, [], ◌∷◌, length, get_or, set, sym, refl, ap}
+use Rattle.std.proofs.Common.{◌∙◌, subst, arith, eq-eqb, ne_eqb, if◌then◌else◌, sum_by}
 use Rattle.std.specs.Prelude.{bit_or}
 use mathlib.Core.Logic.{dite}
 use mathlib.Core.Option.{none, some}
@@ -13,7 +15,9 @@ use Rattle.counting_word.specs.declared.ClonePlan.{ClonePlan}
 use Rattle.counting_word.specs.declared.ClonePlan.TheVariants as plan
 use Rattle.counting_word.specs.declared.DropPlan.{DropPlan}
 use Rattle.counting_word.specs.declared.DropPlan.TheVariants as drop_as
-use Rattle.counting_word.proofs.Words.{word-unmarked, exactly-marked, exactly-unmarked, is_one_handle-exactly, stands-live, stands-in_drop, within_greatest, below_limit, stands-raise, stands-lower, word-lowered, bit_or-mark_bit, stands-marked_word}
+use Rattle.counting_word.proofs.Words.{word-unmarked, exactly-marked, exactly-unmarked, is_one_handle-exactly}
+use Rattle.counting_word.proofs.Words.{stands-live, stands-in_drop, within_greatest, below_limit, stands-raise}
+use Rattle.counting_word.proofs.Words.{stands-lower, word-lowered, bit_or-mark_bit, stands-marked_word}
 use Rattle.counting_word.proofs.Plans.{ClonePlanSays, clone_plan-says, DropPlanSays, drop_plan-says}
 use Rattle.shared_count.specs.declared.history.Call.{Call}
 use Rattle.shared_count.specs.declared.history.Call.TheVariants.{Clone, End, Mark, Unique, Static}
@@ -24,10 +28,12 @@ use Rattle.shared_count.specs.declared.view.Known.{Known}
 use Rattle.shared_count.specs.declared.view.Part.{Part}
 use Rattle.shared_count.specs.declared.view.Part.TheVariants.{Whole, InDrop}
 use Rattle.shared_count.specs.declared.view.Share.{Share}
-use Rattle.shared_count.specs.History.{CountState, handles_of, without, next, has_exactly, end_reply, IsReply, left_by, owned_by}
+use Rattle.shared_count.specs.History.{CountState, handles_of, without, next, has_exactly, end_reply, IsReply, left_by}
+use Rattle.shared_count.specs.History.{owned_by}
 use Rattle.shared_count.specs.Inside.Shares.{share, drops}
 use Rattle.shared_count.specs.Inside.Rule.{Means, Keeps}
-use Rattle.shared_count.specs.Inside.Steps.{SeatState, with_part, Made, Counts, Counted, Judged, Begun, TellsUnique, TellsStatic, TellsMark, TellsClone, TellsRaise, TellsEnd, TellsLower}
+use Rattle.shared_count.specs.Inside.Steps.{SeatState, with_part, Made, Counts, Counted, Judged, Begun, TellsUnique}
+use Rattle.shared_count.specs.Inside.Steps.{TellsStatic, TellsMark, TellsClone, TellsRaise, TellsEnd, TellsLower}
 use Rattle.shared_count.proofs.Histories.{owned_by-others, without-taken, none_left}
 use Rattle.shared_count.proofs.Moves.{Table, know, calls, called, looks, looked, drops-set, for_known}
 use Rattle.shared_count.proofs.Drops.{covered}
@@ -62,7 +68,8 @@ module _ (n : ℕ) (s : Table) (k : Keeps n s) (id : ℕ) (x : Known) where
     unmoved y = let sum = drops-set s.views id x y Whole Whole at in omega arith
 
     -- a call that is answered by the word as it is
-    answered : (c : Call) (w : ℕ) → IsReply Now x.name c → Means w (next Now x.name c) in_drop → Goes w (Made x c)
+    answered : (c : Call) (w : ℕ) → IsReply Now x.name c → Means w (next Now x.name c)
+        in_drop → Goes w (Made x c)
     answered c w reply stands = let y : Known = called n s k id x Whole w at c in
         let r = calls n s k id x Whole w at c refl own reply (subst (Means w (next Now x.name c)) (unmoved y) stands) in
         (share y Whole ∷ [], r.0, r.1)
@@ -86,19 +93,23 @@ module _ (n : ℕ) (s : Table) (k : Keeps n s) (id : ℕ) (x : Known) where
 
     -- a clone is judged by the word as it is
     judged : Goes Word (λ m. Judged x (clone_plan Word greatest_count) Word m)
-    judged = by_plan (clone_plan Word greatest_count) (clone_plan-says Word greatest_count (clone_plan Word greatest_count) refl) where
-      reply_is : (b : Bool) → has_exactly greatest_count Now ≡ b → (r : TryClone) → r ≡ (if b then Full else Born)
-          → IsReply Now x.name (Clone r)
-      reply_is b e r is = is ∙ ap (λ (z : Bool). if z then Full else Born) (sym e)
+    judged = by_plan (clone_plan Word greatest_count)
+        (clone_plan-says Word greatest_count (clone_plan Word greatest_count) refl) where
+          reply_is : (b : Bool) → has_exactly greatest_count Now ≡ b → (r : TryClone)
+              → r ≡ (if b then Full else Born)
+              → IsReply Now x.name (Clone r)
+          reply_is b e r is = is ∙ ap (λ (z : Bool). if z then Full else Born) (sym e)
 
-      by_plan : (p : ClonePlan) → ClonePlanSays Word greatest_count p → Goes Word (Judged x p Word)
-      by_plan plan.Static marked = answered (Clone Born) Word
-          (reply_is false (exactly-marked Word live in_drop greatest_count Now.mark marked k.word) Born refl)
-          (stands-live Word live (suc live) in_drop Now.mark marked k.word)
-      by_plan plan.Full says = answered (Clone Full) Word
-          (reply_is true (exactly-unmarked Word live in_drop greatest_count Now.mark says.0 k.word ∙ says.1) Full refl)
-          k.word
-      by_plan (plan.Raise _) says = counted says.0 (below_limit Word greatest_count (within_greatest Word) says.0 says.1)
+          by_plan : (p : ClonePlan) → ClonePlanSays Word greatest_count p → Goes Word (Judged x p Word)
+          by_plan plan.Static marked = answered (Clone Born) Word
+              (reply_is false (exactly-marked Word live in_drop greatest_count Now.mark marked k.word) Born refl)
+              (stands-live Word live (suc live) in_drop Now.mark marked k.word)
+          by_plan plan.Full says = answered (Clone Full) Word
+              (reply_is true (exactly-unmarked Word live in_drop greatest_count Now.mark says.0 k.word ∙ says.1)
+              Full refl)
+              k.word
+          by_plan (plan.Raise _) says = counted says.0 (below_limit Word greatest_count (within_greatest Word)
+              says.0 says.1)
 
     -- a raise that wins
     won : is_marked_word Word ≡ false → nat_eq (count_of Word) greatest_count ≡ false
@@ -106,7 +117,8 @@ module _ (n : ℕ) (s : Table) (k : Keeps n s) (id : ℕ) (x : Known) where
     won unmarked room = answered (Clone Born) (Word + 1)
         (ap (λ (b : Bool). if b then Full else Born)
         (sym (exactly-unmarked Word live in_drop greatest_count Now.mark unmarked k.word ∙ room)))
-        (stands-raise Word live (suc live) in_drop in_drop Now.mark unmarked (below_limit Word greatest_count (within_greatest Word) unmarked room)
+        (stands-raise Word live (suc live)
+        in_drop in_drop Now.mark unmarked (below_limit Word greatest_count (within_greatest Word) unmarked room)
         (omega arith) k.word)
 
     -- an end is begun, by the word as it is
@@ -167,7 +179,8 @@ module _ (n slots id : ℕ) (x : Known) where
       let l : CountState = left_by n k.log in
       let stands = stands-marked_word w (length l.owners) (sum_by drops s.views) l.mark k.word (covered n s k) in
       let r = answered n s k id x at own Mark (bit_or w mark_bit) tt
-      (subst (λ (z : ℕ). Means z (next l x.name Mark) (sum_by drops s.views)) (sym (bit_or-mark_bit w small)) stands) in
+      (subst (λ (z : ℕ). Means z (next l x.name Mark) (sum_by drops s.views)) (sym (bit_or-mark_bit w small))
+      stands) in
       (r.0, keeps, tt, r.1, for_known x Whole (λ z. Made z Mark (r.0, [])) r.2)
 
   pub begins_clone : May Whole (λ r. r) (TellsClone (step slots 0 0 0 none))

@@ -1,5 +1,7 @@
 -- The splits and joins keep the rule, and so does the read of `meet`.
-use Rattle.std.proofs.Common.{◌≡◌, ◌≢◌, ℕ, ◌+◌, ⊎_elim, nat_eq, List, [], ◌∷◌, ◌++◌, get_or, set, sym, refl, ap, ◌∙◌, subst, arith, append-nil, All, sum_by, false, true≢false}
+use Rattle.std.proofs.Common.{◌≡◌, ◌≢◌, ℕ, ◌+◌, ⊎_elim, nat_eq, List, [], ◌∷◌, ◌++◌}
+use Rattle.std.proofs.Common.{get_or, set, sym, refl, ap, ◌∙◌, subst, arith, append-nil, All, sum_by, false}
+use Rattle.std.proofs.Common.{true≢false}
 use Rattle.std.proofs.lemmas.List.Elements.{All-nil, All-cons, All-head, All-tail, All-append}
 use Rattle.std.proofs.lemmas.List.Sums.{sum_by-append}
 use mathlib.Core.Option.{Option, none, some, some-injective}
@@ -12,11 +14,13 @@ use Rattle.shared_count.specs.declared.view.Part.{Part}
 use Rattle.shared_count.specs.declared.view.Part.TheVariants.{Half, Whole}
 use Rattle.shared_count.specs.declared.view.Share.{Share}
 use Rattle.shared_count.specs.History.{IsLegal, left_by}
-use Rattle.shared_count.specs.Inside.Shares.{share, seeing, halves, is_in_drop, drops, all_but_first, first_alone, as_halves, with_note, as_in_note}
+use Rattle.shared_count.specs.Inside.Shares.{share, seeing, halves, is_in_drop, drops, all_but_first, first_alone}
+use Rattle.shared_count.specs.Inside.Shares.{as_halves, with_note, as_in_note}
 use Rattle.shared_count.specs.Inside.Rule.{Knows, Means, Keeps}
 use Rattle.shared_count.specs.Inside.Steps.{SeatState, with_shares, with_part, with_both, Met, TellsMeet}
 use Rattle.shared_count.proofs.Histories.{others-refl}
-use Rattle.shared_count.proofs.Sums.{sum-set, sum-one, sum-split, sum-join, sum-first, halves_if, halves-cons, halves-one, halves_if-same, halves_if-two, drops_in}
+use Rattle.shared_count.proofs.Sums.{sum-set, sum-one, sum-split, sum-join, sum-first, halves_if, halves-cons}
+use Rattle.shared_count.proofs.Sums.{halves-one, halves_if-same, halves_if-two, drops_in}
 use Rattle.shared_count.proofs.Moves.{one_share, moves}
 
 -- a seat's shares are parted, and nothing is lost
@@ -31,7 +35,8 @@ module _ (n id : ℕ) (v a b : List Share) (all_halves : (p : ℕ) → halves p 
     word = subst (Means (get_or s.words 0 0) (left_by n k.log)) (sym (sum-split drops s.views id v a b at all_drops))
         k.word;
     seats = λ j u e. ⊎_elim
-        (λ h. ⊎_elim (λ t. subst (All (Knows n k.log)) t.1 both.0) (λ t. k.seats j u t.1) (at_set s.views id j a u h))
+        (λ h. ⊎_elim (λ t. subst (All (Knows n k.log)) t.1 both.0) (λ t. k.seats j u t.1)
+        (at_set s.views id j a u h))
         (λ h. subst (All (Knows n k.log)) h both.1) (at_snoc (set s.views id a) b u j e);
     apart = λ p. let most = k.apart p in
         let same = sum-split (halves p) s.views id v a b at (all_halves p) in omega arith;
@@ -51,7 +56,8 @@ module _ (n id other : ℕ) (v w b : List Share) (all_halves : (p : ℕ) → hal
     word = subst (Means (get_or s.words 0 0) (left_by n k.log))
         (sym (sum-join drops s.views id other v w b [] at there refl all_drops)) k.word;
     seats = λ j u e. ⊎_elim (λ t. subst (All (Knows n k.log)) t.1 (All-nil (Knows n k.log)))
-        (λ h. ⊎_elim (λ t. subst (All (Knows n k.log)) t.1 both) (λ t. k.seats j u t.1) (at_set s.views id j b u h.1))
+        (λ h. ⊎_elim (λ t. subst (All (Knows n k.log)) t.1 both) (λ t. k.seats j u t.1)
+        (at_set s.views id j b u h.1))
         (at_set (set s.views id b) other j [] u e);
     apart = λ p. let most = k.apart p in
         let same = sum-join (halves p) s.views id other v w b [] at there refl (all_halves p) in omega arith;
@@ -97,13 +103,15 @@ writes_note n id x = let half : List Share = share x Half ∷ [] in
     (λ log k. let know = one_share (Knows n log) (share x Half)
     (know_as n log x Whole Half refl (All-head (Knows n log) (share x Whole) [] k)) in (know, know))
 
-pub takes_note : (n id other : ℕ) (v w : List Share) → Joins {S = Unit {0}} (Keeps n) id v other w (with_note v w) []
+pub takes_note : (n id other : ℕ) (v w : List Share) → Joins {S = Unit {0}} (Keeps n)
+    id v other w (with_note v w) []
 takes_note n id other v w = joined n id other v w (w ++ v)
     (λ p. sum_by-append (λ s. halves_if (nat_eq p s.known.name) s.part) w v)
     (sum_by-append (λ s. drops_in s.part) w v) (λ log k l. All-append (Knows n log) w v l k)
 
 pub takes_back : (n id other : ℕ) (x : Known) (h : List Event) (m note : SeatState) → m ≡ with_part x Half
-    → note ≡ with_part (seeing x h) Half → Joins {S = Unit {0}} (Keeps n) id m.0 other note.0 (as_in_note m.0 note.0) []
+    → note ≡ with_part (seeing x h) Half → Joins {S = Unit {0}} (Keeps n)
+    id m.0 other note.0 (as_in_note m.0 note.0) []
 takes_back n id other x h m note e f =
     subst (λ (z : SeatState). Joins {S = Unit {0}} (Keeps n) id z.0 other note.0 (as_in_note z.0 note.0) []) (sym e)
     (subst (λ (z : SeatState). Joins {S = Unit {0}} (Keeps n) id half other z.0 (as_in_note half z.0) [])

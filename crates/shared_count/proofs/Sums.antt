@@ -1,5 +1,7 @@
 -- Sums over the views of all seats, after a step, a split and a join, and over the shares of one seat.
-use Rattle.std.proofs.Common.{◌≡◌, ◌≢◌, ℕ, zero, suc, ◌+◌, ◌<◌, ◌≤◌, Bool, true, false, nat_eq, List, [], ◌∷◌, ◌++◌, length, get_or, set, sym, refl, ap, ◌∙◌, arith, if◌then◌else◌, sum_by}
+use Rattle.std.proofs.Common.{◌≡◌, ◌≢◌, ℕ, zero, suc, ◌+◌, ◌<◌, ◌≤◌, Bool, true, false}
+use Rattle.std.proofs.Common.{nat_eq, List, [], ◌∷◌, ◌++◌, length, get_or, set, sym, refl, ap, ◌∙◌}
+use Rattle.std.proofs.Common.{arith, if◌then◌else◌, sum_by}
 use Rattle.std.proofs.lemmas.List.Sums.{sum_by-cons, sum_by-set, sum_by-append, get_or-le-sum_by}
 use mathlib.Core.Option.{some, some-injective, some-ne-none}
 use lib.ListN.{get_elem?}
@@ -37,7 +39,8 @@ module _ {X : Type 0} where
         let is : f (get_or l i v) ≡ f v = ap f at.is in
         omega arith
 
-    pub sum-two : (l : List X) (i j : ℕ) (u v w : X) → f w ≡ 0 → j ≢ i → get_elem? l i ≡ some v → get_elem? l j ≡ some u
+    pub sum-two : (l : List X) (i j : ℕ) (u v w : X)
+        → f w ≡ 0 → j ≢ i → get_elem? l i ≡ some v → get_elem? l j ≡ some u
         → f u + f v ≤ sum_by f l
     sum-two l i j u v w none other ei ej =
         let a = sum-set l i v w ei in
@@ -53,13 +56,15 @@ module _ {X : Type 0} where
         → sum_by f (set l i a ++ b ∷ []) ≡ sum_by f l
     sum-split l i v a b at parts = let x = sum-last (set l i a) b in let y = sum-set l i v a at in omega arith
 
-    pub sum-join : (l : List X) (i j : ℕ) (v w b z : X) → get_elem? l i ≡ some v → get_elem? (set l i b) j ≡ some w
+    pub sum-join : (l : List X) (i j : ℕ) (v w b z : X) → get_elem? l i ≡ some v → get_elem? (set l i b)
+        j ≡ some w
         → f z ≡ 0 → f b ≡ f w + f v → sum_by f (set (set l i b) j z) ≡ sum_by f l
     sum-join l i j v w b z at there none parts =
         let x = sum-set l i v b at in let y = sum-set (set l i b) j w z there in omega arith
 
 -- the shares of one seat
-pub sum-first : (f : Share → ℕ) (v : List Share) → sum_by f (all_but_first v) + sum_by f (first_alone v) ≡ sum_by f v
+pub sum-first : (f : Share → ℕ) (v : List Share) → sum_by f (all_but_first v) + sum_by f (first_alone v)
+    ≡ sum_by f v
 sum-first f [] = refl
 sum-first f (s ∷ ss) = let a = sum_by-cons f s ss in let b = sum_by-cons f s [] in omega arith
 

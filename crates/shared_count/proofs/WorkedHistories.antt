@@ -15,7 +15,8 @@ q = 1
 
 two_passes_see_each_other : IsLegal 2
     (event p (Unique false) ∷ event q (End Ended) ∷ event p (Unique true) ∷ event p (Clone Born)
-    ∷ event p (Unique false) ∷ event p Mark ∷ event p (Static true) ∷ event p (End Ended) ∷ event p (End Ended) ∷ [])
+    ∷ event p (Unique false) ∷ event p Mark ∷ event p (Static true) ∷ event p (End Ended)
+    ∷ event p (End Ended) ∷ [])
 two_passes_see_each_other = search rules
 
 the_only_handle_ends_last : IsLegal 1 (event p (End Last) ∷ [])

@@ -44,5 +44,6 @@ LastIsToldOnce =
 abbrev pub OneEndIsLast : Type 0
 OneEndIsLast =
     (n : ℕ) (h : List Event) → 0 < n → IsLegal n h
-    → ((p : ℕ) → p < n → owned_by n p h ≡ 0) → ((p : ℕ) → p < n → count_calls is_mark (calls_of p h) ≡ 0)
+    → ((p : ℕ) → p < n → owned_by n p h ≡ 0) → ((p : ℕ)
+    → p < n → count_calls is_mark (calls_of p h) ≡ 0)
     → sum_by (λ p. count_calls is_last (calls_of p h)) (range_with_len 0 n) ≡ 1

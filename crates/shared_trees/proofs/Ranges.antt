@@ -1,5 +1,6 @@
 -- The items of a list from one number up to another.
-use Rattle.std.proofs.Common.{◌≡◌, ℕ, ◌+◌, ◌-◌, ◌<◌, ◌≤◌, List, [], ◌∷◌, ◌++◌, length, take, drop, get_or, ap, ◌∙◌, suc, arith, length-drop, drop-cons}
+use Rattle.std.proofs.Common.{◌≡◌, ℕ, ◌+◌, ◌-◌, ◌<◌, ◌≤◌, List, [], ◌∷◌, ◌++◌}
+use Rattle.std.proofs.Common.{length, take, drop, get_or, ap, ◌∙◌, suc, arith, length-drop, drop-cons}
 use Rattle.std.specs.Prelude.{Some, slice_get, slice_range}
 use Rattle.std.proofs.lemmas.List.{get_or-drop, length-take-le, take_all}
 use Rattle.std.proofs.lemmas.Option.{slice_get_within, get_or_from_slice_get}

@@ -1,5 +1,7 @@
 -- Entries whose keys rise, around one of them.
-use Rattle.std.proofs.Common.{◌≡◌, ℕ, ◌<◌, ◌≤◌, true, false, cond, eqb, ltb, List, [], ◌∷◌, ◌++◌, length, slice_get, zero, suc, ◌-◌, refl, ap, sym, ◌∙◌, subst, append_assoc, arith, length-append}
+use Rattle.std.proofs.Common.{◌≡◌, ℕ, ◌<◌, ◌≤◌, true, false, cond, eqb, ltb, List, [], ◌∷◌}
+use Rattle.std.proofs.Common.{◌++◌, length, slice_get, zero, suc, ◌-◌, refl, ap, sym, ◌∙◌, subst}
+use Rattle.std.proofs.Common.{append_assoc, arith, length-append}
 use Rattle.std.proofs.lemmas.Bool.{ltb-true, ltb-false, lt-ltb, le-ltb, eq-eqb, ne_eqb, and_from, and_parts}
 use Rattle.std.proofs.lemmas.List.{append-nil}
 use Rattle.std.proofs.lemmas.List.Elements.{filter-append}
@@ -118,15 +120,18 @@ module _ {V : Type 0} where
       rw (le-ltb q x.0 (omega arith)) (above_none q k l h a.1)
 
   -- what is below a key, and what is above it
-  pub below_left : (q : ℕ) (l : List (ℕ × V)) (e : ℕ × V) (r : List (ℕ × V)) → q < e.0 → IsRising (l ++ e ∷ r)
+  pub below_left : (q : ℕ) (l : List (ℕ × V)) (e : ℕ × V) (r : List (ℕ × V))
+      → q < e.0 → IsRising (l ++ e ∷ r)
       → below q (l ++ e ∷ r) ≡ below q l
   unfolding below
   below_left q l e r h s =
       let rises = to (l ++ e ∷ r) s in
       filter-append _ l (e ∷ r)
-      ∙ rw (le-ltb e.0 q (omega arith), below_none q e.0 r (omega arith) (right_above l e r rises)) (append-nil (below q l))
+      ∙ rw (le-ltb e.0 q (omega arith), below_none q e.0 r (omega arith) (right_above l e r rises))
+      (append-nil (below q l))
 
-  pub above_left : (q : ℕ) (l : List (ℕ × V)) (e : ℕ × V) (r : List (ℕ × V)) → q < e.0 → IsRising (l ++ e ∷ r)
+  pub above_left : (q : ℕ) (l : List (ℕ × V)) (e : ℕ × V) (r : List (ℕ × V))
+      → q < e.0 → IsRising (l ++ e ∷ r)
       → above q (l ++ e ∷ r) ≡ above q l ++ e ∷ r
   unfolding above
   above_left q l e r h s =
@@ -134,7 +139,8 @@ module _ {V : Type 0} where
       filter-append _ l (e ∷ r)
       ∙ rw (lt-ltb q e.0 h, above_all q e.0 r (omega arith) (right_above l e r rises)) refl
 
-  pub below_right : (q : ℕ) (l : List (ℕ × V)) (e : ℕ × V) (r : List (ℕ × V)) → e.0 < q → IsRising (l ++ e ∷ r)
+  pub below_right : (q : ℕ) (l : List (ℕ × V)) (e : ℕ × V) (r : List (ℕ × V))
+      → e.0 < q → IsRising (l ++ e ∷ r)
       → below q (l ++ e ∷ r) ≡ l ++ e ∷ below q r
   unfolding below
   below_right q l e r h s =
@@ -142,7 +148,8 @@ module _ {V : Type 0} where
       filter-append _ l (e ∷ r)
       ∙ rw (lt-ltb e.0 q h, below_all q l (below_more e.0 q l (omega arith) (left_below l e r rises))) refl
 
-  pub above_right : (q : ℕ) (l : List (ℕ × V)) (e : ℕ × V) (r : List (ℕ × V)) → e.0 < q → IsRising (l ++ e ∷ r)
+  pub above_right : (q : ℕ) (l : List (ℕ × V)) (e : ℕ × V) (r : List (ℕ × V))
+      → e.0 < q → IsRising (l ++ e ∷ r)
       → above q (l ++ e ∷ r) ≡ above q r
   unfolding above
   above_right q l e r h s =
@@ -150,22 +157,30 @@ module _ {V : Type 0} where
       filter-append _ l (e ∷ r)
       ∙ rw (le-ltb q e.0 (omega arith), above_none q e.0 l (omega arith) (left_below l e r rises)) refl
 
-  pub below_here : (q : ℕ) (l : List (ℕ × V)) (e : ℕ × V) (r : List (ℕ × V)) → q ≡ e.0 → IsRising (l ++ e ∷ r)
+  pub below_here : (q : ℕ) (l : List (ℕ × V)) (e : ℕ × V) (r : List (ℕ × V))
+      → q ≡ e.0 → IsRising (l ++ e ∷ r)
       → below q (l ++ e ∷ r) ≡ l
   unfolding below
   below_here q l e r is s =
       let rises = to (l ++ e ∷ r) s in
       filter-append _ l (e ∷ r)
-      ∙ rw (le-ltb e.0 q (omega arith), below_none q e.0 r (omega arith) (right_above l e r rises), below_all q l (below_more e.0 q l (omega arith) (left_below l e r rises)))
+      ∙ rw (
+        le-ltb e.0 q (omega arith),
+        below_none q e.0 r (omega arith)
+            (right_above l e r rises),
+        below_all q l (below_more e.0 q l (omega arith) (left_below l e r rises)),
+      )
       (append-nil l)
 
-  pub above_here : (q : ℕ) (l : List (ℕ × V)) (e : ℕ × V) (r : List (ℕ × V)) → q ≡ e.0 → IsRising (l ++ e ∷ r)
+  pub above_here : (q : ℕ) (l : List (ℕ × V)) (e : ℕ × V) (r : List (ℕ × V))
+      → q ≡ e.0 → IsRising (l ++ e ∷ r)
       → above q (l ++ e ∷ r) ≡ r
   unfolding above
   above_here q l e r is s =
       let rises = to (l ++ e ∷ r) s in
       filter-append _ l (e ∷ r)
-      ∙ rw (le-ltb q e.0 (omega arith), above_none q e.0 l (omega arith) (left_below l e r rises)) (above_all q e.0 r (omega arith) (right_above l e r rises))
+      ∙ rw (le-ltb q e.0 (omega arith), above_none q e.0 l (omega arith) (left_below l e r rises))
+      (above_all q e.0 r (omega arith) (right_above l e r rises))
 
   -- what is found
   lookup_above : (q k : ℕ) (r : List (ℕ × V)) → q ≤ k → AreAbove k r → lookup q r ≡ None
@@ -174,19 +189,22 @@ module _ {V : Type 0} where
       let p : k < x.0 = a.0 in
       rw (ne_eqb q x.0 (omega arith)) (lookup_above q k r h a.1)
 
-  pub lookup_left : (q : ℕ) (l : List (ℕ × V)) (k : ℕ) (v : V) (r : List (ℕ × V)) → q < k → Rises (l ++ (k, v) ∷ r)
+  pub lookup_left : (q : ℕ) (l : List (ℕ × V)) (k : ℕ) (v : V) (r : List (ℕ × V))
+      → q < k → Rises (l ++ (k, v) ∷ r)
       → lookup q (l ++ (k, v) ∷ r) ≡ lookup q l
   lookup_left q [] k v r h s = rw (ne_eqb q k (omega arith)) (lookup_above q k r (omega arith) s.0)
   lookup_left q (x ∷ l) k v r h s = ap (λ found. cond (eqb q x.0) (Some x.1) found) (lookup_left q l k v r h s.1)
 
-  pub lookup_right : (q : ℕ) (l : List (ℕ × V)) (k : ℕ) (v : V) (r : List (ℕ × V)) → k < q → Rises (l ++ (k, v) ∷ r)
+  pub lookup_right : (q : ℕ) (l : List (ℕ × V)) (k : ℕ) (v : V) (r : List (ℕ × V))
+      → k < q → Rises (l ++ (k, v) ∷ r)
       → lookup q (l ++ (k, v) ∷ r) ≡ lookup q r
   lookup_right q [] k v r h s = rw (ne_eqb q k (omega arith)) refl
   lookup_right q (x ∷ l) k v r h s =
       let p : x.0 < k = (above_back x.0 l ((k, v) ∷ r) s.0).0 in
       rw (ne_eqb q x.0 (omega arith)) (lookup_right q l k v r h s.1)
 
-  pub lookup_here : (q : ℕ) (l : List (ℕ × V)) (k : ℕ) (v : V) (r : List (ℕ × V)) → q ≡ k → Rises (l ++ (k, v) ∷ r)
+  pub lookup_here : (q : ℕ) (l : List (ℕ × V)) (k : ℕ) (v : V) (r : List (ℕ × V))
+      → q ≡ k → Rises (l ++ (k, v) ∷ r)
       → lookup q (l ++ (k, v) ∷ r) ≡ Some v
   lookup_here q [] k v r is s = rw (eq-eqb q k is) refl
   lookup_here q (x ∷ l) k v r is s =
@@ -248,7 +266,8 @@ module _ {V : Type 0} where
         | false ↦ rises_below q es s.1
       ]
 
-  joined : (q : ℕ) (l m : List (ℕ × V)) → Rises l → AreBelow q l → Rises m → ((j : ℕ) → j < q → AreAbove j m)
+  joined : (q : ℕ) (l m : List (ℕ × V)) → Rises l → AreBelow q l → Rises m → ((j : ℕ)
+      → j < q → AreAbove j m)
       → Rises (l ++ m)
   joined q [] m s b t a = t
   joined q (x ∷ l) m s b t a = (above_both x.0 l m s.0 (a x.0 b.0), joined q l m s.1 b.1 t a)
@@ -286,7 +305,8 @@ module _ {V : Type 0} where
   unfolding below
   kept_below j q [] h = refl
   kept_below j q (x ∷ es) h =
-      elim (ltb x.0 q) as (λ b. ltb x.0 q ≡ b → lookup j (cond b (x ∷ below q es) (below q es)) ≡ lookup j (x ∷ es)) [
+      elim (ltb x.0 q) as (λ b. ltb x.0 q ≡ b → lookup j (cond b (x ∷ below q es) (below q es))
+      ≡ lookup j (x ∷ es)) [
         | true ↦ λ is. ap (λ found. cond (eqb j x.0) (Some x.1) found) (kept_below j q es h)
         | false ↦ λ is.
             let p : q ≤ x.0 = ltb-false x.0 q is in
@@ -297,7 +317,8 @@ module _ {V : Type 0} where
   unfolding above
   kept_above j q [] h = refl
   kept_above j q (x ∷ es) h =
-      elim (ltb q x.0) as (λ b. ltb q x.0 ≡ b → lookup j (cond b (x ∷ above q es) (above q es)) ≡ lookup j (x ∷ es)) [
+      elim (ltb q x.0) as (λ b. ltb q x.0 ≡ b → lookup j (cond b (x ∷ above q es) (above q es))
+      ≡ lookup j (x ∷ es)) [
         | true ↦ λ is. ap (λ found. cond (eqb j x.0) (Some x.1) found) (kept_above j q es h)
         | false ↦ λ is.
             let p : x.0 ≤ q = ltb-false q x.0 is in
@@ -320,7 +341,8 @@ module _ {V : Type 0} where
       skipped j (below q es) ((q, v) ∷ above q es) (below_more q j (below q es) (omega arith) (under q es))
       ∙ rw (ne_eqb j q (omega arith)) (kept_above j q es h))
 
-  pub lookup_without : (j q : ℕ) (es : List (ℕ × V)) → lookup j (without q es) ≡ cond (eqb j q) None (lookup j es)
+  pub lookup_without : (j q : ℕ) (es : List (ℕ × V)) → lookup j (without q es) ≡ cond (eqb j q)
+      None (lookup j es)
   unfolding without below above
   lookup_without j q es =
       by_place j q
@@ -377,15 +399,18 @@ module _ {V : Type 0} where
   pub rising_front : (l m : List (ℕ × V)) → IsRising (l ++ m) → IsRising l
   rising_front l m s = from l (rises_front l m (to (l ++ m) s))
 
-  pub found_left : (q : ℕ) (l : List (ℕ × V)) (e : ℕ × V) (r : List (ℕ × V)) → q < e.0 → IsRising (l ++ e ∷ r)
+  pub found_left : (q : ℕ) (l : List (ℕ × V)) (e : ℕ × V) (r : List (ℕ × V))
+      → q < e.0 → IsRising (l ++ e ∷ r)
       → lookup q (l ++ e ∷ r) ≡ lookup q l
   found_left q l e r h s = lookup_left q l e.0 e.1 r h (to (l ++ e ∷ r) s)
 
-  pub found_right : (q : ℕ) (l : List (ℕ × V)) (e : ℕ × V) (r : List (ℕ × V)) → e.0 < q → IsRising (l ++ e ∷ r)
+  pub found_right : (q : ℕ) (l : List (ℕ × V)) (e : ℕ × V) (r : List (ℕ × V))
+      → e.0 < q → IsRising (l ++ e ∷ r)
       → lookup q (l ++ e ∷ r) ≡ lookup q r
   found_right q l e r h s = lookup_right q l e.0 e.1 r h (to (l ++ e ∷ r) s)
 
-  pub found_here : (q : ℕ) (l : List (ℕ × V)) (e : ℕ × V) (r : List (ℕ × V)) → q ≡ e.0 → IsRising (l ++ e ∷ r)
+  pub found_here : (q : ℕ) (l : List (ℕ × V)) (e : ℕ × V) (r : List (ℕ × V))
+      → q ≡ e.0 → IsRising (l ++ e ∷ r)
       → lookup q (l ++ e ∷ r) ≡ Some e.1
   found_here q l e r is s = lookup_here q l e.0 e.1 r is (to (l ++ e ∷ r) s)
 
@@ -405,7 +430,8 @@ module _ {V : Type 0} where
   unfolding above
   above_nil q = refl
 
-  pub with_left : (q : ℕ) (w : V) (l : List (ℕ × V)) (e : ℕ × V) (r : List (ℕ × V)) → q < e.0 → IsRising (l ++ e ∷ r)
+  pub with_left : (q : ℕ) (w : V) (l : List (ℕ × V)) (e : ℕ × V) (r : List (ℕ × V))
+      → q < e.0 → IsRising (l ++ e ∷ r)
       → with_entry q w (l ++ e ∷ r) ≡ with_entry q w l ++ e ∷ r
   unfolding with_entry
   with_left q w l e r h s =
@@ -413,7 +439,8 @@ module _ {V : Type 0} where
       ∙ ap (λ es. below q l ++ (q, w) ∷ es) (above_left q l e r h s)
       ∙ sym (append_assoc (below q l) ((q, w) ∷ above q l) (e ∷ r))
 
-  pub with_right : (q : ℕ) (w : V) (l : List (ℕ × V)) (e : ℕ × V) (r : List (ℕ × V)) → e.0 < q → IsRising (l ++ e ∷ r)
+  pub with_right : (q : ℕ) (w : V) (l : List (ℕ × V)) (e : ℕ × V) (r : List (ℕ × V))
+      → e.0 < q → IsRising (l ++ e ∷ r)
       → with_entry q w (l ++ e ∷ r) ≡ l ++ e ∷ with_entry q w r
   unfolding with_entry
   with_right q w l e r h s =
@@ -421,18 +448,21 @@ module _ {V : Type 0} where
       ∙ ap (λ es. (l ++ e ∷ below q r) ++ (q, w) ∷ es) (above_right q l e r h s)
       ∙ append_assoc l (e ∷ below q r) ((q, w) ∷ above q r)
 
-  pub with_here : (q : ℕ) (w : V) (l : List (ℕ × V)) (e : ℕ × V) (r : List (ℕ × V)) → q ≡ e.0 → IsRising (l ++ e ∷ r)
+  pub with_here : (q : ℕ) (w : V) (l : List (ℕ × V)) (e : ℕ × V) (r : List (ℕ × V))
+      → q ≡ e.0 → IsRising (l ++ e ∷ r)
       → with_entry q w (l ++ e ∷ r) ≡ l ++ (q, w) ∷ r
   unfolding with_entry
   with_here q w l e r is s =
       ap (λ es. es ++ (q, w) ∷ above q (l ++ e ∷ r)) (below_here q l e r is s)
       ∙ ap (λ es. l ++ (q, w) ∷ es) (above_here q l e r is s)
 
-  pub with_parts : (q : ℕ) (w : V) (es : List (ℕ × V)) → with_entry q w es ≡ below q es ++ (q, w) ∷ above q es
+  pub with_parts : (q : ℕ) (w : V) (es : List (ℕ × V)) → with_entry q w es ≡ below q es ++ (q, w)
+      ∷ above q es
   unfolding with_entry
   with_parts q w es = refl
 
-  pub without_left : (q : ℕ) (l : List (ℕ × V)) (e : ℕ × V) (r : List (ℕ × V)) → q < e.0 → IsRising (l ++ e ∷ r)
+  pub without_left : (q : ℕ) (l : List (ℕ × V)) (e : ℕ × V) (r : List (ℕ × V))
+      → q < e.0 → IsRising (l ++ e ∷ r)
       → without q (l ++ e ∷ r) ≡ without q l ++ e ∷ r
   unfolding without
   without_left q l e r h s =
@@ -440,7 +470,8 @@ module _ {V : Type 0} where
       ∙ ap (λ es. below q l ++ es) (above_left q l e r h s)
       ∙ sym (append_assoc (below q l) (above q l) (e ∷ r))
 
-  pub without_right : (q : ℕ) (l : List (ℕ × V)) (e : ℕ × V) (r : List (ℕ × V)) → e.0 < q → IsRising (l ++ e ∷ r)
+  pub without_right : (q : ℕ) (l : List (ℕ × V)) (e : ℕ × V) (r : List (ℕ × V))
+      → e.0 < q → IsRising (l ++ e ∷ r)
       → without q (l ++ e ∷ r) ≡ l ++ e ∷ without q r
   unfolding without
   without_right q l e r h s =
@@ -448,7 +479,8 @@ module _ {V : Type 0} where
       ∙ ap (λ es. (l ++ e ∷ below q r) ++ es) (above_right q l e r h s)
       ∙ append_assoc l (e ∷ below q r) (above q r)
 
-  pub without_here : (q : ℕ) (l : List (ℕ × V)) (e : ℕ × V) (r : List (ℕ × V)) → q ≡ e.0 → IsRising (l ++ e ∷ r)
+  pub without_here : (q : ℕ) (l : List (ℕ × V)) (e : ℕ × V) (r : List (ℕ × V))
+      → q ≡ e.0 → IsRising (l ++ e ∷ r)
       → without q (l ++ e ∷ r) ≡ l ++ r
   unfolding without
   without_here q l e r is s =
@@ -456,38 +488,47 @@ module _ {V : Type 0} where
       ∙ ap (λ es. l ++ es) (above_here q l e r is s)
 
   -- a map that is put together again rises
-  pub rising_at_here : (q : ℕ) (w : V) (l : List (ℕ × V)) (e : ℕ × V) (r : List (ℕ × V)) → q ≡ e.0 → IsRising (l ++ e ∷ r)
+  pub rising_at_here : (q : ℕ) (w : V) (l : List (ℕ × V)) (e : ℕ × V) (r : List (ℕ × V))
+      → q ≡ e.0 → IsRising (l ++ e ∷ r)
       → IsRising (l ++ (q, w) ∷ r)
   rising_at_here q w l e r is s = subst IsRising (with_here q w l e r is s) (rising_with q w (l ++ e ∷ r) s)
 
-  pub rising_parts : (q : ℕ) (w : V) (es : List (ℕ × V)) → IsRising es → IsRising (below q es ++ (q, w) ∷ above q es)
+  pub rising_parts : (q : ℕ) (w : V) (es : List (ℕ × V)) → IsRising es → IsRising (below q es ++ (q, w)
+      ∷ above q es)
   rising_parts q w es s = subst IsRising (with_parts q w es) (rising_with q w es s)
 
-  pub rising_with_left : (q : ℕ) (w : V) (l : List (ℕ × V)) (e : ℕ × V) (r : List (ℕ × V)) → q < e.0 → IsRising (l ++ e ∷ r)
+  pub rising_with_left : (q : ℕ) (w : V) (l : List (ℕ × V)) (e : ℕ × V) (r : List (ℕ × V))
+      → q < e.0 → IsRising (l ++ e ∷ r)
       → IsRising (with_entry q w l ++ e ∷ r)
   rising_with_left q w l e r h s = subst IsRising (with_left q w l e r h s) (rising_with q w (l ++ e ∷ r) s)
 
-  pub rising_with_right : (q : ℕ) (w : V) (l : List (ℕ × V)) (e : ℕ × V) (r : List (ℕ × V)) → e.0 < q → IsRising (l ++ e ∷ r)
+  pub rising_with_right : (q : ℕ) (w : V) (l : List (ℕ × V)) (e : ℕ × V) (r : List (ℕ × V))
+      → e.0 < q → IsRising (l ++ e ∷ r)
       → IsRising (l ++ e ∷ with_entry q w r)
   rising_with_right q w l e r h s = subst IsRising (with_right q w l e r h s) (rising_with q w (l ++ e ∷ r) s)
 
-  pub rising_without_left : (q : ℕ) (l : List (ℕ × V)) (e : ℕ × V) (r : List (ℕ × V)) → q < e.0 → IsRising (l ++ e ∷ r)
+  pub rising_without_left : (q : ℕ) (l : List (ℕ × V)) (e : ℕ × V) (r : List (ℕ × V))
+      → q < e.0 → IsRising (l ++ e ∷ r)
       → IsRising (without q l ++ e ∷ r)
   rising_without_left q l e r h s = subst IsRising (without_left q l e r h s) (rising_without q (l ++ e ∷ r) s)
 
-  pub rising_without_right : (q : ℕ) (l : List (ℕ × V)) (e : ℕ × V) (r : List (ℕ × V)) → e.0 < q → IsRising (l ++ e ∷ r)
+  pub rising_without_right : (q : ℕ) (l : List (ℕ × V)) (e : ℕ × V) (r : List (ℕ × V))
+      → e.0 < q → IsRising (l ++ e ∷ r)
       → IsRising (l ++ e ∷ without q r)
   rising_without_right q l e r h s = subst IsRising (without_right q l e r h s) (rising_without q (l ++ e ∷ r) s)
 
-  pub rising_sides : (q : ℕ) (l : List (ℕ × V)) (e : ℕ × V) (r : List (ℕ × V)) → q ≡ e.0 → IsRising (l ++ e ∷ r)
+  pub rising_sides : (q : ℕ) (l : List (ℕ × V)) (e : ℕ × V) (r : List (ℕ × V))
+      → q ≡ e.0 → IsRising (l ++ e ∷ r)
       → IsRising (l ++ r)
   rising_sides q l e r is s = subst IsRising (without_here q l e r is s) (rising_without q (l ++ e ∷ r) s)
 
-  pub rising_above_left : (q : ℕ) (l : List (ℕ × V)) (e : ℕ × V) (r : List (ℕ × V)) → q < e.0 → IsRising (l ++ e ∷ r)
+  pub rising_above_left : (q : ℕ) (l : List (ℕ × V)) (e : ℕ × V) (r : List (ℕ × V))
+      → q < e.0 → IsRising (l ++ e ∷ r)
       → IsRising (above q l ++ e ∷ r)
   rising_above_left q l e r h s = subst IsRising (above_left q l e r h s) (rising_above q (l ++ e ∷ r) s)
 
-  pub rising_below_right : (q : ℕ) (l : List (ℕ × V)) (e : ℕ × V) (r : List (ℕ × V)) → e.0 < q → IsRising (l ++ e ∷ r)
+  pub rising_below_right : (q : ℕ) (l : List (ℕ × V)) (e : ℕ × V) (r : List (ℕ × V))
+      → e.0 < q → IsRising (l ++ e ∷ r)
       → IsRising (l ++ e ∷ below q r)
   rising_below_right q l e r h s = subst IsRising (below_right q l e r h s) (rising_below q (l ++ e ∷ r) s)
 
@@ -503,21 +544,25 @@ module _ {V : Type 0} where
       → IsRising (l ++ e ∷ (r ++ m))
   rising_from_left l e r m s = subst IsRising (append_assoc l (e ∷ r) m) s
 
-  pub rising_into_right : (m l : List (ℕ × V)) (e : ℕ × V) (r : List (ℕ × V)) → IsRising (m ++ (l ++ e ∷ r))
+  pub rising_into_right : (m l : List (ℕ × V)) (e : ℕ × V) (r : List (ℕ × V))
+      → IsRising (m ++ (l ++ e ∷ r))
       → (m ++ (l ++ e ∷ r) ≡ m ++ (l ++ e ∷ r)) × IsRising (m ++ l)
   rising_into_right m l e r s =
       (refl, rising_front (m ++ l) (e ∷ r) (subst IsRising (sym (append_assoc m l (e ∷ r))) s))
 
-  pub rising_from_right : (m l : List (ℕ × V)) (e : ℕ × V) (r : List (ℕ × V)) → IsRising (m ++ (l ++ e ∷ r))
+  pub rising_from_right : (m l : List (ℕ × V)) (e : ℕ × V) (r : List (ℕ × V))
+      → IsRising (m ++ (l ++ e ∷ r))
       → IsRising ((m ++ l) ++ e ∷ r)
   rising_from_right m l e r s = subst IsRising (sym (append_assoc m l (e ∷ r))) s
 
   -- the same of maps that are given by their entries
-  pub into_left : (x l : List (ℕ × V)) (e : ℕ × V) (r m : List (ℕ × V)) → l ++ e ∷ r ≡ x → IsRising (x ++ m)
+  pub into_left : (x l : List (ℕ × V)) (e : ℕ × V) (r m : List (ℕ × V))
+      → l ++ e ∷ r ≡ x → IsRising (x ++ m)
       → IsRising (r ++ m)
   into_left x l e r m is s = (rising_into_left l e r m (subst (λ es. IsRising (es ++ m)) (sym is) s)).1
 
-  pub into_right : (x m l : List (ℕ × V)) (e : ℕ × V) (r : List (ℕ × V)) → l ++ e ∷ r ≡ x → IsRising (m ++ x)
+  pub into_right : (x m l : List (ℕ × V)) (e : ℕ × V) (r : List (ℕ × V))
+      → l ++ e ∷ r ≡ x → IsRising (m ++ x)
       → IsRising (m ++ l)
   into_right x m l e r is s = (rising_into_right m l e r (subst (λ es. IsRising (m ++ es)) (sym is) s)).1
 
@@ -525,10 +570,42 @@ pub ruleset looking = (found_left, found_right, found_here)
 
 pub ruleset counting = (entry_left, entry_right, entry_here, length-append)
 
-pub ruleset splitting = (below_nil, above_nil, below_left, below_right, below_here, above_left, above_right, above_here, rising_above_left, rising_below_right)
+pub ruleset splitting = (
+  below_nil,
+  above_nil,
+  below_left,
+  below_right,
+  below_here,
+  above_left,
+  above_right,
+  above_here,
+  rising_above_left,
+  rising_below_right,
+)
 
-pub ruleset inserting = (lookup_with, rising_one, with_nil, with_left, with_right, with_here, with_parts, rising_at_here, rising_parts, rising_with_left, rising_with_right)
+pub ruleset inserting = (
+  lookup_with,
+  rising_one,
+  with_nil,
+  with_left,
+  with_right,
+  with_here,
+  with_parts,
+  rising_at_here,
+  rising_parts,
+  rising_with_left,
+  rising_with_right,
+)
 
-pub ruleset removing = (lookup_without, without_nil, without_left, without_right, without_here, rising_without_left, rising_without_right, rising_sides)
+pub ruleset removing = (
+  lookup_without,
+  without_nil,
+  without_left,
+  without_right,
+  without_here,
+  rising_without_left,
+  rising_without_right,
+  rising_sides,
+)
 
 pub ruleset joining = (rising_into_left, rising_from_left, rising_into_right, rising_from_right, append_assoc)

@@ -4,7 +4,8 @@ use Rattle.handles.specs.Unions.{Union, First, Second, is_first, is_second, unio
 use Rattle.handle_tables.specs.declared.commands.Reply.TheVariants.{Is, Refused}
 use Rattle.handle_tables.specs.PlainTable.{Slots}
 use Rattle.handle_tables.specs.TableLaws.{NumberOfSlotsStays, OtherSlotsStay, OnlyDoneChanges}
-use Rattle.handle_tables.proofs.Changes.{Changes, AllChange, stay, two_stay, empty, set_or, at_slot, reads, number_stays, others_stay, only_done}
+use Rattle.handle_tables.proofs.Changes.{Changes, AllChange, stay, two_stay, empty, set_or, at_slot, reads}
+use Rattle.handle_tables.proofs.Changes.{number_stays, others_stay, only_done}
 use Rattle.union_tables.specs.declared.union_commands.UnionCommand.TheVariants as union
 use Rattle.union_tables.specs.PlainUnionTable.{of_one_block, union_outcomes_of, union_written}
 
@@ -23,10 +24,14 @@ module _ {A B : Type 0} (first_eq : A → A → Bool) (second_eq : B → B → B
   union_changes (union.Drop i) old = reads old _ i (λ _. empty old i)
   union_changes (union.IsFirst i) old = reads old _ i (λ u. stay old _ (Is (is_first u)))
   union_changes (union.IsSecond i) old = reads old _ i (λ u. stay old _ (Is (is_second u)))
-  union_changes (union.ReadFirst i a) old = reads old _ i (λ u. stay old _ (Is (union_eq first_eq second_eq u (First a))))
-  union_changes (union.ReadSecond i b) old = reads old _ i (λ u. stay old _ (Is (union_eq first_eq second_eq u (Second b))))
+  union_changes (union.ReadFirst i a)
+      old = reads old _ i (λ u. stay old _ (Is (union_eq first_eq second_eq u (First a))))
+  union_changes (union.ReadSecond i b)
+      old = reads old _ i (λ u. stay old _ (Is (union_eq first_eq second_eq u (Second b))))
   union_changes (union.PtrEq i j) old = at_slot old _ j (reads old _ i (λ u. reads old _ j (λ w. one_block old u w)))
-  union_changes (union.Same i j) old = at_slot old _ j (reads old _ i (λ u. reads old _ j (λ w. stay old _ (Is (union_eq first_eq second_eq u w)))))
+  union_changes (union.Same i j)
+      old = at_slot old _ j (reads old _ i (λ u. reads old _ j (λ w. stay old _ (Is (union_eq first_eq second_eq u
+      w)))))
 
   pub number_stays_union : NumberOfSlotsStays (union_outcomes_of first_eq second_eq)
   number_stays_union = number_stays _ _ union_changes

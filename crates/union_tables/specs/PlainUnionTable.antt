@@ -35,7 +35,8 @@ module _ {A B : Type 0} (first_eq : A → A → Bool) (second_eq : B → B → B
   union_outcomes_of (command.IsFirst i) slots = reading slots i (λ u. stays slots (Is (is_first u)) ∷ [])
   union_outcomes_of (command.IsSecond i) slots = reading slots i (λ u. stays slots (Is (is_second u)) ∷ [])
   union_outcomes_of (command.ReadFirst i a) slots = reading slots i (λ u. stays slots (Is (equal u (First a))) ∷ [])
-  union_outcomes_of (command.ReadSecond i b) slots = reading slots i (λ u. stays slots (Is (equal u (Second b))) ∷ [])
+  union_outcomes_of (command.ReadSecond i b) slots = reading slots i (λ u. stays slots (Is (equal u (Second b)))
+      ∷ [])
   union_outcomes_of (command.PtrEq i j) slots =
       at slots j (reading slots i (λ u. reading slots j (λ w. of_one_block slots u w)))
   union_outcomes_of (command.Same i j) slots = compares equal i j slots

@@ -1,5 +1,6 @@
 -- Whether a handle is the only one.
-use Rattle.std.proofs.Common.{◌≡◌, ℕ, Bool, true, not, ◌&&◌, length, nat_eq, refl, sym, ◌∙◌, ap, subst}
+use Rattle.std.proofs.Common.{◌≡◌, ℕ, Bool, true, not, ◌&&◌, length, nat_eq, refl, sym, ◌∙◌, ap}
+use Rattle.std.proofs.Common.{subst}
 use Rattle.std.proofs.lemmas.Bool.{and_parts}
 use Rattle.std.proofs.Math.Bool.{and-true}
 use Rattle.counting_word.specs.CountingWord.{is_one_handle}
@@ -23,9 +24,11 @@ module _ {V : Type 0} (f : CoreState V) where
       → is_one_handle f.word ≡ is_only (replay t).machine h
   is_one_handle-only t r h lives =
       is_one_handle-exactly f.word (length (replay t).machine.live) _ (replay t).machine.mark r.word
-      ∙ ap (λ b. not (replay t).machine.mark && b) (sym (ap (λ b. nat_eq (length (replay t).machine.live) 1 && b) there ∙ and-true _)) where
+      ∙ ap (λ b. not (replay t).machine.mark && b) (sym (ap (λ b. nat_eq (length (replay t).machine.live) 1 && b)
+      there ∙ and-true _)) where
         there : has h (replay t).machine.live ≡ true
-        there = (counted t r.legal).same h ∙ ap (λ (u : Situation). (u.handle h).lives) (sym r.same_situation) ∙ lives
+        there = (counted t r.legal).same h ∙ ap (λ (u : Situation). (u.handle h).lives) (sym r.same_situation)
+            ∙ lives
 
   pub moves-unique : (o h : ℕ) (b : Bool) → b ≡ is_one_handle f.word → MayStep f Idle (Unique o h)
       → StepsTo f (Unique o h) (Is b) f

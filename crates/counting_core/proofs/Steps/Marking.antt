@@ -12,7 +12,8 @@ use Rattle.counting_core.proofs.Traces.Deeds.{marks}
 use Rattle.counting_core.proofs.Traces.LiveCounts.{drops-le-live}
 use Rattle.counting_core.proofs.Steps.Moving.{moves, permitted-may}
 
-pub moves-mark : {V : Type 0} (f : CoreState V) (o h word : ℕ) → word ≡ marked_word f.word → MayStep f Idle (Mark o h)
+pub moves-mark : {V : Type 0} (f : CoreState V) (o h word : ℕ)
+    → word ≡ marked_word f.word → MayStep f Idle (Mark o h)
     → StepsTo f (Mark o h) Marked (record f { word = word })
 moves-mark f o h word is may = moves f (record f { word = word }) (Mark o h) Marked refl refl (λ t r. record {
   permitted = permitted-may f Idle (Mark o h) may;
@@ -23,6 +24,7 @@ moves-mark f o h word is may = moves f (record f { word = word }) (Mark o h) Mar
   births = r.same_births;
   word =
       subst (λ w. StandsFor w true (length (replay t).machine.live) (drops_in_flight f)) (sym is)
-      (stands-marked_word f.word (length (replay t).machine.live) (drops_in_flight f) (replay t).machine.mark r.word (drops-le-live f t r));
+      (stands-marked_word f.word (length (replay t).machine.live) (drops_in_flight f)
+      (replay t).machine.mark r.word (drops-le-live f t r));
   seen = r.seen;
 })

@@ -1,5 +1,6 @@
 -- What a step of a core has to show, so that it goes on to represent its trace.
-use Rattle.std.proofs.Common.{◌≡◌, ℕ, true, false, ◌&&◌, ⊎_elim, inl, inr, length, refl, sym, ◌∙◌, ap, ap₂, subst, true≢false, lt-ltb}
+use Rattle.std.proofs.Common.{◌≡◌, ℕ, true, false, ◌&&◌, ⊎_elim, inl, inr, length, refl, sym, ◌∙◌}
+use Rattle.std.proofs.Common.{ap, ap₂, subst, true≢false, lt-ltb}
 use Rattle.counting_word.specs.CountingWord.{is_marked_word, count_of, StandsFor}
 use Rattle.counting_core.specs.declared.owner.Activity.{Activity}
 use Rattle.counting_core.specs.declared.owner.Activity.TheVariants.{Cloning}
@@ -20,7 +21,8 @@ module _ {V : Type 0} where
   pub permitted-may : (f : CoreState V) (c : Activity) (x : Step V) → MayStep f c x
       → permitted (situation_of f) x ≡ true
   permitted-may f c x may =
-      ap₂ (λ b a. b && permitted_by (situation_of f) a x) (lt-ltb (owner_of x) (length f.owners) may.within) may.in_middle_of ∙ may.permitted
+      ap₂ (λ b a. b && permitted_by (situation_of f) a x) (lt-ltb (owner_of x) (length f.owners) may.within)
+      may.in_middle_of ∙ may.permitted
 
   -- the word that an owner saw last has no mark, and counts so many handles
   abbrev pub Saw : CoreState V → ℕ → ℕ → Type 0
@@ -45,15 +47,22 @@ module _ {V : Type 0} where
       continues = λ t r. goes_on t r (subst (Settles d x a (replay t)) r.same_situation (settles t r));
       unchanged = λ none. absurd (true≢false (sym effect ∙ ⊎_elim (ap takes_effect) (ap takes_effect) none));
     } where
-      goes_on : (t : Trace V) → Represents f t → Settles d x a (replay t) (situation t) → Represents d (Then t x a)
+      goes_on : (t : Trace V) → Represents f t → Settles d x a (replay t) (situation t)
+          → Represents d (Then t x a)
       goes_on t r k =
-          let machine : (replay (Then t x a)).machine ≡ k.machine = machine-deed (replay t) (situation t) x a k.machine effect k.deed in record {
-            legal = (r.legal, inl (sym (due-by t x true k.permitted ∙ ap (λ (p : Answer V × Machine V). p.0) (outcome_is (replay t) (situation t) x a k.machine k.deed))));
+          let machine : (replay (Then t x a)).machine ≡ k.machine = machine-deed (replay t) (situation t)
+          x a k.machine effect k.deed in record {
+            legal = (
+              r.legal,
+              inl (sym (due-by t x true k.permitted ∙ ap (λ (p : Answer V × Machine V). p.0)
+                  (outcome_is (replay t) (situation t) x a k.machine k.deed))),
+            );
             same_situation = k.situation;
             same_value = k.value ∙ ap (λ (m : Machine V). m.value) (sym machine);
             same_limit = limit ∙ r.same_limit;
             same_births = k.births ∙ ap (λ (m : Machine V). m.births) (sym machine);
-            word = subst (λ (m : Machine V). StandsFor d.word m.mark (length m.live) (drops_in_flight d)) (sym machine) k.word;
+            word = subst (λ (m : Machine V). StandsFor d.word m.mark (length m.live) (drops_in_flight d))
+                (sym machine) k.word;
             seen = k.seen;
           }
 
@@ -62,7 +71,8 @@ module _ {V : Type 0} where
     pub moves-same : takes_effect a ≡ true → permitted (situation_of f) x ≡ true
         → situation_of f ≡ after (situation_of f) x a
         → ((r : Replay V) → r.lived ≡ (replay_after r (situation_of f) x a).lived)
-        → ((t : Trace V) → Represents f t → Deed (replay t) (situation_of f) x a (replay t).machine) → StepsTo f x a f
+        → ((t : Trace V) → Represents f t → Deed (replay t) (situation_of f) x a (replay t).machine)
+        → StepsTo f x a f
     moves-same effect may quiet lived deed = moves f f x a effect refl (λ t r. record {
       permitted = may;
       situation = quiet;
@@ -77,7 +87,8 @@ module _ {V : Type 0} where
   module _ (f : CoreState V) (x : Step V) where
     -- a birth that memory was refused for
     pub moves-memory : permitted (situation_of f) x ≡ true
-        → ((t : Trace V) → Represents f t → Deed (replay t) (situation_of f) x (Born (replay t).machine.births) (grown (replay t).machine))
+        → ((t : Trace V) → Represents f t → Deed (replay t) (situation_of f) x (Born (replay t).machine.births)
+        (grown (replay t).machine))
         → StepsTo f x Memory f
     moves-memory may birth = record {
       continues = λ t r. record {
@@ -94,4 +105,6 @@ module _ {V : Type 0} where
       born : (t : Trace V) → Represents f t → due t x ≡ Born (replay t).machine.births
       born t r =
           due-by t x true (ap (λ u. permitted u x) (sym r.same_situation) ∙ may)
-          ∙ ap (λ (p : Answer V × Machine V). p.0) (outcome_is (replay t) (situation t) x _ (grown (replay t).machine) (subst (λ u. Deed (replay t) u x (Born (replay t).machine.births) (grown (replay t).machine)) r.same_situation (birth t r)))
+          ∙ ap (λ (p : Answer V × Machine V). p.0) (outcome_is (replay t) (situation t)
+          x _ (grown (replay t).machine) (subst (λ u. Deed (replay t) u x (Born (replay t).machine.births)
+          (grown (replay t).machine)) r.same_situation (birth t r)))

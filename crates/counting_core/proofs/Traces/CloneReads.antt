@@ -1,5 +1,8 @@
--- What a read of the word for a clone finds: the limit, or a number of handles that a raise straight after it finds again.
-use Rattle.std.proofs.Common.{◌≡◌, ℕ, true, false, not, ◌&&◌, if◌then◌else◌, nat_eq, length, refl, sym, ◌∙◌, ap, ap₂, true≢false, ◌⊎◌, inl, inr, ⊎_elim, ◌↔◌, eqb-true, eq-eqb}
+-- What a read of the word for a clone finds: the limit, or a number of handles that a raise straight after it finds
+-- again.
+use Rattle.std.proofs.Common.{◌≡◌, ℕ, true, false, not, ◌&&◌, if◌then◌else◌, nat_eq, length, refl}
+use Rattle.std.proofs.Common.{sym, ◌∙◌, ap, ap₂, true≢false, ◌⊎◌, inl, inr, ⊎_elim, ◌↔◌}
+use Rattle.std.proofs.Common.{eqb-true, eq-eqb}
 use Rattle.std.proofs.lemmas.Bool.{and_parts, and_from, or_parts, or_right, not-true}
 use Rattle.counting_core.specs.declared.owner.Activity.TheVariants.{Cloning}
 use Rattle.counting_core.specs.declared.step.Step.{Step}
@@ -12,7 +15,8 @@ use Rattle.counting_core.specs.PlainMachine.{Machine, is_full}
 use Rattle.counting_core.specs.Legal.{Replay, replay, raise_settles, due, takes_memory, IsLegal}
 use Rattle.counting_core.specs.Laws.{live_handles, has_mark, is_clone_read}
 use Rattle.counting_core.proofs.Traces.HandleLists.{nat_eq-same}
-use Rattle.counting_core.proofs.Traces.Deeds.{Deed, clone_reads, clone_bears, clone_full, raise_loses, raise_bears, raise_full}
+use Rattle.counting_core.proofs.Traces.Deeds.{Deed, clone_reads, clone_bears, clone_full, raise_loses, raise_bears}
+use Rattle.counting_core.proofs.Traces.Deeds.{raise_full}
 use Rattle.counting_core.proofs.Traces.LegalSteps.{Happens, happens, due-deed}
 use Rattle.counting_core.proofs.Traces.Limits.{machine_limit}
 
@@ -31,27 +35,35 @@ module _ {V : Type 0} where
   full-answer r u s a m (clone_reads o h _ room) read full = absurd (true≢false (sym full ∙ room))
   full-answer r u s a m (clone_bears o h mark room) read full = absurd (true≢false (sym full ∙ room))
   full-answer r u s a m (raise_bears o settles room) read full = absurd (true≢false (sym full ∙ room))
-  full-answer r u s a m (raise_loses o lost) read full = absurd (true≢false (sym full ∙ (or_parts _ _ (or_parts _ _ lost).1).0))
+  full-answer r u s a m (raise_loses o lost)
+      read full = absurd (true≢false (sym full ∙ (or_parts _ _ (or_parts _ _ lost).1).0))
   full-answer r u s a m _ read full = absurd (true≢false (sym read))
 
   -- a clone is refused exactly if its read finds the limit, without a mark
   pub full_exactly_at_limit : (t : Trace V) (s : Step V) (a : Answer V) → IsLegal (Then t s a)
-      → (a ≡ Full) ↔ ((permitted (situation t) s ≡ true) × (is_clone_read s ≡ true) × (has_mark t ≡ false) × (length (live_handles t) ≡ limit_of t))
+      → (a ≡ Full) ↔ ((permitted (situation t) s ≡ true) × (is_clone_read s ≡ true)
+      × (has_mark t ≡ false) × (length (live_handles t) ≡ limit_of t))
   full_exactly_at_limit t s a legal = (found a legal, refused) where
     found : (a : Answer V) → IsLegal (Then t s a) → a ≡ Full
-        → (permitted (situation t) s ≡ true) × (is_clone_read s ≡ true) × (has_mark t ≡ false) × (length (live_handles t) ≡ limit_of t)
+        → (permitted (situation t) s ≡ true) × (is_clone_read s ≡ true) × (has_mark t ≡ false)
+        × (length (live_handles t) ≡ limit_of t)
     found Full legal e =
         let h : Happens t s Full = happens t s Full refl legal.1 in
-        let read : (is_clone_read s ≡ true) × (is_full (replay t).machine ≡ true) = full-deed (replay t) (situation t) s _ h.deed in
-        let parts : (not (has_mark t) ≡ true) × (nat_eq (length (live_handles t)) (replay t).machine.limit ≡ true) = and_parts _ _ read.1 in
+        let read : (is_clone_read s ≡ true) × (is_full (replay t).machine ≡ true) = full-deed (replay t)
+        (situation t) s _ h.deed in
+        let parts : (not (has_mark t) ≡ true) × (nat_eq (length (live_handles t))
+        (replay t).machine.limit ≡ true) = and_parts _ _ read.1 in
         (h.permitted, read.0, not-true _ parts.0, eqb-true _ _ parts.1 ∙ machine_limit t legal.0)
     found a legal e = absurd (cc)
 
-    refused : (permitted (situation t) s ≡ true) × (is_clone_read s ≡ true) × (has_mark t ≡ false) × (length (live_handles t) ≡ limit_of t)
+    refused : (permitted (situation t) s ≡ true) × (is_clone_read s ≡ true) × (has_mark t ≡ false)
+        × (length (live_handles t) ≡ limit_of t)
         → a ≡ Full
     refused at =
-        let full : is_full (replay t).machine ≡ true = and_from _ _ (ap not at.2) (eq-eqb _ _ (at.3 ∙ sym (machine_limit t legal.0))) in
-        let answer : (due t s ≡ Full) × (takes_memory s (due t s) ≡ false) = full-answer (replay t) (situation t) s (due t s) _ (due-deed t s at.0) at.1 full in
+        let full : is_full (replay t).machine ≡ true = and_from _ _ (ap not at.2)
+        (eq-eqb _ _ (at.3 ∙ sym (machine_limit t legal.0))) in
+        let answer : (due t s ≡ Full) × (takes_memory s (due t s) ≡ false) = full-answer (replay t)
+        (situation t) s (due t s) _ (due-deed t s at.0) at.1 full in
         ⊎_elim (λ e. e ∙ answer.0) (λ m. absurd (true≢false (sym m.1 ∙ answer.1))) legal.1
 
   -- a read for a clone that is answered Pending found no mark and not the limit
@@ -72,7 +84,8 @@ module _ {V : Type 0} where
   raise-permitted : (u : Situation) (s : Step V) → is_clone_read s ≡ true → permitted u s ≡ true
       → permitted {V = V} (after u s Pending) (Raise (owner_of s)) ≡ true
   raise-permitted u (Clone o h) read may =
-      ap₂ (λ b c. b && permitted_by {V = V} (after {V = V} u (Clone o h) Pending) (if c then Cloning h else u.activity o) (Raise o))
+      ap₂ (λ b c. b && permitted_by {V = V} (after {V = V} u (Clone o h) Pending)
+      (if c then Cloning h else u.activity o) (Raise o))
       (and_parts _ _ may).0 (nat_eq-same o)
   raise-permitted u (Raise o) read may = may
   raise-permitted u _ read may = absurd (true≢false (sym read))
@@ -90,10 +103,12 @@ module _ {V : Type 0} where
 
     settles : raise_settles (replay (Then t s Pending)) (owner_of s) ≡ true
     settles = or_right (has_mark t) _ (or_right (is_full (replay t).machine) _
-        (ap (λ b. nat_eq (length (live_handles t)) (if b then length (live_handles t) else (replay t).lived (owner_of s))) (nat_eq-same (owner_of s))
+        (ap (λ b. nat_eq (length (live_handles t)) (if b then length (live_handles t)
+        else (replay t).lived (owner_of s))) (nat_eq-same (owner_of s))
         ∙ nat_eq-same (length (live_handles t))))
 
     is_due : due (Then t s Pending) (Raise (owner_of s)) ≡ Born (replay t).machine.births
     is_due =
         birth-deed (replay (Then t s Pending)) (situation (Then t s Pending)) (owner_of s) _ _
-        (due-deed (Then t s Pending) (Raise (owner_of s)) (raise-permitted (situation t) s read read_it.permitted)) settles found.1
+        (due-deed (Then t s Pending) (Raise (owner_of s)) (raise-permitted (situation t) s read read_it.permitted))
+        settles found.1

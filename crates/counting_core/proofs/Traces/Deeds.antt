@@ -1,13 +1,18 @@
 -- Each way in which a permitted step is answered, want of memory aside.
-use Rattle.std.proofs.Common.{◌≡◌, ℕ, ◌+◌, Bool, true, false, not, ◌&&◌, ◌||◌, nat_eq, [], ◌∷◌, ◌++◌, length, if◌then◌else◌, refl, sym, ◌∙◌, ap, subst, true≢false}
+use Rattle.std.proofs.Common.{◌≡◌, ℕ, ◌+◌, Bool, true, false, not, ◌&&◌, ◌||◌, nat_eq, []}
+use Rattle.std.proofs.Common.{◌∷◌, ◌++◌, length, if◌then◌else◌, refl, sym, ◌∙◌, ap, subst}
+use Rattle.std.proofs.Common.{true≢false}
 use Rattle.std.specs.List.{list_any}
 use Rattle.std.proofs.lemmas.Bool.{cond_both, or_parts, or_from, or_left, or_right}
 use Rattle.counting_core.specs.declared.owner.Activity.{Activity}
 use Rattle.counting_core.specs.declared.owner.Activity.TheVariants.{Idle, Cloning, Dropping}
 use Rattle.counting_core.specs.declared.step.Step.{Step}
-use Rattle.counting_core.specs.declared.step.Step.TheVariants.{Clone, Raise, Quit, Drop, Lower, Mark, Unique, Static, GetMut, Write, EndWrite, IntoUnique, Share, Load, Lend, Return, Give}
+use Rattle.counting_core.specs.declared.step.Step.TheVariants.{Clone, Raise, Quit, Drop, Lower, Mark, Unique, Static}
+use Rattle.counting_core.specs.declared.step.Step.TheVariants.{GetMut, Write, EndWrite, IntoUnique, Share, Load, Lend}
+use Rattle.counting_core.specs.declared.step.Step.TheVariants.{Return, Give}
 use Rattle.counting_core.specs.declared.step.Answer.{Answer}
-use Rattle.counting_core.specs.declared.step.Answer.TheVariants.{Born, Full, Pending, Ended, GivenUp, Marked, Is, Alone, Sole, Shared, Done, Value, Barred, Quit as Quitted}
+use Rattle.counting_core.specs.declared.step.Answer.TheVariants.{Born, Full, Pending, Ended, GivenUp, Marked, Is, Alone}
+use Rattle.counting_core.specs.declared.step.Answer.TheVariants.{Sole, Shared, Done, Value, Barred, Quit as Quitted}
 use Rattle.counting_core.specs.Trace.{Situation, owner_of, dropped_by}
 use Rattle.counting_core.specs.Permitted.{permitted_by}
 use Rattle.counting_core.specs.PlainMachine.{Machine, Clones, Ends, is_full, is_only, without}
@@ -24,7 +29,8 @@ module _ {V : Type 0} where
 -- A step, its answer and the machine after it.
 module _ {V : Type 0} (r : Replay V) (u : Situation) where
   pub data Deed : Step V → Answer V → Machine V → Type 0 where
-    clone_reads : (o h : ℕ) → r.machine.mark ≡ false → is_full r.machine ≡ false → Deed (Clone o h) Pending r.machine
+    clone_reads : (o h : ℕ) → r.machine.mark ≡ false → is_full r.machine ≡ false → Deed (Clone o h)
+        Pending r.machine
     clone_bears : (o h : ℕ) → r.machine.mark ≡ true → is_full r.machine ≡ false
         → Deed (Clone o h) (Born r.machine.births) (grown r.machine)
     clone_full : (o h : ℕ) → is_full r.machine ≡ true → Deed (Clone o h) Full r.machine
@@ -64,26 +70,31 @@ module _ {V : Type 0} (r : Replay V) (u : Situation) where
   settled : (s : Step V) → (is_full r.machine ≡ false → Deed s (Born r.machine.births) (grown r.machine))
       → (is_full r.machine ≡ true → Deed s Full r.machine) → Does s (Visible Clones)
   settled s bears full =
-      cond_both {A = Answer V × Machine V} (is_full r.machine) (Full, r.machine) (Born r.machine.births, grown r.machine) (λ x. Deed s x.0 x.1) full bears
+      cond_both {A = Answer V × Machine V} (is_full r.machine) (Full, r.machine)
+      (Born r.machine.births, grown r.machine) (λ x. Deed s x.0 x.1) full bears
 
   clone_deed : (o h : ℕ) → r.machine.mark || is_full r.machine ≡ true → Does (Clone o h) (Visible Clones)
-  clone_deed o h e = settled (Clone o h) (λ room. clone_bears o h (marked r.machine.mark (is_full r.machine) e room) room) (clone_full o h) where
-    marked : (m full : Bool) → m || full ≡ true → full ≡ false → m ≡ true
-    marked true full e room = refl
-    marked false full e room = absurd (true≢false (sym e ∙ room))
+  clone_deed o h e = settled (Clone o h) (λ room. clone_bears o h (marked r.machine.mark (is_full r.machine) e room)
+      room) (clone_full o h) where
+        marked : (m full : Bool) → m || full ≡ true → full ≡ false → m ≡ true
+        marked true full e room = refl
+        marked false full e room = absurd (true≢false (sym e ∙ room))
 
   -- each permitted step is one of these
   pub deed_of : (s : Step V) → permitted_by u (u.activity (owner_of s)) s ≡ true → Does s (move r u s)
   deed_of (Clone o h) may =
-      cond_both (r.machine.mark || is_full r.machine) (Visible Clones) (Silent Pending) (Does (Clone o h)) (clone_deed o h)
-      (λ e. let none : (r.machine.mark ≡ false) × (is_full r.machine ≡ false) = or_parts r.machine.mark (is_full r.machine) e in clone_reads o h none.0 none.1)
+      cond_both (r.machine.mark || is_full r.machine) (Visible Clones) (Silent Pending) (Does (Clone o h))
+      (clone_deed o h)
+      (λ e. let none : (r.machine.mark ≡ false) × (is_full r.machine ≡ false)
+      = or_parts r.machine.mark (is_full r.machine) e in clone_reads o h none.0 none.1)
   deed_of (Raise o) may =
       cond_both (raise_settles r o) (Visible Clones) (Silent Pending) (Does (Raise o))
       (λ e. settled (Raise o) (raise_bears o e) (raise_full o)) (raise_loses o)
   deed_of (Quit o) may = quits o
   deed_of (Drop o h) may =
       cond_both r.machine.mark (Visible (Ends h)) (Silent Pending) (Does (Drop o h))
-      (λ e. subst (λ b. Deed (Drop o h) (if b then GivenUp r.machine.value else Ended) (shrunk r.machine h)) (sym (ap (λ b. is_only_by b h) e)) (drop_ends o h e))
+      (λ e. subst (λ b. Deed (Drop o h) (if b then GivenUp r.machine.value else Ended) (shrunk r.machine h))
+      (sym (ap (λ b. is_only_by b h) e)) (drop_ends o h e))
       (drop_reads o h)
   deed_of (Lower o) may = by_activity (u.activity o) refl may where
     by_activity : (c : Activity) → u.activity o ≡ c → permitted_by {V = V} u c (Lower o) ≡ true
@@ -97,11 +108,13 @@ module _ {V : Type 0} (r : Replay V) (u : Situation) where
   deed_of (Unique o h) may = asks_unique o h
   deed_of (Static o h) may = asks_static o h
   deed_of (GetMut o h) may =
-      cond_both (is_only r.machine h) Alone Shared (λ a. Deed (GetMut o h) a r.machine) (finds_alone o h) (finds_shared o h)
+      cond_both (is_only r.machine h) Alone Shared (λ a. Deed (GetMut o h) a r.machine) (finds_alone o h)
+      (finds_shared o h)
   deed_of (Write o h v) may = writes o h v
   deed_of (EndWrite o h) may = ends_write o h
   deed_of (IntoUnique o h) may =
-      cond_both (is_only r.machine h) Sole Shared (λ a. Deed (IntoUnique o h) a r.machine) (becomes_sole o h) (stays_shared o h)
+      cond_both (is_only r.machine h) Sole Shared (λ a. Deed (IntoUnique o h) a r.machine) (becomes_sole o h)
+      (stays_shared o h)
   deed_of (Share o h) may = shares o h
   deed_of (Load o h) may = loads o h
   deed_of (Lend o h to) may = lends o h to
@@ -125,17 +138,25 @@ module _ {V : Type 0} (r : Replay V) (u : Situation) where
   clone_by settles = outcome r.machine (if settles then Visible Clones else Silent Pending)
 
   -- and each of these is the outcome of its step
-  pub outcome_is : (s : Step V) (a : Answer V) (m : Machine V) → Deed s a m → outcome r.machine (move r u s) ≡ (a, m)
+  pub outcome_is : (s : Step V) (a : Answer V) (m : Machine V) → Deed s a m → outcome r.machine (move r u s)
+      ≡ (a, m)
   outcome_is s a m (clone_reads o h mark room) = ap clone_by (or_from r.machine.mark (is_full r.machine) mark room)
-  outcome_is s a m (clone_bears o h mark room) = ap clone_by (or_left r.machine.mark (is_full r.machine) mark) ∙ ap birth_by room
-  outcome_is s a m (clone_full o h full) = ap clone_by (or_right r.machine.mark (is_full r.machine) full) ∙ ap birth_by full
+  outcome_is s a m (clone_bears o h mark room) = ap clone_by (or_left r.machine.mark (is_full r.machine) mark)
+      ∙ ap birth_by room
+  outcome_is s a m (clone_full o h full) = ap clone_by (or_right r.machine.mark (is_full r.machine) full)
+      ∙ ap birth_by full
   outcome_is s a m (raise_loses o lost) = ap clone_by lost
   outcome_is s a m (raise_bears o settles room) = ap clone_by settles ∙ ap birth_by room
-  outcome_is s a m (raise_full o full) = ap clone_by (or_right r.machine.mark _ (or_left (is_full r.machine) _ full)) ∙ ap birth_by full
-  outcome_is s a m (drop_reads o h mark) = ap (λ b. outcome r.machine (if b then Visible (Ends h) else Silent Pending)) mark
-  outcome_is s a m (drop_ends o h mark) = ap (λ b. outcome r.machine (if b then Visible (Ends h) else Silent Pending)) mark ∙ ap (λ b. end_by h (is_only_by b h)) mark
-  outcome_is s a m (lower_ends o h e more) = ap (λ c. outcome r.machine (Visible (Ends (dropped_by c)))) e ∙ ap (end_by h) more
-  outcome_is s a m (lower_gives_up o h e last) = ap (λ c. outcome r.machine (Visible (Ends (dropped_by c)))) e ∙ ap (end_by h) last
+  outcome_is s a m (raise_full o full) = ap clone_by (or_right r.machine.mark _ (or_left (is_full r.machine) _ full))
+      ∙ ap birth_by full
+  outcome_is s a m (drop_reads o h mark) = ap (λ b. outcome r.machine (if b then Visible (Ends h)
+      else Silent Pending)) mark
+  outcome_is s a m (drop_ends o h mark) = ap (λ b. outcome r.machine (if b then Visible (Ends h)
+      else Silent Pending)) mark ∙ ap (λ b. end_by h (is_only_by b h)) mark
+  outcome_is s a m (lower_ends o h e more) = ap (λ c. outcome r.machine (Visible (Ends (dropped_by c))))
+      e ∙ ap (end_by h) more
+  outcome_is s a m (lower_gives_up o h e last) = ap (λ c. outcome r.machine (Visible (Ends (dropped_by c))))
+      e ∙ ap (end_by h) last
   outcome_is s a m (finds_alone o h only) = ap get_mut_by only
   outcome_is s a m (finds_shared o h others) = ap get_mut_by others
   outcome_is s a m (becomes_sole o h only) = ap into_unique_by only

@@ -1,5 +1,6 @@
 -- The owners whose drop is in flight have handles of their own.
-use Rattle.std.proofs.Common.{◌≡◌, ℕ, ◌+◌, ◌≤◌, true, not, ◌||◌, nat_eq, List, [], ◌∷◌, length}
+use Rattle.std.proofs.Common.{◌≡◌, ℕ, ◌+◌, ◌≤◌, true, not, ◌||◌, nat_eq, List, [], ◌∷◌}
+use Rattle.std.proofs.Common.{length}
 use Rattle.std.proofs.Common.{sym, ◌∙◌, ap, arith, true≢false, eqb-true, ◌⊎◌, inl, inr}
 use Rattle.std.proofs.lemmas.Bool.{and_parts, and_from, false_from_ne_true}
 use Rattle.std.proofs.lemmas.Grind.{common_steps}
@@ -14,9 +15,11 @@ use Rattle.counting_core.proofs.Traces.HandleLists.{apart-without}
 use Rattle.counting_core.proofs.Traces.InFlight.{Fits}
 
 -- numbers that have others of their own in a list are no more than those
-pub mapped-length : (g : ℕ → ℕ) (xs ys : List ℕ) → IsApart xs → IsApart ys → ((o : ℕ) → has o xs ≡ true
+pub mapped-length : (g : ℕ → ℕ) (xs ys : List ℕ) → IsApart xs → IsApart ys → ((o : ℕ)
+    → has o xs ≡ true
     → has (g o) ys ≡ true)
-    → ((o q : ℕ) → has o xs ≡ true → has q xs ≡ true → g o ≡ g q → o ≡ q) → length xs ≤ length ys
+    → ((o q : ℕ) → has o xs ≡ true → has q xs ≡ true → g o ≡ g q → o ≡ q)
+    → length xs ≤ length ys
 mapped-length g [] ys apart distinct own one = omega arith
 mapped-length g (x ∷ xs) ys apart distinct own one =
     let fewer : length xs ≤ length (without (g x) ys) =
@@ -34,13 +37,15 @@ mapped-length g (x ∷ xs) ys apart distinct own one =
       others o i = has-without (g o) (g x) ys ∙ and_from _ _ (ap not (false_from_ne_true (nat_eq (g x) (g o)) same))
           (own o (more o i)) where
             same : nat_eq (g x) (g o) ≡ true → ⊥
-            same e = true≢false (sym i ∙ ap (λ n. has n xs) (sym (one x o here (more o i) (eqb-true (g x) (g o) e)))
+            same e = true≢false (sym i ∙ ap (λ n. has n xs) (sym (one x o here (more o i) (eqb-true (g x) (g o)
+                e)))
                 ∙ apart.0)
 
 alone-user : (k : HandleState) (q o : ℕ) → has_alone k q ≡ true → may_use k o ≡ true → nat_eq q o ≡ true
 alone-user k q o own uses = grind (arith, common_steps)
 
-pub alone-alone : (k : HandleState) (q o : ℕ) → has_alone k q ≡ true → has_alone k o ≡ true → nat_eq q o ≡ true
+pub alone-alone : (k : HandleState) (q o : ℕ)
+    → has_alone k q ≡ true → has_alone k o ≡ true → nat_eq q o ≡ true
 alone-alone k q o own other = grind arith
 
 -- an owner who may use a handle, or has it alone

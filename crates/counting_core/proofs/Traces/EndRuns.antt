@@ -1,6 +1,8 @@
 -- The end of a handle in a run: its last read by an owner that has nothing yet, and its lower.
-use Rattle.std.proofs.Common.{◌≡◌, ℕ, suc, ◌+◌, ◌-◌, ◌<◌, ◌≤◌, Bool, true, false, not, ◌&&◌, ◌||◌, nat_eq, nat_lt}
-use Rattle.std.proofs.Common.{List, [], ◌∷◌, ◌++◌, length, append-nil, if◌then◌else◌, refl, sym, ◌∙◌, ap, ap₂}
+use Rattle.std.proofs.Common.{◌≡◌, ℕ, suc, ◌+◌, ◌-◌, ◌<◌, ◌≤◌, Bool, true, false, not}
+use Rattle.std.proofs.Common.{◌&&◌, ◌||◌, nat_eq, nat_lt}
+use Rattle.std.proofs.Common.{List, [], ◌∷◌, ◌++◌, length, append-nil, if◌then◌else◌, refl, sym}
+use Rattle.std.proofs.Common.{◌∙◌, ap, ap₂}
 use Rattle.std.proofs.Common.{subst, arith, true≢false, eqb-true, ne_eqb, lt-ltb, lt_irrefl}
 use Rattle.std.proofs.lemmas.Bool.{and_from, and_parts, or_left, or_right, false_from_ne_true}
 use Rattle.counting_word.specs.Rights.{nothing, to_lower, whole_block}
@@ -26,7 +28,8 @@ use Rattle.counting_core.proofs.Traces.HandleRuns.{Goes}
 use Rattle.counting_core.proofs.Traces.HandleRuns as by_handle
 
 module _ {V : Type 0} (limit : ℕ) where
-  module _ (owners k : ℕ) (p : Tally) (h : ℕ) (hs ds : List ℕ) (t : Trace V) (s : Shape limit owners k p (h ∷ hs) ds t)
+  module _ (owners k : ℕ) (p : Tally) (h : ℕ) (hs ds : List ℕ) (t : Trace V)
+      (s : Shape limit owners k p (h ∷ hs) ds t)
       (some : 0 < owners) where
     first-held : (situation t).handle h ≡ held_by_0
     first-held = by_handle.first-held limit owners k p h hs ds t s some
@@ -96,8 +99,10 @@ module _ {V : Type 0} (limit : ℕ) where
           owned = s.owned;
           begun = omega arith;
           limited = s.limited;
-          marked = ap (λ (x : Machine V). x.mark) read.machine ∙ ap (λ (x : Machine V). x.mark) gave.machine ∙ s.marked;
-          live = ap (λ (x : Machine V). length x.live) read.machine ∙ ap (λ (x : Machine V). length x.live) gave.machine
+          marked = ap (λ (x : Machine V). x.mark) read.machine ∙ ap (λ (x : Machine V). x.mark)
+              gave.machine ∙ s.marked;
+          live = ap (λ (x : Machine V). length x.live) read.machine ∙ ap (λ (x : Machine V). length x.live)
+              gave.machine
               ∙ s.live ∙ (omega (arith, one_fewer));
           handles = omega (arith, one_fewer);
           drops = ap (λ z. suc z) s.drops ∙ (omega arith);
@@ -110,7 +115,8 @@ module _ {V : Type 0} (limit : ℕ) where
               (λ _. (s.begun, omega arith, (h, refl)))
               (λ q other there. let b : Drops k t q = s.busy q (in-rest q other there) in let below : q < k = b.1 in
               (b.0, omega arith, b.2)) o there;
-          idle = λ o absent. put-all (situation t).activity k (Dropping h) (λ q c. has q (k ∷ ds) ≡ false → c ≡ Idle)
+          idle = λ o absent. put-all (situation t).activity k (Dropping h) (λ q c. has q (k ∷ ds)
+              ≡ false → c ≡ Idle)
               (λ none. absurd (true≢false (sym (ap (λ b. b || has k ds) (nat_eq-same k)) ∙ none)))
               (λ q other none. s.idle q (not-in-rest q none)) o absent;
         };
@@ -142,7 +148,8 @@ module _ {V : Type 0} (limit : ℕ) where
           owned = s.owned;
           begun = omega arith;
           limited = s.limited;
-          marked = ap (λ (x : Machine V). x.mark) read.machine ∙ ap (λ (x : Machine V). x.mark) gave.machine ∙ s.marked;
+          marked = ap (λ (x : Machine V). x.mark) read.machine ∙ ap (λ (x : Machine V). x.mark)
+              gave.machine ∙ s.marked;
           live = ap (λ (x : Machine V). length x.live) read.machine
               ∙ ap (λ (x : Machine V). length (shrunk x h).live) gave.machine ∙ fewer;
           handles = omega (arith, one_fewer);
@@ -182,7 +189,8 @@ module _ {V : Type 0} (limit : ℕ) where
         at false mark = left_by_unmarked mark
 
   -- a lower, by an owner whose drop is in flight
-  module _ (owners k : ℕ) (p : Tally) (hs : List ℕ) (o : ℕ) (ds : List ℕ) (t : Trace V) (s : Shape limit owners k p hs
+  module _ (owners k : ℕ) (p : Tally) (hs : List ℕ) (o : ℕ) (ds : List ℕ) (t : Trace V)
+      (s : Shape limit owners k p hs
       (o ∷ ds) t) (few : k ≤ owners) where
     abbrev n : Machine V
     n = (replay t).machine
@@ -218,7 +226,8 @@ module _ {V : Type 0} (limit : ℕ) where
     -- a handle of owner 0 is another
     kept-other : (j : ℕ) → has j hs ≡ true → nat_eq (dropped_by ((situation t).activity o)) j ≡ false
     kept-other j there = ap (λ (c : Activity). nat_eq (dropped_by c) j) is ∙ false_from_ne_true (nat_eq h j) (λ e.
-        let holder : ((situation t).handle h).holder ≡ o = eqb-true _ o (and_parts _ _ (and_parts _ _ alone).0).1 in
+        let holder : ((situation t).handle h).holder ≡ o =
+        eqb-true ((situation t).handle h).holder o (and_parts _ _ (and_parts _ _ alone).0).1 in
         let zero_holds : ((situation t).handle h).holder ≡ 0 =
         ap (λ (n : ℕ). ((situation t).handle n).holder) (eqb-true h j e)
         ∙ ap (λ (x : HandleState). x.holder) (s.held j there) in

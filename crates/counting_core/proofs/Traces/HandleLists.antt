@@ -1,5 +1,7 @@
 -- Lists of handles, none of them twice.
-use Rattle.std.proofs.Common.{◌≡◌, ℕ, ◌+◌, Bool, true, false, not, ◌&&◌, ◌||◌, nat_eq, List, [], ◌∷◌, ◌++◌, length, count_by, if◌then◌else◌, refl, sym, ◌∙◌, ap, arith, true≢false, eqb-true}
+use Rattle.std.proofs.Common.{◌≡◌, ℕ, ◌+◌, Bool, true, false, not, ◌&&◌, ◌||◌, nat_eq, List, []}
+use Rattle.std.proofs.Common.{◌∷◌, ◌++◌, length, count_by, if◌then◌else◌, refl, sym, ◌∙◌, ap}
+use Rattle.std.proofs.Common.{arith, true≢false, eqb-true}
 use Rattle.std.specs.List.{list_any}
 use Rattle.std.proofs.lemmas.Bool.{and_right, or_parts, or_from}
 use Rattle.std.proofs.lemmas.List.Sums.{sum_by-cons}
@@ -44,7 +46,8 @@ without-absent h (x ∷ xs) e =
     rw parts.0 (ap (λ ys. x ∷ ys) (without-absent h xs parts.1))
 
 -- without one that it has, a list of handles that are apart is one shorter
-pub length-without : (h : ℕ) (xs : List ℕ) → has h xs ≡ true → IsApart xs → length (without h xs) + 1 ≡ length xs
+pub length-without : (h : ℕ) (xs : List ℕ) → has h xs ≡ true → IsApart xs → length (without h xs)
+    + 1 ≡ length xs
 length-without h [] e apart = absurd (true≢false (sym e))
 length-without h (x ∷ xs) e apart = by_head (nat_eq h x) refl (λ i. length-without h xs i apart.1) where
   by_head : (b : Bool) → nat_eq h x ≡ b → (has h xs ≡ true → length (without h xs) + 1 ≡ length xs)
@@ -74,4 +77,5 @@ apart-push n (x ∷ xs) absent apart =
 -- a handle stands in a list of handles that are apart once, if at all
 pub once : (h : ℕ) (xs : List ℕ) → IsApart xs → count_by (nat_eq h) xs ≡ (if has h xs then 1 else 0)
 once h [] apart = refl
-once h (x ∷ xs) apart = let rest : count_by (nat_eq h) xs ≡ (if has h xs then 1 else 0) = once h xs apart.1 in grind (arith, apart.0, sum_by-cons (λ (y : ℕ). if nat_eq h y then 1 else 0) x xs)
+once h (x ∷ xs) apart = let rest : count_by (nat_eq h) xs ≡ (if has h xs then 1 else 0) = once h xs apart.1 in
+    grind (arith, apart.0, sum_by-cons (λ (y : ℕ). if nat_eq h y then 1 else 0) x xs)

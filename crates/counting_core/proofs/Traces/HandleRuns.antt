@@ -1,6 +1,8 @@
 -- The steps of a run by a handle that stays, as steps of owner 0.
-use Rattle.std.proofs.Common.{◌≡◌, ℕ, ◌+◌, ◌<◌, Bool, true, false, not, ◌&&◌, ◌||◌, nat_eq, List, [], ◌∷◌}
-use Rattle.std.proofs.Common.{◌++◌, length, append_assoc, append-nil, if◌then◌else◌, refl, sym, ◌∙◌, ap, ap₂, subst}
+use Rattle.std.proofs.Common.{◌≡◌, ℕ, ◌+◌, ◌<◌, Bool, true, false, not, ◌&&◌, ◌||◌, nat_eq}
+use Rattle.std.proofs.Common.{List, [], ◌∷◌}
+use Rattle.std.proofs.Common.{◌++◌, length, append_assoc, append-nil, if◌then◌else◌, refl, sym, ◌∙◌, ap}
+use Rattle.std.proofs.Common.{ap₂, subst}
 use Rattle.std.proofs.Common.{arith, true≢false, eqb-true, ne_eqb}
 use Rattle.std.proofs.lemmas.Bool.{or_right}
 use Rattle.counting_word.specs.Rights.{nothing, a_handle, whole_block}
@@ -35,7 +37,8 @@ module _ {V : Type 0} (limit : ℕ) where
     pub shape : Shape limit owners k p hs ds now
     pub entries : entries_of now ≡ entries_of t ++ es
 
-  module _ (owners k : ℕ) (p : Tally) (h : ℕ) (hs ds : List ℕ) (t : Trace V) (s : Shape limit owners k p (h ∷ hs) ds t)
+  module _ (owners k : ℕ) (p : Tally) (h : ℕ) (hs ds : List ℕ) (t : Trace V)
+      (s : Shape limit owners k p (h ∷ hs) ds t)
       (some : 0 < owners) where
     pub first-held : (situation t).handle h ≡ held_by_0
     first-held = s.held h (ap (λ b. b || has h hs) (nat_eq-same h))
@@ -65,7 +68,8 @@ module _ {V : Type 0} (limit : ℕ) where
           now = Then t (Unique 0 h) (Is (is_only (replay t).machine h));
           hs = h ∷ hs;
           ds = ds;
-          shape = keeps limit owners k p (h ∷ hs) ds t s p _ done.legal s.owned refl s.marked refl refl refl (λ _. refl)
+          shape = keeps limit owners k p (h ∷ hs)
+              ds t s p _ done.legal s.owned refl s.marked refl refl refl (λ _. refl)
               (λ _. refl);
           entries = refl;
         }
@@ -88,7 +92,8 @@ module _ {V : Type 0} (limit : ℕ) where
     read_bears mark = let m : Machine V = (replay t).machine in
         let done : Made t (Clone 0 h) (Born m.births) (grown m) =
         makes t (Clone 0 h) (Born m.births) (grown m) Idle s.legal refl within idle-0 usable
-        (clone_bears 0 h (s.marked ∙ mark) (full-by ∙ ap (λ b. not b && nat_eq (p.handles + p.drops) limit) mark)) in
+        (clone_bears 0 h (s.marked ∙ mark) (full-by ∙ ap (λ b. not b && nat_eq (p.handles + p.drops) limit)
+        mark)) in
         record {
           now = Then t (Clone 0 h) (Born m.births);
           hs = m.births ∷ h ∷ hs;
@@ -221,7 +226,11 @@ module _ {V : Type 0} (limit : ℕ) where
           (ap (λ (x : HandleState). record x { access = SharedAccess }) here ∙ sym first-held)
           (λ j other. ap (λ b. if b then written else (situation t).handle j) other)
 
-      at : (b : Bool) → has_exactly 1 p ≡ b → Goes owners k p t ((claims, if b then whole_block 1 else a_handle) ∷ [])
+      at : (b : Bool) → has_exactly 1 p ≡ b → Goes owners k p t ((
+        claims,
+        if b then whole_block 1 else
+            a_handle,
+      ) ∷ [])
       at true one =
           let found : Made t (GetMut 0 h) Alone m = makes t (GetMut 0 h) Alone m Idle s.legal refl within idle-0 takable
           (finds_alone 0 h (only-by ∙ one)) in
@@ -232,7 +241,8 @@ module _ {V : Type 0} (limit : ℕ) where
             hs = h ∷ hs;
             ds = ds;
             shape = keeps limit owners k p (h ∷ hs) ds t s p _ over.legal s.owned refl
-                (ap (λ (x : Machine V). x.mark) over.machine ∙ ap (λ (x : Machine V). x.mark) found.machine ∙ s.marked)
+                (ap (λ (x : Machine V). x.mark) over.machine ∙ ap (λ (x : Machine V). x.mark)
+                found.machine ∙ s.marked)
                 (ap (λ (x : Machine V). length x.live) over.machine
                 ∙ ap (λ (x : Machine V). length x.live) found.machine) refl refl as_before (λ _. refl);
             entries = append-nil _;
@@ -245,6 +255,7 @@ module _ {V : Type 0} (limit : ℕ) where
             ds = ds;
             shape = keeps limit owners k p (h ∷ hs) ds t s p _ found.legal s.owned refl
                 (ap (λ (x : Machine V). x.mark) found.machine
-                ∙ s.marked) (ap (λ (x : Machine V). length x.live) found.machine) refl refl (λ _. refl) (λ _. refl);
+                ∙ s.marked) (ap (λ (x : Machine V). length x.live) found.machine) refl refl (λ _. refl)
+                (λ _. refl);
             entries = refl;
           }

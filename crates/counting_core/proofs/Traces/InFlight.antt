@@ -1,5 +1,7 @@
--- The handle of a clone in flight is one that its owner may use, and the handle of a drop in flight is its owner's alone.
-use Rattle.std.proofs.Common.{◌≡◌, ℕ, true, false, ◌||◌, nat_eq, List, [], ◌∷◌, refl, sym, ◌∙◌, subst, arith, true≢false, ⊎_elim, Ordering, Less, Equal, Greater}
+-- The handle of a clone in flight is one that its owner may use, and the handle of a drop in flight is its owner's
+-- alone.
+use Rattle.std.proofs.Common.{◌≡◌, ℕ, true, false, ◌||◌, nat_eq, List, [], ◌∷◌, refl, sym, ◌∙◌}
+use Rattle.std.proofs.Common.{subst, arith, true≢false, ⊎_elim, Ordering, Less, Equal, Greater}
 use Rattle.std.specs.List.{list_any}
 use Rattle.std.specs.Ordering.{nat_cmp, match_ordering}
 use Rattle.std.specs.BTreeSet.{insert_key}
@@ -9,11 +11,15 @@ use Rattle.std.proofs.lemmas.Grind.{common_steps}
 use Rattle.counting_core.specs.declared.owner.Activity.{Activity}
 use Rattle.counting_core.specs.declared.owner.Activity.TheVariants.{Idle, Cloning, Dropping}
 use Rattle.counting_core.specs.declared.step.Step.{Step}
-use Rattle.counting_core.specs.declared.step.Step.TheVariants.{Clone, Drop, Lower, GetMut, EndWrite, IntoUnique, Share, Lend, Return, Give}
+use Rattle.counting_core.specs.declared.step.Step.TheVariants.{Clone, Drop, Lower, GetMut, EndWrite, IntoUnique, Share}
+use Rattle.counting_core.specs.declared.step.Step.TheVariants.{Lend, Return, Give}
 use Rattle.counting_core.specs.declared.step.Answer.{Answer}
-use Rattle.counting_core.specs.declared.step.Answer.TheVariants.{Born, Full, Pending, Ended, GivenUp, Alone, Sole, Done, Memory, Barred, Quit as Quitted}
-use Rattle.counting_core.specs.Trace.{Trace, Open, Then, HandleState, lent_to, returned_by, Situation, situation, owner_of, dropped_by, ended, put, after}
-use Rattle.counting_core.specs.Permitted.{holds, is_lent_to, has_alone, may_use, may_take, is_writing, has_sole, permitted_by}
+use Rattle.counting_core.specs.declared.step.Answer.TheVariants.{Born, Full, Pending, Ended, GivenUp, Alone, Sole, Done}
+use Rattle.counting_core.specs.declared.step.Answer.TheVariants.{Memory, Barred, Quit as Quitted}
+use Rattle.counting_core.specs.Trace.{Trace, Open, Then, HandleState, lent_to, returned_by, Situation, situation}
+use Rattle.counting_core.specs.Trace.{owner_of, dropped_by, ended, put, after}
+use Rattle.counting_core.specs.Permitted.{holds, is_lent_to, has_alone, may_use, may_take, is_writing, has_sole}
+use Rattle.counting_core.specs.Permitted.{permitted_by}
 use Rattle.counting_core.specs.PlainMachine.{Machine}
 use Rattle.counting_core.specs.Legal.{Replay, replay, IsLegal}
 use Rattle.counting_core.proofs.Traces.Places.{put-all, put-same}
@@ -26,7 +32,8 @@ lent-insert : (o to : ℕ) (os : List ℕ) → list_any (nat_eq o) os ≡ true
     → list_any (nat_eq o) (insert_key nat_cmp os to) ≡ true
 lent-insert o to [] e = absurd (true≢false (sym e))
 lent-insert o to (q ∷ os) e = by_order (nat_cmp to q) (lent-insert o to os) where
-  by_order : (c : Ordering) → (list_any (nat_eq o) os ≡ true → list_any (nat_eq o) (insert_key nat_cmp os to) ≡ true)
+  by_order : (c : Ordering) → (list_any (nat_eq o) os ≡ true → list_any (nat_eq o) (insert_key nat_cmp os to)
+      ≡ true)
       → list_any (nat_eq o) (match_ordering c (to ∷ q ∷ os) (q ∷ os) (q ∷ insert_key nat_cmp os to)) ≡ true
   by_order Less more = grind arith
   by_order Equal more = e
@@ -37,7 +44,8 @@ lent-remove : (o p : ℕ) (os : List ℕ) → nat_eq p o ≡ false → list_any 
     → list_any (nat_eq o) (remove_key (nat_eq p) os) ≡ true
 lent-remove o p [] other e = absurd (true≢false (sym e))
 lent-remove o p (q ∷ os) other e =
-    let more : list_any (nat_eq o) os ≡ true → list_any (nat_eq o) (remove_key (nat_eq p) os) ≡ true = lent-remove o p os other in grind arith
+    let more : list_any (nat_eq o) os ≡ true → list_any (nat_eq o) (remove_key (nat_eq p) os)
+    ≡ true = lent-remove o p os other in grind arith
 
 -- A change of a handle by p, which leaves it to the other owners who may use it or have it alone.
 record Spares (p : ℕ) (old new : HandleState) : Type 0 where
@@ -46,20 +54,42 @@ record Spares (p : ℕ) (old new : HandleState) : Type 0 where
 
 module _ (p : ℕ) (old new : HandleState) where
   spares-unborn : old.lives ≡ false → Spares p old new
-  spares-unborn e = record { may_use_still = λ q other theirs. grind arith; alone_still = λ q other theirs. grind arith }
+  spares-unborn e = record {
+    may_use_still = λ q other theirs. grind arith;
+    alone_still = λ q other theirs. grind
+        arith;
+  }
 
   -- a handle that p has alone, or that it is writing
   spares-own : has_alone old p ≡ true → Spares p old new
-  spares-own own = record { may_use_still = λ q other theirs. grind (arith, common_steps); alone_still = λ q other theirs. grind (arith, common_steps) }
+  spares-own own = record {
+    may_use_still = λ q other theirs. grind (arith, common_steps);
+    alone_still = λ q other
+        theirs. grind (arith, common_steps);
+  }
 
   spares-writer : is_writing old p ≡ true → Spares p old new
-  spares-writer own = record { may_use_still = λ q other theirs. grind (arith, common_steps); alone_still = λ q other theirs. grind (arith, common_steps) }
+  spares-writer own = record {
+    may_use_still = λ q other theirs. grind (arith, common_steps);
+    alone_still = λ q
+        other theirs. grind (arith, common_steps);
+  }
 
 spares-lent : (p to : ℕ) (old : HandleState) → holds old p ≡ true → Spares p old (lent_to old to)
-spares-lent p to old own = record { may_use_still = λ q other theirs. grind (arith, lent-insert q to old.borrowers); alone_still = λ q other theirs. grind arith }
+spares-lent p to old own = record {
+  may_use_still = λ q other theirs. grind (arith, lent-insert q to old.borrowers);
+  alone_still = λ q other theirs. grind arith;
+}
 
 spares-returned : (p : ℕ) (old : HandleState) → is_lent_to old p ≡ true → Spares p old (returned_by old p)
-spares-returned p old lent = record { may_use_still = λ q other theirs. grind (arith, lent-remove q p old.borrowers other); alone_still = λ q other theirs. grind (arith, common_steps) }
+spares-returned p old lent = record {
+  may_use_still = λ q other theirs. grind (
+    arith,
+    lent-remove q p old.borrowers
+        other,
+  );
+  alone_still = λ q other theirs. grind (arith, common_steps);
+}
 
 -- who takes a handle, or has it as the sole one, has it alone
 pub parts-alone : (k : HandleState) (o : ℕ) → (may_take k o || has_sole k o) ≡ true → has_alone k o ≡ true
@@ -75,13 +105,16 @@ abbrev pub AllFit : Situation → Type 0
 AllFit u = (o : ℕ) → Fits u.handle o (u.activity o)
 
 -- a change of a handle that spares the other owners leaves them what they have in flight
-fits-put : (hs : ℕ → HandleState) (p h : ℕ) (new : HandleState) → Spares p (hs h) new → (q : ℕ) → nat_eq p q ≡ false
+fits-put : (hs : ℕ → HandleState) (p h : ℕ) (new : HandleState) → Spares p (hs h) new → (q : ℕ)
+    → nat_eq p q ≡ false
     → (a : Activity) → Fits hs q a → Fits (put hs h new) q a
 fits-put hs p h new spares q other Idle fits = tt
 fits-put hs p h new spares q other (Cloning k) fits =
-    put-all hs h new (λ j s. may_use (hs j) q ≡ true → may_use s q ≡ true) (spares.may_use_still q other) (λ j _ e. e) k fits
+    put-all hs h new (λ j s. may_use (hs j) q ≡ true → may_use s q ≡ true) (spares.may_use_still q other)
+    (λ j _ e. e) k fits
 fits-put hs p h new spares q other (Dropping k) fits =
-    put-all hs h new (λ j s. has_alone (hs j) q ≡ true → has_alone s q ≡ true) (spares.alone_still q other) (λ j _ e. e) k fits
+    put-all hs h new (λ j s. has_alone (hs j) q ≡ true → has_alone s q ≡ true) (spares.alone_still q other)
+    (λ j _ e. e) k fits
 
 module _ (u : Situation) (was : AllFit u) (p : ℕ) where
   -- the owner goes on to something that fits
@@ -91,23 +124,27 @@ module _ (u : Situation) (was : AllFit u) (p : ℕ) where
   module _ (h : ℕ) (new : HandleState) (spares : Spares p (u.handle h) new) where
     -- it changes a handle and is idle
     fits-then_idle : (q : ℕ) → Fits (put u.handle h new) q (put u.activity p Idle q)
-    fits-then_idle = put-all u.activity p Idle (Fits (put u.handle h new)) tt (λ q other. fits-put u.handle p h new spares q other (u.activity q) (was q))
+    fits-then_idle = put-all u.activity p Idle (Fits (put u.handle h new))
+        tt (λ q other. fits-put u.handle p h new spares q other (u.activity q) (was q))
 
     -- it was idle, and still is
     fits-still_idle : u.activity p ≡ Idle → (q : ℕ) → Fits (put u.handle h new) q (u.activity q)
-    fits-still_idle idle = subst (λ (acts : ℕ → Activity). (q : ℕ) → Fits (put u.handle h new) q (acts q)) (put-same u.activity p Idle idle) fits-then_idle
+    fits-still_idle idle = subst (λ (acts : ℕ → Activity). (q : ℕ) → Fits (put u.handle h new) q (acts q))
+        (put-same u.activity p Idle idle) fits-then_idle
 
 lower-fits : (V : Type 0) (u : Situation) → AllFit u → (o : ℕ) (a : Activity) → u.activity o ≡ a
     → permitted_by {V = V} u a (Lower o) ≡ true → (q : ℕ)
     → Fits (ended u (dropped_by a)).handle q (put u.activity o Idle q)
-lower-fits V u was o (Dropping h) e may = fits-then_idle u was o h _ (spares-own o (u.handle h) _ (subst (Fits u.handle o) e (was o)))
+lower-fits V u was o (Dropping h) e may = fits-then_idle u was o h _ (spares-own o (u.handle h)
+    _ (subst (Fits u.handle o) e (was o)))
 lower-fits V u was o Idle e may = absurd (true≢false (sym may))
 lower-fits V u was o (Cloning h) e may = absurd (true≢false (sym may))
 
 module _ {V : Type 0} where
   -- a step that only an idle owner may make
   pub begins : (u : Situation) (s : Step V) (a : Activity) → permitted_by u a s ≡ true
-      → ((h : ℕ) → permitted_by u (Cloning h) s ≡ false) → ((h : ℕ) → permitted_by u (Dropping h) s ≡ false)
+      → ((h : ℕ) → permitted_by u (Cloning h) s ≡ false) → ((h : ℕ) → permitted_by u (Dropping h)
+      s ≡ false)
       → (a ≡ Idle) × (permitted_by u Idle s ≡ true)
   begins u s Idle may clone drop = (refl, may)
   begins u s (Cloning h) may clone drop = absurd (true≢false (sym may ∙ clone h))
@@ -115,11 +152,14 @@ module _ {V : Type 0} where
 
   fits-then : (u : Situation) (s : Step V) (a : Answer V) → permitted_by u (u.activity (owner_of s)) s ≡ true
       → ((n : ℕ) → a ≡ Born n → (u.handle n).lives ≡ false) → AllFit u → AllFit (after u s a)
-  fits-then u s (Born n) may fresh was = fits-then_idle u was (owner_of s) n _ (spares-unborn (owner_of s) (u.handle n) _ (fresh n refl))
+  fits-then u s (Born n) may fresh was = fits-then_idle u was (owner_of s) n _ (spares-unborn (owner_of s)
+      (u.handle n) _ (fresh n refl))
   fits-then u s Full may fresh was = fits-now u was (owner_of s) Idle tt
   fits-then u s Quitted may fresh was = fits-now u was (owner_of s) Idle tt
-  fits-then u (Clone o h) Pending may fresh was = fits-now u was o (Cloning h) (begins u (Clone o h) _ may (λ _. refl) (λ _. refl)).1
-  fits-then u (Drop o h) Pending may fresh was = fits-now u was o (Dropping h) (parts-alone (u.handle h) o (begins u (Drop o h) _ may (λ _. refl) (λ _. refl)).1)
+  fits-then u (Clone o h) Pending may fresh was = fits-now u was o (Cloning h) (begins u (Clone o h)
+      _ may (λ _. refl) (λ _. refl)).1
+  fits-then u (Drop o h) Pending may fresh was = fits-now u was o (Dropping h) (parts-alone (u.handle h)
+      o (begins u (Drop o h) _ may (λ _. refl) (λ _. refl)).1)
   fits-then u (Drop o h) Ended may fresh was =
       let free : _ = begins u (Drop o h) _ may (λ _. refl) (λ _. refl) in
       fits-still_idle u was o h _ (spares-own o (u.handle h) _ (parts-alone (u.handle h) o free.1)) free.0
@@ -145,14 +185,17 @@ module _ {V : Type 0} where
       fits-still_idle u was o h _ (spares-returned o (u.handle h) (and_parts _ _ free.1).1) free.0
   fits-then u (Give o h to) Done may fresh was =
       let free : _ = begins u (Give o h to) _ may (λ _. refl) (λ _. refl) in
-      fits-still_idle u was o h _ (spares-own o (u.handle h) _ (parts-alone (u.handle h) o (and_parts _ _ free.1).0)) free.0
+      fits-still_idle u was o h _ (spares-own o (u.handle h) _ (parts-alone (u.handle h) o (and_parts _ _ free.1).0))
+      free.0
   fits-then u s a may fresh was = was
 
   -- a birth is of a handle that did not live before
   fresh-birth : (r : Replay V) (u : Situation) (s : Step V) (a : Answer V) (m : Machine V) → Deed r u s a m
       → IsCounted u.handle r.machine → (n : ℕ) → a ≡ Born n → (u.handle n).lives ≡ false
-  fresh-birth r u s a m (clone_bears o h _ _) c n e = let is : r.machine.births ≡ n = cc in rw (← is) (next-dead u.handle r.machine c)
-  fresh-birth r u s a m (raise_bears o _ _) c n e = let is : r.machine.births ≡ n = cc in rw (← is) (next-dead u.handle r.machine c)
+  fresh-birth r u s a m (clone_bears o h _ _) c n e = let is : r.machine.births ≡ n = cc in
+      rw (← is) (next-dead u.handle r.machine c)
+  fresh-birth r u s a m (raise_bears o _ _) c n e = let is : r.machine.births ≡ n = cc in
+      rw (← is) (next-dead u.handle r.machine c)
   fresh-birth r u s a m _ c n e = absurd (cc)
 
   pub all_fit : (t : Trace V) → IsLegal t → AllFit (situation t)
@@ -161,4 +204,5 @@ module _ {V : Type 0} where
   all_fit (Then t s Memory) legal = all_fit t legal.0
   all_fit (Then t s a) legal =
       let h : Happens t s a = happens t s a refl legal.1 in
-      fits-then (situation t) s a h.by_activity (fresh-birth (replay t) (situation t) s a _ h.deed (counted t legal.0)) (all_fit t legal.0)
+      fits-then (situation t) s a h.by_activity (fresh-birth (replay t) (situation t)
+      s a _ h.deed (counted t legal.0)) (all_fit t legal.0)

@@ -1,5 +1,7 @@
 -- What the answer of a step says of it in a legal trace.
-use Rattle.std.proofs.Common.{◌≡◌, ℕ, Bool, true, false, refl, sym, ◌∙◌, ap, subst, true≢false, ◌⊎◌, inl, inr, ⊎_elim, ◌↔◌, IsTrue, nat_eq, nat_lt, length, if◌then◌else◌}
+use Rattle.std.proofs.Common.{◌≡◌, ℕ, Bool, true, false, refl, sym, ◌∙◌, ap, subst, true≢false}
+use Rattle.std.proofs.Common.{◌⊎◌, inl, inr, ⊎_elim, ◌↔◌, IsTrue, nat_eq, nat_lt, length}
+use Rattle.std.proofs.Common.{if◌then◌else◌}
 use Rattle.std.proofs.lemmas.Bool.{true_from_ne_false, false_from_ne_true, and_parts}
 use Rattle.counting_core.specs.declared.step.Step.{Step}
 use Rattle.counting_core.specs.declared.step.Answer.{Answer}
@@ -24,7 +26,8 @@ module _ {V : Type 0} where
     pub deed : Deed (replay t) (situation t) s a (replay (Then t s a)).machine
 
   -- the machine after a deed
-  pub machine-deed : (r : Replay V) (u : Situation) (s : Step V) (a : Answer V) (m : Machine V) → takes_effect a ≡ true
+  pub machine-deed : (r : Replay V) (u : Situation) (s : Step V) (a : Answer V) (m : Machine V)
+      → takes_effect a ≡ true
       → Deed r u s a m → (replay_after r u s a).machine ≡ m
   machine-deed r u s Barred m effect d = absurd (true≢false (sym effect))
   machine-deed r u s Memory m effect d = absurd (true≢false (sym effect))
@@ -32,7 +35,8 @@ module _ {V : Type 0} where
   machine-deed r u s a m effect d = ap (λ (x : Answer V × Machine V). x.1) (outcome_is r u s a m d)
 
   -- a step is of its owner alone
-  pub lived-kept : (r : Replay V) (u : Situation) (s : Step V) (a : Answer V) (q : ℕ) → nat_eq (owner_of s) q ≡ false
+  pub lived-kept : (r : Replay V) (u : Situation) (s : Step V) (a : Answer V) (q : ℕ) → nat_eq (owner_of s)
+      q ≡ false
       → (replay_after r u s a).lived q ≡ r.lived q
   lived-kept r u s Pending q other = ap (λ b. if b then length r.machine.live else r.lived q) other
   lived-kept r u s a q other = refl
@@ -46,14 +50,17 @@ module _ {V : Type 0} where
   pub due-deed : (t : Trace V) (s : Step V) → permitted (situation t) s ≡ true
       → Deed (replay t) (situation t) s (due t s) (outcome (replay t).machine (move (replay t) (situation t) s)).1
   due-deed t s may =
-      subst (λ a. Deed (replay t) (situation t) s a (outcome (replay t).machine (move (replay t) (situation t) s)).1) (sym (due-by t s true may))
+      subst (λ a. Deed (replay t) (situation t) s a (outcome (replay t).machine (move (replay t) (situation t)
+      s)).1) (sym (due-by t s true may))
       (deed_of (replay t) (situation t) s (and_parts (nat_lt (owner_of s) (situation t).owners) _ may).1)
 
-  pub happens : (t : Trace V) (s : Step V) (a : Answer V) → takes_effect a ≡ true → IsAnswer t s a → Happens t s a
+  pub happens : (t : Trace V) (s : Step V) (a : Answer V)
+      → takes_effect a ≡ true → IsAnswer t s a → Happens t s a
   happens t s a effect answer = record {
     permitted = may;
     by_activity = (and_parts _ _ may).1;
-    deed = subst (Deed (replay t) (situation t) s a) (sym (machine-deed (replay t) (situation t) s a _ effect done)) done;
+    deed = subst (Deed (replay t) (situation t) s a) (sym (machine-deed (replay t) (situation t) s a _ effect done))
+        done;
   } where
     is_due : a ≡ due t s
     is_due = ⊎_elim (λ e. e) (λ m. absurd (true≢false (sym effect ∙ ap takes_effect m.0))) answer
@@ -62,11 +69,13 @@ module _ {V : Type 0} where
     may = true_from_ne_false _ (λ e. true≢false (sym effect ∙ ap takes_effect (is_due ∙ due-by t s false e)))
 
     done : Deed (replay t) (situation t) s a (outcome (replay t).machine (move (replay t) (situation t) s)).1
-    done = subst (λ x. Deed (replay t) (situation t) s x (outcome (replay t).machine (move (replay t) (situation t) s)).1) (sym is_due) (due-deed t s may)
+    done = subst (λ x. Deed (replay t) (situation t) s x (outcome (replay t).machine (move (replay t) (situation t)
+        s)).1) (sym is_due) (due-deed t s may)
 
   -- each step has a legal answer, and no other but Memory
   pub one_answer : (t : Trace V) (s : Step V) → IsLegal t
-      → IsLegal (Then t s (due t s)) × ((a : Answer V) → IsLegal (Then t s a) → (a ≡ due t s) ⊎ (a ≡ Memory))
+      → IsLegal (Then t s (due t s)) × ((a : Answer V) → IsLegal (Then t s a) → (a ≡ due t s)
+      ⊎ (a ≡ Memory))
   one_answer t s legal = ((legal, inl refl), λ a other. ⊎_elim inl (λ m. inr m.0) other.1)
 
   -- and it is Barred exactly if the step is not permitted
@@ -76,7 +85,8 @@ module _ {V : Type 0} where
     given : a ≡ Barred → permitted (situation t) s ≡ false
     given e = false_from_ne_true _ (λ may.
         not_barred (replay t) (situation t) s (outcome (replay t).machine (move (replay t) (situation t) s)).1
-        (subst (λ x. Deed (replay t) (situation t) s x (outcome (replay t).machine (move (replay t) (situation t) s)).1)
+        (subst (λ x. Deed (replay t) (situation t) s x (outcome (replay t).machine (move (replay t) (situation t)
+        s)).1)
         (⊎_elim (λ d. sym d ∙ e) (λ m. absurd (cc)) legal.1) (due-deed t s may)))
 
     refused : permitted (situation t) s ≡ false → a ≡ Barred

@@ -1,5 +1,6 @@
 -- The limit of a trace, which its machine has too, and which its live handles keep without a mark.
-use Rattle.std.proofs.Common.{◌≡◌, ◌≤◌, false, not, ◌&&◌, nat_eq, length, refl, sym, ◌∙◌, ap, subst, arith, length-append, true≢false}
+use Rattle.std.proofs.Common.{◌≡◌, ◌≤◌, false, not, ◌&&◌, nat_eq, length, refl, sym, ◌∙◌, ap}
+use Rattle.std.proofs.Common.{subst, arith, length-append, true≢false}
 use Rattle.std.proofs.lemmas.Bool.{eqb-false}
 use Rattle.std.proofs.lemmas.List.Sums.{length-filter, count_by-le-length}
 use Rattle.counting_word.specs.CountingWord.{IsLimit}
@@ -10,7 +11,8 @@ use Rattle.counting_core.specs.Trace.{Trace, Open, Then, Situation, situation, l
 use Rattle.counting_core.specs.PlainMachine.{Machine, is_full}
 use Rattle.counting_core.specs.Legal.{Replay, replay, IsLegal}
 use Rattle.counting_core.specs.Laws.{has_mark, live_handles}
-use Rattle.counting_core.proofs.Traces.Deeds.{Deed, clone_bears, raise_bears, drop_ends, lower_ends, lower_gives_up, marks, grown, shrunk}
+use Rattle.counting_core.proofs.Traces.Deeds.{Deed, clone_bears, raise_bears, drop_ends, lower_ends, lower_gives_up}
+use Rattle.counting_core.proofs.Traces.Deeds.{marks, grown, shrunk}
 use Rattle.counting_core.proofs.Traces.LegalSteps.{happens}
 
 module _ {V : Type 0} where
@@ -35,7 +37,8 @@ module _ {V : Type 0} where
 
   within-grown : (m : Machine V) → is_full m ≡ false → IsWithinLimit m → IsWithinLimit (grown m)
   within-grown m room within unmarked =
-      let other : nat_eq (length m.live) m.limit ≡ false = sym (ap (λ b. not b && nat_eq (length m.live) m.limit) unmarked) ∙ room in
+      let other : nat_eq (length m.live) m.limit ≡ false = sym (ap (λ b. not b && nat_eq (length m.live) m.limit)
+      unmarked) ∙ room in
       let below : length m.live ≡ m.limit → ⊥ = eqb-false (length m.live) m.limit other in
       let so_far : length m.live ≤ m.limit = within unmarked in
       rw length-append (omega arith)
@@ -59,9 +62,11 @@ module _ {V : Type 0} where
   within_limit (Open v n limit) legal = λ _. legal.0
   within_limit (Then t s Barred) legal = within_limit t legal.0
   within_limit (Then t s Memory) legal = within_limit t legal.0
-  within_limit (Then t s a) legal = within-then (replay t) (situation t) s a _ (happens t s a refl legal.1).deed (within_limit t legal.0)
+  within_limit (Then t s a) legal = within-then (replay t) (situation t)
+      s a _ (happens t s a refl legal.1).deed (within_limit t legal.0)
 
   -- without a mark no more handles live than the limit
-  pub no_count_passes_limit : (t : Trace V) → IsLegal t → has_mark t ≡ false → length (live_handles t) ≤ limit_of t
+  pub no_count_passes_limit : (t : Trace V) → IsLegal t → has_mark t ≡ false → length (live_handles t)
+      ≤ limit_of t
   no_count_passes_limit t legal unmarked =
       subst (λ n. length (live_handles t) ≤ n) (machine_limit t legal) (within_limit t legal unmarked)

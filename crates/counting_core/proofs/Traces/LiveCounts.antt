@@ -1,5 +1,7 @@
 -- The count of a word that represents a trace: its live handles, and the drops in flight that it covers.
-use Rattle.std.proofs.Common.{◌≡◌, ℕ, zero, suc, ◌+◌, ◌<◌, ◌≤◌, Bool, true, false, if◌then◌else◌, nat_eq, nat_lt, List, length, take_all, count_by, refl, sym, ◌∙◌, ap, subst, arith, true≢false, le_trans, le_refl, ltb-true, eqb-true}
+use Rattle.std.proofs.Common.{◌≡◌, ℕ, zero, suc, ◌+◌, ◌<◌, ◌≤◌, Bool, true, false}
+use Rattle.std.proofs.Common.{if◌then◌else◌, nat_eq, nat_lt, List, length, take_all, count_by, refl, sym}
+use Rattle.std.proofs.Common.{◌∙◌, ap, subst, arith, true≢false, le_trans, le_refl, ltb-true, eqb-true}
 use Rattle.std.proofs.lemmas.Bool.{and_parts, false_from_ne_true}
 use Rattle.std.proofs.lemmas.List.Sums.{get_or-le-sum_by}
 use Rattle.counting_word.specs.CountingWord.{is_marked_word, count_of, IsLimit, IsWithin}
@@ -10,7 +12,8 @@ use Rattle.counting_core.specs.declared.step.Step.TheVariants.{Lower}
 use Rattle.counting_core.specs.Trace.{Trace, HandleState, unborn, Situation, situation, limit_of}
 use Rattle.counting_core.specs.Permitted.{has_alone, permitted, permitted_by}
 use Rattle.counting_core.specs.PlainMachine.{without}
-use Rattle.counting_core.specs.Represents.{CoreState, Represents, handle, owner, idle, is_dropping, situation_of, drops_in_flight}
+use Rattle.counting_core.specs.Represents.{CoreState, Represents, handle, owner, idle, is_dropping, situation_of}
+use Rattle.counting_core.specs.Represents.{drops_in_flight}
 use Rattle.counting_core.specs.Laws.{live_handles, has_mark}
 use Rattle.counting_core.proofs.Traces.Limits.{legal_limit, no_count_passes_limit}
 use Rattle.counting_core.proofs.Traces.HandleLists.{has, IsApart, length-without, apart-without, has-without}
@@ -19,23 +22,32 @@ use Rattle.counting_core.proofs.Traces.InFlight.{Fits, all_fit}
 use Rattle.counting_core.proofs.Traces.NumberBelow.{number_below, number-length, number-count_by}
 
 -- owners with handles of their own are no more than the handles
-pigeonhole : (of : ℕ → Activity) → ((o p h : ℕ) → of o ≡ Dropping h → of p ≡ Dropping h → o ≡ p) → (n : ℕ) (xs : List ℕ)
+pigeonhole : (of : ℕ → Activity) → ((o p h : ℕ) → of o ≡ Dropping h → of p ≡ Dropping h → o ≡ p)
+    → (n : ℕ) (xs : List ℕ)
     → IsApart xs → ((o h : ℕ) → o < n → of o ≡ Dropping h → has h xs ≡ true)
     → number_below (λ o. is_dropping (of o)) n ≤ length xs
 pigeonhole of apart zero xs distinct own = omega arith
 pigeonhole of apart (suc n) xs distinct own = by_last (of n) refl (pigeonhole of apart n) where
   by_last : (a : Activity) → of n ≡ a
-      → ((ys : List ℕ) → IsApart ys → ((o h : ℕ) → o < n → of o ≡ Dropping h → has h ys ≡ true) → number_below (λ o. is_dropping (of o)) n ≤ length ys)
+      → ((ys : List ℕ) → IsApart ys → ((o h : ℕ) → o < n → of o ≡ Dropping h → has h ys ≡ true)
+      → number_below (λ o. is_dropping (of o)) n ≤ length ys)
       → (if is_dropping a then 1 else 0) + number_below (λ o. is_dropping (of o)) n ≤ length xs
   by_last (Dropping h) e fewer =
-      let le : number_below (λ o. is_dropping (of o)) n ≤ length (without h xs) = fewer (without h xs) (apart-without h xs distinct) others in
+      let le : number_below (λ o. is_dropping (of o)) n ≤ length (without h xs) = fewer (without h xs)
+      (apart-without h xs distinct) others in
       let one_less : length (without h xs) + 1 ≡ length xs = length-without h xs (own n h (omega arith) e) distinct in
       omega arith where
         others : (o k : ℕ) → o < n → of o ≡ Dropping k → has k (without h xs) ≡ true
-        others o k lt q = has-without k h xs ∙ grind (arith, own o k (omega arith) q, false_from_ne_true (nat_eq h k) same) where
+        others o k lt q = has-without k h xs ∙ grind (
+          arith,
+          own o k (omega arith)
+              q,
+          false_from_ne_true (nat_eq h k) same,
+        ) where
           same : nat_eq h k ≡ true → ⊥
           same i = let is : o ≡ n = apart o n k q (e ∙ ap Dropping (eqb-true h k i)) in omega arith
-  by_last a e fewer = let le : number_below (λ o. is_dropping (of o)) n ≤ length xs = fewer xs distinct (λ o h lt q. own o h (omega arith) q) in omega arith
+  by_last a e fewer = let le : number_below (λ o. is_dropping (of o))
+      n ≤ length xs = fewer xs distinct (λ o h lt q. own o h (omega arith) q) in omega arith
 
 -- an owner holds the handle that it alone has
 holder-is : (k : HandleState) (o : ℕ) → has_alone k o ≡ true → k.holder ≡ o
@@ -51,14 +63,18 @@ module _ {V : Type 0} (core : CoreState V) (t : Trace V) (r : Represents core t)
   live-counted =
       number-length (λ h. (handle core h).lives) (length core.handles) (live_handles t) (counted t r.legal).apart
       (λ h e. rw r.same_births ((counted t r.legal).below h e)) (λ h lt. lives-seen h)
-      ∙ number-count_by (λ (k : HandleState). k.lives) unborn core.handles (length core.handles) (le_refl (length core.handles))
-      ∙ ap (count_by (λ (k : HandleState). k.lives)) (take_all (length core.handles) core.handles (le_refl (length core.handles)))
+      ∙ number-count_by (λ (k : HandleState). k.lives) unborn core.handles (length core.handles)
+      (le_refl (length core.handles))
+      ∙ ap (count_by (λ (k : HandleState). k.lives)) (take_all (length core.handles)
+      core.handles (le_refl (length core.handles)))
 
   -- the count of an unmarked word is the number of live handles
   pub count_is_live : is_marked_word core.word ≡ false
-      → (count_of core.word ≡ length (live_handles t)) × (count_of core.word ≡ count_by (λ (k : HandleState). k.lives) core.handles)
+      → (count_of core.word ≡ length (live_handles t))
+      × (count_of core.word ≡ count_by (λ (k : HandleState). k.lives) core.handles)
   count_is_live unmarked =
-      let count : count_of core.word ≡ length (live_handles t) = r.word.counts_live (sym r.word.same_mark ∙ unmarked) in
+      let count : count_of core.word ≡ length (live_handles t)
+      = r.word.counts_live (sym r.word.same_mark ∙ unmarked) in
       (count, count ∙ live-counted)
 
   -- the core's limit is one that a block may have, and an unmarked count is not above it
@@ -68,29 +84,39 @@ module _ {V : Type 0} (core : CoreState V) (t : Trace V) (r : Represents core t)
   pub core_within : IsWithin core.word core.limit
   core_within unmarked =
       let count : count_of core.word ≡ length (live_handles t) = (count_is_live unmarked).0 in
-      let few : length (live_handles t) ≤ limit_of t = no_count_passes_limit t r.legal (sym r.word.same_mark ∙ unmarked) in
+      let few : length (live_handles t)
+      ≤ limit_of t = no_count_passes_limit t r.legal (sym r.word.same_mark ∙ unmarked) in
       let limit : core.limit ≡ limit_of t = r.same_limit in
       omega arith
 
   -- what an owner of the core has in flight fits its handle
   pub core_fits : (o : ℕ) → Fits (handle core) o (owner core o).activity
-  core_fits = subst (λ (u : Situation). (o : ℕ) → Fits u.handle o (u.activity o)) (sym r.same_situation) (all_fit t r.legal)
+  core_fits = subst (λ (u : Situation). (o : ℕ) → Fits u.handle o (u.activity o)) (sym r.same_situation)
+      (all_fit t r.legal)
 
   -- the handle of a drop in flight is a live one
   pub dropped-live : (o h : ℕ) → (owner core o).activity ≡ Dropping h → has h (live_handles t) ≡ true
-  dropped-live o h e = lives-seen h ∙ (and_parts _ _ (and_parts _ _ (subst (Fits (handle core) o) e (core_fits o))).0).0
+  dropped-live o h e = lives-seen h ∙ (and_parts _ _ (and_parts _ _ (subst (Fits (handle core) o)
+      e (core_fits o))).0).0
 
   -- each drop in flight is of a live handle of its own
   pub drops-le-live : drops_in_flight core ≤ length (live_handles t)
   drops-le-live =
-      subst (λ n. n ≤ length (live_handles t)) (number-count_by (λ (p : Owner). is_dropping p.activity) idle core.owners (length core.owners) (le_refl (length core.owners)) ∙ ap (count_by (λ (p : Owner). is_dropping p.activity)) (take_all (length core.owners) core.owners (le_refl (length core.owners))))
-      (pigeonhole (λ o. (owner core o).activity) apart (length core.owners) (live_handles t) (counted t r.legal).apart (λ o h lt. dropped-live o h)) where
-        apart : (o p h : ℕ) → (owner core o).activity ≡ Dropping h → (owner core p).activity ≡ Dropping h → o ≡ p
+      subst (λ n. n ≤ length (live_handles t)) (number-count_by (λ (p : Owner). is_dropping p.activity)
+      idle core.owners (length core.owners) (le_refl (length core.owners))
+      ∙ ap (count_by (λ (p : Owner). is_dropping p.activity)) (take_all (length core.owners)
+      core.owners (le_refl (length core.owners))))
+      (pigeonhole (λ o. (owner core o).activity) apart (length core.owners) (live_handles t)
+      (counted t r.legal).apart (λ o h lt. dropped-live o h)) where
+        apart : (o p h : ℕ) → (owner core o).activity ≡ Dropping h → (owner core p).activity ≡ Dropping h
+            → o ≡ p
         apart o p h d e =
-            sym (holder-is (handle core h) o (subst (Fits (handle core) o) d (core_fits o))) ∙ holder-is (handle core h) p (subst (Fits (handle core) p) e (core_fits p))
+            sym (holder-is (handle core h) o (subst (Fits (handle core) o) d (core_fits o)))
+            ∙ holder-is (handle core h) p (subst (Fits (handle core) p) e (core_fits p))
 
   -- the drop of an owner is counted
-  pub drop-counted : (o h : ℕ) → o < length core.owners → (owner core o).activity ≡ Dropping h → 1 ≤ count_of core.word
+  pub drop-counted : (o h : ℕ)
+      → o < length core.owners → (owner core o).activity ≡ Dropping h → 1 ≤ count_of core.word
   drop-counted o h lt e = by_mark (has_mark t) refl where
     among : 1 ≤ drops_in_flight core
     among =
@@ -100,14 +126,16 @@ module _ {V : Type 0} (core : CoreState V) (t : Trace V) (r : Represents core t)
     by_mark : (b : Bool) → has_mark t ≡ b → 1 ≤ count_of core.word
     by_mark true m = le_trans among (r.word.covers_drops m)
     by_mark false m =
-        let one_less : length (without h (live_handles t)) + 1 ≡ length (live_handles t) = length-without h (live_handles t) (dropped-live o h e) (counted t r.legal).apart in
+        let one_less : length (without h (live_handles t)) + 1 ≡ length (live_handles t)
+        = length-without h (live_handles t) (dropped-live o h e) (counted t r.legal).apart in
         let count : count_of core.word ≡ length (live_handles t) = r.word.counts_live m in
         omega arith
 
   -- if a lower is permitted, there is a handle to count
   pub lower_counts : (o : ℕ) → permitted {V = V} (situation t) (Lower o) ≡ true → 1 ≤ count_of core.word
   lower_counts o may = by_activity (owner core o).activity refl parts.1 where
-    parts : (nat_lt o (length core.owners) ≡ true) × (permitted_by {V = V} (situation_of core) (owner core o).activity (Lower o) ≡ true)
+    parts : (nat_lt o (length core.owners) ≡ true) × (permitted_by {V = V} (situation_of core)
+        (owner core o).activity (Lower o) ≡ true)
     parts = and_parts _ _ (ap (λ (u : Situation). permitted {V = V} u (Lower o)) r.same_situation ∙ may)
 
     by_activity : (a : Activity) → (owner core o).activity ≡ a

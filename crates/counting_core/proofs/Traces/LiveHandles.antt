@@ -1,17 +1,23 @@
 -- The live handles of a trace's machine: none twice, each born, and the ones that the trace lets live.
-use Rattle.std.proofs.Common.{◌≡◌, ℕ, ◌+◌, ◌<◌, Bool, true, false, not, ◌&&◌, ◌||◌, nat_eq, [], count_by, refl, sym, ◌∙◌, ap, subst, arith, lt_irrefl, true≢false, if◌then◌else◌, eqb-true}
+use Rattle.std.proofs.Common.{◌≡◌, ℕ, ◌+◌, ◌<◌, Bool, true, false, not, ◌&&◌, ◌||◌, nat_eq, []}
+use Rattle.std.proofs.Common.{count_by, refl, sym, ◌∙◌, ap, subst, arith, lt_irrefl, true≢false}
+use Rattle.std.proofs.Common.{if◌then◌else◌, eqb-true}
 use Rattle.std.proofs.lemmas.Bool.{and_parts, false_from_ne_true}
 use Rattle.counting_core.specs.declared.owner.Activity.{Activity}
 use Rattle.counting_core.specs.declared.owner.Activity.TheVariants.{Dropping}
 use Rattle.counting_core.specs.declared.step.Step.{Step}
 use Rattle.counting_core.specs.declared.step.Answer.{Answer}
 use Rattle.counting_core.specs.declared.step.Answer.TheVariants.{Memory, Barred}
-use Rattle.counting_core.specs.Trace.{Trace, Open, Then, HandleState, unborn, newborn, Situation, situation, after, dropped_by, ended, put}
+use Rattle.counting_core.specs.Trace.{Trace, Open, Then, HandleState, unborn, newborn, Situation, situation, after}
+use Rattle.counting_core.specs.Trace.{dropped_by, ended, put}
 use Rattle.counting_core.specs.PlainMachine.{Machine}
 use Rattle.counting_core.specs.Legal.{Replay, replay, IsLegal}
 use Rattle.counting_core.proofs.Traces.Places.{part-put, part_kept-put}
-use Rattle.counting_core.proofs.Traces.HandleLists.{has, IsApart, once, has-without, has-push, apart-without, apart-push}
-use Rattle.counting_core.proofs.Traces.Deeds.{Deed, clone_bears, raise_bears, drop_ends, lower_ends, lower_gives_up, marks, finds_alone, writes, ends_write, becomes_sole, shares, lends, returns, gives, grown, shrunk}
+use Rattle.counting_core.proofs.Traces.HandleLists.{has, IsApart, once, has-without, has-push, apart-without}
+use Rattle.counting_core.proofs.Traces.HandleLists.{apart-push}
+use Rattle.counting_core.proofs.Traces.Deeds.{Deed, clone_bears, raise_bears, drop_ends, lower_ends, lower_gives_up}
+use Rattle.counting_core.proofs.Traces.Deeds.{marks, finds_alone, writes, ends_write, becomes_sole, shares, lends}
+use Rattle.counting_core.proofs.Traces.Deeds.{returns, gives, grown, shrunk}
 use Rattle.counting_core.proofs.Traces.LegalSteps.{happens}
 
 module _ {V : Type 0} where
@@ -48,7 +54,8 @@ module _ {V : Type 0} where
       below = λ k e. c.below k (and_parts (not (nat_eq h k)) (has k m.live) (sym (has-without k h m.live) ∙ e)).1;
       same = λ k.
           has-without k h m.live ∙ ap (λ b. not (nat_eq h k) && b) (c.same k)
-          ∙ either (nat_eq h k) (hs k).lives ∙ sym (part-put hs h (record (hs h) { lives = false }) (λ s. s.lives) k);
+          ∙ either (nat_eq h k) (hs k).lives ∙ sym (part-put hs h (record (hs h) { lives = false })
+          (λ s. s.lives) k);
     } where
       either : (b l : Bool) → (not b && l) ≡ (if b then false else l)
       either true l = refl
@@ -56,11 +63,18 @@ module _ {V : Type 0} where
 
     -- a change of a handle that lives as before
     counted-kept : (h : ℕ) (s : HandleState) → s.lives ≡ (hs h).lives → IsCounted (put hs h s) m
-    counted-kept h s e = record { apart = c.apart; below = c.below; same = λ k. c.same k ∙ sym (part_kept-put hs h s (λ x. x.lives) e k) }
+    counted-kept h s e = record {
+      apart = c.apart;
+      below = c.below;
+      same = λ k. c.same k ∙ sym (part_kept-put hs h
+          s (λ x. x.lives) e k);
+    }
 
-  counted-lowered : (r : Replay V) (u : Situation) (o h : ℕ) → u.activity o ≡ Dropping h → IsCounted u.handle r.machine
+  counted-lowered : (r : Replay V) (u : Situation) (o h : ℕ)
+      → u.activity o ≡ Dropping h → IsCounted u.handle r.machine
       → IsCounted (ended u (dropped_by (u.activity o))).handle (shrunk r.machine h)
-  counted-lowered r u o h e c = subst (λ (a : Activity). IsCounted (ended u (dropped_by a)).handle (shrunk r.machine h)) (sym e) (counted-ended u.handle r.machine c h)
+  counted-lowered r u o h e c = subst (λ (a : Activity). IsCounted (ended u (dropped_by a)).handle (shrunk r.machine
+      h)) (sym e) (counted-ended u.handle r.machine c h)
 
   counted-then : (r : Replay V) (u : Situation) (s : Step V) (a : Answer V) (m : Machine V) → Deed r u s a m
       → IsCounted u.handle r.machine → IsCounted (after u s a).handle m
@@ -86,9 +100,11 @@ module _ {V : Type 0} where
       (record { apart = tt; below = λ h e. absurd (true≢false (sym e)); same = λ h. refl }) 0
   counted (Then t s Barred) legal = counted t legal.0
   counted (Then t s Memory) legal = counted t legal.0
-  counted (Then t s a) legal = counted-then (replay t) (situation t) s a _ (happens t s a refl legal.1).deed (counted t legal.0)
+  counted (Then t s a) legal = counted-then (replay t) (situation t)
+      s a _ (happens t s a refl legal.1).deed (counted t legal.0)
 
   -- the machine's live handles are those that the trace lets live, each once
   pub live_handles_live : (t : Trace V) → IsLegal t → (h : ℕ)
       → count_by (nat_eq h) (replay t).machine.live ≡ (if ((situation t).handle h).lives then 1 else 0)
-  live_handles_live t legal h = once h (replay t).machine.live (counted t legal).apart ∙ ap (λ b. if b then 1 else 0) ((counted t legal).same h)
+  live_handles_live t legal h = once h (replay t).machine.live (counted t legal).apart ∙ ap (λ b. if b then 1 else
+      0) ((counted t legal).same h)

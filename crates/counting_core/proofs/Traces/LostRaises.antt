@@ -1,19 +1,23 @@
 -- Why raises that lose are few. A clone in flight is stale if the live handles are no longer as many as it saw. A
 -- raise that loses makes one clone fewer stale, and a birth or an end at most those of the other owners.
-use Rattle.std.proofs.Common.{◌≡◌, ℕ, ◌+◌, ◌-◌, ◌*◌, ◌<◌, ◌≤◌, Bool, true, false, not, ◌&&◌, if◌then◌else◌, nat_eq, length, refl, sym, ◌∙◌, ap, ap₂, arith, true≢false, eqb-true, ltb-true, mul-add}
+use Rattle.std.proofs.Common.{◌≡◌, ℕ, ◌+◌, ◌-◌, ◌*◌, ◌<◌, ◌≤◌, Bool, true, false, not}
+use Rattle.std.proofs.Common.{◌&&◌, if◌then◌else◌, nat_eq, length, refl, sym, ◌∙◌, ap, ap₂, arith}
+use Rattle.std.proofs.Common.{true≢false, eqb-true, ltb-true, mul-add}
 use Rattle.std.proofs.lemmas.Bool.{and_parts, and_from, and_left, and_right, or_parts}
 use Rattle.counting_core.specs.declared.owner.Activity.{Activity}
 use Rattle.counting_core.specs.declared.owner.Activity.TheVariants.{Idle, Cloning, Dropping}
 use Rattle.counting_core.specs.declared.step.Step.{Step}
 use Rattle.counting_core.specs.declared.step.Step.TheVariants.{Clone, Raise, Drop, Lower}
 use Rattle.counting_core.specs.declared.step.Answer.{Answer}
-use Rattle.counting_core.specs.declared.step.Answer.TheVariants.{Born, Full, Pending, Ended, GivenUp, Memory, Barred, Quit as Quitted}
+use Rattle.counting_core.specs.declared.step.Answer.TheVariants.{Born, Full, Pending, Ended, GivenUp, Memory, Barred}
+use Rattle.counting_core.specs.declared.step.Answer.TheVariants.{Quit as Quitted}
 use Rattle.counting_core.specs.Trace.{Trace, Open, Then, Situation, situation, owner_of, after, put}
 use Rattle.counting_core.specs.Permitted.{permitted_by}
 use Rattle.counting_core.specs.PlainMachine.{Machine}
 use Rattle.counting_core.specs.Legal.{Replay, replay, replay_after, IsLegal}
 use Rattle.counting_core.specs.LostRaises.{is_lost_raise, is_change, how_many}
-use Rattle.counting_core.proofs.Traces.Deeds.{Deed, clone_reads, clone_bears, clone_full, raise_loses, raise_bears, raise_full, quits, drop_reads, drop_ends, lower_ends, lower_gives_up}
+use Rattle.counting_core.proofs.Traces.Deeds.{Deed, clone_reads, clone_bears, clone_full, raise_loses, raise_bears}
+use Rattle.counting_core.proofs.Traces.Deeds.{raise_full, quits, drop_reads, drop_ends, lower_ends, lower_gives_up}
 use Rattle.counting_core.proofs.Traces.LegalSteps.{Happens, happens, lived-kept}
 use Rattle.counting_core.proofs.Traces.HandleLists.{nat_eq-same}
 use Rattle.counting_core.proofs.Traces.InFlight.{begins}
@@ -36,7 +40,8 @@ module _ {V : Type 0} where
   stale t = stale_in (situation t) (replay t)
 
   abbrev IsBounded : Trace V → Type 0
-  IsBounded t = how_many is_lost_raise t + number_below (stale t) (situation t).owners ≤ ((situation t).owners - 1) * how_many is_change t
+  IsBounded t = how_many is_lost_raise t + number_below (stale t) (situation t).owners ≤ ((situation t).owners - 1)
+      * how_many is_change t
 
   owners-kept : (u : Situation) (s : Step V) (a : Answer V) → (after u s a).owners ≡ u.owners
   owners-kept u s (Born n) = refl
@@ -68,7 +73,8 @@ module _ {V : Type 0} where
   -- an owner that has just read the word has no clone that is stale
   read-fresh : (r : Replay V) (o : ℕ) (b : Bool)
       → (b && not (nat_eq (length r.machine.live) (put r.lived o (length r.machine.live) o))) ≡ false
-  read-fresh r o b = and_right b _ (ap not (ap (λ e. nat_eq (length r.machine.live) (if e then length r.machine.live else r.lived o)) (nat_eq-same o) ∙ nat_eq-same (length r.machine.live)))
+  read-fresh r o b = and_right b _ (ap not (ap (λ e. nat_eq (length r.machine.live)
+      (if e then length r.machine.live else r.lived o)) (nat_eq-same o) ∙ nat_eq-same (length r.machine.live)))
 
   -- so after a step its own owner has none
   fresh : (r : Replay V) (u : Situation) (s : Step V) (a : Answer V) (m : Machine V) → Deed r u s a m
@@ -91,16 +97,19 @@ module _ {V : Type 0} where
       → nat_eq (owner_of s) q ≡ false → stale (Then t s a) q ≡ stale t q
   others t s a happened quiet q other =
       ap₂ (λ c b. is_cloning c && not b) (activity-kept (situation t) s a q other)
-      (ap₂ nat_eq (live-kept (replay t) (situation t) s a _ happened.deed quiet) (lived-kept (replay t) (situation t) s a q other))
+      (ap₂ nat_eq (live-kept (replay t) (situation t) s a _ happened.deed quiet) (lived-kept (replay t)
+      (situation t) s a q other))
 
   -- the clone of a raise that loses was stale
   was-stale : (r : Replay V) (u : Situation) (s : Step V) (a : Answer V) (m : Machine V) → Deed r u s a m
-      → permitted_by u (u.activity (owner_of s)) s ≡ true → is_lost_raise a s ≡ true → stale_in u r (owner_of s) ≡ true
-  was-stale r u s a m (raise_loses o lost) may e = and_from _ _ (busy (u.activity o) may) (ap not (or_parts _ _ (or_parts _ _ lost).1).1) where
-    busy : (c : Activity) → permitted_by {V = V} u c (Raise o) ≡ true → is_cloning c ≡ true
-    busy (Cloning h) may = refl
-    busy Idle may = absurd (true≢false (sym may))
-    busy (Dropping h) may = absurd (true≢false (sym may))
+      → permitted_by u (u.activity (owner_of s))
+      s ≡ true → is_lost_raise a s ≡ true → stale_in u r (owner_of s) ≡ true
+  was-stale r u s a m (raise_loses o lost) may e = and_from _ _ (busy (u.activity o) may)
+      (ap not (or_parts _ _ (or_parts _ _ lost).1).1) where
+        busy : (c : Activity) → permitted_by {V = V} u c (Raise o) ≡ true → is_cloning c ≡ true
+        busy (Cloning h) may = refl
+        busy Idle may = absurd (true≢false (sym may))
+        busy (Dropping h) may = absurd (true≢false (sym may))
   was-stale r u s a m _ may e = absurd (true≢false (sym e))
 
   -- a birth and an end are no raise that loses
@@ -110,37 +119,44 @@ module _ {V : Type 0} where
 
   -- each step that takes effect keeps the bound
   bounded-then : (t : Trace V) (s : Step V) (a : Answer V) → Happens t s a → IsBounded t → IsBounded (Then t s a)
-  bounded-then t s a happened so_far = rw (owners-kept (situation t) s a) (by_answer (is_change a s) refl (is_lost_raise a s) refl) where
-    n : ℕ
-    n = (situation t).owners
+  bounded-then t s a happened so_far = rw (owners-kept (situation t) s a) (by_answer (is_change a s)
+      refl (is_lost_raise a s) refl) where
+        n : ℕ
+        n = (situation t).owners
 
-    within : owner_of s < n
-    within = ltb-true (owner_of s) n (and_parts _ _ happened.permitted).0
+        within : owner_of s < n
+        within = ltb-true (owner_of s) n (and_parts _ _ happened.permitted).0
 
-    own : stale (Then t s a) (owner_of s) ≡ false
-    own = fresh (replay t) (situation t) s a _ happened.deed happened.by_activity
+        own : stale (Then t s a) (owner_of s) ≡ false
+        own = fresh (replay t) (situation t) s a _ happened.deed happened.by_activity
 
-    fewer : is_change a s ≡ false → (q : ℕ) → stale (Then t s a) q ≡ true → stale t q ≡ true
-    fewer quiet q e = by_owner (nat_eq (owner_of s) q) refl where
-      by_owner : (b : Bool) → nat_eq (owner_of s) q ≡ b → stale t q ≡ true
-      by_owner true same = absurd (true≢false (sym e ∙ ap (stale (Then t s a)) (sym (eqb-true (owner_of s) q same)) ∙ own))
-      by_owner false other = sym (others t s a happened quiet q other) ∙ e
+        fewer : is_change a s ≡ false → (q : ℕ) → stale (Then t s a) q ≡ true → stale t q ≡ true
+        fewer quiet q e = by_owner (nat_eq (owner_of s) q) refl where
+          by_owner : (b : Bool) → nat_eq (owner_of s) q ≡ b → stale t q ≡ true
+          by_owner true same = absurd (true≢false (sym e ∙ ap (stale (Then t s a)) (sym (eqb-true (owner_of s)
+              q same)) ∙ own))
+          by_owner false other = sym (others t s a happened quiet q other) ∙ e
 
-    by_answer : (c : Bool) → is_change a s ≡ c → (l : Bool) → is_lost_raise a s ≡ l
-        → ((if l then 1 else 0) + how_many is_lost_raise t) + number_below (stale (Then t s a)) n ≤ (n - 1) * ((if c then 1 else 0) + how_many is_change t)
-    by_answer true changed true lost = absurd (true≢false (sym lost ∙ change-settles s a changed))
-    by_answer true changed false lost =
-        let few : number_below (stale (Then t s a)) n + 1 ≤ number_below (λ q. true) n = number-less (stale (Then t s a)) (λ q. true) (λ q e. refl) (owner_of s) own n within in
-        let all : number_below (λ q. true) n ≡ n = number-all n in
-        let more : (n - 1) * (1 + how_many is_change t) ≡ (n - 1) * 1 + (n - 1) * how_many is_change t = mul-add (n - 1) 1 (how_many is_change t) in
-        omega arith
-    by_answer false changed true lost =
-        let few : number_below (stale (Then t s a)) n + 1 ≤ number_below (stale t) n =
-        rw (was-stale (replay t) (situation t) s a _ happened.deed happened.by_activity lost) at (number-less (stale (Then t s a)) (stale t) (fewer changed) (owner_of s) own n within) in
-        omega arith
-    by_answer false changed false lost =
-        let few : number_below (stale (Then t s a)) n ≤ number_below (stale t) n = number-le (stale (Then t s a)) (stale t) (fewer changed) n in
-        omega arith
+        by_answer : (c : Bool) → is_change a s ≡ c → (l : Bool) → is_lost_raise a s ≡ l
+            → ((if l then 1 else 0) + how_many is_lost_raise t) + number_below (stale (Then t s a)) n ≤ (n - 1)
+            * ((if c then 1 else 0) + how_many is_change t)
+        by_answer true changed true lost = absurd (true≢false (sym lost ∙ change-settles s a changed))
+        by_answer true changed false lost =
+            let few : number_below (stale (Then t s a)) n + 1 ≤ number_below (λ q. true)
+            n = number-less (stale (Then t s a)) (λ q. true) (λ q e. refl) (owner_of s) own n within in
+            let all : number_below (λ q. true) n ≡ n = number-all n in
+            let more : (n - 1) * (1 + how_many is_change t) ≡ (n - 1) * 1 + (n - 1)
+            * how_many is_change t = mul-add (n - 1) 1 (how_many is_change t) in
+            omega arith
+        by_answer false changed true lost =
+            let few : number_below (stale (Then t s a)) n + 1 ≤ number_below (stale t) n =
+            rw (was-stale (replay t) (situation t) s a _ happened.deed happened.by_activity lost)
+            at (number-less (stale (Then t s a)) (stale t) (fewer changed) (owner_of s) own n within) in
+            omega arith
+        by_answer false changed false lost =
+            let few : number_below (stale (Then t s a)) n ≤ number_below (stale t) n = number-le (stale (Then t s a))
+            (stale t) (fewer changed) n in
+            omega arith
 
   -- a raise loses only to a birth or an end of another owner's
   bounded : (t : Trace V) → IsLegal t → IsBounded t

@@ -25,12 +25,17 @@ module _ {V : Type 0} where
   marked_if_answered (Then t s Barred) legal = marked_if_answered t legal.0
   marked_if_answered (Then t s Memory) legal = marked_if_answered t legal.0
   marked_if_answered (Then t s a) legal =
-      mark-then (replay t) (situation t) s a _ (happens t s a refl legal.1).deed ∙ ap (λ b. is_marked_answer a || b) (marked_if_answered t legal.0)
+      mark-then (replay t) (situation t)
+      s a _ (happens t s a refl legal.1).deed ∙ ap (λ b. is_marked_answer a || b) (marked_if_answered t legal.0)
 
   -- a marked block stays marked, and its value is not given up
   pub keeps_mark : (t : Trace V) (s : Step V) (a : Answer V) → IsLegal (Then t s a) → has_mark t ≡ true
       → (has_mark (Then t s a) ≡ true) × (is_given_up a ≡ false)
-  keeps_mark t s a legal marked = (stays, false_from_ne_true _ (λ e. true≢false (sym marked ∙ (given-up t s a legal e).0))) where
+  keeps_mark t s a legal marked = (
+    stays,
+    false_from_ne_true _ (λ e. true≢false (sym marked ∙ (given-up t s a
+        legal e).0)),
+  ) where
     stays : has_mark (Then t s a) ≡ true
     stays =
         marked_if_answered (Then t s a) legal

@@ -1,16 +1,21 @@
 -- How many of the numbers below a bound pass a test.
-use Rattle.std.proofs.Common.{◌≡◌, ◌≢◌, ℕ, zero, suc, ◌+◌, ◌<◌, ◌≤◌, Bool, true, false, not, ◌&&◌, ◌||◌, if◌then◌else◌, nat_eq, List, [], ◌∷◌, length, take, get_or, count_by, refl, sym, ◌∙◌, ap, ap₂, arith, true≢false, eqb-true, ne_eqb, add-one}
+use Rattle.std.proofs.Common.{◌≡◌, ◌≢◌, ℕ, zero, suc, ◌+◌, ◌<◌, ◌≤◌, Bool, true, false, not}
+use Rattle.std.proofs.Common.{◌&&◌, ◌||◌, if◌then◌else◌, nat_eq, List, [], ◌∷◌, length, take}
+use Rattle.std.proofs.Common.{get_or, count_by, refl, sym, ◌∙◌, ap, ap₂, arith, true≢false, eqb-true, ne_eqb}
+use Rattle.std.proofs.Common.{add-one}
 use Rattle.std.proofs.lemmas.Bool.{and_parts, eqb-false, not-true}
 use Rattle.std.proofs.lemmas.List.Sums.{count_by_more_yes, count_by_more_no}
 use Rattle.counting_core.specs.PlainMachine.{without}
-use Rattle.counting_core.proofs.Traces.HandleLists.{has, IsApart, nat_eq-same, has-without, length-without, apart-without}
+use Rattle.counting_core.proofs.Traces.HandleLists.{has, IsApart, nat_eq-same, has-without, length-without}
+use Rattle.counting_core.proofs.Traces.HandleLists.{apart-without}
 
 abbrev pub number_below : (ℕ → Bool) → ℕ → ℕ
 number_below f zero = 0
 number_below f (suc n) = (if f n then 1 else 0) + number_below f n
 
 -- no more pass a stricter test
-pub number-le : (f g : ℕ → Bool) → ((q : ℕ) → f q ≡ true → g q ≡ true) → (n : ℕ) → number_below f n ≤ number_below g n
+pub number-le : (f g : ℕ → Bool) → ((q : ℕ) → f q ≡ true → g q ≡ true) → (n : ℕ)
+    → number_below f n ≤ number_below g n
 number-le f g more zero = omega arith
 number-le f g more (suc n) = by_last (f n) (g n) (more n) (number-le f g more n) where
   by_last : (a b : Bool) → (a ≡ true → b ≡ true) → number_below f n ≤ number_below g n
@@ -21,31 +26,36 @@ number-le f g more (suc n) = by_last (f n) (g n) (more n) (number-le f g more n)
   by_last false false more le = omega arith
 
 -- and one fewer, if one that passed no longer does
-pub number-less : (f g : ℕ → Bool) → ((q : ℕ) → f q ≡ true → g q ≡ true) → (o : ℕ) → f o ≡ false → (n : ℕ) → o < n
+pub number-less : (f g : ℕ → Bool) → ((q : ℕ) → f q ≡ true → g q ≡ true) → (o : ℕ)
+    → f o ≡ false → (n : ℕ) → o < n
     → number_below f n + (if g o then 1 else 0) ≤ number_below g n
 number-less f g more o fails zero lt = absurd (omega arith)
-number-less f g more o fails (suc n) lt = by_last (nat_eq o n) refl (f n) refl (g n) refl (g o) refl (number-less f g more o fails n) where
-  le : number_below f n ≤ number_below g n
-  le = number-le f g more n
+number-less f g more o fails (suc n) lt = by_last (nat_eq o n) refl (f n) refl (g n) refl (g o)
+    refl (number-less f g more o fails n) where
+      le : number_below f n ≤ number_below g n
+      le = number-le f g more n
 
-  by_last : (e : Bool) → nat_eq o n ≡ e → (a : Bool) → f n ≡ a → (b : Bool) → g n ≡ b → (c : Bool) → g o ≡ c
-      → (o < n → number_below f n + (if c then 1 else 0) ≤ number_below g n)
-      → ((if a then 1 else 0) + number_below f n) + (if c then 1 else 0) ≤ (if b then 1 else 0) + number_below g n
-  by_last true e true fa b gb c gc less = absurd (true≢false (sym fa ∙ ap f (sym (eqb-true o n e)) ∙ fails))
-  by_last true e false fa true gb true gc less = let so : number_below f n ≤ number_below g n = le in omega arith
-  by_last true e false fa b gb false gc less = let so : number_below f n ≤ number_below g n = le in omega arith
-  by_last true e false fa false gb true gc less = absurd (true≢false (sym gc ∙ ap g (eqb-true o n e) ∙ gb))
-  by_last false e a fa b gb c gc less = earlier a fa b gb c (less (before (eqb-false o n e))) where
-    before : o ≢ n → o < n
-    before apart = omega arith
+      by_last : (e : Bool) → nat_eq o n ≡ e → (a : Bool) → f n ≡ a → (b : Bool) → g n ≡ b → (c : Bool)
+          → g o ≡ c
+          → (o < n → number_below f n + (if c then 1 else 0) ≤ number_below g n)
+          → ((if a then 1 else 0) + number_below f n) + (if c then 1 else 0) ≤ (if b then 1 else 0)
+          + number_below g n
+      by_last true e true fa b gb c gc less = absurd (true≢false (sym fa ∙ ap f (sym (eqb-true o n e)) ∙ fails))
+      by_last true e false fa true gb true gc less = let so : number_below f n ≤ number_below g n = le in omega arith
+      by_last true e false fa b gb false gc less = let so : number_below f n ≤ number_below g n = le in omega arith
+      by_last true e false fa false gb true gc less = absurd (true≢false (sym gc ∙ ap g (eqb-true o n e) ∙ gb))
+      by_last false e a fa b gb c gc less = earlier a fa b gb c (less (before (eqb-false o n e))) where
+        before : o ≢ n → o < n
+        before apart = omega arith
 
-    earlier : (a : Bool) → f n ≡ a → (b : Bool) → g n ≡ b → (c : Bool)
-        → number_below f n + (if c then 1 else 0) ≤ number_below g n
-        → ((if a then 1 else 0) + number_below f n) + (if c then 1 else 0) ≤ (if b then 1 else 0) + number_below g n
-    earlier true fa true gb c so = omega arith
-    earlier true fa false gb c so = absurd (true≢false (sym (more n fa) ∙ gb))
-    earlier false fa true gb c so = omega arith
-    earlier false fa false gb c so = omega arith
+        earlier : (a : Bool) → f n ≡ a → (b : Bool) → g n ≡ b → (c : Bool)
+            → number_below f n + (if c then 1 else 0) ≤ number_below g n
+            → ((if a then 1 else 0) + number_below f n) + (if c then 1 else 0) ≤ (if b then 1 else 0)
+            + number_below g n
+        earlier true fa true gb c so = omega arith
+        earlier true fa false gb c so = absurd (true≢false (sym (more n fa) ∙ gb))
+        earlier false fa true gb c so = omega arith
+        earlier false fa false gb c so = omega arith
 
 -- none pass if the test fails always
 pub number-none : (n : ℕ) → number_below (λ q. false) n ≡ 0
@@ -58,7 +68,8 @@ number-all zero = refl
 number-all (suc n) = let rest : number_below (λ q. true) n ≡ n = number-all n in omega arith
 
 -- handles that are apart and are those below a bound that pass are as many as pass
-pub number-length : (f : ℕ → Bool) (n : ℕ) (xs : List ℕ) → IsApart xs → ((h : ℕ) → has h xs ≡ true → h < n)
+pub number-length : (f : ℕ → Bool) (n : ℕ) (xs : List ℕ) → IsApart xs → ((h : ℕ)
+    → has h xs ≡ true → h < n)
     → ((h : ℕ) → h < n → has h xs ≡ f h) → length xs ≡ number_below f n
 number-length f zero [] apart below same = refl
 number-length f zero (x ∷ xs) apart below same =
@@ -68,21 +79,26 @@ number-length f (suc n) xs apart below same = by_last (f n) refl (number-length 
   within h e other = let lt : h < suc n = below h e in omega arith
 
   by_last : (b : Bool) → f n ≡ b
-      → ((ys : List ℕ) → IsApart ys → ((h : ℕ) → has h ys ≡ true → h < n) → ((h : ℕ) → h < n → has h ys ≡ f h) → length ys ≡ number_below f n)
+      → ((ys : List ℕ) → IsApart ys → ((h : ℕ) → has h ys ≡ true → h < n) → ((h : ℕ)
+      → h < n → has h ys ≡ f h) → length ys ≡ number_below f n)
       → length xs ≡ (if b then 1 else 0) + number_below f n
   by_last true e rest =
       let one_more : length (without n xs) + 1 ≡ length xs = length-without n xs (same n (omega arith) ∙ e) apart in
-      let others : length (without n xs) ≡ number_below f n = rest (without n xs) (apart-without n xs apart) still_below still_same in
+      let others : length (without n xs) ≡ number_below f n = rest (without n xs) (apart-without n xs apart)
+      still_below still_same in
       omega arith where
         still_below : (h : ℕ) → has h (without n xs) ≡ true → h < n
         still_below h e =
-            let parts : (not (nat_eq n h) ≡ true) × (has h xs ≡ true) = and_parts (not (nat_eq n h)) (has h xs) (sym (has-without h n xs) ∙ e) in
+            let parts : (not (nat_eq n h) ≡ true) × (has h xs ≡ true) = and_parts (not (nat_eq n h)) (has h xs)
+            (sym (has-without h n xs) ∙ e) in
             within h parts.1 (eqb-false n h (not-true (nat_eq n h) parts.0))
 
         still_same : (h : ℕ) → h < n → has h (without n xs) ≡ f h
-        still_same h lt = has-without h n xs ∙ ap₂ (λ a b. not a && b) (ne_eqb n h (λ e. omega arith)) (same h (omega arith))
+        still_same h lt = has-without h n xs ∙ ap₂ (λ a b. not a && b) (ne_eqb n h (λ e. omega arith))
+            (same h (omega arith))
   by_last false e rest =
-      let others : length xs ≡ number_below f n = rest xs apart (λ h i. within h i (last h i)) (λ h lt. same h (omega arith)) in
+      let others : length xs ≡ number_below f n = rest xs apart (λ h i. within h i (last h i))
+      (λ h lt. same h (omega arith)) in
       omega arith where
         last : (h : ℕ) → has h xs ≡ true → n ≢ h
         last h i is = true≢false (sym i ∙ ap (λ k. has k xs) (sym is) ∙ same n (omega arith) ∙ e)
@@ -92,13 +108,17 @@ pub number-count_by : {A : Type 0} (p : A → Bool) (d : A) (xs : List A) (n : �
     → number_below (λ i. p (get_or xs i d)) n ≡ count_by p (take n xs)
 number-count_by p d xs zero le = refl
 number-count_by p d xs (suc n) le = by_last (p (get_or xs n d)) refl (number-count_by p d xs n (omega arith)) where
-  by_last : (b : Bool) → p (get_or xs n d) ≡ b → number_below (λ i. p (get_or xs i d)) n ≡ count_by p (take n xs)
+  by_last : (b : Bool) → p (get_or xs n d) ≡ b → number_below (λ i. p (get_or xs i d))
+      n ≡ count_by p (take n xs)
       → (if b then 1 else 0) + number_below (λ i. p (get_or xs i d)) n ≡ count_by p (take (suc n) xs)
   by_last true e so =
-      let more : count_by p (take (n + 1) xs) ≡ count_by p (take n xs) + 1 = count_by_more_yes p xs n d (omega arith) e in
-      let next : count_by p (take (n + 1) xs) ≡ count_by p (take (suc n) xs) = ap (λ k. count_by p (take k xs)) (add-one n) in
+      let more : count_by p (take (n + 1) xs) ≡ count_by p (take n xs)
+      + 1 = count_by_more_yes p xs n d (omega arith) e in
+      let next : count_by p (take (n + 1) xs) ≡ count_by p (take (suc n) xs) = ap (λ k. count_by p (take k xs))
+      (add-one n) in
       omega arith
   by_last false e so =
       let more : count_by p (take (n + 1) xs) ≡ count_by p (take n xs) = count_by_more_no p xs n d (omega arith) e in
-      let next : count_by p (take (n + 1) xs) ≡ count_by p (take (suc n) xs) = ap (λ k. count_by p (take k xs)) (add-one n) in
+      let next : count_by p (take (n + 1) xs) ≡ count_by p (take (suc n) xs) = ap (λ k. count_by p (take k xs))
+      (add-one n) in
       omega arith

@@ -1,11 +1,13 @@
 -- A function with another value at one place.
-use Rattle.std.proofs.Common.{◌≡◌, ℕ, Bool, true, false, nat_eq, refl, sym, subst, eqb-true, if◌then◌else◌}
+use Rattle.std.proofs.Common.{◌≡◌, ℕ, Bool, true, false, nat_eq, refl, sym, subst, eqb-true}
+use Rattle.std.proofs.Common.{if◌then◌else◌}
 use mathlib.Core.Path.{fun_ext}
 use Rattle.counting_core.specs.Trace.{put}
 
 module _ {A : Type 0} (f : ℕ → A) (i : ℕ) (y : A) where
   -- what holds of the value put, and of the others where they are, holds of all
-  pub put-all : (P : ℕ → A → Type 0) → P i y → ((k : ℕ) → nat_eq i k ≡ false → P k (f k)) → (k : ℕ) → P k (put f i y k)
+  pub put-all : (P : ℕ → A → Type 0) → P i y → ((k : ℕ) → nat_eq i k ≡ false → P k (f k))
+      → (k : ℕ) → P k (put f i y k)
   put-all P here others k = at (nat_eq i k) refl where
     at : (b : Bool) → nat_eq i k ≡ b → P k (if b then y else f k)
     at true e = subst (λ n. P n y) (eqb-true i k e) here

@@ -1,5 +1,7 @@
 -- A sole handle is the only live one of an unmarked block, and it is lent to nobody.
-use Rattle.std.proofs.Common.{◌≡◌, ℕ, Bool, true, false, not, ◌&&◌, ◌||◌, nat_eq, nat_lt, List, [], ◌∷◌, length, if◌then◌else◌, refl, sym, ◌∙◌, ap, subst, arith, true≢false, eqb-true, eq-eqb}
+use Rattle.std.proofs.Common.{◌≡◌, ℕ, Bool, true, false, not, ◌&&◌, ◌||◌, nat_eq, nat_lt, List, []}
+use Rattle.std.proofs.Common.{◌∷◌, length, if◌then◌else◌, refl, sym, ◌∙◌, ap, subst, arith}
+use Rattle.std.proofs.Common.{true≢false, eqb-true, eq-eqb}
 use Rattle.std.specs.List.{list_any}
 use Rattle.std.proofs.lemmas.Bool.{and_parts, not-true}
 use Rattle.counting_core.specs.declared.handle.Access.{Access}
@@ -10,14 +12,17 @@ use Rattle.counting_core.specs.declared.step.Step.{Step}
 use Rattle.counting_core.specs.declared.step.Step.TheVariants.{Raise, Drop, Lower, Mark, IntoUnique, Lend, Return}
 use Rattle.counting_core.specs.declared.step.Answer.{Answer}
 use Rattle.counting_core.specs.declared.step.Answer.TheVariants.{Pending, Ended, GivenUp, Memory, Barred}
-use Rattle.counting_core.specs.Trace.{Trace, Open, Then, HandleState, unborn, newborn, lent_to, returned_by, Situation, situation, owner_of, after, dropped_by, ended, put}
+use Rattle.counting_core.specs.Trace.{Trace, Open, Then, HandleState, unborn, newborn, lent_to, returned_by, Situation}
+use Rattle.counting_core.specs.Trace.{situation, owner_of, after, dropped_by, ended, put}
 use Rattle.counting_core.specs.Permitted.{is_shared, is_sole, is_lent_to, has_alone, may_use, permitted, permitted_by}
 use Rattle.counting_core.specs.PlainMachine.{Machine, Ends, opened, is_only}
 use Rattle.counting_core.specs.Legal.{Replay, replay, Visible, Silent, outcome, due, IsLegal}
 use Rattle.counting_core.specs.Laws.{live_handles, has_mark, IsSole}
 use Rattle.counting_core.proofs.Traces.HandleLists.{has}
 use Rattle.counting_core.proofs.Traces.Places.{put-all}
-use Rattle.counting_core.proofs.Traces.Deeds.{Deed, clone_bears, raise_bears, drop_ends, lower_ends, lower_gives_up, marks, finds_alone, writes, ends_write, becomes_sole, shares, lends, returns, gives}
+use Rattle.counting_core.proofs.Traces.Deeds.{Deed, clone_bears, raise_bears, drop_ends, lower_ends, lower_gives_up}
+use Rattle.counting_core.proofs.Traces.Deeds.{marks, finds_alone, writes, ends_write, becomes_sole, shares, lends}
+use Rattle.counting_core.proofs.Traces.Deeds.{returns, gives}
 use Rattle.counting_core.proofs.Traces.LegalSteps.{Happens, happens, due-by}
 use Rattle.counting_core.proofs.Traces.LiveHandles.{IsCounted, counted}
 use Rattle.counting_core.proofs.Traces.GivenUp.{dropped-lives}
@@ -26,10 +31,11 @@ use Rattle.counting_core.proofs.Traces.InFlight.{AllFit, Fits, all_fit, begins}
 -- a list of one handle is that handle
 one-is : (h : ℕ) (xs : List ℕ) → length xs ≡ 1 → has h xs ≡ true → xs ≡ h ∷ []
 one-is h [] e there = absurd (true≢false (sym there))
-one-is h (x ∷ []) e there = let is : h ≡ x = eqb-true h x (or_none (nat_eq h x) there) in ap (λ n. n ∷ []) (sym is) where
-  or_none : (b : Bool) → (b || false) ≡ true → b ≡ true
-  or_none true e = refl
-  or_none false e = e
+one-is h (x ∷ []) e there = let is : h ≡ x = eqb-true h x (or_none (nat_eq h x) there) in
+    ap (λ n. n ∷ []) (sym is) where
+      or_none : (b : Bool) → (b || false) ≡ true → b ≡ true
+      or_none true e = refl
+      or_none false e = e
 one-is h (x ∷ y ∷ xs) e there = absurd (omega arith)
 
 none-is : (xs : List ℕ) → length xs ≡ 0 → xs ≡ []
@@ -59,7 +65,8 @@ cloning-shared V u fit o (Dropping k) e may = absurd (true≢false (sym may))
 module _ {V : Type 0} where
   -- if the handle lives and is sole, no other lives, and it is lent to nobody
   abbrev IsAloneIfSole : Machine V → ℕ → HandleState → Type 0
-  IsAloneIfSole m h k = k.lives ≡ true → is_sole k.access ≡ true → (is_only m h ≡ true) × (length k.borrowers ≡ 0)
+  IsAloneIfSole m h k = k.lives ≡ true → is_sole k.access ≡ true → (is_only m h ≡ true)
+      × (length k.borrowers ≡ 0)
 
   abbrev SolesAreAlone : (ℕ → HandleState) → Machine V → Type 0
   SolesAreAlone hs m = (h : ℕ) → IsAloneIfSole m h (hs h)
@@ -69,9 +76,11 @@ module _ {V : Type 0} where
 
   module _ (hs : ℕ → HandleState) (m : Machine V) (c : IsCounted hs m) (was : SolesAreAlone hs m) where
     -- a live handle beside a sole one is that one
-    only-live : (h k : ℕ) → (hs h).lives ≡ true → is_sole (hs h).access ≡ true → (hs k).lives ≡ true → k ≡ h
+    only-live : (h k : ℕ) → (hs h).lives ≡ true → is_sole (hs h).access ≡ true → (hs k).lives ≡ true
+        → k ≡ h
     only-live h k lives sole other =
-        let parts : (nat_eq (length m.live) 1 ≡ true) × (has h m.live ≡ true) = and_parts _ _ (and_parts (not m.mark) _ (was h lives sole).0).1 in
+        let parts : (nat_eq (length m.live) 1 ≡ true) × (has h m.live ≡ true)
+        = and_parts _ _ (and_parts (not m.mark) _ (was h lives sole).0).1 in
         let one : m.live ≡ h ∷ [] = one-is h m.live (eqb-true (length m.live) 1 parts.0) parts.1 in
         at (nat_eq k h) refl (sym (ap (has k) one) ∙ c.same k ∙ other) where
           at : (b : Bool) → nat_eq k h ≡ b → (nat_eq k h || false) ≡ true → k ≡ h
@@ -79,10 +88,12 @@ module _ {V : Type 0} where
           at false e there = absurd (true≢false (sym there ∙ ap (λ b. b || false) e))
 
     -- so there is none beside a live one that is shared
-    none-beside : (k : ℕ) → (hs k).lives ≡ true → is_shared (hs k).access ≡ true → (h : ℕ) → (hs h).lives ≡ true
+    none-beside : (k : ℕ) → (hs k).lives ≡ true → is_shared (hs k).access ≡ true → (h : ℕ)
+        → (hs h).lives ≡ true
         → is_sole (hs h).access ≡ true → ⊥
     none-beside k lives shared h other sole =
-        true≢false (sym sole ∙ ap (λ n. is_sole (hs n).access) (sym (only-live h k other sole lives)) ∙ shared-not_sole (hs k).access shared)
+        true≢false (sym sole ∙ ap (λ n. is_sole (hs n).access) (sym (only-live h k other sole lives))
+        ∙ shared-not_sole (hs k).access shared)
 
     none-marked : m.mark ≡ true → (h : ℕ) → (hs h).lives ≡ true → is_sole (hs h).access ≡ true → ⊥
     none-marked mark h lives sole = true≢false (sym (and_parts (not m.mark) _ (was h lives sole).0).0 ∙ ap not mark)
@@ -98,10 +109,12 @@ module _ {V : Type 0} where
     alone-only : (n : Machine V) (h : ℕ) (k : HandleState) → IsAloneIfSole n h k
         → ((g : ℕ) → nat_eq h g ≡ false → (hs g).lives ≡ true → is_sole (hs g).access ≡ true → ⊥)
         → SolesAreAlone (put hs h k) n
-    alone-only n h k here none = put-all hs h k (IsAloneIfSole n) here (λ g other lives sole. absurd (none g other lives sole))
+    alone-only n h k here none = put-all hs h k (IsAloneIfSole n)
+        here (λ g other lives sole. absurd (none g other lives sole))
 
     -- the end of a live handle
-    alone-ended : (n : Machine V) (h : ℕ) → (hs h).lives ≡ true → SolesAreAlone (put hs h (record (hs h) { lives = false })) n
+    alone-ended : (n : Machine V) (h : ℕ) → (hs h).lives ≡ true → SolesAreAlone (put hs h (record (hs h)
+        { lives = false })) n
     alone-ended n h lives =
         alone-only n h (record (hs h) { lives = false }) (λ dead _. absurd (true≢false (sym dead)))
         (λ g other alive sole. true≢false (sym (eq-eqb h g (only-live g h alive sole lives)) ∙ other))
@@ -120,49 +133,70 @@ module _ {V : Type 0} where
       alone-only u.handle r.machine c was m r.machine.births (newborn o) (not-sole m r.machine.births (newborn o) refl)
       (λ g _. none-marked u.handle r.machine c was mark g)
   alone-then r u s a m (raise_bears o settles room) may c fit was =
-      let clone : (k : ℕ) × ((u.handle k).lives ≡ true) × (is_shared (u.handle k).access ≡ true) = cloning-shared V u fit o (u.activity o) refl may in
+      let clone : (k : ℕ) × ((u.handle k).lives ≡ true) × (is_shared (u.handle k).access ≡ true)
+      = cloning-shared V u fit o (u.activity o) refl may in
       alone-only u.handle r.machine c was m r.machine.births (newborn o) (not-sole m r.machine.births (newborn o) refl)
       (λ g _. none-beside u.handle r.machine c was clone.0 clone.1 clone.2 g)
   alone-then r u s a m (drop_ends o h mark) may c fit was =
-      alone-only u.handle r.machine c was m h (record (u.handle h) { lives = false }) (λ dead _. absurd (true≢false (sym dead))) (λ g _. none-marked u.handle r.machine c was mark g)
+      alone-only u.handle r.machine c was m h (record (u.handle h) { lives = false })
+      (λ dead _. absurd (true≢false (sym dead))) (λ g _. none-marked u.handle r.machine c was mark g)
   alone-then r u s a m (lower_ends o h e more) may c fit was = alone-lowered r u o h m e c fit was
   alone-then r u s a m (lower_gives_up o h e last) may c fit was = alone-lowered r u o h m e c fit was
   alone-then r u s a m (marks o h) may c fit was =
       let uses : may_use (u.handle h) o ≡ true = (begins u (Mark o h) _ may (λ _. refl) (λ _. refl)).1 in
-      λ g lives sole. absurd (none-beside u.handle r.machine c was h (and_parts _ _ uses).0 (and_parts _ _ (and_parts _ _ uses).1).1 g lives sole)
-  alone-then r u s a m (finds_alone o h only) may c fit was = alone-not_sole u.handle r.machine c was h (record (u.handle h) { access = Written }) refl
-  alone-then r u s a m (ends_write o h) may c fit was = alone-not_sole u.handle r.machine c was h (record (u.handle h) { access = SharedAccess }) refl
-  alone-then r u s a m (shares o h) may c fit was = alone-not_sole u.handle r.machine c was h (record (u.handle h) { access = SharedAccess }) refl
+      λ g lives sole. absurd (none-beside u.handle r.machine c was h (and_parts _ _ uses).0 (and_parts _ _
+      (and_parts _ _ uses).1).1 g lives sole)
+  alone-then r u s a m (finds_alone o h only)
+      may c fit was = alone-not_sole u.handle r.machine c was h (record (u.handle h) { access = Written }) refl
+  alone-then r u s a m (ends_write o h)
+      may c fit was = alone-not_sole u.handle r.machine c was h (record (u.handle h) { access = SharedAccess }) refl
+  alone-then r u s a m (shares o h) may c fit was = alone-not_sole u.handle r.machine c was h (record (u.handle h)
+      { access = SharedAccess }) refl
   alone-then r u s a m (becomes_sole o h only) may c fit was =
-      let own : has_alone (u.handle h) o ≡ true = (and_parts _ _ (begins u (IntoUnique o h) _ may (λ _. refl) (λ _. refl)).1).0 in
-      alone-put u.handle r.machine c was h (record (u.handle h) { access = SoleAccess }) (λ _ _. (only, eqb-true _ 0 (and_parts _ _ own).1))
+      let own : has_alone (u.handle h) o ≡ true = (and_parts _ _ (begins u (IntoUnique o h) _ may (λ _. refl)
+      (λ _. refl)).1).0 in
+      alone-put u.handle r.machine c was h (record (u.handle h) { access = SoleAccess })
+      (λ _ _. (only, eqb-true _ 0 (and_parts _ _ own).1))
   alone-then r u s a m (lends o h to) may c fit was =
       let lend : _ = (begins u (Lend o h to) _ may (λ _. refl) (λ _. refl)).1 in
-      alone-not_sole u.handle r.machine c was h (lent_to (u.handle h) to) (shared-not_sole (u.handle h).access (and_parts _ _ (and_parts _ _ lend).1).0)
+      alone-not_sole u.handle r.machine c was h (lent_to (u.handle h) to)
+      (shared-not_sole (u.handle h).access (and_parts _ _ (and_parts _ _ lend).1).0)
   alone-then r u s a m (returns o h) may c fit was =
-      let lent : is_lent_to (u.handle h) o ≡ true = (and_parts _ _ (begins u (Return o h) _ may (λ _. refl) (λ _. refl)).1).1 in
-      alone-put u.handle r.machine c was h (returned_by (u.handle h) o) (λ lives sole. absurd (true≢false (sym lent ∙ lent-some (u.handle h) o (was h lives sole).1)))
-  alone-then r u s a m (gives o h to) may c fit was = alone-put u.handle r.machine c was h (record (u.handle h) { holder = to }) (was h)
+      let lent : is_lent_to (u.handle h) o ≡ true = (and_parts _ _ (begins u (Return o h) _ may (λ _. refl)
+      (λ _. refl)).1).1 in
+      alone-put u.handle r.machine c was h (returned_by (u.handle h) o)
+      (λ lives sole. absurd (true≢false (sym lent ∙ lent-some (u.handle h) o (was h lives sole).1)))
+  alone-then r u s a m (gives o h to) may c fit was = alone-put u.handle r.machine c was h (record (u.handle h)
+      { holder = to }) (was h)
   alone-then r u s a m (writes o h v) may c fit was = was
   alone-then r u s a m _ may c fit was = was
 
   soles_are_alone : (t : Trace V) → IsLegal t → SolesAreAlone (situation t).handle (replay t).machine
   soles_are_alone (Open v n limit) legal =
-      put-all (λ h. unborn) 0 (newborn 0) (IsAloneIfSole (opened v limit)) (not-sole (opened v limit) 0 (newborn 0) refl) (λ g _. not-sole (opened v limit) g unborn refl)
+      put-all (λ h. unborn) 0 (newborn 0) (IsAloneIfSole (opened v limit)) (not-sole (opened v limit) 0 (newborn 0)
+      refl) (λ g _. not-sole (opened v limit) g unborn refl)
   soles_are_alone (Then t s Barred) legal = soles_are_alone t legal.0
   soles_are_alone (Then t s Memory) legal = soles_are_alone t legal.0
   soles_are_alone (Then t s a) legal =
       let h : Happens t s a = happens t s a refl legal.1 in
-      alone-then (replay t) (situation t) s a _ h.deed h.by_activity (counted t legal.0) (all_fit t legal.0) (soles_are_alone t legal.0)
+      alone-then (replay t) (situation t) s a _ h.deed h.by_activity (counted t legal.0) (all_fit t legal.0)
+      (soles_are_alone t legal.0)
 
   -- while a handle is sole, no other lives, the block is unmarked, and the handle is lent to nobody
   pub sole_is_only : (t : Trace V) (h : ℕ) → IsLegal t → IsSole t h
       → (live_handles t ≡ h ∷ []) × (has_mark t ≡ false) × (((situation t).handle h).borrowers ≡ [])
   sole_is_only t h legal sole =
-      let alone : (is_only (replay t).machine h ≡ true) × (length ((situation t).handle h).borrowers ≡ 0) = soles_are_alone t legal h sole.lives sole.sole in
-      let parts : (not (has_mark t) ≡ true) × ((nat_eq (length (live_handles t)) 1 && has h (live_handles t)) ≡ true) = and_parts _ _ alone.0 in
-      let live : (nat_eq (length (live_handles t)) 1 ≡ true) × (has h (live_handles t) ≡ true) = and_parts _ _ parts.1 in
-      (one-is h (live_handles t) (eqb-true (length (live_handles t)) 1 live.0) live.1, not-true (has_mark t) parts.0, none-is ((situation t).handle h).borrowers alone.1)
+      let alone : (is_only (replay t).machine h ≡ true) × (length ((situation t).handle h).borrowers ≡ 0)
+      = soles_are_alone t legal h sole.lives sole.sole in
+      let parts : (not (has_mark t) ≡ true) × ((nat_eq (length (live_handles t)) 1 && has h (live_handles t))
+      ≡ true) = and_parts _ _ alone.0 in
+      let live : (nat_eq (length (live_handles t)) 1 ≡ true) × (has h (live_handles t) ≡ true)
+      = and_parts _ _ parts.1 in (
+        one-is h (live_handles t) (eqb-true (length (live_handles t)) 1 live.0) live.1,
+        not-true (has_mark t)
+            parts.0,
+        none-is ((situation t).handle h).borrowers alone.1,
+      )
 
   -- its drop is in flight after its read, and gives the value up by its lower
   pub sole_drop_gives_up : (t : Trace V) (o h : ℕ) → IsLegal t → IsSole t h
@@ -172,11 +206,14 @@ module _ {V : Type 0} where
     reads : permitted {V = V} (situation t) (Drop o h) ≡ true → due t (Drop o h) ≡ Pending
     reads may =
         due-by t (Drop o h) true may
-        ∙ ap (λ b. (outcome (replay t).machine (if b then Visible (Ends h) else Silent Pending)).0) (sole_is_only t h legal sole).1
+        ∙ ap (λ b. (outcome (replay t).machine (if b then Visible (Ends h) else Silent Pending)).0)
+        (sole_is_only t h legal sole).1
 
-    last : (a : Activity) → (situation t).activity o ≡ a → permitted_by {V = V} (situation t) a (Lower o) ≡ true → is_only (replay t).machine (dropped_by a) ≡ true
+    last : (a : Activity) → (situation t).activity o ≡ a → permitted_by {V = V} (situation t) a (Lower o)
+        ≡ true → is_only (replay t).machine (dropped_by a) ≡ true
     last (Dropping k) e may =
-        let same : k ≡ h = only-live (situation t).handle (replay t).machine (counted t legal) (soles_are_alone t legal) h k sole.lives sole.sole (dropped-lives (situation t) (all_fit t legal) o k e) in
+        let same : k ≡ h = only-live (situation t).handle (replay t).machine (counted t legal)
+        (soles_are_alone t legal) h k sole.lives sole.sole (dropped-lives (situation t) (all_fit t legal) o k e) in
         ap (is_only (replay t).machine) same ∙ (soles_are_alone t legal h sole.lives sole.sole).0
     last Idle e may = absurd (true≢false (sym may))
     last (Cloning k) e may = absurd (true≢false (sym may))
@@ -184,4 +221,6 @@ module _ {V : Type 0} where
     lowers : permitted {V = V} (situation t) (Lower o) ≡ true → due t (Lower o) ≡ GivenUp (replay t).machine.value
     lowers may =
         due-by t (Lower o) true may
-        ∙ ap (λ b. if b then GivenUp (replay t).machine.value else Ended) (last ((situation t).activity o) refl (and_parts (nat_lt o (situation t).owners) (permitted_by {V = V} (situation t) ((situation t).activity o) (Lower o)) may).1)
+        ∙ ap (λ b. if b then GivenUp (replay t).machine.value else Ended) (last ((situation t).activity o)
+        refl (and_parts (nat_lt o (situation t).owners) (permitted_by {V = V} (situation t)
+        ((situation t).activity o) (Lower o)) may).1)

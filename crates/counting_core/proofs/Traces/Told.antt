@@ -1,6 +1,8 @@
 -- What a trace tells of its log: the handles and the drops in flight, and one step more.
-use Rattle.std.proofs.Common.{◌≡◌, ℕ, ◌+◌, ◌-◌, ◌<◌, ◌≤◌, Bool, true, false, not, ◌||◌, nat_eq, List, [], ◌∷◌, ◌++◌}
-use Rattle.std.proofs.Common.{append-nil, length, length-append, if◌then◌else◌, refl, sym, ◌∙◌, ap, ap₂, subst}
+use Rattle.std.proofs.Common.{◌≡◌, ℕ, ◌+◌, ◌-◌, ◌<◌, ◌≤◌, Bool, true, false, not, ◌||◌}
+use Rattle.std.proofs.Common.{nat_eq, List, [], ◌∷◌, ◌++◌}
+use Rattle.std.proofs.Common.{append-nil, length, length-append, if◌then◌else◌, refl, sym, ◌∙◌, ap, ap₂}
+use Rattle.std.proofs.Common.{subst}
 use Rattle.std.proofs.Common.{arith, true≢false, eqb-true}
 use Rattle.std.proofs.lemmas.Bool.{and_parts, and_from, false_from_ne_true}
 use Rattle.counting_word.specs.WordSteps.{WordStep, raises_from}
@@ -55,7 +57,8 @@ module _ {V : Type 0} where
     pub is-live : (h : ℕ) → (u.handle h).lives ≡ true → has h now.live ≡ true
     is-live h e = (counted t legal).same h ∙ e
 
-    pub one-drop : (o q : ℕ) → has o told.ds ≡ true → has q told.ds ≡ true → dropped o ≡ dropped q → o ≡ q
+    pub one-drop : (o q : ℕ) → has o told.ds ≡ true → has q told.ds ≡ true → dropped o ≡ dropped q →
+        o ≡ q
     one-drop o q i j e = eqb-true o q (alone-alone (u.handle (dropped q)) o q
         (subst (λ (h : ℕ). has_alone (u.handle h) o ≡ true) e (own-drop o i)) (own-drop q j))
 
@@ -66,7 +69,8 @@ module _ {V : Type 0} where
     few = mapped-length dropped told.ds now.live told.apart (counted t legal).apart live-drop one-drop
 
     -- a handle that is not dropped leaves one handle more than there are drops
-    pub spare : (o h : ℕ) → is_dropping (u.activity o) ≡ false → Has (u.handle h) o → length told.ds < length now.live
+    pub spare : (o h : ℕ) → is_dropping (u.activity o) ≡ false → Has (u.handle h)
+        o → length told.ds < length now.live
     spare o h idle own =
         let fewer : length told.ds ≤ length (without h now.live) =
         mapped-length dropped told.ds (without h now.live) told.apart (apart-without h now.live
@@ -82,7 +86,8 @@ module _ {V : Type 0} where
                     let at : h ≡ dropped q = eqb-true h (dropped q) e in
                     let is : q ≡ o = eqb-true q o (has-is (u.handle h) q o
                     (subst (λ (n : ℕ). has_alone (u.handle n) q ≡ true) (sym at) (own-drop q i)) own) in
-                    true≢false (sym (sym (told.same q) ∙ i) ∙ ap (λ (n : ℕ). is_dropping (u.activity n)) is ∙ idle)
+                    true≢false (sym (sym (told.same q) ∙ i) ∙ ap (λ (n : ℕ). is_dropping (u.activity n))
+                    is ∙ idle)
 
     pub some-of : (o h : ℕ) → is_dropping (u.activity o) ≡ false → Has (u.handle h) o → 1 ≤ p.handles
     some-of o h idle own = let more : length told.ds < length now.live = spare o h idle own in omega arith
@@ -91,14 +96,16 @@ module _ {V : Type 0} where
     sum-is = let le : length told.ds ≤ length now.live = few in omega arith
 
     -- the owner goes on, and no drop begins or ends
-    pub goes-on : (o : ℕ) (c : Activity) → is_dropping (u.activity o) ≡ false → is_dropping c ≡ false → (q : ℕ)
+    pub goes-on : (o : ℕ) (c : Activity) → is_dropping (u.activity o)
+        ≡ false → is_dropping c ≡ false → (q : ℕ)
         → has q told.ds ≡ is_dropping (put u.activity o c q)
     goes-on o c was is = put-all u.activity o c (λ q d. has q told.ds ≡ is_dropping d) (told.same o ∙ was
         ∙ sym is) (λ q other. told.same q)
 
     module _ (w : WordStep) (n : Situation) (m : Machine V) where
       -- one more step in the log
-      pub adds : (ds : List ℕ) → IsApart ds → AreDropping ds n → MayMake limit p w → tally_after p w ≡ tally m ds
+      pub adds : (ds : List ℕ) → IsApart ds → AreDropping ds n → MayMake limit p w → tally_after p w ≡
+          tally m ds
           → Told limit n m (log_of t ++ w ∷ [])
       adds ds apart same may is = record {
         ds = ds;
@@ -137,13 +144,15 @@ module _ {V : Type 0} where
         (length now.live) saw)
     exactly-by saw b e = ap₂ (λ (z : Bool) (n : ℕ). if z then false else nat_eq n saw) e sum-is
 
-    pub raise-lost : (saw : ℕ) → has_exactly saw p ≡ false → now.mark ≡ false → tally_after p (raises_from saw) ≡ p
+    pub raise-lost : (saw : ℕ)
+        → has_exactly saw p ≡ false → now.mark ≡ false → tally_after p (raises_from saw) ≡ p
     raise-lost saw lost mark = ap (λ (z : Bool). if z then one_more p else after_read p) lost ∙ marked-by false mark
 
     pub raise-born : (saw : ℕ) → (now.mark || nat_eq (length now.live) saw) ≡ true
         → tally_after p (raises_from saw) ≡ one_more p
     raise-born saw won = at now.mark refl where
       at : (b : Bool) → now.mark ≡ b → tally_after p (raises_from saw) ≡ one_more p
-      at true e = ap (λ (z : Bool). if z then one_more p else after_read p) (exactly-by saw true e) ∙ marked-by true e
+      at true e = ap (λ (z : Bool). if z then one_more p else after_read p) (exactly-by saw true e)
+          ∙ marked-by true e
       at false e = ap (λ (z : Bool). if z then one_more p else after_read p) (exactly-by saw false e
           ∙ sym (ap (λ (z : Bool). z || nat_eq (length now.live) saw) e) ∙ won)

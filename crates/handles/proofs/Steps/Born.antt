@@ -14,14 +14,16 @@ use Rattle.counting_word.specs.CountingWord.{is_marked_word}
 use Rattle.counting_word.proofs.Tallies.{keeps-counts}
 use Rattle.handles.proofs.Steps.Reads.{a_share, no_share}
 use Rattle.handles.proofs.Steps.Turns.{turns_read}
-use Rattle.handles.proofs.Steps.Shared.{◌≡◌, ℕ, true, false, [], ◌∷◌, refl, ap, subst, if◌then◌else◌, Ura}
-use Rattle.handles.proofs.Steps.Shared.{ent, upd, upd_i, via, never, id⊢, sep, ftrue, full_share, Share, Fml}
+use Rattle.handles.proofs.Steps.Shared.{◌≡◌, ℕ, ◌<◌, true, false, [], ◌∷◌, refl, ap, subst}
+use Rattle.handles.proofs.Steps.Shared.{if◌then◌else◌, Ura}
+use Rattle.handles.proofs.Steps.Shared.{ent, upd, upd_i, via, never, id⊢, sep, ex, ftrue, full_share, Share, Fml}
 use Rattle.handles.proofs.Steps.Shared.{fsep, fex, finv, WordStep, Tally, List, given, learn, fjoin3, lives}
-use Rattle.handles.proofs.Steps.Shared.{begun_with, Logic, sem, ‵, ◌⊛◌, ◌$◌, ◌∵◌, !, qed, by, move, keep, drop}
+use Rattle.handles.proofs.Steps.Shared.{begun_with, Logic, sem, ‵, ◌⊛◌, ◌$◌, ◌∵◌, !, qed, by, move}
+use Rattle.handles.proofs.Steps.Shared.{keep, drop}
 use Rattle.handles.proofs.Steps.Shared.{frame, assume, split, fsplit, fsplit3, fjoin, fpick, fpack, suffices}
 use Rattle.handles.proofs.Steps.Shared.{use1, use2, done, nothing_more, Right, nothing, a_handle, right_by_read}
-use Rattle.handles.proofs.Steps.Shared.{title, marked, unmarked, Stage, living, over, SharedBlock, at_stage}
-use Rattle.handles.proofs.Steps.Shared.{rule, makes_one, no_token, passed, gains, pass, fits}
+use Rattle.handles.proofs.Steps.Shared.{title, marked, unmarked, Says, Stage, living, over, SharedBlock, at_stage}
+use Rattle.handles.proofs.Steps.Shared.{rule, beside, counts, makes_one, no_token, passed, gains, pass, fits}
 use Rattle.handles.proofs.Steps.Shared.{records, unknown, Entails, noted}
 
 module _ {M : Type 1} {𝓤 : Ura M} (𝓛 : Logic 𝓤) (s : SharedBlock) (q : Share) where
@@ -34,7 +36,8 @@ module _ {M : Type 1} {𝓤 : Ura M} (𝓛 : Logic 𝓤) (s : SharedBlock) (q : 
   abbrev BornSome : Fml
   BornSome = fex ℕ Born
 
-  pub born : ent 𝓤 (sep 𝓤 (sem 𝓛 (finv (rule s))) (sem 𝓛 (fsep (marked s.names) (a_share s q)))) (H.⇛ (sem 𝓛 BornSome))
+  pub born : ent 𝓤 (sep 𝓤 (sem 𝓛 (finv (rule s))) (sem 𝓛 (fsep (marked s.names) (a_share s q))))
+      (H.⇛ (sem 𝓛 BornSome))
   born = qed 𝓛 (‵ (finv (rule s)) ∷ ‵ (fsep (marked s.names) (a_share s q)) ∷ []) ∵
       suffices ! _ (𝓛.invs.inv_acc (rule s) (sem 𝓛 BornSome)) $ frame ! $ assume ! (‵ (rule s)) $
       fpick ! (λ g. by ! (at g))
@@ -48,11 +51,13 @@ module _ {M : Type 1} {𝓤 : Ura M} (𝓛 : Logic 𝓤) (s : SharedBlock) (q : 
           fsplit ! $ move ! (2 ∷ []) $ fsplit ! $ move ! (1 ∷ []) $ fsplit ! $
           -- [half of the share; the pass; the mark; that it is over; the token of the mark]
           keep ! (3 ∷ 0 ∷ []) $ by ! (via 𝓤 (never 𝓤) (no_share 𝓛 s q) (never_e 𝓤 _))
-      at (living false w n) = qed 𝓛 (‵ (at_stage s (living false w n)) ∷ ‵ (fsep (marked s.names) (a_share s q))
+      at (living false w n) = qed 𝓛 (‵ (at_stage s (living false w n)) ∷ ‵ (fsep (marked s.names)
+          (a_share s q))
           ∷ []) ∵
           fsplit3 ! $ move ! (2 ∷ []) $ fsplit3 ! $ move ! (5 ∷ []) $ fsplit ! $ keep ! (4 ∷ 0 ∷ []) $
           by ! (no_token 𝓛 (unmarked s) full_share _)
-      at (living true w n) = qed 𝓛 (‵ (at_stage s (living true w n)) ∷ ‵ (fsep (marked s.names) (a_share s q)) ∷ []) ∵
+      at (living true w n) = qed 𝓛 (‵ (at_stage s (living true w n)) ∷ ‵ (fsep (marked s.names)
+          (a_share s q)) ∷ []) ∵
           fsplit3 ! $ move ! (1 ∷ []) $ fpick ! (λ says. drop ! $ move ! (2 ∷ []) $ fsplit ! $ drop ! $ fsplit ! $
           move ! (2 ∷ []) $ fsplit ! $ fits 𝓛 s ! w (λ small.
           -- [the word; the log; the share; the pass; what is beside the word]
@@ -63,7 +68,8 @@ module _ {M : Type 1} {𝓤 : Ura M} (𝓛 : Logic 𝓤) (s : SharedBlock) (q : 
           use1 𝓛 (raw (upd 𝓤 (sem 𝓛 Records))) (records 𝓛 s [] ftrue (unknown 𝓛 s) step.reads (λ v. v)
           (λ v _. refl) (λ _. ftrue) ftrue Own (λ v. fsep Own (passed s (right_by_read v)))
           (turns_read 𝓛 s q) w small) $
-          settle 𝓛 (sep 𝓤 (sem 𝓛 (rule s)) (sem 𝓛 BornSome)) (‵ Records) $ fsplit ! $ fsplit ! $ move ! (1 ∷ []) $
+          settle 𝓛 (sep 𝓤 (sem 𝓛 (rule s)) (sem 𝓛 BornSome)) (‵ Records) $ fsplit ! $ fsplit ! $
+          move ! (1 ∷ []) $
           fsplit ! $ move ! (1 ∷ []) $
           use1 𝓛 (‵ (passed s a_handle)) (subst (λ (r : Right). Entails 𝓛 (passed s (right_by_read w))
           (passed s r)) is_handle (id⊢ 𝓤 _)) $
@@ -88,7 +94,8 @@ module _ {M : Type 1} {𝓤 : Ura M} (𝓛 : Logic 𝓤) (s : SharedBlock) (q : 
         suffices ! _ (𝓛.invs.inv_acc (rule s) (sem 𝓛 Known)) $ frame ! $ assume ! (‵ (rule s)) $
         fpick ! (λ g. by ! (at g))
       where
-        at : (g : Stage) → ent 𝓤 (sem 𝓛 (fsep (at_stage s g) Knows)) (upd 𝓤 (sep 𝓤 (sem 𝓛 (rule s)) (sem 𝓛 Known)))
+        at : (g : Stage) → ent 𝓤 (sem 𝓛 (fsep (at_stage s g) Knows)) (upd 𝓤 (sep 𝓤 (sem 𝓛 (rule s))
+            (sem 𝓛 Known)))
         at over = qed 𝓛 (‵ (at_stage s over) ∷ ‵ Knows ∷ []) ∵
             fsplit ! $ move ! (2 ∷ []) $ fsplit ! $ move ! (1 ∷ []) $ fsplit ! $
             keep ! (3 ∷ 0 ∷ []) $ by ! (via 𝓤 (never 𝓤) (no_share 𝓛 s q) (never_e 𝓤 _))
@@ -112,5 +119,6 @@ module _ {M : Type 1} {𝓤 : Ura M} (𝓛 : Logic 𝓤) (s : SharedBlock) (q : 
             move ! (2 ∷ 3 ∷ 0 ∷ []) $ fjoin3 ! $ move ! (2 ∷ 0 ∷ []) $
             use2 𝓛 (‵ (rule s)) (lives 𝓛 s true w n says) $ move ! (2 ∷ []) $ fsplit ! $ drop ! $
             -- [the share; the rule; the mark]
-            move ! (2 ∷ 0 ∷ []) $ fjoin ! $ suffices ! _ (upd_i 𝓤 (sep 𝓤 (sem 𝓛 (rule s)) (sem 𝓛 Known))) $
+            move ! (2 ∷ 0 ∷ []) $ fjoin ! $
+            suffices ! _ (upd_i 𝓤 (sep 𝓤 (sem 𝓛 (rule s)) (sem 𝓛 Known))) $
             move ! (1 ∷ []) $ frame ! $ done !)

@@ -2,9 +2,12 @@
 use Rattle.counting_word.specs.WordSteps as step
 use Rattle.counting_word.specs.Rights.{right_by_claim}
 use Rattle.handles.proofs.Asking as asking
-use Rattle.handles.proofs.Steps.Shared.{◌≡◌, ◌≢◌, ℕ, Bool, true, false, [], ◌∷◌, sym, refl, ap, ◌∙◌, subst, eq-eqb}
-use Rattle.handles.proofs.Steps.Shared.{ne_eqb, if◌then◌else◌, dite, ℕ_discrete, Ura, ent, Share, Fml, fsep, fex, flft}
-use Rattle.handles.proofs.Steps.Shared.{Logic, sem, ‵, ◌$◌, ◌∵◌, !, qed, by, move, keep, drop, fjoin, fpick, fpack}
+use Rattle.handles.proofs.Steps.Shared.{◌≡◌, ◌≢◌, ℕ, Bool, true, false, [], ◌∷◌, sym, refl, ap}
+use Rattle.handles.proofs.Steps.Shared.{◌∙◌, subst, eq-eqb}
+use Rattle.handles.proofs.Steps.Shared.{ne_eqb, if◌then◌else◌, dite, ℕ_discrete, Ura, ent, Share, Fml, fsep}
+use Rattle.handles.proofs.Steps.Shared.{fex, flft}
+use Rattle.handles.proofs.Steps.Shared.{Logic, sem, ‵, ◌$◌, ◌∵◌, !, qed, by, move, keep, drop, fjoin, fpick}
+use Rattle.handles.proofs.Steps.Shared.{fpack}
 use Rattle.handles.proofs.Steps.Shared.{use1, use2, part_in, is_one_handle, count_of-unmarked, is_one_handle-marked}
 use Rattle.handles.proofs.Steps.Shared.{is_one_handle-unmarked, a_handle, whole_block, Says, unit_of_count, entitled}
 use Rattle.handles.proofs.Steps.Shared.{stake, SharedBlock, shared, counts, beside, rule, gained, counted_stake, lives}
@@ -32,7 +35,8 @@ module _ {M : Type 1} {𝓤 : Ura M} (𝓛 : Logic 𝓤) (s : SharedBlock) where
 
   -- the log of an unmarked block whose word is 1 counts one handle, if there is one
   one-counted : Entails 𝓛 (fsep (noted s.names s.limit s.log 1) Own) (recorded s.limit s.log 1)
-  one-counted = qed 𝓛 (‵ (noted s.names s.limit s.log 1) ∷ ‵ Own ∷ []) ∵ fpick ! (λ p. fsplit ! $ move ! (1 ∷ []) $
+  one-counted = qed 𝓛 (‵ (noted s.names s.limit s.log 1) ∷ ‵ Own ∷ []) ∵ fpick ! (λ p. fsplit ! $
+      move ! (1 ∷ []) $
       fsplit ! $ move ! (3 ∷ 0 ∷ []) $
       use2 𝓛 (given (1 ≤ p.handles) (‵ (fsep Own (row s.names.handles p.handles))))
       (row_some 𝓛 s.names.handles s.names.own full_share p.handles) $ learn ! (λ some. keep ! (2 ∷ []) $
@@ -58,10 +62,12 @@ module _ {M : Type 1} {𝓤 : Ura M} (𝓛 : Logic 𝓤) (s : SharedBlock) where
       a_unit = unit_of_count s.names
 
       -- a handle stays one
-      kept-one : (w : ℕ) → right_by_claim w ≡ a_handle → Entails 𝓛 (fsep (bare_claim s w) Own) (after_claim s w)
+      kept-one : (w : ℕ) → right_by_claim w ≡ a_handle → Entails 𝓛 (fsep (bare_claim s w) Own)
+          (after_claim s w)
       kept-one w e = subst (λ (r : Right). Entails 𝓛 (fsep (gained s r) Own) (gains s r)) (sym e)
           (qed 𝓛 (‵ (title s.names) ∷ ‵ Own ∷ []) ∵ move ! (1 ∷ []) $
-          fpack ! ℕ (λ k. pass s.names.handles k full_share) s.names.own $ move ! (1 ∷ 0 ∷ []) $ fjoin ! $ done !)
+          fpack ! ℕ (λ k. pass s.names.handles k full_share) s.names.own $ move ! (1 ∷ 0 ∷ []) $ fjoin ! $
+          done !)
 
       stays-one : (w : ℕ) → is_one_handle w ≡ false → right_by_claim w ≡ a_handle
       stays-one w other = ap (λ z. if z then whole_block 1 else a_handle) other
@@ -72,10 +78,12 @@ module _ {M : Type 1} {𝓤 : Ura M} (𝓛 : Logic 𝓤) (s : SharedBlock) where
           use1 𝓛 (‵ (bare_claim s w)) (regained 𝓛 s a_handle (right_by_claim w) (stays-one w other)) $
           move ! (1 ∷ 0 ∷ []) $ by ! (asking.closes 𝓛 (rule s) (bare_claim s w) j)
 
-      more : (j w n : ℕ) → n ≢ 1 → Says s.limit w false n → Lands 𝓛 s w false n (fsep a_unit Own) (after_claim s w) j
+      more : (j w n : ℕ) → n ≢ 1 → Says s.limit w false n → Lands 𝓛 s w false n (fsep a_unit Own)
+          (after_claim s w) j
       more j w n other says = let more_than : is_one_handle w ≡ false = is_one_handle-unmarked w n n says.0
           ∙ ne_eqb n 1 other in
-          passes_on 𝓛 s w false n a_unit Own (bare_claim s w) (after_claim s w) j (kept-one w (stays-one w more_than))
+          passes_on 𝓛 s w false n a_unit Own (bare_claim s w) (after_claim s w)
+          j (kept-one w (stays-one w more_than))
           (qed 𝓛 (‵ (counts s w) ∷ ‵ (beside s false n) ∷ ‵ a_unit ∷ []) ∵
           use2 𝓛 (‵ (rule s)) (lives 𝓛 s false w n says) $ move ! (1 ∷ []) $
           use1 𝓛 (‵ (title s.names)) (counted_stake 𝓛 s.names) $ move ! (1 ∷ 0 ∷ []) $
@@ -94,7 +102,8 @@ module _ {M : Type 1} {𝓤 : Ura M} (𝓛 : Logic 𝓤) (s : SharedBlock) where
           (subst (λ k. Lands 𝓛 s 1 false k (fsep a_unit Own) (after_claim s w) j) (sym one)
           (subst (λ (r : Right). Lands 𝓛 s 1 false 1 (fsep a_unit Own) (gains s r) j) (sym wins) whole-one)) where
             whole-one : Lands 𝓛 s 1 false 1 (fsep a_unit Own) (gains s (whole_block 1)) j
-            whole-one = qed 𝓛 (‵ (counts s 1) ∷ ‵ (beside s false 1) ∷ ‵ (fsep a_unit Own) ∷ []) ∵ nothing_more ! $
+            whole-one = qed 𝓛 (‵ (counts s 1) ∷ ‵ (beside s false 1) ∷ ‵ (fsep a_unit Own) ∷ [])
+                ∵ nothing_more ! $
                 move ! (3 ∷ 0 ∷ []) $ fjoin ! $ move ! (1 ∷ 2 ∷ 0 ∷ []) $
                 by ! (passes_on 𝓛 s 1 false 1 (fsep a_unit Own) ftrue (gained s (whole_block 1))
                 (gains s (whole_block 1)) j (id⊢ 𝓤 _)
@@ -102,9 +111,11 @@ module _ {M : Type 1} {𝓤 : Ura M} (𝓛 : Logic 𝓤) (s : SharedBlock) where
 
       at : HeldSteps 𝓛 s step.claims (λ w. w) (λ w _. refl) (after_claim s) (λ _. Own)
           (turns_none 𝓛 s full_share step.claims (λ p some. some) (λ p. refl) (λ p. refl))
-      at j false true e w n small says = qed 𝓛 (‵ (counts s w) ∷ ‵ (beside s false n) ∷ ‵ (fsep (a_stake s true e) Own)
+      at j false true e w n small says = qed 𝓛 (‵ (counts s w) ∷ ‵ (beside s false n)
+          ∷ ‵ (fsep (a_stake s true e) Own)
           ∷ []) ∵ move ! (2 ∷ []) $ fsplit ! $ fsplit ! $
-          fpick ! (λ c. drop ! $ use1 𝓛 (‵ a_unit) (part_in 64 𝓛 s.names.shared e c) $ move ! (0 ∷ 1 ∷ []) $ fjoin ! $
+          fpick ! (λ c. drop ! $ use1 𝓛 (‵ a_unit) (part_in 64 𝓛 s.names.shared e c) $
+          move ! (0 ∷ 1 ∷ []) $ fjoin ! $
           move ! (1 ∷ 2 ∷ 0 ∷ []) $
           by ! (dite (ℕ_discrete n 1) (λ one. alone-one j w n one says) (λ other. more j w n other says)))
       at j false false e w n small says = qed 𝓛 (‵ (counts s w) ∷ ‵ (beside s false n)
@@ -114,7 +125,8 @@ module _ {M : Type 1} {𝓤 : Ura M} (𝓛 : Logic 𝓤) (s : SharedBlock) where
           is_one_handle-marked w says.0.same_mark in
           passes_on 𝓛 s w true n (a_stake s y e) Own (bare_claim s w) (after_claim s w) j
           (kept-one w (stays-one w more_than))
-          (qed 𝓛 (‵ (counts s w) ∷ ‵ (beside s true n) ∷ ‵ (entitled s.names e y) ∷ ‵ (flft (shared s) e) ∷ []) ∵
+          (qed 𝓛 (‵ (counts s w) ∷ ‵ (beside s true n) ∷ ‵ (entitled s.names e y)
+          ∷ ‵ (flft (shared s) e) ∷ []) ∵
           use2 𝓛 (‵ (rule s)) (lives 𝓛 s true w n says) $ move ! (1 ∷ []) $
           fpack ! Bool (entitled s.names e) y $ move ! (0 ∷ 2 ∷ []) $ fjoin ! $
           fpack ! Share (λ e. fsep (fex Bool (entitled s.names e)) (flft (shared s) e)) e $ move ! (1 ∷ 0 ∷ []) $

@@ -5,8 +5,10 @@ use Rattle.counting_word.specs.WordSteps.{reads_last}
 use Rattle.counting_word.specs.Rights.{to_lower, right_by_last_read}
 use Rattle.handles.proofs.Asking as asking
 use Rattle.handles.proofs.Steps.Turns.{turns_last}
-use Rattle.handles.proofs.Steps.Shared.{◌≡◌, ℕ, ◌^◌, ◌<◌, Bool, true, false, [], ◌∷◌, ap, if◌then◌else◌, Ura, SProp}
-use Rattle.handles.proofs.Steps.Shared.{ent, never, Share, Fml, fsep, flft, Logic, sem, ‵, ◌$◌, ◌∵◌, !, qed, by, move}
+use Rattle.handles.proofs.Steps.Shared.{◌≡◌, ℕ, ◌^◌, ◌<◌, Bool, true, false, [], ◌∷◌, ap}
+use Rattle.handles.proofs.Steps.Shared.{if◌then◌else◌, Ura, SProp}
+use Rattle.handles.proofs.Steps.Shared.{ent, never, Share, Fml, fsep, flft, Logic, sem, ‵, ◌$◌, ◌∵◌, !, qed}
+use Rattle.handles.proofs.Steps.Shared.{by, move}
 use Rattle.handles.proofs.Steps.Shared.{keep, drop, fsplit, fsplit3, fpick, use1, use2, part_in, nothing_more, nothing}
 use Rattle.handles.proofs.Steps.Shared.{Says, unit_of_count, unshared, marked, entitled, stake, SharedBlock, shared}
 use Rattle.handles.proofs.Steps.Shared.{unmarked, counts, beside, rule, gained, no_token, lives, regained, Lands, Asks}
@@ -29,11 +31,14 @@ module _ {M : Type 1} {𝓤 : Ura M} (𝓛 : Logic 𝓤) (s : SharedBlock) where
       fpick ! (λ e. fsplit ! $ keep ! (1 ∷ 2 ∷ []) $ by ! (no_token 𝓛 (shared s) e (never 𝓤)))
 
   -- an unmarked block's handle has one part
-  pub not_yet_marked : (e : Share) (n : ℕ) (X : SProp 𝓤) → ent 𝓤 (sem 𝓛 (fsep (beside s false n) (a_stake s false e))) X
-  not_yet_marked e n X = qed 𝓛 (‵ (beside s false n) ∷ ‵ (marked s.names) ∷ ‵ (flft (shared s) e) ∷ []) ∵ fsplit3 ! $
+  pub not_yet_marked : (e : Share) (n : ℕ) (X : SProp 𝓤) → ent 𝓤 (sem 𝓛 (fsep (beside s false n)
+      (a_stake s false e))) X
+  not_yet_marked e n X = qed 𝓛 (‵ (beside s false n) ∷ ‵ (marked s.names) ∷ ‵ (flft (shared s) e)
+      ∷ []) ∵ fsplit3 ! $
       keep ! (2 ∷ 3 ∷ []) $ by ! (no_token 𝓛 (unmarked s) full_share X)
 
-  module _ (what : WordStep) (f : ℕ → ℕ) (is : (w : ℕ) → w < 2 ^ 64 → word_by what w ≡ f w) (after Also : ℕ
+  module _ (what : WordStep) (f : ℕ → ℕ) (is : (w : ℕ) → w < 2 ^ 64 → word_by what w ≡ f w)
+      (after Also : ℕ
       → Fml) (turns : Turns 𝓛 s what (pass s.names.handles s.names.own full_share) Also) where
     abbrev pub HeldSteps : Type 1
     HeldSteps = (j : ℕ) (mark y : Bool) (e : Share) (w n : ℕ) → w < 2 ^ 64 → Says s.limit w mark n
@@ -41,7 +46,8 @@ module _ {M : Type 1} {𝓤 : Ura M} (𝓛 : Logic 𝓤) (s : SharedBlock) where
 
     pub held_step : HeldSteps → Asks 𝓛 s f (fsep ftrue (stake s.names)) (and_logged s [] what after)
     held_step steps = stepped 𝓛 s [] ftrue (unknown 𝓛 s) what f is after (title s.names)
-        (pass s.names.handles s.names.own full_share) Also turns (λ j mark w n small says. qed 𝓛 (‵ (counts s (f w))
+        (pass s.names.handles s.names.own full_share)
+        Also turns (λ j mark w n small says. qed 𝓛 (‵ (counts s (f w))
         ∷ ‵ (beside s mark n) ∷ ‵ (fsep (title s.names) (Also w)) ∷ []) ∵ move ! (2 ∷ []) $ fsplit ! $
         fpick ! (λ e. fsplit ! $ fpick ! (λ y. move ! (0 ∷ 1 ∷ []) $ fjoin ! $ move ! (0 ∷ 1 ∷ []) $ fjoin ! $
         move ! (1 ∷ 2 ∷ 0 ∷ []) $ by ! (steps j mark y e w n small says)))) no_stake
@@ -52,18 +58,23 @@ module _ {M : Type 1} {𝓤 : Ura M} (𝓛 : Logic 𝓤) (s : SharedBlock) where
       (λ j mark y e w n small says. passes_on 𝓛 s w mark n (a_stake s y e) (passed s (right_by_last_read w))
       (bare_last_read s w) (after_last_read s w) j (id⊢ 𝓤 _) (at j mark y e w n says))
     where
-      right_is : (w : ℕ) (y : Bool) → is_marked_word w ≡ y → right_by_last_read w ≡ (if y then nothing else to_lower)
+      right_is : (w : ℕ) (y : Bool)
+          → is_marked_word w ≡ y → right_by_last_read w ≡ (if y then nothing else to_lower)
       right_is w y e = ap (λ z. if z then nothing else to_lower) e
 
       at : (j : ℕ) (mark y : Bool) (e : Share) (w n : ℕ) → Says s.limit w mark n
           → Lands 𝓛 s w mark n (a_stake s y e) (bare_last_read s w) j
-      at j false true e w n says = qed 𝓛 (‵ (counts s w) ∷ ‵ (beside s false n) ∷ ‵ (entitled s.names e true)
-          ∷ ‵ (flft (shared s) e) ∷ []) ∵ use2 𝓛 (‵ (rule s)) (lives 𝓛 s false w n says) $ move ! (1 ∷ []) $
-          fpick ! (λ c. drop ! $ move ! (1 ∷ []) $ use1 𝓛 (‵ (unit_of_count s.names)) (part_in 64 𝓛 s.names.shared e c) $
+      at j false true e w n says = qed 𝓛 (‵ (counts s w) ∷ ‵ (beside s false n)
+          ∷ ‵ (entitled s.names e true)
+          ∷ ‵ (flft (shared s) e) ∷ []) ∵ use2 𝓛 (‵ (rule s)) (lives 𝓛 s false w n says) $
+          move ! (1 ∷ []) $
+          fpick ! (λ c. drop ! $ move ! (1 ∷ []) $
+          use1 𝓛 (‵ (unit_of_count s.names)) (part_in 64 𝓛 s.names.shared e c) $
           use1 𝓛 (‵ (bare_last_read s w)) (regained 𝓛 s to_lower (right_by_last_read w)
           (right_is w false says.0.same_mark)) $ move ! (1 ∷ 0 ∷ []) $
           by ! (asking.closes 𝓛 (rule s) (bare_last_read s w) j))
-      at j false false e w n says = qed 𝓛 (‵ (counts s w) ∷ ‵ (beside s false n) ∷ ‵ (a_stake s false e) ∷ []) ∵
+      at j false false e w n says = qed 𝓛 (‵ (counts s w) ∷ ‵ (beside s false n) ∷ ‵ (a_stake s false e)
+          ∷ []) ∵
           keep ! (1 ∷ 2 ∷ []) $ by ! (not_yet_marked e n _)
       at j true y e w n says = qed 𝓛 (‵ (counts s w) ∷ ‵ (beside s true n) ∷ ‵ (a_stake s y e) ∷ []) ∵
           use2 𝓛 (‵ (rule s)) (lives 𝓛 s true w n says) $ keep ! (0 ∷ []) $ nothing_more ! $

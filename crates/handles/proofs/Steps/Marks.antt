@@ -6,8 +6,10 @@ use Rattle.counting_word.specs.CountingWord.{marked_word}
 use Rattle.counting_word.proofs.Words.{bit_or-mark_bit, stands-marked_word}
 use Rattle.counting_word.specs.WordSteps as step
 use Rattle.handles.proofs.Asking as asking
-use Rattle.handles.proofs.Steps.Shared.{◌≡◌, ℕ, ◌+◌, ◌^◌, ◌<◌, Bool, true, false, [], ◌∷◌, sym, refl, ◌∙◌, subst, arith}
-use Rattle.handles.proofs.Steps.Shared.{Ura, ftrue, Share, Fml, fsep, flft, Logic, ‵, ◌⊛◌, ◌$◌, ◌∵◌, !, qed, by, move}
+use Rattle.handles.proofs.Steps.Shared.{◌≡◌, ℕ, ◌+◌, ◌^◌, ◌<◌, Bool, true, false, [], ◌∷◌}
+use Rattle.handles.proofs.Steps.Shared.{sym, refl, ◌∙◌, subst, arith}
+use Rattle.handles.proofs.Steps.Shared.{Ura, ftrue, Share, Fml, fsep, flft, Logic, ‵, ◌⊛◌, ◌$◌, ◌∵◌}
+use Rattle.handles.proofs.Steps.Shared.{ !, qed, by, move}
 use Rattle.handles.proofs.Steps.Shared.{keep, split, fsplit, fsplit3, fjoin, fjoin3, fpick, fpack, suffices, use1, use2}
 use Rattle.handles.proofs.Steps.Shared.{done, rest, takes, mark_bit, count_of-unmarked, Says, unit_of_count, marked}
 use Rattle.handles.proofs.Steps.Shared.{SharedBlock, shared, counts, beside, rule, Entails, lives, Lands, Asks, stepped}
@@ -24,7 +26,8 @@ abbrev bare_mark : SharedBlock → Share → ℕ → Fml
 bare_mark s q w = bare_share s q
 
 module _ {M : Type 1} {𝓤 : Ura M} (𝓛 : Logic 𝓤) (s : SharedBlock) (q : Share) where
-  pub marks : Asks 𝓛 s (λ w. bit_or w (2 ^ 63)) (fsep ftrue (a_share s q)) (and_logged s [] step.marks (after_mark s q))
+  pub marks : Asks 𝓛 s (λ w. bit_or w (2 ^ 63)) (fsep ftrue (a_share s q))
+      (and_logged s [] step.marks (after_mark s q))
   marks = stepped 𝓛 s [] ftrue (unknown 𝓛 s) step.marks (λ w. bit_or w (2 ^ 63))
       (λ w small. sym (bit_or-mark_bit w small)) (after_mark s q) (bare_share s q) (pass s.names.handles s.names.own q)
       (λ _. pass s.names.handles s.names.own q)
@@ -40,25 +43,33 @@ module _ {M : Type 1} {𝓤 : Ura M} (𝓛 : Logic 𝓤) (s : SharedBlock) (q : 
       first_mark : (j w n : ℕ) → n < 2 ^ 63 → Says s.limit (marked_word w) true n
           → Lands 𝓛 s (marked_word w) false n (bare_share s q) (bare_mark s q w) j
       first_mark j w n low says =
-          qed 𝓛 (‵ (counts s (marked_word w)) ∷ ‵ (beside s false n) ∷ ‵ (bare_share s q) ∷ []) ∵ move ! (1 ∷ []) $
+          qed 𝓛 (‵ (counts s (marked_word w)) ∷ ‵ (beside s false n) ∷ ‵ (bare_share s q) ∷ [])
+          ∵ move ! (1 ∷ []) $
           fsplit3 ! $ move ! (1 ∷ []) $ fsplit ! $ move ! (3 ∷ 4 ∷ 2 ∷ 1 ∷ 5 ∷ []) $
           suffices ! _ (asking.ends_first 𝓛 (rule s) (bare_mark s q w) s.names.unmarked j
           (Had (marked_word w) n) ends) $ keep ! (0 ∷ 1 ∷ 2 ∷ 3 ∷ 4 ∷ []) $ done !
         where
           ends : Entails 𝓛 (fsep (marked s.names) (Had (marked_word w) n)) (fsep (rule s) (bare_mark s q w))
-          ends = qed 𝓛 (‵ (marked s.names) ∷ ‵ (counts s (marked_word w)) ∷ ‵ (rest 64 s.names.shared n) ∷ ‵ s.kept
+          ends = qed 𝓛 (‵ (marked s.names) ∷ ‵ (counts s (marked_word w)) ∷ ‵ (rest 64 s.names.shared n)
+              ∷ ‵ s.kept
               ∷ ‵ (bare_share s q) ∷ []) ∵ move ! (2 ∷ []) $
-              use1 𝓛 (‵ (rest 64 s.names.shared (n + 1)) ⊛ ‵ (unit_of_count s.names)) (takes 64 𝓛 s.names.shared n (omega arith)) $ split ! $ move ! (1 ∷ []) $ fpick ! (λ e. fpick ! (λ c. fpack ! Share (λ e. flft (shared s) e) e $
+              use1 𝓛 (‵ (rest 64 s.names.shared (n + 1)) ⊛ ‵ (unit_of_count s.names))
+              (takes 64 𝓛 s.names.shared n (omega arith)) $ split ! $ move ! (1 ∷ []) $
+              fpick ! (λ e. fpick ! (λ c. fpack ! Share (λ e. flft (shared s) e) e $
               -- [the pool; the parts; the mark; the word; what is kept; the token]
-              move ! (0 ∷ 4 ∷ []) $ fjoin ! $ move ! (1 ∷ 0 ∷ 2 ∷ []) $ fjoin3 ! $ move ! (1 ∷ 0 ∷ []) $ use2 𝓛 (‵ (rule s)) (lives 𝓛 s true (marked_word w) n says) $ done !))
+              move ! (0 ∷ 4 ∷ []) $ fjoin ! $ move ! (1 ∷ 0 ∷ 2 ∷ []) $ fjoin3 ! $
+              move ! (1 ∷ 0 ∷ []) $ use2 𝓛 (‵ (rule s)) (lives 𝓛 s true (marked_word w) n says) $
+              done !))
 
       at_word : (j : ℕ) (mark : Bool) (w n : ℕ) → w < 2 ^ 64 → Says s.limit w mark n
           → Lands 𝓛 s (marked_word w) mark n (bare_share s q) (bare_mark s q w) j
       at_word j false w n small says =
           let low : w < 9223372036854775808 = leb-false mark_bit w says.0.same_mark in
           let same : n ≡ w = sym (says.0.counts_live refl) ∙ count_of-unmarked w says.0.same_mark in
-          first_mark j w n (omega arith) (says-marked s.limit (marked_word w) n (stands-marked_word w n n false says.0 (omega arith)))
-      at_word j true w n small says = qed 𝓛 (‵ (counts s (marked_word w)) ∷ ‵ (beside s true n) ∷ ‵ (bare_share s q)
+          first_mark j w n (omega arith) (says-marked s.limit (marked_word w)
+          n (stands-marked_word w n n false says.0 (omega arith)))
+      at_word j true w n small says = qed 𝓛 (‵ (counts s (marked_word w)) ∷ ‵ (beside s true n)
+          ∷ ‵ (bare_share s q)
           ∷ []) ∵
           use2 𝓛 (‵ (rule s)) (lives 𝓛 s true (marked_word w) n (says-marked s.limit (marked_word w) n
           (stands-marked_word w n n true says.0 (omega arith)))) $

@@ -6,9 +6,12 @@ use Rattle.counting_word.specs.CountingWord.{greatest_count}
 use Rattle.counting_word.proofs.Words.{stands-raised}
 use Rattle.counting_word.specs.WordSteps as step
 use Rattle.counting_word.specs.Rights.{right_by_raise}
-use Rattle.handles.proofs.Steps.Shared.{◌≡◌, ◌≢◌, ℕ, ◌+◌, ◌%◌, ◌<◌, ◌≤◌, Bool, true, false, [], ◌∷◌, sym, refl, ap, ◌∙◌}
-use Rattle.handles.proofs.Steps.Shared.{subst, arith, eq-eqb, ne_eqb, if◌then◌else◌, dite, ℕ_discrete, Ura, Share, Fml}
-use Rattle.handles.proofs.Steps.Shared.{Logic, ‵, ◌⊛◌, ◌$◌, ◌∵◌, !, qed, by, move, split, fsplit, fjoin, use1, use2}
+use Rattle.handles.proofs.Steps.Shared.{◌≡◌, ◌≢◌, ℕ, ◌+◌, ◌%◌, ◌<◌, ◌≤◌, Bool, true}
+use Rattle.handles.proofs.Steps.Shared.{false, [], ◌∷◌, sym, refl, ap, ◌∙◌}
+use Rattle.handles.proofs.Steps.Shared.{subst, arith, eq-eqb, ne_eqb, if◌then◌else◌, dite, ℕ_discrete, Ura}
+use Rattle.handles.proofs.Steps.Shared.{Share, Fml}
+use Rattle.handles.proofs.Steps.Shared.{Logic, ‵, ◌⊛◌, ◌$◌, ◌∵◌, !, qed, by, move, split, fsplit}
+use Rattle.handles.proofs.Steps.Shared.{fjoin, use1, use2}
 use Rattle.handles.proofs.Steps.Shared.{rest, takes, mark_bit, StandsFor, count_of-unmarked, nothing, a_handle}
 use Rattle.handles.proofs.Steps.Shared.{right_by_read, Says, unit_of_count, title, pass, passed, passes_on, SharedBlock}
 use Rattle.handles.proofs.Steps.Shared.{counts, beside, rule, gained, counted_stake, lives, regained, Lands, Asks}
@@ -32,7 +35,8 @@ bare_raise s q seen w = bare_told s q w (right_by_raise seen w)
 lost : (seen w : ℕ) → w ≢ seen → right_by_raise seen w ≡ right_by_read w
 lost seen w other = ap (λ y. if y then a_handle else right_by_read w) (ne_eqb w seen other)
 
-module _ {M : Type 1} {𝓤 : Ura M} (𝓛 : Logic 𝓤) (s : SharedBlock) (q : Share) (seen : ℕ) (old : List WordStep)
+module _ {M : Type 1} {𝓤 : Ura M} (𝓛 : Logic 𝓤) (s : SharedBlock) (q : Share) (seen : ℕ)
+    (old : List WordStep)
     (below : seen < s.limit) where
   -- a raise that wins
   won : (j n : ℕ) → Says s.limit seen false n → Lands 𝓛 s (seen + 1) false n (bare_share s q)
@@ -42,14 +46,19 @@ module _ {M : Type 1} {𝓤 : Ura M} (𝓛 : Logic 𝓤) (s : SharedBlock) (q : 
       let low : seen < 9223372036854775807 = omega (arith, below, most) in
       let same : n ≡ seen = sym (says.0.counts_live refl) ∙ count_of-unmarked seen says.0.same_mark in
       let room : n ≢ greatest_count = λ full. absurd (omega arith) in
-      let stands : StandsFor (seen + 1) false (n + 1) (n + 1) = stands-unmarked (seen + 1) (n + 1) n (n + 1) (stands-raised seen n n says.0 room) in
+      let stands : StandsFor (seen + 1) false (n + 1) (n + 1) = stands-unmarked (seen + 1) (n + 1) n (n + 1)
+      (stands-raised seen n n says.0 room) in
       let within : (seen + 1) % 9223372036854775808 ≤ s.limit = omega (arith, below) in
       let next : Says s.limit (seen + 1) false (n + 1) = (stands, λ _. within) in
-      let wins : right_by_raise seen seen ≡ a_handle = ap (λ y. if y then a_handle else right_by_read seen) (eq-eqb seen seen refl) in
-      qed 𝓛 (‵ (counts s (seen + 1)) ∷ ‵ (beside s false n) ∷ ‵ (bare_share s q) ∷ []) ∵ move ! (1 ∷ []) $ fsplit ! $
-      use1 𝓛 (‵ (rest 64 s.names.shared (n + 1)) ⊛ ‵ (unit_of_count s.names)) (takes 64 𝓛 s.names.shared n (omega arith)) $ split ! $
+      let wins : right_by_raise seen seen ≡ a_handle = ap (λ y. if y then a_handle else right_by_read seen)
+      (eq-eqb seen seen refl) in
+      qed 𝓛 (‵ (counts s (seen + 1)) ∷ ‵ (beside s false n) ∷ ‵ (bare_share s q) ∷ [])
+      ∵ move ! (1 ∷ []) $ fsplit ! $
+      use1 𝓛 (‵ (rest 64 s.names.shared (n + 1)) ⊛ ‵ (unit_of_count s.names))
+      (takes 64 𝓛 s.names.shared n (omega arith)) $ split ! $
       -- [the parts; the part; the lender and the mark; the word; the token]
-      move ! (0 ∷ 2 ∷ []) $ fjoin ! $ move ! (2 ∷ 0 ∷ []) $ use2 𝓛 (‵ (rule s)) (lives 𝓛 s false (seen + 1) (n + 1) next) $ move ! (1 ∷ []) $
+      move ! (0 ∷ 2 ∷ []) $ fjoin ! $ move ! (2 ∷ 0 ∷ []) $
+      use2 𝓛 (‵ (rule s)) (lives 𝓛 s false (seen + 1) (n + 1) next) $ move ! (1 ∷ []) $
       use1 𝓛 (‵ (title s.names)) (counted_stake 𝓛 s.names) $
       use1 𝓛 (‵ (gained s (right_by_raise seen seen))) (regained 𝓛 s a_handle (right_by_raise seen seen) wins) $
       move ! (1 ∷ 0 ∷ []) $ by ! (shut 𝓛 s q (right_by_raise seen seen) j seen says.1)
@@ -64,7 +73,8 @@ module _ {M : Type 1} {𝓤 : Ura M} (𝓛 : Logic 𝓤) (s : SharedBlock) (q : 
   abbrev Also : ℕ → Fml
   Also w = fsep (pass s.names.handles s.names.own q) (passed s (right_by_raise seen w))
 
-  pub raises : (next : ℕ) → next ≡ seen + 1 → Asks 𝓛 s (raised seen next) (fsep (reached s.log old) (a_share s q))
+  pub raises : (next : ℕ) → next ≡ seen + 1 → Asks 𝓛 s (raised seen next) (fsep (reached s.log old)
+      (a_share s q))
       (and_logged s old (step.raises_from seen) (after_raise s q seen))
   raises next is_next = subst (λ m. Asks 𝓛 s (raised seen m) (fsep (reached s.log old) (a_share s q))
       (and_logged s old (step.raises_from seen) (after_raise s q seen))) (sym is_next)
@@ -79,8 +89,10 @@ module _ {M : Type 1} {𝓤 : Ura M} (𝓛 : Logic 𝓤) (s : SharedBlock) (q : 
       F j mark w n y = Lands 𝓛 s (either y (seen + 1) w) mark n (bare_share s q) (bare_raise s q seen w) j
 
       missed : (j : ℕ) (mark : Bool) (w n : ℕ) → w ≢ seen → Says s.limit w mark n → F j mark w n false
-      missed j true w n other says = found_marked 𝓛 s q (right_by_raise seen w) (lost seen w other ∙ ap (λ y. if y then a_handle else nothing) says.0.same_mark) j w n says
-      missed j false w n other says = found_unmarked 𝓛 s q (right_by_raise seen w) (lost seen w other ∙ ap (λ y. if y then a_handle else nothing) says.0.same_mark) j w n says
+      missed j true w n other says = found_marked 𝓛 s q (right_by_raise seen w)
+          (lost seen w other ∙ ap (λ y. if y then a_handle else nothing) says.0.same_mark) j w n says
+      missed j false w n other says = found_unmarked 𝓛 s q (right_by_raise seen w)
+          (lost seen w other ∙ ap (λ y. if y then a_handle else nothing) says.0.same_mark) j w n says
 
       same_word : (j : ℕ) (mark : Bool) (n : ℕ) → Says s.limit seen mark n → F j mark seen n true
       same_word j true n says = let most : s.limit ≤ 9223372036854775807 = s.most in
@@ -90,5 +102,6 @@ module _ {M : Type 1} {𝓤 : Ura M} (𝓛 : Logic 𝓤) (s : SharedBlock) (q : 
 
       at : (j : ℕ) (mark : Bool) (w n : ℕ) → Says s.limit w mark n → F j mark w n (eqb w seen)
       at j mark w n says = dite (ℕ_discrete w seen)
-          (λ same. subst (λ z. F j mark z n (eqb z seen)) (sym same) (subst (F j mark seen n) (sym (eq-eqb seen seen refl)) (same_word j mark n (subst (λ z. Says s.limit z mark n) same says))))
+          (λ same. subst (λ z. F j mark z n (eqb z seen)) (sym same) (subst (F j mark seen n)
+          (sym (eq-eqb seen seen refl)) (same_word j mark n (subst (λ z. Says s.limit z mark n) same says))))
           (λ other. subst (F j mark w n) (sym (ne_eqb w seen other)) (missed j mark w n other says))

@@ -8,8 +8,10 @@ use Rattle.handles.proofs.Steps.Shared.{WordStep, List, fsplit, fsplit3, done}
 use Rattle.handles.proofs.Asking as asking
 use Rattle.handles.proofs.Steps.Turns.{turns_read, turns_none}
 use base.Logic.{id⊢}
-use Rattle.handles.proofs.Steps.Shared.{unshared, ◌≡◌, ℕ, true, false, [], ◌∷◌, ap, if◌then◌else◌, Ura, ent, never}
-use Rattle.handles.proofs.Steps.Shared.{Share, Fml, fsep, flft, Logic, sem, ‵, ◌⊛◌, ◌$◌, ◌∵◌, !, qed, by, move, split}
+use Rattle.handles.proofs.Steps.Shared.{unshared, ◌≡◌, ℕ, true, false, [], ◌∷◌, ap, if◌then◌else◌}
+use Rattle.handles.proofs.Steps.Shared.{Ura, ent, never}
+use Rattle.handles.proofs.Steps.Shared.{Share, Fml, fsep, flft, Logic, sem, ‵, ◌⊛◌, ◌$◌, ◌∵◌, !, qed}
+use Rattle.handles.proofs.Steps.Shared.{by, move, split}
 use Rattle.handles.proofs.Steps.Shared.{fjoin, fpack, use1, use2, nothing_more, nothing, a_handle, right_by_read, Says}
 use Rattle.handles.proofs.Steps.Shared.{title, SharedBlock, shared, counts, beside, rule, gained, gains, passed, pass}
 use Rattle.handles.proofs.Steps.Shared.{Bool, passes_on, Entails, no_token, lives, regained, makes_one, Lands, Asks}
@@ -40,8 +42,10 @@ module _ (s : SharedBlock) (q : Share) where
 
 module _ {M : Type 1} {𝓤 : Ura M} (𝓛 : Logic 𝓤) (s : SharedBlock) (q : Share) where
   pub told_logged : (old : List WordStep) (what : WordStep) (w : ℕ) (r : Right)
-      → ent 𝓤 (sem 𝓛 (fsep (logged s.limit s.log old what w) (told s q w r))) (sem 𝓛 (told_with s q old what w r))
-  told_logged old what w r = qed 𝓛 (‵ (fsep (logged s.limit s.log old what w) (told s q w r)) ∷ []) ∵ fsplit ! $
+      → ent 𝓤 (sem 𝓛 (fsep (logged s.limit s.log old what w) (told s q w r)))
+      (sem 𝓛 (told_with s q old what w r))
+  told_logged old what w r = qed 𝓛 (‵ (fsep (logged s.limit s.log old what w) (told s q w r)) ∷ [])
+      ∵ fsplit ! $
       move ! (1 ∷ []) $ fsplit3 ! $ move ! (3 ∷ 2 ∷ []) $ fjoin ! $ move ! (2 ∷ 0 ∷ []) $ fjoin ! $
       move ! (1 ∷ 0 ∷ []) $ fjoin ! $ done !
 
@@ -52,27 +56,33 @@ module _ {M : Type 1} {𝓤 : Ura M} (𝓛 : Logic 𝓤) (s : SharedBlock) (q : 
   pub shut : (r : Right) (j w : ℕ) → IsWithin w s.limit
       → ent 𝓤 (sem 𝓛 (fsep (rule s) (fsep (gained s r) (bare_share s q)))) (asking.Ending 𝓛 (rule s)
       (bare_told s q w r) j)
-  shut r j w within = qed 𝓛 (‵ (rule s) ∷ ‵ (gained s r) ∷ ‵ (bare_share s q) ∷ []) ∵ move ! (1 ∷ []) $ nothing_more ! $
+  shut r j w within = qed 𝓛 (‵ (rule s) ∷ ‵ (gained s r) ∷ ‵ (bare_share s q) ∷ [])
+      ∵ move ! (1 ∷ []) $ nothing_more ! $
       fpack ! (IsWithin w s.limit) (λ _. ftrue) within $ fjoin ! $
-      move ! (2 ∷ 0 ∷ []) $ fjoin ! $ move ! (1 ∷ 0 ∷ []) $ by ! (asking.closes 𝓛 (rule s) (bare_told s q w r) j)
+      move ! (2 ∷ 0 ∷ []) $ fjoin ! $ move ! (1 ∷ 0 ∷ []) $
+      by ! (asking.closes 𝓛 (rule s) (bare_told s q w r) j)
 
   -- the word is as it was, and the rest comes by what is read
   pub found_marked : (r : Right) → r ≡ a_handle → (j w n : ℕ) → Says s.limit w true n
       → Lands 𝓛 s w true n (bare_share s q) (bare_told s q w r) j
-  found_marked r e j w n says = qed 𝓛 (‵ (counts s w) ∷ ‵ (beside s true n) ∷ ‵ (bare_share s q) ∷ []) ∵
+  found_marked r e j w n says = qed 𝓛 (‵ (counts s w) ∷ ‵ (beside s true n) ∷ ‵ (bare_share s q) ∷ [])
+      ∵
       use2 𝓛 (‵ (rule s) ⊛ ‵ (title s.names)) (makes_one 𝓛 s w n says) $ split ! $ move ! (1 ∷ []) $
       use1 𝓛 (‵ (gained s r)) (regained 𝓛 s a_handle r e) $ move ! (1 ∷ 0 ∷ []) $ by ! (shut r j w says.1)
 
   pub found_unmarked : (r : Right) → r ≡ nothing → (j w n : ℕ) → Says s.limit w false n
       → Lands 𝓛 s w false n (bare_share s q) (bare_told s q w r) j
-  found_unmarked r e j w n says = qed 𝓛 (‵ (counts s w) ∷ ‵ (beside s false n) ∷ ‵ (bare_share s q) ∷ []) ∵
+  found_unmarked r e j w n says = qed 𝓛 (‵ (counts s w) ∷ ‵ (beside s false n) ∷ ‵ (bare_share s q)
+      ∷ []) ∵
       use2 𝓛 (‵ (rule s)) (lives 𝓛 s false w n says) $ nothing_more ! $
       use1 𝓛 (‵ (gained s r)) (regained 𝓛 s nothing r e) $ move ! (1 ∷ 0 ∷ []) $ by ! (shut r j w says.1)
 
   -- the passes are told too
-  pub told_passed : (w : ℕ) (r : Right) → Entails 𝓛 (fsep (bare_told s q w r) (fsep (pass s.names.handles s.names.own q)
+  pub told_passed : (w : ℕ) (r : Right) → Entails 𝓛 (fsep (bare_told s q w r)
+      (fsep (pass s.names.handles s.names.own q)
       (passed s r))) (told s q w r)
-  told_passed w r = qed 𝓛 (‵ (bare_told s q w r) ∷ ‵ (fsep (pass s.names.handles s.names.own q) (passed s r)) ∷ []) ∵
+  told_passed w r = qed 𝓛 (‵ (bare_told s q w r) ∷ ‵ (fsep (pass s.names.handles s.names.own q)
+      (passed s r)) ∷ []) ∵
       fsplit3 ! $ move ! (3 ∷ []) $ fsplit ! $
       -- [the pass; the pass that goes with the right; the share; what is told; the right]
       move ! (2 ∷ 0 ∷ []) $ fjoin ! $ move ! (3 ∷ 1 ∷ []) $ fjoin ! $ move ! (2 ∷ 0 ∷ []) $ fjoin ! $
@@ -80,17 +90,20 @@ module _ {M : Type 1} {𝓤 : Ura M} (𝓛 : Logic 𝓤) (s : SharedBlock) (q : 
 
   -- a load that only asks
   pub asks : Asks 𝓛 s (λ w. w) (fsep ftrue (a_share s q)) (and_logged s [] step.asks (λ _. a_share s q))
-  asks = stepped 𝓛 s [] ftrue (unknown 𝓛 s) step.asks (λ w. w) (λ w _. refl) (λ _. a_share s q) (bare_share s q)
+  asks = stepped 𝓛 s [] ftrue (unknown 𝓛 s) step.asks (λ w. w) (λ w _. refl) (λ _. a_share s q)
+      (bare_share s q)
       (pass s.names.handles s.names.own q) (λ _. pass s.names.handles s.names.own q) (turns_none 𝓛 s q step.asks
       (λ p some. some) (λ p. refl) (λ p. refl))
       (λ j mark w n small says. passes_on 𝓛 s w mark n (bare_share s q) (pass s.names.handles s.names.own q)
       (bare_share s q) (a_share s q) j (id⊢ 𝓤 _)
       (qed 𝓛 (‵ (counts s w) ∷ ‵ (beside s mark n) ∷ ‵ (bare_share s q) ∷ []) ∵
-      use2 𝓛 (‵ (rule s)) (lives 𝓛 s mark w n says) $ by ! (asking.closes 𝓛 (rule s) (bare_share s q) j))) no_share
+      use2 𝓛 (‵ (rule s)) (lives 𝓛 s mark w n says) $
+      by ! (asking.closes 𝓛 (rule s) (bare_share s q) j))) no_share
 
   pub reads : Asks 𝓛 s (λ w. w) (fsep ftrue (a_share s q)) (and_logged s [] step.reads (after_read s q))
   reads = stepped 𝓛 s [] ftrue (unknown 𝓛 s) step.reads (λ w. w) (λ w _. refl) (after_read s q) (bare_share s q)
-      (pass s.names.handles s.names.own q) (λ w. fsep (pass s.names.handles s.names.own q) (passed s (right_by_read w)))
+      (pass s.names.handles s.names.own q) (λ w. fsep (pass s.names.handles s.names.own q)
+      (passed s (right_by_read w)))
       (turns_read 𝓛 s q)
       (λ j mark w n small says. passes_on 𝓛 s w mark n (bare_share s q) (fsep (pass s.names.handles s.names.own q)
       (passed s (right_by_read w))) (bare_told s q w (right_by_read w)) (after_read s q w) j

@@ -1,18 +1,25 @@
 -- What the word of a block says, when its mark or its count changes.
-use Rattle.std.proofs.Common.{◌≡◌, ℕ, ◌≤◌, Bool, true, false, sym, ◌∙◌, subst, le_trans, true≢false}
+use Rattle.std.proofs.Common.{◌≡◌, ℕ, ◌≤◌, Bool, true, false, sym, ◌∙◌, subst, le_trans}
+use Rattle.std.proofs.Common.{true≢false}
 use Rattle.counting_word.specs.CountingWord.{count_of, StandsFor}
 use Rattle.handles.specs.Inside.Blocks.{Says}
 
 -- Without the mark the drops in flight are among the live handles, however many they are.
-pub stands-unmarked : (word live in_drop other : ℕ) → StandsFor word false live in_drop → StandsFor word false live other
-stands-unmarked word live in_drop other s = record { same_mark = s.same_mark; counts_live = s.counts_live; covers_drops = λ m. absurd (true≢false (sym m)) }
+pub stands-unmarked : (word live in_drop other : ℕ)
+    → StandsFor word false live in_drop → StandsFor word false live other
+stands-unmarked word live in_drop other s = record {
+  same_mark = s.same_mark;
+  counts_live = s.counts_live;
+  covers_drops = λ m. absurd (true≢false (sym m));
+}
 
 -- With the mark a word says nothing of its limit.
 pub says-marked : (limit word n : ℕ) → StandsFor word true n n → Says limit word true n
 says-marked limit word n s = (s, λ unmarked. absurd (true≢false (sym s.same_mark ∙ unmarked)))
 
 -- Fewer parts are within the limit too.
-pub says-fewer : (limit word less n k : ℕ) (mark : Bool) → Says limit word mark n → k ≤ n → StandsFor less mark k k → Says limit less mark k
+pub says-fewer : (limit word less n k : ℕ) (mark : Bool)
+    → Says limit word mark n → k ≤ n → StandsFor less mark k k → Says limit less mark k
 says-fewer limit word less n k mark s fewer t = (
   t,
   λ unmarked.

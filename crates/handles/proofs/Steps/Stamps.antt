@@ -6,7 +6,11 @@ use denote.RawPtr.{block_ptr}
 use Rattle.core.specs.Sync.RawAtomic.{asks, always, word}
 use Rattle.handles.specs.Inside.Blocks.{living}
 use Rattle.handles.proofs.Asking as asking
-use Rattle.handles.proofs.Steps.Shared.{finv, ℕ, ◌+◌, Bool, true, false, [], ◌∷◌, Ura, full_share, SProp, ent, never, Share, Fml, fsep, fex, flft, flent, Logic, sem, ‵, ◌⊛◌, ◌$◌, ◌∵◌, !, qed, by, move, keep, split, fsplit, fsplit3, fjoin, fjoin3, fpick, fpack, frame, suffices, use1, use2, done, rest, marked, Stage, over, SharedBlock, shared, unmarked, beside, at_stage, rule, Entails}
+use Rattle.handles.proofs.Steps.Shared.{finv, ℕ, ◌+◌, Bool, true, false, [], ◌∷◌, Ura, full_share, SProp}
+use Rattle.handles.proofs.Steps.Shared.{ent, never, Share, Fml, fsep, fex, flft, flent, Logic, sem, ‵, ◌⊛◌}
+use Rattle.handles.proofs.Steps.Shared.{◌$◌, ◌∵◌, !, qed, by, move, keep, split, fsplit, fsplit3, fjoin}
+use Rattle.handles.proofs.Steps.Shared.{fjoin3, fpick, fpack, frame, suffices, use1, use2, done, rest, marked, Stage}
+use Rattle.handles.proofs.Steps.Shared.{over, SharedBlock, shared, unmarked, beside, at_stage, rule, Entails}
 use Rattle.handles.proofs.Steps.Reads.{a_share}
 
 -- that word, at the offset o
@@ -26,26 +30,40 @@ module _ {M : Type 1} {𝓤 : Ura M} (𝓛 : Logic 𝓤) (s : SharedBlock) (o : 
   Others false n = fsep (rest 64 s.names.shared n) (fsep (flent (shared s) s.content) (flft (unmarked s) full_share))
   Others true n = fsep (rest 64 s.names.shared (n + 1)) (fsep (fex Share (λ e. flft (shared s) e)) (marked s.names))
 
-  comes_out : (mark : Bool) (n : ℕ) → Entails 𝓛 (beside (keeps s o) mark n) (fsep (kept_word s o) (Others mark n))
+  comes_out : (mark : Bool) (n : ℕ) → Entails 𝓛 (beside (keeps s o) mark n) (fsep (kept_word s o)
+      (Others mark n))
   unfolding Others
-  comes_out false n = qed 𝓛 (‵ (beside (keeps s o) false n) ∷ []) ∵ fsplit3 ! $ move ! (1 ∷ []) $ fsplit ! $ move ! (2 ∷ 0 ∷ 3 ∷ 1 ∷ []) $ fjoin3 ! $ move ! (1 ∷ 0 ∷ []) $ done !
-  comes_out true n = qed 𝓛 (‵ (beside (keeps s o) true n) ∷ []) ∵ fsplit3 ! $ move ! (1 ∷ []) $ fsplit ! $ move ! (2 ∷ 0 ∷ 3 ∷ 1 ∷ []) $ fjoin3 ! $ move ! (1 ∷ 0 ∷ []) $ done !
+  comes_out false n = qed 𝓛 (‵ (beside (keeps s o) false n) ∷ []) ∵ fsplit3 ! $ move ! (1 ∷ []) $
+      fsplit ! $ move ! (2 ∷ 0 ∷ 3 ∷ 1 ∷ []) $ fjoin3 ! $ move ! (1 ∷ 0 ∷ []) $ done !
+  comes_out true n = qed 𝓛 (‵ (beside (keeps s o) true n) ∷ []) ∵ fsplit3 ! $ move ! (1 ∷ []) $ fsplit ! $
+      move ! (2 ∷ 0 ∷ 3 ∷ 1 ∷ []) $ fjoin3 ! $ move ! (1 ∷ 0 ∷ []) $ done !
 
   goes_in : (mark : Bool) (n : ℕ) → Entails 𝓛 (fsep (kept_word s o) (Others mark n)) (beside (keeps s o) mark n)
   unfolding Others
-  goes_in false n = qed 𝓛 (‵ (kept_word s o) ∷ ‵ (Others false n) ∷ []) ∵ move ! (1 ∷ []) $ fsplit3 ! $ move ! (1 ∷ 3 ∷ []) $ fjoin ! $ move ! (1 ∷ 0 ∷ 2 ∷ []) $ fjoin3 ! $ done !
-  goes_in true n = qed 𝓛 (‵ (kept_word s o) ∷ ‵ (Others true n) ∷ []) ∵ move ! (1 ∷ []) $ fsplit3 ! $ move ! (1 ∷ 3 ∷ []) $ fjoin ! $ move ! (1 ∷ 0 ∷ 2 ∷ []) $ fjoin3 ! $ done !
+  goes_in false n = qed 𝓛 (‵ (kept_word s o) ∷ ‵ (Others false n) ∷ []) ∵ move ! (1 ∷ []) $
+      fsplit3 ! $ move ! (1 ∷ 3 ∷ []) $ fjoin ! $ move ! (1 ∷ 0 ∷ 2 ∷ []) $ fjoin3 ! $ done !
+  goes_in true n = qed 𝓛 (‵ (kept_word s o) ∷ ‵ (Others true n) ∷ []) ∵ move ! (1 ∷ []) $ fsplit3 ! $
+      move ! (1 ∷ 3 ∷ []) $ fjoin ! $ move ! (1 ∷ 0 ∷ 2 ∷ []) $ fjoin3 ! $ done !
 
-  pub stamps : ent 𝓤 (sem 𝓛 (fsep (finv I) (a_share s q))) (asks 𝓛 (block_ptr s.block o) f always (λ _. a_share s q))
-  stamps = asking.opened 𝓛 I s.block o f (λ _. a_share s q) (a_share s q) (λ j. qed 𝓛 (‵ I ∷ ‵ (a_share s q) ∷ []) ∵ suffices ! _ (upd_i 𝓤 (Goes j)) $ fpick ! (λ g. by ! (at j g)))
+  pub stamps : ent 𝓤 (sem 𝓛 (fsep (finv I) (a_share s q))) (asks 𝓛 (block_ptr s.block o)
+      f always (λ _. a_share s q))
+  stamps = asking.opened 𝓛 I s.block o f (λ _. a_share s q) (a_share s q)
+      (λ j. qed 𝓛 (‵ I ∷ ‵ (a_share s q) ∷ []) ∵ suffices ! _ (upd_i 𝓤 (Goes j)) $
+      fpick ! (λ g. by ! (at j g)))
     where
       Goes : ℕ → SProp 𝓤
       Goes j = ex 𝓤 (asking.Lies 𝓛 I s.block o f (λ _. a_share s q) j)
 
       at : (j : ℕ) (g : Stage) → ent 𝓤 (sem 𝓛 (fsep (at_stage (keeps s o) g) (a_share s q))) (Goes j)
-      at j (living mark w n) = qed 𝓛 (‵ (at_stage (keeps s o) (living mark w n)) ∷ ‵ (a_share s q) ∷ []) ∵ fsplit3 ! $ move ! (2 ∷ []) $
-          use1 𝓛 (‵ (kept_word s o) ⊛ ‵ (Others mark n)) (comes_out mark n) $ split ! $ fpick ! (λ k. show ! (asking.Lies 𝓛 I s.block o f (λ _. a_share s q) j) k $ frame ! $ assume ! (‵ (word s.block o (f k))) $
-          fpack ! ℕ (λ k. word s.block o k) (f k) $ use2 𝓛 (‵ (beside (keeps s o) mark n)) (goes_in mark n) $ move ! (1 ∷ 2 ∷ 0 ∷ []) $ fjoin3 ! $
+      at j (living mark w n) = qed 𝓛 (‵ (at_stage (keeps s o) (living mark w n)) ∷ ‵ (a_share s q) ∷ [])
+          ∵ fsplit3 ! $ move ! (2 ∷ []) $
+          use1 𝓛 (‵ (kept_word s o) ⊛ ‵ (Others mark n)) (comes_out mark n) $ split ! $
+          fpick ! (λ k. show ! (asking.Lies 𝓛 I s.block o f (λ _. a_share s q) j) k $ frame ! $
+          assume ! (‵ (word s.block o (f k))) $
+          fpack ! ℕ (λ k. word s.block o k) (f k) $ use2 𝓛 (‵ (beside (keeps s o) mark n)) (goes_in mark n) $
+          move ! (1 ∷ 2 ∷ 0 ∷ []) $ fjoin3 ! $
           fpack ! Stage (at_stage (keeps s o)) (living mark w n) $ by ! (asking.closes 𝓛 I (a_share s q) j))
-      at j over = via 𝓤 (never 𝓤) (qed 𝓛 (‵ (at_stage (keeps s o) over) ∷ ‵ (a_share s q) ∷ []) ∵ fsplit ! $
-          move ! (2 ∷ []) $ fsplit ! $ keep ! (0 ∷ 2 ∷ []) $ by ! (𝓛.lfts.lft-dead (shared s) q)) (never_e 𝓤 (Goes j))
+      at j over = via 𝓤 (never 𝓤) (qed 𝓛 (‵ (at_stage (keeps s o) over) ∷ ‵ (a_share s q) ∷ [])
+          ∵ fsplit ! $
+          move ! (2 ∷ []) $ fsplit ! $ keep ! (0 ∷ 2 ∷ []) $
+          by ! (𝓛.lfts.lft-dead (shared s) q)) (never_e 𝓤 (Goes j))

@@ -4,7 +4,8 @@ use Rattle.std.specs.Cmp.{IsPartialEquivalence, IsEquivalence, on_per, on_equiv,
 use Rattle.std.specs.Cmp.Lexicographic.{pointwise, lists_per, lists_equiv}
 use Rattle.handles.specs.HeaderSlice.{HeaderAndItems}
 
-abbrev pub slice_eq : {H T : Type 0} → (H → H → Bool) → (T → T → Bool) → HeaderAndItems H T → HeaderAndItems H T → Bool
+abbrev pub slice_eq : {H T : Type 0} → (H → H → Bool) → (T → T → Bool)
+    → HeaderAndItems H T → HeaderAndItems H T → Bool
 slice_eq R S x y = R x.header y.header && pointwise S x.items y.items
 
 module _ {H T : Type 0} {R : H → H → Bool} {S : T → T → Bool} where

@@ -14,4 +14,5 @@ module _ {S A : Type 0} (steps : S → Option A → S → Type 0) (source : S) (
 
   -- one more than n, at least
   abbrev pub GivesMore : Type 0
-  GivesMore = (items : List A) × (extra : A) × YieldsThen steps source items (Some extra) after × (length items ≡ n)
+  GivesMore = (items : List A) × (extra : A) × YieldsThen steps source items (Some extra)
+      after × (length items ≡ n)

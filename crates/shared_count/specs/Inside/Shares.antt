@@ -1,5 +1,6 @@
 -- What a seat knows: parts of passes, each with the history that the pass has seen.
-use Rattle.std.specs.Prelude.{ℕ, Bool, true, false, nat_eq, if◌then◌else◌, List, [], ◌∷◌, ◌++◌, map, sum_by, count_by}
+use Rattle.std.specs.Prelude.{ℕ, Bool, true, false, nat_eq, if◌then◌else◌, List, [], ◌∷◌, ◌++◌, map}
+use Rattle.std.specs.Prelude.{sum_by, count_by}
 use Rattle.std.specs.List.{range_with_len}
 use Rattle.shared_count.specs.declared.history.Event.{Event}
 use Rattle.shared_count.specs.declared.view.Known.{Known}

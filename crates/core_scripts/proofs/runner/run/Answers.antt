@@ -3,7 +3,9 @@ use Rattle.core_scripts.proofs.Showing.{core_wrote, core_stopped}
 use Rattle.core_scripts.proofs.runner.run.Goals as goal
 
 pub returns-in_err-runner-clause-wrote : goal.returns-in_err-runner-clause-wrote
-returns-in_err-runner-clause-wrote g c = core_stopped _ _ c.requires.limit _ _ _ (refused_stops _ c.in_err-runner.ensures.refused _ c.from_residual.ensures.1)
+returns-in_err-runner-clause-wrote g c = core_stopped _ _ c.requires.limit _ _ _ (refused_stops _
+    c.in_err-runner.ensures.refused _ c.from_residual.ensures.1)
 
 pub returns-clause-wrote : goal.returns-clause-wrote
-returns-clause-wrote g c = core_wrote (λ runner. runner.core) _ _ _ _ _ _ _ _ c.in_ok-runner.ensures.opened c.run.ensures.wrote
+returns-clause-wrote g c = core_wrote (λ runner. runner.core)
+    _ _ _ _ _ _ _ _ c.in_ok-runner.ensures.opened c.run.ensures.wrote

@@ -16,5 +16,6 @@ pages-preserved g c =
     let long : vec_len page ≡ min n (into_iter_len c.pages.rest) = c.in_ok-page.ensures.len in (
       grind (arith, common_steps, flat_map-append),
       rw c.in_ok-push.ensures.items (IsPaged-push n pages page full (omega arith) (omega arith)),
-      λ some. rw c.in_ok-push.ensures.items (All-push (λ p. vec_len p ≡ n) pages page full (grind (arith, common_steps))),
+      λ some. rw c.in_ok-push.ensures.items (All-push (λ p. vec_len p ≡ n)
+          pages page full (grind (arith, common_steps))),
     )

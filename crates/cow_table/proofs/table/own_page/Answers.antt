@@ -26,6 +26,11 @@ returns g c =
     let items = λ (own : _) (is : _).
     lent_items _ c.requires.copies page own.now is
     ∙ ap vec_items (get_or_read (vec_items old) p page (omega (arith, old.ok.0)) read own.now) in (
-      (refl, λ w ok. put (inner.lender w) w (inner.holds w ok), on_err_weaker c.make_mut-2.result at_err inner.holds-at-none),
+      (
+        refl,
+        λ w ok. put (inner.lender w)
+            w (inner.holds w ok),
+        on_err_weaker c.make_mut-2.result at_err inner.holds-at-none,
+      ),
       record { writes_back = tt; items = IfOk-weaker c.make_mut-2.result _ _ items c.make_mut-2.ensures.value },
     )

@@ -8,7 +8,8 @@ pub loop-command-preserved : goal.loop-command-preserved
 loop-command-preserved g c =
     let at = c.loop-command in
     let command = c.in-Some.command in
-    let steps : into_iter_items at.command-iterator ≡ command ∷ into_iter_items c.next.new.self = c.in-Some.ensures.steps.0 in
+    let steps : into_iter_items at.command-iterator ≡ command ∷ into_iter_items c.next.new.self =
+    c.in-Some.ensures.steps.0 in
     let fewer = c.in-Some.ensures.steps.1 in
     let was = at.invariant.left in
     let short = ap length steps in
@@ -16,7 +17,10 @@ loop-command-preserved g c =
     record {
       all = append_assoc at.yielded (command ∷ []) _ ∙ rw (← steps) at.invariant.all;
       left = omega arith;
-      room = let room = at.invariant.room in let len = c.push_reserved.ensures.len in rw c.push_reserved.ensures.capacity (omega arith);
+      room = let room = at.invariant.room in let len = c.push_reserved.ensures.len in
+          rw c.push_reserved.ensures.capacity (omega arith);
       callable = All-tail may_be_called command _ (subst (All may_be_called) steps at.invariant.callable);
-      run = λ meaning means. rw c.push_reserved.ensures.items (run_more meaning at.yielded c.args.table.now at.replies.items at.table c.serve.new.arg2 command c.serve.result (at.invariant.run meaning means) (means _ _ _ _ c.serve.ensures));
+      run = λ meaning means. rw c.push_reserved.ensures.items (run_more meaning at.yielded c.args.table.now
+          at.replies.items at.table c.serve.new.arg2 command c.serve.result (at.invariant.run meaning means)
+          (means _ _ _ _ c.serve.ensures));
     }

@@ -43,7 +43,8 @@ module _ (R S : RattleType) (h : R.Denot → S.Denot) where
       (C.the_row R).coded (C.the_row S).coded
       (invariant R.Denot) (invariant S.Denot) (λ u. Bool-set _ _) (λ u. Bool-set _ _) (λ u e. e) (λ u e. e)
       (over (I.the_row R)) (over (I.the_row S))
-      (struct_places (I.the_type R) (I.the_type S) ((λ d. handle.with_value d (h d.held.value)), tt) _ (λ d. refl) refl
+      (struct_places (I.the_type R) (I.the_type S) ((λ d. handle.with_value d (h d.held.value)), tt) _ (λ d. refl)
+      refl
       (laid _ _ _ (handle.the_places R S h a), tt))
 
   pub the_codes_placed : Recodes R S h → Recodes (C.the_row R) (C.the_row S) ((the_former this).map R.Denot S.Denot h)
@@ -62,5 +63,6 @@ module _ (X Y : Type 0) (h : X → Y) where
       ≡ V.cmp (h a) (h b)
   the_cmp_natural V V' V'' a b = refl
 
-  pub the_hash_input_natural : (V : hash.Ghosts Y) (V' : eq.Ghosts Y) (a : X) → V.hash_input (h a) ≡ V.hash_input (h a)
+  pub the_hash_input_natural : (V : hash.Ghosts Y) (V' : eq.Ghosts Y) (a : X) → V.hash_input (h a)
+      ≡ V.hash_input (h a)
   the_hash_input_natural V V' a = refl

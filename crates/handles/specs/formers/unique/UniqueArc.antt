@@ -100,7 +100,8 @@ module _ (R S : RattleType) (h : R.Denot → S.Denot) where
       (over (I.the_row R)) (over (I.the_row S))
       (struct_places (I.the_type R) (I.the_type S) ((λ b. in_box b (in_block b.value (h b.value.held.value))), tt) _
       (λ d. refl) refl (
-        laid _ _ _ (box_places (block.the_row R) (block.the_row S) (λ b. in_block b (h b.held.value)) (block_places a)),
+        laid _ _ _ (box_places (block.the_row R) (block.the_row S) (λ b. in_block b (h b.held.value))
+            (block_places a)),
         tt,
       ))
 

@@ -19,6 +19,8 @@ returns-in_err-second-clause-none c =
 pub returns-in_err-third-clause-none : goal.returns-in_err-third-clause-none
 returns-in_err-third-clause-none c =
     let is : c.args.text.now ≡ with_rest (decimal c.in_ok-first.first) (Some c.in-Some.text.now) = search rules in
-    let then : c.in-Some.text.now ≡ with_rest (decimal c.in_ok-second.second) (Some c.in-Some-rest.text.now) = search rules in
-    let none = no_third _ _ _ _ _ c.in_ok-first.ensures.in_range c.in_ok-second.ensures.in_range is then c.in_err-third.ensures.none in
+    let then : c.in-Some.text.now ≡ with_rest (decimal c.in_ok-second.second) (Some c.in-Some-rest.text.now)
+    = search rules in
+    let none = no_third _ _ _ _ _ c.in_ok-first.ensures.in_range c.in_ok-second.ensures.in_range is then
+    c.in_err-third.ensures.none in
     search (rules, none)

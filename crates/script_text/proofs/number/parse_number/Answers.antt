@@ -2,7 +2,8 @@ use Rattle.std.proofs.Common.{rules, ◌≡◌, ℕ, ◌<◌, length, get_or, ar
 use Rattle.std.proofs.lemmas.Grind.{common_steps}
 use Rattle.script_text.specs.Number.{IsNumber}
 use Rattle.script_text.proofs.Numerals.{numeral_of, IfSome-IsNumber, IfNone-IsNumber}
-use Rattle.script_text.proofs.number.parse_number.Goals.{else-first-eq48-via-then-first-eq48+else-not-is_empty, else-first-eq48-via-else-first-eq48}
+use Rattle.script_text.proofs.number.parse_number.Goals.{else-first-eq48-via-then-first-eq48+else-not-is_empty}
+use Rattle.script_text.proofs.number.parse_number.Goals.{else-first-eq48-via-else-first-eq48}
 use Rattle.script_text.proofs.number.parse_number.Goals as goal
 
 pub returns-in_err-first-clause-none : goal.returns-in_err-first-clause-none

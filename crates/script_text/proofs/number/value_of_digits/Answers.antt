@@ -11,7 +11,8 @@ use Rattle.script_text.proofs.Numerals.{AllDigits_at, EachIsDigit}
 use Rattle.script_text.proofs.number.value_of_digits.Goals as goal
 
 -- the digits up to one more place write no more than all of them
-value_so_far : (ds : List ℕ) (i : ℕ) → i < length ds → digits_value 10 (take i ds) * 10 + digit_value (get_or ds i 0) ≤ digits_value 10 ds
+value_so_far : (ds : List ℕ) (i : ℕ) → i < length ds → digits_value 10 (take i ds)
+    * 10 + digit_value (get_or ds i 0) ≤ digits_value 10 ds
 value_so_far ds i h =
     let more = digits_value_more 10 ds i h in
     let least = digits_value-take-le 10 ds (i + 1) (lit≤ tt) in
@@ -36,8 +37,12 @@ pub loop-byte-preserved : goal.loop-byte-preserved
 loop-byte-preserved c =
     let more = digits_value_more 10 c.args.digits.now c.loop-byte.byte-index (omega arith) in
     let here : IsInRange 48 57 (get_or c.args.digits.now c.loop-byte.byte-index 0) = grind (arith, common_steps) in
-    let worth = digit_value_digit (get_or c.args.digits.now c.loop-byte.byte-index 0) here in
-    (below_more (λ k. IsInRange 48 57 (get_or c.args.digits.now k 0)) c.loop-byte.byte-index c.loop-byte.invariant.0 here, grind (arith, common_steps), grind (arith, common_steps))
+    let worth = digit_value_digit (get_or c.args.digits.now c.loop-byte.byte-index 0) here in (
+      below_more (λ k. IsInRange 48 57 (get_or c.args.digits.now k 0))
+          c.loop-byte.byte-index c.loop-byte.invariant.0 here,
+      grind (arith, common_steps),
+      grind (arith, common_steps),
+    )
 
 pub returns-clause-value : goal.returns-clause-value
 returns-clause-value c =

@@ -5,7 +5,9 @@ use Rattle.script_text.proofs.script.run.Given as goal
 
 abbrev pub invariant-loop-line : goal.invariant-loop-line
 invariant-loop-line g l = record {
-  so_far : (written : List ℕ) × SoFar g.I.Interpreter.answers l.initial.interpreter l.script l.number (written ++ l.part.items) l.rest l.interpreter
+  so_far : (written : List ℕ)
+      × SoFar g.I.Interpreter.answers l.initial.interpreter l.script l.number (written ++ l.part.items)
+      l.rest l.interpreter
       × Appends (g.W.Write.contents l.initial.output) (g.W.Write.contents l.output) written;
   in_range : l.number + length l.rest ≤ length l.script;
 }

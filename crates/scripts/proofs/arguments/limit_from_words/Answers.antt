@@ -1,11 +1,13 @@
-use Rattle.std.proofs.Common.{map, ◌≡◌, ℕ, ◌<◌, List, [], ◌∷◌, length, get_or, subst, arith, ◌∙◌, decimal}
+use Rattle.std.proofs.Common.{map, ◌≡◌, ℕ, ◌<◌, List, [], ◌∷◌, length, get_or, subst, arith}
+use Rattle.std.proofs.Common.{◌∙◌, decimal}
 use Rattle.std.proofs.lemmas.Fmt.{decimal_injective}
 use Rattle.script_text.specs.Number.{IsNumber}
 use Rattle.scripts.specs.Arguments.{AskLimit}
 use Rattle.scripts.proofs.arguments.limit_from_words.Goals as goal
 
 -- a word by its place
-map-one : {X : Type 0} (f : X → List ℕ) (xs : List X) (x : X) → length xs ≡ 1 → x ≡ get_or xs 0 x → map f xs ≡ f x ∷ []
+map-one : {X : Type 0} (f : X → List ℕ) (xs : List X) (x : X)
+    → length xs ≡ 1 → x ≡ get_or xs 0 x → map f xs ≡ f x ∷ []
 map-one f [] x one first = absurd (omega arith)
 map-one f (a ∷ []) x one first = let e : x ≡ a = first in cc
 map-one f (a ∷ b ∷ more) x one first = absurd (omega arith)

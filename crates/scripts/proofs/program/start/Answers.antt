@@ -10,4 +10,12 @@ use Rattle.scripts.proofs.program.start.Goals as goal
 pub returns-in-Err-clause-wrote : goal.returns-in-Err-clause-wrote
 returns-in-Err-clause-wrote g c =
     let words = codes "core" ∷ decimal 1 ∷ [] in
-    inr (words, (Err Memory, c.report.ensures.status, did_nothing words _ (Core 1 greatest_count) ([], refl, omega arith, omega arith, refl) _ _ memory_is_stop))
+    inr (
+      words,
+      (
+        Err Memory,
+        c.report.ensures.status,
+        did_nothing words _ (Core 1 greatest_count)
+            ([], refl, omega arith, omega arith, refl) _ _ memory_is_stop,
+      ),
+    )

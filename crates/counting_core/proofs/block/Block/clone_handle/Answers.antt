@@ -14,13 +14,19 @@ plan_clone-requires-clause-within g c = core_within (state c.args.self.now) c.re
 
 pub returns-in-Some-clause-steps : goal.returns-in-Some-clause-steps
 returns-in-Some-clause-steps g c =
-    clone-born (state c.args.self.now) c.args.owner c.args.handle (clone_plan-says c.args.self.now.word c.args.self.now.limit _ (sym c.in-Static.is ∙ c.plan_clone.ensures)) c.requires
+    clone-born (state c.args.self.now)
+    c.args.owner c.args.handle (clone_plan-says c.args.self.now.word c.args.self.now.limit _ (sym c.in-Static.is
+    ∙ c.plan_clone.ensures)) c.requires
     c.in-Some.number c.in-Some.ensures.number c.push_newborn.new.handles.items c.in-Some.ensures.born
 
 pub returns-in-Full-clause-steps : goal.returns-in-Full-clause-steps
 returns-in-Full-clause-steps g c =
-    clone-full (state c.args.self.now) c.args.owner c.args.handle (clone_plan-says c.args.self.now.word c.args.self.now.limit _ (sym c.in-Full.is ∙ c.plan_clone.ensures)) c.requires
+    clone-full (state c.args.self.now)
+    c.args.owner c.args.handle (clone_plan-says c.args.self.now.word c.args.self.now.limit _ (sym c.in-Full.is
+    ∙ c.plan_clone.ensures)) c.requires
 
 pub returns-in-Raise-clause-steps : goal.returns-in-Raise-clause-steps
 returns-in-Raise-clause-steps g c =
-    clone-pending (state c.args.self.now) c.args.owner c.args.handle _ (clone_plan-says c.args.self.now.word c.args.self.now.limit _ (sym c.in-Raise.is ∙ c.plan_clone.ensures)) c.requires
+    clone-pending (state c.args.self.now)
+    c.args.owner c.args.handle _ (clone_plan-says c.args.self.now.word c.args.self.now.limit _ (sym c.in-Raise.is
+    ∙ c.plan_clone.ensures)) c.requires

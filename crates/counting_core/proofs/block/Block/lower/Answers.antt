@@ -10,7 +10,8 @@ overflow_sub-self g c = lower-positive (state c.args.self.now) c.args.owner c.ar
 pub index_mut-requires-2 : goal.index_mut-requires-2
 index_mut-requires-2 g c =
     subst (λ n. c.args.handle < n) (sym c.args.self.now.handles.ok.0)
-    (born (state c.args.self.now) c.args.handle (dropped_lives (state c.args.self.now) c.args.owner c.args.handle c.requires))
+    (born (state c.args.self.now) c.args.handle (dropped_lives (state c.args.self.now)
+    c.args.owner c.args.handle c.requires))
 
 pub returns-then-is_last-clause-steps : goal.returns-then-is_last-clause-steps
 returns-then-is_last-clause-steps g c =

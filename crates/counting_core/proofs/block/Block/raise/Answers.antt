@@ -21,27 +21,41 @@ plan_clone-requires-clause-within g c = core_within (state c.args.self.now) c.re
 
 pub returns-in-Full-clause-steps : goal.returns-in-Full-clause-steps
 returns-in-Full-clause-steps g c =
-    raise-full (state c.args.self.now) c.args.owner c.args.handle (clone_plan-says c.args.self.now.word c.args.self.now.limit _ (sym c.in-Full.is ∙ c.plan_clone.ensures)) c.requires
+    raise-full (state c.args.self.now)
+    c.args.owner c.args.handle (clone_plan-says c.args.self.now.word c.args.self.now.limit _ (sym c.in-Full.is
+    ∙ c.plan_clone.ensures)) c.requires
 
 pub returns-then-self-seen-clause-steps : goal.returns-then-self-seen-clause-steps
 returns-then-self-seen-clause-steps g c =
-    raise-lost (state c.args.self.now) c.args.owner c.args.handle _ (clone_plan-says c.args.self.now.word c.args.self.now.limit _ (sym c.in-Raise.is ∙ c.plan_clone.ensures))
+    raise-lost (state c.args.self.now)
+    c.args.owner c.args.handle _ (clone_plan-says c.args.self.now.word c.args.self.now.limit _ (sym c.in-Raise.is
+    ∙ c.plan_clone.ensures))
     c.index.result.now c.index.ensures c.if-self-seen.true c.requires
 
 pub returns-in_default-clause-steps : goal.returns-in_default-clause-steps
 returns-in_default-clause-steps g c =
     raise-unborn (state c.args.self.now) c.args.owner c.args.handle c.match-plan_clone.next
     (elim c.match-plan_clone.branch [
-      | in-Static w ↦ raise-static (state c.args.self.now) c.args.owner c.args.handle (clone_plan-says c.args.self.now.word c.args.self.now.limit _ (sym w.in-Static.is ∙ c.plan_clone.ensures)) c.match-plan_clone.next w.next-is
-      | in-Raise+else-self-seen w ↦ raise-won (state c.args.self.now) c.args.owner c.args.handle w.in-Raise.next (clone_plan-says c.args.self.now.word c.args.self.now.limit _ (sym w.in-Raise.is ∙ c.plan_clone.ensures)) c.requires w.index.result.now w.index.ensures w.if-self-seen.false c.match-plan_clone.next w.next-is
+      | in-Static w ↦ raise-static (state c.args.self.now)
+          c.args.owner c.args.handle (clone_plan-says c.args.self.now.word c.args.self.now.limit _ (sym
+          w.in-Static.is ∙ c.plan_clone.ensures)) c.match-plan_clone.next w.next-is
+      | in-Raise+else-self-seen w ↦ raise-won (state c.args.self.now)
+          c.args.owner c.args.handle w.in-Raise.next (clone_plan-says c.args.self.now.word c.args.self.now.limit _
+          (sym w.in-Raise.is ∙ c.plan_clone.ensures))
+          c.requires w.index.result.now w.index.ensures w.if-self-seen.false c.match-plan_clone.next w.next-is
     ]) c.requires c.push_newborn.new.handles.items c.in_default.ensures.refused
 
 pub returns-clause-steps : goal.returns-clause-steps
 returns-clause-steps g c =
     raise-born (state c.args.self.now) c.args.owner c.args.handle c.match-plan_clone.next
     (elim c.match-plan_clone.branch [
-      | in-Static w ↦ raise-static (state c.args.self.now) c.args.owner c.args.handle (clone_plan-says c.args.self.now.word c.args.self.now.limit _ (sym w.in-Static.is ∙ c.plan_clone.ensures)) c.match-plan_clone.next w.next-is
-      | in-Raise+else-self-seen w ↦ raise-won (state c.args.self.now) c.args.owner c.args.handle w.in-Raise.next (clone_plan-says c.args.self.now.word c.args.self.now.limit _ (sym w.in-Raise.is ∙ c.plan_clone.ensures)) c.requires w.index.result.now w.index.ensures w.if-self-seen.false c.match-plan_clone.next w.next-is
+      | in-Static w ↦ raise-static (state c.args.self.now)
+          c.args.owner c.args.handle (clone_plan-says c.args.self.now.word c.args.self.now.limit _ (sym
+          w.in-Static.is ∙ c.plan_clone.ensures)) c.match-plan_clone.next w.next-is
+      | in-Raise+else-self-seen w ↦ raise-won (state c.args.self.now)
+          c.args.owner c.args.handle w.in-Raise.next (clone_plan-says c.args.self.now.word c.args.self.now.limit _
+          (sym w.in-Raise.is ∙ c.plan_clone.ensures))
+          c.requires w.index.result.now w.index.ensures w.if-self-seen.false c.match-plan_clone.next w.next-is
     ]) c.requires c.in-Some.number c.in-Some.ensures.number c.push_newborn.new.handles.items c.in-Some.ensures.born
 
 pub returns-in-Full-clause-word : goal.returns-in-Full-clause-word

@@ -6,6 +6,7 @@ pub own_page-requires-clause-there : goal.own_page-requires-clause-there
 own_page-requires-clause-there g c κs within =
     let pages = c.self.inside.pages in
     let at = c.locate-page.ensures in
-    let there = page_there c.self.inside.page_length.items pages.items c.args.i c.locate-page.result.0 c.locate-page.result.1
+    let there = page_there c.self.inside.page_length.items pages.items c.args.i c.locate-page.result.0
+    c.locate-page.result.1
     at.page at.place c.self.inside.page_length.positive c.self.invariant.cut (omega (arith, c.self.invariant.count)) in
     omega (arith, there, pages.ok.0)

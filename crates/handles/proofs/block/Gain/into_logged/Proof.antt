@@ -1,10 +1,12 @@
 -- `into_logged` keeps of a gain that its step is in the log.
-use Rattle.handles.proofs.Walks.{◌≡◌, ℕ, List, [], ◌∷◌, refl, a_type, Val, inst_fn, SProp, Lft, Share, ftrue}
-use Rattle.handles.proofs.Walks.{flft, ‵, raw, ◌⊛◌, ◌$◌, ◌∵◌, !, qed, by, move, keep, drop, split, join, fsplit}
+use Rattle.handles.proofs.Walks.{◌≡◌, ℕ, List, [], ◌∷◌, refl, a_type, Val, inst_fn, SProp, Lft, Share}
+use Rattle.handles.proofs.Walks.{ftrue}
+use Rattle.handles.proofs.Walks.{flft, ‵, raw, ◌⊛◌, ◌$◌, ◌∵◌, !, qed, by, move, keep, drop, split}
+use Rattle.handles.proofs.Walks.{join, fsplit}
 use Rattle.handles.proofs.Walks.{fjoin, use0, no_more, returns, enter, alloc_all, pass_all, free_all, look_at}
 use Rattle.handles.proofs.Walks.{sets, agg, tables, fact, no, RattleType, owns, types_at, plain, Ptr}
-use Rattle.handles.proofs.Walks.{nothing_more, param, layouts, Stays, stay_dropped, walk_of, Goes-dropped}
-use Rattle.handles.proofs.Walks.{proved, leaves, one_word, one_word-Good, words_told, GainRow, known}
+use Rattle.handles.proofs.Walks.{nothing_more, heard, param, layouts, Stays, stay_dropped, walk_of, Goes-dropped}
+use Rattle.handles.proofs.Walks.{proved, leaves, HeldRow, one_word, one_word-Good, words_told, GainRow, known}
 use mir.Val.{vstruct, vnil}
 use Rattle.counting_word.specs.Rights.{nothing}
 use Rattle.counting_word.specs.WordSteps.{WordStep}
@@ -17,7 +19,8 @@ use Rattle.handles.proofs.block.Gain.into_logged.Code as code
 
 pub into_logged_spec : {M : Type 1} → statement M
 into_logged_spec 𝓤 𝓛 𝓜 𝓡 wired T L =
-    let H = 𝓛.H in let 𝓣 = tables 𝓤 H 𝓜 𝓡 𝓡.env in let R : RattleType = param 0 T in let En = ended T in
+    let H = 𝓛.H in let 𝓣 = tables 𝓤 H 𝓜 𝓡 𝓡.env in let R : RattleType = param 0 T in
+    let En = ended T in
     let c = clauses T 𝓛 𝓜.mem 𝓡.returns in
     let inst = layouts (a_type ∷ []) (T, tt) in let fn = inst_fn inst code.function in
     let self = plain (λ _. GainRow R) in let hs : Stays En.signature.params En.kept = (stay_dropped self no, tt) in
@@ -29,7 +32,8 @@ into_logged_spec 𝓤 𝓛 𝓜 𝓡 wired T L =
     let log : List WordStep = a.0.log in
     let y : (walk_of 𝓛 En hs c).Ghost = ((κs, qs, bounds, a, (one_word p ∷ [], tt)), gh) in
     let Post : Val → SProp 𝓤 = (walk_of 𝓛 En hs c).post y in
-    qed 𝓛 (((‵ (flft κ q) ⊛ ‵ ftrue) ⊛ ‵ (owns (types_at En.signature.params κs) a y.0.4)) ∷ raw (fact 𝓤 _)
+    qed 𝓛 (((‵ (flft κ q) ⊛ ‵ ftrue) ⊛ ‵ (owns (types_at En.signature.params κs) a y.0.4))
+    ∷ raw (fact 𝓤 _)
     ∷ raw (fact 𝓤 (a.0.right ≡ nothing)) ∷ []) ∵
     keep ! (0 ∷ []) $ split ! $ split ! $ join ! $ move ! (1 ∷ []) $ fsplit ! $ fsplit ! $ keep ! (1 ∷ 3 ∷ []) $
     fsplit ! $ move ! (1 ∷ []) $ drop ! $

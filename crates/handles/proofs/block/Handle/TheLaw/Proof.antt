@@ -1,4 +1,5 @@
--- A `&` to a handle has a share of the token of its block's sharing, or sees what the block holds if it is known to be the only one. Assumes `Logic`.
+-- A `&` to a handle has a share of the token of its block's sharing, or sees what the block holds if it is known to
+-- be the only one. Assumes `Logic`.
 use mathlib.Core.List.{[], ◌++◌}
 use base.Fml.{Incl-trans}
 use contract.BorrowLft.{meet_⊑_left}

@@ -1,7 +1,9 @@
 -- `word` is one load of the word, which only asks.
 use Rattle.handles.proofs.Walks.{◌≡◌, ℕ, ◌+◌, false, [], ◌∷◌, refl, lit<, a_type, named, Val, vptr}
-use Rattle.handles.proofs.Walks.{inst_fn, SProp, via, Lft, Share, Fml, ftrue, fsep, flft, ‵, raw, ◌⊛◌, mean, at_ret}
-use Rattle.handles.proofs.Walks.{◌$◌, ◌∵◌, !, qed, by, move, keep, split, join, fsplit, fjoin, use2, stop, fld, load}
+use Rattle.handles.proofs.Walks.{inst_fn, SProp, via, Lft, Share, Fml, ftrue, fsep, flft, ‵, raw, ◌⊛◌, mean}
+use Rattle.handles.proofs.Walks.{at_ret}
+use Rattle.handles.proofs.Walks.{◌$◌, ◌∵◌, !, qed, by, move, keep, split, join, fsplit, fjoin, use2, stop}
+use Rattle.handles.proofs.Walks.{fld, load}
 use Rattle.handles.proofs.Walks.{addr, lit, of_opd, no_more, and_then, first, blocks, exec, Calls-last, returns, enter}
 use Rattle.handles.proofs.Walks.{alloc_all, pass_all, free_all, look_at, get, through, sets, lands_last, env, agg, sub}
 use Rattle.handles.proofs.Walks.{whole, look_in, tables, fact, yes, RattleType, owns, types_at, plain, Ptr, block_ptr}
@@ -38,7 +40,8 @@ word_spec 𝓤 𝓛 𝓜 𝓡 wired T L =
     let po : ℕ = offset_of p in
     let y : (walk_of 𝓛 En hs c).Ghost = ((κs, qs, bounds, a, (vptr b o ∷ [], tt)), gh) in let Post : Val
     → SProp 𝓤 = (walk_of 𝓛 En hs c).post y in let D : RattleType = HandleWords R in
-    qed 𝓛 (((‵ (flft κ q) ⊛ ‵ others) ⊛ ‵ (owns (types_at En.signature.params κs) a y.0.4)) ∷ raw (fact 𝓤 _)
+    qed 𝓛 (((‵ (flft κ q) ⊛ ‵ others) ⊛ ‵ (owns (types_at En.signature.params κs) a y.0.4))
+    ∷ raw (fact 𝓤 _)
     ∷ raw (fact 𝓤 (a.0.now.sole ≡ false)) ∷ []) ∵ keep ! (2 ∷ 0 ∷ []) $
     heard ! (a.0.now.sole ≡ false) (λ shared. split ! $ split ! $ move ! (2 ∷ []) $ fsplit ! $ fsplit ! $
     keep ! (1 ∷ 3 ∷ 4 ∷ []) $
@@ -53,10 +56,12 @@ word_spec 𝓤 𝓛 𝓜 𝓡 wired T L =
     ) $ shuts ! tt D r (p, tt) (one_word (block_ptr pb po) ∷ []) b o $
     -- [half of the token; the open borrow; the share; the rule; the sharing; the other tokens]
     let aft : ℕ → Fml = and_logged (block_at R p x η i) [] step.asks (λ _. a_share (block_at R p x η i) e) in
-    first ! $ blocks ! $ sets ! (addr ! (through ! refl (fld ! refl (stop !)))) refl (tt, tt) $ move ! (3 ∷ 2 ∷ []) $
+    first ! $ blocks ! $ sets ! (addr ! (through ! refl (fld ! refl (stop !)))) refl (tt, tt) $
+    move ! (3 ∷ 2 ∷ []) $
     move ! (1 ∷ []) $ nothing_more ! $ move ! (0 ∷ 1 ∷ []) $ fjoin ! $ move ! (1 ∷ 0 ∷ []) $
     use2 𝓛 (raw (𝓣.C _ (vptr pb (po + 0) ∷ seq_cst ∷ []) (λ u. mean 𝓛 (found aft u))))
-    (via 𝓤 _ (asks 𝓛 (block_at R p x η i) e) (loads 𝓛 𝓜 𝓡 (code.calls-core::raw_atomic::load 𝓡.env wired)
+    (via 𝓤 _ (asks 𝓛 (block_at R p x η i) e)
+    (loads 𝓛 𝓜 𝓡 (code.calls-core::raw_atomic::load 𝓡.env wired)
     (block_ptr pb (po + 0)) aft)) $
     sets ! (agg ! (and_then ! (lit ! tt) (no_more !))) refl (tt, (record { fits = lit< tt }, tt)) $
     Calls-last ! (fm 𝓛 𝓜 𝓡) (found aft) (and_then ! (get ! refl) (and_then ! (get ! refl) (no_more !)))
@@ -67,7 +72,8 @@ word_spec 𝓤 𝓛 𝓜 𝓡 wired T L =
     sets ! (agg ! (no_more !)) refl (tt, tt) $
     sets ! (agg ! (and_then ! (get ! refl) (and_then ! (get ! refl) (no_more !)))) refl (word_and_logged-Good n fits) $
     -- [the result; the share; half of the token; the open borrow; the sharing; the other tokens]
-    returns_logged η n ! fits log $ move ! (1 ∷ 2 ∷ 3 ∷ []) $ closes_borrow ! tt $ move ! (0 ∷ 3 ∷ []) $ join ! $
+    returns_logged η n ! fits log $ move ! (1 ∷ 2 ∷ 3 ∷ []) $ closes_borrow ! tt $ move ! (0 ∷ 3 ∷ []) $
+    join ! $
     move ! (1 ∷ []) $ known ! (Adds x.limit.count [] step.asks n log) adds $ known ! (η ≡ η) refl $ join ! $
     nothing_more ! $ nothing_more ! $ fjoin ! $ returns ! (look_at ! 0 refl) $ free_all ! refl $
     keep ! (3 ∷ 0 ∷ 2 ∷ 1 ∷ []) $

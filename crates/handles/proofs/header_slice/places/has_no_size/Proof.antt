@@ -1,5 +1,9 @@
 -- `has_no_size` compares the size that a word holds.
-use Rattle.handles.proofs.PlacesWalks.{◌≡◌, Bool, List, [], ◌∷◌, refl, a_type, Val, inst_fn, SProp, emp, ftrue, flft, ‵, raw, ◌⊛◌, ◌$◌, ◌∵◌, !, qed, by, move, keep, split, join, use0, feq_i, lit, returns, enter, alloc_all, pass_all, free_all, look_at, sets, tables, fact, fact_i, nothing_more, layout, layouts, walk_of, proved, leaves, capped, bin, size_word}
+use Rattle.handles.proofs.PlacesWalks.{◌≡◌, Bool, List, [], ◌∷◌, refl, a_type, Val, inst_fn, SProp, emp}
+use Rattle.handles.proofs.PlacesWalks.{ftrue, flft, ‵, raw, ◌⊛◌, ◌$◌, ◌∵◌, !, qed, by, move, keep}
+use Rattle.handles.proofs.PlacesWalks.{split, join, use0, feq_i, lit, returns, enter, alloc_all, pass_all, free_all}
+use Rattle.handles.proofs.PlacesWalks.{look_at, sets, tables, fact, fact_i, nothing_more, layout, layouts, walk_of}
+use Rattle.handles.proofs.PlacesWalks.{proved, leaves, capped, bin, size_word}
 use mir.Val.{vbool}
 use Rattle.std.specs.Prelude.{IsTrue, ◌↔◌}
 use lib.Dec.{eqb}
@@ -12,12 +16,21 @@ use Rattle.handles.proofs.header_slice.places.has_no_size.Code as code
 
 pub has_no_size_spec : {M : Type 1} → statement M
 has_no_size_spec 𝓤 𝓛 𝓜 𝓡 wired T L =
-    let H = 𝓛.H in let 𝓣 = tables 𝓤 H 𝓜 𝓡 𝓡.env in let En = ended T in let c = clauses T 𝓛 𝓜.mem 𝓡.returns in let inst = layouts (a_type ∷ []) (T, tt) in let fn = inst_fn inst code.function in
-    proved 𝓛 En tt c 𝓜 𝓡 tt (#self inst) fn (code.unfolded 𝓤 H 𝓜 𝓡 wired (T, tt)) (λ κs. tt) (λ κs. tt) (λ κs qs bounds a gh are.
-    let y : (walk_of 𝓛 En tt c).Ghost = ((κs, qs, bounds, tt, tt), gh) in let Post : Val → SProp 𝓤 = (walk_of 𝓛 En tt c).post y in let same : Bool = eqb (capped (size (layout T))) 0 in
-    qed 𝓛 (((‵ (flft κs.0 qs.0) ⊛ ‵ ftrue) ⊛ ‵ ftrue) ∷ raw ((c κs a).requires gh) ∷ []) ∵ keep ! (0 ∷ []) $ split ! $ split ! $
+    let H = 𝓛.H in let 𝓣 = tables 𝓤 H 𝓜 𝓡 𝓡.env in let En = ended T in
+    let c = clauses T 𝓛 𝓜.mem 𝓡.returns in let inst = layouts (a_type ∷ []) (T, tt) in
+    let fn = inst_fn inst code.function in
+    proved 𝓛 En tt c 𝓜 𝓡 tt (#self inst) fn (code.unfolded 𝓤 H 𝓜 𝓡 wired (T, tt)) (λ κs. tt)
+    (λ κs. tt) (λ κs qs bounds a gh are.
+    let y : (walk_of 𝓛 En tt c).Ghost = ((κs, qs, bounds, tt, tt), gh) in
+    let Post : Val → SProp 𝓤 = (walk_of 𝓛 En tt c).post y in
+    let same : Bool = eqb (capped (size (layout T))) 0 in
+    qed 𝓛 (((‵ (flft κs.0 qs.0) ⊛ ‵ ftrue) ⊛ ‵ ftrue) ∷ raw ((c κs a).requires gh) ∷ [])
+    ∵ keep ! (0 ∷ []) $ split ! $ split ! $
     enter ! 𝓣.C 𝓣.Λ fn [] Post $ alloc_all ! (λ l. pass_all ! refl tt $
     sets ! (bin ! (size_word !) (lit ! tt) tt) refl (tt, tt) $
-    use0 𝓛 (raw (fact 𝓤 (IsTrue same ↔ (size (layout T) ≡ 0)))) (fact_i 𝓤 (IsTrue same ↔ (size (layout T) ≡ 0)) (emp 𝓤) (capped_zero (size (layout T)))) $
-    feq_i ! (List Val) (vbool same ∷ []) (vbool same ∷ []) refl $ nothing_more ! $ move ! (3 ∷ 4 ∷ []) $ join ! $
-    returns ! (look_at ! 0 refl) $ free_all ! refl $ keep ! (0 ∷ 1 ∷ 2 ∷ 3 ∷ []) $ by ! (leaves 𝓛 En tt c y (vbool same) same tt tt)))
+    use0 𝓛 (raw (fact 𝓤 (IsTrue same ↔ (size (layout T) ≡ 0))))
+    (fact_i 𝓤 (IsTrue same ↔ (size (layout T) ≡ 0)) (emp 𝓤) (capped_zero (size (layout T)))) $
+    feq_i ! (List Val) (vbool same ∷ []) (vbool same ∷ []) refl $ nothing_more ! $ move ! (3 ∷ 4 ∷ []) $
+    join ! $
+    returns ! (look_at ! 0 refl) $ free_all ! refl $ keep ! (0 ∷ 1 ∷ 2 ∷ 3 ∷ []) $
+    by ! (leaves 𝓛 En tt c y (vbool same) same tt tt)))

@@ -1,5 +1,6 @@
 -- `Places` as a type that may hold the type that holds it: by its items, one by one.
-use Rattle.std.specs.Prelude.{suc, ◌≤◌, ◌-◌, ◌*◌, ◌^◌, ◌==◌, List, [], ◌∷◌, map, length, not}
+use Rattle.std.specs.Prelude.{suc, ◌≤◌, ◌-◌, ◌*◌, ◌^◌, ◌==◌, List, [], ◌∷◌, map, length}
+use Rattle.std.specs.Prelude.{not}
 use mathlib.Core.Path.{◌≡◌, PathP, refl, sym, ap, ◌∙◌}
 use mathlib.Core.HLevel.{is_prop→PathP}
 use mathlib.Core.Former.{Former, Count, Row, over, this, list, list_count, list_get}
@@ -41,7 +42,8 @@ module _ {X Y : Type 0} (p : Places X) where
   pub Fits-along : (ys zs : List Y) (e : ys ≡ zs) (a : Fits ys) (b : Fits zs) → PathP (λ i. Fits (e i)) a b
   Fits-along ys zs e = is_prop→PathP (λ i. Fits (e i)) (λ i a b j. (ℕ_set _ _ a.0 b.0 j, le_prop a.1 b.1 j))
 
-  abbrev pub holding_along : (ys zs : List Y) (e : ys ≡ zs) (a : Fits ys) (b : Fits zs) → holding ys a ≡ holding zs b
+  abbrev pub holding_along : (ys zs : List Y) (e : ys ≡ zs) (a : Fits ys) (b : Fits zs)
+      → holding ys a ≡ holding zs b
   holding_along ys zs e a b = λ i. holding (e i) (Fits-along ys zs e a b i)
 
 abbrev pub mapped : {X Y : Type 0} → (X → Y) → Places X → Places Y
@@ -96,7 +98,8 @@ module _ (R S : RattleType) (h : R.Denot → S.Denot) where
             (fsep (flt (p.room * width i) (2 ^ 63))
             (fsep (lies_placed (Array R p.filled) (Array S p.filled) (map h) (Array-places R S h a p.filled) full_share
             p.first p.items i)
-            (fsep (room_for (raw (ty_array (lone (a.mir_same i)) (p.room - p.filled))) (p.first +ₚ p.filled * width i))
+            (fsep (room_for (raw (ty_array (lone (a.mir_same i)) (p.room - p.filled)))
+            (p.first +ₚ p.filled * width i))
             (owns_if (not (p.room * width i == 0))
             (right_to_free (raw (ty_array (lone (a.mir_same i)) p.room)) p.first)))));
         shr_same = λ p i b o. beside ((Struct (shape (C.the_type R))).shr_at (to (C.the_type R) p) b o)

@@ -1,4 +1,5 @@
-use Rattle.std.proofs.Common.{map, sym, ◌≡◌, ◌≢◌, ℕ, ◌≤◌, ◌<◌, List, [], ◌∷◌, length, get_or, ap, arith, ◌∙◌, codes, decimal}
+use Rattle.std.proofs.Common.{map, sym, ◌≡◌, ◌≢◌, ℕ, ◌≤◌, ◌<◌, List, [], ◌∷◌, length}
+use Rattle.std.proofs.Common.{get_or, ap, arith, ◌∙◌, codes, decimal}
 use Rattle.std.proofs.lemmas.Fmt.{decimal_injective}
 use Rattle.script_text.specs.Number.{IsNumber}
 use Rattle.scripts.specs.Arguments.{Asks}
@@ -18,7 +19,9 @@ map-pair f (a ∷ b ∷ more) x y two first second =
     (map f more, both)
 
 -- two words, the second a number, tell which word is the first and which number the second
-asked_kind : (words others more : List (List ℕ)) (kind text bytes asked : List ℕ) (size n : ℕ) → words ≡ kind ∷ text ∷ others → bytes ≡ text → IsNumber bytes size → words ≡ asked ∷ decimal n ∷ more → n ≤ 1000 → (kind ≡ asked) × (size ≡ n)
+asked_kind : (words others more : List (List ℕ)) (kind text bytes asked : List ℕ) (size n : ℕ)
+    → words ≡ kind ∷ text ∷ others → bytes ≡ text → IsNumber bytes size → words ≡ asked ∷ decimal
+    n ∷ more → n ≤ 1000 → (kind ≡ asked) × (size ≡ n)
 asked_kind words others more kind text bytes asked size n are same is asks small =
     let kinds : kind ≡ asked = cc in
     let texts : decimal size ≡ decimal n = cc in
@@ -28,7 +31,9 @@ core_is_no_table : codes "core" ≢ codes "table"
 core_is_no_table e = let lengths = ap length e in omega (arith, lengths)
 
 -- a number of owners that no core may have asks for nothing
-no_core : (words others : List (List ℕ)) (kind text bytes : List ℕ) (size : ℕ) → words ≡ kind ∷ text ∷ others → kind ≡ codes "core" → bytes ≡ text → IsNumber bytes size → (1 ≤ size → 1000 < size) → (request : Request) → ¬ (Asks words request)
+no_core : (words others : List (List ℕ)) (kind text bytes : List ℕ) (size : ℕ)
+    → words ≡ kind ∷ text ∷ others → kind ≡ codes "core" → bytes ≡ text → IsNumber bytes size →
+    (1 ≤ size → 1000 < size) → (request : Request) → ¬ (Asks words request)
 no_core words others kind text bytes size are core same is out (Core owners limit) asks =
     let found = asked_kind words others asks.0 kind text bytes _ size owners are same is asks.1 asks.3 in
     let some : 1 ≤ owners = asks.2 in
@@ -39,7 +44,9 @@ no_core words others kind text bytes size are core same is out (Table slots) ask
     core_is_no_table (sym core ∙ found.0)
 
 -- a number of slots that no table may have asks for nothing
-no_table : (words others : List (List ℕ)) (kind text bytes : List ℕ) (size : ℕ) → words ≡ kind ∷ text ∷ others → kind ≡ codes "table" → bytes ≡ text → IsNumber bytes size → 1000 < size → (request : Request) → ¬ (Asks words request)
+no_table : (words others : List (List ℕ)) (kind text bytes : List ℕ) (size : ℕ)
+    → words ≡ kind ∷ text ∷ others → kind ≡ codes "table" → bytes ≡ text → IsNumber bytes size →
+    1000 < size → (request : Request) → ¬ (Asks words request)
 no_table words others kind text bytes size are table same is out (Core owners limit) asks =
     let found = asked_kind words others asks.0 kind text bytes _ size owners are same is asks.1 asks.3 in
     core_is_no_table (sym found.0 ∙ table)
@@ -49,15 +56,21 @@ no_table words others kind text bytes size are table same is out (Table slots) a
 
 pub returns-in_default-as_str-clause-wrong : goal.returns-in_default-as_str-clause-wrong
 returns-in_default-as_str-clause-wrong g c =
-    let are = map-pair g.S.AsStr.text c.args.words.now c.kind-item.result c.size-item.result c.in-len2-up.len_at_least c.kind-item.is c.size-item.is in
-    no_core _ _ _ _ _ _ are.1 (sym c.as_str-2.ensures ∙ c.in-core.is) (c.as_bytes.ensures.value ∙ c.as_str.ensures) c.in_ok-size.ensures.number (λ some. omega arith)
+    let are = map-pair g.S.AsStr.text c.args.words.now c.kind-item.result c.size-item.result
+    c.in-len2-up.len_at_least c.kind-item.is c.size-item.is in
+    no_core _ _ _ _ _ _ are.1 (sym c.as_str-2.ensures ∙ c.in-core.is)
+    (c.as_bytes.ensures.value ∙ c.as_str.ensures) c.in_ok-size.ensures.number (λ some. omega arith)
 
 pub returns-in_default-as_str-2-clause-wrong : goal.returns-in_default-as_str-2-clause-wrong
 returns-in_default-as_str-2-clause-wrong g c =
-    let are = map-pair g.S.AsStr.text c.args.words.now c.kind-item.result c.size-item.result c.in-len2-up.len_at_least c.kind-item.is c.size-item.is in
-    no_core _ _ _ _ _ _ are.1 (sym c.as_str-2.ensures ∙ c.in-core.is) (c.as_bytes.ensures.value ∙ c.as_str.ensures) c.in_ok-size.ensures.number (λ some. omega arith)
+    let are = map-pair g.S.AsStr.text c.args.words.now c.kind-item.result c.size-item.result
+    c.in-len2-up.len_at_least c.kind-item.is c.size-item.is in
+    no_core _ _ _ _ _ _ are.1 (sym c.as_str-2.ensures ∙ c.in-core.is)
+    (c.as_bytes.ensures.value ∙ c.as_str.ensures) c.in_ok-size.ensures.number (λ some. omega arith)
 
 pub returns-in_default-as_str-4-clause-wrong : goal.returns-in_default-as_str-4-clause-wrong
 returns-in_default-as_str-4-clause-wrong g c =
-    let are = map-pair g.S.AsStr.text c.args.words.now c.kind-item.result c.size-item.result c.in-len2-up.len_at_least c.kind-item.is c.size-item.is in
-    no_table _ _ _ _ _ _ are.1 (sym c.as_str-2.ensures ∙ c.in-table.is) (c.as_bytes.ensures.value ∙ c.as_str.ensures) c.in_ok-size.ensures.number c.if-size-le-MOST_SLOTS.false
+    let are = map-pair g.S.AsStr.text c.args.words.now c.kind-item.result c.size-item.result
+    c.in-len2-up.len_at_least c.kind-item.is c.size-item.is in
+    no_table _ _ _ _ _ _ are.1 (sym c.as_str-2.ensures ∙ c.in-table.is)
+    (c.as_bytes.ensures.value ∙ c.as_str.ensures) c.in_ok-size.ensures.number c.if-size-le-MOST_SLOTS.false

@@ -3,7 +3,8 @@ use base.Fraction.{full_share}
 use base.Logic.{sep, wand, never_e}
 use base.Fml.{fbor}
 use types.Logic.{sem, lfts}
-use types.Kit.{‵, raw, ◌⊛◌, later, ◌$◌, !, qed, keep, move, use1, use2, split, fsplit, fpick, await, updating}
+use types.Kit.{‵, raw, ◌⊛◌, later, ◌$◌, !, qed, keep, move, use1, use2, split, fsplit, fpick, await}
+use types.Kit.{updating}
 use types.Kit.{now, done}
 use denote.RattleType.{RattleType}
 use denote.Memory.{part_at, part_of}
@@ -23,7 +24,8 @@ shares T L = record {
       let P = part_at (C.the_written T) full_share d b o in
       let Q = marked_shares T (block_ptr b o) d κ in
       qed 𝓛 (‵ (fbor κ P) ∷ raw (lfts 𝓛 ts) ∷ []) {P = 𝓛.H.⇛ (sep 𝓤 (sem 𝓛 Q) (lfts 𝓛 ts))} (
-      updating ! $ use2 𝓛 (later (‵ P ⊛ raw (wand 𝓤 (sem 𝓛 P) (𝓛.H.⇛ (sep 𝓤 (𝓛.A.bor κ P) (lfts 𝓛 ts))))))
+      updating ! $ use2 𝓛 (later (‵ P ⊛ raw (wand 𝓤 (sem 𝓛 P) (𝓛.H.⇛ (sep 𝓤 (𝓛.A.bor κ P)
+      (lfts 𝓛 ts))))))
       (𝓛.more.bor_acc_by κ ts P sp) $ await ! tt $ split ! $
       fpick ! (λ vs. fsplit ! $ move ! (1 ∷ []) $
       use1 𝓛 (‵ Q ⊛ raw (lfts 𝓛 ts)) (never_e 𝓤 _) $ split ! $ keep ! (0 ∷ 1 ∷ []) $ now ! $ done !));

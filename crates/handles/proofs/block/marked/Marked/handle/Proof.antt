@@ -1,7 +1,9 @@
 -- `handle` makes one more handle of a block that is marked, with no step on its word.
-use Rattle.handles.proofs.Walks.{◌≡◌, ℕ, false, [], ◌∷◌, refl, a_type, named, Val, vptr, inst_fn, SProp, id⊢, Lft}
+use Rattle.handles.proofs.Walks.{◌≡◌, ℕ, false, [], ◌∷◌, refl, a_type, named, Val, vptr, inst_fn, SProp}
+use Rattle.handles.proofs.Walks.{id⊢, Lft}
 use Rattle.handles.proofs.Walks.{Share, Fml, ftrue, fsep, flft, fhide, full_share, finv, later, await, pick}
-use Rattle.handles.proofs.Walks.{block_rule, ‵, raw, ◌⊛◌, ◌$◌, ◌∵◌, !, qed, by, move, keep, drop, split, join}
+use Rattle.handles.proofs.Walks.{block_rule, ‵, raw, ◌⊛◌, ◌$◌, ◌∵◌, !, qed, by, move, keep, drop}
+use Rattle.handles.proofs.Walks.{split, join}
 use Rattle.handles.proofs.Walks.{fsplit, fjoin, fpick, use0, use1, use2, stop, addr, of_opd, no_more, and_then}
 use Rattle.handles.proofs.Walks.{returns, enter, alloc_all, pass_all, free_all, look_at, get, through, sets, agg}
 use Rattle.handles.proofs.Walks.{tables, yes, RattleType, owns, types_at, plain, Ptr, block_ptr, nothing_more}
@@ -27,7 +29,8 @@ use Rattle.handles.proofs.block.marked.Marked.handle.Code as code
 
 pub handle_spec : {M : Type 1} → statement M
 handle_spec 𝓤 𝓛 𝓜 𝓡 wired T L =
-    let H = 𝓛.H in let 𝓣 = tables 𝓤 H 𝓜 𝓡 𝓡.env in let R : RattleType = param 0 T in let En = ended T in
+    let H = 𝓛.H in let 𝓣 = tables 𝓤 H 𝓜 𝓡 𝓡.env in let R : RattleType = param 0 T in
+    let En = ended T in
     let c = clauses T 𝓛 𝓜.mem 𝓡.returns in let inst = layouts (a_type ∷ []) (T, tt) in
     let fn = inst_fn inst code.function in
     let Row : RattleType = marked_type.the_row R in let self = RefOf (0 ∷ []) tt (plain (λ _. Row)) (λ _. tt) in
@@ -53,7 +56,8 @@ handle_spec 𝓤 𝓛 𝓜 𝓡 wired T L =
     -- [the open borrow; the share; the rule; the sharing; the mark; the token; the other tokens]
     drop ! $ move ! (3 ∷ 0 ∷ []) $ fjoin ! $ move ! (1 ∷ []) $
     use1 𝓛 (‵ (finv I) ⊛ ‵ (finv I)) (𝓛.invs.inv_dup I) $ split ! $ move ! (0 ∷ 2 ∷ []) $
-    use2 𝓛 (later (exists (λ (w : ℕ). ‵ (Born 𝓛 s e w)))) (born 𝓛 s e) $ await ! tt $ pick ! (λ w. fsplit ! $ drop ! $
+    use2 𝓛 (later (exists (λ (w : ℕ). ‵ (Born 𝓛 s e w)))) (born 𝓛 s e) $ await ! tt $
+    pick ! (λ w. fsplit ! $ drop ! $
     shows_gain R p x t.0 ! tt tt i a_handle [] step.reads w (λ log added. fsplit ! $ drop ! $
     sets ! (addr ! (through ! refl (stop !))) refl (tt, tt) $ sets ! (of_opd ! (get ! refl)) refl (tt, tt) $
     sets ! (agg ! (and_then ! (get ! refl) (no_more !))) refl (tt, (tt, tt)) $

@@ -1,6 +1,8 @@
 -- `held` shows what every handle of the block sees.
-use Rattle.handles.proofs.Walks.{◌≡◌, ℕ, ◌+◌, List, [], ◌∷◌, refl, a_type, named, Val, vptr, inst_fn, SProp, id⊢}
-use Rattle.handles.proofs.Walks.{Lft, Share, Fml, ftrue, fsep, flft, fhide, ‵, raw, ◌⊛◌, at_ret, ◌$◌, ◌∵◌, !, qed}
+use Rattle.handles.proofs.Walks.{◌≡◌, ℕ, ◌+◌, List, [], ◌∷◌, refl, a_type, named, Val, vptr, inst_fn}
+use Rattle.handles.proofs.Walks.{SProp, id⊢}
+use Rattle.handles.proofs.Walks.{Lft, Share, Fml, ftrue, fsep, flft, fhide, ‵, raw, ◌⊛◌, at_ret, ◌$◌}
+use Rattle.handles.proofs.Walks.{◌∵◌, !, qed}
 use Rattle.handles.proofs.Walks.{by, move, keep, drop, split, join, fsplit, fjoin, use1, feq_i, stop, fld, addr}
 use Rattle.handles.proofs.Walks.{of_opd, first, blocks, exec, returns, enter, alloc_all, pass_all, free_all}
 use Rattle.handles.proofs.Walks.{look_at, get, through, sets, sets_last, env, tables, yes, RattleType, owns}
@@ -19,7 +21,8 @@ use Rattle.handles.proofs.block.marked.Marked.held.Code as code
 
 pub held_spec : {M : Type 1} → statement M
 held_spec 𝓤 𝓛 𝓜 𝓡 wired T L =
-    let H = 𝓛.H in let 𝓣 = tables 𝓤 H 𝓜 𝓡 𝓡.env in let R : RattleType = param 0 T in let En = ended T in
+    let H = 𝓛.H in let 𝓣 = tables 𝓤 H 𝓜 𝓡 𝓡.env in let R : RattleType = param 0 T in
+    let En = ended T in
     let c = clauses T 𝓛 𝓜.mem 𝓡.returns in let inst = layouts (a_type ∷ []) (T, tt) in
     let fn = inst_fn inst code.function in
     let Row : RattleType = marked_type.the_row R in let self = RefOf (0 ∷ []) tt (plain (λ _. Row)) (λ _. tt) in

@@ -1,7 +1,9 @@
 -- `of` gives a new block that is marked away for good.
-use Rattle.handles.proofs.Walks.{◌≡◌, ℕ, List, [], ◌∷◌, ◌++◌, refl, sym, subst, a_type, Val, vptr, inst_fn, SProp}
-use Rattle.handles.proofs.Walks.{ent, id⊢, Lft, Share, ftrue, fsep, flft, WpFn, sem, later, await, at_ret, ‵}
-use Rattle.handles.proofs.Walks.{raw, ◌⊛◌, ◌$◌, ◌∵◌, !, qed, by, move, keep, split, join, fsplit, fjoin, use1}
+use Rattle.handles.proofs.Walks.{◌≡◌, ℕ, List, [], ◌∷◌, ◌++◌, refl, sym, subst, a_type, Val, vptr}
+use Rattle.handles.proofs.Walks.{inst_fn, SProp}
+use Rattle.handles.proofs.Walks.{ent, id⊢, Lft, Share, Fml, ftrue, fsep, flft, WpFn, sem, later, await, at_ret, ‵}
+use Rattle.handles.proofs.Walks.{raw, ◌⊛◌, ◌$◌, ◌∵◌, !, qed, by, move, keep, split, join, fsplit, fjoin}
+use Rattle.handles.proofs.Walks.{use1}
 use Rattle.handles.proofs.Walks.{use2, suffices, feq_i, stop, fld, addr, of_opd, first, blocks, exec, returns}
 use Rattle.handles.proofs.Walks.{enter, alloc_all, pass_all, free_all, look_at, get, get_in, through, sets}
 use Rattle.handles.proofs.Walks.{sets_last, env, sub, whole, tables, fact, no, RattleType, owns, types_at, plain}
@@ -23,7 +25,8 @@ use Rattle.handles.proofs.block.marked.Marked.of.Code as code
 
 pub of_spec : {M : Type 1} → statement M
 of_spec 𝓤 𝓛 𝓜 𝓡 wired T L =
-    let H = 𝓛.H in let 𝓣 = tables 𝓤 H 𝓜 𝓡 𝓡.env in let R : RattleType = param 0 T in let En = ended T in
+    let H = 𝓛.H in let 𝓣 = tables 𝓤 H 𝓜 𝓡 𝓡.env in let R : RattleType = param 0 T in
+    let En = ended T in
     let c = clauses T 𝓛 𝓜.mem 𝓡.returns in
     let inst = layouts (a_type ∷ []) (T, tt) in let fn = inst_fn inst code.function in
     let Loose : RattleType = LooseRow (block_type.the_row R) in let boxed = plain (λ _. Loose) in
@@ -41,12 +44,15 @@ of_spec 𝓤 𝓛 𝓜 𝓡 wired T L =
     (λ lives. split ! $ move ! (1 ∷ []) $ fsplit ! $
     loose_opens (block_type.the_row R) ! d z.0.4.0 (λ b o h placed is_pair good. let p : Ptr = block_ptr b o in
     -- [the box; its allocator; nothing; the tokens]
-    use1 𝓛 (‵ (bare_block R p x d.value.word)) (box_opens T L 𝓛 b o d.value.word d.value.stamp x d.value.alloc) $
+    use1 𝓛 (‵ (bare_block R p x d.value.word))
+    (box_opens T L 𝓛 b o d.value.word d.value.stamp x d.value.alloc) $
     keep ! (0 ∷ 3 ∷ []) $
-    use1 𝓛 (‵ (bare_block R p x (marked_word 1))) (subst (λ (w : ℕ). ent 𝓤 (sem 𝓛 (bare_block R p x d.value.word))
+    use1 𝓛 (‵ (bare_block R p x (marked_word 1)))
+    (subst (λ (w : ℕ). ent 𝓤 (sem 𝓛 (bare_block R p x d.value.word))
     (sem 𝓛 (bare_block R p x w))) is_marked (id⊢ 𝓤 _)) $
     move ! (1 ∷ []) $ split ! $ move ! (1 ∷ []) $ fsplit ! $ move ! (3 ∷ 0 ∷ []) $
-    use2 𝓛 (later (‵ (marked_shares R p x a) ⊛ ‵ (flft κ q))) (new_lasts R (param_laws 0 T L) p x 𝓛 κ q lives a) $
+    use2 𝓛 (later (‵ (marked_shares R p x a) ⊛ ‵ (flft κ q))) (new_lasts R (param_laws 0 T L)
+    p x 𝓛 κ q lives a) $
     suffices ! (Run (pair_val (vptr b o) h ∷ [])) (subst (λ (us : List Val). ent 𝓤 (Run (pair_val (vptr b o) h
     ∷ [])) (Run us)) (sym (λ j. is_pair j ++ [])) (id⊢ 𝓤 _)) $
     enter ! 𝓣.C 𝓣.Λ fn (pair_val (vptr b o) h ∷ []) Post $

@@ -1,4 +1,5 @@
--- A `&` to the places lends the items and neither the room after them nor the right to give the block back. Assumes `Logic`.
+-- A `&` to the places lends the items and neither the room after them nor the right to give the block back. Assumes
+-- `Logic`.
 use mathlib.Core.List.{[], ◌++◌}
 use base.Fml.{Incl-trans}
 use contract.BorrowLft.{meet_⊑_left}
@@ -15,6 +16,16 @@ use Rattle.handles.proofs.PlacesShared.{places_share-ShrLaws, Lends-places}
 
 pub shares : (R : RattleType) (L : Laws R) → statement R L
 shares R L = of_Lends (C.struct R) (C.the_codes R.Denot R.coded) (C.the_heap R) (C.the_lent R)
-    (λ d p. places_share-ShrLaws R d.first d.filled d.room d.items L.shr_laws)
-    (copy_shared RawPtr-field RawPtr-copy, (copy_shared usize-field usize-copy, (copy_shared usize-field usize-copy, tt)))
-    (λ M 𝓤 𝓛 d p. let l = (C.the_row R).lives in Lends-places R d.first d.filled d.room d.items 𝓛 L l (Shares-less 𝓛 R R.lives l (Incl-trans (meet_⊑_left (R.lives ++ []) _) (meet_⊑_left R.lives [])) (L.shares 𝓛)))
+    (λ d p. places_share-ShrLaws R d.first d.filled d.room d.items L.shr_laws) (
+      copy_shared RawPtr-field RawPtr-copy,
+      (
+        copy_shared usize-field usize-copy,
+        (
+          copy_shared usize-field usize-copy,
+          tt,
+        ),
+      ),
+    )
+    (λ M 𝓤 𝓛 d p. let l = (C.the_row R).lives in
+    Lends-places R d.first d.filled d.room d.items 𝓛 L l (Shares-less 𝓛 R R.lives l (Incl-trans
+    (meet_⊑_left (R.lives ++ []) _) (meet_⊑_left R.lives [])) (L.shares 𝓛)))

@@ -1,5 +1,12 @@
 -- `into_leaving` makes of the places those that no item has left yet.
-use Rattle.handles.proofs.PlacesWalks.{◌≡◌, ℕ, ◌^◌, ◌<◌, [], ◌∷◌, refl, lit<, arith, a_type, Val, inst_fn, SProp, emp, ftrue, flft, ‵, raw, ◌⊛◌, ◌$◌, ◌∵◌, !, qed, by, move, keep, split, fsplit, fjoin, use0, use1, stop, fld, lit, of_opd, no_more, and_then, returns, enter, alloc_all, pass_all, free_all, look_at, get, get_in, sets, agg, sub, whole, tables, fact, fact_i, no, RattleType, owns, types_at, plain, Ptr, nothing_more, param, layouts, param_laws, Stays, stay_dropped, walk_of, proved, leaves, Goes-blank, LeavingRow, LeavingWords, leaving-Good, leaving_val, leaving_words, PlacesRow, places_val, leaving_own}
+use Rattle.handles.proofs.PlacesWalks.{◌≡◌, ℕ, ◌^◌, ◌<◌, [], ◌∷◌, refl, lit<, arith, a_type, Val}
+use Rattle.handles.proofs.PlacesWalks.{inst_fn, SProp, emp, ftrue, flft, ‵, raw, ◌⊛◌, ◌$◌, ◌∵◌, ! }
+use Rattle.handles.proofs.PlacesWalks.{qed, by, move, keep, split, fsplit, fjoin, use0, use1, stop, fld, lit, of_opd}
+use Rattle.handles.proofs.PlacesWalks.{no_more, and_then, returns, enter, alloc_all, pass_all, free_all, look_at, get}
+use Rattle.handles.proofs.PlacesWalks.{get_in, sets, agg, sub, whole, tables, fact, fact_i, no, RattleType, owns}
+use Rattle.handles.proofs.PlacesWalks.{types_at, plain, Ptr, nothing_more, param, layouts, param_laws, Stays}
+use Rattle.handles.proofs.PlacesWalks.{stay_dropped, walk_of, proved, leaves, Goes-blank, LeavingRow, LeavingWords}
+use Rattle.handles.proofs.PlacesWalks.{leaving-Good, leaving_val, leaving_words, PlacesRow, places_val, leaving_own}
 use Rattle.core.proofs.atomic.Steps.{Ptr-Good}
 use Rattle.handles.proofs.header_slice.places.Places.TheLaws.{lowers}
 use Rattle.handles.proofs.LeavingFields.{places-Good, none_left}
@@ -10,22 +17,43 @@ use Rattle.handles.proofs.header_slice.places.Places.into_leaving.Code as code
 
 pub into_leaving_spec : {M : Type 1} → statement M
 into_leaving_spec 𝓤 𝓛 𝓜 𝓡 wired T L =
-    let H = 𝓛.H in let 𝓣 = tables 𝓤 H 𝓜 𝓡 𝓡.env in let R : RattleType = param 0 T in let En = ended T in let c = clauses T 𝓛 𝓜.mem 𝓡.returns in
-    let inst = layouts (a_type ∷ []) (T, tt) in let fn = inst_fn inst code.function in let self = plain (λ _. PlacesRow R) in let hs : Stays En.signature.params En.kept = (stay_dropped self no, tt) in
-    proved 𝓛 En hs c 𝓜 𝓡 (Goes-blank 𝓛 1 self no (λ κs x f. tt), tt) (#self inst) fn (code.unfolded 𝓤 H 𝓜 𝓡 wired (T, tt))
-    (λ κs. ((λ s. places_val s.first s.filled s.room ∷ []), tt)) (λ κs. ((lowers R (param_laws 0 T L)).val_is, tt)) (λ κs qs bounds a gh are.
-    let me = a.0 in let p : Ptr = me.first in let filled : ℕ = me.filled in let room : ℕ = me.room in let filled_fits : filled < 2 ^ 64 = are.0.0.1.1.1.0.1 in let room_fits : room < 2 ^ 64 = are.0.0.1.1.1.1.0.1 in
-    let y : (walk_of 𝓛 En hs c).Ghost = ((κs, qs, bounds, a, (places_val p filled room ∷ [], tt)), gh) in let Post : Val → SProp 𝓤 = (walk_of 𝓛 En hs c).post y in
-    let new : (LeavingRow R).Denot = record { first = p; taken = 0; filled = filled; room = room; items = me.items; within = (omega (arith, me.within.0), me.within.1) } in
+    let H = 𝓛.H in let 𝓣 = tables 𝓤 H 𝓜 𝓡 𝓡.env in let R : RattleType = param 0 T in
+    let En = ended T in let c = clauses T 𝓛 𝓜.mem 𝓡.returns in
+    let inst = layouts (a_type ∷ []) (T, tt) in let fn = inst_fn inst code.function in
+    let self = plain (λ _. PlacesRow R) in
+    let hs : Stays En.signature.params En.kept = (stay_dropped self no, tt) in
+    proved 𝓛 En hs c 𝓜 𝓡 (Goes-blank 𝓛 1 self no (λ κs x f. tt), tt) (#self inst)
+    fn (code.unfolded 𝓤 H 𝓜 𝓡 wired (T, tt))
+    (λ κs. ((λ s. places_val s.first s.filled s.room ∷ []), tt))
+    (λ κs. ((lowers R (param_laws 0 T L)).val_is, tt)) (λ κs qs bounds a gh are.
+    let me = a.0 in let p : Ptr = me.first in let filled : ℕ = me.filled in let room : ℕ = me.room in
+    let filled_fits : filled < 2 ^ 64 = are.0.0.1.1.1.0.1 in let room_fits : room < 2 ^ 64 = are.0.0.1.1.1.1.0.1 in
+    let y : (walk_of 𝓛 En hs c).Ghost = ((κs, qs, bounds, a, (places_val p filled room ∷ [], tt)), gh) in
+    let Post : Val → SProp 𝓤 = (walk_of 𝓛 En hs c).post y in
+    let new : (LeavingRow R).Denot = record {
+      first = p;
+      taken = 0;
+      filled = filled;
+      room = room;
+      items = me.items;
+      within = (omega (arith, me.within.0), me.within.1);
+    } in
     let toks = ‵ (flft κs.0 qs.0) ⊛ ‵ ftrue in
-    qed 𝓛 ((toks ⊛ ‵ (owns (types_at En.signature.params κs) a y.0.4)) ∷ raw ((c κs a).requires gh) ∷ []) ∵ split ! $ move ! (1 ∷ []) $ fsplit ! $ fsplit ! $ keep ! (1 ∷ 3 ∷ []) $
+    qed 𝓛 ((toks ⊛ ‵ (owns (types_at En.signature.params κs) a y.0.4)) ∷ raw ((c κs a).requires gh)
+    ∷ []) ∵ split ! $ move ! (1 ∷ []) $ fsplit ! $ fsplit ! $ keep ! (1 ∷ 3 ∷ []) $
     -- [what the places own; the tokens]
     use1 𝓛 (‵ (leaving_own R p 0 filled room me.items)) (none_left R 𝓛 p filled room me.items) $
-    enter ! 𝓣.C 𝓣.Λ fn (places_val p filled room ∷ []) Post $ alloc_all ! (λ l. pass_all ! refl (places-Good p filled room filled_fits room_fits, tt) $
+    enter ! 𝓣.C 𝓣.Λ fn (places_val p filled room ∷ []) Post $
+    alloc_all ! (λ l. pass_all ! refl (places-Good p filled room filled_fits room_fits, tt) $
     sets ! (of_opd ! (get_in ! (fld ! refl (stop !)) (sub ! 0 refl (whole !)))) refl (Ptr-Good p) $
-    sets ! (of_opd ! (get_in ! (fld ! refl (stop !)) (sub ! 1 refl (whole !)))) refl (tt, record { fits = filled_fits }) $
+    sets ! (of_opd ! (get_in ! (fld ! refl (stop !)) (sub ! 1 refl (whole !))))
+    refl (tt, record { fits = filled_fits }) $
     sets ! (of_opd ! (get_in ! (fld ! refl (stop !)) (sub ! 2 refl (whole !)))) refl (tt, record { fits = room_fits }) $
-    sets ! (agg ! (and_then ! (get ! refl) (and_then ! (lit ! tt) (and_then ! (get ! refl) (and_then ! (get ! refl) (no_more !)))))) refl (leaving-Good p 0 filled room (lit< tt) filled_fits room_fits) $
-    use0 𝓛 (‵ ((LeavingWords R).own_val (p, (0, (filled, (room, tt)))) (leaving_val p 0 filled room ∷ []))) (leaving_words R 𝓛 p 0 filled room (lit< tt) filled_fits room_fits) $ fjoin ! $
-    use0 𝓛 (raw (fact 𝓤 (me.items ≡ me.items))) (fact_i 𝓤 (me.items ≡ me.items) (emp 𝓤) refl) $ nothing_more ! $ nothing_more ! $ fjoin ! $
-    returns ! (look_at ! 0 refl) $ free_all ! refl $ keep ! (3 ∷ 0 ∷ 2 ∷ 1 ∷ []) $ by ! (leaves 𝓛 En hs c y (leaving_val p 0 filled room) new (tt, tt) (tt, tt))))
+    sets ! (agg ! (and_then ! (get ! refl) (and_then ! (lit ! tt) (and_then ! (get ! refl) (and_then ! (get ! refl)
+    (no_more !)))))) refl (leaving-Good p 0 filled room (lit< tt) filled_fits room_fits) $
+    use0 𝓛 (‵ ((LeavingWords R).own_val (p, (0, (filled, (room, tt)))) (leaving_val p 0 filled room ∷ [])))
+    (leaving_words R 𝓛 p 0 filled room (lit< tt) filled_fits room_fits) $ fjoin ! $
+    use0 𝓛 (raw (fact 𝓤 (me.items ≡ me.items))) (fact_i 𝓤 (me.items ≡ me.items) (emp 𝓤) refl) $
+    nothing_more ! $ nothing_more ! $ fjoin ! $
+    returns ! (look_at ! 0 refl) $ free_all ! refl $ keep ! (3 ∷ 0 ∷ 2 ∷ 1 ∷ []) $
+    by ! (leaves 𝓛 En hs c y (leaving_val p 0 filled room) new (tt, tt) (tt, tt))))

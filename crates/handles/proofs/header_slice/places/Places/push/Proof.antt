@@ -1,5 +1,16 @@
 -- `push` writes an item into the first place after the others.
-use Rattle.handles.proofs.PlacesWalks.{ℕ, ◌+◌, ◌-◌, ◌^◌, ◌<◌, List, [], ◌∷◌, ◌++◌, refl, sym, ap, ◌∙◌, subst, arith, a_type, Val, vptr, vunit, inst_fn, full_share, SProp, ent, id⊢, ftrue, flft, WpFn, ‵, raw, ◌⊛◌, at_ret, ◌$◌, ◌∵◌, !, qed, move, keep, drop, split, split3, join, fsplit3, fjoin, fjoin3, use1, use2, rewrite, feq_i, suffices, done, unit_lit, stop, fld, load, lit, of_opd, first, blocks, exec, returns, enter, alloc_all, pass_all, free_all, look_at, get, through, sets, env, sub, whole, look_in, tables, fact, no, RattleType, owns, types_at, plain, block_ptr, nothing_more, heard, cell_at, param, layouts, Stays, stay_dropped, walk_of, Goes-dropped, after, proved_at, elτ, one_below, sz, times_below, PlacesRow, places_val, places_opens, ◌*◌, as_raw, as_written, froom, Array, part_at, closes, opens, Goes-ref, stay_ref, ty_array, store_in, assigns, bin, size_lit}
+use Rattle.handles.proofs.PlacesWalks.{ℕ, ◌+◌, ◌-◌, ◌^◌, ◌<◌, List, [], ◌∷◌, ◌++◌, refl}
+use Rattle.handles.proofs.PlacesWalks.{sym, ap, ◌∙◌, subst, arith, a_type, Val, vptr, vunit, inst_fn, full_share}
+use Rattle.handles.proofs.PlacesWalks.{SProp, ent, id⊢, ftrue, flft, WpFn, ‵, raw, ◌⊛◌, at_ret, ◌$◌}
+use Rattle.handles.proofs.PlacesWalks.{◌∵◌, !, qed, move, keep, drop, split, split3, join, fsplit3, fjoin, fjoin3}
+use Rattle.handles.proofs.PlacesWalks.{use1, use2, rewrite, feq_i, suffices, done, unit_lit, stop, fld, load, lit}
+use Rattle.handles.proofs.PlacesWalks.{of_opd, first, blocks, exec, returns, enter, alloc_all, pass_all, free_all}
+use Rattle.handles.proofs.PlacesWalks.{look_at, get, through, sets, env, sub, whole, look_in, tables, fact, no}
+use Rattle.handles.proofs.PlacesWalks.{RattleType, owns, types_at, plain, block_ptr, nothing_more, heard, cell_at}
+use Rattle.handles.proofs.PlacesWalks.{param, layouts, Stays, stay_dropped, walk_of, Goes-dropped, after, proved_at}
+use Rattle.handles.proofs.PlacesWalks.{elτ, one_below, sz, times_below, PlacesRow, places_val, places_opens, ◌*◌}
+use Rattle.handles.proofs.PlacesWalks.{as_raw, as_written, froom, Array, part_at, closes, opens, Goes-ref, stay_ref}
+use Rattle.handles.proofs.PlacesWalks.{ty_array, store_in, assigns, bin, size_lit}
 use lib.ListN.{length-append}
 use types.Run.{init, assigns_last}
 use denote.Triple.Walked.{ends_at}
@@ -14,35 +25,78 @@ use Rattle.handles.proofs.header_slice.places.Places.push.Code as code
 
 pub push_spec : {M : Type 1} → statement M
 push_spec 𝓤 𝓛 𝓜 𝓡 wired T L =
-    let H = 𝓛.H in let 𝓣 = tables 𝓤 H 𝓜 𝓡 𝓡.env in let R : RattleType = param 0 T in let Self : RattleType = PlacesRow R in let En = ended T in let c = clauses T 𝓛 𝓜.mem 𝓡.returns in
-    let E : El = record { row = T; laws = L } in let inst = layouts (a_type ∷ []) (T, tt) in let fn = inst_fn inst code.function in
-    let places = plain (λ _. Self) in let item = plain (λ _. R) in let hs : Stays En.signature.params En.kept = (stay_ref (0 ∷ []) tt places, (stay_dropped item no, tt)) in
-    proved_at 𝓛 En hs c 𝓜 𝓡 (Goes-ref 𝓛 2 0 tt places, (Goes-dropped 𝓛 2 item no (λ κs x f. refl), tt)) (#self inst) fn (code.unfolded 𝓤 H 𝓜 𝓡 wired (T, tt)) (λ z are.
-    let κs = z.0.0 in let qs = z.0.1 in let me = z.0.3.0 in let h : Self.Denot = me.now in let x : T.Denot = z.0.3.1.0 in let rb : ℕ = me.ref_ptr.0 in let ro : ℕ = me.ref_ptr.1 in
+    let H = 𝓛.H in let 𝓣 = tables 𝓤 H 𝓜 𝓡 𝓡.env in let R : RattleType = param 0 T in
+    let Self : RattleType = PlacesRow R in let En = ended T in let c = clauses T 𝓛 𝓜.mem 𝓡.returns in
+    let E : El = record { row = T; laws = L } in let inst = layouts (a_type ∷ []) (T, tt) in
+    let fn = inst_fn inst code.function in
+    let places = plain (λ _. Self) in let item = plain (λ _. R) in
+    let hs : Stays En.signature.params En.kept = (stay_ref (0 ∷ []) tt places, (stay_dropped item no, tt)) in
+    proved_at 𝓛 En hs c 𝓜 𝓡 (
+      Goes-ref 𝓛 2 0 tt places,
+      (
+        Goes-dropped 𝓛 2 item no (λ κs x f. refl),
+        tt,
+      ),
+    ) (#self inst) fn (code.unfolded 𝓤 H 𝓜 𝓡 wired (T, tt)) (λ z are.
+    let κs = z.0.0 in let qs = z.0.1 in let me = z.0.3.0 in let h : Self.Denot = me.now in
+    let x : T.Denot = z.0.3.1.0 in let rb : ℕ = me.ref_ptr.0 in let ro : ℕ = me.ref_ptr.1 in
     let n : ℕ = h.filled in let room : ℕ = h.room in let xs : List T.Denot = h.items in let s : ℕ = sz E in
-    let Post : Val → SProp 𝓤 = (walk_of 𝓛 En hs c).post z in let Run : List Val → SProp 𝓤 = λ ws. WpFn 𝓤 H 𝓣.C 𝓣.Λ fn ws Post in
-    let P : param_steps.El = record { row = T; laws = L } in let is_item = param_steps.one P z.0.4.1.0 ((param_steps.lawful P 𝓛).typed x z.0.4.1.0 are.1.0) in let v : Val = is_item.0 in
+    let Post : Val → SProp 𝓤 = (walk_of 𝓛 En hs c).post z in
+    let Run : List Val → SProp 𝓤 = λ ws. WpFn 𝓤 H 𝓣.C 𝓣.Λ fn ws Post in
+    let P : param_steps.El = record { row = T; laws = L } in
+    let is_item = param_steps.one P z.0.4.1.0 ((param_steps.lawful P 𝓛).typed x z.0.4.1.0 are.1.0) in
+    let v : Val = is_item.0 in
     let toks = ‵ (flft κs.0 qs.0) ⊛ ‵ (flft κs.1.0 qs.1.0) ⊛ ‵ ftrue in
-    qed 𝓛 ((toks ⊛ ‵ (owns (types_at En.signature.params κs) z.0.3 z.0.4)) ∷ raw (fact 𝓤 _) ∷ raw (fact 𝓤 (n < room)) ∷ []) ∵
-    keep ! (2 ∷ 0 ∷ []) $ heard ! (n < room) (λ below. split ! $ split3 ! $ move ! (3 ∷ []) $ fsplit3 ! $ fsplit3 ! $ drop ! $ move ! (0 ∷ 1 ∷ 4 ∷ 2 ∷ []) $
+    qed 𝓛 ((toks ⊛ ‵ (owns (types_at En.signature.params κs) z.0.3 z.0.4)) ∷ raw (fact 𝓤 _)
+    ∷ raw (fact 𝓤 (n < room)) ∷ []) ∵
+    keep ! (2 ∷ 0 ∷ []) $ heard ! (n < room) (λ below. split ! $ split3 ! $ move ! (3 ∷ []) $ fsplit3 ! $
+    fsplit3 ! $ drop ! $ move ! (0 ∷ 1 ∷ 4 ∷ 2 ∷ []) $
     -- [the reference's two parts; its token; the item; nothing; the token of T]
-    suffices ! (Run (vptr rb ro ∷ v ∷ [])) (subst (λ (us : List Val). ent 𝓤 (Run (vptr rb ro ∷ v ∷ [])) (Run us)) (sym (λ j. are.0.0 j ++ (is_item.1 j ++ []))) (id⊢ 𝓤 (Run (vptr rb ro ∷ v ∷ [])))) $
+    suffices ! (Run (vptr rb ro ∷ v ∷ [])) (subst (λ (us : List Val). ent 𝓤 (Run (vptr rb ro ∷ v ∷ []))
+    (Run us)) (sym (λ j. are.0.0 j ++ (is_item.1 j ++ []))) (id⊢ 𝓤 (Run (vptr rb ro ∷ v ∷ [])))) $
     rewrite ! 3 (λ (us : List Val). ‵ (T.own_val x us)) is_item.1 refl $
-    enter ! 𝓣.C 𝓣.Λ fn (vptr rb ro ∷ v ∷ []) Post $ alloc_all ! (λ l. pass_all ! refl ((tt, tt), (is_item.2, tt)) $ let Ev = env fn.locals l in
-    opens ! tt Self {h = h} rb ro (λ vs. move ! (1 ∷ []) $ places_opens R ! h vs (λ b o at words small_filled small_room fits. let τ = elτ E in
-    let tiny : s < 2 ^ 64 = omega (arith, one_below room s (2 ^ 63) (omega arith) fits) in let more : n + 1 < 2 ^ 64 = omega arith in let far : n * s < 2 ^ 64 = omega (arith, times_below n room s (2 ^ 63) (omega arith) fits) in
-    let new : Self.Denot = record { first = block_ptr b o; filled = n + 1; room = room; items = xs ++ x ∷ []; within = (ap (λ (k : ℕ). k + 1) h.within.0 ∙ sym (length-append xs (x ∷ [])), omega arith) } in
+    enter ! 𝓣.C 𝓣.Λ fn (vptr rb ro ∷ v ∷ []) Post $
+    alloc_all ! (λ l. pass_all ! refl ((tt, tt), (is_item.2, tt)) $ let Ev = env fn.locals l in
+    opens ! tt Self {h = h} rb ro (λ vs. move ! (1 ∷ []) $
+    places_opens R ! h vs (λ b o at words small_filled small_room fits. let τ = elτ E in
+    let tiny : s < 2 ^ 64 = omega (arith, one_below room s (2 ^ 63) (omega arith) fits) in
+    let more : n + 1 < 2 ^ 64 = omega arith in
+    let far : n * s < 2 ^ 64 = omega (arith, times_below n room s (2 ^ 63) (omega arith) fits) in
+    let new : Self.Denot = record {
+      first = block_ptr b o;
+      filled = n + 1;
+      room = room;
+      items = xs ++ x ∷ [];
+      within = (ap (λ (k : ℕ). k + 1) h.within.0 ∙ sym (length-append xs (x ∷ [])), omega arith);
+    } in
     rewrite ! 3 (λ (us : List Val). ‵ (cell_at full_share Self.mir us rb ro)) words refl $ move ! (1 ∷ []) $
-    as_written ! (ty_array τ (room - n)) b (o + n * s) $ use1 𝓛 (‵ (froom τ b (n * s + o)) ⊛ ‵ (froom (ty_array τ (room - (n + 1))) b (o + (n + 1) * s))) (spare E 𝓛 b o n room below) $ split ! $
-    -- [the place; the room after it; the items; the right to give back; the cell; the open borrow; its two names; the item; nothing; the token of T]
-    sets ! (of_opd ! (load ! (through ! refl (fld ! refl (stop !))) (look_in ! 4 (sub ! 1 refl (whole !))))) refl (tt, record { fits = small_filled }) $ first ! $ blocks ! $
-    sets ! (of_opd ! (load ! (through ! refl (fld ! refl (stop !))) (look_in ! 4 (sub ! 0 refl (whole !))))) refl (tt, tt) $ sets ! (bin ! (get ! refl) (size_lit ! (record { fits = tiny })) (record { fits = far })) refl (tt, record { fits = far }) $
-    sets ! (bin ! (get ! refl) (get ! refl) tt) refl (tt, tt) $ sets ! (of_opd ! (get ! refl)) refl is_item.2 $ assigns_last ! (of_opd ! (get ! refl)) (through ! refl (stop !)) (init ! 0 refl is_item.2) $ exec ! 𝓣.C 𝓣.Λ Ev (after 2 fn.body) (at_ret Ev Post) $
-    sets ! (bin ! (get ! refl) (lit ! tt) (record { fits = more })) refl (tt, record { fits = more }) $ assigns ! (of_opd ! (get ! refl)) (through ! refl (fld ! refl (stop !))) (store_in ! 4 (sub ! 1 refl (whole !)) (tt, record { fits = more })) $
-    sets ! (of_opd ! (unit_lit !)) refl (tt, tt) $ move ! (0 ∷ 8 ∷ []) $ use2 𝓛 (‵ (part_at R full_share x b (n * s + o))) (el_in E 𝓛 full_share x b (n * s + o) v) $
-    move ! (2 ∷ 0 ∷ []) $ use2 𝓛 (‵ (part_at (Array R (n + 1)) full_share (xs ++ x ∷ []) b o)) (snoc E 𝓛 b o n xs x) $ move ! (1 ∷ []) $ as_raw ! (ty_array τ (room - (n + 1))) b (o + (n + 1) * s) $ move ! (1 ∷ []) $
-    places_shuts R ! new b o refl more small_room fits $ move ! (1 ∷ []) $ closes ! tt Self new (places_val (block_ptr b o) (n + 1) room ∷ []) rb ro $
+    as_written ! (ty_array τ (room - n)) b (o + n * s) $
+    use1 𝓛 (‵ (froom τ b (n * s + o)) ⊛ ‵ (froom (ty_array τ (room - (n + 1))) b (o + (n + 1) * s)))
+    (spare E 𝓛 b o n room below) $ split ! $
+    -- [the place; the room after it; the items; the right to give back; the cell; the open borrow; its two names; the
+    -- item; nothing; the token of T]
+    sets ! (of_opd ! (load ! (through ! refl (fld ! refl (stop !))) (look_in ! 4 (sub ! 1 refl (whole !)))))
+    refl (tt, record { fits = small_filled }) $ first ! $ blocks ! $
+    sets ! (of_opd ! (load ! (through ! refl (fld ! refl (stop !))) (look_in ! 4 (sub ! 0 refl (whole !)))))
+    refl (tt, tt) $ sets ! (bin ! (get ! refl) (size_lit ! (record { fits = tiny })) (record { fits = far }))
+    refl (tt, record { fits = far }) $
+    sets ! (bin ! (get ! refl) (get ! refl) tt) refl (tt, tt) $ sets ! (of_opd ! (get ! refl)) refl is_item.2 $
+    assigns_last ! (of_opd ! (get ! refl)) (through ! refl (stop !)) (init ! 0 refl is_item.2) $
+    exec ! 𝓣.C 𝓣.Λ Ev (after 2 fn.body) (at_ret Ev Post) $
+    sets ! (bin ! (get ! refl) (lit ! tt) (record { fits = more })) refl (tt, record { fits = more }) $
+    assigns ! (of_opd ! (get ! refl)) (through ! refl (fld ! refl (stop !)))
+    (store_in ! 4 (sub ! 1 refl (whole !)) (tt, record { fits = more })) $
+    sets ! (of_opd ! (unit_lit !)) refl (tt, tt) $ move ! (0 ∷ 8 ∷ []) $
+    use2 𝓛 (‵ (part_at R full_share x b (n * s + o))) (el_in E 𝓛 full_share x b (n * s + o) v) $
+    move ! (2 ∷ 0 ∷ []) $ use2 𝓛 (‵ (part_at (Array R (n + 1)) full_share (xs ++ x ∷ []) b o))
+    (snoc E 𝓛 b o n xs x) $ move ! (1 ∷ []) $ as_raw ! (ty_array τ (room - (n + 1))) b (o + (n + 1) * s) $
+    move ! (1 ∷ []) $
+    places_shuts R ! new b o refl more small_room fits $ move ! (1 ∷ []) $
+    closes ! tt Self new (places_val (block_ptr b o) (n + 1) room ∷ []) rb ro $
     -- [the reference's two parts; its token; nothing; the token of T]
-    returns ! (look_at ! 0 refl) $ free_all ! refl $ feq_i ! (List Val) z.0.4.0 (vptr rb ro ∷ []) are.0.0 $ fjoin3 ! $ nothing_more ! $ move ! (3 ∷ 0 ∷ []) $ fjoin ! $ move ! (1 ∷ 0 ∷ []) $ fjoin ! $
-    move ! (2 ∷ 3 ∷ []) $ join ! $ move ! (2 ∷ 0 ∷ []) $ join ! $ feq_i ! (List Val) (vunit ∷ []) (vunit ∷ []) refl $ move ! (1 ∷ 2 ∷ 0 ∷ []) $
-    suffices ! _ (ends_at 𝓛 En hs c z vunit tt (new, (tt, tt)) (tt, (tt, tt))) $ says_two ! (refl, refl) $ done !)))))
+    returns ! (look_at ! 0 refl) $ free_all ! refl $ feq_i ! (List Val) z.0.4.0 (vptr rb ro ∷ []) are.0.0 $
+    fjoin3 ! $ nothing_more ! $ move ! (3 ∷ 0 ∷ []) $ fjoin ! $ move ! (1 ∷ 0 ∷ []) $ fjoin ! $
+    move ! (2 ∷ 3 ∷ []) $ join ! $ move ! (2 ∷ 0 ∷ []) $ join ! $
+    feq_i ! (List Val) (vunit ∷ []) (vunit ∷ []) refl $ move ! (1 ∷ 2 ∷ 0 ∷ []) $
+    suffices ! _ (ends_at 𝓛 En hs c z vunit tt (new, (tt, tt)) (tt, (tt, tt))) $ says_two ! (refl, refl) $
+    done !)))))

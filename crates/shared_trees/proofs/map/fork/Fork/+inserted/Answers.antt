@@ -4,7 +4,8 @@ use Rattle.shared_trees.specs.Forks.{less_side, greater_side}
 use Rattle.shared_trees.specs.Maps.{IsRising, with_entry}
 use Rattle.shared_trees.proofs.Rising.{rising_with_left, rising_with_right, with_nil}
 use Rattle.shared_trees.proofs.map.fork.Fork.+inserted.Goals.{in-Some+in_ok-less-in-Some, in-None+in_ok-less-in-None}
-use Rattle.shared_trees.proofs.map.fork.Fork.+inserted.Goals.{in-Some-greater+in_ok-greater-in-Some-greater, in-None-greater+in_ok-greater-in-None-greater}
+use Rattle.shared_trees.proofs.map.fork.Fork.+inserted.Goals.{in-Some-greater+in_ok-greater-in-Some-greater}
+use Rattle.shared_trees.proofs.map.fork.Fork.+inserted.Goals.{in-None-greater+in_ok-greater-in-None-greater}
 use Rattle.shared_trees.proofs.map.fork.Fork.+inserted.Goals as goal
 
 pub copied-requires-clause-rising : goal.copied-requires-clause-rising
@@ -15,9 +16,11 @@ copied-requires-clause-rising g t c κs within =
     let made : c.match-less.less ≡ with_entry key value (less_side fork.sides) =
     elim c.match-less.branch [
       | in-Some+in_ok-less-in-Some w ↦
-          w.less-is ∙ w.in_ok-less-in-Some.ensures ∙ ap (with_entry key value) (w.deref.ensures ∙ w.in-Some.ensures)
+          w.less-is ∙ w.in_ok-less-in-Some.ensures ∙ ap (with_entry key value)
+          (w.deref.ensures ∙ w.in-Some.ensures)
       | in-None+in_ok-less-in-None w ↦
-          w.less-is ∙ w.in_ok-less-in-None.ensures ∙ sym (with_nil key value) ∙ ap (with_entry key value) w.in-None.ensures
+          w.less-is ∙ w.in_ok-less-in-None.ensures ∙ sym (with_nil key value) ∙ ap (with_entry key value)
+          w.in-None.ensures
     ] in
     let h : key < fork.entry.0 = omega arith in
     let put : IsRising (with_entry key value (less_side fork.sides) ++ fork.entry ∷ greater_side fork.sides) =

@@ -4,7 +4,8 @@ use Rattle.shared_trees.specs.Forks.{less_side, greater_side}
 use Rattle.shared_trees.specs.Maps.{IsRising, without}
 use Rattle.shared_trees.proofs.Rising.{rising_without_left, rising_without_right, rising_sides, without_nil}
 use Rattle.shared_trees.proofs.map.fork.Fork.+removed.Goals.{in-Some+in_ok-less-in-Some, in-None}
-use Rattle.shared_trees.proofs.map.fork.Fork.+removed.Goals.{in-Some-greater+in_ok-greater-in-Some-greater, in-None-greater}
+use Rattle.shared_trees.proofs.map.fork.Fork.+removed.Goals.{in-Some-greater+in_ok-greater-in-Some-greater}
+use Rattle.shared_trees.proofs.map.fork.Fork.+removed.Goals.{in-None-greater}
 use Rattle.shared_trees.proofs.map.fork.Fork.+removed.Goals as goal
 
 pub beside-requires-clause-rising : goal.beside-requires-clause-rising
@@ -32,7 +33,8 @@ beside-requires-then-here-key-clause-rising g t c κs within =
           w.greater-is ∙ w.in_ok-greater-in-Some-greater.ensures
           ∙ ap (without key) (w.deref-in-Some-greater.ensures ∙ w.in-Some-greater.ensures)
       | in-None-greater w ↦
-          w.greater-is ∙ w.new-greater.ensures ∙ sym (without_nil key) ∙ ap (without key) w.in-None-greater.ensures
+          w.greater-is ∙ w.new-greater.ensures ∙ sym (without_nil key) ∙ ap (without key)
+          w.in-None-greater.ensures
     ] in
     let h : fork.entry.0 < key = omega arith in
     let put : IsRising (less_side fork.sides ++ fork.entry ∷ without key (greater_side fork.sides)) =

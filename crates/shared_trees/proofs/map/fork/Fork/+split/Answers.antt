@@ -2,7 +2,8 @@
 use Rattle.std.proofs.Common.{◌≡◌, ◌∷◌, ◌++◌, ◌<◌, ap, sym, ◌∙◌, arith}
 use Rattle.shared_trees.specs.Forks.{less_side, greater_side}
 use Rattle.shared_trees.specs.Maps.{IsRising, above, below}
-use Rattle.shared_trees.proofs.Rising.{rising_above_left, rising_below_right, below_nil, above_nil, below_right, above_right}
+use Rattle.shared_trees.proofs.Rising.{rising_above_left, rising_below_right, below_nil, above_nil, below_right}
+use Rattle.shared_trees.proofs.Rising.{above_right}
 use Rattle.shared_trees.proofs.map.fork.Fork.+split.Goals.{in-Some+in_ok-split-in-Some, in-None}
 use Rattle.shared_trees.proofs.map.fork.Fork.+split.Goals.{in-Some-greater+in_ok-split-in-Some-greater, in-None-greater}
 use Rattle.shared_trees.proofs.map.fork.Fork.+split.Goals as goal
@@ -36,7 +37,12 @@ beside-requires-then-here-key-clause-rising g t c κs within =
           w.between-is ∙ w.in_ok-split-in-Some-greater.ensures
           ∙ ap (λ es. (below key es, above key es)) (w.deref-in-Some-greater.ensures ∙ w.in-Some-greater.ensures)
       | in-None-greater w ↦
-          w.between-is ∙ cc (w.new-in-None-greater.ensures, w.new-in-None-greater-2.ensures, below_nil key, above_nil key)
+          w.between-is ∙ cc (
+            w.new-in-None-greater.ensures,
+            w.new-in-None-greater-2.ensures,
+            below_nil key,
+            above_nil key,
+          )
           ∙ ap (λ es. (below key es, above key es)) w.in-None-greater.ensures
     ] in
     let h : fork.entry.0 < key = omega arith in
@@ -55,7 +61,12 @@ returns-in_ok-fork-2 g t c =
           w.between-is ∙ w.in_ok-split-in-Some-greater.ensures
           ∙ ap (λ es. (below key es, above key es)) (w.deref-in-Some-greater.ensures ∙ w.in-Some-greater.ensures)
       | in-None-greater w ↦
-          w.between-is ∙ cc (w.new-in-None-greater.ensures, w.new-in-None-greater-2.ensures, below_nil key, above_nil key)
+          w.between-is ∙ cc (
+            w.new-in-None-greater.ensures,
+            w.new-in-None-greater-2.ensures,
+            below_nil key,
+            above_nil key,
+          )
           ∙ ap (λ es. (below key es, above key es)) w.in-None-greater.ensures
     ] in
     let h : fork.entry.0 < key = omega arith in

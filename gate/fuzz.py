@@ -1,6 +1,6 @@
 #!/usr/bin/env python3
-"""Runs `arcbench` on random scripts, right and broken ones, and compares what it prints with machines that are written
-here from examples/README.md: a core that knows live handles and no word, and a table whose slots share blocks.
+"""Runs `arcbench` on random scripts, right and broken ones, and compares what it prints with reference models that are
+written here from examples/README.md: a core that knows live handles and no word, and a table whose slots share blocks.
 
     gate/fuzz.py [SCRIPTS [SEED]]
 
@@ -10,78 +10,67 @@ import random
 import subprocess
 import sys
 from pathlib import Path
+from types import SimpleNamespace
 
-PROGRAM = Path(__file__).resolve().parent.parent / "out" / "arcbench"
+PROGRAM = Path(__file__).resolve().parent.parent / "crates" / "arcbench" / "out" / "arcbench"
 GREATEST_LIMIT = 2**63 - 1
 GREATEST_NUMBER = 2**32 - 1
 
 
-class Handle:
-    def __init__(self, holder):
-        self.holder = holder
-        self.borrowers = set()
-        self.is_written = False
-        self.is_sole = False
+def handle_of(holder):
+    return SimpleNamespace(holder=holder, borrowers=set(), is_written=False, is_sole=False)
+
+
+def block_of(value):
+    return SimpleNamespace(value=value, is_marked=False)
 
 
 class Core:
     """One block, its owners and its live handles."""
 
+    # Each word, and what its numbers are: owners, handles and values.
+    LINES = {
+        "clone": "oh", "raise": "o", "quit": "o", "drop": "oh", "lower": "o", "mark": "oh", "unique": "oh",
+        "static": "oh", "getmut": "oh", "write": "ohv", "endwrite": "oh", "load": "oh", "lend": "oho",
+        "return": "oh", "give": "oho", "intounique": "oh", "share": "oh",
+    }
+
     def __init__(self, owners, limit=GREATEST_LIMIT):
         self.owners = owners
         self.limit = limit
         self.value = 5
-        self.handles = {0: Handle(0)}
+        self.handles = {0: handle_of(0)}
         self.births = 1
         self.is_marked = False
         # What an owner is in the middle of: ("clone", live handles when it last read) or ("drop", handle).
         self.busy = {}
 
-    def answer(self, word, numbers):
-        owner = numbers[0]
-        if owner >= self.owners or not self.may(word, owner, numbers[1:]):
+    def answer(self, word, owner, *rest):
+        if owner >= self.owners or not self.permits(word, owner, *rest):
             return "barred"
-        return getattr(self, word)(owner, *numbers[1:])
+        return getattr(self, f"do_{word}")(owner, *rest) or "done"
 
-    def may(self, word, owner, rest):
-        if word in ("raise_", "quit"):
-            return self.busy.get(owner, ("",))[0] == "clone"
-        if word == "lower":
-            return self.busy.get(owner, ("",))[0] == "drop"
-        if owner in self.busy:
+    def permits(self, word, owner, number=None, to=0):
+        if owner in self.busy or word in ("raise", "quit", "lower"):
+            return word in {"clone": ("raise", "quit"), "drop": ("lower",)}.get(self.busy.get(owner, " ")[0], ())
+        if number not in self.handles:
             return False
-        handle = self.handles.get(rest[0])
-        if handle is None:
-            return False
+        handle = self.handles[number]
+        is_lent_to = owner in handle.borrowers
         is_held = handle.holder == owner
+        is_sole = is_held and handle.is_sole
         is_quiet = not handle.is_written and not handle.is_sole
-        is_sole_held = is_held and handle.is_sole
-        if word == "load":
-            return ((is_held or owner in handle.borrowers) and is_quiet) or is_sole_held
-        if word in ("clone", "mark", "unique", "static"):
-            return (is_held or owner in handle.borrowers) and is_quiet
-        if word in ("getmut", "intounique"):
-            return is_held and not handle.borrowers and is_quiet
-        if word == "drop":
-            return (is_held and not handle.borrowers and is_quiet) or is_sole_held
-        if word == "give":
-            is_other = rest[1] < self.owners and rest[1] != owner
-            return is_other and ((is_held and not handle.borrowers and is_quiet) or is_sole_held)
-        if word == "lend":
-            to = rest[1]
-            return is_held and is_quiet and to < self.owners and to != owner and to not in handle.borrowers
-        if word == "return_":
-            return owner in handle.borrowers
-        if word == "write":
-            return (is_held and handle.is_written) or is_sole_held
-        if word == "endwrite":
-            return is_held and handle.is_written
-        return word == "share" and is_sole_held
-
-    def born(self, owner):
-        self.handles[self.births] = Handle(owner)
-        self.births += 1
-        return f"born {self.births - 1}"
+        is_used = (is_held or is_lent_to) and is_quiet
+        is_taken = is_held and not handle.borrowers and is_quiet
+        is_other = to < self.owners and to != owner
+        return {
+            "clone": is_used, "mark": is_used, "unique": is_used, "static": is_used, "load": is_used or is_sole,
+            "getmut": is_taken, "intounique": is_taken, "drop": is_taken or is_sole,
+            "give": is_other and (is_taken or is_sole),
+            "lend": is_other and is_held and is_quiet and to not in handle.borrowers,
+            "return": is_lent_to, "write": is_held and not is_quiet, "endwrite": is_held and handle.is_written,
+            "share": is_sole,
+        }[word]
 
     def is_full(self):
         return not self.is_marked and len(self.handles) == self.limit
@@ -89,88 +78,77 @@ class Core:
     def is_alone(self):
         return not self.is_marked and len(self.handles) == 1
 
-    def clone(self, owner, _handle):
-        if self.is_marked:
-            return self.born(owner)
-        if self.is_full():
-            return "full"
+    def born(self, owner):
+        self.handles[self.births] = handle_of(owner)
+        self.births += 1
+        return f"born {self.births - 1}"
+
+    def do_clone(self, owner, _handle):
+        if self.is_marked or self.is_full():
+            return "full" if self.is_full() else self.born(owner)
         self.busy[owner] = ("clone", len(self.handles))
         return "pending"
 
-    def raise_(self, owner):
+    def do_raise(self, owner):
         if not self.is_marked and not self.is_full() and len(self.handles) != self.busy[owner][1]:
             self.busy[owner] = ("clone", len(self.handles))
             return "pending"
         del self.busy[owner]
         return "full" if self.is_full() else self.born(owner)
 
-    def quit(self, owner):
+    def do_quit(self, owner):
         del self.busy[owner]
         return "quit"
 
-    def drop(self, owner, handle):
+    def do_drop(self, owner, handle):
         if self.is_marked:
             del self.handles[handle]
             return "ended"
         self.busy[owner] = ("drop", handle)
         return "pending"
 
-    def lower(self, owner):
+    def do_lower(self, owner):
         del self.handles[self.busy.pop(owner)[1]]
         return f"given up {self.value}" if not self.is_marked and not self.handles else "ended"
 
-    def mark(self, _owner, _handle):
+    def do_mark(self, _owner, _handle):
         self.is_marked = True
         return "marked"
 
-    def unique(self, _owner, _handle):
+    def do_unique(self, _owner, _handle):
         return f"is {self.is_alone()}".lower()
 
-    def static(self, _owner, _handle):
+    def do_static(self, _owner, _handle):
         return f"is {self.is_marked}".lower()
 
-    def getmut(self, _owner, handle):
+    def do_getmut(self, _owner, handle):
         self.handles[handle].is_written = self.is_alone()
         return "alone" if self.is_alone() else "shared"
 
-    def intounique(self, _owner, handle):
+    def do_intounique(self, _owner, handle):
         self.handles[handle].is_sole = self.is_alone()
         return "sole" if self.is_alone() else "shared"
 
-    def share(self, _owner, handle):
+    def do_share(self, _owner, handle):
         self.handles[handle].is_sole = False
-        return "done"
 
-    def write(self, _owner, _handle, value):
+    def do_write(self, _owner, _handle, value):
         self.value = value
-        return "done"
 
-    def endwrite(self, _owner, handle):
+    def do_endwrite(self, _owner, handle):
         self.handles[handle].is_written = False
-        return "done"
 
-    def load(self, _owner, _handle):
+    def do_load(self, _owner, _handle):
         return f"value {self.value}"
 
-    def lend(self, _owner, handle, to):
+    def do_lend(self, _owner, handle, to):
         self.handles[handle].borrowers.add(to)
-        return "done"
 
-    def return_(self, owner, handle):
+    def do_return(self, owner, handle):
         self.handles[handle].borrowers.remove(owner)
-        return "done"
 
-    def give(self, _owner, handle, to):
+    def do_give(self, _owner, handle, to):
         self.handles[handle].holder = to
-        return "done"
-
-    # Each word, and what its numbers are.
-    LINES = {
-        "clone": "oh", "raise": "o", "quit": "o", "drop": "oh", "lower": "o", "mark": "oh", "unique": "oh",
-        "static": "oh", "getmut": "oh", "write": "ohv", "endwrite": "oh", "load": "oh", "lend": "oho",
-        "return": "oh", "give": "oho", "intounique": "oh", "share": "oh",
-    }
-    METHODS = {"raise": "raise_", "return": "return_"}
 
     def number(self, kind, chance):
         if kind == "o":
@@ -180,81 +158,67 @@ class Core:
         return chance.choice([0, 1, 7, GREATEST_NUMBER, chance.randrange(GREATEST_NUMBER)])
 
 
-class Block:
-    def __init__(self, value):
-        self.value = value
-        self.is_marked = False
-
-
 class Table:
     """Slots, each with a block or nothing. A block is shared by the slots that have it."""
+
+    # Each word, and what its numbers are: slots and values.
+    LINES = {
+        "new": "sv", "clone": "ss", "drop": "s", "getmut": "sv", "makemut": "sv", "own": "s", "mark": "s", "raw": "s",
+        "ptreq": "ss", "same": "ss", "get": "s", "intounique": "sv",
+    }
 
     def __init__(self, slots):
         self.slots = [None] * slots
 
-    def answer(self, word, numbers):
-        on_two = word in ("clone", "ptreq", "same")
-        if any(slot >= len(self.slots) for slot in numbers[: 2 if on_two else 1]):
+    def answer(self, word, *numbers):
+        slots = [number for number, kind in zip(numbers, self.LINES[word]) if kind == "s"]
+        if any(slot >= len(self.slots) for slot in slots):
             return "no slot"
-        reads = {"new": [], "ptreq": numbers, "same": numbers}.get(word, numbers[:1])
+        reads = {"new": [], "clone": slots[:1]}.get(word, slots)
         if any(self.slots[slot] is None for slot in reads):
             return "empty"
-        return getattr(self, word)(*numbers)
+        return getattr(self, f"do_{word}")(*numbers) or "done"
+
+    def do_new(self, slot, value):
+        self.slots[slot] = block_of(value)
+
+    def do_clone(self, slot, other):
+        self.slots[other] = self.slots[slot]
+
+    def do_drop(self, slot):
+        self.slots[slot] = None
 
     def is_alone(self, slot):
         block = self.slots[slot]
         return not block.is_marked and sum(other is block for other in self.slots) == 1
 
-    def new(self, slot, value):
-        self.slots[slot] = Block(value)
-        return "done"
+    def do_getmut(self, slot, value):
+        return self.do_makemut(slot, value) if self.is_alone(slot) else "shared"
 
-    def clone(self, slot, other):
-        self.slots[other] = self.slots[slot]
-        return "done"
+    do_intounique = do_getmut
 
-    def drop(self, slot):
-        self.slots[slot] = None
-        return "done"
-
-    def getmut(self, slot, value):
+    def do_makemut(self, slot, value):
         if not self.is_alone(slot):
-            return "shared"
+            self.slots[slot] = block_of(value)
         self.slots[slot].value = value
-        return "done"
 
-    intounique = getmut
+    def do_own(self, slot):
+        self.do_makemut(slot, self.slots[slot].value)
 
-    def makemut(self, slot, value):
-        if not self.is_alone(slot):
-            self.slots[slot] = Block(self.slots[slot].value)
-        self.slots[slot].value = value
-        return "done"
-
-    def own(self, slot):
-        return self.makemut(slot, self.slots[slot].value)
-
-    def mark(self, slot):
+    def do_mark(self, slot):
         self.slots[slot].is_marked = True
-        return "done"
 
-    def raw(self, _slot):
-        return "done"
+    def do_raw(self, _slot):
+        pass
 
-    def ptreq(self, slot, other):
+    def do_ptreq(self, slot, other):
         return f"is {self.slots[slot] is self.slots[other]}".lower()
 
-    def same(self, slot, other):
+    def do_same(self, slot, other):
         return f"is {self.slots[slot].value == self.slots[other].value}".lower()
 
-    def get(self, slot):
+    def do_get(self, slot):
         return f"value {self.slots[slot].value}"
-
-    LINES = {
-        "new": "sv", "clone": "ss", "drop": "s", "getmut": "sv", "makemut": "sv", "own": "s", "mark": "s", "raw": "s",
-        "ptreq": "ss", "same": "ss", "get": "s", "intounique": "sv",
-    }
-    METHODS = {}
 
     def number(self, kind, chance):
         if kind == "s":
@@ -273,34 +237,24 @@ def broken(line, chance):
 
 
 def play(machine, chance):
-    """A script for the machine, and what it prints and ends with."""
+    """A script for the machine, what is printed for it, and its status. The last line may lack its line feed."""
     lines, answers = [], []
     for number in range(1, chance.randrange(1, 60) + 1):
         word = chance.choice(list(machine.LINES))
         numbers = [machine.number(kind, chance) for kind in machine.LINES[word]]
-        line = " ".join([word, *map(str, numbers)]).encode()
+        lines.append(" ".join([word, *map(str, numbers)]).encode())
         if chance.random() < 0.004:
-            line = broken(line, chance)
-            lines += [line, b"load 0 0"]
-            answers.append(f"fault: line {number}")
-            return join(lines, chance), answers, 2
-        lines.append(line)
-        answers.append(machine.answer(machine.METHODS.get(word, word), numbers))
-    return join(lines, chance), answers, 0
-
-
-def join(lines, chance):
-    text = b"\n".join(lines) + b"\n"
-    # The last line may lack its line feed, if it is not empty.
-    return text[:-1] if lines[-1] and chance.random() < 0.2 else text
+            lines[-1:] = [broken(lines[-1], chance), b"load 0 0"]
+            return b"\n".join(lines), [*answers, f"fault: line {number}"], 2
+        answers.append(machine.answer(word, *numbers))
+    return b"\n".join(lines) + b"\n" * (chance.random() < 0.8), answers, 0
 
 
 def draw(chance):
+    """The words of a call, and the machine that it opens."""
     if chance.random() < 0.6:
-        owners = chance.choice([1, 2, 3, 5])
-        limit = chance.choice([None, 1, 2, 3, 4])
-        words = ["core", str(owners)] + ([] if limit is None else [str(limit)])
-        return words, Core(owners, limit or GREATEST_LIMIT)
+        owners, limit = chance.choice([1, 2, 3, 5]), chance.choice([None, 1, 2, 3, 4])
+        return ["core", str(owners)] + [str(limit)] * (limit is not None), Core(owners, limit or GREATEST_LIMIT)
     slots = chance.choice([0, 1, 2, 3, 5])
     return ["table", str(slots)], Table(slots)
 
@@ -318,7 +272,7 @@ def main():
             print(f"fuzz: script {number} of seed {seed} differs: arcbench {' '.join(words)}")
             print(f"-- script\n{script!r}\n-- wanted {status}\n{wanted!r}\n-- got {ran.returncode}\n{ran.stdout!r}{ran.stderr!r}")
             return 1
-    print(f"fuzz: {scripts} scripts of seed {seed} are answered as by the plain machines")
+    print(f"fuzz: {scripts} scripts of seed {seed} are answered as by the reference models")
     return 0
 
 

@@ -2,28 +2,35 @@
 # Runs the built program as a user does: each exit status, what is printed where, and arguments that are hard to read.
 set -u
 cd "$(dirname "$0")/.."
-program=./arcbench
-"$program" core 1 </dev/null || exit 1
+program=crates/arcbench/out/arcbench
 folder=$(mktemp -d)
 trap 'rm -rf "$folder"' EXIT
 
 passed=0
 failed=0
 
-# want STATUS OUTPUT ERRORS ARGUMENTS.. : runs the program on what comes from standard input.
-want() {
-    local status=$1 output=$2 errors=$3 got
-    shift 3
-    "$program" "$@" >"$folder/output" 2>"$folder/errors"
-    got=$?
-    if [[ $got = "$status" ]] && cmp -s "$folder/output" <(printf "$output") && cmp -s "$folder/errors" <(printf "$errors"); then
+# holds WHAT COMMAND.. : counts it.
+holds() {
+    local what=$1
+    shift
+    if "$@"; then
         passed=$((passed + 1))
     else
         failed=$((failed + 1))
-        echo "arcbench ${*@Q}: status $got, not $status, or other texts:" >&2
-        cat "$folder/output" "$folder/errors" >&2
+        echo "arcbench: $what" >&2
     fi
 }
+
+# printed STATUS OUTPUT ERRORS ARGUMENTS.. : whether the program ends so on what comes from standard input.
+printed() {
+    local status=$1 output=$2 errors=$3
+    shift 3
+    "$program" "$@" >"$folder/output" 2>"$folder/errors"
+    [[ $? = "$status" ]] && cmp -s "$folder/output" <(printf "$output") && cmp -s "$folder/errors" <(printf "$errors")
+}
+
+# want STATUS OUTPUT ERRORS ARGUMENTS..
+want() { holds "${*@Q}: another status, or other texts" printed "$@"; }
 
 wrong='fault: arguments\n'
 steps='unique 0 0\ndrop 0 0\nlower 0\n'
@@ -34,45 +41,41 @@ want 0 '' '' table 0 </dev/null
 want 2 'is true\nfault: line 2\n' '' core 1 < <(printf 'unique 0 0\nunique 0\n')
 want 1 '' "$wrong" core 0 < <(printf "$steps")
 want 3 '' 'fault: input\n' core 1 </
-(
-    program=./arcbench
-    printf "$steps" | "$program" core 1 >/dev/full 2>"$folder/errors"
+full_output() {
+    printf "$steps" | "$program" core 1 2>"$folder/errors" >/dev/full
     [[ $? = 4 && ! -s $folder/errors ]]
-) && passed=$((passed + 1)) || {
-    failed=$((failed + 1))
-    echo "a full output does not end with 4 alone" >&2
 }
+holds "a full output does not end with 4 alone" full_output
 yes 'load 0 0' | head -500000 >"$folder/long.core"
-(
-    ulimit -v 5000
-    out/arcbench core 1 <"$folder/long.core" >"$folder/output" 2>"$folder/errors"
+little_memory() {
+    sh -c 'ulimit -v 5000 && exec "$0" core 1' "$program" <"$folder/long.core" >"$folder/output" 2>"$folder/errors"
     [[ $? = 5 && $(<"$folder/errors") = 'fault: memory' && ! -s $folder/output ]]
-) && passed=$((passed + 1)) || {
-    failed=$((failed + 1))
-    echo "refused memory does not end with 5 and its line" >&2
 }
+holds "refused memory does not end with 5 and its line" little_memory
+full_errors() {
+    "$program" core 0 </dev/null 2>/dev/full
+    [[ $? = 1 ]]
+}
+holds "a failed write to standard error changes the status" full_errors
 
-# Arguments. A word that is not UTF-8, or too long to be right, counts as a wrong one and does not end the list.
+# Arguments. A word that is not UTF-8, or too long to be right, is a wrong one at each place, and ends no list.
+right=(core 2 3 7)
+for ((place = 0; place < 4; place++)); do
+    for word in '' $'\xff' 1$'\xff' "$(printf '1%.0s' {1..1000})" '1 ' ' 1' +1 -1 01 0x1 1.0 core1 CORE 4294967296 99999999999999999999; do
+        words=("${right[@]:0:place}" "$word" "${right[@]:place+1:3-place-1}")
+        want 1 '' "$wrong" "${words[@]}" </dev/null
+    done
+done
 want 1 '' "$wrong" </dev/null
-want 1 '' "$wrong" core </dev/null
-want 1 '' "$wrong" table 1 1 </dev/null
-want 1 '' "$wrong" table 1 "$(printf 'x%.0s' {1..1000})" </dev/null
-want 1 '' "$wrong" table 1 $'\xff' </dev/null
-want 1 '' "$wrong" $'\xff' 1 </dev/null
-want 1 '' "$wrong" table '' </dev/null
-want 1 '' "$wrong" --help </dev/null
+for words in core 'core 1 0' 'core 1 1 1' 'core 1001' 'table 1001' 'table 1 1' 'table 1 1 1' 'table' --help; do
+    want 1 '' "$wrong" $words </dev/null
+done
+for limit in 2 12 123 1234 12345 123456 1234567 12345678 123456789 1234567890 4294967295; do
+    want 0 'pending\n' '' core 1 "$limit" < <(printf 'clone 0 0\n')
+done
 want 0 'full\n' '' core 1 1 < <(printf 'clone 0 0\n')
 want 0 'pending\nborn 1\nfull\n' '' core 1 2 < <(printf 'clone 0 0\nraise 0\nclone 0 0\n')
-want 0 'pending\n' '' core 1 4294967295 < <(printf 'clone 0 0\n')
-want 1 '' "$wrong" core 1 0 </dev/null
-want 1 '' "$wrong" core 1 01 </dev/null
-want 1 '' "$wrong" core 1 4294967296 </dev/null
-want 1 '' "$wrong" core 1 1 1 </dev/null
 want 0 'empty\nno slot\n' '' table 1000 < <(printf 'get 999\nget 1000\n')
-
-# A failed write to standard error leaves the status.
-"$program" core 0 </dev/null 2>/dev/full
-[[ $? = 1 ]] && passed=$((passed + 1)) || failed=$((failed + 1))
 
 echo "program: $passed runs as told, $failed not"
 ((failed == 0))

@@ -1,50 +1,54 @@
 #!/usr/bin/env bash
-# Refuses each single request for memory in turn: in run N each test of crates/refusal_tests has its Nth request refused,
-# until a run meets no refusal. A test holds whichever request is refused, and prints `refused: ..` if it met one.
+# Refuses each single request for memory in turn: each test of crates/refusal_tests runs with its first request refused,
+# then with its second, until a run meets no refusal. What a run tells, and how many blocks it keeps to its end, is its
+# outcome. Those of all runs have to be just those of crates/refusal_tests/outcomes.txt.
 #
-#     gate/refused_memory.sh [PROGRAM]    the tests, built; without it they are proved and built here
-#
-# With no C compiler for refuse_request.c, each run is `rt try --test --fail-alloc N`, which builds the tests anew.
+#     gate/refused_memory.sh [PROGRAM]    the tests, built
 set -u
 cd "$(dirname "$0")/.."
 program=$(realpath "${1:-crates/refusal_tests/out/refusal_tests_tests}")
+expected=crates/refusal_tests/outcomes.txt
 folder=$(mktemp -d)
 trap 'rm -rf "$folder"' EXIT
 
-if command -v cc >/dev/null; then
-    (($# > 0)) || (cd crates/refusal_tests && rt test >"$folder/proof" 2>&1) || {
-        cat "$folder/proof" >&2
-        exit 1
-    }
-    cc -O2 -shared -fPIC -o "$folder/refuse_request.so" gate/refuse_request.c || exit 1
-    mapfile -t tests < <("$program" --list | sed -n 's/: test$//p')
-fi
+cc -O2 -shared -fPIC -o "$folder/refuse_request.so" gate/refuse_request.c || exit 1
 
-# Each test with its Nth request refused, and `test NAME ... ok` after it if it holds.
-run_with_refused() {
-    if ! command -v cc >/dev/null; then
-        (cd crates/refusal_tests && rt try --test --fail-alloc "$1" 2>&1)
-        return
-    fi
-    for name in "${tests[@]}"; do
-        REFUSED_REQUEST=$1 LD_PRELOAD=$folder/refuse_request.so timeout 60 "$program" "$name" 2>&1 &&
-            echo "test $name ... ok" || echo "test $name ... FAILED"
-    done
-}
+# The lines of a file as one.
+joined() { paste -s -d '~' | sed 's, *~ *, / ,g'; }
 
 # More requests than any of the tests makes.
-most_requests=100
-for ((request = 1; request <= most_requests; request++)); do
-    run_with_refused "$request" >"$folder/told"
-    held=$(grep -c '^test .* \.\.\. ok$' "$folder/told")
-    failed=$(grep -c '^test .* \.\.\. FAILED$' "$folder/told")
-    refused=$(grep -c '^ *refused: ' "$folder/told")
-    echo "request $request: $refused refused, $held tests held, $failed failed"
-    if ((held == 0 || failed > 0)); then
-        cat "$folder/told" >&2
-        exit 1
-    fi
-    ((refused == 0)) && exit 0
-done
-echo "the requests did not end" >&2
-exit 1
+most_requests=1000
+
+# What each run of a test comes to.
+outcomes_of() {
+    local request memory errors status
+    for ((request = 1; request <= most_requests; request++)); do
+        timeout 60 env "REFUSED_REQUEST=$request" "LD_PRELOAD=$folder/refuse_request.so" "$program" "$1" \
+            >"$folder/output" 2>"$folder/errors" </dev/null
+        status=$?
+        memory=$(sed -n 's/^memory: //p' "$folder/errors")
+        errors=$(sed '/^memory: /d' "$folder/errors" | joined)
+        ((status == 0)) || errors+="; the test ends with status $status"
+        echo "$1: $memory: $(sed '/^$/d; /^test result: ok$/d' "$folder/output" | joined)${errors:+; errors: $errors}" |
+            sed 's/: *$//'
+        [[ $memory = refused* ]] || return
+    done
+    echo "$1: the requests did not end"
+}
+
+mapfile -t tests < <("$program" --list | sed -n 's/: test$//p')
+for name in "${tests[@]}"; do
+    outcomes_of "$name"
+done >"$folder/runs"
+LC_ALL=C sort -u "$folder/runs" >"$folder/came"
+grep -v '^#' "$expected" | LC_ALL=C sort -u >"$folder/expected"
+
+diff "$folder/expected" "$folder/came" >"$folder/differ"
+# A builder makes two requests at most, and one if its items take no room.
+LC_ALL=C sort "$folder/runs" | uniq -c |
+    awk '/ builders::.*: refused/ && $1 > (/ of 0 items|: no block/ ? 1 : 2)' >"$folder/more"
+refused=$(grep -c ': refused, ' "$folder/runs")
+echo "refused memory: $refused runs were refused a request, and came to $(wc -l <"$folder/came") outcomes"
+sed -n 's/^< /did not come: /p; s/^> /not expected: /p' "$folder/differ" >&2
+sed 's/^/too many requests: /' "$folder/more" >&2
+((refused > 0)) && [[ ! -s $folder/differ && ! -s $folder/more ]]

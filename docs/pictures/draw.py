@@ -2,7 +2,7 @@
 """Draws examples of the counting core as pictures: a column for each owner, a row for each step with its answer, and the
 word after it. The answers come from the file beside the script, and the word follows from the steps and answers alone.
 
-    gate/pictures.py [--check]
+    docs/pictures/draw.py [--check]
 
 writes docs/pictures/NAME.svg for each example of NAMES, and LOGGED once more, with the log of the block beside its trace.
 With --check it writes nothing, and ends with 1 if a picture is not as it would be drawn.
@@ -10,7 +10,7 @@ With --check it writes nothing, and ends with 1 if a picture is not as it would 
 import sys
 from pathlib import Path
 
-ROOT = Path(__file__).resolve().parent.parent
+ROOT = Path(__file__).resolve().parent.parent.parent
 NAMES = [
     "stale_read_loses_once",
     "clone_in_flight_when_marked",

@@ -1,7 +1,7 @@
-// How often `ptr_eq` errs while other threads ask the same of these blocks, as it may. Each figure is printed, and has
-// a bound: with one sign in place of four, a fifth to a half of all answers on two blocks was wrong. One block is taken
-// for two the more often the more is asked at once, up to a fifth where other programs run too. Once the other threads
-// are gone the answers are right again.
+// How often `ptr_eq` errs while other threads ask the same of these blocks, as it may. Each figure is printed. That two
+// blocks are taken for one has a bound: with one sign in place of four, a fifth to a half of all answers was wrong. One
+// block may be taken for two in most calls, if the threads keep in step, so that has none. Once the other threads are
+// gone the answers are right again.
 use crate::made::arc_of;
 use facts::{again, holds, holds_at, ok};
 use servo_arc::Arc;
@@ -48,14 +48,18 @@ fn two_threads_are_seldom_told_wrong(rt: HostRuntime) {
             most[2].max(from_opposite_ends),
         ];
     }
+    let of_one = most[0];
+    ok!(
+        &rt,
+        println!(rt; "one block: false {of_one} times of {all}")
+    );
     let rows = [
-        ("one block: false", most[0], all / 2),
-        ("two blocks, from one end: true", most[1], all / 6),
-        ("two blocks, from opposite ends: true", most[2], all / 6),
+        ("two blocks, from one end: true", most[1]),
+        ("two blocks, from opposite ends: true", most[2]),
     ];
-    for (answer, wrong, bound) in rows {
+    for (answer, wrong) in rows {
         ok!(&rt, println!(rt; "{answer} {wrong} times of {all}"));
-        holds_at!(&rt, answer, wrong < bound);
+        holds_at!(&rt, answer, wrong < all / 6);
     }
     holds!(&rt, Arc::ptr_eq(&a, &b) && !Arc::ptr_eq(&a, &c));
 }
@@ -75,5 +79,5 @@ fn four_threads_are_seldom_told_wrong(rt: HostRuntime) {
         &rt,
         println!(rt; "one block, four threads: false {wrong} times of {all}")
     );
-    holds!(&rt, Arc::ptr_eq(&a, &b) && wrong < all / 2);
+    holds!(&rt, Arc::ptr_eq(&a, &b));
 }

@@ -6,7 +6,7 @@ use std::fmt;
 use std::fmt::{Debug, Formatter, Write};
 
 /// Asks the items, also if both tables share their pages.
-impl<T: Send + Sync + PartialEq> PartialEq for CowTable<T> {
+impl<T: PartialEq> PartialEq for CowTable<T> {
     ghost eq = { pointwise T.eq };
 
     ghost laws = { lists_per T.laws };
@@ -16,12 +16,12 @@ impl<T: Send + Sync + PartialEq> PartialEq for CowTable<T> {
     }
 }
 
-impl<T: Send + Sync + Eq> Eq for CowTable<T> {
+impl<T: Eq> Eq for CowTable<T> {
     ghost laws = { lists_equiv T.Eq.laws };
 }
 
 /// As a list of the items.
-impl<T: Send + Sync + Debug> Debug for CowTable<T> {
+impl<T: Debug> Debug for CowTable<T> {
     fn fmt<W: Write>(&self, f: &mut Formatter<W>) -> fmt::Result {
         f.debug_list().entries(self).finish()
     }

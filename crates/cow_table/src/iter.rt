@@ -11,7 +11,7 @@ use std::marker::Model;
 
 /// An iterator over the items of a `CowTable`, from the first to the last.
 #[derive(Drop)]
-pub struct Iter<'a, T: Send + Sync> {
+pub struct Iter<'a, T> {
     // What is left of a page at either end, and the pages between them, none of which is empty.
     front: &'a [T],
     pages: &'a [Arc<Vec<T>>],
@@ -19,7 +19,7 @@ pub struct Iter<'a, T: Send + Sync> {
     len: usize,
 }
 
-impl<'a, T: Send + Sync> Model for Iter<'a, T> {
+impl<'a, T> Model for Iter<'a, T> {
     ghost use Rattle.std.specs.Prelude.{List};
     ghost use Rattle.cow_table.specs.Pages.{joined, AreBetween};
 
@@ -30,7 +30,7 @@ impl<'a, T: Send + Sync> Model for Iter<'a, T> {
     ghost invariant = { λ i. AreBetween i.front.now i.pages.now i.back.now i.len };
 }
 
-impl<'a, T: Send + Sync> IntoIterator for &'a CowTable<T> {
+impl<'a, T> IntoIterator for &'a CowTable<T> {
     type Item = &'a T;
 
     type IntoIter = Iter<'a, T>;
@@ -48,7 +48,7 @@ impl<'a, T: Send + Sync> IntoIterator for &'a CowTable<T> {
     }
 }
 
-impl<T: Send + Sync> CowTable<T> {
+impl<T> CowTable<T> {
     /// An iterator over the items, in order.
     pub fn iter(&self) -> Iter<'_, T>
         ensures { result ≡ self.now }
@@ -57,7 +57,7 @@ impl<T: Send + Sync> CowTable<T> {
     }
 }
 
-impl<'a, T: Send + Sync> Iterator for Iter<'a, T> {
+impl<'a, T> Iterator for Iter<'a, T> {
     type Item = &'a T;
 
     ghost next_gives = { YieldsFirstRef (λ s. s) };
@@ -95,7 +95,7 @@ impl<'a, T: Send + Sync> Iterator for Iter<'a, T> {
     }
 }
 
-impl<'a, T: Send + Sync> DoubleEndedIterator for Iter<'a, T> {
+impl<'a, T> DoubleEndedIterator for Iter<'a, T> {
     ghost next_back_gives = { YieldsLastRef (λ s. s) };
 
     #[tactic(auto, using(crate::proofs::Filled::backward))]
@@ -121,15 +121,15 @@ impl<'a, T: Send + Sync> DoubleEndedIterator for Iter<'a, T> {
     }
 }
 
-impl<'a, T: Send + Sync> ExactSizeIterator for Iter<'a, T> {
+impl<'a, T> ExactSizeIterator for Iter<'a, T> {
     fn len(&self) -> usize {
         self.len
     }
 }
 
-impl<'a, T: Send + Sync> FusedIterator for Iter<'a, T> {}
+impl<'a, T> FusedIterator for Iter<'a, T> {}
 
-impl<'a, T: Send + Sync> Clone for Iter<'a, T> {
+impl<'a, T> Clone for Iter<'a, T> {
     ghost is_clone = { λ s r. r ≡ s };
 
     ghost is_infallible = { λ _. ⊤ };

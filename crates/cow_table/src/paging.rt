@@ -8,7 +8,7 @@ use std::alloc::{AllocError, Global};
 use std::vec::IntoIter;
 
 // The items in pages of that length, the last of which may be shorter.
-pub(crate) fn in_pages<T: Send + Sync + Drop>(
+pub(crate) fn in_pages<T: Drop>(
     alloc: Global,
     items: Vec<T>,
     page_len: usize,
@@ -27,7 +27,7 @@ pub(crate) fn in_pages<T: Send + Sync + Drop>(
 }
 
 // The first of the items that are left, at most that many.
-fn next_page<T: Send + Sync + Drop>(
+fn next_page<T: Drop>(
     alloc: Global,
     rest: &mut IntoIter<T>,
     page_len: usize,

@@ -16,13 +16,13 @@ use std::ops::Index;
 
 /// A list whose clones are versions of it: what is set in one of them is seen in no other.
 #[derive(Drop)]
-pub struct CowTable<T: Send + Sync> {
+pub struct CowTable<T> {
     pub(crate) pages: Arc<Vec<Arc<Vec<T>>>>,
     pub(crate) len: usize,
     page_length: PageLength,
 }
 
-impl<T: Send + Sync> Model for CowTable<T> {
+impl<T> Model for CowTable<T> {
     ghost use Rattle.std.specs.Prelude.{List};
     ghost use Rattle.cow_table.specs.Pages.{items_of, ArePages};
 
@@ -33,7 +33,7 @@ impl<T: Send + Sync> Model for CowTable<T> {
     ghost invariant = { λ t. ArePages t.page_length.items t.len t.pages.items };
 }
 
-impl<T: Send + Sync + Drop> CowTable<T> {
+impl<T: Drop> CowTable<T> {
     /// The items in pages of `page_len`, the last of which may be shorter.
     ///
     /// It moves the items. It requests memory for the items and the block of each page, and for the list of pages and
@@ -58,7 +58,7 @@ impl<T: Send + Sync + Drop> CowTable<T> {
 
 /// Makes a version, by one raise of a count, with no copy and no memory. It is refused as the `clone` of an `Arc` is:
 /// at the limit of the count, or after 64 raises that were lost to other threads.
-impl<T: Send + Sync + Drop> Clone for CowTable<T> {
+impl<T: Drop> Clone for CowTable<T> {
     ghost is_clone = { λ a b. b ≡ a };
 
     fn clone(&self) -> Result<CowTable<T>, AllocError> {
@@ -71,7 +71,7 @@ impl<T: Send + Sync + Drop> Clone for CowTable<T> {
 }
 
 /// The item of that number, which has to be there.
-impl<T: Send + Sync> Index<usize> for CowTable<T> {
+impl<T> Index<usize> for CowTable<T> {
     type Output = T;
 
     ghost can_index = { λ t i. i < length t };
@@ -86,7 +86,7 @@ impl<T: Send + Sync> Index<usize> for CowTable<T> {
     }
 }
 
-impl<T: Send + Sync> CowTable<T> {
+impl<T> CowTable<T> {
     /// The number of items.
     #[inline]
     pub fn len(&self) -> usize
@@ -160,7 +160,7 @@ impl<T: Send + Sync> CowTable<T> {
 
 // A page, to write to, in a block that no other version has.
 #[tactic(auto, using(crate::proofs::Lent::lent_items))]
-fn own_page<T: Send + Sync + Clone>(
+fn own_page<T: Clone>(
     pages: &mut Arc<Vec<Arc<Vec<T>>>>,
     alloc: Global,
     page: usize,

@@ -8,7 +8,7 @@ use handles::arc::Arc;
 use std::alloc::Global;
 
 #[inline]
-pub(crate) fn start<T: Send + Sync + PartialEq + Drop>(
+pub(crate) fn start<T: PartialEq + Drop>(
     slots: &mut [Option<Arc<T>>],
     alloc: Global,
     i: usize,
@@ -28,7 +28,7 @@ pub(crate) fn start<T: Send + Sync + PartialEq + Drop>(
 
 #[inline]
 #[tactic(auto, using(crate::proofs::SlotLemmas::slot_is, crate::proofs::SlotLemmas::set_same))]
-pub(crate) fn get_mut<T: Send + Sync + PartialEq + Drop>(
+pub(crate) fn get_mut<T: PartialEq + Drop>(
     slots: &mut [Option<Arc<T>>],
     i: usize,
     value: T,
@@ -50,7 +50,7 @@ pub(crate) fn get_mut<T: Send + Sync + PartialEq + Drop>(
 
 #[inline]
 #[tactic(auto, using(crate::proofs::SlotLemmas::slot_is, crate::proofs::SlotLemmas::set_same, crate::proofs::SlotLemmas::set_twice))]
-pub(crate) fn into_unique<T: Send + Sync + PartialEq + Drop>(
+pub(crate) fn into_unique<T: PartialEq + Drop>(
     slots: &mut [Option<Arc<T>>],
     i: usize,
     value: T,
@@ -78,7 +78,7 @@ pub(crate) fn into_unique<T: Send + Sync + PartialEq + Drop>(
 
 #[inline]
 #[tactic(auto, using(crate::proofs::SlotLemmas::slot_is, crate::proofs::SlotLemmas::set_same))]
-pub(crate) fn make_mut<T: Send + Sync + Clone + PartialEq>(
+pub(crate) fn make_mut<T: Clone + PartialEq>(
     slots: &mut [Option<Arc<T>>],
     alloc: Global,
     i: usize,
@@ -101,7 +101,7 @@ pub(crate) fn make_mut<T: Send + Sync + Clone + PartialEq>(
 
 #[inline]
 #[tactic(auto, using(crate::proofs::SlotLemmas::slot_is, crate::proofs::SlotLemmas::set_same))]
-pub(crate) fn own<T: Send + Sync + Clone + PartialEq>(
+pub(crate) fn own<T: Clone + PartialEq>(
     slots: &mut [Option<Arc<T>>],
     alloc: Global,
     i: usize,
@@ -122,7 +122,7 @@ pub(crate) fn own<T: Send + Sync + Clone + PartialEq>(
 }
 
 #[inline]
-pub(crate) fn mark<T: Send + Sync + PartialEq + Drop>(slots: &[Option<Arc<T>>], i: usize) -> Reply
+pub(crate) fn mark<T: PartialEq + Drop>(slots: &[Option<Arc<T>>], i: usize) -> Reply
     ensures { IsAmong (outcomes_of T.eq (Command.Mark i) slots.now) result slots.now }
 {
     match slots.get(i) {
@@ -137,7 +137,7 @@ pub(crate) fn mark<T: Send + Sync + PartialEq + Drop>(slots: &[Option<Arc<T>>], 
 
 #[inline]
 #[tactic(auto, using(crate::proofs::SlotLemmas::slot_is, crate::proofs::SlotLemmas::set_same, crate::proofs::SlotLemmas::set_twice))]
-pub(crate) fn raw<T: Send + Sync + PartialEq + Drop>(
+pub(crate) fn raw<T: PartialEq + Drop>(
     slots: &mut [Option<Arc<T>>],
     i: usize,
 ) -> Reply
@@ -154,7 +154,7 @@ pub(crate) fn raw<T: Send + Sync + PartialEq + Drop>(
 }
 
 #[inline]
-pub(crate) fn ptr_eq<T: Send + Sync + PartialEq + Drop>(
+pub(crate) fn ptr_eq<T: PartialEq + Drop>(
     slots: &[Option<Arc<T>>],
     i: usize,
     j: usize,

@@ -16,11 +16,11 @@ use std::marker::Model;
 
 /// Slots, each empty or with a handle. Handles may share a block; the values that the slots read never show it.
 #[derive(Drop)]
-pub struct Table<T: Send + Sync> {
+pub struct Table<T> {
     slots: Vec<Option<Arc<T>>>,
 }
 
-impl<T: Send + Sync> Model for Table<T> {
+impl<T> Model for Table<T> {
     ghost use Rattle.std.specs.Prelude.{List, Option};
 
     ghost Value = { List (Option T) };
@@ -28,7 +28,7 @@ impl<T: Send + Sync> Model for Table<T> {
     ghost view = { λ t. t.slots.items };
 }
 
-impl<T: Send + Sync + Drop> Table<T> {
+impl<T: Drop> Table<T> {
     /// A table with that many slots, all of them empty.
     pub fn new(alloc: Global, slots: usize) -> Result<Table<T>, AllocError>
         ensures { IfOk result (λ table. table ≡ replicate slots None) }
@@ -69,7 +69,7 @@ impl<T: Send + Sync + Drop> Table<T> {
     }
 }
 
-impl<T: Send + Sync + PartialEq + Drop> Table<T> {
+impl<T: PartialEq + Drop> Table<T> {
     #[inline]
     fn serve_plain(&mut self, alloc: Global, command: PlainCommand<T>) -> Reply
         ensures { IsAmong (plain_outcomes_of T.eq command self.old) result self.new }
@@ -109,7 +109,7 @@ impl<T: Send + Sync + PartialEq + Drop> Table<T> {
     }
 }
 
-impl<T: Send + Sync + Clone + PartialEq> Table<T> {
+impl<T: Clone + PartialEq> Table<T> {
     /// Serves one command. The reply takes no memory.
     ///
     /// [`Command::Own`] is only for types whose copies are the same value.

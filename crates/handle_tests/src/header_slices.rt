@@ -80,7 +80,7 @@ fn marks_a_static_slice(rt: HostRuntime) {
     }
 }
 
-fn swap<H: Send + Sync, T: Send + Sync>(
+fn swap<H, T>(
     x: &mut UniqueArc<HeaderSlice<H, T>>,
     y: &mut UniqueArc<HeaderSlice<H, T>>,
 )

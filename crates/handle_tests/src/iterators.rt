@@ -48,7 +48,7 @@ fn source_of<'a, T: Copy>(
 
 type Built<T> = Result<ThinArc<u8, T>, BuildError>;
 
-fn check_built<T: Debug + PartialEq + Send + Sync + Drop>(
+fn check_built<T: Debug + PartialEq + Drop>(
     rt: &impl Abort,
     row: &Row<T>,
     built: Built<T>,
@@ -62,7 +62,7 @@ fn check_built<T: Debug + PartialEq + Send + Sync + Drop>(
 }
 
 // Each row through both makers.
-fn check<T: Copy + Debug + PartialEq + Send + Sync + Drop>(
+fn check<T: Copy + Debug + PartialEq + Drop>(
     rt: &(impl Abort + AllocGlobal),
     row: &Row<T>,
 ) {

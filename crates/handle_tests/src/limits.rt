@@ -168,7 +168,7 @@ fn copied(alloc: Global, made: Result<Arc<u64>, u64>) -> Result<Arc<u64>, u64> {
     written(alloc, handle).ok().ok_or(0)
 }
 
-fn counted_if_made<T: Send + Sync + Drop, E>(
+fn counted_if_made<T: Drop, E>(
     alloc: Global,
     made: &Result<Arc<T>, E>,
 ) -> Result<usize, AllocError> {

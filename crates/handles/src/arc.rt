@@ -23,11 +23,11 @@ const MOST_RAISES: u8 = 64;
 /// A handle of a block whose value is shared. The last handle's end drops the value and gives the block back, unless
 /// the block is marked.
 #[derive(Drop)]
-pub struct Arc<T: Send + Sync> {
+pub struct Arc<T> {
     pub(crate) handle: Handle<T>,
 }
 
-impl<T: Send + Sync> Model for Arc<T> {
+impl<T> Model for Arc<T> {
     ghost use Rattle.std.specs.Prelude.{◌≡◌, false};
 
     ghost Value = { T };
@@ -42,7 +42,7 @@ impl<T: Send + Sync> Model for Arc<T> {
 #[error("the handle limit is reached")]
 pub struct Full;
 
-impl<T: Send + Sync + Drop> Arc<T> {
+impl<T: Drop> Arc<T> {
     /// The value comes back if there is no memory for the block.
     pub fn new(alloc: Global, value: T) -> Result<Arc<T>, T>
         ensures made { IfOk result (λ a. a ≡ value) }
@@ -102,7 +102,7 @@ impl<T: Send + Sync + Drop> Arc<T> {
     }
 }
 
-impl<T: Send + Sync> Arc<T> {
+impl<T> Arc<T> {
     pub(crate) fn of(handle: Handle<T>) -> Arc<T>
         requires { handle.sole ≡ false }
         ensures { result ≡ handle.held.value }
@@ -156,7 +156,7 @@ impl<T: Send + Sync> Arc<T> {
     }
 }
 
-impl<T: Send + Sync> Deref for Arc<T> {
+impl<T> Deref for Arc<T> {
     type Target = T;
 
     ghost deref_gives = { λ a x. x ≡ a };
@@ -172,7 +172,7 @@ impl<T: Send + Sync> Deref for Arc<T> {
 /// Makes one more handle by at most 64 raises of the count, and without memory. The `AllocError` of a refusal stands
 /// for no want of memory, but for the limit or for 64 raises that were lost to other threads. The handle is then as it
 /// was. `Arc::clone(this, rt)` tries on.
-impl<T: Send + Sync + Drop> Clone for Arc<T> {
+impl<T: Drop> Clone for Arc<T> {
     ghost is_clone = { λ a b. b ≡ a };
 
     #[inline]
@@ -185,17 +185,17 @@ impl<T: Send + Sync + Drop> Clone for Arc<T> {
 }
 
 /// A handle that is kept as a token. It counts as a live handle, and only `Arc::from_raw` ends it.
-pub struct RawArc<T: Send + Sync> {
+pub struct RawArc<T> {
     arc: Arc<T>,
 }
 
-impl<T: Send + Sync> Model for RawArc<T> {
+impl<T> Model for RawArc<T> {
     ghost Value = { T };
 
     ghost view = { λ r. r.arc };
 }
 
-impl<T: Send + Sync> RawArc<T> {
+impl<T> RawArc<T> {
     /// The value, for as long as the token is borrowed.
     pub fn value(&self) -> &T
         ensures { result.now ≡ self.now }

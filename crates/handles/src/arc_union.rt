@@ -14,7 +14,7 @@ use std::marker::Model;
 
 /// A handle of a first or of a second type. The two kinds stay apart even if their types are the same.
 #[derive(Drop)]
-pub struct ArcUnion<A: Send + Sync, B: Send + Sync> {
+pub struct ArcUnion<A, B> {
     handle: EitherArc<A, B>,
 }
 
@@ -22,12 +22,12 @@ pub struct ArcUnion<A: Send + Sync, B: Send + Sync> {
 pub type ThinArcUnion<H1, T1, H2, T2> = ArcUnion<HeaderSlice<H1, T1>, HeaderSlice<H2, T2>>;
 
 #[derive(Drop)]
-enum EitherArc<A: Send + Sync, B: Send + Sync> {
+enum EitherArc<A, B> {
     First(Arc<A>),
     Second(Arc<B>),
 }
 
-impl<A: Send + Sync, B: Send + Sync> Model for ArcUnion<A, B> {
+impl<A, B> Model for ArcUnion<A, B> {
     ghost use Rattle.handles.specs.Unions.{Union};
 
     ghost Value = { Union A B };
@@ -40,12 +40,12 @@ impl<A: Send + Sync, B: Send + Sync> Model for ArcUnion<A, B> {
 /// The handle of a union, borrowed.
 #[derive(Debug)]
 #[derive_where(Clone, Copy)]
-pub enum ArcUnionBorrow<'a, A: Send + Sync, B: Send + Sync> {
+pub enum ArcUnionBorrow<'a, A, B> {
     First(ArcBorrow<'a, A>),
     Second(ArcBorrow<'a, B>),
 }
 
-impl<A: Send + Sync, B: Send + Sync> ArcUnion<A, B> {
+impl<A, B> ArcUnion<A, B> {
     ghost use Rattle.handles.specs.UnionHandles.{borrowed_union};
 
     /// The handle as one of the first kind. The count stays as it is.
@@ -123,7 +123,7 @@ impl<A: Send + Sync, B: Send + Sync> ArcUnion<A, B> {
 }
 
 /// Refused if the trait's `clone` of the handle is.
-impl<A: Send + Sync + Drop, B: Send + Sync + Drop> Clone for ArcUnion<A, B> {
+impl<A: Drop, B: Drop> Clone for ArcUnion<A, B> {
     ghost is_clone = { λ u v. v ≡ u };
 
     fn clone(&self) -> Result<ArcUnion<A, B>, AllocError> {
@@ -136,7 +136,7 @@ impl<A: Send + Sync + Drop, B: Send + Sync + Drop> Clone for ArcUnion<A, B> {
 }
 
 /// Asks the values of two of one kind. Two of different kinds are not equal.
-impl<A: Send + Sync + PartialEq, B: Send + Sync + PartialEq> PartialEq for ArcUnion<A, B> {
+impl<A: PartialEq, B: PartialEq> PartialEq for ArcUnion<A, B> {
     ghost eq = { union_eq A.eq B.eq };
 
     ghost laws = { union_eq_per A.laws B.laws };
@@ -150,11 +150,11 @@ impl<A: Send + Sync + PartialEq, B: Send + Sync + PartialEq> PartialEq for ArcUn
     }
 }
 
-impl<A: Send + Sync + Eq, B: Send + Sync + Eq> Eq for ArcUnion<A, B> {
+impl<A: Eq, B: Eq> Eq for ArcUnion<A, B> {
     ghost laws = { union_eq_equiv A.Eq.laws B.Eq.laws };
 }
 
-impl<A: Send + Sync + Debug, B: Send + Sync + Debug> Debug for ArcUnion<A, B> {
+impl<A: Debug, B: Debug> Debug for ArcUnion<A, B> {
     fn fmt<W: Write>(&self, f: &mut Formatter<W>) -> fmt::Result {
         let borrow = match &self.handle {
             EitherArc::First(handle) => ArcUnionBorrow::First(ArcBorrow(handle)),

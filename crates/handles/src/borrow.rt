@@ -9,9 +9,9 @@ use std::sync::Wait;
 /// A borrowed handle: it reads as a `&T`, and more handles can be made of it. It is not counted.
 #[derive(Debug)]
 #[derive_where(Clone, Copy)]
-pub struct ArcBorrow<'a, T: Send + Sync>(pub(crate) &'a Arc<T>);
+pub struct ArcBorrow<'a, T>(pub(crate) &'a Arc<T>);
 
-impl<T: Send + Sync> Arc<T> {
+impl<T> Arc<T> {
     ghost use Rattle.handles.specs.Borrowed.{borrowed};
 
     /// The handle, borrowed. The count stays as it is.
@@ -22,7 +22,7 @@ impl<T: Send + Sync> Arc<T> {
     }
 }
 
-impl<'a, T: Send + Sync> ArcBorrow<'a, T> {
+impl<'a, T> ArcBorrow<'a, T> {
     ghost use Rattle.handles.specs.Borrowed.{borrowed};
 
     /// The value, for as long as the handle is borrowed.
@@ -55,7 +55,7 @@ impl<'a, T: Send + Sync> ArcBorrow<'a, T> {
     }
 }
 
-impl<T: Send + Sync> Deref for ArcBorrow<'_, T> {
+impl<T> Deref for ArcBorrow<'_, T> {
     type Target = T;
 
     ghost use Rattle.handles.specs.Borrowed.{borrowed};
@@ -70,7 +70,7 @@ impl<T: Send + Sync> Deref for ArcBorrow<'_, T> {
 }
 
 /// Asks the values, also if both are of one block.
-impl<T: Send + Sync + PartialEq> PartialEq for ArcBorrow<'_, T> {
+impl<T: PartialEq> PartialEq for ArcBorrow<'_, T> {
     ghost use Rattle.std.specs.Cmp.{on_per};
     ghost use Rattle.handles.specs.Borrowed.{borrowed};
 
@@ -83,7 +83,7 @@ impl<T: Send + Sync + PartialEq> PartialEq for ArcBorrow<'_, T> {
     }
 }
 
-impl<T: Send + Sync + Eq> Eq for ArcBorrow<'_, T> {
+impl<T: Eq> Eq for ArcBorrow<'_, T> {
     ghost use Rattle.std.specs.Cmp.{on_equiv};
     ghost use Rattle.handles.specs.Borrowed.{borrowed};
 

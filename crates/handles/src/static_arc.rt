@@ -12,10 +12,10 @@ use std::ops::Deref;
 /// A handle that knows its block to be marked: the value stays for good, and counted handles are had without end.
 ///
 /// It is one pointer, is copied as a reference is, and is not counted itself.
-pub struct StaticArc<'a, T: Send + Sync>(&'a Marked<T>);
+pub struct StaticArc<'a, T>(&'a Marked<T>);
 
 /// Never refused. As a `Copy` type it needs no `clone`, but what is generic over `Clone` does.
-impl<T: Send + Sync> Clone for StaticArc<'_, T> {
+impl<T> Clone for StaticArc<'_, T> {
     ghost is_clone = { λ x y. y ≡ x };
 
     ghost is_infallible = { λ _. ⊤ };
@@ -25,9 +25,9 @@ impl<T: Send + Sync> Clone for StaticArc<'_, T> {
     }
 }
 
-impl<T: Send + Sync> Copy for StaticArc<'_, T> {}
+impl<T> Copy for StaticArc<'_, T> {}
 
-impl<'a, T: Send + Sync + Drop> StaticArc<'a, T> {
+impl<'a, T: Drop> StaticArc<'a, T> {
     ghost use Rattle.handles.specs.Stays.{value_of};
 
     /// One request for memory, which is never given back. The value comes back if it is refused.
@@ -39,7 +39,7 @@ impl<'a, T: Send + Sync + Drop> StaticArc<'a, T> {
     }
 }
 
-impl<'a, T: Send + Sync> StaticArc<'a, T> {
+impl<'a, T> StaticArc<'a, T> {
     ghost use Rattle.handles.specs.Stays.{value_of};
 
     // Of a block that is marked, as the type of the reference says.
@@ -75,7 +75,7 @@ impl<'a, T: Send + Sync> StaticArc<'a, T> {
     }
 }
 
-impl<T: Send + Sync> Arc<T> {
+impl<T> Arc<T> {
     ghost use Rattle.handles.specs.Stays.{value_of};
 
     /// A handle that knows the mark, if one load of the word finds it. It leaves an unmarked block unmarked.
@@ -91,7 +91,7 @@ impl<T: Send + Sync> Arc<T> {
     }
 }
 
-impl<T: Send + Sync + Drop> Arc<T> {
+impl<T: Drop> Arc<T> {
     ghost use Rattle.handles.specs.Stays.{value_of};
 
     /// Marks the block by an or, and ends the handle by a load. Other handles of the block stay as they are.
@@ -104,7 +104,7 @@ impl<T: Send + Sync + Drop> Arc<T> {
     }
 }
 
-impl<T: Send + Sync + Drop> UniqueArc<T> {
+impl<T: Drop> UniqueArc<T> {
     ghost use Rattle.handles.specs.Stays.{value_of};
 
     /// Marks the block with no atomic step, since nobody shares it yet.
@@ -117,7 +117,7 @@ impl<T: Send + Sync + Drop> UniqueArc<T> {
     }
 }
 
-impl<T: Send + Sync> Deref for StaticArc<'_, T> {
+impl<T> Deref for StaticArc<'_, T> {
     type Target = T;
 
     ghost use Rattle.handles.specs.Stays.{value_of};

@@ -13,11 +13,11 @@ use std_alloc::room::Vacant;
 
 /// The only handle of its block.
 #[derive(Drop)]
-pub struct UniqueArc<T: Send + Sync> {
+pub struct UniqueArc<T> {
     block: Box<Block<T>>,
 }
 
-impl<T: Send + Sync> Model for UniqueArc<T> {
+impl<T> Model for UniqueArc<T> {
     ghost use Rattle.std.specs.Prelude.{◌≡◌};
 
     ghost Value = { T };
@@ -27,7 +27,7 @@ impl<T: Send + Sync> Model for UniqueArc<T> {
     ghost invariant = { λ u. u.block.value.word ≡ 1 };
 }
 
-impl<T: Send + Sync + Drop> UniqueArc<T> {
+impl<T: Drop> UniqueArc<T> {
     /// The only handle of a new block. One request for memory; the value comes back if it is refused.
     pub fn new(alloc: Global, value: T) -> Result<UniqueArc<T>, T>
         ensures made { IfOk result (λ u. u ≡ value) }
@@ -81,7 +81,7 @@ impl<T: Send + Sync + Drop> UniqueArc<T> {
     }
 }
 
-impl<T: Send + Sync + Drop> Arc<T> {
+impl<T: Drop> Arc<T> {
     /// The handle, to write to, if it is the only one of an unmarked block; else it comes back as it was.
     ///
     /// It asks as `get_mut` does, by one read of the count. Takes no memory: the block stays where it is.
@@ -96,7 +96,7 @@ impl<T: Send + Sync + Drop> Arc<T> {
     }
 }
 
-impl<T: Send + Sync> Deref for UniqueArc<T> {
+impl<T> Deref for UniqueArc<T> {
     type Target = T;
 
     ghost deref_gives = { λ u x. x ≡ u };
@@ -108,7 +108,7 @@ impl<T: Send + Sync> Deref for UniqueArc<T> {
     }
 }
 
-impl<T: Send + Sync> DerefMut for UniqueArc<T> {
+impl<T> DerefMut for UniqueArc<T> {
     ghost use Rattle.handles.specs.WriteBack.{LendsUnique};
 
     ghost deref_mut_gives = { λ u x. x ≡ u };
@@ -122,12 +122,12 @@ impl<T: Send + Sync> DerefMut for UniqueArc<T> {
 }
 
 /// A block whose value is still to be written. When it is dropped it gives the block back, and drops no value.
-pub struct UninitArc<T: Send + Sync> {
+pub struct UninitArc<T> {
     room: Vacant<Block<T>, Global>,
     alloc: Global,
 }
 
-impl<T: Send + Sync> UniqueArc<T> {
+impl<T> UniqueArc<T> {
     /// A block whose value is still to be written. One request for memory.
     pub fn new_uninit(alloc: Global) -> Result<UninitArc<T>, AllocError> {
         match Vacant::take(alloc) {
@@ -137,7 +137,7 @@ impl<T: Send + Sync> UniqueArc<T> {
     }
 }
 
-impl<T: Send + Sync + Drop> UninitArc<T> {
+impl<T: Drop> UninitArc<T> {
     /// Writes the value to the block. Takes no memory.
     pub fn write(self, value: T) -> UniqueArc<T>
         ensures { result ≡ value }
@@ -149,7 +149,7 @@ impl<T: Send + Sync + Drop> UninitArc<T> {
     }
 }
 
-impl<T: Send + Sync> Drop for UninitArc<T> {
+impl<T> Drop for UninitArc<T> {
     fn drop(self) {
         let UninitArc { room, alloc: _ } = self;
         let _ = room.free();

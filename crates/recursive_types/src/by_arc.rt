@@ -23,7 +23,7 @@ pub enum Sum {
 }
 
 #[derive(Drop, Debug, Clone, PartialEq, Eq, PartialOrd, Ord, Hash)]
-pub struct Generic<T: Send + Sync> {
+pub struct Generic<T> {
     pub value: T,
     pub next: Option<Arc<Generic<T>>>,
 }

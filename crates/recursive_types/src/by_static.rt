@@ -21,7 +21,7 @@ pub struct Named<'a> {
 
 /// The toolchain proves no derived `Debug` or `==` of this one, as it does where an `Arc` leads back.
 #[derive(Drop)]
-pub struct Generic<'a, T: Send + Sync> {
+pub struct Generic<'a, T> {
     pub value: T,
     pub next: Option<StaticArc<'a, Generic<'a, T>>>,
 }

@@ -27,7 +27,7 @@ const MAKERS: [Maker; 6] = [
     Maker::Unique,
 ];
 
-fn made<T: Send + Sync + Drop>(maker: Maker, alloc: Global, value: T) -> Result<Arc<T>, T> {
+fn made<T: Drop>(maker: Maker, alloc: Global, value: T) -> Result<Arc<T>, T> {
     match maker {
         Maker::New => Arc::new(alloc, value),
         Maker::NewWithLimit => Arc::new_with_limit(alloc, value, 2),
@@ -74,7 +74,7 @@ fn a_refused_default_comes_back_and_an_unwritten_block_is_none(rt: HostRuntime) 
 }
 
 // Makes a block of that value, and drops it. A block that is kept past a size or at one limit is not given back.
-fn check_block<T: Send + Sync + Drop>(
+fn check_block<T: Drop>(
     rt: &(impl Abort + Print + AllocGlobal),
     value: T,
     limit: u64,

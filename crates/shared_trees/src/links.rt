@@ -8,19 +8,19 @@ use std::marker::Model;
 /// A list's first node, if it has one. A plain drop ends the nodes by a recursion, so a `List` does it by a loop.
 #[cycle(links)]
 #[derive(Drop)]
-pub(crate) struct Links<T: Send + Sync> {
+pub(crate) struct Links<T> {
     pub(crate) first: Option<Arc<Node<T>>>,
     pub(crate) len: usize,
 }
 
 #[cycle(links)]
 #[derive(Drop)]
-pub(crate) struct Node<T: Send + Sync> {
+pub(crate) struct Node<T> {
     pub(crate) value: T,
     pub(crate) rest: Links<T>,
 }
 
-impl<T: Send + Sync> Model for Links<T> {
+impl<T> Model for Links<T> {
     ghost use Rattle.std.specs.Prelude.{◌≡◌, List, length};
 
     ghost Value = { List T };
@@ -38,7 +38,7 @@ impl<T: Send + Sync> Model for Links<T> {
     ghost size_decreases = { λ l h. depth_le-length-items l.first l.len };
 }
 
-impl<T: Send + Sync + Drop> Clone for Links<T> {
+impl<T: Drop> Clone for Links<T> {
     ghost is_clone = { λ a b. b ≡ a };
 
     fn clone(&self) -> Result<Links<T>, AllocError> {
@@ -53,7 +53,7 @@ impl<T: Send + Sync + Drop> Clone for Links<T> {
     }
 }
 
-impl<T: Send + Sync> Links<T> {
+impl<T> Links<T> {
     pub(crate) fn new() -> Links<T>
         ensures { result ≡ [] }
     {
@@ -78,7 +78,7 @@ impl<T: Send + Sync> Links<T> {
     }
 }
 
-impl<T: Send + Sync + Drop> Links<T> {
+impl<T: Drop> Links<T> {
     // These nodes behind one more.
     pub(crate) fn with_first(self, alloc: Global, value: T) -> Result<Links<T>, AllocError>
         ensures { IfOk result (λ links. links ≡ value ∷ self) }

@@ -9,11 +9,11 @@ use std::marker::Model;
 
 /// A list whose versions share their last items: to push an item in front makes a list, and the old one stays.
 #[derive(Drop)]
-pub struct List<T: Send + Sync> {
+pub struct List<T> {
     pub(crate) links: Links<T>,
 }
 
-impl<T: Send + Sync> Model for List<T> {
+impl<T> Model for List<T> {
     ghost use Rattle.std.specs.Prelude.{List};
 
     ghost Value = { List T };
@@ -23,7 +23,7 @@ impl<T: Send + Sync> Model for List<T> {
 
 /// One more handle of the same list: one raise of a count, with no copy and no memory. It is refused as the
 /// `clone` of an `Arc` is.
-impl<T: Send + Sync + Drop> Clone for List<T> {
+impl<T: Drop> Clone for List<T> {
     ghost is_clone = { λ a b. b ≡ a };
 
     fn clone(&self) -> Result<List<T>, AllocError> {
@@ -33,7 +33,7 @@ impl<T: Send + Sync + Drop> Clone for List<T> {
     }
 }
 
-impl<T: Send + Sync> List<T> {
+impl<T> List<T> {
     /// The empty list, which takes no memory.
     pub fn new() -> List<T>
         ensures { result ≡ [] }
@@ -80,7 +80,7 @@ impl<T: Send + Sync> List<T> {
     }
 }
 
-impl<T: Send + Sync + Drop> List<T> {
+impl<T: Drop> List<T> {
     /// The list with one more item in front. The list itself stays.
     ///
     /// It requests memory for one node and raises one count. It is refused if there is no memory, as the `clone` of an

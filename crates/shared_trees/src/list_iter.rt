@@ -11,11 +11,11 @@ use std::marker::Model;
 
 /// An iterator over the items of a `List`, from the one that was pushed last.
 #[derive(Drop)]
-pub struct ListIter<'a, T: Send + Sync> {
+pub struct ListIter<'a, T> {
     links: &'a Links<T>,
 }
 
-impl<'a, T: Send + Sync> Model for ListIter<'a, T> {
+impl<'a, T> Model for ListIter<'a, T> {
     ghost use Rattle.std.specs.Prelude.{List};
 
     ghost Value = { List T };
@@ -23,7 +23,7 @@ impl<'a, T: Send + Sync> Model for ListIter<'a, T> {
     ghost view = { λ i. i.links.now };
 }
 
-impl<'a, T: Send + Sync> IntoIterator for &'a List<T> {
+impl<'a, T> IntoIterator for &'a List<T> {
     type Item = &'a T;
 
     type IntoIter = ListIter<'a, T>;
@@ -35,7 +35,7 @@ impl<'a, T: Send + Sync> IntoIterator for &'a List<T> {
     }
 }
 
-impl<T: Send + Sync> List<T> {
+impl<T> List<T> {
     /// An iterator over the items, from the one that was pushed last.
     pub fn iter(&self) -> ListIter<'_, T>
         ensures { result ≡ self.now }
@@ -44,7 +44,7 @@ impl<T: Send + Sync> List<T> {
     }
 }
 
-impl<'a, T: Send + Sync> Iterator for ListIter<'a, T> {
+impl<'a, T> Iterator for ListIter<'a, T> {
     type Item = &'a T;
 
     ghost next_gives = { YieldsFirstRef (λ s. s) };
@@ -68,16 +68,16 @@ impl<'a, T: Send + Sync> Iterator for ListIter<'a, T> {
     }
 }
 
-impl<'a, T: Send + Sync> ExactSizeIterator for ListIter<'a, T> {
+impl<'a, T> ExactSizeIterator for ListIter<'a, T> {
     fn len(&self) -> usize {
         let links = self.links;
         links.len
     }
 }
 
-impl<'a, T: Send + Sync> FusedIterator for ListIter<'a, T> {}
+impl<'a, T> FusedIterator for ListIter<'a, T> {}
 
-impl<'a, T: Send + Sync> Clone for ListIter<'a, T> {
+impl<'a, T> Clone for ListIter<'a, T> {
     ghost is_clone = { λ s r. r ≡ s };
 
     ghost is_infallible = { λ _. ⊤ };

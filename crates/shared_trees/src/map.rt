@@ -20,11 +20,11 @@ use std::marker::Model;
 
 /// A map from numbers to values, in the order of its keys. Its versions share the branches that a change left alone.
 #[derive(Drop)]
-pub struct TreeMap<V: Send + Sync> {
+pub struct TreeMap<V> {
     root: Option<Arc<Fork<V>>>,
 }
 
-impl<V: Send + Sync> Model for TreeMap<V> {
+impl<V> Model for TreeMap<V> {
     ghost use Rattle.std.specs.Prelude.{List, ℕ, [], unwrap_or};
 
     ghost Value = { List (ℕ × V) };
@@ -34,7 +34,7 @@ impl<V: Send + Sync> Model for TreeMap<V> {
 
 /// One more handle of the same tree: one raise of a count, with no copy and no memory. It is refused as the
 /// `clone` of an `Arc` is.
-impl<V: Send + Sync + Drop> Clone for TreeMap<V> {
+impl<V: Drop> Clone for TreeMap<V> {
     ghost is_clone = { λ a b. b ≡ a };
 
     fn clone(&self) -> Result<TreeMap<V>, AllocError> {
@@ -46,7 +46,7 @@ impl<V: Send + Sync + Drop> Clone for TreeMap<V> {
     }
 }
 
-impl<V: Send + Sync> TreeMap<V> {
+impl<V> TreeMap<V> {
     /// The empty map, which takes no memory.
     pub fn new() -> TreeMap<V>
         ensures { result ≡ [] }
@@ -101,7 +101,7 @@ impl<V: Send + Sync> TreeMap<V> {
     }
 }
 
-impl<V: Send + Sync + Clone> TreeMap<V> {
+impl<V: Clone> TreeMap<V> {
     /// The map with the value under the key. The map itself stays.
     ///
     /// It makes a node for each on the path to the key, and shares all others. It is refused if there is no memory, if
@@ -138,7 +138,7 @@ impl<V: Send + Sync + Clone> TreeMap<V> {
     }
 }
 
-impl<V: Send + Sync> TreeMap<V> {
+impl<V> TreeMap<V> {
     fn with_root(fork: Arc<Fork<V>>) -> TreeMap<V>
         ensures { result ≡ fork }
     {

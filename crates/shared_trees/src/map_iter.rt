@@ -12,14 +12,14 @@ use std::marker::Model;
 ///
 /// It takes no memory: for each entry it goes down from the root, in as many steps as the tree is deep.
 #[derive(Drop)]
-pub struct MapIter<'a, V: Send + Sync> {
+pub struct MapIter<'a, V> {
     // The entries that are left are those from the one number up to the other.
     map: &'a TreeMap<V>,
     from: usize,
     to: usize,
 }
 
-impl<'a, V: Send + Sync> Model for MapIter<'a, V> {
+impl<'a, V> Model for MapIter<'a, V> {
     ghost use Rattle.std.specs.Prelude.{◌≤◌, List, ℕ, length, slice_range};
 
     ghost Value = { List (ℕ × V) };
@@ -29,7 +29,7 @@ impl<'a, V: Send + Sync> Model for MapIter<'a, V> {
     ghost invariant = { λ i. (i.from ≤ i.to) × (i.to ≤ length i.map.now) };
 }
 
-impl<'a, V: Send + Sync> IntoIterator for &'a TreeMap<V> {
+impl<'a, V> IntoIterator for &'a TreeMap<V> {
     type Item = &'a (u64, V);
 
     type IntoIter = MapIter<'a, V>;
@@ -46,7 +46,7 @@ impl<'a, V: Send + Sync> IntoIterator for &'a TreeMap<V> {
     }
 }
 
-impl<V: Send + Sync> TreeMap<V> {
+impl<V> TreeMap<V> {
     /// An iterator over the entries, in the order of their keys.
     pub fn iter(&self) -> MapIter<'_, V>
         ensures { result ≡ self.now }
@@ -55,7 +55,7 @@ impl<V: Send + Sync> TreeMap<V> {
     }
 }
 
-impl<'a, V: Send + Sync> Iterator for MapIter<'a, V> {
+impl<'a, V> Iterator for MapIter<'a, V> {
     type Item = &'a (u64, V);
 
     ghost next_gives = { YieldsFirstRef (λ s. s) };
@@ -84,7 +84,7 @@ impl<'a, V: Send + Sync> Iterator for MapIter<'a, V> {
     }
 }
 
-impl<'a, V: Send + Sync> DoubleEndedIterator for MapIter<'a, V> {
+impl<'a, V> DoubleEndedIterator for MapIter<'a, V> {
     ghost next_back_gives = { YieldsLastRef (λ s. s) };
 
     #[tactic(auto, using(crate::proofs::Ranges::ranges))]
@@ -99,16 +99,16 @@ impl<'a, V: Send + Sync> DoubleEndedIterator for MapIter<'a, V> {
     }
 }
 
-impl<'a, V: Send + Sync> ExactSizeIterator for MapIter<'a, V> {
+impl<'a, V> ExactSizeIterator for MapIter<'a, V> {
     #[tactic(auto, using(crate::proofs::Ranges::ranges))]
     fn len(&self) -> usize {
         self.to - self.from
     }
 }
 
-impl<'a, V: Send + Sync> FusedIterator for MapIter<'a, V> {}
+impl<'a, V> FusedIterator for MapIter<'a, V> {}
 
-impl<'a, V: Send + Sync> Clone for MapIter<'a, V> {
+impl<'a, V> Clone for MapIter<'a, V> {
     ghost is_clone = { λ s r. r ≡ s };
 
     ghost is_infallible = { λ _. ⊤ };

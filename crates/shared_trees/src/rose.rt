@@ -12,7 +12,7 @@ use thiserror::Error;
 /// A value with the trees below it, in one block. A tree is changed by making another, which shares all branches that
 /// the change left alone.
 #[derive(Drop, Debug, PartialEq, Eq)]
-pub struct Rose<V: Send + Sync> {
+pub struct Rose<V> {
     node: ThinArc<V, Rose<V>>,
 }
 
@@ -39,7 +39,7 @@ impl From<AllocError> for RoseError {
 
 /// One more handle of the same tree: one raise of a count, with no copy and no memory. It is refused as the
 /// `clone` of an `Arc` is.
-impl<V: Send + Sync + Drop> Clone for Rose<V> {
+impl<V: Drop> Clone for Rose<V> {
     ghost is_clone = { λ a b. b ≡ a };
 
     fn clone(&self) -> Result<Rose<V>, AllocError> {
@@ -49,7 +49,7 @@ impl<V: Send + Sync + Drop> Clone for Rose<V> {
     }
 }
 
-impl<V: Send + Sync> Rose<V> {
+impl<V> Rose<V> {
     /// The value at the root.
     pub fn value(&self) -> &V
         ensures { result.now ≡ root self.now }
@@ -87,7 +87,7 @@ impl<V: Send + Sync> Rose<V> {
     }
 }
 
-impl<V: Send + Sync + Drop> Rose<V> {
+impl<V: Drop> Rose<V> {
     /// A tree of that value alone. It is refused if there is no memory, and the value is then dropped.
     pub fn leaf(alloc: Global, value: V) -> Result<Rose<V>, AllocError>
         ensures { IfOk result (λ tree. tree ≡ branch value []) }
@@ -111,7 +111,7 @@ impl<V: Send + Sync + Drop> Rose<V> {
     }
 }
 
-impl<V: Send + Sync + Clone> Rose<V> {
+impl<V: Clone> Rose<V> {
     /// The tree with that value at the end of the path. The tree itself stays.
     ///
     /// It makes a node for each on the path, of a copy of its value and of handles of its children, and shares all

@@ -43,7 +43,7 @@ fn four_threads_are_seldom_refused(rt: HostRuntime) {
 
 const CLONES: u64 = 1000;
 
-fn clone_and_drop<T: Send + Sync + Drop>(handle: &Arc<T>) {
+fn clone_and_drop<T: Drop>(handle: &Arc<T>) {
     for _ in 0..CLONES {
         let again: Result<_, _> = handle.clone();
         drop(again);

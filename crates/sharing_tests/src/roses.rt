@@ -17,7 +17,7 @@ fn value_at(tree: &Rose<Counted<'_>>, path: &[usize]) -> Option<u64> {
     Some(tree.at(path)?.value().value)
 }
 
-fn is_shared<V: Send + Sync>(a: &Rose<V>, b: &Rose<V>, path: &[usize]) -> bool {
+fn is_shared<V>(a: &Rose<V>, b: &Rose<V>, path: &[usize]) -> bool {
     match (a.at(path), b.at(path)) {
         (Some(x), Some(y)) => Rose::ptr_eq(x, y),
         _ => false,

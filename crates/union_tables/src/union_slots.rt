@@ -9,7 +9,7 @@ use handles::arc_union::ArcUnion;
 use std::alloc::Global;
 
 #[inline]
-pub(crate) fn first<A: Send + Sync + PartialEq + Drop, B: Send + Sync + PartialEq + Drop>(
+pub(crate) fn first<A: PartialEq + Drop, B: PartialEq + Drop>(
     slots: &mut [Option<ArcUnion<A, B>>],
     alloc: Global,
     i: usize,
@@ -29,7 +29,7 @@ pub(crate) fn first<A: Send + Sync + PartialEq + Drop, B: Send + Sync + PartialE
 }
 
 #[inline]
-pub(crate) fn second<A: Send + Sync + PartialEq + Drop, B: Send + Sync + PartialEq + Drop>(
+pub(crate) fn second<A: PartialEq + Drop, B: PartialEq + Drop>(
     slots: &mut [Option<ArcUnion<A, B>>],
     alloc: Global,
     i: usize,
@@ -49,7 +49,7 @@ pub(crate) fn second<A: Send + Sync + PartialEq + Drop, B: Send + Sync + Partial
 }
 
 #[inline]
-pub(crate) fn is_first<A: Send + Sync + PartialEq, B: Send + Sync + PartialEq>(
+pub(crate) fn is_first<A: PartialEq, B: PartialEq>(
     slots: &[Option<ArcUnion<A, B>>],
     i: usize,
 ) -> Reply
@@ -64,7 +64,7 @@ pub(crate) fn is_first<A: Send + Sync + PartialEq, B: Send + Sync + PartialEq>(
 }
 
 #[inline]
-pub(crate) fn is_second<A: Send + Sync + PartialEq, B: Send + Sync + PartialEq>(
+pub(crate) fn is_second<A: PartialEq, B: PartialEq>(
     slots: &[Option<ArcUnion<A, B>>],
     i: usize,
 ) -> Reply
@@ -79,7 +79,7 @@ pub(crate) fn is_second<A: Send + Sync + PartialEq, B: Send + Sync + PartialEq>(
 }
 
 #[inline]
-pub(crate) fn read_first<A: Send + Sync + PartialEq, B: Send + Sync + PartialEq>(
+pub(crate) fn read_first<A: PartialEq, B: PartialEq>(
     slots: &[Option<ArcUnion<A, B>>],
     i: usize,
     value: &A,
@@ -100,7 +100,7 @@ pub(crate) fn read_first<A: Send + Sync + PartialEq, B: Send + Sync + PartialEq>
 }
 
 #[inline]
-pub(crate) fn read_second<A: Send + Sync + PartialEq, B: Send + Sync + PartialEq>(
+pub(crate) fn read_second<A: PartialEq, B: PartialEq>(
     slots: &[Option<ArcUnion<A, B>>],
     i: usize,
     value: &B,
@@ -121,7 +121,7 @@ pub(crate) fn read_second<A: Send + Sync + PartialEq, B: Send + Sync + PartialEq
 }
 
 #[inline]
-pub(crate) fn ptr_eq<A: Send + Sync + PartialEq, B: Send + Sync + PartialEq>(
+pub(crate) fn ptr_eq<A: PartialEq, B: PartialEq>(
     slots: &[Option<ArcUnion<A, B>>],
     i: usize,
     j: usize,

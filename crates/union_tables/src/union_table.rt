@@ -18,11 +18,11 @@ use std::marker::Model;
 /// Slots, each empty or with a handle of one of two types. Handles may share a block; the values that the slots read
 /// never show it.
 #[derive(Drop)]
-pub struct UnionTable<A: Send + Sync, B: Send + Sync> {
+pub struct UnionTable<A, B> {
     slots: Vec<Option<ArcUnion<A, B>>>,
 }
 
-impl<A: Send + Sync, B: Send + Sync> Model for UnionTable<A, B> {
+impl<A, B> Model for UnionTable<A, B> {
     ghost use Rattle.std.specs.Prelude.{List, Option};
     ghost use Rattle.handles.specs.Unions.{Union};
 
@@ -31,7 +31,7 @@ impl<A: Send + Sync, B: Send + Sync> Model for UnionTable<A, B> {
     ghost view = { λ t. t.slots.items };
 }
 
-impl<A: Send + Sync + Drop, B: Send + Sync + Drop> UnionTable<A, B> {
+impl<A: Drop, B: Drop> UnionTable<A, B> {
     /// A table with that many slots, all of them empty.
     pub fn new(alloc: Global, slots: usize) -> Result<UnionTable<A, B>, AllocError>
         ensures { IfOk result (λ table. table ≡ replicate slots None) }
@@ -72,7 +72,7 @@ impl<A: Send + Sync + Drop, B: Send + Sync + Drop> UnionTable<A, B> {
     }
 }
 
-impl<A: Send + Sync + PartialEq + Drop, B: Send + Sync + PartialEq + Drop> UnionTable<A, B> {
+impl<A: PartialEq + Drop, B: PartialEq + Drop> UnionTable<A, B> {
     /// Serves one command. The reply takes no memory.
     #[inline]
     pub fn serve(&mut self, alloc: Global, command: UnionCommand<A, B>) -> Reply

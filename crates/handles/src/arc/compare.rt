@@ -7,7 +7,7 @@ use std::hash::{Hash, Hasher};
 use std::ops::Deref;
 
 /// Asks the values, also if both are handles of one block.
-impl<T: Send + Sync + PartialEq> PartialEq for Arc<T> {
+impl<T: PartialEq> PartialEq for Arc<T> {
     ghost eq = { T.eq };
 
     ghost laws = { T.laws };
@@ -17,11 +17,11 @@ impl<T: Send + Sync + PartialEq> PartialEq for Arc<T> {
     }
 }
 
-impl<T: Send + Sync + Eq> Eq for Arc<T> {
+impl<T: Eq> Eq for Arc<T> {
     ghost laws = { T.Eq.laws };
 }
 
-impl<T: Send + Sync + PartialOrd> PartialOrd for Arc<T> {
+impl<T: PartialOrd> PartialOrd for Arc<T> {
     ghost partial_cmp = { T.partial_cmp };
 
     ghost laws = { T.PartialOrd.laws };
@@ -31,7 +31,7 @@ impl<T: Send + Sync + PartialOrd> PartialOrd for Arc<T> {
     }
 }
 
-impl<T: Send + Sync + Ord> Ord for Arc<T> {
+impl<T: Ord> Ord for Arc<T> {
     ghost cmp = { T.cmp };
 
     ghost total = { T.total };
@@ -45,7 +45,7 @@ impl<T: Send + Sync + Ord> Ord for Arc<T> {
     }
 }
 
-impl<T: Send + Sync + Hash> Hash for Arc<T> {
+impl<T: Hash> Hash for Arc<T> {
     ghost hash_input = { T.hash_input };
 
     ghost respects_eq = { T.respects_eq };
@@ -55,7 +55,7 @@ impl<T: Send + Sync + Hash> Hash for Arc<T> {
     }
 }
 
-impl<T: Send + Sync + Display> Display for Arc<T> {
+impl<T: Display> Display for Arc<T> {
     ghost output = { T.output };
 
     ghost styled_output = { T.styled_output };
@@ -65,7 +65,7 @@ impl<T: Send + Sync + Display> Display for Arc<T> {
     }
 }
 
-impl<T: Send + Sync + Debug> Debug for Arc<T> {
+impl<T: Debug> Debug for Arc<T> {
     ghost debug_output = { T.debug_output };
 
     fn fmt<W: Write>(&self, f: &mut Formatter<W>) -> fmt::Result {

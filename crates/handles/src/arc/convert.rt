@@ -4,7 +4,7 @@ ghost use Rattle.std.specs.Prelude.{◌≡◌, IfOk, IfErr, IfSome};
 use super::Arc;
 use std::alloc::Global;
 
-impl<T: Send + Sync + Drop> Arc<T> {
+impl<T: Drop> Arc<T> {
     /// A handle of a default. The one that was made comes back if there is no memory for the block.
     pub fn try_default(alloc: Global) -> Result<Arc<T>, T>
     where

@@ -5,7 +5,7 @@ ghost use types.Logic.{sem};
 use super::Arc;
 use std::alloc::{AllocError, Global};
 
-impl<T: Send + Sync> Arc<T> {
+impl<T> Arc<T> {
     ghost use Rattle.handles.specs.WriteBack.{LendsIfAlone, LendsOwn};
 
     /// The value, to write to, if this is the only handle of an unmarked block.

@@ -33,7 +33,7 @@ impl From<AllocError> for BuildError {
 
 // All memory is requested before the source is asked for its first item. A refusal drops what was taken, then the
 // header.
-pub(super) fn build<H: Send + Sync + Drop, T: Send + Sync + Drop, I: Iterator<Item = T>>(
+pub(super) fn build<H: Drop, T: Drop, I: Iterator<Item = T>>(
     alloc: Global,
     header: H,
     source: &mut I,

@@ -11,7 +11,7 @@ use crate::unique::UniqueArc;
 use std::alloc::Global;
 use std::ops::DerefMut;
 
-impl<H: Send + Sync + Drop, T: Send + Sync + Drop> Arc<HeaderSlice<H, T>> {
+impl<H: Drop, T: Drop> Arc<HeaderSlice<H, T>> {
     /// As `from_header_and_iter_with_size`, with the number that `items.len()` says, asked once.
     pub fn from_header_and_iter<I: Iterator<Item = T> + ExactSizeIterator>(
         alloc: Global,
@@ -67,7 +67,7 @@ impl<H: Send + Sync + Drop, T: Send + Sync + Drop> Arc<HeaderSlice<H, T>> {
     }
 }
 
-impl<H: Send + Sync + Drop, T: Send + Sync + Drop> UniqueArc<HeaderSlice<H, T>> {
+impl<H: Drop, T: Drop> UniqueArc<HeaderSlice<H, T>> {
     /// As `from_header_and_iter_with_size`, with the number that `items.len()` says, asked once.
     pub fn from_header_and_iter<I: Iterator<Item = T> + ExactSizeIterator>(
         alloc: Global,
@@ -104,7 +104,7 @@ impl<H: Send + Sync + Drop, T: Send + Sync + Drop> UniqueArc<HeaderSlice<H, T>> 
     }
 }
 
-impl<H: Send + Sync, T: Send + Sync> UniqueArc<HeaderSlice<H, T>> {
+impl<H, T> UniqueArc<HeaderSlice<H, T>> {
     ghost use Rattle.handles.specs.HeaderSlice.UniqueLending.{LendsUniqueHeader, LendsUniqueItems};
 
     /// The header, for writing.

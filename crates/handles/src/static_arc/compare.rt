@@ -7,7 +7,7 @@ use std::hash::{Hash, Hasher};
 use std::ops::Deref;
 
 /// Asks the values, also if both are of one block.
-impl<T: Send + Sync + PartialEq> PartialEq for StaticArc<'_, T> {
+impl<T: PartialEq> PartialEq for StaticArc<'_, T> {
     ghost use Rattle.std.specs.Cmp.{on_per};
     ghost use Rattle.handles.specs.Stays.{value_of};
 
@@ -20,14 +20,14 @@ impl<T: Send + Sync + PartialEq> PartialEq for StaticArc<'_, T> {
     }
 }
 
-impl<T: Send + Sync + Eq> Eq for StaticArc<'_, T> {
+impl<T: Eq> Eq for StaticArc<'_, T> {
     ghost use Rattle.std.specs.Cmp.{on_equiv};
     ghost use Rattle.handles.specs.Stays.{value_of};
 
     ghost laws = { on_equiv value_of T.Eq.laws };
 }
 
-impl<T: Send + Sync + PartialOrd> PartialOrd for StaticArc<'_, T> {
+impl<T: PartialOrd> PartialOrd for StaticArc<'_, T> {
     ghost use Rattle.std.specs.Cmp.{on_po};
     ghost use Rattle.handles.specs.Stays.{value_of};
 
@@ -40,7 +40,7 @@ impl<T: Send + Sync + PartialOrd> PartialOrd for StaticArc<'_, T> {
     }
 }
 
-impl<T: Send + Sync + Ord> Ord for StaticArc<'_, T> {
+impl<T: Ord> Ord for StaticArc<'_, T> {
     ghost use Rattle.std.specs.Cmp.{on_total};
     ghost use Rattle.handles.specs.Stays.{value_of};
 
@@ -57,7 +57,7 @@ impl<T: Send + Sync + Ord> Ord for StaticArc<'_, T> {
     }
 }
 
-impl<T: Send + Sync + Hash> Hash for StaticArc<'_, T> {
+impl<T: Hash> Hash for StaticArc<'_, T> {
     ghost use Rattle.handles.specs.Stays.{value_of};
 
     ghost hash_input = { λ s. T.hash_input (value_of s) };
@@ -69,7 +69,7 @@ impl<T: Send + Sync + Hash> Hash for StaticArc<'_, T> {
     }
 }
 
-impl<T: Send + Sync + Display> Display for StaticArc<'_, T> {
+impl<T: Display> Display for StaticArc<'_, T> {
     ghost use Rattle.handles.specs.Stays.{value_of};
 
     ghost output = { λ s. T.output (value_of s) };
@@ -81,7 +81,7 @@ impl<T: Send + Sync + Display> Display for StaticArc<'_, T> {
     }
 }
 
-impl<T: Send + Sync + Debug> Debug for StaticArc<'_, T> {
+impl<T: Debug> Debug for StaticArc<'_, T> {
     ghost use Rattle.handles.specs.Stays.{value_of};
 
     ghost debug_output = { λ s. T.debug_output (value_of s) };

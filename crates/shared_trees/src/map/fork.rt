@@ -13,13 +13,13 @@ use std::marker::Model;
 
 #[cycle(map)]
 #[derive(Drop)]
-pub(super) struct Fork<V: Send + Sync> {
+pub(super) struct Fork<V> {
     pub(super) len: usize,
     pub(super) sides: Sides<V>,
     pub(super) entry: (u64, V),
 }
 
-impl<V: Send + Sync> Model for Fork<V> {
+impl<V> Model for Fork<V> {
     ghost use Rattle.std.specs.Prelude.{◌≡◌, List, ℕ, length};
 
     ghost Value = { List (ℕ × V) };
@@ -39,7 +39,7 @@ impl<V: Send + Sync> Model for Fork<V> {
     ghost size_decreases = { λ f h. depth_le-length-around f.len f.sides f.entry };
 }
 
-impl<V: Send + Sync> Fork<V> {
+impl<V> Fork<V> {
     #[tactic(auto, using(crate::proofs::Rising::looking))]
     pub(super) fn get(&self, key: u64) -> Option<&V>
         ensures { option_copied result ≡ lookup key self.now }
@@ -58,7 +58,7 @@ impl<V: Send + Sync> Fork<V> {
     }
 }
 
-impl<V: Send + Sync + Drop> Fork<V> {
+impl<V: Drop> Fork<V> {
     // The tree of this entry and these sides. Inlined, so that sides which the caller just made never lie in memory.
     #[inline(always)]
     pub(super) fn of(
@@ -77,7 +77,7 @@ impl<V: Send + Sync + Drop> Fork<V> {
     }
 }
 
-impl<V: Send + Sync + Clone> Fork<V> {
+impl<V: Clone> Fork<V> {
     // The same with a copy of the entry.
     #[inline(always)]
     pub(super) fn copied(

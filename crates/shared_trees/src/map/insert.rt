@@ -10,7 +10,7 @@ use super::sides::Sides;
 use servo_arc::Arc;
 use std::alloc::{AllocError, Global};
 
-impl<V: Send + Sync + Clone> Fork<V> {
+impl<V: Clone> Fork<V> {
     #[tactic(auto, using(crate::proofs::Rising::inserting))]
     pub(super) fn inserted(
         &self,
@@ -78,7 +78,7 @@ impl<V: Send + Sync + Clone> Fork<V> {
     }
 }
 
-impl<V: Send + Sync + Drop> Fork<V> {
+impl<V: Drop> Fork<V> {
     // The tree of one entry. Not inlined, as `with_top`.
     #[inline(never)]
     #[tactic(auto, using(crate::proofs::Rising::rising_one))]

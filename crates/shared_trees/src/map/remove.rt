@@ -11,7 +11,7 @@ use super::sides::Sides;
 use servo_arc::Arc;
 use std::alloc::{AllocError, Global};
 
-impl<V: Send + Sync + Clone> Fork<V> {
+impl<V: Clone> Fork<V> {
     #[tactic(auto, using(crate::proofs::Rising::removing))]
     pub(super) fn removed(&self, alloc: Global, key: u64) -> Result<TreeMap<V>, AllocError>
         requires copies { CopiesAreEqual V.is_clone }
@@ -38,7 +38,7 @@ impl<V: Send + Sync + Clone> Fork<V> {
     }
 }
 
-impl<V: Send + Sync + Clone> Sides<V> {
+impl<V: Clone> Sides<V> {
     // The tree of what is on both sides.
     fn joined(&self, alloc: Global) -> Result<TreeMap<V>, AllocError>
         requires copies { CopiesAreEqual V.is_clone }
@@ -55,7 +55,7 @@ impl<V: Send + Sync + Clone> Sides<V> {
 
 // The entries of both, where those of the first come first.
 #[tactic(auto, using(crate::proofs::Rising::joining))]
-fn join<V: Send + Sync + Clone>(
+fn join<V: Clone>(
     alloc: Global,
     less: &Arc<Fork<V>>,
     greater: &Arc<Fork<V>>,

@@ -11,14 +11,14 @@ use std::alloc::AllocError;
 // The trees on the two sides of an entry. One tag tells which are there; two `Option`s would take a word each.
 #[cycle(map)]
 #[derive(Drop)]
-pub(super) enum Sides<V: Send + Sync> {
+pub(super) enum Sides<V> {
     Neither,
     Greater(Arc<Fork<V>>),
     Both(Arc<Fork<V>>, Arc<Fork<V>>),
     Less(Arc<Fork<V>>),
 }
 
-impl<V: Send + Sync> Sides<V> {
+impl<V> Sides<V> {
     // How many entries both sides have, if a `usize` can say it.
     #[inline(always)]
     pub(super) fn len(&self) -> Option<usize>
@@ -54,7 +54,7 @@ impl<V: Send + Sync> Sides<V> {
     }
 }
 
-impl<V: Send + Sync + Drop> Sides<V> {
+impl<V: Drop> Sides<V> {
     pub(super) fn of(less: TreeMap<V>, greater: TreeMap<V>) -> Sides<V>
         ensures { (less_side result ≡ less) × (greater_side result ≡ greater) }
     {

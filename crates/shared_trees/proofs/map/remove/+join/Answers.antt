@@ -1,5 +1,5 @@
 -- What is between two trees lies in the entries of both.
-use Rattle.std.proofs.Common.{◌≡◌, ◌∷◌, ◌++◌, ap, sym, subst, ◌∙◌, append_assoc}
+use Rattle.std.proofs.Common.{◌≡◌, ◌∷◌, ◌++◌, ◌<◌, ap, sym, subst, ◌∙◌, arith, append_assoc, length, length-append}
 use Rattle.std.proofs.lemmas.List.{append-nil}
 use Rattle.std.proofs.lemmas.Result.{IfOk-weaker}
 use Rattle.shared_trees.specs.Forks.{less_side, greater_side}
@@ -10,18 +10,23 @@ use Rattle.shared_trees.proofs.map.remove.+join.Goals.{in-Some-less+in_ok-betwee
 use Rattle.shared_trees.proofs.map.remove.+join.Goals.{in-None-less+in_ok-between-in-None-less}
 use Rattle.shared_trees.proofs.map.remove.+join.Goals as goal
 
-pub join-requires-clause-rising : goal.join-requires-clause-rising
-join-requires-clause-rising g t c κs within =
+pub join-requires : goal.join-requires
+join-requires g t c κs within =
     let less = c.args.less.now in
     let greater = c.args.greater.now in
     let low = c.low.inside in
     let is : less_side low.sides ++ low.entry ∷ greater_side low.sides ≡ less = c.low.view_is ∙
     c.deref-low.ensures in
-    rw c.in-Some.ensures (into_left less (less_side low.sides) low.entry (greater_side low.sides)
-    greater is c.requires.rising)
+    let there : c.in-Some.fork.now ≡ greater_side low.sides = c.in-Some.ensures in
+    let size = ap length is in
+    let sum = length-append (less_side low.sides) (low.entry ∷ greater_side low.sides) in
+    let falls : length c.in-Some.fork.now < length less = rw there (omega arith) in
+    let rises : IsRising (c.in-Some.fork.now ++ greater) =
+    rw there (into_left less (less_side low.sides) low.entry (greater_side low.sides) greater is c.requires.rising) in
+    (omega arith, (within, (c.requires.copies, rises)))
 
 pub beside-requires-clause-rising : goal.beside-requires-clause-rising
-beside-requires-clause-rising g t c κs within =
+beside-requires-clause-rising g t c =
     let less = c.args.less.now in
     let greater = c.args.greater.now in
     let low = c.low.inside in
@@ -61,18 +66,23 @@ returns-in_ok-less_map g t c =
     ∙ ap (λ es. es ++ greater) is)
     c.beside.ensures
 
-pub join-requires-in-Some-less-clause-rising : goal.join-requires-in-Some-less-clause-rising
-join-requires-in-Some-less-clause-rising g t c κs within =
+pub join-requires-in-Some-less : goal.join-requires-in-Some-less
+join-requires-in-Some-less g t c κs within =
     let less = c.args.less.now in
     let greater = c.args.greater.now in
     let high = c.high.inside in
     let is : less_side high.sides ++ high.entry ∷ greater_side high.sides ≡ greater = c.high.view_is ∙
     c.deref-high.ensures in
-    rw c.in-Some-less.ensures (into_right greater less (less_side high.sides) high.entry (greater_side high.sides)
-    is c.requires.rising)
+    let there : c.in-Some-less.fork.now ≡ less_side high.sides = c.in-Some-less.ensures in
+    let size = ap length is in
+    let sum = length-append (less_side high.sides) (high.entry ∷ greater_side high.sides) in
+    let falls : length c.in-Some-less.fork.now < length greater = rw there (omega arith) in
+    let rises : IsRising (less ++ c.in-Some-less.fork.now) =
+    rw there (into_right greater less (less_side high.sides) high.entry (greater_side high.sides) is c.requires.rising) in
+    (omega arith, (within, (c.requires.copies, rises)))
 
 pub beside-requires-else-outranks-clause-rising : goal.beside-requires-else-outranks-clause-rising
-beside-requires-else-outranks-clause-rising g t c κs within =
+beside-requires-else-outranks-clause-rising g t c =
     let less = c.args.less.now in
     let greater = c.args.greater.now in
     let high = c.high.inside in

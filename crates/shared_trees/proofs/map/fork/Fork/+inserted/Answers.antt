@@ -9,7 +9,7 @@ use Rattle.shared_trees.proofs.map.fork.Fork.+inserted.Goals.{in-None-greater+in
 use Rattle.shared_trees.proofs.map.fork.Fork.+inserted.Goals as goal
 
 pub copied-requires-clause-rising : goal.copied-requires-clause-rising
-copied-requires-clause-rising g t c κs within =
+copied-requires-clause-rising g t c =
     let key = c.args.key in
     let value = c.args.value in
     let fork = c.self.inside in
@@ -28,7 +28,7 @@ copied-requires-clause-rising g t c κs within =
     rw (c.in_ok-with_less.ensures.less, made, c.in_ok-with_less.ensures.greater) put
 
 pub copied-requires-else-key-here-2-clause-rising : goal.copied-requires-else-key-here-2-clause-rising
-copied-requires-else-key-here-2-clause-rising g t c κs within =
+copied-requires-else-key-here-2-clause-rising g t c =
     let key = c.args.key in
     let value = c.args.value in
     let fork = c.self.inside in

@@ -9,7 +9,7 @@ use Rattle.shared_trees.proofs.map.fork.Fork.+removed.Goals.{in-None-greater}
 use Rattle.shared_trees.proofs.map.fork.Fork.+removed.Goals as goal
 
 pub beside-requires-clause-rising : goal.beside-requires-clause-rising
-beside-requires-clause-rising g t c κs within =
+beside-requires-clause-rising g t c =
     let key = c.args.key in
     let fork = c.self.inside in
     let made : c.match-less.less ≡ without key (less_side fork.sides) =
@@ -24,7 +24,7 @@ beside-requires-clause-rising g t c κs within =
     cc (made, c.in_ok-greater_map.ensures)
 
 pub beside-requires-then-here-key-clause-rising : goal.beside-requires-then-here-key-clause-rising
-beside-requires-then-here-key-clause-rising g t c κs within =
+beside-requires-then-here-key-clause-rising g t c =
     let key = c.args.key in
     let fork = c.self.inside in
     let made : c.match-greater.greater ≡ without key (greater_side fork.sides) =
@@ -42,7 +42,7 @@ beside-requires-then-here-key-clause-rising g t c κs within =
     cc (made, c.in_ok-less_map.ensures)
 
 pub joined-requires-clause-rising : goal.joined-requires-clause-rising
-joined-requires-clause-rising g t c κs within =
+joined-requires-clause-rising g t c =
     let key = c.args.key in
     let fork = c.self.inside in
     let is : key ≡ fork.entry.0 = omega arith in

@@ -9,7 +9,7 @@ use Rattle.shared_trees.proofs.map.fork.Fork.+split.Goals.{in-Some-greater+in_ok
 use Rattle.shared_trees.proofs.map.fork.Fork.+split.Goals as goal
 
 pub beside-requires-clause-rising : goal.beside-requires-clause-rising
-beside-requires-clause-rising g t c κs within =
+beside-requires-clause-rising g t c =
     let key = c.args.key in
     let fork = c.self.inside in
     let made : c.match-less.less ≡ (below key (less_side fork.sides), above key (less_side fork.sides)) =
@@ -28,7 +28,7 @@ beside-requires-clause-rising g t c κs within =
     cc (between, c.in_ok-greater_map.ensures)
 
 pub beside-requires-then-here-key-clause-rising : goal.beside-requires-then-here-key-clause-rising
-beside-requires-then-here-key-clause-rising g t c κs within =
+beside-requires-then-here-key-clause-rising g t c =
     let key = c.args.key in
     let fork = c.self.inside in
     let made : c.match-greater.between ≡ (below key (greater_side fork.sides), above key (greater_side fork.sides)) =

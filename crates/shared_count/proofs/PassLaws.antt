@@ -1,5 +1,5 @@
 -- What a clone by a pass that has seen the mark answers.
-use Rattle.std.proofs.Common.{◌≡◌, ◌≢◌, ℕ, Bool, true, false, not, ◌&&◌, nat_eq, List, [], ◌∷◌}
+use Rattle.std.proofs.Common.{◌≡◌, ◌≢◌, ℕ, Bool, true, not, ◌&&◌, nat_eq, List, [], ◌∷◌}
 use Rattle.std.proofs.Common.{◌++◌, length, sym}
 use Rattle.std.proofs.Common.{refl, ap, ◌∙◌, subst, true≢false, if◌then◌else◌}
 use Rattle.counting_word.specs.CountingWord.{greatest_count}
@@ -8,7 +8,7 @@ use Rattle.shared_count.specs.declared.history.TryClone.{TryClone}
 use Rattle.shared_count.specs.declared.history.TryClone.TheVariants.{Born, Full, Overtaken}
 use Rattle.shared_count.specs.declared.history.Call.TheVariants.{Clone, End, Mark, Unique, Static}
 use Rattle.shared_count.specs.declared.history.Event.{Event}
-use Rattle.shared_count.specs.History.{CountState, opening, next, has_exactly, IsReply, IsLegal, IsLegalFrom}
+use Rattle.shared_count.specs.History.{CountState, opening, next, IsLegal, IsLegalFrom}
 use Rattle.shared_count.specs.History.{state_after, left_by}
 use Rattle.shared_count.specs.Extends.{event, OthersExtend}
 use Rattle.shared_count.specs.Passes.{Pass, Called, WasOvertaken, HasSeenMark}

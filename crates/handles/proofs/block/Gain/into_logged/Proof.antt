@@ -5,8 +5,8 @@ use Rattle.handles.proofs.Walks.{flft, ‵, raw, ◌⊛◌, ◌$◌, ◌∵◌, 
 use Rattle.handles.proofs.Walks.{join, fsplit}
 use Rattle.handles.proofs.Walks.{fjoin, use0, no_more, returns, enter, alloc_all, pass_all, free_all, look_at}
 use Rattle.handles.proofs.Walks.{sets, agg, tables, fact, no, RattleType, owns, types_at, plain, Ptr}
-use Rattle.handles.proofs.Walks.{nothing_more, heard, param, layouts, Stays, stay_dropped, walk_of, Goes-dropped}
-use Rattle.handles.proofs.Walks.{proved, leaves, HeldRow, one_word, one_word-Good, words_told, GainRow, known}
+use Rattle.handles.proofs.Walks.{nothing_more, param, layouts, Stays, stay_dropped, walk_of, Goes-dropped}
+use Rattle.handles.proofs.Walks.{proved, leaves, one_word, one_word-Good, words_told, GainRow, known}
 use mir.Val.{vstruct, vnil}
 use Rattle.counting_word.specs.Rights.{nothing}
 use Rattle.counting_word.specs.WordSteps.{WordStep}

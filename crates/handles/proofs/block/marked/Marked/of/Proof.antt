@@ -1,7 +1,7 @@
 -- `of` gives a new block that is marked away for good.
 use Rattle.handles.proofs.Walks.{◌≡◌, ℕ, List, [], ◌∷◌, ◌++◌, refl, sym, subst, a_type, Val, vptr}
 use Rattle.handles.proofs.Walks.{inst_fn, SProp}
-use Rattle.handles.proofs.Walks.{ent, id⊢, Lft, Share, Fml, ftrue, fsep, flft, WpFn, sem, later, await, at_ret, ‵}
+use Rattle.handles.proofs.Walks.{ent, id⊢, Lft, Share, ftrue, fsep, flft, WpFn, sem, later, await, at_ret, ‵}
 use Rattle.handles.proofs.Walks.{raw, ◌⊛◌, ◌$◌, ◌∵◌, !, qed, by, move, keep, split, join, fsplit, fjoin}
 use Rattle.handles.proofs.Walks.{use1}
 use Rattle.handles.proofs.Walks.{use2, suffices, feq_i, stop, fld, addr, of_opd, first, blocks, exec, returns}

@@ -8,7 +8,7 @@ ghost use Rattle.handle_tables.specs.Runs.{IsAmong, Run};
 
 pub use crate::commands::{Command, PlainCommand, Reply};
 pub use crate::laws;
-use crate::run::run;
+use crate::run::{Serve, run};
 use crate::{arc_slots, slots};
 use handles::arc::Arc;
 use std::alloc::{AllocError, Global};
@@ -69,11 +69,11 @@ impl<T: Drop> Table<T> {
     }
 }
 
-impl<T: PartialEq + Drop> Table<T> {
+impl<T: PartialEq + Drop> Serve<PlainCommand<T>> for Table<T> {
+    ghost meaning = { plain_outcomes_of T.eq };
+
     #[inline]
-    fn serve_plain(&mut self, alloc: Global, command: PlainCommand<T>) -> Reply
-        ensures { IsAmong (plain_outcomes_of T.eq command self.old) result self.new }
-    {
+    fn serve_one(&mut self, alloc: Global, command: PlainCommand<T>) -> Reply {
         match command {
             PlainCommand::New(i, value) => arc_slots::start(&mut self.slots, alloc, i, value),
             PlainCommand::Clone(i, j) => slots::clone_handle(&mut self.slots, i, j),
@@ -86,7 +86,9 @@ impl<T: PartialEq + Drop> Table<T> {
             PlainCommand::Same(i, j) => slots::same(&self.slots, i, j),
         }
     }
+}
 
+impl<T: PartialEq + Drop> Table<T> {
     /// Runs commands in order and gives a reply to each.
     ///
     /// The room for the replies is reserved first: if it is refused, no command was served, and all are dropped.
@@ -100,12 +102,18 @@ impl<T: PartialEq + Drop> Table<T> {
             Run (plain_outcomes_of T.eq) commands.items self.old replies.items self.new) }
         ensures err { OnErr result (self.new ≡ self.old) }
     {
-        run(
-            self,
-            alloc,
-            commands,
-            |table, command| table.serve_plain(alloc, command),
-        )
+        run(self, alloc, commands)
+    }
+}
+
+impl<T: Clone + PartialEq> Serve<Command<T>> for Table<T> {
+    ghost meaning = { outcomes_of T.eq };
+
+    ghost can_serve = { λ command. IsTrue (is_own command) → CopiesAreEqual T.is_clone };
+
+    #[inline]
+    fn serve_one(&mut self, alloc: Global, command: Command<T>) -> Reply {
+        self.serve(alloc, command)
     }
 }
 
@@ -150,13 +158,6 @@ impl<T: Clone + PartialEq> Table<T> {
             Run (outcomes_of T.eq) commands.items self.old replies.items self.new) }
         ensures err { OnErr result (self.new ≡ self.old) }
     {
-        run(
-            self,
-            alloc,
-            commands,
-            |table, command|
-                requires { IsTrue (is_own command) → CopiesAreEqual T.is_clone }
-            { table.serve(alloc, command) },
-        )
+        run(self, alloc, commands)
     }
 }

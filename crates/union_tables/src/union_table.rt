@@ -8,7 +8,7 @@ ghost use Rattle.handle_tables.specs.Runs.{IsAmong, Run};
 pub use crate::laws;
 pub use crate::union_commands::UnionCommand;
 use crate::union_slots;
-use handle_tables::run::run;
+use handle_tables::run::{Serve, run};
 use handle_tables::slots;
 use handle_tables::table::Reply;
 use handles::arc_union::{ArcUnion, ArcUnionBorrow};
@@ -72,6 +72,15 @@ impl<A: Drop, B: Drop> UnionTable<A, B> {
     }
 }
 
+impl<A: PartialEq + Drop, B: PartialEq + Drop> Serve<UnionCommand<A, B>> for UnionTable<A, B> {
+    ghost meaning = { union_outcomes_of A.eq B.eq };
+
+    #[inline]
+    fn serve_one(&mut self, alloc: Global, command: UnionCommand<A, B>) -> Reply {
+        self.serve(alloc, command)
+    }
+}
+
 impl<A: PartialEq + Drop, B: PartialEq + Drop> UnionTable<A, B> {
     /// Serves one command. The reply takes no memory.
     #[inline]
@@ -105,11 +114,6 @@ impl<A: PartialEq + Drop, B: PartialEq + Drop> UnionTable<A, B> {
             Run (union_outcomes_of A.eq B.eq) commands.items self.old replies.items self.new) }
         ensures err { OnErr result (self.new ≡ self.old) }
     {
-        run(
-            self,
-            alloc,
-            commands,
-            |table, command| table.serve(alloc, command),
-        )
+        run(self, alloc, commands)
     }
 }

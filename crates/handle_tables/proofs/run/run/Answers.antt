@@ -13,14 +13,12 @@ loop-command-preserved g c =
     let fewer = c.in-Some.ensures.steps.1 in
     let was = at.invariant.left in
     let short = ap length steps in
-    let may_be_called : g.row.C.Denot → Type 0 = λ c'. (s : _) → g.F.Fn.pre c.args.serve (s, (c', tt)) in
     record {
       all = append_assoc at.yielded (command ∷ []) _ ∙ rw (← steps) at.invariant.all;
       left = omega arith;
       room = let room = at.invariant.room in let len = c.push_reserved.ensures.len in
           rw c.push_reserved.ensures.capacity (omega arith);
-      callable = All-tail may_be_called command _ (subst (All may_be_called) steps at.invariant.callable);
-      run = λ meaning means. rw c.push_reserved.ensures.items (run_more meaning at.yielded c.args.table.now
-          at.replies.items at.table c.serve.new.arg2 command c.serve.result (at.invariant.run meaning means)
-          (means _ _ _ _ c.serve.ensures));
+      servable = All-tail g.S.Serve.can_serve command _ (subst (All g.S.Serve.can_serve) steps at.invariant.servable);
+      run = rw c.push_reserved.ensures.items (run_more g.S.Serve.meaning at.yielded c.args.table.now at.replies.items
+          at.table c.serve_one.new.self command c.serve_one.result at.invariant.run c.serve_one.ensures);
     }

@@ -122,7 +122,7 @@ pub(crate) fn own<T: Clone + PartialEq>(
 }
 
 #[inline]
-pub(crate) fn mark<T: PartialEq + Drop>(slots: &[Option<Arc<T>>], i: usize) -> Reply
+pub(crate) fn mark<T: PartialEq>(slots: &[Option<Arc<T>>], i: usize) -> Reply
     ensures { IsAmong (outcomes_of T.eq (Command.Mark i) slots.now) result slots.now }
 {
     match slots.get(i) {
@@ -137,10 +137,7 @@ pub(crate) fn mark<T: PartialEq + Drop>(slots: &[Option<Arc<T>>], i: usize) -> R
 
 #[inline]
 #[tactic(auto, using(crate::proofs::SlotLemmas::slot_is, crate::proofs::SlotLemmas::set_same, crate::proofs::SlotLemmas::set_twice))]
-pub(crate) fn raw<T: PartialEq + Drop>(
-    slots: &mut [Option<Arc<T>>],
-    i: usize,
-) -> Reply
+pub(crate) fn raw<T: PartialEq + Drop>(slots: &mut [Option<Arc<T>>], i: usize) -> Reply
     ensures { IsAmong (outcomes_of T.eq (Command.Raw i) slots.old) result slots.new }
 {
     if i >= slots.len() {
@@ -154,11 +151,7 @@ pub(crate) fn raw<T: PartialEq + Drop>(
 }
 
 #[inline]
-pub(crate) fn ptr_eq<T: PartialEq + Drop>(
-    slots: &[Option<Arc<T>>],
-    i: usize,
-    j: usize,
-) -> Reply
+pub(crate) fn ptr_eq<T: PartialEq>(slots: &[Option<Arc<T>>], i: usize, j: usize) -> Reply
     ensures { IsAmong (outcomes_of T.eq (Command.PtrEq i j) slots.now) result slots.now }
 {
     let (Some(a), Some(b)) = (slots.get(i), slots.get(j)) else {

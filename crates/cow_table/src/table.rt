@@ -15,6 +15,9 @@ use std::marker::Model;
 use std::ops::Index;
 
 /// A list whose clones are versions of it: what is set in one of them is seen in no other.
+///
+/// The items hold no cell, no lock and no atomic: what these hold is written through a shared handle, so that every
+/// version that shares the item reads the change, and no clause speaks of it.
 #[derive(Drop)]
 pub struct CowTable<T> {
     pub(crate) pages: Arc<Vec<Arc<Vec<T>>>>,

@@ -92,7 +92,7 @@ impl<T: PartialEq + Drop> Table<T> {
     /// Runs commands in order and gives a reply to each.
     ///
     /// The room for the replies is reserved first: if it is refused, no command was served, and all are dropped.
-    /// What [`Table::run`] says of locks and atomics holds here too.
+    /// What [`Table::run`] says of cells, locks and atomics holds here too.
     pub fn run_plain(
         &mut self,
         alloc: Global,
@@ -145,9 +145,9 @@ impl<T: Clone + PartialEq> Table<T> {
     ///
     /// The room for the replies is reserved first: if it is refused, no command was served, and all are dropped.
     ///
-    /// [`Command::Own`] is only for types whose copies are the same value. The values of a table hold no lock and no
-    /// atomic: what a lock guards or an atomic holds is written through a shared handle, so that every slot of that
-    /// block reads the change, and no clause speaks of it.
+    /// [`Command::Own`] is only for types whose copies are the same value. The values of a table hold no cell, no lock
+    /// and no atomic: what these hold is written through a shared handle, so that every slot of that block reads the
+    /// change, and no clause speaks of it.
     pub fn run(
         &mut self,
         alloc: Global,

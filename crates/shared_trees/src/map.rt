@@ -19,6 +19,9 @@ use std::alloc::{AllocError, Global};
 use std::marker::Model;
 
 /// A map from numbers to values, in the order of its keys. Its versions share the branches that a change left alone.
+///
+/// The values hold no cell, no lock and no atomic: what these hold is written through a shared handle, so that every
+/// version that shares the value reads the change, and no clause speaks of it.
 #[derive(Drop)]
 pub struct TreeMap<V> {
     root: Option<Arc<Fork<V>>>,

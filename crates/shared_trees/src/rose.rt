@@ -11,6 +11,9 @@ use thiserror::Error;
 
 /// A value with the trees below it, in one block. A tree is changed by making another, which shares all branches that
 /// the change left alone.
+///
+/// The values hold no cell, no lock and no atomic: what these hold is written through a shared handle, so that every
+/// version that shares the value reads the change, and no clause speaks of it.
 #[derive(Drop, Debug, PartialEq, Eq)]
 pub struct Rose<V> {
     node: ThinArc<V, Rose<V>>,

@@ -104,7 +104,7 @@ impl<A: PartialEq + Drop, B: PartialEq + Drop> UnionTable<A, B> {
     /// Runs commands in order and gives a reply to each, as [`UnionTable::serve`] does.
     ///
     /// The room for the replies is reserved first: if it is refused, no command was served, and all are dropped.
-    /// What [`Table::run`](handle_tables::table::Table::run) says of locks and atomics holds here too.
+    /// What [`Table::run`](handle_tables::table::Table::run) says of cells, locks and atomics holds here too.
     pub fn run(
         &mut self,
         alloc: Global,

@@ -6,6 +6,7 @@ ghost use Rattle.handles.specs.HeaderSlice.Laws.{slices_per, slices_equiv};
 
 mod build;
 mod items;
+mod lists;
 mod makers;
 mod places;
 

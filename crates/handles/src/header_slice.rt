@@ -9,6 +9,7 @@ mod items;
 mod lists;
 mod makers;
 mod places;
+mod reads;
 
 use crate::arc::Arc;
 pub use build::BuildError;

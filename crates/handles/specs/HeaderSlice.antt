@@ -2,6 +2,7 @@
 pub mod Builders
 pub mod Laws
 pub mod Lending
+pub mod Order
 pub mod Pulls
 pub mod UniqueLending
 use Rattle.std.specs.Prelude.{ℕ, List, length}

@@ -8,6 +8,7 @@ mod build;
 mod items;
 mod lists;
 mod makers;
+mod order;
 mod places;
 mod reads;
 

@@ -20,5 +20,6 @@ pub mod PlacesWalks
 pub mod Rows
 pub mod Sent
 pub mod Steps
+pub mod TryBuilderRuns
 pub mod Walks
 mod Framing

@@ -4,6 +4,7 @@ pub mod Laws
 pub mod Lending
 pub mod Order
 pub mod Pulls
+pub mod TryBuilders
 pub mod UniqueLending
 use Rattle.std.specs.Prelude.{ℕ, List, length}
 use Rattle.std.specs.List.{refill}

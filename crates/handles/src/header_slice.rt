@@ -11,6 +11,7 @@ mod makers;
 mod order;
 mod places;
 mod reads;
+mod try_build;
 
 use crate::arc::Arc;
 pub use build::BuildError;

@@ -24,7 +24,7 @@ impl<H: Drop, T: Copy> Arc<HeaderSlice<H, T>> {
 impl<H: Drop, T: Drop> Arc<HeaderSlice<H, T>> {
     /// The header beside the items of a vector, which are moved, not cloned.
     ///
-    /// Memory is requested as by `from_header_and_iter`. If it is refused, the items are dropped and then the header.
+    /// Memory is requested as by `from_header_and_iter`. If it is refused, the header and the items are dropped.
     /// The vector's own memory is given back either way.
     pub fn from_header_and_vec(
         alloc: Global,
@@ -58,7 +58,7 @@ impl<H: Drop, T: Copy> UniqueArc<HeaderSlice<H, T>> {
 impl<H: Drop, T: Drop> UniqueArc<HeaderSlice<H, T>> {
     /// The header beside the items of a vector, which are moved, not cloned.
     ///
-    /// Memory is requested as by `from_header_and_iter`. If it is refused, the items are dropped and then the header.
+    /// Memory is requested as by `from_header_and_iter`. If it is refused, the header and the items are dropped.
     /// The vector's own memory is given back either way.
     pub fn from_header_and_vec(
         alloc: Global,

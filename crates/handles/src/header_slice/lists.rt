@@ -7,7 +7,8 @@ use crate::unique::UniqueArc;
 use std::alloc::{AllocError, Global};
 
 impl<H: Drop, T: Copy> Arc<HeaderSlice<H, T>> {
-    /// The header beside a copy of the items.
+    /// The header beside a copy of the items. If these are not `Copy`, `Vec::from_clones` makes a vector of clones, for
+    /// `from_header_and_vec`.
     ///
     /// Memory is requested as by `from_header_and_iter`. If it is refused, the header is dropped.
     pub fn from_header_and_slice(
@@ -38,7 +39,8 @@ impl<H: Drop, T: Drop> Arc<HeaderSlice<H, T>> {
 }
 
 impl<H: Drop, T: Copy> UniqueArc<HeaderSlice<H, T>> {
-    /// The header beside a copy of the items.
+    /// The header beside a copy of the items. If these are not `Copy`, `Vec::from_clones` makes a vector of clones, for
+    /// `from_header_and_vec`.
     ///
     /// Memory is requested as by `from_header_and_iter`. If it is refused, the header is dropped.
     pub fn from_header_and_slice(
@@ -48,10 +50,9 @@ impl<H: Drop, T: Copy> UniqueArc<HeaderSlice<H, T>> {
     ) -> Result<UniqueArc<HeaderSlice<H, T>>, AllocError>
         ensures { IfOk result (λ slice. slice ≡ record { header = header; items = items.now }) }
     {
-        // The number of items is exact, so that only memory is refused.
-        UniqueArc::from_header_and_iter(alloc, header, items.iter().copied()).map_err(
-            |_| AllocError,
-        )
+        // The iterator gives as many items as it says, so that only memory is refused.
+        let built = UniqueArc::from_header_and_iter(alloc, header, items.iter().copied());
+        built.map_err(|_| AllocError)
     }
 }
 
@@ -67,6 +68,7 @@ impl<H: Drop, T: Drop> UniqueArc<HeaderSlice<H, T>> {
     ) -> Result<UniqueArc<HeaderSlice<H, T>>, AllocError>
         ensures { IfOk result (λ slice. slice ≡ record { header = header; items = items.items }) }
     {
-        UniqueArc::from_header_and_iter(alloc, header, items.into_iter()).map_err(|_| AllocError)
+        let built = UniqueArc::from_header_and_iter(alloc, header, items.into_iter());
+        built.map_err(|_| AllocError)
     }
 }

@@ -1,5 +1,8 @@
 -- What a union of handles is to its holder: a value of one of two types, by kind.
-use Rattle.std.specs.Prelude.{Bool, true, false, Option, Some, None}
+use Rattle.std.specs.Prelude.{Bool, true, false, Option, Some, None, pos, ◌++◌}
+use Rattle.std.specs.declared.cmp.Ordering.{Ordering}
+use Rattle.std.specs.declared.cmp.Ordering.TheVariants.{Less, Greater}
+use Rattle.std.specs.Hash.{HashWrites, isize}
 
 pub data Union (A B : Type 0) : Type 0 where
   First : A → Union A B
@@ -27,3 +30,24 @@ union_eq R S (First a) (First x) = R a x
 union_eq R S (First a) (Second y) = false
 union_eq R S (Second b) (First x) = false
 union_eq R S (Second b) (Second y) = S b y
+
+-- by the kinds if they differ, and else by the values
+abbrev pub by_kind : {A B X : Type 0} → X → X → (A → A → X) → (B → B → X)
+    → Union A B → Union A B → X
+by_kind before after R S (First a) (First x) = R a x
+by_kind before after R S (First a) (Second y) = before
+by_kind before after R S (Second b) (First x) = after
+by_kind before after R S (Second b) (Second y) = S b y
+
+abbrev pub union_cmp : {A B : Type 0} → (A → A → Ordering) → (B → B → Ordering)
+    → Union A B → Union A B → Ordering
+union_cmp = by_kind Less Greater
+
+abbrev pub union_partial_cmp : {A B : Type 0} → (A → A → Option Ordering) → (B → B → Option Ordering)
+    → Union A B → Union A B → Option Ordering
+union_partial_cmp = by_kind (Some Less) (Some Greater)
+
+-- the number of the kind, and then what the value feeds
+abbrev pub union_hash_input : {A B : Type 0} → (A → HashWrites) → (B → HashWrites) → Union A B → HashWrites
+union_hash_input F G (First a) = isize (pos 0) ++ F a
+union_hash_input F G (Second b) = isize (pos 1) ++ G b

@@ -1,15 +1,14 @@
 //! A handle of one of two types.
-ghost use Rattle.std.specs.Prelude.{◌≡◌, IsTrue, option_map};
+ghost use Rattle.std.specs.Prelude.{◌≡◌, IfOk, IfErr, IsTrue, option_map};
 ghost use Rattle.handles.specs.Borrowed.{borrowed};
-ghost use Rattle.handles.specs.Unions.{First, Second, is_first, is_second, first, second, union_eq};
-ghost use Rattle.handles.specs.UnionLaws.{union_eq_per, union_eq_equiv};
+ghost use Rattle.handles.specs.Unions.{First, Second, is_first, is_second, first, second};
+
+mod compare;
 
 use crate::arc::Arc;
 use crate::borrow::ArcBorrow;
 use crate::header_slice::HeaderSlice;
 use std::alloc::AllocError;
-use std::fmt;
-use std::fmt::{Debug, Formatter, Write};
 use std::marker::Model;
 
 /// A handle of a first or of a second type. The two kinds stay apart even if their types are the same.
@@ -110,6 +109,28 @@ impl<A, B> ArcUnion<A, B> {
         }
     }
 
+    /// The handle, if it is of the first type; else the union comes back as it was. The count stays as it is.
+    pub fn into_first(self) -> Result<Arc<A>, ArcUnion<A, B>>
+        ensures first { IfOk result (λ a. self ≡ First a) }
+        ensures second { IfErr result (λ u. (u ≡ self) × IsTrue (is_second self)) }
+    {
+        match self.handle {
+            EitherArc::First(handle) => Ok(handle),
+            EitherArc::Second(handle) => Err(ArcUnion::from_second(handle)),
+        }
+    }
+
+    /// The handle, if it is of the second type; else the union comes back as it was. The count stays as it is.
+    pub fn into_second(self) -> Result<Arc<B>, ArcUnion<A, B>>
+        ensures second { IfOk result (λ b. self ≡ Second b) }
+        ensures first { IfErr result (λ u. (u ≡ self) × IsTrue (is_first self)) }
+    {
+        match self.handle {
+            EitherArc::First(handle) => Err(ArcUnion::from_first(handle)),
+            EitherArc::Second(handle) => Ok(handle),
+        }
+    }
+
     /// Whether both are of one kind and of one block, as exactly as `Arc::ptr_eq` says it.
     pub fn ptr_eq(this: &Self, other: &Self) -> bool
         ensures one_kind { IsTrue result → is_first this.now ≡ is_first other.now }
@@ -132,34 +153,5 @@ impl<A: Drop, B: Drop> Clone for ArcUnion<A, B> {
             EitherArc::Second(handle) => EitherArc::Second(handle.clone()?),
         };
         Ok(ArcUnion { handle })
-    }
-}
-
-/// Asks the values of two of one kind. Two of different kinds are not equal.
-impl<A: PartialEq, B: PartialEq> PartialEq for ArcUnion<A, B> {
-    ghost eq = { union_eq A.eq B.eq };
-
-    ghost laws = { union_eq_per A.laws B.laws };
-
-    fn eq(&self, other: &ArcUnion<A, B>) -> bool {
-        match (&self.handle, &other.handle) {
-            (EitherArc::First(a), EitherArc::First(b)) => a == b,
-            (EitherArc::Second(a), EitherArc::Second(b)) => a == b,
-            _ => false,
-        }
-    }
-}
-
-impl<A: Eq, B: Eq> Eq for ArcUnion<A, B> {
-    ghost laws = { union_eq_equiv A.Eq.laws B.Eq.laws };
-}
-
-impl<A: Debug, B: Debug> Debug for ArcUnion<A, B> {
-    fn fmt<W: Write>(&self, f: &mut Formatter<W>) -> fmt::Result {
-        let borrow = match &self.handle {
-            EitherArc::First(handle) => ArcUnionBorrow::First(ArcBorrow(handle)),
-            EitherArc::Second(handle) => ArcUnionBorrow::Second(ArcBorrow(handle)),
-        };
-        Debug::fmt(&borrow, f)
     }
 }

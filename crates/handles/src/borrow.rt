@@ -2,6 +2,8 @@
 ghost use Rattle.std.specs.Prelude.{◌≡◌, IfOk};
 ghost use Rattle.std.specs.Fn.{FnOnceTakesAt, FnOnceReturnsAt};
 
+mod compare;
+
 use crate::arc::{Arc, Full};
 use std::ops::Deref;
 use std::sync::Wait;
@@ -67,25 +69,4 @@ impl<T> Deref for ArcBorrow<'_, T> {
     {
         self.0
     }
-}
-
-/// Asks the values, also if both are of one block.
-impl<T: PartialEq> PartialEq for ArcBorrow<'_, T> {
-    ghost use Rattle.std.specs.Cmp.{on_per};
-    ghost use Rattle.handles.specs.Borrowed.{borrowed};
-
-    ghost eq = { λ x y. T.eq (borrowed x) (borrowed y) };
-
-    ghost laws = { on_per borrowed T.laws };
-
-    fn eq(&self, other: &Self) -> bool {
-        **self == **other
-    }
-}
-
-impl<T: Eq> Eq for ArcBorrow<'_, T> {
-    ghost use Rattle.std.specs.Cmp.{on_equiv};
-    ghost use Rattle.handles.specs.Borrowed.{borrowed};
-
-    ghost laws = { on_equiv borrowed T.Eq.laws };
 }

@@ -11,7 +11,7 @@ use crate::block::Handle;
 use crate::limit::Limit;
 use crate::unique::UniqueArc;
 use counting_word::{is_alone, is_marked};
-use std::alloc::{AllocError, Global};
+use std::alloc::{AllocError, AllocFailed, Global};
 use std::marker::Model;
 use std::ops::Deref;
 use std::sync::Wait;
@@ -51,6 +51,14 @@ impl<T: Drop> Arc<T> {
         Ok(UniqueArc::new(alloc, value)?.shareable())
     }
 
+    /// As `new`, with the error of the language's own makers, which `?` turns into an `AllocError`. The value is in it.
+    pub fn try_new(alloc: Global, value: T) -> Result<Arc<T>, AllocFailed<T>>
+        ensures made { IfOk result (λ a. a ≡ value) }
+        ensures refused { IfErr result (λ failed. failed.value ≡ value) }
+    {
+        Arc::new(alloc, value).map_err(|value| AllocFailed { value })
+    }
+
     /// As `new`, of a block that has at most `limit` handles until it is marked. All handles of the block, however they
     /// are made, count to this limit; every other maker's blocks count to `MAX_REFCOUNT`.
     pub fn new_with_limit(alloc: Global, value: T, limit: u64) -> Result<Arc<T>, T>
@@ -84,8 +92,8 @@ impl<T: Drop> Arc<T> {
         Arc::clone(&raw.arc, rt)
     }
 
-    /// Tries until the handle is made or the block is full, however often other threads change the count meanwhile. After
-    /// a lost raise it pauses, once it has the handle, for about a microsecond, which lets the others raise.
+    /// Tries until the handle is made or the block is full, however often other threads change the count meanwhile.
+    /// After a lost raise it pauses, once it has the handle, for about a microsecond, which lets the others raise.
     #[inline]
     pub fn clone(this: &Arc<T>, rt: &impl Wait) -> Result<Arc<T>, Full>
         ensures { IfOk result (λ a. a ≡ this.now) }

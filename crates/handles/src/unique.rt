@@ -3,10 +3,12 @@ ghost use Rattle.std.specs.Prelude.{◌≡◌, IfOk, IfErr};
 ghost use types.Logic.{sem};
 ghost use Rattle.counting_word.specs.CountingWord.{marked_word};
 
+mod compare;
+
 use crate::arc::Arc;
 use crate::block::{Block, Handle, Loose};
 use crate::limit::Limit;
-use std::alloc::{AllocError, Global};
+use std::alloc::{AllocError, AllocFailed, Global};
 use std::marker::Model;
 use std::ops::{Deref, DerefMut};
 use std_alloc::room::Vacant;
@@ -36,6 +38,14 @@ impl<T: Drop> UniqueArc<T> {
         UniqueArc::with_limit(alloc, value, Limit::GREATEST)
     }
 
+    /// As `new`, with the error of the language's own makers, which `?` turns into an `AllocError`. The value is in it.
+    pub fn try_new(alloc: Global, value: T) -> Result<UniqueArc<T>, AllocFailed<T>>
+        ensures made { IfOk result (λ u. u ≡ value) }
+        ensures refused { IfErr result (λ failed. failed.value ≡ value) }
+    {
+        UniqueArc::new(alloc, value).map_err(|value| AllocFailed { value })
+    }
+
     pub(crate) fn with_limit(alloc: Global, value: T, limit: Limit) -> Result<UniqueArc<T>, T>
         ensures made { IfOk result (λ u. u ≡ value) }
         ensures refused { IfErr result (λ x. x ≡ value) }
@@ -51,6 +61,24 @@ impl<T: Drop> UniqueArc<T> {
     {
         let UniqueArc { block } = self;
         Arc::of(Handle::first(Loose::of(block)).into_shared())
+    }
+
+    /// The value. The block is given back, and the value is neither copied nor dropped.
+    pub fn into_inner(self) -> T
+        ensures { result ≡ self }
+    {
+        let UniqueArc { block } = self;
+        Box::into_inner(block).into_value()
+    }
+
+    /// The value, to write to for good. It is never dropped, and its block is never given back.
+    pub fn leak<'a>(self) -> &'a mut T
+    where
+        T: 'a,
+        ensures { result.now ≡ self }
+    {
+        let UniqueArc { block } = self;
+        Box::leak(block).value_mut()
     }
 
     // The block, marked before it is shared.

@@ -1,8 +1,9 @@
 // From a value to a handle, in place of `Default` and `From`, which take no allocator; and back.
-ghost use Rattle.std.specs.Prelude.{◌≡◌, IfOk, IfErr, IfSome};
+ghost use Rattle.std.specs.Prelude.{◌≡◌, IfOk, IfErr, IfSome, IsOk};
+ghost use Rattle.handles.specs.Copies.{SameOrCopy};
 
 use super::Arc;
-use std::alloc::Global;
+use std::alloc::{AllocError, Global};
 
 impl<T: Drop> Arc<T> {
     /// A handle of a default. The one that was made comes back if there is no memory for the block.
@@ -33,5 +34,29 @@ impl<T: Drop> Arc<T> {
     {
         let block = this.handle.end()?;
         Some(Box::into_inner(block).into_value())
+    }
+
+    /// The value, if this is the only handle of an unmarked block; else the handle comes back as it was.
+    ///
+    /// It asks as `get_mut` does, by one read of the count. Two threads that ask so of the last two handles may both
+    /// get theirs back; of two calls of `into_inner` one gives the value.
+    pub fn try_unwrap(this: Arc<T>) -> Result<T, Arc<T>>
+        ensures alone { IfOk result (λ value. value ≡ this) }
+        ensures shared { IfErr result (λ a. a ≡ this) }
+    {
+        Ok(Arc::into_unique(this)?.into_inner())
+    }
+
+    /// The value itself, if this is the only handle of an unmarked block; else a copy of it. The handle ends, as by a
+    /// drop.
+    ///
+    /// Refused only if the value's own `clone` is. The handle has ended then too.
+    pub fn unwrap_or_clone(this: Arc<T>) -> Result<T, AllocError>
+    where
+        T: Clone,
+        ensures value { IfOk result (SameOrCopy T.is_clone this) }
+        ensures given { T.is_infallible this → IsOk result }
+    {
+        Arc::try_unwrap(this).or_else(|shared| (*shared).clone())
     }
 }

@@ -16,6 +16,7 @@ use denote.Model.Placed.{view_places}
 use Rattle.std.specs.declared.boxed.Box.{Box}
 use Rattle.std.specs.contracts.boxed.Box as box
 use Rattle.std.specs.declared.alloc.Global.{Global}
+use Rattle.std.specs.declared.cmp.PartialEq as eq
 use Rattle.std.specs.contracts.alloc.Global as heap
 use Rattle.std.specs.contracts.impls.GlobalAllocator.TheImpl.{ghosts}
 use Rattle.handles.specs.declared.block.Block.{Block}
@@ -107,3 +108,7 @@ module _ (R S : RattleType) (h : R.Denot → S.Denot) where
 
   pub the_codes_placed : Recodes R S h → Recodes (C.the_row R) (C.the_row S) ((the_former this).map R.Denot S.Denot h)
   the_codes_placed e d = e d
+
+module _ (X Y : Type 0) (h : X → Y) where
+  pub the_eq_natural : (V : eq.Ghosts Y) (a b : X) → V.eq (h a) (h b) ≡ V.eq (h a) (h b)
+  the_eq_natural V a b = refl

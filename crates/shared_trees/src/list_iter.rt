@@ -53,9 +53,9 @@ impl<'a, T> Iterator for ListIter<'a, T> {
 
     fn next(&mut self) -> Option<&'a T> {
         let links = self.links;
-        let node = links.first.as_ref()?;
-        self.links = &node.rest;
-        Some(&node.value)
+        let (item, rest) = links.split_first()?;
+        self.links = rest;
+        Some(item)
     }
 
     fn size_hint(&self) -> (usize, Option<usize>)
@@ -63,15 +63,14 @@ impl<'a, T> Iterator for ListIter<'a, T> {
         ensures upper { IfSome result.1 (UpTo (item_count (λ s. s) self.now)) }
         ensures exact { result ≡ (length self.now, Some (length self.now)) }
     {
-        let links = self.links;
-        (links.len, Some(links.len))
+        let left = self.links.len();
+        (left, Some(left))
     }
 }
 
 impl<'a, T> ExactSizeIterator for ListIter<'a, T> {
     fn len(&self) -> usize {
-        let links = self.links;
-        links.len
+        self.links.len()
     }
 }
 

@@ -7,13 +7,11 @@ ghost use Rattle.shared_trees.specs.Maps.{lookup, with_entry, without};
 
 mod fork;
 mod insert;
-mod numbered;
 mod rank;
 mod remove;
 mod sides;
 
 use fork::Fork;
-pub(crate) use numbered::Numbered;
 use servo_arc::Arc;
 use std::alloc::{AllocError, Global};
 use std::marker::Model;
@@ -61,7 +59,10 @@ impl<V> TreeMap<V> {
     pub fn len(&self) -> usize
         ensures { result ≡ length self.now }
     {
-        self.count()
+        match &self.root {
+            None => 0,
+            Some(fork) => fork.len,
+        }
     }
 
     /// Whether there are no entries.
@@ -89,7 +90,7 @@ impl<V> TreeMap<V> {
     pub fn entry(&self, index: usize) -> Option<&(u64, V)>
         ensures { option_copied result ≡ slice_get self.now index }
     {
-        self.numbered(index)
+        self.root.as_ref()?.numbered(index)
     }
 
     /// Whether both have the same root, as exactly as `Arc::ptr_eq` says it. Empty maps have none.

@@ -3,7 +3,7 @@ ghost use Rattle.std.specs.Prelude.{◌≡◌, IfSome, Some, length, ⊤};
 ghost use Rattle.std.specs.Iterator.{UpTo, YieldsFirstRef, YieldsLastRef, item_count};
 ghost use Rattle.std.specs.Iterator.SizeHint.{IsWithinCount};
 
-use crate::map::{Numbered, TreeMap};
+use crate::map::TreeMap;
 use std::alloc::AllocError;
 use std::iter::FusedIterator;
 use std::marker::Model;
@@ -41,7 +41,7 @@ impl<'a, V> IntoIterator for &'a TreeMap<V> {
         MapIter {
             map: self,
             from: 0,
-            to: self.count(),
+            to: self.len(),
         }
     }
 }
@@ -68,7 +68,7 @@ impl<'a, V> Iterator for MapIter<'a, V> {
             return None;
         }
         let map = self.map;
-        let entry = map.numbered(self.from)?;
+        let entry = map.entry(self.from)?;
         self.from += 1;
         Some(entry)
     }
@@ -93,7 +93,7 @@ impl<'a, V> DoubleEndedIterator for MapIter<'a, V> {
             return None;
         }
         let map = self.map;
-        let entry = map.numbered(self.to - 1)?;
+        let entry = map.entry(self.to - 1)?;
         self.to -= 1;
         Some(entry)
     }

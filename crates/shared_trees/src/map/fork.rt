@@ -1,5 +1,5 @@
 //! A node of the tree: an entry between the trees of lesser and of greater keys.
-ghost use Rattle.std.specs.Prelude.{◌≡◌, ◌∷◌, ◌++◌, IfOk};
+ghost use Rattle.std.specs.Prelude.{◌≡◌, ◌∷◌, ◌++◌, IfOk, slice_get};
 ghost use Rattle.std.specs.Option.{option_copied};
 ghost use Rattle.servo_arc.specs.Copies.{CopiesAreEqual};
 ghost use Rattle.shared_trees.specs.Forks.{around};
@@ -54,6 +54,22 @@ impl<V> Fork<V> {
             } else {
                 return Some(value);
             }
+        }
+    }
+
+    // The entry of that number, counted from 0 in the order of the keys.
+    #[tactic(auto, using(crate::proofs::Rising::counting))]
+    pub(super) fn numbered(&self, index: usize) -> Option<&(u64, V)>
+        ensures { option_copied result ≡ slice_get self.now index }
+    {
+        let less = self.sides.less();
+        let before = less.map_or(0, |fork| fork.len);
+        if index == before {
+            Some(&self.entry)
+        } else if index < before {
+            less?.numbered(index)
+        } else {
+            self.sides.greater()?.numbered(index - before - 1)
         }
     }
 }

@@ -3,10 +3,12 @@
 #![tactic(auto)]
 
 pub mod counted_lists;
+pub mod edits;
 pub mod environment;
 pub mod history;
 pub mod list_editions;
 pub mod map_editions;
 pub mod opened;
+pub mod stack;
 pub mod styles;
 pub mod two_threads;

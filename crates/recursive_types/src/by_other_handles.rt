@@ -1,6 +1,7 @@
 //! Ways back through the other handles.
 use servo_arc::{Arc, ArcBorrow, ArcUnion, RawArc, ThinArc, UniqueArc};
 
+/// As of each chain here, the derived drop is a recursion, for which a long one needs much stack.
 #[derive(Drop)]
 pub struct Unique {
     pub value: u32,

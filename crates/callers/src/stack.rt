@@ -62,7 +62,7 @@ impl<T: Drop> Stack<T> {
         ensures { IfOk result (λ stack. stack ≡ item ∷ self.now) }
     {
         let below = self.top.clone()?;
-        let node = Arc::new(alloc, Node { item, below }).map_err(|_| AllocError)?;
+        let node = Arc::try_new(alloc, Node { item, below })?;
         Ok(Stack { top: Some(node) })
     }
 

@@ -43,5 +43,5 @@ fn next_page<T: Drop>(
             page.push(item)?;
         }
     }
-    Arc::new(alloc, page).map_err(|_| AllocError)
+    Ok(Arc::try_new(alloc, page)?)
 }

@@ -52,7 +52,7 @@ impl<T: Drop> CowTable<T> {
         let len = items.len();
         let pages = in_pages(alloc, items, page_len)?;
         Ok(CowTable {
-            pages: Arc::new(alloc, pages).map_err(|_| AllocError)?,
+            pages: Arc::try_new(alloc, pages)?,
             len,
             page_length: PageLength::new(page_len),
         })

@@ -10,7 +10,7 @@ use std::alloc::{AllocError, Global};
 fn written_once(alloc: Global) -> Result<(u32, u32), AllocError>
     ensures { IfOk result (λ read. read ≡ (5, 9)) }
 {
-    let first = Arc::new(alloc, 5).map_err(|_| AllocError)?;
+    let first = Arc::try_new(alloc, 5)?;
     let mut second = first.clone()?;
     *Arc::make_mut(&mut second, alloc)? = 9;
     Ok((*first, *second))

@@ -15,7 +15,7 @@ pub fn push(alloc: Global, value: u32, next: &Arc<Node>) -> Result<Arc<Node>, Al
     ensures whole { IfOk result (λ node. values node ≡ value ∷ values next.now) }
 {
     let next = Some(next.clone()?);
-    Arc::new(alloc, Node { value, next }).ok().ok_or(AllocError)
+    Ok(Arc::try_new(alloc, Node { value, next })?)
 }
 
 /// The number of values from this node on.

@@ -30,8 +30,8 @@ impl Defaults {
             width: 0,
             radius: 0,
         };
-        let font = UniqueArc::new(alloc, font).map_err(|_| AllocError)?;
-        let border = UniqueArc::new(alloc, border).map_err(|_| AllocError)?;
+        let font = UniqueArc::try_new(alloc, font)?;
+        let border = UniqueArc::try_new(alloc, border)?;
         // Not before both are there, so that nothing is lost if one is refused.
         Ok(Defaults {
             font: font.into_static(),

@@ -85,7 +85,7 @@ impl<T: Drop> Links<T> {
     {
         let len = self.len.checked_add(1).ok_or(AllocError)?;
         let node = Node { value, rest: self };
-        let first = Arc::new(alloc, node).map_err(|_| AllocError)?;
+        let first = Arc::try_new(alloc, node)?;
         Ok(Links {
             first: Some(first),
             len,

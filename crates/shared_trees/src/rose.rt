@@ -107,10 +107,8 @@ impl<V: Drop> Rose<V> {
     ) -> Result<Rose<V>, AllocError>
         ensures { IfOk result (λ tree. tree ≡ branch value trees.items) }
     {
-        let node = Arc::from_header_and_iter(alloc, value, trees.into_iter());
-        Ok(Rose {
-            node: node.map_err(|_| AllocError)?,
-        })
+        let node = Arc::from_header_and_vec(alloc, value, trees)?;
+        Ok(Rose { node })
     }
 }
 

@@ -152,16 +152,15 @@ macro_rules! trees {
                         len,
                     }
                 }
+            }
 
-                /// Ends node by node, since a plain drop would end each node inside the one before.
-                fn end(self) {
-                    let mut first = self.first;
+            impl Drop for List {
+                /// Node by node in a loop, since a derived drop would end each node inside the one before.
+                fn drop(&mut self) {
+                    let mut first = self.first.take();
                     while let Some(mut node) = first {
                         first = match Arc::get_mut(&mut node) {
-                            Some(node) => {
-                                node.rest.len = 0;
-                                node.rest.first.take()
-                            }
+                            Some(node) => node.rest.first.take(),
                             None => None,
                         };
                     }
@@ -192,7 +191,6 @@ macro_rules! trees {
                     let list = list();
                     let first = list.first.as_ref().map_or(0, |node| node.value);
                     sum = sum.wrapping_add(first).wrapping_add(list.len as u64);
-                    list.end();
                 }
                 sum
             }
@@ -203,7 +201,6 @@ macro_rules! trees {
                 for _ in 0..n {
                     sum = sum.rotate_left(1).wrapping_add(sum_of(&list));
                 }
-                list.end();
                 sum
             }
         }

@@ -22,7 +22,7 @@ fn sum_of(list: &List<u64>) -> u64 {
     sum
 }
 
-/// Builds the list and ends it.
+/// Builds the list and drops it.
 #[inline(never)]
 pub fn list_build(alloc: Global, iterations: u64) -> Result<u64, Fault> {
     let mut sum = 0u64;
@@ -30,7 +30,6 @@ pub fn list_build(alloc: Global, iterations: u64) -> Result<u64, Fault> {
         let list = list(alloc)?;
         let first = list.first().copied().unwrap_or(0);
         sum = sum.wrapping_add(first).wrapping_add(list.len() as u64);
-        list.end();
     }
     Ok(sum)
 }
@@ -42,6 +41,5 @@ pub fn list_walk(alloc: Global, iterations: u64) -> Result<u64, Fault> {
     for _ in 0..iterations {
         sum = sum.rotate_left(1).wrapping_add(sum_of(&list));
     }
-    list.end();
     Ok(sum)
 }

@@ -5,7 +5,8 @@ use servo_arc::Arc;
 use std::alloc::{AllocError, Global};
 use std::marker::Model;
 
-/// A list's first node, if it has one. A plain drop ends the nodes by a recursion, so a `List` does it by a loop.
+/// A list's first node, if it has one. Its own drop ends the nodes by a recursion, so the drop of a `List` takes them
+/// apart in a loop.
 #[cycle(links)]
 #[derive(Drop)]
 pub(crate) struct Links<T> {

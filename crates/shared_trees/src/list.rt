@@ -8,7 +8,6 @@ use std::alloc::{AllocError, Global};
 use std::marker::Model;
 
 /// A list whose versions share their last items: to push an item in front makes a list, and the old one stays.
-#[derive(Drop)]
 pub struct List<T> {
     pub(crate) links: Links<T>,
 }
@@ -30,6 +29,21 @@ impl<T: Drop> Clone for List<T> {
         Ok(List {
             links: self.links.clone()?,
         })
+    }
+}
+
+impl<T: Drop> Drop for List<T> {
+    /// Ends node by node in a loop, as far as no other version has them. So the end of a long list takes no more stack
+    /// than that of a short one, also if threads end versions of it at once.
+    fn drop(self) {
+        let List { links } = self;
+        let mut first = links.first;
+        while let Some(node) = first {
+            first = match Arc::into_inner(node) {
+                Some(node) => node.rest.first,
+                None => None,
+            };
+        }
     }
 }
 
@@ -104,19 +118,6 @@ impl<T: Drop> List<T> {
             Some((_, rest)) => Ok(List {
                 links: rest.clone()?,
             }),
-        }
-    }
-
-    /// Ends node by node in a loop, as far as no other version has them. So a long list takes no more stack than a
-    /// short one, also if threads end versions of it at once; a plain drop ends each node inside the one before, and
-    /// may run out of stack.
-    pub fn end(self) {
-        let mut first = self.links.first;
-        while let Some(node) = first {
-            first = match Arc::into_inner(node) {
-                Some(node) => node.rest.first,
-                None => None,
-            };
         }
     }
 

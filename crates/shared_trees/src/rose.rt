@@ -10,7 +10,7 @@ use std::alloc::{AllocError, Global};
 use thiserror::Error;
 
 /// A value with the trees below it, in one block. A tree is changed by making another, which shares all branches that
-/// the change left alone.
+/// the change left alone. A change and the drop go down by a recursion, for which a very deep tree needs much stack.
 ///
 /// The values hold no cell, no lock and no atomic: what these hold is written through a shared handle, so that every
 /// version that shares the value reads the change, and no clause speaks of it.

@@ -1,10 +1,15 @@
-// The caller of the documentation, called.
+// The callers of the documentation, called.
+use crate::lists::SMALL_STACK;
+use callers::edits::{Document, two_titles};
+use callers::stack::Stack;
 use callers::styles::{
     Style, plain_and_bold, plain_style, properties, properties_of, put_under, rule_of, size_of,
     styled,
 };
+use facts::counted::{Counted, Tally};
 use facts::{again, holds, ok, same};
 use servo_arc::{Arc, BuildError};
+use std::thread::Builder;
 
 #[test]
 fn a_bold_style_leaves_the_plain_one(rt: HostRuntime) {
@@ -46,4 +51,43 @@ fn properties_stand_under_their_rule(rt: HostRuntime) {
         properties_of(rt.alloc(), 7, ok!(&rt, vec![in rt.alloc(); 4, 5])),
     );
     holds!(&rt, of_vector.slice() == &[4, 5][..]);
+}
+
+fn value_on_top(stack: &Stack<Counted<'_>>) -> Option<u64> {
+    Some(stack.top()?.value)
+}
+
+// Each item ends with the last version that has it.
+#[test]
+fn a_stack_shares_its_items(rt: HostRuntime) {
+    let tally = Tally::new();
+    let old = ok!(&rt, Stack::new().push(rt.alloc(), Counted::new(&tally, 1)),);
+    let new = ok!(&rt, old.push(rt.alloc(), Counted::new(&tally, 2)));
+    let rest = ok!(&rt, new.rest());
+    let tops = (value_on_top(&old), value_on_top(&new), value_on_top(&rest));
+    same!(&rt, tops, (Some(1), Some(2), Some(1)));
+    drop(old);
+    drop(new);
+    same!(&rt, tally.drops(), 1);
+    drop(rest);
+    same!(&rt, (tally.drops(), tally.copies()), (2, 0));
+}
+
+#[test]
+fn a_tall_stack_ends_on_a_small_one(rt: HostRuntime) {
+    let mut tall = Stack::new();
+    for value in 0..100_000u64 {
+        tall = ok!(&rt, tall.push(rt.alloc(), value));
+    }
+    let small = Builder::new().stack_size(SMALL_STACK);
+    ok!(&rt, small.spawn(&rt, move || drop(tall))).join(&rt);
+}
+
+#[test]
+fn a_new_title_leaves_the_old_document(rt: HostRuntime) {
+    let body = ok!(&rt, Arc::new(rt.alloc(), 7u32));
+    let document = ok!(&rt, Arc::new(rt.alloc(), Document { title: 1, body }));
+    let (old, new) = ok!(&rt, two_titles(rt.alloc(), document, 2));
+    same!(&rt, (old.title, new.title, *new.body), (1, 2, 7));
+    holds!(&rt, Arc::ptr_eq(&old.body, &new.body));
 }

@@ -72,6 +72,6 @@ fn a_list_copies_nothing(rt: HostRuntime) {
     drop(new);
     drop(old);
     same!(&rt, (tally.drops(), copy.len()), (0, 2));
-    copy.end();
+    drop(copy);
     same!(&rt, (tally.drops(), tally.copies()), (2, 0));
 }

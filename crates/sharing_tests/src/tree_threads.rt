@@ -1,9 +1,9 @@
 // Versions on several threads, each of which is joined.
-use crate::lists::up_to;
 use crate::waiting::arrive;
 use callers::map_editions::{Edition, publish, read_all};
 use crossbeam_channel::{Receiver, Sender, unbounded};
-use facts::{again, ok};
+use facts::counted::{Counted, Tally};
+use facts::{again, ok, same};
 use shared_trees::List;
 use std::alloc::{AllocError, Global};
 use std::process::Abort;
@@ -52,18 +52,26 @@ const ROUNDS: u32 = 20;
 // So many that a drop of each inside the one before may run out of stack.
 const NODES: u64 = 200_000;
 
-fn end(rt: &impl Abort, here: &AtomicU64, list: List<u64>) {
-    arrive(rt, here, 2);
-    list.end();
+fn end(rt: &impl Abort, here: &AtomicU64, list: List<Counted<'_>>) {
+    arrive(rt, here, 4);
+    drop(list);
 }
 
-// Whichever thread ends its version last has to end the nodes, and neither knows that before.
+// Whichever thread ends its version last has to end the nodes, and none knows that before.
 #[test]
-fn two_threads_end_one_long_list(rt: HostRuntime) {
+fn four_threads_end_one_long_list(rt: HostRuntime) {
     for _ in 0..ROUNDS {
-        let here = AtomicU64::new(0);
-        let list = ok!(&rt, up_to(rt.alloc(), NODES));
-        let same = again!(&rt, &list);
-        thread::join(&rt, || end(&rt, &here, list), || end(&rt, &here, same));
+        let (tally, here) = (Tally::new(), AtomicU64::new(0));
+        let mut a = List::new();
+        for value in 0..NODES {
+            a = ok!(&rt, a.push(rt.alloc(), Counted::new(&tally, value)));
+        }
+        let (b, c, d) = (again!(&rt, &a), again!(&rt, &a), again!(&rt, &a));
+        thread::join(
+            &rt,
+            || thread::join(&rt, || end(&rt, &here, a), || end(&rt, &here, b)),
+            || thread::join(&rt, || end(&rt, &here, c), || end(&rt, &here, d)),
+        );
+        same!(&rt, tally.drops(), NODES);
     }
 }

@@ -54,24 +54,9 @@ fn ask_often(
 fn four_threads_have_no_more_handles_than_the_limit(rt: HostRuntime) {
     let a = ok!(&rt, Arc::new_with_limit(rt.alloc(), 7u64, LIMIT));
     let (clones, here) = (AtomicU64::new(0), AtomicU64::new(0));
-    let done = thread::join(
-        &rt,
-        || {
-            thread::join(
-                &rt,
-                || ask_often(&a, &clones, &here, &rt),
-                || ask_often(&a, &clones, &here, &rt),
-            )
-        },
-        || {
-            thread::join(
-                &rt,
-                || ask_often(&a, &clones, &here, &rt),
-                || ask_often(&a, &clones, &here, &rt),
-            )
-        },
-    );
-    same!(&rt, done, ((true, true), (true, true)));
+    let ask = |_: usize| ask_often(&a, &clones, &here, &rt);
+    let done = thread::map_indices(&rt, rt.alloc(), 4, &ask);
+    same!(&rt, ok!(&rt, done).as_slice(), &[true; 4][..]);
     holds!(&rt, a.is_unique() && clones.load(SeqCst) == 0);
     let (b, c) = (ok!(&rt, Arc::clone(&a, &rt)), ok!(&rt, Arc::clone(&a, &rt)));
     same!(&rt, Arc::clone(&a, &rt).err(), Some(Full));

@@ -25,13 +25,9 @@ fn count_refused(handle: &Arc<u64>) -> Option<u64> {
 #[test]
 fn four_threads_are_seldom_refused(rt: HostRuntime) {
     let a = arc_of(&rt, 7u64);
-    let ((one, two), (three, four)) = thread::join(
-        &rt,
-        || thread::join(&rt, || count_refused(&a), || count_refused(&a)),
-        || thread::join(&rt, || count_refused(&a), || count_refused(&a)),
-    );
+    let counted = thread::map_indices(&rt, rt.alloc(), 4, &|_| count_refused(&a));
     let mut refused = 0u64;
-    for number in [one, two, three, four] {
+    for number in ok!(&rt, counted) {
         refused = refused.wrapping_add(number.expect(&rt, "another value"));
     }
     ok!(

@@ -25,12 +25,8 @@ fn make_and_drop(kept: StaticArc<'_, Counted<'_>>) -> u64 {
 fn four_threads_copy_one_static_handle(rt: HostRuntime) {
     let tally = Tally::new();
     let kept = ok!(&rt, StaticArc::new(rt.alloc(), Counted::new(&tally, 5)));
-    let (left, right) = thread::join(
-        &rt,
-        || thread::join(&rt, || make_and_drop(kept), || make_and_drop(kept)),
-        || thread::join(&rt, || make_and_drop(kept), || make_and_drop(kept)),
-    );
-    same!(&rt, (left, right), ((HANDLES, HANDLES), (HANDLES, HANDLES)));
+    let right = thread::map_indices(&rt, rt.alloc(), 4, &|_| make_and_drop(kept));
+    same!(&rt, ok!(&rt, right).as_slice(), &[HANDLES; 4][..]);
     same!(&rt, (kept.value, tally.drops()), (5, 0));
 }
 

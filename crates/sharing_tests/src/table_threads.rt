@@ -21,28 +21,23 @@ fn four_threads_read_what_one_publishes(rt: HostRuntime) {
     let alloc = rt.alloc();
     let zeros = ok!(&rt, vec![in alloc; 0u64; 8]);
     let items = ok!(&rt, CowTable::from_items(alloc, zeros, 3));
-    let (to_a, a) = ok!(&rt, channel(alloc));
-    let (to_b, b) = ok!(&rt, channel(alloc));
-    let (to_c, c) = ok!(&rt, channel(alloc));
-    let (to_d, d) = ok!(&rt, channel(alloc));
-    let readers = [to_a, to_b, to_c, to_d];
+    let (mut to_readers, mut readers) = (Vec::new(alloc), Vec::new(alloc));
+    for _ in 0..4 {
+        let (to_reader, reader) = ok!(&rt, channel(alloc));
+        ok!(&rt, to_readers.push(to_reader));
+        ok!(&rt, readers.push(reader));
+    }
     let rt = &rt;
     let (published, read) = thread::join(
         rt,
         move || {
-            let readers = readers;
-            publish(rt, alloc, items, EDITIONS, &readers)
+            let to_readers = to_readers;
+            publish(rt, alloc, items, EDITIONS, &to_readers)
         },
-        || {
-            thread::join(
-                rt,
-                || thread::join(rt, || read_all(rt, a), || read_all(rt, b)),
-                || thread::join(rt, || read_all(rt, c), || read_all(rt, d)),
-            )
-        },
+        move || thread::map_vec(rt, readers, &|reader| read_all(rt, reader)),
     );
-    let all = Some(EDITIONS);
-    same!(rt, (published, read), (Ok(()), ((all, all), (all, all))));
+    same!(rt, published, Ok(()));
+    same!(rt, ok!(rt, read).as_slice(), &[Some(EDITIONS); 4][..]);
 }
 
 // Item k is k, but for the one that was written.
@@ -94,14 +89,10 @@ fn four_threads_write_versions_of_one_table(rt: HostRuntime) {
         table: ok!(&rt, counted_table(alloc, &tally, 5)),
         tally: &tally,
     };
-    let write = |value: u64| original.write_versions(alloc, value);
-    let ((a, b), (c, d)) = thread::join(
-        &rt,
-        || thread::join(&rt, || write(10), || write(20)),
-        || thread::join(&rt, || write(30), || write(40)),
-    );
+    let write = |i: usize| original.write_versions(alloc, (i as u64).wrapping_add(10));
+    let written = thread::map_indices(&rt, alloc, 4, &write);
     let mut values = 0u64;
-    for written in [a, b, c, d] {
+    for written in ok!(&rt, written) {
         values = values.wrapping_add(written.expect(&rt, "another item"));
     }
     let copies = tally.copies();

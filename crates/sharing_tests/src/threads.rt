@@ -101,12 +101,8 @@ fn clone_often(handle: &Arc<u64>, rt: &impl Wait) -> bool {
 #[test]
 fn four_threads_clone_a_lent_handle(rt: HostRuntime) {
     let a = arc_of(&rt, 7u64);
-    let done = thread::join(
-        &rt,
-        || thread::join(&rt, || clone_often(&a, &rt), || clone_often(&a, &rt)),
-        || thread::join(&rt, || clone_often(&a, &rt), || clone_often(&a, &rt)),
-    );
-    same!(&rt, done, ((true, true), (true, true)));
+    let done = thread::map_indices(&rt, rt.alloc(), 4, &|_| clone_often(&a, &rt));
+    same!(&rt, ok!(&rt, done).as_slice(), &[true; 4][..]);
     holds!(&rt, a.is_unique());
 }
 

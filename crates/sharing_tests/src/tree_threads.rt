@@ -22,28 +22,23 @@ fn channel(alloc: Global) -> Result<Ends, AllocError> {
 #[test]
 fn four_threads_read_what_one_publishes(rt: HostRuntime) -> Result<(), Fail> {
     let alloc = rt.alloc();
-    let (to_a, a) = channel(alloc)?;
-    let (to_b, b) = channel(alloc)?;
-    let (to_c, c) = channel(alloc)?;
-    let (to_d, d) = channel(alloc)?;
-    let readers = [to_a, to_b, to_c, to_d];
+    let (mut to_readers, mut readers) = (Vec::new(alloc), Vec::new(alloc));
+    for _ in 0..4 {
+        let (to_reader, reader) = channel(alloc)?;
+        to_readers.push(to_reader)?;
+        readers.push(reader)?;
+    }
     let rt = &rt;
     let (published, read) = thread::join(
         rt,
         move || {
-            let readers = readers;
-            publish(rt, alloc, EDITIONS, &readers)
+            let to_readers = to_readers;
+            publish(rt, alloc, EDITIONS, &to_readers)
         },
-        || {
-            thread::join(
-                rt,
-                || thread::join(rt, || read_all(rt, a), || read_all(rt, b)),
-                || thread::join(rt, || read_all(rt, c), || read_all(rt, d)),
-            )
-        },
+        move || thread::map_vec(rt, readers, &|reader| read_all(rt, reader)),
     );
-    let all = Some(EDITIONS);
-    assert_eq!(rt; (published, read), (Ok(()), ((all, all), (all, all))));
+    assert_eq!(rt; published, Ok(()));
+    assert_eq!(rt; read?.as_slice(), &[Some(EDITIONS); 4][..]);
     Ok(())
 }
 
@@ -62,15 +57,18 @@ fn end(rt: &impl Abort, here: &AtomicU64, list: List<Counted<'_>>) {
 fn four_threads_end_one_long_list(rt: HostRuntime) {
     for _ in 0..ROUNDS {
         let (tally, here) = (Tally::new(), AtomicU64::new(0));
-        let mut a = List::new();
+        let mut list = List::new();
         for value in 0..NODES {
-            a = ok!(&rt, a.push(rt.alloc(), Counted::new(&tally, value)));
+            list = ok!(&rt, list.push(rt.alloc(), Counted::new(&tally, value)));
         }
-        let (b, c, d) = (again!(&rt, &a), again!(&rt, &a), again!(&rt, &a));
-        thread::join(
+        let mut versions = Vec::new(rt.alloc());
+        for _ in 1..4 {
+            ok!(&rt, versions.push(again!(&rt, &list)));
+        }
+        ok!(&rt, versions.push(list));
+        ok!(
             &rt,
-            || thread::join(&rt, || end(&rt, &here, a), || end(&rt, &here, b)),
-            || thread::join(&rt, || end(&rt, &here, c), || end(&rt, &here, d)),
+            thread::map_vec(&rt, versions, &|list| end(&rt, &here, list))
         );
         same!(&rt, tally.drops(), NODES);
     }

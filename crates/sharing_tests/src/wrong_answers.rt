@@ -69,12 +69,11 @@ fn four_threads_are_seldom_told_wrong(rt: HostRuntime) {
     let a = arc_of(&rt, 1u64);
     let b = again!(&rt, &a);
     let all = 4 * CALLS;
-    let (one, two) = thread::join(
-        &rt,
-        || count_true_of_two(&rt, (&a, &b), (&a, &b)),
-        || count_true_of_two(&rt, (&a, &b), (&a, &b)),
-    );
-    let wrong = all.wrapping_sub(one).wrapping_sub(two);
+    let mut wrong = all;
+    let told = thread::map_indices(&rt, rt.alloc(), 4, &|_| count_true((&a, &b)));
+    for right in ok!(&rt, told) {
+        wrong = wrong.wrapping_sub(right);
+    }
     ok!(
         &rt,
         println!(rt; "one block, four threads: false {wrong} times of {all}")

@@ -49,4 +49,6 @@ mod union_rows;
 #[cfg(test)]
 mod unions;
 #[cfg(test)]
+mod unwrapped;
+#[cfg(test)]
 mod word;

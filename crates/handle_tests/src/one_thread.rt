@@ -1,4 +1,5 @@
 // Each call once, at values that count.
+use crate::by_bound::are_equal;
 use crate::made::arc_of;
 use facts::counted::{Counted, Tally};
 use facts::{again, ok, same};
@@ -174,7 +175,11 @@ fn equality_asks_the_values(rt: HostRuntime) {
     let a = arc_of(&rt, NeverEqual);
     let b = again!(&rt, &a);
     let (c, d) = (arc_of(&rt, 4u64), arc_of(&rt, 4u64));
-    same!(&rt, (a == b, c == d), (false, true));
+    let same = (a == b, c == d);
+    drop(b);
+    let (a, c) = (ok!(&rt, Arc::into_unique(a)), ok!(&rt, Arc::into_unique(c)));
+    let unique = (a == a, are_equal(&c, &ok!(&rt, Arc::into_unique(d))));
+    same!(&rt, (same, unique), ((false, true), (false, true)));
 }
 
 #[derive(Drop)]

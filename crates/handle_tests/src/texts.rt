@@ -15,6 +15,8 @@ fn handles_and_unions_have_their_texts(rt: HostRuntime) {
     let second = Numbers::from_second(arc_of(&rt, 7));
     let mut text = String::new(rt.alloc());
     let handles = write!(text, "{seven} {seven:?} {seven:04} {word} {word:?}\n");
+    let unique = ok!(&rt, UniqueArc::new(rt.alloc(), 8u32));
+    let lone = write!(text, "{unique} {unique:?} {unique:04}\n");
     let borrowed = write!(text, "{:?}\n", seven.borrow_arc());
     let unions = write!(text, "{first:?} {second:?}\n");
     let halves = write!(text, "{:?} {:?}\n", first.borrow(), second.borrow());
@@ -22,16 +24,18 @@ fn handles_and_unions_have_their_texts(rt: HostRuntime) {
         &rt,
         [
             handles.is_ok(),
+            lone.is_ok(),
             borrowed.is_ok(),
             unions.is_ok(),
             halves.is_ok()
         ],
-        [true; 4],
+        [true; 5],
     );
     same!(
         &rt,
         text.as_str(),
         "7 7 0007 a word \"a word\"\n\
+         8 8 0008\n\
          ArcBorrow(7)\n\
          First(ArcBorrow(7)) Second(ArcBorrow(7))\n\
          First(ArcBorrow(7)) Second(ArcBorrow(7))\n",

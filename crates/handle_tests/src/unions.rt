@@ -1,7 +1,7 @@
 // Borrowed handles, and unions of handles.
-use crate::by_bound::are_equal;
+use crate::by_bound::{are_equal, hash_of, is_less};
 use crate::made::arc_of;
-use facts::{again, ok, same};
+use facts::{again, holds, ok, same};
 use servo_arc::{Arc, ArcBorrow, ArcUnion, ArcUnionBorrow};
 
 type Numbers = ArcUnion<u32, u32>;
@@ -81,6 +81,73 @@ fn unions_are_compared_by_kind_and_value(rt: HostRuntime) {
             [true, false, false, false, false],
         ),
     );
+}
+
+#[test]
+fn a_union_becomes_the_handle_of_its_kind(rt: HostRuntime) {
+    let first = Numbers::from_first(arc_of(&rt, 7));
+    let second = Numbers::from_second(arc_of(&rt, 8));
+    let first = first.into_second().err().expect(&rt, "of the first kind");
+    let second = second.into_first().err().expect(&rt, "of the second kind");
+    let (seven, eight) = (ok!(&rt, first.into_first()), ok!(&rt, second.into_second()));
+    let are_unique = (seven.is_unique(), eight.is_unique());
+    same!(&rt, (*seven, *eight, are_unique), (7, 8, (true, true)));
+}
+
+#[test]
+fn unions_and_borrows_are_sorted(rt: HostRuntime) {
+    let unions = vec![in rt.alloc();
+        Numbers::from_second(arc_of(&rt, 1)),
+        Numbers::from_first(arc_of(&rt, 3)),
+        Numbers::from_second(arc_of(&rt, 0)),
+        Numbers::from_first(arc_of(&rt, 2)),
+    ];
+    let mut unions = ok!(&rt, unions);
+    ok!(&rt, unions.sort());
+    let handles = [arc_of(&rt, 9u32), arc_of(&rt, 8)];
+    let borrows = vec![in rt.alloc(); handles[0].borrow_arc(), handles[1].borrow_arc()];
+    let mut borrows = ok!(&rt, borrows);
+    ok!(&rt, borrows.sort());
+    let text = ok!(&rt, format!(in rt.alloc(); "{unions:?} {borrows:?}"));
+    same!(
+        &rt,
+        text.as_str(),
+        "[First(ArcBorrow(2)), First(ArcBorrow(3)), Second(ArcBorrow(0)), Second(ArcBorrow(1))] \
+         [ArcBorrow(8), ArcBorrow(9)]",
+    );
+}
+
+#[derive(PartialEq, Eq, Hash)]
+enum Derived {
+    First(u32),
+    Second(u32),
+}
+
+#[test]
+fn unions_are_ordered_and_hashed_as_a_derived_enum_is(rt: HostRuntime) {
+    let (seven, eight) = (arc_of(&rt, 7u32), arc_of(&rt, 8u32));
+    let first = Numbers::from_first(again!(&rt, &seven));
+    let second = Numbers::from_second(again!(&rt, &seven));
+    let are_less = [
+        is_less(&first, &second),
+        is_less(&second, &first),
+        is_less(&seven.borrow_arc(), &eight.borrow_arc()),
+    ];
+    same!(&rt, are_less, [true, false, true]);
+    same!(
+        &rt,
+        [
+            hash_of(&first),
+            hash_of(&second),
+            hash_of(&seven.borrow_arc())
+        ],
+        [
+            hash_of(&Derived::First(7)),
+            hash_of(&Derived::Second(7)),
+            hash_of(&7u32)
+        ],
+    );
+    holds!(&rt, hash_of(&first) != hash_of(&second));
 }
 
 #[test]

@@ -2,13 +2,13 @@
 use servo_arc::{Arc, ArcBorrow, ArcUnion, RawArc, ThinArc, UniqueArc};
 
 /// As of each chain here, the derived drop is a recursion, for which a long one needs much stack.
-#[derive(Drop)]
+#[derive(Drop, Debug, PartialEq, Eq)]
 pub struct Unique {
     pub value: u32,
     pub next: Option<UniqueArc<Unique>>,
 }
 
-#[derive(Drop)]
+#[derive(Drop, Debug, PartialEq, Eq)]
 pub struct ArcInUnique {
     pub value: u32,
     pub next: Option<UniqueArc<Arc<ArcInUnique>>>,
@@ -20,7 +20,7 @@ pub struct Token {
     pub next: Option<RawArc<Token>>,
 }
 
-#[derive(Drop, Debug, Clone, PartialEq, Eq)]
+#[derive(Drop, Debug, Clone, PartialEq, Eq, PartialOrd, Ord, Hash)]
 pub struct FirstOfUnion {
     pub value: u32,
     pub next: ArcUnion<FirstOfUnion, u32>,
@@ -31,7 +31,7 @@ pub struct Rose {
     pub kids: ThinArc<u32, Rose>,
 }
 
-#[derive(Debug, Clone, Copy, PartialEq, Eq)]
+#[derive(Debug, Clone, Copy, PartialEq, Eq, PartialOrd, Ord, Hash)]
 pub struct Borrowing<'a> {
     pub value: u32,
     pub next: Option<ArcBorrow<'a, Borrowing<'a>>>,

@@ -16,15 +16,19 @@ enum Maker {
     NewStatic,
     FromValue,
     Unique,
+    TryNew,
+    TryUnique,
 }
 
-const MAKERS: [Maker; 6] = [
+const MAKERS: [Maker; 8] = [
     Maker::New,
     Maker::NewWithLimit,
     Maker::NewLeaked,
     Maker::NewStatic,
     Maker::FromValue,
     Maker::Unique,
+    Maker::TryNew,
+    Maker::TryUnique,
 ];
 
 fn made<T: Drop>(maker: Maker, alloc: Global, value: T) -> Result<Arc<T>, T> {
@@ -37,6 +41,11 @@ fn made<T: Drop>(maker: Maker, alloc: Global, value: T) -> Result<Arc<T>, T> {
         Maker::Unique => match UniqueArc::new(alloc, value) {
             Ok(unique) => Ok(unique.shareable()),
             Err(value) => Err(value),
+        },
+        Maker::TryNew => Arc::try_new(alloc, value).map_err(|failed| failed.value),
+        Maker::TryUnique => match UniqueArc::try_new(alloc, value) {
+            Ok(unique) => Ok(unique.shareable()),
+            Err(failed) => Err(failed.value),
         },
     }
 }

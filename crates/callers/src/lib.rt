@@ -3,6 +3,7 @@
 #![tactic(auto)]
 
 pub mod counted_lists;
+pub mod crossing;
 pub mod edits;
 pub mod environment;
 pub mod history;

@@ -11,6 +11,8 @@ mod count_rows;
 #[cfg(test)]
 mod count_threads;
 #[cfg(test)]
+mod crossing;
+#[cfg(test)]
 mod last_value;
 #[cfg(test)]
 mod limits_on_threads;

@@ -1,0 +1,12 @@
+// A handle that another thread makes, is lent and is given.
+use callers::crossing::{end_elsewhere, is_unique_elsewhere, made_elsewhere};
+use facts::{again, ok, same};
+
+#[test]
+fn a_handle_crosses_threads(rt: HostRuntime) {
+    let a = ok!(&rt, made_elsewhere(&rt, rt.alloc(), 7));
+    let b = again!(&rt, &a);
+    let shared = (*a, is_unique_elsewhere(&rt, &a), end_elsewhere(&rt, b));
+    let alone = (is_unique_elsewhere(&rt, &a), end_elsewhere(&rt, a));
+    same!(&rt, (shared, alone), ((7, false, false), (true, true)));
+}

@@ -2,7 +2,6 @@
 ghost use Rattle.std.specs.Prelude.{◌≡◌, if◌then◌else◌, false, true, IfOk, IfErr};
 ghost use Rattle.servo_arc.specs.Borrowed.{borrowed};
 ghost use Rattle.servo_arc.specs.HeaderSlice.Builders.{IsBuilt, Refuses};
-ghost use Rattle.servo_arc.specs.BuildError.TheVariants.{Memory};
 
 use servo_arc::{Arc, ArcBorrow, BuildError, ThinArc, UniqueArc};
 use std::alloc::{AllocError, Global};
@@ -70,16 +69,15 @@ pub fn styled<I: Iterator<Item = char>>(
     Arc::from_header_and_iter_with_size(alloc, style, letters, number)
 }
 
-/// The numbers of a slice under their rule. Only want of memory refuses it.
+/// The numbers of a slice under their rule.
 pub fn properties(
     alloc: Global,
     rule: u32,
     numbers: &[u32],
-) -> Result<ThinArc<u32, u32>, BuildError>
-    ensures built { IfOk result (λ list. list ≡ record { header = rule; items = numbers.now }) }
-    ensures refused { IfErr result (λ refusal. refusal ≡ Memory) }
+) -> Result<ThinArc<u32, u32>, AllocError>
+    ensures { IfOk result (λ list. list ≡ record { header = rule; items = numbers.now }) }
 {
-    Arc::from_header_and_iter(alloc, rule, numbers.iter().copied())
+    Arc::from_header_and_slice(alloc, rule, numbers)
 }
 
 /// The same of a vector, which is used up.
@@ -87,11 +85,10 @@ pub fn properties_of(
     alloc: Global,
     rule: u32,
     numbers: Vec<u32>,
-) -> Result<ThinArc<u32, u32>, BuildError>
-    ensures built { IfOk result (λ list. list ≡ record { header = rule; items = numbers.items }) }
-    ensures refused { IfErr result (λ refusal. refusal ≡ Memory) }
+) -> Result<ThinArc<u32, u32>, AllocError>
+    ensures { IfOk result (λ list. list ≡ record { header = rule; items = numbers.items }) }
 {
-    Arc::from_header_and_iter(alloc, rule, numbers.into_iter())
+    Arc::from_header_and_vec(alloc, rule, numbers)
 }
 
 /// The rule that the properties stand under.

@@ -1,9 +1,11 @@
 // What header slices read, and how they are written before they are shared.
-ghost use Rattle.std.specs.Prelude.{◌≡◌};
+ghost use Rattle.std.specs.Prelude.{◌≡◌, length};
 
 use crate::by_bound::are_equal;
-use facts::{ok, same, same_at};
+use facts::{holds, ok, same, same_at};
 use servo_arc::{Arc, HeaderSlice, ThinArc, UniqueArc};
+use std::cmp::Ordering;
+use std::collections::HashMap;
 use std::mem;
 use std::process::Abort;
 use std::vec::IntoIter;
@@ -80,10 +82,7 @@ fn marks_a_static_slice(rt: HostRuntime) {
     }
 }
 
-fn swap<H, T>(
-    x: &mut UniqueArc<HeaderSlice<H, T>>,
-    y: &mut UniqueArc<HeaderSlice<H, T>>,
-)
+fn swap<H, T>(x: &mut UniqueArc<HeaderSlice<H, T>>, y: &mut UniqueArc<HeaderSlice<H, T>>)
     ensures x { x.new ≡ y.old }
     ensures y { y.new ≡ x.old }
 {
@@ -130,11 +129,10 @@ fn is_written_by_its_only_handle(rt: HostRuntime) {
     );
 }
 
-fn two_items(rt: &(impl Abort + AllocGlobal), header: u8, items: [u8; 2]) -> ThinArc<u8, u8> {
-    ok!(
-        rt,
-        Arc::from_header_and_iter(rt.alloc(), header, items.into_iter()),
-    )
+fn two_items(rt: &(impl Abort + AllocGlobal), header: u8, items: [u8; 2]) -> ThinArc<u8, u8>
+    ensures { length result.items ≡ 2 }
+{
+    ok!(rt, Arc::from_header_and_slice(rt.alloc(), header, &items))
 }
 
 #[test]
@@ -148,4 +146,66 @@ fn compares_header_and_items(rt: HostRuntime) {
         *a == *two_items(&rt, 1, [6, 5]),
     ];
     same!(&rt, equal, [true, false, false, false]);
+}
+
+fn numbers(slice: &HeaderSlice<u8, u8>) -> Option<[u8; 3]> {
+    match slice.slice() {
+        [first, second] => Some([slice.header, *first, *second]),
+        _ => None,
+    }
+}
+
+#[test]
+fn slices_are_sorted_and_are_keys(rt: HostRuntime) {
+    let slices = vec![in rt.alloc();
+        two_items(&rt, 2, [0, 0]),
+        two_items(&rt, 1, [5, 7]),
+        two_items(&rt, 1, [5, 6]),
+    ];
+    let mut slices = ok!(&rt, slices);
+    ok!(&rt, slices.sort());
+    let sorted = slices.iter().map(|slice| numbers(slice));
+    holds!(
+        &rt,
+        sorted.eq([Some([1, 5, 6]), Some([1, 5, 7]), Some([2, 0, 0])])
+    );
+    let mut map = HashMap::new(rt.alloc());
+    ok!(&rt, map.insert(two_items(&rt, 1, [5, 6]), 9u8));
+    let found = slices.iter().map(|slice| map.get(slice).copied());
+    holds!(&rt, found.eq([Some(9), None, None]));
+}
+
+fn one_float(rt: &(impl Abort + AllocGlobal), header: u8, item: f32) -> ThinArc<u8, f32> {
+    ok!(rt, Arc::from_header_and_slice(rt.alloc(), header, &[item]))
+}
+
+#[test]
+fn slices_of_floats_have_a_partial_order(rt: HostRuntime) {
+    let (less, greater) = (one_float(&rt, 1, 1.0), one_float(&rt, 1, 2.0));
+    let (none, of_two) = (one_float(&rt, 1, f32::NAN), one_float(&rt, 2, 1.0));
+    let orders = [
+        less.partial_cmp(&greater),
+        less.partial_cmp(&none),
+        none.partial_cmp(&of_two),
+    ];
+    same!(
+        &rt,
+        orders,
+        [Some(Ordering::Less), None, Some(Ordering::Less)]
+    );
+}
+
+#[test]
+fn gives_its_items_one_by_one(rt: HostRuntime) {
+    let slice = two_items(&rt, 1, [5, 6]);
+    let mut in_turn = [0u8; 2];
+    let mut turn = 0usize;
+    for item in &*slice {
+        if turn < 2 {
+            in_turn[turn] = *item;
+        }
+        turn = turn.wrapping_add(1);
+    }
+    same!(&rt, (in_turn, turn, slice[0], slice[1]), ([5, 6], 2, 5, 6));
+    holds!(&rt, slice.iter().rev().eq(&[6, 5]));
 }

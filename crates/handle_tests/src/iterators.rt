@@ -62,10 +62,7 @@ fn check_built<T: Debug + PartialEq + Drop>(
 }
 
 // Each row through both makers.
-fn check<T: Copy + Debug + PartialEq + Drop>(
-    rt: &(impl Abort + AllocGlobal),
-    row: &Row<T>,
-) {
+fn check<T: Copy + Debug + PartialEq + Drop>(rt: &(impl Abort + AllocGlobal), row: &Row<T>) {
     let alloc = rt.alloc();
     let asked = AtomicU64::new(0);
     let source = ok!(rt, source_of(alloc, row.answers, &asked));

@@ -19,6 +19,8 @@ mod laws;
 #[cfg(test)]
 mod limits;
 #[cfg(test)]
+mod list_makers;
+#[cfg(test)]
 mod long_lists;
 #[cfg(test)]
 mod made;

@@ -3,7 +3,7 @@ use crate::telling::tell;
 use facts::counted::{Counted, Tally};
 use facts::{same, same_at};
 use servo_arc::{Arc, BuildError, HeaderSlice, UniqueArc};
-use std::alloc::Global;
+use std::alloc::{AllocError, Global};
 use std::io::Print;
 use std::process::Abort;
 use std::sync::atomic::AtomicU64;
@@ -85,15 +85,19 @@ enum Builder {
     OfStaticArc,
     OfUnique,
     OfUniqueWithSize,
+    OfResults,
+    OfResultsUnique,
 }
 
-const BUILDERS: [Builder; 6] = [
+const BUILDERS: [Builder; 8] = [
     Builder::OfArc,
     Builder::OfArcWithSize,
     Builder::OfArcAlloc,
     Builder::OfStaticArc,
     Builder::OfUnique,
     Builder::OfUniqueWithSize,
+    Builder::OfResults,
+    Builder::OfResultsUnique,
 ];
 
 type Counts<'a> = HeaderSlice<Counted<'a>, Counted<'a>>;
@@ -117,6 +121,10 @@ fn build<'a>(builder: Builder, alloc: Global, ledger: &'a Ledger, len: usize) ->
         Builder::OfUnique => shared(UniqueArc::from_header_and_iter(alloc, header, items)),
         Builder::OfUniqueWithSize => {
             shared(UniqueArc::from_header_and_iter_with_size(alloc, header, items, len))
+        }
+        Builder::OfResults => Arc::try_from_header_and_iter(alloc, header, items.map(Ok)),
+        Builder::OfResultsUnique => {
+            shared(UniqueArc::try_from_header_and_iter(alloc, header, items.map(Ok)))
         }
     }
 }
@@ -155,6 +163,91 @@ fn a_refused_builder_asks_for_nothing(rt: HostRuntime) {
     for builder in BUILDERS {
         for len in [0, 1, 3, 100, 4096] {
             check_builder(&rt, builder, len);
+        }
+    }
+}
+
+#[derive(Clone, Copy, Debug, PartialEq)]
+enum OfList {
+    Slice,
+    SliceUnique,
+    Vector,
+    VectorUnique,
+}
+
+// By one request, if there are items at all.
+fn counted_vector<'a>(alloc: Global, tally: &'a Tally, len: usize) -> Option<Vec<Counted<'a>>> {
+    let mut items = Vec::with_capacity(alloc, len).ok()?;
+    for _ in 0..len {
+        items.push(Counted::new(tally, 5)).ok()?;
+    }
+    Some(items)
+}
+
+// So many of the items are counted.
+fn check_list<T: Drop>(
+    rt: &(impl Abort + Print),
+    row: (OfList, usize),
+    counted: u64,
+    ledger: &Ledger,
+    built: Result<Arc<HeaderSlice<Counted<'_>, T>>, AllocError>,
+) {
+    match built {
+        Ok(slice) => same_at!(
+            rt,
+            row,
+            (slice.len(), ledger.asks_and_drops()),
+            (row.1, [0; 3])
+        ),
+        Err(AllocError) => tell!(rt, "{:?} of {} items: all dropped", row.0, row.1),
+    }
+    same_at!(rt, row, ledger.asks_and_drops(), [0, 1, counted]);
+}
+
+fn check_of_list(rt: &(impl Abort + Print + AllocGlobal), of: OfList, len: usize) {
+    let (alloc, ledger, row) = (rt.alloc(), Ledger::new(), (of, len));
+    let numbers = [7u64; 100];
+    let numbers = numbers.get(..len).unwrap_or(&[]);
+    let Some(items) = counted_vector(alloc, &ledger.items, len) else {
+        return tell!(rt, "{of:?} of {len} items: no vector");
+    };
+    let (header, counted) = (ledger.header(), len as u64);
+    match of {
+        OfList::Slice => {
+            let built = Arc::from_header_and_slice(alloc, header, numbers);
+            check_list(rt, row, 0, &ledger, built);
+        }
+        OfList::SliceUnique => {
+            let built = UniqueArc::from_header_and_slice(alloc, header, numbers);
+            check_list(rt, row, 0, &ledger, built.map(|unique| unique.shareable()));
+        }
+        OfList::Vector => {
+            let built = Arc::from_header_and_vec(alloc, header, items);
+            check_list(rt, row, counted, &ledger, built);
+        }
+        OfList::VectorUnique => {
+            let built = UniqueArc::from_header_and_vec(alloc, header, items);
+            check_list(
+                rt,
+                row,
+                counted,
+                &ledger,
+                built.map(|unique| unique.shareable()),
+            );
+        }
+    }
+}
+
+#[test]
+fn a_refused_list_is_dropped_with_its_header(rt: HostRuntime) {
+    for of in [
+        OfList::Slice,
+        OfList::SliceUnique,
+        OfList::Vector,
+        OfList::VectorUnique,
+    ] {
+        for len in [0, 1, 100] {
+            check_of_list(&rt, of, len);
         }
     }
 }

@@ -35,7 +35,7 @@ impl<H, T> HeaderSlice<H, T> {
     }
 }
 
-/// The items from first to last.
+/// The items from first to last. A crate that has the type through `servo_arc` lists `handles` too, or calls `iter`.
 impl<'a, H, T> IntoIterator for &'a HeaderSlice<H, T> {
     type Item = &'a T;
 

@@ -1,7 +1,8 @@
 //! Handles that cross threads: each kind may be sent and lent, if its values may be both.
-ghost use Rattle.std.specs.Prelude.{◌≡◌, IfOk, IfErr};
+ghost use Rattle.std.specs.Prelude.{◌≡◌, IfOk, IfErr, length};
 
 use servo_arc::{Arc, ArcBorrow, HeaderSlice, RawArc, StaticArc, ThinArc, ThinArcUnion, UniqueArc};
+use shared_trees::List;
 use std::alloc::Global;
 use std::thread::{Threads, join};
 
@@ -34,4 +35,11 @@ pub fn made_elsewhere(rt: &impl Threads, alloc: Global, value: u32) -> Result<Ar
     ensures refused { IfErr result (λ x. x ≡ value) }
 {
     join(rt, move || Arc::new(alloc, value), || ()).0
+}
+
+/// The number of items of a list, counted by a thread that it is lent to.
+pub fn len_elsewhere(rt: &impl Threads, list: &List<u32>) -> usize
+    ensures { result ≡ length list.now }
+{
+    join(rt, || list.len(), || ()).0
 }

@@ -1,6 +1,7 @@
-// A handle that another thread makes, is lent and is given.
-use callers::crossing::{end_elsewhere, is_unique_elsewhere, made_elsewhere};
+// A handle that another thread makes, is lent and is given, and a list that is lent.
+use callers::crossing::{end_elsewhere, is_unique_elsewhere, len_elsewhere, made_elsewhere};
 use facts::{again, ok, same};
+use shared_trees::List;
 
 #[test]
 fn a_handle_crosses_threads(rt: HostRuntime) {
@@ -9,4 +10,6 @@ fn a_handle_crosses_threads(rt: HostRuntime) {
     let shared = (*a, is_unique_elsewhere(&rt, &a), end_elsewhere(&rt, b));
     let alone = (is_unique_elsewhere(&rt, &a), end_elsewhere(&rt, a));
     same!(&rt, (shared, alone), ((7, false, false), (true, true)));
+    let list = ok!(&rt, List::new().push(rt.alloc(), 7));
+    same!(&rt, len_elsewhere(&rt, &list), 1);
 }

@@ -4,7 +4,7 @@ ghost use Rattle.std.specs.Prelude.{◌≡◌, IfOk, Some};
 ghost use Rattle.servo_arc.specs.Stays.{value_of};
 ghost use Rattle.recursive_types.specs.declared.by_static.Linked.{out-Linked};
 
-use servo_arc::StaticArc;
+use servo_arc::{StaticArc, UniqueArc};
 use std::alloc::{AllocError, Global};
 
 #[derive(Drop, Clone, Copy, Debug, PartialEq, Eq, PartialOrd, Ord, Hash)]
@@ -55,33 +55,5 @@ pub fn in_front(
     ensures value { IfOk result (λ s. (out-Linked (value_of s)).value ≡ value) }
     ensures next { IfOk result (λ s. (out-Linked (value_of s)).next ≡ next.entry) }
 {
-    StaticArc::new(alloc, Linked { value, next }).map_err(|_| AllocError)
-}
-
-/// The nodes after this one.
-pub fn nodes_after(first: &Linked) -> u32 {
-    let mut count = 0u32;
-    let mut at = first;
-    while let Some(next) = &at.next {
-        count = count.saturating_add(1);
-        at = next.get();
-    }
-    count
-}
-
-#[cfg(test)]
-mod tests {
-    use super::{in_front, nodes_after};
-    use std::test::Fail;
-
-    #[test]
-    fn static_nodes_are_walked(rt: HostRuntime) -> Result<(), Fail> {
-        let last = in_front(rt.alloc(), 1, None)?;
-        let middle = in_front(rt.alloc(), 2, Some(last))?;
-        let first = in_front(rt.alloc(), 3, Some(middle))?;
-        assert_eq!(rt; nodes_after(&first), 2);
-        assert_eq!(rt; nodes_after(&last), 0);
-        assert!(rt; first > middle && first != last);
-        Ok(())
-    }
+    Ok(UniqueArc::try_new(alloc, Linked { value, next })?.into_static())
 }

@@ -2,6 +2,7 @@
 use crate::telling::tell;
 use facts::counted::{Counted, Tally};
 use facts::{holds, same};
+use recursive_types::by_static::in_front;
 use servo_arc::word::MAX_REFCOUNT;
 use servo_arc::{Arc, UniqueArc};
 use std::alloc::{AllocError, Global};
@@ -63,6 +64,18 @@ fn a_refused_maker_hands_the_value_back(rt: HostRuntime) {
                 tell!(&rt, "{maker:?}: the value back");
             }
         }
+    }
+}
+
+#[test]
+fn a_refused_static_node_is_none(rt: HostRuntime) {
+    let Ok(last) = in_front(rt.alloc(), 1, None) else {
+        tell!(&rt, "no node");
+        return;
+    };
+    match in_front(rt.alloc(), 2, Some(last)) {
+        Ok(first) => holds!(&rt, first > last && first.next == Some(last)),
+        Err(AllocError) => tell!(&rt, "one node"),
     }
 }
 

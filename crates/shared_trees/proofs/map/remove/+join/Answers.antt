@@ -1,5 +1,6 @@
 -- What is between two trees lies in the entries of both.
-use Rattle.std.proofs.Common.{◌≡◌, ◌∷◌, ◌++◌, ◌<◌, ap, sym, subst, ◌∙◌, arith, append_assoc, length, length-append}
+use Rattle.std.proofs.Common.{◌≡◌, ◌∷◌, ◌++◌, ◌<◌, ap, sym, subst, ◌∙◌, arith}
+use Rattle.std.proofs.Common.{append_assoc, length, length-append}
 use Rattle.std.proofs.lemmas.List.{append-nil}
 use Rattle.std.proofs.lemmas.Result.{IfOk-weaker}
 use Rattle.shared_trees.specs.Forks.{less_side, greater_side}
@@ -78,7 +79,8 @@ join-requires-in-Some-less g t c κs within =
     let sum = length-append (less_side high.sides) (high.entry ∷ greater_side high.sides) in
     let falls : length c.in-Some-less.fork.now < length greater = rw there (omega arith) in
     let rises : IsRising (less ++ c.in-Some-less.fork.now) =
-    rw there (into_right greater less (less_side high.sides) high.entry (greater_side high.sides) is c.requires.rising) in
+    rw there (
+    into_right greater less (less_side high.sides) high.entry (greater_side high.sides) is c.requires.rising) in
     (omega arith, (within, (c.requires.copies, rises)))
 
 pub beside-requires-else-outranks-clause-rising : goal.beside-requires-else-outranks-clause-rising

@@ -1,10 +1,7 @@
 #!/usr/bin/env python3
-"""Runs `arcbench` on random scripts, right and broken ones, and compares what it prints with reference models that are
-written here from examples/README.md: a core that knows live handles and no word, and a table whose slots share blocks.
-
-    gate/fuzz.py [SCRIPTS [SEED]]
-
-Without arguments it runs 2000 scripts. It prints the first script that differs, and ends with 1 there.
+"""Runs `arcbench` on 2000 random scripts, right and broken ones, or as many as its first argument says, by the seed that
+the second gives. It compares what is printed with reference models that are written here from examples/README.md: a core
+that knows live handles and no word, and a table whose slots share blocks. It ends at the first script that differs.
 """
 import random
 import subprocess
@@ -19,10 +16,6 @@ GREATEST_NUMBER = 2**32 - 1
 
 def handle_of(holder):
     return SimpleNamespace(holder=holder, borrowers=set(), is_written=False, is_sole=False)
-
-
-def block_of(value):
-    return SimpleNamespace(value=value, is_marked=False)
 
 
 class Core:
@@ -180,7 +173,7 @@ class Table:
         return getattr(self, f"do_{word}")(*numbers) or "done"
 
     def do_new(self, slot, value):
-        self.slots[slot] = block_of(value)
+        self.slots[slot] = SimpleNamespace(value=value, is_marked=False)
 
     def do_clone(self, slot, other):
         self.slots[other] = self.slots[slot]
@@ -199,7 +192,7 @@ class Table:
 
     def do_makemut(self, slot, value):
         if not self.is_alone(slot):
-            self.slots[slot] = block_of(value)
+            self.do_new(slot, value)
         self.slots[slot].value = value
 
     def do_own(self, slot):

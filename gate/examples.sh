@@ -14,8 +14,7 @@ wrong() {
     failed=$((failed + 1))
 }
 
-failed=0
-count=0
+failed=0 count=0
 for script in *.core *.table; do
     count=$((count + 1))
     words=("${script##*.}" 3)

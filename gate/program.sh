@@ -6,8 +6,7 @@ program=crates/arcbench/out/arcbench
 folder=$(mktemp -d)
 trap 'rm -rf "$folder"' EXIT
 
-passed=0
-failed=0
+passed=0 failed=0
 
 # holds WHAT COMMAND.. : counts it.
 holds() {

@@ -16,13 +16,10 @@ cc -O2 -shared -fPIC -o "$folder/refuse_request.so" gate/refuse_request.c || exi
 # The lines of a file as one.
 joined() { paste -s -d '~' | sed 's, *~ *, / ,g'; }
 
-# More requests than any of the tests makes.
-most_requests=1000
-
-# What each run of a test comes to.
+# What each run of a test comes to. None makes a thousand requests.
 outcomes_of() {
     local request memory errors status
-    for ((request = 1; request <= most_requests; request++)); do
+    for ((request = 1; request <= 1000; request++)); do
         timeout 60 env "REFUSED_REQUEST=$request" "LD_PRELOAD=$folder/refuse_request.so" "$program" "$1" \
             >"$folder/output" 2>"$folder/errors" </dev/null
         status=$?

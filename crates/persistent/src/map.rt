@@ -1,0 +1,129 @@
+//! A map in the order of its keys, whose versions share their branches.
+ghost use Rattle.std.specs.Prelude.{◌≡◌, ◌+◌, ◌^◌, ◌≤◌, ◌↔◌, [], IsTrue, Some, OnOk, OnErr, cond, is_some, length};
+ghost use Rattle.std.specs.Option.{option_copied};
+ghost use Rattle.std.specs.Ordering.{is_eq};
+ghost use Rattle.servo_arc.specs.Copies.{CopiesAreEqual};
+ghost use Rattle.persistent.specs.Maps.{lookup, with_entry};
+
+use crate::tree::Tree;
+use std::alloc::{AllocError, Global};
+use std::marker::Model;
+
+/// A map in the order of its keys. Its clones are versions of it, which share all that no change has touched: what
+/// is changed in one of them is seen in no other.
+#[derive(Drop)]
+pub struct TreeMap<K: Ord, V> {
+    tree: Tree<K, V>,
+}
+
+impl<K: Ord, V> Model for TreeMap<K, V> {
+    ghost use Rattle.std.specs.Prelude.{List};
+
+    ghost Value = { List (K × V) };
+
+    ghost view = { λ m. m.tree.0 };
+}
+
+/// One more version: one raise of a count, with no copy and no memory. It is refused as the `clone` of an `Arc` is.
+impl<K: Ord + Drop, V: Drop> Clone for TreeMap<K, V> {
+    ghost is_clone = { λ a b. b ≡ a };
+
+    fn clone(&self) -> Result<TreeMap<K, V>, AllocError> {
+        Ok(TreeMap {
+            tree: self.tree.clone()?,
+        })
+    }
+}
+
+impl<K: Ord, V> TreeMap<K, V> {
+    /// The empty map, which takes no memory.
+    pub fn new() -> TreeMap<K, V>
+        ensures { result ≡ [] }
+    {
+        TreeMap { tree: Tree::new() }
+    }
+
+    /// The number of entries, in O(1).
+    pub fn len(&self) -> usize
+        ensures { result ≡ length self.now }
+    {
+        self.tree.len()
+    }
+
+    /// Whether there are no entries.
+    pub fn is_empty(&self) -> bool
+        ensures { IsTrue result ↔ (self.now ≡ []) }
+    {
+        self.len() == 0
+    }
+
+    /// How many nodes stand on the longest way down, in O(1): at most twice the logarithm of one more than there are
+    /// entries, to the base 2, and so at most 128.
+    pub fn depth(&self) -> u8
+        ensures { 2 ^ result ≤ (length self.now + 1) ^ 2 }
+    {
+        self.tree.height()
+    }
+
+    /// The value under the key, in as many steps as the tree is deep.
+    pub fn get(&self, key: &K) -> Option<&V>
+        ensures { option_copied result ≡ lookup K.cmp key.now self.now }
+    {
+        self.tree.get(key)
+    }
+
+    /// Whether there is a value under the key.
+    pub fn contains(&self, key: &K) -> bool
+        ensures { result ≡ is_some (lookup K.cmp key.now self.now) }
+    {
+        self.get(key).is_some()
+    }
+}
+
+impl<K: Ord + Clone, V: Clone> TreeMap<K, V> {
+    /// Puts the value under the key. An equal key stays, and the new one is dropped.
+    ///
+    /// It writes a node that no other version has in place, and copies any other on the way to the key. It is refused
+    /// if there is no memory, if the `clone` of a key, a value or a handle is, and at `usize::MAX` entries. The map then
+    /// reads as it did, and the key and the value are dropped.
+    pub fn insert(&mut self, alloc: Global, key: K, value: V) -> Result<(), AllocError>
+        requires copies_of_keys { CopiesAreEqual K.is_clone }
+        requires copies_of_values { CopiesAreEqual V.is_clone }
+        ensures entries { OnOk result (self.new ≡ with_entry K.cmp key value self.old) }
+        ensures changes { OnOk result ((k : K) → lookup K.cmp k self.new
+            ≡ cond (is_eq (K.cmp k key)) (Some value) (lookup K.cmp k self.old)) }
+        ensures refused { OnErr result (self.new ≡ self.old) }
+    {
+        if self.len() == usize::MAX {
+            return Err(AllocError);
+        }
+        self.tree.insert(alloc, key, value)?;
+        Ok(())
+    }
+}
+
+#[cfg(test)]
+mod tests {
+    use super::*;
+    use std::test::Fail;
+
+    #[test]
+    fn keeps_the_old_version(rt: HostRuntime) -> Result<(), Fail> {
+        let mut map: TreeMap<u64, u8> = TreeMap::new();
+        for key in 0..200 {
+            map.insert(rt.alloc(), key, 1)?;
+        }
+        let old = map.clone()?;
+        for key in 100..300 {
+            map.insert(rt.alloc(), key, 2)?;
+        }
+        assert_eq!(rt; old.len(), 200);
+        assert_eq!(rt; map.len(), 300);
+        assert_eq!(rt; old.get(&150), Some(&1));
+        assert_eq!(rt; map.get(&150), Some(&2));
+        assert_eq!(rt; map.get(&299), Some(&2));
+        assert_eq!(rt; old.get(&299), None);
+        assert!(rt; map.depth() <= 16);
+        Ok(())
+    }
+}

@@ -1,0 +1,109 @@
+//! A balanced tree of entries, summary as its entries and its height.
+ghost use Rattle.std.specs.Prelude.{◌≡◌, ◌≤◌, [], length};
+ghost use Rattle.std.specs.Option.{option_copied};
+ghost use Rattle.persistent.specs.Maps.{lookup};
+ghost use Rattle.persistent.specs.Nodes.{IsShallow, IsTree, summary};
+
+use servo_arc::Arc;
+use std::alloc::AllocError;
+use std::cmp::Ordering;
+use std::marker::Model;
+
+#[cycle(tree)]
+#[derive(Drop)]
+pub(crate) struct Tree<K: Ord, V> {
+    pub(crate) root: Option<Arc<Node<K, V>>>,
+}
+
+#[cycle(tree)]
+#[derive(Drop)]
+pub(crate) struct Node<K: Ord, V> {
+    pub(crate) len: usize,
+    pub(crate) height: u8,
+    pub(crate) left: Tree<K, V>,
+    pub(crate) entry: (K, V),
+    pub(crate) right: Tree<K, V>,
+}
+
+impl<K: Ord, V> Model for Tree<K, V> {
+    ghost use Rattle.std.specs.Prelude.{List, ℕ, length};
+
+    ghost Value = { List (K × V) × ℕ };
+
+    ghost use Rattle.persistent.specs.Nodes.{summary, IsTree};
+
+    ghost view = { λ t. summary t.root };
+
+    ghost invariant = { λ t. IsTree K.cmp t.root };
+
+    ghost size = { λ t. length t.0 };
+
+    ghost use Rattle.std.proofs.Common.{arith, length-append};
+
+    ghost size_decreases = { λ t h. Prim.grind (arith, length-append) };
+}
+
+impl<K: Ord + Drop, V: Drop> Clone for Tree<K, V> {
+    ghost is_clone = { λ a b. b ≡ a };
+
+    fn clone(&self) -> Result<Tree<K, V>, AllocError> {
+        let root = match &self.root {
+            None => None,
+            Some(node) => Some(node.clone()?),
+        };
+        Ok(Tree { root })
+    }
+}
+
+impl<K: Ord, V> Tree<K, V> {
+    pub(crate) fn new() -> Tree<K, V>
+        ensures { result ≡ ([], 0) }
+    {
+        Tree { root: None }
+    }
+
+    pub(crate) fn len(&self) -> usize
+        ensures { result ≡ length self.now.0 }
+    {
+        match &self.root {
+            None => 0,
+            Some(node) => node.len,
+        }
+    }
+
+    pub(crate) fn height(&self) -> u8
+        ensures height { result ≡ self.now.1 }
+        ensures shallow { IsShallow self.now }
+        ensures low { self.now.1 ≤ 128 }
+    {
+        match &self.root {
+            None => 0,
+            Some(node) => node.height,
+        }
+    }
+
+    // The first node, if there is one.
+    #[inline(always)]
+    pub(crate) fn root(&self) -> Option<&Node<K, V>>
+        ensures same { summary (option_copied result) ≡ self.now }
+        ensures whole { IsTree K.cmp (option_copied result) }
+    {
+        match &self.root {
+            None => None,
+            Some(node) => Some(node),
+        }
+    }
+
+    pub(crate) fn get(&self, key: &K) -> Option<&V>
+        ensures { option_copied result ≡ lookup K.cmp key.now self.now.0 }
+    {
+        let Some(node) = self.root() else {
+            return None;
+        };
+        match key.cmp(&node.entry.0) {
+            Ordering::Less => node.left.get(key),
+            Ordering::Equal => Some(&node.entry.1),
+            Ordering::Greater => node.right.get(key),
+        }
+    }
+}

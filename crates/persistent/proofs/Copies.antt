@@ -1,13 +1,19 @@
 -- A copy of a node, and a node of the same shape.
-use Rattle.std.proofs.Common.{◌≡◌, ◌⊎◌, inl, inr, length, ap}
+use Rattle.std.proofs.Common.{◌≡◌, ◌⊎◌, inl, inr, length, ap, Option, None, Some}
 use Rattle.std.proofs.Common.{sym, ◌∙◌}
 use Rattle.std.specs.declared.cmp.Ordering.{Ordering}
 use Rattle.servo_arc.specs.Copies.{CopiesAreEqual}
 use Rattle.persistent.specs.Maps.{IsRising}
+use Rattle.persistent.proofs.Order.{rising_nil}
 use Rattle.persistent.specs.declared.tree.Node.{Node}
-use Rattle.persistent.specs.Nodes.{entries_of, IsNode, IsCopy}
+use Rattle.persistent.specs.Nodes.{entries_of, IsNode, IsTree, IsCopy, summary}
 
 module _ {K V : Type 0} where
+  pub rising_summary : (cmp : K → K → Ordering) (root : Option (Node K V)) → IsTree cmp root
+      → IsRising cmp (summary root).0
+  rising_summary cmp None is = rising_nil V cmp
+  rising_summary cmp (Some node) is = is.rising
+
   pub same_node : (C : K → K → Type 0) (D : V → V → Type 0) (a b : Node K V) → CopiesAreEqual C
       → CopiesAreEqual D
       → (b ≡ a) ⊎ IsCopy C D a b → b ≡ a

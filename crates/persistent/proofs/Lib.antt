@@ -1,4 +1,5 @@
 pub mod Copies
+pub mod First
 pub mod Grown
 pub mod Heights
 pub mod Insertion

@@ -28,10 +28,6 @@ module _ {E : Type 0} where
       let k : i - length l - 1 ≡ suc i - suc (length l) - 1 = omega arith in
       entry_right l e r i (omega arith) ∙ ap (slice_get r) k
 
-  pub drop_left : (l m : List E) → 0 < length l → drop 1 (l ++ m) ≡ drop 1 l ++ m
-  drop_left [] m h = absurd (omega arith)
-  drop_left (x ∷ l) m h = refl
-
   pub first_and_rest : (l : List E) (e : E) → slice_get l 0 ≡ Some e → l ≡ e ∷ drop 1 l
   first_and_rest [] e is = absurd (none-some e is)
   first_and_rest (x ∷ l) e is = ap (λ y. y ∷ l) (ap (λ o. unwrap_or o x) is)

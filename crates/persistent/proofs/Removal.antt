@@ -1,10 +1,12 @@
 -- Entries that rise, without one of them.
-use Rattle.std.proofs.Common.{◌≡◌, List, [], ◌∷◌, ◌++◌, refl, ap, ◌∙◌, subst}
+use Rattle.std.proofs.Common.{◌≡◌, sym, cond, List, [], ◌∷◌, ◌++◌, refl, ap, ◌∙◌, subst}
 use Rattle.std.specs.declared.cmp.Ordering.{Ordering}
 use Rattle.std.specs.declared.cmp.Ordering.TheVariants.{Less, Equal, Greater}
 use Rattle.std.specs.Cmp.{IsTotalOrder}
-use Rattle.std.specs.Ordering.{match_ordering}
-use Rattle.persistent.specs.Maps.{IsRising, without}
+use Rattle.std.proofs.lemmas.Option.{none-some}
+use Rattle.std.specs.Prelude.{None, Some}
+use Rattle.std.specs.Ordering.{is_eq, match_ordering}
+use Rattle.persistent.specs.Maps.{IsRising, lookup, without}
 use Rattle.persistent.proofs.Order.{AreAbove, IsOver, Rises, to, from, over_right, over_here}
 use Rattle.persistent.proofs.Insertion.{match_append}
 
@@ -25,6 +27,18 @@ module _ {K V : Type 0} (cmp : K → K → Ordering) where
   unfolding without
   without_over q [] m o = refl
   without_over q (x ∷ l) m o = rw o.0 (ap (λ es. x ∷ es) (without_over q l m o.1))
+
+  -- a key that has no value
+  pub without_absent : (q : K) (es : List (K × V)) → lookup cmp q es ≡ None → without cmp q es ≡ es
+  unfolding without
+  without_absent q [] none = refl
+  without_absent q (x ∷ es) none =
+      elim (cmp q x.0) as (λ o. cond (is_eq o) (Some x.1) (lookup cmp q es) ≡ None
+      → match_ordering o (x ∷ es) es (x ∷ without cmp q es) ≡ x ∷ es) [
+        | Less ↦ λ none. refl
+        | Equal ↦ λ none. absurd (none-some x.1 (sym none))
+        | Greater ↦ λ none. ap (λ l. x ∷ l) (without_absent q es none)
+      ] none
 
   module _ (total : IsTotalOrder cmp) where
     pub without_right : (q : K) (l : List (K × V)) (e : K × V) (r : List (K × V)) → cmp q e.0 ≡ Greater

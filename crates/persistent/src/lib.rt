@@ -6,6 +6,8 @@ mod insert;
 mod inserted;
 mod make;
 mod map;
+mod numbered;
+mod removed;
 mod tree;
 
 pub use map::TreeMap;

@@ -1,9 +1,10 @@
 //! A map in the order of its keys, whose versions share their branches.
-ghost use Rattle.std.specs.Prelude.{◌≡◌, ◌+◌, ◌^◌, ◌≤◌, ◌↔◌, [], IsTrue, Some, OnOk, OnErr, cond, is_some, length};
+ghost use Rattle.std.specs.Prelude.{◌≡◌, ◌+◌, ◌^◌, ◌≤◌, ◌↔◌, [], IsTrue};
+ghost use Rattle.std.specs.Prelude.{None, Some, IfOk, OnOk, OnErr, cond, is_some, length};
 ghost use Rattle.std.specs.Option.{option_copied};
 ghost use Rattle.std.specs.Ordering.{is_eq};
 ghost use Rattle.servo_arc.specs.Copies.{CopiesAreEqual};
-ghost use Rattle.persistent.specs.Maps.{lookup, with_entry};
+ghost use Rattle.persistent.specs.Maps.{lookup, with_entry, without};
 
 use crate::tree::Tree;
 use std::alloc::{AllocError, Global};
@@ -83,8 +84,8 @@ impl<K: Ord, V> TreeMap<K, V> {
 impl<K: Ord + Clone, V: Clone> TreeMap<K, V> {
     /// Puts the value under the key. An equal key stays, and the new one is dropped.
     ///
-    /// It writes a node that no other version has in place, and copies any other on the way to the key. It is refused
-    /// if there is no memory, if the `clone` of a key, a value or a handle is, and at `usize::MAX` entries. The map then
+    /// It writes a node that no other version has in place, and copies any other on the way to the key. It is
+    /// refused if there is no memory, if the `clone` of a key, a value or a handle is, and at `usize::MAX` entries. The map then
     /// reads as it did, and the key and the value are dropped.
     pub fn insert(&mut self, alloc: Global, key: K, value: V) -> Result<(), AllocError>
         requires copies_of_keys { CopiesAreEqual K.is_clone }
@@ -99,6 +100,27 @@ impl<K: Ord + Clone, V: Clone> TreeMap<K, V> {
         }
         self.tree.insert(alloc, key, value)?;
         Ok(())
+    }
+
+    /// Takes the entry of the key out, and gives its value, if there is one.
+    ///
+    /// It copies the nodes on the way to the key and below it to the next entry, and shares all others. It is refused
+    /// if there is no memory, or if the `clone` of a key, a value or a handle is. The map then reads as it did.
+    pub fn remove(&mut self, alloc: Global, key: &K) -> Result<Option<V>, AllocError>
+        requires copies_of_keys { CopiesAreEqual K.is_clone }
+        requires copies_of_values { CopiesAreEqual V.is_clone }
+        ensures value { IfOk result (λ value. value ≡ lookup K.cmp key.now self.old) }
+        ensures entries { OnOk result (self.new ≡ without K.cmp key.now self.old) }
+        ensures changes { OnOk result ((k : K) → lookup K.cmp k self.new
+            ≡ cond (is_eq (K.cmp k key.now)) None (lookup K.cmp k self.old)) }
+        ensures refused { OnErr result (self.new ≡ self.old) }
+    {
+        let Some(value) = self.tree.get(key) else {
+            return Ok(None);
+        };
+        let value = value.clone()?;
+        self.tree = self.tree.removed(alloc, key)?;
+        Ok(Some(value))
     }
 }
 
@@ -117,13 +139,18 @@ mod tests {
         for key in 100..300 {
             map.insert(rt.alloc(), key, 2)?;
         }
+        for key in 0..100 {
+            assert_eq!(rt; map.remove(rt.alloc(), &key)?, Some(1));
+        }
+        assert_eq!(rt; map.remove(rt.alloc(), &0)?, None);
         assert_eq!(rt; old.len(), 200);
-        assert_eq!(rt; map.len(), 300);
+        assert_eq!(rt; map.len(), 200);
         assert_eq!(rt; old.get(&150), Some(&1));
         assert_eq!(rt; map.get(&150), Some(&2));
-        assert_eq!(rt; map.get(&299), Some(&2));
-        assert_eq!(rt; old.get(&299), None);
-        assert!(rt; map.depth() <= 16);
+        assert_eq!(rt; old.get(&50), Some(&1));
+        assert_eq!(rt; map.get(&50), None);
+        assert!(rt; map.contains(&299) && !old.contains(&299));
+        assert!(rt; map.depth() <= 15 && !map.is_empty());
         Ok(())
     }
 }

@@ -1,7 +1,7 @@
 //! A balanced tree of entries, summary as its entries and its height.
 ghost use Rattle.std.specs.Prelude.{◌≡◌, ◌≤◌, [], length};
 ghost use Rattle.std.specs.Option.{option_copied};
-ghost use Rattle.persistent.specs.Maps.{lookup};
+ghost use Rattle.persistent.specs.Maps.{IsRising, lookup};
 ghost use Rattle.persistent.specs.Nodes.{IsShallow, IsTree, summary};
 
 use servo_arc::Arc;
@@ -84,9 +84,11 @@ impl<K: Ord, V> Tree<K, V> {
 
     // The first node, if there is one.
     #[inline(always)]
+    #[tactic(auto, using(crate::proofs::Copies::rising_summary))]
     pub(crate) fn root(&self) -> Option<&Node<K, V>>
         ensures same { summary (option_copied result) ≡ self.now }
         ensures whole { IsTree K.cmp (option_copied result) }
+        ensures rising { IsRising K.cmp self.now.0 }
     {
         match &self.root {
             None => None,
@@ -95,7 +97,8 @@ impl<K: Ord, V> Tree<K, V> {
     }
 
     pub(crate) fn get(&self, key: &K) -> Option<&V>
-        ensures { option_copied result ≡ lookup K.cmp key.now self.now.0 }
+        ensures found { option_copied result ≡ lookup K.cmp key.now self.now.0 }
+        ensures rising { IsRising K.cmp self.now.0 }
     {
         let Some(node) = self.root() else {
             return None;

@@ -1,5 +1,6 @@
 -- A list around an entry, without its first.
-use Rattle.std.proofs.Common.{◌≡◌, ℕ, ◌<◌, List, [], ◌∷◌, ◌++◌, length, drop, subst, arith, length-append}
+use Rattle.std.proofs.Common.{◌≡◌, ℕ, ◌<◌, List, [], ◌∷◌, ◌++◌, length, drop, subst, arith}
+use Rattle.std.proofs.Common.{length-append}
 use Rattle.std.specs.declared.cmp.Ordering.{Ordering}
 use Rattle.persistent.specs.Maps.{IsRising}
 use Rattle.persistent.specs.declared.tree.Node.{Node}
@@ -13,7 +14,8 @@ pub some_entry : {K V : Type 0} (node : Node K V) (tree : List (K × V) × ℕ) 
 some_entry node tree is =
     subst (λ d. 0 < length d.0) is (omega (arith, length-append node.left.0 (node.entry ∷ node.right.0)))
 
-pub rising_drop_left : {K V : Type 0} (cmp : K → K → Ordering) (l : List (K × V)) (e : K × V) (r : List (K × V))
+pub rising_drop_left : {K V : Type 0} (cmp : K → K → Ordering) (l : List (K × V)) (e : K × V)
+    (r : List (K × V))
     → 0 < length l → IsRising cmp (l ++ e ∷ r) → IsRising cmp (drop 1 l ++ e ∷ r)
 rising_drop_left cmp [] e r h s = absurd (omega arith)
 rising_drop_left cmp (x ∷ l) e r h s = rising_rest cmp x (l ++ e ∷ r) s

@@ -6,4 +6,5 @@ pub mod Insertion
 pub mod Lookup
 pub mod Numbers
 pub mod Order
+pub mod Ranges
 pub mod Removal

@@ -28,6 +28,11 @@ module _ {K V : Type 0} (cmp : K → K → Ordering) where
   with_entry key value (e ∷ es) =
       match_ordering (cmp key e.0) ((key, value) ∷ e ∷ es) ((e.0, value) ∷ es) (e ∷ with_entry key value es)
 
+  -- the entries es, with each of these put in, from the first to the last
+  abbrev pub with_entries : List (K × V) → List (K × V) → List (K × V)
+  with_entries [] es = es
+  with_entries (e ∷ more) es = with_entries more (with_entry e.0 e.1 es)
+
   -- the entries without the one of that key
   unfoldable pub without : K → List (K × V) → List (K × V)
   without key [] = []

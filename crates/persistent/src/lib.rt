@@ -2,12 +2,17 @@
 #![tactic(auto)]
 
 mod balance;
+mod compare;
 mod insert;
 mod inserted;
+mod iter;
 mod make;
 mod map;
 mod numbered;
 mod removed;
+#[cfg(test)]
+mod tests;
 mod tree;
 
+pub use iter::Iter;
 pub use map::TreeMap;

@@ -1,11 +1,12 @@
 //! A map in the order of its keys, whose versions share their branches.
 ghost use Rattle.std.specs.Prelude.{◌≡◌, ◌+◌, ◌^◌, ◌≤◌, ◌↔◌, [], IsTrue};
-ghost use Rattle.std.specs.Prelude.{None, Some, IfOk, OnOk, OnErr, cond, is_some, length};
+ghost use Rattle.std.specs.Prelude.{◌-◌, None, Some, IfOk, OnOk, OnErr, cond, is_some, length, slice_get};
 ghost use Rattle.std.specs.Option.{option_copied};
 ghost use Rattle.std.specs.Ordering.{is_eq};
 ghost use Rattle.servo_arc.specs.Copies.{CopiesAreEqual};
-ghost use Rattle.persistent.specs.Maps.{lookup, with_entry, without};
+ghost use Rattle.persistent.specs.Maps.{IsRising, lookup, with_entries, with_entry, without};
 
+use crate::numbered::Numbered;
 use crate::tree::Tree;
 use std::alloc::{AllocError, Global};
 use std::marker::Model;
@@ -14,7 +15,7 @@ use std::marker::Model;
 /// is changed in one of them is seen in no other.
 #[derive(Drop)]
 pub struct TreeMap<K: Ord, V> {
-    tree: Tree<K, V>,
+    pub(crate) tree: Tree<K, V>,
 }
 
 impl<K: Ord, V> Model for TreeMap<K, V> {
@@ -66,9 +67,10 @@ impl<K: Ord, V> TreeMap<K, V> {
         self.tree.height()
     }
 
-    /// The value under the key, in as many steps as the tree is deep.
+    /// The value under the key, in as many steps as the tree is deep. Each key is above those before it.
     pub fn get(&self, key: &K) -> Option<&V>
-        ensures { option_copied result ≡ lookup K.cmp key.now self.now }
+        ensures found { option_copied result ≡ lookup K.cmp key.now self.now }
+        ensures rising { IsRising K.cmp self.now }
     {
         self.tree.get(key)
     }
@@ -79,13 +81,48 @@ impl<K: Ord, V> TreeMap<K, V> {
     {
         self.get(key).is_some()
     }
+
+    /// The entry of that number, counted from 0 in the order of the keys, in as many steps as the tree is deep.
+    pub fn entry(&self, index: usize) -> Option<&(K, V)>
+        ensures { option_copied result ≡ slice_get self.now index }
+    {
+        self.numbered(index)
+    }
+
+    /// The entry of the least key.
+    pub fn first(&self) -> Option<&(K, V)>
+        ensures { option_copied result ≡ slice_get self.now 0 }
+    {
+        self.numbered(0)
+    }
+
+    /// The entry of the greatest key.
+    pub fn last(&self) -> Option<&(K, V)>
+        ensures { option_copied result ≡ slice_get self.now (length self.now - 1) }
+    {
+        self.numbered(self.len().checked_sub(1)?)
+    }
 }
 
 impl<K: Ord + Clone, V: Clone> TreeMap<K, V> {
+    /// The map of these entries, which are put in one after another, as by `insert`: of those with an equal key the
+    /// first gives the key, and the last the value.
+    pub fn from_items(alloc: Global, items: Vec<(K, V)>) -> Result<TreeMap<K, V>, AllocError>
+        requires copies_of_keys { CopiesAreEqual K.is_clone }
+        requires copies_of_values { CopiesAreEqual V.is_clone }
+        ensures { IfOk result (λ map. map ≡ with_entries K.cmp items.items []) }
+    {
+        let mut map = TreeMap::new();
+        for (key, value) in items {
+            map.insert(alloc, key, value)?;
+        }
+        Ok(map)
+    }
+
     /// Puts the value under the key. An equal key stays, and the new one is dropped.
     ///
-    /// It writes a node that no other version has in place, and copies any other on the way to the key. It is
-    /// refused if there is no memory, if the `clone` of a key, a value or a handle is, and at `usize::MAX` entries. The map then
+    /// It writes a node that no other version has in place, and copies any other on the way to the key. It is refused
+    /// if there is no memory, if the `clone` of a key, a value or a handle is, and at `usize::MAX` entries. The map then
     /// reads as it did, and the key and the value are dropped.
     pub fn insert(&mut self, alloc: Global, key: K, value: V) -> Result<(), AllocError>
         requires copies_of_keys { CopiesAreEqual K.is_clone }
@@ -121,36 +158,5 @@ impl<K: Ord + Clone, V: Clone> TreeMap<K, V> {
         let value = value.clone()?;
         self.tree = self.tree.removed(alloc, key)?;
         Ok(Some(value))
-    }
-}
-
-#[cfg(test)]
-mod tests {
-    use super::*;
-    use std::test::Fail;
-
-    #[test]
-    fn keeps_the_old_version(rt: HostRuntime) -> Result<(), Fail> {
-        let mut map: TreeMap<u64, u8> = TreeMap::new();
-        for key in 0..200 {
-            map.insert(rt.alloc(), key, 1)?;
-        }
-        let old = map.clone()?;
-        for key in 100..300 {
-            map.insert(rt.alloc(), key, 2)?;
-        }
-        for key in 0..100 {
-            assert_eq!(rt; map.remove(rt.alloc(), &key)?, Some(1));
-        }
-        assert_eq!(rt; map.remove(rt.alloc(), &0)?, None);
-        assert_eq!(rt; old.len(), 200);
-        assert_eq!(rt; map.len(), 200);
-        assert_eq!(rt; old.get(&150), Some(&1));
-        assert_eq!(rt; map.get(&150), Some(&2));
-        assert_eq!(rt; old.get(&50), Some(&1));
-        assert_eq!(rt; map.get(&50), None);
-        assert!(rt; map.contains(&299) && !old.contains(&299));
-        assert!(rt; map.depth() <= 15 && !map.is_empty());
-        Ok(())
     }
 }

@@ -2,6 +2,7 @@
 ghost use Rattle.std.specs.Prelude.{◌≡◌, List, length, slice_get};
 ghost use Rattle.std.specs.Option.{option_copied};
 
+use crate::map::TreeMap;
 use crate::tree::Tree;
 
 // The entries by their numbers. It is a trait, since the prover lets `next`, which is a trait's method, call the
@@ -16,6 +17,20 @@ pub(crate) trait Numbered {
 
     fn numbered(&self, index: usize) -> Option<&Self::Entry>
         ensures { option_copied result ≡ slice_get (entries self.now) index };
+}
+
+impl<K: Ord, V> Numbered for TreeMap<K, V> {
+    type Entry = (K, V);
+
+    ghost entries = { λ map. map };
+
+    fn count(&self) -> usize {
+        self.tree.count()
+    }
+
+    fn numbered(&self, index: usize) -> Option<&(K, V)> {
+        self.tree.numbered(index)
+    }
 }
 
 impl<K: Ord, V> Numbered for Tree<K, V> {

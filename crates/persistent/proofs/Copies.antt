@@ -52,7 +52,7 @@ module _ {K V : Type 0} where
         counted = len ∙ is.counted ∙ sym count;
         height = rw (height, left, right) is.height;
         level = rw (left, right) is.level;
-        shallow = rw (height, count) is.shallow;
+        fits = rw (height, count) is.fits;
         low = rw height is.low;
       }
 

@@ -6,7 +6,7 @@ use Rattle.std.specs.declared.cmp.Ordering.TheVariants.{Less, Equal, Greater}
 use Rattle.std.specs.Cmp.{IsTotalOrder}
 use Rattle.persistent.specs.Maps.{IsRising, with_entry}
 use Rattle.persistent.specs.declared.tree.Node.{Node}
-use Rattle.persistent.specs.Nodes.{entries_of, DifferByAtMost, IsShallow, IsNode}
+use Rattle.persistent.specs.Nodes.{entries_of, DifferByAtMost, FitsHeight, IsNode}
 use Rattle.persistent.proofs.Copies.{reshaped, with_value}
 use Rattle.persistent.proofs.Heights.{whole}
 use Rattle.persistent.proofs.Insertion.{rising_with, length-with, with_left, with_right, with_here}
@@ -46,8 +46,8 @@ module _ {K V : Type 0} (cmp : K → K
       ∙ sym (with_right cmp total q v n.left.0 n.entry n.right.0 h is.rising)
 
   -- the node m has the entries of n with one more
-  pub grown : (m : Node K V) → entries_of m ≡ with_entry cmp q v (entries_of n) → IsShallow m.left
-      → IsShallow m.right
+  pub grown : (m : Node K V) → entries_of m ≡ with_entry cmp q v (entries_of n) → FitsHeight m.left
+      → FitsHeight m.right
       → DifferByAtMost 1 m.left.1 m.right.1 → m.len ≡ length m.left.0 + length m.right.0 + 1 → m.len < 2 ^ 64
       → m.height ≡ max m.left.1 m.right.1 + 1 → IsNode cmp m
   grown m entries h k level len fits height =

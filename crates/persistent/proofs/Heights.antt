@@ -8,7 +8,7 @@ use native.Mathlib.Nat.{pow-zero, one-mul}
 use Rattle.std.specs.declared.cmp.Ordering.{Ordering}
 use Rattle.persistent.specs.Maps.{IsRising}
 use Rattle.persistent.specs.declared.tree.Node.{Node}
-use Rattle.persistent.specs.Nodes.{around, entries_of, DifferByAtMost, IsShallow, IsNode}
+use Rattle.persistent.specs.Nodes.{around, entries_of, DifferByAtMost, FitsHeight, IsNode}
 
 square : (x : ℕ) → x ^ 2 ≡ x * x
 square x = pow_more x 1 ∙ ap (λ y. y * x) (pow_more x 0 ∙ ap (λ y. y * x) (pow-zero x) ∙ one-mul x)
@@ -53,6 +53,12 @@ deeper l r a b h k d =
     let all = both (2 ^ l) (2 ^ r) (a + 1) (b + 1) left right (near l r d.0) (near r l d.1) in
     omega (arith, all, max_pow l r, doubled (max l r), square (a + b + 2))
 
+pub wider : (l r a b : ℕ) → a + 1 ≤ 2 ^ l → b + 1 ≤ 2 ^ r → a + b + 2 ≤ 2 ^ (max l r + 1)
+wider l r a b h k =
+    let left : 2 ^ l ≤ 2 ^ max l r = pow_mono (omega arith) in
+    let right : 2 ^ r ≤ 2 ^ max l r = pow_mono (omega arith) in
+    omega (arith, h, k, left, right, doubled (max l r))
+
 pub low : (h n : ℕ) → 2 ^ h ≤ (n + 1) ^ 2 → n < 2 ^ 64 → h ≤ 128
 low h n s f = elim (cases_lt 128 h) [
   | inl above ↦
@@ -62,30 +68,33 @@ low h n s f = elim (cases_lt 128 h) [
   | inr at_most ↦ at_most
 ]
 
-pub shallow_around : {K V : Type 0} → (left : List (K × V) × ℕ) → (entry : K × V)
+pub fits_around : {K V : Type 0} → (left : List (K × V) × ℕ) → (entry : K × V)
     → (right : List (K × V) × ℕ)
-    → IsShallow left → IsShallow right → DifferByAtMost 1 left.1 right.1
-    → IsShallow (around left entry right, max left.1 right.1 + 1)
-shallow_around left entry right h k d =
+    → FitsHeight left → FitsHeight right → DifferByAtMost 1 left.1 right.1
+    → FitsHeight (around left entry right, max left.1 right.1 + 1)
+fits_around left entry right h k d =
     let n : length (around left entry right) + 1 ≡ length left.0 + length right.0 + 2 =
     omega (arith, length-append left.0 (entry ∷ right.0)) in
-    subst (λ n. 2 ^ (max left.1 right.1 + 1) ≤ n ^ 2) (sym n)
-    (deeper left.1 right.1 (length left.0) (length right.0) h k d)
+    let most = deeper left.1 right.1 (length left.0) (length right.0) h.0 k.0 d in
+    let least = wider left.1 right.1 (length left.0) (length right.0) h.1 k.1 in (
+      subst (λ n. 2 ^ (max left.1 right.1 + 1) ≤ n ^ 2) (sym n) most,
+      subst (λ n. n ≤ 2 ^ (max left.1 right.1 + 1)) (sym n) least,
+    )
 
 pub whole : {K V : Type 0} → (cmp : K → K → Ordering) → (node : Node K V) → IsRising cmp (entries_of node)
-    → IsShallow node.left → IsShallow node.right → DifferByAtMost 1 node.left.1 node.right.1
+    → FitsHeight node.left → FitsHeight node.right → DifferByAtMost 1 node.left.1 node.right.1
     → node.len ≡ length (entries_of node) → node.len < 2 ^ 64
     → node.height ≡ max node.left.1 node.right.1 + 1
     → IsNode cmp node
 whole cmp node rising h k level counted fits height =
-    let made = shallow_around node.left node.entry node.right h k level in
-    let deep : IsShallow (entries_of node, node.height) =
-    subst (λ n. IsShallow (entries_of node, n)) (sym height) made in
+    let made = fits_around node.left node.entry node.right h k level in
+    let deep : FitsHeight (entries_of node, node.height) =
+    subst (λ n. FitsHeight (entries_of node, n)) (sym height) made in
     record {
       rising = rising;
       counted = counted;
       height = height;
       level = level;
-      shallow = deep;
-      low = low node.height (length (entries_of node)) deep (omega arith);
+      fits = deep;
+      low = low node.height (length (entries_of node)) deep.0 (omega arith);
     }

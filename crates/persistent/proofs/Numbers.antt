@@ -1,9 +1,8 @@
--- The entries of a node by their numbers, and those behind the first.
+-- The entries around one of them, by their numbers.
 use Rattle.std.proofs.Common.{◌≡◌, ℕ, ◌-◌, ◌<◌, List, [], ◌∷◌, ◌++◌, zero, suc, length}
 use Rattle.std.proofs.Common.{drop, refl, ap, ◌∙◌}
 use Rattle.std.proofs.Common.{arith, length-append, slice_get}
-use Rattle.std.proofs.lemmas.Option.{none-some}
-use Rattle.std.specs.Prelude.{Some, unwrap_or}
+use Rattle.std.specs.Prelude.{Some}
 
 module _ {E : Type 0} where
   pub entry_left : (l : List E) (e : E) (r : List E) (i : ℕ) → i < length l
@@ -27,9 +26,5 @@ module _ {E : Type 0} where
   entry_right (x ∷ l) e r (suc i) h =
       let k : i - length l - 1 ≡ suc i - suc (length l) - 1 = omega arith in
       entry_right l e r i (omega arith) ∙ ap (slice_get r) k
-
-  pub first_and_rest : (l : List E) (e : E) → slice_get l 0 ≡ Some e → l ≡ e ∷ drop 1 l
-  first_and_rest [] e is = absurd (none-some e is)
-  first_and_rest (x ∷ l) e is = ap (λ y. y ∷ l) (ap (λ o. unwrap_or o x) is)
 
 pub ruleset counting = (entry_left, entry_right, entry_here, length-append)

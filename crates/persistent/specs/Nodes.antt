@@ -28,16 +28,16 @@ module _ {K V : Type 0} where
   summary None = ([], 0)
   summary (Some node) = (entries_of node, node.height)
 
-  -- a tree of that height has so many entries that it is no deeper than 2 * log2 (n + 1)
-  abbrev pub IsShallow : List (K × V) × ℕ → Type 0
-  IsShallow tree = 2 ^ tree.1 ≤ (length tree.0 + 1) ^ 2
+  -- a tree of n entries is as high as log2 (n + 1) at least, and as twice that at most
+  abbrev pub FitsHeight : List (K × V) × ℕ → Type 0
+  FitsHeight tree = (2 ^ tree.1 ≤ (length tree.0 + 1) ^ 2) × (length tree.0 + 1 ≤ 2 ^ tree.1)
 
   pub record IsNode (cmp : K → K → Ordering) (node : Node K V) : Type 0 where
     pub rising : IsRising cmp (entries_of node)
     pub counted : node.len ≡ length (entries_of node)
     pub height : node.height ≡ max node.left.1 node.right.1 + 1
     pub level : DifferByAtMost 1 node.left.1 node.right.1
-    pub shallow : IsShallow (entries_of node, node.height)
+    pub fits : FitsHeight (entries_of node, node.height)
     pub low : node.height ≤ 128
 
   abbrev pub IsTree : (K → K → Ordering) → Option (Node K V) → Type 0

@@ -1,4 +1,4 @@
-//! How a tree takes an entry in: in place where nobody else shares a node, and where no rotation can be due.
+//! How a tree takes an entry in: in place where nobody else shares a node, and where no double rotation can be due.
 ghost use Rattle.std.specs.Prelude.{◌≡◌, ◌+◌, ◌^◌, ◌<◌, ◌≤◌, OnOk, OnErr, length};
 ghost use Rattle.servo_arc.specs.Copies.{CopiesAreEqual};
 ghost use Rattle.persistent.specs.Maps.{with_entry};
@@ -9,7 +9,7 @@ use std::alloc::{AllocError, Global};
 use std::cmp::Ordering;
 
 impl<K: Ord + Clone, V: Clone> Tree<K, V> {
-    // Below a node that leans to the key's side the way is copied: a rotation may be due there.
+    // Below a node that still leans to the key's side the way is copied: a double rotation may be due there.
     pub(crate) fn insert(&mut self, alloc: Global, key: K, value: V) -> Result<(), AllocError>
         requires copies_of_keys { CopiesAreEqual K.is_clone }
         requires copies_of_values { CopiesAreEqual V.is_clone }
@@ -24,6 +24,7 @@ impl<K: Ord + Clone, V: Clone> Tree<K, V> {
             return Ok(());
         };
         let node = Arc::make_mut(handle, alloc)?;
+        node.make_way(alloc, &key)?;
         match key.cmp(&node.entry.0) {
             Ordering::Less => {
                 if node.left.height() > node.right.height() {

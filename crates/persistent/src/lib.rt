@@ -10,9 +10,11 @@ mod make;
 mod map;
 mod numbered;
 mod removed;
+mod rotate;
 #[cfg(test)]
 mod tests;
 mod tree;
+pub mod versions;
 
 pub use iter::Iter;
 pub use map::TreeMap;

@@ -62,7 +62,8 @@ impl<K: Ord, V> TreeMap<K, V> {
     /// How many nodes stand on the longest way down, in O(1): at most twice the logarithm of one more than there are
     /// entries, to the base 2, and so at most 128.
     pub fn depth(&self) -> u8
-        ensures { 2 ^ result ≤ (length self.now + 1) ^ 2 }
+        ensures at_most { 2 ^ result ≤ (length self.now + 1) ^ 2 }
+        ensures at_least { length self.now + 1 ≤ 2 ^ result }
     {
         self.tree.height()
     }
@@ -152,7 +153,7 @@ impl<K: Ord + Clone, V: Clone> TreeMap<K, V> {
             ≡ cond (is_eq (K.cmp k key.now)) None (lookup K.cmp k self.old)) }
         ensures refused { OnErr result (self.new ≡ self.old) }
     {
-        let Some(value) = self.tree.get(key) else {
+        let Some(value) = self.get(key) else {
             return Ok(None);
         };
         let value = value.clone()?;

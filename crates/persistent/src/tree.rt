@@ -2,8 +2,9 @@
 ghost use Rattle.std.specs.Prelude.{◌≡◌, ◌≤◌, [], length};
 ghost use Rattle.std.specs.Option.{option_copied};
 ghost use Rattle.persistent.specs.Maps.{IsRising, lookup};
-ghost use Rattle.persistent.specs.Nodes.{IsShallow, IsTree, summary};
+ghost use Rattle.persistent.specs.Nodes.{FitsHeight, IsTree, summary};
 
+use crate::numbered::Numbered;
 use servo_arc::Arc;
 use std::alloc::AllocError;
 use std::cmp::Ordering;
@@ -65,15 +66,12 @@ impl<K: Ord, V> Tree<K, V> {
     pub(crate) fn len(&self) -> usize
         ensures { result ≡ length self.now.0 }
     {
-        match &self.root {
-            None => 0,
-            Some(node) => node.len,
-        }
+        self.count()
     }
 
     pub(crate) fn height(&self) -> u8
         ensures height { result ≡ self.now.1 }
-        ensures shallow { IsShallow self.now }
+        ensures fits { FitsHeight self.now }
         ensures low { self.now.1 ≤ 128 }
     {
         match &self.root {

@@ -1,9 +1,9 @@
 -- The tree takes the entry in, whether its node was copied or not.
 use Rattle.std.proofs.Common.{◌≡◌, ◌<◌, ◌+◌, ◌^◌, length, max, ap}
-use Rattle.std.proofs.Common.{sym, ◌∙◌, subst, refl, arith}
+use Rattle.std.proofs.Common.{sym, ◌∙◌, refl, arith}
 use Rattle.std.proofs.lemmas.Grind.{common_steps}
 use Rattle.persistent.specs.Maps.{with_entry}
-use Rattle.persistent.specs.Nodes.{IsNode, IsTree, DifferByAtMost, entries_of, summary}
+use Rattle.persistent.specs.Nodes.{DifferByAtMost, entries_of, summary}
 use Rattle.persistent.proofs.Copies.{same_node}
 use Rattle.persistent.proofs.Insertion.{with_nil}
 use Rattle.persistent.proofs.Grown.{room_left, room_right, entries_left, entries_right, grown, here}
@@ -19,12 +19,12 @@ returns-in_default-clause-entries g t c =
 pub overflow_add-node : goal.overflow_add-node
 overflow_add-node g t c =
     let cmp = g.K.Ord.cmp in
-    let n = c.in_ok-node.node.now in
+    let n = c.make_way.new.self in
+    let is = c.make_way.ensures.whole in
     let same =
-    same_node g.K.Clone.is_clone g.V.Clone.is_clone c.in-Some.handle n c.requires.copies_of_keys
+    same_node g.K.Clone.is_clone g.V.Clone.is_clone c.in-Some.handle c.in_ok-node.node.now c.requires.copies_of_keys
     c.requires.copies_of_values c.in_ok-node.ensures.value in
-    let is = subst (IsNode cmp) (sym same) (subst (IsTree cmp) c.in-Some.is c.self.invariant) in
-    let old : entries_of n ≡ c.args.self.now.0 = ap entries_of same
+    let old : entries_of n ≡ c.args.self.now.0 = c.make_way.ensures.entries ∙ ap entries_of same
     ∙ ap (λ d. d.0) (sym (ap summary c.in-Some.is) ∙ c.self.view_is) in
     let room : length (entries_of n) + 1 < 2 ^ 64 = omega (arith, c.requires.room, ap length old) in
     let put = c.in_ok-insert-in-Less.ensures.entries in
@@ -34,12 +34,12 @@ overflow_add-node g t c =
 pub overflow_add-node-in-Less : goal.overflow_add-node-in-Less
 overflow_add-node-in-Less g t c =
     let cmp = g.K.Ord.cmp in
-    let n = c.in_ok-node.node.now in
+    let n = c.make_way.new.self in
+    let is = c.make_way.ensures.whole in
     let same =
-    same_node g.K.Clone.is_clone g.V.Clone.is_clone c.in-Some.handle n c.requires.copies_of_keys
+    same_node g.K.Clone.is_clone g.V.Clone.is_clone c.in-Some.handle c.in_ok-node.node.now c.requires.copies_of_keys
     c.requires.copies_of_values c.in_ok-node.ensures.value in
-    let is = subst (IsNode cmp) (sym same) (subst (IsTree cmp) c.in-Some.is c.self.invariant) in
-    let old : entries_of n ≡ c.args.self.now.0 = ap entries_of same
+    let old : entries_of n ≡ c.args.self.now.0 = c.make_way.ensures.entries ∙ ap entries_of same
     ∙ ap (λ d. d.0) (sym (ap summary c.in-Some.is) ∙ c.self.view_is) in
     let room : length (entries_of n) + 1 < 2 ^ 64 = omega (arith, c.requires.room, ap length old) in
     let put = c.in_ok-insert-in-Less.ensures.entries in
@@ -49,12 +49,12 @@ overflow_add-node-in-Less g t c =
 pub invariant_of-self-in-Less : goal.invariant_of-self-in-Less
 invariant_of-self-in-Less g t c =
     let cmp = g.K.Ord.cmp in
-    let n = c.in_ok-node.node.now in
+    let n = c.make_way.new.self in
+    let is = c.make_way.ensures.whole in
     let same =
-    same_node g.K.Clone.is_clone g.V.Clone.is_clone c.in-Some.handle n c.requires.copies_of_keys
+    same_node g.K.Clone.is_clone g.V.Clone.is_clone c.in-Some.handle c.in_ok-node.node.now c.requires.copies_of_keys
     c.requires.copies_of_values c.in_ok-node.ensures.value in
-    let is = subst (IsNode cmp) (sym same) (subst (IsTree cmp) c.in-Some.is c.self.invariant) in
-    let old : entries_of n ≡ c.args.self.now.0 = ap entries_of same
+    let old : entries_of n ≡ c.args.self.now.0 = c.make_way.ensures.entries ∙ ap entries_of same
     ∙ ap (λ d. d.0) (sym (ap summary c.in-Some.is) ∙ c.self.view_is) in
     let room : length (entries_of n) + 1 < 2 ^ 64 = omega (arith, c.requires.room, ap length old) in
     let put = c.in_ok-insert-in-Less.ensures.entries in
@@ -66,18 +66,18 @@ invariant_of-self-in-Less g t c =
     rw (c.make_mut.follows.holds _ (rw c.in_ok-node.was refl))
     (grown cmp g.met.K.Ord.total c.args.key c.args.value n is _
     (entries_left cmp g.met.K.Ord.total c.args.key c.args.value n is c.insert.new.self.0
-    (sym c.in-Less.ensures) put) c.height-in-Less-2.ensures.shallow c.height-in-Less-3.ensures.shallow level
+    (sym c.in-Less.ensures) put) c.height-in-Less-2.ensures.fits c.height-in-Less-3.ensures.fits level
     len (omega (arith, len, fits)) height)
 
 pub returns-in_ok-insert-in-Less-clause-entries : goal.returns-in_ok-insert-in-Less-clause-entries
 returns-in_ok-insert-in-Less-clause-entries g t c =
     let cmp = g.K.Ord.cmp in
-    let n = c.in_ok-node.node.now in
+    let n = c.make_way.new.self in
+    let is = c.make_way.ensures.whole in
     let same =
-    same_node g.K.Clone.is_clone g.V.Clone.is_clone c.in-Some.handle n c.requires.copies_of_keys
+    same_node g.K.Clone.is_clone g.V.Clone.is_clone c.in-Some.handle c.in_ok-node.node.now c.requires.copies_of_keys
     c.requires.copies_of_values c.in_ok-node.ensures.value in
-    let is = subst (IsNode cmp) (sym same) (subst (IsTree cmp) c.in-Some.is c.self.invariant) in
-    let old : entries_of n ≡ c.args.self.now.0 = ap entries_of same
+    let old : entries_of n ≡ c.args.self.now.0 = c.make_way.ensures.entries ∙ ap entries_of same
     ∙ ap (λ d. d.0) (sym (ap summary c.in-Some.is) ∙ c.self.view_is) in
     let room : length (entries_of n) + 1 < 2 ^ 64 = omega (arith, c.requires.room, ap length old) in
     let put = c.in_ok-insert-in-Less.ensures.entries in
@@ -90,12 +90,12 @@ returns-in_ok-insert-in-Less-clause-entries g t c =
 pub overflow_add-node-in-Greater : goal.overflow_add-node-in-Greater
 overflow_add-node-in-Greater g t c =
     let cmp = g.K.Ord.cmp in
-    let n = c.in_ok-node.node.now in
+    let n = c.make_way.new.self in
+    let is = c.make_way.ensures.whole in
     let same =
-    same_node g.K.Clone.is_clone g.V.Clone.is_clone c.in-Some.handle n c.requires.copies_of_keys
+    same_node g.K.Clone.is_clone g.V.Clone.is_clone c.in-Some.handle c.in_ok-node.node.now c.requires.copies_of_keys
     c.requires.copies_of_values c.in_ok-node.ensures.value in
-    let is = subst (IsNode cmp) (sym same) (subst (IsTree cmp) c.in-Some.is c.self.invariant) in
-    let old : entries_of n ≡ c.args.self.now.0 = ap entries_of same
+    let old : entries_of n ≡ c.args.self.now.0 = c.make_way.ensures.entries ∙ ap entries_of same
     ∙ ap (λ d. d.0) (sym (ap summary c.in-Some.is) ∙ c.self.view_is) in
     let room : length (entries_of n) + 1 < 2 ^ 64 = omega (arith, c.requires.room, ap length old) in
     let put = c.in_ok-insert-in-Greater.ensures.entries in
@@ -106,12 +106,12 @@ overflow_add-node-in-Greater g t c =
 pub overflow_add-node-in-Greater-2 : goal.overflow_add-node-in-Greater-2
 overflow_add-node-in-Greater-2 g t c =
     let cmp = g.K.Ord.cmp in
-    let n = c.in_ok-node.node.now in
+    let n = c.make_way.new.self in
+    let is = c.make_way.ensures.whole in
     let same =
-    same_node g.K.Clone.is_clone g.V.Clone.is_clone c.in-Some.handle n c.requires.copies_of_keys
+    same_node g.K.Clone.is_clone g.V.Clone.is_clone c.in-Some.handle c.in_ok-node.node.now c.requires.copies_of_keys
     c.requires.copies_of_values c.in_ok-node.ensures.value in
-    let is = subst (IsNode cmp) (sym same) (subst (IsTree cmp) c.in-Some.is c.self.invariant) in
-    let old : entries_of n ≡ c.args.self.now.0 = ap entries_of same
+    let old : entries_of n ≡ c.args.self.now.0 = c.make_way.ensures.entries ∙ ap entries_of same
     ∙ ap (λ d. d.0) (sym (ap summary c.in-Some.is) ∙ c.self.view_is) in
     let room : length (entries_of n) + 1 < 2 ^ 64 = omega (arith, c.requires.room, ap length old) in
     let put = c.in_ok-insert-in-Greater.ensures.entries in
@@ -122,12 +122,12 @@ overflow_add-node-in-Greater-2 g t c =
 pub invariant_of-self-in-Greater : goal.invariant_of-self-in-Greater
 invariant_of-self-in-Greater g t c =
     let cmp = g.K.Ord.cmp in
-    let n = c.in_ok-node.node.now in
+    let n = c.make_way.new.self in
+    let is = c.make_way.ensures.whole in
     let same =
-    same_node g.K.Clone.is_clone g.V.Clone.is_clone c.in-Some.handle n c.requires.copies_of_keys
+    same_node g.K.Clone.is_clone g.V.Clone.is_clone c.in-Some.handle c.in_ok-node.node.now c.requires.copies_of_keys
     c.requires.copies_of_values c.in_ok-node.ensures.value in
-    let is = subst (IsNode cmp) (sym same) (subst (IsTree cmp) c.in-Some.is c.self.invariant) in
-    let old : entries_of n ≡ c.args.self.now.0 = ap entries_of same
+    let old : entries_of n ≡ c.args.self.now.0 = c.make_way.ensures.entries ∙ ap entries_of same
     ∙ ap (λ d. d.0) (sym (ap summary c.in-Some.is) ∙ c.self.view_is) in
     let room : length (entries_of n) + 1 < 2 ^ 64 = omega (arith, c.requires.room, ap length old) in
     let put = c.in_ok-insert-in-Greater.ensures.entries in
@@ -141,18 +141,18 @@ invariant_of-self-in-Greater g t c =
     rw (c.make_mut.follows.holds _ (rw c.in_ok-node.was refl))
     (grown cmp g.met.K.Ord.total c.args.key c.args.value n is _
     (entries_right cmp g.met.K.Ord.total c.args.key c.args.value n is c.insert-in-Greater.new.self.0
-    (sym c.in-Greater.ensures) put) c.height-in-Greater-3.ensures.shallow
-    c.height-in-Greater-4.ensures.shallow level len (omega (arith, len, fits)) height)
+    (sym c.in-Greater.ensures) put) c.height-in-Greater-3.ensures.fits
+    c.height-in-Greater-4.ensures.fits level len (omega (arith, len, fits)) height)
 
 pub returns-in_ok-insert-in-Greater-clause-entries : goal.returns-in_ok-insert-in-Greater-clause-entries
 returns-in_ok-insert-in-Greater-clause-entries g t c =
     let cmp = g.K.Ord.cmp in
-    let n = c.in_ok-node.node.now in
+    let n = c.make_way.new.self in
+    let is = c.make_way.ensures.whole in
     let same =
-    same_node g.K.Clone.is_clone g.V.Clone.is_clone c.in-Some.handle n c.requires.copies_of_keys
+    same_node g.K.Clone.is_clone g.V.Clone.is_clone c.in-Some.handle c.in_ok-node.node.now c.requires.copies_of_keys
     c.requires.copies_of_values c.in_ok-node.ensures.value in
-    let is = subst (IsNode cmp) (sym same) (subst (IsTree cmp) c.in-Some.is c.self.invariant) in
-    let old : entries_of n ≡ c.args.self.now.0 = ap entries_of same
+    let old : entries_of n ≡ c.args.self.now.0 = c.make_way.ensures.entries ∙ ap entries_of same
     ∙ ap (λ d. d.0) (sym (ap summary c.in-Some.is) ∙ c.self.view_is) in
     let room : length (entries_of n) + 1 < 2 ^ 64 = omega (arith, c.requires.room, ap length old) in
     let put = c.in_ok-insert-in-Greater.ensures.entries in
@@ -165,12 +165,12 @@ returns-in_ok-insert-in-Greater-clause-entries g t c =
 pub invariant_of-self-in-Equal-1 : goal.invariant_of-self-in-Equal-1
 invariant_of-self-in-Equal-1 g t c =
     let cmp = g.K.Ord.cmp in
-    let n = c.in_ok-node.node.now in
+    let n = c.make_way.new.self in
+    let is = c.make_way.ensures.whole in
     let same =
-    same_node g.K.Clone.is_clone g.V.Clone.is_clone c.in-Some.handle n c.requires.copies_of_keys
+    same_node g.K.Clone.is_clone g.V.Clone.is_clone c.in-Some.handle c.in_ok-node.node.now c.requires.copies_of_keys
     c.requires.copies_of_values c.in_ok-node.ensures.value in
-    let is = subst (IsNode cmp) (sym same) (subst (IsTree cmp) c.in-Some.is c.self.invariant) in
-    let old : entries_of n ≡ c.args.self.now.0 = ap entries_of same
+    let old : entries_of n ≡ c.args.self.now.0 = c.make_way.ensures.entries ∙ ap entries_of same
     ∙ ap (λ d. d.0) (sym (ap summary c.in-Some.is) ∙ c.self.view_is) in
     let room : length (entries_of n) + 1 < 2 ^ 64 = omega (arith, c.requires.room, ap length old) in
     rw (c.make_mut.follows.holds _ (rw c.in_ok-node.was refl))
@@ -179,12 +179,12 @@ invariant_of-self-in-Equal-1 g t c =
 pub returns-in-Equal-clause-entries : goal.returns-in-Equal-clause-entries
 returns-in-Equal-clause-entries g t c =
     let cmp = g.K.Ord.cmp in
-    let n = c.in_ok-node.node.now in
+    let n = c.make_way.new.self in
+    let is = c.make_way.ensures.whole in
     let same =
-    same_node g.K.Clone.is_clone g.V.Clone.is_clone c.in-Some.handle n c.requires.copies_of_keys
+    same_node g.K.Clone.is_clone g.V.Clone.is_clone c.in-Some.handle c.in_ok-node.node.now c.requires.copies_of_keys
     c.requires.copies_of_values c.in_ok-node.ensures.value in
-    let is = subst (IsNode cmp) (sym same) (subst (IsTree cmp) c.in-Some.is c.self.invariant) in
-    let old : entries_of n ≡ c.args.self.now.0 = ap entries_of same
+    let old : entries_of n ≡ c.args.self.now.0 = c.make_way.ensures.entries ∙ ap entries_of same
     ∙ ap (λ d. d.0) (sym (ap summary c.in-Some.is) ∙ c.self.view_is) in
     let room : length (entries_of n) + 1 < 2 ^ 64 = omega (arith, c.requires.room, ap length old) in
     rw (

@@ -12,5 +12,5 @@ of-requires g c =
     let count : c.in_ok-len.len ≡ length (around left c.args.entry right) =
     grind (arith, common_steps, length-append left.0 (c.args.entry ∷ right.0)) in
     let fits : c.in_ok-len.len < 2 ^ 64 = grind (arith, common_steps) in
-    whole g.K.Ord.cmp _ c.requires.rising c.height-low.ensures.shallow c.height-high.ensures.shallow c.requires.level
+    whole g.K.Ord.cmp _ c.requires.rising c.height-low.ensures.fits c.height-high.ensures.fits c.requires.level
     count fits (grind (arith, common_steps))

@@ -32,8 +32,7 @@ impl<K: Ord + Clone, V: Clone> Tree<K, V> {
                     return Ok(());
                 }
                 node.left.insert(alloc, key, value)?;
-                node.len = node.left.len() + node.right.len() + 1;
-                node.height = node.left.height().max(node.right.height()) + 1;
+                node.update();
                 Ok(())
             }
             Ordering::Equal => {
@@ -46,8 +45,7 @@ impl<K: Ord + Clone, V: Clone> Tree<K, V> {
                     return Ok(());
                 }
                 node.right.insert(alloc, key, value)?;
-                node.len = node.left.len() + node.right.len() + 1;
-                node.height = node.left.height().max(node.right.height()) + 1;
+                node.update();
                 Ok(())
             }
         }

@@ -122,9 +122,10 @@ impl<K: Ord + Clone, V: Clone> TreeMap<K, V> {
 
     /// Puts the value under the key. An equal key stays, and the new one is dropped.
     ///
-    /// It writes a node that no other version has in place, and copies any other on the way to the key. It is refused
-    /// if there is no memory, if the `clone` of a key, a value or a handle is, and at `usize::MAX` entries. The map then
-    /// reads as it did, and the key and the value are dropped.
+    /// It writes a node that no other version has in place, and copies any other on the way to the key. Where a double
+    /// rotation may be due it copies the rest of the way. It is refused if there is no memory, if the `clone` of a key,
+    /// a value or a handle is, and at `usize::MAX` entries. The map then reads as it did, and the key and the value are
+    /// dropped.
     pub fn insert(&mut self, alloc: Global, key: K, value: V) -> Result<(), AllocError>
         requires copies_of_keys { CopiesAreEqual K.is_clone }
         requires copies_of_values { CopiesAreEqual V.is_clone }

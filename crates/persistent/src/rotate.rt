@@ -1,7 +1,8 @@
 //! Rotations in place, which leave the entries and the height of a node as they are.
-ghost use Rattle.std.specs.Prelude.{◌≡◌, ◌+◌};
+ghost use Rattle.std.specs.Prelude.{◌≡◌, ◌+◌, ◌<◌, ◌^◌, length, max};
 ghost use Rattle.servo_arc.specs.Copies.{CopiesAreEqual};
-ghost use Rattle.persistent.specs.Nodes.{IsNode, entries_of};
+ghost use Rattle.persistent.specs.Maps.{IsRising};
+ghost use Rattle.persistent.specs.Nodes.{DifferByAtMost, IsNode, entries_of};
 
 use crate::tree::{Node, Tree};
 use servo_arc::Arc;
@@ -40,33 +41,21 @@ impl<K: Ord + Clone, V: Clone> Node<K, V> {
         ensures entries { entries_of self.new ≡ entries_of self.old }
         ensures height { self.new.height ≡ self.old.height }
     {
-        let mut low = mem::replace(&mut self.left, Tree::new());
-        let Some(handle) = &mut low.root else {
-            self.left = low;
-            return Ok(());
+        let Some(handle) = &mut self.left.root else {
+            unreachable!()
         };
-        let child = match Arc::make_mut(handle, alloc) {
-            Ok(child) => child,
-            Err(refusal) => {
-                self.left = low;
-                return Err(refusal);
-            }
-        };
+        let child = Arc::make_mut(handle, alloc)?;
         if child.left.height() < child.right.height() {
-            self.left = low;
             return Ok(());
         }
-        let x = mem::replace(&mut child.left, Tree::new());
-        let y = mem::replace(&mut child.right, Tree::new());
-        let z = mem::replace(&mut self.right, Tree::new());
+        let outer = mem::replace(&mut child.left, Tree::new());
+        let inner = mem::replace(&mut child.right, Tree::new());
         mem::swap(&mut child.entry, &mut self.entry);
-        child.len = y.len() + z.len() + 1;
-        child.height = y.height().max(z.height()) + 1;
-        child.left = y;
-        child.right = z;
-        self.height = x.height().max(low.height()) + 1;
-        self.left = x;
-        self.right = low;
+        child.left = inner;
+        child.right = mem::replace(&mut self.right, Tree::new());
+        child.update();
+        self.right = mem::replace(&mut self.left, outer);
+        self.update();
         Ok(())
     }
 
@@ -80,34 +69,37 @@ impl<K: Ord + Clone, V: Clone> Node<K, V> {
         ensures entries { entries_of self.new ≡ entries_of self.old }
         ensures height { self.new.height ≡ self.old.height }
     {
-        let mut high = mem::replace(&mut self.right, Tree::new());
-        let Some(handle) = &mut high.root else {
-            self.right = high;
-            return Ok(());
+        let Some(handle) = &mut self.right.root else {
+            unreachable!()
         };
-        let child = match Arc::make_mut(handle, alloc) {
-            Ok(child) => child,
-            Err(refusal) => {
-                self.right = high;
-                return Err(refusal);
-            }
-        };
+        let child = Arc::make_mut(handle, alloc)?;
         if child.right.height() < child.left.height() {
-            self.right = high;
             return Ok(());
         }
-        let x = mem::replace(&mut self.left, Tree::new());
-        let y = mem::replace(&mut child.left, Tree::new());
-        let z = mem::replace(&mut child.right, Tree::new());
+        let outer = mem::replace(&mut child.right, Tree::new());
+        let inner = mem::replace(&mut child.left, Tree::new());
         mem::swap(&mut child.entry, &mut self.entry);
-        child.len = x.len() + y.len() + 1;
-        child.height = x.height().max(y.height()) + 1;
-        child.left = x;
-        child.right = y;
-        self.height = high.height().max(z.height()) + 1;
-        self.left = high;
-        self.right = z;
+        child.right = inner;
+        child.left = mem::replace(&mut self.left, Tree::new());
+        child.update();
+        self.left = mem::replace(&mut self.right, outer);
+        self.update();
         Ok(())
+    }
+}
+
+impl<K: Ord, V> Node<K, V> {
+    // Counts the entries and the height anew, where a side has changed.
+    pub(crate) fn update(&mut self)
+        requires rising { IsRising K.cmp (entries_of self.old) }
+        requires level { DifferByAtMost 1 self.old.left.1 self.old.right.1 }
+        requires room { length (entries_of self.old) < 2 ^ 64 }
+        ensures whole { IsNode K.cmp self.new }
+        ensures entries { entries_of self.new ≡ entries_of self.old }
+        ensures height { self.new.height ≡ max self.old.left.1 self.old.right.1 + 1 }
+    {
+        self.len = self.left.len() + self.right.len() + 1;
+        self.height = self.left.height().max(self.right.height()) + 1;
     }
 }
 

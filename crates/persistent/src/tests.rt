@@ -1,5 +1,8 @@
 //! What no clause says, and each call once.
+ghost use Rattle.std.specs.Prelude.{◌≡◌};
+
 use crate::map::TreeMap;
+use std::alloc::AllocError;
 use std::test::Fail;
 
 #[test]
@@ -46,5 +49,37 @@ fn compares_and_shows_entries(rt: HostRuntime) -> Result<(), Fail> {
     assert_eq!(rt; text.as_str(), "{4: 'd'}");
     map.insert(rt.alloc(), 4, 'f')?;
     assert!(rt; map != same);
+    Ok(())
+}
+
+fn crosses_threads<T: Send + Sync>() {}
+
+#[test]
+fn versions_may_go_to_other_threads(_rt: HostRuntime) -> Result<(), Fail> {
+    crosses_threads::<TreeMap<u64, u8>>();
+    Ok(())
+}
+
+// A copy of a node with this value is always refused.
+#[derive(Drop)]
+struct Lone;
+
+impl Clone for Lone {
+    ghost is_clone = { λ a b. b ≡ a };
+
+    fn clone(&self) -> Result<Lone, AllocError> {
+        Err(AllocError)
+    }
+}
+
+#[test]
+fn puts_rising_keys_in_place(rt: HostRuntime) -> Result<(), Fail> {
+    let mut map: TreeMap<u64, Lone> = TreeMap::new();
+    for key in 0..200 {
+        map.insert(rt.alloc(), key, Lone)?;
+    }
+    let version = map.clone()?;
+    assert!(rt; map.insert(rt.alloc(), 200, Lone).is_err());
+    assert!(rt; map.len() == 200 && version.len() == 200);
     Ok(())
 }

@@ -1,4 +1,4 @@
-//! A balanced tree of entries, summary as its entries and its height.
+//! A balanced tree of entries, seen as its entries and its height.
 ghost use Rattle.std.specs.Prelude.{◌≡◌, ◌≤◌, [], length};
 ghost use Rattle.std.specs.Option.{option_copied};
 ghost use Rattle.persistent.specs.Maps.{IsRising, lookup};

@@ -11,8 +11,6 @@ mod map;
 mod numbered;
 mod removed;
 mod rotate;
-#[cfg(test)]
-mod tests;
 mod tree;
 pub mod versions;
 

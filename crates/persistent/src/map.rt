@@ -1,5 +1,5 @@
 //! A map in the order of its keys, whose versions share their branches.
-ghost use Rattle.std.specs.Prelude.{◌≡◌, ◌+◌, ◌^◌, ◌≤◌, ◌↔◌, [], IsTrue};
+ghost use Rattle.std.specs.Prelude.{◌≡◌, ◌+◌, ◌^◌, ◌<◌, ◌≤◌, ◌↔◌, [], IsTrue};
 ghost use Rattle.std.specs.Prelude.{◌-◌, None, Some, IfOk, OnOk, OnErr, cond, is_some, length, slice_get};
 ghost use Rattle.std.specs.Option.{option_copied};
 ghost use Rattle.std.specs.Ordering.{is_eq};
@@ -8,6 +8,7 @@ ghost use Rattle.persistent.specs.Maps.{IsRising, lookup, with_entries, with_ent
 
 use crate::numbered::Numbered;
 use crate::tree::Tree;
+use servo_arc::Arc;
 use std::alloc::{AllocError, Global};
 use std::marker::Model;
 
@@ -160,5 +161,18 @@ impl<K: Ord + Clone, V: Clone> TreeMap<K, V> {
         let value = value.clone()?;
         self.tree = self.tree.removed(alloc, key)?;
         Ok(Some(value))
+    }
+}
+
+impl<K: Ord, V> TreeMap<K, V> {
+    /// Whether both have the same root, as exactly as `Arc::ptr_eq` says it. Empty maps have none.
+    pub fn ptr_eq(this: &TreeMap<K, V>, other: &TreeMap<K, V>) -> bool
+        ensures { IsTrue result → (0 < length this.now) × (0 < length other.now) }
+    {
+        match (&this.tree.root, &other.tree.root) {
+            // Nodes of two lengths are two: that takes no step on their counts.
+            (Some(node), Some(same)) => node.len == same.len && Arc::ptr_eq(node, same),
+            _ => false,
+        }
     }
 }

@@ -5,100 +5,147 @@ use super::{next, pick, Run, Workload};
 const ITEMS: u64 = 1_000_000; // of the list
 const KEYS: usize = 100_000; // of the map
 
-/// Whether the one key stands nearer to the root: as if by lot, so that the tree is about as deep as a few times log n.
-fn outranks(key: u64, other: u64) -> bool {
-    rank(key) > rank(other)
-}
-
-fn rank(key: u64) -> u64 {
-    let key = (key ^ (key >> 30)).wrapping_mul(0xBF58_476D_1CE4_E5B9);
-    let key = (key ^ (key >> 27)).wrapping_mul(0x94D0_49BB_1331_11EB);
-    key ^ (key >> 31)
-}
-
 macro_rules! trees {
     ($name:ident, $($path:tt)+) => {
         mod $name {
-            use super::{next, outranks, pick, ITEMS, KEYS};
+            use super::{next, pick, ITEMS, KEYS};
+            use std::cmp::Ordering;
+            use std::mem;
             type Arc<T> = $($path)+<T>;
 
-            #[derive(Clone)]
+            /// A tree in which the heights of the two sides of a node differ by 1 at most.
+            #[derive(Clone, Default)]
             struct Map {
-                root: Option<Arc<Fork>>,
-                len: usize,
+                root: Option<Arc<Node>>,
             }
 
-            struct Fork {
-                less: Map,
-                key: u64,
-                value: u64,
-                greater: Map,
+            #[derive(Clone)]
+            struct Node {
+                len: usize,
+                height: u8,
+                left: Map,
+                entry: (u64, u64),
+                right: Map,
             }
 
             impl Map {
-                fn new() -> Map {
-                    Map { root: None, len: 0 }
+                fn of(left: Map, entry: (u64, u64), right: Map) -> Map {
+                    let mut node = Node { len: 0, height: 0, left, entry, right };
+                    node.update();
+                    Map { root: Some(Arc::new(node)) }
                 }
 
-                fn of(less: Map, key: u64, value: u64, greater: Map) -> Map {
-                    let len = less.len + greater.len + 1;
-                    let fork = Fork { less, key, value, greater };
-                    Map {
-                        root: Some(Arc::new(fork)),
-                        len,
-                    }
+                fn len(&self) -> usize {
+                    self.root.as_ref().map_or(0, |node| node.len)
+                }
+
+                fn height(&self) -> u8 {
+                    self.root.as_ref().map_or(0, |node| node.height)
                 }
 
                 fn get(&self, key: u64) -> Option<&u64> {
-                    let fork = self.root.as_ref()?;
-                    if key < fork.key {
-                        fork.less.get(key)
-                    } else if fork.key < key {
-                        fork.greater.get(key)
-                    } else {
-                        Some(&fork.value)
+                    let node = self.root.as_ref()?;
+                    match key.cmp(&node.entry.0) {
+                        Ordering::Less => node.left.get(key),
+                        Ordering::Equal => Some(&node.entry.1),
+                        Ordering::Greater => node.right.get(key),
                     }
                 }
 
-                fn insert(&self, key: u64, value: u64) -> Map {
-                    let Some(fork) = &self.root else {
-                        return Map::of(Map::new(), key, value, Map::new());
+                /// In place where nobody else shares a node, and where no double rotation can be due.
+                fn insert(&mut self, key: u64, value: u64) {
+                    let Some(handle) = &mut self.root else {
+                        *self = Map::of(Map::default(), (key, value), Map::default());
+                        return;
                     };
-                    if key == fork.key {
-                        Map::of(fork.less.clone(), key, value, fork.greater.clone())
-                    } else if outranks(key, fork.key) {
-                        let (less, greater) = self.split(key);
-                        Map::of(less, key, value, greater)
-                    } else if key < fork.key {
-                        let less = fork.less.insert(key, value);
-                        Map::of(less, fork.key, fork.value, fork.greater.clone())
-                    } else {
-                        let greater = fork.greater.insert(key, value);
-                        Map::of(fork.less.clone(), fork.key, fork.value, greater)
+                    let node = Arc::make_mut(handle);
+                    node.make_way(key);
+                    let (low, high) = (node.left.height(), node.right.height());
+                    match key.cmp(&node.entry.0) {
+                        Ordering::Equal => return node.entry.1 = value,
+                        Ordering::Less if low > high => return *self = self.inserted(key, value),
+                        Ordering::Greater if high > low => return *self = self.inserted(key, value),
+                        Ordering::Less => node.left.insert(key, value),
+                        Ordering::Greater => node.right.insert(key, value),
+                    }
+                    node.update();
+                }
+
+                fn inserted(&self, key: u64, value: u64) -> Map {
+                    let Some(node) = &self.root else {
+                        return Map::of(Map::default(), (key, value), Map::default());
+                    };
+                    let (left, right) = (&node.left, &node.right);
+                    match key.cmp(&node.entry.0) {
+                        Ordering::Less => Map::balanced(left.inserted(key, value), node.entry, right.clone()),
+                        Ordering::Equal => Map::of(left.clone(), (key, value), right.clone()),
+                        Ordering::Greater => Map::balanced(left.clone(), node.entry, right.inserted(key, value)),
                     }
                 }
 
-                /// The entries below the key, and those above it.
-                fn split(&self, key: u64) -> (Map, Map) {
-                    let Some(fork) = &self.root else {
-                        return (Map::new(), Map::new());
-                    };
-                    if key < fork.key {
-                        let (less, between) = fork.less.split(key);
-                        (less, Map::of(between, fork.key, fork.value, fork.greater.clone()))
-                    } else if fork.key < key {
-                        let (between, greater) = fork.greater.split(key);
-                        (Map::of(fork.less.clone(), fork.key, fork.value, between), greater)
-                    } else {
-                        (fork.less.clone(), fork.greater.clone())
+                /// The tree of this entry between these trees, of which one may be two higher.
+                fn balanced(left: Map, entry: (u64, u64), right: Map) -> Map {
+                    let (low, high) = (left.height(), right.height());
+                    match (&left.root, &right.root) {
+                        (Some(node), _) if low > high + 1 => match &node.right.root {
+                            Some(inner) if node.right.height() > node.left.height() => Map::of(
+                                Map::of(node.left.clone(), node.entry, inner.left.clone()),
+                                inner.entry,
+                                Map::of(inner.right.clone(), entry, right),
+                            ),
+                            _ => Map::of(node.left.clone(), node.entry, Map::of(node.right.clone(), entry, right)),
+                        },
+                        (_, Some(node)) if high > low + 1 => match &node.left.root {
+                            Some(inner) if node.left.height() > node.right.height() => Map::of(
+                                Map::of(left, entry, inner.left.clone()),
+                                inner.entry,
+                                Map::of(inner.right.clone(), node.entry, node.right.clone()),
+                            ),
+                            _ => Map::of(Map::of(left, entry, node.left.clone()), node.entry, node.right.clone()),
+                        },
+                        _ => Map::of(left, entry, right),
+                    }
+                }
+            }
+
+            impl Node {
+                fn update(&mut self) {
+                    self.len = self.left.len() + self.right.len() + 1;
+                    self.height = self.left.height().max(self.right.height()) + 1;
+                }
+
+                /// Makes the side of the key no higher than the other, where a single rotation can.
+                fn make_way(&mut self, key: u64) {
+                    let Node { left, entry, right, .. } = self;
+                    let (low, high) = (left.height(), right.height());
+                    if low > high && left.root.as_ref().is_some_and(|child| key < child.entry.0) {
+                        let child = Arc::make_mut(left.root.as_mut().unwrap());
+                        if child.left.height() >= child.right.height() {
+                            let outer = mem::replace(&mut child.left, mem::take(&mut child.right));
+                            child.right = mem::take(right);
+                            mem::swap(&mut child.entry, entry);
+                            child.update();
+                            *right = mem::replace(left, outer);
+                            self.update();
+                        }
+                    } else if high > low && right.root.as_ref().is_some_and(|child| key > child.entry.0) {
+                        let child = Arc::make_mut(right.root.as_mut().unwrap());
+                        if child.right.height() >= child.left.height() {
+                            let outer = mem::replace(&mut child.right, mem::take(&mut child.left));
+                            child.left = mem::take(left);
+                            mem::swap(&mut child.entry, entry);
+                            child.update();
+                            *left = mem::replace(right, outer);
+                            self.update();
+                        }
                     }
                 }
             }
 
             fn map() -> Map {
-                let mut map = Map::new();
+                let mut map = Map::default();
                 for key in 0..KEYS as u64 {
-                    map = map.insert(key, key);
+                    map.insert(key, key);
                 }
                 map
             }
@@ -114,7 +161,8 @@ macro_rules! trees {
                 for _ in 0..n {
                     state = next(state);
                     let key = pick(state, KEYS);
-                    let later = map.insert(key as u64, read(&map, key).wrapping_add(state));
+                    let mut later = map.clone();
+                    later.insert(key as u64, read(&map, key).wrapping_add(state));
                     sum = sum.wrapping_add(read(&later, key));
                     map = later;
                 }
@@ -134,11 +182,11 @@ macro_rules! trees {
 
             #[derive(Clone)]
             struct List {
-                first: Option<Arc<Node>>,
+                first: Option<Arc<Item>>,
                 len: usize,
             }
 
-            struct Node {
+            struct Item {
                 value: u64,
                 rest: List,
             }
@@ -148,7 +196,7 @@ macro_rules! trees {
                     let rest = self.clone();
                     let len = rest.len + 1;
                     List {
-                        first: Some(Arc::new(Node { value, rest })),
+                        first: Some(Arc::new(Item { value, rest })),
                         len,
                     }
                 }

@@ -1,22 +1,31 @@
 //! Versions of a search tree, which share the branches that a change left alone.
 use crate::fault::Fault;
-use shared_trees::TreeMap;
+use persistent::TreeMap;
 use std::alloc::Global;
 use workloads::Random;
 
 /// The keys of the tree.
 const KEYS: usize = 100_000;
 
-fn map(alloc: Global) -> Result<TreeMap<u64>, Fault> {
+fn map(alloc: Global) -> Result<TreeMap<u64, u64>, Fault> {
     let mut map = TreeMap::new();
     for key in 0..KEYS as u64 {
-        map = map.insert(alloc, key, key)?;
+        map.insert(alloc, key, key)?;
     }
     Ok(map)
 }
 
-fn read(map: &TreeMap<u64>, key: usize) -> u64 {
-    map.get(key as u64).copied().unwrap_or(0)
+fn read(map: &TreeMap<u64, u64>, key: usize) -> u64 {
+    map.get(&(key as u64)).copied().unwrap_or(0)
+}
+
+// The map with another value under the key, in place of the version before it. It returns the value.
+fn change(map: &mut TreeMap<u64, u64>, alloc: Global, key: usize, by: u64) -> Result<u64, Fault> {
+    let mut next: TreeMap<u64, u64> = map.clone()?;
+    next.insert(alloc, key as u64, read(map, key).wrapping_add(by))?;
+    let value = read(&next, key);
+    *map = next;
+    Ok(value)
 }
 
 /// Each version has another value under one key, and ends the version before it.
@@ -27,10 +36,8 @@ pub fn tree_insert(alloc: Global, iterations: u64) -> Result<u64, Fault> {
     let mut sum = 0u64;
     for _ in 0..iterations {
         let key = random.below(KEYS);
-        let value = read(&map, key).wrapping_add(random.state);
-        let next = map.insert(alloc, key as u64, value)?;
-        sum = sum.wrapping_add(read(&next, key));
-        map = next;
+        let value = change(&mut map, alloc, key, random.state)?;
+        sum = sum.wrapping_add(value);
     }
     Ok(sum)
 }

@@ -1,9 +1,10 @@
 //! Snapshots: one thread makes versions of a map, and others read each of them.
 ghost use Rattle.std.specs.Prelude.{◌≡◌, IsTrue, Some};
-ghost use Rattle.shared_trees.specs.Maps.{lookup};
+ghost use Rattle.std.specs.Ordering.{nat_cmp};
+ghost use Rattle.persistent.specs.Maps.{lookup};
 
 use crossbeam_channel::{Receiver, Sender};
-use shared_trees::TreeMap;
+use persistent::TreeMap;
 use std::alloc::{AllocError, Global};
 use std::sync::Wait;
 
@@ -14,8 +15,8 @@ const KEYS: u64 = 8;
 #[derive(Drop)]
 pub struct Edition {
     pub number: u64,
-    pub map: TreeMap<u64>,
-    ghost numbered: { lookup 0 map ≡ Some number },
+    pub map: TreeMap<u64, u64>,
+    ghost numbered: { lookup nat_cmp 0 map ≡ Some number },
 }
 
 impl Edition {
@@ -23,12 +24,12 @@ impl Edition {
     pub fn has_its_number(&self) -> bool
         ensures { IsTrue result }
     {
-        self.map.get(0).copied() == Some(self.number)
+        self.map.get(&0).copied() == Some(self.number)
     }
 
     /// Whether the other keys have what `publish` had set by then.
     pub fn is_as_published(&self) -> bool {
-        (1..KEYS).all(|key| self.map.get(key).copied() == latest(self.number, key))
+        (1..KEYS).all(|key| self.map.get(&key).copied() == latest(self.number, key))
     }
 }
 
@@ -51,7 +52,7 @@ pub fn publish(
 ) -> Result<(), AllocError> {
     let mut map = TreeMap::new();
     for number in 1..=editions {
-        map = map.insert(alloc, number % KEYS, number)?;
+        map.insert(alloc, number % KEYS, number)?;
         for reader in readers {
             let edition = numbered(&map, alloc, number)?;
             let _gone = reader.send(rt, edition);
@@ -60,11 +61,10 @@ pub fn publish(
     Ok(())
 }
 
-fn numbered(map: &TreeMap<u64>, alloc: Global, number: u64) -> Result<Edition, AllocError> {
-    Ok(Edition {
-        number,
-        map: map.insert(alloc, 0, number)?,
-    })
+fn numbered(map: &TreeMap<u64, u64>, alloc: Global, number: u64) -> Result<Edition, AllocError> {
+    let mut map: TreeMap<u64, u64> = map.clone()?;
+    map.insert(alloc, 0, number)?;
+    Ok(Edition { number, map })
 }
 
 /// Reads editions until no more come. Returns how many came, if each was as it was published.

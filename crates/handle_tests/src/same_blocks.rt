@@ -2,8 +2,9 @@
 use crate::made::arc_of;
 use cow_table::CowTable;
 use facts::{again, ok, same, same_at};
+use persistent::TreeMap;
 use servo_arc::{Arc, ArcUnion};
-use shared_trees::{List, Rose, TreeMap};
+use shared_trees::{List, Rose};
 use std::alloc::{AllocError, Global};
 
 #[test]
@@ -106,10 +107,10 @@ fn lists_are_told_apart(rt: HostRuntime) {
     }
 }
 
-fn map_of(alloc: Global, len: u64) -> Result<TreeMap<u64>, AllocError> {
+fn map_of(alloc: Global, len: u64) -> Result<TreeMap<u64, u64>, AllocError> {
     let mut map = TreeMap::new();
     for key in 0..len {
-        map = map.insert(alloc, key, key)?;
+        map.insert(alloc, key, key)?;
     }
     Ok(map)
 }
@@ -119,7 +120,8 @@ fn maps_are_told_apart(rt: HostRuntime) {
     let alloc = rt.alloc();
     for len in [1, 2, 3, 1000] {
         let (a, b) = (ok!(&rt, map_of(alloc, len)), ok!(&rt, map_of(alloc, len)));
-        let written = ok!(&rt, a.insert(alloc, 0, 0));
+        let mut written = again!(&rt, &a);
+        ok!(&rt, written.insert(alloc, 0, 0));
         let found = [
             TreeMap::ptr_eq(&a, &b),
             TreeMap::ptr_eq(&a, &written),

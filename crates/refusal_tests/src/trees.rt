@@ -2,7 +2,8 @@
 use crate::telling::tell;
 use facts::counted::{Counted, Tally};
 use facts::{again, holds, same};
-use shared_trees::{List, TreeMap};
+use persistent::TreeMap;
+use shared_trees::List;
 use std::alloc::{AllocError, Global};
 
 #[test]
@@ -22,16 +23,18 @@ fn a_refused_push_leaves_the_list(rt: HostRuntime) {
     }
 }
 
+type Map<'a> = TreeMap<u64, Counted<'a>>;
+
 // The even keys below 8, with half of each.
-fn halves<'a>(alloc: Global, tally: &'a Tally) -> Result<TreeMap<Counted<'a>>, AllocError> {
+fn halves<'a>(alloc: Global, tally: &'a Tally) -> Result<Map<'a>, AllocError> {
     let mut map = TreeMap::new();
     for half in 0..4u64 {
-        map = map.insert(alloc, 2 * half, Counted::new(tally, half))?;
+        map.insert(alloc, 2 * half, Counted::new(tally, half))?;
     }
     Ok(map)
 }
 
-fn has_halves(map: &TreeMap<Counted<'_>>) -> bool {
+fn has_halves(map: &Map<'_>) -> bool {
     let found = map.iter().map(|(key, value)| (*key, value.value));
     found.eq([(0, 0), (2, 1), (4, 2), (6, 3)])
 }
@@ -45,21 +48,26 @@ fn kept_none(tally: &Tally, made: u64) -> bool {
     lost == 4
 }
 
+// The first key goes down in place, the second by copies of its path, and the third by a rotation.
 #[test]
 fn a_refused_insert_leaves_both_versions(rt: HostRuntime) {
     let tally = Tally::new();
     let Ok(old) = halves(rt.alloc(), &tally) else {
         return tell!(&rt, "the set-up");
     };
-    let copy = again!(&rt, &old);
-    let changed = old.insert(rt.alloc(), 3, Counted::new(&tally, 9));
-    holds!(&rt, has_halves(&old) && TreeMap::ptr_eq(&old, &copy));
-    match changed {
-        Ok(new) => same!(&rt, new.get(3).map(|value| value.value), Some(9)),
-        Err(AllocError) => {
-            holds!(&rt, kept_none(&tally, 5));
-            tell!(&rt, "a node of the path or of the key");
+    for (made, key) in [(5, 1), (6, 3), (7, 7)] {
+        let mut new = again!(&rt, &old);
+        let inserted = new.insert(rt.alloc(), key, Counted::new(&tally, 9));
+        holds!(&rt, has_halves(&old));
+        match inserted {
+            Ok(()) => same!(&rt, new.get(&key).map(|value| value.value), Some(9)),
+            Err(AllocError) => {
+                holds!(&rt, has_halves(&new));
+                tell!(&rt, "a node of the path or of the key");
+            }
         }
+        drop(new);
+        holds!(&rt, kept_none(&tally, made));
     }
 }
 
@@ -70,13 +78,24 @@ fn a_refused_remove_leaves_both_versions(rt: HostRuntime) {
         return tell!(&rt, "the set-up");
     };
     for key in [0, 2, 4, 6] {
-        let copy = again!(&rt, &old);
-        let changed = old.remove(rt.alloc(), key);
-        holds!(&rt, has_halves(&old) && TreeMap::ptr_eq(&old, &copy));
-        match changed {
-            Ok(new) => same!(&rt, (new.contains(key), new.len()), (false, 3)),
-            Err(AllocError) => tell!(&rt, "a node of the path"),
+        let mut new = again!(&rt, &old);
+        let removed = new.remove(rt.alloc(), &key);
+        holds!(&rt, has_halves(&old));
+        match removed {
+            Ok(value) => {
+                let value = value.map(|value| value.value);
+                same!(
+                    &rt,
+                    (value, new.contains(&key), new.len()),
+                    (Some(key / 2), false, 3)
+                );
+            }
+            Err(AllocError) => {
+                holds!(&rt, has_halves(&new));
+                tell!(&rt, "a node of the path");
+            }
         }
+        drop(new);
         holds!(&rt, kept_none(&tally, 4));
     }
 }

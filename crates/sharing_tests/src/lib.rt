@@ -1,5 +1,6 @@
 //! Tests of what is shared. Threads share one block or one count: clones, drops, marks, writes and tokens against each
-//! other. Versions of `cow_table` and of `shared_trees` share pages and nodes, as do the callers: what no contract says.
+//! other. Versions of `cow_table`, `persistent` and `shared_trees` share pages and nodes, as do the callers: what no
+//! contract says.
 #![tactic(auto)]
 
 #[cfg(test)]
@@ -24,6 +25,8 @@ mod made;
 mod many_threads;
 #[cfg(test)]
 mod maps;
+#[cfg(test)]
+mod orders;
 #[cfg(test)]
 mod roses;
 #[cfg(test)]

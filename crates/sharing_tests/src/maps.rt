@@ -1,77 +1,77 @@
-// What maps share.
-use facts::{again, holds, ok, same};
-use shared_trees::TreeMap;
+// What maps share, and how deep they are.
+use crate::lists::SMALL_STACK;
+use crate::orders::Order;
+use facts::{again, holds, holds_at, ok, same, same_at};
+use persistent::TreeMap;
 use std::alloc::{AllocError, Global};
+use std::thread::Builder;
 
-fn has_entries(map: &TreeMap<u32>, entries: &[(u64, u32)]) -> bool {
-    let found = (0..map.len()).map(|index| map.entry(index));
-    found.eq(entries.iter().map(Some))
-}
-
-fn three(alloc: Global) -> Result<TreeMap<u32>, AllocError> {
+fn trees(alloc: Global) -> Result<TreeMap<String, u32>, AllocError> {
     let mut map = TreeMap::new();
-    for (key, value) in [(5, 50), (3, 30), (8, 80)] {
-        map = map.insert(alloc, key, value)?;
+    for (name, number) in [("oak", 5), ("elm", 3), ("yew", 8)] {
+        map.insert(alloc, String::from_str(alloc, name)?, number)?;
     }
     Ok(map)
 }
 
-// A copy of a map shares its root.
+// A copy of a map shares its root. Its keys are of any type that has an order.
 #[test]
 fn versions_read_as_they_were_made(rt: HostRuntime) {
     let alloc = rt.alloc();
-    let old = ok!(&rt, three(alloc));
-    let copy = again!(&rt, &old);
-    let changed = ok!(&rt, old.insert(alloc, 3, 31));
-    let new = ok!(&rt, changed.remove(alloc, 8));
-    holds!(
-        &rt,
-        has_entries(&old, &[(3, 30), (5, 50), (8, 80)]) && has_entries(&new, &[(3, 31), (5, 50)]),
-    );
-    let are_one = [&copy, &changed].map(|map| TreeMap::ptr_eq(&old, map));
+    let old = ok!(&rt, trees(alloc));
+    let (copy, mut new) = (again!(&rt, &old), again!(&rt, &old));
+    let [elm, yew] = ["elm", "yew"].map(|name| ok!(&rt, String::from_str(alloc, name)));
+    ok!(&rt, new.insert(alloc, elm, 4));
+    same!(&rt, ok!(&rt, new.remove(alloc, &yew)), Some(8));
+    let texts = ok!(&rt, format!(in alloc; "{old:?} {new:?}"));
     same!(
         &rt,
-        (old.contains(8), new.contains(8), are_one),
-        (true, false, [true, false]),
+        texts.as_str(),
+        r#"{"elm": 3, "oak": 5, "yew": 8} {"elm": 4, "oak": 5}"#,
     );
-}
-
-fn up_to(alloc: Global, len: u64) -> Result<TreeMap<u64>, AllocError> {
-    let mut map = TreeMap::new();
-    for key in 0..len {
-        map = map.insert(alloc, key, key)?;
-    }
-    Ok(map)
-}
-
-// Keys in order, which would make a plain tree a list: a walk of each would then take hours.
-#[test]
-fn keys_in_order_make_no_list(rt: HostRuntime) {
-    let map = ok!(&rt, up_to(rt.alloc(), 100_000));
-    let found = (0..100_000).all(|key| map.get(key).copied() == Some(key));
-    holds!(&rt, found && map.len() == 100_000);
+    let are_one = [&copy, &new].map(|map| TreeMap::ptr_eq(&old, map));
+    let are_equal = [&copy, &new].map(|map| old == *map);
+    same!(&rt, (are_one, are_equal), ([true, false], [true, false]));
 }
 
 #[test]
 fn entries_come_in_order_from_either_end(rt: HostRuntime) {
-    let map = ok!(&rt, up_to(rt.alloc(), 100));
-    holds!(&rt, map.iter().map(|entry| entry.0).eq(0..100));
-    holds!(
-        &rt,
-        map.iter().rev().map(|entry| entry.0).eq((0..100).rev()),
-    );
+    let alloc = rt.alloc();
+    let items = ok!(&rt, vec![in alloc; (5, 'e'), (1, 'a'), (4, 'd'), (1, 'b')]);
+    let map = ok!(&rt, TreeMap::from_items(alloc, items));
+    holds!(&rt, map.iter().eq(&[(1, 'b'), (4, 'd'), (5, 'e')]));
+    holds!(&rt, map.iter().rev().map(|entry| entry.0).eq([5, 4, 1]));
     let mut entries = map.iter();
-    let ends = (entries.next().copied(), entries.next_back().copied());
-    same!(&rt, ends, (Some((0, 0)), Some((99, 99))));
+    let ends = (entries.next(), entries.next_back());
+    same!(&rt, ends, (map.first(), map.last()));
     same!(
         &rt,
-        (entries.len(), again!(&rt, &entries).count()),
-        (98, 98)
+        (entries.len(), entries.next(), entries.next_back()),
+        (1, map.entry(1), None),
     );
-    let empty: TreeMap<u64> = TreeMap::new();
-    same!(
-        &rt,
-        (empty.iter().next(), empty.iter().next_back()),
-        (None, None),
-    );
+}
+
+const MANY: u64 = 1_000_000;
+
+// 2 log2 of one more than the keys.
+const MOST_DEPTH: u8 = 39;
+
+fn keys_in(alloc: Global, order: Order) -> Result<TreeMap<u64, u64>, AllocError> {
+    let mut map = TreeMap::new();
+    for place in 0..MANY {
+        map.insert(alloc, order.key(place, MANY), place)?;
+    }
+    Ok(map)
+}
+
+// A drop of each node inside the one before would run out of stack, if they stood in one line.
+#[test]
+fn a_million_keys_end_on_a_small_stack(rt: HostRuntime) {
+    for order in [Order::Rising, Order::Falling, Order::Inward] {
+        let map = ok!(&rt, keys_in(rt.alloc(), order));
+        same_at!(&rt, order, map.len() as u64, MANY);
+        holds_at!(&rt, order, map.depth() <= MOST_DEPTH);
+        let small = Builder::new().stack_size(SMALL_STACK);
+        ok!(&rt, small.spawn(&rt, move || drop(map))).join(&rt);
+    }
 }

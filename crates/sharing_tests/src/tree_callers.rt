@@ -1,14 +1,17 @@
-// What the callers in `shared_trees` answer if memory is ample.
+// What the callers in `persistent` and `shared_trees` answer if memory is ample.
 use facts::{holds, ok, same};
+use persistent::TreeMap;
+use persistent::versions::before_and_after;
 use servo_arc::Arc;
-use shared_trees::{Declared, Inline, TreeMap, restyle, versions};
+use shared_trees::{Declared, Inline, restyle, versions};
 
 #[test]
 fn callers_read_both_versions(rt: HostRuntime) {
     let (old, new) = ok!(&rt, versions::two_lists(rt.alloc()));
     holds!(&rt, old.iter().eq(&[1]) && new.iter().eq(&[2, 1]));
-    let map = ok!(&rt, TreeMap::new().insert(rt.alloc(), 3, 4));
-    let values = ok!(&rt, versions::before_and_after(rt.alloc(), &map, 3, 5));
+    let mut map = TreeMap::new();
+    ok!(&rt, map.insert(rt.alloc(), 3, 4));
+    let values = ok!(&rt, before_and_after(rt.alloc(), &mut map, 3, 5));
     same!(&rt, values, (Some(4), Some(5)));
     let (old_leaf, new_leaf) = ok!(&rt, restyle::two_leaves(rt.alloc()));
     same!(&rt, (*old_leaf.value(), *new_leaf.value()), (1, 2));

@@ -1,66 +1,95 @@
-// How many nodes a change makes, and what it drops. A node that a change makes out of an old one has a copy of its
+// How many values a change copies, and what it drops. A node that a change makes out of an old one has a copy of its
 // value.
+use crate::orders::Order;
 use facts::counted::{Counted, Tally};
-use facts::{again, holds, ok, same};
-use shared_trees::{List, TreeMap};
+use facts::{again, holds, holds_at, ok, same, same_at};
+use persistent::TreeMap;
+use shared_trees::List;
 use std::alloc::{AllocError, Global};
 
 const KEYS: u64 = 1000;
 
-// On average a change copies no more than this: 2 log2 of the keys.
-const MOST_COPIES: u64 = 20;
+type Map<'a> = TreeMap<u64, Counted<'a>>;
 
-// Keys that are far from each other, one after the other.
-fn scattered(key: u64) -> u64 {
-    (key % KEYS * 617) % KEYS
-}
-
-fn up_to<'a>(
-    alloc: Global,
-    tally: &'a Tally,
-    len: u64,
-) -> Result<TreeMap<Counted<'a>>, AllocError> {
+// A map of the first even keys.
+fn evens<'a>(alloc: Global, tally: &'a Tally, order: Order) -> Result<Map<'a>, AllocError> {
     let mut map = TreeMap::new();
-    for key in 0..len {
-        map = map.insert(alloc, scattered(key), Counted::new(tally, key))?;
+    for place in 0..KEYS {
+        let key = order.key(place, KEYS);
+        map.insert(alloc, 2 * key, Counted::new(tally, key))?;
     }
     Ok(map)
 }
 
-#[test]
-fn a_change_copies_its_path_alone(rt: HostRuntime) {
-    let tally = Tally::new();
-    let map = ok!(&rt, up_to(rt.alloc(), &tally, KEYS));
-    same!(&rt, map.len() as u64, KEYS);
-    holds!(&rt, tally.copies() <= KEYS.wrapping_mul(MOST_COPIES));
-    let before = tally.copies();
-    let mut less = again!(&rt, &map);
-    for key in 0..KEYS {
-        less = ok!(&rt, less.remove(rt.alloc(), key));
-    }
-    let copies = tally.copies().wrapping_sub(before);
-    holds!(
-        &rt,
-        less.is_empty() && copies <= KEYS.wrapping_mul(MOST_COPIES),
-    );
+// How many values there are, if so many were made by no copy.
+fn living(tally: &Tally, made: u64) -> u64 {
+    tally
+        .copies()
+        .wrapping_add(made)
+        .wrapping_sub(tally.drops())
 }
+
+// Keys in order take single rotations alone, which a version does in place if it shares nothing.
+#[test]
+fn a_lone_version_copies_nothing(rt: HostRuntime) {
+    for order in [Order::Rising, Order::Falling] {
+        let tally = Tally::new();
+        let map = ok!(&rt, evens(rt.alloc(), &tally, order));
+        let found = (0..KEYS).all(|key| map.contains(&(2 * key)));
+        same_at!(
+            &rt,
+            order,
+            (found, tally.copies(), tally.drops()),
+            (true, 0, 0)
+        );
+    }
+}
+
+// Where a double rotation may be due, two or three of the path are copied twice.
+const TWICE: u64 = 3;
+
+#[test]
+fn an_insert_copies_its_path_alone(rt: HostRuntime) {
+    for order in [Order::Rising, Order::Inward] {
+        let tally = Tally::new();
+        let map = ok!(&rt, evens(rt.alloc(), &tally, order));
+        let depth = u64::from(map.depth());
+        for key in 0..2 * KEYS {
+            let (copies, drops) = (tally.copies(), tally.drops());
+            let mut version = again!(&rt, &map);
+            ok!(
+                &rt,
+                version.insert(rt.alloc(), key, Counted::new(&tally, key))
+            );
+            let copied = tally.copies().wrapping_sub(copies);
+            let kept = copied.wrapping_sub(tally.drops().wrapping_sub(drops));
+            holds_at!(&rt, (order, key), kept <= depth);
+            holds_at!(&rt, (order, key), copied <= depth.wrapping_add(TWICE));
+        }
+    }
+}
+
+// On average a removal copies no more than this: 2 log2 of the keys.
+const MOST_COPIES: u64 = 20;
 
 // Both versions have all the nodes but those on the path, and each value ends with the last version that has it.
 #[test]
 fn a_value_ends_with_its_last_version(rt: HostRuntime) {
     let tally = Tally::new();
-    let old = ok!(&rt, up_to(rt.alloc(), &tally, KEYS));
-    let made = KEYS.wrapping_add(tally.copies());
-    same!(&rt, made.wrapping_sub(tally.drops()), KEYS);
-    let copies = tally.copies();
-    let new = ok!(&rt, old.insert(rt.alloc(), 500, Counted::new(&tally, 0)));
-    let own = tally.copies().wrapping_sub(copies).wrapping_add(1);
-    let drops = tally.drops();
-    drop(new);
-    same!(&rt, tally.drops().wrapping_sub(drops), own);
+    let old = ok!(&rt, evens(rt.alloc(), &tally, Order::Inward));
+    same!(&rt, living(&tally, KEYS), KEYS);
+    let (copies, mut new) = (tally.copies(), again!(&rt, &old));
+    for key in 0..KEYS {
+        holds!(&rt, ok!(&rt, new.remove(rt.alloc(), &(2 * key))).is_some());
+    }
+    let copied = tally.copies().wrapping_sub(copies);
+    holds!(&rt, copied <= KEYS.wrapping_mul(MOST_COPIES));
+    same!(&rt, (new.len(), living(&tally, KEYS)), (0, KEYS));
+    ok!(&rt, new.insert(rt.alloc(), 1, Counted::new(&tally, 1)));
     drop(old);
-    let made = KEYS.wrapping_add(1).wrapping_add(tally.copies());
-    same!(&rt, tally.drops(), made);
+    same!(&rt, living(&tally, KEYS.wrapping_add(1)), 1);
+    drop(new);
+    same!(&rt, living(&tally, KEYS.wrapping_add(1)), 0);
 }
 
 #[test]

@@ -6,10 +6,10 @@ use persistent::TreeMap;
 use std::alloc::{AllocError, Global};
 use std::thread::Builder;
 
-fn trees(alloc: Global) -> Result<TreeMap<String, u32>, AllocError> {
+fn three(alloc: Global) -> Result<TreeMap<(char, u8), u32>, AllocError> {
     let mut map = TreeMap::new();
-    for (name, number) in [("oak", 5), ("elm", 3), ("yew", 8)] {
-        map.insert(alloc, String::from_str(alloc, name)?, number)?;
+    for (key, value) in [(('b', 2), 5), (('a', 9), 3), (('b', 1), 8)] {
+        map.insert(alloc, key, value)?;
     }
     Ok(map)
 }
@@ -18,20 +18,23 @@ fn trees(alloc: Global) -> Result<TreeMap<String, u32>, AllocError> {
 #[test]
 fn versions_read_as_they_were_made(rt: HostRuntime) {
     let alloc = rt.alloc();
-    let old = ok!(&rt, trees(alloc));
-    let (copy, mut new) = (again!(&rt, &old), again!(&rt, &old));
-    let [elm, yew] = ["elm", "yew"].map(|name| ok!(&rt, String::from_str(alloc, name)));
-    ok!(&rt, new.insert(alloc, elm, 4));
-    same!(&rt, ok!(&rt, new.remove(alloc, &yew)), Some(8));
+    let old = ok!(&rt, three(alloc));
+    let copy = again!(&rt, &old);
+    let mut new = again!(&rt, &old);
+    ok!(&rt, new.insert(alloc, ('a', 9), 4));
+    same!(&rt, ok!(&rt, new.remove(alloc, &('b', 1))), Some(8));
     let texts = ok!(&rt, format!(in alloc; "{old:?} {new:?}"));
     same!(
         &rt,
         texts.as_str(),
-        r#"{"elm": 3, "oak": 5, "yew": 8} {"elm": 4, "oak": 5}"#,
+        "{('a', 9): 3, ('b', 1): 8, ('b', 2): 5} {('a', 9): 4, ('b', 2): 5}",
     );
     let are_one = [&copy, &new].map(|map| TreeMap::ptr_eq(&old, map));
-    let are_equal = [&copy, &new].map(|map| old == *map);
-    same!(&rt, (are_one, are_equal), ([true, false], [true, false]));
+    same!(
+        &rt,
+        (are_one, old == copy, old == new),
+        ([true, false], true, false)
+    );
 }
 
 #[test]

@@ -13,6 +13,7 @@ impl Order {
     /// The key at that place, of the keys below that number.
     pub fn key(self, place: u64, keys: u64) -> u64
         requires { place < keys }
+        ensures { result < keys }
     {
         match self {
             Order::Rising => place,

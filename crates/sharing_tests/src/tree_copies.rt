@@ -36,12 +36,9 @@ fn a_lone_version_copies_nothing(rt: HostRuntime) {
         let tally = Tally::new();
         let map = ok!(&rt, evens(rt.alloc(), &tally, order));
         let found = (0..KEYS).all(|key| map.contains(&(2 * key)));
-        same_at!(
-            &rt,
-            order,
-            (found, tally.copies(), tally.drops()),
-            (true, 0, 0)
-        );
+        same_at!(&rt, order, (found, tally.drops()), (true, 0));
+        drop(map);
+        same_at!(&rt, order, (tally.copies(), tally.drops()), (0, KEYS));
     }
 }
 
@@ -55,17 +52,20 @@ fn an_insert_copies_its_path_alone(rt: HostRuntime) {
         let map = ok!(&rt, evens(rt.alloc(), &tally, order));
         let depth = u64::from(map.depth());
         for key in 0..2 * KEYS {
-            let (copies, drops) = (tally.copies(), tally.drops());
+            let (copies, before) = (tally.copies(), living(&tally, 0));
             let mut version = again!(&rt, &map);
             ok!(
                 &rt,
                 version.insert(rt.alloc(), key, Counted::new(&tally, key))
             );
             let copied = tally.copies().wrapping_sub(copies);
-            let kept = copied.wrapping_sub(tally.drops().wrapping_sub(drops));
+            let kept = living(&tally, 0).wrapping_sub(before);
             holds_at!(&rt, (order, key), kept <= depth);
             holds_at!(&rt, (order, key), copied <= depth.wrapping_add(TWICE));
+            drop(version);
+            same_at!(&rt, (order, key), living(&tally, 1), before);
         }
+        drop(map);
     }
 }
 

@@ -4,7 +4,6 @@ ghost use Rattle.std.specs.Iterator.{UpTo, YieldsFirstRef, YieldsLastRef, item_c
 ghost use Rattle.std.specs.Iterator.SizeHint.{IsWithinCount};
 
 use crate::map::TreeMap;
-use crate::numbered::Numbered;
 use std::alloc::AllocError;
 use std::iter::FusedIterator;
 use std::marker::Model;
@@ -42,7 +41,7 @@ impl<'a, K: Ord, V> IntoIterator for &'a TreeMap<K, V> {
         Iter {
             map: self,
             from: 0,
-            to: self.count(),
+            to: self.len(),
         }
     }
 }
@@ -69,7 +68,7 @@ impl<'a, K: Ord, V> Iterator for Iter<'a, K, V> {
             return None;
         }
         let map = self.map;
-        let entry = map.numbered(self.from)?;
+        let entry = map.entry(self.from)?;
         self.from += 1;
         Some(entry)
     }
@@ -94,7 +93,7 @@ impl<'a, K: Ord, V> DoubleEndedIterator for Iter<'a, K, V> {
             return None;
         }
         let map = self.map;
-        let entry = map.numbered(self.to - 1)?;
+        let entry = map.entry(self.to - 1)?;
         self.to -= 1;
         Some(entry)
     }

@@ -6,7 +6,6 @@ ghost use Rattle.std.specs.Ordering.{is_eq};
 ghost use Rattle.servo_arc.specs.Copies.{CopiesAreEqual};
 ghost use Rattle.persistent.specs.Maps.{IsRising, lookup, with_entries, with_entry, without};
 
-use crate::numbered::Numbered;
 use crate::tree::Tree;
 use servo_arc::Arc;
 use std::alloc::{AllocError, Global};
@@ -14,7 +13,6 @@ use std::marker::Model;
 
 /// A map in the order of its keys. Its clones are versions of it, which share all that no change has touched: what
 /// is changed in one of them is seen in no other.
-#[derive(Drop)]
 pub struct TreeMap<K: Ord, V> {
     pub(crate) tree: Tree<K, V>,
 }
@@ -25,6 +23,14 @@ impl<K: Ord, V> Model for TreeMap<K, V> {
     ghost Value = { List (K × V) };
 
     ghost view = { λ m. m.tree.0 };
+}
+
+/// At most 128 drops one inside the other.
+impl<K: Ord + Drop, V: Drop> Drop for TreeMap<K, V> {
+    fn drop(self) {
+        let TreeMap { tree } = self;
+        drop(tree);
+    }
 }
 
 /// One more version: one raise of a count, with no copy and no memory. It is refused as the `clone` of an `Arc` is.
@@ -88,21 +94,21 @@ impl<K: Ord, V> TreeMap<K, V> {
     pub fn entry(&self, index: usize) -> Option<&(K, V)>
         ensures { option_copied result ≡ slice_get self.now index }
     {
-        self.numbered(index)
+        self.tree.numbered(index)
     }
 
     /// The entry of the least key.
     pub fn first(&self) -> Option<&(K, V)>
         ensures { option_copied result ≡ slice_get self.now 0 }
     {
-        self.numbered(0)
+        self.entry(0)
     }
 
     /// The entry of the greatest key.
     pub fn last(&self) -> Option<&(K, V)>
         ensures { option_copied result ≡ slice_get self.now (length self.now - 1) }
     {
-        self.numbered(self.len().checked_sub(1)?)
+        self.entry(self.len().checked_sub(1)?)
     }
 }
 

@@ -5,7 +5,6 @@ ghost use Rattle.persistent.specs.Maps.{IsRising, without};
 ghost use Rattle.persistent.specs.Nodes.{DifferByAtMost};
 
 use crate::make::clone_entry;
-use crate::numbered::Numbered;
 use crate::tree::Tree;
 use std::alloc::{AllocError, Global};
 use std::cmp::Ordering;

@@ -4,7 +4,6 @@ ghost use Rattle.std.specs.Option.{option_copied};
 ghost use Rattle.persistent.specs.Maps.{IsRising, lookup};
 ghost use Rattle.persistent.specs.Nodes.{FitsHeight, IsTree, summary};
 
-use crate::numbered::Numbered;
 use servo_arc::Arc;
 use std::alloc::AllocError;
 use std::cmp::Ordering;
@@ -66,7 +65,10 @@ impl<K: Ord, V> Tree<K, V> {
     pub(crate) fn len(&self) -> usize
         ensures { result ≡ length self.now.0 }
     {
-        self.count()
+        match &self.root {
+            None => 0,
+            Some(node) => node.len,
+        }
     }
 
     pub(crate) fn height(&self) -> u8

@@ -20,7 +20,7 @@ mkdir -p "$out"
 for kind in core table; do
     "$here/make_script.py" "$kind" 1000000 >"$out/$kind.txt"
 done
-arcbench=$here/../out/arcbench
+arcbench=$here/../crates/arcbench/out/arcbench
 exec "$here/compare.py" "$out/bench" "$here/../crates/arcspeed/out/arcspeed" --goals "$here/goals.tsv" \
     --script core 8 "$out/core.txt" "$out/script" "$arcbench" \
     --script table 1000 "$out/table.txt" "$out/script" "$arcbench" "$@"

@@ -1,6 +1,6 @@
 //! A long list whose versions share their items.
 use crate::fault::Fault;
-use shared_trees::List;
+use persistent::List;
 use std::alloc::Global;
 
 /// So many that the nodes are more than a cache has room for.

@@ -1,8 +1,8 @@
 //! Values that are read through handles.
 use crate::fault::{Fault, made};
+use crate::random::Random;
 use servo_arc::Arc;
 use std::alloc::Global;
-use workloads::Random;
 
 /// So many that they and their blocks are more than a cache has room for.
 const HANDLES: u64 = 1_000_000;

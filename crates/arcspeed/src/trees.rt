@@ -1,8 +1,8 @@
 //! Versions of a search tree, which share the branches that a change left alone.
 use crate::fault::Fault;
+use crate::random::Random;
 use persistent::TreeMap;
 use std::alloc::Global;
-use workloads::Random;
 
 /// The keys of the tree.
 const KEYS: usize = 100_000;

@@ -1,8 +1,8 @@
 //! Handles of one of two types.
 use crate::fault::{Fault, made};
+use crate::random::Random;
 use servo_arc::{Arc, ArcUnion, ArcUnionBorrow};
 use std::alloc::Global;
-use workloads::Random;
 
 #[inline(never)]
 pub fn union_clone(alloc: Global, iterations: u64) -> Result<u64, Fault> {

@@ -1,8 +1,8 @@
 //! Versions of a list.
 use crate::fault::Fault;
+use crate::random::Random;
 use cow_table::CowTable;
 use std::alloc::Global;
-use workloads::Random;
 
 /// The items of the list, and those of a page of it.
 const ITEMS: usize = 100_000;

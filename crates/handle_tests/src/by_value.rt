@@ -1,8 +1,8 @@
 // What a handle has by its value: order and hash.
 use crate::made::arc_of;
-use facts::{ok, same};
 use servo_arc::Arc;
 use std::collections::HashMap;
+use test_support::{ok, same};
 
 #[test]
 fn a_map_is_keyed_by_handles(rt: HostRuntime) {

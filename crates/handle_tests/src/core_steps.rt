@@ -1,8 +1,8 @@
 //! Each public call of a core once. What `arcbench` prints for whole scripts is tested in `script_runs`.
-use facts::{again, ok, same};
 use servo_arc::counting_core::{Answer, Core, Step};
 use servo_arc::word::MAX_REFCOUNT;
 use std::alloc::{AllocError, Global};
+use test_support::{again, ok, same};
 
 const GIVE: Step<u32> = Step::Give {
     owner: 7,

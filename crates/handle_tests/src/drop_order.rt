@@ -3,13 +3,13 @@ ghost use Rattle.std.specs.Prelude.{◌==◌};
 ghost use Rattle.std.specs.Cmp.{on_per, partial_equiv_from_equiv};
 ghost use Rattle.std.proofs.lemmas.Cmp.{nat_eq_equiv};
 
-use facts::{again, ok, same, same_at};
 use servo_arc::{Arc, BuildError, HeaderSlice, UniqueArc};
 use std::alloc::{AllocError, Global};
 use std::process::Abort;
 use std::sync::atomic::AtomicU64;
 use std::sync::atomic::Ordering::SeqCst;
 use std::vec::IntoIter;
+use test_support::{again, ok, same, same_at};
 
 /// How many values were dropped, and how many of them out of their turn.
 #[derive(Drop)]

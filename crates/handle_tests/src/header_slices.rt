@@ -2,13 +2,13 @@
 ghost use Rattle.std.specs.Prelude.{◌≡◌, length};
 
 use crate::by_bound::are_equal;
-use facts::{holds, ok, same, same_at};
 use servo_arc::{Arc, HeaderSlice, ThinArc, UniqueArc};
 use std::cmp::Ordering;
 use std::collections::HashMap;
 use std::mem;
 use std::process::Abort;
 use std::vec::IntoIter;
+use test_support::{holds, ok, same, same_at};
 
 #[derive(Clone, Copy)]
 struct Padded {

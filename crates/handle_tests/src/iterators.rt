@@ -1,7 +1,6 @@
 // How often an iterator is asked, and what is built of what it answers.
 ghost use Rattle.std.specs.Prelude.{◌≤◌};
 
-use facts::{ok, same, same_at};
 use servo_arc::{Arc, BuildError, ThinArc, UniqueArc};
 use std::alloc::{AllocError, Global};
 use std::fmt::Debug;
@@ -9,6 +8,7 @@ use std::process::Abort;
 use std::sync::atomic::AtomicU64;
 use std::sync::atomic::Ordering::SeqCst;
 use std::vec::IntoIter;
+use test_support::{ok, same, same_at};
 
 // Gives these answers in turn and then only `None`, so that it may go on after a `None`, and counts how often it was
 // asked.

@@ -2,11 +2,11 @@
 // keeps it.
 ghost use Rattle.servo_arc.specs.CountingWord.{IsLimit};
 
-use facts::{again, ok, same, same_at};
 use servo_arc::word::MAX_REFCOUNT;
 use servo_arc::{Arc, ArcUnion, BuildError, Full, ThinArc, UniqueArc};
 use std::alloc::{AllocError, Global};
 use std::sync::Wait;
+use test_support::{again, ok, same, same_at};
 
 fn limited(alloc: Global, limit: u64) -> Result<Arc<u64>, AllocError>
     requires { IsLimit limit }

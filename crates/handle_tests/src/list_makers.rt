@@ -1,9 +1,9 @@
 // Header slices of a slice, of a vector, and of items that may be errors.
-use callers::counted_lists::counted_items;
-use facts::counted::{Counted, Tally};
-use facts::{ok, same, same_at};
 use servo_arc::{Arc, BuildError, HeaderSlice, ThinArc, UniqueArc};
 use std::process::Abort;
+use test_support::counted::{Counted, Tally};
+use test_support::counted_lists::counted_items;
+use test_support::{ok, same, same_at};
 
 #[derive(Clone, Copy, Debug, PartialEq)]
 enum Maker {

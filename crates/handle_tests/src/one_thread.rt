@@ -1,9 +1,9 @@
 // Each call once, at values that count.
 use crate::by_bound::are_equal;
 use crate::made::arc_of;
-use facts::counted::{Counted, Tally};
-use facts::{again, ok, same};
 use servo_arc::{Arc, UniqueArc};
+use test_support::counted::{Counted, Tally};
+use test_support::{again, ok, same};
 
 #[test]
 fn the_last_handle_drops_the_value(rt: HostRuntime) {

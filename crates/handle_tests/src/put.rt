@@ -1,8 +1,8 @@
 //! Handles that are made outside and put into a table.
-use facts::{again, ok, same};
 use servo_arc::table::{PlainCommand, Reply, Table};
 use servo_arc::{Arc, HeaderSlice, ThinArc};
 use std::process::Abort;
+use test_support::{again, ok, same};
 
 fn thin_of(rt: &(impl Abort + AllocGlobal), header: u32, items: &[u32]) -> ThinArc<u32, u32> {
     let items = ok!(rt, items.to_vec(rt.alloc())).into_iter();

@@ -1,11 +1,11 @@
 // Equal values in different blocks are told apart, and handles of one block are not, at each length and place.
 use crate::made::arc_of;
 use cow_table::CowTable;
-use facts::{again, ok, same, same_at};
-use persistent::TreeMap;
+use persistent::{List, TreeMap};
 use servo_arc::{Arc, ArcUnion};
-use shared_trees::{List, Rose};
 use std::alloc::{AllocError, Global};
+use test_support::{again, ok, same, same_at};
+use uses::rose::Rose;
 
 #[test]
 fn handles_are_told_apart(rt: HostRuntime) {

@@ -1,10 +1,10 @@
 // Long runs, many slots and a long slice: a cap that nobody asked for would refuse them.
 use cow_table::CowTable;
-use facts::{again, ok, same};
 use servo_arc::shared_count::SharedCount;
 use servo_arc::table::{Command, PlainCommand, Reply, Table, UnionCommand, UnionTable};
 use servo_arc::{Arc, ThinArc};
 use std::alloc::{AllocError, Global};
+use test_support::{again, ok, same};
 
 // More than sixteen bits can count.
 const MANY: usize = 70_000;

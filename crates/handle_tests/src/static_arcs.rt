@@ -1,12 +1,12 @@
 // Handles that know their block to be marked, in one thread.
 use crate::by_bound::are_equal;
 use crate::made::arc_of;
-use facts::counted::{Counted, Tally};
-use facts::{again, holds, ok, same};
 use servo_arc::{Arc, StaticArc, ThinArc, UniqueArc};
 use std::cmp::Ordering;
 use std::collections::HashMap;
 use std::sync::OnceLock;
+use test_support::counted::{Counted, Tally};
+use test_support::{again, holds, ok, same};
 
 type Kept<T> = StaticArc<'static, T>;
 

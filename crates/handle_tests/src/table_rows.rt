@@ -1,9 +1,9 @@
 //! What no clause says: that commands are served if memory is ample, and which of two allowed
 //! replies comes when. What `serve` replies is tested by the scripts of `script_runs`.
 use crate::told::parted;
-use facts::{ok, same};
 use servo_arc::table::{Command, PlainCommand, Reply, Table};
 use std::process::Abort;
+use test_support::{ok, same};
 
 /// Runs commands. Each gets the reply beside it.
 fn check(

@@ -1,5 +1,5 @@
-//! What the macros of `facts` tell.
-use facts::compared;
+//! What the macros of `test_support` report.
+use test_support::compared;
 
 #[test]
 fn what_differs_is_told_with_both_values(rt: HostRuntime) {

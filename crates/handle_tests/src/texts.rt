@@ -1,10 +1,10 @@
 // The printed texts.
 use crate::made::arc_of;
-use facts::{ok, same, same_at};
 use servo_arc::{Arc, ArcUnion, BuildError, Full, UniqueArc};
 use std::alloc::{AllocError, Global};
 use std::fmt;
 use std::fmt::Write;
+use test_support::{ok, same, same_at};
 
 type Numbers = ArcUnion<u32, u32>;
 

@@ -1,10 +1,10 @@
 //! What no clause says of a table of unions: that commands are served if memory is ample, and
 //! which of two allowed replies comes when.
 use crate::told::parted;
-use facts::{again, ok, same};
 use servo_arc::table::{Reply, UnionCommand, UnionTable};
 use servo_arc::{Arc, ArcUnion, ArcUnionBorrow, HeaderSlice};
 use std::process::Abort;
+use test_support::{again, ok, same};
 
 type Told = (UnionCommand<u32, u32>, Reply);
 

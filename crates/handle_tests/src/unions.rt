@@ -1,8 +1,8 @@
 // Borrowed handles, and unions of handles.
 use crate::by_bound::{are_equal, hash_of, is_less};
 use crate::made::arc_of;
-use facts::{again, holds, ok, same};
 use servo_arc::{Arc, ArcBorrow, ArcUnion, ArcUnionBorrow};
+use test_support::{again, holds, ok, same};
 
 type Numbers = ArcUnion<u32, u32>;
 

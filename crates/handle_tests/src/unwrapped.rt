@@ -1,10 +1,10 @@
 // The calls that take the value out of its block, at values that count their copies and drops.
 use crate::made::arc_of;
-use facts::counted::{Counted, Tally};
-use facts::{again, holds, holds_at, ok, same, same_at};
 use servo_arc::{Arc, UniqueArc};
 use std::alloc::{AllocError, Global};
 use std::process::Abort;
+use test_support::counted::{Counted, Tally};
+use test_support::{again, holds, holds_at, ok, same, same_at};
 
 #[derive(Clone, Copy, Debug, PartialEq)]
 enum Block {

@@ -1,9 +1,9 @@
 //! Each function once, at the words on both sides of its rule.
-use facts::same;
 use servo_arc::word::{
     ClonePlan, DropPlan, MARK, MAX_REFCOUNT, is_alone, is_last, is_marked, plan_clone, plan_drop,
     with_mark,
 };
+use test_support::same;
 
 #[test]
 fn a_clone_is_planned_by_mark_and_limit(rt: HostRuntime) {

@@ -1,13 +1,13 @@
 // What a builder of header slices leaves.
 use crate::telling::tell;
-use facts::counted::{Counted, Tally};
-use facts::{same, same_at};
 use servo_arc::{Arc, BuildError, HeaderSlice, UniqueArc};
 use std::alloc::{AllocError, Global};
 use std::io::Print;
 use std::process::Abort;
 use std::sync::atomic::AtomicU64;
 use std::sync::atomic::Ordering::SeqCst;
+use test_support::counted::{Counted, Tally};
+use test_support::{same, same_at};
 
 // What was asked of an iterator, and what was dropped.
 #[derive(Drop)]

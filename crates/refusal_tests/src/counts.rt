@@ -1,8 +1,8 @@
 // What a shared count that could not be opened leaves.
 use crate::telling::tell;
-use callers::opened::open_two;
-use facts::holds;
 use servo_arc::shared_count::{EndReply, TryClone};
+use test_support::holds;
+use test_support::opened::open_two;
 
 // No other call makes a request.
 #[test]

@@ -1,13 +1,13 @@
 // What a call that makes a handle or copies its value leaves.
 use crate::telling::tell;
-use facts::counted::{Counted, Tally};
-use facts::{holds, same};
-use recursive_types::by_static::in_front;
 use servo_arc::word::MAX_REFCOUNT;
 use servo_arc::{Arc, UniqueArc};
 use std::alloc::{AllocError, Global};
 use std::io::Print;
 use std::process::Abort;
+use test_support::counted::{Counted, Tally};
+use test_support::{holds, same};
+use uses::recursive::by_static::in_front;
 
 #[derive(Clone, Copy, Debug)]
 enum Maker {

@@ -1,7 +1,7 @@
 // What a run of a script prints that is refused memory, and its status.
 use crate::telling::tell;
-use callers::environment::Arguments;
 use scripts::start;
+use test_support::environment::Arguments;
 
 // The output and the errors of the script are those of the test itself.
 macro_rules! run {

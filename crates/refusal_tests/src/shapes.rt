@@ -1,10 +1,11 @@
 // What a change of a rose tree or of a style leaves.
 use crate::telling::tell;
-use facts::counted::{Counted, Tally};
-use facts::{again, holds, ok, same};
 use servo_arc::{Arc, ArcUnion};
-use shared_trees::{Declared, Inline, Rose, RoseError, Style};
 use std::alloc::{AllocError, Global};
+use test_support::counted::{Counted, Tally};
+use test_support::{again, holds, ok, same};
+use uses::rose::{Rose, RoseError};
+use uses::style::{Declared, Inline, Style};
 
 // 1 over 2 and 3.
 fn three<'a>(alloc: Global, tally: &'a Tally) -> Result<Rose<Counted<'a>>, AllocError> {

@@ -1,8 +1,8 @@
 // What a call on the core leaves, and a run of steps.
 use crate::telling::tell;
-use facts::{ok, same};
 use servo_arc::counting_core::{Answer, Core, Step};
 use servo_arc::word::MAX_REFCOUNT;
+use test_support::{ok, same};
 
 const LOAD: Step<u32> = Step::Load {
     owner: 0,

@@ -1,10 +1,10 @@
 // What a call on a table of handles, or on one of unions, leaves.
 use crate::telling::tell;
-use facts::same;
 use servo_arc::ArcUnionBorrow;
 use servo_arc::table::{Command, PlainCommand, Reply, Table};
 use servo_arc::union_table::{UnionCommand, UnionTable};
 use std::alloc::{AllocError, Global};
+use test_support::same;
 
 #[test]
 fn a_refused_table_is_none(rt: HostRuntime) {

@@ -1,7 +1,7 @@
 // What a run came to. `gate/refused_memory.sh` gathers what all runs tell.
 macro_rules! tell {
     ($rt:expr, $($text:tt)*) => {
-        facts::ok!($rt, println!($rt; $($text)*))
+        test_support::ok!($rt, println!($rt; $($text)*))
     };
 }
 

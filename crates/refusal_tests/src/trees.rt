@@ -1,10 +1,9 @@
 // What a call on versions of a list or a map leaves.
 use crate::telling::tell;
-use facts::counted::{Counted, Tally};
-use facts::{again, holds, same};
-use persistent::TreeMap;
-use shared_trees::List;
+use persistent::{List, TreeMap};
 use std::alloc::{AllocError, Global};
+use test_support::counted::{Counted, Tally};
+use test_support::{again, holds, same};
 
 #[test]
 fn a_refused_push_leaves_the_list(rt: HostRuntime) {

@@ -1,10 +1,10 @@
 // What a call on versions of a list leaves.
 use crate::telling::tell;
-use callers::counted_lists::counted_items;
 use cow_table::{CowTable, SetError};
-use facts::counted::Tally;
-use facts::{holds, same};
 use std::alloc::{AllocError, Global};
+use test_support::counted::Tally;
+use test_support::counted_lists::counted_items;
+use test_support::{holds, same};
 
 #[test]
 fn items_that_get_no_pages_are_dropped(rt: HostRuntime) {

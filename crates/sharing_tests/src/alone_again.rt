@@ -2,12 +2,12 @@
 // once the other is gone. Between these both answers are possible.
 use crate::made::arc_of;
 use crate::waiting::{MOST_TURNS, have_come, wait_for};
-use facts::{again, holds, ok};
 use servo_arc::{Arc, UniqueArc};
 use std::process::Abort;
 use std::sync::atomic::AtomicU64;
 use std::sync::atomic::Ordering::SeqCst;
 use std::thread;
+use test_support::{again, holds, ok};
 
 const ROUNDS: u64 = 1000;
 

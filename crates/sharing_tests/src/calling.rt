@@ -1,15 +1,15 @@
 // The callers of the documentation, called.
 use crate::lists::SMALL_STACK;
-use callers::edits::{Document, two_titles};
-use callers::stack::Stack;
-use callers::styles::{
+use servo_arc::{Arc, BuildError};
+use std::thread::Builder;
+use test_support::counted::{Counted, Tally};
+use test_support::{again, holds, ok, same};
+use uses::edits::{Document, two_titles};
+use uses::stack::Stack;
+use uses::text_style::{
     Style, plain_and_bold, plain_style, properties, properties_of, put_under, rule_of, size_of,
     styled,
 };
-use facts::counted::{Counted, Tally};
-use facts::{again, holds, ok, same};
-use servo_arc::{Arc, BuildError};
-use std::thread::Builder;
 
 #[test]
 fn a_bold_style_leaves_the_plain_one(rt: HostRuntime) {

@@ -1,7 +1,7 @@
 // The worked rows of the shared count, in one thread.
-use callers::opened::{open_one, open_two};
 use servo_arc::shared_count::{EndReply, SharedCount, TryClone, laws};
 use std::test::Fail;
+use test_support::opened::{open_one, open_two};
 
 #[test]
 fn a_pass_alone_is_unique_and_ends_last(rt: HostRuntime) -> Result<(), Fail> {

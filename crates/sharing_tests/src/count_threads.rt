@@ -3,12 +3,12 @@ ghost use Rattle.std.specs.Prelude.{◌≡◌, ◌+◌, ◌<◌};
 ghost use Rattle.servo_arc.specs.Passes.{handles};
 
 use crate::waiting::arrive;
-use callers::two_threads::look_in_two_threads;
 use servo_arc::shared_count::{CountPass, EndReply, SharedCount, TryClone};
 use std::process::Abort;
 use std::sync::atomic::AtomicU64;
 use std::test::Fail;
 use std::thread::{Threads, join};
+use uses::two_threads::look_in_two_threads;
 
 const TURNS: u32 = 10_000;
 

@@ -1,7 +1,7 @@
 // A handle that another thread makes, is lent and is given, and a list that is lent.
-use callers::crossing::{end_elsewhere, is_unique_elsewhere, len_elsewhere, made_elsewhere};
-use facts::{again, ok, same};
-use shared_trees::List;
+use persistent::List;
+use test_support::{again, ok, same};
+use uses::crossing::{end_elsewhere, is_unique_elsewhere, len_elsewhere, made_elsewhere};
 
 #[test]
 fn a_handle_crosses_threads(rt: HostRuntime) {

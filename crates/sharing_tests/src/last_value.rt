@@ -1,11 +1,11 @@
 // Two threads end the two handles of a block at once, by the call that gives the value to the last of them.
 use crate::made::arc_of;
 use crate::waiting::arrive;
-use facts::{again, holds};
 use servo_arc::Arc;
 use std::process::Abort;
 use std::sync::atomic::AtomicU64;
 use std::thread;
+use test_support::{again, holds};
 
 const ROUNDS: u64 = 1000;
 

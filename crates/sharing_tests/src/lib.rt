@@ -1,5 +1,5 @@
 //! Tests of what is shared. Threads share one block or one count: clones, drops, marks, writes and tokens against each
-//! other. Versions of `cow_table`, `persistent` and `shared_trees` share pages and nodes, as do the callers: what no
+//! other. Versions of `cow_table` and `persistent` share pages and nodes, as do the callers in `uses`: what no
 //! contract says.
 #![tactic(auto)]
 

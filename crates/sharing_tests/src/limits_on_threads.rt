@@ -1,12 +1,12 @@
 // Threads that clone one lent handle of a block with a limit. Each is joined.
 use crate::waiting::arrive;
-use facts::{holds, ok, same};
 use servo_arc::{Arc, Full};
 use std::process::Abort;
 use std::sync::Wait;
 use std::sync::atomic::AtomicU64;
 use std::sync::atomic::Ordering::SeqCst;
 use std::thread;
+use test_support::{holds, ok, same};
 
 // The lent handle and two clones.
 const LIMIT: u64 = 3;

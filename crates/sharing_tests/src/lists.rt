@@ -1,8 +1,8 @@
 // What lists share and drop.
-use facts::{holds, ok, same};
-use shared_trees::List;
+use persistent::List;
 use std::alloc::{AllocError, Global};
 use std::thread::Builder;
+use test_support::{holds, ok, same};
 
 fn up_to(alloc: Global, len: u64) -> Result<List<u64>, AllocError> {
     let mut list = List::new();

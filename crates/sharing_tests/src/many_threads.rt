@@ -1,9 +1,9 @@
 // More threads, more handles, and each way in which a handle reaches a thread. Each thread is joined.
 use crate::made::arc_of;
-use facts::counted::{Counted, Tally};
-use facts::{again, holds, ok, same};
 use servo_arc::{Arc, RawArc, ThinArc};
 use std::thread;
+use test_support::counted::{Counted, Tally};
+use test_support::{again, holds, ok, same};
 
 const TRIES: u64 = 250_000;
 

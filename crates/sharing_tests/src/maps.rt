@@ -1,10 +1,10 @@
 // What maps share, and how deep they are.
 use crate::lists::SMALL_STACK;
 use crate::orders::Order;
-use facts::{again, holds, holds_at, ok, same, same_at};
 use persistent::TreeMap;
 use std::alloc::{AllocError, Global};
 use std::thread::Builder;
+use test_support::{again, holds, holds_at, ok, same, same_at};
 
 fn three(alloc: Global) -> Result<TreeMap<(char, u8), u32>, AllocError> {
     let mut map = TreeMap::new();

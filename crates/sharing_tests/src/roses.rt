@@ -1,8 +1,8 @@
 // What rose trees share and drop.
-use facts::counted::{Counted, Tally};
-use facts::{holds, ok, same, same_at};
-use shared_trees::{Rose, RoseError};
 use std::alloc::{AllocError, Global};
+use test_support::counted::{Counted, Tally};
+use test_support::{holds, ok, same, same_at};
+use uses::rose::{Rose, RoseError};
 
 // 1 over 2, 3 and 4, of which 3 is over 5 and 6.
 fn six<'a>(alloc: Global, tally: &'a Tally) -> Result<Rose<Counted<'a>>, AllocError> {

@@ -1,11 +1,11 @@
 // Threads that copy one static handle, and a last counted handle that ends meanwhile.
 use crate::made::arc_of;
-use facts::counted::{Counted, Tally};
-use facts::{holds, ok, same};
 use servo_arc::{Arc, StaticArc};
 use std::sync::atomic::AtomicBool;
 use std::sync::atomic::Ordering::SeqCst;
 use std::thread;
+use test_support::counted::{Counted, Tally};
+use test_support::{holds, ok, same};
 
 const HANDLES: u64 = 100_000;
 

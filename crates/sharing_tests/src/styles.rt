@@ -1,9 +1,10 @@
 // What styles share.
-use facts::{again, holds, ok, same};
 use servo_arc::{Arc, ArcUnion};
-use shared_trees::restyle::restyle;
-use shared_trees::{Declared, Inline, Rose, Rule, Style, declared_by};
 use std::alloc::{AllocError, Global};
+use test_support::{again, holds, ok, same};
+use uses::restyle::restyle;
+use uses::rose::Rose;
+use uses::style::{Declared, Inline, Rule, Style, declared_by};
 
 const LARGE: Declared = Declared {
     font_size: Some(40),

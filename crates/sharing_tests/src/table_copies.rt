@@ -1,9 +1,9 @@
 // How many items are copied and dropped, alone and shared.
-use callers::counted_lists::{counted_pages, counted_table};
 use cow_table::{CowTable, SetError};
-use facts::counted::{Counted, Tally};
-use facts::{again, holds, ok, same};
 use std::alloc::Global;
+use test_support::counted::{Counted, Tally};
+use test_support::counted_lists::{counted_pages, counted_table};
+use test_support::{again, holds, ok, same};
 
 // Sets the items at some places in turn. Whether so many copies were made by then as stands beside each place.
 fn makes_copies<'a>(

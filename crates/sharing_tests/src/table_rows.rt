@@ -2,8 +2,8 @@
 ghost use Rattle.std.specs.Prelude.{◌<◌};
 
 use cow_table::{CowTable, Iter, SetError};
-use facts::{again, holds, holds_at, ok, same, same_at};
 use std::alloc::{AllocError, Global};
+use test_support::{again, holds, holds_at, ok, same, same_at};
 
 fn table_of(alloc: Global, items: &[u32], page_len: usize) -> Result<CowTable<u32>, AllocError>
     requires { 0 < page_len }

@@ -1,12 +1,12 @@
 // Versions on several threads, each of which is joined.
-use callers::counted_lists::counted_table;
-use callers::list_editions::{Edition, publish, read_all};
 use cow_table::CowTable;
 use crossbeam_channel::{Receiver, Sender, unbounded};
-use facts::counted::{Counted, Tally};
-use facts::{holds, ok, same};
 use std::alloc::{AllocError, Global};
 use std::thread;
+use test_support::counted::{Counted, Tally};
+use test_support::counted_lists::counted_table;
+use test_support::{holds, ok, same};
+use uses::list_editions::{Edition, publish, read_all};
 
 const EDITIONS: u64 = 1000;
 

@@ -1,13 +1,13 @@
 // Threads that share one block. Each is joined. If two should act at the same moment, each looks for the other before.
 use crate::made::arc_of;
 use crate::waiting::arrive;
-use facts::counted::{Counted, Tally};
-use facts::{again, holds, ok, same};
 use servo_arc::{Arc, ArcUnion};
 use std::process::Abort;
 use std::sync::Wait;
 use std::sync::atomic::AtomicU64;
 use std::thread;
+use test_support::counted::{Counted, Tally};
+use test_support::{again, holds, ok, same};
 
 // Clones and drops when the other thread does.
 fn clone_after(rt: &impl Abort, here: &AtomicU64, handle: Arc<Counted<'_>>) -> bool {

@@ -1,13 +1,14 @@
-// What the callers in `persistent` and `shared_trees` answer if memory is ample.
-use facts::{holds, ok, same};
+// What the callers in `uses` answer if memory is ample.
 use persistent::TreeMap;
-use persistent::versions::before_and_after;
 use servo_arc::Arc;
-use shared_trees::{Declared, Inline, restyle, versions};
+use test_support::{holds, ok, same};
+use uses::restyle;
+use uses::style::{Declared, Inline};
+use uses::versions::{before_and_after, two_lists};
 
 #[test]
 fn callers_read_both_versions(rt: HostRuntime) {
-    let (old, new) = ok!(&rt, versions::two_lists(rt.alloc()));
+    let (old, new) = ok!(&rt, two_lists(rt.alloc()));
     holds!(&rt, old.iter().eq(&[1]) && new.iter().eq(&[2, 1]));
     let mut map = TreeMap::new();
     ok!(&rt, map.insert(rt.alloc(), 3, 4));

@@ -1,11 +1,10 @@
 // How many values a change copies, and what it drops. A node that a change makes out of an old one has a copy of its
 // value.
 use crate::orders::Order;
-use facts::counted::{Counted, Tally};
-use facts::{again, holds, holds_at, ok, same, same_at};
-use persistent::TreeMap;
-use shared_trees::List;
+use persistent::{List, TreeMap};
 use std::alloc::{AllocError, Global};
+use test_support::counted::{Counted, Tally};
+use test_support::{again, holds, holds_at, ok, same, same_at};
 
 const KEYS: u64 = 1000;
 

@@ -1,15 +1,15 @@
 // Versions on several threads, each of which is joined.
 use crate::waiting::arrive;
-use callers::map_editions::{Edition, publish, read_all};
 use crossbeam_channel::{Receiver, Sender, unbounded};
-use facts::counted::{Counted, Tally};
-use facts::{again, ok, same};
-use shared_trees::List;
+use persistent::List;
 use std::alloc::{AllocError, Global};
 use std::process::Abort;
 use std::sync::atomic::AtomicU64;
 use std::test::Fail;
 use std::thread;
+use test_support::counted::{Counted, Tally};
+use test_support::{again, ok, same};
+use uses::map_editions::{Edition, publish, read_all};
 
 const EDITIONS: u64 = 1000;
 

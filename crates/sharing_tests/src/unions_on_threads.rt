@@ -1,9 +1,9 @@
 // Unions on two threads, each of which is joined.
 use crate::made::arc_of;
-use facts::counted::{Counted, Tally};
-use facts::{again, ok, same};
 use servo_arc::ArcUnion;
 use std::thread;
+use test_support::counted::{Counted, Tally};
+use test_support::{again, ok, same};
 
 fn clone_and_drop(union: ArcUnion<Counted<'_>, Counted<'_>>) -> bool {
     for _ in 0..1000 {

@@ -3,10 +3,10 @@
 // block may be taken for two in most calls, if the threads keep in step, so that has none. Once the other threads are
 // gone the answers are right again.
 use crate::made::arc_of;
-use facts::{again, holds, holds_at, ok};
 use servo_arc::Arc;
 use std::thread;
 use std::thread::{Threads, join};
+use test_support::{again, holds, holds_at, ok};
 
 const CALLS: u64 = 250_000;
 

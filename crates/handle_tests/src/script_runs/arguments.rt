@@ -1,9 +1,9 @@
 //! The argument words that are wrong, the largest that are right, and limits of each number of digits.
 use super::fakes::FailingReader;
 use super::runs::{repeated, run_bench};
-use facts::{same, same_at};
 use scripts::bench;
 use std::test::Fail;
+use test_support::{same, same_at};
 
 const WRONG_ARGUMENTS: [&[&str]; 24] = [
     &[],

@@ -1,8 +1,8 @@
 //! Scripts byte by byte: what a line may be, and what is printed up to the first faulty one.
 use super::runs::run_bench;
-use facts::same_at;
 use std::alloc::Global;
 use std::process::Abort;
+use test_support::same_at;
 
 /// A script as its bytes, what it prints up to its fault, and the status.
 type Bytes = (&'static [u8], &'static [u8], u8);

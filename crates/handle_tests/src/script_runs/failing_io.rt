@@ -1,10 +1,10 @@
 //! Runs whose input, output or standard error fails.
 use super::fakes::{FailingReader, FailingWriter, ShortWriter};
-use facts::{same, same_at};
 use scripts::bench;
 use std::alloc::{AllocError, Global};
 use std::io;
 use std::test::Fail;
+use test_support::{same, same_at};
 
 /// A script of two lines, and its answers.
 struct Short {

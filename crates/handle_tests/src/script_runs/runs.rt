@@ -1,8 +1,8 @@
 // Runs of the program, and rows of them.
-use facts::same_at;
 use scripts::bench;
 use std::alloc::{AllocError, Global};
 use std::process::Abort;
+use test_support::same_at;
 
 /// What a run wrote, and how it ended.
 #[derive(Drop)]

@@ -1,8 +1,8 @@
 //! Scripts, cores and tables that are large: caps that nobody asked for would end them.
 use super::runs::{repeated, run_bench};
-use facts::same;
 use std::fmt::Write;
 use std::test::Fail;
+use test_support::same;
 
 // More than sixteen bits can count.
 const MANY: usize = 70_000;

@@ -1,8 +1,8 @@
 //! Runs of the whole program, from the arguments of an environment.
-use callers::environment::Arguments;
-use facts::same_at;
 use scripts::start;
 use std::alloc::Global;
+use test_support::environment::Arguments;
+use test_support::same_at;
 
 /// What a program printed, told on standard error, and ended with.
 type Ended = (Vec<u8>, Vec<u8>, u8);

@@ -1,4 +1,0 @@
-pub mod ListFalls
-pub mod Lists
-pub mod Roses
-pub mod Styles

@@ -1,0 +1,2 @@
+pub mod Roses
+pub mod TwoPasses

@@ -1,0 +1,4 @@
+pub mod Roses
+pub mod Stacks
+pub mod Styles
+pub mod Walks

@@ -1,0 +1,144 @@
+//! A tree of any number of children, whose versions share their branches.
+ghost use Rattle.std.specs.Prelude.{◌≡◌, ◌↔◌, [], Err, None, Some, IfOk, ◌<◌, length, slice_get};
+ghost use Rattle.std.specs.Option.{option_copied};
+ghost use Rattle.servo_arc.specs.Copies.{CopiesAreEqual};
+ghost use Rattle.uses.specs.Roses.{at, branch, children, root, with_child, with_value};
+ghost use Rattle.uses.specs.declared.rose.RoseError.TheVariants.{NoSuchPlace};
+
+use servo_arc::{Arc, ThinArc};
+use std::alloc::{AllocError, Global};
+use thiserror::Error;
+
+/// A value with the trees below it, in one block. A tree is changed by making another, which shares all branches that
+/// the change left alone. A change and the drop go down by a recursion, for which a very deep tree needs much stack.
+///
+/// The values hold no cell, no lock and no atomic: what these hold is written through a shared handle, so that every
+/// version that shares the value reads the change, and no clause speaks of it.
+#[derive(Drop, Debug, PartialEq, Eq)]
+pub struct Rose<V> {
+    node: ThinArc<V, Rose<V>>,
+}
+
+/// Why no version was made. The tree stays as it was.
+#[derive(Clone, Copy, Debug, PartialEq, Eq, Error)]
+pub enum RoseError {
+    /// The path leads out of the tree. No memory was requested.
+    #[error("no such place")]
+    NoSuchPlace,
+    /// There was no memory, or a `clone` was refused.
+    #[error("out of memory")]
+    Memory,
+}
+
+impl From<AllocError> for RoseError {
+    ghost use Rattle.uses.specs.declared.rose.RoseError.TheVariants.{Memory};
+
+    ghost from_gives = { λ _ error. error ≡ Memory };
+
+    fn from(_error: AllocError) -> RoseError {
+        RoseError::Memory
+    }
+}
+
+/// One more handle of the same tree: one raise of a count, with no copy and no memory. It is refused as the
+/// `clone` of an `Arc` is.
+impl<V: Drop> Clone for Rose<V> {
+    ghost is_clone = { λ a b. b ≡ a };
+
+    fn clone(&self) -> Result<Rose<V>, AllocError> {
+        Ok(Rose {
+            node: self.node.clone()?,
+        })
+    }
+}
+
+impl<V> Rose<V> {
+    /// The value at the root.
+    pub fn value(&self) -> &V
+        ensures { result.now ≡ root self.now }
+    {
+        &self.node.header
+    }
+
+    /// The trees below the root.
+    pub fn children(&self) -> &[Rose<V>]
+        ensures { result.now ≡ children self.now }
+    {
+        self.node.slice()
+    }
+
+    /// The child of that number, counted from 0.
+    pub fn child(&self, index: usize) -> Option<&Rose<V>>
+        ensures { option_copied result ≡ slice_get (children self.now) index }
+    {
+        self.children().get(index)
+    }
+
+    /// The tree at the end of the path, which has the number of a child for each step down.
+    pub fn at(&self, path: &[usize]) -> Option<&Rose<V>>
+        ensures { option_copied result ≡ at path.now self.now }
+    {
+        let Some((index, rest)) = path.split_first() else {
+            return Some(self);
+        };
+        self.child(*index)?.at(rest)
+    }
+
+    /// Whether both have the same root, as exactly as `Arc::ptr_eq` says it.
+    pub fn ptr_eq(this: &Rose<V>, other: &Rose<V>) -> bool {
+        Arc::ptr_eq(&this.node, &other.node)
+    }
+}
+
+impl<V: Drop> Rose<V> {
+    /// A tree of that value alone. It is refused if there is no memory, and the value is then dropped.
+    pub fn leaf(alloc: Global, value: V) -> Result<Rose<V>, AllocError>
+        ensures { IfOk result (λ tree. tree ≡ branch value []) }
+    {
+        Rose::with_children(alloc, value, Vec::new(alloc))
+    }
+
+    /// The value with these trees below it. It is refused if there is no memory, and all that it was given is then
+    /// dropped.
+    pub fn with_children(
+        alloc: Global,
+        value: V,
+        trees: Vec<Rose<V>>,
+    ) -> Result<Rose<V>, AllocError>
+        ensures { IfOk result (λ tree. tree ≡ branch value trees.items) }
+    {
+        let node = Arc::from_header_and_vec(alloc, value, trees)?;
+        Ok(Rose { node })
+    }
+}
+
+impl<V: Clone> Rose<V> {
+    /// The tree with that value at the end of the path. The tree itself stays.
+    ///
+    /// It makes a node for each on the path, of a copy of its value and of handles of its children, and shares all
+    /// other trees. If it is refused, the value is dropped.
+    pub fn with_value(&self, alloc: Global, path: &[usize], value: V) -> Result<Rose<V>, RoseError>
+        requires copies { CopiesAreEqual V.is_clone }
+        ensures made { IfOk result (λ tree. Some tree ≡ with_value path.now value self.now) }
+        ensures nowhere { (result ≡ Err NoSuchPlace) ↔ (with_value path.now value self.now ≡ None) }
+    {
+        let Some((index, rest)) = path.split_first() else {
+            let children = self.children().to_vec(alloc)?;
+            return Ok(Rose::with_children(alloc, value, children)?);
+        };
+        let child = self.child(*index).ok_or(RoseError::NoSuchPlace)?;
+        let child = child.with_value(alloc, rest, value)?;
+        Ok(self.with_child(alloc, *index, child)?)
+    }
+
+    // The tree with that child in place of the one that it has there.
+    fn with_child(&self, alloc: Global, index: usize, child: Rose<V>) -> Result<Rose<V>, AllocError>
+        requires copies { CopiesAreEqual V.is_clone }
+        requires place { index < length (children self.now) }
+        ensures { IfOk result (λ tree. tree ≡ with_child index child self.now) }
+    {
+        let mut children = self.children().to_vec(alloc)?;
+        children[index] = child;
+        Rose::with_children(alloc, self.value().clone()?, children)
+    }
+}

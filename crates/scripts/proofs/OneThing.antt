@@ -1,6 +1,6 @@
 -- A line asks for one thing at most: which, can be told from its word and its numbers.
 use Rattle.std.proofs.Common.{◌≡◌, ℕ, List, [], ◌∷◌, Option, Some, None, codes, refl}
-use Rattle.handle_tables.specs.declared.commands.Command.TheVariants as command
+use Rattle.tables.specs.declared.commands.Command.TheVariants as command
 use Rattle.script_text.specs.declared.line.Numbers.{Numbers}
 use Rattle.script_text.specs.declared.line.Numbers.TheVariants.{One, Two, Three}
 use Rattle.script_text.proofs.Languages.{beside, asks_for_one_thing}

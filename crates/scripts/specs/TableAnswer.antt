@@ -1,9 +1,9 @@
 -- What the lines of a table's script are answered.
 use Rattle.std.specs.Prelude.{◌≡◌, ℕ, ◌==◌, true, false, List, Option, Some, None, slice_get, codes}
-use Rattle.handle_tables.specs.PlainTable.{Slots, outcomes_of}
-use Rattle.handle_tables.specs.declared.commands.Reply.{Reply}
-use Rattle.handle_tables.specs.declared.commands.Reply.TheVariants.{Done, Is, Shared, Empty, NoSlot, Refused}
-use Rattle.handle_tables.specs.Runs.{IsAmong}
+use Rattle.tables.specs.PlainTable.{Slots, outcomes_of}
+use Rattle.tables.specs.declared.commands.Reply.{Reply}
+use Rattle.tables.specs.declared.commands.Reply.TheVariants.{Done, Is, Shared, Empty, NoSlot, Refused}
+use Rattle.tables.specs.Runs.{IsAmong}
 use Rattle.scripts.specs.declared.table_line.TableLine.{TableLine}
 use Rattle.scripts.specs.declared.table_line.TableLine.TheVariants.{Serve, Get}
 

@@ -1,7 +1,7 @@
 -- How the lines of a table's script are written.
 use Rattle.std.specs.Prelude.{ℕ, List, codes}
-use Rattle.handle_tables.specs.declared.commands.Command.TheVariants.{New, Clone, Drop, GetMut, IntoUnique, MakeMut}
-use Rattle.handle_tables.specs.declared.commands.Command.TheVariants.{Own, Mark, Raw, PtrEq, Same}
+use Rattle.tables.specs.declared.commands.Command.TheVariants.{New, Clone, Drop, GetMut, IntoUnique, MakeMut}
+use Rattle.tables.specs.declared.commands.Command.TheVariants.{Own, Mark, Raw, PtrEq, Same}
 use Rattle.script_text.specs.declared.line.Numbers.{Numbers}
 use Rattle.script_text.specs.declared.line.Numbers.TheVariants.{One, Two}
 use Rattle.scripts.specs.declared.table_line.TableLine.{TableLine}

@@ -5,10 +5,10 @@ ghost use Rattle.script_text.specs.Line.{AreInRange, Says, SaysNothing, Writes};
 ghost use Rattle.scripts.specs.declared.table_line.TableLine.{TableLine as Asked};
 ghost use Rattle.scripts.specs.TableLine.{table_line};
 
-use handle_tables::table::Command;
 use script_text::line::Numbers::{One, Three, Two};
 use script_text::line::{Line, read_line};
 use script_text::words::is;
+use tables::table::Command;
 
 /// What a line asks of a table.
 #[derive(Drop)]

@@ -10,12 +10,12 @@ ghost use Rattle.scripts.specs.TableLine.{table_line};
 ghost use Rattle.scripts.specs.TableScript.{PrintsPlainTable, TableAnswers};
 
 use crate::table_line::{TableLine, read_table_line};
-use handle_tables::table::{Reply, Table};
 use script_text::fault::Fault;
 use script_text::script;
 use script_text::script::{Interpreter, append_with_number};
 use std::alloc::{AllocError, Global};
 use std::io::Write;
+use tables::table::{Reply, Table};
 
 /// Runs the script on a new table of so many empty slots. Writes the answer to each line, up to the first line that
 /// asks nothing of a table, and in place of its answer the fault.

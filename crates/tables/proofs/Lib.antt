@@ -1,0 +1,4 @@
+pub mod Changes
+pub mod RunLemmas
+pub mod SlotLemmas
+pub mod UnionChanges

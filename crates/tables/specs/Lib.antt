@@ -1,0 +1,4 @@
+pub mod PlainTable
+pub mod PlainUnionTable
+pub mod Runs
+pub mod TableLaws

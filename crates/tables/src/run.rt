@@ -1,0 +1,39 @@
+//! Runs of commands, for every kind of table.
+ghost use Rattle.std.specs.Prelude.{◌≡◌, All, IfOk, OnErr, ⊤};
+ghost use Rattle.tables.specs.Runs.{IsAmong, Means, Run};
+
+use crate::commands::Reply;
+use std::alloc::{AllocError, Global};
+
+/// A table that serves commands of this type.
+pub trait Serve<C> {
+    // What a command means, and which commands may be served.
+    ghost meaning: { C → Means Self };
+
+    ghost can_serve: { C → Type 0 } = { λ _. ⊤ };
+
+    /// Serves one command. The reply takes no memory.
+    fn serve_one(&mut self, alloc: Global, command: C) -> Reply
+        requires { can_serve command }
+        ensures { IsAmong (meaning command self.old) result self.new };
+}
+
+/// Serves commands in order and gives a reply to each.
+///
+/// The room for the replies is reserved first: if it is refused, no command was served, and all are dropped.
+pub fn run<S: Serve<C>, C: Drop>(
+    table: &mut S,
+    alloc: Global,
+    commands: Vec<C>,
+) -> Result<Vec<Reply>, AllocError>
+    requires { All S.can_serve commands.items }
+    ensures ok { IfOk result (λ replies.
+        Run S.meaning commands.items table.old replies.items table.new) }
+    ensures err { OnErr result (table.new ≡ table.old) }
+{
+    let mut replies = Vec::with_capacity(alloc, commands.len())?;
+    for command in commands {
+        replies.push_reserved(table.serve_one(alloc, command));
+    }
+    Ok(replies)
+}

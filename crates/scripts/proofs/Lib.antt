@@ -1,2 +1,4 @@
+pub mod CoreShowing
+pub mod OneStep
 pub mod OneThing
 pub mod Showing

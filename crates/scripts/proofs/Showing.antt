@@ -2,7 +2,7 @@
 use Rattle.std.proofs.Common.{◌≡◌, ℕ, ◌<◌, arith, List, [], ◌∷◌, None, Some, Option, IfSome, refl}
 use Rattle.std.proofs.Common.{subst, replicate}
 use Rattle.counting_word.specs.CountingWord.{IsLimit}
-use Rattle.core_scripts.proofs.Showing.{core_stopped}
+use Rattle.scripts.proofs.CoreShowing.{core_stopped}
 use Rattle.tables.specs.PlainTable.{Slots}
 use Rattle.script_text.specs.Fault.{Outcome, PrintsUpTo}
 use Rattle.script_text.specs.Line.{SaysNothing}

@@ -1,6 +1,10 @@
--- What is true of every line of a table's script.
+-- What is true of every line of a script.
 use Rattle.script_text.specs.Line.{AsksForOneThing}
+use Rattle.scripts.specs.StepLine.{step_line}
 use Rattle.scripts.specs.TableLine.{table_line}
+
+abbrev pub EachLineIsOneStep : Type 0
+EachLineIsOneStep = AsksForOneThing step_line
 
 abbrev pub EachLineAsksOneThingOfATable : Type 0
 EachLineAsksOneThingOfATable = AsksForOneThing table_line

@@ -3,7 +3,7 @@ use Rattle.std.specs.Prelude.{◌≡◌, ℕ, List, Option, IfSome}
 use Rattle.script_text.specs.Fault.{Outcome, status_after}
 use Rattle.script_text.specs.Written.{Wrote}
 use Rattle.scripts.specs.Arguments.{Asks}
-use Rattle.core_scripts.specs.CoreScript.{PrintsLegalTrace}
+use Rattle.scripts.specs.CoreScript.{PrintsLegalTrace}
 use Rattle.scripts.specs.TableScript.{PrintsPlainTable}
 use Rattle.scripts.specs.declared.arguments.Request.{Request}
 use Rattle.scripts.specs.declared.arguments.Request.TheVariants.{Core, Table}

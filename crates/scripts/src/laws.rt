@@ -1,7 +1,12 @@
-//! What is true of every line of a table's script.
-ghost use Rattle.scripts.specs.Laws.{EachLineAsksOneThingOfATable};
+//! What is true of every line of a script.
+ghost use Rattle.scripts.specs.Laws.{EachLineAsksOneThingOfATable, EachLineIsOneStep};
 
-/// A line asks for one thing at most.
+/// A line of a core's script is one step at most.
+pub fn each_line_is_one_step()
+    ensures { EachLineIsOneStep }
+{}
+
+/// A line of a table's script asks for one thing at most.
 pub fn each_line_asks_one_thing_of_a_table()
     ensures { EachLineAsksOneThingOfATable }
 {}

@@ -17,8 +17,10 @@
 #![tactic(auto)]
 
 mod arguments;
+mod core_script;
 pub mod laws;
 mod program;
+mod step_line;
 mod table_line;
 mod table_script;
 

@@ -9,7 +9,7 @@ ghost use Rattle.scripts.specs.Arguments.{AreWrong};
 ghost use Rattle.scripts.specs.Program.{DidAsAsked, DidByStatus};
 
 use crate::arguments::Request;
-use crate::table_script;
+use crate::{core_script, table_script};
 use script_text::fault::Fault;
 use script_text::script;
 use std::alloc::{AllocError, Global};
@@ -65,7 +65,7 @@ fn run<S: AsStr, R: Read, W: Write>(
     let request = Request::from_words(words).ok_or(Fault::Arguments)?;
     let script = script::read(alloc, input)?;
     match request {
-        Request::Core { owners, limit } => core_scripts::run(alloc, owners, limit, &script, output),
+        Request::Core { owners, limit } => core_script::run(alloc, owners, limit, &script, output),
         Request::Table { slots } => table_script::run(alloc, slots, &script, output),
     }
 }

@@ -7,8 +7,8 @@ use Rattle.counting_core.specs.declared.step.Step.TheVariants.{Return, Give}
 use Rattle.script_text.specs.declared.line.Numbers.{Numbers}
 use Rattle.script_text.specs.declared.line.Numbers.TheVariants.{One, Two, Three}
 use Rattle.script_text.proofs.Languages.{beside, asks_for_one_thing}
-use Rattle.core_scripts.specs.Laws.{EachLineIsOneStep}
-use Rattle.core_scripts.specs.StepLine.{step_line}
+use Rattle.scripts.specs.Laws.{EachLineIsOneStep}
+use Rattle.scripts.specs.StepLine.{step_line}
 
 abbrev step_told : List ℕ → Numbers → Option (Step ℕ)
 step_told word (One a) = beside word ((codes "raise", Raise a) ∷ (codes "quit", Quit a)

@@ -8,8 +8,8 @@ use Rattle.script_text.specs.Line.{SaysNothing}
 use Rattle.script_text.specs.Written.{Wrote}
 use Rattle.script_text.proofs.ShownRuns.{shows_wrote, up_to}
 use Rattle.script_text.proofs.Stops.{IsStop, stops_at_once}
-use Rattle.core_scripts.specs.CoreScript.{CoreAnswers, TraceAnswers, PrintsLegalTrace}
-use Rattle.core_scripts.specs.StepLine.{step_line}
+use Rattle.scripts.specs.CoreScript.{CoreAnswers, TraceAnswers, PrintsLegalTrace}
+use Rattle.scripts.specs.StepLine.{step_line}
 
 core_follows : (old new : CoreState ℕ) (trace : Trace ℕ) (line text : List ℕ)
     → Represents old trace → CoreAnswers old line text new → (next : Trace ℕ)

@@ -1,4 +1,4 @@
-// A core on which a script runs.
+//! Scripts of `core`: their lines are steps of a counting core.
 ghost use Rattle.std.specs.Prelude.{◌≡◌, ◌<◌, ◌++◌, IfErr, IfOk, OnOk};
 ghost use Rattle.counting_word.specs.CountingWord.{IsLimit};
 ghost use Rattle.counting_core.specs.Represents.{Represents};
@@ -8,9 +8,9 @@ ghost use Rattle.script_text.specs.Line.{SaysNothing};
 ghost use Rattle.script_text.specs.Script.{answer_text};
 ghost use Rattle.script_text.specs.Written.{Wrote};
 ghost use Rattle.script_text.specs.declared.fault.Fault.TheVariants as Fault;
-ghost use Rattle.core_scripts.specs.CoreScript.{CoreAnswers, PrintsLegalTrace};
-ghost use Rattle.core_scripts.specs.StepAnswer.{printed_answer};
-ghost use Rattle.core_scripts.specs.StepLine.{step_line};
+ghost use Rattle.scripts.specs.CoreScript.{CoreAnswers, PrintsLegalTrace};
+ghost use Rattle.scripts.specs.StepAnswer.{printed_answer};
+ghost use Rattle.scripts.specs.StepLine.{step_line};
 
 use crate::step_line::read_step;
 use counting_core::{Answer, Core};

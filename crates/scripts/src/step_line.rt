@@ -3,7 +3,7 @@ ghost use Rattle.std.specs.Prelude.{ℕ, ◌<◌, ◌^◌, IfSome, IfNone};
 ghost use Rattle.counting_core.specs.declared.step.Step.{Step as CoreStep};
 ghost use Rattle.script_text.specs.Line.{AreInRange, Says, SaysNothing, Writes};
 ghost use Rattle.script_text.specs.declared.line.Numbers.TheVariants.{One, Two, Three};
-ghost use Rattle.core_scripts.specs.StepLine.{step_line};
+ghost use Rattle.scripts.specs.StepLine.{step_line};
 
 use counting_core::Step;
 use script_text::line::Numbers::{One, Three, Two};

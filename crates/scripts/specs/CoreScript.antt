@@ -8,8 +8,8 @@ use Rattle.counting_core.specs.Trace.{Trace, Open, Then}
 use Rattle.script_text.specs.Fault.{Outcome, PrintsUpTo}
 use Rattle.script_text.specs.Line.{Says, SaysNothing}
 use Rattle.script_text.specs.Script.{answer_text}
-use Rattle.core_scripts.specs.StepAnswer.{printed_answer}
-use Rattle.core_scripts.specs.StepLine.{step_line}
+use Rattle.scripts.specs.StepAnswer.{printed_answer}
+use Rattle.scripts.specs.StepLine.{step_line}
 
 -- the line is a step's, and the text is its answer in a core
 abbrev pub CoreAnswers : CoreState ℕ → List ℕ → List ℕ → CoreState ℕ → Type 0

@@ -1,6 +1,6 @@
 use Rattle.script_text.proofs.Stops.{refused_stops}
-use Rattle.core_scripts.proofs.Showing.{core_wrote, core_stopped}
-use Rattle.core_scripts.proofs.runner.run.Goals as goal
+use Rattle.scripts.proofs.CoreShowing.{core_wrote, core_stopped}
+use Rattle.scripts.proofs.core_script.run.Goals as goal
 
 pub returns-in_err-runner-clause-wrote : goal.returns-in_err-runner-clause-wrote
 returns-in_err-runner-clause-wrote g c = core_stopped _ _ c.requires.limit _ _ _ (refused_stops _

@@ -1,2 +1,0 @@
-pub mod OneThing
-pub mod Showing

@@ -1,4 +1,0 @@
-pub mod CoreScript
-pub mod Laws
-pub mod StepAnswer
-pub mod StepLine

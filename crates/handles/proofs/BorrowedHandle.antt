@@ -22,12 +22,12 @@ use denote.Opens.{Shut, unhide}
 use denote.RawPtr.{Ptr, InBlock, block_ptr, block_of, count_of as offset_of, at_block}
 use denote.Steps.{looks, peeks}
 use Rattle.counting_word.specs.Rights.{Right}
-use Rattle.handles.specs.Inside.Blocks.{HeldRow, Names, block_rule, shown, lent_share, handle_shares, gain_owns, logged}
+use Rattle.handles.specs.Inside.Blocks.{HeldRow, Names, block_rule, shown, lent_share, handle_shares, permit_owns, logged}
 use Rattle.counting_word.specs.WordSteps.{WordStep}
 use Rattle.counting_word.specs.Tallies.{Adds}
-use Rattle.handles.specs.contracts.block.Handle as handle_type
-use Rattle.handles.proofs.Fields.{one_word, words_told, words_open, HandleRow, HandleWords, gain_shown}
-use Rattle.handles.proofs.Steps.Shared.{block_at, gains}
+use Rattle.handles.specs.contracts.block.handle.Handle as handle_type
+use Rattle.handles.proofs.Fields.{one_word, words_are, words_open, HandleRow, HandleWords, permit_shown}
+use Rattle.handles.proofs.Steps.Shared.{block_at, grants}
 
 -- what a `&` has of a handle goes in halves
 module _ {M : Type 1} {𝓤 : Ura M} (𝓛 : Logic 𝓤) (i : Names) where
@@ -67,7 +67,7 @@ module _ (R : RattleType) (p : Ptr)
       looks t soaks D (words_open ν (R ∷ []) 𝓛) (p, tt) b o (λ r vs. move t (3 ∷ []) $ drop t $
       move t (1 ∷ []) $
       peeks t D (Is D) (shows 𝓛 D) (p, tt) vs (λ is_so. let e : vs ≡ one_word (parted p)
-      ∷ [] = words_told ν (R ∷ []) p vs is_so ∙ ap (λ (z : Ptr). one_word z ∷ []) (at_block p inb) in
+      ∷ [] = words_are ν (R ∷ []) p vs is_so ∙ ap (λ (z : Ptr). one_word z ∷ []) (at_block p inb) in
       rewrite t 0 (λ (ws : List Val). ‵ (D.own_val (p, tt) ws)) e refl $
       rewrite t 1 (λ (ws : List Val). ‵ (cell_at r D.mir ws b o)) e refl $ move t (1 ∷ []) $ k r))
 
@@ -99,15 +99,15 @@ module _ (R : RattleType) (p : Ptr) (x : (HeldRow R).Denot)
       move t (5 ∷ 2 ∷ []) $ opens_word R p t soaks inb b o (λ r. k inb i e r))))
 
   -- a gain that was made through a `&`
-  pub shows_gain : K → Soaks G → InBlock p → (i : Names) (r : Right) (old : List WordStep) (what : WordStep)
+  pub shows_permit : K → Soaks G → InBlock p → (i : Names) (r : Right) (old : List WordStep) (what : WordStep)
       (n : ℕ)
-      → ((log : List WordStep) → Adds x.limit.count old what n log → Seq K 𝓛 (‵ (gain_owns R p x η r log)
+      → ((log : List WordStep) → Adds x.limit.count old what n log → Seq K 𝓛 (‵ (permit_owns R p x η r log)
       ∷ Γ) G)
-      → Seq K 𝓛 (‵ (fsep (logged x.limit.count η old what n) (gains (block_at R p x η i) r))
+      → Seq K 𝓛 (‵ (fsep (logged x.limit.count η old what n) (grants (block_at R p x η i) r))
       ∷ ‵ (finv (block_rule R p x η i)) ∷ ‵ (shown R p x (i.shared ∷ [])) ∷ Γ) G
-  shows_gain t soaks inb i r old what n k = use3 𝓛 (later
-      (exists (λ (log : List WordStep). given (Adds x.limit.count old what n log) (‵ (gain_owns R p x η r log)))))
-      (gain_shown 𝓛 R p x η inb i old what n r) $ await t soaks $ pick t (λ log. learn t (k log))
+  shows_permit t soaks inb i r old what n k = use3 𝓛 (later
+      (exists (λ (log : List WordStep). given (Adds x.limit.count old what n log) (‵ (permit_owns R p x η r log)))))
+      (permit_shown 𝓛 R p x η inb i old what n r) $ await t soaks $ pick t (λ log. learn t (k log))
 
 module _ {M : Type 1} {𝓤 : Ura M} {𝓛 : Logic 𝓤} {K : Type 0} {Γ : List (Item 𝓤)} {G : Goal 𝓤 𝓛.H}
   where

@@ -22,7 +22,7 @@ use denote.Struct.Parts.{shape_of, Struct-left, left_Struct}
 use Rattle.core.proofs.tally.Steps.{word_out, word_in}
 use Rattle.core.specs.Sync.RawAtomic.{word}
 use Rattle.std.specs.declared.alloc.Global.{Global}
-use Rattle.handles.proofs.LooseBoxes.{heap_row, heap_laws, ghosts}
+use Rattle.handles.proofs.RawBoxes.{heap_row, heap_laws, ghosts}
 use Rattle.std_alloc.specs.Box.Ownership.{box_owns}
 use mir.Val.{Val}
 use denote.Struct.Laws.{field_copy, unit-copy}

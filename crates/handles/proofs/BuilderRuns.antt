@@ -1,4 +1,4 @@
--- What a builder heard, told as a run of its iterator.
+-- What a builder heard, reported as a run of its iterator.
 use Rattle.std.proofs.Common.{◌≡◌, ℕ, ◌+◌, ◌∷◌, [], ◌++◌, length, length-append, Option, Result}
 use Rattle.std.proofs.Common.{IfOk, IfErr, refl, arith, true, false}
 use Rattle.std.proofs.lemmas.Result.{IfOk-weaker, IfErr-weaker}

@@ -26,7 +26,7 @@ use Rattle.handles.specs.declared.limit.Limit.{Limit}
 use Rattle.handles.specs.contracts.limit.Limit.{the_row as LimitRow}
 use Rattle.handles.proofs.limit.Limit.TheLaws.{the_row_laws as limit_laws}
 use Rattle.handles.specs.contracts.block.Held as held
-use Rattle.handles.specs.contracts.block.Handle as handle_type
+use Rattle.handles.specs.contracts.block.handle.Handle as handle_type
 use Rattle.handles.specs.Inside.Blocks.{HeldRow, held_offset, recorded, stamp, frees, unshared_block}
 use Rattle.handles.specs.Inside.Blocks.{Sharing, not_yet, held_as}
 use Rattle.handles.proofs.Fields.{HandleRow, HandleWords, one_word, words_made}

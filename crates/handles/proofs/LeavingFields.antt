@@ -98,7 +98,7 @@ module _ (R : RattleType) {M : Type 1} {𝓤 : Ura M} (𝓛 : Logic 𝓤) where
       rewrite ! 0 (λ (at : ℕ). ‵ (part_at (Array R filled) full_share items b at)) there refl $
       rewrite ! 0 (λ (n : ℕ). ‵ (part_at (Array R n) full_share items b (o + 0 * s)))
       (sym (sub-zero filled)) refl $
-      -- [the items; the bound; the room and the right to give back]
+      -- [the items; the bound; the room and the right to free]
       move ! (0 ∷ 2 ∷ []) $ fjoin ! $
       use0 𝓛 (‵ (froom (ty_array (lone R.mir) 0) b o)) (𝓛.laws.room_nil (lone R.mir) b o) $
       as_raw ! (ty_array (lone R.mir) 0) b o $ move ! (0 ∷ 1 ∷ []) $ fjoin ! $ move ! (1 ∷ 0 ∷ []) $

@@ -8,7 +8,7 @@ pub mod Founds
 pub mod HeldParts
 pub mod LeavingFields
 pub mod LoggedSteps
-pub mod LooseBoxes
+pub mod RawBoxes
 pub mod MarkedLogs
 pub mod MarkedShared
 pub mod Owners

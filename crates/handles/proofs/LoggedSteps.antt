@@ -20,7 +20,7 @@ use denote.Struct.Tuple.{Tuple}
 use Rattle.counting_word.specs.WordSteps.{WordStep}
 use Rattle.counting_word.specs.Tallies.{Adds}
 use Rattle.handles.specs.Inside.Blocks.{reached, logged}
-use Rattle.handles.specs.contracts.block.Logged as logged_type
+use Rattle.handles.specs.contracts.block.permit.Logged as logged_type
 
 -- a word, and that a step is in the log, which has no bytes
 abbrev pub word_and_logged : ℕ → Val

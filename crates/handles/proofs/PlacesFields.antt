@@ -20,9 +20,9 @@ module _ (R : RattleType) where
   abbrev pub PlacesWords : RattleType
   PlacesWords = Struct (shape (PlacesType R))
 
-  pub words_told : (p : Ptr) (filled room : ℕ) (vs : List Val) → Is PlacesWords (p, (filled, (room, tt))) vs
+  pub words_are : (p : Ptr) (filled room : ℕ) (vs : List Val) → Is PlacesWords (p, (filled, (room, tt))) vs
       → (vs ≡ places_val p filled room ∷ []) × (filled < 2 ^ 64) × (room < 2 ^ 64)
-  words_told p filled room vs is = (
+  words_are p filled room vs is = (
     is.1.0 ∙ (λ j. vstruct (of_list (is.1.1.0 j ++ (is.1.1.1.0.0 j ++
         (is.1.1.1.1.0.0 j ++ [])))) ∷ []),
     is.1.1.1.0.1,

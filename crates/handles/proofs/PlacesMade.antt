@@ -24,7 +24,7 @@ use denote.Memory.{lone, part_at}
 use denote.RawPtr.{Ptr, block_ptr}
 use denote.Steps.{nothing as nothing_more}
 use Rattle.std.specs.Mem.{type_size}
-use Rattle.handles.specs.Inside.PlacesOwnership.{gives_back}
+use Rattle.handles.specs.Inside.PlacesOwnership.{frees_room}
 use Rattle.std_alloc.proofs.RawLayout.{as_raw}
 use Rattle.handles.proofs.PlacesFields.{places_val, PlacesRow, PlacesWords, words_made}
 
@@ -65,11 +65,11 @@ module _ (R : RattleType) where
 
   module _ {M : Type 1} {𝓤 : Ura M} {𝓛 : Logic 𝓤} {K : Type 0} {Γ : List (Item 𝓤)} {G : Goal 𝓤
       𝓛.H} where
-    -- [the room; the right to give the block back]
+    -- [the room; the right to free the block]
     pub places_made : K → (b o room : ℕ) → room < 2 ^ 64 → room * type_size R < 2 ^ 63
         → Step K 𝓛 (‵ ((PlacesRow R).own_val (without_items (block_ptr b o) room) (places_val (block_ptr b o)
         0 room ∷ [])) ∷ Γ) G (‵ (froom (ty_array (lone R.mir) room) b o)
-        ∷ ‵ (gives_back R (block_ptr b o) room) ∷ Γ) G
+        ∷ ‵ (frees_room R (block_ptr b o) room) ∷ Γ) G
     places_made t b o room small fits = step (λ s. let τ : Ty = lone R.mir in let n : ℕ = type_size R in
         let v : Val = places_val (block_ptr b o) 0 room in
         rewrite t 0 (λ (k : ℕ). ‵ (froom (ty_array τ k) b o)) (whole room) refl $

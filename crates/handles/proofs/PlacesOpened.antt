@@ -1,4 +1,4 @@
--- Places are taken apart and put together: the items, the room after them and the right to give the block back.
+-- Places are taken apart and put together: the items, the room after them and the right to free the block.
 -- Assumes `Logic`.
 use Rattle.std.proofs.Common.{◌≡◌, ℕ, ◌*◌, ◌^◌, ◌<◌, List, [], ◌∷◌, refl, sym, ap, ◌∙◌}
 use lib.ListN.{length}
@@ -25,13 +25,13 @@ use denote.Steps.{facts}
 use Rattle.std.specs.Mem.{type_size}
 use Rattle.core.proofs.ptr.Rows.{El, apart, whole}
 use Rattle.handles.specs.Inside.PlacesLending.{with_items}
-use Rattle.handles.specs.Inside.PlacesOwnership.{spare, gives_back, places_own}
-use Rattle.handles.proofs.PlacesFields.{places_val, PlacesRow, PlacesWords, words_told, words_made}
+use Rattle.handles.specs.Inside.PlacesOwnership.{spare, frees_room, places_own}
+use Rattle.handles.proofs.PlacesFields.{places_val, PlacesRow, PlacesWords, words_are, words_made}
 
 module _ (R : RattleType) where
-  -- all but the items: the room after them, the right to give the block back, and the four words at (rb, ro)
+  -- all but the items: the room after them, the right to free the block, and the four words at (rb, ro)
   abbrev pub Beside : (PlacesRow R).Denot → ℕ → ℕ → ℕ → ℕ → Fml
-  Beside d b o rb ro = fsep (spare R (block_ptr b o) d.filled d.room) (fsep (gives_back R (block_ptr b o) d.room)
+  Beside d b o rb ro = fsep (spare R (block_ptr b o) d.filled d.room) (fsep (frees_room R (block_ptr b o) d.room)
       (cell_at full_share (PlacesRow R).mir (places_val (block_ptr b o) d.filled d.room ∷ []) rb ro))
 
   -- no places lie at null
@@ -42,25 +42,25 @@ module _ (R : RattleType) where
 
   module _ {M : Type 1} {𝓤 : Ura M} {𝓛 : Logic 𝓤} {K : Type 0} {Γ : List (Item 𝓤)} {G : Goal 𝓤
       𝓛.H} where
-    -- [the items; the room after them; the right to give the block back]
+    -- [the items; the room after them; the right to free the block]
     pub places_opens : K → (d : (PlacesRow R).Denot) (vs : List Val)
         → ((b o : ℕ) → d.first ≡ block_ptr b o → vs ≡ places_val (block_ptr b o)
         d.filled d.room ∷ [] → d.filled < 2 ^ 64 → d.room < 2 ^ 64 → d.room * type_size R < 2 ^ 63
         → Seq K 𝓛 (‵ (part_at (Array R d.filled) full_share d.items b o) ∷ ‵ (spare R (block_ptr b o)
-        d.filled d.room) ∷ ‵ (gives_back R (block_ptr b o) d.room) ∷ Γ) G)
+        d.filled d.room) ∷ ‵ (frees_room R (block_ptr b o) d.room) ∷ Γ) G)
         → Seq K 𝓛 (‵ ((PlacesRow R).own_val d vs) ∷ Γ) G
     places_opens t d vs k = fsplit t $
         facts t (PlacesWords R) (Is (PlacesWords R)) (shows 𝓛 (PlacesWords R)) (d.first, (d.filled, (d.room, tt)))
-        vs (λ is. let told = words_told R d.first d.filled d.room vs is in
+        vs (λ is. let reported = words_are R d.first d.filled d.room vs is in
         in_a_block t d.first (λ p. places_own R p d.filled d.room d.items) (none_at_null 𝓛 d)
         (λ b o at. fsplit t $ flt_l t (λ fits. fsplit3 t $
-        k b o at (told.0 ∙ ap (λ (p : Ptr). places_val p d.filled d.room ∷ []) at) told.1 told.2 fits)))
+        k b o at (reported.0 ∙ ap (λ (p : Ptr). places_val p d.filled d.room ∷ []) at) reported.1 reported.2 fits)))
 
     pub places_shuts : K → (d : (PlacesRow R).Denot) (b o : ℕ)
         → d.first ≡ block_ptr b o → d.filled < 2 ^ 64 → d.room < 2 ^ 64 → d.room * type_size R < 2 ^ 63
         → Step K 𝓛 (‵ ((PlacesRow R).own_val d (places_val (block_ptr b o) d.filled d.room ∷ [])) ∷ Γ) G
         (‵ (part_at (Array R d.filled) full_share d.items b o) ∷ ‵ (spare R (block_ptr b o) d.filled d.room)
-        ∷ ‵ (gives_back R (block_ptr b o) d.room) ∷ Γ) G
+        ∷ ‵ (frees_room R (block_ptr b o) d.room) ∷ Γ) G
     places_shuts t d b o at small_filled small_room fits = step (λ s. let v : Val = places_val (block_ptr b o)
         d.filled d.room in
         fjoin3 t $ flt_i t (d.room * type_size R) (2 ^ 63) fits $ fjoin t $
@@ -98,7 +98,7 @@ module _ (T : RattleType) (L : Laws T) {M : Type 1} {𝓤 : Ura M} (𝓛 : Logic
       (whole element 𝓛 full_share d.filled written b o (same ∙ sym d.within.0)) $
       rewrite ! 0 (λ (items : List T.Denot). ‵ (part_at (Array R d.filled) full_share items b o)) (sym all) refl $
       move ! (1 ∷ []) $ fsplit3 ! $
-      -- [the room; the right to give back; the words; the items]
+      -- [the room; the right to free; the words; the items]
       move ! (3 ∷ 0 ∷ 1 ∷ []) $ places_shuts R ! new b o at small_filled small_room fits $
       move ! (1 ∷ 0 ∷ []) $ fjoin ! $
       fpack ! (List Val) (λ us. fsep (cell_at full_share (PlacesRow R).mir us rb ro) ((PlacesRow R).own_val new us))

@@ -29,7 +29,7 @@ use Rattle.std_alloc.proofs.SendSync.{quiet, lies, seen}
 use Rattle.std_heap.proofs.Handle.{handle}
 use Rattle.std.proofs.Crossing as crossing
 use Rattle.std.specs.Mem.{type_size}
-use Rattle.handles.specs.Inside.PlacesOwnership.{fits, spare, gives_back, places_own, places_share}
+use Rattle.handles.specs.Inside.PlacesOwnership.{fits, spare, frees_room, places_own, places_share}
 use Rattle.handles.proofs.PlacesFields.{PlacesType, PlacesRow, PlacesWords}
 
 module _ (R : RattleType) (p : Ptr) (filled room : ℕ) (items : List R.Denot) where
@@ -40,7 +40,7 @@ module _ (R : RattleType) (p : Ptr) (filled room : ℕ) (items : List R.Denot) w
   pub Lends-places : {M : Type 1} {𝓤 : Ura M} (𝓛 : Logic 𝓤) → Laws R → (l : Lft)
       → Shares 𝓛 R l → Lends 𝓛 (places_own R p filled room items) (places_share R p filled room items) l
   Lends-places 𝓛 L l s = let run : Fml = lies_at (Array R filled) full_share p items in
-      let others : Fml = fsep (spare R p filled room) (gives_back R p room) in
+      let others : Fml = fsep (spare R p filled room) (frees_room R p room) in
       let lent : Lft → Fml = lent_at (Array R filled) p items in
       Lends-both 𝓛 (fits R room) (fsep run others) (said (fits R room)) lent l (Lends-said 𝓛 (fits R room)
       tt l) (Lends-first 𝓛 run others lent l (Lends-lies 𝓛 (Array R filled)

@@ -51,7 +51,7 @@ pub use Rattle.core.proofs.alloc.Calls.{at_takes, token}
 pub use Rattle.core.proofs.alloc.Shapes.{arm_body, head}
 pub use Rattle.core.proofs.ptr.Rows.{elτ, one_below, sz, times_below}
 pub use Rattle.core.proofs.slots.Leases.{block_align, block_size, block_ty, uncapped}
-pub use Rattle.handles.proofs.LooseBoxes.{heap, Global, ◌⊑◌, ⊑_static}
+pub use Rattle.handles.proofs.RawBoxes.{heap, Global, ◌⊑◌, ⊑_static}
 pub use Rattle.handles.proofs.LeavingFields.{LeavingRow, LeavingWords, leaving-Good, leaving_val, leaving_words}
 pub use Rattle.handles.proofs.LeavingFields.{none_at_null}
 pub use Rattle.handles.proofs.PlacesFields.{PlacesRow, places_val}

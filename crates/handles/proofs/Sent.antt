@@ -19,8 +19,8 @@ use Rattle.std.proofs.Crossing as crossing
 use Rattle.handles.proofs.block.Held.TheSendSync.{the_send as held_send, the_sync as held_sync}
 use Rattle.handles.specs.Inside.Blocks.{HeldRow, Names, Stage, living, over, entitled, stage, logs, kept_log, stamp}
 use Rattle.handles.specs.Inside.Blocks.{left_at, block_type, held_offset, heap_offset, held_and_block, shown, Sharing}
-use Rattle.handles.specs.Inside.Blocks.{not_yet, marked_not_yet, begun, held_as, owned_as, shared_as}
-use Rattle.handles.specs.contracts.block.Handle as handle_type
+use Rattle.handles.specs.Inside.Blocks.{not_yet, begun, held_as, owned_as, shared_as}
+use Rattle.handles.specs.contracts.block.handle.Handle as handle_type
 use Rattle.handles.specs.contracts.block.marked.Marked as marked_type
 
 pointers : IsSend RawPtr
@@ -99,10 +99,6 @@ module _ (R : RattleType) (s : IsSend R) (y : IsSync R) where
       content-Keyless p x,
       stamp-Keyless p,
     ),
-  )
-  handle-Keyless p x η marked_not_yet = (
-    (tt, λ log. (latest-Keyless η log, λ _. tt)),
-    (content-Keyless p x, stamp-Keyless p),
   )
   handle-Keyless p x η begun = λ i. (
     ((λ e. (entitled-Keyless i e, tt)), pass-Keyless i.handles i.own full_share),

@@ -1,12 +1,12 @@
 -- The steps on a block's word, each under the block's rule: what its maker puts in, and what it leaves the maker with.
-pub mod Says
+pub mod Words
 pub mod Shared
 pub mod Turns
 pub mod Reads
 pub mod Raises
 pub mod Marks
 pub mod Born
-pub mod Leaves
+pub mod LastReads
 pub mod Lowers
 pub mod Claims
 pub mod Stamps

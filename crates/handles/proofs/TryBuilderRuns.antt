@@ -1,4 +1,4 @@
--- What a builder of items that may be errors heard, told of the whole call and as a run of its iterator.
+-- What a builder of items that may be errors heard, reported of the whole call and as a run of its iterator.
 use Rattle.std.proofs.Common.{◌≡◌, ℕ, Option, Result, Ok, IfOk, IfErr, map, subst, refl, true}
 use Rattle.std.proofs.lemmas.Result.{IfOk-weaker, IfErr-weaker}
 use Rattle.core.proofs.iter.runs.Made.{run, to_end}

@@ -36,8 +36,8 @@ pub use Rattle.core.proofs.alloc.Shapes.{after}
 pub use Rattle.atomic_table.proofs.Walks.{proved, proved_at, leaves}
 pub use Rattle.atomic_table.proofs.Calls.{fm, seq_cst, found, finds}
 pub use Rattle.counting_word.specs.Rights.{Right}
-pub use Rattle.handles.specs.Inside.Blocks.{HeldRow, stamp, held_and_block, block_rule, gain_owns}
-pub use Rattle.handles.proofs.Fields.{one_word, word_and_gain, one_word-Good, words_told, words_made, HandleRow}
-pub use Rattle.handles.proofs.Fields.{GainRow, HandleWords, GainWords, known, is_number, returns_gain}
-pub use Rattle.handles.proofs.Fields.{word_and_gain-Good}
-pub use Rattle.handles.proofs.BorrowedHandle.{opens_word, opens_handle, shows_gain, closes_borrow}
+pub use Rattle.handles.specs.Inside.Blocks.{HeldRow, stamp, held_and_block, block_rule, permit_owns}
+pub use Rattle.handles.proofs.Fields.{one_word, word_and_permit, one_word-Good, words_are, words_made, HandleRow}
+pub use Rattle.handles.proofs.Fields.{PermitRow, HandleWords, PermitWords, known, is_number, returns_permit}
+pub use Rattle.handles.proofs.Fields.{word_and_permit-Good}
+pub use Rattle.handles.proofs.BorrowedHandle.{opens_word, opens_handle, shows_permit, closes_borrow}

@@ -1,32 +1,44 @@
 -- What a try to make one more handle came to.
-use Rattle.std.specs.Prelude.{◌≡◌, ℕ, ◌+◌, ◌⊎◌, false}
+use Rattle.std.specs.Prelude.{◌≡◌, ℕ, ◌+◌, ◌⊎◌, List, Option, false}
+use Rattle.std.specs.Iterator.{Drains}
+use Rattle.counting_word.specs.CountingWord.{IsWithin}
 use Rattle.counting_word.specs.Plans.{clone_plan}
+use Rattle.counting_word.specs.Rights.{right_by_read}
 use Rattle.counting_word.specs.declared.ClonePlan.TheVariants.{Static as StaticPlan, Full as FullPlan, Raise}
-use Rattle.handles.specs.Founds.{FoundFull, LostRaise}
-use Rattle.handles.specs.declared.block.Handle.{Handle}
-use Rattle.handles.specs.declared.block.Logged.{Logged}
+use Rattle.handles.specs.Founds.{Found, FoundFull, LostRaise}
+use Rattle.handles.specs.declared.block.handle.Handle.{Handle}
+use Rattle.handles.specs.declared.block.permit.Logged.{Logged}
+use Rattle.handles.specs.declared.block.permit.Permit.{Permit}
 use Rattle.handles.specs.declared.attempt.Attempt.{Attempt}
 use Rattle.handles.specs.declared.attempt.Attempt.TheVariants.{Made, Full, Lost}
 
+-- the word that a step through the handle found, and the permit that it left
+abbrev pub IsSeen : {X : Type 0} → Handle X → ℕ → Permit X → Type 0
+IsSeen of word permit =
+    (permit.held ≡ of.held) × (permit.block ≡ of.block) × (permit.id ≡ of.id)
+    × (permit.right ≡ right_by_read word) × IsWithin word of.held.limit.count × Found word permit.log
+
 -- the block of the handle was found to be full
 abbrev pub IsFullOf : {X : Type 0} → Handle X → Logged → Type 0
-IsFullOf of told = (told.id ≡ of.id) × FoundFull of.held.limit.count told.log
+IsFullOf of logged = (logged.id ≡ of.id) × FoundFull of.held.limit.count logged.log
 
 -- or its last raise was lost
 abbrev pub IsRefusedOf : {X : Type 0} → Handle X → Logged → Type 0
-IsRefusedOf of told = (told.id ≡ of.id) × (FoundFull of.held.limit.count told.log ⊎ LostRaise told.log)
+IsRefusedOf of logged = (logged.id ≡ of.id) × (FoundFull of.held.limit.count logged.log ⊎ LostRaise logged.log)
 
--- A handle that was made holds the same, and so does what a lost raise gained. A full block was found to be full.
+-- A handle that was made holds the same. A full block was found to be full, and a lost raise found another word.
 abbrev pub IsAttempt : {X : Type 0} → Handle X → Attempt X → Type 0
 IsAttempt of (Made h) = (h.held ≡ of.held) × (h.sole ≡ false) × (h.id ≡ of.id)
-IsAttempt of (Full told) = IsFullOf of told
-IsAttempt of (Lost seen) =
-    (seen.gain.held ≡ of.held) × (seen.gain.block ≡ of.block) × (seen.gain.id ≡ of.id)
-    × LostRaise seen.gain.log
+IsAttempt of (Full logged) = IsFullOf of logged
+IsAttempt of (Lost word permit) = IsSeen of word permit × LostRaise permit.log
 
 -- What the plan is by the word that was seen: a handle is made with no further step or by a raise.
 abbrev pub IsPlanned : {X : Type 0} → ℕ → ℕ → Attempt X → Type 0
 IsPlanned word limit (Made h) =
     (clone_plan word limit ≡ StaticPlan) ⊎ (clone_plan word limit ≡ Raise (word + 1))
-IsPlanned word limit (Full told) = clone_plan word limit ≡ FullPlan
-IsPlanned word limit (Lost seen) = clone_plan word limit ≡ Raise (word + 1)
+IsPlanned word limit (Full logged) = clone_plan word limit ≡ FullPlan
+IsPlanned word limit (Lost found permit) = clone_plan word limit ≡ Raise (word + 1)
+
+-- the turns came to an end
+abbrev pub Stops : {S A : Type 0} → (S → Option A → S → Type 0) → S → Type 0
+Stops {A = A} steps turns = (xs : List A) × Drains steps turns xs

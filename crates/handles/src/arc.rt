@@ -9,6 +9,7 @@ mod copy_on_write;
 use crate::attempt::Attempt;
 use crate::block::Handle;
 use crate::limit::Limit;
+use crate::static_arc::StaticArc;
 use crate::unique::UniqueArc;
 use counting_word::{is_alone, is_marked};
 use std::alloc::{AllocError, AllocFailed, Global};
@@ -20,8 +21,8 @@ use thiserror::Error;
 /// How often the trait's `clone` raises the word before it gives up.
 const MOST_RAISES: u8 = 64;
 
-/// A handle of a block whose value is shared. The last handle's end drops the value and gives the block back, unless
-/// the block is marked.
+/// A handle of a block whose value is shared. The last handle's end drops the value and frees the block, unless the
+/// block is marked.
 #[derive(Drop)]
 pub struct Arc<T> {
     pub(crate) handle: Handle<T>,
@@ -69,15 +70,15 @@ impl<T: Drop> Arc<T> {
         Ok(UniqueArc::with_limit(alloc, value, Limit::of(limit))?.shareable())
     }
 
-    /// A handle of a marked block, which is never given back and whose value is never dropped.
+    /// A handle of a marked block, which is never freed and whose value is never dropped.
     pub fn new_leaked(alloc: Global, value: T) -> Result<Arc<T>, T>
         ensures made { IfOk result (λ a. a ≡ value) }
         ensures refused { IfErr result (λ x. x ≡ value) }
     {
-        Ok(UniqueArc::new(alloc, value)?.leaked())
+        Ok(StaticArc::new(alloc, value)?.arc())
     }
 
-    /// The same as `new_leaked`, under the original's name for memory that is never given back.
+    /// The same as `new_leaked`, under the original's name for memory that is never freed.
     pub fn new_static(alloc: Global, value: T) -> Result<Arc<T>, T>
         ensures made { IfOk result (λ a. a ≡ value) }
         ensures refused { IfErr result (λ x. x ≡ value) }
@@ -102,7 +103,7 @@ impl<T: Drop> Arc<T> {
             Attempt::Made(handle) => Ok(Arc { handle }),
             Attempt::Full(_) => Err(Full),
             // Only a clone that lost a raise makes the call that may wait.
-            Attempt::Lost(seen) => match this.handle.raise_unless_full(seen, rt) {
+            Attempt::Lost(word, permit) => match this.handle.raise_unless_full(word, permit, rt) {
                 Ok(handle) => Ok(Arc { handle }),
                 Err(_) => Err(Full),
             },
@@ -142,7 +143,7 @@ impl<T> Arc<T> {
         is_marked(self.handle.word().0)
     }
 
-    /// Marks the block: from then on it is never given back, and its value is never dropped. Marking again is harmless.
+    /// Marks the block: from then on it is never freed, and its value is never dropped. Marking again is harmless.
     #[inline]
     pub fn mark_as_intentionally_leaked(&self) {
         self.handle.mark();

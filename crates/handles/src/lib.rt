@@ -10,10 +10,3 @@ pub mod header_slice;
 mod limit;
 pub mod static_arc;
 pub mod unique;
-
-pub use arc::{Arc, Full, RawArc};
-pub use arc_union::{ArcUnion, ArcUnionBorrow, ThinArcUnion};
-pub use borrow::ArcBorrow;
-pub use header_slice::{BuildError, HeaderSlice, ThinArc};
-pub use static_arc::StaticArc;
-pub use unique::{UninitArc, UniqueArc};

@@ -30,7 +30,7 @@ impl<T> Copy for StaticArc<'_, T> {}
 impl<'a, T: Drop> StaticArc<'a, T> {
     ghost use Rattle.handles.specs.Stays.{value_of};
 
-    /// One request for memory, which is never given back. The value comes back if it is refused.
+    /// One request for memory, which is never freed. The value comes back if it is refused.
     pub fn new(alloc: Global, value: T) -> Result<StaticArc<'a, T>, T>
         ensures made { IfOk result (λ s. value_of s ≡ value) }
         ensures refused { IfErr result (λ x. x ≡ value) }
@@ -101,19 +101,6 @@ impl<T: Drop> Arc<T> {
         ensures { value_of result ≡ self }
     {
         StaticArc::of(self.handle.to_marked())
-    }
-}
-
-impl<T: Drop> UniqueArc<T> {
-    ghost use Rattle.handles.specs.Stays.{value_of};
-
-    /// Marks the block with no atomic step, since nobody shares it yet.
-    pub fn into_static<'a>(self) -> StaticArc<'a, T>
-    where
-        T: 'a,
-        ensures { value_of result ≡ self }
-    {
-        StaticArc::of(Marked::of(self.into_marked_block()))
     }
 }
 

@@ -1,13 +1,14 @@
 //! A handle that is the only one of its block, so that it may write the value.
 ghost use Rattle.std.specs.Prelude.{◌≡◌, IfOk, IfErr};
 ghost use types.Logic.{sem};
-ghost use Rattle.counting_word.specs.CountingWord.{marked_word};
 
 mod compare;
 
 use crate::arc::Arc;
-use crate::block::{Block, Handle, Loose};
+use crate::block::marked::Marked;
+use crate::block::{Block, Handle, RawBox};
 use crate::limit::Limit;
+use crate::static_arc::StaticArc;
 use std::alloc::{AllocError, AllocFailed, Global};
 use std::marker::Model;
 use std::ops::{Deref, DerefMut};
@@ -30,6 +31,8 @@ impl<T> Model for UniqueArc<T> {
 }
 
 impl<T: Drop> UniqueArc<T> {
+    ghost use Rattle.handles.specs.Stays.{value_of};
+
     /// The only handle of a new block. One request for memory; the value comes back if it is refused.
     pub fn new(alloc: Global, value: T) -> Result<UniqueArc<T>, T>
         ensures made { IfOk result (λ u. u ≡ value) }
@@ -60,10 +63,10 @@ impl<T: Drop> UniqueArc<T> {
         ensures { result ≡ self }
     {
         let UniqueArc { block } = self;
-        Arc::of(Handle::first(Loose::of(block)).into_shared())
+        Arc::of(Handle::first(RawBox::of(block)).into_shared())
     }
 
-    /// The value. The block is given back, and the value is neither copied nor dropped.
+    /// The value. The block is freed, and the value is neither copied nor dropped.
     pub fn into_inner(self) -> T
         ensures { result ≡ self }
     {
@@ -71,7 +74,7 @@ impl<T: Drop> UniqueArc<T> {
         Box::into_inner(block).into_value()
     }
 
-    /// The value, to write to for good. It is never dropped, and its block is never given back.
+    /// The value, to write to for good. It is never dropped, and its block is never freed.
     pub fn leak<'a>(self) -> &'a mut T
     where
         T: 'a,
@@ -81,28 +84,22 @@ impl<T: Drop> UniqueArc<T> {
         Box::leak(block).value_mut()
     }
 
-    // The block, marked before it is shared.
-    pub(crate) fn into_marked_block(self) -> Loose<Block<T>>
-        ensures word { result.value.word ≡ marked_word 1 }
-        ensures value { result.value.held.value ≡ self }
+    /// Marks the block with no atomic step, since nobody shares it yet.
+    pub fn into_static<'a>(self) -> StaticArc<'a, T>
+    where
+        T: 'a,
+        ensures { value_of result ≡ self }
     {
         let UniqueArc { mut block } = self;
         block.mark();
-        Loose::of(block)
-    }
-
-    // As `shareable`, of a block that is marked.
-    pub(crate) fn leaked(self) -> Arc<T>
-        ensures { result ≡ self }
-    {
-        Arc::of(Handle::first(self.into_marked_block()))
+        StaticArc::of(Marked::of(RawBox::of(block)))
     }
 
     pub(crate) fn into_arc(self, is_static: bool) -> Arc<T>
         ensures { result ≡ self }
     {
         if is_static {
-            self.leaked()
+            self.into_static().arc()
         } else {
             self.shareable()
         }
@@ -149,7 +146,7 @@ impl<T> DerefMut for UniqueArc<T> {
     }
 }
 
-/// A block whose value is still to be written. When it is dropped it gives the block back, and drops no value.
+/// A block whose value is still to be written. When it is dropped it frees the block, and drops no value.
 pub struct UninitArc<T> {
     room: Vacant<Block<T>, Global>,
     alloc: Global,

@@ -23,7 +23,7 @@ use Rattle.handles.proofs.Steps.Shared.{keep, drop}
 use Rattle.handles.proofs.Steps.Shared.{frame, assume, split, fsplit, fsplit3, fjoin, fpick, fpack, suffices}
 use Rattle.handles.proofs.Steps.Shared.{use1, use2, done, nothing_more, Right, nothing, a_handle, right_by_read}
 use Rattle.handles.proofs.Steps.Shared.{title, marked, unmarked, Stage, living, over, SharedBlock, at_stage}
-use Rattle.handles.proofs.Steps.Shared.{rule, makes_one, no_token, passed, gains, pass, fits}
+use Rattle.handles.proofs.Steps.Shared.{rule, makes_one, no_token, passed, grants, pass, fits}
 use Rattle.handles.proofs.Steps.Shared.{records, unknown, Entails, noted}
 
 module _ {M : Type 1} {𝓤 : Ura M} (𝓛 : Logic 𝓤) (s : SharedBlock) (q : Share) where
@@ -31,7 +31,7 @@ module _ {M : Type 1} {𝓤 : Ura M} (𝓛 : Logic 𝓤) (s : SharedBlock) (q : 
 
   -- a read that found w is in the log, and a handle is made
   abbrev pub Born : ℕ → Fml
-  Born w = fsep (a_share s q) (fsep (logged s.limit s.log [] step.reads w) (gains s a_handle))
+  Born w = fsep (a_share s q) (fsep (logged s.limit s.log [] step.reads w) (grants s a_handle))
 
   abbrev BornSome : Fml
   BornSome = fex ℕ Born
@@ -58,12 +58,12 @@ module _ {M : Type 1} {𝓤 : Ura M} (𝓛 : Logic 𝓤) (s : SharedBlock) (q : 
           by ! (no_token 𝓛 (unmarked s) full_share _)
       at (living true w n) = qed 𝓛 (‵ (at_stage s (living true w n)) ∷ ‵ (fsep (marked s.names)
           (a_share s q)) ∷ []) ∵
-          fsplit3 ! $ move ! (1 ∷ []) $ fpick ! (λ says. drop ! $ move ! (2 ∷ []) $ fsplit ! $ drop ! $ fsplit ! $
+          fsplit3 ! $ move ! (1 ∷ []) $ fpick ! (λ holds. drop ! $ move ! (2 ∷ []) $ fsplit ! $ drop ! $ fsplit ! $
           move ! (2 ∷ []) $ fsplit ! $ fits 𝓛 s ! w (λ small.
           -- [the word; the log; the share; the pass; what is beside the word]
           let Records : Fml = fsep (fsep (noted s.names s.limit s.log w) (fsep Own (passed s (right_by_read w))))
           (logged s.limit s.log [] step.reads w) in
-          let is_handle : right_by_read w ≡ a_handle = ap (λ y. if y then a_handle else nothing) says.0.same_mark in
+          let is_handle : right_by_read w ≡ a_handle = ap (λ y. if y then a_handle else nothing) holds.0.same_mark in
           nothing_more ! $ move ! (0 ∷ 4 ∷ []) $ fjoin ! $ move ! (2 ∷ 0 ∷ []) $ fjoin ! $
           use1 𝓛 (raw (upd 𝓤 (sem 𝓛 Records))) (records 𝓛 s [] ftrue (unknown 𝓛 s) step.reads (λ v. v)
           (λ v _. refl) (λ _. ftrue) ftrue Own (λ v. fsep Own (passed s (right_by_read v)))
@@ -75,7 +75,7 @@ module _ {M : Type 1} {𝓤 : Ura M} (𝓛 : Logic 𝓤) (s : SharedBlock) (q : 
           (passed s r)) is_handle (id⊢ 𝓤 _)) $
           -- [the new pass; the pass; the log; what is in it; the word; the share; what is beside the word]
           move ! (5 ∷ 1 ∷ []) $ fjoin ! $ move ! (4 ∷ 2 ∷ []) $ fjoin ! $ move ! (0 ∷ 4 ∷ []) $
-          use2 𝓛 (‵ (rule s) ⊛ ‵ (title s.names)) (makes_one 𝓛 s w n says) $ split ! $
+          use2 𝓛 (‵ (rule s) ⊛ ‵ (title s.names)) (makes_one 𝓛 s w n holds) $ split ! $
           -- [the rule; the title; the share and the pass; the new pass; what is in the log]
           suffices ! _ (upd_i 𝓤 (sep 𝓤 (sem 𝓛 (rule s)) (sem 𝓛 BornSome))) $ frame ! $
           move ! (0 ∷ 2 ∷ []) $ fjoin ! $ move ! (2 ∷ 0 ∷ []) $ fjoin ! $ move ! (1 ∷ 0 ∷ []) $ fjoin ! $
@@ -100,7 +100,7 @@ module _ {M : Type 1} {𝓤 : Ura M} (𝓛 : Logic 𝓤) (s : SharedBlock) (q : 
             fsplit ! $ move ! (2 ∷ []) $ fsplit ! $ move ! (1 ∷ []) $ fsplit ! $
             keep ! (3 ∷ 0 ∷ []) $ by ! (via 𝓤 (never 𝓤) (no_share 𝓛 s q) (never_e 𝓤 _))
         at (living false w n) = qed 𝓛 (‵ (at_stage s (living false w n)) ∷ ‵ Knows ∷ []) ∵ fsplit3 ! $
-            move ! (1 ∷ []) $ fpick ! (λ says. drop ! $
+            move ! (1 ∷ []) $ fpick ! (λ holds. drop ! $
             fsplit ! $ move ! (1 ∷ []) $ fpick ! (λ p. fsplit ! $ fpick ! (λ log. fsplit ! $ move ! (1 ∷ []) $
             fpick ! (λ left. drop ! $
             -- [the log; the rows; the word; what is beside it; what is known, and the share]
@@ -110,14 +110,14 @@ module _ {M : Type 1} {𝓤 : Ura M} (𝓛 : Logic 𝓤) (s : SharedBlock) (q : 
             let has_now : HasMark log = has_mark-prefix old log has begun in
             let is_marked : p.mark ≡ true = ap (λ (t : Tally). t.mark) (sym left.same_tally) ∙ has_now in
             let same_mark : is_marked_word w ≡ p.mark = (keeps-counts s.limit s.most log p w left).same_mark in
-            absurd (true≢false (sym is_marked ∙ sym same_mark ∙ says.0.same_mark)))))))
+            absurd (true≢false (sym is_marked ∙ sym same_mark ∙ holds.0.same_mark)))))))
         at (living true w n) = qed 𝓛 (‵ (at_stage s (living true w n)) ∷ ‵ Knows ∷ []) ∵ fsplit3 ! $
-            move ! (1 ∷ []) $ fpick ! (λ says. drop ! $
+            move ! (1 ∷ []) $ fpick ! (λ holds. drop ! $
             move ! (1 ∷ []) $ fsplit3 ! $ move ! (2 ∷ []) $
             use1 𝓛 (‵ (marked s.names) ⊛ ‵ (marked s.names)) (𝓛.lfts.dead_dup (unmarked s)) $ split ! $
             -- [the mark, twice; the parts; the pool and what is kept; the word; what is known, and the share]
             move ! (2 ∷ 3 ∷ 0 ∷ []) $ fjoin3 ! $ move ! (2 ∷ 0 ∷ []) $
-            use2 𝓛 (‵ (rule s)) (lives 𝓛 s true w n says) $ move ! (2 ∷ []) $ fsplit ! $ drop ! $
+            use2 𝓛 (‵ (rule s)) (lives 𝓛 s true w n holds) $ move ! (2 ∷ []) $ fsplit ! $ drop ! $
             -- [the share; the rule; the mark]
             move ! (2 ∷ 0 ∷ []) $ fjoin ! $
             suffices ! _ (upd_i 𝓤 (sep 𝓤 (sem 𝓛 (rule s)) (sem 𝓛 Known))) $

@@ -9,9 +9,9 @@ use Rattle.handles.proofs.Steps.Shared.{fex, flft}
 use Rattle.handles.proofs.Steps.Shared.{Logic, sem, ‵, ◌$◌, ◌∵◌, !, qed, by, move, keep, drop, fjoin, fpick}
 use Rattle.handles.proofs.Steps.Shared.{fpack}
 use Rattle.handles.proofs.Steps.Shared.{use1, use2, part_in, is_one_handle, count_of-unmarked, is_one_handle-marked}
-use Rattle.handles.proofs.Steps.Shared.{is_one_handle-unmarked, a_handle, whole_block, Says, unit_of_count, entitled}
-use Rattle.handles.proofs.Steps.Shared.{stake, SharedBlock, shared, counts, beside, rule, gained, counted_stake, lives}
-use Rattle.handles.proofs.Steps.Shared.{regained, Lands, Asks, and_logged, ftrue, title, pass, row, gains, passes_on}
+use Rattle.handles.proofs.Steps.Shared.{is_one_handle-unmarked, a_handle, whole_block, StandsWithin, unit_of_count, entitled}
+use Rattle.handles.proofs.Steps.Shared.{stake, SharedBlock, shared, counts, beside, rule, granted, counted_stake, lives}
+use Rattle.handles.proofs.Steps.Shared.{regranted, Lands, Asks, and_logged, ftrue, title, pass, row, grants, passes_on}
 use Rattle.handles.proofs.Steps.Shared.{Entails, noted, recorded, alone, Tally, IsTallied, Keeps, fact, logs, kept_log}
 use Rattle.handles.proofs.Steps.Shared.{List, WordStep, Right, given, learn, nothing_more, full_share, fsplit, done}
 use Rattle.handles.proofs.Steps.Shared.{◌≤◌, ◌+◌, arith}
@@ -20,14 +20,14 @@ use base.Logic.{id⊢}
 use Rattle.counting_word.proofs.Tallies.{keeps-counts, tallied}
 use Rattle.handles.proofs.Rows.{row_some}
 use Rattle.handles.proofs.Steps.Turns.{turns_none}
-use Rattle.handles.proofs.Steps.Leaves.{a_stake, not_yet_marked, HeldSteps, held_step}
+use Rattle.handles.proofs.Steps.LastReads.{a_stake, not_yet_marked, HeldSteps, held_step}
 use Rattle.handles.proofs.Steps.Lowers.{last_one}
 
 abbrev pub after_claim : SharedBlock → ℕ → Fml
-after_claim s w = gains s (right_by_claim w)
+after_claim s w = grants s (right_by_claim w)
 
 abbrev bare_claim : SharedBlock → ℕ → Fml
-bare_claim s w = gained s (right_by_claim w)
+bare_claim s w = granted s (right_by_claim w)
 
 module _ {M : Type 1} {𝓤 : Ura M} (𝓛 : Logic 𝓤) (s : SharedBlock) where
   abbrev Own : Fml
@@ -64,7 +64,7 @@ module _ {M : Type 1} {𝓤 : Ura M} (𝓛 : Logic 𝓤) (s : SharedBlock) where
       -- a handle stays one
       kept-one : (w : ℕ) → right_by_claim w ≡ a_handle → Entails 𝓛 (fsep (bare_claim s w) Own)
           (after_claim s w)
-      kept-one w e = subst (λ (r : Right). Entails 𝓛 (fsep (gained s r) Own) (gains s r)) (sym e)
+      kept-one w e = subst (λ (r : Right). Entails 𝓛 (fsep (granted s r) Own) (grants s r)) (sym e)
           (qed 𝓛 (‵ (title s.names) ∷ ‵ Own ∷ []) ∵ move ! (1 ∷ []) $
           fpack ! ℕ (λ k. pass s.names.handles k full_share) s.names.own $ move ! (1 ∷ 0 ∷ []) $ fjoin ! $
           done !)
@@ -75,59 +75,59 @@ module _ {M : Type 1} {𝓤 : Ura M} (𝓛 : Logic 𝓤) (s : SharedBlock) where
       others : (j w : ℕ) → is_one_handle w ≡ false → ent 𝓤 (sem 𝓛 (fsep (rule s) (title s.names)))
           (asking.Ending 𝓛 (rule s) (bare_claim s w) j)
       others j w other = qed 𝓛 (‵ (rule s) ∷ ‵ (title s.names) ∷ []) ∵ move ! (1 ∷ []) $
-          use1 𝓛 (‵ (bare_claim s w)) (regained 𝓛 s a_handle (right_by_claim w) (stays-one w other)) $
+          use1 𝓛 (‵ (bare_claim s w)) (regranted 𝓛 s a_handle (right_by_claim w) (stays-one w other)) $
           move ! (1 ∷ 0 ∷ []) $ by ! (asking.closes 𝓛 (rule s) (bare_claim s w) j)
 
-      more : (j w n : ℕ) → n ≢ 1 → Says s.limit w false n → Lands 𝓛 s w false n (fsep a_unit Own)
+      more : (j w n : ℕ) → n ≢ 1 → StandsWithin s.limit w false n → Lands 𝓛 s w false n (fsep a_unit Own)
           (after_claim s w) j
-      more j w n other says = let more_than : is_one_handle w ≡ false = is_one_handle-unmarked w n n says.0
+      more j w n other holds = let more_than : is_one_handle w ≡ false = is_one_handle-unmarked w n n holds.0
           ∙ ne_eqb n 1 other in
           passes_on 𝓛 s w false n a_unit Own (bare_claim s w) (after_claim s w)
           j (kept-one w (stays-one w more_than))
           (qed 𝓛 (‵ (counts s w) ∷ ‵ (beside s false n) ∷ ‵ a_unit ∷ []) ∵
-          use2 𝓛 (‵ (rule s)) (lives 𝓛 s false w n says) $ move ! (1 ∷ []) $
+          use2 𝓛 (‵ (rule s)) (lives 𝓛 s false w n holds) $ move ! (1 ∷ []) $
           use1 𝓛 (‵ (title s.names)) (counted_stake 𝓛 s.names) $ move ! (1 ∷ 0 ∷ []) $
           by ! (others j w more_than))
 
       whole-so : (after : Fml) → Entails 𝓛 (fsep after ftrue) after
       whole-so after = qed 𝓛 (‵ after ∷ ‵ ftrue ∷ []) ∵ keep ! (0 ∷ []) $ done !
 
-      alone-one : (j w n : ℕ) → n ≡ 1 → Says s.limit w false n
+      alone-one : (j w n : ℕ) → n ≡ 1 → StandsWithin s.limit w false n
           → Lands 𝓛 s w false n (fsep a_unit Own) (after_claim s w) j
-      alone-one j w n one says =
-          let is : w ≡ 1 = sym (count_of-unmarked w says.0.same_mark) ∙ says.0.counts_live refl ∙ one in
+      alone-one j w n one holds =
+          let is : w ≡ 1 = sym (count_of-unmarked w holds.0.same_mark) ∙ holds.0.counts_live refl ∙ one in
           let wins : right_by_claim w ≡ whole_block 1 =
           ap (λ z. if z then whole_block 1 else a_handle) (eq-eqb w 1 is) in
           subst (λ z. Lands 𝓛 s z false n (fsep a_unit Own) (after_claim s w) j) (sym is)
           (subst (λ k. Lands 𝓛 s 1 false k (fsep a_unit Own) (after_claim s w) j) (sym one)
-          (subst (λ (r : Right). Lands 𝓛 s 1 false 1 (fsep a_unit Own) (gains s r) j) (sym wins) whole-one)) where
-            whole-one : Lands 𝓛 s 1 false 1 (fsep a_unit Own) (gains s (whole_block 1)) j
+          (subst (λ (r : Right). Lands 𝓛 s 1 false 1 (fsep a_unit Own) (grants s r) j) (sym wins) whole-one)) where
+            whole-one : Lands 𝓛 s 1 false 1 (fsep a_unit Own) (grants s (whole_block 1)) j
             whole-one = qed 𝓛 (‵ (counts s 1) ∷ ‵ (beside s false 1) ∷ ‵ (fsep a_unit Own) ∷ [])
                 ∵ nothing_more ! $
                 move ! (3 ∷ 0 ∷ []) $ fjoin ! $ move ! (1 ∷ 2 ∷ 0 ∷ []) $
-                by ! (passes_on 𝓛 s 1 false 1 (fsep a_unit Own) ftrue (gained s (whole_block 1))
-                (gains s (whole_block 1)) j (id⊢ 𝓤 _)
-                (last_one 𝓛 s (gained s (whole_block 1)) j 1 Own one-counted refl))
+                by ! (passes_on 𝓛 s 1 false 1 (fsep a_unit Own) ftrue (granted s (whole_block 1))
+                (grants s (whole_block 1)) j (id⊢ 𝓤 _)
+                (last_one 𝓛 s (granted s (whole_block 1)) j 1 Own one-counted refl))
 
       at : HeldSteps 𝓛 s step.claims (λ w. w) (λ w _. refl) (after_claim s) (λ _. Own)
           (turns_none 𝓛 s full_share step.claims (λ p some. some) (λ p. refl) (λ p. refl))
-      at j false true e w n small says = qed 𝓛 (‵ (counts s w) ∷ ‵ (beside s false n)
+      at j false true e w n small holds = qed 𝓛 (‵ (counts s w) ∷ ‵ (beside s false n)
           ∷ ‵ (fsep (a_stake s true e) Own)
           ∷ []) ∵ move ! (2 ∷ []) $ fsplit ! $ fsplit ! $
           fpick ! (λ c. drop ! $ use1 𝓛 (‵ a_unit) (part_in 64 𝓛 s.names.shared e c) $
           move ! (0 ∷ 1 ∷ []) $ fjoin ! $
           move ! (1 ∷ 2 ∷ 0 ∷ []) $
-          by ! (dite (ℕ_discrete n 1) (λ one. alone-one j w n one says) (λ other. more j w n other says)))
-      at j false false e w n small says = qed 𝓛 (‵ (counts s w) ∷ ‵ (beside s false n)
+          by ! (dite (ℕ_discrete n 1) (λ one. alone-one j w n one holds) (λ other. more j w n other holds)))
+      at j false false e w n small holds = qed 𝓛 (‵ (counts s w) ∷ ‵ (beside s false n)
           ∷ ‵ (fsep (a_stake s false e) Own) ∷ []) ∵ move ! (2 ∷ []) $ fsplit ! $ keep ! (3 ∷ 0 ∷ []) $
           by ! (not_yet_marked 𝓛 s e n _)
-      at j true y e w n small says = let more_than : is_one_handle w ≡ false =
-          is_one_handle-marked w says.0.same_mark in
+      at j true y e w n small holds = let more_than : is_one_handle w ≡ false =
+          is_one_handle-marked w holds.0.same_mark in
           passes_on 𝓛 s w true n (a_stake s y e) Own (bare_claim s w) (after_claim s w) j
           (kept-one w (stays-one w more_than))
           (qed 𝓛 (‵ (counts s w) ∷ ‵ (beside s true n) ∷ ‵ (entitled s.names e y)
           ∷ ‵ (flft (shared s) e) ∷ []) ∵
-          use2 𝓛 (‵ (rule s)) (lives 𝓛 s true w n says) $ move ! (1 ∷ []) $
+          use2 𝓛 (‵ (rule s)) (lives 𝓛 s true w n holds) $ move ! (1 ∷ []) $
           fpack ! Bool (entitled s.names e) y $ move ! (0 ∷ 2 ∷ []) $ fjoin ! $
           fpack ! Share (λ e. fsep (fex Bool (entitled s.names e)) (flft (shared s) e)) e $ move ! (1 ∷ 0 ∷ []) $
           by ! (others j w more_than))

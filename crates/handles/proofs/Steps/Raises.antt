@@ -13,12 +13,12 @@ use Rattle.handles.proofs.Steps.Shared.{Share, Fml}
 use Rattle.handles.proofs.Steps.Shared.{Logic, ‵, ◌⊛◌, ◌$◌, ◌∵◌, !, qed, by, move, split, fsplit}
 use Rattle.handles.proofs.Steps.Shared.{fjoin, use1, use2}
 use Rattle.handles.proofs.Steps.Shared.{rest, takes, mark_bit, StandsFor, count_of-unmarked, nothing, a_handle}
-use Rattle.handles.proofs.Steps.Shared.{right_by_read, Says, unit_of_count, title, pass, passed, passes_on, SharedBlock}
-use Rattle.handles.proofs.Steps.Shared.{counts, beside, rule, gained, counted_stake, lives, regained, Lands, Asks}
+use Rattle.handles.proofs.Steps.Shared.{right_by_read, StandsWithin, unit_of_count, title, pass, passed, passes_on, SharedBlock}
+use Rattle.handles.proofs.Steps.Shared.{counts, beside, rule, granted, counted_stake, lives, regranted, Lands, Asks}
 use Rattle.handles.proofs.Steps.Shared.{stepped, and_logged, begun_with, WordStep, List}
 use Rattle.handles.specs.Inside.Blocks.{reached}
-use Rattle.handles.proofs.Steps.Says.{stands-unmarked}
-use Rattle.handles.proofs.Steps.Reads.{bare_share, a_share, bare_told, told, told_passed, no_share, shut, found_marked}
+use Rattle.handles.proofs.Steps.Words.{stands-unmarked}
+use Rattle.handles.proofs.Steps.Reads.{bare_share, a_share, bare_reported, reported, reported_passed, no_share, shut, found_marked}
 use Rattle.handles.proofs.Steps.Reads.{found_unmarked}
 use Rattle.handles.proofs.Steps.Turns.{turns_raise}
 
@@ -27,10 +27,10 @@ abbrev pub raised : ℕ → ℕ → ℕ → ℕ
 raised seen next w = either (eqb w seen) next w
 
 abbrev pub after_raise : SharedBlock → Share → ℕ → ℕ → Fml
-after_raise s q seen w = told s q w (right_by_raise seen w)
+after_raise s q seen w = reported s q w (right_by_raise seen w)
 
 abbrev bare_raise : SharedBlock → Share → ℕ → ℕ → Fml
-bare_raise s q seen w = bare_told s q w (right_by_raise seen w)
+bare_raise s q seen w = bare_reported s q w (right_by_raise seen w)
 
 lost : (seen w : ℕ) → w ≢ seen → right_by_raise seen w ≡ right_by_read w
 lost seen w other = ap (λ y. if y then a_handle else right_by_read w) (ne_eqb w seen other)
@@ -39,17 +39,17 @@ module _ {M : Type 1} {𝓤 : Ura M} (𝓛 : Logic 𝓤) (s : SharedBlock) (q : 
     (old : List WordStep)
     (below : seen < s.limit) where
   -- a raise that wins
-  won : (j n : ℕ) → Says s.limit seen false n → Lands 𝓛 s (seen + 1) false n (bare_share s q)
+  won : (j n : ℕ) → StandsWithin s.limit seen false n → Lands 𝓛 s (seen + 1) false n (bare_share s q)
       (bare_raise s q seen seen) j
-  won j n says =
-      let most : s.limit ≤ 9223372036854775807 = s.most in
-      let low : seen < 9223372036854775807 = omega (arith, below, most) in
-      let same : n ≡ seen = sym (says.0.counts_live refl) ∙ count_of-unmarked seen says.0.same_mark in
+  won j n holds =
+      let most : s.limit ≤ greatest_count = s.most in
+      let low : seen < greatest_count = omega (arith, below, most) in
+      let same : n ≡ seen = sym (holds.0.counts_live refl) ∙ count_of-unmarked seen holds.0.same_mark in
       let room : n ≢ greatest_count = λ full. absurd (omega arith) in
       let stands : StandsFor (seen + 1) false (n + 1) (n + 1) = stands-unmarked (seen + 1) (n + 1) n (n + 1)
-      (stands-raised seen n n says.0 room) in
-      let within : (seen + 1) % 9223372036854775808 ≤ s.limit = omega (arith, below) in
-      let next : Says s.limit (seen + 1) false (n + 1) = (stands, λ _. within) in
+      (stands-raised seen n n holds.0 room) in
+      let within : (seen + 1) % mark_bit ≤ s.limit = omega (arith, below) in
+      let next : StandsWithin s.limit (seen + 1) false (n + 1) = (stands, λ _. within) in
       let wins : right_by_raise seen seen ≡ a_handle = ap (λ y. if y then a_handle else right_by_read seen)
       (eq-eqb seen seen refl) in
       qed 𝓛 (‵ (counts s (seen + 1)) ∷ ‵ (beside s false n) ∷ ‵ (bare_share s q) ∷ [])
@@ -60,8 +60,8 @@ module _ {M : Type 1} {𝓤 : Ura M} (𝓛 : Logic 𝓤) (s : SharedBlock) (q : 
       move ! (0 ∷ 2 ∷ []) $ fjoin ! $ move ! (2 ∷ 0 ∷ []) $
       use2 𝓛 (‵ (rule s)) (lives 𝓛 s false (seen + 1) (n + 1) next) $ move ! (1 ∷ []) $
       use1 𝓛 (‵ (title s.names)) (counted_stake 𝓛 s.names) $
-      use1 𝓛 (‵ (gained s (right_by_raise seen seen))) (regained 𝓛 s a_handle (right_by_raise seen seen) wins) $
-      move ! (1 ∷ 0 ∷ []) $ by ! (shut 𝓛 s q (right_by_raise seen seen) j seen says.1)
+      use1 𝓛 (‵ (granted s (right_by_raise seen seen))) (regranted 𝓛 s a_handle (right_by_raise seen seen) wins) $
+      move ! (1 ∷ 0 ∷ []) $ by ! (shut 𝓛 s q (right_by_raise seen seen) j seen holds.1)
 
   is_raised : (w : ℕ) → step.word_by (step.raises_from seen) w ≡ raised seen (seen + 1) w
   is_raised w = dite (ℕ_discrete w seen)
@@ -81,27 +81,27 @@ module _ {M : Type 1} {𝓤 : Ura M} (𝓛 : Logic 𝓤) (s : SharedBlock) (q : 
       (stepped 𝓛 s old (reached s.log old) (begun_with 𝓛 s old) (step.raises_from seen) (raised seen (seen + 1))
       (λ w _. is_raised w) (after_raise s q seen) (bare_share s q) (pass s.names.handles s.names.own q) Also
       (turns_raise 𝓛 s q seen below)
-      (λ j mark w n small says. passes_on 𝓛 s (raised seen (seen + 1) w) mark n (bare_share s q) (Also w)
-      (bare_raise s q seen w) (after_raise s q seen w) j (told_passed 𝓛 s q w (right_by_raise seen w))
-      (at j mark w n says)) (no_share 𝓛 s q))
+      (λ j mark w n small holds. passes_on 𝓛 s (raised seen (seen + 1) w) mark n (bare_share s q) (Also w)
+      (bare_raise s q seen w) (after_raise s q seen w) j (reported_passed 𝓛 s q w (right_by_raise seen w))
+      (at j mark w n holds)) (no_share 𝓛 s q))
     where
       F : ℕ → Bool → ℕ → ℕ → Bool → Type 1
       F j mark w n y = Lands 𝓛 s (either y (seen + 1) w) mark n (bare_share s q) (bare_raise s q seen w) j
 
-      missed : (j : ℕ) (mark : Bool) (w n : ℕ) → w ≢ seen → Says s.limit w mark n → F j mark w n false
-      missed j true w n other says = found_marked 𝓛 s q (right_by_raise seen w)
-          (lost seen w other ∙ ap (λ y. if y then a_handle else nothing) says.0.same_mark) j w n says
-      missed j false w n other says = found_unmarked 𝓛 s q (right_by_raise seen w)
-          (lost seen w other ∙ ap (λ y. if y then a_handle else nothing) says.0.same_mark) j w n says
+      missed : (j : ℕ) (mark : Bool) (w n : ℕ) → w ≢ seen → StandsWithin s.limit w mark n → F j mark w n false
+      missed j true w n other holds = found_marked 𝓛 s q (right_by_raise seen w)
+          (lost seen w other ∙ ap (λ y. if y then a_handle else nothing) holds.0.same_mark) j w n holds
+      missed j false w n other holds = found_unmarked 𝓛 s q (right_by_raise seen w)
+          (lost seen w other ∙ ap (λ y. if y then a_handle else nothing) holds.0.same_mark) j w n holds
 
-      same_word : (j : ℕ) (mark : Bool) (n : ℕ) → Says s.limit seen mark n → F j mark seen n true
-      same_word j true n says = let most : s.limit ≤ 9223372036854775807 = s.most in
-          let low : seen < 9223372036854775807 = omega (arith, below, most) in
-          let high : 9223372036854775808 ≤ seen = leb-true mark_bit seen says.0.same_mark in absurd (omega arith)
-      same_word j false n says = won j n says
+      same_word : (j : ℕ) (mark : Bool) (n : ℕ) → StandsWithin s.limit seen mark n → F j mark seen n true
+      same_word j true n holds = let most : s.limit ≤ greatest_count = s.most in
+          let low : seen < greatest_count = omega (arith, below, most) in
+          let high : mark_bit ≤ seen = leb-true mark_bit seen holds.0.same_mark in absurd (omega arith)
+      same_word j false n holds = won j n holds
 
-      at : (j : ℕ) (mark : Bool) (w n : ℕ) → Says s.limit w mark n → F j mark w n (eqb w seen)
-      at j mark w n says = dite (ℕ_discrete w seen)
+      at : (j : ℕ) (mark : Bool) (w n : ℕ) → StandsWithin s.limit w mark n → F j mark w n (eqb w seen)
+      at j mark w n holds = dite (ℕ_discrete w seen)
           (λ same. subst (λ z. F j mark z n (eqb z seen)) (sym same) (subst (F j mark seen n)
-          (sym (eq-eqb seen seen refl)) (same_word j mark n (subst (λ z. Says s.limit z mark n) same says))))
-          (λ other. subst (F j mark w n) (sym (ne_eqb w seen other)) (missed j mark w n other says))
+          (sym (eq-eqb seen seen refl)) (same_word j mark n (subst (λ z. StandsWithin s.limit z mark n) same holds))))
+          (λ other. subst (F j mark w n) (sym (ne_eqb w seen other)) (missed j mark w n other holds))

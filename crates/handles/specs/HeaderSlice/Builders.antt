@@ -27,7 +27,7 @@ module _ {S A : Type 0} (steps : S → Option A → S → Type 0) (source : S) (
   abbrev pub Refuses : BuildError → Type 0
   Refuses refusal = (after : S) × RefusesUpTo after refusal
 
-  -- the refusals told of runs, as `TakesAll` tells what is built
+  -- the refusals reported of runs, as `TakesAll` tells what is built
   abbrev pub RefusesRun : BuildError → Type 0
   RefusesRun Memory = ⊤
   RefusesRun OverReported = WholeRun steps source (λ p. p.len < n)

@@ -3,9 +3,9 @@
 use Rattle.std.specs.Prelude.{false}
 use Rattle.std.specs.Borrow.{Fml, MutBor, RattleType, Lends, LendsIf}
 use Rattle.std.specs.declared.option.Option.{Option}
-use Rattle.handles.specs.declared.block.Handle.{Handle}
+use Rattle.handles.specs.declared.block.handle.Handle.{Handle}
 use Rattle.handles.specs.declared.block.Block.{Block}
-use Rattle.handles.specs.contracts.block.Handle.{the_row}
+use Rattle.handles.specs.contracts.block.handle.Handle.{the_row}
 use Rattle.handles.specs.contracts.block.Block.{the_row as block_row}
 
 -- the limit stays

@@ -13,7 +13,7 @@ use Rattle.core.specs.Allocator.{array_of}
 use Rattle.std.specs.contracts.impls.GlobalAllocator.TheImpl.{ghosts}
 use Rattle.std_alloc.specs.Vec.Ownership.{owns_if}
 
--- the right to give a block back to the heap, whose handle has no other value
+-- the right to free a block, whose handle has no other value
 abbrev pub right_to_free : Ty → Ptr → Fml
 right_to_free = ghosts.dealloc_token (record { memory = record { seal = tt } })
 
@@ -26,22 +26,22 @@ module _ (R : RattleType) where
   abbrev pub spare : Ptr → ℕ → ℕ → Fml
   spare p filled room = room_for (array_of R (room - filled)) (p +ₚ filled * type_size R)
 
-  -- there is a block to give back if the places take bytes
-  abbrev pub gives_back : Ptr → ℕ → Fml
-  gives_back p room = owns_if (not (room * type_size R == 0)) (right_to_free (array_of R room) p)
+  -- there is a block to free if the places take bytes
+  abbrev pub frees_room : Ptr → ℕ → Fml
+  frees_room p room = owns_if (not (room * type_size R == 0)) (right_to_free (array_of R room) p)
 
   -- the items lie side by side from the first place on
   abbrev pub places_own : Ptr → ℕ → ℕ → List R.Denot → Fml
   places_own p filled room items =
       fsep (fits room) (fsep (lies_at (Array R filled) full_share p items)
-      (fsep (spare p filled room) (gives_back p room)))
+      (fsep (spare p filled room) (frees_room p room)))
 
   -- the items that are left lie side by side from the place after `taken` on
   abbrev pub leaving_own : Ptr → ℕ → ℕ → ℕ → List R.Denot → Fml
   leaving_own p taken filled room items =
       fsep (fits room) (fsep (room_for (array_of R taken) p)
       (fsep (lies_at (Array R (filled - taken)) full_share (p +ₚ taken * type_size R) items)
-      (fsep (spare p filled room) (gives_back p room))))
+      (fsep (spare p filled room) (frees_room p room))))
 
   -- a `&` to the places shows their items
   abbrev pub places_share : Ptr → ℕ → ℕ → List R.Denot → Lft → Fml

@@ -32,7 +32,7 @@ impl<T: Drop> Arc<T> {
     pub fn into_inner(this: Arc<T>) -> Option<T>
         ensures { IfSome result (λ value. value ≡ this) }
     {
-        let block = this.handle.end()?;
+        let block = this.handle.end().ok()?;
         Some(Box::into_inner(block).into_value())
     }
 

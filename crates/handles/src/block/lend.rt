@@ -4,7 +4,7 @@ ghost use types.Logic.{sem};
 ghost use Rattle.handles.specs.Inside.BlockWriteBack.{LendsIfAlone};
 ghost use Rattle.handles.specs.Copies.{SameOrCopy};
 
-use super::{Block, Handle, Loose};
+use super::{Block, Handle, RawBox};
 use counting_word::is_alone;
 use std::alloc::{AllocError, Global};
 
@@ -13,7 +13,7 @@ impl<T> Handle<T> {
     fn is_sole(&mut self) -> bool
         ensures { self.new ≡ record self.old { sole = result } }
     {
-        is_alone(self.claim().0)
+        is_alone(self.read_for_unique().0)
     }
 
     #[inline]
@@ -38,7 +38,7 @@ impl<T> Handle<T> {
         if !self.is_sole() {
             return Err(self);
         }
-        Ok(self.into_gain().into_loose().into_box())
+        Ok(self.into_permit().into_raw_box().into_box())
     }
 
     // Gets a block of its own, unless it is the only handle of its block. The value is copied before anything else
@@ -57,7 +57,7 @@ impl<T> Handle<T> {
         let copy = self.value().clone()?;
         match Block::boxed(alloc, copy, self.limit()) {
             Ok(block) => {
-                *self = Handle::first(Loose::of(block));
+                *self = Handle::first(RawBox::of(block));
                 Ok(())
             }
             Err(_) => Err(AllocError),

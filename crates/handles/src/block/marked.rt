@@ -6,11 +6,11 @@ ghost use Rattle.handles.specs.declared.block.Held.{Held};
 ghost use Rattle.handles.specs.Founds.{FoundUnmarked};
 ghost use Rattle.handles.specs.Inside.Marked.{HasMark, marked_shares};
 
-use super::{Block, Handle, Held, Logged, Loose};
+use super::{Block, Handle, Held, Logged, RawBox};
 use counting_word::is_marked;
 use std::marker::{Move, Owns};
 
-// No `Marked` is ever owned. A `&` to one says that the block there is marked, so that it is never given back. To the
+// No `Marked` is ever owned. A `&` to one says that the block there is marked, so that it is never freed. To the
 // log it is a handle that never ends. Its field is not read: the block itself would be a value `T`, through which no
 // type leads back to itself.
 pub(crate) struct Marked<T> {
@@ -31,13 +31,13 @@ unsafe impl<T: Send + Sync> Sync for Marked<T> {}
 
 impl<T> Marked<T> {
     // Of a new block, marked before it is shared.
-    pub(crate) fn of<'a>(block: Loose<Block<T>>) -> &'a Marked<T>
+    pub(crate) fn of<'a>(block: RawBox<Block<T>>) -> &'a Marked<T>
     where
         T: 'a,
         requires { block.value.word ≡ marked_word 1 }
         ensures { result.now ≡ block.value.held }
     {
-        let Loose { at, alloc: _ } = block;
+        let RawBox { at, alloc: _ } = block;
         unsafe { &*(at as *const Marked<T>) }
     }
 
@@ -97,13 +97,13 @@ impl<T> Handle<T> {
         T: 'a,
         requires { self.now.sole ≡ false }
         ensures found { IfOk result (λ m. m.now ≡ self.now.held) }
-        ensures none { IfErr result (λ told. (told.id ≡ self.now.id) × FoundUnmarked told.log) }
+        ensures none { IfErr result (λ logged. (logged.id ≡ self.now.id) × FoundUnmarked logged.log) }
     {
-        let (word, told) = self.word();
+        let (word, logged) = self.word();
         if is_marked(word) {
-            Ok(self.marked_by(told))
+            Ok(self.marked_by(logged))
         } else {
-            Err(told)
+            Err(logged)
         }
     }
 }

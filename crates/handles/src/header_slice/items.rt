@@ -76,6 +76,6 @@ impl<T: Drop> Drop for Items<T> {
         for _ in 0..number {
             drop(leaving.take_first());
         }
-        leaving.give_back(&alloc);
+        leaving.free(&alloc);
     }
 }

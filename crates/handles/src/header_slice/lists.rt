@@ -26,7 +26,7 @@ impl<H: Drop, T: Drop> Arc<HeaderSlice<H, T>> {
     /// The header beside the items of a vector, which are moved, not cloned.
     ///
     /// Memory is requested as by `from_header_and_iter`. If it is refused, the header and the items are dropped.
-    /// The vector's own memory is given back either way.
+    /// The vector's own memory is freed either way.
     pub fn from_header_and_vec(
         alloc: Global,
         header: H,
@@ -60,7 +60,7 @@ impl<H: Drop, T: Drop> UniqueArc<HeaderSlice<H, T>> {
     /// The header beside the items of a vector, which are moved, not cloned.
     ///
     /// Memory is requested as by `from_header_and_iter`. If it is refused, the header and the items are dropped.
-    /// The vector's own memory is given back either way.
+    /// The vector's own memory is freed either way.
     pub fn from_header_and_vec(
         alloc: Global,
         header: H,

@@ -47,7 +47,7 @@ impl<H: Drop, T: Drop> Arc<HeaderSlice<H, T>> {
         Arc::from_header_and_iter_alloc(alloc, header, items, num_items, false)
     }
 
-    /// As `from_header_and_iter_with_size`. With `is_static` the block is marked: it is never given back, and its value
+    /// As `from_header_and_iter_with_size`. With `is_static` the block is marked: it is never freed, and its value
     /// is never dropped.
     pub fn from_header_and_iter_alloc<I: Iterator<Item = T>>(
         alloc: Global,

@@ -138,7 +138,7 @@ impl<T> Leaving<T> {
         unsafe { self.first.add(at).read() }
     }
 
-    pub(super) fn give_back(self, alloc: &Global)
+    pub(super) fn free(self, alloc: &Global)
         requires empty { self.items ≡ [] }
     {
         let Leaving {

@@ -18,7 +18,7 @@ use Rattle.handles.specs.declared.arc.Arc.TheInside.{Inside}
 use Rattle.handles.specs.declared.arc.Arc.TheView.{view, invariant}
 use Rattle.handles.specs.contracts.arc.Arc as C
 use Rattle.handles.specs.contracts.arc.Arc.TheInside as I
-use Rattle.handles.specs.formers.block.Handle as handle
+use Rattle.handles.specs.formers.block.handle.Handle as handle
 
 abbrev pub the_former : Former {0} → Former {0}
 the_former g = g

@@ -9,7 +9,7 @@ use Rattle.handles.proofs.Walks.{returns, enter, alloc_all, pass_all, free_all, 
 use Rattle.handles.proofs.Walks.{tables, yes, RattleType, owns, types_at, plain, Ptr, block_ptr, nothing_more}
 use Rattle.handles.proofs.Walks.{param, layouts, RefOf, shr_vals, shr_Tells, Stays, stay_dropped, walk_of}
 use Rattle.handles.proofs.Walks.{Goes-dropped, proved, leaves, HeldRow, one_word, words_made, HandleWords, known}
-use Rattle.handles.proofs.Walks.{shows_gain}
+use Rattle.handles.proofs.Walks.{shows_permit}
 use types.Tokens.{shr_bor-open}
 use types.Kit.{some as exists}
 use denote.Opens.{unhide}
@@ -20,7 +20,7 @@ use Rattle.counting_word.specs.WordSteps as step
 use Rattle.handles.proofs.BorrowedHandle.{lent_halves}
 use Rattle.handles.proofs.Steps.Shared.{SharedBlock, block_at}
 use Rattle.handles.proofs.Steps.Born.{Born, born}
-use Rattle.handles.specs.contracts.block.Handle as handle_type
+use Rattle.handles.specs.contracts.block.handle.Handle as handle_type
 use Rattle.handles.specs.contracts.block.marked.Marked as marked_type
 use Rattle.handles.specs.contracts.block.marked.Marked.handle.{ended, clauses}
 use Rattle.handles.specs.contracts.block.marked.Marked.handle.Key.{name as #self}
@@ -58,7 +58,7 @@ handle_spec 𝓤 𝓛 𝓜 𝓡 wired T L =
     use1 𝓛 (‵ (finv I) ⊛ ‵ (finv I)) (𝓛.invs.inv_dup I) $ split ! $ move ! (0 ∷ 2 ∷ []) $
     use2 𝓛 (later (exists (λ (w : ℕ). ‵ (Born 𝓛 s e w)))) (born 𝓛 s e) $ await ! tt $
     pick ! (λ w. fsplit ! $ drop ! $
-    shows_gain R p x t.0 ! tt tt i a_handle [] step.reads w (λ log added. fsplit ! $ drop ! $
+    shows_permit R p x t.0 ! tt tt i a_handle [] step.reads w (λ log added. fsplit ! $ drop ! $
     sets ! (addr ! (through ! refl (stop !))) refl (tt, tt) $ sets ! (of_opd ! (get ! refl)) refl (tt, tt) $
     sets ! (agg ! (and_then ! (get ! refl) (no_more !))) refl (tt, (tt, tt)) $
     use0 𝓛 (‵ ((HandleWords R).own_val (p, tt) (one_word p ∷ []))) (words_made (handle_type.the_type R).name (R

@@ -12,7 +12,7 @@ use Rattle.handles.proofs.Walks.{stay_dropped, walk_of, after, proved_at, leaves
 use denote.Opens.{hide}
 use contract.BorrowLft.{◌⊑◌}
 use Rattle.counting_word.specs.CountingWord.{marked_word}
-use Rattle.handles.proofs.LooseBoxes.{Goes-blank, pair_val, LooseRow, loose-Good, loose_opens}
+use Rattle.handles.proofs.RawBoxes.{Goes-blank, pair_val, RawBoxRow, raw_box-Good, raw_box_opens}
 use Rattle.handles.specs.contracts.block.Block as block_type
 use Rattle.handles.specs.Inside.Blocks.{bare_block}
 use Rattle.handles.specs.Inside.Marked.{marked_shares}
@@ -29,12 +29,12 @@ of_spec 𝓤 𝓛 𝓜 𝓡 wired T L =
     let En = ended T in
     let c = clauses T 𝓛 𝓜.mem 𝓡.returns in
     let inst = layouts (a_type ∷ []) (T, tt) in let fn = inst_fn inst code.function in
-    let Loose : RattleType = LooseRow (block_type.the_row R) in let boxed = plain (λ _. Loose) in
+    let RawBox : RattleType = RawBoxRow (block_type.the_row R) in let boxed = plain (λ _. RawBox) in
     let hs : Stays En.signature.params En.kept = (stay_dropped boxed no, tt) in
     proved_at 𝓛 En hs c 𝓜 𝓡 (Goes-blank 𝓛 2 boxed no (λ κs x f. tt), tt)
     (#self inst) fn (code.unfolded 𝓤 H 𝓜 𝓡 wired (T, tt)) (λ z are.
     let κ : Lft = z.0.0.1.0 in let q : Share = z.0.1.1.0 in let a : Lft = z.0.0.0 in
-    let d : Loose.Denot = z.0.3.0 in let x : (HeldRow R).Denot = d.value.held in
+    let d : RawBox.Denot = z.0.3.0 in let x : (HeldRow R).Denot = d.value.held in
     let Post : Val → SProp 𝓤 = (walk_of 𝓛 En hs c).post z in
     let Run : List Val → SProp 𝓤 = λ ws. WpFn 𝓤 H 𝓣.C 𝓣.Λ fn ws Post in
     qed 𝓛 (((‵ (flft a z.0.1.0) ⊛ ‵ (fsep (flft κ q) ftrue))
@@ -42,7 +42,7 @@ of_spec 𝓤 𝓛 𝓜 𝓡 wired T L =
     ∷ raw (fact 𝓤 (κ ⊑ T.lives)) ∷ raw (fact 𝓤 (d.value.word ≡ marked_word 1)) ∷ []) ∵
     keep ! (2 ∷ 1 ∷ 0 ∷ []) $ heard ! (d.value.word ≡ marked_word 1) (λ is_marked. heard ! (κ ⊑ T.lives)
     (λ lives. split ! $ move ! (1 ∷ []) $ fsplit ! $
-    loose_opens (block_type.the_row R) ! d z.0.4.0 (λ b o h placed is_pair good. let p : Ptr = block_ptr b o in
+    raw_box_opens (block_type.the_row R) ! d z.0.4.0 (λ b o h placed is_pair good. let p : Ptr = block_ptr b o in
     -- [the box; its allocator; nothing; the tokens]
     use1 𝓛 (‵ (bare_block R p x d.value.word))
     (box_opens T L 𝓛 b o d.value.word d.value.stamp x d.value.alloc) $
@@ -56,7 +56,7 @@ of_spec 𝓤 𝓛 𝓜 𝓡 wired T L =
     suffices ! (Run (pair_val (vptr b o) h ∷ [])) (subst (λ (us : List Val). ent 𝓤 (Run (pair_val (vptr b o) h
     ∷ [])) (Run us)) (sym (λ j. is_pair j ++ [])) (id⊢ 𝓤 _)) $
     enter ! 𝓣.C 𝓣.Λ fn (pair_val (vptr b o) h ∷ []) Post $
-    alloc_all ! (λ l. pass_all ! refl (loose-Good b o h good, tt) $ let Ev = env fn.locals l in await ! tt $
+    alloc_all ! (λ l. pass_all ! refl (raw_box-Good b o h good, tt) $ let Ev = env fn.locals l in await ! tt $
     split ! $
     -- [what lasts; its token; no more; the other token]
     move ! (1 ∷ 2 ∷ []) $ fjoin ! $ move ! (2 ∷ 0 ∷ []) $ join ! $ move ! (1 ∷ []) $

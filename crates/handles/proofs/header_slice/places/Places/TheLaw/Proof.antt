@@ -1,4 +1,4 @@
--- A `&` to the places lends the items and neither the room after them nor the right to give the block back. Assumes
+-- A `&` to the places lends the items and neither the room after them nor the right to free the block. Assumes
 -- `Logic`.
 use mathlib.Core.List.{[], ◌++◌}
 use base.Fml.{Incl-trans}

@@ -73,7 +73,7 @@ push_spec 𝓤 𝓛 𝓜 𝓡 wired T L =
     as_written ! (ty_array τ (room - n)) b (o + n * s) $
     use1 𝓛 (‵ (froom τ b (n * s + o)) ⊛ ‵ (froom (ty_array τ (room - (n + 1))) b (o + (n + 1) * s)))
     (spare E 𝓛 b o n room below) $ split ! $
-    -- [the place; the room after it; the items; the right to give back; the cell; the open borrow; its two names; the
+    -- [the place; the room after it; the items; the right to free; the cell; the open borrow; its two names; the
     -- item; nothing; the token of T]
     sets ! (of_opd ! (load ! (through ! refl (fld ! refl (stop !))) (look_in ! 4 (sub ! 1 refl (whole !)))))
     refl (tt, record { fits = small_filled }) $ first ! $ blocks ! $

@@ -119,7 +119,7 @@ reserve_spec 𝓤 𝓛 𝓜 𝓡 wired T L =
     sets ! (agg ! (and_then ! (get ! refl) (and_then ! (lit ! tt) (and_then ! (get ! refl) (no_more !)))))
     refl typed $ sets_last ! (agg ! (and_then ! (lit ! tt) (and_then ! (get ! refl) (no_more !)))) refl ok $
     exec ! 𝓣.C 𝓣.Λ Ev (after 3 fn.body) (at_ret Ev Post) $ sets ! (of_opd ! (get ! refl)) refl ok $
-    -- [the room; the right to give it back; the token; the other tokens]
+    -- [the room; the right to free it; the token; the other tokens]
     as_written ! (ty_array (layout T) room) b o $
     rewrite ! 1 (λ (x : Bool). ‵ (owns_if x right)) (has_bytes bytes some) refl $
     places_made R ! b o room small fits $

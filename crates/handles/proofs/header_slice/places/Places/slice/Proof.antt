@@ -17,7 +17,7 @@ use denote.Opens.{unhide, hide}
 use denote.Struct.Lending.{in_block_says}
 use denote.Struct.Owning.{to}
 use Rattle.handles.specs.Inside.PlacesOwnership.{places_share}
-use Rattle.handles.proofs.PlacesFields.{PlacesType, PlacesWords, words_told}
+use Rattle.handles.proofs.PlacesFields.{PlacesType, PlacesWords, words_are}
 use Rattle.handles.proofs.PlacesShared.{words_open}
 use Rattle.handles.specs.contracts.header_slice.places.Places.slice.{ended, clauses}
 use Rattle.handles.specs.contracts.header_slice.places.Places.slice.Key.{name as #self}
@@ -58,10 +58,10 @@ slice_spec 𝓤 𝓛 𝓜 𝓡 wired T L =
     let small : n * type_size R < 2 ^ 63 = lt_of_le_of_lt (mul-le-mul_right (type_size R)
     (subst (λ (k : ℕ). k ≤ s.room) long s.within.1)) fit in
     move ! (1 ∷ 2 ∷ []) $ looks ! tt D (words_open R 𝓛) (to O s) b o (λ r vs. move ! (1 ∷ []) $
-    peeks ! D (Is D) (shows 𝓛 D) (to O s) vs (λ is_so. let told = words_told R p s.filled s.room vs is_so in
-    let fits : s.filled < 2 ^ 64 = told.1 in
+    peeks ! D (Is D) (shows 𝓛 D) (to O s) vs (λ is_so. let reported = words_are R p s.filled s.room vs is_so in
+    let fits : s.filled < 2 ^ 64 = reported.1 in
     let ev : vs ≡ places_val (block_ptr pb po)
-    s.filled s.room ∷ [] = told.0 ∙ ap (λ (z : Ptr). places_val z s.filled s.room ∷ []) at in
+    s.filled s.room ∷ [] = reported.0 ∙ ap (λ (z : Ptr). places_val z s.filled s.room ∷ []) at in
     let Cell = λ (ws : List Val). ‵ (cell_at r D.mir ws b o) in
     rewrite ! 1 Cell ev refl $ first ! $ blocks ! $
     sets ! (of_opd ! (load ! (through ! refl (fld ! refl (stop !))) (look_in ! 1 (sub ! 0 refl (whole !)))))

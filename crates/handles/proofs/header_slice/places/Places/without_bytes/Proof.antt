@@ -41,7 +41,7 @@ without_bytes_spec 𝓤 𝓛 𝓜 𝓡 wired T L =
     let typed : Good (layout P) v = (tt, (tt, (record { fits = lit< tt }, (record { fits = small }, tt)))) in
     sets ! (agg ! (no_more !)) refl (tt, tt) $ sets ! (addr ! (from ! (stop !))) refl (tt, tt) $
     sets ! (agg ! (and_then ! (get ! refl) (and_then ! (lit ! tt) (and_then ! (get ! refl) (no_more !))))) refl typed $
-    -- there is nothing to give back, and the room comes from nothing
+    -- there is nothing to free, and the room comes from nothing
     nothing_more ! $ rewrite ! 0 (λ (x : Bool). ‵ (owns_if x (right_to_free (array_of R room) (block_ptr b 0))))
     (no_bytes bytes none) refl $
     use0 𝓛 (‵ (froom (ty_array (layout T) room) b 0)) (no_memory 𝓛 (layout T) room b 0 none) $

@@ -1,0 +1,83 @@
+-- The read by which a handle ends, and what every step by a handle's holder has. Assumes `Logic`.
+use Rattle.counting_word.specs.CountingWord.{is_marked_word}
+use base.Logic.{id⊢}
+use Rattle.counting_word.specs.WordSteps.{reads_last}
+use Rattle.counting_word.specs.Rights.{to_lower, right_by_last_read}
+use Rattle.handles.proofs.Asking as asking
+use Rattle.handles.proofs.Steps.Turns.{turns_last}
+use Rattle.handles.proofs.Steps.Shared.{◌≡◌, ℕ, ◌^◌, ◌<◌, Bool, true, false, [], ◌∷◌, ap}
+use Rattle.handles.proofs.Steps.Shared.{if◌then◌else◌, Ura, SProp}
+use Rattle.handles.proofs.Steps.Shared.{ent, never, Share, Fml, fsep, flft, Logic, sem, ‵, ◌$◌, ◌∵◌, !, qed}
+use Rattle.handles.proofs.Steps.Shared.{by, move}
+use Rattle.handles.proofs.Steps.Shared.{keep, drop, fsplit, fsplit3, fpick, use1, use2, part_in, nothing_more, nothing}
+use Rattle.handles.proofs.Steps.Shared.{StandsWithin, unit_of_count, unshared, marked, entitled, stake, SharedBlock, shared}
+use Rattle.handles.proofs.Steps.Shared.{unmarked, counts, beside, rule, granted, no_token, lives, regranted, Lands, Asks}
+use Rattle.handles.proofs.Steps.Shared.{fjoin, full_share, title, grants, pass, passed, passes_on, Turns, stepped}
+use Rattle.handles.proofs.Steps.Shared.{and_logged, unknown, ftrue, WordStep, word_by, refl}
+
+-- what the holder of a handle has: a share e of the token, to which it is entitled as y says
+abbrev pub a_stake : SharedBlock → Bool → Share → Fml
+a_stake s y e = fsep (entitled s.names e y) (flft (shared s) e)
+
+abbrev pub after_last_read : SharedBlock → ℕ → Fml
+after_last_read s w = grants s (right_by_last_read w)
+
+abbrev bare_last_read : SharedBlock → ℕ → Fml
+bare_last_read s w = granted s (right_by_last_read w)
+
+module _ {M : Type 1} {𝓤 : Ura M} (𝓛 : Logic 𝓤) (s : SharedBlock) where
+  no_stake : ent 𝓤 (sem 𝓛 (fsep (unshared s.names) (title s.names))) (never 𝓤)
+  no_stake = qed 𝓛 (‵ (unshared s.names) ∷ ‵ (title s.names) ∷ []) ∵ move ! (1 ∷ []) $
+      fpick ! (λ e. fsplit ! $ keep ! (1 ∷ 2 ∷ []) $ by ! (no_token 𝓛 (shared s) e (never 𝓤)))
+
+  -- an unmarked block's handle has one part
+  pub not_yet_marked : (e : Share) (n : ℕ) (X : SProp 𝓤) → ent 𝓤 (sem 𝓛 (fsep (beside s false n)
+      (a_stake s false e))) X
+  not_yet_marked e n X = qed 𝓛 (‵ (beside s false n) ∷ ‵ (marked s.names) ∷ ‵ (flft (shared s) e)
+      ∷ []) ∵ fsplit3 ! $
+      keep ! (2 ∷ 3 ∷ []) $ by ! (no_token 𝓛 (unmarked s) full_share X)
+
+  module _ (what : WordStep) (f : ℕ → ℕ) (is : (w : ℕ) → w < 2 ^ 64 → word_by what w ≡ f w)
+      (after Also : ℕ
+      → Fml) (turns : Turns 𝓛 s what (pass s.names.handles s.names.own full_share) Also) where
+    abbrev pub HeldSteps : Type 1
+    HeldSteps = (j : ℕ) (mark y : Bool) (e : Share) (w n : ℕ) → w < 2 ^ 64 → StandsWithin s.limit w mark n
+        → Lands 𝓛 s (f w) mark n (fsep (a_stake s y e) (Also w)) (after w) j
+
+    pub held_step : HeldSteps → Asks 𝓛 s f (fsep ftrue (stake s.names)) (and_logged s [] what after)
+    held_step steps = stepped 𝓛 s [] ftrue (unknown 𝓛 s) what f is after (title s.names)
+        (pass s.names.handles s.names.own full_share)
+        Also turns (λ j mark w n small holds. qed 𝓛 (‵ (counts s (f w))
+        ∷ ‵ (beside s mark n) ∷ ‵ (fsep (title s.names) (Also w)) ∷ []) ∵ move ! (2 ∷ []) $ fsplit ! $
+        fpick ! (λ e. fsplit ! $ fpick ! (λ y. move ! (0 ∷ 1 ∷ []) $ fjoin ! $ move ! (0 ∷ 1 ∷ []) $ fjoin ! $
+        move ! (1 ∷ 2 ∷ 0 ∷ []) $ by ! (steps j mark y e w n small holds)))) no_stake
+
+  pub last_reads : Asks 𝓛 s (λ w. w) (fsep ftrue (stake s.names)) (and_logged s [] reads_last (after_last_read s))
+  last_reads = held_step reads_last (λ w. w) (λ w _. refl) (after_last_read s) (λ w. passed s (right_by_last_read w))
+      (turns_last 𝓛 s)
+      (λ j mark y e w n small holds. passes_on 𝓛 s w mark n (a_stake s y e) (passed s (right_by_last_read w))
+      (bare_last_read s w) (after_last_read s w) j (id⊢ 𝓤 _) (at j mark y e w n holds))
+    where
+      right_is : (w : ℕ) (y : Bool)
+          → is_marked_word w ≡ y → right_by_last_read w ≡ (if y then nothing else to_lower)
+      right_is w y e = ap (λ z. if z then nothing else to_lower) e
+
+      at : (j : ℕ) (mark y : Bool) (e : Share) (w n : ℕ) → StandsWithin s.limit w mark n
+          → Lands 𝓛 s w mark n (a_stake s y e) (bare_last_read s w) j
+      at j false true e w n holds = qed 𝓛 (‵ (counts s w) ∷ ‵ (beside s false n)
+          ∷ ‵ (entitled s.names e true)
+          ∷ ‵ (flft (shared s) e) ∷ []) ∵ use2 𝓛 (‵ (rule s)) (lives 𝓛 s false w n holds) $
+          move ! (1 ∷ []) $
+          fpick ! (λ c. drop ! $ move ! (1 ∷ []) $
+          use1 𝓛 (‵ (unit_of_count s.names)) (part_in 64 𝓛 s.names.shared e c) $
+          use1 𝓛 (‵ (bare_last_read s w)) (regranted 𝓛 s to_lower (right_by_last_read w)
+          (right_is w false holds.0.same_mark)) $ move ! (1 ∷ 0 ∷ []) $
+          by ! (asking.closes 𝓛 (rule s) (bare_last_read s w) j))
+      at j false false e w n holds = qed 𝓛 (‵ (counts s w) ∷ ‵ (beside s false n) ∷ ‵ (a_stake s false e)
+          ∷ []) ∵
+          keep ! (1 ∷ 2 ∷ []) $ by ! (not_yet_marked e n _)
+      at j true y e w n holds = qed 𝓛 (‵ (counts s w) ∷ ‵ (beside s true n) ∷ ‵ (a_stake s y e) ∷ []) ∵
+          use2 𝓛 (‵ (rule s)) (lives 𝓛 s true w n holds) $ keep ! (0 ∷ []) $ nothing_more ! $
+          use1 𝓛 (‵ (bare_last_read s w)) (regranted 𝓛 s nothing (right_by_last_read w)
+          (right_is w true holds.0.same_mark)) $ move ! (1 ∷ 0 ∷ []) $
+          by ! (asking.closes 𝓛 (rule s) (bare_last_read s w) j)

@@ -1,0 +1,27 @@
+-- A `&` to a handle has a share of the token of its block's sharing, or sees what the block holds if it is known to
+-- be the only one. Assumes `Logic`.
+use mathlib.Core.List.{[], ◌++◌}
+use base.Fml.{Incl-trans}
+use contract.BorrowLft.{meet_⊑_left}
+use denote.RattleType.{RattleType}
+use denote.Sharing.{said}
+use denote.Param.Laws.{Laws}
+use denote.Param.Shared.{copy_shared}
+use denote.Struct.Field.{RawPtr-field}
+use denote.Struct.Laws.{RawPtr-copy}
+use denote.Struct.Lending.{of_Lends, Lends-both, Lends-said}
+use Rattle.handles.specs.Inside.Blocks.{placed, owned_as, shared_as}
+use Rattle.handles.specs.contracts.block.handle.Handle as C
+use Rattle.handles.proofs.block.handle.Handle.TheLaw.Statement.{statement}
+use Rattle.handles.proofs.Owners.{handle_shares-ShrLaws, Lends-owned}
+
+pub shares : (T : RattleType) (L : Laws T) → statement T L
+shares T L = of_Lends (C.struct T) (C.the_codes T.Denot T.coded) (C.the_heap T) (C.the_lent T)
+    (λ d p. handle_shares-ShrLaws T L d.block d.held d.id d.sole) (
+      copy_shared RawPtr-field RawPtr-copy,
+      tt,
+    ) (λ M 𝓤 𝓛 d p.
+    let q = d.block in let x = d.held in let l = (C.the_row T).lives in
+    Lends-both 𝓛 (placed q) (owned_as T q x d.id d.sole) (said (placed q)) (shared_as T q x d.id d.sole) l
+    (Lends-said 𝓛 (placed q) (λ _. tt) l) (Lends-owned T L 𝓛 q x d.id d.sole l
+    (Incl-trans (meet_⊑_left (T.lives ++ []) []) (meet_⊑_left T.lives []))))

@@ -1,0 +1,65 @@
+-- `first` makes the handle of a new block.
+use Rattle.handles.proofs.Walks.{pick, await}
+use Rattle.handles.proofs.Walks.{ℕ}
+use types.Kit.{some as exists}
+use Rattle.handles.proofs.Walks.{later}
+use Rattle.handles.specs.Inside.Blocks.{bare_block}
+use Rattle.handles.proofs.Walks.{◌≡◌, List, [], ◌∷◌, ◌++◌, refl, sym, subst, a_type, Val, vptr}
+use Rattle.handles.proofs.Walks.{inst_fn, SProp, ent, id⊢, ftrue, flft, WpFn, ‵, raw, ◌⊛◌, ◌$◌, ◌∵◌}
+use Rattle.handles.proofs.Walks.{ !, qed, by, move, keep, split, join, fsplit, fjoin, fpack, use0, use1, suffices, stop}
+use Rattle.handles.proofs.Walks.{fld, of_opd, no_more, and_then, returns, enter, alloc_all, pass_all, free_all, look_at}
+use Rattle.handles.proofs.Walks.{get, get_in, sets, agg, sub, whole, tables, fact, no, RattleType, owns, types_at}
+use Rattle.handles.proofs.Walks.{plain, Ptr, InBlock, block_ptr, nothing_more, heard, param, layouts, param_laws, Stays}
+use Rattle.handles.proofs.Walks.{stay_dropped, walk_of, proved_at, leaves, HeldRow, one_word, words_made, HandleWords}
+use Rattle.handles.proofs.Walks.{known, rewrite, true}
+use Rattle.handles.proofs.RawBoxes.{Goes-blank, pair_val, RawBoxRow, raw_box-Good, raw_box_opens}
+use Rattle.handles.specs.contracts.block.Block as block_type
+use Rattle.handles.specs.Inside.Blocks.{owned_as}
+use Rattle.handles.proofs.Owners.{begins_sole}
+use Rattle.handles.proofs.Boxes.{box_opens}
+use Rattle.handles.specs.contracts.block.handle.Handle as handle_type
+use Rattle.handles.specs.contracts.block.handle.Handle.first.{ended, clauses}
+use Rattle.handles.specs.contracts.block.handle.Handle.first.Key.{name as #self}
+use Rattle.handles.proofs.block.handle.Handle.first.Statement.{statement}
+use Rattle.handles.proofs.block.handle.Handle.first.Code as code
+
+pub first_spec : {M : Type 1} → statement M
+first_spec 𝓤 𝓛 𝓜 𝓡 wired T L =
+    let H = 𝓛.H in let 𝓣 = tables 𝓤 H 𝓜 𝓡 𝓡.env in let R : RattleType = param 0 T in
+    let En = ended T in let c = clauses T 𝓛 𝓜.mem 𝓡.returns in
+    let inst = layouts (a_type ∷ []) (T, tt) in let fn = inst_fn inst code.function in
+    let RawBox : RattleType = RawBoxRow (block_type.the_row R) in let boxed = plain (λ _. RawBox) in
+    let hs : Stays En.signature.params En.kept = (stay_dropped boxed no, tt) in
+    proved_at 𝓛 En hs c 𝓜 𝓡 (Goes-blank 𝓛 1 boxed no (λ κs x f. tt), tt) (#self inst)
+    fn (code.unfolded 𝓤 H 𝓜 𝓡 wired (T, tt)) (λ z are.
+    let κs = z.0.0 in let d : RawBox.Denot = z.0.3.0 in
+    let Post : Val → SProp 𝓤 = (walk_of 𝓛 En hs c).post z in
+    let Run : List Val → SProp 𝓤 = λ ws. WpFn 𝓤 H 𝓣.C 𝓣.Λ fn ws Post in
+    let x : (HeldRow R).Denot = d.value.held in
+    qed 𝓛 (((‵ (flft κs.0 z.0.1.0) ⊛ ‵ ftrue) ⊛ ‵ (owns (types_at En.signature.params κs)
+    z.0.3 z.0.4)) ∷ raw (fact 𝓤 _) ∷ raw (fact 𝓤 (d.value.word ≡ 1)) ∷ []) ∵
+    keep ! (2 ∷ 0 ∷ []) $ heard ! (d.value.word ≡ 1) (λ new. split ! $ move ! (1 ∷ []) $ fsplit ! $
+    raw_box_opens (block_type.the_row R) ! d z.0.4.0 (λ b o h placed is_pair good. let p : Ptr = block_ptr b o in
+    -- [the box; its allocator; nothing; the tokens]
+    use1 𝓛 (‵ (bare_block R p x d.value.word))
+    (box_opens T L 𝓛 b o d.value.word d.value.stamp x d.value.alloc) $
+    rewrite ! 0 (λ (w : ℕ). ‵ (bare_block R p x w)) new refl $
+    use1 𝓛 (later (exists (λ (η : ℕ). ‵ (owned_as R p x η true))))
+    (begins_sole R (param_laws 0 T L) 𝓛 p x) $ keep ! (0 ∷ 3 ∷ []) $
+    suffices ! (Run (pair_val (vptr b o) h ∷ [])) (subst (λ (us : List Val). ent 𝓤 (Run (pair_val (vptr b o)
+    h ∷ [])) (Run us)) (sym (λ j. is_pair j ++ [])) (id⊢ 𝓤 _)) $
+    enter ! 𝓣.C 𝓣.Λ fn (pair_val (vptr b o) h ∷ []) Post $
+    alloc_all ! (λ l. pass_all ! refl (raw_box-Good b o h good, tt) $ await ! tt $ pick ! (λ η.
+    nothing_more ! $ fpack ! (InBlock p) (λ _. ftrue) tt $ fjoin ! $
+    use0 𝓛 (‵ ((HandleWords R).own_val (p, tt) (one_word p ∷ []))) (words_made (handle_type.the_type R).name (R
+    ∷ []) 𝓛 p) $ fjoin ! $
+    sets ! (of_opd ! (get_in ! (fld ! refl (stop !)) (sub ! 0 refl (whole !)))) refl (tt, tt) $
+    sets ! (agg ! (and_then ! (get ! refl) (no_more !))) refl (tt, (tt, tt)) $
+    known ! (true ≡ true) refl $ known ! (x ≡ x) refl $ join ! $ nothing_more ! $ nothing_more ! $ fjoin ! $
+    returns ! (look_at ! 0 refl) $ free_all ! refl $ keep ! (3 ∷ 0 ∷ 2 ∷ 1 ∷ []) $
+    by ! (leaves 𝓛 En hs c z (one_word p) (record {
+      block = p;
+      held = x;
+      sole = true;
+      id = η;
+    }) (tt, tt) (tt, tt)))))))

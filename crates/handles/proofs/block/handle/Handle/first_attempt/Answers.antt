@@ -1,0 +1,13 @@
+use Rattle.handles.proofs.Founds.{found_word}
+use Rattle.handles.proofs.block.handle.Handle.first_attempt.Goals as goal
+
+-- the read found the word
+pub next_attempt-requires-clause-seen : goal.next_attempt-requires-clause-seen
+next_attempt-requires-clause-seen g c = let read = c.read-word in (
+  read.ensures.held,
+  read.ensures.block,
+  read.ensures.id,
+  read.ensures.right,
+  read.ensures.within,
+  found_word _ _ _ read.result.0 read.result.1.log read.ensures.log,
+)

@@ -1,0 +1,99 @@
+-- `read` is one load of the word.
+use Rattle.handles.proofs.Steps.Reads.{reported_logged}
+use Rattle.handles.proofs.Steps.Reads.{reported_with}
+use Rattle.counting_word.specs.WordSteps.{WordStep}
+use Rattle.counting_word.specs.Tallies.{Adds}
+use Rattle.handles.proofs.Walks.{◌≡◌, ℕ, ◌+◌, false, [], ◌∷◌, refl, sym, ap, lit<, a_type, named, Val}
+use Rattle.handles.proofs.Walks.{vptr, inst_fn, SProp, via, Lft, Share, Fml, ftrue, fsep, flft, finv, ‵, raw}
+use Rattle.handles.proofs.Walks.{◌⊛◌, mean, at_ret, ◌$◌, ◌∵◌, !, qed, by, move, keep, drop, split, join}
+use Rattle.handles.proofs.Walks.{fsplit, fsplit3, fjoin, fpick, use1, use2, stop, fld, load, addr, lit, of_opd, no_more}
+use Rattle.handles.proofs.Walks.{and_then, first, blocks, exec, Calls-last, returns, enter, alloc_all, pass_all}
+use Rattle.handles.proofs.Walks.{free_all, look_at, get, through, sets, lands_last, is, env, agg, sub, whole, look_in}
+use Rattle.handles.proofs.Walks.{tables, fact, yes, RattleType, owns, types_at, plain, Ptr, block_ptr, block_of}
+use Rattle.handles.proofs.Walks.{offset_of, at_block, nothing_more, heard, shuts, param, layouts, RefOf, shr_vals}
+use Rattle.handles.proofs.Walks.{shr_Tells, Stays, stay_dropped, walk_of, Goes-dropped, after, proved, leaves, fm}
+use Rattle.handles.proofs.Walks.{seq_cst, found, finds, Right, HeldRow, block_rule, one_word, word_and_permit}
+use Rattle.handles.proofs.Walks.{one_word-Good, HandleRow, HandleWords, known, returns_permit, word_and_permit-Good}
+use Rattle.handles.proofs.Walks.{opens_handle, shows_permit, closes_borrow}
+use Rattle.atomic_table.proofs.Calls.{loads}
+use Rattle.counting_word.specs.CountingWord.{IsWithin}
+use Rattle.counting_word.specs.Rights.{right_by_read}
+use Rattle.counting_word.specs.WordSteps as step
+use Rattle.handles.proofs.Steps.Shared.{block_at, and_logged}
+use Rattle.handles.proofs.Steps.Reads.{reads, after_read}
+use Rattle.handles.specs.contracts.block.handle.Handle.read.{ended, clauses}
+use Rattle.handles.specs.contracts.block.handle.Handle.read.Key.{name as #self}
+use Rattle.handles.proofs.block.handle.Handle.read.Statement.{statement}
+use Rattle.handles.proofs.block.handle.Handle.read.Code as code
+
+pub read_spec : {M : Type 1} → statement M
+read_spec 𝓤 𝓛 𝓜 𝓡 wired T L =
+    let 𝓣 = tables 𝓤 𝓛.H 𝓜 𝓡 𝓡.env in let R : RattleType = param 0 T in let En = ended T in
+    let c = clauses T 𝓛 𝓜.mem 𝓡.returns in let inst = layouts (a_type ∷ []) (T, tt) in
+    let fn = inst_fn inst code.function in
+    let self = RefOf (0 ∷ []) tt (plain (λ _. HandleRow R)) (λ _. tt) in
+    let hs : Stays En.signature.params En.kept = (stay_dropped self yes, tt) in
+    proved 𝓛 En hs c 𝓜 𝓡 (Goes-dropped 𝓛 2 self yes (λ κs x f. refl), tt) (#self inst)
+    fn (code.unfolded 𝓤 𝓛.H 𝓜 𝓡 wired (T, tt)) (λ κs. (shr_vals, tt)) (λ κs. (
+      shr_Tells (named 0)
+          κs.0 (HandleRow R),
+      tt,
+    )) (λ κs qs bounds a gh are.
+    let b : ℕ = a.0.ref_ptr.0 in let o : ℕ = a.0.ref_ptr.1 in let κ : Lft = κs.0 in let q : Share = qs.0 in
+    let others : Fml = fsep (flft κs.1.0 qs.1.0) ftrue in let p : Ptr = a.0.now.block in
+    let x : (HeldRow R).Denot = a.0.now.held in let η : ℕ = a.0.now.id in let pb : ℕ = block_of p in
+    let po : ℕ = offset_of p in
+    let y : (walk_of 𝓛 En hs c).Ghost = ((κs, qs, bounds, a, (vptr b o ∷ [], tt)), gh) in
+    let Post : Val → SProp 𝓤 = (walk_of 𝓛 En hs c).post y in let D : RattleType = HandleWords R in
+    qed 𝓛 (((‵ (flft κ q) ⊛ ‵ others) ⊛ ‵ (owns (types_at En.signature.params κs) a y.0.4))
+    ∷ raw (fact 𝓤 _) ∷ raw (fact 𝓤 (a.0.now.sole ≡ false)) ∷ []) ∵ keep ! (2 ∷ 0 ∷ []) $
+    heard ! (a.0.now.sole ≡ false) (λ shared. split ! $ split ! $ move ! (2 ∷ []) $ fsplit ! $ fsplit ! $
+    keep ! (1 ∷ 3 ∷ 4 ∷ []) $
+    enter ! 𝓣.C 𝓣.Λ fn (vptr b o ∷ []) Post $ alloc_all ! (λ l. pass_all ! refl ((tt, tt), tt) $
+    let Ev = env fn.locals l in
+    opens_handle R p x η ! tt a.0.now.sole shared b o (λ inb i e r.
+    -- [the word; what it says; the token's way back; the open borrow; the share; the rule; the sharing; the other
+    -- tokens]
+    sets ! (of_opd ! (load ! (through ! refl (fld ! refl (stop !))) (look_in ! 0 (sub ! 0 refl (whole !)))))
+    refl (tt, tt) $ shuts ! tt D r (p, tt) (one_word (block_ptr pb po) ∷ []) b o $
+    -- [half of the token; the open borrow; the share; the rule; the sharing; the other tokens]
+    let I : Fml = block_rule R p x η i in
+    let aft : ℕ → Fml = and_logged (block_at R p x η i) [] step.reads (after_read (block_at R p x η i) e) in
+    first ! $ blocks ! $ sets ! (addr ! (through ! refl (fld ! refl (stop !)))) refl (tt, tt) $ move ! (3 ∷ []) $
+    use1 𝓛 (‵ (finv I) ⊛ ‵ (finv I)) (𝓛.invs.inv_dup I) $ split ! $ move ! (0 ∷ 4 ∷ []) $
+    move ! (1 ∷ []) $
+    nothing_more ! $ move ! (0 ∷ 1 ∷ []) $ fjoin ! $ move ! (1 ∷ 0 ∷ []) $
+    use2 𝓛 (raw (𝓣.C _ (vptr pb (po + 0) ∷ seq_cst ∷ []) (λ u. mean 𝓛 (found aft u))))
+    (via 𝓤 _ (reads 𝓛 (block_at R p x η i) e)
+    (loads 𝓛 𝓜 𝓡 (code.calls-core::raw_atomic::load 𝓡.env wired)
+    (block_ptr pb (po + 0)) aft)) $
+    sets ! (agg ! (and_then ! (lit ! tt) (no_more !))) refl (tt, (record { fits = lit< tt }, tt)) $
+    Calls-last ! (fm 𝓛 𝓜 𝓡) (found aft) (and_then ! (get ! refl) (and_then ! (get ! refl) (no_more !)))
+    (λ u. finds ! aft (λ n fits. let r' : Right = right_by_read n in
+    lands_last ! refl (tt, record { fits = fits }) $ exec ! 𝓣.C 𝓣.Λ Ev (after 2 fn.body) (at_ret Ev Post) $
+    sets ! (of_opd ! (get ! refl)) refl (tt, record { fits = fits }) $
+    use1 𝓛 (‵ (reported_with (block_at R p x η i) e [] step.reads n r'))
+    (reported_logged 𝓛 (block_at R p x η i) e [] step.reads n r') $
+    -- [the share, the word's bound and the gain; the rule; half of the token; the open borrow; the sharing; the other
+    -- tokens]
+    fsplit3 ! $ move ! (1 ∷ []) $ fpick ! (λ within. drop ! $ move ! (0 ∷ 3 ∷ 4 ∷ []) $ closes_borrow ! tt $
+    move ! (0 ∷ 4 ∷ []) $ join ! $ move ! (1 ∷ 2 ∷ 3 ∷ []) $
+    shows_permit R p x η ! tt inb i r' [] step.reads n (λ log adds.
+    sets ! (is ! (agg ! (and_then ! (get ! refl) (no_more !))) (ap one_word (sym (at_block p inb))))
+    refl (one_word-Good p) $
+    sets ! (agg ! (and_then ! (get ! refl) (and_then ! (get ! refl) (no_more !))))
+    refl (word_and_permit-Good n fits p) $
+    returns_permit R p x η ! n fits r' log $ known ! (Adds x.limit.count [] step.reads n log) adds $
+    known ! (η ≡ η) refl $ join ! $ known ! (p ≡ p) refl $ join ! $ known ! (IsWithin n x.limit.count) within $
+    join ! $ known ! (x ≡ x) refl $ join ! $ known ! (r' ≡ r') refl $ join ! $ nothing_more ! $ nothing_more ! $
+    fjoin ! $ returns ! (look_at ! 0 refl) $ free_all ! refl $ keep ! (3 ∷ 0 ∷ 2 ∷ 1 ∷ []) $
+    by ! (leaves 𝓛 En hs c y (word_and_permit n p) (
+      n,
+      record {
+        block = p;
+        held = x;
+        right = r';
+        id = η;
+        log = log;
+      },
+    ) (tt, tt) (tt, tt))))))))))

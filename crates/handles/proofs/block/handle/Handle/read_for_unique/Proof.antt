@@ -1,0 +1,120 @@
+-- `claim` is one load of the word, by which the handle knows whether it is the only one.
+use types.Kit.{some as exists, given, pick, learn}
+use Rattle.counting_word.specs.WordSteps.{WordStep}
+use Rattle.counting_word.specs.Tallies.{Adds}
+use Rattle.handles.proofs.Walks.{◌≡◌, ℕ, ◌+◌, false, List, [], ◌∷◌, refl, sym, ap, ◌∙◌, lit<}
+use Rattle.handles.proofs.Walks.{a_type, named, Val}
+use Rattle.handles.proofs.Walks.{vptr, inst_fn, full_share, SProp, via, Lft, Share, Fml, ftrue, flft, finv, ‵, raw}
+use Rattle.handles.proofs.Walks.{◌⊛◌, later, mean, at_ret, ◌$◌, ◌∵◌, !, qed, by, move, keep, drop}
+use Rattle.handles.proofs.Walks.{split, split3}
+use Rattle.handles.proofs.Walks.{join, fsplit, fsplit3, fjoin, fjoin3, fpick, use0, use1, use2, use3, await, rewrite}
+use Rattle.handles.proofs.Walks.{stop, fld, load, addr, lit, of_opd, no_more, and_then, first, blocks, exec}
+use Rattle.handles.proofs.Walks.{Calls-last, returns, enter, alloc_all, pass_all, free_all, look_at, get, through}
+use Rattle.handles.proofs.Walks.{sets, lands_last, env, agg, sub, whole, look_in, tables, fact, RattleType, owns}
+use Rattle.handles.proofs.Walks.{types_at, plain, Ptr, block_ptr, block_of, offset_of, at_block, nothing_more, peeks}
+use Rattle.handles.proofs.Walks.{heard, Is, shows, cell_at, param, layouts, param_laws, Stays, walk_of, after, proved}
+use Rattle.handles.proofs.Walks.{leaves, fm, seq_cst, found, finds, HeldRow, block_rule, permit_owns, one_word}
+use Rattle.handles.proofs.Walks.{words_are, words_made, HandleRow, HandleWords, known}
+use base.Fml.{GName}
+use denote.Ref.{mut_vals, mut_Tells}
+use denote.Steps.{opens, closes}
+use base.Fml.{Incl-refl}
+use contract.BorrowLft.{◌⊑◌}
+use denote.Triple.Walked.{Goes-ref, stay_ref}
+use Rattle.atomic_table.proofs.Calls.{loads}
+use Rattle.counting_word.specs.CountingWord.{is_one_handle}
+use Rattle.counting_word.specs.Rights.{right_by_claim}
+use Rattle.handles.specs.Inside.Blocks.{counted_handle, owned_as, handle_owns}
+use Rattle.counting_word.specs.WordSteps as step
+use Rattle.handles.proofs.Steps.Shared.{block_at, and_logged}
+use Rattle.handles.proofs.Steps.Claims.{claims, after_claim}
+use Rattle.handles.proofs.Fields.{permit_shown, sole_shown}
+use Rattle.handles.proofs.LoggedSteps.{returns_logged, word_and_logged, word_and_logged-Good}
+use Rattle.handles.proofs.Owners.{forgets, handle_settles}
+use Rattle.handles.specs.contracts.block.handle.Handle as handle_type
+use Rattle.handles.specs.contracts.block.handle.Handle.read_for_unique.{ended, clauses}
+use Rattle.handles.specs.contracts.block.handle.Handle.read_for_unique.Key.{name as #self}
+use Rattle.handles.proofs.block.handle.Handle.read_for_unique.Statement.{statement}
+use Rattle.handles.proofs.block.handle.Handle.read_for_unique.Code as code
+
+pub read_for_unique_spec : {M : Type 1} → statement M
+read_for_unique_spec 𝓤 𝓛 𝓜 𝓡 wired T L =
+    let H = 𝓛.H in let 𝓣 = tables 𝓤 H 𝓜 𝓡 𝓡.env in let R : RattleType = param 0 T in
+    let En = ended T in let c = clauses T 𝓛 𝓜.mem 𝓡.returns in
+    let inst = layouts (a_type ∷ []) (T, tt) in let fn = inst_fn inst code.function in
+    let Self : RattleType = HandleRow R in let D : RattleType = HandleWords R in let row = plain (λ _. Self) in
+    let hs : Stays En.signature.params En.kept = (stay_ref (0 ∷ []) tt row, tt) in
+    proved 𝓛 En hs c 𝓜 𝓡 (Goes-ref 𝓛 2 0 tt row, tt) (#self inst)
+    fn (code.unfolded 𝓤 H 𝓜 𝓡 wired (T, tt)) (λ κs. (mut_vals, tt)) (λ κs. (
+      mut_Tells (named 0)
+          κs.0 Self,
+      tt,
+    )) (λ κs qs bounds a gh are.
+    let b : ℕ = a.0.ref_ptr.0 in let o : ℕ = a.0.ref_ptr.1 in let κ : Lft = κs.0 in let q : Share = qs.0 in
+    let μ : Lft = κs.1.0 in let r : Share = qs.1.0 in let me : Self.Denot = a.0.now in let p : Ptr = me.block in
+    let x : (HeldRow R).Denot = me.held in let η : ℕ = me.id in let γ : GName = a.0.ghost_name in
+    let pb : ℕ = block_of p in let po : ℕ = offset_of p in
+    let y : (walk_of 𝓛 En hs c).Ghost = ((κs, qs, bounds, a, (vptr b o ∷ [], tt)), gh) in
+    let Post : Val → SProp 𝓤 = (walk_of 𝓛 En hs c).post y in
+    qed 𝓛 (((‵ (flft κ q) ⊛ ‵ (flft μ r) ⊛ ‵ ftrue) ⊛ ‵ (owns (types_at En.signature.params κs)
+    a y.0.4)) ∷ raw (fact 𝓤 (μ ⊑ T.lives)) ∷ ‵ ftrue ∷ []) ∵
+    keep ! (1 ∷ 0 ∷ []) $ heard ! (μ ⊑ T.lives) (λ lives. split ! $ split3 ! $ move ! (3 ∷ []) $ fsplit ! $
+    fsplit3 ! $
+    enter ! 𝓣.C 𝓣.Λ fn (vptr b o ∷ []) Post $ alloc_all ! (λ l. pass_all ! refl ((tt, tt), tt) $
+    let Ev = env fn.locals l in
+    -- [the reference's place; its name; its borrow; nothing; its token; the token of T; nothing]
+    move ! (1 ∷ 2 ∷ 4 ∷ []) $ opens ! tt Self {h = me} b o (λ vs. move ! (1 ∷ []) $ fsplit ! $
+    peeks ! D (Is D) (shows 𝓛 D) (p, tt)
+    vs (λ is_so. let ev : vs ≡ one_word p ∷ [] = words_are (handle_type.the_type R).name (R ∷ [])
+    p vs is_so in drop ! $
+    fsplit ! $ fpick ! (λ inb. drop ! $
+    let at : p ≡ block_ptr pb po = at_block p inb in
+    rewrite ! 1 (λ (ws : List Val). ‵ (cell_at full_share Self.mir ws b o))
+    (ev ∙ ap (λ (z : Ptr). one_word z ∷ []) at) refl $
+    -- [what it owns; its cell; the open borrow; its two names; its place; nothing; the token of T; nothing]
+    use1 𝓛 (‵ (owned_as R p x η false)) (forgets R (param_laws 0 T L) 𝓛 p x η me.sole) $
+    move ! (0 ∷ 7 ∷ []) $
+    use2 𝓛 (later (‵ (counted_handle R p x η) ⊛ ‵ (flft μ r))) (handle_settles R (param_laws 0 T L)
+    𝓛 p x η μ lives μ r
+    (Incl-refl μ)) $ await ! tt $ split ! $ fpick ! (λ i. fsplit3 ! $
+    let I : Fml = block_rule R p x η i in
+    let aft : ℕ → Fml = and_logged (block_at R p x η i) [] step.claims (after_claim (block_at R p x η i)) in
+    sets ! (of_opd ! (load ! (through ! refl (fld ! refl (stop !))) (look_in ! 4 (sub ! 0 refl (whole !)))))
+    refl (tt, tt) $
+    first ! $ blocks ! $ sets ! (addr ! (through ! refl (fld ! refl (stop !)))) refl (tt, tt) $ move ! (1 ∷ []) $
+    use1 𝓛 (‵ (finv I) ⊛ ‵ (finv I)) (𝓛.invs.inv_dup I) $ split ! $ move ! (0 ∷ 2 ∷ []) $
+    move ! (1 ∷ []) $
+    nothing_more ! $ move ! (0 ∷ 1 ∷ []) $ fjoin ! $ move ! (1 ∷ 0 ∷ []) $
+    use2 𝓛 (raw (𝓣.C _ (vptr pb (po + 0) ∷ seq_cst ∷ []) (λ u. mean 𝓛 (found aft u))))
+    (via 𝓤 _ (claims 𝓛 (block_at R p x η i))
+    (loads 𝓛 𝓜 𝓡 (code.calls-core::raw_atomic::load 𝓡.env wired)
+    (block_ptr pb (po + 0)) aft)) $
+    sets ! (agg ! (and_then ! (lit ! tt) (no_more !))) refl (tt, (record { fits = lit< tt }, tt)) $
+    Calls-last ! (fm 𝓛 𝓜 𝓡) (found aft) (and_then ! (get ! refl) (and_then ! (get ! refl) (no_more !)))
+    (λ u. finds ! aft (λ n fits.
+    let reported : Self.Denot = record { block = p; held = x; sole = is_one_handle n; id = η } in
+    lands_last ! refl (tt, record { fits = fits }) $ exec ! 𝓣.C 𝓣.Λ Ev (after 2 fn.body) (at_ret Ev Post) $
+    sets ! (of_opd ! (get ! refl)) refl (tt, record { fits = fits }) $
+    use3 𝓛 (later (exists (λ (log : List WordStep).
+    given (Adds x.limit.count [] step.claims n log) (‵ (permit_owns R p x η (right_by_claim n) log)))))
+    (permit_shown 𝓛 R p x η inb i [] step.claims n (right_by_claim n)) $ await ! tt $
+    pick ! (λ log. learn ! (λ adds.
+    fsplit ! $ move ! (1 ∷ []) $ use1 𝓛 (‵ (handle_owns R p x η (is_one_handle n)))
+    (sole_shown 𝓛 R p x η (is_one_handle n)) $
+    -- [what is granted; that the log was reached; the token of T; the cell; the open borrow; its two names; its place]
+    rewrite ! 3 (λ (z : Ptr). ‵ (cell_at full_share Self.mir (one_word z ∷ []) b o)) (sym at) refl $
+    use0 𝓛 (‵ (D.own_val (p, tt) (one_word p ∷ []))) (words_made (handle_type.the_type R).name (R ∷ [])
+    𝓛 p) $ fjoin ! $
+    move ! (3 ∷ 0 ∷ 4 ∷ 5 ∷ 6 ∷ []) $ closes ! tt Self reported (one_word p ∷ []) b o $
+    -- [its name; its borrow; its token; that the log was reached; the token of T; its place; nothing; nothing]
+    move ! (5 ∷ 0 ∷ 1 ∷ []) $ fjoin3 ! $ move ! (3 ∷ 4 ∷ []) $ join ! $ move ! (2 ∷ 0 ∷ []) $ join ! $
+    move ! (2 ∷ []) $
+    sets ! (agg ! (no_more !)) refl (tt, tt) $
+    sets ! (agg ! (and_then ! (get ! refl) (and_then ! (get ! refl) (no_more !)))) refl (word_and_logged-Good n fits) $
+    returns_logged η n ! fits log $
+    known ! (Adds x.limit.count [] step.claims n log) adds $ known ! (η ≡ η) refl $ join ! $
+    known ! (reported ≡ reported) refl $ join ! $
+    -- [the facts; the result; the tokens; the reference; nothing]
+    nothing_more ! $ move ! (4 ∷ 0 ∷ []) $ fjoin ! $
+    returns ! (look_at ! 0 refl) $ free_all ! refl $ keep ! (3 ∷ 0 ∷ 2 ∷ 1 ∷ []) $
+    by ! (leaves 𝓛 En hs c y (word_and_logged n) (n, record { id = η; log = log }) (reported, tt) (tt, tt)))))))))))))

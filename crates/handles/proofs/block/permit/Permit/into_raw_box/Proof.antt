@@ -1,0 +1,83 @@
+-- `into_loose` takes a block that nobody shares, with the allocator that it was requested from.
+use Rattle.handles.proofs.Walks.{◌≡◌, ℕ, ◌+◌, [], ◌∷◌, refl, ap, a_type, Val, vptr, inst_fn}
+use Rattle.handles.proofs.Walks.{full_share, SProp, fat, Lft, Share, ftrue, flft, ‵, raw, ◌⊛◌, some, given}
+use Rattle.handles.proofs.Walks.{at_ret, ◌$◌, ◌∵◌, !, qed, by, move, keep, drop, split, join, fsplit, fsplit3}
+use Rattle.handles.proofs.Walks.{fjoin, fjoin3, fpick, pick, learn, use1, use2, rewrite, stop, fld, load, of_opd}
+use Rattle.handles.proofs.Walks.{no_more, and_then, first, blocks, exec, returns, enter, alloc_all, pass_all, free_all}
+use Rattle.handles.proofs.Walks.{look_at, get, get_in, through, sets, sets_last, is, env, agg, sub, whole, tables, fact}
+use Rattle.handles.proofs.Walks.{no, RattleType, owns, types_at, plain, Ptr, block_ptr, ptr_val, block_of, offset_of}
+use Rattle.handles.proofs.Walks.{at_block, nothing_more, heard, param, layout, layouts, Stays, stay_dropped, walk_of}
+use Rattle.handles.proofs.Walks.{Goes-dropped, after, proved, leaves, Right, HeldRow, permit_owns, one_word}
+use Rattle.handles.proofs.Walks.{one_word-Good, words_are, PermitRow, known}
+use Rattle.handles.proofs.RawBoxes.{heap_row, pair_val, raw_box-Good, raw_box_shuts}
+use Rattle.handles.specs.contracts.block.Block as block_type
+use types.Run.{look}
+use borrow.Table.OneValue.{part_in, part_out}
+use Rattle.counting_word.specs.Rights.{whole_block, IsWholeBlock}
+use Rattle.handles.specs.Inside.Blocks.{heap_offset, unshared_block}
+use Rattle.core.proofs.cell.Inside.{Good}
+use types.Kit.{group}
+use denote.Memory.{part_at}
+use Rattle.handles.proofs.Boxes.{Boxed, box_shuts, heap_twice}
+use Rattle.handles.proofs.Fields.{whole_block_of}
+use Rattle.handles.specs.contracts.block.permit.Permit as permit_type
+use Rattle.handles.specs.contracts.block.permit.Permit.into_raw_box.{ended, clauses}
+use Rattle.handles.specs.contracts.block.permit.Permit.into_raw_box.Key.{name as #self}
+use Rattle.handles.proofs.block.permit.Permit.into_raw_box.Statement.{statement}
+use Rattle.handles.proofs.block.permit.Permit.into_raw_box.Code as code
+
+pub into_raw_box_spec : {M : Type 1} → statement M
+into_raw_box_spec 𝓤 𝓛 𝓜 𝓡 wired T L =
+    let H = 𝓛.H in let 𝓣 = tables 𝓤 H 𝓜 𝓡 𝓡.env in let R : RattleType = param 0 T in
+    let En = ended T in let c = clauses T 𝓛 𝓜.mem 𝓡.returns in
+    let inst = layouts (a_type ∷ []) (T, tt) in let fn = inst_fn inst code.function in
+    let self = plain (λ _. PermitRow R) in let hs : Stays En.signature.params En.kept = (stay_dropped self no, tt) in
+    proved 𝓛 En hs c 𝓜 𝓡 (Goes-dropped 𝓛 1 self no (λ κs x f. refl), tt) (#self inst)
+    fn (code.unfolded 𝓤 H 𝓜 𝓡 wired (T, tt)) (λ κs. ((λ s. one_word s.block ∷ []), tt))
+    (λ κs. ((λ s vs so. words_are (permit_type.the_type R).name (R ∷ []) s.block vs so.0), tt))
+    (λ κs qs bounds a gh are.
+    let κ : Lft = κs.0 in let q : Share = qs.0 in let p : Ptr = a.0.block in let x : (HeldRow R).Denot = a.0.held in
+    let η : ℕ = a.0.id in let pb : ℕ = block_of p in let po : ℕ = offset_of p in
+    let y : (walk_of 𝓛 En hs c).Ghost = ((κs, qs, bounds, a, (one_word p ∷ [], tt)), gh) in
+    let Post : Val → SProp 𝓤 = (walk_of 𝓛 En hs c).post y in
+    let Block : RattleType = block_type.the_row R in let there : Ptr = block_ptr pb po in
+    qed 𝓛 (((‵ (flft κ q) ⊛ ‵ ftrue) ⊛ ‵ (owns (types_at En.signature.params κs) a y.0.4))
+    ∷ raw (fact 𝓤 _) ∷ raw (fact 𝓤 (IsWholeBlock a.0.right)) ∷ []) ∵
+    keep ! (2 ∷ 0 ∷ []) $ heard ! (IsWholeBlock a.0.right)
+    (λ asked. let n : ℕ = (whole_block_of a.0.right asked).0 in
+    let is_whole : a.0.right ≡ whole_block n = (whole_block_of a.0.right asked).1 in
+    split ! $ split ! $ join ! $ move ! (1 ∷ []) $ fsplit ! $ fsplit ! $ keep ! (1 ∷ 3 ∷ []) $
+    rewrite ! 0 (λ (r : Right). ‵ (permit_owns R p x η r a.0.log)) is_whole refl $ fsplit ! $ drop ! $
+    fsplit ! $ fpick ! (λ inb. drop ! $ let at : p ≡ block_ptr pb po = at_block p inb in
+    rewrite ! 0 (λ (z : Ptr). ‵ (unshared_block R z x η n)) at refl $
+    fsplit3 ! $ fsplit ! $ move ! (1 ∷ []) $ drop ! $ move ! (1 ∷ []) $ fsplit ! $ move ! (1 ∷ []) $
+    fpick ! (λ h. fsplit3 ! $
+    -- [the handle of the heap; the right to free; what is left; the value; the word; the stamp; the tokens]
+    use1 𝓛 (some (λ (v : Val). ‵ (fat full_share (denote.Memory.lone heap_row.mir) pb (po + heap_offset R) v)
+    ⊛ ‵ (heap_row.own_val h (v ∷ [])))) (part_out 𝓛 heap_row refl full_share h pb (po + heap_offset R))
+    $ pick ! (λ v. split ! $
+    use1 𝓛 (given (Good (layout heap_row) v) (‵ (fat full_share (layout heap_row) pb (po + heap_offset R) v)))
+    (𝓛.laws.at_wt full_share (layout heap_row) pb (po + heap_offset R) v) $ learn ! (λ good.
+    enter ! 𝓣.C 𝓣.Λ fn (one_word p ∷ []) Post $ alloc_all ! (λ l. pass_all ! refl (one_word-Good p, tt) $
+    let Ev = env fn.locals l in
+    sets ! (is ! (of_opd ! (get_in ! (fld ! refl (stop !)) (sub ! 0 refl (whole !)))) (ap ptr_val at)) refl (tt, tt)
+    $ sets ! (of_opd ! (get ! refl)) refl (tt, tt) $
+    first ! $ blocks ! $ sets_last ! (of_opd ! (load ! (through ! refl (fld ! refl (stop !))) (look ! 0 refl)))
+    refl good $ exec ! 𝓣.C 𝓣.Λ Ev (after 3 fn.body) (at_ret Ev Post) $
+    sets ! (of_opd ! (get ! refl)) refl good $
+    sets ! (agg ! (and_then ! (get ! refl) (and_then ! (get ! refl) (no_more !)))) refl (raw_box-Good pb po v good) $
+    move ! (1 ∷ []) $ use1 𝓛 (‵ (heap_row.own_val h (v ∷ [])) ⊛ ‵ (heap_row.own_val h (v ∷ [])))
+    (heap_twice 𝓛 h (v ∷ [])) $ split ! $ move ! (2 ∷ 0 ∷ []) $
+    use2 𝓛 (‵ (part_at heap_row full_share h pb (po + heap_offset R)))
+    (part_in 𝓛 heap_row refl full_share h pb (po + heap_offset R) v) $ move ! (0 ∷ 2 ∷ 3 ∷ []) $
+    fjoin3 ! $ move ! (4 ∷ []) $ fpick ! (λ s.
+    -- [the stamp; what frees; the allocator; the value; the word; the tokens]
+    move ! (4 ∷ 0 ∷ 3 ∷ 1 ∷ []) $ group ! 4 $
+    use1 𝓛 (‵ (Boxed T L 𝓛 pb po n s x h)) (box_shuts T L 𝓛 pb po n s x h) $
+    raw_box_shuts Block ! pb po v h (record { word = n; stamp = s; held = x; alloc = h }) $
+    known ! (a.0.right ≡ whole_block n) is_whole $ known ! (x ≡ x) refl $ join ! $ nothing_more ! $
+    nothing_more ! $ fjoin ! $
+    returns ! (look_at ! 0 refl) $ free_all ! refl $ keep ! (3 ∷ 0 ∷ 2 ∷ 1 ∷ []) $
+    by ! (leaves 𝓛 En hs c y (pair_val (vptr pb po) v)
+    (record { at = there; alloc = h; value = record { word = n; stamp = s; held = x; alloc = h } }) (tt, tt)
+    (tt, tt))))))))))

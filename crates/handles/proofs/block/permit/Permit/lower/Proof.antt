@@ -1,0 +1,88 @@
+-- `lower` is one subtraction from the word.
+use types.Kit.{some as exists, given, pick, learn}
+use Rattle.std.proofs.Common.{List}
+use Rattle.counting_word.specs.WordSteps.{WordStep}
+use Rattle.counting_word.specs.Tallies.{Adds}
+use Rattle.handles.proofs.Walks.{◌≡◌, ℕ, ◌+◌, [], ◌∷◌, refl, sym, ap, lit<, w64, a_type, Val, vint}
+use Rattle.handles.proofs.Walks.{vptr, inst_fn, SProp, via, Lft, Share, Fml, ftrue, flft, finv, ‵, raw, ◌⊛◌}
+use Rattle.handles.proofs.Walks.{later, mean, at_ret, ◌$◌, ◌∵◌, !, qed, by, move, keep, drop, split, join}
+use Rattle.handles.proofs.Walks.{fsplit, fjoin, fpick, use1, use2, await, rewrite, stop, fld, addr, lit, of_opd}
+use Rattle.handles.proofs.Walks.{no_more, and_then, first, blocks, exec, Calls-last, returns, enter, alloc_all}
+use Rattle.handles.proofs.Walks.{pass_all, free_all, look_at, get, get_in, through, sets, lands_last, is, env, agg, sub}
+use Rattle.handles.proofs.Walks.{whole, tables, fact, no, RattleType, owns, types_at, plain, Ptr, block_ptr, ptr_val}
+use Rattle.handles.proofs.Walks.{block_of, offset_of, at_block, nothing_more, heard, param, layouts, Stays}
+use Rattle.handles.proofs.Walks.{stay_dropped, walk_of, Goes-dropped, after, proved, leaves, fm, seq_cst, found, finds}
+use Rattle.handles.proofs.Walks.{Right, HeldRow, block_rule, permit_owns, one_word, word_and_permit, one_word-Good}
+use Rattle.handles.proofs.Walks.{words_are, PermitRow, known, returns_permit, word_and_permit-Good}
+use Rattle.atomic_table.proofs.Calls.{subs}
+use Rattle.counting_word.specs.Rights.{to_lower, right_by_lower}
+use Rattle.counting_word.specs.WordSteps as step
+use Rattle.handles.proofs.Steps.Shared.{block_at, and_logged}
+use Rattle.handles.proofs.Steps.Lowers.{lowers, after_lower}
+use Rattle.handles.proofs.Fields.{lower-NoHandle, permit_kept}
+use Rattle.handles.specs.contracts.block.permit.Permit as permit_type
+use Rattle.handles.specs.contracts.block.permit.Permit.lower.{ended, clauses}
+use Rattle.handles.specs.contracts.block.permit.Permit.lower.Key.{name as #self}
+use Rattle.handles.proofs.block.permit.Permit.lower.Statement.{statement}
+use Rattle.handles.proofs.block.permit.Permit.lower.Code as code
+
+pub lower_spec : {M : Type 1} → statement M
+lower_spec 𝓤 𝓛 𝓜 𝓡 wired T L =
+    let H = 𝓛.H in let 𝓣 = tables 𝓤 H 𝓜 𝓡 𝓡.env in let R : RattleType = param 0 T in
+    let En = ended T in let c = clauses T 𝓛 𝓜.mem 𝓡.returns in
+    let inst = layouts (a_type ∷ []) (T, tt) in let fn = inst_fn inst code.function in
+    let self = plain (λ _. PermitRow R) in let hs : Stays En.signature.params En.kept = (stay_dropped self no, tt) in
+    proved 𝓛 En hs c 𝓜 𝓡 (Goes-dropped 𝓛 1 self no (λ κs x f. refl), tt) (#self inst)
+    fn (code.unfolded 𝓤 H 𝓜 𝓡 wired (T, tt)) (λ κs. ((λ s. one_word s.block ∷ []), tt))
+    (λ κs. ((λ s vs so. words_are (permit_type.the_type R).name (R ∷ []) s.block vs so.0), tt))
+    (λ κs qs bounds a gh are.
+    let κ : Lft = κs.0 in let q : Share = qs.0 in let p : Ptr = a.0.block in let x : (HeldRow R).Denot = a.0.held in
+    let η : ℕ = a.0.id in let old : List WordStep = a.0.log in let pb : ℕ = block_of p in
+    let po : ℕ = offset_of p in
+    let y : (walk_of 𝓛 En hs c).Ghost = ((κs, qs, bounds, a, (one_word p ∷ [], tt)), gh) in
+    let Post : Val → SProp 𝓤 = (walk_of 𝓛 En hs c).post y in
+    qed 𝓛 (((‵ (flft κ q) ⊛ ‵ ftrue) ⊛ ‵ (owns (types_at En.signature.params κs) a y.0.4))
+    ∷ raw (fact 𝓤 _) ∷ raw (fact 𝓤 (a.0.right ≡ to_lower)) ∷ []) ∵
+    keep ! (2 ∷ 0 ∷ []) $ heard ! (a.0.right ≡ to_lower) (λ asked. split ! $ split ! $ join ! $
+    move ! (1 ∷ []) $ fsplit ! $ fsplit ! $ keep ! (1 ∷ 3 ∷ []) $
+    rewrite ! 0 (λ (r : Right). ‵ (permit_owns R p x η r old)) asked refl $ fsplit ! $ move ! (1 ∷ []) $ fsplit ! $
+    fpick ! (λ inb. drop ! $ let at : p ≡ block_ptr pb po = at_block p inb in
+    enter ! 𝓣.C 𝓣.Λ fn (one_word p ∷ []) Post $ fpick ! (λ i. fsplit ! $
+    alloc_all ! (λ l. pass_all ! refl (one_word-Good p, tt) $ let Ev = env fn.locals l in
+    -- [the part; the rule; the tokens]
+    let I : Fml = block_rule R p x η i in
+    let aft : ℕ → Fml = and_logged (block_at R p x η i) old step.lowers (after_lower (block_at R p x η i)) in
+    sets ! (is ! (of_opd ! (get_in ! (fld ! refl (stop !)) (sub ! 0 refl (whole !)))) (ap ptr_val at)) refl (tt, tt)
+    $ first ! $ blocks ! $ sets ! (addr ! (through ! refl (fld ! refl (stop !)))) refl (tt, tt) $
+    move ! (1 ∷ []) $ use1 𝓛 (‵ (finv I) ⊛ ‵ (finv I)) (𝓛.invs.inv_dup I) $ split ! $
+    move ! (0 ∷ 2 ∷ []) $
+    move ! (3 ∷ 1 ∷ []) $ fjoin ! $ move ! (1 ∷ 0 ∷ []) $
+    use2 𝓛 (raw (𝓣.C _ (vptr pb (po + 0) ∷ vint w64 1 ∷ seq_cst ∷ []) (λ u. mean 𝓛 (found aft u))))
+    (via 𝓤 _ (lowers 𝓛 (block_at R p x η i) old)
+    (subs 𝓛 𝓜 𝓡 (code.calls-core::raw_atomic::fetch_sub 𝓡.env wired)
+    (block_ptr pb (po + 0)) 1 (lit< tt) aft)) $
+    sets ! (agg ! (and_then ! (lit ! tt) (no_more !))) refl (tt, (record { fits = lit< tt }, tt)) $
+    Calls-last ! (fm 𝓛 𝓜 𝓡) (found aft) (and_then ! (get ! refl) (and_then ! (lit ! tt)
+    (and_then ! (get ! refl) (no_more !)))) (λ u. finds ! aft (λ n fits. let r' : Right = right_by_lower n in
+    lands_last ! refl (tt, record { fits = fits }) $ exec ! 𝓣.C 𝓣.Λ Ev (after 2 fn.body) (at_ret Ev Post) $
+    sets ! (of_opd ! (get ! refl)) refl (tt, record { fits = fits }) $
+    use2 𝓛 (later (exists (λ (log : List WordStep). given (Adds x.limit.count old step.lowers n log)
+    (‵ (permit_owns R p x η r' log))))) (permit_kept 𝓛 R p x η inb i old step.lowers n r' (lower-NoHandle n)) $
+    await ! tt $ pick ! (λ log. learn ! (λ adds.
+    sets ! (is ! (agg ! (and_then ! (get ! refl) (no_more !))) (ap one_word (sym at))) refl (one_word-Good p) $
+    sets ! (agg ! (and_then ! (get ! refl) (and_then ! (get ! refl) (no_more !))))
+    refl (word_and_permit-Good n fits p) $
+    returns_permit R p x η ! n fits r' log $ known ! (Adds x.limit.count old step.lowers n log) adds $
+    known ! (η ≡ η) refl $ join ! $ known ! (x ≡ x) refl $ join ! $ known ! (r' ≡ r') refl $ join ! $
+    nothing_more ! $ nothing_more ! $ fjoin ! $
+    returns ! (look_at ! 0 refl) $ free_all ! refl $ keep ! (3 ∷ 0 ∷ 2 ∷ 1 ∷ []) $
+    by ! (leaves 𝓛 En hs c y (word_and_permit n p) (
+      n,
+      record {
+        block = p;
+        held = x;
+        right = r';
+        id = η;
+        log = log;
+      },
+    ) (tt, tt) (tt, tt)))))))))))

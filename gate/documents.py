@@ -12,7 +12,7 @@ from pathlib import Path
 
 ROOT = Path(__file__).resolve().parent.parent
 LINK = re.compile(r"\[((?:[^\]\[]|\[[^\]]*\])+)\]\(([^)\s]+)\)")
-QUOTE = re.compile(r"```\w+ (\S+)\n(.*?)```", re.S)
+QUOTE = re.compile(r"```rust (\S+)\n(.*?)```", re.S)
 CRATE = re.compile(r"^    (\w+(?: \w+=\S+)*:(?: \w+)*)$", re.M)
 
 

@@ -12,6 +12,7 @@ mod trees;
 mod versions;
 
 use std::env;
+use std::hint::black_box;
 use std::process;
 use std::thread;
 use std::time::Instant;
@@ -120,6 +121,11 @@ mod word {
         #[inline]
         pub fn is_unique(&self) -> bool {
             self.word().load(SeqCst) == 1
+        }
+
+        #[inline]
+        pub fn ptr_eq(this: &Arc<T>, other: &Arc<T>) -> bool {
+            this.at == other.at
         }
 
         #[inline]
@@ -309,6 +315,33 @@ macro_rules! shared_workloads {
                 *a
             }
 
+            fn compare_often(a: &Arc<u64>, b: &Arc<u64>, n: u64) -> u64 {
+                let mut compared = 0u64;
+                for _ in 0..n {
+                    black_box(Arc::ptr_eq(a, b));
+                    compared = compared.wrapping_add(1);
+                }
+                compared
+            }
+
+            pub fn ptr_eq_same(n: u64) -> u64 {
+                let a = Arc::<u64>::new(7);
+                let b = a.clone();
+                compare_often(&a, &b, n)
+            }
+
+            pub fn ptr_eq_other(n: u64) -> u64 {
+                compare_often(&Arc::<u64>::new(7), &Arc::<u64>::new(7), n)
+            }
+
+            pub fn ptr_eq_on_threads(threads: u64, n: u64) -> u64 {
+                let (a, b) = (Arc::<u64>::new(7), Arc::<u64>::new(7));
+                thread::scope(|s| {
+                    let all: Vec<_> = (0..threads).map(|_| s.spawn(|| compare_often(&a, &b, n))).collect();
+                    all.into_iter().map(|t| t.join().unwrap()).sum()
+                })
+            }
+
             fn in_threads(threads: usize, a: &Arc<u64>, n: u64) -> u64 {
                 let mut sum = 0u64;
                 thread::scope(|s| {
@@ -403,6 +436,18 @@ macro_rules! header_workloads {
                 sum
             }
 
+            pub fn get(n: u64) -> u64 {
+                let all: Vec<$slice> = (0..SLICES).map(|i| make(i as u64, i as u32)).collect();
+                let mut at = 0usize;
+                let mut sum = 0u64;
+                for _ in 0..n {
+                    let item = items(&all[at % SLICES]).get((at >> 16) % ITEMS as usize);
+                    sum = sum.wrapping_add(item.copied().unwrap_or(0) as u64);
+                    at = (sum as usize).wrapping_mul(5).wrapping_add(1);
+                }
+                sum
+            }
+
             pub fn sum(n: u64) -> u64 {
                 let all: Vec<$slice> = (0..SLICES).map(|i| make(i as u64, i as u32)).collect();
                 let mut at = 0usize;
@@ -447,7 +492,15 @@ header_workloads!(
 /// What only the ported crate has in this form.
 mod only_servo {
     use super::*;
-    use servo_arc::{Arc, ArcUnion, ArcUnionBorrow};
+    use servo_arc::{Arc, ArcUnion, ArcUnionBorrow, UniqueArc};
+
+    pub fn unique_write(n: u64) -> u64 {
+        let mut unique = UniqueArc::new(7u64);
+        for i in 0..n {
+            *unique = unique.rotate_left(1).wrapping_add(i);
+        }
+        *unique
+    }
 
     pub fn union_clone(n: u64) -> u64 {
         let all: [ArcUnion<u64, u32>; 2] = [
@@ -466,6 +519,15 @@ mod only_servo {
         }
         sum
     }
+}
+
+/// In place of the pointers that have no handle of their own to write by.
+fn box_write(n: u64) -> u64 {
+    let mut unique = Box::new(7u64);
+    for i in 0..n {
+        *unique = unique.rotate_left(1).wrapping_add(i);
+    }
+    *unique
 }
 
 fn marked_servo(threads: usize, n: u64) -> u64 {
@@ -582,6 +644,55 @@ const WORKLOADS: &[Workload] = &[
         units: 1,
         iterations: 2_000_000,
         runs: contended!(4),
+    },
+    Workload {
+        name: "ptr-eq-same",
+        units: 1,
+        iterations: 20_000_000,
+        runs: three!(ptr_eq_same),
+    },
+    Workload {
+        name: "ptr-eq-other",
+        units: 1,
+        iterations: 20_000_000,
+        runs: three!(ptr_eq_other),
+    },
+    Workload {
+        name: "ptr-eq-4",
+        units: 4,
+        iterations: 2_000_000,
+        runs: &[
+            ("servo", (|n| servo::ptr_eq_on_threads(4, n)) as Run),
+            ("std", |n| standard::ptr_eq_on_threads(4, n)),
+            ("word", |n| word_arc::ptr_eq_on_threads(4, n)),
+        ],
+    },
+    // Beside a `get_mut` that is written through.
+    Workload {
+        name: "into-unique",
+        units: 1,
+        iterations: 50_000_000,
+        runs: three!(get_mut_unique),
+    },
+    Workload {
+        name: "unique-write",
+        units: 1,
+        iterations: 50_000_000,
+        runs: &[
+            ("servo", only_servo::unique_write as Run),
+            ("std", box_write),
+            ("word", box_write),
+        ],
+    },
+    Workload {
+        name: "header-get",
+        units: 1,
+        iterations: 20_000_000,
+        runs: &[
+            ("servo", servo_header::get as Run),
+            ("std", standard_header::get),
+            ("word", word_header::get),
+        ],
     },
     Workload {
         name: "header-build",

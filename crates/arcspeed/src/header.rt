@@ -26,12 +26,33 @@ pub fn header_build(alloc: Global, iterations: u64) -> Result<u64, Fault> {
     Ok(sum)
 }
 
-#[inline(never)]
-pub fn header_sum(alloc: Global, iterations: u64) -> Result<u64, Fault> {
+fn all_slices(alloc: Global) -> Result<Vec<ThinArc<u64, u32>>, Fault> {
     let mut slices = Vec::with_capacity(alloc, SLICES)?;
     for j in 0..SLICES {
         slices.push(make(alloc, j as u64)?)?;
     }
+    Ok(slices)
+}
+
+/// One item of a slice after the other.
+#[inline(never)]
+pub fn header_get(alloc: Global, iterations: u64) -> Result<u64, Fault> {
+    let slices = all_slices(alloc)?;
+    let mut at = 0u64;
+    let mut sum = 0u64;
+    for _ in 0..iterations {
+        if let Some(slice) = slices.get(at as usize % SLICES) {
+            let item = slice.slice().get((at >> 16) as usize % ITEMS as usize);
+            sum = sum.wrapping_add(u64::from(item.copied().unwrap_or(0)));
+            at = sum.wrapping_mul(5).wrapping_add(1);
+        }
+    }
+    Ok(sum)
+}
+
+#[inline(never)]
+pub fn header_sum(alloc: Global, iterations: u64) -> Result<u64, Fault> {
+    let slices = all_slices(alloc)?;
     let mut at = 0u64;
     let mut sum = 0u64;
     for _ in 0..iterations {

@@ -3,6 +3,7 @@
 #![tactic(auto)]
 
 mod cloned;
+mod compared;
 mod fault;
 mod header;
 mod lists;
@@ -54,8 +55,14 @@ fn checksum<R: Threads + Wait + Sync>(
         "contend-1" => threads::contend(rt, alloc, 1, iterations),
         "contend-2" => threads::contend(rt, alloc, 2, iterations),
         "contend-4" => threads::contend(rt, alloc, 4, iterations),
+        "ptr-eq-same" => compared::ptr_eq_same(alloc, iterations),
+        "ptr-eq-other" => compared::ptr_eq_other(alloc, iterations),
+        "ptr-eq-4" => compared::ptr_eq_on_threads(rt, alloc, 4, iterations),
+        "into-unique" => written::into_unique(alloc, iterations),
+        "unique-write" => written::unique_write(alloc, iterations),
         "header-build" => header::header_build(alloc, iterations),
         "header-sum" => header::header_sum(alloc, iterations),
+        "header-get" => header::header_get(alloc, iterations),
         "marked-clone" => cloned::marked_clone(alloc, iterations),
         "marked-clone-4" => threads::marked_clone(rt, alloc, 4, iterations),
         "static-clone" => cloned::static_clone(alloc, iterations),

@@ -1,7 +1,7 @@
 //! Values that are written through handles.
 use crate::cloned::VALUE;
 use crate::fault::{Fault, made};
-use servo_arc::Arc;
+use servo_arc::{Arc, UniqueArc};
 use std::alloc::Global;
 
 #[inline(never)]
@@ -23,6 +23,27 @@ pub fn get_mut_unique(alloc: Global, iterations: u64) -> Result<u64, Fault> {
         }
     }
     Ok(*handle)
+}
+
+/// The handle becomes unique, is written, and is shared again.
+#[inline(never)]
+pub fn into_unique(alloc: Global, iterations: u64) -> Result<u64, Fault> {
+    let mut handle = made(Arc::new(alloc, VALUE))?;
+    for _ in 0..iterations {
+        let mut unique = made(Arc::into_unique(handle))?;
+        *unique = unique.wrapping_add(3);
+        handle = unique.shareable();
+    }
+    Ok(*handle)
+}
+
+#[inline(never)]
+pub fn unique_write(alloc: Global, iterations: u64) -> Result<u64, Fault> {
+    let mut unique = made(UniqueArc::new(alloc, VALUE))?;
+    for i in 0..iterations {
+        *unique = unique.rotate_left(1).wrapping_add(i);
+    }
+    Ok(*unique)
 }
 
 #[inline(never)]

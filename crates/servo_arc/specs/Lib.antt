@@ -32,7 +32,7 @@ pub use Rattle.shared_count.specs.History
 pub use Rattle.shared_count.specs.Extends
 pub use Rattle.shared_count.specs.Passes
 pub use Rattle.shared_count.specs.HistoryLaws
-pub use Rattle.shared_count.specs.declared.history.Call
-pub use Rattle.shared_count.specs.declared.history.EndReply
-pub use Rattle.shared_count.specs.declared.history.Event
-pub use Rattle.shared_count.specs.declared.history.TryClone
+pub use Rattle.shared_count.specs.declared.ghost_types.Call
+pub use Rattle.shared_count.specs.declared.replies.EndReply
+pub use Rattle.shared_count.specs.declared.ghost_types.Event
+pub use Rattle.shared_count.specs.declared.replies.TryClone

@@ -7,10 +7,10 @@ use mathlib.Core.Logic.{dite}
 use mathlib.Core.Option.{some}
 use native.Mathlib.Decide.{ℕ_discrete, dec_le}
 use lib.ListN.{get_elem?}
-use Rattle.shared_count.specs.declared.history.Event.{Event}
-use Rattle.shared_count.specs.declared.view.Part.{Part}
-use Rattle.shared_count.specs.declared.view.Part.TheVariants.{Half, Whole, InDrop}
-use Rattle.shared_count.specs.declared.view.Share.{Share}
+use Rattle.shared_count.specs.declared.ghost_types.Event.{Event}
+use Rattle.shared_count.specs.declared.ghost_types.Part.{Part}
+use Rattle.shared_count.specs.declared.ghost_types.Part.TheVariants.{Half, Whole, InDrop}
+use Rattle.shared_count.specs.declared.ghost_types.Share.{Share}
 use Rattle.shared_count.specs.History.{left_by, owned_by}
 use Rattle.shared_count.specs.Inside.Shares.{halves, drops}
 use Rattle.shared_count.specs.Inside.Rule.{Knows, Keeps}

@@ -6,13 +6,13 @@ use Rattle.counting_word.specs.CountingWord.{greatest_count}
 use Rattle.counting_word.specs.Plans.{clone_plan, drop_plan}
 use Rattle.counting_word.specs.declared.ClonePlan.{ClonePlan}
 use Rattle.counting_word.specs.declared.DropPlan.{DropPlan}
-use Rattle.shared_count.specs.declared.history.Call.{Call}
-use Rattle.shared_count.specs.declared.history.Call.TheVariants.{Clone}
-use Rattle.shared_count.specs.declared.history.TryClone.{TryClone}
-use Rattle.shared_count.specs.declared.history.TryClone.TheVariants.{Born, Full, Overtaken}
-use Rattle.shared_count.specs.declared.history.Event.{Event}
-use Rattle.shared_count.specs.declared.view.Known.{Known}
-use Rattle.shared_count.specs.declared.view.Part.TheVariants.{InDrop}
+use Rattle.shared_count.specs.declared.ghost_types.Call.{Call}
+use Rattle.shared_count.specs.declared.ghost_types.Call.TheVariants.{Clone}
+use Rattle.shared_count.specs.declared.replies.TryClone.{TryClone}
+use Rattle.shared_count.specs.declared.replies.TryClone.TheVariants.{Born, Full, Overtaken}
+use Rattle.shared_count.specs.declared.ghost_types.Event.{Event}
+use Rattle.shared_count.specs.declared.ghost_types.Known.{Known}
+use Rattle.shared_count.specs.declared.ghost_types.Part.TheVariants.{InDrop}
 use Rattle.shared_count.specs.History.{left_by, owned_by}
 use Rattle.shared_count.specs.Extends.{OthersExtend}
 use Rattle.shared_count.specs.Passes.{CountId}

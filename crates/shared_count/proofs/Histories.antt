@@ -9,12 +9,12 @@ use Rattle.std.proofs.lemmas.List.Sums.{sum_by-cons}
 use mathlib.Core.Logic.{dite}
 use native.Mathlib.Decide.{ℕ_discrete}
 use Rattle.counting_word.specs.CountingWord.{greatest_count}
-use Rattle.shared_count.specs.declared.history.Call.{Call}
-use Rattle.shared_count.specs.declared.history.TryClone.TheVariants.{Born, Full, Overtaken}
-use Rattle.shared_count.specs.declared.history.EndReply.TheVariants.{Ended, Last}
-use Rattle.shared_count.specs.declared.history.EndReply.{EndReply}
-use Rattle.shared_count.specs.declared.history.Call.TheVariants.{Clone, End, Mark, Unique, Static}
-use Rattle.shared_count.specs.declared.history.Event.{Event}
+use Rattle.shared_count.specs.declared.ghost_types.Call.{Call}
+use Rattle.shared_count.specs.declared.replies.TryClone.TheVariants.{Born, Full, Overtaken}
+use Rattle.shared_count.specs.declared.replies.EndReply.TheVariants.{Ended, Last}
+use Rattle.shared_count.specs.declared.replies.EndReply.{EndReply}
+use Rattle.shared_count.specs.declared.ghost_types.Call.TheVariants.{Clone, End, Mark, Unique, Static}
+use Rattle.shared_count.specs.declared.ghost_types.Event.{Event}
 use Rattle.shared_count.specs.History.{CountState, opening, handles_of, without, next, has_exactly, end_reply, IsReply}
 use Rattle.shared_count.specs.History.{IsLegalFrom, IsLegal, state_after, left_by, owned_by, calls_of}
 use Rattle.shared_count.specs.Extends.{OthersExtend, CallExtends, event, is_born_or_ended, has_born_or_ended}

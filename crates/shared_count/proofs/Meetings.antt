@@ -3,9 +3,9 @@ use Rattle.std.proofs.Common.{◌≡◌, ℕ, List, [], ◌∷◌, sym, ap, ◌�
 use mathlib.Core.Option.{none}
 use Rattle.atomic_table.specs.Seated.{TableId}
 use Rattle.atomic_table.specs.Table.{step, Allows, Splits}
-use Rattle.shared_count.specs.declared.history.Event.{Event}
-use Rattle.shared_count.specs.declared.view.Known.{Known}
-use Rattle.shared_count.specs.declared.view.Part.TheVariants.{Half, Whole}
+use Rattle.shared_count.specs.declared.ghost_types.Event.{Event}
+use Rattle.shared_count.specs.declared.ghost_types.Known.{Known}
+use Rattle.shared_count.specs.declared.ghost_types.Part.TheVariants.{Half, Whole}
 use Rattle.shared_count.specs.History.{IsLegal}
 use Rattle.shared_count.specs.Extends.{OthersExtend}
 use Rattle.shared_count.specs.Passes.{CountId, Pass, handles, HasSeenMore}

@@ -7,12 +7,12 @@ use mathlib.Core.Option.{Option, none, some, some-injective}
 use lib.ListN.{get_elem?}
 use Rattle.atomic_table.specs.Table.{State, keeps, stepped}
 use Rattle.atomic_table.proofs.Lists.{at_set}
-use Rattle.shared_count.specs.declared.history.Call.{Call}
-use Rattle.shared_count.specs.declared.history.Event.{Event}
-use Rattle.shared_count.specs.declared.view.Known.{Known}
-use Rattle.shared_count.specs.declared.view.Part.{Part}
-use Rattle.shared_count.specs.declared.view.Part.TheVariants.{Whole, InDrop}
-use Rattle.shared_count.specs.declared.view.Share.{Share}
+use Rattle.shared_count.specs.declared.ghost_types.Call.{Call}
+use Rattle.shared_count.specs.declared.ghost_types.Event.{Event}
+use Rattle.shared_count.specs.declared.ghost_types.Known.{Known}
+use Rattle.shared_count.specs.declared.ghost_types.Part.{Part}
+use Rattle.shared_count.specs.declared.ghost_types.Part.TheVariants.{Whole, InDrop}
+use Rattle.shared_count.specs.declared.ghost_types.Share.{Share}
 use Rattle.shared_count.specs.History.{CountState, next, IsReply, IsLegal, left_by, owned_by, calls_of}
 use Rattle.shared_count.specs.Extends.{OthersExtend, event}
 use Rattle.shared_count.specs.Inside.Shares.{share, seeing, halves_in, halves, drops}

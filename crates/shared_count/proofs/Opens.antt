@@ -12,8 +12,8 @@ use Rattle.atomic_table.specs.Table.{opening as start}
 use Rattle.atomic_table.specs.Seated.{TableId}
 use Rattle.counting_word.specs.CountingWord.{StandsFor}
 use Rattle.counting_word.proofs.Words.{stands-new}
-use Rattle.shared_count.specs.declared.view.Part.TheVariants.{Whole}
-use Rattle.shared_count.specs.declared.view.Share.{Share}
+use Rattle.shared_count.specs.declared.ghost_types.Part.TheVariants.{Whole}
+use Rattle.shared_count.specs.declared.ghost_types.Share.{Share}
 use Rattle.shared_count.specs.History.{owned_by}
 use Rattle.shared_count.specs.Passes.{CountId, Pass, first_pass, handles}
 use Rattle.shared_count.specs.Inside.Shares.{known, share, newcomers, halves, drops, all_but_first, first_alone}

@@ -3,11 +3,11 @@ use Rattle.std.proofs.Common.{◌≡◌, ◌≢◌, ℕ, Bool, true, not, ◌&&�
 use Rattle.std.proofs.Common.{◌++◌, length, sym}
 use Rattle.std.proofs.Common.{refl, ap, ◌∙◌, subst, true≢false, if◌then◌else◌}
 use Rattle.counting_word.specs.CountingWord.{greatest_count}
-use Rattle.shared_count.specs.declared.history.Call.{Call}
-use Rattle.shared_count.specs.declared.history.TryClone.{TryClone}
-use Rattle.shared_count.specs.declared.history.TryClone.TheVariants.{Born, Full, Overtaken}
-use Rattle.shared_count.specs.declared.history.Call.TheVariants.{Clone, End, Mark, Unique, Static}
-use Rattle.shared_count.specs.declared.history.Event.{Event}
+use Rattle.shared_count.specs.declared.ghost_types.Call.{Call}
+use Rattle.shared_count.specs.declared.replies.TryClone.{TryClone}
+use Rattle.shared_count.specs.declared.replies.TryClone.TheVariants.{Born, Full, Overtaken}
+use Rattle.shared_count.specs.declared.ghost_types.Call.TheVariants.{Clone, End, Mark, Unique, Static}
+use Rattle.shared_count.specs.declared.ghost_types.Event.{Event}
 use Rattle.shared_count.specs.History.{CountState, opening, next, IsLegal, IsLegalFrom}
 use Rattle.shared_count.specs.History.{state_after, left_by}
 use Rattle.shared_count.specs.Extends.{event, OthersExtend}

@@ -19,15 +19,15 @@ use Rattle.counting_word.proofs.Words.{word-unmarked, exactly-marked, exactly-un
 use Rattle.counting_word.proofs.Words.{stands-live, stands-in_drop, within_greatest, below_limit, stands-raise}
 use Rattle.counting_word.proofs.Words.{stands-lower, word-lowered, bit_or-mark_bit, stands-marked_word}
 use Rattle.counting_word.proofs.Plans.{ClonePlanSays, clone_plan-says, DropPlanSays, drop_plan-says}
-use Rattle.shared_count.specs.declared.history.Call.{Call}
-use Rattle.shared_count.specs.declared.history.Call.TheVariants.{Clone, End, Mark, Unique, Static}
-use Rattle.shared_count.specs.declared.history.TryClone.{TryClone}
-use Rattle.shared_count.specs.declared.history.TryClone.TheVariants.{Born, Full}
-use Rattle.shared_count.specs.declared.history.EndReply.TheVariants.{Ended}
-use Rattle.shared_count.specs.declared.view.Known.{Known}
-use Rattle.shared_count.specs.declared.view.Part.{Part}
-use Rattle.shared_count.specs.declared.view.Part.TheVariants.{Whole, InDrop}
-use Rattle.shared_count.specs.declared.view.Share.{Share}
+use Rattle.shared_count.specs.declared.ghost_types.Call.{Call}
+use Rattle.shared_count.specs.declared.ghost_types.Call.TheVariants.{Clone, End, Mark, Unique, Static}
+use Rattle.shared_count.specs.declared.replies.TryClone.{TryClone}
+use Rattle.shared_count.specs.declared.replies.TryClone.TheVariants.{Born, Full}
+use Rattle.shared_count.specs.declared.replies.EndReply.TheVariants.{Ended}
+use Rattle.shared_count.specs.declared.ghost_types.Known.{Known}
+use Rattle.shared_count.specs.declared.ghost_types.Part.{Part}
+use Rattle.shared_count.specs.declared.ghost_types.Part.TheVariants.{Whole, InDrop}
+use Rattle.shared_count.specs.declared.ghost_types.Share.{Share}
 use Rattle.shared_count.specs.History.{CountState, handles_of, without, next, has_exactly, end_reply, IsReply, left_by}
 use Rattle.shared_count.specs.History.{owned_by}
 use Rattle.shared_count.specs.Inside.Shares.{share, drops}

@@ -8,11 +8,11 @@ use mathlib.Core.Option.{Option, none, some, some-injective}
 use lib.ListN.{get_elem?}
 use Rattle.atomic_table.specs.Table.{step, keeps, Allows, Splits, Joins}
 use Rattle.atomic_table.proofs.Lists.{at_set, at_snoc, set_else}
-use Rattle.shared_count.specs.declared.history.Event.{Event}
-use Rattle.shared_count.specs.declared.view.Known.{Known}
-use Rattle.shared_count.specs.declared.view.Part.{Part}
-use Rattle.shared_count.specs.declared.view.Part.TheVariants.{Half, Whole}
-use Rattle.shared_count.specs.declared.view.Share.{Share}
+use Rattle.shared_count.specs.declared.ghost_types.Event.{Event}
+use Rattle.shared_count.specs.declared.ghost_types.Known.{Known}
+use Rattle.shared_count.specs.declared.ghost_types.Part.{Part}
+use Rattle.shared_count.specs.declared.ghost_types.Part.TheVariants.{Half, Whole}
+use Rattle.shared_count.specs.declared.ghost_types.Share.{Share}
 use Rattle.shared_count.specs.History.{IsLegal, left_by}
 use Rattle.shared_count.specs.Inside.Shares.{share, seeing, halves, is_in_drop, drops, all_but_first, first_alone}
 use Rattle.shared_count.specs.Inside.Shares.{as_halves, with_note, as_in_note}

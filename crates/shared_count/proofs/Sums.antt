@@ -6,9 +6,9 @@ use Rattle.std.proofs.lemmas.List.Sums.{sum_by-cons, sum_by-set, sum_by-append, 
 use mathlib.Core.Option.{some, some-injective, some-ne-none}
 use lib.ListN.{get_elem?}
 use Rattle.atomic_table.proofs.Lists.{set_else}
-use Rattle.shared_count.specs.declared.view.Part.{Part}
-use Rattle.shared_count.specs.declared.view.Part.TheVariants.{Half, Whole, InDrop}
-use Rattle.shared_count.specs.declared.view.Share.{Share}
+use Rattle.shared_count.specs.declared.ghost_types.Part.{Part}
+use Rattle.shared_count.specs.declared.ghost_types.Part.TheVariants.{Half, Whole, InDrop}
+use Rattle.shared_count.specs.declared.ghost_types.Share.{Share}
 use Rattle.shared_count.specs.Inside.Shares.{halves_in, halves, is_in_drop, drops, all_but_first, first_alone}
 use Rattle.shared_count.proofs.Histories.{same_name}
 

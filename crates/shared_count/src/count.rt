@@ -3,19 +3,17 @@ ghost use Rattle.std.specs.Prelude.{◌≡◌, ◌≢◌, ◌+◌, ◌<◌, map,
 ghost use Rattle.std.specs.List.{range_with_len};
 ghost use Rattle.shared_count.specs.Passes.{first_pass, handles, born_count};
 ghost use Rattle.shared_count.specs.Passes.{Called, HasSeenMark, HasSeenMore, WasOvertaken};
-ghost use Rattle.shared_count.specs.declared.history.Call.TheVariants.{Clone, End, Mark, Unique, Static};
-ghost use Rattle.shared_count.specs.declared.history.TryClone.TheVariants.{Born, Overtaken};
+ghost use Rattle.shared_count.specs.declared.ghost_types.Call.TheVariants.{Clone, End, Mark, Unique, Static};
+ghost use Rattle.shared_count.specs.declared.replies.TryClone.TheVariants.{Born, Overtaken};
 
 mod ask;
 mod clone;
 mod end;
 mod meet;
 
-use crate::history::{EndReply, TryClone};
-use crate::notes::Deal;
+use crate::ghost_types::{CountRule, Deal, View};
 use crate::pass::CountPass;
-use crate::rule::CountRule;
-use crate::view::View;
+use crate::replies::{EndReply, TryClone};
 use atomic_table::{Seat, Table};
 use std::alloc::{AllocError, Global};
 use std::marker::Model;

@@ -6,14 +6,12 @@
 #![tactic(auto)]
 
 mod count;
-mod history;
+mod ghost_types;
 pub mod laws;
-mod notes;
 mod pass;
-mod rule;
-mod steps;
-mod view;
+mod replies;
 
 pub use count::SharedCount;
-pub use history::{Call, EndReply, Event, TryClone};
+pub use ghost_types::{Call, Event};
 pub use pass::CountPass;
+pub use replies::{EndReply, TryClone};

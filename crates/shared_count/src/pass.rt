@@ -3,7 +3,7 @@ ghost use Rattle.std.specs.Prelude.{◌≡◌};
 ghost use Rattle.shared_count.specs.History.{IsLegal};
 ghost use Rattle.shared_count.specs.Passes.{handles};
 
-use crate::view::View;
+use crate::ghost_types::View;
 use atomic_table::Seat;
 use std::marker::Model;
 

@@ -4,9 +4,9 @@ use mathlib.Core.Option.{some}
 use lib.ListN.{get_elem?}
 use Rattle.atomic_table.specs.Table.{State}
 use Rattle.counting_word.specs.CountingWord.{StandsFor}
-use Rattle.shared_count.specs.declared.history.Event.{Event}
-use Rattle.shared_count.specs.declared.view.Part.TheVariants.{InDrop}
-use Rattle.shared_count.specs.declared.view.Share.{Share}
+use Rattle.shared_count.specs.declared.ghost_types.Event.{Event}
+use Rattle.shared_count.specs.declared.ghost_types.Part.TheVariants.{InDrop}
+use Rattle.shared_count.specs.declared.ghost_types.Share.{Share}
 use Rattle.shared_count.specs.History.{CountState, IsLegal, left_by, owned_by}
 use Rattle.shared_count.specs.Extends.{OthersExtend}
 use Rattle.shared_count.specs.Inside.Shares.{halves, drops}

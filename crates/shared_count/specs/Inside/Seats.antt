@@ -1,13 +1,13 @@
 -- What the functions on seats ask and leave, and the pass that a seat is.
 use Rattle.std.specs.Prelude.{◌≡◌, ℕ, ◌<◌, List, [], ◌∷◌}
 use Rattle.atomic_table.specs.Seated.{TableId}
-use Rattle.shared_count.specs.declared.history.Call.TheVariants.{Clone}
-use Rattle.shared_count.specs.declared.history.TryClone.{TryClone}
-use Rattle.shared_count.specs.declared.history.TryClone.TheVariants.{Born, Full, Overtaken}
-use Rattle.shared_count.specs.declared.history.Event.{Event}
-use Rattle.shared_count.specs.declared.view.Known.{Known}
-use Rattle.shared_count.specs.declared.view.Part.TheVariants.{Half, Whole}
-use Rattle.shared_count.specs.declared.view.Share.{Share}
+use Rattle.shared_count.specs.declared.ghost_types.Call.TheVariants.{Clone}
+use Rattle.shared_count.specs.declared.replies.TryClone.{TryClone}
+use Rattle.shared_count.specs.declared.replies.TryClone.TheVariants.{Born, Full, Overtaken}
+use Rattle.shared_count.specs.declared.ghost_types.Event.{Event}
+use Rattle.shared_count.specs.declared.ghost_types.Known.{Known}
+use Rattle.shared_count.specs.declared.ghost_types.Part.TheVariants.{Half, Whole}
+use Rattle.shared_count.specs.declared.ghost_types.Share.{Share}
 use Rattle.shared_count.specs.History.{IsLegal, owned_by}
 use Rattle.shared_count.specs.Extends.{OvertakersExtend}
 use Rattle.shared_count.specs.Passes.{Pass}

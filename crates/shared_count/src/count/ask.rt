@@ -2,11 +2,10 @@
 ghost use Rattle.std.specs.Prelude.{◌≡◌};
 ghost use Rattle.shared_count.specs.Inside.Seats.{pass_at, CanCall};
 ghost use Rattle.shared_count.specs.Inside.Steps.{Made};
-ghost use Rattle.shared_count.specs.declared.history.Call.TheVariants.{Mark, Unique, Static};
+ghost use Rattle.shared_count.specs.declared.ghost_types.Call.TheVariants.{Mark, Unique, Static};
 
 use super::SharedCount;
-use crate::steps::{AskStatic, AskUnique, SetMark};
-use crate::view::View;
+use crate::ghost_types::{AskStatic, AskUnique, SetMark, View};
 use atomic_table::Seat;
 use counting_word::{MARK, is_alone, is_marked};
 

@@ -8,9 +8,8 @@ ghost use Rattle.shared_count.specs.Inside.Seats.{pass_at, CanCall, Replied};
 ghost use Rattle.shared_count.specs.Inside.Steps.{Counts};
 
 use super::SharedCount;
-use crate::history::TryClone;
-use crate::steps::{BeginClone, Raise};
-use crate::view::View;
+use crate::ghost_types::{BeginClone, Raise, View};
+use crate::replies::TryClone;
 use atomic_table::Seat;
 use counting_word::{ClonePlan, MAX_REFCOUNT, plan_clone};
 

@@ -2,12 +2,11 @@
 ghost use Rattle.std.specs.Prelude.{◌≡◌};
 ghost use Rattle.shared_count.specs.Inside.Seats.{pass_at, CanCall};
 ghost use Rattle.shared_count.specs.Inside.Steps.{Made};
-ghost use Rattle.shared_count.specs.declared.history.Call.TheVariants.{End};
+ghost use Rattle.shared_count.specs.declared.ghost_types.Call.TheVariants.{End};
 
 use super::SharedCount;
-use crate::history::EndReply;
-use crate::steps::{BeginEnd, Lower};
-use crate::view::View;
+use crate::ghost_types::{BeginEnd, Lower, View};
+use crate::replies::EndReply;
 use atomic_table::Seat;
 use counting_word::{DropPlan, plan_drop};
 

@@ -3,12 +3,10 @@ ghost use Rattle.std.specs.Prelude.{◌≡◌};
 ghost use Rattle.shared_count.specs.Inside.Seats.{pass_at, MetByNote};
 ghost use Rattle.shared_count.specs.Inside.Shares.{seeing};
 ghost use Rattle.shared_count.specs.Inside.Steps.{with_part};
-ghost use Rattle.shared_count.specs.declared.view.Part.TheVariants.{Half, Whole};
+ghost use Rattle.shared_count.specs.declared.ghost_types.Part.TheVariants.{Half, Whole};
 
 use super::SharedCount;
-use crate::notes::{Deal, ReadNote, TakeNote, WriteNote};
-use crate::steps::Meet;
-use crate::view::View;
+use crate::ghost_types::{Deal, Meet, ReadNote, TakeNote, View, WriteNote};
 use atomic_table::Seat;
 
 impl SharedCount {

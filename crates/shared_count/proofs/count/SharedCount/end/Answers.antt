@@ -1,5 +1,5 @@
 use Rattle.std.proofs.Common.{arith}
-use Rattle.shared_count.specs.declared.history.Call.TheVariants.{End}
+use Rattle.shared_count.specs.declared.ghost_types.Call.TheVariants.{End}
 use Rattle.shared_count.proofs.Calls.{owns_some, called, handles_made, pass_made}
 use Rattle.shared_count.proofs.count.SharedCount.end.Goals as goal
 

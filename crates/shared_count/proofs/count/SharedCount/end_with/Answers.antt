@@ -2,8 +2,8 @@ use Rattle.std.proofs.Common.{◌+◌, ◌-◌, ◌%◌, ◌^◌, ◌∙◌, ref
 use mathlib.Core.Option.{none}
 use Rattle.atomic_table.specs.Table.{step}
 use Rattle.counting_word.specs.declared.DropPlan.TheVariants as drop_as
-use Rattle.shared_count.specs.declared.history.Call.TheVariants.{End}
-use Rattle.shared_count.specs.declared.history.EndReply.{EndReply}
+use Rattle.shared_count.specs.declared.ghost_types.Call.TheVariants.{End}
+use Rattle.shared_count.specs.declared.replies.EndReply.{EndReply}
 use Rattle.shared_count.specs.Inside.Seats.{pass_at}
 use Rattle.shared_count.specs.Inside.Shares.{seeing}
 use Rattle.shared_count.specs.Inside.Steps.{Made, TellsEnd, TellsLower}

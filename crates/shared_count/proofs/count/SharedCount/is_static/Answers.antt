@@ -1,5 +1,5 @@
 use Rattle.std.proofs.Common.{arith, refl}
-use Rattle.shared_count.specs.declared.history.Call.TheVariants.{Static}
+use Rattle.shared_count.specs.declared.ghost_types.Call.TheVariants.{Static}
 use Rattle.shared_count.proofs.Calls.{called, handles_made, pass_made}
 use Rattle.shared_count.proofs.count.SharedCount.is_static.Goals as goal
 

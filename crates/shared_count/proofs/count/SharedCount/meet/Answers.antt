@@ -4,7 +4,7 @@ use Rattle.shared_count.specs.Extends.{OthersExtend}
 use Rattle.shared_count.specs.Inside.Seats.{pass_at}
 use Rattle.shared_count.specs.Inside.Shares.{seeing}
 use Rattle.shared_count.specs.Inside.Steps.{with_part}
-use Rattle.shared_count.specs.declared.view.Part.TheVariants.{Whole}
+use Rattle.shared_count.specs.declared.ghost_types.Part.TheVariants.{Whole}
 use Rattle.shared_count.proofs.Meetings.{back_is, back_others, one_opening, handles_kept, has_seen_more, pass_kept}
 use Rattle.shared_count.proofs.count.SharedCount.meet.Goals as goal
 

@@ -1,4 +1,4 @@
-//! The replies, and the events of a history.
+//! The replies to a clone and to an end.
 ghost use Rattle.std.specs.Prelude.{◌≡◌};
 ghost use Rattle.shared_count.specs.History.{end_reply};
 ghost use Rattle.shared_count.specs.Passes.{born_count};
@@ -26,21 +26,6 @@ pub enum EndReply {
     Ended,
     /// It was the last handle of an unmarked count.
     Last,
-}
-
-/// A call with its reply. It stands in histories, which contracts speak of: no call makes a value of it.
-pub enum Call {
-    Clone(TryClone),
-    End(EndReply),
-    Mark,
-    Unique(bool),
-    Static(bool),
-}
-
-/// A call by the pass of this name. It stands in histories, which contracts speak of: no call makes a value of it.
-pub struct Event {
-    pub caller: u64,
-    pub call: Call,
 }
 
 impl TryClone {

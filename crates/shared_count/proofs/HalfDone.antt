@@ -1,7 +1,5 @@
 -- A clone and an end between their two steps.
-use Rattle.std.proofs.Common.{◌≡◌, ◌≢◌, ℕ, ◌<◌, List, sym, refl, ap, ◌∙◌, subst, arith}
-use Rattle.atomic_table.specs.Seated.{TableId}
-use Rattle.atomic_table.specs.Table.{Allows}
+use Rattle.std.proofs.Common.{◌≡◌, ◌≢◌, ℕ, List, sym, refl, subst}
 use Rattle.counting_word.specs.CountingWord.{greatest_count}
 use Rattle.counting_word.specs.Plans.{clone_plan, drop_plan}
 use Rattle.counting_word.specs.declared.ClonePlan.{ClonePlan}
@@ -12,15 +10,13 @@ use Rattle.shared_count.specs.declared.replies.TryClone.{TryClone}
 use Rattle.shared_count.specs.declared.replies.TryClone.TheVariants.{Born, Full, Overtaken}
 use Rattle.shared_count.specs.declared.ghost_types.Event.{Event}
 use Rattle.shared_count.specs.declared.ghost_types.Known.{Known}
-use Rattle.shared_count.specs.declared.ghost_types.Part.TheVariants.{InDrop}
-use Rattle.shared_count.specs.History.{left_by, owned_by}
+use Rattle.shared_count.specs.History.{left_by}
 use Rattle.shared_count.specs.Extends.{OthersExtend}
-use Rattle.shared_count.specs.Passes.{CountId}
 use Rattle.shared_count.specs.Inside.Shares.{seeing}
-use Rattle.shared_count.specs.Inside.Rule.{Keeps}
-use Rattle.shared_count.specs.Inside.Steps.{SeatState, with_part, Made, Looked, Counts, Counted, Judged, Begun}
+use Rattle.shared_count.specs.Inside.Steps.{SeatState, Made, Counts, Counted, Judged, Begun}
 use Rattle.shared_count.specs.Inside.Seats.{pass_at, CanCall, Replied}
-use Rattle.shared_count.proofs.Histories.{owned_by-others, others-trans, overtaken, overtaken_after}
+use Rattle.shared_count.proofs.Histories.{others-trans, overtaken, overtaken_after}
+use Rattle.shared_count.proofs.Calls.{looked_owns}
 
 -- what a step told, by the plan that it led to
 pub judged_by : (x : Known) (p : ClonePlan) (found : ℕ) (m : SeatState) → p ≡ clone_plan found greatest_count
@@ -65,12 +61,7 @@ module _ (n : ℕ) (m m' : SeatState) (can : CanCall n m) where
 
     pub can_raise : CanCall n m'
     can_raise = subst (CanCall n) (sym read.looked.sees.seat)
-        (record { whole = refl; opened = can.opened; owns = own }) where
-          own : 0 < owned_by x.passes x.name h
-          own =
-              let same = owned_by-others x.passes x.name x.seen h read.looked.others in
-              let was = can.owns in
-              omega arith
+        (record { whole = refl; opened = can.opened; owns = looked_owns read.looked can.owns })
 
     pub has_read : Counts found (left_by n (pass_at m').seen)
     has_read = subst (λ (z : SeatState). Counts found (left_by n (pass_at z).seen)) (sym read.looked.sees.seat)
@@ -89,25 +80,3 @@ module _ (n : ℕ) (m m' : SeatState) (can : CanCall n m) where
         (subst (λ (i : ℕ). Counts word (left_by i x.seen)) (sym can.opened) was) now.counts other now.room,
     now.looked.sees,
   )
-
-  -- an end that was left half done
-  pub can_lower : (t u : TableId) (key id : ℕ) (self : CountId) (f : ℕ → ℕ)
-      (says : SeatState → ℕ → SeatState → Type 0)
-      → record { table = u; passes = key } ≡ self → u.words ≡ 1
-      → t ≡ self.table → n ≡ self.passes → Looked x InDrop m'
-      → ((y : Known) → 0 < owned_by key y.name y.seen
-      → Allows (Keeps key) u.slots id (with_part y InDrop) 0 f (says (with_part y InDrop)))
-      → (t ≡ u) × (0 < u.words) × Allows (Keeps key) u.slots id m' 0 f (says m')
-  can_lower t u key id self f says mine one same passes read may = (
-    same ∙ sym (ap (λ (c : CountId). c.table) mine),
-    omega arith,
-    subst (λ (z : SeatState). Allows (Keeps key) u.slots id z 0 f (says z)) (sym read.sees.seat)
-        (may (seeing x read.seen) own),
-  ) where
-    opened : x.passes ≡ key
-    opened = can.opened ∙ passes ∙ sym (ap (λ (c : CountId). c.passes) mine)
-
-    own : 0 < owned_by key x.name read.seen
-    own = let same = owned_by-others x.passes x.name x.seen read.seen read.others in let was = can.owns in
-        let some : 0 < owned_by x.passes x.name read.seen = omega arith in
-        subst (λ (i : ℕ). 0 < owned_by i x.name read.seen) opened some

@@ -5,7 +5,7 @@ use Rattle.std.proofs.Common.{get_or-set_same, All, sum_by}
 use Rattle.std.proofs.lemmas.List.Elements.{All-nil, All-cons, All-head, All-tail}
 use mathlib.Core.Option.{Option, none, some, some-injective}
 use lib.ListN.{get_elem?}
-use Rattle.atomic_table.specs.Table.{State, keeps, stepped}
+use Rattle.atomic_table.specs.Table.{State, keeps, stepped, Allows}
 use Rattle.atomic_table.proofs.Lists.{at_set}
 use Rattle.shared_count.specs.declared.ghost_types.Call.{Call}
 use Rattle.shared_count.specs.declared.ghost_types.Event.{Event}
@@ -25,6 +25,11 @@ use Rattle.shared_count.proofs.Sums.{halves_in-some, drops_in, drops-one}
 
 abbrev pub Table : Type 0
 Table = State (Unit {0}) (List Share)
+
+-- a step on the word, after which it is f of what it was, is allowed to each pass that owns a handle
+pub record May (n slots id : ℕ) (part : Part) (f : ℕ → ℕ) (says : SeatState → ℕ → SeatState → Type 0) : Type 0 where
+  pub allows : (x : Known) → 0 < owned_by n x.name x.seen
+      → Allows (Keeps n) slots id (with_part x part) 0 f (says (with_part x part))
 
 -- what holds of the one share of a seat
 pub one_share : (P : Share → Type 0) (s : Share) → P s → All P (s ∷ [])

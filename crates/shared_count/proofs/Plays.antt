@@ -1,14 +1,13 @@
 -- Each kind of step keeps the rule, and tells what it says.
 use Rattle.std.proofs.Common.{◌≡◌, ◌≢◌, ℕ, suc, ◌+◌, ◌-◌, ◌%◌, ◌^◌, ◌<◌, ◌≤◌}
 use Rattle.std.proofs.Common.{Bool, true, false, nat_eq, List, [], ◌∷◌, length, get_or, set, sym, refl, ap}
-use Rattle.std.proofs.Common.{◌∙◌, subst, arith, eq-eqb, ne_eqb, if◌then◌else◌, sum_by}
+use Rattle.std.proofs.Common.{◌∙◌, subst, arith, if◌then◌else◌, sum_by}
 use Rattle.std.specs.Prelude.{bit_or}
-use mathlib.Core.Logic.{dite}
 use mathlib.Core.Option.{none, some}
-use native.Mathlib.Decide.{ℕ_discrete}
 use prog.Atomic.{either}
 use lib.ListN.{get_elem?}
-use Rattle.atomic_table.specs.Table.{step, keeps, stepped, Allows}
+use Rattle.atomic_table.proofs.Lists.{exchanged}
+use Rattle.atomic_table.specs.Table.{step, keeps, stepped}
 use Rattle.counting_word.specs.CountingWord.{mark_bit, greatest_count, is_marked_word, count_of, is_one_handle}
 use Rattle.counting_word.specs.Plans.{clone_plan, drop_plan}
 use Rattle.counting_word.specs.declared.ClonePlan.{ClonePlan}
@@ -32,10 +31,10 @@ use Rattle.shared_count.specs.History.{CountState, handles_of, without, next, ha
 use Rattle.shared_count.specs.History.{owned_by}
 use Rattle.shared_count.specs.Inside.Shares.{share, drops}
 use Rattle.shared_count.specs.Inside.Rule.{Means, Keeps}
-use Rattle.shared_count.specs.Inside.Steps.{SeatState, with_part, Made, Counts, Counted, Judged, Begun, TellsUnique}
-use Rattle.shared_count.specs.Inside.Steps.{TellsStatic, TellsMark, TellsClone, TellsRaise, TellsEnd, TellsLower}
+use Rattle.shared_count.specs.Inside.Steps.{SeatState, Made, Counts, Counted, Judged, Begun, TellsUnique}
+use Rattle.shared_count.specs.Inside.Steps.{Tells, TellsStatic, TellsMark, TellsClone, TellsRaise, TellsEnd, TellsLower}
 use Rattle.shared_count.proofs.Histories.{owned_by-others, without-taken, none_left}
-use Rattle.shared_count.proofs.Moves.{Table, know, calls, called, looks, looked, drops-set, for_known}
+use Rattle.shared_count.proofs.Moves.{Table, May, know, calls, called, looks, looked, drops-set, for_known}
 use Rattle.shared_count.proofs.Drops.{covered}
 
 -- a step of the pass x on the word of the table s, which may become w
@@ -151,96 +150,70 @@ module _ (n : ℕ) (s : Table) (k : Keeps n s) (id : ℕ) (x : Known) where
       let r = calls n s k id x InDrop (Word - 1) at c refl own reply less.1 in
       (less.0, (share y Whole ∷ [], r.0, r.1))
 
-module _ (n slots id : ℕ) (x : Known) where
-  -- a step of a pass that owns a handle
-  abbrev May : Part → (ℕ → ℕ) → (SeatState → ℕ → SeatState → Type 0) → Type 0
-  May part f says = 0 < owned_by n x.name x.seen
-      → Allows (Keeps n) slots id (with_part x part) 0 f (says (with_part x part))
+-- a step is allowed if it goes, and tells its pass this of the number that it finds
+module _ (n slots id : ℕ) where
+  may : (part : Part) (f : ℕ → ℕ) (says : Known → ℕ → SeatState → Type 0)
+      → ((s : Table) (k : Keeps n s) (x : Known) → get_elem? s.views id ≡ some (share x part ∷ [])
+      → 0 < owned_by n x.name x.seen → get_or s.words 0 0 < 2 ^ 64
+      → Goes n s k id x (f (get_or s.words 0 0)) (says x (get_or s.words 0 0)))
+      → May n slots id part f (Tells part says)
+  may part f says goes = record {
+    allows = λ x own s k _ at small.
+        let r = goes s k x at own small in
+        (r.0, keeps, tt, r.1, for_known x part (λ z. says z (get_or s.words 0 0) (r.0, [])) r.2);
+  }
 
-  pub asks_unique : May Whole (λ r. r) (TellsUnique (step slots 0 0 0 none))
-  asks_unique own s k _ at _ =
+  pub asks_unique : May n slots id Whole (λ r. r) (TellsUnique (step slots 0 0 0 none))
+  asks_unique = may Whole (λ r. r) (λ x found. Made x (Unique (is_one_handle found))) (λ s k x at own _.
       let w : ℕ = get_or s.words 0 0 in
-      let c : Call = Unique (is_one_handle w) in
       let l : CountState = left_by n k.log in
-      let is = is_one_handle-exactly w (length l.owners) (sum_by drops s.views) l.mark k.word in
-      let r = answered n s k id x at own c w is k.word in
-      (r.0, keeps, tt, r.1, for_known x Whole (λ z. Made z c (r.0, [])) r.2)
+      answered n s k id x at own (Unique (is_one_handle w)) w
+      (is_one_handle-exactly w (length l.owners) (sum_by drops s.views) l.mark k.word) k.word)
 
-  pub asks_static : May Whole (λ r. r) (TellsStatic (step slots 0 0 0 none))
-  asks_static own s k _ at _ =
+  pub asks_static : May n slots id Whole (λ r. r) (TellsStatic (step slots 0 0 0 none))
+  asks_static = may Whole (λ r. r) (λ x found. Made x (Static (is_marked_word found))) (λ s k x at own _.
       let w : ℕ = get_or s.words 0 0 in
-      let c : Call = Static (is_marked_word w) in
-      let r = answered n s k id x at own c w k.word.same_mark k.word in
-      (r.0, keeps, tt, r.1, for_known x Whole (λ z. Made z c (r.0, [])) r.2)
+      answered n s k id x at own (Static (is_marked_word w)) w k.word.same_mark k.word)
 
-  pub marks : May Whole (λ r. bit_or r mark_bit) (TellsMark (step slots 0 mark_bit 0 none))
-  marks own s k _ at small =
+  pub marks : May n slots id Whole (λ r. bit_or r mark_bit) (TellsMark (step slots 0 mark_bit 0 none))
+  marks = may Whole (λ r. bit_or r mark_bit) (λ x found. Made x Mark) (λ s k x at own small.
       let w : ℕ = get_or s.words 0 0 in
       let l : CountState = left_by n k.log in
       let stands = stands-marked_word w (length l.owners) (sum_by drops s.views) l.mark k.word (covered n s k) in
-      let r = answered n s k id x at own Mark (bit_or w mark_bit) tt
-      (subst (λ (z : ℕ). Means z (next l x.name Mark) (sum_by drops s.views)) (sym (bit_or-mark_bit w small))
-      stands) in
-      (r.0, keeps, tt, r.1, for_known x Whole (λ z. Made z Mark (r.0, [])) r.2)
+      answered n s k id x at own Mark (bit_or w mark_bit) tt
+      (subst (λ (z : ℕ). Means z (next l x.name Mark) (sum_by drops s.views)) (sym (bit_or-mark_bit w small)) stands))
 
-  pub begins_clone : May Whole (λ r. r) (TellsClone (step slots 0 0 0 none))
-  begins_clone own s k _ at _ =
-      let w : ℕ = get_or s.words 0 0 in
-      let r = judged n s k id x at own in
-      (r.0, keeps, tt, r.1, for_known x Whole (λ z. Judged z (clone_plan w greatest_count) w (r.0, [])) r.2)
+  pub begins_clone : May n slots id Whole (λ r. r) (TellsClone (step slots 0 0 0 none))
+  begins_clone = may Whole (λ r. r) (λ x found. Judged x (clone_plan found greatest_count) found)
+      (λ s k x at own _. judged n s k id x at own)
 
-  pub begins_end : May Whole (λ r. r) (TellsEnd (step slots 0 0 0 none))
-  begins_end own s k _ at _ =
-      let w : ℕ = get_or s.words 0 0 in
-      let r = begun n s k id x at own in
-      (r.0, keeps, tt, r.1, for_known x Whole (λ z. Begun z (drop_plan w) (r.0, [])) r.2)
+  pub begins_end : May n slots id Whole (λ r. r) (TellsEnd (step slots 0 0 0 none))
+  begins_end = may Whole (λ r. r) (λ x found. Begun x (drop_plan found)) (λ s k x at own _. begun n s k id x at own)
 
-  pub lowers : May InDrop (λ r. (r + (2 ^ 64 - 1)) % 2 ^ 64) (TellsLower (step slots 0 1 0 none))
-  lowers own s k _ at small =
+  pub lowers : May n slots id InDrop (λ r. (r + (2 ^ 64 - 1)) % 2 ^ 64) (TellsLower (step slots 0 1 0 none))
+  lowers = may InDrop (λ r. (r + (2 ^ 64 - 1)) % 2 ^ 64)
+      (λ x found. Made x (End (end_reply (is_one_handle found)))) (λ s k x at own small.
       let w : ℕ = get_or s.words 0 0 in
-      let c : Call = End (end_reply (is_one_handle w)) in
-      let r = lowered n s k id x at own in (
-        r.1.0,
-        keeps,
-        tt,
-        subst (λ (z : ℕ). Keeps n (stepped s 0 z id [] r.1.0 keeps)) (sym (word-lowered w r.0 small)) r.1.1,
-        for_known x InDrop (λ z. Made z c (r.1.0, [])) r.1.2,
-      )
+      let r = lowered n s k id x at own in
+      subst (λ (z : ℕ). Goes n s k id x z (Made x (End (end_reply (is_one_handle w))))) (sym (word-lowered w r.0 small))
+      r.1)
 
   pub raises : (old new : ℕ) → plan.Raise new ≡ clone_plan old greatest_count
-      → May Whole (λ r. either (nat_eq r old) new r) (TellsRaise (step slots 0 old new none))
-  raises old new made own s k _ at _ = let r = dite (ℕ_discrete w old) hit miss in (r.0, keeps, tt, r.1, r.2) where
-    w : ℕ
-    w = get_or s.words 0 0
+      → May n slots id Whole (λ r. either (nat_eq r old) new r) (TellsRaise (step slots 0 old new none))
+  raises old new made = may Whole (λ r. either (nat_eq r old) new r) Says (λ s k x at own _.
+      let w : ℕ = get_or s.words 0 0 in
+      exchanged w old new (λ z. Goes n s k id x z (Says x w)) (λ e. hit s k x at own e)
+      (λ other. let r = judged n s k id x at own in (r.0, r.1, ((λ e. absurd (other e)), λ _. r.2)))) where
+        Says : Known → ℕ → SeatState → Type 0
+        Says x found m = (found ≡ old → Made x (Clone Born) m)
+            × (found ≢ old → Judged x (clone_plan found greatest_count) found m)
 
-    Says : Known → SeatState → Type 0
-    Says z m = (w ≡ old → Made z (Clone Born) m) × (w ≢ old → Judged z (clone_plan w greatest_count) w m)
-
-    K : ℕ → List Share → Type 0
-    K z v = Keeps n (stepped s 0 z id [] v keeps)
-
-    Done : Type 0
-    Done = (v : List Share) × K (either (nat_eq w old) new w) v
-        × ((z : Known) → with_part x Whole ≡ with_part z Whole → Says z (v, []))
-
-    plan_says : ClonePlanSays old greatest_count (plan.Raise new)
-    plan_says = clone_plan-says old greatest_count (plan.Raise new) made
-
-    hit : w ≡ old → Done
-    hit e =
-        let unmarked : is_marked_word w ≡ false = ap is_marked_word e ∙ plan_says.0 in
-        let room = ap (λ (z : ℕ). nat_eq (count_of z) greatest_count) e ∙ plan_says.1 in
-        let r = won n s k id x at own unmarked room in
-        let kept : K new r.0 = subst (λ (z : ℕ). K z r.0) (ap (λ (z : ℕ). z + 1) e ∙ sym plan_says.2) r.1 in (
-          r.0,
-          subst (λ b. K (either b new w) r.0) (sym (eq-eqb w old e)) kept,
-          for_known x Whole (λ z. Says z (r.0, [])) ((λ _. r.2), λ other. absurd (other e)),
-        )
-
-    miss : w ≢ old → Done
-    miss other =
-        let r = judged n s k id x at own in (
-          r.0,
-          subst (λ b. K (either b new w) r.0) (sym (ne_eqb w old other)) r.1,
-          for_known x Whole (λ z. Says z (r.0, [])) ((λ e. absurd (other e)), λ _. r.2),
-        )
+        hit : (s : Table) (k : Keeps n s) (x : Known) → get_elem? s.views id ≡ some (share x Whole ∷ [])
+            → 0 < owned_by n x.name x.seen → get_or s.words 0 0 ≡ old → Goes n s k id x new (Says x (get_or s.words 0 0))
+        hit s k x at own e =
+            let plan_says = clone_plan-says old greatest_count (plan.Raise new) made in
+            let unmarked : is_marked_word (get_or s.words 0 0) ≡ false = ap is_marked_word e ∙ plan_says.0 in
+            let room = ap (λ (z : ℕ). nat_eq (count_of z) greatest_count) e ∙ plan_says.1 in
+            let r = subst (λ (z : ℕ). Goes n s k id x z (Made x (Clone Born)))
+            (ap (λ (z : ℕ). z + 1) e ∙ sym plan_says.2) (won n s k id x at own unmarked room) in
+            (r.0, r.1, ((λ _. r.2), λ other. absurd (other e)))

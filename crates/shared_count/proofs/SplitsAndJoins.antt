@@ -17,7 +17,8 @@ use Rattle.shared_count.specs.History.{IsLegal, left_by}
 use Rattle.shared_count.specs.Inside.Shares.{share, seeing, halves, is_in_drop, drops, all_but_first, first_alone}
 use Rattle.shared_count.specs.Inside.Shares.{as_halves, with_note, as_in_note}
 use Rattle.shared_count.specs.Inside.Rule.{Knows, Means, Keeps}
-use Rattle.shared_count.specs.Inside.Steps.{SeatState, with_shares, with_part, with_both, Met, TellsMeet}
+use Rattle.shared_count.specs.Inside.Steps.{SeatState, with_shares, with_part, with_both, Follows, BothSaw}
+use Rattle.shared_count.specs.Inside.Steps.{TellsMeet}
 use Rattle.shared_count.proofs.Histories.{others-refl}
 use Rattle.shared_count.proofs.Sums.{sum-set, sum-one, sum-split, sum-join, sum-first, halves_if, halves-cons}
 use Rattle.shared_count.proofs.Sums.{halves-one, halves_if-same, halves_if-two, drops_in}
@@ -153,8 +154,7 @@ module _ (x y : Known) where
     tt,
     moves n s k id Seat after [] w at same (λ p few. refl) (subst (IsLegal n) (sym is) k.legal)
         (subst (λ h. All (Knows n h) after) (sym is) knowing) (subst Stands (sym is) word),
-    for_both (λ a b. (h : List Event) × Met a b h × (with_shares after ≡ with_both (seeing a h) (seeing b h)))
-        (k.log, met, refl),
+    for_both (λ a b. BothSaw a b (with_shares after)) both,
   ) where
     w : ℕ
     w = get_or s.words 0 0
@@ -215,10 +215,15 @@ module _ (x y : Known) where
         subst (λ (z : ℕ). halves_if (nat_eq x.name z) Half ≡ 1) e (halves_if-same x.name Half) in
         omega arith
 
-    met : Met x y k.log
-    met = record {
-      legal = subst (λ m. IsLegal m k.log) (sym know_x.opened) k.legal;
-      first = know_x.begins;
-      second = know_y.begins;
+    follows : (z : Known) (part : Part) → Knows n k.log (share z part) → Follows z k.log
+    follows z part here =
+        record { others = here.begins; legal = subst (λ m. IsLegal m k.log) (sym here.opened) k.legal }
+
+    both : BothSaw x y (with_shares after)
+    both = record {
+      seen = k.log;
+      first = follows x Whole know_x;
+      second = follows y Half know_y;
       apart = apart;
+      seat = refl;
     }

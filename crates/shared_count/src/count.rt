@@ -6,15 +6,16 @@ ghost use Rattle.shared_count.specs.Passes.{Called, HasSeenMark, HasSeenMore, Wa
 ghost use Rattle.shared_count.specs.declared.ghost_types.Call.TheVariants.{Clone, End, Mark, Unique, Static};
 ghost use Rattle.shared_count.specs.declared.replies.TryClone.TheVariants.{Born, Overtaken};
 
-mod ask;
 mod clone;
 mod end;
-mod meet;
 
-use crate::ghost_types::{CountRule, Deal, View};
+use crate::ghost_types::{
+    AskStatic, AskUnique, CountRule, Deal, Meet, ReadNote, SetMark, TakeNote, View, WriteNote,
+};
 use crate::pass::CountPass;
 use crate::replies::{EndReply, TryClone};
 use atomic_table::{Seat, Table};
+use counting_word::{MARK, is_alone, is_marked};
 use std::alloc::{AllocError, Global};
 use std::marker::Model;
 
@@ -100,7 +101,8 @@ impl SharedCount {
         ensures call { Called pass.old Mark pass.new }
         ensures owned { handles pass.new ≡ handles pass.old }
     {
-        self.mark_with(&mut pass.seat);
+        let shared = &self.table.shared;
+        shared.fetch_or::<SetMark>(&mut pass.seat, 0, MARK);
     }
 
     /// Whether the count is unmarked and has one handle, which is then that of this pass. It is one load.
@@ -111,7 +113,7 @@ impl SharedCount {
         ensures call { Called pass.old (Unique result) pass.new }
         ensures owned { handles pass.new ≡ handles pass.old }
     {
-        self.is_unique_with(&mut pass.seat)
+        is_alone(self.table.shared.load::<AskUnique>(&mut pass.seat, 0))
     }
 
     /// Whether the count is marked. It is one load.
@@ -122,7 +124,7 @@ impl SharedCount {
         ensures call { Called pass.old (Static result) pass.new }
         ensures owned { handles pass.new ≡ handles pass.old }
     {
-        self.is_static_with(&mut pass.seat)
+        is_marked(self.table.shared.load::<AskStatic>(&mut pass.seat, 0))
     }
 
     /// Lets both passes see one history, in which all calls of both stand. They need not own a handle.
@@ -144,8 +146,11 @@ impl SharedCount {
         ensures first_owned { handles first.new ≡ handles first.old }
         ensures second_owned { handles second.new ≡ handles second.old }
     {
-        let note = self.write_note(&mut second.seat);
-        let note = self.read_note(&mut first.seat, note);
-        self.take_back(&mut second.seat, note);
+        let shared = &self.table.shared;
+        let note = shared.split_seat::<WriteNote>(&mut second.seat);
+        shared.join_seat::<TakeNote>(&mut first.seat, note);
+        shared.load::<Meet>(&mut first.seat, 0);
+        let read = shared.split_seat::<Deal>(&mut first.seat);
+        shared.join_seat::<ReadNote>(&mut second.seat, read);
     }
 }

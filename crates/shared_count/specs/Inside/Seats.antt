@@ -6,13 +6,13 @@ use Rattle.shared_count.specs.declared.replies.TryClone.{TryClone}
 use Rattle.shared_count.specs.declared.replies.TryClone.TheVariants.{Born, Full, Overtaken}
 use Rattle.shared_count.specs.declared.ghost_types.Event.{Event}
 use Rattle.shared_count.specs.declared.ghost_types.Known.{Known}
-use Rattle.shared_count.specs.declared.ghost_types.Part.TheVariants.{Half, Whole}
+use Rattle.shared_count.specs.declared.ghost_types.Part.TheVariants.{Whole}
 use Rattle.shared_count.specs.declared.ghost_types.Share.{Share}
 use Rattle.shared_count.specs.History.{IsLegal, owned_by}
 use Rattle.shared_count.specs.Extends.{OvertakersExtend}
 use Rattle.shared_count.specs.Passes.{Pass}
-use Rattle.shared_count.specs.Inside.Shares.{known, seeing}
-use Rattle.shared_count.specs.Inside.Steps.{SeatState, with_part, Sees, Made, Met}
+use Rattle.shared_count.specs.Inside.Shares.{known}
+use Rattle.shared_count.specs.Inside.Steps.{SeatState, with_part, Sees, Made}
 
 -- what is known of the pass whose share is the first
 abbrev pub first_known : List Share → Known
@@ -37,13 +37,6 @@ abbrev pub Replied : Known → TryClone → SeatState → Type 0
 Replied x Born m = Made x (Clone Born) m
 Replied x Full m = Made x (Clone Full) m
 Replied x Overtaken m = (h : List Event) × OvertakersExtend x.passes x.name x.seen h × Sees x Whole h m
-
--- the pass x and the note of the pass y have seen one history
-pub record MetByNote (x y : Known) (m note : SeatState) : Type 0 where
-  pub seen : List Event
-  pub met : Met x y seen
-  pub first : m ≡ with_part (seeing x seen) Whole
-  pub second : note ≡ with_part (seeing y seen) Half
 
 -- the pass of a seat of this table
 abbrev pub pass_of : TableId → SeatState → Pass

@@ -101,13 +101,18 @@ TellsLower st = Tells InDrop (λ x found. Made x (End (end_reply (is_one_handle 
 abbrev pub with_both : Known → Known → SeatState
 with_both x y = with_shares (share y Half ∷ share x Whole ∷ [])
 
--- the passes x and y go on to one legal history
-pub record Met (x y : Known) (h : List Event) : Type 0 where
+-- the pass x goes on to the legal history h, and makes no call in it
+pub record Follows (x : Known) (h : List Event) : Type 0 where
+  pub others : OthersExtend x.name x.seen h
   pub legal : IsLegal x.passes h
-  pub first : OthersExtend x.name x.seen h
-  pub second : OthersExtend y.name y.seen h
+
+-- the passes x and y have gone on to one history
+pub record BothSaw (x y : Known) (m : SeatState) : Type 0 where
+  pub seen : List Event
+  pub first : Follows x seen
+  pub second : Follows y seen
   pub apart : x.name ≢ y.name
+  pub seat : m ≡ with_both (seeing x seen) (seeing y seen)
 
 abbrev pub TellsMeet : Step (Unit {0}) → SeatState → ℕ → SeatState → Type 0
-TellsMeet st m found m' = (x y : Known) → m ≡ with_both x y
-    → (h : List Event) × Met x y h × (m' ≡ with_both (seeing x h) (seeing y h))
+TellsMeet st m found m' = (x y : Known) → m ≡ with_both x y → BothSaw x y m'

@@ -1,20 +1,14 @@
-use mathlib.Core.Option.{none}
-use Rattle.atomic_table.specs.Table.{step}
 use Rattle.counting_word.specs.declared.ClonePlan.TheVariants as plan
 use Rattle.shared_count.specs.Inside.Seats.{pass_at}
-use Rattle.shared_count.specs.Inside.Steps.{Counted, TellsClone}
+use Rattle.shared_count.specs.Inside.Steps.{Counted}
 use Rattle.shared_count.proofs.Calls.{can_step}
 use Rattle.shared_count.proofs.HalfDone.{judged_by, can_raise, has_read, replied}
 use Rattle.shared_count.proofs.Plays.{begins_clone}
 use Rattle.shared_count.proofs.count.SharedCount.clone_with.Goals as goal
 
 pub load-word-requires : goal.load-word-requires
-load-word-requires c =
-    let shared = c.self.inside.table.shared in
-    let seat = c.args.seat.now in
-    can_step seat.table_id shared.table_id shared.key seat.id seat.me c.args.self.now (λ r. r)
-    (TellsClone (step shared.table_id.slots 0 0 0 none)) c.self.view_is c.self.invariant c.requires.table
-    c.requires.pass (begins_clone shared.key shared.table_id.slots seat.id)
+load-word-requires c = let can = c.requires.pass in
+    can_step c.self.view_is c.self.invariant c.requires.table can.whole can.opened can.owns (begins_clone _ _ _)
 
 -- the read, if it leaves the clone half done
 read : (c : goal.After-raise_with-arg-1)

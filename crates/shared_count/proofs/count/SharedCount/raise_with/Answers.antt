@@ -1,24 +1,14 @@
-use Rattle.std.proofs.Common.{nat_eq}
-use mathlib.Core.Option.{none}
-use prog.Atomic.{either}
-use Rattle.atomic_table.specs.Table.{step}
 use Rattle.counting_word.specs.declared.ClonePlan.TheVariants as plan
 use Rattle.shared_count.specs.Inside.Seats.{pass_at}
-use Rattle.shared_count.specs.Inside.Steps.{TellsRaise}
 use Rattle.shared_count.proofs.Calls.{can_step}
 use Rattle.shared_count.proofs.HalfDone.{judged_by, lost}
 use Rattle.shared_count.proofs.Plays.{raises}
 use Rattle.shared_count.proofs.count.SharedCount.raise_with.Goals as goal
 
 pub compare_exchange-found-requires : goal.compare_exchange-found-requires
-compare_exchange-found-requires c =
-    let shared = c.self.inside.table.shared in
-    let seat = c.args.seat.now in
-    can_step seat.table_id shared.table_id shared.key seat.id seat.me c.args.self.now
-    (λ r. either (nat_eq r c.args.word) c.args.raised r)
-    (TellsRaise (step shared.table_id.slots 0 c.args.word c.args.raised none)) c.self.view_is c.self.invariant
-    c.requires.table c.requires.pass
-    (λ x. raises shared.key shared.table_id.slots seat.id x c.args.word c.args.raised c.requires.plan)
+compare_exchange-found-requires c = let can = c.requires.pass in
+    can_step c.self.view_is c.self.invariant c.requires.table can.whole can.opened can.owns
+    (raises _ _ _ c.args.word c.args.raised c.requires.plan)
 
 pub returns-in-Full-clause-reply : goal.returns-in-Full-clause-reply
 returns-in-Full-clause-reply c =

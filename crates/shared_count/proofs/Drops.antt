@@ -9,127 +9,92 @@ use native.Mathlib.Decide.{ℕ_discrete, dec_le}
 use lib.ListN.{get_elem?}
 use Rattle.shared_count.specs.declared.ghost_types.Event.{Event}
 use Rattle.shared_count.specs.declared.ghost_types.Part.{Part}
-use Rattle.shared_count.specs.declared.ghost_types.Part.TheVariants.{Half, Whole, InDrop}
+use Rattle.shared_count.specs.declared.ghost_types.Part.TheVariants.{InDrop}
 use Rattle.shared_count.specs.declared.ghost_types.Share.{Share}
 use Rattle.shared_count.specs.History.{left_by, owned_by}
 use Rattle.shared_count.specs.Inside.Shares.{halves, drops}
 use Rattle.shared_count.specs.Inside.Rule.{Knows, Keeps}
-use Rattle.shared_count.proofs.Histories.{by_name, one_if, one_if-other, count-cons, fits_owners}
-use Rattle.shared_count.proofs.Sums.{halves_if, halves-cons, drops_in, drops-cons}
+use Rattle.shared_count.proofs.Histories.{one_if, one_if-same, one_if-other, count-cons, fits_owners}
+use Rattle.shared_count.proofs.Sums.{halves_if, halves_if-same, halves-cons, drops_in, drops-cons}
 use Rattle.shared_count.proofs.Moves.{Table}
 
 -- the names of the passes in a drop
-with_name : Part → ℕ → List ℕ → List ℕ
+abbrev with_name : Part → ℕ → List ℕ → List ℕ
 with_name InDrop p ps = p ∷ ps
-with_name Half p ps = ps
-with_name Whole p ps = ps
+with_name _ p ps = ps
 
-dropping : List Share → List ℕ
+abbrev dropping : List Share → List ℕ
 dropping [] = []
 dropping (s ∷ ss) = with_name s.part s.known.name (dropping ss)
 
-all_dropping : List (List Share) → List ℕ
+abbrev all_dropping : List (List Share) → List ℕ
 all_dropping [] = []
 all_dropping (v ∷ vs) = dropping v ++ all_dropping vs
 
--- are as many as the drops
-length-with_name : (part : Part) (p : ℕ) (ps : List ℕ) → length (with_name part p ps)
-    ≡ drops_in part + length ps
-unfolding with_name
-length-with_name InDrop p ps = omega arith
-length-with_name Half p ps = omega arith
-length-with_name Whole p ps = omega arith
-
-length-dropping : (v : List Share) → length (dropping v) ≡ drops v
-unfolding dropping
-length-dropping [] = refl
-length-dropping (s ∷ ss) =
-    let rest = length-dropping ss in
-    let here = length-with_name s.part s.known.name (dropping ss) in
-    let sum = drops-cons s ss in
-    omega arith
-
-length-all : (vs : List (List Share)) → length (all_dropping vs) ≡ sum_by drops vs
-unfolding all_dropping
-length-all [] = refl
-length-all (v ∷ vs) =
-    let rest = length-all vs in
-    let here = length-dropping v in
-    let both = length-append (dropping v) (all_dropping vs) in
-    let sum = sum_by-cons drops v vs in
-    omega arith
-
--- have both halves of their passes
-halves-with_name : (x p : ℕ) (part : Part) (ps : List ℕ)
-    → 2 * count_by (nat_eq x) (with_name part p ps) ≤ halves_if (nat_eq x p) part + 2 * count_by (nat_eq x) ps
-unfolding with_name
-halves-with_name x p InDrop ps =
-    let c = count-cons x p ps in
-    let here : 2 * one_if (nat_eq x p) ≤ halves_if (nat_eq x p) InDrop =
-    by_name x p (λ t. 2 * one_if t ≤ halves_if t InDrop) (λ _. omega arith) (λ _. omega arith) in
-    omega arith
-halves-with_name x p Half ps = omega arith
-halves-with_name x p Whole ps = omega arith
-
-halves-dropping : (x : ℕ) (v : List Share) → 2 * count_by (nat_eq x) (dropping v) ≤ halves x v
-unfolding dropping
-halves-dropping x [] = omega arith
-halves-dropping x (s ∷ ss) =
-    let rest = halves-dropping x ss in
-    let here = halves-with_name x s.known.name s.part (dropping ss) in
-    let sum = halves-cons x s ss in
-    omega arith
-
-count-append : (x : ℕ) (a b : List ℕ) → count_by (nat_eq x) (a ++ b) ≡ count_by (nat_eq x)
-    a + count_by (nat_eq x) b
-count-append x a b = sum_by-append (λ y. one_if (nat_eq x y)) a b
-
-halves-all : (x : ℕ) (vs : List (List Share)) → 2 * count_by (nat_eq x) (all_dropping vs) ≤ sum_by (halves x) vs
-unfolding all_dropping
-halves-all x [] = omega arith
-halves-all x (v ∷ vs) =
-    let rest = halves-all x vs in
-    let here = halves-dropping x v in
-    let both = count-append x (dropping v) (all_dropping vs) in
-    let sum = sum_by-cons (halves x) v vs in
-    omega arith
-
--- and own a handle
 module _ (n x : ℕ) (log : List Event) where
-  owns-with_name : (p : ℕ) (part : Part) (ps : List ℕ) → (part ≡ InDrop → 0 < owned_by n p log)
-      → (0 < count_by (nat_eq x) ps → 0 < owned_by n x log) → 0 < count_by (nat_eq x) (with_name part p ps)
-      → 0 < owned_by n x log
-  unfolding with_name
-  owns-with_name p Half ps own later h = later h
-  owns-with_name p Whole ps own later h = later h
-  owns-with_name p InDrop ps own later h = dite (ℕ_discrete x p)
-      (λ e. subst (λ (z : ℕ). 0 < owned_by n z log) (sym e) (own refl))
-      (λ ne. let z = one_if-other x p ne in let c = count-cons x p ps in later (omega arith))
+  -- they are as many as the drops, each has both halves of its pass, and owns a handle
+  record AreNames (ps : List ℕ) (drops' halves' : ℕ) : Type 0 where
+    many : length ps ≡ drops'
+    few : 2 * count_by (nat_eq x) ps ≤ halves'
+    own : 0 < count_by (nat_eq x) ps → 0 < owned_by n x log
 
-  owns-dropping : (v : List Share) → All (Knows n log) v → 0 < count_by (nat_eq x) (dropping v)
-      → 0 < owned_by n x log
-  unfolding dropping
-  owns-dropping [] k h = absurd (omega arith)
-  owns-dropping (s ∷ ss) k h = let here : Knows n log s = All-head (Knows n log) s ss k in
-      owns-with_name s.known.name s.part (dropping ss) here.owns
-      (λ some. owns-dropping ss (All-tail (Knows n log) s ss k) some) h
+  names-with : (p : ℕ) (part : Part) (ps : List ℕ) (d d' h h' : ℕ) → (part ≡ InDrop → 0 < owned_by n p log)
+      → d' ≡ drops_in part + d → h' ≡ halves_if (nat_eq x p) part + h
+      → AreNames ps d h → AreNames (with_name part p ps) d' h'
+  names-with p InDrop ps d d' h h' own e f r =
+      let many = r.many in
+      let few = r.few in
+      let count = count-cons x p ps in
+      dite (ℕ_discrete x p)
+      (λ is.
+      let one = subst (λ (z : ℕ). one_if (nat_eq x z) ≡ 1) is (one_if-same x) in
+      let both = subst (λ (z : ℕ). halves_if (nat_eq x z) InDrop ≡ 2) is (halves_if-same x InDrop) in
+      record {
+        many = omega arith;
+        few = omega arith;
+        own = λ _. subst (λ (z : ℕ). 0 < owned_by n z log) (sym is) (own refl);
+      })
+      (λ other.
+      let none = one_if-other x p other in
+      record { many = omega arith; few = omega arith; own = λ some. r.own (omega arith) })
+  names-with p part ps d d' h h' own e f r =
+      let many = r.many in
+      let few = r.few in
+      record { many = omega arith; few = omega arith; own = r.own }
 
-  owns-all : (vs : List (List Share)) → ((j : ℕ) (v : List Share)
-      → get_elem? vs j ≡ some v → All (Knows n log) v)
-      → 0 < count_by (nat_eq x) (all_dropping vs) → 0 < owned_by n x log
-  unfolding all_dropping
-  owns-all [] k h = absurd (omega arith)
-  owns-all (v ∷ vs) k h = let both = count-append x (dropping v) (all_dropping vs) in
-      dite (dec_le 1 (count_by (nat_eq x) (dropping v)))
-      (λ here. owns-dropping v (k 0 v refl) here)
-      (λ out. owns-all vs (λ j u e. k (suc j) u e) (omega arith))
+  names-in : (v : List Share) → All (Knows n log) v → AreNames (dropping v) (drops v) (halves x v)
+  names-in [] k = record { many = refl; few = omega arith; own = λ some. absurd (omega arith) }
+  names-in (s ∷ ss) k = let here : Knows n log s = All-head (Knows n log) s ss k in
+      names-with s.known.name s.part (dropping ss) (drops ss) (drops (s ∷ ss)) (halves x ss) (halves x (s ∷ ss))
+      here.owns (drops-cons s ss) (halves-cons x s ss) (names-in ss (All-tail (Knows n log) s ss k))
+
+  names : (vs : List (List Share)) → ((j : ℕ) (v : List Share) → get_elem? vs j ≡ some v → All (Knows n log) v)
+      → AreNames (all_dropping vs) (sum_by drops vs) (sum_by (halves x) vs)
+  names [] k = record { many = refl; few = omega arith; own = λ some. absurd (omega arith) }
+  names (v ∷ vs) k =
+      let here = names-in v (k 0 v refl) in
+      let rest = names vs (λ j u e. k (suc j) u e) in
+      let long = length-append (dropping v) (all_dropping vs) in
+      let count = sum_by-append (λ y. one_if (nat_eq x y)) (dropping v) (all_dropping vs) in
+      let all = sum_by-cons drops v vs in
+      let both = sum_by-cons (halves x) v vs in
+      let many = here.many in
+      let few = here.few in
+      let many' = rest.many in
+      let few' = rest.few in
+      record {
+        many = omega arith;
+        few = omega arith;
+        own = λ some. dite (dec_le 1 (count_by (nat_eq x) (dropping v))) here.own (λ none. rest.own (omega arith));
+      }
 
 pub covered : (n : ℕ) (s : Table) (k : Keeps n s) → sum_by drops s.views ≤ length (left_by n k.log).owners
 covered n s k =
-    let long = length-all s.views in
-    let fits = fits_owners (all_dropping s.views) (left_by n k.log).owners
-    (λ x. dite (dec_le 1 (count_by (nat_eq x) (all_dropping s.views)))
-    (λ h. let own = owns-all n x k.log s.views k.seats h in
-    let most = k.apart x in let few = halves-all x s.views in omega arith)
-    (λ h. omega arith)) in
+    let long = (names n 0 k.log s.views k.seats).many in
+    let fits = fits_owners (all_dropping s.views) (left_by n k.log).owners (λ x.
+    let are = names n x k.log s.views k.seats in
+    let few = are.few in
+    let most = k.apart x in
+    dite (dec_le 1 (count_by (nat_eq x) (all_dropping s.views))) (λ some. let own = are.own some in omega arith)
+    (λ none. omega arith)) in
     omega arith

@@ -13,7 +13,7 @@ use Rattle.shared_count.specs.declared.ghost_types.Call.{Call}
 use Rattle.shared_count.specs.declared.replies.TryClone.TheVariants.{Born, Full, Overtaken}
 use Rattle.shared_count.specs.declared.replies.EndReply.TheVariants.{Ended, Last}
 use Rattle.shared_count.specs.declared.replies.EndReply.{EndReply}
-use Rattle.shared_count.specs.declared.ghost_types.Call.TheVariants.{Clone, End, Mark, Unique, Static}
+use Rattle.shared_count.specs.declared.ghost_types.Call.TheVariants.{Clone, End}
 use Rattle.shared_count.specs.declared.ghost_types.Event.{Event}
 use Rattle.shared_count.specs.History.{CountState, opening, handles_of, without, next, has_exactly, end_reply, IsReply}
 use Rattle.shared_count.specs.History.{IsLegalFrom, IsLegal, state_after, left_by, owned_by, calls_of}
@@ -91,12 +91,8 @@ pub handles_of-next : (p q : ℕ) (s : CountState) (c : Call) → p ≢ q → ha
     ≡ handles_of p s
 handles_of-next p q s (Clone Born) n =
     let z = one_if-other p q n in let c = count-cons p q s.owners in omega arith
-handles_of-next p q s (Clone Full) n = refl
-handles_of-next p q s (Clone Overtaken) n = refl
 handles_of-next p q s (End r) n = count-without p q s.owners n
-handles_of-next p q s Mark n = refl
-handles_of-next p q s (Unique b) n = refl
-handles_of-next p q s (Static b) n = refl
+handles_of-next p q s c n = refl
 
 pub not_called : (p : ℕ) (e : Event) (es : List Event) → calls_of p (e ∷ es) ≡ []
     → (p ≢ e.caller) × (calls_of p es ≡ [])
@@ -183,7 +179,7 @@ two_owners p q (x ∷ xs) n =
       G : Bool → Type 0
       G t = 0 + count_by (nat_eq p) xs + (one_if t + count_by (nat_eq q) xs) ≤ suc (length xs)
 
-and_right : (a b : Bool) → (a && b) ≡ true → b ≡ true
+pub and_right : (a b : Bool) → (a && b) ≡ true → b ≡ true
 and_right true b e = e
 and_right false b e = absurd (cc)
 
@@ -217,13 +213,10 @@ module _ (p q : ℕ) (s : CountState) (n : p ≢ q) (hp : 0 < handles_of p s) (h
       → IsTrue (has_born_or_ended es) ⊎ ((state_after (next s q c) es).owners ≡ (next s q c).owners)
       → Changed c es
   changed_at (Clone Born) es a r = inl refl
-  changed_at (Clone Full) es a r = r
   changed_at (Clone Overtaken) es a r = absurd (never_overtaken (has_exactly greatest_count s) a)
   changed_at (End Ended) es a r = inl refl
   changed_at (End Last) es a r = absurd (not_last p q s n hp hq a)
-  changed_at Mark es a r = r
-  changed_at (Unique b) es a r = r
-  changed_at (Static b) es a r = r
+  changed_at c es a r = r
 
 changed_or_same : (p : ℕ) (d : List Event) (s : CountState)
     → 0 < handles_of p s → calls_of p d ≡ [] → IsLegalFrom s d
@@ -253,6 +246,10 @@ overtaken n p a b k found g legal own was is other low =
       room = (is.0, few);
     }
 
+pub or_true : (x y : Bool) → y ≡ true → (x || y) ≡ true
+or_true true y e = refl
+or_true false y e = e
+
 -- others' calls before it change nothing of that
 pub overtaken_after : (n p : ℕ) (a b c : List Event) → OthersExtend p a b → OvertakersExtend n p b c
     → OvertakersExtend n p a c
@@ -262,10 +259,7 @@ overtaken_after n p a b c g o = record {
   changed = list_any-append (λ e. is_born_or_ended e.call) g.added o.others.added
       ∙ or_true (has_born_or_ended g.added) (has_born_or_ended o.others.added) o.changed;
   room = o.room;
-} where
-  or_true : (x y : Bool) → y ≡ true → (x || y) ≡ true
-  or_true true y e = refl
-  or_true false y e = e
+}
 
 -- a list whose entries all are among the owners, as often, is no longer
 pub fits_owners : (xs b : List ℕ) → ((x : ℕ) → count_by (nat_eq x) xs ≤ count_by (nat_eq x) b)

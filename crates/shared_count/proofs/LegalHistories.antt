@@ -1,5 +1,5 @@
 -- The laws of legal histories.
-use Rattle.std.proofs.Common.{◌≡◌, ℕ, zero, suc, ◌+◌, ◌<◌, ◌≤◌, Bool, true, false, ◌&&◌}
+use Rattle.std.proofs.Common.{◌≡◌, ℕ, suc, ◌+◌, ◌<◌, ◌≤◌, Bool, true, false, ◌&&◌}
 use Rattle.std.proofs.Common.{◌||◌, not, nat_eq, nat_lt, eqb-true, List, [], ◌∷◌, ◌++◌, length, sym, refl}
 use Rattle.std.proofs.Common.{ap, ◌∙◌, arith, eq-eqb, ne_eqb, if◌then◌else◌, count_by, sum_by}
 use Rattle.std.specs.List.{range_with_len}
@@ -7,17 +7,19 @@ use Rattle.std.proofs.lemmas.List.FromFn.{length-range_with_len}
 use Rattle.std.proofs.lemmas.Bool.{lt-ltb}
 use Rattle.std.proofs.lemmas.List.Sums.{sum_by-cons}
 use mathlib.Core.Logic.{dite}
-use native.Mathlib.Decide.{ℕ_discrete, dec_le}
+use native.Mathlib.Decide.{dec_le}
 use Rattle.shared_count.specs.declared.ghost_types.Call.{Call}
-use Rattle.shared_count.specs.declared.replies.TryClone.TheVariants.{Born, Full, Overtaken}
+use Rattle.shared_count.specs.declared.replies.TryClone.TheVariants.{Born}
 use Rattle.shared_count.specs.declared.replies.EndReply.{EndReply}
-use Rattle.shared_count.specs.declared.ghost_types.Call.TheVariants.{Clone, End, Mark, Unique, Static}
+use Rattle.shared_count.specs.declared.ghost_types.Call.TheVariants.{Clone, End, Mark}
 use Rattle.shared_count.specs.declared.ghost_types.Event.{Event}
 use Rattle.shared_count.specs.History.{CountState, opening, handles_of, next, has_exactly, end_reply, IsReply}
 use Rattle.shared_count.specs.History.{IsLegalFrom, state_after, left_by, owned_by, calls_of}
 use Rattle.shared_count.specs.HistoryLaws.{is_mark, is_last, count_calls, BeginningsAreLegal, HandlesAreOwned}
 use Rattle.shared_count.specs.HistoryLaws.{CallsAreOfPasses, MarkedExactlyIfCalled, LastIsToldOnce, OneEndIsLast}
-use Rattle.shared_count.proofs.Histories.{by_name, one_if, count-cons, handles_of-next}
+use Rattle.shared_count.proofs.Histories.{by_name, one_if, one_if-same, one_if-other, count-cons, handles_of-next}
+use Rattle.shared_count.proofs.Histories.{and_right, or_true}
+use Rattle.shared_count.proofs.Sums.{sum-none, sum-alone}
 
 legal_from_front : (s : CountState) (a b : List Event) → IsLegalFrom s (a ++ b) → IsLegalFrom s a
 legal_from_front s [] b legal = tt
@@ -38,33 +40,14 @@ sum-add f g both (x ∷ xs) each =
     let c = sum_by-cons both x xs in
     omega arith
 
-sum-none : (f : ℕ → ℕ) (a n : ℕ) → ((p : ℕ) → a ≤ p → p < a + n → f p ≡ 0)
-    → sum_by f (range_with_len a n) ≡ 0
-sum-none f a zero none = refl
-sum-none f a (suc n) none =
-    let rest = sum-none f (a + 1) n (λ p low high. none p (omega arith) (omega arith)) in
-    let here = none a (omega arith) (omega arith) in
-    let sum = sum_by-cons f a (range_with_len (a + 1) n) in
-    omega arith
-
 -- k of one pass alone
 abbrev at_name : ℕ → ℕ → ℕ → ℕ
 at_name q k p = if nat_eq p q then k else 0
 
-sum-at_name : (q k a n : ℕ) → a ≤ q → q < a + n → sum_by (at_name q k) (range_with_len a n) ≡ k
-sum-at_name q k a zero low high = absurd (omega arith)
-sum-at_name q k a (suc n) low high =
-    let sum = sum_by-cons (at_name q k) a (range_with_len (a + 1) n) in
-    dite (ℕ_discrete a q)
-    (λ same.
-    let none = sum-none (at_name q k) (a + 1) n (λ p above below.
-    ap (λ (b : Bool). if b then k else 0) (ne_eqb p q (λ e. omega arith))) in
-    let here : at_name q k a ≡ k = ap (λ (b : Bool). if b then k else 0) (eq-eqb a q same) in
-    omega arith)
-    (λ other.
-    let rest = sum-at_name q k (a + 1) n (omega arith) (omega arith) in
-    let here : at_name q k a ≡ 0 = ap (λ (b : Bool). if b then k else 0) (ne_eqb a q other) in
-    omega arith)
+sum-at_name : (q k n : ℕ) → q < n → sum_by (at_name q k) (range_with_len 0 n) ≡ k
+sum-at_name q k n low =
+    sum-alone (at_name q k) q 0 n (λ p other. ap (λ (b : Bool). if b then k else 0) (ne_eqb p q other))
+    (omega arith) (omega arith) ∙ ap (λ (b : Bool). if b then k else 0) (eq-eqb q q refl)
 
 -- no handle is owned by a name from n on
 abbrev OwnedBelow : ℕ → CountState → Type 0
@@ -81,14 +64,7 @@ below-next n q s c below own p above =
     handles_of-next p q s c (λ e. omega arith) ∙ below p above
 
 below-opening : (n : ℕ) → OwnedBelow n (opening n)
-below-opening n p above = let none = count-above p 0 n in none (omega arith) where
-  count-above : (x a n : ℕ) → a + n ≤ x → count_by (nat_eq x) (range_with_len a n) ≡ 0
-  count-above x a zero h = refl
-  count-above x a (suc n) h =
-      let rest = count-above x (a + 1) n (omega arith) in
-      let sum = count-cons x a (range_with_len (a + 1) n) in
-      let here : one_if (nat_eq x a) ≡ 0 = ap one_if (ne_eqb x a (λ e. omega arith)) in
-      omega arith
+below-opening n p above = sum-none (λ q. one_if (nat_eq p q)) 0 n (λ q low high. one_if-other p q (λ e. omega arith))
 
 below-after : (n : ℕ) (s : CountState) (h : List Event) → OwnedBelow n s → IsLegalFrom s h
     → OwnedBelow n (state_after s h)
@@ -104,9 +80,9 @@ owners-sum n (x ∷ xs) none =
     let low : x < n = dite (dec_le n x) (λ above.
     let all = none x above in
     let sum = count-cons x x xs in
-    let here : one_if (nat_eq x x) ≡ 1 = ap one_if (eq-eqb x x refl) in
+    let here = one_if-same x in
     absurd (omega arith)) (λ h. omega arith) in
-    let here = sum-at_name x 1 0 n (omega arith) (omega arith) in
+    let here = sum-at_name x 1 n (omega arith) in
     let both = sum-add (at_name x 1) (λ p. count_by (nat_eq p) xs) (λ p. count_by (nat_eq p) (x ∷ xs))
     (range_with_len 0 n) (λ p. count-cons p x xs) in
     omega arith
@@ -134,7 +110,7 @@ module _ (kind : Call → Bool) where
       let low = caller_below n e.caller s below legal.0 in
       let rest = calls-sum n (next s e.caller e.call) es (below-next n e.caller s e.call below legal.0) legal.2 in
       let all = calls-cons e es in
-      let here = sum-at_name e.caller (one_if (kind e.call)) 0 n (omega arith) (omega arith) in
+      let here = sum-at_name e.caller (one_if (kind e.call)) n (omega arith) in
       let both = sum-add (at_name e.caller (one_if (kind e.call))) (λ p. count_calls kind (calls_of p es))
       (λ p. count_calls kind (calls_of p (e ∷ es))) (range_with_len 0 n) (λ p. calls_of-cons p e es) in
       omega arith
@@ -147,18 +123,10 @@ or_false : (b : Bool) → b ≡ (b || false)
 or_false true = refl
 or_false false = refl
 
-or_true : (b : Bool) → true ≡ (b || true)
-or_true true = refl
-or_true false = refl
-
 mark-next : (s : CountState) (q : ℕ) (c : Call) → (next s q c).mark ≡ (s.mark || is_mark c)
+mark-next s q Mark = sym (or_true s.mark true refl)
 mark-next s q (Clone Born) = or_false s.mark
-mark-next s q (Clone Full) = or_false s.mark
-mark-next s q (Clone Overtaken) = or_false s.mark
-mark-next s q (End r) = or_false s.mark
-mark-next s q Mark = or_true s.mark
-mark-next s q (Unique b) = or_false s.mark
-mark-next s q (Static b) = or_false s.mark
+mark-next s q c = or_false s.mark
 
 one_more : (marked here : Bool) (rest all : ℕ) → all ≡ one_if here + rest
     → ((marked || here) || nat_lt 0 rest) ≡ (marked || nat_lt 0 all)
@@ -166,7 +134,7 @@ one_more true here rest all e = refl
 one_more false true rest all e = sym (lt-ltb 0 all (omega arith))
 one_more false false rest all e = let same : rest ≡ all = omega arith in ap (nat_lt 0) same
 
-mark-after : (s : CountState) (h : List Event)
+pub mark-after : (s : CountState) (h : List Event)
     → (state_after s h).mark ≡ (s.mark || nat_lt 0 (count_calls is_mark h))
 mark-after s [] = or_false s.mark
 mark-after s (e ∷ es) =
@@ -193,12 +161,9 @@ is_last-next : (s : CountState) (q : ℕ) (c : Call) → has_exactly 0 s ≡ fal
 is_last-next s q (Clone Born) some reply =
     let other : nat_eq (suc (length s.owners)) 0 ≡ false = ne_eqb (suc (length s.owners)) 0 (λ e. omega arith) in
     sym (ap (λ (b : Bool). not s.mark && b) other ∙ and_false (not s.mark))
-is_last-next s q (Clone Full) some reply = sym some
-is_last-next s q (Clone Overtaken) some reply = sym some
 is_last-next s q (End r) some reply = is_last-end (has_exactly 0 (next s q (End r))) r reply
 is_last-next s q Mark some reply = refl
-is_last-next s q (Unique b) some reply = sym some
-is_last-next s q (Static b) some reply = sym some
+is_last-next s q c some reply = sym some
 
 -- nobody calls if no handle is left
 none_owned : (q : ℕ) (xs : List ℕ) → length xs ≡ 0 → count_by (nat_eq q) xs ≡ 0
@@ -206,10 +171,7 @@ none_owned q [] e = refl
 none_owned q (x ∷ xs) e = absurd (omega arith)
 
 left_none : (s : CountState) → has_exactly 0 s ≡ true → length s.owners ≡ 0
-left_none s none = eqb-true (length s.owners) 0 (and_right (not s.mark) (nat_eq (length s.owners) 0) none) where
-  and_right : (a b : Bool) → (a && b) ≡ true → b ≡ true
-  and_right true b e = e
-  and_right false b e = absurd (cc)
+left_none s none = eqb-true (length s.owners) 0 (and_right (not s.mark) (nat_eq (length s.owners) 0) none)
 
 nothing_follows : (s : CountState) (h : List Event) → has_exactly 0 s ≡ true → IsLegalFrom s h → h ≡ []
 nothing_follows s [] none legal = refl

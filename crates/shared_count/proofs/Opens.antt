@@ -1,11 +1,13 @@
 -- The passes that a count is opened with.
-use Rattle.std.proofs.Common.{◌≡◌, ℕ, zero, suc, ◌+◌, ◌-◌, ◌<◌, ◌≤◌, Bool, false, nat_eq}
-use Rattle.std.proofs.Common.{List, [], ◌∷◌, ◌++◌, length, get_or, map, sym, refl, ap, ◌∙◌, subst}
-use Rattle.std.proofs.Common.{arith, All, count_by, sum_by}
+use Rattle.std.proofs.Common.{◌≡◌, ◌≢◌, ne_eqb, ℕ, zero, suc, ◌+◌, ◌-◌, ◌<◌, ◌≤◌, Bool, false, nat_eq}
+use Rattle.std.proofs.Common.{List, [], ◌∷◌, ◌++◌, map, sym, refl, ap, ◌∙◌, subst}
+use Rattle.std.proofs.Common.{arith, All, sum_by}
 use Rattle.std.specs.List.{range_with_len}
-use Rattle.std.proofs.lemmas.List.Elements.{All-nil, All-cons, All-from_get_or}
+use Rattle.std.proofs.lemmas.List.Elements.{All-from_get_or}
 use Rattle.std.proofs.lemmas.List.FromFn.{length-range_with_len, length-map-range_with_len, get_or-map-range_with_len}
 use Rattle.std.proofs.lemmas.List.FromFn.{map-range_with_len_more}
+use mathlib.Core.Logic.{dite}
+use native.Mathlib.Decide.{dec_le}
 use mathlib.Core.Option.{some, some-injective, some-ne-none}
 use lib.ListN.{get_elem?}
 use Rattle.atomic_table.specs.Table.{opening as start}
@@ -20,37 +22,34 @@ use Rattle.shared_count.specs.Inside.Shares.{known, share, newcomers, halves, dr
 use Rattle.shared_count.specs.Inside.Rule.{Knows, Keeps}
 use Rattle.shared_count.specs.Inside.Steps.{SeatState, with_shares, with_part}
 use Rattle.shared_count.specs.Inside.Seats.{pass_of, IsPass}
-use Rattle.shared_count.proofs.Histories.{by_name, one_if, count-cons, others-refl}
-use Rattle.shared_count.proofs.Sums.{halves_if, halves-cons, drops-cons}
+use Rattle.shared_count.proofs.Histories.{one_if, one_if-same, one_if-other, others-refl}
+use Rattle.shared_count.proofs.Sums.{sum-none, sum-alone, sum-map, halves_if, halves_if-same}
 
-halves-newcomers : (x n p k : ℕ) → (halves x (newcomers n p k) ≤ 2) × (x < p → halves x (newcomers n p k)
-    ≡ 0)
-halves-newcomers x n p zero = (omega arith, λ _. refl)
-halves-newcomers x n p (suc k) =
-    let rest = halves-newcomers x n (p + 1) k in
-    let sum = halves-cons x (share (known n p []) Whole) (newcomers n (p + 1) k) in
-    let both : F (nat_eq x p) = by_name x p F
-    (λ e. let none = rest.1 (omega arith) in (omega arith, λ low. absurd (omega arith)))
-    (λ other. let few = rest.0 in (omega arith, λ low. let none = rest.1 (omega arith) in omega arith)) in
-    let few = both.0 in (omega arith, λ low. let none = both.1 low in omega arith) where
-      F : Bool → Type 0
-      F t = (halves_if t Whole + halves x (newcomers n (p + 1) k) ≤ 2)
-          × (x < p → halves_if t Whole + halves x (newcomers n (p + 1) k) ≡ 0)
+-- what holds of each of the first n holds of all
+all_first : {X : Type 0} (P : X → Type 0) (f : ℕ → X) (n : ℕ) → ((i : ℕ) → i < n → P (f i))
+    → All P (map f (range_with_len 0 n))
+all_first P f n each = All-from_get_or P (map f (range_with_len 0 n)) (f 0) (λ i within.
+    let low : i < n = subst (λ (k : ℕ). i < k) (length-map-range_with_len f 0 n) within in
+    subst P (sym (get_or-map-range_with_len f 0 n i i (f 0) low (omega arith))) (each i low))
 
-drops-newcomers : (n p k : ℕ) → drops (newcomers n p k) ≡ 0
-drops-newcomers n p zero = refl
-drops-newcomers n p (suc k) =
-    let rest = drops-newcomers n (p + 1) k in
-    let sum = drops-cons (share (known n p []) Whole) (newcomers n (p + 1) k) in
-    omega arith
+halves-newcomers : (x n : ℕ) → halves x (newcomers n 0 n) ≤ 2
+halves-newcomers x n =
+    let sum = sum-map (λ s. halves_if (nat_eq x s.known.name) s.part) (λ p. share (known n p []) Whole)
+    (range_with_len 0 n) in
+    let none = (λ (p : ℕ) (other : x ≢ p). ap (λ (b : Bool). halves_if b Whole) (ne_eqb x p other)) in
+    dite (dec_le n x)
+    (λ high. let all = sum-none (λ p. halves_if (nat_eq x p) Whole) 0 n (λ p low below. none p (λ e. omega arith)) in
+    omega arith)
+    (λ low. let all = sum-alone (λ p. halves_if (nat_eq x p) Whole) x 0 n (λ p other. none p (λ e. other (sym e)))
+    (omega arith) (omega arith) in
+    let same = halves_if-same x Whole in omega arith)
 
-know-newcomers : (n p k : ℕ) → All (Knows n []) (newcomers n p k)
-know-newcomers n p zero = All-nil (Knows n [])
-know-newcomers n p (suc k) = All-cons (Knows n []) (share (known n p []) Whole) (newcomers n (p + 1) k)
-    (record { opened = refl; begins = others-refl p []; owns = λ e. absurd (cc) }) (know-newcomers n (p + 1) k)
+know-newcomers : (n : ℕ) → All (Knows n []) (newcomers n 0 n)
+know-newcomers n = all_first (Knows n []) (λ p. share (known n p []) Whole) n
+    (λ p low. record { opened = refl; begins = others-refl p []; owns = λ e. absurd (cc) })
 
 only_seat : (n j : ℕ) (v : List Share) → get_elem? (newcomers n 0 n ∷ []) j ≡ some v → All (Knows n []) v
-only_seat n zero v e = subst (All (Knows n [])) (some-injective (newcomers n 0 n) v e) (know-newcomers n 0 n)
+only_seat n zero v e = subst (All (Knows n [])) (some-injective (newcomers n 0 n) v e) (know-newcomers n)
 only_seat n (suc j) v e = absurd (some-ne-none v (sym e))
 
 -- the word n stands for a new count of n passes
@@ -62,44 +61,19 @@ opens n small = record {
   word = subst (λ (live : ℕ). StandsFor n false live (sum_by drops (newcomers n 0 n ∷ [])))
       (sym (length-range_with_len 0 n)) (stands-new n (sum_by drops (newcomers n 0 n ∷ [])) small);
   seats = only_seat n;
-  apart = λ p. let few = (halves-newcomers p n 0 n).0 in omega arith;
+  apart = λ p. let few = halves-newcomers p n in omega arith;
 }
 
-pub count-range : (x p n : ℕ) → (x < p → count_by (nat_eq x) (range_with_len p n) ≡ 0)
-    × (p ≤ x → x < p + n → count_by (nat_eq x) (range_with_len p n) ≡ 1)
-count-range x p zero = ((λ _. refl), λ a b. absurd (omega arith))
-count-range x p (suc n) =
-    let rest = count-range x (p + 1) n in
-    let sum = count-cons x p (range_with_len (p + 1) n) in
-    let both : F (nat_eq x p) = by_name x p F
-    (λ e. ((λ low. absurd (omega arith)), λ a b. let none = rest.0 (omega arith) in omega arith))
-    (λ other. (
-      (λ low. let none = rest.0 (omega arith) in omega arith),
-      λ a b. let one = rest.1 (omega arith) (omega arith) in
-          omega arith,
-    )) in
-    ((λ low. let none = both.0 low in omega arith), λ a b. let one = both.1 a b in omega arith) where
-      F : Bool → Type 0
-      F t = (x < p → one_if t + count_by (nat_eq x) (range_with_len (p + 1) n) ≡ 0)
-          × (p ≤ x → x < p + suc n → one_if t + count_by (nat_eq x) (range_with_len (p + 1) n) ≡ 1)
-
 pub owns_one : (n name : ℕ) → name < n → owned_by n name [] ≡ 1
-owns_one n name low = (count-range name 0 n).1 (omega arith) (omega arith)
+owns_one n name low =
+    sum-alone (λ p. one_if (nat_eq name p)) name 0 n (λ p other. one_if-other name p (λ e. other (sym e)))
+    (omega arith) (omega arith) ∙ one_if-same name
 
 -- each of the passes owns one handle
 pub own_one : (c : CountId) (passes : List Pass) → passes ≡ map (first_pass c) (range_with_len 0 c.passes)
     → All (λ p. handles p ≡ 1) passes
 own_one c passes are = subst (All (λ p. handles p ≡ 1)) (sym are)
-    (All-from_get_or (λ p. handles p ≡ 1) made (first_pass c 0) each) where
-      made : List Pass
-      made = map (first_pass c) (range_with_len 0 c.passes)
-
-      each : (i : ℕ) → i < length made → handles (get_or made i (first_pass c 0)) ≡ 1
-      each i within =
-          let many : length made ≡ c.passes = length-map-range_with_len (first_pass c) 0 c.passes in
-          let at : get_or made i (first_pass c 0) ≡ first_pass c i =
-          get_or-map-range_with_len (first_pass c) 0 c.passes i i (first_pass c 0) (omega arith) (omega arith) in
-          ap handles at ∙ owns_one c.passes i (omega arith)
+    (all_first (λ p. handles p ≡ 1) (first_pass c) c.passes (owns_one c.passes))
 
 -- the pass of this name is dealt
 module _ (n name : ℕ) (low : name < n) (before seat : SeatState)

@@ -1,38 +1,26 @@
 -- What a clone by a pass that has seen the mark answers.
-use Rattle.std.proofs.Common.{◌≡◌, ◌≢◌, ℕ, Bool, true, not, ◌&&◌, nat_eq, List, [], ◌∷◌}
+use Rattle.std.proofs.Common.{◌≡◌, ◌≢◌, ℕ, Bool, true, not, ◌&&◌, ◌||◌, nat_eq, nat_lt, List, [], ◌∷◌}
 use Rattle.std.proofs.Common.{◌++◌, length, sym}
 use Rattle.std.proofs.Common.{refl, ap, ◌∙◌, subst, true≢false, if◌then◌else◌}
 use Rattle.counting_word.specs.CountingWord.{greatest_count}
-use Rattle.shared_count.specs.declared.ghost_types.Call.{Call}
 use Rattle.shared_count.specs.declared.replies.TryClone.{TryClone}
 use Rattle.shared_count.specs.declared.replies.TryClone.TheVariants.{Born, Full, Overtaken}
-use Rattle.shared_count.specs.declared.ghost_types.Call.TheVariants.{Clone, End, Mark, Unique, Static}
+use Rattle.shared_count.specs.declared.ghost_types.Call.TheVariants.{Clone}
 use Rattle.shared_count.specs.declared.ghost_types.Event.{Event}
-use Rattle.shared_count.specs.History.{CountState, opening, next, IsLegal, IsLegalFrom}
-use Rattle.shared_count.specs.History.{state_after, left_by}
+use Rattle.shared_count.specs.History.{CountState, opening, IsLegal, IsLegalFrom}
+use Rattle.shared_count.specs.History.{left_by}
 use Rattle.shared_count.specs.Extends.{event, OthersExtend}
 use Rattle.shared_count.specs.Passes.{Pass, Called, WasOvertaken, HasSeenMark}
+use Rattle.shared_count.specs.HistoryLaws.{is_mark, count_calls}
 use Rattle.shared_count.proofs.Histories.{state_after-append, legal_rest}
-
-mark-next : (s : CountState) (p : ℕ) (c : Call) → s.mark ≡ true → (next s p c).mark ≡ true
-mark-next s p (Clone Born) m = m
-mark-next s p (Clone Full) m = m
-mark-next s p (Clone Overtaken) m = m
-mark-next s p (End r) m = m
-mark-next s p Mark m = refl
-mark-next s p (Unique b) m = m
-mark-next s p (Static b) m = m
-
-mark-after : (s : CountState) (a : List Event) → s.mark ≡ true → (state_after s a).mark ≡ true
-mark-after s [] m = m
-mark-after s (e ∷ es) m = mark-after (next s e.caller e.call) es (mark-next s e.caller e.call m)
+use Rattle.shared_count.proofs.LegalHistories.{mark-after}
 
 mark-others : (n p : ℕ) (a b : List Event)
     → OthersExtend p a b → (left_by n a).mark ≡ true → (left_by n b).mark ≡ true
 mark-others n p a b others m =
     ap (λ (h : List Event). (left_by n h).mark) others.begins
     ∙ ap (λ (s : CountState). s.mark) (state_after-append (opening n) a others.added)
-    ∙ mark-after (left_by n a) others.added m
+    ∙ mark-after (left_by n a) others.added ∙ ap (λ (b : Bool). b || nat_lt 0 (count_calls is_mark others.added)) m
 
 marked-Called : (old new : Pass) (reply : TryClone) → HasSeenMark old → Called old (Clone reply)
     new → reply ≡ Born

@@ -1,8 +1,11 @@
 -- Sums over the views of all seats, after a step, a split and a join, and over the shares of one seat.
 use Rattle.std.proofs.Common.{◌≡◌, ◌≢◌, ℕ, zero, suc, ◌+◌, ◌<◌, ◌≤◌, Bool, true, false}
-use Rattle.std.proofs.Common.{nat_eq, List, [], ◌∷◌, ◌++◌, length, get_or, set, sym, refl, ap, ◌∙◌}
+use Rattle.std.proofs.Common.{nat_eq, List, [], ◌∷◌, ◌++◌, length, get_or, map, set, sym, refl, ap, ◌∙◌}
 use Rattle.std.proofs.Common.{arith, if◌then◌else◌, sum_by}
 use Rattle.std.proofs.lemmas.List.Sums.{sum_by-cons, sum_by-set, sum_by-append, get_or-le-sum_by}
+use Rattle.std.specs.List.{range_with_len}
+use mathlib.Core.Logic.{dite}
+use native.Mathlib.Decide.{ℕ_discrete}
 use mathlib.Core.Option.{some, some-injective, some-ne-none}
 use lib.ListN.{get_elem?}
 use Rattle.atomic_table.proofs.Lists.{set_else}
@@ -61,6 +64,39 @@ module _ {X : Type 0} where
         → f z ≡ 0 → f b ≡ f w + f v → sum_by f (set (set l i b) j z) ≡ sum_by f l
     sum-join l i j v w b z at there none parts =
         let x = sum-set l i v b at in let y = sum-set (set l i b) j w z there in omega arith
+
+-- sums over ranges, and over what a range gives
+pub sum-none : (f : ℕ → ℕ) (a n : ℕ) → ((p : ℕ) → a ≤ p → p < a + n → f p ≡ 0)
+    → sum_by f (range_with_len a n) ≡ 0
+sum-none f a zero none = refl
+sum-none f a (suc n) none =
+    let rest = sum-none f (a + 1) n (λ p low high. none p (omega arith) (omega arith)) in
+    let here = none a (omega arith) (omega arith) in
+    let sum = sum_by-cons f a (range_with_len (a + 1) n) in
+    omega arith
+
+pub sum-alone : (f : ℕ → ℕ) (q a n : ℕ) → ((p : ℕ) → p ≢ q → f p ≡ 0) → a ≤ q → q < a + n
+    → sum_by f (range_with_len a n) ≡ f q
+sum-alone f q a zero others low high = absurd (omega arith)
+sum-alone f q a (suc n) others low high = let sum = sum_by-cons f a (range_with_len (a + 1) n) in
+    dite (ℕ_discrete a q)
+    (λ same.
+    let none = sum-none f (a + 1) n (λ p above below. others p (λ e. omega arith)) in
+    let here = ap f same in
+    omega arith)
+    (λ other.
+    let rest = sum-alone f q (a + 1) n others (omega arith) (omega arith) in
+    let here = others a other in
+    omega arith)
+
+pub sum-map : {X : Type 0} (f : X → ℕ) (g : ℕ → X) (xs : List ℕ)
+    → sum_by f (map g xs) ≡ sum_by (λ x. f (g x)) xs
+sum-map f g [] = refl
+sum-map f g (x ∷ xs) =
+    let rest = sum-map f g xs in
+    let here = sum_by-cons f (g x) (map g xs) in
+    let sum = sum_by-cons (λ y. f (g y)) x xs in
+    omega arith
 
 -- the shares of one seat
 pub sum-first : (f : Share → ℕ) (v : List Share) → sum_by f (all_but_first v) + sum_by f (first_alone v)

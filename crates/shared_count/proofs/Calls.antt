@@ -2,18 +2,11 @@
 use Rattle.std.proofs.Common.{◌≡◌, ◌≢◌, ℕ, ◌+◌, ◌<◌, List, sym, refl, ap, ◌∙◌, subst, arith}
 use Rattle.atomic_table.specs.Seated.{TableId}
 use Rattle.atomic_table.specs.Table.{Allows}
-use Rattle.shared_count.specs.declared.ghost_types.Call.{Call}
-use Rattle.shared_count.specs.declared.ghost_types.Call.TheVariants.{Clone, End}
-use Rattle.shared_count.specs.declared.replies.TryClone.{TryClone}
-use Rattle.shared_count.specs.declared.replies.TryClone.TheVariants.{Born, Overtaken}
-use Rattle.shared_count.specs.declared.ghost_types.Event.{Event}
-use Rattle.shared_count.specs.declared.ghost_types.Known.{Known}
-use Rattle.shared_count.specs.declared.ghost_types.Part.{Part}
-use Rattle.shared_count.specs.declared.ghost_types.Part.TheVariants.{Whole}
-use Rattle.shared_count.specs.History.{CountState, handles_of, next, left_by, owned_by}
+use Rattle.shared_count.specs.History.{Call, Clone, End, TryClone, Born, Overtaken, Event, CountState, handles_of, next}
+use Rattle.shared_count.specs.History.{left_by, owned_by}
+use Rattle.shared_count.specs.Inside.Shares.{Known, Part, Whole, seeing}
 use Rattle.shared_count.specs.Extends.{CallExtends}
 use Rattle.shared_count.specs.Passes.{CountId, Pass, handles, born_count, Called, HasSeenMore, WasOvertaken}
-use Rattle.shared_count.specs.Inside.Shares.{seeing}
 use Rattle.shared_count.specs.Inside.Rule.{Keeps}
 use Rattle.shared_count.specs.Inside.Steps.{SeatState, with_part, Sees, Made, Looked, Follows}
 use Rattle.shared_count.specs.Inside.Seats.{pass_at, handles_at, Replied, pass_of, IsPass}

@@ -1,18 +1,14 @@
 -- No more passes are in a drop than there are handles.
-use Rattle.std.proofs.Common.{◌≡◌, ℕ, suc, ◌+◌, ◌*◌, ◌<◌, ◌≤◌, nat_eq, List, [], ◌∷◌}
-use Rattle.std.proofs.Common.{◌++◌, length, refl, sym, subst, arith, length-append, All, count_by, sum_by}
+use Rattle.std.proofs.Common.{◌≡◌, ℕ, suc, ◌+◌, ◌*◌, ◌<◌, ◌≤◌, nat_eq, List, [], ◌∷◌, ◌++◌, length, refl, sym, subst}
+use Rattle.std.proofs.Common.{arith, length-append, All, count_by, sum_by}
 use Rattle.std.proofs.lemmas.List.Elements.{All-head, All-tail}
 use Rattle.std.proofs.lemmas.List.Sums.{sum_by-append, sum_by-cons}
 use mathlib.Core.Logic.{dite}
 use mathlib.Core.Option.{some}
 use native.Mathlib.Decide.{ℕ_discrete, dec_le}
 use lib.ListN.{get_elem?}
-use Rattle.shared_count.specs.declared.ghost_types.Event.{Event}
-use Rattle.shared_count.specs.declared.ghost_types.Part.{Part}
-use Rattle.shared_count.specs.declared.ghost_types.Part.TheVariants.{InDrop}
-use Rattle.shared_count.specs.declared.ghost_types.Share.{Share}
-use Rattle.shared_count.specs.History.{left_by, owned_by}
-use Rattle.shared_count.specs.Inside.Shares.{halves, drops}
+use Rattle.shared_count.specs.History.{Event, left_by, owned_by}
+use Rattle.shared_count.specs.Inside.Shares.{Part, InDrop, Share, halves, drops}
 use Rattle.shared_count.specs.Inside.Rule.{Knows, Keeps}
 use Rattle.shared_count.proofs.Histories.{one_if, one_if-same, one_if-other, count-cons, fits_owners}
 use Rattle.shared_count.proofs.Sums.{halves_if, halves_if-same, halves-cons, drops_in, drops-cons}

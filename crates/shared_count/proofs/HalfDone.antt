@@ -4,15 +4,9 @@ use Rattle.counting_word.specs.CountingWord.{greatest_count}
 use Rattle.counting_word.specs.Plans.{clone_plan, drop_plan}
 use Rattle.counting_word.specs.declared.ClonePlan.{ClonePlan}
 use Rattle.counting_word.specs.declared.DropPlan.{DropPlan}
-use Rattle.shared_count.specs.declared.ghost_types.Call.{Call}
-use Rattle.shared_count.specs.declared.ghost_types.Call.TheVariants.{Clone}
-use Rattle.shared_count.specs.declared.replies.TryClone.{TryClone}
-use Rattle.shared_count.specs.declared.replies.TryClone.TheVariants.{Born, Full, Overtaken}
-use Rattle.shared_count.specs.declared.ghost_types.Event.{Event}
-use Rattle.shared_count.specs.declared.ghost_types.Known.{Known}
-use Rattle.shared_count.specs.History.{left_by}
+use Rattle.shared_count.specs.History.{Call, Clone, TryClone, Born, Full, Overtaken, Event, left_by}
+use Rattle.shared_count.specs.Inside.Shares.{Known, seeing}
 use Rattle.shared_count.specs.Extends.{OthersExtend}
-use Rattle.shared_count.specs.Inside.Shares.{seeing}
 use Rattle.shared_count.specs.Inside.Steps.{SeatState, Made, Counts, Counted, Judged, Begun}
 use Rattle.shared_count.specs.Inside.Seats.{pass_at, CanCall, Replied}
 use Rattle.shared_count.proofs.Histories.{others-trans, overtaken, overtaken_after}

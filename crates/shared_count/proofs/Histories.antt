@@ -1,20 +1,14 @@
 -- Facts about histories, and about the states that they leave.
-use Rattle.std.proofs.Common.{◌≡◌, ◌≢◌, ℕ, suc, ◌+◌, ◌<◌, ◌≤◌, Bool, true, false, ◌&&◌}
-use Rattle.std.proofs.Common.{not, nat_eq, eqb-true, ◌⊎◌, inl, inr, ⊎_elim, List, [], ◌∷◌, ◌++◌}
-use Rattle.std.proofs.Common.{length, sym, refl, ap, ◌∙◌, subst, arith, eq-eqb, ne_eqb, append_assoc, append-nil}
-use Rattle.std.proofs.Common.{if◌then◌else◌, count_by, IsTrue, ◌||◌}
+use Rattle.std.proofs.Common.{◌≡◌, ◌≢◌, ℕ, suc, ◌+◌, ◌<◌, ◌≤◌, Bool, true, false, ◌&&◌, not, nat_eq, eqb-true, ◌⊎◌, inl}
+use Rattle.std.proofs.Common.{inr, ⊎_elim, List, [], ◌∷◌, ◌++◌, length, sym, refl, ap, ◌∙◌, subst, arith, eq-eqb}
+use Rattle.std.proofs.Common.{ne_eqb, append_assoc, append-nil, if◌then◌else◌, count_by, IsTrue, ◌||◌}
 use Rattle.std.proofs.lemmas.List.Elements.{filter-append}
 use Rattle.std.proofs.lemmas.List.Folds.{list_any-append}
 use Rattle.std.proofs.lemmas.List.Sums.{sum_by-cons}
 use mathlib.Core.Logic.{dite}
 use native.Mathlib.Decide.{ℕ_discrete}
 use Rattle.counting_word.specs.CountingWord.{greatest_count}
-use Rattle.shared_count.specs.declared.ghost_types.Call.{Call}
-use Rattle.shared_count.specs.declared.replies.TryClone.TheVariants.{Born, Full, Overtaken}
-use Rattle.shared_count.specs.declared.replies.EndReply.TheVariants.{Ended, Last}
-use Rattle.shared_count.specs.declared.replies.EndReply.{EndReply}
-use Rattle.shared_count.specs.declared.ghost_types.Call.TheVariants.{Clone, End}
-use Rattle.shared_count.specs.declared.ghost_types.Event.{Event}
+use Rattle.shared_count.specs.History.{Call, Born, Full, Overtaken, Ended, Last, EndReply, Clone, End, Event}
 use Rattle.shared_count.specs.History.{CountState, opening, handles_of, without, next, has_exactly, end_reply, IsReply}
 use Rattle.shared_count.specs.History.{IsLegalFrom, IsLegal, state_after, left_by, owned_by, calls_of}
 use Rattle.shared_count.specs.Extends.{OthersExtend, CallExtends, event, is_born_or_ended, has_born_or_ended}

@@ -1,20 +1,16 @@
 -- The laws of legal histories.
-use Rattle.std.proofs.Common.{◌≡◌, ℕ, suc, ◌+◌, ◌<◌, ◌≤◌, Bool, true, false, ◌&&◌}
-use Rattle.std.proofs.Common.{◌||◌, not, nat_eq, nat_lt, eqb-true, List, [], ◌∷◌, ◌++◌, length, sym, refl}
-use Rattle.std.proofs.Common.{ap, ◌∙◌, arith, eq-eqb, ne_eqb, if◌then◌else◌, count_by, sum_by}
+use Rattle.std.proofs.Common.{◌≡◌, ℕ, suc, ◌+◌, ◌<◌, ◌≤◌, Bool, true, false, ◌&&◌, ◌||◌, not, nat_eq, nat_lt, eqb-true}
+use Rattle.std.proofs.Common.{List, [], ◌∷◌, ◌++◌, length, sym, refl, ap, ◌∙◌, arith, eq-eqb, ne_eqb, if◌then◌else◌}
+use Rattle.std.proofs.Common.{count_by, sum_by}
 use Rattle.std.specs.List.{range_with_len}
 use Rattle.std.proofs.lemmas.List.FromFn.{length-range_with_len}
 use Rattle.std.proofs.lemmas.Bool.{lt-ltb}
 use Rattle.std.proofs.lemmas.List.Sums.{sum_by-cons}
 use mathlib.Core.Logic.{dite}
 use native.Mathlib.Decide.{dec_le}
-use Rattle.shared_count.specs.declared.ghost_types.Call.{Call}
-use Rattle.shared_count.specs.declared.replies.TryClone.TheVariants.{Born}
-use Rattle.shared_count.specs.declared.replies.EndReply.{EndReply}
-use Rattle.shared_count.specs.declared.ghost_types.Call.TheVariants.{Clone, End, Mark}
-use Rattle.shared_count.specs.declared.ghost_types.Event.{Event}
-use Rattle.shared_count.specs.History.{CountState, opening, handles_of, next, has_exactly, end_reply, IsReply}
-use Rattle.shared_count.specs.History.{IsLegalFrom, state_after, left_by, owned_by, calls_of}
+use Rattle.shared_count.specs.History.{Call, Born, EndReply, Clone, End, Mark, Event, CountState, opening, handles_of}
+use Rattle.shared_count.specs.History.{next, has_exactly, end_reply, IsReply, IsLegalFrom, state_after, left_by}
+use Rattle.shared_count.specs.History.{owned_by, calls_of}
 use Rattle.shared_count.specs.HistoryLaws.{is_mark, is_last, count_calls, BeginningsAreLegal, HandlesAreOwned}
 use Rattle.shared_count.specs.HistoryLaws.{CallsAreOfPasses, MarkedExactlyIfCalled, LastIsToldOnce, OneEndIsLast}
 use Rattle.shared_count.proofs.Histories.{by_name, one_if, one_if-same, one_if-other, count-cons, handles_of-next}

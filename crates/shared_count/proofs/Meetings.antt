@@ -2,11 +2,9 @@
 use Rattle.std.proofs.Common.{◌≡◌, ℕ, List, [], ◌∷◌, sym, ap, ◌∙◌, subst}
 use mathlib.Core.Option.{none}
 use Rattle.atomic_table.specs.Table.{step, Allows, Splits}
-use Rattle.shared_count.specs.declared.ghost_types.Event.{Event}
-use Rattle.shared_count.specs.declared.ghost_types.Known.{Known}
-use Rattle.shared_count.specs.declared.ghost_types.Part.TheVariants.{Half, Whole}
-use Rattle.shared_count.specs.Inside.Shares.{share, seeing, all_but_first, first_alone, as_halves, with_note}
-use Rattle.shared_count.specs.Inside.Shares.{as_in_note}
+use Rattle.shared_count.specs.History.{Event}
+use Rattle.shared_count.specs.Inside.Shares.{Known, Half, Whole, share, seeing, all_but_first, first_alone, as_halves}
+use Rattle.shared_count.specs.Inside.Shares.{with_note, as_in_note}
 use Rattle.shared_count.specs.Inside.Rule.{Keeps}
 use Rattle.shared_count.specs.Inside.Steps.{SeatState, with_shares, with_part, with_both, BothSaw, TellsMeet}
 use Rattle.shared_count.proofs.SplitsAndJoins.{writes_note, meets}

@@ -1,21 +1,14 @@
 -- A step on one seat keeps the rule.
-use Rattle.std.proofs.Common.{◌≡◌, ◌≢◌, ℕ, ◌+◌, ◌<◌, ⊎_elim, nat_eq, List, [], ◌∷◌}
-use Rattle.std.proofs.Common.{◌++◌, get_or, set, sym, refl, ap, ◌∙◌, subst, arith, append-nil, length-set}
-use Rattle.std.proofs.Common.{get_or-set_same, All, sum_by}
+use Rattle.std.proofs.Common.{◌≡◌, ◌≢◌, ℕ, ◌+◌, ◌<◌, ⊎_elim, nat_eq, List, [], ◌∷◌, ◌++◌, get_or, set, sym, refl, ap}
+use Rattle.std.proofs.Common.{◌∙◌, subst, arith, append-nil, length-set, get_or-set_same, All, sum_by}
 use Rattle.std.proofs.lemmas.List.Elements.{All-nil, All-cons, All-head, All-tail}
 use mathlib.Core.Option.{Option, none, some, some-injective}
 use lib.ListN.{get_elem?}
 use Rattle.atomic_table.specs.Table.{State, keeps, stepped, Allows}
 use Rattle.atomic_table.proofs.Lists.{at_set}
-use Rattle.shared_count.specs.declared.ghost_types.Call.{Call}
-use Rattle.shared_count.specs.declared.ghost_types.Event.{Event}
-use Rattle.shared_count.specs.declared.ghost_types.Known.{Known}
-use Rattle.shared_count.specs.declared.ghost_types.Part.{Part}
-use Rattle.shared_count.specs.declared.ghost_types.Part.TheVariants.{Whole, InDrop}
-use Rattle.shared_count.specs.declared.ghost_types.Share.{Share}
-use Rattle.shared_count.specs.History.{CountState, next, IsReply, IsLegal, left_by, owned_by, calls_of}
+use Rattle.shared_count.specs.History.{Call, Event, CountState, next, IsReply, IsLegal, left_by, owned_by, calls_of}
+use Rattle.shared_count.specs.Inside.Shares.{Known, Part, Whole, InDrop, Share, share, seeing, halves_in, halves, drops}
 use Rattle.shared_count.specs.Extends.{OthersExtend, event}
-use Rattle.shared_count.specs.Inside.Shares.{share, seeing, halves_in, halves, drops}
 use Rattle.shared_count.specs.Inside.Rule.{Knows, Means, Keeps}
 use Rattle.shared_count.specs.Inside.Steps.{SeatState, with_part, Sees, Made}
 use Rattle.shared_count.proofs.Histories.{owned_by-others, others-refl, others-append, no_calls, legal-call}

@@ -1,7 +1,6 @@
 -- The passes that a count is opened with.
-use Rattle.std.proofs.Common.{◌≡◌, ◌≢◌, ne_eqb, ℕ, zero, suc, ◌+◌, ◌-◌, ◌<◌, ◌≤◌, Bool, false, nat_eq}
-use Rattle.std.proofs.Common.{List, [], ◌∷◌, ◌++◌, map, sym, refl, ap, ◌∙◌, subst}
-use Rattle.std.proofs.Common.{arith, All, sum_by}
+use Rattle.std.proofs.Common.{◌≡◌, ◌≢◌, ne_eqb, ℕ, zero, suc, ◌+◌, ◌-◌, ◌<◌, ◌≤◌, Bool, false, nat_eq, List, [], ◌∷◌}
+use Rattle.std.proofs.Common.{◌++◌, map, sym, refl, ap, ◌∙◌, subst, arith, All, sum_by}
 use Rattle.std.specs.List.{range_with_len}
 use Rattle.std.proofs.lemmas.List.Elements.{All-from_get_or}
 use Rattle.std.proofs.lemmas.List.FromFn.{length-range_with_len, length-map-range_with_len, get_or-map-range_with_len}
@@ -14,11 +13,10 @@ use Rattle.atomic_table.specs.Table.{opening as start}
 use Rattle.atomic_table.specs.Seated.{TableId}
 use Rattle.counting_word.specs.CountingWord.{StandsFor}
 use Rattle.counting_word.proofs.Words.{stands-new}
-use Rattle.shared_count.specs.declared.ghost_types.Part.TheVariants.{Whole}
-use Rattle.shared_count.specs.declared.ghost_types.Share.{Share}
+use Rattle.shared_count.specs.Inside.Shares.{Whole, Share, known, share, newcomers, halves, drops, all_but_first}
+use Rattle.shared_count.specs.Inside.Shares.{first_alone}
 use Rattle.shared_count.specs.History.{owned_by}
 use Rattle.shared_count.specs.Passes.{CountId, Pass, first_pass, handles}
-use Rattle.shared_count.specs.Inside.Shares.{known, share, newcomers, halves, drops, all_but_first, first_alone}
 use Rattle.shared_count.specs.Inside.Rule.{Knows, Keeps}
 use Rattle.shared_count.specs.Inside.Steps.{SeatState, with_shares, with_part}
 use Rattle.shared_count.specs.Inside.Seats.{pass_of, IsPass}

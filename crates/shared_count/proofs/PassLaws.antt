@@ -1,14 +1,9 @@
 -- What a clone by a pass that has seen the mark answers.
-use Rattle.std.proofs.Common.{◌≡◌, ◌≢◌, ℕ, Bool, true, not, ◌&&◌, ◌||◌, nat_eq, nat_lt, List, [], ◌∷◌}
-use Rattle.std.proofs.Common.{◌++◌, length, sym}
-use Rattle.std.proofs.Common.{refl, ap, ◌∙◌, subst, true≢false, if◌then◌else◌}
+use Rattle.std.proofs.Common.{◌≡◌, ◌≢◌, ℕ, Bool, true, not, ◌&&◌, ◌||◌, nat_eq, nat_lt, List, [], ◌∷◌, ◌++◌, length}
+use Rattle.std.proofs.Common.{sym, refl, ap, ◌∙◌, subst, true≢false, if◌then◌else◌}
 use Rattle.counting_word.specs.CountingWord.{greatest_count}
-use Rattle.shared_count.specs.declared.replies.TryClone.{TryClone}
-use Rattle.shared_count.specs.declared.replies.TryClone.TheVariants.{Born, Full, Overtaken}
-use Rattle.shared_count.specs.declared.ghost_types.Call.TheVariants.{Clone}
-use Rattle.shared_count.specs.declared.ghost_types.Event.{Event}
-use Rattle.shared_count.specs.History.{CountState, opening, IsLegal, IsLegalFrom}
-use Rattle.shared_count.specs.History.{left_by}
+use Rattle.shared_count.specs.History.{TryClone, Born, Full, Overtaken, Clone, Event, CountState, opening, IsLegal}
+use Rattle.shared_count.specs.History.{IsLegalFrom, left_by}
 use Rattle.shared_count.specs.Extends.{event, OthersExtend}
 use Rattle.shared_count.specs.Passes.{Pass, Called, WasOvertaken, HasSeenMark}
 use Rattle.shared_count.specs.HistoryLaws.{is_mark, count_calls}

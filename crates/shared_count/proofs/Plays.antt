@@ -1,7 +1,6 @@
 -- Each kind of step keeps the rule, and tells what it says.
-use Rattle.std.proofs.Common.{◌≡◌, ◌≢◌, ℕ, suc, ◌+◌, ◌-◌, ◌%◌, ◌^◌, ◌<◌, ◌≤◌}
-use Rattle.std.proofs.Common.{Bool, true, false, nat_eq, List, [], ◌∷◌, length, get_or, set, sym, refl, ap}
-use Rattle.std.proofs.Common.{◌∙◌, subst, arith, if◌then◌else◌, sum_by}
+use Rattle.std.proofs.Common.{◌≡◌, ◌≢◌, ℕ, suc, ◌+◌, ◌-◌, ◌%◌, ◌^◌, ◌<◌, ◌≤◌, Bool, true, false, nat_eq, List, [], ◌∷◌}
+use Rattle.std.proofs.Common.{length, get_or, set, sym, refl, ap, ◌∙◌, subst, arith, if◌then◌else◌, sum_by}
 use Rattle.std.specs.Prelude.{bit_or}
 use mathlib.Core.Option.{none, some}
 use prog.Atomic.{either}
@@ -18,21 +17,12 @@ use Rattle.counting_word.proofs.Words.{word-unmarked, exactly-marked, exactly-un
 use Rattle.counting_word.proofs.Words.{stands-live, stands-in_drop, within_greatest, below_limit, stands-raise}
 use Rattle.counting_word.proofs.Words.{stands-lower, word-lowered, bit_or-mark_bit, stands-marked_word}
 use Rattle.counting_word.proofs.Plans.{ClonePlanSays, clone_plan-says, DropPlanSays, drop_plan-says}
-use Rattle.shared_count.specs.declared.ghost_types.Call.{Call}
-use Rattle.shared_count.specs.declared.ghost_types.Call.TheVariants.{Clone, End, Mark, Unique, Static}
-use Rattle.shared_count.specs.declared.replies.TryClone.{TryClone}
-use Rattle.shared_count.specs.declared.replies.TryClone.TheVariants.{Born, Full}
-use Rattle.shared_count.specs.declared.replies.EndReply.TheVariants.{Ended}
-use Rattle.shared_count.specs.declared.ghost_types.Known.{Known}
-use Rattle.shared_count.specs.declared.ghost_types.Part.{Part}
-use Rattle.shared_count.specs.declared.ghost_types.Part.TheVariants.{Whole, InDrop}
-use Rattle.shared_count.specs.declared.ghost_types.Share.{Share}
-use Rattle.shared_count.specs.History.{CountState, handles_of, without, next, has_exactly, end_reply, IsReply, left_by}
-use Rattle.shared_count.specs.History.{owned_by}
-use Rattle.shared_count.specs.Inside.Shares.{share, drops}
+use Rattle.shared_count.specs.History.{Call, Clone, End, Mark, Unique, Static, TryClone, Born, Full, Ended, CountState}
+use Rattle.shared_count.specs.History.{handles_of, without, next, has_exactly, end_reply, IsReply, left_by, owned_by}
+use Rattle.shared_count.specs.Inside.Shares.{Known, Part, Whole, InDrop, Share, share, drops}
 use Rattle.shared_count.specs.Inside.Rule.{Means, Keeps}
-use Rattle.shared_count.specs.Inside.Steps.{SeatState, Made, Counts, Counted, Judged, Begun, TellsUnique}
-use Rattle.shared_count.specs.Inside.Steps.{Tells, TellsStatic, TellsMark, TellsClone, TellsRaise, TellsEnd, TellsLower}
+use Rattle.shared_count.specs.Inside.Steps.{SeatState, Made, Counts, Counted, Judged, Begun, TellsUnique, Tells}
+use Rattle.shared_count.specs.Inside.Steps.{TellsStatic, TellsMark, TellsClone, TellsRaise, TellsEnd, TellsLower}
 use Rattle.shared_count.proofs.Histories.{owned_by-others, without-taken, none_left}
 use Rattle.shared_count.proofs.Moves.{Table, May, know, calls, called, looks, looked, drops-set, for_known}
 use Rattle.shared_count.proofs.Drops.{covered}

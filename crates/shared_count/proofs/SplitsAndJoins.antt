@@ -1,24 +1,17 @@
 -- The splits and joins keep the rule, and so does the read of `meet`.
-use Rattle.std.proofs.Common.{◌≡◌, ◌≢◌, ℕ, ◌+◌, ⊎_elim, nat_eq, List, [], ◌∷◌, ◌++◌}
-use Rattle.std.proofs.Common.{get_or, set, sym, refl, ap, ◌∙◌, subst, arith, append-nil, All, sum_by, false}
-use Rattle.std.proofs.Common.{true≢false}
+use Rattle.std.proofs.Common.{◌≡◌, ◌≢◌, ℕ, ◌+◌, ⊎_elim, nat_eq, List, [], ◌∷◌, ◌++◌, get_or, set, sym, refl, ap, ◌∙◌}
+use Rattle.std.proofs.Common.{subst, arith, append-nil, All, sum_by, false, true≢false}
 use Rattle.std.proofs.lemmas.List.Elements.{All-nil, All-cons, All-head, All-tail, All-append}
 use Rattle.std.proofs.lemmas.List.Sums.{sum_by-append}
 use mathlib.Core.Option.{Option, none, some, some-injective}
 use lib.ListN.{get_elem?}
 use Rattle.atomic_table.specs.Table.{step, keeps, Allows, Splits, Joins}
 use Rattle.atomic_table.proofs.Lists.{at_set, at_snoc, set_else}
-use Rattle.shared_count.specs.declared.ghost_types.Event.{Event}
-use Rattle.shared_count.specs.declared.ghost_types.Known.{Known}
-use Rattle.shared_count.specs.declared.ghost_types.Part.{Part}
-use Rattle.shared_count.specs.declared.ghost_types.Part.TheVariants.{Half, Whole}
-use Rattle.shared_count.specs.declared.ghost_types.Share.{Share}
-use Rattle.shared_count.specs.History.{IsLegal, left_by}
-use Rattle.shared_count.specs.Inside.Shares.{share, seeing, halves, is_in_drop, drops, all_but_first, first_alone}
-use Rattle.shared_count.specs.Inside.Shares.{as_halves, with_note, as_in_note}
+use Rattle.shared_count.specs.History.{Event, IsLegal, left_by}
+use Rattle.shared_count.specs.Inside.Shares.{Known, Part, Half, Whole, Share, share, seeing, halves, is_in_drop, drops}
+use Rattle.shared_count.specs.Inside.Shares.{all_but_first, first_alone, as_halves, with_note, as_in_note}
 use Rattle.shared_count.specs.Inside.Rule.{Knows, Means, Keeps}
-use Rattle.shared_count.specs.Inside.Steps.{SeatState, with_shares, with_part, with_both, Follows, BothSaw}
-use Rattle.shared_count.specs.Inside.Steps.{TellsMeet}
+use Rattle.shared_count.specs.Inside.Steps.{SeatState, with_shares, with_part, with_both, Follows, BothSaw, TellsMeet}
 use Rattle.shared_count.proofs.Histories.{others-refl}
 use Rattle.shared_count.proofs.Sums.{sum-set, sum-one, sum-split, sum-join, sum-first, halves_if, halves-cons}
 use Rattle.shared_count.proofs.Sums.{halves-one, halves_if-same, halves_if-two, drops_in}

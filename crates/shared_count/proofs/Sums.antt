@@ -1,7 +1,6 @@
 -- Sums over the views of all seats, after a step, a split and a join, and over the shares of one seat.
-use Rattle.std.proofs.Common.{◌≡◌, ◌≢◌, ℕ, zero, suc, ◌+◌, ◌<◌, ◌≤◌, Bool, true, false}
-use Rattle.std.proofs.Common.{nat_eq, List, [], ◌∷◌, ◌++◌, length, get_or, map, set, sym, refl, ap, ◌∙◌}
-use Rattle.std.proofs.Common.{arith, if◌then◌else◌, sum_by}
+use Rattle.std.proofs.Common.{◌≡◌, ◌≢◌, ℕ, zero, suc, ◌+◌, ◌<◌, ◌≤◌, Bool, true, false, nat_eq, List, [], ◌∷◌, ◌++◌}
+use Rattle.std.proofs.Common.{length, get_or, map, set, sym, refl, ap, ◌∙◌, arith, if◌then◌else◌, sum_by}
 use Rattle.std.proofs.lemmas.List.Sums.{sum_by-cons, sum_by-set, sum_by-append, get_or-le-sum_by}
 use Rattle.std.specs.List.{range_with_len}
 use mathlib.Core.Logic.{dite}
@@ -9,10 +8,8 @@ use native.Mathlib.Decide.{ℕ_discrete}
 use mathlib.Core.Option.{some, some-injective, some-ne-none}
 use lib.ListN.{get_elem?}
 use Rattle.atomic_table.proofs.Lists.{set_else}
-use Rattle.shared_count.specs.declared.ghost_types.Part.{Part}
-use Rattle.shared_count.specs.declared.ghost_types.Part.TheVariants.{Half, Whole, InDrop}
-use Rattle.shared_count.specs.declared.ghost_types.Share.{Share}
-use Rattle.shared_count.specs.Inside.Shares.{halves_in, halves, is_in_drop, drops, all_but_first, first_alone}
+use Rattle.shared_count.specs.Inside.Shares.{Part, Half, Whole, InDrop, Share, halves_in, halves, is_in_drop, drops}
+use Rattle.shared_count.specs.Inside.Shares.{all_but_first, first_alone}
 use Rattle.shared_count.proofs.Histories.{same_name}
 
 module _ {X : Type 0} where

@@ -1,9 +1,6 @@
 -- Worked histories, by the definitions, to read them by. No contract uses them.
 use Rattle.std.proofs.Common.{ℕ, true, false, [], ◌∷◌, rules, arith}
-use Rattle.shared_count.specs.declared.replies.TryClone.TheVariants.{Born, Full, Overtaken}
-use Rattle.shared_count.specs.declared.replies.EndReply.TheVariants.{Ended, Last}
-use Rattle.shared_count.specs.declared.ghost_types.Call.TheVariants.{Clone, End, Mark, Unique, Static}
-use Rattle.shared_count.specs.History.{IsLegal}
+use Rattle.shared_count.specs.History.{Born, Full, Overtaken, Ended, Last, Clone, End, Mark, Unique, Static, IsLegal}
 use Rattle.shared_count.specs.Extends.{event}
 
 -- the passes of a count that was opened with two

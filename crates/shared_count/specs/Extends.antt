@@ -2,12 +2,7 @@
 use Rattle.std.specs.Prelude.{◌≡◌, ℕ, ◌<◌, Bool, true, false, List, [], ◌∷◌, ◌++◌, length, IsTrue}
 use Rattle.std.specs.List.{list_any}
 use Rattle.counting_word.specs.CountingWord.{greatest_count}
-use Rattle.shared_count.specs.declared.replies.TryClone.TheVariants.{Born}
-use Rattle.shared_count.specs.declared.replies.EndReply.TheVariants.{Ended}
-use Rattle.shared_count.specs.declared.ghost_types.Call.{Call}
-use Rattle.shared_count.specs.declared.ghost_types.Call.TheVariants.{Clone, End}
-use Rattle.shared_count.specs.declared.ghost_types.Event.{Event}
-use Rattle.shared_count.specs.History.{CountState, left_by, calls_of}
+use Rattle.shared_count.specs.History.{Born, Ended, Call, Clone, End, Event, CountState, left_by, calls_of}
 
 -- the new history begins with the old one, and adds calls of others than p alone
 pub record OthersExtend (p : ℕ) (old new : List Event) : Type 0 where

@@ -1,14 +1,15 @@
 -- The history of a count: the calls of its passes with their replies, the earliest first.
-use Rattle.std.specs.Prelude.{◌≡◌, ℕ, ◌<◌, Bool, true, false, not, ◌&&◌}
-use Rattle.std.specs.Prelude.{if◌then◌else◌, nat_eq, List, [], ◌∷◌, length, count_by, filter}
+use Rattle.std.specs.Prelude.{◌≡◌, ℕ, ◌<◌, Bool, true, false, not, ◌&&◌, if◌then◌else◌, nat_eq, List, [], ◌∷◌, length}
+use Rattle.std.specs.Prelude.{count_by, filter}
 use Rattle.std.specs.List.{range_with_len}
 use Rattle.counting_word.specs.CountingWord.{greatest_count}
-use Rattle.shared_count.specs.declared.replies.TryClone.TheVariants.{Born, Full}
-use Rattle.shared_count.specs.declared.replies.EndReply.{EndReply}
-use Rattle.shared_count.specs.declared.replies.EndReply.TheVariants.{Ended, Last}
-use Rattle.shared_count.specs.declared.ghost_types.Call.{Call}
-use Rattle.shared_count.specs.declared.ghost_types.Call.TheVariants.{Clone, End, Mark, Unique, Static}
-use Rattle.shared_count.specs.declared.ghost_types.Event.{Event}
+pub use Rattle.shared_count.specs.declared.replies.TryClone.{TryClone}
+pub use Rattle.shared_count.specs.declared.replies.TryClone.TheVariants.{Born, Full, Overtaken}
+pub use Rattle.shared_count.specs.declared.replies.EndReply.{EndReply}
+pub use Rattle.shared_count.specs.declared.replies.EndReply.TheVariants.{Ended, Last}
+pub use Rattle.shared_count.specs.declared.ghost_types.Call.{Call}
+pub use Rattle.shared_count.specs.declared.ghost_types.Call.TheVariants.{Clone, End, Mark, Unique, Static}
+pub use Rattle.shared_count.specs.declared.ghost_types.Event.{Event}
 
 -- the owner of each live handle, in no order, and the mark
 pub record CountState : Type 0 where

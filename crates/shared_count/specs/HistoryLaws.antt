@@ -1,12 +1,8 @@
 -- What every legal history keeps.
-use Rattle.std.specs.Prelude.{◌≡◌, ℕ, ◌<◌, Bool, true, false, nat_lt}
-use Rattle.std.specs.Prelude.{if◌then◌else◌, List, ◌++◌, length, count_by, sum_by}
+use Rattle.std.specs.Prelude.{◌≡◌, ℕ, ◌<◌, Bool, true, false, nat_lt, if◌then◌else◌, List, ◌++◌, length, count_by}
+use Rattle.std.specs.Prelude.{sum_by}
 use Rattle.std.specs.List.{range_with_len}
-use Rattle.shared_count.specs.declared.replies.EndReply.TheVariants.{Last}
-use Rattle.shared_count.specs.declared.ghost_types.Call.{Call}
-use Rattle.shared_count.specs.declared.ghost_types.Call.TheVariants.{End, Mark}
-use Rattle.shared_count.specs.declared.ghost_types.Event.{Event}
-use Rattle.shared_count.specs.History.{has_exactly, IsLegal, left_by, owned_by, calls_of}
+use Rattle.shared_count.specs.History.{Last, Call, End, Mark, Event, has_exactly, IsLegal, left_by, owned_by, calls_of}
 
 abbrev pub is_mark : Call → Bool
 is_mark Mark = true

@@ -1,11 +1,7 @@
 -- What a count and a pass mean, and what a call of a pass leaves.
 use Rattle.std.specs.Prelude.{◌≡◌, ℕ, true, List, [], ◌∷◌, ◌++◌}
 use Rattle.atomic_table.specs.Seated.{TableId}
-use Rattle.shared_count.specs.declared.replies.TryClone.{TryClone}
-use Rattle.shared_count.specs.declared.replies.TryClone.TheVariants.{Born}
-use Rattle.shared_count.specs.declared.ghost_types.Call.{Call}
-use Rattle.shared_count.specs.declared.ghost_types.Event.{Event}
-use Rattle.shared_count.specs.History.{IsLegal, left_by, owned_by, calls_of}
+use Rattle.shared_count.specs.History.{TryClone, Born, Call, Event, IsLegal, left_by, owned_by, calls_of}
 use Rattle.shared_count.specs.Extends.{event, OthersExtend, CallExtends, OvertakersExtend}
 
 -- which count it is, and how many passes it was opened with

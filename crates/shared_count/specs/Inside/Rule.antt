@@ -4,12 +4,9 @@ use mathlib.Core.Option.{some}
 use lib.ListN.{get_elem?}
 use Rattle.atomic_table.specs.Table.{State}
 use Rattle.counting_word.specs.CountingWord.{StandsFor}
-use Rattle.shared_count.specs.declared.ghost_types.Event.{Event}
-use Rattle.shared_count.specs.declared.ghost_types.Part.TheVariants.{InDrop}
-use Rattle.shared_count.specs.declared.ghost_types.Share.{Share}
-use Rattle.shared_count.specs.History.{CountState, IsLegal, left_by, owned_by}
+use Rattle.shared_count.specs.History.{Event, CountState, IsLegal, left_by, owned_by}
+use Rattle.shared_count.specs.Inside.Shares.{InDrop, Share, halves, drops}
 use Rattle.shared_count.specs.Extends.{OthersExtend}
-use Rattle.shared_count.specs.Inside.Shares.{halves, drops}
 
 -- What a share knows is the beginning of the log up to some point, from which on its pass made no call. A pass in a
 -- drop owns a handle.

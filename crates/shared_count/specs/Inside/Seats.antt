@@ -1,17 +1,10 @@
 -- What the functions on seats ask and leave, and the pass that a seat is.
 use Rattle.std.specs.Prelude.{◌≡◌, ℕ, ◌<◌, List, [], ◌∷◌}
 use Rattle.atomic_table.specs.Seated.{TableId}
-use Rattle.shared_count.specs.declared.ghost_types.Call.TheVariants.{Clone}
-use Rattle.shared_count.specs.declared.replies.TryClone.{TryClone}
-use Rattle.shared_count.specs.declared.replies.TryClone.TheVariants.{Born, Full, Overtaken}
-use Rattle.shared_count.specs.declared.ghost_types.Event.{Event}
-use Rattle.shared_count.specs.declared.ghost_types.Known.{Known}
-use Rattle.shared_count.specs.declared.ghost_types.Part.TheVariants.{Whole}
-use Rattle.shared_count.specs.declared.ghost_types.Share.{Share}
-use Rattle.shared_count.specs.History.{IsLegal, owned_by}
+use Rattle.shared_count.specs.History.{Clone, TryClone, Born, Full, Overtaken, Event, IsLegal, owned_by}
+use Rattle.shared_count.specs.Inside.Shares.{Known, Whole, Share, known}
 use Rattle.shared_count.specs.Extends.{OvertakersExtend}
 use Rattle.shared_count.specs.Passes.{Pass}
-use Rattle.shared_count.specs.Inside.Shares.{known}
 use Rattle.shared_count.specs.Inside.Steps.{SeatState, with_part, Sees, Made}
 
 -- what is known of the pass whose share is the first

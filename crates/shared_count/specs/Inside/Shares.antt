@@ -1,12 +1,11 @@
 -- What a seat knows: parts of passes, each with the history that the pass has seen.
-use Rattle.std.specs.Prelude.{ℕ, Bool, true, false, nat_eq, if◌then◌else◌, List, [], ◌∷◌, ◌++◌, map}
-use Rattle.std.specs.Prelude.{sum_by, count_by}
+use Rattle.std.specs.Prelude.{ℕ, Bool, true, false, nat_eq, if◌then◌else◌, List, [], ◌∷◌, ◌++◌, map, sum_by, count_by}
 use Rattle.std.specs.List.{range_with_len}
-use Rattle.shared_count.specs.declared.ghost_types.Event.{Event}
-use Rattle.shared_count.specs.declared.ghost_types.Known.{Known}
-use Rattle.shared_count.specs.declared.ghost_types.Part.{Part}
-use Rattle.shared_count.specs.declared.ghost_types.Part.TheVariants.{Half, Whole, InDrop}
-use Rattle.shared_count.specs.declared.ghost_types.Share.{Share}
+use Rattle.shared_count.specs.History.{Event}
+pub use Rattle.shared_count.specs.declared.ghost_types.Known.{Known}
+pub use Rattle.shared_count.specs.declared.ghost_types.Part.{Part}
+pub use Rattle.shared_count.specs.declared.ghost_types.Part.TheVariants.{Half, Whole, InDrop}
+pub use Rattle.shared_count.specs.declared.ghost_types.Share.{Share}
 
 abbrev pub known : ℕ → ℕ → List Event → Known
 known n p h = record { passes = n; name = p; seen = h }

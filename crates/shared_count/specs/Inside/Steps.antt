@@ -7,18 +7,10 @@ use Rattle.counting_word.specs.declared.ClonePlan.{ClonePlan}
 use Rattle.counting_word.specs.declared.ClonePlan.TheVariants as plan
 use Rattle.counting_word.specs.declared.DropPlan.{DropPlan}
 use Rattle.counting_word.specs.declared.DropPlan.TheVariants as drop_as
-use Rattle.shared_count.specs.declared.ghost_types.Call.{Call}
-use Rattle.shared_count.specs.declared.ghost_types.Call.TheVariants.{Clone, End, Mark, Unique, Static}
-use Rattle.shared_count.specs.declared.replies.TryClone.TheVariants.{Born, Full}
-use Rattle.shared_count.specs.declared.replies.EndReply.TheVariants.{Ended}
-use Rattle.shared_count.specs.declared.ghost_types.Event.{Event}
-use Rattle.shared_count.specs.declared.ghost_types.Known.{Known}
-use Rattle.shared_count.specs.declared.ghost_types.Part.{Part}
-use Rattle.shared_count.specs.declared.ghost_types.Part.TheVariants.{Half, Whole, InDrop}
-use Rattle.shared_count.specs.declared.ghost_types.Share.{Share}
-use Rattle.shared_count.specs.History.{CountState, end_reply, IsLegal, left_by}
+use Rattle.shared_count.specs.History.{Call, Clone, End, Mark, Unique, Static, Born, Full, Ended, Event, CountState}
+use Rattle.shared_count.specs.History.{end_reply, IsLegal, left_by}
+use Rattle.shared_count.specs.Inside.Shares.{Known, Part, Half, Whole, InDrop, Share, share, seeing}
 use Rattle.shared_count.specs.Extends.{OthersExtend, CallExtends}
-use Rattle.shared_count.specs.Inside.Shares.{share, seeing}
 
 -- a seat's view, and the slots that it holds, of which this table has none
 abbrev pub SeatState : Type 0

@@ -1,5 +1,5 @@
 use Rattle.std.proofs.Common.{◌-◌, arith}
-use Rattle.shared_count.specs.declared.ghost_types.Call.TheVariants.{End}
+use Rattle.shared_count.specs.History.{End}
 use Rattle.shared_count.proofs.Calls.{AfterCall, owns_some, after_call}
 use Rattle.shared_count.proofs.count.SharedCount.end.Goals as goal
 

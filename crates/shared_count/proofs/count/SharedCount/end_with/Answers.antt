@@ -1,10 +1,8 @@
 use Rattle.std.proofs.Common.{◌∙◌, subst, sym}
 use Rattle.counting_word.specs.declared.DropPlan.TheVariants as drop_as
-use Rattle.shared_count.specs.declared.ghost_types.Call.TheVariants.{End}
-use Rattle.shared_count.specs.declared.ghost_types.Part.TheVariants.{InDrop}
-use Rattle.shared_count.specs.declared.replies.EndReply.{EndReply}
+use Rattle.shared_count.specs.History.{End, EndReply}
+use Rattle.shared_count.specs.Inside.Shares.{InDrop, seeing}
 use Rattle.shared_count.specs.Inside.Seats.{pass_at}
-use Rattle.shared_count.specs.Inside.Shares.{seeing}
 use Rattle.shared_count.specs.Inside.Steps.{Made, Looked}
 use Rattle.shared_count.proofs.Calls.{can_step, looked_owns}
 use Rattle.shared_count.proofs.HalfDone.{begun_by, made_after}

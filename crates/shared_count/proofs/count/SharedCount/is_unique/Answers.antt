@@ -1,5 +1,5 @@
 use Rattle.std.proofs.Common.{refl, arith}
-use Rattle.shared_count.specs.declared.ghost_types.Call.TheVariants.{Unique}
+use Rattle.shared_count.specs.History.{Unique}
 use Rattle.shared_count.specs.Inside.Seats.{pass_at}
 use Rattle.shared_count.proofs.Calls.{AfterCall, can_call, after_call}
 use Rattle.shared_count.proofs.Plays.{asks_unique}

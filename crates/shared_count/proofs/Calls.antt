@@ -45,7 +45,7 @@ handles_of-call : (p : ℕ) (c : Call) (s : CountState) → 0 < handles_of p s
     → handles_of p (next s p c) + losses c ≡ handles_of p s + gains c
 handles_of-call p (Clone Born) s own = let one = one_if-same p in let sum = count-cons p p s.owners in omega arith
 handles_of-call p (Clone r) s own = refl
-handles_of-call p (End r) s own = let taken = without-taken p s.owners own in let fewer = taken.fewer in omega arith
+handles_of-call p (End r) s own = let taken = without-taken p s.owners own in omega arith
 handles_of-call p c s own = refl
 
 owned_by-call : (n p : ℕ) (c : Call) (a b : List Event) → 0 < owned_by n p a → CallExtends p c a b
@@ -93,7 +93,7 @@ module _ {t : TableId} {m : SeatState} {owned : ℕ} {p : Pass} (is : IsPass m o
   owns own = let same = ap handles view in omega arith
 
   pub owns_some : 0 < handles p → 0 < owned
-  owns_some own = let some = owns own in let as_seen = is.owns in omega arith
+  owns_some own = let some = owns own in omega arith
 
   pub can_call : {u : TableId} {key id : ℕ} {self : CountId} {f : ℕ → ℕ} {says : SeatState → ℕ → SeatState → Type 0}
       → record { table = u; passes = key } ≡ self → u.words ≡ 1 → p.count ≡ self → 0 < handles p
@@ -127,7 +127,6 @@ module _ {t : TableId} {m : SeatState} {owned : ℕ} {p : Pass} (is : IsPass m o
         let sum = owned_by-call x.passes x.name c x.seen made.seen (owns own) made.call in
         let now = handles_seen made.seen made.sees in
         let before = ap handles view in
-        let was = is.owns in
         record {
           same = same_pass made.seen made.sees same;
           called = by_seen made.seen made.sees (λ a b. Called a c b) (record {
@@ -145,7 +144,6 @@ module _ {t : TableId} {m : SeatState} {owned : ℕ} {p : Pass} (is : IsPass m o
         let sum = owned_by-others x.passes x.name x.seen over.0 over.1.others in
         let now = handles_seen over.0 over.2 in
         let before = ap handles view in
-        let was = is.owns in
         record {
           called = λ other. absurd (other refl);
           overtaken = λ _. by_seen over.0 over.2 (λ a b. WasOvertaken a b) (record {
@@ -173,7 +171,6 @@ module _ {t : TableId} {m : SeatState} {owned : ℕ} {p : Pass} (is : IsPass m o
         let sum = owned_by-others x.passes x.name x.seen h follows.others in
         let now = handles_seen h sees in
         let before = ap handles view in
-        let was = is.owns in
         record {
           same = same_pass h sees same;
           more = by_seen h sees (λ a b. HasSeenMore a b) (record {

@@ -38,8 +38,6 @@ module _ (n x : ℕ) (log : List Event) where
       → d' ≡ drops_in part + d → h' ≡ halves_if (nat_eq x p) part + h
       → AreNames ps d h → AreNames (with_name part p ps) d' h'
   names-with p InDrop ps d d' h h' own e f r =
-      let many = r.many in
-      let few = r.few in
       let count = count-cons x p ps in
       dite (ℕ_discrete x p)
       (λ is.
@@ -54,8 +52,6 @@ module _ (n x : ℕ) (log : List Event) where
       let none = one_if-other x p other in
       record { many = omega arith; few = omega arith; own = λ some. r.own (omega arith) })
   names-with p part ps d d' h h' own e f r =
-      let many = r.many in
-      let few = r.few in
       record { many = omega arith; few = omega arith; own = r.own }
 
   names-in : (v : List Share) → All (Knows n log) v → AreNames (dropping v) (drops v) (halves x v)
@@ -74,10 +70,6 @@ module _ (n x : ℕ) (log : List Event) where
       let count = sum_by-append (λ y. one_if (nat_eq x y)) (dropping v) (all_dropping vs) in
       let all = sum_by-cons drops v vs in
       let both = sum_by-cons (halves x) v vs in
-      let many = here.many in
-      let few = here.few in
-      let many' = rest.many in
-      let few' = rest.few in
       record {
         many = omega arith;
         few = omega arith;
@@ -89,7 +81,6 @@ covered n s k =
     let long = (names n 0 k.log s.views k.seats).many in
     let fits = fits_owners (all_dropping s.views) (left_by n k.log).owners (λ x.
     let are = names n x k.log s.views k.seats in
-    let few = are.few in
     let most = k.apart x in
     dite (dec_le 1 (count_by (nat_eq x) (all_dropping s.views))) (λ some. let own = are.own some in omega arith)
     (λ none. omega arith)) in

@@ -173,7 +173,6 @@ nothing_follows : (s : CountState) (h : List Event) → has_exactly 0 s ≡ true
 nothing_follows s [] none legal = refl
 nothing_follows s (e ∷ es) none legal =
     let all = none_owned e.caller s.owners (left_none s none) in
-    let own = legal.0 in
     absurd (omega arith)
 
 -- how often Last is told, from the state s on

@@ -68,7 +68,7 @@ module _ (n : ℕ) (s : Table) (k : Keeps n s) (id : ℕ) (v v' : List Share) (d
         omega arith;
   } where
     word : get_or (set s.words 0 w) 0 0 ≡ w
-    word = let one = k.one_word in get_or-set_same s.words 0 w 0 (omega arith)
+    word = get_or-set_same s.words 0 w 0 (omega arith)
 
     others : (j : ℕ) (u : List Share) → j ≢ id → get_elem? s.views j ≡ some u → All (Knows n Log) u
     others j u ne there = know_more n k.log d u (k.seats j u there) (λ p pos. out p (

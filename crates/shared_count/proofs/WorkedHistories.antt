@@ -25,13 +25,13 @@ a_marked_count_never_ends_last : IsLegal 2
 a_marked_count_never_ends_last = search rules
 
 nobody_calls_without_a_handle : IsLegal 1 (event q Mark ∷ []) → ⊥
-nobody_calls_without_a_handle h = let own = h.0 in omega arith
+nobody_calls_without_a_handle h = omega arith
 
 the_last_of_two_is_told : IsLegal 2 (event p (End Ended) ∷ event q (End Ended) ∷ []) → ⊥
-the_last_of_two_is_told h = let reply = h.2.1 in cc
+the_last_of_two_is_told h = cc
 
 no_clone_is_overtaken_in_a_history : IsLegal 1 (event p (Clone Overtaken) ∷ []) → ⊥
-no_clone_is_overtaken_in_a_history h = let reply = h.1 in cc
+no_clone_is_overtaken_in_a_history h = cc
 
 a_clone_below_the_limit_is_not_full : IsLegal 1 (event p (Clone Full) ∷ []) → ⊥
-a_clone_below_the_limit_is_not_full h = let reply = h.1 in cc
+a_clone_below_the_limit_is_not_full h = cc

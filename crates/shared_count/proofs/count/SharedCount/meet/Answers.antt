@@ -8,14 +8,14 @@ use Rattle.shared_count.proofs.SplitsAndJoins.{takes_note, deals, takes_back}
 use Rattle.shared_count.proofs.count.SharedCount.meet.Goals as goal
 
 pub split_seat-note-requires : goal.split_seat-note-requires
-split_seat-note-requires c = let one = c.self.invariant in (
+split_seat-note-requires c = (
   of_table c.second.invariant c.second.view_is c.self.view_is c.requires.second,
   omega arith,
   can_write _ _ c.second.invariant.whole,
 )
 
 pub join_seat-requires : goal.join_seat-requires
-join_seat-requires c = let one = c.self.invariant in let split = c.split_seat-note.ensures in (
+join_seat-requires c = let split = c.split_seat-note.ensures in (
   of_table c.first.invariant c.first.view_is c.self.view_is c.requires.first,
   split.3 ∙ of_table c.second.invariant c.second.view_is c.self.view_is c.requires.second,
   ap (λ (m : SeatState). m.1) split.4,
@@ -24,7 +24,7 @@ join_seat-requires c = let one = c.self.invariant in let split = c.split_seat-no
 )
 
 pub load-requires : goal.load-requires
-load-requires c = let one = c.self.invariant in (
+load-requires c = (
   c.join_seat.ensures.0 ∙ of_table c.first.invariant c.first.view_is c.self.view_is c.requires.first,
   omega arith,
   can_look _ _ _ (joined_is c.first.invariant.whole c.second.invariant.whole c.split_seat-note.ensures.4
@@ -32,7 +32,7 @@ load-requires c = let one = c.self.invariant in (
 )
 
 pub split_seat-read-requires : goal.split_seat-read-requires
-split_seat-read-requires c = let one = c.self.invariant in (
+split_seat-read-requires c = (
   c.load.ensures.0 ∙ c.join_seat.ensures.0
       ∙ of_table c.first.invariant c.first.view_is c.self.view_is c.requires.first,
   omega arith,
@@ -41,7 +41,6 @@ split_seat-read-requires c = let one = c.self.invariant in (
 
 pub join_seat-requires-2 : goal.join_seat-requires-2
 join_seat-requires-2 c =
-    let one = c.self.invariant in
     let split = c.split_seat-note.ensures in
     let again = c.split_seat-read.ensures in
     let saw = c.load.ensures.2 (pass_at c.first.inside.seat.me) (pass_at c.second.inside.seat.me)

@@ -1,4 +1,4 @@
-use Rattle.std.proofs.Common.{◌≡◌, ℕ, ◌∙◌, ◌<◌, ◌≤◌, ◌^◌, ap, arith, map}
+use Rattle.std.proofs.Common.{◌≡◌, ℕ, ◌∙◌, ◌≤◌, ap, arith, map}
 use Rattle.std.specs.List.{range_with_len}
 use Rattle.shared_count.specs.Passes.{CountId, first_pass}
 use Rattle.shared_count.proofs.Opens.{opens, own_one, dealt, new_pass, left_over, grown}
@@ -8,13 +8,11 @@ use Rattle.shared_count.proofs.count.SharedCount.open.Goals as goal
 -- a vector with room for n passes shows that n fits the word
 pub of_words-requires : goal.of_words-requires
 of_words-requires c =
-    let small : c.in_ok-passes.passes.cap < 2 ^ 63 = c.in_ok-passes.passes.small in
     let room : c.args.n ≤ c.in_ok-passes.passes.cap = c.in_ok-passes.ensures.capacity in
     opens c.args.n (omega arith)
 
 pub split_seat-seat-requires : goal.split_seat-seat-requires
-split_seat-seat-requires c = let one = c.loop.invariant.one_word in
-    (c.loop.invariant.table, omega arith, deals c.in_ok-table.table.shared.key c.loop.seat.id c.loop.seat.me.0)
+split_seat-seat-requires c = (c.loop.invariant.table, omega arith, deals c.in_ok-table.table.shared.key c.loop.seat.id c.loop.seat.me.0)
 
 pub invariant_of-push : goal.invariant_of-push
 invariant_of-push c =

@@ -4,11 +4,11 @@ use Rattle.counting_word.specs.CountingWord.{greatest_count}
 use Rattle.counting_word.specs.Plans.{clone_plan, drop_plan}
 use Rattle.counting_word.specs.declared.ClonePlan.{ClonePlan}
 use Rattle.counting_word.specs.declared.DropPlan.{DropPlan}
-use Rattle.shared_count.specs.History.{Call, Clone, TryClone, Born, Full, Overtaken, Event, left_by}
+use Rattle.shared_count.specs.History.{Call, Clone, TryClone, Born, Full, Overtaken, Event}
 use Rattle.shared_count.specs.Inside.Shares.{Known, seeing}
 use Rattle.shared_count.specs.Extends.{OthersExtend}
 use Rattle.shared_count.specs.Inside.Steps.{SeatState, Made, Counts, Counted, Judged, Begun}
-use Rattle.shared_count.specs.Inside.Seats.{pass_at, CanCall, Replied}
+use Rattle.shared_count.specs.Inside.Seats.{pass_at, state_at, CanCall, Replied}
 use Rattle.shared_count.proofs.Histories.{others-trans, overtaken, overtaken_after}
 use Rattle.shared_count.proofs.Calls.{looked_owns}
 
@@ -57,20 +57,18 @@ module _ (n : ℕ) (m m' : SeatState) (can : CanCall n m) where
     can_raise = subst (CanCall n) (sym read.looked.sees.seat)
         (record { whole = refl; opened = can.opened; owns = looked_owns read.looked can.owns })
 
-    pub has_read : Counts found (left_by n (pass_at m').seen)
-    has_read = subst (λ (z : SeatState). Counts found (left_by n (pass_at z).seen)) (sym read.looked.sees.seat)
-        (subst (λ (i : ℕ). Counts found (left_by i h)) can.opened read.counts)
+    pub has_read : Counts found (state_at m')
+    has_read = subst (λ (z : SeatState). Counts found (state_at z)) (sym read.looked.sees.seat) read.counts
 
     pub replied : (r : TryClone) (m'' : SeatState) → Replied (pass_at m') r m'' → Replied x r m''
     replied r m'' told = replied_after x h r m'' read.looked.others
         (subst (λ (z : SeatState). Replied (pass_at z) r m'') read.looked.sees.seat told)
 
   -- a raise that lost
-  pub lost : (word found : ℕ) → Counts word (left_by n x.seen) → Counted x found m' → found ≢ word
-      → Replied x Overtaken m'
+  pub lost : (word found : ℕ) → Counts word (state_at m) → Counted x found m' → found ≢ word → Replied x Overtaken m'
   lost word found was now other = (
     now.looked.seen,
-    overtaken x.passes x.name x.seen now.looked.seen word found now.looked.others now.looked.sees.legal can.owns
-        (subst (λ (i : ℕ). Counts word (left_by i x.seen)) (sym can.opened) was) now.counts other now.room,
+    overtaken x.passes x.name x.seen now.looked.seen word found now.looked.others now.looked.sees.legal can.owns was
+        now.counts other now.room,
     now.looked.sees,
   )

@@ -5,7 +5,7 @@ use Rattle.std.proofs.Common.{count_by, sum_by}
 use Rattle.std.specs.List.{range_with_len}
 use Rattle.std.proofs.lemmas.List.FromFn.{length-range_with_len}
 use Rattle.std.proofs.lemmas.Bool.{lt-ltb}
-use Rattle.std.proofs.lemmas.List.Sums.{sum_by-cons}
+use Rattle.std.proofs.lemmas.List.Sums.{sum_by-cons, count_by-le-length}
 use mathlib.Core.Logic.{dite}
 use native.Mathlib.Decide.{dec_le}
 use Rattle.shared_count.specs.History.{Call, Born, EndReply, Clone, End, Mark, Event, CountState, opening, handles_of}
@@ -162,17 +162,14 @@ is_last-next s q Mark some reply = refl
 is_last-next s q c some reply = sym some
 
 -- nobody calls if no handle is left
-none_owned : (q : ℕ) (xs : List ℕ) → length xs ≡ 0 → count_by (nat_eq q) xs ≡ 0
-none_owned q [] e = refl
-none_owned q (x ∷ xs) e = absurd (omega arith)
-
 left_none : (s : CountState) → has_exactly 0 s ≡ true → length s.owners ≡ 0
 left_none s none = eqb-true (length s.owners) 0 (and_right (not s.mark) (nat_eq (length s.owners) 0) none)
 
 nothing_follows : (s : CountState) (h : List Event) → has_exactly 0 s ≡ true → IsLegalFrom s h → h ≡ []
 nothing_follows s [] none legal = refl
 nothing_follows s (e ∷ es) none legal =
-    let all = none_owned e.caller s.owners (left_none s none) in
+    let empty = left_none s none in
+    let most = count_by-le-length (nat_eq e.caller) s.owners in
     absurd (omega arith)
 
 -- how often Last is told, from the state s on

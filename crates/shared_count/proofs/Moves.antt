@@ -49,20 +49,23 @@ know_more n log d (s ∷ ss) k out =
     (know_more n log d ss (All-tail (Knows n log) s ss k)
     (λ x pos. let sum = halves-cons x s ss in out x (omega arith)))
 
--- the seat id gets other shares, the log gets new events, and the word becomes w
-module _ (n : ℕ) (s : Table) (k : Keeps n s) (id : ℕ) (v v' : List Share) (d : List Event) (w : ℕ) where
-  abbrev Log : List Event
-  Log = k.log ++ d
+-- a pass that looks knows the whole log
+pub know_now : {n : ℕ} {log : List Event} {x : Known} {part : Part} (part' : Part) → Knows n log (share x part)
+    → (part' ≡ InDrop → 0 < owned_by n x.name log) → Knows n log (share (seeing x log) part')
+know_now {log = log} {x = x} part' here own =
+    record { opened = here.opened; begins = others-refl x.name log; owns = own }
 
+-- the seat id gets other shares, the log gets the events d, and the word becomes w
+module _ (n : ℕ) (s : Table) (k : Keeps n s) (id : ℕ) (v v' : List Share) (d log : List Event) (w : ℕ) where
   pub moves : get_elem? s.views id ≡ some v → ((p : ℕ) → halves p v' ≡ halves p v)
-      → ((p : ℕ) → halves p v < 2 → calls_of p d ≡ []) → IsLegal n Log → All (Knows n Log) v'
-      → Means w (left_by n Log) (sum_by drops (set s.views id v')) → Keeps n (stepped s 0 w id [] v' keeps)
-  moves at same out legal know stands = record {
-    log = Log;
+      → ((p : ℕ) → halves p v < 2 → calls_of p d ≡ []) → k.log ++ d ≡ log → IsLegal n log → All (Knows n log) v'
+      → Means w (left_by n log) (sum_by drops (set s.views id v')) → Keeps n (stepped s 0 w id [] v' keeps)
+  moves at same out grown legal know stands = record {
+    log = log;
     legal = legal;
     one_word = length-set s.words 0 w ∙ k.one_word;
-    word = subst (λ z. Means z (left_by n Log) (sum_by drops (set s.views id v'))) (sym word) stands;
-    seats = λ j u e. ⊎_elim (λ t. subst (All (Knows n Log)) t.1 know) (λ t. others j u t.0 t.1)
+    word = subst (λ z. Means z (left_by n log) (sum_by drops (set s.views id v'))) (sym word) stands;
+    seats = λ j u e. ⊎_elim (λ t. subst (All (Knows n log)) t.1 know) (λ t. others j u t.0 t.1)
         (at_set s.views id j v' u e);
     apart = λ p. let most = k.apart p in let sum = sum-set (halves p) s.views id v v' at in let is = same p in
         omega arith;
@@ -70,9 +73,10 @@ module _ (n : ℕ) (s : Table) (k : Keeps n s) (id : ℕ) (v v' : List Share) (d
     word : get_or (set s.words 0 w) 0 0 ≡ w
     word = get_or-set_same s.words 0 w 0 (omega arith)
 
-    others : (j : ℕ) (u : List Share) → j ≢ id → get_elem? s.views j ≡ some u → All (Knows n Log) u
-    others j u ne there = know_more n k.log d u (k.seats j u there) (λ p pos. out p (
-        let two = sum-two (halves p) s.views id j u v [] refl ne at there in let most = k.apart p in omega arith))
+    others : (j : ℕ) (u : List Share) → j ≢ id → get_elem? s.views j ≡ some u → All (Knows n log) u
+    others j u ne there = subst (λ h. All (Knows n h) u) grown
+        (know_more n k.log d u (k.seats j u there) (λ p pos. out p (
+        let two = sum-two (halves p) s.views id j u v [] refl ne at there in let most = k.apart p in omega arith)))
 
 -- A step by the seat of this part of the pass x, after which the word is w
 module _ (n : ℕ) (s : Table) (k : Keeps n s) (id : ℕ) (x : Known) (part : Part) (w : ℕ)
@@ -95,8 +99,8 @@ module _ (n : ℕ) (s : Table) (k : Keeps n s) (id : ℕ) (x : Known) (part : Pa
         → Means w (next (left_by n k.log) x.name c) (sum_by drops (set s.views id (share called Whole ∷ [])))
         → Keeps n (stepped s 0 w id [] (share called Whole ∷ []) keeps) × Made x c (with_part called Whole)
     calls two own reply stands = (
-      moves n s k id (share x part ∷ []) (share called Whole ∷ []) (event x.name c ∷ []) w at
-          (alike called Whole refl (sym two)) out legal (one_share (Knows n called.seen) (share called Whole) after)
+      moves n s k id (share x part ∷ []) (share called Whole ∷ []) (event x.name c ∷ []) called.seen
+          w at (alike called Whole refl (sym two)) out refl legal (one_share (Knows n called.seen) (share called Whole) after)
           (subst M (sym left) stands),
       record {
         seen = called.seen;
@@ -135,26 +139,14 @@ module _ (n : ℕ) (s : Table) (k : Keeps n s) (id : ℕ) (x : Known) (part : Pa
         → Keeps n (stepped s 0 w id [] (share looked part' ∷ []) keeps) × OthersExtend x.name x.seen k.log
         × Sees x part' k.log (with_part looked part')
     looks same own stands = (
-      moves n s k id (share x part ∷ []) (share looked part' ∷ []) [] w at (alike looked part' refl same)
-          (λ p few. refl) (subst (IsLegal n) (sym is) k.legal)
-          (subst (λ h. All (Knows n h) (share looked part' ∷ [])) (sym is)
-          (one_share (Knows n k.log) (share looked part') after))
-          (subst M (sym is) stands),
+      moves n s k id (share x part ∷ []) (share looked part' ∷ []) [] k.log w at (alike looked part' refl same)
+          (λ p few. refl) (append-nil k.log) k.legal
+          (one_share (Knows n k.log) (share looked part') (know_now part' know (λ e. owner (own e)))) stands,
       know.begins,
       record { seat = refl; legal = subst (λ m. IsLegal m k.log) (sym know.opened) k.legal },
     ) where
-      is : k.log ++ [] ≡ k.log
-      is = append-nil k.log
-
-      M : List Event → Type 0
-      M h = Means w (left_by n h) (sum_by drops (set s.views id (share looked part' ∷ [])))
-
-      after : Knows n k.log (share looked part')
-      after = record {
-        opened = know.opened;
-        begins = others-refl x.name k.log;
-        owns = λ e. let more = owned_by-others n x.name x.seen k.log know.begins in let here = own e in omega arith;
-      }
+      owner : 0 < owned_by n x.name x.seen → 0 < owned_by n x.name k.log
+      owner here = let more = owned_by-others n x.name x.seen k.log know.begins in omega arith
 
 -- the drops in flight, after a pass has another part
 pub drops-set : (l : List (List Share)) (id : ℕ) (x y : Known) (part part' : Part)

@@ -12,10 +12,9 @@ use Rattle.shared_count.specs.Inside.Shares.{Known, Part, Half, Whole, Share, sh
 use Rattle.shared_count.specs.Inside.Shares.{all_but_first, first_alone, as_halves, with_note, as_in_note}
 use Rattle.shared_count.specs.Inside.Rule.{Knows, Means, Keeps}
 use Rattle.shared_count.specs.Inside.Steps.{SeatState, with_shares, with_part, with_both, Follows, BothSaw, TellsMeet}
-use Rattle.shared_count.proofs.Histories.{others-refl}
 use Rattle.shared_count.proofs.Sums.{sum-set, sum-one, sum-split, sum-join, sum-first, halves_if, halves-cons}
 use Rattle.shared_count.proofs.Sums.{halves-one, halves_if-same, halves_if-two, drops_in}
-use Rattle.shared_count.proofs.Moves.{one_share, moves}
+use Rattle.shared_count.proofs.Moves.{one_share, know_now, moves}
 
 -- a seat's shares are parted, and nothing is lost
 module _ (n id : ℕ) (v a b : List Share) (all_halves : (p : ℕ) → halves p a + halves p b ≡ halves p v)
@@ -74,9 +73,9 @@ deals n id v = parts n id v (all_but_first v) (first_alone v)
     (know-first n v)
 
 -- what is known of a pass does not depend on how much of it a seat has, a drop aside
-know_as : (n : ℕ) (log : List Event) (x : Known) (part part' : Part) → is_in_drop part' ≡ false
+know_as : {n : ℕ} {log : List Event} {x : Known} {part : Part} (part' : Part) → is_in_drop part' ≡ false
     → Knows n log (share x part) → Knows n log (share x part')
-know_as n log x part part' calm k = record {
+know_as part' calm k = record {
   opened = k.opened;
   begins = k.begins;
   owns = λ e. absurd (true≢false (sym (ap is_in_drop e) ∙ calm));
@@ -95,7 +94,7 @@ pub writes_note : (n id : ℕ) (x : Known) → let v : List Share = share x Whol
 writes_note n id x = let half : List Share = share x Half ∷ [] in
     parts n id (share x Whole ∷ []) half half (λ p. two_halves p x) refl
     (λ log k. let know = one_share (Knows n log) (share x Half)
-    (know_as n log x Whole Half refl (All-head (Knows n log) (share x Whole) [] k)) in (know, know))
+    (know_as Half refl (All-head (Knows n log) (share x Whole) [] k)) in (know, know))
 
 pub takes_note : (n id other : ℕ) (v w : List Share) → Joins {S = Unit {0}} (Keeps n)
     id v other w (with_note v w) []
@@ -118,7 +117,7 @@ takes_back n id other x h m note e f =
       joins = joined n id other half (share (seeing x h) Half ∷ []) (share (seeing x h) Whole ∷ [])
           (λ p. sym (two_halves p x)) refl
           (λ log k l. one_share (Knows n log) (share (seeing x h) Whole)
-          (know_as n log (seeing x h) Half Whole refl (All-head (Knows n log) (share (seeing x h) Half) [] l)))
+          (know_as Whole refl (All-head (Knows n log) (share (seeing x h) Half) [] l)))
 
 -- the read of `meet`, on a seat with a pass and a note
 module _ (x y : Known) where
@@ -145,8 +144,7 @@ module _ (x y : Known) where
     after,
     keeps,
     tt,
-    moves n s k id Seat after [] w at same (λ p few. refl) (subst (IsLegal n) (sym is) k.legal)
-        (subst (λ h. All (Knows n h) after) (sym is) knowing) (subst Stands (sym is) word),
+    moves n s k id Seat after [] k.log w at same (λ p few. refl) (append-nil k.log) k.legal knowing word,
     for_both (λ a b. BothSaw a b (with_shares after)) both,
   ) where
     w : ℕ
@@ -165,20 +163,10 @@ module _ (x y : Known) where
     know_x = All-head (Knows n k.log) (share x Whole) []
         (All-tail (Knows n k.log) (share y Half) (share x Whole ∷ []) know)
 
-    is : k.log ++ [] ≡ k.log
-    is = append-nil k.log
-
-    now : (z : Known) (part : Part) → is_in_drop part ≡ false → Knows n k.log (share z part)
-        → Knows n k.log (share (seeing z k.log) part)
-    now z part calm here = record {
-      opened = here.opened;
-      begins = others-refl z.name k.log;
-      owns = λ e. absurd (true≢false (sym (ap is_in_drop e) ∙ calm));
-    }
-
     knowing : All (Knows n k.log) after
     knowing = All-cons (Knows n k.log) (share (seeing y k.log) Half) (share (seeing x k.log) Whole ∷ [])
-        (now y Half refl know_y) (one_share (Knows n k.log) (share (seeing x k.log) Whole) (now x Whole refl know_x))
+        (know_now Half know_y (λ e. absurd (cc)))
+        (one_share (Knows n k.log) (share (seeing x k.log) Whole) (know_now Whole know_x (λ e. absurd (cc))))
 
     same : (p : ℕ) → halves p after ≡ halves p Seat
     same p =
@@ -187,9 +175,6 @@ module _ (x y : Known) where
         let c = halves-cons p (share y Half) (share x Whole ∷ []) in
         let d = halves-one p (share x Whole) in
         omega arith
-
-    Stands : List Event → Type 0
-    Stands h = Means w (left_by n h) (sum_by drops (set s.views id after))
 
     word : Means w (left_by n k.log) (sum_by drops (set s.views id after))
     word = let sum = sum-set drops s.views id Seat after at in

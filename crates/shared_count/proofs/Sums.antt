@@ -1,7 +1,7 @@
 -- Sums over the views of all seats, after a step, a split and a join, and over the shares of one seat.
 use Rattle.std.proofs.Common.{◌≡◌, ◌≢◌, ℕ, zero, suc, ◌+◌, ◌<◌, ◌≤◌, Bool, true, false, nat_eq, List, [], ◌∷◌, ◌++◌}
 use Rattle.std.proofs.Common.{length, get_or, map, set, sym, refl, ap, ◌∙◌, arith, if◌then◌else◌, sum_by}
-use Rattle.std.proofs.lemmas.List.Sums.{sum_by-cons, sum_by-set, sum_by-append, get_or-le-sum_by}
+use Rattle.std.proofs.lemmas.List.Sums.{sum_by-cons, sum_by-set, sum_by_push, get_or-le-sum_by}
 use Rattle.std.specs.List.{range_with_len}
 use mathlib.Core.Logic.{dite}
 use native.Mathlib.Decide.{ℕ_discrete}
@@ -47,14 +47,10 @@ module _ {X : Type 0} where
         let b = sum-one (set l i w) j u (set_else l i j w other ∙ ej) in
         omega arith
 
-    pub sum-last : (l : List X) (v : X) → sum_by f (l ++ v ∷ []) ≡ sum_by f l + f v
-    sum-last l v =
-        let a = sum_by-append f l (v ∷ []) in let b = sum_by-cons f v [] in omega arith
-
     -- a split and a join change no sum that is that of its parts
     pub sum-split : (l : List X) (i : ℕ) (v a b : X) → get_elem? l i ≡ some v → f a + f b ≡ f v
         → sum_by f (set l i a ++ b ∷ []) ≡ sum_by f l
-    sum-split l i v a b at parts = let x = sum-last (set l i a) b in let y = sum-set l i v a at in omega arith
+    sum-split l i v a b at parts = let x = sum_by_push f (set l i a) b in let y = sum-set l i v a at in omega arith
 
     pub sum-join : (l : List X) (i j : ℕ) (v w b z : X) → get_elem? l i ≡ some v → get_elem? (set l i b)
         j ≡ some w

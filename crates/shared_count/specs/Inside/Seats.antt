@@ -1,7 +1,7 @@
 -- What the functions on seats ask and leave, and the pass that a seat is.
 use Rattle.std.specs.Prelude.{◌≡◌, ℕ, ◌<◌, List, [], ◌∷◌}
 use Rattle.atomic_table.specs.Seated.{TableId}
-use Rattle.shared_count.specs.History.{Clone, TryClone, Born, Full, Overtaken, Event, IsLegal, owned_by}
+use Rattle.shared_count.specs.History.{Clone, TryClone, Born, Full, Overtaken, Event, CountState, IsLegal, left_by, owned_by}
 use Rattle.shared_count.specs.Inside.Shares.{Known, Whole, Share, known}
 use Rattle.shared_count.specs.Extends.{OvertakersExtend}
 use Rattle.shared_count.specs.Passes.{Pass}
@@ -15,6 +15,10 @@ first_known (s ∷ ss) = s.known
 -- what the seat of a pass knows of it
 abbrev pub pass_at : SeatState → Known
 pass_at m = first_known m.0
+
+-- the state that this pass has seen
+abbrev pub state_at : SeatState → CountState
+state_at m = left_by (pass_at m).passes (pass_at m).seen
 
 abbrev pub handles_at : SeatState → ℕ
 handles_at m = owned_by (pass_at m).passes (pass_at m).name (pass_at m).seen

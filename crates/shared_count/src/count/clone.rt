@@ -3,8 +3,7 @@ ghost use Rattle.std.specs.Prelude.{◌≡◌};
 ghost use Rattle.counting_word.specs.CountingWord.{greatest_count};
 ghost use Rattle.counting_word.specs.Plans.{clone_plan};
 ghost use Rattle.counting_word.specs.declared.ClonePlan.TheVariants as plan;
-ghost use Rattle.shared_count.specs.History.{left_by};
-ghost use Rattle.shared_count.specs.Inside.Seats.{pass_at, CanCall, Replied};
+ghost use Rattle.shared_count.specs.Inside.Seats.{pass_at, state_at, CanCall, Replied};
 ghost use Rattle.shared_count.specs.Inside.Steps.{Counts};
 
 use super::SharedCount;
@@ -33,7 +32,7 @@ impl SharedCount {
     fn raise_with(&self, seat: &mut Seat<(), View>, word: u64, raised: u64) -> TryClone
         requires table { seat.old.table_id ≡ self.now.table }
         requires pass { CanCall self.now.passes seat.old.me }
-        requires read { Counts word (left_by self.now.passes (pass_at seat.old.me).seen) }
+        requires read { Counts word (state_at seat.old.me) }
         requires plan { plan.Raise raised ≡ clone_plan word greatest_count }
         ensures table { seat.new.table_id ≡ seat.old.table_id }
         ensures reply { Replied (pass_at seat.old.me) result seat.new.me }

@@ -5,6 +5,7 @@ use Rattle.std.proofs.Common.{ne_eqb, append_assoc, append-nil, if◌then◌else
 use Rattle.std.proofs.lemmas.List.Elements.{filter-append}
 use Rattle.std.proofs.lemmas.List.Folds.{list_any-append}
 use Rattle.std.proofs.lemmas.List.Sums.{sum_by-cons}
+use Rattle.std.proofs.lemmas.Bool.{and_parts, or_right}
 use mathlib.Core.Logic.{dite}
 use native.Mathlib.Decide.{ℕ_discrete}
 use Rattle.counting_word.specs.CountingWord.{greatest_count}
@@ -173,10 +174,6 @@ two_owners p q (x ∷ xs) n =
       G : Bool → Type 0
       G t = 0 + count_by (nat_eq p) xs + (one_if t + count_by (nat_eq q) xs) ≤ suc (length xs)
 
-pub and_right : (a b : Bool) → (a && b) ≡ true → b ≡ true
-and_right true b e = e
-and_right false b e = absurd (cc)
-
 -- what a reply of an end tells
 last_if : (b : Bool) → Last ≡ end_reply b → b ≡ true
 last_if true e = refl
@@ -194,7 +191,7 @@ not_last p q s n hp hq last =
     let one : has_exactly 1 s ≡ true =
     sym (none_left q s Last hq) ∙ last_if (has_exactly 0 (next s q (End Last))) last in
     let is : length s.owners ≡ 1 =
-    eqb-true (length s.owners) 1 (and_right (not s.mark) (nat_eq (length s.owners) 1) one) in
+    eqb-true (length s.owners) 1 (and_parts (not s.mark) (nat_eq (length s.owners) 1) one).1 in
     omega arith
 
 -- While p owns a handle, others change the owners by births and by ends that are not the last alone.
@@ -240,10 +237,6 @@ overtaken n p a b k found g legal own was is other low =
       room = (is.0, few);
     }
 
-pub or_true : (x y : Bool) → y ≡ true → (x || y) ≡ true
-or_true true y e = refl
-or_true false y e = e
-
 -- others' calls before it change nothing of that
 pub overtaken_after : (n p : ℕ) (a b c : List Event) → OthersExtend p a b → OvertakersExtend n p b c
     → OvertakersExtend n p a c
@@ -251,7 +244,7 @@ unfolding others-trans
 overtaken_after n p a b c g o = record {
   others = others-trans p a b c g o.others;
   changed = list_any-append (λ e. is_born_or_ended e.call) g.added o.others.added
-      ∙ or_true (has_born_or_ended g.added) (has_born_or_ended o.others.added) o.changed;
+      ∙ or_right (has_born_or_ended g.added) (has_born_or_ended o.others.added) o.changed;
   room = o.room;
 }
 

@@ -1,20 +1,24 @@
 -- The laws of legal histories.
-use Rattle.std.proofs.Common.{◌≡◌, ℕ, suc, ◌+◌, ◌<◌, ◌≤◌, Bool, true, false, ◌&&◌, ◌||◌, not, nat_eq, nat_lt, eqb-true}
-use Rattle.std.proofs.Common.{List, [], ◌∷◌, ◌++◌, length, sym, refl, ap, ◌∙◌, arith, eq-eqb, ne_eqb, if◌then◌else◌}
-use Rattle.std.proofs.Common.{count_by, sum_by}
+use Rattle.std.proofs.Common.{◌≢◌, subst, true≢false, ◌≡◌, ℕ, suc, ◌+◌, ◌<◌, ◌≤◌, Bool, true, false, ◌&&◌, ◌||◌, not}
+use Rattle.std.proofs.Common.{nat_eq, nat_lt, eqb-true, List, [], ◌∷◌, ◌++◌, length, sym, refl, ap, ◌∙◌, arith, eq-eqb}
+use Rattle.std.proofs.Common.{ne_eqb, if◌then◌else◌, count_by, sum_by}
+use Rattle.counting_word.specs.CountingWord.{greatest_count}
+use Rattle.shared_count.specs.History.{TryClone, Full, Overtaken, IsLegal, Call, Born, EndReply, Clone, End, Mark}
+use Rattle.shared_count.specs.History.{Event, CountState, opening, handles_of, next, has_exactly, end_reply, IsReply}
+use Rattle.shared_count.specs.History.{IsLegalFrom, state_after, left_by, owned_by, calls_of}
+use Rattle.shared_count.specs.Extends.{event, OthersExtend}
+use Rattle.shared_count.specs.Passes.{Pass, Called, WasOvertaken, HasSeenMark}
+use Rattle.shared_count.proofs.Histories.{state_after-append, legal_rest, by_name, one_if, one_if-same, one_if-other}
+use Rattle.shared_count.proofs.Histories.{count-cons, handles_of-next}
 use Rattle.std.specs.List.{range_with_len}
 use Rattle.std.proofs.lemmas.List.FromFn.{length-range_with_len}
-use Rattle.std.proofs.lemmas.Bool.{lt-ltb}
+use Rattle.std.proofs.lemmas.Bool.{lt-ltb, and_parts}
 use Rattle.std.proofs.lemmas.List.Sums.{sum_by-cons, count_by-le-length}
 use mathlib.Core.Logic.{dite}
 use native.Mathlib.Decide.{dec_le}
-use Rattle.shared_count.specs.History.{Call, Born, EndReply, Clone, End, Mark, Event, CountState, opening, handles_of}
-use Rattle.shared_count.specs.History.{next, has_exactly, end_reply, IsReply, IsLegalFrom, state_after, left_by}
-use Rattle.shared_count.specs.History.{owned_by, calls_of}
 use Rattle.shared_count.specs.HistoryLaws.{is_mark, is_last, count_calls, BeginningsAreLegal, HandlesAreOwned}
 use Rattle.shared_count.specs.HistoryLaws.{CallsAreOfPasses, MarkedExactlyIfCalled, LastIsToldOnce, OneEndIsLast}
-use Rattle.shared_count.proofs.Histories.{by_name, one_if, one_if-same, one_if-other, count-cons, handles_of-next}
-use Rattle.shared_count.proofs.Histories.{and_right, or_true}
+use Rattle.std.proofs.Math.Bool.{and-false, or-false, or-true}
 use Rattle.shared_count.proofs.Sums.{sum-none, sum-alone}
 
 legal_from_front : (s : CountState) (a b : List Event) → IsLegalFrom s (a ++ b) → IsLegalFrom s a
@@ -115,14 +119,10 @@ pub calls_are_of_passes : CallsAreOfPasses
 calls_are_of_passes n h kind legal = calls-sum kind n (opening n) h (below-opening n) legal
 
 -- the mark
-or_false : (b : Bool) → b ≡ (b || false)
-or_false true = refl
-or_false false = refl
-
 mark-next : (s : CountState) (q : ℕ) (c : Call) → (next s q c).mark ≡ (s.mark || is_mark c)
-mark-next s q Mark = sym (or_true s.mark true refl)
-mark-next s q (Clone Born) = or_false s.mark
-mark-next s q c = or_false s.mark
+mark-next s q Mark = sym (or-true s.mark)
+mark-next s q (Clone Born) = sym (or-false s.mark)
+mark-next s q c = sym (or-false s.mark)
 
 one_more : (marked here : Bool) (rest all : ℕ) → all ≡ one_if here + rest
     → ((marked || here) || nat_lt 0 rest) ≡ (marked || nat_lt 0 all)
@@ -130,9 +130,9 @@ one_more true here rest all e = refl
 one_more false true rest all e = sym (lt-ltb 0 all (omega arith))
 one_more false false rest all e = let same : rest ≡ all = omega arith in ap (nat_lt 0) same
 
-pub mark-after : (s : CountState) (h : List Event)
+mark-after : (s : CountState) (h : List Event)
     → (state_after s h).mark ≡ (s.mark || nat_lt 0 (count_calls is_mark h))
-mark-after s [] = or_false s.mark
+mark-after s [] = sym (or-false s.mark)
 mark-after s (e ∷ es) =
     mark-after (next s e.caller e.call) es
     ∙ ap (λ (b : Bool). b || nat_lt 0 (count_calls is_mark es)) (mark-next s e.caller e.call)
@@ -143,10 +143,6 @@ pub marked_if_called : MarkedExactlyIfCalled
 marked_if_called n h = mark-after (opening n) h
 
 -- the last end
-and_false : (b : Bool) → (b && false) ≡ false
-and_false true = refl
-and_false false = refl
-
 is_last-end : (b : Bool) (r : EndReply) → r ≡ end_reply b → is_last (End r) ≡ b
 is_last-end true r e = ap (λ (z : EndReply). is_last (End z)) e
 is_last-end false r e = ap (λ (z : EndReply). is_last (End z)) e
@@ -156,14 +152,14 @@ is_last-next : (s : CountState) (q : ℕ) (c : Call) → has_exactly 0 s ≡ fal
     → is_last c ≡ has_exactly 0 (next s q c)
 is_last-next s q (Clone Born) some reply =
     let other : nat_eq (suc (length s.owners)) 0 ≡ false = ne_eqb (suc (length s.owners)) 0 (λ e. omega arith) in
-    sym (ap (λ (b : Bool). not s.mark && b) other ∙ and_false (not s.mark))
+    sym (ap (λ (b : Bool). not s.mark && b) other ∙ and-false (not s.mark))
 is_last-next s q (End r) some reply = is_last-end (has_exactly 0 (next s q (End r))) r reply
 is_last-next s q Mark some reply = refl
 is_last-next s q c some reply = sym some
 
 -- nobody calls if no handle is left
 left_none : (s : CountState) → has_exactly 0 s ≡ true → length s.owners ≡ 0
-left_none s none = eqb-true (length s.owners) 0 (and_right (not s.mark) (nat_eq (length s.owners) 0) none)
+left_none s none = eqb-true (length s.owners) 0 (and_parts (not s.mark) (nat_eq (length s.owners) 0) none).1
 
 nothing_follows : (s : CountState) (h : List Event) → has_exactly 0 s ≡ true → IsLegalFrom s h → h ≡ []
 nothing_follows s [] none legal = refl
@@ -218,3 +214,36 @@ one_end_is_last n h some legal spent unmarked =
     ap (λ (b : Bool). not b && nat_eq (length (left_by n h).owners) 0) mark
     ∙ eq-eqb (length (left_by n h).owners) 0 no_handle in
     sym (calls_are_of_passes n h is_last legal) ∙ last_is_told_once n h some legal ∙ ap one_if none
+
+-- the reply to a clone by a pass that has seen the mark
+mark-others : (n p : ℕ) (a b : List Event)
+    → OthersExtend p a b → (left_by n a).mark ≡ true → (left_by n b).mark ≡ true
+mark-others n p a b others m =
+    ap (λ (h : List Event). (left_by n h).mark) others.begins
+    ∙ ap (λ (s : CountState). s.mark) (state_after-append (opening n) a others.added)
+    ∙ mark-after (left_by n a) others.added ∙ ap (λ (b : Bool). b || nat_lt 0 (count_calls is_mark others.added)) m
+
+marked-Called : (old new : Pass) (reply : TryClone) → HasSeenMark old → Called old (Clone reply)
+    new → reply ≡ Born
+marked-Called old new reply marked called =
+    let n : ℕ = old.count.passes in
+    let before : List Event = called.extends.before in
+    let made : List Event = event old.name (Clone reply) ∷ [] in
+    let legal : IsLegalFrom (opening n) (before ++ made) = subst (IsLegal n) called.extends.ends called.legal in
+    let last : IsLegalFrom (left_by n before) made = legal_rest (opening n) before made legal in
+    let m : (left_by n before).mark ≡ true = mark-others n old.name old.seen before called.extends.others marked in
+    last.1 ∙ ap (λ (b : Bool).
+    if not b && nat_eq (length (left_by n before).owners) greatest_count then Full else Born) m
+
+marked-not-overtaken : (old new : Pass) → HasSeenMark old → WasOvertaken old new → ⊥
+marked-not-overtaken old new marked was =
+    let seen : (left_by old.count.passes new.seen).mark ≡ true =
+    mark-others old.count.passes old.name old.seen new.seen was.extends.others marked in
+    true≢false (sym seen ∙ was.extends.room.0)
+
+pub seen_mark-born : (old new : Pass) (reply : TryClone) → (reply ≢ Overtaken → Called old (Clone reply) new)
+    → (reply ≡ Overtaken → WasOvertaken old new) → HasSeenMark old → reply ≡ Born
+seen_mark-born old new Born called overtaken marked = refl
+seen_mark-born old new Full called overtaken marked = marked-Called old new Full marked (called (λ e. cc))
+seen_mark-born old new Overtaken called overtaken marked =
+    absurd (marked-not-overtaken old new marked (overtaken refl))

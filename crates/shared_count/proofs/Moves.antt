@@ -100,8 +100,8 @@ module _ (n : ℕ) (s : Table) (k : Keeps n s) (id : ℕ) (x : Known) (part : Pa
         → Keeps n (stepped s 0 w id [] (share called Whole ∷ []) keeps) × Made x c (with_part called Whole)
     calls two own reply stands = (
       moves n s k id (share x part ∷ []) (share called Whole ∷ []) (event x.name c ∷ []) called.seen
-          w at (alike called Whole refl (sym two)) out refl legal (one_share (Knows n called.seen) (share called Whole) after)
-          (subst M (sym left) stands),
+          w at (alike called Whole refl (sym two)) out refl legal
+          (one_share (Knows n called.seen) (share called Whole) after) (subst M (sym left) stands),
       record {
         seen = called.seen;
         call = record { before = k.log; others = know.begins; ends = refl };

@@ -199,7 +199,8 @@ module _ (n slots id : ℕ) where
             × (found ≢ old → Judged x (clone_plan found greatest_count) found m)
 
         hit : (s : Table) (k : Keeps n s) (x : Known) → get_elem? s.views id ≡ some (share x Whole ∷ [])
-            → 0 < owned_by n x.name x.seen → get_or s.words 0 0 ≡ old → Goes n s k id x new (Says x (get_or s.words 0 0))
+            → 0 < owned_by n x.name x.seen → get_or s.words 0 0 ≡ old
+            → Goes n s k id x new (Says x (get_or s.words 0 0))
         hit s k x at own e =
             let plan_says = clone_plan-says old greatest_count (plan.Raise new) made in
             let unmarked : is_marked_word (get_or s.words 0 0) ≡ false = ap is_marked_word e ∙ plan_says.0 in

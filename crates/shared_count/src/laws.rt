@@ -1,5 +1,6 @@
 //! What holds of every legal history. These functions do nothing; a call of one gives its law to a proof.
-ghost use Rattle.shared_count.specs.HistoryLaws.{BeginningsAreLegal, HandlesAreOwned, CallsAreOfPasses, MarkedExactlyIfCalled, LastIsToldOnce, OneEndIsLast};
+ghost use Rattle.shared_count.specs.HistoryLaws.{BeginningsAreLegal, HandlesAreOwned, CallsAreOfPasses};
+ghost use Rattle.shared_count.specs.HistoryLaws.{MarkedExactlyIfCalled, LastIsToldOnce, OneEndIsLast};
 
 /// Each beginning of a legal history is legal.
 #[tactic(auto, using(crate::proofs::LegalHistories::legal_front))]

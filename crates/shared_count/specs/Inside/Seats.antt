@@ -1,7 +1,8 @@
 -- What the functions on seats ask and leave, and the pass that a seat is.
 use Rattle.std.specs.Prelude.{◌≡◌, ℕ, ◌<◌, List, [], ◌∷◌}
 use Rattle.atomic_table.specs.Seated.{TableId}
-use Rattle.shared_count.specs.History.{Clone, TryClone, Born, Full, Overtaken, Event, CountState, IsLegal, left_by, owned_by}
+use Rattle.shared_count.specs.History.{Clone, TryClone, Born, Full, Overtaken, Event, CountState, IsLegal, left_by}
+use Rattle.shared_count.specs.History.{owned_by}
 use Rattle.shared_count.specs.Inside.Shares.{Known, Whole, Share, known}
 use Rattle.shared_count.specs.Extends.{OvertakersExtend}
 use Rattle.shared_count.specs.Passes.{Pass}

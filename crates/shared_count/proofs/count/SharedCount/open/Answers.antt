@@ -12,7 +12,7 @@ of_words-requires c =
     opens c.args.n (omega arith)
 
 pub split_seat-seat-requires : goal.split_seat-seat-requires
-split_seat-seat-requires c = (c.loop.invariant.table, omega arith, deals c.in_ok-table.table.shared.key c.loop.seat.id c.loop.seat.me.0)
+split_seat-seat-requires c = (c.loop.invariant.table, omega arith, deals _ _ _)
 
 pub invariant_of-push : goal.invariant_of-push
 invariant_of-push c =

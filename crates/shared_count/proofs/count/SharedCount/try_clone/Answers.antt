@@ -1,6 +1,6 @@
 use Rattle.std.proofs.Common.{ℕ, ◌+◌, ap}
 use Rattle.shared_count.proofs.Calls.{AfterClone, after_clone}
-use Rattle.shared_count.proofs.PassLaws.{seen_mark-born}
+use Rattle.shared_count.proofs.LegalHistories.{seen_mark-born}
 use Rattle.shared_count.proofs.count.SharedCount.try_clone.Goals as goal
 
 after : (c : goal.After-pass-1) → let seat = c.clone_with-reply.new.seat in

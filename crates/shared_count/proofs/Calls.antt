@@ -1,9 +1,9 @@
--- What a step of a call asks of its seat, and what a call leaves of its pass.
-use Rattle.std.proofs.Common.{◌≡◌, ◌≢◌, ℕ, ◌+◌, ◌<◌, List, sym, refl, ap, ◌∙◌, subst, arith}
+-- What a step of a call requires of its seat, and what a call ensures of its pass.
+use Rattle.std.proofs.Common.{◌≡◌, ◌≢◌, ℕ, ◌+◌, ◌-◌, ◌<◌, List, sym, refl, ap, ◌∙◌, subst, arith}
 use Rattle.atomic_table.specs.Seated.{TableId}
 use Rattle.atomic_table.specs.Table.{Allows}
-use Rattle.shared_count.specs.History.{Call, Clone, End, TryClone, Born, Overtaken, Event, CountState, handles_of, next}
-use Rattle.shared_count.specs.History.{left_by, owned_by}
+use Rattle.shared_count.specs.History.{Call, Clone, End, EndReply, TryClone, Born, Overtaken, Event, CountState}
+use Rattle.shared_count.specs.History.{handles_of, next, left_by, owned_by}
 use Rattle.shared_count.specs.Inside.Shares.{Known, Part, Whole, seeing}
 use Rattle.shared_count.specs.Extends.{CallExtends}
 use Rattle.shared_count.specs.Passes.{CountId, Pass, handles, born_count, Called, HasSeenMore, WasOvertaken}
@@ -32,7 +32,7 @@ pub looked_owns : {x : Known} {part : Part} {m : SeatState} (look : Looked x par
     → 0 < owned_by x.passes x.name x.seen → 0 < owned_by x.passes x.name look.seen
 looked_owns {x} look owns = let same = owned_by-others x.passes x.name x.seen look.seen look.others in omega arith
 
--- how many handles a call adds, and how many it takes
+-- how many handles a call adds, and how many it ends
 abbrev pub gains : Call → ℕ
 gains (Clone reply) = born_count reply
 gains _ = 0
@@ -61,7 +61,7 @@ owned_by-call n p c a b own k =
 abbrev pub SamePass : Pass → Pass → Type 0
 SamePass p q = (q.count ≡ p.count) × (q.name ≡ p.name)
 
--- what a call leaves of the pass p, which has the seat m' of the table t' after it and then owns so many handles
+-- the pass p after a call, with the seat m' of the table t' and this number of handles
 pub record AfterCall (p : Pass) (c : Call) (t' : TableId) (m' : SeatState) (owned' : ℕ) : Type 0 where
   pub same : SamePass p (pass_of t' m')
   pub called : Called p c (pass_of t' m')
@@ -69,16 +69,17 @@ pub record AfterCall (p : Pass) (c : Call) (t' : TableId) (m' : SeatState) (owne
   pub pass : IsPass m' owned'
 
 pub record AfterClone (p : Pass) (r : TryClone) (t' : TableId) (m' : SeatState) (owned' : ℕ) : Type 0 where
+  pub same : SamePass p (pass_of t' m')
   pub called : r ≢ Overtaken → Called p (Clone r) (pass_of t' m')
   pub overtaken : r ≡ Overtaken → WasOvertaken p (pass_of t' m')
   pub handles : handles_at m' ≡ handles p + born_count r
   pub pass : IsPass m' owned'
 
-pub record AfterMeet (p : Pass) (t' : TableId) (m' : SeatState) (owned' : ℕ) : Type 0 where
+pub record AfterMeet (p : Pass) (t' : TableId) (m' : SeatState) (owned : ℕ) : Type 0 where
   pub same : SamePass p (pass_of t' m')
   pub more : HasSeenMore p (pass_of t' m')
   pub handles : handles_at m' ≡ handles p
-  pub pass : IsPass m' owned'
+  pub pass : IsPass m' owned
 
 module _ {t : TableId} {m : SeatState} {owned : ℕ} {p : Pass} (is : IsPass m owned) (view : pass_of t m ≡ p) where
   abbrev x : Known
@@ -91,9 +92,6 @@ module _ {t : TableId} {m : SeatState} {owned : ℕ} {p : Pass} (is : IsPass m o
 
   owns : 0 < handles p → 0 < handles_at m
   owns own = let same = ap handles view in omega arith
-
-  pub owns_some : 0 < handles p → 0 < owned
-  owns_some own = let some = owns own in omega arith
 
   pub can_call : {u : TableId} {key id : ℕ} {self : CountId} {f : ℕ → ℕ} {says : SeatState → ℕ → SeatState → Type 0}
       → record { table = u; passes = key } ≡ self → u.words ≡ 1 → p.count ≡ self → 0 < handles p
@@ -110,7 +108,7 @@ module _ {t : TableId} {m : SeatState} {owned : ℕ} {p : Pass} (is : IsPass m o
     pass_seen {owned'} count = subst (λ (z : SeatState). IsPass z owned') (sym sees.seat)
         (record { whole = refl; legal = sees.legal; owns = count })
 
-    -- what holds of the pass and of one that has seen h holds of the pass after
+    -- a fact about the pass and the same pass with h seen is one about the pass before and after
     by_seen : {t' : TableId} (P : Pass → Pass → Type 0)
         → P (pass_of t m) (pass_of t' (with_part (seeing x h) Whole)) → P p (pass_of t' m')
     by_seen {t'} P fact = subst (λ (q : Pass). P q (pass_of t' m')) view
@@ -120,8 +118,8 @@ module _ {t : TableId} {m : SeatState} {owned : ℕ} {p : Pass} (is : IsPass m o
     same_pass same = by_seen SamePass
         (ap (λ (u : TableId). record { table = u; passes = x.passes }) same, refl)
 
-  module _ {t' : TableId} {m' : SeatState} {owned' : ℕ} where
-    pub after_call : 0 < handles p → t' ≡ t → (c : Call) → owned' + losses c ≡ owned + gains c → Made x c m'
+  module _ {t' : TableId} {m' : SeatState} where
+    after_call : 0 < handles p → t' ≡ t → (c : Call) → {owned' : ℕ} → owned' + losses c ≡ owned + gains c → Made x c m'
         → AfterCall p c t' m' owned'
     after_call own same c count made =
         let sum = owned_by-call x.passes x.name c x.seen made.seen (owns own) made.call in
@@ -138,13 +136,23 @@ module _ {t : TableId} {m : SeatState} {owned : ℕ} {p : Pass} (is : IsPass m o
           pass = pass_seen made.seen made.sees (omega arith);
         }
 
-    pub after_clone : 0 < handles p → t' ≡ t → (r : TryClone) → owned' ≡ owned + born_count r → Replied x r m'
-        → AfterClone p r t' m' owned'
+    -- a mark or a question
+    pub after_ask : 0 < handles p → t' ≡ t → {c found : Call} → c ≡ found → losses c ≡ gains c → Made x found m'
+        → AfterCall p c t' m' owned
+    after_ask own same {c} is none made =
+        after_call own same c (omega arith) (subst (λ (k : Call). Made x k m') (sym is) made)
+
+    pub after_end : 0 < handles p → t' ≡ t → (r : EndReply) → Made x (End r) m' → AfterCall p (End r) t' m' (owned - 1)
+    after_end own same r made = let some = owns own in after_call own same (End r) (omega arith) made
+
+    pub after_clone : 0 < handles p → t' ≡ t → (r : TryClone) → {born : ℕ} → born ≡ born_count r → Replied x r m'
+        → AfterClone p r t' m' (owned + born)
     after_clone own same Overtaken count over =
         let sum = owned_by-others x.passes x.name x.seen over.0 over.1.others in
         let now = handles_seen over.0 over.2 in
         let before = ap handles view in
         record {
+          same = same_pass over.0 over.2 same;
           called = λ other. absurd (other refl);
           overtaken = λ _. by_seen over.0 over.2 (λ a b. WasOvertaken a b) (record {
             legal = over.2.legal;
@@ -154,19 +162,20 @@ module _ {t : TableId} {m : SeatState} {owned : ℕ} {p : Pass} (is : IsPass m o
           handles = omega arith;
           pass = pass_seen over.0 over.2 (omega arith);
         }
-    after_clone own same r count made =
-        let after = after_call own same (Clone r) (omega arith) made in
+    after_clone own same r {born} count made =
+        let after : AfterCall p (Clone r) t' m' (owned + born) = after_call own same (Clone r) (omega arith) made in
         let sum = after.handles in
         record {
+          same = after.same;
           called = λ _. after.called;
           overtaken = λ e. absurd (cc);
           handles = omega arith;
           pass = after.pass;
         }
 
-    pub after_meet : t' ≡ t → owned' ≡ owned → (h : List Event) → Follows x h → m' ≡ with_part (seeing x h) Whole
-        → AfterMeet p t' m' owned'
-    after_meet same count h follows seat =
+    pub after_meet : t' ≡ t → (h : List Event) → Follows x h → m' ≡ with_part (seeing x h) Whole
+        → AfterMeet p t' m' owned
+    after_meet same h follows seat =
         let sees : Sees x Whole h m' = record { seat = seat; legal = follows.legal } in
         let sum = owned_by-others x.passes x.name x.seen h follows.others in
         let now = handles_seen h sees in

@@ -12,7 +12,7 @@ use Rattle.shared_count.specs.Inside.Seats.{pass_at, state_at, CanCall, Replied}
 use Rattle.shared_count.proofs.Histories.{others-trans, overtaken, overtaken_after}
 use Rattle.shared_count.proofs.Calls.{looked_owns}
 
--- what a step told, by the plan that it led to
+-- what a step tells, where its plan is p
 pub judged_by : (x : Known) (p : ClonePlan) (found : ℕ) (m : SeatState) → p ≡ clone_plan found greatest_count
     → Judged x (clone_plan found greatest_count) found m → Judged x p found m
 judged_by x p found m is = subst (λ (z : ClonePlan). Judged x z found m) (sym is)

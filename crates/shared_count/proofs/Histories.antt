@@ -1,4 +1,4 @@
--- Facts about histories, and about the states that they leave.
+-- Histories, and the states after them.
 use Rattle.std.proofs.Common.{◌≡◌, ◌≢◌, ℕ, suc, ◌+◌, ◌<◌, ◌≤◌, Bool, true, false, ◌&&◌, not, nat_eq, eqb-true, ◌⊎◌, inl}
 use Rattle.std.proofs.Common.{inr, ⊎_elim, List, [], ◌∷◌, ◌++◌, length, sym, refl, ap, ◌∙◌, subst, arith, eq-eqb}
 use Rattle.std.proofs.Common.{ne_eqb, append_assoc, append-nil, if◌then◌else◌, count_by, IsTrue, ◌||◌}
@@ -24,7 +24,7 @@ by_name p x F same other =
 pub same_name : (p : ℕ) (F : Bool → Type 0) → F true → F (nat_eq p p)
 same_name p F x = by_name p p F (λ _. x) (λ n. absurd (n refl))
 
--- the names p in a list, one by one
+-- how often a name stands in a list
 abbrev pub one_if : Bool → ℕ
 one_if b = if b then 1 else 0
 
@@ -174,7 +174,7 @@ two_owners p q (x ∷ xs) n =
       G : Bool → Type 0
       G t = 0 + count_by (nat_eq p) xs + (one_if t + count_by (nat_eq q) xs) ≤ suc (length xs)
 
--- what a reply of an end tells
+-- what a reply says of its test
 last_if : (b : Bool) → Last ≡ end_reply b → b ≡ true
 last_if true e = refl
 last_if false e = absurd (cc)
@@ -237,7 +237,7 @@ overtaken n p a b k found g legal own was is other low =
       room = (is.0, few);
     }
 
--- others' calls before it change nothing of that
+-- calls of others before that change nothing
 pub overtaken_after : (n p : ℕ) (a b c : List Event) → OthersExtend p a b → OvertakersExtend n p b c
     → OvertakersExtend n p a c
 unfolding others-trans

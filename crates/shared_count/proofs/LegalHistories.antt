@@ -1,4 +1,4 @@
--- The laws of legal histories.
+-- The laws of legal histories, and what a pass that has seen the mark knows.
 use Rattle.std.proofs.Common.{◌≢◌, subst, true≢false, ◌≡◌, ℕ, suc, ◌+◌, ◌<◌, ◌≤◌, Bool, true, false, ◌&&◌, ◌||◌, not}
 use Rattle.std.proofs.Common.{nat_eq, nat_lt, eqb-true, List, [], ◌∷◌, ◌++◌, length, sym, refl, ap, ◌∙◌, arith, eq-eqb}
 use Rattle.std.proofs.Common.{ne_eqb, if◌then◌else◌, count_by, sum_by}
@@ -168,7 +168,7 @@ nothing_follows s (e ∷ es) none legal =
     let most = count_by-le-length (nat_eq e.caller) s.owners in
     absurd (omega arith)
 
--- how often Last is told, from the state s on
+-- from the state s on, `Last` is reported once if the count is then empty and unmarked, else never
 abbrev ToldOnce : CountState → List Event → Type 0
 ToldOnce s h = count_calls is_last h ≡ one_if (has_exactly 0 (state_after s h))
 

@@ -19,7 +19,7 @@ use Rattle.shared_count.proofs.Sums.{halves_in-some, drops_in, drops-one}
 abbrev pub Table : Type 0
 Table = State (Unit {0}) (List Share)
 
--- a step on the word, after which it is f of what it was, is allowed to each pass that owns a handle
+-- the rule allows a step that makes the word f of what it was to each pass that owns a handle
 pub record May (n slots id : ℕ) (part : Part) (f : ℕ → ℕ) (says : SeatState → ℕ → SeatState → Type 0) : Type 0 where
   pub allows : (x : Known) → 0 < owned_by n x.name x.seen
       → Allows (Keeps n) slots id (with_part x part) 0 f (says (with_part x part))
@@ -28,7 +28,7 @@ pub record May (n slots id : ℕ) (part : Part) (f : ℕ → ℕ) (says : SeatSt
 pub one_share : (P : Share → Type 0) (s : Share) → P s → All P (s ∷ [])
 one_share P s p = All-cons P s [] p (All-nil P)
 
--- calls of others leave these what they know
+-- shares still know a beginning of the log after calls of others
 pub know_more : (n : ℕ) (log d : List Event) (v : List Share) → All (Knows n log) v
     → ((p : ℕ) → 0 < halves p v → calls_of p d ≡ []) → All (Knows n (log ++ d)) v
 know_more n log d [] k out = All-nil (Knows n (log ++ d))
@@ -78,7 +78,7 @@ module _ (n : ℕ) (s : Table) (k : Keeps n s) (id : ℕ) (v v' : List Share) (d
         (know_more n k.log d u (k.seats j u there) (λ p pos. out p (
         let two = sum-two (halves p) s.views id j u v [] refl ne at there in let most = k.apart p in omega arith)))
 
--- A step by the seat of this part of the pass x, after which the word is w
+-- a step by the seat of this part of the pass x, which makes the word w
 module _ (n : ℕ) (s : Table) (k : Keeps n s) (id : ℕ) (x : Known) (part : Part) (w : ℕ)
     (at : get_elem? s.views id ≡ some (share x part ∷ [])) where
   pub know : Knows n k.log (share x part)

@@ -1,4 +1,4 @@
--- Each kind of step keeps the rule, and tells what it says.
+-- Each step keeps the rule, and what it tells is true.
 use Rattle.std.proofs.Common.{◌≡◌, ◌≢◌, ℕ, suc, ◌+◌, ◌-◌, ◌%◌, ◌^◌, ◌<◌, ◌≤◌, Bool, true, false, nat_eq, List, [], ◌∷◌}
 use Rattle.std.proofs.Common.{length, get_or, set, sym, refl, ap, ◌∙◌, subst, arith, if◌then◌else◌, sum_by}
 use Rattle.std.specs.Prelude.{bit_or}
@@ -80,7 +80,7 @@ module _ (n : ℕ) (s : Table) (k : Keeps n s) (id : ℕ) (x : Known) where
           },
         )
 
-    -- a clone is judged by the word as it is
+    -- the load of a clone
     judged : Goes Word (λ m. Judged x (clone_plan Word greatest_count) Word m)
     judged = by_plan (clone_plan Word greatest_count)
         (clone_plan-says Word greatest_count (clone_plan Word greatest_count) refl) where
@@ -110,7 +110,7 @@ module _ (n : ℕ) (s : Table) (k : Keeps n s) (id : ℕ) (x : Known) where
         in_drop in_drop Now.mark unmarked (below_limit Word greatest_count (within_greatest Word) unmarked room)
         (omega arith) k.word)
 
-    -- an end is begun, by the word as it is
+    -- the load of an end
     begun : Goes Word (λ m. Begun x (drop_plan Word) m)
     begun = by_plan (drop_plan Word) (drop_plan-says Word (drop_plan Word) refl) where
       by_plan : (p : DropPlan) → DropPlanSays Word p → Goes Word (Begun x p)

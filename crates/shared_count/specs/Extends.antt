@@ -1,10 +1,10 @@
--- How the history that a pass has seen goes on.
+-- How the history that a pass has seen grows.
 use Rattle.std.specs.Prelude.{◌≡◌, ℕ, ◌<◌, Bool, true, false, List, [], ◌∷◌, ◌++◌, length, IsTrue}
 use Rattle.std.specs.List.{list_any}
 use Rattle.counting_word.specs.CountingWord.{greatest_count}
 use Rattle.shared_count.specs.History.{Born, Ended, Call, Clone, End, Event, CountState, left_by, calls_of}
 
--- the new history begins with the old one, and adds calls of others than p alone
+-- the new history is the old one and then calls of others than p
 pub record OthersExtend (p : ℕ) (old new : List Event) : Type 0 where
   pub added : List Event
   pub begins : new ≡ old ++ added
@@ -13,7 +13,7 @@ pub record OthersExtend (p : ℕ) (old new : List Event) : Type 0 where
 abbrev pub event : ℕ → Call → Event
 event p c = record { caller = p; call = c }
 
--- the new history begins with the old one, ends with this call of p, and adds no other call of p
+-- the new history is the old one, then calls of others than p, then this call of p
 pub record CallExtends (p : ℕ) (c : Call) (old new : List Event) : Type 0 where
   pub before : List Event
   pub others : OthersExtend p old before
@@ -32,7 +32,7 @@ has_born_or_ended events = list_any (λ e. is_born_or_ended e.call) events
 abbrev pub HasRoom : CountState → Type 0
 HasRoom s = (s.mark ≡ false) × (length s.owners < greatest_count)
 
--- the new history adds calls of others than p alone, which changed the number of handles, and leaves room for a clone
+-- the new history adds calls of others than p, some of which changed the number of handles, and leaves room for a clone
 pub record OvertakersExtend (n p : ℕ) (old new : List Event) : Type 0 where
   pub others : OthersExtend p old new
   pub changed : IsTrue (has_born_or_ended others.added)

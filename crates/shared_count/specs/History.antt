@@ -36,14 +36,14 @@ next s p (End reply) = record { owners = without p s.owners; mark = s.mark }
 next s p Mark = record { owners = s.owners; mark = true }
 next s p _ = s
 
--- whether the count is unmarked and has just so many handles
+-- whether the count is unmarked and has exactly n handles
 abbrev pub has_exactly : ℕ → CountState → Bool
 has_exactly n s = not s.mark && nat_eq (length s.owners) n
 
 abbrev pub end_reply : Bool → EndReply
 end_reply none_left = if none_left then Last else Ended
 
--- the reply is the one that a call of p gets in the state s
+-- the reply is the right one to a call of p in the state s
 abbrev pub IsReply : CountState → ℕ → Call → Type 0
 IsReply s p (Clone reply) = reply ≡ (if has_exactly greatest_count s then Full else Born)
 IsReply s p (End reply) = reply ≡ end_reply (has_exactly 0 (next s p (End reply)))
@@ -65,7 +65,7 @@ abbrev pub state_after : CountState → List Event → CountState
 state_after s [] = s
 state_after s (e ∷ es) = state_after (next s e.caller e.call) es
 
--- the state that a history leaves of a count that was opened with n passes
+-- the state after a history of a count that was opened with n passes
 abbrev pub left_by : ℕ → List Event → CountState
 left_by n h = state_after (opening n) h
 

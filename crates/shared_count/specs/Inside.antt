@@ -1,4 +1,4 @@
--- What the crate keeps to itself: what seats know, the rule of the word, and what each step tells.
+-- What only this crate speaks of: what a seat knows, the rule of the word, and what each step tells its seat.
 pub mod Rule
 pub mod Seats
 pub mod Shares

@@ -1,4 +1,4 @@
--- What a count and a pass mean, and what a call of a pass leaves.
+-- What a count and a pass are to a contract, and what a call changes in its pass.
 use Rattle.std.specs.Prelude.{◌≡◌, ℕ, true, List, [], ◌∷◌, ◌++◌}
 use Rattle.atomic_table.specs.Seated.{TableId}
 use Rattle.shared_count.specs.History.{TryClone, Born, Call, Event, IsLegal, left_by, owned_by, calls_of}
@@ -36,7 +36,7 @@ born_count _ = 0
 abbrev pub own_calls : Pass → List Event
 own_calls p = calls_of p.name p.seen
 
--- The last field of each of the three follows from the one before it, and spares callers that step.
+-- In each of the three the last field follows from the one before it. It spares callers the proof.
 
 -- the pass made this call, and saw calls of others before it
 pub record Called (old : Pass) (c : Call) (new : Pass) : Type 0 where

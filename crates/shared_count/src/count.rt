@@ -21,7 +21,7 @@ use std::marker::Model;
 
 /// A count of handles in one word, which its passes change by single atomic steps.
 ///
-/// Each call asks that the pass is of this count, and all but `meet` that it owns a handle.
+/// Each call requires a pass of this count, and all but `meet` require that the pass owns a handle.
 ///
 /// To a contract a count is which one it is, and how many `passes` it was opened with.
 #[derive(Drop)]
@@ -63,8 +63,8 @@ impl SharedCount {
 
     /// One more handle for the pass: a load, and at most one compare-exchange.
     ///
-    /// It never tries again. If another pass changed the count in between, the exchange may lose; it then answers
-    /// `Overtaken`, unless it finds the count marked or full.
+    /// It never retries. If another pass changes the count in between, the exchange fails, and the reply is `Overtaken`
+    /// unless the count is then marked or full.
     pub fn try_clone(&self, pass: &mut CountPass) -> TryClone
         requires count { pass.old.count ≡ self.now }
         requires owns { 0 < handles pass.old }
@@ -129,7 +129,7 @@ impl SharedCount {
 
     /// Lets both passes see one history, in which all calls of both stand. They need not own a handle.
     ///
-    /// It is five loads, of which one is a look at the count.
+    /// It costs five loads.
     pub fn meet(&self, first: &mut CountPass, second: &mut CountPass)
         requires first { first.old.count ≡ self.now }
         requires second { second.old.count ≡ self.now }
@@ -138,7 +138,7 @@ impl SharedCount {
         ensures second_pass { (second.new.count ≡ second.old.count)
             × (second.new.name ≡ second.old.name) }
 
-        // Each has seen the same, and made no call.
+        // Both have seen the same history, and neither made a call.
         ensures first_seen { HasSeenMore first.old first.new }
         ensures second_seen { HasSeenMore second.old second.new }
         ensures together { first.new.seen ≡ second.new.seen }
@@ -146,6 +146,7 @@ impl SharedCount {
         ensures first_owned { handles first.new ≡ handles first.old }
         ensures second_owned { handles second.new ≡ handles second.old }
     {
+        // The second pass writes a note, the first reads the count with it, and the second takes it back.
         let shared = &self.table.shared;
         let note = shared.split_seat::<WriteNote>(&mut second.seat);
         shared.join_seat::<TakeNote>(&mut first.seat, note);

@@ -1,4 +1,4 @@
-//! What holds of every legal history. These functions do nothing; a call of one gives its law to a proof.
+//! The laws of legal histories. These functions do nothing: a call of one gives its law to a proof.
 ghost use Rattle.shared_count.specs.HistoryLaws.{BeginningsAreLegal, HandlesAreOwned, CallsAreOfPasses};
 ghost use Rattle.shared_count.specs.HistoryLaws.{MarkedExactlyIfCalled, LastIsToldOnce, OneEndIsLast};
 
@@ -14,25 +14,25 @@ pub fn handles_are_owned()
     ensures { HandlesAreOwned }
 {}
 
-/// Each call is one of these passes'.
+/// Each call is one of those passes'.
 #[tactic(auto, using(crate::proofs::LegalHistories::calls_are_of_passes))]
 pub fn calls_are_of_passes()
     ensures { CallsAreOfPasses }
 {}
 
-/// A count is marked exactly if one of them marked it.
+/// A count is marked exactly if one of its passes marked it.
 #[tactic(auto, using(crate::proofs::LegalHistories::marked_if_called))]
 pub fn marked_exactly_if_called()
     ensures { MarkedExactlyIfCalled }
 {}
 
-/// `Last` is told once if an unmarked count is left with no handle, and else never.
+/// `Last` is reported once if the history leaves an unmarked count with no handle, and else never.
 #[tactic(auto, using(crate::proofs::LegalHistories::last_is_told_once))]
 pub fn last_is_told_once()
     ensures { LastIsToldOnce }
 {}
 
-/// If no pass owns a handle any more, and none marked the count, exactly one of their ends was the last.
+/// If no pass owns a handle any more, and none marked the count, exactly one end was the last.
 #[tactic(auto, using(crate::proofs::LegalHistories::one_end_is_last))]
 pub fn one_end_is_last()
     ensures { OneEndIsLast }

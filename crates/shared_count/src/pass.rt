@@ -31,8 +31,7 @@ impl Model for CountPass {
 }
 
 impl CountPass {
-    /// How many handles the pass owns, without a look at the word. It tells a proof at any time that the history which
-    /// the pass has seen is legal.
+    /// How many handles the pass owns. It does not read the word. A call shows that the history seen is legal.
     pub fn owned(&self) -> u64
         ensures handles { result ≡ handles self.now }
         ensures legal { IsLegal self.now.count.passes self.now.seen }

@@ -14,7 +14,7 @@ pub enum TryClone {
     Born,
     /// The count is unmarked and has `MAX_REFCOUNT` handles. Nothing was changed.
     Full,
-    /// Another pass changed the count between the read and the raise. Nothing was changed.
+    /// Another pass changed the count between the load and the raise. Nothing was changed.
     Overtaken,
 }
 
@@ -41,7 +41,7 @@ impl TryClone {
 }
 
 impl EndReply {
-    /// The reply to an end whose lower found this word.
+    /// The reply to an end whose subtraction found this word.
     pub(crate) fn of_lower(found: u64) -> EndReply
         ensures { result ≡ end_reply (is_one_handle found) }
     {

@@ -8,19 +8,18 @@ use Rattle.shared_count.specs.History.{Event, CountState, IsLegal, left_by, owne
 use Rattle.shared_count.specs.Inside.Shares.{InDrop, Share, halves, drops}
 use Rattle.shared_count.specs.Extends.{OthersExtend}
 
--- What a share knows is the beginning of the log up to some point, from which on its pass made no call. A pass in a
--- drop owns a handle.
+-- A share knows a beginning of the log, after which its pass made no call. A pass in a drop owns a handle.
 pub record Knows (n : ℕ) (log : List Event) (s : Share) : Type 0 where
   pub opened : s.known.passes ≡ n
   pub begins : OthersExtend s.known.name s.known.seen log
   pub owns : s.part ≡ InDrop → 0 < owned_by n s.known.name log
 
--- the word stands for this state, with so many drops in flight
+-- the word stands for the state s with this number of drops in flight
 abbrev pub Means : ℕ → CountState → ℕ → Type 0
 Means word s in_drop = StandsFor word s.mark (length s.owners) in_drop
 
--- The rule of a count that was opened with n passes: its word stands for the state that a legal log leaves and for the
--- drops in flight, each seat knows a beginning of that log, and no pass has more than its two halves.
+-- The rule of a count that was opened with n passes. There is one legal log of all calls. The word stands for the state
+-- after it and for the drops in flight, each seat knows a beginning of it, and no pass has more than two halves.
 pub record Keeps (n : ℕ) (s : State (Unit {0}) (List Share)) : Type 0 where
   pub log : List Event
   pub legal : IsLegal n log

@@ -1,4 +1,4 @@
--- What each kind of step on the word tells the seat that makes it.
+-- What each step on the word tells the seat that makes it.
 use Rattle.std.specs.Prelude.{◌≡◌, ◌≢◌, ℕ, ◌<◌, false, List, [], ◌∷◌, length}
 use Rattle.atomic_table.specs.Table.{Me, Step}
 use Rattle.counting_word.specs.CountingWord.{greatest_count, is_marked_word, is_one_handle}
@@ -12,7 +12,7 @@ use Rattle.shared_count.specs.History.{end_reply, IsLegal, left_by}
 use Rattle.shared_count.specs.Inside.Shares.{Known, Part, Half, Whole, InDrop, Share, share, seeing}
 use Rattle.shared_count.specs.Extends.{OthersExtend, CallExtends}
 
--- a seat's view, and the slots that it holds, of which this table has none
+-- a seat's view, and the slots that it holds, which are none here
 abbrev pub SeatState : Type 0
 SeatState = Me (Unit {0}) (List Share)
 
@@ -23,7 +23,7 @@ with_shares shares = (shares, [])
 abbrev pub with_part : Known → Part → SeatState
 with_part x part = with_shares (share x part ∷ [])
 
--- the pass x has now seen the legal history h
+-- the seat of the pass x once it has seen the legal history h
 pub record Sees (x : Known) (part : Part) (h : List Event) (m : SeatState) : Type 0 where
   pub seat : m ≡ with_part (seeing x h) part
   pub legal : IsLegal x.passes h
@@ -34,34 +34,34 @@ pub record Made (x : Known) (c : Call) (m : SeatState) : Type 0 where
   pub call : CallExtends x.name c x.seen seen
   pub sees : Sees x Whole seen m
 
--- the pass x looked at the history so far
+-- the pass x has seen later calls of others, and made none
 pub record Looked (x : Known) (part : Part) (m : SeatState) : Type 0 where
   pub seen : List Event
   pub others : OthersExtend x.name x.seen seen
   pub sees : Sees x part seen m
 
--- unmarked, with so many handles
+-- unmarked, with n handles
 abbrev pub Counts : ℕ → CountState → Type 0
 Counts n s = (s.mark ≡ false) × (length s.owners ≡ n)
 
--- the pass x looked at a history that leaves the count unmarked with so many handles, and room for a clone
+-- the pass x has seen a history that leaves the count unmarked with this number of handles, below the limit
 pub record Counted (x : Known) (found : ℕ) (m : SeatState) : Type 0 where
   pub looked : Looked x Whole m
   pub counts : Counts found (left_by x.passes looked.seen)
   pub room : found < greatest_count
 
--- a clone of the pass x is judged by its plan for the word that was found
+-- the seat of the pass x after the load of a clone, by the plan for the word that was found
 abbrev pub Judged : Known → ClonePlan → ℕ → SeatState → Type 0
 Judged x plan.Static found m = Made x (Clone Born) m
 Judged x plan.Full found m = Made x (Clone Full) m
 Judged x (plan.Raise _) found m = Counted x found m
 
--- and an end by its plan
+-- the seat of the pass x after the load of an end, by its plan
 abbrev pub Begun : Known → DropPlan → SeatState → Type 0
 Begun x drop_as.Static m = Made x (End Ended) m
 Begun x drop_as.Lower m = Looked x InDrop m
 
--- A step tells the pass x, of which the seat had this part, so much of the number that it found and of the seat after
+-- If the seat had this part of the pass x before the step, then `says` holds of x, the number found and the seat after.
 abbrev pub Tells : Part → (Known → ℕ → SeatState → Type 0) → SeatState → ℕ → SeatState → Type 0
 Tells part says m found m' = (x : Known) → m ≡ with_part x part → says x found m'
 
@@ -77,7 +77,7 @@ TellsMark st = Tells Whole (λ x found. Made x Mark)
 abbrev pub TellsClone : Step (Unit {0}) → SeatState → ℕ → SeatState → Type 0
 TellsClone st = Tells Whole (λ x found. Judged x (clone_plan found greatest_count) found)
 
--- a raise wins if it finds the word that it expects, and else is judged by the word that it found
+-- a compare-exchange that finds another word than the expected one tells what a load of that word would
 abbrev pub TellsRaise : Step (Unit {0}) → SeatState → ℕ → SeatState → Type 0
 TellsRaise st = Tells Whole (λ x found m.
     (found ≡ st.first → Made x (Clone Born) m)
@@ -93,12 +93,12 @@ TellsLower st = Tells InDrop (λ x found. Made x (End (end_reply (is_one_handle 
 abbrev pub with_both : Known → Known → SeatState
 with_both x y = with_shares (share y Half ∷ share x Whole ∷ [])
 
--- the pass x goes on to the legal history h, and makes no call in it
+-- the legal history h is what x has seen and then calls of others
 pub record Follows (x : Known) (h : List Event) : Type 0 where
   pub others : OthersExtend x.name x.seen h
   pub legal : IsLegal x.passes h
 
--- the passes x and y have gone on to one history
+-- two passes have seen one history
 pub record BothSaw (x y : Known) (m : SeatState) : Type 0 where
   pub seen : List Event
   pub first : Follows x seen

@@ -3,7 +3,7 @@ use Rattle.std.proofs.Common.{◌≡◌, ℕ, ◌<◌, arith, List, [], ◌∷�
 use Rattle.std.proofs.Common.{subst, replicate}
 use Rattle.counting_word.specs.CountingWord.{IsLimit}
 use Rattle.scripts.proofs.CoreShowing.{core_stopped}
-use Rattle.tables.specs.PlainTable.{Slots}
+use Rattle.tables.specs.TableModel.{Slots}
 use Rattle.script_text.specs.Fault.{Outcome, PrintsUpTo}
 use Rattle.script_text.specs.Line.{SaysNothing}
 use Rattle.script_text.specs.Written.{Wrote}

@@ -1,6 +1,6 @@
 -- What the lines of a table's script are answered.
 use Rattle.std.specs.Prelude.{◌≡◌, ℕ, ◌==◌, true, false, List, Option, Some, None, slice_get, codes}
-use Rattle.tables.specs.PlainTable.{Slots, outcomes_of}
+use Rattle.tables.specs.TableModel.{Slots, outcomes_of}
 use Rattle.tables.specs.declared.commands.Reply.{Reply}
 use Rattle.tables.specs.declared.commands.Reply.TheVariants.{Done, Is, Shared, Empty, NoSlot, Refused}
 use Rattle.tables.specs.Runs.{IsAmong}

@@ -1,6 +1,6 @@
 -- What a script of a table comes to.
 use Rattle.std.specs.Prelude.{◌≡◌, ℕ, List, Option, None, replicate}
-use Rattle.tables.specs.PlainTable.{Slots}
+use Rattle.tables.specs.TableModel.{Slots}
 use Rattle.script_text.specs.Fault.{Outcome, PrintsUpTo}
 use Rattle.script_text.specs.Line.{Says, SaysNothing}
 use Rattle.script_text.specs.Script.{answer_text}

@@ -20,14 +20,14 @@ pub use Rattle.handles.specs.UnionHandles
 pub use Rattle.handles.specs.Unions
 pub use Rattle.handles.specs.WriteBack
 pub use Rattle.handles.specs.declared.header_slice.build.BuildError
-pub use Rattle.tables.specs.PlainTable
+pub use Rattle.tables.specs.TableModel
 pub use Rattle.tables.specs.Runs
 pub use Rattle.tables.specs.TableLaws
 pub use Rattle.tables.specs.declared.commands.Command
 pub use Rattle.tables.specs.declared.commands.PlainCommand
 pub use Rattle.tables.specs.declared.commands.Reply
-pub use Rattle.tables.specs.PlainUnionTable
-pub use Rattle.tables.specs.declared.union_commands.UnionCommand
+pub use Rattle.tables.specs.UnionTableModel
+pub use Rattle.tables.specs.declared.commands.UnionCommand
 pub use Rattle.shared_count.specs.History
 pub use Rattle.shared_count.specs.Extends
 pub use Rattle.shared_count.specs.Passes

@@ -1,16 +1,18 @@
 -- What a command may change: nothing, or the one slot that it writes.
-use Rattle.std.proofs.Common.{◌≡◌, ◌≢◌, ◌⊎◌, inl, inr, ⊎_elim, ℕ, zero, suc, Bool, true, false}
-use Rattle.std.proofs.Common.{List, [], ◌∷◌, Option, Some, None, length, slice_get, slice_set, refl, ◌∙◌}
-use Rattle.std.proofs.Common.{ap}
+use Rattle.std.proofs.Common.{◌≡◌, ◌≢◌, ◌⊎◌, inl, inr, ℕ, zero, suc, Bool, List, [], ◌∷◌, Option, Some, None}
+use Rattle.std.proofs.Common.{length, slice_get, slice_set, refl, ◌∙◌, ap}
 use Rattle.std.proofs.lemmas.List.{length-set}
+use Rattle.handles.specs.Unions.{Union, First, Second}
 use Rattle.tables.specs.declared.commands.Command.TheVariants.{New, Clone, Drop, GetMut, IntoUnique, MakeMut}
 use Rattle.tables.specs.declared.commands.Command.TheVariants.{Own, Mark, Raw, PtrEq, Same}
 use Rattle.tables.specs.declared.commands.Reply.{Reply}
-use Rattle.tables.specs.declared.commands.Reply.TheVariants.{Done, Is, Shared, Empty, NoSlot, Refused}
-use Rattle.tables.specs.PlainTable.{Slots, Outcome, Meaning, stays, sets, empties, if_there, if_filled, at}
-use Rattle.tables.specs.PlainTable.{reading, command_of, outcomes_of, plain_outcomes_of}
+use Rattle.tables.specs.declared.commands.Reply.TheVariants.{Done}
+use Rattle.tables.specs.declared.commands.UnionCommand.TheVariants as union
 use Rattle.tables.specs.Runs.{IsAmong}
 use Rattle.tables.specs.TableLaws.{written, plain_written, NumberOfSlotsStays, OtherSlotsStay, OnlyDoneChanges}
+use Rattle.tables.specs.TableModel.{Slots, Outcome, Meaning, if_there, if_filled, at, reading, reading_both}
+use Rattle.tables.specs.TableModel.{command_of, outcomes_of, plain_outcomes_of}
+use Rattle.tables.specs.UnionTableModel.{of_one_block, union_outcomes_of, union_written}
 
 module _ {V : Type 0} where
   get-set_other : (slots : Slots V) (i k : ℕ) (slot : Option V) → i ≢ k → slice_get (slice_set slots i slot)
@@ -21,126 +23,138 @@ module _ {V : Type 0} where
   get-set_other (x ∷ xs) (suc i) zero slot other = refl
   get-set_other (x ∷ xs) (suc i) (suc k) slot other = get-set_other xs i k slot (λ e. other (ap suc e))
 
-  -- the slots stay, or the written one is set
-  pub record Sets (old : Slots V) (target : Option ℕ) (reply : Reply) (new : Slots V) : Type 0 where
-    slot : ℕ
-    is_target : target ≡ Some slot
-    is_done : reply ≡ Done
-    value : Option V
-    is_set : new ≡ slice_set old slot value
+  -- the slots stay, or the target is set and the reply is `Done`
+  abbrev pub IsChange : Slots V → Option ℕ → Reply → Slots V → Type 0
+  IsChange old target reply new =
+      (new ≡ old) ⊎ ((i : ℕ) × (slot : Option V) × (target ≡ Some i) × (reply ≡ Done) × (new ≡ slice_set old i slot))
 
-  pub record Changes (old : Slots V) (target : Option ℕ) (outcomes : List (Outcome V)) : Type 0 where
-    by : (reply : Reply) (new : Slots V) → IsAmong outcomes reply new → (new ≡ old) ⊎ Sets old target reply new
+  abbrev pub AreChanges : Slots V → Option ℕ → List (Outcome V) → Type 0
+  AreChanges old target [] = Unit {0}
+  AreChanges old target (outcome ∷ outcomes) =
+      IsChange old target outcome.0 outcome.1 × AreChanges old target outcomes
 
-  pub stay : (old : Slots V) (target : Option ℕ) (reply : Reply) → Changes old target (stays old reply ∷ [])
-  stay old target r = record { by = λ reply new. ⊎_elim (λ is. inl is.1) (λ never. absurd never) }
+  change_of : (old : Slots V) (target : Option ℕ) (outcomes : List (Outcome V)) (reply : Reply) (new : Slots V)
+      → AreChanges old target outcomes → IsAmong outcomes reply new → IsChange old target reply new
+  change_of old target [] reply new changes among = absurd among
+  change_of old target (outcome ∷ outcomes) reply new changes (inl is) = rw is.0 (rw is.1 changes.0)
+  change_of old target (outcome ∷ outcomes) reply new changes (inr among) =
+      change_of old target outcomes reply new changes.1 among
 
-  pub two_stay : (old : Slots V) (target : Option ℕ) (reply other : Reply)
-      → Changes old target (stays old reply ∷ stays old other ∷ [])
-  two_stay old target r s = record { by = λ reply new. ⊎_elim (λ is. inl is.1) ((stay old target s).by reply new) }
+  set : (old : Slots V) (i : ℕ) (slot : Option V) → IsChange old (Some i) Done (slice_set old i slot)
+  set old i slot = inr (i, slot, refl, refl, refl)
 
-  set : (old : Slots V) (i : ℕ) (slot : Option V) (reply : Reply) (new : Slots V) → (reply ≡ Done)
-      × (new ≡ slice_set old i slot) → Sets old (Some i) reply new
-  set old i slot reply new is = record { slot = i; is_target = refl; is_done = is.0; value = slot; is_set = is.1 }
+  set_or : (old : Slots V) (i : ℕ) (v : V) (refused : Reply)
+      → AreChanges old (Some i) ((Done, slice_set old i (Some v)) ∷ (refused, old) ∷ [])
+  set_or old i v refused = (set old i (Some v), (inl refl, tt))
 
-  pub empty : (old : Slots V) (i : ℕ) → Changes old (Some i) (empties old i ∷ [])
-  empty old i = record {
-    by = λ reply new. ⊎_elim (λ is. inr (set old i None reply new is))
-        (λ never. absurd never);
-  }
+  two_stay : (old : Slots V) (target : Option ℕ) (reply other : Reply)
+      → AreChanges old target ((reply, old) ∷ (other, old) ∷ [])
+  two_stay old target reply other = (inl refl, (inl refl, tt))
 
-  pub set_or : (old : Slots V) (i : ℕ) (value : V) (refused : Reply) → Changes old (Some i)
-      (sets old i value ∷ stays old refused ∷ [])
-  set_or old i value r = record {
-    by = λ reply new. ⊎_elim (λ is. inr (set old i (Some value) reply new is))
-        ((stay old (Some i) r).by reply new);
-  }
+  there : (old : Slots V) (target : Option ℕ) (i : ℕ) (outcomes : List (Outcome V))
+      → AreChanges old target outcomes → AreChanges old target (at old i outcomes)
+  there old target i outcomes rest =
+      elim (slice_get old i) as (λ found. AreChanges old target (if_there old found outcomes))
+      [ None ↦ (inl refl, tt) | Some slot ↦ rest ]
 
-  there : (old : Slots V) (target : Option ℕ) (outcomes : List (Outcome V))
-      → Changes old target outcomes → (found : Option (Option V))
-      → Changes old target (if_there old found outcomes)
-  there old target outcomes rest None = stay old target NoSlot
-  there old target outcomes rest (Some slot) = rest
+  reads : (old : Slots V) (target : Option ℕ) (i : ℕ) (outcomes : V → List (Outcome V))
+      → ((v : V) → AreChanges old target (outcomes v)) → AreChanges old target (reading old i outcomes)
+  reads old target i outcomes rest =
+      elim (slice_get old i) as (λ found. AreChanges old target (if_filled old found outcomes))
+      [ None ↦ (inl refl, tt) | Some None ↦ (inl refl, tt) | Some (Some v) ↦ rest v ]
 
-  filled : (old : Slots V) (target : Option ℕ) (outcomes : V → List (Outcome V)) → ((v : V)
-      → Changes old target (outcomes v)) → (found : Option (Option V))
-      → Changes old target (if_filled old found outcomes)
-  filled old target outcomes rest None = stay old target NoSlot
-  filled old target outcomes rest (Some None) = stay old target Empty
-  filled old target outcomes rest (Some (Some v)) = rest v
-
-  pub at_slot : (old : Slots V) (target : Option ℕ) (i : ℕ)
-      {outcomes : List (Outcome V)} → Changes old target outcomes → Changes old target (at old i outcomes)
-  at_slot old target i {outcomes} rest = there old target outcomes rest (slice_get old i)
-
-  pub reads : (old : Slots V) (target : Option ℕ) (i : ℕ) {outcomes : V → List (Outcome V)} → ((v : V)
-      → Changes old target (outcomes v)) → Changes old target (reading old i outcomes)
-  reads old target i {outcomes} rest = filled old target outcomes rest (slice_get old i)
+  reads_both : (old : Slots V) (target : Option ℕ) (i j : ℕ) (outcomes : V → V → List (Outcome V))
+      → ((v w : V) → AreChanges old target (outcomes v w)) → AreChanges old target (reading_both old i j outcomes)
+  reads_both old target i j outcomes rest =
+      there old target j _ (reads old target i _ (λ v. reads old target j (outcomes v) (rest v)))
 
   -- every command changes what it writes, and no more
   abbrev pub AllChange : {C : Type 0} → (C → Meaning V) → (C → Option ℕ) → Type 0
-  AllChange {C} meaning written_by = (command : C) (old : Slots V) → Changes old (written_by command)
-      (meaning command old)
+  AllChange {C} meaning written_by =
+      (command : C) (old : Slots V) → AreChanges old (written_by command) (meaning command old)
 
   module _ {C : Type 0} (meaning : C → Meaning V) (written_by : C → Option ℕ)
       (all : AllChange meaning written_by) where
-    length-one : (old new : Slots V) (target : Option ℕ) (reply : Reply) → (new ≡ old)
-        ⊎ Sets old target reply new → length new ≡ length old
-    length-one old new target reply (inl same) = ap length same
-    length-one old new target reply (inr sets) = ap length sets.is_set ∙ length-set old sets.slot sets.value
+    change : (command : C) (old : Slots V) (reply : Reply) (new : Slots V)
+        → IsAmong (meaning command old) reply new → IsChange old (written_by command) reply new
+    change command old reply new = change_of old (written_by command) (meaning command old) reply new (all command old)
 
     pub number_stays : NumberOfSlotsStays meaning
     number_stays [] old new [] run = ap length run
     number_stays (c ∷ cs) old new (r ∷ rs) run =
-        number_stays cs run.0 new rs run.2 ∙ length-one old run.0 (written_by c) r ((all c old).by r run.0 run.1)
+        number_stays cs run.0 new rs run.2 ∙ elim (change c old r run.0 run.1)
+        [ inl same ↦ ap length same | inr sets ↦ ap length sets.4 ∙ length-set old sets.0 sets.1 ]
     number_stays [] old new (r ∷ rs) run = absurd run
     number_stays (c ∷ cs) old new [] run = absurd run
 
     pub others_stay : OtherSlotsStay meaning written_by
-    others_stay command old new reply i among other = among_one ((all command old).by reply new among) where
-      among_one : (new ≡ old) ⊎ Sets old (written_by command) reply new → slice_get new i ≡ slice_get old i
-      among_one (inl same) = ap (λ slots. slice_get slots i) same
-      among_one (inr sets) = ap (λ slots. slice_get slots i) sets.is_set
-          ∙ get-set_other old sets.slot i sets.value (λ e. other (sets.is_target ∙ ap Some e))
+    others_stay command old new reply i among other = elim (change command old reply new among) [
+      | inl same ↦ ap (λ slots. slice_get slots i) same
+      | inr sets ↦ ap (λ slots. slice_get slots i) sets.4
+          ∙ get-set_other old sets.0 i sets.1 (λ e. other (sets.2 ∙ ap Some e))
+    ]
 
     pub only_done : OnlyDoneChanges meaning
-    only_done command old new reply among undone = among_one ((all command old).by reply new among) where
-      among_one : (new ≡ old) ⊎ Sets old (written_by command) reply new → new ≡ old
-      among_one (inl same) = same
-      among_one (inr sets) = absurd (undone sets.is_done)
+    only_done command old new reply among undone =
+        elim (change command old reply new among) [ inl same ↦ same | inr sets ↦ absurd (undone sets.3) ]
 
-  command_changes : (equal : V → V → Bool) → AllChange (outcomes_of equal) written
-  command_changes equal (New i v) old = at_slot old _ i (set_or old i v Refused)
-  command_changes equal (Clone i j) old = at_slot old _ j (reads old _ i (λ v. set_or old j v Refused))
-  command_changes equal (Drop i) old = reads old _ i (λ _. empty old i)
-  command_changes equal (GetMut i w) old = reads old _ i (λ _. set_or old i w Shared)
-  command_changes equal (IntoUnique i w) old = reads old _ i (λ _. set_or old i w Shared)
-  command_changes equal (MakeMut i w) old = reads old _ i (λ _. set_or old i w Refused)
-  command_changes equal (Own i) old = reads old _ i (λ _. two_stay old _ Done Refused)
-  command_changes equal (Mark i) old = reads old _ i (λ _. stay old _ Done)
-  command_changes equal (Raw i) old = reads old _ i (λ _. stay old _ Done)
-  command_changes equal (PtrEq i j)
-      old = at_slot old _ j (reads old _ i (λ _. reads old _ j (λ _. two_stay old _ (Is true) (Is false))))
-  command_changes equal (Same i j)
-      old = at_slot old _ j (reads old _ i (λ v. reads old _ j (λ w. stay old _ (Is (equal v w)))))
+module _ {V : Type 0} (equal : V → V → Bool) where
+  command_changes : AllChange (outcomes_of equal) written
+  command_changes (New i v) old = there old _ i _ (set_or old i v _)
+  command_changes (Clone i j) old = there old _ j _ (reads old _ i _ (λ v. set_or old j v _))
+  command_changes (Drop i) old = reads old _ i _ (λ _. (set old i None, tt))
+  command_changes (GetMut i w) old = reads old _ i _ (λ _. set_or old i w _)
+  command_changes (IntoUnique i w) old = reads old _ i _ (λ _. set_or old i w _)
+  command_changes (MakeMut i w) old = reads old _ i _ (λ _. set_or old i w _)
+  command_changes (Own i) old = reads old _ i _ (λ _. two_stay old _ _ _)
+  command_changes (Mark i) old = reads old _ i _ (λ _. (inl refl, tt))
+  command_changes (Raw i) old = reads old _ i _ (λ _. (inl refl, tt))
+  command_changes (PtrEq i j) old = reads_both old _ i j _ (λ _ _. two_stay old _ _ _)
+  command_changes (Same i j) old = reads_both old _ i j _ (λ _ _. (inl refl, tt))
 
-  plain_changes : (equal : V → V → Bool) → AllChange (plain_outcomes_of equal) plain_written
-  plain_changes equal command = command_changes equal (command_of command)
+  pub number_stays_table : NumberOfSlotsStays (outcomes_of equal)
+  number_stays_table = number_stays _ _ command_changes
 
-  pub number_stays_plain : (equal : V → V → Bool) → NumberOfSlotsStays (plain_outcomes_of equal)
-  number_stays_plain equal = number_stays _ _ (plain_changes equal)
+  pub others_stay_table : OtherSlotsStay (outcomes_of equal) written
+  others_stay_table = others_stay _ _ command_changes
 
-  pub number_stays_table : (equal : V → V → Bool) → NumberOfSlotsStays (outcomes_of equal)
-  number_stays_table equal = number_stays _ _ (command_changes equal)
+  pub only_done_table : OnlyDoneChanges (outcomes_of equal)
+  only_done_table = only_done _ _ command_changes
 
-  pub others_stay_plain : (equal : V → V → Bool) → OtherSlotsStay (plain_outcomes_of equal) plain_written
-  others_stay_plain equal = others_stay _ _ (plain_changes equal)
+  pub number_stays_plain : NumberOfSlotsStays (plain_outcomes_of equal)
+  number_stays_plain = number_stays _ plain_written (λ command. command_changes (command_of command))
 
-  pub others_stay_table : (equal : V → V → Bool) → OtherSlotsStay (outcomes_of equal) written
-  others_stay_table equal = others_stay _ _ (command_changes equal)
+  pub others_stay_plain : OtherSlotsStay (plain_outcomes_of equal) plain_written
+  others_stay_plain command = others_stay_table (command_of command)
 
-  pub only_done_plain : (equal : V → V → Bool) → OnlyDoneChanges (plain_outcomes_of equal)
-  only_done_plain equal = only_done _ _ (plain_changes equal)
+  pub only_done_plain : OnlyDoneChanges (plain_outcomes_of equal)
+  only_done_plain command = only_done_table (command_of command)
 
-  pub only_done_table : (equal : V → V → Bool) → OnlyDoneChanges (outcomes_of equal)
-  only_done_table equal = only_done _ _ (command_changes equal)
+module _ {A B : Type 0} where
+  one_block : (old : Slots (Union A B)) (u w : Union A B) → AreChanges old None (of_one_block old u w)
+  one_block old (First a) (First x) = two_stay old _ _ _
+  one_block old (First a) (Second y) = (inl refl, tt)
+  one_block old (Second b) (First x) = (inl refl, tt)
+  one_block old (Second b) (Second y) = two_stay old _ _ _
+
+  module _ (first_eq : A → A → Bool) (second_eq : B → B → Bool) where
+    union_changes : AllChange (union_outcomes_of first_eq second_eq) union_written
+    union_changes (union.First i a) old = there old _ i _ (set_or old i (First a) _)
+    union_changes (union.Second i b) old = there old _ i _ (set_or old i (Second b) _)
+    union_changes (union.Clone i j) old = there old _ j _ (reads old _ i _ (λ u. set_or old j u _))
+    union_changes (union.Drop i) old = reads old _ i _ (λ _. (set old i None, tt))
+    union_changes (union.IsFirst i) old = reads old _ i _ (λ _. (inl refl, tt))
+    union_changes (union.IsSecond i) old = reads old _ i _ (λ _. (inl refl, tt))
+    union_changes (union.ReadFirst i a) old = reads old _ i _ (λ _. (inl refl, tt))
+    union_changes (union.ReadSecond i b) old = reads old _ i _ (λ _. (inl refl, tt))
+    union_changes (union.PtrEq i j) old = reads_both old _ i j _ (one_block old)
+    union_changes (union.Same i j) old = reads_both old _ i j _ (λ _ _. (inl refl, tt))
+
+    pub number_stays_union : NumberOfSlotsStays (union_outcomes_of first_eq second_eq)
+    number_stays_union = number_stays _ _ union_changes
+
+    pub others_stay_union : OtherSlotsStay (union_outcomes_of first_eq second_eq) union_written
+    others_stay_union = others_stay _ _ union_changes
+
+    pub only_done_union : OnlyDoneChanges (union_outcomes_of first_eq second_eq)
+    only_done_union = only_done _ _ union_changes

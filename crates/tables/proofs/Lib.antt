@@ -1,4 +1,3 @@
 pub mod Changes
 pub mod RunLemmas
 pub mod SlotLemmas
-pub mod UnionChanges

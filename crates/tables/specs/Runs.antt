@@ -1,4 +1,4 @@
--- Runs of commands on a state: on the slots of a plain table, or on anything else.
+-- Runs of commands on a state: on the slots of a table, or on anything else.
 use Rattle.std.specs.Prelude.{◌≡◌, ◌⊎◌, List, [], ◌∷◌}
 use Rattle.tables.specs.declared.commands.Reply.{Reply}
 

@@ -5,7 +5,7 @@ use Rattle.tables.specs.declared.commands.Command.TheVariants.{New, Clone, Drop,
 use Rattle.tables.specs.declared.commands.PlainCommand.{PlainCommand}
 use Rattle.tables.specs.declared.commands.Reply.{Reply}
 use Rattle.tables.specs.declared.commands.Reply.TheVariants.{Done}
-use Rattle.tables.specs.PlainTable.{Slots, Meaning, command_of}
+use Rattle.tables.specs.TableModel.{Slots, Meaning, command_of}
 use Rattle.tables.specs.Runs.{IsAmong, Run}
 
 -- the slot that a command writes, if it writes one

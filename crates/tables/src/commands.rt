@@ -1,4 +1,4 @@
-//! What a table is told, and what it replies.
+//! The commands of tables, and the replies.
 
 /// A command on the slots of a table, which are numbered from 0.
 #[derive(Debug, PartialEq, Drop)]
@@ -18,7 +18,7 @@ pub enum Command<T> {
     /// Gives the slot's handle a block of its own, with a copy of the value if it had to be made. Only for types whose
     /// copies are the same value, and so not for `String` or `Vec`, whose copy has another buffer.
     Own(usize),
-    /// Marks the slot's block, which is never given back from then on.
+    /// Marks the slot's block, which is never freed from then on.
     Mark(usize),
     /// Turns the slot's handle into a token and back.
     Raw(usize),
@@ -39,6 +39,31 @@ pub enum PlainCommand<T> {
     Mark(usize),
     Raw(usize),
     PtrEq(usize, usize),
+    Same(usize, usize),
+}
+
+/// A command on the slots of a table of unions, which are numbered from 0.
+#[derive(Debug, PartialEq, Drop)]
+pub enum UnionCommand<A, B> {
+    /// Puts a new handle of the first type in the slot; a handle that stood there ends.
+    First(usize, A),
+    /// Puts a new handle of the second type in the slot; a handle that stood there ends.
+    Second(usize, B),
+    /// Puts a clone of the first slot's handle in the second slot.
+    Clone(usize, usize),
+    /// Ends the slot's handle.
+    Drop(usize),
+    /// Asks whether the slot's handle is of the first type.
+    IsFirst(usize),
+    /// Asks whether the slot's handle is of the second type.
+    IsSecond(usize),
+    /// Asks whether the slot's handle is of the first type, with a value equal to this one.
+    ReadFirst(usize, A),
+    /// Asks whether the slot's handle is of the second type, with a value equal to this one.
+    ReadSecond(usize, B),
+    /// Asks whether two slots have handles of one block.
+    PtrEq(usize, usize),
+    /// Asks whether two slots have handles of one type with equal values.
     Same(usize, usize),
 }
 

@@ -1,5 +1,5 @@
 //! What holds of every command and of every run, by what commands mean.
-ghost use Rattle.tables.specs.PlainTable.{outcomes_of, plain_outcomes_of};
+ghost use Rattle.tables.specs.TableModel.{outcomes_of, plain_outcomes_of};
 ghost use Rattle.tables.specs.TableLaws.{NumberOfSlotsStays, OnlyDoneChanges, OtherSlotsStay, plain_written, written};
 
 /// No run changes the number of slots.

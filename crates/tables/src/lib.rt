@@ -1,4 +1,4 @@
-//! Tables of handles and of unions of handles, on which runs of commands answer as on tables of plain values.
+//! Tables of handles, on which commands run as on tables of the values alone.
 #![tactic(auto)]
 
 mod arc_slots;
@@ -7,7 +7,5 @@ pub mod laws;
 pub mod run;
 pub mod slots;
 pub mod table;
-mod union_commands;
 pub mod union_laws;
-mod union_slots;
 pub mod union_table;

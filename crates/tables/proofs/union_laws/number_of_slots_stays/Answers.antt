@@ -1,4 +1,4 @@
-use Rattle.tables.proofs.UnionChanges.{number_stays_union}
+use Rattle.tables.proofs.Changes.{number_stays_union}
 use Rattle.tables.proofs.union_laws.number_of_slots_stays.Goals as goal
 
 pub returns : goal.returns

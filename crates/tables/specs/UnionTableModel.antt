@@ -1,10 +1,11 @@
--- The plain table of unions: each value is a first or a second.
+-- The reference model of a table of unions: each value is a first or a second.
 use Rattle.std.specs.Prelude.{ℕ, Bool, true, false, List, [], ◌∷◌, Option, Some, None}
 use Rattle.handles.specs.Unions.{Union, First, Second, is_first, is_second, union_eq}
 use Rattle.tables.specs.declared.commands.Reply.TheVariants.{Is, Refused}
-use Rattle.tables.specs.declared.union_commands.UnionCommand.{UnionCommand}
-use Rattle.tables.specs.declared.union_commands.UnionCommand.TheVariants as command
-use Rattle.tables.specs.PlainTable.{Slots, Outcome, Meaning, at, reading, sets, stays, clones, ends, compares}
+use Rattle.tables.specs.declared.commands.UnionCommand.{UnionCommand}
+use Rattle.tables.specs.declared.commands.UnionCommand.TheVariants as command
+use Rattle.tables.specs.TableModel.{Slots, Outcome, Meaning, at, reading, reading_both, sets, stays}
+use Rattle.tables.specs.TableModel.{clones, ends, compares}
 
 module _ {A B : Type 0} where
   -- whether two handles are of one block is open, but no block is of both kinds
@@ -37,6 +38,5 @@ module _ {A B : Type 0} (first_eq : A → A → Bool) (second_eq : B → B → B
   union_outcomes_of (command.ReadFirst i a) slots = reading slots i (λ u. stays slots (Is (equal u (First a))) ∷ [])
   union_outcomes_of (command.ReadSecond i b) slots = reading slots i (λ u. stays slots (Is (equal u (Second b)))
       ∷ [])
-  union_outcomes_of (command.PtrEq i j) slots =
-      at slots j (reading slots i (λ u. reading slots j (λ w. of_one_block slots u w)))
+  union_outcomes_of (command.PtrEq i j) slots = reading_both slots i j (of_one_block slots)
   union_outcomes_of (command.Same i j) slots = compares equal i j slots

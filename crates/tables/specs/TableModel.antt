@@ -1,4 +1,4 @@
--- The plain table: a list of optional values. No slot shares anything with another.
+-- The reference model of a table: a list of optional values. No slot shares anything with another.
 use Rattle.std.specs.Prelude.{ℕ, Bool, true, false, List, [], ◌∷◌, Option, Some, None, slice_get, slice_set}
 use Rattle.tables.specs.declared.commands.Command.{Command}
 use Rattle.tables.specs.declared.commands.Command.TheVariants.{New, Clone, Drop, GetMut, IntoUnique, MakeMut}
@@ -51,6 +51,10 @@ module _ {V : Type 0} where
   abbrev pub reading : Slots V → ℕ → (V → List (Outcome V)) → List (Outcome V)
   reading slots i outcomes = if_filled slots (slice_get slots i) outcomes
 
+  -- the outcomes of a command that reads slots i and j
+  abbrev pub reading_both : Slots V → ℕ → ℕ → (V → V → List (Outcome V)) → List (Outcome V)
+  reading_both slots i j outcomes = at slots j (reading slots i (λ v. reading slots j (outcomes v)))
+
   -- slot j gets a clone of slot i's handle
   abbrev pub clones : ℕ → ℕ → Meaning V
   clones i j slots = at slots j (reading slots i (λ v. sets slots j v ∷ stays slots Refused ∷ []))
@@ -61,8 +65,7 @@ module _ {V : Type 0} where
 
   -- whether two slots have equal values
   abbrev pub compares : (V → V → Bool) → ℕ → ℕ → Meaning V
-  compares equal i j slots =
-      at slots j (reading slots i (λ v. reading slots j (λ w. stays slots (Is (equal v w)) ∷ [])))
+  compares equal i j slots = reading_both slots i j (λ v w. stays slots (Is (equal v w)) ∷ [])
 
   -- what each command means, over values with this equality
   abbrev pub outcomes_of : (V → V → Bool) → Command V → Meaning V
@@ -76,8 +79,7 @@ module _ {V : Type 0} where
   outcomes_of equal (Mark i) slots = reading slots i (λ _. stays slots Done ∷ [])
   outcomes_of equal (Raw i) slots = reading slots i (λ _. stays slots Done ∷ [])
   outcomes_of equal (PtrEq i j) slots =
-      at slots j (reading slots i (λ _. reading slots j (λ _. stays slots (Is true) ∷ stays slots (Is false)
-      ∷ [])))
+      reading_both slots i j (λ _ _. stays slots (Is true) ∷ stays slots (Is false) ∷ [])
   outcomes_of equal (Same i j) slots = compares equal i j slots
 
   -- only Own may leave a copy in its slot

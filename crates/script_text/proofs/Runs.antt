@@ -1,124 +1,154 @@
 -- What a run of a script's lines has come to, line by line.
-use Rattle.std.proofs.Common.{◌≡◌, ℕ, ◌+◌, List, [], ◌∷◌, ◌++◌, length, Some, codes, refl, sym}
-use Rattle.std.proofs.Common.{ap, ◌∙◌, subst, append-nil, append_assoc, arith}
-use Rattle.std.specs.List.{concat}
-use Rattle.std.proofs.lemmas.List.Folds.{concat-append}
-use Rattle.std.proofs.Math.ListN.{length-append}
-use Rattle.script_text.specs.Script.{AreAnswered, AreLines, Prints, PrintsBeginning, Reach, AllLines, FaultyLine}
-use Rattle.script_text.specs.Script.{SomeLines, answer_text}
-use Rattle.script_text.proofs.ScriptLines.{AreLines-nil, lines_of}
+use Rattle.std.proofs.Common.{◌≡◌, ℕ, ◌+◌, List, [], ◌∷◌, ◌++◌, Option, Some, Ok, Err, OnOk, IfErr, IsErrAnd, refl, sym, subst}
+use Rattle.std.proofs.Common.{append_assoc, append-nil, codes}
+use Rattle.std.specs.Io.KnownBytes.{Appends}
+use Rattle.std.proofs.KnownBytes.{Appends-nil, Appends-trans}
+use Rattle.script_text.specs.Fault.{Outcome, PrintsUpTo, Reaches}
+use Rattle.script_text.specs.Script.{Runs, ends, stops, fails, goes_on, Reach, AllLines, FaultyLine, SomeLines, lines_of, answer_text}
+use Rattle.script_text.specs.Written.{Wrote, WroteBeginning}
+use Rattle.script_text.specs.declared.fault.Fault.{Fault}
+use Rattle.script_text.specs.declared.fault.Fault.TheVariants.{Arguments, Line, Input, Output, Memory}
 
--- one more line is answered
-AreAnswered-push : {S : Type 0} (answers : S → List ℕ → List ℕ → S → Type 0)
-    (lines texts : List (List ℕ)) (line text : List ℕ) (old now next : S)
-    → AreAnswered answers old lines texts now → answers now line text next → AreAnswered answers old (lines ++
-    line ∷ []) (texts ++ text ∷ []) next
-AreAnswered-push answers [] [] line text old now next h a = (next, subst (λ s. answers s line text next) h a, refl)
-AreAnswered-push answers [] (first ∷ later) line text old now next h a = absurd h
-AreAnswered-push answers (first ∷ later) [] line text old now next h a = absurd h
-AreAnswered-push answers (first ∷ lines) (told ∷ later) line text old now next h a =
-    (h.0, h.1, AreAnswered-push answers lines later line text h.0 now next h.2 a)
+-- no faulty line ended the run, but the input, the output or memory
+abbrev pub IsStopped : Outcome → Type 0
+IsStopped (Ok done) = ⊥
+IsStopped (Err Arguments) = Unit
+IsStopped (Err (Line number)) = ⊥
+IsStopped (Err Input) = Unit
+IsStopped (Err Output) = Unit
+IsStopped (Err Memory) = Unit
 
--- the first lines of a script are answered by this text, and the rest has its other lines
-pub record SoFar {S : Type 0} (answers : S → List ℕ → List ℕ → S → Type 0) (old : S) (script : List ℕ)
-    (count : ℕ) (text rest : List ℕ) (now : S) : Type 0 where
-  pub before : List (List ℕ)
-  pub texts : List (List ℕ)
-  pub answered : AreAnswered answers old before texts now
-  pub counted : count ≡ length before
-  pub text_is : text ≡ concat texts
-  pub later : (lines : List (List ℕ)) → AreLines rest lines → AreLines script (before ++ lines)
+pub stopped_by : (fault : Fault) → IsStopped (Err fault) → (outcome : Outcome) → IsErrAnd outcome (λ f. f ≡ fault)
+    → IsStopped outcome
+stopped_by fault stop (Ok done) is = absurd is
+stopped_by fault stop (Err f) is = subst (λ f. IsStopped (Err f)) (sym is) stop
 
-module _ {S : Type 0} (answers : S → List ℕ → List ℕ → S → Type 0) (old : S) (script : List ℕ) where
-  pub SoFar-none : SoFar answers old script 0 [] script old
-  SoFar-none = record {
-    before = [];
-    texts = [];
-    answered = refl;
-    counted = refl;
-    text_is = refl;
-    later = λ lines a.
-        a;
-  }
+reaches : (outcome : Outcome) → IsStopped outcome → (reach : Reach) (left : List ℕ) → Reaches outcome reach left
+reaches (Ok done) stop reach left = absurd stop
+reaches (Err Arguments) stop reach left = tt
+reaches (Err (Line number)) stop reach left = absurd stop
+reaches (Err Input) stop reach left = tt
+reaches (Err Output) stop reach left = tt
+reaches (Err Memory) stop reach left = tt
+
+module _ {S : Type 0} (answers : S → List ℕ → List ℕ → S → Type 0) (is_faulty : List ℕ → Type 0) (old : S)
+    (script : List ℕ) where
+  -- so many lines were answered by a part that is written and one that is not, and whatever a run of the other lines
+  -- writes comes after them
+  pub record SoFar (count : ℕ) (written part : List ℕ) (now : S) (rest : List ℕ) : Type 0 where
+    pub after : (reach : Reach) (more : List ℕ) (new : S)
+        → Runs answers is_faulty (count + 1) now (lines_of rest) reach more new
+        → Runs answers is_faulty 1 old (lines_of script) reach (written ++ (part ++ more)) new
+
+  pub SoFar-none : SoFar 0 [] [] old script
+  SoFar-none = record { after = λ reach more new runs. runs }
 
   -- one more line is answered
-  pub SoFar-more : (count : ℕ) (text told rest line more after : List ℕ) (now next : S)
-      → SoFar answers old script count text rest now → ((lines : List (List ℕ))
-      → AreLines after lines → AreLines rest (line ∷ lines))
-      → answers now line more next → told ≡ text ++ more → SoFar answers old script (count + 1) told after next
-  SoFar-more count text told rest line more after now next so first answered e = record {
-    before = so.before ++ line ∷ [];
-    texts = so.texts ++ more ∷ [];
-    answered = AreAnswered-push answers so.before so.texts line more old now next so.answered answered;
-    counted = omega (arith, so.counted, length-append so.before (line ∷ []));
-    text_is = e ∙ sym (concat-append so.texts (more ∷ []) ∙ ap (λ t. concat so.texts ++ t) (append-nil more)
-        ∙ ap (λ t. t ++ more) (sym so.text_is));
-    later = λ lines a. rw append_assoc (so.later (line ∷ lines) (first lines a));
+  pub SoFar-more : (count : ℕ) (written part parted line text rest others : List ℕ) (now next : S)
+      → SoFar count written part now rest → lines_of rest ≡ line ∷ lines_of others → answers now line text next
+      → parted ≡ part ++ text → SoFar (count + 1) written parted next others
+  SoFar-more count written part parted line text rest others now next so first answered e = record {
+    after = λ reach more new runs.
+        rw e (rw append_assoc (so.after reach (text ++ more) new (rw first (goes_on answered runs))));
   }
 
-module _ {S : Type 0} (answers : S → List ℕ → List ℕ → S → Type 0) (is_faulty : List ℕ → Type 0)
-    (old : S) (script : List ℕ) where
-  -- no line is left
-  pub Prints-end : (count : ℕ) (text rest : List ℕ) (now : S)
-      → SoFar answers old script count text rest now → rest ≡ [] → Prints answers is_faulty old script
-      AllLines text now
-  Prints-end count text rest now so none = record {
-    lines = so.before;
-    texts = so.texts;
-    are_lines = rw append-nil at (so.later [] (subst (λ left. AreLines left []) (sym none) AreLines-nil));
-    are_run = so.answered;
-    text_is = so.text_is;
+  -- the part is written
+  pub SoFar-written : (count : ℕ) (written part left rest : List ℕ) (now : S) → SoFar count written part now rest
+      → left ≡ [] → SoFar count (written ++ part) left now rest
+  SoFar-written count written part left rest now so e = record {
+    after = λ reach more new runs. rw e (rw append_assoc (so.after reach more new runs));
   }
 
   -- the next line is faulty
-  pub Prints-faulty : (count : ℕ) (text told rest line after : List ℕ) (now new : S)
-      → SoFar answers old script count text rest now → ((lines : List (List ℕ))
-      → AreLines after lines → AreLines rest (line ∷ lines))
-      → is_faulty line → new ≡ now → told ≡ text ++ answer_text (codes "fault: line ", Some (count + 1))
-      → Prints answers is_faulty old script (FaultyLine (count + 1)) told new
-  Prints-faulty count text told rest line after now new so first faulty unchanged e = record {
-    lines = so.before ++ line ∷ (lines_of after).0;
-    texts = so.texts;
-    are_lines = so.later (line ∷ (lines_of after).0) (first (lines_of after).0 (lines_of after).1);
-    are_run = (
-      so.before,
-      line,
-      (lines_of after).0,
-      refl,
-      ap (λ n. n + 1)
-          so.counted,
-      subst (λ s. AreAnswered answers old so.before so.texts s) (sym unchanged) so.answered,
-      faulty,
-    );
-    text_is = e ∙ ap (λ t. t ++ answer_text (codes "fault: line ", Some (count + 1))) so.text_is;
-  }
+  pub SoFar-faulty : (count : ℕ) (written part parted line rest others : List ℕ) (now new : S)
+      → SoFar count written part now rest → lines_of rest ≡ line ∷ lines_of others → is_faulty line → new ≡ now
+      → parted ≡ part ++ answer_text (codes "fault: line ", Some (count + 1))
+      → Runs answers is_faulty 1 old (lines_of script) (FaultyLine (count + 1)) (written ++ parted) new
+  SoFar-faulty count written part parted line rest others now new so first faulty same e =
+      rw same (rw e (so.after (FaultyLine (count + 1)) _ now (rw first (fails faulty))))
 
-  -- there may be more lines
-  pub Prints-some : (count : ℕ) (text rest : List ℕ) (now new : S)
-      → SoFar answers old script count text rest now → new ≡ now → Prints answers is_faulty old script
-      SomeLines text new
-  Prints-some count text rest now new so unchanged = record {
-    lines = so.before ++ (lines_of rest).0;
-    texts = so.texts;
-    are_lines = so.later (lines_of rest).0 (lines_of rest).1;
-    are_run = (
-      so.before,
-      (lines_of rest).0,
-      refl,
-      subst (λ s. AreAnswered answers old so.before so.texts s)
-          (sym unchanged) so.answered,
-    );
-    text_is = so.text_is;
-  }
+  -- the whole text was written that such a run writes
+  pub whole : (outcome : Outcome) (reach : Reach) (written part : List ℕ) (new : S)
+      (held holds holds' : Option (List ℕ)) → Reaches outcome reach []
+      → Runs answers is_faulty 1 old (lines_of script) reach (written ++ part) new
+      → Appends held holds written → Appends holds holds' part
+      → Wrote (λ text. PrintsUpTo answers is_faulty old script outcome text new) held holds'
+  whole outcome reach written part new held holds holds' reaches runs appended all = (
+    written ++ part,
+    record { reach = reach; left = []; reaches = reaches; runs = rw append-nil runs },
+    Appends-trans held holds holds' written part appended all,
+  )
 
-  -- what was written, and what was gathered and not written
-  pub begins : (reach : Reach) (whole text left : List ℕ) (new : S)
-      → Prints answers is_faulty old script reach whole new → whole ≡ text ++ left → PrintsBeginning answers
-      is_faulty old script text new
-  begins reach whole text left new prints e =
-      record {
-        reach = reach;
-        left = left;
-        prints = subst (λ t. Prints answers is_faulty old script reach t new)
-            e prints;
-      }
+  -- the run stops, after a beginning of its last part was written
+  pub stopped : (outcome : Outcome) → IsStopped outcome
+      → (reach : Reach) (written part : List ℕ) (new : S) (held holds holds' : Option (List ℕ))
+      → Runs answers is_faulty 1 old (lines_of script) reach (written ++ part) new
+      → Appends held holds written → WroteBeginning part holds holds'
+      → Wrote (λ text. PrintsUpTo answers is_faulty old script outcome text new) held holds'
+  stopped outcome stop reach written part new held holds holds' runs appended (done, left, split, begun) = (
+    written ++ done,
+    record {
+      reach = reach;
+      left = left;
+      reaches = reaches outcome stop reach left;
+      runs = rw append_assoc (subst (λ t. Runs answers is_faulty 1 old (lines_of script) reach (written ++ t) new)
+          split runs);
+    },
+    Appends-trans held holds holds' written done appended begun,
+  )
+
+  -- it stops between two lines, and nothing of its last part was written
+  pub stopped_between : (outcome : Outcome) → IsStopped outcome
+      → (count : ℕ) (written part rest : List ℕ) (now : S) (held holds : Option (List ℕ))
+      → SoFar count written part now rest → Appends held holds written
+      → Wrote (λ text. PrintsUpTo answers is_faulty old script outcome text now) held holds
+  stopped_between outcome stop count written part rest now held holds so appended =
+      stopped outcome stop SomeLines written (part ++ []) now held holds holds
+      (so.after SomeLines [] now stops) appended ([], part ++ [], refl, Appends-nil holds)
+
+  -- it stops before the first line
+  pub stopped_at_once : (outcome : Outcome) → IsStopped outcome → PrintsUpTo answers is_faulty old script outcome [] old
+  stopped_at_once outcome stop =
+      record { reach = SomeLines; left = []; reaches = reaches outcome stop SomeLines []; runs = stops }
+
+  -- no line is left, and the last part is written or a beginning of it
+  pub ended : (outcome : Outcome) (count : ℕ) (written part rest : List ℕ) (now : S)
+      (held holds holds' : Option (List ℕ)) → SoFar count written part now rest → rest ≡ []
+      → Appends held holds written → OnOk outcome (Appends holds holds' part) → WroteBeginning part holds holds'
+      → IfErr outcome (λ f. f ≡ Output)
+      → Wrote (λ text. PrintsUpTo answers is_faulty old script outcome text now) held holds'
+  ended outcome count written part rest now held holds holds' so end appended all begun is =
+      by_outcome outcome all is
+    where
+      runs : Runs answers is_faulty 1 old (lines_of script) AllLines (written ++ part) now
+      runs = rw append-nil at (so.after AllLines [] now (rw end ends))
+
+      by_outcome : (outcome : Outcome) → OnOk outcome (Appends holds holds' part) → IfErr outcome (λ f. f ≡ Output)
+          → Wrote (λ text. PrintsUpTo answers is_faulty old script outcome text now) held holds'
+      by_outcome (Ok done) all is = whole (Ok done) AllLines written part now held holds holds' (refl, refl) runs
+          appended all
+      by_outcome (Err fault) all is = stopped (Err fault) (stopped_by Output tt (Err fault) is) AllLines written part now held holds holds' runs
+          appended begun
+
+-- a run over states shows as a run over what the states show
+module _ {S S' : Type 0} (answers : S → List ℕ → List ℕ → S → Type 0)
+    (answers' : S' → List ℕ → List ℕ → S' → Type 0) (is_faulty : List ℕ → Type 0) (Shows : S → S' → Type 0)
+    (follows : (old new : S) (old' : S') (line text : List ℕ) → Shows old old' → answers old line text new
+    → (new' : S') × answers' old' line text new' × Shows new new') where
+  shown : {number : ℕ} {old new : S} {lines : List (List ℕ)} {reach : Reach} {text : List ℕ}
+      → Runs answers is_faulty number old lines reach text new → (old' : S') → Shows old old'
+      → (new' : S') × Runs answers' is_faulty number old' lines reach text new' × Shows new new'
+  shown ends old' shows = (old', ends, shows)
+  shown stops old' shows = (old', stops, shows)
+  shown (fails faulty) old' shows = (old', fails faulty, shows)
+  shown (goes_on answered runs) old' shows =
+      let (next', answered', shows_next) = follows _ _ old' _ _ shows answered in
+      let (new', runs', shows_new) = shown runs next' shows_next in
+      (new', goes_on answered' runs', shows_new)
+
+  pub prints_shown : (script : List ℕ) (outcome : Outcome) (text : List ℕ) (old new : S) (old' : S')
+      → Shows old old' → PrintsUpTo answers is_faulty old script outcome text new
+      → (new' : S') × PrintsUpTo answers' is_faulty old' script outcome text new' × Shows new new'
+  prints_shown script outcome text old new old' shows prints =
+      let (new', runs, shows_new) = shown prints.runs old' shows in
+      (new', record { reach = prints.reach; left = prints.left; reaches = prints.reaches; runs = runs }, shows_new)

@@ -1,168 +1,108 @@
 -- How the lines of a text follow from the lines of what is left of it.
-use Rattle.std.proofs.Common.{◌≡◌, ◌≢◌, ℕ, ◌+◌, ◌-◌, ◌<◌, List, [], ◌∷◌, ◌++◌}
-use Rattle.std.proofs.Common.{length, get_or, take, drop, refl, sym, ap, ◌∙◌, subst, ⊎_elim, append_assoc}
-use Rattle.std.proofs.Common.{add-one, arith}
-use Rattle.std.specs.List.{All, AllWithin, flat_map}
+use Rattle.std.proofs.Common.{◌≡◌, ◌≢◌, ℕ, ◌<◌, List, [], ◌∷◌, ◌++◌, length, refl, sym, ap, ◌∙◌, ⊎_elim, arith}
+use Rattle.std.proofs.Common.{Option, Some, None, Bor, subst, append_assoc}
+use Rattle.std.specs.List.{All, flat_map, onto_first}
+use Rattle.std.specs.Option.{option_copied, unwrap_or}
+use Rattle.std.proofs.lemmas.Bool.{ne_eqb}
 use Rattle.std.proofs.lemmas.Bool.Decides.{eqb_tells}
-use Rattle.std.proofs.lemmas.List.{get_or-take, length-drop, length-take, take-append-drop, take_all}
 use Rattle.std.proofs.lemmas.List.Elements.{All-cons, All-head, All-nil, All-tail}
-use Rattle.std.proofs.Math.Seq.{drop-cons}
-use Rattle.script_text.specs.Laws.{EachTextHasItsLines}
-use Rattle.script_text.specs.Script.{AreLines, IsUnbroken, line_feed, line_if_any}
+use Rattle.script_text.specs.Laws.{AreLines, EachTextHasItsLines, IsUnbroken, line_if_any}
+use Rattle.script_text.specs.Script.{line_feed, lines_of}
+use Rattle.script_text.specs.Split.{with_rest}
 
--- a line, a line feed and a text: the text's lines, after that line
-pub AreLines-cons : (text line rest : List ℕ) (lines : List (List ℕ))
-    → IsUnbroken line → text ≡ line ++ line_feed ∷ rest → AreLines rest lines → AreLines text (line ∷
-    lines)
-AreLines-cons text line rest lines h e a = record {
-  ended = line ∷ a.ended;
-  last = a.last;
-  text_is = simp append_assoc (e ∙ ap (λ left. line ++ line_feed ∷ left) a.text_is);
-  lines_are = ap (λ later. line ∷ later) a.lines_are;
-  unbroken = (All-cons IsUnbroken line a.ended h a.unbroken.0, a.unbroken.1);
-}
+IsNoFeed : ℕ → Type 0
+IsNoFeed byte = byte ≢ line_feed
 
--- parts that make up no text are no lines
-no_lines : (ended : List (List ℕ)) (last : List ℕ) → [] ≡ flat_map (λ line. line ++ line_feed ∷ [])
-    ended ++ last → ended ++ line_if_any last ≡ []
-no_lines [] [] e = refl
-no_lines [] (byte ∷ bytes) e = absurd (cc)
-no_lines ([] ∷ ended) last e = absurd (cc)
-no_lines ((byte ∷ bytes) ∷ ended) last e = absurd (cc)
+-- a byte that is no line feed belongs to the first line
+more : (byte : ℕ) (text : List ℕ) → byte ≢ line_feed → lines_of (byte ∷ text) ≡ onto_first byte (lines_of text)
+more byte text apart = rw (ne_eqb byte line_feed apart) refl
 
-line_if_any-some : (text : List ℕ) → (text ≡ [] → ⊥) → line_if_any text ≡ text ∷ []
-line_if_any-some [] h = absurd (h refl)
-line_if_any-some (byte ∷ bytes) h = refl
+-- what stands before a line feed is a line
+pub line_then : (line rest : List ℕ) → IsUnbroken line → lines_of (line ++ line_feed ∷ rest) ≡ line ∷ lines_of rest
+line_then [] rest h = refl
+line_then (byte ∷ line) rest h =
+    more byte (line ++ line_feed ∷ rest) (All-head (λ b. b ≢ line_feed) byte line h)
+    ∙ ap (onto_first byte) (line_then line rest (All-tail (λ b. b ≢ line_feed) byte line h))
 
 -- a text with no line feed is a line, if it is not empty
-pub AreLines-single : (text : List ℕ) (lines : List (List ℕ)) → IsUnbroken text → (text ≡ [] → ⊥)
-    → AreLines [] lines → AreLines text (text ∷ lines)
-AreLines-single text lines h some a = record {
-  ended = [];
-  last = text;
-  text_is = refl;
-  lines_are = ap (λ later. text ∷ later) (a.lines_are ∙ no_lines a.ended a.last a.text_is)
-      ∙ sym (line_if_any-some text some);
-  unbroken = (All-nil IsUnbroken, h);
-}
+pub line_alone : (text : List ℕ) → IsUnbroken text → lines_of text ≡ line_if_any text
+line_alone [] h = refl
+line_alone (byte ∷ text) h =
+    more byte text (All-head (λ b. b ≢ line_feed) byte text h)
+    ∙ ap (onto_first byte) (line_alone text (All-tail (λ b. b ≢ line_feed) byte text h)) ∙ joined text
+  where
+    joined : (rest : List ℕ) → onto_first byte (line_if_any rest) ≡ (byte ∷ rest) ∷ []
+    joined [] = refl
+    joined (b ∷ rest) = refl
+
+-- the first line and what comes after it, of a text that is not empty
+pub first_line : (text line : List ℕ) (rest : Option (Bor (List ℕ))) (nothing : Bor (List ℕ)) → IsUnbroken line
+    → text ≡ with_rest line_feed line (option_copied rest) → 0 < length text → nothing.now ≡ []
+    → lines_of text ≡ line ∷ lines_of (unwrap_or rest nothing).now
+first_line text line (Some rest) nothing h is some none = rw is (line_then line rest.now h)
+first_line text [] None nothing h is some none = absurd (omega (arith, ap length is))
+first_line text (byte ∷ line) None nothing h is some none = rw is (rw none (line_alone (byte ∷ line) h))
 
 -- a byte before the first line of a text
 longer : (byte : ℕ) (text : List ℕ) (ended : List (List ℕ)) (last : List ℕ)
-    → byte ≢ line_feed → text ≡ flat_map (λ line. line ++ line_feed ∷ [])
-    ended ++ last → All IsUnbroken ended → IsUnbroken last → (lines : List (List ℕ))
-    × AreLines (byte ∷ text) lines
-longer byte text [] last ne e whole left = (
-  line_if_any (byte ∷ last),
-  record {
-    ended = [];
-    last = byte ∷ last;
-    text_is = ap (λ bytes. byte ∷ bytes) e;
-    lines_are = refl;
-    unbroken = (All-nil IsUnbroken, All-cons (λ b. b ≢ line_feed) byte last ne left);
-  },
-)
-longer byte text (line ∷ ended) last ne e whole left = (
-  (byte ∷ line) ∷ ended ++ line_if_any last,
-  record {
-    ended = (byte ∷ line) ∷ ended;
-    last = last;
-    text_is = ap (λ bytes. byte ∷ bytes) e;
-    lines_are = refl;
-    unbroken = (
-      All-cons IsUnbroken (byte ∷ line) ended (All-cons (λ b. b ≢ line_feed)
-          byte line ne (All-head IsUnbroken line ended whole)) (All-tail IsUnbroken line ended whole),
-      left,
-    );
-  },
-)
+    → byte ≢ line_feed → text ≡ flat_map (λ line. line ++ line_feed ∷ []) ended ++ last → All IsUnbroken ended
+    → IsUnbroken last → AreLines (byte ∷ text) (onto_first byte (ended ++ line_if_any last))
+longer byte text [] last apart e whole left = record {
+  ended = [];
+  last = byte ∷ last;
+  text_is = ap (λ bytes. byte ∷ bytes) e;
+  lines_are = joined last;
+  unbroken = (All-nil IsUnbroken, All-cons (λ b. b ≢ line_feed) byte last apart left);
+}
+  where
+    joined : (rest : List ℕ) → onto_first byte (line_if_any rest) ≡ (byte ∷ rest) ∷ []
+    joined [] = refl
+    joined (b ∷ rest) = refl
+longer byte text (line ∷ ended) last apart e whole left = record {
+  ended = (byte ∷ line) ∷ ended;
+  last = last;
+  text_is = ap (λ bytes. byte ∷ bytes) e;
+  lines_are = refl;
+  unbroken = (
+    All-cons IsUnbroken (byte ∷ line) ended (All-cons (λ b. b ≢ line_feed)
+        byte line apart (All-head IsUnbroken line ended whole)) (All-tail IsUnbroken line ended whole),
+    left,
+  );
+}
 
--- the empty text has no line
-pub AreLines-nil : AreLines [] []
-AreLines-nil = record {
+are_lines : (text : List ℕ) → AreLines text (lines_of text)
+are_lines [] = record {
   ended = [];
   last = [];
   text_is = refl;
   lines_are = refl;
-  unbroken = (
-    All-nil IsUnbroken,
-    All-nil (λ b. b ≢ line_feed),
-  );
+  unbroken = (All-nil IsUnbroken, All-nil (λ b. b ≢ line_feed));
 }
-
--- every text has lines
-pub lines_of : (text : List ℕ) → (lines : List (List ℕ)) × AreLines text lines
-lines_of [] = ([], AreLines-nil)
-lines_of (byte ∷ text) =
-    let left = lines_of text in
-    let a = left.1 in
+are_lines (byte ∷ text) =
+    let a = are_lines text in
     ⊎_elim
-    (λ same. (
-      [] ∷ left.0,
-      AreLines-cons (byte ∷ text) [] text left.0 (All-nil (λ b. b ≢ line_feed))
-          (ap (λ b. b ∷ text) same.1) a,
-    ))
-    (λ other. longer byte text a.ended a.last other.1 a.text_is a.unbroken.0 a.unbroken.1)
+    (λ same. subst (λ b. AreLines (b ∷ text) (lines_of (b ∷ text))) (sym same.1) (record {
+      ended = [] ∷ a.ended;
+      last = a.last;
+      text_is = ap (λ bytes. line_feed ∷ bytes) a.text_is;
+      lines_are = ap (λ lines. [] ∷ lines) a.lines_are;
+      unbroken = (All-cons IsUnbroken [] a.ended (All-nil (λ b. b ≢ line_feed)) a.unbroken.0, a.unbroken.1);
+    }))
+    (λ other. subst (AreLines (byte ∷ text)) (ap (onto_first byte) (sym a.lines_are) ∙ sym (more byte text other.1))
+    (longer byte text a.ended a.last other.1 a.text_is a.unbroken.0 a.unbroken.1))
     (eqb_tells byte line_feed)
 
--- what stands before the first line feed is the first line
-pub AreLines-at : (text : List ℕ) (end : ℕ)
-    → end < length text → get_or text end 0 ≡ line_feed → AllWithin (λ b. b ≢ line_feed)
-    text 0 end → (lines : List (List ℕ)) → AreLines (take (length text - (end + 1)) (drop (end + 1) text))
-    lines → AreLines text (take end text ∷ lines)
-AreLines-at text end h at before lines a =
-    let all : take (length text - (end + 1)) (drop (end + 1) text) ≡ drop (end + 1)
-    text = take_all _ (drop (end + 1) text) (omega (arith, length-drop (end + 1) text)) in
-    let line : IsUnbroken (take end text) = λ k d lt. let short : k < end = omega (arith, lt, length-take end text)
-    in rw get_or-take (before k d (omega arith) short) in
-    let whole : text ≡ take end text ++ line_feed ∷ drop (end + 1) text = sym (take-append-drop end text)
-    ∙ ap (λ left. take end text ++ left) (rw add-one (drop-cons text end 0 h)
-    ∙ ap (λ b. b ∷ drop (end + 1) text) at) in
-    AreLines-cons text (take end text) (drop (end + 1) text) lines line whole (rw all at a)
-
--- two lines and their line feeds begin a text only if they are the same line
-same_line : (line line' left left' : List ℕ)
-    → IsUnbroken line → IsUnbroken line' → line ++ line_feed ∷ left ≡ line' ++ line_feed ∷ left' →
-    (line ≡ line') × (left ≡ left')
-same_line [] [] left left' h h' e = (refl, cc)
-same_line [] (byte ∷ line') left left' h h' e = absurd (All-head (λ b. b ≢ line_feed) byte line' h' (cc))
-same_line (byte ∷ line) [] left left' h h' e = absurd (All-head (λ b. b ≢ line_feed) byte line h (cc))
-same_line (byte ∷ line) (byte' ∷ line') left left' h h' e =
-    let tails : line ++ line_feed ∷ left ≡ line' ++ line_feed ∷ left' = cc in
-    let heads : byte ≡ byte' = cc in
-    let same = same_line line line' left left' (All-tail (λ b. b ≢ line_feed) byte line h)
-    (All-tail (λ b. b ≢ line_feed) byte' line' h') tails in
-    let lines : line ≡ line' = same.0 in
-    (cc, same.1)
-
-broken : (line left : List ℕ) → IsUnbroken (line ++ line_feed ∷ left) → ⊥
-broken [] left h = All-head (λ b. b ≢ line_feed) line_feed left h refl
-broken (byte ∷ line) left h = broken line left (All-tail (λ b. b ≢ line_feed) byte (line ++ line_feed ∷ left) h)
-
-same_lines : (ended : List (List ℕ)) (last : List ℕ) (ended' : List (List ℕ)) (last' : List ℕ)
-    → All IsUnbroken ended → IsUnbroken last → All IsUnbroken ended' → IsUnbroken last' → flat_map (λ
-    line. line ++ line_feed ∷ []) ended ++ last ≡ flat_map (λ line. line ++ line_feed ∷ [])
-    ended' ++ last' → ended ++ line_if_any last ≡ ended' ++ line_if_any last'
-same_lines [] last [] last' h k h' k' e = ap line_if_any e
-same_lines [] last (line' ∷ ended')
-    last' h k h' k' e = absurd (broken line' (flat_map (λ line. line ++ line_feed ∷ []) ended' ++ last')
-    (subst IsUnbroken (simp append_assoc at e) k))
-same_lines (line ∷ ended) last [] last' h k h' k' e = absurd (broken line (flat_map (λ line. line ++ line_feed ∷
-    []) ended ++ last) (subst IsUnbroken (simp append_assoc at (sym e)) k'))
-same_lines (line ∷ ended) last (line' ∷ ended') last' h k h' k' e =
-    let same = same_line line line' _ _ (All-head IsUnbroken line ended h) (All-head IsUnbroken line' ended' h')
-    (simp append_assoc at e) in
-    let first : line ≡ line' = same.0 in
-    let others : ended ++ line_if_any last ≡ ended' ++ line_if_any last' = same_lines ended last ended' last'
-    (All-tail IsUnbroken line ended h) k (All-tail IsUnbroken line' ended' h') k' same.1 in
-    cc
-
--- no text has other lines
-AreLines-unique : (text : List ℕ) (lines lines' : List (List ℕ))
-    → AreLines text lines → AreLines text lines' → lines ≡ lines'
-AreLines-unique text lines lines' a b =
-    a.lines_are ∙ same_lines a.ended a.last b.ended b.last a.unbroken.0 a.unbroken.1 b.unbroken.0 b.unbroken.1 (sym
-    a.text_is ∙ b.text_is) ∙ sym b.lines_are
+-- lines that are written one after the other are its lines
+parted : (ended : List (List ℕ)) (last : List ℕ) → All IsUnbroken ended → IsUnbroken last
+    → lines_of (flat_map (λ line. line ++ line_feed ∷ []) ended ++ last) ≡ ended ++ line_if_any last
+parted [] last h k = line_alone last k
+parted (line ∷ ended) last h k =
+    simp append_assoc (line_then line (flat_map (λ l. l ++ line_feed ∷ []) ended ++ last)
+    (All-head IsUnbroken line ended h)
+    ∙ ap (λ lines. line ∷ lines) (parted ended last (All-tail IsUnbroken line ended h) k))
 
 pub each_text_has_its_lines : EachTextHasItsLines
-each_text_has_its_lines text = let (lines, are) = lines_of text in
-    (lines, are, λ others those. AreLines-unique text lines others are those)
+each_text_has_its_lines text = (
+  are_lines text,
+  λ others a. ap lines_of a.text_is ∙ parted a.ended a.last a.unbroken.0 a.unbroken.1 ∙ sym a.lines_are,
+)

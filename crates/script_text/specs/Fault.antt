@@ -1,6 +1,6 @@
--- How a run ends, and how the program tells of it by its exit status and on standard error.
-use Rattle.std.specs.Prelude.{◌≢◌, ℕ, List, [], ◌∷◌, ◌++◌, Result, Ok, Err, codes}
-use Rattle.script_text.specs.Script.{Prints, PrintsBeginning, AllLines, FaultyLine, line_feed}
+-- How a run ends, and how the program reports it by its exit status and on standard error.
+use Rattle.std.specs.Prelude.{◌≡◌, ◌≢◌, ℕ, List, [], ◌∷◌, ◌++◌, Result, Ok, Err, codes}
+use Rattle.script_text.specs.Script.{Runs, Reach, AllLines, FaultyLine, lines_of, line_feed}
 use Rattle.script_text.specs.declared.fault.Fault.{Fault}
 use Rattle.script_text.specs.declared.fault.Fault.TheVariants.{Arguments, Line, Input, Output, Memory}
 
@@ -11,7 +11,7 @@ status_of Input = 3
 status_of Output = 4
 status_of Memory = 5
 
--- the line that standard error is told, if it is told there
+-- the line that standard error gets, if the fault is reported there
 abbrev pub note_of : Fault → List ℕ
 note_of Arguments = codes "fault: arguments" ++ line_feed ∷ []
 note_of Input = codes "fault: input" ++ line_feed ∷ []
@@ -31,10 +31,17 @@ status_after (Err fault) = status_of fault
 abbrev pub IsFaultOfRun : Fault → Type 0
 IsFaultOfRun fault = (fault ≢ Arguments) × (fault ≢ Input)
 
-module _ {S : Type 0} (answers : S → List ℕ → List ℕ → S → Type 0) (is_faulty : List ℕ → Type 0) where
-  -- What a run with this outcome has written of its script. If the input, the output or memory failed, that is a
-  -- beginning of what a run writes.
-  abbrev pub PrintsUpTo : S → List ℕ → Outcome → List ℕ → S → Type 0
-  PrintsUpTo old script (Ok _) text new = Prints answers is_faulty old script AllLines text new
-  PrintsUpTo old script (Err (Line number)) text new = Prints answers is_faulty old script (FaultyLine number) text new
-  PrintsUpTo old script (Err _) text new = PrintsBeginning answers is_faulty old script text new
+-- how far the run came by its outcome, and what of its text was not written: if the input, the output or memory
+-- failed, that is unknown
+abbrev pub Reaches : Outcome → Reach → List ℕ → Type 0
+Reaches (Ok _) reach left = (reach ≡ AllLines) × (left ≡ [])
+Reaches (Err (Line number)) reach left = (reach ≡ FaultyLine number) × (left ≡ [])
+Reaches (Err _) reach left = Unit
+
+-- what a run with this outcome has written of its script
+pub record PrintsUpTo {S : Type 0} (answers : S → List ℕ → List ℕ → S → Type 0) (is_faulty : List ℕ → Type 0)
+    (old : S) (script : List ℕ) (outcome : Outcome) (text : List ℕ) (new : S) : Type 0 where
+  pub reach : Reach
+  pub left : List ℕ
+  pub reaches : Reaches outcome reach left
+  pub runs : Runs answers is_faulty 1 old (lines_of script) reach (text ++ left) new

@@ -1,52 +1,44 @@
--- How the lines of scripts are written: a word, and one to three numbers.
-use Rattle.std.specs.Prelude.{◌≡◌, ◌≢◌, ℕ, ◌^◌, ◌<◌, List, ◌∷◌, ◌++◌, All, Option, Some}
-use Rattle.std.specs.Prelude.{None, decimal}
-use Rattle.script_text.specs.declared.line.Numbers.{Numbers}
-use Rattle.script_text.specs.declared.line.Numbers.TheVariants.{One, Two, Three}
+-- How the lines of scripts are written: a word, and at most three numbers.
+use Rattle.std.specs.Prelude.{◌≡◌, ℕ, ◌==◌, ◌^◌, ◌<◌, ◌≤◌, List, [], ◌∷◌, length, take, All, map, decimal, slice_index, Option, Some, None}
+use Rattle.std.specs.List.{slice_split}
 
 -- the byte of a space
 abbrev pub space : ℕ
 space = 32
 
-abbrev pub IsSpaceless : List ℕ → Type 0
-IsSpaceless word = All (λ byte. byte ≢ space) word
+-- the parts of a line between its spaces
+abbrev pub fields : List ℕ → List (List ℕ)
+fields line = slice_split (λ byte. byte == space) line
 
--- the text alone, or with a space and more text after it
-abbrev pub with_rest : List ℕ → Option (List ℕ) → List ℕ
-with_rest text None = text
-with_rest text (Some rest) = text ++ space ∷ rest
+-- the same of a line that may not be there
+abbrev pub fields_if_any : Option (List ℕ) → List (List ℕ)
+fields_if_any None = []
+fields_if_any (Some line) = fields line
 
--- the numbers of a line, with one space between two of them
-abbrev pub numbers_text : Numbers → List ℕ
-numbers_text (One first) = decimal first
-numbers_text (Two first second) = decimal first ++ space ∷ decimal second
-numbers_text (Three first second third) = decimal first ++ space ∷ (decimal second ++ space ∷ decimal third)
+-- so many numbers, of three places
+abbrev pub numbers_in : ℕ → List ℕ → List ℕ
+numbers_in count places =
+    take count (slice_index places 0 ∷ slice_index places 1 ∷ slice_index places 2 ∷ [])
 
--- each number is at most 4294967295
-abbrev pub AreInRange : Numbers → Type 0
-AreInRange (One first) = first < 2 ^ 32
-AreInRange (Two first second) = (first < 2 ^ 32) × (second < 2 ^ 32)
-AreInRange (Three first second third) = (first < 2 ^ 32) × (second < 2 ^ 32) × (third < 2 ^ 32)
-
--- the text is a word and its numbers, with one space between them
-pub record IsLine (text word : List ℕ) (numbers : Numbers) : Type 0 where
-  pub one_word : IsSpaceless word
-  pub written : text ≡ word ++ space ∷ numbers_text numbers
-  pub in_range : AreInRange numbers
+-- the line is a word and these numbers, with one space between two of them, and each number is at most 4294967295
+pub record IsLine (line word : List ℕ) (numbers : List ℕ) : Type 0 where
+  pub written : fields line ≡ word ∷ map decimal numbers
+  pub in_range : All (λ number. number < 2 ^ 32) numbers
+  pub few : length numbers ≤ 3
 
 -- A language says of each thing that a line may ask for by which word and which numbers it is written.
-module _ {A : Type 0} (language : A → List ℕ × Numbers) where
-  abbrev pub Writes : List ℕ → Numbers → A → Type 0
-  Writes word numbers asked = (word ≡ (language asked).0) × (numbers ≡ (language asked).1)
+module _ {A : Type 0} (language : A → List ℕ × List ℕ) where
+  abbrev pub Encodes : List ℕ → List ℕ → A → Type 0
+  Encodes word numbers asked = (word ≡ (language asked).0) × (numbers ≡ (language asked).1)
 
   -- the line asks for this
-  abbrev pub Says : List ℕ → A → Type 0
-  Says line asked = IsLine line (language asked).0 (language asked).1
+  abbrev pub Parses : List ℕ → A → Type 0
+  Parses line asked = IsLine line (language asked).0 (language asked).1
 
   -- the line asks for nothing, so it is no line of the language
-  abbrev pub SaysNothing : List ℕ → Type 0
-  SaysNothing line = (asked : A) → ¬ (Says line asked)
+  abbrev pub IsInvalid : List ℕ → Type 0
+  IsInvalid line = (asked : A) → ¬ (Parses line asked)
 
   -- a line asks for one thing at most
   abbrev pub AsksForOneThing : Type 0
-  AsksForOneThing = (line : List ℕ) (one other : A) → Says line one → Says line other → one ≡ other
+  AsksForOneThing = (line : List ℕ) (one other : A) → Parses line one → Parses line other → one ≡ other

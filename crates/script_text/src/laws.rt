@@ -2,7 +2,6 @@
 ghost use Rattle.script_text.specs.Laws.{EachTextHasItsLines};
 
 /// Each text has lines, and no others.
-#[tactic(auto, using(crate::proofs::ScriptLines::each_text_has_its_lines))]
 pub fn each_text_has_its_lines()
     ensures { EachTextHasItsLines }
 {}

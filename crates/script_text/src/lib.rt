@@ -10,4 +10,4 @@ pub mod line;
 pub mod number;
 mod output;
 pub mod script;
-pub mod words;
+pub mod split;

@@ -3,12 +3,13 @@ ghost use Rattle.std.specs.Prelude.{◌≡◌, ◌≢◌, ◌⊎◌, ℕ, ◌<�
 ghost use Rattle.std.specs.IoError.{error_kind};
 ghost use Rattle.std.specs.Io.KnownBytes.{Appends, IsAtEnd};
 ghost use Rattle.script_text.specs.Fault.{IsFaultOfRun, PrintsUpTo};
-ghost use Rattle.script_text.specs.Script.{AreLines, answer_text};
+ghost use Rattle.script_text.specs.Script.{answer_text, lines_of};
 ghost use Rattle.script_text.specs.Written.{Wrote, WroteBeginning};
 ghost use Rattle.script_text.specs.declared.fault.Fault.TheVariants as Fault;
 
 use crate::fault::Fault;
 use crate::output::write_whole;
+use crate::split::split_once;
 use itoa::Buffer;
 use std::alloc::{AllocError, Global};
 use std::io;
@@ -96,20 +97,17 @@ pub fn run<I: Interpreter, W: Write>(
     write_last(&part, output)
 }
 
-/// The first line of a text, without its line feed, and what comes after it, if a line is left.
+/// The first line of a text, without its line feed, and what comes after it.
 fn split_line(text: &[u8]) -> Option<(&[u8], &[u8])>
-    ensures first { IfSome result (λ split. (lines : List (List ℕ)) → AreLines split.1.now lines
-        → AreLines text.now (split.0.now ∷ lines)) }
+    ensures first { IfSome result (λ split. lines_of text.now ≡ split.0.now ∷ lines_of split.1.now) }
     ensures shorter { IfSome result (λ split. length split.1.now < length text.now) }
     ensures end { IfNone result (text.now ≡ []) }
 {
     if text.is_empty() {
         return None;
     }
-    match text.iter().position(|byte| *byte == b'\n') {
-        Some(end) => Some((&text[..end], &text[end + 1..])),
-        None => Some((text, &[])),
-    }
+    let (line, rest) = split_once(text, b'\n');
+    Some((line, rest.unwrap_or(&[])))
 }
 
 /// Appends an answer of words and a number. One of words alone is appended as it stands, with its line feed.

@@ -1,4 +1,2 @@
-pub mod CoreShowing
-pub mod OneStep
 pub mod OneThing
 pub mod Showing

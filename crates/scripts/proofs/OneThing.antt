@@ -1,37 +1,65 @@
--- A line asks for one thing at most: which, can be told from its word and its numbers.
-use Rattle.std.proofs.Common.{◌≡◌, ℕ, List, [], ◌∷◌, Option, Some, None, codes, refl}
+-- A line asks for one thing at most: it is found by its word, among what is written with as many numbers.
+use Rattle.std.proofs.Common.{◌≡◌, ℕ, List, [], ◌∷◌, Some, refl}
+use Rattle.counting_core.specs.declared.step.Step.{Step}
+use Rattle.counting_core.specs.declared.step.Step.TheVariants as step
 use Rattle.tables.specs.declared.commands.Command.TheVariants as command
-use Rattle.script_text.specs.declared.line.Numbers.{Numbers}
-use Rattle.script_text.specs.declared.line.Numbers.TheVariants.{One, Two, Three}
-use Rattle.script_text.proofs.Languages.{beside, asks_for_one_thing}
+use Rattle.script_text.proofs.Lines.{named, asks_for_one_thing}
 use Rattle.scripts.specs.declared.table_line.TableLine.{TableLine}
 use Rattle.scripts.specs.declared.table_line.TableLine.TheVariants.{Serve, Get}
-use Rattle.scripts.specs.Laws.{EachLineAsksOneThingOfATable}
+use Rattle.scripts.specs.Laws.{EachLineAsksOneThingOfATable, EachLineIsOneStep}
+use Rattle.scripts.specs.StepLine.{step_line}
 use Rattle.scripts.specs.TableLine.{table_line}
 
-abbrev table_told : List ℕ → Numbers → Option TableLine
-table_told word (One a) = beside word ((codes "get", Get a) ∷ (codes "drop", Serve (command.Drop a))
-    ∷ (codes "own", Serve (command.Own a)) ∷ (codes "mark", Serve (command.Mark a))
-    ∷ (codes "raw", Serve (command.Raw a)) ∷ [])
-table_told word (Two a b) = beside word ((codes "new", Serve (command.New a b))
-    ∷ (codes "clone", Serve (command.Clone a b)) ∷ (codes "getmut", Serve (command.GetMut a b))
-    ∷ (codes "intounique", Serve (command.IntoUnique a b)) ∷ (codes "makemut", Serve (command.MakeMut a b))
-    ∷ (codes "ptreq", Serve (command.PtrEq a b)) ∷ (codes "same", Serve (command.Same a b)) ∷ [])
-table_told word (Three a b c) = None
+abbrev steps : List ℕ → List (Step ℕ)
+steps (a ∷ []) = step.Raise a ∷ step.Quit a ∷ step.Lower a ∷ []
+steps (a ∷ b ∷ []) = step.Clone a b ∷ step.Drop a b ∷ step.Mark a b ∷ step.Unique a b ∷ step.Static a b
+    ∷ step.GetMut a b ∷ step.EndWrite a b ∷ step.IntoUnique a b ∷ step.Share a b ∷ step.Load a b ∷ step.Return a b ∷ []
+steps (a ∷ b ∷ c ∷ []) = step.Write a b c ∷ step.Lend a b c ∷ step.Give a b c ∷ []
+steps numbers = []
 
-table_tells : (asked : TableLine) → table_told (table_line asked).0 (table_line asked).1 ≡ Some asked
-table_tells (Serve (command.New a b)) = refl
-table_tells (Serve (command.Clone a b)) = refl
-table_tells (Serve (command.Drop a)) = refl
-table_tells (Serve (command.GetMut a b)) = refl
-table_tells (Serve (command.IntoUnique a b)) = refl
-table_tells (Serve (command.MakeMut a b)) = refl
-table_tells (Serve (command.Own a)) = refl
-table_tells (Serve (command.Mark a)) = refl
-table_tells (Serve (command.Raw a)) = refl
-table_tells (Serve (command.PtrEq a b)) = refl
-table_tells (Serve (command.Same a b)) = refl
-table_tells (Get a) = refl
+step_found : (s : Step ℕ) → named step_line (step_line s).0 (steps (step_line s).1) ≡ Some s
+step_found (step.Clone a b) = refl
+step_found (step.Raise a) = refl
+step_found (step.Quit a) = refl
+step_found (step.Drop a b) = refl
+step_found (step.Lower a) = refl
+step_found (step.Mark a b) = refl
+step_found (step.Unique a b) = refl
+step_found (step.Static a b) = refl
+step_found (step.GetMut a b) = refl
+step_found (step.Write a b c) = refl
+step_found (step.EndWrite a b) = refl
+step_found (step.IntoUnique a b) = refl
+step_found (step.Share a b) = refl
+step_found (step.Load a b) = refl
+step_found (step.Lend a b c) = refl
+step_found (step.Return a b) = refl
+step_found (step.Give a b c) = refl
+
+pub each_line_is_one_step : EachLineIsOneStep
+each_line_is_one_step = asks_for_one_thing step_line steps step_found
+
+abbrev commands : List ℕ → List TableLine
+commands (a ∷ []) = Get a ∷ Serve (command.Drop a) ∷ Serve (command.Own a) ∷ Serve (command.Mark a)
+    ∷ Serve (command.Raw a) ∷ []
+commands (a ∷ b ∷ []) = Serve (command.New a b) ∷ Serve (command.Clone a b) ∷ Serve (command.GetMut a b)
+    ∷ Serve (command.IntoUnique a b) ∷ Serve (command.MakeMut a b) ∷ Serve (command.PtrEq a b)
+    ∷ Serve (command.Same a b) ∷ []
+commands numbers = []
+
+command_found : (asked : TableLine) → named table_line (table_line asked).0 (commands (table_line asked).1) ≡ Some asked
+command_found (Serve (command.New a b)) = refl
+command_found (Serve (command.Clone a b)) = refl
+command_found (Serve (command.Drop a)) = refl
+command_found (Serve (command.GetMut a b)) = refl
+command_found (Serve (command.IntoUnique a b)) = refl
+command_found (Serve (command.MakeMut a b)) = refl
+command_found (Serve (command.Own a)) = refl
+command_found (Serve (command.Mark a)) = refl
+command_found (Serve (command.Raw a)) = refl
+command_found (Serve (command.PtrEq a b)) = refl
+command_found (Serve (command.Same a b)) = refl
+command_found (Get a) = refl
 
 pub each_line_asks_one_thing_of_a_table : EachLineAsksOneThingOfATable
-each_line_asks_one_thing_of_a_table = asks_for_one_thing table_line table_told table_tells
+each_line_asks_one_thing_of_a_table = asks_for_one_thing table_line commands command_found

@@ -4,7 +4,7 @@ ghost use Rattle.counting_word.specs.CountingWord.{IsLimit};
 ghost use Rattle.counting_core.specs.Represents.{Represents};
 ghost use Rattle.counting_core.specs.Trace.{Open};
 ghost use Rattle.script_text.specs.Fault.{IsFaultOfRun};
-ghost use Rattle.script_text.specs.Line.{SaysNothing};
+ghost use Rattle.script_text.specs.Line.{IsInvalid};
 ghost use Rattle.script_text.specs.Script.{answer_text};
 ghost use Rattle.script_text.specs.Written.{Wrote};
 ghost use Rattle.script_text.specs.declared.fault.Fault.TheVariants as Fault;
@@ -54,7 +54,7 @@ struct CoreRunner {
 impl Interpreter for CoreRunner {
     ghost answers = { λ old line text new. CoreAnswers old.core line text new.core };
 
-    ghost is_faulty = { SaysNothing step_line };
+    ghost is_faulty = { IsInvalid step_line };
 
     fn answer_to(&mut self, line: &[u8], gathered: &mut Vec<u8>) -> Option<Result<(), AllocError>> {
         let step = read_step(line)?;

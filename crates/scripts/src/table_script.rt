@@ -1,7 +1,7 @@
 //! Scripts of `table`: their lines are commands on a table of handles, and what its slots read.
 ghost use Rattle.std.specs.Prelude.{◌≡◌, ◌++◌, ℕ, List, Option, IfErr, IfOk, OnOk, None, replicate, slice_get};
 ghost use Rattle.script_text.specs.Fault.{IsFaultOfRun};
-ghost use Rattle.script_text.specs.Line.{SaysNothing};
+ghost use Rattle.script_text.specs.Line.{IsInvalid};
 ghost use Rattle.script_text.specs.Script.{answer_text};
 ghost use Rattle.script_text.specs.Written.{Wrote};
 ghost use Rattle.script_text.specs.declared.fault.Fault.TheVariants as Fault;
@@ -46,7 +46,7 @@ struct TableRunner {
 impl Interpreter for TableRunner {
     ghost answers = { λ old line text new. TableAnswers old.table line text new.table };
 
-    ghost is_faulty = { SaysNothing table_line };
+    ghost is_faulty = { IsInvalid table_line };
 
     fn answer_to(&mut self, line: &[u8], gathered: &mut Vec<u8>) -> Option<Result<(), AllocError>> {
         let asked = read_table_line(line)?;

@@ -1,25 +1,49 @@
-use Rattle.std.proofs.Common.{rules, ◌≡◌, ℕ, List, Some, None, sym, ◌∙◌}
-use Rattle.script_text.specs.declared.line.Numbers.{Numbers}
-use Rattle.script_text.specs.Line.{IsLine, numbers_text, with_rest}
-use Rattle.script_text.proofs.Lines.{with_rest_same}
+use Rattle.std.proofs.Common.{rules, ℕ, ◌<◌, ◌^◌, [], List, length, refl, arith}
+use Rattle.std.proofs.Common.{length-set}
+use Rattle.std.proofs.lemmas.List.{length-take, take_more_set}
+use Rattle.std.proofs.lemmas.List.Elements.{All-append, All-cons, All-nil}
+use Rattle.script_text.specs.Line.{IsLine}
+use Rattle.script_text.proofs.Lines.{first_field, no_line, too_long, one_more}
 use Rattle.script_text.proofs.line.read_line.Goals as goal
 
-pub returns-in_err-rest-clause-none : goal.returns-in_err-rest-clause-none
-returns-in_err-rest-clause-none c =
-    let is : c.args.text.now ≡ with_rest c.split_at_space.result.0.now None = search rules in
-    let none : (word : List ℕ) (o : Numbers) → ¬ (IsLine c.args.text.now word o) = λ word o line.
-    let same = with_rest_same _ word None (Some (numbers_text o))
-    c.split_at_space.ensures.first line.one_word (sym is ∙ line.written) in
-    let rest : None ≡ Some (numbers_text o) = same.rest in cc in
-    search (rules, none)
+pub loop-rest-init : goal.loop-rest-init
+loop-rest-init c = record {
+  read = first_field c.args.text.now _ _ c.split_once.ensures.first c.split_once.ensures.parts;
+  in_range = λ k d none. absurd (omega arith);
+  few = omega arith;
+  places = refl;
+}
+
+pub returns-then-count-eq3-clause-none : goal.returns-then-count-eq3-clause-none
+returns-then-count-eq3-clause-none c =
+    let field = first_field c.in-Some.text.now _ _ c.split_once-in-Some.ensures.first c.split_once-in-Some.ensures.parts in
+    let read = rw field at (rw c.in-Some.is at c.loop-rest.invariant.read) in
+    too_long c.args.text.now _ _ _ _ (omega (arith, length-take c.loop-rest.count c.loop-rest.numbers)) read
 
 pub returns-in_err-numbers-clause-none : goal.returns-in_err-numbers-clause-none
 returns-in_err-numbers-clause-none c =
-    let is : c.args.text.now ≡ with_rest c.split_at_space.result.0.now (Some c.in_ok-rest.field-0.now)
-    = search rules in
-    let none : (word : List ℕ) (o : Numbers) → ¬ (IsLine c.args.text.now word o) = λ word o line.
-    let same = with_rest_same _ word (Some c.in_ok-rest.field-0.now) (Some (numbers_text o))
-    c.split_at_space.ensures.first line.one_word (sym is ∙ line.written) in
-    let rest : c.in_ok-rest.field-0.now ≡ numbers_text o = cc in
-    c.in_err-numbers.ensures.none o line.in_range rest in
+    let field = first_field c.in-Some.text.now _ _ c.split_once-in-Some.ensures.first c.split_once-in-Some.ensures.parts in
+    let read = rw field at (rw c.in-Some.is at c.loop-rest.invariant.read) in
+    let none : (word numbers : List ℕ) → ¬ (IsLine c.args.text.now word numbers) =
+    no_line c.args.text.now _ _ _ _ read c.in_err-numbers.ensures.none in
     search (rules, none)
+
+pub loop-rest-smaller : goal.loop-rest-smaller
+loop-rest-smaller c =
+    let field = first_field c.in-Some.text.now _ _ c.split_once-in-Some.ensures.first c.split_once-in-Some.ensures.parts in
+    rw c.in-Some.is (rw field (omega arith))
+
+pub loop-rest-preserved : goal.loop-rest-preserved
+loop-rest-preserved c =
+    let field = first_field c.in-Some.text.now _ _ c.split_once-in-Some.ensures.first c.split_once-in-Some.ensures.parts in
+    let read = rw field at (rw c.in-Some.is at c.loop-rest.invariant.read) in
+    let room : c.loop-rest.count < length c.loop-rest.numbers = omega arith in
+    let number = c.in_ok-numbers.ensures.number in
+    record {
+      read = one_more c.args.text.now _ _ c.loop-rest.numbers c.loop-rest.count c.in_ok-numbers.field-0 _ room number.0 read;
+      in_range = rw (take_more_set c.loop-rest.numbers c.loop-rest.count c.in_ok-numbers.field-0 room)
+          (All-append (λ number. number < 2 ^ 32) _ _ c.loop-rest.invariant.in_range
+          (All-cons (λ number. number < 2 ^ 32) _ [] number.1 (All-nil (λ number. number < 2 ^ 32))));
+      few = omega arith;
+      places = omega (arith, length-set c.loop-rest.numbers c.loop-rest.count c.in_ok-numbers.field-0);
+    }

@@ -1,7 +1,6 @@
 use Rattle.std.proofs.Common.{◌∷◌, [], Err, inr, refl, codes, decimal, arith}
 use Rattle.counting_word.specs.CountingWord.{greatest_count}
 use Rattle.script_text.specs.declared.fault.Fault.TheVariants.{Memory}
-use Rattle.script_text.proofs.Stops.{memory_is_stop}
 use Rattle.scripts.specs.declared.arguments.Request.TheVariants.{Core}
 use Rattle.scripts.proofs.Showing.{did_nothing}
 use Rattle.scripts.proofs.program.start.Goals as goal
@@ -16,6 +15,6 @@ returns-in-Err-clause-wrote g c =
         Err Memory,
         c.report.ensures.status,
         did_nothing words _ (Core 1 greatest_count)
-            ([], refl, omega arith, omega arith, refl) _ _ memory_is_stop,
+            ([], refl, omega arith, omega arith, refl) _ _ tt,
       ),
     )

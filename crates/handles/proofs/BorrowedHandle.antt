@@ -8,8 +8,7 @@ use base.Logic.{id⊢}
 use base.Fml.{Lft, Share, Fml, flft, fobor, fhide, finv, fsep}
 use base.Share
 use types.Logic.{Logic}
-use types.Kit.{some as exists, given, pick, learn, Item, Goal, Seq, Soaks, Step, step, ‵, ◌⊛◌, later, ◌$◌}
-use types.Kit.{◌∵◌, !, qed}
+use types.Kit.{some as exists, given, pick, learn, Item, Goal, Seq, Soaks, Step, step, ‵, ◌⊛◌, later, ◌$◌, ◌∵◌, !, qed}
 use types.Kit.{fjoin, frame, done, move, drop, split, fsplit, fsplit3, fpick, rewrite, use1, use2, use3, await}
 use types.Tokens.{obor_close, shr_bor-open}
 use ghost.Rules.{Halves}
@@ -22,7 +21,8 @@ use denote.Opens.{Shut, unhide}
 use denote.RawPtr.{Ptr, InBlock, block_ptr, block_of, count_of as offset_of, at_block}
 use denote.Steps.{looks, peeks}
 use Rattle.counting_word.specs.Rights.{Right}
-use Rattle.handles.specs.Inside.Blocks.{HeldRow, Names, block_rule, shown, lent_share, handle_shares, permit_owns, logged}
+use Rattle.handles.specs.Inside.Blocks.{HeldRow, Names, block_rule, shown, lent_share, handle_shares, permit_owns}
+use Rattle.handles.specs.Inside.Blocks.{logged}
 use Rattle.counting_word.specs.WordSteps.{WordStep}
 use Rattle.counting_word.specs.Tallies.{Adds}
 use Rattle.handles.specs.contracts.block.handle.Handle as handle_type

@@ -6,8 +6,7 @@ use base.Fraction.{full_share}
 use base.Logic.{ent, sep}
 use base.Fml.{Fml, fsep, fleft}
 use types.Logic.{Logic, sem}
-use types.Kit.{‵, ◌⊛◌, ◌$◌, ◌∵◌, !, qed, by, move, keep, use1, split, fjoin, fjoin3, fsplit3, fpack}
-use types.Kit.{done, fsplit}
+use types.Kit.{‵, ◌⊛◌, ◌$◌, ◌∵◌, !, qed, by, move, keep, use1, split, fjoin, fjoin3, fsplit3, fpack, done, fsplit}
 use denote.RattleType.{RattleType}
 use denote.Memory.{part_at, part_of}
 use denote.RawPtr.{block_ptr}
@@ -16,7 +15,7 @@ use denote.Param.Laws.{Laws, param_laws}
 use denote.Steps.{nothing as nothing_more}
 use denote.Plain.{UInt}
 use denote.Struct.Struct.{Struct}
-use denote.Struct.Laws.{u64-laws}
+use denote.Struct.Laws.{u64-laws, field_copy, unit-copy}
 use denote.Struct.Members.{parts_at, raw_tys, lawful_Lones}
 use denote.Struct.Parts.{shape_of, Struct-left, left_Struct}
 use Rattle.core.proofs.tally.Steps.{word_out, word_in}
@@ -25,7 +24,6 @@ use Rattle.std.specs.declared.alloc.Global.{Global}
 use Rattle.handles.proofs.RawBoxes.{heap_row, heap_laws, ghosts}
 use Rattle.std_alloc.specs.Box.Ownership.{box_owns}
 use mir.Val.{Val}
-use denote.Struct.Laws.{field_copy, unit-copy}
 use Rattle.std_heap.specs.contracts.Global as heap
 use Rattle.core.specs.contracts.rt.Memory as memory
 use Rattle.handles.proofs.block.Held.TheLaws.{the_row_laws as held_laws}

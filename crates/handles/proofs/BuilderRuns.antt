@@ -1,6 +1,6 @@
 -- What a builder heard, reported as a run of its iterator.
-use Rattle.std.proofs.Common.{◌≡◌, ℕ, ◌+◌, ◌∷◌, [], ◌++◌, length, length-append, Option, Result}
-use Rattle.std.proofs.Common.{IfOk, IfErr, refl, arith, true, false}
+use Rattle.std.proofs.Common.{◌≡◌, ℕ, ◌+◌, ◌∷◌, [], ◌++◌, length, length-append, Option, Result, IfOk, IfErr, refl}
+use Rattle.std.proofs.Common.{arith, true, false}
 use Rattle.std.proofs.lemmas.Result.{IfOk-weaker, IfErr-weaker}
 use Rattle.core.proofs.iter.runs.Made.{run, to_end, to_item}
 use Rattle.handles.specs.HeaderSlice.{HeaderAndItems}

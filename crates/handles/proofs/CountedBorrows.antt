@@ -8,10 +8,8 @@ use base.Fml.{Lft, Share, Fml, ftrue, fsep, fseps, fex, fwand, fupd, fdead, fbor
 use contract.BorrowLft.{meet_⊑_left}
 use ghost.Rules.{span, thinned}
 use types.Logic.{Logic, sem, lfts}
-use types.Kit.{‵, raw, ◌⊛◌, some as exists, later, ◌$◌, ◌∵◌, !, qed, by, move, keep, use1, use2}
-use types.Kit.{split}
-use types.Kit.{split3, fsplit, fsplit3, fjoin, fjoin3, fpick, fpack, pick, assume, suffices, group, await}
-use types.Kit.{updating, now, done}
+use types.Kit.{‵, raw, ◌⊛◌, some as exists, later, ◌$◌, ◌∵◌, !, qed, by, move, keep, use1, use2, split, split3, fsplit}
+use types.Kit.{fsplit3, fjoin, fjoin3, fpick, fpack, pick, assume, suffices, group, await, updating, now, done}
 use Rattle.handles.specs.Inside.Rows.{pass}
 use Rattle.handles.proofs.Rows.{left_over, pass_cut, pass_whole}
 use types.Tokens.{bor_open, obor_alter, bor_fracture, one_token}
@@ -20,9 +18,7 @@ use denote.SharingLaws.{contraction}
 use denote.Moves.{moves_from}
 use denote.Steps.{nothing as nothing_more}
 use denote.Struct.Lending.{Lends}
-use Rattle.handles.specs.Inside.Blocks.{lent_share}
-use Rattle.handles.specs.Inside.Blocks.{Names, entitled, Rule, counted}
-use Rattle.handles.specs.Inside.Blocks.{counted_shares}
+use Rattle.handles.specs.Inside.Blocks.{lent_share, Names, entitled, Rule, counted, counted_shares}
 
 module _ (content kept : Fml) (limit b o η : ℕ) (t : Lft → Fml) (L : ShrLaws t) where
   abbrev Held : Names → Fml

@@ -1,7 +1,6 @@
 -- The words of the places and of the leaving places, and what they own on the way from the one to the other. Assumes
 -- `Logic`.
-use Rattle.std.proofs.Common.{◌≡◌, ℕ, ◌+◌, ◌-◌, ◌*◌, ◌^◌, ◌<◌, ◌≤◌, List, []}
-use Rattle.std.proofs.Common.{◌∷◌, refl, sym, ap, ◌∙◌, w64, arith}
+use Rattle.std.proofs.Common.{◌≡◌, ℕ, ◌+◌, ◌-◌, ◌*◌, ◌^◌, ◌<◌, ◌≤◌, List, [], ◌∷◌, refl, sym, ap, ◌∙◌, w64, arith}
 use native.Mathlib.Nat.{add_assoc, add_comm, zero-mul, sub-zero, not-suc-le-zero}
 use Prim.Native.Nat.{suc}
 use lib.ListN.{length}
@@ -13,8 +12,8 @@ use base.Fml.{fat, froom}
 use mir.Syntax.{ty_int, ty_ptr, ty_struct, ty_array, tcons, tnil}
 use mir.Val.{Val, vint, vstruct, vcons, vnil, has_ty, WT}
 use types.Logic.{Logic, sem}
-use types.Kit.{‵, ◌⊛◌, some, given, ◌$◌, ◌∵◌, !, qed, by, move, keep, pick, learn, show, check, split}
-use types.Kit.{use0, use1, use2, fsplit, fsplit3, fjoin, rewrite, done}
+use types.Kit.{‵, ◌⊛◌, some, given, ◌$◌, ◌∵◌, !, qed, by, move, keep, pick, learn, show, check, split, use0, use1, use2}
+use types.Kit.{fsplit, fsplit3, fjoin, rewrite, done}
 use denote.RattleType.{RattleType}
 use denote.Memory.{lone, part_at}
 use denote.Array.{Array}

@@ -1,12 +1,11 @@
 -- A log with a mark in it: which steps show one, and that it stays.
 use mathlib.Core.List.{IsPrefix}
-use Rattle.std.proofs.Common.{◌≡◌, ℕ, Bool, true, false, if◌then◌else◌, List, [], ◌∷◌, ◌++◌}
-use Rattle.std.proofs.Common.{refl, sym, ◌∙◌, ap, subst}
+use Rattle.std.proofs.Common.{◌≡◌, ℕ, Bool, true, false, if◌then◌else◌, List, [], ◌∷◌, ◌++◌, refl, sym, ◌∙◌, ap, subst}
 use Rattle.counting_word.specs.CountingWord.{IsLimit, is_marked_word}
 use Rattle.counting_word.specs.WordSteps.{WordStep, reads, asks, raises_from, reads_last, lowers, claims, marks}
 use Rattle.counting_word.specs.WordSteps.{word_by, left_from, left_by}
-use Rattle.counting_word.specs.Tallies.{Tally, one_more, after_read, tally_after, tally_from, tally_of}
-use Rattle.counting_word.specs.Tallies.{has_exactly, first, Adds}
+use Rattle.counting_word.specs.Tallies.{Tally, one_more, after_read, tally_after, tally_from, tally_of, has_exactly}
+use Rattle.counting_word.specs.Tallies.{first, Adds}
 use Rattle.counting_word.proofs.Tallies.{tally-more, runs_are_counted}
 use Rattle.handles.specs.Inside.Marked.{HasMark}
 

@@ -7,9 +7,8 @@ use base.Fml.{Lft, Incl, Incl-refl, Share, Fml, fsep, fex, flft}
 use base.Share
 use contract.BorrowLft.{meet_⊑_left, ⊑_static}
 use types.Logic.{Logic, sem}
-use types.Kit.{‵, ◌⊛◌, later, some, pick, await, use2, ◌$◌, ◌∵◌, !, qed, by, move, drop, split}
-use types.Kit.{fsplit, fsplit3}
-use types.Kit.{fjoin, fpick, fpack, use1, updating, now, done}
+use types.Kit.{‵, ◌⊛◌, later, some, pick, await, use2, ◌$◌, ◌∵◌, !, qed, by, move, drop, split, fsplit, fsplit3, fjoin}
+use types.Kit.{fpick, fpack, use1, updating, now, done}
 use types.Tokens.{shr_bor_shorten, bor_new, bor_fracture}
 use denote.RattleType.{RattleType}
 use denote.RawPtr.{Ptr}
@@ -18,8 +17,8 @@ use denote.Sharing.{ShrLaws, said, beside, one, held, always}
 use denote.SharingLaws.{some_shr_laws, beside_shr_laws, one_shr_laws, always_shr_laws, held_shr_laws}
 use denote.Param.Laws.{Laws}
 use Rattle.counting_word.specs.CountingWord.{marked_word}
-use Rattle.handles.specs.Inside.Blocks.{HeldRow, Names, marked, lent_share, bare_block, unshared_block}
-use Rattle.handles.specs.Inside.Blocks.{block_rule, shown}
+use Rattle.handles.specs.Inside.Blocks.{HeldRow, Names, marked, lent_share, bare_block, unshared_block, block_rule}
+use Rattle.handles.specs.Inside.Blocks.{shown}
 use Rattle.handles.specs.Inside.Marked.{Lasting, stays, marked_shares}
 use Rattle.handles.specs.Inside.Rows.{pass}
 use Rattle.handles.proofs.Rows.{pass_cut, left_over}

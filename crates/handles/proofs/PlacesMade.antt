@@ -1,7 +1,7 @@
 -- Room for an array makes places that hold nothing yet, and if they take no bytes it comes from nothing. Assumes
 -- `Logic`.
-use Rattle.std.proofs.Common.{◌≡◌, ◌≢◌, ℕ, ◌+◌, ◌-◌, ◌*◌, ◌^◌, ◌<◌, true, false, List}
-use Rattle.std.proofs.Common.{[], ◌∷◌, refl, sym, ap, ◌∙◌, subst, lit<, arith, ne_eqb}
+use Rattle.std.proofs.Common.{◌≡◌, ◌≢◌, ℕ, ◌+◌, ◌-◌, ◌*◌, ◌^◌, ◌<◌, true, false, List, [], ◌∷◌, refl, sym, ap, ◌∙◌}
+use Rattle.std.proofs.Common.{subst, lit<, arith, ne_eqb}
 use Rattle.std.specs.Prelude.{IsTrue, ◌↔◌, not}
 use lib.Dec.{T, eqb, eqb→eq}
 use seplogic.Ra.Ura.{Ura}
@@ -15,8 +15,8 @@ use prog.Align.{dv_self}
 use prog.Memory.{size, align, capped}
 use prog.Capped.{capped_is, capped_small}
 use types.Logic.{Logic, sem}
-use types.Kit.{Item, Goal, Step, step, ‵, raw, ◌⊛◌, ◌$◌, ◌∵◌, !, qed, keep, split, rewrite, use0}
-use types.Kit.{use1, fjoin, feq_i, flt_i, done}
+use types.Kit.{Item, Goal, Step, step, ‵, raw, ◌⊛◌, ◌$◌, ◌∵◌, !, qed, keep, split, rewrite, use0, use1, fjoin, feq_i}
+use types.Kit.{flt_i, done}
 use denote.RattleType.{RattleType}
 use denote.Array.{Array}
 use denote.ArrayMemory.{Array-whole}

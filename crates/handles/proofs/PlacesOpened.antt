@@ -1,8 +1,7 @@
 -- Places are taken apart and put together: the items, the room after them and the right to free the block.
 -- Assumes `Logic`.
 use Rattle.std.proofs.Common.{◌≡◌, ℕ, ◌*◌, ◌^◌, ◌<◌, List, [], ◌∷◌, refl, sym, ap, ◌∙◌}
-use lib.ListN.{length}
-use lib.ListN.{drop as skip}
+use lib.ListN.{length, drop as skip}
 use lib.Seq.{take_at}
 use seplogic.Ra.Ura.{Ura}
 use mir.Val.{Val}
@@ -10,8 +9,8 @@ use base.Fraction.{full_share}
 use base.Logic.{ent, sep, id⊢, never}
 use base.Fml.{Fml, fsep}
 use types.Logic.{Logic, sem}
-use types.Kit.{Item, Goal, Seq, Step, step, ‵, given, ◌$◌, ◌∵◌, !, qed, by, move, keep, use0, use1, learn}
-use types.Kit.{fsplit, fsplit3, fjoin, fjoin3, fpack, flt_i, flt_l, rewrite, done}
+use types.Kit.{Item, Goal, Seq, Step, step, ‵, given, ◌$◌, ◌∵◌, !, qed, by, move, keep, use0, use1, learn, fsplit}
+use types.Kit.{fsplit3, fjoin, fjoin3, fpack, flt_i, flt_l, rewrite, done}
 use types.SemTy.{cells}
 use denote.RattleType.{RattleType}
 use denote.Laws.{Is, shows}

@@ -1,18 +1,18 @@
 -- The names that the walks over the places of items cite.
-pub use Rattle.handles.proofs.Walks.{◌≡◌, ℕ, ◌+◌, ◌-◌, ◌^◌, ◌<◌, Bool, true, false, List, []}
-pub use Rattle.handles.proofs.Walks.{◌∷◌, ◌++◌, refl, sym, ap, ◌∙◌, subst, lit<, arith, w64, a_type}
-pub use Rattle.handles.proofs.Walks.{named, Val, vint, vptr, vunit, inst_fn, full_share, SProp, ent, sep, emp, id⊢}
-pub use Rattle.handles.proofs.Walks.{fat, Lft, Share, Fml, ftrue, fsep, flft, fhide, WpFn, sem, ‵, raw, ◌⊛◌}
-pub use Rattle.handles.proofs.Walks.{some, given, later, at_ret, ◌$◌, ◌∵◌, !, qed, by, move, keep, drop}
-pub use Rattle.handles.proofs.Walks.{split, split3, join, fsplit, fsplit3, fjoin, fjoin3, pick, learn, use0, use1, use2}
-pub use Rattle.handles.proofs.Walks.{use3, await, rewrite, feq_i, flt_i, flt_l, suffices, done, unit_lit, stop, fld}
-pub use Rattle.handles.proofs.Walks.{load, addr, lit, of_opd, no_more, and_then, first, blocks, exec, returns, enter}
-pub use Rattle.handles.proofs.Walks.{lands_as, alloc_all, pass_all, free_all, look_at, get, get_in, through, sets}
-pub use Rattle.handles.proofs.Walks.{sets_last, lands_last, is, env, agg, sub, whole, look_in, tables, fact, fact_i}
-pub use Rattle.handles.proofs.Walks.{yes, no, RattleType, owns, types_at, plain, Ptr, InBlock, block_ptr, ptr_val}
-pub use Rattle.handles.proofs.Walks.{block_of, offset_of, at_block, nothing_more, peeks, heard, looks, shuts, Is, shows}
-pub use Rattle.handles.proofs.Walks.{cell_at, param, layout, layouts, param_laws, RefOf, shr_vals, shr_Tells, Stays}
-pub use Rattle.handles.proofs.Walks.{stay_dropped, walk_of, Goes-dropped, after, proved, proved_at, leaves, fm}
+pub use Rattle.handles.proofs.Walks.{◌≡◌, ℕ, ◌+◌, ◌-◌, ◌^◌, ◌<◌, Bool, true, false, List, [], ◌∷◌, ◌++◌, refl, sym, ap}
+pub use Rattle.handles.proofs.Walks.{◌∙◌, subst, lit<, arith, w64, a_type, named, Val, vint, vptr, vunit, inst_fn}
+pub use Rattle.handles.proofs.Walks.{full_share, SProp, ent, sep, emp, id⊢, fat, Lft, Share, Fml, ftrue, fsep, flft}
+pub use Rattle.handles.proofs.Walks.{fhide, WpFn, sem, ‵, raw, ◌⊛◌, some, given, later, at_ret, ◌$◌, ◌∵◌, !, qed, by}
+pub use Rattle.handles.proofs.Walks.{move, keep, drop, split, split3, join, fsplit, fsplit3, fjoin, fjoin3, pick, learn}
+pub use Rattle.handles.proofs.Walks.{use0, use1, use2, use3, await, rewrite, feq_i, flt_i, flt_l, suffices, done}
+pub use Rattle.handles.proofs.Walks.{unit_lit, stop, fld, load, addr, lit, of_opd, no_more, and_then, first, blocks}
+pub use Rattle.handles.proofs.Walks.{exec, returns, enter, lands_as, alloc_all, pass_all, free_all, look_at, get}
+pub use Rattle.handles.proofs.Walks.{get_in, through, sets, sets_last, lands_last, is, env, agg, sub, whole, look_in}
+pub use Rattle.handles.proofs.Walks.{tables, fact, fact_i, yes, no, RattleType, owns, types_at, plain, Ptr, InBlock}
+pub use Rattle.handles.proofs.Walks.{block_ptr, ptr_val, block_of, offset_of, at_block, nothing_more, peeks, heard}
+pub use Rattle.handles.proofs.Walks.{looks, shuts, Is, shows, cell_at, param, layout, layouts, param_laws, RefOf}
+pub use Rattle.handles.proofs.Walks.{shr_vals, shr_Tells, Stays, stay_dropped, walk_of, Goes-dropped, after, proved}
+pub use Rattle.handles.proofs.Walks.{proved_at, leaves, fm}
 pub use Rattle.std.proofs.Common.{◌*◌, ◌≢◌, ◌≤◌}
 pub use Rattle.std.specs.Mem.{type_size}
 pub use Rattle.std.specs.Prelude.{Err, IfOk, Ok}

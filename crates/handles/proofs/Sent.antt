@@ -1,10 +1,9 @@
 -- A handle says the same to every thread, if its value may go to any thread and be seen by any.
-use Rattle.std.proofs.Common.{ℕ, ◌+◌, Bool, true, false, [], ◌∷◌}
+use Rattle.std.proofs.Common.{ℕ, ◌+◌, Bool, true, false, [], ◌∷◌, List}
 use base.Fml.{Fml, Lft, Share}
 use base.Shift.{Keyless}
 use base.Fraction.{full_share}
 use base.Growing.{latest}
-use Rattle.std.proofs.Common.{List}
 use Rattle.counting_word.specs.WordSteps.{WordStep}
 use Rattle.handles.proofs.Rows.{row-Keyless, pass-Keyless}
 use denote.RattleType.{RattleType}

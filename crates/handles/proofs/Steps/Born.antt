@@ -14,16 +14,13 @@ use Rattle.counting_word.specs.CountingWord.{is_marked_word}
 use Rattle.counting_word.proofs.Tallies.{keeps-counts}
 use Rattle.handles.proofs.Steps.Reads.{a_share, no_share}
 use Rattle.handles.proofs.Steps.Turns.{turns_read}
-use Rattle.handles.proofs.Steps.Shared.{◌≡◌, ℕ, true, false, [], ◌∷◌, refl, ap, subst}
-use Rattle.handles.proofs.Steps.Shared.{if◌then◌else◌, Ura}
-use Rattle.handles.proofs.Steps.Shared.{ent, upd, upd_i, via, never, id⊢, sep, ftrue, full_share, Share, Fml}
-use Rattle.handles.proofs.Steps.Shared.{fsep, fex, finv, WordStep, Tally, List, given, learn, fjoin3, lives}
-use Rattle.handles.proofs.Steps.Shared.{begun_with, Logic, sem, ‵, ◌⊛◌, ◌$◌, ◌∵◌, !, qed, by, move}
-use Rattle.handles.proofs.Steps.Shared.{keep, drop}
-use Rattle.handles.proofs.Steps.Shared.{frame, assume, split, fsplit, fsplit3, fjoin, fpick, fpack, suffices}
-use Rattle.handles.proofs.Steps.Shared.{use1, use2, done, nothing_more, Right, nothing, a_handle, right_by_read}
-use Rattle.handles.proofs.Steps.Shared.{title, marked, unmarked, Stage, living, over, SharedBlock, at_stage}
-use Rattle.handles.proofs.Steps.Shared.{rule, makes_one, no_token, passed, grants, pass, fits}
+use Rattle.handles.proofs.Steps.Shared.{◌≡◌, ℕ, true, false, [], ◌∷◌, refl, ap, subst, if◌then◌else◌, Ura, ent, upd}
+use Rattle.handles.proofs.Steps.Shared.{upd_i, via, never, id⊢, sep, ftrue, full_share, Share, Fml, fsep, fex, finv}
+use Rattle.handles.proofs.Steps.Shared.{WordStep, Tally, List, given, learn, fjoin3, lives, begun_with, Logic, sem, ‵}
+use Rattle.handles.proofs.Steps.Shared.{◌⊛◌, ◌$◌, ◌∵◌, !, qed, by, move, keep, drop, frame, assume, split, fsplit}
+use Rattle.handles.proofs.Steps.Shared.{fsplit3, fjoin, fpick, fpack, suffices, use1, use2, done, nothing_more, Right}
+use Rattle.handles.proofs.Steps.Shared.{nothing, a_handle, right_by_read, title, marked, unmarked, Stage, living, over}
+use Rattle.handles.proofs.Steps.Shared.{SharedBlock, at_stage, rule, makes_one, no_token, passed, grants, pass, fits}
 use Rattle.handles.proofs.Steps.Shared.{records, unknown, Entails, noted}
 
 module _ {M : Type 1} {𝓤 : Ura M} (𝓛 : Logic 𝓤) (s : SharedBlock) (q : Share) where

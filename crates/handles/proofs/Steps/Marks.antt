@@ -6,14 +6,12 @@ use Rattle.counting_word.specs.CountingWord.{marked_word}
 use Rattle.counting_word.proofs.Words.{bit_or-mark_bit, stands-marked_word}
 use Rattle.counting_word.specs.WordSteps as step
 use Rattle.handles.proofs.Asking as asking
-use Rattle.handles.proofs.Steps.Shared.{◌≡◌, ℕ, ◌+◌, ◌^◌, ◌<◌, Bool, true, false, [], ◌∷◌}
-use Rattle.handles.proofs.Steps.Shared.{sym, refl, ◌∙◌, subst, arith}
-use Rattle.handles.proofs.Steps.Shared.{Ura, ftrue, Share, Fml, fsep, flft, Logic, ‵, ◌⊛◌, ◌$◌, ◌∵◌}
-use Rattle.handles.proofs.Steps.Shared.{ !, qed, by, move}
+use Rattle.handles.proofs.Steps.Shared.{◌≡◌, ℕ, ◌+◌, ◌^◌, ◌<◌, Bool, true, false, [], ◌∷◌, sym, refl, ◌∙◌, subst, arith}
+use Rattle.handles.proofs.Steps.Shared.{Ura, ftrue, Share, Fml, fsep, flft, Logic, ‵, ◌⊛◌, ◌$◌, ◌∵◌, !, qed, by, move}
 use Rattle.handles.proofs.Steps.Shared.{keep, split, fsplit, fsplit3, fjoin, fjoin3, fpick, fpack, suffices, use1, use2}
-use Rattle.handles.proofs.Steps.Shared.{done, rest, takes, mark_bit, count_of-unmarked, StandsWithin, unit_of_count, marked}
-use Rattle.handles.proofs.Steps.Shared.{SharedBlock, shared, counts, beside, rule, Entails, lives, Lands, Asks, stepped}
-use Rattle.handles.proofs.Steps.Shared.{pass, passes_on, and_logged, unknown}
+use Rattle.handles.proofs.Steps.Shared.{done, rest, takes, mark_bit, count_of-unmarked, StandsWithin, unit_of_count}
+use Rattle.handles.proofs.Steps.Shared.{marked, SharedBlock, shared, counts, beside, rule, Entails, lives, Lands, Asks}
+use Rattle.handles.proofs.Steps.Shared.{stepped, pass, passes_on, and_logged, unknown}
 use Rattle.handles.proofs.Steps.Words.{marked-stands}
 use Rattle.handles.proofs.Steps.Reads.{bare_share, a_share, no_share}
 use Rattle.handles.proofs.Steps.Turns.{turns_none}

@@ -4,18 +4,16 @@ use Rattle.counting_word.specs.CountingWord.{IsWithin}
 use Rattle.counting_word.specs.WordSteps as step
 use Rattle.counting_word.specs.Rights.{Right}
 use Rattle.handles.specs.Inside.Blocks.{fact, logged}
-use Rattle.handles.proofs.Steps.Shared.{WordStep, List, fsplit, fsplit3, done}
+use Rattle.handles.proofs.Steps.Shared.{WordStep, List, fsplit, fsplit3, done, unshared, ◌≡◌, ℕ, true, false, [], ◌∷◌}
+use Rattle.handles.proofs.Steps.Shared.{ap, if◌then◌else◌, Ura, ent, never, Share, Fml, fsep, flft, Logic, sem, ‵, ◌⊛◌}
+use Rattle.handles.proofs.Steps.Shared.{◌$◌, ◌∵◌, !, qed, by, move, split, fjoin, fpack, use1, use2, nothing_more}
+use Rattle.handles.proofs.Steps.Shared.{nothing, a_handle, right_by_read, StandsWithin, title, SharedBlock, shared}
+use Rattle.handles.proofs.Steps.Shared.{counts, beside, rule, granted, grants, passed, pass, Bool, passes_on, Entails}
+use Rattle.handles.proofs.Steps.Shared.{no_token, lives, regranted, makes_one, Lands, Asks, stepped, and_logged}
+use Rattle.handles.proofs.Steps.Shared.{unknown, refl}
 use Rattle.handles.proofs.Asking as asking
 use Rattle.handles.proofs.Steps.Turns.{turns_read, turns_none}
 use base.Logic.{id⊢}
-use Rattle.handles.proofs.Steps.Shared.{unshared, ◌≡◌, ℕ, true, false, [], ◌∷◌, ap, if◌then◌else◌}
-use Rattle.handles.proofs.Steps.Shared.{Ura, ent, never}
-use Rattle.handles.proofs.Steps.Shared.{Share, Fml, fsep, flft, Logic, sem, ‵, ◌⊛◌, ◌$◌, ◌∵◌, !, qed}
-use Rattle.handles.proofs.Steps.Shared.{by, move, split}
-use Rattle.handles.proofs.Steps.Shared.{fjoin, fpack, use1, use2, nothing_more, nothing, a_handle, right_by_read, StandsWithin}
-use Rattle.handles.proofs.Steps.Shared.{title, SharedBlock, shared, counts, beside, rule, granted, grants, passed, pass}
-use Rattle.handles.proofs.Steps.Shared.{Bool, passes_on, Entails, no_token, lives, regranted, makes_one, Lands, Asks}
-use Rattle.handles.proofs.Steps.Shared.{stepped, and_logged, unknown, refl}
 
 module _ (s : SharedBlock) (q : Share) where
   -- its maker has a share of the token, and of the pass of a handle

@@ -6,11 +6,11 @@ use denote.RawPtr.{block_ptr}
 use Rattle.core.specs.Sync.RawAtomic.{asks, always, word}
 use Rattle.handles.specs.Inside.Blocks.{living}
 use Rattle.handles.proofs.Asking as asking
-use Rattle.handles.proofs.Steps.Shared.{finv, ℕ, ◌+◌, Bool, true, false, [], ◌∷◌, Ura, full_share, SProp}
-use Rattle.handles.proofs.Steps.Shared.{ent, never, Share, Fml, fsep, fex, flft, flent, Logic, sem, ‵, ◌⊛◌}
-use Rattle.handles.proofs.Steps.Shared.{◌$◌, ◌∵◌, !, qed, by, move, keep, split, fsplit, fsplit3, fjoin}
-use Rattle.handles.proofs.Steps.Shared.{fjoin3, fpick, fpack, frame, suffices, use1, use2, done, rest, marked, Stage}
-use Rattle.handles.proofs.Steps.Shared.{over, SharedBlock, shared, unmarked, beside, at_stage, rule, Entails}
+use Rattle.handles.proofs.Steps.Shared.{finv, ℕ, ◌+◌, Bool, true, false, [], ◌∷◌, Ura, full_share, SProp, ent, never}
+use Rattle.handles.proofs.Steps.Shared.{Share, Fml, fsep, fex, flft, flent, Logic, sem, ‵, ◌⊛◌, ◌$◌, ◌∵◌, !, qed, by}
+use Rattle.handles.proofs.Steps.Shared.{move, keep, split, fsplit, fsplit3, fjoin, fjoin3, fpick, fpack, frame}
+use Rattle.handles.proofs.Steps.Shared.{suffices, use1, use2, done, rest, marked, Stage, over, SharedBlock, shared}
+use Rattle.handles.proofs.Steps.Shared.{unmarked, beside, at_stage, rule, Entails}
 use Rattle.handles.proofs.Steps.Reads.{a_share}
 
 -- that word, at the offset o

@@ -1,6 +1,5 @@
 -- What the word of a block stands for, when its mark or its count changes.
-use Rattle.std.proofs.Common.{◌≡◌, ℕ, ◌≤◌, Bool, true, false, sym, ◌∙◌, subst, le_trans}
-use Rattle.std.proofs.Common.{true≢false}
+use Rattle.std.proofs.Common.{◌≡◌, ℕ, ◌≤◌, Bool, true, false, sym, ◌∙◌, subst, le_trans, true≢false}
 use Rattle.counting_word.specs.CountingWord.{count_of, StandsFor}
 use Rattle.handles.specs.Inside.Blocks.{StandsWithin}
 

@@ -1,6 +1,5 @@
 -- What a builder that wants n items answers, by what it heard of an iterator whose items may be errors.
-use Rattle.std.specs.Prelude.{◌≡◌, ℕ, ◌<◌, ◌⊎◌, List, map, length}
-use Rattle.std.specs.Prelude.{Option, None, Some, Result, Ok, Err}
+use Rattle.std.specs.Prelude.{◌≡◌, ℕ, ◌<◌, ◌⊎◌, List, map, length, Option, None, Some, Result, Ok, Err}
 use Rattle.std.specs.Iterator.{YieldsThen}
 use Rattle.std.specs.Iterator.Runs.{WholeRun}
 use Rattle.handles.specs.HeaderSlice.{HeaderAndItems, ItemsInRoom}

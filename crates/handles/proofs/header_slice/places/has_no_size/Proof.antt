@@ -1,9 +1,9 @@
 -- `has_no_size` compares the size that a word holds.
-use Rattle.handles.proofs.PlacesWalks.{◌≡◌, Bool, List, [], ◌∷◌, refl, a_type, Val, inst_fn, SProp, emp}
-use Rattle.handles.proofs.PlacesWalks.{ftrue, flft, ‵, raw, ◌⊛◌, ◌$◌, ◌∵◌, !, qed, by, move, keep}
-use Rattle.handles.proofs.PlacesWalks.{split, join, use0, feq_i, lit, returns, enter, alloc_all, pass_all, free_all}
-use Rattle.handles.proofs.PlacesWalks.{look_at, sets, tables, fact, fact_i, nothing_more, layout, layouts, walk_of}
-use Rattle.handles.proofs.PlacesWalks.{proved, leaves, capped, bin, size_word}
+use Rattle.handles.proofs.PlacesWalks.{◌≡◌, Bool, List, [], ◌∷◌, refl, a_type, Val, inst_fn, SProp, emp, ftrue, flft, ‵}
+use Rattle.handles.proofs.PlacesWalks.{raw, ◌⊛◌, ◌$◌, ◌∵◌, !, qed, by, move, keep, split, join, use0, feq_i, lit}
+use Rattle.handles.proofs.PlacesWalks.{returns, enter, alloc_all, pass_all, free_all, look_at, sets, tables, fact}
+use Rattle.handles.proofs.PlacesWalks.{fact_i, nothing_more, layout, layouts, walk_of, proved, leaves, capped, bin}
+use Rattle.handles.proofs.PlacesWalks.{size_word}
 use mir.Val.{vbool}
 use Rattle.std.specs.Prelude.{IsTrue, ◌↔◌}
 use lib.Dec.{eqb}

@@ -1,6 +1,5 @@
 -- `Places` as a type that may hold the type that holds it: by its items, one by one.
-use Rattle.std.specs.Prelude.{suc, ◌≤◌, ◌-◌, ◌*◌, ◌^◌, ◌==◌, List, [], ◌∷◌, map, length}
-use Rattle.std.specs.Prelude.{not}
+use Rattle.std.specs.Prelude.{suc, ◌≤◌, ◌-◌, ◌*◌, ◌^◌, ◌==◌, List, [], ◌∷◌, map, length, not}
 use mathlib.Core.Path.{◌≡◌, PathP, refl, sym, ap, ◌∙◌}
 use mathlib.Core.HLevel.{is_prop→PathP}
 use mathlib.Core.Former.{Former, Count, Row, over, this, list, list_count, list_get}

@@ -1,15 +1,14 @@
 -- `add_to_stamp` is one addition to the stamp.
-use Rattle.handles.proofs.Walks.{◌≡◌, ℕ, ◌+◌, ◌%◌, ◌^◌, false, [], ◌∷◌, refl, lit<, w64}
-use Rattle.handles.proofs.Walks.{a_type, named, Val, vint, vptr, inst_fn, SProp, via, Lft, Share, Fml, ftrue, fsep}
-use Rattle.handles.proofs.Walks.{flft, ‵, raw, ◌⊛◌, mean, at_ret, ◌$◌, ◌∵◌, !, qed, by, move, keep}
-use Rattle.handles.proofs.Walks.{split, join, fsplit, fjoin, use2, stop, fld, load, addr, lit, of_opd, no_more}
-use Rattle.handles.proofs.Walks.{and_then, first, blocks, exec, Calls-last, returns, enter, alloc_all, pass_all}
-use Rattle.handles.proofs.Walks.{free_all, look_at, get, through, sets, lands_last, env, agg, sub, whole, look_in}
-use Rattle.handles.proofs.Walks.{tables, fact, yes, RattleType, owns, types_at, plain, Ptr, block_ptr, block_of}
-use Rattle.handles.proofs.Walks.{offset_of, nothing_more, heard, shuts, param, layouts, RefOf, u64, shr_vals, shr_Tells}
-use Rattle.handles.proofs.Walks.{Stays, stay_dropped, walk_of, Goes-dropped, after, proved, leaves, fm, seq_cst, found}
-use Rattle.handles.proofs.Walks.{finds, HeldRow, one_word, HandleRow, HandleWords, is_number, opens_handle}
-use Rattle.handles.proofs.Walks.{closes_borrow}
+use Rattle.handles.proofs.Walks.{◌≡◌, ℕ, ◌+◌, ◌%◌, ◌^◌, false, [], ◌∷◌, refl, lit<, w64, a_type, named, Val, vint, vptr}
+use Rattle.handles.proofs.Walks.{inst_fn, SProp, via, Lft, Share, Fml, ftrue, fsep, flft, ‵, raw, ◌⊛◌, mean, at_ret}
+use Rattle.handles.proofs.Walks.{◌$◌, ◌∵◌, !, qed, by, move, keep, split, join, fsplit, fjoin, use2, stop, fld, load}
+use Rattle.handles.proofs.Walks.{addr, lit, of_opd, no_more, and_then, first, blocks, exec, Calls-last, returns, enter}
+use Rattle.handles.proofs.Walks.{alloc_all, pass_all, free_all, look_at, get, through, sets, lands_last, env, agg, sub}
+use Rattle.handles.proofs.Walks.{whole, look_in, tables, fact, yes, RattleType, owns, types_at, plain, Ptr, block_ptr}
+use Rattle.handles.proofs.Walks.{block_of, offset_of, nothing_more, heard, shuts, param, layouts, RefOf, u64, shr_vals}
+use Rattle.handles.proofs.Walks.{shr_Tells, Stays, stay_dropped, walk_of, Goes-dropped, after, proved, leaves, fm}
+use Rattle.handles.proofs.Walks.{seq_cst, found, finds, HeldRow, one_word, HandleRow, HandleWords, is_number}
+use Rattle.handles.proofs.Walks.{opens_handle, closes_borrow}
 use Rattle.atomic_table.proofs.Calls.{adds}
 use denote.Plain.{uint_vals, uint_Tells}
 use Rattle.handles.specs.Inside.Blocks.{stamp_offset, lent_share}

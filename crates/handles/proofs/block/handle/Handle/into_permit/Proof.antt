@@ -1,19 +1,16 @@
 -- `into_gain` takes the block of a handle that is known to be the only one.
 use Rattle.handles.proofs.Fields.{sole_permits}
-use Rattle.handles.proofs.Walks.{pick}
-use Rattle.handles.proofs.Walks.{permit_owns}
-use types.Kit.{some as exists}
-use Rattle.handles.proofs.Walks.{use1}
-use Rattle.std.proofs.Common.{List}
-use Rattle.counting_word.specs.WordSteps.{WordStep}
-use Rattle.handles.proofs.Walks.{◌≡◌, ℕ, Bool, true, [], ◌∷◌, refl, a_type, Val, inst_fn, SProp, Lft}
-use Rattle.handles.proofs.Walks.{Share, ftrue, flft, ‵, raw, ◌⊛◌, ◌$◌, ◌∵◌, !, qed, by, move, keep}
-use Rattle.handles.proofs.Walks.{split, join, fsplit, fjoin, use0, rewrite, stop, fld, of_opd, no_more, and_then}
-use Rattle.handles.proofs.Walks.{returns, enter, alloc_all, pass_all, free_all, look_at, get, get_in, sets, agg, sub}
-use Rattle.handles.proofs.Walks.{whole, tables, fact, no, RattleType, owns, types_at, plain, Ptr, block_of, offset_of}
+use Rattle.handles.proofs.Walks.{pick, permit_owns, use1, ◌≡◌, ℕ, Bool, true, [], ◌∷◌, refl, a_type, Val, inst_fn}
+use Rattle.handles.proofs.Walks.{SProp, Lft, Share, ftrue, flft, ‵, raw, ◌⊛◌, ◌$◌, ◌∵◌, !, qed, by, move, keep, split}
+use Rattle.handles.proofs.Walks.{join, fsplit, fjoin, use0, rewrite, stop, fld, of_opd, no_more, and_then, returns}
+use Rattle.handles.proofs.Walks.{enter, alloc_all, pass_all, free_all, look_at, get, get_in, sets, agg, sub, whole}
+use Rattle.handles.proofs.Walks.{tables, fact, no, RattleType, owns, types_at, plain, Ptr, block_of, offset_of}
 use Rattle.handles.proofs.Walks.{nothing_more, heard, param, layouts, Stays, stay_dropped, walk_of, Goes-dropped}
 use Rattle.handles.proofs.Walks.{proved, leaves, Right, HeldRow, one_word, one_word-Good, words_are, words_made}
 use Rattle.handles.proofs.Walks.{HandleRow, PermitWords, known}
+use types.Kit.{some as exists}
+use Rattle.std.proofs.Common.{List}
+use Rattle.counting_word.specs.WordSteps.{WordStep}
 use Rattle.counting_word.specs.Rights.{whole_block}
 use Rattle.handles.specs.Inside.Blocks.{handle_owns}
 use Rattle.handles.specs.contracts.block.handle.Handle as handle_type
@@ -23,25 +20,17 @@ use Rattle.handles.specs.contracts.block.handle.Handle.into_permit.{ended, claus
 use Rattle.handles.specs.contracts.block.handle.Handle.into_permit.Key.{name as #self}
 use Rattle.handles.proofs.block.handle.Handle.into_permit.Statement.{statement}
 use Rattle.handles.proofs.block.handle.Handle.into_permit.Code as code
+use Rattle.handles.proofs.OneParam.{by_value, handle_worded, permit_at}
+use base.Logic.{snd∗}
 
 pub into_permit_spec : {M : Type 1} → statement M
 into_permit_spec 𝓤 𝓛 𝓜 𝓡 wired T L =
-    let H = 𝓛.H in let 𝓣 = tables 𝓤 H 𝓜 𝓡 𝓡.env in let R : RattleType = param 0 T in
-    let En = ended T in let c = clauses T 𝓛 𝓜.mem 𝓡.returns in
+    let 𝓣 = tables 𝓤 𝓛.H 𝓜 𝓡 𝓡.env in let R : RattleType = param 0 T in let En = ended T in
     let inst = layouts (a_type ∷ []) (T, tt) in let fn = inst_fn inst code.function in
-    let self = plain (λ _. HandleRow R) in let hs : Stays En.signature.params En.kept = (stay_dropped self no, tt) in
-    proved 𝓛 En hs c 𝓜 𝓡 (Goes-dropped 𝓛 1 self no (λ κs x f. refl), tt) (#self inst)
-    fn (code.unfolded 𝓤 H 𝓜 𝓡 wired (T, tt)) (λ κs. ((λ s. one_word s.block ∷ []), tt))
-    (λ κs. ((λ s vs so. words_are (handle_type.the_type R).name (R ∷ []) s.block vs so.0), tt))
-    (λ κs qs bounds a gh are.
-    let κ : Lft = κs.0 in let q : Share = qs.0 in let p : Ptr = a.0.block in let x : (HeldRow R).Denot = a.0.held in
-    let η : ℕ = a.0.id in let pb : ℕ = block_of p in let po : ℕ = offset_of p in let r : Right = whole_block 1 in
-    let y : (walk_of 𝓛 En hs c).Ghost = ((κs, qs, bounds, a, (one_word p ∷ [], tt)), gh) in
-    let Post : Val → SProp 𝓤 = (walk_of 𝓛 En hs c).post y in
-    qed 𝓛 (((‵ (flft κ q) ⊛ ‵ ftrue) ⊛ ‵ (owns (types_at En.signature.params κs) a y.0.4))
-    ∷ raw (fact 𝓤 _) ∷ raw (fact 𝓤 (a.0.sole ≡ true)) ∷ []) ∵
-    keep ! (2 ∷ 0 ∷ []) $ heard ! (a.0.sole ≡ true) (λ asked. split ! $ split ! $ join ! $ move ! (1 ∷ []) $
-    fsplit ! $ fsplit ! $ keep ! (1 ∷ 3 ∷ []) $
+    by_value (handle_worded R) En.signature.outlives En.signature.result 𝓛 𝓜 𝓡 (clauses T 𝓛 𝓜.mem 𝓡.returns)
+    (λ κs a. a.sole ≡ true) (λ κs a gh. snd∗ 𝓤 (fact 𝓤 _) (fact 𝓤 _)) (λ κs a. (tt, tt)) (λ κs x f. refl) (#self inst) fn
+    (code.unfolded 𝓤 𝓛.H 𝓜 𝓡 wired (T, tt)) (λ κs qs a gh Post asked ends.
+    let p : Ptr = a.block in let x : (HeldRow R).Denot = a.held in let η : ℕ = a.id in let r : Right = whole_block 1 in
     rewrite ! 0 (λ (z : Bool). ‵ (handle_owns R p x η z)) asked refl $
     use1 𝓛 (exists (λ (log : List WordStep). ‵ (permit_owns R p x η (whole_block 1) log)))
     (sole_permits 𝓛 R p x η) $
@@ -51,13 +40,5 @@ into_permit_spec 𝓤 𝓛 𝓜 𝓡 wired T L =
     sets ! (agg ! (and_then ! (get ! refl) (no_more !))) refl (one_word-Good p) $
     use0 𝓛 (‵ ((PermitWords R).own_val (p, tt) (one_word p ∷ [])))
     (words_made (permit_type.the_type R).name (R ∷ []) 𝓛 p) $ fjoin ! $
-    known ! (η ≡ η) refl $ known ! (x ≡ x) refl $ join ! $ known ! (r ≡ r) refl $ join ! $ nothing_more ! $
-    nothing_more ! $ fjoin ! $
-    returns ! (look_at ! 0 refl) $ free_all ! refl $ keep ! (3 ∷ 0 ∷ 2 ∷ 1 ∷ []) $
-    by ! (leaves 𝓛 En hs c y (one_word p) (record {
-      block = p;
-      held = x;
-      right = r;
-      id = η;
-      log = log;
-    }) (tt, tt) (tt, tt))))))
+    known ! (η ≡ η) refl $ known ! (x ≡ x) refl $ join ! $ known ! (r ≡ r) refl $ join ! $ returns ! (look_at ! 0 refl) $ free_all ! refl $ keep ! (2 ∷ 1 ∷ 0 ∷ []) $
+    by ! (ends (one_word p) (permit_at R p x r η log)))))

@@ -1,13 +1,14 @@
 -- `into_shared` forgets that a handle is the only one.
-use Rattle.handles.proofs.Walks.{◌≡◌, ℕ, false, [], ◌∷◌, refl, a_type, Val, inst_fn, SProp, Lft, Share}
-use Rattle.handles.proofs.Walks.{ftrue, flft, ‵, raw, ◌⊛◌, ◌$◌, ◌∵◌, !, qed, by, move, keep, split}
-use Rattle.handles.proofs.Walks.{join, fsplit, fjoin, use0, use1, stop, fld, of_opd, no_more, and_then, returns, enter}
-use Rattle.handles.proofs.Walks.{alloc_all, pass_all, free_all, look_at, get, get_in, sets, agg, sub, whole, tables}
-use Rattle.handles.proofs.Walks.{fact, no, RattleType, owns, types_at, plain, Ptr, block_of, offset_of, nothing_more}
-use Rattle.handles.proofs.Walks.{param, layouts, param_laws, Stays, stay_dropped, walk_of, Goes-dropped, proved, leaves}
-use Rattle.handles.proofs.Walks.{HeldRow, one_word, one_word-Good, words_are, words_made, HandleRow, HandleWords}
-use Rattle.handles.proofs.Walks.{known}
+use Rattle.handles.proofs.Walks.{◌≡◌, ℕ, false, [], ◌∷◌, refl, a_type, Val, inst_fn, SProp, Lft, Share, ftrue, flft, ‵}
+use Rattle.handles.proofs.Walks.{raw, ◌⊛◌, ◌$◌, ◌∵◌, !, qed, by, move, keep, split, join, fsplit, fjoin, use0, use1}
+use Rattle.handles.proofs.Walks.{stop, fld, of_opd, no_more, and_then, returns, enter, alloc_all, pass_all, free_all}
+use Rattle.handles.proofs.Walks.{look_at, get, get_in, sets, agg, sub, whole, tables, fact, no, RattleType, owns}
+use Rattle.handles.proofs.Walks.{types_at, plain, Ptr, block_of, offset_of, nothing_more, param, layouts, param_laws}
+use Rattle.handles.proofs.Walks.{Stays, stay_dropped, walk_of, Goes-dropped, proved, leaves, HeldRow, one_word}
+use Rattle.handles.proofs.Walks.{one_word-Good, words_are, words_made, HandleRow, HandleWords, known}
 use Rattle.handles.specs.Inside.Blocks.{owned_as}
+use Rattle.handles.proofs.OneParam.{by_value, handle_worded, handle_at, is_handle}
+use contract.Monad.{fact_i}
 use Rattle.handles.proofs.Owners.{forgets}
 use Rattle.handles.specs.contracts.block.handle.Handle as handle_type
 use Rattle.std_alloc.proofs.RcSteps.{Ptr-Good}
@@ -18,36 +19,17 @@ use Rattle.handles.proofs.block.handle.Handle.into_shared.Code as code
 
 pub into_shared_spec : {M : Type 1} → statement M
 into_shared_spec 𝓤 𝓛 𝓜 𝓡 wired T L =
-    let H = 𝓛.H in let 𝓣 = tables 𝓤 H 𝓜 𝓡 𝓡.env in let R : RattleType = param 0 T in
-    let En = ended T in let c = clauses T 𝓛 𝓜.mem 𝓡.returns in
+    let 𝓣 = tables 𝓤 𝓛.H 𝓜 𝓡 𝓡.env in let R : RattleType = param 0 T in let En = ended T in
     let inst = layouts (a_type ∷ []) (T, tt) in let fn = inst_fn inst code.function in
-    let self = plain (λ _. HandleRow R) in let hs : Stays En.signature.params En.kept = (stay_dropped self no, tt) in
-    proved 𝓛 En hs c 𝓜 𝓡 (Goes-dropped 𝓛 1 self no (λ κs x f. refl), tt) (#self inst)
-    fn (code.unfolded 𝓤 H 𝓜 𝓡 wired (T, tt)) (λ κs. ((λ s. one_word s.block ∷ []), tt))
-    (λ κs. ((λ s vs so. words_are (handle_type.the_type R).name (R ∷ []) s.block vs so.0), tt))
-    (λ κs qs bounds a gh are.
-    let κ : Lft = κs.0 in let q : Share = qs.0 in let p : Ptr = a.0.block in let x : (HeldRow R).Denot = a.0.held in
-    let η : ℕ = a.0.id in let pb : ℕ = block_of p in let po : ℕ = offset_of p in
-    let y : (walk_of 𝓛 En hs c).Ghost = ((κs, qs, bounds, a, (one_word p ∷ [], tt)), gh) in
-    let Post : Val → SProp 𝓤 = (walk_of 𝓛 En hs c).post y in
-    qed 𝓛 (((‵ (flft κ q) ⊛ ‵ ftrue) ⊛ ‵ (owns (types_at En.signature.params κs) a y.0.4))
-    ∷ raw (fact 𝓤 _) ∷ ‵ ftrue ∷ []) ∵
-    keep ! (0 ∷ []) $ split ! $ split ! $ join ! $ move ! (1 ∷ []) $ fsplit ! $ fsplit ! $ keep ! (1 ∷ 3 ∷ []) $
+    by_value (handle_worded R) En.signature.outlives En.signature.result 𝓛 𝓜 𝓡 (clauses T 𝓛 𝓜.mem 𝓡.returns)
+    (λ κs a. Unit {0}) (λ κs a gh. fact_i 𝓤 _ _ tt) (λ κs a. (tt, tt)) (λ κs x f. refl) (#self inst) fn (code.unfolded 𝓤 𝓛.H 𝓜 𝓡 wired (T, tt))
+    (λ κs qs a gh Post is ends. let p : Ptr = a.block in let x : (HeldRow R).Denot = a.held in let η : ℕ = a.id in
     fsplit ! $ move ! (1 ∷ []) $
-    use1 𝓛 (‵ (owned_as R p x η false)) (forgets R (param_laws 0 T L) 𝓛 p x η a.0.sole) $
+    use1 𝓛 (‵ (owned_as R p x η false)) (forgets R (param_laws 0 T L) 𝓛 p x η a.sole) $
     move ! (1 ∷ 0 ∷ []) $ fjoin ! $
     enter ! 𝓣.C 𝓣.Λ fn (one_word p ∷ []) Post $ alloc_all ! (λ l. pass_all ! refl (one_word-Good p, tt) $
     sets ! (of_opd ! (get_in ! (fld ! refl (stop !)) (sub ! 0 refl (whole !)))) refl (Ptr-Good p) $
-    sets ! (agg ! (and_then ! (get ! refl) (no_more !))) refl (one_word-Good p) $
-    use0 𝓛 (‵ ((HandleWords R).own_val (p, tt) (one_word p ∷ [])))
-    (words_made (handle_type.the_type R).name (R ∷ []) 𝓛 p) $ fjoin ! $
+    sets ! (agg ! (and_then ! (get ! refl) (no_more !))) refl (one_word-Good p) $ is_handle R p x η ! false $
     known ! (η ≡ η) refl $ known ! (false ≡ false) refl $ join ! $ known ! (x ≡ x) refl $ join ! $
-    nothing_more ! $
-    nothing_more ! $ fjoin ! $
-    returns ! (look_at ! 0 refl) $ free_all ! refl $ keep ! (3 ∷ 0 ∷ 2 ∷ 1 ∷ []) $
-    by ! (leaves 𝓛 En hs c y (one_word p) (record {
-      block = p;
-      held = x;
-      sole = false;
-      id = η;
-    }) (tt, tt) (tt, tt))))
+    returns ! (look_at ! 0 refl) $ free_all ! refl $ keep ! (2 ∷ 1 ∷ 0 ∷ []) $
+    by ! (ends (one_word p) (handle_at R p x false η))))

@@ -1,16 +1,14 @@
 -- `marked_by` knows the block to be marked by the log of a step, and gives a handle away for good. It makes no
 -- step itself.
-use Rattle.handles.proofs.Walks.{◌≡◌, ℕ, false, List, [], ◌∷◌, refl, a_type, named, Val, vptr, inst_fn}
-use Rattle.handles.proofs.Walks.{SProp}
-use Rattle.handles.proofs.Walks.{Lft, Share, Fml, ftrue, fsep, flft, finv, later, await, pick, ‵, raw, ◌⊛◌}
-use Rattle.handles.proofs.Walks.{at_ret, ◌$◌, ◌∵◌, !, qed, by, move, keep, drop, split, join, fsplit, fjoin}
-use Rattle.handles.proofs.Walks.{fjoin3, fpick, rewrite, use1, use2, feq_i, stop, fld, load, addr, of_opd, first}
-use Rattle.handles.proofs.Walks.{blocks, exec, returns, enter, alloc_all, pass_all, free_all, look_at, get}
-use Rattle.handles.proofs.Walks.{through, sets, sets_last, env, sub, whole, look_in, tables, fact, yes}
-use Rattle.handles.proofs.Walks.{RattleType, owns, types_at, plain, Ptr, block_ptr, block_of, offset_of, at_block}
-use Rattle.handles.proofs.Walks.{nothing_more, heard, shuts, param, layouts, param_laws, RefOf, shr_vals}
-use Rattle.handles.proofs.Walks.{shr_Tells, Stays, stay_dropped, walk_of, Goes-dropped, after, proved, leaves}
-use Rattle.handles.proofs.Walks.{HeldRow, block_rule, one_word, HandleRow, HandleWords, opens_handle}
+use Rattle.handles.proofs.Walks.{◌≡◌, ℕ, false, List, [], ◌∷◌, refl, a_type, named, Val, vptr, inst_fn, SProp, Lft}
+use Rattle.handles.proofs.Walks.{Share, Fml, ftrue, fsep, flft, finv, later, await, pick, ‵, raw, ◌⊛◌, at_ret, ◌$◌, ◌∵◌}
+use Rattle.handles.proofs.Walks.{ !, qed, by, move, keep, drop, split, join, fsplit, fjoin, fjoin3, fpick, rewrite, use1}
+use Rattle.handles.proofs.Walks.{use2, feq_i, stop, fld, load, addr, of_opd, first, blocks, exec, returns, enter}
+use Rattle.handles.proofs.Walks.{alloc_all, pass_all, free_all, look_at, get, through, sets, sets_last, env, sub, whole}
+use Rattle.handles.proofs.Walks.{look_in, tables, fact, yes, RattleType, owns, types_at, plain, Ptr, block_ptr}
+use Rattle.handles.proofs.Walks.{block_of, offset_of, at_block, nothing_more, heard, shuts, param, layouts, param_laws}
+use Rattle.handles.proofs.Walks.{RefOf, shr_vals, shr_Tells, Stays, stay_dropped, walk_of, Goes-dropped, after, proved}
+use Rattle.handles.proofs.Walks.{leaves, HeldRow, block_rule, one_word, HandleRow, HandleWords, opens_handle}
 use Rattle.handles.proofs.Walks.{closes_borrow, known}
 use mir.Val.{vstruct, vnil}
 use types.Kit.{some as exists}

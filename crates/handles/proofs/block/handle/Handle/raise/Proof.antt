@@ -1,30 +1,27 @@
 -- `raise` is one compare-exchange of the word.
 use Rattle.handles.proofs.Steps.Reads.{reported_with, reported_logged}
-use Rattle.handles.proofs.Steps.Shared.{reached}
-use Rattle.handles.proofs.Walks.{rewrite}
-use Rattle.std.proofs.Common.{List}
+use Rattle.handles.proofs.Steps.Shared.{reached, block_at, and_logged}
+use Rattle.handles.proofs.Walks.{rewrite, ◌≡◌, ℕ, ◌+◌, ◌<◌, false, [], ◌∷◌, refl, sym, ap, w64, a_type, named, Val}
+use Rattle.handles.proofs.Walks.{vint, vptr, inst_fn, SProp, via, Lft, Share, Fml, ftrue, fsep, flft, finv, ‵, raw, ◌⊛◌}
+use Rattle.handles.proofs.Walks.{mean, at_ret, ◌$◌, ◌∵◌, !, qed, by, move, keep, drop, split, join, fsplit, fsplit3}
+use Rattle.handles.proofs.Walks.{fjoin, fpick, use1, use2, stop, fld, addr, of_opd, no_more, and_then, first, blocks}
+use Rattle.handles.proofs.Walks.{exec, Calls-last, returns, enter, alloc_all, pass_all, free_all, look_at, get, through}
+use Rattle.handles.proofs.Walks.{sets, lands_last, is, env, agg, sub, whole, tables, fact, yes, RattleType, owns}
+use Rattle.handles.proofs.Walks.{types_at, plain, Ptr, block_ptr, block_of, offset_of, at_block, nothing_more, heard}
+use Rattle.handles.proofs.Walks.{shuts, param, layouts, RefOf, u64, shr_vals, shr_Tells, Stays, stay_dropped, walk_of}
+use Rattle.handles.proofs.Walks.{Goes-dropped, after, proved, leaves, fm, found, finds, Right, HeldRow, block_rule}
+use Rattle.handles.proofs.Walks.{one_word, word_and_permit, one_word-Good, HandleRow, HandleWords, known}
+use Rattle.handles.proofs.Walks.{returns_permit, word_and_permit-Good, opens_handle, shows_permit, closes_borrow}
+use Rattle.handles.proofs.Walks.{words_are, PermitRow, ptr_val, get_in, no}
+use Rattle.std.proofs.Common.{List, ◌∙◌}
 use Rattle.counting_word.specs.WordSteps.{WordStep}
 use Rattle.counting_word.specs.Tallies.{Adds}
-use Rattle.handles.proofs.Walks.{◌≡◌, ℕ, ◌+◌, ◌<◌, false, [], ◌∷◌, refl, sym, ap, w64, a_type}
-use Rattle.handles.proofs.Walks.{named, Val, vint, vptr, inst_fn, SProp, via, Lft, Share, Fml, ftrue, fsep, flft, finv}
-use Rattle.handles.proofs.Walks.{‵, raw, ◌⊛◌, mean, at_ret, ◌$◌, ◌∵◌, !, qed, by, move, keep, drop}
-use Rattle.handles.proofs.Walks.{split, join, fsplit, fsplit3, fjoin, fpick, use1, use2, stop, fld, addr, of_opd}
-use Rattle.handles.proofs.Walks.{no_more, and_then, first, blocks, exec, Calls-last, returns, enter, alloc_all}
-use Rattle.handles.proofs.Walks.{pass_all, free_all, look_at, get, through, sets, lands_last, is, env, agg, sub, whole}
-use Rattle.handles.proofs.Walks.{tables, fact, yes, RattleType, owns, types_at, plain, Ptr, block_ptr, block_of}
-use Rattle.handles.proofs.Walks.{offset_of, at_block, nothing_more, heard, shuts, param, layouts, RefOf, u64, shr_vals}
-use Rattle.handles.proofs.Walks.{shr_Tells, Stays, stay_dropped, walk_of, Goes-dropped, after, proved, leaves, fm}
-use Rattle.handles.proofs.Walks.{found, finds, Right, HeldRow, block_rule, one_word, word_and_permit, one_word-Good}
-use Rattle.handles.proofs.Walks.{HandleRow, HandleWords, known, returns_permit, word_and_permit-Good, opens_handle}
-use Rattle.handles.proofs.Walks.{shows_permit, closes_borrow, words_are, PermitRow, ptr_val, get_in, no}
 use Rattle.atomic_table.proofs.Calls.{exchanges}
 use denote.Plain.{uint_vals, uint_Tells}
 use Rattle.counting_word.specs.CountingWord.{IsWithin}
 use Rattle.counting_word.specs.Rights.{right_by_raise}
-use Rattle.std.proofs.Common.{◌∙◌}
 use Rattle.handles.specs.contracts.block.permit.Permit as permit_type
 use Rattle.counting_word.specs.WordSteps as step
-use Rattle.handles.proofs.Steps.Shared.{block_at, and_logged}
 use Rattle.handles.proofs.Steps.Raises.{raises, after_raise}
 use Rattle.handles.specs.contracts.block.handle.Handle.raise.{ended, clauses}
 use Rattle.handles.specs.contracts.block.handle.Handle.raise.Key.{name as #self}

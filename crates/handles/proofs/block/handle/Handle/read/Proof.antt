@@ -1,57 +1,43 @@
 -- `read` is one load of the word.
-use Rattle.handles.proofs.Steps.Reads.{reported_logged}
-use Rattle.handles.proofs.Steps.Reads.{reported_with}
+use Rattle.handles.proofs.Steps.Reads.{reported_logged, reported_with, reads, after_read}
 use Rattle.counting_word.specs.WordSteps.{WordStep}
 use Rattle.counting_word.specs.Tallies.{Adds}
-use Rattle.handles.proofs.Walks.{◌≡◌, ℕ, ◌+◌, false, [], ◌∷◌, refl, sym, ap, lit<, a_type, named, Val}
-use Rattle.handles.proofs.Walks.{vptr, inst_fn, SProp, via, Lft, Share, Fml, ftrue, fsep, flft, finv, ‵, raw}
-use Rattle.handles.proofs.Walks.{◌⊛◌, mean, at_ret, ◌$◌, ◌∵◌, !, qed, by, move, keep, drop, split, join}
-use Rattle.handles.proofs.Walks.{fsplit, fsplit3, fjoin, fpick, use1, use2, stop, fld, load, addr, lit, of_opd, no_more}
-use Rattle.handles.proofs.Walks.{and_then, first, blocks, exec, Calls-last, returns, enter, alloc_all, pass_all}
-use Rattle.handles.proofs.Walks.{free_all, look_at, get, through, sets, lands_last, is, env, agg, sub, whole, look_in}
-use Rattle.handles.proofs.Walks.{tables, fact, yes, RattleType, owns, types_at, plain, Ptr, block_ptr, block_of}
-use Rattle.handles.proofs.Walks.{offset_of, at_block, nothing_more, heard, shuts, param, layouts, RefOf, shr_vals}
-use Rattle.handles.proofs.Walks.{shr_Tells, Stays, stay_dropped, walk_of, Goes-dropped, after, proved, leaves, fm}
-use Rattle.handles.proofs.Walks.{seq_cst, found, finds, Right, HeldRow, block_rule, one_word, word_and_permit}
-use Rattle.handles.proofs.Walks.{one_word-Good, HandleRow, HandleWords, known, returns_permit, word_and_permit-Good}
-use Rattle.handles.proofs.Walks.{opens_handle, shows_permit, closes_borrow}
+use Rattle.handles.proofs.Walks.{◌≡◌, ℕ, ◌+◌, false, [], ◌∷◌, refl, sym, ap, lit<, a_type, named, Val, vptr, inst_fn}
+use Rattle.handles.proofs.Walks.{SProp, via, Lft, Share, Fml, ftrue, fsep, flft, finv, ‵, raw, ◌⊛◌, mean, at_ret, ◌$◌}
+use Rattle.handles.proofs.Walks.{◌∵◌, !, qed, by, move, keep, drop, split, join, fsplit, fsplit3, fjoin, fpick, use1}
+use Rattle.handles.proofs.Walks.{use2, stop, fld, load, addr, lit, of_opd, no_more, and_then, first, blocks, exec}
+use Rattle.handles.proofs.Walks.{Calls-last, returns, enter, alloc_all, pass_all, free_all, look_at, get, through, sets}
+use Rattle.handles.proofs.Walks.{lands_last, is, env, agg, sub, whole, look_in, tables, fact, yes, RattleType, owns}
+use Rattle.handles.proofs.Walks.{types_at, plain, Ptr, block_ptr, block_of, offset_of, at_block, nothing_more, heard}
+use Rattle.handles.proofs.Walks.{shuts, param, layouts, RefOf, shr_vals, shr_Tells, Stays, stay_dropped, walk_of}
+use Rattle.handles.proofs.Walks.{Goes-dropped, after, proved, leaves, fm, seq_cst, found, finds, Right, HeldRow}
+use Rattle.handles.proofs.Walks.{block_rule, one_word, word_and_permit, one_word-Good, HandleRow, HandleWords, known}
+use Rattle.handles.proofs.Walks.{returns_permit, word_and_permit-Good, opens_handle, shows_permit, closes_borrow}
 use Rattle.atomic_table.proofs.Calls.{loads}
 use Rattle.counting_word.specs.CountingWord.{IsWithin}
 use Rattle.counting_word.specs.Rights.{right_by_read}
 use Rattle.counting_word.specs.WordSteps as step
 use Rattle.handles.proofs.Steps.Shared.{block_at, and_logged}
-use Rattle.handles.proofs.Steps.Reads.{reads, after_read}
 use Rattle.handles.specs.contracts.block.handle.Handle.read.{ended, clauses}
 use Rattle.handles.specs.contracts.block.handle.Handle.read.Key.{name as #self}
 use Rattle.handles.proofs.block.handle.Handle.read.Statement.{statement}
 use Rattle.handles.proofs.block.handle.Handle.read.Code as code
+use Rattle.handles.proofs.OneParam.{by_ref, permit_at}
+use base.Logic.{snd∗}
 
 pub read_spec : {M : Type 1} → statement M
 read_spec 𝓤 𝓛 𝓜 𝓡 wired T L =
     let 𝓣 = tables 𝓤 𝓛.H 𝓜 𝓡 𝓡.env in let R : RattleType = param 0 T in let En = ended T in
-    let c = clauses T 𝓛 𝓜.mem 𝓡.returns in let inst = layouts (a_type ∷ []) (T, tt) in
-    let fn = inst_fn inst code.function in
-    let self = RefOf (0 ∷ []) tt (plain (λ _. HandleRow R)) (λ _. tt) in
-    let hs : Stays En.signature.params En.kept = (stay_dropped self yes, tt) in
-    proved 𝓛 En hs c 𝓜 𝓡 (Goes-dropped 𝓛 2 self yes (λ κs x f. refl), tt) (#self inst)
-    fn (code.unfolded 𝓤 𝓛.H 𝓜 𝓡 wired (T, tt)) (λ κs. (shr_vals, tt)) (λ κs. (
-      shr_Tells (named 0)
-          κs.0 (HandleRow R),
-      tt,
-    )) (λ κs qs bounds a gh are.
-    let b : ℕ = a.0.ref_ptr.0 in let o : ℕ = a.0.ref_ptr.1 in let κ : Lft = κs.0 in let q : Share = qs.0 in
-    let others : Fml = fsep (flft κs.1.0 qs.1.0) ftrue in let p : Ptr = a.0.now.block in
-    let x : (HeldRow R).Denot = a.0.now.held in let η : ℕ = a.0.now.id in let pb : ℕ = block_of p in
-    let po : ℕ = offset_of p in
-    let y : (walk_of 𝓛 En hs c).Ghost = ((κs, qs, bounds, a, (vptr b o ∷ [], tt)), gh) in
-    let Post : Val → SProp 𝓤 = (walk_of 𝓛 En hs c).post y in let D : RattleType = HandleWords R in
-    qed 𝓛 (((‵ (flft κ q) ⊛ ‵ others) ⊛ ‵ (owns (types_at En.signature.params κs) a y.0.4))
-    ∷ raw (fact 𝓤 _) ∷ raw (fact 𝓤 (a.0.now.sole ≡ false)) ∷ []) ∵ keep ! (2 ∷ 0 ∷ []) $
-    heard ! (a.0.now.sole ≡ false) (λ shared. split ! $ split ! $ move ! (2 ∷ []) $ fsplit ! $ fsplit ! $
-    keep ! (1 ∷ 3 ∷ 4 ∷ []) $
+    let inst = layouts (a_type ∷ []) (T, tt) in let fn = inst_fn inst code.function in
+    by_ref (HandleRow R) tt En.signature.outlives En.signature.result 𝓛 𝓜 𝓡 (clauses T 𝓛 𝓜.mem 𝓡.returns)
+    (λ κs a. a.now.sole ≡ false) (λ κs a gh. snd∗ 𝓤 (fact 𝓤 _) (fact 𝓤 _)) (#self inst) fn
+    (code.unfolded 𝓤 𝓛.H 𝓜 𝓡 wired (T, tt)) (λ κs qs a gh Post asked ends.
+    let p : Ptr = a.now.block in let x : (HeldRow R).Denot = a.now.held in let η : ℕ = a.now.id in let b : ℕ = a.ref_ptr.0 in
+    let o : ℕ = a.ref_ptr.1 in let pb : ℕ = block_of p in let po : ℕ = offset_of p in
+    let D : RattleType = HandleWords R in
     enter ! 𝓣.C 𝓣.Λ fn (vptr b o ∷ []) Post $ alloc_all ! (λ l. pass_all ! refl ((tt, tt), tt) $
     let Ev = env fn.locals l in
-    opens_handle R p x η ! tt a.0.now.sole shared b o (λ inb i e r.
+    opens_handle R p x η ! tt a.now.sole asked b o (λ inb i e r.
     -- [the word; what it says; the token's way back; the open borrow; the share; the rule; the sharing; the other
     -- tokens]
     sets ! (of_opd ! (load ! (through ! refl (fld ! refl (stop !))) (look_in ! 0 (sub ! 0 refl (whole !)))))
@@ -85,15 +71,5 @@ read_spec 𝓤 𝓛 𝓜 𝓡 wired T L =
     refl (word_and_permit-Good n fits p) $
     returns_permit R p x η ! n fits r' log $ known ! (Adds x.limit.count [] step.reads n log) adds $
     known ! (η ≡ η) refl $ join ! $ known ! (p ≡ p) refl $ join ! $ known ! (IsWithin n x.limit.count) within $
-    join ! $ known ! (x ≡ x) refl $ join ! $ known ! (r' ≡ r') refl $ join ! $ nothing_more ! $ nothing_more ! $
-    fjoin ! $ returns ! (look_at ! 0 refl) $ free_all ! refl $ keep ! (3 ∷ 0 ∷ 2 ∷ 1 ∷ []) $
-    by ! (leaves 𝓛 En hs c y (word_and_permit n p) (
-      n,
-      record {
-        block = p;
-        held = x;
-        right = r';
-        id = η;
-        log = log;
-      },
-    ) (tt, tt) (tt, tt))))))))))
+    join ! $ known ! (x ≡ x) refl $ join ! $ known ! (r' ≡ r') refl $ join ! $ returns ! (look_at ! 0 refl) $ free_all ! refl $ keep ! (2 ∷ 1 ∷ 0 ∷ []) $
+    by ! (ends (word_and_permit n p) (n, permit_at R p x r' η log)))))))))

@@ -2,23 +2,20 @@
 use types.Kit.{some as exists, given, pick, learn}
 use Rattle.counting_word.specs.WordSteps.{WordStep}
 use Rattle.counting_word.specs.Tallies.{Adds}
-use Rattle.handles.proofs.Walks.{◌≡◌, ℕ, ◌+◌, false, List, [], ◌∷◌, refl, sym, ap, ◌∙◌, lit<}
-use Rattle.handles.proofs.Walks.{a_type, named, Val}
-use Rattle.handles.proofs.Walks.{vptr, inst_fn, full_share, SProp, via, Lft, Share, Fml, ftrue, flft, finv, ‵, raw}
-use Rattle.handles.proofs.Walks.{◌⊛◌, later, mean, at_ret, ◌$◌, ◌∵◌, !, qed, by, move, keep, drop}
-use Rattle.handles.proofs.Walks.{split, split3}
-use Rattle.handles.proofs.Walks.{join, fsplit, fsplit3, fjoin, fjoin3, fpick, use0, use1, use2, use3, await, rewrite}
-use Rattle.handles.proofs.Walks.{stop, fld, load, addr, lit, of_opd, no_more, and_then, first, blocks, exec}
-use Rattle.handles.proofs.Walks.{Calls-last, returns, enter, alloc_all, pass_all, free_all, look_at, get, through}
-use Rattle.handles.proofs.Walks.{sets, lands_last, env, agg, sub, whole, look_in, tables, fact, RattleType, owns}
-use Rattle.handles.proofs.Walks.{types_at, plain, Ptr, block_ptr, block_of, offset_of, at_block, nothing_more, peeks}
-use Rattle.handles.proofs.Walks.{heard, Is, shows, cell_at, param, layouts, param_laws, Stays, walk_of, after, proved}
-use Rattle.handles.proofs.Walks.{leaves, fm, seq_cst, found, finds, HeldRow, block_rule, permit_owns, one_word}
-use Rattle.handles.proofs.Walks.{words_are, words_made, HandleRow, HandleWords, known}
-use base.Fml.{GName}
+use Rattle.handles.proofs.Walks.{◌≡◌, ℕ, ◌+◌, false, List, [], ◌∷◌, refl, sym, ap, ◌∙◌, lit<, a_type, named, Val, vptr}
+use Rattle.handles.proofs.Walks.{inst_fn, full_share, SProp, via, Lft, Share, Fml, ftrue, flft, finv, ‵, raw, ◌⊛◌}
+use Rattle.handles.proofs.Walks.{later, mean, at_ret, ◌$◌, ◌∵◌, !, qed, by, move, keep, drop, split, split3, join}
+use Rattle.handles.proofs.Walks.{fsplit, fsplit3, fjoin, fjoin3, fpick, use0, use1, use2, use3, await, rewrite, stop}
+use Rattle.handles.proofs.Walks.{fld, load, addr, lit, of_opd, no_more, and_then, first, blocks, exec, Calls-last}
+use Rattle.handles.proofs.Walks.{returns, enter, alloc_all, pass_all, free_all, look_at, get, through, sets, lands_last}
+use Rattle.handles.proofs.Walks.{env, agg, sub, whole, look_in, tables, fact, RattleType, owns, types_at, plain, Ptr}
+use Rattle.handles.proofs.Walks.{block_ptr, block_of, offset_of, at_block, nothing_more, peeks, heard, Is, shows}
+use Rattle.handles.proofs.Walks.{cell_at, param, layouts, param_laws, Stays, walk_of, after, proved, leaves, fm}
+use Rattle.handles.proofs.Walks.{seq_cst, found, finds, HeldRow, block_rule, permit_owns, one_word, words_are}
+use Rattle.handles.proofs.Walks.{words_made, HandleRow, HandleWords, known}
+use base.Fml.{GName, Incl-refl}
 use denote.Ref.{mut_vals, mut_Tells}
 use denote.Steps.{opens, closes}
-use base.Fml.{Incl-refl}
 use contract.BorrowLft.{◌⊑◌}
 use denote.Triple.Walked.{Goes-ref, stay_ref}
 use Rattle.atomic_table.proofs.Calls.{loads}

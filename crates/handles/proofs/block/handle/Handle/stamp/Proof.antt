@@ -1,14 +1,14 @@
 -- `stamp` is one load of the stamp.
-use Rattle.handles.proofs.Walks.{◌≡◌, ℕ, ◌+◌, false, [], ◌∷◌, refl, lit<, w64, a_type, named, Val}
-use Rattle.handles.proofs.Walks.{vint, vptr, inst_fn, SProp, via, Lft, Share, Fml, ftrue, fsep, flft, ‵, raw}
-use Rattle.handles.proofs.Walks.{◌⊛◌, mean, at_ret, ◌$◌, ◌∵◌, !, qed, by, move, keep, split, join}
-use Rattle.handles.proofs.Walks.{fsplit, fjoin, use2, stop, fld, load, addr, lit, of_opd, no_more, and_then, first}
-use Rattle.handles.proofs.Walks.{blocks, exec, Calls-last, returns, enter, alloc_all, pass_all, free_all, look_at, get}
-use Rattle.handles.proofs.Walks.{through, sets, lands_last, env, agg, sub, whole, look_in, tables, fact, yes}
-use Rattle.handles.proofs.Walks.{RattleType, owns, types_at, plain, Ptr, block_ptr, block_of, offset_of, nothing_more}
-use Rattle.handles.proofs.Walks.{heard, shuts, param, layouts, RefOf, shr_vals, shr_Tells, Stays, stay_dropped, walk_of}
-use Rattle.handles.proofs.Walks.{Goes-dropped, after, proved, leaves, fm, seq_cst, found, finds, HeldRow, one_word}
-use Rattle.handles.proofs.Walks.{HandleRow, HandleWords, is_number, opens_handle, closes_borrow}
+use Rattle.handles.proofs.Walks.{◌≡◌, ℕ, ◌+◌, false, [], ◌∷◌, refl, lit<, w64, a_type, named, Val, vint, vptr, inst_fn}
+use Rattle.handles.proofs.Walks.{SProp, via, Lft, Share, Fml, ftrue, fsep, flft, ‵, raw, ◌⊛◌, mean, at_ret, ◌$◌, ◌∵◌, ! }
+use Rattle.handles.proofs.Walks.{qed, by, move, keep, split, join, fsplit, fjoin, use2, stop, fld, load, addr, lit}
+use Rattle.handles.proofs.Walks.{of_opd, no_more, and_then, first, blocks, exec, Calls-last, returns, enter, alloc_all}
+use Rattle.handles.proofs.Walks.{pass_all, free_all, look_at, get, through, sets, lands_last, env, agg, sub, whole}
+use Rattle.handles.proofs.Walks.{look_in, tables, fact, yes, RattleType, owns, types_at, plain, Ptr, block_ptr}
+use Rattle.handles.proofs.Walks.{block_of, offset_of, nothing_more, heard, shuts, param, layouts, RefOf, shr_vals}
+use Rattle.handles.proofs.Walks.{shr_Tells, Stays, stay_dropped, walk_of, Goes-dropped, after, proved, leaves, fm}
+use Rattle.handles.proofs.Walks.{seq_cst, found, finds, HeldRow, one_word, HandleRow, HandleWords, is_number}
+use Rattle.handles.proofs.Walks.{opens_handle, closes_borrow}
 use Rattle.atomic_table.proofs.Calls.{loads}
 use Rattle.handles.specs.Inside.Blocks.{stamp_offset, lent_share}
 use Rattle.handles.proofs.Steps.Shared.{block_at}
@@ -17,33 +17,22 @@ use Rattle.handles.specs.contracts.block.handle.Handle.stamp.{ended, clauses}
 use Rattle.handles.specs.contracts.block.handle.Handle.stamp.Key.{name as #self}
 use Rattle.handles.proofs.block.handle.Handle.stamp.Statement.{statement}
 use Rattle.handles.proofs.block.handle.Handle.stamp.Code as code
+use Rattle.handles.proofs.OneParam.{by_ref}
+use base.Logic.{snd∗}
 
 pub stamp_spec : {M : Type 1} → statement M
 stamp_spec 𝓤 𝓛 𝓜 𝓡 wired T L =
     let 𝓣 = tables 𝓤 𝓛.H 𝓜 𝓡 𝓡.env in let R : RattleType = param 0 T in let En = ended T in
-    let c = clauses T 𝓛 𝓜.mem 𝓡.returns in let inst = layouts (a_type ∷ []) (T, tt) in
-    let fn = inst_fn inst code.function in
-    let self = RefOf (0 ∷ []) tt (plain (λ _. HandleRow R)) (λ _. tt) in
-    let hs : Stays En.signature.params En.kept = (stay_dropped self yes, tt) in
-    proved 𝓛 En hs c 𝓜 𝓡 (Goes-dropped 𝓛 2 self yes (λ κs x f. refl), tt) (#self inst)
-    fn (code.unfolded 𝓤 𝓛.H 𝓜 𝓡 wired (T, tt)) (λ κs. (shr_vals, tt)) (λ κs. (
-      shr_Tells (named 0)
-          κs.0 (HandleRow R),
-      tt,
-    )) (λ κs qs bounds a gh are.
-    let b : ℕ = a.0.ref_ptr.0 in let o : ℕ = a.0.ref_ptr.1 in let κ : Lft = κs.0 in let q : Share = qs.0 in
-    let others : Fml = fsep (flft κs.1.0 qs.1.0) ftrue in let p : Ptr = a.0.now.block in
-    let x : (HeldRow R).Denot = a.0.now.held in let η : ℕ = a.0.now.id in let pb : ℕ = block_of p in
-    let po : ℕ = offset_of p in
-    let y : (walk_of 𝓛 En hs c).Ghost = ((κs, qs, bounds, a, (vptr b o ∷ [], tt)), gh) in
-    let Post : Val → SProp 𝓤 = (walk_of 𝓛 En hs c).post y in let D : RattleType = HandleWords R in
-    qed 𝓛 (((‵ (flft κ q) ⊛ ‵ others) ⊛ ‵ (owns (types_at En.signature.params κs) a y.0.4))
-    ∷ raw (fact 𝓤 _) ∷ raw (fact 𝓤 (a.0.now.sole ≡ false)) ∷ []) ∵ keep ! (2 ∷ 0 ∷ []) $
-    heard ! (a.0.now.sole ≡ false) (λ shared. split ! $ split ! $ move ! (2 ∷ []) $ fsplit ! $ fsplit ! $
-    keep ! (1 ∷ 3 ∷ 4 ∷ []) $
+    let inst = layouts (a_type ∷ []) (T, tt) in let fn = inst_fn inst code.function in
+    by_ref (HandleRow R) tt En.signature.outlives En.signature.result 𝓛 𝓜 𝓡 (clauses T 𝓛 𝓜.mem 𝓡.returns)
+    (λ κs a. a.now.sole ≡ false) (λ κs a gh. snd∗ 𝓤 (fact 𝓤 _) (fact 𝓤 _)) (#self inst) fn
+    (code.unfolded 𝓤 𝓛.H 𝓜 𝓡 wired (T, tt)) (λ κs qs a gh Post asked ends.
+    let p : Ptr = a.now.block in let x : (HeldRow R).Denot = a.now.held in let η : ℕ = a.now.id in let b : ℕ = a.ref_ptr.0 in
+    let o : ℕ = a.ref_ptr.1 in let pb : ℕ = block_of p in let po : ℕ = offset_of p in
+    let D : RattleType = HandleWords R in
     enter ! 𝓣.C 𝓣.Λ fn (vptr b o ∷ []) Post $ alloc_all ! (λ l. pass_all ! refl ((tt, tt), tt) $
     let Ev = env fn.locals l in
-    opens_handle R p x η ! tt a.0.now.sole shared b o (λ inb i e r.
+    opens_handle R p x η ! tt a.now.sole asked b o (λ inb i e r.
     -- [the word; what it says; the token's way back; the open borrow; the share; the rule; the sharing; the other
     -- tokens]
     sets ! (of_opd ! (load ! (through ! refl (fld ! refl (stop !))) (look_in ! 0 (sub ! 0 refl (whole !)))))
@@ -61,6 +50,5 @@ stamp_spec 𝓤 𝓛 𝓜 𝓡 wired T L =
     lands_last ! refl (tt, record { fits = fits }) $ exec ! 𝓣.C 𝓣.Λ Ev (after 2 fn.body) (at_ret Ev Post) $
     sets ! (of_opd ! (get ! refl)) refl (tt, record { fits = fits }) $
     -- [the share; half of the token; the open borrow; the sharing; the other tokens]
-    closes_borrow ! tt $ move ! (0 ∷ 2 ∷ []) $ join ! $ is_number ! n fits $ nothing_more ! $ nothing_more ! $
-    nothing_more ! $ fjoin ! $ returns ! (look_at ! 0 refl) $ free_all ! refl $
-    keep ! (3 ∷ 0 ∷ 2 ∷ 1 ∷ []) $ by ! (leaves 𝓛 En hs c y (vint w64 n) n (tt, tt) (tt, tt))))))))
+    closes_borrow ! tt $ move ! (0 ∷ 2 ∷ []) $ join ! $ is_number ! n fits $ nothing_more ! $ returns ! (look_at ! 0 refl) $ free_all ! refl $
+    keep ! (2 ∷ 1 ∷ 0 ∷ []) $ by ! (ends (vint w64 n) n))))))

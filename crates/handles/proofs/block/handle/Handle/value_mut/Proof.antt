@@ -1,14 +1,13 @@
 -- `value_mut` lends the value of the block of a handle that is known to be the only one.
-use Rattle.handles.proofs.Walks.{◌≡◌, ℕ, ◌+◌, Bool, true, List, [], ◌∷◌, refl, ap, ◌∙◌, a_type}
-use Rattle.handles.proofs.Walks.{named, Val, vptr, inst_fn, full_share, SProp, Lft, Share, ftrue, flft, sem, ‵, raw}
-use Rattle.handles.proofs.Walks.{◌⊛◌, some, later, at_ret, ◌$◌, ◌∵◌, !, qed, by, move, keep, drop}
-use Rattle.handles.proofs.Walks.{split, split3, join, fsplit, fsplit3, fjoin, fpick, pick, use1, await, rewrite, stop}
-use Rattle.handles.proofs.Walks.{fld, load, addr, of_opd, first, blocks, exec, returns, enter, alloc_all, pass_all}
-use Rattle.handles.proofs.Walks.{free_all, look_at, get, through, sets, sets_last, env, sub, whole, look_in, tables}
-use Rattle.handles.proofs.Walks.{fact, no, RattleType, owns, types_at, plain, Ptr, block_ptr, block_of, offset_of}
-use Rattle.handles.proofs.Walks.{at_block, nothing_more, peeks, heard, Is, shows, cell_at, param, layouts, Stays}
-use Rattle.handles.proofs.Walks.{stay_dropped, walk_of, after, proved, leaves, HeldRow, one_word, words_are, HandleRow}
-use Rattle.handles.proofs.Walks.{HandleWords, known}
+use Rattle.handles.proofs.Walks.{◌≡◌, ℕ, ◌+◌, Bool, true, List, [], ◌∷◌, refl, ap, ◌∙◌, a_type, named, Val, vptr}
+use Rattle.handles.proofs.Walks.{inst_fn, full_share, SProp, Lft, Share, ftrue, flft, sem, ‵, raw, ◌⊛◌, some, later}
+use Rattle.handles.proofs.Walks.{at_ret, ◌$◌, ◌∵◌, !, qed, by, move, keep, drop, split, split3, join, fsplit, fsplit3}
+use Rattle.handles.proofs.Walks.{fjoin, fpick, pick, use1, await, rewrite, stop, fld, load, addr, of_opd, first, blocks}
+use Rattle.handles.proofs.Walks.{exec, returns, enter, alloc_all, pass_all, free_all, look_at, get, through, sets}
+use Rattle.handles.proofs.Walks.{sets_last, env, sub, whole, look_in, tables, fact, no, RattleType, owns, types_at}
+use Rattle.handles.proofs.Walks.{plain, Ptr, block_ptr, block_of, offset_of, at_block, nothing_more, peeks, heard, Is}
+use Rattle.handles.proofs.Walks.{shows, cell_at, param, layouts, Stays, stay_dropped, walk_of, after, proved, leaves}
+use Rattle.handles.proofs.Walks.{HeldRow, one_word, words_are, HandleRow, HandleWords, known}
 use base.Fml.{GName}
 use denote.Ref.{MutRef, MutBor, mut_vals, mut_Tells}
 use denote.Signature.{mut_ref_to}

@@ -3,9 +3,8 @@ use base.Fraction.{full_share}
 use base.Logic.{sep, wand, never_e}
 use base.Fml.{fbor}
 use types.Logic.{sem, lfts}
-use types.Kit.{‵, raw, ◌⊛◌, later, ◌$◌, !, qed, keep, move, use1, use2, split, fsplit, fpick, await}
-use types.Kit.{updating}
-use types.Kit.{now, done}
+use types.Kit.{‵, raw, ◌⊛◌, later, ◌$◌, !, qed, keep, move, use1, use2, split, fsplit, fpick, await, updating, now}
+use types.Kit.{done}
 use denote.RattleType.{RattleType}
 use denote.Memory.{part_at, part_of}
 use denote.RawPtr.{block_ptr}

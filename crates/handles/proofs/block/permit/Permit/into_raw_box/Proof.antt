@@ -1,14 +1,14 @@
 -- `into_loose` takes a block that nobody shares, with the allocator that it was requested from.
-use Rattle.handles.proofs.Walks.{◌≡◌, ℕ, ◌+◌, [], ◌∷◌, refl, ap, a_type, Val, vptr, inst_fn}
-use Rattle.handles.proofs.Walks.{full_share, SProp, fat, Lft, Share, ftrue, flft, ‵, raw, ◌⊛◌, some, given}
-use Rattle.handles.proofs.Walks.{at_ret, ◌$◌, ◌∵◌, !, qed, by, move, keep, drop, split, join, fsplit, fsplit3}
-use Rattle.handles.proofs.Walks.{fjoin, fjoin3, fpick, pick, learn, use1, use2, rewrite, stop, fld, load, of_opd}
-use Rattle.handles.proofs.Walks.{no_more, and_then, first, blocks, exec, returns, enter, alloc_all, pass_all, free_all}
-use Rattle.handles.proofs.Walks.{look_at, get, get_in, through, sets, sets_last, is, env, agg, sub, whole, tables, fact}
-use Rattle.handles.proofs.Walks.{no, RattleType, owns, types_at, plain, Ptr, block_ptr, ptr_val, block_of, offset_of}
-use Rattle.handles.proofs.Walks.{at_block, nothing_more, heard, param, layout, layouts, Stays, stay_dropped, walk_of}
-use Rattle.handles.proofs.Walks.{Goes-dropped, after, proved, leaves, Right, HeldRow, permit_owns, one_word}
-use Rattle.handles.proofs.Walks.{one_word-Good, words_are, PermitRow, known}
+use Rattle.handles.proofs.Walks.{◌≡◌, ℕ, ◌+◌, [], ◌∷◌, refl, ap, a_type, Val, vptr, inst_fn, full_share, SProp, fat}
+use Rattle.handles.proofs.Walks.{Lft, Share, ftrue, flft, ‵, raw, ◌⊛◌, some, given, at_ret, ◌$◌, ◌∵◌, !, qed, by, move}
+use Rattle.handles.proofs.Walks.{keep, drop, split, join, fsplit, fsplit3, fjoin, fjoin3, fpick, pick, learn, use1}
+use Rattle.handles.proofs.Walks.{use2, rewrite, stop, fld, load, of_opd, no_more, and_then, first, blocks, exec}
+use Rattle.handles.proofs.Walks.{returns, enter, alloc_all, pass_all, free_all, look_at, get, get_in, through, sets}
+use Rattle.handles.proofs.Walks.{sets_last, is, env, agg, sub, whole, tables, fact, no, RattleType, owns, types_at}
+use Rattle.handles.proofs.Walks.{plain, Ptr, block_ptr, ptr_val, block_of, offset_of, at_block, nothing_more, heard}
+use Rattle.handles.proofs.Walks.{param, layout, layouts, Stays, stay_dropped, walk_of, Goes-dropped, after, proved}
+use Rattle.handles.proofs.Walks.{leaves, Right, HeldRow, permit_owns, one_word, one_word-Good, words_are, PermitRow}
+use Rattle.handles.proofs.Walks.{known}
 use Rattle.handles.proofs.RawBoxes.{heap_row, pair_val, raw_box-Good, raw_box_shuts}
 use Rattle.handles.specs.contracts.block.Block as block_type
 use types.Run.{look}
@@ -25,29 +25,21 @@ use Rattle.handles.specs.contracts.block.permit.Permit.into_raw_box.{ended, clau
 use Rattle.handles.specs.contracts.block.permit.Permit.into_raw_box.Key.{name as #self}
 use Rattle.handles.proofs.block.permit.Permit.into_raw_box.Statement.{statement}
 use Rattle.handles.proofs.block.permit.Permit.into_raw_box.Code as code
+use Rattle.handles.proofs.OneParam.{by_value, permit_worded}
+use base.Logic.{snd∗}
 
 pub into_raw_box_spec : {M : Type 1} → statement M
 into_raw_box_spec 𝓤 𝓛 𝓜 𝓡 wired T L =
-    let H = 𝓛.H in let 𝓣 = tables 𝓤 H 𝓜 𝓡 𝓡.env in let R : RattleType = param 0 T in
-    let En = ended T in let c = clauses T 𝓛 𝓜.mem 𝓡.returns in
+    let 𝓣 = tables 𝓤 𝓛.H 𝓜 𝓡 𝓡.env in let R : RattleType = param 0 T in let En = ended T in
     let inst = layouts (a_type ∷ []) (T, tt) in let fn = inst_fn inst code.function in
-    let self = plain (λ _. PermitRow R) in let hs : Stays En.signature.params En.kept = (stay_dropped self no, tt) in
-    proved 𝓛 En hs c 𝓜 𝓡 (Goes-dropped 𝓛 1 self no (λ κs x f. refl), tt) (#self inst)
-    fn (code.unfolded 𝓤 H 𝓜 𝓡 wired (T, tt)) (λ κs. ((λ s. one_word s.block ∷ []), tt))
-    (λ κs. ((λ s vs so. words_are (permit_type.the_type R).name (R ∷ []) s.block vs so.0), tt))
-    (λ κs qs bounds a gh are.
-    let κ : Lft = κs.0 in let q : Share = qs.0 in let p : Ptr = a.0.block in let x : (HeldRow R).Denot = a.0.held in
-    let η : ℕ = a.0.id in let pb : ℕ = block_of p in let po : ℕ = offset_of p in
-    let y : (walk_of 𝓛 En hs c).Ghost = ((κs, qs, bounds, a, (one_word p ∷ [], tt)), gh) in
-    let Post : Val → SProp 𝓤 = (walk_of 𝓛 En hs c).post y in
-    let Block : RattleType = block_type.the_row R in let there : Ptr = block_ptr pb po in
-    qed 𝓛 (((‵ (flft κ q) ⊛ ‵ ftrue) ⊛ ‵ (owns (types_at En.signature.params κs) a y.0.4))
-    ∷ raw (fact 𝓤 _) ∷ raw (fact 𝓤 (IsWholeBlock a.0.right)) ∷ []) ∵
-    keep ! (2 ∷ 0 ∷ []) $ heard ! (IsWholeBlock a.0.right)
-    (λ asked. let n : ℕ = (whole_block_of a.0.right asked).0 in
-    let is_whole : a.0.right ≡ whole_block n = (whole_block_of a.0.right asked).1 in
-    split ! $ split ! $ join ! $ move ! (1 ∷ []) $ fsplit ! $ fsplit ! $ keep ! (1 ∷ 3 ∷ []) $
-    rewrite ! 0 (λ (r : Right). ‵ (permit_owns R p x η r a.0.log)) is_whole refl $ fsplit ! $ drop ! $
+    by_value (permit_worded R) En.signature.outlives En.signature.result 𝓛 𝓜 𝓡 (clauses T 𝓛 𝓜.mem 𝓡.returns)
+    (λ κs a. IsWholeBlock a.right) (λ κs a gh. snd∗ 𝓤 (fact 𝓤 _) (fact 𝓤 _)) (λ κs a. (tt, tt)) (λ κs x f. refl) (#self inst) fn
+    (code.unfolded 𝓤 𝓛.H 𝓜 𝓡 wired (T, tt)) (λ κs qs a gh Post asked ends.
+    let p : Ptr = a.block in let x : (HeldRow R).Denot = a.held in let η : ℕ = a.id in let pb : ℕ = block_of p in
+    let po : ℕ = offset_of p in let there : Ptr = block_ptr pb po in
+    let Block : RattleType = block_type.the_row R in let n : ℕ = (whole_block_of a.right asked).0 in
+    let is_whole : a.right ≡ whole_block n = (whole_block_of a.right asked).1 in
+    rewrite ! 0 (λ (r : Right). ‵ (permit_owns R p x η r a.log)) is_whole refl $ fsplit ! $ drop ! $
     fsplit ! $ fpick ! (λ inb. drop ! $ let at : p ≡ block_ptr pb po = at_block p inb in
     rewrite ! 0 (λ (z : Ptr). ‵ (unshared_block R z x η n)) at refl $
     fsplit3 ! $ fsplit ! $ move ! (1 ∷ []) $ drop ! $ move ! (1 ∷ []) $ fsplit ! $ move ! (1 ∷ []) $
@@ -75,9 +67,6 @@ into_raw_box_spec 𝓤 𝓛 𝓜 𝓡 wired T L =
     move ! (4 ∷ 0 ∷ 3 ∷ 1 ∷ []) $ group ! 4 $
     use1 𝓛 (‵ (Boxed T L 𝓛 pb po n s x h)) (box_shuts T L 𝓛 pb po n s x h) $
     raw_box_shuts Block ! pb po v h (record { word = n; stamp = s; held = x; alloc = h }) $
-    known ! (a.0.right ≡ whole_block n) is_whole $ known ! (x ≡ x) refl $ join ! $ nothing_more ! $
-    nothing_more ! $ fjoin ! $
-    returns ! (look_at ! 0 refl) $ free_all ! refl $ keep ! (3 ∷ 0 ∷ 2 ∷ 1 ∷ []) $
-    by ! (leaves 𝓛 En hs c y (pair_val (vptr pb po) v)
-    (record { at = there; alloc = h; value = record { word = n; stamp = s; held = x; alloc = h } }) (tt, tt)
-    (tt, tt))))))))))
+    known ! (a.right ≡ whole_block n) is_whole $ known ! (x ≡ x) refl $ join ! $ returns ! (look_at ! 0 refl) $ free_all ! refl $ keep ! (2 ∷ 1 ∷ 0 ∷ []) $
+    by ! (ends (pair_val (vptr pb po) v)
+    (record { at = there; alloc = h; value = record { word = n; stamp = s; held = x; alloc = h } })))))))))

@@ -3,17 +3,17 @@ use types.Kit.{some as exists, given, pick, learn}
 use Rattle.std.proofs.Common.{List}
 use Rattle.counting_word.specs.WordSteps.{WordStep}
 use Rattle.counting_word.specs.Tallies.{Adds}
-use Rattle.handles.proofs.Walks.{◌≡◌, ℕ, ◌+◌, [], ◌∷◌, refl, sym, ap, lit<, w64, a_type, Val, vint}
-use Rattle.handles.proofs.Walks.{vptr, inst_fn, SProp, via, Lft, Share, Fml, ftrue, flft, finv, ‵, raw, ◌⊛◌}
-use Rattle.handles.proofs.Walks.{later, mean, at_ret, ◌$◌, ◌∵◌, !, qed, by, move, keep, drop, split, join}
-use Rattle.handles.proofs.Walks.{fsplit, fjoin, fpick, use1, use2, await, rewrite, stop, fld, addr, lit, of_opd}
-use Rattle.handles.proofs.Walks.{no_more, and_then, first, blocks, exec, Calls-last, returns, enter, alloc_all}
-use Rattle.handles.proofs.Walks.{pass_all, free_all, look_at, get, get_in, through, sets, lands_last, is, env, agg, sub}
-use Rattle.handles.proofs.Walks.{whole, tables, fact, no, RattleType, owns, types_at, plain, Ptr, block_ptr, ptr_val}
-use Rattle.handles.proofs.Walks.{block_of, offset_of, at_block, nothing_more, heard, param, layouts, Stays}
-use Rattle.handles.proofs.Walks.{stay_dropped, walk_of, Goes-dropped, after, proved, leaves, fm, seq_cst, found, finds}
-use Rattle.handles.proofs.Walks.{Right, HeldRow, block_rule, permit_owns, one_word, word_and_permit, one_word-Good}
-use Rattle.handles.proofs.Walks.{words_are, PermitRow, known, returns_permit, word_and_permit-Good}
+use Rattle.handles.proofs.Walks.{◌≡◌, ℕ, ◌+◌, [], ◌∷◌, refl, sym, ap, lit<, w64, a_type, Val, vint, vptr, inst_fn}
+use Rattle.handles.proofs.Walks.{SProp, via, Lft, Share, Fml, ftrue, flft, finv, ‵, raw, ◌⊛◌, later, mean, at_ret, ◌$◌}
+use Rattle.handles.proofs.Walks.{◌∵◌, !, qed, by, move, keep, drop, split, join, fsplit, fjoin, fpick, use1, use2}
+use Rattle.handles.proofs.Walks.{await, rewrite, stop, fld, addr, lit, of_opd, no_more, and_then, first, blocks, exec}
+use Rattle.handles.proofs.Walks.{Calls-last, returns, enter, alloc_all, pass_all, free_all, look_at, get, get_in}
+use Rattle.handles.proofs.Walks.{through, sets, lands_last, is, env, agg, sub, whole, tables, fact, no, RattleType}
+use Rattle.handles.proofs.Walks.{owns, types_at, plain, Ptr, block_ptr, ptr_val, block_of, offset_of, at_block}
+use Rattle.handles.proofs.Walks.{nothing_more, heard, param, layouts, Stays, stay_dropped, walk_of, Goes-dropped, after}
+use Rattle.handles.proofs.Walks.{proved, leaves, fm, seq_cst, found, finds, Right, HeldRow, block_rule, permit_owns}
+use Rattle.handles.proofs.Walks.{one_word, word_and_permit, one_word-Good, words_are, PermitRow, known, returns_permit}
+use Rattle.handles.proofs.Walks.{word_and_permit-Good}
 use Rattle.atomic_table.proofs.Calls.{subs}
 use Rattle.counting_word.specs.Rights.{to_lower, right_by_lower}
 use Rattle.counting_word.specs.WordSteps as step
@@ -25,26 +25,18 @@ use Rattle.handles.specs.contracts.block.permit.Permit.lower.{ended, clauses}
 use Rattle.handles.specs.contracts.block.permit.Permit.lower.Key.{name as #self}
 use Rattle.handles.proofs.block.permit.Permit.lower.Statement.{statement}
 use Rattle.handles.proofs.block.permit.Permit.lower.Code as code
+use Rattle.handles.proofs.OneParam.{by_value, permit_worded, permit_at}
+use base.Logic.{snd∗}
 
 pub lower_spec : {M : Type 1} → statement M
 lower_spec 𝓤 𝓛 𝓜 𝓡 wired T L =
-    let H = 𝓛.H in let 𝓣 = tables 𝓤 H 𝓜 𝓡 𝓡.env in let R : RattleType = param 0 T in
-    let En = ended T in let c = clauses T 𝓛 𝓜.mem 𝓡.returns in
+    let 𝓣 = tables 𝓤 𝓛.H 𝓜 𝓡 𝓡.env in let R : RattleType = param 0 T in let En = ended T in
     let inst = layouts (a_type ∷ []) (T, tt) in let fn = inst_fn inst code.function in
-    let self = plain (λ _. PermitRow R) in let hs : Stays En.signature.params En.kept = (stay_dropped self no, tt) in
-    proved 𝓛 En hs c 𝓜 𝓡 (Goes-dropped 𝓛 1 self no (λ κs x f. refl), tt) (#self inst)
-    fn (code.unfolded 𝓤 H 𝓜 𝓡 wired (T, tt)) (λ κs. ((λ s. one_word s.block ∷ []), tt))
-    (λ κs. ((λ s vs so. words_are (permit_type.the_type R).name (R ∷ []) s.block vs so.0), tt))
-    (λ κs qs bounds a gh are.
-    let κ : Lft = κs.0 in let q : Share = qs.0 in let p : Ptr = a.0.block in let x : (HeldRow R).Denot = a.0.held in
-    let η : ℕ = a.0.id in let old : List WordStep = a.0.log in let pb : ℕ = block_of p in
-    let po : ℕ = offset_of p in
-    let y : (walk_of 𝓛 En hs c).Ghost = ((κs, qs, bounds, a, (one_word p ∷ [], tt)), gh) in
-    let Post : Val → SProp 𝓤 = (walk_of 𝓛 En hs c).post y in
-    qed 𝓛 (((‵ (flft κ q) ⊛ ‵ ftrue) ⊛ ‵ (owns (types_at En.signature.params κs) a y.0.4))
-    ∷ raw (fact 𝓤 _) ∷ raw (fact 𝓤 (a.0.right ≡ to_lower)) ∷ []) ∵
-    keep ! (2 ∷ 0 ∷ []) $ heard ! (a.0.right ≡ to_lower) (λ asked. split ! $ split ! $ join ! $
-    move ! (1 ∷ []) $ fsplit ! $ fsplit ! $ keep ! (1 ∷ 3 ∷ []) $
+    by_value (permit_worded R) En.signature.outlives En.signature.result 𝓛 𝓜 𝓡 (clauses T 𝓛 𝓜.mem 𝓡.returns)
+    (λ κs a. a.right ≡ to_lower) (λ κs a gh. snd∗ 𝓤 (fact 𝓤 _) (fact 𝓤 _)) (λ κs a. (tt, tt)) (λ κs x f. refl) (#self inst) fn
+    (code.unfolded 𝓤 𝓛.H 𝓜 𝓡 wired (T, tt)) (λ κs qs a gh Post asked ends.
+    let p : Ptr = a.block in let x : (HeldRow R).Denot = a.held in let η : ℕ = a.id in let pb : ℕ = block_of p in
+    let po : ℕ = offset_of p in let old : List WordStep = a.log in
     rewrite ! 0 (λ (r : Right). ‵ (permit_owns R p x η r old)) asked refl $ fsplit ! $ move ! (1 ∷ []) $ fsplit ! $
     fpick ! (λ inb. drop ! $ let at : p ≡ block_ptr pb po = at_block p inb in
     enter ! 𝓣.C 𝓣.Λ fn (one_word p ∷ []) Post $ fpick ! (λ i. fsplit ! $
@@ -74,15 +66,5 @@ lower_spec 𝓤 𝓛 𝓜 𝓡 wired T L =
     refl (word_and_permit-Good n fits p) $
     returns_permit R p x η ! n fits r' log $ known ! (Adds x.limit.count old step.lowers n log) adds $
     known ! (η ≡ η) refl $ join ! $ known ! (x ≡ x) refl $ join ! $ known ! (r' ≡ r') refl $ join ! $
-    nothing_more ! $ nothing_more ! $ fjoin ! $
-    returns ! (look_at ! 0 refl) $ free_all ! refl $ keep ! (3 ∷ 0 ∷ 2 ∷ 1 ∷ []) $
-    by ! (leaves 𝓛 En hs c y (word_and_permit n p) (
-      n,
-      record {
-        block = p;
-        held = x;
-        right = r';
-        id = η;
-        log = log;
-      },
-    ) (tt, tt) (tt, tt)))))))))))
+    returns ! (look_at ! 0 refl) $ free_all ! refl $ keep ! (2 ∷ 1 ∷ 0 ∷ []) $
+    by ! (ends (word_and_permit n p) (n, permit_at R p x r' η log))))))))))

@@ -1,11 +1,11 @@
 -- `fill` writes a value into its room.
-use Rattle.handles.proofs.Walks.{◌≡◌, List, [], ◌∷◌, ◌++◌, refl, sym, subst, a_type, Val, vptr, inst_fn}
-use Rattle.handles.proofs.Walks.{full_share, SProp, ent, id⊢, ftrue, flft, WpFn, ‵, raw, ◌⊛◌, at_ret, ◌$◌}
-use Rattle.handles.proofs.Walks.{◌∵◌, !, qed, by, move, keep, split, fsplit3, fjoin, use2, suffices, stop, fld}
-use Rattle.handles.proofs.Walks.{of_opd, no_more, and_then, first, blocks, exec, returns, enter, alloc_all, pass_all}
-use Rattle.handles.proofs.Walks.{free_all, look_at, get, get_in, through, sets, env, agg, sub, whole, tables, no}
-use Rattle.handles.proofs.Walks.{RattleType, owns, types_at, plain, block_ptr, nothing_more, param, layouts, Stays}
-use Rattle.handles.proofs.Walks.{stay_dropped, walk_of, Goes-dropped, after, proved_at, leaves, known}
+use Rattle.handles.proofs.Walks.{◌≡◌, List, [], ◌∷◌, ◌++◌, refl, sym, subst, a_type, Val, vptr, inst_fn, full_share}
+use Rattle.handles.proofs.Walks.{SProp, ent, id⊢, ftrue, flft, WpFn, ‵, raw, ◌⊛◌, at_ret, ◌$◌, ◌∵◌, !, qed, by, move}
+use Rattle.handles.proofs.Walks.{keep, split, fsplit3, fjoin, use2, suffices, stop, fld, of_opd, no_more, and_then}
+use Rattle.handles.proofs.Walks.{first, blocks, exec, returns, enter, alloc_all, pass_all, free_all, look_at, get}
+use Rattle.handles.proofs.Walks.{get_in, through, sets, env, agg, sub, whole, tables, no, RattleType, owns, types_at}
+use Rattle.handles.proofs.Walks.{plain, block_ptr, nothing_more, param, layouts, Stays, stay_dropped, walk_of}
+use Rattle.handles.proofs.Walks.{Goes-dropped, after, proved_at, leaves, known}
 use types.Run.{init, assigns_last}
 use denote.Memory.{part_at}
 use Rattle.std_alloc.proofs.BoxSteps.Form as box

@@ -1,5 +1,4 @@
-use Rattle.std.proofs.Common.{◌≡◌, ◌<◌, ◌∷◌, [], length, length-append, arith, rules}
-use Rattle.std.proofs.Common.{inr, Some, Result, Ok}
+use Rattle.std.proofs.Common.{◌≡◌, ◌<◌, ◌∷◌, [], length, length-append, arith, rules, inr, Some, Result, Ok}
 use Rattle.std.proofs.iter.Next.{Yields-more}
 use Rattle.std.proofs.lemmas.List.{map-append}
 use Rattle.handles.specs.declared.header_slice.build.BuildError.TheVariants.{UnderReported}

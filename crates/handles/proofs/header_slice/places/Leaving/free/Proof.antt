@@ -1,14 +1,13 @@
 -- `free` makes room of the places, and frees their block if they take bytes.
-use Rattle.handles.proofs.PlacesWalks.{◌≡◌, ℕ, ◌+◌, ◌-◌, ◌^◌, ◌<◌, Bool, List, [], ◌∷◌}
-use Rattle.handles.proofs.PlacesWalks.{refl, sym, ap, ◌∙◌, subst, arith, w64, a_type, named, Val, vint, vptr}
-use Rattle.handles.proofs.PlacesWalks.{vunit, inst_fn, SProp, Lft, Share, ftrue, flft, ‵, raw, ◌⊛◌, given}
-use Rattle.handles.proofs.PlacesWalks.{later, at_ret, ◌$◌, ◌∵◌, !, qed, by, move, keep, drop, split, join}
-use Rattle.handles.proofs.PlacesWalks.{fsplit, fsplit3, fjoin3, learn, use1, use2, use3, await, rewrite, feq_i, flt_l}
-use Rattle.handles.proofs.PlacesWalks.{unit_lit, stop, fld, lit, of_opd, no_more, and_then, first, blocks, exec}
-use Rattle.handles.proofs.PlacesWalks.{returns, enter, alloc_all, pass_all, free_all, look_at, get, get_in, sets}
-use Rattle.handles.proofs.PlacesWalks.{lands_last, is, env, sub, whole, tables, fact, yes, no, RattleType, owns}
-use Rattle.handles.proofs.PlacesWalks.{types_at, plain, Ptr, block_ptr, ptr_val, nothing_more, heard, param, layouts}
-use Rattle.handles.proofs.PlacesWalks.{param_laws, RefOf, shr_vals, shr_Tells, Stays, stay_dropped, walk_of}
+use Rattle.handles.proofs.PlacesWalks.{◌≡◌, ℕ, ◌+◌, ◌-◌, ◌^◌, ◌<◌, Bool, List, [], ◌∷◌, refl, sym, ap, ◌∙◌, subst}
+use Rattle.handles.proofs.PlacesWalks.{arith, w64, a_type, named, Val, vint, vptr, vunit, inst_fn, SProp, Lft, Share}
+use Rattle.handles.proofs.PlacesWalks.{ftrue, flft, ‵, raw, ◌⊛◌, given, later, at_ret, ◌$◌, ◌∵◌, !, qed, by, move, keep}
+use Rattle.handles.proofs.PlacesWalks.{drop, split, join, fsplit, fsplit3, fjoin3, learn, use1, use2, use3, await}
+use Rattle.handles.proofs.PlacesWalks.{rewrite, feq_i, flt_l, unit_lit, stop, fld, lit, of_opd, no_more, and_then}
+use Rattle.handles.proofs.PlacesWalks.{first, blocks, exec, returns, enter, alloc_all, pass_all, free_all, look_at, get}
+use Rattle.handles.proofs.PlacesWalks.{get_in, sets, lands_last, is, env, sub, whole, tables, fact, yes, no, RattleType}
+use Rattle.handles.proofs.PlacesWalks.{owns, types_at, plain, Ptr, block_ptr, ptr_val, nothing_more, heard, param}
+use Rattle.handles.proofs.PlacesWalks.{layouts, param_laws, RefOf, shr_vals, shr_Tells, Stays, stay_dropped, walk_of}
 use Rattle.handles.proofs.PlacesWalks.{Goes-dropped, after, proved, leaves, fm, heap, spared, run_framed, ⊑_static}
 use Rattle.handles.proofs.PlacesWalks.{Global, Goes-blank, elτ, sz, uncapped, LeavingRow, leaving-Good, leaving_val}
 use Rattle.handles.proofs.PlacesWalks.{none_at_null, right_to_free, leaving_own, ◌*◌, as_raw, as_written, owns_if}

@@ -1,16 +1,15 @@
 -- `take_first` reads the first item that is left, and its place is empty.
-use Rattle.handles.proofs.PlacesWalks.{◌≡◌, ℕ, ◌+◌, ◌-◌, ◌^◌, ◌<◌, List, [], ◌∷◌, refl}
-use Rattle.handles.proofs.PlacesWalks.{sym, ap, ◌∙◌, arith, a_type, named, Val, vptr, inst_fn, full_share, SProp}
-use Rattle.handles.proofs.PlacesWalks.{emp, fat, Lft, Share, ftrue, flft, ‵, raw, ◌⊛◌, some, given, at_ret}
-use Rattle.handles.proofs.PlacesWalks.{◌$◌, ◌∵◌, !, qed, by, move, keep, drop, split, split3, join, fsplit}
-use Rattle.handles.proofs.PlacesWalks.{fsplit3, fjoin, fjoin3, pick, learn, use0, use1, use2, rewrite, feq_i, flt_i}
-use Rattle.handles.proofs.PlacesWalks.{flt_l, stop, fld, load, lit, of_opd, first, blocks, exec, returns, enter}
-use Rattle.handles.proofs.PlacesWalks.{alloc_all, pass_all, free_all, look_at, get, through, sets, sets_last, env, sub}
-use Rattle.handles.proofs.PlacesWalks.{whole, look_in, tables, fact, fact_i, RattleType, owns, types_at, plain, Ptr}
-use Rattle.handles.proofs.PlacesWalks.{nothing_more, peeks, heard, Is, shows, cell_at, param, layouts, param_laws}
-use Rattle.handles.proofs.PlacesWalks.{Stays, walk_of, after, proved, leaves, elτ, one_below, sz, times_below}
-use Rattle.handles.proofs.PlacesWalks.{LeavingRow, LeavingWords, leaving_val, leaving_words, none_at_null, leaving_own}
-use Rattle.handles.proofs.PlacesWalks.{◌*◌, ◌≤◌, as_raw, as_written, froom, Array, part_at, in_a_block}
+use Rattle.handles.proofs.PlacesWalks.{◌≡◌, ℕ, ◌+◌, ◌-◌, ◌^◌, ◌<◌, List, [], ◌∷◌, refl, sym, ap, ◌∙◌, arith, a_type}
+use Rattle.handles.proofs.PlacesWalks.{named, Val, vptr, inst_fn, full_share, SProp, emp, fat, Lft, Share, ftrue, flft}
+use Rattle.handles.proofs.PlacesWalks.{‵, raw, ◌⊛◌, some, given, at_ret, ◌$◌, ◌∵◌, !, qed, by, move, keep, drop, split}
+use Rattle.handles.proofs.PlacesWalks.{split3, join, fsplit, fsplit3, fjoin, fjoin3, pick, learn, use0, use1, use2}
+use Rattle.handles.proofs.PlacesWalks.{rewrite, feq_i, flt_i, flt_l, stop, fld, load, lit, of_opd, first, blocks, exec}
+use Rattle.handles.proofs.PlacesWalks.{returns, enter, alloc_all, pass_all, free_all, look_at, get, through, sets}
+use Rattle.handles.proofs.PlacesWalks.{sets_last, env, sub, whole, look_in, tables, fact, fact_i, RattleType, owns}
+use Rattle.handles.proofs.PlacesWalks.{types_at, plain, Ptr, nothing_more, peeks, heard, Is, shows, cell_at, param}
+use Rattle.handles.proofs.PlacesWalks.{layouts, param_laws, Stays, walk_of, after, proved, leaves, elτ, one_below, sz}
+use Rattle.handles.proofs.PlacesWalks.{times_below, LeavingRow, LeavingWords, leaving_val, leaving_words, none_at_null}
+use Rattle.handles.proofs.PlacesWalks.{leaving_own, ◌*◌, ◌≤◌, as_raw, as_written, froom, Array, part_at, in_a_block}
 use Rattle.handles.proofs.PlacesWalks.{mut_Tells, mut_vals, closes, opens, Goes-ref, stay_ref, length, ty_array}
 use Rattle.handles.proofs.PlacesWalks.{store_in, assigns, bin, size_lit}
 use types.Run.{look}

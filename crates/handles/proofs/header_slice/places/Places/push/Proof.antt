@@ -1,16 +1,15 @@
 -- `push` writes an item into the first place after the others.
-use Rattle.handles.proofs.PlacesWalks.{ℕ, ◌+◌, ◌-◌, ◌^◌, ◌<◌, List, [], ◌∷◌, ◌++◌, refl}
-use Rattle.handles.proofs.PlacesWalks.{sym, ap, ◌∙◌, subst, arith, a_type, Val, vptr, vunit, inst_fn, full_share}
-use Rattle.handles.proofs.PlacesWalks.{SProp, ent, id⊢, ftrue, flft, WpFn, ‵, raw, ◌⊛◌, at_ret, ◌$◌}
-use Rattle.handles.proofs.PlacesWalks.{◌∵◌, !, qed, move, keep, drop, split, split3, join, fsplit3, fjoin, fjoin3}
-use Rattle.handles.proofs.PlacesWalks.{use1, use2, rewrite, feq_i, suffices, done, unit_lit, stop, fld, load, lit}
-use Rattle.handles.proofs.PlacesWalks.{of_opd, first, blocks, exec, returns, enter, alloc_all, pass_all, free_all}
-use Rattle.handles.proofs.PlacesWalks.{look_at, get, through, sets, env, sub, whole, look_in, tables, fact, no}
-use Rattle.handles.proofs.PlacesWalks.{RattleType, owns, types_at, plain, block_ptr, nothing_more, heard, cell_at}
-use Rattle.handles.proofs.PlacesWalks.{param, layouts, Stays, stay_dropped, walk_of, Goes-dropped, after, proved_at}
-use Rattle.handles.proofs.PlacesWalks.{elτ, one_below, sz, times_below, PlacesRow, places_val, places_opens, ◌*◌}
-use Rattle.handles.proofs.PlacesWalks.{as_raw, as_written, froom, Array, part_at, closes, opens, Goes-ref, stay_ref}
-use Rattle.handles.proofs.PlacesWalks.{ty_array, store_in, assigns, bin, size_lit}
+use Rattle.handles.proofs.PlacesWalks.{ℕ, ◌+◌, ◌-◌, ◌^◌, ◌<◌, List, [], ◌∷◌, ◌++◌, refl, sym, ap, ◌∙◌, subst, arith}
+use Rattle.handles.proofs.PlacesWalks.{a_type, Val, vptr, vunit, inst_fn, full_share, SProp, ent, id⊢, ftrue, flft}
+use Rattle.handles.proofs.PlacesWalks.{WpFn, ‵, raw, ◌⊛◌, at_ret, ◌$◌, ◌∵◌, !, qed, move, keep, drop, split, split3}
+use Rattle.handles.proofs.PlacesWalks.{join, fsplit3, fjoin, fjoin3, use1, use2, rewrite, feq_i, suffices, done}
+use Rattle.handles.proofs.PlacesWalks.{unit_lit, stop, fld, load, lit, of_opd, first, blocks, exec, returns, enter}
+use Rattle.handles.proofs.PlacesWalks.{alloc_all, pass_all, free_all, look_at, get, through, sets, env, sub, whole}
+use Rattle.handles.proofs.PlacesWalks.{look_in, tables, fact, no, RattleType, owns, types_at, plain, block_ptr}
+use Rattle.handles.proofs.PlacesWalks.{nothing_more, heard, cell_at, param, layouts, Stays, stay_dropped, walk_of}
+use Rattle.handles.proofs.PlacesWalks.{Goes-dropped, after, proved_at, elτ, one_below, sz, times_below, PlacesRow}
+use Rattle.handles.proofs.PlacesWalks.{places_val, places_opens, ◌*◌, as_raw, as_written, froom, Array, part_at, closes}
+use Rattle.handles.proofs.PlacesWalks.{opens, Goes-ref, stay_ref, ty_array, store_in, assigns, bin, size_lit}
 use lib.ListN.{length-append}
 use types.Run.{init, assigns_last}
 use denote.Triple.Walked.{ends_at}

@@ -1,16 +1,15 @@
 -- `slice` shows the items that the places lend. Assumes `Logic`.
-use Rattle.handles.proofs.PlacesWalks.{◌≡◌, ℕ, ◌^◌, ◌<◌, List, [], ◌∷◌, refl, sym, ap, ◌∙◌}
-use Rattle.handles.proofs.PlacesWalks.{subst, a_type, named, Val, vptr, inst_fn, SProp, emp, id⊢, Lft, Share, Fml}
-use Rattle.handles.proofs.PlacesWalks.{ftrue, fsep, flft, fhide, ‵, raw, ◌⊛◌, at_ret, ◌$◌, ◌∵◌, ! }
-use Rattle.handles.proofs.PlacesWalks.{qed, by, move, keep, drop, split, join, fsplit, fjoin, use0, use1, rewrite}
-use Rattle.handles.proofs.PlacesWalks.{feq_i, flt_i, flt_l, stop, fld, load, of_opd, no_more, and_then, first, blocks}
-use Rattle.handles.proofs.PlacesWalks.{exec, returns, enter, alloc_all, pass_all, free_all, look_at, get, through, sets}
-use Rattle.handles.proofs.PlacesWalks.{sets_last, env, agg, sub, whole, look_in, tables, fact, fact_i, yes, RattleType}
-use Rattle.handles.proofs.PlacesWalks.{owns, types_at, plain, Ptr, InBlock, block_ptr, block_of, offset_of, at_block}
-use Rattle.handles.proofs.PlacesWalks.{nothing_more, peeks, heard, looks, shuts, Is, shows, cell_at, param, layouts}
-use Rattle.handles.proofs.PlacesWalks.{RefOf, shr_vals, shr_Tells, Stays, stay_dropped, walk_of, Goes-dropped, after}
-use Rattle.handles.proofs.PlacesWalks.{proved, leaves, PlacesRow, places_val, ◌*◌, ◌≤◌, type_size, slice_val}
-use Rattle.handles.proofs.PlacesWalks.{length}
+use Rattle.handles.proofs.PlacesWalks.{◌≡◌, ℕ, ◌^◌, ◌<◌, List, [], ◌∷◌, refl, sym, ap, ◌∙◌, subst, a_type, named, Val}
+use Rattle.handles.proofs.PlacesWalks.{vptr, inst_fn, SProp, emp, id⊢, Lft, Share, Fml, ftrue, fsep, flft, fhide, ‵}
+use Rattle.handles.proofs.PlacesWalks.{raw, ◌⊛◌, at_ret, ◌$◌, ◌∵◌, !, qed, by, move, keep, drop, split, join, fsplit}
+use Rattle.handles.proofs.PlacesWalks.{fjoin, use0, use1, rewrite, feq_i, flt_i, flt_l, stop, fld, load, of_opd}
+use Rattle.handles.proofs.PlacesWalks.{no_more, and_then, first, blocks, exec, returns, enter, alloc_all, pass_all}
+use Rattle.handles.proofs.PlacesWalks.{free_all, look_at, get, through, sets, sets_last, env, agg, sub, whole, look_in}
+use Rattle.handles.proofs.PlacesWalks.{tables, fact, fact_i, yes, RattleType, owns, types_at, plain, Ptr, InBlock}
+use Rattle.handles.proofs.PlacesWalks.{block_ptr, block_of, offset_of, at_block, nothing_more, peeks, heard, looks}
+use Rattle.handles.proofs.PlacesWalks.{shuts, Is, shows, cell_at, param, layouts, RefOf, shr_vals, shr_Tells, Stays}
+use Rattle.handles.proofs.PlacesWalks.{stay_dropped, walk_of, Goes-dropped, after, proved, leaves, PlacesRow}
+use Rattle.handles.proofs.PlacesWalks.{places_val, ◌*◌, ◌≤◌, type_size, slice_val, length}
 use native.Mathlib.Nat.{mul-le-mul_right, lt_of_le_of_lt}
 use denote.Memory.{hidden_shr}
 use denote.Opens.{unhide, hide}

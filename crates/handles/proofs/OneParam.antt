@@ -1,0 +1,155 @@
+-- Walks of the functions whose one parameter is a `&`, or a handle or a permit by value. Assumes `Logic`.
+use Rattle.std.proofs.Common.{ℕ, Bool, List, [], ◌∷◌, refl}
+use seplogic.Ra.Ura.{Ura}
+use mir.Syntax.{Fn, Callee, named}
+use mir.Val.{Val}
+use base.Logic.{SProp, ent}
+use base.Fml.{Fml, ftrue, fsep, flft}
+use prog.Model.{Model}
+use prog.Wp.{WpFn, Closed}
+use types.Logic.{Logic, sem}
+use types.Kit.{Item, Goal, Step, step, Sq, use0, prop, ⋆, ‵, raw, ◌⊛◌, ◌$◌, ◌∵◌, !, qed, by, move, keep, drop, use1}
+use types.Kit.{split, fsplit, fjoin, done}
+use contract.Lifetimes.{Lfts, Shares, Outlives}
+use contract.Monad.{fact}
+use contract.Running.{Running, tables}
+use denote.Exit.{Kept, yes, no}
+use denote.Laws.{Is, Tells}
+use denote.Memory.{hidden_shr}
+use denote.RattleType.{RattleType, owns}
+use denote.RawPtr.{Ptr}
+use denote.Ref.{Bor, shr_vals, shr_Tells}
+use denote.Builtin.{RefOf, One}
+use denote.Signature.{Slot, plain, types_at}
+use denote.Steps.{nothing as nothing_more, heard}
+use denote.Triple.Clauses.{Ended, Clauses, Lasts, at_exit, closing}
+use denote.Triple.Spec.{Meets}
+use denote.Triple.Walked.{Stays, stay_dropped, walk_of, Silent, Goes-dropped}
+use Rattle.atomic_table.proofs.Walks.{proved, leaves}
+use Rattle.counting_word.specs.Rights.{Right}
+use Rattle.counting_word.specs.WordSteps.{WordStep}
+use Rattle.handles.specs.Inside.Blocks.{HeldRow, handle_owns, permit_owns}
+use Rattle.handles.specs.contracts.block.handle.Handle as handle_type
+use Rattle.handles.specs.contracts.block.permit.Permit as permit_type
+use Rattle.handles.proofs.Fields.{one_word, words_are, words_made, HandleRow, HandleWords, PermitRow}
+
+-- a signature of one parameter
+abbrev pub taking : {n : ℕ} → List (Outlives n) → Slot n → Kept → Slot n → Ended
+taking {n} os s k r = record {
+  signature = record { lifetimes = n; outlives = os; params = s ∷ []; result = r };
+  kept = (k, tt);
+}
+
+abbrev pub a_ref : (Row : RattleType) → One Row.mir → Slot 2
+a_ref Row one = RefOf (0 ∷ []) tt (plain (λ _. Row)) (λ _. one)
+
+-- What its `requires` asks is one fact. A walk begins with what the `&` lends, its token and the other tokens, and ends
+-- with the tokens, the result and the `ensures`.
+module _ (Row : RattleType) (one : One Row.mir) (os : List (Outlives 2)) (r : Slot 2) {M : Type 1} {𝓤 : Ura M} (𝓛 : Logic 𝓤)
+    (𝓜 : Model 𝓤 𝓛.H) (𝓡 : Running 𝓤 𝓛.H 𝓜) (c : Clauses 𝓤 (taking os (a_ref Row one) yes r))
+    (Asked : Lfts 2 → Bor Row.Denot → Type 0)
+    (asked : (κs : Lfts 2) (a : Bor Row.Denot) (gh : (c κs (a, tt)).ghost)
+    → ent 𝓤 ((c κs (a, tt)).requires gh) (fact 𝓤 (Asked κs a))) where
+  open 𝓛 use {H}
+
+  abbrev others : Lfts 2 → Shares 2 → Fml
+  others κs qs = fsep (flft κs.1.0 qs.1.0) ftrue
+
+  pub by_ref : (key : Callee) (fn : Fn) → Closed 𝓤 H (tables 𝓤 H 𝓜 𝓡 𝓡.env).C (tables 𝓤 H 𝓜 𝓡 𝓡.env).Λ key fn
+      → ((κs : Lfts 2) (qs : Shares 2) (a : Bor Row.Denot) (gh : (c κs (a, tt)).ghost) (Post : Val → SProp 𝓤)
+      → Asked κs a
+      → ((v : Val) (x : (r.row κs).Denot) → ent 𝓤 (⋆ 𝓛 ((‵ (flft κs.0 qs.0) ⊛ ‵ (others κs qs))
+      ∷ ‵ ((r.row κs).own_val x (v ∷ [])) ∷ raw ((c κs (a, tt)).ensures gh x (at_exit (taking os (a_ref Row one) yes r) κs (a, tt) (tt, tt))) ∷ [])) (Post v))
+      → Sq 𝓛 (‵ (hidden_shr Row κs.0 a.now a.ref_ptr.0 a.ref_ptr.1) ∷ ‵ (flft κs.0 qs.0)
+      ∷ ‵ (others κs qs) ∷ [])
+      (prop (WpFn 𝓤 H (tables 𝓤 H 𝓜 𝓡 𝓡.env).C (tables 𝓤 H 𝓜 𝓡 𝓡.env).Λ fn (shr_vals a) Post)))
+      → Meets 𝓛 (taking os (a_ref Row one) yes r).signature ((tables 𝓤 H 𝓜 𝓡 𝓡.env).C key)
+      (closing 𝓛 (taking os (a_ref Row one) yes r) c)
+  by_ref key fn closed walk =
+      let En = taking os (a_ref Row one) yes r in
+      let hs : Stays En.signature.params En.kept = (stay_dropped (a_ref Row one) yes, tt) in
+      proved 𝓛 En hs c 𝓜 𝓡 (Goes-dropped 𝓛 2 (a_ref Row one) yes (λ κs x f. refl), tt) key fn closed
+      (λ κs. (shr_vals, tt)) (λ κs. (shr_Tells (named 0) κs.0 Row, tt)) (λ κs qs bounds a gh are.
+      let y : (walk_of 𝓛 En hs c).Ghost = ((κs, qs, bounds, a, (shr_vals a.0, tt)), gh) in
+      let toks = ‵ (flft κs.0 qs.0) ⊛ ‵ (others κs qs) in
+      qed 𝓛 ((toks ⊛ ‵ (owns (types_at En.signature.params κs) a y.0.4)) ∷ raw ((c κs a).requires gh) ∷ []) ∵
+      move ! (1 ∷ []) $ use1 𝓛 (raw (fact 𝓤 (Asked κs a.0))) (asked κs a.0 gh) $ heard ! (Asked κs a.0) (λ is.
+      split ! $ split ! $ move ! (2 ∷ []) $ fsplit ! $ fsplit ! $ keep ! (1 ∷ 3 ∷ 4 ∷ []) $
+      walk κs qs a.0 gh ((walk_of 𝓛 En hs c).post y) is (λ v x.
+      qed 𝓛 (toks ∷ ‵ ((r.row κs).own_val x (v ∷ [])) ∷ raw ((c κs a).ensures gh x (at_exit En κs a (tt, tt))) ∷ []) ∵
+      nothing_more ! $ nothing_more ! $ fjoin ! $ move ! (1 ∷ 0 ∷ []) $ by ! (leaves 𝓛 En hs c y v x (tt, tt) (tt, tt)))))
+
+-- A type whose values are one word, and what it owns beside that.
+pub record Worded : Type 2 where
+  pub row : RattleType
+  pub block : row.Denot → Ptr
+  pub tells : Tells row (Is row) (λ x. one_word (block x) ∷ [])
+  pub owned : row.Denot → Fml
+  pub opens : {M : Type 1} {𝓤 : Ura M} (𝓛 : Logic 𝓤) (x : row.Denot)
+      → ent 𝓤 (sem 𝓛 (row.own_val x (one_word (block x) ∷ []))) (sem 𝓛 (owned x))
+
+abbrev pub handle_worded : RattleType → Worded
+handle_worded R = record {
+  row = HandleRow R;
+  block = λ h. h.block;
+  tells = λ h vs so. words_are (handle_type.the_type R).name (R ∷ []) h.block vs so.0;
+  owned = λ h. handle_owns R h.block h.held h.id h.sole;
+  opens = λ 𝓛 h. qed 𝓛 (‵ ((HandleRow R).own_val h (one_word h.block ∷ [])) ∷ []) ∵ fsplit ! $ drop ! $ done !;
+}
+
+abbrev pub permit_worded : RattleType → Worded
+permit_worded R = record {
+  row = PermitRow R;
+  block = λ p. p.block;
+  tells = λ p vs so. words_are (permit_type.the_type R).name (R ∷ []) p.block vs so.0;
+  owned = λ p. permit_owns R p.block p.held p.id p.right p.log;
+  opens = λ 𝓛 p. qed 𝓛 (‵ ((PermitRow R).own_val p (one_word p.block ∷ [])) ∷ []) ∵ fsplit ! $ drop ! $ done !;
+}
+
+-- The same by value: a walk begins with what is owned and its token.
+module _ (W : Worded) (os : List (Outlives 1)) (r : Slot 1) {M : Type 1} {𝓤 : Ura M} (𝓛 : Logic 𝓤)
+    (𝓜 : Model 𝓤 𝓛.H) (𝓡 : Running 𝓤 𝓛.H 𝓜) (c : Clauses 𝓤 (taking os (plain (λ _. W.row)) no r))
+    (Asked : Lfts 1 → W.row.Denot → Type 0)
+    (asked : (κs : Lfts 1) (a : W.row.Denot) (gh : (c κs (a, tt)).ghost)
+    → ent 𝓤 ((c κs (a, tt)).requires gh) (fact 𝓤 (Asked κs a)))
+    (lasts : (κs : Lfts 1) (a : W.row.Denot) → Lasts (taking os (plain (λ _. W.row)) no r) κs (a, tt))
+    (silent : Silent 𝓛 1 (plain (λ _. W.row)) no) where
+  open 𝓛 use {H}
+
+  pub by_value : (key : Callee) (fn : Fn) → Closed 𝓤 H (tables 𝓤 H 𝓜 𝓡 𝓡.env).C (tables 𝓤 H 𝓜 𝓡 𝓡.env).Λ key fn
+      → ((κs : Lfts 1) (qs : Shares 1) (a : W.row.Denot) (gh : (c κs (a, tt)).ghost) (Post : Val → SProp 𝓤)
+      → Asked κs a
+      → ((v : Val) (x : (r.row κs).Denot) → ent 𝓤 (⋆ 𝓛 ((‵ (flft κs.0 qs.0) ⊛ ‵ ftrue)
+      ∷ ‵ ((r.row κs).own_val x (v ∷ [])) ∷ raw ((c κs (a, tt)).ensures gh x (at_exit (taking os (plain (λ _. W.row)) no r) κs (a, tt) (lasts κs a))) ∷ [])) (Post v))
+      → Sq 𝓛 (‵ (W.owned a) ∷ (‵ (flft κs.0 qs.0) ⊛ ‵ ftrue) ∷ [])
+      (prop (WpFn 𝓤 H (tables 𝓤 H 𝓜 𝓡 𝓡.env).C (tables 𝓤 H 𝓜 𝓡 𝓡.env).Λ fn (one_word (W.block a) ∷ []) Post)))
+      → Meets 𝓛 (taking os (plain (λ _. W.row)) no r).signature ((tables 𝓤 H 𝓜 𝓡 𝓡.env).C key)
+      (closing 𝓛 (taking os (plain (λ _. W.row)) no r) c)
+  by_value key fn closed walk =
+      let s : Slot 1 = plain (λ _. W.row) in let En = taking os s no r in
+      let hs : Stays En.signature.params En.kept = (stay_dropped s no, tt) in
+      proved 𝓛 En hs c 𝓜 𝓡 (Goes-dropped 𝓛 1 s no silent, tt) key fn closed
+      (λ κs. ((λ x. one_word (W.block x) ∷ []), tt)) (λ κs. (W.tells, tt)) (λ κs qs bounds a gh are.
+      let y : (walk_of 𝓛 En hs c).Ghost = ((κs, qs, bounds, a, (one_word (W.block a.0) ∷ [], tt)), gh) in
+      let toks = ‵ (flft κs.0 qs.0) ⊛ ‵ ftrue in
+      qed 𝓛 ((toks ⊛ ‵ (owns (types_at En.signature.params κs) a y.0.4)) ∷ raw ((c κs a).requires gh) ∷ []) ∵
+      move ! (1 ∷ []) $ use1 𝓛 (raw (fact 𝓤 (Asked κs a.0))) (asked κs a.0 gh) $ heard ! (Asked κs a.0) (λ is.
+      split ! $ move ! (1 ∷ []) $ fsplit ! $ keep ! (0 ∷ 2 ∷ []) $ use1 𝓛 (‵ (W.owned a.0)) (W.opens 𝓛 a.0) $
+      walk κs qs a.0 gh ((walk_of 𝓛 En hs c).post y) is (λ v x.
+      qed 𝓛 (toks ∷ ‵ ((r.row κs).own_val x (v ∷ [])) ∷ raw ((c κs a).ensures gh x (at_exit En κs a (lasts κs a.0))) ∷ []) ∵
+      nothing_more ! $ nothing_more ! $ fjoin ! $ move ! (1 ∷ 0 ∷ []) $ by ! (leaves 𝓛 En hs c y v x (lasts κs a.0) (tt, tt)))))
+
+abbrev pub handle_at : (R : RattleType) → Ptr → (HeldRow R).Denot → Bool → ℕ → (HandleRow R).Denot
+handle_at R p x sole η = record { block = p; held = x; sole = sole; id = η }
+
+abbrev pub permit_at : (R : RattleType) → Ptr → (HeldRow R).Denot → Right → ℕ → List WordStep → (PermitRow R).Denot
+permit_at R p x r η log = record { block = p; held = x; right = r; id = η; log = log }
+
+module _ (R : RattleType) (p : Ptr) (x : (HeldRow R).Denot) (η : ℕ) {M : Type 1} {𝓤 : Ura M} {𝓛 : Logic 𝓤}
+    {K : Type 0} {Γ : List (Item 𝓤)} {G : Goal 𝓤 𝓛.H} where
+  -- a handle by its word
+  pub is_handle : K → (sole : Bool)
+      → Step K 𝓛 (‵ ((HandleRow R).own_val (handle_at R p x sole η) (one_word p ∷ [])) ∷ Γ) G
+      (‵ (handle_owns R p x η sole) ∷ Γ) G
+  is_handle t sole = step (λ s. use0 𝓛 (‵ ((HandleWords R).own_val (p, tt) (one_word p ∷ [])))
+      (words_made (handle_type.the_type R).name (R ∷ []) 𝓛 p) $ fjoin t $ s)

@@ -4,10 +4,10 @@
 use Rattle.std.proofs.Common.{◌≡◌, ℕ, Bool, false, List, [], ◌∷◌, refl, ap, ◌∙◌}
 use seplogic.Ra.Ura.{Ura}
 use mir.Val.{Val}
-use base.Logic.{id⊢}
+use base.Logic.{id⊢, SProp, ent, sep}
 use base.Fml.{Lft, Share, Fml, flft, fobor, fhide, finv, fsep}
 use base.Share
-use types.Logic.{Logic}
+use types.Logic.{Logic, sem}
 use types.Kit.{some as exists, given, pick, learn, Item, Goal, Seq, Soaks, Step, step, ‵, ◌⊛◌, later, ◌$◌, ◌∵◌, !, qed}
 use types.Kit.{fjoin, frame, done, move, drop, split, fsplit, fsplit3, fpick, rewrite, use1, use2, use3, await}
 use types.Tokens.{obor_close, shr_bor-open}
@@ -19,7 +19,12 @@ use denote.Laws.{Is, shows}
 use denote.Memory.{hidden_shr, cell_at, part_at}
 use denote.Opens.{Shut, unhide}
 use denote.RawPtr.{Ptr, InBlock, block_ptr, block_of, count_of as offset_of, at_block}
-use denote.Steps.{looks, peeks}
+use denote.Steps.{looks, peeks, nothing as nothing_more}
+use Rattle.counting_word.specs.CountingWord.{IsWithin}
+use Rattle.handles.proofs.Steps.Reads.{reported}
+use Rattle.handles.specs.Inside.Blocks.{reached}
+use types.Kit.{raw}
+use base.Fml.{ftrue}
 use Rattle.counting_word.specs.Rights.{Right}
 use Rattle.handles.specs.Inside.Blocks.{HeldRow, Names, block_rule, shown, lent_share, handle_shares, permit_owns}
 use Rattle.handles.specs.Inside.Blocks.{logged}
@@ -71,6 +76,25 @@ module _ (R : RattleType) (p : Ptr)
       rewrite t 0 (λ (ws : List Val). ‵ (D.own_val (p, tt) ws)) e refl $
       rewrite t 1 (λ (ws : List Val). ‵ (cell_at r D.mir ws b o)) e refl $ move t (1 ∷ []) $ k r))
 
+module _ {M : Type 1} {𝓤 : Ura M} {𝓛 : Logic 𝓤} {K : Type 0} {Γ : List (Item 𝓤)} {G : Goal 𝓤 𝓛.H}
+  where
+    -- The borrow closes again.
+    pub closes_borrow : K → Soaks G → {κ : Lft} {q : Share} {P : Fml} → Step K 𝓛 (‵ (flft κ q) ∷ Γ)
+        G (‵ P ∷ ‵ (flft κ (Share.right q)) ∷ ‵ (fobor κ (Share.left q) P) ∷ Γ) G
+    closes_borrow t soaks {κ} {q} = step (λ s. move t (2 ∷ 0 ∷ []) $ obor_close t soaks $ drop t $
+        use2 𝓛 (‵ (flft κ q)) (𝓛.lfts.lft_join κ q) $ s)
+
+    -- A step is asked for under a rule, which stays, by what its maker puts in.
+    pub asks_with : K → {I P : Fml} {X : SProp 𝓤} → ent 𝓤 (sep 𝓤 (sem 𝓛 (finv I)) (sem 𝓛 P)) X
+        → Step K 𝓛 (raw X ∷ ‵ (finv I) ∷ Γ) G (‵ P ∷ ‵ (finv I) ∷ Γ) G
+    asks_with t {I} {P} {X} h = step (λ s. move t (1 ∷ []) $
+        use1 𝓛 (‵ (finv I) ⊛ ‵ (finv I)) (𝓛.invs.inv_dup I) $ split t $ move t (0 ∷ 2 ∷ []) $ use2 𝓛 (raw X) h $ s)
+
+    -- the same with nothing known of the log
+    pub asks_new : K → {I P : Fml} {X : SProp 𝓤} → ent 𝓤 (sep 𝓤 (sem 𝓛 (finv I)) (sem 𝓛 (fsep ftrue P))) X
+        → Step K 𝓛 (raw X ∷ ‵ (finv I) ∷ Γ) G (‵ P ∷ ‵ (finv I) ∷ Γ) G
+    asks_new t h = step (λ s. nothing_more t $ fjoin t $ asks_with t h $ s)
+
 module _ (R : RattleType) (p : Ptr) (x : (HeldRow R).Denot)
     (η : ℕ) {M : Type 1} {𝓤 : Ura M} {𝓛 : Logic 𝓤} {K : Type 0} {Γ : List (Item 𝓤)} {G : Goal 𝓤
     𝓛.H} where
@@ -98,7 +122,7 @@ module _ (R : RattleType) (p : Ptr) (x : (HeldRow R).Denot)
       -- [the open borrow; the share; half of the token; the rule; the sharing; the word]
       move t (5 ∷ 2 ∷ []) $ opens_word R p t soaks inb b o (λ r. k inb i e r))))
 
-  -- a gain that was made through a `&`
+  -- a permit that was made through a `&`
   pub shows_permit : K → Soaks G → InBlock p → (i : Names) (r : Right) (old : List WordStep) (what : WordStep)
       (n : ℕ)
       → ((log : List WordStep) → Adds x.limit.count old what n log → Seq K 𝓛 (‵ (permit_owns R p x η r log)
@@ -109,10 +133,34 @@ module _ (R : RattleType) (p : Ptr) (x : (HeldRow R).Denot)
       (exists (λ (log : List WordStep). given (Adds x.limit.count old what n log) (‵ (permit_owns R p x η r log)))))
       (permit_shown 𝓛 R p x η inb i old what n r) $ await t soaks $ pick t (λ log. learn t (k log))
 
-module _ {M : Type 1} {𝓤 : Ura M} {𝓛 : Logic 𝓤} {K : Type 0} {Γ : List (Item 𝓤)} {G : Goal 𝓤 𝓛.H}
-  where
-    -- The borrow closes again.
-    pub closes_borrow : K → Soaks G → {κ : Lft} {q : Share} {P : Fml} → Step K 𝓛 (‵ (flft κ q) ∷ Γ)
-        G (‵ P ∷ ‵ (flft κ (Share.right q)) ∷ ‵ (fobor κ (Share.left q) P) ∷ Γ) G
-    closes_borrow t soaks {κ} {q} = step (λ s. move t (2 ∷ 0 ∷ []) $ obor_close t soaks $ drop t $
-        use2 𝓛 (‵ (flft κ q)) (𝓛.lfts.lft_join κ q) $ s)
+module _ (R : RattleType) (p : Ptr) (x : (HeldRow R).Denot)
+    (η : ℕ) {M : Type 1} {𝓤 : Ura M} {𝓛 : Logic 𝓤} {K : Type 0} {Γ : List (Item 𝓤)} {G : Goal 𝓤
+    𝓛.H} where
+  -- What a step through a `&` has left: that it is in the log, and the token again.
+  pub logs : K → Soaks G → {κ : Lft} {q : Share} (i : Names) (e : Share) (old : List WordStep) (what : WordStep)
+      (n : ℕ)
+      → ((log : List WordStep) → Adds x.limit.count old what n log
+      → Seq K 𝓛 (‵ (reached η log) ∷ ‵ (flft κ q) ∷ Γ) G)
+      → Seq K 𝓛 (‵ (fsep (logged x.limit.count η old what n) (lent_share i e)) ∷ ‵ (finv (block_rule R p x η i))
+      ∷ ‵ (flft κ (Share.right q)) ∷ ‵ (fobor κ (Share.left q) (lent_share i e)) ∷ ‵ (shown R p x (i.shared ∷ []))
+      ∷ Γ) G
+  logs t soaks i e old what n k = fsplit t $ fpick t (λ log. fsplit t $ move t (1 ∷ []) $ fpick t (λ adds. drop t $
+      -- [the log; the share; the rule; half of the token; the open borrow; the sharing]
+      move t (1 ∷ 3 ∷ 4 ∷ []) $ closes_borrow t soaks $ move t (2 ∷ []) $ drop t $ move t (2 ∷ []) $ drop t $
+      move t (1 ∷ 0 ∷ []) $ k log adds))
+
+  -- the same with the permit of a step that reported the word
+  pub reports : K → Soaks G → {κ : Lft} {q : Share} → InBlock p → (i : Names) (e : Share) (r : Right)
+      (old : List WordStep) (what : WordStep) (n : ℕ)
+      → (IsWithin n x.limit.count → (log : List WordStep) → Adds x.limit.count old what n log
+      → Seq K 𝓛 (‵ (permit_owns R p x η r log) ∷ ‵ (flft κ q) ∷ Γ) G)
+      → Seq K 𝓛 (‵ (fsep (logged x.limit.count η old what n) (reported (block_at R p x η i) e n r))
+      ∷ ‵ (finv (block_rule R p x η i)) ∷ ‵ (flft κ (Share.right q)) ∷ ‵ (fobor κ (Share.left q) (lent_share i e))
+      ∷ ‵ (shown R p x (i.shared ∷ [])) ∷ Γ) G
+  reports t soaks {κ} {q} inb i e r old what n k = fsplit t $ move t (1 ∷ []) $ fsplit3 t $
+      -- [the share; that it is within; the right; that it is in the log; the rule; half of the token; the open borrow;
+      -- the sharing]
+      move t (1 ∷ []) $ fpick t (λ within. drop t $ move t (0 ∷ 4 ∷ 5 ∷ []) $ closes_borrow t soaks $
+      -- [the token; the right; that it is in the log; the rule; the sharing]
+      move t (2 ∷ 1 ∷ []) $ fjoin t $ move t (0 ∷ 2 ∷ 3 ∷ []) $
+      shows_permit R p x η t soaks inb i r old what n (λ log adds. k within log adds))

@@ -3,15 +3,16 @@ use Rattle.std.proofs.Common.{ℕ, Bool, List, [], ◌∷◌, refl}
 use seplogic.Ra.Ura.{Ura}
 use mir.Syntax.{Fn, Callee, named}
 use mir.Val.{Val}
-use base.Logic.{SProp, ent}
+use base.Logic.{SProp, ent, sep, emp, via, emp∗, mono_l, mono_r}
 use base.Fml.{Fml, ftrue, fsep, flft}
 use prog.Model.{Model}
 use prog.Wp.{WpFn, Closed}
 use types.Logic.{Logic, sem}
 use types.Kit.{Item, Goal, Step, step, Sq, use0, prop, ⋆, ‵, raw, ◌⊛◌, ◌$◌, ◌∵◌, !, qed, by, move, keep, drop, use1}
 use types.Kit.{split, fsplit, fjoin, done}
+use types.Kit.{join}
 use contract.Lifetimes.{Lfts, Shares, Outlives}
-use contract.Monad.{fact}
+use contract.Monad.{fact, fact_i}
 use contract.Running.{Running, tables}
 use denote.Exit.{Kept, yes, no}
 use denote.Laws.{Is, Tells}
@@ -58,8 +59,9 @@ module _ (Row : RattleType) (one : One Row.mir) (os : List (Outlives 2)) (r : Sl
   pub by_ref : (key : Callee) (fn : Fn) → Closed 𝓤 H (tables 𝓤 H 𝓜 𝓡 𝓡.env).C (tables 𝓤 H 𝓜 𝓡 𝓡.env).Λ key fn
       → ((κs : Lfts 2) (qs : Shares 2) (a : Bor Row.Denot) (gh : (c κs (a, tt)).ghost) (Post : Val → SProp 𝓤)
       → Asked κs a
-      → ((v : Val) (x : (r.row κs).Denot) → ent 𝓤 (⋆ 𝓛 ((‵ (flft κs.0 qs.0) ⊛ ‵ (others κs qs))
-      ∷ ‵ ((r.row κs).own_val x (v ∷ [])) ∷ raw ((c κs (a, tt)).ensures gh x (at_exit (taking os (a_ref Row one) yes r) κs (a, tt) (tt, tt))) ∷ [])) (Post v))
+      → ((v : Val) (x : (r.row κs).Denot)
+      → ent 𝓤 (emp 𝓤) ((c κs (a, tt)).ensures gh x (at_exit (taking os (a_ref Row one) yes r) κs (a, tt) (tt, tt)))
+      → ent 𝓤 (⋆ 𝓛 (‵ (flft κs.0 qs.0) ∷ ‵ (others κs qs) ∷ ‵ ((r.row κs).own_val x (v ∷ [])) ∷ [])) (Post v))
       → Sq 𝓛 (‵ (hidden_shr Row κs.0 a.now a.ref_ptr.0 a.ref_ptr.1) ∷ ‵ (flft κs.0 qs.0)
       ∷ ‵ (others κs qs) ∷ [])
       (prop (WpFn 𝓤 H (tables 𝓤 H 𝓜 𝓡 𝓡.env).C (tables 𝓤 H 𝓜 𝓡 𝓡.env).Λ fn (shr_vals a) Post)))
@@ -75,9 +77,10 @@ module _ (Row : RattleType) (one : One Row.mir) (os : List (Outlives 2)) (r : Sl
       qed 𝓛 ((toks ⊛ ‵ (owns (types_at En.signature.params κs) a y.0.4)) ∷ raw ((c κs a).requires gh) ∷ []) ∵
       move ! (1 ∷ []) $ use1 𝓛 (raw (fact 𝓤 (Asked κs a.0))) (asked κs a.0 gh) $ heard ! (Asked κs a.0) (λ is.
       split ! $ split ! $ move ! (2 ∷ []) $ fsplit ! $ fsplit ! $ keep ! (1 ∷ 3 ∷ 4 ∷ []) $
-      walk κs qs a.0 gh ((walk_of 𝓛 En hs c).post y) is (λ v x.
-      qed 𝓛 (toks ∷ ‵ ((r.row κs).own_val x (v ∷ [])) ∷ raw ((c κs a).ensures gh x (at_exit En κs a (tt, tt))) ∷ []) ∵
-      nothing_more ! $ nothing_more ! $ fjoin ! $ move ! (1 ∷ 0 ∷ []) $ by ! (leaves 𝓛 En hs c y v x (tt, tt) (tt, tt)))))
+      walk κs qs a.0 gh ((walk_of 𝓛 En hs c).post y) is (λ v x e.
+      qed 𝓛 (‵ (flft κs.0 qs.0) ∷ ‵ (others κs qs) ∷ ‵ ((r.row κs).own_val x (v ∷ [])) ∷ []) ∵ join ! $
+      use0 𝓛 (raw ((c κs a).ensures gh x (at_exit En κs a (tt, tt)))) e $ nothing_more ! $ nothing_more ! $ fjoin ! $
+      move ! (2 ∷ 0 ∷ 3 ∷ 1 ∷ []) $ by ! (leaves 𝓛 En hs c y v x (tt, tt) (tt, tt)))))
 
 -- A type whose values are one word, and what it owns beside that.
 pub record Worded : Type 2 where
@@ -119,9 +122,10 @@ module _ (W : Worded) (os : List (Outlives 1)) (r : Slot 1) {M : Type 1} {𝓤 :
   pub by_value : (key : Callee) (fn : Fn) → Closed 𝓤 H (tables 𝓤 H 𝓜 𝓡 𝓡.env).C (tables 𝓤 H 𝓜 𝓡 𝓡.env).Λ key fn
       → ((κs : Lfts 1) (qs : Shares 1) (a : W.row.Denot) (gh : (c κs (a, tt)).ghost) (Post : Val → SProp 𝓤)
       → Asked κs a
-      → ((v : Val) (x : (r.row κs).Denot) → ent 𝓤 (⋆ 𝓛 ((‵ (flft κs.0 qs.0) ⊛ ‵ ftrue)
-      ∷ ‵ ((r.row κs).own_val x (v ∷ [])) ∷ raw ((c κs (a, tt)).ensures gh x (at_exit (taking os (plain (λ _. W.row)) no r) κs (a, tt) (lasts κs a))) ∷ [])) (Post v))
-      → Sq 𝓛 (‵ (W.owned a) ∷ (‵ (flft κs.0 qs.0) ⊛ ‵ ftrue) ∷ [])
+      → ((v : Val) (x : (r.row κs).Denot) → ent 𝓤 (emp 𝓤) ((c κs (a, tt)).ensures gh x
+      (at_exit (taking os (plain (λ _. W.row)) no r) κs (a, tt) (lasts κs a)))
+      → ent 𝓤 (⋆ 𝓛 (‵ (flft κs.0 qs.0) ∷ ‵ ((r.row κs).own_val x (v ∷ [])) ∷ [])) (Post v))
+      → Sq 𝓛 (‵ (W.owned a) ∷ ‵ (flft κs.0 qs.0) ∷ [])
       (prop (WpFn 𝓤 H (tables 𝓤 H 𝓜 𝓡 𝓡.env).C (tables 𝓤 H 𝓜 𝓡 𝓡.env).Λ fn (one_word (W.block a) ∷ []) Post)))
       → Meets 𝓛 (taking os (plain (λ _. W.row)) no r).signature ((tables 𝓤 H 𝓜 𝓡 𝓡.env).C key)
       (closing 𝓛 (taking os (plain (λ _. W.row)) no r) c)
@@ -134,10 +138,12 @@ module _ (W : Worded) (os : List (Outlives 1)) (r : Slot 1) {M : Type 1} {𝓤 :
       let toks = ‵ (flft κs.0 qs.0) ⊛ ‵ ftrue in
       qed 𝓛 ((toks ⊛ ‵ (owns (types_at En.signature.params κs) a y.0.4)) ∷ raw ((c κs a).requires gh) ∷ []) ∵
       move ! (1 ∷ []) $ use1 𝓛 (raw (fact 𝓤 (Asked κs a.0))) (asked κs a.0 gh) $ heard ! (Asked κs a.0) (λ is.
-      split ! $ move ! (1 ∷ []) $ fsplit ! $ keep ! (0 ∷ 2 ∷ []) $ use1 𝓛 (‵ (W.owned a.0)) (W.opens 𝓛 a.0) $
-      walk κs qs a.0 gh ((walk_of 𝓛 En hs c).post y) is (λ v x.
-      qed 𝓛 (toks ∷ ‵ ((r.row κs).own_val x (v ∷ [])) ∷ raw ((c κs a).ensures gh x (at_exit En κs a (lasts κs a.0))) ∷ []) ∵
-      nothing_more ! $ nothing_more ! $ fjoin ! $ move ! (1 ∷ 0 ∷ []) $ by ! (leaves 𝓛 En hs c y v x (lasts κs a.0) (tt, tt)))))
+      split ! $ split ! $ move ! (2 ∷ []) $ fsplit ! $ keep ! (0 ∷ 2 ∷ []) $
+      use1 𝓛 (‵ (W.owned a.0)) (W.opens 𝓛 a.0) $
+      walk κs qs a.0 gh ((walk_of 𝓛 En hs c).post y) is (λ v x e.
+      qed 𝓛 (‵ (flft κs.0 qs.0) ∷ ‵ ((r.row κs).own_val x (v ∷ [])) ∷ []) ∵ nothing_more ! $ move ! (1 ∷ 0 ∷ []) $ join ! $
+      use0 𝓛 (raw ((c κs a).ensures gh x (at_exit En κs a (lasts κs a.0)))) e $ nothing_more ! $ nothing_more ! $ fjoin ! $
+      move ! (2 ∷ 0 ∷ 3 ∷ 1 ∷ []) $ by ! (leaves 𝓛 En hs c y v x (lasts κs a.0) (tt, tt)))))
 
 abbrev pub handle_at : (R : RattleType) → Ptr → (HeldRow R).Denot → Bool → ℕ → (HandleRow R).Denot
 handle_at R p x sole η = record { block = p; held = x; sole = sole; id = η }
@@ -153,3 +159,12 @@ module _ (R : RattleType) (p : Ptr) (x : (HeldRow R).Denot) (η : ℕ) {M : Type
       (‵ (handle_owns R p x η sole) ∷ Γ) G
   is_handle t sole = step (λ s. use0 𝓛 (‵ ((HandleWords R).own_val (p, tt) (one_word p ∷ [])))
       (words_made (handle_type.the_type R).name (R ∷ []) 𝓛 p) $ fjoin t $ s)
+
+-- what an `ensures` of facts comes to
+module _ {M : Type 1} (𝓤 : Ura M) where
+  pub so : {φ : Type 0} → φ → ent 𝓤 (emp 𝓤) (fact 𝓤 φ)
+  so {φ} y = fact_i 𝓤 φ (emp 𝓤) y
+
+  pub also : {φ : Type 0} {X : SProp 𝓤} → φ → ent 𝓤 (emp 𝓤) X → ent 𝓤 (emp 𝓤) (sep 𝓤 (fact 𝓤 φ) X)
+  also {φ} {X} y h = via 𝓤 (sep 𝓤 (fact 𝓤 φ) (emp 𝓤)) (via 𝓤 (sep 𝓤 (emp 𝓤) (emp 𝓤)) (emp∗ 𝓤 (emp 𝓤))
+      (mono_l 𝓤 (emp 𝓤) (so y))) (mono_r 𝓤 (fact 𝓤 φ) h)

@@ -18,8 +18,8 @@ use Rattle.handles.specs.contracts.block.handle.Handle.held.{ended, clauses}
 use Rattle.handles.specs.contracts.block.handle.Handle.held.Key.{name as #self}
 use Rattle.handles.proofs.block.handle.Handle.held.Statement.{statement}
 use Rattle.handles.proofs.block.handle.Handle.held.Code as code
-use Rattle.handles.proofs.OneParam.{by_ref}
 use contract.Monad.{fact_i}
+use Rattle.handles.proofs.Walks.{by_ref, so}
 
 pub held_spec : {M : Type 1} → statement M
 held_spec 𝓤 𝓛 𝓜 𝓡 wired T L =
@@ -45,7 +45,7 @@ held_spec 𝓤 𝓛 𝓜 𝓡 wired T L =
     refl (tt, tt) $ shuts ! tt D r (p, tt) (one_word (block_ptr pb po) ∷ []) b o $
     first ! $ blocks ! $ sets_last ! (addr ! (through ! refl (fld ! refl (stop !)))) refl (tt, tt) $
     exec ! 𝓣.C 𝓣.Λ Ev (after 2 fn.body) (at_ret Ev Post) $ sets ! (of_opd ! (get ! refl)) refl (tt, tt) $
-    move ! (0 ∷ 2 ∷ []) $ join ! $ move ! (1 ∷ []) $
-    feq_i ! (List Val) (vptr pb there ∷ []) (vptr pb there ∷ []) refl $ fjoin ! $
-    known ! (x ≡ x) refl $ returns ! (look_at ! 0 refl) $ free_all ! refl $ keep ! (2 ∷ 1 ∷ 0 ∷ []) $
-    by ! (ends (vptr pb there) (record { ref_ptr = (pb, there); now = x }))))))
+    -- [the token; what is held; the other tokens]
+    move ! (1 ∷ []) $ feq_i ! (List Val) (vptr pb there ∷ []) (vptr pb there ∷ []) refl $ fjoin ! $
+    returns ! (look_at ! 0 refl) $ free_all ! refl $ keep ! (1 ∷ 2 ∷ 0 ∷ []) $
+    by ! (ends (vptr pb there) (record { ref_ptr = (pb, there); now = x }) (so 𝓤 refl))))))

@@ -20,8 +20,8 @@ use Rattle.handles.specs.contracts.block.handle.Handle.into_permit.{ended, claus
 use Rattle.handles.specs.contracts.block.handle.Handle.into_permit.Key.{name as #self}
 use Rattle.handles.proofs.block.handle.Handle.into_permit.Statement.{statement}
 use Rattle.handles.proofs.block.handle.Handle.into_permit.Code as code
-use Rattle.handles.proofs.OneParam.{by_value, handle_worded, permit_at}
 use base.Logic.{snd∗}
+use Rattle.handles.proofs.Walks.{by_value, handle_worded, permit_at, so, also}
 
 pub into_permit_spec : {M : Type 1} → statement M
 into_permit_spec 𝓤 𝓛 𝓜 𝓡 wired T L =
@@ -40,5 +40,5 @@ into_permit_spec 𝓤 𝓛 𝓜 𝓡 wired T L =
     sets ! (agg ! (and_then ! (get ! refl) (no_more !))) refl (one_word-Good p) $
     use0 𝓛 (‵ ((PermitWords R).own_val (p, tt) (one_word p ∷ [])))
     (words_made (permit_type.the_type R).name (R ∷ []) 𝓛 p) $ fjoin ! $
-    known ! (η ≡ η) refl $ known ! (x ≡ x) refl $ join ! $ known ! (r ≡ r) refl $ join ! $ returns ! (look_at ! 0 refl) $ free_all ! refl $ keep ! (2 ∷ 1 ∷ 0 ∷ []) $
-    by ! (ends (one_word p) (permit_at R p x r η log)))))
+    returns ! (look_at ! 0 refl) $ free_all ! refl $ keep ! (1 ∷ 0 ∷ []) $
+    by ! (ends (one_word p) (permit_at R p x r η log) (also 𝓤 refl (also 𝓤 refl (so 𝓤 refl)))))))

@@ -7,7 +7,6 @@ use Rattle.handles.proofs.Walks.{types_at, plain, Ptr, block_of, offset_of, noth
 use Rattle.handles.proofs.Walks.{Stays, stay_dropped, walk_of, Goes-dropped, proved, leaves, HeldRow, one_word}
 use Rattle.handles.proofs.Walks.{one_word-Good, words_are, words_made, HandleRow, HandleWords, known}
 use Rattle.handles.specs.Inside.Blocks.{owned_as}
-use Rattle.handles.proofs.OneParam.{by_value, handle_worded, handle_at, is_handle}
 use contract.Monad.{fact_i}
 use Rattle.handles.proofs.Owners.{forgets}
 use Rattle.handles.specs.contracts.block.handle.Handle as handle_type
@@ -16,6 +15,7 @@ use Rattle.handles.specs.contracts.block.handle.Handle.into_shared.{ended, claus
 use Rattle.handles.specs.contracts.block.handle.Handle.into_shared.Key.{name as #self}
 use Rattle.handles.proofs.block.handle.Handle.into_shared.Statement.{statement}
 use Rattle.handles.proofs.block.handle.Handle.into_shared.Code as code
+use Rattle.handles.proofs.Walks.{by_value, handle_worded, handle_at, is_handle, so, also}
 
 pub into_shared_spec : {M : Type 1} → statement M
 into_shared_spec 𝓤 𝓛 𝓜 𝓡 wired T L =
@@ -30,6 +30,5 @@ into_shared_spec 𝓤 𝓛 𝓜 𝓡 wired T L =
     enter ! 𝓣.C 𝓣.Λ fn (one_word p ∷ []) Post $ alloc_all ! (λ l. pass_all ! refl (one_word-Good p, tt) $
     sets ! (of_opd ! (get_in ! (fld ! refl (stop !)) (sub ! 0 refl (whole !)))) refl (Ptr-Good p) $
     sets ! (agg ! (and_then ! (get ! refl) (no_more !))) refl (one_word-Good p) $ is_handle R p x η ! false $
-    known ! (η ≡ η) refl $ known ! (false ≡ false) refl $ join ! $ known ! (x ≡ x) refl $ join ! $
-    returns ! (look_at ! 0 refl) $ free_all ! refl $ keep ! (2 ∷ 1 ∷ 0 ∷ []) $
-    by ! (ends (one_word p) (handle_at R p x false η))))
+    returns ! (look_at ! 0 refl) $ free_all ! refl $ keep ! (1 ∷ 0 ∷ []) $
+    by ! (ends (one_word p) (handle_at R p x false η) (also 𝓤 refl (also 𝓤 refl (so 𝓤 refl))))))

@@ -21,8 +21,8 @@ use Rattle.handles.specs.contracts.block.handle.Handle.mark.{ended, clauses}
 use Rattle.handles.specs.contracts.block.handle.Handle.mark.Key.{name as #self}
 use Rattle.handles.proofs.block.handle.Handle.mark.Statement.{statement}
 use Rattle.handles.proofs.block.handle.Handle.mark.Code as code
-use Rattle.handles.proofs.OneParam.{by_ref}
 use base.Logic.{snd∗}
+use Rattle.handles.proofs.Walks.{by_ref, so, also, asks_new, logs}
 
 pub mark_spec : {M : Type 1} → statement M
 mark_spec 𝓤 𝓛 𝓜 𝓡 wired T L =
@@ -44,25 +44,15 @@ mark_spec 𝓤 𝓛 𝓜 𝓡 wired T L =
     -- [half of the token; the open borrow; the share; the rule; the sharing; the other tokens]
     let aft : ℕ → Fml = and_logged (block_at R p x η i) [] step.marks (after_mark (block_at R p x η i) e) in
     first ! $ blocks ! $ sets ! (addr ! (through ! refl (fld ! refl (stop !)))) refl (tt, tt) $
-    move ! (3 ∷ 2 ∷ []) $
-    move ! (1 ∷ []) $ nothing_more ! $ move ! (0 ∷ 1 ∷ []) $ fjoin ! $ move ! (1 ∷ 0 ∷ []) $
-    use2 𝓛 (raw (𝓣.C _ (vptr pb (po + 0) ∷ vint w64 mark_bit ∷ seq_cst ∷ [])
-    (λ u. mean 𝓛 (found aft u))))
-    (via 𝓤 _ (marks 𝓛 (block_at R p x η i) e)
+    move ! (2 ∷ 3 ∷ []) $ asks_new ! (via 𝓤 _ (marks 𝓛 (block_at R p x η i) e)
     (ors 𝓛 𝓜 𝓡 (code.calls-core::raw_atomic::fetch_or 𝓡.env wired)
     (block_ptr pb (po + 0)) mark_bit (lit< tt) aft)) $
     sets ! (agg ! (and_then ! (lit ! tt) (no_more !))) refl (tt, (record { fits = lit< tt }, tt)) $
     Calls-last ! (fm 𝓛 𝓜 𝓡) (found aft) (and_then ! (get ! refl) (and_then ! (big_lit ! (lit< tt))
     (and_then ! (get ! refl) (no_more !)))) (λ u. finds ! aft (λ n fits.
     lands_last ! refl (tt, record { fits = fits }) $ exec ! 𝓣.C 𝓣.Λ Ev (after 2 fn.body) (at_ret Ev Post) $
-    sets ! (of_opd ! (get ! refl)) refl (tt, record { fits = fits }) $ fsplit ! $
-    tells x.limit.count η n ! [] step.marks (λ log adds.
-    sets ! (agg ! (no_more !)) refl (tt, tt) $
+    sets ! (of_opd ! (get ! refl)) refl (tt, record { fits = fits }) $
+    logs R p x η ! tt i e [] step.marks n (λ log adds. sets ! (agg ! (no_more !)) refl (tt, tt) $
     sets ! (agg ! (and_then ! (get ! refl) (and_then ! (get ! refl) (no_more !)))) refl (word_and_logged-Good n fits) $
-    -- [the result; the share; half of the token; the open borrow; the sharing; the other tokens]
-    returns_logged η n ! fits log $ move ! (1 ∷ 2 ∷ 3 ∷ []) $ closes_borrow ! tt $ move ! (0 ∷ 3 ∷ []) $
-    join ! $
-    move ! (1 ∷ []) $ known ! (Adds x.limit.count [] step.marks n log) adds $ known ! (η ≡ η) refl $ join ! $
-    returns ! (look_at ! 0 refl) $ free_all ! refl $
-    keep ! (2 ∷ 1 ∷ 0 ∷ []) $
-    by ! (ends (word_and_logged n) (n, record { id = η; log = log }))))))))
+    returns_logged η n ! fits log $ returns ! (look_at ! 0 refl) $ free_all ! refl $ keep ! (1 ∷ 2 ∷ 0 ∷ []) $
+    by ! (ends (word_and_logged n) (n, record { id = η; log = log }) (also 𝓤 refl (so 𝓤 adds)))))))))

@@ -24,6 +24,7 @@ use Rattle.handles.specs.contracts.block.handle.Handle.marked_by.{ended, clauses
 use Rattle.handles.specs.contracts.block.handle.Handle.marked_by.Key.{name as #self}
 use Rattle.handles.proofs.block.handle.Handle.marked_by.Statement.{statement}
 use Rattle.handles.proofs.block.handle.Handle.marked_by.Code as code
+use Rattle.handles.proofs.Walks.{so}
 
 pub marked_by_spec : {M : Type 1} → statement M
 marked_by_spec 𝓤 𝓛 𝓜 𝓡 wired T L =

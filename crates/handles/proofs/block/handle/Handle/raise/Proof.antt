@@ -27,6 +27,7 @@ use Rattle.handles.specs.contracts.block.handle.Handle.raise.{ended, clauses}
 use Rattle.handles.specs.contracts.block.handle.Handle.raise.Key.{name as #self}
 use Rattle.handles.proofs.block.handle.Handle.raise.Statement.{statement}
 use Rattle.handles.proofs.block.handle.Handle.raise.Code as code
+use Rattle.handles.proofs.Walks.{so}
 
 pub raise_spec : {M : Type 1} → statement M
 raise_spec 𝓤 𝓛 𝓜 𝓡 wired T L =

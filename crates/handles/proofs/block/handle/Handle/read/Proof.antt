@@ -22,8 +22,8 @@ use Rattle.handles.specs.contracts.block.handle.Handle.read.{ended, clauses}
 use Rattle.handles.specs.contracts.block.handle.Handle.read.Key.{name as #self}
 use Rattle.handles.proofs.block.handle.Handle.read.Statement.{statement}
 use Rattle.handles.proofs.block.handle.Handle.read.Code as code
-use Rattle.handles.proofs.OneParam.{by_ref, permit_at}
 use base.Logic.{snd∗}
+use Rattle.handles.proofs.Walks.{by_ref, permit_at, so, also, asks_new, reports}
 
 pub read_spec : {M : Type 1} → statement M
 read_spec 𝓤 𝓛 𝓜 𝓡 wired T L =
@@ -43,33 +43,20 @@ read_spec 𝓤 𝓛 𝓜 𝓡 wired T L =
     sets ! (of_opd ! (load ! (through ! refl (fld ! refl (stop !))) (look_in ! 0 (sub ! 0 refl (whole !)))))
     refl (tt, tt) $ shuts ! tt D r (p, tt) (one_word (block_ptr pb po) ∷ []) b o $
     -- [half of the token; the open borrow; the share; the rule; the sharing; the other tokens]
-    let I : Fml = block_rule R p x η i in
     let aft : ℕ → Fml = and_logged (block_at R p x η i) [] step.reads (after_read (block_at R p x η i) e) in
-    first ! $ blocks ! $ sets ! (addr ! (through ! refl (fld ! refl (stop !)))) refl (tt, tt) $ move ! (3 ∷ []) $
-    use1 𝓛 (‵ (finv I) ⊛ ‵ (finv I)) (𝓛.invs.inv_dup I) $ split ! $ move ! (0 ∷ 4 ∷ []) $
-    move ! (1 ∷ []) $
-    nothing_more ! $ move ! (0 ∷ 1 ∷ []) $ fjoin ! $ move ! (1 ∷ 0 ∷ []) $
-    use2 𝓛 (raw (𝓣.C _ (vptr pb (po + 0) ∷ seq_cst ∷ []) (λ u. mean 𝓛 (found aft u))))
-    (via 𝓤 _ (reads 𝓛 (block_at R p x η i) e)
-    (loads 𝓛 𝓜 𝓡 (code.calls-core::raw_atomic::load 𝓡.env wired)
-    (block_ptr pb (po + 0)) aft)) $
+    first ! $ blocks ! $ sets ! (addr ! (through ! refl (fld ! refl (stop !)))) refl (tt, tt) $
+    move ! (2 ∷ 3 ∷ []) $ asks_new ! (via 𝓤 _ (reads 𝓛 (block_at R p x η i) e)
+    (loads 𝓛 𝓜 𝓡 (code.calls-core::raw_atomic::load 𝓡.env wired) (block_ptr pb (po + 0)) aft)) $
     sets ! (agg ! (and_then ! (lit ! tt) (no_more !))) refl (tt, (record { fits = lit< tt }, tt)) $
     Calls-last ! (fm 𝓛 𝓜 𝓡) (found aft) (and_then ! (get ! refl) (and_then ! (get ! refl) (no_more !)))
     (λ u. finds ! aft (λ n fits. let r' : Right = right_by_read n in
     lands_last ! refl (tt, record { fits = fits }) $ exec ! 𝓣.C 𝓣.Λ Ev (after 2 fn.body) (at_ret Ev Post) $
     sets ! (of_opd ! (get ! refl)) refl (tt, record { fits = fits }) $
-    use1 𝓛 (‵ (reported_with (block_at R p x η i) e [] step.reads n r'))
-    (reported_logged 𝓛 (block_at R p x η i) e [] step.reads n r') $
-    -- [the share, the word's bound and the gain; the rule; half of the token; the open borrow; the sharing; the other
-    -- tokens]
-    fsplit3 ! $ move ! (1 ∷ []) $ fpick ! (λ within. drop ! $ move ! (0 ∷ 3 ∷ 4 ∷ []) $ closes_borrow ! tt $
-    move ! (0 ∷ 4 ∷ []) $ join ! $ move ! (1 ∷ 2 ∷ 3 ∷ []) $
-    shows_permit R p x η ! tt inb i r' [] step.reads n (λ log adds.
+    reports R p x η ! tt inb i e r' [] step.reads n (λ within log adds.
     sets ! (is ! (agg ! (and_then ! (get ! refl) (no_more !))) (ap one_word (sym (at_block p inb))))
     refl (one_word-Good p) $
     sets ! (agg ! (and_then ! (get ! refl) (and_then ! (get ! refl) (no_more !))))
-    refl (word_and_permit-Good n fits p) $
-    returns_permit R p x η ! n fits r' log $ known ! (Adds x.limit.count [] step.reads n log) adds $
-    known ! (η ≡ η) refl $ join ! $ known ! (p ≡ p) refl $ join ! $ known ! (IsWithin n x.limit.count) within $
-    join ! $ known ! (x ≡ x) refl $ join ! $ known ! (r' ≡ r') refl $ join ! $ returns ! (look_at ! 0 refl) $ free_all ! refl $ keep ! (2 ∷ 1 ∷ 0 ∷ []) $
-    by ! (ends (word_and_permit n p) (n, permit_at R p x r' η log)))))))))
+    refl (word_and_permit-Good n fits p) $ returns_permit R p x η ! n fits r' log $
+    returns ! (look_at ! 0 refl) $ free_all ! refl $ keep ! (1 ∷ 2 ∷ 0 ∷ []) $
+    by ! (ends (word_and_permit n p) (n, permit_at R p x r' η log)
+    (also 𝓤 refl (also 𝓤 refl (also 𝓤 within (also 𝓤 refl (also 𝓤 refl (so 𝓤 adds)))))))))))))

@@ -29,8 +29,8 @@ use Rattle.handles.specs.contracts.block.handle.Handle.read_for_drop.{ended, cla
 use Rattle.handles.specs.contracts.block.handle.Handle.read_for_drop.Key.{name as #self}
 use Rattle.handles.proofs.block.handle.Handle.read_for_drop.Statement.{statement}
 use Rattle.handles.proofs.block.handle.Handle.read_for_drop.Code as code
-use Rattle.handles.proofs.OneParam.{by_value, handle_worded, permit_at}
 use base.Logic.{fst∗}
+use Rattle.handles.proofs.Walks.{by_value, handle_worded, permit_at, so, also, asks_new, shows_permit}
 
 pub read_for_drop_spec : {M : Type 1} → statement M
 read_for_drop_spec 𝓤 𝓛 𝓜 𝓡 wired T L =
@@ -41,7 +41,7 @@ read_for_drop_spec 𝓤 𝓛 𝓜 𝓡 wired T L =
     (code.unfolded 𝓤 𝓛.H 𝓜 𝓡 wired (T, tt)) (λ κs qs a gh Post asked ends.
     let p : Ptr = a.block in let x : (HeldRow R).Denot = a.held in let η : ℕ = a.id in let pb : ℕ = block_of p in
     let po : ℕ = offset_of p in let κ : Lft = κs.0 in let q : Share = qs.0 in
-    move ! (1 ∷ []) $ split ! $ move ! (2 ∷ []) $ fsplit ! $ fpick ! (λ inb. drop ! $ let at : p ≡ block_ptr pb po = at_block p inb in
+    fsplit ! $ fpick ! (λ inb. drop ! $ let at : p ≡ block_ptr pb po = at_block p inb in
     use1 𝓛 (‵ (owned_as R p x η false)) (forgets R (param_laws 0 T L) 𝓛 p x η a.sole) $
     use2 𝓛 (later (‵ (counted_handle R p x η) ⊛ ‵ (flft κ q))) (handle_settles R (param_laws 0 T L)
     𝓛 p x η κ asked κ q
@@ -49,30 +49,20 @@ read_for_drop_spec 𝓤 𝓛 𝓜 𝓡 wired T L =
     enter ! 𝓣.C 𝓣.Λ fn (one_word p ∷ []) Post $ alloc_all ! (λ l. pass_all ! refl (one_word-Good p, tt) $
     let Ev = env fn.locals l in await ! tt $ split ! $ fpick ! (λ i. fsplit3 ! $
     -- [the stake; the rule; the sharing; the token]
-    let I : Fml = block_rule R p x η i in
     let aft : ℕ → Fml = and_logged (block_at R p x η i)
     [] step.reads_last (after_last_read (block_at R p x η i)) in
     sets ! (is ! (of_opd ! (get_in ! (fld ! refl (stop !)) (sub ! 0 refl (whole !)))) (ap ptr_val at)) refl (tt, tt)
     $ first ! $ blocks ! $ sets ! (addr ! (through ! refl (fld ! refl (stop !)))) refl (tt, tt) $
-    move ! (1 ∷ []) $ use1 𝓛 (‵ (finv I) ⊛ ‵ (finv I)) (𝓛.invs.inv_dup I) $ split ! $
-    move ! (0 ∷ 2 ∷ []) $
-    move ! (1 ∷ []) $ nothing_more ! $ move ! (0 ∷ 1 ∷ []) $ fjoin ! $ move ! (1 ∷ 0 ∷ []) $
-    use2 𝓛 (raw (𝓣.C _ (vptr pb (po + 0) ∷ seq_cst ∷ []) (λ u. mean 𝓛 (found aft u))))
-    (via 𝓤 _ (last_reads 𝓛 (block_at R p x η i))
-    (loads 𝓛 𝓜 𝓡 (code.calls-core::raw_atomic::load 𝓡.env wired)
-    (block_ptr pb (po + 0)) aft)) $
+    asks_new ! (via 𝓤 _ (last_reads 𝓛 (block_at R p x η i))
+    (loads 𝓛 𝓜 𝓡 (code.calls-core::raw_atomic::load 𝓡.env wired) (block_ptr pb (po + 0)) aft)) $
     sets ! (agg ! (and_then ! (lit ! tt) (no_more !))) refl (tt, (record { fits = lit< tt }, tt)) $
     Calls-last ! (fm 𝓛 𝓜 𝓡) (found aft) (and_then ! (get ! refl) (and_then ! (get ! refl) (no_more !)))
     (λ u. finds ! aft (λ n fits. let r' : Right = right_by_last_read n in
     lands_last ! refl (tt, record { fits = fits }) $ exec ! 𝓣.C 𝓣.Λ Ev (after 2 fn.body) (at_ret Ev Post) $
     sets ! (of_opd ! (get ! refl)) refl (tt, record { fits = fits }) $
-    use3 𝓛 (later (exists (λ (log : List WordStep). given (Adds x.limit.count [] step.reads_last n log)
-    (‵ (permit_owns R p x η r' log))))) (permit_shown 𝓛 R p x η inb i [] step.reads_last n r') $ await ! tt $
-    pick ! (λ log. learn ! (λ adds. move ! (1 ∷ 2 ∷ []) $ join ! $ move ! (1 ∷ 0 ∷ []) $
+    shows_permit R p x η ! tt inb i r' [] step.reads_last n (λ log adds.
     sets ! (is ! (agg ! (and_then ! (get ! refl) (no_more !))) (ap one_word (sym at))) refl (one_word-Good p) $
     sets ! (agg ! (and_then ! (get ! refl) (and_then ! (get ! refl) (no_more !))))
-    refl (word_and_permit-Good n fits p) $
-    returns_permit R p x η ! n fits r' log $ known ! (Adds x.limit.count [] step.reads_last n log) adds $
-    known ! (η ≡ η) refl $ join ! $ known ! (x ≡ x) refl $ join ! $ known ! (r' ≡ r') refl $ join ! $
-    returns ! (look_at ! 0 refl) $ free_all ! refl $ keep ! (2 ∷ 1 ∷ 0 ∷ []) $
-    by ! (ends (word_and_permit n p) (n, permit_at R p x r' η log))))))))))
+    refl (word_and_permit-Good n fits p) $ returns_permit R p x η ! n fits r' log $
+    returns ! (look_at ! 0 refl) $ free_all ! refl $ keep ! (1 ∷ 0 ∷ []) $
+    by ! (ends (word_and_permit n p) (n, permit_at R p x r' η log) (also 𝓤 refl (also 𝓤 refl (also 𝓤 refl (so 𝓤 adds))))))))))))

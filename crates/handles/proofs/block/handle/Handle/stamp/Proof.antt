@@ -17,8 +17,8 @@ use Rattle.handles.specs.contracts.block.handle.Handle.stamp.{ended, clauses}
 use Rattle.handles.specs.contracts.block.handle.Handle.stamp.Key.{name as #self}
 use Rattle.handles.proofs.block.handle.Handle.stamp.Statement.{statement}
 use Rattle.handles.proofs.block.handle.Handle.stamp.Code as code
-use Rattle.handles.proofs.OneParam.{by_ref}
 use base.Logic.{snd∗}
+use Rattle.handles.proofs.Walks.{by_ref, asks_with, emp, id⊢}
 
 pub stamp_spec : {M : Type 1} → statement M
 stamp_spec 𝓤 𝓛 𝓜 𝓡 wired T L =
@@ -40,15 +40,14 @@ stamp_spec 𝓤 𝓛 𝓜 𝓡 wired T L =
     -- [half of the token; the open borrow; the share; the rule; the sharing; the other tokens]
     let at_stamp : ℕ = po + stamp_offset in let aft : ℕ → Fml = λ _. lent_share i e in
     first ! $ blocks ! $ sets ! (addr ! (through ! refl (fld ! refl (stop !)))) refl (tt, tt) $
-    move ! (3 ∷ 2 ∷ []) $
-    use2 𝓛 (raw (𝓣.C _ (vptr pb at_stamp ∷ seq_cst ∷ []) (λ u. mean 𝓛 (found aft u))))
-    (via 𝓤 _ (stamps 𝓛 (block_at R p x η i) at_stamp e (λ n. n))
+    move ! (2 ∷ 3 ∷ []) $ asks_with ! (via 𝓤 _ (stamps 𝓛 (block_at R p x η i) at_stamp e (λ n. n))
     (loads 𝓛 𝓜 𝓡 (code.calls-core::raw_atomic::load 𝓡.env wired) (block_ptr pb at_stamp) aft)) $
     sets ! (agg ! (and_then ! (lit ! tt) (no_more !))) refl (tt, (record { fits = lit< tt }, tt)) $
     Calls-last ! (fm 𝓛 𝓜 𝓡) (found aft) (and_then ! (get ! refl) (and_then ! (get ! refl) (no_more !)))
     (λ u. finds ! aft (λ n fits.
     lands_last ! refl (tt, record { fits = fits }) $ exec ! 𝓣.C 𝓣.Λ Ev (after 2 fn.body) (at_ret Ev Post) $
     sets ! (of_opd ! (get ! refl)) refl (tt, record { fits = fits }) $
-    -- [the share; half of the token; the open borrow; the sharing; the other tokens]
-    closes_borrow ! tt $ move ! (0 ∷ 2 ∷ []) $ join ! $ is_number ! n fits $ nothing_more ! $ returns ! (look_at ! 0 refl) $ free_all ! refl $
-    keep ! (2 ∷ 1 ∷ 0 ∷ []) $ by ! (ends (vint w64 n) n))))))
+    -- [the share; the rule; half of the token; the open borrow; the sharing; the other tokens]
+    move ! (0 ∷ 2 ∷ 3 ∷ []) $ closes_borrow ! tt $ is_number ! n fits $
+    returns ! (look_at ! 0 refl) $ free_all ! refl $ keep ! (1 ∷ 4 ∷ 0 ∷ []) $
+    by ! (ends (vint w64 n) n (id⊢ 𝓤 (emp 𝓤))))))))

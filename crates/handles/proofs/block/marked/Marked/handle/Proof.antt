@@ -23,8 +23,8 @@ use Rattle.handles.specs.contracts.block.marked.Marked.handle.{ended, clauses}
 use Rattle.handles.specs.contracts.block.marked.Marked.handle.Key.{name as #self}
 use Rattle.handles.proofs.block.marked.Marked.handle.Statement.{statement}
 use Rattle.handles.proofs.block.marked.Marked.handle.Code as code
-use Rattle.handles.proofs.OneParam.{by_ref, handle_at, is_handle}
 use contract.Monad.{fact_i}
+use Rattle.handles.proofs.Walks.{by_ref, handle_at, is_handle, so, also}
 
 pub handle_spec : {M : Type 1} → statement M
 handle_spec 𝓤 𝓛 𝓜 𝓡 wired T L =
@@ -50,6 +50,6 @@ handle_spec 𝓤 𝓛 𝓜 𝓡 wired T L =
     shows_permit R p x t.0 ! tt tt i a_handle [] step.reads w (λ log added. fsplit ! $ drop ! $
     sets ! (addr ! (through ! refl (stop !))) refl (tt, tt) $ sets ! (of_opd ! (get ! refl)) refl (tt, tt) $
     sets ! (agg ! (and_then ! (get ! refl) (no_more !))) refl (tt, (tt, tt)) $
-    is_handle R p x t.0 ! false $ move ! (1 ∷ 2 ∷ []) $ join ! $ move ! (1 ∷ []) $
-    known ! (false ≡ false) refl $ known ! (x ≡ x) refl $ join ! $ returns ! (look_at ! 0 refl) $ free_all ! refl $ keep ! (2 ∷ 1 ∷ 0 ∷ []) $
-    by ! (ends (one_word p) (handle_at R p x false t.0))))))))
+    is_handle R p x t.0 ! false $
+    returns ! (look_at ! 0 refl) $ free_all ! refl $ keep ! (1 ∷ 2 ∷ 0 ∷ []) $
+    by ! (ends (one_word p) (handle_at R p x false t.0) (also 𝓤 refl (so 𝓤 refl)))))))))

@@ -15,8 +15,8 @@ use Rattle.handles.specs.contracts.block.marked.Marked.held.{ended, clauses}
 use Rattle.handles.specs.contracts.block.marked.Marked.held.Key.{name as #self}
 use Rattle.handles.proofs.block.marked.Marked.held.Statement.{statement}
 use Rattle.handles.proofs.block.marked.Marked.held.Code as code
-use Rattle.handles.proofs.OneParam.{by_ref}
 use contract.Monad.{fact_i}
+use Rattle.handles.proofs.Walks.{by_ref, so}
 
 pub held_spec : {M : Type 1} → statement M
 held_spec 𝓤 𝓛 𝓜 𝓡 wired T L =
@@ -35,7 +35,6 @@ held_spec 𝓤 𝓛 𝓜 𝓡 wired T L =
     sets ! (addr ! (through ! refl (stop !))) refl (tt, tt) $ sets ! (of_opd ! (get ! refl)) refl (tt, tt) $
     first ! $ blocks ! $ sets_last ! (addr ! (through ! refl (fld ! refl (stop !)))) refl (tt, tt) $
     exec ! 𝓣.C 𝓣.Λ Ev (after 3 fn.body) (at_ret Ev Post) $ sets ! (of_opd ! (get ! refl)) refl (tt, tt) $
-    move ! (1 ∷ 2 ∷ []) $ join ! $ move ! (1 ∷ []) $
     feq_i ! (List Val) (vptr b there ∷ []) (vptr b there ∷ []) refl $ fjoin ! $
-    known ! (x ≡ x) refl $ returns ! (look_at ! 0 refl) $ free_all ! refl $ keep ! (2 ∷ 1 ∷ 0 ∷ []) $
-    by ! (ends (vptr b there) (record { ref_ptr = (b, there); now = x }))))
+    returns ! (look_at ! 0 refl) $ free_all ! refl $ keep ! (1 ∷ 2 ∷ 0 ∷ []) $
+    by ! (ends (vptr b there) (record { ref_ptr = (b, there); now = x }) (so 𝓤 refl))))

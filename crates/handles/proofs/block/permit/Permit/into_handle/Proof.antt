@@ -15,8 +15,8 @@ use Rattle.handles.specs.contracts.block.permit.Permit.into_handle.{ended, claus
 use Rattle.handles.specs.contracts.block.permit.Permit.into_handle.Key.{name as #self}
 use Rattle.handles.proofs.block.permit.Permit.into_handle.Statement.{statement}
 use Rattle.handles.proofs.block.permit.Permit.into_handle.Code as code
-use Rattle.handles.proofs.OneParam.{by_value, permit_worded, handle_at, is_handle}
 use base.Logic.{snd∗}
+use Rattle.handles.proofs.Walks.{by_value, permit_worded, handle_at, is_handle, so, also}
 
 pub into_handle_spec : {M : Type 1} → statement M
 into_handle_spec 𝓤 𝓛 𝓜 𝓡 wired T L =
@@ -31,6 +31,5 @@ into_handle_spec 𝓤 𝓛 𝓜 𝓡 wired T L =
     sets ! (of_opd ! (get_in ! (fld ! refl (stop !)) (sub ! 0 refl (whole !)))) refl (Ptr-Good p) $
     sets ! (agg ! (and_then ! (get ! refl) (no_more !))) refl (one_word-Good p) $
     is_handle R p x η ! false $
-    known ! (η ≡ η) refl $ known ! (false ≡ false) refl $ join ! $ known ! (x ≡ x) refl $ join ! $
-    returns ! (look_at ! 0 refl) $ free_all ! refl $ keep ! (2 ∷ 1 ∷ 0 ∷ []) $
-    by ! (ends (one_word p) (handle_at R p x false η))))
+    returns ! (look_at ! 0 refl) $ free_all ! refl $ keep ! (1 ∷ 0 ∷ []) $
+    by ! (ends (one_word p) (handle_at R p x false η) (also 𝓤 refl (also 𝓤 refl (so 𝓤 refl))))))

@@ -14,8 +14,8 @@ use Rattle.handles.specs.contracts.block.permit.Permit.into_logged.{ended, claus
 use Rattle.handles.specs.contracts.block.permit.Permit.into_logged.Key.{name as #self}
 use Rattle.handles.proofs.block.permit.Permit.into_logged.Statement.{statement}
 use Rattle.handles.proofs.block.permit.Permit.into_logged.Code as code
-use Rattle.handles.proofs.OneParam.{by_value, permit_worded}
 use contract.Monad.{fact_i}
+use Rattle.handles.proofs.Walks.{by_value, permit_worded, so, also}
 
 pub into_logged_spec : {M : Type 1} → statement M
 into_logged_spec 𝓤 𝓛 𝓜 𝓡 wired T L =
@@ -30,5 +30,5 @@ into_logged_spec 𝓤 𝓛 𝓜 𝓡 wired T L =
     enter ! 𝓣.C 𝓣.Λ fn (one_word p ∷ []) Post $ alloc_all ! (λ l. pass_all ! refl (one_word-Good p, tt) $
     sets ! (agg ! (no_more !)) refl (tt, tt) $ use0 𝓛 (‵ (NoBytes.own_val tt (vstruct vnil ∷ [])))
     (no_bytes-made 𝓛) $ fjoin ! $
-    known ! (log ≡ log) refl $ known ! (η ≡ η) refl $ join ! $ returns ! (look_at ! 0 refl) $ free_all ! refl $ keep ! (2 ∷ 1 ∷ 0 ∷ []) $
-    by ! (ends (vstruct vnil) (record { id = η; log = log }))))
+    returns ! (look_at ! 0 refl) $ free_all ! refl $ keep ! (1 ∷ 0 ∷ []) $
+    by ! (ends (vstruct vnil) (record { id = η; log = log }) (also 𝓤 refl (so 𝓤 refl)))))

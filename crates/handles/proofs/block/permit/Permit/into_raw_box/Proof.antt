@@ -25,8 +25,8 @@ use Rattle.handles.specs.contracts.block.permit.Permit.into_raw_box.{ended, clau
 use Rattle.handles.specs.contracts.block.permit.Permit.into_raw_box.Key.{name as #self}
 use Rattle.handles.proofs.block.permit.Permit.into_raw_box.Statement.{statement}
 use Rattle.handles.proofs.block.permit.Permit.into_raw_box.Code as code
-use Rattle.handles.proofs.OneParam.{by_value, permit_worded}
 use base.Logic.{snd∗}
+use Rattle.handles.proofs.Walks.{by_value, permit_worded, so, also}
 
 pub into_raw_box_spec : {M : Type 1} → statement M
 into_raw_box_spec 𝓤 𝓛 𝓜 𝓡 wired T L =
@@ -67,6 +67,7 @@ into_raw_box_spec 𝓤 𝓛 𝓜 𝓡 wired T L =
     move ! (4 ∷ 0 ∷ 3 ∷ 1 ∷ []) $ group ! 4 $
     use1 𝓛 (‵ (Boxed T L 𝓛 pb po n s x h)) (box_shuts T L 𝓛 pb po n s x h) $
     raw_box_shuts Block ! pb po v h (record { word = n; stamp = s; held = x; alloc = h }) $
-    known ! (a.right ≡ whole_block n) is_whole $ known ! (x ≡ x) refl $ join ! $ returns ! (look_at ! 0 refl) $ free_all ! refl $ keep ! (2 ∷ 1 ∷ 0 ∷ []) $
+    returns ! (look_at ! 0 refl) $ free_all ! refl $ keep ! (1 ∷ 0 ∷ []) $
     by ! (ends (pair_val (vptr pb po) v)
-    (record { at = there; alloc = h; value = record { word = n; stamp = s; held = x; alloc = h } })))))))))
+    (record { at = there; alloc = h; value = record { word = n; stamp = s; held = x; alloc = h } })
+    (also 𝓤 refl (so 𝓤 is_whole))))))))))

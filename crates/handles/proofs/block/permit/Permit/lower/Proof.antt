@@ -25,8 +25,8 @@ use Rattle.handles.specs.contracts.block.permit.Permit.lower.{ended, clauses}
 use Rattle.handles.specs.contracts.block.permit.Permit.lower.Key.{name as #self}
 use Rattle.handles.proofs.block.permit.Permit.lower.Statement.{statement}
 use Rattle.handles.proofs.block.permit.Permit.lower.Code as code
-use Rattle.handles.proofs.OneParam.{by_value, permit_worded, permit_at}
 use base.Logic.{snd∗}
+use Rattle.handles.proofs.Walks.{by_value, permit_worded, permit_at, so, also, asks_with}
 
 pub lower_spec : {M : Type 1} → statement M
 lower_spec 𝓤 𝓛 𝓜 𝓡 wired T L =
@@ -41,16 +41,11 @@ lower_spec 𝓤 𝓛 𝓜 𝓡 wired T L =
     fpick ! (λ inb. drop ! $ let at : p ≡ block_ptr pb po = at_block p inb in
     enter ! 𝓣.C 𝓣.Λ fn (one_word p ∷ []) Post $ fpick ! (λ i. fsplit ! $
     alloc_all ! (λ l. pass_all ! refl (one_word-Good p, tt) $ let Ev = env fn.locals l in
-    -- [the part; the rule; the tokens]
-    let I : Fml = block_rule R p x η i in
+    -- [the part; the rule; that the log was reached; the token]
     let aft : ℕ → Fml = and_logged (block_at R p x η i) old step.lowers (after_lower (block_at R p x η i)) in
     sets ! (is ! (of_opd ! (get_in ! (fld ! refl (stop !)) (sub ! 0 refl (whole !)))) (ap ptr_val at)) refl (tt, tt)
     $ first ! $ blocks ! $ sets ! (addr ! (through ! refl (fld ! refl (stop !)))) refl (tt, tt) $
-    move ! (1 ∷ []) $ use1 𝓛 (‵ (finv I) ⊛ ‵ (finv I)) (𝓛.invs.inv_dup I) $ split ! $
-    move ! (0 ∷ 2 ∷ []) $
-    move ! (3 ∷ 1 ∷ []) $ fjoin ! $ move ! (1 ∷ 0 ∷ []) $
-    use2 𝓛 (raw (𝓣.C _ (vptr pb (po + 0) ∷ vint w64 1 ∷ seq_cst ∷ []) (λ u. mean 𝓛 (found aft u))))
-    (via 𝓤 _ (lowers 𝓛 (block_at R p x η i) old)
+    move ! (2 ∷ 0 ∷ []) $ fjoin ! $ asks_with ! (via 𝓤 _ (lowers 𝓛 (block_at R p x η i) old)
     (subs 𝓛 𝓜 𝓡 (code.calls-core::raw_atomic::fetch_sub 𝓡.env wired)
     (block_ptr pb (po + 0)) 1 (lit< tt) aft)) $
     sets ! (agg ! (and_then ! (lit ! tt) (no_more !))) refl (tt, (record { fits = lit< tt }, tt)) $
@@ -64,7 +59,6 @@ lower_spec 𝓤 𝓛 𝓜 𝓡 wired T L =
     sets ! (is ! (agg ! (and_then ! (get ! refl) (no_more !))) (ap one_word (sym at))) refl (one_word-Good p) $
     sets ! (agg ! (and_then ! (get ! refl) (and_then ! (get ! refl) (no_more !))))
     refl (word_and_permit-Good n fits p) $
-    returns_permit R p x η ! n fits r' log $ known ! (Adds x.limit.count old step.lowers n log) adds $
-    known ! (η ≡ η) refl $ join ! $ known ! (x ≡ x) refl $ join ! $ known ! (r' ≡ r') refl $ join ! $
-    returns ! (look_at ! 0 refl) $ free_all ! refl $ keep ! (2 ∷ 1 ∷ 0 ∷ []) $
-    by ! (ends (word_and_permit n p) (n, permit_at R p x r' η log))))))))))
+    returns_permit R p x η ! n fits r' log $
+    returns ! (look_at ! 0 refl) $ free_all ! refl $ keep ! (1 ∷ 0 ∷ []) $
+    by ! (ends (word_and_permit n p) (n, permit_at R p x r' η log) (also 𝓤 refl (also 𝓤 refl (also 𝓤 refl (so 𝓤 adds)))))))))))))

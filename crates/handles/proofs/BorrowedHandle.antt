@@ -5,11 +5,11 @@ use Rattle.std.proofs.Common.{◌≡◌, ℕ, Bool, false, List, [], ◌∷◌, 
 use seplogic.Ra.Ura.{Ura}
 use mir.Val.{Val}
 use base.Logic.{id⊢, SProp, ent, sep}
-use base.Fml.{Lft, Share, Fml, flft, fobor, fhide, finv, fsep}
+use base.Fml.{Lft, Share, Fml, flft, fobor, fhide, finv, fsep, ftrue}
 use base.Share
 use types.Logic.{Logic, sem}
 use types.Kit.{some as exists, given, pick, learn, Item, Goal, Seq, Soaks, Step, step, ‵, ◌⊛◌, later, ◌$◌, ◌∵◌, !, qed}
-use types.Kit.{fjoin, frame, done, move, drop, split, fsplit, fsplit3, fpick, rewrite, use1, use2, use3, await}
+use types.Kit.{fjoin, frame, done, move, drop, split, fsplit, fsplit3, fpick, rewrite, use1, use2, use3, await, raw}
 use types.Tokens.{obor_close, shr_bor-open}
 use ghost.Rules.{Halves}
 use Rattle.handles.proofs.Rows.{pass_halves, pass_joins}
@@ -22,12 +22,9 @@ use denote.RawPtr.{Ptr, InBlock, block_ptr, block_of, count_of as offset_of, at_
 use denote.Steps.{looks, peeks, nothing as nothing_more}
 use Rattle.counting_word.specs.CountingWord.{IsWithin}
 use Rattle.handles.proofs.Steps.Reads.{reported}
-use Rattle.handles.specs.Inside.Blocks.{reached}
-use types.Kit.{raw}
-use base.Fml.{ftrue}
+use Rattle.handles.specs.Inside.Blocks.{reached, HeldRow, Names, block_rule, shown, lent_share, handle_shares}
+use Rattle.handles.specs.Inside.Blocks.{permit_owns, logged}
 use Rattle.counting_word.specs.Rights.{Right}
-use Rattle.handles.specs.Inside.Blocks.{HeldRow, Names, block_rule, shown, lent_share, handle_shares, permit_owns}
-use Rattle.handles.specs.Inside.Blocks.{logged}
 use Rattle.counting_word.specs.WordSteps.{WordStep}
 use Rattle.counting_word.specs.Tallies.{Adds}
 use Rattle.handles.specs.contracts.block.handle.Handle as handle_type

@@ -9,8 +9,7 @@ use prog.Model.{Model}
 use prog.Wp.{WpFn, Closed}
 use types.Logic.{Logic, sem}
 use types.Kit.{Item, Goal, Step, step, Sq, use0, prop, ⋆, ‵, raw, ◌⊛◌, ◌$◌, ◌∵◌, !, qed, by, move, keep, drop, use1}
-use types.Kit.{split, fsplit, fjoin, done}
-use types.Kit.{join}
+use types.Kit.{split, fsplit, fjoin, done, join}
 use contract.Lifetimes.{Lfts, Shares, Outlives}
 use contract.Monad.{fact, fact_i}
 use contract.Running.{Running, tables}

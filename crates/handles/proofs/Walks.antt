@@ -40,5 +40,7 @@ pub use Rattle.handles.specs.Inside.Blocks.{HeldRow, stamp, held_and_block, bloc
 pub use Rattle.handles.proofs.Fields.{one_word, word_and_permit, one_word-Good, words_are, words_made, HandleRow}
 pub use Rattle.handles.proofs.Fields.{PermitRow, HandleWords, PermitWords, known, is_number, returns_permit}
 pub use Rattle.handles.proofs.Fields.{word_and_permit-Good}
-pub use Rattle.handles.proofs.BorrowedHandle.{opens_word, opens_handle, shows_permit, closes_borrow, asks_with, asks_new, logs, reports}
-pub use Rattle.handles.proofs.OneParam.{by_ref, by_value, handle_worded, permit_worded, handle_at, permit_at, is_handle, so, also}
+pub use Rattle.handles.proofs.BorrowedHandle.{opens_word, opens_handle, shows_permit, closes_borrow, asks_with}
+pub use Rattle.handles.proofs.BorrowedHandle.{asks_new, logs, reports}
+pub use Rattle.handles.proofs.OneParam.{a_ref, by_ref, by_value, handle_worded, permit_worded, handle_at, permit_at}
+pub use Rattle.handles.proofs.OneParam.{is_handle, so, also}

@@ -173,7 +173,7 @@ impl<T> Handle<T> {
     }
 
     #[inline]
-    fn read_for_drop(self) -> (u64, Permit<T>)
+    pub(crate) fn read_for_drop(self) -> (u64, Permit<T>)
         ensures right { result.1.right ≡ right_by_last_read result.0 }
         ensures held { result.1.held ≡ self.held }
         ensures id { result.1.id ≡ self.id }

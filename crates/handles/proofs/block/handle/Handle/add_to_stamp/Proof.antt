@@ -1,14 +1,14 @@
 -- `add_to_stamp` is one addition to the stamp.
 use Rattle.handles.proofs.Walks.{◌≡◌, ℕ, ◌+◌, ◌%◌, ◌^◌, false, [], ◌∷◌, refl, lit<, w64, a_type, named, Val, vint, vptr}
-use Rattle.handles.proofs.Walks.{inst_fn, SProp, via, Lft, Share, Fml, ftrue, fsep, flft, ‵, raw, ◌⊛◌, mean, at_ret}
-use Rattle.handles.proofs.Walks.{◌$◌, ◌∵◌, !, qed, by, move, keep, split, join, fsplit, fjoin, use2, stop, fld, load}
-use Rattle.handles.proofs.Walks.{addr, lit, of_opd, no_more, and_then, first, blocks, exec, Calls-last, returns, enter}
-use Rattle.handles.proofs.Walks.{alloc_all, pass_all, free_all, look_at, get, through, sets, lands_last, env, agg, sub}
-use Rattle.handles.proofs.Walks.{whole, look_in, tables, fact, yes, RattleType, owns, types_at, plain, Ptr, block_ptr}
-use Rattle.handles.proofs.Walks.{block_of, offset_of, nothing_more, heard, shuts, param, layouts, RefOf, u64, shr_vals}
+use Rattle.handles.proofs.Walks.{inst_fn, SProp, via, Lft, Share, Fml, ftrue, fsep, flft, ‵, raw, ◌⊛◌, at_ret, ◌$◌, ◌∵◌}
+use Rattle.handles.proofs.Walks.{!, qed, by, move, keep, split, join, fsplit, fjoin, stop, fld, load, addr, lit, of_opd}
+use Rattle.handles.proofs.Walks.{no_more, and_then, first, blocks, exec, Calls-last, returns, enter, alloc_all}
+use Rattle.handles.proofs.Walks.{pass_all, free_all, look_at, get, through, sets, lands_last, env, agg, sub, whole}
+use Rattle.handles.proofs.Walks.{look_in, tables, fact, yes, RattleType, owns, types_at, plain, Ptr, block_ptr}
+use Rattle.handles.proofs.Walks.{block_of, offset_of, nothing_more, heard, shuts, param, layouts, u64, shr_vals}
 use Rattle.handles.proofs.Walks.{shr_Tells, Stays, stay_dropped, walk_of, Goes-dropped, after, proved, leaves, fm}
-use Rattle.handles.proofs.Walks.{seq_cst, found, finds, HeldRow, one_word, HandleRow, HandleWords, is_number}
-use Rattle.handles.proofs.Walks.{opens_handle, closes_borrow}
+use Rattle.handles.proofs.Walks.{found, finds, HeldRow, one_word, HandleRow, HandleWords, is_number, opens_handle}
+use Rattle.handles.proofs.Walks.{closes_borrow, a_ref, asks_with}
 use Rattle.atomic_table.proofs.Calls.{adds}
 use denote.Plain.{uint_vals, uint_Tells}
 use Rattle.handles.specs.Inside.Blocks.{stamp_offset, lent_share}
@@ -18,35 +18,25 @@ use Rattle.handles.specs.contracts.block.handle.Handle.add_to_stamp.{ended, clau
 use Rattle.handles.specs.contracts.block.handle.Handle.add_to_stamp.Key.{name as #self}
 use Rattle.handles.proofs.block.handle.Handle.add_to_stamp.Statement.{statement}
 use Rattle.handles.proofs.block.handle.Handle.add_to_stamp.Code as code
+use denote.Triple.Entry.{Vals}
 
 pub add_to_stamp_spec : {M : Type 1} → statement M
 add_to_stamp_spec 𝓤 𝓛 𝓜 𝓡 wired T L =
     let 𝓣 = tables 𝓤 𝓛.H 𝓜 𝓡 𝓡.env in let R : RattleType = param 0 T in let En = ended T in
     let c = clauses T 𝓛 𝓜.mem 𝓡.returns in let inst = layouts (a_type ∷ []) (T, tt) in
-    let fn = inst_fn inst code.function in
-    let self = RefOf (0 ∷ []) tt (plain (λ _. HandleRow R)) (λ _. tt) in let number = plain (λ _. u64) in
+    let fn = inst_fn inst code.function in let self = a_ref (HandleRow R) tt in let number = plain (λ _. u64) in
     let hs : Stays En.signature.params En.kept = (stay_dropped self yes, (stay_dropped number yes, tt)) in
-    proved 𝓛 En hs c 𝓜 𝓡 (
-      Goes-dropped 𝓛 2 self yes (λ κs x f. refl),
-      (
-        Goes-dropped 𝓛 2 number yes
-            (λ κs x f. refl),
-        tt,
-      ),
-    ) (#self inst) fn (code.unfolded 𝓤 𝓛.H 𝓜 𝓡 wired (T, tt))
-    (λ κs. (shr_vals, (uint_vals w64, tt))) (λ κs. (
-      shr_Tells (named 0)
-          κs.0 (HandleRow R),
-      (uint_Tells w64, tt),
-    )) (λ κs qs bounds a gh are.
+    let goes = Goes-dropped 𝓛 2 number yes (λ κs x f. refl) in
+    proved 𝓛 En hs c 𝓜 𝓡 (Goes-dropped 𝓛 2 self yes (λ κs x f. refl), (goes, tt)) (#self inst) fn
+    (code.unfolded 𝓤 𝓛.H 𝓜 𝓡 wired (T, tt)) (λ κs. (shr_vals, (uint_vals w64, tt)))
+    (λ κs. (shr_Tells (named 0) κs.0 (HandleRow R), (uint_Tells w64, tt))) (λ κs qs bounds a gh are.
     let b : ℕ = a.0.ref_ptr.0 in let o : ℕ = a.0.ref_ptr.1 in let κ : Lft = κs.0 in let q : Share = qs.0 in
     let others : Fml = fsep (flft κs.1.0 qs.1.0) ftrue in let p : Ptr = a.0.now.block in
     let x : (HeldRow R).Denot = a.0.now.held in let η : ℕ = a.0.now.id in let pb : ℕ = block_of p in
-    let po : ℕ = offset_of p in let amount : ℕ = a.1.0 in
-    let y : (walk_of 𝓛 En hs c).Ghost = (
-      (κs, qs, bounds, a, (vptr b o ∷ [], (vint w64 amount ∷ [], tt))),
-      gh,
-    ) in let Post : Val → SProp 𝓤 = (walk_of 𝓛 En hs c).post y in let D : RattleType = HandleWords R in
+    let po : ℕ = offset_of p in let amount : ℕ = a.1.0 in let D : RattleType = HandleWords R in
+    let values : Vals En.signature κs = (vptr b o ∷ [], (vint w64 amount ∷ [], tt)) in
+    let y : (walk_of 𝓛 En hs c).Ghost = ((κs, qs, bounds, a, values), gh) in
+    let Post : Val → SProp 𝓤 = (walk_of 𝓛 En hs c).post y in
     qed 𝓛 (((‵ (flft κ q) ⊛ ‵ others) ⊛ ‵ (owns (types_at En.signature.params κs) a y.0.4))
     ∷ raw (fact 𝓤 _) ∷ raw (fact 𝓤 (a.0.now.sole ≡ false)) ∷ []) ∵ keep ! (2 ∷ 0 ∷ []) $
     heard ! (a.0.now.sole ≡ false) (λ shared. split ! $ split ! $ move ! (2 ∷ []) $ fsplit ! $ fsplit ! $
@@ -62,9 +52,8 @@ add_to_stamp_spec 𝓤 𝓛 𝓜 𝓡 wired T L =
     -- [half of the token; the open borrow; the share; the rule; the sharing; the other tokens]
     let at_stamp : ℕ = po + stamp_offset in let aft : ℕ → Fml = λ _. lent_share i e in
     first ! $ blocks ! $ sets ! (addr ! (through ! refl (fld ! refl (stop !)))) refl (tt, tt) $
-    move ! (3 ∷ 2 ∷ []) $
-    use2 𝓛 (raw (𝓣.C _ (vptr pb at_stamp ∷ vint w64 amount ∷ seq_cst ∷ []) (λ u. mean 𝓛 (found aft u))))
-    (via 𝓤 _ (stamps 𝓛 (block_at R p x η i) at_stamp e (λ n. (n + amount) % 2 ^ 64))
+    move ! (2 ∷ 3 ∷ []) $
+    asks_with ! (via 𝓤 _ (stamps 𝓛 (block_at R p x η i) at_stamp e (λ n. (n + amount) % 2 ^ 64))
     (adds 𝓛 𝓜 𝓡 (code.calls-core::raw_atomic::fetch_add 𝓡.env wired)
     (block_ptr pb at_stamp) amount are.1.0.1 aft)) $
     sets ! (agg ! (and_then ! (lit ! tt) (no_more !))) refl (tt, (record { fits = lit< tt }, tt)) $
@@ -72,8 +61,9 @@ add_to_stamp_spec 𝓤 𝓛 𝓜 𝓡 wired T L =
     (and_then ! (get ! refl) (no_more !)))) (λ u. finds ! aft (λ n fits.
     lands_last ! refl (tt, record { fits = fits }) $ exec ! 𝓣.C 𝓣.Λ Ev (after 2 fn.body) (at_ret Ev Post) $
     sets ! (of_opd ! (get ! refl)) refl (tt, record { fits = fits }) $
-    -- [the share; half of the token; the open borrow; the sharing; the other tokens]
-    closes_borrow ! tt $ move ! (0 ∷ 2 ∷ []) $ join ! $ is_number ! n fits $ nothing_more ! $ nothing_more ! $
+    -- [the share; the rule; half of the token; the open borrow; the sharing; the other tokens]
+    move ! (0 ∷ 2 ∷ 3 ∷ []) $ closes_borrow ! tt $ move ! (0 ∷ 3 ∷ []) $ join ! $ is_number ! n fits $
+    nothing_more ! $ nothing_more ! $
     nothing_more ! $ fjoin ! $ nothing_more ! $ fjoin ! $ returns ! (look_at ! 0 refl) $ free_all ! refl $
     keep ! (3 ∷ 0 ∷ 2 ∷ 1 ∷ []) $
     by ! (leaves 𝓛 En hs c y (vint w64 n) n (tt, (tt, tt)) (tt, (tt, tt)))))))))

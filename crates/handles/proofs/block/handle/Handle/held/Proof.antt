@@ -1,13 +1,11 @@
 -- `held` shows what every handle of the block sees.
-use Rattle.handles.proofs.Walks.{◌≡◌, ℕ, ◌+◌, List, [], ◌∷◌, refl, a_type, named, Val, vptr, inst_fn, SProp, id⊢, Lft}
-use Rattle.handles.proofs.Walks.{Share, Fml, ftrue, fsep, flft, fhide, ‵, raw, ◌⊛◌, at_ret, ◌$◌, ◌∵◌, !, qed, by, move}
-use Rattle.handles.proofs.Walks.{keep, drop, split, join, fsplit, fjoin, fpick, use1, rewrite, feq_i, stop, fld, load}
-use Rattle.handles.proofs.Walks.{addr, of_opd, first, blocks, exec, returns, enter, alloc_all, pass_all, free_all}
-use Rattle.handles.proofs.Walks.{look_at, get, through, sets, sets_last, env, sub, whole, look_in, tables, yes}
-use Rattle.handles.proofs.Walks.{RattleType, owns, types_at, plain, Ptr, block_ptr, block_of, offset_of, at_block}
-use Rattle.handles.proofs.Walks.{nothing_more, shuts, param, layouts, param_laws, RefOf, shr_vals, shr_Tells, Stays}
-use Rattle.handles.proofs.Walks.{stay_dropped, walk_of, Goes-dropped, after, proved, leaves, HeldRow, one_word}
-use Rattle.handles.proofs.Walks.{HandleRow, HandleWords, known, opens_word}
+use Rattle.handles.proofs.Walks.{ℕ, ◌+◌, List, [], ◌∷◌, refl, a_type, Val, vptr, inst_fn, id⊢, Lft, fhide, ‵, ◌⊛◌}
+use Rattle.handles.proofs.Walks.{at_ret, ◌$◌, !, by, move, keep, drop, split, fsplit, fjoin, fpick, use1, rewrite}
+use Rattle.handles.proofs.Walks.{feq_i, stop, fld, load, addr, of_opd, first, blocks, exec, returns, enter, alloc_all}
+use Rattle.handles.proofs.Walks.{pass_all, free_all, look_at, get, through, sets, sets_last, env, sub, whole, look_in}
+use Rattle.handles.proofs.Walks.{tables, RattleType, Ptr, block_ptr, block_of, offset_of, at_block, shuts, param}
+use Rattle.handles.proofs.Walks.{layouts, param_laws, after, HeldRow, one_word, HandleRow, HandleWords, opens_word}
+use Rattle.handles.proofs.Walks.{by_ref, so}
 use denote.RawPtr.{◌+ₚ◌}
 use denote.Opens.{unhide, hide}
 use denote.Memory.{hidden_shr}
@@ -19,7 +17,6 @@ use Rattle.handles.specs.contracts.block.handle.Handle.held.Key.{name as #self}
 use Rattle.handles.proofs.block.handle.Handle.held.Statement.{statement}
 use Rattle.handles.proofs.block.handle.Handle.held.Code as code
 use contract.Monad.{fact_i}
-use Rattle.handles.proofs.Walks.{by_ref, so}
 
 pub held_spec : {M : Type 1} → statement M
 held_spec 𝓤 𝓛 𝓜 𝓡 wired T L =

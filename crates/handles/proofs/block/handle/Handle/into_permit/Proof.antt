@@ -1,19 +1,15 @@
 -- `into_gain` takes the block of a handle that is known to be the only one.
 use Rattle.handles.proofs.Fields.{sole_permits}
-use Rattle.handles.proofs.Walks.{pick, permit_owns, use1, ◌≡◌, ℕ, Bool, true, [], ◌∷◌, refl, a_type, Val, inst_fn}
-use Rattle.handles.proofs.Walks.{SProp, Lft, Share, ftrue, flft, ‵, raw, ◌⊛◌, ◌$◌, ◌∵◌, !, qed, by, move, keep, split}
-use Rattle.handles.proofs.Walks.{join, fsplit, fjoin, use0, rewrite, stop, fld, of_opd, no_more, and_then, returns}
-use Rattle.handles.proofs.Walks.{enter, alloc_all, pass_all, free_all, look_at, get, get_in, sets, agg, sub, whole}
-use Rattle.handles.proofs.Walks.{tables, fact, no, RattleType, owns, types_at, plain, Ptr, block_of, offset_of}
-use Rattle.handles.proofs.Walks.{nothing_more, heard, param, layouts, Stays, stay_dropped, walk_of, Goes-dropped}
-use Rattle.handles.proofs.Walks.{proved, leaves, Right, HeldRow, one_word, one_word-Good, words_are, words_made}
-use Rattle.handles.proofs.Walks.{HandleRow, PermitWords, known}
+use Rattle.handles.proofs.Walks.{pick, permit_owns, use1, ◌≡◌, ℕ, Bool, true, [], ◌∷◌, refl, a_type, inst_fn, ‵, ◌$◌, !}
+use Rattle.handles.proofs.Walks.{by, keep, fjoin, use0, rewrite, stop, fld, of_opd, no_more, and_then, returns, enter}
+use Rattle.handles.proofs.Walks.{alloc_all, pass_all, free_all, look_at, get, get_in, sets, agg, sub, whole, tables}
+use Rattle.handles.proofs.Walks.{fact, RattleType, Ptr, param, layouts, Right, HeldRow, one_word, one_word-Good}
+use Rattle.handles.proofs.Walks.{words_made, PermitWords, by_value, handle_worded, permit_at, so, also}
 use types.Kit.{some as exists}
 use Rattle.std.proofs.Common.{List}
 use Rattle.counting_word.specs.WordSteps.{WordStep}
 use Rattle.counting_word.specs.Rights.{whole_block}
 use Rattle.handles.specs.Inside.Blocks.{handle_owns}
-use Rattle.handles.specs.contracts.block.handle.Handle as handle_type
 use Rattle.handles.specs.contracts.block.permit.Permit as permit_type
 use Rattle.std_alloc.proofs.RcSteps.{Ptr-Good}
 use Rattle.handles.specs.contracts.block.handle.Handle.into_permit.{ended, clauses}
@@ -21,7 +17,6 @@ use Rattle.handles.specs.contracts.block.handle.Handle.into_permit.Key.{name as 
 use Rattle.handles.proofs.block.handle.Handle.into_permit.Statement.{statement}
 use Rattle.handles.proofs.block.handle.Handle.into_permit.Code as code
 use base.Logic.{snd∗}
-use Rattle.handles.proofs.Walks.{by_value, handle_worded, permit_at, so, also}
 
 pub into_permit_spec : {M : Type 1} → statement M
 into_permit_spec 𝓤 𝓛 𝓜 𝓡 wired T L =

@@ -1,21 +1,17 @@
 -- `into_shared` forgets that a handle is the only one.
-use Rattle.handles.proofs.Walks.{◌≡◌, ℕ, false, [], ◌∷◌, refl, a_type, Val, inst_fn, SProp, Lft, Share, ftrue, flft, ‵}
-use Rattle.handles.proofs.Walks.{raw, ◌⊛◌, ◌$◌, ◌∵◌, !, qed, by, move, keep, split, join, fsplit, fjoin, use0, use1}
-use Rattle.handles.proofs.Walks.{stop, fld, of_opd, no_more, and_then, returns, enter, alloc_all, pass_all, free_all}
-use Rattle.handles.proofs.Walks.{look_at, get, get_in, sets, agg, sub, whole, tables, fact, no, RattleType, owns}
-use Rattle.handles.proofs.Walks.{types_at, plain, Ptr, block_of, offset_of, nothing_more, param, layouts, param_laws}
-use Rattle.handles.proofs.Walks.{Stays, stay_dropped, walk_of, Goes-dropped, proved, leaves, HeldRow, one_word}
-use Rattle.handles.proofs.Walks.{one_word-Good, words_are, words_made, HandleRow, HandleWords, known}
+use Rattle.handles.proofs.Walks.{ℕ, false, [], ◌∷◌, refl, a_type, inst_fn, ‵, ◌$◌, !, by, move, keep, fsplit, fjoin}
+use Rattle.handles.proofs.Walks.{use1, stop, fld, of_opd, no_more, and_then, returns, enter, alloc_all, pass_all}
+use Rattle.handles.proofs.Walks.{free_all, look_at, get, get_in, sets, agg, sub, whole, tables, RattleType, Ptr, param}
+use Rattle.handles.proofs.Walks.{layouts, param_laws, HeldRow, one_word, one_word-Good, by_value, handle_worded}
+use Rattle.handles.proofs.Walks.{handle_at, is_handle, so, also}
 use Rattle.handles.specs.Inside.Blocks.{owned_as}
 use contract.Monad.{fact_i}
 use Rattle.handles.proofs.Owners.{forgets}
-use Rattle.handles.specs.contracts.block.handle.Handle as handle_type
 use Rattle.std_alloc.proofs.RcSteps.{Ptr-Good}
 use Rattle.handles.specs.contracts.block.handle.Handle.into_shared.{ended, clauses}
 use Rattle.handles.specs.contracts.block.handle.Handle.into_shared.Key.{name as #self}
 use Rattle.handles.proofs.block.handle.Handle.into_shared.Statement.{statement}
 use Rattle.handles.proofs.block.handle.Handle.into_shared.Code as code
-use Rattle.handles.proofs.Walks.{by_value, handle_worded, handle_at, is_handle, so, also}
 
 pub into_shared_spec : {M : Type 1} → statement M
 into_shared_spec 𝓤 𝓛 𝓜 𝓡 wired T L =

@@ -1,19 +1,15 @@
 -- `mark` sets bit 63 of the word.
-use Rattle.handles.proofs.Walks.{◌≡◌, ℕ, ◌+◌, false, [], ◌∷◌, refl, lit<, w64, a_type, named, Val, vint, vptr, inst_fn}
-use Rattle.handles.proofs.Walks.{SProp, via, Lft, Share, Fml, ftrue, fsep, flft, ‵, raw, ◌⊛◌, mean, at_ret, ◌$◌, ◌∵◌, ! }
-use Rattle.handles.proofs.Walks.{qed, by, move, keep, split, join, fsplit, fjoin, use2, stop, fld, load, addr, lit}
-use Rattle.handles.proofs.Walks.{of_opd, no_more, and_then, first, blocks, exec, Calls-last, returns, enter, alloc_all}
-use Rattle.handles.proofs.Walks.{pass_all, free_all, look_at, get, through, sets, lands_last, env, agg, sub, whole}
-use Rattle.handles.proofs.Walks.{look_in, tables, fact, yes, RattleType, owns, types_at, plain, Ptr, block_ptr}
-use Rattle.handles.proofs.Walks.{block_of, offset_of, nothing_more, heard, shuts, param, layouts, RefOf, shr_vals}
-use Rattle.handles.proofs.Walks.{shr_Tells, Stays, stay_dropped, walk_of, Goes-dropped, after, proved, leaves, fm}
-use Rattle.handles.proofs.Walks.{seq_cst, found, finds, HeldRow, one_word, HandleRow, HandleWords, opens_handle}
-use Rattle.handles.proofs.Walks.{closes_borrow, known}
+use Rattle.handles.proofs.Walks.{◌≡◌, ℕ, ◌+◌, false, [], ◌∷◌, refl, lit<, a_type, vptr, inst_fn, via, Fml, at_ret, ◌$◌}
+use Rattle.handles.proofs.Walks.{!, by, move, keep, stop, fld, load, addr, lit, of_opd, no_more, and_then, first}
+use Rattle.handles.proofs.Walks.{blocks, exec, Calls-last, returns, enter, alloc_all, pass_all, free_all, look_at, get}
+use Rattle.handles.proofs.Walks.{through, sets, lands_last, env, agg, sub, whole, look_in, tables, fact, RattleType}
+use Rattle.handles.proofs.Walks.{Ptr, block_ptr, block_of, offset_of, shuts, param, layouts, after, fm, found, finds}
+use Rattle.handles.proofs.Walks.{HeldRow, one_word, HandleRow, HandleWords, opens_handle, by_ref, so, also, asks_new}
+use Rattle.handles.proofs.Walks.{logs}
 use Rattle.atomic_table.proofs.Calls.{ors}
 use Rattle.counting_word.specs.CountingWord.{mark_bit}
 use Rattle.counting_word.specs.WordSteps as step
-use Rattle.counting_word.specs.Tallies.{Adds}
-use Rattle.handles.proofs.LoggedSteps.{tells, returns_logged, word_and_logged, word_and_logged-Good}
+use Rattle.handles.proofs.LoggedSteps.{returns_logged, word_and_logged, word_and_logged-Good}
 use Rattle.handles.proofs.Steps.Shared.{block_at, and_logged}
 use Rattle.handles.proofs.Steps.Marks.{marks, after_mark}
 use Rattle.handles.proofs.Fields.{big_lit}
@@ -22,7 +18,6 @@ use Rattle.handles.specs.contracts.block.handle.Handle.mark.Key.{name as #self}
 use Rattle.handles.proofs.block.handle.Handle.mark.Statement.{statement}
 use Rattle.handles.proofs.block.handle.Handle.mark.Code as code
 use base.Logic.{snd∗}
-use Rattle.handles.proofs.Walks.{by_ref, so, also, asks_new, logs}
 
 pub mark_spec : {M : Type 1} → statement M
 mark_spec 𝓤 𝓛 𝓜 𝓡 wired T L =

@@ -2,7 +2,7 @@
 -- step itself.
 use Rattle.handles.proofs.Walks.{◌≡◌, ℕ, false, List, [], ◌∷◌, refl, a_type, named, Val, vptr, inst_fn, SProp, Lft}
 use Rattle.handles.proofs.Walks.{Share, Fml, ftrue, fsep, flft, finv, later, await, pick, ‵, raw, ◌⊛◌, at_ret, ◌$◌, ◌∵◌}
-use Rattle.handles.proofs.Walks.{ !, qed, by, move, keep, drop, split, join, fsplit, fjoin, fjoin3, fpick, rewrite, use1}
+use Rattle.handles.proofs.Walks.{!, qed, by, move, keep, drop, split, join, fsplit, fjoin, fjoin3, fpick, rewrite, use1}
 use Rattle.handles.proofs.Walks.{use2, feq_i, stop, fld, load, addr, of_opd, first, blocks, exec, returns, enter}
 use Rattle.handles.proofs.Walks.{alloc_all, pass_all, free_all, look_at, get, through, sets, sets_last, env, sub, whole}
 use Rattle.handles.proofs.Walks.{look_in, tables, fact, yes, RattleType, owns, types_at, plain, Ptr, block_ptr}
@@ -24,7 +24,6 @@ use Rattle.handles.specs.contracts.block.handle.Handle.marked_by.{ended, clauses
 use Rattle.handles.specs.contracts.block.handle.Handle.marked_by.Key.{name as #self}
 use Rattle.handles.proofs.block.handle.Handle.marked_by.Statement.{statement}
 use Rattle.handles.proofs.block.handle.Handle.marked_by.Code as code
-use Rattle.handles.proofs.Walks.{so}
 
 pub marked_by_spec : {M : Type 1} → statement M
 marked_by_spec 𝓤 𝓛 𝓜 𝓡 wired T L =
@@ -33,15 +32,8 @@ marked_by_spec 𝓤 𝓛 𝓜 𝓡 wired T L =
     let inst = layouts (a_type ∷ []) (T, tt) in let fn = inst_fn inst code.function in
     let self = RefOf (0 ∷ []) tt (plain (λ _. HandleRow R)) (λ _. tt) in let reported = plain (λ _. LoggedRow) in
     let hs : Stays En.signature.params En.kept = (stay_dropped self yes, (stay_dropped reported yes, tt)) in
-    proved 𝓛 En hs c 𝓜 𝓡 (
-      Goes-dropped 𝓛 3 self yes (λ κs x f. refl),
-      (
-        Goes-dropped 𝓛 3 reported yes (λ
-            κs x f. refl),
-        tt,
-      ),
-    )
-    (#self inst) fn (code.unfolded 𝓤 𝓛.H 𝓜 𝓡 wired (T, tt))
+    let goes = Goes-dropped 𝓛 3 reported yes (λ κs x f. refl) in
+    proved 𝓛 En hs c 𝓜 𝓡 (Goes-dropped 𝓛 3 self yes (λ κs x f. refl), (goes, tt)) (#self inst) fn (code.unfolded 𝓤 𝓛.H 𝓜 𝓡 wired (T, tt))
     (λ κs. (shr_vals, ((λ s. vstruct vnil ∷ []), tt)))
     (λ κs. (shr_Tells (named 0) κs.0 (HandleRow R), ((λ s vs so. no_bytes_told vs so.0), tt)))
     (λ κs qs bounds a gh are.

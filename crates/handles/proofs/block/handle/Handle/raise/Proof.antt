@@ -1,184 +1,98 @@
 -- `raise` is one compare-exchange of the word.
-use Rattle.handles.proofs.Steps.Reads.{reported_with, reported_logged}
 use Rattle.handles.proofs.Steps.Shared.{reached, block_at, and_logged}
 use Rattle.handles.proofs.Walks.{rewrite, ◌≡◌, ℕ, ◌+◌, ◌<◌, false, [], ◌∷◌, refl, sym, ap, w64, a_type, named, Val}
-use Rattle.handles.proofs.Walks.{vint, vptr, inst_fn, SProp, via, Lft, Share, Fml, ftrue, fsep, flft, finv, ‵, raw, ◌⊛◌}
-use Rattle.handles.proofs.Walks.{mean, at_ret, ◌$◌, ◌∵◌, !, qed, by, move, keep, drop, split, join, fsplit, fsplit3}
-use Rattle.handles.proofs.Walks.{fjoin, fpick, use1, use2, stop, fld, addr, of_opd, no_more, and_then, first, blocks}
-use Rattle.handles.proofs.Walks.{exec, Calls-last, returns, enter, alloc_all, pass_all, free_all, look_at, get, through}
-use Rattle.handles.proofs.Walks.{sets, lands_last, is, env, agg, sub, whole, tables, fact, yes, RattleType, owns}
-use Rattle.handles.proofs.Walks.{types_at, plain, Ptr, block_ptr, block_of, offset_of, at_block, nothing_more, heard}
-use Rattle.handles.proofs.Walks.{shuts, param, layouts, RefOf, u64, shr_vals, shr_Tells, Stays, stay_dropped, walk_of}
-use Rattle.handles.proofs.Walks.{Goes-dropped, after, proved, leaves, fm, found, finds, Right, HeldRow, block_rule}
-use Rattle.handles.proofs.Walks.{one_word, word_and_permit, one_word-Good, HandleRow, HandleWords, known}
-use Rattle.handles.proofs.Walks.{returns_permit, word_and_permit-Good, opens_handle, shows_permit, closes_borrow}
-use Rattle.handles.proofs.Walks.{words_are, PermitRow, ptr_val, get_in, no}
+use Rattle.handles.proofs.Walks.{vint, vptr, inst_fn, SProp, via, Lft, Share, Fml, ftrue, fsep, flft, ‵, raw, ◌⊛◌}
+use Rattle.handles.proofs.Walks.{at_ret, ◌$◌, ◌∵◌, !, qed, by, move, keep, split, join, fsplit, fsplit3, fjoin, stop}
+use Rattle.handles.proofs.Walks.{fld, addr, of_opd, no_more, and_then, first, blocks, exec, Calls-last, returns, enter}
+use Rattle.handles.proofs.Walks.{alloc_all, pass_all, free_all, look_at, get, through, sets, lands_last, is, env, agg}
+use Rattle.handles.proofs.Walks.{sub, whole, tables, fact, yes, RattleType, owns, types_at, plain, Ptr, block_ptr}
+use Rattle.handles.proofs.Walks.{block_of, offset_of, at_block, nothing_more, heard, shuts, param, layouts, u64}
+use Rattle.handles.proofs.Walks.{shr_vals, shr_Tells, Stays, stay_dropped, walk_of, Goes-dropped, after, proved, leaves}
+use Rattle.handles.proofs.Walks.{fm, found, finds, Right, HeldRow, one_word, word_and_permit, one_word-Good, HandleRow}
+use Rattle.handles.proofs.Walks.{HandleWords, returns_permit, word_and_permit-Good, opens_handle, PermitRow, ptr_val}
+use Rattle.handles.proofs.Walks.{get_in, no, so, use0, a_ref, permit_worded, permit_at, asks_with, reports, also}
 use Rattle.std.proofs.Common.{List, ◌∙◌}
 use Rattle.counting_word.specs.WordSteps.{WordStep}
-use Rattle.counting_word.specs.Tallies.{Adds}
 use Rattle.atomic_table.proofs.Calls.{exchanges}
 use denote.Plain.{uint_vals, uint_Tells}
-use Rattle.counting_word.specs.CountingWord.{IsWithin}
 use Rattle.counting_word.specs.Rights.{right_by_raise}
-use Rattle.handles.specs.contracts.block.permit.Permit as permit_type
 use Rattle.counting_word.specs.WordSteps as step
 use Rattle.handles.proofs.Steps.Raises.{raises, after_raise}
 use Rattle.handles.specs.contracts.block.handle.Handle.raise.{ended, clauses}
 use Rattle.handles.specs.contracts.block.handle.Handle.raise.Key.{name as #self}
 use Rattle.handles.proofs.block.handle.Handle.raise.Statement.{statement}
 use Rattle.handles.proofs.block.handle.Handle.raise.Code as code
-use Rattle.handles.proofs.Walks.{so}
+use denote.Triple.Clauses.{at_exit}
+use denote.Triple.Entry.{Vals}
+use mir.Val.{Fits}
 
 pub raise_spec : {M : Type 1} → statement M
 raise_spec 𝓤 𝓛 𝓜 𝓡 wired T L =
     let 𝓣 = tables 𝓤 𝓛.H 𝓜 𝓡 𝓡.env in let R : RattleType = param 0 T in let En = ended T in
     let c = clauses T 𝓛 𝓜.mem 𝓡.returns in let inst = layouts (a_type ∷ []) (T, tt) in
-    let fn = inst_fn inst code.function in
-    let self = RefOf (0 ∷ []) tt (plain (λ _. HandleRow R)) (λ _. tt) in let number = plain (λ _. u64) in
-    let granted = plain (λ _. PermitRow R) in
-    let hs : Stays En.signature.params En.kept = (
-      stay_dropped self yes,
-      (
-        stay_dropped number yes,
-        (
-          stay_dropped
-              number yes,
-          (stay_dropped granted no, tt),
-        ),
-      ),
-    ) in
-    proved 𝓛 En hs c 𝓜 𝓡 (
-      Goes-dropped 𝓛 2 self yes (λ κs x f. refl),
-      (
-        Goes-dropped 𝓛 2 number yes
-            (λ κs x f. refl),
-        (
-          Goes-dropped 𝓛 2 number yes (λ κs x f. refl),
-          (
-            Goes-dropped 𝓛 2 granted no (λ
-                κs x f. refl),
-            tt,
-          ),
-        ),
-      ),
-    ) (#self inst) fn (code.unfolded 𝓤 𝓛.H 𝓜 𝓡 wired (T, tt))
+    let fn = inst_fn inst code.function in let self = a_ref (HandleRow R) tt in
+    let number = plain (λ _. u64) in let given = plain (λ _. PermitRow R) in
+    let counted = stay_dropped number yes in
+    let hs : Stays En.signature.params En.kept =
+    (stay_dropped self yes, (counted, (counted, (stay_dropped given no, tt)))) in
+    let counts = Goes-dropped 𝓛 2 number yes (λ κs x f. refl) in
+    let goes = Goes-dropped 𝓛 2 given no (λ κs x f. refl) in let tells = (permit_worded R).tells in
+    proved 𝓛 En hs c 𝓜 𝓡 (Goes-dropped 𝓛 2 self yes (λ κs x f. refl), (counts, (counts, (goes, tt)))) (#self inst) fn
+    (code.unfolded 𝓤 𝓛.H 𝓜 𝓡 wired (T, tt))
     (λ κs. (shr_vals, (uint_vals w64, (uint_vals w64, ((λ s. one_word s.block ∷ []), tt)))))
-    (λ κs. (
-      shr_Tells (named 0)
-          κs.0 (HandleRow R),
-      (
-        uint_Tells w64,
-        (
-          uint_Tells w64,
-          (
-            (λ s vs so. words_are (permit_type.the_type R).name
-                (R ∷ []) s.block vs so.0),
-            tt,
-          ),
-        ),
-      ),
-    )) (λ κs qs bounds a gh are.
+    (λ κs. (shr_Tells (named 0) κs.0 (HandleRow R), (uint_Tells w64, (uint_Tells w64, (tells, tt)))))
+    (λ κs qs bounds a gh are.
     let b : ℕ = a.0.ref_ptr.0 in let o : ℕ = a.0.ref_ptr.1 in let κ : Lft = κs.0 in let q : Share = qs.0 in
     let others : Fml = fsep (flft κs.1.0 qs.1.0) ftrue in let p : Ptr = a.0.now.block in
     let x : (HeldRow R).Denot = a.0.now.held in let η : ℕ = a.0.now.id in let pb : ℕ = block_of p in
     let po : ℕ = offset_of p in let seen : ℕ = a.1.0 in let next : ℕ = a.1.1.0 in
     let same : Ptr = a.1.1.1.0.block in let old : List WordStep = a.1.1.1.0.log in
-    let y : (walk_of 𝓛 En hs c).Ghost = (
-      (
-        κs,
-        qs,
-        bounds,
-        a,
-        (
-          vptr b o ∷ [],
-          (
-            vint w64 seen ∷ [],
-            (
-              vint w64
-                  next ∷ [],
-              (one_word same ∷ [], tt),
-            ),
-          ),
-        ),
-      ),
-      gh,
-    ) in
+    let values : Vals En.signature κs =
+    (vptr b o ∷ [], (vint w64 seen ∷ [], (vint w64 next ∷ [], (one_word same ∷ [], tt)))) in
+    let y : (walk_of 𝓛 En hs c).Ghost = ((κs, qs, bounds, a, values), gh) in
     let Post : Val → SProp 𝓤 = (walk_of 𝓛 En hs c).post y in let D : RattleType = HandleWords R in
-    qed 𝓛 (((‵ (flft κ q) ⊛ ‵ others) ⊛ ‵ (owns (types_at En.signature.params κs) a y.0.4))
-    ∷ raw (fact 𝓤 _)
+    qed 𝓛 (((‵ (flft κ q) ⊛ ‵ others) ⊛ ‵ (owns (types_at En.signature.params κs) a y.0.4)) ∷ raw (fact 𝓤 _)
     ∷ raw (fact 𝓤 (a.0.now.sole ≡ false)) ∷ raw (fact 𝓤 (seen < a.0.now.held.limit.count))
     ∷ raw (fact 𝓤 (next ≡ seen + 1)) ∷ raw (fact 𝓤 (same ≡ p)) ∷ raw (fact 𝓤 _)
-    ∷ raw (fact 𝓤 (a.1.1.1.0.id ≡ η))
-    ∷ []) ∵ keep ! (2 ∷ 3 ∷ 4 ∷ 5 ∷ 7 ∷ 0 ∷ []) $
+    ∷ raw (fact 𝓤 (a.1.1.1.0.id ≡ η)) ∷ []) ∵ keep ! (2 ∷ 3 ∷ 4 ∷ 5 ∷ 7 ∷ 0 ∷ []) $
     heard ! (a.0.now.sole ≡ false) (λ shared. heard ! (seen < a.0.now.held.limit.count)
     (λ below. heard ! (next ≡ seen + 1) (λ is_next. heard ! (same ≡ p) (λ is_same. heard ! (a.1.1.1.0.id ≡ η)
     (λ is_id.
     split ! $ split ! $ move ! (2 ∷ []) $ fsplit ! $ fsplit ! $ move ! (2 ∷ []) $ fsplit3 ! $ move ! (2 ∷ []) $
     fsplit ! $ fsplit ! $ move ! (1 ∷ []) $ fsplit ! $ rewrite ! 0 (λ (z : ℕ). ‵ (reached z old)) is_id refl $
     keep ! (7 ∷ 8 ∷ 9 ∷ 0 ∷ []) $
+    let s_fits : Fits w64 seen = record { fits = are.1.0.1 } in
+    let n_fits : Fits w64 next = record { fits = are.1.1.0.1 } in
     enter ! 𝓣.C 𝓣.Λ fn (vptr b o ∷ vint w64 seen ∷ vint w64 next ∷ one_word same ∷ []) Post $
-    alloc_all ! (λ l. pass_all ! refl (
-      (tt, tt),
-      (
-        (tt, record { fits = are.1.0.1 }),
-        (
-          (
-            tt,
-            record {
-              fits =
-                  are.1.1.0.1;
-            },
-          ),
-          (one_word-Good same, tt),
-        ),
-      ),
-    ) $ let Ev = env fn.locals l in
+    alloc_all ! (λ l. pass_all ! refl ((tt, tt), ((tt, s_fits), ((tt, n_fits), (one_word-Good same, tt)))) $
+    let Ev = env fn.locals l in
     opens_handle R p x η ! tt a.0.now.sole shared b o (λ inb i e r.
     -- [the word; what it says; the token's way back; the open borrow; the share; the rule; the sharing; the other
-    -- tokens]
+    -- tokens; that the log was reached]
     sets ! (is ! (of_opd ! (get_in ! (fld ! refl (stop !)) (sub ! 0 refl (whole !))))
     (ap ptr_val (is_same ∙ at_block p inb))) refl (tt, tt) $
     shuts ! tt D r (p, tt) (one_word (block_ptr pb po) ∷ []) b o $
-    -- [half of the token; the open borrow; the share; the rule; the sharing; the other tokens]
-    let I : Fml = block_rule R p x η i in
+    -- [half of the token; the open borrow; the share; the rule; the sharing; the other tokens; the log]
     let aft : ℕ → Fml = and_logged (block_at R p x η i) old (step.raises_from seen)
     (after_raise (block_at R p x η i) e seen) in
-    first ! $ blocks ! $ sets ! (addr ! (through ! refl (fld ! refl (stop !)))) refl (tt, tt) $ move ! (3 ∷ []) $
-    use1 𝓛 (‵ (finv I) ⊛ ‵ (finv I)) (𝓛.invs.inv_dup I) $ split ! $ move ! (0 ∷ 4 ∷ []) $
-    move ! (7 ∷ 1 ∷ []) $
-    fjoin ! $ move ! (1 ∷ 0 ∷ []) $
-    use2 𝓛 (raw (𝓣.C _ (vptr pb (po + 0) ∷ vint w64 seen ∷ vint w64 next ∷ [])
-    (λ u. mean 𝓛 (found aft u))))
-    (via 𝓤 _ (raises 𝓛 (block_at R p x η i) e seen old below next is_next)
+    first ! $ blocks ! $ sets ! (addr ! (through ! refl (fld ! refl (stop !)))) refl (tt, tt) $
+    move ! (6 ∷ 2 ∷ []) $ fjoin ! $ move ! (0 ∷ 3 ∷ []) $
+    asks_with ! (via 𝓤 _ (raises 𝓛 (block_at R p x η i) e seen old below next is_next)
     (exchanges 𝓛 𝓜 𝓡 (code.calls-atomic_table::exchange 𝓡.env wired)
     (block_ptr pb (po + 0)) seen next are.1.0.1 are.1.1.0.1 aft)) $
     Calls-last ! (fm 𝓛 𝓜 𝓡) (found aft) (and_then ! (get ! refl) (and_then ! (get ! refl)
     (and_then ! (get ! refl) (no_more !)))) (λ u. finds ! aft (λ n fits. let r' : Right = right_by_raise seen n in
     lands_last ! refl (tt, record { fits = fits }) $ exec ! 𝓣.C 𝓣.Λ Ev (after 2 fn.body) (at_ret Ev Post) $
     sets ! (of_opd ! (get ! refl)) refl (tt, record { fits = fits }) $
-    use1 𝓛 (‵ (reported_with (block_at R p x η i) e old (step.raises_from seen) n r'))
-    (reported_logged 𝓛 (block_at R p x η i) e old (step.raises_from seen) n r') $
-    -- [the share, the word's bound and the gain; the rule; half of the token; the open borrow; the sharing; the other
-    -- tokens]
-    fsplit3 ! $ move ! (1 ∷ []) $ fpick ! (λ within. drop ! $ move ! (0 ∷ 3 ∷ 4 ∷ []) $ closes_borrow ! tt $
-    move ! (0 ∷ 4 ∷ []) $ join ! $ move ! (1 ∷ 2 ∷ 3 ∷ []) $
-    shows_permit R p x η ! tt inb i r' old (step.raises_from seen) n (λ log adds.
+    reports R p x η ! tt inb i e r' old (step.raises_from seen) n (λ within log adds.
     sets ! (is ! (agg ! (and_then ! (get ! refl) (no_more !))) (ap one_word (sym (at_block p inb))))
     refl (one_word-Good p) $
     sets ! (agg ! (and_then ! (get ! refl) (and_then ! (get ! refl) (no_more !))))
-    refl (word_and_permit-Good n fits p) $
-    returns_permit R p x η ! n fits r' log $ known ! (Adds x.limit.count old (step.raises_from seen) n log) adds $
-    known ! (η ≡ η) refl $ join ! $ known ! (p ≡ p) refl $ join ! $ known ! (IsWithin n x.limit.count) within $
-    join ! $ known ! (x ≡ x) refl $ join ! $ known ! (r' ≡ r') refl $ join ! $ nothing_more ! $ nothing_more ! $
-    fjoin ! $ nothing_more ! $ fjoin ! $ nothing_more ! $ fjoin ! $ nothing_more ! $ fjoin ! $
-    returns ! (look_at ! 0 refl) $ free_all ! refl $ keep ! (3 ∷ 0 ∷ 2 ∷ 1 ∷ []) $
-    by ! (leaves 𝓛 En hs c y (word_and_permit n p) (
-      n,
-      record {
-        block = p;
-        held = x;
-        right = r';
-        id = η;
-        log = log;
-      },
-    ) (tt, (tt, (tt, (tt, tt)))) (tt, (tt, (tt, (tt, tt)))))))))))))))))
+    refl (word_and_permit-Good n fits p) $ returns_permit R p x η ! n fits r' log $
+    move ! (1 ∷ 2 ∷ []) $ join ! $ move ! (1 ∷ []) $
+    use0 𝓛 (raw ((c κs a).ensures gh (n, permit_at R p x r' η log) (at_exit En κs a (tt, (tt, (tt, (tt, tt)))))))
+    (also 𝓤 refl (also 𝓤 refl (also 𝓤 within (also 𝓤 refl (also 𝓤 refl (so 𝓤 adds)))))) $
+    nothing_more ! $ nothing_more ! $ fjoin ! $ nothing_more ! $ fjoin ! $ nothing_more ! $ fjoin ! $
+    nothing_more ! $ fjoin ! $ returns ! (look_at ! 0 refl) $ free_all ! refl $ keep ! (3 ∷ 0 ∷ 2 ∷ 1 ∷ []) $
+    by ! (leaves 𝓛 En hs c y (word_and_permit n p) (n, permit_at R p x r' η log) (tt, (tt, (tt, (tt, tt))))
+    (tt, (tt, (tt, (tt, tt))))))))))))))))

@@ -1,20 +1,15 @@
 -- `read` is one load of the word.
-use Rattle.handles.proofs.Steps.Reads.{reported_logged, reported_with, reads, after_read}
+use Rattle.handles.proofs.Steps.Reads.{reads, after_read}
 use Rattle.counting_word.specs.WordSteps.{WordStep}
-use Rattle.counting_word.specs.Tallies.{Adds}
-use Rattle.handles.proofs.Walks.{◌≡◌, ℕ, ◌+◌, false, [], ◌∷◌, refl, sym, ap, lit<, a_type, named, Val, vptr, inst_fn}
-use Rattle.handles.proofs.Walks.{SProp, via, Lft, Share, Fml, ftrue, fsep, flft, finv, ‵, raw, ◌⊛◌, mean, at_ret, ◌$◌}
-use Rattle.handles.proofs.Walks.{◌∵◌, !, qed, by, move, keep, drop, split, join, fsplit, fsplit3, fjoin, fpick, use1}
-use Rattle.handles.proofs.Walks.{use2, stop, fld, load, addr, lit, of_opd, no_more, and_then, first, blocks, exec}
-use Rattle.handles.proofs.Walks.{Calls-last, returns, enter, alloc_all, pass_all, free_all, look_at, get, through, sets}
-use Rattle.handles.proofs.Walks.{lands_last, is, env, agg, sub, whole, look_in, tables, fact, yes, RattleType, owns}
-use Rattle.handles.proofs.Walks.{types_at, plain, Ptr, block_ptr, block_of, offset_of, at_block, nothing_more, heard}
-use Rattle.handles.proofs.Walks.{shuts, param, layouts, RefOf, shr_vals, shr_Tells, Stays, stay_dropped, walk_of}
-use Rattle.handles.proofs.Walks.{Goes-dropped, after, proved, leaves, fm, seq_cst, found, finds, Right, HeldRow}
-use Rattle.handles.proofs.Walks.{block_rule, one_word, word_and_permit, one_word-Good, HandleRow, HandleWords, known}
-use Rattle.handles.proofs.Walks.{returns_permit, word_and_permit-Good, opens_handle, shows_permit, closes_borrow}
+use Rattle.handles.proofs.Walks.{◌≡◌, ℕ, ◌+◌, false, [], ◌∷◌, refl, sym, ap, lit<, a_type, vptr, inst_fn, via, Fml}
+use Rattle.handles.proofs.Walks.{at_ret, ◌$◌, !, by, move, keep, stop, fld, load, addr, lit, of_opd, no_more, and_then}
+use Rattle.handles.proofs.Walks.{first, blocks, exec, Calls-last, returns, enter, alloc_all, pass_all, free_all}
+use Rattle.handles.proofs.Walks.{look_at, get, through, sets, lands_last, is, env, agg, sub, whole, look_in, tables}
+use Rattle.handles.proofs.Walks.{fact, RattleType, Ptr, block_ptr, block_of, offset_of, at_block, shuts, param, layouts}
+use Rattle.handles.proofs.Walks.{after, fm, found, finds, Right, HeldRow, one_word, word_and_permit, one_word-Good}
+use Rattle.handles.proofs.Walks.{HandleRow, HandleWords, returns_permit, word_and_permit-Good, opens_handle, by_ref}
+use Rattle.handles.proofs.Walks.{permit_at, so, also, asks_new, reports}
 use Rattle.atomic_table.proofs.Calls.{loads}
-use Rattle.counting_word.specs.CountingWord.{IsWithin}
 use Rattle.counting_word.specs.Rights.{right_by_read}
 use Rattle.counting_word.specs.WordSteps as step
 use Rattle.handles.proofs.Steps.Shared.{block_at, and_logged}
@@ -23,7 +18,6 @@ use Rattle.handles.specs.contracts.block.handle.Handle.read.Key.{name as #self}
 use Rattle.handles.proofs.block.handle.Handle.read.Statement.{statement}
 use Rattle.handles.proofs.block.handle.Handle.read.Code as code
 use base.Logic.{snd∗}
-use Rattle.handles.proofs.Walks.{by_ref, permit_at, so, also, asks_new, reports}
 
 pub read_spec : {M : Type 1} → statement M
 read_spec 𝓤 𝓛 𝓜 𝓡 wired T L =

@@ -1,19 +1,14 @@
 -- `leave` is the load by which a handle ends.
-use types.Kit.{some as exists, given, pick, learn}
-use Rattle.std.proofs.Common.{List}
 use Rattle.counting_word.specs.WordSteps.{WordStep}
-use Rattle.counting_word.specs.Tallies.{Adds}
-use Rattle.handles.proofs.Walks.{◌≡◌, ℕ, ◌+◌, false, [], ◌∷◌, refl, sym, ap, lit<, a_type, Val, vptr, inst_fn, SProp}
-use Rattle.handles.proofs.Walks.{via, Lft, Share, Fml, ftrue, flft, finv, ‵, raw, ◌⊛◌, later, mean, at_ret, ◌$◌, ◌∵◌, ! }
-use Rattle.handles.proofs.Walks.{qed, by, move, keep, drop, split, join, fsplit, fsplit3, fjoin, fpick, use1, use2}
-use Rattle.handles.proofs.Walks.{use3, await, stop, fld, addr, lit, of_opd, no_more, and_then, first, blocks, exec}
-use Rattle.handles.proofs.Walks.{Calls-last, returns, enter, alloc_all, pass_all, free_all, look_at, get, get_in}
-use Rattle.handles.proofs.Walks.{through, sets, lands_last, is, env, agg, sub, whole, tables, fact, no, RattleType}
-use Rattle.handles.proofs.Walks.{owns, types_at, plain, Ptr, block_ptr, ptr_val, block_of, offset_of, at_block}
-use Rattle.handles.proofs.Walks.{nothing_more, heard, param, layouts, param_laws, Stays, stay_dropped, walk_of}
-use Rattle.handles.proofs.Walks.{Goes-dropped, after, proved, leaves, fm, seq_cst, found, finds, Right, HeldRow}
-use Rattle.handles.proofs.Walks.{block_rule, permit_owns, one_word, word_and_permit, one_word-Good, words_are}
-use Rattle.handles.proofs.Walks.{HandleRow, known, returns_permit, word_and_permit-Good, sem}
+use Rattle.handles.proofs.Walks.{◌≡◌, ℕ, ◌+◌, false, [], ◌∷◌, refl, sym, ap, lit<, a_type, inst_fn, via, Lft, Share}
+use Rattle.handles.proofs.Walks.{Fml, ftrue, flft, ‵, ◌⊛◌, later, at_ret, ◌$◌, !, by, keep, drop, split, fsplit}
+use Rattle.handles.proofs.Walks.{fsplit3, fpick, use1, use2, await, stop, fld, addr, lit, of_opd, no_more, and_then}
+use Rattle.handles.proofs.Walks.{first, blocks, exec, Calls-last, returns, enter, alloc_all, pass_all, free_all}
+use Rattle.handles.proofs.Walks.{look_at, get, get_in, through, sets, lands_last, is, env, agg, sub, whole, tables}
+use Rattle.handles.proofs.Walks.{fact, RattleType, Ptr, block_ptr, ptr_val, block_of, offset_of, at_block, param}
+use Rattle.handles.proofs.Walks.{layouts, param_laws, after, fm, found, finds, Right, HeldRow, one_word}
+use Rattle.handles.proofs.Walks.{word_and_permit, one_word-Good, returns_permit, word_and_permit-Good, sem, by_value}
+use Rattle.handles.proofs.Walks.{handle_worded, permit_at, so, also, asks_new, shows_permit}
 use base.Fml.{Incl-refl}
 use contract.BorrowLft.{◌⊑◌}
 use Rattle.atomic_table.proofs.Calls.{loads}
@@ -22,15 +17,12 @@ use Rattle.handles.specs.Inside.Blocks.{owned_as, counted_handle}
 use Rattle.counting_word.specs.WordSteps as step
 use Rattle.handles.proofs.Steps.Shared.{block_at, and_logged}
 use Rattle.handles.proofs.Steps.LastReads.{last_reads, after_last_read}
-use Rattle.handles.proofs.Fields.{permit_shown}
 use Rattle.handles.proofs.Owners.{forgets, handle_settles}
-use Rattle.handles.specs.contracts.block.handle.Handle as handle_type
 use Rattle.handles.specs.contracts.block.handle.Handle.read_for_drop.{ended, clauses}
 use Rattle.handles.specs.contracts.block.handle.Handle.read_for_drop.Key.{name as #self}
 use Rattle.handles.proofs.block.handle.Handle.read_for_drop.Statement.{statement}
 use Rattle.handles.proofs.block.handle.Handle.read_for_drop.Code as code
 use base.Logic.{fst∗}
-use Rattle.handles.proofs.Walks.{by_value, handle_worded, permit_at, so, also, asks_new, shows_permit}
 
 pub read_for_drop_spec : {M : Type 1} → statement M
 read_for_drop_spec 𝓤 𝓛 𝓜 𝓡 wired T L =

@@ -1,18 +1,16 @@
 -- `claim` is one load of the word, by which the handle knows whether it is the only one.
-use types.Kit.{some as exists, given, pick, learn}
 use Rattle.counting_word.specs.WordSteps.{WordStep}
 use Rattle.counting_word.specs.Tallies.{Adds}
 use Rattle.handles.proofs.Walks.{◌≡◌, ℕ, ◌+◌, false, List, [], ◌∷◌, refl, sym, ap, ◌∙◌, lit<, a_type, named, Val, vptr}
-use Rattle.handles.proofs.Walks.{inst_fn, full_share, SProp, via, Lft, Share, Fml, ftrue, flft, finv, ‵, raw, ◌⊛◌}
-use Rattle.handles.proofs.Walks.{later, mean, at_ret, ◌$◌, ◌∵◌, !, qed, by, move, keep, drop, split, split3, join}
-use Rattle.handles.proofs.Walks.{fsplit, fsplit3, fjoin, fjoin3, fpick, use0, use1, use2, use3, await, rewrite, stop}
-use Rattle.handles.proofs.Walks.{fld, load, addr, lit, of_opd, no_more, and_then, first, blocks, exec, Calls-last}
-use Rattle.handles.proofs.Walks.{returns, enter, alloc_all, pass_all, free_all, look_at, get, through, sets, lands_last}
-use Rattle.handles.proofs.Walks.{env, agg, sub, whole, look_in, tables, fact, RattleType, owns, types_at, plain, Ptr}
-use Rattle.handles.proofs.Walks.{block_ptr, block_of, offset_of, at_block, nothing_more, peeks, heard, Is, shows}
-use Rattle.handles.proofs.Walks.{cell_at, param, layouts, param_laws, Stays, walk_of, after, proved, leaves, fm}
-use Rattle.handles.proofs.Walks.{seq_cst, found, finds, HeldRow, block_rule, permit_owns, one_word, words_are}
-use Rattle.handles.proofs.Walks.{words_made, HandleRow, HandleWords, known}
+use Rattle.handles.proofs.Walks.{inst_fn, full_share, SProp, via, Lft, Share, Fml, ftrue, flft, ‵, raw, ◌⊛◌, later}
+use Rattle.handles.proofs.Walks.{at_ret, ◌$◌, ◌∵◌, !, qed, by, move, keep, drop, split, split3, join, fsplit, fsplit3}
+use Rattle.handles.proofs.Walks.{fjoin, fjoin3, fpick, use1, use2, await, rewrite, stop, fld, load, addr, lit, of_opd}
+use Rattle.handles.proofs.Walks.{no_more, and_then, first, blocks, exec, Calls-last, returns, enter, alloc_all}
+use Rattle.handles.proofs.Walks.{pass_all, free_all, look_at, get, through, sets, lands_last, env, agg, sub, whole}
+use Rattle.handles.proofs.Walks.{look_in, tables, fact, RattleType, owns, types_at, plain, Ptr, block_ptr, block_of}
+use Rattle.handles.proofs.Walks.{offset_of, at_block, nothing_more, peeks, heard, Is, shows, cell_at, param, layouts}
+use Rattle.handles.proofs.Walks.{param_laws, Stays, walk_of, after, proved, leaves, fm, found, finds, HeldRow, one_word}
+use Rattle.handles.proofs.Walks.{words_are, HandleRow, HandleWords, known, shows_permit, asks_new, handle_at, is_handle}
 use base.Fml.{GName, Incl-refl}
 use denote.Ref.{mut_vals, mut_Tells}
 use denote.Steps.{opens, closes}
@@ -25,7 +23,7 @@ use Rattle.handles.specs.Inside.Blocks.{counted_handle, owned_as, handle_owns}
 use Rattle.counting_word.specs.WordSteps as step
 use Rattle.handles.proofs.Steps.Shared.{block_at, and_logged}
 use Rattle.handles.proofs.Steps.Claims.{claims, after_claim}
-use Rattle.handles.proofs.Fields.{permit_shown, sole_shown}
+use Rattle.handles.proofs.Fields.{sole_shown}
 use Rattle.handles.proofs.LoggedSteps.{returns_logged, word_and_logged, word_and_logged-Good}
 use Rattle.handles.proofs.Owners.{forgets, handle_settles}
 use Rattle.handles.specs.contracts.block.handle.Handle as handle_type
@@ -42,11 +40,7 @@ read_for_unique_spec 𝓤 𝓛 𝓜 𝓡 wired T L =
     let Self : RattleType = HandleRow R in let D : RattleType = HandleWords R in let row = plain (λ _. Self) in
     let hs : Stays En.signature.params En.kept = (stay_ref (0 ∷ []) tt row, tt) in
     proved 𝓛 En hs c 𝓜 𝓡 (Goes-ref 𝓛 2 0 tt row, tt) (#self inst)
-    fn (code.unfolded 𝓤 H 𝓜 𝓡 wired (T, tt)) (λ κs. (mut_vals, tt)) (λ κs. (
-      mut_Tells (named 0)
-          κs.0 Self,
-      tt,
-    )) (λ κs qs bounds a gh are.
+    fn (code.unfolded 𝓤 H 𝓜 𝓡 wired (T, tt)) (λ κs. (mut_vals, tt)) (λ κs. (mut_Tells (named 0) κs.0 Self, tt)) (λ κs qs bounds a gh are.
     let b : ℕ = a.0.ref_ptr.0 in let o : ℕ = a.0.ref_ptr.1 in let κ : Lft = κs.0 in let q : Share = qs.0 in
     let μ : Lft = κs.1.0 in let r : Share = qs.1.0 in let me : Self.Denot = a.0.now in let p : Ptr = me.block in
     let x : (HeldRow R).Denot = me.held in let η : ℕ = me.id in let γ : GName = a.0.ghost_name in
@@ -74,34 +68,23 @@ read_for_unique_spec 𝓤 𝓛 𝓜 𝓡 wired T L =
     use2 𝓛 (later (‵ (counted_handle R p x η) ⊛ ‵ (flft μ r))) (handle_settles R (param_laws 0 T L)
     𝓛 p x η μ lives μ r
     (Incl-refl μ)) $ await ! tt $ split ! $ fpick ! (λ i. fsplit3 ! $
-    let I : Fml = block_rule R p x η i in
     let aft : ℕ → Fml = and_logged (block_at R p x η i) [] step.claims (after_claim (block_at R p x η i)) in
     sets ! (of_opd ! (load ! (through ! refl (fld ! refl (stop !))) (look_in ! 4 (sub ! 0 refl (whole !)))))
     refl (tt, tt) $
-    first ! $ blocks ! $ sets ! (addr ! (through ! refl (fld ! refl (stop !)))) refl (tt, tt) $ move ! (1 ∷ []) $
-    use1 𝓛 (‵ (finv I) ⊛ ‵ (finv I)) (𝓛.invs.inv_dup I) $ split ! $ move ! (0 ∷ 2 ∷ []) $
-    move ! (1 ∷ []) $
-    nothing_more ! $ move ! (0 ∷ 1 ∷ []) $ fjoin ! $ move ! (1 ∷ 0 ∷ []) $
-    use2 𝓛 (raw (𝓣.C _ (vptr pb (po + 0) ∷ seq_cst ∷ []) (λ u. mean 𝓛 (found aft u))))
-    (via 𝓤 _ (claims 𝓛 (block_at R p x η i))
-    (loads 𝓛 𝓜 𝓡 (code.calls-core::raw_atomic::load 𝓡.env wired)
-    (block_ptr pb (po + 0)) aft)) $
+    first ! $ blocks ! $ sets ! (addr ! (through ! refl (fld ! refl (stop !)))) refl (tt, tt) $
+    asks_new ! (via 𝓤 _ (claims 𝓛 (block_at R p x η i))
+    (loads 𝓛 𝓜 𝓡 (code.calls-core::raw_atomic::load 𝓡.env wired) (block_ptr pb (po + 0)) aft)) $
     sets ! (agg ! (and_then ! (lit ! tt) (no_more !))) refl (tt, (record { fits = lit< tt }, tt)) $
     Calls-last ! (fm 𝓛 𝓜 𝓡) (found aft) (and_then ! (get ! refl) (and_then ! (get ! refl) (no_more !)))
-    (λ u. finds ! aft (λ n fits.
-    let reported : Self.Denot = record { block = p; held = x; sole = is_one_handle n; id = η } in
+    (λ u. finds ! aft (λ n fits. let reported : Self.Denot = handle_at R p x (is_one_handle n) η in
     lands_last ! refl (tt, record { fits = fits }) $ exec ! 𝓣.C 𝓣.Λ Ev (after 2 fn.body) (at_ret Ev Post) $
     sets ! (of_opd ! (get ! refl)) refl (tt, record { fits = fits }) $
-    use3 𝓛 (later (exists (λ (log : List WordStep).
-    given (Adds x.limit.count [] step.claims n log) (‵ (permit_owns R p x η (right_by_claim n) log)))))
-    (permit_shown 𝓛 R p x η inb i [] step.claims n (right_by_claim n)) $ await ! tt $
-    pick ! (λ log. learn ! (λ adds.
+    shows_permit R p x η ! tt inb i (right_by_claim n) [] step.claims n (λ log adds.
     fsplit ! $ move ! (1 ∷ []) $ use1 𝓛 (‵ (handle_owns R p x η (is_one_handle n)))
     (sole_shown 𝓛 R p x η (is_one_handle n)) $
-    -- [what is granted; that the log was reached; the token of T; the cell; the open borrow; its two names; its place]
+    -- [what is permitted; that the log was reached; the token of T; the cell; the open borrow; its two names; its place]
     rewrite ! 3 (λ (z : Ptr). ‵ (cell_at full_share Self.mir (one_word z ∷ []) b o)) (sym at) refl $
-    use0 𝓛 (‵ (D.own_val (p, tt) (one_word p ∷ []))) (words_made (handle_type.the_type R).name (R ∷ [])
-    𝓛 p) $ fjoin ! $
+    is_handle R p x η ! (is_one_handle n) $
     move ! (3 ∷ 0 ∷ 4 ∷ 5 ∷ 6 ∷ []) $ closes ! tt Self reported (one_word p ∷ []) b o $
     -- [its name; its borrow; its token; that the log was reached; the token of T; its place; nothing; nothing]
     move ! (5 ∷ 0 ∷ 1 ∷ []) $ fjoin3 ! $ move ! (3 ∷ 4 ∷ []) $ join ! $ move ! (2 ∷ 0 ∷ []) $ join ! $
@@ -114,4 +97,4 @@ read_for_unique_spec 𝓤 𝓛 𝓜 𝓡 wired T L =
     -- [the facts; the result; the tokens; the reference; nothing]
     nothing_more ! $ move ! (4 ∷ 0 ∷ []) $ fjoin ! $
     returns ! (look_at ! 0 refl) $ free_all ! refl $ keep ! (3 ∷ 0 ∷ 2 ∷ 1 ∷ []) $
-    by ! (leaves 𝓛 En hs c y (word_and_logged n) (n, record { id = η; log = log }) (reported, tt) (tt, tt)))))))))))))
+    by ! (leaves 𝓛 En hs c y (word_and_logged n) (n, record { id = η; log = log }) (reported, tt) (tt, tt))))))))))))

@@ -1,14 +1,11 @@
 -- `stamp` is one load of the stamp.
-use Rattle.handles.proofs.Walks.{◌≡◌, ℕ, ◌+◌, false, [], ◌∷◌, refl, lit<, w64, a_type, named, Val, vint, vptr, inst_fn}
-use Rattle.handles.proofs.Walks.{SProp, via, Lft, Share, Fml, ftrue, fsep, flft, ‵, raw, ◌⊛◌, mean, at_ret, ◌$◌, ◌∵◌, ! }
-use Rattle.handles.proofs.Walks.{qed, by, move, keep, split, join, fsplit, fjoin, use2, stop, fld, load, addr, lit}
-use Rattle.handles.proofs.Walks.{of_opd, no_more, and_then, first, blocks, exec, Calls-last, returns, enter, alloc_all}
-use Rattle.handles.proofs.Walks.{pass_all, free_all, look_at, get, through, sets, lands_last, env, agg, sub, whole}
-use Rattle.handles.proofs.Walks.{look_in, tables, fact, yes, RattleType, owns, types_at, plain, Ptr, block_ptr}
-use Rattle.handles.proofs.Walks.{block_of, offset_of, nothing_more, heard, shuts, param, layouts, RefOf, shr_vals}
-use Rattle.handles.proofs.Walks.{shr_Tells, Stays, stay_dropped, walk_of, Goes-dropped, after, proved, leaves, fm}
-use Rattle.handles.proofs.Walks.{seq_cst, found, finds, HeldRow, one_word, HandleRow, HandleWords, is_number}
-use Rattle.handles.proofs.Walks.{opens_handle, closes_borrow}
+use Rattle.handles.proofs.Walks.{◌≡◌, ℕ, ◌+◌, false, [], ◌∷◌, refl, lit<, w64, a_type, vint, vptr, inst_fn, via, Fml}
+use Rattle.handles.proofs.Walks.{at_ret, ◌$◌, !, by, move, keep, stop, fld, load, addr, lit, of_opd, no_more, and_then}
+use Rattle.handles.proofs.Walks.{first, blocks, exec, Calls-last, returns, enter, alloc_all, pass_all, free_all}
+use Rattle.handles.proofs.Walks.{look_at, get, through, sets, lands_last, env, agg, sub, whole, look_in, tables, fact}
+use Rattle.handles.proofs.Walks.{RattleType, Ptr, block_ptr, block_of, offset_of, shuts, param, layouts, after, fm}
+use Rattle.handles.proofs.Walks.{found, finds, HeldRow, one_word, HandleRow, HandleWords, is_number, opens_handle}
+use Rattle.handles.proofs.Walks.{closes_borrow, by_ref, asks_with, emp, id⊢}
 use Rattle.atomic_table.proofs.Calls.{loads}
 use Rattle.handles.specs.Inside.Blocks.{stamp_offset, lent_share}
 use Rattle.handles.proofs.Steps.Shared.{block_at}
@@ -18,7 +15,6 @@ use Rattle.handles.specs.contracts.block.handle.Handle.stamp.Key.{name as #self}
 use Rattle.handles.proofs.block.handle.Handle.stamp.Statement.{statement}
 use Rattle.handles.proofs.block.handle.Handle.stamp.Code as code
 use base.Logic.{snd∗}
-use Rattle.handles.proofs.Walks.{by_ref, asks_with, emp, id⊢}
 
 pub stamp_spec : {M : Type 1} → statement M
 stamp_spec 𝓤 𝓛 𝓜 𝓡 wired T L =

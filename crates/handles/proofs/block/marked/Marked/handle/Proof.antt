@@ -1,12 +1,10 @@
 -- `handle` makes one more handle of a block that is marked, with no step on its word.
-use Rattle.handles.proofs.Walks.{◌≡◌, ℕ, false, [], ◌∷◌, refl, a_type, named, Val, vptr, inst_fn, SProp, id⊢, Lft}
-use Rattle.handles.proofs.Walks.{Share, Fml, ftrue, fsep, flft, fhide, full_share, finv, later, await, pick, block_rule}
-use Rattle.handles.proofs.Walks.{‵, raw, ◌⊛◌, ◌$◌, ◌∵◌, !, qed, by, move, keep, drop, split, join, fsplit, fjoin, fpick}
-use Rattle.handles.proofs.Walks.{use0, use1, use2, stop, addr, of_opd, no_more, and_then, returns, enter, alloc_all}
-use Rattle.handles.proofs.Walks.{pass_all, free_all, look_at, get, through, sets, agg, tables, yes, RattleType, owns}
-use Rattle.handles.proofs.Walks.{types_at, plain, Ptr, block_ptr, nothing_more, param, layouts, RefOf, shr_vals}
-use Rattle.handles.proofs.Walks.{shr_Tells, Stays, stay_dropped, walk_of, Goes-dropped, proved, leaves, HeldRow}
-use Rattle.handles.proofs.Walks.{one_word, words_made, HandleWords, known, shows_permit}
+use Rattle.handles.proofs.Walks.{ℕ, false, [], ◌∷◌, refl, a_type, vptr, inst_fn, id⊢, Lft, Fml, flft, fhide, full_share}
+use Rattle.handles.proofs.Walks.{finv, later, await, pick, block_rule, ‵, ◌⊛◌, ◌$◌, !, by, move, keep, drop, split}
+use Rattle.handles.proofs.Walks.{fsplit, fjoin, fpick, use0, use1, use2, stop, addr, of_opd, no_more, and_then, returns}
+use Rattle.handles.proofs.Walks.{enter, alloc_all, pass_all, free_all, look_at, get, through, sets, agg, tables}
+use Rattle.handles.proofs.Walks.{RattleType, Ptr, block_ptr, param, layouts, HeldRow, one_word, shows_permit, by_ref}
+use Rattle.handles.proofs.Walks.{handle_at, is_handle, so, also}
 use types.Tokens.{shr_bor-open}
 use types.Kit.{some as exists}
 use denote.Opens.{unhide}
@@ -17,14 +15,12 @@ use Rattle.counting_word.specs.WordSteps as step
 use Rattle.handles.proofs.BorrowedHandle.{lent_halves}
 use Rattle.handles.proofs.Steps.Shared.{SharedBlock, block_at}
 use Rattle.handles.proofs.Steps.Born.{Born, born}
-use Rattle.handles.specs.contracts.block.handle.Handle as handle_type
 use Rattle.handles.specs.contracts.block.marked.Marked as marked_type
 use Rattle.handles.specs.contracts.block.marked.Marked.handle.{ended, clauses}
 use Rattle.handles.specs.contracts.block.marked.Marked.handle.Key.{name as #self}
 use Rattle.handles.proofs.block.marked.Marked.handle.Statement.{statement}
 use Rattle.handles.proofs.block.marked.Marked.handle.Code as code
 use contract.Monad.{fact_i}
-use Rattle.handles.proofs.Walks.{by_ref, handle_at, is_handle, so, also}
 
 pub handle_spec : {M : Type 1} → statement M
 handle_spec 𝓤 𝓛 𝓜 𝓡 wired T L =

@@ -1,11 +1,9 @@
 -- `held` shows what every handle of the block sees.
-use Rattle.handles.proofs.Walks.{◌≡◌, ℕ, ◌+◌, List, [], ◌∷◌, refl, a_type, named, Val, vptr, inst_fn, SProp, id⊢, Lft}
-use Rattle.handles.proofs.Walks.{Share, Fml, ftrue, fsep, flft, fhide, ‵, raw, ◌⊛◌, at_ret, ◌$◌, ◌∵◌, !, qed, by, move}
-use Rattle.handles.proofs.Walks.{keep, drop, split, join, fsplit, fjoin, use1, feq_i, stop, fld, addr, of_opd, first}
+use Rattle.handles.proofs.Walks.{ℕ, ◌+◌, List, [], ◌∷◌, refl, a_type, Val, vptr, inst_fn, id⊢, Lft, fhide, ‵, at_ret}
+use Rattle.handles.proofs.Walks.{◌$◌, !, by, keep, drop, fsplit, fjoin, use1, feq_i, stop, fld, addr, of_opd, first}
 use Rattle.handles.proofs.Walks.{blocks, exec, returns, enter, alloc_all, pass_all, free_all, look_at, get, through}
-use Rattle.handles.proofs.Walks.{sets, sets_last, env, tables, yes, RattleType, owns, types_at, plain, Ptr, block_ptr}
-use Rattle.handles.proofs.Walks.{nothing_more, param, layouts, param_laws, RefOf, shr_vals, shr_Tells, Stays}
-use Rattle.handles.proofs.Walks.{stay_dropped, walk_of, Goes-dropped, after, proved, leaves, HeldRow, known}
+use Rattle.handles.proofs.Walks.{sets, sets_last, env, tables, RattleType, Ptr, block_ptr, param, layouts, param_laws}
+use Rattle.handles.proofs.Walks.{after, HeldRow, by_ref, so}
 use denote.Opens.{unhide, hide}
 use Rattle.handles.specs.Inside.Blocks.{held_offset, shown}
 use Rattle.handles.specs.Inside.Marked.{marked_shares}
@@ -16,7 +14,6 @@ use Rattle.handles.specs.contracts.block.marked.Marked.held.Key.{name as #self}
 use Rattle.handles.proofs.block.marked.Marked.held.Statement.{statement}
 use Rattle.handles.proofs.block.marked.Marked.held.Code as code
 use contract.Monad.{fact_i}
-use Rattle.handles.proofs.Walks.{by_ref, so}
 
 pub held_spec : {M : Type 1} → statement M
 held_spec 𝓤 𝓛 𝓜 𝓡 wired T L =

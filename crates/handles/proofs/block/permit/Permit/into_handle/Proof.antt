@@ -1,22 +1,16 @@
 -- `into_handle` makes the handle that was granted.
-use Rattle.handles.proofs.Walks.{drop, ◌≡◌, ℕ, false, [], ◌∷◌, refl, a_type, Val, inst_fn, SProp, Lft, Share, ftrue}
-use Rattle.handles.proofs.Walks.{flft, ‵, raw, ◌⊛◌, ◌$◌, ◌∵◌, !, qed, by, move, keep, split, join, fsplit, fjoin, use0}
+use Rattle.handles.proofs.Walks.{drop, ◌≡◌, ℕ, false, [], ◌∷◌, refl, a_type, inst_fn, ‵, ◌$◌, !, by, keep, fsplit}
 use Rattle.handles.proofs.Walks.{rewrite, stop, fld, of_opd, no_more, and_then, returns, enter, alloc_all, pass_all}
-use Rattle.handles.proofs.Walks.{free_all, look_at, get, get_in, sets, agg, sub, whole, tables, fact, no, RattleType}
-use Rattle.handles.proofs.Walks.{owns, types_at, plain, Ptr, block_of, offset_of, nothing_more, heard, param, layouts}
-use Rattle.handles.proofs.Walks.{Stays, stay_dropped, walk_of, Goes-dropped, proved, leaves, Right, HeldRow}
-use Rattle.handles.proofs.Walks.{permit_owns, one_word, one_word-Good, words_are, words_made, PermitRow, HandleWords}
-use Rattle.handles.proofs.Walks.{known}
+use Rattle.handles.proofs.Walks.{free_all, look_at, get, get_in, sets, agg, sub, whole, tables, fact, RattleType, Ptr}
+use Rattle.handles.proofs.Walks.{param, layouts, Right, HeldRow, permit_owns, one_word, one_word-Good, by_value}
+use Rattle.handles.proofs.Walks.{permit_worded, handle_at, is_handle, so, also}
 use Rattle.counting_word.specs.Rights.{a_handle}
-use Rattle.handles.specs.contracts.block.handle.Handle as handle_type
-use Rattle.handles.specs.contracts.block.permit.Permit as permit_type
 use Rattle.std_alloc.proofs.RcSteps.{Ptr-Good}
 use Rattle.handles.specs.contracts.block.permit.Permit.into_handle.{ended, clauses}
 use Rattle.handles.specs.contracts.block.permit.Permit.into_handle.Key.{name as #self}
 use Rattle.handles.proofs.block.permit.Permit.into_handle.Statement.{statement}
 use Rattle.handles.proofs.block.permit.Permit.into_handle.Code as code
 use base.Logic.{snd∗}
-use Rattle.handles.proofs.Walks.{by_value, permit_worded, handle_at, is_handle, so, also}
 
 pub into_handle_spec : {M : Type 1} → statement M
 into_handle_spec 𝓤 𝓛 𝓜 𝓡 wired T L =

@@ -1,21 +1,16 @@
 -- `into_logged` keeps of a gain that its step is in the log.
-use Rattle.handles.proofs.Walks.{◌≡◌, ℕ, List, [], ◌∷◌, refl, a_type, Val, inst_fn, SProp, Lft, Share, ftrue, flft, ‵}
-use Rattle.handles.proofs.Walks.{raw, ◌⊛◌, ◌$◌, ◌∵◌, !, qed, by, move, keep, drop, split, join, fsplit, fjoin, use0}
-use Rattle.handles.proofs.Walks.{no_more, returns, enter, alloc_all, pass_all, free_all, look_at, sets, agg, tables}
-use Rattle.handles.proofs.Walks.{fact, no, RattleType, owns, types_at, plain, Ptr, nothing_more, param, layouts, Stays}
-use Rattle.handles.proofs.Walks.{stay_dropped, walk_of, Goes-dropped, proved, leaves, one_word, one_word-Good}
-use Rattle.handles.proofs.Walks.{words_are, PermitRow, known}
+use Rattle.handles.proofs.Walks.{ℕ, List, [], ◌∷◌, refl, a_type, inst_fn, ‵, ◌$◌, !, by, move, keep, drop, fsplit}
+use Rattle.handles.proofs.Walks.{fjoin, use0, no_more, returns, enter, alloc_all, pass_all, free_all, look_at, sets}
+use Rattle.handles.proofs.Walks.{agg, tables, RattleType, Ptr, param, layouts, one_word, one_word-Good, by_value}
+use Rattle.handles.proofs.Walks.{permit_worded, so, also}
 use mir.Val.{vstruct, vnil}
-use Rattle.counting_word.specs.Rights.{nothing}
 use Rattle.counting_word.specs.WordSteps.{WordStep}
 use Rattle.handles.proofs.LoggedSteps.{NoBytes, no_bytes-made}
-use Rattle.handles.specs.contracts.block.permit.Permit as permit_type
 use Rattle.handles.specs.contracts.block.permit.Permit.into_logged.{ended, clauses}
 use Rattle.handles.specs.contracts.block.permit.Permit.into_logged.Key.{name as #self}
 use Rattle.handles.proofs.block.permit.Permit.into_logged.Statement.{statement}
 use Rattle.handles.proofs.block.permit.Permit.into_logged.Code as code
 use contract.Monad.{fact_i}
-use Rattle.handles.proofs.Walks.{by_value, permit_worded, so, also}
 
 pub into_logged_spec : {M : Type 1} → statement M
 into_logged_spec 𝓤 𝓛 𝓜 𝓡 wired T L =

@@ -1,14 +1,12 @@
 -- `into_loose` takes a block that nobody shares, with the allocator that it was requested from.
-use Rattle.handles.proofs.Walks.{◌≡◌, ℕ, ◌+◌, [], ◌∷◌, refl, ap, a_type, Val, vptr, inst_fn, full_share, SProp, fat}
-use Rattle.handles.proofs.Walks.{Lft, Share, ftrue, flft, ‵, raw, ◌⊛◌, some, given, at_ret, ◌$◌, ◌∵◌, !, qed, by, move}
-use Rattle.handles.proofs.Walks.{keep, drop, split, join, fsplit, fsplit3, fjoin, fjoin3, fpick, pick, learn, use1}
-use Rattle.handles.proofs.Walks.{use2, rewrite, stop, fld, load, of_opd, no_more, and_then, first, blocks, exec}
-use Rattle.handles.proofs.Walks.{returns, enter, alloc_all, pass_all, free_all, look_at, get, get_in, through, sets}
-use Rattle.handles.proofs.Walks.{sets_last, is, env, agg, sub, whole, tables, fact, no, RattleType, owns, types_at}
-use Rattle.handles.proofs.Walks.{plain, Ptr, block_ptr, ptr_val, block_of, offset_of, at_block, nothing_more, heard}
-use Rattle.handles.proofs.Walks.{param, layout, layouts, Stays, stay_dropped, walk_of, Goes-dropped, after, proved}
-use Rattle.handles.proofs.Walks.{leaves, Right, HeldRow, permit_owns, one_word, one_word-Good, words_are, PermitRow}
-use Rattle.handles.proofs.Walks.{known}
+use Rattle.handles.proofs.Walks.{◌≡◌, ℕ, ◌+◌, [], ◌∷◌, refl, ap, a_type, Val, vptr, inst_fn, full_share, fat, ‵, ◌⊛◌}
+use Rattle.handles.proofs.Walks.{some, given, at_ret, ◌$◌, !, by, move, keep, drop, split, fsplit, fsplit3, fjoin3}
+use Rattle.handles.proofs.Walks.{fpick, pick, learn, use1, use2, rewrite, stop, fld, load, of_opd, no_more, and_then}
+use Rattle.handles.proofs.Walks.{first, blocks, exec, returns, enter, alloc_all, pass_all, free_all, look_at, get}
+use Rattle.handles.proofs.Walks.{get_in, through, sets, sets_last, is, env, agg, sub, whole, tables, fact, RattleType}
+use Rattle.handles.proofs.Walks.{Ptr, block_ptr, ptr_val, block_of, offset_of, at_block, param, layout, layouts, after}
+use Rattle.handles.proofs.Walks.{Right, HeldRow, permit_owns, one_word, one_word-Good, by_value, permit_worded, so}
+use Rattle.handles.proofs.Walks.{also}
 use Rattle.handles.proofs.RawBoxes.{heap_row, pair_val, raw_box-Good, raw_box_shuts}
 use Rattle.handles.specs.contracts.block.Block as block_type
 use types.Run.{look}
@@ -20,13 +18,11 @@ use types.Kit.{group}
 use denote.Memory.{part_at}
 use Rattle.handles.proofs.Boxes.{Boxed, box_shuts, heap_twice}
 use Rattle.handles.proofs.Fields.{whole_block_of}
-use Rattle.handles.specs.contracts.block.permit.Permit as permit_type
 use Rattle.handles.specs.contracts.block.permit.Permit.into_raw_box.{ended, clauses}
 use Rattle.handles.specs.contracts.block.permit.Permit.into_raw_box.Key.{name as #self}
 use Rattle.handles.proofs.block.permit.Permit.into_raw_box.Statement.{statement}
 use Rattle.handles.proofs.block.permit.Permit.into_raw_box.Code as code
 use base.Logic.{snd∗}
-use Rattle.handles.proofs.Walks.{by_value, permit_worded, so, also}
 
 pub into_raw_box_spec : {M : Type 1} → statement M
 into_raw_box_spec 𝓤 𝓛 𝓜 𝓡 wired T L =

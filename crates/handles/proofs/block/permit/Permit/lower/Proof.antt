@@ -3,30 +3,25 @@ use types.Kit.{some as exists, given, pick, learn}
 use Rattle.std.proofs.Common.{List}
 use Rattle.counting_word.specs.WordSteps.{WordStep}
 use Rattle.counting_word.specs.Tallies.{Adds}
-use Rattle.handles.proofs.Walks.{◌≡◌, ℕ, ◌+◌, [], ◌∷◌, refl, sym, ap, lit<, w64, a_type, Val, vint, vptr, inst_fn}
-use Rattle.handles.proofs.Walks.{SProp, via, Lft, Share, Fml, ftrue, flft, finv, ‵, raw, ◌⊛◌, later, mean, at_ret, ◌$◌}
-use Rattle.handles.proofs.Walks.{◌∵◌, !, qed, by, move, keep, drop, split, join, fsplit, fjoin, fpick, use1, use2}
-use Rattle.handles.proofs.Walks.{await, rewrite, stop, fld, addr, lit, of_opd, no_more, and_then, first, blocks, exec}
-use Rattle.handles.proofs.Walks.{Calls-last, returns, enter, alloc_all, pass_all, free_all, look_at, get, get_in}
-use Rattle.handles.proofs.Walks.{through, sets, lands_last, is, env, agg, sub, whole, tables, fact, no, RattleType}
-use Rattle.handles.proofs.Walks.{owns, types_at, plain, Ptr, block_ptr, ptr_val, block_of, offset_of, at_block}
-use Rattle.handles.proofs.Walks.{nothing_more, heard, param, layouts, Stays, stay_dropped, walk_of, Goes-dropped, after}
-use Rattle.handles.proofs.Walks.{proved, leaves, fm, seq_cst, found, finds, Right, HeldRow, block_rule, permit_owns}
-use Rattle.handles.proofs.Walks.{one_word, word_and_permit, one_word-Good, words_are, PermitRow, known, returns_permit}
-use Rattle.handles.proofs.Walks.{word_and_permit-Good}
+use Rattle.handles.proofs.Walks.{◌≡◌, ℕ, ◌+◌, [], ◌∷◌, refl, sym, ap, lit<, a_type, inst_fn, via, Fml, ‵, later, at_ret}
+use Rattle.handles.proofs.Walks.{◌$◌, !, by, move, keep, drop, fsplit, fjoin, fpick, use2, await, rewrite, stop, fld}
+use Rattle.handles.proofs.Walks.{addr, lit, of_opd, no_more, and_then, first, blocks, exec, Calls-last, returns, enter}
+use Rattle.handles.proofs.Walks.{alloc_all, pass_all, free_all, look_at, get, get_in, through, sets, lands_last, is}
+use Rattle.handles.proofs.Walks.{env, agg, sub, whole, tables, fact, RattleType, Ptr, block_ptr, ptr_val, block_of}
+use Rattle.handles.proofs.Walks.{offset_of, at_block, param, layouts, after, fm, found, finds, Right, HeldRow}
+use Rattle.handles.proofs.Walks.{permit_owns, one_word, word_and_permit, one_word-Good, returns_permit}
+use Rattle.handles.proofs.Walks.{word_and_permit-Good, by_value, permit_worded, permit_at, so, also, asks_with}
 use Rattle.atomic_table.proofs.Calls.{subs}
 use Rattle.counting_word.specs.Rights.{to_lower, right_by_lower}
 use Rattle.counting_word.specs.WordSteps as step
 use Rattle.handles.proofs.Steps.Shared.{block_at, and_logged}
 use Rattle.handles.proofs.Steps.Lowers.{lowers, after_lower}
 use Rattle.handles.proofs.Fields.{lower-NoHandle, permit_kept}
-use Rattle.handles.specs.contracts.block.permit.Permit as permit_type
 use Rattle.handles.specs.contracts.block.permit.Permit.lower.{ended, clauses}
 use Rattle.handles.specs.contracts.block.permit.Permit.lower.Key.{name as #self}
 use Rattle.handles.proofs.block.permit.Permit.lower.Statement.{statement}
 use Rattle.handles.proofs.block.permit.Permit.lower.Code as code
 use base.Logic.{snd∗}
-use Rattle.handles.proofs.Walks.{by_value, permit_worded, permit_at, so, also, asks_with}
 
 pub lower_spec : {M : Type 1} → statement M
 lower_spec 𝓤 𝓛 𝓜 𝓡 wired T L =

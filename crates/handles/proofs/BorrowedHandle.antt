@@ -44,12 +44,9 @@ module _ {M : Type 1} {𝓤 : Ura M} (𝓛 : Logic 𝓤) (i : Names) where
         (pass_halves 𝓛 i.handles i.own q) $ split ! $ move ! (2 ∷ 0 ∷ []) $ fjoin ! $ frame ! $
         move ! (1 ∷ 0 ∷ []) $ fjoin ! $ done !;
     join = λ q. qed 𝓛 (‵ (lent_share i (Share.left q)) ∷ ‵ (lent_share i (Share.right q)) ∷ [])
-        ∵ fsplit ! $
-        move ! (2 ∷ []) $ fsplit ! $ move ! (2 ∷ 0 ∷ []) $
+        ∵ fsplit ! $ move ! (2 ∷ []) $ fsplit ! $ move ! (2 ∷ 0 ∷ []) $
         use2 𝓛 (‵ (flft (i.shared ∷ []) q)) (𝓛.lfts.lft_join (i.shared ∷ []) q) $ move ! (2 ∷ 1 ∷ []) $
-        use2 𝓛 (‵ (pass i.handles i.own q)) (pass_joins 𝓛 i.handles i.own q) $ move ! (1 ∷ 0 ∷ []) $
-        fjoin ! $
-        done !;
+        use2 𝓛 (‵ (pass i.handles i.own q)) (pass_joins 𝓛 i.handles i.own q) $ move ! (1 ∷ 0 ∷ []) $ fjoin ! $ done !;
   }
 
 -- the pointer of a handle, as its block and its offset
@@ -66,8 +63,7 @@ module _ (R : RattleType) (p : Ptr)
       ∷ Shut 𝓛 κ q (part_at (HandleWords R) r (p, tt) b o) ∷ Γ) G)
       → Seq K 𝓛 (‵ (hidden_shr (HandleWords R) κ (p, tt) b o) ∷ ‵ (flft κ q) ∷ Γ) G
   opens_word t soaks inb b o k = let D : RattleType = HandleWords R in let ν = (handle_type.the_type R).name in
-      looks t soaks D (words_open ν (R ∷ []) 𝓛) (p, tt) b o (λ r vs. move t (3 ∷ []) $ drop t $
-      move t (1 ∷ []) $
+      looks t soaks D (words_open ν (R ∷ []) 𝓛) (p, tt) b o (λ r vs. move t (3 ∷ []) $ drop t $ move t (1 ∷ []) $
       peeks t D (Is D) (shows 𝓛 D) (p, tt) vs (λ is_so. let e : vs ≡ one_word (parted p)
       ∷ [] = words_are ν (R ∷ []) p vs is_so ∙ ap (λ (z : Ptr). one_word z ∷ []) (at_block p inb) in
       rewrite t 0 (λ (ws : List Val). ‵ (D.own_val (p, tt) ws)) e refl $
@@ -105,16 +101,14 @@ module _ (R : RattleType) (p : Ptr) (x : (HeldRow R).Denot)
       (part_at (HandleWords R) r (p, tt) b o)
       ∷ ‵ (fobor κ (Share.left q) (lent_share i e)) ∷ ‵ (lent_share i e) ∷ ‵ (finv (block_rule R p x η i))
       ∷ ‵ (shown R p x (i.shared ∷ [])) ∷ Γ) G)
-      → Seq K 𝓛 (‵ (hidden_shr (HandleRow R) κ (record { block = p; held = x; sole = sole; id = η }) b o)
-      ∷ ‵ (flft κ q)
+      → Seq K 𝓛 (‵ (hidden_shr (HandleRow R) κ (record { block = p; held = x; sole = sole; id = η }) b o) ∷ ‵ (flft κ q)
       ∷ Γ) G
   opens_handle t soaks {κ} {q} sole shared b o k = use1 𝓛 (‵ (hidden_shr (HandleWords R) κ (p, tt) b o)
       ⊛ ‵ (fhide (handle_shares R p x η sole κ))) (id⊢ 𝓤 _) $ split t $ move t (1 ∷ []) $ unhide t $
       rewrite t 0 (λ (z : Bool). ‵ (handle_shares R p x η z κ)) shared refl $ fsplit t $
       fpick t (λ inb. drop t $ fpick t (λ i. fsplit3 t $ drop t $ move t (1 ∷ []) $ fsplit t $ move t (2 ∷ []) $
       -- [what opens the share; the rule; the sharing; the word; the token]
-      move t (4 ∷ []) $ use1 𝓛 (‵ (flft κ (Share.left q)) ⊛ ‵ (flft κ (Share.right q)))
-      (𝓛.lfts.lft_split κ q) $
+      move t (4 ∷ []) $ use1 𝓛 (‵ (flft κ (Share.left q)) ⊛ ‵ (flft κ (Share.right q))) (𝓛.lfts.lft_split κ q) $
       split t $ move t (2 ∷ 0 ∷ []) $ shr_bor-open t soaks (lent_halves 𝓛 i) (λ e.
       -- [the open borrow; the share; half of the token; the rule; the sharing; the word]
       move t (5 ∷ 2 ∷ []) $ opens_word R p t soaks inb b o (λ r. k inb i e r))))
@@ -122,8 +116,7 @@ module _ (R : RattleType) (p : Ptr) (x : (HeldRow R).Denot)
   -- a permit that was made through a `&`
   pub shows_permit : K → Soaks G → InBlock p → (i : Names) (r : Right) (old : List WordStep) (what : WordStep)
       (n : ℕ)
-      → ((log : List WordStep) → Adds x.limit.count old what n log → Seq K 𝓛 (‵ (permit_owns R p x η r log)
-      ∷ Γ) G)
+      → ((log : List WordStep) → Adds x.limit.count old what n log → Seq K 𝓛 (‵ (permit_owns R p x η r log) ∷ Γ) G)
       → Seq K 𝓛 (‵ (fsep (logged x.limit.count η old what n) (grants (block_at R p x η i) r))
       ∷ ‵ (finv (block_rule R p x η i)) ∷ ‵ (shown R p x (i.shared ∷ [])) ∷ Γ) G
   shows_permit t soaks inb i r old what n k = use3 𝓛 (later

@@ -53,16 +53,9 @@ module _ (T : RattleType) (L : Laws T) {M : Type 1} {𝓤 : Ura M} (𝓛 : Logic
   block_out w s x h = qed 𝓛 (‵ (part_at Fields full_share (w, (s, (x, (h, tt)))) b o) ∷ []) ∵
       use1 𝓛 (‵ (parts_at full_share (members R) zero (w, (s, (x, (h, tt)))) b o)
       ⊛ ‵ (fleft full_share (block_type R) (raw_tys (members R)) b o))
-      (Struct-left 𝓛 full_share (block.the_type R).name (members R) (lawful_Lones 𝓛 (members R) (
-        u64-laws.lawful 𝓛,
-        (
-          u64-laws.lawful 𝓛,
-          (
-            (held_laws R (param_laws 0 T L)).lawful 𝓛,
-            (heap_laws.lawful 𝓛, tt),
-          ),
-        ),
-      )) (w, (s, (x, (h, tt)))) b o) $ split ! $ fsplit3 ! $
+      (Struct-left 𝓛 full_share (block.the_type R).name (members R) (lawful_Lones 𝓛 (members R)
+      (u64-laws.lawful 𝓛, (u64-laws.lawful 𝓛, ((held_laws R (param_laws 0 T L)).lawful 𝓛, (heap_laws.lawful 𝓛, tt))))
+      ) (w, (s, (x, (h, tt)))) b o) $ split ! $ fsplit3 ! $
       use1 𝓛 (‵ (word b (o + 0) w)) (word_out 𝓛 b (o + 0) w) $ move ! (1 ∷ []) $
       use1 𝓛 (‵ (word b (o + 8) s)) (word_out 𝓛 b (o + 8) s) $ move ! (2 ∷ []) $ fsplit3 ! $
       -- [what is held; the handle; nothing; the stamp; the word; what is left]
@@ -75,8 +68,7 @@ module _ (T : RattleType) (L : Laws T) {M : Type 1} {𝓤 : Ura M} (𝓛 : Logic
   block_in w s x h = qed 𝓛 (‵ (Apart w s x h) ∷ []) ∵ fsplit3 ! $ move ! (2 ∷ []) $ fsplit3 ! $
       -- [what is held; the handle; what is left; the word; the stamp]
       nothing_more ! $ move ! (2 ∷ 0 ∷ []) $ fjoin ! $ move ! (1 ∷ 0 ∷ []) $ fjoin ! $ move ! (3 ∷ []) $
-      use1 𝓛 (‵ (part_at (UInt w64) full_share s b (o + 8))) (word_in 𝓛 b (o + 8) s) $
-      move ! (0 ∷ 1 ∷ []) $ fjoin ! $
+      use1 𝓛 (‵ (part_at (UInt w64) full_share s b (o + 8))) (word_in 𝓛 b (o + 8) s) $ move ! (0 ∷ 1 ∷ []) $ fjoin ! $
       move ! (2 ∷ []) $ use1 𝓛 (‵ (part_at (UInt w64) full_share w b (o + 0))) (word_in 𝓛 b (o + 0) w) $
       move ! (0 ∷ 1 ∷ []) $ fjoin ! $
       by ! (left_Struct 𝓛 full_share (block.the_type R).name (members R) (w, (s, (x, (h, tt)))) b o)
@@ -105,8 +97,7 @@ module _ (T : RattleType) (L : Laws T) {M : Type 1} {𝓤 : Ura M} (𝓛 : Logic
       -- [the handle; the right to free; what is left; the word; the stamp; what is held]
       move ! (0 ∷ 2 ∷ []) $ fjoin ! $ move ! (3 ∷ 4 ∷ 0 ∷ []) $ fjoin3 ! $ move ! (2 ∷ 0 ∷ []) $
       fjoin ! $ use1 𝓛 (‵ (part_at BlockRow full_share (record { word = w; stamp = s; held = x; alloc = h })
-      b o)) (block_in w s x h) $
-      move ! (0 ∷ 1 ∷ []) $ fjoin ! $ done !
+      b o)) (block_in w s x h) $ move ! (0 ∷ 1 ∷ []) $ fjoin ! $ done !
 
 module _ {M : Type 1} {𝓤 : Ura M} (𝓛 : Logic 𝓤) where
   -- the heap's handle may be copied

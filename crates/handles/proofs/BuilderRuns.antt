@@ -26,9 +26,5 @@ module _ {S A : Type 0} (steps : S → Option A → S → Type 0) (source : S) (
   pub built_takes_all : {H E : Type 0} (header : H) (r : Result (HeaderAndItems H A) E)
       → IfOk r (IsBuiltUpTo steps source n after header) → IfOk r (TakesAll steps source)
   built_takes_all header r = IfOk-weaker r (IsBuiltUpTo steps source n after header) (TakesAll steps source)
-      (λ slice built. (
-        run steps source slice.items true (to_end steps source slice.items (after, built.1.0)),
-        refl,
-        refl,
-        refl,
-      ))
+      (λ slice built.
+      (run steps source slice.items true (to_end steps source slice.items (after, built.1.0)), refl, refl, refl))

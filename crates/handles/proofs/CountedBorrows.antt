@@ -41,22 +41,18 @@ module _ (content kept : Fml) (limit b o η : ℕ) (t : Lft → Fml) (L : ShrLaw
       comes_back : (i : Names) (e : Share) → ent 𝓤 (sep 𝓤 (sem 𝓛 (fex Bool (entitled i e)))
           (sep 𝓤 (sem 𝓛 (finv (Rule content kept limit b o η i))) (sep 𝓤 (sem 𝓛 (t (i.shared ∷ [])))
           (sem 𝓛 (left_over 𝓛 i.handles i.own (Share.right e))))))
-          (sem 𝓛 (fwand (fsep (fdead κ) (fseps (flft (i.shared ∷ []) (Share.left e)
-          ∷ lent_share i (Share.right e)
+          (sem 𝓛 (fwand (fsep (fdead κ) (fseps (flft (i.shared ∷ []) (Share.left e) ∷ lent_share i (Share.right e)
           ∷ []))) (fupd Owns)))
       unfolding fseps
       comes_back i e = let a : Lft = i.shared ∷ [] in
           let Rest : Fml = left_over 𝓛 i.handles i.own (Share.right e) in
-          qed 𝓛 (‵ (fex Bool (entitled i e)) ∷ ‵ (finv (Rule content kept limit b o η i)) ∷ ‵ (t a)
-          ∷ ‵ Rest ∷ []) ∵
+          qed 𝓛 (‵ (fex Bool (entitled i e)) ∷ ‵ (finv (Rule content kept limit b o η i)) ∷ ‵ (t a) ∷ ‵ Rest ∷ []) ∵
           assume ! (‵ (fsep (fdead κ) (fsep (flft a (Share.left e)) (fsep (lent_share i (Share.right e)) ftrue)))) $
-          suffices ! (sem 𝓛 Owns) (upd_i 𝓤 (sem 𝓛 Owns)) $
-          fsplit3 ! $ move ! (2 ∷ []) $ fsplit ! $ fsplit ! $
+          suffices ! (sem 𝓛 Owns) (upd_i 𝓤 (sem 𝓛 Owns)) $ fsplit3 ! $ move ! (2 ∷ []) $ fsplit ! $ fsplit ! $
           -- [half of the token's share; the pass's; nothing; that κ is over; the other half; the entitlement; the
           -- rule;
           -- the sharing; what was left]
-          move ! (4 ∷ 0 ∷ []) $ use2 𝓛 (‵ (flft a e)) (𝓛.lfts.lft_join a e) $ move ! (4 ∷ 0 ∷ []) $
-          fjoin ! $
+          move ! (4 ∷ 0 ∷ []) $ use2 𝓛 (‵ (flft a e)) (𝓛.lfts.lft_join a e) $ move ! (4 ∷ 0 ∷ []) $ fjoin ! $
           fpack ! Share (λ e. fsep (fex Bool (entitled i e)) (flft a e)) e $
           move ! (1 ∷ 6 ∷ []) $ use2 𝓛 (‵ (pass i.handles i.own full_share)) (pass_whole 𝓛 i.handles i.own
           (Share.right e)) $
@@ -71,52 +67,39 @@ module _ (content kept : Fml) (limit b o η : ℕ) (t : Lft → Fml) (L : ShrLaw
           fsplit ! $ fpick ! (λ e. fsplit ! $
           -- [the entitlement; the token's share; the pass; the rule; the sharing; the open borrow]
           move ! (2 ∷ []) $ use1 𝓛 (‵ (pass i.handles i.own (Share.right e))
-          ⊛ ‵ (left_over 𝓛 i.handles i.own (Share.right e))) (pass_cut 𝓛 i.handles i.own (Share.right e)) $
-          split ! $
-          move ! (3 ∷ []) $ use1 𝓛 (‵ (flft a (Share.left e)) ⊛ ‵ (flft a (Share.right e)))
-          (𝓛.lfts.lft_split a e) $
-          split ! $ move ! (1 ∷ 2 ∷ []) $ fjoin ! $
-          move ! (3 ∷ 0 ∷ 4 ∷ 5 ∷ 6 ∷ 2 ∷ 1 ∷ []) $
+          ⊛ ‵ (left_over 𝓛 i.handles i.own (Share.right e))) (pass_cut 𝓛 i.handles i.own (Share.right e)) $ split ! $
+          move ! (3 ∷ []) $ use1 𝓛 (‵ (flft a (Share.left e)) ⊛ ‵ (flft a (Share.right e))) (𝓛.lfts.lft_split a e) $
+          split ! $ move ! (1 ∷ 2 ∷ []) $ fjoin ! $ move ! (3 ∷ 0 ∷ 4 ∷ 5 ∷ 6 ∷ 2 ∷ 1 ∷ []) $
           -- [the entitlement; what is lent; the rule; the sharing; the open borrow; what is left of the pass; half of
           -- the token's share]
-          move ! (2 ∷ []) $ use1 𝓛 (‵ (finv I) ⊛ ‵ (finv I)) (𝓛.invs.inv_dup I) $ split ! $
-          move ! (4 ∷ []) $
-          use1 𝓛 (‵ (t a) ⊛ ‵ (t a)) (contraction 𝓛 t L a) $ split ! $
-          move ! (4 ∷ 2 ∷ 0 ∷ 7 ∷ []) $ group ! 4 $
-          use1 𝓛 (‵ (fwand (fsep (fdead κ) (fseps (flft a (Share.left e) ∷ lent_share i (Share.right e)
-          ∷ [])))
+          move ! (2 ∷ []) $ use1 𝓛 (‵ (finv I) ⊛ ‵ (finv I)) (𝓛.invs.inv_dup I) $ split ! $ move ! (4 ∷ []) $
+          use1 𝓛 (‵ (t a) ⊛ ‵ (t a)) (contraction 𝓛 t L a) $ split ! $ move ! (4 ∷ 2 ∷ 0 ∷ 7 ∷ []) $ group ! 4 $
+          use1 𝓛 (‵ (fwand (fsep (fdead κ) (fseps (flft a (Share.left e) ∷ lent_share i (Share.right e) ∷ [])))
           (fupd Owns))) (comes_back i e) $
           -- [the way back; the sharing; the rule; what is lent; the open borrow; half of the token's share]
-          nothing_more ! $ move ! (4 ∷ 0 ∷ []) $ fjoin ! $ move ! (5 ∷ 0 ∷ []) $ fjoin ! $
-          move ! (4 ∷ 0 ∷ 1 ∷ []) $
+          nothing_more ! $ move ! (4 ∷ 0 ∷ []) $ fjoin ! $ move ! (5 ∷ 0 ∷ []) $ fjoin ! $ move ! (4 ∷ 0 ∷ 1 ∷ []) $
           obor_alter ! tt (flft a (Share.left e) ∷ lent_share i (Share.right e) ∷ []) $
-          use1 𝓛 (‵ (fbor κ (flft a (Share.left e))) ⊛ ‵ (fbor κ (lent_share i (Share.right e)))
-          ⊛ ‵ ftrue) (id⊢ 𝓤 _) $
-          split3 ! $
-          bor_fracture ! tt (λ r. flft a r) (Share.left e) $ move ! (1 ∷ []) $
+          use1 𝓛 (‵ (fbor κ (flft a (Share.left e))) ⊛ ‵ (fbor κ (lent_share i (Share.right e))) ⊛ ‵ ftrue) (id⊢ 𝓤 _) $
+          split3 ! $ bor_fracture ! tt (λ r. flft a r) (Share.left e) $ move ! (1 ∷ []) $
           bor_fracture ! tt (lent_share i) (Share.right e) $
           -- [the way to a share; to the token; nothing; the token; the sharing; the rule]
-          move ! (5 ∷ 4 ∷ []) $ fjoin ! $ move ! (2 ∷ 1 ∷ 0 ∷ []) $ fjoin3 ! $
-          fpack ! Names (λ i. Shared i κ) i $
+          move ! (5 ∷ 4 ∷ []) $ fjoin ! $ move ! (2 ∷ 1 ∷ 0 ∷ []) $ fjoin3 ! $ fpack ! Names (λ i. Shared i κ) i $
           now ! $ keep ! (0 ∷ 2 ∷ []) $ done !))
 
     -- a `&` to a counted handle has a share of the token for as long as it lives
     pub Lends-counted : (l : Lft) → Lends 𝓛 (fex Names Held) (some Names Shared) l
     Lends-counted l κ ts inc sp = qed 𝓛 (‵ (fbor κ (Owns κ)) ∷ raw (lfts 𝓛 ts) ∷ []) ∵ updating ! $
-        move ! (1 ∷ []) $
-        use1 𝓛 (exists (λ (q : Share). ‵ (flft (span ts) q) ⊛ raw (wand 𝓤 (A.lft (span ts) q)
+        move ! (1 ∷ []) $ use1 𝓛 (exists (λ (q : Share). ‵ (flft (span ts) q) ⊛ raw (wand 𝓤 (A.lft (span ts) q)
         (lfts 𝓛 ts)))) (one_token 𝓛 ts) $ pick ! (λ q. split ! $
         use1 𝓛 (‵ (flft κ (thinned κ q)) ⊛ raw (wand 𝓤 (A.lft κ (thinned κ q)) (A.lft (span ts) q)))
         (𝓛.lfts.lft-incl (span ts) κ q sp) $ split ! $ move ! (3 ∷ 0 ∷ []) $
         use2 𝓛 (later (‵ (Lent κ) ⊛ ‵ (flft κ (thinned κ q)))) (by_token κ (thinned κ q)) $
         await ! tt $ split ! $ move ! (1 ∷ 2 ∷ []) $
         use2 𝓛 (‵ (flft (span ts) q)) (apply∗ 𝓤 (A.lft κ (thinned κ q)) (A.lft (span ts) q)) $
-        move ! (0 ∷ 2 ∷ []) $ use2 𝓛 (raw (lfts 𝓛 ts)) (apply∗ 𝓤 (A.lft (span ts) q)
-        (lfts 𝓛 ts)) $
+        move ! (0 ∷ 2 ∷ []) $ use2 𝓛 (raw (lfts 𝓛 ts)) (apply∗ 𝓤 (A.lft (span ts) q) (lfts 𝓛 ts)) $
         now ! $ move ! (1 ∷ 0 ∷ []) $ done !)
 
     -- what a `&` to a handle sees of the value
     pub sees : (κ : Lft) → ent 𝓤 (sem 𝓛 (some Names Shared κ)) (sem 𝓛 (t κ))
     sees κ = qed 𝓛 (‵ (some Names Shared κ) ∷ []) ∵ fpick ! (λ i. fsplit3 ! $ move ! (2 ∷ []) $ fsplit ! $
-        keep ! (2 ∷ 1 ∷ []) $ by ! (moves_from 𝓛 t L κ (i.shared ∷ []) (i.shared ∷ [])
-        (meet_⊑_left (i.shared ∷ []) κ)))
+        keep ! (2 ∷ 1 ∷ []) $ by ! (moves_from 𝓛 t L κ (i.shared ∷ []) (i.shared ∷ []) (meet_⊑_left (i.shared ∷ []) κ)))

@@ -41,27 +41,20 @@ module _ {M : Type 1} {𝓤 : Ura M} (𝓛 : Logic 𝓤) (R : RattleType) (p : P
     -- with anything held, that is the handle again
     held_back : (w : (HeldRow R).Denot) → ent 𝓤 (sep 𝓤
         (sem 𝓛 ((mem (HeldRow R)).own_at w (block_of p) (offset_of p + held_offset R)))
-        (sem 𝓛 (beside_held R p w.limit.count η b o))) (sem 𝓛 ((mem (HandleRow R)).own_at (record {
-          block = p;
-          held = w;
-          sole = false;
-          id = η;
-        }) b o))
+        (sem 𝓛 (beside_held R p w.limit.count η b o))) (sem 𝓛 ((mem (HandleRow R)).own_at
+        (record { block = p; held = w; sole = false; id = η }) b o))
     unfolding part_of
     held_back w = let at : Ptr = block_ptr (block_of p) (offset_of p) in
         qed 𝓛 (‵ (part_at (HeldRow R) full_share w (block_of p) (offset_of p + held_offset R))
-        ∷ ‵ (beside_held R p w.limit.count η b o) ∷ []) ∵ move ! (1 ∷ []) $ fsplit3 ! $ move ! (2 ∷ []) $
-        fsplit ! $
+        ∷ ‵ (beside_held R p w.limit.count η b o) ∷ []) ∵ move ! (1 ∷ []) $ fsplit3 ! $ move ! (2 ∷ []) $ fsplit ! $
         -- [the stamp; the cell; what frees; the word; the value]
         move ! (4 ∷ 2 ∷ []) $ fjoin ! $ move ! (3 ∷ 0 ∷ 1 ∷ []) $ fjoin3 ! $
         rewrite ! 0 (λ (z : Ptr). ‵ (unshared_block R z w η 1)) (sym (at_block p inb)) refl $
         rewrite ! 1 (λ (z : Ptr). ‵ (cell_at full_share (HandleRow R).mir (one_word z ∷ []) b o))
         (sym (at_block p inb)) refl $
         fpack ! Sharing (held_as R p w η) not_yet $ nothing_more ! $ fpack ! (InBlock p) (λ _. ftrue) inb $ fjoin ! $
-        use0 𝓛 (‵ ((HandleWords R).own_val (p, tt) (one_word p ∷ [])))
-        (words_made (handle_type.the_type R).name (R
-        ∷ []) 𝓛 p) $ fjoin ! $
-        move ! (1 ∷ 0 ∷ []) $ fjoin ! $
+        use0 𝓛 (‵ ((HandleWords R).own_val (p, tt) (one_word p ∷ []))) (words_made (handle_type.the_type R).name (R
+        ∷ []) 𝓛 p) $ fjoin ! $ move ! (1 ∷ 0 ∷ []) $ fjoin ! $
         fpack ! (List Val) (λ vs. fsep (cell_at full_share (HandleRow R).mir vs b o)
         ((HandleRow R).own_val (record { block = p; held = w; sole = false; id = η }) vs)) (one_word p ∷ []) $ done !
 
@@ -98,10 +91,8 @@ module _ (T : RattleType) where
     unfolding part_of
     held_out x b o = qed 𝓛 (‵ (part_at Fields full_share (x.limit, (x.value, tt)) b o) ∷ []) ∵
         use1 𝓛 (‵ (parts_at full_share parts zero (x.limit, (x.value, tt)) b o)
-        ⊛ ‵ (fleft full_share held_type (raw_tys parts) b o))
-        (Struct-left 𝓛 full_share (held.the_type R).name parts
-        (lawful_Lones 𝓛 parts (limit_laws.lawful 𝓛, ((param_laws 0 T L).lawful 𝓛, tt)))
-        (x.limit, (x.value, tt)) b o) $
+        ⊛ ‵ (fleft full_share held_type (raw_tys parts) b o)) (Struct-left 𝓛 full_share (held.the_type R).name parts
+        (lawful_Lones 𝓛 parts (limit_laws.lawful 𝓛, ((param_laws 0 T L).lawful 𝓛, tt))) (x.limit, (x.value, tt)) b o) $
         split ! $ fsplit3 ! $
         -- [the limit; the value; nothing; what is left]
         move ! (0 ∷ 3 ∷ []) $ fjoin ! $ move ! (1 ∷ 0 ∷ []) $ fjoin ! $ keep ! (0 ∷ []) $ done !
@@ -117,8 +108,7 @@ module _ (T : RattleType) where
     -- with any value, that is the handle again
     pub value_back : (p : Ptr) (l : Limit) (η b o : ℕ) → InBlock p → (v : R.Denot)
         → ent 𝓤 (sep 𝓤 (sem 𝓛 ((mem R).own_at v (block_of p) (offset_of p + held_offset R + value_offset)))
-        (sem 𝓛 (Rest p l η b o)))
-        (sem 𝓛 ((mem (HandleRow R)).own_at
+        (sem 𝓛 (Rest p l η b o))) (sem 𝓛 ((mem (HandleRow R)).own_at
         (record { block = p; held = record { limit = l; value = v }; sole = false; id = η }) b o))
     value_back p l η b o inb v =
         let x : (HeldRow R).Denot = record { limit = l; value = v } in

@@ -50,19 +50,7 @@ leaving-Good p taken filled room taken_fits filled_fits room_fits = as_fields (t
       Ptr-Good p,
       (
         (tt, record { fits = taken_fits }),
-        (
-          (tt, record { fits = filled_fits }),
-          (
-            (
-              tt,
-              record {
-                fits =
-                    room_fits;
-              },
-            ),
-            tt,
-          ),
-        ),
+        ((tt, record { fits = filled_fits }), ((tt, record { fits = room_fits }), tt)),
       ),
     )
 
@@ -78,10 +66,7 @@ module _ (R : RattleType) where
       (p, (taken, (filled, (room, tt)))) (leaving_val p taken filled room ∷ []))
       (λ vss. (tt, (tt, ((tt, tt), ((tt, tt), ((tt, tt), tt)))))) (
         (ptr_val p ∷ [], (vint w64 taken ∷ [], (vint w64 filled ∷ [], (vint w64 room ∷ [], tt)))),
-        (
-          refl,
-          (refl, ((refl, taken_fits), ((refl, filled_fits), ((refl, room_fits), tt)))),
-        ),
+        (refl, (refl, ((refl, taken_fits), ((refl, filled_fits), ((refl, room_fits), tt))))),
       )
 
 module _ (R : RattleType) {M : Type 1} {𝓤 : Ura M} (𝓛 : Logic 𝓤) where
@@ -95,13 +80,11 @@ module _ (R : RattleType) {M : Type 1} {𝓤 : Ura M} (𝓛 : Logic 𝓤) where
       let there : o ≡ o + 0 * s = omega arith in
       qed 𝓛 (‵ (places_own R (block_ptr b o) filled room items) ∷ []) ∵ fsplit3 ! $ move ! (1 ∷ []) $
       rewrite ! 0 (λ (at : ℕ). ‵ (part_at (Array R filled) full_share items b at)) there refl $
-      rewrite ! 0 (λ (n : ℕ). ‵ (part_at (Array R n) full_share items b (o + 0 * s)))
-      (sym (sub-zero filled)) refl $
+      rewrite ! 0 (λ (n : ℕ). ‵ (part_at (Array R n) full_share items b (o + 0 * s))) (sym (sub-zero filled)) refl $
       -- [the items; the bound; the room and the right to free]
       move ! (0 ∷ 2 ∷ []) $ fjoin ! $
       use0 𝓛 (‵ (froom (ty_array (lone R.mir) 0) b o)) (𝓛.laws.room_nil (lone R.mir) b o) $
-      as_raw ! (ty_array (lone R.mir) 0) b o $ move ! (0 ∷ 1 ∷ []) $ fjoin ! $ move ! (1 ∷ 0 ∷ []) $
-      fjoin ! $ done !
+      as_raw ! (ty_array (lone R.mir) 0) b o $ move ! (0 ∷ 1 ∷ []) $ fjoin ! $ move ! (1 ∷ 0 ∷ []) $ fjoin ! $ done !
 
   -- nothing lies at null
   pub none_at_null : (taken filled room : ℕ) (items : List R.Denot)
@@ -139,8 +122,7 @@ module _ (E : El) {M : Type 1} {𝓤 : Ura M} (𝓛 : Logic 𝓤) (b o taken fil
       (whole E 𝓛 full_share (filled - (taken + 1)) others b (o + (taken + 1) * s) fewer) $ move ! (1 ∷ []) $
       rewrite ! 0 (λ (k : ℕ). ‵ (part_at (R E) full_share x b k)) (add_comm o (taken * s)) refl $
       use1 𝓛 (some (λ (v : Val). given (Good E v) (‵ (fat full_share (elτ E) b (taken * s + o) v)
-      ⊛ ‵ (el_own E x (v ∷ []))))) (el_out E 𝓛 full_share x b (taken * s + o)) $
-      pick ! (λ v. learn ! (λ good. split ! $
+      ⊛ ‵ (el_own E x (v ∷ []))))) (el_out E 𝓛 full_share x b (taken * s + o)) $ pick ! (λ v. learn ! (λ good. split ! $
       show ! (λ (w : Val). guard 𝓤 (Good E w) (sep 𝓤 (H.at full_share (elτ E) b (taken * s + o) w)
       (sep 𝓤 (sem 𝓛 (el_own E x (w ∷ []))) (sem 𝓛 (part_at (Array (R E) (filled - (taken + 1)))
       full_share others b (o + (taken + 1) * s)))))) v $ check ! good $ done !)))
@@ -150,8 +132,7 @@ module _ (E : El) {M : Type 1} {𝓤 : Ura M} (𝓛 : Logic 𝓤) (b o taken fil
       b (taken * s + o) v)) (H.room (ty_array (elτ E) (taken + 1)) b o)
   room_after v = qed 𝓛 (‵ (froom (ty_array (elτ E) taken) b o) ∷ ‵ (fat full_share (elτ E)
       b (taken * s + o) v) ∷ []) ∵ move ! (1 ∷ []) $
-      use1 𝓛 (‵ (froom (elτ E) b (taken * s + o))) (𝓛.laws.at_room (elτ E) b (taken * s + o) v) $
-      move ! (1 ∷ 0 ∷ []) $
+      use1 𝓛 (‵ (froom (elτ E) b (taken * s + o))) (𝓛.laws.at_room (elτ E) b (taken * s + o) v) $ move ! (1 ∷ 0 ∷ []) $
       use2 𝓛 (‵ (froom (ty_array (elτ E) (suc taken)) b o)) (room_snoc E 𝓛 b o taken) $
       rewrite ! 0 (λ (k : ℕ). ‵ (froom (ty_array (elτ E) k) b o)) (sym (one_more taken)) refl $ done !
 

@@ -56,8 +56,7 @@ module _ (id n : ℕ) {M : Type 1} {𝓤 : Ura M} {𝓛 : Logic 𝓤} {K : Type 
     𝓤 𝓛.H} where
   -- the result of a step that gives no right: the word that it found, and what is in the log
   pub returns_logged : K → n < 2 ^ 64 → (log : List WordStep)
-      → Step K 𝓛 (‵ ((Tuple (u64 ∷ LoggedRow ∷ [])).own_val (n, record { id = id; log = log })
-      (word_and_logged n ∷ []))
+      → Step K 𝓛 (‵ ((Tuple (u64 ∷ LoggedRow ∷ [])).own_val (n, record { id = id; log = log }) (word_and_logged n ∷ []))
       ∷ Γ)
       G (‵ (reached id log) ∷ Γ) G
   returns_logged t fits log = step (λ s. let v : Val = word_and_logged n in

@@ -39,8 +39,7 @@ module _ (R : RattleType) (L : Laws R) (p : Ptr) (x : (HeldRow R).Denot) where
       let lent : Lft → Fml = one (lent_share i) in let rule : Lft → Fml = always (block_rule R p x t.0 i) in
       let s : Lft → Fml = held (i.shared ∷ []) (shown R p x) in
       beside_shr_laws (said (marked i)) (beside (held [] token) (beside (held [] lent) (beside rule s)))
-      (marked-ShrLaws i)
-      (beside_shr_laws (held [] token) (beside (held [] lent) (beside rule s))
+      (marked-ShrLaws i) (beside_shr_laws (held [] token) (beside (held [] lent) (beside rule s))
       (held_shr_laws [] token (one_shr_laws (λ q. flft (i.shared ∷ []) q)))
       (beside_shr_laws (held [] lent) (beside rule s) (held_shr_laws [] lent (one_shr_laws (lent_share i)))
       (beside_shr_laws rule s (always_shr_laws (block_rule R p x t.0 i)) (held_shr_laws (i.shared ∷ [])
@@ -60,8 +59,7 @@ module _ (R : RattleType) (L : Laws R) (p : Ptr) (x : (HeldRow R).Denot) where
 
     -- a counted handle of a marked block, given away for good
     pub becomes_lasting : (η : ℕ) (i : Names) (κ : Lft)
-        → ent 𝓤 (sem 𝓛 (fsep (marked i) (counted_of R p x η i)))
-        (𝓛.H.⇛ (sem 𝓛 (marked_shares R p x κ)))
+        → ent 𝓤 (sem 𝓛 (fsep (marked i) (counted_of R p x η i))) (𝓛.H.⇛ (sem 𝓛 (marked_shares R p x κ)))
     becomes_lasting η i κ = let a : Lft = i.shared ∷ [] in
         qed 𝓛 (‵ (fsep (marked i) (counted_of R p x η i)) ∷ []) ∵ updating ! $
         fsplit ! $ move ! (1 ∷ []) $ fsplit3 ! $ fsplit ! $ fpick ! (λ d. fsplit ! $ drop ! $
@@ -75,20 +73,16 @@ module _ (R : RattleType) (L : Laws R) (p : Ptr) (x : (HeldRow R).Denot) where
         bor_new ! tt [] $ move ! (1 ∷ []) $ drop ! $ bor_fracture ! tt (lent_share i) (Share.right d) $
         -- [what is lent of the pass; of the token; the rule; the sharing; the mark]
         move ! (2 ∷ 3 ∷ []) $ fjoin ! $ move ! (1 ∷ 0 ∷ []) $ fjoin ! $ move ! (1 ∷ 0 ∷ []) $ fjoin ! $
-        move ! (1 ∷ 0 ∷ []) $ fjoin ! $
-        fpack ! Lasting (λ t. stays R p x t κ) (η, i) $ now ! $ done !)
+        move ! (1 ∷ 0 ∷ []) $ fjoin ! $ fpack ! Lasting (λ t. stays R p x t κ) (η, i) $ now ! $ done !)
 
     -- a new block that is marked, given away for good
     pub new_lasts : (μ : Lft) (q : Share) → Incl μ R.lives → (κ : Lft)
         → ent 𝓤 (sep 𝓤 (sem 𝓛 (bare_block R p x (marked_word 1))) (sem 𝓛 (flft μ q)))
         (𝓛.H.⇛ (sep 𝓤 (sem 𝓛 (marked_shares R p x κ)) (sem 𝓛 (flft μ q))))
     new_lasts μ q lives κ = qed 𝓛 (‵ (bare_block R p x (marked_word 1)) ∷ ‵ (flft μ q) ∷ [])
-        ∵ updating ! $
-        use1 𝓛 (later (some (λ (η : ℕ). ‵ (unshared_block R p x η (marked_word 1)))))
-        (begins_marked R L 𝓛 p x) $
-        await ! tt $ pick ! (λ η.
+        ∵ updating ! $ use1 𝓛 (later (some (λ (η : ℕ). ‵ (unshared_block R p x η (marked_word 1)))))
+        (begins_marked R L 𝓛 p x) $ await ! tt $ pick ! (λ η.
         use2 𝓛 (later (‵ (fex Names (λ i. fsep (marked i) (counted_of R p x η i))) ⊛ ‵ (flft μ q)))
         (known_settles R L 𝓛 p x η μ lives μ q (Incl-refl μ)) $
-        await ! tt $ split ! $ fpick ! (λ i. use1 𝓛 (later (‵ (marked_shares R p x κ)))
-        (becomes_lasting η i κ) $
+        await ! tt $ split ! $ fpick ! (λ i. use1 𝓛 (later (‵ (marked_shares R p x κ))) (becomes_lasting η i κ) $
         await ! tt $ now ! $ done !))

@@ -31,7 +31,7 @@ use Rattle.counting_word.specs.WordSteps.{WordStep}
 use Rattle.handles.specs.Inside.Blocks.{HeldRow, handle_owns, permit_owns}
 use Rattle.handles.specs.contracts.block.handle.Handle as handle_type
 use Rattle.handles.specs.contracts.block.permit.Permit as permit_type
-use Rattle.handles.proofs.Fields.{one_word, words_are, words_made, HandleRow, HandleWords, PermitRow}
+use Rattle.handles.proofs.Fields.{one_word, words_are, words_made, HandleRow, HandleWords, PermitRow, handle_at}
 
 -- a signature of one parameter
 abbrev pub taking : {n : ℕ} → List (Outlives n) → Slot n → Kept → Slot n → Ended
@@ -47,8 +47,7 @@ a_ref Row one = RefOf (0 ∷ []) tt (plain (λ _. Row)) (λ _. one)
 -- with the tokens, the result and the `ensures`.
 module _ (Row : RattleType) (one : One Row.mir) (os : List (Outlives 2)) (r : Slot 2) {M : Type 1} {𝓤 : Ura M} (𝓛 : Logic 𝓤)
     (𝓜 : Model 𝓤 𝓛.H) (𝓡 : Running 𝓤 𝓛.H 𝓜) (c : Clauses 𝓤 (taking os (a_ref Row one) yes r))
-    (Asked : Lfts 2 → Bor Row.Denot → Type 0)
-    (asked : (κs : Lfts 2) (a : Bor Row.Denot) (gh : (c κs (a, tt)).ghost)
+    (Asked : Lfts 2 → Bor Row.Denot → Type 0) (asked : (κs : Lfts 2) (a : Bor Row.Denot) (gh : (c κs (a, tt)).ghost)
     → ent 𝓤 ((c κs (a, tt)).requires gh) (fact 𝓤 (Asked κs a))) where
   open 𝓛 use {H}
 
@@ -61,8 +60,7 @@ module _ (Row : RattleType) (one : One Row.mir) (os : List (Outlives 2)) (r : Sl
       → ((v : Val) (x : (r.row κs).Denot)
       → ent 𝓤 (emp 𝓤) ((c κs (a, tt)).ensures gh x (at_exit (taking os (a_ref Row one) yes r) κs (a, tt) (tt, tt)))
       → ent 𝓤 (⋆ 𝓛 (‵ (flft κs.0 qs.0) ∷ ‵ (others κs qs) ∷ ‵ ((r.row κs).own_val x (v ∷ [])) ∷ [])) (Post v))
-      → Sq 𝓛 (‵ (hidden_shr Row κs.0 a.now a.ref_ptr.0 a.ref_ptr.1) ∷ ‵ (flft κs.0 qs.0)
-      ∷ ‵ (others κs qs) ∷ [])
+      → Sq 𝓛 (‵ (hidden_shr Row κs.0 a.now a.ref_ptr.0 a.ref_ptr.1) ∷ ‵ (flft κs.0 qs.0) ∷ ‵ (others κs qs) ∷ [])
       (prop (WpFn 𝓤 H (tables 𝓤 H 𝓜 𝓡 𝓡.env).C (tables 𝓤 H 𝓜 𝓡 𝓡.env).Λ fn (shr_vals a) Post)))
       → Meets 𝓛 (taking os (a_ref Row one) yes r).signature ((tables 𝓤 H 𝓜 𝓡 𝓡.env).C key)
       (closing 𝓛 (taking os (a_ref Row one) yes r) c)
@@ -111,8 +109,7 @@ permit_worded R = record {
 -- The same by value: a walk begins with what is owned and its token.
 module _ (W : Worded) (os : List (Outlives 1)) (r : Slot 1) {M : Type 1} {𝓤 : Ura M} (𝓛 : Logic 𝓤)
     (𝓜 : Model 𝓤 𝓛.H) (𝓡 : Running 𝓤 𝓛.H 𝓜) (c : Clauses 𝓤 (taking os (plain (λ _. W.row)) no r))
-    (Asked : Lfts 1 → W.row.Denot → Type 0)
-    (asked : (κs : Lfts 1) (a : W.row.Denot) (gh : (c κs (a, tt)).ghost)
+    (Asked : Lfts 1 → W.row.Denot → Type 0) (asked : (κs : Lfts 1) (a : W.row.Denot) (gh : (c κs (a, tt)).ghost)
     → ent 𝓤 ((c κs (a, tt)).requires gh) (fact 𝓤 (Asked κs a)))
     (lasts : (κs : Lfts 1) (a : W.row.Denot) → Lasts (taking os (plain (λ _. W.row)) no r) κs (a, tt))
     (silent : Silent 𝓛 1 (plain (λ _. W.row)) no) where
@@ -137,18 +134,11 @@ module _ (W : Worded) (os : List (Outlives 1)) (r : Slot 1) {M : Type 1} {𝓤 :
       let toks = ‵ (flft κs.0 qs.0) ⊛ ‵ ftrue in
       qed 𝓛 ((toks ⊛ ‵ (owns (types_at En.signature.params κs) a y.0.4)) ∷ raw ((c κs a).requires gh) ∷ []) ∵
       move ! (1 ∷ []) $ use1 𝓛 (raw (fact 𝓤 (Asked κs a.0))) (asked κs a.0 gh) $ heard ! (Asked κs a.0) (λ is.
-      split ! $ split ! $ move ! (2 ∷ []) $ fsplit ! $ keep ! (0 ∷ 2 ∷ []) $
-      use1 𝓛 (‵ (W.owned a.0)) (W.opens 𝓛 a.0) $
+      split ! $ split ! $ move ! (2 ∷ []) $ fsplit ! $ keep ! (0 ∷ 2 ∷ []) $ use1 𝓛 (‵ (W.owned a.0)) (W.opens 𝓛 a.0) $
       walk κs qs a.0 gh ((walk_of 𝓛 En hs c).post y) is (λ v x e.
       qed 𝓛 (‵ (flft κs.0 qs.0) ∷ ‵ ((r.row κs).own_val x (v ∷ [])) ∷ []) ∵ nothing_more ! $ move ! (1 ∷ 0 ∷ []) $ join ! $
       use0 𝓛 (raw ((c κs a).ensures gh x (at_exit En κs a (lasts κs a.0)))) e $ nothing_more ! $ nothing_more ! $ fjoin ! $
       move ! (2 ∷ 0 ∷ 3 ∷ 1 ∷ []) $ by ! (leaves 𝓛 En hs c y v x (lasts κs a.0) (tt, tt)))))
-
-abbrev pub handle_at : (R : RattleType) → Ptr → (HeldRow R).Denot → Bool → ℕ → (HandleRow R).Denot
-handle_at R p x sole η = record { block = p; held = x; sole = sole; id = η }
-
-abbrev pub permit_at : (R : RattleType) → Ptr → (HeldRow R).Denot → Right → ℕ → List WordStep → (PermitRow R).Denot
-permit_at R p x r η log = record { block = p; held = x; right = r; id = η; log = log }
 
 module _ (R : RattleType) (p : Ptr) (x : (HeldRow R).Denot) (η : ℕ) {M : Type 1} {𝓤 : Ura M} {𝓛 : Logic 𝓤}
     {K : Type 0} {Γ : List (Item 𝓤)} {G : Goal 𝓤 𝓛.H} where

@@ -31,27 +31,9 @@ module _ (R : RattleType) where
 
   pub words_made : {M : Type 1} {𝓤 : Ura M} (𝓛 : Logic 𝓤) (p : Ptr) (filled room : ℕ)
       → filled < 2 ^ 64 → room < 2 ^ 64
-      → ent 𝓤 (emp 𝓤) (sem 𝓛 (PlacesWords.own_val (p, (filled, (room, tt)))
-      (places_val p filled room ∷ [])))
-  words_made 𝓛 p filled room small_filled small_room = makes_shadow 𝓛 (PlacesWords.own_val (
-    p,
-    (
-      filled,
-      (
-        room,
-        tt,
-      ),
-    ),
-  ) (places_val p filled room ∷ [])) (λ vss. (tt, (tt, ((tt, tt), ((tt, tt), tt))))) (
-    (ptr_val p ∷ [], (vint w64 filled ∷ [], (vint w64 room ∷ [], tt))),
-    (
-      refl,
-      (
-        refl,
-        (
-          (refl, small_filled),
-          ((refl, small_room), tt),
-        ),
-      ),
-    ),
-  )
+      → ent 𝓤 (emp 𝓤) (sem 𝓛 (PlacesWords.own_val (p, (filled, (room, tt))) (places_val p filled room ∷ [])))
+  words_made 𝓛 p filled room small_filled small_room = makes_shadow 𝓛 (PlacesWords.own_val
+      (p, (filled, (room, tt))) (places_val p filled room ∷ [])) (λ vss. (tt, (tt, ((tt, tt), ((tt, tt), tt))))) (
+        (ptr_val p ∷ [], (vint w64 filled ∷ [], (vint w64 room ∷ [], tt))),
+        (refl, (refl, ((refl, small_filled), ((refl, small_room), tt)))),
+      )

@@ -32,8 +32,7 @@ use Rattle.handles.proofs.PlacesFields.{places_val, PlacesRow, PlacesWords, word
 pub capped_zero : (n : ℕ) → IsTrue (eqb (capped n) 0) ↔ (n ≡ 0)
 capped_zero n = (
   λ e. let none : capped n ≡ 0 = eqb→eq (capped n) 0 (subst T (sym e) tt) in
-      let low : n < 2 ^ 63 = capped_small n (omega arith) in
-      sym (capped_is n (omega arith)) ∙ none,
+      let low : n < 2 ^ 63 = capped_small n (omega arith) in sym (capped_is n (omega arith)) ∙ none,
   λ e. ap (λ k. eqb (capped k) 0) e,
 )
 
@@ -53,11 +52,9 @@ no_bytes n none = sym (ap (λ k. not (eqb k 0)) none)
 pub no_memory : {M : Type 1} {𝓤 : Ura M} (𝓛 : Logic 𝓤) (τ : Ty) (n b o : ℕ)
     → n * size τ ≡ 0 → ent 𝓤 (emp 𝓤) (sem 𝓛 (froom (ty_array τ n) b o))
 no_memory {𝓤 = 𝓤} 𝓛 τ n b o none = qed 𝓛 [] ∵ use0 𝓛 (‵ (froom (ty_array τ 0) b o))
-    (𝓛.laws.room_nil τ b o) $
-    use1 𝓛 (‵ (froom (ty_array τ n) b o) ⊛ raw (wand 𝓤 (sem 𝓛 (froom (ty_array τ n) b o))
+    (𝓛.laws.room_nil τ b o) $ use1 𝓛 (‵ (froom (ty_array τ n) b o) ⊛ raw (wand 𝓤 (sem 𝓛 (froom (ty_array τ n) b o))
     (sem 𝓛 (froom (ty_array τ 0) b o)))) (𝓛.laws.room_as (ty_array τ 0) (ty_array τ n)
-    b o (none ∙ sym (zero-mul (size τ))) (dv_self (align τ))) $
-    split ! $ keep ! (0 ∷ []) $ done !
+    b o (none ∙ sym (zero-mul (size τ))) (dv_self (align τ))) $ split ! $ keep ! (0 ∷ []) $ done !
 
 module _ (R : RattleType) where
   abbrev pub without_items : Ptr → ℕ → (PlacesRow R).Denot
@@ -68,14 +65,12 @@ module _ (R : RattleType) where
     -- [the room; the right to free the block]
     pub places_made : K → (b o room : ℕ) → room < 2 ^ 64 → room * type_size R < 2 ^ 63
         → Step K 𝓛 (‵ ((PlacesRow R).own_val (without_items (block_ptr b o) room) (places_val (block_ptr b o)
-        0 room ∷ [])) ∷ Γ) G (‵ (froom (ty_array (lone R.mir) room) b o)
-        ∷ ‵ (frees_room R (block_ptr b o) room) ∷ Γ) G
+        0 room ∷ [])) ∷ Γ) G (‵ (froom (ty_array (lone R.mir) room) b o) ∷ ‵ (frees_room R (block_ptr b o) room) ∷ Γ) G
     places_made t b o room small fits = step (λ s. let τ : Ty = lone R.mir in let n : ℕ = type_size R in
         let v : Val = places_val (block_ptr b o) 0 room in
         rewrite t 0 (λ (k : ℕ). ‵ (froom (ty_array τ k) b o)) (whole room) refl $
         rewrite t 0 (λ (k : ℕ). ‵ (froom (ty_array τ (room - 0)) b k)) (first o n) refl $
-        as_raw t (ty_array τ (room - 0)) b (o + 0 * n) $ fjoin t $
-        nothing_more t $ feq_i t ℕ 0 0 refl $ fjoin t $
+        as_raw t (ty_array τ (room - 0)) b (o + 0 * n) $ fjoin t $ nothing_more t $ feq_i t ℕ 0 0 refl $ fjoin t $
         use1 𝓛 (‵ (part_at (Array R 0) full_share [] b o)) (Array-whole 𝓛 R full_share 0 [] b o) $
         fjoin t $ flt_i t (room * n) (2 ^ 63) fits $ fjoin t $
         use0 𝓛 (‵ ((PlacesWords R).own_val (block_ptr b o, (0, (room, tt))) (v ∷ [])))

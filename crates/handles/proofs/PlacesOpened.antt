@@ -61,8 +61,7 @@ module _ (R : RattleType) where
         (‵ (part_at (Array R d.filled) full_share d.items b o) ∷ ‵ (spare R (block_ptr b o) d.filled d.room)
         ∷ ‵ (frees_room R (block_ptr b o) d.room) ∷ Γ) G
     places_shuts t d b o at small_filled small_room fits = step (λ s. let v : Val = places_val (block_ptr b o)
-        d.filled d.room in
-        fjoin3 t $ flt_i t (d.room * type_size R) (2 ^ 63) fits $ fjoin t $
+        d.filled d.room in fjoin3 t $ flt_i t (d.room * type_size R) (2 ^ 63) fits $ fjoin t $
         use0 𝓛 (‵ ((PlacesWords R).own_val (block_ptr b o, (d.filled, (d.room, tt))) (v ∷ [])))
         (words_made R 𝓛 (block_ptr b o) d.filled d.room small_filled small_room) $ fjoin t $
         rewrite t 0 (λ (p : Ptr). ‵ (fsep ((PlacesWords R).own_val (p, (d.filled, (d.room, tt))) (v ∷ []))

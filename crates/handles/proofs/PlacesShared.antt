@@ -78,8 +78,7 @@ module _ (R : RattleType) where
                 type_size R == 0)) _ (crossing.frees.frees handle (array_of R d.room) d.first),
           ),
         ),
-      ))
-      (λ k. quiet (to O) (exits_of k (fields O)) ((struct_send (shape O) fields-Send).leaving k))
+      )) (λ k. quiet (to O) (exits_of k (fields O)) ((struct_send (shape O) fields-Send).leaving k))
 
   pub places-Sync : IsSync R → IsSync (PlacesRow R)
   places-Sync y = record {

@@ -85,12 +85,10 @@ module _ (R : RattleType) where
 
     pub raw_box_shuts : K → (b o : ℕ) (h : Val) (a : Global) (x : R.Denot)
         → Step K 𝓛 (‵ ((RawBoxRow R).own_val (record { at = block_ptr b o; alloc = a; value = x })
-        (pair_val (vptr b o) h ∷ [])) ∷ Γ) G (‵ (Owned a (block_ptr b o) x)
-        ∷ ‵ (heap_row.own_val a (h ∷ [])) ∷ Γ) G
+        (pair_val (vptr b o) h ∷ [])) ∷ Γ) G (‵ (Owned a (block_ptr b o) x) ∷ ‵ (heap_row.own_val a (h ∷ [])) ∷ Γ) G
     raw_box_shuts t b o h a x = step (λ s. let v : Val = pair_val (vptr b o) h in
         nothing_more t $ move t (2 ∷ 0 ∷ []) $ fjoin t $
         feq_i t (List Val) (vptr b o ∷ []) (vptr b o ∷ []) refl $ fjoin t $
         feq_i t (List Val) (v ∷ []) (v ∷ []) refl $ fjoin t $
         fpack t (Valss (RawPtr ∷ heap_row ∷ [])) (within (shape (RawBoxType R)) (to (RawBoxType R)
-        (record { at = block_ptr b o; alloc = a; value = x })) (v ∷ [])) (vptr b o ∷ [], (h ∷ [], tt)) $
-        fjoin t $ s)
+        (record { at = block_ptr b o; alloc = a; value = x })) (v ∷ [])) (vptr b o ∷ [], (h ∷ [], tt)) $ fjoin t $ s)

@@ -40,23 +40,11 @@ stage-Keyless : (content kept : Fml) → Keyless content → Keyless kept → (l
     (s : Stage)
     → Keyless (stage content kept limit b o η i s)
 stage-Keyless content kept c k limit b o η i (living false w n) = (
-  (
-    tt,
-    λ p. (
-      (λ log. (latest-Keyless η log, λ _. tt)),
-      (row-Keyless i.handles p.handles, row-Keyless i.drops p.drops),
-    ),
-  ),
+  (tt, λ p. ((λ log. (latest-Keyless η log, λ _. tt)), (row-Keyless i.handles p.handles, row-Keyless i.drops p.drops))),
   ((λ _. tt), ((λ r c. tt), ((c, k), tt))),
 )
 stage-Keyless content kept c k limit b o η i (living true w n) = (
-  (
-    tt,
-    λ p. (
-      (λ log. (latest-Keyless η log, λ _. tt)),
-      (row-Keyless i.handles p.handles, row-Keyless i.drops p.drops),
-    ),
-  ),
+  (tt, λ p. ((λ log. (latest-Keyless η log, λ _. tt)), (row-Keyless i.handles p.handles, row-Keyless i.drops p.drops))),
   ((λ _. tt), ((λ r c. tt), (((λ e. tt), k), tt))),
 )
 stage-Keyless content kept c k limit b o η i over = (tt, tt)
@@ -70,14 +58,8 @@ module _ (R : RattleType) (s : IsSend R) (y : IsSync R) where
   content-Keyless p x = (
     lies (HeldRow R) (held_send R s) (p +ₚ held_offset R)
         x,
-    λ h. (
-      lies heap_row crossing.send (p +ₚ heap_offset R) h,
-      (
-        crossing.frees.frees h (block_type R)
-            p,
-        left-Keyless p,
-      ),
-    ),
+    λ h.
+        (lies heap_row crossing.send (p +ₚ heap_offset R) h, (crossing.frees.frees h (block_type R) p, left-Keyless p)),
   )
 
   stamp-Keyless : (p : Ptr) → Keyless (stamp p)
@@ -92,13 +74,7 @@ module _ (R : RattleType) (s : IsSend R) (y : IsSync R) where
   shown-Common p x = seen (HeldRow R) (held_sync R y) (p +ₚ held_offset R) x
 
   handle-Keyless : (p : Ptr) (x : (HeldRow R).Denot) (η : ℕ) (z : Sharing) → Keyless (held_as R p x η z)
-  handle-Keyless p x η not_yet = (
-    (tt, λ log. (latest-Keyless η log, λ _. tt)),
-    (
-      content-Keyless p x,
-      stamp-Keyless p,
-    ),
-  )
+  handle-Keyless p x η not_yet = ((tt, λ log. (latest-Keyless η log, λ _. tt)), (content-Keyless p x, stamp-Keyless p))
   handle-Keyless p x η begun = λ i. (
     ((λ e. (entitled-Keyless i e, tt)), pass-Keyless i.handles i.own full_share),
     (rule-Keyless p x η i, shown-Common p x (i.shared ∷ [])),
@@ -111,13 +87,8 @@ module _ (R : RattleType) (s : IsSend R) (y : IsSync R) where
   shared-Keyless : (p : Ptr) (x : (HeldRow R).Denot) (η : ℕ) (sole : Bool) (κ : Lft)
       → Keyless (shared_as R p x η sole κ)
   shared-Keyless p x η true κ = shown-Common p x κ
-  shared-Keyless p x η false κ = λ i. (
-    (λ q. tt),
-    (
-      (λ q. (tt, pass-Keyless i.handles i.own q)),
-      (rule-Keyless p x η i, shown-Common p x (i.shared ∷ [])),
-    ),
-  )
+  shared-Keyless p x η false κ = λ i.
+      ((λ q. tt), ((λ q. (tt, pass-Keyless i.handles i.own q)), (rule-Keyless p x η i, shown-Common p x (i.shared ∷ []))))
 
   fields-Send : AllSend (fields (handle_type.the_type R))
   fields-Send = (pointers, tt)

@@ -18,8 +18,7 @@ module _ {S T E : Type 0} (steps : S → Option (Result T E) → S → Type 0) (
   pub takes_all_good : {H : Type 0} (n : ℕ) (header : H) (r : Result (HeaderAndItems H T) E)
       → IfOk r (IsBuiltGoodUpTo steps source n after header) → IfOk r (TakesAllGood steps source)
   takes_all_good n header r =
-      IfOk-weaker r (IsBuiltGoodUpTo steps source n after header) (TakesAllGood steps source)
-      (λ slice built. (
+      IfOk-weaker r (IsBuiltGoodUpTo steps source n after header) (TakesAllGood steps source) (λ slice built. (
         run steps source (map Ok slice.items) true (to_end steps source (map Ok slice.items) (after, built.1)),
         refl,
         refl,

@@ -42,5 +42,6 @@ pub use Rattle.handles.proofs.Fields.{PermitRow, HandleWords, PermitWords, known
 pub use Rattle.handles.proofs.Fields.{word_and_permit-Good}
 pub use Rattle.handles.proofs.BorrowedHandle.{opens_word, opens_handle, shows_permit, closes_borrow, asks_with}
 pub use Rattle.handles.proofs.BorrowedHandle.{asks_new, logs, reports}
-pub use Rattle.handles.proofs.OneParam.{a_ref, by_ref, by_value, handle_worded, permit_worded, handle_at, permit_at}
+pub use Rattle.handles.proofs.OneParam.{a_ref, by_ref, by_value, handle_worded, permit_worded}
 pub use Rattle.handles.proofs.OneParam.{is_handle, so, also}
+pub use Rattle.handles.proofs.Fields.{handle_at, permit_at}

@@ -49,8 +49,7 @@ module _ {M : Type 1} {𝓤 : Ura M} (𝓛 : Logic 𝓤) (s : SharedBlock) (q : 
           -- [half of the share; the pass; the mark; that it is over; the token of the mark]
           keep ! (3 ∷ 0 ∷ []) $ by ! (via 𝓤 (never 𝓤) (no_share 𝓛 s q) (never_e 𝓤 _))
       at (living false w n) = qed 𝓛 (‵ (at_stage s (living false w n)) ∷ ‵ (fsep (marked s.names)
-          (a_share s q))
-          ∷ []) ∵
+          (a_share s q)) ∷ []) ∵
           fsplit3 ! $ move ! (2 ∷ []) $ fsplit3 ! $ move ! (5 ∷ []) $ fsplit ! $ keep ! (4 ∷ 0 ∷ []) $
           by ! (no_token 𝓛 (unmarked s) full_share _)
       at (living true w n) = qed 𝓛 (‵ (at_stage s (living true w n)) ∷ ‵ (fsep (marked s.names)
@@ -65,8 +64,7 @@ module _ {M : Type 1} {𝓤 : Ura M} (𝓛 : Logic 𝓤) (s : SharedBlock) (q : 
           use1 𝓛 (raw (upd 𝓤 (sem 𝓛 Records))) (records 𝓛 s [] ftrue (unknown 𝓛 s) step.reads (λ v. v)
           (λ v _. refl) (λ _. ftrue) ftrue Own (λ v. fsep Own (passed s (right_by_read v)))
           (turns_read 𝓛 s q) w small) $
-          settle 𝓛 (sep 𝓤 (sem 𝓛 (rule s)) (sem 𝓛 BornSome)) (‵ Records) $ fsplit ! $ fsplit ! $
-          move ! (1 ∷ []) $
+          settle 𝓛 (sep 𝓤 (sem 𝓛 (rule s)) (sem 𝓛 BornSome)) (‵ Records) $ fsplit ! $ fsplit ! $ move ! (1 ∷ []) $
           fsplit ! $ move ! (1 ∷ []) $
           use1 𝓛 (‵ (passed s a_handle)) (subst (λ (r : Right). Entails 𝓛 (passed s (right_by_read w))
           (passed s r)) is_handle (id⊢ 𝓤 _)) $
@@ -109,13 +107,11 @@ module _ {M : Type 1} {𝓤 : Ura M} (𝓛 : Logic 𝓤) (s : SharedBlock) (q : 
             let same_mark : is_marked_word w ≡ p.mark = (keeps-counts s.limit s.most log p w left).same_mark in
             absurd (true≢false (sym is_marked ∙ sym same_mark ∙ holds.0.same_mark)))))))
         at (living true w n) = qed 𝓛 (‵ (at_stage s (living true w n)) ∷ ‵ Knows ∷ []) ∵ fsplit3 ! $
-            move ! (1 ∷ []) $ fpick ! (λ holds. drop ! $
-            move ! (1 ∷ []) $ fsplit3 ! $ move ! (2 ∷ []) $
+            move ! (1 ∷ []) $ fpick ! (λ holds. drop ! $ move ! (1 ∷ []) $ fsplit3 ! $ move ! (2 ∷ []) $
             use1 𝓛 (‵ (marked s.names) ⊛ ‵ (marked s.names)) (𝓛.lfts.dead_dup (unmarked s)) $ split ! $
             -- [the mark, twice; the parts; the pool and what is kept; the word; what is known, and the share]
             move ! (2 ∷ 3 ∷ 0 ∷ []) $ fjoin3 ! $ move ! (2 ∷ 0 ∷ []) $
             use2 𝓛 (‵ (rule s)) (lives 𝓛 s true w n holds) $ move ! (2 ∷ []) $ fsplit ! $ drop ! $
             -- [the share; the rule; the mark]
-            move ! (2 ∷ 0 ∷ []) $ fjoin ! $
-            suffices ! _ (upd_i 𝓤 (sep 𝓤 (sem 𝓛 (rule s)) (sem 𝓛 Known))) $
+            move ! (2 ∷ 0 ∷ []) $ fjoin ! $ suffices ! _ (upd_i 𝓤 (sep 𝓤 (sem 𝓛 (rule s)) (sem 𝓛 Known))) $
             move ! (1 ∷ []) $ frame ! $ done !)

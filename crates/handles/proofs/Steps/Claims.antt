@@ -33,8 +33,7 @@ module _ {M : Type 1} {𝓤 : Ura M} (𝓛 : Logic 𝓤) (s : SharedBlock) where
   -- the log of an unmarked block whose word is 1 counts one handle, if there is one
   one-counted : Entails 𝓛 (fsep (noted s.names s.limit s.log 1) Own) (recorded s.limit s.log 1)
   one-counted = qed 𝓛 (‵ (noted s.names s.limit s.log 1) ∷ ‵ Own ∷ []) ∵ fpick ! (λ p. fsplit ! $
-      move ! (1 ∷ []) $
-      fsplit ! $ move ! (3 ∷ 0 ∷ []) $
+      move ! (1 ∷ []) $ fsplit ! $ move ! (3 ∷ 0 ∷ []) $
       use2 𝓛 (given (1 ≤ p.handles) (‵ (fsep Own (row s.names.handles p.handles))))
       (row_some 𝓛 s.names.handles s.names.own full_share p.handles) $ learn ! (λ some. keep ! (2 ∷ []) $
       fpick ! (λ log. fsplit ! $ move ! (1 ∷ []) $ fpick ! (λ keeps. drop ! $
@@ -63,8 +62,7 @@ module _ {M : Type 1} {𝓤 : Ura M} (𝓛 : Logic 𝓤) (s : SharedBlock) where
           (after_claim s w)
       kept-one w e = subst (λ (r : Right). Entails 𝓛 (fsep (granted s r) Own) (grants s r)) (sym e)
           (qed 𝓛 (‵ (title s.names) ∷ ‵ Own ∷ []) ∵ move ! (1 ∷ []) $
-          fpack ! ℕ (λ k. pass s.names.handles k full_share) s.names.own $ move ! (1 ∷ 0 ∷ []) $ fjoin ! $
-          done !)
+          fpack ! ℕ (λ k. pass s.names.handles k full_share) s.names.own $ move ! (1 ∷ 0 ∷ []) $ fjoin ! $ done !)
 
       stays-one : (w : ℕ) → is_one_handle w ≡ false → right_by_claim w ≡ a_handle
       stays-one w other = ap (λ z. if z then whole_block 1 else a_handle) other
@@ -78,13 +76,10 @@ module _ {M : Type 1} {𝓤 : Ura M} (𝓛 : Logic 𝓤) (s : SharedBlock) where
       more : (j w n : ℕ) → n ≢ 1 → StandsWithin s.limit w false n → Lands 𝓛 s w false n (fsep a_unit Own)
           (after_claim s w) j
       more j w n other holds = let more_than : is_one_handle w ≡ false = is_one_handle-unmarked w n n holds.0
-          ∙ ne_eqb n 1 other in
-          passes_on 𝓛 s w false n a_unit Own (bare_claim s w) (after_claim s w)
-          j (kept-one w (stays-one w more_than))
-          (qed 𝓛 (‵ (counts s w) ∷ ‵ (beside s false n) ∷ ‵ a_unit ∷ []) ∵
+          ∙ ne_eqb n 1 other in passes_on 𝓛 s w false n a_unit Own (bare_claim s w) (after_claim s w)
+          j (kept-one w (stays-one w more_than)) (qed 𝓛 (‵ (counts s w) ∷ ‵ (beside s false n) ∷ ‵ a_unit ∷ []) ∵
           use2 𝓛 (‵ (rule s)) (lives 𝓛 s false w n holds) $ move ! (1 ∷ []) $
-          use1 𝓛 (‵ (title s.names)) (counted_stake 𝓛 s.names) $ move ! (1 ∷ 0 ∷ []) $
-          by ! (others j w more_than))
+          use1 𝓛 (‵ (title s.names)) (counted_stake 𝓛 s.names) $ move ! (1 ∷ 0 ∷ []) $ by ! (others j w more_than))
 
       whole-so : (after : Fml) → Entails 𝓛 (fsep after ftrue) after
       whole-so after = qed 𝓛 (‵ after ∷ ‵ ftrue ∷ []) ∵ keep ! (0 ∷ []) $ done !
@@ -100,8 +95,7 @@ module _ {M : Type 1} {𝓤 : Ura M} (𝓛 : Logic 𝓤) (s : SharedBlock) where
           (subst (λ (r : Right). Lands 𝓛 s 1 false 1 (fsep a_unit Own) (grants s r) j) (sym wins) whole-one)) where
             whole-one : Lands 𝓛 s 1 false 1 (fsep a_unit Own) (grants s (whole_block 1)) j
             whole-one = qed 𝓛 (‵ (counts s 1) ∷ ‵ (beside s false 1) ∷ ‵ (fsep a_unit Own) ∷ [])
-                ∵ nothing_more ! $
-                move ! (3 ∷ 0 ∷ []) $ fjoin ! $ move ! (1 ∷ 2 ∷ 0 ∷ []) $
+                ∵ nothing_more ! $ move ! (3 ∷ 0 ∷ []) $ fjoin ! $ move ! (1 ∷ 2 ∷ 0 ∷ []) $
                 by ! (passes_on 𝓛 s 1 false 1 (fsep a_unit Own) ftrue (granted s (whole_block 1))
                 (grants s (whole_block 1)) j (id⊢ 𝓤 _)
                 (last_one 𝓛 s (granted s (whole_block 1)) j 1 Own one-counted refl))
@@ -109,10 +103,8 @@ module _ {M : Type 1} {𝓤 : Ura M} (𝓛 : Logic 𝓤) (s : SharedBlock) where
       at : HeldSteps 𝓛 s step.claims (λ w. w) (λ w _. refl) (after_claim s) (λ _. Own)
           (turns_none 𝓛 s full_share step.claims (λ p some. some) (λ p. refl) (λ p. refl))
       at j false true e w n small holds = qed 𝓛 (‵ (counts s w) ∷ ‵ (beside s false n)
-          ∷ ‵ (fsep (a_stake s true e) Own)
-          ∷ []) ∵ move ! (2 ∷ []) $ fsplit ! $ fsplit ! $
-          fpick ! (λ c. drop ! $ use1 𝓛 (‵ a_unit) (part_in 64 𝓛 s.names.shared e c) $
-          move ! (0 ∷ 1 ∷ []) $ fjoin ! $
+          ∷ ‵ (fsep (a_stake s true e) Own) ∷ []) ∵ move ! (2 ∷ []) $ fsplit ! $ fsplit ! $
+          fpick ! (λ c. drop ! $ use1 𝓛 (‵ a_unit) (part_in 64 𝓛 s.names.shared e c) $ move ! (0 ∷ 1 ∷ []) $ fjoin ! $
           move ! (1 ∷ 2 ∷ 0 ∷ []) $
           by ! (dite (ℕ_discrete n 1) (λ one. alone-one j w n one holds) (λ other. more j w n other holds)))
       at j false false e w n small holds = qed 𝓛 (‵ (counts s w) ∷ ‵ (beside s false n)
@@ -121,8 +113,7 @@ module _ {M : Type 1} {𝓤 : Ura M} (𝓛 : Logic 𝓤) (s : SharedBlock) where
       at j true y e w n small holds = let more_than : is_one_handle w ≡ false =
           is_one_handle-marked w holds.0.same_mark in
           passes_on 𝓛 s w true n (a_stake s y e) Own (bare_claim s w) (after_claim s w) j
-          (kept-one w (stays-one w more_than))
-          (qed 𝓛 (‵ (counts s w) ∷ ‵ (beside s true n) ∷ ‵ (entitled s.names e y)
+          (kept-one w (stays-one w more_than)) (qed 𝓛 (‵ (counts s w) ∷ ‵ (beside s true n) ∷ ‵ (entitled s.names e y)
           ∷ ‵ (flft (shared s) e) ∷ []) ∵
           use2 𝓛 (‵ (rule s)) (lives 𝓛 s true w n holds) $ move ! (1 ∷ []) $
           fpack ! Bool (entitled s.names e) y $ move ! (0 ∷ 2 ∷ []) $ fjoin ! $

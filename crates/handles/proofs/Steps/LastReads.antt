@@ -32,8 +32,7 @@ module _ {M : Type 1} {𝓤 : Ura M} (𝓛 : Logic 𝓤) (s : SharedBlock) where
   pub not_yet_marked : (e : Share) (n : ℕ) (X : SProp 𝓤) → ent 𝓤 (sem 𝓛 (fsep (beside s false n)
       (a_stake s false e))) X
   not_yet_marked e n X = qed 𝓛 (‵ (beside s false n) ∷ ‵ (marked s.names) ∷ ‵ (flft (shared s) e)
-      ∷ []) ∵ fsplit3 ! $
-      keep ! (2 ∷ 3 ∷ []) $ by ! (no_token 𝓛 (unmarked s) full_share X)
+      ∷ []) ∵ fsplit3 ! $ keep ! (2 ∷ 3 ∷ []) $ by ! (no_token 𝓛 (unmarked s) full_share X)
 
   module _ (what : WordStep) (f : ℕ → ℕ) (is : (w : ℕ) → w < 2 ^ 64 → word_by what w ≡ f w)
       (after Also : ℕ
@@ -64,8 +63,7 @@ module _ {M : Type 1} {𝓤 : Ura M} (𝓛 : Logic 𝓤) (s : SharedBlock) where
           → Lands 𝓛 s w mark n (a_stake s y e) (bare_last_read s w) j
       at j false true e w n holds = qed 𝓛 (‵ (counts s w) ∷ ‵ (beside s false n)
           ∷ ‵ (entitled s.names e true)
-          ∷ ‵ (flft (shared s) e) ∷ []) ∵ use2 𝓛 (‵ (rule s)) (lives 𝓛 s false w n holds) $
-          move ! (1 ∷ []) $
+          ∷ ‵ (flft (shared s) e) ∷ []) ∵ use2 𝓛 (‵ (rule s)) (lives 𝓛 s false w n holds) $ move ! (1 ∷ []) $
           fpick ! (λ c. drop ! $ move ! (1 ∷ []) $
           use1 𝓛 (‵ (unit_of_count s.names)) (part_in 64 𝓛 s.names.shared e c) $
           use1 𝓛 (‵ (bare_last_read s w)) (regranted 𝓛 s to_lower (right_by_last_read w)

@@ -28,8 +28,7 @@ module _ {M : Type 1} {𝓤 : Ura M} (𝓛 : Logic 𝓤) (s : SharedBlock) (q : 
       (and_logged s [] step.marks (after_mark s q))
   marks = stepped 𝓛 s [] ftrue (unknown 𝓛 s) step.marks (λ w. bit_or w mark_bit)
       (λ w small. sym (bit_or-mark_bit w small)) (after_mark s q) (bare_share s q) (pass s.names.handles s.names.own q)
-      (λ _. pass s.names.handles s.names.own q)
-      (turns_none 𝓛 s q step.marks (λ p some. some) (λ p. refl) (λ p. refl))
+      (λ _. pass s.names.handles s.names.own q) (turns_none 𝓛 s q step.marks (λ p some. some) (λ p. refl) (λ p. refl))
       (λ j mark w n small holds. passes_on 𝓛 s (bit_or w mark_bit) mark n (bare_share s q)
       (pass s.names.handles s.names.own q) (bare_mark s q w) (after_mark s q w) j (id⊢ 𝓤 _)
       (at j mark w n small holds)) (no_share 𝓛 s q)
@@ -42,22 +41,19 @@ module _ {M : Type 1} {𝓤 : Ura M} (𝓛 : Logic 𝓤) (s : SharedBlock) (q : 
           → Lands 𝓛 s (marked_word w) false n (bare_share s q) (bare_mark s q w) j
       first_mark j w n low holds =
           qed 𝓛 (‵ (counts s (marked_word w)) ∷ ‵ (beside s false n) ∷ ‵ (bare_share s q) ∷ [])
-          ∵ move ! (1 ∷ []) $
-          fsplit3 ! $ move ! (1 ∷ []) $ fsplit ! $ move ! (3 ∷ 4 ∷ 2 ∷ 1 ∷ 5 ∷ []) $
+          ∵ move ! (1 ∷ []) $ fsplit3 ! $ move ! (1 ∷ []) $ fsplit ! $ move ! (3 ∷ 4 ∷ 2 ∷ 1 ∷ 5 ∷ []) $
           suffices ! _ (asking.ends_first 𝓛 (rule s) (bare_mark s q w) s.names.unmarked j
           (Had (marked_word w) n) ends) $ keep ! (0 ∷ 1 ∷ 2 ∷ 3 ∷ 4 ∷ []) $ done !
         where
           ends : Entails 𝓛 (fsep (marked s.names) (Had (marked_word w) n)) (fsep (rule s) (bare_mark s q w))
           ends = qed 𝓛 (‵ (marked s.names) ∷ ‵ (counts s (marked_word w)) ∷ ‵ (rest 64 s.names.shared n)
-              ∷ ‵ s.kept
-              ∷ ‵ (bare_share s q) ∷ []) ∵ move ! (2 ∷ []) $
+              ∷ ‵ s.kept ∷ ‵ (bare_share s q) ∷ []) ∵ move ! (2 ∷ []) $
               use1 𝓛 (‵ (rest 64 s.names.shared (n + 1)) ⊛ ‵ (unit_of_count s.names))
               (takes 64 𝓛 s.names.shared n (omega arith)) $ split ! $ move ! (1 ∷ []) $
               fpick ! (λ e. fpick ! (λ c. fpack ! Share (λ e. flft (shared s) e) e $
               -- [the pool; the parts; the mark; the word; what is kept; the token]
               move ! (0 ∷ 4 ∷ []) $ fjoin ! $ move ! (1 ∷ 0 ∷ 2 ∷ []) $ fjoin3 ! $
-              move ! (1 ∷ 0 ∷ []) $ use2 𝓛 (‵ (rule s)) (lives 𝓛 s true (marked_word w) n holds) $
-              done !))
+              move ! (1 ∷ 0 ∷ []) $ use2 𝓛 (‵ (rule s)) (lives 𝓛 s true (marked_word w) n holds) $ done !))
 
       at_word : (j : ℕ) (mark : Bool) (w n : ℕ) → w < 2 ^ 64 → StandsWithin s.limit w mark n
           → Lands 𝓛 s (marked_word w) mark n (bare_share s q) (bare_mark s q w) j
@@ -67,11 +63,9 @@ module _ {M : Type 1} {𝓤 : Ura M} (𝓛 : Logic 𝓤) (s : SharedBlock) (q : 
           first_mark j w n (omega arith) (marked-stands s.limit (marked_word w)
           n (stands-marked_word w n n false holds.0 (omega arith)))
       at_word j true w n small holds = qed 𝓛 (‵ (counts s (marked_word w)) ∷ ‵ (beside s true n)
-          ∷ ‵ (bare_share s q)
-          ∷ []) ∵
+          ∷ ‵ (bare_share s q) ∷ []) ∵
           use2 𝓛 (‵ (rule s)) (lives 𝓛 s true (marked_word w) n (marked-stands s.limit (marked_word w) n
-          (stands-marked_word w n n true holds.0 (omega arith)))) $
-          by ! (asking.closes 𝓛 (rule s) (bare_mark s q w) j)
+          (stands-marked_word w n n true holds.0 (omega arith)))) $ by ! (asking.closes 𝓛 (rule s) (bare_mark s q w) j)
 
       at : (j : ℕ) (mark : Bool) (w n : ℕ) → w < 2 ^ 64 → StandsWithin s.limit w mark n
           → Lands 𝓛 s (bit_or w mark_bit) mark n (bare_share s q) (bare_mark s q w) j

@@ -32,25 +32,20 @@ lost : (seen w : ℕ) → w ≢ seen → right_by_raise seen w ≡ right_by_read
 lost seen w other = ap (λ y. if y then a_handle else right_by_read w) (ne_eqb w seen other)
 
 module _ {M : Type 1} {𝓤 : Ura M} (𝓛 : Logic 𝓤) (s : SharedBlock) (q : Share) (seen : ℕ)
-    (old : List WordStep)
-    (below : seen < s.limit) where
+    (old : List WordStep) (below : seen < s.limit) where
   -- a raise that wins
   won : (j n : ℕ) → StandsWithin s.limit seen false n → Lands 𝓛 s (seen + 1) false n (bare_share s q)
       (bare_raise s q seen seen) j
   won j n holds =
-      let most : s.limit ≤ greatest_count = s.most in
-      let low : seen < greatest_count = omega (arith, below, most) in
+      let most : s.limit ≤ greatest_count = s.most in let low : seen < greatest_count = omega (arith, below, most) in
       let same : n ≡ seen = sym (holds.0.counts_live refl) ∙ count_of-unmarked seen holds.0.same_mark in
       let room : n ≢ greatest_count = λ full. absurd (omega arith) in
       let stands : StandsFor (seen + 1) false (n + 1) (n + 1) = stands-unmarked (seen + 1) (n + 1) n (n + 1)
-      (stands-raised seen n n holds.0 room) in
-      let within : (seen + 1) % mark_bit ≤ s.limit = omega (arith, below) in
+      (stands-raised seen n n holds.0 room) in let within : (seen + 1) % mark_bit ≤ s.limit = omega (arith, below) in
       let next : StandsWithin s.limit (seen + 1) false (n + 1) = (stands, λ _. within) in
       let wins : right_by_raise seen seen ≡ a_handle = ap (λ y. if y then a_handle else right_by_read seen)
-      (eq-eqb seen seen refl) in
-      qed 𝓛 (‵ (counts s (seen + 1)) ∷ ‵ (beside s false n) ∷ ‵ (bare_share s q) ∷ [])
-      ∵ move ! (1 ∷ []) $ fsplit ! $
-      use1 𝓛 (‵ (rest 64 s.names.shared (n + 1)) ⊛ ‵ (unit_of_count s.names))
+      (eq-eqb seen seen refl) in qed 𝓛 (‵ (counts s (seen + 1)) ∷ ‵ (beside s false n) ∷ ‵ (bare_share s q) ∷ [])
+      ∵ move ! (1 ∷ []) $ fsplit ! $ use1 𝓛 (‵ (rest 64 s.names.shared (n + 1)) ⊛ ‵ (unit_of_count s.names))
       (takes 64 𝓛 s.names.shared n (omega arith)) $ split ! $
       -- [the parts; the part; the lender and the mark; the word; the token]
       move ! (0 ∷ 2 ∷ []) $ fjoin ! $ move ! (2 ∷ 0 ∷ []) $
@@ -70,8 +65,7 @@ module _ {M : Type 1} {𝓤 : Ura M} (𝓛 : Logic 𝓤) (s : SharedBlock) (q : 
   Also w = fsep (pass s.names.handles s.names.own q) (passed s (right_by_raise seen w))
 
   pub raises : (next : ℕ) → next ≡ seen + 1 → Asks 𝓛 s (raised seen next) (fsep (reached s.log old)
-      (a_share s q))
-      (and_logged s old (step.raises_from seen) (after_raise s q seen))
+      (a_share s q)) (and_logged s old (step.raises_from seen) (after_raise s q seen))
   raises next is_next = subst (λ m. Asks 𝓛 s (raised seen m) (fsep (reached s.log old) (a_share s q))
       (and_logged s old (step.raises_from seen) (after_raise s q seen))) (sym is_next)
       (stepped 𝓛 s old (reached s.log old) (begun_with 𝓛 s old) (step.raises_from seen) (raised seen (seen + 1))

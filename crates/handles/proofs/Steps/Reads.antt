@@ -43,8 +43,7 @@ module _ {M : Type 1} {𝓤 : Ura M} (𝓛 : Logic 𝓤) (s : SharedBlock) (q : 
       → ent 𝓤 (sem 𝓛 (fsep (logged s.limit s.log old what w) (reported s q w r)))
       (sem 𝓛 (reported_with s q old what w r))
   reported_logged old what w r = qed 𝓛 (‵ (fsep (logged s.limit s.log old what w) (reported s q w r)) ∷ [])
-      ∵ fsplit ! $
-      move ! (1 ∷ []) $ fsplit3 ! $ move ! (3 ∷ 2 ∷ []) $ fjoin ! $ move ! (2 ∷ 0 ∷ []) $ fjoin ! $
+      ∵ fsplit ! $ move ! (1 ∷ []) $ fsplit3 ! $ move ! (3 ∷ 2 ∷ []) $ fjoin ! $ move ! (2 ∷ 0 ∷ []) $ fjoin ! $
       move ! (1 ∷ 0 ∷ []) $ fjoin ! $ done !
 
   pub no_share : ent 𝓤 (sem 𝓛 (fsep (unshared s.names) (bare_share s q))) (never 𝓤)
@@ -55,10 +54,8 @@ module _ {M : Type 1} {𝓤 : Ura M} (𝓛 : Logic 𝓤) (s : SharedBlock) (q : 
       → ent 𝓤 (sem 𝓛 (fsep (rule s) (fsep (granted s r) (bare_share s q)))) (asking.Ending 𝓛 (rule s)
       (bare_reported s q w r) j)
   shut r j w within = qed 𝓛 (‵ (rule s) ∷ ‵ (granted s r) ∷ ‵ (bare_share s q) ∷ [])
-      ∵ move ! (1 ∷ []) $ nothing_more ! $
-      fpack ! (IsWithin w s.limit) (λ _. ftrue) within $ fjoin ! $
-      move ! (2 ∷ 0 ∷ []) $ fjoin ! $ move ! (1 ∷ 0 ∷ []) $
-      by ! (asking.closes 𝓛 (rule s) (bare_reported s q w r) j)
+      ∵ move ! (1 ∷ []) $ nothing_more ! $ fpack ! (IsWithin w s.limit) (λ _. ftrue) within $ fjoin ! $
+      move ! (2 ∷ 0 ∷ []) $ fjoin ! $ move ! (1 ∷ 0 ∷ []) $ by ! (asking.closes 𝓛 (rule s) (bare_reported s q w r) j)
 
   -- the word is as it was, and the rest comes by what is read
   pub found_marked : (r : Right) → r ≡ a_handle → (j w n : ℕ) → StandsWithin s.limit w true n
@@ -77,8 +74,7 @@ module _ {M : Type 1} {𝓤 : Ura M} (𝓛 : Logic 𝓤) (s : SharedBlock) (q : 
 
   -- the passes are reported too
   pub reported_passed : (w : ℕ) (r : Right) → Entails 𝓛 (fsep (bare_reported s q w r)
-      (fsep (pass s.names.handles s.names.own q)
-      (passed s r))) (reported s q w r)
+      (fsep (pass s.names.handles s.names.own q) (passed s r))) (reported s q w r)
   reported_passed w r = qed 𝓛 (‵ (bare_reported s q w r) ∷ ‵ (fsep (pass s.names.handles s.names.own q)
       (passed s r)) ∷ []) ∵
       fsplit3 ! $ move ! (3 ∷ []) $ fsplit ! $
@@ -95,13 +91,11 @@ module _ {M : Type 1} {𝓤 : Ura M} (𝓛 : Logic 𝓤) (s : SharedBlock) (q : 
       (λ j mark w n small holds. passes_on 𝓛 s w mark n (bare_share s q) (pass s.names.handles s.names.own q)
       (bare_share s q) (a_share s q) j (id⊢ 𝓤 _)
       (qed 𝓛 (‵ (counts s w) ∷ ‵ (beside s mark n) ∷ ‵ (bare_share s q) ∷ []) ∵
-      use2 𝓛 (‵ (rule s)) (lives 𝓛 s mark w n holds) $
-      by ! (asking.closes 𝓛 (rule s) (bare_share s q) j))) no_share
+      use2 𝓛 (‵ (rule s)) (lives 𝓛 s mark w n holds) $ by ! (asking.closes 𝓛 (rule s) (bare_share s q) j))) no_share
 
   pub reads : Asks 𝓛 s (λ w. w) (fsep ftrue (a_share s q)) (and_logged s [] step.reads (after_read s q))
   reads = stepped 𝓛 s [] ftrue (unknown 𝓛 s) step.reads (λ w. w) (λ w _. refl) (after_read s q) (bare_share s q)
-      (pass s.names.handles s.names.own q) (λ w. fsep (pass s.names.handles s.names.own q)
-      (passed s (right_by_read w)))
+      (pass s.names.handles s.names.own q) (λ w. fsep (pass s.names.handles s.names.own q) (passed s (right_by_read w)))
       (turns_read 𝓛 s q)
       (λ j mark w n small holds. passes_on 𝓛 s w mark n (bare_share s q) (fsep (pass s.names.handles s.names.own q)
       (passed s (right_by_read w))) (bare_reported s q w (right_by_read w)) (after_read s q w) j

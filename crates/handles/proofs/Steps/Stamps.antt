@@ -48,22 +48,19 @@ module _ {M : Type 1} {𝓤 : Ura M} (𝓛 : Logic 𝓤) (s : SharedBlock) (o : 
   pub stamps : ent 𝓤 (sem 𝓛 (fsep (finv I) (a_share s q))) (asks 𝓛 (block_ptr s.block o)
       f always (λ _. a_share s q))
   stamps = asking.opened 𝓛 I s.block o f (λ _. a_share s q) (a_share s q)
-      (λ j. qed 𝓛 (‵ I ∷ ‵ (a_share s q) ∷ []) ∵ suffices ! _ (upd_i 𝓤 (Goes j)) $
-      fpick ! (λ g. by ! (at j g)))
+      (λ j. qed 𝓛 (‵ I ∷ ‵ (a_share s q) ∷ []) ∵ suffices ! _ (upd_i 𝓤 (Goes j)) $ fpick ! (λ g. by ! (at j g)))
     where
       Goes : ℕ → SProp 𝓤
       Goes j = ex 𝓤 (asking.Lies 𝓛 I s.block o f (λ _. a_share s q) j)
 
       at : (j : ℕ) (g : Stage) → ent 𝓤 (sem 𝓛 (fsep (at_stage (keeps s o) g) (a_share s q))) (Goes j)
       at j (living mark w n) = qed 𝓛 (‵ (at_stage (keeps s o) (living mark w n)) ∷ ‵ (a_share s q) ∷ [])
-          ∵ fsplit3 ! $ move ! (2 ∷ []) $
-          use1 𝓛 (‵ (kept_word s o) ⊛ ‵ (Others mark n)) (comes_out mark n) $ split ! $
+          ∵ fsplit3 ! $ move ! (2 ∷ []) $ use1 𝓛 (‵ (kept_word s o) ⊛ ‵ (Others mark n)) (comes_out mark n) $ split ! $
           fpick ! (λ k. show ! (asking.Lies 𝓛 I s.block o f (λ _. a_share s q) j) k $ frame ! $
           assume ! (‵ (word s.block o (f k))) $
           fpack ! ℕ (λ k. word s.block o k) (f k) $ use2 𝓛 (‵ (beside (keeps s o) mark n)) (goes_in mark n) $
           move ! (1 ∷ 2 ∷ 0 ∷ []) $ fjoin3 ! $
           fpack ! Stage (at_stage (keeps s o)) (living mark w n) $ by ! (asking.closes 𝓛 I (a_share s q) j))
       at j over = via 𝓤 (never 𝓤) (qed 𝓛 (‵ (at_stage (keeps s o) over) ∷ ‵ (a_share s q) ∷ [])
-          ∵ fsplit ! $
-          move ! (2 ∷ []) $ fsplit ! $ keep ! (0 ∷ 2 ∷ []) $
+          ∵ fsplit ! $ move ! (2 ∷ []) $ fsplit ! $ keep ! (0 ∷ 2 ∷ []) $
           by ! (𝓛.lfts.lft-dead (shared s) q)) (never_e 𝓤 (Goes j))

@@ -22,8 +22,7 @@ pub fewer-stands : (limit word less n k : ℕ) (mark : Bool)
 fewer-stands limit word less n k mark s fewer t = (
   t,
   λ unmarked.
-      let none : mark ≡ false = sym t.same_mark ∙ unmarked in
-      let few : count_of less ≡ k = t.counts_live none in
+      let none : mark ≡ false = sym t.same_mark ∙ unmarked in let few : count_of less ≡ k = t.counts_live none in
       let many : count_of word ≡ n = s.0.counts_live none in
       let at_most : count_of word ≤ limit = s.1 (s.0.same_mark ∙ none) in
       subst (λ z. z ≤ limit) (sym few) (le_trans fewer (subst (λ z. z ≤ limit) many at_most)),

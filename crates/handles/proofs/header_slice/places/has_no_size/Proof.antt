@@ -22,15 +22,12 @@ has_no_size_spec 𝓤 𝓛 𝓜 𝓡 wired T L =
     proved 𝓛 En tt c 𝓜 𝓡 tt (#self inst) fn (code.unfolded 𝓤 H 𝓜 𝓡 wired (T, tt)) (λ κs. tt)
     (λ κs. tt) (λ κs qs bounds a gh are.
     let y : (walk_of 𝓛 En tt c).Ghost = ((κs, qs, bounds, tt, tt), gh) in
-    let Post : Val → SProp 𝓤 = (walk_of 𝓛 En tt c).post y in
-    let same : Bool = eqb (capped (size (layout T))) 0 in
+    let Post : Val → SProp 𝓤 = (walk_of 𝓛 En tt c).post y in let same : Bool = eqb (capped (size (layout T))) 0 in
     qed 𝓛 (((‵ (flft κs.0 qs.0) ⊛ ‵ ftrue) ⊛ ‵ ftrue) ∷ raw ((c κs a).requires gh) ∷ [])
-    ∵ keep ! (0 ∷ []) $ split ! $ split ! $
-    enter ! 𝓣.C 𝓣.Λ fn [] Post $ alloc_all ! (λ l. pass_all ! refl tt $
+    ∵ keep ! (0 ∷ []) $ split ! $ split ! $ enter ! 𝓣.C 𝓣.Λ fn [] Post $ alloc_all ! (λ l. pass_all ! refl tt $
     sets ! (bin ! (size_word !) (lit ! tt) tt) refl (tt, tt) $
     use0 𝓛 (raw (fact 𝓤 (IsTrue same ↔ (size (layout T) ≡ 0))))
     (fact_i 𝓤 (IsTrue same ↔ (size (layout T) ≡ 0)) (emp 𝓤) (capped_zero (size (layout T)))) $
-    feq_i ! (List Val) (vbool same ∷ []) (vbool same ∷ []) refl $ nothing_more ! $ move ! (3 ∷ 4 ∷ []) $
-    join ! $
+    feq_i ! (List Val) (vbool same ∷ []) (vbool same ∷ []) refl $ nothing_more ! $ move ! (3 ∷ 4 ∷ []) $ join ! $
     returns ! (look_at ! 0 refl) $ free_all ! refl $ keep ! (0 ∷ 1 ∷ 2 ∷ 3 ∷ []) $
     by ! (leaves 𝓛 En tt c y (vbool same) same tt tt)))

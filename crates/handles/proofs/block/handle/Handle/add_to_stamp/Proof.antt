@@ -1,7 +1,7 @@
 -- `add_to_stamp` is one addition to the stamp.
 use Rattle.handles.proofs.Walks.{◌≡◌, ℕ, ◌+◌, ◌%◌, ◌^◌, false, [], ◌∷◌, refl, lit<, w64, a_type, named, Val, vint, vptr}
 use Rattle.handles.proofs.Walks.{inst_fn, SProp, via, Lft, Share, Fml, ftrue, fsep, flft, ‵, raw, ◌⊛◌, at_ret, ◌$◌, ◌∵◌}
-use Rattle.handles.proofs.Walks.{!, qed, by, move, keep, split, join, fsplit, fjoin, stop, fld, load, addr, lit, of_opd}
+use Rattle.handles.proofs.Walks.{ !, qed, by, move, keep, split, join, fsplit, fjoin, stop, fld, load, addr, lit, of_opd}
 use Rattle.handles.proofs.Walks.{no_more, and_then, first, blocks, exec, Calls-last, returns, enter, alloc_all}
 use Rattle.handles.proofs.Walks.{pass_all, free_all, look_at, get, through, sets, lands_last, env, agg, sub, whole}
 use Rattle.handles.proofs.Walks.{look_in, tables, fact, yes, RattleType, owns, types_at, plain, Ptr, block_ptr}
@@ -40,10 +40,8 @@ add_to_stamp_spec 𝓤 𝓛 𝓜 𝓡 wired T L =
     qed 𝓛 (((‵ (flft κ q) ⊛ ‵ others) ⊛ ‵ (owns (types_at En.signature.params κs) a y.0.4))
     ∷ raw (fact 𝓤 _) ∷ raw (fact 𝓤 (a.0.now.sole ≡ false)) ∷ []) ∵ keep ! (2 ∷ 0 ∷ []) $
     heard ! (a.0.now.sole ≡ false) (λ shared. split ! $ split ! $ move ! (2 ∷ []) $ fsplit ! $ fsplit ! $
-    keep ! (1 ∷ 3 ∷ 4 ∷ []) $
-    enter ! 𝓣.C 𝓣.Λ fn (vptr b o ∷ vint w64 amount ∷ []) Post $
-    alloc_all ! (λ l. pass_all ! refl ((tt, tt), ((tt, record { fits = are.1.0.1 }), tt)) $
-    let Ev = env fn.locals l in
+    keep ! (1 ∷ 3 ∷ 4 ∷ []) $ enter ! 𝓣.C 𝓣.Λ fn (vptr b o ∷ vint w64 amount ∷ []) Post $
+    alloc_all ! (λ l. pass_all ! refl ((tt, tt), ((tt, record { fits = are.1.0.1 }), tt)) $ let Ev = env fn.locals l in
     opens_handle R p x η ! tt a.0.now.sole shared b o (λ inb i e r.
     -- [the word; what it says; the token's way back; the open borrow; the share; the rule; the sharing; the other
     -- tokens]
@@ -51,11 +49,9 @@ add_to_stamp_spec 𝓤 𝓛 𝓜 𝓡 wired T L =
     refl (tt, tt) $ shuts ! tt D r (p, tt) (one_word (block_ptr pb po) ∷ []) b o $
     -- [half of the token; the open borrow; the share; the rule; the sharing; the other tokens]
     let at_stamp : ℕ = po + stamp_offset in let aft : ℕ → Fml = λ _. lent_share i e in
-    first ! $ blocks ! $ sets ! (addr ! (through ! refl (fld ! refl (stop !)))) refl (tt, tt) $
-    move ! (2 ∷ 3 ∷ []) $
+    first ! $ blocks ! $ sets ! (addr ! (through ! refl (fld ! refl (stop !)))) refl (tt, tt) $ move ! (2 ∷ 3 ∷ []) $
     asks_with ! (via 𝓤 _ (stamps 𝓛 (block_at R p x η i) at_stamp e (λ n. (n + amount) % 2 ^ 64))
-    (adds 𝓛 𝓜 𝓡 (code.calls-core::raw_atomic::fetch_add 𝓡.env wired)
-    (block_ptr pb at_stamp) amount are.1.0.1 aft)) $
+    (adds 𝓛 𝓜 𝓡 (code.calls-core::raw_atomic::fetch_add 𝓡.env wired) (block_ptr pb at_stamp) amount are.1.0.1 aft)) $
     sets ! (agg ! (and_then ! (lit ! tt) (no_more !))) refl (tt, (record { fits = lit< tt }, tt)) $
     Calls-last ! (fm 𝓛 𝓜 𝓡) (found aft) (and_then ! (get ! refl) (and_then ! (get ! refl)
     (and_then ! (get ! refl) (no_more !)))) (λ u. finds ! aft (λ n fits.
@@ -65,5 +61,4 @@ add_to_stamp_spec 𝓤 𝓛 𝓜 𝓡 wired T L =
     move ! (0 ∷ 2 ∷ 3 ∷ []) $ closes_borrow ! tt $ move ! (0 ∷ 3 ∷ []) $ join ! $ is_number ! n fits $
     nothing_more ! $ nothing_more ! $
     nothing_more ! $ fjoin ! $ nothing_more ! $ fjoin ! $ returns ! (look_at ! 0 refl) $ free_all ! refl $
-    keep ! (3 ∷ 0 ∷ 2 ∷ 1 ∷ []) $
-    by ! (leaves 𝓛 En hs c y (vint w64 n) n (tt, (tt, tt)) (tt, (tt, tt)))))))))
+    keep ! (3 ∷ 0 ∷ 2 ∷ 1 ∷ []) $ by ! (leaves 𝓛 En hs c y (vint w64 n) n (tt, (tt, tt)) (tt, (tt, tt)))))))))

@@ -28,34 +28,24 @@ first_spec 𝓤 𝓛 𝓜 𝓡 wired T L =
     let hs : Stays En.signature.params En.kept = (stay_dropped boxed no, tt) in
     proved_at 𝓛 En hs c 𝓜 𝓡 (Goes-blank 𝓛 1 boxed no (λ κs x f. tt), tt) (#self inst)
     fn (code.unfolded 𝓤 H 𝓜 𝓡 wired (T, tt)) (λ z are.
-    let κs = z.0.0 in let d : RawBox.Denot = z.0.3.0 in
-    let Post : Val → SProp 𝓤 = (walk_of 𝓛 En hs c).post z in
-    let Run : List Val → SProp 𝓤 = λ ws. WpFn 𝓤 H 𝓣.C 𝓣.Λ fn ws Post in
-    let x : (HeldRow R).Denot = d.value.held in
+    let κs = z.0.0 in let d : RawBox.Denot = z.0.3.0 in let Post : Val → SProp 𝓤 = (walk_of 𝓛 En hs c).post z in
+    let Run : List Val → SProp 𝓤 = λ ws. WpFn 𝓤 H 𝓣.C 𝓣.Λ fn ws Post in let x : (HeldRow R).Denot = d.value.held in
     qed 𝓛 (((‵ (flft κs.0 z.0.1.0) ⊛ ‵ ftrue) ⊛ ‵ (owns (types_at En.signature.params κs)
     z.0.3 z.0.4)) ∷ raw (fact 𝓤 _) ∷ raw (fact 𝓤 (d.value.word ≡ 1)) ∷ []) ∵
     keep ! (2 ∷ 0 ∷ []) $ heard ! (d.value.word ≡ 1) (λ new. split ! $ move ! (1 ∷ []) $ fsplit ! $
     raw_box_opens (block_type.the_row R) ! d z.0.4.0 (λ b o h placed is_pair good. let p : Ptr = block_ptr b o in
     -- [the box; its allocator; nothing; the tokens]
-    use1 𝓛 (‵ (bare_block R p x d.value.word))
-    (box_opens T L 𝓛 b o d.value.word d.value.stamp x d.value.alloc) $
+    use1 𝓛 (‵ (bare_block R p x d.value.word)) (box_opens T L 𝓛 b o d.value.word d.value.stamp x d.value.alloc) $
     rewrite ! 0 (λ (w : ℕ). ‵ (bare_block R p x w)) new refl $
     use1 𝓛 (later (exists (λ (η : ℕ). ‵ (owned_as R p x η true))))
     (begins_sole R (param_laws 0 T L) 𝓛 p x) $ keep ! (0 ∷ 3 ∷ []) $
     suffices ! (Run (pair_val (vptr b o) h ∷ [])) (subst (λ (us : List Val). ent 𝓤 (Run (pair_val (vptr b o)
-    h ∷ [])) (Run us)) (sym (λ j. is_pair j ++ [])) (id⊢ 𝓤 _)) $
-    enter ! 𝓣.C 𝓣.Λ fn (pair_val (vptr b o) h ∷ []) Post $
+    h ∷ [])) (Run us)) (sym (λ j. is_pair j ++ [])) (id⊢ 𝓤 _)) $ enter ! 𝓣.C 𝓣.Λ fn (pair_val (vptr b o) h ∷ []) Post $
     alloc_all ! (λ l. pass_all ! refl (raw_box-Good b o h good, tt) $ await ! tt $ pick ! (λ η.
     nothing_more ! $ fpack ! (InBlock p) (λ _. ftrue) tt $ fjoin ! $
     use0 𝓛 (‵ ((HandleWords R).own_val (p, tt) (one_word p ∷ []))) (words_made (handle_type.the_type R).name (R
-    ∷ []) 𝓛 p) $ fjoin ! $
-    sets ! (of_opd ! (get_in ! (fld ! refl (stop !)) (sub ! 0 refl (whole !)))) refl (tt, tt) $
+    ∷ []) 𝓛 p) $ fjoin ! $ sets ! (of_opd ! (get_in ! (fld ! refl (stop !)) (sub ! 0 refl (whole !)))) refl (tt, tt) $
     sets ! (agg ! (and_then ! (get ! refl) (no_more !))) refl (tt, (tt, tt)) $
     known ! (true ≡ true) refl $ known ! (x ≡ x) refl $ join ! $ nothing_more ! $ nothing_more ! $ fjoin ! $
     returns ! (look_at ! 0 refl) $ free_all ! refl $ keep ! (3 ∷ 0 ∷ 2 ∷ 1 ∷ []) $
-    by ! (leaves 𝓛 En hs c z (one_word p) (record {
-      block = p;
-      held = x;
-      sole = true;
-      id = η;
-    }) (tt, tt) (tt, tt)))))))
+    by ! (leaves 𝓛 En hs c z (one_word p) (record { block = p; held = x; sole = true; id = η }) (tt, tt) (tt, tt)))))))

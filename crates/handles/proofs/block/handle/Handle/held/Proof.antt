@@ -29,8 +29,7 @@ held_spec 𝓤 𝓛 𝓜 𝓡 wired T L =
     let o : ℕ = a.ref_ptr.1 in let pb : ℕ = block_of p in let po : ℕ = offset_of p in
     let D : RattleType = HandleWords R in let κ : Lft = κs.0 in
     enter ! 𝓣.C 𝓣.Λ fn (vptr b o ∷ []) Post $ alloc_all ! (λ l. pass_all ! refl ((tt, tt), tt) $
-    let Ev = env fn.locals l in
-    use1 𝓛 (‵ (hidden_shr D κ (p, tt) b o) ⊛ ‵ (fhide (handle_shares R p x η a.now.sole κ)))
+    let Ev = env fn.locals l in use1 𝓛 (‵ (hidden_shr D κ (p, tt) b o) ⊛ ‵ (fhide (handle_shares R p x η a.now.sole κ)))
     (id⊢ 𝓤 _) $ split ! $
     move ! (1 ∷ []) $ unhide ! $ fsplit ! $ fpick ! (λ inb. drop ! $ let there : ℕ = po + held_offset R in
     use1 𝓛 (‵ (shown R p x κ)) (shown_by R (param_laws 0 T L) 𝓛 p x η a.now.sole κ) $

@@ -1,6 +1,6 @@
 -- `into_gain` takes the block of a handle that is known to be the only one.
 use Rattle.handles.proofs.Fields.{sole_permits}
-use Rattle.handles.proofs.Walks.{pick, permit_owns, use1, ◌≡◌, ℕ, Bool, true, [], ◌∷◌, refl, a_type, inst_fn, ‵, ◌$◌, !}
+use Rattle.handles.proofs.Walks.{pick, permit_owns, use1, ◌≡◌, ℕ, Bool, true, [], ◌∷◌, refl, a_type, inst_fn, ‵, ◌$◌, ! }
 use Rattle.handles.proofs.Walks.{by, keep, fjoin, use0, rewrite, stop, fld, of_opd, no_more, and_then, returns, enter}
 use Rattle.handles.proofs.Walks.{alloc_all, pass_all, free_all, look_at, get, get_in, sets, agg, sub, whole, tables}
 use Rattle.handles.proofs.Walks.{fact, RattleType, Ptr, param, layouts, Right, HeldRow, one_word, one_word-Good}
@@ -27,8 +27,7 @@ into_permit_spec 𝓤 𝓛 𝓜 𝓡 wired T L =
     (code.unfolded 𝓤 𝓛.H 𝓜 𝓡 wired (T, tt)) (λ κs qs a gh Post asked ends.
     let p : Ptr = a.block in let x : (HeldRow R).Denot = a.held in let η : ℕ = a.id in let r : Right = whole_block 1 in
     rewrite ! 0 (λ (z : Bool). ‵ (handle_owns R p x η z)) asked refl $
-    use1 𝓛 (exists (λ (log : List WordStep). ‵ (permit_owns R p x η (whole_block 1) log)))
-    (sole_permits 𝓛 R p x η) $
+    use1 𝓛 (exists (λ (log : List WordStep). ‵ (permit_owns R p x η (whole_block 1) log))) (sole_permits 𝓛 R p x η) $
     pick ! (λ log.
     enter ! 𝓣.C 𝓣.Λ fn (one_word p ∷ []) Post $ alloc_all ! (λ l. pass_all ! refl (one_word-Good p, tt) $
     sets ! (of_opd ! (get_in ! (fld ! refl (stop !)) (sub ! 0 refl (whole !)))) refl (Ptr-Good p) $

@@ -20,8 +20,7 @@ into_shared_spec 𝓤 𝓛 𝓜 𝓡 wired T L =
     by_value (handle_worded R) En.signature.outlives En.signature.result 𝓛 𝓜 𝓡 (clauses T 𝓛 𝓜.mem 𝓡.returns)
     (λ κs a. Unit {0}) (λ κs a gh. fact_i 𝓤 _ _ tt) (λ κs a. (tt, tt)) (λ κs x f. refl) (#self inst) fn (code.unfolded 𝓤 𝓛.H 𝓜 𝓡 wired (T, tt))
     (λ κs qs a gh Post is ends. let p : Ptr = a.block in let x : (HeldRow R).Denot = a.held in let η : ℕ = a.id in
-    fsplit ! $ move ! (1 ∷ []) $
-    use1 𝓛 (‵ (owned_as R p x η false)) (forgets R (param_laws 0 T L) 𝓛 p x η a.sole) $
+    fsplit ! $ move ! (1 ∷ []) $ use1 𝓛 (‵ (owned_as R p x η false)) (forgets R (param_laws 0 T L) 𝓛 p x η a.sole) $
     move ! (1 ∷ 0 ∷ []) $ fjoin ! $
     enter ! 𝓣.C 𝓣.Λ fn (one_word p ∷ []) Post $ alloc_all ! (λ l. pass_all ! refl (one_word-Good p, tt) $
     sets ! (of_opd ! (get_in ! (fld ! refl (stop !)) (sub ! 0 refl (whole !)))) refl (Ptr-Good p) $

@@ -2,7 +2,7 @@
 -- step itself.
 use Rattle.handles.proofs.Walks.{◌≡◌, ℕ, false, List, [], ◌∷◌, refl, a_type, named, Val, vptr, inst_fn, SProp, Lft}
 use Rattle.handles.proofs.Walks.{Share, Fml, ftrue, fsep, flft, finv, later, await, pick, ‵, raw, ◌⊛◌, at_ret, ◌$◌, ◌∵◌}
-use Rattle.handles.proofs.Walks.{!, qed, by, move, keep, drop, split, join, fsplit, fjoin, fjoin3, fpick, rewrite, use1}
+use Rattle.handles.proofs.Walks.{ !, qed, by, move, keep, drop, split, join, fsplit, fjoin, fjoin3, fpick, rewrite, use1}
 use Rattle.handles.proofs.Walks.{use2, feq_i, stop, fld, load, addr, of_opd, first, blocks, exec, returns, enter}
 use Rattle.handles.proofs.Walks.{alloc_all, pass_all, free_all, look_at, get, through, sets, sets_last, env, sub, whole}
 use Rattle.handles.proofs.Walks.{look_in, tables, fact, yes, RattleType, owns, types_at, plain, Ptr, block_ptr}
@@ -35,23 +35,19 @@ marked_by_spec 𝓤 𝓛 𝓜 𝓡 wired T L =
     let goes = Goes-dropped 𝓛 3 reported yes (λ κs x f. refl) in
     proved 𝓛 En hs c 𝓜 𝓡 (Goes-dropped 𝓛 3 self yes (λ κs x f. refl), (goes, tt)) (#self inst) fn (code.unfolded 𝓤 𝓛.H 𝓜 𝓡 wired (T, tt))
     (λ κs. (shr_vals, ((λ s. vstruct vnil ∷ []), tt)))
-    (λ κs. (shr_Tells (named 0) κs.0 (HandleRow R), ((λ s vs so. no_bytes_told vs so.0), tt)))
-    (λ κs qs bounds a gh are.
+    (λ κs. (shr_Tells (named 0) κs.0 (HandleRow R), ((λ s vs so. no_bytes_told vs so.0), tt))) (λ κs qs bounds a gh are.
     let b : ℕ = a.0.ref_ptr.0 in let o : ℕ = a.0.ref_ptr.1 in let κ : Lft = κs.0 in let q : Share = qs.0 in
     let others : Fml = fsep (flft κs.1.0 qs.1.0) (fsep (flft κs.1.1.0 qs.1.1.0) ftrue) in
     let p : Ptr = a.0.now.block in let x : (HeldRow R).Denot = a.0.now.held in let η : ℕ = a.0.now.id in
     let old : List WordStep = a.1.0.log in let pb : ℕ = block_of p in let po : ℕ = offset_of p in
     let y : (walk_of 𝓛 En hs c).Ghost = ((κs, qs, bounds, a, (vptr b o ∷ [], (vstruct vnil ∷ [], tt))), gh) in
     let Post : Val → SProp 𝓤 = (walk_of 𝓛 En hs c).post y in let D : RattleType = HandleWords R in
-    qed 𝓛 (((‵ (flft κ q) ⊛ ‵ others) ⊛ ‵ (owns (types_at En.signature.params κs) a y.0.4))
-    ∷ raw (fact 𝓤 _)
-    ∷ raw (fact 𝓤 (a.0.now.sole ≡ false)) ∷ raw (fact 𝓤 (a.1.0.id ≡ η))
-    ∷ raw (fact 𝓤 (HasMark old)) ∷ []) ∵
+    qed 𝓛 (((‵ (flft κ q) ⊛ ‵ others) ⊛ ‵ (owns (types_at En.signature.params κs) a y.0.4)) ∷ raw (fact 𝓤 _)
+    ∷ raw (fact 𝓤 (a.0.now.sole ≡ false)) ∷ raw (fact 𝓤 (a.1.0.id ≡ η)) ∷ raw (fact 𝓤 (HasMark old)) ∷ []) ∵
     keep ! (2 ∷ 3 ∷ 4 ∷ 0 ∷ []) $ heard ! (a.0.now.sole ≡ false) (λ shared. heard ! (a.1.0.id ≡ η)
     (λ is_id. heard ! (HasMark old) (λ has.
     split ! $ split ! $ move ! (2 ∷ []) $ fsplit ! $ fsplit ! $ move ! (2 ∷ []) $ fsplit ! $ fsplit ! $
-    move ! (1 ∷ []) $ rewrite ! 0 (λ (z : ℕ). ‵ (reached z old)) is_id refl $
-    keep ! (4 ∷ 5 ∷ 6 ∷ 0 ∷ []) $
+    move ! (1 ∷ []) $ rewrite ! 0 (λ (z : ℕ). ‵ (reached z old)) is_id refl $ keep ! (4 ∷ 5 ∷ 6 ∷ 0 ∷ []) $
     enter ! 𝓣.C 𝓣.Λ fn (vptr b o ∷ vstruct vnil ∷ []) Post $
     alloc_all ! (λ l. pass_all ! refl ((tt, tt), ((tt, tt), tt)) $ let Ev = env fn.locals l in
     opens_handle R p x η ! tt a.0.now.sole shared b o (λ inb i e r. let I : Fml = block_rule R p x η i in
@@ -62,27 +58,20 @@ marked_by_spec 𝓤 𝓛 𝓜 𝓡 wired T L =
     (look_in ! 0 (sub ! 0 refl (whole !))))) refl (tt, tt) $
     shuts ! tt D r (p, tt) (one_word (block_ptr pb po) ∷ []) b o $
     -- [half of the token; the open borrow; the share; the rule; the sharing; the other tokens; the log]
-    move ! (6 ∷ 2 ∷ []) $ fjoin ! $ move ! (3 ∷ []) $
-    use1 𝓛 (‵ (finv I) ⊛ ‵ (finv I)) (𝓛.invs.inv_dup I) $
+    move ! (6 ∷ 2 ∷ []) $ fjoin ! $ move ! (3 ∷ []) $ use1 𝓛 (‵ (finv I) ⊛ ‵ (finv I)) (𝓛.invs.inv_dup I) $
     split ! $ move ! (0 ∷ 2 ∷ []) $
     use2 𝓛 (later (‵ (Known 𝓛 s e old has))) (knows 𝓛 s e old has) $ await ! tt $ fsplit ! $
     -- [the mark; the share; the rule; half of the token; the open borrow; the sharing; the other tokens]
-    use1 𝓛 (‵ (marked i) ⊛ ‵ (marked i)) (𝓛.lfts.dead_dup (i.unmarked ∷ [])) $ split ! $
-    move ! (0 ∷ 2 ∷ []) $
-    fjoin ! $
-    move ! (2 ∷ []) $ use1 𝓛 (‵ (finv I) ⊛ ‵ (finv I)) (𝓛.invs.inv_dup I) $ split ! $
-    move ! (0 ∷ 2 ∷ []) $
-    use2 𝓛 (later (exists (λ (w : ℕ). ‵ (Born 𝓛 s e w)))) (born 𝓛 s e) $ await ! tt $
-    pick ! (λ w. fsplit ! $
+    use1 𝓛 (‵ (marked i) ⊛ ‵ (marked i)) (𝓛.lfts.dead_dup (i.unmarked ∷ [])) $ split ! $ move ! (0 ∷ 2 ∷ []) $ fjoin ! $
+    move ! (2 ∷ []) $ use1 𝓛 (‵ (finv I) ⊛ ‵ (finv I)) (𝓛.invs.inv_dup I) $ split ! $ move ! (0 ∷ 2 ∷ []) $
+    use2 𝓛 (later (exists (λ (w : ℕ). ‵ (Born 𝓛 s e w)))) (born 𝓛 s e) $ await ! tt $ pick ! (λ w. fsplit ! $
     -- [the share; a handle; the rule; the mark; half of the token; the open borrow; the sharing; the other tokens]
-    move ! (0 ∷ 4 ∷ 5 ∷ []) $ closes_borrow ! tt $ move ! (0 ∷ 5 ∷ []) $ join ! $ move ! (1 ∷ []) $
-    fsplit ! $
+    move ! (0 ∷ 4 ∷ 5 ∷ []) $ closes_borrow ! tt $ move ! (0 ∷ 5 ∷ []) $ join ! $ move ! (1 ∷ []) $ fsplit ! $
     drop ! $ fsplit ! $ move ! (1 ∷ []) $ fpick ! (λ k. let j : Names = record i { own = k } in
     -- [the new handle's pass; its title; the tokens; the rule; the mark; the sharing]
     move ! (1 ∷ 0 ∷ []) $ fjoin ! $ move ! (0 ∷ 2 ∷ 4 ∷ []) $ fjoin3 ! $ move ! (2 ∷ 0 ∷ []) $ fjoin ! $
     use1 𝓛 (later (‵ (marked_shares R p x κs.1.0))) (becomes_lasting R (param_laws 0 T L) p x 𝓛 η j κs.1.0) $
-    await ! tt $
-    first ! $ blocks ! $ sets ! (of_opd ! (get ! refl)) refl (tt, tt) $
+    await ! tt $ first ! $ blocks ! $ sets ! (of_opd ! (get ! refl)) refl (tt, tt) $
     sets_last ! (addr ! (through ! refl (stop !))) refl (tt, tt) $
     exec ! 𝓣.C 𝓣.Λ Ev (after 2 fn.body) (at_ret Ev Post) $ sets ! (of_opd ! (get ! refl)) refl (tt, tt) $
     rewrite ! 0 (λ (z : Ptr). ‵ (marked_shares R z x κs.1.0)) (at_block p inb) refl $ hide ! $

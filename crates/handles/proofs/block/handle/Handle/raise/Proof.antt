@@ -31,8 +31,7 @@ raise_spec 𝓤 𝓛 𝓜 𝓡 wired T L =
     let 𝓣 = tables 𝓤 𝓛.H 𝓜 𝓡 𝓡.env in let R : RattleType = param 0 T in let En = ended T in
     let c = clauses T 𝓛 𝓜.mem 𝓡.returns in let inst = layouts (a_type ∷ []) (T, tt) in
     let fn = inst_fn inst code.function in let self = a_ref (HandleRow R) tt in
-    let number = plain (λ _. u64) in let given = plain (λ _. PermitRow R) in
-    let counted = stay_dropped number yes in
+    let number = plain (λ _. u64) in let given = plain (λ _. PermitRow R) in let counted = stay_dropped number yes in
     let hs : Stays En.signature.params En.kept =
     (stay_dropped self yes, (counted, (counted, (stay_dropped given no, tt)))) in
     let counts = Goes-dropped 𝓛 2 number yes (λ κs x f. refl) in
@@ -46,8 +45,7 @@ raise_spec 𝓤 𝓛 𝓜 𝓡 wired T L =
     let others : Fml = fsep (flft κs.1.0 qs.1.0) ftrue in let p : Ptr = a.0.now.block in
     let x : (HeldRow R).Denot = a.0.now.held in let η : ℕ = a.0.now.id in let pb : ℕ = block_of p in
     let po : ℕ = offset_of p in let seen : ℕ = a.1.0 in let next : ℕ = a.1.1.0 in
-    let same : Ptr = a.1.1.1.0.block in let old : List WordStep = a.1.1.1.0.log in
-    let values : Vals En.signature κs =
+    let same : Ptr = a.1.1.1.0.block in let old : List WordStep = a.1.1.1.0.log in let values : Vals En.signature κs =
     (vptr b o ∷ [], (vint w64 seen ∷ [], (vint w64 next ∷ [], (one_word same ∷ [], tt)))) in
     let y : (walk_of 𝓛 En hs c).Ghost = ((κs, qs, bounds, a, values), gh) in
     let Post : Val → SProp 𝓤 = (walk_of 𝓛 En hs c).post y in let D : RattleType = HandleWords R in
@@ -56,17 +54,14 @@ raise_spec 𝓤 𝓛 𝓜 𝓡 wired T L =
     ∷ raw (fact 𝓤 (next ≡ seen + 1)) ∷ raw (fact 𝓤 (same ≡ p)) ∷ raw (fact 𝓤 _)
     ∷ raw (fact 𝓤 (a.1.1.1.0.id ≡ η)) ∷ []) ∵ keep ! (2 ∷ 3 ∷ 4 ∷ 5 ∷ 7 ∷ 0 ∷ []) $
     heard ! (a.0.now.sole ≡ false) (λ shared. heard ! (seen < a.0.now.held.limit.count)
-    (λ below. heard ! (next ≡ seen + 1) (λ is_next. heard ! (same ≡ p) (λ is_same. heard ! (a.1.1.1.0.id ≡ η)
-    (λ is_id.
+    (λ below. heard ! (next ≡ seen + 1) (λ is_next. heard ! (same ≡ p) (λ is_same. heard ! (a.1.1.1.0.id ≡ η) (λ is_id.
     split ! $ split ! $ move ! (2 ∷ []) $ fsplit ! $ fsplit ! $ move ! (2 ∷ []) $ fsplit3 ! $ move ! (2 ∷ []) $
     fsplit ! $ fsplit ! $ move ! (1 ∷ []) $ fsplit ! $ rewrite ! 0 (λ (z : ℕ). ‵ (reached z old)) is_id refl $
-    keep ! (7 ∷ 8 ∷ 9 ∷ 0 ∷ []) $
-    let s_fits : Fits w64 seen = record { fits = are.1.0.1 } in
+    keep ! (7 ∷ 8 ∷ 9 ∷ 0 ∷ []) $ let s_fits : Fits w64 seen = record { fits = are.1.0.1 } in
     let n_fits : Fits w64 next = record { fits = are.1.1.0.1 } in
     enter ! 𝓣.C 𝓣.Λ fn (vptr b o ∷ vint w64 seen ∷ vint w64 next ∷ one_word same ∷ []) Post $
     alloc_all ! (λ l. pass_all ! refl ((tt, tt), ((tt, s_fits), ((tt, n_fits), (one_word-Good same, tt)))) $
-    let Ev = env fn.locals l in
-    opens_handle R p x η ! tt a.0.now.sole shared b o (λ inb i e r.
+    let Ev = env fn.locals l in opens_handle R p x η ! tt a.0.now.sole shared b o (λ inb i e r.
     -- [the word; what it says; the token's way back; the open borrow; the share; the rule; the sharing; the other
     -- tokens; that the log was reached]
     sets ! (is ! (of_opd ! (get_in ! (fld ! refl (stop !)) (sub ! 0 refl (whole !))))
@@ -86,8 +81,7 @@ raise_spec 𝓤 𝓛 𝓜 𝓡 wired T L =
     sets ! (of_opd ! (get ! refl)) refl (tt, record { fits = fits }) $
     reports R p x η ! tt inb i e r' old (step.raises_from seen) n (λ within log adds.
     sets ! (is ! (agg ! (and_then ! (get ! refl) (no_more !))) (ap one_word (sym (at_block p inb))))
-    refl (one_word-Good p) $
-    sets ! (agg ! (and_then ! (get ! refl) (and_then ! (get ! refl) (no_more !))))
+    refl (one_word-Good p) $ sets ! (agg ! (and_then ! (get ! refl) (and_then ! (get ! refl) (no_more !))))
     refl (word_and_permit-Good n fits p) $ returns_permit R p x η ! n fits r' log $
     move ! (1 ∷ 2 ∷ []) $ join ! $ move ! (1 ∷ []) $
     use0 𝓛 (raw ((c κs a).ensures gh (n, permit_at R p x r' η log) (at_exit En κs a (tt, (tt, (tt, (tt, tt)))))))

@@ -36,8 +36,7 @@ read_for_drop_spec 𝓤 𝓛 𝓜 𝓡 wired T L =
     fsplit ! $ fpick ! (λ inb. drop ! $ let at : p ≡ block_ptr pb po = at_block p inb in
     use1 𝓛 (‵ (owned_as R p x η false)) (forgets R (param_laws 0 T L) 𝓛 p x η a.sole) $
     use2 𝓛 (later (‵ (counted_handle R p x η) ⊛ ‵ (flft κ q))) (handle_settles R (param_laws 0 T L)
-    𝓛 p x η κ asked κ q
-    (Incl-refl κ)) $
+    𝓛 p x η κ asked κ q (Incl-refl κ)) $
     enter ! 𝓣.C 𝓣.Λ fn (one_word p ∷ []) Post $ alloc_all ! (λ l. pass_all ! refl (one_word-Good p, tt) $
     let Ev = env fn.locals l in await ! tt $ split ! $ fpick ! (λ i. fsplit3 ! $
     -- [the stake; the rule; the sharing; the token]

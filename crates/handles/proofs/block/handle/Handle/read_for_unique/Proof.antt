@@ -49,29 +49,23 @@ read_for_unique_spec 𝓤 𝓛 𝓜 𝓡 wired T L =
     let Post : Val → SProp 𝓤 = (walk_of 𝓛 En hs c).post y in
     qed 𝓛 (((‵ (flft κ q) ⊛ ‵ (flft μ r) ⊛ ‵ ftrue) ⊛ ‵ (owns (types_at En.signature.params κs)
     a y.0.4)) ∷ raw (fact 𝓤 (μ ⊑ T.lives)) ∷ ‵ ftrue ∷ []) ∵
-    keep ! (1 ∷ 0 ∷ []) $ heard ! (μ ⊑ T.lives) (λ lives. split ! $ split3 ! $ move ! (3 ∷ []) $ fsplit ! $
-    fsplit3 ! $
+    keep ! (1 ∷ 0 ∷ []) $ heard ! (μ ⊑ T.lives) (λ lives. split ! $ split3 ! $ move ! (3 ∷ []) $ fsplit ! $ fsplit3 ! $
     enter ! 𝓣.C 𝓣.Λ fn (vptr b o ∷ []) Post $ alloc_all ! (λ l. pass_all ! refl ((tt, tt), tt) $
     let Ev = env fn.locals l in
     -- [the reference's place; its name; its borrow; nothing; its token; the token of T; nothing]
     move ! (1 ∷ 2 ∷ 4 ∷ []) $ opens ! tt Self {h = me} b o (λ vs. move ! (1 ∷ []) $ fsplit ! $
     peeks ! D (Is D) (shows 𝓛 D) (p, tt)
     vs (λ is_so. let ev : vs ≡ one_word p ∷ [] = words_are (handle_type.the_type R).name (R ∷ [])
-    p vs is_so in drop ! $
-    fsplit ! $ fpick ! (λ inb. drop ! $
-    let at : p ≡ block_ptr pb po = at_block p inb in
+    p vs is_so in drop ! $ fsplit ! $ fpick ! (λ inb. drop ! $ let at : p ≡ block_ptr pb po = at_block p inb in
     rewrite ! 1 (λ (ws : List Val). ‵ (cell_at full_share Self.mir ws b o))
     (ev ∙ ap (λ (z : Ptr). one_word z ∷ []) at) refl $
     -- [what it owns; its cell; the open borrow; its two names; its place; nothing; the token of T; nothing]
-    use1 𝓛 (‵ (owned_as R p x η false)) (forgets R (param_laws 0 T L) 𝓛 p x η me.sole) $
-    move ! (0 ∷ 7 ∷ []) $
+    use1 𝓛 (‵ (owned_as R p x η false)) (forgets R (param_laws 0 T L) 𝓛 p x η me.sole) $ move ! (0 ∷ 7 ∷ []) $
     use2 𝓛 (later (‵ (counted_handle R p x η) ⊛ ‵ (flft μ r))) (handle_settles R (param_laws 0 T L)
-    𝓛 p x η μ lives μ r
-    (Incl-refl μ)) $ await ! tt $ split ! $ fpick ! (λ i. fsplit3 ! $
+    𝓛 p x η μ lives μ r (Incl-refl μ)) $ await ! tt $ split ! $ fpick ! (λ i. fsplit3 ! $
     let aft : ℕ → Fml = and_logged (block_at R p x η i) [] step.claims (after_claim (block_at R p x η i)) in
     sets ! (of_opd ! (load ! (through ! refl (fld ! refl (stop !))) (look_in ! 4 (sub ! 0 refl (whole !)))))
-    refl (tt, tt) $
-    first ! $ blocks ! $ sets ! (addr ! (through ! refl (fld ! refl (stop !)))) refl (tt, tt) $
+    refl (tt, tt) $ first ! $ blocks ! $ sets ! (addr ! (through ! refl (fld ! refl (stop !)))) refl (tt, tt) $
     asks_new ! (via 𝓤 _ (claims 𝓛 (block_at R p x η i))
     (loads 𝓛 𝓜 𝓡 (code.calls-core::raw_atomic::load 𝓡.env wired) (block_ptr pb (po + 0)) aft)) $
     sets ! (agg ! (and_then ! (lit ! tt) (no_more !))) refl (tt, (record { fits = lit< tt }, tt)) $
@@ -87,8 +81,7 @@ read_for_unique_spec 𝓤 𝓛 𝓜 𝓡 wired T L =
     is_handle R p x η ! (is_one_handle n) $
     move ! (3 ∷ 0 ∷ 4 ∷ 5 ∷ 6 ∷ []) $ closes ! tt Self reported (one_word p ∷ []) b o $
     -- [its name; its borrow; its token; that the log was reached; the token of T; its place; nothing; nothing]
-    move ! (5 ∷ 0 ∷ 1 ∷ []) $ fjoin3 ! $ move ! (3 ∷ 4 ∷ []) $ join ! $ move ! (2 ∷ 0 ∷ []) $ join ! $
-    move ! (2 ∷ []) $
+    move ! (5 ∷ 0 ∷ 1 ∷ []) $ fjoin3 ! $ move ! (3 ∷ 4 ∷ []) $ join ! $ move ! (2 ∷ 0 ∷ []) $ join ! $ move ! (2 ∷ []) $
     sets ! (agg ! (no_more !)) refl (tt, tt) $
     sets ! (agg ! (and_then ! (get ! refl) (and_then ! (get ! refl) (no_more !)))) refl (word_and_logged-Good n fits) $
     returns_logged η n ! fits log $

@@ -27,8 +27,7 @@ stamp_spec 𝓤 𝓛 𝓜 𝓡 wired T L =
     let o : ℕ = a.ref_ptr.1 in let pb : ℕ = block_of p in let po : ℕ = offset_of p in
     let D : RattleType = HandleWords R in
     enter ! 𝓣.C 𝓣.Λ fn (vptr b o ∷ []) Post $ alloc_all ! (λ l. pass_all ! refl ((tt, tt), tt) $
-    let Ev = env fn.locals l in
-    opens_handle R p x η ! tt a.now.sole asked b o (λ inb i e r.
+    let Ev = env fn.locals l in opens_handle R p x η ! tt a.now.sole asked b o (λ inb i e r.
     -- [the word; what it says; the token's way back; the open borrow; the share; the rule; the sharing; the other
     -- tokens]
     sets ! (of_opd ! (load ! (through ! refl (fld ! refl (stop !))) (look_in ! 0 (sub ! 0 refl (whole !)))))

@@ -37,8 +37,7 @@ value_mut_spec 𝓤 𝓛 𝓜 𝓡 wired T L =
     let μ : Lft = κs.1.0 in let r : Share = qs.1.0 in let me : Self.Denot = a.0.now in let p : Ptr = me.block in
     let x : (HeldRow R).Denot = me.held in let η : ℕ = me.id in let γ : GName = a.0.ghost_name in
     let Lent : RattleType = MutRef (named 0) κ R in let held_at : ℕ = offset_of p + held_offset R in
-    let there : ℕ = held_at + value_offset T in let pb : ℕ = block_of p in
-    let po : ℕ = offset_of p in
+    let there : ℕ = held_at + value_offset T in let pb : ℕ = block_of p in let po : ℕ = offset_of p in
     let y : (walk_of 𝓛 En hs c).Ghost = ((κs, qs, bounds, a, (vptr b o ∷ [], tt)), gh) in
     let Post : Val → SProp 𝓤 = (walk_of 𝓛 En hs c).post y in
     qed 𝓛 (((‵ (flft κ q) ⊛ ‵ (flft μ r) ⊛ ‵ ftrue) ⊛ ‵ (owns (types_at En.signature.params κs)
@@ -51,8 +50,7 @@ value_mut_spec 𝓤 𝓛 𝓜 𝓡 wired T L =
     move ! (0 ∷ 1 ∷ 3 ∷ []) $ opens ! tt Self {h = me} b o (λ vs. move ! (1 ∷ []) $ fsplit ! $
     peeks ! D (Is D) (shows 𝓛 D) (p, tt) vs (λ is_so. let ev : vs ≡ one_word p
     ∷ [] = words_are (handle_type.the_type R).name (R ∷ []) p vs is_so in drop ! $
-    rewrite ! 0 (λ (z : Bool). ‵ (handle_owns R p x η z)) sole refl $
-    fsplit ! $ fpick ! (λ inb. drop ! $
+    rewrite ! 0 (λ (z : Bool). ‵ (handle_owns R p x η z)) sole refl $ fsplit ! $ fpick ! (λ inb. drop ! $
     let at : p ≡ block_ptr pb po = at_block p inb in
     rewrite ! 1 (λ (ws : List Val). ‵ (cell_at full_share Self.mir ws b o))
     (ev ∙ ap (λ (z : Ptr). one_word z ∷ []) at) refl $
@@ -66,8 +64,7 @@ value_mut_spec 𝓤 𝓛 𝓜 𝓡 wired T L =
     exec ! 𝓣.C 𝓣.Λ Ev (after 2 fn.body) (at_ret Ev Post) $ sets ! (of_opd ! (get ! refl)) refl (tt, tt) $
     move ! (4 ∷ 5 ∷ []) $ fjoin ! $ move ! (4 ∷ 0 ∷ []) $ fjoin ! $ move ! (3 ∷ 0 ∷ []) $ fjoin ! $
     -- [what is beside what is held; the value; the limit and what is left; the open borrow; its two names]
-    move ! (2 ∷ 0 ∷ []) $ fjoin ! $ move ! (2 ∷ 3 ∷ 4 ∷ 1 ∷ 0 ∷ []) $ group ! 5 $
-    use1 𝓛 (later (some (λ (δ : GName).
+    move ! (2 ∷ 0 ∷ []) $ fjoin ! $ move ! (2 ∷ 3 ∷ 4 ∷ 1 ∷ 0 ∷ []) $ group ! 5 $ use1 𝓛 (later (some (λ (δ : GName).
     ‵ (Lent.own_val (record { ref_ptr = (pb, there); ghost_name = δ; now = x.value }) (vptr pb there ∷ []))
     ⊛ ‵ (flft κ q) ⊛ ‵ (follows Self R γ δ (with_value me)))))
     (lends_Part 𝓛 Self R (with_value me) (named 0) κ q b o pb there γ (sem 𝓛 (Rest T p x.limit η b o))
@@ -75,8 +72,7 @@ value_mut_spec 𝓤 𝓛 𝓜 𝓡 wired T L =
     await ! tt $ pick ! (λ δ.
     let lent : MutBor R.Denot = record { ref_ptr = (pb, there); ghost_name = δ; now = x.value } in
     -- [the result; the token; what follows; nothing; the token of T; nothing]
-    split3 ! $ move ! (4 ∷ 5 ∷ []) $ join ! $ move ! (2 ∷ 0 ∷ []) $ join ! $
-    known ! (x.value ≡ x.value) refl $
+    split3 ! $ move ! (4 ∷ 5 ∷ []) $ join ! $ move ! (2 ∷ 0 ∷ []) $ join ! $ known ! (x.value ≡ x.value) refl $
     move ! (3 ∷ 0 ∷ []) $ join ! $ nothing_more ! $ nothing_more ! $ fjoin ! $
     returns ! (look_at ! 0 refl) $ free_all ! refl $ keep ! (2 ∷ 0 ∷ 3 ∷ 1 ∷ []) $
     by ! (leaves 𝓛 En hs c y (vptr pb there) lent (tt, tt) (tt, tt)))))))))

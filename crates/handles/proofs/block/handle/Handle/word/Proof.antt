@@ -1,6 +1,6 @@
 -- `word` is one load of the word, which only asks.
 use Rattle.handles.proofs.Walks.{◌≡◌, ℕ, ◌+◌, false, [], ◌∷◌, refl, lit<, a_type, vptr, inst_fn, via, Fml, at_ret, ◌$◌}
-use Rattle.handles.proofs.Walks.{!, by, move, keep, stop, fld, load, addr, lit, of_opd, no_more, and_then, first}
+use Rattle.handles.proofs.Walks.{ !, by, move, keep, stop, fld, load, addr, lit, of_opd, no_more, and_then, first}
 use Rattle.handles.proofs.Walks.{blocks, exec, Calls-last, returns, enter, alloc_all, pass_all, free_all, look_at, get}
 use Rattle.handles.proofs.Walks.{through, sets, lands_last, env, agg, sub, whole, look_in, tables, fact, RattleType}
 use Rattle.handles.proofs.Walks.{Ptr, block_ptr, block_of, offset_of, shuts, param, layouts, after, fm, found, finds}
@@ -28,14 +28,11 @@ word_spec 𝓤 𝓛 𝓜 𝓡 wired T L =
     let o : ℕ = a.ref_ptr.1 in let pb : ℕ = block_of p in let po : ℕ = offset_of p in
     let D : RattleType = HandleWords R in
     enter ! 𝓣.C 𝓣.Λ fn (vptr b o ∷ []) Post $ alloc_all ! (λ l. pass_all ! refl ((tt, tt), tt) $
-    let Ev = env fn.locals l in
-    opens_handle R p x η ! tt a.now.sole asked b o (λ inb i e r.
+    let Ev = env fn.locals l in opens_handle R p x η ! tt a.now.sole asked b o (λ inb i e r.
     -- [the word; what it says; the token's way back; the open borrow; the share; the rule; the sharing; the other
     -- tokens]
-    sets ! (of_opd ! (load ! (through ! refl (fld ! refl (stop !))) (look_in ! 0 (sub ! 0 refl (whole !))))) refl (
-      tt,
-      tt,
-    ) $ shuts ! tt D r (p, tt) (one_word (block_ptr pb po) ∷ []) b o $
+    sets ! (of_opd ! (load ! (through ! refl (fld ! refl (stop !))) (look_in ! 0 (sub ! 0 refl (whole !))))) refl
+    (tt, tt) $ shuts ! tt D r (p, tt) (one_word (block_ptr pb po) ∷ []) b o $
     -- [half of the token; the open borrow; the share; the rule; the sharing; the other tokens]
     let aft : ℕ → Fml = and_logged (block_at R p x η i) [] step.asks (λ _. a_share (block_at R p x η i) e) in
     first ! $ blocks ! $ sets ! (addr ! (through ! refl (fld ! refl (stop !)))) refl (tt, tt) $

@@ -41,11 +41,9 @@ handle_spec 𝓤 𝓛 𝓜 𝓡 wired T L =
     -- [the open borrow; the share; the rule; the sharing; the mark; the token; the other tokens]
     drop ! $ move ! (3 ∷ 0 ∷ []) $ fjoin ! $ move ! (1 ∷ []) $
     use1 𝓛 (‵ (finv I) ⊛ ‵ (finv I)) (𝓛.invs.inv_dup I) $ split ! $ move ! (0 ∷ 2 ∷ []) $
-    use2 𝓛 (later (exists (λ (w : ℕ). ‵ (Born 𝓛 s e w)))) (born 𝓛 s e) $ await ! tt $
-    pick ! (λ w. fsplit ! $ drop ! $
+    use2 𝓛 (later (exists (λ (w : ℕ). ‵ (Born 𝓛 s e w)))) (born 𝓛 s e) $ await ! tt $ pick ! (λ w. fsplit ! $ drop ! $
     shows_permit R p x t.0 ! tt tt i a_handle [] step.reads w (λ log added. fsplit ! $ drop ! $
     sets ! (addr ! (through ! refl (stop !))) refl (tt, tt) $ sets ! (of_opd ! (get ! refl)) refl (tt, tt) $
-    sets ! (agg ! (and_then ! (get ! refl) (no_more !))) refl (tt, (tt, tt)) $
-    is_handle R p x t.0 ! false $
+    sets ! (agg ! (and_then ! (get ! refl) (no_more !))) refl (tt, (tt, tt)) $ is_handle R p x t.0 ! false $
     returns ! (look_at ! 0 refl) $ free_all ! refl $ keep ! (1 ∷ 2 ∷ 0 ∷ []) $
     by ! (ends (one_word p) (handle_at R p x false t.0) (also 𝓤 refl (so 𝓤 refl)))))))))

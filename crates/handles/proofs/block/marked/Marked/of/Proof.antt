@@ -23,8 +23,7 @@ use Rattle.handles.proofs.block.marked.Marked.of.Code as code
 
 pub of_spec : {M : Type 1} → statement M
 of_spec 𝓤 𝓛 𝓜 𝓡 wired T L =
-    let H = 𝓛.H in let 𝓣 = tables 𝓤 H 𝓜 𝓡 𝓡.env in let R : RattleType = param 0 T in
-    let En = ended T in
+    let H = 𝓛.H in let 𝓣 = tables 𝓤 H 𝓜 𝓡 𝓡.env in let R : RattleType = param 0 T in let En = ended T in
     let c = clauses T 𝓛 𝓜.mem 𝓡.returns in
     let inst = layouts (a_type ∷ []) (T, tt) in let fn = inst_fn inst code.function in
     let RawBox : RattleType = RawBoxRow (block_type.the_row R) in let boxed = plain (λ _. RawBox) in
@@ -42,20 +41,16 @@ of_spec 𝓤 𝓛 𝓜 𝓡 wired T L =
     (λ lives. split ! $ move ! (1 ∷ []) $ fsplit ! $
     raw_box_opens (block_type.the_row R) ! d z.0.4.0 (λ b o h placed is_pair good. let p : Ptr = block_ptr b o in
     -- [the box; its allocator; nothing; the tokens]
-    use1 𝓛 (‵ (bare_block R p x d.value.word))
-    (box_opens T L 𝓛 b o d.value.word d.value.stamp x d.value.alloc) $
-    keep ! (0 ∷ 3 ∷ []) $
-    use1 𝓛 (‵ (bare_block R p x (marked_word 1)))
+    use1 𝓛 (‵ (bare_block R p x d.value.word)) (box_opens T L 𝓛 b o d.value.word d.value.stamp x d.value.alloc) $
+    keep ! (0 ∷ 3 ∷ []) $ use1 𝓛 (‵ (bare_block R p x (marked_word 1)))
     (subst (λ (w : ℕ). ent 𝓤 (sem 𝓛 (bare_block R p x d.value.word))
     (sem 𝓛 (bare_block R p x w))) is_marked (id⊢ 𝓤 _)) $
     move ! (1 ∷ []) $ split ! $ move ! (1 ∷ []) $ fsplit ! $ move ! (3 ∷ 0 ∷ []) $
     use2 𝓛 (later (‵ (marked_shares R p x a) ⊛ ‵ (flft κ q))) (new_lasts R (param_laws 0 T L)
     p x 𝓛 κ q lives a) $
     suffices ! (Run (pair_val (vptr b o) h ∷ [])) (subst (λ (us : List Val). ent 𝓤 (Run (pair_val (vptr b o) h
-    ∷ [])) (Run us)) (sym (λ j. is_pair j ++ [])) (id⊢ 𝓤 _)) $
-    enter ! 𝓣.C 𝓣.Λ fn (pair_val (vptr b o) h ∷ []) Post $
-    alloc_all ! (λ l. pass_all ! refl (raw_box-Good b o h good, tt) $ let Ev = env fn.locals l in await ! tt $
-    split ! $
+    ∷ [])) (Run us)) (sym (λ j. is_pair j ++ [])) (id⊢ 𝓤 _)) $ enter ! 𝓣.C 𝓣.Λ fn (pair_val (vptr b o) h ∷ []) Post $
+    alloc_all ! (λ l. pass_all ! refl (raw_box-Good b o h good, tt) $ let Ev = env fn.locals l in await ! tt $ split ! $
     -- [what lasts; its token; no more; the other token]
     move ! (1 ∷ 2 ∷ []) $ fjoin ! $ move ! (2 ∷ 0 ∷ []) $ join ! $ move ! (1 ∷ []) $
     sets ! (of_opd ! (get_in ! (fld ! refl (stop !)) (sub ! 0 refl (whole !)))) refl (tt, tt) $

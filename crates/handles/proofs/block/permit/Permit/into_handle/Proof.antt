@@ -23,7 +23,6 @@ into_handle_spec 𝓤 𝓛 𝓜 𝓡 wired T L =
     rewrite ! 0 (λ (r : Right). ‵ (permit_owns R p x η r a.log)) asked refl $ fsplit ! $ drop ! $
     enter ! 𝓣.C 𝓣.Λ fn (one_word p ∷ []) Post $ alloc_all ! (λ l. pass_all ! refl (one_word-Good p, tt) $
     sets ! (of_opd ! (get_in ! (fld ! refl (stop !)) (sub ! 0 refl (whole !)))) refl (Ptr-Good p) $
-    sets ! (agg ! (and_then ! (get ! refl) (no_more !))) refl (one_word-Good p) $
-    is_handle R p x η ! false $
+    sets ! (agg ! (and_then ! (get ! refl) (no_more !))) refl (one_word-Good p) $ is_handle R p x η ! false $
     returns ! (look_at ! 0 refl) $ free_all ! refl $ keep ! (1 ∷ 0 ∷ []) $
     by ! (ends (one_word p) (handle_at R p x false η) (also 𝓤 refl (also 𝓤 refl (so 𝓤 refl))))))

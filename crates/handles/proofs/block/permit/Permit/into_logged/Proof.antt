@@ -24,6 +24,5 @@ into_logged_spec 𝓤 𝓛 𝓜 𝓡 wired T L =
     -- [the log; the tokens]
     enter ! 𝓣.C 𝓣.Λ fn (one_word p ∷ []) Post $ alloc_all ! (λ l. pass_all ! refl (one_word-Good p, tt) $
     sets ! (agg ! (no_more !)) refl (tt, tt) $ use0 𝓛 (‵ (NoBytes.own_val tt (vstruct vnil ∷ [])))
-    (no_bytes-made 𝓛) $ fjoin ! $
-    returns ! (look_at ! 0 refl) $ free_all ! refl $ keep ! (1 ∷ 0 ∷ []) $
+    (no_bytes-made 𝓛) $ fjoin ! $ returns ! (look_at ! 0 refl) $ free_all ! refl $ keep ! (1 ∷ 0 ∷ []) $
     by ! (ends (vstruct vnil) (record { id = η; log = log }) (also 𝓤 refl (so 𝓤 refl)))))

@@ -51,8 +51,7 @@ into_raw_box_spec 𝓤 𝓛 𝓜 𝓡 wired T L =
     sets ! (is ! (of_opd ! (get_in ! (fld ! refl (stop !)) (sub ! 0 refl (whole !)))) (ap ptr_val at)) refl (tt, tt)
     $ sets ! (of_opd ! (get ! refl)) refl (tt, tt) $
     first ! $ blocks ! $ sets_last ! (of_opd ! (load ! (through ! refl (fld ! refl (stop !))) (look ! 0 refl)))
-    refl good $ exec ! 𝓣.C 𝓣.Λ Ev (after 3 fn.body) (at_ret Ev Post) $
-    sets ! (of_opd ! (get ! refl)) refl good $
+    refl good $ exec ! 𝓣.C 𝓣.Λ Ev (after 3 fn.body) (at_ret Ev Post) $ sets ! (of_opd ! (get ! refl)) refl good $
     sets ! (agg ! (and_then ! (get ! refl) (and_then ! (get ! refl) (no_more !)))) refl (raw_box-Good pb po v good) $
     move ! (1 ∷ []) $ use1 𝓛 (‵ (heap_row.own_val h (v ∷ [])) ⊛ ‵ (heap_row.own_val h (v ∷ [])))
     (heap_twice 𝓛 h (v ∷ [])) $ split ! $ move ! (2 ∷ 0 ∷ []) $
@@ -60,10 +59,8 @@ into_raw_box_spec 𝓤 𝓛 𝓜 𝓡 wired T L =
     (part_in 𝓛 heap_row refl full_share h pb (po + heap_offset R) v) $ move ! (0 ∷ 2 ∷ 3 ∷ []) $
     fjoin3 ! $ move ! (4 ∷ []) $ fpick ! (λ s.
     -- [the stamp; what frees; the allocator; the value; the word; the tokens]
-    move ! (4 ∷ 0 ∷ 3 ∷ 1 ∷ []) $ group ! 4 $
-    use1 𝓛 (‵ (Boxed T L 𝓛 pb po n s x h)) (box_shuts T L 𝓛 pb po n s x h) $
+    move ! (4 ∷ 0 ∷ 3 ∷ 1 ∷ []) $ group ! 4 $ use1 𝓛 (‵ (Boxed T L 𝓛 pb po n s x h)) (box_shuts T L 𝓛 pb po n s x h) $
     raw_box_shuts Block ! pb po v h (record { word = n; stamp = s; held = x; alloc = h }) $
-    returns ! (look_at ! 0 refl) $ free_all ! refl $ keep ! (1 ∷ 0 ∷ []) $
-    by ! (ends (pair_val (vptr pb po) v)
+    returns ! (look_at ! 0 refl) $ free_all ! refl $ keep ! (1 ∷ 0 ∷ []) $ by ! (ends (pair_val (vptr pb po) v)
     (record { at = there; alloc = h; value = record { word = n; stamp = s; held = x; alloc = h } })
     (also 𝓤 refl (so 𝓤 is_whole))))))))))

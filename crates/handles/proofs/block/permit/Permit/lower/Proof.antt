@@ -41,8 +41,7 @@ lower_spec 𝓤 𝓛 𝓜 𝓡 wired T L =
     sets ! (is ! (of_opd ! (get_in ! (fld ! refl (stop !)) (sub ! 0 refl (whole !)))) (ap ptr_val at)) refl (tt, tt)
     $ first ! $ blocks ! $ sets ! (addr ! (through ! refl (fld ! refl (stop !)))) refl (tt, tt) $
     move ! (2 ∷ 0 ∷ []) $ fjoin ! $ asks_with ! (via 𝓤 _ (lowers 𝓛 (block_at R p x η i) old)
-    (subs 𝓛 𝓜 𝓡 (code.calls-core::raw_atomic::fetch_sub 𝓡.env wired)
-    (block_ptr pb (po + 0)) 1 (lit< tt) aft)) $
+    (subs 𝓛 𝓜 𝓡 (code.calls-core::raw_atomic::fetch_sub 𝓡.env wired) (block_ptr pb (po + 0)) 1 (lit< tt) aft)) $
     sets ! (agg ! (and_then ! (lit ! tt) (no_more !))) refl (tt, (record { fits = lit< tt }, tt)) $
     Calls-last ! (fm 𝓛 𝓜 𝓡) (found aft) (and_then ! (get ! refl) (and_then ! (lit ! tt)
     (and_then ! (get ! refl) (no_more !)))) (λ u. finds ! aft (λ n fits. let r' : Right = right_by_lower n in
@@ -53,7 +52,6 @@ lower_spec 𝓤 𝓛 𝓜 𝓡 wired T L =
     await ! tt $ pick ! (λ log. learn ! (λ adds.
     sets ! (is ! (agg ! (and_then ! (get ! refl) (no_more !))) (ap one_word (sym at))) refl (one_word-Good p) $
     sets ! (agg ! (and_then ! (get ! refl) (and_then ! (get ! refl) (no_more !))))
-    refl (word_and_permit-Good n fits p) $
-    returns_permit R p x η ! n fits r' log $
+    refl (word_and_permit-Good n fits p) $ returns_permit R p x η ! n fits r' log $
     returns ! (look_at ! 0 refl) $ free_all ! refl $ keep ! (1 ∷ 0 ∷ []) $
     by ! (ends (word_and_permit n p) (n, permit_at R p x r' η log) (also 𝓤 refl (also 𝓤 refl (also 𝓤 refl (so 𝓤 adds)))))))))))))

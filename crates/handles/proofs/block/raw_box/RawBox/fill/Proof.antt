@@ -27,27 +27,19 @@ fill_spec 𝓤 𝓛 𝓜 𝓡 wired T L =
     let fn = inst_fn inst code.function in
     let room = plain (λ _. vacant.the_row R heap.row heap.g) in let item = plain (λ _. R) in
     let hs : Stays En.signature.params En.kept = (stay_dropped room no, (stay_dropped item no, tt)) in
-    proved_at 𝓛 En hs c 𝓜 𝓡 (
-      Goes-blank 𝓛 1 room no (λ κs x f. tt),
-      (
-        Goes-dropped 𝓛 1 item no (λ
-            κs x f. refl),
-        tt,
-      ),
-    ) (#self inst) fn (code.unfolded 𝓤 H 𝓜 𝓡 wired (T, tt)) (λ z are.
+    proved_at 𝓛 En hs c 𝓜 𝓡 (Goes-blank 𝓛 1 room no (λ κs x f. tt), (Goes-dropped 𝓛 1 item no (λ κs x f. refl), tt))
+    (#self inst) fn (code.unfolded 𝓤 H 𝓜 𝓡 wired (T, tt)) (λ z are.
     let κs = z.0.0 in let qs = z.0.1 in let a : Global = z.0.3.0.alloc in let x : T.Denot = z.0.3.1.0 in
     let Post : Val → SProp 𝓤 = (walk_of 𝓛 En hs c).post z in
     let Run : List Val → SProp 𝓤 = λ ws. WpFn 𝓤 H 𝓣.C 𝓣.Λ fn ws Post in
     let toks = ‵ (flft κs.0 qs.0) ⊛ ‵ ftrue in let asked = raw ((c κs z.0.3).requires z.1) in
     qed 𝓛 ((toks ⊛ ‵ (owns (types_at En.signature.params κs) z.0.3 z.0.4)) ∷ asked ∷ []) ∵ split ! $
-    move ! (1 ∷ []) $ fsplit3 ! $
-    Vacant-had heap R ! z.0.3.0 z.0.4.0 (λ b o h at is_room good. move ! (3 ∷ []) $
+    move ! (1 ∷ []) $ fsplit3 ! $ Vacant-had heap R ! z.0.3.0 z.0.4.0 (λ b o h at is_room good. move ! (3 ∷ []) $
     el_tells E ! x z.0.4.1.0 (λ v is_item fits.
     -- [what the value owns; the room; the right to free; the allocator; nothing; the tokens; what is asked]
     move ! (1 ∷ []) $ as_written ! (box.τ E) b o $ let w : Val = vacant_val h b o in
     suffices ! (Run (w ∷ v ∷ [])) (subst (λ (us : List Val). ent 𝓤 (Run (w ∷ v ∷ [])) (Run us))
-    (sym (λ j. is_room j ++ (is_item j ++ []))) (id⊢ 𝓤 (Run (w ∷ v ∷ [])))) $
-    enter ! 𝓣.C 𝓣.Λ fn (w ∷ v ∷ []) Post $
+    (sym (λ j. is_room j ++ (is_item j ++ []))) (id⊢ 𝓤 (Run (w ∷ v ∷ [])))) $ enter ! 𝓣.C 𝓣.Λ fn (w ∷ v ∷ []) Post $
     alloc_all ! (λ l. pass_all ! refl (vacant_typed heap R h b o good, (fits, tt)) $ let Ev = env fn.locals l in
     sets ! (of_opd ! (get_in ! (fld ! refl (stop !)) (sub ! 0 refl (whole !)))) refl (tt, tt) $
     sets ! (of_opd ! (get_in ! (fld ! refl (stop !)) (sub ! 1 refl (whole !)))) refl good $

@@ -48,37 +48,19 @@ into_box_spec {M} 𝓤 𝓛 𝓜 𝓡 wired T L dx glue =
     (code.calls-std_heap::GlobalAllocator::grow 𝓡.env wired)
     (code.calls-std_heap::GlobalAllocator::shrink 𝓡.env wired) M 𝓤 𝓛 𝓜 𝓡 in
     let glued = glues 𝓡.env (code.calls-handles::Destruct++none::drop 𝓡.env wired)
-    heap_arg heap_arg-laws M 𝓤 𝓛 𝓜 𝓡 in
-    let k = triple_of 𝓛 (callee.signature T heap_arg heap.g heap.d heap.drops)
+    heap_arg heap_arg-laws M 𝓤 𝓛 𝓜 𝓡 in let k = triple_of 𝓛 (callee.signature T heap_arg heap.g heap.d heap.drops)
     (callee.spec T heap_arg heap.g heap.d heap.drops 𝓛 𝓜.mem 𝓡.returns) in
-    let y : k.Ghost = (
-      (
-        κκ,
-        (q, (full_share, tt)),
-        tt,
-        (a, (block_ptr b o, tt)),
-        (
-          h ∷ [],
-          (
-            vptr b o ∷ [],
-            tt,
-          ),
-        ),
-      ),
-      x,
-    ) in
+    let y : k.Ghost = ((κκ, (q, (full_share, tt)), tt, (a, (block_ptr b o, tt)), (h ∷ [], (vptr b o ∷ [], tt))), x) in
     -- [the memory; the allocator; nothing; the tokens; what is asked]
     move ! (4 ∷ []) $ use1 𝓛 (raw (fact 𝓤 (κ ⊑ T.lives)) ⊛ ‵ ftrue) (id⊢ 𝓤 _) $ split ! $
     move ! (1 ∷ []) $ drop ! $ move ! (1 ∷ []) $ known ! ([] ⊑ []) (⊑_static []) $ join ! $
-    move ! (1 ∷ 0 ∷ []) $ join ! $
-    move ! (2 ∷ []) $ feq_i ! (List Val) (vptr b o ∷ []) (vptr b o ∷ []) refl $ fjoin ! $
+    move ! (1 ∷ 0 ∷ []) $ join ! $ move ! (2 ∷ []) $ feq_i ! (List Val) (vptr b o ∷ []) (vptr b o ∷ []) refl $ fjoin ! $
     move ! (2 ∷ 0 ∷ []) $ fjoin ! $ move ! (2 ∷ 0 ∷ []) $ split ! $ move ! (1 ∷ []) $
     use0 𝓛 static (𝓛.lfts.lft-nil full_share) $ join ! $ move ! (1 ∷ 0 ∷ []) $ join ! $ join ! $
     join ! $ use1 𝓛 (raw (k.pre y)) (id⊢ 𝓤 _) $
     suffices ! (Run (w ∷ [])) (subst (λ (us : List Val). ent 𝓤 (Run (w ∷ [])) (Run us))
     (sym (λ j. is_pair j ++ [])) (id⊢ 𝓤 (Run (w ∷ [])))) $
-    enter ! 𝓣.C 𝓣.Λ fn (w ∷ []) Post $ alloc_all ! (λ l. pass_all ! refl (typed, tt) $
-    let Ev = env fn.locals l in
+    enter ! 𝓣.C 𝓣.Λ fn (w ∷ []) Post $ alloc_all ! (λ l. pass_all ! refl (typed, tt) $ let Ev = env fn.locals l in
     sets ! (of_opd ! (get_in ! (fld ! refl (stop !)) (sub ! 0 refl (whole !)))) refl (tt, tt) $
     sets ! (of_opd ! (get_in ! (fld ! refl (stop !)) (sub ! 1 refl (whole !)))) refl good $ first ! $ blocks ! $
     calls_at_last ! (fm 𝓛 𝓜 𝓡) k (met 𝓤 𝓛 𝓜 (named_in 𝓤 H 𝓜 𝓡 𝓡.env)

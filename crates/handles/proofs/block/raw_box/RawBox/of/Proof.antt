@@ -46,16 +46,14 @@ of_spec {M} 𝓤 𝓛 𝓜 𝓡 wired T L dx glue =
     let static = ‵ (flft [] full_share) in let toks = ‵ (flft κ q) ⊛ ‵ ftrue in
     let both = ‵ (flft κ q) ⊛ static ⊛ ‵ ftrue in let asked = raw ((c z.0.0 z.0.3).requires z.1) in
     qed 𝓛 ((toks ⊛ ‵ (owns (types_at En.signature.params z.0.0) z.0.3 z.0.4)) ∷ asked ∷ []) ∵ split ! $
-    move ! (1 ∷ []) $ fsplit ! $
-    box_out E ! v z.0.4.0 (λ b o h at is_pair good. box_in E ! v b o x at refl $
+    move ! (1 ∷ []) $ fsplit ! $ box_out E ! v z.0.4.0 (λ b o h at is_pair good. box_in E ! v b o x at refl $
     let w : Val = box.word E h b o in let typed = raw_box-Good b o h good in
     let allocator = passed 𝓡.env (code.calls-std_heap::GlobalAllocator::allocate 𝓡.env wired)
     (code.calls-std_heap::GlobalAllocator::deallocate 𝓡.env wired)
     (code.calls-std_heap::GlobalAllocator::grow 𝓡.env wired)
     (code.calls-std_heap::GlobalAllocator::shrink 𝓡.env wired) M 𝓤 𝓛 𝓜 𝓡 in
     let glued = glues 𝓡.env (code.calls-handles::Destruct++none::drop 𝓡.env wired)
-    heap_arg heap_arg-laws M 𝓤 𝓛 𝓜 𝓡 in
-    let k = triple_of 𝓛 (callee.signature T heap_arg heap.g heap.d heap.drops dx)
+    heap_arg heap_arg-laws M 𝓤 𝓛 𝓜 𝓡 in let k = triple_of 𝓛 (callee.signature T heap_arg heap.g heap.d heap.drops dx)
     (callee.spec T heap_arg heap.g heap.d heap.drops dx 𝓛 𝓜.mem 𝓡.returns) in
     let y : k.Ghost = ((κκ, (q, (full_share, tt)), tt, (v, tt), (w ∷ [], tt)), tt) in
     let Pair : RattleType = Tuple (RawPtr ∷ heap_row ∷ []) in
@@ -67,8 +65,7 @@ of_spec {M} 𝓤 𝓛 𝓜 𝓡 wired T L dx glue =
     suffices ! (Run (w ∷ [])) (subst (λ (us : List Val). ent 𝓤 (Run (w ∷ [])) (Run us))
     (sym (λ j. is_pair j ++ [])) (id⊢ 𝓤 (Run (w ∷ [])))) $
     enter ! 𝓣.C 𝓣.Λ fn (w ∷ []) Post $ alloc_all ! (λ l. pass_all ! refl (typed, tt) $
-    sets ! (of_opd ! (get ! refl)) refl typed $
-    calls_at ! (fm 𝓛 𝓜 𝓡) k (met 𝓤 𝓛 𝓜 (named_in 𝓤 H 𝓜 𝓡 𝓡.env)
+    sets ! (of_opd ! (get ! refl)) refl typed $ calls_at ! (fm 𝓛 𝓜 𝓡) k (met 𝓤 𝓛 𝓜 (named_in 𝓤 H 𝓜 𝓡 𝓡.env)
     (code.calls-std_alloc::boxed::Box::into_raw_with_allocator 𝓡.env wired)
     T heap_arg L heap_arg-laws heap.g heap.d heap.drops dx allocator glued glue) y (and_then ! (get ! refl)
     (no_more !)) (λ u.
@@ -76,8 +73,7 @@ of_spec {M} 𝓤 𝓛 𝓜 𝓡 wired T L dx glue =
     ⊛ some (λ (ls : Lasts (callee.ended T heap_arg heap.g heap.d heap.drops dx)
     κκ y.0.3). ‵ (lasts (callee.ended T heap_arg heap.g heap.d heap.drops dx) κκ y.0.3 ls)
     ⊛ (raw (fact 𝓤 (r.1 ≡ a)) ⊛ ‵ (box_owns (ghosts.dealloc_token a) R r.0 x)))))) (id⊢ 𝓤 _) $
-    await ! tt $ pick ! (λ r. split ! $ move ! (1 ∷ []) $ pick ! (λ _. split3 ! $ drop ! $
-    heard ! (r.1 ≡ a) (λ same.
+    await ! tt $ pick ! (λ r. split ! $ move ! (1 ∷ []) $ pick ! (λ _. split3 ! $ drop ! $ heard ! (r.1 ≡ a) (λ same.
     in_a_block ! r.0 (λ p. box_owns (ghosts.dealloc_token a) R p x) (fst∗ 𝓤 (never 𝓤)
     (sem 𝓛 (ghosts.dealloc_token a (bare (layout T)) null_ptr))) (λ b' o' at'.
     -- [the memory; the tokens and the pair]

@@ -6,10 +6,8 @@ use Rattle.handles.proofs.header_slice.items.Items.try_take_all.Goals as goal
 
 pub loop-source-preserved : goal.loop-source-preserved
 loop-source-preserved g c =
-    let (can, given, within, room) = c.loop-source.invariant in
-    let items = c.loop-source.self.items in
-    let item = c.in-Some-Ok.item in
-    let steps = g.I.Iterator.next_gives in
+    let (can, given, within, room) = c.loop-source.invariant in let items = c.loop-source.self.items in
+    let item = c.in-Some-Ok.item in let steps = g.I.Iterator.next_gives in
     let came : steps c.loop-source.source (Some (Ok item)) c.next.new.self = search rules in
     let below : length items < c.args.number = search rules in
     let one_more = map-append {B = Result g.row.T.Denot g.row.E.Denot} in (
@@ -21,10 +19,8 @@ loop-source-preserved g c =
 
 pub returns-in-Some-clause-failed : goal.returns-in-Some-clause-failed
 returns-in-Some-clause-failed g c =
-    let (can, given, within, room) = c.loop-source.invariant in
-    let items = c.loop-source.self.items in
-    let full : length items ≡ c.args.number = search rules in
-    inr (
+    let (can, given, within, room) = c.loop-source.invariant in let items = c.loop-source.self.items in
+    let full : length items ≡ c.args.number = search rules in inr (
       UnderReported,
       c.from-in-Some.ensures,
       (items, c.in-Some.field-0, (c.loop-source.source, given, c.in-Some.ensures.steps), full),

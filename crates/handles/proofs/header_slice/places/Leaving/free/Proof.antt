@@ -41,44 +41,21 @@ free_spec 𝓤 𝓛 𝓜 𝓡 wired T L =
     let inst = layouts (a_type ∷ []) (T, tt) in let fn = inst_fn inst code.function in
     let self = plain (λ _. LeavingRow R) in let alloc = RefOf (0 ∷ []) tt (plain (λ _. heap.row)) (λ _. tt) in
     let hs : Stays En.signature.params En.kept = (stay_dropped self no, (stay_dropped alloc yes, tt)) in
-    proved 𝓛 En hs c 𝓜 𝓡 (
-      Goes-blank 𝓛 2 self no (λ κs x f. tt),
-      (
-        Goes-dropped 𝓛 2 alloc yes (λ κs
-            x f. refl),
-        tt,
-      ),
-    ) (#self inst) fn (code.unfolded 𝓤 H 𝓜 𝓡 wired (T, tt))
+    proved 𝓛 En hs c 𝓜 𝓡 (Goes-blank 𝓛 2 self no (λ κs x f. tt), (Goes-dropped 𝓛 2 alloc yes (λ κs x f. refl), tt))
+    (#self inst) fn (code.unfolded 𝓤 H 𝓜 𝓡 wired (T, tt))
     (λ κs. ((λ s. leaving_val s.first s.taken s.filled s.room ∷ []), (shr_vals, tt)))
-    (λ κs. ((lowers R (param_laws 0 T L)).val_is, (shr_Tells (named 0) κs.0 heap.row, tt)))
-    (λ κs qs bounds a gh are.
+    (λ κs. ((lowers R (param_laws 0 T L)).val_is, (shr_Tells (named 0) κs.0 heap.row, tt))) (λ κs qs bounds a gh are.
     let me = a.0 in let p : Ptr = me.first in let taken : ℕ = me.taken in let filled : ℕ = me.filled in
     let room : ℕ = me.room in let at_heap : ℕ × ℕ = a.1.0.ref_ptr in let h : Global = a.1.0.now in
     let κ : Lft = κs.0 in let q : Share = qs.0 in
     let taken_fits : taken < 2 ^ 64 = are.0.0.1.1.1.0.1 in let filled_fits : filled < 2 ^ 64 = are.0.0.1.1.1.1.0.1 in
     let room_fits : room < 2 ^ 64 = are.0.0.1.1.1.1.1.0.1 in let s : ℕ = sz E in let τ : Ty = elτ E in
-    let others = ‵ (flft κs.1.0 qs.1.0) ⊛ ‵ ftrue in
-    let y : (walk_of 𝓛 En hs c).Ghost = (
-      (
-        κs,
-        qs,
-        bounds,
-        a,
-        (
-          leaving_val p taken filled room ∷ [],
-          (
-            vptr
-                at_heap.0 at_heap.1 ∷ [],
-            tt,
-          ),
-        ),
-      ),
-      gh,
-    ) in let Post : Val → SProp 𝓤 = (walk_of 𝓛 En hs c).post y in
+    let others = ‵ (flft κs.1.0 qs.1.0) ⊛ ‵ ftrue in let y : (walk_of 𝓛 En hs c).Ghost =
+    ((κs, qs, bounds, a, (leaving_val p taken filled room ∷ [], (vptr at_heap.0 at_heap.1 ∷ [], tt))), gh)
+    in let Post : Val → SProp 𝓤 = (walk_of 𝓛 En hs c).post y in
     let ends : Sq 𝓛 (‵ (flft κ q) ∷ others ∷ []) (prop (Post vunit)) = join ! $ nothing_more ! $
     feq_i ! (List Val) (vunit ∷ []) (vunit ∷ []) refl $ nothing_more ! $ nothing_more ! $ nothing_more ! $
-    fjoin3 ! $ keep ! (3 ∷ 0 ∷ 1 ∷ 2 ∷ []) $
-    by ! (leaves 𝓛 En hs c y vunit tt (tt, (tt, tt)) (tt, (tt, tt))) in
+    fjoin3 ! $ keep ! (3 ∷ 0 ∷ 1 ∷ 2 ∷ []) $ by ! (leaves 𝓛 En hs c y vunit tt (tt, (tt, tt)) (tt, (tt, tt))) in
     qed 𝓛 (((‵ (flft κ q) ⊛ others) ⊛ ‵ (owns (types_at En.signature.params κs) a y.0.4))
     ∷ raw (fact 𝓤 _) ∷ raw (fact 𝓤 (me.items ≡ [])) ∷ []) ∵
     keep ! (2 ∷ 0 ∷ []) $ heard ! (me.items ≡ []) (λ empty.
@@ -87,8 +64,7 @@ free_spec 𝓤 𝓛 𝓜 𝓡 wired T L =
     -- [what the places own; the `&` to the allocator; its token; the other tokens; nothing]
     in_a_block ! p (λ z. leaving_own R z taken filled room me.items)
     (none_at_null R 𝓛 taken filled room me.items) (λ b o at. fsplit3 ! $ flt_l ! (λ fit. move ! (1 ∷ []) $
-    fsplit3 ! $ drop ! $
-    let bytes : room * s < 2 ^ 64 = omega (arith, fit) in
+    fsplit3 ! $ drop ! $ let bytes : room * s < 2 ^ 64 = omega (arith, fit) in
     let all_left : filled ≡ taken = omega (arith, me.within.0, ap length empty) in
     as_written ! (ty_array τ (room - filled)) b (o + filled * s) $ move ! (2 ∷ []) $
     as_written ! (ty_array τ taken) b o $
@@ -100,32 +76,19 @@ free_spec 𝓤 𝓛 𝓜 𝓡 wired T L =
     -- the contract of the bound names one lifetime more, that of the type parameter
     let k = Gives heap 𝓛 𝓜.mem 𝓡.returns in
     let gives = λ (x : k.Ghost). spared 𝓛 heap_gives.signature _ (run_framed 𝓤 H 𝓜 𝓡 _) 1 ([], tt)
-    (heap_gives.spec 𝓛 𝓜.mem 𝓡.returns)
-    (met 𝓤 𝓛 𝓜 𝓡 (code.calls-std_heap::GlobalAllocator::deallocate 𝓡.env wired))
+    (heap_gives.spec 𝓛 𝓜.mem 𝓡.returns) (met 𝓤 𝓛 𝓜 𝓡 (code.calls-std_heap::GlobalAllocator::deallocate 𝓡.env wired))
     ((x.0.0, x.0.1, tt, x.0.3, x.0.4), x.1) in
     enter ! 𝓣.C 𝓣.Λ fn (leaving_val p taken filled room ∷ vptr at_heap.0 at_heap.1 ∷ []) Post $
-    alloc_all ! (λ l. pass_all ! refl (
-      leaving-Good p taken filled room taken_fits filled_fits room_fits,
-      (
-        (
-          tt,
-          tt,
-        ),
-        tt,
-      ),
-    ) $ let Ev = env fn.locals l in
+    alloc_all ! (λ l. pass_all ! refl
+    (leaving-Good p taken filled room taken_fits filled_fits room_fits, ((tt, tt), tt)) $ let Ev = env fn.locals l in
     sets ! (is ! (of_opd ! (get_in ! (fld ! refl (stop !)) (sub ! 0 refl (whole !)))) (ap ptr_val at)) refl (tt, tt)
     $ sets ! (of_opd ! (get_in ! (fld ! refl (stop !)) (sub ! 3 refl (whole !))))
-    refl (tt, record { fits = room_fits }) $
-    sets ! (is ! (bin ! (get ! refl) (size_word !) (record {
-      fits = subst (λ (z : ℕ). z < 2 ^ 64) (sym product)
-          bytes;
-    })) (ap (vint w64) product)) refl (tt, record { fits = bytes }) $
-    sets ! (bin ! (get ! refl) (lit ! tt) tt) refl (tt, tt) $
-    first ! $ branches ! (get ! refl)
+    refl (tt, record { fits = room_fits }) $ sets ! (is ! (bin ! (get ! refl) (size_word !)
+    (record { fits = subst (λ (z : ℕ). z < 2 ^ 64) (sym product) bytes })
+    ) (ap (vint w64) product)) refl (tt, record { fits = bytes }) $
+    sets ! (bin ! (get ! refl) (lit ! tt) tt) refl (tt, tt) $ first ! $ branches ! (get ! refl)
     (λ has_bytes. rewrite ! 1 (λ (z : Bool). ‵ (owns_if z (right_to_free (bare (ty_array τ room))
-    (block_ptr b o)))) (T_true _ has_bytes) refl $
-    blocks ! $ sets ! (of_opd ! (get ! refl)) refl (tt, tt) $
+    (block_ptr b o)))) (T_true _ has_bytes) refl $ blocks ! $ sets ! (of_opd ! (get ! refl)) refl (tt, tt) $
     move ! (2 ∷ 3 ∷ []) $ join ! $ move ! (1 ∷ 2 ∷ 0 ∷ []) $
     use3 𝓛 (raw (k.pre back)) (Gives-goes heap 𝓛 𝓜.mem 𝓡.returns κ q at_heap h (⊑_static κ)
     b o (room * s) (capped (align τ)) (bare (ty_array τ room))

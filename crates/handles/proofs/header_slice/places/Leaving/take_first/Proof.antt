@@ -29,33 +29,26 @@ take_first_spec 𝓤 𝓛 𝓜 𝓡 wired T L =
     let Self : RattleType = LeavingRow R in let row = plain (λ _. Self) in
     let hs : Stays En.signature.params En.kept = (stay_ref (0 ∷ []) tt row, tt) in
     proved 𝓛 En hs c 𝓜 𝓡 (Goes-ref 𝓛 2 0 tt row, tt) (#self inst)
-    fn (code.unfolded 𝓤 H 𝓜 𝓡 wired (T, tt)) (λ κs. (mut_vals, tt)) (λ κs. (
-      mut_Tells (named 0)
-          κs.0 Self,
-      tt,
-    )) (λ κs qs bounds a gh are.
+    fn (code.unfolded 𝓤 H 𝓜 𝓡 wired (T, tt)) (λ κs. (mut_vals, tt)) (λ κs.
+    (mut_Tells (named 0) κs.0 Self, tt)) (λ κs qs bounds a gh are.
     let b : ℕ = a.0.ref_ptr.0 in let o : ℕ = a.0.ref_ptr.1 in let κ : Lft = κs.0 in let q : Share = qs.0 in
     let me : Self.Denot = a.0.now in let p : Ptr = me.first in let taken : ℕ = me.taken in
     let filled : ℕ = me.filled in let room : ℕ = me.room in
     let y : (walk_of 𝓛 En hs c).Ghost = ((κs, qs, bounds, a, (vptr b o ∷ [], tt)), gh) in
-    let Post : Val → SProp 𝓤 = (walk_of 𝓛 En hs c).post y in
-    let others = ‵ (flft κs.1.0 qs.1.0) ⊛ ‵ ftrue in
+    let Post : Val → SProp 𝓤 = (walk_of 𝓛 En hs c).post y in let others = ‵ (flft κs.1.0 qs.1.0) ⊛ ‵ ftrue in
     qed 𝓛 (((‵ (flft κ q) ⊛ others) ⊛ ‵ (owns (types_at En.signature.params κs) a y.0.4))
     ∷ raw (fact 𝓤 _) ∷ raw (fact 𝓤 (0 < length me.items)) ∷ []) ∵
     keep ! (2 ∷ 0 ∷ []) $ heard ! (0 < length me.items) (λ asked. let one = first_of me.items asked in
-    let x : T.Denot = one.0 in let later : List T.Denot = one.1.0 in
-    let is_first : me.items ≡ x ∷ later = one.1.1 in
+    let x : T.Denot = one.0 in let later : List T.Denot = one.1.0 in let is_first : me.items ≡ x ∷ later = one.1.1 in
     split ! $ split ! $ move ! (2 ∷ []) $ fsplit ! $ fsplit3 ! $ keep ! (1 ∷ 2 ∷ 4 ∷ 5 ∷ []) $
     -- [the reference's two parts; its token; the other tokens]
     enter ! 𝓣.C 𝓣.Λ fn (vptr b o ∷ []) Post $ alloc_all ! (λ l. pass_all ! refl ((tt, tt), tt) $
     let Ev = env fn.locals l in
     opens ! tt Self {h = me} b o (λ vs. move ! (1 ∷ []) $ peeks ! Self (Is Self) (shows 𝓛 Self) me vs (λ is.
     let taken_fits : taken < 2 ^ 64 = is.0.1.1.1.0.1 in let filled_fits : filled < 2 ^ 64 = is.0.1.1.1.1.0.1 in
-    let room_fits : room < 2 ^ 64 = is.0.1.1.1.1.1.0.1 in
-    let word = (lowers R (param_laws 0 T L)).val_is me vs is in
+    let room_fits : room < 2 ^ 64 = is.0.1.1.1.1.1.0.1 in let word = (lowers R (param_laws 0 T L)).val_is me vs is in
     fsplit ! $ drop ! $ in_a_block ! p (λ z. leaving_own R z taken filled room me.items)
-    (none_at_null R 𝓛 taken filled room me.items) (λ pb po at. fsplit3 ! $
-    flt_l ! (λ fit. move ! (1 ∷ []) $ fsplit ! $
+    (none_at_null R 𝓛 taken filled room me.items) (λ pb po at. fsplit3 ! $ flt_l ! (λ fit. move ! (1 ∷ []) $ fsplit ! $
     let s : ℕ = sz E in let count : filled ≡ taken + length me.items = me.within.0 in
     let enough : filled ≤ room = me.within.1 in let below : taken < room = omega arith in
     let up : taken + 1 < 2 ^ 64 = omega arith in
@@ -63,12 +56,10 @@ take_first_spec 𝓤 𝓛 𝓜 𝓡 wired T L =
     let far : taken * s < 2 ^ 64 = omega (arith, times_below taken room s (2 ^ 63) (omega arith) fit) in
     -- [the items; what is after them; the room before them; the cell; the open borrow; its two names; the other tokens]
     rewrite ! 0 (λ (xs : List T.Denot). ‵ (part_at (Array R (filled - taken)) full_share xs pb (po + taken * s)))
-    is_first refl $
-    use1 𝓛 (some (λ (v : Val). given (Good E v) (‵ (fat full_share (elτ E) pb (taken * s + po) v)
+    is_first refl $ use1 𝓛 (some (λ (v : Val). given (Good E v) (‵ (fat full_share (elτ E) pb (taken * s + po) v)
     ⊛ ‵ (T.own_val x (v ∷ [])) ⊛ ‵ (part_at (Array R (filled - (taken + 1)))
     full_share later pb (po + (taken + 1) * s))))) (first_out E 𝓛 pb po taken filled x later) $
-    pick ! (λ v. learn ! (λ good. split3 ! $
-    rewrite ! 5 (λ (ws : List Val). ‵ (cell_at full_share Self.mir ws b o))
+    pick ! (λ v. learn ! (λ good. split3 ! $ rewrite ! 5 (λ (ws : List Val). ‵ (cell_at full_share Self.mir ws b o))
     (word ∙ ap (λ (z : Ptr). leaving_val z taken filled room ∷ []) at) refl $
     -- [the first item's cell; what it owns; the other items; what is after them; the room before them; the cell; the
     -- open borrow; its two names; the other tokens]
@@ -76,8 +67,7 @@ take_first_spec 𝓤 𝓛 𝓜 𝓡 wired T L =
     refl (tt, record { fits = taken_fits }) $
     sets ! (bin ! (get ! refl) (lit ! tt) (record { fits = up })) refl (tt, record { fits = up }) $
     assigns ! (of_opd ! (get ! refl)) (through ! refl (fld ! refl (stop !))) (store_in ! 5 (sub ! 1 refl (whole !))
-    (tt, record { fits = up })) $
-    first ! $ blocks ! $ sets ! (of_opd ! (load ! (through ! refl (fld ! refl (stop !)))
+    (tt, record { fits = up })) $ first ! $ blocks ! $ sets ! (of_opd ! (load ! (through ! refl (fld ! refl (stop !)))
     (look_in ! 5 (sub ! 0 refl (whole !))))) refl (tt, tt) $
     sets ! (bin ! (get ! refl) (size_lit ! (record { fits = tiny })) (record { fits = far }))
     refl (tt, record { fits = far }) $ sets ! (bin ! (get ! refl) (get ! refl) tt) refl (tt, tt) $
@@ -91,8 +81,7 @@ take_first_spec 𝓤 𝓛 𝓜 𝓡 wired T L =
       items = later;
       within
           = (omega (arith, ap length is_first), enough);
-    } in
-    move ! (4 ∷ 0 ∷ []) $ as_written ! (ty_array (elτ E) taken) pb po $
+    } in move ! (4 ∷ 0 ∷ []) $ as_written ! (ty_array (elτ E) taken) pb po $
     use2 𝓛 (‵ (froom (ty_array (elτ E) (taken + 1)) pb po)) (room_after E 𝓛 pb po taken filled v) $
     as_raw ! (ty_array (elτ E) (taken + 1)) pb po $
     move ! (2 ∷ 3 ∷ []) $ fjoin ! $ move ! (1 ∷ 0 ∷ []) $ fjoin ! $ flt_i ! (room * s) (2 ^ 63) fit $
@@ -100,13 +89,11 @@ take_first_spec 𝓤 𝓛 𝓜 𝓡 wired T L =
     use0 𝓛 (‵ ((LeavingWords R).own_val (p, (taken + 1, (filled, (room, tt)))) (leaving_val p (taken + 1)
     filled room ∷ []))) (leaving_words R 𝓛 p (taken + 1) filled room up filled_fits room_fits) $ fjoin ! $
     rewrite ! 2 (λ (ws : List Val). ‵ (cell_at full_share Self.mir ws b o))
-    (ap (λ (z : Ptr). leaving_val z (taken + 1) filled room ∷ []) (sym at)) refl $
-    move ! (2 ∷ 0 ∷ 3 ∷ 4 ∷ 5 ∷ []) $
+    (ap (λ (z : Ptr). leaving_val z (taken + 1) filled room ∷ []) (sym at)) refl $ move ! (2 ∷ 0 ∷ 3 ∷ 4 ∷ 5 ∷ []) $
     closes ! tt Self new (leaving_val p (taken + 1) filled room ∷ []) b o $
     -- [the reference's two parts; its token; what the item owns; the other tokens]
     feq_i ! (List Val) (vptr b o ∷ []) (vptr b o ∷ []) refl $ fjoin3 ! $ nothing_more ! $
     move ! (1 ∷ 0 ∷ []) $ fjoin ! $ move ! (1 ∷ 3 ∷ []) $ join ! $
     use0 𝓛 (raw (fact 𝓤 (me.items ≡ x ∷ later))) (fact_i 𝓤 (me.items ≡ x ∷ later) (emp 𝓤)
-    is_first) $
-    returns ! (look_at ! 0 refl) $ free_all ! refl $ keep ! (1 ∷ 2 ∷ 3 ∷ 0 ∷ []) $
+    is_first) $ returns ! (look_at ! 0 refl) $ free_all ! refl $ keep ! (1 ∷ 2 ∷ 3 ∷ 0 ∷ []) $
     by ! (leaves 𝓛 En hs c y v x (new, tt) (tt, tt)))))))))))

@@ -18,14 +18,7 @@ pub shares : (R : RattleType) (L : Laws R) → statement R L
 shares R L = of_Lends (C.struct R) (C.the_codes R.Denot R.coded) (C.the_heap R) (C.the_lent R)
     (λ d p. places_share-ShrLaws R d.first d.filled d.room d.items L.shr_laws) (
       copy_shared RawPtr-field RawPtr-copy,
-      (
-        copy_shared usize-field usize-copy,
-        (
-          copy_shared usize-field usize-copy,
-          tt,
-        ),
-      ),
-    )
-    (λ M 𝓤 𝓛 d p. let l = (C.the_row R).lives in
+      (copy_shared usize-field usize-copy, (copy_shared usize-field usize-copy, tt)),
+    ) (λ M 𝓤 𝓛 d p. let l = (C.the_row R).lives in
     Lends-places R d.first d.filled d.room d.items 𝓛 L l (Shares-less 𝓛 R R.lives l (Incl-trans
     (meet_⊑_left (R.lives ++ []) _) (meet_⊑_left R.lives [])) (L.shares 𝓛)))

@@ -20,25 +20,21 @@ into_leaving_spec 𝓤 𝓛 𝓜 𝓡 wired T L =
     let H = 𝓛.H in let 𝓣 = tables 𝓤 H 𝓜 𝓡 𝓡.env in let R : RattleType = param 0 T in
     let En = ended T in let c = clauses T 𝓛 𝓜.mem 𝓡.returns in
     let inst = layouts (a_type ∷ []) (T, tt) in let fn = inst_fn inst code.function in
-    let self = plain (λ _. PlacesRow R) in
-    let hs : Stays En.signature.params En.kept = (stay_dropped self no, tt) in
+    let self = plain (λ _. PlacesRow R) in let hs : Stays En.signature.params En.kept = (stay_dropped self no, tt) in
     proved 𝓛 En hs c 𝓜 𝓡 (Goes-blank 𝓛 1 self no (λ κs x f. tt), tt) (#self inst)
-    fn (code.unfolded 𝓤 H 𝓜 𝓡 wired (T, tt))
-    (λ κs. ((λ s. places_val s.first s.filled s.room ∷ []), tt))
+    fn (code.unfolded 𝓤 H 𝓜 𝓡 wired (T, tt)) (λ κs. ((λ s. places_val s.first s.filled s.room ∷ []), tt))
     (λ κs. ((lowers R (param_laws 0 T L)).val_is, tt)) (λ κs qs bounds a gh are.
     let me = a.0 in let p : Ptr = me.first in let filled : ℕ = me.filled in let room : ℕ = me.room in
     let filled_fits : filled < 2 ^ 64 = are.0.0.1.1.1.0.1 in let room_fits : room < 2 ^ 64 = are.0.0.1.1.1.1.0.1 in
     let y : (walk_of 𝓛 En hs c).Ghost = ((κs, qs, bounds, a, (places_val p filled room ∷ [], tt)), gh) in
-    let Post : Val → SProp 𝓤 = (walk_of 𝓛 En hs c).post y in
-    let new : (LeavingRow R).Denot = record {
+    let Post : Val → SProp 𝓤 = (walk_of 𝓛 En hs c).post y in let new : (LeavingRow R).Denot = record {
       first = p;
       taken = 0;
       filled = filled;
       room = room;
       items = me.items;
       within = (omega (arith, me.within.0), me.within.1);
-    } in
-    let toks = ‵ (flft κs.0 qs.0) ⊛ ‵ ftrue in
+    } in let toks = ‵ (flft κs.0 qs.0) ⊛ ‵ ftrue in
     qed 𝓛 ((toks ⊛ ‵ (owns (types_at En.signature.params κs) a y.0.4)) ∷ raw ((c κs a).requires gh)
     ∷ []) ∵ split ! $ move ! (1 ∷ []) $ fsplit ! $ fsplit ! $ keep ! (1 ∷ 3 ∷ []) $
     -- [what the places own; the tokens]

@@ -27,16 +27,10 @@ push_spec 𝓤 𝓛 𝓜 𝓡 wired T L =
     let H = 𝓛.H in let 𝓣 = tables 𝓤 H 𝓜 𝓡 𝓡.env in let R : RattleType = param 0 T in
     let Self : RattleType = PlacesRow R in let En = ended T in let c = clauses T 𝓛 𝓜.mem 𝓡.returns in
     let E : El = record { row = T; laws = L } in let inst = layouts (a_type ∷ []) (T, tt) in
-    let fn = inst_fn inst code.function in
-    let places = plain (λ _. Self) in let item = plain (λ _. R) in
+    let fn = inst_fn inst code.function in let places = plain (λ _. Self) in let item = plain (λ _. R) in
     let hs : Stays En.signature.params En.kept = (stay_ref (0 ∷ []) tt places, (stay_dropped item no, tt)) in
-    proved_at 𝓛 En hs c 𝓜 𝓡 (
-      Goes-ref 𝓛 2 0 tt places,
-      (
-        Goes-dropped 𝓛 2 item no (λ κs x f. refl),
-        tt,
-      ),
-    ) (#self inst) fn (code.unfolded 𝓤 H 𝓜 𝓡 wired (T, tt)) (λ z are.
+    proved_at 𝓛 En hs c 𝓜 𝓡 (Goes-ref 𝓛 2 0 tt places, (Goes-dropped 𝓛 2 item no (λ κs x f. refl), tt))
+    (#self inst) fn (code.unfolded 𝓤 H 𝓜 𝓡 wired (T, tt)) (λ z are.
     let κs = z.0.0 in let qs = z.0.1 in let me = z.0.3.0 in let h : Self.Denot = me.now in
     let x : T.Denot = z.0.3.1.0 in let rb : ℕ = me.ref_ptr.0 in let ro : ℕ = me.ref_ptr.1 in
     let n : ℕ = h.filled in let room : ℕ = h.room in let xs : List T.Denot = h.items in let s : ℕ = sz E in
@@ -44,8 +38,7 @@ push_spec 𝓤 𝓛 𝓜 𝓡 wired T L =
     let Run : List Val → SProp 𝓤 = λ ws. WpFn 𝓤 H 𝓣.C 𝓣.Λ fn ws Post in
     let P : param_steps.El = record { row = T; laws = L } in
     let is_item = param_steps.one P z.0.4.1.0 ((param_steps.lawful P 𝓛).typed x z.0.4.1.0 are.1.0) in
-    let v : Val = is_item.0 in
-    let toks = ‵ (flft κs.0 qs.0) ⊛ ‵ (flft κs.1.0 qs.1.0) ⊛ ‵ ftrue in
+    let v : Val = is_item.0 in let toks = ‵ (flft κs.0 qs.0) ⊛ ‵ (flft κs.1.0 qs.1.0) ⊛ ‵ ftrue in
     qed 𝓛 ((toks ⊛ ‵ (owns (types_at En.signature.params κs) z.0.3 z.0.4)) ∷ raw (fact 𝓤 _)
     ∷ raw (fact 𝓤 (n < room)) ∷ []) ∵
     keep ! (2 ∷ 0 ∷ []) $ heard ! (n < room) (λ below. split ! $ split3 ! $ move ! (3 ∷ []) $ fsplit3 ! $
@@ -53,8 +46,7 @@ push_spec 𝓤 𝓛 𝓜 𝓡 wired T L =
     -- [the reference's two parts; its token; the item; nothing; the token of T]
     suffices ! (Run (vptr rb ro ∷ v ∷ [])) (subst (λ (us : List Val). ent 𝓤 (Run (vptr rb ro ∷ v ∷ []))
     (Run us)) (sym (λ j. are.0.0 j ++ (is_item.1 j ++ []))) (id⊢ 𝓤 (Run (vptr rb ro ∷ v ∷ [])))) $
-    rewrite ! 3 (λ (us : List Val). ‵ (T.own_val x us)) is_item.1 refl $
-    enter ! 𝓣.C 𝓣.Λ fn (vptr rb ro ∷ v ∷ []) Post $
+    rewrite ! 3 (λ (us : List Val). ‵ (T.own_val x us)) is_item.1 refl $ enter ! 𝓣.C 𝓣.Λ fn (vptr rb ro ∷ v ∷ []) Post $
     alloc_all ! (λ l. pass_all ! refl ((tt, tt), (is_item.2, tt)) $ let Ev = env fn.locals l in
     opens ! tt Self {h = h} rb ro (λ vs. move ! (1 ∷ []) $
     places_opens R ! h vs (λ b o at words small_filled small_room fits. let τ = elτ E in
@@ -67,8 +59,7 @@ push_spec 𝓤 𝓛 𝓜 𝓡 wired T L =
       room = room;
       items = xs ++ x ∷ [];
       within = (ap (λ (k : ℕ). k + 1) h.within.0 ∙ sym (length-append xs (x ∷ [])), omega arith);
-    } in
-    rewrite ! 3 (λ (us : List Val). ‵ (cell_at full_share Self.mir us rb ro)) words refl $ move ! (1 ∷ []) $
+    } in rewrite ! 3 (λ (us : List Val). ‵ (cell_at full_share Self.mir us rb ro)) words refl $ move ! (1 ∷ []) $
     as_written ! (ty_array τ (room - n)) b (o + n * s) $
     use1 𝓛 (‵ (froom τ b (n * s + o)) ⊛ ‵ (froom (ty_array τ (room - (n + 1))) b (o + (n + 1) * s)))
     (spare E 𝓛 b o n room below) $ split ! $
@@ -89,13 +80,11 @@ push_spec 𝓤 𝓛 𝓜 𝓡 wired T L =
     use2 𝓛 (‵ (part_at R full_share x b (n * s + o))) (el_in E 𝓛 full_share x b (n * s + o) v) $
     move ! (2 ∷ 0 ∷ []) $ use2 𝓛 (‵ (part_at (Array R (n + 1)) full_share (xs ++ x ∷ []) b o))
     (snoc E 𝓛 b o n xs x) $ move ! (1 ∷ []) $ as_raw ! (ty_array τ (room - (n + 1))) b (o + (n + 1) * s) $
-    move ! (1 ∷ []) $
-    places_shuts R ! new b o refl more small_room fits $ move ! (1 ∷ []) $
+    move ! (1 ∷ []) $ places_shuts R ! new b o refl more small_room fits $ move ! (1 ∷ []) $
     closes ! tt Self new (places_val (block_ptr b o) (n + 1) room ∷ []) rb ro $
     -- [the reference's two parts; its token; nothing; the token of T]
     returns ! (look_at ! 0 refl) $ free_all ! refl $ feq_i ! (List Val) z.0.4.0 (vptr rb ro ∷ []) are.0.0 $
     fjoin3 ! $ nothing_more ! $ move ! (3 ∷ 0 ∷ []) $ fjoin ! $ move ! (1 ∷ 0 ∷ []) $ fjoin ! $
     move ! (2 ∷ 3 ∷ []) $ join ! $ move ! (2 ∷ 0 ∷ []) $ join ! $
     feq_i ! (List Val) (vunit ∷ []) (vunit ∷ []) refl $ move ! (1 ∷ 2 ∷ 0 ∷ []) $
-    suffices ! _ (ends_at 𝓛 En hs c z vunit tt (new, (tt, tt)) (tt, (tt, tt))) $ says_two ! (refl, refl) $
-    done !)))))
+    suffices ! _ (ends_at 𝓛 En hs c z vunit tt (new, (tt, tt)) (tt, (tt, tt))) $ says_two ! (refl, refl) $ done !)))))

@@ -36,41 +36,21 @@ reserve_spec 𝓤 𝓛 𝓜 𝓡 wired T L =
     let P : RattleType = PlacesRow R in let Out : RattleType = result.the_row P refusal.the_row in
     let handle = RefOf (0 ∷ []) tt (plain (λ _. heap.row)) (λ _. tt) in let number = plain (λ _. usize) in
     let hs : Stays En.signature.params En.kept = (stay_dropped handle yes, (stay_dropped number yes, tt)) in
-    proved 𝓛 En hs c 𝓜 𝓡 (
-      Goes-dropped 𝓛 2 handle yes (λ κs x f. refl),
-      (
-        Goes-dropped 𝓛 2 number yes
-            (λ κs x f. refl),
-        tt,
-      ),
-    ) (#self inst) fn (code.unfolded 𝓤 H 𝓜 𝓡 wired (T, tt))
+    proved 𝓛 En hs c 𝓜 𝓡
+    (Goes-dropped 𝓛 2 handle yes (λ κs x f. refl), (Goes-dropped 𝓛 2 number yes (λ κs x f. refl), tt))
+    (#self inst) fn (code.unfolded 𝓤 H 𝓜 𝓡 wired (T, tt))
     (λ κs. (shr_vals, (uint_vals w64, tt))) (λ κs. (shr_Tells (named 0) κs.0 heap.row, (uint_Tells w64, tt)))
     (λ κs qs bounds a gh are.
     let hp : ℕ × ℕ = a.0.ref_ptr in let alloc : Global = a.0.now in let room : ℕ = a.1.0 in
     let κ : Lft = κs.0 in let q : Share = qs.0 in let others : Fml = fsep (flft κs.1.0 qs.1.0) ftrue in
-    let y : (walk_of 𝓛 En hs c).Ghost = (
-      (
-        κs,
-        qs,
-        bounds,
-        a,
-        (
-          vptr hp.0 hp.1 ∷ [],
-          (
-            vint w64 room ∷ [],
-            tt,
-          ),
-        ),
-      ),
-      gh,
-    ) in let Post : Val → SProp 𝓤 = (walk_of 𝓛 En hs c).post y in
+    let y : (walk_of 𝓛 En hs c).Ghost =
+    ((κs, qs, bounds, a, (vptr hp.0 hp.1 ∷ [], (vint w64 room ∷ [], tt))), gh)
+    in let Post : Val → SProp 𝓤 = (walk_of 𝓛 En hs c).post y in
     let s : ℕ = type_size R in let bytes : ℕ = room * s in let al : ℕ = capped (align (layout T)) in
     let small : room < 2 ^ 64 = are.1.0.1 in
     qed 𝓛 (((‵ (flft κ q) ⊛ ‵ others) ⊛ ‵ (owns (types_at En.signature.params κs) a y.0.4))
-    ∷ (raw (fact 𝓤 (κs.1.0 ⊑ T.lives)) ⊛ raw (fact 𝓤 (FitsInBlock R room))
-    ⊛ raw (fact 𝓤 (bytes ≢ 0))) ∷ []) ∵
-    move ! (1 ∷ []) $ split ! $ drop ! $ split ! $
-    heard ! (FitsInBlock R room) (λ asked. heard ! (bytes ≢ 0) (λ some.
+    ∷ (raw (fact 𝓤 (κs.1.0 ⊑ T.lives)) ⊛ raw (fact 𝓤 (FitsInBlock R room)) ⊛ raw (fact 𝓤 (bytes ≢ 0))) ∷ []) ∵
+    move ! (1 ∷ []) $ split ! $ drop ! $ split ! $ heard ! (FitsInBlock R room) (λ asked. heard ! (bytes ≢ 0) (λ some.
     split ! $ split ! $ move ! (2 ∷ []) $ fsplit ! $ fsplit ! $ keep ! (1 ∷ 3 ∷ 4 ∷ []) $
     let Said : Out.Denot → Type 0 = λ r. IfOk r (λ p. (p.items ≡ []) × (p.room ≡ room)) in
     let ends : (r : Out.Denot) (v : Val) → Said r → ent 𝓤 (sep 𝓤 (sem 𝓛 (Out.own_val r (v ∷ [])))
@@ -86,31 +66,25 @@ reserve_spec 𝓤 𝓛 𝓜 𝓡 wired T L =
     let z : k.Ghost = at_takes heap 𝓛 𝓜.mem 𝓡.returns κ q hp alloc bytes al (block_ty E room) in
     -- the contract of the bound names one lifetime more, that of the type parameter
     let takes = λ (x : k.Ghost). spared 𝓛 heap_takes.signature _ (run_framed 𝓤 H 𝓜 𝓡 _) 1 ([], tt)
-    (heap_takes.spec 𝓛 𝓜.mem 𝓡.returns)
-    (met 𝓤 𝓛 𝓜 𝓡 (code.calls-std_heap::GlobalAllocator::allocate 𝓡.env wired))
+    (heap_takes.spec 𝓛 𝓜.mem 𝓡.returns) (met 𝓤 𝓛 𝓜 𝓡 (code.calls-std_heap::GlobalAllocator::allocate 𝓡.env wired))
     ((x.0.0, x.0.1, tt, x.0.3, x.0.4), x.1) in
     let Then : After 𝓤 H = any_q (after_seq 𝓤 H (Wp 𝓤 H 𝓣.C 𝓣.Λ Ev (after 3 fn.body)
-    (at_return 𝓤 H Ev Post)) (at_return 𝓤 H Ev Post)) in
-    sets ! (is ! (bin ! (get ! refl) (size_word !) (record {
-      fits = subst (λ m. m < 2 ^ 64)
-          (sym (uncapped room s word)) word;
-    })) (ap (vint w64) (uncapped room s word)))
-    refl (tt, record { fits = word }) $
+    (at_return 𝓤 H Ev Post)) (at_return 𝓤 H Ev Post)) in sets ! (is ! (bin ! (get ! refl) (size_word !)
+    (record { fits = subst (λ m. m < 2 ^ 64) (sym (uncapped room s word)) word })
+    ) (ap (vint w64) (uncapped room s word))) refl (tt, record { fits = word }) $
     use2 𝓛 (raw (k.pre z)) (Takes-goes heap 𝓛 𝓜.mem 𝓡.returns κ q hp alloc (⊑_static κ)
     bytes al (block_ty E room) (block_size E room word) (block_align E room)
     word (capped_fits (align (layout T)))) $
     calls_at ! (fm 𝓛 𝓜 𝓡) k takes z (and_then ! (get ! refl) (and_then ! (get ! refl)
     (and_then ! (align_word !) (no_more !)))) (λ u.
     use1 𝓛 (later (raw (Answered heap 𝓛 𝓜.mem 𝓡.returns alloc (block_ty E room) u) ⊛ ‵ (flft κ q)))
-    (Takes-gives heap 𝓛 𝓜.mem 𝓡.returns κ q hp alloc bytes al (block_ty E room) u) $ await ! tt $
-    split ! $
+    (Takes-gives heap 𝓛 𝓜.mem 𝓡.returns κ q hp alloc bytes al (block_ty E room) u) $ await ! tt $ split ! $
     answers heap ! 𝓜.mem 𝓡.returns alloc (block_ty E room) u
     (λ b o e. let v : Val = places_val (block_ptr b o) 0 room in
     let made : P.Denot = without_items R (block_ptr b o) room in
     let right : Fml = token heap alloc (block_ty E room) (block_ptr b o) in
     let typed : Good (layout P) v = (tt, (tt, (record { fits = lit< tt }, (record { fits = small }, tt)))) in
-    let ok = first_Good (layout P) v typed in
-    lands_as ! e refl (Answer-typed true b o) $ first ! $
+    let ok = first_Good (layout P) v typed in lands_as ! e refl (Answer-typed true b o) $ first ! $
     switches_on ! (get_tag ! (vrt ! refl (fld ! refl (stop !))) (whole !)) $
     exec ! 𝓣.C 𝓣.Λ Ev (arm_body 0 (head (after 2 fn.body))) Then $
     sets ! (of_opd ! (get_in ! (vrt ! refl (fld ! refl (stop !))) (in_variant ! 0 0 refl refl (whole !))))
@@ -120,8 +94,7 @@ reserve_spec 𝓤 𝓛 𝓜 𝓡 wired T L =
     exec ! 𝓣.C 𝓣.Λ Ev (after 3 fn.body) (at_ret Ev Post) $ sets ! (of_opd ! (get ! refl)) refl ok $
     -- [the room; the right to free it; the token; the other tokens]
     as_written ! (ty_array (layout T) room) b o $
-    rewrite ! 1 (λ (x : Bool). ‵ (owns_if x right)) (has_bytes bytes some) refl $
-    places_made R ! b o room small fits $
+    rewrite ! 1 (λ (x : Bool). ‵ (owns_if x right)) (has_bytes bytes some) refl $ places_made R ! b o room small fits $
     use1 𝓛 (‵ (Out.own_val (Ok made) (live 0 (vcons v vnil) ∷ []))) (ok_of 𝓛 P refusal.the_row made v) $
     returns ! (look_at ! 0 refl) $ free_all ! refl $ keep ! (0 ∷ 1 ∷ 2 ∷ []) $
     by ! (ends (Ok made) (live 0 (vcons v vnil)) (refl, refl)))
@@ -132,12 +105,9 @@ reserve_spec 𝓤 𝓛 𝓜 𝓡 wired T L =
     exec ! 𝓣.C 𝓣.Λ Ev (arm_body 1 (head (after 2 fn.body))) Then $
     sets ! (of_opd ! (get_in ! (vrt ! refl (fld ! refl (stop !))) (in_variant ! 1 0 refl refl (whole !))))
     refl (tt, tt) $ sets_last ! (agg ! (and_then ! (lit ! tt) (and_then ! (get ! refl) (no_more !))))
-    refl (tt, (record { fits = lit< tt }, (tt, tt))) $
-    exec ! 𝓣.C 𝓣.Λ Ev (after 3 fn.body) (at_ret Ev Post) $
+    refl (tt, (record { fits = lit< tt }, (tt, tt))) $ exec ! 𝓣.C 𝓣.Λ Ev (after 3 fn.body) (at_ret Ev Post) $
     sets ! (of_opd ! (get ! refl)) refl (tt, (record { fits = lit< tt }, (tt, tt))) $
     owned ! Refusal (Is Refusal) (Struct-Makes 𝓛 (Declared.shape refusal.the_type) tt) tt (vstruct vnil ∷ [])
-    (tt, (refl, tt)) $
-    use1 𝓛 (‵ (Out.own_val (Err (record {})) (none ∷ []))) (err_of 𝓛 P refusal.the_row (record {})
-    (vstruct vnil)) $
-    returns ! (look_at ! 0 refl) $ free_all ! refl $ keep ! (0 ∷ 1 ∷ 2 ∷ []) $
+    (tt, (refl, tt)) $ use1 𝓛 (‵ (Out.own_val (Err (record {})) (none ∷ []))) (err_of 𝓛 P refusal.the_row (record {})
+    (vstruct vnil)) $ returns ! (look_at ! 0 refl) $ free_all ! refl $ keep ! (0 ∷ 1 ∷ 2 ∷ []) $
     by ! (ends (Err (record {})) none tt)))))))

@@ -30,23 +30,18 @@ pub slice_mut_spec : {M : Type 1} → statement M
 slice_mut_spec 𝓤 𝓛 𝓜 𝓡 wired T L =
     let H = 𝓛.H in let 𝓣 = tables 𝓤 H 𝓜 𝓡 𝓡.env in let R : RattleType = param 0 T in
     let Self : RattleType = PlacesRow R in let En = ended T in let c = clauses T 𝓛 𝓜.mem 𝓡.returns in
-    let inst = layouts (a_type ∷ []) (T, tt) in let fn = inst_fn inst code.function in
-    let places = plain (λ _. Self) in
+    let inst = layouts (a_type ∷ []) (T, tt) in let fn = inst_fn inst code.function in let places = plain (λ _. Self) in
     let hs : Stays En.signature.params En.kept = (stay_dropped (mut_ref_to (0 ∷ []) tt places) no, tt) in
     proved 𝓛 En hs c 𝓜 𝓡 (Goes-spent_ref 𝓛 2 (0 ∷ []) tt places, tt) (#self inst)
-    fn (code.unfolded 𝓤 H 𝓜 𝓡 wired (T, tt)) (λ κs. (mut_vals, tt)) (λ κs. (
-      mut_Tells (named 0)
-          κs.0 Self,
-      tt,
-    )) (λ κs qs bounds a gh are.
+    fn (code.unfolded 𝓤 H 𝓜 𝓡 wired (T, tt)) (λ κs. (mut_vals, tt)) (λ κs.
+    (mut_Tells (named 0) κs.0 Self, tt)) (λ κs qs bounds a gh are.
     let κ : Lft = κs.0 in let q : Share = qs.0 in let h : Self.Denot = a.0.now in
     let γ : GName = a.0.ghost_name in let rb : ℕ = a.0.ref_ptr.0 in let ro : ℕ = a.0.ref_ptr.1 in
     let xs : List T.Denot = h.items in
     let y : (walk_of 𝓛 En hs c).Ghost = ((κs, qs, bounds, a, (vptr rb ro ∷ [], tt)), gh) in
     let Post : Val → SProp 𝓤 = (walk_of 𝓛 En hs c).post y in
     let toks = ‵ (flft κ q) ⊛ ‵ (flft κs.1.0 qs.1.0) ⊛ ‵ ftrue in
-    qed 𝓛 ((toks ⊛ ‵ (owns (types_at En.signature.params κs) a y.0.4)) ∷ raw (fact 𝓤 _)
-    ∷ ‵ ftrue ∷ []) ∵
+    qed 𝓛 ((toks ⊛ ‵ (owns (types_at En.signature.params κs) a y.0.4)) ∷ raw (fact 𝓤 _) ∷ ‵ ftrue ∷ []) ∵
     keep ! (0 ∷ []) $ split ! $ split3 ! $ move ! (3 ∷ []) $ fsplit ! $ fsplit3 ! $ drop ! $
     enter ! 𝓣.C 𝓣.Λ fn (vptr rb ro ∷ []) Post $ alloc_all ! (λ l. pass_all ! refl ((tt, tt), tt) $
     let Ev = env fn.locals l in
@@ -55,27 +50,23 @@ slice_mut_spec 𝓤 𝓛 𝓜 𝓡 wired T L =
     places_opens R ! h vs (λ b o at words small_filled small_room fits.
     let roomy : length xs < 2 ^ 64 = omega (arith, h.within.0, h.within.1) in
     let fitting : length xs * type_size R < 2 ^ 63 = times_below (length xs) h.room (type_size R) (2 ^ 63)
-    (omega (arith, h.within.0, h.within.1)) fits in
-    let Rest : SProp 𝓤 = sem 𝓛 (Beside R h b o rb ro) in
+    (omega (arith, h.within.0, h.within.1)) fits in let Rest : SProp 𝓤 = sem 𝓛 (Beside R h b o rb ro) in
     let back = items_back T L 𝓛 h b o at small_filled small_room fits rb ro in
     rewrite ! 3 (λ (us : List Val). ‵ (cell_at full_share Self.mir us rb ro)) words refl $ first ! $ blocks ! $
     sets ! (of_opd ! (load ! (through ! refl (fld ! refl (stop !))) (look_in ! 3 (sub ! 0 refl (whole !)))))
     refl (tt, tt) $ sets ! (of_opd ! (load ! (through ! refl (fld ! refl (stop !)))
     (look_in ! 3 (sub ! 1 refl (whole !))))) refl (tt, record { fits = small_filled }) $
     sets_last ! (agg ! (and_then ! (get ! refl) (and_then ! (get ! refl) (no_more !))))
-    refl (tt, (tt, (record { fits = small_filled }, tt))) $
-    exec ! 𝓣.C 𝓣.Λ Ev (after 1 fn.body) (at_ret Ev Post) $
+    refl (tt, (tt, (record { fits = small_filled }, tt))) $ exec ! 𝓣.C 𝓣.Λ Ev (after 1 fn.body) (at_ret Ev Post) $
     sets ! (of_opd ! (get ! refl)) refl (tt, (tt, (record { fits = small_filled }, tt))) $
     use1 𝓛 (‵ (cells (mem R) xs b o)) (items_out T L 𝓛 h b o) $ move ! (1 ∷ 2 ∷ 3 ∷ []) $ fjoin3 ! $
-    move ! (2 ∷ 3 ∷ 4 ∷ 1 ∷ 0 ∷ []) $ group ! 5 $
-    use1 𝓛 (later (some (λ (δ : GName). ‵ ((MutSlice (named 0)
+    move ! (2 ∷ 3 ∷ 4 ∷ 1 ∷ 0 ∷ []) $ group ! 5 $ use1 𝓛 (later (some (λ (δ : GName). ‵ ((MutSlice (named 0)
     κ R).own_val (record { ref_ptr = (b, o); ghost_name = δ; now = xs }) (slice_val (b, o) (length xs) ∷ []))
     ⊛ ‵ (flft κ q) ⊛ ‵ (follows Self (Array R 0) γ δ (with_items h)))))
     (lends_Elements 𝓛 Self R (with_items h) (named 0) κ q rb ro b o γ xs (roomy, fitting)
     Rest back (Self.coded.code h) (Self.coded.code h)) $ await ! tt $ pick ! (λ δ.
     let lent : MutBor (List T.Denot) = record { ref_ptr = (b, o); ghost_name = δ; now = xs } in split3 ! $
-    rewrite ! 0 (λ (k : ℕ). ‵ ((MutSlice (named 0) κ R).own_val lent (slice_val (b, o) k ∷ [])))
-    (sym h.within.0) refl $
+    rewrite ! 0 (λ (k : ℕ). ‵ ((MutSlice (named 0) κ R).own_val lent (slice_val (b, o) k ∷ []))) (sym h.within.0) refl $
     -- [the result; the reference's token; what follows; nothing; the token of T]
     move ! (4 ∷ 5 ∷ []) $ join ! $ move ! (2 ∷ 0 ∷ []) $ join ! $
     use0 𝓛 (raw (fact 𝓤 (xs ≡ xs))) (fact_i 𝓤 (xs ≡ xs) (emp 𝓤) refl) $ move ! (3 ∷ 0 ∷ []) $

@@ -26,16 +26,13 @@ without_bytes_spec 𝓤 𝓛 𝓜 𝓡 wired T L =
     proved 𝓛 En hs c 𝓜 𝓡 (Goes-dropped 𝓛 1 number yes (λ κs x f. refl), tt) (#self inst)
     fn (code.unfolded 𝓤 H 𝓜 𝓡 wired (T, tt))
     (λ κs. (uint_vals w64, tt)) (λ κs. (uint_Tells w64, tt)) (λ κs qs bounds a gh are.
-    let room : ℕ = a.0 in
-    let y : (walk_of 𝓛 En hs c).Ghost = ((κs, qs, bounds, a, (vint w64 room ∷ [], tt)), gh) in
+    let room : ℕ = a.0 in let y : (walk_of 𝓛 En hs c).Ghost = ((κs, qs, bounds, a, (vint w64 room ∷ [], tt)), gh) in
     let Post : Val → SProp 𝓤 = (walk_of 𝓛 En hs c).post y in
     let bytes : ℕ = room * type_size R in let small : room < 2 ^ 64 = are.0.1 in
-    let toks = ‵ (flft κs.0 qs.0) ⊛ ‵ ftrue in
-    qed 𝓛 ((toks ⊛ ‵ (owns (types_at En.signature.params κs) a y.0.4))
+    let toks = ‵ (flft κs.0 qs.0) ⊛ ‵ ftrue in qed 𝓛 ((toks ⊛ ‵ (owns (types_at En.signature.params κs) a y.0.4))
     ∷ (raw (fact 𝓤 (κs.0 ⊑ T.lives)) ⊛ raw (fact 𝓤 (bytes ≡ 0))) ∷ []) ∵
     move ! (1 ∷ []) $ split ! $ drop ! $ heard ! (bytes ≡ 0) (λ none. split ! $ keep ! (0 ∷ []) $
-    let fits : bytes < 2 ^ 63 = omega arith in
-    enter ! 𝓣.C 𝓣.Λ fn (vint w64 room ∷ []) Post $
+    let fits : bytes < 2 ^ 63 = omega arith in enter ! 𝓣.C 𝓣.Λ fn (vint w64 room ∷ []) Post $
     alloc_all ! (λ l. pass_all ! refl ((tt, record { fits = small }), tt) $ let b : ℕ = l 2 in
     let v : Val = places_val (block_ptr b 0) 0 room in let made : P.Denot = without_items R (block_ptr b 0) room in
     let typed : Good (layout P) v = (tt, (tt, (record { fits = lit< tt }, (record { fits = small }, tt)))) in
@@ -45,8 +42,7 @@ without_bytes_spec 𝓤 𝓛 𝓜 𝓡 wired T L =
     nothing_more ! $ rewrite ! 0 (λ (x : Bool). ‵ (owns_if x (right_to_free (array_of R room) (block_ptr b 0))))
     (no_bytes bytes none) refl $
     use0 𝓛 (‵ (froom (ty_array (layout T) room) b 0)) (no_memory 𝓛 (layout T) room b 0 none) $
-    places_made R ! b 0 room small fits $
-    use0 𝓛 (raw (fact 𝓤 (room ≡ room))) (fact_i 𝓤 (room ≡ room) (emp 𝓤) refl) $
+    places_made R ! b 0 room small fits $ use0 𝓛 (raw (fact 𝓤 (room ≡ room))) (fact_i 𝓤 (room ≡ room) (emp 𝓤) refl) $
     use0 𝓛 (raw (fact 𝓤 (made.items ≡ []))) (fact_i 𝓤 (made.items ≡ []) (emp 𝓤) refl) $ join ! $
     nothing_more ! $ nothing_more ! $ fjoin ! $
     returns ! (look_at ! 0 refl) $ free_all ! refl $ keep ! (3 ∷ 0 ∷ 2 ∷ 1 ∷ []) $

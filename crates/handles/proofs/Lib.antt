@@ -11,6 +11,7 @@ pub mod LoggedSteps
 pub mod RawBoxes
 pub mod MarkedLogs
 pub mod MarkedShared
+pub mod NewBlocks
 pub mod OneParam
 pub mod Owners
 pub mod PlacesFields

@@ -22,7 +22,8 @@ use Rattle.handles.specs.Inside.Blocks.{shown}
 use Rattle.handles.specs.Inside.Marked.{Lasting, stays, marked_shares}
 use Rattle.handles.specs.Inside.Rows.{pass}
 use Rattle.handles.proofs.Rows.{pass_cut, left_over}
-use Rattle.handles.proofs.Owners.{shown-ShrLaws, counted_of, begins_marked, known_settles}
+use Rattle.handles.proofs.NewBlocks.{begins_marked}
+use Rattle.handles.proofs.Owners.{shown-ShrLaws, counted_of, known_settles}
 
 module _ (R : RattleType) (L : Laws R) (p : Ptr) (x : (HeldRow R).Denot) where
   marked-ShrLaws : (i : Names) → ShrLaws (said (marked i))
@@ -81,7 +82,7 @@ module _ (R : RattleType) (L : Laws R) (p : Ptr) (x : (HeldRow R).Denot) where
         (𝓛.H.⇛ (sep 𝓤 (sem 𝓛 (marked_shares R p x κ)) (sem 𝓛 (flft μ q))))
     new_lasts μ q lives κ = qed 𝓛 (‵ (bare_block R p x (marked_word 1)) ∷ ‵ (flft μ q) ∷ [])
         ∵ updating ! $ use1 𝓛 (later (some (λ (η : ℕ). ‵ (unshared_block R p x η (marked_word 1)))))
-        (begins_marked R L 𝓛 p x) $ await ! tt $ pick ! (λ η.
+        (begins_marked R 𝓛 p x) $ await ! tt $ pick ! (λ η.
         use2 𝓛 (later (‵ (fex Names (λ i. fsep (marked i) (counted_of R p x η i))) ⊛ ‵ (flft μ q)))
         (known_settles R L 𝓛 p x η μ lives μ q (Incl-refl μ)) $
         await ! tt $ split ! $ fpick ! (λ i. use1 𝓛 (later (‵ (marked_shares R p x κ))) (becomes_lasting η i κ) $

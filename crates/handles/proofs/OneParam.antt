@@ -26,8 +26,6 @@ use denote.Triple.Clauses.{Ended, Clauses, Lasts, at_exit, closing}
 use denote.Triple.Spec.{Meets}
 use denote.Triple.Walked.{Stays, stay_dropped, walk_of, Silent, Goes-dropped}
 use Rattle.atomic_table.proofs.Walks.{proved, leaves}
-use Rattle.counting_word.specs.Rights.{Right}
-use Rattle.counting_word.specs.WordSteps.{WordStep}
 use Rattle.handles.specs.Inside.Blocks.{HeldRow, handle_owns, permit_owns}
 use Rattle.handles.specs.contracts.block.handle.Handle as handle_type
 use Rattle.handles.specs.contracts.block.permit.Permit as permit_type

@@ -39,9 +39,7 @@ pub use Rattle.counting_word.specs.Rights.{Right}
 pub use Rattle.handles.specs.Inside.Blocks.{HeldRow, stamp, held_and_block, block_rule, permit_owns}
 pub use Rattle.handles.proofs.Fields.{one_word, word_and_permit, one_word-Good, words_are, words_made, HandleRow}
 pub use Rattle.handles.proofs.Fields.{PermitRow, HandleWords, PermitWords, known, is_number, returns_permit}
-pub use Rattle.handles.proofs.Fields.{word_and_permit-Good}
+pub use Rattle.handles.proofs.Fields.{word_and_permit-Good, handle_at, permit_at}
 pub use Rattle.handles.proofs.BorrowedHandle.{opens_word, opens_handle, shows_permit, closes_borrow, asks_with}
 pub use Rattle.handles.proofs.BorrowedHandle.{asks_new, logs, reports}
-pub use Rattle.handles.proofs.OneParam.{a_ref, by_ref, by_value, handle_worded, permit_worded}
-pub use Rattle.handles.proofs.OneParam.{is_handle, so, also}
-pub use Rattle.handles.proofs.Fields.{handle_at, permit_at}
+pub use Rattle.handles.proofs.OneParam.{a_ref, by_ref, by_value, handle_worded, permit_worded, is_handle, so, also}

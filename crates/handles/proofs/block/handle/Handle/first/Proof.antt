@@ -4,14 +4,13 @@ use Rattle.handles.proofs.Walks.{inst_fn, SProp, ent, id⊢, ftrue, flft, WpFn, 
 use Rattle.handles.proofs.Walks.{keep, split, join, fsplit, fjoin, fpack, use0, use1, suffices, stop, fld, of_opd}
 use Rattle.handles.proofs.Walks.{no_more, and_then, returns, enter, alloc_all, pass_all, free_all, look_at, get, get_in}
 use Rattle.handles.proofs.Walks.{sets, agg, sub, whole, tables, fact, no, RattleType, owns, types_at, plain, Ptr}
-use Rattle.handles.proofs.Walks.{InBlock, block_ptr, nothing_more, heard, param, layouts, param_laws, Stays}
-use Rattle.handles.proofs.Walks.{stay_dropped, walk_of, proved_at, leaves, HeldRow, one_word, words_made, HandleWords}
-use Rattle.handles.proofs.Walks.{known, rewrite, true}
+use Rattle.handles.proofs.Walks.{InBlock, block_ptr, nothing_more, heard, param, layouts, Stays, stay_dropped, walk_of}
+use Rattle.handles.proofs.Walks.{proved_at, leaves, HeldRow, one_word, words_made, HandleWords, known, rewrite, true}
 use types.Kit.{some as exists}
 use Rattle.handles.specs.Inside.Blocks.{bare_block, owned_as}
 use Rattle.handles.proofs.RawBoxes.{Goes-blank, pair_val, RawBoxRow, raw_box-Good, raw_box_opens}
 use Rattle.handles.specs.contracts.block.Block as block_type
-use Rattle.handles.proofs.Owners.{begins_sole}
+use Rattle.handles.proofs.NewBlocks.{begins_sole}
 use Rattle.handles.proofs.Boxes.{box_opens}
 use Rattle.handles.specs.contracts.block.handle.Handle as handle_type
 use Rattle.handles.specs.contracts.block.handle.Handle.first.{ended, clauses}
@@ -38,7 +37,7 @@ first_spec 𝓤 𝓛 𝓜 𝓡 wired T L =
     use1 𝓛 (‵ (bare_block R p x d.value.word)) (box_opens T L 𝓛 b o d.value.word d.value.stamp x d.value.alloc) $
     rewrite ! 0 (λ (w : ℕ). ‵ (bare_block R p x w)) new refl $
     use1 𝓛 (later (exists (λ (η : ℕ). ‵ (owned_as R p x η true))))
-    (begins_sole R (param_laws 0 T L) 𝓛 p x) $ keep ! (0 ∷ 3 ∷ []) $
+    (begins_sole R 𝓛 p x) $ keep ! (0 ∷ 3 ∷ []) $
     suffices ! (Run (pair_val (vptr b o) h ∷ [])) (subst (λ (us : List Val). ent 𝓤 (Run (pair_val (vptr b o)
     h ∷ [])) (Run us)) (sym (λ j. is_pair j ++ [])) (id⊢ 𝓤 _)) $ enter ! 𝓣.C 𝓣.Λ fn (pair_val (vptr b o) h ∷ []) Post $
     alloc_all ! (λ l. pass_all ! refl (raw_box-Good b o h good, tt) $ await ! tt $ pick ! (λ η.

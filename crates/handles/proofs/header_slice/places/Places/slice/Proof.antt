@@ -1,15 +1,12 @@
 -- `slice` shows the items that the places lend. Assumes `Logic`.
-use Rattle.handles.proofs.PlacesWalks.{◌≡◌, ℕ, ◌^◌, ◌<◌, List, [], ◌∷◌, refl, sym, ap, ◌∙◌, subst, a_type, named, Val}
-use Rattle.handles.proofs.PlacesWalks.{vptr, inst_fn, SProp, emp, id⊢, Lft, Share, Fml, ftrue, fsep, flft, fhide, ‵}
-use Rattle.handles.proofs.PlacesWalks.{raw, ◌⊛◌, at_ret, ◌$◌, ◌∵◌, !, qed, by, move, keep, drop, split, join, fsplit}
-use Rattle.handles.proofs.PlacesWalks.{fjoin, use0, use1, rewrite, feq_i, flt_i, flt_l, stop, fld, load, of_opd}
-use Rattle.handles.proofs.PlacesWalks.{no_more, and_then, first, blocks, exec, returns, enter, alloc_all, pass_all}
-use Rattle.handles.proofs.PlacesWalks.{free_all, look_at, get, through, sets, sets_last, env, agg, sub, whole, look_in}
-use Rattle.handles.proofs.PlacesWalks.{tables, fact, fact_i, yes, RattleType, owns, types_at, plain, Ptr, InBlock}
-use Rattle.handles.proofs.PlacesWalks.{block_ptr, block_of, offset_of, at_block, nothing_more, peeks, heard, looks}
-use Rattle.handles.proofs.PlacesWalks.{shuts, Is, shows, cell_at, param, layouts, RefOf, shr_vals, shr_Tells, Stays}
-use Rattle.handles.proofs.PlacesWalks.{stay_dropped, walk_of, Goes-dropped, after, proved, leaves, PlacesRow}
-use Rattle.handles.proofs.PlacesWalks.{places_val, ◌*◌, ◌≤◌, type_size, slice_val, length}
+use Rattle.handles.proofs.PlacesWalks.{◌≡◌, ℕ, ◌^◌, ◌<◌, List, [], ◌∷◌, refl, sym, ap, ◌∙◌, subst, a_type, Val, vptr}
+use Rattle.handles.proofs.PlacesWalks.{inst_fn, id⊢, Lft, fhide, ‵, raw, ◌⊛◌, at_ret, ◌$◌, !, by, move, keep, drop}
+use Rattle.handles.proofs.PlacesWalks.{split, fsplit, fjoin, use1, rewrite, feq_i, flt_i, flt_l, stop, fld, load}
+use Rattle.handles.proofs.PlacesWalks.{of_opd, no_more, and_then, first, blocks, exec, returns, enter, alloc_all}
+use Rattle.handles.proofs.PlacesWalks.{pass_all, free_all, look_at, get, through, sets, sets_last, env, agg, sub, whole}
+use Rattle.handles.proofs.PlacesWalks.{look_in, tables, fact, fact_i, RattleType, Ptr, InBlock, block_ptr, block_of}
+use Rattle.handles.proofs.PlacesWalks.{offset_of, at_block, peeks, heard, looks, shuts, Is, shows, cell_at, param}
+use Rattle.handles.proofs.PlacesWalks.{layouts, after, PlacesRow, places_val, ◌*◌, ◌≤◌, type_size, slice_val, length}
 use native.Mathlib.Nat.{mul-le-mul_right, lt_of_le_of_lt}
 use denote.Memory.{hidden_shr}
 use denote.Opens.{unhide, hide}
@@ -22,25 +19,17 @@ use Rattle.handles.specs.contracts.header_slice.places.Places.slice.{ended, clau
 use Rattle.handles.specs.contracts.header_slice.places.Places.slice.Key.{name as #self}
 use Rattle.handles.proofs.header_slice.places.Places.slice.Statement.{statement}
 use Rattle.handles.proofs.header_slice.places.Places.slice.Code as code
+use Rattle.handles.proofs.OneParam.{by_ref, so}
 
 pub slice_spec : {M : Type 1} → statement M
 slice_spec 𝓤 𝓛 𝓜 𝓡 wired T L =
-    let H = 𝓛.H in let 𝓣 = tables 𝓤 H 𝓜 𝓡 𝓡.env in let R : RattleType = param 0 T in
-    let En = ended T in let c = clauses T 𝓛 𝓜.mem 𝓡.returns in
+    let 𝓣 = tables 𝓤 𝓛.H 𝓜 𝓡 𝓡.env in let R : RattleType = param 0 T in let En = ended T in
     let inst = layouts (a_type ∷ []) (T, tt) in let fn = inst_fn inst code.function in
-    let self = RefOf (0 ∷ []) tt (plain (λ _. PlacesRow R)) (λ _. tt) in
-    let hs : Stays En.signature.params En.kept = (stay_dropped self yes, tt) in
-    proved 𝓛 En hs c 𝓜 𝓡 (Goes-dropped 𝓛 2 self yes (λ κs x f. refl), tt) (#self inst)
-    fn (code.unfolded 𝓤 H 𝓜 𝓡 wired (T, tt)) (λ κs. (shr_vals, tt)) (λ κs.
-    (shr_Tells (named 0) κs.0 (PlacesRow R), tt)) (λ κs qs bounds a gh are.
-    let b : ℕ = a.0.ref_ptr.0 in let o : ℕ = a.0.ref_ptr.1 in let κ : Lft = κs.0 in let q : Share = qs.0 in
-    let others : Fml = fsep (flft κs.1.0 qs.1.0) ftrue in
-    let s = a.0.now in let p : Ptr = s.first in let pb : ℕ = block_of p in let po : ℕ = offset_of p in
-    let y : (walk_of 𝓛 En hs c).Ghost = ((κs, qs, bounds, a, (vptr b o ∷ [], tt)), gh) in
-    let Post : Val → SProp 𝓤 = (walk_of 𝓛 En hs c).post y in let D : RattleType = PlacesWords R in
-    let O = PlacesType R in qed 𝓛 (((‵ (flft κ q) ⊛ ‵ others) ⊛ ‵ (owns (types_at En.signature.params κs) a y.0.4))
-    ∷ raw ((c κs a).requires gh) ∷ []) ∵
-    split ! $ split ! $ move ! (2 ∷ []) $ fsplit ! $ fsplit ! $ keep ! (1 ∷ 3 ∷ 4 ∷ []) $
+    by_ref (PlacesRow R) tt En.signature.outlives En.signature.result 𝓛 𝓜 𝓡 (clauses T 𝓛 𝓜.mem 𝓡.returns)
+    (λ κs a. Unit {0}) (λ κs a gh. fact_i 𝓤 _ _ tt) (#self inst) fn (code.unfolded 𝓤 𝓛.H 𝓜 𝓡 wired (T, tt))
+    (λ κs qs a gh Post asked ends. let b : ℕ = a.ref_ptr.0 in let o : ℕ = a.ref_ptr.1 in let κ : Lft = κs.0 in
+    let s = a.now in let p : Ptr = s.first in let pb : ℕ = block_of p in let po : ℕ = offset_of p in
+    let D : RattleType = PlacesWords R in let O = PlacesType R in
     enter ! 𝓣.C 𝓣.Λ fn (vptr b o ∷ []) Post $ alloc_all ! (λ l. pass_all ! refl ((tt, tt), tt) $
     let Ev = env fn.locals l in
     use1 𝓛 (‵ (hidden_shr D κ (to O s) b o) ⊛ ‵ (fhide (places_share R p s.filled s.room s.items κ)))
@@ -64,11 +53,9 @@ slice_spec 𝓤 𝓛 𝓜 𝓡 wired T L =
     move ! (1 ∷ []) $ drop ! $ sets_last ! (agg ! (and_then ! (get ! refl) (and_then ! (get ! refl) (no_more !))))
     refl (tt, (tt, (record { fits = fits }, tt))) $ exec ! 𝓣.C 𝓣.Λ Ev (after 1 fn.body) (at_ret Ev Post) $
     sets ! (of_opd ! (get ! refl)) refl (tt, (tt, (record { fits = fits }, tt))) $
-    move ! (0 ∷ 2 ∷ []) $ join ! $ move ! (1 ∷ []) $ flt_i ! (n * type_size R) (2 ^ 63) small $
+    move ! (1 ∷ []) $ flt_i ! (n * type_size R) (2 ^ 63) small $
     flt_i ! n (2 ^ 64) (subst (λ (k : ℕ). k < 2 ^ 64) long fits) $ fjoin ! $
     feq_i ! (List Val) (slice_val (pb, po) s.filled ∷ []) (slice_val (pb, po) n ∷ [])
     (ap (λ (k : ℕ). slice_val (pb, po) k ∷ []) long) $ fjoin ! $ fjoin ! $
-    use0 𝓛 (raw (fact 𝓤 (xs ≡ xs))) (fact_i 𝓤 (xs ≡ xs) (emp 𝓤) refl) $ nothing_more ! $ nothing_more ! $ fjoin ! $
-    returns ! (look_at ! 0 refl) $ free_all ! refl $ keep ! (3 ∷ 0 ∷ 2 ∷ 1 ∷ []) $
-    by ! (leaves 𝓛 En hs c y (slice_val (pb, po) s.filled) (record { ref_ptr = (pb, po); now = xs }) (tt, tt)
-    (tt, tt))))))))
+    returns ! (look_at ! 0 refl) $ free_all ! refl $ keep ! (1 ∷ 2 ∷ 0 ∷ []) $
+    by ! (ends (slice_val (pb, po) s.filled) (record { ref_ptr = (pb, po); now = xs }) (so 𝓤 refl))))))))

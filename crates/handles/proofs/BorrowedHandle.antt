@@ -8,8 +8,9 @@ use base.Logic.{id⊢, SProp, ent, sep}
 use base.Fml.{Lft, Share, Fml, flft, fobor, fhide, finv, fsep, ftrue}
 use base.Share
 use types.Logic.{Logic, sem}
-use types.Kit.{some as exists, given, pick, learn, Item, Goal, Seq, Soaks, Step, step, ‵, ◌⊛◌, later, ◌$◌, ◌∵◌, !, qed}
-use types.Kit.{fjoin, frame, done, move, drop, split, fsplit, fsplit3, fpick, rewrite, use1, use2, use3, await, raw}
+use types.Kit.{some as exists, given, pick, learn, Item, Goal, Seq, Soaks, Step, step, ‵, ◌⊛◌, later, ◌$◌, ◌∵◌, ! }
+use types.Kit.{qed, fjoin, frame, done, move, drop, split, fsplit, fsplit3, fpick, rewrite, use1, use2, use3, await}
+use types.Kit.{raw}
 use types.Tokens.{obor_close, shr_bor-open}
 use ghost.Rules.{Halves}
 use Rattle.handles.proofs.Rows.{pass_halves, pass_joins}

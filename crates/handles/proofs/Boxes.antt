@@ -27,8 +27,8 @@ use mir.Val.{Val}
 use Rattle.std_heap.specs.contracts.Global as heap
 use Rattle.core.specs.contracts.rt.Memory as memory
 use Rattle.handles.proofs.block.Held.TheLaws.{the_row_laws as held_laws}
-use Rattle.handles.specs.Inside.Blocks.{HeldRow, members, block_type, stamp_offset, held_offset, heap_offset, left_at}
-use Rattle.handles.specs.Inside.Blocks.{frees, bare_block}
+use Rattle.handles.specs.Inside.Blocks.{HeldRow, members, block_type, stamp_offset, held_offset, heap_offset}
+use Rattle.handles.specs.Inside.Blocks.{left_at, frees, bare_block}
 use Rattle.handles.specs.contracts.block.Block as block
 
 module _ (T : RattleType) (L : Laws T) {M : Type 1} {𝓤 : Ura M} (𝓛 : Logic 𝓤) (b o : ℕ) where

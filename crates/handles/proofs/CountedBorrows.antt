@@ -8,8 +8,9 @@ use base.Fml.{Lft, Share, Fml, ftrue, fsep, fseps, fex, fwand, fupd, fdead, fbor
 use contract.BorrowLft.{meet_⊑_left}
 use ghost.Rules.{span, thinned}
 use types.Logic.{Logic, sem, lfts}
-use types.Kit.{‵, raw, ◌⊛◌, some as exists, later, ◌$◌, ◌∵◌, !, qed, by, move, keep, use1, use2, split, split3, fsplit}
-use types.Kit.{fsplit3, fjoin, fjoin3, fpick, fpack, pick, assume, suffices, group, await, updating, now, done}
+use types.Kit.{‵, raw, ◌⊛◌, some as exists, later, ◌$◌, ◌∵◌, !, qed, by, move, keep, use1, use2, split, split3}
+use types.Kit.{fsplit, fsplit3, fjoin, fjoin3, fpick, fpack, pick, assume, suffices, group, await, updating, now}
+use types.Kit.{done}
 use Rattle.handles.specs.Inside.Rows.{pass}
 use Rattle.handles.proofs.Rows.{left_over, pass_cut, pass_whole}
 use types.Tokens.{bor_open, obor_alter, bor_fracture, one_token}

@@ -1,5 +1,6 @@
 -- What the last step of a log found, from what the step says.
-use Rattle.std.proofs.Common.{◌≡◌, ◌≢◌, ℕ, Bool, false, if◌then◌else◌, List, [], ◌∷◌, ◌++◌, refl, sym, ap, ◌∙◌, ne_eqb}
+use Rattle.std.proofs.Common.{◌≡◌, ◌≢◌, ℕ, Bool, false, if◌then◌else◌, List, [], ◌∷◌, ◌++◌, refl, sym, ap, ◌∙◌}
+use Rattle.std.proofs.Common.{ne_eqb}
 use Rattle.counting_word.specs.CountingWord.{is_marked_word}
 use Rattle.counting_word.specs.Plans.{clone_plan}
 use Rattle.counting_word.specs.declared.ClonePlan.TheVariants.{Full}

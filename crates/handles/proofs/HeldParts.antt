@@ -26,8 +26,8 @@ use Rattle.handles.specs.contracts.limit.Limit.{the_row as LimitRow}
 use Rattle.handles.proofs.limit.Limit.TheLaws.{the_row_laws as limit_laws}
 use Rattle.handles.specs.contracts.block.Held as held
 use Rattle.handles.specs.contracts.block.handle.Handle as handle_type
-use Rattle.handles.specs.Inside.Blocks.{HeldRow, held_offset, recorded, stamp, frees, unshared_block, Sharing, not_yet}
-use Rattle.handles.specs.Inside.Blocks.{held_as}
+use Rattle.handles.specs.Inside.Blocks.{HeldRow, held_offset, recorded, stamp, frees, unshared_block, Sharing}
+use Rattle.handles.specs.Inside.Blocks.{not_yet, held_as}
 use Rattle.handles.proofs.Fields.{HandleRow, HandleWords, one_word, words_made}
 
 -- what an unshared block's handle at (b, o) has beside what the block holds

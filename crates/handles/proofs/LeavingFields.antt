@@ -12,8 +12,8 @@ use base.Fml.{fat, froom}
 use mir.Syntax.{ty_int, ty_ptr, ty_struct, ty_array, tcons, tnil}
 use mir.Val.{Val, vint, vstruct, vcons, vnil, has_ty, WT}
 use types.Logic.{Logic, sem}
-use types.Kit.{‵, ◌⊛◌, some, given, ◌$◌, ◌∵◌, !, qed, by, move, keep, pick, learn, show, check, split, use0, use1, use2}
-use types.Kit.{fsplit, fsplit3, fjoin, rewrite, done}
+use types.Kit.{‵, ◌⊛◌, some, given, ◌$◌, ◌∵◌, !, qed, by, move, keep, pick, learn, show, check, split, use0, use1}
+use types.Kit.{use2, fsplit, fsplit3, fjoin, rewrite, done}
 use denote.RattleType.{RattleType}
 use denote.Memory.{lone, part_at}
 use denote.Array.{Array}
@@ -24,8 +24,8 @@ use denote.Struct.Struct.{Struct, as_fields}
 use denote.Struct.Owning.{shape}
 use Rattle.core.specs.Mem.{type_size}
 use Rattle.core.proofs.atomic.Steps.{Ptr-Good}
-use Rattle.core.proofs.ptr.Rows.{El, R, Good, el_own, el_x, elτ, sz, el_out, apart, whole, room_snoc, glued, one_more}
-use Rattle.core.proofs.ptr.Rows.{next}
+use Rattle.core.proofs.ptr.Rows.{El, R, Good, el_own, el_x, elτ, sz, el_out, apart, whole, room_snoc, glued}
+use Rattle.core.proofs.ptr.Rows.{one_more, next}
 use Rattle.std_alloc.proofs.RawLayout.{as_raw}
 use Rattle.handles.specs.Inside.PlacesOwnership.{places_own, leaving_own}
 use Rattle.handles.proofs.PlacesFields.{places_val}

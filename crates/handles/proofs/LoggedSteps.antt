@@ -7,7 +7,8 @@ use mir.Val.{Val, vint, vstruct, vcons, vnil, of_list, has_ty, WT}
 use base.Logic.{ent, emp}
 use base.Fml.{feq, fsep}
 use types.Logic.{Logic, sem}
-use types.Kit.{Item, Goal, Seq, Step, step, ‵, ◌$◌, move, drop, fsplit, fjoin, fjoin3, fpick, fpack, feq_i, flt_i, use0}
+use types.Kit.{Item, Goal, Seq, Step, step, ‵, ◌$◌, move, drop, fsplit, fjoin, fjoin3, fpick, fpack, feq_i, flt_i}
+use types.Kit.{use0}
 use denote.RattleType.{RattleType, Valss, owns}
 use denote.Laws.{Is}
 use denote.Builtin.{u64}

@@ -1,6 +1,7 @@
 -- A log with a mark in it: which steps show one, and that it stays.
 use mathlib.Core.List.{IsPrefix}
-use Rattle.std.proofs.Common.{◌≡◌, ℕ, Bool, true, false, if◌then◌else◌, List, [], ◌∷◌, ◌++◌, refl, sym, ◌∙◌, ap, subst}
+use Rattle.std.proofs.Common.{◌≡◌, ℕ, Bool, true, false, if◌then◌else◌, List, [], ◌∷◌, ◌++◌, refl, sym, ◌∙◌, ap}
+use Rattle.std.proofs.Common.{subst}
 use Rattle.counting_word.specs.CountingWord.{IsLimit, is_marked_word}
 use Rattle.counting_word.specs.WordSteps.{WordStep, reads, asks, raises_from, reads_last, lowers, claims, marks}
 use Rattle.counting_word.specs.WordSteps.{word_by, left_from, left_by}

@@ -7,8 +7,8 @@ use base.Fml.{Lft, Incl, Incl-refl, Share, Fml, fsep, fex, flft}
 use base.Share
 use contract.BorrowLft.{meet_⊑_left, ⊑_static}
 use types.Logic.{Logic, sem}
-use types.Kit.{‵, ◌⊛◌, later, some, pick, await, use2, ◌$◌, ◌∵◌, !, qed, by, move, drop, split, fsplit, fsplit3, fjoin}
-use types.Kit.{fpick, fpack, use1, updating, now, done}
+use types.Kit.{‵, ◌⊛◌, later, some, pick, await, use2, ◌$◌, ◌∵◌, !, qed, by, move, drop, split, fsplit, fsplit3}
+use types.Kit.{fjoin, fpick, fpack, use1, updating, now, done}
 use types.Tokens.{shr_bor_shorten, bor_new, bor_fracture}
 use denote.RattleType.{RattleType}
 use denote.RawPtr.{Ptr}

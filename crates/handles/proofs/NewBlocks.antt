@@ -8,8 +8,8 @@ use base.Logic.{ex, via, ent, id⊢}
 use base.Fml.{Lft, Incl-trans, Share, Fml, ftrue, fsep, fex, flft, finv}
 use contract.BorrowLft.{meet_⊑_left, meet_⊑_right}
 use types.Logic.{Logic, sem}
-use types.Kit.{use0, show, ‵, ◌⊛◌, some as exists, later, ◌$◌, ◌∵◌, !, qed, move, keep, use1, use2, split, split3, join}
-use types.Kit.{fsplit, fsplit3, fjoin, fjoin3, fpick, fpack, pick, await, updating, now, done}
+use types.Kit.{use0, show, ‵, ◌⊛◌, some as exists, later, ◌$◌, ◌∵◌, !, qed, move, keep, use1, use2, split, split3}
+use types.Kit.{join, fsplit, fsplit3, fjoin, fjoin3, fpick, fpack, pick, await, updating, now, done}
 use types.Growing.{latest_new}
 use types.Owned.{basic}
 use base.Growing.{latest}
@@ -28,9 +28,9 @@ use Rattle.std_alloc.proofs.ArcSteps.{Settles}
 use Rattle.core.specs.Sync.RawAtomic.{word}
 use Rattle.counting_word.specs.CountingWord.{mark_bit, greatest_count, marked_word}
 use Rattle.counting_word.proofs.Words.{stands-one}
-use Rattle.handles.specs.Inside.Blocks.{recorded, noted, kept_at, alone, title, marked, fact, logs, bare_block, HeldRow}
-use Rattle.handles.specs.Inside.Blocks.{StandsWithin, Names, Stage, living, stage, Rule, counted, kept_log, owned_as}
-use Rattle.handles.specs.Inside.Blocks.{unshared_block}
+use Rattle.handles.specs.Inside.Blocks.{recorded, noted, kept_at, alone, title, marked, fact, logs, bare_block}
+use Rattle.handles.specs.Inside.Blocks.{HeldRow, StandsWithin, Names, Stage, living, stage, Rule, counted, kept_log}
+use Rattle.handles.specs.Inside.Blocks.{owned_as, unshared_block}
 use Rattle.handles.proofs.Steps.Words.{stands-unmarked, marked-stands}
 use Rattle.handles.proofs.Steps.Shared.{SharedBlock, counted_stake, makes_one}
 
@@ -54,7 +54,8 @@ module _ (content kept : Fml) (limit b o η : ℕ) (t : Lft → Fml) (L : ShrLaw
     -- the passes of a block that is first shared: its one handle has one
     abbrev Passes : ℕ × ℕ × ℕ → ℕ → Fml
     Passes t w = fsep (noted
-        (record { shared = 0; unmarked = 0; handles = t.0; drops = t.1; own = t.2 }) limit η w) (pass t.0 t.2 full_share)
+        (record { shared = 0; unmarked = 0; handles = t.0; drops = t.1; own = t.2 }) limit η w)
+        (pass t.0 t.2 full_share)
 
     passes_new : (w : ℕ) → (alone w).handles ≡ 1 → ent 𝓤 (sem 𝓛 (recorded limit η w))
         (H.⇛ (ex 𝓤 (λ (t : ℕ × ℕ × ℕ). sem 𝓛 (Passes t w))))

@@ -15,8 +15,8 @@ use denote.Sharing.{ShrLaws, said}
 use denote.SharingLaws.{said_shr_laws, beside_shr_laws}
 use denote.Shares.{Shares, Shares-Array}
 use denote.Param.Laws.{Laws}
-use denote.Param.Send.{IsSend, IsSync, AllSend, AllSync, array_send, array_sync, owning_send, struct_send, struct_sync}
-use denote.Param.Send.{sendable}
+use denote.Param.Send.{IsSend, IsSync, AllSend, AllSync, array_send, array_sync, owning_send, struct_send}
+use denote.Param.Send.{struct_sync, sendable}
 use denote.Struct.Lending.{lent_at, lent_at_shr_laws, Lends, Lends-first, Lends-lies, Lends-said, Lends-both}
 use denote.Struct.Owning.{Owning, shape, fields, to}
 use denote.Struct.Struct.{exits_of}

@@ -1,18 +1,18 @@
 -- The names that the walks over the places of items cite.
-pub use Rattle.handles.proofs.Walks.{◌≡◌, ℕ, ◌+◌, ◌-◌, ◌^◌, ◌<◌, Bool, true, false, List, [], ◌∷◌, ◌++◌, refl, sym, ap}
-pub use Rattle.handles.proofs.Walks.{◌∙◌, subst, lit<, arith, w64, a_type, named, Val, vint, vptr, vunit, inst_fn}
-pub use Rattle.handles.proofs.Walks.{full_share, SProp, ent, sep, emp, id⊢, fat, Lft, Share, Fml, ftrue, fsep, flft}
-pub use Rattle.handles.proofs.Walks.{fhide, WpFn, sem, ‵, raw, ◌⊛◌, some, given, later, at_ret, ◌$◌, ◌∵◌, !, qed, by}
-pub use Rattle.handles.proofs.Walks.{move, keep, drop, split, split3, join, fsplit, fsplit3, fjoin, fjoin3, pick, learn}
-pub use Rattle.handles.proofs.Walks.{use0, use1, use2, use3, await, rewrite, feq_i, flt_i, flt_l, suffices, done}
-pub use Rattle.handles.proofs.Walks.{unit_lit, stop, fld, load, addr, lit, of_opd, no_more, and_then, first, blocks}
-pub use Rattle.handles.proofs.Walks.{exec, returns, enter, lands_as, alloc_all, pass_all, free_all, look_at, get}
-pub use Rattle.handles.proofs.Walks.{get_in, through, sets, sets_last, lands_last, is, env, agg, sub, whole, look_in}
-pub use Rattle.handles.proofs.Walks.{tables, fact, fact_i, yes, no, RattleType, owns, types_at, plain, Ptr, InBlock}
-pub use Rattle.handles.proofs.Walks.{block_ptr, ptr_val, block_of, offset_of, at_block, nothing_more, peeks, heard}
-pub use Rattle.handles.proofs.Walks.{looks, shuts, Is, shows, cell_at, param, layout, layouts, param_laws, RefOf}
-pub use Rattle.handles.proofs.Walks.{shr_vals, shr_Tells, Stays, stay_dropped, walk_of, Goes-dropped, after, proved}
-pub use Rattle.handles.proofs.Walks.{proved_at, leaves, fm}
+pub use Rattle.handles.proofs.Walks.{◌≡◌, ℕ, ◌+◌, ◌-◌, ◌^◌, ◌<◌, Bool, true, false, List, [], ◌∷◌, ◌++◌, refl, sym}
+pub use Rattle.handles.proofs.Walks.{ap, ◌∙◌, subst, lit<, arith, w64, a_type, named, Val, vint, vptr, vunit}
+pub use Rattle.handles.proofs.Walks.{inst_fn, full_share, SProp, ent, sep, emp, id⊢, fat, Lft, Share, Fml, ftrue}
+pub use Rattle.handles.proofs.Walks.{fsep, flft, fhide, WpFn, sem, ‵, raw, ◌⊛◌, some, given, later, at_ret, ◌$◌, ◌∵◌}
+pub use Rattle.handles.proofs.Walks.{ !, qed, by, move, keep, drop, split, split3, join, fsplit, fsplit3, fjoin}
+pub use Rattle.handles.proofs.Walks.{fjoin3, pick, learn, use0, use1, use2, use3, await, rewrite, feq_i, flt_i}
+pub use Rattle.handles.proofs.Walks.{flt_l, suffices, done, unit_lit, stop, fld, load, addr, lit, of_opd, no_more}
+pub use Rattle.handles.proofs.Walks.{and_then, first, blocks, exec, returns, enter, lands_as, alloc_all, pass_all}
+pub use Rattle.handles.proofs.Walks.{free_all, look_at, get, get_in, through, sets, sets_last, lands_last, is, env}
+pub use Rattle.handles.proofs.Walks.{agg, sub, whole, look_in, tables, fact, fact_i, yes, no, RattleType, owns}
+pub use Rattle.handles.proofs.Walks.{types_at, plain, Ptr, InBlock, block_ptr, ptr_val, block_of, offset_of}
+pub use Rattle.handles.proofs.Walks.{at_block, nothing_more, peeks, heard, looks, shuts, Is, shows, cell_at, param}
+pub use Rattle.handles.proofs.Walks.{layout, layouts, param_laws, RefOf, shr_vals, shr_Tells, Stays, stay_dropped}
+pub use Rattle.handles.proofs.Walks.{walk_of, Goes-dropped, after, proved, proved_at, leaves, fm}
 pub use Rattle.std.proofs.Common.{◌*◌, ◌≢◌, ◌≤◌}
 pub use Rattle.std.specs.Mem.{type_size}
 pub use Rattle.std.specs.Prelude.{Err, IfOk, Ok}

@@ -17,8 +17,8 @@ use Rattle.std_alloc.proofs.SendSync.{lies, seen, quiet}
 use Rattle.std.proofs.Crossing as crossing
 use Rattle.handles.proofs.block.Held.TheSendSync.{the_send as held_send, the_sync as held_sync}
 use Rattle.handles.specs.Inside.Blocks.{HeldRow, Names, Stage, living, over, entitled, stage, logs, kept_log, stamp}
-use Rattle.handles.specs.Inside.Blocks.{left_at, block_type, held_offset, heap_offset, held_and_block, shown, Sharing}
-use Rattle.handles.specs.Inside.Blocks.{not_yet, begun, held_as, owned_as, shared_as}
+use Rattle.handles.specs.Inside.Blocks.{left_at, block_type, held_offset, heap_offset, held_and_block, shown}
+use Rattle.handles.specs.Inside.Blocks.{Sharing, not_yet, begun, held_as, owned_as, shared_as}
 use Rattle.handles.specs.contracts.block.handle.Handle as handle_type
 use Rattle.handles.specs.contracts.block.marked.Marked as marked_type
 
@@ -87,8 +87,17 @@ module _ (R : RattleType) (s : IsSend R) (y : IsSync R) where
   shared-Keyless : (p : Ptr) (x : (HeldRow R).Denot) (η : ℕ) (sole : Bool) (κ : Lft)
       → Keyless (shared_as R p x η sole κ)
   shared-Keyless p x η true κ = shown-Common p x κ
-  shared-Keyless p x η false κ = λ i.
-      ((λ q. tt), ((λ q. (tt, pass-Keyless i.handles i.own q)), (rule-Keyless p x η i, shown-Common p x (i.shared ∷ []))))
+  shared-Keyless p x η false κ = λ i. (
+    (λ q. tt),
+    (
+      (λ q. (tt, pass-Keyless i.handles i.own q)),
+      (
+        rule-Keyless p x η i,
+        shown-Common p x (i.shared
+            ∷ []),
+      ),
+    ),
+  )
 
   fields-Send : AllSend (fields (handle_type.the_type R))
   fields-Send = (pointers, tt)

@@ -10,9 +10,9 @@ pub use base.Fml.{fat, Lft, Share, Fml, ftrue, fsep, flft, fhide, finv}
 pub use base.Share
 pub use prog.Wp.{WpFn}
 pub use types.Logic.{sem}
-pub use types.Kit.{‵, raw, ◌⊛◌, some, given, later, mean, at_ret, ◌$◌, ◌∵◌, !, qed, by, move, keep, drop, split, split3}
-pub use types.Kit.{join, fsplit, fsplit3, fjoin, fjoin3, fpick, fpack, pick, learn, use0, use1, use2, use3, await}
-pub use types.Kit.{rewrite, feq_i, feq_l, flt_i, flt_l, suffices, done}
+pub use types.Kit.{‵, raw, ◌⊛◌, some, given, later, mean, at_ret, ◌$◌, ◌∵◌, !, qed, by, move, keep, drop, split}
+pub use types.Kit.{split3, join, fsplit, fsplit3, fjoin, fjoin3, fpick, fpack, pick, learn, use0, use1, use2, use3}
+pub use types.Kit.{await, rewrite, feq_i, feq_l, flt_i, flt_l, suffices, done}
 pub use types.Run.{unit_lit, stop, fld, load, addr, lit, of_opd, no_more, and_then, first, blocks, exec, Calls-last}
 pub use types.Run.{returns, enter}
 pub use types.ByLocal.{lands_as, alloc_all, pass_all, free_all, look_at, get, get_in, through, sets, sets_last}

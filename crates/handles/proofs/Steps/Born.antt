@@ -16,12 +16,12 @@ use Rattle.handles.proofs.Steps.Reads.{a_share, no_share}
 use Rattle.handles.proofs.Steps.Turns.{turns_read}
 use Rattle.handles.proofs.Steps.Shared.{◌≡◌, ℕ, true, false, [], ◌∷◌, refl, ap, subst, if◌then◌else◌, Ura, ent, upd}
 use Rattle.handles.proofs.Steps.Shared.{upd_i, via, never, id⊢, sep, ftrue, full_share, Share, Fml, fsep, fex, finv}
-use Rattle.handles.proofs.Steps.Shared.{WordStep, Tally, List, given, learn, fjoin3, lives, begun_with, Logic, sem, ‵}
-use Rattle.handles.proofs.Steps.Shared.{◌⊛◌, ◌$◌, ◌∵◌, !, qed, by, move, keep, drop, frame, assume, split, fsplit}
-use Rattle.handles.proofs.Steps.Shared.{fsplit3, fjoin, fpick, fpack, suffices, use1, use2, done, nothing_more, Right}
-use Rattle.handles.proofs.Steps.Shared.{nothing, a_handle, right_by_read, title, marked, unmarked, Stage, living, over}
-use Rattle.handles.proofs.Steps.Shared.{SharedBlock, at_stage, rule, makes_one, no_token, passed, grants, pass, fits}
-use Rattle.handles.proofs.Steps.Shared.{records, unknown, Entails, noted}
+use Rattle.handles.proofs.Steps.Shared.{WordStep, Tally, List, given, learn, fjoin3, lives, begun_with, Logic, sem}
+use Rattle.handles.proofs.Steps.Shared.{‵, ◌⊛◌, ◌$◌, ◌∵◌, !, qed, by, move, keep, drop, frame, assume, split, fsplit}
+use Rattle.handles.proofs.Steps.Shared.{fsplit3, fjoin, fpick, fpack, suffices, use1, use2, done, nothing_more}
+use Rattle.handles.proofs.Steps.Shared.{Right, nothing, a_handle, right_by_read, title, marked, unmarked, Stage}
+use Rattle.handles.proofs.Steps.Shared.{living, over, SharedBlock, at_stage, rule, makes_one, no_token, passed}
+use Rattle.handles.proofs.Steps.Shared.{grants, pass, fits, records, unknown, Entails, noted}
 
 module _ {M : Type 1} {𝓤 : Ura M} (𝓛 : Logic 𝓤) (s : SharedBlock) (q : Share) where
   open 𝓛 use {H}

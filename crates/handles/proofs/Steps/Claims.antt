@@ -3,15 +3,16 @@ use Rattle.counting_word.specs.WordSteps as step
 use Rattle.counting_word.specs.Rights.{right_by_claim}
 use Rattle.handles.proofs.Asking as asking
 use Rattle.handles.proofs.Steps.Shared.{◌≡◌, ◌≢◌, ℕ, Bool, true, false, [], ◌∷◌, sym, refl, ap, ◌∙◌, subst, eq-eqb}
-use Rattle.handles.proofs.Steps.Shared.{ne_eqb, if◌then◌else◌, dite, ℕ_discrete, Ura, ent, Share, Fml, fsep, fex, flft}
-use Rattle.handles.proofs.Steps.Shared.{Logic, sem, ‵, ◌$◌, ◌∵◌, !, qed, by, move, keep, drop, fjoin, fpick, fpack}
-use Rattle.handles.proofs.Steps.Shared.{use1, use2, part_in, is_one_handle, count_of-unmarked, is_one_handle-marked}
-use Rattle.handles.proofs.Steps.Shared.{is_one_handle-unmarked, a_handle, whole_block, StandsWithin, unit_of_count}
-use Rattle.handles.proofs.Steps.Shared.{entitled, stake, SharedBlock, shared, counts, beside, rule, granted}
-use Rattle.handles.proofs.Steps.Shared.{counted_stake, lives, regranted, Lands, Asks, and_logged, ftrue, title, pass}
-use Rattle.handles.proofs.Steps.Shared.{row, grants, passes_on, Entails, noted, recorded, alone, Tally, IsTallied}
-use Rattle.handles.proofs.Steps.Shared.{Keeps, fact, logs, kept_log, List, WordStep, Right, given, learn, nothing_more}
-use Rattle.handles.proofs.Steps.Shared.{full_share, fsplit, done, ◌≤◌, ◌+◌, arith}
+use Rattle.handles.proofs.Steps.Shared.{ne_eqb, if◌then◌else◌, dite, ℕ_discrete, Ura, ent, Share, Fml, fsep, fex}
+use Rattle.handles.proofs.Steps.Shared.{flft, Logic, sem, ‵, ◌$◌, ◌∵◌, !, qed, by, move, keep, drop, fjoin, fpick}
+use Rattle.handles.proofs.Steps.Shared.{fpack, use1, use2, part_in, is_one_handle, count_of-unmarked}
+use Rattle.handles.proofs.Steps.Shared.{is_one_handle-marked, is_one_handle-unmarked, a_handle, whole_block}
+use Rattle.handles.proofs.Steps.Shared.{StandsWithin, unit_of_count, entitled, stake, SharedBlock, shared, counts}
+use Rattle.handles.proofs.Steps.Shared.{beside, rule, granted, counted_stake, lives, regranted, Lands, Asks}
+use Rattle.handles.proofs.Steps.Shared.{and_logged, ftrue, title, pass, row, grants, passes_on, Entails, noted}
+use Rattle.handles.proofs.Steps.Shared.{recorded, alone, Tally, IsTallied, Keeps, fact, logs, kept_log, List}
+use Rattle.handles.proofs.Steps.Shared.{WordStep, Right, given, learn, nothing_more, full_share, fsplit, done, ◌≤◌}
+use Rattle.handles.proofs.Steps.Shared.{◌+◌, arith}
 use base.Growing.{latest}
 use base.Logic.{id⊢}
 use Rattle.counting_word.proofs.Tallies.{keeps-counts, tallied}

@@ -3,7 +3,8 @@ use Rattle.std.specs.Prelude.{◌≡◌, ◌++◌, Bool, Option}
 use Rattle.std.specs.declared.cmp.Ordering.{Ordering}
 use Rattle.std.specs.Cmp.{IsPartialOrder, IsTotalOrder, Agrees, on_po, on_total, then_po, then_total, then_agrees}
 use Rattle.std.specs.Cmp.{both_tied}
-use Rattle.std.specs.Cmp.Lexicographic.{slice_cmp, slice_partial_cmp, lists_po, lists_total, lists_agrees, lists_ties}
+use Rattle.std.specs.Cmp.Lexicographic.{slice_cmp, slice_partial_cmp, lists_po, lists_total, lists_agrees}
+use Rattle.std.specs.Cmp.Lexicographic.{lists_ties}
 use Rattle.std.specs.Hash.{HashWrites, Alike, slice, on_Alike, items_Alike, and-Alike}
 use Rattle.std.specs.Ordering.{ordering_then, partial_ordering_then, eq_by_cmp}
 use Rattle.handles.specs.HeaderSlice.{HeaderAndItems}

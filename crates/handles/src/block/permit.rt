@@ -2,8 +2,8 @@
 ghost use Rattle.std.specs.Prelude.{◌≡◌, ℕ, List, false};
 ghost use Rattle.counting_word.specs.WordSteps.{WordStep, lowers, coded_log};
 ghost use Rattle.counting_word.specs.Tallies.{Adds};
-ghost use Rattle.counting_word.specs.Rights.{Right, nothing, a_handle, to_lower, whole_block, coded_right, IsWholeBlock};
-ghost use Rattle.counting_word.specs.Rights.{right_by_lower};
+ghost use Rattle.counting_word.specs.Rights.{Right, nothing, a_handle, to_lower, whole_block, coded_right};
+ghost use Rattle.counting_word.specs.Rights.{IsWholeBlock, right_by_lower};
 ghost use Rattle.handles.specs.Inside.Blocks.{permit_owns, reached};
 ghost use Rattle.handles.specs.declared.block.Held.{Held};
 

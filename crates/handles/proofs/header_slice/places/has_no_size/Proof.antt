@@ -1,6 +1,6 @@
 -- `has_no_size` compares the size that a word holds.
-use Rattle.handles.proofs.PlacesWalks.{◌≡◌, Bool, List, [], ◌∷◌, refl, a_type, Val, inst_fn, SProp, emp, ftrue, flft, ‵}
-use Rattle.handles.proofs.PlacesWalks.{raw, ◌⊛◌, ◌$◌, ◌∵◌, !, qed, by, move, keep, split, join, use0, feq_i, lit}
+use Rattle.handles.proofs.PlacesWalks.{◌≡◌, Bool, List, [], ◌∷◌, refl, a_type, Val, inst_fn, SProp, emp, ftrue, flft}
+use Rattle.handles.proofs.PlacesWalks.{‵, raw, ◌⊛◌, ◌$◌, ◌∵◌, !, qed, by, move, keep, split, join, use0, feq_i, lit}
 use Rattle.handles.proofs.PlacesWalks.{returns, enter, alloc_all, pass_all, free_all, look_at, sets, tables, fact}
 use Rattle.handles.proofs.PlacesWalks.{fact_i, nothing_more, layout, layouts, walk_of, proved, leaves, capped, bin}
 use Rattle.handles.proofs.PlacesWalks.{size_word}

@@ -1,14 +1,14 @@
 -- `add_to_stamp` is one addition to the stamp.
-use Rattle.handles.proofs.Walks.{◌≡◌, ℕ, ◌+◌, ◌%◌, ◌^◌, false, [], ◌∷◌, refl, lit<, w64, a_type, named, Val, vint, vptr}
-use Rattle.handles.proofs.Walks.{inst_fn, SProp, via, Lft, Share, Fml, ftrue, fsep, flft, ‵, raw, ◌⊛◌, at_ret, ◌$◌, ◌∵◌}
-use Rattle.handles.proofs.Walks.{ !, qed, by, move, keep, split, join, fsplit, fjoin, stop, fld, load, addr, lit, of_opd}
-use Rattle.handles.proofs.Walks.{no_more, and_then, first, blocks, exec, Calls-last, returns, enter, alloc_all}
-use Rattle.handles.proofs.Walks.{pass_all, free_all, look_at, get, through, sets, lands_last, env, agg, sub, whole}
-use Rattle.handles.proofs.Walks.{look_in, tables, fact, yes, RattleType, owns, types_at, plain, Ptr, block_ptr}
-use Rattle.handles.proofs.Walks.{block_of, offset_of, nothing_more, heard, shuts, param, layouts, u64, shr_vals}
-use Rattle.handles.proofs.Walks.{shr_Tells, Stays, stay_dropped, walk_of, Goes-dropped, after, proved, leaves, fm}
-use Rattle.handles.proofs.Walks.{found, finds, HeldRow, one_word, HandleRow, HandleWords, is_number, opens_handle}
-use Rattle.handles.proofs.Walks.{closes_borrow, a_ref, asks_with}
+use Rattle.handles.proofs.Walks.{◌≡◌, ℕ, ◌+◌, ◌%◌, ◌^◌, false, [], ◌∷◌, refl, lit<, w64, a_type, named, Val, vint}
+use Rattle.handles.proofs.Walks.{vptr, inst_fn, SProp, via, Lft, Share, Fml, ftrue, fsep, flft, ‵, raw, ◌⊛◌, at_ret}
+use Rattle.handles.proofs.Walks.{◌$◌, ◌∵◌, !, qed, by, move, keep, split, join, fsplit, fjoin, stop, fld, load, addr}
+use Rattle.handles.proofs.Walks.{lit, of_opd, no_more, and_then, first, blocks, exec, Calls-last, returns, enter}
+use Rattle.handles.proofs.Walks.{alloc_all, pass_all, free_all, look_at, get, through, sets, lands_last, env, agg}
+use Rattle.handles.proofs.Walks.{sub, whole, look_in, tables, fact, yes, RattleType, owns, types_at, plain, Ptr}
+use Rattle.handles.proofs.Walks.{block_ptr, block_of, offset_of, nothing_more, heard, shuts, param, layouts, u64}
+use Rattle.handles.proofs.Walks.{shr_vals, shr_Tells, Stays, stay_dropped, walk_of, Goes-dropped, after, proved}
+use Rattle.handles.proofs.Walks.{leaves, fm, found, finds, HeldRow, one_word, HandleRow, HandleWords, is_number}
+use Rattle.handles.proofs.Walks.{opens_handle, closes_borrow, a_ref, asks_with}
 use Rattle.atomic_table.proofs.Calls.{adds}
 use denote.Plain.{uint_vals, uint_Tells}
 use Rattle.handles.specs.Inside.Blocks.{stamp_offset, lent_share}

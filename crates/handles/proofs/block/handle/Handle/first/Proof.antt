@@ -1,11 +1,12 @@
 -- `first` makes the handle of a new block.
-use Rattle.handles.proofs.Walks.{pick, await, ℕ, later, ◌≡◌, List, [], ◌∷◌, ◌++◌, refl, sym, subst, a_type, Val, vptr}
-use Rattle.handles.proofs.Walks.{inst_fn, SProp, ent, id⊢, ftrue, flft, WpFn, ‵, raw, ◌⊛◌, ◌$◌, ◌∵◌, !, qed, by, move}
-use Rattle.handles.proofs.Walks.{keep, split, join, fsplit, fjoin, fpack, use0, use1, suffices, stop, fld, of_opd}
-use Rattle.handles.proofs.Walks.{no_more, and_then, returns, enter, alloc_all, pass_all, free_all, look_at, get, get_in}
-use Rattle.handles.proofs.Walks.{sets, agg, sub, whole, tables, fact, no, RattleType, owns, types_at, plain, Ptr}
-use Rattle.handles.proofs.Walks.{InBlock, block_ptr, nothing_more, heard, param, layouts, Stays, stay_dropped, walk_of}
-use Rattle.handles.proofs.Walks.{proved_at, leaves, HeldRow, one_word, words_made, HandleWords, known, rewrite, true}
+use Rattle.handles.proofs.Walks.{pick, await, ℕ, later, ◌≡◌, List, [], ◌∷◌, ◌++◌, refl, sym, subst, a_type, Val}
+use Rattle.handles.proofs.Walks.{vptr, inst_fn, SProp, ent, id⊢, ftrue, flft, WpFn, ‵, raw, ◌⊛◌, ◌$◌, ◌∵◌, !, qed}
+use Rattle.handles.proofs.Walks.{by, move, keep, split, join, fsplit, fjoin, fpack, use0, use1, suffices, stop, fld}
+use Rattle.handles.proofs.Walks.{of_opd, no_more, and_then, returns, enter, alloc_all, pass_all, free_all, look_at}
+use Rattle.handles.proofs.Walks.{get, get_in, sets, agg, sub, whole, tables, fact, no, RattleType, owns, types_at}
+use Rattle.handles.proofs.Walks.{plain, Ptr, InBlock, block_ptr, nothing_more, heard, param, layouts, Stays}
+use Rattle.handles.proofs.Walks.{stay_dropped, walk_of, proved_at, leaves, HeldRow, one_word, words_made}
+use Rattle.handles.proofs.Walks.{HandleWords, known, rewrite, true}
 use types.Kit.{some as exists}
 use Rattle.handles.specs.Inside.Blocks.{bare_block, owned_as}
 use Rattle.handles.proofs.RawBoxes.{Goes-blank, pair_val, RawBoxRow, raw_box-Good, raw_box_opens}

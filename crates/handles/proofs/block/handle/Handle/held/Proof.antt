@@ -1,11 +1,11 @@
 -- `held` shows what every handle of the block sees.
 use Rattle.handles.proofs.Walks.{ℕ, ◌+◌, List, [], ◌∷◌, refl, a_type, Val, vptr, inst_fn, id⊢, Lft, fhide, ‵, ◌⊛◌}
 use Rattle.handles.proofs.Walks.{at_ret, ◌$◌, !, by, move, keep, drop, split, fsplit, fjoin, fpick, use1, rewrite}
-use Rattle.handles.proofs.Walks.{feq_i, stop, fld, load, addr, of_opd, first, blocks, exec, returns, enter, alloc_all}
-use Rattle.handles.proofs.Walks.{pass_all, free_all, look_at, get, through, sets, sets_last, env, sub, whole, look_in}
-use Rattle.handles.proofs.Walks.{tables, RattleType, Ptr, block_ptr, block_of, offset_of, at_block, shuts, param}
-use Rattle.handles.proofs.Walks.{layouts, param_laws, after, HeldRow, one_word, HandleRow, HandleWords, opens_word}
-use Rattle.handles.proofs.Walks.{by_ref, so}
+use Rattle.handles.proofs.Walks.{feq_i, stop, fld, load, addr, of_opd, first, blocks, exec, returns, enter}
+use Rattle.handles.proofs.Walks.{alloc_all, pass_all, free_all, look_at, get, through, sets, sets_last, env, sub}
+use Rattle.handles.proofs.Walks.{whole, look_in, tables, RattleType, Ptr, block_ptr, block_of, offset_of, at_block}
+use Rattle.handles.proofs.Walks.{shuts, param, layouts, param_laws, after, HeldRow, one_word, HandleRow, HandleWords}
+use Rattle.handles.proofs.Walks.{opens_word, by_ref, so}
 use denote.RawPtr.{◌+ₚ◌}
 use denote.Opens.{unhide, hide}
 use denote.Memory.{hidden_shr}
@@ -25,7 +25,8 @@ held_spec 𝓤 𝓛 𝓜 𝓡 wired T L =
     by_ref (HandleRow R) tt En.signature.outlives En.signature.result 𝓛 𝓜 𝓡 (clauses T 𝓛 𝓜.mem 𝓡.returns)
     (λ κs a. Unit {0}) (λ κs a gh. fact_i 𝓤 _ _ tt) (#self inst) fn
     (code.unfolded 𝓤 𝓛.H 𝓜 𝓡 wired (T, tt)) (λ κs qs a gh Post asked ends.
-    let p : Ptr = a.now.block in let x : (HeldRow R).Denot = a.now.held in let η : ℕ = a.now.id in let b : ℕ = a.ref_ptr.0 in
+    let p : Ptr = a.now.block in let x : (HeldRow R).Denot = a.now.held in let η : ℕ = a.now.id in
+    let b : ℕ = a.ref_ptr.0 in
     let o : ℕ = a.ref_ptr.1 in let pb : ℕ = block_of p in let po : ℕ = offset_of p in
     let D : RattleType = HandleWords R in let κ : Lft = κs.0 in
     enter ! 𝓣.C 𝓣.Λ fn (vptr b o ∷ []) Post $ alloc_all ! (λ l. pass_all ! refl ((tt, tt), tt) $

@@ -1,15 +1,15 @@
 -- `marked_by` knows the block to be marked by the log of a step, and gives a handle away for good. It makes no
 -- step itself.
 use Rattle.handles.proofs.Walks.{◌≡◌, ℕ, false, List, [], ◌∷◌, refl, a_type, named, Val, vptr, inst_fn, SProp, Lft}
-use Rattle.handles.proofs.Walks.{Share, Fml, ftrue, fsep, flft, finv, later, await, pick, ‵, raw, ◌⊛◌, at_ret, ◌$◌, ◌∵◌}
-use Rattle.handles.proofs.Walks.{ !, qed, by, move, keep, drop, split, join, fsplit, fjoin, fjoin3, fpick, rewrite, use1}
-use Rattle.handles.proofs.Walks.{use2, feq_i, stop, fld, load, addr, of_opd, first, blocks, exec, returns, enter}
-use Rattle.handles.proofs.Walks.{alloc_all, pass_all, free_all, look_at, get, through, sets, sets_last, env, sub, whole}
-use Rattle.handles.proofs.Walks.{look_in, tables, fact, yes, RattleType, owns, types_at, plain, Ptr, block_ptr}
-use Rattle.handles.proofs.Walks.{block_of, offset_of, at_block, nothing_more, heard, shuts, param, layouts, param_laws}
-use Rattle.handles.proofs.Walks.{RefOf, shr_vals, shr_Tells, Stays, stay_dropped, walk_of, Goes-dropped, after, proved}
-use Rattle.handles.proofs.Walks.{leaves, HeldRow, block_rule, one_word, HandleRow, HandleWords, opens_handle}
-use Rattle.handles.proofs.Walks.{closes_borrow, known}
+use Rattle.handles.proofs.Walks.{Share, Fml, ftrue, fsep, flft, finv, later, await, pick, ‵, raw, ◌⊛◌, at_ret, ◌$◌}
+use Rattle.handles.proofs.Walks.{◌∵◌, !, qed, by, move, keep, drop, split, join, fsplit, fjoin, fjoin3, fpick}
+use Rattle.handles.proofs.Walks.{rewrite, use1, use2, feq_i, stop, fld, load, addr, of_opd, first, blocks, exec}
+use Rattle.handles.proofs.Walks.{returns, enter, alloc_all, pass_all, free_all, look_at, get, through, sets}
+use Rattle.handles.proofs.Walks.{sets_last, env, sub, whole, look_in, tables, fact, yes, RattleType, owns, types_at}
+use Rattle.handles.proofs.Walks.{plain, Ptr, block_ptr, block_of, offset_of, at_block, nothing_more, heard, shuts}
+use Rattle.handles.proofs.Walks.{param, layouts, param_laws, RefOf, shr_vals, shr_Tells, Stays, stay_dropped}
+use Rattle.handles.proofs.Walks.{walk_of, Goes-dropped, after, proved, leaves, HeldRow, block_rule, one_word}
+use Rattle.handles.proofs.Walks.{HandleRow, HandleWords, opens_handle, closes_borrow, known}
 use mir.Val.{vstruct, vnil}
 use types.Kit.{some as exists}
 use denote.Opens.{hide}
@@ -33,7 +33,8 @@ marked_by_spec 𝓤 𝓛 𝓜 𝓡 wired T L =
     let self = RefOf (0 ∷ []) tt (plain (λ _. HandleRow R)) (λ _. tt) in let reported = plain (λ _. LoggedRow) in
     let hs : Stays En.signature.params En.kept = (stay_dropped self yes, (stay_dropped reported yes, tt)) in
     let goes = Goes-dropped 𝓛 3 reported yes (λ κs x f. refl) in
-    proved 𝓛 En hs c 𝓜 𝓡 (Goes-dropped 𝓛 3 self yes (λ κs x f. refl), (goes, tt)) (#self inst) fn (code.unfolded 𝓤 𝓛.H 𝓜 𝓡 wired (T, tt))
+    proved 𝓛 En hs c 𝓜 𝓡 (Goes-dropped 𝓛 3 self yes (λ κs x f. refl), (goes, tt)) (#self inst) fn
+    (code.unfolded 𝓤 𝓛.H 𝓜 𝓡 wired (T, tt))
     (λ κs. (shr_vals, ((λ s. vstruct vnil ∷ []), tt)))
     (λ κs. (shr_Tells (named 0) κs.0 (HandleRow R), ((λ s vs so. no_bytes_told vs so.0), tt))) (λ κs qs bounds a gh are.
     let b : ℕ = a.0.ref_ptr.0 in let o : ℕ = a.0.ref_ptr.1 in let κ : Lft = κs.0 in let q : Share = qs.0 in

@@ -3,14 +3,15 @@ use Rattle.handles.proofs.Steps.Shared.{reached, block_at, and_logged}
 use Rattle.handles.proofs.Walks.{rewrite, ◌≡◌, ℕ, ◌+◌, ◌<◌, false, [], ◌∷◌, refl, sym, ap, w64, a_type, named, Val}
 use Rattle.handles.proofs.Walks.{vint, vptr, inst_fn, SProp, via, Lft, Share, Fml, ftrue, fsep, flft, ‵, raw, ◌⊛◌}
 use Rattle.handles.proofs.Walks.{at_ret, ◌$◌, ◌∵◌, !, qed, by, move, keep, split, join, fsplit, fsplit3, fjoin, stop}
-use Rattle.handles.proofs.Walks.{fld, addr, of_opd, no_more, and_then, first, blocks, exec, Calls-last, returns, enter}
-use Rattle.handles.proofs.Walks.{alloc_all, pass_all, free_all, look_at, get, through, sets, lands_last, is, env, agg}
-use Rattle.handles.proofs.Walks.{sub, whole, tables, fact, yes, RattleType, owns, types_at, plain, Ptr, block_ptr}
-use Rattle.handles.proofs.Walks.{block_of, offset_of, at_block, nothing_more, heard, shuts, param, layouts, u64}
-use Rattle.handles.proofs.Walks.{shr_vals, shr_Tells, Stays, stay_dropped, walk_of, Goes-dropped, after, proved, leaves}
-use Rattle.handles.proofs.Walks.{fm, found, finds, Right, HeldRow, one_word, word_and_permit, one_word-Good, HandleRow}
-use Rattle.handles.proofs.Walks.{HandleWords, returns_permit, word_and_permit-Good, opens_handle, PermitRow, ptr_val}
-use Rattle.handles.proofs.Walks.{get_in, no, so, use0, a_ref, permit_worded, permit_at, asks_with, reports, also}
+use Rattle.handles.proofs.Walks.{fld, addr, of_opd, no_more, and_then, first, blocks, exec, Calls-last, returns}
+use Rattle.handles.proofs.Walks.{enter, alloc_all, pass_all, free_all, look_at, get, through, sets, lands_last, is}
+use Rattle.handles.proofs.Walks.{env, agg, sub, whole, tables, fact, yes, RattleType, owns, types_at, plain, Ptr}
+use Rattle.handles.proofs.Walks.{block_ptr, block_of, offset_of, at_block, nothing_more, heard, shuts, param}
+use Rattle.handles.proofs.Walks.{layouts, u64, shr_vals, shr_Tells, Stays, stay_dropped, walk_of, Goes-dropped}
+use Rattle.handles.proofs.Walks.{after, proved, leaves, fm, found, finds, Right, HeldRow, one_word, word_and_permit}
+use Rattle.handles.proofs.Walks.{one_word-Good, HandleRow, HandleWords, returns_permit, word_and_permit-Good}
+use Rattle.handles.proofs.Walks.{opens_handle, PermitRow, ptr_val, get_in, no, so, use0, a_ref, permit_worded}
+use Rattle.handles.proofs.Walks.{permit_at, asks_with, reports, also}
 use Rattle.std.proofs.Common.{List, ◌∙◌}
 use Rattle.counting_word.specs.WordSteps.{WordStep}
 use Rattle.atomic_table.proofs.Calls.{exchanges}

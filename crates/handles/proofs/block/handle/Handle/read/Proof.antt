@@ -2,13 +2,13 @@
 use Rattle.handles.proofs.Steps.Reads.{reads, after_read}
 use Rattle.counting_word.specs.WordSteps.{WordStep}
 use Rattle.handles.proofs.Walks.{◌≡◌, ℕ, ◌+◌, false, [], ◌∷◌, refl, sym, ap, lit<, a_type, vptr, inst_fn, via, Fml}
-use Rattle.handles.proofs.Walks.{at_ret, ◌$◌, !, by, move, keep, stop, fld, load, addr, lit, of_opd, no_more, and_then}
-use Rattle.handles.proofs.Walks.{first, blocks, exec, Calls-last, returns, enter, alloc_all, pass_all, free_all}
-use Rattle.handles.proofs.Walks.{look_at, get, through, sets, lands_last, is, env, agg, sub, whole, look_in, tables}
-use Rattle.handles.proofs.Walks.{fact, RattleType, Ptr, block_ptr, block_of, offset_of, at_block, shuts, param, layouts}
-use Rattle.handles.proofs.Walks.{after, fm, found, finds, Right, HeldRow, one_word, word_and_permit, one_word-Good}
-use Rattle.handles.proofs.Walks.{HandleRow, HandleWords, returns_permit, word_and_permit-Good, opens_handle, by_ref}
-use Rattle.handles.proofs.Walks.{permit_at, so, also, asks_new, reports}
+use Rattle.handles.proofs.Walks.{at_ret, ◌$◌, !, by, move, keep, stop, fld, load, addr, lit, of_opd, no_more}
+use Rattle.handles.proofs.Walks.{and_then, first, blocks, exec, Calls-last, returns, enter, alloc_all, pass_all}
+use Rattle.handles.proofs.Walks.{free_all, look_at, get, through, sets, lands_last, is, env, agg, sub, whole}
+use Rattle.handles.proofs.Walks.{look_in, tables, fact, RattleType, Ptr, block_ptr, block_of, offset_of, at_block}
+use Rattle.handles.proofs.Walks.{shuts, param, layouts, after, fm, found, finds, Right, HeldRow, one_word}
+use Rattle.handles.proofs.Walks.{word_and_permit, one_word-Good, HandleRow, HandleWords, returns_permit}
+use Rattle.handles.proofs.Walks.{word_and_permit-Good, opens_handle, by_ref, permit_at, so, also, asks_new, reports}
 use Rattle.atomic_table.proofs.Calls.{loads}
 use Rattle.counting_word.specs.Rights.{right_by_read}
 use Rattle.counting_word.specs.WordSteps as step
@@ -26,7 +26,8 @@ read_spec 𝓤 𝓛 𝓜 𝓡 wired T L =
     by_ref (HandleRow R) tt En.signature.outlives En.signature.result 𝓛 𝓜 𝓡 (clauses T 𝓛 𝓜.mem 𝓡.returns)
     (λ κs a. a.now.sole ≡ false) (λ κs a gh. snd∗ 𝓤 (fact 𝓤 _) (fact 𝓤 _)) (#self inst) fn
     (code.unfolded 𝓤 𝓛.H 𝓜 𝓡 wired (T, tt)) (λ κs qs a gh Post asked ends.
-    let p : Ptr = a.now.block in let x : (HeldRow R).Denot = a.now.held in let η : ℕ = a.now.id in let b : ℕ = a.ref_ptr.0 in
+    let p : Ptr = a.now.block in let x : (HeldRow R).Denot = a.now.held in let η : ℕ = a.now.id in
+    let b : ℕ = a.ref_ptr.0 in
     let o : ℕ = a.ref_ptr.1 in let pb : ℕ = block_of p in let po : ℕ = offset_of p in
     let D : RattleType = HandleWords R in
     enter ! 𝓣.C 𝓣.Λ fn (vptr b o ∷ []) Post $ alloc_all ! (λ l. pass_all ! refl ((tt, tt), tt) $

@@ -29,7 +29,8 @@ read_for_drop_spec 𝓤 𝓛 𝓜 𝓡 wired T L =
     let 𝓣 = tables 𝓤 𝓛.H 𝓜 𝓡 𝓡.env in let R : RattleType = param 0 T in let En = ended T in
     let inst = layouts (a_type ∷ []) (T, tt) in let fn = inst_fn inst code.function in
     by_value (handle_worded R) En.signature.outlives En.signature.result 𝓛 𝓜 𝓡 (clauses T 𝓛 𝓜.mem 𝓡.returns)
-    (λ κs a. κs.0 ⊑ T.lives) (λ κs a gh. fst∗ 𝓤 (fact 𝓤 _) (sem 𝓛 ftrue)) (λ κs a. (tt, tt)) (λ κs x f. refl) (#self inst) fn
+    (λ κs a. κs.0 ⊑ T.lives) (λ κs a gh. fst∗ 𝓤 (fact 𝓤 _) (sem 𝓛 ftrue)) (λ κs a. (tt, tt)) (λ κs x f. refl)
+    (#self inst) fn
     (code.unfolded 𝓤 𝓛.H 𝓜 𝓡 wired (T, tt)) (λ κs qs a gh Post asked ends.
     let p : Ptr = a.block in let x : (HeldRow R).Denot = a.held in let η : ℕ = a.id in let pb : ℕ = block_of p in
     let po : ℕ = offset_of p in let κ : Lft = κs.0 in let q : Share = qs.0 in
@@ -56,4 +57,5 @@ read_for_drop_spec 𝓤 𝓛 𝓜 𝓡 wired T L =
     sets ! (agg ! (and_then ! (get ! refl) (and_then ! (get ! refl) (no_more !))))
     refl (word_and_permit-Good n fits p) $ returns_permit R p x η ! n fits r' log $
     returns ! (look_at ! 0 refl) $ free_all ! refl $ keep ! (1 ∷ 0 ∷ []) $
-    by ! (ends (word_and_permit n p) (n, permit_at R p x r' η log) (also 𝓤 refl (also 𝓤 refl (also 𝓤 refl (so 𝓤 adds))))))))))))
+    by ! (ends (word_and_permit n p) (n, permit_at R p x r' η log) (also 𝓤 refl (also 𝓤 refl (also 𝓤 refl
+    (so 𝓤 adds))))))))))))

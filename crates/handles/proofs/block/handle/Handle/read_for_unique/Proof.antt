@@ -1,16 +1,17 @@
 -- `claim` is one load of the word, by which the handle knows whether it is the only one.
 use Rattle.counting_word.specs.WordSteps.{WordStep}
 use Rattle.counting_word.specs.Tallies.{Adds}
-use Rattle.handles.proofs.Walks.{◌≡◌, ℕ, ◌+◌, false, List, [], ◌∷◌, refl, sym, ap, ◌∙◌, lit<, a_type, named, Val, vptr}
-use Rattle.handles.proofs.Walks.{inst_fn, full_share, SProp, via, Lft, Share, Fml, ftrue, flft, ‵, raw, ◌⊛◌, later}
-use Rattle.handles.proofs.Walks.{at_ret, ◌$◌, ◌∵◌, !, qed, by, move, keep, drop, split, split3, join, fsplit, fsplit3}
-use Rattle.handles.proofs.Walks.{fjoin, fjoin3, fpick, use1, use2, await, rewrite, stop, fld, load, addr, lit, of_opd}
-use Rattle.handles.proofs.Walks.{no_more, and_then, first, blocks, exec, Calls-last, returns, enter, alloc_all}
-use Rattle.handles.proofs.Walks.{pass_all, free_all, look_at, get, through, sets, lands_last, env, agg, sub, whole}
-use Rattle.handles.proofs.Walks.{look_in, tables, fact, RattleType, owns, types_at, plain, Ptr, block_ptr, block_of}
-use Rattle.handles.proofs.Walks.{offset_of, at_block, nothing_more, peeks, heard, Is, shows, cell_at, param, layouts}
-use Rattle.handles.proofs.Walks.{param_laws, Stays, walk_of, after, proved, leaves, fm, found, finds, HeldRow, one_word}
-use Rattle.handles.proofs.Walks.{words_are, HandleRow, HandleWords, known, shows_permit, asks_new, handle_at, is_handle}
+use Rattle.handles.proofs.Walks.{◌≡◌, ℕ, ◌+◌, false, List, [], ◌∷◌, refl, sym, ap, ◌∙◌, lit<, a_type, named, Val}
+use Rattle.handles.proofs.Walks.{vptr, inst_fn, full_share, SProp, via, Lft, Share, Fml, ftrue, flft, ‵, raw, ◌⊛◌}
+use Rattle.handles.proofs.Walks.{later, at_ret, ◌$◌, ◌∵◌, !, qed, by, move, keep, drop, split, split3, join, fsplit}
+use Rattle.handles.proofs.Walks.{fsplit3, fjoin, fjoin3, fpick, use1, use2, await, rewrite, stop, fld, load, addr}
+use Rattle.handles.proofs.Walks.{lit, of_opd, no_more, and_then, first, blocks, exec, Calls-last, returns, enter}
+use Rattle.handles.proofs.Walks.{alloc_all, pass_all, free_all, look_at, get, through, sets, lands_last, env, agg}
+use Rattle.handles.proofs.Walks.{sub, whole, look_in, tables, fact, RattleType, owns, types_at, plain, Ptr}
+use Rattle.handles.proofs.Walks.{block_ptr, block_of, offset_of, at_block, nothing_more, peeks, heard, Is, shows}
+use Rattle.handles.proofs.Walks.{cell_at, param, layouts, param_laws, Stays, walk_of, after, proved, leaves, fm}
+use Rattle.handles.proofs.Walks.{found, finds, HeldRow, one_word, words_are, HandleRow, HandleWords, known}
+use Rattle.handles.proofs.Walks.{shows_permit, asks_new, handle_at, is_handle}
 use base.Fml.{GName, Incl-refl}
 use denote.Ref.{mut_vals, mut_Tells}
 use denote.Steps.{opens, closes}
@@ -40,7 +41,8 @@ read_for_unique_spec 𝓤 𝓛 𝓜 𝓡 wired T L =
     let Self : RattleType = HandleRow R in let D : RattleType = HandleWords R in let row = plain (λ _. Self) in
     let hs : Stays En.signature.params En.kept = (stay_ref (0 ∷ []) tt row, tt) in
     proved 𝓛 En hs c 𝓜 𝓡 (Goes-ref 𝓛 2 0 tt row, tt) (#self inst)
-    fn (code.unfolded 𝓤 H 𝓜 𝓡 wired (T, tt)) (λ κs. (mut_vals, tt)) (λ κs. (mut_Tells (named 0) κs.0 Self, tt)) (λ κs qs bounds a gh are.
+    fn (code.unfolded 𝓤 H 𝓜 𝓡 wired (T, tt)) (λ κs. (mut_vals, tt)) (λ κs. (mut_Tells (named 0) κs.0 Self, tt))
+    (λ κs qs bounds a gh are.
     let b : ℕ = a.0.ref_ptr.0 in let o : ℕ = a.0.ref_ptr.1 in let κ : Lft = κs.0 in let q : Share = qs.0 in
     let μ : Lft = κs.1.0 in let r : Share = qs.1.0 in let me : Self.Denot = a.0.now in let p : Ptr = me.block in
     let x : (HeldRow R).Denot = me.held in let η : ℕ = me.id in let γ : GName = a.0.ghost_name in
@@ -76,7 +78,7 @@ read_for_unique_spec 𝓤 𝓛 𝓜 𝓡 wired T L =
     shows_permit R p x η ! tt inb i (right_by_claim n) [] step.claims n (λ log adds.
     fsplit ! $ move ! (1 ∷ []) $ use1 𝓛 (‵ (handle_owns R p x η (is_one_handle n)))
     (sole_shown 𝓛 R p x η (is_one_handle n)) $
-    -- [what is permitted; that the log was reached; the token of T; the cell; the open borrow; its two names; its place]
+    -- [the right; that the log was reached; the token of T; the cell; the open borrow; its two names; its place]
     rewrite ! 3 (λ (z : Ptr). ‵ (cell_at full_share Self.mir (one_word z ∷ []) b o)) (sym at) refl $
     is_handle R p x η ! (is_one_handle n) $
     move ! (3 ∷ 0 ∷ 4 ∷ 5 ∷ 6 ∷ []) $ closes ! tt Self reported (one_word p ∷ []) b o $

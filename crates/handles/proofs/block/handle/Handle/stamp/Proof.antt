@@ -1,11 +1,11 @@
 -- `stamp` is one load of the stamp.
 use Rattle.handles.proofs.Walks.{◌≡◌, ℕ, ◌+◌, false, [], ◌∷◌, refl, lit<, w64, a_type, vint, vptr, inst_fn, via, Fml}
-use Rattle.handles.proofs.Walks.{at_ret, ◌$◌, !, by, move, keep, stop, fld, load, addr, lit, of_opd, no_more, and_then}
-use Rattle.handles.proofs.Walks.{first, blocks, exec, Calls-last, returns, enter, alloc_all, pass_all, free_all}
-use Rattle.handles.proofs.Walks.{look_at, get, through, sets, lands_last, env, agg, sub, whole, look_in, tables, fact}
-use Rattle.handles.proofs.Walks.{RattleType, Ptr, block_ptr, block_of, offset_of, shuts, param, layouts, after, fm}
-use Rattle.handles.proofs.Walks.{found, finds, HeldRow, one_word, HandleRow, HandleWords, is_number, opens_handle}
-use Rattle.handles.proofs.Walks.{closes_borrow, by_ref, asks_with, emp, id⊢}
+use Rattle.handles.proofs.Walks.{at_ret, ◌$◌, !, by, move, keep, stop, fld, load, addr, lit, of_opd, no_more}
+use Rattle.handles.proofs.Walks.{and_then, first, blocks, exec, Calls-last, returns, enter, alloc_all, pass_all}
+use Rattle.handles.proofs.Walks.{free_all, look_at, get, through, sets, lands_last, env, agg, sub, whole, look_in}
+use Rattle.handles.proofs.Walks.{tables, fact, RattleType, Ptr, block_ptr, block_of, offset_of, shuts, param}
+use Rattle.handles.proofs.Walks.{layouts, after, fm, found, finds, HeldRow, one_word, HandleRow, HandleWords}
+use Rattle.handles.proofs.Walks.{is_number, opens_handle, closes_borrow, by_ref, asks_with, emp, id⊢}
 use Rattle.atomic_table.proofs.Calls.{loads}
 use Rattle.handles.specs.Inside.Blocks.{stamp_offset, lent_share}
 use Rattle.handles.proofs.Steps.Shared.{block_at}
@@ -23,7 +23,8 @@ stamp_spec 𝓤 𝓛 𝓜 𝓡 wired T L =
     by_ref (HandleRow R) tt En.signature.outlives En.signature.result 𝓛 𝓜 𝓡 (clauses T 𝓛 𝓜.mem 𝓡.returns)
     (λ κs a. a.now.sole ≡ false) (λ κs a gh. snd∗ 𝓤 (fact 𝓤 _) (fact 𝓤 _)) (#self inst) fn
     (code.unfolded 𝓤 𝓛.H 𝓜 𝓡 wired (T, tt)) (λ κs qs a gh Post asked ends.
-    let p : Ptr = a.now.block in let x : (HeldRow R).Denot = a.now.held in let η : ℕ = a.now.id in let b : ℕ = a.ref_ptr.0 in
+    let p : Ptr = a.now.block in let x : (HeldRow R).Denot = a.now.held in let η : ℕ = a.now.id in
+    let b : ℕ = a.ref_ptr.0 in
     let o : ℕ = a.ref_ptr.1 in let pb : ℕ = block_of p in let po : ℕ = offset_of p in
     let D : RattleType = HandleWords R in
     enter ! 𝓣.C 𝓣.Λ fn (vptr b o ∷ []) Post $ alloc_all ! (λ l. pass_all ! refl ((tt, tt), tt) $

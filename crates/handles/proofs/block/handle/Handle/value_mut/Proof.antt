@@ -1,13 +1,13 @@
 -- `value_mut` lends the value of the block of a handle that is known to be the only one.
 use Rattle.handles.proofs.Walks.{◌≡◌, ℕ, ◌+◌, Bool, true, List, [], ◌∷◌, refl, ap, ◌∙◌, a_type, named, Val, vptr}
 use Rattle.handles.proofs.Walks.{inst_fn, full_share, SProp, Lft, Share, ftrue, flft, sem, ‵, raw, ◌⊛◌, some, later}
-use Rattle.handles.proofs.Walks.{at_ret, ◌$◌, ◌∵◌, !, qed, by, move, keep, drop, split, split3, join, fsplit, fsplit3}
-use Rattle.handles.proofs.Walks.{fjoin, fpick, pick, use1, await, rewrite, stop, fld, load, addr, of_opd, first, blocks}
-use Rattle.handles.proofs.Walks.{exec, returns, enter, alloc_all, pass_all, free_all, look_at, get, through, sets}
-use Rattle.handles.proofs.Walks.{sets_last, env, sub, whole, look_in, tables, fact, no, RattleType, owns, types_at}
-use Rattle.handles.proofs.Walks.{plain, Ptr, block_ptr, block_of, offset_of, at_block, nothing_more, peeks, heard, Is}
-use Rattle.handles.proofs.Walks.{shows, cell_at, param, layouts, Stays, stay_dropped, walk_of, after, proved, leaves}
-use Rattle.handles.proofs.Walks.{HeldRow, one_word, words_are, HandleRow, HandleWords, known}
+use Rattle.handles.proofs.Walks.{at_ret, ◌$◌, ◌∵◌, !, qed, by, move, keep, drop, split, split3, join, fsplit}
+use Rattle.handles.proofs.Walks.{fsplit3, fjoin, fpick, pick, use1, await, rewrite, stop, fld, load, addr, of_opd}
+use Rattle.handles.proofs.Walks.{first, blocks, exec, returns, enter, alloc_all, pass_all, free_all, look_at, get}
+use Rattle.handles.proofs.Walks.{through, sets, sets_last, env, sub, whole, look_in, tables, fact, no, RattleType}
+use Rattle.handles.proofs.Walks.{owns, types_at, plain, Ptr, block_ptr, block_of, offset_of, at_block, nothing_more}
+use Rattle.handles.proofs.Walks.{peeks, heard, Is, shows, cell_at, param, layouts, Stays, stay_dropped, walk_of}
+use Rattle.handles.proofs.Walks.{after, proved, leaves, HeldRow, one_word, words_are, HandleRow, HandleWords, known}
 use base.Fml.{GName}
 use denote.Ref.{MutRef, MutBor, mut_vals, mut_Tells}
 use denote.Signature.{mut_ref_to}
@@ -32,7 +32,8 @@ value_mut_spec 𝓤 𝓛 𝓜 𝓡 wired T L =
     let Self : RattleType = HandleRow R in let D : RattleType = HandleWords R in let row = plain (λ _. Self) in
     let hs : Stays En.signature.params En.kept = (stay_dropped (mut_ref_to (0 ∷ []) tt row) no, tt) in
     proved 𝓛 En hs c 𝓜 𝓡 (Goes-spent_ref 𝓛 2 (0 ∷ []) tt row, tt) (#self inst)
-    fn (code.unfolded 𝓤 H 𝓜 𝓡 wired (T, tt)) (λ κs. (mut_vals, tt)) (λ κs. (mut_Tells (named 0) κs.0 Self, tt)) (λ κs qs bounds a gh are.
+    fn (code.unfolded 𝓤 H 𝓜 𝓡 wired (T, tt)) (λ κs. (mut_vals, tt)) (λ κs. (mut_Tells (named 0) κs.0 Self, tt))
+    (λ κs qs bounds a gh are.
     let b : ℕ = a.0.ref_ptr.0 in let o : ℕ = a.0.ref_ptr.1 in let κ : Lft = κs.0 in let q : Share = qs.0 in
     let μ : Lft = κs.1.0 in let r : Share = qs.1.0 in let me : Self.Denot = a.0.now in let p : Ptr = me.block in
     let x : (HeldRow R).Denot = me.held in let η : ℕ = me.id in let γ : GName = a.0.ghost_name in

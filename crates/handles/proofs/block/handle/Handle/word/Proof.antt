@@ -1,11 +1,11 @@
 -- `word` is one load of the word, which only asks.
-use Rattle.handles.proofs.Walks.{◌≡◌, ℕ, ◌+◌, false, [], ◌∷◌, refl, lit<, a_type, vptr, inst_fn, via, Fml, at_ret, ◌$◌}
-use Rattle.handles.proofs.Walks.{ !, by, move, keep, stop, fld, load, addr, lit, of_opd, no_more, and_then, first}
-use Rattle.handles.proofs.Walks.{blocks, exec, Calls-last, returns, enter, alloc_all, pass_all, free_all, look_at, get}
-use Rattle.handles.proofs.Walks.{through, sets, lands_last, env, agg, sub, whole, look_in, tables, fact, RattleType}
-use Rattle.handles.proofs.Walks.{Ptr, block_ptr, block_of, offset_of, shuts, param, layouts, after, fm, found, finds}
-use Rattle.handles.proofs.Walks.{HeldRow, one_word, HandleRow, HandleWords, opens_handle, by_ref, so, also, asks_new}
-use Rattle.handles.proofs.Walks.{logs}
+use Rattle.handles.proofs.Walks.{◌≡◌, ℕ, ◌+◌, false, [], ◌∷◌, refl, lit<, a_type, vptr, inst_fn, via, Fml, at_ret}
+use Rattle.handles.proofs.Walks.{◌$◌, !, by, move, keep, stop, fld, load, addr, lit, of_opd, no_more, and_then}
+use Rattle.handles.proofs.Walks.{first, blocks, exec, Calls-last, returns, enter, alloc_all, pass_all, free_all}
+use Rattle.handles.proofs.Walks.{look_at, get, through, sets, lands_last, env, agg, sub, whole, look_in, tables}
+use Rattle.handles.proofs.Walks.{fact, RattleType, Ptr, block_ptr, block_of, offset_of, shuts, param, layouts, after}
+use Rattle.handles.proofs.Walks.{fm, found, finds, HeldRow, one_word, HandleRow, HandleWords, opens_handle, by_ref}
+use Rattle.handles.proofs.Walks.{so, also, asks_new, logs}
 use Rattle.atomic_table.proofs.Calls.{loads}
 use Rattle.handles.proofs.LoggedSteps.{returns_logged, word_and_logged, word_and_logged-Good}
 use Rattle.handles.proofs.Steps.Shared.{block_at, and_logged}
@@ -24,7 +24,8 @@ word_spec 𝓤 𝓛 𝓜 𝓡 wired T L =
     by_ref (HandleRow R) tt En.signature.outlives En.signature.result 𝓛 𝓜 𝓡 (clauses T 𝓛 𝓜.mem 𝓡.returns)
     (λ κs a. a.now.sole ≡ false) (λ κs a gh. snd∗ 𝓤 (fact 𝓤 _) (fact 𝓤 _)) (#self inst) fn
     (code.unfolded 𝓤 𝓛.H 𝓜 𝓡 wired (T, tt)) (λ κs qs a gh Post asked ends.
-    let p : Ptr = a.now.block in let x : (HeldRow R).Denot = a.now.held in let η : ℕ = a.now.id in let b : ℕ = a.ref_ptr.0 in
+    let p : Ptr = a.now.block in let x : (HeldRow R).Denot = a.now.held in let η : ℕ = a.now.id in
+    let b : ℕ = a.ref_ptr.0 in
     let o : ℕ = a.ref_ptr.1 in let pb : ℕ = block_of p in let po : ℕ = offset_of p in
     let D : RattleType = HandleWords R in
     enter ! 𝓣.C 𝓣.Λ fn (vptr b o ∷ []) Post $ alloc_all ! (λ l. pass_all ! refl ((tt, tt), tt) $

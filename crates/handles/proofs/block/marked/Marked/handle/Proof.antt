@@ -1,10 +1,10 @@
 -- `handle` makes one more handle of a block that is marked, with no step on its word.
-use Rattle.handles.proofs.Walks.{ℕ, false, [], ◌∷◌, refl, a_type, vptr, inst_fn, id⊢, Lft, Fml, flft, fhide, full_share}
-use Rattle.handles.proofs.Walks.{finv, later, await, pick, block_rule, ‵, ◌⊛◌, ◌$◌, !, by, move, keep, drop, split}
-use Rattle.handles.proofs.Walks.{fsplit, fjoin, fpick, use0, use1, use2, stop, addr, of_opd, no_more, and_then, returns}
-use Rattle.handles.proofs.Walks.{enter, alloc_all, pass_all, free_all, look_at, get, through, sets, agg, tables}
-use Rattle.handles.proofs.Walks.{RattleType, Ptr, block_ptr, param, layouts, HeldRow, one_word, shows_permit, by_ref}
-use Rattle.handles.proofs.Walks.{handle_at, is_handle, so, also}
+use Rattle.handles.proofs.Walks.{ℕ, false, [], ◌∷◌, refl, a_type, vptr, inst_fn, id⊢, Lft, Fml, flft, fhide}
+use Rattle.handles.proofs.Walks.{full_share, finv, later, await, pick, block_rule, ‵, ◌⊛◌, ◌$◌, !, by, move, keep}
+use Rattle.handles.proofs.Walks.{drop, split, fsplit, fjoin, fpick, use0, use1, use2, stop, addr, of_opd, no_more}
+use Rattle.handles.proofs.Walks.{and_then, returns, enter, alloc_all, pass_all, free_all, look_at, get, through}
+use Rattle.handles.proofs.Walks.{sets, agg, tables, RattleType, Ptr, block_ptr, param, layouts, HeldRow, one_word}
+use Rattle.handles.proofs.Walks.{shows_permit, by_ref, handle_at, is_handle, so, also}
 use types.Tokens.{shr_bor-open}
 use types.Kit.{some as exists}
 use denote.Opens.{unhide}

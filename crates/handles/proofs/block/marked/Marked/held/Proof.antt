@@ -2,8 +2,8 @@
 use Rattle.handles.proofs.Walks.{ℕ, ◌+◌, List, [], ◌∷◌, refl, a_type, Val, vptr, inst_fn, id⊢, Lft, fhide, ‵, at_ret}
 use Rattle.handles.proofs.Walks.{◌$◌, !, by, keep, drop, fsplit, fjoin, use1, feq_i, stop, fld, addr, of_opd, first}
 use Rattle.handles.proofs.Walks.{blocks, exec, returns, enter, alloc_all, pass_all, free_all, look_at, get, through}
-use Rattle.handles.proofs.Walks.{sets, sets_last, env, tables, RattleType, Ptr, block_ptr, param, layouts, param_laws}
-use Rattle.handles.proofs.Walks.{after, HeldRow, by_ref, so}
+use Rattle.handles.proofs.Walks.{sets, sets_last, env, tables, RattleType, Ptr, block_ptr, param, layouts}
+use Rattle.handles.proofs.Walks.{param_laws, after, HeldRow, by_ref, so}
 use denote.Opens.{unhide, hide}
 use Rattle.handles.specs.Inside.Blocks.{held_offset, shown}
 use Rattle.handles.specs.Inside.Marked.{marked_shares}

@@ -1,12 +1,12 @@
 -- `of` gives a new block that is marked away for good.
-use Rattle.handles.proofs.Walks.{◌≡◌, ℕ, List, [], ◌∷◌, ◌++◌, refl, sym, subst, a_type, Val, vptr, inst_fn, SProp, ent}
-use Rattle.handles.proofs.Walks.{id⊢, Lft, Share, ftrue, fsep, flft, WpFn, sem, later, await, at_ret, ‵, raw, ◌⊛◌, ◌$◌}
-use Rattle.handles.proofs.Walks.{◌∵◌, !, qed, by, move, keep, split, join, fsplit, fjoin, use1, use2, suffices, feq_i}
-use Rattle.handles.proofs.Walks.{stop, fld, addr, of_opd, first, blocks, exec, returns, enter, alloc_all, pass_all}
-use Rattle.handles.proofs.Walks.{free_all, look_at, get, get_in, through, sets, sets_last, env, sub, whole, tables}
-use Rattle.handles.proofs.Walks.{fact, no, RattleType, owns, types_at, plain, Ptr, block_ptr, nothing_more, heard}
-use Rattle.handles.proofs.Walks.{param, layouts, param_laws, Stays, stay_dropped, walk_of, after, proved_at, leaves}
-use Rattle.handles.proofs.Walks.{HeldRow, known}
+use Rattle.handles.proofs.Walks.{◌≡◌, ℕ, List, [], ◌∷◌, ◌++◌, refl, sym, subst, a_type, Val, vptr, inst_fn, SProp}
+use Rattle.handles.proofs.Walks.{ent, id⊢, Lft, Share, ftrue, fsep, flft, WpFn, sem, later, await, at_ret, ‵, raw}
+use Rattle.handles.proofs.Walks.{◌⊛◌, ◌$◌, ◌∵◌, !, qed, by, move, keep, split, join, fsplit, fjoin, use1, use2}
+use Rattle.handles.proofs.Walks.{suffices, feq_i, stop, fld, addr, of_opd, first, blocks, exec, returns, enter}
+use Rattle.handles.proofs.Walks.{alloc_all, pass_all, free_all, look_at, get, get_in, through, sets, sets_last, env}
+use Rattle.handles.proofs.Walks.{sub, whole, tables, fact, no, RattleType, owns, types_at, plain, Ptr, block_ptr}
+use Rattle.handles.proofs.Walks.{nothing_more, heard, param, layouts, param_laws, Stays, stay_dropped, walk_of}
+use Rattle.handles.proofs.Walks.{after, proved_at, leaves, HeldRow, known}
 use denote.Opens.{hide}
 use contract.BorrowLft.{◌⊑◌}
 use Rattle.counting_word.specs.CountingWord.{marked_word}

@@ -3,10 +3,10 @@ use Rattle.handles.proofs.Walks.{◌≡◌, ℕ, ◌+◌, [], ◌∷◌, refl, a
 use Rattle.handles.proofs.Walks.{some, given, at_ret, ◌$◌, !, by, move, keep, drop, split, fsplit, fsplit3, fjoin3}
 use Rattle.handles.proofs.Walks.{fpick, pick, learn, use1, use2, rewrite, stop, fld, load, of_opd, no_more, and_then}
 use Rattle.handles.proofs.Walks.{first, blocks, exec, returns, enter, alloc_all, pass_all, free_all, look_at, get}
-use Rattle.handles.proofs.Walks.{get_in, through, sets, sets_last, is, env, agg, sub, whole, tables, fact, RattleType}
-use Rattle.handles.proofs.Walks.{Ptr, block_ptr, ptr_val, block_of, offset_of, at_block, param, layout, layouts, after}
-use Rattle.handles.proofs.Walks.{Right, HeldRow, permit_owns, one_word, one_word-Good, by_value, permit_worded, so}
-use Rattle.handles.proofs.Walks.{also}
+use Rattle.handles.proofs.Walks.{get_in, through, sets, sets_last, is, env, agg, sub, whole, tables, fact}
+use Rattle.handles.proofs.Walks.{RattleType, Ptr, block_ptr, ptr_val, block_of, offset_of, at_block, param, layout}
+use Rattle.handles.proofs.Walks.{layouts, after, Right, HeldRow, permit_owns, one_word, one_word-Good, by_value}
+use Rattle.handles.proofs.Walks.{permit_worded, so, also}
 use Rattle.handles.proofs.RawBoxes.{heap_row, pair_val, raw_box-Good, raw_box_shuts}
 use Rattle.handles.specs.contracts.block.Block as block_type
 use types.Run.{look}
@@ -29,7 +29,8 @@ into_raw_box_spec 𝓤 𝓛 𝓜 𝓡 wired T L =
     let 𝓣 = tables 𝓤 𝓛.H 𝓜 𝓡 𝓡.env in let R : RattleType = param 0 T in let En = ended T in
     let inst = layouts (a_type ∷ []) (T, tt) in let fn = inst_fn inst code.function in
     by_value (permit_worded R) En.signature.outlives En.signature.result 𝓛 𝓜 𝓡 (clauses T 𝓛 𝓜.mem 𝓡.returns)
-    (λ κs a. IsWholeBlock a.right) (λ κs a gh. snd∗ 𝓤 (fact 𝓤 _) (fact 𝓤 _)) (λ κs a. (tt, tt)) (λ κs x f. refl) (#self inst) fn
+    (λ κs a. IsWholeBlock a.right) (λ κs a gh. snd∗ 𝓤 (fact 𝓤 _) (fact 𝓤 _)) (λ κs a. (tt, tt)) (λ κs x f. refl)
+    (#self inst) fn
     (code.unfolded 𝓤 𝓛.H 𝓜 𝓡 wired (T, tt)) (λ κs qs a gh Post asked ends.
     let p : Ptr = a.block in let x : (HeldRow R).Denot = a.held in let η : ℕ = a.id in let pb : ℕ = block_of p in
     let po : ℕ = offset_of p in let there : Ptr = block_ptr pb po in

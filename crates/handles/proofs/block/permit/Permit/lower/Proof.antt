@@ -3,14 +3,15 @@ use types.Kit.{some as exists, given, pick, learn}
 use Rattle.std.proofs.Common.{List}
 use Rattle.counting_word.specs.WordSteps.{WordStep}
 use Rattle.counting_word.specs.Tallies.{Adds}
-use Rattle.handles.proofs.Walks.{◌≡◌, ℕ, ◌+◌, [], ◌∷◌, refl, sym, ap, lit<, a_type, inst_fn, via, Fml, ‵, later, at_ret}
-use Rattle.handles.proofs.Walks.{◌$◌, !, by, move, keep, drop, fsplit, fjoin, fpick, use2, await, rewrite, stop, fld}
-use Rattle.handles.proofs.Walks.{addr, lit, of_opd, no_more, and_then, first, blocks, exec, Calls-last, returns, enter}
-use Rattle.handles.proofs.Walks.{alloc_all, pass_all, free_all, look_at, get, get_in, through, sets, lands_last, is}
-use Rattle.handles.proofs.Walks.{env, agg, sub, whole, tables, fact, RattleType, Ptr, block_ptr, ptr_val, block_of}
-use Rattle.handles.proofs.Walks.{offset_of, at_block, param, layouts, after, fm, found, finds, Right, HeldRow}
-use Rattle.handles.proofs.Walks.{permit_owns, one_word, word_and_permit, one_word-Good, returns_permit}
-use Rattle.handles.proofs.Walks.{word_and_permit-Good, by_value, permit_worded, permit_at, so, also, asks_with}
+use Rattle.handles.proofs.Walks.{◌≡◌, ℕ, ◌+◌, [], ◌∷◌, refl, sym, ap, lit<, a_type, inst_fn, via, Fml, ‵, later}
+use Rattle.handles.proofs.Walks.{at_ret, ◌$◌, !, by, move, keep, drop, fsplit, fjoin, fpick, use2, await, rewrite}
+use Rattle.handles.proofs.Walks.{stop, fld, addr, lit, of_opd, no_more, and_then, first, blocks, exec, Calls-last}
+use Rattle.handles.proofs.Walks.{returns, enter, alloc_all, pass_all, free_all, look_at, get, get_in, through, sets}
+use Rattle.handles.proofs.Walks.{lands_last, is, env, agg, sub, whole, tables, fact, RattleType, Ptr, block_ptr}
+use Rattle.handles.proofs.Walks.{ptr_val, block_of, offset_of, at_block, param, layouts, after, fm, found, finds}
+use Rattle.handles.proofs.Walks.{Right, HeldRow, permit_owns, one_word, word_and_permit, one_word-Good}
+use Rattle.handles.proofs.Walks.{returns_permit, word_and_permit-Good, by_value, permit_worded, permit_at, so, also}
+use Rattle.handles.proofs.Walks.{asks_with}
 use Rattle.atomic_table.proofs.Calls.{subs}
 use Rattle.counting_word.specs.Rights.{to_lower, right_by_lower}
 use Rattle.counting_word.specs.WordSteps as step
@@ -28,7 +29,8 @@ lower_spec 𝓤 𝓛 𝓜 𝓡 wired T L =
     let 𝓣 = tables 𝓤 𝓛.H 𝓜 𝓡 𝓡.env in let R : RattleType = param 0 T in let En = ended T in
     let inst = layouts (a_type ∷ []) (T, tt) in let fn = inst_fn inst code.function in
     by_value (permit_worded R) En.signature.outlives En.signature.result 𝓛 𝓜 𝓡 (clauses T 𝓛 𝓜.mem 𝓡.returns)
-    (λ κs a. a.right ≡ to_lower) (λ κs a gh. snd∗ 𝓤 (fact 𝓤 _) (fact 𝓤 _)) (λ κs a. (tt, tt)) (λ κs x f. refl) (#self inst) fn
+    (λ κs a. a.right ≡ to_lower) (λ κs a gh. snd∗ 𝓤 (fact 𝓤 _) (fact 𝓤 _)) (λ κs a. (tt, tt)) (λ κs x f. refl)
+    (#self inst) fn
     (code.unfolded 𝓤 𝓛.H 𝓜 𝓡 wired (T, tt)) (λ κs qs a gh Post asked ends.
     let p : Ptr = a.block in let x : (HeldRow R).Denot = a.held in let η : ℕ = a.id in let pb : ℕ = block_of p in
     let po : ℕ = offset_of p in let old : List WordStep = a.log in
@@ -54,4 +56,5 @@ lower_spec 𝓤 𝓛 𝓜 𝓡 wired T L =
     sets ! (agg ! (and_then ! (get ! refl) (and_then ! (get ! refl) (no_more !))))
     refl (word_and_permit-Good n fits p) $ returns_permit R p x η ! n fits r' log $
     returns ! (look_at ! 0 refl) $ free_all ! refl $ keep ! (1 ∷ 0 ∷ []) $
-    by ! (ends (word_and_permit n p) (n, permit_at R p x r' η log) (also 𝓤 refl (also 𝓤 refl (also 𝓤 refl (so 𝓤 adds)))))))))))))
+    by ! (ends (word_and_permit n p) (n, permit_at R p x r' η log) (also 𝓤 refl (also 𝓤 refl (also 𝓤 refl
+    (so 𝓤 adds)))))))))))))

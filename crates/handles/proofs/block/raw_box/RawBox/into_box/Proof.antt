@@ -1,19 +1,19 @@
 -- `into_box` makes the box again.
-use Rattle.handles.proofs.Walks.{◌≡◌, List, [], ◌∷◌, ◌++◌, refl, sym, ap, subst, a_type, Val, vptr, inst_fn, SProp, ent}
-use Rattle.handles.proofs.Walks.{id⊢, ftrue, flft, WpFn, ‵, raw, ◌⊛◌, some, later, at_ret, ◌$◌, ◌∵◌, !, qed, by, move}
-use Rattle.handles.proofs.Walks.{keep, drop, split, split3, join, fsplit, fjoin, pick, use1, await, rewrite, feq_i}
-use Rattle.handles.proofs.Walks.{suffices, stop, fld, of_opd, no_more, and_then, first, blocks, exec, returns, enter}
-use Rattle.handles.proofs.Walks.{alloc_all, pass_all, free_all, look_at, get, get_in, sets, lands_last, env, sub, whole}
-use Rattle.handles.proofs.Walks.{tables, fact, no, RattleType, owns, types_at, plain, block_ptr, nothing_more, only}
-use Rattle.handles.proofs.Walks.{param, layout, bounded, Stays, stay_dropped, walk_of, after, proved_at, leaves, fm}
-use Rattle.handles.proofs.Walks.{Lft, Share, full_share, use0, known}
+use Rattle.handles.proofs.Walks.{◌≡◌, List, [], ◌∷◌, ◌++◌, refl, sym, ap, subst, a_type, Val, vptr, inst_fn, SProp}
+use Rattle.handles.proofs.Walks.{ent, id⊢, ftrue, flft, WpFn, ‵, raw, ◌⊛◌, some, later, at_ret, ◌$◌, ◌∵◌, !, qed, by}
+use Rattle.handles.proofs.Walks.{move, keep, drop, split, split3, join, fsplit, fjoin, pick, use1, await, rewrite}
+use Rattle.handles.proofs.Walks.{feq_i, suffices, stop, fld, of_opd, no_more, and_then, first, blocks, exec, returns}
+use Rattle.handles.proofs.Walks.{enter, alloc_all, pass_all, free_all, look_at, get, get_in, sets, lands_last, env}
+use Rattle.handles.proofs.Walks.{sub, whole, tables, fact, no, RattleType, owns, types_at, plain, block_ptr}
+use Rattle.handles.proofs.Walks.{nothing_more, only, param, layout, bounded, Stays, stay_dropped, walk_of, after}
+use Rattle.handles.proofs.Walks.{proved_at, leaves, fm, Lft, Share, full_share, use0, known}
 use denote.Triple.Call.{calls_at_last}
 use Rattle.core.proofs.cell.Inside.{Good}
 use Rattle.std_alloc.specs.contracts.boxed.Box.from_raw as callee
 use Rattle.std_alloc.proofs.boxed.Box.from_raw.Met.{met}
 use Rattle.handles.proofs.RawBoxes.{dcons, dnil, ◌⊑◌, ⊑_static, named_in, Lasts, lasts, triple_of, Global, passed}
-use Rattle.handles.proofs.RawBoxes.{box_out, box_in, glues, Goes-blank, heap_row, ghosts, heap, heap_arg, heap_arg-laws}
-use Rattle.handles.proofs.RawBoxes.{pair_val, RawBoxRow, raw_box-Good, raw_box_opens}
+use Rattle.handles.proofs.RawBoxes.{box_out, box_in, glues, Goes-blank, heap_row, ghosts, heap, heap_arg}
+use Rattle.handles.proofs.RawBoxes.{heap_arg-laws, pair_val, RawBoxRow, raw_box-Good, raw_box_opens}
 use Rattle.std_alloc.proofs.BoxSteps.Form as box
 use Rattle.std_alloc.specs.contracts.boxed.Box as boxed
 use Rattle.handles.specs.contracts.block.raw_box.RawBox.into_box.{ended, clauses}

@@ -1,12 +1,12 @@
 -- `of` takes a box apart.
-use Rattle.handles.proofs.Walks.{◌≡◌, List, [], ◌∷◌, ◌++◌, refl, sym, ap, ◌∙◌, subst, a_type, Val, vptr, inst_fn, SProp}
-use Rattle.handles.proofs.Walks.{ent, id⊢, ftrue, flft, WpFn, sem, ‵, raw, ◌⊛◌, some, later, ◌$◌, ◌∵◌, !, qed, by, move}
-use Rattle.handles.proofs.Walks.{keep, drop, split, split3, join, fsplit, fjoin, fpick, pick, use1, await, rewrite}
-use Rattle.handles.proofs.Walks.{feq_l, suffices, stop, fld, of_opd, no_more, and_then, returns, enter, lands_as}
-use Rattle.handles.proofs.Walks.{alloc_all, pass_all, free_all, look_at, get, get_in, sets, agg, sub, whole, tables}
-use Rattle.handles.proofs.Walks.{fact, no, RattleType, owns, types_at, plain, Ptr, block_ptr, ptr_val, nothing_more}
-use Rattle.handles.proofs.Walks.{only, heard, param, layout, bounded, Stays, stay_dropped, walk_of, proved_at, leaves}
-use Rattle.handles.proofs.Walks.{fm, known, Lft, Share, full_share, use0}
+use Rattle.handles.proofs.Walks.{◌≡◌, List, [], ◌∷◌, ◌++◌, refl, sym, ap, ◌∙◌, subst, a_type, Val, vptr, inst_fn}
+use Rattle.handles.proofs.Walks.{SProp, ent, id⊢, ftrue, flft, WpFn, sem, ‵, raw, ◌⊛◌, some, later, ◌$◌, ◌∵◌, !, qed}
+use Rattle.handles.proofs.Walks.{by, move, keep, drop, split, split3, join, fsplit, fjoin, fpick, pick, use1, await}
+use Rattle.handles.proofs.Walks.{rewrite, feq_l, suffices, stop, fld, of_opd, no_more, and_then, returns, enter}
+use Rattle.handles.proofs.Walks.{lands_as, alloc_all, pass_all, free_all, look_at, get, get_in, sets, agg, sub}
+use Rattle.handles.proofs.Walks.{whole, tables, fact, no, RattleType, owns, types_at, plain, Ptr, block_ptr, ptr_val}
+use Rattle.handles.proofs.Walks.{nothing_more, only, heard, param, layout, bounded, Stays, stay_dropped, walk_of}
+use Rattle.handles.proofs.Walks.{proved_at, leaves, fm, known, Lft, Share, full_share, use0}
 use base.Logic.{never, fst∗}
 use mir.Raw.{raw as bare}
 use mir.Val.{vstruct, of_list}
@@ -17,8 +17,8 @@ use denote.Triple.Call.{calls_at}
 use Rattle.std_alloc.specs.contracts.boxed.Box.into_raw_with_allocator as callee
 use Rattle.std_alloc.proofs.boxed.Box.into_raw_with_allocator.Met.{met}
 use Rattle.handles.proofs.RawBoxes.{dcons, dnil, ◌⊑◌, ⊑_static, named_in, Lasts, lasts, triple_of, Global, passed}
-use Rattle.handles.proofs.RawBoxes.{box_out, box_in, glues, Goes-blank, heap_row, ghosts, heap, heap_arg, heap_arg-laws}
-use Rattle.handles.proofs.RawBoxes.{handle_tells, pair_val, raw_box-Good, raw_box_shuts}
+use Rattle.handles.proofs.RawBoxes.{box_out, box_in, glues, Goes-blank, heap_row, ghosts, heap, heap_arg}
+use Rattle.handles.proofs.RawBoxes.{heap_arg-laws, handle_tells, pair_val, raw_box-Good, raw_box_shuts}
 use Rattle.std_alloc.specs.Box.Ownership.{box_owns}
 use Rattle.std_alloc.proofs.BoxSteps.Form as box
 use Rattle.std_alloc.specs.contracts.boxed.Box as boxed

@@ -1,18 +1,18 @@
 -- `free` makes room of the places, and frees their block if they take bytes.
 use Rattle.handles.proofs.PlacesWalks.{◌≡◌, ℕ, ◌+◌, ◌-◌, ◌^◌, ◌<◌, Bool, List, [], ◌∷◌, refl, sym, ap, ◌∙◌, subst}
 use Rattle.handles.proofs.PlacesWalks.{arith, w64, a_type, named, Val, vint, vptr, vunit, inst_fn, SProp, Lft, Share}
-use Rattle.handles.proofs.PlacesWalks.{ftrue, flft, ‵, raw, ◌⊛◌, given, later, at_ret, ◌$◌, ◌∵◌, !, qed, by, move, keep}
-use Rattle.handles.proofs.PlacesWalks.{drop, split, join, fsplit, fsplit3, fjoin3, learn, use1, use2, use3, await}
-use Rattle.handles.proofs.PlacesWalks.{rewrite, feq_i, flt_l, unit_lit, stop, fld, lit, of_opd, no_more, and_then}
-use Rattle.handles.proofs.PlacesWalks.{first, blocks, exec, returns, enter, alloc_all, pass_all, free_all, look_at, get}
-use Rattle.handles.proofs.PlacesWalks.{get_in, sets, lands_last, is, env, sub, whole, tables, fact, yes, no, RattleType}
-use Rattle.handles.proofs.PlacesWalks.{owns, types_at, plain, Ptr, block_ptr, ptr_val, nothing_more, heard, param}
-use Rattle.handles.proofs.PlacesWalks.{layouts, param_laws, RefOf, shr_vals, shr_Tells, Stays, stay_dropped, walk_of}
-use Rattle.handles.proofs.PlacesWalks.{Goes-dropped, after, proved, leaves, fm, heap, spared, run_framed, ⊑_static}
-use Rattle.handles.proofs.PlacesWalks.{Global, Goes-blank, elτ, sz, uncapped, LeavingRow, leaving-Good, leaving_val}
-use Rattle.handles.proofs.PlacesWalks.{none_at_null, right_to_free, leaving_own, ◌*◌, as_raw, as_written, owns_if}
-use Rattle.handles.proofs.PlacesWalks.{froom, in_a_block, length, ty_array, capped_fits, align, capped, align_word, bin}
-use Rattle.handles.proofs.PlacesWalks.{size_word}
+use Rattle.handles.proofs.PlacesWalks.{ftrue, flft, ‵, raw, ◌⊛◌, given, later, at_ret, ◌$◌, ◌∵◌, !, qed, by, move}
+use Rattle.handles.proofs.PlacesWalks.{keep, drop, split, join, fsplit, fsplit3, fjoin3, learn, use1, use2, use3}
+use Rattle.handles.proofs.PlacesWalks.{await, rewrite, feq_i, flt_l, unit_lit, stop, fld, lit, of_opd, no_more}
+use Rattle.handles.proofs.PlacesWalks.{and_then, first, blocks, exec, returns, enter, alloc_all, pass_all, free_all}
+use Rattle.handles.proofs.PlacesWalks.{look_at, get, get_in, sets, lands_last, is, env, sub, whole, tables, fact}
+use Rattle.handles.proofs.PlacesWalks.{yes, no, RattleType, owns, types_at, plain, Ptr, block_ptr, ptr_val}
+use Rattle.handles.proofs.PlacesWalks.{nothing_more, heard, param, layouts, param_laws, RefOf, shr_vals, shr_Tells}
+use Rattle.handles.proofs.PlacesWalks.{Stays, stay_dropped, walk_of, Goes-dropped, after, proved, leaves, fm, heap}
+use Rattle.handles.proofs.PlacesWalks.{spared, run_framed, ⊑_static, Global, Goes-blank, elτ, sz, uncapped}
+use Rattle.handles.proofs.PlacesWalks.{LeavingRow, leaving-Good, leaving_val, none_at_null, right_to_free}
+use Rattle.handles.proofs.PlacesWalks.{leaving_own, ◌*◌, as_raw, as_written, owns_if, froom, in_a_block, length}
+use Rattle.handles.proofs.PlacesWalks.{ty_array, capped_fits, align, capped, align_word, bin, size_word}
 use lib.Dec.{T as Holds}
 use mir.Raw.{raw as bare}
 use mir.Syntax.{Ty, ty_unit}

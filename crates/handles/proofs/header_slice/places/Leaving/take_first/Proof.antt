@@ -1,17 +1,17 @@
 -- `take_first` reads the first item that is left, and its place is empty.
 use Rattle.handles.proofs.PlacesWalks.{◌≡◌, ℕ, ◌+◌, ◌-◌, ◌^◌, ◌<◌, List, [], ◌∷◌, refl, sym, ap, ◌∙◌, arith, a_type}
-use Rattle.handles.proofs.PlacesWalks.{named, Val, vptr, inst_fn, full_share, SProp, emp, fat, Lft, Share, ftrue, flft}
-use Rattle.handles.proofs.PlacesWalks.{‵, raw, ◌⊛◌, some, given, at_ret, ◌$◌, ◌∵◌, !, qed, by, move, keep, drop, split}
-use Rattle.handles.proofs.PlacesWalks.{split3, join, fsplit, fsplit3, fjoin, fjoin3, pick, learn, use0, use1, use2}
-use Rattle.handles.proofs.PlacesWalks.{rewrite, feq_i, flt_i, flt_l, stop, fld, load, lit, of_opd, first, blocks, exec}
-use Rattle.handles.proofs.PlacesWalks.{returns, enter, alloc_all, pass_all, free_all, look_at, get, through, sets}
-use Rattle.handles.proofs.PlacesWalks.{sets_last, env, sub, whole, look_in, tables, fact, fact_i, RattleType, owns}
-use Rattle.handles.proofs.PlacesWalks.{types_at, plain, Ptr, nothing_more, peeks, heard, Is, shows, cell_at, param}
-use Rattle.handles.proofs.PlacesWalks.{layouts, param_laws, Stays, walk_of, after, proved, leaves, elτ, one_below, sz}
-use Rattle.handles.proofs.PlacesWalks.{times_below, LeavingRow, LeavingWords, leaving_val, leaving_words, none_at_null}
-use Rattle.handles.proofs.PlacesWalks.{leaving_own, ◌*◌, ◌≤◌, as_raw, as_written, froom, Array, part_at, in_a_block}
-use Rattle.handles.proofs.PlacesWalks.{mut_Tells, mut_vals, closes, opens, Goes-ref, stay_ref, length, ty_array}
-use Rattle.handles.proofs.PlacesWalks.{store_in, assigns, bin, size_lit}
+use Rattle.handles.proofs.PlacesWalks.{named, Val, vptr, inst_fn, full_share, SProp, emp, fat, Lft, Share, ftrue}
+use Rattle.handles.proofs.PlacesWalks.{flft, ‵, raw, ◌⊛◌, some, given, at_ret, ◌$◌, ◌∵◌, !, qed, by, move, keep}
+use Rattle.handles.proofs.PlacesWalks.{drop, split, split3, join, fsplit, fsplit3, fjoin, fjoin3, pick, learn, use0}
+use Rattle.handles.proofs.PlacesWalks.{use1, use2, rewrite, feq_i, flt_i, flt_l, stop, fld, load, lit, of_opd, first}
+use Rattle.handles.proofs.PlacesWalks.{blocks, exec, returns, enter, alloc_all, pass_all, free_all, look_at, get}
+use Rattle.handles.proofs.PlacesWalks.{through, sets, sets_last, env, sub, whole, look_in, tables, fact, fact_i}
+use Rattle.handles.proofs.PlacesWalks.{RattleType, owns, types_at, plain, Ptr, nothing_more, peeks, heard, Is, shows}
+use Rattle.handles.proofs.PlacesWalks.{cell_at, param, layouts, param_laws, Stays, walk_of, after, proved, leaves}
+use Rattle.handles.proofs.PlacesWalks.{elτ, one_below, sz, times_below, LeavingRow, LeavingWords, leaving_val}
+use Rattle.handles.proofs.PlacesWalks.{leaving_words, none_at_null, leaving_own, ◌*◌, ◌≤◌, as_raw, as_written, froom}
+use Rattle.handles.proofs.PlacesWalks.{Array, part_at, in_a_block, mut_Tells, mut_vals, closes, opens, Goes-ref}
+use Rattle.handles.proofs.PlacesWalks.{stay_ref, length, ty_array, store_in, assigns, bin, size_lit}
 use types.Run.{look}
 use Rattle.core.proofs.ptr.Rows.{El, Good}
 use Rattle.handles.proofs.header_slice.places.Leaving.TheLaws.{lowers}

@@ -1,12 +1,12 @@
 -- `into_leaving` makes of the places those that no item has left yet.
-use Rattle.handles.proofs.PlacesWalks.{◌≡◌, ℕ, ◌^◌, ◌<◌, [], ◌∷◌, refl, lit<, arith, a_type, Val, inst_fn, SProp, emp}
-use Rattle.handles.proofs.PlacesWalks.{ftrue, flft, ‵, raw, ◌⊛◌, ◌$◌, ◌∵◌, !, qed, by, move, keep, split, fsplit, fjoin}
-use Rattle.handles.proofs.PlacesWalks.{use0, use1, stop, fld, lit, of_opd, no_more, and_then, returns, enter, alloc_all}
-use Rattle.handles.proofs.PlacesWalks.{pass_all, free_all, look_at, get, get_in, sets, agg, sub, whole, tables, fact}
-use Rattle.handles.proofs.PlacesWalks.{fact_i, no, RattleType, owns, types_at, plain, Ptr, nothing_more, param, layouts}
-use Rattle.handles.proofs.PlacesWalks.{param_laws, Stays, stay_dropped, walk_of, proved, leaves, Goes-blank, LeavingRow}
-use Rattle.handles.proofs.PlacesWalks.{LeavingWords, leaving-Good, leaving_val, leaving_words, PlacesRow, places_val}
-use Rattle.handles.proofs.PlacesWalks.{leaving_own}
+use Rattle.handles.proofs.PlacesWalks.{◌≡◌, ℕ, ◌^◌, ◌<◌, [], ◌∷◌, refl, lit<, arith, a_type, Val, inst_fn, SProp}
+use Rattle.handles.proofs.PlacesWalks.{emp, ftrue, flft, ‵, raw, ◌⊛◌, ◌$◌, ◌∵◌, !, qed, by, move, keep, split}
+use Rattle.handles.proofs.PlacesWalks.{fsplit, fjoin, use0, use1, stop, fld, lit, of_opd, no_more, and_then, returns}
+use Rattle.handles.proofs.PlacesWalks.{enter, alloc_all, pass_all, free_all, look_at, get, get_in, sets, agg, sub}
+use Rattle.handles.proofs.PlacesWalks.{whole, tables, fact, fact_i, no, RattleType, owns, types_at, plain, Ptr}
+use Rattle.handles.proofs.PlacesWalks.{nothing_more, param, layouts, param_laws, Stays, stay_dropped, walk_of}
+use Rattle.handles.proofs.PlacesWalks.{proved, leaves, Goes-blank, LeavingRow, LeavingWords, leaving-Good}
+use Rattle.handles.proofs.PlacesWalks.{leaving_val, leaving_words, PlacesRow, places_val, leaving_own}
 use Rattle.core.proofs.atomic.Steps.{Ptr-Good}
 use Rattle.handles.proofs.header_slice.places.Places.TheLaws.{lowers}
 use Rattle.handles.proofs.LeavingFields.{places-Good, none_left}

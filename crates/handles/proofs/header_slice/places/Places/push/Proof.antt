@@ -8,8 +8,8 @@ use Rattle.handles.proofs.PlacesWalks.{alloc_all, pass_all, free_all, look_at, g
 use Rattle.handles.proofs.PlacesWalks.{look_in, tables, fact, no, RattleType, owns, types_at, plain, block_ptr}
 use Rattle.handles.proofs.PlacesWalks.{nothing_more, heard, cell_at, param, layouts, Stays, stay_dropped, walk_of}
 use Rattle.handles.proofs.PlacesWalks.{Goes-dropped, after, proved_at, elτ, one_below, sz, times_below, PlacesRow}
-use Rattle.handles.proofs.PlacesWalks.{places_val, places_opens, ◌*◌, as_raw, as_written, froom, Array, part_at, closes}
-use Rattle.handles.proofs.PlacesWalks.{opens, Goes-ref, stay_ref, ty_array, store_in, assigns, bin, size_lit}
+use Rattle.handles.proofs.PlacesWalks.{places_val, places_opens, ◌*◌, as_raw, as_written, froom, Array, part_at}
+use Rattle.handles.proofs.PlacesWalks.{closes, opens, Goes-ref, stay_ref, ty_array, store_in, assigns, bin, size_lit}
 use lib.ListN.{length-append}
 use types.Run.{init, assigns_last}
 use denote.Triple.Walked.{ends_at}

@@ -1,20 +1,21 @@
 -- `reserve` asks the allocator for an array, and makes places of it that hold nothing yet.
-use Rattle.handles.proofs.PlacesWalks.{◌≡◌, ℕ, ◌^◌, ◌<◌, Bool, true, false, [], ◌∷◌, refl, sym, ap, subst, lit<, arith}
-use Rattle.handles.proofs.PlacesWalks.{w64, a_type, named, Val, vint, vptr, inst_fn, SProp, ent, sep, emp, Lft, Share}
-use Rattle.handles.proofs.PlacesWalks.{Fml, ftrue, fsep, flft, sem, ‵, raw, ◌⊛◌, later, at_ret, ◌$◌, ◌∵◌, !, qed, by}
-use Rattle.handles.proofs.PlacesWalks.{move, keep, drop, split, join, fsplit, fjoin, use0, use1, use2, await, rewrite}
-use Rattle.handles.proofs.PlacesWalks.{stop, fld, lit, of_opd, no_more, and_then, first, exec, returns, enter, lands_as}
-use Rattle.handles.proofs.PlacesWalks.{alloc_all, pass_all, free_all, look_at, get, get_in, sets, sets_last, is, env}
-use Rattle.handles.proofs.PlacesWalks.{agg, whole, tables, fact, fact_i, yes, RattleType, owns, types_at, plain}
-use Rattle.handles.proofs.PlacesWalks.{block_ptr, nothing_more, heard, Is, param, layout, layouts, RefOf, shr_vals}
-use Rattle.handles.proofs.PlacesWalks.{shr_Tells, Stays, stay_dropped, walk_of, Goes-dropped, after, proved, leaves, fm}
-use Rattle.handles.proofs.PlacesWalks.{heap, spared, run_framed, ⊑_static, Global, Answer-typed, Answered, Takes}
-use Rattle.handles.proofs.PlacesWalks.{Takes-gives, Takes-goes, answers, at_takes, token, arm_body, head, block_align}
-use Rattle.handles.proofs.PlacesWalks.{block_size, block_ty, uncapped, PlacesRow, places_val, has_bytes, places_made}
-use Rattle.handles.proofs.PlacesWalks.{without_items, ◌*◌, ◌≢◌, type_size, Err, IfOk, Ok, FitsInBlock, as_written, Good}
-use Rattle.handles.proofs.PlacesWalks.{first_Good, err_of, ok_of, owns_if, ◌⊑◌, usize, uint_Tells, uint_vals, owned}
-use Rattle.handles.proofs.PlacesWalks.{Struct, Struct-Makes, calls_at, ty_array, vcons, vnil, vstruct, capped_fits}
-use Rattle.handles.proofs.PlacesWalks.{align, capped, Wp, after_seq, at_return, get_tag, After, any_q, in_variant, live}
+use Rattle.handles.proofs.PlacesWalks.{◌≡◌, ℕ, ◌^◌, ◌<◌, Bool, true, false, [], ◌∷◌, refl, sym, ap, subst, lit<}
+use Rattle.handles.proofs.PlacesWalks.{arith, w64, a_type, named, Val, vint, vptr, inst_fn, SProp, ent, sep, emp}
+use Rattle.handles.proofs.PlacesWalks.{Lft, Share, Fml, ftrue, fsep, flft, sem, ‵, raw, ◌⊛◌, later, at_ret, ◌$◌, ◌∵◌}
+use Rattle.handles.proofs.PlacesWalks.{ !, qed, by, move, keep, drop, split, join, fsplit, fjoin, use0, use1, use2}
+use Rattle.handles.proofs.PlacesWalks.{await, rewrite, stop, fld, lit, of_opd, no_more, and_then, first, exec}
+use Rattle.handles.proofs.PlacesWalks.{returns, enter, lands_as, alloc_all, pass_all, free_all, look_at, get, get_in}
+use Rattle.handles.proofs.PlacesWalks.{sets, sets_last, is, env, agg, whole, tables, fact, fact_i, yes, RattleType}
+use Rattle.handles.proofs.PlacesWalks.{owns, types_at, plain, block_ptr, nothing_more, heard, Is, param, layout}
+use Rattle.handles.proofs.PlacesWalks.{layouts, RefOf, shr_vals, shr_Tells, Stays, stay_dropped, walk_of}
+use Rattle.handles.proofs.PlacesWalks.{Goes-dropped, after, proved, leaves, fm, heap, spared, run_framed, ⊑_static}
+use Rattle.handles.proofs.PlacesWalks.{Global, Answer-typed, Answered, Takes, Takes-gives, Takes-goes, answers}
+use Rattle.handles.proofs.PlacesWalks.{at_takes, token, arm_body, head, block_align, block_size, block_ty, uncapped}
+use Rattle.handles.proofs.PlacesWalks.{PlacesRow, places_val, has_bytes, places_made, without_items, ◌*◌, ◌≢◌}
+use Rattle.handles.proofs.PlacesWalks.{type_size, Err, IfOk, Ok, FitsInBlock, as_written, Good, first_Good, err_of}
+use Rattle.handles.proofs.PlacesWalks.{ok_of, owns_if, ◌⊑◌, usize, uint_Tells, uint_vals, owned, Struct}
+use Rattle.handles.proofs.PlacesWalks.{Struct-Makes, calls_at, ty_array, vcons, vnil, vstruct, capped_fits, align}
+use Rattle.handles.proofs.PlacesWalks.{capped, Wp, after_seq, at_return, get_tag, After, any_q, in_variant, live}
 use Rattle.handles.proofs.PlacesWalks.{vrt, align_word, bin, size_word, switches_on}
 use denote.Struct.Declared as Declared
 use Rattle.core.specs.contracts.result.Result as result

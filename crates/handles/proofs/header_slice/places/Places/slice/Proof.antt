@@ -3,10 +3,11 @@ use Rattle.handles.proofs.PlacesWalks.{◌≡◌, ℕ, ◌^◌, ◌<◌, List, [
 use Rattle.handles.proofs.PlacesWalks.{inst_fn, id⊢, Lft, fhide, ‵, raw, ◌⊛◌, at_ret, ◌$◌, !, by, move, keep, drop}
 use Rattle.handles.proofs.PlacesWalks.{split, fsplit, fjoin, use1, rewrite, feq_i, flt_i, flt_l, stop, fld, load}
 use Rattle.handles.proofs.PlacesWalks.{of_opd, no_more, and_then, first, blocks, exec, returns, enter, alloc_all}
-use Rattle.handles.proofs.PlacesWalks.{pass_all, free_all, look_at, get, through, sets, sets_last, env, agg, sub, whole}
-use Rattle.handles.proofs.PlacesWalks.{look_in, tables, fact, fact_i, RattleType, Ptr, InBlock, block_ptr, block_of}
-use Rattle.handles.proofs.PlacesWalks.{offset_of, at_block, peeks, heard, looks, shuts, Is, shows, cell_at, param}
-use Rattle.handles.proofs.PlacesWalks.{layouts, after, PlacesRow, places_val, ◌*◌, ◌≤◌, type_size, slice_val, length}
+use Rattle.handles.proofs.PlacesWalks.{pass_all, free_all, look_at, get, through, sets, sets_last, env, agg, sub}
+use Rattle.handles.proofs.PlacesWalks.{whole, look_in, tables, fact, fact_i, RattleType, Ptr, InBlock, block_ptr}
+use Rattle.handles.proofs.PlacesWalks.{block_of, offset_of, at_block, peeks, heard, looks, shuts, Is, shows, cell_at}
+use Rattle.handles.proofs.PlacesWalks.{param, layouts, after, PlacesRow, places_val, ◌*◌, ◌≤◌, type_size, slice_val}
+use Rattle.handles.proofs.PlacesWalks.{length}
 use native.Mathlib.Nat.{mul-le-mul_right, lt_of_le_of_lt}
 use denote.Memory.{hidden_shr}
 use denote.Opens.{unhide, hide}

@@ -1,14 +1,14 @@
 -- `slice_mut` lends the items, and the places follow them.
 use Rattle.handles.proofs.PlacesWalks.{◌≡◌, ℕ, ◌^◌, ◌<◌, List, [], ◌∷◌, refl, sym, arith, a_type, named, Val, vptr}
-use Rattle.handles.proofs.PlacesWalks.{inst_fn, full_share, SProp, emp, Lft, Share, ftrue, flft, sem, ‵, raw, ◌⊛◌, some}
-use Rattle.handles.proofs.PlacesWalks.{later, at_ret, ◌$◌, ◌∵◌, !, qed, by, move, keep, drop, split, split3, join}
-use Rattle.handles.proofs.PlacesWalks.{fsplit, fsplit3, fjoin, fjoin3, pick, use0, use1, await, rewrite, stop, fld}
-use Rattle.handles.proofs.PlacesWalks.{load, of_opd, no_more, and_then, first, blocks, exec, returns, enter, alloc_all}
-use Rattle.handles.proofs.PlacesWalks.{pass_all, free_all, look_at, get, through, sets, sets_last, env, agg, sub, whole}
-use Rattle.handles.proofs.PlacesWalks.{look_in, tables, fact, fact_i, no, RattleType, owns, types_at, plain}
-use Rattle.handles.proofs.PlacesWalks.{nothing_more, cell_at, param, layouts, Stays, stay_dropped, walk_of, after}
-use Rattle.handles.proofs.PlacesWalks.{proved, leaves, times_below, PlacesRow, places_opens, ◌*◌, type_size, Array}
-use Rattle.handles.proofs.PlacesWalks.{mut_Tells, mut_vals, slice_val, opens, length}
+use Rattle.handles.proofs.PlacesWalks.{inst_fn, full_share, SProp, emp, Lft, Share, ftrue, flft, sem, ‵, raw, ◌⊛◌}
+use Rattle.handles.proofs.PlacesWalks.{some, later, at_ret, ◌$◌, ◌∵◌, !, qed, by, move, keep, drop, split, split3}
+use Rattle.handles.proofs.PlacesWalks.{join, fsplit, fsplit3, fjoin, fjoin3, pick, use0, use1, await, rewrite, stop}
+use Rattle.handles.proofs.PlacesWalks.{fld, load, of_opd, no_more, and_then, first, blocks, exec, returns, enter}
+use Rattle.handles.proofs.PlacesWalks.{alloc_all, pass_all, free_all, look_at, get, through, sets, sets_last, env}
+use Rattle.handles.proofs.PlacesWalks.{agg, sub, whole, look_in, tables, fact, fact_i, no, RattleType, owns}
+use Rattle.handles.proofs.PlacesWalks.{types_at, plain, nothing_more, cell_at, param, layouts, Stays, stay_dropped}
+use Rattle.handles.proofs.PlacesWalks.{walk_of, after, proved, leaves, times_below, PlacesRow, places_opens, ◌*◌}
+use Rattle.handles.proofs.PlacesWalks.{type_size, Array, mut_Tells, mut_vals, slice_val, opens, length}
 use base.Fml.{GName}
 use types.Kit.{group}
 use types.SemTy.{cells}

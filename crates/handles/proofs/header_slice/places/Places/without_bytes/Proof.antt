@@ -1,13 +1,13 @@
 -- `without_bytes` makes places that hold nothing yet and take no memory, at the address of an empty array.
 use Rattle.handles.proofs.PlacesWalks.{◌≡◌, ℕ, ◌^◌, ◌<◌, Bool, [], ◌∷◌, refl, lit<, arith, w64, a_type, Val, vint}
-use Rattle.handles.proofs.PlacesWalks.{inst_fn, SProp, emp, ftrue, flft, ‵, raw, ◌⊛◌, ◌$◌, ◌∵◌, !, qed, by, move, keep}
-use Rattle.handles.proofs.PlacesWalks.{drop, split, join, fjoin, use0, rewrite, stop, addr, lit, no_more, and_then}
-use Rattle.handles.proofs.PlacesWalks.{returns, enter, alloc_all, pass_all, free_all, look_at, get, sets, agg, tables}
-use Rattle.handles.proofs.PlacesWalks.{fact, fact_i, yes, RattleType, owns, types_at, plain, block_ptr, nothing_more}
-use Rattle.handles.proofs.PlacesWalks.{heard, param, layout, layouts, Stays, stay_dropped, walk_of, Goes-dropped}
-use Rattle.handles.proofs.PlacesWalks.{proved, leaves, PlacesRow, places_val, places_made, without_items, right_to_free}
-use Rattle.handles.proofs.PlacesWalks.{Good, ◌*◌, type_size, owns_if, froom, ◌⊑◌, usize, uint_Tells, uint_vals}
-use Rattle.handles.proofs.PlacesWalks.{ty_array}
+use Rattle.handles.proofs.PlacesWalks.{inst_fn, SProp, emp, ftrue, flft, ‵, raw, ◌⊛◌, ◌$◌, ◌∵◌, !, qed, by, move}
+use Rattle.handles.proofs.PlacesWalks.{keep, drop, split, join, fjoin, use0, rewrite, stop, addr, lit, no_more}
+use Rattle.handles.proofs.PlacesWalks.{and_then, returns, enter, alloc_all, pass_all, free_all, look_at, get, sets}
+use Rattle.handles.proofs.PlacesWalks.{agg, tables, fact, fact_i, yes, RattleType, owns, types_at, plain, block_ptr}
+use Rattle.handles.proofs.PlacesWalks.{nothing_more, heard, param, layout, layouts, Stays, stay_dropped, walk_of}
+use Rattle.handles.proofs.PlacesWalks.{Goes-dropped, proved, leaves, PlacesRow, places_val, places_made}
+use Rattle.handles.proofs.PlacesWalks.{without_items, right_to_free, Good, ◌*◌, type_size, owns_if, froom, ◌⊑◌}
+use Rattle.handles.proofs.PlacesWalks.{usize, uint_Tells, uint_vals, ty_array}
 use types.Run.{from}
 use Rattle.core.specs.Allocator.{array_of}
 use Rattle.handles.proofs.PlacesMade.{no_bytes, no_memory}

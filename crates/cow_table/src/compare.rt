@@ -1,11 +1,11 @@
-// What a table has by its items: equality and a text.
+//! Equality of tables, and their text.
 ghost use Rattle.std.specs.Cmp.Lexicographic.{pointwise, lists_per, lists_equiv};
 
 use crate::table::CowTable;
 use std::fmt;
 use std::fmt::{Debug, Formatter, Write};
 
-/// Asks the items, also if both tables share their pages.
+/// Compares the items, also where both tables share their pages.
 impl<T: PartialEq> PartialEq for CowTable<T> {
     ghost eq = { pointwise T.eq };
 

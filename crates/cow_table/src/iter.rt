@@ -1,4 +1,4 @@
-//! The items of a table, one after another.
+//! An iterator over the items of a table.
 ghost use Rattle.std.specs.Prelude.{◌≡◌, IfSome, Some, length, ⊤};
 ghost use Rattle.std.specs.Iterator.{UpTo, YieldsFirstRef, YieldsLastRef, item_count};
 ghost use Rattle.std.specs.Iterator.SizeHint.{IsWithinCount};
@@ -12,7 +12,7 @@ use std::marker::Model;
 /// An iterator over the items of a `CowTable`, from the first to the last.
 #[derive(Drop)]
 pub struct Iter<'a, T> {
-    // What is left of a page at either end, and the pages between them, none of which is empty.
+    // The rest of a page at either end, and the pages between, none of which is empty.
     front: &'a [T],
     pages: &'a [Arc<Vec<T>>],
     back: &'a [T],
@@ -66,14 +66,12 @@ impl<'a, T> Iterator for Iter<'a, T> {
 
     #[tactic(auto, using(crate::proofs::Filled::forward))]
     fn next(&mut self) -> Option<&'a T> {
-        let front = self.front;
-        if let Some((item, rest)) = front.split_first() {
+        if let Some((item, rest)) = self.front.split_first() {
             self.front = rest;
             self.len -= 1;
             return Some(item);
         }
-        let pages = self.pages;
-        if let Some((page, pages)) = pages.split_first() {
+        if let Some((page, pages)) = self.pages.split_first() {
             let (item, rest) = page.split_first().unwrap();
             self.front = rest;
             self.pages = pages;
@@ -100,14 +98,12 @@ impl<'a, T> DoubleEndedIterator for Iter<'a, T> {
 
     #[tactic(auto, using(crate::proofs::Filled::backward))]
     fn next_back(&mut self) -> Option<&'a T> {
-        let back = self.back;
-        if let Some((item, rest)) = back.split_last() {
+        if let Some((item, rest)) = self.back.split_last() {
             self.back = rest;
             self.len -= 1;
             return Some(item);
         }
-        let pages = self.pages;
-        if let Some((page, pages)) = pages.split_last() {
+        if let Some((page, pages)) = self.pages.split_last() {
             let (item, rest) = page.split_last().unwrap();
             self.back = rest;
             self.pages = pages;

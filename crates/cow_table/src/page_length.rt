@@ -1,8 +1,8 @@
-// How many items a page has.
+//! The length of a page.
 ghost use Rattle.std.specs.Prelude.{◌≡◌, ◌<◌, ◌^◌, ◌/◌, ◌%◌};
 ghost use Rattle.std.specs.Option.{ForSome};
 
-// The length of a page. If it is a power of two, items are found without a division.
+/// How many items a page has. If that is a power of two, an item is found without a division.
 #[derive(Clone, Copy)]
 pub(crate) struct PageLength {
     pub(crate) items: usize,
@@ -18,15 +18,11 @@ impl PageLength {
         ensures { result.items ≡ items }
     {
         let power = items.ilog2();
-        let shift = if 1usize << power == items {
-            Some(power)
-        } else {
-            None
-        };
+        let shift = (1usize << power == items).then_some(power);
         PageLength { items, shift }
     }
 
-    // The page in which an item lies, and its place there.
+    // The page of an item, and its place there.
     #[inline]
     pub(crate) fn locate(self, i: usize) -> (usize, usize)
         ensures page { result.0 ≡ i / self.items }

@@ -1,5 +1,6 @@
 //! A list in shared pages.
-ghost use Rattle.std.specs.Prelude.{◌≡◌, ◌<◌, ◌≤◌, ◌↔◌, Err, IfOk, IsSome, IsTrue, OnErr, OnOk, [], length, slice_get, slice_index_or, slice_set, vec_len};
+ghost use Rattle.std.specs.Prelude.{◌≡◌, ◌<◌, ◌≤◌, ◌↔◌, Err, IfOk, IsSome, IsTrue, OnErr, OnOk, [], length};
+ghost use Rattle.std.specs.Prelude.{slice_get, slice_index_or, slice_set, vec_len};
 ghost use Rattle.std.specs.Option.{option_copied};
 ghost use Rattle.std.specs.Vec.{vec_items};
 ghost use types.Logic.{sem};
@@ -14,10 +15,10 @@ use std::alloc::{AllocError, Global};
 use std::marker::Model;
 use std::ops::Index;
 
-/// A list whose clones are versions of it: what is set in one of them is seen in no other.
+/// A list whose clones are versions of it: what is set in one version is seen in no other.
 ///
-/// The items hold no cell, no lock and no atomic: what these hold is written through a shared handle, so that every
-/// version that shares the item reads the change, and no clause speaks of it.
+/// The items hold no cell, no lock and no atomic. What these hold can be written through a shared handle: every version
+/// that shares the item then reads the change, and no clause speaks of it.
 #[derive(Drop)]
 pub struct CowTable<T> {
     pub(crate) pages: Arc<Vec<Arc<Vec<T>>>>,
@@ -37,7 +38,7 @@ impl<T> Model for CowTable<T> {
 }
 
 impl<T: Drop> CowTable<T> {
-    /// The items in pages of `page_len`, the last of which may be shorter.
+    /// The items in pages of `page_len`; the last page may be shorter.
     ///
     /// It moves the items. It requests memory for the items and the block of each page, and for the list of pages and
     /// its block. If one of these requests is refused, the items are dropped.
@@ -59,8 +60,8 @@ impl<T: Drop> CowTable<T> {
     }
 }
 
-/// Makes a version, by one raise of a count, with no copy and no memory. It is refused as the `clone` of an `Arc` is:
-/// at the limit of the count, or after 64 raises that were lost to other threads.
+/// Makes a version by one raise of a count. It copies nothing and allocates nothing. It fails as the `clone` of an `Arc`
+/// does: at the limit of the count, or after 64 raises that lost to other threads.
 impl<T: Drop> Clone for CowTable<T> {
     ghost is_clone = { λ a b. b ≡ a };
 
@@ -73,7 +74,7 @@ impl<T: Drop> Clone for CowTable<T> {
     }
 }
 
-/// The item of that number, which has to be there.
+/// The item of that number, which must exist.
 impl<T> Index<usize> for CowTable<T> {
     type Output = T;
 
@@ -143,7 +144,7 @@ impl<T> CowTable<T> {
 
     /// Whether both versions have page `p`, counted from 0, and share it.
     ///
-    /// The answer is as exact as that of `Arc::ptr_eq`, for which no other thread may ask about these blocks meanwhile.
+    /// The answer is as exact as that of `Arc::ptr_eq`, during which no other thread may ask about these blocks.
     pub fn page_ptr_eq(this: &CowTable<T>, other: &CowTable<T>, p: usize) -> bool
         ensures there { IsTrue result → (p < length this.now) × (p < length other.now) }
     {
@@ -161,7 +162,7 @@ impl<T> CowTable<T> {
     }
 }
 
-// A page, to write to, in a block that no other version has.
+// A page to write to, in a block that no other version shares.
 #[tactic(auto, using(crate::proofs::Lent::lent_items))]
 fn own_page<T: Clone>(
     pages: &mut Arc<Vec<Arc<Vec<T>>>>,

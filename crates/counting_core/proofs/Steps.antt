@@ -1,11 +1,6 @@
-pub mod Moving
 pub mod Edits
-pub mod Asking
-pub mod Handles
-pub mod Owners
-pub mod Births
-pub mod Ending
-pub mod Marking
-pub mod Running
-pub mod FullWords
 pub mod ByTheWord
+pub mod HandleSteps
+pub mod Continues
+pub mod Acting
+pub mod Running

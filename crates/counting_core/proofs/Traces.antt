@@ -1,3 +1,4 @@
+pub mod Activities
 pub mod Deeds
 pub mod LegalSteps
 pub mod Limits

@@ -9,12 +9,12 @@ use Rattle.counting_core.specs.declared.step.Answer.{Answer}
 use Rattle.counting_core.specs.declared.step.Answer.TheVariants.{Born, Full, Pending, Quit as Quitted, Ended, GivenUp}
 use Rattle.counting_core.specs.declared.step.Answer.TheVariants.{Marked, Is, Alone, Sole, Shared, Done, Value, Barred}
 use Rattle.counting_core.specs.Trace.{Trace, Open, Then}
-use Rattle.counting_core.specs.Legal.{due}
+use Rattle.counting_core.specs.Legal.{expected}
 
 -- the answers to steps in order, want of memory aside
 abbrev answers : Trace ℕ → List (Step ℕ) → List (Answer ℕ)
 answers t [] = []
-answers t (s ∷ steps) = due t s ∷ answers (Then t s (due t s)) steps
+answers t (s ∷ steps) = expected t s ∷ answers (Then t s (expected t s)) steps
 
 the_last_handle :
     answers (Open 5 1 greatest_count) (Unique 0 0 ∷ Drop 0 0 ∷ Lower 0 ∷ [])

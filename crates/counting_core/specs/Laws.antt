@@ -8,17 +8,17 @@ use Rattle.counting_core.specs.declared.step.Step.TheVariants.{Clone, Raise, Dro
 use Rattle.counting_core.specs.declared.step.Answer.{Answer}
 use Rattle.counting_core.specs.declared.step.Answer.TheVariants.{Born, Full, Pending, Ended, GivenUp, Marked, Memory}
 use Rattle.counting_core.specs.declared.step.Answer.TheVariants.{Barred}
-use Rattle.counting_core.specs.Trace.{Trace, Open, Then, HandleState, owner_of, situation, limit_of}
+use Rattle.counting_core.specs.Trace.{Trace, Open, Then, HandleState, owner_of, limit_of}
 use Rattle.counting_core.specs.Permitted.{is_sole, permitted}
-use Rattle.counting_core.specs.Legal.{replay, due, IsLegal}
+use Rattle.counting_core.specs.Legal.{expected, IsLegal, state, model}
 use Rattle.counting_core.specs.Represents.{CoreState, Represents}
 
 module _ {V : Type 0} where
   abbrev pub live_handles : Trace V → List ℕ
-  live_handles t = (replay t).machine.live
+  live_handles t = (model t).live
 
   abbrev pub has_mark : Trace V → Bool
-  has_mark t = (replay t).machine.mark
+  has_mark t = (model t).mark
 
   abbrev pub is_end : Answer V → Bool
   is_end Ended = true
@@ -46,17 +46,17 @@ module _ {V : Type 0} where
 abbrev pub EachStepHasOneAnswer : Type 0 → Type 0
 EachStepHasOneAnswer V =
     (t : Trace V) (s : Step V) → IsLegal t
-    → IsLegal (Then t s (due t s)) × ((a : Answer V) → IsLegal (Then t s a) → (a ≡ due t s) ⊎ (a ≡ Memory))
+    → IsLegal (Then t s (expected t s)) × ((a : Answer V) → IsLegal (Then t s a) → (a ≡ expected t s) ⊎ (a ≡ Memory))
 
 abbrev pub BarredExactlyIfNotPermitted : Type 0 → Type 0
 BarredExactlyIfNotPermitted V =
     (t : Trace V) (s : Step V) (a : Answer V) → IsLegal (Then t s a)
-    → (a ≡ Barred) ↔ (permitted (situation t) s ≡ false)
+    → (a ≡ Barred) ↔ (permitted (state t) s ≡ false)
 
 abbrev pub LiveHandlesLive : Type 0 → Type 0
 LiveHandlesLive V =
     (t : Trace V) → IsLegal t → (h : ℕ)
-    → count_by (nat_eq h) (live_handles t) ≡ (if ((situation t).handle h).lives then 1 else 0)
+    → count_by (nat_eq h) (live_handles t) ≡ (if ((state t).handle h).lives then 1 else 0)
 
 abbrev pub CountIsTheNumberOfLiveHandles : Type 0 → Type 0
 CountIsTheNumberOfLiveHandles V =
@@ -66,7 +66,7 @@ CountIsTheNumberOfLiveHandles V =
 
 abbrev pub NoLowerWraps : Type 0 → Type 0
 NoLowerWraps V =
-    (core : CoreState V) (t : Trace V) (o : ℕ) → Represents core t → permitted {V = V} (situation t) (Lower o)
+    (core : CoreState V) (t : Trace V) (o : ℕ) → Represents core t → permitted {V = V} (state t) (Lower o)
     ≡ true
     → 1 ≤ count_of core.word
 
@@ -85,7 +85,7 @@ abbrev pub GivenUpByLastEnd : Type 0 → Type 0
 GivenUpByLastEnd V =
     (t : Trace V) (s : Step V) (a : Answer V) → IsLegal (Then t s a) → is_end a ≡ true
     → a ≡ (if not (has_mark t) && nat_eq (length (live_handles (Then t s a))) 0
-    then GivenUp (replay t).machine.value else Ended)
+    then GivenUp (model t).value else Ended)
 
 abbrev pub GivenUpOnce : Type 0 → Type 0
 GivenUpOnce V =
@@ -95,26 +95,26 @@ GivenUpOnce V =
 abbrev pub FullExactlyAtLimit : Type 0 → Type 0
 FullExactlyAtLimit V =
     (t : Trace V) (s : Step V) (a : Answer V) → IsLegal (Then t s a)
-    → (a ≡ Full) ↔ ((permitted (situation t) s ≡ true) × (is_clone_read s ≡ true)
+    → (a ≡ Full) ↔ ((permitted (state t) s ≡ true) × (is_clone_read s ≡ true)
     × (has_mark t ≡ false) × (length (live_handles t) ≡ limit_of t))
 
 abbrev pub BornStraightAfterRead : Type 0 → Type 0
 BornStraightAfterRead V =
     (t : Trace V) (s : Step V) (a : Answer V) → IsLegal (Then (Then t s Pending) (Raise (owner_of s)) a)
-    → is_clone_read s ≡ true → (a ≡ Born (replay t).machine.births) ⊎ (a ≡ Memory)
+    → is_clone_read s ≡ true → (a ≡ Born (model t).births) ⊎ (a ≡ Memory)
 
 -- a live handle that is sole
 pub record IsSole {V : Type 0} (t : Trace V) (h : ℕ) : Type 0 where
-  pub lives : ((situation t).handle h).lives ≡ true
-  pub sole : is_sole ((situation t).handle h).access ≡ true
+  pub lives : ((state t).handle h).lives ≡ true
+  pub sole : is_sole ((state t).handle h).access ≡ true
 
 abbrev pub SoleHandleIsTheOnlyOne : Type 0 → Type 0
 SoleHandleIsTheOnlyOne V =
     (t : Trace V) (h : ℕ) → IsLegal t → IsSole t h
-    → (live_handles t ≡ h ∷ []) × (has_mark t ≡ false) × (((situation t).handle h).borrowers ≡ [])
+    → (live_handles t ≡ h ∷ []) × (has_mark t ≡ false) × (((state t).handle h).borrowers ≡ [])
 
 abbrev pub SoleDropGivesUp : Type 0 → Type 0
 SoleDropGivesUp V =
     (t : Trace V) (o h : ℕ) → IsLegal t → IsSole t h
-    → (permitted {V = V} (situation t) (Drop o h) ≡ true → due t (Drop o h) ≡ Pending)
-    × (permitted {V = V} (situation t) (Lower o) ≡ true → due t (Lower o) ≡ GivenUp (replay t).machine.value)
+    → (permitted {V = V} (state t) (Drop o h) ≡ true → expected t (Drop o h) ≡ Pending)
+    × (permitted {V = V} (state t) (Lower o) ≡ true → expected t (Lower o) ≡ GivenUp (model t).value)

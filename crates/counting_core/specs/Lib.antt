@@ -1,12 +1,11 @@
 pub mod Trace
 pub mod Permitted
-pub mod PlainMachine
+pub mod ReferenceModel
 pub mod Legal
 pub mod Represents
 pub mod Laws
 pub mod LostRaises
-pub mod ByWord
 pub mod TraceLogs
+pub mod ByWord
 pub mod HandleSteps
-pub mod BlockSteps
 pub mod Runs

@@ -4,8 +4,8 @@ use Rattle.counting_core.specs.declared.step.Step.{Step}
 use Rattle.counting_core.specs.declared.step.Step.TheVariants.{Raise}
 use Rattle.counting_core.specs.declared.step.Answer.{Answer}
 use Rattle.counting_core.specs.declared.step.Answer.TheVariants.{Born, Pending, Ended, GivenUp}
-use Rattle.counting_core.specs.Trace.{Trace, Open, Then, situation}
-use Rattle.counting_core.specs.Legal.{IsLegal}
+use Rattle.counting_core.specs.Trace.{Trace, Open, Then}
+use Rattle.counting_core.specs.Legal.{IsLegal, state}
 
 module _ {V : Type 0} where
   abbrev pub is_lost_raise : Answer V → Step V → Bool
@@ -26,4 +26,4 @@ module _ {V : Type 0} where
 
 abbrev pub LostRaisesAreBounded : Type 0 → Type 0
 LostRaisesAreBounded V =
-    (t : Trace V) → IsLegal t → how_many is_lost_raise t ≤ ((situation t).owners - 1) * how_many is_change t
+    (t : Trace V) → IsLegal t → how_many is_lost_raise t ≤ ((state t).owners - 1) * how_many is_change t

@@ -1,15 +1,15 @@
 -- Which step is permitted to whom.
 use Rattle.std.specs.Prelude.{ℕ, Bool, true, false, not, ◌&&◌, ◌||◌, nat_eq, nat_lt, length}
 use Rattle.std.specs.List.{list_any}
-use Rattle.counting_core.specs.declared.handle.Access.{Access}
-use Rattle.counting_core.specs.declared.handle.Access.TheVariants.{Shared, Written, Sole}
-use Rattle.counting_core.specs.declared.owner.Activity.{Activity}
-use Rattle.counting_core.specs.declared.owner.Activity.TheVariants.{Idle, Cloning, Dropping}
+use Rattle.counting_core.specs.declared.handle_entry.Access.{Access}
+use Rattle.counting_core.specs.declared.handle_entry.Access.TheVariants.{Shared, Written, Sole}
+use Rattle.counting_core.specs.declared.activity.Activity.{Activity}
+use Rattle.counting_core.specs.declared.activity.Activity.TheVariants.{Idle, Cloning, Dropping}
 use Rattle.counting_core.specs.declared.step.Step.{Step}
 use Rattle.counting_core.specs.declared.step.Step.TheVariants.{Clone, Raise, Quit, Drop, Lower, Mark, Unique, Static}
 use Rattle.counting_core.specs.declared.step.Step.TheVariants.{GetMut, Write, EndWrite, IntoUnique, Share}
 use Rattle.counting_core.specs.declared.step.Step.TheVariants.{Load, Lend, Return, Give}
-use Rattle.counting_core.specs.Trace.{HandleState, Situation, owner_of}
+use Rattle.counting_core.specs.Trace.{HandleState, State, owner_of}
 
 abbrev pub is_shared : Access → Bool
 is_shared Shared = true
@@ -51,13 +51,13 @@ module _ (k : HandleState) (o : ℕ) where
   abbrev pub has_sole : Bool
   has_sole = has_alone && is_sole k.access
 
-abbrev pub is_another : Situation → ℕ → ℕ → Bool
+abbrev pub is_another : State → ℕ → ℕ → Bool
 is_another u o to = nat_lt to u.owners && not (nat_eq to o)
 
 -- by what the owner of the step is in the middle of
-abbrev pub permitted_by : {V : Type 0} → Situation → Activity → Step V → Bool
-permitted_by u (Cloning h) (Raise o) = true
-permitted_by u (Cloning h) (Quit o) = true
+abbrev pub permitted_by : {V : Type 0} → State → Activity → Step V → Bool
+permitted_by u (Cloning h seen) (Raise o) = true
+permitted_by u (Cloning h seen) (Quit o) = true
 permitted_by u (Dropping h) (Lower o) = true
 permitted_by u Idle (Clone o h) = may_use (u.handle h) o
 permitted_by u Idle (Mark o h) = may_use (u.handle h) o
@@ -76,5 +76,5 @@ permitted_by u Idle (EndWrite o h) = is_writing (u.handle h) o
 permitted_by u Idle (Share o h) = has_sole (u.handle h) o
 permitted_by u activity s = false
 
-abbrev pub permitted : {V : Type 0} → Situation → Step V → Bool
+abbrev pub permitted : {V : Type 0} → State → Step V → Bool
 permitted u s = nat_lt (owner_of s) u.owners && permitted_by u (u.activity (owner_of s)) s

@@ -1,55 +1,61 @@
 -- When a core represents a trace.
-use Rattle.std.specs.Prelude.{◌≡◌, ℕ, Bool, true, false, List, length, slice_index_or, count_by}
-use Rattle.counting_word.specs.CountingWord.{is_marked_word, count_of, StandsFor}
-use Rattle.counting_core.specs.declared.owner.Activity.{Activity}
-use Rattle.counting_core.specs.declared.owner.Activity.TheVariants.{Idle, Cloning, Dropping}
-use Rattle.counting_core.specs.declared.owner.Owner.{Owner}
+use Rattle.std.specs.Prelude.{◌≡◌, ℕ, zero, suc, ◌+◌, Bool, true, false, if◌then◌else◌, List, length, slice_index_or}
+use Rattle.counting_word.specs.CountingWord.{StandsFor}
+use Rattle.counting_core.specs.declared.activity.Activity.{Activity}
+use Rattle.counting_core.specs.declared.activity.Activity.TheVariants.{Idle, Dropping}
 use Rattle.counting_core.specs.declared.step.Step.{Step}
 use Rattle.counting_core.specs.declared.step.Answer.{Answer}
-use Rattle.counting_core.specs.Trace.{Trace, Then, then_all, HandleState, unborn, Situation, situation, limit_of}
-use Rattle.counting_core.specs.Legal.{IsLegal, replay}
+use Rattle.counting_core.specs.Trace.{Trace, Then, then_all, HandleState, unborn, State, limit_of}
+use Rattle.counting_core.specs.Legal.{IsLegal, state, model}
 
--- A core, as its contracts show it: a value, a word and a limit, each handle ever born, and each owner with the word
--- that its clone in flight saw last.
+-- A core, as its contracts show it: a value, a word and a limit, each handle ever born, and what each owner is in the
+-- middle of.
 pub record CoreState (V : Type 0) : Type 0 where
   pub value : V
   pub word : ℕ
   pub limit : ℕ
   pub handles : List HandleState
-  pub owners : List Owner
-
-abbrev pub idle : Owner
-idle = record { activity = Idle; seen = 0 }
+  pub owners : List Activity
 
 abbrev pub is_dropping : Activity → Bool
 is_dropping (Dropping h) = true
 is_dropping activity = false
 
+-- how many of the numbers below a bound pass a test
+abbrev pub number_below : (ℕ → Bool) → ℕ → ℕ
+number_below test zero = 0
+number_below test (suc n) = (if test n then 1 else 0) + number_below test n
+
+abbrev pub drops_in_flight : State → ℕ
+drops_in_flight u = number_below (λ o. is_dropping (u.activity o)) u.owners
+
 module _ {V : Type 0} where
+  abbrev pub core_of : V → ℕ → ℕ → List HandleState → List Activity → CoreState V
+  core_of value word limit handles owners =
+      record { value = value; word = word; limit = limit; handles = handles; owners = owners }
+
   abbrev pub handle : CoreState V → ℕ → HandleState
   handle core h = slice_index_or core.handles h unborn
 
-  abbrev pub owner : CoreState V → ℕ → Owner
-  owner core o = slice_index_or core.owners o idle
+  abbrev pub activity : CoreState V → ℕ → Activity
+  activity core o = slice_index_or core.owners o Idle
 
-  abbrev pub situation_of : CoreState V → Situation
-  situation_of core =
-      record { owners = length core.owners; handle = handle core; activity = λ o. (owner core o).activity }
-
-  abbrev pub drops_in_flight : CoreState V → ℕ
-  drops_in_flight core = count_by (λ owner. is_dropping owner.activity) core.owners
+  abbrev pub state_of : CoreState V → State
+  state_of core = record { owners = length core.owners; handle = handle core; activity = activity core }
 
   -- The trace is legal, and the core agrees with it. Here alone words and handles meet: the core's word stands for the
-  -- live handles, and the word that a clone in flight saw last has no mark and counts those that lived then.
+  -- live handles, and the word that a clone in flight saw last is the number of those that lived then.
   pub record Represents (core : CoreState V) (t : Trace V) : Type 0 where
     pub legal : IsLegal t
-    pub same_situation : situation_of core ≡ situation t
-    pub same_value : core.value ≡ (replay t).machine.value
+    pub same_state : state_of core ≡ state t
+    pub same_value : core.value ≡ (model t).value
     pub same_limit : core.limit ≡ limit_of t
-    pub same_births : length core.handles ≡ (replay t).machine.births
-    pub word : StandsFor core.word (replay t).machine.mark (length (replay t).machine.live) (drops_in_flight core)
-    pub seen : (o h : ℕ) → (owner core o).activity ≡ Cloning h
-        → (is_marked_word (owner core o).seen ≡ false) × (count_of (owner core o).seen ≡ (replay t).lived o)
+    pub same_births : length core.handles ≡ (model t).births
+    pub word : StandsFor core.word (model t).mark (length (model t).live) (drops_in_flight (state t))
+
+  -- some trace has led to the core
+  abbrev pub IsReached : CoreState V → Type 0
+  IsReached core = (t : Trace V) × Represents core t
 
   -- Whatever trace the core represented, it represents that trace followed by the step and its answer.
   abbrev pub Continues : CoreState V → Step V → Answer V → CoreState V → Type 0

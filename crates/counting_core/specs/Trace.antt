@@ -1,13 +1,13 @@
--- What a trace says of the handles and the owners of a block, by its answers alone.
+-- Traces, and what each step makes of the handles and the owners of a block, by its answer alone.
 use Rattle.std.specs.Prelude.{ℕ, Bool, Option, None, Some, true, false, nat_eq, if◌then◌else◌, List, []}
 use Rattle.std.specs.Prelude.{◌∷◌}
 use Rattle.std.specs.Ordering.{nat_cmp}
 use Rattle.std.specs.BTreeSet.{insert_key}
 use Rattle.std.specs.Set.{remove_key}
-use Rattle.counting_core.specs.declared.handle.Access.{Access}
-use Rattle.counting_core.specs.declared.handle.Access.TheVariants.{Shared, Written, Sole as SoleAccess}
-use Rattle.counting_core.specs.declared.owner.Activity.{Activity}
-use Rattle.counting_core.specs.declared.owner.Activity.TheVariants.{Idle, Cloning, Dropping}
+use Rattle.counting_core.specs.declared.handle_entry.Access.{Access}
+use Rattle.counting_core.specs.declared.handle_entry.Access.TheVariants.{Shared, Written, Sole as SoleAccess}
+use Rattle.counting_core.specs.declared.activity.Activity.{Activity}
+use Rattle.counting_core.specs.declared.activity.Activity.TheVariants.{Idle, Cloning, Dropping}
 use Rattle.counting_core.specs.declared.step.Step.{Step}
 use Rattle.counting_core.specs.declared.step.Step.TheVariants.{Clone, Raise, Quit, Drop, Lower, Mark, Unique, Static}
 use Rattle.counting_core.specs.declared.step.Step.TheVariants.{GetMut, Write, EndWrite, IntoUnique, Share}
@@ -43,7 +43,7 @@ abbrev pub returned_by : HandleState → ℕ → HandleState
 returned_by k o = record k { borrowers = remove_key (nat_eq o) k.borrowers }
 
 -- how many owners there are, each handle by its number, and what each owner is in the middle of
-pub record Situation : Type 0 where
+pub record State : Type 0 where
   pub owners : ℕ
   pub handle : ℕ → HandleState
   pub activity : ℕ → Activity
@@ -52,16 +52,28 @@ pub record Situation : Type 0 where
 abbrev pub put : {A : Type 0} → (ℕ → A) → ℕ → A → ℕ → A
 put f i y k = if nat_eq i k then y else f k
 
-abbrev pub ended : Situation → ℕ → Situation
+abbrev pub ended : State → ℕ → State
 ended u h = record u { handle = put u.handle h (record (u.handle h) { lives = false }) }
 
-abbrev pub used_as : Situation → ℕ → Access → Situation
+abbrev pub used_as : State → ℕ → Access → State
 used_as u h access = record u { handle = put u.handle h (record (u.handle h) { access = access }) }
 
--- the handle of a drop in flight
-abbrev pub dropped_by : Activity → ℕ
-dropped_by (Dropping h) = h
-dropped_by activity = 0
+abbrev pub goes_on_to : State → ℕ → Activity → State
+goes_on_to u o next = record u { activity = put u.activity o next }
+
+-- the handle of what is in flight, and what a clone in flight saw last
+abbrev pub handle_in : Activity → ℕ
+handle_in (Cloning h seen) = h
+handle_in (Dropping h) = h
+handle_in Idle = 0
+
+abbrev pub seen_in : Activity → ℕ
+seen_in (Cloning h seen) = seen
+seen_in activity = 0
+
+-- at the opening owner 0 holds handle 0
+abbrev pub opening : ℕ → State
+opening n = record { owners = n; handle = put (λ h. unborn) 0 (newborn 0); activity = λ o. Idle }
 
 module _ {V : Type 0} where
   abbrev pub owner_of : Step V → ℕ
@@ -102,34 +114,30 @@ module _ {V : Type 0} where
   handle_of (Return o h) = Some h
   handle_of (Give o h to) = Some h
 
-  -- What a step makes of a situation, by its answer. Barred, Memory and answers that are no change count for nothing.
-  abbrev pub after : Situation → Step V → Answer V → Situation
-  after u s (Born n) =
-      record u { handle = put u.handle n (newborn (owner_of s)); activity = put u.activity (owner_of s) Idle }
-  after u s Full = record u { activity = put u.activity (owner_of s) Idle }
-  after u s Quitted = record u { activity = put u.activity (owner_of s) Idle }
-  after u (Clone o h) Pending = record u { activity = put u.activity o (Cloning h) }
-  after u (Drop o h) Pending = record u { activity = put u.activity o (Dropping h) }
-  after u (Drop o h) Ended = ended u h
-  after u (Lower o) Ended = record (ended u (dropped_by (u.activity o))) { activity = put u.activity o Idle }
-  after u (Lower o) (GivenUp v) = record (ended u (dropped_by (u.activity o))) { activity = put u.activity o Idle }
-  after u (GetMut o h) Alone = used_as u h Written
-  after u (EndWrite o h) Done = used_as u h Shared
-  after u (IntoUnique o h) Sole = used_as u h SoleAccess
-  after u (Share o h) Done = used_as u h Shared
-  after u (Lend o h to) Done = record u { handle = put u.handle h (lent_to (u.handle h) to) }
-  after u (Return o h) Done = record u { handle = put u.handle h (returned_by (u.handle h) o) }
-  after u (Give o h to) Done = record u { handle = put u.handle h (record (u.handle h) { holder = to }) }
-  after u s a = u
+  -- What a step makes of a state, by its answer. A read for a clone that is answered Pending sees this number. Barred,
+  -- Memory and answers that are no change count for nothing.
+  abbrev pub after : ℕ → State → Step V → Answer V → State
+  after sees u s (Born n) = record (goes_on_to u (owner_of s) Idle) { handle = put u.handle n (newborn (owner_of s)) }
+  after sees u s Full = goes_on_to u (owner_of s) Idle
+  after sees u s Quitted = goes_on_to u (owner_of s) Idle
+  after sees u (Clone o h) Pending = goes_on_to u o (Cloning h sees)
+  after sees u (Raise o) Pending = goes_on_to u o (Cloning (handle_in (u.activity o)) sees)
+  after sees u (Drop o h) Pending = goes_on_to u o (Dropping h)
+  after sees u (Drop o h) Ended = ended u h
+  after sees u (Lower o) Ended = goes_on_to (ended u (handle_in (u.activity o))) o Idle
+  after sees u (Lower o) (GivenUp v) = goes_on_to (ended u (handle_in (u.activity o))) o Idle
+  after sees u (GetMut o h) Alone = used_as u h Written
+  after sees u (EndWrite o h) Done = used_as u h Shared
+  after sees u (IntoUnique o h) Sole = used_as u h SoleAccess
+  after sees u (Share o h) Done = used_as u h Shared
+  after sees u (Lend o h to) Done = record u { handle = put u.handle h (lent_to (u.handle h) to) }
+  after sees u (Return o h) Done = record u { handle = put u.handle h (returned_by (u.handle h) o) }
+  after sees u (Give o h to) Done = record u { handle = put u.handle h (record (u.handle h) { holder = to }) }
+  after sees u s a = u
 
   abbrev pub limit_of : Trace V → ℕ
   limit_of (Open v n limit) = limit
   limit_of (Then t s a) = limit_of t
-
-  -- at the opening owner 0 holds handle 0
-  abbrev pub situation : Trace V → Situation
-  situation (Open v n limit) = record { owners = n; handle = put (λ h. unborn) 0 (newborn 0); activity = λ o. Idle }
-  situation (Then t s a) = after (situation t) s a
 
   -- a trace followed by steps with their answers, in order
   abbrev pub then_all : Trace V → List (Step V) → List (Answer V) → Trace V

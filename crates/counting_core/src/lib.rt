@@ -3,17 +3,17 @@
 //! A clone and a drop are two steps each, a read of the word and then a raise or a lower of it, and
 //! the steps of other owners may come between them in any order. So a list of steps is one
 //! interleaving of the calls of as many threads as there are owners, and what [`Core::step`] answers
-//! is proved for each of them: it is what a plain machine of live handles answers, which knows no
+//! is proved for each of them: it is what a reference model of live handles answers, which knows no
 //! word.
 #![tactic(auto)]
 
-mod block;
-mod counting;
-mod handle;
+mod acting;
+mod activity;
+mod handle_entry;
 pub mod laws;
-mod owner;
 mod permission;
+mod protocol;
 mod step;
 
-pub use counting::Core;
+pub use protocol::Core;
 pub use step::{Answer, Step};

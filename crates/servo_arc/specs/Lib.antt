@@ -2,14 +2,13 @@ pub use Rattle.counting_word.specs.CountingWord
 pub use Rattle.counting_word.specs.Plans
 pub use Rattle.counting_core.specs.Trace
 pub use Rattle.counting_core.specs.Permitted
-pub use Rattle.counting_core.specs.PlainMachine
+pub use Rattle.counting_core.specs.ReferenceModel
 pub use Rattle.counting_core.specs.Legal
 pub use Rattle.counting_core.specs.Represents
 pub use Rattle.counting_core.specs.Laws
 pub use Rattle.counting_core.specs.LostRaises
-pub use Rattle.counting_core.specs.declared.handle.Access
-pub use Rattle.counting_core.specs.declared.owner.Activity
-pub use Rattle.counting_core.specs.declared.owner.Owner
+pub use Rattle.counting_core.specs.declared.handle_entry.Access
+pub use Rattle.counting_core.specs.declared.activity.Activity
 pub use Rattle.counting_core.specs.declared.step.Answer
 pub use Rattle.counting_core.specs.declared.step.Step
 pub use Rattle.handles.specs.Borrowed

@@ -1,19 +1,26 @@
 -- The edits of a core's lists, as functions with another value at one place.
-use Rattle.std.proofs.Common.{◌≡◌, ◌≢◌, ℕ, ◌+◌, ◌<◌, ◌≤◌, Bool, true, false}
-use Rattle.std.proofs.Common.{if◌then◌else◌, List, [], ◌∷◌, ◌++◌, length, nat_eq, get_or, set}
-use Rattle.std.proofs.Common.{length-append, get_or-set_other, get_or-set_same, count_by, sym, ◌∙◌, ap}
-use Rattle.std.proofs.Common.{true≢false, arith, inl, inr}
-use Rattle.std.proofs.lemmas.Bool.{cases_lt, eqb-false}
-use Rattle.std.proofs.lemmas.List.{get_or_append_left}
-use Rattle.std.proofs.lemmas.List.Sums.{sum_by-set}
+use Rattle.std.proofs.Common.{◌≡◌, ◌≢◌, ℕ, ◌+◌, ◌<◌, ◌≤◌, true, false}
+use Rattle.std.proofs.Common.{List, [], ◌∷◌, ◌++◌, length, nat_eq, get_or, set, length-set}
+use Rattle.std.proofs.Common.{length-append, get_or-set_other, get_or-set_same, refl, sym, ◌∙◌, ap}
+use Rattle.std.proofs.Common.{true≢false, arith, inl, inr, ap₂}
+use Rattle.std.proofs.Common.{ltb-true}
+use Rattle.std.proofs.lemmas.Bool.{cases_lt, eqb-false, and_parts}
+use Rattle.std.proofs.lemmas.List.{get_or_append_left, get_or_default}
 use Rattle.std.proofs.Math.ListN.{get_or-eq_default}
 use Rattle.std.proofs.Math.Seq.{get_or-append_seam}
 use mathlib.Core.Path.{fun_ext}
-use Rattle.counting_core.specs.Trace.{put}
+use Rattle.counting_core.specs.declared.activity.Activity.{Activity}
+use Rattle.counting_core.specs.declared.activity.Activity.TheVariants.{Idle}
+use Rattle.counting_core.specs.declared.step.Step.{Step}
+use Rattle.counting_core.specs.declared.step.Answer.{Answer}
+use Rattle.counting_core.specs.declared.step.Answer.TheVariants.{Born}
+use Rattle.counting_core.specs.Trace.{HandleState, unborn, newborn, put, goes_on_to, after, owner_of}
+use Rattle.counting_core.specs.Represents.{CoreState, handle, activity, state_of}
+use Rattle.counting_core.specs.ByWord.{IsPermitted, by_word, value_after, births_after, TakesEffect}
 use Rattle.counting_core.proofs.Traces.Places.{put-all}
 
 module _ {A : Type 0} where
-  pub get_or-set : (xs : List A) (d : A) (i : ℕ) (y : A) → i < length xs
+  get_or-set : (xs : List A) (d : A) (i : ℕ) (y : A) → i < length xs
       → (λ k. get_or (set xs i y) k d) ≡ put (λ k. get_or xs k d) i y
   get_or-set xs d i y lt =
       sym (fun_ext (put-all (λ k. get_or xs k d) i y (λ k z. z ≡ get_or (set xs i y) k d)
@@ -37,17 +44,79 @@ module _ {A : Type 0} where
                   get_or-eq_default (xs ++ y ∷ []) d past ∙ sym (get_or-eq_default xs d le)
             ]
 
-  -- a count when one place changed
-  pub count_by-set : (p : A → Bool) (xs : List A) (i : ℕ) (y d : A) → i < length xs
-      → count_by p (set xs i y) + (if p (get_or xs i d) then 1 else 0) ≡ count_by p xs + (if p y then 1 else 0)
-  count_by-set p xs i y d lt = sum_by-set (λ x. if p x then 1 else 0) xs i y d lt
-
-  -- what differs from the default stands within the list
-  pub within : (test : A → Bool) (xs : List A) (i : ℕ) (d : A) → test (get_or xs i d)
-      ≡ true → test d ≡ false
-      → i < length xs
-  within test xs i d is not_d =
-      elim (cases_lt i (length xs)) [
+module _ {V : Type 0} (f : CoreState V) where
+  -- a live handle was born
+  pub born : (h : ℕ) → (handle f h).lives ≡ true → h < length f.handles
+  born h lives =
+      elim (cases_lt h (length f.handles)) [
         | inl lt ↦ lt
-        | inr le ↦ absurd (true≢false (sym is ∙ ap test (get_or-eq_default xs d le) ∙ not_d))
+        | inr le ↦ absurd (true≢false (sym lives ∙ ap (λ (k : HandleState). k.lives) (get_or-eq_default f.handles
+            unborn le)))
       ]
+
+  pub state-owner : (o : ℕ) (next : Activity) → o < length f.owners
+      → state_of (record f { owners = set f.owners o next }) ≡ goes_on_to (state_of f) o next
+  state-owner o next lt = λ i. record (state_of f)
+      { owners = length-set f.owners o next i; activity = get_or-set f.owners Idle o next lt i }
+
+  pub within : (x : Step V) → IsPermitted f x → owner_of x < length f.owners
+  within x may = ltb-true (owner_of x) (length f.owners) (and_parts _ _ may).0
+
+  -- a step after which its owner goes on to something
+  pub goes : (x : Step V) (a : Answer V) (next : Activity) → IsPermitted f x → (a, f.word) ≡ by_word f x
+      → goes_on_to (state_of f) (owner_of x) next ≡ after f.word (state_of f) x a
+      → f.value ≡ value_after f.value x → length f.handles ≡ births_after (length f.handles) a
+      → TakesEffect f x a (record f { owners = set f.owners (owner_of x) next })
+  goes x a next may by same value births = record {
+    allowed = may;
+    by_word = by;
+    same_state = state-owner (owner_of x) next (within x may) ∙ same;
+    same_value = value;
+    same_births = births;
+    same_limit = refl;
+  }
+
+  -- The handle was k, and is new, which is an edit of it.
+  module _ (h : ℕ) (edit : HandleState → HandleState) (k new : HandleState) (was : k ≡ get_or f.handles h k)
+      (now : new ≡ edit k) (lives : (handle f h).lives ≡ true) where
+    pub state-edit : state_of (record f { handles = set f.handles h new })
+        ≡ record (state_of f) { handle = put (handle f) h (edit (handle f h)) }
+    state-edit =
+        (λ i. record (state_of f) { handle = get_or-set f.handles unborn h new (born h lives) i })
+        ∙ ap (λ (s : HandleState). record (state_of f) { handle = put (handle f) h s })
+        (now ∙ ap edit (was ∙ get_or_default f.handles h k unborn (born h lives)))
+
+    -- a step that changes one handle
+    pub edits : (x : Step V) (a : Answer V) → IsPermitted f x → (a, f.word) ≡ by_word f x
+        → record (state_of f) { handle = put (handle f) h (edit (handle f h)) } ≡ after f.word (state_of f) x a
+        → f.value ≡ value_after f.value x → length f.handles ≡ births_after (length f.handles) a
+        → TakesEffect f x a (record f { handles = set f.handles h new })
+    edits x a allowed by same value births = record {
+      allowed = allowed;
+      by_word = by;
+      same_state = state-edit ∙ same;
+      same_value = value;
+      same_births = length-set f.handles h new ∙ births;
+      same_limit = refl;
+    }
+
+  -- a birth, after which its owner is idle
+  pub bears : (o word : ℕ) (x : Step V) (n : ℕ) (handles : List HandleState) (owners : List Activity)
+      → IsPermitted f x → owner_of x ≡ o → n ≡ length f.handles
+      → handles ≡ f.handles ++ newborn o ∷ [] → length owners ≡ length f.owners
+      → (λ (q : ℕ). get_or owners q Idle) ≡ put (activity f) o Idle → (Born (length f.handles), word) ≡ by_word f x
+      → f.value ≡ value_after f.value x
+      → TakesEffect f x (Born n) (record f { word = word; handles = handles; owners = owners })
+  bears o word x n handles owners allowed by number pushed long idle answer value = record {
+    allowed = allowed;
+    by_word = ap (λ k. (Born k, word)) number ∙ answer;
+    same_state = λ i. record (state_of f) {
+      owners = long i;
+      handle = (ap (λ (l : List HandleState). λ k. get_or l k unborn) pushed ∙ get_or-push f.handles unborn (newborn o)
+          ∙ ap₂ (λ k p. put (handle f) k (newborn p)) (sym number) (sym by)) i;
+      activity = (idle ∙ ap (λ p. put (activity f) p Idle) (sym by)) i;
+    };
+    same_value = value;
+    same_births = ap length pushed ∙ length-append f.handles (newborn o ∷ []);
+    same_limit = refl;
+  }

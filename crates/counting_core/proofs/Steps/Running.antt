@@ -7,43 +7,42 @@ use Rattle.std.proofs.Math.ListN.{get_or-eq_default}
 use mathlib.Core.Path.{fun_ext}
 use Rattle.counting_word.specs.CountingWord.{IsLimit}
 use Rattle.counting_word.proofs.Words.{stands-new}
-use Rattle.counting_core.specs.declared.owner.Owner.{Owner}
+use Rattle.counting_core.specs.declared.activity.Activity.{Activity}
+use Rattle.counting_core.specs.declared.activity.Activity.TheVariants.{Idle}
 use Rattle.counting_core.specs.declared.step.Step.{Step}
 use Rattle.counting_core.specs.declared.step.Answer.{Answer}
 use Rattle.counting_core.specs.Trace.{Trace, Open, Then, then_all, HandleState, unborn, newborn}
-use Rattle.counting_core.specs.Represents.{CoreState, Represents, Continues, ContinuesAll, idle}
+use Rattle.counting_core.specs.Represents.{CoreState, Represents, Continues, ContinuesAll, core_of}
 use Rattle.counting_core.proofs.Steps.Edits.{get_or-push}
 
-owner-replicate : (n q : ℕ) → get_or (replicate n idle) q idle ≡ idle
+owner-replicate : (n q : ℕ) → get_or (replicate n Idle) q Idle ≡ Idle
 owner-replicate n q =
     elim (cases_lt q n) [
-      | inl lt ↦ get_or-replicate n q idle idle lt
-      | inr le ↦ get_or-eq_default (replicate n idle) idle (let e : length (replicate n idle)
-          ≡ n = length-replicate n idle in omega arith)
+      | inl lt ↦ get_or-replicate n q Idle Idle lt
+      | inr le ↦ get_or-eq_default (replicate n Idle) Idle (let e : length (replicate n Idle)
+          ≡ n = length-replicate n Idle in omega arith)
     ]
 
 module _ {V : Type 0} where
   -- a core as it is made
-  pub opens : (v : V) (n limit : ℕ) → IsLimit limit → (before handles : List HandleState) (owners : List Owner)
-      → before ≡ [] → handles ≡ before ++ newborn 0 ∷ [] → owners ≡ replicate n idle
-      → Represents (record { value = v; word = 1; limit = limit; handles = handles; owners = owners })
-      (Open v n limit)
+  pub opens : (v : V) (n limit : ℕ) → IsLimit limit → (before handles : List HandleState) (owners : List Activity)
+      → before ≡ [] → handles ≡ before ++ newborn 0 ∷ [] → owners ≡ replicate n Idle
+      → Represents (core_of v 1 limit handles owners) (Open v n limit)
   opens v n limit is_limit before handles owners none one idles = record {
     legal = is_limit;
-    same_situation = λ i. record {
-      owners = (ap length idles ∙ length-replicate n idle) i;
+    same_state = λ i. record {
+      owners = (ap length idles ∙ length-replicate n Idle) i;
       handle = (ap (λ (l : List HandleState). λ h. get_or l h unborn)
           (one ∙ ap (λ (l : List HandleState). l ++ newborn 0 ∷ []) none) ∙ get_or-push [] unborn (newborn 0)) i;
-      activity = fun_ext (λ q. ap (λ (p : Owner). p.activity) (idle_all q)) i;
+      activity = fun_ext idle_all i;
     };
     same_value = refl;
     same_limit = refl;
     same_births = ap length (one ∙ ap (λ (l : List HandleState). l ++ newborn 0 ∷ []) none);
     word = stands-new 1 _ (omega arith);
-    seen = λ o h e. absurd (cc (ap (λ (p : Owner). p.activity) (idle_all o)));
   } where
-    idle_all : (q : ℕ) → get_or owners q idle ≡ idle
-    idle_all q = ap (λ (l : List Owner). get_or l q idle) idles ∙ owner-replicate n q
+    idle_all : (q : ℕ) → get_or owners q Idle ≡ Idle
+    idle_all q = ap (λ (l : List Activity). get_or l q Idle) idles ∙ owner-replicate n q
 
   then_all-more : (t : Trace V) (steps : List (Step V)) (answers : List (Answer V)) (s : Step V) (a : Answer V)
       → length answers ≡ length steps

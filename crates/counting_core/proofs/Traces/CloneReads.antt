@@ -1,35 +1,38 @@
 -- What a read of the word for a clone finds: the limit, or a number of handles that a raise straight after it finds
 -- again.
-use Rattle.std.proofs.Common.{◌≡◌, ℕ, true, false, not, ◌&&◌, if◌then◌else◌, nat_eq, length, refl}
-use Rattle.std.proofs.Common.{sym, ◌∙◌, ap, ap₂, true≢false, ◌⊎◌, inl, inr, ⊎_elim, ◌↔◌}
+use Rattle.std.proofs.Common.{◌≡◌, ℕ, true, false, not, nat_eq, length, refl}
+use Rattle.std.proofs.Common.{sym, ◌∙◌, ap, true≢false, ◌⊎◌, inl, inr, ⊎_elim, ◌↔◌}
 use Rattle.std.proofs.Common.{eqb-true, eq-eqb}
 use Rattle.std.proofs.lemmas.Bool.{and_parts, and_from, or_parts, or_right, not-true}
-use Rattle.counting_core.specs.declared.owner.Activity.TheVariants.{Cloning}
+use Rattle.counting_core.specs.declared.activity.Activity.TheVariants.{Cloning}
 use Rattle.counting_core.specs.declared.step.Step.{Step}
 use Rattle.counting_core.specs.declared.step.Step.TheVariants.{Clone, Raise}
 use Rattle.counting_core.specs.declared.step.Answer.{Answer}
 use Rattle.counting_core.specs.declared.step.Answer.TheVariants.{Born, Full, Pending, Memory}
-use Rattle.counting_core.specs.Trace.{Trace, Then, Situation, situation, after, owner_of, limit_of}
+use Rattle.counting_core.specs.Trace.{Trace, Then, State, after, owner_of, limit_of, seen_in}
 use Rattle.counting_core.specs.Permitted.{permitted, permitted_by}
-use Rattle.counting_core.specs.PlainMachine.{Machine, is_full}
-use Rattle.counting_core.specs.Legal.{Replay, replay, raise_settles, due, takes_memory, IsLegal}
+use Rattle.counting_core.specs.ReferenceModel.{Model, is_full}
+use Rattle.counting_core.specs.Legal.{raise_settles, expected, takes_memory, IsLegal, state, model}
 use Rattle.counting_core.specs.Laws.{live_handles, has_mark, is_clone_read}
 use Rattle.counting_core.proofs.Traces.HandleLists.{nat_eq-same}
 use Rattle.counting_core.proofs.Traces.Deeds.{Deed, clone_reads, clone_bears, clone_full, raise_loses, raise_bears}
 use Rattle.counting_core.proofs.Traces.Deeds.{raise_full}
-use Rattle.counting_core.proofs.Traces.LegalSteps.{Happens, happens, due-deed}
-use Rattle.counting_core.proofs.Traces.Limits.{machine_limit}
+use Rattle.counting_core.proofs.Traces.LegalSteps.{Happens, happens, expected-deed}
+use Rattle.counting_core.proofs.Traces.Limits.{model_limit}
+use Rattle.std.proofs.Common.{nat_lt}
+use Rattle.counting_core.specs.Trace.{handle_in}
+use Rattle.counting_core.proofs.Traces.Places.{put-here}
 
 module _ {V : Type 0} where
-  -- only a read for a clone is answered Full, and the machine is full then
-  full-deed : (r : Replay V) (u : Situation) (s : Step V) (m : Machine V) → Deed r u s Full m
-      → (is_clone_read s ≡ true) × (is_full r.machine ≡ true)
+  -- only a read for a clone is answered Full, and the model is full then
+  full-deed : (r : Model V) (u : State) (s : Step V) (m : Model V) → Deed r u s Full m
+      → (is_clone_read s ≡ true) × (is_full r ≡ true)
   full-deed r u s m (clone_full o h full) = (refl, full)
   full-deed r u s m (raise_full o full) = (refl, full)
 
-  -- a full machine answers Full to each read for a clone, and takes no memory for that
-  full-answer : (r : Replay V) (u : Situation) (s : Step V) (a : Answer V) (m : Machine V) → Deed r u s a m
-      → is_clone_read s ≡ true → is_full r.machine ≡ true → (a ≡ Full) × (takes_memory s a ≡ false)
+  -- a full model answers Full to each read for a clone, and takes no memory for that
+  full-answer : (r : Model V) (u : State) (s : Step V) (a : Answer V) (m : Model V) → Deed r u s a m
+      → is_clone_read s ≡ true → is_full r ≡ true → (a ≡ Full) × (takes_memory s a ≡ false)
   full-answer r u s a m (clone_full o h _) read full = (refl, refl)
   full-answer r u s a m (raise_full o _) read full = (refl, refl)
   full-answer r u s a m (clone_reads o h _ room) read full = absurd (true≢false (sym full ∙ room))
@@ -41,74 +44,82 @@ module _ {V : Type 0} where
 
   -- a clone is refused exactly if its read finds the limit, without a mark
   pub full_exactly_at_limit : (t : Trace V) (s : Step V) (a : Answer V) → IsLegal (Then t s a)
-      → (a ≡ Full) ↔ ((permitted (situation t) s ≡ true) × (is_clone_read s ≡ true)
+      → (a ≡ Full) ↔ ((permitted (state t) s ≡ true) × (is_clone_read s ≡ true)
       × (has_mark t ≡ false) × (length (live_handles t) ≡ limit_of t))
   full_exactly_at_limit t s a legal = (found a legal, refused) where
     found : (a : Answer V) → IsLegal (Then t s a) → a ≡ Full
-        → (permitted (situation t) s ≡ true) × (is_clone_read s ≡ true) × (has_mark t ≡ false)
+        → (permitted (state t) s ≡ true) × (is_clone_read s ≡ true) × (has_mark t ≡ false)
         × (length (live_handles t) ≡ limit_of t)
     found Full legal e =
         let h : Happens t s Full = happens t s Full refl legal.1 in
-        let read : (is_clone_read s ≡ true) × (is_full (replay t).machine ≡ true) = full-deed (replay t)
-        (situation t) s _ h.deed in
+        let read : (is_clone_read s ≡ true) × (is_full (model t) ≡ true) = full-deed (model t)
+        (state t) s _ h.deed in
         let parts : (not (has_mark t) ≡ true) × (nat_eq (length (live_handles t))
-        (replay t).machine.limit ≡ true) = and_parts _ _ read.1 in
-        (h.permitted, read.0, not-true _ parts.0, eqb-true _ _ parts.1 ∙ machine_limit t legal.0)
+        (model t).limit ≡ true) = and_parts _ _ read.1 in
+        (h.permitted, read.0, not-true _ parts.0, eqb-true _ _ parts.1 ∙ model_limit t legal.0)
     found a legal e = absurd (cc)
 
-    refused : (permitted (situation t) s ≡ true) × (is_clone_read s ≡ true) × (has_mark t ≡ false)
+    refused : (permitted (state t) s ≡ true) × (is_clone_read s ≡ true) × (has_mark t ≡ false)
         × (length (live_handles t) ≡ limit_of t)
         → a ≡ Full
     refused at =
-        let full : is_full (replay t).machine ≡ true = and_from _ _ (ap not at.2)
-        (eq-eqb _ _ (at.3 ∙ sym (machine_limit t legal.0))) in
-        let answer : (due t s ≡ Full) × (takes_memory s (due t s) ≡ false) = full-answer (replay t)
-        (situation t) s (due t s) _ (due-deed t s at.0) at.1 full in
+        let full : is_full (model t) ≡ true = and_from _ _ (ap not at.2)
+        (eq-eqb _ _ (at.3 ∙ sym (model_limit t legal.0))) in
+        let answer : (expected t s ≡ Full) × (takes_memory s (expected t s) ≡ false) = full-answer (model t)
+        (state t) s (expected t s) _ (expected-deed t s at.0) at.1 full in
         ⊎_elim (λ e. e ∙ answer.0) (λ m. absurd (true≢false (sym m.1 ∙ answer.1))) legal.1
 
   -- a read for a clone that is answered Pending found no mark and not the limit
-  pending-read : (r : Replay V) (u : Situation) (s : Step V) (m : Machine V) → Deed r u s Pending m
-      → is_clone_read s ≡ true → (r.machine.mark ≡ false) × (is_full r.machine ≡ false)
+  pending-read : (r : Model V) (u : State) (s : Step V) (m : Model V) → Deed r u s Pending m
+      → is_clone_read s ≡ true → (r.mark ≡ false) × (is_full r ≡ false)
   pending-read r u s m (clone_reads o h mark room) read = (mark, room)
   pending-read r u s m (raise_loses o lost) read = ((or_parts _ _ lost).0, (or_parts _ _ (or_parts _ _ lost).1).0)
   pending-read r u s m _ read = absurd (true≢false (sym read))
 
   -- a raise that is settled below the limit is a birth
-  birth-deed : (r : Replay V) (u : Situation) (o : ℕ) (a : Answer V) (m : Machine V) → Deed r u (Raise o) a m
-      → raise_settles r o ≡ true → is_full r.machine ≡ false → a ≡ Born r.machine.births
+  birth-deed : (r : Model V) (u : State) (o : ℕ) (a : Answer V) (m : Model V) → Deed r u (Raise o) a m
+      → raise_settles r (seen_in (u.activity o)) ≡ true → is_full r ≡ false → a ≡ Born r.births
   birth-deed r u o a m (raise_bears _ _ _) settles room = refl
   birth-deed r u o a m (raise_full _ full) settles room = absurd (true≢false (sym full ∙ room))
   birth-deed r u o a m (raise_loses _ lost) settles room = absurd (true≢false (sym settles ∙ lost))
 
-  -- a raise is permitted to an owner whose read for a clone was answered Pending
-  raise-permitted : (u : Situation) (s : Step V) → is_clone_read s ≡ true → permitted u s ≡ true
-      → permitted {V = V} (after u s Pending) (Raise (owner_of s)) ≡ true
-  raise-permitted u (Clone o h) read may =
-      ap₂ (λ b c. b && permitted_by {V = V} (after {V = V} u (Clone o h) Pending)
-      (if c then Cloning h else u.activity o) (Raise o))
-      (and_parts _ _ may).0 (nat_eq-same o)
-  raise-permitted u (Raise o) read may = may
-  raise-permitted u _ read may = absurd (true≢false (sym read))
+  -- what an owner is in the middle of whose read for a clone was answered Pending
+  read-sees : (sees : ℕ) (u : State) (s : Step V) → is_clone_read s ≡ true
+      → (h : ℕ) × ((after sees u s Pending).activity (owner_of s) ≡ Cloning h sees)
+  read-sees sees u (Clone o h) read = (h, put-here u.activity o (Cloning h sees))
+  read-sees sees u (Raise o) read = (_, put-here u.activity o (Cloning (handle_in (u.activity o)) sees))
+  read-sees sees u _ read = absurd (true≢false (sym read))
+
+  -- a raise is permitted to it
+  raise-permitted : (sees : ℕ) (u : State) (s : Step V) → is_clone_read s ≡ true → permitted u s ≡ true
+      → permitted {V = V} (after sees u s Pending) (Raise (owner_of s)) ≡ true
+  raise-permitted sees u s read may = and_from _ _ (within s read may)
+      (ap (λ c. permitted_by {V = V} (after sees u s Pending) c (Raise (owner_of s))) (read-sees sees u s read).1) where
+        within : (s : Step V) → is_clone_read s ≡ true → permitted u s ≡ true
+            → nat_lt (owner_of s) (after sees u s Pending).owners ≡ true
+        within (Clone o h) read may = (and_parts _ _ may).0
+        within (Raise o) read may = (and_parts _ _ may).0
+        within _ read may = absurd (true≢false (sym read))
 
   -- a raise straight after its read is answered Born, if memory is not wanted
   pub born_straight_after_read : (t : Trace V) (s : Step V) (a : Answer V)
       → IsLegal (Then (Then t s Pending) (Raise (owner_of s)) a) → is_clone_read s ≡ true
-      → (a ≡ Born (replay t).machine.births) ⊎ (a ≡ Memory)
+      → (a ≡ Born (model t).births) ⊎ (a ≡ Memory)
   born_straight_after_read t s a legal read = ⊎_elim (λ e. inl (e ∙ is_due)) (λ m. inr m.0) legal.1 where
     read_it : Happens t s Pending
     read_it = happens t s Pending refl legal.0.1
 
-    found : (has_mark t ≡ false) × (is_full (replay t).machine ≡ false)
-    found = pending-read (replay t) (situation t) s _ read_it.deed read
+    found : (has_mark t ≡ false) × (is_full (model t) ≡ false)
+    found = pending-read (model t) (state t) s _ read_it.deed read
 
-    settles : raise_settles (replay (Then t s Pending)) (owner_of s) ≡ true
-    settles = or_right (has_mark t) _ (or_right (is_full (replay t).machine) _
-        (ap (λ b. nat_eq (length (live_handles t)) (if b then length (live_handles t)
-        else (replay t).lived (owner_of s))) (nat_eq-same (owner_of s))
+    settles : raise_settles (model (Then t s Pending)) (seen_in ((state (Then t s Pending)).activity (owner_of s)))
+        ≡ true
+    settles = or_right (has_mark t) _ (or_right (is_full (model t)) _
+        (ap (λ c. nat_eq (length (live_handles t)) (seen_in c)) (read-sees (length (live_handles t)) (state t) s read).1
         ∙ nat_eq-same (length (live_handles t))))
 
-    is_due : due (Then t s Pending) (Raise (owner_of s)) ≡ Born (replay t).machine.births
+    is_due : expected (Then t s Pending) (Raise (owner_of s)) ≡ Born (model t).births
     is_due =
-        birth-deed (replay (Then t s Pending)) (situation (Then t s Pending)) (owner_of s) _ _
-        (due-deed (Then t s Pending) (Raise (owner_of s)) (raise-permitted (situation t) s read read_it.permitted))
+        birth-deed (model (Then t s Pending)) (state (Then t s Pending)) (owner_of s) _ _
+        (expected-deed (Then t s Pending) (Raise (owner_of s)) (raise-permitted _ (state t) s read read_it.permitted))
         settles found.1

@@ -4,11 +4,11 @@ use Rattle.std.proofs.Common.{length}
 use Rattle.std.proofs.Common.{sym, ◌∙◌, ap, arith, true≢false, eqb-true, ◌⊎◌, inl, inr}
 use Rattle.std.proofs.lemmas.Bool.{and_parts, and_from, false_from_ne_true}
 use Rattle.std.proofs.lemmas.Grind.{common_steps}
-use Rattle.counting_core.specs.declared.owner.Activity.{Activity}
-use Rattle.counting_core.specs.declared.owner.Activity.TheVariants.{Idle, Cloning, Dropping}
-use Rattle.counting_core.specs.Trace.{HandleState, Situation, dropped_by}
+use Rattle.counting_core.specs.declared.activity.Activity.{Activity}
+use Rattle.counting_core.specs.declared.activity.Activity.TheVariants.{Idle, Cloning, Dropping}
+use Rattle.counting_core.specs.Trace.{HandleState, State, handle_in}
 use Rattle.counting_core.specs.Permitted.{has_alone, may_use}
-use Rattle.counting_core.specs.PlainMachine.{without}
+use Rattle.counting_core.specs.ReferenceModel.{without}
 use Rattle.counting_core.specs.Represents.{is_dropping}
 use Rattle.counting_core.proofs.Traces.HandleLists.{has, IsApart, nat_eq-same, has-without, length-without}
 use Rattle.counting_core.proofs.Traces.HandleLists.{apart-without}
@@ -61,11 +61,11 @@ has-is k q o own (inl uses) = alone-user k q o own uses
 has-is k q o own (inr other) = alone-alone k q o own other
 
 pub dropped-alone : (hs : ℕ → HandleState) (o : ℕ) (c : Activity) → is_dropping c ≡ true → Fits hs o c
-    → has_alone (hs (dropped_by c)) o ≡ true
+    → has_alone (hs (handle_in c)) o ≡ true
 dropped-alone hs o (Dropping h) e fits = fits
 dropped-alone hs o Idle e fits = absurd (true≢false (sym e))
-dropped-alone hs o (Cloning h) e fits = absurd (true≢false (sym e))
+dropped-alone hs o (Cloning h n) e fits = absurd (true≢false (sym e))
 
 -- the owners whose drop is in flight
-abbrev pub AreDropping : List ℕ → Situation → Type 0
+abbrev pub AreDropping : List ℕ → State → Type 0
 AreDropping ds u = (o : ℕ) → has o ds ≡ is_dropping (u.activity o)

@@ -8,15 +8,15 @@ use Rattle.std.proofs.lemmas.Bool.{and_from, and_parts, or_left, or_right, false
 use Rattle.counting_word.specs.Rights.{nothing, to_lower, whole_block}
 use Rattle.counting_word.specs.WordSteps.{reads_last, lowers}
 use Rattle.counting_word.specs.Tallies.{Tally, has_exactly, after_last_read}
-use Rattle.counting_core.specs.declared.owner.Activity.{Activity}
-use Rattle.counting_core.specs.declared.owner.Activity.TheVariants.{Idle, Dropping}
+use Rattle.counting_core.specs.declared.activity.Activity.{Activity}
+use Rattle.counting_core.specs.declared.activity.Activity.TheVariants.{Idle, Dropping}
 use Rattle.counting_core.specs.declared.step.Step.TheVariants.{Drop, Lower, Give}
 use Rattle.counting_core.specs.declared.step.Answer.{Answer}
 use Rattle.counting_core.specs.declared.step.Answer.TheVariants.{Pending, Ended, GivenUp, Done}
-use Rattle.counting_core.specs.Trace.{Trace, Then, HandleState, Situation, situation, put, dropped_by}
+use Rattle.counting_core.specs.Trace.{Trace, Then, HandleState, State, put, handle_in}
 use Rattle.counting_core.specs.Permitted.{has_alone, may_take, permitted_by}
-use Rattle.counting_core.specs.PlainMachine.{Machine, is_only, without}
-use Rattle.counting_core.specs.Legal.{replay}
+use Rattle.counting_core.specs.ReferenceModel.{Model, is_only, without}
+use Rattle.counting_core.specs.Legal.{state, model}
 use Rattle.counting_core.specs.Runs.{Entry, entries_of}
 use Rattle.counting_core.proofs.Traces.Places.{put-all}
 use Rattle.counting_core.proofs.Traces.HandleLists.{has, nat_eq-same, length-without}
@@ -31,35 +31,35 @@ module _ {V : Type 0} (limit : ℕ) where
   module _ (owners k : ℕ) (p : Tally) (h : ℕ) (hs ds : List ℕ) (t : Trace V)
       (s : Shape limit owners k p (h ∷ hs) ds t)
       (some : 0 < owners) where
-    first-held : (situation t).handle h ≡ held_by_0
+    first-held : (state t).handle h ≡ held_by_0
     first-held = by_handle.first-held limit owners k p h hs ds t s some
 
-    takable : may_take ((situation t).handle h) 0 ≡ true
+    takable : may_take ((state t).handle h) 0 ≡ true
     takable = by_handle.takable limit owners k p h hs ds t s some
 
-    first-lives : has h (replay t).machine.live ≡ true
+    first-lives : has h (model t).live ≡ true
     first-lives = by_handle.first-lives limit owners k p h hs ds t s some
 
-    put-here : (x : HandleState) → put (situation t).handle h x h ≡ x
+    put-here : (x : HandleState) → put (state t).handle h x h ≡ x
     put-here = by_handle.put-here limit owners k p h hs ds t s some
 
     -- The read by which a handle ends, by an owner that has nothing yet: it is given the handle.
     module _ (free : k < owners) where
-      abbrev m : Machine V
-      m = (replay t).machine
+      abbrev m : Model V
+      m = (model t)
 
       new-drop : has k ds ≡ false
       new-drop = false_from_ne_true (has k ds) (λ e. lt_irrefl k (s.busy k e).1)
 
-      new-idle : (situation t).activity k ≡ Idle
+      new-idle : (state t).activity k ≡ Idle
       new-idle = s.idle k new-drop
 
-      another : (nat_lt k (situation t).owners && not (nat_eq k 0)) ≡ true
-      another = and_from _ _ (lt-ltb k (situation t).owners (subst (λ n. k < n) (sym s.owned) free))
+      another : (nat_lt k (state t).owners && not (nat_eq k 0)) ≡ true
+      another = and_from _ _ (lt-ltb k (state t).owners (subst (λ n. k < n) (sym s.owned) free))
           (ap not (ne_eqb k 0 (λ e. let b : 1 ≤ k = s.begun in absurd (omega arith))))
 
       abbrev given : HandleState
-      given = record ((situation t).handle h) { holder = k }
+      given = record ((state t).handle h) { holder = k }
 
       abbrev t1 : Trace V
       t1 = Then t (Give 0 h k) Done
@@ -67,16 +67,16 @@ module _ {V : Type 0} (limit : ℕ) where
       gave : Made t (Give 0 h k) Done m
       gave = makes t (Give 0 h k) Done m Idle s.legal refl (by_handle.within limit owners k p h hs ds t s some)
           (by_handle.idle-0 limit owners k p h hs ds t s some)
-          (and_from _ _ (or_left (may_take ((situation t).handle h) 0) _ takable) another) (gives 0 h k)
+          (and_from _ _ (or_left (may_take ((state t).handle h) 0) _ takable) another) (gives 0 h k)
 
-      given-here : (situation t1).handle h ≡ record held_by_0 { holder = k }
+      given-here : (state t1).handle h ≡ record held_by_0 { holder = k }
       given-here = put-here given ∙ ap (λ (x : HandleState). record x { holder = k }) first-held
 
-      may : permitted_by {V = V} (situation t1) Idle (Drop k h) ≡ true
-      may = or_left (may_take ((situation t1).handle h) k) _ (ap (λ (x : HandleState). may_take x k) given-here
+      may : permitted_by {V = V} (state t1) Idle (Drop k h) ≡ true
+      may = or_left (may_take ((state t1).handle h) k) _ (ap (λ (x : HandleState). may_take x k) given-here
           ∙ ap (λ b. (b && true) && true) (nat_eq-same k))
 
-      free-1 : k < (situation t1).owners
+      free-1 : k < (state t1).owners
       free-1 = subst (λ n. k < n) (sym s.owned) free
 
       others : (j : ℕ) → has j hs ≡ true → nat_eq h j ≡ false
@@ -99,32 +99,32 @@ module _ {V : Type 0} (limit : ℕ) where
           owned = s.owned;
           begun = omega arith;
           limited = s.limited;
-          marked = ap (λ (x : Machine V). x.mark) read.machine ∙ ap (λ (x : Machine V). x.mark)
-              gave.machine ∙ s.marked;
-          live = ap (λ (x : Machine V). length x.live) read.machine ∙ ap (λ (x : Machine V). length x.live)
-              gave.machine
+          marked = ap (λ (x : Model V). x.mark) read.same_model ∙ ap (λ (x : Model V). x.mark)
+              gave.same_model ∙ s.marked;
+          live = ap (λ (x : Model V). length x.live) read.same_model ∙ ap (λ (x : Model V). length x.live)
+              gave.same_model
               ∙ s.live ∙ (omega (arith, one_fewer));
           handles = omega (arith, one_fewer);
           drops = ap (λ z. suc z) s.drops ∙ (omega arith);
           apart = s.apart.1;
           drops_apart = (new-drop, s.drops_apart);
-          held = λ j there. ap (λ b. if b then given else (situation t).handle j) (others j there)
+          held = λ j there. ap (λ b. if b then given else (state t).handle j) (others j there)
               ∙ s.held j (ap (λ b. nat_eq j h || b) there ∙ or_right (nat_eq j h) true refl);
-          busy = λ o there. put-all (situation t).activity k (Dropping h) (λ q c. has q (k ∷ ds) ≡ true
+          busy = λ o there. put-all (state t).activity k (Dropping h) (λ q c. has q (k ∷ ds) ≡ true
               → (1 ≤ q) × (q < suc k) × ((x : ℕ) × (c ≡ Dropping x)))
               (λ _. (s.begun, omega arith, (h, refl)))
               (λ q other there. let b : Drops k t q = s.busy q (in-rest q other there) in let below : q < k = b.1 in
               (b.0, omega arith, b.2)) o there;
-          idle = λ o absent. put-all (situation t).activity k (Dropping h) (λ q c. has q (k ∷ ds)
+          idle = λ o absent. put-all (state t).activity k (Dropping h) (λ q c. has q (k ∷ ds)
               ≡ false → c ≡ Idle)
               (λ none. absurd (true≢false (sym (ap (λ b. b || has k ds) (nat_eq-same k)) ∙ none)))
               (λ q other none. s.idle q (not-in-rest q none)) o absent;
         };
         entries = ap (λ (l : List Entry). l ++ (reads_last, to_lower) ∷ []) (append-nil (entries_of t));
       } where
-        read : Made t1 (Drop k h) Pending (replay t1).machine
-        read = makes t1 (Drop k h) Pending (replay t1).machine Idle gave.legal refl free-1 new-idle may
-            (drop_reads k h (ap (λ (x : Machine V). x.mark) gave.machine ∙ s.marked ∙ mark))
+        read : Made t1 (Drop k h) Pending (model t1)
+        read = makes t1 (Drop k h) Pending (model t1) Idle gave.legal refl free-1 new-idle may
+            (drop_reads k h (ap (λ (x : Model V). x.mark) gave.same_model ∙ s.marked ∙ mark))
 
         t2 : Trace V
         t2 = Then t1 (Drop k h) Pending
@@ -148,25 +148,25 @@ module _ {V : Type 0} (limit : ℕ) where
           owned = s.owned;
           begun = omega arith;
           limited = s.limited;
-          marked = ap (λ (x : Machine V). x.mark) read.machine ∙ ap (λ (x : Machine V). x.mark)
-              gave.machine ∙ s.marked;
-          live = ap (λ (x : Machine V). length x.live) read.machine
-              ∙ ap (λ (x : Machine V). length (shrunk x h).live) gave.machine ∙ fewer;
+          marked = ap (λ (x : Model V). x.mark) read.same_model ∙ ap (λ (x : Model V). x.mark)
+              gave.same_model ∙ s.marked;
+          live = ap (λ (x : Model V). length x.live) read.same_model
+              ∙ ap (λ (x : Model V). length (shrunk x h).live) gave.same_model ∙ fewer;
           handles = omega (arith, one_fewer);
           drops = s.drops;
           apart = s.apart.1;
           drops_apart = s.drops_apart;
-          held = λ j there. ap (λ b. if b then record ((situation t1).handle h) { lives = false } else
-              (if b then given else (situation t).handle j)) (others j there)
+          held = λ j there. ap (λ b. if b then record ((state t1).handle h) { lives = false } else
+              (if b then given else (state t).handle j)) (others j there)
               ∙ s.held j (ap (λ b. nat_eq j h || b) there ∙ or_right (nat_eq j h) true refl);
           busy = λ o there. let b : Drops k t o = s.busy o there in let below : o < k = b.1 in (b.0, omega arith, b.2);
           idle = s.idle;
         };
         entries = ap (λ (l : List Entry). l ++ (reads_last, nothing) ∷ []) (append-nil (entries_of t));
       } where
-        read : Made t1 (Drop k h) Ended (shrunk (replay t1).machine h)
-        read = makes t1 (Drop k h) Ended (shrunk (replay t1).machine h) Idle gave.legal refl free-1 new-idle may
-            (drop_ends k h (ap (λ (x : Machine V). x.mark) gave.machine ∙ s.marked ∙ mark))
+        read : Made t1 (Drop k h) Ended (shrunk (model t1) h)
+        read = makes t1 (Drop k h) Ended (shrunk (model t1) h) Idle gave.legal refl free-1 new-idle may
+            (drop_ends k h (ap (λ (x : Model V). x.mark) gave.same_model ∙ s.marked ∙ mark))
 
         t2 : Trace V
         t2 = Then t1 (Drop k h) Ended
@@ -192,8 +192,8 @@ module _ {V : Type 0} (limit : ℕ) where
   module _ (owners k : ℕ) (p : Tally) (hs : List ℕ) (o : ℕ) (ds : List ℕ) (t : Trace V)
       (s : Shape limit owners k p hs
       (o ∷ ds) t) (few : k ≤ owners) where
-    abbrev n : Machine V
-    n = (replay t).machine
+    abbrev n : Model V
+    n = (model t)
 
     dropping : Drops k t o
     dropping = s.busy o (ap (λ b. b || has o ds) (nat_eq-same o))
@@ -201,17 +201,17 @@ module _ {V : Type 0} (limit : ℕ) where
     abbrev h : ℕ
     h = dropping.2.0
 
-    is : (situation t).activity o ≡ Dropping h
+    is : (state t).activity o ≡ Dropping h
     is = dropping.2.1
 
-    alone : has_alone ((situation t).handle h) o ≡ true
-    alone = subst (Fits (situation t).handle o) is (all_fit t s.legal o)
+    alone : has_alone ((state t).handle h) o ≡ true
+    alone = subst (Fits (state t).handle o) is (all_fit t s.legal o)
 
     dropped-lives : has h n.live ≡ true
     dropped-lives = (counted t s.legal).same h ∙ (and_parts _ _ (and_parts _ _ alone).0).0
 
     only-lower : is_only n h ≡ has_exactly 1 p
-    only-lower = ap₂ (λ (m : Bool) (n : ℕ). not m && (nat_eq n 1 && has h (replay t).machine.live)) s.marked s.live
+    only-lower = ap₂ (λ (m : Bool) (n : ℕ). not m && (nat_eq n 1 && has h (model t).live)) s.marked s.live
         ∙ ap (λ b. not p.mark && (nat_eq (p.handles + p.drops) 1 && b)) dropped-lives
         ∙ at p.mark (nat_eq (p.handles + p.drops) 1) where
           at : (m b : Bool) → (not m && (b && true)) ≡ (if m then false else b)
@@ -219,17 +219,17 @@ module _ {V : Type 0} (limit : ℕ) where
           at false true = refl
           at false false = refl
 
-    within-o : o < (situation t).owners
-    within-o = let below : o < k = dropping.1 in let owned : (situation t).owners ≡ owners = s.owned in
+    within-o : o < (state t).owners
+    within-o = let below : o < k = dropping.1 in let owned : (state t).owners ≡ owners = s.owned in
         omega (arith, few)
 
     -- a handle of owner 0 is another
-    kept-other : (j : ℕ) → has j hs ≡ true → nat_eq (dropped_by ((situation t).activity o)) j ≡ false
-    kept-other j there = ap (λ (c : Activity). nat_eq (dropped_by c) j) is ∙ false_from_ne_true (nat_eq h j) (λ e.
-        let holder : ((situation t).handle h).holder ≡ o =
-        eqb-true ((situation t).handle h).holder o (and_parts _ _ (and_parts _ _ alone).0).1 in
-        let zero_holds : ((situation t).handle h).holder ≡ 0 =
-        ap (λ (n : ℕ). ((situation t).handle n).holder) (eqb-true h j e)
+    kept-other : (j : ℕ) → has j hs ≡ true → nat_eq (handle_in ((state t).activity o)) j ≡ false
+    kept-other j there = ap (λ (c : Activity). nat_eq (handle_in c) j) is ∙ false_from_ne_true (nat_eq h j) (λ e.
+        let holder : ((state t).handle h).holder ≡ o =
+        eqb-true ((state t).handle h).holder o (and_parts _ _ (and_parts _ _ alone).0).1 in
+        let zero_holds : ((state t).handle h).holder ≡ 0 =
+        ap (λ (n : ℕ). ((state t).handle n).holder) (eqb-true h j e)
         ∙ ap (λ (x : HandleState). x.holder) (s.held j there) in
         let some : 1 ≤ o = dropping.0 in absurd (omega (arith, holder, zero_holds)))
 
@@ -240,34 +240,34 @@ module _ {V : Type 0} (limit : ℕ) where
         length-without h n.live dropped-lives (counted t s.legal).apart in omega arith
 
     ended : (a : Answer V) → Made t (Lower o) a (shrunk n h)
-        → situation (Then t (Lower o) a) ≡ situation (Then t (Lower o) Ended)
+        → state (Then t (Lower o) a) ≡ state (Then t (Lower o) Ended)
         → Shape limit owners k (record p { drops = p.drops - 1 }) hs ds (Then t (Lower o) a)
     ended a done same = record {
       legal = done.legal;
-      owned = ap (λ (u : Situation). u.owners) same ∙ s.owned;
+      owned = ap (λ (u : State). u.owners) same ∙ s.owned;
       begun = s.begun;
       limited = s.limited;
-      marked = ap (λ (x : Machine V). x.mark) done.machine ∙ s.marked;
-      live = ap (λ (x : Machine V). length x.live) done.machine ∙ fewer;
+      marked = ap (λ (x : Model V). x.mark) done.same_model ∙ s.marked;
+      live = ap (λ (x : Model V). length x.live) done.same_model ∙ fewer;
       handles = s.handles;
       drops = let drops : suc (length ds) ≡ p.drops = s.drops in omega arith;
       apart = s.apart;
       drops_apart = s.drops_apart.1;
-      held = λ j there. ap (λ (u : Situation). u.handle j) same
-          ∙ ap (λ b. if b then record ((situation t).handle
-          (dropped_by ((situation t).activity o))) { lives = false } else (situation t).handle j) (kept-other j there)
+      held = λ j there. ap (λ (u : State). u.handle j) same
+          ∙ ap (λ b. if b then record ((state t).handle
+          (handle_in ((state t).activity o))) { lives = false } else (state t).handle j) (kept-other j there)
           ∙ s.held j there;
       busy = λ q there. let b : Drops k t q = s.busy q (in-all q there) in (
         b.0,
         b.1,
         (
           b.2.0,
-          ap (λ (u : Situation). u.activity q) same
-              ∙ ap (λ b. if b then Idle else (situation t).activity q) (another q there) ∙ b.2.1,
+          ap (λ (u : State). u.activity q) same
+              ∙ ap (λ b. if b then Idle else (state t).activity q) (another q there) ∙ b.2.1,
         ),
       );
-      idle = λ q absent. ap (λ (u : Situation). u.activity q) same
-          ∙ put-all (situation t).activity o Idle (λ r c. has r ds ≡ false
+      idle = λ q absent. ap (λ (u : State). u.activity q) same
+          ∙ put-all (state t).activity o Idle (λ r c. has r ds ≡ false
           → c ≡ Idle) (λ _. refl) (λ r other none. s.idle r (none-of r other none)) q absent;
     } where
       in-all : (q : ℕ) → has q ds ≡ true → has q (o ∷ ds) ≡ true

@@ -1,63 +1,58 @@
 -- When the value is given up, and that no step is permitted afterwards.
 use Rattle.std.proofs.Common.{◌≡◌, ℕ, ◌+◌, Bool, true, false, not, ◌&&◌, if◌then◌else◌, nat_eq}
-use Rattle.std.proofs.Common.{List, [], ◌∷◌, length, refl, sym, ◌∙◌, ap, subst, arith, true≢false}
+use Rattle.std.proofs.Common.{List, [], ◌∷◌, length, refl, sym, ◌∙◌, ap, arith, true≢false}
 use Rattle.std.proofs.Common.{⊎_elim, eqb-true}
 use Rattle.std.proofs.lemmas.Bool.{and_parts, and_right, or_cases}
 use mathlib.Core.Path.{fun_ext}
-use Rattle.counting_core.specs.declared.owner.Activity.{Activity}
-use Rattle.counting_core.specs.declared.owner.Activity.TheVariants.{Idle, Cloning, Dropping}
+use Rattle.counting_core.specs.declared.activity.Activity.{Activity}
+use Rattle.counting_core.specs.declared.activity.Activity.TheVariants.{Idle, Cloning, Dropping}
 use Rattle.counting_core.specs.declared.step.Step.{Step}
 use Rattle.counting_core.specs.declared.step.Step.TheVariants.{Raise}
 use Rattle.counting_core.specs.declared.step.Answer.{Answer}
 use Rattle.counting_core.specs.declared.step.Answer.TheVariants.{Ended, GivenUp, Memory, Barred}
-use Rattle.counting_core.specs.Trace.{Trace, Open, Then, HandleState, Situation, situation, owner_of}
+use Rattle.counting_core.specs.Trace.{Trace, Open, Then, HandleState, State, owner_of}
 use Rattle.counting_core.specs.Permitted.{permitted_by}
-use Rattle.counting_core.specs.PlainMachine.{Machine, is_only, without}
-use Rattle.counting_core.specs.Legal.{Replay, replay, IsLegal}
+use Rattle.counting_core.specs.ReferenceModel.{Model, is_only, without}
+use Rattle.counting_core.specs.Legal.{IsLegal, state, model}
 use Rattle.counting_core.specs.Laws.{has_mark, live_handles, is_end, is_given_up, some_answer}
 use Rattle.counting_core.proofs.Traces.HandleLists.{has, length-without}
 use Rattle.counting_core.proofs.Traces.Deeds.{Deed, drop_ends, lower_ends, lower_gives_up}
 use Rattle.counting_core.proofs.Traces.LegalSteps.{happens, takes_effect, barred_if_not_permitted}
 use Rattle.counting_core.proofs.Traces.LiveHandles.{IsCounted, counted}
-use Rattle.counting_core.proofs.Traces.InFlight.{AllFit, Fits, all_fit}
+use Rattle.counting_core.proofs.Traces.InFlight.{AllFit, Fits, all_fit, dropped-lives}
 
 none : (h : ℕ) (xs : List ℕ) → length xs ≡ 0 → has h xs ≡ false
 none h [] e = refl
 none h (x ∷ xs) e = absurd (omega arith)
 
--- the handle of a drop in flight lives
-pub dropped-lives : (u : Situation) → AllFit u → (o h : ℕ)
-    → u.activity o ≡ Dropping h → (u.handle h).lives ≡ true
-dropped-lives u fit o h e = (and_parts _ _ (and_parts _ _ (subst (Fits u.handle o) e (fit o))).0).0
-
--- a situation in which no handle lives
-abbrev IsOver : Situation → Type 0
+-- a state in which no handle lives
+abbrev IsOver : State → Type 0
 IsOver u = (h : ℕ) → (u.handle h).lives ≡ false
 
 module _ {V : Type 0} where
-  -- the answer to an end: the value, if the machine has no mark and no handle is left
-  abbrev pub end_answer : Machine V → Machine V → Answer V
+  -- the answer to an end: the value, if the model has no mark and no handle is left
+  abbrev pub end_answer : Model V → Model V → Answer V
   end_answer m after = if not m.mark && nat_eq (length after.live) 0 then GivenUp m.value else Ended
 
   -- a live handle is the only one if none is left without it
-  only-last : (hs : ℕ → HandleState) (m : Machine V) → IsCounted hs m → (h : ℕ) → (hs h).lives ≡ true
+  only-last : (hs : ℕ → HandleState) (m : Model V) → IsCounted hs m → (h : ℕ) → (hs h).lives ≡ true
       → is_only m h ≡ (not m.mark && nat_eq (length (without h m.live)) 0)
   only-last hs m c h lives =
       let there : has h m.live ≡ true = c.same h ∙ lives in
       let fewer : length (without h m.live) + 1 ≡ length m.live = length-without h m.live there c.apart in
       grind (arith, there)
 
-  end-answer : (r : Replay V) (u : Situation) (s : Step V) (a : Answer V) (m : Machine V) → Deed r u s a m
-      → IsCounted u.handle r.machine → AllFit u → is_end a ≡ true → a ≡ end_answer r.machine m
+  end-answer : (r : Model V) (u : State) (s : Step V) (a : Answer V) (m : Model V) → Deed r u s a m
+      → IsCounted u.handle r → AllFit u → is_end a ≡ true → a ≡ end_answer r m
   end-answer r u s a m (drop_ends o h mark)
-      c fit end = sym (ap (λ b. if not b && nat_eq (length (without h r.machine.live))
-      0 then GivenUp r.machine.value else Ended) mark)
+      c fit end = sym (ap (λ b. if not b && nat_eq (length (without h r.live))
+      0 then GivenUp r.value else Ended) mark)
   end-answer r u s a m (lower_ends o h e more) c fit end =
-      ap (λ b. if b then GivenUp r.machine.value else Ended)
-      (sym more ∙ only-last u.handle r.machine c h (dropped-lives u fit o h e))
+      ap (λ b. if b then GivenUp r.value else Ended)
+      (sym more ∙ only-last u.handle r c h (dropped-lives u fit o h e))
   end-answer r u s a m (lower_gives_up o h e last) c fit end =
-      ap (λ b. if b then GivenUp r.machine.value else Ended)
-      (sym last ∙ only-last u.handle r.machine c h (dropped-lives u fit o h e))
+      ap (λ b. if b then GivenUp r.value else Ended)
+      (sym last ∙ only-last u.handle r c h (dropped-lives u fit o h e))
   end-answer r u s a m _ c fit end = absurd (true≢false (sym end))
 
   ends-happen : (a : Answer V) → is_end a ≡ true → takes_effect a ≡ true
@@ -67,9 +62,9 @@ module _ {V : Type 0} where
 
   -- an end is answered with the value if it was the last one of an unmarked block
   pub given_up_by_last_end : (t : Trace V) (s : Step V) (a : Answer V) → IsLegal (Then t s a) → is_end a ≡ true
-      → a ≡ end_answer (replay t).machine (replay (Then t s a)).machine
+      → a ≡ end_answer (model t) (model (Then t s a))
   given_up_by_last_end t s a legal end =
-      end-answer (replay t) (situation t) s a _ (happens t s a (ends-happen a end) legal.1).deed (counted t legal.0)
+      end-answer (model t) (state t) s a _ (happens t s a (ends-happen a end) legal.1).deed (counted t legal.0)
       (all_fit t legal.0) end
 
   given-up-is_end : (a : Answer V) → is_given_up a ≡ true → is_end a ≡ true
@@ -82,30 +77,30 @@ module _ {V : Type 0} where
   given-up t s a legal e = by_mark (has_mark t) (nat_eq (length (live_handles (Then t s a))) 0)
       refl refl (sym e ∙ ap is_given_up (given_up_by_last_end t s a legal (given-up-is_end a e))) where
         by_mark : (m n : Bool) → has_mark t ≡ m → nat_eq (length (live_handles (Then t s a))) 0 ≡ n
-            → true ≡ is_given_up (if not m && n then GivenUp (replay t).machine.value else Ended)
+            → true ≡ is_given_up (if not m && n then GivenUp (model t).value else Ended)
             → (has_mark t ≡ false) × (length (live_handles (Then t s a)) ≡ 0)
         by_mark false true m n e = (m, eqb-true _ 0 n)
         by_mark false false m n e = absurd (true≢false e)
         by_mark true n m _ e = absurd (true≢false e)
 
-  idle-barred : (u : Situation) (s : Step V)
+  idle-barred : (u : State) (s : Step V)
       → permitted_by (record u { handle = λ h. record (u.handle h) { lives = false } }) Idle s ≡ false
   idle-barred u (Raise o) = refl
   idle-barred u s = refl
 
   -- then no step is permitted
-  pub none-permitted : (u : Situation) (s : Step V) → IsOver u → (o : ℕ) (a : Activity) → Fits u.handle o a
+  pub none-permitted : (u : State) (s : Step V) → IsOver u → (o : ℕ) (a : Activity) → Fits u.handle o a
       → permitted_by u a s ≡ false
   none-permitted u s over o Idle fits =
       ap (λ (hs : ℕ → HandleState). permitted_by (record u { handle = hs }) Idle s)
       (fun_ext (λ h. λ i. record (u.handle h) { lives = over h i }))
       ∙ idle-barred u s
-  none-permitted u s over o (Cloning h) fits = absurd (true≢false (sym (and_parts _ _ fits).0 ∙ over h))
+  none-permitted u s over o (Cloning h n) fits = absurd (true≢false (sym (and_parts _ _ fits).0 ∙ over h))
   none-permitted u s over o (Dropping h)
       fits = absurd (true≢false (sym (and_parts _ _ (and_parts _ _ fits).0).0 ∙ over h))
 
   -- once the value is given up, no handle lives
-  over : (t : Trace V) → IsLegal t → some_answer is_given_up t ≡ true → IsOver (situation t)
+  over : (t : Trace V) → IsLegal t → some_answer is_given_up t ≡ true → IsOver (state t)
   over (Open v n limit) legal e = absurd (true≢false (sym e))
   over (Then t s Barred) legal e = over t legal.0 e
   over (Then t s Memory) legal e = over t legal.0 e
@@ -113,7 +108,7 @@ module _ {V : Type 0} where
       ⊎_elim (λ now. λ h. sym ((counted (Then t s a) legal).same h) ∙ none h (live_handles (Then t s a))
       (given-up t s a legal now).1)
       (λ before.
-      absurd (true≢false (sym (happens t s a refl legal.1).by_activity ∙ none-permitted (situation t)
+      absurd (true≢false (sym (happens t s a refl legal.1).by_activity ∙ none-permitted (state t)
       s (over t legal.0 before) (owner_of s) _ (all_fit t legal.0 (owner_of s)))))
       (or_cases (is_given_up a) _ e)
 
@@ -121,5 +116,5 @@ module _ {V : Type 0} where
   pub given_up_once : (t : Trace V) (s : Step V) (a : Answer V) → IsLegal (Then t s a)
       → some_answer is_given_up t ≡ true → a ≡ Barred
   given_up_once t s a legal given =
-      (barred_if_not_permitted t s a legal).1 (and_right _ _ (none-permitted (situation t) s (over t legal.0 given)
+      (barred_if_not_permitted t s a legal).1 (and_right _ _ (none-permitted (state t) s (over t legal.0 given)
       (owner_of s) _ (all_fit t legal.0 (owner_of s))))

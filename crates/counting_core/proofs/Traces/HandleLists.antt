@@ -6,7 +6,7 @@ use Rattle.std.specs.List.{list_any}
 use Rattle.std.proofs.lemmas.Bool.{and_right, or_parts, or_from}
 use Rattle.std.proofs.lemmas.List.Sums.{sum_by-cons}
 use Rattle.std.proofs.lemmas.Map.Views.{any-filter_same}
-use Rattle.counting_core.specs.PlainMachine.{without}
+use Rattle.counting_core.specs.ReferenceModel.{without}
 
 abbrev pub has : ℕ → List ℕ → Bool
 has h xs = list_any (nat_eq h) xs

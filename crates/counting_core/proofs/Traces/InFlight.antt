@@ -1,6 +1,6 @@
 -- The handle of a clone in flight is one that its owner may use, and the handle of a drop in flight is its owner's
 -- alone.
-use Rattle.std.proofs.Common.{◌≡◌, ℕ, true, false, ◌||◌, nat_eq, List, [], ◌∷◌, refl, sym, ◌∙◌}
+use Rattle.std.proofs.Common.{◌≡◌, ℕ, true, false, ◌||◌, nat_eq, List, [], ◌∷◌, refl, sym}
 use Rattle.std.proofs.Common.{subst, arith, true≢false, ⊎_elim, Ordering, Less, Equal, Greater}
 use Rattle.std.specs.List.{list_any}
 use Rattle.std.specs.Ordering.{nat_cmp, match_ordering}
@@ -8,24 +8,28 @@ use Rattle.std.specs.BTreeSet.{insert_key}
 use Rattle.std.specs.Set.{remove_key}
 use Rattle.std.proofs.lemmas.Bool.{and_parts, or_cases}
 use Rattle.std.proofs.lemmas.Grind.{common_steps}
-use Rattle.counting_core.specs.declared.owner.Activity.{Activity}
-use Rattle.counting_core.specs.declared.owner.Activity.TheVariants.{Idle, Cloning, Dropping}
+use Rattle.counting_core.specs.declared.activity.Activity.{Activity}
+use Rattle.counting_core.specs.declared.activity.Activity.TheVariants.{Idle, Cloning, Dropping}
 use Rattle.counting_core.specs.declared.step.Step.{Step}
 use Rattle.counting_core.specs.declared.step.Step.TheVariants.{Clone, Drop, Lower, GetMut, EndWrite, IntoUnique, Share}
 use Rattle.counting_core.specs.declared.step.Step.TheVariants.{Lend, Return, Give}
 use Rattle.counting_core.specs.declared.step.Answer.{Answer}
 use Rattle.counting_core.specs.declared.step.Answer.TheVariants.{Born, Full, Pending, Ended, GivenUp, Alone, Sole, Done}
 use Rattle.counting_core.specs.declared.step.Answer.TheVariants.{Memory, Barred, Quit as Quitted}
-use Rattle.counting_core.specs.Trace.{Trace, Open, Then, HandleState, lent_to, returned_by, Situation, situation}
-use Rattle.counting_core.specs.Trace.{owner_of, dropped_by, ended, put, after}
+use Rattle.counting_core.specs.Trace.{Trace, Open, Then, HandleState, lent_to, returned_by, State, handle_in}
+use Rattle.counting_core.specs.Trace.{owner_of, handle_in, ended, put, after}
 use Rattle.counting_core.specs.Permitted.{holds, is_lent_to, has_alone, may_use, may_take, is_writing, has_sole}
 use Rattle.counting_core.specs.Permitted.{permitted_by}
-use Rattle.counting_core.specs.PlainMachine.{Machine}
-use Rattle.counting_core.specs.Legal.{Replay, replay, IsLegal}
+use Rattle.counting_core.specs.ReferenceModel.{Model}
+use Rattle.counting_core.specs.Legal.{IsLegal, state, model}
 use Rattle.counting_core.proofs.Traces.Places.{put-all, put-same}
 use Rattle.counting_core.proofs.Traces.Deeds.{Deed, clone_bears, raise_bears}
 use Rattle.counting_core.proofs.Traces.LegalSteps.{Happens, happens}
 use Rattle.counting_core.proofs.Traces.LiveHandles.{IsCounted, next-dead, counted}
+use Rattle.counting_core.proofs.Traces.Activities.{raising, lowering, begins}
+use Rattle.counting_core.specs.Trace.{goes_on_to}
+use Rattle.counting_core.specs.declared.step.Step.TheVariants.{Raise}
+use Rattle.std.proofs.Common.{length}
 
 -- who is lent a handle is still lent it after another lending
 lent-insert : (o to : ℕ) (os : List ℕ) → list_any (nat_eq o) os ≡ true
@@ -98,25 +102,32 @@ parts-alone k o may = ⊎_elim (λ e. (and_parts _ _ e).0) (λ e. (and_parts _ _
 -- what an owner has in flight fits its handle
 abbrev pub Fits : (ℕ → HandleState) → ℕ → Activity → Type 0
 Fits hs o Idle = Unit {0}
-Fits hs o (Cloning h) = may_use (hs h) o ≡ true
+Fits hs o (Cloning h n) = may_use (hs h) o ≡ true
 Fits hs o (Dropping h) = has_alone (hs h) o ≡ true
 
-abbrev pub AllFit : Situation → Type 0
+abbrev pub AllFit : State → Type 0
 AllFit u = (o : ℕ) → Fits u.handle o (u.activity o)
+
+-- the handle of a drop in flight is its owner's alone, and lives
+pub dropped-alone : (u : State) → AllFit u → (o h : ℕ) → u.activity o ≡ Dropping h → has_alone (u.handle h) o ≡ true
+dropped-alone u fit o h e = subst (Fits u.handle o) e (fit o)
+
+pub dropped-lives : (u : State) → AllFit u → (o h : ℕ) → u.activity o ≡ Dropping h → (u.handle h).lives ≡ true
+dropped-lives u fit o h e = (and_parts _ _ (and_parts _ _ (dropped-alone u fit o h e)).0).0
 
 -- a change of a handle that spares the other owners leaves them what they have in flight
 fits-put : (hs : ℕ → HandleState) (p h : ℕ) (new : HandleState) → Spares p (hs h) new → (q : ℕ)
     → nat_eq p q ≡ false
     → (a : Activity) → Fits hs q a → Fits (put hs h new) q a
 fits-put hs p h new spares q other Idle fits = tt
-fits-put hs p h new spares q other (Cloning k) fits =
+fits-put hs p h new spares q other (Cloning k n) fits =
     put-all hs h new (λ j s. may_use (hs j) q ≡ true → may_use s q ≡ true) (spares.may_use_still q other)
     (λ j _ e. e) k fits
 fits-put hs p h new spares q other (Dropping k) fits =
     put-all hs h new (λ j s. has_alone (hs j) q ≡ true → has_alone s q ≡ true) (spares.alone_still q other)
     (λ j _ e. e) k fits
 
-module _ (u : Situation) (was : AllFit u) (p : ℕ) where
+module _ (u : State) (was : AllFit u) (p : ℕ) where
   -- the owner goes on to something that fits
   fits-now : (now : Activity) → Fits u.handle p now → (q : ℕ) → Fits u.handle q (put u.activity p now q)
   fits-now now own = put-all u.activity p now (Fits u.handle) own (λ q _. was q)
@@ -132,77 +143,67 @@ module _ (u : Situation) (was : AllFit u) (p : ℕ) where
     fits-still_idle idle = subst (λ (acts : ℕ → Activity). (q : ℕ) → Fits (put u.handle h new) q (acts q))
         (put-same u.activity p Idle idle) fits-then_idle
 
-lower-fits : (V : Type 0) (u : Situation) → AllFit u → (o : ℕ) (a : Activity) → u.activity o ≡ a
-    → permitted_by {V = V} u a (Lower o) ≡ true → (q : ℕ)
-    → Fits (ended u (dropped_by a)).handle q (put u.activity o Idle q)
-lower-fits V u was o (Dropping h) e may = fits-then_idle u was o h _ (spares-own o (u.handle h)
-    _ (subst (Fits u.handle o) e (was o)))
-lower-fits V u was o Idle e may = absurd (true≢false (sym may))
-lower-fits V u was o (Cloning h) e may = absurd (true≢false (sym may))
+lower-fits : (V : Type 0) (u : State) → AllFit u → (o : ℕ) → permitted_by {V = V} u (u.activity o) (Lower o) ≡ true
+    → AllFit (goes_on_to (ended u (handle_in (u.activity o))) o Idle)
+lower-fits V u was o may = fits-then_idle u was o _ _
+    (spares-own o _ _ (subst (Fits u.handle o) (lowering V u o _ may) (was o)))
 
 module _ {V : Type 0} where
-  -- a step that only an idle owner may make
-  pub begins : (u : Situation) (s : Step V) (a : Activity) → permitted_by u a s ≡ true
-      → ((h : ℕ) → permitted_by u (Cloning h) s ≡ false) → ((h : ℕ) → permitted_by u (Dropping h)
-      s ≡ false)
-      → (a ≡ Idle) × (permitted_by u Idle s ≡ true)
-  begins u s Idle may clone drop = (refl, may)
-  begins u s (Cloning h) may clone drop = absurd (true≢false (sym may ∙ clone h))
-  begins u s (Dropping h) may clone drop = absurd (true≢false (sym may ∙ drop h))
-
-  fits-then : (u : Situation) (s : Step V) (a : Answer V) → permitted_by u (u.activity (owner_of s)) s ≡ true
-      → ((n : ℕ) → a ≡ Born n → (u.handle n).lives ≡ false) → AllFit u → AllFit (after u s a)
-  fits-then u s (Born n) may fresh was = fits-then_idle u was (owner_of s) n _ (spares-unborn (owner_of s)
+  fits-then : (sees : ℕ) (u : State) (s : Step V) (a : Answer V) → permitted_by u (u.activity (owner_of s)) s ≡ true
+      → ((n : ℕ) → a ≡ Born n → (u.handle n).lives ≡ false) → AllFit u → AllFit (after sees u s a)
+  fits-then sees u s (Born n) may fresh was = fits-then_idle u was (owner_of s) n _ (spares-unborn (owner_of s)
       (u.handle n) _ (fresh n refl))
-  fits-then u s Full may fresh was = fits-now u was (owner_of s) Idle tt
-  fits-then u s Quitted may fresh was = fits-now u was (owner_of s) Idle tt
-  fits-then u (Clone o h) Pending may fresh was = fits-now u was o (Cloning h) (begins u (Clone o h)
-      _ may (λ _. refl) (λ _. refl)).1
-  fits-then u (Drop o h) Pending may fresh was = fits-now u was o (Dropping h) (parts-alone (u.handle h)
-      o (begins u (Drop o h) _ may (λ _. refl) (λ _. refl)).1)
-  fits-then u (Drop o h) Ended may fresh was =
-      let free : _ = begins u (Drop o h) _ may (λ _. refl) (λ _. refl) in
+  fits-then sees u s Full may fresh was = fits-now u was (owner_of s) Idle tt
+  fits-then sees u s Quitted may fresh was = fits-now u was (owner_of s) Idle tt
+  fits-then sees u (Clone o h) Pending may fresh was = fits-now u was o (Cloning h sees) (begins u (Clone o h)
+      _ may (λ _ _. refl) (λ _. refl)).1
+  fits-then sees u (Raise o) Pending may fresh was =
+      fits-now u was o _ (subst (Fits u.handle o) (raising V u o _ may) (was o))
+  fits-then sees u (Drop o h) Pending may fresh was = fits-now u was o (Dropping h) (parts-alone (u.handle h)
+      o (begins u (Drop o h) _ may (λ _ _. refl) (λ _. refl)).1)
+  fits-then sees u (Drop o h) Ended may fresh was =
+      let free : _ = begins u (Drop o h) _ may (λ _ _. refl) (λ _. refl) in
       fits-still_idle u was o h _ (spares-own o (u.handle h) _ (parts-alone (u.handle h) o free.1)) free.0
-  fits-then u (Lower o) Ended may fresh was = lower-fits V u was o (u.activity o) refl may
-  fits-then u (Lower o) (GivenUp v) may fresh was = lower-fits V u was o (u.activity o) refl may
-  fits-then u (GetMut o h) Alone may fresh was =
-      let free : _ = begins u (GetMut o h) _ may (λ _. refl) (λ _. refl) in
+  fits-then sees u (Lower o) Ended may fresh was = lower-fits V u was o may
+  fits-then sees u (Lower o) (GivenUp v) may fresh was = lower-fits V u was o may
+  fits-then sees u (GetMut o h) Alone may fresh was =
+      let free : _ = begins u (GetMut o h) _ may (λ _ _. refl) (λ _. refl) in
       fits-still_idle u was o h _ (spares-own o (u.handle h) _ (and_parts _ _ free.1).0) free.0
-  fits-then u (EndWrite o h) Done may fresh was =
-      let free : _ = begins u (EndWrite o h) _ may (λ _. refl) (λ _. refl) in
+  fits-then sees u (EndWrite o h) Done may fresh was =
+      let free : _ = begins u (EndWrite o h) _ may (λ _ _. refl) (λ _. refl) in
       fits-still_idle u was o h _ (spares-writer o (u.handle h) _ free.1) free.0
-  fits-then u (IntoUnique o h) Sole may fresh was =
-      let free : _ = begins u (IntoUnique o h) _ may (λ _. refl) (λ _. refl) in
+  fits-then sees u (IntoUnique o h) Sole may fresh was =
+      let free : _ = begins u (IntoUnique o h) _ may (λ _ _. refl) (λ _. refl) in
       fits-still_idle u was o h _ (spares-own o (u.handle h) _ (and_parts _ _ free.1).0) free.0
-  fits-then u (Share o h) Done may fresh was =
-      let free : _ = begins u (Share o h) _ may (λ _. refl) (λ _. refl) in
+  fits-then sees u (Share o h) Done may fresh was =
+      let free : _ = begins u (Share o h) _ may (λ _ _. refl) (λ _. refl) in
       fits-still_idle u was o h _ (spares-own o (u.handle h) _ (and_parts _ _ free.1).0) free.0
-  fits-then u (Lend o h to) Done may fresh was =
-      let free : _ = begins u (Lend o h to) _ may (λ _. refl) (λ _. refl) in
+  fits-then sees u (Lend o h to) Done may fresh was =
+      let free : _ = begins u (Lend o h to) _ may (λ _ _. refl) (λ _. refl) in
       fits-still_idle u was o h _ (spares-lent o to (u.handle h) (and_parts _ _ free.1).0) free.0
-  fits-then u (Return o h) Done may fresh was =
-      let free : _ = begins u (Return o h) _ may (λ _. refl) (λ _. refl) in
+  fits-then sees u (Return o h) Done may fresh was =
+      let free : _ = begins u (Return o h) _ may (λ _ _. refl) (λ _. refl) in
       fits-still_idle u was o h _ (spares-returned o (u.handle h) (and_parts _ _ free.1).1) free.0
-  fits-then u (Give o h to) Done may fresh was =
-      let free : _ = begins u (Give o h to) _ may (λ _. refl) (λ _. refl) in
+  fits-then sees u (Give o h to) Done may fresh was =
+      let free : _ = begins u (Give o h to) _ may (λ _ _. refl) (λ _. refl) in
       fits-still_idle u was o h _ (spares-own o (u.handle h) _ (parts-alone (u.handle h) o (and_parts _ _ free.1).0))
       free.0
-  fits-then u s a may fresh was = was
+  fits-then sees u s a may fresh was = was
 
   -- a birth is of a handle that did not live before
-  fresh-birth : (r : Replay V) (u : Situation) (s : Step V) (a : Answer V) (m : Machine V) → Deed r u s a m
-      → IsCounted u.handle r.machine → (n : ℕ) → a ≡ Born n → (u.handle n).lives ≡ false
-  fresh-birth r u s a m (clone_bears o h _ _) c n e = let is : r.machine.births ≡ n = cc in
-      rw (← is) (next-dead u.handle r.machine c)
-  fresh-birth r u s a m (raise_bears o _ _) c n e = let is : r.machine.births ≡ n = cc in
-      rw (← is) (next-dead u.handle r.machine c)
+  fresh-birth : (r : Model V) (u : State) (s : Step V) (a : Answer V) (m : Model V) → Deed r u s a m
+      → IsCounted u.handle r → (n : ℕ) → a ≡ Born n → (u.handle n).lives ≡ false
+  fresh-birth r u s a m (clone_bears o h _ _) c n e = let is : r.births ≡ n = cc in
+      rw (← is) (next-dead u.handle r c)
+  fresh-birth r u s a m (raise_bears o _ _) c n e = let is : r.births ≡ n = cc in
+      rw (← is) (next-dead u.handle r c)
   fresh-birth r u s a m _ c n e = absurd (cc)
 
-  pub all_fit : (t : Trace V) → IsLegal t → AllFit (situation t)
+  pub all_fit : (t : Trace V) → IsLegal t → AllFit (state t)
   all_fit (Open v n limit) legal = λ o. tt
   all_fit (Then t s Barred) legal = all_fit t legal.0
   all_fit (Then t s Memory) legal = all_fit t legal.0
   all_fit (Then t s a) legal =
       let h : Happens t s a = happens t s a refl legal.1 in
-      fits-then (situation t) s a h.by_activity (fresh-birth (replay t) (situation t)
+      fits-then (length (model t).live) (state t) s a h.by_activity (fresh-birth (model t) (state t)
       s a _ h.deed (counted t legal.0)) (all_fit t legal.0)

@@ -1,4 +1,4 @@
--- The limit of a trace, which its machine has too, and which its live handles keep without a mark.
+-- The limit of a trace, which its model has too, and which its live handles keep without a mark.
 use Rattle.std.proofs.Common.{◌≡◌, ◌≤◌, false, not, ◌&&◌, nat_eq, length, refl, sym, ◌∙◌, ap}
 use Rattle.std.proofs.Common.{subst, arith, length-append, true≢false}
 use Rattle.std.proofs.lemmas.Bool.{eqb-false}
@@ -7,9 +7,9 @@ use Rattle.counting_word.specs.CountingWord.{IsLimit}
 use Rattle.counting_core.specs.declared.step.Step.{Step}
 use Rattle.counting_core.specs.declared.step.Answer.{Answer}
 use Rattle.counting_core.specs.declared.step.Answer.TheVariants.{Memory, Barred}
-use Rattle.counting_core.specs.Trace.{Trace, Open, Then, Situation, situation, limit_of}
-use Rattle.counting_core.specs.PlainMachine.{Machine, is_full}
-use Rattle.counting_core.specs.Legal.{Replay, replay, IsLegal}
+use Rattle.counting_core.specs.Trace.{Trace, Open, Then, State, limit_of}
+use Rattle.counting_core.specs.ReferenceModel.{Model, is_full}
+use Rattle.counting_core.specs.Legal.{IsLegal, state, model}
 use Rattle.counting_core.specs.Laws.{has_mark, live_handles}
 use Rattle.counting_core.proofs.Traces.Deeds.{Deed, clone_bears, raise_bears, drop_ends, lower_ends, lower_gives_up}
 use Rattle.counting_core.proofs.Traces.Deeds.{marks, grown, shrunk}
@@ -20,22 +20,22 @@ module _ {V : Type 0} where
   legal_limit (Open v n limit) legal = legal
   legal_limit (Then t s a) legal = legal_limit t legal.0
 
-  limit-then : (r : Replay V) (u : Situation) (s : Step V) (a : Answer V) (m : Machine V) → Deed r u s a m
-      → m.limit ≡ r.machine.limit
+  limit-then : (r : Model V) (u : State) (s : Step V) (a : Answer V) (m : Model V) → Deed r u s a m
+      → m.limit ≡ r.limit
   limit-then r u s a m (marks o h) = refl
   limit-then r u s a m _ = refl
 
-  pub machine_limit : (t : Trace V) → IsLegal t → (replay t).machine.limit ≡ limit_of t
-  machine_limit (Open v n limit) legal = refl
-  machine_limit (Then t s Barred) legal = machine_limit t legal.0
-  machine_limit (Then t s Memory) legal = machine_limit t legal.0
-  machine_limit (Then t s a) legal =
-      limit-then (replay t) (situation t) s a _ (happens t s a refl legal.1).deed ∙ machine_limit t legal.0
+  pub model_limit : (t : Trace V) → IsLegal t → (model t).limit ≡ limit_of t
+  model_limit (Open v n limit) legal = refl
+  model_limit (Then t s Barred) legal = model_limit t legal.0
+  model_limit (Then t s Memory) legal = model_limit t legal.0
+  model_limit (Then t s a) legal =
+      limit-then (model t) (state t) s a _ (happens t s a refl legal.1).deed ∙ model_limit t legal.0
 
-  abbrev IsWithinLimit : Machine V → Type 0
+  abbrev IsWithinLimit : Model V → Type 0
   IsWithinLimit m = m.mark ≡ false → length m.live ≤ m.limit
 
-  within-grown : (m : Machine V) → is_full m ≡ false → IsWithinLimit m → IsWithinLimit (grown m)
+  within-grown : (m : Model V) → is_full m ≡ false → IsWithinLimit m → IsWithinLimit (grown m)
   within-grown m room within unmarked =
       let other : nat_eq (length m.live) m.limit ≡ false = sym (ap (λ b. not b && nat_eq (length m.live) m.limit)
       unmarked) ∙ room in
@@ -43,30 +43,30 @@ module _ {V : Type 0} where
       let so_far : length m.live ≤ m.limit = within unmarked in
       rw length-append (omega arith)
 
-  within-shrunk : (m : Machine V) (h : _) → IsWithinLimit m → IsWithinLimit (shrunk m h)
+  within-shrunk : (m : Model V) (h : _) → IsWithinLimit m → IsWithinLimit (shrunk m h)
   within-shrunk m h within unmarked =
       let so_far : length m.live ≤ m.limit = within unmarked in
       omega (arith, length-filter (λ k. not (nat_eq h k)) m.live, count_by-le-length (λ k. not (nat_eq h k)) m.live)
 
-  within-then : (r : Replay V) (u : Situation) (s : Step V) (a : Answer V) (m : Machine V) → Deed r u s a m
-      → IsWithinLimit r.machine → IsWithinLimit m
-  within-then r u s a m (clone_bears o h mark room) within = within-grown r.machine room within
-  within-then r u s a m (raise_bears o settles room) within = within-grown r.machine room within
-  within-then r u s a m (drop_ends o h mark) within = within-shrunk r.machine h within
-  within-then r u s a m (lower_ends o h e more) within = within-shrunk r.machine h within
-  within-then r u s a m (lower_gives_up o h e last) within = within-shrunk r.machine h within
+  within-then : (r : Model V) (u : State) (s : Step V) (a : Answer V) (m : Model V) → Deed r u s a m
+      → IsWithinLimit r → IsWithinLimit m
+  within-then r u s a m (clone_bears o h mark room) within = within-grown r room within
+  within-then r u s a m (raise_bears o settles room) within = within-grown r room within
+  within-then r u s a m (drop_ends o h mark) within = within-shrunk r h within
+  within-then r u s a m (lower_ends o h e more) within = within-shrunk r h within
+  within-then r u s a m (lower_gives_up o h e last) within = within-shrunk r h within
   within-then r u s a m (marks o h) within = λ unmarked. absurd (true≢false unmarked)
   within-then r u s a m _ within = within
 
-  within_limit : (t : Trace V) → IsLegal t → IsWithinLimit (replay t).machine
+  within_limit : (t : Trace V) → IsLegal t → IsWithinLimit (model t)
   within_limit (Open v n limit) legal = λ _. legal.0
   within_limit (Then t s Barred) legal = within_limit t legal.0
   within_limit (Then t s Memory) legal = within_limit t legal.0
-  within_limit (Then t s a) legal = within-then (replay t) (situation t)
+  within_limit (Then t s a) legal = within-then (model t) (state t)
       s a _ (happens t s a refl legal.1).deed (within_limit t legal.0)
 
   -- without a mark no more handles live than the limit
   pub no_count_passes_limit : (t : Trace V) → IsLegal t → has_mark t ≡ false → length (live_handles t)
       ≤ limit_of t
   no_count_passes_limit t legal unmarked =
-      subst (λ n. length (live_handles t) ≤ n) (machine_limit t legal) (within_limit t legal unmarked)
+      subst (λ n. length (live_handles t) ≤ n) (model_limit t legal) (within_limit t legal unmarked)

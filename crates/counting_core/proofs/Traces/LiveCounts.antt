@@ -1,25 +1,25 @@
 -- The count of a word that represents a trace: its live handles, and the drops in flight that it covers.
 use Rattle.std.proofs.Common.{◌≡◌, ℕ, zero, suc, ◌+◌, ◌<◌, ◌≤◌, Bool, true, false}
 use Rattle.std.proofs.Common.{if◌then◌else◌, nat_eq, nat_lt, List, length, take_all, count_by, refl, sym}
-use Rattle.std.proofs.Common.{◌∙◌, ap, subst, arith, true≢false, le_trans, le_refl, ltb-true, eqb-true}
+use Rattle.std.proofs.Common.{◌∙◌, ap, subst, arith, le_trans, le_refl, ltb-true, eqb-true}
 use Rattle.std.proofs.lemmas.Bool.{and_parts, false_from_ne_true}
-use Rattle.std.proofs.lemmas.List.Sums.{get_or-le-sum_by}
 use Rattle.counting_word.specs.CountingWord.{is_marked_word, count_of, IsLimit, IsWithin}
-use Rattle.counting_core.specs.declared.owner.Activity.{Activity}
-use Rattle.counting_core.specs.declared.owner.Activity.TheVariants.{Idle, Cloning, Dropping}
-use Rattle.counting_core.specs.declared.owner.Owner.{Owner}
+use Rattle.counting_core.specs.declared.activity.Activity.{Activity}
+use Rattle.counting_core.specs.declared.activity.Activity.TheVariants.{Dropping}
 use Rattle.counting_core.specs.declared.step.Step.TheVariants.{Lower}
-use Rattle.counting_core.specs.Trace.{Trace, HandleState, unborn, Situation, situation, limit_of}
+use Rattle.counting_core.specs.Trace.{Trace, HandleState, unborn, State, limit_of, handle_in}
 use Rattle.counting_core.specs.Permitted.{has_alone, permitted, permitted_by}
-use Rattle.counting_core.specs.PlainMachine.{without}
-use Rattle.counting_core.specs.Represents.{CoreState, Represents, handle, owner, idle, is_dropping, situation_of}
-use Rattle.counting_core.specs.Represents.{drops_in_flight}
+use Rattle.counting_core.specs.ReferenceModel.{without}
+use Rattle.counting_core.specs.Represents.{CoreState, Represents, handle, is_dropping}
+use Rattle.counting_core.specs.Represents.{drops_in_flight, number_below}
 use Rattle.counting_core.specs.Laws.{live_handles, has_mark}
 use Rattle.counting_core.proofs.Traces.Limits.{legal_limit, no_count_passes_limit}
 use Rattle.counting_core.proofs.Traces.HandleLists.{has, IsApart, length-without, apart-without, has-without}
 use Rattle.counting_core.proofs.Traces.LiveHandles.{counted}
-use Rattle.counting_core.proofs.Traces.InFlight.{Fits, all_fit}
-use Rattle.counting_core.proofs.Traces.NumberBelow.{number_below, number-length, number-count_by}
+use Rattle.counting_core.proofs.Traces.InFlight.{all_fit, dropped-alone, dropped-lives}
+use Rattle.counting_core.proofs.Traces.Activities.{lowering}
+use Rattle.counting_core.proofs.Traces.NumberBelow.{number-length, number-count_by, number-some}
+use Rattle.counting_core.specs.Legal.{state, IsLegal}
 
 -- owners with handles of their own are no more than the handles
 pigeonhole : (of : ℕ → Activity) → ((o p h : ℕ) → of o ≡ Dropping h → of p ≡ Dropping h → o ≡ p)
@@ -53,10 +53,24 @@ pigeonhole of apart (suc n) xs distinct own = by_last (of n) refl (pigeonhole of
 holder-is : (k : HandleState) (o : ℕ) → has_alone k o ≡ true → k.holder ≡ o
 holder-is k o own = grind arith
 
+module _ {V : Type 0} (t : Trace V) (legal : IsLegal t) where
+  -- the handle of a drop in flight is a live one
+  pub dropped-live : (o h : ℕ) → (state t).activity o ≡ Dropping h → has h (live_handles t) ≡ true
+  dropped-live o h e = (counted t legal).same h ∙ dropped-lives (state t) (all_fit t legal) o h e
+
+  -- each drop in flight is of a live handle of its own
+  pub drops-le-live : drops_in_flight (state t) ≤ length (live_handles t)
+  drops-le-live = pigeonhole (state t).activity apart (state t).owners (live_handles t) (counted t legal).apart
+      (λ o h lt. dropped-live o h) where
+        apart : (o p h : ℕ) → (state t).activity o ≡ Dropping h → (state t).activity p ≡ Dropping h → o ≡ p
+        apart o p h d e =
+            sym (holder-is ((state t).handle h) o (dropped-alone (state t) (all_fit t legal) o h d))
+            ∙ holder-is ((state t).handle h) p (dropped-alone (state t) (all_fit t legal) p h e)
+
 module _ {V : Type 0} (core : CoreState V) (t : Trace V) (r : Represents core t) where
   -- a handle is among the live ones if the core has it live
   lives-seen : (h : ℕ) → has h (live_handles t) ≡ (handle core h).lives
-  lives-seen h = (counted t r.legal).same h ∙ ap (λ (u : Situation). (u.handle h).lives) (sym r.same_situation)
+  lives-seen h = (counted t r.legal).same h ∙ ap (λ (u : State). (u.handle h).lives) (sym r.same_state)
 
   -- and as many are
   live-counted : length (live_handles t) ≡ count_by (λ (k : HandleState). k.lives) core.handles
@@ -89,57 +103,22 @@ module _ {V : Type 0} (core : CoreState V) (t : Trace V) (r : Represents core t)
       let limit : core.limit ≡ limit_of t = r.same_limit in
       omega arith
 
-  -- what an owner of the core has in flight fits its handle
-  pub core_fits : (o : ℕ) → Fits (handle core) o (owner core o).activity
-  core_fits = subst (λ (u : Situation). (o : ℕ) → Fits u.handle o (u.activity o)) (sym r.same_situation)
-      (all_fit t r.legal)
+  -- if a lower is permitted, there is a handle to count
+  pub lower_counts : (o : ℕ) → permitted {V = V} (state t) (Lower o) ≡ true → 1 ≤ count_of core.word
+  lower_counts o may = by_mark (has_mark t) refl where
+    parts : (nat_lt o (state t).owners ≡ true)
+        × (permitted_by {V = V} (state t) ((state t).activity o) (Lower o) ≡ true)
+    parts = and_parts _ _ may
 
-  -- the handle of a drop in flight is a live one
-  pub dropped-live : (o h : ℕ) → (owner core o).activity ≡ Dropping h → has h (live_handles t) ≡ true
-  dropped-live o h e = lives-seen h ∙ (and_parts _ _ (and_parts _ _ (subst (Fits (handle core) o)
-      e (core_fits o))).0).0
-
-  -- each drop in flight is of a live handle of its own
-  pub drops-le-live : drops_in_flight core ≤ length (live_handles t)
-  drops-le-live =
-      subst (λ n. n ≤ length (live_handles t)) (number-count_by (λ (p : Owner). is_dropping p.activity)
-      idle core.owners (length core.owners) (le_refl (length core.owners))
-      ∙ ap (count_by (λ (p : Owner). is_dropping p.activity)) (take_all (length core.owners)
-      core.owners (le_refl (length core.owners))))
-      (pigeonhole (λ o. (owner core o).activity) apart (length core.owners) (live_handles t)
-      (counted t r.legal).apart (λ o h lt. dropped-live o h)) where
-        apart : (o p h : ℕ) → (owner core o).activity ≡ Dropping h → (owner core p).activity ≡ Dropping h
-            → o ≡ p
-        apart o p h d e =
-            sym (holder-is (handle core h) o (subst (Fits (handle core) o) d (core_fits o)))
-            ∙ holder-is (handle core h) p (subst (Fits (handle core) p) e (core_fits p))
-
-  -- the drop of an owner is counted
-  pub drop-counted : (o h : ℕ)
-      → o < length core.owners → (owner core o).activity ≡ Dropping h → 1 ≤ count_of core.word
-  drop-counted o h lt e = by_mark (has_mark t) refl where
-    among : 1 ≤ drops_in_flight core
-    among =
-        subst (λ (a : Activity). (if is_dropping a then 1 else 0) ≤ drops_in_flight core) e
-        (get_or-le-sum_by (λ (p : Owner). if is_dropping p.activity then 1 else 0) core.owners o idle lt)
+    is : (state t).activity o ≡ Dropping (handle_in ((state t).activity o))
+    is = lowering V (state t) o ((state t).activity o) parts.1
 
     by_mark : (b : Bool) → has_mark t ≡ b → 1 ≤ count_of core.word
-    by_mark true m = le_trans among (r.word.covers_drops m)
+    by_mark true m = le_trans (number-some (λ q. is_dropping ((state t).activity q)) o (state t).owners
+        (ap is_dropping is) (ltb-true o (state t).owners parts.0)) (r.word.covers_drops m)
     by_mark false m =
-        let one_less : length (without h (live_handles t)) + 1 ≡ length (live_handles t)
-        = length-without h (live_handles t) (dropped-live o h e) (counted t r.legal).apart in
+        let one_less : length (without (handle_in ((state t).activity o)) (live_handles t)) + 1
+        ≡ length (live_handles t) = length-without _ (live_handles t) (dropped-live t r.legal o _ is)
+        (counted t r.legal).apart in
         let count : count_of core.word ≡ length (live_handles t) = r.word.counts_live m in
         omega arith
-
-  -- if a lower is permitted, there is a handle to count
-  pub lower_counts : (o : ℕ) → permitted {V = V} (situation t) (Lower o) ≡ true → 1 ≤ count_of core.word
-  lower_counts o may = by_activity (owner core o).activity refl parts.1 where
-    parts : (nat_lt o (length core.owners) ≡ true) × (permitted_by {V = V} (situation_of core)
-        (owner core o).activity (Lower o) ≡ true)
-    parts = and_parts _ _ (ap (λ (u : Situation). permitted {V = V} u (Lower o)) r.same_situation ∙ may)
-
-    by_activity : (a : Activity) → (owner core o).activity ≡ a
-        → permitted_by {V = V} (situation_of core) a (Lower o) ≡ true → 1 ≤ count_of core.word
-    by_activity (Dropping h) e may = drop-counted o h (ltb-true o (length core.owners) parts.0) e
-    by_activity Idle e may = absurd (true≢false (sym may))
-    by_activity (Cloning h) e may = absurd (true≢false (sym may))

@@ -1,17 +1,18 @@
--- The live handles of a trace's machine: none twice, each born, and the ones that the trace lets live.
+-- The live handles of a trace's model: none twice, each born, and the ones that the trace lets live.
+use Rattle.std.proofs.Common.{length}
 use Rattle.std.proofs.Common.{◌≡◌, ℕ, ◌+◌, ◌<◌, Bool, true, false, not, ◌&&◌, ◌||◌, nat_eq, []}
 use Rattle.std.proofs.Common.{count_by, refl, sym, ◌∙◌, ap, subst, arith, lt_irrefl, true≢false}
 use Rattle.std.proofs.Common.{if◌then◌else◌, eqb-true}
 use Rattle.std.proofs.lemmas.Bool.{and_parts, false_from_ne_true}
-use Rattle.counting_core.specs.declared.owner.Activity.{Activity}
-use Rattle.counting_core.specs.declared.owner.Activity.TheVariants.{Dropping}
+use Rattle.counting_core.specs.declared.activity.Activity.{Activity}
+use Rattle.counting_core.specs.declared.activity.Activity.TheVariants.{Dropping}
 use Rattle.counting_core.specs.declared.step.Step.{Step}
 use Rattle.counting_core.specs.declared.step.Answer.{Answer}
 use Rattle.counting_core.specs.declared.step.Answer.TheVariants.{Memory, Barred}
-use Rattle.counting_core.specs.Trace.{Trace, Open, Then, HandleState, unborn, newborn, Situation, situation, after}
-use Rattle.counting_core.specs.Trace.{dropped_by, ended, put}
-use Rattle.counting_core.specs.PlainMachine.{Machine}
-use Rattle.counting_core.specs.Legal.{Replay, replay, IsLegal}
+use Rattle.counting_core.specs.Trace.{Trace, Open, Then, HandleState, unborn, newborn, State, after, handle_in}
+use Rattle.counting_core.specs.Trace.{handle_in, ended, put}
+use Rattle.counting_core.specs.ReferenceModel.{Model}
+use Rattle.counting_core.specs.Legal.{IsLegal, state, model}
 use Rattle.counting_core.proofs.Traces.Places.{part-put, part_kept-put}
 use Rattle.counting_core.proofs.Traces.HandleLists.{has, IsApart, once, has-without, has-push, apart-without}
 use Rattle.counting_core.proofs.Traces.HandleLists.{apart-push}
@@ -21,13 +22,13 @@ use Rattle.counting_core.proofs.Traces.Deeds.{returns, gives, grown, shrunk}
 use Rattle.counting_core.proofs.Traces.LegalSteps.{happens}
 
 module _ {V : Type 0} where
-  -- The machine's live handles are those that live, each once, and each was born.
-  pub record IsCounted (hs : ℕ → HandleState) (m : Machine V) : Type 0 where
+  -- The model's live handles are those that live, each once, and each was born.
+  pub record IsCounted (hs : ℕ → HandleState) (m : Model V) : Type 0 where
     pub apart : IsApart m.live
     pub below : (h : ℕ) → has h m.live ≡ true → h < m.births
     pub same : (h : ℕ) → has h m.live ≡ (hs h).lives
 
-  module _ (hs : ℕ → HandleState) (m : Machine V) (c : IsCounted hs m) where
+  module _ (hs : ℕ → HandleState) (m : Model V) (c : IsCounted hs m) where
     -- the next handle to be born does not live yet
     pub next-dead : (hs m.births).lives ≡ false
     next-dead = false_from_ne_true _ (λ e. lt_irrefl m.births (c.below m.births (c.same m.births ∙ e)))
@@ -70,41 +71,41 @@ module _ {V : Type 0} where
           s (λ x. x.lives) e k);
     }
 
-  counted-lowered : (r : Replay V) (u : Situation) (o h : ℕ)
-      → u.activity o ≡ Dropping h → IsCounted u.handle r.machine
-      → IsCounted (ended u (dropped_by (u.activity o))).handle (shrunk r.machine h)
-  counted-lowered r u o h e c = subst (λ (a : Activity). IsCounted (ended u (dropped_by a)).handle (shrunk r.machine
-      h)) (sym e) (counted-ended u.handle r.machine c h)
+  counted-lowered : (r : Model V) (u : State) (o h : ℕ)
+      → u.activity o ≡ Dropping h → IsCounted u.handle r
+      → IsCounted (ended u (handle_in (u.activity o))).handle (shrunk r h)
+  counted-lowered r u o h e c = subst (λ (a : Activity). IsCounted (ended u (handle_in a)).handle (shrunk r
+      h)) (sym e) (counted-ended u.handle r c h)
 
-  counted-then : (r : Replay V) (u : Situation) (s : Step V) (a : Answer V) (m : Machine V) → Deed r u s a m
-      → IsCounted u.handle r.machine → IsCounted (after u s a).handle m
-  counted-then r u s a m (clone_bears o h mark room) c = counted-born u.handle r.machine c o
-  counted-then r u s a m (raise_bears o settles room) c = counted-born u.handle r.machine c o
-  counted-then r u s a m (drop_ends o h mark) c = counted-ended u.handle r.machine c h
-  counted-then r u s a m (lower_ends o h e more) c = counted-lowered r u o h e c
-  counted-then r u s a m (lower_gives_up o h e last) c = counted-lowered r u o h e c
-  counted-then r u s a m (finds_alone o h only) c = counted-kept u.handle m c h _ refl
-  counted-then r u s a m (ends_write o h) c = counted-kept u.handle m c h _ refl
-  counted-then r u s a m (becomes_sole o h only) c = counted-kept u.handle m c h _ refl
-  counted-then r u s a m (shares o h) c = counted-kept u.handle m c h _ refl
-  counted-then r u s a m (lends o h to) c = counted-kept u.handle m c h _ refl
-  counted-then r u s a m (returns o h) c = counted-kept u.handle m c h _ refl
-  counted-then r u s a m (gives o h to) c = counted-kept u.handle m c h _ refl
-  counted-then r u s a m (marks o h) c = record { apart = c.apart; below = c.below; same = c.same }
-  counted-then r u s a m (writes o h v) c = record { apart = c.apart; below = c.below; same = c.same }
-  counted-then r u s a m _ c = c
+  counted-then : (r : Model V) (u : State) (s : Step V) (a : Answer V) (m : Model V) → Deed r u s a m
+      → IsCounted u.handle r → (sees : ℕ) → IsCounted (after sees u s a).handle m
+  counted-then r u s a m (clone_bears o h mark room) c sees = counted-born u.handle r c o
+  counted-then r u s a m (raise_bears o settles room) c sees = counted-born u.handle r c o
+  counted-then r u s a m (drop_ends o h mark) c sees = counted-ended u.handle r c h
+  counted-then r u s a m (lower_ends o h e more) c sees = counted-lowered r u o h e c
+  counted-then r u s a m (lower_gives_up o h e last) c sees = counted-lowered r u o h e c
+  counted-then r u s a m (finds_alone o h only) c sees = counted-kept u.handle m c h _ refl
+  counted-then r u s a m (ends_write o h) c sees = counted-kept u.handle m c h _ refl
+  counted-then r u s a m (becomes_sole o h only) c sees = counted-kept u.handle m c h _ refl
+  counted-then r u s a m (shares o h) c sees = counted-kept u.handle m c h _ refl
+  counted-then r u s a m (lends o h to) c sees = counted-kept u.handle m c h _ refl
+  counted-then r u s a m (returns o h) c sees = counted-kept u.handle m c h _ refl
+  counted-then r u s a m (gives o h to) c sees = counted-kept u.handle m c h _ refl
+  counted-then r u s a m (marks o h) c sees = record { apart = c.apart; below = c.below; same = c.same }
+  counted-then r u s a m (writes o h v) c sees = record { apart = c.apart; below = c.below; same = c.same }
+  counted-then r u s a m _ c sees = c
 
-  pub counted : (t : Trace V) → IsLegal t → IsCounted (situation t).handle (replay t).machine
+  pub counted : (t : Trace V) → IsLegal t → IsCounted (state t).handle (model t)
   counted (Open v n limit) legal =
       counted-born (λ h. unborn) (record { value = v; live = []; mark = false; births = 0; limit = limit })
       (record { apart = tt; below = λ h e. absurd (true≢false (sym e)); same = λ h. refl }) 0
   counted (Then t s Barred) legal = counted t legal.0
   counted (Then t s Memory) legal = counted t legal.0
-  counted (Then t s a) legal = counted-then (replay t) (situation t)
-      s a _ (happens t s a refl legal.1).deed (counted t legal.0)
+  counted (Then t s a) legal = counted-then (model t) (state t)
+      s a _ (happens t s a refl legal.1).deed (counted t legal.0) (length (model t).live)
 
-  -- the machine's live handles are those that the trace lets live, each once
+  -- the model's live handles are those that the trace lets live, each once
   pub live_handles_live : (t : Trace V) → IsLegal t → (h : ℕ)
-      → count_by (nat_eq h) (replay t).machine.live ≡ (if ((situation t).handle h).lives then 1 else 0)
-  live_handles_live t legal h = once h (replay t).machine.live (counted t legal).apart ∙ ap (λ b. if b then 1 else
+      → count_by (nat_eq h) (model t).live ≡ (if ((state t).handle h).lives then 1 else 0)
+  live_handles_live t legal h = once h (model t).live (counted t legal).apart ∙ ap (λ b. if b then 1 else
       0) ((counted t legal).same h)

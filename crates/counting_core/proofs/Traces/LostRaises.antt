@@ -1,68 +1,68 @@
 -- Why raises that lose are few. A clone in flight is stale if the live handles are no longer as many as it saw. A
 -- raise that loses makes one clone fewer stale, and a birth or an end at most those of the other owners.
 use Rattle.std.proofs.Common.{◌≡◌, ℕ, ◌+◌, ◌-◌, ◌*◌, ◌<◌, ◌≤◌, Bool, true, false, not}
-use Rattle.std.proofs.Common.{◌&&◌, if◌then◌else◌, nat_eq, length, refl, sym, ◌∙◌, ap, ap₂, arith}
+use Rattle.std.proofs.Common.{if◌then◌else◌, nat_eq, length, refl, sym, ◌∙◌, ap, ap₂, arith}
 use Rattle.std.proofs.Common.{true≢false, eqb-true, ltb-true, mul-add}
-use Rattle.std.proofs.lemmas.Bool.{and_parts, and_from, and_left, and_right, or_parts}
-use Rattle.counting_core.specs.declared.owner.Activity.{Activity}
-use Rattle.counting_core.specs.declared.owner.Activity.TheVariants.{Idle, Cloning, Dropping}
+use Rattle.std.proofs.lemmas.Bool.{and_parts, or_parts}
+use Rattle.counting_core.specs.declared.activity.Activity.{Activity}
+use Rattle.counting_core.specs.declared.activity.Activity.TheVariants.{Idle, Cloning, Dropping}
 use Rattle.counting_core.specs.declared.step.Step.{Step}
 use Rattle.counting_core.specs.declared.step.Step.TheVariants.{Clone, Raise, Drop, Lower}
 use Rattle.counting_core.specs.declared.step.Answer.{Answer}
 use Rattle.counting_core.specs.declared.step.Answer.TheVariants.{Born, Full, Pending, Ended, GivenUp, Memory, Barred}
 use Rattle.counting_core.specs.declared.step.Answer.TheVariants.{Quit as Quitted}
-use Rattle.counting_core.specs.Trace.{Trace, Open, Then, Situation, situation, owner_of, after, put}
+use Rattle.counting_core.specs.Trace.{Trace, Open, Then, State, owner_of, after, put}
 use Rattle.counting_core.specs.Permitted.{permitted_by}
-use Rattle.counting_core.specs.PlainMachine.{Machine}
-use Rattle.counting_core.specs.Legal.{Replay, replay, replay_after, IsLegal}
+use Rattle.counting_core.specs.ReferenceModel.{Model}
+use Rattle.counting_core.specs.Legal.{IsLegal, state, model}
 use Rattle.counting_core.specs.LostRaises.{is_lost_raise, is_change, how_many}
 use Rattle.counting_core.proofs.Traces.Deeds.{Deed, clone_reads, clone_bears, clone_full, raise_loses, raise_bears}
 use Rattle.counting_core.proofs.Traces.Deeds.{raise_full, quits, drop_reads, drop_ends, lower_ends, lower_gives_up}
-use Rattle.counting_core.proofs.Traces.LegalSteps.{Happens, happens, lived-kept}
+use Rattle.counting_core.proofs.Traces.LegalSteps.{Happens, happens}
 use Rattle.counting_core.proofs.Traces.HandleLists.{nat_eq-same}
-use Rattle.counting_core.proofs.Traces.InFlight.{begins}
-use Rattle.counting_core.proofs.Traces.NumberBelow.{number_below, number-le, number-less, number-none, number-all}
+use Rattle.counting_core.proofs.Traces.Activities.{raising, begins}
+use Rattle.counting_core.proofs.Traces.Places.{put-here, put-other}
+use Rattle.counting_core.specs.Represents.{number_below}
+use Rattle.counting_core.proofs.Traces.NumberBelow.{number-le, number-less, number-none, number-all}
 
-abbrev is_cloning : Activity → Bool
-is_cloning (Cloning h) = true
-is_cloning _ = false
+-- whether a clone in flight saw another number of live handles than there are now
+abbrev stale_by : ℕ → Activity → Bool
+stale_by live (Cloning h seen) = not (nat_eq live seen)
+stale_by live activity = false
 
--- an owner that is idle from now on has no clone that is stale
-idle-fresh : (u : Situation) (o : ℕ) (b : Bool) → (is_cloning (put u.activity o Idle o) && b) ≡ false
-idle-fresh u o b = ap (λ e. is_cloning (if e then Idle else u.activity o) && b) (nat_eq-same o)
+now : (u : State) (o live : ℕ) (c : Activity) → stale_by live c ≡ false → stale_by live (put u.activity o c o) ≡ false
+now u o live c e = ap (stale_by live) (put-here u.activity o c) ∙ e
 
 module _ {V : Type 0} where
-  -- whether an owner's clone in flight saw another number of live handles than there are now
-  abbrev stale_in : Situation → Replay V → ℕ → Bool
-  stale_in u r q = is_cloning (u.activity q) && not (nat_eq (length r.machine.live) (r.lived q))
-
   abbrev stale : Trace V → ℕ → Bool
-  stale t = stale_in (situation t) (replay t)
+  stale t q = stale_by (length (model t).live) ((state t).activity q)
 
   abbrev IsBounded : Trace V → Type 0
-  IsBounded t = how_many is_lost_raise t + number_below (stale t) (situation t).owners ≤ ((situation t).owners - 1)
+  IsBounded t = how_many is_lost_raise t + number_below (stale t) (state t).owners ≤ ((state t).owners - 1)
       * how_many is_change t
 
-  owners-kept : (u : Situation) (s : Step V) (a : Answer V) → (after u s a).owners ≡ u.owners
-  owners-kept u s (Born n) = refl
-  owners-kept u (Clone o h) a = refl
-  owners-kept u s a = refl
+  owners-kept : (sees : ℕ) (u : State) (s : Step V) (a : Answer V) → (after sees u s a).owners ≡ u.owners
+  owners-kept sees u s (Born n) = refl
+  owners-kept sees u (Clone o h) a = refl
+  owners-kept sees u s a = refl
 
-  pub activity-kept : (u : Situation) (s : Step V) (a : Answer V) (q : ℕ) → nat_eq (owner_of s) q ≡ false
-      → (after u s a).activity q ≡ u.activity q
-  activity-kept u s (Born n) q other = ap (λ b. if b then Idle else u.activity q) other
-  activity-kept u s Full q other = ap (λ b. if b then Idle else u.activity q) other
-  activity-kept u s Quitted q other = ap (λ b. if b then Idle else u.activity q) other
-  activity-kept u (Clone o h) Pending q other = ap (λ b. if b then Cloning h else u.activity q) other
-  activity-kept u (Drop o h) Pending q other = ap (λ b. if b then Dropping h else u.activity q) other
-  activity-kept u (Lower o) Ended q other = ap (λ b. if b then Idle else u.activity q) other
-  activity-kept u (Lower o) (GivenUp v) q other = ap (λ b. if b then Idle else u.activity q) other
-  activity-kept u (Clone o h) a q other = refl
-  activity-kept u s a q other = refl
+  -- a step is of its owner alone
+  pub activity-kept : (sees : ℕ) (u : State) (s : Step V) (a : Answer V) (q : ℕ) → nat_eq (owner_of s) q ≡ false
+      → (after sees u s a).activity q ≡ u.activity q
+  activity-kept sees u s (Born n) q other = put-other u.activity (owner_of s) Idle q other
+  activity-kept sees u s Full q other = put-other u.activity (owner_of s) Idle q other
+  activity-kept sees u s Quitted q other = put-other u.activity (owner_of s) Idle q other
+  activity-kept sees u (Clone o h) Pending q other = put-other u.activity o (Cloning h sees) q other
+  activity-kept sees u (Raise o) Pending q other = put-other u.activity o (Cloning _ sees) q other
+  activity-kept sees u (Drop o h) Pending q other = put-other u.activity o (Dropping h) q other
+  activity-kept sees u (Lower o) Ended q other = put-other u.activity o Idle q other
+  activity-kept sees u (Lower o) (GivenUp v) q other = put-other u.activity o Idle q other
+  activity-kept sees u (Clone o h) a q other = refl
+  activity-kept sees u s a q other = refl
 
   -- only a birth and an end change the number of live handles
-  live-kept : (r : Replay V) (u : Situation) (s : Step V) (a : Answer V) (m : Machine V) → Deed r u s a m
-      → is_change a s ≡ false → length m.live ≡ length r.machine.live
+  live-kept : (r : Model V) (u : State) (s : Step V) (a : Answer V) (m : Model V) → Deed r u s a m
+      → is_change a s ≡ false → length m.live ≡ length r.live
   live-kept r u s a m (clone_bears o h _ _) quiet = absurd (true≢false quiet)
   live-kept r u s a m (raise_bears o _ _) quiet = absurd (true≢false quiet)
   live-kept r u s a m (drop_ends o h _) quiet = absurd (true≢false quiet)
@@ -70,46 +70,35 @@ module _ {V : Type 0} where
   live-kept r u s a m (lower_gives_up o h _ _) quiet = absurd (true≢false quiet)
   live-kept r u s a m _ quiet = refl
 
-  -- an owner that has just read the word has no clone that is stale
-  read-fresh : (r : Replay V) (o : ℕ) (b : Bool)
-      → (b && not (nat_eq (length r.machine.live) (put r.lived o (length r.machine.live) o))) ≡ false
-  read-fresh r o b = and_right b _ (ap not (ap (λ e. nat_eq (length r.machine.live)
-      (if e then length r.machine.live else r.lived o)) (nat_eq-same o) ∙ nat_eq-same (length r.machine.live)))
-
-  -- so after a step its own owner has none
-  fresh : (r : Replay V) (u : Situation) (s : Step V) (a : Answer V) (m : Machine V) → Deed r u s a m
+  -- after a step its own owner has no clone that is stale: it has just read the word, or has none in flight
+  fresh : (r : Model V) (u : State) (s : Step V) (a : Answer V) (m : Model V) → Deed r u s a m
       → permitted_by u (u.activity (owner_of s)) s ≡ true
-      → stale_in (after u s a) (replay_after r u s a) (owner_of s) ≡ false
-  fresh r u s a m (clone_reads o h _ _) may = read-fresh r o _
-  fresh r u s a m (raise_loses o _) may = read-fresh r o _
-  fresh r u s a m (drop_reads o h _) may = read-fresh r o _
-  fresh r u s a m (clone_bears o h _ _) may = idle-fresh u o _
-  fresh r u s a m (clone_full o h _) may = idle-fresh u o _
-  fresh r u s a m (raise_bears o _ _) may = idle-fresh u o _
-  fresh r u s a m (raise_full o _) may = idle-fresh u o _
-  fresh r u s a m (quits o) may = idle-fresh u o _
-  fresh r u s a m (lower_ends o h _ _) may = idle-fresh u o _
-  fresh r u s a m (lower_gives_up o h _ _) may = idle-fresh u o _
-  fresh r u s a m _ may = and_left _ _ (ap is_cloning (begins u s _ may (λ _. refl) (λ _. refl)).0)
+      → stale_by (length m.live) ((after (length r.live) u s a).activity (owner_of s)) ≡ false
+  fresh r u s a m (clone_reads o h _ _) may = now u o _ (Cloning h (length r.live)) (ap not (nat_eq-same (length r.live)))
+  fresh r u s a m (raise_loses o _) may = now u o _ (Cloning _ (length r.live)) (ap not (nat_eq-same (length r.live)))
+  fresh r u s a m (drop_reads o h _) may = now u o _ (Dropping h) refl
+  fresh r u s a m (clone_bears o h _ _) may = now u o _ Idle refl
+  fresh r u s a m (clone_full o h _) may = now u o _ Idle refl
+  fresh r u s a m (raise_bears o _ _) may = now u o _ Idle refl
+  fresh r u s a m (raise_full o _) may = now u o _ Idle refl
+  fresh r u s a m (quits o) may = now u o _ Idle refl
+  fresh r u s a m (lower_ends o h _ _) may = now u o _ Idle refl
+  fresh r u s a m (lower_gives_up o h _ _) may = now u o _ Idle refl
+  fresh r u s a m _ may = ap (stale_by _) (begins u s _ may (λ _ _. refl) (λ _. refl)).0
 
   -- and the others are stale as before, if no handle was born or ended
   others : (t : Trace V) (s : Step V) (a : Answer V) → Happens t s a → is_change a s ≡ false → (q : ℕ)
       → nat_eq (owner_of s) q ≡ false → stale (Then t s a) q ≡ stale t q
   others t s a happened quiet q other =
-      ap₂ (λ c b. is_cloning c && not b) (activity-kept (situation t) s a q other)
-      (ap₂ nat_eq (live-kept (replay t) (situation t) s a _ happened.deed quiet) (lived-kept (replay t)
-      (situation t) s a q other))
+      ap₂ stale_by (live-kept (model t) (state t) s a _ happened.deed quiet)
+      (activity-kept (length (model t).live) (state t) s a q other)
 
   -- the clone of a raise that loses was stale
-  was-stale : (r : Replay V) (u : Situation) (s : Step V) (a : Answer V) (m : Machine V) → Deed r u s a m
-      → permitted_by u (u.activity (owner_of s))
-      s ≡ true → is_lost_raise a s ≡ true → stale_in u r (owner_of s) ≡ true
-  was-stale r u s a m (raise_loses o lost) may e = and_from _ _ (busy (u.activity o) may)
-      (ap not (or_parts _ _ (or_parts _ _ lost).1).1) where
-        busy : (c : Activity) → permitted_by {V = V} u c (Raise o) ≡ true → is_cloning c ≡ true
-        busy (Cloning h) may = refl
-        busy Idle may = absurd (true≢false (sym may))
-        busy (Dropping h) may = absurd (true≢false (sym may))
+  was-stale : (r : Model V) (u : State) (s : Step V) (a : Answer V) (m : Model V) → Deed r u s a m
+      → permitted_by u (u.activity (owner_of s)) s ≡ true → is_lost_raise a s ≡ true
+      → stale_by (length r.live) (u.activity (owner_of s)) ≡ true
+  was-stale r u s a m (raise_loses o lost) may e =
+      ap (stale_by (length r.live)) (raising V u o _ may) ∙ ap not (or_parts _ _ (or_parts _ _ lost).1).1
   was-stale r u s a m _ may e = absurd (true≢false (sym e))
 
   -- a birth and an end are no raise that loses
@@ -119,16 +108,16 @@ module _ {V : Type 0} where
 
   -- each step that takes effect keeps the bound
   bounded-then : (t : Trace V) (s : Step V) (a : Answer V) → Happens t s a → IsBounded t → IsBounded (Then t s a)
-  bounded-then t s a happened so_far = rw (owners-kept (situation t) s a) (by_answer (is_change a s)
+  bounded-then t s a happened so_far = rw (owners-kept (length (model t).live) (state t) s a) (by_answer (is_change a s)
       refl (is_lost_raise a s) refl) where
         n : ℕ
-        n = (situation t).owners
+        n = (state t).owners
 
         within : owner_of s < n
         within = ltb-true (owner_of s) n (and_parts _ _ happened.permitted).0
 
         own : stale (Then t s a) (owner_of s) ≡ false
-        own = fresh (replay t) (situation t) s a _ happened.deed happened.by_activity
+        own = fresh (model t) (state t) s a _ happened.deed happened.by_activity
 
         fewer : is_change a s ≡ false → (q : ℕ) → stale (Then t s a) q ≡ true → stale t q ≡ true
         fewer quiet q e = by_owner (nat_eq (owner_of s) q) refl where
@@ -150,7 +139,7 @@ module _ {V : Type 0} where
             omega arith
         by_answer false changed true lost =
             let few : number_below (stale (Then t s a)) n + 1 ≤ number_below (stale t) n =
-            rw (was-stale (replay t) (situation t) s a _ happened.deed happened.by_activity lost)
+            rw (was-stale (model t) (state t) s a _ happened.deed happened.by_activity lost)
             at (number-less (stale (Then t s a)) (stale t) (fewer changed) (owner_of s) own n within) in
             omega arith
         by_answer false changed false lost =
@@ -167,5 +156,5 @@ module _ {V : Type 0} where
 
   -- so raises that lose are few
   pub lost_raises_are_bounded : (t : Trace V) → IsLegal t
-      → how_many is_lost_raise t ≤ ((situation t).owners - 1) * how_many is_change t
+      → how_many is_lost_raise t ≤ ((state t).owners - 1) * how_many is_change t
   lost_raises_are_bounded t legal = let all : IsBounded t = bounded t legal in omega arith

@@ -1,12 +1,12 @@
--- The mark of a trace's machine.
+-- The mark of a trace's model.
 use Rattle.std.proofs.Common.{◌≡◌, true, false, ◌||◌, refl, sym, ◌∙◌, ap, true≢false}
 use Rattle.std.proofs.lemmas.Bool.{or_right, false_from_ne_true}
 use Rattle.counting_core.specs.declared.step.Step.{Step}
 use Rattle.counting_core.specs.declared.step.Answer.{Answer}
 use Rattle.counting_core.specs.declared.step.Answer.TheVariants.{Memory, Barred}
-use Rattle.counting_core.specs.Trace.{Trace, Open, Then, Situation, situation}
-use Rattle.counting_core.specs.PlainMachine.{Machine}
-use Rattle.counting_core.specs.Legal.{Replay, replay, IsLegal}
+use Rattle.counting_core.specs.Trace.{Trace, Open, Then, State}
+use Rattle.counting_core.specs.ReferenceModel.{Model}
+use Rattle.counting_core.specs.Legal.{IsLegal, state, model}
 use Rattle.counting_core.specs.Laws.{has_mark, some_answer, is_marked_answer, is_given_up}
 use Rattle.counting_core.proofs.Traces.Deeds.{Deed, marks}
 use Rattle.counting_core.proofs.Traces.LegalSteps.{happens}
@@ -14,18 +14,18 @@ use Rattle.counting_core.proofs.Traces.GivenUp.{given-up}
 
 module _ {V : Type 0} where
   -- a step marks if it is answered Marked
-  mark-then : (r : Replay V) (u : Situation) (s : Step V) (a : Answer V) (m : Machine V) → Deed r u s a m
-      → m.mark ≡ (is_marked_answer a || r.machine.mark)
+  mark-then : (r : Model V) (u : State) (s : Step V) (a : Answer V) (m : Model V) → Deed r u s a m
+      → m.mark ≡ (is_marked_answer a || r.mark)
   mark-then r u s a m (marks o h) = refl
   mark-then r u s a m _ = refl
 
-  -- a machine is marked if some answer was Marked
+  -- a model is marked if some answer was Marked
   pub marked_if_answered : (t : Trace V) → IsLegal t → has_mark t ≡ some_answer is_marked_answer t
   marked_if_answered (Open v n limit) legal = refl
   marked_if_answered (Then t s Barred) legal = marked_if_answered t legal.0
   marked_if_answered (Then t s Memory) legal = marked_if_answered t legal.0
   marked_if_answered (Then t s a) legal =
-      mark-then (replay t) (situation t)
+      mark-then (model t) (state t)
       s a _ (happens t s a refl legal.1).deed ∙ ap (λ b. is_marked_answer a || b) (marked_if_answered t legal.0)
 
   -- a marked block stays marked, and its value is not given up

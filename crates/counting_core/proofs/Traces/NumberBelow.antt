@@ -1,17 +1,15 @@
 -- How many of the numbers below a bound pass a test.
 use Rattle.std.proofs.Common.{◌≡◌, ◌≢◌, ℕ, zero, suc, ◌+◌, ◌<◌, ◌≤◌, Bool, true, false, not}
 use Rattle.std.proofs.Common.{◌&&◌, ◌||◌, if◌then◌else◌, nat_eq, List, [], ◌∷◌, length, take}
-use Rattle.std.proofs.Common.{get_or, count_by, refl, sym, ◌∙◌, ap, ap₂, arith, true≢false, eqb-true, ne_eqb}
+use Rattle.std.proofs.Common.{get_or, count_by, refl, sym, ◌∙◌, ap, ap₂, arith, true≢false, eqb-true, ne_eqb, subst}
 use Rattle.std.proofs.Common.{add-one}
 use Rattle.std.proofs.lemmas.Bool.{and_parts, eqb-false, not-true}
 use Rattle.std.proofs.lemmas.List.Sums.{count_by_more_yes, count_by_more_no}
-use Rattle.counting_core.specs.PlainMachine.{without}
+use Rattle.counting_core.specs.ReferenceModel.{without}
 use Rattle.counting_core.proofs.Traces.HandleLists.{has, IsApart, nat_eq-same, has-without, length-without}
 use Rattle.counting_core.proofs.Traces.HandleLists.{apart-without}
-
-abbrev pub number_below : (ℕ → Bool) → ℕ → ℕ
-number_below f zero = 0
-number_below f (suc n) = (if f n then 1 else 0) + number_below f n
+use Rattle.counting_core.specs.Trace.{put}
+use Rattle.counting_core.specs.Represents.{number_below}
 
 -- no more pass a stricter test
 pub number-le : (f g : ℕ → Bool) → ((q : ℕ) → f q ≡ true → g q ≡ true) → (n : ℕ)
@@ -122,3 +120,42 @@ number-count_by p d xs (suc n) le = by_last (p (get_or xs n d)) refl (number-cou
       let next : count_by p (take (n + 1) xs) ≡ count_by p (take (suc n) xs) = ap (λ k. count_by p (take k xs))
       (add-one n) in
       omega arith
+
+-- a test that answers the same below the bound passes as many
+number-same : (f g : ℕ → Bool) (n : ℕ) → ((q : ℕ) → q < n → f q ≡ g q) → number_below f n ≡ number_below g n
+number-same f g zero same = refl
+number-same f g (suc n) same =
+    ap₂ (λ b k. (if b then 1 else 0) + k) (same n (omega arith))
+    (number-same f g n (λ q lt. same q (omega arith)))
+
+abbrev pub one_if : Bool → ℕ
+one_if b = if b then 1 else 0
+
+-- how many pass when one place changed
+pub number-put : {A : Type 0} (p : A → Bool) (f : ℕ → A) (o : ℕ) (y : A) (n : ℕ) → o < n
+    → number_below (λ q. p (put f o y q)) n + one_if (p (f o)) ≡ number_below (λ q. p (f q)) n + one_if (p y)
+number-put p f o y zero lt = absurd (omega arith)
+number-put p f o y (suc n) lt = at (nat_eq o n) refl (number-put p f o y n) where
+  at : (b : Bool) → nat_eq o n ≡ b
+      → (o < n → number_below (λ q. p (put f o y q)) n + one_if (p (f o))
+      ≡ number_below (λ q. p (f q)) n + one_if (p y))
+      → (one_if (p (if b then y else f n)) + number_below (λ q. p (put f o y q)) n) + one_if (p (f o))
+      ≡ (one_if (p (f n)) + number_below (λ q. p (f q)) n) + one_if (p y)
+  at true e rest =
+      let is : o ≡ n = eqb-true o n e in
+      let others : number_below (λ q. p (put f o y q)) n ≡ number_below (λ q. p (f q)) n =
+      number-same (λ q. p (put f o y q)) (λ q. p (f q)) n (λ q lt. ap (λ b. p (if b then y else f q))
+      (ne_eqb o q (λ i. let same : q ≡ n = sym i ∙ is in absurd (omega arith)))) in
+      let here : one_if (p (f o)) ≡ one_if (p (f n)) = ap (λ k. one_if (p (f k))) is in
+      omega arith
+  at false e rest =
+      let apart : o ≢ n = eqb-false o n e in
+      let so : number_below (λ q. p (put f o y q)) n + one_if (p (f o))
+      ≡ number_below (λ q. p (f q)) n + one_if (p y) = rest (omega arith) in
+      omega arith
+
+-- at least one passes if this one does
+pub number-some : (f : ℕ → Bool) (o n : ℕ) → f o ≡ true → o < n → 1 ≤ number_below f n
+number-some f o n e lt = subst (λ b. one_if b ≤ number_below f n) e
+    (let more : number_below (λ q. false) n + one_if (f o) ≤ number_below f n =
+    number-less (λ q. false) f (λ q e. absurd (true≢false (sym e))) o refl n lt in omega arith)

@@ -4,29 +4,30 @@ use Rattle.std.proofs.Common.{◌∷◌, length, if◌then◌else◌, refl, sym,
 use Rattle.std.proofs.Common.{true≢false, eqb-true, eq-eqb}
 use Rattle.std.specs.List.{list_any}
 use Rattle.std.proofs.lemmas.Bool.{and_parts, not-true}
-use Rattle.counting_core.specs.declared.handle.Access.{Access}
-use Rattle.counting_core.specs.declared.handle.Access.TheVariants.{Shared as SharedAccess, Written, Sole as SoleAccess}
-use Rattle.counting_core.specs.declared.owner.Activity.{Activity}
-use Rattle.counting_core.specs.declared.owner.Activity.TheVariants.{Idle, Cloning, Dropping}
+use Rattle.counting_core.specs.declared.handle_entry.Access.{Access}
+use Rattle.counting_core.specs.declared.handle_entry.Access.TheVariants.{Shared as SharedAccess, Written, Sole as SoleAccess}
+use Rattle.counting_core.specs.declared.activity.Activity.{Activity}
+use Rattle.counting_core.specs.declared.activity.Activity.TheVariants.{Dropping}
 use Rattle.counting_core.specs.declared.step.Step.{Step}
 use Rattle.counting_core.specs.declared.step.Step.TheVariants.{Raise, Drop, Lower, Mark, IntoUnique, Lend, Return}
 use Rattle.counting_core.specs.declared.step.Answer.{Answer}
 use Rattle.counting_core.specs.declared.step.Answer.TheVariants.{Pending, Ended, GivenUp, Memory, Barred}
-use Rattle.counting_core.specs.Trace.{Trace, Open, Then, HandleState, unborn, newborn, lent_to, returned_by, Situation}
-use Rattle.counting_core.specs.Trace.{situation, owner_of, after, dropped_by, ended, put}
+use Rattle.counting_core.specs.Trace.{Trace, Open, Then, HandleState, unborn, newborn, lent_to, returned_by, State, handle_in}
+use Rattle.counting_core.specs.Trace.{owner_of, after, handle_in, ended, put}
 use Rattle.counting_core.specs.Permitted.{is_shared, is_sole, is_lent_to, has_alone, may_use, permitted, permitted_by}
-use Rattle.counting_core.specs.PlainMachine.{Machine, Ends, opened, is_only}
-use Rattle.counting_core.specs.Legal.{Replay, replay, Visible, Silent, outcome, due, IsLegal}
+use Rattle.counting_core.specs.ReferenceModel.{Model, Ends, opened, is_only}
+use Rattle.counting_core.specs.Legal.{Visible, Internal, outcome, expected, IsLegal, state, model}
 use Rattle.counting_core.specs.Laws.{live_handles, has_mark, IsSole}
 use Rattle.counting_core.proofs.Traces.HandleLists.{has}
 use Rattle.counting_core.proofs.Traces.Places.{put-all}
 use Rattle.counting_core.proofs.Traces.Deeds.{Deed, clone_bears, raise_bears, drop_ends, lower_ends, lower_gives_up}
 use Rattle.counting_core.proofs.Traces.Deeds.{marks, finds_alone, writes, ends_write, becomes_sole, shares, lends}
 use Rattle.counting_core.proofs.Traces.Deeds.{returns, gives}
-use Rattle.counting_core.proofs.Traces.LegalSteps.{Happens, happens, due-by}
+use Rattle.counting_core.proofs.Traces.LegalSteps.{Happens, happens, expected-by}
 use Rattle.counting_core.proofs.Traces.LiveHandles.{IsCounted, counted}
-use Rattle.counting_core.proofs.Traces.GivenUp.{dropped-lives}
-use Rattle.counting_core.proofs.Traces.InFlight.{AllFit, Fits, all_fit, begins}
+use Rattle.counting_core.proofs.Traces.InFlight.{AllFit, Fits, all_fit, dropped-lives}
+use Rattle.counting_core.proofs.Traces.Activities.{raising, lowering, begins}
+use Rattle.counting_core.specs.Trace.{handle_in}
 
 -- a list of one handle is that handle
 one-is : (h : ℕ) (xs : List ℕ) → length xs ≡ 1 → has h xs ≡ true → xs ≡ h ∷ []
@@ -53,28 +54,27 @@ lent-some : (k : HandleState) (o : ℕ) → length k.borrowers ≡ 0 → is_lent
 lent-some k o none = ap (list_any (nat_eq o)) (none-is k.borrowers none)
 
 -- the handle of a clone in flight is shared
-cloning-shared : (V : Type 0) (u : Situation) → AllFit u → (o : ℕ) (a : Activity) → u.activity o ≡ a
-    → permitted_by {V = V} u a (Raise o) ≡ true
+cloning-shared : (V : Type 0) (u : State) → AllFit u → (o : ℕ)
+    → permitted_by {V = V} u (u.activity o) (Raise o) ≡ true
     → (k : ℕ) × ((u.handle k).lives ≡ true) × (is_shared (u.handle k).access ≡ true)
-cloning-shared V u fit o (Cloning k) e may =
-    let uses : may_use (u.handle k) o ≡ true = subst (Fits u.handle o) e (fit o) in
+cloning-shared V u fit o may =
+    let k : ℕ = handle_in (u.activity o) in
+    let uses : may_use (u.handle k) o ≡ true = subst (Fits u.handle o) (raising V u o _ may) (fit o) in
     (k, (and_parts _ _ uses).0, (and_parts _ _ (and_parts _ _ uses).1).1)
-cloning-shared V u fit o Idle e may = absurd (true≢false (sym may))
-cloning-shared V u fit o (Dropping k) e may = absurd (true≢false (sym may))
 
 module _ {V : Type 0} where
   -- if the handle lives and is sole, no other lives, and it is lent to nobody
-  abbrev IsAloneIfSole : Machine V → ℕ → HandleState → Type 0
+  abbrev IsAloneIfSole : Model V → ℕ → HandleState → Type 0
   IsAloneIfSole m h k = k.lives ≡ true → is_sole k.access ≡ true → (is_only m h ≡ true)
       × (length k.borrowers ≡ 0)
 
-  abbrev SolesAreAlone : (ℕ → HandleState) → Machine V → Type 0
+  abbrev SolesAreAlone : (ℕ → HandleState) → Model V → Type 0
   SolesAreAlone hs m = (h : ℕ) → IsAloneIfSole m h (hs h)
 
-  not-sole : (m : Machine V) (h : ℕ) (k : HandleState) → is_sole k.access ≡ false → IsAloneIfSole m h k
+  not-sole : (m : Model V) (h : ℕ) (k : HandleState) → is_sole k.access ≡ false → IsAloneIfSole m h k
   not-sole m h k other = λ lives sole. absurd (true≢false (sym sole ∙ other))
 
-  module _ (hs : ℕ → HandleState) (m : Machine V) (c : IsCounted hs m) (was : SolesAreAlone hs m) where
+  module _ (hs : ℕ → HandleState) (m : Model V) (c : IsCounted hs m) (was : SolesAreAlone hs m) where
     -- a live handle beside a sole one is that one
     only-live : (h k : ℕ) → (hs h).lives ≡ true → is_sole (hs h).access ≡ true → (hs k).lives ≡ true
         → k ≡ h
@@ -105,73 +105,73 @@ module _ {V : Type 0} where
     alone-not_sole : (h : ℕ) (k : HandleState) → is_sole k.access ≡ false → SolesAreAlone (put hs h k) m
     alone-not_sole h k other = alone-put h k (not-sole m h k other)
 
-    -- if there is no other sole handle, the machine may change too
-    alone-only : (n : Machine V) (h : ℕ) (k : HandleState) → IsAloneIfSole n h k
+    -- if there is no other sole handle, the model may change too
+    alone-only : (n : Model V) (h : ℕ) (k : HandleState) → IsAloneIfSole n h k
         → ((g : ℕ) → nat_eq h g ≡ false → (hs g).lives ≡ true → is_sole (hs g).access ≡ true → ⊥)
         → SolesAreAlone (put hs h k) n
     alone-only n h k here none = put-all hs h k (IsAloneIfSole n)
         here (λ g other lives sole. absurd (none g other lives sole))
 
     -- the end of a live handle
-    alone-ended : (n : Machine V) (h : ℕ) → (hs h).lives ≡ true → SolesAreAlone (put hs h (record (hs h)
+    alone-ended : (n : Model V) (h : ℕ) → (hs h).lives ≡ true → SolesAreAlone (put hs h (record (hs h)
         { lives = false })) n
     alone-ended n h lives =
         alone-only n h (record (hs h) { lives = false }) (λ dead _. absurd (true≢false (sym dead)))
         (λ g other alive sole. true≢false (sym (eq-eqb h g (only-live g h alive sole lives)) ∙ other))
 
-  alone-lowered : (r : Replay V) (u : Situation) (o h : ℕ) (n : Machine V) → u.activity o ≡ Dropping h
-      → IsCounted u.handle r.machine → AllFit u → SolesAreAlone u.handle r.machine
-      → SolesAreAlone (ended u (dropped_by (u.activity o))).handle n
+  alone-lowered : (r : Model V) (u : State) (o h : ℕ) (n : Model V) → u.activity o ≡ Dropping h
+      → IsCounted u.handle r → AllFit u → SolesAreAlone u.handle r
+      → SolesAreAlone (ended u (handle_in (u.activity o))).handle n
   alone-lowered r u o h n e c fit was =
-      subst (λ (a : Activity). SolesAreAlone (ended u (dropped_by a)).handle n) (sym e)
-      (alone-ended u.handle r.machine c was n h (dropped-lives u fit o h e))
+      subst (λ (a : Activity). SolesAreAlone (ended u (handle_in a)).handle n) (sym e)
+      (alone-ended u.handle r c was n h (dropped-lives u fit o h e))
 
-  alone-then : (r : Replay V) (u : Situation) (s : Step V) (a : Answer V) (m : Machine V) → Deed r u s a m
-      → permitted_by u (u.activity (owner_of s)) s ≡ true → IsCounted u.handle r.machine → AllFit u
-      → SolesAreAlone u.handle r.machine → SolesAreAlone (after u s a).handle m
-  alone-then r u s a m (clone_bears o h mark room) may c fit was =
-      alone-only u.handle r.machine c was m r.machine.births (newborn o) (not-sole m r.machine.births (newborn o) refl)
-      (λ g _. none-marked u.handle r.machine c was mark g)
-  alone-then r u s a m (raise_bears o settles room) may c fit was =
+  alone-then : (r : Model V) (u : State) (s : Step V) (a : Answer V) (m : Model V) → Deed r u s a m
+      → permitted_by u (u.activity (owner_of s)) s ≡ true → IsCounted u.handle r → AllFit u
+      → SolesAreAlone u.handle r → (sees : ℕ) → SolesAreAlone (after sees u s a).handle m
+  alone-then r u s a m (clone_bears o h mark room) may c fit was sees =
+      alone-only u.handle r c was m r.births (newborn o) (not-sole m r.births (newborn o) refl)
+      (λ g _. none-marked u.handle r c was mark g)
+  alone-then r u s a m (raise_bears o settles room) may c fit was sees =
       let clone : (k : ℕ) × ((u.handle k).lives ≡ true) × (is_shared (u.handle k).access ≡ true)
-      = cloning-shared V u fit o (u.activity o) refl may in
-      alone-only u.handle r.machine c was m r.machine.births (newborn o) (not-sole m r.machine.births (newborn o) refl)
-      (λ g _. none-beside u.handle r.machine c was clone.0 clone.1 clone.2 g)
-  alone-then r u s a m (drop_ends o h mark) may c fit was =
-      alone-only u.handle r.machine c was m h (record (u.handle h) { lives = false })
-      (λ dead _. absurd (true≢false (sym dead))) (λ g _. none-marked u.handle r.machine c was mark g)
-  alone-then r u s a m (lower_ends o h e more) may c fit was = alone-lowered r u o h m e c fit was
-  alone-then r u s a m (lower_gives_up o h e last) may c fit was = alone-lowered r u o h m e c fit was
-  alone-then r u s a m (marks o h) may c fit was =
-      let uses : may_use (u.handle h) o ≡ true = (begins u (Mark o h) _ may (λ _. refl) (λ _. refl)).1 in
-      λ g lives sole. absurd (none-beside u.handle r.machine c was h (and_parts _ _ uses).0 (and_parts _ _
+      = cloning-shared V u fit o may in
+      alone-only u.handle r c was m r.births (newborn o) (not-sole m r.births (newborn o) refl)
+      (λ g _. none-beside u.handle r c was clone.0 clone.1 clone.2 g)
+  alone-then r u s a m (drop_ends o h mark) may c fit was sees =
+      alone-only u.handle r c was m h (record (u.handle h) { lives = false })
+      (λ dead _. absurd (true≢false (sym dead))) (λ g _. none-marked u.handle r c was mark g)
+  alone-then r u s a m (lower_ends o h e more) may c fit was sees = alone-lowered r u o h m e c fit was
+  alone-then r u s a m (lower_gives_up o h e last) may c fit was sees = alone-lowered r u o h m e c fit was
+  alone-then r u s a m (marks o h) may c fit was sees =
+      let uses : may_use (u.handle h) o ≡ true = (begins u (Mark o h) _ may (λ _ _. refl) (λ _. refl)).1 in
+      λ g lives sole. absurd (none-beside u.handle r c was h (and_parts _ _ uses).0 (and_parts _ _
       (and_parts _ _ uses).1).1 g lives sole)
   alone-then r u s a m (finds_alone o h only)
-      may c fit was = alone-not_sole u.handle r.machine c was h (record (u.handle h) { access = Written }) refl
+      may c fit was sees = alone-not_sole u.handle r c was h (record (u.handle h) { access = Written }) refl
   alone-then r u s a m (ends_write o h)
-      may c fit was = alone-not_sole u.handle r.machine c was h (record (u.handle h) { access = SharedAccess }) refl
-  alone-then r u s a m (shares o h) may c fit was = alone-not_sole u.handle r.machine c was h (record (u.handle h)
+      may c fit was sees = alone-not_sole u.handle r c was h (record (u.handle h) { access = SharedAccess }) refl
+  alone-then r u s a m (shares o h) may c fit was sees = alone-not_sole u.handle r c was h (record (u.handle h)
       { access = SharedAccess }) refl
-  alone-then r u s a m (becomes_sole o h only) may c fit was =
-      let own : has_alone (u.handle h) o ≡ true = (and_parts _ _ (begins u (IntoUnique o h) _ may (λ _. refl)
+  alone-then r u s a m (becomes_sole o h only) may c fit was sees =
+      let own : has_alone (u.handle h) o ≡ true = (and_parts _ _ (begins u (IntoUnique o h) _ may (λ _ _. refl)
       (λ _. refl)).1).0 in
-      alone-put u.handle r.machine c was h (record (u.handle h) { access = SoleAccess })
+      alone-put u.handle r c was h (record (u.handle h) { access = SoleAccess })
       (λ _ _. (only, eqb-true _ 0 (and_parts _ _ own).1))
-  alone-then r u s a m (lends o h to) may c fit was =
-      let lend : _ = (begins u (Lend o h to) _ may (λ _. refl) (λ _. refl)).1 in
-      alone-not_sole u.handle r.machine c was h (lent_to (u.handle h) to)
+  alone-then r u s a m (lends o h to) may c fit was sees =
+      let lend : _ = (begins u (Lend o h to) _ may (λ _ _. refl) (λ _. refl)).1 in
+      alone-not_sole u.handle r c was h (lent_to (u.handle h) to)
       (shared-not_sole (u.handle h).access (and_parts _ _ (and_parts _ _ lend).1).0)
-  alone-then r u s a m (returns o h) may c fit was =
-      let lent : is_lent_to (u.handle h) o ≡ true = (and_parts _ _ (begins u (Return o h) _ may (λ _. refl)
+  alone-then r u s a m (returns o h) may c fit was sees =
+      let lent : is_lent_to (u.handle h) o ≡ true = (and_parts _ _ (begins u (Return o h) _ may (λ _ _. refl)
       (λ _. refl)).1).1 in
-      alone-put u.handle r.machine c was h (returned_by (u.handle h) o)
+      alone-put u.handle r c was h (returned_by (u.handle h) o)
       (λ lives sole. absurd (true≢false (sym lent ∙ lent-some (u.handle h) o (was h lives sole).1)))
-  alone-then r u s a m (gives o h to) may c fit was = alone-put u.handle r.machine c was h (record (u.handle h)
+  alone-then r u s a m (gives o h to) may c fit was sees = alone-put u.handle r c was h (record (u.handle h)
       { holder = to }) (was h)
-  alone-then r u s a m (writes o h v) may c fit was = was
-  alone-then r u s a m _ may c fit was = was
+  alone-then r u s a m (writes o h v) may c fit was sees = was
+  alone-then r u s a m _ may c fit was sees = was
 
-  soles_are_alone : (t : Trace V) → IsLegal t → SolesAreAlone (situation t).handle (replay t).machine
+  soles_are_alone : (t : Trace V) → IsLegal t → SolesAreAlone (state t).handle (model t)
   soles_are_alone (Open v n limit) legal =
       put-all (λ h. unborn) 0 (newborn 0) (IsAloneIfSole (opened v limit)) (not-sole (opened v limit) 0 (newborn 0)
       refl) (λ g _. not-sole (opened v limit) g unborn refl)
@@ -179,14 +179,14 @@ module _ {V : Type 0} where
   soles_are_alone (Then t s Memory) legal = soles_are_alone t legal.0
   soles_are_alone (Then t s a) legal =
       let h : Happens t s a = happens t s a refl legal.1 in
-      alone-then (replay t) (situation t) s a _ h.deed h.by_activity (counted t legal.0) (all_fit t legal.0)
-      (soles_are_alone t legal.0)
+      alone-then (model t) (state t) s a _ h.deed h.by_activity (counted t legal.0) (all_fit t legal.0)
+      (soles_are_alone t legal.0) (length (model t).live)
 
   -- while a handle is sole, no other lives, the block is unmarked, and the handle is lent to nobody
   pub sole_is_only : (t : Trace V) (h : ℕ) → IsLegal t → IsSole t h
-      → (live_handles t ≡ h ∷ []) × (has_mark t ≡ false) × (((situation t).handle h).borrowers ≡ [])
+      → (live_handles t ≡ h ∷ []) × (has_mark t ≡ false) × (((state t).handle h).borrowers ≡ [])
   sole_is_only t h legal sole =
-      let alone : (is_only (replay t).machine h ≡ true) × (length ((situation t).handle h).borrowers ≡ 0)
+      let alone : (is_only (model t) h ≡ true) × (length ((state t).handle h).borrowers ≡ 0)
       = soles_are_alone t legal h sole.lives sole.sole in
       let parts : (not (has_mark t) ≡ true) × ((nat_eq (length (live_handles t)) 1 && has h (live_handles t))
       ≡ true) = and_parts _ _ alone.0 in
@@ -195,32 +195,31 @@ module _ {V : Type 0} where
         one-is h (live_handles t) (eqb-true (length (live_handles t)) 1 live.0) live.1,
         not-true (has_mark t)
             parts.0,
-        none-is ((situation t).handle h).borrowers alone.1,
+        none-is ((state t).handle h).borrowers alone.1,
       )
 
   -- its drop is in flight after its read, and gives the value up by its lower
   pub sole_drop_gives_up : (t : Trace V) (o h : ℕ) → IsLegal t → IsSole t h
-      → (permitted {V = V} (situation t) (Drop o h) ≡ true → due t (Drop o h) ≡ Pending)
-      × (permitted {V = V} (situation t) (Lower o) ≡ true → due t (Lower o) ≡ GivenUp (replay t).machine.value)
+      → (permitted {V = V} (state t) (Drop o h) ≡ true → expected t (Drop o h) ≡ Pending)
+      × (permitted {V = V} (state t) (Lower o) ≡ true → expected t (Lower o) ≡ GivenUp (model t).value)
   sole_drop_gives_up t o h legal sole = (reads, lowers) where
-    reads : permitted {V = V} (situation t) (Drop o h) ≡ true → due t (Drop o h) ≡ Pending
+    reads : permitted {V = V} (state t) (Drop o h) ≡ true → expected t (Drop o h) ≡ Pending
     reads may =
-        due-by t (Drop o h) true may
-        ∙ ap (λ b. (outcome (replay t).machine (if b then Visible (Ends h) else Silent Pending)).0)
+        expected-by t (Drop o h) true may
+        ∙ ap (λ b. (outcome (model t) (if b then Visible (Ends h) else Internal Pending)).0)
         (sole_is_only t h legal sole).1
 
-    last : (a : Activity) → (situation t).activity o ≡ a → permitted_by {V = V} (situation t) a (Lower o)
-        ≡ true → is_only (replay t).machine (dropped_by a) ≡ true
-    last (Dropping k) e may =
-        let same : k ≡ h = only-live (situation t).handle (replay t).machine (counted t legal)
-        (soles_are_alone t legal) h k sole.lives sole.sole (dropped-lives (situation t) (all_fit t legal) o k e) in
-        ap (is_only (replay t).machine) same ∙ (soles_are_alone t legal h sole.lives sole.sole).0
-    last Idle e may = absurd (true≢false (sym may))
-    last (Cloning k) e may = absurd (true≢false (sym may))
+    last : permitted {V = V} (state t) (Lower o) ≡ true → is_only (model t) (handle_in ((state t).activity o)) ≡ true
+    last may =
+        let k : ℕ = handle_in ((state t).activity o) in
+        let e : (state t).activity o ≡ Dropping k = lowering V (state t) o ((state t).activity o)
+        (and_parts (nat_lt o (state t).owners) (permitted_by {V = V} (state t) ((state t).activity o) (Lower o))
+        may).1 in
+        let same : k ≡ h = only-live (state t).handle (model t) (counted t legal) (soles_are_alone t legal) h k
+        sole.lives sole.sole (dropped-lives (state t) (all_fit t legal) o k e) in
+        ap (is_only (model t)) same ∙ (soles_are_alone t legal h sole.lives sole.sole).0
 
-    lowers : permitted {V = V} (situation t) (Lower o) ≡ true → due t (Lower o) ≡ GivenUp (replay t).machine.value
+    lowers : permitted {V = V} (state t) (Lower o) ≡ true → expected t (Lower o) ≡ GivenUp (model t).value
     lowers may =
-        due-by t (Lower o) true may
-        ∙ ap (λ b. if b then GivenUp (replay t).machine.value else Ended) (last ((situation t).activity o)
-        refl (and_parts (nat_lt o (situation t).owners) (permitted_by {V = V} (situation t)
-        ((situation t).activity o) (Lower o)) may).1)
+        expected-by t (Lower o) true may
+        ∙ ap (λ b. if b then GivenUp (model t).value else Ended) (last may)

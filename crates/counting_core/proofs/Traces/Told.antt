@@ -9,11 +9,11 @@ use Rattle.counting_word.specs.WordSteps.{WordStep, raises_from}
 use Rattle.counting_word.specs.Tallies.{Tally, first, has_exactly, one_more, after_read, tally_after, MayMake}
 use Rattle.counting_word.specs.Tallies.{IsRun, tally_of}
 use Rattle.counting_word.proofs.Tallies.{run-more, tally-more}
-use Rattle.counting_core.specs.declared.owner.Activity.{Activity}
-use Rattle.counting_core.specs.Trace.{Trace, Situation, situation, limit_of, put, dropped_by}
+use Rattle.counting_core.specs.declared.activity.Activity.{Activity}
+use Rattle.counting_core.specs.Trace.{Trace, State, limit_of, put, handle_in}
 use Rattle.counting_core.specs.Permitted.{has_alone}
-use Rattle.counting_core.specs.PlainMachine.{Machine, without}
-use Rattle.counting_core.specs.Legal.{replay, IsLegal}
+use Rattle.counting_core.specs.ReferenceModel.{Model, without}
+use Rattle.counting_core.specs.Legal.{IsLegal, state, model}
 use Rattle.counting_core.specs.Represents.{is_dropping}
 use Rattle.counting_core.specs.TraceLogs.{log_of}
 use Rattle.counting_core.proofs.Traces.Places.{put-all}
@@ -24,32 +24,32 @@ use Rattle.counting_core.proofs.Traces.Drops.{mapped-length, alone-alone, Has, h
 use Rattle.counting_core.proofs.Traces.Drops.{AreDropping}
 
 module _ {V : Type 0} where
-  abbrev pub tally : Machine V → List ℕ → Tally
+  abbrev pub tally : Model V → List ℕ → Tally
   tally m ds = record { handles = length m.live - length ds; drops = length ds; mark = m.mark }
 
-  pub record Told (limit : ℕ) (u : Situation) (m : Machine V) (log : List WordStep) : Type 0 where
+  pub record Told (limit : ℕ) (u : State) (m : Model V) (log : List WordStep) : Type 0 where
     pub ds : List ℕ
     pub apart : IsApart ds
     pub same : AreDropping ds u
     pub runs : IsRun limit log
     pub so_far : tally_of log ≡ tally m ds
 
-  module _ (t : Trace V) (legal : IsLegal t) (told : Told (limit_of t) (situation t) (replay t).machine
+  module _ (t : Trace V) (legal : IsLegal t) (told : Told (limit_of t) (state t) (model t)
       (log_of t)) where
     abbrev limit : ℕ
     limit = limit_of t
 
-    abbrev u : Situation
-    u = situation t
+    abbrev u : State
+    u = state t
 
-    abbrev now : Machine V
-    now = (replay t).machine
+    abbrev now : Model V
+    now = (model t)
 
     abbrev p : Tally
     p = tally now told.ds
 
     abbrev pub dropped : ℕ → ℕ
-    dropped o = dropped_by (u.activity o)
+    dropped o = handle_in (u.activity o)
 
     pub own-drop : (o : ℕ) → has o told.ds ≡ true → has_alone (u.handle (dropped o)) o ≡ true
     own-drop o i = dropped-alone u.handle o (u.activity o) (sym (told.same o) ∙ i) (all_fit t legal o)
@@ -102,7 +102,7 @@ module _ {V : Type 0} where
     goes-on o c was is = put-all u.activity o c (λ q d. has q told.ds ≡ is_dropping d) (told.same o ∙ was
         ∙ sym is) (λ q other. told.same q)
 
-    module _ (w : WordStep) (n : Situation) (m : Machine V) where
+    module _ (w : WordStep) (n : State) (m : Model V) where
       -- one more step in the log
       pub adds : (ds : List ℕ) → IsApart ds → AreDropping ds n → MayMake limit p w → tally_after p w ≡
           tally m ds
@@ -116,9 +116,9 @@ module _ {V : Type 0} where
         so_far = tally-more first (log_of t) w ∙ ap (λ (z : Tally). tally_after z w) told.so_far ∙ is;
       }
 
-    pub silent : (n : Situation) (m : Machine V) → AreDropping told.ds n → tally now told.ds ≡ tally m told.ds
+    pub internal : (n : State) (m : Model V) → AreDropping told.ds n → tally now told.ds ≡ tally m told.ds
         → Told limit n m (log_of t ++ [])
-    silent n m same is = record {
+    internal n m same is = record {
       ds = told.ds;
       apart = told.apart;
       same = same;
@@ -129,7 +129,7 @@ module _ {V : Type 0} where
     pub grown-live : (n : ℕ) → length (now.live ++ n ∷ []) ≡ length now.live + 1
     grown-live n = length-append now.live (n ∷ [])
 
-    pub born-tally : (m : Machine V) (n : ℕ) → m.mark ≡ now.mark → m.live ≡ now.live ++ n ∷ []
+    pub born-tally : (m : Model V) (n : ℕ) → m.mark ≡ now.mark → m.live ≡ now.live ++ n ∷ []
         → one_more p ≡ tally m told.ds
     born-tally m n mark live =
         let le : length told.ds ≤ length now.live = few in

@@ -1,4 +1,4 @@
-use Rattle.counting_core.proofs.Steps.ByTheWord.{steps_of_handles}
+use Rattle.counting_core.proofs.Steps.HandleSteps.{steps_of_handles}
 use Rattle.counting_core.proofs.laws.steps_are_those_of_handles.Goals as goal
 
 pub returns : goal.returns

@@ -1,0 +1,295 @@
+-- What each step makes of the fields of a core.
+use Rattle.std.proofs.Common.{◌≡◌, ◌≢◌, ℕ, ◌-◌, ◌%◌, ◌≤◌, ◌<◌, ◌++◌, ◌∷◌, [], Bool, true, false, List, length}
+use Rattle.std.proofs.Common.{if◌then◌else◌, get_or, set, refl, sym, ◌∙◌, ap, ap₂, subst, length-set, arith, IsTrue}
+use Rattle.std.proofs.Common.{nat_eq, ne_eqb, eq-eqb, eqb-true, leb-true}
+use Rattle.std.proofs.lemmas.Bool.{and_parts}
+use Rattle.std.proofs.lemmas.List.{set-get_or}
+use Rattle.counting_word.specs.CountingWord.{is_one_handle, count_of, marked_word, mark_bit}
+use Rattle.counting_word.specs.Plans.{clone_plan, drop_plan}
+use Rattle.counting_word.specs.WordSteps.{lowered}
+use Rattle.counting_word.specs.declared.ClonePlan.TheVariants.{Static as StaticClone, Full as FullClone}
+use Rattle.counting_word.specs.declared.ClonePlan.TheVariants.{Raise as RaiseClone}
+use Rattle.counting_word.specs.declared.DropPlan.TheVariants.{Static as StaticDrop, Lower as LowerDrop}
+use Rattle.counting_word.proofs.Plans.{ClonePlanSays, clone_plan-says}
+use Rattle.counting_word.proofs.Words.{count_of-unmarked}
+use Rattle.counting_core.specs.declared.activity.Activity.TheVariants.{Idle, Cloning, Dropping}
+use Rattle.counting_core.specs.declared.handle_entry.Access.{Access}
+use Rattle.counting_core.specs.declared.handle_entry.Access.TheVariants.{Shared as SharedAccess, Written}
+use Rattle.counting_core.specs.declared.handle_entry.Access.TheVariants.{Sole as SoleAccess}
+use Rattle.counting_core.specs.declared.step.Step.{Step}
+use Rattle.counting_core.specs.declared.step.Step.TheVariants.{Clone, Raise, Quit, Drop, Lower, Mark, GetMut, Write}
+use Rattle.counting_core.specs.declared.step.Step.TheVariants.{EndWrite, IntoUnique, Share, Lend, Return, Give}
+use Rattle.counting_core.specs.declared.step.Answer.{Answer}
+use Rattle.counting_core.specs.declared.step.Answer.TheVariants.{Born, Full, Pending, Ended, GivenUp, Alone, Sole, Shared}
+use Rattle.counting_core.specs.declared.step.Answer.TheVariants.{Done, Marked, Memory, Quit as Quitted}
+use Rattle.counting_core.specs.Trace.{Trace, HandleState, lent_to, returned_by, after, ended, State, goes_on_to, newborn}
+use Rattle.counting_core.specs.Trace.{handle_in, seen_in, limit_of}
+use Rattle.counting_core.specs.Permitted.{permitted, may_take}
+use Rattle.counting_core.specs.Legal.{state, takes_memory}
+use Rattle.counting_core.specs.Represents.{CoreState, handle, activity, state_of, Represents, IsReached}
+use Rattle.counting_core.specs.ByWord.{IsPermitted, cloned, dropped, by_word, value_after, births_after, TakesEffect}
+use Rattle.counting_core.specs.ByWord.{FollowsWord}
+use Rattle.counting_core.proofs.Traces.Activities.{begins}
+use Rattle.counting_core.proofs.Traces.InFlight.{parts-alone, all_fit, dropped-lives}
+use Rattle.counting_core.proofs.Traces.Places.{put-same}
+use Rattle.counting_core.proofs.Traces.Rooms.{room_seen}
+use Rattle.counting_core.proofs.Traces.LiveCounts.{core_limit, lower_counts}
+use Rattle.counting_core.proofs.Steps.Edits.{edits, goes, bears, within, state-owner, state-edit}
+use Rattle.counting_core.proofs.Steps.ByTheWord.{raise-by, less-lowered}
+
+module _ {V : Type 0} (f : CoreState V) where
+  -- a step that changes no handle and no owner
+  asks : (s : Step V) (a : Answer V) → IsPermitted f s → (a, f.word) ≡ by_word f s
+      → state_of f ≡ after f.word (state_of f) s a → f.value ≡ value_after f.value s
+      → length f.handles ≡ births_after (length f.handles) a → TakesEffect f s a f
+  asks s a may by same value births = record {
+    allowed = may;
+    by_word = by;
+    same_state = same;
+    same_value = value;
+    same_births = births;
+    same_limit = refl;
+  }
+
+  pub marks : (o h word : ℕ) → word ≡ marked_word f.word → IsPermitted f (Mark o h)
+      → TakesEffect f (Mark o h) Marked (record f { word = word })
+  marks o h word is may = record {
+    allowed = may;
+    by_word = ap (λ w. (Marked, w)) is;
+    same_state = refl;
+    same_value = refl;
+    same_births = refl;
+    same_limit = refl;
+  }
+
+  pub writes : (o h : ℕ) (v : V) → IsPermitted f (Write o h v) → TakesEffect f (Write o h v) Done
+      (record f { value = v })
+  writes o h v may = record {
+    allowed = may;
+    by_word = refl;
+    same_state = refl;
+    same_value = refl;
+    same_births = refl;
+    same_limit = refl;
+  }
+
+  module _ (o h : ℕ) where
+    -- the read of a clone
+    pub clone_reads : (n : ℕ) → clone_plan f.word f.limit ≡ RaiseClone n → IsPermitted f (Clone o h)
+        → TakesEffect f (Clone o h) Pending (record f { owners = set f.owners o (Cloning h f.word) })
+    clone_reads n plan may = goes f (Clone o h) Pending (Cloning h f.word) may
+        (ap (λ p. (cloned f p, f.word)) (sym plan)) refl refl refl
+
+    pub clone_bears : clone_plan f.word f.limit ≡ StaticClone → IsPermitted f (Clone o h) → (n : ℕ)
+        → n ≡ length f.handles → (handles : List HandleState) → handles ≡ f.handles ++ newborn o ∷ []
+        → TakesEffect f (Clone o h) (Born n) (record f { handles = handles })
+    clone_bears plan may n number handles pushed =
+        let idle : activity f o ≡ Idle =
+        (begins (state_of f) (Clone o h) _ (and_parts _ _ may).1 (λ _ _. refl) (λ _. refl)).0 in
+        bears f o f.word (Clone o h) n handles f.owners may refl number pushed refl
+        (sym (put-same (activity f) o Idle idle)) (ap (λ p. (cloned f p, f.word)) (sym plan)) refl
+
+    pub clone_unborn : clone_plan f.word f.limit ≡ StaticClone → IsPermitted f (Clone o h)
+        → (handles : List HandleState) → handles ≡ f.handles
+        → FollowsWord f (Clone o h) Memory (record f { handles = handles })
+    clone_unborn plan may handles same = (
+      may,
+      subst (λ p. IsTrue (takes_memory (Clone o h) (cloned f p))) (sym plan) refl,
+      ap (λ (l : List HandleState). record f { handles = l }) same,
+    )
+
+  -- what the owner of a clone in flight saw is below the limit
+  seen-few : IsReached f → (o h seen : ℕ) → activity f o ≡ Cloning h seen → seen < f.limit
+  seen-few reached o h seen is =
+      let t : Trace V = reached.0 in
+      let r : Represents f t = reached.1 in
+      let low : seen < limit_of t = room_seen t r.legal o h seen
+      (ap (λ (u : State). u.activity o) (sym r.same_state) ∙ is) in
+      subst (λ n. seen < n) (sym r.same_limit) low
+
+  module _ (o h seen : ℕ) (is : activity f o ≡ Cloning h seen) (reached : IsReached f) where
+    -- a raise that found another word than this
+    other : f.word ≢ seen → nat_eq f.word (seen_in (activity f o)) ≡ false
+    other apart = ap (λ c. nat_eq f.word (seen_in c)) is ∙ ne_eqb f.word seen apart
+
+    pub raise_full : clone_plan f.word f.limit ≡ FullClone → IsPermitted f (Raise o)
+        → TakesEffect f (Raise o) Full (record f { owners = set f.owners o Idle })
+    raise_full plan may =
+        let says : ClonePlanSays f.word f.limit FullClone = clone_plan-says f.word f.limit FullClone (sym plan) in
+        let at : f.word ≡ f.limit = sym (count_of-unmarked f.word says.0) ∙ eqb-true (count_of f.word) f.limit
+        says.1 in
+        let low : seen < f.limit = seen-few reached o h seen is in
+        goes f (Raise o) Full Idle may (sym (raise-by f o false (other (λ e. absurd (omega arith)))
+        ∙ ap (λ p. (cloned f p, f.word)) plan)) refl refl refl
+
+    pub raise_loses : (n : ℕ) → clone_plan f.word f.limit ≡ RaiseClone n → f.word ≢ seen → IsPermitted f (Raise o)
+        → TakesEffect f (Raise o) Pending (record f { owners = set f.owners o (Cloning h f.word) })
+    raise_loses n plan apart may = goes f (Raise o) Pending (Cloning h f.word) may
+        (sym (raise-by f o false (other apart) ∙ ap (λ p. (cloned f p, f.word)) plan))
+        (ap (λ c. goes_on_to (state_of f) o (Cloning (handle_in c) f.word)) (sym is)) refl refl
+
+    pub raise_static : clone_plan f.word f.limit ≡ StaticClone → (word : ℕ) → word ≡ f.word
+        → (Born (length f.handles), word) ≡ by_word f (Raise o)
+    raise_static plan word same =
+        let high : 9223372036854775808 ≤ f.word =
+        leb-true mark_bit f.word (clone_plan-says f.word f.limit StaticClone (sym plan)) in
+        let low : seen < f.limit = seen-few reached o h seen is in
+        let most : f.limit ≤ 9223372036854775807 = (core_limit f reached.0 reached.1).1 in
+        ap (λ w. (Born (length f.handles), w)) same
+        ∙ sym (raise-by f o false (other (λ e. absurd (omega arith))) ∙ ap (λ p. (cloned f p, f.word)) plan)
+
+    pub raise_won : (n : ℕ) → clone_plan f.word f.limit ≡ RaiseClone n → f.word ≡ seen → (word : ℕ) → word ≡ n
+        → (Born (length f.handles), word) ≡ by_word f (Raise o)
+    raise_won n plan same word next =
+        ap (λ w. (Born (length f.handles), w)) (next ∙ (clone_plan-says f.word f.limit (RaiseClone n) (sym plan)).2)
+        ∙ sym (raise-by f o true (ap (λ c. nat_eq f.word (seen_in c)) is ∙ eq-eqb f.word seen same))
+
+  pub raise_bears : (o word : ℕ) → (Born (length f.handles), word) ≡ by_word f (Raise o) → IsPermitted f (Raise o)
+      → (n : ℕ) → n ≡ length f.handles → (handles : List HandleState) → handles ≡ f.handles ++ newborn o ∷ []
+      → TakesEffect f (Raise o) (Born n)
+      (record f { word = word; handles = handles; owners = set f.owners o Idle })
+  raise_bears o word by may n number handles pushed =
+      bears f o word (Raise o) n handles (set f.owners o Idle) may refl number pushed (length-set f.owners o Idle)
+      (ap (λ (u : State). u.activity) (state-owner f o Idle (within f (Raise o) may))) by refl
+
+  pub quits : (o : ℕ) → IsPermitted f (Quit o)
+      → TakesEffect f (Quit o) Quitted (record f { owners = set f.owners o Idle })
+  quits o may = goes f (Quit o) Quitted Idle may refl refl refl refl
+
+  pub drop_reads : (o h : ℕ) → drop_plan f.word ≡ LowerDrop → IsPermitted f (Drop o h)
+      → TakesEffect f (Drop o h) Pending (record f { owners = set f.owners o (Dropping h) })
+  drop_reads o h plan may = goes f (Drop o h) Pending (Dropping h) may (ap (λ p. (dropped p, f.word)) (sym plan))
+      refl refl refl
+
+  -- the handle of a drop in flight lives
+  pub lower_lives : IsReached f → (o h : ℕ) → activity f o ≡ Dropping h → (handle f h).lives ≡ true
+  lower_lives reached o h is =
+      let r : Represents f reached.0 = reached.1 in
+      ap (λ (u : State). (u.handle h).lives) r.same_state ∙ dropped-lives (state reached.0) (all_fit reached.0 r.legal)
+      o h (ap (λ (u : State). u.activity o) (sym r.same_state) ∙ is)
+
+  pub lower_some : IsReached f → (o : ℕ) → IsPermitted f (Lower o) → 1 ≤ f.word
+  lower_some reached o may =
+      let r : Represents f reached.0 = reached.1 in
+      let some : 1 ≤ f.word % 9223372036854775808 = lower_counts f reached.0 r o
+      (ap (λ u. permitted {V = V} u (Lower o)) (sym r.same_state) ∙ may) in
+      omega arith
+
+  pub drop_lives : (o h : ℕ) → IsPermitted f (Drop o h) → (handle f h).lives ≡ true
+  drop_lives o h may = (and_parts _ _ (and_parts _ _ (parts-alone (handle f h) o (begins (state_of f) (Drop o h) _
+      (and_parts _ _ may).1 (λ _ _. refl) (λ _. refl)).1)).0).0
+
+  -- the handle was k, and is new
+  module _ (o h : ℕ) (k new : HandleState) (was : k ≡ get_or f.handles h k) where
+    abbrev with_new : CoreState V
+    with_new = record f { handles = set f.handles h new }
+
+    pub drop_ends : new ≡ record k { lives = false } → drop_plan f.word ≡ StaticDrop → IsPermitted f (Drop o h)
+        → TakesEffect f (Drop o h) Ended with_new
+    drop_ends now plan may =
+        edits f h (λ s. record s { lives = false }) k new was now (drop_lives o h may)
+        (Drop o h) Ended may (ap (λ p. (dropped p, f.word)) (sym plan)) refl refl refl
+
+    pub lowers : new ≡ record k { lives = false } → IsReached f → activity f o ≡ Dropping h → (b : Bool)
+        → is_one_handle f.word ≡ b → IsPermitted f (Lower o)
+        → TakesEffect f (Lower o) (if b then GivenUp f.value else Ended)
+        (record f { word = f.word - 1; handles = set f.handles h new; owners = set f.owners o Idle })
+    lowers now reached is b one may = at b one where
+      same : state_of (record with_new { owners = set f.owners o Idle })
+          ≡ goes_on_to (ended (state_of f) (handle_in (activity f o))) o Idle
+      same =
+          state-owner with_new o Idle (within f (Lower o) may)
+          ∙ ap (λ u. goes_on_to u o Idle) (state-edit f h (λ s. record s { lives = false }) k new was now
+          (lower_lives reached o h is))
+          ∙ ap (λ c. goes_on_to (ended (state_of f) (handle_in c)) o Idle) (sym is)
+
+      left : f.word - 1 ≡ lowered f.word
+      left = less-lowered f.word (lower_some reached o may)
+
+      at : (b : Bool) → is_one_handle f.word ≡ b → TakesEffect f (Lower o) (if b then GivenUp f.value else Ended)
+          (record f { word = f.word - 1; handles = set f.handles h new; owners = set f.owners o Idle })
+      at true one = record {
+        allowed = may;
+        by_word = ap₂ (λ b w. (if b then GivenUp f.value else Ended, w)) (sym one) left;
+        same_state = same;
+        same_value = refl;
+        same_births = length-set f.handles h new;
+        same_limit = refl;
+      }
+      at false one = record {
+        allowed = may;
+        by_word = ap₂ (λ b w. (if b then GivenUp f.value else Ended, w)) (sym one) left;
+        same_state = same;
+        same_value = refl;
+        same_births = length-set f.handles h new;
+        same_limit = refl;
+      }
+
+    -- what is written back as it was
+    same-new : new ≡ k → with_new ≡ f
+    same-new now = ap (λ (l : List HandleState). record f { handles = l })
+        (ap (set f.handles h) (now ∙ was) ∙ set-get_or f.handles h k)
+
+    -- a step that takes a handle, if it is the only one
+    takes : (s : Step V) (access : Access) (taken a : Answer V) (alone : Bool) → alone ≡ is_one_handle f.word
+        → a ≡ (if alone then taken else Shared) → new ≡ (if alone then record k { access = access } else k)
+        → (is_one_handle f.word ≡ true → new ≡ record k { access = access } → FollowsWord f s taken with_new)
+        → (is_one_handle f.word ≡ false → FollowsWord f s Shared f) → FollowsWord f s a with_new
+    takes s access taken a true one answer now only others =
+        subst (λ x. FollowsWord f s x with_new) (sym answer) (only (sym one) now)
+    takes s access taken a false one answer now only others =
+        subst (λ x. FollowsWord f s x with_new) (sym answer)
+        (subst (λ d. FollowsWord f s Shared d) (sym (same-new now)) (others (sym one)))
+
+    -- a handle that its holder takes lives
+    taken-lives : may_take (handle f h) o ≡ true → (handle f h).lives ≡ true
+    taken-lives own = (and_parts _ _ (and_parts _ _ (and_parts _ _ own).0).0).0
+
+    pub gets : (a : Answer V) (alone : Bool) → alone ≡ is_one_handle f.word → a ≡ (if alone then Alone else Shared)
+        → new ≡ (if alone then record k { access = Written } else k) → IsPermitted f (GetMut o h)
+        → FollowsWord f (GetMut o h) a with_new
+    gets a alone one answer now may = takes (GetMut o h) Written Alone a alone one answer now
+        (λ e written. edits f h (λ s. record s { access = Written }) k new was written (taken-lives (begins (state_of f)
+        (GetMut o h) _ (and_parts _ _ may).1 (λ _ _. refl) (λ _. refl)).1) (GetMut o h) Alone may
+        (ap (λ b. (if b then Alone else Shared, f.word)) (sym e)) refl refl refl)
+        (λ e. asks (GetMut o h) Shared may (ap (λ b. (if b then Alone else Shared, f.word)) (sym e)) refl refl refl)
+
+    pub owns : (a : Answer V) (alone : Bool) → alone ≡ is_one_handle f.word → a ≡ (if alone then Sole else Shared)
+        → new ≡ (if alone then record k { access = SoleAccess } else k) → IsPermitted f (IntoUnique o h)
+        → FollowsWord f (IntoUnique o h) a with_new
+    owns a alone one answer now may = takes (IntoUnique o h) SoleAccess Sole a alone one answer now
+        (λ e sole. edits f h (λ s. record s { access = SoleAccess }) k new was sole (taken-lives (begins (state_of f)
+        (IntoUnique o h) _ (and_parts _ _ may).1 (λ _ _. refl) (λ _. refl)).1) (IntoUnique o h) Sole may
+        (ap (λ b. (if b then Sole else Shared, f.word)) (sym e)) refl refl refl)
+        (λ e. asks (IntoUnique o h) Shared may (ap (λ b. (if b then Sole else Shared, f.word)) (sym e)) refl refl refl)
+
+    pub ends_write : new ≡ record k { access = SharedAccess } → IsPermitted f (EndWrite o h)
+        → TakesEffect f (EndWrite o h) Done with_new
+    ends_write now may = edits f h (λ s. record s { access = SharedAccess }) k new was now
+        (and_parts _ _ (and_parts _ _ (begins (state_of f) (EndWrite o h) _ (and_parts _ _ may).1 (λ _ _. refl)
+        (λ _. refl)).1).0).0 (EndWrite o h) Done may refl refl refl refl
+
+    pub shares : new ≡ record k { access = SharedAccess } → IsPermitted f (Share o h)
+        → TakesEffect f (Share o h) Done with_new
+    shares now may = edits f h (λ s. record s { access = SharedAccess }) k new was now
+        (and_parts _ _ (and_parts _ _ (and_parts _ _ (begins (state_of f) (Share o h) _ (and_parts _ _ may).1
+        (λ _ _. refl) (λ _. refl)).1).0).0).0 (Share o h) Done may refl refl refl refl
+
+    pub lends : (to : ℕ) → new ≡ lent_to k to → IsPermitted f (Lend o h to) → TakesEffect f (Lend o h to) Done with_new
+    lends to now may = edits f h (λ s. lent_to s to) k new was now
+        (and_parts _ _ (and_parts _ _ (begins (state_of f) (Lend o h to) _ (and_parts _ _ may).1 (λ _ _. refl)
+        (λ _. refl)).1).0).0 (Lend o h to) Done may refl refl refl refl
+
+    pub lends_none : (to : ℕ) → new ≡ k → IsPermitted f (Lend o h to) → FollowsWord f (Lend o h to) Memory with_new
+    lends_none to now may = (may, refl, same-new now)
+
+    pub returns : new ≡ returned_by k o → IsPermitted f (Return o h) → TakesEffect f (Return o h) Done with_new
+    returns now may = edits f h (λ s. returned_by s o) k new was now
+        (and_parts _ _ (begins (state_of f) (Return o h) _ (and_parts _ _ may).1 (λ _ _. refl) (λ _. refl)).1).0
+        (Return o h) Done may refl refl refl refl
+
+    pub gives : (to : ℕ) → new ≡ record k { holder = to } → IsPermitted f (Give o h to)
+        → TakesEffect f (Give o h to) Done with_new
+    gives to now may = edits f h (λ s. record s { holder = to }) k new was now
+        (and_parts _ _ (and_parts _ _ (parts-alone (handle f h) o (and_parts _ _ (begins (state_of f) (Give o h to) _
+        (and_parts _ _ may).1 (λ _ _. refl) (λ _. refl)).1).0)).0).0 (Give o h to) Done may refl refl refl refl

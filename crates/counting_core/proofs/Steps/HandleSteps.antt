@@ -1,0 +1,66 @@
+-- By its answer and its word a step on the word is the atomic step of a handle.
+use Rattle.std.proofs.Common.{◌≡◌, ◌+◌, Bool, true, false, if◌then◌else◌, nat_eq, length, refl}
+use Rattle.counting_word.specs.CountingWord.{is_marked_word, is_one_handle, count_of}
+use Rattle.counting_word.specs.Rights.{a_handle, nothing, to_lower, whole_block}
+use Rattle.counting_word.specs.declared.ClonePlan.TheVariants.{Static as StaticClone, Full as FullClone}
+use Rattle.counting_word.specs.declared.ClonePlan.TheVariants.{Raise as RaiseClone}
+use Rattle.counting_word.specs.declared.DropPlan.TheVariants.{Static as StaticDrop, Lower as LowerDrop}
+use Rattle.counting_core.specs.declared.step.Step.{Step}
+use Rattle.counting_core.specs.declared.step.Step.TheVariants.{Clone, Raise, Drop, Lower, Mark, Unique, Static, GetMut}
+use Rattle.counting_core.specs.declared.step.Step.TheVariants.{IntoUnique}
+use Rattle.counting_core.specs.declared.step.Answer.TheVariants.{Born, Ended, GivenUp, Alone, Sole, Shared}
+use Rattle.counting_core.specs.Trace.{owner_of, seen_in}
+use Rattle.counting_core.specs.Represents.{CoreState, activity}
+use Rattle.counting_core.specs.TraceLogs.{word_step}
+use Rattle.counting_core.specs.ByWord.{cloned, dropped}
+use Rattle.counting_core.specs.HandleSteps.{IsAs, right_of}
+
+both : (P : Bool → Type 0) (b : Bool) → P true → P false → P b
+both P true first second = first
+both P false first second = second
+
+module _ {V : Type 0} (core : CoreState V) where
+  pub steps_of_handles : (s : Step V) → IsAs core s (word_step (activity core (owner_of s)) s)
+  steps_of_handles (Clone o h) = (at (is_marked_word core.word) (nat_eq (count_of core.word) core.limit), λ _. refl)
+    where
+      at : (m full : Bool) → right_of {V = V} (Clone o h)
+          (cloned core (if m then StaticClone else (if full then FullClone else RaiseClone (core.word + 1)))) ≡
+          (if m then a_handle else nothing)
+      at true full = refl
+      at false true = refl
+      at false false = refl
+  steps_of_handles (Raise o) = (
+    at (nat_eq core.word (seen_in (activity core o))) (is_marked_word core.word) (nat_eq (count_of core.word) core.limit),
+    λ _. refl,
+  ) where
+    at : (won m full : Bool) → right_of {V = V} (Raise o) (if won then Born (length core.handles) else cloned core
+        (if m then StaticClone else (if full then FullClone else RaiseClone (core.word + 1))))
+        ≡ (if won then a_handle else (if m then a_handle else nothing))
+    at true m full = refl
+    at false true full = refl
+    at false false true = refl
+    at false false false = refl
+  steps_of_handles (Drop o h) = (
+    both (λ m. right_of {V = V} (Drop o h) (dropped (if m then StaticDrop else LowerDrop))
+        ≡ (if m then nothing else to_lower)) (is_marked_word core.word) refl refl,
+    λ _. refl,
+  )
+  steps_of_handles (Lower o) = (
+    both (λ b. right_of {V = V} (Lower o) (if b then GivenUp core.value else Ended)
+        ≡ (if b then whole_block 0 else nothing)) (is_one_handle core.word) refl refl,
+    λ _. refl,
+  )
+  steps_of_handles (GetMut o h) = (
+    both (λ b. right_of {V = V} (GetMut o h) (if b then Alone else Shared)
+        ≡ (if b then whole_block 1 else a_handle)) (is_one_handle core.word) refl refl,
+    λ _. refl,
+  )
+  steps_of_handles (IntoUnique o h) = (
+    both (λ b. right_of {V = V} (IntoUnique o h) (if b then Sole else Shared)
+        ≡ (if b then whole_block 1 else a_handle)) (is_one_handle core.word) refl refl,
+    λ _. refl,
+  )
+  steps_of_handles (Mark o h) = (refl, λ _. refl)
+  steps_of_handles (Unique o h) = (refl, λ _. refl)
+  steps_of_handles (Static o h) = (refl, λ _. refl)
+  steps_of_handles s = refl

@@ -1,0 +1,9 @@
+use Rattle.counting_core.specs.declared.step.Step.TheVariants.{Quit}
+use Rattle.counting_core.specs.declared.step.Answer.TheVariants.{Quit as Quitted}
+use Rattle.counting_core.proofs.Steps.Continues.{stays}
+use Rattle.counting_core.proofs.Steps.Acting.{quits}
+use Rattle.counting_core.proofs.protocol.Core.quit.Goals as goal
+
+pub invariant_of-self : goal.invariant_of-self
+invariant_of-self g c =
+    stays c.self.view_is _ (Quit c.args.owner) Quitted c.requires c.self.invariant (quits _ c.args.owner)

@@ -1,3 +1,4 @@
+pub mod Names
 pub mod WorkedTraces
 pub mod Traces
 pub mod Steps

@@ -19,5 +19,5 @@ pub mod HandleRuns
 pub mod EndRuns
 pub mod Runs
 pub mod Drops
-pub mod Told
+pub mod Reported
 pub mod TraceRuns

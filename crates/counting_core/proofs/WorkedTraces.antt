@@ -1,15 +1,9 @@
 -- Worked interleavings, computed by the definitions, to read them by. No contract uses them.
-use Rattle.std.proofs.Common.{◌≡◌, ℕ, true, false, List, [], ◌∷◌, refl}
-use Rattle.counting_word.specs.CountingWord.{greatest_count}
-use Rattle.counting_core.specs.declared.step.Step.{Step}
-use Rattle.counting_core.specs.declared.step.Step.TheVariants.{Clone, Raise, Quit, Drop, Lower, Mark, Unique, Static}
-use Rattle.counting_core.specs.declared.step.Step.TheVariants.{GetMut, Write, EndWrite, IntoUnique, Share, Load, Lend}
-use Rattle.counting_core.specs.declared.step.Step.TheVariants.{Return, Give}
-use Rattle.counting_core.specs.declared.step.Answer.{Answer}
-use Rattle.counting_core.specs.declared.step.Answer.TheVariants.{Born, Full, Pending, Quit as Quitted, Ended, GivenUp}
-use Rattle.counting_core.specs.declared.step.Answer.TheVariants.{Marked, Is, Alone, Sole, Shared, Done, Value, Barred}
-use Rattle.counting_core.specs.Trace.{Trace, Open, Then}
-use Rattle.counting_core.specs.Legal.{expected}
+use Rattle.counting_core.proofs.Names.{◌≡◌, ℕ, true, false, List, [], ◌∷◌, refl, greatest_count, Step, Clone, Raise}
+use Rattle.counting_core.proofs.Names.{Quit, Drop, Lower, Mark, Unique, Static, GetMut, Write, EndWrite, IntoUnique}
+use Rattle.counting_core.proofs.Names.{Share, Load, Lend, Return, Give, Answer, Born, Full, Pending, Quitted, Ended}
+use Rattle.counting_core.proofs.Names.{GivenUp, Marked, Is, Alone, Sole, Shared, Done, Value, Barred, Trace, Open}
+use Rattle.counting_core.proofs.Names.{Then, expected}
 
 -- the answers to steps in order, want of memory aside
 abbrev answers : Trace ℕ → List (Step ℕ) → List (Answer ℕ)

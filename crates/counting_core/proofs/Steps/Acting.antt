@@ -1,36 +1,20 @@
 -- What each step makes of the fields of a core.
-use Rattle.std.proofs.Common.{◌≡◌, ◌≢◌, ℕ, ◌-◌, ◌%◌, ◌≤◌, ◌<◌, ◌++◌, ◌∷◌, [], Bool, true, false, List, length}
-use Rattle.std.proofs.Common.{if◌then◌else◌, get_or, set, refl, sym, ◌∙◌, ap, ap₂, subst, length-set, arith, IsTrue}
-use Rattle.std.proofs.Common.{nat_eq, ne_eqb, eq-eqb, eqb-true, leb-true}
-use Rattle.std.proofs.lemmas.Bool.{and_parts}
-use Rattle.std.proofs.lemmas.List.{set-get_or}
-use Rattle.counting_word.specs.CountingWord.{is_one_handle, count_of, marked_word, mark_bit}
-use Rattle.counting_word.specs.Plans.{clone_plan, drop_plan}
-use Rattle.counting_word.specs.WordSteps.{lowered}
-use Rattle.counting_word.specs.declared.ClonePlan.TheVariants.{Static as StaticClone, Full as FullClone}
-use Rattle.counting_word.specs.declared.ClonePlan.TheVariants.{Raise as RaiseClone}
-use Rattle.counting_word.specs.declared.DropPlan.TheVariants.{Static as StaticDrop, Lower as LowerDrop}
-use Rattle.counting_word.proofs.Plans.{ClonePlanSays, clone_plan-says}
-use Rattle.counting_word.proofs.Words.{count_of-unmarked}
-use Rattle.counting_core.specs.declared.activity.Activity.TheVariants.{Idle, Cloning, Dropping}
-use Rattle.counting_core.specs.declared.handle_entry.Access.{Access}
-use Rattle.counting_core.specs.declared.handle_entry.Access.TheVariants.{Shared as SharedAccess, Written}
-use Rattle.counting_core.specs.declared.handle_entry.Access.TheVariants.{Sole as SoleAccess}
-use Rattle.counting_core.specs.declared.step.Step.{Step}
-use Rattle.counting_core.specs.declared.step.Step.TheVariants.{Clone, Raise, Quit, Drop, Lower, Mark, GetMut, Write}
-use Rattle.counting_core.specs.declared.step.Step.TheVariants.{EndWrite, IntoUnique, Share, Lend, Return, Give}
-use Rattle.counting_core.specs.declared.step.Answer.{Answer}
-use Rattle.counting_core.specs.declared.step.Answer.TheVariants.{Born, Full, Pending, Ended, GivenUp, Alone, Sole, Shared}
-use Rattle.counting_core.specs.declared.step.Answer.TheVariants.{Done, Marked, Memory, Quit as Quitted}
-use Rattle.counting_core.specs.Trace.{Trace, HandleState, lent_to, returned_by, after, ended, State, goes_on_to, newborn}
-use Rattle.counting_core.specs.Trace.{handle_in, seen_in, limit_of}
-use Rattle.counting_core.specs.Permitted.{permitted, may_take}
-use Rattle.counting_core.specs.Legal.{state, takes_memory}
-use Rattle.counting_core.specs.Represents.{CoreState, handle, activity, state_of, Represents, IsReached}
-use Rattle.counting_core.specs.ByWord.{IsPermitted, cloned, dropped, by_word, value_after, births_after, TakesEffect}
-use Rattle.counting_core.specs.ByWord.{FollowsWord}
-use Rattle.counting_core.proofs.Traces.Activities.{begins}
-use Rattle.counting_core.proofs.Traces.InFlight.{parts-alone, all_fit, dropped-lives}
+use Rattle.counting_core.proofs.Names.{◌≡◌, ◌≢◌, ℕ, ◌-◌, ◌%◌, ◌≤◌, ◌<◌, ◌++◌, ◌∷◌, [], Bool, true, false, List, length}
+use Rattle.counting_core.proofs.Names.{if◌then◌else◌, get_or, set, refl, sym, ◌∙◌, ap, ap₂, subst, length-set, arith}
+use Rattle.counting_core.proofs.Names.{IsTrue, nat_eq, ne_eqb, eq-eqb, eqb-true, leb-true, and_parts, set-get_or}
+use Rattle.counting_core.proofs.Names.{is_one_handle, count_of, marked_word, mark_bit, clone_plan, drop_plan, lowered}
+use Rattle.counting_core.proofs.Names.{StaticClone, FullClone, RaiseClone, StaticDrop, LowerDrop, ClonePlanSays}
+use Rattle.counting_core.proofs.Names.{clone_plan-says, count_of-unmarked, Idle, Cloning, Dropping, Access}
+use Rattle.counting_core.proofs.Names.{SharedAccess, Written, SoleAccess, Step, Clone, Raise, Quit, Drop, Lower, Mark}
+use Rattle.counting_core.proofs.Names.{GetMut, Write, EndWrite, IntoUnique, Share, Lend, Return, Give, Answer, Born}
+use Rattle.counting_core.proofs.Names.{Full, Pending, Ended, GivenUp, Alone, Sole, Shared, Done, Marked, Memory}
+use Rattle.counting_core.proofs.Names.{Quitted, Trace, HandleState, lent_to, returned_by, after, ended, State}
+use Rattle.counting_core.proofs.Names.{goes_on_to, newborn, handle_in, seen_in, limit_of, permitted, may_take, state}
+use Rattle.counting_core.proofs.Names.{takes_memory, CoreState, handle, activity, state_of, Represents, IsReached}
+use Rattle.counting_core.proofs.Names.{IsPermitted, cloned, dropped, by_word, value_after, births_after, TakesEffect}
+use Rattle.counting_core.proofs.Names.{FollowsWord}
+use Rattle.counting_core.proofs.Traces.Activities.{begun}
+use Rattle.counting_core.proofs.Traces.InFlight.{parts-alone, taken-lives, all_fit, dropped-lives}
 use Rattle.counting_core.proofs.Traces.Places.{put-same}
 use Rattle.counting_core.proofs.Traces.Rooms.{room_seen}
 use Rattle.counting_core.proofs.Traces.LiveCounts.{core_limit, lower_counts}
@@ -85,7 +69,7 @@ module _ {V : Type 0} (f : CoreState V) where
         → TakesEffect f (Clone o h) (Born n) (record f { handles = handles })
     clone_bears plan may n number handles pushed =
         let idle : activity f o ≡ Idle =
-        (begins (state_of f) (Clone o h) _ (and_parts _ _ may).1 (λ _ _. refl) (λ _. refl)).0 in
+        (begun (state_of f) (Clone o h) may refl).0 in
         bears f o f.word (Clone o h) n handles f.owners may refl number pushed refl
         (sym (put-same (activity f) o Idle idle)) (ap (λ p. (cloned f p, f.word)) (sym plan)) refl
 
@@ -176,8 +160,7 @@ module _ {V : Type 0} (f : CoreState V) where
       omega arith
 
   pub drop_lives : (o h : ℕ) → IsPermitted f (Drop o h) → (handle f h).lives ≡ true
-  drop_lives o h may = (and_parts _ _ (and_parts _ _ (parts-alone (handle f h) o (begins (state_of f) (Drop o h) _
-      (and_parts _ _ may).1 (λ _ _. refl) (λ _. refl)).1)).0).0
+  drop_lives o h may = (and_parts _ _ (and_parts _ _ (parts-alone (handle f h) o (begun (state_of f) (Drop o h) may refl).1)).0).0
 
   -- the handle was k, and is new
   module _ (o h : ℕ) (k new : HandleState) (was : k ≡ get_or f.handles h k) where
@@ -241,16 +224,11 @@ module _ {V : Type 0} (f : CoreState V) where
         subst (λ x. FollowsWord f s x with_new) (sym answer)
         (subst (λ d. FollowsWord f s Shared d) (sym (same-new now)) (others (sym one)))
 
-    -- a handle that its holder takes lives
-    taken-lives : may_take (handle f h) o ≡ true → (handle f h).lives ≡ true
-    taken-lives own = (and_parts _ _ (and_parts _ _ (and_parts _ _ own).0).0).0
-
     pub gets : (a : Answer V) (alone : Bool) → alone ≡ is_one_handle f.word → a ≡ (if alone then Alone else Shared)
         → new ≡ (if alone then record k { access = Written } else k) → IsPermitted f (GetMut o h)
         → FollowsWord f (GetMut o h) a with_new
     gets a alone one answer now may = takes (GetMut o h) Written Alone a alone one answer now
-        (λ e written. edits f h (λ s. record s { access = Written }) k new was written (taken-lives (begins (state_of f)
-        (GetMut o h) _ (and_parts _ _ may).1 (λ _ _. refl) (λ _. refl)).1) (GetMut o h) Alone may
+        (λ e written. edits f h (λ s. record s { access = Written }) k new was written (taken-lives (handle f h) o (begun (state_of f) (GetMut o h) may refl).1) (GetMut o h) Alone may
         (ap (λ b. (if b then Alone else Shared, f.word)) (sym e)) refl refl refl)
         (λ e. asks (GetMut o h) Shared may (ap (λ b. (if b then Alone else Shared, f.word)) (sym e)) refl refl refl)
 
@@ -258,38 +236,33 @@ module _ {V : Type 0} (f : CoreState V) where
         → new ≡ (if alone then record k { access = SoleAccess } else k) → IsPermitted f (IntoUnique o h)
         → FollowsWord f (IntoUnique o h) a with_new
     owns a alone one answer now may = takes (IntoUnique o h) SoleAccess Sole a alone one answer now
-        (λ e sole. edits f h (λ s. record s { access = SoleAccess }) k new was sole (taken-lives (begins (state_of f)
-        (IntoUnique o h) _ (and_parts _ _ may).1 (λ _ _. refl) (λ _. refl)).1) (IntoUnique o h) Sole may
+        (λ e sole. edits f h (λ s. record s { access = SoleAccess }) k new was sole (taken-lives (handle f h) o (begun (state_of f) (IntoUnique o h) may refl).1) (IntoUnique o h) Sole may
         (ap (λ b. (if b then Sole else Shared, f.word)) (sym e)) refl refl refl)
         (λ e. asks (IntoUnique o h) Shared may (ap (λ b. (if b then Sole else Shared, f.word)) (sym e)) refl refl refl)
 
     pub ends_write : new ≡ record k { access = SharedAccess } → IsPermitted f (EndWrite o h)
         → TakesEffect f (EndWrite o h) Done with_new
     ends_write now may = edits f h (λ s. record s { access = SharedAccess }) k new was now
-        (and_parts _ _ (and_parts _ _ (begins (state_of f) (EndWrite o h) _ (and_parts _ _ may).1 (λ _ _. refl)
-        (λ _. refl)).1).0).0 (EndWrite o h) Done may refl refl refl refl
+        (and_parts _ _ (and_parts _ _ (begun (state_of f) (EndWrite o h) may refl).1).0).0 (EndWrite o h) Done may refl refl refl refl
 
     pub shares : new ≡ record k { access = SharedAccess } → IsPermitted f (Share o h)
         → TakesEffect f (Share o h) Done with_new
     shares now may = edits f h (λ s. record s { access = SharedAccess }) k new was now
-        (and_parts _ _ (and_parts _ _ (and_parts _ _ (begins (state_of f) (Share o h) _ (and_parts _ _ may).1
-        (λ _ _. refl) (λ _. refl)).1).0).0).0 (Share o h) Done may refl refl refl refl
+        (and_parts _ _ (and_parts _ _ (and_parts _ _ (begun (state_of f) (Share o h) may refl).1).0).0).0 (Share o h) Done may refl refl refl refl
 
     pub lends : (to : ℕ) → new ≡ lent_to k to → IsPermitted f (Lend o h to) → TakesEffect f (Lend o h to) Done with_new
     lends to now may = edits f h (λ s. lent_to s to) k new was now
-        (and_parts _ _ (and_parts _ _ (begins (state_of f) (Lend o h to) _ (and_parts _ _ may).1 (λ _ _. refl)
-        (λ _. refl)).1).0).0 (Lend o h to) Done may refl refl refl refl
+        (and_parts _ _ (and_parts _ _ (begun (state_of f) (Lend o h to) may refl).1).0).0 (Lend o h to) Done may refl refl refl refl
 
     pub lends_none : (to : ℕ) → new ≡ k → IsPermitted f (Lend o h to) → FollowsWord f (Lend o h to) Memory with_new
     lends_none to now may = (may, refl, same-new now)
 
     pub returns : new ≡ returned_by k o → IsPermitted f (Return o h) → TakesEffect f (Return o h) Done with_new
     returns now may = edits f h (λ s. returned_by s o) k new was now
-        (and_parts _ _ (begins (state_of f) (Return o h) _ (and_parts _ _ may).1 (λ _ _. refl) (λ _. refl)).1).0
+        (and_parts _ _ (begun (state_of f) (Return o h) may refl).1).0
         (Return o h) Done may refl refl refl refl
 
     pub gives : (to : ℕ) → new ≡ record k { holder = to } → IsPermitted f (Give o h to)
         → TakesEffect f (Give o h to) Done with_new
     gives to now may = edits f h (λ s. record s { holder = to }) k new was now
-        (and_parts _ _ (and_parts _ _ (parts-alone (handle f h) o (and_parts _ _ (begins (state_of f) (Give o h to) _
-        (and_parts _ _ may).1 (λ _ _. refl) (λ _. refl)).1).0)).0).0 (Give o h to) Done may refl refl refl refl
+        (and_parts _ _ (and_parts _ _ (parts-alone (handle f h) o (and_parts _ _ (begun (state_of f) (Give o h to) may refl).1).0)).0).0 (Give o h to) Done may refl refl refl refl

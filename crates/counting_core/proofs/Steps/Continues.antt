@@ -1,16 +1,9 @@
 -- A step by the word that it finds goes on with each trace that the core represents.
-use Rattle.std.proofs.Common.{IsTrue, ◌≡◌, inl, inr, ℕ, true, length, refl, sym, ◌∙◌, ap, subst}
-use Rattle.std.proofs.lemmas.Bool.{or_parts}
-use Rattle.counting_word.specs.CountingWord.{StandsFor}
-use Rattle.counting_core.specs.declared.step.Step.{Step}
-use Rattle.counting_core.specs.declared.step.Answer.{Answer}
-use Rattle.counting_core.specs.declared.step.Answer.TheVariants.{Memory, Barred}
-use Rattle.counting_core.specs.Trace.{Trace, Then, State, after}
-use Rattle.counting_core.specs.Permitted.{permitted}
-use Rattle.counting_core.specs.ReferenceModel.{Model}
-use Rattle.counting_core.specs.Legal.{state, model, takes_memory, IsAnswer}
-use Rattle.counting_core.specs.Represents.{CoreState, Represents, state_of, Continues, IsReached, drops_in_flight}
-use Rattle.counting_core.specs.ByWord.{IsPermitted, value_after, births_after, TakesEffect, FollowsWord}
+use Rattle.counting_core.proofs.Names.{IsTrue, ◌≡◌, inl, inr, ℕ, true, length, refl, sym, ◌∙◌, ap, subst, or_parts}
+use Rattle.counting_core.proofs.Names.{StandsFor, Step, Answer, Memory, Barred, Trace, Then, State, after, permitted}
+use Rattle.counting_core.proofs.Names.{Model, state, model, takes_memory, IsAnswer, CoreState, Represents, state_of}
+use Rattle.counting_core.proofs.Names.{Continues, IsReached, drops_in_flight, IsPermitted, value_after, births_after}
+use Rattle.counting_core.proofs.Names.{TakesEffect, FollowsWord}
 use Rattle.counting_core.proofs.Traces.Deeds.{Deed, clone_reads, raise_loses, clone_bears, writes}
 use Rattle.counting_core.proofs.Traces.LegalSteps.{takes_effect, Happens, happens, expected-by}
 use Rattle.counting_core.proofs.Steps.ByTheWord.{answers_by_word, word-now, stands_for}

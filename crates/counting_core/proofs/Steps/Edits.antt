@@ -1,22 +1,11 @@
 -- The edits of a core's lists, as functions with another value at one place.
-use Rattle.std.proofs.Common.{◌≡◌, ◌≢◌, ℕ, ◌+◌, ◌<◌, ◌≤◌, true, false}
-use Rattle.std.proofs.Common.{List, [], ◌∷◌, ◌++◌, length, nat_eq, get_or, set, length-set}
-use Rattle.std.proofs.Common.{length-append, get_or-set_other, get_or-set_same, refl, sym, ◌∙◌, ap}
-use Rattle.std.proofs.Common.{true≢false, arith, inl, inr, ap₂}
-use Rattle.std.proofs.Common.{ltb-true}
-use Rattle.std.proofs.lemmas.Bool.{cases_lt, eqb-false, and_parts}
-use Rattle.std.proofs.lemmas.List.{get_or_append_left, get_or_default}
-use Rattle.std.proofs.Math.ListN.{get_or-eq_default}
-use Rattle.std.proofs.Math.Seq.{get_or-append_seam}
-use mathlib.Core.Path.{fun_ext}
-use Rattle.counting_core.specs.declared.activity.Activity.{Activity}
-use Rattle.counting_core.specs.declared.activity.Activity.TheVariants.{Idle}
-use Rattle.counting_core.specs.declared.step.Step.{Step}
-use Rattle.counting_core.specs.declared.step.Answer.{Answer}
-use Rattle.counting_core.specs.declared.step.Answer.TheVariants.{Born}
-use Rattle.counting_core.specs.Trace.{HandleState, unborn, newborn, put, goes_on_to, after, owner_of}
-use Rattle.counting_core.specs.Represents.{CoreState, handle, activity, state_of}
-use Rattle.counting_core.specs.ByWord.{IsPermitted, by_word, value_after, births_after, TakesEffect}
+use Rattle.counting_core.proofs.Names.{◌≡◌, ◌≢◌, ℕ, ◌+◌, ◌<◌, ◌≤◌, true, false, List, [], ◌∷◌, ◌++◌, length, nat_eq}
+use Rattle.counting_core.proofs.Names.{get_or, set, length-set, length-append, get_or-set_other, get_or-set_same, refl}
+use Rattle.counting_core.proofs.Names.{sym, ◌∙◌, ap, true≢false, arith, inl, inr, ap₂, ltb-true, cases_lt, eqb-false}
+use Rattle.counting_core.proofs.Names.{and_parts, get_or_append_left, get_or_default, get_or-eq_default}
+use Rattle.counting_core.proofs.Names.{get_or-append_seam, fun_ext, Activity, Idle, Step, Answer, Born, HandleState}
+use Rattle.counting_core.proofs.Names.{unborn, newborn, put, goes_on_to, after, owner_of, CoreState, handle, activity}
+use Rattle.counting_core.proofs.Names.{state_of, IsPermitted, by_word, value_after, births_after, TakesEffect}
 use Rattle.counting_core.proofs.Traces.Places.{put-all}
 
 module _ {A : Type 0} where

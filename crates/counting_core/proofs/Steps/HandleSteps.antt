@@ -1,19 +1,10 @@
 -- By its answer and its word a step on the word is the atomic step of a handle.
-use Rattle.std.proofs.Common.{◌≡◌, ◌+◌, Bool, true, false, if◌then◌else◌, nat_eq, length, refl}
-use Rattle.counting_word.specs.CountingWord.{is_marked_word, is_one_handle, count_of}
-use Rattle.counting_word.specs.Rights.{a_handle, nothing, to_lower, whole_block}
-use Rattle.counting_word.specs.declared.ClonePlan.TheVariants.{Static as StaticClone, Full as FullClone}
-use Rattle.counting_word.specs.declared.ClonePlan.TheVariants.{Raise as RaiseClone}
-use Rattle.counting_word.specs.declared.DropPlan.TheVariants.{Static as StaticDrop, Lower as LowerDrop}
-use Rattle.counting_core.specs.declared.step.Step.{Step}
-use Rattle.counting_core.specs.declared.step.Step.TheVariants.{Clone, Raise, Drop, Lower, Mark, Unique, Static, GetMut}
-use Rattle.counting_core.specs.declared.step.Step.TheVariants.{IntoUnique}
-use Rattle.counting_core.specs.declared.step.Answer.TheVariants.{Born, Ended, GivenUp, Alone, Sole, Shared}
-use Rattle.counting_core.specs.Trace.{owner_of, seen_in}
-use Rattle.counting_core.specs.Represents.{CoreState, activity}
-use Rattle.counting_core.specs.TraceLogs.{word_step}
-use Rattle.counting_core.specs.ByWord.{cloned, dropped}
-use Rattle.counting_core.specs.HandleSteps.{IsAs, right_of}
+use Rattle.counting_core.proofs.Names.{◌≡◌, ◌+◌, Bool, true, false, if◌then◌else◌, nat_eq, length, refl}
+use Rattle.counting_core.proofs.Names.{is_marked_word, is_one_handle, count_of, a_handle, nothing, to_lower}
+use Rattle.counting_core.proofs.Names.{whole_block, StaticClone, FullClone, RaiseClone, StaticDrop, LowerDrop, Step}
+use Rattle.counting_core.proofs.Names.{Clone, Raise, Drop, Lower, Mark, Unique, Static, GetMut, IntoUnique, Born}
+use Rattle.counting_core.proofs.Names.{Ended, GivenUp, Alone, Sole, Shared, owner_of, seen_in, CoreState, activity}
+use Rattle.counting_core.proofs.Names.{word_step, cloned, dropped, IsAs, right_of}
 
 both : (P : Bool → Type 0) (b : Bool) → P true → P false → P b
 both P true first second = first

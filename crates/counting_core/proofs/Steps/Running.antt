@@ -1,18 +1,10 @@
 -- A new core, and a run of steps.
-use Rattle.std.proofs.Common.{◌≡◌, ℕ, ◌+◌, ◌<◌, ◌++◌, List, [], ◌∷◌, length, length-append}
-use Rattle.std.proofs.Common.{get_or, take, replicate, refl, sym, ◌∙◌, ap, subst, arith, inl, inr}
-use Rattle.std.proofs.lemmas.Bool.{cases_lt}
-use Rattle.std.proofs.lemmas.List.{take_more, get_or-replicate, length-replicate}
-use Rattle.std.proofs.Math.ListN.{get_or-eq_default}
-use mathlib.Core.Path.{fun_ext}
-use Rattle.counting_word.specs.CountingWord.{IsLimit}
-use Rattle.counting_word.proofs.Words.{stands-new}
-use Rattle.counting_core.specs.declared.activity.Activity.{Activity}
-use Rattle.counting_core.specs.declared.activity.Activity.TheVariants.{Idle}
-use Rattle.counting_core.specs.declared.step.Step.{Step}
-use Rattle.counting_core.specs.declared.step.Answer.{Answer}
-use Rattle.counting_core.specs.Trace.{Trace, Open, Then, then_all, HandleState, unborn, newborn}
-use Rattle.counting_core.specs.Represents.{CoreState, Represents, Continues, ContinuesAll, core_of}
+use Rattle.counting_core.proofs.Names.{◌≡◌, ℕ, ◌+◌, ◌<◌, ◌++◌, List, [], ◌∷◌, length, length-append, get_or, take}
+use Rattle.counting_core.proofs.Names.{replicate, refl, sym, ◌∙◌, ap, subst, arith, inl, inr, cases_lt, take_more}
+use Rattle.counting_core.proofs.Names.{get_or-replicate, length-replicate, get_or-eq_default, fun_ext, IsLimit}
+use Rattle.counting_core.proofs.Names.{stands-new, Activity, Idle, Step, Answer, Trace, Open, Then, then_all}
+use Rattle.counting_core.proofs.Names.{HandleState, unborn, newborn, CoreState, Represents, Continues, ContinuesAll}
+use Rattle.counting_core.proofs.Names.{core_of}
 use Rattle.counting_core.proofs.Steps.Edits.{get_or-push}
 
 owner-replicate : (n q : ℕ) → get_or (replicate n Idle) q Idle ≡ Idle

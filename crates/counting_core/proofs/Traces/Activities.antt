@@ -1,11 +1,7 @@
 -- What an owner is in the middle of, by the step that it may make.
-use Rattle.std.proofs.Common.{◌≡◌, ℕ, true, false, refl, sym, ◌∙◌, true≢false}
-use Rattle.counting_core.specs.declared.activity.Activity.{Activity}
-use Rattle.counting_core.specs.declared.activity.Activity.TheVariants.{Idle, Cloning, Dropping}
-use Rattle.counting_core.specs.declared.step.Step.{Step}
-use Rattle.counting_core.specs.declared.step.Step.TheVariants.{Raise, Quit, Lower}
-use Rattle.counting_core.specs.Trace.{State, handle_in, seen_in}
-use Rattle.counting_core.specs.Permitted.{permitted_by}
+use Rattle.counting_core.proofs.Names.{◌≡◌, ℕ, true, false, refl, sym, ◌∙◌, true≢false, Activity, Idle, Cloning}
+use Rattle.counting_core.proofs.Names.{Dropping, Step, Raise, Quit, Lower, State, handle_in, seen_in, permitted_by}
+use Rattle.counting_core.proofs.Names.{Bool, permitted, owner_of, and_parts}
 
 module _ (V : Type 0) (u : State) where
   pub raising : (o : ℕ) (c : Activity) → permitted_by {V = V} u c (Raise o) ≡ true
@@ -25,11 +21,24 @@ module _ (V : Type 0) (u : State) where
   lowering o Idle may = absurd (true≢false (sym may))
   lowering o (Cloning h n) may = absurd (true≢false (sym may))
 
--- a step that only an idle owner may make
+-- a step by which an owner goes on with what it has in flight
+abbrev pub resumes : {V : Type 0} → Step V → Bool
+resumes (Raise o) = true
+resumes (Quit o) = true
+resumes (Lower o) = true
+resumes s = false
+
+-- any other is of an idle owner
 module _ {V : Type 0} (u : State) where
-  pub begins : (s : Step V) (c : Activity) → permitted_by u c s ≡ true
-      → ((h n : ℕ) → permitted_by u (Cloning h n) s ≡ false) → ((h : ℕ) → permitted_by u (Dropping h) s ≡ false)
+  pub begins : (s : Step V) (c : Activity) → permitted_by u c s ≡ true → resumes s ≡ false
       → (c ≡ Idle) × (permitted_by u Idle s ≡ true)
-  begins s Idle may clone drop = (refl, may)
-  begins s (Cloning h n) may clone drop = absurd (true≢false (sym may ∙ clone h n))
-  begins s (Dropping h) may clone drop = absurd (true≢false (sym may ∙ drop h))
+  begins s Idle may other = (refl, may)
+  begins (Raise o) (Cloning h n) may other = absurd (true≢false other)
+  begins (Quit o) (Cloning h n) may other = absurd (true≢false other)
+  begins s (Cloning h n) may other = absurd (true≢false (sym may))
+  begins (Lower o) (Dropping h) may other = absurd (true≢false other)
+  begins s (Dropping h) may other = absurd (true≢false (sym may))
+
+  pub begun : (s : Step V) → permitted u s ≡ true → resumes s ≡ false
+      → (u.activity (owner_of s) ≡ Idle) × (permitted_by u Idle s ≡ true)
+  begun s may = begins s (u.activity (owner_of s)) (and_parts _ _ may).1

@@ -1,26 +1,16 @@
 -- What a read of the word for a clone finds: the limit, or a number of handles that a raise straight after it finds
 -- again.
-use Rattle.std.proofs.Common.{◌≡◌, ℕ, true, false, not, nat_eq, length, refl}
-use Rattle.std.proofs.Common.{sym, ◌∙◌, ap, true≢false, ◌⊎◌, inl, inr, ⊎_elim, ◌↔◌}
-use Rattle.std.proofs.Common.{eqb-true, eq-eqb}
-use Rattle.std.proofs.lemmas.Bool.{and_parts, and_from, or_parts, or_right, not-true}
-use Rattle.counting_core.specs.declared.activity.Activity.TheVariants.{Cloning}
-use Rattle.counting_core.specs.declared.step.Step.{Step}
-use Rattle.counting_core.specs.declared.step.Step.TheVariants.{Clone, Raise}
-use Rattle.counting_core.specs.declared.step.Answer.{Answer}
-use Rattle.counting_core.specs.declared.step.Answer.TheVariants.{Born, Full, Pending, Memory}
-use Rattle.counting_core.specs.Trace.{Trace, Then, State, after, owner_of, limit_of, seen_in}
-use Rattle.counting_core.specs.Permitted.{permitted, permitted_by}
-use Rattle.counting_core.specs.ReferenceModel.{Model, is_full}
-use Rattle.counting_core.specs.Legal.{raise_settles, expected, takes_memory, IsLegal, state, model}
-use Rattle.counting_core.specs.Laws.{live_handles, has_mark, is_clone_read}
+use Rattle.counting_core.proofs.Names.{◌≡◌, ℕ, true, false, not, nat_eq, length, refl, sym, ◌∙◌, ap, true≢false, ◌⊎◌}
+use Rattle.counting_core.proofs.Names.{inl, inr, ⊎_elim, ◌↔◌, eqb-true, eq-eqb, and_parts, and_from, or_parts}
+use Rattle.counting_core.proofs.Names.{or_right, not-true, Cloning, Step, Clone, Raise, Answer, Born, Full, Pending}
+use Rattle.counting_core.proofs.Names.{Memory, Trace, Then, State, after, owner_of, limit_of, seen_in, permitted}
+use Rattle.counting_core.proofs.Names.{permitted_by, Model, is_full, raise_settles, expected, takes_memory, IsLegal}
+use Rattle.counting_core.proofs.Names.{state, model, live_handles, has_mark, is_clone_read, nat_lt, handle_in}
 use Rattle.counting_core.proofs.Traces.HandleLists.{nat_eq-same}
 use Rattle.counting_core.proofs.Traces.Deeds.{Deed, clone_reads, clone_bears, clone_full, raise_loses, raise_bears}
 use Rattle.counting_core.proofs.Traces.Deeds.{raise_full}
 use Rattle.counting_core.proofs.Traces.LegalSteps.{Happens, happens, expected-deed}
 use Rattle.counting_core.proofs.Traces.Limits.{model_limit}
-use Rattle.std.proofs.Common.{nat_lt}
-use Rattle.counting_core.specs.Trace.{handle_in}
 use Rattle.counting_core.proofs.Traces.Places.{put-here}
 
 module _ {V : Type 0} where

@@ -1,23 +1,13 @@
 -- Each way in which a permitted step is answered, want of memory aside.
-use Rattle.std.proofs.Common.{◌≡◌, ℕ, ◌+◌, Bool, true, false, not, ◌&&◌, ◌||◌, nat_eq, []}
-use Rattle.std.proofs.Common.{◌∷◌, ◌++◌, length, if◌then◌else◌, refl, sym, ◌∙◌, ap, subst}
-use Rattle.std.proofs.Common.{true≢false}
-use Rattle.std.specs.List.{list_any}
-use Rattle.std.proofs.lemmas.Bool.{cond_both, or_parts, or_from, or_left, or_right}
-use Rattle.counting_core.specs.declared.activity.Activity.TheVariants.{Dropping}
-use Rattle.counting_core.specs.declared.step.Step.{Step}
-use Rattle.counting_core.specs.declared.step.Step.TheVariants.{Clone, Raise, Quit, Drop, Lower, Mark, Unique, Static}
-use Rattle.counting_core.specs.declared.step.Step.TheVariants.{GetMut, Write, EndWrite, IntoUnique, Share, Load, Lend}
-use Rattle.counting_core.specs.declared.step.Step.TheVariants.{Return, Give}
-use Rattle.counting_core.specs.declared.step.Answer.{Answer}
-use Rattle.counting_core.specs.declared.step.Answer.TheVariants.{Born, Full, Pending, Ended, GivenUp, Marked, Is, Alone}
-use Rattle.counting_core.specs.declared.step.Answer.TheVariants.{Sole, Shared, Done, Value, Barred, Quit as Quitted}
-use Rattle.counting_core.specs.Trace.{State, owner_of, handle_in}
-use Rattle.counting_core.specs.Permitted.{permitted_by}
-use Rattle.counting_core.specs.ReferenceModel.{Model, Clones, Ends, is_full, is_only, without}
-use Rattle.counting_core.specs.Legal.{Move, Visible, Internal, raise_settles, move, outcome}
+use Rattle.counting_core.proofs.Names.{◌≡◌, ℕ, ◌+◌, Bool, true, false, not, ◌&&◌, ◌||◌, nat_eq, [], ◌∷◌, ◌++◌, length}
+use Rattle.counting_core.proofs.Names.{if◌then◌else◌, refl, sym, ◌∙◌, ap, subst, true≢false, list_any, cond_both}
+use Rattle.counting_core.proofs.Names.{or_parts, or_from, or_left, or_right, Dropping, Step, Clone, Raise, Quit, Drop}
+use Rattle.counting_core.proofs.Names.{Lower, Mark, Unique, Static, GetMut, Write, EndWrite, IntoUnique, Share, Load}
+use Rattle.counting_core.proofs.Names.{Lend, Return, Give, Answer, Born, Full, Pending, Ended, GivenUp, Marked, Is}
+use Rattle.counting_core.proofs.Names.{Alone, Sole, Shared, Done, Value, Barred, Quitted, State, owner_of, handle_in}
+use Rattle.counting_core.proofs.Names.{permitted_by, Model, Clones, Ends, is_full, is_only, without, Move, Visible}
+use Rattle.counting_core.proofs.Names.{Internal, raise_settles, move, outcome, seen_in}
 use Rattle.counting_core.proofs.Traces.Activities.{lowering}
-use Rattle.counting_core.specs.Trace.{seen_in}
 
 module _ {V : Type 0} where
   -- the model with one more live handle, and without one

@@ -1,15 +1,8 @@
 -- The owners whose drop is in flight have handles of their own.
-use Rattle.std.proofs.Common.{◌≡◌, ℕ, ◌+◌, ◌≤◌, true, not, ◌||◌, nat_eq, List, [], ◌∷◌}
-use Rattle.std.proofs.Common.{length}
-use Rattle.std.proofs.Common.{sym, ◌∙◌, ap, arith, true≢false, eqb-true, ◌⊎◌, inl, inr}
-use Rattle.std.proofs.lemmas.Bool.{and_parts, and_from, false_from_ne_true}
-use Rattle.std.proofs.lemmas.Grind.{common_steps}
-use Rattle.counting_core.specs.declared.activity.Activity.{Activity}
-use Rattle.counting_core.specs.declared.activity.Activity.TheVariants.{Idle, Cloning, Dropping}
-use Rattle.counting_core.specs.Trace.{HandleState, State, handle_in}
-use Rattle.counting_core.specs.Permitted.{has_alone, may_use}
-use Rattle.counting_core.specs.ReferenceModel.{without}
-use Rattle.counting_core.specs.Represents.{is_dropping}
+use Rattle.counting_core.proofs.Names.{◌≡◌, ℕ, ◌+◌, ◌≤◌, true, not, ◌||◌, nat_eq, List, [], ◌∷◌, length, sym, ◌∙◌, ap}
+use Rattle.counting_core.proofs.Names.{arith, true≢false, eqb-true, ◌⊎◌, inl, inr, and_parts, and_from}
+use Rattle.counting_core.proofs.Names.{false_from_ne_true, common_steps, Activity, Idle, Cloning, Dropping}
+use Rattle.counting_core.proofs.Names.{HandleState, State, handle_in, has_alone, may_use, without, is_dropping}
 use Rattle.counting_core.proofs.Traces.HandleLists.{has, IsApart, nat_eq-same, has-without, length-without}
 use Rattle.counting_core.proofs.Traces.HandleLists.{apart-without}
 use Rattle.counting_core.proofs.Traces.InFlight.{Fits}

@@ -1,29 +1,18 @@
 -- The end of a handle in a run: its last read by an owner that has nothing yet, and its lower.
-use Rattle.std.proofs.Common.{◌≡◌, ℕ, suc, ◌+◌, ◌-◌, ◌<◌, ◌≤◌, Bool, true, false, not}
-use Rattle.std.proofs.Common.{◌&&◌, ◌||◌, nat_eq, nat_lt}
-use Rattle.std.proofs.Common.{List, [], ◌∷◌, ◌++◌, length, append-nil, if◌then◌else◌, refl, sym}
-use Rattle.std.proofs.Common.{◌∙◌, ap, ap₂}
-use Rattle.std.proofs.Common.{subst, arith, true≢false, eqb-true, ne_eqb, lt-ltb, lt_irrefl}
-use Rattle.std.proofs.lemmas.Bool.{and_from, and_parts, or_left, or_right, false_from_ne_true}
-use Rattle.counting_word.specs.Rights.{nothing, to_lower, whole_block}
-use Rattle.counting_word.specs.WordSteps.{reads_last, lowers}
-use Rattle.counting_word.specs.Tallies.{Tally, has_exactly, after_last_read}
-use Rattle.counting_core.specs.declared.activity.Activity.{Activity}
-use Rattle.counting_core.specs.declared.activity.Activity.TheVariants.{Idle, Dropping}
-use Rattle.counting_core.specs.declared.step.Step.TheVariants.{Drop, Lower, Give}
-use Rattle.counting_core.specs.declared.step.Answer.{Answer}
-use Rattle.counting_core.specs.declared.step.Answer.TheVariants.{Pending, Ended, GivenUp, Done}
-use Rattle.counting_core.specs.Trace.{Trace, Then, HandleState, State, put, handle_in}
-use Rattle.counting_core.specs.Permitted.{has_alone, may_take, permitted_by}
-use Rattle.counting_core.specs.ReferenceModel.{Model, is_only, without}
-use Rattle.counting_core.specs.Legal.{state, model}
-use Rattle.counting_core.specs.Runs.{Entry, entries_of}
+use Rattle.counting_core.proofs.Names.{◌≡◌, ℕ, suc, ◌+◌, ◌-◌, ◌<◌, ◌≤◌, Bool, true, false, not, ◌&&◌, ◌||◌, nat_eq}
+use Rattle.counting_core.proofs.Names.{nat_lt, List, [], ◌∷◌, ◌++◌, length, append-nil, if◌then◌else◌, refl, sym, ◌∙◌}
+use Rattle.counting_core.proofs.Names.{ap, ap₂, subst, arith, true≢false, eqb-true, ne_eqb, lt-ltb, lt_irrefl}
+use Rattle.counting_core.proofs.Names.{and_from, and_parts, or_left, or_right, false_from_ne_true, nothing, to_lower}
+use Rattle.counting_core.proofs.Names.{whole_block, reads_last, lowers, Tally, has_exactly, after_last_read, Activity}
+use Rattle.counting_core.proofs.Names.{Idle, Dropping, Drop, Lower, Give, Answer, Pending, Ended, GivenUp, Done, Trace}
+use Rattle.counting_core.proofs.Names.{Then, HandleState, State, put, handle_in, has_alone, may_take, permitted_by}
+use Rattle.counting_core.proofs.Names.{Model, is_only, without, state, model, Entry, entries_of}
 use Rattle.counting_core.proofs.Traces.Places.{put-all}
 use Rattle.counting_core.proofs.Traces.HandleLists.{has, nat_eq-same, length-without}
 use Rattle.counting_core.proofs.Traces.Deeds.{drop_reads, drop_ends, lower_ends, lower_gives_up, gives, shrunk}
 use Rattle.counting_core.proofs.Traces.LiveHandles.{counted}
 use Rattle.counting_core.proofs.Traces.InFlight.{Fits, all_fit}
-use Rattle.counting_core.proofs.Traces.Shapes.{held_by_0, Drops, Shape, Made, makes}
+use Rattle.counting_core.proofs.Traces.Shapes.{held_by_0, Drops, Shape, Comes, here, makes}
 use Rattle.counting_core.proofs.Traces.HandleRuns.{Goes}
 use Rattle.counting_core.proofs.Traces.HandleRuns as by_handle
 
@@ -64,9 +53,9 @@ module _ {V : Type 0} (limit : ℕ) where
       abbrev t1 : Trace V
       t1 = Then t (Give 0 h k) Done
 
-      gave : Made t (Give 0 h k) Done m
-      gave = makes t (Give 0 h k) Done m Idle s.legal refl (by_handle.within limit owners k p h hs ds t s some)
-          (by_handle.idle-0 limit owners k p h hs ds t s some)
+      gave : Comes t t1 m
+      gave = makes t t m (here t s.legal) (Give 0 h k) Done m Idle refl
+          (by_handle.within limit owners k p h hs ds t s some) (by_handle.idle-0 limit owners k p h hs ds t s some)
           (and_from _ _ (or_left (may_take ((state t).handle h) 0) _ takable) another) (gives 0 h k)
 
       given-here : (state t1).handle h ≡ record held_by_0 { holder = k }
@@ -99,11 +88,8 @@ module _ {V : Type 0} (limit : ℕ) where
           owned = s.owned;
           begun = omega arith;
           limited = s.limited;
-          marked = ap (λ (x : Model V). x.mark) read.same_model ∙ ap (λ (x : Model V). x.mark)
-              gave.same_model ∙ s.marked;
-          live = ap (λ (x : Model V). length x.live) read.same_model ∙ ap (λ (x : Model V). length x.live)
-              gave.same_model
-              ∙ s.live ∙ (omega (arith, one_fewer));
+          marked = ap (λ (x : Model V). x.mark) read.same_model ∙ s.marked;
+          live = ap (λ (x : Model V). length x.live) read.same_model ∙ s.live ∙ (omega (arith, one_fewer));
           handles = omega (arith, one_fewer);
           drops = ap (λ z. suc z) s.drops ∙ (omega arith);
           apart = s.apart.1;
@@ -122,12 +108,11 @@ module _ {V : Type 0} (limit : ℕ) where
         };
         entries = ap (λ (l : List Entry). l ++ (reads_last, to_lower) ∷ []) (append-nil (entries_of t));
       } where
-        read : Made t1 (Drop k h) Pending (model t1)
-        read = makes t1 (Drop k h) Pending (model t1) Idle gave.legal refl free-1 new-idle may
-            (drop_reads k h (ap (λ (x : Model V). x.mark) gave.same_model ∙ s.marked ∙ mark))
-
         t2 : Trace V
         t2 = Then t1 (Drop k h) Pending
+
+        read : Comes t t2 m
+        read = makes t t1 m gave (Drop k h) Pending m Idle refl free-1 new-idle may (drop_reads k h (s.marked ∙ mark))
 
         in-rest : (q : ℕ) → nat_eq k q ≡ false → has q (k ∷ ds) ≡ true → has q ds ≡ true
         in-rest q other there = grind arith
@@ -148,10 +133,8 @@ module _ {V : Type 0} (limit : ℕ) where
           owned = s.owned;
           begun = omega arith;
           limited = s.limited;
-          marked = ap (λ (x : Model V). x.mark) read.same_model ∙ ap (λ (x : Model V). x.mark)
-              gave.same_model ∙ s.marked;
-          live = ap (λ (x : Model V). length x.live) read.same_model
-              ∙ ap (λ (x : Model V). length (shrunk x h).live) gave.same_model ∙ fewer;
+          marked = ap (λ (x : Model V). x.mark) read.same_model ∙ s.marked;
+          live = ap (λ (x : Model V). length x.live) read.same_model ∙ fewer;
           handles = omega (arith, one_fewer);
           drops = s.drops;
           apart = s.apart.1;
@@ -164,12 +147,12 @@ module _ {V : Type 0} (limit : ℕ) where
         };
         entries = ap (λ (l : List Entry). l ++ (reads_last, nothing) ∷ []) (append-nil (entries_of t));
       } where
-        read : Made t1 (Drop k h) Ended (shrunk (model t1) h)
-        read = makes t1 (Drop k h) Ended (shrunk (model t1) h) Idle gave.legal refl free-1 new-idle may
-            (drop_ends k h (ap (λ (x : Model V). x.mark) gave.same_model ∙ s.marked ∙ mark))
-
         t2 : Trace V
         t2 = Then t1 (Drop k h) Ended
+
+        read : Comes t t2 (shrunk m h)
+        read = makes t t1 m gave (Drop k h) Ended (shrunk m h) Idle refl free-1 new-idle may
+            (drop_ends k h (s.marked ∙ mark))
 
         fewer : length (without h m.live) ≡ p.handles - 1 + p.drops
         fewer = let so_far : length m.live ≡ p.handles + p.drops = s.live in
@@ -239,7 +222,7 @@ module _ {V : Type 0} (limit : ℕ) where
         let one_less : length (without h n.live) + 1 ≡ length n.live =
         length-without h n.live dropped-lives (counted t s.legal).apart in omega arith
 
-    ended : (a : Answer V) → Made t (Lower o) a (shrunk n h)
+    ended : (a : Answer V) → Comes t (Then t (Lower o) a) (shrunk n h)
         → state (Then t (Lower o) a) ≡ state (Then t (Lower o) Ended)
         → Shape limit owners k (record p { drops = p.drops - 1 }) hs ds (Then t (Lower o) a)
     ended a done same = record {
@@ -289,8 +272,8 @@ module _ {V : Type 0} (limit : ℕ) where
         lowers,
         if b then whole_block 0 else nothing,
       ) ∷ [])
-      at true one = let done : Made t (Lower o) (GivenUp n.value) (shrunk n h) =
-          makes t (Lower o) (GivenUp n.value) (shrunk n h) (Dropping h) s.legal refl within-o is refl
+      at true one = let done : Comes t (Then t (Lower o) (GivenUp n.value)) (shrunk n h) =
+          makes t t n (here t s.legal) (Lower o) (GivenUp n.value) (shrunk n h) (Dropping h) refl within-o is refl
           (lower_gives_up o h is (only-lower ∙ one)) in record {
             now = Then t (Lower o) (GivenUp n.value);
             hs = hs;
@@ -298,8 +281,8 @@ module _ {V : Type 0} (limit : ℕ) where
             shape = ended (GivenUp n.value) done refl;
             entries = refl;
           }
-      at false more = let done : Made t (Lower o) Ended (shrunk n h) =
-          makes t (Lower o) Ended (shrunk n h) (Dropping h) s.legal refl within-o is refl (lower_ends o h is (only-lower
+      at false more = let done : Comes t (Then t (Lower o) Ended) (shrunk n h) =
+          makes t t n (here t s.legal) (Lower o) Ended (shrunk n h) (Dropping h) refl within-o is refl (lower_ends o h is (only-lower
           ∙ more)) in record {
             now = Then t (Lower o) Ended;
             hs = hs;

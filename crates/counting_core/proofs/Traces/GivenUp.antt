@@ -1,20 +1,10 @@
 -- When the value is given up, and that no step is permitted afterwards.
-use Rattle.std.proofs.Common.{◌≡◌, ℕ, ◌+◌, Bool, true, false, not, ◌&&◌, if◌then◌else◌, nat_eq}
-use Rattle.std.proofs.Common.{List, [], ◌∷◌, length, refl, sym, ◌∙◌, ap, arith, true≢false}
-use Rattle.std.proofs.Common.{⊎_elim, eqb-true}
-use Rattle.std.proofs.lemmas.Bool.{and_parts, and_right, or_cases}
-use mathlib.Core.Path.{fun_ext}
-use Rattle.counting_core.specs.declared.activity.Activity.{Activity}
-use Rattle.counting_core.specs.declared.activity.Activity.TheVariants.{Idle, Cloning, Dropping}
-use Rattle.counting_core.specs.declared.step.Step.{Step}
-use Rattle.counting_core.specs.declared.step.Step.TheVariants.{Raise}
-use Rattle.counting_core.specs.declared.step.Answer.{Answer}
-use Rattle.counting_core.specs.declared.step.Answer.TheVariants.{Ended, GivenUp, Memory, Barred}
-use Rattle.counting_core.specs.Trace.{Trace, Open, Then, HandleState, State, owner_of}
-use Rattle.counting_core.specs.Permitted.{permitted_by}
-use Rattle.counting_core.specs.ReferenceModel.{Model, is_only, without}
-use Rattle.counting_core.specs.Legal.{IsLegal, state, model}
-use Rattle.counting_core.specs.Laws.{has_mark, live_handles, is_end, is_given_up, some_answer}
+use Rattle.counting_core.proofs.Names.{◌≡◌, ℕ, ◌+◌, Bool, true, false, not, ◌&&◌, if◌then◌else◌, nat_eq, List, [], ◌∷◌}
+use Rattle.counting_core.proofs.Names.{length, refl, sym, ◌∙◌, ap, arith, true≢false, ⊎_elim, eqb-true, and_parts}
+use Rattle.counting_core.proofs.Names.{and_right, or_cases, fun_ext, Activity, Idle, Cloning, Dropping, Step, Raise}
+use Rattle.counting_core.proofs.Names.{Answer, Ended, GivenUp, Memory, Barred, Trace, Open, Then, HandleState, State}
+use Rattle.counting_core.proofs.Names.{owner_of, permitted_by, Model, is_only, without, IsLegal, state, model}
+use Rattle.counting_core.proofs.Names.{has_mark, live_handles, is_end, is_given_up, some_answer}
 use Rattle.counting_core.proofs.Traces.HandleLists.{has, length-without}
 use Rattle.counting_core.proofs.Traces.Deeds.{Deed, drop_ends, lower_ends, lower_gives_up}
 use Rattle.counting_core.proofs.Traces.LegalSteps.{happens, takes_effect, barred_if_not_permitted}

@@ -1,12 +1,8 @@
 -- Lists of handles, none of them twice.
-use Rattle.std.proofs.Common.{◌≡◌, ℕ, ◌+◌, Bool, true, false, not, ◌&&◌, ◌||◌, nat_eq, List, []}
-use Rattle.std.proofs.Common.{◌∷◌, ◌++◌, length, count_by, if◌then◌else◌, refl, sym, ◌∙◌, ap}
-use Rattle.std.proofs.Common.{arith, true≢false, eqb-true}
-use Rattle.std.specs.List.{list_any}
-use Rattle.std.proofs.lemmas.Bool.{and_right, or_parts, or_from}
-use Rattle.std.proofs.lemmas.List.Sums.{sum_by-cons}
-use Rattle.std.proofs.lemmas.Map.Views.{any-filter_same}
-use Rattle.counting_core.specs.ReferenceModel.{without}
+use Rattle.counting_core.proofs.Names.{◌≡◌, ℕ, ◌+◌, Bool, true, false, not, ◌&&◌, ◌||◌, nat_eq, List, [], ◌∷◌, ◌++◌}
+use Rattle.counting_core.proofs.Names.{length, count_by, if◌then◌else◌, refl, sym, ◌∙◌, ap, arith, true≢false}
+use Rattle.counting_core.proofs.Names.{eqb-true, list_any, and_right, or_parts, or_from, sum_by-cons, any-filter_same}
+use Rattle.counting_core.proofs.Names.{without}
 
 abbrev pub has : ℕ → List ℕ → Bool
 has h xs = list_any (nat_eq h) xs

@@ -1,35 +1,19 @@
 -- The handle of a clone in flight is one that its owner may use, and the handle of a drop in flight is its owner's
 -- alone.
-use Rattle.std.proofs.Common.{◌≡◌, ℕ, true, false, ◌||◌, nat_eq, List, [], ◌∷◌, refl, sym}
-use Rattle.std.proofs.Common.{subst, arith, true≢false, ⊎_elim, Ordering, Less, Equal, Greater}
-use Rattle.std.specs.List.{list_any}
-use Rattle.std.specs.Ordering.{nat_cmp, match_ordering}
-use Rattle.std.specs.BTreeSet.{insert_key}
-use Rattle.std.specs.Set.{remove_key}
-use Rattle.std.proofs.lemmas.Bool.{and_parts, or_cases}
-use Rattle.std.proofs.lemmas.Grind.{common_steps}
-use Rattle.counting_core.specs.declared.activity.Activity.{Activity}
-use Rattle.counting_core.specs.declared.activity.Activity.TheVariants.{Idle, Cloning, Dropping}
-use Rattle.counting_core.specs.declared.step.Step.{Step}
-use Rattle.counting_core.specs.declared.step.Step.TheVariants.{Clone, Drop, Lower, GetMut, EndWrite, IntoUnique, Share}
-use Rattle.counting_core.specs.declared.step.Step.TheVariants.{Lend, Return, Give}
-use Rattle.counting_core.specs.declared.step.Answer.{Answer}
-use Rattle.counting_core.specs.declared.step.Answer.TheVariants.{Born, Full, Pending, Ended, GivenUp, Alone, Sole, Done}
-use Rattle.counting_core.specs.declared.step.Answer.TheVariants.{Memory, Barred, Quit as Quitted}
-use Rattle.counting_core.specs.Trace.{Trace, Open, Then, HandleState, lent_to, returned_by, State, handle_in}
-use Rattle.counting_core.specs.Trace.{owner_of, handle_in, ended, put, after}
-use Rattle.counting_core.specs.Permitted.{holds, is_lent_to, has_alone, may_use, may_take, is_writing, has_sole}
-use Rattle.counting_core.specs.Permitted.{permitted_by}
-use Rattle.counting_core.specs.ReferenceModel.{Model}
-use Rattle.counting_core.specs.Legal.{IsLegal, state, model}
+use Rattle.counting_core.proofs.Names.{◌≡◌, ℕ, true, false, ◌||◌, nat_eq, List, [], ◌∷◌, refl, sym, subst, arith}
+use Rattle.counting_core.proofs.Names.{true≢false, ⊎_elim, Ordering, Less, Equal, Greater, list_any, nat_cmp}
+use Rattle.counting_core.proofs.Names.{match_ordering, insert_key, remove_key, and_parts, or_cases, common_steps}
+use Rattle.counting_core.proofs.Names.{Activity, Idle, Cloning, Dropping, Step, Clone, Drop, Lower, GetMut, EndWrite}
+use Rattle.counting_core.proofs.Names.{IntoUnique, Share, Lend, Return, Give, Answer, Born, Full, Pending, Ended}
+use Rattle.counting_core.proofs.Names.{GivenUp, Alone, Sole, Done, Memory, Barred, Quitted, Trace, Open, Then}
+use Rattle.counting_core.proofs.Names.{HandleState, lent_to, returned_by, State, handle_in, owner_of, ended, put}
+use Rattle.counting_core.proofs.Names.{after, holds, is_lent_to, has_alone, may_use, may_take, is_writing, has_sole}
+use Rattle.counting_core.proofs.Names.{permitted_by, Model, IsLegal, state, model, goes_on_to, Raise, length}
 use Rattle.counting_core.proofs.Traces.Places.{put-all, put-same}
 use Rattle.counting_core.proofs.Traces.Deeds.{Deed, clone_bears, raise_bears}
 use Rattle.counting_core.proofs.Traces.LegalSteps.{Happens, happens}
 use Rattle.counting_core.proofs.Traces.LiveHandles.{IsCounted, next-dead, counted}
 use Rattle.counting_core.proofs.Traces.Activities.{raising, lowering, begins}
-use Rattle.counting_core.specs.Trace.{goes_on_to}
-use Rattle.counting_core.specs.declared.step.Step.TheVariants.{Raise}
-use Rattle.std.proofs.Common.{length}
 
 -- who is lent a handle is still lent it after another lending
 lent-insert : (o to : ℕ) (os : List ℕ) → list_any (nat_eq o) os ≡ true
@@ -99,6 +83,9 @@ spares-returned p old lent = record {
 pub parts-alone : (k : HandleState) (o : ℕ) → (may_take k o || has_sole k o) ≡ true → has_alone k o ≡ true
 parts-alone k o may = ⊎_elim (λ e. (and_parts _ _ e).0) (λ e. (and_parts _ _ e).0) (or_cases (may_take k o) _ may)
 
+pub taken-lives : (k : HandleState) (o : ℕ) → may_take k o ≡ true → k.lives ≡ true
+taken-lives k o own = (and_parts _ _ (and_parts _ _ (and_parts _ _ own).0).0).0
+
 -- what an owner has in flight fits its handle
 abbrev pub Fits : (ℕ → HandleState) → ℕ → Activity → Type 0
 Fits hs o Idle = Unit {0}
@@ -156,36 +143,36 @@ module _ {V : Type 0} where
   fits-then sees u s Full may fresh was = fits-now u was (owner_of s) Idle tt
   fits-then sees u s Quitted may fresh was = fits-now u was (owner_of s) Idle tt
   fits-then sees u (Clone o h) Pending may fresh was = fits-now u was o (Cloning h sees) (begins u (Clone o h)
-      _ may (λ _ _. refl) (λ _. refl)).1
+      _ may refl).1
   fits-then sees u (Raise o) Pending may fresh was =
       fits-now u was o _ (subst (Fits u.handle o) (raising V u o _ may) (was o))
   fits-then sees u (Drop o h) Pending may fresh was = fits-now u was o (Dropping h) (parts-alone (u.handle h)
-      o (begins u (Drop o h) _ may (λ _ _. refl) (λ _. refl)).1)
+      o (begins u (Drop o h) _ may refl).1)
   fits-then sees u (Drop o h) Ended may fresh was =
-      let free : _ = begins u (Drop o h) _ may (λ _ _. refl) (λ _. refl) in
+      let free : _ = begins u (Drop o h) _ may refl in
       fits-still_idle u was o h _ (spares-own o (u.handle h) _ (parts-alone (u.handle h) o free.1)) free.0
   fits-then sees u (Lower o) Ended may fresh was = lower-fits V u was o may
   fits-then sees u (Lower o) (GivenUp v) may fresh was = lower-fits V u was o may
   fits-then sees u (GetMut o h) Alone may fresh was =
-      let free : _ = begins u (GetMut o h) _ may (λ _ _. refl) (λ _. refl) in
+      let free : _ = begins u (GetMut o h) _ may refl in
       fits-still_idle u was o h _ (spares-own o (u.handle h) _ (and_parts _ _ free.1).0) free.0
   fits-then sees u (EndWrite o h) Done may fresh was =
-      let free : _ = begins u (EndWrite o h) _ may (λ _ _. refl) (λ _. refl) in
+      let free : _ = begins u (EndWrite o h) _ may refl in
       fits-still_idle u was o h _ (spares-writer o (u.handle h) _ free.1) free.0
   fits-then sees u (IntoUnique o h) Sole may fresh was =
-      let free : _ = begins u (IntoUnique o h) _ may (λ _ _. refl) (λ _. refl) in
+      let free : _ = begins u (IntoUnique o h) _ may refl in
       fits-still_idle u was o h _ (spares-own o (u.handle h) _ (and_parts _ _ free.1).0) free.0
   fits-then sees u (Share o h) Done may fresh was =
-      let free : _ = begins u (Share o h) _ may (λ _ _. refl) (λ _. refl) in
+      let free : _ = begins u (Share o h) _ may refl in
       fits-still_idle u was o h _ (spares-own o (u.handle h) _ (and_parts _ _ free.1).0) free.0
   fits-then sees u (Lend o h to) Done may fresh was =
-      let free : _ = begins u (Lend o h to) _ may (λ _ _. refl) (λ _. refl) in
+      let free : _ = begins u (Lend o h to) _ may refl in
       fits-still_idle u was o h _ (spares-lent o to (u.handle h) (and_parts _ _ free.1).0) free.0
   fits-then sees u (Return o h) Done may fresh was =
-      let free : _ = begins u (Return o h) _ may (λ _ _. refl) (λ _. refl) in
+      let free : _ = begins u (Return o h) _ may refl in
       fits-still_idle u was o h _ (spares-returned o (u.handle h) (and_parts _ _ free.1).1) free.0
   fits-then sees u (Give o h to) Done may fresh was =
-      let free : _ = begins u (Give o h to) _ may (λ _ _. refl) (λ _. refl) in
+      let free : _ = begins u (Give o h to) _ may refl in
       fits-still_idle u was o h _ (spares-own o (u.handle h) _ (parts-alone (u.handle h) o (and_parts _ _ free.1).0))
       free.0
   fits-then sees u s a may fresh was = was

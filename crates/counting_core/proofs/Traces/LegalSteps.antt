@@ -1,15 +1,9 @@
 -- What the answer of a step says of it in a legal trace.
-use Rattle.std.proofs.Common.{◌≡◌, Bool, true, false, refl, sym, ◌∙◌, ap, subst, true≢false}
-use Rattle.std.proofs.Common.{◌⊎◌, inl, inr, ⊎_elim, ◌↔◌, IsTrue, nat_lt}
-use Rattle.std.proofs.Common.{if◌then◌else◌}
-use Rattle.std.proofs.lemmas.Bool.{true_from_ne_false, false_from_ne_true, and_parts}
-use Rattle.counting_core.specs.declared.step.Step.{Step}
-use Rattle.counting_core.specs.declared.step.Answer.{Answer}
-use Rattle.counting_core.specs.declared.step.Answer.TheVariants.{Pending, Memory, Barred}
-use Rattle.counting_core.specs.Trace.{Trace, Then, State, owner_of}
-use Rattle.counting_core.specs.Permitted.{permitted, permitted_by}
-use Rattle.counting_core.specs.ReferenceModel.{Model}
-use Rattle.counting_core.specs.Legal.{model_after, move, outcome, expected, takes_memory, IsLegal, IsAnswer, state, model}
+use Rattle.counting_core.proofs.Names.{◌≡◌, Bool, true, false, refl, sym, ◌∙◌, ap, subst, true≢false, ◌⊎◌, inl, inr}
+use Rattle.counting_core.proofs.Names.{⊎_elim, ◌↔◌, IsTrue, nat_lt, if◌then◌else◌, true_from_ne_false}
+use Rattle.counting_core.proofs.Names.{false_from_ne_true, and_parts, Step, Answer, Pending, Memory, Barred, Trace}
+use Rattle.counting_core.proofs.Names.{Then, State, owner_of, permitted, permitted_by, Model, model_after, move}
+use Rattle.counting_core.proofs.Names.{outcome, expected, takes_memory, IsLegal, IsAnswer, state, model}
 use Rattle.counting_core.proofs.Traces.Deeds.{Deed, deed_of, outcome_is, not_barred, pending_stays}
 
 module _ {V : Type 0} where

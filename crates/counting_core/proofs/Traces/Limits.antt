@@ -1,16 +1,8 @@
 -- The limit of a trace, which its model has too, and which its live handles keep without a mark.
-use Rattle.std.proofs.Common.{◌≡◌, ◌≤◌, false, not, ◌&&◌, nat_eq, length, refl, sym, ◌∙◌, ap}
-use Rattle.std.proofs.Common.{subst, arith, length-append, true≢false}
-use Rattle.std.proofs.lemmas.Bool.{eqb-false}
-use Rattle.std.proofs.lemmas.List.Sums.{length-filter, count_by-le-length}
-use Rattle.counting_word.specs.CountingWord.{IsLimit}
-use Rattle.counting_core.specs.declared.step.Step.{Step}
-use Rattle.counting_core.specs.declared.step.Answer.{Answer}
-use Rattle.counting_core.specs.declared.step.Answer.TheVariants.{Memory, Barred}
-use Rattle.counting_core.specs.Trace.{Trace, Open, Then, State, limit_of}
-use Rattle.counting_core.specs.ReferenceModel.{Model, is_full}
-use Rattle.counting_core.specs.Legal.{IsLegal, state, model}
-use Rattle.counting_core.specs.Laws.{has_mark, live_handles}
+use Rattle.counting_core.proofs.Names.{◌≡◌, ◌≤◌, false, not, ◌&&◌, nat_eq, length, refl, sym, ◌∙◌, ap, subst, arith}
+use Rattle.counting_core.proofs.Names.{length-append, true≢false, eqb-false, length-filter, count_by-le-length}
+use Rattle.counting_core.proofs.Names.{IsLimit, Step, Answer, Memory, Barred, Trace, Open, Then, State, limit_of}
+use Rattle.counting_core.proofs.Names.{Model, is_full, IsLegal, state, model, has_mark, live_handles}
 use Rattle.counting_core.proofs.Traces.Deeds.{Deed, clone_bears, raise_bears, drop_ends, lower_ends, lower_gives_up}
 use Rattle.counting_core.proofs.Traces.Deeds.{marks, grown, shrunk}
 use Rattle.counting_core.proofs.Traces.LegalSteps.{happens}

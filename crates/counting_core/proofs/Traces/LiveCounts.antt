@@ -1,25 +1,17 @@
 -- The count of a word that represents a trace: its live handles, and the drops in flight that it covers.
-use Rattle.std.proofs.Common.{◌≡◌, ℕ, zero, suc, ◌+◌, ◌<◌, ◌≤◌, Bool, true, false}
-use Rattle.std.proofs.Common.{if◌then◌else◌, nat_eq, nat_lt, List, length, take_all, count_by, refl, sym}
-use Rattle.std.proofs.Common.{◌∙◌, ap, subst, arith, le_trans, le_refl, ltb-true, eqb-true}
-use Rattle.std.proofs.lemmas.Bool.{and_parts, false_from_ne_true}
-use Rattle.counting_word.specs.CountingWord.{is_marked_word, count_of, IsLimit, IsWithin}
-use Rattle.counting_core.specs.declared.activity.Activity.{Activity}
-use Rattle.counting_core.specs.declared.activity.Activity.TheVariants.{Dropping}
-use Rattle.counting_core.specs.declared.step.Step.TheVariants.{Lower}
-use Rattle.counting_core.specs.Trace.{Trace, HandleState, unborn, State, limit_of, handle_in}
-use Rattle.counting_core.specs.Permitted.{has_alone, permitted, permitted_by}
-use Rattle.counting_core.specs.ReferenceModel.{without}
-use Rattle.counting_core.specs.Represents.{CoreState, Represents, handle, is_dropping}
-use Rattle.counting_core.specs.Represents.{drops_in_flight, number_below}
-use Rattle.counting_core.specs.Laws.{live_handles, has_mark}
+use Rattle.counting_core.proofs.Names.{◌≡◌, ℕ, zero, suc, ◌+◌, ◌<◌, ◌≤◌, Bool, true, false, if◌then◌else◌, nat_eq}
+use Rattle.counting_core.proofs.Names.{nat_lt, List, length, take_all, count_by, refl, sym, ◌∙◌, ap, subst, arith}
+use Rattle.counting_core.proofs.Names.{le_trans, le_refl, ltb-true, eqb-true, and_parts, false_from_ne_true}
+use Rattle.counting_core.proofs.Names.{is_marked_word, count_of, IsLimit, IsWithin, Activity, Dropping, Lower, Trace}
+use Rattle.counting_core.proofs.Names.{HandleState, unborn, State, limit_of, handle_in, has_alone, permitted}
+use Rattle.counting_core.proofs.Names.{permitted_by, without, CoreState, Represents, handle, is_dropping}
+use Rattle.counting_core.proofs.Names.{drops_in_flight, number_below, live_handles, has_mark, state, IsLegal}
 use Rattle.counting_core.proofs.Traces.Limits.{legal_limit, no_count_passes_limit}
 use Rattle.counting_core.proofs.Traces.HandleLists.{has, IsApart, length-without, apart-without, has-without}
 use Rattle.counting_core.proofs.Traces.LiveHandles.{counted}
 use Rattle.counting_core.proofs.Traces.InFlight.{all_fit, dropped-alone, dropped-lives}
 use Rattle.counting_core.proofs.Traces.Activities.{lowering}
 use Rattle.counting_core.proofs.Traces.NumberBelow.{number-length, number-count_by, number-some}
-use Rattle.counting_core.specs.Legal.{state, IsLegal}
 
 -- owners with handles of their own are no more than the handles
 pigeonhole : (of : ℕ → Activity) → ((o p h : ℕ) → of o ≡ Dropping h → of p ≡ Dropping h → o ≡ p)

@@ -1,18 +1,9 @@
 -- The live handles of a trace's model: none twice, each born, and the ones that the trace lets live.
-use Rattle.std.proofs.Common.{length}
-use Rattle.std.proofs.Common.{◌≡◌, ℕ, ◌+◌, ◌<◌, Bool, true, false, not, ◌&&◌, ◌||◌, nat_eq, []}
-use Rattle.std.proofs.Common.{count_by, refl, sym, ◌∙◌, ap, subst, arith, lt_irrefl, true≢false}
-use Rattle.std.proofs.Common.{if◌then◌else◌, eqb-true}
-use Rattle.std.proofs.lemmas.Bool.{and_parts, false_from_ne_true}
-use Rattle.counting_core.specs.declared.activity.Activity.{Activity}
-use Rattle.counting_core.specs.declared.activity.Activity.TheVariants.{Dropping}
-use Rattle.counting_core.specs.declared.step.Step.{Step}
-use Rattle.counting_core.specs.declared.step.Answer.{Answer}
-use Rattle.counting_core.specs.declared.step.Answer.TheVariants.{Memory, Barred}
-use Rattle.counting_core.specs.Trace.{Trace, Open, Then, HandleState, unborn, newborn, State, after, handle_in}
-use Rattle.counting_core.specs.Trace.{handle_in, ended, put}
-use Rattle.counting_core.specs.ReferenceModel.{Model}
-use Rattle.counting_core.specs.Legal.{IsLegal, state, model}
+use Rattle.counting_core.proofs.Names.{length, ◌≡◌, ℕ, ◌+◌, ◌<◌, Bool, true, false, not, ◌&&◌, ◌||◌, nat_eq, []}
+use Rattle.counting_core.proofs.Names.{count_by, refl, sym, ◌∙◌, ap, subst, arith, lt_irrefl, true≢false}
+use Rattle.counting_core.proofs.Names.{if◌then◌else◌, eqb-true, and_parts, false_from_ne_true, Activity, Dropping}
+use Rattle.counting_core.proofs.Names.{Step, Answer, Memory, Barred, Trace, Open, Then, HandleState, unborn, newborn}
+use Rattle.counting_core.proofs.Names.{State, after, handle_in, ended, put, Model, IsLegal, state, model}
 use Rattle.counting_core.proofs.Traces.Places.{part-put, part_kept-put}
 use Rattle.counting_core.proofs.Traces.HandleLists.{has, IsApart, once, has-without, has-push, apart-without}
 use Rattle.counting_core.proofs.Traces.HandleLists.{apart-push}

@@ -1,28 +1,17 @@
 -- Why raises that lose are few. A clone in flight is stale if the live handles are no longer as many as it saw. A
 -- raise that loses makes one clone fewer stale, and a birth or an end at most those of the other owners.
-use Rattle.std.proofs.Common.{◌≡◌, ℕ, ◌+◌, ◌-◌, ◌*◌, ◌<◌, ◌≤◌, Bool, true, false, not}
-use Rattle.std.proofs.Common.{if◌then◌else◌, nat_eq, length, refl, sym, ◌∙◌, ap, ap₂, arith}
-use Rattle.std.proofs.Common.{true≢false, eqb-true, ltb-true, mul-add}
-use Rattle.std.proofs.lemmas.Bool.{and_parts, or_parts}
-use Rattle.counting_core.specs.declared.activity.Activity.{Activity}
-use Rattle.counting_core.specs.declared.activity.Activity.TheVariants.{Idle, Cloning, Dropping}
-use Rattle.counting_core.specs.declared.step.Step.{Step}
-use Rattle.counting_core.specs.declared.step.Step.TheVariants.{Clone, Raise, Drop, Lower}
-use Rattle.counting_core.specs.declared.step.Answer.{Answer}
-use Rattle.counting_core.specs.declared.step.Answer.TheVariants.{Born, Full, Pending, Ended, GivenUp, Memory, Barred}
-use Rattle.counting_core.specs.declared.step.Answer.TheVariants.{Quit as Quitted}
-use Rattle.counting_core.specs.Trace.{Trace, Open, Then, State, owner_of, after, put}
-use Rattle.counting_core.specs.Permitted.{permitted_by}
-use Rattle.counting_core.specs.ReferenceModel.{Model}
-use Rattle.counting_core.specs.Legal.{IsLegal, state, model}
-use Rattle.counting_core.specs.LostRaises.{is_lost_raise, is_change, how_many}
+use Rattle.counting_core.proofs.Names.{◌≡◌, ℕ, ◌+◌, ◌-◌, ◌*◌, ◌<◌, ◌≤◌, Bool, true, false, not, if◌then◌else◌, nat_eq}
+use Rattle.counting_core.proofs.Names.{length, refl, sym, ◌∙◌, ap, ap₂, arith, true≢false, eqb-true, ltb-true, mul-add}
+use Rattle.counting_core.proofs.Names.{and_parts, or_parts, Activity, Idle, Cloning, Dropping, Step, Clone, Raise}
+use Rattle.counting_core.proofs.Names.{Drop, Lower, Answer, Born, Full, Pending, Ended, GivenUp, Memory, Barred}
+use Rattle.counting_core.proofs.Names.{Quitted, Trace, Open, Then, State, owner_of, after, put, permitted_by, Model}
+use Rattle.counting_core.proofs.Names.{IsLegal, state, model, is_lost_raise, is_change, how_many, number_below}
 use Rattle.counting_core.proofs.Traces.Deeds.{Deed, clone_reads, clone_bears, clone_full, raise_loses, raise_bears}
 use Rattle.counting_core.proofs.Traces.Deeds.{raise_full, quits, drop_reads, drop_ends, lower_ends, lower_gives_up}
 use Rattle.counting_core.proofs.Traces.LegalSteps.{Happens, happens}
 use Rattle.counting_core.proofs.Traces.HandleLists.{nat_eq-same}
 use Rattle.counting_core.proofs.Traces.Activities.{raising, begins}
 use Rattle.counting_core.proofs.Traces.Places.{put-here, put-other}
-use Rattle.counting_core.specs.Represents.{number_below}
 use Rattle.counting_core.proofs.Traces.NumberBelow.{number-le, number-less, number-none, number-all}
 
 -- whether a clone in flight saw another number of live handles than there are now
@@ -41,7 +30,7 @@ module _ {V : Type 0} where
   IsBounded t = how_many is_lost_raise t + number_below (stale t) (state t).owners ≤ ((state t).owners - 1)
       * how_many is_change t
 
-  owners-kept : (sees : ℕ) (u : State) (s : Step V) (a : Answer V) → (after sees u s a).owners ≡ u.owners
+  pub owners-kept : (sees : ℕ) (u : State) (s : Step V) (a : Answer V) → (after sees u s a).owners ≡ u.owners
   owners-kept sees u s (Born n) = refl
   owners-kept sees u (Clone o h) a = refl
   owners-kept sees u s a = refl
@@ -84,7 +73,7 @@ module _ {V : Type 0} where
   fresh r u s a m (quits o) may = now u o _ Idle refl
   fresh r u s a m (lower_ends o h _ _) may = now u o _ Idle refl
   fresh r u s a m (lower_gives_up o h _ _) may = now u o _ Idle refl
-  fresh r u s a m _ may = ap (stale_by _) (begins u s _ may (λ _ _. refl) (λ _. refl)).0
+  fresh r u s a m _ may = ap (stale_by _) (begins u s _ may refl).0
 
   -- and the others are stale as before, if no handle was born or ended
   others : (t : Trace V) (s : Step V) (a : Answer V) → Happens t s a → is_change a s ≡ false → (q : ℕ)

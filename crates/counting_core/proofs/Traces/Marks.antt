@@ -1,13 +1,8 @@
 -- The mark of a trace's model.
-use Rattle.std.proofs.Common.{◌≡◌, true, false, ◌||◌, refl, sym, ◌∙◌, ap, true≢false}
-use Rattle.std.proofs.lemmas.Bool.{or_right, false_from_ne_true}
-use Rattle.counting_core.specs.declared.step.Step.{Step}
-use Rattle.counting_core.specs.declared.step.Answer.{Answer}
-use Rattle.counting_core.specs.declared.step.Answer.TheVariants.{Memory, Barred}
-use Rattle.counting_core.specs.Trace.{Trace, Open, Then, State}
-use Rattle.counting_core.specs.ReferenceModel.{Model}
-use Rattle.counting_core.specs.Legal.{IsLegal, state, model}
-use Rattle.counting_core.specs.Laws.{has_mark, some_answer, is_marked_answer, is_given_up}
+use Rattle.counting_core.proofs.Names.{◌≡◌, true, false, ◌||◌, refl, sym, ◌∙◌, ap, true≢false, or_right}
+use Rattle.counting_core.proofs.Names.{false_from_ne_true, Step, Answer, Memory, Barred, Trace, Open, Then, State}
+use Rattle.counting_core.proofs.Names.{Model, IsLegal, state, model, has_mark, some_answer, is_marked_answer}
+use Rattle.counting_core.proofs.Names.{is_given_up}
 use Rattle.counting_core.proofs.Traces.Deeds.{Deed, marks}
 use Rattle.counting_core.proofs.Traces.LegalSteps.{happens}
 use Rattle.counting_core.proofs.Traces.GivenUp.{given-up}

@@ -1,15 +1,11 @@
 -- How many of the numbers below a bound pass a test.
-use Rattle.std.proofs.Common.{◌≡◌, ◌≢◌, ℕ, zero, suc, ◌+◌, ◌<◌, ◌≤◌, Bool, true, false, not}
-use Rattle.std.proofs.Common.{◌&&◌, ◌||◌, if◌then◌else◌, nat_eq, List, [], ◌∷◌, length, take}
-use Rattle.std.proofs.Common.{get_or, count_by, refl, sym, ◌∙◌, ap, ap₂, arith, true≢false, eqb-true, ne_eqb, subst}
-use Rattle.std.proofs.Common.{add-one}
-use Rattle.std.proofs.lemmas.Bool.{and_parts, eqb-false, not-true}
-use Rattle.std.proofs.lemmas.List.Sums.{count_by_more_yes, count_by_more_no}
-use Rattle.counting_core.specs.ReferenceModel.{without}
+use Rattle.counting_core.proofs.Names.{◌≡◌, ◌≢◌, ℕ, zero, suc, ◌+◌, ◌<◌, ◌≤◌, Bool, true, false, not, ◌&&◌, ◌||◌}
+use Rattle.counting_core.proofs.Names.{if◌then◌else◌, nat_eq, List, [], ◌∷◌, length, take, get_or, count_by, refl, sym}
+use Rattle.counting_core.proofs.Names.{◌∙◌, ap, ap₂, arith, true≢false, eqb-true, ne_eqb, subst, add-one, and_parts}
+use Rattle.counting_core.proofs.Names.{eqb-false, not-true, count_by_more_yes, count_by_more_no, without, put}
+use Rattle.counting_core.proofs.Names.{number_below}
 use Rattle.counting_core.proofs.Traces.HandleLists.{has, IsApart, nat_eq-same, has-without, length-without}
 use Rattle.counting_core.proofs.Traces.HandleLists.{apart-without}
-use Rattle.counting_core.specs.Trace.{put}
-use Rattle.counting_core.specs.Represents.{number_below}
 
 -- no more pass a stricter test
 pub number-le : (f g : ℕ → Bool) → ((q : ℕ) → f q ≡ true → g q ≡ true) → (n : ℕ)

@@ -1,8 +1,6 @@
 -- A function with another value at one place.
-use Rattle.std.proofs.Common.{◌≡◌, ℕ, Bool, true, false, nat_eq, refl, sym, ap, subst, eqb-true}
-use Rattle.std.proofs.Common.{if◌then◌else◌}
-use mathlib.Core.Path.{fun_ext}
-use Rattle.counting_core.specs.Trace.{put}
+use Rattle.counting_core.proofs.Names.{◌≡◌, ℕ, Bool, true, false, nat_eq, refl, sym, ap, subst, eqb-true}
+use Rattle.counting_core.proofs.Names.{if◌then◌else◌, fun_ext, put}
 use Rattle.counting_core.proofs.Traces.HandleLists.{nat_eq-same}
 
 module _ {A : Type 0} (f : ℕ → A) (i : ℕ) (y : A) where

@@ -1,23 +1,13 @@
 -- A sole handle is the only live one of an unmarked block, and it is lent to nobody.
-use Rattle.std.proofs.Common.{◌≡◌, ℕ, Bool, true, false, not, ◌&&◌, ◌||◌, nat_eq, nat_lt, List, []}
-use Rattle.std.proofs.Common.{◌∷◌, length, if◌then◌else◌, refl, sym, ◌∙◌, ap, subst, arith}
-use Rattle.std.proofs.Common.{true≢false, eqb-true, eq-eqb}
-use Rattle.std.specs.List.{list_any}
-use Rattle.std.proofs.lemmas.Bool.{and_parts, not-true}
-use Rattle.counting_core.specs.declared.handle_entry.Access.{Access}
-use Rattle.counting_core.specs.declared.handle_entry.Access.TheVariants.{Shared as SharedAccess, Written, Sole as SoleAccess}
-use Rattle.counting_core.specs.declared.activity.Activity.{Activity}
-use Rattle.counting_core.specs.declared.activity.Activity.TheVariants.{Dropping}
-use Rattle.counting_core.specs.declared.step.Step.{Step}
-use Rattle.counting_core.specs.declared.step.Step.TheVariants.{Raise, Drop, Lower, Mark, IntoUnique, Lend, Return}
-use Rattle.counting_core.specs.declared.step.Answer.{Answer}
-use Rattle.counting_core.specs.declared.step.Answer.TheVariants.{Pending, Ended, GivenUp, Memory, Barred}
-use Rattle.counting_core.specs.Trace.{Trace, Open, Then, HandleState, unborn, newborn, lent_to, returned_by, State, handle_in}
-use Rattle.counting_core.specs.Trace.{owner_of, after, handle_in, ended, put}
-use Rattle.counting_core.specs.Permitted.{is_shared, is_sole, is_lent_to, has_alone, may_use, permitted, permitted_by}
-use Rattle.counting_core.specs.ReferenceModel.{Model, Ends, opened, is_only}
-use Rattle.counting_core.specs.Legal.{Visible, Internal, outcome, expected, IsLegal, state, model}
-use Rattle.counting_core.specs.Laws.{live_handles, has_mark, IsSole}
+use Rattle.counting_core.proofs.Names.{◌≡◌, ℕ, Bool, true, false, not, ◌&&◌, ◌||◌, nat_eq, nat_lt, List, [], ◌∷◌}
+use Rattle.counting_core.proofs.Names.{length, if◌then◌else◌, refl, sym, ◌∙◌, ap, subst, arith, true≢false, eqb-true}
+use Rattle.counting_core.proofs.Names.{eq-eqb, list_any, and_parts, not-true, Access, SharedAccess, Written}
+use Rattle.counting_core.proofs.Names.{SoleAccess, Activity, Dropping, Step, Raise, Drop, Lower, Mark, IntoUnique}
+use Rattle.counting_core.proofs.Names.{Lend, Return, Answer, Pending, Ended, GivenUp, Memory, Barred, Trace, Open}
+use Rattle.counting_core.proofs.Names.{Then, HandleState, unborn, newborn, lent_to, returned_by, State, handle_in}
+use Rattle.counting_core.proofs.Names.{owner_of, after, ended, put, is_shared, is_sole, is_lent_to, has_alone, may_use}
+use Rattle.counting_core.proofs.Names.{permitted, permitted_by, Model, Ends, opened, is_only, Visible, Internal}
+use Rattle.counting_core.proofs.Names.{outcome, expected, IsLegal, state, model, live_handles, has_mark, IsSole}
 use Rattle.counting_core.proofs.Traces.HandleLists.{has}
 use Rattle.counting_core.proofs.Traces.Places.{put-all}
 use Rattle.counting_core.proofs.Traces.Deeds.{Deed, clone_bears, raise_bears, drop_ends, lower_ends, lower_gives_up}
@@ -27,7 +17,6 @@ use Rattle.counting_core.proofs.Traces.LegalSteps.{Happens, happens, expected-by
 use Rattle.counting_core.proofs.Traces.LiveHandles.{IsCounted, counted}
 use Rattle.counting_core.proofs.Traces.InFlight.{AllFit, Fits, all_fit, dropped-lives}
 use Rattle.counting_core.proofs.Traces.Activities.{raising, lowering, begins}
-use Rattle.counting_core.specs.Trace.{handle_in}
 
 -- a list of one handle is that handle
 one-is : (h : ℕ) (xs : List ℕ) → length xs ≡ 1 → has h xs ≡ true → xs ≡ h ∷ []
@@ -143,7 +132,7 @@ module _ {V : Type 0} where
   alone-then r u s a m (lower_ends o h e more) may c fit was sees = alone-lowered r u o h m e c fit was
   alone-then r u s a m (lower_gives_up o h e last) may c fit was sees = alone-lowered r u o h m e c fit was
   alone-then r u s a m (marks o h) may c fit was sees =
-      let uses : may_use (u.handle h) o ≡ true = (begins u (Mark o h) _ may (λ _ _. refl) (λ _. refl)).1 in
+      let uses : may_use (u.handle h) o ≡ true = (begins u (Mark o h) _ may refl).1 in
       λ g lives sole. absurd (none-beside u.handle r c was h (and_parts _ _ uses).0 (and_parts _ _
       (and_parts _ _ uses).1).1 g lives sole)
   alone-then r u s a m (finds_alone o h only)
@@ -153,17 +142,15 @@ module _ {V : Type 0} where
   alone-then r u s a m (shares o h) may c fit was sees = alone-not_sole u.handle r c was h (record (u.handle h)
       { access = SharedAccess }) refl
   alone-then r u s a m (becomes_sole o h only) may c fit was sees =
-      let own : has_alone (u.handle h) o ≡ true = (and_parts _ _ (begins u (IntoUnique o h) _ may (λ _ _. refl)
-      (λ _. refl)).1).0 in
+      let own : has_alone (u.handle h) o ≡ true = (and_parts _ _ (begins u (IntoUnique o h) _ may refl).1).0 in
       alone-put u.handle r c was h (record (u.handle h) { access = SoleAccess })
       (λ _ _. (only, eqb-true _ 0 (and_parts _ _ own).1))
   alone-then r u s a m (lends o h to) may c fit was sees =
-      let lend : _ = (begins u (Lend o h to) _ may (λ _ _. refl) (λ _. refl)).1 in
+      let lend : _ = (begins u (Lend o h to) _ may refl).1 in
       alone-not_sole u.handle r c was h (lent_to (u.handle h) to)
       (shared-not_sole (u.handle h).access (and_parts _ _ (and_parts _ _ lend).1).0)
   alone-then r u s a m (returns o h) may c fit was sees =
-      let lent : is_lent_to (u.handle h) o ≡ true = (and_parts _ _ (begins u (Return o h) _ may (λ _ _. refl)
-      (λ _. refl)).1).1 in
+      let lent : is_lent_to (u.handle h) o ≡ true = (and_parts _ _ (begins u (Return o h) _ may refl).1).1 in
       alone-put u.handle r c was h (returned_by (u.handle h) o)
       (λ lives sole. absurd (true≢false (sym lent ∙ lent-some (u.handle h) o (was h lives sole).1)))
   alone-then r u s a m (gives o h to) may c fit was sees = alone-put u.handle r c was h (record (u.handle h)

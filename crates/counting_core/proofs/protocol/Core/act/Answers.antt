@@ -1,10 +1,9 @@
-use Rattle.counting_core.specs.declared.step.Answer.TheVariants.{Marked, Done, Memory}
+use Rattle.counting_core.proofs.Names.{Marked, Done, Memory, inl, inr}
 use Rattle.counting_core.proofs.Steps.Continues.{stays_as, follows_as}
-use Rattle.counting_core.proofs.Steps.Acting.{marks, gets, owns, writes, ends_write, shares, lends, lends_none, returns}
-use Rattle.counting_core.proofs.Steps.Acting.{gives}
-use Rattle.counting_core.proofs.protocol.Core.act.Goals as goal
+use Rattle.counting_core.proofs.Steps.Acting.{marks, gets, owns, writes, ends_write, shares, lends, lends_none}
+use Rattle.counting_core.proofs.Steps.Acting.{returns, gives}
 use Rattle.counting_core.proofs.protocol.Core.act.Goals.{in-Ok, in-Err}
-use Rattle.std.proofs.Common.{inl, inr}
+use Rattle.counting_core.proofs.protocol.Core.act.Goals as goal
 
 pub invariant_of-self : goal.invariant_of-self
 invariant_of-self g c =

@@ -1,11 +1,9 @@
-use Rattle.std.proofs.Common.{sym, ◌∙◌}
-use Rattle.counting_core.specs.declared.step.Step.TheVariants.{Clone}
-use Rattle.counting_core.specs.declared.step.Answer.TheVariants.{Born, Pending, Memory}
+use Rattle.counting_core.proofs.Names.{sym, ◌∙◌, Clone, Born, Pending, Memory}
 use Rattle.counting_core.proofs.Traces.LiveCounts.{core_limit, core_within}
 use Rattle.counting_core.proofs.Steps.Continues.{stays, follows}
 use Rattle.counting_core.proofs.Steps.Acting.{clone_reads, clone_bears, clone_unborn}
-use Rattle.counting_core.proofs.protocol.Core.clone_handle.Goals as goal
 use Rattle.counting_core.proofs.protocol.Core.clone_handle.Goals.{in-Some, in-None}
+use Rattle.counting_core.proofs.protocol.Core.clone_handle.Goals as goal
 
 pub plan_clone-requires-clause-limit : goal.plan_clone-requires-clause-limit
 plan_clone-requires-clause-limit g c = core_limit _ c.self.invariant.0 c.self.invariant.1

@@ -1,8 +1,4 @@
-use Rattle.std.proofs.Common.{◌<◌, sym, ◌∙◌, subst}
-use Rattle.counting_core.specs.declared.step.Step.TheVariants.{Drop}
-use Rattle.counting_core.specs.declared.step.Answer.TheVariants.{Ended, Pending}
-use Rattle.counting_core.specs.Represents.{CoreState, core_of}
-use Rattle.counting_core.specs.ByWord.{IsPermitted}
+use Rattle.counting_core.proofs.Names.{◌<◌, sym, ◌∙◌, subst, Drop, Ended, Pending, CoreState, core_of, IsPermitted}
 use Rattle.counting_core.proofs.Steps.Continues.{stays, follows}
 use Rattle.counting_core.proofs.Steps.Edits.{born}
 use Rattle.counting_core.proofs.Steps.Acting.{drop_lives, drop_ends, drop_reads}

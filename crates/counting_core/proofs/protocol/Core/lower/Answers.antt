@@ -1,14 +1,10 @@
-use Rattle.std.proofs.Common.{◌≡◌, ◌<◌, true, false, sym, ◌∙◌, subst}
-use Rattle.counting_core.specs.declared.activity.Activity.TheVariants.{Dropping}
-use Rattle.counting_core.specs.declared.step.Step.TheVariants.{Lower}
-use Rattle.counting_core.specs.declared.step.Answer.TheVariants.{Ended, GivenUp}
-use Rattle.counting_core.specs.Represents.{CoreState, core_of, activity}
-use Rattle.counting_core.specs.ByWord.{IsPermitted}
+use Rattle.counting_core.proofs.Names.{◌≡◌, ◌<◌, true, false, sym, ◌∙◌, subst, Dropping, Lower, Ended, GivenUp}
+use Rattle.counting_core.proofs.Names.{CoreState, core_of, activity, IsPermitted}
 use Rattle.counting_core.proofs.Steps.Continues.{stays, follows}
 use Rattle.counting_core.proofs.Steps.Edits.{born}
 use Rattle.counting_core.proofs.Steps.Acting.{lower_some, lower_lives, lowers}
-use Rattle.counting_core.proofs.protocol.Core.lower.Goals as goal
 use Rattle.counting_core.proofs.protocol.Core.lower.Goals.{then-is_last, else-is_last}
+use Rattle.counting_core.proofs.protocol.Core.lower.Goals as goal
 
 pub overflow_sub-self : goal.overflow_sub-self
 overflow_sub-self g c = lower_some _ c.self.invariant c.args.owner

@@ -1,5 +1,4 @@
-use Rattle.counting_core.specs.declared.step.Step.TheVariants.{Quit}
-use Rattle.counting_core.specs.declared.step.Answer.TheVariants.{Quit as Quitted}
+use Rattle.counting_core.proofs.Names.{Quit, Quitted}
 use Rattle.counting_core.proofs.Steps.Continues.{stays}
 use Rattle.counting_core.proofs.Steps.Acting.{quits}
 use Rattle.counting_core.proofs.protocol.Core.quit.Goals as goal

@@ -1,13 +1,9 @@
-use Rattle.std.proofs.Common.{◌≡◌, sym, ◌∙◌, subst}
-use Rattle.counting_core.specs.declared.activity.Activity.TheVariants.{Cloning}
-use Rattle.counting_core.specs.declared.step.Step.TheVariants.{Raise}
-use Rattle.counting_core.specs.declared.step.Answer.TheVariants.{Born, Full, Pending}
-use Rattle.counting_core.specs.Represents.{activity}
+use Rattle.counting_core.proofs.Names.{◌≡◌, sym, ◌∙◌, subst, Cloning, Raise, Born, Full, Pending, activity}
 use Rattle.counting_core.proofs.Traces.LiveCounts.{core_limit, core_within}
 use Rattle.counting_core.proofs.Steps.Continues.{stays, follows}
 use Rattle.counting_core.proofs.Steps.Acting.{raise_full, raise_loses, raise_static, raise_won, raise_bears}
-use Rattle.counting_core.proofs.protocol.Core.raise.Goals as goal
 use Rattle.counting_core.proofs.protocol.Core.raise.Goals.{in-Static, in-Raise+else-found-seen}
+use Rattle.counting_core.proofs.protocol.Core.raise.Goals as goal
 
 pub plan_clone-requires-clause-limit : goal.plan_clone-requires-clause-limit
 plan_clone-requires-clause-limit g c = core_limit _ c.self.invariant.0 c.self.invariant.1

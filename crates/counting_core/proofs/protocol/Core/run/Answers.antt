@@ -1,4 +1,4 @@
-use Rattle.std.proofs.Common.{rules}
+use Rattle.counting_core.proofs.Names.{rules}
 use Rattle.counting_core.proofs.Steps.Running.{continues_all-more}
 use Rattle.counting_core.proofs.protocol.Core.run.Goals as goal
 

@@ -1,5 +1,4 @@
-use Rattle.std.proofs.Common.{◌≡◌, ◌≤◌, length, take, vec_len, vec_capacity}
-use Rattle.counting_core.specs.Represents.{ContinuesAll}
+use Rattle.counting_core.proofs.Names.{◌≡◌, ◌≤◌, length, take, vec_len, vec_capacity, ContinuesAll}
 use Rattle.counting_core.proofs.protocol.Core.run.Given as goal
 
 abbrev pub invariant-loop-step : goal.invariant-loop-step

@@ -1,5 +1,6 @@
 //! What is known of a handle that was born.
-ghost use Rattle.std.specs.Prelude.{◌≡◌, ◌++◌, ◌∷◌, [], length, false, true, if◌then◌else◌, OnOk, OnErr, IfSome, IfNone};
+ghost use Rattle.std.specs.Prelude.{◌≡◌, ◌++◌, ◌∷◌, [], length, false, true, if◌then◌else◌};
+ghost use Rattle.std.specs.Prelude.{OnOk, OnErr, IfSome, IfNone};
 ghost use Rattle.counting_core.specs.Trace.{newborn, lent_to, returned_by};
 ghost use Rattle.counting_core.specs.Permitted.{holds, is_lent_to, is_shared, may_use, may_take, is_writing, has_sole};
 

@@ -160,7 +160,8 @@ module _ {V : Type 0} (f : CoreState V) where
       omega arith
 
   pub drop_lives : (o h : ℕ) → IsPermitted f (Drop o h) → (handle f h).lives ≡ true
-  drop_lives o h may = (and_parts _ _ (and_parts _ _ (parts-alone (handle f h) o (begun (state_of f) (Drop o h) may refl).1)).0).0
+  drop_lives o h may = (and_parts _ _ (and_parts _ _ (parts-alone (handle f h) o
+      (begun (state_of f) (Drop o h) may refl).1)).0).0
 
   -- the handle was k, and is new
   module _ (o h : ℕ) (k new : HandleState) (was : k ≡ get_or f.handles h k) where
@@ -228,7 +229,8 @@ module _ {V : Type 0} (f : CoreState V) where
         → new ≡ (if alone then record k { access = Written } else k) → IsPermitted f (GetMut o h)
         → FollowsWord f (GetMut o h) a with_new
     gets a alone one answer now may = takes (GetMut o h) Written Alone a alone one answer now
-        (λ e written. edits f h (λ s. record s { access = Written }) k new was written (taken-lives (handle f h) o (begun (state_of f) (GetMut o h) may refl).1) (GetMut o h) Alone may
+        (λ e written. edits f h (λ s. record s { access = Written }) k new was written
+        (taken-lives (handle f h) o (begun (state_of f) (GetMut o h) may refl).1) (GetMut o h) Alone may
         (ap (λ b. (if b then Alone else Shared, f.word)) (sym e)) refl refl refl)
         (λ e. asks (GetMut o h) Shared may (ap (λ b. (if b then Alone else Shared, f.word)) (sym e)) refl refl refl)
 
@@ -236,23 +238,27 @@ module _ {V : Type 0} (f : CoreState V) where
         → new ≡ (if alone then record k { access = SoleAccess } else k) → IsPermitted f (IntoUnique o h)
         → FollowsWord f (IntoUnique o h) a with_new
     owns a alone one answer now may = takes (IntoUnique o h) SoleAccess Sole a alone one answer now
-        (λ e sole. edits f h (λ s. record s { access = SoleAccess }) k new was sole (taken-lives (handle f h) o (begun (state_of f) (IntoUnique o h) may refl).1) (IntoUnique o h) Sole may
+        (λ e sole. edits f h (λ s. record s { access = SoleAccess }) k new was sole
+        (taken-lives (handle f h) o (begun (state_of f) (IntoUnique o h) may refl).1) (IntoUnique o h) Sole may
         (ap (λ b. (if b then Sole else Shared, f.word)) (sym e)) refl refl refl)
         (λ e. asks (IntoUnique o h) Shared may (ap (λ b. (if b then Sole else Shared, f.word)) (sym e)) refl refl refl)
 
     pub ends_write : new ≡ record k { access = SharedAccess } → IsPermitted f (EndWrite o h)
         → TakesEffect f (EndWrite o h) Done with_new
     ends_write now may = edits f h (λ s. record s { access = SharedAccess }) k new was now
-        (and_parts _ _ (and_parts _ _ (begun (state_of f) (EndWrite o h) may refl).1).0).0 (EndWrite o h) Done may refl refl refl refl
+        (and_parts _ _ (and_parts _ _ (begun (state_of f) (EndWrite o h) may refl).1).0).0 (EndWrite o h) Done may
+        refl refl refl refl
 
     pub shares : new ≡ record k { access = SharedAccess } → IsPermitted f (Share o h)
         → TakesEffect f (Share o h) Done with_new
     shares now may = edits f h (λ s. record s { access = SharedAccess }) k new was now
-        (and_parts _ _ (and_parts _ _ (and_parts _ _ (begun (state_of f) (Share o h) may refl).1).0).0).0 (Share o h) Done may refl refl refl refl
+        (and_parts _ _ (and_parts _ _ (and_parts _ _ (begun (state_of f) (Share o h) may refl).1).0).0).0 (Share o h)
+        Done may refl refl refl refl
 
     pub lends : (to : ℕ) → new ≡ lent_to k to → IsPermitted f (Lend o h to) → TakesEffect f (Lend o h to) Done with_new
     lends to now may = edits f h (λ s. lent_to s to) k new was now
-        (and_parts _ _ (and_parts _ _ (begun (state_of f) (Lend o h to) may refl).1).0).0 (Lend o h to) Done may refl refl refl refl
+        (and_parts _ _ (and_parts _ _ (begun (state_of f) (Lend o h to) may refl).1).0).0 (Lend o h to) Done may refl
+        refl refl refl
 
     pub lends_none : (to : ℕ) → new ≡ k → IsPermitted f (Lend o h to) → FollowsWord f (Lend o h to) Memory with_new
     lends_none to now may = (may, refl, same-new now)
@@ -265,4 +271,5 @@ module _ {V : Type 0} (f : CoreState V) where
     pub gives : (to : ℕ) → new ≡ record k { holder = to } → IsPermitted f (Give o h to)
         → TakesEffect f (Give o h to) Done with_new
     gives to now may = edits f h (λ s. record s { holder = to }) k new was now
-        (and_parts _ _ (and_parts _ _ (parts-alone (handle f h) o (and_parts _ _ (begun (state_of f) (Give o h to) may refl).1).0)).0).0 (Give o h to) Done may refl refl refl refl
+        (and_parts _ _ (and_parts _ _ (parts-alone (handle f h) o (and_parts _ _
+        (begun (state_of f) (Give o h to) may refl).1).0)).0).0 (Give o h to) Done may refl refl refl refl

@@ -87,7 +87,8 @@ module _ {V : Type 0} where
   reaches f d s a w reached = (Then reached.0 s a, continues f d s a w reached.0 reached.1)
 
   -- The fields are those of the core: what a step makes of them it makes of the core, and some trace has led to it.
-  module _ {f now : CoreState V} (is : f ≡ now) (d : CoreState V) (s : Step V) (a : Answer V) (may : IsPermitted now s) where
+  module _ {f now : CoreState V} (is : f ≡ now) (d : CoreState V) (s : Step V) (a : Answer V)
+      (may : IsPermitted now s) where
     pub follows : (IsPermitted f s → FollowsWord f s a d) → FollowsWord now s a d
     follows made = subst (λ k. FollowsWord k s a d) is (made (subst (λ k. IsPermitted k s) (sym is) may))
 

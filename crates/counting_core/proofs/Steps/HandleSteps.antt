@@ -21,7 +21,8 @@ module _ {V : Type 0} (core : CoreState V) where
       at false true = refl
       at false false = refl
   steps_of_handles (Raise o) = (
-    at (nat_eq core.word (seen_in (activity core o))) (is_marked_word core.word) (nat_eq (count_of core.word) core.limit),
+    at (nat_eq core.word (seen_in (activity core o))) (is_marked_word core.word)
+        (nat_eq (count_of core.word) core.limit),
     λ _. refl,
   ) where
     at : (won m full : Bool) → right_of {V = V} (Raise o) (if won then Born (length core.handles) else cloned core

@@ -282,7 +282,8 @@ module _ {V : Type 0} (limit : ℕ) where
             entries = refl;
           }
       at false more = let done : Comes t (Then t (Lower o) Ended) (shrunk n h) =
-          makes t t n (here t s.legal) (Lower o) Ended (shrunk n h) (Dropping h) refl within-o is refl (lower_ends o h is (only-lower
+          makes t t n (here t s.legal) (Lower o) Ended (shrunk n h) (Dropping h) refl within-o is refl
+          (lower_ends o h is (only-lower
           ∙ more)) in record {
             now = Then t (Lower o) Ended;
             hs = hs;

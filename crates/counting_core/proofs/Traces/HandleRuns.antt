@@ -87,7 +87,8 @@ module _ {V : Type 0} (limit : ℕ) where
       hs = (model t).births ∷ h ∷ hs;
       ds = ds;
       shape = bears limit owners k p (h ∷ hs) ds t s _
-          (acts (Clone 0 h) (Born (model t).births) (grown (model t)) refl refl usable (clone_bears 0 h (s.marked ∙ mark)
+          (acts (Clone 0 h) (Born (model t).births) (grown (model t)) refl refl usable
+          (clone_bears 0 h (s.marked ∙ mark)
           (full-by ∙ ap (λ b. not b && nat_eq (p.handles + p.drops) limit) mark)))
           (λ _. refl) (put-idle limit owners k p (h ∷ hs) ds t s);
       entries = refl;

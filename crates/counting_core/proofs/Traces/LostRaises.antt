@@ -63,7 +63,8 @@ module _ {V : Type 0} where
   fresh : (r : Model V) (u : State) (s : Step V) (a : Answer V) (m : Model V) → Deed r u s a m
       → permitted_by u (u.activity (owner_of s)) s ≡ true
       → stale_by (length m.live) ((after (length r.live) u s a).activity (owner_of s)) ≡ false
-  fresh r u s a m (clone_reads o h _ _) may = now u o _ (Cloning h (length r.live)) (ap not (nat_eq-same (length r.live)))
+  fresh r u s a m (clone_reads o h _ _) may = now u o _ (Cloning h (length r.live))
+      (ap not (nat_eq-same (length r.live)))
   fresh r u s a m (raise_loses o _) may = now u o _ (Cloning _ (length r.live)) (ap not (nat_eq-same (length r.live)))
   fresh r u s a m (drop_reads o h _) may = now u o _ (Dropping h) refl
   fresh r u s a m (clone_bears o h _ _) may = now u o _ Idle refl

@@ -25,14 +25,16 @@ returns-in-GetMut g c =
 pub invariant_of-self-in-IntoUnique-1 : goal.invariant_of-self-in-IntoUnique-1
 invariant_of-self-in-IntoUnique-1 g c =
     stays_as c.self.view_is _ c.in-IntoUnique.is c.take-in-IntoUnique.result c.requires.allowed c.self.invariant
-    (owns _ c.in-IntoUnique.owner c.in-IntoUnique.handle c.index_mut-in-IntoUnique.result.now c.take-in-IntoUnique.new.self
+    (owns _ c.in-IntoUnique.owner c.in-IntoUnique.handle c.index_mut-in-IntoUnique.result.now
+    c.take-in-IntoUnique.new.self
     c.index_mut-in-IntoUnique.ensures.value c.take-in-IntoUnique.result c.is_alone-alone.result c.is_alone-alone.ensures
     c.take-in-IntoUnique.ensures.answer c.take-in-IntoUnique.ensures.taken)
 
 pub returns-in-IntoUnique : goal.returns-in-IntoUnique
 returns-in-IntoUnique g c =
     follows_as c.self.view_is _ c.in-IntoUnique.is c.take-in-IntoUnique.result c.requires.allowed
-    (owns _ c.in-IntoUnique.owner c.in-IntoUnique.handle c.index_mut-in-IntoUnique.result.now c.take-in-IntoUnique.new.self
+    (owns _ c.in-IntoUnique.owner c.in-IntoUnique.handle c.index_mut-in-IntoUnique.result.now
+    c.take-in-IntoUnique.new.self
     c.index_mut-in-IntoUnique.ensures.value c.take-in-IntoUnique.result c.is_alone-alone.result c.is_alone-alone.ensures
     c.take-in-IntoUnique.ensures.answer c.take-in-IntoUnique.ensures.taken)
 
@@ -68,10 +70,12 @@ returns-in-Give g c =
 pub invariant_of-self-in-EndWrite : goal.invariant_of-self-in-EndWrite
 invariant_of-self-in-EndWrite g c =
     elim c.in-EndWrite.is [
-      | inl e ↦ stays_as c.self.view_is _ e.1 Done c.requires.allowed c.self.invariant (ends_write _ e.0 c.in-EndWrite.handle
+      | inl e ↦ stays_as c.self.view_is _ e.1 Done c.requires.allowed c.self.invariant
+          (ends_write _ e.0 c.in-EndWrite.handle
           c.index_mut-in-EndWrite.result.now c.set_access.new.self c.index_mut-in-EndWrite.ensures.value
           c.set_access.ensures)
-      | inr e ↦ stays_as c.self.view_is _ e.1 Done c.requires.allowed c.self.invariant (shares _ e.0 c.in-EndWrite.handle
+      | inr e ↦ stays_as c.self.view_is _ e.1 Done c.requires.allowed c.self.invariant
+          (shares _ e.0 c.in-EndWrite.handle
           c.index_mut-in-EndWrite.result.now c.set_access.new.self c.index_mut-in-EndWrite.ensures.value
           c.set_access.ensures)
     ]
@@ -90,10 +94,12 @@ returns-in-EndWrite g c =
 pub invariant_of-self-in-Lend-1 : goal.invariant_of-self-in-Lend-1
 invariant_of-self-in-Lend-1 g c =
     elim c.match-lend_to.branch [
-      | in-Ok w ↦ stays_as c.self.view_is _ c.in-Lend.is Done c.requires.allowed c.self.invariant (lends _ c.in-Lend.owner
+      | in-Ok w ↦ stays_as c.self.view_is _ c.in-Lend.is Done c.requires.allowed c.self.invariant
+          (lends _ c.in-Lend.owner
           c.in-Lend.handle c.index_mut-in-Lend.result.now c.lend_to.new.self c.index_mut-in-Lend.ensures.value
           c.in-Lend.to w.in-Ok.ensures.lent)
-      | in-Err w ↦ stays_as c.self.view_is _ c.in-Lend.is Memory c.requires.allowed c.self.invariant (lends_none _ c.in-Lend.owner
+      | in-Err w ↦ stays_as c.self.view_is _ c.in-Lend.is Memory c.requires.allowed c.self.invariant
+          (lends_none _ c.in-Lend.owner
           c.in-Lend.handle c.index_mut-in-Lend.result.now c.lend_to.new.self c.index_mut-in-Lend.ensures.value
           c.in-Lend.to w.in-Err.ensures.refused)
     ]
@@ -101,10 +107,12 @@ invariant_of-self-in-Lend-1 g c =
 pub returns-after-lend_to : goal.returns-after-lend_to
 returns-after-lend_to g c =
     elim c.match-lend_to.branch [
-      | in-Ok w ↦ rw w.result-is (follows_as c.self.view_is _ c.in-Lend.is Done c.requires.allowed (lends _ c.in-Lend.owner
+      | in-Ok w ↦ rw w.result-is (follows_as c.self.view_is _ c.in-Lend.is Done c.requires.allowed
+          (lends _ c.in-Lend.owner
           c.in-Lend.handle c.index_mut-in-Lend.result.now c.lend_to.new.self c.index_mut-in-Lend.ensures.value
           c.in-Lend.to w.in-Ok.ensures.lent))
-      | in-Err w ↦ rw w.result-is (follows_as c.self.view_is _ c.in-Lend.is Memory c.requires.allowed (lends_none _ c.in-Lend.owner
+      | in-Err w ↦ rw w.result-is (follows_as c.self.view_is _ c.in-Lend.is Memory c.requires.allowed
+          (lends_none _ c.in-Lend.owner
           c.in-Lend.handle c.index_mut-in-Lend.result.now c.lend_to.new.self c.index_mut-in-Lend.ensures.value
           c.in-Lend.to w.in-Err.ensures.refused))
     ]

@@ -14,13 +14,15 @@ index_mut-requires g c =
 pub invariant_of-self : goal.invariant_of-self
 invariant_of-self g c =
     stays c.self.view_is _ (Drop c.args.owner c.args.handle) Ended c.requires c.self.invariant
-    (drop_ends _ c.args.owner c.args.handle c.index_mut.result.now c.end.new.self c.index_mut.ensures.value c.end.ensures
+    (drop_ends _ c.args.owner c.args.handle c.index_mut.result.now c.end.new.self c.index_mut.ensures.value
+    c.end.ensures
     (sym c.plan_drop.ensures ∙ c.in-Static.is))
 
 pub returns-in-Static : goal.returns-in-Static
 returns-in-Static g c =
     follows c.self.view_is _ (Drop c.args.owner c.args.handle) Ended c.requires
-    (drop_ends _ c.args.owner c.args.handle c.index_mut.result.now c.end.new.self c.index_mut.ensures.value c.end.ensures
+    (drop_ends _ c.args.owner c.args.handle c.index_mut.result.now c.end.new.self c.index_mut.ensures.value
+    c.end.ensures
     (sym c.plan_drop.ensures ∙ c.in-Static.is))
 
 pub invariant_of-self-in-Lower : goal.invariant_of-self-in-Lower

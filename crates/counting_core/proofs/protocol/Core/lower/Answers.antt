@@ -14,7 +14,8 @@ pub index_mut-requires-2 : goal.index_mut-requires-2
 index_mut-requires-2 g c =
     let f : CoreState _ = core_of c.self.inside.value c.self.inside.word c.self.inside.limit c.self.inside.handles.items
     c.self.inside.owners.items in
-    subst (λ n. c.args.handle < n) (sym c.self.inside.handles.ok.0) (born f c.args.handle (lower_lives f c.self.invariant
+    subst (λ n. c.args.handle < n) (sym c.self.inside.handles.ok.0) (born f c.args.handle
+    (lower_lives f c.self.invariant
     c.args.owner c.args.handle (subst (λ k. activity k c.args.owner ≡ Dropping c.args.handle) (sym c.self.view_is)
     c.requires.dropping)))
 

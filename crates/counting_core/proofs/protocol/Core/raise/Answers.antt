@@ -38,13 +38,15 @@ invariant_of-self-2 g c =
       | in-Static w ↦ stays c.self.view_is _ (Raise c.args.owner) (Born c.in-Some.number) c.requires.allowed
           c.self.invariant (λ may. raise_bears _ c.args.owner c.match-plan_clone.next
           (raise_static _ c.args.owner c.args.handle c.args.seen
-          (subst (λ k. activity k c.args.owner ≡ Cloning c.args.handle c.args.seen) (sym c.self.view_is) c.requires.cloning)
+          (subst (λ k. activity k c.args.owner ≡ Cloning c.args.handle c.args.seen) (sym c.self.view_is)
+          c.requires.cloning)
           c.self.invariant (sym c.plan_clone.ensures ∙ w.in-Static.is) c.match-plan_clone.next w.next-is) may
           c.in-Some.number c.in-Some.ensures.number c.push_newborn.new.handles.items c.in-Some.ensures.born)
       | in-Raise+else-found-seen w ↦ stays c.self.view_is _ (Raise c.args.owner) (Born c.in-Some.number)
           c.requires.allowed c.self.invariant (λ may. raise_bears _ c.args.owner c.match-plan_clone.next
           (raise_won _ c.args.owner c.args.handle c.args.seen
-          (subst (λ k. activity k c.args.owner ≡ Cloning c.args.handle c.args.seen) (sym c.self.view_is) c.requires.cloning)
+          (subst (λ k. activity k c.args.owner ≡ Cloning c.args.handle c.args.seen) (sym c.self.view_is)
+          c.requires.cloning)
           c.self.invariant w.in-Raise.next (sym c.plan_clone.ensures ∙ w.in-Raise.is) w.if-found-seen.false
           c.match-plan_clone.next w.next-is) may
           c.in-Some.number c.in-Some.ensures.number c.push_newborn.new.handles.items c.in-Some.ensures.born)
@@ -56,13 +58,15 @@ returns g c =
       | in-Static w ↦ follows c.self.view_is _ (Raise c.args.owner) (Born c.in-Some.number) c.requires.allowed
           (λ may. raise_bears _ c.args.owner c.match-plan_clone.next
           (raise_static _ c.args.owner c.args.handle c.args.seen
-          (subst (λ k. activity k c.args.owner ≡ Cloning c.args.handle c.args.seen) (sym c.self.view_is) c.requires.cloning)
+          (subst (λ k. activity k c.args.owner ≡ Cloning c.args.handle c.args.seen) (sym c.self.view_is)
+          c.requires.cloning)
           c.self.invariant (sym c.plan_clone.ensures ∙ w.in-Static.is) c.match-plan_clone.next w.next-is) may
           c.in-Some.number c.in-Some.ensures.number c.push_newborn.new.handles.items c.in-Some.ensures.born)
       | in-Raise+else-found-seen w ↦ follows c.self.view_is _ (Raise c.args.owner) (Born c.in-Some.number)
           c.requires.allowed (λ may. raise_bears _ c.args.owner c.match-plan_clone.next
           (raise_won _ c.args.owner c.args.handle c.args.seen
-          (subst (λ k. activity k c.args.owner ≡ Cloning c.args.handle c.args.seen) (sym c.self.view_is) c.requires.cloning)
+          (subst (λ k. activity k c.args.owner ≡ Cloning c.args.handle c.args.seen) (sym c.self.view_is)
+          c.requires.cloning)
           c.self.invariant w.in-Raise.next (sym c.plan_clone.ensures ∙ w.in-Raise.is) w.if-found-seen.false
           c.match-plan_clone.next w.next-is) may
           c.in-Some.number c.in-Some.ensures.number c.push_newborn.new.handles.items c.in-Some.ensures.born)

@@ -28,6 +28,7 @@ pub use Rattle.counting_word.proofs.Tallies.{run-more, tally-more}
 pub use Rattle.counting_word.proofs.Words.{count_of-unmarked, word-unmarked, exactly-unmarked, is_one_handle-exactly}
 pub use Rattle.counting_word.proofs.Words.{stands-live, stands-in_drop, stands-raise, stands-lower, stands-marked_word}
 pub use Rattle.counting_word.proofs.Words.{stands-new}
+pub use Rattle.counting_word.proofs.WordLogs.{lowered-less}
 pub use Rattle.counting_word.specs.CountingWord.{is_one_handle, count_of, marked_word, mark_bit, is_marked_word}
 pub use Rattle.counting_word.specs.CountingWord.{StandsFor, IsLimit, IsWithin, greatest_count}
 pub use Rattle.counting_word.specs.Plans.{clone_plan, drop_plan}

@@ -13,18 +13,15 @@ use Rattle.counting_core.specs.Trace.{HandleState, State, owner_of}
 
 abbrev pub is_shared : Access → Bool
 is_shared Shared = true
-is_shared Written = false
-is_shared Sole = false
+is_shared access = false
 
 abbrev pub is_written : Access → Bool
-is_written Shared = false
 is_written Written = true
-is_written Sole = false
+is_written access = false
 
 abbrev pub is_sole : Access → Bool
-is_sole Shared = false
-is_sole Written = false
 is_sole Sole = true
+is_sole access = false
 
 -- what the owner o may do with a handle in the state k
 module _ (k : HandleState) (o : ℕ) where

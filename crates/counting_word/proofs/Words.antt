@@ -1,4 +1,4 @@
--- What a word tells, and what it stands for after each step on it.
+-- What a word shows, and what it stands for after each step on it.
 use Rattle.std.proofs.Common.{◌≡◌, ◌≢◌, ℕ, ◌+◌, ◌-◌, ◌*◌, ◌/◌, ◌%◌, ◌^◌, ◌<◌}
 use Rattle.std.proofs.Common.{◌≤◌, Bool, true, false, not, ◌&&◌, nat_eq, bit_or, bit_and, refl, sym}
 use Rattle.std.proofs.Common.{◌∙◌, ap, arith, true≢false, leb-true, leb-false, le-leb, eq-eqb, ne_eqb}
@@ -11,7 +11,7 @@ use Rattle.counting_word.specs.CountingWord.{marked_word, IsWithin, StandsFor}
 
 pub count_of-unmarked : (word : ℕ) → is_marked_word word ≡ false → count_of word ≡ word
 count_of-unmarked word unmarked =
-    let low : word < 9223372036854775808 = leb-false mark_bit word unmarked in
+    let low : word < mark_bit = leb-false mark_bit word unmarked in
     omega arith
 
 -- an unmarked word is the number of live handles
@@ -20,7 +20,7 @@ pub word-unmarked : (word live in_drop : ℕ) (mark : Bool) → is_marked_word w
 word-unmarked word live in_drop mark unmarked s =
     sym (count_of-unmarked word unmarked) ∙ s.counts_live (sym s.same_mark ∙ unmarked)
 
--- a word tells whether the block is unmarked with exactly n live handles: a marked one, that it is not
+-- a word shows whether the block is unmarked with exactly n live handles: a marked one, that it is not
 pub exactly-marked : (word live in_drop n : ℕ) (mark : Bool) → is_marked_word word ≡ true
     → StandsFor word mark live in_drop → (not mark && nat_eq live n) ≡ false
 exactly-marked word live in_drop n mark marked s =
@@ -36,7 +36,7 @@ exactly-unmarked word live in_drop n mark unmarked s =
 -- a marked word is never that of one handle alone
 pub is_one_handle-marked : (word : ℕ) → is_marked_word word ≡ true → is_one_handle word ≡ false
 is_one_handle-marked word marked =
-    let high : 9223372036854775808 ≤ word = leb-true mark_bit word marked in
+    let high : mark_bit ≤ word = leb-true mark_bit word marked in
     ne_eqb word 1 (λ one. omega arith)
 
 -- an unmarked word is that of one handle exactly if one handle lives
@@ -53,8 +53,8 @@ is_one_handle-exactly word live in_drop false s = is_one_handle-unmarked word li
 
 -- The word of a new block with n handles. Without the mark the drops in flight are among the live handles, however
 -- many they are.
-pub stands-new : (n in_drop : ℕ) → n < 9223372036854775808 → StandsFor n false n in_drop
-stands-new n in_drop small = let count : n % 9223372036854775808 ≡ n = omega arith in record {
+pub stands-new : (n in_drop : ℕ) → n < mark_bit → StandsFor n false n in_drop
+stands-new n in_drop small = let count : n % mark_bit ≡ n = omega arith in record {
   same_mark = lt-leb mark_bit n small;
   counts_live = λ _. count;
   covers_drops = λ m. absurd (true≢false (sym m));
@@ -83,7 +83,7 @@ stands-in_drop word live in_drop in_drop' mark unmarked s = record {
 
 -- no count is above the greatest
 pub within_greatest : (word : ℕ) → IsWithin word greatest_count
-within_greatest word unmarked = let at_most : word % 9223372036854775808 ≤ 9223372036854775807 = omega arith in
+within_greatest word unmarked = let at_most : word % mark_bit ≤ greatest_count = omega arith in
     at_most
 
 -- an unmarked word whose count is not the limit has room for one more
@@ -101,10 +101,10 @@ pub stands-raise : (word live live' in_drop in_drop' : ℕ) (mark : Bool) → is
     → word < greatest_count → live' ≡ live + 1 → StandsFor word mark live in_drop
     → StandsFor (word + 1) mark live' in_drop'
 stands-raise word live live' in_drop in_drop' mark unmarked room more s =
-    let below : word < 9223372036854775807 = room in
+    let below : word < greatest_count = room in
     let is : word ≡ live = word-unmarked word live in_drop mark unmarked s in
-    let high : word + 1 < 9223372036854775808 = omega arith in
-    let count : (word + 1) % 9223372036854775808 ≡ live' = omega arith in
+    let high : word + 1 < mark_bit = omega arith in
+    let count : (word + 1) % mark_bit ≡ live' = omega arith in
     let no_mark : mark ≡ false = sym s.same_mark ∙ unmarked in
     record {
       same_mark = lt-leb mark_bit (word + 1) high ∙ sym no_mark;
@@ -117,10 +117,10 @@ pub stands-lower : (word live live' in_drop in_drop' : ℕ) (mark : Bool)
     → live' + 1 ≡ live → in_drop' + 1 ≡ in_drop
     → StandsFor word mark live in_drop → (1 ≤ word) × StandsFor (word - 1) mark live' in_drop'
 stands-lower word live live' in_drop in_drop' true fewer dropped s =
-    let high : 9223372036854775808 ≤ word = leb-true mark_bit word s.same_mark in
+    let high : mark_bit ≤ word = leb-true mark_bit word s.same_mark in
     let covers : in_drop ≤ count_of word = s.covers_drops refl in
-    let above : 9223372036854775808 ≤ word - 1 = omega arith in
-    let covered : in_drop' ≤ (word - 1) % 9223372036854775808 = omega arith in (
+    let above : mark_bit ≤ word - 1 = omega arith in
+    let covered : in_drop' ≤ (word - 1) % mark_bit = omega arith in (
       omega arith,
       record {
         same_mark = le-leb mark_bit (word - 1) above;
@@ -129,10 +129,10 @@ stands-lower word live live' in_drop in_drop' true fewer dropped s =
       },
     )
 stands-lower word live live' in_drop in_drop' false fewer dropped s =
-    let low : word < 9223372036854775808 = leb-false mark_bit word s.same_mark in
+    let low : word < mark_bit = leb-false mark_bit word s.same_mark in
     let is : word ≡ live = word-unmarked word live in_drop false s.same_mark s in
-    let below : word - 1 < 9223372036854775808 = omega arith in
-    let count : (word - 1) % 9223372036854775808 ≡ live' = omega arith in (
+    let below : word - 1 < mark_bit = omega arith in
+    let count : (word - 1) % mark_bit ≡ live' = omega arith in (
       omega arith,
       record {
         same_mark = lt-leb mark_bit (word - 1) below;
@@ -142,30 +142,30 @@ stands-lower word live live' in_drop in_drop' false fewer dropped s =
     )
 
 -- the word that a subtraction of one leaves, as an atomic step does it
-pub word-lowered : (word : ℕ) → 1 ≤ word → word < 18446744073709551616
+pub word-lowered : (word : ℕ) → 1 ≤ word → word < 2 ^ 64
     → (word + (2 ^ 64 - 1)) % 2 ^ 64 ≡ word - 1
 word-lowered word some fits =
-    let less : (word + 18446744073709551615) % 18446744073709551616 ≡ word - 1 = omega arith in
+    let less : (word + (2 ^ 64 - 1)) % 2 ^ 64 ≡ word - 1 = omega arith in
     less
 
 -- The word that an or with the mark leaves. `word | bit` and `word & bit` add up to `word + bit`, and `word & bit` is
 -- bit 63 of the word.
-pub bit_or-mark_bit : (word : ℕ) → word < 18446744073709551616 → bit_or word mark_bit ≡ marked_word word
+pub bit_or-mark_bit : (word : ℕ) → word < 2 ^ 64 → bit_or word mark_bit ≡ marked_word word
 bit_or-mark_bit word fits = at (is_marked_word word) refl where
-  sum : bit_or word 9223372036854775808 + bit_and word 9223372036854775808 ≡ word + 9223372036854775808
+  sum : bit_or word mark_bit + bit_and word mark_bit ≡ word + mark_bit
   sum = or_add_and word mark_bit
 
-  bit : bit_and word 9223372036854775808 ≡ (word / 9223372036854775808 % 2) * 9223372036854775808
+  bit : bit_and word mark_bit ≡ (word / mark_bit % 2) * mark_bit
   bit = and_high word 1 63
 
   at : (b : Bool) → is_marked_word word ≡ b → bit_or word mark_bit ≡ (if b then word else word + mark_bit)
   at false unmarked =
-      let low : word < 9223372036854775808 = leb-false mark_bit word unmarked in
+      let low : word < mark_bit = leb-false mark_bit word unmarked in
       let total = sum in
       let part = bit in
       omega arith
   at true marked =
-      let high : 9223372036854775808 ≤ word = leb-true mark_bit word marked in
+      let high : mark_bit ≤ word = leb-true mark_bit word marked in
       let total = sum in
       let part = bit in
       omega arith
@@ -185,11 +185,11 @@ stands-marked_word word live in_drop true s few =
     }
 stands-marked_word word live in_drop false s few =
     let same : marked_word word ≡ word + mark_bit = ap (λ b. if b then word else word + mark_bit) s.same_mark in
-    let low : word < 9223372036854775808 = leb-false mark_bit word s.same_mark in
-    let high : 9223372036854775808 ≤ word + 9223372036854775808 = omega arith in
+    let low : word < mark_bit = leb-false mark_bit word s.same_mark in
+    let high : mark_bit ≤ word + mark_bit = omega arith in
     let is : word ≡ live = word-unmarked word live in_drop false s.same_mark s in
-    let stays : (word + 9223372036854775808) % 9223372036854775808 ≡ word = omega arith in
-    let covered : in_drop ≤ (word + 9223372036854775808) % 9223372036854775808 = omega arith in
+    let stays : (word + mark_bit) % mark_bit ≡ word = omega arith in
+    let covered : in_drop ≤ (word + mark_bit) % mark_bit = omega arith in
     record {
       same_mark = ap is_marked_word same ∙ le-leb mark_bit (word + mark_bit) high;
       counts_live = λ m. absurd (true≢false m);
@@ -200,10 +200,10 @@ stands-marked_word word live in_drop false s few =
 pub stands-raised : (word live in_drop : ℕ) → StandsFor word false live in_drop → live ≢ greatest_count
     → StandsFor (word + 1) false (live + 1) in_drop
 stands-raised word live in_drop s room =
-    let low : word < 9223372036854775808 = leb-false mark_bit word s.same_mark in
+    let low : word < mark_bit = leb-false mark_bit word s.same_mark in
     let is : word ≡ live = word-unmarked word live in_drop false s.same_mark s in
-    let other : live ≢ 9223372036854775807 = room in
-    let below : word < 9223372036854775807 = omega arith in
+    let other : live ≢ greatest_count = room in
+    let below : word < greatest_count = omega arith in
     stands-raise word live (live + 1) in_drop in_drop false s.same_mark below refl s
 
 pub stands-lowered : (word live in_drop : ℕ) (mark : Bool) → StandsFor word mark (live + 1) (in_drop + 1)

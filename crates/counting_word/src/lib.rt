@@ -10,7 +10,7 @@ ghost use Rattle.counting_word.specs.Plans.{clone_plan, drop_plan};
 
 pub mod laws;
 
-/// Bit 63. It is set for a block that is never given back, and it is never cleared.
+/// Bit 63. It is set for a block that is never freed, and it is never cleared.
 pub const MARK: u64 = 1 << 63;
 
 /// The greatest count: the most handles that a block without the mark can have. A block may have a
@@ -37,7 +37,7 @@ pub enum DropPlan {
     Lower,
 }
 
-/// Whether the block is never given back.
+/// Whether the block is never freed.
 #[inline]
 pub fn is_marked(word: u64) -> bool
     ensures { result ≡ is_marked_word word }

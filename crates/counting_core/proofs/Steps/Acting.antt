@@ -1,8 +1,9 @@
 -- What each step makes of the fields of a core.
+use Rattle.counting_core.proofs.Names.{lowered-less, mark_bit, greatest_count}
 use Rattle.counting_core.proofs.Names.{◌≡◌, ◌≢◌, ℕ, ◌-◌, ◌%◌, ◌≤◌, ◌<◌, ◌++◌, ◌∷◌, [], Bool, true, false, List, length}
 use Rattle.counting_core.proofs.Names.{if◌then◌else◌, get_or, set, refl, sym, ◌∙◌, ap, ap₂, subst, length-set, arith}
 use Rattle.counting_core.proofs.Names.{IsTrue, nat_eq, ne_eqb, eq-eqb, eqb-true, leb-true, and_parts, set-get_or}
-use Rattle.counting_core.proofs.Names.{is_one_handle, count_of, marked_word, mark_bit, clone_plan, drop_plan, lowered}
+use Rattle.counting_core.proofs.Names.{is_one_handle, count_of, marked_word, clone_plan, drop_plan, lowered}
 use Rattle.counting_core.proofs.Names.{StaticClone, FullClone, RaiseClone, StaticDrop, LowerDrop, ClonePlanSays}
 use Rattle.counting_core.proofs.Names.{clone_plan-says, count_of-unmarked, Idle, Cloning, Dropping, Access}
 use Rattle.counting_core.proofs.Names.{SharedAccess, Written, SoleAccess, Step, Clone, Raise, Quit, Drop, Lower, Mark}
@@ -19,7 +20,7 @@ use Rattle.counting_core.proofs.Traces.Places.{put-same}
 use Rattle.counting_core.proofs.Traces.Rooms.{room_seen}
 use Rattle.counting_core.proofs.Traces.LiveCounts.{core_limit, lower_counts}
 use Rattle.counting_core.proofs.Steps.Edits.{edits, goes, bears, within, state-owner, state-edit}
-use Rattle.counting_core.proofs.Steps.ByTheWord.{raise-by, less-lowered}
+use Rattle.counting_core.proofs.Steps.ByTheWord.{raise-by}
 
 module _ {V : Type 0} (f : CoreState V) where
   -- a step that changes no handle and no owner
@@ -115,10 +116,10 @@ module _ {V : Type 0} (f : CoreState V) where
     pub raise_static : clone_plan f.word f.limit ≡ StaticClone → (word : ℕ) → word ≡ f.word
         → (Born (length f.handles), word) ≡ by_word f (Raise o)
     raise_static plan word same =
-        let high : 9223372036854775808 ≤ f.word =
+        let high : mark_bit ≤ f.word =
         leb-true mark_bit f.word (clone_plan-says f.word f.limit StaticClone (sym plan)) in
         let low : seen < f.limit = seen-few reached o h seen is in
-        let most : f.limit ≤ 9223372036854775807 = (core_limit f reached.0 reached.1).1 in
+        let most : f.limit ≤ greatest_count = (core_limit f reached.0 reached.1).1 in
         ap (λ w. (Born (length f.handles), w)) same
         ∙ sym (raise-by f o false (other (λ e. absurd (omega arith))) ∙ ap (λ p. (cloned f p, f.word)) plan)
 
@@ -155,7 +156,7 @@ module _ {V : Type 0} (f : CoreState V) where
   pub lower_some : IsReached f → (o : ℕ) → IsPermitted f (Lower o) → 1 ≤ f.word
   lower_some reached o may =
       let r : Represents f reached.0 = reached.1 in
-      let some : 1 ≤ f.word % 9223372036854775808 = lower_counts f reached.0 r o
+      let some : 1 ≤ f.word % mark_bit = lower_counts f reached.0 r o
       (ap (λ u. permitted {V = V} u (Lower o)) (sym r.same_state) ∙ may) in
       omega arith
 
@@ -188,7 +189,7 @@ module _ {V : Type 0} (f : CoreState V) where
           ∙ ap (λ c. goes_on_to (ended (state_of f) (handle_in c)) o Idle) (sym is)
 
       left : f.word - 1 ≡ lowered f.word
-      left = less-lowered f.word (lower_some reached o may)
+      left = sym (lowered-less f.word (lower_some reached o may))
 
       at : (b : Bool) → is_one_handle f.word ≡ b → TakesEffect f (Lower o) (if b then GivenUp f.value else Ended)
           (record f { word = f.word - 1; handles = set f.handles h new; owners = set f.owners o Idle })

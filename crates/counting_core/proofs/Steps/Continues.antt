@@ -87,20 +87,14 @@ module _ {V : Type 0} where
   reaches f d s a w reached = (Then reached.0 s a, continues f d s a w reached.0 reached.1)
 
   -- The fields are those of the core: what a step makes of them it makes of the core, and some trace has led to it.
-  module _ {f now : CoreState V} (is : f ≡ now) (d : CoreState V) (s : Step V) (a : Answer V)
-      (may : IsPermitted now s) where
-    pub follows : (IsPermitted f s → FollowsWord f s a d) → FollowsWord now s a d
-    follows made = subst (λ k. FollowsWord k s a d) is (made (subst (λ k. IsPermitted k s) (sym is) may))
-
-    pub stays : IsReached f → (IsPermitted f s → FollowsWord f s a d) → IsReached d
-    stays reached made = reaches f d s a (made (subst (λ k. IsPermitted k s) (sym is) may)) reached
-
-  -- the same, where the step is known to be this one
   module _ {f now : CoreState V} (is : f ≡ now) (d : CoreState V) {x s : Step V} (same : x ≡ s) (a : Answer V)
       (may : IsPermitted now x) where
-    pub follows_as : (IsPermitted f s → FollowsWord f s a d) → FollowsWord now x a d
-    follows_as made = subst (λ y. FollowsWord now y a d) (sym same)
-        (follows is d s a (subst (λ y. IsPermitted now y) same may) made)
+    made-of : (IsPermitted f s → FollowsWord f s a d) → FollowsWord f x a d
+    made-of made = subst (λ y. IsPermitted f y → FollowsWord f y a d) (sym same) made
+        (subst (λ k. IsPermitted k x) (sym is) may)
 
-    pub stays_as : IsReached f → (IsPermitted f s → FollowsWord f s a d) → IsReached d
-    stays_as = stays is d s a (subst (λ y. IsPermitted now y) same may)
+    pub follows : (IsPermitted f s → FollowsWord f s a d) → FollowsWord now x a d
+    follows made = subst (λ k. FollowsWord k x a d) is (made-of made)
+
+    pub stays : IsReached f → (IsPermitted f s → FollowsWord f s a d) → IsReached d
+    stays reached made = reaches f d x a (made-of made) reached

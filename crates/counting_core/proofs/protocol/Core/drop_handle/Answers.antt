@@ -1,4 +1,4 @@
-use Rattle.counting_core.proofs.Names.{◌<◌, sym, ◌∙◌, subst, Drop, Ended, Pending, CoreState, core_of, IsPermitted}
+use Rattle.counting_core.proofs.Names.{refl, ◌<◌, sym, ◌∙◌, subst, Drop, Ended, Pending, CoreState, core_of, IsPermitted}
 use Rattle.counting_core.proofs.Steps.Continues.{stays, follows}
 use Rattle.counting_core.proofs.Steps.Edits.{born}
 use Rattle.counting_core.proofs.Steps.Acting.{drop_lives, drop_ends, drop_reads}
@@ -13,24 +13,24 @@ index_mut-requires g c =
 
 pub invariant_of-self : goal.invariant_of-self
 invariant_of-self g c =
-    stays c.self.view_is _ (Drop c.args.owner c.args.handle) Ended c.requires c.self.invariant
+    stays c.self.view_is _ (refl {a = Drop c.args.owner c.args.handle}) Ended c.requires c.self.invariant
     (drop_ends _ c.args.owner c.args.handle c.index_mut.result.now c.end.new.self c.index_mut.ensures.value
     c.end.ensures
     (sym c.plan_drop.ensures ∙ c.in-Static.is))
 
 pub returns-in-Static : goal.returns-in-Static
 returns-in-Static g c =
-    follows c.self.view_is _ (Drop c.args.owner c.args.handle) Ended c.requires
+    follows c.self.view_is _ (refl {a = Drop c.args.owner c.args.handle}) Ended c.requires
     (drop_ends _ c.args.owner c.args.handle c.index_mut.result.now c.end.new.self c.index_mut.ensures.value
     c.end.ensures
     (sym c.plan_drop.ensures ∙ c.in-Static.is))
 
 pub invariant_of-self-in-Lower : goal.invariant_of-self-in-Lower
 invariant_of-self-in-Lower g c =
-    stays c.self.view_is _ (Drop c.args.owner c.args.handle) Pending c.requires c.self.invariant
+    stays c.self.view_is _ (refl {a = Drop c.args.owner c.args.handle}) Pending c.requires c.self.invariant
     (drop_reads _ c.args.owner c.args.handle (sym c.plan_drop.ensures ∙ c.in-Lower.is))
 
 pub returns-in-Lower : goal.returns-in-Lower
 returns-in-Lower g c =
-    follows c.self.view_is _ (Drop c.args.owner c.args.handle) Pending c.requires
+    follows c.self.view_is _ (refl {a = Drop c.args.owner c.args.handle}) Pending c.requires
     (drop_reads _ c.args.owner c.args.handle (sym c.plan_drop.ensures ∙ c.in-Lower.is))

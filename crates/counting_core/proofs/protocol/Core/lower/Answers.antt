@@ -1,4 +1,4 @@
-use Rattle.counting_core.proofs.Names.{◌≡◌, ◌<◌, true, false, sym, ◌∙◌, subst, Dropping, Lower, Ended, GivenUp}
+use Rattle.counting_core.proofs.Names.{refl, ◌≡◌, ◌<◌, true, false, sym, ◌∙◌, subst, Dropping, Lower, Ended, GivenUp}
 use Rattle.counting_core.proofs.Names.{CoreState, core_of, activity, IsPermitted}
 use Rattle.counting_core.proofs.Steps.Continues.{stays, follows}
 use Rattle.counting_core.proofs.Steps.Edits.{born}
@@ -22,12 +22,12 @@ index_mut-requires-2 g c =
 pub invariant_of-self : goal.invariant_of-self
 invariant_of-self g c =
     elim c.if-is_last.branch [
-      | then-is_last w ↦ stays c.self.view_is _ (Lower c.args.owner) (GivenUp c.self.inside.value) c.requires.allowed
+      | then-is_last w ↦ stays c.self.view_is _ (refl {a = Lower c.args.owner}) (GivenUp c.self.inside.value) c.requires.allowed
           c.self.invariant (lowers _ c.args.owner c.args.handle c.index_mut-2.result.now c.end.new.self
           c.index_mut-2.ensures.value c.end.ensures c.self.invariant
           (subst (λ k. activity k c.args.owner ≡ Dropping c.args.handle) (sym c.self.view_is) c.requires.dropping)
           true (sym c.is_last.ensures ∙ w.if-is_last.true))
-      | else-is_last w ↦ stays c.self.view_is _ (Lower c.args.owner) Ended c.requires.allowed
+      | else-is_last w ↦ stays c.self.view_is _ (refl {a = Lower c.args.owner}) Ended c.requires.allowed
           c.self.invariant (lowers _ c.args.owner c.args.handle c.index_mut-2.result.now c.end.new.self
           c.index_mut-2.ensures.value c.end.ensures c.self.invariant
           (subst (λ k. activity k c.args.owner ≡ Dropping c.args.handle) (sym c.self.view_is) c.requires.dropping)
@@ -37,12 +37,12 @@ invariant_of-self g c =
 pub returns : goal.returns
 returns g c =
     elim c.if-is_last.branch [
-      | then-is_last w ↦ rw w.result-is (follows c.self.view_is _ (Lower c.args.owner) (GivenUp c.self.inside.value)
+      | then-is_last w ↦ rw w.result-is (follows c.self.view_is _ (refl {a = Lower c.args.owner}) (GivenUp c.self.inside.value)
           c.requires.allowed (lowers _ c.args.owner c.args.handle c.index_mut-2.result.now c.end.new.self
           c.index_mut-2.ensures.value c.end.ensures c.self.invariant
           (subst (λ k. activity k c.args.owner ≡ Dropping c.args.handle) (sym c.self.view_is) c.requires.dropping)
           true (sym c.is_last.ensures ∙ w.if-is_last.true)))
-      | else-is_last w ↦ rw w.result-is (follows c.self.view_is _ (Lower c.args.owner) Ended
+      | else-is_last w ↦ rw w.result-is (follows c.self.view_is _ (refl {a = Lower c.args.owner}) Ended
           c.requires.allowed (lowers _ c.args.owner c.args.handle c.index_mut-2.result.now c.end.new.self
           c.index_mut-2.ensures.value c.end.ensures c.self.invariant
           (subst (λ k. activity k c.args.owner ≡ Dropping c.args.handle) (sym c.self.view_is) c.requires.dropping)

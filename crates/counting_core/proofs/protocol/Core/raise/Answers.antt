@@ -1,4 +1,4 @@
-use Rattle.counting_core.proofs.Names.{◌≡◌, sym, ◌∙◌, subst, Cloning, Raise, Born, Full, Pending, activity}
+use Rattle.counting_core.proofs.Names.{refl, ◌≡◌, sym, ◌∙◌, subst, Cloning, Raise, Born, Full, Pending, activity}
 use Rattle.counting_core.proofs.Traces.LiveCounts.{core_limit, core_within}
 use Rattle.counting_core.proofs.Steps.Continues.{stays, follows}
 use Rattle.counting_core.proofs.Steps.Acting.{raise_full, raise_loses, raise_static, raise_won, raise_bears}
@@ -13,21 +13,21 @@ plan_clone-requires-clause-within g c = core_within _ c.self.invariant.0 c.self.
 
 pub invariant_of-self : goal.invariant_of-self
 invariant_of-self g c =
-    stays c.self.view_is _ (Raise c.args.owner) Full c.requires.allowed c.self.invariant
+    stays c.self.view_is _ (refl {a = Raise c.args.owner}) Full c.requires.allowed c.self.invariant
     (raise_full _ c.args.owner c.args.handle c.args.seen
     (subst (λ k. activity k c.args.owner ≡ Cloning c.args.handle c.args.seen) (sym c.self.view_is) c.requires.cloning)
     c.self.invariant (sym c.plan_clone.ensures ∙ c.in-Full.is))
 
 pub returns-in-Full : goal.returns-in-Full
 returns-in-Full g c =
-    follows c.self.view_is _ (Raise c.args.owner) Full c.requires.allowed
+    follows c.self.view_is _ (refl {a = Raise c.args.owner}) Full c.requires.allowed
     (raise_full _ c.args.owner c.args.handle c.args.seen
     (subst (λ k. activity k c.args.owner ≡ Cloning c.args.handle c.args.seen) (sym c.self.view_is) c.requires.cloning)
     c.self.invariant (sym c.plan_clone.ensures ∙ c.in-Full.is))
 
 pub invariant_of-self-then-found-seen : goal.invariant_of-self-then-found-seen
 invariant_of-self-then-found-seen g c =
-    stays c.self.view_is _ (Raise c.args.owner) Pending c.requires.allowed c.self.invariant
+    stays c.self.view_is _ (refl {a = Raise c.args.owner}) Pending c.requires.allowed c.self.invariant
     (raise_loses _ c.args.owner c.args.handle c.args.seen
     (subst (λ k. activity k c.args.owner ≡ Cloning c.args.handle c.args.seen) (sym c.self.view_is) c.requires.cloning)
     c.self.invariant _ (sym c.plan_clone.ensures ∙ c.in-Raise.is) c.if-found-seen.true)
@@ -35,14 +35,14 @@ invariant_of-self-then-found-seen g c =
 pub invariant_of-self-2 : goal.invariant_of-self-2
 invariant_of-self-2 g c =
     elim c.match-plan_clone.branch [
-      | in-Static w ↦ stays c.self.view_is _ (Raise c.args.owner) (Born c.in-Some.number) c.requires.allowed
+      | in-Static w ↦ stays c.self.view_is _ (refl {a = Raise c.args.owner}) (Born c.in-Some.number) c.requires.allowed
           c.self.invariant (λ may. raise_bears _ c.args.owner c.match-plan_clone.next
           (raise_static _ c.args.owner c.args.handle c.args.seen
           (subst (λ k. activity k c.args.owner ≡ Cloning c.args.handle c.args.seen) (sym c.self.view_is)
           c.requires.cloning)
           c.self.invariant (sym c.plan_clone.ensures ∙ w.in-Static.is) c.match-plan_clone.next w.next-is) may
           c.in-Some.number c.in-Some.ensures.number c.push_newborn.new.handles.items c.in-Some.ensures.born)
-      | in-Raise+else-found-seen w ↦ stays c.self.view_is _ (Raise c.args.owner) (Born c.in-Some.number)
+      | in-Raise+else-found-seen w ↦ stays c.self.view_is _ (refl {a = Raise c.args.owner}) (Born c.in-Some.number)
           c.requires.allowed c.self.invariant (λ may. raise_bears _ c.args.owner c.match-plan_clone.next
           (raise_won _ c.args.owner c.args.handle c.args.seen
           (subst (λ k. activity k c.args.owner ≡ Cloning c.args.handle c.args.seen) (sym c.self.view_is)
@@ -55,14 +55,14 @@ invariant_of-self-2 g c =
 pub returns : goal.returns
 returns g c =
     elim c.match-plan_clone.branch [
-      | in-Static w ↦ follows c.self.view_is _ (Raise c.args.owner) (Born c.in-Some.number) c.requires.allowed
+      | in-Static w ↦ follows c.self.view_is _ (refl {a = Raise c.args.owner}) (Born c.in-Some.number) c.requires.allowed
           (λ may. raise_bears _ c.args.owner c.match-plan_clone.next
           (raise_static _ c.args.owner c.args.handle c.args.seen
           (subst (λ k. activity k c.args.owner ≡ Cloning c.args.handle c.args.seen) (sym c.self.view_is)
           c.requires.cloning)
           c.self.invariant (sym c.plan_clone.ensures ∙ w.in-Static.is) c.match-plan_clone.next w.next-is) may
           c.in-Some.number c.in-Some.ensures.number c.push_newborn.new.handles.items c.in-Some.ensures.born)
-      | in-Raise+else-found-seen w ↦ follows c.self.view_is _ (Raise c.args.owner) (Born c.in-Some.number)
+      | in-Raise+else-found-seen w ↦ follows c.self.view_is _ (refl {a = Raise c.args.owner}) (Born c.in-Some.number)
           c.requires.allowed (λ may. raise_bears _ c.args.owner c.match-plan_clone.next
           (raise_won _ c.args.owner c.args.handle c.args.seen
           (subst (λ k. activity k c.args.owner ≡ Cloning c.args.handle c.args.seen) (sym c.self.view_is)

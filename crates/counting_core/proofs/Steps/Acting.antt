@@ -19,44 +19,18 @@ use Rattle.counting_core.proofs.Traces.InFlight.{parts-alone, taken-lives, all_f
 use Rattle.counting_core.proofs.Traces.Places.{put-same}
 use Rattle.counting_core.proofs.Traces.Rooms.{room_seen}
 use Rattle.counting_core.proofs.Traces.LiveCounts.{core_limit, lower_counts}
-use Rattle.counting_core.proofs.Steps.Edits.{edits, goes, bears, within, state-owner, state-edit}
+use Rattle.counting_core.proofs.Steps.Edits.{effect, edits, goes, bears, within, state-owner, state-edit}
 use Rattle.counting_core.proofs.Steps.ByTheWord.{raise-by}
 
 module _ {V : Type 0} (f : CoreState V) where
-  -- a step that changes no handle and no owner
-  asks : (s : Step V) (a : Answer V) → IsPermitted f s → (a, f.word) ≡ by_word f s
-      → state_of f ≡ after f.word (state_of f) s a → f.value ≡ value_after f.value s
-      → length f.handles ≡ births_after (length f.handles) a → TakesEffect f s a f
-  asks s a may by same value births = record {
-    allowed = may;
-    by_word = by;
-    same_state = same;
-    same_value = value;
-    same_births = births;
-    same_limit = refl;
-  }
-
   pub marks : (o h word : ℕ) → word ≡ marked_word f.word → IsPermitted f (Mark o h)
       → TakesEffect f (Mark o h) Marked (record f { word = word })
-  marks o h word is may = record {
-    allowed = may;
-    by_word = ap (λ w. (Marked, w)) is;
-    same_state = refl;
-    same_value = refl;
-    same_births = refl;
-    same_limit = refl;
-  }
+  marks o h word is may =
+      effect f (record f { word = word }) (Mark o h) Marked may (ap (λ w. (Marked, w)) is) refl refl refl refl
 
   pub writes : (o h : ℕ) (v : V) → IsPermitted f (Write o h v) → TakesEffect f (Write o h v) Done
       (record f { value = v })
-  writes o h v may = record {
-    allowed = may;
-    by_word = refl;
-    same_state = refl;
-    same_value = refl;
-    same_births = refl;
-    same_limit = refl;
-  }
+  writes o h v may = effect f (record f { value = v }) (Write o h v) Done may refl refl refl refl refl
 
   module _ (o h : ℕ) where
     -- the read of a clone
@@ -193,22 +167,10 @@ module _ {V : Type 0} (f : CoreState V) where
 
       at : (b : Bool) → is_one_handle f.word ≡ b → TakesEffect f (Lower o) (if b then GivenUp f.value else Ended)
           (record f { word = f.word - 1; handles = set f.handles h new; owners = set f.owners o Idle })
-      at true one = record {
-        allowed = may;
-        by_word = ap₂ (λ b w. (if b then GivenUp f.value else Ended, w)) (sym one) left;
-        same_state = same;
-        same_value = refl;
-        same_births = length-set f.handles h new;
-        same_limit = refl;
-      }
-      at false one = record {
-        allowed = may;
-        by_word = ap₂ (λ b w. (if b then GivenUp f.value else Ended, w)) (sym one) left;
-        same_state = same;
-        same_value = refl;
-        same_births = length-set f.handles h new;
-        same_limit = refl;
-      }
+      at true one = effect f _ (Lower o) (GivenUp f.value) may (ap₂ (λ b w. (if b then GivenUp f.value else Ended, w))
+          (sym one) left) same refl (length-set f.handles h new) refl
+      at false one = effect f _ (Lower o) Ended may (ap₂ (λ b w. (if b then GivenUp f.value else Ended, w))
+          (sym one) left) same refl (length-set f.handles h new) refl
 
     -- what is written back as it was
     same-new : new ≡ k → with_new ≡ f
@@ -233,7 +195,7 @@ module _ {V : Type 0} (f : CoreState V) where
         (λ e written. edits f h (λ s. record s { access = Written }) k new was written
         (taken-lives (handle f h) o (begun (state_of f) (GetMut o h) may refl).1) (GetMut o h) Alone may
         (ap (λ b. (if b then Alone else Shared, f.word)) (sym e)) refl refl refl)
-        (λ e. asks (GetMut o h) Shared may (ap (λ b. (if b then Alone else Shared, f.word)) (sym e)) refl refl refl)
+        (λ e. effect f f (GetMut o h) Shared may (ap (λ b. (if b then Alone else Shared, f.word)) (sym e)) refl refl refl refl)
 
     pub owns : (a : Answer V) (alone : Bool) → alone ≡ is_one_handle f.word → a ≡ (if alone then Sole else Shared)
         → new ≡ (if alone then record k { access = SoleAccess } else k) → IsPermitted f (IntoUnique o h)
@@ -242,7 +204,7 @@ module _ {V : Type 0} (f : CoreState V) where
         (λ e sole. edits f h (λ s. record s { access = SoleAccess }) k new was sole
         (taken-lives (handle f h) o (begun (state_of f) (IntoUnique o h) may refl).1) (IntoUnique o h) Sole may
         (ap (λ b. (if b then Sole else Shared, f.word)) (sym e)) refl refl refl)
-        (λ e. asks (IntoUnique o h) Shared may (ap (λ b. (if b then Sole else Shared, f.word)) (sym e)) refl refl refl)
+        (λ e. effect f f (IntoUnique o h) Shared may (ap (λ b. (if b then Sole else Shared, f.word)) (sym e)) refl refl refl refl)
 
     pub ends_write : new ≡ record k { access = SharedAccess } → IsPermitted f (EndWrite o h)
         → TakesEffect f (EndWrite o h) Done with_new

@@ -51,19 +51,26 @@ module _ {V : Type 0} (f : CoreState V) where
   pub within : (x : Step V) → IsPermitted f x → owner_of x < length f.owners
   within x may = ltb-true (owner_of x) (length f.owners) (and_parts _ _ may).0
 
+  -- a permitted step that takes effect
+  pub effect : (d : CoreState V) (x : Step V) (a : Answer V) → IsPermitted f x → (a, d.word) ≡ by_word f x
+      → state_of d ≡ after f.word (state_of f) x a → d.value ≡ value_after f.value x
+      → length d.handles ≡ births_after (length f.handles) a → d.limit ≡ f.limit → TakesEffect f x a d
+  effect d x a may by same value births limit = record {
+    allowed = may;
+    by_word = by;
+    same_state = same;
+    same_value = value;
+    same_births = births;
+    same_limit = limit;
+  }
+
   -- a step after which its owner goes on to something
   pub goes : (x : Step V) (a : Answer V) (next : Activity) → IsPermitted f x → (a, f.word) ≡ by_word f x
       → goes_on_to (state_of f) (owner_of x) next ≡ after f.word (state_of f) x a
       → f.value ≡ value_after f.value x → length f.handles ≡ births_after (length f.handles) a
       → TakesEffect f x a (record f { owners = set f.owners (owner_of x) next })
-  goes x a next may by same value births = record {
-    allowed = may;
-    by_word = by;
-    same_state = state-owner (owner_of x) next (within x may) ∙ same;
-    same_value = value;
-    same_births = births;
-    same_limit = refl;
-  }
+  goes x a next may by same value births = effect (record f { owners = set f.owners (owner_of x) next }) x a may by
+      (state-owner (owner_of x) next (within x may) ∙ same) value births refl
 
   -- The handle was k, and is new, which is an edit of it.
   module _ (h : ℕ) (edit : HandleState → HandleState) (k new : HandleState) (was : k ≡ get_or f.handles h k)
@@ -80,14 +87,8 @@ module _ {V : Type 0} (f : CoreState V) where
         → record (state_of f) { handle = put (handle f) h (edit (handle f h)) } ≡ after f.word (state_of f) x a
         → f.value ≡ value_after f.value x → length f.handles ≡ births_after (length f.handles) a
         → TakesEffect f x a (record f { handles = set f.handles h new })
-    edits x a allowed by same value births = record {
-      allowed = allowed;
-      by_word = by;
-      same_state = state-edit ∙ same;
-      same_value = value;
-      same_births = length-set f.handles h new ∙ births;
-      same_limit = refl;
-    }
+    edits x a may by same value births = effect (record f { handles = set f.handles h new }) x a may by
+        (state-edit ∙ same) value (length-set f.handles h new ∙ births) refl
 
   -- a birth, after which its owner is idle
   pub bears : (o word : ℕ) (x : Step V) (n : ℕ) (handles : List HandleState) (owners : List Activity)

@@ -4,6 +4,7 @@ use Rattle.counting_core.proofs.Names.{if◌then◌else◌, nat_eq, List, [], �
 use Rattle.counting_core.proofs.Names.{◌∙◌, ap, ap₂, arith, true≢false, eqb-true, ne_eqb, subst, add-one, and_parts}
 use Rattle.counting_core.proofs.Names.{eqb-false, not-true, count_by_more_yes, count_by_more_no, without, put}
 use Rattle.counting_core.proofs.Names.{number_below}
+use Rattle.counting_core.proofs.Traces.Places.{put-all}
 use Rattle.counting_core.proofs.Traces.HandleLists.{has, IsApart, nat_eq-same, has-without, length-without}
 use Rattle.counting_core.proofs.Traces.HandleLists.{apart-without}
 
@@ -18,38 +19,6 @@ number-le f g more (suc n) = by_last (f n) (g n) (more n) (number-le f g more n)
   by_last true false more le = absurd (true≢false (sym (more refl)))
   by_last false true more le = omega arith
   by_last false false more le = omega arith
-
--- and one fewer, if one that passed no longer does
-pub number-less : (f g : ℕ → Bool) → ((q : ℕ) → f q ≡ true → g q ≡ true) → (o : ℕ)
-    → f o ≡ false → (n : ℕ) → o < n
-    → number_below f n + (if g o then 1 else 0) ≤ number_below g n
-number-less f g more o fails zero lt = absurd (omega arith)
-number-less f g more o fails (suc n) lt = by_last (nat_eq o n) refl (f n) refl (g n) refl (g o)
-    refl (number-less f g more o fails n) where
-      le : number_below f n ≤ number_below g n
-      le = number-le f g more n
-
-      by_last : (e : Bool) → nat_eq o n ≡ e → (a : Bool) → f n ≡ a → (b : Bool) → g n ≡ b → (c : Bool)
-          → g o ≡ c
-          → (o < n → number_below f n + (if c then 1 else 0) ≤ number_below g n)
-          → ((if a then 1 else 0) + number_below f n) + (if c then 1 else 0) ≤ (if b then 1 else 0)
-          + number_below g n
-      by_last true e true fa b gb c gc less = absurd (true≢false (sym fa ∙ ap f (sym (eqb-true o n e)) ∙ fails))
-      by_last true e false fa true gb true gc less = let so : number_below f n ≤ number_below g n = le in omega arith
-      by_last true e false fa b gb false gc less = let so : number_below f n ≤ number_below g n = le in omega arith
-      by_last true e false fa false gb true gc less = absurd (true≢false (sym gc ∙ ap g (eqb-true o n e) ∙ gb))
-      by_last false e a fa b gb c gc less = earlier a fa b gb c (less (before (eqb-false o n e))) where
-        before : o ≢ n → o < n
-        before apart = omega arith
-
-        earlier : (a : Bool) → f n ≡ a → (b : Bool) → g n ≡ b → (c : Bool)
-            → number_below f n + (if c then 1 else 0) ≤ number_below g n
-            → ((if a then 1 else 0) + number_below f n) + (if c then 1 else 0) ≤ (if b then 1 else 0)
-            + number_below g n
-        earlier true fa true gb c so = omega arith
-        earlier true fa false gb c so = absurd (true≢false (sym (more n fa) ∙ gb))
-        earlier false fa true gb c so = omega arith
-        earlier false fa false gb c so = omega arith
 
 -- none pass if the test fails always
 pub number-none : (n : ℕ) → number_below (λ q. false) n ≡ 0
@@ -149,6 +118,17 @@ number-put p f o y (suc n) lt = at (nat_eq o n) refl (number-put p f o y n) wher
       let so : number_below (λ q. p (put f o y q)) n + one_if (p (f o))
       ≡ number_below (λ q. p (f q)) n + one_if (p y) = rest (omega arith) in
       omega arith
+
+-- a stricter test passes one fewer, if one that passed no longer does
+pub number-less : (f g : ℕ → Bool) → ((q : ℕ) → f q ≡ true → g q ≡ true) → (o : ℕ)
+    → f o ≡ false → (n : ℕ) → o < n → number_below f n + one_if (g o) ≤ number_below g n
+number-less f g more o fails n lt =
+    let without_o : number_below (put g o false) n + one_if (g o) ≡ number_below g n + 0 =
+    number-put (λ b. b) g o false n lt in
+    let le : number_below f n ≤ number_below (put g o false) n = number-le f (put g o false)
+    (put-all g o false (λ q b. f q ≡ true → b ≡ true) (λ e. absurd (true≢false (sym e ∙ fails)))
+    (λ q _. more q)) n in
+    omega arith
 
 -- at least one passes if this one does
 pub number-some : (f : ℕ → Bool) (o n : ℕ) → f o ≡ true → o < n → 1 ≤ number_below f n

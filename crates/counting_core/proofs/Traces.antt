@@ -8,16 +8,13 @@ pub mod LiveHandles
 pub mod InFlight
 pub mod NumberBelow
 pub mod GivenUp
-pub mod Marks
 pub mod SoleHandles
 pub mod CloneReads
 pub mod LostRaises
 pub mod LiveCounts
-pub mod Rooms
 pub mod Shapes
 pub mod HandleRuns
 pub mod EndRuns
 pub mod Runs
-pub mod Drops
 pub mod Reported
 pub mod TraceRuns

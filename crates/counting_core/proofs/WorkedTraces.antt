@@ -2,8 +2,8 @@
 use Rattle.counting_core.proofs.Names.{◌≡◌, ℕ, true, false, List, [], ◌∷◌, refl, greatest_count, Step, Clone, Raise}
 use Rattle.counting_core.proofs.Names.{Quit, Drop, Lower, Mark, Unique, Static, GetMut, Write, EndWrite, IntoUnique}
 use Rattle.counting_core.proofs.Names.{Share, Load, Lend, Return, Give, Answer, Born, Full, Pending, Quitted, Ended}
-use Rattle.counting_core.proofs.Names.{GivenUp, Marked, Is, Alone, Sole, Shared, Done, Value, Barred, Trace, Open}
-use Rattle.counting_core.proofs.Names.{Then, expected}
+use Rattle.counting_core.proofs.Names.{GivenUp, Marked, Is, Alone, Sole, Shared, Done, Value, Barred, Trace, Open, Then}
+use Rattle.counting_core.proofs.Names.{expected}
 
 -- the answers to steps in order, want of memory aside
 abbrev answers : Trace ℕ → List (Step ℕ) → List (Answer ℕ)

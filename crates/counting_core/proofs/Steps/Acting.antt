@@ -1,23 +1,22 @@
 -- What each step makes of the fields of a core.
-use Rattle.counting_core.proofs.Names.{lowered-less, mark_bit, greatest_count}
-use Rattle.counting_core.proofs.Names.{◌≡◌, ◌≢◌, ℕ, ◌-◌, ◌%◌, ◌≤◌, ◌<◌, ◌++◌, ◌∷◌, [], Bool, true, false, List, length}
-use Rattle.counting_core.proofs.Names.{if◌then◌else◌, get_or, set, refl, sym, ◌∙◌, ap, ap₂, subst, length-set, arith}
-use Rattle.counting_core.proofs.Names.{IsTrue, nat_eq, ne_eqb, eq-eqb, eqb-true, leb-true, and_parts, set-get_or}
-use Rattle.counting_core.proofs.Names.{is_one_handle, count_of, marked_word, clone_plan, drop_plan, lowered}
-use Rattle.counting_core.proofs.Names.{StaticClone, FullClone, RaiseClone, StaticDrop, LowerDrop, ClonePlanSays}
-use Rattle.counting_core.proofs.Names.{clone_plan-says, count_of-unmarked, Idle, Cloning, Dropping, Access}
-use Rattle.counting_core.proofs.Names.{SharedAccess, Written, SoleAccess, Step, Clone, Raise, Quit, Drop, Lower, Mark}
-use Rattle.counting_core.proofs.Names.{GetMut, Write, EndWrite, IntoUnique, Share, Lend, Return, Give, Answer, Born}
-use Rattle.counting_core.proofs.Names.{Full, Pending, Ended, GivenUp, Alone, Sole, Shared, Done, Marked, Memory}
-use Rattle.counting_core.proofs.Names.{Quitted, Trace, HandleState, lent_to, returned_by, after, ended, State}
-use Rattle.counting_core.proofs.Names.{goes_on_to, newborn, handle_in, seen_in, limit_of, permitted, may_take, state}
-use Rattle.counting_core.proofs.Names.{takes_memory, CoreState, handle, activity, state_of, Represents, IsReached}
-use Rattle.counting_core.proofs.Names.{IsPermitted, cloned, dropped, by_word, value_after, births_after, TakesEffect}
-use Rattle.counting_core.proofs.Names.{FollowsWord}
+use Rattle.counting_core.proofs.Names.{lowered-less, mark_bit, greatest_count, ◌≡◌, ◌≢◌, ℕ, ◌-◌, ◌%◌, ◌≤◌, ◌<◌, ◌++◌}
+use Rattle.counting_core.proofs.Names.{◌∷◌, [], Bool, true, false, List, length, if◌then◌else◌, get_or, set, refl, sym}
+use Rattle.counting_core.proofs.Names.{◌∙◌, ap, ap₂, subst, length-set, arith, IsTrue, nat_eq, ne_eqb, eq-eqb, eqb-true}
+use Rattle.counting_core.proofs.Names.{leb-true, and_parts, set-get_or, is_one_handle, count_of, marked_word}
+use Rattle.counting_core.proofs.Names.{clone_plan, drop_plan, lowered, StaticClone, FullClone, RaiseClone, StaticDrop}
+use Rattle.counting_core.proofs.Names.{LowerDrop, ClonePlanSays, clone_plan-says, count_of-unmarked, Idle, Cloning}
+use Rattle.counting_core.proofs.Names.{Dropping, Access, SharedAccess, Written, SoleAccess, Step, Clone, Raise, Quit}
+use Rattle.counting_core.proofs.Names.{Drop, Lower, Mark, GetMut, Write, EndWrite, IntoUnique, Share, Lend, Return}
+use Rattle.counting_core.proofs.Names.{Give, Answer, Born, Full, Pending, Ended, GivenUp, Alone, Sole, Shared, Done}
+use Rattle.counting_core.proofs.Names.{Marked, Memory, Quitted, Trace, HandleState, lent_to, returned_by, after, ended}
+use Rattle.counting_core.proofs.Names.{State, goes_on_to, newborn, handle_in, seen_in, limit_of, permitted, may_take}
+use Rattle.counting_core.proofs.Names.{state, takes_memory, CoreState, handle, activity, state_of, Represents}
+use Rattle.counting_core.proofs.Names.{IsReached, IsPermitted, cloned, dropped, by_word, value_after, births_after}
+use Rattle.counting_core.proofs.Names.{TakesEffect, FollowsWord}
 use Rattle.counting_core.proofs.Traces.Activities.{begun}
 use Rattle.counting_core.proofs.Traces.InFlight.{parts-alone, taken-lives, all_fit, dropped-lives}
 use Rattle.counting_core.proofs.Traces.Places.{put-same}
-use Rattle.counting_core.proofs.Traces.Rooms.{room_seen}
+use Rattle.counting_core.proofs.Traces.Limits.{room_seen}
 use Rattle.counting_core.proofs.Traces.LiveCounts.{core_limit, lower_counts}
 use Rattle.counting_core.proofs.Steps.Edits.{effect, edits, goes, bears, within, state-owner, state-edit}
 use Rattle.counting_core.proofs.Steps.ByTheWord.{raise-by}

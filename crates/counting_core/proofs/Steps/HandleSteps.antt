@@ -1,10 +1,10 @@
 -- By its answer and its word a step on the word is the atomic step of a handle.
-use Rattle.counting_core.proofs.Names.{◌≡◌, ◌+◌, Bool, true, false, if◌then◌else◌, nat_eq, length, refl}
-use Rattle.counting_core.proofs.Names.{is_marked_word, is_one_handle, count_of, a_handle, nothing, to_lower}
-use Rattle.counting_core.proofs.Names.{whole_block, StaticClone, FullClone, RaiseClone, StaticDrop, LowerDrop, Step}
-use Rattle.counting_core.proofs.Names.{Clone, Raise, Drop, Lower, Mark, Unique, Static, GetMut, IntoUnique, Born}
-use Rattle.counting_core.proofs.Names.{Ended, GivenUp, Alone, Sole, Shared, owner_of, seen_in, CoreState, activity}
-use Rattle.counting_core.proofs.Names.{word_step, cloned, dropped, IsAs, right_of}
+use Rattle.counting_core.proofs.Names.{◌≡◌, ◌+◌, Bool, true, false, if◌then◌else◌, nat_eq, length, refl, is_marked_word}
+use Rattle.counting_core.proofs.Names.{is_one_handle, count_of, a_handle, nothing, to_lower, whole_block, StaticClone}
+use Rattle.counting_core.proofs.Names.{FullClone, RaiseClone, StaticDrop, LowerDrop, Step, Clone, Raise, Drop, Lower}
+use Rattle.counting_core.proofs.Names.{Mark, Unique, Static, GetMut, IntoUnique, Born, Ended, GivenUp, Alone, Sole}
+use Rattle.counting_core.proofs.Names.{Shared, owner_of, seen_in, CoreState, activity, word_step, cloned, dropped, IsAs}
+use Rattle.counting_core.proofs.Names.{right_of}
 
 both : (P : Bool → Type 0) (b : Bool) → P true → P false → P b
 both P true first second = first

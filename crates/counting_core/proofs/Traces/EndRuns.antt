@@ -1,12 +1,12 @@
 -- The end of a handle in a run: its last read by an owner that has nothing yet, and its lower.
 use Rattle.counting_core.proofs.Names.{◌≡◌, ℕ, suc, ◌+◌, ◌-◌, ◌<◌, ◌≤◌, Bool, true, false, not, ◌&&◌, ◌||◌, nat_eq}
 use Rattle.counting_core.proofs.Names.{nat_lt, List, [], ◌∷◌, ◌++◌, length, append-nil, if◌then◌else◌, refl, sym, ◌∙◌}
-use Rattle.counting_core.proofs.Names.{ap, ap₂, subst, arith, true≢false, eqb-true, ne_eqb, lt-ltb, lt_irrefl}
-use Rattle.counting_core.proofs.Names.{and_from, and_parts, or_left, or_right, false_from_ne_true, nothing, to_lower}
-use Rattle.counting_core.proofs.Names.{whole_block, reads_last, lowers, Tally, has_exactly, after_last_read, Activity}
-use Rattle.counting_core.proofs.Names.{Idle, Dropping, Drop, Lower, Give, Answer, Pending, Ended, GivenUp, Done, Trace}
-use Rattle.counting_core.proofs.Names.{Then, HandleState, State, put, handle_in, has_alone, may_take, permitted_by}
-use Rattle.counting_core.proofs.Names.{Model, is_only, without, state, model, Entry, entries_of}
+use Rattle.counting_core.proofs.Names.{ap, ap₂, subst, arith, true≢false, eqb-true, ne_eqb, lt-ltb, lt_irrefl, and_from}
+use Rattle.counting_core.proofs.Names.{and_parts, or_left, or_right, false_from_ne_true, nothing, to_lower, whole_block}
+use Rattle.counting_core.proofs.Names.{reads_last, lowers, Tally, has_exactly, after_last_read, Activity, Idle}
+use Rattle.counting_core.proofs.Names.{Dropping, Drop, Lower, Give, Answer, Pending, Ended, GivenUp, Done, Trace, Then}
+use Rattle.counting_core.proofs.Names.{HandleState, State, put, handle_in, has_alone, may_take, permitted_by, Model}
+use Rattle.counting_core.proofs.Names.{is_only, without, state, model, Entry, entries_of}
 use Rattle.counting_core.proofs.Traces.Places.{put-all}
 use Rattle.counting_core.proofs.Traces.HandleLists.{has, nat_eq-same, length-without}
 use Rattle.counting_core.proofs.Traces.Deeds.{drop_reads, drop_ends, lower_ends, lower_gives_up, gives, shrunk}

@@ -1,12 +1,13 @@
--- When the value is given up, and that no step is permitted afterwards.
+-- When the value is given up, that no step is permitted afterwards, and that a mark keeps it.
 use Rattle.counting_core.proofs.Names.{◌≡◌, ℕ, ◌+◌, Bool, true, false, not, ◌&&◌, if◌then◌else◌, nat_eq, List, [], ◌∷◌}
 use Rattle.counting_core.proofs.Names.{length, refl, sym, ◌∙◌, ap, arith, true≢false, ⊎_elim, eqb-true, and_parts}
 use Rattle.counting_core.proofs.Names.{and_right, or_cases, fun_ext, Activity, Idle, Cloning, Dropping, Step, Raise}
 use Rattle.counting_core.proofs.Names.{Answer, Ended, GivenUp, Memory, Barred, Trace, Open, Then, HandleState, State}
-use Rattle.counting_core.proofs.Names.{owner_of, permitted_by, Model, is_only, without, IsLegal, state, model}
-use Rattle.counting_core.proofs.Names.{has_mark, live_handles, is_end, is_given_up, some_answer}
+use Rattle.counting_core.proofs.Names.{owner_of, permitted_by, Model, is_only, without, IsLegal, state, model, has_mark}
+use Rattle.counting_core.proofs.Names.{live_handles, is_end, is_given_up, some_answer, ◌||◌, or_right}
+use Rattle.counting_core.proofs.Names.{false_from_ne_true, is_marked_answer}
 use Rattle.counting_core.proofs.Traces.HandleLists.{has, length-without}
-use Rattle.counting_core.proofs.Traces.Deeds.{Deed, drop_ends, lower_ends, lower_gives_up}
+use Rattle.counting_core.proofs.Traces.Deeds.{Deed, drop_ends, lower_ends, lower_gives_up, marks}
 use Rattle.counting_core.proofs.Traces.LegalSteps.{happens, takes_effect, barred_if_not_permitted}
 use Rattle.counting_core.proofs.Traces.LiveHandles.{IsCounted, counted}
 use Rattle.counting_core.proofs.Traces.InFlight.{AllFit, Fits, all_fit, dropped-lives}
@@ -108,3 +109,32 @@ module _ {V : Type 0} where
   given_up_once t s a legal given =
       (barred_if_not_permitted t s a legal).1 (and_right _ _ (none-permitted (state t) s (over t legal.0 given)
       (owner_of s) _ (all_fit t legal.0 (owner_of s))))
+
+module _ {V : Type 0} where
+  -- a step marks if it is answered Marked
+  mark-then : (r : Model V) (u : State) (s : Step V) (a : Answer V) (m : Model V) → Deed r u s a m
+      → m.mark ≡ (is_marked_answer a || r.mark)
+  mark-then r u s a m (marks o h) = refl
+  mark-then r u s a m _ = refl
+
+  -- a model is marked if some answer was Marked
+  pub marked_if_answered : (t : Trace V) → IsLegal t → has_mark t ≡ some_answer is_marked_answer t
+  marked_if_answered (Open v n limit) legal = refl
+  marked_if_answered (Then t s Barred) legal = marked_if_answered t legal.0
+  marked_if_answered (Then t s Memory) legal = marked_if_answered t legal.0
+  marked_if_answered (Then t s a) legal =
+      mark-then (model t) (state t)
+      s a _ (happens t s a refl legal.1).deed ∙ ap (λ b. is_marked_answer a || b) (marked_if_answered t legal.0)
+
+  -- a marked block stays marked, and its value is not given up
+  pub keeps_mark : (t : Trace V) (s : Step V) (a : Answer V) → IsLegal (Then t s a) → has_mark t ≡ true
+      → (has_mark (Then t s a) ≡ true) × (is_given_up a ≡ false)
+  keeps_mark t s a legal marked = (
+    stays,
+    false_from_ne_true _ (λ e. true≢false (sym marked ∙ (given-up t s a
+        legal e).0)),
+  ) where
+    stays : has_mark (Then t s a) ≡ true
+    stays =
+        marked_if_answered (Then t s a) legal
+        ∙ or_right (is_marked_answer a) _ (sym (marked_if_answered t legal.0) ∙ marked)

@@ -1,8 +1,7 @@
 -- Lists of handles, none of them twice.
 use Rattle.counting_core.proofs.Names.{◌≡◌, ℕ, ◌+◌, Bool, true, false, not, ◌&&◌, ◌||◌, nat_eq, List, [], ◌∷◌, ◌++◌}
-use Rattle.counting_core.proofs.Names.{length, count_by, if◌then◌else◌, refl, sym, ◌∙◌, ap, arith, true≢false}
-use Rattle.counting_core.proofs.Names.{eqb-true, list_any, and_right, or_parts, or_from, sum_by-cons, any-filter_same}
-use Rattle.counting_core.proofs.Names.{without}
+use Rattle.counting_core.proofs.Names.{length, count_by, if◌then◌else◌, refl, sym, ◌∙◌, ap, arith, true≢false, eqb-true}
+use Rattle.counting_core.proofs.Names.{list_any, and_right, or_parts, or_from, sum_by-cons, any-filter_same, without}
 
 abbrev pub has : ℕ → List ℕ → Bool
 has h xs = list_any (nat_eq h) xs

@@ -3,10 +3,11 @@ use Rattle.counting_core.proofs.Names.{◌≡◌, ℕ, ◌+◌, ◌<◌, Bool, t
 use Rattle.counting_core.proofs.Names.{◌++◌, length, append_assoc, append-nil, if◌then◌else◌, refl, sym, ◌∙◌, ap, ap₂}
 use Rattle.counting_core.proofs.Names.{subst, arith, true≢false, eqb-true, ne_eqb, or_right, nothing, a_handle}
 use Rattle.counting_core.proofs.Names.{whole_block, reads, asks, raises_from, claims, marks, Tally, has_exactly}
-use Rattle.counting_core.proofs.Names.{one_more, SharedAccess, Written, Idle, Cloning, Clone, Raise, Quit, Mark}
-use Rattle.counting_core.proofs.Names.{Unique, GetMut, EndWrite, Born, Full, Pending, Marked, Is, Alone, Shared, Done}
-use Rattle.counting_core.proofs.Names.{Quitted, Trace, Then, HandleState, put, may_use, may_take, is_writing, Model}
-use Rattle.counting_core.proofs.Names.{is_full, is_only, raise_settles, state, model, Entry, entries_of, seen_in}
+use Rattle.counting_core.proofs.Names.{one_more, SharedAccess, Written, Idle, Cloning, Clone, Raise, Quit, Mark, Unique}
+use Rattle.counting_core.proofs.Names.{GetMut, EndWrite, Born, Full, Pending, Marked, Is, Alone, Shared, Done, Quitted}
+use Rattle.counting_core.proofs.Names.{Trace, Then, HandleState, put, may_use, may_take, is_writing, Model, is_full}
+use Rattle.counting_core.proofs.Names.{is_only, raise_settles, state, model, Entry, entries_of, seen_in, Step, Answer}
+use Rattle.counting_core.proofs.Names.{owner_of, permitted_by}
 use Rattle.counting_core.proofs.Traces.Places.{put-all}
 use Rattle.counting_core.proofs.Traces.HandleLists.{has, nat_eq-same}
 use Rattle.counting_core.proofs.Traces.Deeds.{Deed, clone_reads, clone_bears, clone_full, raise_bears, quits}
@@ -17,7 +18,6 @@ use Rattle.counting_core.proofs.Traces.Limits.{model_limit}
 use Rattle.counting_core.proofs.Traces.Shapes.{held_by_0, Shape, Comes, here, makes, zero-idle, put-over, put-idle}
 use Rattle.counting_core.proofs.Traces.Shapes.{keeps, bears}
 use Rattle.counting_core.proofs.Traces.LegalSteps.{takes_effect}
-use Rattle.counting_core.proofs.Names.{Step, Answer, owner_of, permitted_by}
 
 module _ {V : Type 0} (limit : ℕ) where
   -- a trace that has gone on by these entries

@@ -6,8 +6,8 @@ use Rattle.counting_core.proofs.Names.{match_ordering, insert_key, remove_key, a
 use Rattle.counting_core.proofs.Names.{Activity, Idle, Cloning, Dropping, Step, Clone, Drop, Lower, GetMut, EndWrite}
 use Rattle.counting_core.proofs.Names.{IntoUnique, Share, Lend, Return, Give, Answer, Born, Full, Pending, Ended}
 use Rattle.counting_core.proofs.Names.{GivenUp, Alone, Sole, Done, Memory, Barred, Quitted, Trace, Open, Then}
-use Rattle.counting_core.proofs.Names.{HandleState, lent_to, returned_by, State, handle_in, owner_of, ended, put}
-use Rattle.counting_core.proofs.Names.{after, holds, is_lent_to, has_alone, may_use, may_take, is_writing, has_sole}
+use Rattle.counting_core.proofs.Names.{HandleState, lent_to, returned_by, State, handle_in, owner_of, ended, put, after}
+use Rattle.counting_core.proofs.Names.{holds, is_lent_to, has_alone, may_use, may_take, is_writing, has_sole}
 use Rattle.counting_core.proofs.Names.{permitted_by, Model, IsLegal, state, model, goes_on_to, Raise, length}
 use Rattle.counting_core.proofs.Traces.Places.{put-all, put-same}
 use Rattle.counting_core.proofs.Traces.Deeds.{Deed, clone_bears, raise_bears}

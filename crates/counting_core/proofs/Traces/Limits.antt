@@ -1,11 +1,15 @@
--- The limit of a trace, which its model has too, and which its live handles keep without a mark.
+-- The limit of a trace, which its model has too, and which its live handles keep without a mark. A clone in flight saw
+-- fewer handles than that.
 use Rattle.counting_core.proofs.Names.{◌≡◌, ◌≤◌, false, not, ◌&&◌, nat_eq, length, refl, sym, ◌∙◌, ap, subst, arith}
-use Rattle.counting_core.proofs.Names.{length-append, true≢false, eqb-false, length-filter, count_by-le-length}
-use Rattle.counting_core.proofs.Names.{IsLimit, Step, Answer, Memory, Barred, Trace, Open, Then, State, limit_of}
-use Rattle.counting_core.proofs.Names.{Model, is_full, IsLegal, state, model, has_mark, live_handles}
+use Rattle.counting_core.proofs.Names.{length-append, true≢false, eqb-false, length-filter, count_by-le-length, IsLimit}
+use Rattle.counting_core.proofs.Names.{Step, Answer, Memory, Barred, Trace, Open, Then, State, limit_of, Model, is_full}
+use Rattle.counting_core.proofs.Names.{IsLegal, state, model, has_mark, live_handles, ℕ, ◌<◌, or_parts, Activity, Idle}
+use Rattle.counting_core.proofs.Names.{Cloning, Dropping, after, put}
 use Rattle.counting_core.proofs.Traces.Deeds.{Deed, clone_bears, raise_bears, drop_ends, lower_ends, lower_gives_up}
-use Rattle.counting_core.proofs.Traces.Deeds.{marks, grown, shrunk}
+use Rattle.counting_core.proofs.Traces.Deeds.{marks, grown, shrunk, clone_reads, clone_full, raise_loses, raise_full}
+use Rattle.counting_core.proofs.Traces.Deeds.{quits, drop_reads}
 use Rattle.counting_core.proofs.Traces.LegalSteps.{happens}
+use Rattle.counting_core.proofs.Traces.Places.{put-all}
 
 module _ {V : Type 0} where
   pub legal_limit : (t : Trace V) → IsLegal t → IsLimit (limit_of t)
@@ -62,3 +66,53 @@ module _ {V : Type 0} where
       ≤ limit_of t
   no_count_passes_limit t legal unmarked =
       subst (λ n. length (live_handles t) ≤ n) (model_limit t legal) (within_limit t legal unmarked)
+
+abbrev HasRoom : ℕ → Activity → Type 0
+HasRoom limit (Cloning h seen) = seen < limit
+HasRoom limit activity = Unit {0}
+
+abbrev AllHaveRoom : ℕ → State → Type 0
+AllHaveRoom limit u = (q : ℕ) → HasRoom limit (u.activity q)
+
+module _ {V : Type 0} where
+  pub room-read : (t : Trace V) → IsLegal t → (model t).mark ≡ false → is_full (model t) ≡ false
+      → length (model t).live < limit_of t
+  room-read t legal unmarked room =
+      let other : nat_eq (length (model t).live) (model t).limit ≡ false =
+      sym (ap (λ b. not b && nat_eq (length (model t).live) (model t).limit) unmarked) ∙ room in
+      let below : length (model t).live ≡ (model t).limit → ⊥ = eqb-false _ _ other in
+      let most : length (model t).live ≤ limit_of t = no_count_passes_limit t legal unmarked in
+      let same : (model t).limit ≡ limit_of t = model_limit t legal in
+      omega arith
+
+  module _ (limit : ℕ) (r : Model V) (u : State) (was : AllHaveRoom limit u)
+      (few : r.mark ≡ false → is_full r ≡ false → length r.live < limit) where
+    now : (o : ℕ) (c : Activity) → HasRoom limit c → (q : ℕ) → HasRoom limit (put u.activity o c q)
+    now o c own = put-all u.activity o c (λ _ k. HasRoom limit k) own (λ q _. was q)
+
+    room-then : (s : Step V) (a : Answer V) (m : Model V) → Deed r u s a m
+        → AllHaveRoom limit (after (length r.live) u s a)
+    room-then s a m (clone_reads o h mark room) = now o (Cloning h (length r.live)) (few mark room)
+    room-then s a m (raise_loses o lost) =
+        now o (Cloning _ (length r.live)) (few (or_parts _ _ lost).0 (or_parts _ _ (or_parts _ _ lost).1).0)
+    room-then s a m (drop_reads o h _) = now o (Dropping h) tt
+    room-then s a m (clone_bears o _ _ _) = now o Idle tt
+    room-then s a m (clone_full o _ _) = now o Idle tt
+    room-then s a m (raise_bears o _ _) = now o Idle tt
+    room-then s a m (raise_full o _) = now o Idle tt
+    room-then s a m (quits o) = now o Idle tt
+    room-then s a m (lower_ends o _ _ _) = now o Idle tt
+    room-then s a m (lower_gives_up o _ _ _) = now o Idle tt
+    room-then s a m _ = was
+
+  all_have_room : (t : Trace V) → IsLegal t → AllHaveRoom (limit_of t) (state t)
+  all_have_room (Open v n limit) legal = λ q. tt
+  all_have_room (Then t s Barred) legal = all_have_room t legal.0
+  all_have_room (Then t s Memory) legal = all_have_room t legal.0
+  all_have_room (Then t s a) legal =
+      room-then (limit_of t) (model t) (state t) (all_have_room t legal.0) (room-read t legal.0) s a _
+      (happens t s a refl legal.1).deed
+
+  pub room_seen : (t : Trace V) → IsLegal t → (o h seen : ℕ) → (state t).activity o ≡ Cloning h seen
+      → seen < limit_of t
+  room_seen t legal o h seen e = subst (HasRoom (limit_of t)) e (all_have_room t legal o)

@@ -1,9 +1,9 @@
 -- The live handles of a trace's model: none twice, each born, and the ones that the trace lets live.
 use Rattle.counting_core.proofs.Names.{length, ◌≡◌, ℕ, ◌+◌, ◌<◌, Bool, true, false, not, ◌&&◌, ◌||◌, nat_eq, []}
-use Rattle.counting_core.proofs.Names.{count_by, refl, sym, ◌∙◌, ap, subst, arith, lt_irrefl, true≢false}
-use Rattle.counting_core.proofs.Names.{if◌then◌else◌, eqb-true, and_parts, false_from_ne_true, Activity, Dropping}
-use Rattle.counting_core.proofs.Names.{Step, Answer, Memory, Barred, Trace, Open, Then, HandleState, unborn, newborn}
-use Rattle.counting_core.proofs.Names.{State, after, handle_in, ended, put, Model, IsLegal, state, model}
+use Rattle.counting_core.proofs.Names.{count_by, refl, sym, ◌∙◌, ap, subst, arith, lt_irrefl, true≢false, if◌then◌else◌}
+use Rattle.counting_core.proofs.Names.{eqb-true, and_parts, false_from_ne_true, Activity, Dropping, Step, Answer}
+use Rattle.counting_core.proofs.Names.{Memory, Barred, Trace, Open, Then, HandleState, unborn, newborn, State, after}
+use Rattle.counting_core.proofs.Names.{handle_in, ended, put, Model, IsLegal, state, model}
 use Rattle.counting_core.proofs.Traces.Places.{part-put, part_kept-put}
 use Rattle.counting_core.proofs.Traces.HandleLists.{has, IsApart, once, has-without, has-push, apart-without}
 use Rattle.counting_core.proofs.Traces.HandleLists.{apart-push}

@@ -2,10 +2,10 @@
 -- raise that loses makes one clone fewer stale, and a birth or an end at most those of the other owners.
 use Rattle.counting_core.proofs.Names.{◌≡◌, ℕ, ◌+◌, ◌-◌, ◌*◌, ◌<◌, ◌≤◌, Bool, true, false, not, if◌then◌else◌, nat_eq}
 use Rattle.counting_core.proofs.Names.{length, refl, sym, ◌∙◌, ap, ap₂, arith, true≢false, eqb-true, ltb-true, mul-add}
-use Rattle.counting_core.proofs.Names.{and_parts, or_parts, Activity, Idle, Cloning, Dropping, Step, Clone, Raise}
-use Rattle.counting_core.proofs.Names.{Drop, Lower, Answer, Born, Full, Pending, Ended, GivenUp, Memory, Barred}
-use Rattle.counting_core.proofs.Names.{Quitted, Trace, Open, Then, State, owner_of, after, put, permitted_by, Model}
-use Rattle.counting_core.proofs.Names.{IsLegal, state, model, is_lost_raise, is_change, how_many, number_below}
+use Rattle.counting_core.proofs.Names.{and_parts, or_parts, Activity, Idle, Cloning, Dropping, Step, Clone, Raise, Drop}
+use Rattle.counting_core.proofs.Names.{Lower, Answer, Born, Full, Pending, Ended, GivenUp, Memory, Barred, Quitted}
+use Rattle.counting_core.proofs.Names.{Trace, Open, Then, State, owner_of, after, put, permitted_by, Model, IsLegal}
+use Rattle.counting_core.proofs.Names.{state, model, is_lost_raise, is_change, how_many, number_below}
 use Rattle.counting_core.proofs.Traces.Deeds.{Deed, clone_reads, clone_bears, clone_full, raise_loses, raise_bears}
 use Rattle.counting_core.proofs.Traces.Deeds.{raise_full, quits, drop_reads, drop_ends, lower_ends, lower_gives_up}
 use Rattle.counting_core.proofs.Traces.LegalSteps.{Happens, happens}

@@ -1,6 +1,6 @@
 -- A function with another value at one place.
-use Rattle.counting_core.proofs.Names.{◌≡◌, ℕ, Bool, true, false, nat_eq, refl, sym, ap, subst, eqb-true}
-use Rattle.counting_core.proofs.Names.{if◌then◌else◌, fun_ext, put}
+use Rattle.counting_core.proofs.Names.{◌≡◌, ℕ, Bool, true, false, nat_eq, refl, sym, ap, subst, eqb-true, if◌then◌else◌}
+use Rattle.counting_core.proofs.Names.{fun_ext, put}
 use Rattle.counting_core.proofs.Traces.HandleLists.{nat_eq-same}
 
 module _ {A : Type 0} (f : ℕ → A) (i : ℕ) (y : A) where

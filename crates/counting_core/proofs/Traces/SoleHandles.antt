@@ -1,13 +1,13 @@
 -- A sole handle is the only live one of an unmarked block, and it is lent to nobody.
 use Rattle.counting_core.proofs.Names.{◌≡◌, ℕ, Bool, true, false, not, ◌&&◌, ◌||◌, nat_eq, nat_lt, List, [], ◌∷◌}
 use Rattle.counting_core.proofs.Names.{length, if◌then◌else◌, refl, sym, ◌∙◌, ap, subst, arith, true≢false, eqb-true}
-use Rattle.counting_core.proofs.Names.{eq-eqb, list_any, and_parts, not-true, Access, SharedAccess, Written}
-use Rattle.counting_core.proofs.Names.{SoleAccess, Activity, Dropping, Step, Raise, Drop, Lower, Mark, IntoUnique}
-use Rattle.counting_core.proofs.Names.{Lend, Return, Answer, Pending, Ended, GivenUp, Memory, Barred, Trace, Open}
-use Rattle.counting_core.proofs.Names.{Then, HandleState, unborn, newborn, lent_to, returned_by, State, handle_in}
-use Rattle.counting_core.proofs.Names.{owner_of, after, ended, put, is_shared, is_sole, is_lent_to, has_alone, may_use}
-use Rattle.counting_core.proofs.Names.{permitted, permitted_by, Model, Ends, opened, is_only, Visible, Internal}
-use Rattle.counting_core.proofs.Names.{outcome, expected, IsLegal, state, model, live_handles, has_mark, IsSole}
+use Rattle.counting_core.proofs.Names.{eq-eqb, list_any, and_parts, not-true, Access, SharedAccess, Written, SoleAccess}
+use Rattle.counting_core.proofs.Names.{Activity, Dropping, Step, Raise, Drop, Lower, Mark, IntoUnique, Lend, Return}
+use Rattle.counting_core.proofs.Names.{Answer, Pending, Ended, GivenUp, Memory, Barred, Trace, Open, Then, HandleState}
+use Rattle.counting_core.proofs.Names.{unborn, newborn, lent_to, returned_by, State, handle_in, owner_of, after, ended}
+use Rattle.counting_core.proofs.Names.{put, is_shared, is_sole, is_lent_to, has_alone, may_use, permitted, permitted_by}
+use Rattle.counting_core.proofs.Names.{Model, Ends, opened, is_only, Visible, Internal, outcome, expected, IsLegal}
+use Rattle.counting_core.proofs.Names.{state, model, live_handles, has_mark, IsSole}
 use Rattle.counting_core.proofs.Traces.HandleLists.{has}
 use Rattle.counting_core.proofs.Traces.Places.{put-all}
 use Rattle.counting_core.proofs.Traces.Deeds.{Deed, clone_bears, raise_bears, drop_ends, lower_ends, lower_gives_up}

@@ -1,7 +1,7 @@
 use Rattle.counting_core.proofs.Names.{Marked, Done, Memory, inl, inr}
 use Rattle.counting_core.proofs.Steps.Continues.{stays, follows}
-use Rattle.counting_core.proofs.Steps.Acting.{marks, gets, owns, writes, ends_write, shares, lends, lends_none}
-use Rattle.counting_core.proofs.Steps.Acting.{returns, gives}
+use Rattle.counting_core.proofs.Steps.Acting.{marks, gets, owns, writes, ends_write, shares, lends, lends_none, returns}
+use Rattle.counting_core.proofs.Steps.Acting.{gives}
 use Rattle.counting_core.proofs.protocol.Core.act.Goals.{in-Ok, in-Err}
 use Rattle.counting_core.proofs.protocol.Core.act.Goals as goal
 

@@ -1,4 +1,5 @@
-use Rattle.counting_core.proofs.Names.{refl, ◌<◌, sym, ◌∙◌, subst, Drop, Ended, Pending, CoreState, core_of, IsPermitted}
+use Rattle.counting_core.proofs.Names.{refl, ◌<◌, sym, ◌∙◌, subst, Drop, Ended, Pending, CoreState, core_of}
+use Rattle.counting_core.proofs.Names.{IsPermitted}
 use Rattle.counting_core.proofs.Steps.Continues.{stays, follows}
 use Rattle.counting_core.proofs.Steps.Edits.{born}
 use Rattle.counting_core.proofs.Steps.Acting.{drop_lives, drop_ends, drop_reads}

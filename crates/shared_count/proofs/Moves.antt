@@ -2,7 +2,7 @@
 use Rattle.std.proofs.Common.{◌≡◌, ◌≢◌, ℕ, ◌+◌, ◌<◌, ⊎_elim, nat_eq, List, [], ◌∷◌, ◌++◌, get_or, set, sym, refl, ap}
 use Rattle.std.proofs.Common.{◌∙◌, subst, arith, append-nil, length-set, get_or-set_same, All, sum_by}
 use Rattle.std.proofs.lemmas.List.Elements.{All-nil, All-cons, All-head, All-tail}
-use mathlib.Core.Option.{Option, none, some, some-injective}
+use mathlib.Core.Option.{some}
 use lib.ListN.{get_elem?}
 use Rattle.atomic_table.specs.Table.{State, keeps, stepped, Allows}
 use Rattle.atomic_table.proofs.Lists.{at_set}
@@ -11,6 +11,7 @@ use Rattle.shared_count.specs.Inside.Shares.{Known, Part, Whole, InDrop, Share, 
 use Rattle.shared_count.specs.Extends.{OthersExtend, event}
 use Rattle.shared_count.specs.Inside.Rule.{Knows, Means, Keeps}
 use Rattle.shared_count.specs.Inside.Steps.{SeatState, with_part, Sees, Made}
+use Rattle.shared_count.specs.Inside.Seats.{pass_at}
 use Rattle.shared_count.proofs.Histories.{owned_by-others, others-refl, others-append, no_calls, legal-call}
 use Rattle.shared_count.proofs.Histories.{left_by-call}
 use Rattle.shared_count.proofs.Sums.{sum-set, sum-two, halves_if, halves-cons, halves-one, halves_if-same, halves_if-as}
@@ -158,11 +159,7 @@ drops-set l id x y part part' at =
     let other = drops-one (share y part') in
     omega arith
 
-abbrev the_first : List Share → Option Known
-the_first [] = none
-the_first (s ∷ ss) = some s.known
-
 -- a fact about the pass of a seat
 pub for_known : (x : Known) (part : Part) (P : Known → Type 0) → P x
     → (z : Known) → with_part x part ≡ with_part z part → P z
-for_known x part P p z e = subst P (some-injective x z (ap (λ (m : SeatState). the_first m.0) e)) p
+for_known x part P p z e = subst P (ap pass_at e) p

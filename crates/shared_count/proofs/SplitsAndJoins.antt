@@ -3,7 +3,7 @@ use Rattle.std.proofs.Common.{◌≡◌, ◌≢◌, ℕ, ◌+◌, ⊎_elim, nat_
 use Rattle.std.proofs.Common.{subst, arith, append-nil, All, sum_by, false, true≢false}
 use Rattle.std.proofs.lemmas.List.Elements.{All-nil, All-cons, All-head, All-tail, All-append}
 use Rattle.std.proofs.lemmas.List.Sums.{sum_by-append}
-use mathlib.Core.Option.{Option, none, some, some-injective}
+use mathlib.Core.Option.{none, some}
 use lib.ListN.{get_elem?}
 use Rattle.atomic_table.specs.Table.{step, keeps, Allows, Splits, Joins}
 use Rattle.atomic_table.proofs.Lists.{at_set, at_snoc, set_else}
@@ -12,6 +12,7 @@ use Rattle.shared_count.specs.Inside.Shares.{Known, Part, Half, Whole, Share, sh
 use Rattle.shared_count.specs.Inside.Shares.{all_but_first, first_alone, as_halves, with_note, as_in_note}
 use Rattle.shared_count.specs.Inside.Rule.{Knows, Means, Keeps}
 use Rattle.shared_count.specs.Inside.Steps.{SeatState, with_shares, with_part, with_both, Follows, BothSaw, TellsMeet}
+use Rattle.shared_count.specs.Inside.Seats.{pass_at}
 use Rattle.shared_count.proofs.Sums.{sum-set, sum-one, sum-split, sum-join, sum-first, halves_if, halves-cons}
 use Rattle.shared_count.proofs.Sums.{halves-one, halves_if-same, halves_if-two, drops_in}
 use Rattle.shared_count.proofs.Moves.{one_share, know_now, moves}
@@ -124,19 +125,10 @@ module _ (x y : Known) where
   abbrev Seat : List Share
   Seat = (with_both x y).0
 
-  abbrev of_first : List Share → Option Known
-  of_first [] = none
-  of_first (s ∷ ss) = some s.known
-
-  abbrev of_second : List Share → Option Known
-  of_second [] = none
-  of_second (s ∷ ss) = of_first ss
-
   for_both : (P : Known → Known → Type 0) → P x y → (a b : Known) → with_both x y ≡ with_both a b → P a b
   for_both P p a b e =
-      let first : some y ≡ some b = ap (λ (m : SeatState). of_first m.0) e in
-      let second : some x ≡ some a = ap (λ (m : SeatState). of_second m.0) e in
-      subst (λ (z : Known). P z b) (some-injective x a second) (subst (P x) (some-injective y b first) p)
+      let first : x ≡ a = ap (λ (m : SeatState). pass_at (with_shares (all_but_first m.0))) e in
+      subst (λ (z : Known). P z b) first (subst (P x) (ap pass_at e) p)
 
   pub meets : (n slots id : ℕ)
       → Allows (Keeps n) slots id (with_both x y) 0 (λ r. r) (TellsMeet (step slots 0 0 0 none) (with_both x y))

@@ -1,7 +1,9 @@
 -- What a command may change: nothing, or the one slot that it writes.
-use Rattle.std.proofs.Common.{◌≡◌, ◌≢◌, ◌⊎◌, inl, inr, ℕ, zero, suc, Bool, List, [], ◌∷◌, Option, Some, None}
-use Rattle.std.proofs.Common.{length, slice_get, slice_set, refl, ◌∙◌, ap}
+use Rattle.std.proofs.Common.{◌≡◌, ◌≢◌, ◌⊎◌, inl, inr, ℕ, Bool, List, [], ◌∷◌, Option, Some, None}
+use Rattle.std.proofs.Common.{length, slice_get, slice_set, refl, ◌∙◌, ap, arith}
+use Rattle.std.proofs.lemmas.Grind.{common_steps}
 use Rattle.std.proofs.lemmas.List.{length-set}
+use Rattle.std.proofs.lemmas.Option.{gets}
 use Rattle.handles.specs.Unions.{Union, First, Second}
 use Rattle.tables.specs.declared.commands.Command.TheVariants.{New, Clone, Drop, GetMut, IntoUnique, MakeMut}
 use Rattle.tables.specs.declared.commands.Command.TheVariants.{Own, Mark, Raw, PtrEq, Same}
@@ -17,11 +19,7 @@ use Rattle.tables.specs.UnionTableModel.{of_one_block, union_outcomes_of, union_
 module _ {V : Type 0} where
   get-set_other : (slots : Slots V) (i k : ℕ) (slot : Option V) → i ≢ k → slice_get (slice_set slots i slot)
       k ≡ slice_get slots k
-  get-set_other [] i k slot other = refl
-  get-set_other (x ∷ xs) zero zero slot other = absurd (other refl)
-  get-set_other (x ∷ xs) zero (suc k) slot other = refl
-  get-set_other (x ∷ xs) (suc i) zero slot other = refl
-  get-set_other (x ∷ xs) (suc i) (suc k) slot other = get-set_other xs i k slot (λ e. other (ap suc e))
+  get-set_other slots i k slot other = grind (arith, common_steps, gets)
 
   -- the slots stay, or the target is set and the reply is `Done`
   abbrev pub IsChange : Slots V → Option ℕ → Reply → Slots V → Type 0
@@ -47,10 +45,6 @@ module _ {V : Type 0} where
       → AreChanges old (Some i) ((Done, slice_set old i (Some v)) ∷ (refused, old) ∷ [])
   set_or old i v refused = (set old i (Some v), (inl refl, tt))
 
-  two_stay : (old : Slots V) (target : Option ℕ) (reply other : Reply)
-      → AreChanges old target ((reply, old) ∷ (other, old) ∷ [])
-  two_stay old target reply other = (inl refl, (inl refl, tt))
-
   there : (old : Slots V) (target : Option ℕ) (i : ℕ) (outcomes : List (Outcome V))
       → AreChanges old target outcomes → AreChanges old target (at old i outcomes)
   there old target i outcomes rest =
@@ -75,20 +69,16 @@ module _ {V : Type 0} where
 
   module _ {C : Type 0} (meaning : C → Meaning V) (written_by : C → Option ℕ)
       (all : AllChange meaning written_by) where
-    change : (command : C) (old : Slots V) (reply : Reply) (new : Slots V)
-        → IsAmong (meaning command old) reply new → IsChange old (written_by command) reply new
-    change command old reply new = change_of old (written_by command) (meaning command old) reply new (all command old)
-
     pub number_stays : NumberOfSlotsStays meaning
     number_stays [] old new [] run = ap length run
     number_stays (c ∷ cs) old new (r ∷ rs) run =
-        number_stays cs run.0 new rs run.2 ∙ elim (change c old r run.0 run.1)
+        number_stays cs run.0 new rs run.2 ∙ elim (change_of old _ _ r run.0 (all c old) run.1)
         [ inl same ↦ ap length same | inr sets ↦ ap length sets.4 ∙ length-set old sets.0 sets.1 ]
     number_stays [] old new (r ∷ rs) run = absurd run
     number_stays (c ∷ cs) old new [] run = absurd run
 
     pub others_stay : OtherSlotsStay meaning written_by
-    others_stay command old new reply i among other = elim (change command old reply new among) [
+    others_stay command old new reply i among other = elim (change_of old _ _ reply new (all command old) among) [
       | inl same ↦ ap (λ slots. slice_get slots i) same
       | inr sets ↦ ap (λ slots. slice_get slots i) sets.4
           ∙ get-set_other old sets.0 i sets.1 (λ e. other (sets.2 ∙ ap Some e))
@@ -96,7 +86,8 @@ module _ {V : Type 0} where
 
     pub only_done : OnlyDoneChanges meaning
     only_done command old new reply among undone =
-        elim (change command old reply new among) [ inl same ↦ same | inr sets ↦ absurd (undone sets.3) ]
+        elim (change_of old _ _ reply new (all command old) among)
+        [ inl same ↦ same | inr sets ↦ absurd (undone sets.3) ]
 
 module _ {V : Type 0} (equal : V → V → Bool) where
   command_changes : AllChange (outcomes_of equal) written
@@ -106,10 +97,10 @@ module _ {V : Type 0} (equal : V → V → Bool) where
   command_changes (GetMut i w) old = reads old _ i _ (λ _. set_or old i w _)
   command_changes (IntoUnique i w) old = reads old _ i _ (λ _. set_or old i w _)
   command_changes (MakeMut i w) old = reads old _ i _ (λ _. set_or old i w _)
-  command_changes (Own i) old = reads old _ i _ (λ _. two_stay old _ _ _)
+  command_changes (Own i) old = reads old _ i _ (λ _. (inl refl, (inl refl, tt)))
   command_changes (Mark i) old = reads old _ i _ (λ _. (inl refl, tt))
   command_changes (Raw i) old = reads old _ i _ (λ _. (inl refl, tt))
-  command_changes (PtrEq i j) old = reads_both old _ i j _ (λ _ _. two_stay old _ _ _)
+  command_changes (PtrEq i j) old = reads_both old _ i j _ (λ _ _. (inl refl, (inl refl, tt)))
   command_changes (Same i j) old = reads_both old _ i j _ (λ _ _. (inl refl, tt))
 
   pub number_stays_table : NumberOfSlotsStays (outcomes_of equal)
@@ -132,10 +123,10 @@ module _ {V : Type 0} (equal : V → V → Bool) where
 
 module _ {A B : Type 0} where
   one_block : (old : Slots (Union A B)) (u w : Union A B) → AreChanges old None (of_one_block old u w)
-  one_block old (First a) (First x) = two_stay old _ _ _
+  one_block old (First a) (First x) = (inl refl, (inl refl, tt))
   one_block old (First a) (Second y) = (inl refl, tt)
   one_block old (Second b) (First x) = (inl refl, tt)
-  one_block old (Second b) (Second y) = two_stay old _ _ _
+  one_block old (Second b) (Second y) = (inl refl, (inl refl, tt))
 
   module _ (first_eq : A → A → Bool) (second_eq : B → B → Bool) where
     union_changes : AllChange (union_outcomes_of first_eq second_eq) union_written

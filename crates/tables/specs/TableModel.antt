@@ -30,10 +30,6 @@ module _ {V : Type 0} where
   abbrev pub sets : Slots V → ℕ → V → Outcome V
   sets slots i value = (Done, slice_set slots i (Some value))
 
-  -- slot i is empty from now on
-  abbrev pub empties : Slots V → ℕ → Outcome V
-  empties slots i = (Done, slice_set slots i None)
-
   abbrev pub if_there : Slots V → Option (Option V) → List (Outcome V) → List (Outcome V)
   if_there slots None outcomes = stays slots NoSlot ∷ []
   if_there slots (Some slot) outcomes = outcomes
@@ -61,7 +57,7 @@ module _ {V : Type 0} where
 
   -- slot i's handle ends
   abbrev pub ends : ℕ → Meaning V
-  ends i slots = reading slots i (λ _. empties slots i ∷ [])
+  ends i slots = reading slots i (λ _. (Done, slice_set slots i None) ∷ [])
 
   -- whether two slots have equal values
   abbrev pub compares : (V → V → Bool) → ℕ → ℕ → Meaning V

@@ -15,7 +15,7 @@ impl<T: PartialEq + Drop> Slots<Arc<T>> {
     pub(crate) fn new_handle(&mut self, alloc: Global, i: usize, value: T) -> Reply
         ensures { IsAmong (outcomes_of T.eq (Command.New i value) self.old) result self.new }
     {
-        start!(self, i, Arc::new(alloc, value))
+        start!(self, alloc, i, value)
     }
 
     #[inline]

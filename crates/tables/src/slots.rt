@@ -44,13 +44,13 @@ macro_rules! two_handles {
     };
 }
 
-/// Puts a new handle in a slot, wrapped by `$of`, and gives the reply. Nothing is made if there is no such slot.
+/// Puts a new `Arc` in a slot, wrapped by `$of`, and gives the reply. Without such a slot none is made.
 macro_rules! start {
-    ($slots:expr, $i:expr, $made:expr $(, $of:path)?) => {{
+    ($slots:expr, $alloc:expr, $i:expr, $value:expr $(, $of:path)?) => {{
         let Some(slot) = $slots.handles.get_mut($i) else {
             return Reply::NoSlot;
         };
-        let Ok(handle) = $made else {
+        let Ok(handle) = Arc::new($alloc, $value) else {
             return Reply::Refused;
         };
         *slot = Some($($of)?(handle));

@@ -49,10 +49,7 @@ impl<T: PartialEq + Drop> Serve<PlainCommand<T>> for Slots<Arc<T>> {
 }
 
 impl<T: PartialEq + Drop> Slots<Arc<T>> {
-    /// Runs commands in order and gives a reply to each.
-    ///
-    /// The room for the replies is reserved first: if it is refused, no command was served, and all are dropped.
-    /// What [`Table::run`] says of cells, locks and atomics holds here too.
+    /// As [`Table::run`], without the commands that ask for a copy.
     pub fn run_plain(
         &mut self,
         alloc: Global,

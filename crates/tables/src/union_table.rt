@@ -47,12 +47,8 @@ impl<A: PartialEq + Drop, B: PartialEq + Drop> Slots<ArcUnion<A, B>> {
         ensures { IsAmong (union_outcomes_of A.eq B.eq command self.old) result self.new }
     {
         match command {
-            UnionCommand::First(i, a) => {
-                start!(self, i, Arc::new(alloc, a), ArcUnion::from_first)
-            }
-            UnionCommand::Second(i, b) => {
-                start!(self, i, Arc::new(alloc, b), ArcUnion::from_second)
-            }
+            UnionCommand::First(i, a) => start!(self, alloc, i, a, ArcUnion::from_first),
+            UnionCommand::Second(i, b) => start!(self, alloc, i, b, ArcUnion::from_second),
             UnionCommand::Clone(i, j) => self.clone_handle(i, j),
             UnionCommand::Drop(i) => self.end(i),
             UnionCommand::IsFirst(i) => Reply::Is(handle!(self, i).is_first()),
@@ -73,10 +69,7 @@ impl<A: PartialEq + Drop, B: PartialEq + Drop> Slots<ArcUnion<A, B>> {
         }
     }
 
-    /// Runs commands in order and gives a reply to each, as [`UnionTable::serve`] does.
-    ///
-    /// The room for the replies is reserved first: if it is refused, no command was served, and all are dropped.
-    /// What [`Table::run`](crate::table::Table::run) says of cells, locks and atomics holds here too.
+    /// Runs commands in order, as [`Table::run`](crate::table::Table::run) does.
     pub fn run(
         &mut self,
         alloc: Global,

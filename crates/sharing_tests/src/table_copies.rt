@@ -5,7 +5,7 @@ use test_support::counted::{Counted, Tally};
 use test_support::counted_lists::{counted_pages, counted_table};
 use test_support::{again, holds, ok, same};
 
-// Sets the items at some places in turn. Whether so many copies were made by then as stands beside each place.
+// Sets an item at each place in turn. True if the number beside each place is the number of copies made by then.
 fn makes_copies<'a>(
     alloc: Global,
     tally: &'a Tally,

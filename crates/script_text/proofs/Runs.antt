@@ -1,10 +1,11 @@
 -- What a run of a script's lines has come to, line by line.
-use Rattle.std.proofs.Common.{◌≡◌, ℕ, ◌+◌, List, [], ◌∷◌, ◌++◌, Option, Some, Ok, Err, OnOk, IfErr, IsErrAnd, refl, sym, subst}
-use Rattle.std.proofs.Common.{append_assoc, append-nil, codes}
+use Rattle.std.proofs.Common.{◌≡◌, ℕ, ◌+◌, List, [], ◌∷◌, ◌++◌, Option, Some, Ok, Err, OnOk, IfErr, IsErrAnd}
+use Rattle.std.proofs.Common.{refl, sym, subst, append_assoc, append-nil, codes}
 use Rattle.std.specs.Io.KnownBytes.{Appends}
 use Rattle.std.proofs.KnownBytes.{Appends-nil, Appends-trans}
 use Rattle.script_text.specs.Fault.{Outcome, PrintsUpTo, Reaches}
-use Rattle.script_text.specs.Script.{Runs, ends, stops, fails, goes_on, Reach, AllLines, FaultyLine, SomeLines, lines_of, answer_text}
+use Rattle.script_text.specs.Script.{Runs, ends, stops, fails, goes_on, Reach, AllLines, FaultyLine, SomeLines}
+use Rattle.script_text.specs.Script.{lines_of, answer_text}
 use Rattle.script_text.specs.Written.{Wrote, WroteBeginning}
 use Rattle.script_text.specs.declared.fault.Fault.{Fault}
 use Rattle.script_text.specs.declared.fault.Fault.TheVariants.{Arguments, Line, Input, Output, Memory}
@@ -117,18 +118,12 @@ module _ {S : Type 0} (answers : S → List ℕ → List ℕ → S → Type 0) (
       → Appends held holds written → OnOk outcome (Appends holds holds' part) → WroteBeginning part holds holds'
       → IfErr outcome (λ f. f ≡ Output)
       → Wrote (λ text. PrintsUpTo answers is_faulty old script outcome text now) held holds'
-  ended outcome count written part rest now held holds holds' so end appended all begun is =
-      by_outcome outcome all is
-    where
-      runs : Runs answers is_faulty 1 old (lines_of script) AllLines (written ++ part) now
-      runs = rw append-nil at (so.after AllLines [] now (rw end ends))
-
-      by_outcome : (outcome : Outcome) → OnOk outcome (Appends holds holds' part) → IfErr outcome (λ f. f ≡ Output)
-          → Wrote (λ text. PrintsUpTo answers is_faulty old script outcome text now) held holds'
-      by_outcome (Ok done) all is = whole (Ok done) AllLines written part now held holds holds' (refl, refl) runs
-          appended all
-      by_outcome (Err fault) all is = stopped (Err fault) (stopped_by Output tt (Err fault) is) AllLines written part now held holds holds' runs
-          appended begun
+  ended (Ok done) count written part rest now held holds holds' so end appended all begun is =
+      whole (Ok done) AllLines written (part ++ []) now held holds holds' (refl, refl)
+      (so.after AllLines [] now (rw end ends)) appended (rw append-nil all)
+  ended (Err fault) count written part rest now held holds holds' so end appended all begun is =
+      stopped (Err fault) (stopped_by Output tt (Err fault) is) AllLines written (part ++ []) now held holds holds'
+      (so.after AllLines [] now (rw end ends)) appended (rw append-nil begun)
 
 -- a run over states shows as a run over what the states show
 module _ {S S' : Type 0} (answers : S → List ℕ → List ℕ → S → Type 0)

@@ -7,7 +7,8 @@ use crate::output::write_whole;
 use std::alloc::AllocError;
 use std::io::Write;
 
-/// What ended a run. `Line` is told as the last line of the output, `Output` nowhere, and the others on standard error.
+/// What ended a run. `Line` is reported as the last line of the output, `Output` nowhere, and the others on standard
+/// error.
 #[derive(Clone, Copy, Debug, PartialEq, Eq)]
 pub enum Fault {
     /// The argument words are wrong.
@@ -33,7 +34,7 @@ impl From<AllocError> for Fault {
 impl Fault {
     ghost use Rattle.script_text.specs.Fault.{note_of, status_of};
 
-    /// The exit status that tells of the fault.
+    /// The exit status that reports the fault.
     fn status(self) -> u8
         ensures { result ≡ status_of self }
     {
@@ -46,7 +47,7 @@ impl Fault {
         }
     }
 
-    /// The line that standard error is told, or nothing.
+    /// The line that standard error gets, or nothing.
     fn note(self) -> &'static str
         ensures { result.now ≡ note_of self }
     {
@@ -58,12 +59,12 @@ impl Fault {
         }
     }
 
-    /// Tells standard error of the fault, if it is told there, and answers its status. If that cannot be written
-    /// nobody is left to tell, and the status stays.
+    /// Reports the fault on standard error, if it belongs there, and answers its status, even if that cannot be
+    /// written.
     pub fn report<E: Write>(self, errors: &mut E) -> u8
         ensures status { result ≡ status_of self }
         ensures quiet { note_of self ≡ [] → errors.new ≡ errors.old }
-        ensures told { WroteBeginning (note_of self)
+        ensures reported { WroteBeginning (note_of self)
             (E.contents errors.old) (E.contents errors.new) }
     {
         let _ = write_whole(self.note().as_bytes(), errors);

@@ -1,5 +1,5 @@
 //! What all scripts have in common, whatever the language of their lines: how numbers and lines are written, the loop
-//! that answers line by line, what it has written when it ends, and the faults that end a run.
+//! that answers line by line, and the faults that end it.
 //!
 //! A language is an [`script::Interpreter`].
 #![tactic(auto)]

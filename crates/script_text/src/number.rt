@@ -1,6 +1,5 @@
 //! The numbers of arguments and scripts.
-ghost use Rattle.std.specs.Prelude.{◌≡◌, ℕ, ◌^◌, ◌<◌, ◌≤◌, IfSome, IfNone};
-ghost use Rattle.std.specs.Str.Parse.{AllDigits, digits_value};
+ghost use Rattle.std.specs.Prelude.{ℕ, IfSome, IfNone};
 ghost use Rattle.script_text.specs.Number.{IsNumber};
 
 /// A number up to 4294967295 as scripts write it: digits, and no zero before others.
@@ -12,16 +11,8 @@ pub fn parse_number(word: &[u8]) -> Option<u32>
     if *first == b'0' && !others.is_empty() {
         return None;
     }
-    value_of_digits(word)
-}
-
-fn value_of_digits(digits: &[u8]) -> Option<u32>
-    ensures value { IfSome result (λ value.
-        AllDigits 10 digits.now × (digits_value 10 digits.now ≡ value) × (value < 2 ^ 32)) }
-    ensures none { IfNone result (AllDigits 10 digits.now → 2 ^ 32 ≤ digits_value 10 digits.now) }
-{
     let mut value = 0u32;
-    for byte in digits {
+    for byte in word {
         if !byte.is_ascii_digit() {
             return None;
         }

@@ -1,5 +1,5 @@
 -- A line asks for one thing at most: it is found by its word, among what is written with as many numbers.
-use Rattle.std.proofs.Common.{◌≡◌, ℕ, List, [], ◌∷◌, Some, refl}
+use Rattle.std.proofs.Common.{◌≡◌, ℕ, List, [], ◌∷◌, Some, arith}
 use Rattle.counting_core.specs.declared.step.Step.{Step}
 use Rattle.counting_core.specs.declared.step.Step.TheVariants as step
 use Rattle.tables.specs.declared.commands.Command.TheVariants as command
@@ -18,23 +18,7 @@ steps (a ∷ b ∷ c ∷ []) = step.Write a b c ∷ step.Lend a b c ∷ step.Giv
 steps numbers = []
 
 step_found : (s : Step ℕ) → named step_line (step_line s).0 (steps (step_line s).1) ≡ Some s
-step_found (step.Clone a b) = refl
-step_found (step.Raise a) = refl
-step_found (step.Quit a) = refl
-step_found (step.Drop a b) = refl
-step_found (step.Lower a) = refl
-step_found (step.Mark a b) = refl
-step_found (step.Unique a b) = refl
-step_found (step.Static a b) = refl
-step_found (step.GetMut a b) = refl
-step_found (step.Write a b c) = refl
-step_found (step.EndWrite a b) = refl
-step_found (step.IntoUnique a b) = refl
-step_found (step.Share a b) = refl
-step_found (step.Load a b) = refl
-step_found (step.Lend a b c) = refl
-step_found (step.Return a b) = refl
-step_found (step.Give a b c) = refl
+step_found s = grind arith
 
 pub each_line_is_one_step : EachLineIsOneStep
 each_line_is_one_step = asks_for_one_thing step_line steps step_found
@@ -48,18 +32,7 @@ commands (a ∷ b ∷ []) = Serve (command.New a b) ∷ Serve (command.Clone a b
 commands numbers = []
 
 command_found : (asked : TableLine) → named table_line (table_line asked).0 (commands (table_line asked).1) ≡ Some asked
-command_found (Serve (command.New a b)) = refl
-command_found (Serve (command.Clone a b)) = refl
-command_found (Serve (command.Drop a)) = refl
-command_found (Serve (command.GetMut a b)) = refl
-command_found (Serve (command.IntoUnique a b)) = refl
-command_found (Serve (command.MakeMut a b)) = refl
-command_found (Serve (command.Own a)) = refl
-command_found (Serve (command.Mark a)) = refl
-command_found (Serve (command.Raw a)) = refl
-command_found (Serve (command.PtrEq a b)) = refl
-command_found (Serve (command.Same a b)) = refl
-command_found (Get a) = refl
+command_found asked = grind arith
 
 pub each_line_asks_one_thing_of_a_table : EachLineAsksOneThingOfATable
 each_line_asks_one_thing_of_a_table = asks_for_one_thing table_line commands command_found

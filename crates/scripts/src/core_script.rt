@@ -41,8 +41,10 @@ pub fn run<W: Write>(
     ensures wrote { Wrote (PrintsLegalTrace owners limit script.now result)
         (W.contents output.old) (W.contents output.new) }
 {
-    let mut runner = CoreRunner::open(alloc, owners, limit)?;
-    script::run(alloc, script, &mut runner, output)
+    let Ok(core) = Core::new(alloc, VALUE, owners, limit) else {
+        return Err(Fault::Memory);
+    };
+    script::run(alloc, script, &mut CoreRunner { core }, output)
 }
 
 /// A core on which a script runs.
@@ -59,18 +61,6 @@ impl Interpreter for CoreRunner {
     fn answer_to(&mut self, line: &[u8], gathered: &mut Vec<u8>) -> Option<Result<(), AllocError>> {
         let step = read_step(line)?;
         Some(append_answer(gathered, self.core.step(step)))
-    }
-}
-
-impl CoreRunner {
-    fn open(alloc: Global, owners: usize, limit: u64) -> Result<CoreRunner, Fault>
-        requires owners { 0 < owners }
-        requires limit { IsLimit limit }
-        ensures opened { IfOk result (λ runner. Represents runner.core (Open 5 owners limit)) }
-        ensures refused { IfErr result (λ fault. fault ≡ Fault.Memory) }
-    {
-        let core = Core::new(alloc, VALUE, owners, limit).map_err(|_| Fault::Memory)?;
-        Ok(CoreRunner { core })
     }
 }
 

@@ -7,12 +7,12 @@
 //! exit status says how the run ended:
 //!
 //! - 0: every line was answered.
-//! - 1: the arguments are wrong. Nothing is read or printed, and standard error is told `fault: arguments`.
-//! - 2: a line is faulty. The lines before it are answered, and then standard output is told `fault: line N`. Lines
+//! - 1: the arguments are wrong. Nothing is read or printed, and standard error gets `fault: arguments`.
+//! - 2: a line is faulty. The lines before it are answered, and then standard output gets `fault: line N`. Lines
 //!   count from 1. No later line is run.
-//! - 3: the input cannot be read. Nothing is printed, and standard error is told `fault: input`.
-//! - 4: the output cannot be written. That is told nowhere else.
-//! - 5: memory is refused that the run itself needs. Standard error is told `fault: memory`. Whole answers may have
+//! - 3: the input cannot be read. Nothing is printed, and standard error gets `fault: input`.
+//! - 4: the output cannot be written. That is reported nowhere else.
+//! - 5: memory is refused that the run itself needs. Standard error gets `fault: memory`. Whole answers may have
 //!   been printed before. Memory that one line needs is no fault: the line is answered `memory` or `refused`.
 #![tactic(auto)]
 

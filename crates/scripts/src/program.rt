@@ -36,7 +36,7 @@ pub fn bench<S: AsStr, R: Read, W: Write, E: Write>(
     ensures wrote { (result ≡ 1) ⊎ DidByStatus (map S.text words.now) (R.remaining input.old) result
         (W.contents output.old) (W.contents output.new) }
     ensures quiet { result ≢ 1 → result ≢ 3 → result ≢ 5 → errors.new ≡ errors.old }
-    ensures told { (fault : EndedBy) → result ≡ status_of fault
+    ensures reported { (fault : EndedBy) → result ≡ status_of fault
         → WroteBeginning (note_of fault) (E.contents errors.old) (E.contents errors.new) }
 {
     match run(alloc, words, input, output) {
@@ -112,7 +112,7 @@ pub fn start<V: Env, R: Read, W: Write, E: Write>(
         ⊎ ((words : List (List ℕ)) × DidByStatus words (R.remaining input.old) result
         (W.contents output.old) (W.contents output.new)) }
     ensures quiet { result ≢ 1 → result ≢ 3 → result ≢ 5 → errors.new ≡ errors.old }
-    ensures told { (fault : EndedBy) → result ≡ status_of fault
+    ensures reported { (fault : EndedBy) → result ≡ status_of fault
         → WroteBeginning (note_of fault) (E.contents errors.old) (E.contents errors.new) }
 {
     match argument_words(environment, alloc) {

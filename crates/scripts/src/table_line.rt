@@ -4,8 +4,8 @@ ghost use Rattle.script_text.specs.Line.{Encodes, IsInvalid, Parses, numbers_in}
 ghost use Rattle.scripts.specs.declared.table_line.TableLine.{TableLine as Asked};
 ghost use Rattle.scripts.specs.TableLine.{table_line};
 
-use tables::table::Command;
 use script_text::line::{Line, read_line};
+use tables::table::Command;
 
 /// What a line asks of a table.
 #[derive(Drop)]

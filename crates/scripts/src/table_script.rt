@@ -32,8 +32,8 @@ pub fn run<W: Write>(
     ensures wrote { Wrote (PrintsPlainTable slots script.now result)
         (W.contents output.old) (W.contents output.new) }
 {
-    let mut runner = TableRunner::new(alloc, slots)?;
-    script::run(alloc, script, &mut runner, output)
+    let table = Table::new(alloc, slots)?;
+    script::run(alloc, script, &mut TableRunner { alloc, table }, output)
 }
 
 /// A table, and where its commands take their memory.
@@ -55,14 +55,6 @@ impl Interpreter for TableRunner {
 }
 
 impl TableRunner {
-    fn new(alloc: Global, slots: usize) -> Result<TableRunner, Fault>
-        ensures empty { IfOk result (λ runner. runner.table ≡ replicate slots None) }
-        ensures refused { IfErr result (λ fault. fault ≡ Fault.Memory) }
-    {
-        let table = Table::new(alloc, slots).map_err(|_| Fault::Memory)?;
-        Ok(TableRunner { alloc, table })
-    }
-
     fn answer(&mut self, asked: TableLine, gathered: &mut Vec<u8>) -> Result<(), AllocError>
         ensures { (printed : List ℕ × Option ℕ)
             × IsAnsweredBy asked self.old.table printed self.new.table

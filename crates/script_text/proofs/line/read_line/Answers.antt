@@ -16,13 +16,15 @@ loop-rest-init c = record {
 
 pub returns-then-count-eq3-clause-none : goal.returns-then-count-eq3-clause-none
 returns-then-count-eq3-clause-none c =
-    let field = first_field c.in-Some.text.now _ _ c.split_once-in-Some.ensures.first c.split_once-in-Some.ensures.parts in
+    let field = first_field c.in-Some.text.now _ _ c.split_once-in-Some.ensures.first
+    c.split_once-in-Some.ensures.parts in
     let read = rw field at (rw c.in-Some.is at c.loop-rest.invariant.read) in
     too_long c.args.text.now _ _ _ _ (omega (arith, length-take c.loop-rest.count c.loop-rest.numbers)) read
 
 pub returns-in_err-numbers-clause-none : goal.returns-in_err-numbers-clause-none
 returns-in_err-numbers-clause-none c =
-    let field = first_field c.in-Some.text.now _ _ c.split_once-in-Some.ensures.first c.split_once-in-Some.ensures.parts in
+    let field = first_field c.in-Some.text.now _ _ c.split_once-in-Some.ensures.first
+    c.split_once-in-Some.ensures.parts in
     let read = rw field at (rw c.in-Some.is at c.loop-rest.invariant.read) in
     let none : (word numbers : List ℕ) → ¬ (IsLine c.args.text.now word numbers) =
     no_line c.args.text.now _ _ _ _ read c.in_err-numbers.ensures.none in
@@ -30,17 +32,20 @@ returns-in_err-numbers-clause-none c =
 
 pub loop-rest-smaller : goal.loop-rest-smaller
 loop-rest-smaller c =
-    let field = first_field c.in-Some.text.now _ _ c.split_once-in-Some.ensures.first c.split_once-in-Some.ensures.parts in
+    let field = first_field c.in-Some.text.now _ _ c.split_once-in-Some.ensures.first
+    c.split_once-in-Some.ensures.parts in
     rw c.in-Some.is (rw field (omega arith))
 
 pub loop-rest-preserved : goal.loop-rest-preserved
 loop-rest-preserved c =
-    let field = first_field c.in-Some.text.now _ _ c.split_once-in-Some.ensures.first c.split_once-in-Some.ensures.parts in
+    let field = first_field c.in-Some.text.now _ _ c.split_once-in-Some.ensures.first
+    c.split_once-in-Some.ensures.parts in
     let read = rw field at (rw c.in-Some.is at c.loop-rest.invariant.read) in
     let room : c.loop-rest.count < length c.loop-rest.numbers = omega arith in
     let number = c.in_ok-numbers.ensures.number in
     record {
-      read = one_more c.args.text.now _ _ c.loop-rest.numbers c.loop-rest.count c.in_ok-numbers.field-0 _ room number.0 read;
+      read = one_more c.args.text.now _ _ c.loop-rest.numbers c.loop-rest.count c.in_ok-numbers.field-0 _ room number.0
+          read;
       in_range = rw (take_more_set c.loop-rest.numbers c.loop-rest.count c.in_ok-numbers.field-0 room)
           (All-append (λ number. number < 2 ^ 32) _ _ c.loop-rest.invariant.in_range
           (All-cons (λ number. number < 2 ^ 32) _ [] number.1 (All-nil (λ number. number < 2 ^ 32))));

@@ -8,7 +8,8 @@ use Rattle.script_text.proofs.script.run.Goals as goal
 
 pub returns-in_err-part-clause-wrote : goal.returns-in_err-part-clause-wrote
 returns-in_err-part-clause-wrote g c =
-    stopped_between _ _ _ _ _ (stopped_by Memory tt _ c.from_residual.ensures.1) _ _ _ _ _ _ _ (SoFar-none _ _ _ _) (Appends-nil _)
+    stopped_between _ _ _ _ _ (stopped_by Memory tt _ c.from_residual.ensures.1) _ _ _ _ _ _ _
+    (SoFar-none _ _ _ _) (Appends-nil _)
 
 pub loop-line-init : goal.loop-line-init
 loop-line-init g c = record {
@@ -24,7 +25,8 @@ loop-line-init g c = record {
 pub returns-in_err-append_with_number-clause-wrote : goal.returns-in_err-append_with_number-clause-wrote
 returns-in_err-append_with_number-clause-wrote g c =
     let (written, so, appended) = c.loop-line.invariant.so_far in
-    rw c.in_default-answer_to.ensures.unchanged (stopped_between _ _ _ _ _ (stopped_by Memory tt _ c.from_residual-in_err-append_with_number.ensures.1) _ _ _ _ _ _ _ so appended)
+    let stop = stopped_by Memory tt _ c.from_residual-in_err-append_with_number.ensures.1 in
+    rw c.in_default-answer_to.ensures.unchanged (stopped_between _ _ _ _ _ stop _ _ _ _ _ _ _ so appended)
 
 pub returns-in_err-write_last-clause-wrote : goal.returns-in_err-write_last-clause-wrote
 returns-in_err-write_last-clause-wrote g c =
@@ -32,8 +34,9 @@ returns-in_err-write_last-clause-wrote g c =
     let ran = SoFar-faulty _ _ _ _ _ _ _ c.append_with_number.new.gathered.items _ _ c.in-Some.after.now _ _ so
     c.in-Some.ensures.first c.in_default-answer_to.ensures.faulty c.in_default-answer_to.ensures.unchanged
     (rw c.in_default-answer_to.ensures.kept at c.in_ok-append_with_number.ensures) in
-    stopped _ _ _ _ _ (stopped_by Output tt _ (rw c.in_err-write_last.ensures.fault at c.from_residual-in_err-write_last.ensures.1))
-    _ _ _ _ _ _ _ ran appended (rw c.deref.ensures.value at c.in_err-write_last.ensures.begun)
+    let stop = stopped_by Output tt _ (rw c.in_err-write_last.ensures.fault at
+    c.from_residual-in_err-write_last.ensures.1) in
+    stopped _ _ _ _ _ stop _ _ _ _ _ _ _ ran appended (rw c.deref.ensures.value at c.in_err-write_last.ensures.begun)
 
 pub returns-in_default-answer_to-clause-wrote : goal.returns-in_default-answer_to-clause-wrote
 returns-in_default-answer_to-clause-wrote g c =
@@ -47,7 +50,7 @@ returns-in_default-answer_to-clause-wrote g c =
 pub returns-in_err-appended-clause-wrote : goal.returns-in_err-appended-clause-wrote
 returns-in_err-appended-clause-wrote g c =
     let (written, so, appended) = c.loop-line.invariant.so_far in
-    let (text, answered, told) = c.in-Some-answer_to.ensures.answered in
+    let (text, answered, gathered) = c.in-Some-answer_to.ensures.answered in
     stopped_between _ _ _ _ _ (stopped_by Memory tt _ c.from_residual-in_err-appended.ensures.1) _ _ _ _ _ _ _
     (SoFar-more _ _ _ _ _ _ _ _ c.in-Some.line.now _ _ c.in-Some.after.now _ _ so c.in-Some.ensures.first
     answered refl) appended
@@ -55,18 +58,19 @@ returns-in_err-appended-clause-wrote g c =
 pub returns-in_err-write_part-clause-wrote : goal.returns-in_err-write_part-clause-wrote
 returns-in_err-write_part-clause-wrote g c =
     let (written, so, appended) = c.loop-line.invariant.so_far in
-    let (text, answered, told) = c.in-Some-answer_to.ensures.answered in
+    let (text, answered, gathered) = c.in-Some-answer_to.ensures.answered in
     let more = SoFar-more _ _ _ _ _ _ _ c.answer_to.new.gathered.items c.in-Some.line.now _ _ c.in-Some.after.now _ _ so
-    c.in-Some.ensures.first answered (rw c.in_ok-appended.was at told) in
-    stopped _ _ _ _ _ (stopped_by Output tt _ (rw c.in_err-write_part.ensures.fault at c.from_residual-in_err-write_part.ensures.1))
-    _ _ _ _ _ _ _ (rw append-nil at (more.after SomeLines [] _ stops)) appended c.in_err-write_part.ensures.begun
+    c.in-Some.ensures.first answered (rw c.in_ok-appended.was at gathered) in
+    let stop = stopped_by Output tt _ (rw c.in_err-write_part.ensures.fault at
+    c.from_residual-in_err-write_part.ensures.1) in
+    stopped _ _ _ _ _ stop _ _ _ _ _ _ _ (rw append-nil at (more.after SomeLines [] _ stops)) appended c.in_err-write_part.ensures.begun
 
 pub loop-line-preserved-in_ok-write_part : goal.loop-line-preserved-in_ok-write_part
 loop-line-preserved-in_ok-write_part g c =
     let (written, so, appended) = c.loop-line.invariant.so_far in
-    let (text, answered, told) = c.in-Some-answer_to.ensures.answered in
+    let (text, answered, gathered) = c.in-Some-answer_to.ensures.answered in
     let more = SoFar-more _ _ _ _ _ _ _ c.answer_to.new.gathered.items c.in-Some.line.now _ _ c.in-Some.after.now _ _ so
-    c.in-Some.ensures.first answered (rw c.in_ok-appended.was at told) in
+    c.in-Some.ensures.first answered (rw c.in_ok-appended.was at gathered) in
     record {
       so_far = (
         written ++ c.answer_to.new.gathered.items,
@@ -79,12 +83,12 @@ loop-line-preserved-in_ok-write_part g c =
 pub loop-line-preserved : goal.loop-line-preserved
 loop-line-preserved g c =
     let (written, so, appended) = c.loop-line.invariant.so_far in
-    let (text, answered, told) = c.in-Some-answer_to.ensures.answered in
+    let (text, answered, gathered) = c.in-Some-answer_to.ensures.answered in
     record {
       so_far = (
         written,
         SoFar-more _ _ _ _ _ _ _ _ c.in-Some.line.now _ _ c.in-Some.after.now _ _ so c.in-Some.ensures.first answered
-            (rw c.in_ok-appended.was at told),
+            (rw c.in_ok-appended.was at gathered),
         appended,
       );
       in_range = omega (arith, c.in-Some.ensures.shorter);

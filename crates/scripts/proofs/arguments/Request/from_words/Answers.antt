@@ -18,7 +18,7 @@ map-pair f (a ∷ b ∷ more) x y two first second =
     let both : map f (a ∷ b ∷ more) ≡ f x ∷ f y ∷ map f more = cc in
     (map f more, both)
 
--- two words, the second a number, tell which word is the first and which number the second
+-- two words, the second a number, are one word and one number alone
 asked_kind : (words others more : List (List ℕ)) (kind text bytes asked : List ℕ) (size n : ℕ)
     → words ≡ kind ∷ text ∷ others → bytes ≡ text → IsNumber bytes size → words ≡ asked ∷ decimal
     n ∷ more → n ≤ 1000 → (kind ≡ asked) × (size ≡ n)

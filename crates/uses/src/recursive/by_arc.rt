@@ -2,15 +2,15 @@
 use servo_arc::{Arc, ThinArc};
 use std::collections::BTreeMap;
 
-/// As of each chain here, the derived drop is a recursion, for which a long one needs much stack: a `Stack` in
-/// crates/callers/src/stack.rt ends its nodes by a loop.
+/// As of each chain here, the derived drop is a recursion, for which a long one needs much stack: the `Stack` of this
+/// crate ends its nodes by a loop.
 #[derive(Drop, Debug, Clone, PartialEq, Eq, PartialOrd, Ord, Hash)]
 pub struct Node {
     pub value: u32,
     pub next: Option<Arc<Node>>,
 }
 
-#[derive(Drop, Debug, Clone, PartialEq, Eq, PartialOrd, Ord, Hash)]
+#[derive(Drop)]
 pub struct Tree {
     pub left: Option<Arc<Tree>>,
     pub key: u32,
@@ -18,83 +18,83 @@ pub struct Tree {
     pub right: Option<Arc<Tree>>,
 }
 
-#[derive(Drop, Debug, Clone, PartialEq, Eq, PartialOrd, Ord, Hash)]
+#[derive(Drop, Clone, PartialEq)]
 pub enum Sum {
     Number(u32),
     Add(Arc<Sum>, Arc<Sum>),
 }
 
-#[derive(Drop, Debug, Clone, PartialEq, Eq, PartialOrd, Ord, Hash)]
+#[derive(Drop, Clone, PartialEq)]
 pub struct Generic<T> {
     pub value: T,
     pub next: Option<Arc<Generic<T>>>,
 }
 
-#[derive(Drop, Debug, Clone, PartialEq, Eq, PartialOrd, Ord, Hash)]
+#[derive(Drop, Clone, PartialEq)]
 pub struct Lasting<'a> {
     pub name: &'a str,
     pub next: Option<Arc<Lasting<'a>>>,
 }
 
-#[derive(Drop, Debug, Clone, PartialEq, Eq, PartialOrd, Ord, Hash)]
+#[derive(Drop, Clone, PartialEq)]
 pub struct ArcsInVec {
     pub value: u32,
     pub kids: Vec<Arc<ArcsInVec>>,
 }
 
-#[derive(Drop, Debug, Clone, PartialEq, Eq, PartialOrd, Ord, Hash)]
+#[derive(Drop, Clone, PartialEq)]
 pub struct ArcsInMap {
     pub value: u32,
     pub kids: BTreeMap<u8, Arc<ArcsInMap>>,
 }
 
-#[derive(Drop, Debug, Clone, PartialEq, Eq, PartialOrd, Ord, Hash)]
+#[derive(Drop, Clone, PartialEq)]
 pub struct ArcsInArray {
     pub value: u32,
     pub kids: [Option<Arc<ArcsInArray>>; 2],
 }
 
-#[derive(Drop, Debug, Clone, PartialEq, Eq, PartialOrd, Ord, Hash)]
+#[derive(Drop, PartialEq)]
 pub struct VecInArc {
     pub value: u32,
     pub kids: Arc<Vec<VecInArc>>,
 }
 
-#[derive(Drop, Debug, Clone, PartialEq, Eq, PartialOrd, Ord, Hash)]
+#[derive(Drop, Clone, Debug)]
 pub struct OptionInArc {
     pub value: u32,
     pub next: Arc<Option<OptionInArc>>,
 }
 
-#[derive(Drop, Debug, Clone, PartialEq, Eq, PartialOrd, Ord, Hash)]
+#[derive(Drop, PartialEq)]
 pub enum ArcInArc {
     End,
     More(Arc<Arc<ArcInArc>>),
 }
 
 #[cycle(first_and_second)]
-#[derive(Drop, Debug, Clone, PartialEq, Eq, PartialOrd, Ord, Hash)]
+#[derive(Drop, Clone, PartialEq)]
 pub struct First {
     pub value: u32,
     pub second: Option<Arc<Second>>,
 }
 
 #[cycle(first_and_second)]
-#[derive(Drop, Debug, Clone, PartialEq, Eq, PartialOrd, Ord, Hash)]
+#[derive(Drop, Clone, PartialEq)]
 pub struct Second {
     pub value: u32,
     pub first: Option<Arc<First>>,
 }
 
 /// In place of a union that leads back by both of its types.
-#[derive(Drop, Debug, Clone, PartialEq, Eq, PartialOrd, Ord, Hash)]
+#[derive(Drop, PartialEq)]
 pub enum EitherWay {
     Left(u32, Option<Arc<EitherWay>>),
     Right(Option<Arc<EitherWay>>),
 }
 
 /// In place of a header that leads back.
-#[derive(Drop, Debug, Clone, PartialEq, Eq)]
+#[derive(Drop, PartialEq)]
 pub struct BesideHeader {
     pub above: Option<Arc<BesideHeader>>,
     pub letters: ThinArc<u32, u8>,

@@ -1,2 +1,3 @@
+pub mod Preorder
 pub mod Roses
 pub mod TwoPasses

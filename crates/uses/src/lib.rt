@@ -1,12 +1,16 @@
 //! Code above the crates, as their users write it, with contracts of its own: it shows what callers can prove.
 #![tactic(auto)]
 
+pub mod along_a_path;
+pub mod copies;
 pub mod crossing;
 pub mod defaults;
+pub mod documents;
 pub mod edits;
 pub mod history;
 pub mod list_editions;
 pub mod map_editions;
+pub mod published;
 pub mod recursive;
 pub mod restyle;
 pub mod rose;
@@ -14,4 +18,5 @@ pub mod stack;
 pub mod style;
 pub mod text_style;
 pub mod two_threads;
+pub mod undo;
 pub mod versions;

@@ -1,16 +1,18 @@
 //! A tree of any number of children, whose versions share their branches.
-ghost use Rattle.std.specs.Prelude.{◌≡◌, ◌↔◌, [], Err, None, Some, IfOk, ◌<◌, length, slice_get};
+ghost use Rattle.std.specs.Prelude.{◌≡◌, [], Some, IfOk, slice_get};
 ghost use Rattle.std.specs.Option.{option_copied};
-ghost use Rattle.servo_arc.specs.Copies.{CopiesAreEqual};
-ghost use Rattle.uses.specs.Roses.{at, branch, children, root, with_child, with_value};
-ghost use Rattle.uses.specs.declared.rose.RoseError.TheVariants.{NoSuchPlace};
+ghost use Rattle.uses.specs.Roses.{at, branch, children, root};
+
+mod change;
+mod walk;
 
 use servo_arc::{Arc, ThinArc};
 use std::alloc::{AllocError, Global};
 use thiserror::Error;
 
 /// A value with the trees below it, in one block. A tree is changed by making another, which shares all branches that
-/// the change left alone. A change and the drop go down by a recursion, for which a very deep tree needs much stack.
+/// the change left alone. A change and the plain drop go down by a recursion, for which a very deep tree needs much
+/// stack; `end` ends it by a loop.
 ///
 /// The values hold no cell, no lock and no atomic: what these hold is written through a shared handle, so that every
 /// version that shares the value reads the change, and no clause speaks of it.
@@ -109,36 +111,5 @@ impl<V: Drop> Rose<V> {
     {
         let node = Arc::from_header_and_vec(alloc, value, trees)?;
         Ok(Rose { node })
-    }
-}
-
-impl<V: Clone> Rose<V> {
-    /// The tree with that value at the end of the path. The tree itself stays.
-    ///
-    /// It makes a node for each on the path, of a copy of its value and of handles of its children, and shares all
-    /// other trees. If it is refused, the value is dropped.
-    pub fn with_value(&self, alloc: Global, path: &[usize], value: V) -> Result<Rose<V>, RoseError>
-        requires copies { CopiesAreEqual V.is_clone }
-        ensures made { IfOk result (λ tree. Some tree ≡ with_value path.now value self.now) }
-        ensures nowhere { (result ≡ Err NoSuchPlace) ↔ (with_value path.now value self.now ≡ None) }
-    {
-        let Some((index, rest)) = path.split_first() else {
-            let children = self.children().to_vec(alloc)?;
-            return Ok(Rose::with_children(alloc, value, children)?);
-        };
-        let child = self.child(*index).ok_or(RoseError::NoSuchPlace)?;
-        let child = child.with_value(alloc, rest, value)?;
-        Ok(self.with_child(alloc, *index, child)?)
-    }
-
-    // The tree with that child in place of the one that it has there.
-    fn with_child(&self, alloc: Global, index: usize, child: Rose<V>) -> Result<Rose<V>, AllocError>
-        requires copies { CopiesAreEqual V.is_clone }
-        requires place { index < length (children self.now) }
-        ensures { IfOk result (λ tree. tree ≡ with_child index child self.now) }
-    {
-        let mut children = self.children().to_vec(alloc)?;
-        children[index] = child;
-        Rose::with_children(alloc, self.value().clone()?, children)
     }
 }

@@ -1,0 +1,147 @@
+// Changes of a tree, each of which makes another.
+ghost use Rattle.std.specs.Prelude.{◌≡◌, ◌↔◌, Err, None, Some, IfOk, ◌<◌, length};
+ghost use Rattle.servo_arc.specs.Copies.{CopiesAreEqual};
+ghost use Rattle.uses.specs.Changes.{made};
+ghost use Rattle.uses.specs.Roses.{changed_at, children, inserted, removed, with_child, with_inserted, with_tree, with_value, without};
+ghost use Rattle.uses.specs.declared.rose.RoseError.TheVariants.{NoSuchPlace};
+
+use super::{Rose, RoseError};
+use std::alloc::{AllocError, Global};
+
+// What is done at the end of a path.
+#[derive(Drop)]
+enum Change<V> {
+    Value(V),
+    Tree(Rose<V>),
+    Insert(usize, Rose<V>),
+    Remove(usize),
+}
+
+impl<V: Clone> Rose<V> {
+    /// The tree with that value at the end of the path. The tree itself stays, as at each of these changes.
+    ///
+    /// It makes a node for each on the path, of a copy of its value and of handles of its children, and shares all
+    /// other trees. If it is refused, the value is dropped.
+    pub fn with_value(&self, alloc: Global, path: &[usize], value: V) -> Result<Rose<V>, RoseError>
+        requires copies { CopiesAreEqual V.is_clone }
+        ensures made { IfOk result (λ tree. Some tree ≡ with_value path.now value self.now) }
+        ensures nowhere { (result ≡ Err NoSuchPlace) ↔ (with_value path.now value self.now ≡ None) }
+    {
+        self.changed_at(alloc, path, Change::Value(value))
+    }
+
+    /// The tree with the other in place of what stands at the end of the path. It is refused as `with_value` is.
+    pub fn with_tree(
+        &self,
+        alloc: Global,
+        path: &[usize],
+        tree: Rose<V>,
+    ) -> Result<Rose<V>, RoseError>
+        requires copies { CopiesAreEqual V.is_clone }
+        ensures made { IfOk result (λ new. Some new ≡ with_tree path.now tree self.now) }
+        ensures nowhere { (result ≡ Err NoSuchPlace) ↔ (with_tree path.now tree self.now ≡ None) }
+    {
+        self.changed_at(alloc, path, Change::Tree(tree))
+    }
+
+    /// The tree with one more child at the end of the path, which gets that number. The children from there on get the
+    /// next. It is refused as `with_value` is, and if there are fewer children than the number.
+    pub fn with_inserted(
+        &self,
+        alloc: Global,
+        path: &[usize],
+        index: usize,
+        child: Rose<V>,
+    ) -> Result<Rose<V>, RoseError>
+        requires copies { CopiesAreEqual V.is_clone }
+        ensures made { IfOk result (λ tree. Some tree ≡ with_inserted path.now index child self.now) }
+        ensures nowhere { (result ≡ Err NoSuchPlace)
+            ↔ (with_inserted path.now index child self.now ≡ None) }
+    {
+        self.changed_at(alloc, path, Change::Insert(index, child))
+    }
+
+    /// The tree without the child of that number at the end of the path. It is refused as `with_value` is, and if there
+    /// is no such child.
+    pub fn without(&self, alloc: Global, path: &[usize], index: usize) -> Result<Rose<V>, RoseError>
+        requires copies { CopiesAreEqual V.is_clone }
+        ensures made { IfOk result (λ tree. Some tree ≡ without path.now index self.now) }
+        ensures nowhere { (result ≡ Err NoSuchPlace) ↔ (without path.now index self.now ≡ None) }
+    {
+        self.changed_at(alloc, path, Change::Remove(index))
+    }
+
+    fn changed_at(
+        &self,
+        alloc: Global,
+        path: &[usize],
+        change: Change<V>,
+    ) -> Result<Rose<V>, RoseError>
+        requires copies { CopiesAreEqual V.is_clone }
+        ensures made { IfOk result (λ tree. Some tree ≡ changed_at (made change) path.now self.now) }
+        ensures nowhere { (result ≡ Err NoSuchPlace)
+            ↔ (changed_at (made change) path.now self.now ≡ None) }
+    {
+        let Some((index, rest)) = path.split_first() else {
+            return self.changed(alloc, change);
+        };
+        let child = self.child(*index).ok_or(RoseError::NoSuchPlace)?;
+        let child = child.changed_at(alloc, rest, change)?;
+        Ok(self.with_child(alloc, *index, child)?)
+    }
+
+    fn changed(&self, alloc: Global, change: Change<V>) -> Result<Rose<V>, RoseError>
+        requires copies { CopiesAreEqual V.is_clone }
+        ensures made { IfOk result (λ tree. Some tree ≡ made change self.now) }
+        ensures nowhere { (result ≡ Err NoSuchPlace) ↔ (made change self.now ≡ None) }
+    {
+        match change {
+            Change::Value(value) => {
+                let children = self.children().to_vec(alloc)?;
+                Ok(Rose::with_children(alloc, value, children)?)
+            }
+            Change::Tree(tree) => Ok(tree),
+            Change::Insert(index, child) => self.inserted(alloc, index, child),
+            Change::Remove(index) => self.removed(alloc, index),
+        }
+    }
+
+    fn inserted(&self, alloc: Global, index: usize, child: Rose<V>) -> Result<Rose<V>, RoseError>
+        requires copies { CopiesAreEqual V.is_clone }
+        ensures made { IfOk result (λ tree. Some tree ≡ inserted index child self.now) }
+        ensures nowhere { (result ≡ Err NoSuchPlace) ↔ (inserted index child self.now ≡ None) }
+    {
+        if self.children().len() < index {
+            return Err(RoseError::NoSuchPlace);
+        }
+        let mut children = self.children().to_vec(alloc)?;
+        children
+            .insert(index, child)
+            .map_err(|_| RoseError::Memory)?;
+        Ok(Rose::with_children(alloc, self.value().clone()?, children)?)
+    }
+
+    fn removed(&self, alloc: Global, index: usize) -> Result<Rose<V>, RoseError>
+        requires copies { CopiesAreEqual V.is_clone }
+        ensures made { IfOk result (λ tree. Some tree ≡ removed index self.now) }
+        ensures nowhere { (result ≡ Err NoSuchPlace) ↔ (removed index self.now ≡ None) }
+    {
+        if self.children().len() <= index {
+            return Err(RoseError::NoSuchPlace);
+        }
+        let mut children = self.children().to_vec(alloc)?;
+        children.remove(index);
+        Ok(Rose::with_children(alloc, self.value().clone()?, children)?)
+    }
+
+    // The tree with that child in place of the one that it has there.
+    fn with_child(&self, alloc: Global, index: usize, child: Rose<V>) -> Result<Rose<V>, AllocError>
+        requires copies { CopiesAreEqual V.is_clone }
+        requires place { index < length (children self.now) }
+        ensures { IfOk result (λ tree. tree ≡ with_child index child self.now) }
+    {
+        let mut children = self.children().to_vec(alloc)?;
+        children[index] = child;
+        Rose::with_children(alloc, self.value().clone()?, children)
+    }
+}

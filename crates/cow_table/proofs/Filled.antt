@@ -1,6 +1,6 @@
 -- Pages that are not empty.
-use Rattle.std.proofs.Common.{◌≡◌, ℕ, ◌<◌, ◌≤◌, List, [], ◌∷◌, ◌++◌, length, ap, subst}
-use Rattle.std.proofs.Common.{arith, vec_len, append-nil, length-append}
+use Rattle.std.proofs.Common.{◌≡◌, ℕ, ◌<◌, ◌≤◌, List, [], ◌∷◌, ◌++◌, length, ap, subst, arith, vec_len, append-nil}
+use Rattle.std.proofs.Common.{length-append}
 use Rattle.std.proofs.lemmas.List.Concat.{flat_map-append}
 use Rattle.std.specs.Vec.{vec_items}
 use Rattle.std.specs.declared.vec.Vec.{Vec}
@@ -24,13 +24,6 @@ module _ {T A : Type 0} where
   page_has_item n pages p all there is paged positive =
       omega (arith, most_pages pages (AreFilled-paged n pages paged positive), ap length is)
 
-  module _ (pages : List (Vec T A)) (filled : AreFilled pages) (page : Vec T A) (others : List (Vec T A)) where
-    pub first_filled : pages ≡ page ∷ others → 0 < vec_len page
-    first_filled is = (subst AreFilled is filled).0
-
-    pub rest_filled : pages ≡ page ∷ others → AreFilled others
-    rest_filled is = (subst AreFilled is filled).1
-
   others_and_last : (others : List (Vec T A)) (page : Vec T A) → AreFilled (others ++ page ∷ [])
       → AreFilled others × (0 < vec_len page)
   others_and_last [] page filled = (tt, filled.0)
@@ -38,6 +31,12 @@ module _ {T A : Type 0} where
       let rest = others_and_last others page filled.1 in ((filled.0, rest.0), rest.1)
 
   module _ (pages : List (Vec T A)) (filled : AreFilled pages) (page : Vec T A) (others : List (Vec T A)) where
+    pub first_filled : pages ≡ page ∷ others → 0 < vec_len page
+    first_filled is = (subst AreFilled is filled).0
+
+    pub rest_filled : pages ≡ page ∷ others → AreFilled others
+    rest_filled is = (subst AreFilled is filled).1
+
     pub last_filled : pages ≡ others ++ page ∷ [] → 0 < vec_len page
     last_filled is = (others_and_last others page (subst AreFilled is filled)).1
 

@@ -1,6 +1,5 @@
 -- `all` over the pairs of two lists that are as long.
-use Rattle.std.proofs.Common.{◌≡◌, ◌∙◌, ap, refl, rules, tests, arith, length, List, [], ◌∷◌, Bool}
-use Rattle.std.proofs.Common.{◌&&◌}
+use Rattle.std.proofs.Common.{◌≡◌, ◌∙◌, ap, refl, rules, tests, arith, length, List, [], ◌∷◌, Bool, ◌&&◌}
 use Rattle.std.proofs.lemmas.Iterator.{YieldsList-from_zip}
 use Rattle.std.proofs.lemmas.Iterator.Consumers.{YieldsList-from_first}
 use Rattle.std.proofs.lemmas.Iterator.Search.{all_from_yields_List}

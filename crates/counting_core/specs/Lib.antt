@@ -1,3 +1,4 @@
+pub mod Names
 pub mod Trace
 pub mod Permitted
 pub mod ReferenceModel

@@ -1,18 +1,12 @@
 -- Which step is permitted to whom.
-use Rattle.std.specs.Prelude.{ℕ, Bool, true, false, not, ◌&&◌, ◌||◌, nat_eq, nat_lt, length}
-use Rattle.std.specs.List.{list_any}
-use Rattle.counting_core.specs.declared.handle_entry.Access.{Access}
-use Rattle.counting_core.specs.declared.handle_entry.Access.TheVariants.{Shared, Written, Sole}
-use Rattle.counting_core.specs.declared.activity.Activity.{Activity}
-use Rattle.counting_core.specs.declared.activity.Activity.TheVariants.{Idle, Cloning, Dropping}
-use Rattle.counting_core.specs.declared.step.Step.{Step}
-use Rattle.counting_core.specs.declared.step.Step.TheVariants.{Clone, Raise, Quit, Drop, Lower, Mark, Unique, Static}
-use Rattle.counting_core.specs.declared.step.Step.TheVariants.{GetMut, Write, EndWrite, IntoUnique, Share}
-use Rattle.counting_core.specs.declared.step.Step.TheVariants.{Load, Lend, Return, Give}
+use Rattle.counting_core.specs.Names.{ℕ, Bool, true, false, not, ◌&&◌, ◌||◌, nat_eq, nat_lt, length, list_any, Access}
+use Rattle.counting_core.specs.Names.{Written, Activity, Idle, Cloning, Dropping, Step, Clone, Raise, Quit, Drop, Lower}
+use Rattle.counting_core.specs.Names.{Mark, Unique, Static, GetMut, Write, EndWrite, IntoUnique, Share, Load, Lend}
+use Rattle.counting_core.specs.Names.{Return, Give, SharedAccess, SoleAccess}
 use Rattle.counting_core.specs.Trace.{HandleState, State, owner_of}
 
 abbrev pub is_shared : Access → Bool
-is_shared Shared = true
+is_shared SharedAccess = true
 is_shared access = false
 
 abbrev pub is_written : Access → Bool
@@ -20,7 +14,7 @@ is_written Written = true
 is_written access = false
 
 abbrev pub is_sole : Access → Bool
-is_sole Sole = true
+is_sole SoleAccess = true
 is_sole access = false
 
 -- what the owner o may do with a handle in the state k

@@ -1,12 +1,8 @@
 -- The reference model: a value, the live handles, a mark, the number of births, and the limit, which no event changes.
 -- It has no word, and no call of it is ever half done.
-use Rattle.std.specs.Prelude.{ℕ, ◌+◌, Bool, true, false, not, ◌&&◌, nat_eq, if◌then◌else◌, List, []}
-use Rattle.std.specs.Prelude.{◌∷◌, ◌++◌, length}
-use Rattle.std.specs.List.{list_any, filter}
-use Rattle.counting_core.specs.declared.step.Answer.{Answer}
-use Rattle.counting_core.specs.declared.step.Answer.TheVariants.{Born, Full, Ended, GivenUp, Marked}
-use Rattle.counting_core.specs.declared.step.Answer.TheVariants.{Is, Alone, Sole, Shared}
-use Rattle.counting_core.specs.declared.step.Answer.TheVariants.{Done, Value}
+use Rattle.counting_core.specs.Names.{ℕ, ◌+◌, Bool, true, false, not, ◌&&◌, nat_eq, if◌then◌else◌, List, [], ◌∷◌, ◌++◌}
+use Rattle.counting_core.specs.Names.{length, list_any, filter, Answer, Born, Full, Ended, GivenUp, Marked, Is, Alone}
+use Rattle.counting_core.specs.Names.{Done, Value, Sole, Shared}
 
 pub record Model (V : Type 0) : Type 0 where
   pub value : V

@@ -1,20 +1,9 @@
 -- Traces, and what each step makes of the handles and the owners of a block, by its answer alone.
-use Rattle.std.specs.Prelude.{ℕ, Bool, Option, None, Some, true, false, nat_eq, if◌then◌else◌, List, []}
-use Rattle.std.specs.Prelude.{◌∷◌}
-use Rattle.std.specs.Ordering.{nat_cmp}
-use Rattle.std.specs.BTreeSet.{insert_key}
-use Rattle.std.specs.Set.{remove_key}
-use Rattle.counting_core.specs.declared.handle_entry.Access.{Access}
-use Rattle.counting_core.specs.declared.handle_entry.Access.TheVariants.{Shared, Written, Sole as SoleAccess}
-use Rattle.counting_core.specs.declared.activity.Activity.{Activity}
-use Rattle.counting_core.specs.declared.activity.Activity.TheVariants.{Idle, Cloning, Dropping}
-use Rattle.counting_core.specs.declared.step.Step.{Step}
-use Rattle.counting_core.specs.declared.step.Step.TheVariants.{Clone, Raise, Quit, Drop, Lower, Mark, Unique, Static}
-use Rattle.counting_core.specs.declared.step.Step.TheVariants.{GetMut, Write, EndWrite, IntoUnique, Share}
-use Rattle.counting_core.specs.declared.step.Step.TheVariants.{Load, Lend, Return, Give}
-use Rattle.counting_core.specs.declared.step.Answer.{Answer}
-use Rattle.counting_core.specs.declared.step.Answer.TheVariants.{Born, Full, Pending, Ended, GivenUp, Alone, Sole, Done}
-use Rattle.counting_core.specs.declared.step.Answer.TheVariants.{Quit as Quitted}
+use Rattle.counting_core.specs.Names.{ℕ, Bool, Option, None, Some, true, false, nat_eq, if◌then◌else◌, List, [], ◌∷◌}
+use Rattle.counting_core.specs.Names.{nat_cmp, insert_key, remove_key, Access, Written, SoleAccess, Activity, Idle}
+use Rattle.counting_core.specs.Names.{Cloning, Dropping, Step, Clone, Raise, Quit, Drop, Lower, Mark, Unique, Static}
+use Rattle.counting_core.specs.Names.{GetMut, Write, EndWrite, IntoUnique, Share, Load, Lend, Return, Give, Answer}
+use Rattle.counting_core.specs.Names.{Born, Full, Pending, Ended, GivenUp, Alone, Done, Quitted, SharedAccess, Sole}
 
 -- A trace: the value, the number of owners and the limit that a block was opened with, and each step since, with its
 -- answer.
@@ -31,7 +20,7 @@ pub record HandleState : Type 0 where
   pub access : Access
 
 abbrev pub unborn : HandleState
-unborn = record { lives = false; holder = 0; borrowers = []; access = Shared }
+unborn = record { lives = false; holder = 0; borrowers = []; access = SharedAccess }
 
 abbrev pub newborn : ℕ → HandleState
 newborn owner = record unborn { lives = true; holder = owner }
@@ -127,9 +116,9 @@ module _ {V : Type 0} where
   after sees u (Lower o) Ended = goes_on_to (ended u (handle_in (u.activity o))) o Idle
   after sees u (Lower o) (GivenUp v) = goes_on_to (ended u (handle_in (u.activity o))) o Idle
   after sees u (GetMut o h) Alone = used_as u h Written
-  after sees u (EndWrite o h) Done = used_as u h Shared
+  after sees u (EndWrite o h) Done = used_as u h SharedAccess
   after sees u (IntoUnique o h) Sole = used_as u h SoleAccess
-  after sees u (Share o h) Done = used_as u h Shared
+  after sees u (Share o h) Done = used_as u h SharedAccess
   after sees u (Lend o h to) Done = record u { handle = put u.handle h (lent_to (u.handle h) to) }
   after sees u (Return o h) Done = record u { handle = put u.handle h (returned_by (u.handle h) o) }
   after sees u (Give o h to) Done = record u { handle = put u.handle h (record (u.handle h) { holder = to }) }

@@ -194,7 +194,8 @@ module _ {V : Type 0} (f : CoreState V) where
         (λ e written. edits f h (λ s. record s { access = Written }) k new was written
         (taken-lives (handle f h) o (begun (state_of f) (GetMut o h) may refl).1) (GetMut o h) Alone may
         (ap (λ b. (if b then Alone else Shared, f.word)) (sym e)) refl refl refl)
-        (λ e. effect f f (GetMut o h) Shared may (ap (λ b. (if b then Alone else Shared, f.word)) (sym e)) refl refl refl refl)
+        (λ e. effect f f (GetMut o h) Shared may (ap (λ b. (if b then Alone else Shared, f.word)) (sym e)) refl refl
+        refl refl)
 
     pub owns : (a : Answer V) (alone : Bool) → alone ≡ is_one_handle f.word → a ≡ (if alone then Sole else Shared)
         → new ≡ (if alone then record k { access = SoleAccess } else k) → IsPermitted f (IntoUnique o h)
@@ -203,7 +204,8 @@ module _ {V : Type 0} (f : CoreState V) where
         (λ e sole. edits f h (λ s. record s { access = SoleAccess }) k new was sole
         (taken-lives (handle f h) o (begun (state_of f) (IntoUnique o h) may refl).1) (IntoUnique o h) Sole may
         (ap (λ b. (if b then Sole else Shared, f.word)) (sym e)) refl refl refl)
-        (λ e. effect f f (IntoUnique o h) Shared may (ap (λ b. (if b then Sole else Shared, f.word)) (sym e)) refl refl refl refl)
+        (λ e. effect f f (IntoUnique o h) Shared may (ap (λ b. (if b then Sole else Shared, f.word)) (sym e)) refl
+        refl refl refl)
 
     pub ends_write : new ≡ record k { access = SharedAccess } → IsPermitted f (EndWrite o h)
         → TakesEffect f (EndWrite o h) Done with_new

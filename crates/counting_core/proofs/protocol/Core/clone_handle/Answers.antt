@@ -14,10 +14,12 @@ plan_clone-requires-clause-within g c = core_within _ c.self.invariant.0 c.self.
 pub invariant_of-self : goal.invariant_of-self
 invariant_of-self g c =
     elim c.match-push_newborn.branch [
-      | in-Some w ↦ stays c.self.view_is _ (refl {a = Clone c.args.owner c.args.handle}) (Born w.in-Some.number) c.requires
+      | in-Some w ↦ stays c.self.view_is _ (refl {a = Clone c.args.owner c.args.handle}) (Born w.in-Some.number)
+          c.requires
           c.self.invariant (λ may. clone_bears _ c.args.owner c.args.handle (sym c.plan_clone.ensures ∙ c.in-Static.is)
           may w.in-Some.number w.in-Some.ensures.number c.push_newborn.new.handles.items w.in-Some.ensures.born)
-      | in-None w ↦ stays c.self.view_is _ (refl {a = Clone c.args.owner c.args.handle}) Memory c.requires c.self.invariant
+      | in-None w ↦ stays c.self.view_is _ (refl {a = Clone c.args.owner c.args.handle}) Memory c.requires
+          c.self.invariant
           (λ may. clone_unborn _ c.args.owner c.args.handle (sym c.plan_clone.ensures ∙ c.in-Static.is) may
           c.push_newborn.new.handles.items w.in-None.ensures.refused)
     ]
@@ -25,10 +27,12 @@ invariant_of-self g c =
 pub returns-after-push_newborn : goal.returns-after-push_newborn
 returns-after-push_newborn g c =
     elim c.match-push_newborn.branch [
-      | in-Some w ↦ rw w.result-is (follows c.self.view_is _ (refl {a = Clone c.args.owner c.args.handle}) (Born w.in-Some.number)
+      | in-Some w ↦ rw w.result-is (follows c.self.view_is _ (refl {a = Clone c.args.owner c.args.handle})
+          (Born w.in-Some.number)
           c.requires (λ may. clone_bears _ c.args.owner c.args.handle (sym c.plan_clone.ensures ∙ c.in-Static.is)
           may w.in-Some.number w.in-Some.ensures.number c.push_newborn.new.handles.items w.in-Some.ensures.born))
-      | in-None w ↦ rw w.result-is (follows c.self.view_is _ (refl {a = Clone c.args.owner c.args.handle}) Memory c.requires
+      | in-None w ↦ rw w.result-is (follows c.self.view_is _ (refl {a = Clone c.args.owner c.args.handle}) Memory
+          c.requires
           (λ may. clone_unborn _ c.args.owner c.args.handle (sym c.plan_clone.ensures ∙ c.in-Static.is) may
           c.push_newborn.new.handles.items w.in-None.ensures.refused))
     ]

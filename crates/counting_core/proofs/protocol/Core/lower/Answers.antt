@@ -22,7 +22,8 @@ index_mut-requires-2 g c =
 pub invariant_of-self : goal.invariant_of-self
 invariant_of-self g c =
     elim c.if-is_last.branch [
-      | then-is_last w ↦ stays c.self.view_is _ (refl {a = Lower c.args.owner}) (GivenUp c.self.inside.value) c.requires.allowed
+      | then-is_last w ↦ stays c.self.view_is _ (refl {a = Lower c.args.owner}) (GivenUp c.self.inside.value)
+          c.requires.allowed
           c.self.invariant (lowers _ c.args.owner c.args.handle c.index_mut-2.result.now c.end.new.self
           c.index_mut-2.ensures.value c.end.ensures c.self.invariant
           (subst (λ k. activity k c.args.owner ≡ Dropping c.args.handle) (sym c.self.view_is) c.requires.dropping)
@@ -37,7 +38,8 @@ invariant_of-self g c =
 pub returns : goal.returns
 returns g c =
     elim c.if-is_last.branch [
-      | then-is_last w ↦ rw w.result-is (follows c.self.view_is _ (refl {a = Lower c.args.owner}) (GivenUp c.self.inside.value)
+      | then-is_last w ↦ rw w.result-is (follows c.self.view_is _ (refl {a = Lower c.args.owner})
+          (GivenUp c.self.inside.value)
           c.requires.allowed (lowers _ c.args.owner c.args.handle c.index_mut-2.result.now c.end.new.self
           c.index_mut-2.ensures.value c.end.ensures c.self.invariant
           (subst (λ k. activity k c.args.owner ≡ Dropping c.args.handle) (sym c.self.view_is) c.requires.dropping)

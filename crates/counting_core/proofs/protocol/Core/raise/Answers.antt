@@ -55,7 +55,8 @@ invariant_of-self-2 g c =
 pub returns : goal.returns
 returns g c =
     elim c.match-plan_clone.branch [
-      | in-Static w ↦ follows c.self.view_is _ (refl {a = Raise c.args.owner}) (Born c.in-Some.number) c.requires.allowed
+      | in-Static w ↦ follows c.self.view_is _ (refl {a = Raise c.args.owner}) (Born c.in-Some.number)
+          c.requires.allowed
           (λ may. raise_bears _ c.args.owner c.match-plan_clone.next
           (raise_static _ c.args.owner c.args.handle c.args.seen
           (subst (λ k. activity k c.args.owner ≡ Cloning c.args.handle c.args.seen) (sym c.self.view_is)

@@ -5,7 +5,7 @@ use Rattle.counting_core.proofs.Names.{Share, Load, Lend, Return, Give, Answer, 
 use Rattle.counting_core.proofs.Names.{GivenUp, Marked, Is, Alone, Sole, Shared, Done, Value, Barred, Trace, Open, Then}
 use Rattle.counting_core.proofs.Names.{expected}
 
--- the answers to steps in order, want of memory aside
+-- the answers to steps in order, unless memory is refused
 abbrev answers : Trace ℕ → List (Step ℕ) → List (Answer ℕ)
 answers t [] = []
 answers t (s ∷ steps) = expected t s ∷ answers (Then t s (expected t s)) steps

@@ -65,7 +65,7 @@ module _ {V : Type 0} where
   abbrev pub model : Trace V → Model V
   model t = (replay t).model
 
-  -- the answer to a step, want of memory aside
+  -- the answer to a step, unless memory is refused
   abbrev pub expected : Trace V → Step V → Answer V
   expected t s = if permitted (state t) s then (outcome (model t) (move (model t) (state t) s)).0 else Barred
 

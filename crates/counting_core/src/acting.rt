@@ -13,7 +13,7 @@ use counting_word::{
 };
 
 impl<V: Copy> Core<V> {
-    // By what the owner is in the middle of; an owner with a call in flight may only go on with it.
+    // What a step does depends on what its owner is in the middle of.
     pub(crate) fn advance(&mut self, step: Step<V>) -> Answer<V>
         ensures reached { IsReached self.old }
         ensures word { FollowsWord self.old step result self.new }

@@ -117,7 +117,7 @@ impl HandleEntry {
         self.access = access;
     }
 
-    /// Uses the handle so if it is alone, and answers that it was taken, or else that it is shared.
+    /// Sets the access and answers `taken` if the handle is alone. Otherwise answers that the block is shared.
     pub(crate) fn take<V: Copy>(
         &mut self,
         alone: bool,

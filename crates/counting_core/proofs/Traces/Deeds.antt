@@ -1,4 +1,4 @@
--- Each way in which a permitted step is answered, want of memory aside.
+-- Each way in which a permitted step is answered, unless memory is refused.
 use Rattle.counting_core.proofs.Names.{◌≡◌, ℕ, ◌+◌, Bool, true, false, not, ◌&&◌, ◌||◌, nat_eq, [], ◌∷◌, ◌++◌, length}
 use Rattle.counting_core.proofs.Names.{if◌then◌else◌, refl, sym, ◌∙◌, ap, subst, true≢false, list_any, cond_both}
 use Rattle.counting_core.proofs.Names.{or_parts, or_from, or_left, or_right, Dropping, Step, Clone, Raise, Quit, Drop}

@@ -154,7 +154,7 @@ module _ {V : Type 0} (limit : ℕ) where
     pub put-here : (x : HandleState) → put (state t).handle h x h ≡ x
     put-here x = ap (λ b. if b then x else (state t).handle h) (nat_eq-same h)
 
-    -- a claim; one that finds the only handle is ended at once
+    -- a read for unique; one that finds the only handle is ended at once
     pub claimed : Goes owners k p t ((claims, if has_exactly 1 p then whole_block 1 else a_handle) ∷ [])
     claimed = at (has_exactly 1 p) refl where
       written : HandleState

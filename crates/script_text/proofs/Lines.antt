@@ -1,8 +1,7 @@
 -- A line can be read in one way alone.
 use Rattle.std.proofs.Common.{◌≡◌, ◌≢◌, ℕ, ◌==◌, ◌<◌, ◌^◌, ◌+◌, List, [], ◌∷◌, ◌++◌, length, map, Option}
 use Rattle.std.proofs.Common.{Some, None, IfNone}
-use Rattle.std.proofs.Common.{refl, sym, ap, ◌∙◌, arith, cond, decimal, take, set, append_assoc, length-append}
-use Rattle.std.specs.Cmp.Lexicographic.{pointwise}
+use Rattle.std.proofs.Common.{refl, sym, ap, ◌∙◌, arith, decimal, take, set, append_assoc, length-append}
 use Rattle.std.specs.List.{All}
 use Rattle.std.proofs.lemmas.Bool.{ne_eqb}
 use Rattle.std.proofs.lemmas.Fmt.{decimal_injective}
@@ -95,18 +94,9 @@ invalid language (Some asked) text word numbers line none = tt
 invalid language None text word numbers line none = λ asked parses.
     none asked (IsLine_same text word (language asked).0 numbers (language asked).1 line parses)
 
--- the first of these that the word stands for
-abbrev pub named : {A : Type 0} → (A → List ℕ × List ℕ) → List ℕ → List A → Option A
-named language word [] = None
-named language word (asked ∷ others) =
-    cond (pointwise (λ a b. a == b) word (language asked).0) (Some asked) (named language word others)
-
--- if what is asked can be found by its word, among what is written with its numbers, it is one thing
-pub asks_for_one_thing : {A : Type 0} (language : A → List ℕ × List ℕ) (with_numbers : List ℕ → List A)
-    → ((asked : A) → named language (language asked).0 (with_numbers (language asked).1) ≡ Some asked)
+-- if what is asked is written by its word and its numbers alone, a line asks for one thing at most
+pub asks_for_one_thing : {A : Type 0} (language : A → List ℕ × List ℕ) → ((one other : A)
+    → (language one).0 ≡ (language other).0 → (language one).1 ≡ (language other).1 → one ≡ other)
     → AsksForOneThing language
-asks_for_one_thing language with_numbers found line one other parses parses_too =
-    let (word, numbers) = IsLine_same line _ _ _ _ parses parses_too in
-    let same : Some one ≡ Some other = sym (found one)
-    ∙ (λ i. named language (word i) (with_numbers (numbers i))) ∙ found other in
-    cc
+asks_for_one_thing language same line one other parses parses_too =
+    let (word, numbers) = IsLine_same line _ _ _ _ parses parses_too in same one other word numbers

@@ -15,7 +15,7 @@ use Rattle.scripts.specs.CoreScript.{CoreAnswers, TraceAnswers, PrintsLegalTrace
 use Rattle.scripts.specs.Program.{PrintsAsAsked, DidAsAsked}
 use Rattle.scripts.specs.StepLine.{step_line}
 use Rattle.scripts.specs.TableLine.{table_line}
-use Rattle.scripts.specs.TableScript.{TableAnswers, PrintsPlainTable}
+use Rattle.scripts.specs.TableScript.{TableAnswers, PrintsModelTable}
 use Rattle.scripts.specs.declared.arguments.Request.{Request}
 use Rattle.scripts.specs.declared.arguments.Request.TheVariants.{Core, Table}
 
@@ -33,12 +33,12 @@ core_prints core owners limit script outcome old new held holds opened (text, pr
     script outcome text old new (Open 5 owners limit) opened prints in
     (text, record { trace = trace; legal = represents.legal; prints = prints' }, appended)
 
--- a table that starts empty prints what a plain table does
+-- a table that starts empty prints what its model does
 pub table_prints : {S : Type 0} (table : S → Slots ℕ) (slots : ℕ) (script : List ℕ) (outcome : Outcome)
     (old new : S) (held holds : Option (List ℕ)) → table old ≡ replicate slots None
     → Wrote (λ text. PrintsUpTo (λ old line text new. TableAnswers (table old) line text (table new))
     (IsInvalid table_line) old script outcome text new) held holds
-    → Wrote (PrintsPlainTable slots script outcome) held holds
+    → Wrote (PrintsModelTable slots script outcome) held holds
 table_prints table slots script outcome old new held holds empty (text, prints, appended) =
     let (left, prints', shown) = prints_shown _ TableAnswers (IsInvalid table_line) (λ s left. table s ≡ left)
     (λ old new left line text shown answered.
@@ -62,7 +62,7 @@ core_stopped owners limit is_limit script outcome held stop = (
 )
 
 pub table_stopped : (slots : ℕ) (script : List ℕ) (outcome : Outcome) (held : Option (List ℕ))
-    → IsStopped outcome → Wrote (PrintsPlainTable slots script outcome) held held
+    → IsStopped outcome → Wrote (PrintsModelTable slots script outcome) held held
 table_stopped slots script outcome held stop = (
   [],
   record { left = replicate slots None; prints = stopped_at_once _ _ _ _ outcome stop },

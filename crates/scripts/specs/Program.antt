@@ -4,14 +4,14 @@ use Rattle.script_text.specs.Fault.{Outcome, status_after}
 use Rattle.script_text.specs.Written.{Wrote}
 use Rattle.scripts.specs.Arguments.{Asks}
 use Rattle.scripts.specs.CoreScript.{PrintsLegalTrace}
-use Rattle.scripts.specs.TableScript.{PrintsPlainTable}
+use Rattle.scripts.specs.TableScript.{PrintsModelTable}
 use Rattle.scripts.specs.declared.arguments.Request.{Request}
 use Rattle.scripts.specs.declared.arguments.Request.TheVariants.{Core, Table}
 
 -- what a run of the script that is asked for has written, by how it ended
 abbrev pub PrintsAsAsked : Request → List ℕ → Outcome → List ℕ → Type 0
 PrintsAsAsked (Core owners limit) = PrintsLegalTrace owners limit
-PrintsAsAsked (Table slots) = PrintsPlainTable slots
+PrintsAsAsked (Table slots) = PrintsModelTable slots
 
 -- What the words ask for was done with the bytes of the input, if those can be known.
 pub record DidAsAsked (words : List (List ℕ)) (input : Option (List ℕ)) (outcome : Outcome)

@@ -16,6 +16,6 @@ TableAnswers old line text new =
 
 -- A run of the script on a table of that many slots, all empty at first, ends with this outcome and has written this
 -- text. Line by line, each answer is one that the reference model allows.
-pub record PrintsPlainTable (slots : ℕ) (script : List ℕ) (outcome : Outcome) (text : List ℕ) : Type 0 where
+pub record PrintsModelTable (slots : ℕ) (script : List ℕ) (outcome : Outcome) (text : List ℕ) : Type 0 where
   pub left : Slots ℕ
   pub prints : PrintsUpTo TableAnswers (IsInvalid table_line) (replicate slots None) script outcome text left

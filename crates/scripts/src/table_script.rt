@@ -7,7 +7,7 @@ ghost use Rattle.script_text.specs.Written.{Wrote};
 ghost use Rattle.script_text.specs.declared.fault.Fault.TheVariants as Fault;
 ghost use Rattle.scripts.specs.TableAnswer.{IsAnsweredBy, printed_reply, printed_slot};
 ghost use Rattle.scripts.specs.TableLine.{table_line};
-ghost use Rattle.scripts.specs.TableScript.{PrintsPlainTable, TableAnswers};
+ghost use Rattle.scripts.specs.TableScript.{PrintsModelTable, TableAnswers};
 
 use crate::table_line::{TableLine, read_table_line};
 use script_text::fault::Fault;
@@ -29,7 +29,7 @@ pub fn run<W: Write>(
     output: &mut W,
 ) -> Result<(), Fault>
     ensures fault { IfErr result IsFaultOfRun }
-    ensures wrote { Wrote (PrintsPlainTable slots script.now result)
+    ensures wrote { Wrote (PrintsModelTable slots script.now result)
         (W.contents output.old) (W.contents output.new) }
 {
     let table = Table::new(alloc, slots)?;

@@ -1,7 +1,7 @@
 -- The values of a tree, one step down, and those that a walk has still to see.
-use Rattle.std.proofs.Common.{◌≡◌, ℕ, ◌+◌, ◌≤◌, List, [], ◌∷◌, ◌++◌, length, map, ap, sym, ◌∙◌, arith}
+use Rattle.std.proofs.Common.{◌≡◌, ℕ, ◌+◌, ◌*◌, ◌<◌, ◌≤◌, List, [], ◌∷◌, ◌++◌, length, map, ap, sym, ◌∙◌, arith}
 use Rattle.std.proofs.Common.{append_assoc, append-nil, length-append, Bor}
-use Rattle.std.proofs.lemmas.List.{map_push, nil_from_length}
+use Rattle.std.proofs.lemmas.List.{length_push, map_push, nil_from_length}
 use Rattle.std.specs.Prelude.{Result, Ok, Err, OnOk, OnErr}
 use Rattle.std.specs.List.{flat_map, AppendsClones, each_same}
 use Rattle.std.proofs.lemmas.List.Folds.{flat_map-map}
@@ -27,26 +27,49 @@ module _ {V : Type 0} where
       ap (λ values. values ++ flat_map preorder t.now) (to_see-push more trees)
       ∙ append_assoc (flat_map preorder trees.now) (to_see more) (flat_map preorder t.now)
 
-  -- a walk leaves a list that has no tree
-  pub to_see-empty : (more : List (Bor (List (Rose V)))) (trees : Bor (List (Rose V))) → length trees.now ≡ 0
-      → to_see (more ++ trees ∷ []) ≡ to_see more
-  to_see-empty more trees none =
-      to_see-push more trees ∙ ap (λ ts. flat_map preorder ts ++ to_see more) (nil_from_length trees.now none)
+  -- a turn that finds no tree in its list
+  module _ (left more : List (Bor (List (Rose V)))) (trees : Bor (List (Rose V)))
+      (popped : left ≡ more ++ trees ∷ []) (none : length trees.now ≡ 0) where
+    pub to_see-same : to_see left ≡ to_see more
+    to_see-same =
+        ap to_see popped ∙ to_see-push more trees
+        ∙ ap (λ ts. flat_map preorder ts ++ to_see more) (nil_from_length trees.now none)
 
-  -- a walk sees a tree's root, and then has those below it before the rest of its list
-  pub to_see-first : (more : List (Bor (List (Rose V)))) (trees rest below : Bor (List (Rose V))) (first : Rose V)
-      → trees.now ≡ first ∷ rest.now → below.now ≡ children first
-      → to_see (more ++ trees ∷ []) ≡ root first ∷ to_see ((more ++ rest ∷ []) ++ below ∷ [])
-  to_see-first more trees rest below first parts under =
-      rw (
-        to_see-push more trees,
-        to_see-push (more ++ rest ∷ []) below,
-        to_see-push more rest,
-        parts,
-        under,
-        preorder_out first,
-      ) (ap (λ values. root first ∷ values) (append_assoc (flat_map preorder (children first))
-      (flat_map preorder rest.now) (to_see more)))
+    pub fewer_lists : 2 * length (to_see more) + length more < 2 * length (to_see left) + length left
+    fewer_lists = omega (arith, ap length to_see-same, ap length popped, length_push more trees)
+
+  -- a turn that sees a tree's root, and then has those below it before the rest of its list
+  module _ (left more pushed next : List (Bor (List (Rose V)))) (trees rest below : Bor (List (Rose V)))
+      (first : Rose V) (popped : left ≡ more ++ trees ∷ []) (one : pushed ≡ more ++ rest ∷ [])
+      (two : next ≡ pushed ++ below ∷ []) (parts : trees.now ≡ first ∷ rest.now)
+      (under : below.now ≡ children first) where
+    pub to_see-root : to_see left ≡ root first ∷ to_see next
+    to_see-root =
+        rw (
+          popped,
+          two,
+          to_see-push more trees,
+          to_see-push pushed below,
+          one,
+          to_see-push more rest,
+          parts,
+          under,
+          preorder_out first,
+        ) (ap (λ values. root first ∷ values) (append_assoc (flat_map preorder (children first))
+        (flat_map preorder rest.now) (to_see more)))
+
+    pub fewer_values : 2 * length (to_see next) + length next < 2 * length (to_see left) + length left
+    fewer_values =
+        omega (
+          arith,
+          ap length to_see-root,
+          ap length popped,
+          length_push more trees,
+          ap length one,
+          length_push more rest,
+          ap length two,
+          length_push pushed below,
+        )
 
   -- the number of the values in these trees
   abbrev pub count : List (Rose V) → ℕ
@@ -71,9 +94,11 @@ module _ {V : Type 0} where
       omega (arith, ap count is, count-append old more)
   count-extended B (Err e) old new more clones same = omega (arith, ap count same.0)
 
--- one more value was seen
-pub seen-more : {V : Type 0} (values : List (Bor V)) (value : Bor V) (rest all : List V)
-    → map (λ v. v.now) values ++ value.now ∷ rest ≡ all → map (λ v. v.now) (values ++ value ∷ []) ++ rest ≡ all
-seen-more values value rest all is =
-    ap (λ seen. seen ++ rest) (map_push (λ v. v.now) values value)
-    ∙ append_assoc (map (λ v. v.now) values) (value.now ∷ []) rest ∙ is
+-- what was seen and what is still to be seen stay all values, if one more is seen
+pub seen-more : {V : Type 0} (values seen : List (Bor V)) (value : Bor V) (v : V) (before after all : List V)
+    → seen ≡ values ++ value ∷ [] → value.now ≡ v → before ≡ v ∷ after
+    → map (λ x. x.now) values ++ before ≡ all → map (λ x. x.now) seen ++ after ≡ all
+seen-more values seen value v before after all more is parts whole =
+    ap (λ vs. map (λ x. x.now) vs ++ after) more ∙ ap (λ vs. vs ++ after) (map_push (λ x. x.now) values value)
+    ∙ append_assoc (map (λ x. x.now) values) (value.now ∷ []) after
+    ∙ ap (λ x. map (λ y. y.now) values ++ x ∷ after) is ∙ ap (λ vs. map (λ x. x.now) values ++ vs) (sym parts) ∙ whole

@@ -1,5 +1,6 @@
 -- A rose tree is its value and its children. A path has the number of a child for each step down.
-use Rattle.std.specs.Prelude.{ℕ, List, [], ◌∷◌, Option, None, Some, if◌then◌else◌, insert, length, nat_le, nat_lt, remove, set, slice_get}
+use Rattle.std.specs.Prelude.{ℕ, List, [], ◌∷◌, Option, None, Some, if◌then◌else◌, insert, length, nat_le, nat_lt}
+use Rattle.std.specs.Prelude.{remove, set, slice_get}
 use Rattle.std.specs.List.{flat_map}
 use Rattle.std.specs.Option.{option_map, option_and_then}
 use Rattle.uses.specs.declared.rose.Rose.{Rose, fold-Rose, out-Rose, roll-Rose}

@@ -1,5 +1,5 @@
-//! A change along a path, in place as far as nobody else shares the nodes: a recursion through `make_mut`. It is known to
-//! end without a measure of its own, since what `make_mut` lends is no deeper than the handle.
+//! A change along a path, in place as far as nobody else shares the nodes: a recursion through `make_mut`. It needs no
+//! measure of its own, since the checker sees it go down the chain.
 ghost use Rattle.std.specs.Prelude.{◌≡◌, ◌<◌, OnErr, OnOk, length, slice_set};
 ghost use Rattle.uses.specs.Chains.{values};
 

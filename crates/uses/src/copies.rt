@@ -1,6 +1,6 @@
-//! What a clause may say of a copy. What stands behind a handle is the same value. A `Vec` or a `String` itself is copied
-//! into another buffer, so that its copy is another value with equal items. Of a type that leads back to itself the
-//! derived `clone` says nothing: write it by hand, as for the `Chain` of along_a_path.rt.
+//! What a clause may say of a copy. What stands behind a handle is the same value. A `Vec` or a `String` itself is
+//! copied into another buffer, so that its copy is another value with equal items. Of a type that leads back to itself
+//! the derived `clone` says nothing: write it by hand, as for the `Chain` of along_a_path.rt.
 ghost use Rattle.std.specs.Prelude.{◌≡◌, IfOk};
 
 use servo_arc::{Arc, ThinArc};

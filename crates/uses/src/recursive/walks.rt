@@ -1,7 +1,8 @@
 //! Walks over recursive types that have no model. A clause reads one level of such a value by `out-Node`, and the whole
 //! by a fold.
 ghost use Rattle.std.specs.Prelude.{◌≡◌, ◌∷◌, [], ◌<◌, ◌^◌, length, Some, IfOk};
-ghost use Rattle.uses.specs.Walks.{borrowed_values, first_headers, holds, token_values, union_values, unique_values, values, with_last};
+ghost use Rattle.uses.specs.Walks.{borrowed_values, first_headers, holds, token_values, union_values};
+ghost use Rattle.uses.specs.Walks.{unique_values, values, with_last};
 ghost use Rattle.uses.specs.declared.recursive.by_arc.Node.{out-Node};
 
 use super::by_arc::{Node, Tree};

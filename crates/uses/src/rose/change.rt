@@ -2,7 +2,8 @@
 ghost use Rattle.std.specs.Prelude.{◌≡◌, ◌↔◌, Err, None, Some, IfOk, ◌<◌, length};
 ghost use Rattle.servo_arc.specs.Copies.{CopiesAreEqual};
 ghost use Rattle.uses.specs.Changes.{made};
-ghost use Rattle.uses.specs.Roses.{changed_at, children, inserted, removed, with_child, with_inserted, with_tree, with_value, without};
+ghost use Rattle.uses.specs.Roses.{changed_at, children, inserted, removed};
+ghost use Rattle.uses.specs.Roses.{with_child, with_inserted, with_tree, with_value, without};
 ghost use Rattle.uses.specs.declared.rose.RoseError.TheVariants.{NoSuchPlace};
 
 use super::{Rose, RoseError};

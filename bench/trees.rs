@@ -29,12 +29,6 @@ macro_rules! trees {
             }
 
             impl Map {
-                fn of(left: Map, entry: (u64, u64), right: Map) -> Map {
-                    let mut node = Node { len: 0, height: 0, left, entry, right };
-                    node.update();
-                    Map { root: Some(Arc::new(node)) }
-                }
-
                 fn len(&self) -> usize {
                     self.root.as_ref().map_or(0, |node| node.len)
                 }
@@ -52,59 +46,52 @@ macro_rules! trees {
                     }
                 }
 
-                /// In place where nobody else shares a node, and where no double rotation can be due.
+                /// In place where nobody else shares a node.
                 fn insert(&mut self, key: u64, value: u64) {
-                    let Some(handle) = &mut self.root else {
-                        *self = Map::of(Map::default(), (key, value), Map::default());
-                        return;
-                    };
-                    let node = Arc::make_mut(handle);
-                    node.make_way(key);
-                    let (low, high) = (node.left.height(), node.right.height());
+                    match self.place(key) {
+                        Ok(index) => self.set(index, value),
+                        Err(index) => self.put(index, (key, value)),
+                    }
+                }
+
+                /// The number of the key's entry, or that which it would have.
+                fn place(&self, key: u64) -> Result<usize, usize> {
+                    let Some(node) = &self.root else { return Err(0) };
                     match key.cmp(&node.entry.0) {
-                        Ordering::Equal => return node.entry.1 = value,
-                        Ordering::Less if low > high => return *self = self.inserted(key, value),
-                        Ordering::Greater if high > low => return *self = self.inserted(key, value),
-                        Ordering::Less => node.left.insert(key, value),
-                        Ordering::Greater => node.right.insert(key, value),
+                        Ordering::Less => node.left.place(key),
+                        Ordering::Equal => Ok(node.left.len()),
+                        Ordering::Greater => {
+                            let before = node.left.len() + 1;
+                            node.right.place(key).map(|index| before + index).map_err(|index| before + index)
+                        }
+                    }
+                }
+
+                fn set(&mut self, index: usize, value: u64) {
+                    let node = Arc::make_mut(self.root.as_mut().unwrap());
+                    let before = node.left.len();
+                    match index.cmp(&before) {
+                        Ordering::Less => node.left.set(index, value),
+                        Ordering::Equal => node.entry.1 = value,
+                        Ordering::Greater => node.right.set(index - before - 1, value),
                     }
                     node.update();
                 }
 
-                fn inserted(&self, key: u64, value: u64) -> Map {
-                    let Some(node) = &self.root else {
-                        return Map::of(Map::default(), (key, value), Map::default());
+                fn put(&mut self, index: usize, entry: (u64, u64)) {
+                    let Some(handle) = &mut self.root else {
+                        let (left, right) = (Map::default(), Map::default());
+                        *self = Map { root: Some(Arc::new(Node { len: 1, height: 1, left, entry, right })) };
+                        return;
                     };
-                    let (left, right) = (&node.left, &node.right);
-                    match key.cmp(&node.entry.0) {
-                        Ordering::Less => Map::balanced(left.inserted(key, value), node.entry, right.clone()),
-                        Ordering::Equal => Map::of(left.clone(), (key, value), right.clone()),
-                        Ordering::Greater => Map::balanced(left.clone(), node.entry, right.inserted(key, value)),
+                    let node = Arc::make_mut(handle);
+                    let before = node.left.len();
+                    if index <= before {
+                        node.left.put(index, entry);
+                    } else {
+                        node.right.put(index - before - 1, entry);
                     }
-                }
-
-                /// The tree of this entry between these trees, of which one may be two higher.
-                fn balanced(left: Map, entry: (u64, u64), right: Map) -> Map {
-                    let (low, high) = (left.height(), right.height());
-                    match (&left.root, &right.root) {
-                        (Some(node), _) if low > high + 1 => match &node.right.root {
-                            Some(inner) if node.right.height() > node.left.height() => Map::of(
-                                Map::of(node.left.clone(), node.entry, inner.left.clone()),
-                                inner.entry,
-                                Map::of(inner.right.clone(), entry, right),
-                            ),
-                            _ => Map::of(node.left.clone(), node.entry, Map::of(node.right.clone(), entry, right)),
-                        },
-                        (_, Some(node)) if high > low + 1 => match &node.left.root {
-                            Some(inner) if node.left.height() > node.right.height() => Map::of(
-                                Map::of(left, entry, inner.left.clone()),
-                                inner.entry,
-                                Map::of(inner.right.clone(), node.entry, node.right.clone()),
-                            ),
-                            _ => Map::of(Map::of(left, entry, node.left.clone()), node.entry, node.right.clone()),
-                        },
-                        _ => Map::of(left, entry, right),
-                    }
+                    node.balance();
                 }
             }
 
@@ -114,31 +101,46 @@ macro_rules! trees {
                     self.height = self.left.height().max(self.right.height()) + 1;
                 }
 
-                /// Makes the side of the key no higher than the other, where a single rotation can.
-                fn make_way(&mut self, key: u64) {
-                    let Node { left, entry, right, .. } = self;
-                    let (low, high) = (left.height(), right.height());
-                    if low > high && left.root.as_ref().is_some_and(|child| key < child.entry.0) {
-                        let child = Arc::make_mut(left.root.as_mut().unwrap());
-                        if child.left.height() >= child.right.height() {
-                            let outer = mem::replace(&mut child.left, mem::take(&mut child.right));
-                            child.right = mem::take(right);
-                            mem::swap(&mut child.entry, entry);
-                            child.update();
-                            *right = mem::replace(left, outer);
-                            self.update();
+                /// Of a node one side of which may be two higher.
+                fn balance(&mut self) {
+                    let (low, high) = (self.left.height(), self.right.height());
+                    if low > high + 1 {
+                        let child = Arc::make_mut(self.left.root.as_mut().unwrap());
+                        if child.right.height() > child.left.height() {
+                            child.rotate_left();
                         }
-                    } else if high > low && right.root.as_ref().is_some_and(|child| key > child.entry.0) {
-                        let child = Arc::make_mut(right.root.as_mut().unwrap());
-                        if child.right.height() >= child.left.height() {
-                            let outer = mem::replace(&mut child.right, mem::take(&mut child.left));
-                            child.left = mem::take(left);
-                            mem::swap(&mut child.entry, entry);
-                            child.update();
-                            *left = mem::replace(right, outer);
-                            self.update();
+                        self.rotate_right();
+                    } else if high > low + 1 {
+                        let child = Arc::make_mut(self.right.root.as_mut().unwrap());
+                        if child.left.height() > child.right.height() {
+                            child.rotate_right();
                         }
+                        self.rotate_left();
+                    } else {
+                        self.update();
                     }
+                }
+
+                fn rotate_right(&mut self) {
+                    let mut handle = self.left.root.take().unwrap();
+                    let child = Arc::make_mut(&mut handle);
+                    mem::swap(&mut self.entry, &mut child.entry);
+                    self.left = mem::replace(&mut child.left, mem::take(&mut child.right));
+                    child.right = mem::take(&mut self.right);
+                    child.update();
+                    self.right.root = Some(handle);
+                    self.update();
+                }
+
+                fn rotate_left(&mut self) {
+                    let mut handle = self.right.root.take().unwrap();
+                    let child = Arc::make_mut(&mut handle);
+                    mem::swap(&mut self.entry, &mut child.entry);
+                    self.right = mem::replace(&mut child.right, mem::take(&mut child.left));
+                    child.left = mem::take(&mut self.left);
+                    child.update();
+                    self.left.root = Some(handle);
+                    self.update();
                 }
             }
 

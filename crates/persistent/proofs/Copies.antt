@@ -50,6 +50,7 @@ module _ {K V : Type 0} where
       record {
         rising = rising;
         counted = len ∙ is.counted ∙ sym count;
+        room = rw count is.room;
         height = rw (height, left, right) is.height;
         level = rw (left, right) is.level;
         fits = rw (height, count) is.fits;

@@ -93,6 +93,7 @@ whole cmp node rising h k level counted fits height =
     record {
       rising = rising;
       counted = counted;
+      room = omega arith;
       height = height;
       level = level;
       fits = deep;

@@ -6,5 +6,7 @@ pub mod Insertion
 pub mod Lookup
 pub mod Numbers
 pub mod Order
+pub mod Places
 pub mod Ranges
+pub mod Rank
 pub mod Removal

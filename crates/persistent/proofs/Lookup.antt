@@ -38,7 +38,7 @@ module _ {K V : Type 0} (cmp : K → K → Ordering) where
   lookup_over q [] m o = refl
   lookup_over q (x ∷ l) m o = rw o.0 (lookup_over q l m o.1)
 
-  lookup_above : (q : K) (es : List (K × V)) → AreAbove cmp q es → lookup cmp q es ≡ None
+  pub lookup_above : (q : K) (es : List (K × V)) → AreAbove cmp q es → lookup cmp q es ≡ None
   lookup_above q [] a = refl
   lookup_above q (x ∷ es) a = rw a.0 (lookup_above q es a.1)
 

@@ -1,6 +1,6 @@
 -- Entries whose keys rise.
 use Rattle.std.proofs.Common.{◌≡◌, true, List, [], ◌∷◌, ◌++◌, refl, ap, sym}
-use Rattle.std.proofs.Common.{◌∙◌, subst, append_assoc, true≢false}
+use Rattle.std.proofs.Common.{◌∙◌, subst, append_assoc, length-append, true≢false}
 use Rattle.std.proofs.lemmas.Bool.{and_from, and_parts}
 use Rattle.std.specs.declared.cmp.Ordering.{Ordering}
 use Rattle.std.specs.declared.cmp.Ordering.TheVariants.{Less, Equal, Greater}
@@ -87,6 +87,14 @@ module _ {K V : Type 0} (cmp : K → K → Ordering) where
   pub rising_one : (e : K × V) → IsRising cmp (e ∷ [])
   rising_one e = from (e ∷ []) (tt, tt)
 
+  pub rising_before : (l : List (K × V)) (e : K × V) (r : List (K × V)) → IsRising cmp (l ++ e ∷ r)
+      → IsRising cmp l
+  rising_before l e r s = rising_front l (e ∷ r) s
+
+  pub rising_after : (l : List (K × V)) (e : K × V) (r : List (K × V)) → IsRising cmp (l ++ e ∷ r)
+      → IsRising cmp r
+  rising_after l e r s = rising_rest e r (rising_back l (e ∷ r) s)
+
   -- around a rotation
   pub rising_inner_right : (x : List (K × V)) (j : K × V) (y : List (K × V)) (k : K × V) (z : List (K × V))
       → IsRising cmp ((x ++ j ∷ y) ++ k ∷ z)
@@ -121,3 +129,12 @@ module _ {K V : Type 0} (cmp : K → K → Ordering) where
     over_here q (x ∷ l) e r h s =
         let left : cmp x.0 e.0 ≡ Less = (above_back x.0 l (e ∷ r) s.0).0 in
         (total.congr q e.0 x.0 h ∙ turned_back total x.0 e.0 left, over_here q l e r h s.1)
+
+pub ruleset rotations = (
+  rising_inner_left,
+  rising_inner_right,
+  rising_before,
+  rising_after,
+  append_assoc,
+  length-append,
+)

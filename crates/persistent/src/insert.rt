@@ -1,52 +1,93 @@
-//! How a tree takes an entry in: in place where nobody else shares a node, and where no double rotation can be due.
-ghost use Rattle.std.specs.Prelude.{◌≡◌, ◌+◌, ◌^◌, ◌<◌, ◌≤◌, OnOk, OnErr, length};
+//! How a tree takes an entry in: in place, but for the nodes that others share, which are copied.
+ghost use Rattle.std.specs.Prelude.{◌≡◌, ◌+◌, ◌^◌, ◌<◌, ◌≤◌, IfOk, OnOk, OnErr, length};
 ghost use Rattle.servo_arc.specs.Copies.{CopiesAreEqual};
-ghost use Rattle.persistent.specs.Maps.{with_entry};
+ghost use Rattle.persistent.specs.Grown.{IsGrown, grown_entries};
+ghost use Rattle.persistent.specs.Maps.{IsRising};
+ghost use Rattle.persistent.specs.Nodes.{IsNode, IsSame, entries_of};
+ghost use Rattle.persistent.specs.Places.{put_at};
 
-use crate::tree::Tree;
-use servo_arc::Arc;
+use crate::grow::Grown;
+use crate::tree::{Node, Tree};
 use std::alloc::{AllocError, Global};
-use std::cmp::Ordering;
 
 impl<K: Ord + Clone, V: Clone> Tree<K, V> {
-    // Below a node that still leans to the key's side the way is copied: a double rotation may be due there.
-    pub(crate) fn insert(&mut self, alloc: Global, key: K, value: V) -> Result<(), AllocError>
+    // Puts the entry in at that number.
+    #[tactic(auto, using(crate::proofs::Places::places))]
+    pub(crate) fn insert(
+        &mut self,
+        alloc: Global,
+        index: usize,
+        entry: (K, V),
+    ) -> Result<(), AllocError>
         requires copies_of_keys { CopiesAreEqual K.is_clone }
         requires copies_of_values { CopiesAreEqual V.is_clone }
+        requires within { index ≤ length self.old.0 }
+        requires rising { IsRising K.cmp (put_at index entry self.old.0) }
         requires room { length self.old.0 + 1 < 2 ^ 64 }
-        ensures entries { OnOk result (self.new.0 ≡ with_entry K.cmp key value self.old.0) }
-        ensures not_lower { OnOk result (self.old.1 ≤ self.new.1) }
-        ensures not_higher { OnOk result (self.new.1 ≤ self.old.1 + 1) }
+        ensures entries { OnOk result (self.new.0 ≡ put_at index entry self.old.0) }
         ensures refused { OnErr result (self.new ≡ self.old) }
     {
-        let Some(handle) = &mut self.root else {
-            *self = Tree::leaf(alloc, key, value)?;
+        let Some(mut node) = self.take(alloc)? else {
+            self.put(Node::leaf(alloc, entry)?);
             return Ok(());
         };
-        let node = Arc::make_mut(handle, alloc)?;
-        node.make_way(alloc, &key)?;
-        match key.cmp(&node.entry.0) {
-            Ordering::Less => {
-                if node.left.height() > node.right.height() {
-                    *self = self.inserted(alloc, key, value)?;
-                    return Ok(());
-                }
-                node.left.insert(alloc, key, value)?;
-                node.update();
+        match node.insert(alloc, index, entry) {
+            Ok(grown) => {
+                self.put_grown(node, grown);
                 Ok(())
             }
-            Ordering::Equal => {
-                node.entry.1 = value;
-                Ok(())
+            Err(refused) => {
+                self.put(node);
+                Err(refused)
             }
-            Ordering::Greater => {
-                if node.right.height() > node.left.height() {
-                    *self = self.inserted(alloc, key, value)?;
-                    return Ok(());
+        }
+    }
+}
+
+impl<K: Ord + Clone, V: Clone> Node<K, V> {
+    // The same under this node. The side of the entry is taken out and put back, so that a rotation has what it needs.
+    #[tactic(auto, using(crate::proofs::Places::places))]
+    fn insert(
+        &mut self,
+        alloc: Global,
+        index: usize,
+        entry: (K, V),
+    ) -> Result<Grown<K, V>, AllocError>
+        requires copies_of_keys { CopiesAreEqual K.is_clone }
+        requires copies_of_values { CopiesAreEqual V.is_clone }
+        requires whole { IsNode K.cmp self.old }
+        requires within { index ≤ length (entries_of self.old) }
+        requires rising { IsRising K.cmp (put_at index entry (entries_of self.old)) }
+        requires room { length (entries_of self.old) + 1 < 2 ^ 64 }
+        ensures grown { IfOk result (IsGrown K.cmp self.old.height self.new) }
+        ensures entries { IfOk result (λ grown.
+            grown_entries self.new grown ≡ put_at index entry (entries_of self.old)) }
+        ensures refused { OnErr result (IsSame K.cmp self.old self.new) }
+    {
+        let before = self.left.len();
+        if index <= before {
+            let Some(mut child) = self.left.take(alloc)? else {
+                let leaf = Node::leaf(alloc, entry)?;
+                return Ok(self.grow_left(leaf));
+            };
+            match child.insert(alloc, index, entry) {
+                Ok(grown) => Ok(self.settle_left(child, grown)),
+                Err(refused) => {
+                    self.left.put(child);
+                    Err(refused)
                 }
-                node.right.insert(alloc, key, value)?;
-                node.update();
-                Ok(())
+            }
+        } else {
+            let Some(mut child) = self.right.take(alloc)? else {
+                let leaf = Node::leaf(alloc, entry)?;
+                return Ok(self.grow_right(leaf));
+            };
+            match child.insert(alloc, index - before - 1, entry) {
+                Ok(grown) => Ok(self.settle_right(child, grown)),
+                Err(refused) => {
+                    self.right.put(child);
+                    Err(refused)
+                }
             }
         }
     }

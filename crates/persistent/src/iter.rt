@@ -1,12 +1,14 @@
 //! The entries of a map, one after another.
-ghost use Rattle.std.specs.Prelude.{◌≡◌, IfSome, Some, length, ⊤};
+ghost use Rattle.std.specs.Prelude.{◌≡◌, IfSome, Some, length, slice_range, ⊤};
 ghost use Rattle.std.specs.Iterator.{UpTo, YieldsFirstRef, YieldsLastRef, item_count};
 ghost use Rattle.std.specs.Iterator.SizeHint.{IsWithinCount};
+ghost use Rattle.persistent.specs.Maps.{rank};
 
 use crate::map::TreeMap;
 use std::alloc::AllocError;
 use std::iter::FusedIterator;
 use std::marker::Model;
+use std::ops::Range;
 
 /// An iterator over the entries of a `TreeMap`, in the order of their keys.
 ///
@@ -52,6 +54,22 @@ impl<K: Ord, V> TreeMap<K, V> {
         ensures { result ≡ self.now }
     {
         self.into_iter()
+    }
+
+    /// An iterator over the entries whose keys are in the range, in the order of their keys. There are none if the
+    /// range ends before it starts.
+    #[tactic(auto, using(crate::proofs::Ranges::ranges))]
+    pub fn range(&self, keys: Range<&K>) -> Iter<'_, K, V>
+        ensures { result ≡ slice_range self.now
+            (rank K.cmp keys.entry.start.now self.now) (rank K.cmp keys.entry.end.now self.now) }
+    {
+        let from = self.rank(keys.start);
+        let to = self.rank(keys.end).max(from);
+        Iter {
+            map: self,
+            from,
+            to,
+        }
     }
 }
 

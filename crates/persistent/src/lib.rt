@@ -2,10 +2,9 @@
 //! old one stays.
 #![tactic(auto)]
 
-mod balance;
 mod compare;
+mod grow;
 mod insert;
-mod inserted;
 mod iter;
 mod links;
 mod list;
@@ -13,9 +12,13 @@ mod list_iter;
 mod make;
 mod map;
 mod numbered;
-mod removed;
-mod rotate;
+mod own;
+mod place;
+mod remove;
+mod set;
 mod tree;
+mod turn;
+mod way;
 
 pub use iter::Iter;
 pub use list::List;

@@ -1,59 +1,58 @@
-//! How nodes are made.
-ghost use Rattle.std.specs.Prelude.{◌≡◌, ◌+◌, ◌∷◌, [], IfOk, max};
-ghost use Rattle.servo_arc.specs.Copies.{CopiesAreEqual};
+//! How nodes are made, copied and counted.
+ghost use Rattle.std.specs.Prelude.{◌≡◌, ◌+◌, ◌^◌, ◌<◌, ◌∷◌, [], IfOk, length, max};
 ghost use Rattle.persistent.specs.Maps.{IsRising};
-ghost use Rattle.persistent.specs.Nodes.{around, DifferByAtMost, IsCopy, IsNode, entries_of};
+ghost use Rattle.persistent.specs.Nodes.{DifferByAtMost, IsCopy, IsNode, entries_of};
 
 use crate::tree::{Node, Tree};
-use servo_arc::Arc;
+use servo_arc::UniqueArc;
 use std::alloc::{AllocError, Global};
 
-impl<K: Ord + Drop, V: Drop> Tree<K, V> {
-    // The tree of this entry between these trees.
-    pub(crate) fn node(
-        alloc: Global,
-        left: Tree<K, V>,
-        entry: (K, V),
-        right: Tree<K, V>,
-    ) -> Result<Tree<K, V>, AllocError>
-        requires rising { IsRising K.cmp (around left entry right) }
-        requires level { DifferByAtMost 1 left.1 right.1 }
-        ensures { IfOk result (λ tree. tree ≡ (around left entry right, max left.1 right.1 + 1)) }
+impl<K: Ord, V> Node<K, V> {
+    // Counts the entries and the height anew, where a side has changed.
+    pub(crate) fn update(&mut self)
+        requires rising { IsRising K.cmp (entries_of self.old) }
+        requires level { DifferByAtMost 1 self.old.left.1 self.old.right.1 }
+        requires room { length (entries_of self.old) < 2 ^ 64 }
+        ensures whole { IsNode K.cmp self.new }
+        ensures entries { entries_of self.new ≡ entries_of self.old }
+        ensures height { self.new.height ≡ max self.old.left.1 self.old.right.1 + 1 }
+        ensures left { self.new.left ≡ self.old.left }
+        ensures right { self.new.right ≡ self.old.right }
     {
-        let beside = left.len().checked_add(right.len()).ok_or(AllocError)?;
-        let len = beside.checked_add(1).ok_or(AllocError)?;
-        let (low, high) = (left.height(), right.height());
-        let height = low.max(high) + 1;
-        Tree::of(
-            alloc,
-            Node {
-                len,
-                height,
-                left,
-                entry,
-                right,
-            },
-        )
-    }
-
-    fn of(alloc: Global, node: Node<K, V>) -> Result<Tree<K, V>, AllocError>
-        requires { IsNode K.cmp node }
-        ensures { IfOk result (λ tree. tree ≡ (entries_of node, node.height)) }
-    {
-        match Arc::new(alloc, node) {
-            Ok(node) => Ok(Tree { root: Some(node) }),
-            Err(_) => Err(AllocError),
-        }
+        self.len = self.left.len() + self.right.len() + 1;
+        self.height = self.left.height().max(self.right.height()) + 1;
     }
 }
 
-impl<K: Ord + Drop, V: Drop> Tree<K, V> {
-    // The tree of one entry.
+impl<K: Ord + Drop, V: Drop> Node<K, V> {
+    // The node of one entry.
     #[tactic(auto, using(crate::proofs::Order::rising_one))]
-    pub(crate) fn leaf(alloc: Global, key: K, value: V) -> Result<Tree<K, V>, AllocError>
-        ensures { IfOk result (λ tree. tree ≡ ((key, value) ∷ [], 1)) }
+    pub(crate) fn leaf(alloc: Global, entry: (K, V)) -> Result<UniqueArc<Node<K, V>>, AllocError>
+        ensures whole { IfOk result (IsNode K.cmp) }
+        ensures entry { IfOk result (λ node. entries_of node ≡ entry ∷ []) }
+        ensures height { IfOk result (λ node. node.height ≡ 1) }
     {
-        Tree::node(alloc, Tree::new(), (key, value), Tree::new())
+        let mut node = Node {
+            len: 1,
+            height: 1,
+            left: Tree::new(),
+            entry,
+            right: Tree::new(),
+        };
+        node.update();
+        Node::block(alloc, node)
+    }
+
+    pub(crate) fn block(
+        alloc: Global,
+        node: Node<K, V>,
+    ) -> Result<UniqueArc<Node<K, V>>, AllocError>
+        ensures { IfOk result (λ block. block ≡ node) }
+    {
+        match UniqueArc::new(alloc, node) {
+            Ok(block) => Ok(block),
+            Err(_) => Err(AllocError),
+        }
     }
 }
 
@@ -73,15 +72,4 @@ impl<K: Ord + Clone, V: Clone> Clone for Node<K, V> {
             right: self.right.clone()?,
         })
     }
-}
-
-// A copy of an entry.
-pub(crate) fn clone_entry<K: Clone, V: Clone>(entry: &(K, V)) -> Result<(K, V), AllocError>
-    requires copies_of_keys { CopiesAreEqual K.is_clone }
-    requires copies_of_values { CopiesAreEqual V.is_clone }
-    ensures { IfOk result (λ made. made ≡ entry.now) }
-{
-    let (key, value) = entry;
-    let key = key.clone()?;
-    Ok((key, value.clone()?))
 }

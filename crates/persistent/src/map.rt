@@ -4,7 +4,7 @@ ghost use Rattle.std.specs.Prelude.{◌-◌, None, Some, IfOk, OnOk, OnErr, cond
 ghost use Rattle.std.specs.Option.{option_copied};
 ghost use Rattle.std.specs.Ordering.{is_eq};
 ghost use Rattle.servo_arc.specs.Copies.{CopiesAreEqual};
-ghost use Rattle.persistent.specs.Maps.{IsRising, lookup, with_entries, with_entry, without};
+ghost use Rattle.persistent.specs.Maps.{IsRising, lookup, rank, with_entries, with_entry, without};
 
 use crate::tree::Tree;
 use servo_arc::Arc;
@@ -90,6 +90,18 @@ impl<K: Ord, V> TreeMap<K, V> {
         self.get(key).is_some()
     }
 
+    /// How many keys are below this one: the number of its entry, if there is one.
+    #[tactic(auto, using(crate::proofs::Rank::rank_most))]
+    pub fn rank(&self, key: &K) -> usize
+        ensures rank { result ≡ rank K.cmp key.now self.now }
+        ensures within { result ≤ length self.now }
+    {
+        match self.tree.place(key) {
+            Ok(index) => index,
+            Err(index) => index,
+        }
+    }
+
     /// The entry of that number, counted from 0 in the order of the keys, in as many steps as the tree is deep.
     pub fn entry(&self, index: usize) -> Option<&(K, V)>
         ensures { option_copied result ≡ slice_get self.now index }
@@ -141,11 +153,11 @@ impl<K: Ord + Clone, V: Clone> TreeMap<K, V> {
             ≡ cond (is_eq (K.cmp k key)) (Some value) (lookup K.cmp k self.old)) }
         ensures refused { OnErr result (self.new ≡ self.old) }
     {
-        if self.len() == usize::MAX {
-            return Err(AllocError);
+        match self.tree.place(&key) {
+            Ok(index) => Ok(self.tree.set(alloc, index, value)?),
+            Err(_) if self.len() == usize::MAX => Err(AllocError),
+            Err(index) => Ok(self.tree.insert(alloc, index, (key, value))?),
         }
-        self.tree.insert(alloc, key, value)?;
-        Ok(())
     }
 
     /// Takes the entry of the key out, and gives its value, if there is one.
@@ -161,11 +173,10 @@ impl<K: Ord + Clone, V: Clone> TreeMap<K, V> {
             ≡ cond (is_eq (K.cmp k key.now)) None (lookup K.cmp k self.old)) }
         ensures refused { OnErr result (self.new ≡ self.old) }
     {
-        let Some(value) = self.get(key) else {
+        let Ok(index) = self.tree.place(key) else {
             return Ok(None);
         };
-        let value = value.clone()?;
-        self.tree = self.tree.removed(alloc, key)?;
+        let (_, value) = self.tree.remove(alloc, index)?;
         Ok(Some(value))
     }
 }

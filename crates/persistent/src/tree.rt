@@ -1,5 +1,5 @@
 //! A balanced tree of entries, seen as its entries and its height.
-ghost use Rattle.std.specs.Prelude.{◌≡◌, ◌≤◌, [], length};
+ghost use Rattle.std.specs.Prelude.{◌≡◌, ◌<◌, ◌≤◌, ◌⊎◌, [], IsTrue, length};
 ghost use Rattle.std.specs.Option.{option_copied};
 ghost use Rattle.persistent.specs.Maps.{IsRising, lookup};
 ghost use Rattle.persistent.specs.Nodes.{FitsHeight, IsTree, summary};
@@ -69,6 +69,13 @@ impl<K: Ord, V> Tree<K, V> {
             None => 0,
             Some(node) => node.len,
         }
+    }
+
+    pub(crate) fn is_empty(&self) -> bool
+        ensures empty { IsTrue result → self.now ≡ ([], 0) }
+        ensures some { IsTrue result ⊎ (0 < length self.now.0) }
+    {
+        self.root.is_none()
     }
 
     pub(crate) fn height(&self) -> u8

@@ -47,7 +47,7 @@ fn kept_none(tally: &Tally, made: u64) -> bool {
     lost == 4
 }
 
-// The first key goes down in place, the second by copies of its path, and the third by a rotation.
+// The first key goes to a side that is no higher, the second and the third to a side that grows: one turns.
 #[test]
 fn a_refused_insert_leaves_both_versions(rt: HostRuntime) {
     let tally = Tally::new();

@@ -54,6 +54,18 @@ fn entries_come_in_order_from_either_end(rt: HostRuntime) {
     );
 }
 
+// A range has the keys from its start on and below its end, whether or not these are keys of the map.
+#[test]
+fn a_range_is_half_open(rt: HostRuntime) {
+    let alloc = rt.alloc();
+    let items = ok!(&rt, vec![in alloc; (1, 'a'), (3, 'b'), (5, 'c'), (7, 'd')]);
+    let map = ok!(&rt, TreeMap::from_items(alloc, items));
+    holds!(&rt, map.range(&3..&7).eq(&[(3, 'b'), (5, 'c')]));
+    holds!(&rt, map.range(&2..&6).rev().map(|entry| entry.0).eq([5, 3]));
+    same!(&rt, [(0, 9), (4, 5), (7, 3)].map(|(start, end)| map.range(&start..&end).len()), [4, 0, 0]);
+    same!(&rt, [0, 3, 4, 9].map(|key| map.rank(&key)), [0, 1, 2, 4]);
+}
+
 const MANY: u64 = 1_000_000;
 
 // 2 log2 of one more than the keys.

@@ -28,25 +28,30 @@ fn living(tally: &Tally, made: u64) -> u64 {
         .wrapping_sub(tally.drops())
 }
 
-// Keys in order take single rotations alone, which a version does in place if it shares nothing.
+const ORDERS: [Order; 3] = [Order::Rising, Order::Falling, Order::Inward];
+
+// Every change is in place if the version shares nothing, whatever rotations it takes.
 #[test]
 fn a_lone_version_copies_nothing(rt: HostRuntime) {
-    for order in [Order::Rising, Order::Falling] {
+    for order in ORDERS {
         let tally = Tally::new();
-        let map = ok!(&rt, evens(rt.alloc(), &tally, order));
+        let mut map = ok!(&rt, evens(rt.alloc(), &tally, order));
         let found = (0..KEYS).all(|key| map.contains(&(2 * key)));
         same_at!(&rt, order, (found, tally.drops()), (true, 0));
-        drop(map);
-        same_at!(&rt, order, (tally.copies(), tally.drops()), (0, KEYS));
+        ok!(&rt, map.insert(rt.alloc(), 0, Counted::new(&tally, 9)));
+        same_at!(&rt, order, (tally.copies(), tally.drops()), (0, 1));
+        for key in 0..KEYS {
+            let removed = ok!(&rt, map.remove(rt.alloc(), &(2 * key)));
+            holds_at!(&rt, (order, key), removed.is_some());
+        }
+        same_at!(&rt, order, (tally.copies(), tally.drops()), (0, KEYS + 1));
+        holds_at!(&rt, order, map.is_empty());
     }
 }
 
-// Where a double rotation may be due, two or three of the path are copied twice.
-const TWICE: u64 = 3;
-
 #[test]
 fn an_insert_copies_its_path_alone(rt: HostRuntime) {
-    for order in [Order::Rising, Order::Inward] {
+    for order in ORDERS {
         let tally = Tally::new();
         let map = ok!(&rt, evens(rt.alloc(), &tally, order));
         let depth = u64::from(map.depth());
@@ -60,7 +65,7 @@ fn an_insert_copies_its_path_alone(rt: HostRuntime) {
             let copied = tally.copies().wrapping_sub(copies);
             let kept = living(&tally, 0).wrapping_sub(before);
             holds_at!(&rt, (order, key), kept <= depth);
-            holds_at!(&rt, (order, key), copied <= depth.wrapping_add(TWICE));
+            holds_at!(&rt, (order, key), copied <= depth);
             drop(version);
             same_at!(&rt, (order, key), living(&tally, 1), before);
         }

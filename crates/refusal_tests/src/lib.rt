@@ -15,7 +15,7 @@ mod shapes;
 #[cfg(test)]
 mod steps;
 #[cfg(test)]
-mod tables;
+mod table_calls;
 #[cfg(test)]
 mod telling;
 #[cfg(test)]

@@ -1,6 +1,3 @@
-pub mod Copies
-pub mod First
-pub mod Grown
 pub mod Heights
 pub mod Insertion
 pub mod Lookup
@@ -9,4 +6,4 @@ pub mod Order
 pub mod Places
 pub mod Ranges
 pub mod Rank
-pub mod Removal
+pub mod Summary

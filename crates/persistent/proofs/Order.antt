@@ -115,7 +115,6 @@ module _ {K V : Type 0} (cmp : K → K → Ordering) where
     above_more j k (e ∷ es) h a = (total.trans j k e.0 h a.0, above_more j k es h a.1)
 
     -- a key at or above an entry is above all before it
-    -- a key at or above an entry is above all before it
     pub over_right : (q : K) (l : List (K × V)) (e : K × V) (r : List (K × V)) → cmp q e.0 ≡ Greater
         → Rises (l ++ e ∷ r) → IsOver q l
     over_right q [] e r h s = tt

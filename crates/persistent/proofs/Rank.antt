@@ -1,7 +1,7 @@
 -- Where a key stands among entries that rise, and what a change does there.
-use Rattle.std.proofs.Common.{◌≡◌, ℕ, ◌+◌, ◌<◌, ◌≤◌, suc, List, [], ◌∷◌, ◌++◌, length, cond}
+use Rattle.std.proofs.Common.{◌≡◌, ◌+◌, ◌<◌, ◌≤◌, suc, List, [], ◌∷◌, ◌++◌, length, cond}
 use Rattle.std.proofs.Common.{refl, ap, sym, ◌∙◌, arith, slice_get, true≢false}
-use Rattle.std.specs.Prelude.{Option, Some, None, is_some, true}
+use Rattle.std.specs.Prelude.{Some, None, is_some, true}
 use Rattle.std.specs.declared.cmp.Ordering.{Ordering}
 use Rattle.std.specs.declared.cmp.Ordering.TheVariants.{Less, Equal, Greater}
 use Rattle.std.specs.Cmp.{IsTotalOrder}
@@ -37,6 +37,31 @@ module _ {K V : Type 0} (cmp : K → K → Ordering) where
         | Equal ↦ omega arith
         | Greater ↦ omega (arith, rank_most q es)
       ]
+
+  -- a key that has no value
+  pub without_absent : (q : K) (es : List (K × V)) → lookup cmp q es ≡ None → without cmp q es ≡ es
+  unfolding without
+  without_absent q [] none = refl
+  without_absent q (x ∷ es) none =
+      elim (cmp q x.0) as (λ o. cond (is_eq o) (Some x.1) (lookup cmp q es) ≡ None
+      → match_ordering o (x ∷ es) es (x ∷ without cmp q es) ≡ x ∷ es) [
+        | Less ↦ λ none. refl
+        | Equal ↦ λ none. absurd (none-some x.1 (sym none))
+        | Greater ↦ λ none. ap (λ l. x ∷ l) (without_absent q es none)
+      ] none
+
+  pub with_absent : (q : K) (v : V) (es : List (K × V)) → lookup cmp q es ≡ None
+      → with_entry cmp q v es ≡ put_at (rank cmp q es) (q, v) es
+  unfolding with_entry rank put_at
+  with_absent q v [] none = refl
+  with_absent q v (x ∷ es) none =
+      elim (cmp q x.0) as (λ o. cond (is_eq o) (Some x.1) (lookup cmp q es) ≡ None
+      → match_ordering o ((q, v) ∷ x ∷ es) ((x.0, v) ∷ es) (x ∷ with_entry cmp q v es)
+      ≡ put_at (match_ordering o 0 0 (suc (rank cmp q es))) (q, v) (x ∷ es)) [
+        | Less ↦ λ none. refl
+        | Equal ↦ λ none. absurd (none-some x.1 (sym none))
+        | Greater ↦ λ none. ap (λ l. x ∷ l) (with_absent q v es none)
+      ] none
 
   module _ (total : IsTotalOrder cmp) where
     pub rank_right : (q : K) (l : List (K × V)) (e : K × V) (r : List (K × V)) → cmp q e.0 ≡ Greater
@@ -98,19 +123,6 @@ module _ {K V : Type 0} (cmp : K → K → Ordering) where
           | Equal ↦ λ o is at. ap (λ y. Some y.1) (sym (same_Some x e at))
           | Greater ↦ λ o is at. entry_found q es e (rising_rest cmp x es s) is at
         ] refl is at
-
-    pub with_absent : (q : K) (v : V) (es : List (K × V)) → lookup cmp q es ≡ None
-        → with_entry cmp q v es ≡ put_at (rank cmp q es) (q, v) es
-    unfolding with_entry rank put_at
-    with_absent q v [] none = refl
-    with_absent q v (x ∷ es) none =
-        elim (cmp q x.0) as (λ o. cond (is_eq o) (Some x.1) (lookup cmp q es) ≡ None
-        → match_ordering o ((q, v) ∷ x ∷ es) ((x.0, v) ∷ es) (x ∷ with_entry cmp q v es)
-        ≡ put_at (match_ordering o 0 0 (suc (rank cmp q es))) (q, v) (x ∷ es)) [
-          | Less ↦ λ none. refl
-          | Equal ↦ λ none. absurd (none-some x.1 (sym none))
-          | Greater ↦ λ none. ap (λ l. x ∷ l) (with_absent q v es none)
-        ] none
 
     pub with_found : (q : K) (v : V) (es : List (K × V)) → IsRising cmp es → is_some (lookup cmp q es) ≡ true
         → with_entry cmp q v es ≡ set_at (rank cmp q es) v es

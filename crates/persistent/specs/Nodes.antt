@@ -10,12 +10,6 @@ use Rattle.persistent.specs.declared.tree.Node.{Node}
 abbrev pub DifferByAtMost : ℕ → ℕ → ℕ → Type 0
 DifferByAtMost by l r = (l ≤ r + by) × (r ≤ l + by)
 
--- the height h of what trees of the heights l and r become once they are balanced
-pub record IsRebalanced (l r h : ℕ) : Type 0 where
-  pub not_lower : max l r ≤ h
-  pub not_higher : h ≤ max l r + 1
-  pub as_level : DifferByAtMost 1 l r → h ≡ max l r + 1
-
 module _ {K V : Type 0} where
   -- the entries between two trees, which are seen as their entries and heights
   abbrev pub around : List (K × V) × ℕ → K × V → List (K × V) × ℕ → List (K × V)

@@ -141,10 +141,9 @@ impl<K: Ord + Clone, V: Clone> TreeMap<K, V> {
 
     /// Puts the value under the key. An equal key stays, and the new one is dropped.
     ///
-    /// It writes a node that no other version has in place, and copies any other on the way to the key. Where a double
-    /// rotation may be due it copies the rest of the way. It is refused if there is no memory, if the `clone` of a key,
-    /// a value or a handle is, and at `usize::MAX` entries. The map then reads as it did, and the key and the value are
-    /// dropped.
+    /// It writes the nodes on the way to the key in place, but for those that other versions have, which it copies. It
+    /// is refused if there is no memory, if the `clone` of a key, a value or a handle is, and for a new key at
+    /// `usize::MAX` entries. The map then reads as it did, and the key and the value are dropped.
     pub fn insert(&mut self, alloc: Global, key: K, value: V) -> Result<(), AllocError>
         requires copies_of_keys { CopiesAreEqual K.is_clone }
         requires copies_of_values { CopiesAreEqual V.is_clone }
@@ -162,8 +161,9 @@ impl<K: Ord + Clone, V: Clone> TreeMap<K, V> {
 
     /// Takes the entry of the key out, and gives its value, if there is one.
     ///
-    /// It copies the nodes on the way to the key and below it to the next entry, and shares all others. It is refused
-    /// if there is no memory, or if the `clone` of a key, a value or a handle is. The map then reads as it did.
+    /// It writes in place, but for the nodes that other versions have: of those it copies the ones on the way to the
+    /// key and to the entry beside it, and what a rotation needs. It is refused if there is no memory, or if the
+    /// `clone` of a key, a value or a handle is. The map then reads as it did.
     pub fn remove(&mut self, alloc: Global, key: &K) -> Result<Option<V>, AllocError>
         requires copies_of_keys { CopiesAreEqual K.is_clone }
         requires copies_of_values { CopiesAreEqual V.is_clone }

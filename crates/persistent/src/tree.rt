@@ -91,7 +91,7 @@ impl<K: Ord, V> Tree<K, V> {
 
     // The first node, if there is one.
     #[inline(always)]
-    #[tactic(auto, using(crate::proofs::Copies::rising_summary))]
+    #[tactic(auto, using(crate::proofs::Summary::rising_summary))]
     pub(crate) fn root(&self) -> Option<&Node<K, V>>
         ensures same { summary (option_copied result) ≡ self.now }
         ensures whole { IsTree K.cmp (option_copied result) }

@@ -24,7 +24,7 @@ insert-requires-clause-rising g c =
     let es = c.self.inside.tree.0 in
     let key = c.args.key in
     let put =
-    with_absent cmp g.met.K.Ord.total key c.args.value es c.in-Err.ensures.found
+    with_absent cmp key c.args.value es c.in-Err.ensures.found
     ∙ ap (λ n. put_at n (key, c.args.value) es) (sym c.in-Err.ensures.rank) in
     subst (IsRising cmp) put (rising_with cmp g.met.K.Ord.total key c.args.value es c.in-Err.ensures.rising)
 
@@ -49,7 +49,7 @@ returns-in_ok-insert-in-Err-2-clause-entries g c =
     let key = c.args.key in
     let es = c.self.inside.tree.0 in
     c.in_ok-insert-in-Err-2.ensures.entries ∙ ap (λ n. put_at n (key, c.args.value) es) c.in-Err.ensures.rank
-    ∙ sym (with_absent cmp g.met.K.Ord.total key c.args.value es c.in-Err.ensures.found)
+    ∙ sym (with_absent cmp key c.args.value es c.in-Err.ensures.found)
     ∙ ap (with_entry cmp key c.args.value) c.self.view_is
 
 pub returns-in_ok-insert-in-Err-2-clause-changes : goal.returns-in_ok-insert-in-Err-2-clause-changes

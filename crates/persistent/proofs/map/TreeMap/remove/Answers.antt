@@ -4,8 +4,7 @@ use Rattle.std.specs.Prelude.{Some}
 use Rattle.persistent.specs.Maps.{IsRising, lookup, without}
 use Rattle.persistent.specs.Places.{without_at}
 use Rattle.persistent.proofs.Lookup.{lookup_without}
-use Rattle.persistent.proofs.Rank.{rank_within, without_found, entry_found}
-use Rattle.persistent.proofs.Removal.{without_absent}
+use Rattle.persistent.proofs.Rank.{rank_within, without_absent, without_found, entry_found}
 use Rattle.persistent.proofs.map.TreeMap.remove.Goals as goal
 
 pub returns-in_default-clause-entries : goal.returns-in_default-clause-entries

@@ -14,6 +14,8 @@ mod count_threads;
 #[cfg(test)]
 mod crossing;
 #[cfg(test)]
+mod documents;
+#[cfg(test)]
 mod last_value;
 #[cfg(test)]
 mod limits_on_threads;

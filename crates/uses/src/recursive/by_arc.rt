@@ -54,7 +54,7 @@ pub struct ArcsInArray {
     pub kids: [Option<Arc<ArcsInArray>>; 2],
 }
 
-#[derive(Drop, PartialEq)]
+#[derive(Drop)]
 pub struct VecInArc {
     pub value: u32,
     pub kids: Arc<Vec<VecInArc>>,
@@ -66,7 +66,7 @@ pub struct OptionInArc {
     pub next: Arc<Option<OptionInArc>>,
 }
 
-#[derive(Drop, PartialEq)]
+#[derive(Drop)]
 pub enum ArcInArc {
     End,
     More(Arc<Arc<ArcInArc>>),
@@ -87,14 +87,14 @@ pub struct Second {
 }
 
 /// In place of a union that leads back by both of its types.
-#[derive(Drop, PartialEq)]
+#[derive(Drop)]
 pub enum EitherWay {
     Left(u32, Option<Arc<EitherWay>>),
     Right(Option<Arc<EitherWay>>),
 }
 
 /// In place of a header that leads back.
-#[derive(Drop, PartialEq)]
+#[derive(Drop)]
 pub struct BesideHeader {
     pub above: Option<Arc<BesideHeader>>,
     pub letters: ThinArc<u32, u8>,

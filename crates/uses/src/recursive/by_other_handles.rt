@@ -8,7 +8,7 @@ pub struct Unique {
     pub next: Option<UniqueArc<Unique>>,
 }
 
-#[derive(Drop, Debug)]
+#[derive(Drop)]
 pub struct ArcInUnique {
     pub value: u32,
     pub next: Option<UniqueArc<Arc<ArcInUnique>>>,

@@ -13,7 +13,7 @@ pub struct Linked {
     pub next: Option<StaticArc<'static, Linked>>,
 }
 
-#[derive(Drop, Clone, Copy, Debug)]
+#[derive(Drop, Clone, Copy)]
 pub struct Named<'a> {
     pub name: &'a str,
     pub next: Option<StaticArc<'a, Named<'a>>>,
@@ -26,21 +26,21 @@ pub struct Generic<'a, T> {
     pub next: Option<StaticArc<'a, Generic<'a, T>>>,
 }
 
-#[derive(Drop, Debug)]
+#[derive(Drop)]
 pub struct StaticsInVec {
     pub value: u32,
     pub kids: Vec<StaticArc<'static, StaticsInVec>>,
 }
 
 #[cycle(static_first_and_second)]
-#[derive(Drop, Clone, Copy, PartialEq)]
+#[derive(Drop, Clone, Copy)]
 pub struct StaticFirst {
     pub value: u32,
     pub second: Option<StaticArc<'static, StaticSecond>>,
 }
 
 #[cycle(static_first_and_second)]
-#[derive(Drop, Clone, Copy, PartialEq)]
+#[derive(Drop, Clone, Copy)]
 pub struct StaticSecond {
     pub value: u32,
     pub first: Option<StaticArc<'static, StaticFirst>>,

@@ -63,7 +63,8 @@ returns-in_err-write_part-clause-wrote g c =
     c.in-Some.ensures.first answered (rw c.in_ok-appended.was at gathered) in
     let stop = stopped_by Output tt _ (rw c.in_err-write_part.ensures.fault at
     c.from_residual-in_err-write_part.ensures.1) in
-    stopped _ _ _ _ _ stop _ _ _ _ _ _ _ (rw append-nil at (more.after SomeLines [] _ stops)) appended c.in_err-write_part.ensures.begun
+    stopped _ _ _ _ _ stop _ _ _ _ _ _ _ (rw append-nil at (more.after SomeLines [] _ stops)) appended
+    c.in_err-write_part.ensures.begun
 
 pub loop-line-preserved-in_ok-write_part : goal.loop-line-preserved-in_ok-write_part
 loop-line-preserved-in_ok-write_part g c =

@@ -1,6 +1,6 @@
 #!/usr/bin/env bash
 # Refuses each single request for memory in turn: each test of crates/refusal_tests runs with its first request refused,
-# then with its second, until a run meets no refusal. What a run tells, and how many blocks it keeps to its end, is its
+# then with its second, until a run meets no refusal. What a run reports, and how many blocks it keeps to its end, is its
 # outcome. Those of all runs have to be just those of crates/refusal_tests/outcomes.txt.
 #
 #     gate/refused_memory.sh [PROGRAM]    the tests, built

@@ -2,23 +2,30 @@
 use crate::made::arc_of;
 use servo_arc::Arc;
 use std::collections::HashMap;
+use std::process::Abort;
 use test_support::{ok, same};
 
 #[test]
 fn a_map_is_keyed_by_handles(rt: HostRuntime) {
     let mut map = HashMap::new(rt.alloc());
     ok!(&rt, map.insert(arc_of(&rt, 7u32), 1u8));
-    let (seven, eight) = (arc_of(&rt, 7u32), arc_of(&rt, 8u32));
-    let found = [map.get(&seven).copied(), map.get(&eight).copied()];
-    same!(&rt, found, [Some(1), None]);
+    same!(&rt, map.get(&arc_of(&rt, 7)).copied(), Some(1));
+    same!(&rt, map.get(&arc_of(&rt, 8)).copied(), None);
+}
+
+fn handles_of(rt: &(impl Abort + AllocGlobal), numbers: &[u32]) -> Vec<Arc<u32>> {
+    let mut handles = Vec::new(rt.alloc());
+    for number in numbers {
+        ok!(rt, handles.push(arc_of(rt, *number)));
+    }
+    handles
 }
 
 #[test]
 fn handles_are_sorted(rt: HostRuntime) {
-    let handles = vec![in rt.alloc(); arc_of(&rt, 3u32), arc_of(&rt, 1u32), arc_of(&rt, 2u32)];
-    let mut handles = ok!(&rt, handles);
+    let mut handles = handles_of(&rt, &[3, 1, 2]);
     ok!(&rt, handles.sort());
-    let text = ok!(&rt, format!(in rt.alloc(); "{:?}", handles));
+    let text = ok!(&rt, format!(in rt.alloc(); "{handles:?}"));
     same!(&rt, text.as_str(), "[1, 2, 3]");
 }
 

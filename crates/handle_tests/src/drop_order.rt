@@ -3,7 +3,7 @@ ghost use Rattle.std.specs.Prelude.{◌==◌};
 ghost use Rattle.std.specs.Cmp.{on_per, partial_equiv_from_equiv};
 ghost use Rattle.std.proofs.lemmas.Cmp.{nat_eq_equiv};
 
-use servo_arc::{Arc, BuildError, HeaderSlice, UniqueArc};
+use servo_arc::{Arc, BuildError, UniqueArc};
 use std::alloc::{AllocError, Global};
 use std::process::Abort;
 use std::sync::atomic::AtomicU64;
@@ -67,61 +67,58 @@ fn in_turn(alloc: Global, number: u64, log: &Log) -> Result<IntoIter<Placed<'_>>
 /// So many items are asked for, so many are there, and so it is refused.
 type Row = (usize, u64, Option<BuildError>);
 
-type Built<'a> = Result<Arc<HeaderSlice<Placed<'a>, Placed<'a>>>, BuildError>;
+const OVER: Option<BuildError> = Some(BuildError::OverReported);
 
-fn built<'a>(
-    alloc: Global,
-    row: Row,
-    is_shared: bool,
-    log: &'a Log,
-) -> Result<Built<'a>, AllocError> {
-    let (num_items, number, _) = row;
-    let items = in_turn(alloc, number, log)?;
-    let header = Placed { turn: number, log };
-    if is_shared {
-        return Ok(Arc::from_header_and_iter_with_size(alloc, header, items, num_items));
-    }
-    match UniqueArc::from_header_and_iter_with_size(alloc, header, items, num_items) {
-        Ok(unique) => Ok(Ok(unique.shareable())),
-        Err(refusal) => Ok(Err(refusal)),
-    }
-}
+const UNDER: Option<BuildError> = Some(BuildError::UnderReported);
+
+const ROWS: [Row; 13] = [
+    (3, 3, None),
+    (3, 2, OVER),
+    (1, 2, UNDER),
+    (0, 1, UNDER),
+    (0, 0, None),
+    (usize::MAX, 0, Some(BuildError::Memory)),
+    (12, 12, None),
+    (13, 12, OVER),
+    (11, 12, UNDER),
+    (100, 100, None),
+    (101, 100, OVER),
+    (99, 100, UNDER),
+    (5000, 5000, None),
+];
 
 // All that was taken and then the header is dropped, each in its turn, and nothing before the slice is.
-fn drops_in_turn(rt: &(impl Abort + AllocGlobal), row: Row, is_shared: bool) {
+fn check<T: Drop>(rt: &impl Abort, row: Row, log: &Log, built: Result<T, BuildError>) {
     let (_, items, refusal) = row;
     let all = items.wrapping_add(1);
-    let log = Log::new();
-    let built = ok!(rt, built(rt.alloc(), row, is_shared, &log));
-    let before = if built.is_ok() { 0 } else { all };
+    let before = if refusal.is_none() { 0 } else { all };
     let seen = (built.as_ref().err().copied(), log.read());
-    same_at!(rt, (row, is_shared), seen, (refusal, (before, 0)));
+    same_at!(rt, row, seen, (refusal, (before, 0)));
     drop(built);
-    same_at!(rt, (row, is_shared), log.read(), (all, 0));
+    same_at!(rt, row, log.read(), (all, 0));
 }
 
 #[test]
 fn drops_items_in_order_and_then_the_header(rt: HostRuntime) {
-    let over = Some(BuildError::OverReported);
-    let under = Some(BuildError::UnderReported);
-    let rows = [
-        (3, 3, None),
-        (3, 2, over),
-        (1, 2, under),
-        (0, 1, under),
-        (0, 0, None),
-        (usize::MAX, 0, Some(BuildError::Memory)),
-        (12, 12, None),
-        (13, 12, over),
-        (11, 12, under),
-        (100, 100, None),
-        (101, 100, over),
-        (99, 100, under),
-        (5000, 5000, None),
-    ];
-    for row in rows {
-        drops_in_turn(&rt, row, true);
-        drops_in_turn(&rt, row, false);
+    for row in ROWS {
+        let (num_items, turn, _) = row;
+        let log = Log::new();
+        let items = ok!(&rt, in_turn(rt.alloc(), turn, &log));
+        let header = Placed { turn, log: &log };
+        let built = Arc::from_header_and_iter_with_size(rt.alloc(), header, items, num_items);
+        check(&rt, row, &log, built);
+    }
+}
+
+#[test]
+fn drops_items_of_a_unique_slice_in_order_and_then_the_header(rt: HostRuntime) {
+    for row in ROWS {
+        let (num_items, turn, _) = row;
+        let log = Log::new();
+        let items = ok!(&rt, in_turn(rt.alloc(), turn, &log));
+        let header = Placed { turn, log: &log };
+        let built = UniqueArc::from_header_and_iter_with_size(rt.alloc(), header, items, num_items);
+        check(&rt, row, &log, built);
     }
 }
 

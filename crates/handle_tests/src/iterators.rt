@@ -1,14 +1,14 @@
 // How often an iterator is asked, and what is built of what it answers.
 ghost use Rattle.std.specs.Prelude.{◌≤◌};
 
-use servo_arc::{Arc, BuildError, ThinArc, UniqueArc};
+use servo_arc::{Arc, BuildError, HeaderSlice, ThinArc, UniqueArc};
 use std::alloc::{AllocError, Global};
 use std::fmt::Debug;
 use std::process::Abort;
 use std::sync::atomic::AtomicU64;
 use std::sync::atomic::Ordering::SeqCst;
 use std::vec::IntoIter;
-use test_support::{ok, same, same_at};
+use test_support::{ok, same_at};
 
 // Gives these answers in turn and then only `None`, so that it may go on after a `None`, and counts how often it was
 // asked.
@@ -27,13 +27,8 @@ impl<T: Drop> Iterator for Answers<'_, T> {
     }
 }
 
-#[derive(Drop)]
-struct Row<'a, T> {
-    num_items: usize,
-    answers: &'a [Option<T>],
-    expected: Result<&'a [T], BuildError>,
-    asks: u64,
-}
+/// A number of items, what the iterator answers in turn, what is built, and how often something is asked.
+type Row<'a, T> = (usize, &'a [Option<T>], Result<&'a [T], BuildError>, u64);
 
 fn source_of<'a, T: Copy>(
     alloc: Global,
@@ -48,112 +43,75 @@ fn source_of<'a, T: Copy>(
 
 type Built<T> = Result<ThinArc<u8, T>, BuildError>;
 
+fn shared<T: Drop>(unique: Result<UniqueArc<HeaderSlice<u8, T>>, BuildError>) -> Built<T> {
+    match unique {
+        Ok(unique) => Ok(unique.shareable()),
+        Err(refusal) => Err(refusal),
+    }
+}
+
 fn check_built<T: Debug + PartialEq + Drop>(
     rt: &impl Abort,
-    row: &Row<T>,
+    row: &Row<'_, T>,
     built: Built<T>,
     asked: &AtomicU64,
 ) {
+    let (num_items, _, expected, asks) = row;
     match built {
-        Ok(slice) => same_at!(rt, row.num_items, Ok(slice.slice()), row.expected),
-        Err(refusal) => same_at!(rt, row.num_items, Err(refusal), row.expected),
+        Ok(slice) => same_at!(rt, *num_items, Ok(slice.slice()), *expected),
+        Err(refusal) => same_at!(rt, *num_items, Err(refusal), *expected),
     }
-    same_at!(rt, row.num_items, asked.load(SeqCst), row.asks);
+    same_at!(rt, *num_items, asked.load(SeqCst), *asks);
 }
 
-// Each row through both makers.
-fn check<T: Copy + Debug + PartialEq + Drop>(rt: &(impl Abort + AllocGlobal), row: &Row<T>) {
-    let alloc = rt.alloc();
+// The row through both makers.
+fn check<T: Copy + Debug + PartialEq + Drop>(rt: &(impl Abort + AllocGlobal), row: Row<'_, T>) {
+    let (num_items, answers, _, _) = row;
     let asked = AtomicU64::new(0);
-    let source = ok!(rt, source_of(alloc, row.answers, &asked));
-    let shared = Arc::from_header_and_iter_with_size(alloc, 7u8, source, row.num_items);
-    check_built(rt, row, shared, &asked);
+    let source = ok!(rt, source_of(rt.alloc(), answers, &asked));
+    let built = Arc::from_header_and_iter_with_size(rt.alloc(), 7u8, source, num_items);
+    check_built(rt, &row, built, &asked);
     let asked = AtomicU64::new(0);
-    let source = ok!(rt, source_of(alloc, row.answers, &asked));
-    let unique = UniqueArc::from_header_and_iter_with_size(alloc, 7u8, source, row.num_items);
-    let shared = match unique {
-        Ok(unique) => Ok(unique.shareable()),
-        Err(refusal) => Err(refusal),
-    };
-    check_built(rt, row, shared, &asked);
+    let source = ok!(rt, source_of(rt.alloc(), answers, &asked));
+    let built = UniqueArc::from_header_and_iter_with_size(rt.alloc(), 7u8, source, num_items);
+    check_built(rt, &row, shared(built), &asked);
 }
+
+const OVER: BuildError = BuildError::OverReported;
+
+const UNDER: BuildError = BuildError::UnderReported;
+
+const ROWS: [Row<'static, u64>; 12] = [
+    (3, &[Some(1), Some(2)], Err(OVER), 3),
+    (2, &[Some(1), Some(2), Some(3)], Err(UNDER), 3),
+    (0, &[Some(1)], Err(UNDER), 1),
+    (0, &[], Ok(&[]), 1),
+    (1, &[Some(1), None, Some(2)], Ok(&[1]), 2),
+    (2, &[Some(1), None, Some(2)], Err(OVER), 2),
+    (2, &[Some(1), Some(2), None, Some(3)], Ok(&[1, 2]), 3),
+    (3, &[Some(1), None, Some(2), Some(3)], Err(OVER), 2),
+    (0, &[None, Some(1)], Ok(&[]), 1),
+    (1, &[Some(1), Some(2), Some(3)], Err(UNDER), 2),
+    (usize::MAX, &[Some(1)], Err(BuildError::Memory), 0),
+    (usize::MAX / 8, &[Some(1)], Err(BuildError::Memory), 0),
+];
 
 #[test]
 fn asks_once_more_and_never_after_none(rt: HostRuntime) {
-    let rows = [
-        (3, &[Some(1), Some(2)][..], Err(BuildError::OverReported), 3),
-        (
-            2,
-            &[Some(1), Some(2), Some(3)][..],
-            Err(BuildError::UnderReported),
-            3,
-        ),
-        (0, &[Some(1)][..], Err(BuildError::UnderReported), 1),
-        (0, &[][..], Ok(&[][..]), 1),
-        (1, &[Some(1), None, Some(2)][..], Ok(&[1][..]), 2),
-        (
-            2,
-            &[Some(1), None, Some(2)][..],
-            Err(BuildError::OverReported),
-            2,
-        ),
-        (
-            2,
-            &[Some(1), Some(2), None, Some(3)][..],
-            Ok(&[1, 2][..]),
-            3,
-        ),
-        (
-            3,
-            &[Some(1), None, Some(2), Some(3)][..],
-            Err(BuildError::OverReported),
-            2,
-        ),
-        (0, &[None, Some(1)][..], Ok(&[][..]), 1),
-        (
-            1,
-            &[Some(1), Some(2), Some(3)][..],
-            Err(BuildError::UnderReported),
-            2,
-        ),
-        (usize::MAX, &[Some(1)][..], Err(BuildError::Memory), 0),
-        (usize::MAX / 8, &[Some(1)][..], Err(BuildError::Memory), 0),
-    ];
-    for (num_items, answers, expected, asks) in rows {
-        let row: Row<u64> = Row {
-            num_items,
-            answers,
-            expected,
-            asks,
-        };
-        check(&rt, &row);
+    for row in ROWS {
+        check(&rt, row);
     }
 }
 
+const WITHOUT_SIZE: [Row<'static, ()>; 2] = [
+    (3, &[Some(()), Some(()), Some(())], Ok(&[(), (), ()]), 4),
+    (usize::MAX, &[Some(()), Some(())], Err(OVER), 3),
+];
+
 #[test]
 fn takes_items_without_size(rt: HostRuntime) {
-    let rows = [
-        (
-            3,
-            &[Some(()), Some(()), Some(())][..],
-            Ok(&[(), (), ()][..]),
-            4,
-        ),
-        (
-            usize::MAX,
-            &[Some(()), Some(())][..],
-            Err(BuildError::OverReported),
-            3,
-        ),
-    ];
-    for (num_items, answers, expected, asks) in rows {
-        let row: Row<()> = Row {
-            num_items,
-            answers,
-            expected,
-            asks,
-        };
-        check(&rt, &row);
+    for row in WITHOUT_SIZE {
+        check(&rt, row);
     }
 }
 
@@ -201,22 +159,16 @@ fn boaster(claimed: usize, asked: &AtomicU64) -> Boasting<'_> {
     }
 }
 
+const BOASTS: [Row<'static, u8>; 2] = [(3, &[], Ok(&[2, 1, 0]), 1), (4, &[], Err(OVER), 1)];
+
 #[test]
 fn asks_the_iterator_for_the_number_once(rt: HostRuntime) {
-    let alloc = rt.alloc();
-    let asked = AtomicU64::new(0);
-    let rows = [(3, Ok(&[2, 1, 0][..])), (4, Err(BuildError::OverReported))];
-    for (claimed, expected) in rows {
-        let shared = Arc::from_header_and_iter(alloc, 1u8, boaster(claimed, &asked));
-        let unique = UniqueArc::from_header_and_iter(alloc, 1u8, boaster(claimed, &asked));
-        match shared {
-            Ok(slice) => same_at!(&rt, claimed, Ok(slice.slice()), expected),
-            Err(refusal) => same_at!(&rt, claimed, Err(refusal), expected),
-        }
-        match unique {
-            Ok(slice) => same_at!(&rt, claimed, Ok(slice.slice()), expected),
-            Err(refusal) => same_at!(&rt, claimed, Err(refusal), expected),
-        }
+    for row in BOASTS {
+        let asked = AtomicU64::new(0);
+        let built = Arc::from_header_and_iter(rt.alloc(), 1u8, boaster(row.0, &asked));
+        check_built(&rt, &row, built, &asked);
+        let asked = AtomicU64::new(0);
+        let built = UniqueArc::from_header_and_iter(rt.alloc(), 1u8, boaster(row.0, &asked));
+        check_built(&rt, &row, shared(built), &asked);
     }
-    same!(&rt, asked.load(SeqCst), 4);
 }

@@ -11,6 +11,8 @@ mod core_steps;
 #[cfg(test)]
 mod drop_order;
 #[cfg(test)]
+mod ending;
+#[cfg(test)]
 mod header_slices;
 #[cfg(test)]
 mod iterators;
@@ -31,6 +33,10 @@ mod pages;
 #[cfg(test)]
 mod put;
 #[cfg(test)]
+mod replies;
+#[cfg(test)]
+mod reporting;
+#[cfg(test)]
 mod same_blocks;
 #[cfg(test)]
 mod script_runs;
@@ -41,11 +47,7 @@ mod static_arcs;
 #[cfg(test)]
 mod table_rows;
 #[cfg(test)]
-mod telling;
-#[cfg(test)]
 mod texts;
-#[cfg(test)]
-mod told;
 #[cfg(test)]
 mod union_rows;
 #[cfg(test)]

@@ -3,8 +3,9 @@
 ghost use Rattle.servo_arc.specs.CountingWord.{IsLimit};
 
 use servo_arc::word::MAX_REFCOUNT;
-use servo_arc::{Arc, ArcUnion, BuildError, Full, ThinArc, UniqueArc};
+use servo_arc::{Arc, ArcUnion, Full, ThinArc, UniqueArc};
 use std::alloc::{AllocError, Global};
+use std::process::Abort;
 use std::sync::Wait;
 use test_support::{again, ok, same, same_at};
 
@@ -24,15 +25,12 @@ fn is_full(handle: &Arc<u64>, rt: &impl Wait) -> bool {
 fn a_third_handle_waits_for_a_drop(rt: HostRuntime) {
     let a = ok!(&rt, limited(rt.alloc(), 2));
     let b = again!(&rt, &a);
-    let are_full = (is_full(&a, &rt), is_full(&b, &rt));
     let refused = a.borrow_arc().clone_arc(&rt).err();
+    let seen = (is_full(&a, &rt), is_full(&b, &rt), refused);
+    same!(&rt, seen, (true, true, Some(Full)));
     drop(b);
     let c = ok!(&rt, Arc::clone(&a, &rt));
-    same!(
-        &rt,
-        (are_full, refused, *c, is_full(&c, &rt)),
-        ((true, true), Some(Full), 5, true),
-    );
+    same!(&rt, (*c, is_full(&c, &rt)), (5, true));
 }
 
 #[test]
@@ -53,13 +51,10 @@ fn a_copied_block_keeps_the_limit(rt: HostRuntime) {
     let mut a = ok!(&rt, limited(rt.alloc(), 2));
     let b = again!(&rt, &a);
     *ok!(&rt, Arc::make_mut(&mut a, rt.alloc())) = 9;
-    let c = ok!(&rt, Arc::clone(&a, &rt));
-    let d = ok!(&rt, Arc::clone(&b, &rt));
-    same!(
-        &rt,
-        (*c, *d, is_full(&a, &rt), is_full(&b, &rt)),
-        (9, 5, true, true),
-    );
+    for (handle, value) in [(&a, 9), (&b, 5)] {
+        let other = ok!(&rt, Arc::clone(handle, &rt));
+        same!(&rt, (*other, is_full(handle, &rt)), (value, true));
+    }
 }
 
 #[test]
@@ -68,15 +63,12 @@ fn tokens_count_to_the_limit(rt: HostRuntime) {
     let first = Arc::from_raw_addrefed(&raw, &rt);
     let second = Arc::from_raw_addrefed(&raw, &rt);
     let kept = Arc::from_raw(raw);
-    same!(
-        &rt,
-        (*ok!(&rt, first), second.err(), *kept),
-        (5, Some(Full), 5),
-    );
+    let seen = (*ok!(&rt, first), second.err(), *kept);
+    same!(&rt, seen, (5, Some(Full), 5));
 }
 
 /// What is done with the only handle of a block before its handles are counted.
-#[derive(Drop)]
+#[derive(Clone, Copy)]
 enum Way {
     Kept,
     Unique,
@@ -84,19 +76,15 @@ enum Way {
     WrittenInPlace,
     Copied,
     MarkedAndCopied,
-    First,
-    Second,
 }
 
-const WAYS: [(&str, Way); 8] = [
+const WAYS: [(&str, Way); 6] = [
     ("kept", Way::Kept),
     ("unique", Way::Unique),
     ("token", Way::Token),
     ("written in place", Way::WrittenInPlace),
     ("copied", Way::Copied),
     ("marked and copied", Way::MarkedAndCopied),
-    ("first of a union", Way::First),
-    ("second of a union", Way::Second),
 ];
 
 // More than sixteen bits can count, as the greatest of the limits is.
@@ -121,44 +109,84 @@ fn written(alloc: Global, mut handle: Arc<u64>) -> Result<Arc<u64>, AllocError> 
     Ok(handle)
 }
 
-fn counted_after(alloc: Global, way: Way, handle: Arc<u64>) -> Result<usize, AllocError> {
+fn after(alloc: Global, way: Way, handle: Arc<u64>) -> Result<Arc<u64>, AllocError> {
     match way {
-        Way::Kept => counted(alloc, &handle),
+        Way::Kept => Ok(handle),
         Way::Unique => match Arc::into_unique(handle) {
-            Ok(unique) => counted(alloc, &unique.shareable()),
+            Ok(unique) => Ok(unique.shareable()),
             Err(_) => Err(AllocError),
         },
-        Way::Token => counted(alloc, &Arc::from_raw(Arc::into_raw(handle))),
-        Way::WrittenInPlace => counted(alloc, &written(alloc, handle)?),
+        Way::Token => Ok(Arc::from_raw(Arc::into_raw(handle))),
+        Way::WrittenInPlace => written(alloc, handle),
         Way::Copied => {
             // At a limit of 1 there is no other, and the block is written in place.
             let _other = handle.clone().ok();
-            counted(alloc, &written(alloc, handle)?)
+            written(alloc, handle)
         }
         Way::MarkedAndCopied => {
             handle.mark_as_intentionally_leaked();
-            counted(alloc, &written(alloc, handle)?)
+            written(alloc, handle)
         }
-        Way::First => counted(alloc, &ArcUnion::<u64, u32>::from_first(handle)),
-        Way::Second => counted(alloc, &ArcUnion::<u32, u64>::from_second(handle)),
     }
 }
 
-fn counted_at(alloc: Global, limit: u64, way: Way) -> Result<usize, AllocError> {
+fn limited_if_it_can_be(alloc: Global, limit: u64) -> Result<Arc<u64>, AllocError> {
     if limit < 1 || MAX_REFCOUNT < limit {
         return Err(AllocError);
     }
-    counted_after(alloc, way, limited(alloc, limit)?)
+    limited(alloc, limit)
 }
 
 #[test]
 fn each_way_keeps_each_limit(rt: HostRuntime) {
     for limit in LIMITS {
         for (name, way) in WAYS {
-            let handles = counted_at(rt.alloc(), limit, way);
+            let handle = ok!(&rt, limited_if_it_can_be(rt.alloc(), limit));
+            let handle = ok!(&rt, after(rt.alloc(), way, handle));
+            let handles = counted(rt.alloc(), &handle);
             same_at!(&rt, (limit, name), handles, Ok(limit as usize));
         }
     }
+}
+
+#[test]
+fn unions_keep_each_limit(rt: HostRuntime) {
+    for limit in LIMITS {
+        let handle = ok!(&rt, limited_if_it_can_be(rt.alloc(), limit));
+        let first = ArcUnion::<u64, u32>::from_first(handle);
+        same_at!(&rt, limit, counted(rt.alloc(), &first), Ok(limit as usize));
+        let handle = ok!(&rt, limited_if_it_can_be(rt.alloc(), limit));
+        let second = ArcUnion::<u32, u64>::from_second(handle);
+        same_at!(&rt, limit, counted(rt.alloc(), &second), Ok(limit as usize));
+    }
+}
+
+// So far as handles can be counted in a test, no other maker has a limit.
+fn check_maker<T: Drop, E: Drop>(
+    rt: &(impl Abort + AllocGlobal),
+    name: &str,
+    made: Result<Arc<T>, E>,
+) {
+    let handle = ok!(rt, made);
+    same_at!(rt, name, counted(rt.alloc(), &handle), Ok(MANY));
+}
+
+#[test]
+fn other_makers_have_the_greatest_limit(rt: HostRuntime) {
+    let alloc = rt.alloc();
+    check_maker(
+        &rt,
+        "the greatest",
+        Arc::new_with_limit(alloc, 5u64, MAX_REFCOUNT),
+    );
+    check_maker(&rt, "new", Arc::new(alloc, 5u64));
+    check_maker(&rt, "of a value", Arc::from_value(alloc, 5u64));
+    check_maker(&rt, "default", Arc::<u64>::try_default(alloc));
+    let unique = ok!(&rt, UniqueArc::new(alloc, 5u64));
+    check_maker(&rt, "unique", Ok::<_, ()>(unique.shareable()));
+    let unwritten = ok!(&rt, UniqueArc::new_uninit(alloc));
+    let written = unwritten.write(5u64).shareable();
+    check_maker(&rt, "written", Ok::<_, ()>(written));
 }
 
 /// A copy of a block that is marked, or shared, has its limit.
@@ -168,56 +196,35 @@ fn copied(alloc: Global, made: Result<Arc<u64>, u64>) -> Result<Arc<u64>, u64> {
     written(alloc, handle).ok().ok_or(0)
 }
 
-fn counted_if_made<T: Drop, E>(
-    alloc: Global,
-    made: &Result<Arc<T>, E>,
-) -> Result<usize, AllocError> {
-    match made {
-        Ok(handle) => counted(alloc, handle),
-        Err(_) => Err(AllocError),
-    }
+#[test]
+fn copies_have_the_greatest_limit(rt: HostRuntime) {
+    let alloc = rt.alloc();
+    check_maker(&rt, "new", copied(alloc, Arc::new(alloc, 5u64)));
+    check_maker(&rt, "leaked", copied(alloc, Arc::new_leaked(alloc, 5u64)));
+    check_maker(&rt, "static", copied(alloc, Arc::new_static(alloc, 5u64)));
 }
 
-// So far as handles can be counted in a test, no other maker has a limit.
-#[test]
-fn other_makers_have_the_greatest_limit(rt: HostRuntime) {
-    let alloc = rt.alloc();
-    let unwritten = ok!(&rt, UniqueArc::new_uninit(alloc));
-    let makers = [
-        Arc::new_with_limit(alloc, 5u64, MAX_REFCOUNT),
-        Arc::new(alloc, 5u64),
-        Arc::from_value(alloc, 5u64),
-        Arc::try_default(alloc),
-        Ok(ok!(&rt, UniqueArc::new(alloc, 5u64)).shareable()),
-        Ok(unwritten.write(5u64).shareable()),
-        copied(alloc, Arc::new(alloc, 5u64)),
-        copied(alloc, Arc::new_leaked(alloc, 5u64)),
-        copied(alloc, Arc::new_static(alloc, 5u64)),
-    ];
-    for (number, made) in makers.iter().enumerate() {
-        same_at!(&rt, number, counted_if_made(alloc, made), Ok(MANY));
-    }
-}
+type Thin = ThinArc<u64, u64>;
 
 #[test]
 fn builders_have_the_greatest_limit(rt: HostRuntime) {
-    let alloc = rt.alloc();
-    let unique = ok!(
-        &rt,
-        UniqueArc::from_header_and_iter(alloc, 5u64, [1].into_iter())
+    let (alloc, one) = (rt.alloc(), [1]);
+    let built: Result<Thin, _> = Arc::from_header_and_iter(alloc, 5, one.into_iter());
+    check_maker(&rt, "shared", built);
+    let built: Result<Thin, _> = Arc::from_header_and_iter_with_size(alloc, 5, one.into_iter(), 1);
+    check_maker(&rt, "with size", built);
+    let built: Result<Thin, _> = Arc::from_header_and_iter_alloc(
+        alloc,
+        5,
+        one.into_iter(),
+        1,
+        false,
     );
-    let counted_on = ok!(
-        &rt,
-        UniqueArc::from_header_and_iter_with_size(alloc, 5u64, [1].into_iter(), 1)
-    );
-    let builders: [Result<ThinArc<u64, u64>, BuildError>; 5] = [
-        Arc::from_header_and_iter(alloc, 5, [1].into_iter()),
-        Arc::from_header_and_iter_with_size(alloc, 5, [1].into_iter(), 1),
-        Arc::from_header_and_iter_alloc(alloc, 5, [1].into_iter(), 1, false),
-        Ok(unique.shareable()),
-        Ok(counted_on.shareable()),
-    ];
-    for (number, made) in builders.iter().enumerate() {
-        same_at!(&rt, number, counted_if_made(alloc, made), Ok(MANY));
-    }
+    check_maker(&rt, "alloc", built);
+    let unique = UniqueArc::from_header_and_iter(alloc, 5u64, one.into_iter());
+    let built: Thin = ok!(&rt, unique).shareable();
+    check_maker(&rt, "unique", Ok::<_, ()>(built));
+    let unique = UniqueArc::from_header_and_iter_with_size(alloc, 5u64, one.into_iter(), 1);
+    let built: Thin = ok!(&rt, unique).shareable();
+    check_maker(&rt, "unique with size", Ok::<_, ()>(built));
 }

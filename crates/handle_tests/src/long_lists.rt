@@ -1,10 +1,11 @@
 // The end of a list of a million nodes, each the only owner of the next. A loop takes the nodes apart one after the
 // other. A plain drop would be one drop inside the other, and may run out of stack.
+use crate::made::arc_of;
 use servo_arc::Arc;
-use std::alloc::Global;
+use std::process::Abort;
 use std::sync::atomic::AtomicU64;
 use std::sync::atomic::Ordering::SeqCst;
-use std::test::Fail;
+use test_support::same;
 
 const NODES: u64 = 1_000_000;
 
@@ -26,16 +27,13 @@ struct Node<'a> {
     next: Option<Arc<Node<'a>>>,
 }
 
-fn long_list(alloc: Global, drops: &AtomicU64) -> Result<Option<Arc<Node<'_>>>, Fail> {
-    let mut list = None;
+fn long_list<'a>(rt: &(impl Abort + AllocGlobal), drops: &'a AtomicU64) -> Option<Arc<Node<'a>>> {
+    let mut next = None;
     for _ in 0..NODES {
-        let node = Node {
-            value: Value { drops },
-            next: list,
-        };
-        list = Some(Arc::new(alloc, node).ok().ok_or("memory")?);
+        let value = Value { drops };
+        next = Some(arc_of(rt, Node { value, next }));
     }
-    Ok(list)
+    next
 }
 
 fn end_by_into_unique(mut list: Option<Arc<Node<'_>>>) {
@@ -57,11 +55,10 @@ fn end_by_into_inner(mut list: Option<Arc<Node<'_>>>) {
 }
 
 #[test]
-fn a_long_list_ends_in_a_loop(rt: HostRuntime) -> Result<(), Fail> {
+fn a_long_list_ends_in_a_loop(rt: HostRuntime) {
     let drops = AtomicU64::new(0);
-    end_by_into_unique(long_list(rt.alloc(), &drops)?);
-    assert_eq!(rt; drops.load(SeqCst), NODES);
-    end_by_into_inner(long_list(rt.alloc(), &drops)?);
-    assert_eq!(rt; drops.load(SeqCst), 2 * NODES);
-    Ok(())
+    end_by_into_unique(long_list(&rt, &drops));
+    same!(&rt, drops.load(SeqCst), NODES);
+    end_by_into_inner(long_list(&rt, &drops));
+    same!(&rt, drops.load(SeqCst), 2 * NODES);
 }

@@ -2,14 +2,24 @@
 use crate::by_bound::are_equal;
 use crate::made::arc_of;
 use servo_arc::{Arc, UniqueArc};
+use std::process::Abort;
 use test_support::counted::{Counted, Tally};
 use test_support::{again, ok, same};
+
+// Two handles of one block.
+fn two_of<'a>(
+    rt: &(impl Abort + AllocGlobal),
+    tally: &'a Tally,
+) -> (Arc<Counted<'a>>, Arc<Counted<'a>>) {
+    let a = arc_of(rt, Counted::new(tally, 5));
+    let b = again!(rt, &a);
+    (a, b)
+}
 
 #[test]
 fn the_last_handle_drops_the_value(rt: HostRuntime) {
     let tally = Tally::new();
-    let a = arc_of(&rt, Counted::new(&tally, 5));
-    let b = again!(&rt, &a);
+    let (a, b) = two_of(&rt, &tally);
     let both = (a.value, b.value);
     drop(a);
     let left = (b.value, tally.drops());
@@ -36,8 +46,7 @@ fn a_shared_value_is_not_written(rt: HostRuntime) {
 #[test]
 fn a_shared_value_is_copied_once_to_be_written(rt: HostRuntime) {
     let tally = Tally::new();
-    let mut a = arc_of(&rt, Counted::new(&tally, 5));
-    let b = again!(&rt, &a);
+    let (mut a, b) = two_of(&rt, &tally);
     ok!(&rt, Arc::make_mut(&mut a, rt.alloc())).value = 9;
     let are_unique = (a.is_unique(), b.is_unique());
     let copied = (a.value, b.value, tally.copies(), Arc::ptr_eq(&a, &b));
@@ -85,8 +94,7 @@ fn a_static_value_is_marked_from_the_start(rt: HostRuntime) {
 #[test]
 fn a_mark_may_be_set_twice(rt: HostRuntime) {
     let tally = Tally::new();
-    let a = arc_of(&rt, Counted::new(&tally, 1));
-    let b = again!(&rt, &a);
+    let (a, b) = two_of(&rt, &tally);
     let was_marked = a.is_static();
     a.mark_as_intentionally_leaked();
     b.mark_as_intentionally_leaked();
@@ -130,8 +138,14 @@ fn a_lone_handle_is_unique_again(rt: HostRuntime) {
     let a = arc_of(&rt, Counted::new(&tally, 5));
     let mut unique = ok!(&rt, Arc::into_unique(a));
     unique.value = 6;
-    let a = unique.shareable();
-    let b = again!(&rt, &a);
+    let kept = (unique.shareable().value, tally.copies());
+    same!(&rt, (kept, tally.drops()), ((6, 0), 1));
+}
+
+#[test]
+fn a_shared_handle_is_not_unique(rt: HostRuntime) {
+    let tally = Tally::new();
+    let (a, b) = two_of(&rt, &tally);
     let a = Arc::into_unique(a).err().expect(&rt, "unique");
     let refused = (a.value, b.value, Arc::ptr_eq(&a, &b), b.is_unique());
     drop(a);
@@ -141,15 +155,14 @@ fn a_lone_handle_is_unique_again(rt: HostRuntime) {
     same!(
         &rt,
         (refused, kept, tally.drops()),
-        ((6, 6, true, false), (6, 0, 0), 1),
+        ((5, 5, true, false), (5, 0, 0), 1),
     );
 }
 
 #[test]
 fn the_last_handle_gives_the_value(rt: HostRuntime) {
     let tally = Tally::new();
-    let a = arc_of(&rt, Counted::new(&tally, 5));
-    let b = again!(&rt, &a);
+    let (a, b) = two_of(&rt, &tally);
     let gave = Arc::into_inner(a).is_some();
     let last = Arc::into_inner(b).expect(&rt, "the last handle");
     let given = (last.value, tally.copies(), tally.drops());
@@ -170,16 +183,24 @@ fn an_unwritten_block_drops_no_value(rt: HostRuntime) {
     same!(&rt, (unwritten, written, tally.drops()), (0, (2, 0), 1));
 }
 
+// Whether two handles of one block are equal, and whether a unique one equals itself.
+fn equals_itself<T: PartialEq + Drop>(rt: &(impl Abort + AllocGlobal), value: T) -> [bool; 2] {
+    let a = arc_of(rt, value);
+    let b = again!(rt, &a);
+    let is_equal = a == b;
+    drop(b);
+    let unique = ok!(rt, Arc::into_unique(a));
+    [is_equal, unique == unique]
+}
+
 #[test]
 fn equality_asks_the_values(rt: HostRuntime) {
-    let a = arc_of(&rt, NeverEqual);
-    let b = again!(&rt, &a);
+    same!(&rt, equals_itself(&rt, NeverEqual), [false, false]);
+    same!(&rt, equals_itself(&rt, 4u64), [true, true]);
     let (c, d) = (arc_of(&rt, 4u64), arc_of(&rt, 4u64));
-    let same = (a == b, c == d);
-    drop(b);
-    let (a, c) = (ok!(&rt, Arc::into_unique(a)), ok!(&rt, Arc::into_unique(c)));
-    let unique = (a == a, are_equal(&c, &ok!(&rt, Arc::into_unique(d))));
-    same!(&rt, (same, unique), ((false, true), (false, true)));
+    same!(&rt, c == d, true);
+    let (c, d) = (ok!(&rt, Arc::into_unique(c)), ok!(&rt, Arc::into_unique(d)));
+    same!(&rt, are_equal(&c, &d), true);
 }
 
 #[derive(Drop)]

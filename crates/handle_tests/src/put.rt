@@ -1,58 +1,56 @@
 //! Handles that are made outside and put into a table.
+use crate::replies::parted;
 use servo_arc::table::{PlainCommand, Reply, Table};
 use servo_arc::{Arc, HeaderSlice, ThinArc};
 use std::process::Abort;
-use test_support::{again, ok, same};
+use test_support::{again, holds, ok, same};
 
 fn thin_of(rt: &(impl Abort + AllocGlobal), header: u32, items: &[u32]) -> ThinArc<u32, u32> {
-    let items = ok!(rt, items.to_vec(rt.alloc())).into_iter();
-    ok!(rt, Arc::from_header_and_iter(rt.alloc(), header, items))
+    ok!(rt, Arc::from_header_and_slice(rt.alloc(), header, items))
 }
 
-fn reads(table: &Table<HeaderSlice<u32, u32>>, i: usize, header: u32, items: &[u32]) -> bool {
+type Slices = Table<HeaderSlice<u32, u32>>;
+
+fn reads(table: &Slices, i: usize, header: u32, items: &[u32]) -> bool {
     match table.get(i) {
         Some(value) => value.header == header && value.slice() == items,
         None => false,
     }
 }
 
+/// Puts a slice into the first of two slots, shares it with the second, and drops the first.
+fn put_and_shared(rt: &(impl Abort + AllocGlobal)) -> Slices {
+    let mut table: Slices = ok!(rt, Table::new(rt.alloc(), 2));
+    holds!(rt, table.put(0, thin_of(rt, 1, &[5, 6])).is_ok());
+    let rows = vec![in rt.alloc();
+        (PlainCommand::Clone(0, 1), Reply::Done),
+        (PlainCommand::Same(0, 1), Reply::Is(true)),
+        (PlainCommand::PtrEq(0, 1), Reply::Is(true)),
+        (PlainCommand::Mark(0), Reply::Done),
+        (PlainCommand::Drop(0), Reply::Done),
+    ];
+    let (commands, expected) = ok!(rt, parted(rt.alloc(), ok!(rt, rows)));
+    same!(rt, ok!(rt, table.run_plain(rt.alloc(), commands)), expected);
+    table
+}
+
+fn has_kept_the_second(table: &Slices) -> bool {
+    table.get(0).is_none() && reads(table, 1, 1, &[5, 6])
+}
+
 #[test]
 fn a_header_slice_is_put_and_shared(rt: HostRuntime) {
-    let alloc = rt.alloc();
-    let mut table: Table<HeaderSlice<u32, u32>> = ok!(&rt, Table::new(alloc, 2));
-    let was_put = table.put(0, thin_of(&rt, 1, &[5, 6])).is_ok();
-    let commands = vec![in alloc;
-        PlainCommand::Clone(0, 1),
-        PlainCommand::Same(0, 1),
-        PlainCommand::PtrEq(0, 1),
-        PlainCommand::Mark(0),
-        PlainCommand::Drop(0),
-    ];
-    let replies = ok!(&rt, table.run_plain(alloc, ok!(&rt, commands)));
-    let expected = [
-        Reply::Done,
-        Reply::Is(true),
-        Reply::Is(true),
-        Reply::Done,
-        Reply::Done,
-    ];
-    same!(
-        &rt,
-        (was_put, replies.as_slice()),
-        (true, expected.as_slice()),
-    );
-    let before = (table.get(0).is_none(), reads(&table, 1, 1, &[5, 6]));
+    let mut table = put_and_shared(&rt);
+    holds!(&rt, has_kept_the_second(&table));
     let back = table.put(2, thin_of(&rt, 3, &[7]));
     let back = back.err().expect(&rt, "a third slot");
     same!(&rt, (back.header, back.slice()), (3, &[7][..]));
-    let after = (table.get(0).is_none(), reads(&table, 1, 1, &[5, 6]));
-    same!(&rt, (before, after), ((true, true), (true, true)));
+    holds!(&rt, has_kept_the_second(&table));
 }
 
 #[test]
 fn a_slot_has_the_handle_that_was_put(rt: HostRuntime) {
-    let alloc = rt.alloc();
-    let mut table: Table<HeaderSlice<u32, u32>> = ok!(&rt, Table::new(alloc, 2));
+    let mut table: Slices = ok!(&rt, Table::new(rt.alloc(), 2));
     let kept = thin_of(&rt, 1, &[5]);
     let was_put = table.put(1, again!(&rt, &kept)).is_ok();
     let was_unique = kept.is_unique();

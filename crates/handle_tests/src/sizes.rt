@@ -1,9 +1,9 @@
 // Long runs, many slots and a long slice: a cap that nobody asked for would refuse them.
 use cow_table::CowTable;
-use servo_arc::shared_count::SharedCount;
-use servo_arc::table::{Command, PlainCommand, Reply, Table, UnionCommand, UnionTable};
+use servo_arc::table::{Command, Reply, Table};
 use servo_arc::{Arc, ThinArc};
 use std::alloc::{AllocError, Global};
+use std::process::Abort;
 use test_support::{again, ok, same};
 
 // More than sixteen bits can count.
@@ -20,74 +20,49 @@ fn commands(alloc: Global) -> Result<Vec<Command<u32>>, AllocError> {
     Ok(commands)
 }
 
-fn plain_commands(alloc: Global) -> Result<Vec<PlainCommand<u32>>, AllocError> {
-    let mut commands = Vec::with_capacity(alloc, MANY)?;
-    for value in 0..PAIRS {
-        commands.push(PlainCommand::New(0, value))?;
-        commands.push(PlainCommand::Same(0, 0))?;
-    }
-    Ok(commands)
-}
-
-fn union_commands(alloc: Global) -> Result<Vec<UnionCommand<u32, u64>>, AllocError> {
-    let mut commands = Vec::with_capacity(alloc, MANY)?;
-    for value in 0..PAIRS {
-        commands.push(UnionCommand::First(0, value))?;
-        commands.push(UnionCommand::ReadFirst(0, value))?;
-    }
-    Ok(commands)
-}
-
 fn are_done_and_true(replies: &[Reply]) -> bool {
     let pair = [Reply::Done, Reply::Is(true)];
     replies.len() == MANY && replies.chunks(2).all(|replies| replies == pair.as_slice())
 }
 
 #[test]
-fn runs_take_many_commands(rt: HostRuntime) {
-    let alloc = rt.alloc();
-    let mut table = ok!(&rt, Table::new(alloc, 1));
-    let mut unions = ok!(&rt, UnionTable::new(alloc, 1));
-    let replies = ok!(&rt, table.run(alloc, ok!(&rt, commands(alloc))));
-    let plain = ok!(&rt, table.run_plain(alloc, ok!(&rt, plain_commands(alloc))));
-    let of_unions = ok!(&rt, unions.run(alloc, ok!(&rt, union_commands(alloc))));
-    let are_right = [
-        are_done_and_true(&replies),
-        are_done_and_true(&plain),
-        are_done_and_true(&of_unions),
-    ];
-    same!(&rt, (are_right, table.get(0)), ([true; 3], Some(&34_999)));
+fn a_run_takes_many_commands(rt: HostRuntime) {
+    let mut table = ok!(&rt, Table::new(rt.alloc(), 1));
+    let commands = ok!(&rt, commands(rt.alloc()));
+    let replies = ok!(&rt, table.run(rt.alloc(), commands));
+    let seen = (are_done_and_true(&replies), table.get(0));
+    same!(&rt, seen, (true, Some(&34_999)));
+}
+
+fn numbers(rt: &(impl Abort + AllocGlobal)) -> Vec<u32> {
+    ok!(rt, (0..70_000).collect(rt.alloc()))
 }
 
 #[test]
-fn lists_tables_and_counts_are_long(rt: HostRuntime) {
-    let alloc = rt.alloc();
-    let numbers: Vec<u32> = ok!(&rt, (0..70_000).collect(alloc));
-    let pages = ok!(&rt, CowTable::from_items(alloc, again!(&rt, &numbers), 1));
-    let list: ThinArc<u8, u32> = ok!(
-        &rt,
-        Arc::from_header_and_iter(alloc, 7, numbers.into_iter())
-    );
-    same!(
-        &rt,
-        (
-            list.len(),
-            list.slice().last(),
-            pages.len(),
-            pages.get(69_999)
-        ),
-        (MANY, Some(&69_999), MANY, Some(&69_999)),
-    );
+fn a_header_slice_is_long(rt: HostRuntime) {
+    let items = numbers(&rt).into_iter();
+    let list: ThinArc<u8, u32> = ok!(&rt, Arc::from_header_and_iter(rt.alloc(), 7, items));
+    let seen = (list.len(), list.slice().last());
+    same!(&rt, seen, (MANY, Some(&69_999)));
+}
+
+#[test]
+fn a_table_has_many_pages(rt: HostRuntime) {
+    let pages = ok!(&rt, CowTable::from_items(rt.alloc(), numbers(&rt), 1));
     let copy = again!(&rt, &pages);
     let shared = [
         CowTable::page_ptr_eq(&pages, &copy, 69_999),
         CowTable::page_ptr_eq(&pages, &copy, 70_000),
     ];
-    let (_count, passes) = ok!(&rt, SharedCount::open(alloc, MANY));
-    let is_refused = Table::<u32>::new(alloc, usize::MAX).is_err();
+    let seen = (pages.len(), pages.get(69_999), shared);
+    same!(&rt, seen, (MANY, Some(&69_999), [true, false]));
+}
+
+#[test]
+fn a_table_cannot_have_all_slots(rt: HostRuntime) {
     same!(
         &rt,
-        (shared, passes.len(), is_refused),
-        ([true, false], MANY, true),
+        Table::<u32>::new(rt.alloc(), usize::MAX).is_err(),
+        true
     );
 }

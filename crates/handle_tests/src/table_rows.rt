@@ -1,6 +1,6 @@
 //! What no clause says: that commands are served if memory is ample, and which of two allowed
 //! replies comes when. What `serve` replies is tested by the scripts of `script_runs`.
-use crate::told::parted;
+use crate::replies::parted;
 use servo_arc::table::{Command, PlainCommand, Reply, Table};
 use std::process::Abort;
 use test_support::{ok, same};
@@ -9,9 +9,9 @@ use test_support::{ok, same};
 fn check(
     rt: &(impl Abort + AllocGlobal),
     table: &mut Table<u32>,
-    told: Vec<(Command<u32>, Reply)>,
+    rows: Vec<(Command<u32>, Reply)>,
 ) {
-    let (commands, expected) = ok!(rt, parted(rt.alloc(), told));
+    let (commands, expected) = ok!(rt, parted(rt.alloc(), rows));
     same!(rt, ok!(rt, table.run(rt.alloc(), commands)), expected);
 }
 
@@ -25,7 +25,7 @@ fn reads(table: &Table<u32>) -> [Option<u32>; 3] {
 
 #[test]
 fn a_shared_value_is_copied_before_it_is_written(rt: HostRuntime) {
-    let told = vec![in rt.alloc();
+    let rows = vec![in rt.alloc();
         (Command::New(0, 5), Reply::Done),
         (Command::Clone(0, 1), Reply::Done),
         (Command::GetMut(0, 9), Reply::Shared),
@@ -36,13 +36,13 @@ fn a_shared_value_is_copied_before_it_is_written(rt: HostRuntime) {
         (Command::New(3, 1), Reply::NoSlot),
     ];
     let mut table = ok!(&rt, Table::new(rt.alloc(), 3));
-    check(&rt, &mut table, ok!(&rt, told));
+    check(&rt, &mut table, ok!(&rt, rows));
     same!(&rt, reads(&table), [Some(9), Some(5), None]);
 }
 
 #[test]
 fn a_marked_block_is_left_for_one_of_its_own(rt: HostRuntime) {
-    let told = vec![in rt.alloc();
+    let rows = vec![in rt.alloc();
         (Command::New(0, 4), Reply::Done),
         (Command::Mark(0), Reply::Done),
         (Command::Own(0), Reply::Done),
@@ -52,13 +52,13 @@ fn a_marked_block_is_left_for_one_of_its_own(rt: HostRuntime) {
         (Command::Raw(0), Reply::Done),
     ];
     let mut table = ok!(&rt, Table::new(rt.alloc(), 2));
-    check(&rt, &mut table, ok!(&rt, told));
+    check(&rt, &mut table, ok!(&rt, rows));
     same!(&rt, reads(&table), [Some(7), None, None]);
 }
 
 #[test]
 fn a_plain_run_shares_and_passes_handles_through_tokens(rt: HostRuntime) {
-    let told = vec![in rt.alloc();
+    let rows = vec![in rt.alloc();
         (PlainCommand::New(0, 5), Reply::Done),
         (PlainCommand::Clone(0, 1), Reply::Done),
         (PlainCommand::GetMut(0, 9), Reply::Shared),
@@ -73,7 +73,7 @@ fn a_plain_run_shares_and_passes_handles_through_tokens(rt: HostRuntime) {
         (PlainCommand::New(2, 1), Reply::NoSlot),
     ];
     let mut table = ok!(&rt, Table::new(rt.alloc(), 2));
-    let (commands, expected) = ok!(&rt, parted(rt.alloc(), ok!(&rt, told)));
+    let (commands, expected) = ok!(&rt, parted(rt.alloc(), ok!(&rt, rows)));
     same!(
         &rt,
         ok!(&rt, table.run_plain(rt.alloc(), commands)),
@@ -87,7 +87,7 @@ const SLOTS: usize = 70_000;
 
 #[test]
 fn high_slots_are_told_apart(rt: HostRuntime) {
-    let told = vec![in rt.alloc();
+    let rows = vec![in rt.alloc();
         (Command::New(69_999, 5), Reply::Done),
         (Command::New(69_998, 5), Reply::Done),
         (Command::Clone(69_999, 69_000), Reply::Done),
@@ -99,5 +99,5 @@ fn high_slots_are_told_apart(rt: HostRuntime) {
         (Command::Drop(70_000), Reply::NoSlot),
     ];
     let mut table = ok!(&rt, Table::new(rt.alloc(), SLOTS));
-    check(&rt, &mut table, ok!(&rt, told));
+    check(&rt, &mut table, ok!(&rt, rows));
 }

@@ -1,8 +1,5 @@
-//! Each function once, at the words on both sides of its rule.
-use servo_arc::word::{
-    ClonePlan, DropPlan, MARK, MAX_REFCOUNT, is_alone, is_last, is_marked, plan_clone, plan_drop,
-    with_mark,
-};
+//! The plan of a clone, at the words on both sides of its rule.
+use servo_arc::word::{ClonePlan, MARK, MAX_REFCOUNT, plan_clone};
 use test_support::same;
 
 #[test]
@@ -24,37 +21,4 @@ fn a_clone_is_planned_by_mark_and_limit(rt: HostRuntime) {
         ClonePlan::Static,
     ];
     same!(&rt, plans, expected);
-}
-
-fn said_of(word: u64) -> (bool, bool, bool, DropPlan) {
-    (
-        is_alone(word),
-        is_last(word),
-        is_marked(word),
-        plan_drop(word),
-    )
-}
-
-#[test]
-fn one_unmarked_handle_is_alone_and_last(rt: HostRuntime) {
-    let expected = [
-        (true, true, false, DropPlan::Lower),
-        (false, false, false, DropPlan::Lower),
-        (false, false, false, DropPlan::Lower),
-        (false, false, true, DropPlan::Static),
-        (false, false, true, DropPlan::Static),
-    ];
-    let found = [
-        said_of(1),
-        said_of(2),
-        said_of(9_223_372_036_854_775_807),
-        said_of(9_223_372_036_854_775_808),
-        said_of(9_223_372_036_854_775_809),
-    ];
-    same!(&rt, found, expected);
-    same!(
-        &rt,
-        (MARK, with_mark(5), with_mark(with_mark(5))),
-        (9_223_372_036_854_775_808, MARK + 5, MARK + 5)
-    );
 }

@@ -1,5 +1,5 @@
 // What a builder of header slices leaves.
-use crate::telling::tell;
+use crate::reporting::report;
 use servo_arc::{Arc, BuildError, HeaderSlice, UniqueArc};
 use std::alloc::{AllocError, Global};
 use std::io::Print;
@@ -7,7 +7,7 @@ use std::process::Abort;
 use std::sync::atomic::AtomicU64;
 use std::sync::atomic::Ordering::SeqCst;
 use test_support::counted::{Counted, Tally};
-use test_support::{same, same_at};
+use test_support::{ok, same, same_at};
 
 // What was asked of an iterator, and what was dropped.
 #[derive(Drop)]
@@ -104,7 +104,9 @@ type Counts<'a> = HeaderSlice<Counted<'a>, Counted<'a>>;
 
 type Built<'a> = Result<Arc<Counts<'a>>, BuildError>;
 
-fn shared<'a>(built: Result<UniqueArc<Counts<'a>>, BuildError>) -> Built<'a> {
+fn shared<'a, T: Drop, E>(
+    built: Result<UniqueArc<HeaderSlice<Counted<'a>, T>>, E>,
+) -> Result<Arc<HeaderSlice<Counted<'a>, T>>, E> {
     match built {
         Ok(unique) => Ok(unique.shareable()),
         Err(refusal) => Err(refusal),
@@ -143,7 +145,10 @@ fn check_builder(rt: &(impl Abort + Print + AllocGlobal), builder: Builder, len:
         }
         Err(refusal) => {
             same!(rt, refusal, BuildError::Memory);
-            tell!(rt, "{builder:?} of {len} items: nothing asked");
+            ok!(
+                rt,
+                println!(rt; "{builder:?} of {len} items: nothing asked")
+            );
             ([0, 1, 0], (9, len, [number.wrapping_add(1), 0, 0]))
         }
     };
@@ -199,7 +204,10 @@ fn check_list<T: Drop>(
             (slice.len(), ledger.asks_and_drops()),
             (row.1, [0; 3])
         ),
-        Err(AllocError) => tell!(rt, "{:?} of {} items: all dropped", row.0, row.1),
+        Err(AllocError) => ok!(
+            rt,
+            println!(rt; "{:?} of {} items: all dropped", row.0, row.1)
+        ),
     }
     same_at!(rt, row, ledger.asks_and_drops(), [0, 1, counted]);
 }
@@ -209,7 +217,7 @@ fn check_of_list(rt: &(impl Abort + Print + AllocGlobal), of: OfList, len: usize
     let numbers = [7u64; 100];
     let numbers = numbers.get(..len).unwrap_or(&[]);
     let Some(items) = counted_vector(alloc, &ledger.items, len) else {
-        return tell!(rt, "{of:?} of {len} items: no vector");
+        return ok!(rt, println!(rt; "{of:?} of {len} items: no vector"));
     };
     let (header, counted) = (ledger.header(), len as u64);
     match of {
@@ -219,7 +227,7 @@ fn check_of_list(rt: &(impl Abort + Print + AllocGlobal), of: OfList, len: usize
         }
         OfList::SliceUnique => {
             let built = UniqueArc::from_header_and_slice(alloc, header, numbers);
-            check_list(rt, row, 0, &ledger, built.map(|unique| unique.shareable()));
+            check_list(rt, row, 0, &ledger, shared(built));
         }
         OfList::Vector => {
             let built = Arc::from_header_and_vec(alloc, header, items);
@@ -227,13 +235,7 @@ fn check_of_list(rt: &(impl Abort + Print + AllocGlobal), of: OfList, len: usize
         }
         OfList::VectorUnique => {
             let built = UniqueArc::from_header_and_vec(alloc, header, items);
-            check_list(
-                rt,
-                row,
-                counted,
-                &ledger,
-                built.map(|unique| unique.shareable()),
-            );
+            check_list(rt, row, counted, &ledger, shared(built));
         }
     }
 }
@@ -258,7 +260,7 @@ fn a_builder_of_items_without_size_asks_for_its_block_alone(rt: HostRuntime) {
         Ok(slice) => same!(&rt, (slice.header, slice.len()), (9, 3)),
         Err(refusal) => {
             same!(&rt, refusal, BuildError::Memory);
-            tell!(&rt, "no block");
+            report(&rt, "no block");
         }
     }
 }

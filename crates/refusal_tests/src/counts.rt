@@ -1,5 +1,5 @@
 // What a shared count that could not be opened leaves.
-use crate::telling::tell;
+use crate::reporting::report;
 use servo_arc::shared_count::{EndReply, TryClone};
 use test_support::holds;
 use test_support::opened::open_two;
@@ -8,7 +8,7 @@ use test_support::opened::open_two;
 #[test]
 fn open_alone_takes_memory(rt: HostRuntime) {
     let Ok((count, mut p, mut q)) = open_two(rt.alloc()) else {
-        return tell!(&rt, "no count");
+        return report(&rt, "no count");
     };
     count.meet(&mut p, &mut q);
     holds!(&rt, count.try_clone(&mut p) == TryClone::Born);

@@ -1,5 +1,5 @@
 //! Tests in which one request for memory is refused: `gate/refused_memory.sh` refuses each of a test in turn. A test
-//! holds whichever it is, and tells what it came to. `outcomes.txt` has what all of them may come to, and have to.
+//! holds whichever it is, and reports what it came to. `outcomes.txt` has what all of them may come to, and have to.
 #![tactic(auto)]
 
 #[cfg(test)]
@@ -7,7 +7,11 @@ mod builders;
 #[cfg(test)]
 mod counts;
 #[cfg(test)]
+mod ending;
+#[cfg(test)]
 mod makers;
+#[cfg(test)]
+mod reporting;
 #[cfg(test)]
 mod scripts_run;
 #[cfg(test)]
@@ -16,8 +20,6 @@ mod shapes;
 mod steps;
 #[cfg(test)]
 mod table_calls;
-#[cfg(test)]
-mod telling;
 #[cfg(test)]
 mod trees;
 #[cfg(test)]

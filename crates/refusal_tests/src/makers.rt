@@ -1,12 +1,12 @@
 // What a call that makes a handle or copies its value leaves.
-use crate::telling::tell;
+use crate::reporting::report;
 use servo_arc::word::MAX_REFCOUNT;
 use servo_arc::{Arc, UniqueArc};
 use std::alloc::{AllocError, Global};
 use std::io::Print;
 use std::process::Abort;
 use test_support::counted::{Counted, Tally};
-use test_support::{holds, same};
+use test_support::{holds, ok, same};
 use uses::recursive::by_static::in_front;
 
 #[derive(Clone, Copy, Debug)]
@@ -43,7 +43,10 @@ fn made<T: Drop>(maker: Maker, alloc: Global, value: T) -> Result<Arc<T>, T> {
             Ok(unique) => Ok(unique.shareable()),
             Err(value) => Err(value),
         },
-        Maker::TryNew => Arc::try_new(alloc, value).map_err(|failed| failed.value),
+        Maker::TryNew => match Arc::try_new(alloc, value) {
+            Ok(handle) => Ok(handle),
+            Err(failed) => Err(failed.value),
+        },
         Maker::TryUnique => match UniqueArc::try_new(alloc, value) {
             Ok(unique) => Ok(unique.shareable()),
             Err(failed) => Err(failed.value),
@@ -61,7 +64,7 @@ fn a_refused_maker_hands_the_value_back(rt: HostRuntime) {
                 same!(&rt, (value.value, tally.drops()), (5, 0));
                 drop(value);
                 same!(&rt, tally.drops(), 1);
-                tell!(&rt, "{maker:?}: the value back");
+                ok!(&rt, println!(rt; "{maker:?}: the value back"));
             }
         }
     }
@@ -70,12 +73,12 @@ fn a_refused_maker_hands_the_value_back(rt: HostRuntime) {
 #[test]
 fn a_refused_static_node_is_none(rt: HostRuntime) {
     let Ok(last) = in_front(rt.alloc(), 1, None) else {
-        tell!(&rt, "no node");
+        report(&rt, "no node");
         return;
     };
     match in_front(rt.alloc(), 2, Some(last)) {
         Ok(first) => holds!(&rt, first > last && first.next == Some(last)),
-        Err(AllocError) => tell!(&rt, "one node"),
+        Err(AllocError) => report(&rt, "one node"),
     }
 }
 
@@ -83,7 +86,7 @@ fn a_refused_static_node_is_none(rt: HostRuntime) {
 fn a_refused_default_comes_back_and_an_unwritten_block_is_none(rt: HostRuntime) {
     match Arc::<u32>::try_default(rt.alloc()) {
         Ok(handle) => same!(&rt, *handle, 0),
-        Err(value) => tell!(&rt, "try_default: {value} back"),
+        Err(value) => ok!(&rt, println!(rt; "try_default: {value} back")),
     }
     let tally = Tally::new();
     match UniqueArc::new_uninit(rt.alloc()) {
@@ -91,11 +94,11 @@ fn a_refused_default_comes_back_and_an_unwritten_block_is_none(rt: HostRuntime) 
             let unique = unwritten.write(Counted::new(&tally, 5));
             same!(&rt, (unique.value, tally.drops()), (5, 0));
         }
-        Err(AllocError) => tell!(&rt, "new_uninit: no block"),
+        Err(AllocError) => report(&rt, "new_uninit: no block"),
     }
 }
 
-// Makes a block of that value, and drops it. A block that is kept past a size or at one limit is not given back.
+// Makes a block of that value, and drops it. A block that is kept past a size or at one limit is not freed.
 fn check_block<T: Drop>(
     rt: &(impl Abort + Print + AllocGlobal),
     value: T,
@@ -107,14 +110,14 @@ fn check_block<T: Drop>(
         Ok(handle) => drop(handle),
         Err(value) => {
             drop(value);
-            tell!(rt, "a block: the value back");
+            report(rt, "a block: the value back");
         }
     }
     same!(rt, tally.drops(), drops.wrapping_add(1));
 }
 
 #[test]
-fn blocks_of_each_size_and_limit_are_given_back(rt: HostRuntime) {
+fn blocks_of_each_size_and_limit_are_freed(rt: HostRuntime) {
     let tally = Tally::new();
     for limit in [1, 2, 3, 1000, MAX_REFCOUNT] {
         check_block(&rt, Counted::new(&tally, 5), limit, &tally);
@@ -137,7 +140,7 @@ fn has_sevens(handle: &Arc<Vec<u32>>, len: usize) -> bool {
 
 fn check_copy(rt: &(impl Abort + Print + AllocGlobal), len: usize, limit: u64) {
     let Some((mut a, b)) = shared_list(rt.alloc(), len, limit) else {
-        return tell!(rt, "the set-up");
+        return report(rt, "the set-up");
     };
     match Arc::make_mut(&mut a, rt.alloc()) {
         Ok(list) => {
@@ -146,7 +149,7 @@ fn check_copy(rt: &(impl Abort + Print + AllocGlobal), len: usize, limit: u64) {
         }
         Err(AllocError) => {
             holds!(rt, has_sevens(&a, len) && Arc::ptr_eq(&a, &b));
-            tell!(rt, "make_mut: the handle as before");
+            report(rt, "make_mut: the handle as before");
         }
     }
     holds!(rt, has_sevens(&b, len));

@@ -1,5 +1,5 @@
 // What a change of a rose tree or of a style leaves.
-use crate::telling::tell;
+use crate::reporting::report;
 use servo_arc::{Arc, ArcUnion};
 use std::alloc::{AllocError, Global};
 use test_support::counted::{Counted, Tally};
@@ -18,7 +18,7 @@ fn three<'a>(alloc: Global, tally: &'a Tally) -> Result<Rose<Counted<'a>>, Alloc
 fn a_refused_change_leaves_the_tree(rt: HostRuntime) {
     let tally = Tally::new();
     let Ok(old) = three(rt.alloc(), &tally) else {
-        return tell!(&rt, "the set-up");
+        return report(&rt, "the set-up");
     };
     let changed = old.with_value(rt.alloc(), &[1], Counted::new(&tally, 9));
     let values = old.children().iter().map(|child| child.value().value);
@@ -29,7 +29,7 @@ fn a_refused_change_leaves_the_tree(rt: HostRuntime) {
             same!(&rt, error, RoseError::Memory);
             // The new value, and the copies that were made by then.
             same!(&rt, tally.drops(), tally.copies().wrapping_add(1));
-            tell!(&rt, "a list of children or a node");
+            report(&rt, "a list of children or a node");
         }
     }
 }
@@ -42,7 +42,7 @@ fn a_refused_cascade_leaves_both_styles(rt: HostRuntime) {
     };
     let inline = Arc::new(rt.alloc(), Inline { declared });
     let (Ok(old), Ok(inline)) = (Style::initial(rt.alloc()), inline) else {
-        return tell!(&rt, "the set-up");
+        return report(&rt, "the set-up");
     };
     let mut new: Style = again!(&rt, &old);
     let taken = new.cascade(rt.alloc(), ArcUnion::from_second(inline));
@@ -51,7 +51,7 @@ fn a_refused_cascade_leaves_both_styles(rt: HostRuntime) {
         Ok(()) => same!(&rt, (new.font.size, new.border.width), (40, 2)),
         Err(AllocError) => {
             holds!(&rt, new == old);
-            tell!(&rt, "a copy of a group");
+            report(&rt, "a copy of a group");
         }
     }
 }
@@ -64,11 +64,11 @@ fn a_style_of_groups_of_its_own_takes_no_memory(rt: HostRuntime) {
     };
     let inline = Arc::new(rt.alloc(), Inline { declared });
     let (Ok(mut style), Ok(first)) = (Style::initial(rt.alloc()), inline) else {
-        return tell!(&rt, "the set-up");
+        return report(&rt, "the set-up");
     };
     let second = again!(&rt, &first);
     if let Err(AllocError) = style.cascade(rt.alloc(), ArcUnion::from_second(first)) {
-        return tell!(&rt, "a copy of a group that all styles share");
+        return report(&rt, "a copy of a group that all styles share");
     }
     ok!(
         &rt,

@@ -1,5 +1,5 @@
 // What a call on the core leaves, and a run of steps.
-use crate::telling::tell;
+use crate::reporting::report;
 use servo_arc::counting_core::{Answer, Core, Step};
 use servo_arc::word::MAX_REFCOUNT;
 use test_support::{ok, same};
@@ -14,7 +14,7 @@ fn a_core_hands_the_value_back(rt: HostRuntime) {
     for owners in [1usize, 2, 1000] {
         match Core::new(rt.alloc(), 5u32, owners.max(1), MAX_REFCOUNT) {
             Ok(mut core) => same!(&rt, core.step(LOAD), Answer::Value(5)),
-            Err(value) => tell!(&rt, "{owners} owners: {value} back"),
+            Err(value) => ok!(&rt, println!(rt; "{owners} owners: {value} back")),
         }
     }
 }
@@ -39,14 +39,14 @@ const STEPS: [Step<u32>; 5] = [
 #[test]
 fn one_refusal_in_a_run(rt: HostRuntime) {
     let Ok(mut core) = Core::new(rt.alloc(), 5u32, 2, MAX_REFCOUNT) else {
-        return tell!(&rt, "the set-up");
+        return report(&rt, "the set-up");
     };
     let answers = match core.run(&STEPS) {
         Ok(answers) => answers,
         Err(_) => {
-            tell!(&rt, "the room of the answers");
+            report(&rt, "the room of the answers");
             ok!(&rt, core.run(&STEPS))
         }
     };
-    tell!(&rt, "{:?}", answers.as_slice());
+    ok!(&rt, println!(rt; "{:?}", answers.as_slice()));
 }

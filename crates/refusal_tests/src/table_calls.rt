@@ -1,21 +1,21 @@
 // What a call on a table of handles, or on one of unions, leaves.
-use crate::telling::tell;
+use crate::reporting::report;
 use servo_arc::ArcUnionBorrow;
 use servo_arc::table::{Command, PlainCommand, Reply, Table};
 use servo_arc::union_table::{UnionCommand, UnionTable};
 use std::alloc::{AllocError, Global};
-use test_support::same;
+use test_support::{ok, same};
 
 #[test]
 fn a_refused_table_is_none(rt: HostRuntime) {
     for slots in [1usize, 3, 1000] {
         match Table::<u32>::new(rt.alloc(), slots) {
             Ok(table) => same!(&rt, table.slots(), slots),
-            Err(AllocError) => tell!(&rt, "{slots} slots: no table"),
+            Err(AllocError) => ok!(&rt, println!(rt; "{slots} slots: no table")),
         }
         match UnionTable::<u32, u32>::new(rt.alloc(), slots) {
             Ok(table) => same!(&rt, table.slots(), slots),
-            Err(AllocError) => tell!(&rt, "{slots} slots of unions: no table"),
+            Err(AllocError) => ok!(&rt, println!(rt; "{slots} slots of unions: no table")),
         }
     }
 }
@@ -36,20 +36,25 @@ fn shared_table(alloc: Global) -> Option<Table<u32>> {
 }
 
 fn slots_of(table: &Table<u32>) -> [Option<u32>; 4] {
-    [0, 1, 2, 3].map(|i| table.get(i).copied())
+    [
+        table.get(0).copied(),
+        table.get(1).copied(),
+        table.get(2).copied(),
+        table.get(3).copied(),
+    ]
 }
 
 #[test]
 fn one_refusal_in_a_run(rt: HostRuntime) {
     let commands = vec![in rt.alloc(); Command::MakeMut(0, 9), Command::Own(1), Command::New(3, 7)];
     let (Some(mut table), Ok(commands)) = (shared_table(rt.alloc()), commands) else {
-        return tell!(&rt, "the set-up");
+        return report(&rt, "the set-up");
     };
     match table.run(rt.alloc(), commands) {
-        Ok(replies) => tell!(&rt, "{:?}", replies.as_slice()),
-        Err(AllocError) => tell!(&rt, "the room of the replies"),
+        Ok(replies) => ok!(&rt, println!(rt; "{:?}", replies.as_slice())),
+        Err(AllocError) => report(&rt, "the room of the replies"),
     }
-    tell!(&rt, "{:?}", slots_of(&table));
+    ok!(&rt, println!(rt; "{:?}", slots_of(&table)));
 }
 
 #[test]
@@ -61,21 +66,21 @@ fn one_refusal_in_a_plain_run(rt: HostRuntime) {
         PlainCommand::Same(0, 1),
     ];
     let (Some(mut table), Ok(commands)) = (shared_table(rt.alloc()), commands) else {
-        return tell!(&rt, "the set-up");
+        return report(&rt, "the set-up");
     };
     match table.run_plain(rt.alloc(), commands) {
-        Ok(replies) => tell!(&rt, "{:?}", replies.as_slice()),
-        Err(AllocError) => tell!(&rt, "the room of the replies"),
+        Ok(replies) => ok!(&rt, println!(rt; "{:?}", replies.as_slice())),
+        Err(AllocError) => report(&rt, "the room of the replies"),
     }
-    tell!(&rt, "{:?}", slots_of(&table));
+    ok!(&rt, println!(rt; "{:?}", slots_of(&table)));
 }
 
 // Whether the slot's handle is a first, and its value.
 fn union_of(table: &UnionTable<u32, u32>, i: usize) -> Option<(bool, u32)> {
-    table.get(i).map(|handle| match handle {
-        ArcUnionBorrow::First(a) => (true, *a),
-        ArcUnionBorrow::Second(b) => (false, *b),
-    })
+    match table.get(i)? {
+        ArcUnionBorrow::First(a) => Some((true, *a)),
+        ArcUnionBorrow::Second(b) => Some((false, *b)),
+    }
 }
 
 #[test]
@@ -86,12 +91,16 @@ fn one_refusal_on_unions(rt: HostRuntime) {
         UnionCommand::Clone(1, 2),
     ];
     let (Ok(mut table), Ok(commands)) = (UnionTable::new(rt.alloc(), 3), commands) else {
-        return tell!(&rt, "the set-up");
+        return report(&rt, "the set-up");
     };
     match table.run(rt.alloc(), commands) {
-        Ok(replies) => tell!(&rt, "{:?}", replies.as_slice()),
-        Err(AllocError) => tell!(&rt, "the room of the replies"),
+        Ok(replies) => ok!(&rt, println!(rt; "{:?}", replies.as_slice())),
+        Err(AllocError) => report(&rt, "the room of the replies"),
     }
-    let slots = [0, 1, 2].map(|i| union_of(&table, i));
-    tell!(&rt, "{slots:?}");
+    let slots = [
+        union_of(&table, 0),
+        union_of(&table, 1),
+        union_of(&table, 2),
+    ];
+    ok!(&rt, println!(rt; "{slots:?}"));
 }

@@ -1,5 +1,5 @@
 // What a call on versions of a list or a map leaves.
-use crate::telling::tell;
+use crate::reporting::report;
 use persistent::{List, TreeMap};
 use std::alloc::{AllocError, Global};
 use test_support::counted::{Counted, Tally};
@@ -9,15 +9,16 @@ use test_support::{again, holds, same};
 fn a_refused_push_leaves_the_list(rt: HostRuntime) {
     let tally = Tally::new();
     let Ok(old) = List::new().push(rt.alloc(), Counted::new(&tally, 1)) else {
-        return tell!(&rt, "the set-up");
+        return report(&rt, "the set-up");
     };
     let pushed = old.push(rt.alloc(), Counted::new(&tally, 2));
-    holds!(&rt, old.iter().map(|item| item.value).eq([1]));
+    let first = old.first().expect(&rt, "an item").value;
+    same!(&rt, (first, old.len()), (1, 1));
     match pushed {
         Ok(new) => same!(&rt, (new.len(), tally.drops()), (2, 0)),
         Err(AllocError) => {
             same!(&rt, tally.drops(), 1);
-            tell!(&rt, "a node");
+            report(&rt, "a node");
         }
     }
 }
@@ -34,8 +35,18 @@ fn halves<'a>(alloc: Global, tally: &'a Tally) -> Result<Map<'a>, AllocError> {
 }
 
 fn has_halves(map: &Map<'_>) -> bool {
-    let found = map.iter().map(|(key, value)| (*key, value.value));
-    found.eq([(0, 0), (2, 1), (4, 2), (6, 3)])
+    let mut half = 0u64;
+    for (key, value) in map.iter() {
+        if *key != half.wrapping_mul(2) || value.value != half {
+            return false;
+        }
+        half = half.wrapping_add(1);
+    }
+    half == 4
+}
+
+fn value_at(map: &Map<'_>, key: u64) -> Option<u64> {
+    Some(map.get(&key)?.value)
 }
 
 // Whether all values were dropped that were made since, but for those of the map itself.
@@ -52,17 +63,17 @@ fn kept_none(tally: &Tally, made: u64) -> bool {
 fn a_refused_insert_leaves_both_versions(rt: HostRuntime) {
     let tally = Tally::new();
     let Ok(old) = halves(rt.alloc(), &tally) else {
-        return tell!(&rt, "the set-up");
+        return report(&rt, "the set-up");
     };
     for (made, key) in [(5, 1), (6, 3), (7, 7)] {
         let mut new = again!(&rt, &old);
         let inserted = new.insert(rt.alloc(), key, Counted::new(&tally, 9));
         holds!(&rt, has_halves(&old));
         match inserted {
-            Ok(()) => same!(&rt, new.get(&key).map(|value| value.value), Some(9)),
+            Ok(()) => same!(&rt, value_at(&new, key), Some(9)),
             Err(AllocError) => {
                 holds!(&rt, has_halves(&new));
-                tell!(&rt, "a node of the path or of the key");
+                report(&rt, "a node of the path or of the key");
             }
         }
         drop(new);
@@ -74,7 +85,7 @@ fn a_refused_insert_leaves_both_versions(rt: HostRuntime) {
 fn a_refused_remove_leaves_both_versions(rt: HostRuntime) {
     let tally = Tally::new();
     let Ok(old) = halves(rt.alloc(), &tally) else {
-        return tell!(&rt, "the set-up");
+        return report(&rt, "the set-up");
     };
     for key in [0, 2, 4, 6] {
         let mut new = again!(&rt, &old);
@@ -82,16 +93,13 @@ fn a_refused_remove_leaves_both_versions(rt: HostRuntime) {
         holds!(&rt, has_halves(&old));
         match removed {
             Ok(value) => {
-                let value = value.map(|value| value.value);
-                same!(
-                    &rt,
-                    (value, new.contains(&key), new.len()),
-                    (Some(key / 2), false, 3)
-                );
+                let value = value.expect(&rt, "a value").value;
+                let seen = (value, new.contains(&key), new.len());
+                same!(&rt, seen, (key / 2, false, 3));
             }
             Err(AllocError) => {
                 holds!(&rt, has_halves(&new));
-                tell!(&rt, "a node of the path");
+                report(&rt, "a node of the path");
             }
         }
         drop(new);

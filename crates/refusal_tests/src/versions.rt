@@ -1,5 +1,5 @@
 // What a call on versions of a list leaves.
-use crate::telling::tell;
+use crate::reporting::report;
 use cow_table::{CowTable, SetError};
 use std::alloc::{AllocError, Global};
 use test_support::counted::Tally;
@@ -10,13 +10,13 @@ use test_support::{holds, same};
 fn items_that_get_no_pages_are_dropped(rt: HostRuntime) {
     let tally = Tally::new();
     let Some(items) = counted_items(rt.alloc(), &tally, 5) else {
-        return tell!(&rt, "the set-up");
+        return report(&rt, "the set-up");
     };
     match CowTable::from_items(rt.alloc(), items, 2) {
         Ok(table) => same!(&rt, (table.len(), tally.drops()), (5, 0)),
         Err(AllocError) => {
             same!(&rt, tally.drops(), 5);
-            tell!(&rt, "a page, the list of pages or a block");
+            report(&rt, "a page, the list of pages or a block");
         }
     }
 }
@@ -32,10 +32,14 @@ fn versions(alloc: Global) -> Option<(CowTable<u32>, CowTable<u32>)> {
 #[test]
 fn a_refused_set_leaves_both_versions(rt: HostRuntime) {
     let Some((a, mut b)) = versions(rt.alloc()) else {
-        return tell!(&rt, "the set-up");
+        return report(&rt, "the set-up");
     };
     let set = b.set(rt.alloc(), 2, 9);
-    let shared = [0, 1, 2].map(|p| CowTable::page_ptr_eq(&a, &b, p));
+    let shared = [
+        CowTable::page_ptr_eq(&a, &b, 0),
+        CowTable::page_ptr_eq(&a, &b, 1),
+        CowTable::page_ptr_eq(&a, &b, 2),
+    ];
     holds!(&rt, a.iter().eq(&[1, 2, 3, 4, 5]));
     match set {
         Ok(()) => {
@@ -47,7 +51,7 @@ fn a_refused_set_leaves_both_versions(rt: HostRuntime) {
         Err(error) => {
             same!(&rt, error, SetError::Memory);
             holds!(&rt, b.iter().eq(&[1, 2, 3, 4, 5]) && shared == [true; 3]);
-            tell!(&rt, "the list of pages, the page or a block");
+            report(&rt, "the list of pages, the page or a block");
         }
     }
 }
@@ -76,7 +80,7 @@ fn originals(alloc: Global) -> Option<(CowTable<Original>, CowTable<Original>)> 
 #[test]
 fn a_refused_copy_leaves_both_versions(rt: HostRuntime) {
     let Some((a, mut b)) = originals(rt.alloc()) else {
-        return tell!(&rt, "the set-up");
+        return report(&rt, "the set-up");
     };
     same!(
         &rt,
@@ -93,7 +97,7 @@ fn a_refused_copy_leaves_both_versions(rt: HostRuntime) {
 #[test]
 fn a_lone_set_is_never_refused(rt: HostRuntime) {
     let Some((mut a, b)) = versions(rt.alloc()) else {
-        return tell!(&rt, "the set-up");
+        return report(&rt, "the set-up");
     };
     drop(b);
     for i in 0..5 {

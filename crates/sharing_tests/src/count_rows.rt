@@ -1,91 +1,89 @@
 // The worked rows of the shared count, in one thread.
 use servo_arc::shared_count::{EndReply, SharedCount, TryClone, laws};
-use std::test::Fail;
 use test_support::opened::{open_one, open_two};
+use test_support::{holds, ok, same};
 
 #[test]
-fn a_pass_alone_is_unique_and_ends_last(rt: HostRuntime) -> Result<(), Fail> {
-    let (count, mut p) = open_one(rt.alloc())?;
-    assert!(rt; p.owned() == 1);
-    assert!(rt; count.try_clone(&mut p) == TryClone::Born);
-    assert!(rt; p.owned() == 2);
-    assert!(rt; count.end(&mut p) == EndReply::Ended);
-    assert!(rt; count.is_unique(&mut p));
-    assert!(rt; count.end(&mut p) == EndReply::Last);
-    assert!(rt; p.owned() == 0);
-    Ok(())
+fn a_pass_alone_is_unique_and_ends_last(rt: HostRuntime) {
+    let (count, mut p) = ok!(&rt, open_one(rt.alloc()));
+    holds!(&rt, p.owned() == 1);
+    holds!(&rt, count.try_clone(&mut p) == TryClone::Born);
+    holds!(&rt, p.owned() == 2);
+    holds!(&rt, count.end(&mut p) == EndReply::Ended);
+    holds!(&rt, count.is_unique(&mut p));
+    holds!(&rt, count.end(&mut p) == EndReply::Last);
+    holds!(&rt, p.owned() == 0);
 }
 
 #[test]
-fn two_passes_see_each_other_in_the_replies(rt: HostRuntime) -> Result<(), Fail> {
-    let (count, mut p, mut q) = open_two(rt.alloc())?;
-    assert!(rt; !count.is_unique(&mut p));
-    assert!(rt; count.end(&mut q) == EndReply::Ended);
-    assert!(rt; count.is_unique(&mut p));
-    assert!(rt; count.try_clone(&mut p) == TryClone::Born);
-    assert!(rt; !count.is_unique(&mut p));
+fn two_passes_see_each_other_in_the_replies(rt: HostRuntime) {
+    let (count, mut p, mut q) = ok!(&rt, open_two(rt.alloc()));
+    holds!(&rt, !count.is_unique(&mut p));
+    holds!(&rt, count.end(&mut q) == EndReply::Ended);
+    holds!(&rt, count.is_unique(&mut p));
+    holds!(&rt, count.try_clone(&mut p) == TryClone::Born);
+    holds!(&rt, !count.is_unique(&mut p));
     count.mark(&mut p);
-    assert!(rt; count.is_static(&mut p));
-    assert!(rt; count.end(&mut p) == EndReply::Ended);
-    assert!(rt; count.end(&mut p) == EndReply::Ended);
-    let (other, mut alone) = open_one(rt.alloc())?;
-    assert!(rt; other.end(&mut alone) == EndReply::Last);
-    Ok(())
+    holds!(&rt, count.is_static(&mut p));
+    holds!(&rt, count.end(&mut p) == EndReply::Ended);
+    holds!(&rt, count.end(&mut p) == EndReply::Ended);
 }
 
 #[test]
-fn a_marked_count_never_ends_last(rt: HostRuntime) -> Result<(), Fail> {
-    let (count, mut p, mut q) = open_two(rt.alloc())?;
+fn a_pass_alone_ends_last(rt: HostRuntime) {
+    let (count, mut alone) = ok!(&rt, open_one(rt.alloc()));
+    holds!(&rt, count.end(&mut alone) == EndReply::Last);
+}
+
+#[test]
+fn a_marked_count_never_ends_last(rt: HostRuntime) {
+    let (count, mut p, mut q) = ok!(&rt, open_two(rt.alloc()));
     count.mark(&mut p);
-    assert!(rt; count.try_clone(&mut q) == TryClone::Born);
+    holds!(&rt, count.try_clone(&mut q) == TryClone::Born);
     count.meet(&mut p, &mut q);
-    assert!(rt; count.is_static(&mut p));
-    assert!(rt; count.end(&mut q) == EndReply::Ended);
-    assert!(rt; count.end(&mut q) == EndReply::Ended);
-    assert!(rt; count.end(&mut p) == EndReply::Ended);
-    Ok(())
+    holds!(&rt, count.is_static(&mut p));
+    holds!(&rt, count.end(&mut q) == EndReply::Ended);
+    holds!(&rt, count.end(&mut q) == EndReply::Ended);
+    holds!(&rt, count.end(&mut p) == EndReply::Ended);
 }
 
 #[test]
-fn two_counts_know_nothing_of_each_other(rt: HostRuntime) -> Result<(), Fail> {
-    let (one, mut p) = open_one(rt.alloc())?;
-    let (two, mut q) = open_one(rt.alloc())?;
+fn two_counts_know_nothing_of_each_other(rt: HostRuntime) {
+    let (one, mut p) = ok!(&rt, open_one(rt.alloc()));
+    let (two, mut q) = ok!(&rt, open_one(rt.alloc()));
     one.mark(&mut p);
-    assert!(rt; two.is_unique(&mut q));
-    assert!(rt; two.end(&mut q) == EndReply::Last);
-    assert!(rt; one.is_static(&mut p));
-    assert!(rt; one.end(&mut p) == EndReply::Ended);
-    Ok(())
+    holds!(&rt, two.is_unique(&mut q));
+    holds!(&rt, two.end(&mut q) == EndReply::Last);
+    holds!(&rt, one.is_static(&mut p));
+    holds!(&rt, one.end(&mut p) == EndReply::Ended);
 }
 
 // A clone that raised from the word of `is_unique` would be overtaken here.
 #[test]
-fn a_clone_reads_the_word_anew(rt: HostRuntime) -> Result<(), Fail> {
-    let (count, mut p, mut q) = open_two(rt.alloc())?;
-    assert!(rt; !count.is_unique(&mut p));
-    assert!(rt; count.end(&mut q) == EndReply::Ended);
-    assert!(rt; count.try_clone(&mut p) == TryClone::Born);
-    assert!(rt; p.owned() == 2);
-    assert!(rt; count.end(&mut p) == EndReply::Ended);
-    assert!(rt; count.end(&mut p) == EndReply::Last);
-    Ok(())
+fn a_clone_reads_the_word_anew(rt: HostRuntime) {
+    let (count, mut p, mut q) = ok!(&rt, open_two(rt.alloc()));
+    holds!(&rt, !count.is_unique(&mut p));
+    holds!(&rt, count.end(&mut q) == EndReply::Ended);
+    holds!(&rt, count.try_clone(&mut p) == TryClone::Born);
+    holds!(&rt, p.owned() == 2);
+    holds!(&rt, count.end(&mut p) == EndReply::Ended);
+    holds!(&rt, count.end(&mut p) == EndReply::Last);
 }
 
 #[test]
-fn the_handles_of_a_dropped_pass_stay_counted(rt: HostRuntime) -> Result<(), Fail> {
-    let (count, mut p, q) = open_two(rt.alloc())?;
+fn the_handles_of_a_dropped_pass_stay_counted(rt: HostRuntime) {
+    let (count, mut p, q) = ok!(&rt, open_two(rt.alloc()));
     drop(q);
-    assert!(rt; !count.is_unique(&mut p));
-    assert!(rt; count.end(&mut p) == EndReply::Ended);
-    Ok(())
+    holds!(&rt, !count.is_unique(&mut p));
+    holds!(&rt, count.end(&mut p) == EndReply::Ended);
 }
 
-// A cap that nobody asked for would refuse the thousand.
+// More than sixteen bits can count. A cap that nobody asked for would refuse them.
 #[test]
-fn a_count_has_a_thousand_passes_and_not_all(rt: HostRuntime) -> Result<(), Fail> {
-    let (_count, passes) = SharedCount::open(rt.alloc(), 1000)?;
-    assert!(rt; passes.len() == 1000 && SharedCount::open(rt.alloc(), usize::MAX).is_err());
-    Ok(())
+fn a_count_has_many_passes_and_not_all(rt: HostRuntime) {
+    let (_count, passes) = ok!(&rt, SharedCount::open(rt.alloc(), 70_000));
+    let is_refused = SharedCount::open(rt.alloc(), usize::MAX).is_err();
+    same!(&rt, (passes.len(), is_refused), (70_000, true));
 }
 
 #[test]

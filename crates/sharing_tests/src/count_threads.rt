@@ -6,21 +6,21 @@ use crate::waiting::arrive;
 use servo_arc::shared_count::{CountPass, EndReply, SharedCount, TryClone};
 use std::process::Abort;
 use std::sync::atomic::AtomicU64;
-use std::test::Fail;
 use std::thread::{Threads, join};
+use test_support::{holds, ok, same};
 use uses::two_threads::look_in_two_threads;
 
 const TURNS: u32 = 10_000;
 
 #[test]
-fn one_of_two_threads_is_told_that_it_was_last(rt: HostRuntime) -> Result<(), Fail> {
-    let (first, second) = look_in_two_threads(&rt, rt.alloc(), &[0, 7, 0])?;
-    assert!(rt; first != second);
-    Ok(())
+fn one_of_two_threads_is_last(rt: HostRuntime) {
+    let looks = look_in_two_threads(&rt, rt.alloc(), &[0, 7, 0]);
+    let (first, second) = ok!(&rt, looks);
+    holds!(&rt, first != second);
 }
 
-// What a thread was told.
-#[derive(Clone, Copy, Debug, PartialEq, Eq)]
+// What a thread was answered.
+#[derive(Clone, Copy)]
 struct Replies {
     born: u64,
     ended: u64,
@@ -85,8 +85,8 @@ fn churn_two<R: Abort + Threads + Sync>(
 }
 
 #[test]
-fn three_threads_are_told_once_that_one_was_last(rt: HostRuntime) -> Result<(), Fail> {
-    let (count, mut passes) = SharedCount::open(rt.alloc(), 3)?;
+fn one_of_three_threads_is_last(rt: HostRuntime) {
+    let (count, mut passes) = ok!(&rt, SharedCount::open(rt.alloc(), 3));
     let c = passes.pop().unwrap();
     let b = passes.pop().unwrap();
     let a = passes.pop().unwrap();
@@ -97,17 +97,11 @@ fn three_threads_are_told_once_that_one_was_last(rt: HostRuntime) -> Result<(), 
         || churn_two(&rt, &count, b, c, &here),
     );
     count.meet(&mut a, &mut b);
-    for (owned, told) in [(a.owned(), first), (b.owned(), second), (c.owned(), third)] {
-        assert!(rt;
-            owned == 0 && told.ended.saturating_add(told.last) == told.born.saturating_add(1)
-        );
+    let mut last = 0u64;
+    for (owned, replies) in [(a.owned(), first), (b.owned(), second), (c.owned(), third)] {
+        let all = replies.ended.saturating_add(replies.last);
+        same!(&rt, (owned, all), (0, replies.born.saturating_add(1)));
+        last = last.saturating_add(replies.last);
     }
-    assert!(rt;
-        first
-            .last
-            .saturating_add(second.last)
-            .saturating_add(third.last)
-            == 1
-    );
-    Ok(())
+    same!(&rt, last, 1);
 }

@@ -1,11 +1,11 @@
 // Two threads end the two handles of a block at once, by the call that gives the value to the last of them.
-use crate::made::arc_of;
+use crate::made::two_of;
 use crate::waiting::arrive;
 use servo_arc::Arc;
 use std::process::Abort;
 use std::sync::atomic::AtomicU64;
 use std::thread;
-use test_support::{again, holds};
+use test_support::{ok, same_at};
 
 const ROUNDS: u64 = 1000;
 
@@ -18,12 +18,10 @@ fn end(rt: &impl Abort, here: &AtomicU64, handle: Arc<u64>) -> Option<u64> {
 fn one_of_two_threads_gets_the_value(rt: HostRuntime) {
     for value in 0..ROUNDS {
         let here = AtomicU64::new(0);
-        let a = arc_of(&rt, value);
-        let b = again!(&rt, &a);
-        let given = thread::join(&rt, || end(&rt, &here, a), || end(&rt, &here, b));
-        holds!(
-            &rt,
-            given == (Some(value), None) || given == (None, Some(value)),
-        );
+        let handles = two_of(&rt, value);
+        let given = thread::map_vec(&rt, handles, &|handle| end(&rt, &here, handle));
+        let given = ok!(&rt, given);
+        let is_given = given.contains(&Some(value)) && given.contains(&None);
+        same_at!(&rt, value, (given.len(), is_given), (2, true));
     }
 }

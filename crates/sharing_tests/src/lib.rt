@@ -16,6 +16,8 @@ mod crossing;
 #[cfg(test)]
 mod documents;
 #[cfg(test)]
+mod ending;
+#[cfg(test)]
 mod last_value;
 #[cfg(test)]
 mod limits_on_threads;

@@ -13,26 +13,27 @@ const LIMIT: u64 = 3;
 
 const ROUNDS: u64 = 1000;
 
+// Too many where it reads another value.
+fn number_of(clone: &Option<Arc<u64>>) -> u64 {
+    match clone {
+        Some(again) if **again == 7 => 1,
+        Some(_) => LIMIT,
+        None => 0,
+    }
+}
+
 // Asks for three clones, which is one too many even for one thread. They are counted after they were granted and until
 // they are dropped.
 fn stays_within(handle: &Arc<u64>, clones: &AtomicU64, rt: &impl Wait) -> bool {
-    let kept = [
-        Arc::clone(handle, rt).ok(),
-        handle.clone().ok(),
-        Arc::clone(handle, rt).ok(),
-    ];
-    let mut number = 0u64;
-    let mut are_right = true;
-    for clone in kept.iter() {
-        if let Some(again) = clone {
-            number = number.wrapping_add(1);
-            are_right = are_right && **again == 7;
-        }
-    }
+    let first = Arc::clone(handle, rt).ok();
+    let second = handle.clone().ok();
+    let third = Arc::clone(handle, rt).ok();
+    let number = number_of(&first)
+        .wrapping_add(number_of(&second))
+        .wrapping_add(number_of(&third));
     let others = clones.fetch_add(number, SeqCst);
     clones.fetch_sub(number, SeqCst);
-    drop(kept);
-    are_right && others.wrapping_add(number) < LIMIT
+    others.wrapping_add(number) < LIMIT
 }
 
 fn ask_often(

@@ -1,8 +1,20 @@
-// A handle that a test begins with.
+// What a test begins with.
 use servo_arc::Arc;
 use std::process::Abort;
-use test_support::ok;
+use test_support::{again, ok};
 
 pub fn arc_of<T: Drop>(rt: &(impl Abort + AllocGlobal), value: T) -> Arc<T> {
     ok!(rt, Arc::new(rt.alloc(), value))
+}
+
+/// A job for each of two threads.
+pub fn both<T: Drop>(rt: &(impl Abort + AllocGlobal), one: T, other: T) -> Vec<T> {
+    ok!(rt, vec![in rt.alloc(); one, other])
+}
+
+/// Two handles of one block.
+pub fn two_of<T: Drop>(rt: &(impl Abort + AllocGlobal), value: T) -> Vec<Arc<T>> {
+    let handle = arc_of(rt, value);
+    let other = again!(rt, &handle);
+    both(rt, handle, other)
 }

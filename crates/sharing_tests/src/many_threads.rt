@@ -1,5 +1,5 @@
 // More threads, more handles, and each way in which a handle reaches a thread. Each thread is joined.
-use crate::made::arc_of;
+use crate::made::{arc_of, both};
 use servo_arc::{Arc, RawArc, ThinArc};
 use std::thread;
 use test_support::counted::{Counted, Tally};
@@ -49,31 +49,19 @@ fn clone_and_drop<T: Drop>(handle: &Arc<T>) {
 #[test]
 fn a_header_slice_of_two_threads_is_dropped_once(rt: HostRuntime) {
     let (header, first, second) = (Tally::new(), Tally::new(), Tally::new());
-    let items = ok!(
-        &rt,
-        vec![in rt.alloc(); Counted::new(&first, 1), Counted::new(&second, 2)],
-    );
+    let items = both(&rt, Counted::new(&first, 1), Counted::new(&second, 2)).into_iter();
     let a: ThinArc<Counted<'_>, Counted<'_>> = ok!(
         &rt,
-        Arc::from_header_and_iter(rt.alloc(), Counted::new(&header, 3), items.into_iter()),
+        Arc::from_header_and_iter(rt.alloc(), Counted::new(&header, 3), items),
     );
     let b = again!(&rt, &a);
-    thread::join(
+    let handles = both(&rt, a, b);
+    ok!(
         &rt,
-        || {
-            clone_and_drop(&a);
-            drop(a);
-        },
-        || {
-            clone_and_drop(&b);
-            drop(b);
-        },
+        thread::map_vec(&rt, handles, &|handle| clone_and_drop(&handle))
     );
-    same!(
-        &rt,
-        (header.drops(), first.drops(), second.drops()),
-        (1, 1, 1),
-    );
+    let drops = (header.drops(), first.drops(), second.drops());
+    same!(&rt, drops, (1, 1, 1));
 }
 
 // A token that may be moved to a thread: a closure holds only what may be dropped.
@@ -117,8 +105,11 @@ fn a_token_is_spent_on_another_thread(rt: HostRuntime) {
 fn a_marked_value_outlives_two_threads(rt: HostRuntime) {
     let tally = Tally::new();
     let a = ok!(&rt, Arc::new_leaked(rt.alloc(), Counted::new(&tally, 5)));
-    thread::join(&rt, || clone_and_drop(&a), || clone_and_drop(&a));
-    holds!(&rt, a.is_static() && !a.is_unique());
+    ok!(
+        &rt,
+        thread::map_indices(&rt, rt.alloc(), 2, &|_| clone_and_drop(&a))
+    );
+    let marks = (a.is_static(), a.is_unique());
     drop(a);
-    same!(&rt, tally.drops(), 0);
+    same!(&rt, (marks, tally.drops()), ((true, false), 0));
 }

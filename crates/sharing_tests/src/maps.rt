@@ -29,28 +29,11 @@ fn versions_read_as_they_were_made(rt: HostRuntime) {
         texts.as_str(),
         "{('a', 9): 3, ('b', 1): 8, ('b', 2): 5} {('a', 9): 4, ('b', 2): 5}",
     );
-    let are_one = [&copy, &new].map(|map| TreeMap::ptr_eq(&old, map));
+    let are_one = [TreeMap::ptr_eq(&old, &copy), TreeMap::ptr_eq(&old, &new)];
     same!(
         &rt,
         (are_one, old == copy, old == new),
         ([true, false], true, false)
-    );
-}
-
-#[test]
-fn entries_come_in_order_from_either_end(rt: HostRuntime) {
-    let alloc = rt.alloc();
-    let items = ok!(&rt, vec![in alloc; (5, 'e'), (1, 'a'), (4, 'd'), (1, 'b')]);
-    let map = ok!(&rt, TreeMap::from_items(alloc, items));
-    holds!(&rt, map.iter().eq(&[(1, 'b'), (4, 'd'), (5, 'e')]));
-    holds!(&rt, map.iter().rev().map(|entry| entry.0).eq([5, 4, 1]));
-    let mut entries = map.iter();
-    let ends = (entries.next(), entries.next_back());
-    same!(&rt, ends, (map.first(), map.last()));
-    same!(
-        &rt,
-        (entries.len(), entries.next(), entries.next_back()),
-        (1, map.entry(1), None),
     );
 }
 

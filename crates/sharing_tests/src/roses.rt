@@ -4,12 +4,15 @@ use test_support::counted::{Counted, Tally};
 use test_support::{holds, ok, same, same_at};
 use uses::rose::{Rose, RoseError};
 
+fn leaf<'a>(alloc: Global, tally: &'a Tally, value: u64) -> Result<Rose<Counted<'a>>, AllocError> {
+    Rose::leaf(alloc, Counted::new(tally, value))
+}
+
 // 1 over 2, 3 and 4, of which 3 is over 5 and 6.
 fn six<'a>(alloc: Global, tally: &'a Tally) -> Result<Rose<Counted<'a>>, AllocError> {
-    let leaf = |value: u64| Rose::leaf(alloc, Counted::new(tally, value));
-    let low = vec![in alloc; leaf(5)?, leaf(6)?]?;
+    let low = vec![in alloc; leaf(alloc, tally, 5)?, leaf(alloc, tally, 6)?]?;
     let middle = Rose::with_children(alloc, Counted::new(tally, 3), low)?;
-    let high = vec![in alloc; leaf(2)?, middle, leaf(4)?]?;
+    let high = vec![in alloc; leaf(alloc, tally, 2)?, middle, leaf(alloc, tally, 4)?]?;
     Rose::with_children(alloc, Counted::new(tally, 1), high)
 }
 
@@ -69,6 +72,10 @@ fn there_is_no_place_outside_the_tree(rt: HostRuntime) {
 // A cap that nobody asked for would refuse these trees, or a change of them.
 const MANY: u64 = 1000;
 
+fn number_at(tree: &Rose<u64>, path: &[usize]) -> Option<u64> {
+    Some(*tree.at(path)?.value())
+}
+
 #[test]
 fn a_wide_tree_is_changed_at_its_last_child(rt: HostRuntime) {
     let mut leaves = Vec::new(rt.alloc());
@@ -77,12 +84,9 @@ fn a_wide_tree_is_changed_at_its_last_child(rt: HostRuntime) {
     }
     let old = ok!(&rt, Rose::with_children(rt.alloc(), MANY, leaves));
     let new = ok!(&rt, old.with_value(rt.alloc(), &[999], 7));
-    let read = |tree: &Rose<u64>| tree.child(999).map(|child| *child.value());
-    same!(&rt, (read(&old), read(&new)), (Some(999), Some(7)));
-    holds!(
-        &rt,
-        is_shared(&old, &new, &[998]) && new.children().len() == 1000,
-    );
+    let values = (number_at(&old, &[999]), number_at(&new, &[999]));
+    let seen = (values, is_shared(&old, &new, &[998]), new.children().len());
+    same!(&rt, seen, ((Some(999), Some(7)), true, 1000));
 }
 
 #[test]
@@ -94,9 +98,8 @@ fn a_deep_tree_is_changed_at_its_leaf(rt: HostRuntime) {
     }
     let path = [0; 1000];
     let new = ok!(&rt, old.with_value(rt.alloc(), &path, 7));
-    let read = |tree: &Rose<u64>| tree.at(&path).map(|leaf| *leaf.value());
-    same!(&rt, (read(&old), read(&new)), (Some(0), Some(7)));
-    same!(&rt, *new.value(), MANY);
+    let values = (number_at(&old, &path), number_at(&new, &path));
+    same!(&rt, (values, *new.value()), ((Some(0), Some(7)), MANY));
 }
 
 #[test]

@@ -58,7 +58,7 @@ fn a_shared_version_copies_a_page_once(rt: HostRuntime) {
     same!(&rt, (tally.copies(), tally.drops()), (5, 5 + 5 + 7));
 }
 
-// Pages are as long as was asked for, and each is told from the others.
+// Pages are as long as was asked for, and only the one that is written is copied.
 #[test]
 fn a_long_page_is_copied_whole(rt: HostRuntime) {
     let tally = Tally::new();

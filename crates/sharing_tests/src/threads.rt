@@ -1,11 +1,12 @@
 // Threads that share one block. Each is joined. If two should act at the same moment, each looks for the other before.
-use crate::made::arc_of;
+use crate::made::{arc_of, both, two_of};
 use crate::waiting::arrive;
 use servo_arc::{Arc, ArcUnion};
 use std::process::Abort;
 use std::sync::Wait;
 use std::sync::atomic::AtomicU64;
 use std::thread;
+use std::thread::Threads;
 use test_support::counted::{Counted, Tally};
 use test_support::{again, holds, ok, same};
 
@@ -19,49 +20,35 @@ fn clone_after(rt: &impl Abort, here: &AtomicU64, handle: Arc<Counted<'_>>) -> b
 }
 
 // Two handles of one block.
-type Pair<'a> = (Arc<Counted<'a>>, Arc<Counted<'a>>);
-
-fn by_clone<'a>(rt: &(impl Abort + AllocGlobal), tally: &'a Tally) -> Pair<'a> {
-    let a = arc_of(rt, Counted::new(tally, 5));
-    let b = again!(rt, &a);
-    (a, b)
-}
+type Pair<'a> = Vec<Arc<Counted<'a>>>;
 
 fn by_token<'a>(rt: &(impl Abort + AllocGlobal + Wait), tally: &'a Tally) -> Pair<'a> {
     let raw = Arc::into_raw(arc_of(rt, Counted::new(tally, 5)));
     let added = Arc::from_raw_addrefed(&raw, rt);
     let a = Arc::from_raw(raw);
-    (a, ok!(rt, added))
+    both(rt, a, ok!(rt, added))
 }
 
 fn by_borrow<'a>(rt: &(impl Abort + AllocGlobal + Wait), tally: &'a Tally) -> Pair<'a> {
     let a = arc_of(rt, Counted::new(tally, 5));
     let b = ok!(rt, a.borrow_arc().clone_arc(rt));
-    (a, b)
+    both(rt, a, b)
+}
+
+fn check_pair<R: Abort + Threads + Sync>(rt: &R, tally: &Tally, pair: Pair<'_>) {
+    let before = tally.drops();
+    let here = AtomicU64::new(0);
+    let done = thread::map_vec(rt, pair, &|handle| clone_after(rt, &here, handle));
+    same!(rt, ok!(rt, done).as_slice(), &[true, true][..]);
+    same!(rt, tally.drops().wrapping_sub(before), 1);
 }
 
 #[test]
 fn handles_that_came_in_each_way_are_cloned_at_once(rt: HostRuntime) {
     let tally = Tally::new();
-    let pairs = [
-        by_clone(&rt, &tally),
-        by_token(&rt, &tally),
-        by_borrow(&rt, &tally),
-    ];
-    for (a, b) in pairs {
-        let before = tally.drops();
-        let here = AtomicU64::new(0);
-        let done = thread::join(
-            &rt,
-            || clone_after(&rt, &here, a),
-            || clone_after(&rt, &here, b),
-        );
-        same!(
-            &rt,
-            (done, tally.drops().wrapping_sub(before)),
-            ((true, true), 1),
-        );
-    }
+    check_pair(&rt, &tally, two_of(&rt, Counted::new(&tally, 5)));
+    check_pair(&rt, &tally, by_token(&rt, &tally));
+    check_pair(&rt, &tally, by_borrow(&rt, &tally));
 }
 
 type Numbers<'a> = ArcUnion<u64, Counted<'a>>;
@@ -80,12 +67,10 @@ fn two_threads_clone_a_union_at_once(rt: HostRuntime) {
     let here = AtomicU64::new(0);
     let a = Numbers::from_second(arc_of(&rt, Counted::new(&tally, 5)));
     let b = again!(&rt, &a);
-    let done = thread::join(
-        &rt,
-        || clone_union_after(&rt, &here, a),
-        || clone_union_after(&rt, &here, b),
-    );
-    same!(&rt, (done, tally.drops()), ((true, true), 1));
+    let unions = both(&rt, a, b);
+    let done = thread::map_vec(&rt, unions, &|union| clone_union_after(&rt, &here, union));
+    same!(&rt, ok!(&rt, done).as_slice(), &[true, true][..]);
+    same!(&rt, tally.drops(), 1);
 }
 
 fn clone_often(handle: &Arc<u64>, rt: &impl Wait) -> bool {
@@ -117,15 +102,16 @@ fn clone_and_drop(handle: Arc<Counted<'_>>) {
 fn a_mark_among_clones_keeps_the_value(rt: HostRuntime) {
     let tally = Tally::new();
     let kept = arc_of(&rt, Counted::new(&tally, 1));
-    let (a, b, c) = (again!(&rt, &kept), again!(&rt, &kept), again!(&rt, &kept));
-    thread::join(
+    let handles = both(&rt, again!(&rt, &kept), again!(&rt, &kept));
+    let c = again!(&rt, &kept);
+    let (cloned, ()) = thread::join(
         &rt,
-        || thread::join(&rt, || clone_and_drop(a), || clone_and_drop(b)),
+        || thread::map_vec(&rt, handles, &|handle| clone_and_drop(handle)).is_ok(),
         || c.mark_as_intentionally_leaked(),
     );
-    holds!(&rt, kept.is_static());
+    let is_static = kept.is_static();
     drop(kept);
-    same!(&rt, tally.drops(), 0);
+    same!(&rt, (cloned, is_static, tally.drops()), (true, true, 0));
 }
 
 fn drop_after(rt: &impl Abort, here: &AtomicU64, handle: Arc<Counted<'_>>) {
@@ -138,12 +124,10 @@ fn the_last_two_handles_drop_the_value_once(rt: HostRuntime) {
     let tally = Tally::new();
     for round in 1..=1000u64 {
         let here = AtomicU64::new(0);
-        let a = arc_of(&rt, Counted::new(&tally, round));
-        let b = again!(&rt, &a);
-        thread::join(
+        let handles = two_of(&rt, Counted::new(&tally, round));
+        ok!(
             &rt,
-            || drop_after(&rt, &here, a),
-            || drop_after(&rt, &here, b),
+            thread::map_vec(&rt, handles, &|handle| drop_after(&rt, &here, handle))
         );
         same!(&rt, tally.drops(), round);
     }

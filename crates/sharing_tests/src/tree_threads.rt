@@ -5,7 +5,6 @@ use persistent::List;
 use std::alloc::{AllocError, Global};
 use std::process::Abort;
 use std::sync::atomic::AtomicU64;
-use std::test::Fail;
 use std::thread;
 use test_support::counted::{Counted, Tally};
 use test_support::{again, ok, same};
@@ -20,13 +19,13 @@ fn channel(alloc: Global) -> Result<Ends, AllocError> {
 }
 
 #[test]
-fn four_threads_read_what_one_publishes(rt: HostRuntime) -> Result<(), Fail> {
+fn four_threads_read_what_one_publishes(rt: HostRuntime) {
     let alloc = rt.alloc();
     let (mut to_readers, mut readers) = (Vec::new(alloc), Vec::new(alloc));
     for _ in 0..4 {
-        let (to_reader, reader) = channel(alloc)?;
-        to_readers.push(to_reader)?;
-        readers.push(reader)?;
+        let (to_reader, reader) = ok!(&rt, channel(alloc));
+        ok!(&rt, to_readers.push(to_reader));
+        ok!(&rt, readers.push(reader));
     }
     let rt = &rt;
     let (published, read) = thread::join(
@@ -37,9 +36,8 @@ fn four_threads_read_what_one_publishes(rt: HostRuntime) -> Result<(), Fail> {
         },
         move || thread::map_vec(rt, readers, &|reader| read_all(rt, reader)),
     );
-    assert_eq!(rt; published, Ok(()));
-    assert_eq!(rt; read?.as_slice(), &[Some(EDITIONS); 4][..]);
-    Ok(())
+    same!(rt, published, Ok(()));
+    same!(rt, ok!(rt, read).as_slice(), &[Some(EDITIONS); 4][..]);
 }
 
 const ROUNDS: u32 = 20;
@@ -52,20 +50,31 @@ fn end(rt: &impl Abort, here: &AtomicU64, list: List<Counted<'_>>) {
     drop(list);
 }
 
+fn long_list<'a>(rt: &(impl Abort + AllocGlobal), tally: &'a Tally) -> List<Counted<'a>> {
+    let mut list = List::new();
+    for value in 0..NODES {
+        list = ok!(rt, list.push(rt.alloc(), Counted::new(tally, value)));
+    }
+    list
+}
+
+// Four versions of one list.
+fn versions<'a>(rt: &(impl Abort + AllocGlobal), tally: &'a Tally) -> Vec<List<Counted<'a>>> {
+    let list = long_list(rt, tally);
+    let mut versions = Vec::new(rt.alloc());
+    for _ in 1..4 {
+        ok!(rt, versions.push(again!(rt, &list)));
+    }
+    ok!(rt, versions.push(list));
+    versions
+}
+
 // Whichever thread ends its version last has to end the nodes, and none knows that before.
 #[test]
 fn four_threads_end_one_long_list(rt: HostRuntime) {
     for _ in 0..ROUNDS {
         let (tally, here) = (Tally::new(), AtomicU64::new(0));
-        let mut list = List::new();
-        for value in 0..NODES {
-            list = ok!(&rt, list.push(rt.alloc(), Counted::new(&tally, value)));
-        }
-        let mut versions = Vec::new(rt.alloc());
-        for _ in 1..4 {
-            ok!(&rt, versions.push(again!(&rt, &list)));
-        }
-        ok!(&rt, versions.push(list));
+        let versions = versions(&rt, &tally);
         ok!(
             &rt,
             thread::map_vec(&rt, versions, &|list| end(&rt, &here, list))

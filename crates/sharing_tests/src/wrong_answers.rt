@@ -6,23 +6,23 @@ use crate::made::arc_of;
 use servo_arc::Arc;
 use std::thread;
 use std::thread::{Threads, join};
-use test_support::{again, holds, holds_at, ok};
+use test_support::{again, holds, ok};
 
 const CALLS: u64 = 250_000;
 
-// Whether two threads keep in step differs from round to round, and the worst one is told.
+// Whether two threads keep in step differs from round to round, and the worst one is printed.
 const ROUNDS: u64 = 20;
 
 type Pair<'a> = (&'a Arc<u64>, &'a Arc<u64>);
 
 fn count_true(pair: Pair<'_>) -> u64 {
-    let mut told = 0u64;
+    let mut answers = 0u64;
     for _ in 0..CALLS {
         if Arc::ptr_eq(pair.0, pair.1) {
-            told = told.wrapping_add(1);
+            answers = answers.wrapping_add(1);
         }
     }
-    told
+    answers
 }
 
 // Of the calls of two threads at once.
@@ -31,52 +31,47 @@ fn count_true_of_two<R: Threads + Sync>(rt: &R, one: Pair<'_>, other: Pair<'_>) 
     first.wrapping_add(second)
 }
 
+const ALL: u64 = 2 * CALLS;
+
 #[test]
-fn two_threads_are_seldom_told_wrong(rt: HostRuntime) {
+fn two_threads_seldom_get_a_wrong_answer(rt: HostRuntime) {
     let a = arc_of(&rt, 1u64);
     let b = again!(&rt, &a);
     let c = arc_of(&rt, 1u64);
-    let all = 2 * CALLS;
     let mut most = [0u64; 3];
     for _ in 0..ROUNDS {
         let of_one = count_true_of_two(&rt, (&a, &b), (&a, &b));
         let from_one_end = count_true_of_two(&rt, (&a, &c), (&a, &c));
         let from_opposite_ends = count_true_of_two(&rt, (&a, &c), (&c, &a));
         most = [
-            most[0].max(all.wrapping_sub(of_one)),
+            most[0].max(ALL.wrapping_sub(of_one)),
             most[1].max(from_one_end),
             most[2].max(from_opposite_ends),
         ];
     }
-    let of_one = most[0];
-    ok!(
-        &rt,
-        println!(rt; "one block: false {of_one} times of {all}")
+    let [of_one, from_one_end, from_opposite_ends] = most;
+    let text = println!(rt;
+        "of {ALL}: one block: false {of_one} times\n\
+         two blocks, from one end: true {from_one_end} times\n\
+         two blocks, from opposite ends: true {from_opposite_ends} times"
     );
-    let rows = [
-        ("two blocks, from one end: true", most[1]),
-        ("two blocks, from opposite ends: true", most[2]),
-    ];
-    for (answer, wrong) in rows {
-        ok!(&rt, println!(rt; "{answer} {wrong} times of {all}"));
-        holds_at!(&rt, answer, wrong < all / 6);
-    }
+    ok!(&rt, text);
+    holds!(&rt, from_one_end < ALL / 6);
+    holds!(&rt, from_opposite_ends < ALL / 6);
     holds!(&rt, Arc::ptr_eq(&a, &b) && !Arc::ptr_eq(&a, &c));
 }
 
 #[test]
-fn four_threads_are_seldom_told_wrong(rt: HostRuntime) {
+fn four_threads_seldom_get_a_wrong_answer(rt: HostRuntime) {
     let a = arc_of(&rt, 1u64);
     let b = again!(&rt, &a);
-    let all = 4 * CALLS;
-    let mut wrong = all;
-    let told = thread::map_indices(&rt, rt.alloc(), 4, &|_| count_true((&a, &b)));
-    for right in ok!(&rt, told) {
+    let mut wrong = 4 * CALLS;
+    let answers = thread::map_indices(&rt, rt.alloc(), 4, &|_| count_true((&a, &b)));
+    for right in ok!(&rt, answers) {
         wrong = wrong.wrapping_sub(right);
     }
-    ok!(
-        &rt,
-        println!(rt; "one block, four threads: false {wrong} times of {all}")
-    );
+    let all = 4 * CALLS;
+    let text = println!(rt; "one block, four threads: false {wrong} times of {all}");
+    ok!(&rt, text);
     holds!(&rt, Arc::ptr_eq(&a, &b));
 }

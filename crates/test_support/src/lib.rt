@@ -1,6 +1,6 @@
 //! What tests assert, and a value that counts its drops and copies. `assert!` and `?` may end a test early, with all that
-//! it has by then, and each such end makes its proof longer. The macros here end the process inside of one call, and tell
-//! the expression.
+//! it has by then, and each such end makes its proof longer. The macros here call `crate::ending` of the crate of tests,
+//! which ends the process inside of one call, and report the expression.
 #![tactic(auto)]
 
 pub mod counted;
@@ -28,7 +28,7 @@ pub fn compared<T: PartialEq + Debug + Drop>(found: T, expected: T) -> Result<()
 #[macro_export]
 macro_rules! holds {
     ($rt:expr, $fact:expr $(,)?) => {
-        ($fact).then_some(()).expect($rt, stringify!($fact))
+        crate::ending::hold($rt, $fact, stringify!($fact))
     };
 }
 
@@ -36,17 +36,14 @@ macro_rules! holds {
 #[macro_export]
 macro_rules! holds_at {
     ($rt:expr, $row:expr, $fact:expr $(,)?) => {
-        ($fact)
-            .then_some(())
-            .ok_or($row)
-            .expect($rt, stringify!($fact))
+        crate::ending::same($rt, ($row, $fact), ($row, true), stringify!($fact))
     };
 }
 
 #[macro_export]
 macro_rules! same {
     ($rt:expr, $found:expr, $expected:expr $(,)?) => {
-        $crate::compared($found, $expected).expect($rt, stringify!($found))
+        crate::ending::same($rt, $found, $expected, stringify!($found))
     };
 }
 
@@ -54,7 +51,7 @@ macro_rules! same {
 #[macro_export]
 macro_rules! same_at {
     ($rt:expr, $row:expr, $found:expr, $expected:expr $(,)?) => {
-        $crate::compared(($row, $found), ($row, $expected)).expect($rt, stringify!($found))
+        crate::ending::same($rt, ($row, $found), ($row, $expected), stringify!($found))
     };
 }
 
@@ -62,7 +59,7 @@ macro_rules! same_at {
 #[macro_export]
 macro_rules! ok {
     ($rt:expr, $given:expr $(,)?) => {
-        ($given).ok().expect($rt, stringify!($given))
+        crate::ending::given($rt, $given, stringify!($given))
     };
 }
 
@@ -70,6 +67,6 @@ macro_rules! ok {
 #[macro_export]
 macro_rules! again {
     ($rt:expr, $value:expr $(,)?) => {
-        ($value).clone().ok().expect($rt, stringify!($value))
+        crate::ending::given($rt, ($value).clone(), stringify!($value))
     };
 }

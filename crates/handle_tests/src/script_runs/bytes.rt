@@ -1,8 +1,6 @@
 //! Scripts byte by byte: what a line may be, and what is printed up to the first faulty one.
 use super::runs::run_bench;
-use std::alloc::Global;
 use std::process::Abort;
-use test_support::same_at;
 
 /// A script as its bytes, what it prints up to its fault, and the status.
 type Bytes = (&'static [u8], &'static [u8], u8);
@@ -55,20 +53,15 @@ const TABLE_BYTES: [Bytes; 14] = [
 ];
 
 /// Runs each script up to its fault.
-fn check_bytes(rt: &impl Abort, alloc: Global, kind: &str, rows: &[Bytes]) {
+fn check_bytes(rt: &(impl Abort + AllocGlobal), kind: &str, rows: &[Bytes]) {
     for (script, output, status) in rows {
-        let ran = run_bench(alloc, &[kind, "1"], script);
-        same_at!(
-            rt,
-            script,
-            (ran.output.as_slice(), ran.status, ran.errors.len()),
-            (*output, *status, 0),
-        );
+        let ran = run_bench(rt.alloc(), &[kind, "1"], script);
+        ran.check(rt, *script, output, b"", *status);
     }
 }
 
 #[test]
 fn stops_at_the_first_faulty_line(rt: HostRuntime) {
-    check_bytes(&rt, rt.alloc(), "core", &BYTES);
-    check_bytes(&rt, rt.alloc(), "table", &TABLE_BYTES);
+    check_bytes(&rt, "core", &BYTES);
+    check_bytes(&rt, "table", &TABLE_BYTES);
 }

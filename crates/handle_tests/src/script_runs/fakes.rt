@@ -7,7 +7,7 @@ use std::alloc::Global;
 use std::io;
 use std::io::{ErrorKind, Read, Write};
 
-/// Gives a script a line, or less of one, at each read, and fails at one read.
+/// Gives so many bytes of a script at each read, and fails at one read.
 #[derive(Drop)]
 pub struct FailingReader<'a> {
     script: &'a [u8],
@@ -17,20 +17,10 @@ pub struct FailingReader<'a> {
 }
 
 impl<'a> FailingReader<'a> {
-    pub fn new(script: &'a [u8], reads_before: usize) -> Self {
+    pub fn new(script: &'a [u8], most: usize, reads_before: usize) -> Self {
         FailingReader {
             script,
-            most: usize::MAX,
-            reads_before,
-            has_failed: false,
-        }
-    }
-
-    /// Gives a byte at each read.
-    pub fn by_bytes(script: &'a [u8], reads_before: usize) -> Self {
-        FailingReader {
-            script,
-            most: 1,
+            most,
             reads_before,
             has_failed: false,
         }
@@ -47,13 +37,8 @@ impl Read for FailingReader<'_> {
             return Err(io::Error::from(ErrorKind::Other));
         }
         self.reads_before = self.reads_before.saturating_sub(1);
-        let mut line = self
-            .script
-            .split_inclusive(|byte| *byte == b'\n')
-            .next()
-            .unwrap_or_default();
-        line = line.get(..self.most).unwrap_or(line);
-        let count = line.read(buf)?;
+        let mut part = self.script.get(..self.most).unwrap_or(self.script);
+        let count = part.read(buf)?;
         self.script = self.script.get(count..).unwrap_or_default();
         Ok(count)
     }

@@ -1,22 +1,19 @@
 //! Runs of the whole program, from the arguments of an environment.
+use super::runs::Ran;
 use scripts::start;
 use std::alloc::Global;
 use test_support::environment::Arguments;
 use test_support::same_at;
 
-/// What a program printed, told on standard error, and ended with.
-type Ended = (Vec<u8>, Vec<u8>, u8);
-
-fn started(alloc: Global, words: &[&[u8]], mut script: &[u8]) -> Ended {
+fn run_start(alloc: Global, words: &[&[u8]], mut script: &[u8]) -> Ran {
     let (mut output, mut errors) = (Vec::new(alloc), Vec::new(alloc));
-    let status = start(
-        &Arguments(words),
-        alloc,
-        &mut script,
-        &mut output,
-        &mut errors,
-    );
-    (output, errors, status)
+    let arguments = Arguments(words);
+    let status = start(&arguments, alloc, &mut script, &mut output, &mut errors);
+    Ran {
+        output,
+        errors,
+        status,
+    }
 }
 
 /// Arguments and a script, and what the program then prints and ends with.
@@ -43,14 +40,9 @@ const STARTS: [(&[&[u8]], &[u8], &[u8], u8); 3] = [
 
 #[test]
 fn starts_on_its_arguments(rt: HostRuntime) {
-    for (words, script, output, status) in &STARTS {
-        let (printed, errors, ended) = started(rt.alloc(), words, script);
-        same_at!(
-            &rt,
-            words,
-            (printed.as_slice(), errors.len(), ended),
-            (*output, 0, *status)
-        );
+    for (words, script, output, status) in STARTS {
+        let ran = run_start(rt.alloc(), words, script);
+        ran.check(&rt, words, output, b"", status);
     }
 }
 
@@ -78,26 +70,30 @@ const BAD_WORDS: [&[u8]; 12] = [
 ];
 
 fn is_wrong(alloc: Global, words: &[&[u8]]) -> bool {
-    let (output, errors, status) = started(alloc, words, b"load 0 0\n");
-    status == 1 && output.is_empty() && errors.as_slice() == b"fault: arguments\n".as_slice()
+    let ran = run_start(alloc, words, b"load 0 0\n");
+    ran.status == 1
+        && ran.output.is_empty()
+        && ran.errors.as_slice() == b"fault: arguments\n".as_slice()
+}
+
+fn are_wrong(alloc: Global, word: &[u8]) -> [bool; 6] {
+    let [name, core, one]: [&[u8]; 3] = [b"arcbench", b"core", b"1"];
+    [
+        is_wrong(alloc, &[name, word, one]),
+        is_wrong(alloc, &[name, core, word]),
+        is_wrong(alloc, &[name, core, one, word]),
+        is_wrong(alloc, &[name, core, one, one, word]),
+        is_wrong(alloc, &[name, b"table", word]),
+        is_wrong(alloc, &[name, b"table", one, word]),
+    ]
 }
 
 #[test]
 fn a_bad_word_is_wrong_at_each_place(rt: HostRuntime) {
-    let alloc = rt.alloc();
     for words in MISSING {
-        same_at!(&rt, words, is_wrong(alloc, words), true);
+        same_at!(&rt, words, is_wrong(rt.alloc(), words), true);
     }
     for word in BAD_WORDS {
-        let [name, core, one]: [&[u8]; 3] = [b"arcbench", b"core", b"1"];
-        let placed = [
-            is_wrong(alloc, &[name, word, one]),
-            is_wrong(alloc, &[name, core, word]),
-            is_wrong(alloc, &[name, core, one, word]),
-            is_wrong(alloc, &[name, core, one, one, word]),
-            is_wrong(alloc, &[name, b"table", word]),
-            is_wrong(alloc, &[name, b"table", one, word]),
-        ];
-        same_at!(&rt, word, placed, [true; 6]);
+        same_at!(&rt, word, are_wrong(rt.alloc(), word), [true; 6]);
     }
 }

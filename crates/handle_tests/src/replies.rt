@@ -4,10 +4,10 @@ use std::alloc::{AllocError, Global};
 
 pub fn parted<C: Drop>(
     alloc: Global,
-    told: Vec<(C, Reply)>,
+    rows: Vec<(C, Reply)>,
 ) -> Result<(Vec<C>, Vec<Reply>), AllocError> {
     let (mut commands, mut replies) = (Vec::new(alloc), Vec::new(alloc));
-    for (command, reply) in told {
+    for (command, reply) in rows {
         commands.push(command)?;
         replies.push(reply)?;
     }

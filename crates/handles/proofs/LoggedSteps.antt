@@ -1,4 +1,4 @@
--- What a step that gives no right hands back: the word that it found, and that it is in the log. Assumes `Logic`.
+-- The result of a step that leaves no right: the word that it found, and that it is in the log. Assumes `Logic`.
 use Rattle.std.proofs.Common.{◌≡◌, ℕ, ◌^◌, ◌<◌, List, [], ◌∷◌, ◌++◌, refl, w64}
 use seplogic.Ra.Ura.{Ura}
 use lib.Dec.{T}

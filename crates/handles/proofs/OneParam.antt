@@ -43,9 +43,8 @@ a_ref Row one = RefOf (0 ∷ []) tt (plain (λ _. Row)) (λ _. one)
 
 -- What its `requires` asks is one fact. A walk begins with what the `&` lends, its token and the other tokens, and ends
 -- with the tokens, the result and the `ensures`.
-module _ (Row : RattleType) (one : One Row.mir) (os : List (Outlives 2)) (r : Slot 2) {M : Type 1}
-    {𝓤 : Ura M} (𝓛 : Logic 𝓤)
-    (𝓜 : Model 𝓤 𝓛.H) (𝓡 : Running 𝓤 𝓛.H 𝓜) (c : Clauses 𝓤 (taking os (a_ref Row one) yes r))
+module _ (Row : RattleType) (one : One Row.mir) {os : List (Outlives 2)} {r : Slot 2} {M : Type 1}
+    {𝓤 : Ura M} (𝓛 : Logic 𝓤) (𝓜 : Model 𝓤 𝓛.H) (𝓡 : Running 𝓤 𝓛.H 𝓜) (c : Clauses 𝓤 (taking os (a_ref Row one) yes r))
     (Asked : Lfts 2 → Bor Row.Denot → Type 0) (asked : (κs : Lfts 2) (a : Bor Row.Denot) (gh : (c κs (a, tt)).ghost)
     → ent 𝓤 ((c κs (a, tt)).requires gh) (fact 𝓤 (Asked κs a))) where
   open 𝓛 use {H}
@@ -106,7 +105,7 @@ permit_worded R = record {
 }
 
 -- The same by value: a walk begins with what is owned and its token.
-module _ (W : Worded) (os : List (Outlives 1)) (r : Slot 1) {M : Type 1} {𝓤 : Ura M} (𝓛 : Logic 𝓤)
+module _ (W : Worded) {os : List (Outlives 1)} {r : Slot 1} {M : Type 1} {𝓤 : Ura M} (𝓛 : Logic 𝓤)
     (𝓜 : Model 𝓤 𝓛.H) (𝓡 : Running 𝓤 𝓛.H 𝓜) (c : Clauses 𝓤 (taking os (plain (λ _. W.row)) no r))
     (Asked : Lfts 1 → W.row.Denot → Type 0) (asked : (κs : Lfts 1) (a : W.row.Denot) (gh : (c κs (a, tt)).ghost)
     → ent 𝓤 ((c κs (a, tt)).requires gh) (fact 𝓤 (Asked κs a)))
@@ -138,8 +137,7 @@ module _ (W : Worded) (os : List (Outlives 1)) (r : Slot 1) {M : Type 1} {𝓤 :
       qed 𝓛 (‵ (flft κs.0 qs.0) ∷ ‵ ((r.row κs).own_val x (v ∷ [])) ∷ []) ∵ nothing_more ! $ move ! (1 ∷ 0 ∷ []) $
       join ! $
       use0 𝓛 (raw ((c κs a).ensures gh x (at_exit En κs a (lasts κs a.0)))) e $ nothing_more ! $ nothing_more ! $
-      fjoin ! $
-      move ! (2 ∷ 0 ∷ 3 ∷ 1 ∷ []) $ by ! (leaves 𝓛 En hs c y v x (lasts κs a.0) (tt, tt)))))
+      fjoin ! $ move ! (2 ∷ 0 ∷ 3 ∷ 1 ∷ []) $ by ! (leaves 𝓛 En hs c y v x (lasts κs a.0) (tt, tt)))))
 
 module _ (R : RattleType) (p : Ptr) (x : (HeldRow R).Denot) (η : ℕ) {M : Type 1} {𝓤 : Ura M} {𝓛 : Logic 𝓤}
     {K : Type 0} {Γ : List (Item 𝓤)} {G : Goal 𝓤 𝓛.H} where

@@ -23,19 +23,20 @@ pub use Rattle.std_alloc.proofs.ResultValues.{err_of, ok_of}
 pub use Rattle.std_alloc.specs.Vec.Ownership.{owns_if}
 pub use lib.ListN.{length}
 pub use mir.Syntax.{ty_array}
-pub use mir.Val.{vcons, vnil, vstruct}
-pub use base.Fml.{froom}
+pub use mir.Val.{vcons, vnil, vstruct, WT, has_ty, vbool}
+pub use base.Fml.{froom, GName, Incl-trans}
 pub use prog.Capped.{capped_fits}
 pub use prog.Memory.{align, capped}
 pub use prog.Wp.{Wp, after_seq, at_return}
 pub use types.ByLocal.{get_tag}
-pub use types.Kit.{Post as After, any_q}
+pub use types.Kit.{Post as After, any_q, Sq, group, prop}
 pub use types.Match.{in_variant, live, vrt}
 pub use types.Part.{store_in}
-pub use types.Run.{align_word, assigns, bin, size_lit, size_word, switches_on}
+pub use types.Run.{align_word, assigns, bin, size_lit, size_word, switches_on, assigns_last, branches, from, init}
+pub use types.Run.{look, skips}
 pub use denote.Array.{Array}
 pub use denote.Builtin.{usize}
-pub use denote.Memory.{part_at}
+pub use denote.Memory.{part_at, hidden_shr, mem}
 pub use denote.Plain.{uint_Tells, uint_vals}
 pub use denote.RawPtr.{in_a_block}
 pub use denote.Ref.{mut_Tells, mut_vals}
@@ -45,16 +46,20 @@ pub use denote.Struct.Struct.{Struct, Struct-Makes}
 pub use denote.Triple.Call.{calls_at}
 pub use denote.Triple.Carry.{spared}
 pub use denote.Triple.Table.{run_framed}
-pub use denote.Triple.Walked.{Goes-ref, stay_ref}
+pub use denote.Triple.Walked.{Goes-ref, stay_ref, Goes-spent_ref, ends_at}
 pub use Rattle.core.proofs.alloc.Calls.{Answer-typed, Answered, Goes-blank, Takes, Takes-gives, Takes-goes, answers}
 pub use Rattle.core.proofs.alloc.Calls.{at_takes, token}
 pub use Rattle.core.proofs.alloc.Shapes.{arm_body, head}
-pub use Rattle.core.proofs.ptr.Rows.{elτ, one_below, sz, times_below}
+pub use Rattle.core.proofs.ptr.Rows.{elτ, one_below, sz, times_below, el_in, snoc, spare}
 pub use Rattle.core.proofs.slots.Leases.{block_align, block_size, block_ty, uncapped}
 pub use Rattle.handles.proofs.RawBoxes.{heap, Global, ◌⊑◌, ⊑_static}
 pub use Rattle.handles.proofs.LeavingFields.{LeavingRow, LeavingWords, leaving-Good, leaving_val, leaving_words}
-pub use Rattle.handles.proofs.LeavingFields.{none_at_null}
+pub use Rattle.handles.proofs.LeavingFields.{none_at_null, first_of, first_out, none_left, places-Good, room_after}
+pub use Rattle.handles.proofs.LeavingFields.{whole_room}
 pub use Rattle.handles.proofs.PlacesFields.{PlacesRow, places_val}
-pub use Rattle.handles.proofs.PlacesMade.{has_bytes, places_made, without_items}
-pub use Rattle.handles.proofs.PlacesOpened.{places_opens}
+pub use Rattle.handles.proofs.PlacesMade.{has_bytes, places_made, without_items, capped_zero, no_bytes, no_memory}
+pub use Rattle.handles.proofs.PlacesOpened.{places_opens, Beside, items_back, items_out, places_shuts}
 pub use Rattle.handles.specs.Inside.PlacesOwnership.{right_to_free, leaving_own}
+pub use lib.Dec.{T as Holds, eqb}
+pub use Rattle.handles.proofs.PlacesShared.{Lends-places, places_share-ShrLaws, words_open}
+pub use denote.Struct.Lending.{in_block_says, of_Lends}

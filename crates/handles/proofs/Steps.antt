@@ -1,6 +1,7 @@
 -- The steps on a block's word, each under the block's rule: what its maker puts in, and what it leaves the maker with.
 pub mod Words
 pub mod Shared
+pub mod Stepped
 pub mod Turns
 pub mod Reads
 pub mod Raises

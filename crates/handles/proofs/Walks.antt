@@ -2,19 +2,19 @@
 pub use Rattle.std.proofs.Common.{◌≡◌, ℕ, ◌+◌, ◌-◌, ◌%◌, ◌^◌, ◌<◌, Bool, true, false, List, [], ◌∷◌, ◌++◌, refl, sym}
 pub use Rattle.std.proofs.Common.{ap, ◌∙◌, subst, lit<, arith, w64}
 pub use mir.Syntax.{a_type, named}
-pub use mir.Val.{Val, vint, vptr, vunit}
+pub use mir.Val.{Val, vint, vptr, vunit, Fits, of_list, vnil, vstruct}
 pub use mir.MapTy.{inst_fn}
 pub use base.Fraction.{full_share}
-pub use base.Logic.{SProp, ent, sep, emp, id⊢, via}
-pub use base.Fml.{fat, Lft, Share, Fml, ftrue, fsep, flft, fhide, finv}
+pub use base.Logic.{SProp, ent, sep, emp, id⊢, via, fst∗, never, never_e, snd∗, wand}
+pub use base.Fml.{fat, Lft, Share, Fml, ftrue, fsep, flft, fhide, finv, GName, Incl-refl, Incl-trans, fbor}
 pub use base.Share
 pub use prog.Wp.{WpFn}
 pub use types.Logic.{sem}
 pub use types.Kit.{‵, raw, ◌⊛◌, some, given, later, mean, at_ret, ◌$◌, ◌∵◌, !, qed, by, move, keep, drop, split}
 pub use types.Kit.{split3, join, fsplit, fsplit3, fjoin, fjoin3, fpick, fpack, pick, learn, use0, use1, use2, use3}
-pub use types.Kit.{await, rewrite, feq_i, feq_l, flt_i, flt_l, suffices, done}
+pub use types.Kit.{await, rewrite, feq_i, feq_l, flt_i, flt_l, suffices, done, some as exists, group, now, updating}
 pub use types.Run.{unit_lit, stop, fld, load, addr, lit, of_opd, no_more, and_then, first, blocks, exec, Calls-last}
-pub use types.Run.{returns, enter}
+pub use types.Run.{returns, enter, assigns_last, init, look}
 pub use types.ByLocal.{lands_as, alloc_all, pass_all, free_all, look_at, get, get_in, through, sets, sets_last}
 pub use types.ByLocal.{lands_last, is, env}
 pub use types.Part.{agg, sub, whole, look_in}
@@ -23,23 +23,54 @@ pub use contract.Monad.{fact, fact_i}
 pub use denote.Exit.{yes, no}
 pub use denote.RattleType.{RattleType, owns}
 pub use denote.Signature.{types_at, plain}
-pub use denote.RawPtr.{Ptr, InBlock, block_ptr, ptr_val, block_of, count_of as offset_of, at_block}
-pub use denote.Steps.{nothing as nothing_more, only, peeks, heard, looks, shuts}
+pub use denote.RawPtr.{Ptr, InBlock, block_ptr, ptr_val, block_of, count_of as offset_of, at_block, in_a_block}
+pub use denote.RawPtr.{null_ptr, ◌+ₚ◌}
+pub use denote.Steps.{nothing as nothing_more, only, peeks, heard, looks, shuts, closes, opens}
 pub use denote.Laws.{Is, shows}
-pub use denote.Memory.{cell_at}
+pub use denote.Memory.{cell_at, hidden_shr, part_at, part_of}
 pub use denote.Param.{param, layout, layouts, bounded}
-pub use denote.Param.Laws.{param_laws}
+pub use denote.Param.Laws.{param_laws, Laws}
 pub use denote.Builtin.{RefOf, u64}
-pub use denote.Ref.{shr_vals, shr_Tells}
-pub use denote.Triple.Walked.{Stays, stay_dropped, walk_of, Goes-dropped}
+pub use denote.Ref.{shr_vals, shr_Tells, MutBor, MutRef, mut_Tells, mut_vals}
+pub use denote.Triple.Walked.{Stays, stay_dropped, walk_of, Goes-dropped, Goes-ref, Goes-spent_ref, stay_ref}
 pub use Rattle.core.proofs.alloc.Shapes.{after}
 pub use Rattle.atomic_table.proofs.Walks.{proved, proved_at, leaves}
 pub use Rattle.atomic_table.proofs.Calls.{fm, seq_cst, found, finds}
-pub use Rattle.counting_word.specs.Rights.{Right}
-pub use Rattle.handles.specs.Inside.Blocks.{HeldRow, stamp, held_and_block, block_rule, permit_owns}
+pub use Rattle.counting_word.specs.Rights.{Right, IsWholeBlock, a_handle, right_by_claim, right_by_last_read}
+pub use Rattle.counting_word.specs.Rights.{right_by_lower, right_by_raise, right_by_read, to_lower, whole_block}
+pub use Rattle.handles.specs.Inside.Blocks.{HeldRow, stamp, held_and_block, block_rule, permit_owns, Names}
+pub use Rattle.handles.specs.Inside.Blocks.{bare_block, counted_handle, handle_owns, handle_shares, heap_offset}
+pub use Rattle.handles.specs.Inside.Blocks.{held_offset, lent_share, marked, owned_as, placed, shared_as, shown}
+pub use Rattle.handles.specs.Inside.Blocks.{stamp_offset, unshared_block}
 pub use Rattle.handles.proofs.Fields.{one_word, word_and_permit, one_word-Good, words_are, words_made, HandleRow}
 pub use Rattle.handles.proofs.Fields.{PermitRow, HandleWords, PermitWords, known, is_number, returns_permit}
-pub use Rattle.handles.proofs.Fields.{word_and_permit-Good, handle_at, permit_at}
+pub use Rattle.handles.proofs.Fields.{word_and_permit-Good, handle_at, permit_at, big_lit, lower-NoHandle}
+pub use Rattle.handles.proofs.Fields.{permit_kept, sole_permits, sole_shown, whole_block_of}
 pub use Rattle.handles.proofs.BorrowedHandle.{opens_word, opens_handle, shows_permit, closes_borrow, asks_with}
 pub use Rattle.handles.proofs.BorrowedHandle.{asks_new, logs, reports}
 pub use Rattle.handles.proofs.OneParam.{a_ref, by_ref, by_value, handle_worded, permit_worded, is_handle, so, also}
+pub use Rattle.counting_word.specs.Tallies.{Adds}
+pub use Rattle.handles.proofs.Steps.Born.{Born, Known, born, known as knows}
+pub use Rattle.handles.proofs.Boxes.{Boxed, box_opens, box_shuts, heap_twice}
+pub use Rattle.handles.proofs.RawBoxes.{Global, Goes-blank, Lasts, RawBoxRow, box_in, box_out, dcons, dnil, ghosts}
+pub use Rattle.handles.proofs.RawBoxes.{glues, handle_tells, heap, heap_arg, heap_arg-laws, heap_row, lasts}
+pub use Rattle.handles.proofs.RawBoxes.{named_in, pair_val, passed, raw_box-Good, raw_box_opens, raw_box_shuts}
+pub use Rattle.handles.proofs.RawBoxes.{triple_of, ⊑_static}
+pub use Rattle.core.proofs.cell.Inside.{Good}
+pub use Rattle.handles.specs.Inside.Marked.{HasMark, marked_shares}
+pub use denote.Struct.Lending.{Lends-both, Lends-said, lent_at, of_Lends}
+pub use Rattle.handles.proofs.Owners.{Lends-owned, forgets, handle_settles, handle_shares-ShrLaws, shown_by}
+pub use Rattle.handles.proofs.LoggedSteps.{LoggedRow, NoBytes, no_bytes-made, no_bytes_told, returns_logged}
+pub use Rattle.handles.proofs.LoggedSteps.{word_and_logged, word_and_logged-Good}
+pub use Rattle.std_alloc.proofs.RcSteps.{Ptr-Good}
+pub use Rattle.handles.proofs.Steps.Shared.{SharedBlock, and_logged, block_at}
+pub use denote.Triple.Entry.{Vals}
+pub use Rattle.counting_word.specs.WordSteps.{WordStep}
+pub use Rattle.handles.proofs.Steps.Reads.{a_share, after_read, asks, reads}
+pub use Rattle.handles.proofs.MarkedShared.{becomes_lasting, marked_shares-ShrLaws, new_lasts, stays_shown}
+pub use denote.Triple.Call.{calls_at, calls_at_last}
+pub use denote.Opens.{hide, unhide}
+pub use Rattle.counting_word.specs.CountingWord.{is_one_handle, mark_bit, marked_word}
+pub use contract.BorrowLft.{meet_⊑_left}
+pub use Rattle.handles.proofs.Steps.Stamps.{stamps}
+pub use denote.Plain.{uint_Tells, uint_vals}

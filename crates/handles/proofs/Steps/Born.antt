@@ -1,27 +1,21 @@
 -- What is known of a marked block with no step on its word: that it is marked, by a log with a mark in it; and
 -- then a handle
 -- more, which the log has as the read that it is spared, since that could only have found the mark. Assumes `Logic`.
-use base.Logic.{never_e}
-use types.Kit.{settle, raw}
 use Rattle.counting_word.specs.WordSteps as step
-use mathlib.Core.List.{IsPrefix}
-use base.Growing.{latest}
-use Rattle.std.proofs.Common.{true≢false, sym, ◌∙◌}
-use Rattle.handles.specs.Inside.Blocks.{logs, kept_log, reached, logged}
 use Rattle.handles.specs.Inside.Marked.{HasMark}
 use Rattle.handles.proofs.MarkedLogs.{has_mark-prefix}
-use Rattle.counting_word.specs.CountingWord.{is_marked_word}
-use Rattle.counting_word.proofs.Tallies.{keeps-counts}
 use Rattle.handles.proofs.Steps.Reads.{a_share, no_share}
 use Rattle.handles.proofs.Steps.Turns.{turns_read}
+use Rattle.handles.proofs.Steps.Stepped.{begun_with, records, unknown}
 use Rattle.handles.proofs.Steps.Shared.{◌≡◌, ℕ, true, false, [], ◌∷◌, refl, ap, subst, if◌then◌else◌, Ura, ent, upd}
 use Rattle.handles.proofs.Steps.Shared.{upd_i, via, never, id⊢, sep, ftrue, full_share, Share, Fml, fsep, fex, finv}
-use Rattle.handles.proofs.Steps.Shared.{WordStep, Tally, List, given, learn, fjoin3, lives, begun_with, Logic, sem}
-use Rattle.handles.proofs.Steps.Shared.{‵, ◌⊛◌, ◌$◌, ◌∵◌, !, qed, by, move, keep, drop, frame, assume, split, fsplit}
-use Rattle.handles.proofs.Steps.Shared.{fsplit3, fjoin, fpick, fpack, suffices, use1, use2, done, nothing_more}
-use Rattle.handles.proofs.Steps.Shared.{Right, nothing, a_handle, right_by_read, title, marked, unmarked, Stage}
-use Rattle.handles.proofs.Steps.Shared.{living, over, SharedBlock, at_stage, rule, makes_one, no_token, passed}
-use Rattle.handles.proofs.Steps.Shared.{grants, pass, fits, records, unknown, Entails, noted}
+use Rattle.handles.proofs.Steps.Shared.{WordStep, Tally, List, given, learn, fjoin3, lives, Logic, sem, ‵, ◌⊛◌, ◌$◌}
+use Rattle.handles.proofs.Steps.Shared.{◌∵◌, !, qed, by, move, keep, drop, frame, assume, split, fsplit, fsplit3}
+use Rattle.handles.proofs.Steps.Shared.{fjoin, fpick, fpack, suffices, use1, use2, done, nothing_more, Right}
+use Rattle.handles.proofs.Steps.Shared.{nothing, a_handle, right_by_read, title, marked, unmarked, Stage, living}
+use Rattle.handles.proofs.Steps.Shared.{over, SharedBlock, at_stage, rule, makes_one, no_token, passed, grants, pass}
+use Rattle.handles.proofs.Steps.Shared.{fits, Entails, noted, never_e, settle, raw, IsPrefix, latest, true≢false}
+use Rattle.handles.proofs.Steps.Shared.{sym, ◌∙◌, logs, kept_log, reached, logged, is_marked_word, keeps-counts}
 
 module _ {M : Type 1} {𝓤 : Ura M} (𝓛 : Logic 𝓤) (s : SharedBlock) (q : Share) where
   open 𝓛 use {H}

@@ -1,6 +1,5 @@
 -- A read by the holder of a handle that nobody borrows: if it finds 1, that is the only one. Assumes `Logic`.
 use Rattle.counting_word.specs.WordSteps as step
-use Rattle.counting_word.specs.Rights.{right_by_claim}
 use Rattle.handles.proofs.Asking as asking
 use Rattle.handles.proofs.Steps.Shared.{◌≡◌, ◌≢◌, ℕ, Bool, true, false, [], ◌∷◌, sym, refl, ap, ◌∙◌, subst, eq-eqb}
 use Rattle.handles.proofs.Steps.Shared.{ne_eqb, if◌then◌else◌, dite, ℕ_discrete, Ura, ent, Share, Fml, fsep, fex}
@@ -12,11 +11,7 @@ use Rattle.handles.proofs.Steps.Shared.{beside, rule, granted, counted_stake, li
 use Rattle.handles.proofs.Steps.Shared.{and_logged, ftrue, title, pass, row, grants, passes_on, Entails, noted}
 use Rattle.handles.proofs.Steps.Shared.{recorded, alone, Tally, IsTallied, Keeps, fact, logs, kept_log, List}
 use Rattle.handles.proofs.Steps.Shared.{WordStep, Right, given, learn, nothing_more, full_share, fsplit, done, ◌≤◌}
-use Rattle.handles.proofs.Steps.Shared.{◌+◌, arith}
-use base.Growing.{latest}
-use base.Logic.{id⊢}
-use Rattle.counting_word.proofs.Tallies.{keeps-counts, tallied}
-use Rattle.handles.proofs.Rows.{row_some}
+use Rattle.handles.proofs.Steps.Shared.{◌+◌, arith, right_by_claim, latest, id⊢, keeps-counts, tallied, row_some}
 use Rattle.handles.proofs.Steps.Turns.{turns_none}
 use Rattle.handles.proofs.Steps.LastReads.{a_stake, not_yet_marked, HeldSteps, held_step}
 use Rattle.handles.proofs.Steps.Lowers.{last_one}

@@ -1,18 +1,15 @@
 -- The read by which a handle ends, and what every step by a handle's holder has. Assumes `Logic`.
-use Rattle.counting_word.specs.CountingWord.{is_marked_word}
-use base.Logic.{id⊢}
-use Rattle.counting_word.specs.WordSteps.{reads_last}
-use Rattle.counting_word.specs.Rights.{to_lower, right_by_last_read}
 use Rattle.handles.proofs.Asking as asking
 use Rattle.handles.proofs.Steps.Turns.{turns_last}
+use Rattle.handles.proofs.Steps.Stepped.{Turns, stepped, unknown}
 use Rattle.handles.proofs.Steps.Shared.{◌≡◌, ℕ, ◌^◌, ◌<◌, Bool, true, false, [], ◌∷◌, ap, if◌then◌else◌, Ura, SProp}
 use Rattle.handles.proofs.Steps.Shared.{ent, never, Share, Fml, fsep, flft, Logic, sem, ‵, ◌$◌, ◌∵◌, !, qed, by}
 use Rattle.handles.proofs.Steps.Shared.{move, keep, drop, fsplit, fsplit3, fpick, use1, use2, part_in, nothing_more}
 use Rattle.handles.proofs.Steps.Shared.{nothing, StandsWithin, unit_of_count, unshared, marked, entitled, stake}
 use Rattle.handles.proofs.Steps.Shared.{SharedBlock, shared, unmarked, counts, beside, rule, granted, no_token}
 use Rattle.handles.proofs.Steps.Shared.{lives, regranted, Lands, Asks, fjoin, full_share, title, grants, pass}
-use Rattle.handles.proofs.Steps.Shared.{passed, passes_on, Turns, stepped, and_logged, unknown, ftrue, WordStep}
-use Rattle.handles.proofs.Steps.Shared.{word_by, refl}
+use Rattle.handles.proofs.Steps.Shared.{passed, passes_on, and_logged, ftrue, WordStep, word_by, refl}
+use Rattle.handles.proofs.Steps.Shared.{is_marked_word, id⊢, reads_last, to_lower, right_by_last_read}
 
 -- what the holder of a handle has: a share e of the token, to which it is entitled as y says
 abbrev pub a_stake : SharedBlock → Bool → Share → Fml

@@ -1,18 +1,15 @@
 -- The mark, made through a `&` to a handle. Assumes `Logic`.
 use lib.Bits.{bit_or}
-use base.Logic.{id⊢}
-use Rattle.std.proofs.Common.{leb-false}
-use Rattle.counting_word.specs.CountingWord.{marked_word}
-use Rattle.counting_word.proofs.Words.{bit_or-mark_bit, stands-marked_word}
 use Rattle.counting_word.specs.WordSteps as step
 use Rattle.handles.proofs.Asking as asking
+use Rattle.handles.proofs.Steps.Stepped.{stepped, unknown}
 use Rattle.handles.proofs.Steps.Shared.{◌≡◌, ℕ, ◌+◌, ◌^◌, ◌<◌, Bool, true, false, [], ◌∷◌, sym, refl, ◌∙◌, subst}
 use Rattle.handles.proofs.Steps.Shared.{arith, Ura, ftrue, Share, Fml, fsep, flft, Logic, ‵, ◌⊛◌, ◌$◌, ◌∵◌, !, qed}
 use Rattle.handles.proofs.Steps.Shared.{by, move, keep, split, fsplit, fsplit3, fjoin, fjoin3, fpick, fpack}
 use Rattle.handles.proofs.Steps.Shared.{suffices, use1, use2, done, rest, takes, mark_bit, count_of-unmarked}
 use Rattle.handles.proofs.Steps.Shared.{StandsWithin, unit_of_count, marked, SharedBlock, shared, counts, beside}
-use Rattle.handles.proofs.Steps.Shared.{rule, Entails, lives, Lands, Asks, stepped, pass, passes_on, and_logged}
-use Rattle.handles.proofs.Steps.Shared.{unknown}
+use Rattle.handles.proofs.Steps.Shared.{rule, Entails, lives, Lands, Asks, pass, passes_on, and_logged, id⊢}
+use Rattle.handles.proofs.Steps.Shared.{leb-false, marked_word, bit_or-mark_bit, stands-marked_word}
 use Rattle.handles.proofs.Steps.Words.{marked-stands}
 use Rattle.handles.proofs.Steps.Reads.{bare_share, a_share, no_share}
 use Rattle.handles.proofs.Steps.Turns.{turns_none}

@@ -1,18 +1,15 @@
 -- A raise of the word through a `&` to a handle. Assumes `Logic`.
+use Rattle.handles.proofs.Steps.Stepped.{stepped, begun_with}
 use Rattle.handles.proofs.Steps.Shared.{fsep, ◌≡◌, ◌≢◌, ℕ, ◌+◌, ◌%◌, ◌<◌, ◌≤◌, Bool, true, false, [], ◌∷◌, sym, refl}
 use Rattle.handles.proofs.Steps.Shared.{ap, ◌∙◌, subst, arith, eq-eqb, ne_eqb, if◌then◌else◌, dite, ℕ_discrete, Ura}
 use Rattle.handles.proofs.Steps.Shared.{Share, Fml, Logic, ‵, ◌⊛◌, ◌$◌, ◌∵◌, !, qed, by, move, split, fsplit, fjoin}
 use Rattle.handles.proofs.Steps.Shared.{use1, use2, rest, takes, mark_bit, StandsFor, count_of-unmarked, nothing}
 use Rattle.handles.proofs.Steps.Shared.{a_handle, right_by_read, StandsWithin, unit_of_count, title, pass, passed}
 use Rattle.handles.proofs.Steps.Shared.{passes_on, SharedBlock, counts, beside, rule, granted, counted_stake, lives}
-use Rattle.handles.proofs.Steps.Shared.{regranted, Lands, Asks, stepped, and_logged, begun_with, WordStep, List}
+use Rattle.handles.proofs.Steps.Shared.{regranted, Lands, Asks, and_logged, WordStep, List, eqb, leb-true}
+use Rattle.handles.proofs.Steps.Shared.{greatest_count, stands-raised, right_by_raise, reached}
 use prog.Atomic.{either}
-use Rattle.std.proofs.Common.{eqb, leb-true}
-use Rattle.counting_word.specs.CountingWord.{greatest_count}
-use Rattle.counting_word.proofs.Words.{stands-raised}
 use Rattle.counting_word.specs.WordSteps as step
-use Rattle.counting_word.specs.Rights.{right_by_raise}
-use Rattle.handles.specs.Inside.Blocks.{reached}
 use Rattle.handles.proofs.Steps.Words.{stands-unmarked}
 use Rattle.handles.proofs.Steps.Reads.{bare_share, a_share, bare_reported, reported, reported_passed, no_share, shut}
 use Rattle.handles.proofs.Steps.Reads.{found_marked, found_unmarked}

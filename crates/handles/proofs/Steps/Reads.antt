@@ -1,19 +1,15 @@
 -- A read of the word through a `&` to a handle, and what every step through a `&` leaves. Assumes `Logic`.
-use base.Fml.{ftrue}
-use Rattle.counting_word.specs.CountingWord.{IsWithin}
 use Rattle.counting_word.specs.WordSteps as step
-use Rattle.counting_word.specs.Rights.{Right}
-use Rattle.handles.specs.Inside.Blocks.{fact, logged}
+use Rattle.handles.proofs.Steps.Stepped.{stepped, unknown}
 use Rattle.handles.proofs.Steps.Shared.{WordStep, List, fsplit, fsplit3, done, unshared, ◌≡◌, ℕ, true, false, []}
 use Rattle.handles.proofs.Steps.Shared.{◌∷◌, ap, if◌then◌else◌, Ura, ent, never, Share, Fml, fsep, flft, Logic, sem}
 use Rattle.handles.proofs.Steps.Shared.{‵, ◌⊛◌, ◌$◌, ◌∵◌, !, qed, by, move, split, fjoin, fpack, use1, use2}
 use Rattle.handles.proofs.Steps.Shared.{nothing_more, nothing, a_handle, right_by_read, StandsWithin, title}
 use Rattle.handles.proofs.Steps.Shared.{SharedBlock, shared, counts, beside, rule, granted, grants, passed, pass}
 use Rattle.handles.proofs.Steps.Shared.{Bool, passes_on, Entails, no_token, lives, regranted, makes_one, Lands, Asks}
-use Rattle.handles.proofs.Steps.Shared.{stepped, and_logged, unknown, refl}
+use Rattle.handles.proofs.Steps.Shared.{and_logged, refl, ftrue, IsWithin, Right, fact, logged, id⊢}
 use Rattle.handles.proofs.Asking as asking
 use Rattle.handles.proofs.Steps.Turns.{turns_read, turns_none}
-use base.Logic.{id⊢}
 
 module _ (s : SharedBlock) (q : Share) where
   -- its maker has a share of the token, and of the pass of a handle

@@ -1,16 +1,12 @@
 -- A step on a word that stays in the invariant beside the counting word, as the stamp: it changes nothing else.
 -- Assumes `Logic`.
-use base.Logic.{ex, upd_i, via, never_e}
-use types.Kit.{show, assume}
-use denote.RawPtr.{block_ptr}
-use Rattle.core.specs.Sync.RawAtomic.{asks, always, word}
-use Rattle.handles.specs.Inside.Blocks.{living}
 use Rattle.handles.proofs.Asking as asking
 use Rattle.handles.proofs.Steps.Shared.{finv, ℕ, ◌+◌, Bool, true, false, [], ◌∷◌, Ura, full_share, SProp, ent, never}
 use Rattle.handles.proofs.Steps.Shared.{Share, Fml, fsep, fex, flft, flent, Logic, sem, ‵, ◌⊛◌, ◌$◌, ◌∵◌, !, qed, by}
 use Rattle.handles.proofs.Steps.Shared.{move, keep, split, fsplit, fsplit3, fjoin, fjoin3, fpick, fpack, frame}
 use Rattle.handles.proofs.Steps.Shared.{suffices, use1, use2, done, rest, marked, Stage, over, SharedBlock, shared}
-use Rattle.handles.proofs.Steps.Shared.{unmarked, beside, at_stage, rule, Entails}
+use Rattle.handles.proofs.Steps.Shared.{unmarked, beside, at_stage, rule, Entails, ex, upd_i, via, never_e, show}
+use Rattle.handles.proofs.Steps.Shared.{assume, block_ptr, asks, always, word, living}
 use Rattle.handles.proofs.Steps.Reads.{a_share}
 
 -- that word, at the offset o

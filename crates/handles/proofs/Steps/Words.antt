@@ -1,7 +1,6 @@
 -- What the word of a block stands for, when its mark or its count changes.
-use Rattle.std.proofs.Common.{◌≡◌, ℕ, ◌≤◌, Bool, true, false, sym, ◌∙◌, subst, le_trans, true≢false}
-use Rattle.counting_word.specs.CountingWord.{count_of, StandsFor}
-use Rattle.handles.specs.Inside.Blocks.{StandsWithin}
+use Rattle.handles.proofs.Steps.Shared.{◌≡◌, ℕ, ◌≤◌, Bool, true, false, sym, ◌∙◌, subst, le_trans, true≢false}
+use Rattle.handles.proofs.Steps.Shared.{count_of, StandsFor, StandsWithin}
 
 -- Without the mark the drops in flight are among the live handles, however many they are.
 pub stands-unmarked : (word live in_drop other : ℕ)

@@ -3,12 +3,9 @@ use Rattle.handles.proofs.PlacesWalks.{◌≡◌, Bool, List, [], ◌∷◌, ref
 use Rattle.handles.proofs.PlacesWalks.{‵, raw, ◌⊛◌, ◌$◌, ◌∵◌, !, qed, by, move, keep, split, join, use0, feq_i, lit}
 use Rattle.handles.proofs.PlacesWalks.{returns, enter, alloc_all, pass_all, free_all, look_at, sets, tables, fact}
 use Rattle.handles.proofs.PlacesWalks.{fact_i, nothing_more, layout, layouts, walk_of, proved, leaves, capped, bin}
-use Rattle.handles.proofs.PlacesWalks.{size_word}
-use mir.Val.{vbool}
+use Rattle.handles.proofs.PlacesWalks.{size_word, vbool, eqb, capped_zero}
 use Rattle.std.specs.Prelude.{IsTrue, ◌↔◌}
-use lib.Dec.{eqb}
 use prog.Memory.{size}
-use Rattle.handles.proofs.PlacesMade.{capped_zero}
 use Rattle.handles.specs.contracts.header_slice.places.has_no_size.{ended, clauses}
 use Rattle.handles.specs.contracts.header_slice.places.has_no_size.Key.{name as #self}
 use Rattle.handles.proofs.header_slice.places.has_no_size.Statement.{statement}

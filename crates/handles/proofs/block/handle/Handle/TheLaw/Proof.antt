@@ -1,19 +1,14 @@
 -- A `&` to a handle has a share of the token of its block's sharing, or sees what the block holds if it is known to
 -- be the only one. Assumes `Logic`.
+use Rattle.handles.proofs.Walks.{Incl-trans, meet_⊑_left, RattleType, Laws, of_Lends, Lends-both, Lends-said, placed}
+use Rattle.handles.proofs.Walks.{owned_as, shared_as, handle_shares-ShrLaws, Lends-owned}
 use mathlib.Core.List.{[], ◌++◌}
-use base.Fml.{Incl-trans}
-use contract.BorrowLft.{meet_⊑_left}
-use denote.RattleType.{RattleType}
 use denote.Sharing.{said}
-use denote.Param.Laws.{Laws}
 use denote.Param.Shared.{copy_shared}
 use denote.Struct.Field.{RawPtr-field}
 use denote.Struct.Laws.{RawPtr-copy}
-use denote.Struct.Lending.{of_Lends, Lends-both, Lends-said}
-use Rattle.handles.specs.Inside.Blocks.{placed, owned_as, shared_as}
 use Rattle.handles.specs.contracts.block.handle.Handle as C
 use Rattle.handles.proofs.block.handle.Handle.TheLaw.Statement.{statement}
-use Rattle.handles.proofs.Owners.{handle_shares-ShrLaws, Lends-owned}
 
 pub shares : (T : RattleType) (L : Laws T) → statement T L
 shares T L = of_Lends (C.struct T) (C.the_codes T.Denot T.coded) (C.the_heap T) (C.the_lent T)

@@ -8,17 +8,13 @@ use Rattle.handles.proofs.Walks.{sub, whole, look_in, tables, fact, yes, RattleT
 use Rattle.handles.proofs.Walks.{block_ptr, block_of, offset_of, nothing_more, heard, shuts, param, layouts, u64}
 use Rattle.handles.proofs.Walks.{shr_vals, shr_Tells, Stays, stay_dropped, walk_of, Goes-dropped, after, proved}
 use Rattle.handles.proofs.Walks.{leaves, fm, found, finds, HeldRow, one_word, HandleRow, HandleWords, is_number}
-use Rattle.handles.proofs.Walks.{opens_handle, closes_borrow, a_ref, asks_with}
+use Rattle.handles.proofs.Walks.{opens_handle, closes_borrow, a_ref, asks_with, uint_vals, uint_Tells, stamp_offset}
+use Rattle.handles.proofs.Walks.{lent_share, block_at, stamps, Vals}
 use Rattle.atomic_table.proofs.Calls.{adds}
-use denote.Plain.{uint_vals, uint_Tells}
-use Rattle.handles.specs.Inside.Blocks.{stamp_offset, lent_share}
-use Rattle.handles.proofs.Steps.Shared.{block_at}
-use Rattle.handles.proofs.Steps.Stamps.{stamps}
 use Rattle.handles.specs.contracts.block.handle.Handle.add_to_stamp.{ended, clauses}
 use Rattle.handles.specs.contracts.block.handle.Handle.add_to_stamp.Key.{name as #self}
 use Rattle.handles.proofs.block.handle.Handle.add_to_stamp.Statement.{statement}
 use Rattle.handles.proofs.block.handle.Handle.add_to_stamp.Code as code
-use denote.Triple.Entry.{Vals}
 
 pub add_to_stamp_spec : {M : Type 1} → statement M
 add_to_stamp_spec 𝓤 𝓛 𝓜 𝓡 wired T L =

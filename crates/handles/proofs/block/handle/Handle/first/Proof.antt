@@ -6,13 +6,10 @@ use Rattle.handles.proofs.Walks.{of_opd, no_more, and_then, returns, enter, allo
 use Rattle.handles.proofs.Walks.{get, get_in, sets, agg, sub, whole, tables, fact, no, RattleType, owns, types_at}
 use Rattle.handles.proofs.Walks.{plain, Ptr, InBlock, block_ptr, nothing_more, heard, param, layouts, Stays}
 use Rattle.handles.proofs.Walks.{stay_dropped, walk_of, proved_at, leaves, HeldRow, one_word, words_made}
-use Rattle.handles.proofs.Walks.{HandleWords, known, rewrite, true}
-use types.Kit.{some as exists}
-use Rattle.handles.specs.Inside.Blocks.{bare_block, owned_as}
-use Rattle.handles.proofs.RawBoxes.{Goes-blank, pair_val, RawBoxRow, raw_box-Good, raw_box_opens}
+use Rattle.handles.proofs.Walks.{HandleWords, known, rewrite, true, exists, bare_block, owned_as, Goes-blank}
+use Rattle.handles.proofs.Walks.{pair_val, RawBoxRow, raw_box-Good, raw_box_opens, box_opens}
 use Rattle.handles.specs.contracts.block.Block as block_type
 use Rattle.handles.proofs.NewBlocks.{begins_sole}
-use Rattle.handles.proofs.Boxes.{box_opens}
 use Rattle.handles.specs.contracts.block.handle.Handle as handle_type
 use Rattle.handles.specs.contracts.block.handle.Handle.first.{ended, clauses}
 use Rattle.handles.specs.contracts.block.handle.Handle.first.Key.{name as #self}
@@ -37,8 +34,7 @@ first_spec 𝓤 𝓛 𝓜 𝓡 wired T L =
     -- [the box; its allocator; nothing; the tokens]
     use1 𝓛 (‵ (bare_block R p x d.value.word)) (box_opens T L 𝓛 b o d.value.word d.value.stamp x d.value.alloc) $
     rewrite ! 0 (λ (w : ℕ). ‵ (bare_block R p x w)) new refl $
-    use1 𝓛 (later (exists (λ (η : ℕ). ‵ (owned_as R p x η true))))
-    (begins_sole R 𝓛 p x) $ keep ! (0 ∷ 3 ∷ []) $
+    use1 𝓛 (later (exists (λ (η : ℕ). ‵ (owned_as R p x η true)))) (begins_sole R 𝓛 p x) $ keep ! (0 ∷ 3 ∷ []) $
     suffices ! (Run (pair_val (vptr b o) h ∷ [])) (subst (λ (us : List Val). ent 𝓤 (Run (pair_val (vptr b o)
     h ∷ [])) (Run us)) (sym (λ j. is_pair j ++ [])) (id⊢ 𝓤 _)) $ enter ! 𝓣.C 𝓣.Λ fn (pair_val (vptr b o) h ∷ []) Post $
     alloc_all ! (λ l. pass_all ! refl (raw_box-Good b o h good, tt) $ await ! tt $ pick ! (λ η.

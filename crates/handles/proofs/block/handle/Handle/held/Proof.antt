@@ -5,29 +5,22 @@ use Rattle.handles.proofs.Walks.{feq_i, stop, fld, load, addr, of_opd, first, bl
 use Rattle.handles.proofs.Walks.{alloc_all, pass_all, free_all, look_at, get, through, sets, sets_last, env, sub}
 use Rattle.handles.proofs.Walks.{whole, look_in, tables, RattleType, Ptr, block_ptr, block_of, offset_of, at_block}
 use Rattle.handles.proofs.Walks.{shuts, param, layouts, param_laws, after, HeldRow, one_word, HandleRow, HandleWords}
-use Rattle.handles.proofs.Walks.{opens_word, by_ref, so}
-use denote.RawPtr.{◌+ₚ◌}
-use denote.Opens.{unhide, hide}
-use denote.Memory.{hidden_shr}
-use denote.Struct.Lending.{lent_at}
-use Rattle.handles.specs.Inside.Blocks.{held_offset, shown, handle_shares}
-use Rattle.handles.proofs.Owners.{shown_by}
-use Rattle.handles.specs.contracts.block.handle.Handle.held.{ended, clauses}
+use Rattle.handles.proofs.Walks.{opens_word, by_ref, so, ◌+ₚ◌, unhide, hide, hidden_shr, lent_at, held_offset, shown}
+use Rattle.handles.proofs.Walks.{handle_shares, shown_by, fact_i}
+use Rattle.handles.specs.contracts.block.handle.Handle.held.{clauses}
 use Rattle.handles.specs.contracts.block.handle.Handle.held.Key.{name as #self}
 use Rattle.handles.proofs.block.handle.Handle.held.Statement.{statement}
 use Rattle.handles.proofs.block.handle.Handle.held.Code as code
-use contract.Monad.{fact_i}
 
 pub held_spec : {M : Type 1} → statement M
 held_spec 𝓤 𝓛 𝓜 𝓡 wired T L =
-    let 𝓣 = tables 𝓤 𝓛.H 𝓜 𝓡 𝓡.env in let R : RattleType = param 0 T in let En = ended T in
+    let 𝓣 = tables 𝓤 𝓛.H 𝓜 𝓡 𝓡.env in let R : RattleType = param 0 T in
     let inst = layouts (a_type ∷ []) (T, tt) in let fn = inst_fn inst code.function in
-    by_ref (HandleRow R) tt En.signature.outlives En.signature.result 𝓛 𝓜 𝓡 (clauses T 𝓛 𝓜.mem 𝓡.returns)
+    by_ref (HandleRow R) tt 𝓛 𝓜 𝓡 (clauses T 𝓛 𝓜.mem 𝓡.returns)
     (λ κs a. Unit {0}) (λ κs a gh. fact_i 𝓤 _ _ tt) (#self inst) fn
     (code.unfolded 𝓤 𝓛.H 𝓜 𝓡 wired (T, tt)) (λ κs qs a gh Post asked ends.
     let p : Ptr = a.now.block in let x : (HeldRow R).Denot = a.now.held in let η : ℕ = a.now.id in
-    let b : ℕ = a.ref_ptr.0 in
-    let o : ℕ = a.ref_ptr.1 in let pb : ℕ = block_of p in let po : ℕ = offset_of p in
+    let b : ℕ = a.ref_ptr.0 in let o : ℕ = a.ref_ptr.1 in let pb : ℕ = block_of p in let po : ℕ = offset_of p in
     let D : RattleType = HandleWords R in let κ : Lft = κs.0 in
     enter ! 𝓣.C 𝓣.Λ fn (vptr b o ∷ []) Post $ alloc_all ! (λ l. pass_all ! refl ((tt, tt), tt) $
     let Ev = env fn.locals l in use1 𝓛 (‵ (hidden_shr D κ (p, tt) b o) ⊛ ‵ (fhide (handle_shares R p x η a.now.sole κ)))

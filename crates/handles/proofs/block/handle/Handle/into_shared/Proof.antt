@@ -3,21 +3,17 @@ use Rattle.handles.proofs.Walks.{ℕ, false, [], ◌∷◌, refl, a_type, inst_f
 use Rattle.handles.proofs.Walks.{use1, stop, fld, of_opd, no_more, and_then, returns, enter, alloc_all, pass_all}
 use Rattle.handles.proofs.Walks.{free_all, look_at, get, get_in, sets, agg, sub, whole, tables, RattleType, Ptr}
 use Rattle.handles.proofs.Walks.{param, layouts, param_laws, HeldRow, one_word, one_word-Good, by_value}
-use Rattle.handles.proofs.Walks.{handle_worded, handle_at, is_handle, so, also}
-use Rattle.handles.specs.Inside.Blocks.{owned_as}
-use contract.Monad.{fact_i}
-use Rattle.handles.proofs.Owners.{forgets}
-use Rattle.std_alloc.proofs.RcSteps.{Ptr-Good}
-use Rattle.handles.specs.contracts.block.handle.Handle.into_shared.{ended, clauses}
+use Rattle.handles.proofs.Walks.{handle_worded, handle_at, is_handle, so, also, owned_as, fact_i, forgets, Ptr-Good}
+use Rattle.handles.specs.contracts.block.handle.Handle.into_shared.{clauses}
 use Rattle.handles.specs.contracts.block.handle.Handle.into_shared.Key.{name as #self}
 use Rattle.handles.proofs.block.handle.Handle.into_shared.Statement.{statement}
 use Rattle.handles.proofs.block.handle.Handle.into_shared.Code as code
 
 pub into_shared_spec : {M : Type 1} → statement M
 into_shared_spec 𝓤 𝓛 𝓜 𝓡 wired T L =
-    let 𝓣 = tables 𝓤 𝓛.H 𝓜 𝓡 𝓡.env in let R : RattleType = param 0 T in let En = ended T in
+    let 𝓣 = tables 𝓤 𝓛.H 𝓜 𝓡 𝓡.env in let R : RattleType = param 0 T in
     let inst = layouts (a_type ∷ []) (T, tt) in let fn = inst_fn inst code.function in
-    by_value (handle_worded R) En.signature.outlives En.signature.result 𝓛 𝓜 𝓡 (clauses T 𝓛 𝓜.mem 𝓡.returns)
+    by_value (handle_worded R) 𝓛 𝓜 𝓡 (clauses T 𝓛 𝓜.mem 𝓡.returns)
     (λ κs a. Unit {0}) (λ κs a gh. fact_i 𝓤 _ _ tt) (λ κs a. (tt, tt)) (λ κs x f. refl) (#self inst) fn
     (code.unfolded 𝓤 𝓛.H 𝓜 𝓡 wired (T, tt))
     (λ κs qs a gh Post is ends. let p : Ptr = a.block in let x : (HeldRow R).Denot = a.held in let η : ℕ = a.id in

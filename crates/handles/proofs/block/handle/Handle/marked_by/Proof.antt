@@ -9,17 +9,10 @@ use Rattle.handles.proofs.Walks.{sets_last, env, sub, whole, look_in, tables, fa
 use Rattle.handles.proofs.Walks.{plain, Ptr, block_ptr, block_of, offset_of, at_block, nothing_more, heard, shuts}
 use Rattle.handles.proofs.Walks.{param, layouts, param_laws, RefOf, shr_vals, shr_Tells, Stays, stay_dropped}
 use Rattle.handles.proofs.Walks.{walk_of, Goes-dropped, after, proved, leaves, HeldRow, block_rule, one_word}
-use Rattle.handles.proofs.Walks.{HandleRow, HandleWords, opens_handle, closes_borrow, known}
-use mir.Val.{vstruct, vnil}
-use types.Kit.{some as exists}
-use denote.Opens.{hide}
-use Rattle.counting_word.specs.WordSteps.{WordStep}
-use Rattle.handles.specs.Inside.Blocks.{Names, marked, reached}
-use Rattle.handles.specs.Inside.Marked.{HasMark, marked_shares}
-use Rattle.handles.proofs.MarkedShared.{becomes_lasting}
-use Rattle.handles.proofs.LoggedSteps.{LoggedRow, no_bytes_told}
-use Rattle.handles.proofs.Steps.Shared.{SharedBlock, block_at}
-use Rattle.handles.proofs.Steps.Born.{Born, born, Known, known as knows}
+use Rattle.handles.proofs.Walks.{HandleRow, HandleWords, opens_handle, closes_borrow, known, vstruct, vnil, exists}
+use Rattle.handles.proofs.Walks.{hide, WordStep, Names, marked, HasMark, marked_shares, becomes_lasting, LoggedRow}
+use Rattle.handles.proofs.Walks.{no_bytes_told, SharedBlock, block_at, Born, born, Known, knows}
+use Rattle.handles.specs.Inside.Blocks.{reached}
 use Rattle.handles.specs.contracts.block.handle.Handle.marked_by.{ended, clauses}
 use Rattle.handles.specs.contracts.block.handle.Handle.marked_by.Key.{name as #self}
 use Rattle.handles.proofs.block.handle.Handle.marked_by.Statement.{statement}
@@ -34,8 +27,7 @@ marked_by_spec 𝓤 𝓛 𝓜 𝓡 wired T L =
     let hs : Stays En.signature.params En.kept = (stay_dropped self yes, (stay_dropped reported yes, tt)) in
     let goes = Goes-dropped 𝓛 3 reported yes (λ κs x f. refl) in
     proved 𝓛 En hs c 𝓜 𝓡 (Goes-dropped 𝓛 3 self yes (λ κs x f. refl), (goes, tt)) (#self inst) fn
-    (code.unfolded 𝓤 𝓛.H 𝓜 𝓡 wired (T, tt))
-    (λ κs. (shr_vals, ((λ s. vstruct vnil ∷ []), tt)))
+    (code.unfolded 𝓤 𝓛.H 𝓜 𝓡 wired (T, tt)) (λ κs. (shr_vals, ((λ s. vstruct vnil ∷ []), tt)))
     (λ κs. (shr_Tells (named 0) κs.0 (HandleRow R), ((λ s vs so. no_bytes_told vs so.0), tt))) (λ κs qs bounds a gh are.
     let b : ℕ = a.0.ref_ptr.0 in let o : ℕ = a.0.ref_ptr.1 in let κ : Lft = κs.0 in let q : Share = qs.0 in
     let others : Fml = fsep (flft κs.1.0 qs.1.0) (fsep (flft κs.1.1.0 qs.1.1.0) ftrue) in

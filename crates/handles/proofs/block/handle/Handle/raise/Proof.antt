@@ -1,5 +1,5 @@
 -- `raise` is one compare-exchange of the word.
-use Rattle.handles.proofs.Steps.Shared.{reached, block_at, and_logged}
+use Rattle.handles.proofs.Steps.Shared.{reached}
 use Rattle.handles.proofs.Walks.{rewrite, ◌≡◌, ℕ, ◌+◌, ◌<◌, false, [], ◌∷◌, refl, sym, ap, w64, a_type, named, Val}
 use Rattle.handles.proofs.Walks.{vint, vptr, inst_fn, SProp, via, Lft, Share, Fml, ftrue, fsep, flft, ‵, raw, ◌⊛◌}
 use Rattle.handles.proofs.Walks.{at_ret, ◌$◌, ◌∵◌, !, qed, by, move, keep, split, join, fsplit, fsplit3, fjoin, stop}
@@ -11,12 +11,9 @@ use Rattle.handles.proofs.Walks.{layouts, u64, shr_vals, shr_Tells, Stays, stay_
 use Rattle.handles.proofs.Walks.{after, proved, leaves, fm, found, finds, Right, HeldRow, one_word, word_and_permit}
 use Rattle.handles.proofs.Walks.{one_word-Good, HandleRow, HandleWords, returns_permit, word_and_permit-Good}
 use Rattle.handles.proofs.Walks.{opens_handle, PermitRow, ptr_val, get_in, no, so, use0, a_ref, permit_worded}
-use Rattle.handles.proofs.Walks.{permit_at, asks_with, reports, also}
-use Rattle.std.proofs.Common.{List, ◌∙◌}
-use Rattle.counting_word.specs.WordSteps.{WordStep}
+use Rattle.handles.proofs.Walks.{permit_at, asks_with, reports, also, block_at, and_logged, List, ◌∙◌, WordStep}
+use Rattle.handles.proofs.Walks.{uint_vals, uint_Tells, right_by_raise, Vals, Fits}
 use Rattle.atomic_table.proofs.Calls.{exchanges}
-use denote.Plain.{uint_vals, uint_Tells}
-use Rattle.counting_word.specs.Rights.{right_by_raise}
 use Rattle.counting_word.specs.WordSteps as step
 use Rattle.handles.proofs.Steps.Raises.{raises, after_raise}
 use Rattle.handles.specs.contracts.block.handle.Handle.raise.{ended, clauses}
@@ -24,8 +21,6 @@ use Rattle.handles.specs.contracts.block.handle.Handle.raise.Key.{name as #self}
 use Rattle.handles.proofs.block.handle.Handle.raise.Statement.{statement}
 use Rattle.handles.proofs.block.handle.Handle.raise.Code as code
 use denote.Triple.Clauses.{at_exit}
-use denote.Triple.Entry.{Vals}
-use mir.Val.{Fits}
 
 pub raise_spec : {M : Type 1} → statement M
 raise_spec 𝓤 𝓛 𝓜 𝓡 wired T L =

@@ -1,6 +1,4 @@
 -- `read` is one load of the word.
-use Rattle.handles.proofs.Steps.Reads.{reads, after_read}
-use Rattle.counting_word.specs.WordSteps.{WordStep}
 use Rattle.handles.proofs.Walks.{◌≡◌, ℕ, ◌+◌, false, [], ◌∷◌, refl, sym, ap, lit<, a_type, vptr, inst_fn, via, Fml}
 use Rattle.handles.proofs.Walks.{at_ret, ◌$◌, !, by, move, keep, stop, fld, load, addr, lit, of_opd, no_more}
 use Rattle.handles.proofs.Walks.{and_then, first, blocks, exec, Calls-last, returns, enter, alloc_all, pass_all}
@@ -9,26 +7,23 @@ use Rattle.handles.proofs.Walks.{look_in, tables, fact, RattleType, Ptr, block_p
 use Rattle.handles.proofs.Walks.{shuts, param, layouts, after, fm, found, finds, Right, HeldRow, one_word}
 use Rattle.handles.proofs.Walks.{word_and_permit, one_word-Good, HandleRow, HandleWords, returns_permit}
 use Rattle.handles.proofs.Walks.{word_and_permit-Good, opens_handle, by_ref, permit_at, so, also, asks_new, reports}
+use Rattle.handles.proofs.Walks.{reads, after_read, right_by_read, block_at, and_logged, snd∗}
 use Rattle.atomic_table.proofs.Calls.{loads}
-use Rattle.counting_word.specs.Rights.{right_by_read}
 use Rattle.counting_word.specs.WordSteps as step
-use Rattle.handles.proofs.Steps.Shared.{block_at, and_logged}
-use Rattle.handles.specs.contracts.block.handle.Handle.read.{ended, clauses}
+use Rattle.handles.specs.contracts.block.handle.Handle.read.{clauses}
 use Rattle.handles.specs.contracts.block.handle.Handle.read.Key.{name as #self}
 use Rattle.handles.proofs.block.handle.Handle.read.Statement.{statement}
 use Rattle.handles.proofs.block.handle.Handle.read.Code as code
-use base.Logic.{snd∗}
 
 pub read_spec : {M : Type 1} → statement M
 read_spec 𝓤 𝓛 𝓜 𝓡 wired T L =
-    let 𝓣 = tables 𝓤 𝓛.H 𝓜 𝓡 𝓡.env in let R : RattleType = param 0 T in let En = ended T in
+    let 𝓣 = tables 𝓤 𝓛.H 𝓜 𝓡 𝓡.env in let R : RattleType = param 0 T in
     let inst = layouts (a_type ∷ []) (T, tt) in let fn = inst_fn inst code.function in
-    by_ref (HandleRow R) tt En.signature.outlives En.signature.result 𝓛 𝓜 𝓡 (clauses T 𝓛 𝓜.mem 𝓡.returns)
+    by_ref (HandleRow R) tt 𝓛 𝓜 𝓡 (clauses T 𝓛 𝓜.mem 𝓡.returns)
     (λ κs a. a.now.sole ≡ false) (λ κs a gh. snd∗ 𝓤 (fact 𝓤 _) (fact 𝓤 _)) (#self inst) fn
     (code.unfolded 𝓤 𝓛.H 𝓜 𝓡 wired (T, tt)) (λ κs qs a gh Post asked ends.
     let p : Ptr = a.now.block in let x : (HeldRow R).Denot = a.now.held in let η : ℕ = a.now.id in
-    let b : ℕ = a.ref_ptr.0 in
-    let o : ℕ = a.ref_ptr.1 in let pb : ℕ = block_of p in let po : ℕ = offset_of p in
+    let b : ℕ = a.ref_ptr.0 in let o : ℕ = a.ref_ptr.1 in let pb : ℕ = block_of p in let po : ℕ = offset_of p in
     let D : RattleType = HandleWords R in
     enter ! 𝓣.C 𝓣.Λ fn (vptr b o ∷ []) Post $ alloc_all ! (λ l. pass_all ! refl ((tt, tt), tt) $
     let Ev = env fn.locals l in opens_handle R p x η ! tt a.now.sole asked b o (λ inb i e r.

@@ -1,5 +1,4 @@
 -- `leave` is the load by which a handle ends.
-use Rattle.counting_word.specs.WordSteps.{WordStep}
 use Rattle.handles.proofs.Walks.{◌≡◌, ℕ, ◌+◌, false, [], ◌∷◌, refl, sym, ap, lit<, a_type, inst_fn, via, Lft, Share}
 use Rattle.handles.proofs.Walks.{Fml, ftrue, flft, ‵, ◌⊛◌, later, at_ret, ◌$◌, !, by, keep, drop, split, fsplit}
 use Rattle.handles.proofs.Walks.{fsplit3, fpick, use1, use2, await, stop, fld, addr, lit, of_opd, no_more, and_then}
@@ -8,30 +7,25 @@ use Rattle.handles.proofs.Walks.{look_at, get, get_in, through, sets, lands_last
 use Rattle.handles.proofs.Walks.{fact, RattleType, Ptr, block_ptr, ptr_val, block_of, offset_of, at_block, param}
 use Rattle.handles.proofs.Walks.{layouts, param_laws, after, fm, found, finds, Right, HeldRow, one_word}
 use Rattle.handles.proofs.Walks.{word_and_permit, one_word-Good, returns_permit, word_and_permit-Good, sem, by_value}
-use Rattle.handles.proofs.Walks.{handle_worded, permit_at, so, also, asks_new, shows_permit}
-use base.Fml.{Incl-refl}
+use Rattle.handles.proofs.Walks.{handle_worded, permit_at, so, also, asks_new, shows_permit, Incl-refl}
+use Rattle.handles.proofs.Walks.{right_by_last_read, owned_as, counted_handle, block_at, and_logged, forgets}
+use Rattle.handles.proofs.Walks.{handle_settles, fst∗}
 use contract.BorrowLft.{◌⊑◌}
 use Rattle.atomic_table.proofs.Calls.{loads}
-use Rattle.counting_word.specs.Rights.{right_by_last_read}
-use Rattle.handles.specs.Inside.Blocks.{owned_as, counted_handle}
 use Rattle.counting_word.specs.WordSteps as step
-use Rattle.handles.proofs.Steps.Shared.{block_at, and_logged}
 use Rattle.handles.proofs.Steps.LastReads.{last_reads, after_last_read}
-use Rattle.handles.proofs.Owners.{forgets, handle_settles}
-use Rattle.handles.specs.contracts.block.handle.Handle.read_for_drop.{ended, clauses}
+use Rattle.handles.specs.contracts.block.handle.Handle.read_for_drop.{clauses}
 use Rattle.handles.specs.contracts.block.handle.Handle.read_for_drop.Key.{name as #self}
 use Rattle.handles.proofs.block.handle.Handle.read_for_drop.Statement.{statement}
 use Rattle.handles.proofs.block.handle.Handle.read_for_drop.Code as code
-use base.Logic.{fst∗}
 
 pub read_for_drop_spec : {M : Type 1} → statement M
 read_for_drop_spec 𝓤 𝓛 𝓜 𝓡 wired T L =
-    let 𝓣 = tables 𝓤 𝓛.H 𝓜 𝓡 𝓡.env in let R : RattleType = param 0 T in let En = ended T in
+    let 𝓣 = tables 𝓤 𝓛.H 𝓜 𝓡 𝓡.env in let R : RattleType = param 0 T in
     let inst = layouts (a_type ∷ []) (T, tt) in let fn = inst_fn inst code.function in
-    by_value (handle_worded R) En.signature.outlives En.signature.result 𝓛 𝓜 𝓡 (clauses T 𝓛 𝓜.mem 𝓡.returns)
+    by_value (handle_worded R) 𝓛 𝓜 𝓡 (clauses T 𝓛 𝓜.mem 𝓡.returns)
     (λ κs a. κs.0 ⊑ T.lives) (λ κs a gh. fst∗ 𝓤 (fact 𝓤 _) (sem 𝓛 ftrue)) (λ κs a. (tt, tt)) (λ κs x f. refl)
-    (#self inst) fn
-    (code.unfolded 𝓤 𝓛.H 𝓜 𝓡 wired (T, tt)) (λ κs qs a gh Post asked ends.
+    (#self inst) fn (code.unfolded 𝓤 𝓛.H 𝓜 𝓡 wired (T, tt)) (λ κs qs a gh Post asked ends.
     let p : Ptr = a.block in let x : (HeldRow R).Denot = a.held in let η : ℕ = a.id in let pb : ℕ = block_of p in
     let po : ℕ = offset_of p in let κ : Lft = κs.0 in let q : Share = qs.0 in
     fsplit ! $ fpick ! (λ inb. drop ! $ let at : p ≡ block_ptr pb po = at_block p inb in

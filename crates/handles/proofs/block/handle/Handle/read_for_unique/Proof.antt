@@ -1,6 +1,4 @@
 -- `claim` is one load of the word, by which the handle knows whether it is the only one.
-use Rattle.counting_word.specs.WordSteps.{WordStep}
-use Rattle.counting_word.specs.Tallies.{Adds}
 use Rattle.handles.proofs.Walks.{◌≡◌, ℕ, ◌+◌, false, List, [], ◌∷◌, refl, sym, ap, ◌∙◌, lit<, a_type, named, Val}
 use Rattle.handles.proofs.Walks.{vptr, inst_fn, full_share, SProp, via, Lft, Share, Fml, ftrue, flft, ‵, raw, ◌⊛◌}
 use Rattle.handles.proofs.Walks.{later, at_ret, ◌$◌, ◌∵◌, !, qed, by, move, keep, drop, split, split3, join, fsplit}
@@ -11,22 +9,14 @@ use Rattle.handles.proofs.Walks.{sub, whole, look_in, tables, fact, RattleType, 
 use Rattle.handles.proofs.Walks.{block_ptr, block_of, offset_of, at_block, nothing_more, peeks, heard, Is, shows}
 use Rattle.handles.proofs.Walks.{cell_at, param, layouts, param_laws, Stays, walk_of, after, proved, leaves, fm}
 use Rattle.handles.proofs.Walks.{found, finds, HeldRow, one_word, words_are, HandleRow, HandleWords, known}
-use Rattle.handles.proofs.Walks.{shows_permit, asks_new, handle_at, is_handle}
-use base.Fml.{GName, Incl-refl}
-use denote.Ref.{mut_vals, mut_Tells}
-use denote.Steps.{opens, closes}
+use Rattle.handles.proofs.Walks.{shows_permit, asks_new, handle_at, is_handle, Adds, GName, Incl-refl, mut_vals}
+use Rattle.handles.proofs.Walks.{mut_Tells, opens, closes, Goes-ref, stay_ref, is_one_handle, right_by_claim}
+use Rattle.handles.proofs.Walks.{counted_handle, owned_as, handle_owns, block_at, and_logged, sole_shown}
+use Rattle.handles.proofs.Walks.{returns_logged, word_and_logged, word_and_logged-Good, forgets, handle_settles}
 use contract.BorrowLft.{◌⊑◌}
-use denote.Triple.Walked.{Goes-ref, stay_ref}
 use Rattle.atomic_table.proofs.Calls.{loads}
-use Rattle.counting_word.specs.CountingWord.{is_one_handle}
-use Rattle.counting_word.specs.Rights.{right_by_claim}
-use Rattle.handles.specs.Inside.Blocks.{counted_handle, owned_as, handle_owns}
 use Rattle.counting_word.specs.WordSteps as step
-use Rattle.handles.proofs.Steps.Shared.{block_at, and_logged}
 use Rattle.handles.proofs.Steps.Claims.{claims, after_claim}
-use Rattle.handles.proofs.Fields.{sole_shown}
-use Rattle.handles.proofs.LoggedSteps.{returns_logged, word_and_logged, word_and_logged-Good}
-use Rattle.handles.proofs.Owners.{forgets, handle_settles}
 use Rattle.handles.specs.contracts.block.handle.Handle as handle_type
 use Rattle.handles.specs.contracts.block.handle.Handle.read_for_unique.{ended, clauses}
 use Rattle.handles.specs.contracts.block.handle.Handle.read_for_unique.Key.{name as #self}

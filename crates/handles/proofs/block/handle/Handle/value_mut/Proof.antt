@@ -8,14 +8,10 @@ use Rattle.handles.proofs.Walks.{through, sets, sets_last, env, sub, whole, look
 use Rattle.handles.proofs.Walks.{owns, types_at, plain, Ptr, block_ptr, block_of, offset_of, at_block, nothing_more}
 use Rattle.handles.proofs.Walks.{peeks, heard, Is, shows, cell_at, param, layouts, Stays, stay_dropped, walk_of}
 use Rattle.handles.proofs.Walks.{after, proved, leaves, HeldRow, one_word, words_are, HandleRow, HandleWords, known}
-use base.Fml.{GName}
-use denote.Ref.{MutRef, MutBor, mut_vals, mut_Tells}
+use Rattle.handles.proofs.Walks.{GName, MutRef, MutBor, mut_vals, mut_Tells, opens, group, Goes-spent_ref}
+use Rattle.handles.proofs.Walks.{held_offset, handle_owns, unshared_block}
 use denote.Signature.{mut_ref_to}
-use denote.Steps.{opens}
-use types.Kit.{group}
 use denote.Follow.{follows, lends_Part}
-use denote.Triple.Walked.{Goes-spent_ref}
-use Rattle.handles.specs.Inside.Blocks.{held_offset, handle_owns, unshared_block}
 use Rattle.handles.specs.Inside.BlockWriteBack.{with_value}
 use Rattle.handles.proofs.HeldParts.{value_offset, Apart, held_out, Rest, value_back}
 use Rattle.handles.specs.contracts.block.handle.Handle as handle_type

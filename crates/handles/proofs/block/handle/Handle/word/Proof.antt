@@ -5,28 +5,24 @@ use Rattle.handles.proofs.Walks.{first, blocks, exec, Calls-last, returns, enter
 use Rattle.handles.proofs.Walks.{look_at, get, through, sets, lands_last, env, agg, sub, whole, look_in, tables}
 use Rattle.handles.proofs.Walks.{fact, RattleType, Ptr, block_ptr, block_of, offset_of, shuts, param, layouts, after}
 use Rattle.handles.proofs.Walks.{fm, found, finds, HeldRow, one_word, HandleRow, HandleWords, opens_handle, by_ref}
-use Rattle.handles.proofs.Walks.{so, also, asks_new, logs}
+use Rattle.handles.proofs.Walks.{so, also, asks_new, logs, returns_logged, word_and_logged, word_and_logged-Good}
+use Rattle.handles.proofs.Walks.{block_at, and_logged, asks, a_share, snd∗}
 use Rattle.atomic_table.proofs.Calls.{loads}
-use Rattle.handles.proofs.LoggedSteps.{returns_logged, word_and_logged, word_and_logged-Good}
-use Rattle.handles.proofs.Steps.Shared.{block_at, and_logged}
 use Rattle.counting_word.specs.WordSteps as step
-use Rattle.handles.proofs.Steps.Reads.{asks, a_share}
-use Rattle.handles.specs.contracts.block.handle.Handle.word.{ended, clauses}
+use Rattle.handles.specs.contracts.block.handle.Handle.word.{clauses}
 use Rattle.handles.specs.contracts.block.handle.Handle.word.Key.{name as #self}
 use Rattle.handles.proofs.block.handle.Handle.word.Statement.{statement}
 use Rattle.handles.proofs.block.handle.Handle.word.Code as code
-use base.Logic.{snd∗}
 
 pub word_spec : {M : Type 1} → statement M
 word_spec 𝓤 𝓛 𝓜 𝓡 wired T L =
-    let 𝓣 = tables 𝓤 𝓛.H 𝓜 𝓡 𝓡.env in let R : RattleType = param 0 T in let En = ended T in
+    let 𝓣 = tables 𝓤 𝓛.H 𝓜 𝓡 𝓡.env in let R : RattleType = param 0 T in
     let inst = layouts (a_type ∷ []) (T, tt) in let fn = inst_fn inst code.function in
-    by_ref (HandleRow R) tt En.signature.outlives En.signature.result 𝓛 𝓜 𝓡 (clauses T 𝓛 𝓜.mem 𝓡.returns)
+    by_ref (HandleRow R) tt 𝓛 𝓜 𝓡 (clauses T 𝓛 𝓜.mem 𝓡.returns)
     (λ κs a. a.now.sole ≡ false) (λ κs a gh. snd∗ 𝓤 (fact 𝓤 _) (fact 𝓤 _)) (#self inst) fn
     (code.unfolded 𝓤 𝓛.H 𝓜 𝓡 wired (T, tt)) (λ κs qs a gh Post asked ends.
     let p : Ptr = a.now.block in let x : (HeldRow R).Denot = a.now.held in let η : ℕ = a.now.id in
-    let b : ℕ = a.ref_ptr.0 in
-    let o : ℕ = a.ref_ptr.1 in let pb : ℕ = block_of p in let po : ℕ = offset_of p in
+    let b : ℕ = a.ref_ptr.0 in let o : ℕ = a.ref_ptr.1 in let pb : ℕ = block_of p in let po : ℕ = offset_of p in
     let D : RattleType = HandleWords R in
     enter ! 𝓣.C 𝓣.Λ fn (vptr b o ∷ []) Post $ alloc_all ! (λ l. pass_all ! refl ((tt, tt), tt) $
     let Ev = env fn.locals l in opens_handle R p x η ! tt a.now.sole asked b o (λ inb i e r.

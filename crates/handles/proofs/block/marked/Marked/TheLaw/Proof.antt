@@ -1,19 +1,13 @@
 -- No `Marked` is owned, so a borrow of one gives anything. Assumes `Logic`.
+use denote.Memory.{part_of}
+use Rattle.handles.proofs.Walks.{sep, wand, never_e, fbor, ‵, raw, ◌⊛◌, later, ◌$◌, !, qed, keep, move, use1, use2}
+use Rattle.handles.proofs.Walks.{split, fsplit, fpick, await, updating, now, done, RattleType, part_at, block_ptr}
+use Rattle.handles.proofs.Walks.{Laws, marked_shares, marked_shares-ShrLaws}
 use base.Fraction.{full_share}
-use base.Logic.{sep, wand, never_e}
-use base.Fml.{fbor}
 use types.Logic.{sem, lfts}
-use types.Kit.{‵, raw, ◌⊛◌, later, ◌$◌, !, qed, keep, move, use1, use2, split, fsplit, fpick, await, updating, now}
-use types.Kit.{done}
-use denote.RattleType.{RattleType}
-use denote.Memory.{part_at, part_of}
-use denote.RawPtr.{block_ptr}
-use denote.Param.Laws.{Laws}
 use mathlib.Core.List.{[], ◌∷◌}
-use Rattle.handles.specs.Inside.Marked.{marked_shares}
 use Rattle.handles.specs.contracts.block.marked.Marked as C
 use Rattle.handles.proofs.block.marked.Marked.TheLaw.Statement.{statement}
-use Rattle.handles.proofs.MarkedShared.{marked_shares-ShrLaws}
 
 pub shares : (T : RattleType) (L : Laws T) → statement T L
 unfolding part_of

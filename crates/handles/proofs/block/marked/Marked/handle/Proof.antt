@@ -4,29 +4,22 @@ use Rattle.handles.proofs.Walks.{full_share, finv, later, await, pick, block_rul
 use Rattle.handles.proofs.Walks.{drop, split, fsplit, fjoin, fpick, use0, use1, use2, stop, addr, of_opd, no_more}
 use Rattle.handles.proofs.Walks.{and_then, returns, enter, alloc_all, pass_all, free_all, look_at, get, through}
 use Rattle.handles.proofs.Walks.{sets, agg, tables, RattleType, Ptr, block_ptr, param, layouts, HeldRow, one_word}
-use Rattle.handles.proofs.Walks.{shows_permit, by_ref, handle_at, is_handle, so, also}
+use Rattle.handles.proofs.Walks.{shows_permit, by_ref, handle_at, is_handle, so, also, exists, unhide, a_handle}
+use Rattle.handles.proofs.Walks.{Names, marked_shares, SharedBlock, block_at, Born, born, fact_i}
 use types.Tokens.{shr_bor-open}
-use types.Kit.{some as exists}
-use denote.Opens.{unhide}
-use Rattle.counting_word.specs.Rights.{a_handle}
-use Rattle.handles.specs.Inside.Blocks.{Names}
-use Rattle.handles.specs.Inside.Marked.{marked_shares}
 use Rattle.counting_word.specs.WordSteps as step
 use Rattle.handles.proofs.BorrowedHandle.{lent_halves}
-use Rattle.handles.proofs.Steps.Shared.{SharedBlock, block_at}
-use Rattle.handles.proofs.Steps.Born.{Born, born}
 use Rattle.handles.specs.contracts.block.marked.Marked as marked_type
-use Rattle.handles.specs.contracts.block.marked.Marked.handle.{ended, clauses}
+use Rattle.handles.specs.contracts.block.marked.Marked.handle.{clauses}
 use Rattle.handles.specs.contracts.block.marked.Marked.handle.Key.{name as #self}
 use Rattle.handles.proofs.block.marked.Marked.handle.Statement.{statement}
 use Rattle.handles.proofs.block.marked.Marked.handle.Code as code
-use contract.Monad.{fact_i}
 
 pub handle_spec : {M : Type 1} → statement M
 handle_spec 𝓤 𝓛 𝓜 𝓡 wired T L =
-    let 𝓣 = tables 𝓤 𝓛.H 𝓜 𝓡 𝓡.env in let R : RattleType = param 0 T in let En = ended T in
+    let 𝓣 = tables 𝓤 𝓛.H 𝓜 𝓡 𝓡.env in let R : RattleType = param 0 T in
     let inst = layouts (a_type ∷ []) (T, tt) in let fn = inst_fn inst code.function in
-    by_ref (marked_type.the_row R) tt En.signature.outlives En.signature.result 𝓛 𝓜 𝓡 (clauses T 𝓛 𝓜.mem 𝓡.returns)
+    by_ref (marked_type.the_row R) tt 𝓛 𝓜 𝓡 (clauses T 𝓛 𝓜.mem 𝓡.returns)
     (λ κs a. Unit {0}) (λ κs a gh. fact_i 𝓤 _ _ tt) (#self inst) fn
     (code.unfolded 𝓤 𝓛.H 𝓜 𝓡 wired (T, tt)) (λ κs qs a gh Post asked ends.
     let b : ℕ = a.ref_ptr.0 in let o : ℕ = a.ref_ptr.1 in let p : Ptr = block_ptr b o in

@@ -3,23 +3,19 @@ use Rattle.handles.proofs.Walks.{ℕ, ◌+◌, List, [], ◌∷◌, refl, a_type
 use Rattle.handles.proofs.Walks.{◌$◌, !, by, keep, drop, fsplit, fjoin, use1, feq_i, stop, fld, addr, of_opd, first}
 use Rattle.handles.proofs.Walks.{blocks, exec, returns, enter, alloc_all, pass_all, free_all, look_at, get, through}
 use Rattle.handles.proofs.Walks.{sets, sets_last, env, tables, RattleType, Ptr, block_ptr, param, layouts}
-use Rattle.handles.proofs.Walks.{param_laws, after, HeldRow, by_ref, so}
-use denote.Opens.{unhide, hide}
-use Rattle.handles.specs.Inside.Blocks.{held_offset, shown}
-use Rattle.handles.specs.Inside.Marked.{marked_shares}
-use Rattle.handles.proofs.MarkedShared.{stays_shown}
+use Rattle.handles.proofs.Walks.{param_laws, after, HeldRow, by_ref, so, unhide, hide, held_offset, shown}
+use Rattle.handles.proofs.Walks.{marked_shares, stays_shown, fact_i}
 use Rattle.handles.specs.contracts.block.marked.Marked as marked_type
-use Rattle.handles.specs.contracts.block.marked.Marked.held.{ended, clauses}
+use Rattle.handles.specs.contracts.block.marked.Marked.held.{clauses}
 use Rattle.handles.specs.contracts.block.marked.Marked.held.Key.{name as #self}
 use Rattle.handles.proofs.block.marked.Marked.held.Statement.{statement}
 use Rattle.handles.proofs.block.marked.Marked.held.Code as code
-use contract.Monad.{fact_i}
 
 pub held_spec : {M : Type 1} → statement M
 held_spec 𝓤 𝓛 𝓜 𝓡 wired T L =
-    let 𝓣 = tables 𝓤 𝓛.H 𝓜 𝓡 𝓡.env in let R : RattleType = param 0 T in let En = ended T in
+    let 𝓣 = tables 𝓤 𝓛.H 𝓜 𝓡 𝓡.env in let R : RattleType = param 0 T in
     let inst = layouts (a_type ∷ []) (T, tt) in let fn = inst_fn inst code.function in
-    by_ref (marked_type.the_row R) tt En.signature.outlives En.signature.result 𝓛 𝓜 𝓡 (clauses T 𝓛 𝓜.mem 𝓡.returns)
+    by_ref (marked_type.the_row R) tt 𝓛 𝓜 𝓡 (clauses T 𝓛 𝓜.mem 𝓡.returns)
     (λ κs a. Unit {0}) (λ κs a gh. fact_i 𝓤 _ _ tt) (#self inst) fn
     (code.unfolded 𝓤 𝓛.H 𝓜 𝓡 wired (T, tt)) (λ κs qs a gh Post asked ends.
     let b : ℕ = a.ref_ptr.0 in let o : ℕ = a.ref_ptr.1 in let p : Ptr = block_ptr b o in

@@ -6,16 +6,11 @@ use Rattle.handles.proofs.Walks.{suffices, feq_i, stop, fld, addr, of_opd, first
 use Rattle.handles.proofs.Walks.{alloc_all, pass_all, free_all, look_at, get, get_in, through, sets, sets_last, env}
 use Rattle.handles.proofs.Walks.{sub, whole, tables, fact, no, RattleType, owns, types_at, plain, Ptr, block_ptr}
 use Rattle.handles.proofs.Walks.{nothing_more, heard, param, layouts, param_laws, Stays, stay_dropped, walk_of}
-use Rattle.handles.proofs.Walks.{after, proved_at, leaves, HeldRow, known}
-use denote.Opens.{hide}
+use Rattle.handles.proofs.Walks.{after, proved_at, leaves, HeldRow, known, hide, marked_word, Goes-blank, pair_val}
+use Rattle.handles.proofs.Walks.{RawBoxRow, raw_box-Good, raw_box_opens, bare_block, marked_shares, new_lasts}
+use Rattle.handles.proofs.Walks.{box_opens}
 use contract.BorrowLft.{◌⊑◌}
-use Rattle.counting_word.specs.CountingWord.{marked_word}
-use Rattle.handles.proofs.RawBoxes.{Goes-blank, pair_val, RawBoxRow, raw_box-Good, raw_box_opens}
 use Rattle.handles.specs.contracts.block.Block as block_type
-use Rattle.handles.specs.Inside.Blocks.{bare_block}
-use Rattle.handles.specs.Inside.Marked.{marked_shares}
-use Rattle.handles.proofs.MarkedShared.{new_lasts}
-use Rattle.handles.proofs.Boxes.{box_opens}
 use Rattle.handles.specs.contracts.block.marked.Marked.of.{ended, clauses}
 use Rattle.handles.specs.contracts.block.marked.Marked.of.Key.{name as #self}
 use Rattle.handles.proofs.block.marked.Marked.of.Statement.{statement}

@@ -3,23 +3,19 @@ use Rattle.handles.proofs.Walks.{drop, ◌≡◌, ℕ, false, [], ◌∷◌, ref
 use Rattle.handles.proofs.Walks.{rewrite, stop, fld, of_opd, no_more, and_then, returns, enter, alloc_all, pass_all}
 use Rattle.handles.proofs.Walks.{free_all, look_at, get, get_in, sets, agg, sub, whole, tables, fact, RattleType}
 use Rattle.handles.proofs.Walks.{Ptr, param, layouts, Right, HeldRow, permit_owns, one_word, one_word-Good, by_value}
-use Rattle.handles.proofs.Walks.{permit_worded, handle_at, is_handle, so, also}
-use Rattle.counting_word.specs.Rights.{a_handle}
-use Rattle.std_alloc.proofs.RcSteps.{Ptr-Good}
-use Rattle.handles.specs.contracts.block.permit.Permit.into_handle.{ended, clauses}
+use Rattle.handles.proofs.Walks.{permit_worded, handle_at, is_handle, so, also, a_handle, Ptr-Good, snd∗}
+use Rattle.handles.specs.contracts.block.permit.Permit.into_handle.{clauses}
 use Rattle.handles.specs.contracts.block.permit.Permit.into_handle.Key.{name as #self}
 use Rattle.handles.proofs.block.permit.Permit.into_handle.Statement.{statement}
 use Rattle.handles.proofs.block.permit.Permit.into_handle.Code as code
-use base.Logic.{snd∗}
 
 pub into_handle_spec : {M : Type 1} → statement M
 into_handle_spec 𝓤 𝓛 𝓜 𝓡 wired T L =
-    let 𝓣 = tables 𝓤 𝓛.H 𝓜 𝓡 𝓡.env in let R : RattleType = param 0 T in let En = ended T in
+    let 𝓣 = tables 𝓤 𝓛.H 𝓜 𝓡 𝓡.env in let R : RattleType = param 0 T in
     let inst = layouts (a_type ∷ []) (T, tt) in let fn = inst_fn inst code.function in
-    by_value (permit_worded R) En.signature.outlives En.signature.result 𝓛 𝓜 𝓡 (clauses T 𝓛 𝓜.mem 𝓡.returns)
+    by_value (permit_worded R) 𝓛 𝓜 𝓡 (clauses T 𝓛 𝓜.mem 𝓡.returns)
     (λ κs a. a.right ≡ a_handle) (λ κs a gh. snd∗ 𝓤 (fact 𝓤 _) (fact 𝓤 _)) (λ κs a. (tt, tt)) (λ κs x f. refl)
-    (#self inst) fn
-    (code.unfolded 𝓤 𝓛.H 𝓜 𝓡 wired (T, tt)) (λ κs qs a gh Post asked ends.
+    (#self inst) fn (code.unfolded 𝓤 𝓛.H 𝓜 𝓡 wired (T, tt)) (λ κs qs a gh Post asked ends.
     let p : Ptr = a.block in let x : (HeldRow R).Denot = a.held in let η : ℕ = a.id in
     rewrite ! 0 (λ (r : Right). ‵ (permit_owns R p x η r a.log)) asked refl $ fsplit ! $ drop ! $
     enter ! 𝓣.C 𝓣.Λ fn (one_word p ∷ []) Post $ alloc_all ! (λ l. pass_all ! refl (one_word-Good p, tt) $

@@ -2,21 +2,17 @@
 use Rattle.handles.proofs.Walks.{ℕ, List, [], ◌∷◌, refl, a_type, inst_fn, ‵, ◌$◌, !, by, move, keep, drop, fsplit}
 use Rattle.handles.proofs.Walks.{fjoin, use0, no_more, returns, enter, alloc_all, pass_all, free_all, look_at, sets}
 use Rattle.handles.proofs.Walks.{agg, tables, RattleType, Ptr, param, layouts, one_word, one_word-Good, by_value}
-use Rattle.handles.proofs.Walks.{permit_worded, so, also}
-use mir.Val.{vstruct, vnil}
-use Rattle.counting_word.specs.WordSteps.{WordStep}
-use Rattle.handles.proofs.LoggedSteps.{NoBytes, no_bytes-made}
-use Rattle.handles.specs.contracts.block.permit.Permit.into_logged.{ended, clauses}
+use Rattle.handles.proofs.Walks.{permit_worded, so, also, vstruct, vnil, WordStep, NoBytes, no_bytes-made, fact_i}
+use Rattle.handles.specs.contracts.block.permit.Permit.into_logged.{clauses}
 use Rattle.handles.specs.contracts.block.permit.Permit.into_logged.Key.{name as #self}
 use Rattle.handles.proofs.block.permit.Permit.into_logged.Statement.{statement}
 use Rattle.handles.proofs.block.permit.Permit.into_logged.Code as code
-use contract.Monad.{fact_i}
 
 pub into_logged_spec : {M : Type 1} → statement M
 into_logged_spec 𝓤 𝓛 𝓜 𝓡 wired T L =
-    let 𝓣 = tables 𝓤 𝓛.H 𝓜 𝓡 𝓡.env in let R : RattleType = param 0 T in let En = ended T in
+    let 𝓣 = tables 𝓤 𝓛.H 𝓜 𝓡 𝓡.env in let R : RattleType = param 0 T in
     let inst = layouts (a_type ∷ []) (T, tt) in let fn = inst_fn inst code.function in
-    by_value (permit_worded R) En.signature.outlives En.signature.result 𝓛 𝓜 𝓡 (clauses T 𝓛 𝓜.mem 𝓡.returns)
+    by_value (permit_worded R) 𝓛 𝓜 𝓡 (clauses T 𝓛 𝓜.mem 𝓡.returns)
     (λ κs a. Unit {0}) (λ κs a gh. fact_i 𝓤 _ _ tt) (λ κs a. (tt, tt)) (λ κs x f. refl) (#self inst) fn
     (code.unfolded 𝓤 𝓛.H 𝓜 𝓡 wired (T, tt)) (λ κs qs a gh Post asked ends.
     let p : Ptr = a.block in let η : ℕ = a.id in let log : List WordStep = a.log in

@@ -6,32 +6,23 @@ use Rattle.handles.proofs.Walks.{first, blocks, exec, returns, enter, alloc_all,
 use Rattle.handles.proofs.Walks.{get_in, through, sets, sets_last, is, env, agg, sub, whole, tables, fact}
 use Rattle.handles.proofs.Walks.{RattleType, Ptr, block_ptr, ptr_val, block_of, offset_of, at_block, param, layout}
 use Rattle.handles.proofs.Walks.{layouts, after, Right, HeldRow, permit_owns, one_word, one_word-Good, by_value}
-use Rattle.handles.proofs.Walks.{permit_worded, so, also}
-use Rattle.handles.proofs.RawBoxes.{heap_row, pair_val, raw_box-Good, raw_box_shuts}
+use Rattle.handles.proofs.Walks.{permit_worded, so, also, heap_row, pair_val, raw_box-Good, raw_box_shuts, look}
+use Rattle.handles.proofs.Walks.{whole_block, IsWholeBlock, heap_offset, unshared_block, Good, group, part_at, Boxed}
+use Rattle.handles.proofs.Walks.{box_shuts, heap_twice, whole_block_of, snd∗}
 use Rattle.handles.specs.contracts.block.Block as block_type
-use types.Run.{look}
 use borrow.Table.OneValue.{part_in, part_out}
-use Rattle.counting_word.specs.Rights.{whole_block, IsWholeBlock}
-use Rattle.handles.specs.Inside.Blocks.{heap_offset, unshared_block}
-use Rattle.core.proofs.cell.Inside.{Good}
-use types.Kit.{group}
-use denote.Memory.{part_at}
-use Rattle.handles.proofs.Boxes.{Boxed, box_shuts, heap_twice}
-use Rattle.handles.proofs.Fields.{whole_block_of}
-use Rattle.handles.specs.contracts.block.permit.Permit.into_raw_box.{ended, clauses}
+use Rattle.handles.specs.contracts.block.permit.Permit.into_raw_box.{clauses}
 use Rattle.handles.specs.contracts.block.permit.Permit.into_raw_box.Key.{name as #self}
 use Rattle.handles.proofs.block.permit.Permit.into_raw_box.Statement.{statement}
 use Rattle.handles.proofs.block.permit.Permit.into_raw_box.Code as code
-use base.Logic.{snd∗}
 
 pub into_raw_box_spec : {M : Type 1} → statement M
 into_raw_box_spec 𝓤 𝓛 𝓜 𝓡 wired T L =
-    let 𝓣 = tables 𝓤 𝓛.H 𝓜 𝓡 𝓡.env in let R : RattleType = param 0 T in let En = ended T in
+    let 𝓣 = tables 𝓤 𝓛.H 𝓜 𝓡 𝓡.env in let R : RattleType = param 0 T in
     let inst = layouts (a_type ∷ []) (T, tt) in let fn = inst_fn inst code.function in
-    by_value (permit_worded R) En.signature.outlives En.signature.result 𝓛 𝓜 𝓡 (clauses T 𝓛 𝓜.mem 𝓡.returns)
+    by_value (permit_worded R) 𝓛 𝓜 𝓡 (clauses T 𝓛 𝓜.mem 𝓡.returns)
     (λ κs a. IsWholeBlock a.right) (λ κs a gh. snd∗ 𝓤 (fact 𝓤 _) (fact 𝓤 _)) (λ κs a. (tt, tt)) (λ κs x f. refl)
-    (#self inst) fn
-    (code.unfolded 𝓤 𝓛.H 𝓜 𝓡 wired (T, tt)) (λ κs qs a gh Post asked ends.
+    (#self inst) fn (code.unfolded 𝓤 𝓛.H 𝓜 𝓡 wired (T, tt)) (λ κs qs a gh Post asked ends.
     let p : Ptr = a.block in let x : (HeldRow R).Denot = a.held in let η : ℕ = a.id in let pb : ℕ = block_of p in
     let po : ℕ = offset_of p in let there : Ptr = block_ptr pb po in
     let Block : RattleType = block_type.the_row R in let n : ℕ = (whole_block_of a.right asked).0 in

@@ -1,8 +1,4 @@
 -- `lower` is one subtraction from the word.
-use types.Kit.{some as exists, given, pick, learn}
-use Rattle.std.proofs.Common.{List}
-use Rattle.counting_word.specs.WordSteps.{WordStep}
-use Rattle.counting_word.specs.Tallies.{Adds}
 use Rattle.handles.proofs.Walks.{◌≡◌, ℕ, ◌+◌, [], ◌∷◌, refl, sym, ap, lit<, a_type, inst_fn, via, Fml, ‵, later}
 use Rattle.handles.proofs.Walks.{at_ret, ◌$◌, !, by, move, keep, drop, fsplit, fjoin, fpick, use2, await, rewrite}
 use Rattle.handles.proofs.Walks.{stop, fld, addr, lit, of_opd, no_more, and_then, first, blocks, exec, Calls-last}
@@ -11,27 +7,23 @@ use Rattle.handles.proofs.Walks.{lands_last, is, env, agg, sub, whole, tables, f
 use Rattle.handles.proofs.Walks.{ptr_val, block_of, offset_of, at_block, param, layouts, after, fm, found, finds}
 use Rattle.handles.proofs.Walks.{Right, HeldRow, permit_owns, one_word, word_and_permit, one_word-Good}
 use Rattle.handles.proofs.Walks.{returns_permit, word_and_permit-Good, by_value, permit_worded, permit_at, so, also}
-use Rattle.handles.proofs.Walks.{asks_with}
+use Rattle.handles.proofs.Walks.{asks_with, exists, given, pick, learn, List, WordStep, Adds, to_lower}
+use Rattle.handles.proofs.Walks.{right_by_lower, block_at, and_logged, lower-NoHandle, permit_kept, snd∗}
 use Rattle.atomic_table.proofs.Calls.{subs}
-use Rattle.counting_word.specs.Rights.{to_lower, right_by_lower}
 use Rattle.counting_word.specs.WordSteps as step
-use Rattle.handles.proofs.Steps.Shared.{block_at, and_logged}
 use Rattle.handles.proofs.Steps.Lowers.{lowers, after_lower}
-use Rattle.handles.proofs.Fields.{lower-NoHandle, permit_kept}
-use Rattle.handles.specs.contracts.block.permit.Permit.lower.{ended, clauses}
+use Rattle.handles.specs.contracts.block.permit.Permit.lower.{clauses}
 use Rattle.handles.specs.contracts.block.permit.Permit.lower.Key.{name as #self}
 use Rattle.handles.proofs.block.permit.Permit.lower.Statement.{statement}
 use Rattle.handles.proofs.block.permit.Permit.lower.Code as code
-use base.Logic.{snd∗}
 
 pub lower_spec : {M : Type 1} → statement M
 lower_spec 𝓤 𝓛 𝓜 𝓡 wired T L =
-    let 𝓣 = tables 𝓤 𝓛.H 𝓜 𝓡 𝓡.env in let R : RattleType = param 0 T in let En = ended T in
+    let 𝓣 = tables 𝓤 𝓛.H 𝓜 𝓡 𝓡.env in let R : RattleType = param 0 T in
     let inst = layouts (a_type ∷ []) (T, tt) in let fn = inst_fn inst code.function in
-    by_value (permit_worded R) En.signature.outlives En.signature.result 𝓛 𝓜 𝓡 (clauses T 𝓛 𝓜.mem 𝓡.returns)
+    by_value (permit_worded R) 𝓛 𝓜 𝓡 (clauses T 𝓛 𝓜.mem 𝓡.returns)
     (λ κs a. a.right ≡ to_lower) (λ κs a gh. snd∗ 𝓤 (fact 𝓤 _) (fact 𝓤 _)) (λ κs a. (tt, tt)) (λ κs x f. refl)
-    (#self inst) fn
-    (code.unfolded 𝓤 𝓛.H 𝓜 𝓡 wired (T, tt)) (λ κs qs a gh Post asked ends.
+    (#self inst) fn (code.unfolded 𝓤 𝓛.H 𝓜 𝓡 wired (T, tt)) (λ κs qs a gh Post asked ends.
     let p : Ptr = a.block in let x : (HeldRow R).Denot = a.held in let η : ℕ = a.id in let pb : ℕ = block_of p in
     let po : ℕ = offset_of p in let old : List WordStep = a.log in
     rewrite ! 0 (λ (r : Right). ‵ (permit_owns R p x η r old)) asked refl $ fsplit ! $ move ! (1 ∷ []) $ fsplit ! $

@@ -5,15 +5,13 @@ use Rattle.handles.proofs.Walks.{keep, split, fsplit3, fjoin, use2, suffices, st
 use Rattle.handles.proofs.Walks.{first, blocks, exec, returns, enter, alloc_all, pass_all, free_all, look_at, get}
 use Rattle.handles.proofs.Walks.{get_in, through, sets, env, agg, sub, whole, tables, no, RattleType, owns, types_at}
 use Rattle.handles.proofs.Walks.{plain, block_ptr, nothing_more, param, layouts, Stays, stay_dropped, walk_of}
-use Rattle.handles.proofs.Walks.{Goes-dropped, after, proved_at, leaves, known}
-use types.Run.{init, assigns_last}
-use denote.Memory.{part_at}
+use Rattle.handles.proofs.Walks.{Goes-dropped, after, proved_at, leaves, known, init, assigns_last, part_at, Global}
+use Rattle.handles.proofs.Walks.{Goes-blank, heap, pair_val, raw_box-Good, raw_box_shuts}
 use Rattle.std_alloc.proofs.BoxSteps.Form as box
 use Rattle.std_alloc.proofs.BoxSteps.Steps.{el_tells, el_in}
 use Rattle.std_alloc.specs.contracts.room.vacant.Vacant as vacant
 use Rattle.std_alloc.proofs.OfVacant.{vacant_val, vacant_typed, Vacant-had}
 use Rattle.std_alloc.proofs.RawLayout.{as_written}
-use Rattle.handles.proofs.RawBoxes.{Global, Goes-blank, heap, pair_val, raw_box-Good, raw_box_shuts}
 use Rattle.handles.specs.contracts.block.raw_box.RawBox.fill.{ended, clauses}
 use Rattle.handles.specs.contracts.block.raw_box.RawBox.fill.Key.{name as #self}
 use Rattle.handles.proofs.block.raw_box.RawBox.fill.Statement.{statement}

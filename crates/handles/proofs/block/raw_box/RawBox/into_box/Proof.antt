@@ -6,14 +6,13 @@ use Rattle.handles.proofs.Walks.{feq_i, suffices, stop, fld, of_opd, no_more, an
 use Rattle.handles.proofs.Walks.{enter, alloc_all, pass_all, free_all, look_at, get, get_in, sets, lands_last, env}
 use Rattle.handles.proofs.Walks.{sub, whole, tables, fact, no, RattleType, owns, types_at, plain, block_ptr}
 use Rattle.handles.proofs.Walks.{nothing_more, only, param, layout, bounded, Stays, stay_dropped, walk_of, after}
-use Rattle.handles.proofs.Walks.{proved_at, leaves, fm, Lft, Share, full_share, use0, known}
-use denote.Triple.Call.{calls_at_last}
-use Rattle.core.proofs.cell.Inside.{Good}
+use Rattle.handles.proofs.Walks.{proved_at, leaves, fm, Lft, Share, full_share, use0, known, calls_at_last, Good}
+use Rattle.handles.proofs.Walks.{dcons, dnil, ⊑_static, named_in, Lasts, lasts, triple_of, Global, passed, box_out}
+use Rattle.handles.proofs.Walks.{box_in, glues, Goes-blank, heap_row, ghosts, heap, heap_arg, heap_arg-laws}
+use Rattle.handles.proofs.Walks.{pair_val, RawBoxRow, raw_box-Good, raw_box_opens}
 use Rattle.std_alloc.specs.contracts.boxed.Box.from_raw as callee
 use Rattle.std_alloc.proofs.boxed.Box.from_raw.Met.{met}
-use Rattle.handles.proofs.RawBoxes.{dcons, dnil, ◌⊑◌, ⊑_static, named_in, Lasts, lasts, triple_of, Global, passed}
-use Rattle.handles.proofs.RawBoxes.{box_out, box_in, glues, Goes-blank, heap_row, ghosts, heap, heap_arg}
-use Rattle.handles.proofs.RawBoxes.{heap_arg-laws, pair_val, RawBoxRow, raw_box-Good, raw_box_opens}
+use Rattle.handles.proofs.RawBoxes.{◌⊑◌}
 use Rattle.std_alloc.proofs.BoxSteps.Form as box
 use Rattle.std_alloc.specs.contracts.boxed.Box as boxed
 use Rattle.handles.specs.contracts.block.raw_box.RawBox.into_box.{ended, clauses}

@@ -6,19 +6,17 @@ use Rattle.handles.proofs.Walks.{rewrite, feq_l, suffices, stop, fld, of_opd, no
 use Rattle.handles.proofs.Walks.{lands_as, alloc_all, pass_all, free_all, look_at, get, get_in, sets, agg, sub}
 use Rattle.handles.proofs.Walks.{whole, tables, fact, no, RattleType, owns, types_at, plain, Ptr, block_ptr, ptr_val}
 use Rattle.handles.proofs.Walks.{nothing_more, only, heard, param, layout, bounded, Stays, stay_dropped, walk_of}
-use Rattle.handles.proofs.Walks.{proved_at, leaves, fm, known, Lft, Share, full_share, use0}
-use base.Logic.{never, fst∗}
+use Rattle.handles.proofs.Walks.{proved_at, leaves, fm, known, Lft, Share, full_share, use0, never, fst∗, vstruct}
+use Rattle.handles.proofs.Walks.{of_list, null_ptr, in_a_block, calls_at, dcons, dnil, ⊑_static, named_in, Lasts}
+use Rattle.handles.proofs.Walks.{lasts, triple_of, Global, passed, box_out, box_in, glues, Goes-blank, heap_row}
+use Rattle.handles.proofs.Walks.{ghosts, heap, heap_arg, heap_arg-laws, handle_tells, pair_val, raw_box-Good}
+use Rattle.handles.proofs.Walks.{raw_box_shuts}
 use mir.Raw.{raw as bare}
-use mir.Val.{vstruct, of_list}
 use denote.Builtin.{RawPtr}
-use denote.RawPtr.{null_ptr, in_a_block}
 use denote.Struct.Tuple.{Tuple}
-use denote.Triple.Call.{calls_at}
 use Rattle.std_alloc.specs.contracts.boxed.Box.into_raw_with_allocator as callee
 use Rattle.std_alloc.proofs.boxed.Box.into_raw_with_allocator.Met.{met}
-use Rattle.handles.proofs.RawBoxes.{dcons, dnil, ◌⊑◌, ⊑_static, named_in, Lasts, lasts, triple_of, Global, passed}
-use Rattle.handles.proofs.RawBoxes.{box_out, box_in, glues, Goes-blank, heap_row, ghosts, heap, heap_arg}
-use Rattle.handles.proofs.RawBoxes.{heap_arg-laws, handle_tells, pair_val, raw_box-Good, raw_box_shuts}
+use Rattle.handles.proofs.RawBoxes.{◌⊑◌}
 use Rattle.std_alloc.specs.Box.Ownership.{box_owns}
 use Rattle.std_alloc.proofs.BoxSteps.Form as box
 use Rattle.std_alloc.specs.contracts.boxed.Box as boxed

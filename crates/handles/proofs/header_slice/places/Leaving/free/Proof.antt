@@ -12,15 +12,12 @@ use Rattle.handles.proofs.PlacesWalks.{Stays, stay_dropped, walk_of, Goes-droppe
 use Rattle.handles.proofs.PlacesWalks.{spared, run_framed, ⊑_static, Global, Goes-blank, elτ, sz, uncapped}
 use Rattle.handles.proofs.PlacesWalks.{LeavingRow, leaving-Good, leaving_val, none_at_null, right_to_free}
 use Rattle.handles.proofs.PlacesWalks.{leaving_own, ◌*◌, as_raw, as_written, owns_if, froom, in_a_block, length}
-use Rattle.handles.proofs.PlacesWalks.{ty_array, capped_fits, align, capped, align_word, bin, size_word}
-use lib.Dec.{T as Holds}
+use Rattle.handles.proofs.PlacesWalks.{ty_array, capped_fits, align, capped, align_word, bin, size_word, Holds}
+use Rattle.handles.proofs.PlacesWalks.{has_ty, WT, Sq, prop, branches, skips, whole_room}
 use mir.Raw.{raw as bare}
 use mir.Syntax.{Ty, ty_unit}
-use mir.Val.{has_ty, WT}
 use prog.Capped.{capped_is}
 use prog.RawLaws.{size-raw, align-raw}
-use types.Kit.{Sq, prop}
-use types.Run.{branches, skips}
 use denote.Triple.Call.{calls_at_last}
 use Rattle.core.proofs.alloc.Calls.{Gives, at_gives, Gives-goes, Gives-Gives}
 use Rattle.core.proofs.ptr.Rows.{El}
@@ -28,7 +25,6 @@ use Rattle.std_heap.proofs.GlobalAllocator.deallocate.Met.{met}
 use Rattle.std_heap.specs.contracts.GlobalAllocator.deallocate as heap_gives
 use Rattle.std_alloc.proofs.Flags.{T_true}
 use Rattle.handles.proofs.header_slice.places.Leaving.TheLaws.{lowers}
-use Rattle.handles.proofs.LeavingFields.{whole_room}
 use Rattle.handles.specs.contracts.header_slice.places.Leaving.free.{ended, clauses}
 use Rattle.handles.specs.contracts.header_slice.places.Leaving.free.Key.{name as #self}
 use Rattle.handles.proofs.header_slice.places.Leaving.free.Statement.{statement}

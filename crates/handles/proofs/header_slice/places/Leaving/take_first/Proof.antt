@@ -11,11 +11,10 @@ use Rattle.handles.proofs.PlacesWalks.{cell_at, param, layouts, param_laws, Stay
 use Rattle.handles.proofs.PlacesWalks.{elτ, one_below, sz, times_below, LeavingRow, LeavingWords, leaving_val}
 use Rattle.handles.proofs.PlacesWalks.{leaving_words, none_at_null, leaving_own, ◌*◌, ◌≤◌, as_raw, as_written, froom}
 use Rattle.handles.proofs.PlacesWalks.{Array, part_at, in_a_block, mut_Tells, mut_vals, closes, opens, Goes-ref}
-use Rattle.handles.proofs.PlacesWalks.{stay_ref, length, ty_array, store_in, assigns, bin, size_lit}
-use types.Run.{look}
+use Rattle.handles.proofs.PlacesWalks.{stay_ref, length, ty_array, store_in, assigns, bin, size_lit, look, first_of}
+use Rattle.handles.proofs.PlacesWalks.{first_out, room_after}
 use Rattle.core.proofs.ptr.Rows.{El, Good}
 use Rattle.handles.proofs.header_slice.places.Leaving.TheLaws.{lowers}
-use Rattle.handles.proofs.LeavingFields.{first_of, first_out, room_after}
 use Rattle.handles.specs.contracts.header_slice.places.Leaving.take_first.{ended, clauses}
 use Rattle.handles.specs.contracts.header_slice.places.Leaving.take_first.Key.{name as #self}
 use Rattle.handles.proofs.header_slice.places.Leaving.take_first.Statement.{statement}

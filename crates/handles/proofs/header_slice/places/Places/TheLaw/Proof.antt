@@ -1,7 +1,7 @@
 -- A `&` to the places lends the items and neither the room after them nor the right to free the block. Assumes
 -- `Logic`.
+use Rattle.handles.proofs.PlacesWalks.{Incl-trans, of_Lends, places_share-ShrLaws, Lends-places}
 use mathlib.Core.List.{[], ◌++◌}
-use base.Fml.{Incl-trans}
 use contract.BorrowLft.{meet_⊑_left}
 use denote.RattleType.{RattleType}
 use denote.Param.Laws.{Laws}
@@ -9,10 +9,8 @@ use denote.Param.Shared.{copy_shared}
 use denote.Shares.{Shares-less}
 use denote.Struct.Field.{RawPtr-field, usize-field}
 use denote.Struct.Laws.{RawPtr-copy, usize-copy}
-use denote.Struct.Lending.{of_Lends}
 use Rattle.handles.specs.contracts.header_slice.places.Places as C
 use Rattle.handles.proofs.header_slice.places.Places.TheLaw.Statement.{statement}
-use Rattle.handles.proofs.PlacesShared.{places_share-ShrLaws, Lends-places}
 
 pub shares : (R : RattleType) (L : Laws R) → statement R L
 shares R L = of_Lends (C.struct R) (C.the_codes R.Denot R.coded) (C.the_heap R) (C.the_lent R)

@@ -6,10 +6,10 @@ use Rattle.handles.proofs.PlacesWalks.{enter, alloc_all, pass_all, free_all, loo
 use Rattle.handles.proofs.PlacesWalks.{whole, tables, fact, fact_i, no, RattleType, owns, types_at, plain, Ptr}
 use Rattle.handles.proofs.PlacesWalks.{nothing_more, param, layouts, param_laws, Stays, stay_dropped, walk_of}
 use Rattle.handles.proofs.PlacesWalks.{proved, leaves, Goes-blank, LeavingRow, LeavingWords, leaving-Good}
-use Rattle.handles.proofs.PlacesWalks.{leaving_val, leaving_words, PlacesRow, places_val, leaving_own}
+use Rattle.handles.proofs.PlacesWalks.{leaving_val, leaving_words, PlacesRow, places_val, leaving_own, places-Good}
+use Rattle.handles.proofs.PlacesWalks.{none_left}
 use Rattle.core.proofs.atomic.Steps.{Ptr-Good}
 use Rattle.handles.proofs.header_slice.places.Places.TheLaws.{lowers}
-use Rattle.handles.proofs.LeavingFields.{places-Good, none_left}
 use Rattle.handles.specs.contracts.header_slice.places.Places.into_leaving.{ended, clauses}
 use Rattle.handles.specs.contracts.header_slice.places.Places.into_leaving.Key.{name as #self}
 use Rattle.handles.proofs.header_slice.places.Places.into_leaving.Statement.{statement}

@@ -10,13 +10,11 @@ use Rattle.handles.proofs.PlacesWalks.{nothing_more, heard, cell_at, param, layo
 use Rattle.handles.proofs.PlacesWalks.{Goes-dropped, after, proved_at, elτ, one_below, sz, times_below, PlacesRow}
 use Rattle.handles.proofs.PlacesWalks.{places_val, places_opens, ◌*◌, as_raw, as_written, froom, Array, part_at}
 use Rattle.handles.proofs.PlacesWalks.{closes, opens, Goes-ref, stay_ref, ty_array, store_in, assigns, bin, size_lit}
+use Rattle.handles.proofs.PlacesWalks.{init, assigns_last, ends_at, el_in, spare, snoc, places_shuts}
 use lib.ListN.{length-append}
-use types.Run.{init, assigns_last}
-use denote.Triple.Walked.{ends_at}
 use Rattle.core.proofs.mem.Facts.{says_two}
 use Rattle.core.proofs.mem.Param as param_steps
-use Rattle.core.proofs.ptr.Rows.{El, el_in, spare, snoc}
-use Rattle.handles.proofs.PlacesOpened.{places_shuts}
+use Rattle.core.proofs.ptr.Rows.{El}
 use Rattle.handles.specs.contracts.header_slice.places.Places.push.{ended, clauses}
 use Rattle.handles.specs.contracts.header_slice.places.Places.push.Key.{name as #self}
 use Rattle.handles.proofs.header_slice.places.Places.push.Statement.{statement}

@@ -7,16 +7,13 @@ use Rattle.handles.proofs.PlacesWalks.{pass_all, free_all, look_at, get, through
 use Rattle.handles.proofs.PlacesWalks.{whole, look_in, tables, fact, fact_i, RattleType, Ptr, InBlock, block_ptr}
 use Rattle.handles.proofs.PlacesWalks.{block_of, offset_of, at_block, peeks, heard, looks, shuts, Is, shows, cell_at}
 use Rattle.handles.proofs.PlacesWalks.{param, layouts, after, PlacesRow, places_val, ◌*◌, ◌≤◌, type_size, slice_val}
-use Rattle.handles.proofs.PlacesWalks.{length}
+use Rattle.handles.proofs.PlacesWalks.{length, hidden_shr, in_block_says, words_open}
 use native.Mathlib.Nat.{mul-le-mul_right, lt_of_le_of_lt}
-use denote.Memory.{hidden_shr}
 use denote.Opens.{unhide, hide}
-use denote.Struct.Lending.{in_block_says}
 use denote.Struct.Owning.{to}
 use Rattle.handles.specs.Inside.PlacesOwnership.{places_share}
 use Rattle.handles.proofs.PlacesFields.{PlacesType, PlacesWords, words_are}
-use Rattle.handles.proofs.PlacesShared.{words_open}
-use Rattle.handles.specs.contracts.header_slice.places.Places.slice.{ended, clauses}
+use Rattle.handles.specs.contracts.header_slice.places.Places.slice.{clauses}
 use Rattle.handles.specs.contracts.header_slice.places.Places.slice.Key.{name as #self}
 use Rattle.handles.proofs.header_slice.places.Places.slice.Statement.{statement}
 use Rattle.handles.proofs.header_slice.places.Places.slice.Code as code
@@ -24,9 +21,9 @@ use Rattle.handles.proofs.OneParam.{by_ref, so}
 
 pub slice_spec : {M : Type 1} → statement M
 slice_spec 𝓤 𝓛 𝓜 𝓡 wired T L =
-    let 𝓣 = tables 𝓤 𝓛.H 𝓜 𝓡 𝓡.env in let R : RattleType = param 0 T in let En = ended T in
+    let 𝓣 = tables 𝓤 𝓛.H 𝓜 𝓡 𝓡.env in let R : RattleType = param 0 T in
     let inst = layouts (a_type ∷ []) (T, tt) in let fn = inst_fn inst code.function in
-    by_ref (PlacesRow R) tt En.signature.outlives En.signature.result 𝓛 𝓜 𝓡 (clauses T 𝓛 𝓜.mem 𝓡.returns)
+    by_ref (PlacesRow R) tt 𝓛 𝓜 𝓡 (clauses T 𝓛 𝓜.mem 𝓡.returns)
     (λ κs a. Unit {0}) (λ κs a gh. fact_i 𝓤 _ _ tt) (#self inst) fn (code.unfolded 𝓤 𝓛.H 𝓜 𝓡 wired (T, tt))
     (λ κs qs a gh Post asked ends. let b : ℕ = a.ref_ptr.0 in let o : ℕ = a.ref_ptr.1 in let κ : Lft = κs.0 in
     let s = a.now in let p : Ptr = s.first in let pb : ℕ = block_of p in let po : ℕ = offset_of p in

@@ -8,19 +8,15 @@ use Rattle.handles.proofs.PlacesWalks.{alloc_all, pass_all, free_all, look_at, g
 use Rattle.handles.proofs.PlacesWalks.{agg, sub, whole, look_in, tables, fact, fact_i, no, RattleType, owns}
 use Rattle.handles.proofs.PlacesWalks.{types_at, plain, nothing_more, cell_at, param, layouts, Stays, stay_dropped}
 use Rattle.handles.proofs.PlacesWalks.{walk_of, after, proved, leaves, times_below, PlacesRow, places_opens, ◌*◌}
-use Rattle.handles.proofs.PlacesWalks.{type_size, Array, mut_Tells, mut_vals, slice_val, opens, length}
-use base.Fml.{GName}
-use types.Kit.{group}
+use Rattle.handles.proofs.PlacesWalks.{type_size, Array, mut_Tells, mut_vals, slice_val, opens, length, GName, group}
+use Rattle.handles.proofs.PlacesWalks.{mem, Goes-spent_ref, Beside, items_out, items_back}
 use types.SemTy.{cells}
-use denote.Memory.{mem}
 use denote.Follow.{follows}
 use denote.FollowSlice.{lends_Elements}
 use denote.Ref.{MutBor}
 use denote.Signature.{mut_ref_to}
 use denote.Slice.{MutSlice}
-use denote.Triple.Walked.{Goes-spent_ref}
 use Rattle.handles.specs.Inside.PlacesLending.{with_items}
-use Rattle.handles.proofs.PlacesOpened.{Beside, items_out, items_back}
 use Rattle.handles.specs.contracts.header_slice.places.Places.slice_mut.{ended, clauses}
 use Rattle.handles.specs.contracts.header_slice.places.Places.slice_mut.Key.{name as #self}
 use Rattle.handles.proofs.header_slice.places.Places.slice_mut.Statement.{statement}

@@ -7,10 +7,8 @@ use Rattle.handles.proofs.PlacesWalks.{agg, tables, fact, fact_i, yes, RattleTyp
 use Rattle.handles.proofs.PlacesWalks.{nothing_more, heard, param, layout, layouts, Stays, stay_dropped, walk_of}
 use Rattle.handles.proofs.PlacesWalks.{Goes-dropped, proved, leaves, PlacesRow, places_val, places_made}
 use Rattle.handles.proofs.PlacesWalks.{without_items, right_to_free, Good, ◌*◌, type_size, owns_if, froom, ◌⊑◌}
-use Rattle.handles.proofs.PlacesWalks.{usize, uint_Tells, uint_vals, ty_array}
-use types.Run.{from}
+use Rattle.handles.proofs.PlacesWalks.{usize, uint_Tells, uint_vals, ty_array, from, no_bytes, no_memory}
 use Rattle.core.specs.Allocator.{array_of}
-use Rattle.handles.proofs.PlacesMade.{no_bytes, no_memory}
 use Rattle.handles.specs.contracts.header_slice.places.Places.without_bytes.{ended, clauses}
 use Rattle.handles.specs.contracts.header_slice.places.Places.without_bytes.Key.{name as #self}
 use Rattle.handles.proofs.header_slice.places.Places.without_bytes.Statement.{statement}

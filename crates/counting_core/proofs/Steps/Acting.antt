@@ -65,7 +65,11 @@ module _ {V : Type 0} (f : CoreState V) where
       (ap (λ (u : State). u.activity o) (sym r.same_state) ∙ is) in
       subst (λ n. seen < n) (sym r.same_limit) low
 
-  module _ (o h seen : ℕ) (is : activity f o ≡ Cloning h seen) (reached : IsReached f) where
+  module _ (o h seen : ℕ) {now : CoreState V} (view : f ≡ now) (busy : activity now o ≡ Cloning h seen)
+      (reached : IsReached f) where
+    is : activity f o ≡ Cloning h seen
+    is = subst (λ k. activity k o ≡ Cloning h seen) (sym view) busy
+
     -- a raise that found another word than this
     other : f.word ≢ seen → nat_eq f.word (seen_in (activity f o)) ≡ false
     other apart = ap (λ c. nat_eq f.word (seen_in c)) is ∙ ne_eqb f.word seen apart
@@ -119,12 +123,17 @@ module _ {V : Type 0} (f : CoreState V) where
   drop_reads o h plan may = goes f (Drop o h) Pending (Dropping h) may (ap (λ p. (dropped p, f.word)) (sym plan))
       refl refl refl
 
+  dropping : (o h : ℕ) {now : CoreState V} → f ≡ now → activity now o ≡ Dropping h → activity f o ≡ Dropping h
+  dropping o h view busy = subst (λ k. activity k o ≡ Dropping h) (sym view) busy
+
   -- the handle of a drop in flight lives
-  pub lower_lives : IsReached f → (o h : ℕ) → activity f o ≡ Dropping h → (handle f h).lives ≡ true
-  lower_lives reached o h is =
+  pub lower_lives : IsReached f → (o h : ℕ) {now : CoreState V} → f ≡ now → activity now o ≡ Dropping h
+      → (handle f h).lives ≡ true
+  lower_lives reached o h view busy =
       let r : Represents f reached.0 = reached.1 in
-      ap (λ (u : State). (u.handle h).lives) r.same_state ∙ dropped-lives (state reached.0) (all_fit reached.0 r.legal)
-      o h (ap (λ (u : State). u.activity o) (sym r.same_state) ∙ is)
+      ap (λ (u : State). (u.handle h).lives) r.same_state ∙ dropped-lives (state reached.0)
+      (all_fit reached.0 r.legal)
+      o h (ap (λ (u : State). u.activity o) (sym r.same_state) ∙ dropping o h view busy)
 
   pub lower_some : IsReached f → (o : ℕ) → IsPermitted f (Lower o) → 1 ≤ f.word
   lower_some reached o may =
@@ -148,18 +157,19 @@ module _ {V : Type 0} (f : CoreState V) where
         edits f h (λ s. record s { lives = false }) k new was now (drop_lives o h may)
         (Drop o h) Ended may (ap (λ p. (dropped p, f.word)) (sym plan)) refl refl refl
 
-    pub lowers : new ≡ record k { lives = false } → IsReached f → activity f o ≡ Dropping h → (b : Bool)
+    pub lowers : new ≡ record k { lives = false } → IsReached f → {now : CoreState V} → f ≡ now
+        → activity now o ≡ Dropping h → (b : Bool)
         → is_one_handle f.word ≡ b → IsPermitted f (Lower o)
         → TakesEffect f (Lower o) (if b then GivenUp f.value else Ended)
         (record f { word = f.word - 1; handles = set f.handles h new; owners = set f.owners o Idle })
-    lowers now reached is b one may = at b one where
+    lowers ends reached view busy b one may = at b one where
       same : state_of (record with_new { owners = set f.owners o Idle })
           ≡ goes_on_to (ended (state_of f) (handle_in (activity f o))) o Idle
       same =
           state-owner with_new o Idle (within f (Lower o) may)
-          ∙ ap (λ u. goes_on_to u o Idle) (state-edit f h (λ s. record s { lives = false }) k new was now
-          (lower_lives reached o h is))
-          ∙ ap (λ c. goes_on_to (ended (state_of f) (handle_in c)) o Idle) (sym is)
+          ∙ ap (λ u. goes_on_to u o Idle) (state-edit f h (λ s. record s { lives = false }) k new was ends
+          (lower_lives reached o h view busy))
+          ∙ ap (λ c. goes_on_to (ended (state_of f) (handle_in c)) o Idle) (sym (dropping o h view busy))
 
       left : f.word - 1 ≡ lowered f.word
       left = sym (lowered-less f.word (lower_some reached o may))

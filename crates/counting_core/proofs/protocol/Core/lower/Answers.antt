@@ -16,37 +16,30 @@ index_mut-requires-2 g c =
     c.self.inside.owners.items in
     subst (λ n. c.args.handle < n) (sym c.self.inside.handles.ok.0) (born f c.args.handle
     (lower_lives f c.self.invariant
-    c.args.owner c.args.handle (subst (λ k. activity k c.args.owner ≡ Dropping c.args.handle) (sym c.self.view_is)
-    c.requires.dropping)))
+    c.args.owner c.args.handle c.self.view_is c.requires.dropping))
 
 pub invariant_of-self : goal.invariant_of-self
 invariant_of-self g c =
     elim c.if-is_last.branch [
       | then-is_last w ↦ stays c.self.view_is _ (refl {a = Lower c.args.owner}) (GivenUp c.self.inside.value)
-          c.requires.allowed
-          c.self.invariant (lowers _ c.args.owner c.args.handle c.index_mut-2.result.now c.end.new.self
-          c.index_mut-2.ensures.value c.end.ensures c.self.invariant
-          (subst (λ k. activity k c.args.owner ≡ Dropping c.args.handle) (sym c.self.view_is) c.requires.dropping)
+          c.requires.allowed c.self.invariant (lowers _ c.args.owner c.args.handle c.index_mut-2.result.now
+          c.end.new.self c.index_mut-2.ensures.value c.end.ensures c.self.invariant c.self.view_is c.requires.dropping
           true (sym c.is_last.ensures ∙ w.if-is_last.true))
       | else-is_last w ↦ stays c.self.view_is _ (refl {a = Lower c.args.owner}) Ended c.requires.allowed
           c.self.invariant (lowers _ c.args.owner c.args.handle c.index_mut-2.result.now c.end.new.self
-          c.index_mut-2.ensures.value c.end.ensures c.self.invariant
-          (subst (λ k. activity k c.args.owner ≡ Dropping c.args.handle) (sym c.self.view_is) c.requires.dropping)
-          false (sym c.is_last.ensures ∙ w.if-is_last.false))
+          c.index_mut-2.ensures.value c.end.ensures c.self.invariant c.self.view_is c.requires.dropping false (sym
+          c.is_last.ensures ∙ w.if-is_last.false))
     ]
 
 pub returns : goal.returns
 returns g c =
     elim c.if-is_last.branch [
-      | then-is_last w ↦ rw w.result-is (follows c.self.view_is _ (refl {a = Lower c.args.owner})
-          (GivenUp c.self.inside.value)
-          c.requires.allowed (lowers _ c.args.owner c.args.handle c.index_mut-2.result.now c.end.new.self
-          c.index_mut-2.ensures.value c.end.ensures c.self.invariant
-          (subst (λ k. activity k c.args.owner ≡ Dropping c.args.handle) (sym c.self.view_is) c.requires.dropping)
+      | then-is_last w ↦ rw w.result-is (follows c.self.view_is _ (refl {a = Lower c.args.owner}) (GivenUp
+          c.self.inside.value) c.requires.allowed (lowers _ c.args.owner c.args.handle c.index_mut-2.result.now
+          c.end.new.self c.index_mut-2.ensures.value c.end.ensures c.self.invariant c.self.view_is c.requires.dropping
           true (sym c.is_last.ensures ∙ w.if-is_last.true)))
       | else-is_last w ↦ rw w.result-is (follows c.self.view_is _ (refl {a = Lower c.args.owner}) Ended
           c.requires.allowed (lowers _ c.args.owner c.args.handle c.index_mut-2.result.now c.end.new.self
-          c.index_mut-2.ensures.value c.end.ensures c.self.invariant
-          (subst (λ k. activity k c.args.owner ≡ Dropping c.args.handle) (sym c.self.view_is) c.requires.dropping)
-          false (sym c.is_last.ensures ∙ w.if-is_last.false)))
+          c.index_mut-2.ensures.value c.end.ensures c.self.invariant c.self.view_is c.requires.dropping false (sym
+          c.is_last.ensures ∙ w.if-is_last.false)))
     ]

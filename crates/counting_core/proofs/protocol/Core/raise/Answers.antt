@@ -13,42 +13,34 @@ plan_clone-requires-clause-within g c = core_within _ c.self.invariant.0 c.self.
 
 pub invariant_of-self : goal.invariant_of-self
 invariant_of-self g c =
-    stays c.self.view_is _ (refl {a = Raise c.args.owner}) Full c.requires.allowed c.self.invariant
-    (raise_full _ c.args.owner c.args.handle c.args.seen
-    (subst (λ k. activity k c.args.owner ≡ Cloning c.args.handle c.args.seen) (sym c.self.view_is) c.requires.cloning)
-    c.self.invariant (sym c.plan_clone.ensures ∙ c.in-Full.is))
+    stays c.self.view_is _ (refl {a = Raise c.args.owner}) Full c.requires.allowed c.self.invariant (raise_full _
+    c.args.owner c.args.handle c.args.seen c.self.view_is c.requires.cloning c.self.invariant (sym c.plan_clone.ensures
+    ∙ c.in-Full.is))
 
 pub returns-in-Full : goal.returns-in-Full
 returns-in-Full g c =
-    follows c.self.view_is _ (refl {a = Raise c.args.owner}) Full c.requires.allowed
-    (raise_full _ c.args.owner c.args.handle c.args.seen
-    (subst (λ k. activity k c.args.owner ≡ Cloning c.args.handle c.args.seen) (sym c.self.view_is) c.requires.cloning)
-    c.self.invariant (sym c.plan_clone.ensures ∙ c.in-Full.is))
+    follows c.self.view_is _ (refl {a = Raise c.args.owner}) Full c.requires.allowed (raise_full _ c.args.owner
+    c.args.handle c.args.seen c.self.view_is c.requires.cloning c.self.invariant (sym c.plan_clone.ensures ∙
+    c.in-Full.is))
 
 pub invariant_of-self-then-found-seen : goal.invariant_of-self-then-found-seen
 invariant_of-self-then-found-seen g c =
-    stays c.self.view_is _ (refl {a = Raise c.args.owner}) Pending c.requires.allowed c.self.invariant
-    (raise_loses _ c.args.owner c.args.handle c.args.seen
-    (subst (λ k. activity k c.args.owner ≡ Cloning c.args.handle c.args.seen) (sym c.self.view_is) c.requires.cloning)
-    c.self.invariant _ (sym c.plan_clone.ensures ∙ c.in-Raise.is) c.if-found-seen.true)
+    stays c.self.view_is _ (refl {a = Raise c.args.owner}) Pending c.requires.allowed c.self.invariant (raise_loses _
+    c.args.owner c.args.handle c.args.seen c.self.view_is c.requires.cloning c.self.invariant _ (sym
+    c.plan_clone.ensures ∙ c.in-Raise.is) c.if-found-seen.true)
 
 pub invariant_of-self-2 : goal.invariant_of-self-2
 invariant_of-self-2 g c =
     elim c.match-plan_clone.branch [
       | in-Static w ↦ stays c.self.view_is _ (refl {a = Raise c.args.owner}) (Born c.in-Some.number) c.requires.allowed
-          c.self.invariant (λ may. raise_bears _ c.args.owner c.match-plan_clone.next
-          (raise_static _ c.args.owner c.args.handle c.args.seen
-          (subst (λ k. activity k c.args.owner ≡ Cloning c.args.handle c.args.seen) (sym c.self.view_is)
-          c.requires.cloning)
-          c.self.invariant (sym c.plan_clone.ensures ∙ w.in-Static.is) c.match-plan_clone.next w.next-is) may
-          c.in-Some.number c.in-Some.ensures.number c.push_newborn.new.handles.items c.in-Some.ensures.born)
+          c.self.invariant (λ may. raise_bears _ c.args.owner c.match-plan_clone.next (raise_static _ c.args.owner
+          c.args.handle c.args.seen c.self.view_is c.requires.cloning c.self.invariant (sym c.plan_clone.ensures ∙
+          w.in-Static.is) c.match-plan_clone.next w.next-is) may c.in-Some.number c.in-Some.ensures.number
+          c.push_newborn.new.handles.items c.in-Some.ensures.born)
       | in-Raise+else-found-seen w ↦ stays c.self.view_is _ (refl {a = Raise c.args.owner}) (Born c.in-Some.number)
-          c.requires.allowed c.self.invariant (λ may. raise_bears _ c.args.owner c.match-plan_clone.next
-          (raise_won _ c.args.owner c.args.handle c.args.seen
-          (subst (λ k. activity k c.args.owner ≡ Cloning c.args.handle c.args.seen) (sym c.self.view_is)
-          c.requires.cloning)
-          c.self.invariant w.in-Raise.next (sym c.plan_clone.ensures ∙ w.in-Raise.is) w.if-found-seen.false
-          c.match-plan_clone.next w.next-is) may
+          c.requires.allowed c.self.invariant (λ may. raise_bears _ c.args.owner c.match-plan_clone.next (raise_won _
+          c.args.owner c.args.handle c.args.seen c.self.view_is c.requires.cloning c.self.invariant w.in-Raise.next
+          (sym c.plan_clone.ensures ∙ w.in-Raise.is) w.if-found-seen.false c.match-plan_clone.next w.next-is) may
           c.in-Some.number c.in-Some.ensures.number c.push_newborn.new.handles.items c.in-Some.ensures.born)
     ]
 
@@ -56,19 +48,13 @@ pub returns : goal.returns
 returns g c =
     elim c.match-plan_clone.branch [
       | in-Static w ↦ follows c.self.view_is _ (refl {a = Raise c.args.owner}) (Born c.in-Some.number)
-          c.requires.allowed
-          (λ may. raise_bears _ c.args.owner c.match-plan_clone.next
-          (raise_static _ c.args.owner c.args.handle c.args.seen
-          (subst (λ k. activity k c.args.owner ≡ Cloning c.args.handle c.args.seen) (sym c.self.view_is)
-          c.requires.cloning)
-          c.self.invariant (sym c.plan_clone.ensures ∙ w.in-Static.is) c.match-plan_clone.next w.next-is) may
-          c.in-Some.number c.in-Some.ensures.number c.push_newborn.new.handles.items c.in-Some.ensures.born)
+          c.requires.allowed (λ may. raise_bears _ c.args.owner c.match-plan_clone.next (raise_static _ c.args.owner
+          c.args.handle c.args.seen c.self.view_is c.requires.cloning c.self.invariant (sym c.plan_clone.ensures ∙
+          w.in-Static.is) c.match-plan_clone.next w.next-is) may c.in-Some.number c.in-Some.ensures.number
+          c.push_newborn.new.handles.items c.in-Some.ensures.born)
       | in-Raise+else-found-seen w ↦ follows c.self.view_is _ (refl {a = Raise c.args.owner}) (Born c.in-Some.number)
-          c.requires.allowed (λ may. raise_bears _ c.args.owner c.match-plan_clone.next
-          (raise_won _ c.args.owner c.args.handle c.args.seen
-          (subst (λ k. activity k c.args.owner ≡ Cloning c.args.handle c.args.seen) (sym c.self.view_is)
-          c.requires.cloning)
-          c.self.invariant w.in-Raise.next (sym c.plan_clone.ensures ∙ w.in-Raise.is) w.if-found-seen.false
-          c.match-plan_clone.next w.next-is) may
+          c.requires.allowed (λ may. raise_bears _ c.args.owner c.match-plan_clone.next (raise_won _ c.args.owner
+          c.args.handle c.args.seen c.self.view_is c.requires.cloning c.self.invariant w.in-Raise.next (sym
+          c.plan_clone.ensures ∙ w.in-Raise.is) w.if-found-seen.false c.match-plan_clone.next w.next-is) may
           c.in-Some.number c.in-Some.ensures.number c.push_newborn.new.handles.items c.in-Some.ensures.born)
     ]

@@ -1,6 +1,6 @@
 // Refuses one request for memory of the program that it is loaded into: the one that REFUSED_REQUEST numbers, counted
 // from 1 in the order in which the program makes them. At the end it tells whether that request came, and how many
-// blocks were never given back.
+// blocks were never freed.
 #include <stddef.h>
 #include <stdio.h>
 #include <stdlib.h>

@@ -33,9 +33,10 @@ pub use Rattle.counting_word.specs.CountingWord.{is_one_handle, count_of, marked
 pub use Rattle.counting_word.specs.CountingWord.{StandsFor, IsLimit, IsWithin, greatest_count}
 pub use Rattle.counting_word.specs.Plans.{clone_plan, drop_plan}
 pub use Rattle.counting_word.specs.Rights.{a_handle, nothing, to_lower, whole_block}
-pub use Rattle.counting_word.specs.Tallies.{Tally, has_exactly, after_last_read, one_more, first, after_read}
+pub use Rattle.counting_word.specs.Tallies.{Tally, has_exactly, after_drop_read, one_more, first, after_read}
 pub use Rattle.counting_word.specs.Tallies.{tally_after, MayMake, IsRunFrom, IsRun, tally_from, tally_right, tally_of}
-pub use Rattle.counting_word.specs.WordSteps.{lowered, reads_last, lowers, reads, asks, raises_from, claims, marks}
+pub use Rattle.counting_word.specs.WordSteps.{lowered, reads_for_drop, lowers, reads, asks, raises_from}
+pub use Rattle.counting_word.specs.WordSteps.{reads_for_unique, marks}
 pub use Rattle.counting_word.specs.WordSteps.{WordStep}
 pub use Rattle.counting_word.specs.declared.ClonePlan.TheVariants.{Static as StaticClone, Full as FullClone}
 pub use Rattle.counting_word.specs.declared.ClonePlan.TheVariants.{Raise as RaiseClone}

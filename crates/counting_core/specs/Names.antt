@@ -10,8 +10,9 @@ pub use Rattle.counting_word.specs.CountingWord.{is_marked_word, is_one_handle, 
 pub use Rattle.counting_word.specs.Plans.{clone_plan, drop_plan}
 pub use Rattle.counting_word.specs.Rights.{Right, nothing, a_handle, to_lower, whole_block}
 pub use Rattle.counting_word.specs.Tallies.{Tally, first, has_exactly, tally_after, tally_of, tally_right, IsRun}
-pub use Rattle.counting_word.specs.WordSteps.{WordStep, word_by, right_by, reads, raises_from, asks, reads_last, lowers}
-pub use Rattle.counting_word.specs.WordSteps.{claims, marks}
+pub use Rattle.counting_word.specs.WordSteps.{WordStep, word_by, right_by, reads, raises_from, asks, reads_for_drop}
+pub use Rattle.counting_word.specs.WordSteps.{lowers}
+pub use Rattle.counting_word.specs.WordSteps.{reads_for_unique, marks}
 pub use Rattle.counting_word.specs.declared.ClonePlan.{ClonePlan}
 pub use Rattle.counting_word.specs.declared.ClonePlan.TheVariants.{Static as StaticClone, Full as FullClone}
 pub use Rattle.counting_word.specs.declared.ClonePlan.TheVariants.{Raise as RaiseClone}

@@ -2,7 +2,8 @@
 use Rattle.std.proofs.Common.{◌≡◌, ℕ, Bool, true, false, nat_eq, if◌then◌else◌, sym, subst}
 use Rattle.counting_word.specs.CountingWord.{is_marked_word, is_one_handle}
 use Rattle.counting_word.specs.Rights.{Right, nothing, a_handle, to_lower, whole_block, right_by_read, IsWholeBlock}
-use Rattle.counting_word.specs.WordSteps.{reads, asks, raises_from, reads_last, lowers, claims, marks, MarkedStays}
+use Rattle.counting_word.specs.WordSteps.{reads, asks, raises_from, reads_for_drop, lowers, reads_for_unique, marks}
+use Rattle.counting_word.specs.WordSteps.{MarkedStays}
 use Rattle.counting_word.proofs.Words.{is_one_handle-marked}
 
 neither : (b : Bool) (x y : Right) → (IsWholeBlock x → ⊥) → (IsWholeBlock y → ⊥)
@@ -23,7 +24,7 @@ marked_stays reads word marked = no-read word
 marked_stays asks word marked = λ whole. whole
 marked_stays (raises_from seen) word marked =
     neither (nat_eq word seen) a_handle (right_by_read word) (λ w. w) (no-read word)
-marked_stays reads_last word marked = neither (is_marked_word word) nothing to_lower (λ w. w) (λ w. w)
+marked_stays reads_for_drop word marked = neither (is_marked_word word) nothing to_lower (λ w. w) (λ w. w)
 marked_stays lowers word marked = not-one word marked (whole_block 0) nothing (λ w. w)
-marked_stays claims word marked = not-one word marked (whole_block 1) a_handle (λ w. w)
+marked_stays reads_for_unique word marked = not-one word marked (whole_block 1) a_handle (λ w. w)
 marked_stays marks word marked = λ whole. whole

@@ -2,7 +2,8 @@
 use Rattle.std.proofs.Common.{◌≡◌, ℕ, ◌+◌, true, List, [], ◌∷◌, refl, arith}
 use Rattle.counting_word.specs.CountingWord.{mark_bit}
 use Rattle.counting_word.specs.Rights.{Right, nothing, a_handle, to_lower}
-use Rattle.counting_word.specs.WordSteps.{WordStep, reads, asks, raises_from, reads_last, lowers, claims, marks}
+use Rattle.counting_word.specs.WordSteps.{WordStep, reads, asks, raises_from, reads_for_drop, lowers, reads_for_unique}
+use Rattle.counting_word.specs.WordSteps.{marks}
 use Rattle.counting_word.specs.WordSteps.{right_by, word_by, left_by}
 use Rattle.counting_word.specs.Tallies.{Tally, first, tally_after, tally_of, tally_right, IsRun}
 
@@ -10,7 +11,7 @@ use Rattle.counting_word.specs.Tallies.{Tally, first, tally_after, tally_of, tal
 -- raise that finds the mark.
 written : List WordStep
 written =
-    reads ∷ raises_from 1 ∷ reads_last ∷ marks ∷ reads ∷ lowers ∷ claims ∷ reads_last ∷ raises_from 1
+    reads ∷ raises_from 1 ∷ reads_for_drop ∷ marks ∷ reads ∷ lowers ∷ reads_for_unique ∷ reads_for_drop ∷ raises_from 1
     ∷ asks ∷ []
 
 -- the word that each step finds
@@ -71,8 +72,8 @@ it_leaves : left_by written ≡ marked 1
 unfolding written
 it_leaves = refl
 
--- no runs: the only handle has made its last read; nobody has; and a raise from the limit
-nobody_is_left : IsRun 3 (reads_last ∷ asks ∷ []) → ⊥
+-- no runs: the only handle has made its read for drop; nobody has; and a raise from the limit
+nobody_is_left : IsRun 3 (reads_for_drop ∷ asks ∷ []) → ⊥
 nobody_is_left run = absurd (omega (arith, run.1.0))
 
 no_drop_is_in_flight : IsRun 3 (reads ∷ lowers ∷ []) → ⊥

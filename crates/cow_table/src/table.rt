@@ -60,8 +60,8 @@ impl<T: Drop> CowTable<T> {
     }
 }
 
-/// Makes a version by one raise of a count. It copies nothing and allocates nothing. It fails as the `clone` of an `Arc`
-/// does: at the limit of the count, or after 64 raises that lost to other threads.
+/// Makes a version by one raise of a count. It copies nothing and allocates nothing. It fails as the `clone` of an
+/// `Arc` does: at the limit of the count, or after 64 raises that lost to other threads.
 impl<T: Drop> Clone for CowTable<T> {
     ghost is_clone = { λ a b. b ≡ a };
 

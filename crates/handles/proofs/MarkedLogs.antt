@@ -3,7 +3,8 @@ use mathlib.Core.List.{IsPrefix}
 use Rattle.std.proofs.Common.{◌≡◌, ℕ, Bool, true, false, if◌then◌else◌, List, [], ◌∷◌, ◌++◌, refl, sym, ◌∙◌, ap}
 use Rattle.std.proofs.Common.{subst}
 use Rattle.counting_word.specs.CountingWord.{IsLimit, is_marked_word}
-use Rattle.counting_word.specs.WordSteps.{WordStep, reads, asks, raises_from, reads_last, lowers, claims, marks}
+use Rattle.counting_word.specs.WordSteps.{WordStep, reads, asks, raises_from, reads_for_drop, lowers, reads_for_unique}
+use Rattle.counting_word.specs.WordSteps.{marks}
 use Rattle.counting_word.specs.WordSteps.{word_by, left_from, left_by}
 use Rattle.counting_word.specs.Tallies.{Tally, one_more, after_read, tally_after, tally_from, tally_of, has_exactly}
 use Rattle.counting_word.specs.Tallies.{first, Adds}
@@ -24,9 +25,9 @@ module _ (p : Tally) (is : p.mark ≡ true) where
     at : (b : Bool) → (if b then one_more p else after_read p).mark ≡ true
     at true = is
     at false = after-read
-  stays reads_last = is
+  stays reads_for_drop = is
   stays lowers = is
-  stays claims = is
+  stays reads_for_unique = is
   stays marks = refl
 
 stays-from : (p : Tally) → p.mark ≡ true → (log : List WordStep) → (tally_from p log).mark ≡ true

@@ -7,7 +7,7 @@ pub mod Reads
 pub mod Raises
 pub mod Marks
 pub mod Born
-pub mod LastReads
+pub mod DropReads
 pub mod Lowers
-pub mod Claims
+pub mod UniqueReads
 pub mod Stamps

@@ -36,7 +36,7 @@ pub use denote.Triple.Walked.{Stays, stay_dropped, walk_of, Goes-dropped, Goes-r
 pub use Rattle.core.proofs.alloc.Shapes.{after}
 pub use Rattle.atomic_table.proofs.Walks.{proved, proved_at, leaves}
 pub use Rattle.atomic_table.proofs.Calls.{fm, seq_cst, found, finds}
-pub use Rattle.counting_word.specs.Rights.{Right, IsWholeBlock, a_handle, right_by_claim, right_by_last_read}
+pub use Rattle.counting_word.specs.Rights.{Right, IsWholeBlock, a_handle, right_by_unique_read, right_by_drop_read}
 pub use Rattle.counting_word.specs.Rights.{right_by_lower, right_by_raise, right_by_read, to_lower, whole_block}
 pub use Rattle.handles.specs.Inside.Blocks.{HeldRow, stamp, held_and_block, block_rule, permit_owns, Names}
 pub use Rattle.handles.specs.Inside.Blocks.{bare_block, counted_handle, handle_owns, handle_shares, heap_offset}

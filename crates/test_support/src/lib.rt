@@ -1,6 +1,6 @@
-//! What tests assert, and a value that counts its drops and copies. `assert!` and `?` may end a test early, with all that
-//! it has by then, and each such end makes its proof longer. The macros here call `crate::ending` of the crate of tests,
-//! which ends the process inside of one call, and report the expression.
+//! What tests assert, and a value that counts its drops and copies. `assert!` and `?` may end a test early, with all
+//! that it has by then, and each such end makes its proof longer. The macros here call `crate::ending` of the crate of
+//! tests, which ends the process inside of one call, and report the expression.
 #![tactic(auto)]
 
 pub mod counted;

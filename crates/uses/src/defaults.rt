@@ -20,7 +20,7 @@ pub struct Defaults {
 }
 
 impl Defaults {
-    /// Two requests for memory, which is never given back once both are met. To be asked for once.
+    /// Two requests for memory, which is never freed once both are met. To be asked for once.
     pub fn new(alloc: Global) -> Result<Defaults, AllocError> {
         let font = Font {
             size: 16,

@@ -71,7 +71,7 @@ impl Clone for Style {
 }
 
 impl Style {
-    /// The style of an element of which nothing is said, with groups of its own, which are never given back. A program
+    /// The style of an element of which nothing is said, with groups of its own, which are never freed. A program
     /// that makes many keeps one `Defaults`.
     pub fn initial(alloc: Global) -> Result<Style, AllocError>
         ensures { IfOk result (λ style. style ≡ initial) }

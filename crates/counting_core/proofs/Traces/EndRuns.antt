@@ -1,9 +1,9 @@
--- The end of a handle in a run: its last read by an owner that has nothing yet, and its lower.
+-- The end of a handle in a run: its read for drop by an owner that has nothing yet, and its lower.
 use Rattle.counting_core.proofs.Names.{◌≡◌, ℕ, suc, ◌+◌, ◌-◌, ◌<◌, ◌≤◌, Bool, true, false, not, ◌&&◌, ◌||◌, nat_eq}
 use Rattle.counting_core.proofs.Names.{nat_lt, List, [], ◌∷◌, ◌++◌, length, append-nil, if◌then◌else◌, refl, sym, ◌∙◌}
 use Rattle.counting_core.proofs.Names.{ap, ap₂, subst, arith, true≢false, eqb-true, ne_eqb, lt-ltb, lt_irrefl, and_from}
 use Rattle.counting_core.proofs.Names.{and_parts, or_left, or_right, false_from_ne_true, nothing, to_lower, whole_block}
-use Rattle.counting_core.proofs.Names.{reads_last, lowers, Tally, has_exactly, after_last_read, Activity, Idle}
+use Rattle.counting_core.proofs.Names.{reads_for_drop, lowers, Tally, has_exactly, after_drop_read, Activity, Idle}
 use Rattle.counting_core.proofs.Names.{Dropping, Drop, Lower, Give, Answer, Pending, Ended, GivenUp, Done, Trace, Then}
 use Rattle.counting_core.proofs.Names.{HandleState, State, put, handle_in, has_alone, may_take, permitted_by, Model}
 use Rattle.counting_core.proofs.Names.{is_only, without, state, model, Entry, entries_of}
@@ -78,7 +78,7 @@ module _ {V : Type 0} (limit : ℕ) where
       left_by_unmarked : p.mark ≡ false → Goes limit owners (suc k) (record p {
         handles = p.handles - 1;
         drops = p.drops + 1;
-      }) t ((reads_last, to_lower) ∷ [])
+      }) t ((reads_for_drop, to_lower) ∷ [])
       left_by_unmarked mark = record {
         now = t2;
         hs = hs;
@@ -106,7 +106,7 @@ module _ {V : Type 0} (limit : ℕ) where
               (λ none. absurd (true≢false (sym (ap (λ b. b || has k ds) (nat_eq-same k)) ∙ none)))
               (λ q other none. s.idle q (not-in-rest q none)) o absent;
         };
-        entries = ap (λ (l : List Entry). l ++ (reads_last, to_lower) ∷ []) (append-nil (entries_of t));
+        entries = ap (λ (l : List Entry). l ++ (reads_for_drop, to_lower) ∷ []) (append-nil (entries_of t));
       } where
         t2 : Trace V
         t2 = Then t1 (Drop k h) Pending
@@ -121,7 +121,7 @@ module _ {V : Type 0} (limit : ℕ) where
         not-in-rest q none = grind arith
 
       left_by_marked : p.mark ≡ true → Goes limit owners (suc k) (record p { handles = p.handles - 1 }) t ((
-        reads_last,
+        reads_for_drop,
         nothing,
       ) ∷ [])
       left_by_marked mark = record {
@@ -145,7 +145,7 @@ module _ {V : Type 0} (limit : ℕ) where
           busy = λ o there. let b : Drops k t o = s.busy o there in let below : o < k = b.1 in (b.0, omega arith, b.2);
           idle = s.idle;
         };
-        entries = ap (λ (l : List Entry). l ++ (reads_last, nothing) ∷ []) (append-nil (entries_of t));
+        entries = ap (λ (l : List Entry). l ++ (reads_for_drop, nothing) ∷ []) (append-nil (entries_of t));
       } where
         t2 : Trace V
         t2 = Then t1 (Drop k h) Ended
@@ -159,15 +159,15 @@ module _ {V : Type 0} (limit : ℕ) where
             let one_less : length (without h m.live) + 1 ≡ length m.live =
             length-without h m.live first-lives (counted t s.legal).apart in omega (arith, one_fewer)
 
-      pub left_by_last : Goes limit owners (suc k) (after_last_read p) t ((
-        reads_last,
+      pub left_by_last : Goes limit owners (suc k) (after_drop_read p) t ((
+        reads_for_drop,
         if p.mark then nothing else to_lower,
       ) ∷ [])
       left_by_last = at p.mark refl where
         at : (b : Bool) → p.mark ≡ b → Goes limit owners (suc k) (record p {
           handles = p.handles - 1;
           drops = if b then p.drops else p.drops + 1;
-        }) t ((reads_last, if b then nothing else to_lower) ∷ [])
+        }) t ((reads_for_drop, if b then nothing else to_lower) ∷ [])
         at true mark = left_by_marked mark
         at false mark = left_by_unmarked mark
 

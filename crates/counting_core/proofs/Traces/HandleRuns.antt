@@ -2,7 +2,8 @@
 use Rattle.counting_core.proofs.Names.{◌≡◌, ℕ, ◌+◌, ◌<◌, Bool, true, false, not, ◌&&◌, ◌||◌, nat_eq, List, [], ◌∷◌}
 use Rattle.counting_core.proofs.Names.{◌++◌, length, append_assoc, append-nil, if◌then◌else◌, refl, sym, ◌∙◌, ap, ap₂}
 use Rattle.counting_core.proofs.Names.{subst, arith, true≢false, eqb-true, ne_eqb, or_right, nothing, a_handle}
-use Rattle.counting_core.proofs.Names.{whole_block, reads, asks, raises_from, claims, marks, Tally, has_exactly}
+use Rattle.counting_core.proofs.Names.{whole_block, reads, asks, raises_from, reads_for_unique, marks, Tally}
+use Rattle.counting_core.proofs.Names.{has_exactly}
 use Rattle.counting_core.proofs.Names.{one_more, SharedAccess, Written, Idle, Cloning, Clone, Raise, Quit, Mark, Unique}
 use Rattle.counting_core.proofs.Names.{GetMut, EndWrite, Born, Full, Pending, Marked, Is, Alone, Shared, Done, Quitted}
 use Rattle.counting_core.proofs.Names.{Trace, Then, HandleState, put, may_use, may_take, is_writing, Model, is_full}
@@ -155,8 +156,8 @@ module _ {V : Type 0} (limit : ℕ) where
     put-here x = ap (λ b. if b then x else (state t).handle h) (nat_eq-same h)
 
     -- a read for unique; one that finds the only handle is ended at once
-    pub claimed : Goes owners k p t ((claims, if has_exactly 1 p then whole_block 1 else a_handle) ∷ [])
-    claimed = at (has_exactly 1 p) refl where
+    pub sole_read : Goes owners k p t ((reads_for_unique, if has_exactly 1 p then whole_block 1 else a_handle) ∷ [])
+    sole_read = at (has_exactly 1 p) refl where
       written : HandleState
       written = record ((state t).handle h) { access = Written }
 
@@ -175,7 +176,7 @@ module _ {V : Type 0} (limit : ℕ) where
           (λ j other. ap (λ b. if b then written else (state t).handle j) other)
 
       at : (b : Bool) → has_exactly 1 p ≡ b
-          → Goes owners k p t ((claims, if b then whole_block 1 else a_handle) ∷ [])
+          → Goes owners k p t ((reads_for_unique, if b then whole_block 1 else a_handle) ∷ [])
       at true one = stays p (Then t1 (EndWrite 0 h) Done) _ _
           (makes t t1 (model t) (acts (GetMut 0 h) Alone (model t) refl refl takable (finds_alone 0 h (only-by ∙ one)))
           (EndWrite 0 h) Done (model t) Idle refl within idle-0 (ap (λ (x : HandleState). is_writing x 0) here-1)

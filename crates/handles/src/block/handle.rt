@@ -2,9 +2,9 @@
 ghost use Rattle.std.specs.Prelude.{◌≡◌, ◌<◌, ◌+◌, ℕ, [], Bool, true, false, IfOk, IfErr};
 ghost use types.Logic.{sem};
 ghost use Rattle.counting_word.specs.CountingWord.{is_one_handle, IsWithin};
-ghost use Rattle.counting_word.specs.WordSteps.{reads, asks, raises_from, reads_last, claims, marks};
+ghost use Rattle.counting_word.specs.WordSteps.{reads, asks, raises_from, reads_for_drop, reads_for_unique, marks};
 ghost use Rattle.counting_word.specs.Tallies.{Adds};
-ghost use Rattle.counting_word.specs.Rights.{nothing, whole_block, right_by_read, right_by_raise, right_by_last_read};
+ghost use Rattle.counting_word.specs.Rights.{nothing, whole_block, right_by_read, right_by_raise, right_by_drop_read};
 ghost use Rattle.handles.specs.Inside.Blocks.{handle_owns, handle_shares};
 ghost use Rattle.handles.specs.declared.block.Held.{Held};
 
@@ -81,7 +81,7 @@ impl<T> Handle<T> {
     pub(super) fn read_for_unique(&mut self) -> (u64, Logged)
         ensures sole { self.new ≡ record self.old { sole = is_one_handle result.0 } }
         ensures id { result.1.id ≡ self.old.id }
-        ensures log { Adds self.old.held.limit.count [] claims result.0 result.1.log }
+        ensures log { Adds self.old.held.limit.count [] reads_for_unique result.0 result.1.log }
     {
         let block = self.block;
         let found = unsafe { raw::load::<Brand>(&raw const (*block).word, SeqCst) };
@@ -174,10 +174,10 @@ impl<T> Handle<T> {
 
     #[inline]
     pub(crate) fn read_for_drop(self) -> (u64, Permit<T>)
-        ensures right { result.1.right ≡ right_by_last_read result.0 }
+        ensures right { result.1.right ≡ right_by_drop_read result.0 }
         ensures held { result.1.held ≡ self.held }
         ensures id { result.1.id ≡ self.id }
-        ensures log { Adds self.held.limit.count [] reads_last result.0 result.1.log }
+        ensures log { Adds self.held.limit.count [] reads_for_drop result.0 result.1.log }
     {
         let Handle { block } = self;
         let word = unsafe { raw::load::<Brand>(&raw const (*block).word, SeqCst) };

@@ -8,12 +8,12 @@ use Rattle.handles.proofs.Walks.{fact, RattleType, Ptr, block_ptr, ptr_val, bloc
 use Rattle.handles.proofs.Walks.{layouts, param_laws, after, fm, found, finds, Right, HeldRow, one_word}
 use Rattle.handles.proofs.Walks.{word_and_permit, one_word-Good, returns_permit, word_and_permit-Good, sem, by_value}
 use Rattle.handles.proofs.Walks.{handle_worded, permit_at, so, also, asks_new, shows_permit, Incl-refl}
-use Rattle.handles.proofs.Walks.{right_by_last_read, owned_as, counted_handle, block_at, and_logged, forgets}
+use Rattle.handles.proofs.Walks.{right_by_drop_read, owned_as, counted_handle, block_at, and_logged, forgets}
 use Rattle.handles.proofs.Walks.{handle_settles, fst∗}
 use contract.BorrowLft.{◌⊑◌}
 use Rattle.atomic_table.proofs.Calls.{loads}
 use Rattle.counting_word.specs.WordSteps as step
-use Rattle.handles.proofs.Steps.LastReads.{last_reads, after_last_read}
+use Rattle.handles.proofs.Steps.DropReads.{drop_reads, after_drop_read}
 use Rattle.handles.specs.contracts.block.handle.Handle.read_for_drop.{clauses}
 use Rattle.handles.specs.contracts.block.handle.Handle.read_for_drop.Key.{name as #self}
 use Rattle.handles.proofs.block.handle.Handle.read_for_drop.Statement.{statement}
@@ -36,17 +36,17 @@ read_for_drop_spec 𝓤 𝓛 𝓜 𝓡 wired T L =
     let Ev = env fn.locals l in await ! tt $ split ! $ fpick ! (λ i. fsplit3 ! $
     -- [the stake; the rule; the sharing; the token]
     let aft : ℕ → Fml = and_logged (block_at R p x η i)
-    [] step.reads_last (after_last_read (block_at R p x η i)) in
+    [] step.reads_for_drop (after_drop_read (block_at R p x η i)) in
     sets ! (is ! (of_opd ! (get_in ! (fld ! refl (stop !)) (sub ! 0 refl (whole !)))) (ap ptr_val at)) refl (tt, tt)
     $ first ! $ blocks ! $ sets ! (addr ! (through ! refl (fld ! refl (stop !)))) refl (tt, tt) $
-    asks_new ! (via 𝓤 _ (last_reads 𝓛 (block_at R p x η i))
+    asks_new ! (via 𝓤 _ (drop_reads 𝓛 (block_at R p x η i))
     (loads 𝓛 𝓜 𝓡 (code.calls-core::raw_atomic::load 𝓡.env wired) (block_ptr pb (po + 0)) aft)) $
     sets ! (agg ! (and_then ! (lit ! tt) (no_more !))) refl (tt, (record { fits = lit< tt }, tt)) $
     Calls-last ! (fm 𝓛 𝓜 𝓡) (found aft) (and_then ! (get ! refl) (and_then ! (get ! refl) (no_more !)))
-    (λ u. finds ! aft (λ n fits. let r' : Right = right_by_last_read n in
+    (λ u. finds ! aft (λ n fits. let r' : Right = right_by_drop_read n in
     lands_last ! refl (tt, record { fits = fits }) $ exec ! 𝓣.C 𝓣.Λ Ev (after 2 fn.body) (at_ret Ev Post) $
     sets ! (of_opd ! (get ! refl)) refl (tt, record { fits = fits }) $
-    shows_permit R p x η ! tt inb i r' [] step.reads_last n (λ log adds.
+    shows_permit R p x η ! tt inb i r' [] step.reads_for_drop n (λ log adds.
     sets ! (is ! (agg ! (and_then ! (get ! refl) (no_more !))) (ap one_word (sym at))) refl (one_word-Good p) $
     sets ! (agg ! (and_then ! (get ! refl) (and_then ! (get ! refl) (no_more !))))
     refl (word_and_permit-Good n fits p) $ returns_permit R p x η ! n fits r' log $

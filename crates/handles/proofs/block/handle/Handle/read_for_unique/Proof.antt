@@ -1,4 +1,4 @@
--- `claim` is one load of the word, by which the handle knows whether it is the only one.
+-- `read_for_unique` is one load of the word, by which the handle knows whether it is the only one.
 use Rattle.handles.proofs.Walks.{◌≡◌, ℕ, ◌+◌, false, List, [], ◌∷◌, refl, sym, ap, ◌∙◌, lit<, a_type, named, Val}
 use Rattle.handles.proofs.Walks.{vptr, inst_fn, full_share, SProp, via, Lft, Share, Fml, ftrue, flft, ‵, raw, ◌⊛◌}
 use Rattle.handles.proofs.Walks.{later, at_ret, ◌$◌, ◌∵◌, !, qed, by, move, keep, drop, split, split3, join, fsplit}
@@ -10,13 +10,13 @@ use Rattle.handles.proofs.Walks.{block_ptr, block_of, offset_of, at_block, nothi
 use Rattle.handles.proofs.Walks.{cell_at, param, layouts, param_laws, Stays, walk_of, after, proved, leaves, fm}
 use Rattle.handles.proofs.Walks.{found, finds, HeldRow, one_word, words_are, HandleRow, HandleWords, known}
 use Rattle.handles.proofs.Walks.{shows_permit, asks_new, handle_at, is_handle, Adds, GName, Incl-refl, mut_vals}
-use Rattle.handles.proofs.Walks.{mut_Tells, opens, closes, Goes-ref, stay_ref, is_one_handle, right_by_claim}
+use Rattle.handles.proofs.Walks.{mut_Tells, opens, closes, Goes-ref, stay_ref, is_one_handle, right_by_unique_read}
 use Rattle.handles.proofs.Walks.{counted_handle, owned_as, handle_owns, block_at, and_logged, sole_shown}
 use Rattle.handles.proofs.Walks.{returns_logged, word_and_logged, word_and_logged-Good, forgets, handle_settles}
 use contract.BorrowLft.{◌⊑◌}
 use Rattle.atomic_table.proofs.Calls.{loads}
 use Rattle.counting_word.specs.WordSteps as step
-use Rattle.handles.proofs.Steps.Claims.{claims, after_claim}
+use Rattle.handles.proofs.Steps.UniqueReads.{reads_for_unique, after_unique_read}
 use Rattle.handles.specs.contracts.block.handle.Handle as handle_type
 use Rattle.handles.specs.contracts.block.handle.Handle.read_for_unique.{ended, clauses}
 use Rattle.handles.specs.contracts.block.handle.Handle.read_for_unique.Key.{name as #self}
@@ -55,17 +55,18 @@ read_for_unique_spec 𝓤 𝓛 𝓜 𝓡 wired T L =
     use1 𝓛 (‵ (owned_as R p x η false)) (forgets R (param_laws 0 T L) 𝓛 p x η me.sole) $ move ! (0 ∷ 7 ∷ []) $
     use2 𝓛 (later (‵ (counted_handle R p x η) ⊛ ‵ (flft μ r))) (handle_settles R (param_laws 0 T L)
     𝓛 p x η μ lives μ r (Incl-refl μ)) $ await ! tt $ split ! $ fpick ! (λ i. fsplit3 ! $
-    let aft : ℕ → Fml = and_logged (block_at R p x η i) [] step.claims (after_claim (block_at R p x η i)) in
+    let aft : ℕ → Fml = and_logged (block_at R p x η i) [] step.reads_for_unique
+    (after_unique_read (block_at R p x η i)) in
     sets ! (of_opd ! (load ! (through ! refl (fld ! refl (stop !))) (look_in ! 4 (sub ! 0 refl (whole !)))))
     refl (tt, tt) $ first ! $ blocks ! $ sets ! (addr ! (through ! refl (fld ! refl (stop !)))) refl (tt, tt) $
-    asks_new ! (via 𝓤 _ (claims 𝓛 (block_at R p x η i))
+    asks_new ! (via 𝓤 _ (reads_for_unique 𝓛 (block_at R p x η i))
     (loads 𝓛 𝓜 𝓡 (code.calls-core::raw_atomic::load 𝓡.env wired) (block_ptr pb (po + 0)) aft)) $
     sets ! (agg ! (and_then ! (lit ! tt) (no_more !))) refl (tt, (record { fits = lit< tt }, tt)) $
     Calls-last ! (fm 𝓛 𝓜 𝓡) (found aft) (and_then ! (get ! refl) (and_then ! (get ! refl) (no_more !)))
     (λ u. finds ! aft (λ n fits. let reported : Self.Denot = handle_at R p x (is_one_handle n) η in
     lands_last ! refl (tt, record { fits = fits }) $ exec ! 𝓣.C 𝓣.Λ Ev (after 2 fn.body) (at_ret Ev Post) $
     sets ! (of_opd ! (get ! refl)) refl (tt, record { fits = fits }) $
-    shows_permit R p x η ! tt inb i (right_by_claim n) [] step.claims n (λ log adds.
+    shows_permit R p x η ! tt inb i (right_by_unique_read n) [] step.reads_for_unique n (λ log adds.
     fsplit ! $ move ! (1 ∷ []) $ use1 𝓛 (‵ (handle_owns R p x η (is_one_handle n)))
     (sole_shown 𝓛 R p x η (is_one_handle n)) $
     -- [the right; that the log was reached; the token of T; the cell; the open borrow; its two names; its place]
@@ -77,7 +78,7 @@ read_for_unique_spec 𝓤 𝓛 𝓜 𝓡 wired T L =
     sets ! (agg ! (no_more !)) refl (tt, tt) $
     sets ! (agg ! (and_then ! (get ! refl) (and_then ! (get ! refl) (no_more !)))) refl (word_and_logged-Good n fits) $
     returns_logged η n ! fits log $
-    known ! (Adds x.limit.count [] step.claims n log) adds $ known ! (η ≡ η) refl $ join ! $
+    known ! (Adds x.limit.count [] step.reads_for_unique n log) adds $ known ! (η ≡ η) refl $ join ! $
     known ! (reported ≡ reported) refl $ join ! $
     -- [the facts; the result; the tokens; the reference; nothing]
     nothing_more ! $ move ! (4 ∷ 0 ∷ []) $ fjoin ! $

@@ -9,17 +9,17 @@ use Rattle.handles.proofs.Steps.Shared.{nothing, StandsWithin, unit_of_count, un
 use Rattle.handles.proofs.Steps.Shared.{SharedBlock, shared, unmarked, counts, beside, rule, granted, no_token}
 use Rattle.handles.proofs.Steps.Shared.{lives, regranted, Lands, Asks, fjoin, full_share, title, grants, pass}
 use Rattle.handles.proofs.Steps.Shared.{passed, passes_on, and_logged, ftrue, WordStep, word_by, refl}
-use Rattle.handles.proofs.Steps.Shared.{is_marked_word, id⊢, reads_last, to_lower, right_by_last_read}
+use Rattle.handles.proofs.Steps.Shared.{is_marked_word, id⊢, reads_for_drop, to_lower, right_by_drop_read}
 
 -- what the holder of a handle has: a share e of the token, to which it is entitled as y says
 abbrev pub a_stake : SharedBlock → Bool → Share → Fml
 a_stake s y e = fsep (entitled s.names e y) (flft (shared s) e)
 
-abbrev pub after_last_read : SharedBlock → ℕ → Fml
-after_last_read s w = grants s (right_by_last_read w)
+abbrev pub after_drop_read : SharedBlock → ℕ → Fml
+after_drop_read s w = grants s (right_by_drop_read w)
 
 abbrev bare_last_read : SharedBlock → ℕ → Fml
-bare_last_read s w = granted s (right_by_last_read w)
+bare_last_read s w = granted s (right_by_drop_read w)
 
 module _ {M : Type 1} {𝓤 : Ura M} (𝓛 : Logic 𝓤) (s : SharedBlock) where
   no_stake : ent 𝓤 (sem 𝓛 (fsep (unshared s.names) (title s.names))) (never 𝓤)
@@ -47,14 +47,15 @@ module _ {M : Type 1} {𝓤 : Ura M} (𝓛 : Logic 𝓤) (s : SharedBlock) where
         fpick ! (λ e. fsplit ! $ fpick ! (λ y. move ! (0 ∷ 1 ∷ []) $ fjoin ! $ move ! (0 ∷ 1 ∷ []) $ fjoin ! $
         move ! (1 ∷ 2 ∷ 0 ∷ []) $ by ! (steps j mark y e w n small holds)))) no_stake
 
-  pub last_reads : Asks 𝓛 s (λ w. w) (fsep ftrue (stake s.names)) (and_logged s [] reads_last (after_last_read s))
-  last_reads = held_step reads_last (λ w. w) (λ w _. refl) (after_last_read s) (λ w. passed s (right_by_last_read w))
+  pub drop_reads : Asks 𝓛 s (λ w. w) (fsep ftrue (stake s.names)) (and_logged s [] reads_for_drop (after_drop_read s))
+  drop_reads = held_step reads_for_drop (λ w. w) (λ w _. refl) (after_drop_read s)
+      (λ w. passed s (right_by_drop_read w))
       (turns_last 𝓛 s)
-      (λ j mark y e w n small holds. passes_on 𝓛 s w mark n (a_stake s y e) (passed s (right_by_last_read w))
-      (bare_last_read s w) (after_last_read s w) j (id⊢ 𝓤 _) (at j mark y e w n holds))
+      (λ j mark y e w n small holds. passes_on 𝓛 s w mark n (a_stake s y e) (passed s (right_by_drop_read w))
+      (bare_last_read s w) (after_drop_read s w) j (id⊢ 𝓤 _) (at j mark y e w n holds))
     where
       right_is : (w : ℕ) (y : Bool)
-          → is_marked_word w ≡ y → right_by_last_read w ≡ (if y then nothing else to_lower)
+          → is_marked_word w ≡ y → right_by_drop_read w ≡ (if y then nothing else to_lower)
       right_is w y e = ap (λ z. if z then nothing else to_lower) e
 
       at : (j : ℕ) (mark y : Bool) (e : Share) (w n : ℕ) → StandsWithin s.limit w mark n
@@ -64,7 +65,7 @@ module _ {M : Type 1} {𝓤 : Ura M} (𝓛 : Logic 𝓤) (s : SharedBlock) where
           ∷ ‵ (flft (shared s) e) ∷ []) ∵ use2 𝓛 (‵ (rule s)) (lives 𝓛 s false w n holds) $ move ! (1 ∷ []) $
           fpick ! (λ c. drop ! $ move ! (1 ∷ []) $
           use1 𝓛 (‵ (unit_of_count s.names)) (part_in 64 𝓛 s.names.shared e c) $
-          use1 𝓛 (‵ (bare_last_read s w)) (regranted 𝓛 s to_lower (right_by_last_read w)
+          use1 𝓛 (‵ (bare_last_read s w)) (regranted 𝓛 s to_lower (right_by_drop_read w)
           (right_is w false holds.0.same_mark)) $ move ! (1 ∷ 0 ∷ []) $
           by ! (asking.closes 𝓛 (rule s) (bare_last_read s w) j))
       at j false false e w n holds = qed 𝓛 (‵ (counts s w) ∷ ‵ (beside s false n) ∷ ‵ (a_stake s false e)
@@ -72,6 +73,6 @@ module _ {M : Type 1} {𝓤 : Ura M} (𝓛 : Logic 𝓤) (s : SharedBlock) where
           keep ! (1 ∷ 2 ∷ []) $ by ! (not_yet_marked e n _)
       at j true y e w n holds = qed 𝓛 (‵ (counts s w) ∷ ‵ (beside s true n) ∷ ‵ (a_stake s y e) ∷ []) ∵
           use2 𝓛 (‵ (rule s)) (lives 𝓛 s true w n holds) $ keep ! (0 ∷ []) $ nothing_more ! $
-          use1 𝓛 (‵ (bare_last_read s w)) (regranted 𝓛 s nothing (right_by_last_read w)
+          use1 𝓛 (‵ (bare_last_read s w)) (regranted 𝓛 s nothing (right_by_drop_read w)
           (right_is w true holds.0.same_mark)) $ move ! (1 ∷ 0 ∷ []) $
           by ! (asking.closes 𝓛 (rule s) (bare_last_read s w) j)

@@ -9,7 +9,10 @@ pub fn arc_of<T: Drop>(rt: &(impl Abort + AllocGlobal), value: T) -> Arc<T> {
 
 /// A job for each of two threads.
 pub fn both<T: Drop>(rt: &(impl Abort + AllocGlobal), one: T, other: T) -> Vec<T> {
-    ok!(rt, vec![in rt.alloc(); one, other])
+    let mut jobs = Vec::new(rt.alloc());
+    ok!(rt, jobs.push(one));
+    ok!(rt, jobs.push(other));
+    jobs
 }
 
 /// Two handles of one block.

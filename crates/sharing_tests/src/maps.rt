@@ -49,6 +49,23 @@ fn a_range_is_half_open(rt: HostRuntime) {
     same!(&rt, [0, 3, 4, 9].map(|key| map.rank(&key)), [0, 1, 2, 4]);
 }
 
+#[test]
+fn entries_come_in_order_from_either_end(rt: HostRuntime) {
+    let alloc = rt.alloc();
+    let items = ok!(&rt, vec![in alloc; (5, 'e'), (1, 'a'), (4, 'd'), (1, 'b')]);
+    let map = ok!(&rt, TreeMap::from_items(alloc, items));
+    holds!(&rt, map.iter().eq(&[(1, 'b'), (4, 'd'), (5, 'e')]));
+    holds!(&rt, map.iter().rev().map(|entry| entry.0).eq([5, 4, 1]));
+    let mut entries = map.iter();
+    let ends = (entries.next(), entries.next_back());
+    same!(&rt, ends, (map.first(), map.last()));
+    same!(
+        &rt,
+        (entries.len(), entries.next(), entries.next_back()),
+        (1, map.entry(1), None),
+    );
+}
+
 const MANY: u64 = 1_000_000;
 
 // 2 log2 of one more than the keys.

@@ -45,7 +45,11 @@ fn a_range_is_half_open(rt: HostRuntime) {
     let map = ok!(&rt, TreeMap::from_items(alloc, items));
     holds!(&rt, map.range(&3..&7).eq(&[(3, 'b'), (5, 'c')]));
     holds!(&rt, map.range(&2..&6).rev().map(|entry| entry.0).eq([5, 3]));
-    same!(&rt, [(0, 9), (4, 5), (7, 3)].map(|(start, end)| map.range(&start..&end).len()), [4, 0, 0]);
+    same!(
+        &rt,
+        [(0, 9), (4, 5), (7, 3)].map(|(start, end)| map.range(&start..&end).len()),
+        [4, 0, 0]
+    );
     same!(&rt, [0, 3, 4, 9].map(|key| map.rank(&key)), [0, 1, 2, 4]);
 }
 

@@ -1,7 +1,12 @@
 -- What every legal trace keeps, and every core that represents one.
-use Rattle.counting_core.specs.Names.{◌≡◌, ℕ, ◌≤◌, Bool, true, false, not, ◌&&◌, ◌||◌, ◌⊎◌, ◌↔◌, nat_eq, if◌then◌else◌}
-use Rattle.counting_core.specs.Names.{List, [], ◌∷◌, length, count_by, is_marked_word, count_of, Step, Clone, Raise}
-use Rattle.counting_core.specs.Names.{Drop, Lower, Answer, Born, Full, Pending, Ended, GivenUp, Marked, Memory, Barred}
+use Rattle.std.specs.Prelude.{◌≡◌, ℕ, ◌≤◌, Bool, true, false, not, ◌&&◌, ◌||◌, ◌⊎◌, ◌↔◌, nat_eq, if◌then◌else◌, List}
+use Rattle.std.specs.Prelude.{[], ◌∷◌, length, count_by}
+use Rattle.counting_word.specs.CountingWord.{is_marked_word, count_of}
+use Rattle.counting_core.specs.declared.step.Answer.{Answer}
+use Rattle.counting_core.specs.declared.step.Answer.TheVariants.{Born, Full, Pending, Ended, GivenUp, Marked, Memory}
+use Rattle.counting_core.specs.declared.step.Answer.TheVariants.{Barred}
+use Rattle.counting_core.specs.declared.step.Step.{Step}
+use Rattle.counting_core.specs.declared.step.Step.TheVariants.{Clone, Raise, Drop, Lower}
 use Rattle.counting_core.specs.Trace.{Trace, Open, Then, HandleState, owner_of, limit_of}
 use Rattle.counting_core.specs.Permitted.{is_sole, permitted}
 use Rattle.counting_core.specs.Legal.{expected, IsLegal, state, model}

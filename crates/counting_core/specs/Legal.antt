@@ -1,8 +1,11 @@
 -- When a step is an event of the reference model, and which traces are legal.
-use Rattle.counting_core.specs.Names.{◌≡◌, ℕ, Bool, true, false, ◌||◌, ◌⊎◌, IsTrue, nat_eq, if◌then◌else◌, length}
-use Rattle.counting_core.specs.Names.{IsLimit, Step, Clone, Raise, Quit, Drop, Lower, Mark, Unique, Static, GetMut}
-use Rattle.counting_core.specs.Names.{Write, IntoUnique, Load, Lend, Answer, Born, Pending, Done, Memory, Barred}
-use Rattle.counting_core.specs.Names.{Quitted}
+use Rattle.std.specs.Prelude.{◌≡◌, ℕ, Bool, true, false, ◌||◌, ◌⊎◌, IsTrue, nat_eq, if◌then◌else◌, length}
+use Rattle.counting_word.specs.CountingWord.{IsLimit}
+use Rattle.counting_core.specs.declared.step.Answer.{Answer}
+use Rattle.counting_core.specs.declared.step.Answer.TheVariants.{Born, Pending, Done, Memory, Barred, Quit as Quitted}
+use Rattle.counting_core.specs.declared.step.Step.{Step}
+use Rattle.counting_core.specs.declared.step.Step.TheVariants.{Clone, Raise, Quit, Drop, Lower, Mark, Unique, Static}
+use Rattle.counting_core.specs.declared.step.Step.TheVariants.{GetMut, Write, IntoUnique, Load, Lend}
 use Rattle.counting_core.specs.Trace.{Trace, Open, Then, State, handle_in, seen_in, after, opening}
 use Rattle.counting_core.specs.Permitted.{permitted}
 use Rattle.counting_core.specs.ReferenceModel.{Model, Event, Clones, Ends, Marks, AsksUnique, AsksStatic, AsksMut}

@@ -1,4 +1,3 @@
-pub mod Names
 pub mod Trace
 pub mod Permitted
 pub mod ReferenceModel

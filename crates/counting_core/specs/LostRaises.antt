@@ -1,6 +1,9 @@
 -- How many raises lose.
-use Rattle.counting_core.specs.Names.{ℕ, ◌+◌, ◌-◌, ◌*◌, ◌≤◌, Bool, true, false, if◌then◌else◌, Step, Raise, Answer}
-use Rattle.counting_core.specs.Names.{Born, Pending, Ended, GivenUp}
+use Rattle.std.specs.Prelude.{ℕ, ◌+◌, ◌-◌, ◌*◌, ◌≤◌, Bool, true, false, if◌then◌else◌}
+use Rattle.counting_core.specs.declared.step.Answer.{Answer}
+use Rattle.counting_core.specs.declared.step.Answer.TheVariants.{Born, Pending, Ended, GivenUp}
+use Rattle.counting_core.specs.declared.step.Step.{Step}
+use Rattle.counting_core.specs.declared.step.Step.TheVariants.{Raise}
 use Rattle.counting_core.specs.Trace.{Trace, Open, Then}
 use Rattle.counting_core.specs.Legal.{IsLegal, state}
 

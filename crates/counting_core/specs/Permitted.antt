@@ -1,8 +1,15 @@
 -- Which step is permitted to whom.
-use Rattle.counting_core.specs.Names.{ℕ, Bool, true, false, not, ◌&&◌, ◌||◌, nat_eq, nat_lt, length, list_any, Access}
-use Rattle.counting_core.specs.Names.{Written, Activity, Idle, Cloning, Dropping, Step, Clone, Raise, Quit, Drop, Lower}
-use Rattle.counting_core.specs.Names.{Mark, Unique, Static, GetMut, Write, EndWrite, IntoUnique, Share, Load, Lend}
-use Rattle.counting_core.specs.Names.{Return, Give, SharedAccess, SoleAccess}
+use Rattle.std.specs.List.{list_any}
+use Rattle.std.specs.Prelude.{ℕ, Bool, true, false, not, ◌&&◌, ◌||◌, nat_eq, nat_lt, length}
+use Rattle.counting_core.specs.declared.activity.Activity.{Activity}
+use Rattle.counting_core.specs.declared.activity.Activity.TheVariants.{Idle, Cloning, Dropping}
+use Rattle.counting_core.specs.declared.handle_entry.Access.{Access}
+use Rattle.counting_core.specs.declared.handle_entry.Access.TheVariants.{Written, Shared as SharedAccess}
+use Rattle.counting_core.specs.declared.handle_entry.Access.TheVariants.{Sole as SoleAccess}
+use Rattle.counting_core.specs.declared.step.Step.{Step}
+use Rattle.counting_core.specs.declared.step.Step.TheVariants.{Clone, Raise, Quit, Drop, Lower, Mark, Unique, Static}
+use Rattle.counting_core.specs.declared.step.Step.TheVariants.{GetMut, Write, EndWrite, IntoUnique, Share, Load, Lend}
+use Rattle.counting_core.specs.declared.step.Step.TheVariants.{Return, Give}
 use Rattle.counting_core.specs.Trace.{HandleState, State, owner_of}
 
 abbrev pub is_shared : Access → Bool

@@ -1,8 +1,10 @@
 -- The reference model: a value, the live handles, a mark, the number of births, and the limit, which no event changes.
 -- It has no word, and no call of it is ever half done.
-use Rattle.counting_core.specs.Names.{ℕ, ◌+◌, Bool, true, false, not, ◌&&◌, nat_eq, if◌then◌else◌, List, [], ◌∷◌, ◌++◌}
-use Rattle.counting_core.specs.Names.{length, list_any, filter, Answer, Born, Full, Ended, GivenUp, Marked, Is, Alone}
-use Rattle.counting_core.specs.Names.{Done, Value, Sole, Shared}
+use Rattle.std.specs.List.{list_any, filter}
+use Rattle.std.specs.Prelude.{ℕ, ◌+◌, Bool, true, false, not, ◌&&◌, nat_eq, if◌then◌else◌, List, [], ◌∷◌, ◌++◌, length}
+use Rattle.counting_core.specs.declared.step.Answer.{Answer}
+use Rattle.counting_core.specs.declared.step.Answer.TheVariants.{Born, Full, Ended, GivenUp, Marked, Is, Alone, Done}
+use Rattle.counting_core.specs.declared.step.Answer.TheVariants.{Value, Sole, Shared}
 
 pub record Model (V : Type 0) : Type 0 where
   pub value : V

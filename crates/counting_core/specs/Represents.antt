@@ -1,6 +1,10 @@
 -- When a core represents a trace.
-use Rattle.counting_core.specs.Names.{◌≡◌, ℕ, zero, suc, ◌+◌, Bool, true, false, if◌then◌else◌, List, length}
-use Rattle.counting_core.specs.Names.{slice_index_or, StandsFor, Activity, Idle, Dropping, Step, Answer}
+use Rattle.std.specs.Prelude.{◌≡◌, ℕ, zero, suc, ◌+◌, Bool, true, false, if◌then◌else◌, List, length, slice_index_or}
+use Rattle.counting_word.specs.CountingWord.{StandsFor}
+use Rattle.counting_core.specs.declared.activity.Activity.{Activity}
+use Rattle.counting_core.specs.declared.activity.Activity.TheVariants.{Idle, Dropping}
+use Rattle.counting_core.specs.declared.step.Answer.{Answer}
+use Rattle.counting_core.specs.declared.step.Step.{Step}
 use Rattle.counting_core.specs.Trace.{Trace, Then, then_all, HandleState, unborn, State, limit_of}
 use Rattle.counting_core.specs.Legal.{IsLegal, state, model}
 

@@ -1,9 +1,20 @@
 -- Traces, and what each step makes of the handles and the owners of a block, by its answer alone.
-use Rattle.counting_core.specs.Names.{ℕ, Bool, Option, None, Some, true, false, nat_eq, if◌then◌else◌, List, [], ◌∷◌}
-use Rattle.counting_core.specs.Names.{nat_cmp, insert_key, remove_key, Access, Written, SoleAccess, Activity, Idle}
-use Rattle.counting_core.specs.Names.{Cloning, Dropping, Step, Clone, Raise, Quit, Drop, Lower, Mark, Unique, Static}
-use Rattle.counting_core.specs.Names.{GetMut, Write, EndWrite, IntoUnique, Share, Load, Lend, Return, Give, Answer}
-use Rattle.counting_core.specs.Names.{Born, Full, Pending, Ended, GivenUp, Alone, Done, Quitted, SharedAccess, Sole}
+use Rattle.std.specs.BTreeSet.{insert_key}
+use Rattle.std.specs.Ordering.{nat_cmp}
+use Rattle.std.specs.Prelude.{ℕ, Bool, Option, None, Some, true, false, nat_eq, if◌then◌else◌, List, [], ◌∷◌}
+use Rattle.std.specs.Set.{remove_key}
+use Rattle.counting_core.specs.declared.activity.Activity.{Activity}
+use Rattle.counting_core.specs.declared.activity.Activity.TheVariants.{Idle, Cloning, Dropping}
+use Rattle.counting_core.specs.declared.handle_entry.Access.{Access}
+use Rattle.counting_core.specs.declared.handle_entry.Access.TheVariants.{Written, Sole as SoleAccess}
+use Rattle.counting_core.specs.declared.handle_entry.Access.TheVariants.{Shared as SharedAccess}
+use Rattle.counting_core.specs.declared.step.Answer.{Answer}
+use Rattle.counting_core.specs.declared.step.Answer.TheVariants.{Born, Full, Pending, Ended, GivenUp, Alone, Done}
+use Rattle.counting_core.specs.declared.step.Answer.TheVariants.{Quit as Quitted, Sole}
+use Rattle.counting_core.specs.declared.step.Step.{Step}
+use Rattle.counting_core.specs.declared.step.Step.TheVariants.{Clone, Raise, Quit, Drop, Lower, Mark, Unique, Static}
+use Rattle.counting_core.specs.declared.step.Step.TheVariants.{GetMut, Write, EndWrite, IntoUnique, Share, Load, Lend}
+use Rattle.counting_core.specs.declared.step.Step.TheVariants.{Return, Give}
 
 -- A trace: the value, the number of owners and the limit that a block was opened with, and each step since, with its
 -- answer.

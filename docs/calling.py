@@ -1,6 +1,6 @@
 #!/usr/bin/env python3
-"""Quotes each public call with its contract from the source, in the block of each crates/NAME/CALLING.md that names folders
-of source, as ```text cow_table/src. With --check it writes nothing, and ends with 1 if a block is not as it would write it."""
+"""Quotes each public call with its contract from the source, in each block of a crates/NAME/CALLING.md that names folders
+of source, as ```text cow_table/src. With --check it writes nothing, and ends with 1 if a block is not up to date."""
 import re
 import sys
 from pathlib import Path

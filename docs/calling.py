@@ -55,7 +55,7 @@ def main():
             page.write_text(new)
         elif new != text:
             old.append(f"{page.parent.name}/CALLING.md: the contracts are not those of the source")
-    return "\n".join(old)
+    return "\n".join(old) or None
 
 
 if __name__ == "__main__":

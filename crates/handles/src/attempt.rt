@@ -43,6 +43,10 @@ impl<T> Handle<T> {
         ensures shows { IsAttempt self.now result }
         ensures plan { IsPlanned word self.now.held.limit.count result }
     {
+        // The plan says so too. Asked first, a mark costs one branch, and no plan is built and then told apart.
+        if is_marked(word) {
+            return Attempt::Made(permit.into_handle());
+        }
         match plan_clone(word, held.limit.count) {
             ClonePlan::Static => Attempt::Made(permit.into_handle()),
             ClonePlan::Full => Attempt::Full(permit.into_logged()),

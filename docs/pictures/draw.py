@@ -4,9 +4,11 @@ word after it. The answers come from the file beside the script, and the word fo
 
     docs/pictures/draw.py [--check]
 
-writes docs/pictures/NAME.svg for each example of NAMES, and LOGGED once more, with the log of the block beside its trace.
-With --check it writes nothing, and ends with 1 if a picture is not as it would be drawn.
+writes docs/pictures/NAME.svg for each example of NAMES, LOGGED once more, with the log of the block beside its trace, and
+VERSIONS, two versions of a tree by what a test sees them share. With --check it writes nothing, and ends with 1 if a
+picture is not as it would be drawn.
 """
+import re
 import sys
 from pathlib import Path
 
@@ -21,6 +23,7 @@ NAMES = [
     "way_back",
 ]
 LOGGED = ("log_beside_its_trace", "drop_in_flight_when_marked")
+VERSIONS = "versions_share_nodes"
 # The atomic step that a command is on the word, if it is one.
 ATOMIC = {
     "clone": "reads",
@@ -38,6 +41,7 @@ ROW = 26
 COLUMN = 190
 WORD = 120
 TOP = 44
+NODE = 80
 
 STYLE = """<style>
   text { font: 14px system-ui, sans-serif; fill: currentColor; }
@@ -97,17 +101,18 @@ def log_of(steps):
     return log
 
 
+def picture(name, width, height, parts):
+    size = f'viewBox="0 0 {width} {height}" width="{width}" height="{height}"'
+    head = f'<svg xmlns="http://www.w3.org/2000/svg" {size} role="img">'
+    return "\n".join([head, f"<title>{name.replace('_', ' ')}</title>", STYLE, *parts, "</svg>", ""])
+
+
 def drawn(name, logged=False):
     steps = read(name)
     owners = 1 + max(int(operands[0]) for (_, *operands), _ in steps)
     width = owners * COLUMN + WORD + 20 + (LOG if logged else 0)
-    height = TOP + ROW * len(steps) + 10
     end = TOP + ROW * len(steps)
-    parts = [
-        f'<svg xmlns="http://www.w3.org/2000/svg" viewBox="0 0 {width} {height}" width="{width}" height="{height}" role="img">',
-        f"<title>{(LOGGED[0] if logged else name).replace('_', ' ')}</title>",
-        STYLE,
-    ]
+    parts = []
     for owner in range(owners):
         middle = owner * COLUMN + COLUMN // 2
         parts.append(f'<text x="{middle}" y="20" text-anchor="middle">owner {owner}</text>')
@@ -126,7 +131,9 @@ def drawn(name, logged=False):
         parts.append(f'<text x="{left + COLUMN - 24}" y="{y + 18}" text-anchor="end">{answer}</text>')
         parts.append(f'<text class="{"" if word != before else "small"}" x="{word_at}" y="{y + 18}" text-anchor="middle">{word}</text>')
         before = word
-    return "\n".join([*parts, *(drawn_log(log_of(steps), word_at + WORD // 2) if logged else []), "</svg>", ""])
+    if logged:
+        parts += drawn_log(log_of(steps), word_at + WORD // 2)
+    return picture(LOGGED[0] if logged else name, width, end + 10, parts)
 
 
 def drawn_log(log, left):
@@ -140,9 +147,52 @@ def drawn_log(log, left):
     return parts
 
 
+def nodes():
+    """The nodes of a tree by their paths: the values before and after a change, and whether both versions have the node,
+    as the test says."""
+    rows = re.compile(r"\(&\[(.*?)\], Some\((\d+)\), Some\((\d+)\), (true|false)\)")
+    found = rows.findall((ROOT / "crates" / "sharing_tests" / "src" / "roses.rt").read_text())
+    return {tuple(re.findall(r"\d+", path)): (old, new, shared == "true") for path, old, new, shared in found}
+
+
+def columns(tree, path=(), taken=0):
+    """The column of the node at the path and of each below it. The leaves take one each, from `taken` on."""
+    placed = {}
+    low = [other for other in sorted(tree) if other[:-1] == path != other]
+    for child in low:
+        placed |= columns(tree, child, taken)
+        taken = 1 + int(max(placed.values()))
+    return placed | {path: (placed[low[0]] + placed[low[-1]]) / 2 if low else taken}
+
+
+def drawn_versions():
+    """The version before the change, and on its right the nodes that only the version after it has."""
+    tree = nodes()
+    column = columns(tree)
+    after = 1 + max(column.values())
+    lines, boxes = [], []
+
+    def place(path, version):
+        right = after if version and not tree[path][2] else 0
+        return int((column[path] + right + 0.5) * NODE), TOP + NODE * len(path)
+
+    for version, name in enumerate(("before", "after")):
+        x, y = place((), version)
+        boxes.append(f'<text class="small" x="{x}" y="{y - 16}" text-anchor="middle">{name}</text>')
+        for path in [path for path in tree if not (version and tree[path][2])]:
+            x, y = place(path, version)
+            kind = "step" if tree[path][2] else "lost"
+            boxes.append(f'<rect class="{kind}" x="{x - 20}" y="{y}" width="40" height="{ROW}" rx="4"/>')
+            boxes.append(f'<text x="{x}" y="{y + 18}" text-anchor="middle">{tree[path][version]}</text>')
+            for low in [place(low, version) for low in tree if low[:-1] == path != low]:
+                lines.append(f'<line class="line" x1="{x}" y1="{y + ROW}" x2="{low[0]}" y2="{low[1]}"/>')
+    height = TOP + NODE * max(map(len, tree)) + ROW + 10
+    return picture(VERSIONS, int((2 * after - 1) * NODE), height, [*lines, *boxes])
+
+
 def main():
     folder = ROOT / "docs" / "pictures"
-    pictures = {name: drawn(name) for name in NAMES} | {LOGGED[0]: drawn(LOGGED[1], logged=True)}
+    pictures = {name: drawn(name) for name in NAMES} | {LOGGED[0]: drawn(LOGGED[1], logged=True), VERSIONS: drawn_versions()}
     other = []
     for name, picture in pictures.items():
         path = folder / f"{name}.svg"

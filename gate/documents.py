@@ -2,8 +2,8 @@
 """Checks what the documents rest on, and ends with 1 if something is wrong:
 
 - each file and heading that a link leads to is there, and if the link's text is code, the file has each of its names;
-- a block of code that names a file, as ```rust crates/first_example/src/main.rt, stands in that file as it is;
-- an indented line such as "handles may_wait=4: counting_word" is one of crates.txt.
+- a block of Rust names a file, as ```rust crates/first_example/src/main.rt, in which it stands as it is. One that names
+  none is of docs/DECISIONS.md, and the checker refuses it: gate/elsewhere.sh.
 """
 import re
 import subprocess
@@ -12,8 +12,7 @@ from pathlib import Path
 
 ROOT = Path(__file__).resolve().parent.parent
 LINK = re.compile(r"\[((?:[^\]\[]|\[[^\]]*\])+)\]\(([^)\s]+)\)")
-QUOTE = re.compile(r"```rust (\S+)\n(.*?)```", re.S)
-CRATE = re.compile(r"^    (\w+(?: \w+=\S+)*:(?: \w+)*)$", re.M)
+QUOTE = re.compile(r"```rust ?(\S*)\n(.*?)```", re.S)
 
 
 def headings(text):
@@ -32,11 +31,9 @@ def wrong_link(document, label, target):
     if anchor and anchor not in headings(path.read_text()):
         return "no such heading"
     names = re.findall(r"[A-Za-z_]\w*", " ".join(re.findall(r"`([^`]+)`", label)))
-    if path.suffix in (".rt", ".antt"):
-        source = path.read_text()
-        lacking = [name for name in names if not re.search(rf"\b{name}\b", source) and f"{name}.rt" != path.name]
-        return f"the file has no {', '.join(lacking)}" if lacking else None
-    return None
+    source = path.read_text() if path.suffix in (".rt", ".antt") else label
+    lacking = [name for name in names if not re.search(rf"\b{name}\b", source) and f"{name}.rt" != path.name]
+    return f"the file has no {', '.join(lacking)}" if lacking else None
 
 
 def wrong_in(document):
@@ -45,10 +42,9 @@ def wrong_in(document):
         if not re.match(r"[a-z]+:", target) and (wrong := wrong_link(document, label, target)):
             yield f"[{label}]({target}): {wrong}"
     for file, quoted in QUOTE.findall(text):
-        if not (ROOT / file).exists() or quoted not in (ROOT / file).read_text():
-            yield f"{file} does not have what is quoted of it"
-    lines = (ROOT / "crates.txt").read_text().splitlines()
-    yield from (f"crates.txt has no line {line}" for line in CRATE.findall(text) if line not in lines)
+        source = ROOT / file if file or document.name != "DECISIONS.md" else document
+        if not source.is_file() or quoted not in source.read_text():
+            yield f"not in {file or 'a file that is named'}: {quoted.splitlines()[0]}"
 
 
 def main():

@@ -50,15 +50,15 @@ pub use Rattle.counting_core.specs.Legal.{state, takes_memory, model, expected, 
 pub use Rattle.counting_core.specs.Legal.{Visible, Internal, move, outcome, model_after}
 pub use Rattle.counting_core.specs.LostRaises.{is_lost_raise, is_change, how_many}
 pub use Rattle.counting_core.specs.Permitted.{permitted, may_take, permitted_by, has_alone, may_use, is_writing, holds}
-pub use Rattle.counting_core.specs.Permitted.{is_lent_to, has_sole, is_shared, is_sole}
+pub use Rattle.counting_core.specs.Permitted.{is_lent_to, has_sole, is_shared, is_sole, owner_of}
 pub use Rattle.counting_core.specs.ReferenceModel.{Model, is_full, is_only, Clones, Ends, without, opened}
 pub use Rattle.counting_core.specs.Represents.{CoreState, handle, activity, state_of, Represents, IsReached}
 pub use Rattle.counting_core.specs.Represents.{is_dropping, drops_in_flight, Continues, ContinuesAll, core_of}
 pub use Rattle.counting_core.specs.Represents.{number_below}
 pub use Rattle.counting_core.specs.Runs.{Entry, entries_of, spelled_step, spelled_from, spelled, Runs, IsReportedBy}
-pub use Rattle.counting_core.specs.Trace.{Trace, HandleState, lent_to, returned_by, after, ended, State, goes_on_to}
-pub use Rattle.counting_core.specs.Trace.{newborn, handle_in, seen_in, limit_of, owner_of, Then, unborn, put, Open}
-pub use Rattle.counting_core.specs.Trace.{then_all}
+pub use Rattle.counting_core.specs.State.{HandleState, lent_to, returned_by, ended, State, goes_on_to, newborn}
+pub use Rattle.counting_core.specs.State.{handle_in, seen_in, unborn, put}
+pub use Rattle.counting_core.specs.Trace.{Trace, after, limit_of, Then, Open, then_all}
 pub use Rattle.counting_core.specs.TraceLogs.{word_step, log_of}
 pub use Rattle.counting_core.specs.declared.activity.Activity.{Activity}
 pub use Rattle.counting_core.specs.declared.activity.Activity.TheVariants.{Idle, Cloning, Dropping}

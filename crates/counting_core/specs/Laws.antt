@@ -7,8 +7,9 @@ use Rattle.counting_core.specs.declared.step.Answer.TheVariants.{Born, Full, Pen
 use Rattle.counting_core.specs.declared.step.Answer.TheVariants.{Barred}
 use Rattle.counting_core.specs.declared.step.Step.{Step}
 use Rattle.counting_core.specs.declared.step.Step.TheVariants.{Clone, Raise, Drop, Lower}
-use Rattle.counting_core.specs.Trace.{Trace, Open, Then, HandleState, owner_of, limit_of}
-use Rattle.counting_core.specs.Permitted.{is_sole, permitted}
+use Rattle.counting_core.specs.State.{HandleState}
+use Rattle.counting_core.specs.Permitted.{is_sole, owner_of, permitted}
+use Rattle.counting_core.specs.Trace.{Trace, Open, Then, limit_of}
 use Rattle.counting_core.specs.Legal.{expected, IsLegal, state, model}
 use Rattle.counting_core.specs.Represents.{CoreState, Represents}
 

@@ -6,8 +6,9 @@ use Rattle.counting_core.specs.declared.step.Answer.TheVariants.{Born, Pending, 
 use Rattle.counting_core.specs.declared.step.Step.{Step}
 use Rattle.counting_core.specs.declared.step.Step.TheVariants.{Clone, Raise, Quit, Drop, Lower, Mark, Unique, Static}
 use Rattle.counting_core.specs.declared.step.Step.TheVariants.{GetMut, Write, IntoUnique, Load, Lend}
-use Rattle.counting_core.specs.Trace.{Trace, Open, Then, State, handle_in, seen_in, after, opening}
+use Rattle.counting_core.specs.State.{State, handle_in, seen_in, opening}
 use Rattle.counting_core.specs.Permitted.{permitted}
+use Rattle.counting_core.specs.Trace.{Trace, Open, Then, after}
 use Rattle.counting_core.specs.ReferenceModel.{Model, Event, Clones, Ends, Marks, AsksUnique, AsksStatic, AsksMut}
 use Rattle.counting_core.specs.ReferenceModel.{AsksSole, Writes, Loads, opened, is_full, respond}
 

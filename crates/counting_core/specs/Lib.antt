@@ -1,5 +1,6 @@
-pub mod Trace
+pub mod State
 pub mod Permitted
+pub mod Trace
 pub mod ReferenceModel
 pub mod Legal
 pub mod Represents

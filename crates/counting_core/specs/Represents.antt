@@ -5,7 +5,8 @@ use Rattle.counting_core.specs.declared.activity.Activity.{Activity}
 use Rattle.counting_core.specs.declared.activity.Activity.TheVariants.{Idle, Dropping}
 use Rattle.counting_core.specs.declared.step.Answer.{Answer}
 use Rattle.counting_core.specs.declared.step.Step.{Step}
-use Rattle.counting_core.specs.Trace.{Trace, Then, then_all, HandleState, unborn, State, limit_of}
+use Rattle.counting_core.specs.State.{HandleState, unborn, State}
+use Rattle.counting_core.specs.Trace.{Trace, Then, then_all, limit_of}
 use Rattle.counting_core.specs.Legal.{IsLegal, state, model}
 
 -- A core, as its contracts show it: a value, a word and a limit, each handle ever born, and what each owner is in the

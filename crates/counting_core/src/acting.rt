@@ -1,6 +1,6 @@
 //! What each step makes of a core.
 ghost use Rattle.std.specs.Prelude.{◌≡◌};
-ghost use Rattle.counting_core.specs.Trace.{owner_of};
+ghost use Rattle.counting_core.specs.Permitted.{owner_of};
 ghost use Rattle.counting_core.specs.Represents.{activity, IsReached};
 ghost use Rattle.counting_core.specs.ByWord.{IsPermitted, FollowsWord};
 

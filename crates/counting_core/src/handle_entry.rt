@@ -1,7 +1,7 @@
 //! What is known of a handle that was born.
 ghost use Rattle.std.specs.Prelude.{◌≡◌, ◌++◌, ◌∷◌, [], length, false, true, if◌then◌else◌};
 ghost use Rattle.std.specs.Prelude.{OnOk, OnErr, IfSome, IfNone};
-ghost use Rattle.counting_core.specs.Trace.{newborn, lent_to, returned_by};
+ghost use Rattle.counting_core.specs.State.{newborn, lent_to, returned_by};
 ghost use Rattle.counting_core.specs.Permitted.{holds, is_lent_to, is_shared, may_use, may_take, is_writing, has_sole};
 
 use crate::step::Answer;
@@ -29,7 +29,7 @@ pub(crate) struct HandleEntry {
 }
 
 impl Model for HandleEntry {
-    ghost use Rattle.counting_core.specs.Trace.{HandleState};
+    ghost use Rattle.counting_core.specs.State.{HandleState};
 
     ghost Value = { HandleState };
 

@@ -141,53 +141,42 @@ impl<V: Copy> Clone for Step<V> {
 }
 
 impl<V: Copy> Step<V> {
-    ghost use Rattle.counting_core.specs.Trace.{handle_of, owner_of};
+    ghost use Rattle.counting_core.specs.Permitted.{handle_of, owner_of};
+
+    // The owner whose step it is, and the handle that it is on. A raise, a quit and a lower go on with what is in
+    // flight, and are on none.
+    fn addressed(&self) -> (usize, Option<usize>)
+        ensures { result ≡ (owner_of self.now, handle_of self.now) }
+    {
+        match *self {
+            Step::Raise { owner } | Step::Quit { owner } | Step::Lower { owner } => (owner, None),
+            Step::Clone { owner, handle }
+            | Step::Drop { owner, handle }
+            | Step::Mark { owner, handle }
+            | Step::Unique { owner, handle }
+            | Step::Static { owner, handle }
+            | Step::GetMut { owner, handle }
+            | Step::Write { owner, handle, .. }
+            | Step::EndWrite { owner, handle }
+            | Step::IntoUnique { owner, handle }
+            | Step::Share { owner, handle }
+            | Step::Load { owner, handle }
+            | Step::Lend { owner, handle, .. }
+            | Step::Return { owner, handle }
+            | Step::Give { owner, handle, .. } => (owner, Some(handle)),
+        }
+    }
 
     /// The owner whose step it is.
     pub fn owner(&self) -> usize
         ensures { result ≡ owner_of self.now }
     {
-        match *self {
-            Step::Clone { owner, .. }
-            | Step::Raise { owner }
-            | Step::Quit { owner }
-            | Step::Drop { owner, .. }
-            | Step::Lower { owner }
-            | Step::Mark { owner, .. }
-            | Step::Unique { owner, .. }
-            | Step::Static { owner, .. }
-            | Step::GetMut { owner, .. }
-            | Step::Write { owner, .. }
-            | Step::EndWrite { owner, .. }
-            | Step::IntoUnique { owner, .. }
-            | Step::Share { owner, .. }
-            | Step::Load { owner, .. }
-            | Step::Lend { owner, .. }
-            | Step::Return { owner, .. }
-            | Step::Give { owner, .. } => owner,
-        }
+        self.addressed().0
     }
 
-    // The handle that the step is on. A raise, a quit and a lower go on with what is in flight, and are on none.
     pub(crate) fn handle(&self) -> Option<usize>
         ensures { result ≡ handle_of self.now }
     {
-        match *self {
-            Step::Raise { .. } | Step::Quit { .. } | Step::Lower { .. } => None,
-            Step::Clone { handle, .. }
-            | Step::Drop { handle, .. }
-            | Step::Mark { handle, .. }
-            | Step::Unique { handle, .. }
-            | Step::Static { handle, .. }
-            | Step::GetMut { handle, .. }
-            | Step::Write { handle, .. }
-            | Step::EndWrite { handle, .. }
-            | Step::IntoUnique { handle, .. }
-            | Step::Share { handle, .. }
-            | Step::Load { handle, .. }
-            | Step::Lend { handle, .. }
-            | Step::Return { handle, .. }
-            | Step::Give { handle, .. } => Some(handle),
-        }
+        self.addressed().1
     }
 }

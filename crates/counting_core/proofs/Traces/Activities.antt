@@ -1,5 +1,5 @@
 -- What an owner is in the middle of, by the step that it may make.
-use Rattle.counting_core.proofs.Names.{◌≡◌, ℕ, true, false, refl, sym, ◌∙◌, true≢false, Activity, Idle, Cloning}
+use Rattle.counting_core.proofs.Names.{◌≡◌, ℕ, true, false, refl, sym, true≢false, Activity, Idle, Cloning}
 use Rattle.counting_core.proofs.Names.{Dropping, Step, Raise, Quit, Lower, State, handle_in, seen_in, permitted_by}
 use Rattle.counting_core.proofs.Names.{Bool, permitted, owner_of, and_parts}
 

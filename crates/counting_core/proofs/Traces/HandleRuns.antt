@@ -7,7 +7,7 @@ use Rattle.counting_core.proofs.Names.{has_exactly}
 use Rattle.counting_core.proofs.Names.{one_more, SharedAccess, Written, Idle, Cloning, Clone, Raise, Quit, Mark, Unique}
 use Rattle.counting_core.proofs.Names.{GetMut, EndWrite, Born, Full, Pending, Marked, Is, Alone, Shared, Done, Quitted}
 use Rattle.counting_core.proofs.Names.{Trace, Then, HandleState, put, may_use, may_take, is_writing, Model, is_full}
-use Rattle.counting_core.proofs.Names.{is_only, raise_settles, state, model, Entry, entries_of, seen_in, Step, Answer}
+use Rattle.counting_core.proofs.Names.{is_only, raise_settles, state, model, Entry, entries_of, Step, Answer}
 use Rattle.counting_core.proofs.Names.{owner_of, permitted_by}
 use Rattle.counting_core.proofs.Traces.Places.{put-all}
 use Rattle.counting_core.proofs.Traces.HandleLists.{has, nat_eq-same}

@@ -1,5 +1,5 @@
-use Rattle.counting_core.proofs.Names.{refl, ◌≡◌, ◌<◌, true, false, sym, ◌∙◌, subst, Dropping, Lower, Ended, GivenUp}
-use Rattle.counting_core.proofs.Names.{CoreState, core_of, activity, IsPermitted}
+use Rattle.counting_core.proofs.Names.{refl, ◌<◌, true, false, sym, ◌∙◌, subst, Lower, Ended, GivenUp}
+use Rattle.counting_core.proofs.Names.{CoreState, core_of, IsPermitted}
 use Rattle.counting_core.proofs.Steps.Continues.{stays, follows}
 use Rattle.counting_core.proofs.Steps.Edits.{born}
 use Rattle.counting_core.proofs.Steps.Acting.{lower_some, lower_lives, lowers}

@@ -1,4 +1,4 @@
-use Rattle.counting_core.proofs.Names.{refl, ◌≡◌, sym, ◌∙◌, subst, Cloning, Raise, Born, Full, Pending, activity}
+use Rattle.counting_core.proofs.Names.{refl, sym, ◌∙◌, Raise, Born, Full, Pending}
 use Rattle.counting_core.proofs.Traces.LiveCounts.{core_limit, core_within}
 use Rattle.counting_core.proofs.Steps.Continues.{stays, follows}
 use Rattle.counting_core.proofs.Steps.Acting.{raise_full, raise_loses, raise_static, raise_won, raise_bears}

@@ -159,22 +159,11 @@ impl<V: Copy> Core<V> {
                 self.value = value;
                 Answer::Done
             }
-            Step::EndWrite { handle, .. } | Step::Share { handle, .. } => {
-                self.handles[handle].set_access(Access::Shared);
-                Answer::Done
-            }
-            Step::Lend { handle, to, .. } => match self.handles[handle].lend_to(to) {
-                Ok(()) => Answer::Done,
-                Err(_) => Answer::Memory,
-            },
-            Step::Return { owner, handle } => {
-                self.handles[handle].take_back_from(owner);
-                Answer::Done
-            }
-            Step::Give { handle, to, .. } => {
-                self.handles[handle].give_to(to);
-                Answer::Done
-            }
+            Step::EndWrite { handle, .. } | Step::Share { handle, .. } =>
+                self.handles[handle].share(),
+            Step::Lend { handle, to, .. } => self.handles[handle].lend_to(to),
+            Step::Return { owner, handle } => self.handles[handle].take_back_from(owner),
+            Step::Give { handle, to, .. } => self.handles[handle].give_to(to),
             Step::Raise { .. } | Step::Quit { .. } | Step::Lower { .. } => Answer::Barred,
         }
     }

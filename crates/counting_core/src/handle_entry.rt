@@ -1,11 +1,11 @@
 //! What is known of a handle that was born.
 ghost use Rattle.std.specs.Prelude.{◌≡◌, ◌++◌, ◌∷◌, [], length, false, true, if◌then◌else◌};
-ghost use Rattle.std.specs.Prelude.{OnOk, OnErr, IfSome, IfNone};
+ghost use Rattle.std.specs.Prelude.{◌⊎◌, IfSome, IfNone};
 ghost use Rattle.counting_core.specs.State.{newborn, lent_to, returned_by};
 ghost use Rattle.counting_core.specs.Permitted.{holds, is_lent_to, is_shared, may_use, may_take, is_writing, has_sole};
 
 use crate::step::Answer;
-use std::alloc::{AllocError, Global};
+use std::alloc::Global;
 use std::collections::BTreeSet;
 use std::marker::Model;
 
@@ -111,10 +111,13 @@ impl HandleEntry {
         self.lives = false;
     }
 
-    pub(crate) fn set_access(&mut self, access: Access)
-        ensures { self.new ≡ record self.old { access = access } }
+    /// Lets it be used as any other again.
+    pub(crate) fn share<V: Copy>(&mut self) -> Answer<V>
+        ensures answer { result ≡ Answer.Done }
+        ensures shared { self.new ≡ record self.old { access = Access.Shared } }
     {
-        self.access = access;
+        self.access = Access::Shared;
+        Answer::Done
     }
 
     /// Sets the access and answers `taken` if the handle is alone. Otherwise answers that the block is shared.
@@ -135,24 +138,31 @@ impl HandleEntry {
         }
     }
 
-    pub(crate) fn give_to(&mut self, owner: usize)
-        ensures { self.new ≡ record self.old { holder = owner } }
+    pub(crate) fn give_to<V: Copy>(&mut self, owner: usize) -> Answer<V>
+        ensures answer { result ≡ Answer.Done }
+        ensures given { self.new ≡ record self.old { holder = owner } }
     {
         self.holder = owner;
+        Answer::Done
     }
 
-    pub(crate) fn lend_to(&mut self, owner: usize) -> Result<(), AllocError>
-        ensures lent { OnOk result (self.new ≡ lent_to self.old owner) }
-        ensures refused { OnErr result (self.new ≡ self.old) }
+    /// Lends it, or answers that memory was refused.
+    pub(crate) fn lend_to<V: Copy>(&mut self, owner: usize) -> Answer<V>
+        ensures { ((result ≡ Answer.Done) × (self.new ≡ lent_to self.old owner))
+            ⊎ ((result ≡ Answer.Memory) × (self.new ≡ self.old)) }
     {
-        self.borrowers.insert(owner)?;
-        Ok(())
+        match self.borrowers.insert(owner) {
+            Ok(_) => Answer::Done,
+            Err(_) => Answer::Memory,
+        }
     }
 
-    pub(crate) fn take_back_from(&mut self, owner: usize)
-        ensures { self.new ≡ returned_by self.old owner }
+    pub(crate) fn take_back_from<V: Copy>(&mut self, owner: usize) -> Answer<V>
+        ensures answer { result ≡ Answer.Done }
+        ensures returned { self.new ≡ returned_by self.old owner }
     {
         self.borrowers.remove(&owner);
+        Answer::Done
     }
 }
 

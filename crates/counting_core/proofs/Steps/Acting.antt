@@ -8,11 +8,11 @@ use Rattle.counting_core.proofs.Names.{LowerDrop, ClonePlanSays, clone_plan-says
 use Rattle.counting_core.proofs.Names.{Dropping, Access, SharedAccess, Written, SoleAccess, Step, Clone, Raise, Quit}
 use Rattle.counting_core.proofs.Names.{Drop, Lower, Mark, GetMut, Write, EndWrite, IntoUnique, Share, Lend, Return}
 use Rattle.counting_core.proofs.Names.{Give, Answer, Born, Full, Pending, Ended, GivenUp, Alone, Sole, Shared, Done}
-use Rattle.counting_core.proofs.Names.{Marked, Memory, Quitted, Trace, HandleState, lent_to, returned_by, after, ended}
-use Rattle.counting_core.proofs.Names.{State, goes_on_to, newborn, handle_in, seen_in, limit_of, permitted, may_take}
+use Rattle.counting_core.proofs.Names.{Marked, Memory, Quitted, Trace, HandleState, lent_to, returned_by, ended}
+use Rattle.counting_core.proofs.Names.{State, goes_on_to, newborn, handle_in, seen_in, limit_of, permitted}
 use Rattle.counting_core.proofs.Names.{state, takes_memory, CoreState, handle, activity, state_of, Represents}
-use Rattle.counting_core.proofs.Names.{IsReached, IsPermitted, cloned, dropped, by_word, value_after, births_after}
-use Rattle.counting_core.proofs.Names.{TakesEffect, FollowsWord}
+use Rattle.counting_core.proofs.Names.{IsReached, IsPermitted, cloned, dropped, by_word}
+use Rattle.counting_core.proofs.Names.{TakesEffect, FollowsWord, ◌⊎◌, inl, inr}
 use Rattle.counting_core.proofs.Traces.Activities.{begun}
 use Rattle.counting_core.proofs.Traces.InFlight.{parts-alone, taken-lives, all_fit, dropped-lives}
 use Rattle.counting_core.proofs.Traces.Places.{put-same}
@@ -229,13 +229,14 @@ module _ {V : Type 0} (f : CoreState V) where
         (and_parts _ _ (and_parts _ _ (and_parts _ _ (begun (state_of f) (Share o h) may refl).1).0).0).0 (Share o h)
         Done may refl refl refl refl
 
-    pub lends : (to : ℕ) → new ≡ lent_to k to → IsPermitted f (Lend o h to) → TakesEffect f (Lend o h to) Done with_new
-    lends to now may = edits f h (λ s. lent_to s to) k new was now
+    pub lends : (to : ℕ) (a : Answer V) → ((a ≡ Done) × (new ≡ lent_to k to)) ⊎ ((a ≡ Memory) × (new ≡ k))
+        → IsPermitted f (Lend o h to) → FollowsWord f (Lend o h to) a with_new
+    lends to a (inl (answer, now)) may = subst (λ x. FollowsWord f (Lend o h to) x with_new) (sym answer)
+        (edits f h (λ s. lent_to s to) k new was now
         (and_parts _ _ (and_parts _ _ (begun (state_of f) (Lend o h to) may refl).1).0).0 (Lend o h to) Done may refl
-        refl refl refl
-
-    pub lends_none : (to : ℕ) → new ≡ k → IsPermitted f (Lend o h to) → FollowsWord f (Lend o h to) Memory with_new
-    lends_none to now may = (may, refl, same-new now)
+        refl refl refl)
+    lends to a (inr (answer, now)) may = subst (λ x. FollowsWord f (Lend o h to) x with_new) (sym answer)
+        (may, refl, same-new now)
 
     pub returns : new ≡ returned_by k o → IsPermitted f (Return o h) → TakesEffect f (Return o h) Done with_new
     returns now may = edits f h (λ s. returned_by s o) k new was now

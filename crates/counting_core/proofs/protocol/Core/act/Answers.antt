@@ -1,8 +1,6 @@
-use Rattle.counting_core.proofs.Names.{Marked, Done, Memory, inl, inr}
+use Rattle.counting_core.proofs.Names.{Marked, Done, inl, inr}
 use Rattle.counting_core.proofs.Steps.Continues.{stays, follows}
-use Rattle.counting_core.proofs.Steps.Acting.{marks, gets, owns, writes, ends_write, shares, lends, lends_none, returns}
-use Rattle.counting_core.proofs.Steps.Acting.{gives}
-use Rattle.counting_core.proofs.protocol.Core.act.Goals.{in-Ok, in-Err}
+use Rattle.counting_core.proofs.Steps.Acting.{marks, gets, owns, writes, ends_write, shares, lends, returns, gives}
 use Rattle.counting_core.proofs.protocol.Core.act.Goals as goal
 
 pub invariant_of-self : goal.invariant_of-self
@@ -47,72 +45,58 @@ pub invariant_of-self-in-Return-1 : goal.invariant_of-self-in-Return-1
 invariant_of-self-in-Return-1 g c =
     stays c.self.view_is _ c.in-Return.is Done c.requires.allowed c.self.invariant
     (returns _ c.in-Return.owner c.in-Return.handle c.index_mut-in-Return.result.now c.take_back_from.new.self
-    c.index_mut-in-Return.ensures.value c.take_back_from.ensures)
+    c.index_mut-in-Return.ensures.value c.take_back_from.ensures.returned)
 
 pub returns-in-Return : goal.returns-in-Return
 returns-in-Return g c =
-    follows c.self.view_is _ c.in-Return.is Done c.requires.allowed
+    rw c.take_back_from.ensures.answer (follows c.self.view_is _ c.in-Return.is Done c.requires.allowed
     (returns _ c.in-Return.owner c.in-Return.handle c.index_mut-in-Return.result.now c.take_back_from.new.self
-    c.index_mut-in-Return.ensures.value c.take_back_from.ensures)
+    c.index_mut-in-Return.ensures.value c.take_back_from.ensures.returned))
 
 pub invariant_of-self-in-Give-1 : goal.invariant_of-self-in-Give-1
 invariant_of-self-in-Give-1 g c =
     stays c.self.view_is _ c.in-Give.is Done c.requires.allowed c.self.invariant
     (gives _ c.in-Give.owner c.in-Give.handle c.index_mut-in-Give.result.now c.give_to.new.self
-    c.index_mut-in-Give.ensures.value c.in-Give.to c.give_to.ensures)
+    c.index_mut-in-Give.ensures.value c.in-Give.to c.give_to.ensures.given)
 
 pub returns-in-Give : goal.returns-in-Give
 returns-in-Give g c =
-    follows c.self.view_is _ c.in-Give.is Done c.requires.allowed
+    rw c.give_to.ensures.answer (follows c.self.view_is _ c.in-Give.is Done c.requires.allowed
     (gives _ c.in-Give.owner c.in-Give.handle c.index_mut-in-Give.result.now c.give_to.new.self
-    c.index_mut-in-Give.ensures.value c.in-Give.to c.give_to.ensures)
+    c.index_mut-in-Give.ensures.value c.in-Give.to c.give_to.ensures.given))
 
 pub invariant_of-self-in-EndWrite : goal.invariant_of-self-in-EndWrite
 invariant_of-self-in-EndWrite g c =
     elim c.in-EndWrite.is [
       | inl e ↦ stays c.self.view_is _ e.1 Done c.requires.allowed c.self.invariant
           (ends_write _ e.0 c.in-EndWrite.handle
-          c.index_mut-in-EndWrite.result.now c.set_access.new.self c.index_mut-in-EndWrite.ensures.value
-          c.set_access.ensures)
+          c.index_mut-in-EndWrite.result.now c.share.new.self c.index_mut-in-EndWrite.ensures.value
+          c.share.ensures.shared)
       | inr e ↦ stays c.self.view_is _ e.1 Done c.requires.allowed c.self.invariant
           (shares _ e.0 c.in-EndWrite.handle
-          c.index_mut-in-EndWrite.result.now c.set_access.new.self c.index_mut-in-EndWrite.ensures.value
-          c.set_access.ensures)
+          c.index_mut-in-EndWrite.result.now c.share.new.self c.index_mut-in-EndWrite.ensures.value
+          c.share.ensures.shared)
     ]
 
 pub returns-in-EndWrite : goal.returns-in-EndWrite
 returns-in-EndWrite g c =
-    elim c.in-EndWrite.is [
+    rw c.share.ensures.answer (elim c.in-EndWrite.is [
       | inl e ↦ follows c.self.view_is _ e.1 Done c.requires.allowed (ends_write _ e.0 c.in-EndWrite.handle
-          c.index_mut-in-EndWrite.result.now c.set_access.new.self c.index_mut-in-EndWrite.ensures.value
-          c.set_access.ensures)
+          c.index_mut-in-EndWrite.result.now c.share.new.self c.index_mut-in-EndWrite.ensures.value
+          c.share.ensures.shared)
       | inr e ↦ follows c.self.view_is _ e.1 Done c.requires.allowed (shares _ e.0 c.in-EndWrite.handle
-          c.index_mut-in-EndWrite.result.now c.set_access.new.self c.index_mut-in-EndWrite.ensures.value
-          c.set_access.ensures)
-    ]
+          c.index_mut-in-EndWrite.result.now c.share.new.self c.index_mut-in-EndWrite.ensures.value
+          c.share.ensures.shared)
+    ])
 
 pub invariant_of-self-in-Lend-1 : goal.invariant_of-self-in-Lend-1
 invariant_of-self-in-Lend-1 g c =
-    elim c.match-lend_to.branch [
-      | in-Ok w ↦ stays c.self.view_is _ c.in-Lend.is Done c.requires.allowed c.self.invariant
-          (lends _ c.in-Lend.owner
-          c.in-Lend.handle c.index_mut-in-Lend.result.now c.lend_to.new.self c.index_mut-in-Lend.ensures.value
-          c.in-Lend.to w.in-Ok.ensures.lent)
-      | in-Err w ↦ stays c.self.view_is _ c.in-Lend.is Memory c.requires.allowed c.self.invariant
-          (lends_none _ c.in-Lend.owner
-          c.in-Lend.handle c.index_mut-in-Lend.result.now c.lend_to.new.self c.index_mut-in-Lend.ensures.value
-          c.in-Lend.to w.in-Err.ensures.refused)
-    ]
+    stays c.self.view_is _ c.in-Lend.is c.lend_to.result c.requires.allowed c.self.invariant
+    (lends _ c.in-Lend.owner c.in-Lend.handle c.index_mut-in-Lend.result.now c.lend_to.new.self
+    c.index_mut-in-Lend.ensures.value c.in-Lend.to c.lend_to.result c.lend_to.ensures)
 
-pub returns-after-lend_to : goal.returns-after-lend_to
-returns-after-lend_to g c =
-    elim c.match-lend_to.branch [
-      | in-Ok w ↦ rw w.result-is (follows c.self.view_is _ c.in-Lend.is Done c.requires.allowed
-          (lends _ c.in-Lend.owner
-          c.in-Lend.handle c.index_mut-in-Lend.result.now c.lend_to.new.self c.index_mut-in-Lend.ensures.value
-          c.in-Lend.to w.in-Ok.ensures.lent))
-      | in-Err w ↦ rw w.result-is (follows c.self.view_is _ c.in-Lend.is Memory c.requires.allowed
-          (lends_none _ c.in-Lend.owner
-          c.in-Lend.handle c.index_mut-in-Lend.result.now c.lend_to.new.self c.index_mut-in-Lend.ensures.value
-          c.in-Lend.to w.in-Err.ensures.refused))
-    ]
+pub returns-in-Lend : goal.returns-in-Lend
+returns-in-Lend g c =
+    follows c.self.view_is _ c.in-Lend.is c.lend_to.result c.requires.allowed
+    (lends _ c.in-Lend.owner c.in-Lend.handle c.index_mut-in-Lend.result.now c.lend_to.new.self
+    c.index_mut-in-Lend.ensures.value c.in-Lend.to c.lend_to.result c.lend_to.ensures)

@@ -47,17 +47,15 @@ impl<T> Handle<T> {
         if is_marked(word) {
             return Attempt::Made(permit.into_handle());
         }
-        match plan_clone(word, held.limit.count) {
-            ClonePlan::Static => Attempt::Made(permit.into_handle()),
-            ClonePlan::Full => Attempt::Full(permit.into_logged()),
-            ClonePlan::Raise(next) => {
-                let (found, permit) = self.raise(word, next, permit);
-                if found == word {
-                    Attempt::Made(permit.into_handle())
-                } else {
-                    Attempt::Lost(found, permit)
-                }
-            }
+        // Without a mark, a clone that raises nothing is one that is refused.
+        let ClonePlan::Raise(next) = plan_clone(word, held.limit.count) else {
+            return Attempt::Full(permit.into_logged());
+        };
+        let (found, permit) = self.raise(word, next, permit);
+        if found == word {
+            Attempt::Made(permit.into_handle())
+        } else {
+            Attempt::Lost(found, permit)
         }
     }
 }

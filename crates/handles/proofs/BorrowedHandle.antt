@@ -1,7 +1,7 @@
 -- One atomic step through a `&` to a handle: how a walk reads the pointer, and how it gives back what it borrowed for
 -- the step.
 -- Assumes `Logic`.
-use Rattle.std.proofs.Common.{◌≡◌, ℕ, Bool, false, List, [], ◌∷◌, refl, ap, ◌∙◌}
+use Rattle.std.proofs.Common.{◌≡◌, ℕ, ◌+◌, Bool, false, List, [], ◌∷◌, refl, ap, ◌∙◌}
 use seplogic.Ra.Ura.{Ura}
 use mir.Val.{Val}
 use base.Logic.{id⊢, SProp, ent, sep}
@@ -53,6 +53,10 @@ module _ {M : Type 1} {𝓤 : Ura M} (𝓛 : Logic 𝓤) (i : Names) where
 -- the pointer of a handle, as its block and its offset
 abbrev pub parted : Ptr → Ptr
 parted p = block_ptr (block_of p) (offset_of p)
+
+-- where its word lies
+abbrev pub word_at : Ptr → Ptr
+word_at p = block_ptr (block_of p) (offset_of p + 0)
 
 module _ (R : RattleType) (p : Ptr)
     {M : Type 1} {𝓤 : Ura M} {𝓛 : Logic 𝓤} {K : Type 0} {Γ : List (Item 𝓤)} {G : Goal 𝓤 𝓛.H} where

@@ -1,4 +1,5 @@
 pub mod Asking
+pub mod AtType
 pub mod BorrowedHandle
 pub mod Boxes
 pub mod BuilderRuns

@@ -1,14 +1,16 @@
--- Walks of the functions whose one parameter is a `&`, or a handle or a permit by value. Assumes `Logic`.
+-- Walks of the functions with one type parameter whose one parameter is a `&`, or a handle or a permit by value.
+-- Assumes `Logic`.
 use Rattle.std.proofs.Common.{ℕ, Bool, List, [], ◌∷◌, refl}
 use seplogic.Ra.Ura.{Ura}
-use mir.Syntax.{Fn, Callee, named}
-use mir.Val.{Val}
+use mir.MapTy.{inst_fn}
+use mir.Syntax.{Fn, Callee, Args, named}
+use mir.Val.{Val, vptr}
 use base.Logic.{SProp, ent, sep, emp, via, emp∗, mono_l, mono_r}
 use base.Fml.{Fml, ftrue, fsep, flft}
 use prog.Model.{Model}
-use prog.Wp.{WpFn, Closed}
+use prog.Wp.{Closed}
 use types.Logic.{Logic, sem}
-use types.Kit.{Item, Goal, Step, step, Sq, use0, prop, ⋆, ‵, raw, ◌⊛◌, ◌$◌, ◌∵◌, !, qed, by, move, keep, drop, use1}
+use types.Kit.{Item, Goal, Step, step, Sq, use0, ⋆, ‵, raw, ◌⊛◌, ◌$◌, ◌∵◌, !, qed, by, move, keep, drop, use1}
 use types.Kit.{split, fsplit, fjoin, done, join}
 use contract.Lifetimes.{Lfts, Shares, Outlives}
 use contract.Monad.{fact, fact_i}
@@ -16,6 +18,7 @@ use contract.Running.{Running, tables}
 use denote.Exit.{Kept, yes, no}
 use denote.Laws.{Is, Tells}
 use denote.Memory.{hidden_shr}
+use denote.Param.{param}
 use denote.RattleType.{RattleType, owns}
 use denote.RawPtr.{Ptr}
 use denote.Ref.{Bor, shr_vals, shr_Tells}
@@ -25,7 +28,7 @@ use denote.Steps.{nothing as nothing_more, heard}
 use denote.Triple.Clauses.{Ended, Clauses, Lasts, at_exit, closing}
 use denote.Triple.Spec.{Meets}
 use denote.Triple.Walked.{Stays, stay_dropped, walk_of, Silent, Goes-dropped}
-use Rattle.atomic_table.proofs.Walks.{proved, leaves}
+use Rattle.handles.proofs.AtType.{at_type, entered, Code, walks}
 use Rattle.handles.specs.Inside.Blocks.{HeldRow, handle_owns, permit_owns}
 use Rattle.handles.specs.contracts.block.handle.Handle as handle_type
 use Rattle.handles.specs.contracts.block.permit.Permit as permit_type
@@ -52,30 +55,63 @@ module _ (Row : RattleType) (one : One Row.mir) {os : List (Outlives 2)} {r : Sl
   abbrev others : Lfts 2 → Shares 2 → Fml
   others κs qs = fsep (flft κs.1.0 qs.1.0) ftrue
 
-  pub by_ref : (key : Callee) (fn : Fn) → Closed 𝓤 H (tables 𝓤 H 𝓜 𝓡 𝓡.env).C (tables 𝓤 H 𝓜 𝓡 𝓡.env).Λ key fn
+  pub by_ref : (T : RattleType) (key : Args → Callee) (f : Fn)
+      → Closed 𝓤 H (tables 𝓤 H 𝓜 𝓡 𝓡.env).C (tables 𝓤 H 𝓜 𝓡 𝓡.env).Λ (key (at_type T)) (inst_fn (at_type T) f)
       → ((κs : Lfts 2) (qs : Shares 2) (a : Bor Row.Denot) (gh : (c κs (a, tt)).ghost) (Post : Val → SProp 𝓤)
       → Asked κs a
       → ((v : Val) (x : (r.row κs).Denot)
       → ent 𝓤 (emp 𝓤) ((c κs (a, tt)).ensures gh x (at_exit (taking os (a_ref Row one) yes r) κs (a, tt) (tt, tt)))
       → ent 𝓤 (⋆ 𝓛 (‵ (flft κs.0 qs.0) ∷ ‵ (others κs qs) ∷ ‵ ((r.row κs).own_val x (v ∷ [])) ∷ [])) (Post v))
+      → Code (at_type T) f 𝓛 𝓜 𝓡 Post
       → Sq 𝓛 (‵ (hidden_shr Row κs.0 a.now a.ref_ptr.0 a.ref_ptr.1) ∷ ‵ (flft κs.0 qs.0) ∷ ‵ (others κs qs) ∷ [])
-      (prop (WpFn 𝓤 H (tables 𝓤 H 𝓜 𝓡 𝓡.env).C (tables 𝓤 H 𝓜 𝓡 𝓡.env).Λ fn (shr_vals a) Post)))
-      → Meets 𝓛 (taking os (a_ref Row one) yes r).signature ((tables 𝓤 H 𝓜 𝓡 𝓡.env).C key)
+      (entered (at_type T) f 𝓛 𝓜 𝓡 Post (shr_vals a)))
+      → Meets 𝓛 (taking os (a_ref Row one) yes r).signature ((tables 𝓤 H 𝓜 𝓡 𝓡.env).C (key (at_type T)))
       (closing 𝓛 (taking os (a_ref Row one) yes r) c)
-  by_ref key fn closed walk =
+  by_ref T key f closed walk =
       let En = taking os (a_ref Row one) yes r in
       let hs : Stays En.signature.params En.kept = (stay_dropped (a_ref Row one) yes, tt) in
-      proved 𝓛 En hs c 𝓜 𝓡 (Goes-dropped 𝓛 2 (a_ref Row one) yes (λ κs x f. refl), tt) key fn closed
-      (λ κs. (shr_vals, tt)) (λ κs. (shr_Tells (named 0) κs.0 Row, tt)) (λ κs qs bounds a gh are.
+      walks (at_type T) f 𝓛 𝓜 𝓡 En hs c (Goes-dropped 𝓛 2 (a_ref Row one) yes (λ κs x f. refl), tt) key closed
+      (λ κs. (shr_vals, tt)) (λ κs. (shr_Tells (named 0) κs.0 Row, tt)) (λ κs qs bounds a gh are go leaves.
       let y : (walk_of 𝓛 En hs c).Ghost = ((κs, qs, bounds, a, (shr_vals a.0, tt)), gh) in
       let toks = ‵ (flft κs.0 qs.0) ⊛ ‵ (others κs qs) in
       qed 𝓛 ((toks ⊛ ‵ (owns (types_at En.signature.params κs) a y.0.4)) ∷ raw ((c κs a).requires gh) ∷ []) ∵
       move ! (1 ∷ []) $ use1 𝓛 (raw (fact 𝓤 (Asked κs a.0))) (asked κs a.0 gh) $ heard ! (Asked κs a.0) (λ is.
       split ! $ split ! $ move ! (2 ∷ []) $ fsplit ! $ fsplit ! $ keep ! (1 ∷ 3 ∷ 4 ∷ []) $
-      walk κs qs a.0 gh ((walk_of 𝓛 En hs c).post y) is (λ v x e.
+      go.enters (shr_vals a.0) refl $ walk κs qs a.0 gh ((walk_of 𝓛 En hs c).post y) is (λ v x e.
       qed 𝓛 (‵ (flft κs.0 qs.0) ∷ ‵ (others κs qs) ∷ ‵ ((r.row κs).own_val x (v ∷ [])) ∷ []) ∵ join ! $
       use0 𝓛 (raw ((c κs a).ensures gh x (at_exit En κs a (tt, tt)))) e $ nothing_more ! $ nothing_more ! $ fjoin ! $
-      move ! (2 ∷ 0 ∷ 3 ∷ 1 ∷ []) $ by ! (leaves 𝓛 En hs c y v x (tt, tt) (tt, tt)))))
+      move ! (2 ∷ 0 ∷ 3 ∷ 1 ∷ []) $ by ! (leaves v x (tt, tt) (tt, tt))) go))
+
+-- A handle behind a `&`, by its parts.
+module _ (T : RattleType) {os : List (Outlives 2)} {r : Slot 2} {M : Type 1} {𝓤 : Ura M} (𝓛 : Logic 𝓤)
+    (𝓜 : Model 𝓤 𝓛.H) (𝓡 : Running 𝓤 𝓛.H 𝓜)
+    (c : Clauses 𝓤 (taking os (a_ref (HandleRow (param 0 T)) tt) yes r)) (Asked : Bool → Type 0)
+    (asked : (κs : Lfts 2) (a : Bor (HandleRow (param 0 T)).Denot) (gh : (c κs (a, tt)).ghost)
+    → ent 𝓤 ((c κs (a, tt)).requires gh) (fact 𝓤 (Asked a.now.sole))) where
+  open 𝓛 use {H}
+
+  abbrev R : RattleType
+  R = param 0 T
+
+  abbrev lent : Ptr → (HeldRow R).Denot → Bool → ℕ → ℕ → ℕ → Bor (HandleRow R).Denot
+  lent p x sole η b o = record { ref_ptr = (b, o); now = handle_at R p x sole η }
+
+  pub by_handle : (key : Args → Callee) (f : Fn)
+      → Closed 𝓤 H (tables 𝓤 H 𝓜 𝓡 𝓡.env).C (tables 𝓤 H 𝓜 𝓡 𝓡.env).Λ (key (at_type T)) (inst_fn (at_type T) f)
+      → ((κs : Lfts 2) (qs : Shares 2) (p : Ptr) (x : (HeldRow R).Denot) (sole : Bool) (η b o : ℕ)
+      (gh : (c κs (lent p x sole η b o, tt)).ghost) (Post : Val → SProp 𝓤) → Asked sole
+      → ((v : Val) (y : (r.row κs).Denot) → ent 𝓤 (emp 𝓤) ((c κs (lent p x sole η b o, tt)).ensures gh y
+      (at_exit (taking os (a_ref (HandleRow R) tt) yes r) κs (lent p x sole η b o, tt) (tt, tt)))
+      → ent 𝓤 (⋆ 𝓛 (‵ (flft κs.0 qs.0) ∷ ‵ (fsep (flft κs.1.0 qs.1.0) ftrue) ∷ ‵ ((r.row κs).own_val y (v ∷ []))
+      ∷ [])) (Post v))
+      → Code (at_type T) f 𝓛 𝓜 𝓡 Post
+      → Sq 𝓛 (‵ (hidden_shr (HandleRow R) κs.0 (handle_at R p x sole η) b o) ∷ ‵ (flft κs.0 qs.0)
+      ∷ ‵ (fsep (flft κs.1.0 qs.1.0) ftrue) ∷ []) (entered (at_type T) f 𝓛 𝓜 𝓡 Post (vptr b o ∷ [])))
+      → Meets 𝓛 (taking os (a_ref (HandleRow R) tt) yes r).signature ((tables 𝓤 H 𝓜 𝓡 𝓡.env).C (key (at_type T)))
+      (closing 𝓛 (taking os (a_ref (HandleRow R) tt) yes r) c)
+  by_handle key f closed walk =
+      by_ref (HandleRow R) tt 𝓛 𝓜 𝓡 c (λ κs a. Asked a.now.sole) asked T key f closed (λ κs qs a.
+      walk κs qs a.now.block a.now.held a.now.sole a.now.id a.ref_ptr.0 a.ref_ptr.1)
 
 -- A type whose values are one word, and what it owns beside that.
 pub record Worded : Type 2 where
@@ -113,31 +149,32 @@ module _ (W : Worded) {os : List (Outlives 1)} {r : Slot 1} {M : Type 1} {𝓤 :
     (silent : Silent 𝓛 1 (plain (λ _. W.row)) no) where
   open 𝓛 use {H}
 
-  pub by_value : (key : Callee) (fn : Fn) → Closed 𝓤 H (tables 𝓤 H 𝓜 𝓡 𝓡.env).C (tables 𝓤 H 𝓜 𝓡 𝓡.env).Λ key fn
+  pub by_value : (T : RattleType) (key : Args → Callee) (f : Fn)
+      → Closed 𝓤 H (tables 𝓤 H 𝓜 𝓡 𝓡.env).C (tables 𝓤 H 𝓜 𝓡 𝓡.env).Λ (key (at_type T)) (inst_fn (at_type T) f)
       → ((κs : Lfts 1) (qs : Shares 1) (a : W.row.Denot) (gh : (c κs (a, tt)).ghost) (Post : Val → SProp 𝓤)
       → Asked κs a
       → ((v : Val) (x : (r.row κs).Denot) → ent 𝓤 (emp 𝓤) ((c κs (a, tt)).ensures gh x
       (at_exit (taking os (plain (λ _. W.row)) no r) κs (a, tt) (lasts κs a)))
       → ent 𝓤 (⋆ 𝓛 (‵ (flft κs.0 qs.0) ∷ ‵ ((r.row κs).own_val x (v ∷ [])) ∷ [])) (Post v))
-      → Sq 𝓛 (‵ (W.owned a) ∷ ‵ (flft κs.0 qs.0) ∷ [])
-      (prop (WpFn 𝓤 H (tables 𝓤 H 𝓜 𝓡 𝓡.env).C (tables 𝓤 H 𝓜 𝓡 𝓡.env).Λ fn (one_word (W.block a) ∷ []) Post)))
-      → Meets 𝓛 (taking os (plain (λ _. W.row)) no r).signature ((tables 𝓤 H 𝓜 𝓡 𝓡.env).C key)
+      → Code (at_type T) f 𝓛 𝓜 𝓡 Post
+      → Sq 𝓛 (‵ (W.owned a) ∷ ‵ (flft κs.0 qs.0) ∷ []) (entered (at_type T) f 𝓛 𝓜 𝓡 Post (one_word (W.block a) ∷ [])))
+      → Meets 𝓛 (taking os (plain (λ _. W.row)) no r).signature ((tables 𝓤 H 𝓜 𝓡 𝓡.env).C (key (at_type T)))
       (closing 𝓛 (taking os (plain (λ _. W.row)) no r) c)
-  by_value key fn closed walk =
+  by_value T key f closed walk =
       let s : Slot 1 = plain (λ _. W.row) in let En = taking os s no r in
       let hs : Stays En.signature.params En.kept = (stay_dropped s no, tt) in
-      proved 𝓛 En hs c 𝓜 𝓡 (Goes-dropped 𝓛 1 s no silent, tt) key fn closed
-      (λ κs. ((λ x. one_word (W.block x) ∷ []), tt)) (λ κs. (W.tells, tt)) (λ κs qs bounds a gh are.
+      walks (at_type T) f 𝓛 𝓜 𝓡 En hs c (Goes-dropped 𝓛 1 s no silent, tt) key closed
+      (λ κs. ((λ x. one_word (W.block x) ∷ []), tt)) (λ κs. (W.tells, tt)) (λ κs qs bounds a gh are go leaves.
       let y : (walk_of 𝓛 En hs c).Ghost = ((κs, qs, bounds, a, (one_word (W.block a.0) ∷ [], tt)), gh) in
       let toks = ‵ (flft κs.0 qs.0) ⊛ ‵ ftrue in
       qed 𝓛 ((toks ⊛ ‵ (owns (types_at En.signature.params κs) a y.0.4)) ∷ raw ((c κs a).requires gh) ∷ []) ∵
       move ! (1 ∷ []) $ use1 𝓛 (raw (fact 𝓤 (Asked κs a.0))) (asked κs a.0 gh) $ heard ! (Asked κs a.0) (λ is.
       split ! $ split ! $ move ! (2 ∷ []) $ fsplit ! $ keep ! (0 ∷ 2 ∷ []) $ use1 𝓛 (‵ (W.owned a.0)) (W.opens 𝓛 a.0) $
-      walk κs qs a.0 gh ((walk_of 𝓛 En hs c).post y) is (λ v x e.
+      go.enters (one_word (W.block a.0) ∷ []) refl $ walk κs qs a.0 gh ((walk_of 𝓛 En hs c).post y) is (λ v x e.
       qed 𝓛 (‵ (flft κs.0 qs.0) ∷ ‵ ((r.row κs).own_val x (v ∷ [])) ∷ []) ∵ nothing_more ! $ move ! (1 ∷ 0 ∷ []) $
       join ! $
       use0 𝓛 (raw ((c κs a).ensures gh x (at_exit En κs a (lasts κs a.0)))) e $ nothing_more ! $ nothing_more ! $
-      fjoin ! $ move ! (2 ∷ 0 ∷ 3 ∷ 1 ∷ []) $ by ! (leaves 𝓛 En hs c y v x (lasts κs a.0) (tt, tt)))))
+      fjoin ! $ move ! (2 ∷ 0 ∷ 3 ∷ 1 ∷ []) $ by ! (leaves v x (lasts κs a.0) (tt, tt))) go))
 
 module _ (R : RattleType) (p : Ptr) (x : (HeldRow R).Denot) (η : ℕ) {M : Type 1} {𝓤 : Ura M} {𝓛 : Logic 𝓤}
     {K : Type 0} {Γ : List (Item 𝓤)} {G : Goal 𝓤 𝓛.H} where

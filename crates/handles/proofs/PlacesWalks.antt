@@ -2,7 +2,7 @@
 pub use Rattle.handles.proofs.Walks.{◌≡◌, ℕ, ◌+◌, ◌-◌, ◌^◌, ◌<◌, Bool, true, false, List, [], ◌∷◌, ◌++◌, refl, sym}
 pub use Rattle.handles.proofs.Walks.{ap, ◌∙◌, subst, lit<, arith, w64, a_type, named, Val, vint, vptr, vunit}
 pub use Rattle.handles.proofs.Walks.{inst_fn, full_share, SProp, ent, sep, emp, id⊢, fat, Lft, Share, Fml, ftrue}
-pub use Rattle.handles.proofs.Walks.{fsep, flft, fhide, WpFn, sem, ‵, raw, ◌⊛◌, some, given, later, at_ret, ◌$◌, ◌∵◌}
+pub use Rattle.handles.proofs.Walks.{fsep, flft, fhide, sem, ‵, raw, ◌⊛◌, some, given, later, at_ret, ◌$◌, ◌∵◌}
 pub use Rattle.handles.proofs.Walks.{ !, qed, by, move, keep, drop, split, split3, join, fsplit, fsplit3, fjoin}
 pub use Rattle.handles.proofs.Walks.{fjoin3, pick, learn, use0, use1, use2, use3, await, rewrite, feq_i, flt_i}
 pub use Rattle.handles.proofs.Walks.{flt_l, suffices, done, unit_lit, stop, fld, load, addr, lit, of_opd, no_more}
@@ -12,7 +12,7 @@ pub use Rattle.handles.proofs.Walks.{agg, sub, whole, look_in, tables, fact, fac
 pub use Rattle.handles.proofs.Walks.{types_at, plain, Ptr, InBlock, block_ptr, ptr_val, block_of, offset_of}
 pub use Rattle.handles.proofs.Walks.{at_block, nothing_more, peeks, heard, looks, shuts, Is, shows, cell_at, param}
 pub use Rattle.handles.proofs.Walks.{layout, layouts, param_laws, RefOf, shr_vals, shr_Tells, Stays, stay_dropped}
-pub use Rattle.handles.proofs.Walks.{walk_of, Goes-dropped, after, proved, proved_at, leaves, fm}
+pub use Rattle.handles.proofs.Walks.{walk_of, Goes-dropped, after, proved, leaves, fm, at_type, walks, walks_at}
 pub use Rattle.std.proofs.Common.{◌*◌, ◌≢◌, ◌≤◌}
 pub use Rattle.std.specs.Mem.{type_size}
 pub use Rattle.std.specs.Prelude.{Err, IfOk, Ok}

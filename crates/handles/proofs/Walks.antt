@@ -8,9 +8,8 @@ pub use base.Fraction.{full_share}
 pub use base.Logic.{SProp, ent, sep, emp, id⊢, via, fst∗, never, never_e, snd∗, wand}
 pub use base.Fml.{fat, Lft, Share, Fml, ftrue, fsep, flft, fhide, finv, GName, Incl-refl, Incl-trans, fbor}
 pub use base.Share
-pub use prog.Wp.{WpFn}
 pub use types.Logic.{sem}
-pub use types.Kit.{‵, raw, ◌⊛◌, some, given, later, mean, at_ret, ◌$◌, ◌∵◌, !, qed, by, move, keep, drop, split}
+pub use types.Kit.{‵, raw, ◌⊛◌, some, given, later, at_ret, ◌$◌, ◌∵◌, !, qed, by, move, keep, drop, split}
 pub use types.Kit.{split3, join, fsplit, fsplit3, fjoin, fjoin3, fpick, fpack, pick, learn, use0, use1, use2, use3}
 pub use types.Kit.{await, rewrite, feq_i, feq_l, flt_i, flt_l, suffices, done, some as exists, group, now, updating}
 pub use types.Run.{unit_lit, stop, fld, load, addr, lit, of_opd, no_more, and_then, first, blocks, exec, Calls-last}
@@ -27,18 +26,19 @@ pub use denote.RawPtr.{Ptr, InBlock, block_ptr, ptr_val, block_of, count_of as o
 pub use denote.RawPtr.{null_ptr, ◌+ₚ◌}
 pub use denote.Steps.{nothing as nothing_more, only, peeks, heard, looks, shuts, closes, opens}
 pub use denote.Laws.{Is, shows}
-pub use denote.Memory.{cell_at, hidden_shr, part_at, part_of}
+pub use denote.Memory.{cell_at, hidden_shr, part_at}
 pub use denote.Param.{param, layout, layouts, bounded}
 pub use denote.Param.Laws.{param_laws, Laws}
 pub use denote.Builtin.{RefOf, u64}
 pub use denote.Ref.{shr_vals, shr_Tells, MutBor, MutRef, mut_Tells, mut_vals}
 pub use denote.Triple.Walked.{Stays, stay_dropped, walk_of, Goes-dropped, Goes-ref, Goes-spent_ref, stay_ref}
 pub use Rattle.core.proofs.alloc.Shapes.{after}
-pub use Rattle.atomic_table.proofs.Walks.{proved, proved_at, leaves}
-pub use Rattle.atomic_table.proofs.Calls.{fm, seq_cst, found, finds}
+pub use Rattle.atomic_table.proofs.Walks.{proved, leaves}
+pub use Rattle.handles.proofs.AtType.{at_type, walks, walks_at}
+pub use Rattle.atomic_table.proofs.Calls.{fm, found, finds}
 pub use Rattle.counting_word.specs.Rights.{Right, IsWholeBlock, a_handle, right_by_unique_read, right_by_drop_read}
 pub use Rattle.counting_word.specs.Rights.{right_by_lower, right_by_raise, right_by_read, to_lower, whole_block}
-pub use Rattle.handles.specs.Inside.Blocks.{HeldRow, stamp, held_and_block, block_rule, permit_owns, Names}
+pub use Rattle.handles.specs.Inside.Blocks.{HeldRow, stamp, block_rule, permit_owns, Names}
 pub use Rattle.handles.specs.Inside.Blocks.{bare_block, counted_handle, handle_owns, handle_shares, heap_offset}
 pub use Rattle.handles.specs.Inside.Blocks.{held_offset, lent_share, marked, owned_as, placed, shared_as, shown}
 pub use Rattle.handles.specs.Inside.Blocks.{stamp_offset, unshared_block}
@@ -47,8 +47,9 @@ pub use Rattle.handles.proofs.Fields.{PermitRow, HandleWords, PermitWords, known
 pub use Rattle.handles.proofs.Fields.{word_and_permit-Good, handle_at, permit_at, big_lit, lower-NoHandle}
 pub use Rattle.handles.proofs.Fields.{permit_kept, sole_permits, sole_shown, whole_block_of}
 pub use Rattle.handles.proofs.BorrowedHandle.{opens_word, opens_handle, shows_permit, closes_borrow, asks_with}
-pub use Rattle.handles.proofs.BorrowedHandle.{asks_new, logs, reports}
-pub use Rattle.handles.proofs.OneParam.{a_ref, by_ref, by_value, handle_worded, permit_worded, is_handle, so, also}
+pub use Rattle.handles.proofs.BorrowedHandle.{asks_new, logs, reports, parted, word_at}
+pub use Rattle.handles.proofs.OneParam.{a_ref, by_ref, by_handle, by_value, handle_worded, permit_worded, is_handle}
+pub use Rattle.handles.proofs.OneParam.{so, also}
 pub use Rattle.counting_word.specs.Tallies.{Adds}
 pub use Rattle.handles.proofs.Steps.Born.{Born, Known, born, known as knows}
 pub use Rattle.handles.proofs.Boxes.{Boxed, box_opens, box_shuts, heap_twice}

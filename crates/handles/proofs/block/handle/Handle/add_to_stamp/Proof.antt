@@ -1,13 +1,14 @@
 -- `add_to_stamp` is one addition to the stamp.
-use Rattle.handles.proofs.Walks.{◌≡◌, ℕ, ◌+◌, ◌%◌, ◌^◌, false, [], ◌∷◌, refl, lit<, w64, a_type, named, Val, vint}
-use Rattle.handles.proofs.Walks.{vptr, inst_fn, SProp, via, Lft, Share, Fml, ftrue, fsep, flft, ‵, raw, ◌⊛◌, at_ret}
+use Rattle.handles.proofs.Walks.{at_type, walks}
+use Rattle.handles.proofs.Walks.{◌≡◌, ℕ, ◌+◌, ◌%◌, ◌^◌, false, [], ◌∷◌, refl, lit<, w64, named, vint}
+use Rattle.handles.proofs.Walks.{vptr, via, Lft, Share, Fml, ftrue, fsep, flft, ‵, raw, ◌⊛◌}
 use Rattle.handles.proofs.Walks.{◌$◌, ◌∵◌, !, qed, by, move, keep, split, join, fsplit, fjoin, stop, fld, load, addr}
-use Rattle.handles.proofs.Walks.{lit, of_opd, no_more, and_then, first, blocks, exec, Calls-last, returns, enter}
-use Rattle.handles.proofs.Walks.{alloc_all, pass_all, free_all, look_at, get, through, sets, lands_last, env, agg}
-use Rattle.handles.proofs.Walks.{sub, whole, look_in, tables, fact, yes, RattleType, owns, types_at, plain, Ptr}
-use Rattle.handles.proofs.Walks.{block_ptr, block_of, offset_of, nothing_more, heard, shuts, param, layouts, u64}
-use Rattle.handles.proofs.Walks.{shr_vals, shr_Tells, Stays, stay_dropped, walk_of, Goes-dropped, after, proved}
-use Rattle.handles.proofs.Walks.{leaves, fm, found, finds, HeldRow, one_word, HandleRow, HandleWords, is_number}
+use Rattle.handles.proofs.Walks.{lit, of_opd, no_more, and_then, first, blocks, Calls-last, returns}
+use Rattle.handles.proofs.Walks.{alloc_all, pass_all, free_all, look_at, get, through, sets, lands_last, agg}
+use Rattle.handles.proofs.Walks.{sub, whole, look_in, fact, yes, RattleType, owns, types_at, plain, Ptr}
+use Rattle.handles.proofs.Walks.{block_ptr, block_of, offset_of, nothing_more, heard, shuts, param, u64}
+use Rattle.handles.proofs.Walks.{shr_vals, shr_Tells, Stays, stay_dropped, walk_of, Goes-dropped}
+use Rattle.handles.proofs.Walks.{fm, found, finds, HeldRow, one_word, HandleRow, HandleWords, is_number}
 use Rattle.handles.proofs.Walks.{opens_handle, closes_borrow, a_ref, asks_with, uint_vals, uint_Tells, stamp_offset}
 use Rattle.handles.proofs.Walks.{lent_share, block_at, stamps, Vals}
 use Rattle.atomic_table.proofs.Calls.{adds}
@@ -18,26 +19,24 @@ use Rattle.handles.proofs.block.handle.Handle.add_to_stamp.Code as code
 
 pub add_to_stamp_spec : {M : Type 1} → statement M
 add_to_stamp_spec 𝓤 𝓛 𝓜 𝓡 wired T L =
-    let 𝓣 = tables 𝓤 𝓛.H 𝓜 𝓡 𝓡.env in let R : RattleType = param 0 T in let En = ended T in
-    let c = clauses T 𝓛 𝓜.mem 𝓡.returns in let inst = layouts (a_type ∷ []) (T, tt) in
-    let fn = inst_fn inst code.function in let self = a_ref (HandleRow R) tt in let number = plain (λ _. u64) in
+    let R : RattleType = param 0 T in let En = ended T in let c = clauses T 𝓛 𝓜.mem 𝓡.returns in
+    let self = a_ref (HandleRow R) tt in let number = plain (λ _. u64) in
     let hs : Stays En.signature.params En.kept = (stay_dropped self yes, (stay_dropped number yes, tt)) in
     let goes = Goes-dropped 𝓛 2 number yes (λ κs x f. refl) in
-    proved 𝓛 En hs c 𝓜 𝓡 (Goes-dropped 𝓛 2 self yes (λ κs x f. refl), (goes, tt)) (#self inst) fn
+    walks (at_type T) code.function 𝓛 𝓜 𝓡 En hs c (Goes-dropped 𝓛 2 self yes (λ κs x f. refl), (goes, tt)) #self
     (code.unfolded 𝓤 𝓛.H 𝓜 𝓡 wired (T, tt)) (λ κs. (shr_vals, (uint_vals w64, tt)))
-    (λ κs. (shr_Tells (named 0) κs.0 (HandleRow R), (uint_Tells w64, tt))) (λ κs qs bounds a gh are.
+    (λ κs. (shr_Tells (named 0) κs.0 (HandleRow R), (uint_Tells w64, tt))) (λ κs qs bounds a gh are go ends.
     let b : ℕ = a.0.ref_ptr.0 in let o : ℕ = a.0.ref_ptr.1 in let κ : Lft = κs.0 in let q : Share = qs.0 in
     let others : Fml = fsep (flft κs.1.0 qs.1.0) ftrue in let p : Ptr = a.0.now.block in
     let x : (HeldRow R).Denot = a.0.now.held in let η : ℕ = a.0.now.id in let pb : ℕ = block_of p in
     let po : ℕ = offset_of p in let amount : ℕ = a.1.0 in let D : RattleType = HandleWords R in
     let values : Vals En.signature κs = (vptr b o ∷ [], (vint w64 amount ∷ [], tt)) in
     let y : (walk_of 𝓛 En hs c).Ghost = ((κs, qs, bounds, a, values), gh) in
-    let Post : Val → SProp 𝓤 = (walk_of 𝓛 En hs c).post y in
     qed 𝓛 (((‵ (flft κ q) ⊛ ‵ others) ⊛ ‵ (owns (types_at En.signature.params κs) a y.0.4))
     ∷ raw (fact 𝓤 _) ∷ raw (fact 𝓤 (a.0.now.sole ≡ false)) ∷ []) ∵ keep ! (2 ∷ 0 ∷ []) $
     heard ! (a.0.now.sole ≡ false) (λ shared. split ! $ split ! $ move ! (2 ∷ []) $ fsplit ! $ fsplit ! $
-    keep ! (1 ∷ 3 ∷ 4 ∷ []) $ enter ! 𝓣.C 𝓣.Λ fn (vptr b o ∷ vint w64 amount ∷ []) Post $
-    alloc_all ! (λ l. pass_all ! refl ((tt, tt), ((tt, record { fits = are.1.0.1 }), tt)) $ let Ev = env fn.locals l in
+    keep ! (1 ∷ 3 ∷ 4 ∷ []) $ go.enters (vptr b o ∷ vint w64 amount ∷ []) refl $
+    alloc_all ! (λ l. pass_all ! refl ((tt, tt), ((tt, record { fits = are.1.0.1 }), tt)) $
     opens_handle R p x η ! tt a.0.now.sole shared b o (λ inb i e r.
     -- [the word; what it says; the token's way back; the open borrow; the share; the rule; the sharing; the other
     -- tokens]
@@ -51,10 +50,10 @@ add_to_stamp_spec 𝓤 𝓛 𝓜 𝓡 wired T L =
     sets ! (agg ! (and_then ! (lit ! tt) (no_more !))) refl (tt, (record { fits = lit< tt }, tt)) $
     Calls-last ! (fm 𝓛 𝓜 𝓡) (found aft) (and_then ! (get ! refl) (and_then ! (get ! refl)
     (and_then ! (get ! refl) (no_more !)))) (λ u. finds ! aft (λ n fits.
-    lands_last ! refl (tt, record { fits = fits }) $ exec ! 𝓣.C 𝓣.Λ Ev (after 2 fn.body) (at_ret Ev Post) $
+    lands_last ! refl (tt, record { fits = fits }) $ go.ahead l 2 $
     sets ! (of_opd ! (get ! refl)) refl (tt, record { fits = fits }) $
     -- [the share; the rule; half of the token; the open borrow; the sharing; the other tokens]
     move ! (0 ∷ 2 ∷ 3 ∷ []) $ closes_borrow ! tt $ move ! (0 ∷ 3 ∷ []) $ join ! $ is_number ! n fits $
     nothing_more ! $ nothing_more ! $
     nothing_more ! $ fjoin ! $ nothing_more ! $ fjoin ! $ returns ! (look_at ! 0 refl) $ free_all ! refl $
-    keep ! (3 ∷ 0 ∷ 2 ∷ 1 ∷ []) $ by ! (leaves 𝓛 En hs c y (vint w64 n) n (tt, (tt, tt)) (tt, (tt, tt)))))))))
+    keep ! (3 ∷ 0 ∷ 2 ∷ 1 ∷ []) $ by ! (ends (vint w64 n) n (tt, (tt, tt)) (tt, (tt, tt)))))))))

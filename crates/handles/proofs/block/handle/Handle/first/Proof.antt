@@ -1,11 +1,12 @@
 -- `first` makes the handle of a new block.
-use Rattle.handles.proofs.Walks.{pick, await, ℕ, later, ◌≡◌, List, [], ◌∷◌, ◌++◌, refl, sym, subst, a_type, Val}
-use Rattle.handles.proofs.Walks.{vptr, inst_fn, SProp, ent, id⊢, ftrue, flft, WpFn, ‵, raw, ◌⊛◌, ◌$◌, ◌∵◌, !, qed}
-use Rattle.handles.proofs.Walks.{by, move, keep, split, join, fsplit, fjoin, fpack, use0, use1, suffices, stop, fld}
-use Rattle.handles.proofs.Walks.{of_opd, no_more, and_then, returns, enter, alloc_all, pass_all, free_all, look_at}
-use Rattle.handles.proofs.Walks.{get, get_in, sets, agg, sub, whole, tables, fact, no, RattleType, owns, types_at}
-use Rattle.handles.proofs.Walks.{plain, Ptr, InBlock, block_ptr, nothing_more, heard, param, layouts, Stays}
-use Rattle.handles.proofs.Walks.{stay_dropped, walk_of, proved_at, leaves, HeldRow, one_word, words_made}
+use Rattle.handles.proofs.Walks.{at_type, walks_at}
+use Rattle.handles.proofs.Walks.{pick, await, ℕ, later, ◌≡◌, [], ◌∷◌, ◌++◌, refl}
+use Rattle.handles.proofs.Walks.{vptr, ftrue, flft, ‵, raw, ◌⊛◌, ◌$◌, ◌∵◌, !, qed}
+use Rattle.handles.proofs.Walks.{by, move, keep, split, join, fsplit, fjoin, fpack, use0, use1, stop, fld}
+use Rattle.handles.proofs.Walks.{of_opd, no_more, and_then, returns, alloc_all, pass_all, free_all, look_at}
+use Rattle.handles.proofs.Walks.{get, get_in, sets, agg, sub, whole, fact, no, RattleType, owns, types_at}
+use Rattle.handles.proofs.Walks.{plain, Ptr, InBlock, block_ptr, nothing_more, heard, param, Stays}
+use Rattle.handles.proofs.Walks.{stay_dropped, HeldRow, one_word, words_made}
 use Rattle.handles.proofs.Walks.{HandleWords, known, rewrite, true, exists, bare_block, owned_as, Goes-blank}
 use Rattle.handles.proofs.Walks.{pair_val, RawBoxRow, raw_box-Good, raw_box_opens, box_opens}
 use Rattle.handles.specs.contracts.block.Block as block_type
@@ -18,15 +19,12 @@ use Rattle.handles.proofs.block.handle.Handle.first.Code as code
 
 pub first_spec : {M : Type 1} → statement M
 first_spec 𝓤 𝓛 𝓜 𝓡 wired T L =
-    let H = 𝓛.H in let 𝓣 = tables 𝓤 H 𝓜 𝓡 𝓡.env in let R : RattleType = param 0 T in
-    let En = ended T in let c = clauses T 𝓛 𝓜.mem 𝓡.returns in
-    let inst = layouts (a_type ∷ []) (T, tt) in let fn = inst_fn inst code.function in
+    let R : RattleType = param 0 T in let En = ended T in let c = clauses T 𝓛 𝓜.mem 𝓡.returns in
     let RawBox : RattleType = RawBoxRow (block_type.the_row R) in let boxed = plain (λ _. RawBox) in
     let hs : Stays En.signature.params En.kept = (stay_dropped boxed no, tt) in
-    proved_at 𝓛 En hs c 𝓜 𝓡 (Goes-blank 𝓛 1 boxed no (λ κs x f. tt), tt) (#self inst)
-    fn (code.unfolded 𝓤 H 𝓜 𝓡 wired (T, tt)) (λ z are.
-    let κs = z.0.0 in let d : RawBox.Denot = z.0.3.0 in let Post : Val → SProp 𝓤 = (walk_of 𝓛 En hs c).post z in
-    let Run : List Val → SProp 𝓤 = λ ws. WpFn 𝓤 H 𝓣.C 𝓣.Λ fn ws Post in let x : (HeldRow R).Denot = d.value.held in
+    walks_at (at_type T) code.function 𝓛 𝓜 𝓡 En hs c (Goes-blank 𝓛 1 boxed no (λ κs x f. tt), tt) #self
+    (code.unfolded 𝓤 𝓛.H 𝓜 𝓡 wired (T, tt)) (λ z are go ends.
+    let κs = z.0.0 in let d : RawBox.Denot = z.0.3.0 in let x : (HeldRow R).Denot = d.value.held in
     qed 𝓛 (((‵ (flft κs.0 z.0.1.0) ⊛ ‵ ftrue) ⊛ ‵ (owns (types_at En.signature.params κs)
     z.0.3 z.0.4)) ∷ raw (fact 𝓤 _) ∷ raw (fact 𝓤 (d.value.word ≡ 1)) ∷ []) ∵
     keep ! (2 ∷ 0 ∷ []) $ heard ! (d.value.word ≡ 1) (λ new. split ! $ move ! (1 ∷ []) $ fsplit ! $
@@ -35,8 +33,7 @@ first_spec 𝓤 𝓛 𝓜 𝓡 wired T L =
     use1 𝓛 (‵ (bare_block R p x d.value.word)) (box_opens T L 𝓛 b o d.value.word d.value.stamp x d.value.alloc) $
     rewrite ! 0 (λ (w : ℕ). ‵ (bare_block R p x w)) new refl $
     use1 𝓛 (later (exists (λ (η : ℕ). ‵ (owned_as R p x η true)))) (begins_sole R 𝓛 p x) $ keep ! (0 ∷ 3 ∷ []) $
-    suffices ! (Run (pair_val (vptr b o) h ∷ [])) (subst (λ (us : List Val). ent 𝓤 (Run (pair_val (vptr b o)
-    h ∷ [])) (Run us)) (sym (λ j. is_pair j ++ [])) (id⊢ 𝓤 _)) $ enter ! 𝓣.C 𝓣.Λ fn (pair_val (vptr b o) h ∷ []) Post $
+    go.enters (pair_val (vptr b o) h ∷ []) (λ j. is_pair j ++ []) $
     alloc_all ! (λ l. pass_all ! refl (raw_box-Good b o h good, tt) $ await ! tt $ pick ! (λ η.
     nothing_more ! $ fpack ! (InBlock p) (λ _. ftrue) tt $ fjoin ! $
     use0 𝓛 (‵ ((HandleWords R).own_val (p, tt) (one_word p ∷ []))) (words_made (handle_type.the_type R).name (R
@@ -44,4 +41,4 @@ first_spec 𝓤 𝓛 𝓜 𝓡 wired T L =
     sets ! (agg ! (and_then ! (get ! refl) (no_more !))) refl (tt, (tt, tt)) $
     known ! (true ≡ true) refl $ known ! (x ≡ x) refl $ join ! $ nothing_more ! $ nothing_more ! $ fjoin ! $
     returns ! (look_at ! 0 refl) $ free_all ! refl $ keep ! (3 ∷ 0 ∷ 2 ∷ 1 ∷ []) $
-    by ! (leaves 𝓛 En hs c z (one_word p) (record { block = p; held = x; sole = true; id = η }) (tt, tt) (tt, tt)))))))
+    by ! (ends (one_word p) (record { block = p; held = x; sole = true; id = η }) (tt, tt) (tt, tt)))))))

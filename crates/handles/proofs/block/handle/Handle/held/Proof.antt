@@ -1,11 +1,12 @@
 -- `held` shows what every handle of the block sees.
-use Rattle.handles.proofs.Walks.{ℕ, ◌+◌, List, [], ◌∷◌, refl, a_type, Val, vptr, inst_fn, id⊢, Lft, fhide, ‵, ◌⊛◌}
-use Rattle.handles.proofs.Walks.{at_ret, ◌$◌, !, by, move, keep, drop, split, fsplit, fjoin, fpick, use1, rewrite}
-use Rattle.handles.proofs.Walks.{feq_i, stop, fld, load, addr, of_opd, first, blocks, exec, returns, enter}
-use Rattle.handles.proofs.Walks.{alloc_all, pass_all, free_all, look_at, get, through, sets, sets_last, env, sub}
-use Rattle.handles.proofs.Walks.{whole, look_in, tables, RattleType, Ptr, block_ptr, block_of, offset_of, at_block}
-use Rattle.handles.proofs.Walks.{shuts, param, layouts, param_laws, after, HeldRow, one_word, HandleRow, HandleWords}
-use Rattle.handles.proofs.Walks.{opens_word, by_ref, so, ◌+ₚ◌, unhide, hide, hidden_shr, lent_at, held_offset, shown}
+use Rattle.handles.proofs.Walks.{by_handle, parted}
+use Rattle.handles.proofs.Walks.{ℕ, ◌+◌, List, [], ◌∷◌, refl, Val, vptr, id⊢, Lft, fhide, ‵, ◌⊛◌}
+use Rattle.handles.proofs.Walks.{◌$◌, !, by, move, keep, drop, split, fsplit, fjoin, fpick, use1, rewrite}
+use Rattle.handles.proofs.Walks.{feq_i, stop, fld, load, addr, of_opd, first, blocks, returns}
+use Rattle.handles.proofs.Walks.{alloc_all, pass_all, free_all, look_at, get, through, sets, sets_last, sub}
+use Rattle.handles.proofs.Walks.{whole, look_in, RattleType, Ptr, block_of, offset_of, at_block}
+use Rattle.handles.proofs.Walks.{shuts, param, param_laws, HeldRow, one_word, HandleWords}
+use Rattle.handles.proofs.Walks.{opens_word, so, ◌+ₚ◌, unhide, hide, hidden_shr, lent_at, held_offset, shown}
 use Rattle.handles.proofs.Walks.{handle_shares, shown_by, fact_i}
 use Rattle.handles.specs.contracts.block.handle.Handle.held.{clauses}
 use Rattle.handles.specs.contracts.block.handle.Handle.held.Key.{name as #self}
@@ -14,27 +15,22 @@ use Rattle.handles.proofs.block.handle.Handle.held.Code as code
 
 pub held_spec : {M : Type 1} → statement M
 held_spec 𝓤 𝓛 𝓜 𝓡 wired T L =
-    let 𝓣 = tables 𝓤 𝓛.H 𝓜 𝓡 𝓡.env in let R : RattleType = param 0 T in
-    let inst = layouts (a_type ∷ []) (T, tt) in let fn = inst_fn inst code.function in
-    by_ref (HandleRow R) tt 𝓛 𝓜 𝓡 (clauses T 𝓛 𝓜.mem 𝓡.returns)
-    (λ κs a. Unit {0}) (λ κs a gh. fact_i 𝓤 _ _ tt) (#self inst) fn
-    (code.unfolded 𝓤 𝓛.H 𝓜 𝓡 wired (T, tt)) (λ κs qs a gh Post asked ends.
-    let p : Ptr = a.now.block in let x : (HeldRow R).Denot = a.now.held in let η : ℕ = a.now.id in
-    let b : ℕ = a.ref_ptr.0 in let o : ℕ = a.ref_ptr.1 in let pb : ℕ = block_of p in let po : ℕ = offset_of p in
-    let D : RattleType = HandleWords R in let κ : Lft = κs.0 in
-    enter ! 𝓣.C 𝓣.Λ fn (vptr b o ∷ []) Post $ alloc_all ! (λ l. pass_all ! refl ((tt, tt), tt) $
-    let Ev = env fn.locals l in use1 𝓛 (‵ (hidden_shr D κ (p, tt) b o) ⊛ ‵ (fhide (handle_shares R p x η a.now.sole κ)))
-    (id⊢ 𝓤 _) $ split ! $
+    let R : RattleType = param 0 T in let D : RattleType = HandleWords R in
+    by_handle T 𝓛 𝓜 𝓡 (clauses T 𝓛 𝓜.mem 𝓡.returns) (λ sole. Unit {0}) (λ κs a gh. fact_i 𝓤 _ _ tt) #self code.function
+    (code.unfolded 𝓤 𝓛.H 𝓜 𝓡 wired (T, tt)) (λ κs qs p x sole η b o gh Post asked ends go.
+    let κ : Lft = κs.0 in let pb : ℕ = block_of p in let po : ℕ = offset_of p in
+    alloc_all ! (λ l. pass_all ! refl ((tt, tt), tt) $
+    use1 𝓛 (‵ (hidden_shr D κ (p, tt) b o) ⊛ ‵ (fhide (handle_shares R p x η sole κ))) (id⊢ 𝓤 _) $ split ! $
     move ! (1 ∷ []) $ unhide ! $ fsplit ! $ fpick ! (λ inb. drop ! $ let there : ℕ = po + held_offset R in
-    use1 𝓛 (‵ (shown R p x κ)) (shown_by R (param_laws 0 T L) 𝓛 p x η a.now.sole κ) $
+    use1 𝓛 (‵ (shown R p x κ)) (shown_by R (param_laws 0 T L) 𝓛 p x η sole κ) $
     rewrite ! 0 (λ (z : Ptr). ‵ (lent_at (HeldRow R) (z +ₚ held_offset R) x κ)) (at_block p inb) refl $
     fsplit ! $ drop ! $ hide ! $
     -- [what is held; the handle's word; the token; the other tokens]
     move ! (1 ∷ 2 ∷ []) $ opens_word R p ! tt inb b o (λ r.
     sets ! (of_opd ! (load ! (through ! refl (fld ! refl (stop !))) (look_in ! 0 (sub ! 0 refl (whole !)))))
-    refl (tt, tt) $ shuts ! tt D r (p, tt) (one_word (block_ptr pb po) ∷ []) b o $
+    refl (tt, tt) $ shuts ! tt D r (p, tt) (one_word (parted p) ∷ []) b o $
     first ! $ blocks ! $ sets_last ! (addr ! (through ! refl (fld ! refl (stop !)))) refl (tt, tt) $
-    exec ! 𝓣.C 𝓣.Λ Ev (after 2 fn.body) (at_ret Ev Post) $ sets ! (of_opd ! (get ! refl)) refl (tt, tt) $
+    go.ahead l 2 $ sets ! (of_opd ! (get ! refl)) refl (tt, tt) $
     -- [the token; what is held; the other tokens]
     move ! (1 ∷ []) $ feq_i ! (List Val) (vptr pb there ∷ []) (vptr pb there ∷ []) refl $ fjoin ! $
     returns ! (look_at ! 0 refl) $ free_all ! refl $ keep ! (1 ∷ 2 ∷ 0 ∷ []) $

@@ -1,8 +1,8 @@
 -- `into_gain` takes the block of a handle that is known to be the only one.
-use Rattle.handles.proofs.Walks.{pick, permit_owns, use1, ◌≡◌, ℕ, Bool, true, [], ◌∷◌, refl, a_type, inst_fn, ‵, ◌$◌}
+use Rattle.handles.proofs.Walks.{pick, permit_owns, use1, ◌≡◌, ℕ, Bool, true, [], ◌∷◌, refl, ‵, ◌$◌}
 use Rattle.handles.proofs.Walks.{ !, by, keep, fjoin, use0, rewrite, stop, fld, of_opd, no_more, and_then, returns}
-use Rattle.handles.proofs.Walks.{enter, alloc_all, pass_all, free_all, look_at, get, get_in, sets, agg, sub, whole}
-use Rattle.handles.proofs.Walks.{tables, fact, RattleType, Ptr, param, layouts, Right, HeldRow, one_word}
+use Rattle.handles.proofs.Walks.{alloc_all, pass_all, free_all, look_at, get, get_in, sets, agg, sub, whole}
+use Rattle.handles.proofs.Walks.{fact, RattleType, Ptr, param, Right, HeldRow, one_word}
 use Rattle.handles.proofs.Walks.{one_word-Good, words_made, PermitWords, by_value, handle_worded, permit_at, so}
 use Rattle.handles.proofs.Walks.{also, sole_permits, exists, List, WordStep, whole_block, handle_owns, Ptr-Good}
 use Rattle.handles.proofs.Walks.{snd∗}
@@ -14,16 +14,14 @@ use Rattle.handles.proofs.block.handle.Handle.into_permit.Code as code
 
 pub into_permit_spec : {M : Type 1} → statement M
 into_permit_spec 𝓤 𝓛 𝓜 𝓡 wired T L =
-    let 𝓣 = tables 𝓤 𝓛.H 𝓜 𝓡 𝓡.env in let R : RattleType = param 0 T in
-    let inst = layouts (a_type ∷ []) (T, tt) in let fn = inst_fn inst code.function in
-    by_value (handle_worded R) 𝓛 𝓜 𝓡 (clauses T 𝓛 𝓜.mem 𝓡.returns)
+    let R : RattleType = param 0 T in by_value (handle_worded R) 𝓛 𝓜 𝓡 (clauses T 𝓛 𝓜.mem 𝓡.returns)
     (λ κs a. a.sole ≡ true) (λ κs a gh. snd∗ 𝓤 (fact 𝓤 _) (fact 𝓤 _)) (λ κs a. (tt, tt)) (λ κs x f. refl)
-    (#self inst) fn (code.unfolded 𝓤 𝓛.H 𝓜 𝓡 wired (T, tt)) (λ κs qs a gh Post asked ends.
+    T #self code.function (code.unfolded 𝓤 𝓛.H 𝓜 𝓡 wired (T, tt)) (λ κs qs a gh Post asked ends go.
     let p : Ptr = a.block in let x : (HeldRow R).Denot = a.held in let η : ℕ = a.id in let r : Right = whole_block 1 in
     rewrite ! 0 (λ (z : Bool). ‵ (handle_owns R p x η z)) asked refl $
     use1 𝓛 (exists (λ (log : List WordStep). ‵ (permit_owns R p x η (whole_block 1) log))) (sole_permits 𝓛 R p x η) $
     pick ! (λ log.
-    enter ! 𝓣.C 𝓣.Λ fn (one_word p ∷ []) Post $ alloc_all ! (λ l. pass_all ! refl (one_word-Good p, tt) $
+    alloc_all ! (λ l. pass_all ! refl (one_word-Good p, tt) $
     sets ! (of_opd ! (get_in ! (fld ! refl (stop !)) (sub ! 0 refl (whole !)))) refl (Ptr-Good p) $
     sets ! (agg ! (and_then ! (get ! refl) (no_more !))) refl (one_word-Good p) $
     use0 𝓛 (‵ ((PermitWords R).own_val (p, tt) (one_word p ∷ [])))

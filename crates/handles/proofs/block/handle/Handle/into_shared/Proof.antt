@@ -1,8 +1,8 @@
 -- `into_shared` forgets that a handle is the only one.
-use Rattle.handles.proofs.Walks.{ℕ, false, [], ◌∷◌, refl, a_type, inst_fn, ‵, ◌$◌, !, by, move, keep, fsplit, fjoin}
-use Rattle.handles.proofs.Walks.{use1, stop, fld, of_opd, no_more, and_then, returns, enter, alloc_all, pass_all}
-use Rattle.handles.proofs.Walks.{free_all, look_at, get, get_in, sets, agg, sub, whole, tables, RattleType, Ptr}
-use Rattle.handles.proofs.Walks.{param, layouts, param_laws, HeldRow, one_word, one_word-Good, by_value}
+use Rattle.handles.proofs.Walks.{ℕ, false, [], ◌∷◌, refl, ‵, ◌$◌, !, by, move, keep, fsplit, fjoin}
+use Rattle.handles.proofs.Walks.{use1, stop, fld, of_opd, no_more, and_then, returns, alloc_all, pass_all}
+use Rattle.handles.proofs.Walks.{free_all, look_at, get, get_in, sets, agg, sub, whole, RattleType, Ptr}
+use Rattle.handles.proofs.Walks.{param, param_laws, HeldRow, one_word, one_word-Good, by_value}
 use Rattle.handles.proofs.Walks.{handle_worded, handle_at, is_handle, so, also, owned_as, fact_i, forgets, Ptr-Good}
 use Rattle.handles.specs.contracts.block.handle.Handle.into_shared.{clauses}
 use Rattle.handles.specs.contracts.block.handle.Handle.into_shared.Key.{name as #self}
@@ -11,15 +11,13 @@ use Rattle.handles.proofs.block.handle.Handle.into_shared.Code as code
 
 pub into_shared_spec : {M : Type 1} → statement M
 into_shared_spec 𝓤 𝓛 𝓜 𝓡 wired T L =
-    let 𝓣 = tables 𝓤 𝓛.H 𝓜 𝓡 𝓡.env in let R : RattleType = param 0 T in
-    let inst = layouts (a_type ∷ []) (T, tt) in let fn = inst_fn inst code.function in
-    by_value (handle_worded R) 𝓛 𝓜 𝓡 (clauses T 𝓛 𝓜.mem 𝓡.returns)
-    (λ κs a. Unit {0}) (λ κs a gh. fact_i 𝓤 _ _ tt) (λ κs a. (tt, tt)) (λ κs x f. refl) (#self inst) fn
+    let R : RattleType = param 0 T in by_value (handle_worded R) 𝓛 𝓜 𝓡 (clauses T 𝓛 𝓜.mem 𝓡.returns)
+    (λ κs a. Unit {0}) (λ κs a gh. fact_i 𝓤 _ _ tt) (λ κs a. (tt, tt)) (λ κs x f. refl) T #self code.function
     (code.unfolded 𝓤 𝓛.H 𝓜 𝓡 wired (T, tt))
-    (λ κs qs a gh Post is ends. let p : Ptr = a.block in let x : (HeldRow R).Denot = a.held in let η : ℕ = a.id in
+    (λ κs qs a gh Post is ends go. let p : Ptr = a.block in let x : (HeldRow R).Denot = a.held in let η : ℕ = a.id in
     fsplit ! $ move ! (1 ∷ []) $ use1 𝓛 (‵ (owned_as R p x η false)) (forgets R (param_laws 0 T L) 𝓛 p x η a.sole) $
     move ! (1 ∷ 0 ∷ []) $ fjoin ! $
-    enter ! 𝓣.C 𝓣.Λ fn (one_word p ∷ []) Post $ alloc_all ! (λ l. pass_all ! refl (one_word-Good p, tt) $
+    alloc_all ! (λ l. pass_all ! refl (one_word-Good p, tt) $
     sets ! (of_opd ! (get_in ! (fld ! refl (stop !)) (sub ! 0 refl (whole !)))) refl (Ptr-Good p) $
     sets ! (agg ! (and_then ! (get ! refl) (no_more !))) refl (one_word-Good p) $ is_handle R p x η ! false $
     returns ! (look_at ! 0 refl) $ free_all ! refl $ keep ! (1 ∷ 0 ∷ []) $

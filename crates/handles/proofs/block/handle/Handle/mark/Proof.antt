@@ -1,10 +1,11 @@
 -- `mark` sets bit 63 of the word.
-use Rattle.handles.proofs.Walks.{◌≡◌, ℕ, ◌+◌, false, [], ◌∷◌, refl, lit<, a_type, vptr, inst_fn, via, Fml, at_ret}
+use Rattle.handles.proofs.Walks.{by_handle, parted, word_at}
+use Rattle.handles.proofs.Walks.{◌≡◌, ℕ, false, [], ◌∷◌, refl, lit<, via, Fml}
 use Rattle.handles.proofs.Walks.{◌$◌, !, by, move, keep, stop, fld, load, addr, lit, of_opd, no_more, and_then}
-use Rattle.handles.proofs.Walks.{first, blocks, exec, Calls-last, returns, enter, alloc_all, pass_all, free_all}
-use Rattle.handles.proofs.Walks.{look_at, get, through, sets, lands_last, env, agg, sub, whole, look_in, tables}
-use Rattle.handles.proofs.Walks.{fact, RattleType, Ptr, block_ptr, block_of, offset_of, shuts, param, layouts, after}
-use Rattle.handles.proofs.Walks.{fm, found, finds, HeldRow, one_word, HandleRow, HandleWords, opens_handle, by_ref}
+use Rattle.handles.proofs.Walks.{first, blocks, Calls-last, returns, alloc_all, pass_all, free_all}
+use Rattle.handles.proofs.Walks.{look_at, get, through, sets, lands_last, agg, sub, whole, look_in}
+use Rattle.handles.proofs.Walks.{fact, RattleType, shuts, param}
+use Rattle.handles.proofs.Walks.{fm, found, finds, one_word, HandleWords, opens_handle}
 use Rattle.handles.proofs.Walks.{so, also, asks_new, logs, mark_bit, returns_logged, word_and_logged}
 use Rattle.handles.proofs.Walks.{word_and_logged-Good, block_at, and_logged, big_lit, snd∗}
 use Rattle.atomic_table.proofs.Calls.{ors}
@@ -17,29 +18,23 @@ use Rattle.handles.proofs.block.handle.Handle.mark.Code as code
 
 pub mark_spec : {M : Type 1} → statement M
 mark_spec 𝓤 𝓛 𝓜 𝓡 wired T L =
-    let 𝓣 = tables 𝓤 𝓛.H 𝓜 𝓡 𝓡.env in let R : RattleType = param 0 T in
-    let inst = layouts (a_type ∷ []) (T, tt) in let fn = inst_fn inst code.function in
-    by_ref (HandleRow R) tt 𝓛 𝓜 𝓡 (clauses T 𝓛 𝓜.mem 𝓡.returns)
-    (λ κs a. a.now.sole ≡ false) (λ κs a gh. snd∗ 𝓤 (fact 𝓤 _) (fact 𝓤 _)) (#self inst) fn
-    (code.unfolded 𝓤 𝓛.H 𝓜 𝓡 wired (T, tt)) (λ κs qs a gh Post asked ends.
-    let p : Ptr = a.now.block in let x : (HeldRow R).Denot = a.now.held in let η : ℕ = a.now.id in
-    let b : ℕ = a.ref_ptr.0 in let o : ℕ = a.ref_ptr.1 in let pb : ℕ = block_of p in let po : ℕ = offset_of p in
-    let D : RattleType = HandleWords R in
-    enter ! 𝓣.C 𝓣.Λ fn (vptr b o ∷ []) Post $ alloc_all ! (λ l. pass_all ! refl ((tt, tt), tt) $
-    let Ev = env fn.locals l in opens_handle R p x η ! tt a.now.sole asked b o (λ inb i e r.
+    let R : RattleType = param 0 T in
+    by_handle T 𝓛 𝓜 𝓡 (clauses T 𝓛 𝓜.mem 𝓡.returns) (λ sole. sole ≡ false) (λ κs a gh. snd∗ 𝓤 (fact 𝓤 _) (fact 𝓤 _))
+    #self code.function (code.unfolded 𝓤 𝓛.H 𝓜 𝓡 wired (T, tt)) (λ κs qs p x sole η b o gh Post shared ends go.
+    alloc_all ! (λ l. pass_all ! refl ((tt, tt), tt) $ opens_handle R p x η ! tt sole shared b o (λ inb i e r.
     -- [the word; what it says; the token's way back; the open borrow; the share; the rule; the sharing; the other
     -- tokens]
     sets ! (of_opd ! (load ! (through ! refl (fld ! refl (stop !))) (look_in ! 0 (sub ! 0 refl (whole !)))))
-    refl (tt, tt) $ shuts ! tt D r (p, tt) (one_word (block_ptr pb po) ∷ []) b o $
+    refl (tt, tt) $ shuts ! tt (HandleWords R) r (p, tt) (one_word (parted p) ∷ []) b o $
     -- [half of the token; the open borrow; the share; the rule; the sharing; the other tokens]
     let aft : ℕ → Fml = and_logged (block_at R p x η i) [] step.marks (after_mark (block_at R p x η i) e) in
     first ! $ blocks ! $ sets ! (addr ! (through ! refl (fld ! refl (stop !)))) refl (tt, tt) $
     move ! (2 ∷ 3 ∷ []) $ asks_new ! (via 𝓤 _ (marks 𝓛 (block_at R p x η i) e)
-    (ors 𝓛 𝓜 𝓡 (code.calls-core::raw_atomic::fetch_or 𝓡.env wired) (block_ptr pb (po + 0)) mark_bit (lit< tt) aft)) $
+    (ors 𝓛 𝓜 𝓡 (code.calls-core::raw_atomic::fetch_or 𝓡.env wired) (word_at p) mark_bit (lit< tt) aft)) $
     sets ! (agg ! (and_then ! (lit ! tt) (no_more !))) refl (tt, (record { fits = lit< tt }, tt)) $
     Calls-last ! (fm 𝓛 𝓜 𝓡) (found aft) (and_then ! (get ! refl) (and_then ! (big_lit ! (lit< tt))
     (and_then ! (get ! refl) (no_more !)))) (λ u. finds ! aft (λ n fits.
-    lands_last ! refl (tt, record { fits = fits }) $ exec ! 𝓣.C 𝓣.Λ Ev (after 2 fn.body) (at_ret Ev Post) $
+    lands_last ! refl (tt, record { fits = fits }) $ go.ahead l 2 $
     sets ! (of_opd ! (get ! refl)) refl (tt, record { fits = fits }) $
     logs R p x η ! tt i e [] step.marks n (λ log adds. sets ! (agg ! (no_more !)) refl (tt, tt) $
     sets ! (agg ! (and_then ! (get ! refl) (and_then ! (get ! refl) (no_more !)))) refl (word_and_logged-Good n fits) $

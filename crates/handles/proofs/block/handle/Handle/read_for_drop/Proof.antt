@@ -1,11 +1,11 @@
 -- `leave` is the load by which a handle ends.
-use Rattle.handles.proofs.Walks.{◌≡◌, ℕ, ◌+◌, false, [], ◌∷◌, refl, sym, ap, lit<, a_type, inst_fn, via, Lft, Share}
-use Rattle.handles.proofs.Walks.{Fml, ftrue, flft, ‵, ◌⊛◌, later, at_ret, ◌$◌, !, by, keep, drop, split, fsplit}
+use Rattle.handles.proofs.Walks.{◌≡◌, ℕ, ◌+◌, false, [], ◌∷◌, refl, sym, ap, lit<, via, Lft, Share}
+use Rattle.handles.proofs.Walks.{Fml, ftrue, flft, ‵, ◌⊛◌, later, ◌$◌, !, by, keep, drop, split, fsplit}
 use Rattle.handles.proofs.Walks.{fsplit3, fpick, use1, use2, await, stop, fld, addr, lit, of_opd, no_more, and_then}
-use Rattle.handles.proofs.Walks.{first, blocks, exec, Calls-last, returns, enter, alloc_all, pass_all, free_all}
-use Rattle.handles.proofs.Walks.{look_at, get, get_in, through, sets, lands_last, is, env, agg, sub, whole, tables}
+use Rattle.handles.proofs.Walks.{first, blocks, Calls-last, returns, alloc_all, pass_all, free_all}
+use Rattle.handles.proofs.Walks.{look_at, get, get_in, through, sets, lands_last, is, agg, sub, whole}
 use Rattle.handles.proofs.Walks.{fact, RattleType, Ptr, block_ptr, ptr_val, block_of, offset_of, at_block, param}
-use Rattle.handles.proofs.Walks.{layouts, param_laws, after, fm, found, finds, Right, HeldRow, one_word}
+use Rattle.handles.proofs.Walks.{param_laws, fm, found, finds, Right, HeldRow, one_word}
 use Rattle.handles.proofs.Walks.{word_and_permit, one_word-Good, returns_permit, word_and_permit-Good, sem, by_value}
 use Rattle.handles.proofs.Walks.{handle_worded, permit_at, so, also, asks_new, shows_permit, Incl-refl}
 use Rattle.handles.proofs.Walks.{right_by_drop_read, owned_as, counted_handle, block_at, and_logged, forgets}
@@ -21,19 +21,17 @@ use Rattle.handles.proofs.block.handle.Handle.read_for_drop.Code as code
 
 pub read_for_drop_spec : {M : Type 1} → statement M
 read_for_drop_spec 𝓤 𝓛 𝓜 𝓡 wired T L =
-    let 𝓣 = tables 𝓤 𝓛.H 𝓜 𝓡 𝓡.env in let R : RattleType = param 0 T in
-    let inst = layouts (a_type ∷ []) (T, tt) in let fn = inst_fn inst code.function in
-    by_value (handle_worded R) 𝓛 𝓜 𝓡 (clauses T 𝓛 𝓜.mem 𝓡.returns)
+    let R : RattleType = param 0 T in by_value (handle_worded R) 𝓛 𝓜 𝓡 (clauses T 𝓛 𝓜.mem 𝓡.returns)
     (λ κs a. κs.0 ⊑ T.lives) (λ κs a gh. fst∗ 𝓤 (fact 𝓤 _) (sem 𝓛 ftrue)) (λ κs a. (tt, tt)) (λ κs x f. refl)
-    (#self inst) fn (code.unfolded 𝓤 𝓛.H 𝓜 𝓡 wired (T, tt)) (λ κs qs a gh Post asked ends.
+    T #self code.function (code.unfolded 𝓤 𝓛.H 𝓜 𝓡 wired (T, tt)) (λ κs qs a gh Post asked ends go.
     let p : Ptr = a.block in let x : (HeldRow R).Denot = a.held in let η : ℕ = a.id in let pb : ℕ = block_of p in
     let po : ℕ = offset_of p in let κ : Lft = κs.0 in let q : Share = qs.0 in
     fsplit ! $ fpick ! (λ inb. drop ! $ let at : p ≡ block_ptr pb po = at_block p inb in
     use1 𝓛 (‵ (owned_as R p x η false)) (forgets R (param_laws 0 T L) 𝓛 p x η a.sole) $
     use2 𝓛 (later (‵ (counted_handle R p x η) ⊛ ‵ (flft κ q))) (handle_settles R (param_laws 0 T L)
     𝓛 p x η κ asked κ q (Incl-refl κ)) $
-    enter ! 𝓣.C 𝓣.Λ fn (one_word p ∷ []) Post $ alloc_all ! (λ l. pass_all ! refl (one_word-Good p, tt) $
-    let Ev = env fn.locals l in await ! tt $ split ! $ fpick ! (λ i. fsplit3 ! $
+    alloc_all ! (λ l. pass_all ! refl (one_word-Good p, tt) $
+    await ! tt $ split ! $ fpick ! (λ i. fsplit3 ! $
     -- [the stake; the rule; the sharing; the token]
     let aft : ℕ → Fml = and_logged (block_at R p x η i)
     [] step.reads_for_drop (after_drop_read (block_at R p x η i)) in
@@ -44,7 +42,7 @@ read_for_drop_spec 𝓤 𝓛 𝓜 𝓡 wired T L =
     sets ! (agg ! (and_then ! (lit ! tt) (no_more !))) refl (tt, (record { fits = lit< tt }, tt)) $
     Calls-last ! (fm 𝓛 𝓜 𝓡) (found aft) (and_then ! (get ! refl) (and_then ! (get ! refl) (no_more !)))
     (λ u. finds ! aft (λ n fits. let r' : Right = right_by_drop_read n in
-    lands_last ! refl (tt, record { fits = fits }) $ exec ! 𝓣.C 𝓣.Λ Ev (after 2 fn.body) (at_ret Ev Post) $
+    lands_last ! refl (tt, record { fits = fits }) $ go.ahead l 2 $
     sets ! (of_opd ! (get ! refl)) refl (tt, record { fits = fits }) $
     shows_permit R p x η ! tt inb i r' [] step.reads_for_drop n (λ log adds.
     sets ! (is ! (agg ! (and_then ! (get ! refl) (no_more !))) (ap one_word (sym at))) refl (one_word-Good p) $

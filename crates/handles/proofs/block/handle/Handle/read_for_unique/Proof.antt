@@ -1,13 +1,14 @@
 -- `read_for_unique` is one load of the word, by which the handle knows whether it is the only one.
-use Rattle.handles.proofs.Walks.{◌≡◌, ℕ, ◌+◌, false, List, [], ◌∷◌, refl, sym, ap, ◌∙◌, lit<, a_type, named, Val}
-use Rattle.handles.proofs.Walks.{vptr, inst_fn, full_share, SProp, via, Lft, Share, Fml, ftrue, flft, ‵, raw, ◌⊛◌}
-use Rattle.handles.proofs.Walks.{later, at_ret, ◌$◌, ◌∵◌, !, qed, by, move, keep, drop, split, split3, join, fsplit}
+use Rattle.handles.proofs.Walks.{at_type, walks}
+use Rattle.handles.proofs.Walks.{◌≡◌, ℕ, ◌+◌, false, List, [], ◌∷◌, refl, sym, ap, ◌∙◌, lit<, named, Val}
+use Rattle.handles.proofs.Walks.{vptr, full_share, via, Lft, Share, Fml, ftrue, flft, ‵, raw, ◌⊛◌}
+use Rattle.handles.proofs.Walks.{later, ◌$◌, ◌∵◌, !, qed, by, move, keep, drop, split, split3, join, fsplit}
 use Rattle.handles.proofs.Walks.{fsplit3, fjoin, fjoin3, fpick, use1, use2, await, rewrite, stop, fld, load, addr}
-use Rattle.handles.proofs.Walks.{lit, of_opd, no_more, and_then, first, blocks, exec, Calls-last, returns, enter}
-use Rattle.handles.proofs.Walks.{alloc_all, pass_all, free_all, look_at, get, through, sets, lands_last, env, agg}
-use Rattle.handles.proofs.Walks.{sub, whole, look_in, tables, fact, RattleType, owns, types_at, plain, Ptr}
+use Rattle.handles.proofs.Walks.{lit, of_opd, no_more, and_then, first, blocks, Calls-last, returns}
+use Rattle.handles.proofs.Walks.{alloc_all, pass_all, free_all, look_at, get, through, sets, lands_last, agg}
+use Rattle.handles.proofs.Walks.{sub, whole, look_in, fact, RattleType, owns, types_at, plain, Ptr}
 use Rattle.handles.proofs.Walks.{block_ptr, block_of, offset_of, at_block, nothing_more, peeks, heard, Is, shows}
-use Rattle.handles.proofs.Walks.{cell_at, param, layouts, param_laws, Stays, walk_of, after, proved, leaves, fm}
+use Rattle.handles.proofs.Walks.{cell_at, param, param_laws, Stays, walk_of, fm}
 use Rattle.handles.proofs.Walks.{found, finds, HeldRow, one_word, words_are, HandleRow, HandleWords, known}
 use Rattle.handles.proofs.Walks.{shows_permit, asks_new, handle_at, is_handle, Adds, GName, Incl-refl, mut_vals}
 use Rattle.handles.proofs.Walks.{mut_Tells, opens, closes, Goes-ref, stay_ref, is_one_handle, right_by_unique_read}
@@ -25,25 +26,21 @@ use Rattle.handles.proofs.block.handle.Handle.read_for_unique.Code as code
 
 pub read_for_unique_spec : {M : Type 1} → statement M
 read_for_unique_spec 𝓤 𝓛 𝓜 𝓡 wired T L =
-    let H = 𝓛.H in let 𝓣 = tables 𝓤 H 𝓜 𝓡 𝓡.env in let R : RattleType = param 0 T in
-    let En = ended T in let c = clauses T 𝓛 𝓜.mem 𝓡.returns in
-    let inst = layouts (a_type ∷ []) (T, tt) in let fn = inst_fn inst code.function in
+    let R : RattleType = param 0 T in let En = ended T in let c = clauses T 𝓛 𝓜.mem 𝓡.returns in
     let Self : RattleType = HandleRow R in let D : RattleType = HandleWords R in let row = plain (λ _. Self) in
     let hs : Stays En.signature.params En.kept = (stay_ref (0 ∷ []) tt row, tt) in
-    proved 𝓛 En hs c 𝓜 𝓡 (Goes-ref 𝓛 2 0 tt row, tt) (#self inst)
-    fn (code.unfolded 𝓤 H 𝓜 𝓡 wired (T, tt)) (λ κs. (mut_vals, tt)) (λ κs. (mut_Tells (named 0) κs.0 Self, tt))
-    (λ κs qs bounds a gh are.
+    walks (at_type T) code.function 𝓛 𝓜 𝓡 En hs c (Goes-ref 𝓛 2 0 tt row, tt) #self
+    (code.unfolded 𝓤 𝓛.H 𝓜 𝓡 wired (T, tt)) (λ κs. (mut_vals, tt)) (λ κs. (mut_Tells (named 0) κs.0 Self, tt))
+    (λ κs qs bounds a gh are go ends.
     let b : ℕ = a.0.ref_ptr.0 in let o : ℕ = a.0.ref_ptr.1 in let κ : Lft = κs.0 in let q : Share = qs.0 in
     let μ : Lft = κs.1.0 in let r : Share = qs.1.0 in let me : Self.Denot = a.0.now in let p : Ptr = me.block in
     let x : (HeldRow R).Denot = me.held in let η : ℕ = me.id in let γ : GName = a.0.ghost_name in
     let pb : ℕ = block_of p in let po : ℕ = offset_of p in
     let y : (walk_of 𝓛 En hs c).Ghost = ((κs, qs, bounds, a, (vptr b o ∷ [], tt)), gh) in
-    let Post : Val → SProp 𝓤 = (walk_of 𝓛 En hs c).post y in
     qed 𝓛 (((‵ (flft κ q) ⊛ ‵ (flft μ r) ⊛ ‵ ftrue) ⊛ ‵ (owns (types_at En.signature.params κs)
     a y.0.4)) ∷ raw (fact 𝓤 (μ ⊑ T.lives)) ∷ ‵ ftrue ∷ []) ∵
     keep ! (1 ∷ 0 ∷ []) $ heard ! (μ ⊑ T.lives) (λ lives. split ! $ split3 ! $ move ! (3 ∷ []) $ fsplit ! $ fsplit3 ! $
-    enter ! 𝓣.C 𝓣.Λ fn (vptr b o ∷ []) Post $ alloc_all ! (λ l. pass_all ! refl ((tt, tt), tt) $
-    let Ev = env fn.locals l in
+    go.enters (vptr b o ∷ []) refl $ alloc_all ! (λ l. pass_all ! refl ((tt, tt), tt) $
     -- [the reference's place; its name; its borrow; nothing; its token; the token of T; nothing]
     move ! (1 ∷ 2 ∷ 4 ∷ []) $ opens ! tt Self {h = me} b o (λ vs. move ! (1 ∷ []) $ fsplit ! $
     peeks ! D (Is D) (shows 𝓛 D) (p, tt)
@@ -64,7 +61,7 @@ read_for_unique_spec 𝓤 𝓛 𝓜 𝓡 wired T L =
     sets ! (agg ! (and_then ! (lit ! tt) (no_more !))) refl (tt, (record { fits = lit< tt }, tt)) $
     Calls-last ! (fm 𝓛 𝓜 𝓡) (found aft) (and_then ! (get ! refl) (and_then ! (get ! refl) (no_more !)))
     (λ u. finds ! aft (λ n fits. let reported : Self.Denot = handle_at R p x (is_one_handle n) η in
-    lands_last ! refl (tt, record { fits = fits }) $ exec ! 𝓣.C 𝓣.Λ Ev (after 2 fn.body) (at_ret Ev Post) $
+    lands_last ! refl (tt, record { fits = fits }) $ go.ahead l 2 $
     sets ! (of_opd ! (get ! refl)) refl (tt, record { fits = fits }) $
     shows_permit R p x η ! tt inb i (right_by_unique_read n) [] step.reads_for_unique n (λ log adds.
     fsplit ! $ move ! (1 ∷ []) $ use1 𝓛 (‵ (handle_owns R p x η (is_one_handle n)))
@@ -83,4 +80,4 @@ read_for_unique_spec 𝓤 𝓛 𝓜 𝓡 wired T L =
     -- [the facts; the result; the tokens; the reference; nothing]
     nothing_more ! $ move ! (4 ∷ 0 ∷ []) $ fjoin ! $
     returns ! (look_at ! 0 refl) $ free_all ! refl $ keep ! (3 ∷ 0 ∷ 2 ∷ 1 ∷ []) $
-    by ! (leaves 𝓛 En hs c y (word_and_logged n) (n, record { id = η; log = log }) (reported, tt) (tt, tt))))))))))))
+    by ! (ends (word_and_logged n) (n, record { id = η; log = log }) (reported, tt) (tt, tt))))))))))))

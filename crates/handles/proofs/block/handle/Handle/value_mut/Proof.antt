@@ -1,13 +1,14 @@
 -- `value_mut` lends the value of the block of a handle that is known to be the only one.
-use Rattle.handles.proofs.Walks.{◌≡◌, ℕ, ◌+◌, Bool, true, List, [], ◌∷◌, refl, ap, ◌∙◌, a_type, named, Val, vptr}
-use Rattle.handles.proofs.Walks.{inst_fn, full_share, SProp, Lft, Share, ftrue, flft, sem, ‵, raw, ◌⊛◌, some, later}
-use Rattle.handles.proofs.Walks.{at_ret, ◌$◌, ◌∵◌, !, qed, by, move, keep, drop, split, split3, join, fsplit}
+use Rattle.handles.proofs.Walks.{at_type, walks}
+use Rattle.handles.proofs.Walks.{◌≡◌, ℕ, ◌+◌, Bool, true, List, [], ◌∷◌, refl, ap, ◌∙◌, named, Val, vptr}
+use Rattle.handles.proofs.Walks.{full_share, Lft, Share, ftrue, flft, sem, ‵, raw, ◌⊛◌, some, later}
+use Rattle.handles.proofs.Walks.{◌$◌, ◌∵◌, !, qed, by, move, keep, drop, split, split3, join, fsplit}
 use Rattle.handles.proofs.Walks.{fsplit3, fjoin, fpick, pick, use1, await, rewrite, stop, fld, load, addr, of_opd}
-use Rattle.handles.proofs.Walks.{first, blocks, exec, returns, enter, alloc_all, pass_all, free_all, look_at, get}
-use Rattle.handles.proofs.Walks.{through, sets, sets_last, env, sub, whole, look_in, tables, fact, no, RattleType}
+use Rattle.handles.proofs.Walks.{first, blocks, returns, alloc_all, pass_all, free_all, look_at, get}
+use Rattle.handles.proofs.Walks.{through, sets, sets_last, sub, whole, look_in, fact, no, RattleType}
 use Rattle.handles.proofs.Walks.{owns, types_at, plain, Ptr, block_ptr, block_of, offset_of, at_block, nothing_more}
-use Rattle.handles.proofs.Walks.{peeks, heard, Is, shows, cell_at, param, layouts, Stays, stay_dropped, walk_of}
-use Rattle.handles.proofs.Walks.{after, proved, leaves, HeldRow, one_word, words_are, HandleRow, HandleWords, known}
+use Rattle.handles.proofs.Walks.{peeks, heard, Is, shows, cell_at, param, Stays, stay_dropped, walk_of}
+use Rattle.handles.proofs.Walks.{HeldRow, one_word, words_are, HandleRow, HandleWords, known}
 use Rattle.handles.proofs.Walks.{GName, MutRef, MutBor, mut_vals, mut_Tells, opens, group, Goes-spent_ref}
 use Rattle.handles.proofs.Walks.{held_offset, handle_owns, unshared_block}
 use denote.Signature.{mut_ref_to}
@@ -22,27 +23,23 @@ use Rattle.handles.proofs.block.handle.Handle.value_mut.Code as code
 
 pub value_mut_spec : {M : Type 1} → statement M
 value_mut_spec 𝓤 𝓛 𝓜 𝓡 wired T L =
-    let H = 𝓛.H in let 𝓣 = tables 𝓤 H 𝓜 𝓡 𝓡.env in let R : RattleType = param 0 T in
-    let En = ended T in let c = clauses T 𝓛 𝓜.mem 𝓡.returns in
-    let inst = layouts (a_type ∷ []) (T, tt) in let fn = inst_fn inst code.function in
+    let R : RattleType = param 0 T in let En = ended T in let c = clauses T 𝓛 𝓜.mem 𝓡.returns in
     let Self : RattleType = HandleRow R in let D : RattleType = HandleWords R in let row = plain (λ _. Self) in
     let hs : Stays En.signature.params En.kept = (stay_dropped (mut_ref_to (0 ∷ []) tt row) no, tt) in
-    proved 𝓛 En hs c 𝓜 𝓡 (Goes-spent_ref 𝓛 2 (0 ∷ []) tt row, tt) (#self inst)
-    fn (code.unfolded 𝓤 H 𝓜 𝓡 wired (T, tt)) (λ κs. (mut_vals, tt)) (λ κs. (mut_Tells (named 0) κs.0 Self, tt))
-    (λ κs qs bounds a gh are.
+    walks (at_type T) code.function 𝓛 𝓜 𝓡 En hs c (Goes-spent_ref 𝓛 2 (0 ∷ []) tt row, tt) #self
+    (code.unfolded 𝓤 𝓛.H 𝓜 𝓡 wired (T, tt)) (λ κs. (mut_vals, tt)) (λ κs. (mut_Tells (named 0) κs.0 Self, tt))
+    (λ κs qs bounds a gh are go ends.
     let b : ℕ = a.0.ref_ptr.0 in let o : ℕ = a.0.ref_ptr.1 in let κ : Lft = κs.0 in let q : Share = qs.0 in
     let μ : Lft = κs.1.0 in let r : Share = qs.1.0 in let me : Self.Denot = a.0.now in let p : Ptr = me.block in
     let x : (HeldRow R).Denot = me.held in let η : ℕ = me.id in let γ : GName = a.0.ghost_name in
     let Lent : RattleType = MutRef (named 0) κ R in let held_at : ℕ = offset_of p + held_offset R in
     let there : ℕ = held_at + value_offset T in let pb : ℕ = block_of p in let po : ℕ = offset_of p in
     let y : (walk_of 𝓛 En hs c).Ghost = ((κs, qs, bounds, a, (vptr b o ∷ [], tt)), gh) in
-    let Post : Val → SProp 𝓤 = (walk_of 𝓛 En hs c).post y in
     qed 𝓛 (((‵ (flft κ q) ⊛ ‵ (flft μ r) ⊛ ‵ ftrue) ⊛ ‵ (owns (types_at En.signature.params κs)
     a y.0.4)) ∷ raw (fact 𝓤 _) ∷ raw (fact 𝓤 (me.sole ≡ true)) ∷ []) ∵
     keep ! (2 ∷ 0 ∷ []) $ heard ! (me.sole ≡ true) (λ sole. split ! $ split3 ! $ move ! (3 ∷ []) $
     fsplit ! $ fsplit3 ! $ drop ! $
-    enter ! 𝓣.C 𝓣.Λ fn (vptr b o ∷ []) Post $ alloc_all ! (λ l. pass_all ! refl ((tt, tt), tt) $
-    let Ev = env fn.locals l in
+    go.enters (vptr b o ∷ []) refl $ alloc_all ! (λ l. pass_all ! refl ((tt, tt), tt) $
     -- [the reference's two parts; nothing; its token; the token of T; nothing]
     move ! (0 ∷ 1 ∷ 3 ∷ []) $ opens ! tt Self {h = me} b o (λ vs. move ! (1 ∷ []) $ fsplit ! $
     peeks ! D (Is D) (shows 𝓛 D) (p, tt) vs (λ is_so. let ev : vs ≡ one_word p
@@ -58,7 +55,7 @@ value_mut_spec 𝓤 𝓛 𝓜 𝓡 wired T L =
     -- [the value; the limit and what is left; what frees; the word; the stamp; the cell; the open borrow; its
     -- two names; nothing; the token of T; nothing]
     first ! $ blocks ! $ sets_last ! (addr ! (through ! refl (fld ! refl (fld ! refl (stop !))))) refl (tt, tt) $
-    exec ! 𝓣.C 𝓣.Λ Ev (after 2 fn.body) (at_ret Ev Post) $ sets ! (of_opd ! (get ! refl)) refl (tt, tt) $
+    go.ahead l 2 $ sets ! (of_opd ! (get ! refl)) refl (tt, tt) $
     move ! (4 ∷ 5 ∷ []) $ fjoin ! $ move ! (4 ∷ 0 ∷ []) $ fjoin ! $ move ! (3 ∷ 0 ∷ []) $ fjoin ! $
     -- [what is beside what is held; the value; the limit and what is left; the open borrow; its two names]
     move ! (2 ∷ 0 ∷ []) $ fjoin ! $ move ! (2 ∷ 3 ∷ 4 ∷ 1 ∷ 0 ∷ []) $ group ! 5 $ use1 𝓛 (later (some (λ (δ : GName).
@@ -72,4 +69,4 @@ value_mut_spec 𝓤 𝓛 𝓜 𝓡 wired T L =
     split3 ! $ move ! (4 ∷ 5 ∷ []) $ join ! $ move ! (2 ∷ 0 ∷ []) $ join ! $ known ! (x.value ≡ x.value) refl $
     move ! (3 ∷ 0 ∷ []) $ join ! $ nothing_more ! $ nothing_more ! $ fjoin ! $
     returns ! (look_at ! 0 refl) $ free_all ! refl $ keep ! (2 ∷ 0 ∷ 3 ∷ 1 ∷ []) $
-    by ! (leaves 𝓛 En hs c y (vptr pb there) lent (tt, tt) (tt, tt)))))))))
+    by ! (ends (vptr pb there) lent (tt, tt) (tt, tt)))))))))

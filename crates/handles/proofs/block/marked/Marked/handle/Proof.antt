@@ -1,9 +1,9 @@
 -- `handle` makes one more handle of a block that is marked, with no step on its word.
-use Rattle.handles.proofs.Walks.{ℕ, false, [], ◌∷◌, refl, a_type, vptr, inst_fn, id⊢, Lft, Fml, flft, fhide}
+use Rattle.handles.proofs.Walks.{ℕ, false, [], ◌∷◌, refl, id⊢, Lft, Fml, flft, fhide}
 use Rattle.handles.proofs.Walks.{full_share, finv, later, await, pick, block_rule, ‵, ◌⊛◌, ◌$◌, !, by, move, keep}
 use Rattle.handles.proofs.Walks.{drop, split, fsplit, fjoin, fpick, use0, use1, use2, stop, addr, of_opd, no_more}
-use Rattle.handles.proofs.Walks.{and_then, returns, enter, alloc_all, pass_all, free_all, look_at, get, through}
-use Rattle.handles.proofs.Walks.{sets, agg, tables, RattleType, Ptr, block_ptr, param, layouts, HeldRow, one_word}
+use Rattle.handles.proofs.Walks.{and_then, returns, alloc_all, pass_all, free_all, look_at, get, through}
+use Rattle.handles.proofs.Walks.{sets, agg, RattleType, Ptr, block_ptr, param, HeldRow, one_word}
 use Rattle.handles.proofs.Walks.{shows_permit, by_ref, handle_at, is_handle, so, also, exists, unhide, a_handle}
 use Rattle.handles.proofs.Walks.{Names, marked_shares, SharedBlock, block_at, Born, born, fact_i}
 use types.Tokens.{shr_bor-open}
@@ -17,14 +17,12 @@ use Rattle.handles.proofs.block.marked.Marked.handle.Code as code
 
 pub handle_spec : {M : Type 1} → statement M
 handle_spec 𝓤 𝓛 𝓜 𝓡 wired T L =
-    let 𝓣 = tables 𝓤 𝓛.H 𝓜 𝓡 𝓡.env in let R : RattleType = param 0 T in
-    let inst = layouts (a_type ∷ []) (T, tt) in let fn = inst_fn inst code.function in
-    by_ref (marked_type.the_row R) tt 𝓛 𝓜 𝓡 (clauses T 𝓛 𝓜.mem 𝓡.returns)
-    (λ κs a. Unit {0}) (λ κs a gh. fact_i 𝓤 _ _ tt) (#self inst) fn
-    (code.unfolded 𝓤 𝓛.H 𝓜 𝓡 wired (T, tt)) (λ κs qs a gh Post asked ends.
+    let R : RattleType = param 0 T in by_ref (marked_type.the_row R) tt 𝓛 𝓜 𝓡 (clauses T 𝓛 𝓜.mem 𝓡.returns)
+    (λ κs a. Unit {0}) (λ κs a gh. fact_i 𝓤 _ _ tt) T #self code.function
+    (code.unfolded 𝓤 𝓛.H 𝓜 𝓡 wired (T, tt)) (λ κs qs a gh Post asked ends go.
     let b : ℕ = a.ref_ptr.0 in let o : ℕ = a.ref_ptr.1 in let p : Ptr = block_ptr b o in
     let x : (HeldRow R).Denot = a.now in let κ : Lft = κs.0 in
-    enter ! 𝓣.C 𝓣.Λ fn (vptr b o ∷ []) Post $ alloc_all ! (λ l. pass_all ! refl ((tt, tt), tt) $
+    alloc_all ! (λ l. pass_all ! refl ((tt, tt), tt) $
     use1 𝓛 (‵ (fhide (marked_shares R p x κ))) (id⊢ 𝓤 _) $ unhide ! $ fpick ! (λ t. let i : Names = t.1 in
     let I : Fml = block_rule R p x t.0 i in let s : SharedBlock = block_at R p x t.0 i in
     fsplit ! $ move ! (1 ∷ []) $ fsplit ! $ drop ! $ fsplit ! $ move ! (1 ∷ []) $ fsplit ! $

@@ -1,9 +1,9 @@
 -- `held` shows what every handle of the block sees.
-use Rattle.handles.proofs.Walks.{ℕ, ◌+◌, List, [], ◌∷◌, refl, a_type, Val, vptr, inst_fn, id⊢, Lft, fhide, ‵, at_ret}
+use Rattle.handles.proofs.Walks.{ℕ, ◌+◌, List, [], ◌∷◌, refl, Val, vptr, id⊢, Lft, fhide, ‵}
 use Rattle.handles.proofs.Walks.{◌$◌, !, by, keep, drop, fsplit, fjoin, use1, feq_i, stop, fld, addr, of_opd, first}
-use Rattle.handles.proofs.Walks.{blocks, exec, returns, enter, alloc_all, pass_all, free_all, look_at, get, through}
-use Rattle.handles.proofs.Walks.{sets, sets_last, env, tables, RattleType, Ptr, block_ptr, param, layouts}
-use Rattle.handles.proofs.Walks.{param_laws, after, HeldRow, by_ref, so, unhide, hide, held_offset, shown}
+use Rattle.handles.proofs.Walks.{blocks, returns, alloc_all, pass_all, free_all, look_at, get, through}
+use Rattle.handles.proofs.Walks.{sets, sets_last, RattleType, Ptr, block_ptr, param}
+use Rattle.handles.proofs.Walks.{param_laws, HeldRow, by_ref, so, unhide, hide, held_offset, shown}
 use Rattle.handles.proofs.Walks.{marked_shares, stays_shown, fact_i}
 use Rattle.handles.specs.contracts.block.marked.Marked as marked_type
 use Rattle.handles.specs.contracts.block.marked.Marked.held.{clauses}
@@ -13,21 +13,19 @@ use Rattle.handles.proofs.block.marked.Marked.held.Code as code
 
 pub held_spec : {M : Type 1} → statement M
 held_spec 𝓤 𝓛 𝓜 𝓡 wired T L =
-    let 𝓣 = tables 𝓤 𝓛.H 𝓜 𝓡 𝓡.env in let R : RattleType = param 0 T in
-    let inst = layouts (a_type ∷ []) (T, tt) in let fn = inst_fn inst code.function in
-    by_ref (marked_type.the_row R) tt 𝓛 𝓜 𝓡 (clauses T 𝓛 𝓜.mem 𝓡.returns)
-    (λ κs a. Unit {0}) (λ κs a gh. fact_i 𝓤 _ _ tt) (#self inst) fn
-    (code.unfolded 𝓤 𝓛.H 𝓜 𝓡 wired (T, tt)) (λ κs qs a gh Post asked ends.
+    let R : RattleType = param 0 T in by_ref (marked_type.the_row R) tt 𝓛 𝓜 𝓡 (clauses T 𝓛 𝓜.mem 𝓡.returns)
+    (λ κs a. Unit {0}) (λ κs a gh. fact_i 𝓤 _ _ tt) T #self code.function
+    (code.unfolded 𝓤 𝓛.H 𝓜 𝓡 wired (T, tt)) (λ κs qs a gh Post asked ends go.
     let b : ℕ = a.ref_ptr.0 in let o : ℕ = a.ref_ptr.1 in let p : Ptr = block_ptr b o in
     let x : (HeldRow R).Denot = a.now in let κ : Lft = κs.0 in
-    enter ! 𝓣.C 𝓣.Λ fn (vptr b o ∷ []) Post $ alloc_all ! (λ l. pass_all ! refl ((tt, tt), tt) $
-    let Ev = env fn.locals l in let there : ℕ = o + held_offset R in
+    alloc_all ! (λ l. pass_all ! refl ((tt, tt), tt) $
+    let there : ℕ = o + held_offset R in
     use1 𝓛 (‵ (fhide (marked_shares R p x κ))) (id⊢ 𝓤 _) $ unhide ! $
     use1 𝓛 (‵ (shown R p x κ)) (stays_shown R (param_laws 0 T L) p x 𝓛 κ) $ fsplit ! $ drop ! $ hide ! $
     -- [what is held; the token; the other tokens]
     sets ! (addr ! (through ! refl (stop !))) refl (tt, tt) $ sets ! (of_opd ! (get ! refl)) refl (tt, tt) $
     first ! $ blocks ! $ sets_last ! (addr ! (through ! refl (fld ! refl (stop !)))) refl (tt, tt) $
-    exec ! 𝓣.C 𝓣.Λ Ev (after 3 fn.body) (at_ret Ev Post) $ sets ! (of_opd ! (get ! refl)) refl (tt, tt) $
+    go.ahead l 3 $ sets ! (of_opd ! (get ! refl)) refl (tt, tt) $
     feq_i ! (List Val) (vptr b there ∷ []) (vptr b there ∷ []) refl $ fjoin ! $
     returns ! (look_at ! 0 refl) $ free_all ! refl $ keep ! (1 ∷ 2 ∷ 0 ∷ []) $
     by ! (ends (vptr b there) (record { ref_ptr = (b, there); now = x }) (so 𝓤 refl))))

@@ -1,12 +1,13 @@
 -- `of` gives a new block that is marked away for good.
-use Rattle.handles.proofs.Walks.{◌≡◌, ℕ, List, [], ◌∷◌, ◌++◌, refl, sym, subst, a_type, Val, vptr, inst_fn, SProp}
-use Rattle.handles.proofs.Walks.{ent, id⊢, Lft, Share, ftrue, fsep, flft, WpFn, sem, later, await, at_ret, ‵, raw}
+use Rattle.handles.proofs.Walks.{at_type, walks_at}
+use Rattle.handles.proofs.Walks.{◌≡◌, ℕ, List, [], ◌∷◌, ◌++◌, refl, subst, Val, vptr}
+use Rattle.handles.proofs.Walks.{ent, id⊢, Lft, Share, ftrue, fsep, flft, sem, later, await, ‵, raw}
 use Rattle.handles.proofs.Walks.{◌⊛◌, ◌$◌, ◌∵◌, !, qed, by, move, keep, split, join, fsplit, fjoin, use1, use2}
-use Rattle.handles.proofs.Walks.{suffices, feq_i, stop, fld, addr, of_opd, first, blocks, exec, returns, enter}
-use Rattle.handles.proofs.Walks.{alloc_all, pass_all, free_all, look_at, get, get_in, through, sets, sets_last, env}
-use Rattle.handles.proofs.Walks.{sub, whole, tables, fact, no, RattleType, owns, types_at, plain, Ptr, block_ptr}
-use Rattle.handles.proofs.Walks.{nothing_more, heard, param, layouts, param_laws, Stays, stay_dropped, walk_of}
-use Rattle.handles.proofs.Walks.{after, proved_at, leaves, HeldRow, known, hide, marked_word, Goes-blank, pair_val}
+use Rattle.handles.proofs.Walks.{feq_i, stop, fld, addr, of_opd, first, blocks, returns}
+use Rattle.handles.proofs.Walks.{alloc_all, pass_all, free_all, look_at, get, get_in, through, sets, sets_last}
+use Rattle.handles.proofs.Walks.{sub, whole, fact, no, RattleType, owns, types_at, plain, Ptr, block_ptr}
+use Rattle.handles.proofs.Walks.{nothing_more, heard, param, param_laws, Stays, stay_dropped}
+use Rattle.handles.proofs.Walks.{HeldRow, known, hide, marked_word, Goes-blank, pair_val}
 use Rattle.handles.proofs.Walks.{RawBoxRow, raw_box-Good, raw_box_opens, bare_block, marked_shares, new_lasts}
 use Rattle.handles.proofs.Walks.{box_opens}
 use contract.BorrowLft.{◌⊑◌}
@@ -18,17 +19,13 @@ use Rattle.handles.proofs.block.marked.Marked.of.Code as code
 
 pub of_spec : {M : Type 1} → statement M
 of_spec 𝓤 𝓛 𝓜 𝓡 wired T L =
-    let H = 𝓛.H in let 𝓣 = tables 𝓤 H 𝓜 𝓡 𝓡.env in let R : RattleType = param 0 T in let En = ended T in
-    let c = clauses T 𝓛 𝓜.mem 𝓡.returns in
-    let inst = layouts (a_type ∷ []) (T, tt) in let fn = inst_fn inst code.function in
+    let R : RattleType = param 0 T in let En = ended T in let c = clauses T 𝓛 𝓜.mem 𝓡.returns in
     let RawBox : RattleType = RawBoxRow (block_type.the_row R) in let boxed = plain (λ _. RawBox) in
     let hs : Stays En.signature.params En.kept = (stay_dropped boxed no, tt) in
-    proved_at 𝓛 En hs c 𝓜 𝓡 (Goes-blank 𝓛 2 boxed no (λ κs x f. tt), tt)
-    (#self inst) fn (code.unfolded 𝓤 H 𝓜 𝓡 wired (T, tt)) (λ z are.
+    walks_at (at_type T) code.function 𝓛 𝓜 𝓡 En hs c (Goes-blank 𝓛 2 boxed no (λ κs x f. tt), tt)
+    #self (code.unfolded 𝓤 𝓛.H 𝓜 𝓡 wired (T, tt)) (λ z are go ends.
     let κ : Lft = z.0.0.1.0 in let q : Share = z.0.1.1.0 in let a : Lft = z.0.0.0 in
     let d : RawBox.Denot = z.0.3.0 in let x : (HeldRow R).Denot = d.value.held in
-    let Post : Val → SProp 𝓤 = (walk_of 𝓛 En hs c).post z in
-    let Run : List Val → SProp 𝓤 = λ ws. WpFn 𝓤 H 𝓣.C 𝓣.Λ fn ws Post in
     qed 𝓛 (((‵ (flft a z.0.1.0) ⊛ ‵ (fsep (flft κ q) ftrue))
     ⊛ ‵ (owns (types_at En.signature.params z.0.0) z.0.3 z.0.4))
     ∷ raw (fact 𝓤 (κ ⊑ T.lives)) ∷ raw (fact 𝓤 (d.value.word ≡ marked_word 1)) ∷ []) ∵
@@ -43,16 +40,15 @@ of_spec 𝓤 𝓛 𝓜 𝓡 wired T L =
     move ! (1 ∷ []) $ split ! $ move ! (1 ∷ []) $ fsplit ! $ move ! (3 ∷ 0 ∷ []) $
     use2 𝓛 (later (‵ (marked_shares R p x a) ⊛ ‵ (flft κ q))) (new_lasts R (param_laws 0 T L)
     p x 𝓛 κ q lives a) $
-    suffices ! (Run (pair_val (vptr b o) h ∷ [])) (subst (λ (us : List Val). ent 𝓤 (Run (pair_val (vptr b o) h
-    ∷ [])) (Run us)) (sym (λ j. is_pair j ++ [])) (id⊢ 𝓤 _)) $ enter ! 𝓣.C 𝓣.Λ fn (pair_val (vptr b o) h ∷ []) Post $
-    alloc_all ! (λ l. pass_all ! refl (raw_box-Good b o h good, tt) $ let Ev = env fn.locals l in await ! tt $ split ! $
+    go.enters (pair_val (vptr b o) h ∷ []) (λ j. is_pair j ++ []) $
+    alloc_all ! (λ l. pass_all ! refl (raw_box-Good b o h good, tt) $ await ! tt $ split ! $
     -- [what lasts; its token; no more; the other token]
     move ! (1 ∷ 2 ∷ []) $ fjoin ! $ move ! (2 ∷ 0 ∷ []) $ join ! $ move ! (1 ∷ []) $
     sets ! (of_opd ! (get_in ! (fld ! refl (stop !)) (sub ! 0 refl (whole !)))) refl (tt, tt) $
     first ! $ blocks ! $ sets ! (of_opd ! (get ! refl)) refl (tt, tt) $
     sets_last ! (addr ! (through ! refl (stop !))) refl (tt, tt) $
-    exec ! 𝓣.C 𝓣.Λ Ev (after 2 fn.body) (at_ret Ev Post) $ sets ! (of_opd ! (get ! refl)) refl (tt, tt) $
+    go.ahead l 2 $ sets ! (of_opd ! (get ! refl)) refl (tt, tt) $
     hide ! $ feq_i ! (List Val) (vptr b o ∷ []) (vptr b o ∷ []) refl $ fjoin ! $ known ! (x ≡ x) refl $
     nothing_more ! $ nothing_more ! $ fjoin ! $
     returns ! (look_at ! 0 refl) $ free_all ! refl $ keep ! (3 ∷ 0 ∷ 2 ∷ 1 ∷ []) $
-    by ! (leaves 𝓛 En hs c z (vptr b o) (record { ref_ptr = (b, o); now = x }) (tt, tt) (tt, tt)))))))
+    by ! (ends (vptr b o) (record { ref_ptr = (b, o); now = x }) (tt, tt) (tt, tt)))))))

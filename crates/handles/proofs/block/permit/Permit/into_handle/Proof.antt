@@ -1,8 +1,8 @@
 -- `into_handle` makes the handle that was granted.
-use Rattle.handles.proofs.Walks.{drop, ◌≡◌, ℕ, false, [], ◌∷◌, refl, a_type, inst_fn, ‵, ◌$◌, !, by, keep, fsplit}
-use Rattle.handles.proofs.Walks.{rewrite, stop, fld, of_opd, no_more, and_then, returns, enter, alloc_all, pass_all}
-use Rattle.handles.proofs.Walks.{free_all, look_at, get, get_in, sets, agg, sub, whole, tables, fact, RattleType}
-use Rattle.handles.proofs.Walks.{Ptr, param, layouts, Right, HeldRow, permit_owns, one_word, one_word-Good, by_value}
+use Rattle.handles.proofs.Walks.{drop, ◌≡◌, ℕ, false, [], ◌∷◌, refl, ‵, ◌$◌, !, by, keep, fsplit}
+use Rattle.handles.proofs.Walks.{rewrite, stop, fld, of_opd, no_more, and_then, returns, alloc_all, pass_all}
+use Rattle.handles.proofs.Walks.{free_all, look_at, get, get_in, sets, agg, sub, whole, fact, RattleType}
+use Rattle.handles.proofs.Walks.{Ptr, param, Right, HeldRow, permit_owns, one_word, one_word-Good, by_value}
 use Rattle.handles.proofs.Walks.{permit_worded, handle_at, is_handle, so, also, a_handle, Ptr-Good, snd∗}
 use Rattle.handles.specs.contracts.block.permit.Permit.into_handle.{clauses}
 use Rattle.handles.specs.contracts.block.permit.Permit.into_handle.Key.{name as #self}
@@ -11,14 +11,12 @@ use Rattle.handles.proofs.block.permit.Permit.into_handle.Code as code
 
 pub into_handle_spec : {M : Type 1} → statement M
 into_handle_spec 𝓤 𝓛 𝓜 𝓡 wired T L =
-    let 𝓣 = tables 𝓤 𝓛.H 𝓜 𝓡 𝓡.env in let R : RattleType = param 0 T in
-    let inst = layouts (a_type ∷ []) (T, tt) in let fn = inst_fn inst code.function in
-    by_value (permit_worded R) 𝓛 𝓜 𝓡 (clauses T 𝓛 𝓜.mem 𝓡.returns)
+    let R : RattleType = param 0 T in by_value (permit_worded R) 𝓛 𝓜 𝓡 (clauses T 𝓛 𝓜.mem 𝓡.returns)
     (λ κs a. a.right ≡ a_handle) (λ κs a gh. snd∗ 𝓤 (fact 𝓤 _) (fact 𝓤 _)) (λ κs a. (tt, tt)) (λ κs x f. refl)
-    (#self inst) fn (code.unfolded 𝓤 𝓛.H 𝓜 𝓡 wired (T, tt)) (λ κs qs a gh Post asked ends.
+    T #self code.function (code.unfolded 𝓤 𝓛.H 𝓜 𝓡 wired (T, tt)) (λ κs qs a gh Post asked ends go.
     let p : Ptr = a.block in let x : (HeldRow R).Denot = a.held in let η : ℕ = a.id in
     rewrite ! 0 (λ (r : Right). ‵ (permit_owns R p x η r a.log)) asked refl $ fsplit ! $ drop ! $
-    enter ! 𝓣.C 𝓣.Λ fn (one_word p ∷ []) Post $ alloc_all ! (λ l. pass_all ! refl (one_word-Good p, tt) $
+    alloc_all ! (λ l. pass_all ! refl (one_word-Good p, tt) $
     sets ! (of_opd ! (get_in ! (fld ! refl (stop !)) (sub ! 0 refl (whole !)))) refl (Ptr-Good p) $
     sets ! (agg ! (and_then ! (get ! refl) (no_more !))) refl (one_word-Good p) $ is_handle R p x η ! false $
     returns ! (look_at ! 0 refl) $ free_all ! refl $ keep ! (1 ∷ 0 ∷ []) $

@@ -1,7 +1,7 @@
 -- `into_logged` keeps of a gain that its step is in the log.
-use Rattle.handles.proofs.Walks.{ℕ, List, [], ◌∷◌, refl, a_type, inst_fn, ‵, ◌$◌, !, by, move, keep, drop, fsplit}
-use Rattle.handles.proofs.Walks.{fjoin, use0, no_more, returns, enter, alloc_all, pass_all, free_all, look_at, sets}
-use Rattle.handles.proofs.Walks.{agg, tables, RattleType, Ptr, param, layouts, one_word, one_word-Good, by_value}
+use Rattle.handles.proofs.Walks.{ℕ, List, [], ◌∷◌, refl, ‵, ◌$◌, !, by, move, keep, drop, fsplit}
+use Rattle.handles.proofs.Walks.{fjoin, use0, no_more, returns, alloc_all, pass_all, free_all, look_at, sets}
+use Rattle.handles.proofs.Walks.{agg, RattleType, Ptr, param, one_word-Good, by_value}
 use Rattle.handles.proofs.Walks.{permit_worded, so, also, vstruct, vnil, WordStep, NoBytes, no_bytes-made, fact_i}
 use Rattle.handles.specs.contracts.block.permit.Permit.into_logged.{clauses}
 use Rattle.handles.specs.contracts.block.permit.Permit.into_logged.Key.{name as #self}
@@ -10,15 +10,13 @@ use Rattle.handles.proofs.block.permit.Permit.into_logged.Code as code
 
 pub into_logged_spec : {M : Type 1} → statement M
 into_logged_spec 𝓤 𝓛 𝓜 𝓡 wired T L =
-    let 𝓣 = tables 𝓤 𝓛.H 𝓜 𝓡 𝓡.env in let R : RattleType = param 0 T in
-    let inst = layouts (a_type ∷ []) (T, tt) in let fn = inst_fn inst code.function in
-    by_value (permit_worded R) 𝓛 𝓜 𝓡 (clauses T 𝓛 𝓜.mem 𝓡.returns)
-    (λ κs a. Unit {0}) (λ κs a gh. fact_i 𝓤 _ _ tt) (λ κs a. (tt, tt)) (λ κs x f. refl) (#self inst) fn
-    (code.unfolded 𝓤 𝓛.H 𝓜 𝓡 wired (T, tt)) (λ κs qs a gh Post asked ends.
+    let R : RattleType = param 0 T in by_value (permit_worded R) 𝓛 𝓜 𝓡 (clauses T 𝓛 𝓜.mem 𝓡.returns)
+    (λ κs a. Unit {0}) (λ κs a gh. fact_i 𝓤 _ _ tt) (λ κs a. (tt, tt)) (λ κs x f. refl) T #self code.function
+    (code.unfolded 𝓤 𝓛.H 𝓜 𝓡 wired (T, tt)) (λ κs qs a gh Post asked ends go.
     let p : Ptr = a.block in let η : ℕ = a.id in let log : List WordStep = a.log in
     fsplit ! $ move ! (1 ∷ []) $ drop ! $
     -- [the log; the tokens]
-    enter ! 𝓣.C 𝓣.Λ fn (one_word p ∷ []) Post $ alloc_all ! (λ l. pass_all ! refl (one_word-Good p, tt) $
+    alloc_all ! (λ l. pass_all ! refl (one_word-Good p, tt) $
     sets ! (agg ! (no_more !)) refl (tt, tt) $ use0 𝓛 (‵ (NoBytes.own_val tt (vstruct vnil ∷ [])))
     (no_bytes-made 𝓛) $ fjoin ! $ returns ! (look_at ! 0 refl) $ free_all ! refl $ keep ! (1 ∷ 0 ∷ []) $
     by ! (ends (vstruct vnil) (record { id = η; log = log }) (also 𝓤 refl (so 𝓤 refl)))))

@@ -1,11 +1,11 @@
 -- `into_loose` takes a block that nobody shares, with the allocator that it was requested from.
-use Rattle.handles.proofs.Walks.{◌≡◌, ℕ, ◌+◌, [], ◌∷◌, refl, ap, a_type, Val, vptr, inst_fn, full_share, fat, ‵, ◌⊛◌}
-use Rattle.handles.proofs.Walks.{some, given, at_ret, ◌$◌, !, by, move, keep, drop, split, fsplit, fsplit3, fjoin3}
+use Rattle.handles.proofs.Walks.{◌≡◌, ℕ, ◌+◌, [], ◌∷◌, refl, ap, Val, vptr, full_share, fat, ‵, ◌⊛◌}
+use Rattle.handles.proofs.Walks.{some, given, ◌$◌, !, by, move, keep, drop, split, fsplit, fsplit3, fjoin3}
 use Rattle.handles.proofs.Walks.{fpick, pick, learn, use1, use2, rewrite, stop, fld, load, of_opd, no_more, and_then}
-use Rattle.handles.proofs.Walks.{first, blocks, exec, returns, enter, alloc_all, pass_all, free_all, look_at, get}
-use Rattle.handles.proofs.Walks.{get_in, through, sets, sets_last, is, env, agg, sub, whole, tables, fact}
+use Rattle.handles.proofs.Walks.{first, blocks, returns, alloc_all, pass_all, free_all, look_at, get}
+use Rattle.handles.proofs.Walks.{get_in, through, sets, sets_last, is, agg, sub, whole, fact}
 use Rattle.handles.proofs.Walks.{RattleType, Ptr, block_ptr, ptr_val, block_of, offset_of, at_block, param, layout}
-use Rattle.handles.proofs.Walks.{layouts, after, Right, HeldRow, permit_owns, one_word, one_word-Good, by_value}
+use Rattle.handles.proofs.Walks.{Right, HeldRow, permit_owns, one_word-Good, by_value}
 use Rattle.handles.proofs.Walks.{permit_worded, so, also, heap_row, pair_val, raw_box-Good, raw_box_shuts, look}
 use Rattle.handles.proofs.Walks.{whole_block, IsWholeBlock, heap_offset, unshared_block, Good, group, part_at, Boxed}
 use Rattle.handles.proofs.Walks.{box_shuts, heap_twice, whole_block_of, snd∗}
@@ -18,11 +18,9 @@ use Rattle.handles.proofs.block.permit.Permit.into_raw_box.Code as code
 
 pub into_raw_box_spec : {M : Type 1} → statement M
 into_raw_box_spec 𝓤 𝓛 𝓜 𝓡 wired T L =
-    let 𝓣 = tables 𝓤 𝓛.H 𝓜 𝓡 𝓡.env in let R : RattleType = param 0 T in
-    let inst = layouts (a_type ∷ []) (T, tt) in let fn = inst_fn inst code.function in
-    by_value (permit_worded R) 𝓛 𝓜 𝓡 (clauses T 𝓛 𝓜.mem 𝓡.returns)
+    let R : RattleType = param 0 T in by_value (permit_worded R) 𝓛 𝓜 𝓡 (clauses T 𝓛 𝓜.mem 𝓡.returns)
     (λ κs a. IsWholeBlock a.right) (λ κs a gh. snd∗ 𝓤 (fact 𝓤 _) (fact 𝓤 _)) (λ κs a. (tt, tt)) (λ κs x f. refl)
-    (#self inst) fn (code.unfolded 𝓤 𝓛.H 𝓜 𝓡 wired (T, tt)) (λ κs qs a gh Post asked ends.
+    T #self code.function (code.unfolded 𝓤 𝓛.H 𝓜 𝓡 wired (T, tt)) (λ κs qs a gh Post asked ends go.
     let p : Ptr = a.block in let x : (HeldRow R).Denot = a.held in let η : ℕ = a.id in let pb : ℕ = block_of p in
     let po : ℕ = offset_of p in let there : Ptr = block_ptr pb po in
     let Block : RattleType = block_type.the_row R in let n : ℕ = (whole_block_of a.right asked).0 in
@@ -38,12 +36,11 @@ into_raw_box_spec 𝓤 𝓛 𝓜 𝓡 wired T L =
     $ pick ! (λ v. split ! $
     use1 𝓛 (given (Good (layout heap_row) v) (‵ (fat full_share (layout heap_row) pb (po + heap_offset R) v)))
     (𝓛.laws.at_wt full_share (layout heap_row) pb (po + heap_offset R) v) $ learn ! (λ good.
-    enter ! 𝓣.C 𝓣.Λ fn (one_word p ∷ []) Post $ alloc_all ! (λ l. pass_all ! refl (one_word-Good p, tt) $
-    let Ev = env fn.locals l in
+    alloc_all ! (λ l. pass_all ! refl (one_word-Good p, tt) $
     sets ! (is ! (of_opd ! (get_in ! (fld ! refl (stop !)) (sub ! 0 refl (whole !)))) (ap ptr_val at)) refl (tt, tt)
     $ sets ! (of_opd ! (get ! refl)) refl (tt, tt) $
     first ! $ blocks ! $ sets_last ! (of_opd ! (load ! (through ! refl (fld ! refl (stop !))) (look ! 0 refl)))
-    refl good $ exec ! 𝓣.C 𝓣.Λ Ev (after 3 fn.body) (at_ret Ev Post) $ sets ! (of_opd ! (get ! refl)) refl good $
+    refl good $ go.ahead l 3 $ sets ! (of_opd ! (get ! refl)) refl good $
     sets ! (agg ! (and_then ! (get ! refl) (and_then ! (get ! refl) (no_more !)))) refl (raw_box-Good pb po v good) $
     move ! (1 ∷ []) $ use1 𝓛 (‵ (heap_row.own_val h (v ∷ [])) ⊛ ‵ (heap_row.own_val h (v ∷ [])))
     (heap_twice 𝓛 h (v ∷ [])) $ split ! $ move ! (2 ∷ 0 ∷ []) $

@@ -1,10 +1,10 @@
 -- `lower` is one subtraction from the word.
-use Rattle.handles.proofs.Walks.{◌≡◌, ℕ, ◌+◌, [], ◌∷◌, refl, sym, ap, lit<, a_type, inst_fn, via, Fml, ‵, later}
-use Rattle.handles.proofs.Walks.{at_ret, ◌$◌, !, by, move, keep, drop, fsplit, fjoin, fpick, use2, await, rewrite}
-use Rattle.handles.proofs.Walks.{stop, fld, addr, lit, of_opd, no_more, and_then, first, blocks, exec, Calls-last}
-use Rattle.handles.proofs.Walks.{returns, enter, alloc_all, pass_all, free_all, look_at, get, get_in, through, sets}
-use Rattle.handles.proofs.Walks.{lands_last, is, env, agg, sub, whole, tables, fact, RattleType, Ptr, block_ptr}
-use Rattle.handles.proofs.Walks.{ptr_val, block_of, offset_of, at_block, param, layouts, after, fm, found, finds}
+use Rattle.handles.proofs.Walks.{◌≡◌, ℕ, ◌+◌, [], ◌∷◌, refl, sym, ap, lit<, via, Fml, ‵, later}
+use Rattle.handles.proofs.Walks.{◌$◌, !, by, move, keep, drop, fsplit, fjoin, fpick, use2, await, rewrite}
+use Rattle.handles.proofs.Walks.{stop, fld, addr, lit, of_opd, no_more, and_then, first, blocks, Calls-last}
+use Rattle.handles.proofs.Walks.{returns, alloc_all, pass_all, free_all, look_at, get, get_in, through, sets}
+use Rattle.handles.proofs.Walks.{lands_last, is, agg, sub, whole, fact, RattleType, Ptr, block_ptr}
+use Rattle.handles.proofs.Walks.{ptr_val, block_of, offset_of, at_block, param, fm, found, finds}
 use Rattle.handles.proofs.Walks.{Right, HeldRow, permit_owns, one_word, word_and_permit, one_word-Good}
 use Rattle.handles.proofs.Walks.{returns_permit, word_and_permit-Good, by_value, permit_worded, permit_at, so, also}
 use Rattle.handles.proofs.Walks.{asks_with, exists, given, pick, learn, List, WordStep, Adds, to_lower}
@@ -19,17 +19,15 @@ use Rattle.handles.proofs.block.permit.Permit.lower.Code as code
 
 pub lower_spec : {M : Type 1} → statement M
 lower_spec 𝓤 𝓛 𝓜 𝓡 wired T L =
-    let 𝓣 = tables 𝓤 𝓛.H 𝓜 𝓡 𝓡.env in let R : RattleType = param 0 T in
-    let inst = layouts (a_type ∷ []) (T, tt) in let fn = inst_fn inst code.function in
-    by_value (permit_worded R) 𝓛 𝓜 𝓡 (clauses T 𝓛 𝓜.mem 𝓡.returns)
+    let R : RattleType = param 0 T in by_value (permit_worded R) 𝓛 𝓜 𝓡 (clauses T 𝓛 𝓜.mem 𝓡.returns)
     (λ κs a. a.right ≡ to_lower) (λ κs a gh. snd∗ 𝓤 (fact 𝓤 _) (fact 𝓤 _)) (λ κs a. (tt, tt)) (λ κs x f. refl)
-    (#self inst) fn (code.unfolded 𝓤 𝓛.H 𝓜 𝓡 wired (T, tt)) (λ κs qs a gh Post asked ends.
+    T #self code.function (code.unfolded 𝓤 𝓛.H 𝓜 𝓡 wired (T, tt)) (λ κs qs a gh Post asked ends go.
     let p : Ptr = a.block in let x : (HeldRow R).Denot = a.held in let η : ℕ = a.id in let pb : ℕ = block_of p in
     let po : ℕ = offset_of p in let old : List WordStep = a.log in
     rewrite ! 0 (λ (r : Right). ‵ (permit_owns R p x η r old)) asked refl $ fsplit ! $ move ! (1 ∷ []) $ fsplit ! $
     fpick ! (λ inb. drop ! $ let at : p ≡ block_ptr pb po = at_block p inb in
-    enter ! 𝓣.C 𝓣.Λ fn (one_word p ∷ []) Post $ fpick ! (λ i. fsplit ! $
-    alloc_all ! (λ l. pass_all ! refl (one_word-Good p, tt) $ let Ev = env fn.locals l in
+    fpick ! (λ i. fsplit ! $
+    alloc_all ! (λ l. pass_all ! refl (one_word-Good p, tt) $
     -- [the part; the rule; that the log was reached; the token]
     let aft : ℕ → Fml = and_logged (block_at R p x η i) old step.lowers (after_lower (block_at R p x η i)) in
     sets ! (is ! (of_opd ! (get_in ! (fld ! refl (stop !)) (sub ! 0 refl (whole !)))) (ap ptr_val at)) refl (tt, tt)
@@ -39,7 +37,7 @@ lower_spec 𝓤 𝓛 𝓜 𝓡 wired T L =
     sets ! (agg ! (and_then ! (lit ! tt) (no_more !))) refl (tt, (record { fits = lit< tt }, tt)) $
     Calls-last ! (fm 𝓛 𝓜 𝓡) (found aft) (and_then ! (get ! refl) (and_then ! (lit ! tt)
     (and_then ! (get ! refl) (no_more !)))) (λ u. finds ! aft (λ n fits. let r' : Right = right_by_lower n in
-    lands_last ! refl (tt, record { fits = fits }) $ exec ! 𝓣.C 𝓣.Λ Ev (after 2 fn.body) (at_ret Ev Post) $
+    lands_last ! refl (tt, record { fits = fits }) $ go.ahead l 2 $
     sets ! (of_opd ! (get ! refl)) refl (tt, record { fits = fits }) $
     use2 𝓛 (later (exists (λ (log : List WordStep). given (Adds x.limit.count old step.lowers n log)
     (‵ (permit_owns R p x η r' log))))) (permit_kept 𝓛 R p x η inb i old step.lowers n r' (lower-NoHandle n)) $

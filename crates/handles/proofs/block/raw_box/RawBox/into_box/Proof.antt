@@ -1,12 +1,13 @@
 -- `into_box` makes the box again.
-use Rattle.handles.proofs.Walks.{◌≡◌, List, [], ◌∷◌, ◌++◌, refl, sym, ap, subst, a_type, Val, vptr, inst_fn, SProp}
-use Rattle.handles.proofs.Walks.{ent, id⊢, ftrue, flft, WpFn, ‵, raw, ◌⊛◌, some, later, at_ret, ◌$◌, ◌∵◌, !, qed, by}
+use Rattle.handles.proofs.Walks.{walks_at}
+use Rattle.handles.proofs.Walks.{◌≡◌, List, [], ◌∷◌, ◌++◌, refl, sym, ap, subst, a_type, Val, vptr}
+use Rattle.handles.proofs.Walks.{id⊢, ftrue, flft, ‵, raw, ◌⊛◌, some, later, ◌$◌, ◌∵◌, !, qed, by}
 use Rattle.handles.proofs.Walks.{move, keep, drop, split, split3, join, fsplit, fjoin, pick, use1, await, rewrite}
-use Rattle.handles.proofs.Walks.{feq_i, suffices, stop, fld, of_opd, no_more, and_then, first, blocks, exec, returns}
-use Rattle.handles.proofs.Walks.{enter, alloc_all, pass_all, free_all, look_at, get, get_in, sets, lands_last, env}
-use Rattle.handles.proofs.Walks.{sub, whole, tables, fact, no, RattleType, owns, types_at, plain, block_ptr}
-use Rattle.handles.proofs.Walks.{nothing_more, only, param, layout, bounded, Stays, stay_dropped, walk_of, after}
-use Rattle.handles.proofs.Walks.{proved_at, leaves, fm, Lft, Share, full_share, use0, known, calls_at_last, Good}
+use Rattle.handles.proofs.Walks.{feq_i, stop, fld, of_opd, no_more, and_then, first, blocks, returns}
+use Rattle.handles.proofs.Walks.{alloc_all, pass_all, free_all, look_at, get, get_in, sets, lands_last}
+use Rattle.handles.proofs.Walks.{sub, whole, fact, no, RattleType, owns, types_at, plain, block_ptr}
+use Rattle.handles.proofs.Walks.{nothing_more, only, param, layout, bounded, Stays, stay_dropped}
+use Rattle.handles.proofs.Walks.{fm, Lft, Share, full_share, use0, known, calls_at_last, Good}
 use Rattle.handles.proofs.Walks.{dcons, dnil, ⊑_static, named_in, Lasts, lasts, triple_of, Global, passed, box_out}
 use Rattle.handles.proofs.Walks.{box_in, glues, Goes-blank, heap_row, ghosts, heap, heap_arg, heap_arg-laws}
 use Rattle.handles.proofs.Walks.{pair_val, RawBoxRow, raw_box-Good, raw_box_opens}
@@ -22,19 +23,17 @@ use Rattle.handles.proofs.block.raw_box.RawBox.into_box.Code as code
 
 pub into_box_spec : {M : Type 1} → statement M
 into_box_spec {M} 𝓤 𝓛 𝓜 𝓡 wired T L dx glue =
-    let H = 𝓛.H in let 𝓣 = tables 𝓤 H 𝓜 𝓡 𝓡.env in let R : RattleType = param 0 T in
+    let R : RattleType = param 0 T in
     let En = ended T dx in let c = clauses T dx 𝓛 𝓜.mem 𝓡.returns in
     let E : box.Bx = record { row = T; laws = L; al = heap } in
     let Box : RattleType = boxed.the_row R heap_row ghosts in let RawBox : RattleType = RawBoxRow R in
-    let inst = bounded (a_type ∷ []) (T, tt) (dcons dx dnil) in let fn = inst_fn inst code.function in
     let given_self = plain (λ _. RawBox) in
     let hs : Stays En.signature.params En.kept = (stay_dropped given_self no, tt) in
-    proved_at 𝓛 En hs c 𝓜 𝓡 (Goes-blank 𝓛 1 given_self no (λ κs x f. tt), tt) (#self inst)
-    fn (code.unfolded 𝓤 H 𝓜 𝓡 wired (T, tt) dx) (λ z are.
+    walks_at (bounded (a_type ∷ []) (T, tt) (dcons dx dnil)) code.function 𝓛 𝓜 𝓡 En hs c
+    (Goes-blank 𝓛 1 given_self no (λ κs x f. tt), tt) #self (code.unfolded 𝓤 𝓛.H 𝓜 𝓡 wired (T, tt) dx)
+    (λ z are go ends.
     let κ : Lft = z.0.0.0 in let q : Share = z.0.1.0 in let κκ : Lft × (Lft × Unit {0}) = (κ, ([], tt)) in
     let v = z.0.3.0 in let a : Global = v.alloc in let x : T.Denot = v.value in
-    let Post : Val → SProp 𝓤 = (walk_of 𝓛 En hs c).post z in
-    let Run : List Val → SProp 𝓤 = λ ws. WpFn 𝓤 H 𝓣.C 𝓣.Λ fn ws Post in
     -- what is called has a lifetime for the allocator too, here `'static`, whose token says nothing
     let static = ‵ (flft [] full_share) in let toks = ‵ (flft κ q) ⊛ ‵ ftrue in
     let both = ‵ (flft κ q) ⊛ static ⊛ ‵ ftrue in let asked = raw ((c z.0.0 z.0.3).requires z.1) in
@@ -57,12 +56,10 @@ into_box_spec {M} 𝓤 𝓛 𝓜 𝓡 wired T L dx glue =
     move ! (2 ∷ 0 ∷ []) $ fjoin ! $ move ! (2 ∷ 0 ∷ []) $ split ! $ move ! (1 ∷ []) $
     use0 𝓛 static (𝓛.lfts.lft-nil full_share) $ join ! $ move ! (1 ∷ 0 ∷ []) $ join ! $ join ! $
     join ! $ use1 𝓛 (raw (k.pre y)) (id⊢ 𝓤 _) $
-    suffices ! (Run (w ∷ [])) (subst (λ (us : List Val). ent 𝓤 (Run (w ∷ [])) (Run us))
-    (sym (λ j. is_pair j ++ [])) (id⊢ 𝓤 (Run (w ∷ [])))) $
-    enter ! 𝓣.C 𝓣.Λ fn (w ∷ []) Post $ alloc_all ! (λ l. pass_all ! refl (typed, tt) $ let Ev = env fn.locals l in
+    go.enters (w ∷ []) (λ j. is_pair j ++ []) $ alloc_all ! (λ l. pass_all ! refl (typed, tt) $
     sets ! (of_opd ! (get_in ! (fld ! refl (stop !)) (sub ! 0 refl (whole !)))) refl (tt, tt) $
     sets ! (of_opd ! (get_in ! (fld ! refl (stop !)) (sub ! 1 refl (whole !)))) refl good $ first ! $ blocks ! $
-    calls_at_last ! (fm 𝓛 𝓜 𝓡) k (met 𝓤 𝓛 𝓜 (named_in 𝓤 H 𝓜 𝓡 𝓡.env)
+    calls_at_last ! (fm 𝓛 𝓜 𝓡) k (met 𝓤 𝓛 𝓜 (named_in 𝓤 𝓛.H 𝓜 𝓡 𝓡.env)
     (code.calls-std_alloc::boxed::Box::from_raw 𝓡.env wired)
     T heap_arg L heap_arg-laws heap.g heap.d heap.drops allocator glued) y (and_then ! (get ! refl)
     (and_then ! (get ! refl) (no_more !))) (λ u.
@@ -76,7 +73,7 @@ into_box_spec {M} 𝓤 𝓛 𝓜 𝓡 wired T L dx glue =
     box_out E ! r (u ∷ []) (λ b' o' h' at' pair_is good'. box_in E ! r b' o' r.value at' refl $
     rewrite ! 0 (λ (ws : List Val). ‵ (Box.own_val r ws)) (sym pair_is) refl $
     let made : Good (layout Box) u = subst (Good (layout Box)) (sym (ap only pair_is)) (raw_box-Good b' o' h' good') in
-    lands_last ! refl made $ exec ! 𝓣.C 𝓣.Λ Ev (after 3 fn.body) (at_ret Ev Post) $
+    lands_last ! refl made $ go.ahead l 3 $
     sets ! (of_opd ! (get ! refl)) refl made $ nothing_more ! $ nothing_more ! $ fjoin ! $
     returns ! (look_at ! 0 refl) $ free_all ! refl $ keep ! (2 ∷ 0 ∷ 1 ∷ 3 ∷ []) $
-    by ! (leaves 𝓛 En hs c z u r (tt, tt) (tt, tt)))))))))
+    by ! (ends u r (tt, tt) (tt, tt)))))))))

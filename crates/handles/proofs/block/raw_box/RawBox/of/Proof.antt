@@ -1,12 +1,13 @@
 -- `of` takes a box apart.
-use Rattle.handles.proofs.Walks.{◌≡◌, List, [], ◌∷◌, ◌++◌, refl, sym, ap, ◌∙◌, subst, a_type, Val, vptr, inst_fn}
-use Rattle.handles.proofs.Walks.{SProp, ent, id⊢, ftrue, flft, WpFn, sem, ‵, raw, ◌⊛◌, some, later, ◌$◌, ◌∵◌, !, qed}
+use Rattle.handles.proofs.Walks.{walks_at}
+use Rattle.handles.proofs.Walks.{◌≡◌, [], ◌∷◌, ◌++◌, refl, ap, ◌∙◌, a_type, Val, vptr}
+use Rattle.handles.proofs.Walks.{id⊢, ftrue, flft, sem, ‵, raw, ◌⊛◌, some, later, ◌$◌, ◌∵◌, !, qed}
 use Rattle.handles.proofs.Walks.{by, move, keep, drop, split, split3, join, fsplit, fjoin, fpick, pick, use1, await}
-use Rattle.handles.proofs.Walks.{rewrite, feq_l, suffices, stop, fld, of_opd, no_more, and_then, returns, enter}
+use Rattle.handles.proofs.Walks.{rewrite, feq_l, stop, fld, of_opd, no_more, and_then, returns}
 use Rattle.handles.proofs.Walks.{lands_as, alloc_all, pass_all, free_all, look_at, get, get_in, sets, agg, sub}
-use Rattle.handles.proofs.Walks.{whole, tables, fact, no, RattleType, owns, types_at, plain, Ptr, block_ptr, ptr_val}
-use Rattle.handles.proofs.Walks.{nothing_more, only, heard, param, layout, bounded, Stays, stay_dropped, walk_of}
-use Rattle.handles.proofs.Walks.{proved_at, leaves, fm, known, Lft, Share, full_share, use0, never, fst∗, vstruct}
+use Rattle.handles.proofs.Walks.{whole, fact, no, RattleType, owns, types_at, plain, Ptr, block_ptr, ptr_val}
+use Rattle.handles.proofs.Walks.{nothing_more, only, heard, param, layout, bounded, Stays, stay_dropped}
+use Rattle.handles.proofs.Walks.{fm, known, Lft, Share, full_share, use0, never, fst∗, vstruct}
 use Rattle.handles.proofs.Walks.{of_list, null_ptr, in_a_block, calls_at, dcons, dnil, ⊑_static, named_in, Lasts}
 use Rattle.handles.proofs.Walks.{lasts, triple_of, Global, passed, box_out, box_in, glues, Goes-blank, heap_row}
 use Rattle.handles.proofs.Walks.{ghosts, heap, heap_arg, heap_arg-laws, handle_tells, pair_val, raw_box-Good}
@@ -27,19 +28,17 @@ use Rattle.handles.proofs.block.raw_box.RawBox.of.Code as code
 
 pub of_spec : {M : Type 1} → statement M
 of_spec {M} 𝓤 𝓛 𝓜 𝓡 wired T L dx glue =
-    let H = 𝓛.H in let 𝓣 = tables 𝓤 H 𝓜 𝓡 𝓡.env in let R : RattleType = param 0 T in
+    let R : RattleType = param 0 T in
     let En = ended T dx in let c = clauses T dx 𝓛 𝓜.mem 𝓡.returns in
     let E : box.Bx = record { row = T; laws = L; al = heap } in
     let Box : RattleType = boxed.the_row R heap_row ghosts in
-    let inst = bounded (a_type ∷ []) (T, tt) (dcons dx dnil) in let fn = inst_fn inst code.function in
     let given_self = plain (λ _. Box) in
     let hs : Stays En.signature.params En.kept = (stay_dropped given_self no, tt) in
-    proved_at 𝓛 En hs c 𝓜 𝓡 (Goes-blank 𝓛 1 given_self no (λ κs x f. tt), tt) (#self inst)
-    fn (code.unfolded 𝓤 H 𝓜 𝓡 wired (T, tt) dx) (λ z are.
+    walks_at (bounded (a_type ∷ []) (T, tt) (dcons dx dnil)) code.function 𝓛 𝓜 𝓡 En hs c
+    (Goes-blank 𝓛 1 given_self no (λ κs x f. tt), tt) #self (code.unfolded 𝓤 𝓛.H 𝓜 𝓡 wired (T, tt) dx)
+    (λ z are go ends.
     let κ : Lft = z.0.0.0 in let q : Share = z.0.1.0 in let κκ : Lft × (Lft × Unit {0}) = (κ, ([], tt)) in
     let v = z.0.3.0 in let a : Global = v.alloc in let x : T.Denot = v.value in
-    let Post : Val → SProp 𝓤 = (walk_of 𝓛 En hs c).post z in
-    let Run : List Val → SProp 𝓤 = λ ws. WpFn 𝓤 H 𝓣.C 𝓣.Λ fn ws Post in
     -- what is called has a lifetime for the allocator too, here `'static`, whose token says nothing
     let static = ‵ (flft [] full_share) in let toks = ‵ (flft κ q) ⊛ ‵ ftrue in
     let both = ‵ (flft κ q) ⊛ static ⊛ ‵ ftrue in let asked = raw ((c z.0.0 z.0.3).requires z.1) in
@@ -60,10 +59,8 @@ of_spec {M} 𝓤 𝓛 𝓜 𝓡 wired T L dx glue =
     use1 𝓛 (raw (fact 𝓤 (κ ⊑ T.lives)) ⊛ ‵ ftrue) (id⊢ 𝓤 _) $ split ! $ move ! (1 ∷ []) $
     known ! ([] ⊑ []) (⊑_static []) $ join ! $ move ! (1 ∷ 0 ∷ []) $ join ! $ move ! (1 ∷ 0 ∷ []) $
     join ! $ use1 𝓛 (raw (k.pre y)) (id⊢ 𝓤 _) $
-    suffices ! (Run (w ∷ [])) (subst (λ (us : List Val). ent 𝓤 (Run (w ∷ [])) (Run us))
-    (sym (λ j. is_pair j ++ [])) (id⊢ 𝓤 (Run (w ∷ [])))) $
-    enter ! 𝓣.C 𝓣.Λ fn (w ∷ []) Post $ alloc_all ! (λ l. pass_all ! refl (typed, tt) $
-    sets ! (of_opd ! (get ! refl)) refl typed $ calls_at ! (fm 𝓛 𝓜 𝓡) k (met 𝓤 𝓛 𝓜 (named_in 𝓤 H 𝓜 𝓡 𝓡.env)
+    go.enters (w ∷ []) (λ j. is_pair j ++ []) $ alloc_all ! (λ l. pass_all ! refl (typed, tt) $
+    sets ! (of_opd ! (get ! refl)) refl typed $ calls_at ! (fm 𝓛 𝓜 𝓡) k (met 𝓤 𝓛 𝓜 (named_in 𝓤 𝓛.H 𝓜 𝓡 𝓡.env)
     (code.calls-std_alloc::boxed::Box::into_raw_with_allocator 𝓡.env wired)
     T heap_arg L heap_arg-laws heap.g heap.d heap.drops dx allocator glued glue) y (and_then ! (get ! refl)
     (no_more !)) (λ u.
@@ -88,5 +85,5 @@ of_spec {M} 𝓤 𝓛 𝓜 𝓡 wired T L dx glue =
     move ! (3 ∷ 0 ∷ []) $ raw_box_shuts R ! b' o' h' a x $
     known ! (x ≡ x) refl $ nothing_more ! $ nothing_more ! $ fjoin ! $
     returns ! (look_at ! 0 refl) $ free_all ! refl $ keep ! (4 ∷ 0 ∷ 2 ∷ 1 ∷ []) $
-    by ! (leaves 𝓛 En hs c z (pair_val (vptr b' o') h')
+    by ! (ends (pair_val (vptr b' o') h')
     (record { at = block_ptr b' o'; alloc = a; value = x }) (tt, tt) (tt, tt))))))))))))))

@@ -1,14 +1,15 @@
 -- `free` makes room of the places, and frees their block if they take bytes.
+use Rattle.handles.proofs.PlacesWalks.{at_type, walks}
 use Rattle.handles.proofs.PlacesWalks.{◌≡◌, ℕ, ◌+◌, ◌-◌, ◌^◌, ◌<◌, Bool, List, [], ◌∷◌, refl, sym, ap, ◌∙◌, subst}
-use Rattle.handles.proofs.PlacesWalks.{arith, w64, a_type, named, Val, vint, vptr, vunit, inst_fn, SProp, Lft, Share}
-use Rattle.handles.proofs.PlacesWalks.{ftrue, flft, ‵, raw, ◌⊛◌, given, later, at_ret, ◌$◌, ◌∵◌, !, qed, by, move}
+use Rattle.handles.proofs.PlacesWalks.{arith, w64, named, Val, vint, vptr, vunit, SProp, Lft, Share}
+use Rattle.handles.proofs.PlacesWalks.{ftrue, flft, ‵, raw, ◌⊛◌, given, later, ◌$◌, ◌∵◌, !, qed, by, move}
 use Rattle.handles.proofs.PlacesWalks.{keep, drop, split, join, fsplit, fsplit3, fjoin3, learn, use1, use2, use3}
 use Rattle.handles.proofs.PlacesWalks.{await, rewrite, feq_i, flt_l, unit_lit, stop, fld, lit, of_opd, no_more}
-use Rattle.handles.proofs.PlacesWalks.{and_then, first, blocks, exec, returns, enter, alloc_all, pass_all, free_all}
-use Rattle.handles.proofs.PlacesWalks.{look_at, get, get_in, sets, lands_last, is, env, sub, whole, tables, fact}
+use Rattle.handles.proofs.PlacesWalks.{and_then, first, blocks, returns, alloc_all, pass_all, free_all}
+use Rattle.handles.proofs.PlacesWalks.{look_at, get, get_in, sets, lands_last, is, sub, whole, fact}
 use Rattle.handles.proofs.PlacesWalks.{yes, no, RattleType, owns, types_at, plain, Ptr, block_ptr, ptr_val}
-use Rattle.handles.proofs.PlacesWalks.{nothing_more, heard, param, layouts, param_laws, RefOf, shr_vals, shr_Tells}
-use Rattle.handles.proofs.PlacesWalks.{Stays, stay_dropped, walk_of, Goes-dropped, after, proved, leaves, fm, heap}
+use Rattle.handles.proofs.PlacesWalks.{nothing_more, heard, param, param_laws, RefOf, shr_vals, shr_Tells}
+use Rattle.handles.proofs.PlacesWalks.{Stays, stay_dropped, walk_of, Goes-dropped, fm, heap}
 use Rattle.handles.proofs.PlacesWalks.{spared, run_framed, ⊑_static, Global, Goes-blank, elτ, sz, uncapped}
 use Rattle.handles.proofs.PlacesWalks.{LeavingRow, leaving-Good, leaving_val, none_at_null, right_to_free}
 use Rattle.handles.proofs.PlacesWalks.{leaving_own, ◌*◌, as_raw, as_written, owns_if, froom, in_a_block, length}
@@ -32,15 +33,16 @@ use Rattle.handles.proofs.header_slice.places.Leaving.free.Code as code
 
 pub free_spec : {M : Type 1} → statement M
 free_spec 𝓤 𝓛 𝓜 𝓡 wired T L =
-    let H = 𝓛.H in let 𝓣 = tables 𝓤 H 𝓜 𝓡 𝓡.env in let R : RattleType = param 0 T in
+    let R : RattleType = param 0 T in
     let E : El = record { row = T; laws = L } in let En = ended T in let c = clauses T 𝓛 𝓜.mem 𝓡.returns in
-    let inst = layouts (a_type ∷ []) (T, tt) in let fn = inst_fn inst code.function in
     let self = plain (λ _. LeavingRow R) in let alloc = RefOf (0 ∷ []) tt (plain (λ _. heap.row)) (λ _. tt) in
     let hs : Stays En.signature.params En.kept = (stay_dropped self no, (stay_dropped alloc yes, tt)) in
-    proved 𝓛 En hs c 𝓜 𝓡 (Goes-blank 𝓛 2 self no (λ κs x f. tt), (Goes-dropped 𝓛 2 alloc yes (λ κs x f. refl), tt))
-    (#self inst) fn (code.unfolded 𝓤 H 𝓜 𝓡 wired (T, tt))
+    walks (at_type T) code.function 𝓛 𝓜 𝓡 En hs c
+    (Goes-blank 𝓛 2 self no (λ κs x f. tt), (Goes-dropped 𝓛 2 alloc yes (λ κs x f. refl), tt))
+    #self (code.unfolded 𝓤 𝓛.H 𝓜 𝓡 wired (T, tt))
     (λ κs. ((λ s. leaving_val s.first s.taken s.filled s.room ∷ []), (shr_vals, tt)))
-    (λ κs. ((lowers R (param_laws 0 T L)).val_is, (shr_Tells (named 0) κs.0 heap.row, tt))) (λ κs qs bounds a gh are.
+    (λ κs. ((lowers R (param_laws 0 T L)).val_is, (shr_Tells (named 0) κs.0 heap.row, tt)))
+    (λ κs qs bounds a gh are go ends.
     let me = a.0 in let p : Ptr = me.first in let taken : ℕ = me.taken in let filled : ℕ = me.filled in
     let room : ℕ = me.room in let at_heap : ℕ × ℕ = a.1.0.ref_ptr in let h : Global = a.1.0.now in
     let κ : Lft = κs.0 in let q : Share = qs.0 in
@@ -49,9 +51,9 @@ free_spec 𝓤 𝓛 𝓜 𝓡 wired T L =
     let others = ‵ (flft κs.1.0 qs.1.0) ⊛ ‵ ftrue in let y : (walk_of 𝓛 En hs c).Ghost =
     ((κs, qs, bounds, a, (leaving_val p taken filled room ∷ [], (vptr at_heap.0 at_heap.1 ∷ [], tt))), gh)
     in let Post : Val → SProp 𝓤 = (walk_of 𝓛 En hs c).post y in
-    let ends : Sq 𝓛 (‵ (flft κ q) ∷ others ∷ []) (prop (Post vunit)) = join ! $ nothing_more ! $
+    let to_end : Sq 𝓛 (‵ (flft κ q) ∷ others ∷ []) (prop (Post vunit)) = join ! $ nothing_more ! $
     feq_i ! (List Val) (vunit ∷ []) (vunit ∷ []) refl $ nothing_more ! $ nothing_more ! $ nothing_more ! $
-    fjoin3 ! $ keep ! (3 ∷ 0 ∷ 1 ∷ 2 ∷ []) $ by ! (leaves 𝓛 En hs c y vunit tt (tt, (tt, tt)) (tt, (tt, tt))) in
+    fjoin3 ! $ keep ! (3 ∷ 0 ∷ 1 ∷ 2 ∷ []) $ by ! (ends vunit tt (tt, (tt, tt)) (tt, (tt, tt))) in
     qed 𝓛 (((‵ (flft κ q) ⊛ others) ⊛ ‵ (owns (types_at En.signature.params κs) a y.0.4))
     ∷ raw (fact 𝓤 _) ∷ raw (fact 𝓤 (me.items ≡ [])) ∷ []) ∵
     keep ! (2 ∷ 0 ∷ []) $ heard ! (me.items ≡ []) (λ empty.
@@ -71,12 +73,12 @@ free_spec 𝓤 𝓛 𝓜 𝓡 wired T L =
     (bare (ty_array τ room)) in let product = uncapped room s bytes in
     -- the contract of the bound names one lifetime more, that of the type parameter
     let k = Gives heap 𝓛 𝓜.mem 𝓡.returns in
-    let gives = λ (x : k.Ghost). spared 𝓛 heap_gives.signature _ (run_framed 𝓤 H 𝓜 𝓡 _) 1 ([], tt)
+    let gives = λ (x : k.Ghost). spared 𝓛 heap_gives.signature _ (run_framed 𝓤 𝓛.H 𝓜 𝓡 _) 1 ([], tt)
     (heap_gives.spec 𝓛 𝓜.mem 𝓡.returns) (met 𝓤 𝓛 𝓜 𝓡 (code.calls-std_heap::GlobalAllocator::deallocate 𝓡.env wired))
     ((x.0.0, x.0.1, tt, x.0.3, x.0.4), x.1) in
-    enter ! 𝓣.C 𝓣.Λ fn (leaving_val p taken filled room ∷ vptr at_heap.0 at_heap.1 ∷ []) Post $
+    go.enters (leaving_val p taken filled room ∷ vptr at_heap.0 at_heap.1 ∷ []) refl $
     alloc_all ! (λ l. pass_all ! refl
-    (leaving-Good p taken filled room taken_fits filled_fits room_fits, ((tt, tt), tt)) $ let Ev = env fn.locals l in
+    (leaving-Good p taken filled room taken_fits filled_fits room_fits, ((tt, tt), tt)) $
     sets ! (is ! (of_opd ! (get_in ! (fld ! refl (stop !)) (sub ! 0 refl (whole !)))) (ap ptr_val at)) refl (tt, tt)
     $ sets ! (of_opd ! (get_in ! (fld ! refl (stop !)) (sub ! 3 refl (whole !))))
     refl (tt, record { fits = room_fits }) $ sets ! (is ! (bin ! (get ! refl) (size_word !)
@@ -96,8 +98,8 @@ free_spec 𝓤 𝓛 𝓜 𝓡 wired T L =
     (Gives-Gives heap 𝓛 𝓜.mem 𝓡.returns κ q at_heap h b o (room * s) (capped (align τ))
     (bare (ty_array τ room)) v) $ await ! tt $ learn ! (λ is_unit.
     lands_last ! refl (subst (λ (z : Val). Holds (has_ty ty_unit z) × WT z) (sym is_unit) (tt, tt)) $
-    exec ! 𝓣.C 𝓣.Λ Ev (after 5 fn.body) (at_ret Ev Post) $ sets ! (of_opd ! (unit_lit !)) refl (tt, tt) $
-    returns ! (look_at ! 0 refl) $ free_all ! refl $ keep ! (0 ∷ 1 ∷ []) $ ends)))
-    (λ no_bytes. skips ! $ exec ! 𝓣.C 𝓣.Λ Ev (after 5 fn.body) (at_ret Ev Post) $
+    go.ahead l 5 $ sets ! (of_opd ! (unit_lit !)) refl (tt, tt) $
+    returns ! (look_at ! 0 refl) $ free_all ! refl $ keep ! (0 ∷ 1 ∷ []) $ to_end)))
+    (λ no_bytes. skips ! $ go.ahead l 5 $
     sets ! (of_opd ! (unit_lit !)) refl (tt, tt) $ returns ! (look_at ! 0 refl) $ free_all ! refl $
-    keep ! (3 ∷ 4 ∷ []) $ ends))))))
+    keep ! (3 ∷ 4 ∷ []) $ to_end))))))

@@ -1,13 +1,14 @@
 -- `take_first` reads the first item that is left, and its place is empty.
-use Rattle.handles.proofs.PlacesWalks.{◌≡◌, ℕ, ◌+◌, ◌-◌, ◌^◌, ◌<◌, List, [], ◌∷◌, refl, sym, ap, ◌∙◌, arith, a_type}
-use Rattle.handles.proofs.PlacesWalks.{named, Val, vptr, inst_fn, full_share, SProp, emp, fat, Lft, Share, ftrue}
-use Rattle.handles.proofs.PlacesWalks.{flft, ‵, raw, ◌⊛◌, some, given, at_ret, ◌$◌, ◌∵◌, !, qed, by, move, keep}
+use Rattle.handles.proofs.PlacesWalks.{at_type, walks}
+use Rattle.handles.proofs.PlacesWalks.{◌≡◌, ℕ, ◌+◌, ◌-◌, ◌^◌, ◌<◌, List, [], ◌∷◌, refl, sym, ap, ◌∙◌, arith}
+use Rattle.handles.proofs.PlacesWalks.{named, Val, vptr, full_share, emp, fat, Lft, Share, ftrue}
+use Rattle.handles.proofs.PlacesWalks.{flft, ‵, raw, ◌⊛◌, some, given, ◌$◌, ◌∵◌, !, qed, by, move, keep}
 use Rattle.handles.proofs.PlacesWalks.{drop, split, split3, join, fsplit, fsplit3, fjoin, fjoin3, pick, learn, use0}
 use Rattle.handles.proofs.PlacesWalks.{use1, use2, rewrite, feq_i, flt_i, flt_l, stop, fld, load, lit, of_opd, first}
-use Rattle.handles.proofs.PlacesWalks.{blocks, exec, returns, enter, alloc_all, pass_all, free_all, look_at, get}
-use Rattle.handles.proofs.PlacesWalks.{through, sets, sets_last, env, sub, whole, look_in, tables, fact, fact_i}
+use Rattle.handles.proofs.PlacesWalks.{blocks, returns, alloc_all, pass_all, free_all, look_at, get}
+use Rattle.handles.proofs.PlacesWalks.{through, sets, sets_last, sub, whole, look_in, fact, fact_i}
 use Rattle.handles.proofs.PlacesWalks.{RattleType, owns, types_at, plain, Ptr, nothing_more, peeks, heard, Is, shows}
-use Rattle.handles.proofs.PlacesWalks.{cell_at, param, layouts, param_laws, Stays, walk_of, after, proved, leaves}
+use Rattle.handles.proofs.PlacesWalks.{cell_at, param, param_laws, Stays, walk_of}
 use Rattle.handles.proofs.PlacesWalks.{elτ, one_below, sz, times_below, LeavingRow, LeavingWords, leaving_val}
 use Rattle.handles.proofs.PlacesWalks.{leaving_words, none_at_null, leaving_own, ◌*◌, ◌≤◌, as_raw, as_written, froom}
 use Rattle.handles.proofs.PlacesWalks.{Array, part_at, in_a_block, mut_Tells, mut_vals, closes, opens, Goes-ref}
@@ -22,27 +23,25 @@ use Rattle.handles.proofs.header_slice.places.Leaving.take_first.Code as code
 
 pub take_first_spec : {M : Type 1} → statement M
 take_first_spec 𝓤 𝓛 𝓜 𝓡 wired T L =
-    let H = 𝓛.H in let 𝓣 = tables 𝓤 H 𝓜 𝓡 𝓡.env in let R : RattleType = param 0 T in
+    let R : RattleType = param 0 T in
     let E : El = record { row = T; laws = L } in let En = ended T in let c = clauses T 𝓛 𝓜.mem 𝓡.returns in
-    let inst = layouts (a_type ∷ []) (T, tt) in let fn = inst_fn inst code.function in
     let Self : RattleType = LeavingRow R in let row = plain (λ _. Self) in
     let hs : Stays En.signature.params En.kept = (stay_ref (0 ∷ []) tt row, tt) in
-    proved 𝓛 En hs c 𝓜 𝓡 (Goes-ref 𝓛 2 0 tt row, tt) (#self inst)
-    fn (code.unfolded 𝓤 H 𝓜 𝓡 wired (T, tt)) (λ κs. (mut_vals, tt)) (λ κs.
-    (mut_Tells (named 0) κs.0 Self, tt)) (λ κs qs bounds a gh are.
+    walks (at_type T) code.function 𝓛 𝓜 𝓡 En hs c (Goes-ref 𝓛 2 0 tt row, tt) #self
+    (code.unfolded 𝓤 𝓛.H 𝓜 𝓡 wired (T, tt)) (λ κs. (mut_vals, tt)) (λ κs.
+    (mut_Tells (named 0) κs.0 Self, tt)) (λ κs qs bounds a gh are go ends.
     let b : ℕ = a.0.ref_ptr.0 in let o : ℕ = a.0.ref_ptr.1 in let κ : Lft = κs.0 in let q : Share = qs.0 in
     let me : Self.Denot = a.0.now in let p : Ptr = me.first in let taken : ℕ = me.taken in
     let filled : ℕ = me.filled in let room : ℕ = me.room in
     let y : (walk_of 𝓛 En hs c).Ghost = ((κs, qs, bounds, a, (vptr b o ∷ [], tt)), gh) in
-    let Post : Val → SProp 𝓤 = (walk_of 𝓛 En hs c).post y in let others = ‵ (flft κs.1.0 qs.1.0) ⊛ ‵ ftrue in
+    let others = ‵ (flft κs.1.0 qs.1.0) ⊛ ‵ ftrue in
     qed 𝓛 (((‵ (flft κ q) ⊛ others) ⊛ ‵ (owns (types_at En.signature.params κs) a y.0.4))
     ∷ raw (fact 𝓤 _) ∷ raw (fact 𝓤 (0 < length me.items)) ∷ []) ∵
     keep ! (2 ∷ 0 ∷ []) $ heard ! (0 < length me.items) (λ asked. let one = first_of me.items asked in
     let x : T.Denot = one.0 in let later : List T.Denot = one.1.0 in let is_first : me.items ≡ x ∷ later = one.1.1 in
     split ! $ split ! $ move ! (2 ∷ []) $ fsplit ! $ fsplit3 ! $ keep ! (1 ∷ 2 ∷ 4 ∷ 5 ∷ []) $
     -- [the reference's two parts; its token; the other tokens]
-    enter ! 𝓣.C 𝓣.Λ fn (vptr b o ∷ []) Post $ alloc_all ! (λ l. pass_all ! refl ((tt, tt), tt) $
-    let Ev = env fn.locals l in
+    go.enters (vptr b o ∷ []) refl $ alloc_all ! (λ l. pass_all ! refl ((tt, tt), tt) $
     opens ! tt Self {h = me} b o (λ vs. move ! (1 ∷ []) $ peeks ! Self (Is Self) (shows 𝓛 Self) me vs (λ is.
     let taken_fits : taken < 2 ^ 64 = is.0.1.1.1.0.1 in let filled_fits : filled < 2 ^ 64 = is.0.1.1.1.1.0.1 in
     let room_fits : room < 2 ^ 64 = is.0.1.1.1.1.1.0.1 in let word = (lowers R (param_laws 0 T L)).val_is me vs is in
@@ -71,7 +70,7 @@ take_first_spec 𝓤 𝓛 𝓜 𝓡 wired T L =
     sets ! (bin ! (get ! refl) (size_lit ! (record { fits = tiny })) (record { fits = far }))
     refl (tt, record { fits = far }) $ sets ! (bin ! (get ! refl) (get ! refl) tt) refl (tt, tt) $
     sets_last ! (of_opd ! (load ! (through ! refl (stop !)) (look ! 0 refl))) refl good $
-    exec ! 𝓣.C 𝓣.Λ Ev (after 4 fn.body) (at_ret Ev Post) $ sets ! (of_opd ! (get ! refl)) refl good $
+    go.ahead l 4 $ sets ! (of_opd ! (get ! refl)) refl good $
     let new : Self.Denot = record {
       first = p;
       taken = taken + 1;
@@ -95,4 +94,4 @@ take_first_spec 𝓤 𝓛 𝓜 𝓡 wired T L =
     move ! (1 ∷ 0 ∷ []) $ fjoin ! $ move ! (1 ∷ 3 ∷ []) $ join ! $
     use0 𝓛 (raw (fact 𝓤 (me.items ≡ x ∷ later))) (fact_i 𝓤 (me.items ≡ x ∷ later) (emp 𝓤)
     is_first) $ returns ! (look_at ! 0 refl) $ free_all ! refl $ keep ! (1 ∷ 2 ∷ 3 ∷ 0 ∷ []) $
-    by ! (leaves 𝓛 En hs c y v x (new, tt) (tt, tt)))))))))))
+    by ! (ends v x (new, tt) (tt, tt)))))))))))

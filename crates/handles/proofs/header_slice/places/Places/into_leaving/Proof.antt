@@ -1,11 +1,12 @@
 -- `into_leaving` makes of the places those that no item has left yet.
-use Rattle.handles.proofs.PlacesWalks.{◌≡◌, ℕ, ◌^◌, ◌<◌, [], ◌∷◌, refl, lit<, arith, a_type, Val, inst_fn, SProp}
+use Rattle.handles.proofs.PlacesWalks.{at_type, walks}
+use Rattle.handles.proofs.PlacesWalks.{◌≡◌, ℕ, ◌^◌, ◌<◌, [], ◌∷◌, refl, lit<, arith}
 use Rattle.handles.proofs.PlacesWalks.{emp, ftrue, flft, ‵, raw, ◌⊛◌, ◌$◌, ◌∵◌, !, qed, by, move, keep, split}
 use Rattle.handles.proofs.PlacesWalks.{fsplit, fjoin, use0, use1, stop, fld, lit, of_opd, no_more, and_then, returns}
-use Rattle.handles.proofs.PlacesWalks.{enter, alloc_all, pass_all, free_all, look_at, get, get_in, sets, agg, sub}
-use Rattle.handles.proofs.PlacesWalks.{whole, tables, fact, fact_i, no, RattleType, owns, types_at, plain, Ptr}
-use Rattle.handles.proofs.PlacesWalks.{nothing_more, param, layouts, param_laws, Stays, stay_dropped, walk_of}
-use Rattle.handles.proofs.PlacesWalks.{proved, leaves, Goes-blank, LeavingRow, LeavingWords, leaving-Good}
+use Rattle.handles.proofs.PlacesWalks.{alloc_all, pass_all, free_all, look_at, get, get_in, sets, agg, sub}
+use Rattle.handles.proofs.PlacesWalks.{whole, fact, fact_i, no, RattleType, owns, types_at, plain, Ptr}
+use Rattle.handles.proofs.PlacesWalks.{nothing_more, param, param_laws, Stays, stay_dropped, walk_of}
+use Rattle.handles.proofs.PlacesWalks.{Goes-blank, LeavingRow, LeavingWords, leaving-Good}
 use Rattle.handles.proofs.PlacesWalks.{leaving_val, leaving_words, PlacesRow, places_val, leaving_own, places-Good}
 use Rattle.handles.proofs.PlacesWalks.{none_left}
 use Rattle.core.proofs.atomic.Steps.{Ptr-Good}
@@ -17,17 +18,15 @@ use Rattle.handles.proofs.header_slice.places.Places.into_leaving.Code as code
 
 pub into_leaving_spec : {M : Type 1} → statement M
 into_leaving_spec 𝓤 𝓛 𝓜 𝓡 wired T L =
-    let H = 𝓛.H in let 𝓣 = tables 𝓤 H 𝓜 𝓡 𝓡.env in let R : RattleType = param 0 T in
-    let En = ended T in let c = clauses T 𝓛 𝓜.mem 𝓡.returns in
-    let inst = layouts (a_type ∷ []) (T, tt) in let fn = inst_fn inst code.function in
+    let R : RattleType = param 0 T in let En = ended T in let c = clauses T 𝓛 𝓜.mem 𝓡.returns in
     let self = plain (λ _. PlacesRow R) in let hs : Stays En.signature.params En.kept = (stay_dropped self no, tt) in
-    proved 𝓛 En hs c 𝓜 𝓡 (Goes-blank 𝓛 1 self no (λ κs x f. tt), tt) (#self inst)
-    fn (code.unfolded 𝓤 H 𝓜 𝓡 wired (T, tt)) (λ κs. ((λ s. places_val s.first s.filled s.room ∷ []), tt))
-    (λ κs. ((lowers R (param_laws 0 T L)).val_is, tt)) (λ κs qs bounds a gh are.
+    walks (at_type T) code.function 𝓛 𝓜 𝓡 En hs c (Goes-blank 𝓛 1 self no (λ κs x f. tt), tt) #self
+    (code.unfolded 𝓤 𝓛.H 𝓜 𝓡 wired (T, tt)) (λ κs. ((λ s. places_val s.first s.filled s.room ∷ []), tt))
+    (λ κs. ((lowers R (param_laws 0 T L)).val_is, tt)) (λ κs qs bounds a gh are go ends.
     let me = a.0 in let p : Ptr = me.first in let filled : ℕ = me.filled in let room : ℕ = me.room in
     let filled_fits : filled < 2 ^ 64 = are.0.0.1.1.1.0.1 in let room_fits : room < 2 ^ 64 = are.0.0.1.1.1.1.0.1 in
     let y : (walk_of 𝓛 En hs c).Ghost = ((κs, qs, bounds, a, (places_val p filled room ∷ [], tt)), gh) in
-    let Post : Val → SProp 𝓤 = (walk_of 𝓛 En hs c).post y in let new : (LeavingRow R).Denot = record {
+    let new : (LeavingRow R).Denot = record {
       first = p;
       taken = 0;
       filled = filled;
@@ -39,7 +38,7 @@ into_leaving_spec 𝓤 𝓛 𝓜 𝓡 wired T L =
     ∷ []) ∵ split ! $ move ! (1 ∷ []) $ fsplit ! $ fsplit ! $ keep ! (1 ∷ 3 ∷ []) $
     -- [what the places own; the tokens]
     use1 𝓛 (‵ (leaving_own R p 0 filled room me.items)) (none_left R 𝓛 p filled room me.items) $
-    enter ! 𝓣.C 𝓣.Λ fn (places_val p filled room ∷ []) Post $
+    go.enters (places_val p filled room ∷ []) refl $
     alloc_all ! (λ l. pass_all ! refl (places-Good p filled room filled_fits room_fits, tt) $
     sets ! (of_opd ! (get_in ! (fld ! refl (stop !)) (sub ! 0 refl (whole !)))) refl (Ptr-Good p) $
     sets ! (of_opd ! (get_in ! (fld ! refl (stop !)) (sub ! 1 refl (whole !))))
@@ -52,4 +51,4 @@ into_leaving_spec 𝓤 𝓛 𝓜 𝓡 wired T L =
     use0 𝓛 (raw (fact 𝓤 (me.items ≡ me.items))) (fact_i 𝓤 (me.items ≡ me.items) (emp 𝓤) refl) $
     nothing_more ! $ nothing_more ! $ fjoin ! $
     returns ! (look_at ! 0 refl) $ free_all ! refl $ keep ! (3 ∷ 0 ∷ 2 ∷ 1 ∷ []) $
-    by ! (leaves 𝓛 En hs c y (leaving_val p 0 filled room) new (tt, tt) (tt, tt))))
+    by ! (ends (leaving_val p 0 filled room) new (tt, tt) (tt, tt))))

@@ -1,13 +1,14 @@
 -- `push` writes an item into the first place after the others.
-use Rattle.handles.proofs.PlacesWalks.{ℕ, ◌+◌, ◌-◌, ◌^◌, ◌<◌, List, [], ◌∷◌, ◌++◌, refl, sym, ap, ◌∙◌, subst, arith}
-use Rattle.handles.proofs.PlacesWalks.{a_type, Val, vptr, vunit, inst_fn, full_share, SProp, ent, id⊢, ftrue, flft}
-use Rattle.handles.proofs.PlacesWalks.{WpFn, ‵, raw, ◌⊛◌, at_ret, ◌$◌, ◌∵◌, !, qed, move, keep, drop, split, split3}
+use Rattle.handles.proofs.PlacesWalks.{at_type, walks_at}
+use Rattle.handles.proofs.PlacesWalks.{ℕ, ◌+◌, ◌-◌, ◌^◌, ◌<◌, List, [], ◌∷◌, ◌++◌, refl, sym, ap, ◌∙◌, arith}
+use Rattle.handles.proofs.PlacesWalks.{Val, vptr, vunit, full_share, ftrue, flft}
+use Rattle.handles.proofs.PlacesWalks.{‵, raw, ◌⊛◌, ◌$◌, ◌∵◌, !, qed, move, keep, drop, split, split3}
 use Rattle.handles.proofs.PlacesWalks.{join, fsplit3, fjoin, fjoin3, use1, use2, rewrite, feq_i, suffices, done}
-use Rattle.handles.proofs.PlacesWalks.{unit_lit, stop, fld, load, lit, of_opd, first, blocks, exec, returns, enter}
-use Rattle.handles.proofs.PlacesWalks.{alloc_all, pass_all, free_all, look_at, get, through, sets, env, sub, whole}
-use Rattle.handles.proofs.PlacesWalks.{look_in, tables, fact, no, RattleType, owns, types_at, plain, block_ptr}
-use Rattle.handles.proofs.PlacesWalks.{nothing_more, heard, cell_at, param, layouts, Stays, stay_dropped, walk_of}
-use Rattle.handles.proofs.PlacesWalks.{Goes-dropped, after, proved_at, elτ, one_below, sz, times_below, PlacesRow}
+use Rattle.handles.proofs.PlacesWalks.{unit_lit, stop, fld, load, lit, of_opd, first, blocks, returns}
+use Rattle.handles.proofs.PlacesWalks.{alloc_all, pass_all, free_all, look_at, get, through, sets, sub, whole}
+use Rattle.handles.proofs.PlacesWalks.{look_in, fact, no, RattleType, owns, types_at, plain, block_ptr}
+use Rattle.handles.proofs.PlacesWalks.{nothing_more, heard, cell_at, param, Stays, stay_dropped}
+use Rattle.handles.proofs.PlacesWalks.{Goes-dropped, elτ, one_below, sz, times_below, PlacesRow}
 use Rattle.handles.proofs.PlacesWalks.{places_val, places_opens, ◌*◌, as_raw, as_written, froom, Array, part_at}
 use Rattle.handles.proofs.PlacesWalks.{closes, opens, Goes-ref, stay_ref, ty_array, store_in, assigns, bin, size_lit}
 use Rattle.handles.proofs.PlacesWalks.{init, assigns_last, ends_at, el_in, spare, snoc, places_shuts}
@@ -22,18 +23,17 @@ use Rattle.handles.proofs.header_slice.places.Places.push.Code as code
 
 pub push_spec : {M : Type 1} → statement M
 push_spec 𝓤 𝓛 𝓜 𝓡 wired T L =
-    let H = 𝓛.H in let 𝓣 = tables 𝓤 H 𝓜 𝓡 𝓡.env in let R : RattleType = param 0 T in
-    let Self : RattleType = PlacesRow R in let En = ended T in let c = clauses T 𝓛 𝓜.mem 𝓡.returns in
-    let E : El = record { row = T; laws = L } in let inst = layouts (a_type ∷ []) (T, tt) in
-    let fn = inst_fn inst code.function in let places = plain (λ _. Self) in let item = plain (λ _. R) in
+    let R : RattleType = param 0 T in let En = ended T in let c = clauses T 𝓛 𝓜.mem 𝓡.returns in
+    let Self : RattleType = PlacesRow R in
+    let E : El = record { row = T; laws = L } in
+    let places = plain (λ _. Self) in let item = plain (λ _. R) in
     let hs : Stays En.signature.params En.kept = (stay_ref (0 ∷ []) tt places, (stay_dropped item no, tt)) in
-    proved_at 𝓛 En hs c 𝓜 𝓡 (Goes-ref 𝓛 2 0 tt places, (Goes-dropped 𝓛 2 item no (λ κs x f. refl), tt))
-    (#self inst) fn (code.unfolded 𝓤 H 𝓜 𝓡 wired (T, tt)) (λ z are.
+    walks_at (at_type T) code.function 𝓛 𝓜 𝓡 En hs c
+    (Goes-ref 𝓛 2 0 tt places, (Goes-dropped 𝓛 2 item no (λ κs x f. refl), tt))
+    #self (code.unfolded 𝓤 𝓛.H 𝓜 𝓡 wired (T, tt)) (λ z are go ends.
     let κs = z.0.0 in let qs = z.0.1 in let me = z.0.3.0 in let h : Self.Denot = me.now in
     let x : T.Denot = z.0.3.1.0 in let rb : ℕ = me.ref_ptr.0 in let ro : ℕ = me.ref_ptr.1 in
     let n : ℕ = h.filled in let room : ℕ = h.room in let xs : List T.Denot = h.items in let s : ℕ = sz E in
-    let Post : Val → SProp 𝓤 = (walk_of 𝓛 En hs c).post z in
-    let Run : List Val → SProp 𝓤 = λ ws. WpFn 𝓤 H 𝓣.C 𝓣.Λ fn ws Post in
     let P : param_steps.El = record { row = T; laws = L } in
     let is_item = param_steps.one P z.0.4.1.0 ((param_steps.lawful P 𝓛).typed x z.0.4.1.0 are.1.0) in
     let v : Val = is_item.0 in let toks = ‵ (flft κs.0 qs.0) ⊛ ‵ (flft κs.1.0 qs.1.0) ⊛ ‵ ftrue in
@@ -42,10 +42,9 @@ push_spec 𝓤 𝓛 𝓜 𝓡 wired T L =
     keep ! (2 ∷ 0 ∷ []) $ heard ! (n < room) (λ below. split ! $ split3 ! $ move ! (3 ∷ []) $ fsplit3 ! $
     fsplit3 ! $ drop ! $ move ! (0 ∷ 1 ∷ 4 ∷ 2 ∷ []) $
     -- [the reference's two parts; its token; the item; nothing; the token of T]
-    suffices ! (Run (vptr rb ro ∷ v ∷ [])) (subst (λ (us : List Val). ent 𝓤 (Run (vptr rb ro ∷ v ∷ []))
-    (Run us)) (sym (λ j. are.0.0 j ++ (is_item.1 j ++ []))) (id⊢ 𝓤 (Run (vptr rb ro ∷ v ∷ [])))) $
-    rewrite ! 3 (λ (us : List Val). ‵ (T.own_val x us)) is_item.1 refl $ enter ! 𝓣.C 𝓣.Λ fn (vptr rb ro ∷ v ∷ []) Post $
-    alloc_all ! (λ l. pass_all ! refl ((tt, tt), (is_item.2, tt)) $ let Ev = env fn.locals l in
+    rewrite ! 3 (λ (us : List Val). ‵ (T.own_val x us)) is_item.1 refl $ go.enters (vptr rb ro ∷ v ∷ [])
+    (λ j. are.0.0 j ++ (is_item.1 j ++ [])) $
+    alloc_all ! (λ l. pass_all ! refl ((tt, tt), (is_item.2, tt)) $
     opens ! tt Self {h = h} rb ro (λ vs. move ! (1 ∷ []) $
     places_opens R ! h vs (λ b o at words small_filled small_room fits. let τ = elτ E in
     let tiny : s < 2 ^ 64 = omega (arith, one_below room s (2 ^ 63) (omega arith) fits) in
@@ -70,7 +69,7 @@ push_spec 𝓤 𝓛 𝓜 𝓡 wired T L =
     refl (tt, record { fits = far }) $
     sets ! (bin ! (get ! refl) (get ! refl) tt) refl (tt, tt) $ sets ! (of_opd ! (get ! refl)) refl is_item.2 $
     assigns_last ! (of_opd ! (get ! refl)) (through ! refl (stop !)) (init ! 0 refl is_item.2) $
-    exec ! 𝓣.C 𝓣.Λ Ev (after 2 fn.body) (at_ret Ev Post) $
+    go.ahead l 2 $
     sets ! (bin ! (get ! refl) (lit ! tt) (record { fits = more })) refl (tt, record { fits = more }) $
     assigns ! (of_opd ! (get ! refl)) (through ! refl (fld ! refl (stop !)))
     (store_in ! 4 (sub ! 1 refl (whole !)) (tt, record { fits = more })) $

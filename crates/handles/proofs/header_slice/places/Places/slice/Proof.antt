@@ -1,12 +1,12 @@
 -- `slice` shows the items that the places lend. Assumes `Logic`.
-use Rattle.handles.proofs.PlacesWalks.{◌≡◌, ℕ, ◌^◌, ◌<◌, List, [], ◌∷◌, refl, sym, ap, ◌∙◌, subst, a_type, Val, vptr}
-use Rattle.handles.proofs.PlacesWalks.{inst_fn, id⊢, Lft, fhide, ‵, raw, ◌⊛◌, at_ret, ◌$◌, !, by, move, keep, drop}
+use Rattle.handles.proofs.PlacesWalks.{◌≡◌, ℕ, ◌^◌, ◌<◌, List, [], ◌∷◌, refl, sym, ap, ◌∙◌, subst, Val}
+use Rattle.handles.proofs.PlacesWalks.{id⊢, Lft, fhide, ‵, raw, ◌⊛◌, ◌$◌, !, by, move, keep, drop}
 use Rattle.handles.proofs.PlacesWalks.{split, fsplit, fjoin, use1, rewrite, feq_i, flt_i, flt_l, stop, fld, load}
-use Rattle.handles.proofs.PlacesWalks.{of_opd, no_more, and_then, first, blocks, exec, returns, enter, alloc_all}
-use Rattle.handles.proofs.PlacesWalks.{pass_all, free_all, look_at, get, through, sets, sets_last, env, agg, sub}
-use Rattle.handles.proofs.PlacesWalks.{whole, look_in, tables, fact, fact_i, RattleType, Ptr, InBlock, block_ptr}
+use Rattle.handles.proofs.PlacesWalks.{of_opd, no_more, and_then, first, blocks, returns, alloc_all}
+use Rattle.handles.proofs.PlacesWalks.{pass_all, free_all, look_at, get, through, sets, sets_last, agg, sub}
+use Rattle.handles.proofs.PlacesWalks.{whole, look_in, fact, fact_i, RattleType, Ptr, InBlock, block_ptr}
 use Rattle.handles.proofs.PlacesWalks.{block_of, offset_of, at_block, peeks, heard, looks, shuts, Is, shows, cell_at}
-use Rattle.handles.proofs.PlacesWalks.{param, layouts, after, PlacesRow, places_val, ◌*◌, ◌≤◌, type_size, slice_val}
+use Rattle.handles.proofs.PlacesWalks.{param, PlacesRow, places_val, ◌*◌, ◌≤◌, type_size, slice_val}
 use Rattle.handles.proofs.PlacesWalks.{length, hidden_shr, in_block_says, words_open}
 use native.Mathlib.Nat.{mul-le-mul_right, lt_of_le_of_lt}
 use denote.Opens.{unhide, hide}
@@ -21,15 +21,12 @@ use Rattle.handles.proofs.OneParam.{by_ref, so}
 
 pub slice_spec : {M : Type 1} → statement M
 slice_spec 𝓤 𝓛 𝓜 𝓡 wired T L =
-    let 𝓣 = tables 𝓤 𝓛.H 𝓜 𝓡 𝓡.env in let R : RattleType = param 0 T in
-    let inst = layouts (a_type ∷ []) (T, tt) in let fn = inst_fn inst code.function in
-    by_ref (PlacesRow R) tt 𝓛 𝓜 𝓡 (clauses T 𝓛 𝓜.mem 𝓡.returns)
-    (λ κs a. Unit {0}) (λ κs a gh. fact_i 𝓤 _ _ tt) (#self inst) fn (code.unfolded 𝓤 𝓛.H 𝓜 𝓡 wired (T, tt))
-    (λ κs qs a gh Post asked ends. let b : ℕ = a.ref_ptr.0 in let o : ℕ = a.ref_ptr.1 in let κ : Lft = κs.0 in
+    let R : RattleType = param 0 T in by_ref (PlacesRow R) tt 𝓛 𝓜 𝓡 (clauses T 𝓛 𝓜.mem 𝓡.returns)
+    (λ κs a. Unit {0}) (λ κs a gh. fact_i 𝓤 _ _ tt) T #self code.function (code.unfolded 𝓤 𝓛.H 𝓜 𝓡 wired (T, tt))
+    (λ κs qs a gh Post asked ends go. let b : ℕ = a.ref_ptr.0 in let o : ℕ = a.ref_ptr.1 in let κ : Lft = κs.0 in
     let s = a.now in let p : Ptr = s.first in let pb : ℕ = block_of p in let po : ℕ = offset_of p in
     let D : RattleType = PlacesWords R in let O = PlacesType R in
-    enter ! 𝓣.C 𝓣.Λ fn (vptr b o ∷ []) Post $ alloc_all ! (λ l. pass_all ! refl ((tt, tt), tt) $
-    let Ev = env fn.locals l in
+    alloc_all ! (λ l. pass_all ! refl ((tt, tt), tt) $
     use1 𝓛 (‵ (hidden_shr D κ (to O s) b o) ⊛ ‵ (fhide (places_share R p s.filled s.room s.items κ)))
     (id⊢ 𝓤 _) $ split ! $ move ! (1 ∷ []) $ unhide ! $ fsplit ! $ flt_l ! (λ fit. fsplit ! $
     use1 𝓛 (raw (fact 𝓤 (InBlock p))) (in_block_says 𝓛 p) $ heard ! (InBlock p) (λ inb. fsplit ! $ drop ! $ hide ! $
@@ -49,7 +46,7 @@ slice_spec 𝓤 𝓛 𝓜 𝓡 wired T L =
     refl (tt, record { fits = fits }) $
     rewrite ! 1 Cell (sym ev) refl $ move ! (1 ∷ 0 ∷ 2 ∷ []) $ shuts ! tt D r (to O s) vs b o $
     move ! (1 ∷ []) $ drop ! $ sets_last ! (agg ! (and_then ! (get ! refl) (and_then ! (get ! refl) (no_more !))))
-    refl (tt, (tt, (record { fits = fits }, tt))) $ exec ! 𝓣.C 𝓣.Λ Ev (after 1 fn.body) (at_ret Ev Post) $
+    refl (tt, (tt, (record { fits = fits }, tt))) $ go.ahead l 1 $
     sets ! (of_opd ! (get ! refl)) refl (tt, (tt, (record { fits = fits }, tt))) $
     move ! (1 ∷ []) $ flt_i ! (n * type_size R) (2 ^ 63) small $
     flt_i ! n (2 ^ 64) (subst (λ (k : ℕ). k < 2 ^ 64) long fits) $ fjoin ! $

@@ -1,13 +1,14 @@
 -- `slice_mut` lends the items, and the places follow them.
-use Rattle.handles.proofs.PlacesWalks.{◌≡◌, ℕ, ◌^◌, ◌<◌, List, [], ◌∷◌, refl, sym, arith, a_type, named, Val, vptr}
-use Rattle.handles.proofs.PlacesWalks.{inst_fn, full_share, SProp, emp, Lft, Share, ftrue, flft, sem, ‵, raw, ◌⊛◌}
-use Rattle.handles.proofs.PlacesWalks.{some, later, at_ret, ◌$◌, ◌∵◌, !, qed, by, move, keep, drop, split, split3}
+use Rattle.handles.proofs.PlacesWalks.{at_type, walks}
+use Rattle.handles.proofs.PlacesWalks.{◌≡◌, ℕ, ◌^◌, ◌<◌, List, [], ◌∷◌, refl, sym, arith, named, Val, vptr}
+use Rattle.handles.proofs.PlacesWalks.{full_share, SProp, emp, Lft, Share, ftrue, flft, sem, ‵, raw, ◌⊛◌}
+use Rattle.handles.proofs.PlacesWalks.{some, later, ◌$◌, ◌∵◌, !, qed, by, move, keep, drop, split, split3}
 use Rattle.handles.proofs.PlacesWalks.{join, fsplit, fsplit3, fjoin, fjoin3, pick, use0, use1, await, rewrite, stop}
-use Rattle.handles.proofs.PlacesWalks.{fld, load, of_opd, no_more, and_then, first, blocks, exec, returns, enter}
-use Rattle.handles.proofs.PlacesWalks.{alloc_all, pass_all, free_all, look_at, get, through, sets, sets_last, env}
-use Rattle.handles.proofs.PlacesWalks.{agg, sub, whole, look_in, tables, fact, fact_i, no, RattleType, owns}
-use Rattle.handles.proofs.PlacesWalks.{types_at, plain, nothing_more, cell_at, param, layouts, Stays, stay_dropped}
-use Rattle.handles.proofs.PlacesWalks.{walk_of, after, proved, leaves, times_below, PlacesRow, places_opens, ◌*◌}
+use Rattle.handles.proofs.PlacesWalks.{fld, load, of_opd, no_more, and_then, first, blocks, returns}
+use Rattle.handles.proofs.PlacesWalks.{alloc_all, pass_all, free_all, look_at, get, through, sets, sets_last}
+use Rattle.handles.proofs.PlacesWalks.{agg, sub, whole, look_in, fact, fact_i, no, RattleType, owns}
+use Rattle.handles.proofs.PlacesWalks.{types_at, plain, nothing_more, cell_at, param, Stays, stay_dropped}
+use Rattle.handles.proofs.PlacesWalks.{walk_of, times_below, PlacesRow, places_opens, ◌*◌}
 use Rattle.handles.proofs.PlacesWalks.{type_size, Array, mut_Tells, mut_vals, slice_val, opens, length, GName, group}
 use Rattle.handles.proofs.PlacesWalks.{mem, Goes-spent_ref, Beside, items_out, items_back}
 use types.SemTy.{cells}
@@ -24,23 +25,20 @@ use Rattle.handles.proofs.header_slice.places.Places.slice_mut.Code as code
 
 pub slice_mut_spec : {M : Type 1} → statement M
 slice_mut_spec 𝓤 𝓛 𝓜 𝓡 wired T L =
-    let H = 𝓛.H in let 𝓣 = tables 𝓤 H 𝓜 𝓡 𝓡.env in let R : RattleType = param 0 T in
-    let Self : RattleType = PlacesRow R in let En = ended T in let c = clauses T 𝓛 𝓜.mem 𝓡.returns in
-    let inst = layouts (a_type ∷ []) (T, tt) in let fn = inst_fn inst code.function in let places = plain (λ _. Self) in
+    let R : RattleType = param 0 T in let En = ended T in let c = clauses T 𝓛 𝓜.mem 𝓡.returns in
+    let Self : RattleType = PlacesRow R in let places = plain (λ _. Self) in
     let hs : Stays En.signature.params En.kept = (stay_dropped (mut_ref_to (0 ∷ []) tt places) no, tt) in
-    proved 𝓛 En hs c 𝓜 𝓡 (Goes-spent_ref 𝓛 2 (0 ∷ []) tt places, tt) (#self inst)
-    fn (code.unfolded 𝓤 H 𝓜 𝓡 wired (T, tt)) (λ κs. (mut_vals, tt)) (λ κs.
-    (mut_Tells (named 0) κs.0 Self, tt)) (λ κs qs bounds a gh are.
+    walks (at_type T) code.function 𝓛 𝓜 𝓡 En hs c (Goes-spent_ref 𝓛 2 (0 ∷ []) tt places, tt) #self
+    (code.unfolded 𝓤 𝓛.H 𝓜 𝓡 wired (T, tt)) (λ κs. (mut_vals, tt)) (λ κs.
+    (mut_Tells (named 0) κs.0 Self, tt)) (λ κs qs bounds a gh are go ends.
     let κ : Lft = κs.0 in let q : Share = qs.0 in let h : Self.Denot = a.0.now in
     let γ : GName = a.0.ghost_name in let rb : ℕ = a.0.ref_ptr.0 in let ro : ℕ = a.0.ref_ptr.1 in
     let xs : List T.Denot = h.items in
     let y : (walk_of 𝓛 En hs c).Ghost = ((κs, qs, bounds, a, (vptr rb ro ∷ [], tt)), gh) in
-    let Post : Val → SProp 𝓤 = (walk_of 𝓛 En hs c).post y in
     let toks = ‵ (flft κ q) ⊛ ‵ (flft κs.1.0 qs.1.0) ⊛ ‵ ftrue in
     qed 𝓛 ((toks ⊛ ‵ (owns (types_at En.signature.params κs) a y.0.4)) ∷ raw (fact 𝓤 _) ∷ ‵ ftrue ∷ []) ∵
     keep ! (0 ∷ []) $ split ! $ split3 ! $ move ! (3 ∷ []) $ fsplit ! $ fsplit3 ! $ drop ! $
-    enter ! 𝓣.C 𝓣.Λ fn (vptr rb ro ∷ []) Post $ alloc_all ! (λ l. pass_all ! refl ((tt, tt), tt) $
-    let Ev = env fn.locals l in
+    go.enters (vptr rb ro ∷ []) refl $ alloc_all ! (λ l. pass_all ! refl ((tt, tt), tt) $
     -- [the reference's two parts; its token; nothing; the token of T]
     move ! (0 ∷ 1 ∷ 3 ∷ []) $ opens ! tt Self {h = h} rb ro (λ vs. move ! (1 ∷ []) $
     places_opens R ! h vs (λ b o at words small_filled small_room fits.
@@ -53,7 +51,7 @@ slice_mut_spec 𝓤 𝓛 𝓜 𝓡 wired T L =
     refl (tt, tt) $ sets ! (of_opd ! (load ! (through ! refl (fld ! refl (stop !)))
     (look_in ! 3 (sub ! 1 refl (whole !))))) refl (tt, record { fits = small_filled }) $
     sets_last ! (agg ! (and_then ! (get ! refl) (and_then ! (get ! refl) (no_more !))))
-    refl (tt, (tt, (record { fits = small_filled }, tt))) $ exec ! 𝓣.C 𝓣.Λ Ev (after 1 fn.body) (at_ret Ev Post) $
+    refl (tt, (tt, (record { fits = small_filled }, tt))) $ go.ahead l 1 $
     sets ! (of_opd ! (get ! refl)) refl (tt, (tt, (record { fits = small_filled }, tt))) $
     use1 𝓛 (‵ (cells (mem R) xs b o)) (items_out T L 𝓛 h b o) $ move ! (1 ∷ 2 ∷ 3 ∷ []) $ fjoin3 ! $
     move ! (2 ∷ 3 ∷ 4 ∷ 1 ∷ 0 ∷ []) $ group ! 5 $ use1 𝓛 (later (some (λ (δ : GName). ‵ ((MutSlice (named 0)
@@ -68,4 +66,4 @@ slice_mut_spec 𝓤 𝓛 𝓜 𝓡 wired T L =
     use0 𝓛 (raw (fact 𝓤 (xs ≡ xs))) (fact_i 𝓤 (xs ≡ xs) (emp 𝓤) refl) $ move ! (3 ∷ 0 ∷ []) $
     join ! $ nothing_more ! $ nothing_more ! $ fjoin ! $
     returns ! (look_at ! 0 refl) $ free_all ! refl $ keep ! (2 ∷ 0 ∷ 3 ∷ 1 ∷ []) $
-    by ! (leaves 𝓛 En hs c y (slice_val (b, o) h.filled) lent (tt, tt) (tt, tt)))))))
+    by ! (ends (slice_val (b, o) h.filled) lent (tt, tt) (tt, tt)))))))

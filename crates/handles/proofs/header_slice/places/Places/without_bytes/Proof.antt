@@ -1,11 +1,12 @@
 -- `without_bytes` makes places that hold nothing yet and take no memory, at the address of an empty array.
-use Rattle.handles.proofs.PlacesWalks.{◌≡◌, ℕ, ◌^◌, ◌<◌, Bool, [], ◌∷◌, refl, lit<, arith, w64, a_type, Val, vint}
-use Rattle.handles.proofs.PlacesWalks.{inst_fn, SProp, emp, ftrue, flft, ‵, raw, ◌⊛◌, ◌$◌, ◌∵◌, !, qed, by, move}
+use Rattle.handles.proofs.PlacesWalks.{at_type, walks}
+use Rattle.handles.proofs.PlacesWalks.{◌≡◌, ℕ, ◌^◌, ◌<◌, Bool, [], ◌∷◌, refl, lit<, arith, w64, Val, vint}
+use Rattle.handles.proofs.PlacesWalks.{emp, ftrue, flft, ‵, raw, ◌⊛◌, ◌$◌, ◌∵◌, !, qed, by, move}
 use Rattle.handles.proofs.PlacesWalks.{keep, drop, split, join, fjoin, use0, rewrite, stop, addr, lit, no_more}
-use Rattle.handles.proofs.PlacesWalks.{and_then, returns, enter, alloc_all, pass_all, free_all, look_at, get, sets}
-use Rattle.handles.proofs.PlacesWalks.{agg, tables, fact, fact_i, yes, RattleType, owns, types_at, plain, block_ptr}
-use Rattle.handles.proofs.PlacesWalks.{nothing_more, heard, param, layout, layouts, Stays, stay_dropped, walk_of}
-use Rattle.handles.proofs.PlacesWalks.{Goes-dropped, proved, leaves, PlacesRow, places_val, places_made}
+use Rattle.handles.proofs.PlacesWalks.{and_then, returns, alloc_all, pass_all, free_all, look_at, get, sets}
+use Rattle.handles.proofs.PlacesWalks.{agg, fact, fact_i, yes, RattleType, owns, types_at, plain, block_ptr}
+use Rattle.handles.proofs.PlacesWalks.{nothing_more, heard, param, layout, Stays, stay_dropped, walk_of}
+use Rattle.handles.proofs.PlacesWalks.{Goes-dropped, PlacesRow, places_val, places_made}
 use Rattle.handles.proofs.PlacesWalks.{without_items, right_to_free, Good, ◌*◌, type_size, owns_if, froom, ◌⊑◌}
 use Rattle.handles.proofs.PlacesWalks.{usize, uint_Tells, uint_vals, ty_array, from, no_bytes, no_memory}
 use Rattle.core.specs.Allocator.{array_of}
@@ -16,21 +17,18 @@ use Rattle.handles.proofs.header_slice.places.Places.without_bytes.Code as code
 
 pub without_bytes_spec : {M : Type 1} → statement M
 without_bytes_spec 𝓤 𝓛 𝓜 𝓡 wired T L =
-    let H = 𝓛.H in let 𝓣 = tables 𝓤 H 𝓜 𝓡 𝓡.env in let R : RattleType = param 0 T in
-    let En = ended T in let c = clauses T 𝓛 𝓜.mem 𝓡.returns in
-    let inst = layouts (a_type ∷ []) (T, tt) in let fn = inst_fn inst code.function in
+    let R : RattleType = param 0 T in let En = ended T in let c = clauses T 𝓛 𝓜.mem 𝓡.returns in
     let P : RattleType = PlacesRow R in
     let number = plain (λ _. usize) in let hs : Stays En.signature.params En.kept = (stay_dropped number yes, tt) in
-    proved 𝓛 En hs c 𝓜 𝓡 (Goes-dropped 𝓛 1 number yes (λ κs x f. refl), tt) (#self inst)
-    fn (code.unfolded 𝓤 H 𝓜 𝓡 wired (T, tt))
-    (λ κs. (uint_vals w64, tt)) (λ κs. (uint_Tells w64, tt)) (λ κs qs bounds a gh are.
+    walks (at_type T) code.function 𝓛 𝓜 𝓡 En hs c (Goes-dropped 𝓛 1 number yes (λ κs x f. refl), tt) #self
+    (code.unfolded 𝓤 𝓛.H 𝓜 𝓡 wired (T, tt))
+    (λ κs. (uint_vals w64, tt)) (λ κs. (uint_Tells w64, tt)) (λ κs qs bounds a gh are go ends.
     let room : ℕ = a.0 in let y : (walk_of 𝓛 En hs c).Ghost = ((κs, qs, bounds, a, (vint w64 room ∷ [], tt)), gh) in
-    let Post : Val → SProp 𝓤 = (walk_of 𝓛 En hs c).post y in
     let bytes : ℕ = room * type_size R in let small : room < 2 ^ 64 = are.0.1 in
     let toks = ‵ (flft κs.0 qs.0) ⊛ ‵ ftrue in qed 𝓛 ((toks ⊛ ‵ (owns (types_at En.signature.params κs) a y.0.4))
     ∷ (raw (fact 𝓤 (κs.0 ⊑ T.lives)) ⊛ raw (fact 𝓤 (bytes ≡ 0))) ∷ []) ∵
     move ! (1 ∷ []) $ split ! $ drop ! $ heard ! (bytes ≡ 0) (λ none. split ! $ keep ! (0 ∷ []) $
-    let fits : bytes < 2 ^ 63 = omega arith in enter ! 𝓣.C 𝓣.Λ fn (vint w64 room ∷ []) Post $
+    let fits : bytes < 2 ^ 63 = omega arith in go.enters (vint w64 room ∷ []) refl $
     alloc_all ! (λ l. pass_all ! refl ((tt, record { fits = small }), tt) $ let b : ℕ = l 2 in
     let v : Val = places_val (block_ptr b 0) 0 room in let made : P.Denot = without_items R (block_ptr b 0) room in
     let typed : Good (layout P) v = (tt, (tt, (record { fits = lit< tt }, (record { fits = small }, tt)))) in
@@ -44,4 +42,4 @@ without_bytes_spec 𝓤 𝓛 𝓜 𝓡 wired T L =
     use0 𝓛 (raw (fact 𝓤 (made.items ≡ []))) (fact_i 𝓤 (made.items ≡ []) (emp 𝓤) refl) $ join ! $
     nothing_more ! $ nothing_more ! $ fjoin ! $
     returns ! (look_at ! 0 refl) $ free_all ! refl $ keep ! (3 ∷ 0 ∷ 2 ∷ 1 ∷ []) $
-    by ! (leaves 𝓛 En hs c y v made (tt, tt) (tt, tt)))))
+    by ! (ends v made (tt, tt) (tt, tt)))))

@@ -1,16 +1,14 @@
 -- `add_to_stamp` is one addition to the stamp.
-use Rattle.handles.proofs.Walks.{at_type, walks}
-use Rattle.handles.proofs.Walks.{◌≡◌, ℕ, ◌+◌, ◌%◌, ◌^◌, false, [], ◌∷◌, refl, lit<, w64, named, vint}
-use Rattle.handles.proofs.Walks.{vptr, via, Lft, Share, Fml, ftrue, fsep, flft, ‵, raw, ◌⊛◌}
-use Rattle.handles.proofs.Walks.{◌$◌, ◌∵◌, !, qed, by, move, keep, split, join, fsplit, fjoin, stop, fld, load, addr}
-use Rattle.handles.proofs.Walks.{lit, of_opd, no_more, and_then, first, blocks, Calls-last, returns}
-use Rattle.handles.proofs.Walks.{alloc_all, pass_all, free_all, look_at, get, through, sets, lands_last, agg}
-use Rattle.handles.proofs.Walks.{sub, whole, look_in, fact, yes, RattleType, owns, types_at, plain, Ptr}
-use Rattle.handles.proofs.Walks.{block_ptr, block_of, offset_of, nothing_more, heard, shuts, param, u64}
-use Rattle.handles.proofs.Walks.{shr_vals, shr_Tells, Stays, stay_dropped, walk_of, Goes-dropped}
-use Rattle.handles.proofs.Walks.{fm, found, finds, HeldRow, one_word, HandleRow, HandleWords, is_number}
-use Rattle.handles.proofs.Walks.{opens_handle, closes_borrow, a_ref, asks_with, uint_vals, uint_Tells, stamp_offset}
-use Rattle.handles.proofs.Walks.{lent_share, block_at, stamps, Vals}
+use Rattle.handles.proofs.Walks.{◌≡◌, ℕ, ◌+◌, ◌%◌, ◌^◌, false, [], ◌∷◌, refl, lit<, w64, named, vint, vptr, via, Lft}
+use Rattle.handles.proofs.Walks.{Share, Fml, ftrue, fsep, flft, ‵, raw, ◌⊛◌, ◌$◌, ◌∵◌, !, qed, by, move, keep, split}
+use Rattle.handles.proofs.Walks.{join, fsplit, fjoin, stop, fld, load, addr, lit, of_opd, no_more, and_then, first}
+use Rattle.handles.proofs.Walks.{blocks, Calls-last, returns, alloc_all, pass_all, free_all, look_at, get, through}
+use Rattle.handles.proofs.Walks.{sets, lands_last, agg, sub, whole, look_in, fact, yes, RattleType, owns, types_at}
+use Rattle.handles.proofs.Walks.{plain, Ptr, block_ptr, block_of, offset_of, nothing_more, heard, shuts, param, u64}
+use Rattle.handles.proofs.Walks.{shr_vals, shr_Tells, Stays, stay_dropped, walk_of, Goes-dropped, fm, found, finds}
+use Rattle.handles.proofs.Walks.{HeldRow, one_word, HandleRow, HandleWords, is_number, opens_handle, closes_borrow}
+use Rattle.handles.proofs.Walks.{a_ref, asks_with, uint_vals, uint_Tells, stamp_offset, lent_share, block_at, stamps}
+use Rattle.handles.proofs.Walks.{Vals, at_type, walks}
 use Rattle.atomic_table.proofs.Calls.{adds}
 use Rattle.handles.specs.contracts.block.handle.Handle.add_to_stamp.{ended, clauses}
 use Rattle.handles.specs.contracts.block.handle.Handle.add_to_stamp.Key.{name as #self}
@@ -38,8 +36,6 @@ add_to_stamp_spec 𝓤 𝓛 𝓜 𝓡 wired T L =
     keep ! (1 ∷ 3 ∷ 4 ∷ []) $ go.enters (vptr b o ∷ vint w64 amount ∷ []) refl $
     alloc_all ! (λ l. pass_all ! refl ((tt, tt), ((tt, record { fits = are.1.0.1 }), tt)) $
     opens_handle R p x η ! tt a.0.now.sole shared b o (λ inb i e r.
-    -- [the word; what it says; the token's way back; the open borrow; the share; the rule; the sharing; the other
-    -- tokens]
     sets ! (of_opd ! (load ! (through ! refl (fld ! refl (stop !))) (look_in ! 0 (sub ! 0 refl (whole !)))))
     refl (tt, tt) $ shuts ! tt D r (p, tt) (one_word (block_ptr pb po) ∷ []) b o $
     -- [half of the token; the open borrow; the share; the rule; the sharing; the other tokens]

@@ -1,14 +1,12 @@
 -- `first` makes the handle of a new block.
+use Rattle.handles.proofs.Walks.{pick, await, ℕ, later, ◌≡◌, [], ◌∷◌, ◌++◌, refl, vptr, ftrue, flft, ‵, raw, ◌⊛◌, ◌$◌}
+use Rattle.handles.proofs.Walks.{◌∵◌, !, qed, by, move, keep, split, join, fsplit, fjoin, fpack, use0, use1, stop}
+use Rattle.handles.proofs.Walks.{fld, of_opd, no_more, and_then, returns, alloc_all, pass_all, free_all, look_at, get}
+use Rattle.handles.proofs.Walks.{get_in, sets, agg, sub, whole, fact, no, RattleType, owns, types_at, plain, Ptr}
+use Rattle.handles.proofs.Walks.{InBlock, block_ptr, nothing_more, heard, param, Stays, stay_dropped, HeldRow}
+use Rattle.handles.proofs.Walks.{one_word, words_made, HandleWords, known, rewrite, true, exists, bare_block}
+use Rattle.handles.proofs.Walks.{owned_as, Goes-blank, pair_val, RawBoxRow, raw_box-Good, raw_box_opens, box_opens}
 use Rattle.handles.proofs.Walks.{at_type, walks_at}
-use Rattle.handles.proofs.Walks.{pick, await, ℕ, later, ◌≡◌, [], ◌∷◌, ◌++◌, refl}
-use Rattle.handles.proofs.Walks.{vptr, ftrue, flft, ‵, raw, ◌⊛◌, ◌$◌, ◌∵◌, !, qed}
-use Rattle.handles.proofs.Walks.{by, move, keep, split, join, fsplit, fjoin, fpack, use0, use1, stop, fld}
-use Rattle.handles.proofs.Walks.{of_opd, no_more, and_then, returns, alloc_all, pass_all, free_all, look_at}
-use Rattle.handles.proofs.Walks.{get, get_in, sets, agg, sub, whole, fact, no, RattleType, owns, types_at}
-use Rattle.handles.proofs.Walks.{plain, Ptr, InBlock, block_ptr, nothing_more, heard, param, Stays}
-use Rattle.handles.proofs.Walks.{stay_dropped, HeldRow, one_word, words_made}
-use Rattle.handles.proofs.Walks.{HandleWords, known, rewrite, true, exists, bare_block, owned_as, Goes-blank}
-use Rattle.handles.proofs.Walks.{pair_val, RawBoxRow, raw_box-Good, raw_box_opens, box_opens}
 use Rattle.handles.specs.contracts.block.Block as block_type
 use Rattle.handles.proofs.NewBlocks.{begins_sole}
 use Rattle.handles.specs.contracts.block.handle.Handle as handle_type

@@ -1,13 +1,11 @@
 -- `held` shows what every handle of the block sees.
-use Rattle.handles.proofs.Walks.{by_handle, parted}
-use Rattle.handles.proofs.Walks.{ℕ, ◌+◌, List, [], ◌∷◌, refl, Val, vptr, id⊢, Lft, fhide, ‵, ◌⊛◌}
-use Rattle.handles.proofs.Walks.{◌$◌, !, by, move, keep, drop, split, fsplit, fjoin, fpick, use1, rewrite}
-use Rattle.handles.proofs.Walks.{feq_i, stop, fld, load, addr, of_opd, first, blocks, returns}
-use Rattle.handles.proofs.Walks.{alloc_all, pass_all, free_all, look_at, get, through, sets, sets_last, sub}
-use Rattle.handles.proofs.Walks.{whole, look_in, RattleType, Ptr, block_of, offset_of, at_block}
-use Rattle.handles.proofs.Walks.{shuts, param, param_laws, HeldRow, one_word, HandleWords}
-use Rattle.handles.proofs.Walks.{opens_word, so, ◌+ₚ◌, unhide, hide, hidden_shr, lent_at, held_offset, shown}
-use Rattle.handles.proofs.Walks.{handle_shares, shown_by, fact_i}
+use Rattle.handles.proofs.Walks.{ℕ, ◌+◌, List, [], ◌∷◌, refl, Val, vptr, id⊢, Lft, fhide, ‵, ◌⊛◌, ◌$◌, !, by, move}
+use Rattle.handles.proofs.Walks.{keep, drop, split, fsplit, fjoin, fpick, use1, rewrite, feq_i, stop, fld, load, addr}
+use Rattle.handles.proofs.Walks.{of_opd, first, blocks, returns, alloc_all, pass_all, free_all, look_at, get, through}
+use Rattle.handles.proofs.Walks.{sets, sets_last, sub, whole, look_in, RattleType, Ptr, block_of, offset_of, at_block}
+use Rattle.handles.proofs.Walks.{shuts, param, param_laws, HeldRow, one_word, HandleWords, opens_word, so, ◌+ₚ◌}
+use Rattle.handles.proofs.Walks.{unhide, hide, hidden_shr, lent_at, held_offset, shown, handle_shares, shown_by}
+use Rattle.handles.proofs.Walks.{fact_i, by_handle, parted}
 use Rattle.handles.specs.contracts.block.handle.Handle.held.{clauses}
 use Rattle.handles.specs.contracts.block.handle.Handle.held.Key.{name as #self}
 use Rattle.handles.proofs.block.handle.Handle.held.Statement.{statement}

@@ -1,11 +1,10 @@
 -- `into_gain` takes the block of a handle that is known to be the only one.
-use Rattle.handles.proofs.Walks.{pick, permit_owns, use1, ◌≡◌, ℕ, Bool, true, [], ◌∷◌, refl, ‵, ◌$◌}
-use Rattle.handles.proofs.Walks.{ !, by, keep, fjoin, use0, rewrite, stop, fld, of_opd, no_more, and_then, returns}
-use Rattle.handles.proofs.Walks.{alloc_all, pass_all, free_all, look_at, get, get_in, sets, agg, sub, whole}
-use Rattle.handles.proofs.Walks.{fact, RattleType, Ptr, param, Right, HeldRow, one_word}
-use Rattle.handles.proofs.Walks.{one_word-Good, words_made, PermitWords, by_value, handle_worded, permit_at, so}
-use Rattle.handles.proofs.Walks.{also, sole_permits, exists, List, WordStep, whole_block, handle_owns, Ptr-Good}
-use Rattle.handles.proofs.Walks.{snd∗}
+use Rattle.handles.proofs.Walks.{pick, permit_owns, use1, ◌≡◌, ℕ, Bool, true, [], ◌∷◌, refl, ‵, ◌$◌, !, by, keep}
+use Rattle.handles.proofs.Walks.{fjoin, use0, rewrite, stop, fld, of_opd, no_more, and_then, returns, alloc_all}
+use Rattle.handles.proofs.Walks.{pass_all, free_all, look_at, get, get_in, sets, agg, sub, whole, fact, RattleType}
+use Rattle.handles.proofs.Walks.{Ptr, param, Right, HeldRow, one_word, one_word-Good, words_made, PermitWords}
+use Rattle.handles.proofs.Walks.{by_value, handle_worded, permit_at, so, also, sole_permits, exists, List, WordStep}
+use Rattle.handles.proofs.Walks.{whole_block, handle_owns, Ptr-Good, snd∗}
 use Rattle.handles.specs.contracts.block.permit.Permit as permit_type
 use Rattle.handles.specs.contracts.block.handle.Handle.into_permit.{clauses}
 use Rattle.handles.specs.contracts.block.handle.Handle.into_permit.Key.{name as #self}

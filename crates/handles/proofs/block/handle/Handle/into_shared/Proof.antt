@@ -1,9 +1,9 @@
 -- `into_shared` forgets that a handle is the only one.
-use Rattle.handles.proofs.Walks.{ℕ, false, [], ◌∷◌, refl, ‵, ◌$◌, !, by, move, keep, fsplit, fjoin}
-use Rattle.handles.proofs.Walks.{use1, stop, fld, of_opd, no_more, and_then, returns, alloc_all, pass_all}
-use Rattle.handles.proofs.Walks.{free_all, look_at, get, get_in, sets, agg, sub, whole, RattleType, Ptr}
-use Rattle.handles.proofs.Walks.{param, param_laws, HeldRow, one_word, one_word-Good, by_value}
-use Rattle.handles.proofs.Walks.{handle_worded, handle_at, is_handle, so, also, owned_as, fact_i, forgets, Ptr-Good}
+use Rattle.handles.proofs.Walks.{ℕ, false, [], ◌∷◌, refl, ‵, ◌$◌, !, by, move, keep, fsplit, fjoin, use1, stop, fld}
+use Rattle.handles.proofs.Walks.{of_opd, no_more, and_then, returns, alloc_all, pass_all, free_all, look_at, get}
+use Rattle.handles.proofs.Walks.{get_in, sets, agg, sub, whole, RattleType, Ptr, param, param_laws, HeldRow, one_word}
+use Rattle.handles.proofs.Walks.{one_word-Good, by_value, handle_worded, handle_at, is_handle, so, also, owned_as}
+use Rattle.handles.proofs.Walks.{fact_i, forgets, Ptr-Good}
 use Rattle.handles.specs.contracts.block.handle.Handle.into_shared.{clauses}
 use Rattle.handles.specs.contracts.block.handle.Handle.into_shared.Key.{name as #self}
 use Rattle.handles.proofs.block.handle.Handle.into_shared.Statement.{statement}

@@ -1,17 +1,16 @@
 -- `marked_by` knows the block to be marked by the log of a step, and gives a handle away for good. It makes no
 -- step itself.
-use Rattle.handles.proofs.Walks.{◌≡◌, ℕ, false, List, [], ◌∷◌, refl, a_type, named, Val, vptr, inst_fn, SProp, Lft}
-use Rattle.handles.proofs.Walks.{Share, Fml, ftrue, fsep, flft, finv, later, await, pick, ‵, raw, ◌⊛◌, at_ret, ◌$◌}
-use Rattle.handles.proofs.Walks.{◌∵◌, !, qed, by, move, keep, drop, split, join, fsplit, fjoin, fjoin3, fpick}
-use Rattle.handles.proofs.Walks.{rewrite, use1, use2, feq_i, stop, fld, load, addr, of_opd, first, blocks, exec}
-use Rattle.handles.proofs.Walks.{returns, enter, alloc_all, pass_all, free_all, look_at, get, through, sets}
-use Rattle.handles.proofs.Walks.{sets_last, env, sub, whole, look_in, tables, fact, yes, RattleType, owns, types_at}
-use Rattle.handles.proofs.Walks.{plain, Ptr, block_ptr, block_of, offset_of, at_block, nothing_more, heard, shuts}
-use Rattle.handles.proofs.Walks.{param, layouts, param_laws, RefOf, shr_vals, shr_Tells, Stays, stay_dropped}
-use Rattle.handles.proofs.Walks.{walk_of, Goes-dropped, after, proved, leaves, HeldRow, block_rule, one_word}
-use Rattle.handles.proofs.Walks.{HandleRow, HandleWords, opens_handle, closes_borrow, known, vstruct, vnil, exists}
-use Rattle.handles.proofs.Walks.{hide, WordStep, Names, marked, HasMark, marked_shares, becomes_lasting, LoggedRow}
-use Rattle.handles.proofs.Walks.{no_bytes_told, SharedBlock, block_at, Born, born, Known, knows}
+use Rattle.handles.proofs.Walks.{◌≡◌, ℕ, false, List, [], ◌∷◌, refl, named, Val, vptr, Lft, Share, Fml, ftrue, fsep}
+use Rattle.handles.proofs.Walks.{flft, finv, later, await, pick, ‵, raw, ◌⊛◌, ◌$◌, ◌∵◌, !, qed, by, move, keep, drop}
+use Rattle.handles.proofs.Walks.{split, join, fsplit, fjoin, fjoin3, fpick, rewrite, use1, use2, feq_i, stop, fld}
+use Rattle.handles.proofs.Walks.{load, addr, of_opd, first, blocks, returns, alloc_all, pass_all, free_all, look_at}
+use Rattle.handles.proofs.Walks.{get, through, sets, sets_last, sub, whole, look_in, fact, yes, RattleType, owns}
+use Rattle.handles.proofs.Walks.{types_at, plain, Ptr, block_ptr, block_of, offset_of, at_block, nothing_more, heard}
+use Rattle.handles.proofs.Walks.{shuts, param, param_laws, RefOf, shr_vals, shr_Tells, Stays, stay_dropped, walk_of}
+use Rattle.handles.proofs.Walks.{Goes-dropped, HeldRow, block_rule, one_word, HandleRow, HandleWords, opens_handle}
+use Rattle.handles.proofs.Walks.{closes_borrow, known, vstruct, vnil, exists, hide, WordStep, Names, marked, HasMark}
+use Rattle.handles.proofs.Walks.{marked_shares, becomes_lasting, LoggedRow, no_bytes_told, SharedBlock, block_at}
+use Rattle.handles.proofs.Walks.{Born, born, Known, knows, at_type, walks}
 use Rattle.handles.specs.Inside.Blocks.{reached}
 use Rattle.handles.specs.contracts.block.handle.Handle.marked_by.{ended, clauses}
 use Rattle.handles.specs.contracts.block.handle.Handle.marked_by.Key.{name as #self}
@@ -20,29 +19,28 @@ use Rattle.handles.proofs.block.handle.Handle.marked_by.Code as code
 
 pub marked_by_spec : {M : Type 1} → statement M
 marked_by_spec 𝓤 𝓛 𝓜 𝓡 wired T L =
-    let 𝓣 = tables 𝓤 𝓛.H 𝓜 𝓡 𝓡.env in let R : RattleType = param 0 T in let En = ended T in
-    let c = clauses T 𝓛 𝓜.mem 𝓡.returns in
-    let inst = layouts (a_type ∷ []) (T, tt) in let fn = inst_fn inst code.function in
+    let R : RattleType = param 0 T in let En = ended T in let c = clauses T 𝓛 𝓜.mem 𝓡.returns in
     let self = RefOf (0 ∷ []) tt (plain (λ _. HandleRow R)) (λ _. tt) in let reported = plain (λ _. LoggedRow) in
     let hs : Stays En.signature.params En.kept = (stay_dropped self yes, (stay_dropped reported yes, tt)) in
     let goes = Goes-dropped 𝓛 3 reported yes (λ κs x f. refl) in
-    proved 𝓛 En hs c 𝓜 𝓡 (Goes-dropped 𝓛 3 self yes (λ κs x f. refl), (goes, tt)) (#self inst) fn
+    walks (at_type T) code.function 𝓛 𝓜 𝓡 En hs c (Goes-dropped 𝓛 3 self yes (λ κs x f. refl), (goes, tt)) #self
     (code.unfolded 𝓤 𝓛.H 𝓜 𝓡 wired (T, tt)) (λ κs. (shr_vals, ((λ s. vstruct vnil ∷ []), tt)))
-    (λ κs. (shr_Tells (named 0) κs.0 (HandleRow R), ((λ s vs so. no_bytes_told vs so.0), tt))) (λ κs qs bounds a gh are.
+    (λ κs. (shr_Tells (named 0) κs.0 (HandleRow R), ((λ s vs so. no_bytes_told vs so.0), tt)))
+    (λ κs qs bounds a gh are go ends.
     let b : ℕ = a.0.ref_ptr.0 in let o : ℕ = a.0.ref_ptr.1 in let κ : Lft = κs.0 in let q : Share = qs.0 in
     let others : Fml = fsep (flft κs.1.0 qs.1.0) (fsep (flft κs.1.1.0 qs.1.1.0) ftrue) in
     let p : Ptr = a.0.now.block in let x : (HeldRow R).Denot = a.0.now.held in let η : ℕ = a.0.now.id in
     let old : List WordStep = a.1.0.log in let pb : ℕ = block_of p in let po : ℕ = offset_of p in
-    let y : (walk_of 𝓛 En hs c).Ghost = ((κs, qs, bounds, a, (vptr b o ∷ [], (vstruct vnil ∷ [], tt))), gh) in
-    let Post : Val → SProp 𝓤 = (walk_of 𝓛 En hs c).post y in let D : RattleType = HandleWords R in
+    let y : (walk_of 𝓛 En hs c).Ghost = ((κs, qs, bounds, a, (vptr b o ∷ [], (vstruct vnil ∷ [], tt))), gh) in let D :
+    RattleType = HandleWords R in
     qed 𝓛 (((‵ (flft κ q) ⊛ ‵ others) ⊛ ‵ (owns (types_at En.signature.params κs) a y.0.4)) ∷ raw (fact 𝓤 _)
     ∷ raw (fact 𝓤 (a.0.now.sole ≡ false)) ∷ raw (fact 𝓤 (a.1.0.id ≡ η)) ∷ raw (fact 𝓤 (HasMark old)) ∷ []) ∵
     keep ! (2 ∷ 3 ∷ 4 ∷ 0 ∷ []) $ heard ! (a.0.now.sole ≡ false) (λ shared. heard ! (a.1.0.id ≡ η)
     (λ is_id. heard ! (HasMark old) (λ has.
     split ! $ split ! $ move ! (2 ∷ []) $ fsplit ! $ fsplit ! $ move ! (2 ∷ []) $ fsplit ! $ fsplit ! $
     move ! (1 ∷ []) $ rewrite ! 0 (λ (z : ℕ). ‵ (reached z old)) is_id refl $ keep ! (4 ∷ 5 ∷ 6 ∷ 0 ∷ []) $
-    enter ! 𝓣.C 𝓣.Λ fn (vptr b o ∷ vstruct vnil ∷ []) Post $
-    alloc_all ! (λ l. pass_all ! refl ((tt, tt), ((tt, tt), tt)) $ let Ev = env fn.locals l in
+    go.enters (vptr b o ∷ vstruct vnil ∷ []) refl $
+    alloc_all ! (λ l. pass_all ! refl ((tt, tt), ((tt, tt), tt)) $
     opens_handle R p x η ! tt a.0.now.sole shared b o (λ inb i e r. let I : Fml = block_rule R p x η i in
     let s : SharedBlock = block_at R p x η i in
     -- [the word; what it says; the token's way back; the open borrow; the share; the rule; the sharing; the
@@ -55,7 +53,8 @@ marked_by_spec 𝓤 𝓛 𝓜 𝓡 wired T L =
     split ! $ move ! (0 ∷ 2 ∷ []) $
     use2 𝓛 (later (‵ (Known 𝓛 s e old has))) (knows 𝓛 s e old has) $ await ! tt $ fsplit ! $
     -- [the mark; the share; the rule; half of the token; the open borrow; the sharing; the other tokens]
-    use1 𝓛 (‵ (marked i) ⊛ ‵ (marked i)) (𝓛.lfts.dead_dup (i.unmarked ∷ [])) $ split ! $ move ! (0 ∷ 2 ∷ []) $ fjoin ! $
+    use1 𝓛 (‵ (marked i) ⊛ ‵ (marked i)) (𝓛.lfts.dead_dup (i.unmarked ∷ [])) $ split ! $ move ! (0 ∷ 2 ∷ []) $ fjoin !
+    $
     move ! (2 ∷ []) $ use1 𝓛 (‵ (finv I) ⊛ ‵ (finv I)) (𝓛.invs.inv_dup I) $ split ! $ move ! (0 ∷ 2 ∷ []) $
     use2 𝓛 (later (exists (λ (w : ℕ). ‵ (Born 𝓛 s e w)))) (born 𝓛 s e) $ await ! tt $ pick ! (λ w. fsplit ! $
     -- [the share; a handle; the rule; the mark; half of the token; the open borrow; the sharing; the other tokens]
@@ -66,10 +65,10 @@ marked_by_spec 𝓤 𝓛 𝓜 𝓡 wired T L =
     use1 𝓛 (later (‵ (marked_shares R p x κs.1.0))) (becomes_lasting R (param_laws 0 T L) p x 𝓛 η j κs.1.0) $
     await ! tt $ first ! $ blocks ! $ sets ! (of_opd ! (get ! refl)) refl (tt, tt) $
     sets_last ! (addr ! (through ! refl (stop !))) refl (tt, tt) $
-    exec ! 𝓣.C 𝓣.Λ Ev (after 2 fn.body) (at_ret Ev Post) $ sets ! (of_opd ! (get ! refl)) refl (tt, tt) $
+    go.ahead l 2 $ sets ! (of_opd ! (get ! refl)) refl (tt, tt) $
     rewrite ! 0 (λ (z : Ptr). ‵ (marked_shares R z x κs.1.0)) (at_block p inb) refl $ hide ! $
     feq_i ! (List Val) (vptr pb po ∷ []) (vptr pb po ∷ []) refl $ fjoin ! $
     known ! (x ≡ x) refl $ nothing_more ! $ nothing_more ! $ fjoin ! $ nothing_more ! $ fjoin ! $
     returns ! (look_at ! 0 refl) $ free_all ! refl $ keep ! (3 ∷ 0 ∷ 2 ∷ 1 ∷ []) $
-    by ! (leaves 𝓛 En hs c y (vptr pb po) (record { ref_ptr = (pb, po); now = x }) (tt, (tt, tt))
+    by ! (ends (vptr pb po) (record { ref_ptr = (pb, po); now = x }) (tt, (tt, tt))
     (tt, (tt, tt)))))))))))

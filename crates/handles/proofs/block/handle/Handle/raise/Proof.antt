@@ -1,18 +1,17 @@
 -- `raise` is one compare-exchange of the word.
 use Rattle.handles.proofs.Steps.Shared.{reached}
-use Rattle.handles.proofs.Walks.{rewrite, ◌≡◌, ℕ, ◌+◌, ◌<◌, false, [], ◌∷◌, refl, sym, ap, w64, a_type, named, Val}
-use Rattle.handles.proofs.Walks.{vint, vptr, inst_fn, SProp, via, Lft, Share, Fml, ftrue, fsep, flft, ‵, raw, ◌⊛◌}
-use Rattle.handles.proofs.Walks.{at_ret, ◌$◌, ◌∵◌, !, qed, by, move, keep, split, join, fsplit, fsplit3, fjoin, stop}
-use Rattle.handles.proofs.Walks.{fld, addr, of_opd, no_more, and_then, first, blocks, exec, Calls-last, returns}
-use Rattle.handles.proofs.Walks.{enter, alloc_all, pass_all, free_all, look_at, get, through, sets, lands_last, is}
-use Rattle.handles.proofs.Walks.{env, agg, sub, whole, tables, fact, yes, RattleType, owns, types_at, plain, Ptr}
-use Rattle.handles.proofs.Walks.{block_ptr, block_of, offset_of, at_block, nothing_more, heard, shuts, param}
-use Rattle.handles.proofs.Walks.{layouts, u64, shr_vals, shr_Tells, Stays, stay_dropped, walk_of, Goes-dropped}
-use Rattle.handles.proofs.Walks.{after, proved, leaves, fm, found, finds, Right, HeldRow, one_word, word_and_permit}
-use Rattle.handles.proofs.Walks.{one_word-Good, HandleRow, HandleWords, returns_permit, word_and_permit-Good}
-use Rattle.handles.proofs.Walks.{opens_handle, PermitRow, ptr_val, get_in, no, so, use0, a_ref, permit_worded}
-use Rattle.handles.proofs.Walks.{permit_at, asks_with, reports, also, block_at, and_logged, List, ◌∙◌, WordStep}
-use Rattle.handles.proofs.Walks.{uint_vals, uint_Tells, right_by_raise, Vals, Fits}
+use Rattle.handles.proofs.Walks.{rewrite, ◌≡◌, ℕ, ◌+◌, ◌<◌, false, [], ◌∷◌, refl, sym, ap, w64, named, vint, vptr}
+use Rattle.handles.proofs.Walks.{via, Lft, Share, Fml, ftrue, fsep, flft, ‵, raw, ◌⊛◌, ◌$◌, ◌∵◌, !, qed, by, move}
+use Rattle.handles.proofs.Walks.{keep, split, join, fsplit, fsplit3, fjoin, stop, fld, addr, of_opd, no_more}
+use Rattle.handles.proofs.Walks.{and_then, first, blocks, Calls-last, returns, alloc_all, pass_all, free_all, look_at}
+use Rattle.handles.proofs.Walks.{get, through, sets, lands_last, is, agg, sub, whole, fact, yes, RattleType, owns}
+use Rattle.handles.proofs.Walks.{types_at, plain, Ptr, block_ptr, block_of, offset_of, at_block, nothing_more, heard}
+use Rattle.handles.proofs.Walks.{shuts, param, u64, shr_vals, shr_Tells, Stays, stay_dropped, walk_of, Goes-dropped}
+use Rattle.handles.proofs.Walks.{fm, found, finds, Right, HeldRow, one_word, word_and_permit, one_word-Good}
+use Rattle.handles.proofs.Walks.{HandleRow, HandleWords, returns_permit, word_and_permit-Good, opens_handle}
+use Rattle.handles.proofs.Walks.{PermitRow, ptr_val, get_in, no, so, use0, a_ref, permit_worded, permit_at, asks_with}
+use Rattle.handles.proofs.Walks.{reports, also, block_at, and_logged, List, ◌∙◌, WordStep, uint_vals, uint_Tells}
+use Rattle.handles.proofs.Walks.{right_by_raise, Vals, Fits, at_type, walks}
 use Rattle.atomic_table.proofs.Calls.{exchanges}
 use Rattle.counting_word.specs.WordSteps as step
 use Rattle.handles.proofs.Steps.Raises.{raises, after_raise}
@@ -24,27 +23,26 @@ use denote.Triple.Clauses.{at_exit}
 
 pub raise_spec : {M : Type 1} → statement M
 raise_spec 𝓤 𝓛 𝓜 𝓡 wired T L =
-    let 𝓣 = tables 𝓤 𝓛.H 𝓜 𝓡 𝓡.env in let R : RattleType = param 0 T in let En = ended T in
-    let c = clauses T 𝓛 𝓜.mem 𝓡.returns in let inst = layouts (a_type ∷ []) (T, tt) in
-    let fn = inst_fn inst code.function in let self = a_ref (HandleRow R) tt in
+    let R : RattleType = param 0 T in let En = ended T in let c = clauses T 𝓛 𝓜.mem 𝓡.returns in
+    let self = a_ref (HandleRow R) tt in
     let number = plain (λ _. u64) in let given = plain (λ _. PermitRow R) in let counted = stay_dropped number yes in
     let hs : Stays En.signature.params En.kept =
     (stay_dropped self yes, (counted, (counted, (stay_dropped given no, tt)))) in
     let counts = Goes-dropped 𝓛 2 number yes (λ κs x f. refl) in
     let goes = Goes-dropped 𝓛 2 given no (λ κs x f. refl) in let tells = (permit_worded R).tells in
-    proved 𝓛 En hs c 𝓜 𝓡 (Goes-dropped 𝓛 2 self yes (λ κs x f. refl), (counts, (counts, (goes, tt)))) (#self inst) fn
+    walks (at_type T) code.function 𝓛 𝓜 𝓡 En hs c
+    (Goes-dropped 𝓛 2 self yes (λ κs x f. refl), (counts, (counts, (goes, tt)))) #self
     (code.unfolded 𝓤 𝓛.H 𝓜 𝓡 wired (T, tt))
     (λ κs. (shr_vals, (uint_vals w64, (uint_vals w64, ((λ s. one_word s.block ∷ []), tt)))))
     (λ κs. (shr_Tells (named 0) κs.0 (HandleRow R), (uint_Tells w64, (uint_Tells w64, (tells, tt)))))
-    (λ κs qs bounds a gh are.
+    (λ κs qs bounds a gh are go ends.
     let b : ℕ = a.0.ref_ptr.0 in let o : ℕ = a.0.ref_ptr.1 in let κ : Lft = κs.0 in let q : Share = qs.0 in
     let others : Fml = fsep (flft κs.1.0 qs.1.0) ftrue in let p : Ptr = a.0.now.block in
     let x : (HeldRow R).Denot = a.0.now.held in let η : ℕ = a.0.now.id in let pb : ℕ = block_of p in
     let po : ℕ = offset_of p in let seen : ℕ = a.1.0 in let next : ℕ = a.1.1.0 in
     let same : Ptr = a.1.1.1.0.block in let old : List WordStep = a.1.1.1.0.log in let values : Vals En.signature κs =
     (vptr b o ∷ [], (vint w64 seen ∷ [], (vint w64 next ∷ [], (one_word same ∷ [], tt)))) in
-    let y : (walk_of 𝓛 En hs c).Ghost = ((κs, qs, bounds, a, values), gh) in
-    let Post : Val → SProp 𝓤 = (walk_of 𝓛 En hs c).post y in let D : RattleType = HandleWords R in
+    let y : (walk_of 𝓛 En hs c).Ghost = ((κs, qs, bounds, a, values), gh) in let D : RattleType = HandleWords R in
     qed 𝓛 (((‵ (flft κ q) ⊛ ‵ others) ⊛ ‵ (owns (types_at En.signature.params κs) a y.0.4)) ∷ raw (fact 𝓤 _)
     ∷ raw (fact 𝓤 (a.0.now.sole ≡ false)) ∷ raw (fact 𝓤 (seen < a.0.now.held.limit.count))
     ∷ raw (fact 𝓤 (next ≡ seen + 1)) ∷ raw (fact 𝓤 (same ≡ p)) ∷ raw (fact 𝓤 _)
@@ -55,9 +53,9 @@ raise_spec 𝓤 𝓛 𝓜 𝓡 wired T L =
     fsplit ! $ fsplit ! $ move ! (1 ∷ []) $ fsplit ! $ rewrite ! 0 (λ (z : ℕ). ‵ (reached z old)) is_id refl $
     keep ! (7 ∷ 8 ∷ 9 ∷ 0 ∷ []) $ let s_fits : Fits w64 seen = record { fits = are.1.0.1 } in
     let n_fits : Fits w64 next = record { fits = are.1.1.0.1 } in
-    enter ! 𝓣.C 𝓣.Λ fn (vptr b o ∷ vint w64 seen ∷ vint w64 next ∷ one_word same ∷ []) Post $
+    go.enters (vptr b o ∷ vint w64 seen ∷ vint w64 next ∷ one_word same ∷ []) refl $
     alloc_all ! (λ l. pass_all ! refl ((tt, tt), ((tt, s_fits), ((tt, n_fits), (one_word-Good same, tt)))) $
-    let Ev = env fn.locals l in opens_handle R p x η ! tt a.0.now.sole shared b o (λ inb i e r.
+    opens_handle R p x η ! tt a.0.now.sole shared b o (λ inb i e r.
     -- [the word; what it says; the token's way back; the open borrow; the share; the rule; the sharing; the other
     -- tokens; that the log was reached]
     sets ! (is ! (of_opd ! (get_in ! (fld ! refl (stop !)) (sub ! 0 refl (whole !))))
@@ -73,7 +71,7 @@ raise_spec 𝓤 𝓛 𝓜 𝓡 wired T L =
     (block_ptr pb (po + 0)) seen next are.1.0.1 are.1.1.0.1 aft)) $
     Calls-last ! (fm 𝓛 𝓜 𝓡) (found aft) (and_then ! (get ! refl) (and_then ! (get ! refl)
     (and_then ! (get ! refl) (no_more !)))) (λ u. finds ! aft (λ n fits. let r' : Right = right_by_raise seen n in
-    lands_last ! refl (tt, record { fits = fits }) $ exec ! 𝓣.C 𝓣.Λ Ev (after 2 fn.body) (at_ret Ev Post) $
+    lands_last ! refl (tt, record { fits = fits }) $ go.ahead l 2 $
     sets ! (of_opd ! (get ! refl)) refl (tt, record { fits = fits }) $
     reports R p x η ! tt inb i e r' old (step.raises_from seen) n (λ within log adds.
     sets ! (is ! (agg ! (and_then ! (get ! refl) (no_more !))) (ap one_word (sym (at_block p inb))))
@@ -84,5 +82,5 @@ raise_spec 𝓤 𝓛 𝓜 𝓡 wired T L =
     (also 𝓤 refl (also 𝓤 refl (also 𝓤 within (also 𝓤 refl (also 𝓤 refl (so 𝓤 adds)))))) $
     nothing_more ! $ nothing_more ! $ fjoin ! $ nothing_more ! $ fjoin ! $ nothing_more ! $ fjoin ! $
     nothing_more ! $ fjoin ! $ returns ! (look_at ! 0 refl) $ free_all ! refl $ keep ! (3 ∷ 0 ∷ 2 ∷ 1 ∷ []) $
-    by ! (leaves 𝓛 En hs c y (word_and_permit n p) (n, permit_at R p x r' η log) (tt, (tt, (tt, (tt, tt))))
+    by ! (ends (word_and_permit n p) (n, permit_at R p x r' η log) (tt, (tt, (tt, (tt, tt))))
     (tt, (tt, (tt, (tt, tt))))))))))))))))

@@ -1,14 +1,11 @@
 -- `read` is one load of the word.
-use Rattle.handles.proofs.Walks.{by_handle, parted, word_at}
-use Rattle.handles.proofs.Walks.{◌≡◌, ℕ, false, [], ◌∷◌, refl, sym, ap, lit<, via, Fml}
-use Rattle.handles.proofs.Walks.{◌$◌, !, by, move, keep, stop, fld, load, addr, lit, of_opd, no_more}
-use Rattle.handles.proofs.Walks.{and_then, first, blocks, Calls-last, returns, alloc_all, pass_all}
-use Rattle.handles.proofs.Walks.{free_all, look_at, get, through, sets, lands_last, is, agg, sub, whole}
-use Rattle.handles.proofs.Walks.{look_in, fact, RattleType, at_block}
-use Rattle.handles.proofs.Walks.{shuts, param, fm, found, finds, Right, one_word}
-use Rattle.handles.proofs.Walks.{word_and_permit, one_word-Good, HandleWords, returns_permit}
-use Rattle.handles.proofs.Walks.{word_and_permit-Good, opens_handle, permit_at, so, also, asks_new, reports}
-use Rattle.handles.proofs.Walks.{reads, after_read, right_by_read, block_at, and_logged, snd∗}
+use Rattle.handles.proofs.Walks.{◌≡◌, ℕ, false, [], ◌∷◌, refl, sym, ap, lit<, via, Fml, ◌$◌, !, by, move, keep, stop}
+use Rattle.handles.proofs.Walks.{fld, load, addr, lit, of_opd, no_more, and_then, first, blocks, Calls-last, returns}
+use Rattle.handles.proofs.Walks.{alloc_all, pass_all, free_all, look_at, get, through, sets, lands_last, is, agg, sub}
+use Rattle.handles.proofs.Walks.{whole, look_in, fact, RattleType, at_block, shuts, param, fm, found, finds, Right}
+use Rattle.handles.proofs.Walks.{one_word, word_and_permit, one_word-Good, HandleWords, returns_permit}
+use Rattle.handles.proofs.Walks.{word_and_permit-Good, opens_handle, permit_at, so, also, asks_new, reports, reads}
+use Rattle.handles.proofs.Walks.{after_read, right_by_read, block_at, and_logged, snd∗, by_handle, parted, word_at}
 use Rattle.atomic_table.proofs.Calls.{loads}
 use Rattle.counting_word.specs.WordSteps as step
 use Rattle.handles.specs.contracts.block.handle.Handle.read.{clauses}
@@ -22,8 +19,6 @@ read_spec 𝓤 𝓛 𝓜 𝓡 wired T L =
     by_handle T 𝓛 𝓜 𝓡 (clauses T 𝓛 𝓜.mem 𝓡.returns) (λ sole. sole ≡ false) (λ κs a gh. snd∗ 𝓤 (fact 𝓤 _) (fact 𝓤 _))
     #self code.function (code.unfolded 𝓤 𝓛.H 𝓜 𝓡 wired (T, tt)) (λ κs qs p x sole η b o gh Post shared ends go.
     alloc_all ! (λ l. pass_all ! refl ((tt, tt), tt) $ opens_handle R p x η ! tt sole shared b o (λ inb i e r.
-    -- [the word; what it says; the token's way back; the open borrow; the share; the rule; the sharing; the other
-    -- tokens]
     sets ! (of_opd ! (load ! (through ! refl (fld ! refl (stop !))) (look_in ! 0 (sub ! 0 refl (whole !)))))
     refl (tt, tt) $ shuts ! tt (HandleWords R) r (p, tt) (one_word (parted p) ∷ []) b o $
     -- [half of the token; the open borrow; the share; the rule; the sharing; the other tokens]

@@ -1,11 +1,10 @@
 -- `leave` is the load by which a handle ends.
-use Rattle.handles.proofs.Walks.{◌≡◌, ℕ, ◌+◌, false, [], ◌∷◌, refl, sym, ap, lit<, via, Lft, Share}
-use Rattle.handles.proofs.Walks.{Fml, ftrue, flft, ‵, ◌⊛◌, later, ◌$◌, !, by, keep, drop, split, fsplit}
-use Rattle.handles.proofs.Walks.{fsplit3, fpick, use1, use2, await, stop, fld, addr, lit, of_opd, no_more, and_then}
-use Rattle.handles.proofs.Walks.{first, blocks, Calls-last, returns, alloc_all, pass_all, free_all}
-use Rattle.handles.proofs.Walks.{look_at, get, get_in, through, sets, lands_last, is, agg, sub, whole}
-use Rattle.handles.proofs.Walks.{fact, RattleType, Ptr, block_ptr, ptr_val, block_of, offset_of, at_block, param}
-use Rattle.handles.proofs.Walks.{param_laws, fm, found, finds, Right, HeldRow, one_word}
+use Rattle.handles.proofs.Walks.{◌≡◌, ℕ, ◌+◌, false, [], ◌∷◌, refl, sym, ap, lit<, via, Lft, Share, Fml, ftrue, flft}
+use Rattle.handles.proofs.Walks.{‵, ◌⊛◌, later, ◌$◌, !, by, keep, drop, split, fsplit, fsplit3, fpick, use1, use2}
+use Rattle.handles.proofs.Walks.{await, stop, fld, addr, lit, of_opd, no_more, and_then, first, blocks, Calls-last}
+use Rattle.handles.proofs.Walks.{returns, alloc_all, pass_all, free_all, look_at, get, get_in, through, sets}
+use Rattle.handles.proofs.Walks.{lands_last, is, agg, sub, whole, fact, RattleType, Ptr, block_ptr, ptr_val, block_of}
+use Rattle.handles.proofs.Walks.{offset_of, at_block, param, param_laws, fm, found, finds, Right, HeldRow, one_word}
 use Rattle.handles.proofs.Walks.{word_and_permit, one_word-Good, returns_permit, word_and_permit-Good, sem, by_value}
 use Rattle.handles.proofs.Walks.{handle_worded, permit_at, so, also, asks_new, shows_permit, Incl-refl}
 use Rattle.handles.proofs.Walks.{right_by_drop_read, owned_as, counted_handle, block_at, and_logged, forgets}

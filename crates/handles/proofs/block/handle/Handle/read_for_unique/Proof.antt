@@ -1,19 +1,17 @@
 -- `read_for_unique` is one load of the word, by which the handle knows whether it is the only one.
-use Rattle.handles.proofs.Walks.{at_type, walks}
-use Rattle.handles.proofs.Walks.{◌≡◌, ℕ, ◌+◌, false, List, [], ◌∷◌, refl, sym, ap, ◌∙◌, lit<, named, Val}
-use Rattle.handles.proofs.Walks.{vptr, full_share, via, Lft, Share, Fml, ftrue, flft, ‵, raw, ◌⊛◌}
-use Rattle.handles.proofs.Walks.{later, ◌$◌, ◌∵◌, !, qed, by, move, keep, drop, split, split3, join, fsplit}
-use Rattle.handles.proofs.Walks.{fsplit3, fjoin, fjoin3, fpick, use1, use2, await, rewrite, stop, fld, load, addr}
-use Rattle.handles.proofs.Walks.{lit, of_opd, no_more, and_then, first, blocks, Calls-last, returns}
-use Rattle.handles.proofs.Walks.{alloc_all, pass_all, free_all, look_at, get, through, sets, lands_last, agg}
-use Rattle.handles.proofs.Walks.{sub, whole, look_in, fact, RattleType, owns, types_at, plain, Ptr}
-use Rattle.handles.proofs.Walks.{block_ptr, block_of, offset_of, at_block, nothing_more, peeks, heard, Is, shows}
-use Rattle.handles.proofs.Walks.{cell_at, param, param_laws, Stays, walk_of, fm}
-use Rattle.handles.proofs.Walks.{found, finds, HeldRow, one_word, words_are, HandleRow, HandleWords, known}
-use Rattle.handles.proofs.Walks.{shows_permit, asks_new, handle_at, is_handle, Adds, GName, Incl-refl, mut_vals}
-use Rattle.handles.proofs.Walks.{mut_Tells, opens, closes, Goes-ref, stay_ref, is_one_handle, right_by_unique_read}
-use Rattle.handles.proofs.Walks.{counted_handle, owned_as, handle_owns, block_at, and_logged, sole_shown}
-use Rattle.handles.proofs.Walks.{returns_logged, word_and_logged, word_and_logged-Good, forgets, handle_settles}
+use Rattle.handles.proofs.Walks.{◌≡◌, ℕ, ◌+◌, false, List, [], ◌∷◌, refl, sym, ap, ◌∙◌, lit<, named, Val, vptr}
+use Rattle.handles.proofs.Walks.{full_share, via, Lft, Share, Fml, ftrue, flft, ‵, raw, ◌⊛◌, later, ◌$◌, ◌∵◌, !, qed}
+use Rattle.handles.proofs.Walks.{by, move, keep, drop, split, split3, join, fsplit, fsplit3, fjoin, fjoin3, fpick}
+use Rattle.handles.proofs.Walks.{use1, use2, await, rewrite, stop, fld, load, addr, lit, of_opd, no_more, and_then}
+use Rattle.handles.proofs.Walks.{first, blocks, Calls-last, returns, alloc_all, pass_all, free_all, look_at, get}
+use Rattle.handles.proofs.Walks.{through, sets, lands_last, agg, sub, whole, look_in, fact, RattleType, owns}
+use Rattle.handles.proofs.Walks.{types_at, plain, Ptr, block_ptr, block_of, offset_of, at_block, nothing_more, peeks}
+use Rattle.handles.proofs.Walks.{heard, Is, shows, cell_at, param, param_laws, Stays, walk_of, fm, found, finds}
+use Rattle.handles.proofs.Walks.{HeldRow, one_word, words_are, HandleRow, HandleWords, known, shows_permit, asks_new}
+use Rattle.handles.proofs.Walks.{handle_at, is_handle, Adds, GName, Incl-refl, mut_vals, mut_Tells, opens, closes}
+use Rattle.handles.proofs.Walks.{Goes-ref, stay_ref, is_one_handle, right_by_unique_read, counted_handle, owned_as}
+use Rattle.handles.proofs.Walks.{handle_owns, block_at, and_logged, sole_shown, returns_logged, word_and_logged}
+use Rattle.handles.proofs.Walks.{word_and_logged-Good, forgets, handle_settles, at_type, walks}
 use contract.BorrowLft.{◌⊑◌}
 use Rattle.atomic_table.proofs.Calls.{loads}
 use Rattle.counting_word.specs.WordSteps as step

@@ -1,13 +1,11 @@
 -- `stamp` is one load of the stamp.
-use Rattle.handles.proofs.Walks.{by_handle, parted}
-use Rattle.handles.proofs.Walks.{◌≡◌, ℕ, ◌+◌, false, [], ◌∷◌, refl, lit<, w64, vint, via, Fml}
-use Rattle.handles.proofs.Walks.{◌$◌, !, by, move, keep, stop, fld, load, addr, lit, of_opd, no_more}
-use Rattle.handles.proofs.Walks.{and_then, first, blocks, Calls-last, returns, alloc_all, pass_all}
-use Rattle.handles.proofs.Walks.{free_all, look_at, get, through, sets, lands_last, agg, sub, whole, look_in}
-use Rattle.handles.proofs.Walks.{fact, RattleType, block_ptr, block_of, offset_of, shuts, param}
-use Rattle.handles.proofs.Walks.{fm, found, finds, one_word, HandleWords}
-use Rattle.handles.proofs.Walks.{is_number, opens_handle, closes_borrow, asks_with, emp, id⊢, stamp_offset}
-use Rattle.handles.proofs.Walks.{lent_share, block_at, stamps, snd∗}
+use Rattle.handles.proofs.Walks.{◌≡◌, ℕ, ◌+◌, false, [], ◌∷◌, refl, lit<, w64, vint, via, Fml, ◌$◌, !, by, move, keep}
+use Rattle.handles.proofs.Walks.{stop, fld, load, addr, lit, of_opd, no_more, and_then, first, blocks, Calls-last}
+use Rattle.handles.proofs.Walks.{returns, alloc_all, pass_all, free_all, look_at, get, through, sets, lands_last, agg}
+use Rattle.handles.proofs.Walks.{sub, whole, look_in, fact, RattleType, block_ptr, block_of, offset_of, shuts, param}
+use Rattle.handles.proofs.Walks.{fm, found, finds, one_word, HandleWords, is_number, opens_handle, closes_borrow}
+use Rattle.handles.proofs.Walks.{asks_with, emp, id⊢, stamp_offset, lent_share, block_at, stamps, snd∗, by_handle}
+use Rattle.handles.proofs.Walks.{parted}
 use Rattle.atomic_table.proofs.Calls.{loads}
 use Rattle.handles.specs.contracts.block.handle.Handle.stamp.{clauses}
 use Rattle.handles.specs.contracts.block.handle.Handle.stamp.Key.{name as #self}
@@ -20,8 +18,6 @@ stamp_spec 𝓤 𝓛 𝓜 𝓡 wired T L =
     by_handle T 𝓛 𝓜 𝓡 (clauses T 𝓛 𝓜.mem 𝓡.returns) (λ sole. sole ≡ false) (λ κs a gh. snd∗ 𝓤 (fact 𝓤 _) (fact 𝓤 _))
     #self code.function (code.unfolded 𝓤 𝓛.H 𝓜 𝓡 wired (T, tt)) (λ κs qs p x sole η b o gh Post shared ends go.
     alloc_all ! (λ l. pass_all ! refl ((tt, tt), tt) $ opens_handle R p x η ! tt sole shared b o (λ inb i e r.
-    -- [the word; what it says; the token's way back; the open borrow; the share; the rule; the sharing; the other
-    -- tokens]
     sets ! (of_opd ! (load ! (through ! refl (fld ! refl (stop !))) (look_in ! 0 (sub ! 0 refl (whole !)))))
     refl (tt, tt) $ shuts ! tt (HandleWords R) r (p, tt) (one_word (parted p) ∷ []) b o $
     -- [half of the token; the open borrow; the share; the rule; the sharing; the other tokens]

@@ -1,16 +1,14 @@
 -- `value_mut` lends the value of the block of a handle that is known to be the only one.
-use Rattle.handles.proofs.Walks.{at_type, walks}
-use Rattle.handles.proofs.Walks.{◌≡◌, ℕ, ◌+◌, Bool, true, List, [], ◌∷◌, refl, ap, ◌∙◌, named, Val, vptr}
-use Rattle.handles.proofs.Walks.{full_share, Lft, Share, ftrue, flft, sem, ‵, raw, ◌⊛◌, some, later}
-use Rattle.handles.proofs.Walks.{◌$◌, ◌∵◌, !, qed, by, move, keep, drop, split, split3, join, fsplit}
-use Rattle.handles.proofs.Walks.{fsplit3, fjoin, fpick, pick, use1, await, rewrite, stop, fld, load, addr, of_opd}
-use Rattle.handles.proofs.Walks.{first, blocks, returns, alloc_all, pass_all, free_all, look_at, get}
-use Rattle.handles.proofs.Walks.{through, sets, sets_last, sub, whole, look_in, fact, no, RattleType}
-use Rattle.handles.proofs.Walks.{owns, types_at, plain, Ptr, block_ptr, block_of, offset_of, at_block, nothing_more}
-use Rattle.handles.proofs.Walks.{peeks, heard, Is, shows, cell_at, param, Stays, stay_dropped, walk_of}
-use Rattle.handles.proofs.Walks.{HeldRow, one_word, words_are, HandleRow, HandleWords, known}
-use Rattle.handles.proofs.Walks.{GName, MutRef, MutBor, mut_vals, mut_Tells, opens, group, Goes-spent_ref}
-use Rattle.handles.proofs.Walks.{held_offset, handle_owns, unshared_block}
+use Rattle.handles.proofs.Walks.{◌≡◌, ℕ, ◌+◌, Bool, true, List, [], ◌∷◌, refl, ap, ◌∙◌, named, Val, vptr, full_share}
+use Rattle.handles.proofs.Walks.{Lft, Share, ftrue, flft, sem, ‵, raw, ◌⊛◌, some, later, ◌$◌, ◌∵◌, !, qed, by, move}
+use Rattle.handles.proofs.Walks.{keep, drop, split, split3, join, fsplit, fsplit3, fjoin, fpick, pick, use1, await}
+use Rattle.handles.proofs.Walks.{rewrite, stop, fld, load, addr, of_opd, first, blocks, returns, alloc_all, pass_all}
+use Rattle.handles.proofs.Walks.{free_all, look_at, get, through, sets, sets_last, sub, whole, look_in, fact, no}
+use Rattle.handles.proofs.Walks.{RattleType, owns, types_at, plain, Ptr, block_ptr, block_of, offset_of, at_block}
+use Rattle.handles.proofs.Walks.{nothing_more, peeks, heard, Is, shows, cell_at, param, Stays, stay_dropped, walk_of}
+use Rattle.handles.proofs.Walks.{HeldRow, one_word, words_are, HandleRow, HandleWords, known, GName, MutRef, MutBor}
+use Rattle.handles.proofs.Walks.{mut_vals, mut_Tells, opens, group, Goes-spent_ref, held_offset, handle_owns}
+use Rattle.handles.proofs.Walks.{unshared_block, at_type, walks}
 use denote.Signature.{mut_ref_to}
 use denote.Follow.{follows, lends_Part}
 use Rattle.handles.specs.Inside.BlockWriteBack.{with_value}

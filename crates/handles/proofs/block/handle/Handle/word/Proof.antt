@@ -1,13 +1,11 @@
 -- `word` is one load of the word, which only asks.
-use Rattle.handles.proofs.Walks.{by_handle, parted, word_at}
-use Rattle.handles.proofs.Walks.{◌≡◌, ℕ, false, [], ◌∷◌, refl, lit<, via, Fml}
-use Rattle.handles.proofs.Walks.{◌$◌, !, by, move, keep, stop, fld, load, addr, lit, of_opd, no_more, and_then}
-use Rattle.handles.proofs.Walks.{first, blocks, Calls-last, returns, alloc_all, pass_all, free_all}
-use Rattle.handles.proofs.Walks.{look_at, get, through, sets, lands_last, agg, sub, whole, look_in}
-use Rattle.handles.proofs.Walks.{fact, RattleType, shuts, param}
-use Rattle.handles.proofs.Walks.{fm, found, finds, one_word, HandleWords, opens_handle}
-use Rattle.handles.proofs.Walks.{so, also, asks_new, logs, returns_logged, word_and_logged, word_and_logged-Good}
-use Rattle.handles.proofs.Walks.{block_at, and_logged, asks, a_share, snd∗}
+use Rattle.handles.proofs.Walks.{◌≡◌, ℕ, false, [], ◌∷◌, refl, lit<, via, Fml, ◌$◌, !, by, move, keep, stop, fld}
+use Rattle.handles.proofs.Walks.{load, addr, lit, of_opd, no_more, and_then, first, blocks, Calls-last, returns}
+use Rattle.handles.proofs.Walks.{alloc_all, pass_all, free_all, look_at, get, through, sets, lands_last, agg, sub}
+use Rattle.handles.proofs.Walks.{whole, look_in, fact, RattleType, shuts, param, fm, found, finds, one_word}
+use Rattle.handles.proofs.Walks.{HandleWords, opens_handle, so, also, asks_new, logs, returns_logged, word_and_logged}
+use Rattle.handles.proofs.Walks.{word_and_logged-Good, block_at, and_logged, asks, a_share, snd∗, by_handle, parted}
+use Rattle.handles.proofs.Walks.{word_at}
 use Rattle.atomic_table.proofs.Calls.{loads}
 use Rattle.counting_word.specs.WordSteps as step
 use Rattle.handles.specs.contracts.block.handle.Handle.word.{clauses}
@@ -21,8 +19,6 @@ word_spec 𝓤 𝓛 𝓜 𝓡 wired T L =
     by_handle T 𝓛 𝓜 𝓡 (clauses T 𝓛 𝓜.mem 𝓡.returns) (λ sole. sole ≡ false) (λ κs a gh. snd∗ 𝓤 (fact 𝓤 _) (fact 𝓤 _))
     #self code.function (code.unfolded 𝓤 𝓛.H 𝓜 𝓡 wired (T, tt)) (λ κs qs p x sole η b o gh Post shared ends go.
     alloc_all ! (λ l. pass_all ! refl ((tt, tt), tt) $ opens_handle R p x η ! tt sole shared b o (λ inb i e r.
-    -- [the word; what it says; the token's way back; the open borrow; the share; the rule; the sharing; the other
-    -- tokens]
     sets ! (of_opd ! (load ! (through ! refl (fld ! refl (stop !))) (look_in ! 0 (sub ! 0 refl (whole !))))) refl
     (tt, tt) $ shuts ! tt (HandleWords R) r (p, tt) (one_word (parted p) ∷ []) b o $
     -- [half of the token; the open borrow; the share; the rule; the sharing; the other tokens]

@@ -1,11 +1,11 @@
 -- `handle` makes one more handle of a block that is marked, with no step on its word.
-use Rattle.handles.proofs.Walks.{ℕ, false, [], ◌∷◌, refl, id⊢, Lft, Fml, flft, fhide}
-use Rattle.handles.proofs.Walks.{full_share, finv, later, await, pick, block_rule, ‵, ◌⊛◌, ◌$◌, !, by, move, keep}
-use Rattle.handles.proofs.Walks.{drop, split, fsplit, fjoin, fpick, use0, use1, use2, stop, addr, of_opd, no_more}
-use Rattle.handles.proofs.Walks.{and_then, returns, alloc_all, pass_all, free_all, look_at, get, through}
-use Rattle.handles.proofs.Walks.{sets, agg, RattleType, Ptr, block_ptr, param, HeldRow, one_word}
-use Rattle.handles.proofs.Walks.{shows_permit, by_ref, handle_at, is_handle, so, also, exists, unhide, a_handle}
-use Rattle.handles.proofs.Walks.{Names, marked_shares, SharedBlock, block_at, Born, born, fact_i}
+use Rattle.handles.proofs.Walks.{ℕ, false, [], ◌∷◌, refl, id⊢, Lft, Fml, flft, fhide, full_share, finv, later, await}
+use Rattle.handles.proofs.Walks.{pick, block_rule, ‵, ◌⊛◌, ◌$◌, !, by, move, keep, drop, split, fsplit, fjoin, fpick}
+use Rattle.handles.proofs.Walks.{use0, use1, use2, stop, addr, of_opd, no_more, and_then, returns, alloc_all}
+use Rattle.handles.proofs.Walks.{pass_all, free_all, look_at, get, through, sets, agg, RattleType, Ptr, block_ptr}
+use Rattle.handles.proofs.Walks.{param, HeldRow, one_word, shows_permit, by_ref, handle_at, is_handle, so, also}
+use Rattle.handles.proofs.Walks.{exists, unhide, a_handle, Names, marked_shares, SharedBlock, block_at, Born, born}
+use Rattle.handles.proofs.Walks.{fact_i}
 use types.Tokens.{shr_bor-open}
 use Rattle.counting_word.specs.WordSteps as step
 use Rattle.handles.proofs.BorrowedHandle.{lent_halves}

@@ -1,10 +1,9 @@
 -- `held` shows what every handle of the block sees.
-use Rattle.handles.proofs.Walks.{ℕ, ◌+◌, List, [], ◌∷◌, refl, Val, vptr, id⊢, Lft, fhide, ‵}
-use Rattle.handles.proofs.Walks.{◌$◌, !, by, keep, drop, fsplit, fjoin, use1, feq_i, stop, fld, addr, of_opd, first}
-use Rattle.handles.proofs.Walks.{blocks, returns, alloc_all, pass_all, free_all, look_at, get, through}
-use Rattle.handles.proofs.Walks.{sets, sets_last, RattleType, Ptr, block_ptr, param}
-use Rattle.handles.proofs.Walks.{param_laws, HeldRow, by_ref, so, unhide, hide, held_offset, shown}
-use Rattle.handles.proofs.Walks.{marked_shares, stays_shown, fact_i}
+use Rattle.handles.proofs.Walks.{ℕ, ◌+◌, List, [], ◌∷◌, refl, Val, vptr, id⊢, Lft, fhide, ‵, ◌$◌, !, by, keep, drop}
+use Rattle.handles.proofs.Walks.{fsplit, fjoin, use1, feq_i, stop, fld, addr, of_opd, first, blocks, returns}
+use Rattle.handles.proofs.Walks.{alloc_all, pass_all, free_all, look_at, get, through, sets, sets_last, RattleType}
+use Rattle.handles.proofs.Walks.{Ptr, block_ptr, param, param_laws, HeldRow, by_ref, so, unhide, hide, held_offset}
+use Rattle.handles.proofs.Walks.{shown, marked_shares, stays_shown, fact_i}
 use Rattle.handles.specs.contracts.block.marked.Marked as marked_type
 use Rattle.handles.specs.contracts.block.marked.Marked.held.{clauses}
 use Rattle.handles.specs.contracts.block.marked.Marked.held.Key.{name as #self}

@@ -1,15 +1,12 @@
 -- `of` gives a new block that is marked away for good.
-use Rattle.handles.proofs.Walks.{at_type, walks_at}
-use Rattle.handles.proofs.Walks.{◌≡◌, ℕ, List, [], ◌∷◌, ◌++◌, refl, subst, Val, vptr}
-use Rattle.handles.proofs.Walks.{ent, id⊢, Lft, Share, ftrue, fsep, flft, sem, later, await, ‵, raw}
-use Rattle.handles.proofs.Walks.{◌⊛◌, ◌$◌, ◌∵◌, !, qed, by, move, keep, split, join, fsplit, fjoin, use1, use2}
-use Rattle.handles.proofs.Walks.{feq_i, stop, fld, addr, of_opd, first, blocks, returns}
-use Rattle.handles.proofs.Walks.{alloc_all, pass_all, free_all, look_at, get, get_in, through, sets, sets_last}
-use Rattle.handles.proofs.Walks.{sub, whole, fact, no, RattleType, owns, types_at, plain, Ptr, block_ptr}
-use Rattle.handles.proofs.Walks.{nothing_more, heard, param, param_laws, Stays, stay_dropped}
-use Rattle.handles.proofs.Walks.{HeldRow, known, hide, marked_word, Goes-blank, pair_val}
-use Rattle.handles.proofs.Walks.{RawBoxRow, raw_box-Good, raw_box_opens, bare_block, marked_shares, new_lasts}
-use Rattle.handles.proofs.Walks.{box_opens}
+use Rattle.handles.proofs.Walks.{◌≡◌, ℕ, List, [], ◌∷◌, ◌++◌, refl, subst, Val, vptr, ent, id⊢, Lft, Share, ftrue}
+use Rattle.handles.proofs.Walks.{fsep, flft, sem, later, await, ‵, raw, ◌⊛◌, ◌$◌, ◌∵◌, !, qed, by, move, keep, split}
+use Rattle.handles.proofs.Walks.{join, fsplit, fjoin, use1, use2, feq_i, stop, fld, addr, of_opd, first, blocks}
+use Rattle.handles.proofs.Walks.{returns, alloc_all, pass_all, free_all, look_at, get, get_in, through, sets}
+use Rattle.handles.proofs.Walks.{sets_last, sub, whole, fact, no, RattleType, owns, types_at, plain, Ptr, block_ptr}
+use Rattle.handles.proofs.Walks.{nothing_more, heard, param, param_laws, Stays, stay_dropped, HeldRow, known, hide}
+use Rattle.handles.proofs.Walks.{marked_word, Goes-blank, pair_val, RawBoxRow, raw_box-Good, raw_box_opens}
+use Rattle.handles.proofs.Walks.{bare_block, marked_shares, new_lasts, box_opens, at_type, walks_at}
 use contract.BorrowLft.{◌⊑◌}
 use Rattle.handles.specs.contracts.block.Block as block_type
 use Rattle.handles.specs.contracts.block.marked.Marked.of.{ended, clauses}

@@ -1,9 +1,9 @@
 -- `into_handle` makes the handle that was granted.
-use Rattle.handles.proofs.Walks.{drop, ◌≡◌, ℕ, false, [], ◌∷◌, refl, ‵, ◌$◌, !, by, keep, fsplit}
-use Rattle.handles.proofs.Walks.{rewrite, stop, fld, of_opd, no_more, and_then, returns, alloc_all, pass_all}
-use Rattle.handles.proofs.Walks.{free_all, look_at, get, get_in, sets, agg, sub, whole, fact, RattleType}
-use Rattle.handles.proofs.Walks.{Ptr, param, Right, HeldRow, permit_owns, one_word, one_word-Good, by_value}
-use Rattle.handles.proofs.Walks.{permit_worded, handle_at, is_handle, so, also, a_handle, Ptr-Good, snd∗}
+use Rattle.handles.proofs.Walks.{drop, ◌≡◌, ℕ, false, [], ◌∷◌, refl, ‵, ◌$◌, !, by, keep, fsplit, rewrite, stop, fld}
+use Rattle.handles.proofs.Walks.{of_opd, no_more, and_then, returns, alloc_all, pass_all, free_all, look_at, get}
+use Rattle.handles.proofs.Walks.{get_in, sets, agg, sub, whole, fact, RattleType, Ptr, param, Right, HeldRow}
+use Rattle.handles.proofs.Walks.{permit_owns, one_word, one_word-Good, by_value, permit_worded, handle_at, is_handle}
+use Rattle.handles.proofs.Walks.{so, also, a_handle, Ptr-Good, snd∗}
 use Rattle.handles.specs.contracts.block.permit.Permit.into_handle.{clauses}
 use Rattle.handles.specs.contracts.block.permit.Permit.into_handle.Key.{name as #self}
 use Rattle.handles.proofs.block.permit.Permit.into_handle.Statement.{statement}

@@ -1,8 +1,8 @@
 -- `into_logged` keeps of a gain that its step is in the log.
-use Rattle.handles.proofs.Walks.{ℕ, List, [], ◌∷◌, refl, ‵, ◌$◌, !, by, move, keep, drop, fsplit}
-use Rattle.handles.proofs.Walks.{fjoin, use0, no_more, returns, alloc_all, pass_all, free_all, look_at, sets}
-use Rattle.handles.proofs.Walks.{agg, RattleType, Ptr, param, one_word-Good, by_value}
-use Rattle.handles.proofs.Walks.{permit_worded, so, also, vstruct, vnil, WordStep, NoBytes, no_bytes-made, fact_i}
+use Rattle.handles.proofs.Walks.{ℕ, List, [], ◌∷◌, refl, ‵, ◌$◌, !, by, move, keep, drop, fsplit, fjoin, use0}
+use Rattle.handles.proofs.Walks.{no_more, returns, alloc_all, pass_all, free_all, look_at, sets, agg, RattleType, Ptr}
+use Rattle.handles.proofs.Walks.{param, one_word-Good, by_value, permit_worded, so, also, vstruct, vnil, WordStep}
+use Rattle.handles.proofs.Walks.{NoBytes, no_bytes-made, fact_i}
 use Rattle.handles.specs.contracts.block.permit.Permit.into_logged.{clauses}
 use Rattle.handles.specs.contracts.block.permit.Permit.into_logged.Key.{name as #self}
 use Rattle.handles.proofs.block.permit.Permit.into_logged.Statement.{statement}

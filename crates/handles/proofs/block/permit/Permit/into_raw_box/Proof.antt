@@ -1,11 +1,10 @@
 -- `into_loose` takes a block that nobody shares, with the allocator that it was requested from.
-use Rattle.handles.proofs.Walks.{◌≡◌, ℕ, ◌+◌, [], ◌∷◌, refl, ap, Val, vptr, full_share, fat, ‵, ◌⊛◌}
-use Rattle.handles.proofs.Walks.{some, given, ◌$◌, !, by, move, keep, drop, split, fsplit, fsplit3, fjoin3}
-use Rattle.handles.proofs.Walks.{fpick, pick, learn, use1, use2, rewrite, stop, fld, load, of_opd, no_more, and_then}
-use Rattle.handles.proofs.Walks.{first, blocks, returns, alloc_all, pass_all, free_all, look_at, get}
-use Rattle.handles.proofs.Walks.{get_in, through, sets, sets_last, is, agg, sub, whole, fact}
-use Rattle.handles.proofs.Walks.{RattleType, Ptr, block_ptr, ptr_val, block_of, offset_of, at_block, param, layout}
-use Rattle.handles.proofs.Walks.{Right, HeldRow, permit_owns, one_word-Good, by_value}
+use Rattle.handles.proofs.Walks.{◌≡◌, ℕ, ◌+◌, [], ◌∷◌, refl, ap, Val, vptr, full_share, fat, ‵, ◌⊛◌, some, given, ◌$◌}
+use Rattle.handles.proofs.Walks.{ !, by, move, keep, drop, split, fsplit, fsplit3, fjoin3, fpick, pick, learn, use1}
+use Rattle.handles.proofs.Walks.{use2, rewrite, stop, fld, load, of_opd, no_more, and_then, first, blocks, returns}
+use Rattle.handles.proofs.Walks.{alloc_all, pass_all, free_all, look_at, get, get_in, through, sets, sets_last, is}
+use Rattle.handles.proofs.Walks.{agg, sub, whole, fact, RattleType, Ptr, block_ptr, ptr_val, block_of, offset_of}
+use Rattle.handles.proofs.Walks.{at_block, param, layout, Right, HeldRow, permit_owns, one_word-Good, by_value}
 use Rattle.handles.proofs.Walks.{permit_worded, so, also, heap_row, pair_val, raw_box-Good, raw_box_shuts, look}
 use Rattle.handles.proofs.Walks.{whole_block, IsWholeBlock, heap_offset, unshared_block, Good, group, part_at, Boxed}
 use Rattle.handles.proofs.Walks.{box_shuts, heap_twice, whole_block_of, snd∗}

@@ -1,11 +1,10 @@
 -- `lower` is one subtraction from the word.
-use Rattle.handles.proofs.Walks.{◌≡◌, ℕ, ◌+◌, [], ◌∷◌, refl, sym, ap, lit<, via, Fml, ‵, later}
-use Rattle.handles.proofs.Walks.{◌$◌, !, by, move, keep, drop, fsplit, fjoin, fpick, use2, await, rewrite}
-use Rattle.handles.proofs.Walks.{stop, fld, addr, lit, of_opd, no_more, and_then, first, blocks, Calls-last}
-use Rattle.handles.proofs.Walks.{returns, alloc_all, pass_all, free_all, look_at, get, get_in, through, sets}
-use Rattle.handles.proofs.Walks.{lands_last, is, agg, sub, whole, fact, RattleType, Ptr, block_ptr}
-use Rattle.handles.proofs.Walks.{ptr_val, block_of, offset_of, at_block, param, fm, found, finds}
-use Rattle.handles.proofs.Walks.{Right, HeldRow, permit_owns, one_word, word_and_permit, one_word-Good}
+use Rattle.handles.proofs.Walks.{◌≡◌, ℕ, ◌+◌, [], ◌∷◌, refl, sym, ap, lit<, via, Fml, ‵, later, ◌$◌, !, by, move}
+use Rattle.handles.proofs.Walks.{keep, drop, fsplit, fjoin, fpick, use2, await, rewrite, stop, fld, addr, lit, of_opd}
+use Rattle.handles.proofs.Walks.{no_more, and_then, first, blocks, Calls-last, returns, alloc_all, pass_all, free_all}
+use Rattle.handles.proofs.Walks.{look_at, get, get_in, through, sets, lands_last, is, agg, sub, whole, fact}
+use Rattle.handles.proofs.Walks.{RattleType, Ptr, block_ptr, ptr_val, block_of, offset_of, at_block, param, fm, found}
+use Rattle.handles.proofs.Walks.{finds, Right, HeldRow, permit_owns, one_word, word_and_permit, one_word-Good}
 use Rattle.handles.proofs.Walks.{returns_permit, word_and_permit-Good, by_value, permit_worded, permit_at, so, also}
 use Rattle.handles.proofs.Walks.{asks_with, exists, given, pick, learn, List, WordStep, Adds, to_lower}
 use Rattle.handles.proofs.Walks.{right_by_lower, block_at, and_logged, lower-NoHandle, permit_kept, snd∗}

@@ -1,13 +1,11 @@
 -- `fill` writes a value into its room.
-use Rattle.handles.proofs.Walks.{at_type, walks_at}
-use Rattle.handles.proofs.Walks.{◌≡◌, [], ◌∷◌, ◌++◌, refl, Val, vptr, full_share}
-use Rattle.handles.proofs.Walks.{ftrue, flft, ‵, raw, ◌⊛◌, ◌$◌, ◌∵◌, !, qed, by, move}
-use Rattle.handles.proofs.Walks.{keep, split, fsplit3, fjoin, use2, stop, fld, of_opd, no_more, and_then}
-use Rattle.handles.proofs.Walks.{first, blocks, returns, alloc_all, pass_all, free_all, look_at, get}
-use Rattle.handles.proofs.Walks.{get_in, through, sets, agg, sub, whole, no, RattleType, owns, types_at}
-use Rattle.handles.proofs.Walks.{plain, block_ptr, nothing_more, param, Stays, stay_dropped}
-use Rattle.handles.proofs.Walks.{Goes-dropped, known, init, assigns_last, part_at, Global}
-use Rattle.handles.proofs.Walks.{Goes-blank, heap, pair_val, raw_box-Good, raw_box_shuts}
+use Rattle.handles.proofs.Walks.{◌≡◌, [], ◌∷◌, ◌++◌, refl, Val, vptr, full_share, ftrue, flft, ‵, raw, ◌⊛◌, ◌$◌, ◌∵◌}
+use Rattle.handles.proofs.Walks.{ !, qed, by, move, keep, split, fsplit3, fjoin, use2, stop, fld, of_opd, no_more}
+use Rattle.handles.proofs.Walks.{and_then, first, blocks, returns, alloc_all, pass_all, free_all, look_at, get}
+use Rattle.handles.proofs.Walks.{get_in, through, sets, agg, sub, whole, no, RattleType, owns, types_at, plain}
+use Rattle.handles.proofs.Walks.{block_ptr, nothing_more, param, Stays, stay_dropped, Goes-dropped, known, init}
+use Rattle.handles.proofs.Walks.{assigns_last, part_at, Global, Goes-blank, heap, pair_val, raw_box-Good}
+use Rattle.handles.proofs.Walks.{raw_box_shuts, at_type, walks_at}
 use Rattle.std_alloc.proofs.BoxSteps.Form as box
 use Rattle.std_alloc.proofs.BoxSteps.Steps.{el_tells, el_in}
 use Rattle.std_alloc.specs.contracts.room.vacant.Vacant as vacant

@@ -1,16 +1,14 @@
 -- `into_box` makes the box again.
-use Rattle.handles.proofs.Walks.{walks_at}
-use Rattle.handles.proofs.Walks.{◌≡◌, List, [], ◌∷◌, ◌++◌, refl, sym, ap, subst, a_type, Val, vptr}
-use Rattle.handles.proofs.Walks.{id⊢, ftrue, flft, ‵, raw, ◌⊛◌, some, later, ◌$◌, ◌∵◌, !, qed, by}
-use Rattle.handles.proofs.Walks.{move, keep, drop, split, split3, join, fsplit, fjoin, pick, use1, await, rewrite}
-use Rattle.handles.proofs.Walks.{feq_i, stop, fld, of_opd, no_more, and_then, first, blocks, returns}
-use Rattle.handles.proofs.Walks.{alloc_all, pass_all, free_all, look_at, get, get_in, sets, lands_last}
-use Rattle.handles.proofs.Walks.{sub, whole, fact, no, RattleType, owns, types_at, plain, block_ptr}
-use Rattle.handles.proofs.Walks.{nothing_more, only, param, layout, bounded, Stays, stay_dropped}
-use Rattle.handles.proofs.Walks.{fm, Lft, Share, full_share, use0, known, calls_at_last, Good}
-use Rattle.handles.proofs.Walks.{dcons, dnil, ⊑_static, named_in, Lasts, lasts, triple_of, Global, passed, box_out}
-use Rattle.handles.proofs.Walks.{box_in, glues, Goes-blank, heap_row, ghosts, heap, heap_arg, heap_arg-laws}
-use Rattle.handles.proofs.Walks.{pair_val, RawBoxRow, raw_box-Good, raw_box_opens}
+use Rattle.handles.proofs.Walks.{◌≡◌, List, [], ◌∷◌, ◌++◌, refl, sym, ap, subst, a_type, Val, vptr, id⊢, ftrue, flft}
+use Rattle.handles.proofs.Walks.{‵, raw, ◌⊛◌, some, later, ◌$◌, ◌∵◌, !, qed, by, move, keep, drop, split, split3}
+use Rattle.handles.proofs.Walks.{join, fsplit, fjoin, pick, use1, await, rewrite, feq_i, stop, fld, of_opd, no_more}
+use Rattle.handles.proofs.Walks.{and_then, first, blocks, returns, alloc_all, pass_all, free_all, look_at, get}
+use Rattle.handles.proofs.Walks.{get_in, sets, lands_last, sub, whole, fact, no, RattleType, owns, types_at, plain}
+use Rattle.handles.proofs.Walks.{block_ptr, nothing_more, only, param, layout, bounded, Stays, stay_dropped, fm, Lft}
+use Rattle.handles.proofs.Walks.{Share, full_share, use0, known, calls_at_last, Good, dcons, dnil, ⊑_static, named_in}
+use Rattle.handles.proofs.Walks.{Lasts, lasts, triple_of, Global, passed, box_out, box_in, glues, Goes-blank}
+use Rattle.handles.proofs.Walks.{heap_row, ghosts, heap, heap_arg, heap_arg-laws, pair_val, RawBoxRow, raw_box-Good}
+use Rattle.handles.proofs.Walks.{raw_box_opens, walks_at}
 use Rattle.std_alloc.specs.contracts.boxed.Box.from_raw as callee
 use Rattle.std_alloc.proofs.boxed.Box.from_raw.Met.{met}
 use Rattle.handles.proofs.RawBoxes.{◌⊑◌}

@@ -1,17 +1,14 @@
 -- `of` takes a box apart.
-use Rattle.handles.proofs.Walks.{walks_at}
-use Rattle.handles.proofs.Walks.{◌≡◌, [], ◌∷◌, ◌++◌, refl, ap, ◌∙◌, a_type, Val, vptr}
-use Rattle.handles.proofs.Walks.{id⊢, ftrue, flft, sem, ‵, raw, ◌⊛◌, some, later, ◌$◌, ◌∵◌, !, qed}
-use Rattle.handles.proofs.Walks.{by, move, keep, drop, split, split3, join, fsplit, fjoin, fpick, pick, use1, await}
-use Rattle.handles.proofs.Walks.{rewrite, feq_l, stop, fld, of_opd, no_more, and_then, returns}
-use Rattle.handles.proofs.Walks.{lands_as, alloc_all, pass_all, free_all, look_at, get, get_in, sets, agg, sub}
-use Rattle.handles.proofs.Walks.{whole, fact, no, RattleType, owns, types_at, plain, Ptr, block_ptr, ptr_val}
-use Rattle.handles.proofs.Walks.{nothing_more, only, heard, param, layout, bounded, Stays, stay_dropped}
-use Rattle.handles.proofs.Walks.{fm, known, Lft, Share, full_share, use0, never, fst∗, vstruct}
-use Rattle.handles.proofs.Walks.{of_list, null_ptr, in_a_block, calls_at, dcons, dnil, ⊑_static, named_in, Lasts}
-use Rattle.handles.proofs.Walks.{lasts, triple_of, Global, passed, box_out, box_in, glues, Goes-blank, heap_row}
-use Rattle.handles.proofs.Walks.{ghosts, heap, heap_arg, heap_arg-laws, handle_tells, pair_val, raw_box-Good}
-use Rattle.handles.proofs.Walks.{raw_box_shuts}
+use Rattle.handles.proofs.Walks.{◌≡◌, [], ◌∷◌, ◌++◌, refl, ap, ◌∙◌, a_type, Val, vptr, id⊢, ftrue, flft, sem, ‵, raw}
+use Rattle.handles.proofs.Walks.{◌⊛◌, some, later, ◌$◌, ◌∵◌, !, qed, by, move, keep, drop, split, split3, join}
+use Rattle.handles.proofs.Walks.{fsplit, fjoin, fpick, pick, use1, await, rewrite, feq_l, stop, fld, of_opd, no_more}
+use Rattle.handles.proofs.Walks.{and_then, returns, lands_as, alloc_all, pass_all, free_all, look_at, get, get_in}
+use Rattle.handles.proofs.Walks.{sets, agg, sub, whole, fact, no, RattleType, owns, types_at, plain, Ptr, block_ptr}
+use Rattle.handles.proofs.Walks.{ptr_val, nothing_more, only, heard, param, layout, bounded, Stays, stay_dropped, fm}
+use Rattle.handles.proofs.Walks.{known, Lft, Share, full_share, use0, never, fst∗, vstruct, of_list, null_ptr}
+use Rattle.handles.proofs.Walks.{in_a_block, calls_at, dcons, dnil, ⊑_static, named_in, Lasts, lasts, triple_of}
+use Rattle.handles.proofs.Walks.{Global, passed, box_out, box_in, glues, Goes-blank, heap_row, ghosts, heap, heap_arg}
+use Rattle.handles.proofs.Walks.{heap_arg-laws, handle_tells, pair_val, raw_box-Good, raw_box_shuts, walks_at}
 use mir.Raw.{raw as bare}
 use denote.Builtin.{RawPtr}
 use denote.Struct.Tuple.{Tuple}

@@ -1,17 +1,15 @@
 -- `push` writes an item into the first place after the others.
-use Rattle.handles.proofs.PlacesWalks.{at_type, walks_at}
-use Rattle.handles.proofs.PlacesWalks.{ℕ, ◌+◌, ◌-◌, ◌^◌, ◌<◌, List, [], ◌∷◌, ◌++◌, refl, sym, ap, ◌∙◌, arith}
-use Rattle.handles.proofs.PlacesWalks.{Val, vptr, vunit, full_share, ftrue, flft}
-use Rattle.handles.proofs.PlacesWalks.{‵, raw, ◌⊛◌, ◌$◌, ◌∵◌, !, qed, move, keep, drop, split, split3}
-use Rattle.handles.proofs.PlacesWalks.{join, fsplit3, fjoin, fjoin3, use1, use2, rewrite, feq_i, suffices, done}
-use Rattle.handles.proofs.PlacesWalks.{unit_lit, stop, fld, load, lit, of_opd, first, blocks, returns}
-use Rattle.handles.proofs.PlacesWalks.{alloc_all, pass_all, free_all, look_at, get, through, sets, sub, whole}
-use Rattle.handles.proofs.PlacesWalks.{look_in, fact, no, RattleType, owns, types_at, plain, block_ptr}
-use Rattle.handles.proofs.PlacesWalks.{nothing_more, heard, cell_at, param, Stays, stay_dropped}
-use Rattle.handles.proofs.PlacesWalks.{Goes-dropped, elτ, one_below, sz, times_below, PlacesRow}
-use Rattle.handles.proofs.PlacesWalks.{places_val, places_opens, ◌*◌, as_raw, as_written, froom, Array, part_at}
-use Rattle.handles.proofs.PlacesWalks.{closes, opens, Goes-ref, stay_ref, ty_array, store_in, assigns, bin, size_lit}
-use Rattle.handles.proofs.PlacesWalks.{init, assigns_last, ends_at, el_in, spare, snoc, places_shuts}
+use Rattle.handles.proofs.PlacesWalks.{ℕ, ◌+◌, ◌-◌, ◌^◌, ◌<◌, List, [], ◌∷◌, ◌++◌, refl, sym, ap, ◌∙◌, arith, Val}
+use Rattle.handles.proofs.PlacesWalks.{vptr, vunit, full_share, ftrue, flft, ‵, raw, ◌⊛◌, ◌$◌, ◌∵◌, !, qed, move}
+use Rattle.handles.proofs.PlacesWalks.{keep, drop, split, split3, join, fsplit3, fjoin, fjoin3, use1, use2, rewrite}
+use Rattle.handles.proofs.PlacesWalks.{feq_i, suffices, done, unit_lit, stop, fld, load, lit, of_opd, first, blocks}
+use Rattle.handles.proofs.PlacesWalks.{returns, alloc_all, pass_all, free_all, look_at, get, through, sets, sub}
+use Rattle.handles.proofs.PlacesWalks.{whole, look_in, fact, no, RattleType, owns, types_at, plain, block_ptr}
+use Rattle.handles.proofs.PlacesWalks.{nothing_more, heard, cell_at, param, Stays, stay_dropped, Goes-dropped, elτ}
+use Rattle.handles.proofs.PlacesWalks.{one_below, sz, times_below, PlacesRow, places_val, places_opens, ◌*◌, as_raw}
+use Rattle.handles.proofs.PlacesWalks.{as_written, froom, Array, part_at, closes, opens, Goes-ref, stay_ref, ty_array}
+use Rattle.handles.proofs.PlacesWalks.{store_in, assigns, bin, size_lit, init, assigns_last, ends_at, el_in, spare}
+use Rattle.handles.proofs.PlacesWalks.{snoc, places_shuts, at_type, walks_at}
 use lib.ListN.{length-append}
 use Rattle.core.proofs.mem.Facts.{says_two}
 use Rattle.core.proofs.mem.Param as param_steps

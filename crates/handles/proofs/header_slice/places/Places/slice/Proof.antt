@@ -1,13 +1,12 @@
 -- `slice` shows the items that the places lend. Assumes `Logic`.
-use Rattle.handles.proofs.PlacesWalks.{◌≡◌, ℕ, ◌^◌, ◌<◌, List, [], ◌∷◌, refl, sym, ap, ◌∙◌, subst, Val}
-use Rattle.handles.proofs.PlacesWalks.{id⊢, Lft, fhide, ‵, raw, ◌⊛◌, ◌$◌, !, by, move, keep, drop}
-use Rattle.handles.proofs.PlacesWalks.{split, fsplit, fjoin, use1, rewrite, feq_i, flt_i, flt_l, stop, fld, load}
-use Rattle.handles.proofs.PlacesWalks.{of_opd, no_more, and_then, first, blocks, returns, alloc_all}
-use Rattle.handles.proofs.PlacesWalks.{pass_all, free_all, look_at, get, through, sets, sets_last, agg, sub}
-use Rattle.handles.proofs.PlacesWalks.{whole, look_in, fact, fact_i, RattleType, Ptr, InBlock, block_ptr}
-use Rattle.handles.proofs.PlacesWalks.{block_of, offset_of, at_block, peeks, heard, looks, shuts, Is, shows, cell_at}
-use Rattle.handles.proofs.PlacesWalks.{param, PlacesRow, places_val, ◌*◌, ◌≤◌, type_size, slice_val}
-use Rattle.handles.proofs.PlacesWalks.{length, hidden_shr, in_block_says, words_open}
+use Rattle.handles.proofs.PlacesWalks.{◌≡◌, ℕ, ◌^◌, ◌<◌, List, [], ◌∷◌, refl, sym, ap, ◌∙◌, subst, Val, id⊢, Lft}
+use Rattle.handles.proofs.PlacesWalks.{fhide, ‵, raw, ◌⊛◌, ◌$◌, !, by, move, keep, drop, split, fsplit, fjoin, use1}
+use Rattle.handles.proofs.PlacesWalks.{rewrite, feq_i, flt_i, flt_l, stop, fld, load, of_opd, no_more, and_then}
+use Rattle.handles.proofs.PlacesWalks.{first, blocks, returns, alloc_all, pass_all, free_all, look_at, get, through}
+use Rattle.handles.proofs.PlacesWalks.{sets, sets_last, agg, sub, whole, look_in, fact, fact_i, RattleType, Ptr}
+use Rattle.handles.proofs.PlacesWalks.{InBlock, block_ptr, block_of, offset_of, at_block, peeks, heard, looks, shuts}
+use Rattle.handles.proofs.PlacesWalks.{Is, shows, cell_at, param, PlacesRow, places_val, ◌*◌, ◌≤◌, type_size}
+use Rattle.handles.proofs.PlacesWalks.{slice_val, length, hidden_shr, in_block_says, words_open}
 use native.Mathlib.Nat.{mul-le-mul_right, lt_of_le_of_lt}
 use denote.Opens.{unhide, hide}
 use denote.Struct.Owning.{to}

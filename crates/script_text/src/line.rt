@@ -1,9 +1,10 @@
 //! The word of a line, and the numbers after it.
-ghost use Rattle.std.specs.Prelude.{◌≡◌, ◌↔◌, ℕ, List, length, IfSome, IfNone, IsTrue};
+ghost use Rattle.std.specs.Prelude.{◌≡◌, ◌↔◌, ◌<◌, ◌^◌, ℕ, List, Option, length, decimal, IfSome, IfNone, IsTrue};
 ghost use Rattle.std.specs.Option.{option_copied};
-ghost use Rattle.script_text.specs.Line.{IsLine, fields, fields_if_any, numbers_in};
+ghost use Rattle.script_text.specs.Line.{IsLine, fields, fields_if_any, numbers_in, space};
+ghost use Rattle.script_text.specs.Split.{with_rest};
 
-use crate::number::parse_number;
+use crate::number::split_number;
 use crate::split::split_once;
 
 /// A line that is a word and at most three numbers, each after one space.
@@ -42,11 +43,11 @@ pub fn read_line(text: &[u8]) -> Option<Line<'_>>
     let mut numbers = [0; 3];
     let mut count = 0;
     while let Some(text) = rest {
-        let (field, after) = split_once(text, b' ');
         if count == numbers.len() {
             return None;
         }
-        numbers[count] = parse_number(field)?;
+        let (number, after) = split_field(text)?;
+        numbers[count] = number;
         count += 1;
         rest = after;
     }
@@ -55,4 +56,22 @@ pub fn read_line(text: &[u8]) -> Option<Line<'_>>
         count,
         numbers,
     })
+}
+
+/// The number that the first field of a text is, and what comes after the space behind it, if there is one.
+fn split_field(text: &[u8]) -> Option<(u32, Option<&[u8]>)>
+    ensures number { IfSome result (λ field.
+        text.now ≡ with_rest space (decimal field.0) (option_copied field.1)) }
+    ensures in_range { IfSome result (λ field. field.0 < 2 ^ 32) }
+    ensures none { IfNone result ((number : ℕ) (rest : Option (List ℕ))
+        → text.now ≡ with_rest space (decimal number) rest → ¬ (number < 2 ^ 32)) }
+{
+    let (number, after) = split_number(text)?;
+    let Some((next, rest)) = after.split_first() else {
+        return Some((number, None));
+    };
+    if *next != b' ' {
+        return None;
+    }
+    Some((number, Some(rest)))
 }

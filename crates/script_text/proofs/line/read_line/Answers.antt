@@ -3,7 +3,7 @@ use Rattle.std.proofs.Common.{length-set}
 use Rattle.std.proofs.lemmas.List.{length-take, take_more_set}
 use Rattle.std.proofs.lemmas.List.Elements.{All-append, All-cons, All-nil}
 use Rattle.script_text.specs.Line.{IsLine}
-use Rattle.script_text.proofs.Lines.{first_field, no_line, too_long, one_more}
+use Rattle.script_text.proofs.Lines.{first_field, no_number, number_first, one_more, too_many}
 use Rattle.script_text.proofs.line.read_line.Goals as goal
 
 pub loop-rest-init : goal.loop-rest-init
@@ -16,39 +16,33 @@ loop-rest-init c = record {
 
 pub returns-then-count-eq3-clause-none : goal.returns-then-count-eq3-clause-none
 returns-then-count-eq3-clause-none c =
-    let field = first_field c.in-Some.text.now _ _ c.split_once-in-Some.ensures.first
-    c.split_once-in-Some.ensures.parts in
-    let read = rw field at (rw c.in-Some.is at c.loop-rest.invariant.read) in
-    too_long c.args.text.now _ _ _ _ (omega (arith, length-take c.loop-rest.count c.loop-rest.numbers)) read
+    too_many c.args.text.now _ c.in-Some.text.now _ (rw c.in-Some.is at c.loop-rest.invariant.read)
+    (omega (arith, length-take c.loop-rest.count c.loop-rest.numbers))
 
-pub returns-in_err-numbers-clause-none : goal.returns-in_err-numbers-clause-none
-returns-in_err-numbers-clause-none c =
-    let field = first_field c.in-Some.text.now _ _ c.split_once-in-Some.ensures.first
-    c.split_once-in-Some.ensures.parts in
-    let read = rw field at (rw c.in-Some.is at c.loop-rest.invariant.read) in
+pub returns-in_err-number-clause-none : goal.returns-in_err-number-clause-none
+returns-in_err-number-clause-none c =
     let none : (word numbers : List ℕ) → ¬ (IsLine c.args.text.now word numbers) =
-    no_line c.args.text.now _ _ _ _ read c.in_err-numbers.ensures.none in
+    no_number c.args.text.now _ c.in-Some.text.now _ (rw c.in-Some.is at c.loop-rest.invariant.read)
+    c.in_err-number.ensures.none in
     search (rules, none)
 
 pub loop-rest-smaller : goal.loop-rest-smaller
 loop-rest-smaller c =
-    let field = first_field c.in-Some.text.now _ _ c.split_once-in-Some.ensures.first
-    c.split_once-in-Some.ensures.parts in
-    rw c.in-Some.is (rw field (omega arith))
+    let first = number_first c.in-Some.text.now _ _ c.in_ok-number.ensures.in_range c.in_ok-number.ensures.number in
+    rw c.in-Some.is (rw first (omega arith))
 
 pub loop-rest-preserved : goal.loop-rest-preserved
 loop-rest-preserved c =
-    let field = first_field c.in-Some.text.now _ _ c.split_once-in-Some.ensures.first
-    c.split_once-in-Some.ensures.parts in
-    let read = rw field at (rw c.in-Some.is at c.loop-rest.invariant.read) in
+    let first = number_first c.in-Some.text.now _ _ c.in_ok-number.ensures.in_range c.in_ok-number.ensures.number in
+    let read = rw first at (rw c.in-Some.is at c.loop-rest.invariant.read) in
     let room : c.loop-rest.count < length c.loop-rest.numbers = omega arith in
-    let number = c.in_ok-numbers.ensures.number in
+    let number = c.in_ok-number.number in
     record {
-      read = one_more c.args.text.now _ _ c.loop-rest.numbers c.loop-rest.count c.in_ok-numbers.field-0 _ room number.0
-          read;
-      in_range = rw (take_more_set c.loop-rest.numbers c.loop-rest.count c.in_ok-numbers.field-0 room)
+      read = one_more c.args.text.now _ _ c.loop-rest.numbers c.loop-rest.count number _ room refl read;
+      in_range = rw (take_more_set c.loop-rest.numbers c.loop-rest.count number room)
           (All-append (λ number. number < 2 ^ 32) _ _ c.loop-rest.invariant.in_range
-          (All-cons (λ number. number < 2 ^ 32) _ [] number.1 (All-nil (λ number. number < 2 ^ 32))));
+          (All-cons (λ number. number < 2 ^ 32) _ [] c.in_ok-number.ensures.in_range
+          (All-nil (λ number. number < 2 ^ 32))));
       few = omega arith;
-      places = omega (arith, length-set c.loop-rest.numbers c.loop-rest.count c.in_ok-numbers.field-0);
+      places = omega (arith, length-set c.loop-rest.numbers c.loop-rest.count number);
     }

@@ -1,12 +1,25 @@
 //! Workloads on counted pointers, each run over several implementations.
 //!
 //!     bench IMPLEMENTATION WORKLOAD ITERATIONS     prints a checksum
-//!     bench table [REPEATS]                        prints nanoseconds a unit: medians, the implementations in turn
 //!     bench list                                   prints WORKLOAD UNITS ITERATIONS IMPLEMENTATIONS, a line each
 //!
 //! An implementation is `servo` (the crate that was ported), `std` (the standard library's `Arc`) or `word`: a pointer
 //! of this file's own that makes the port's four steps, each `SeqCst`, in Rust, to tell what they cost by themselves.
 //! Versions of a list are also in `plain`, a `Vec` that each version copies.
+
+/// What each of the three pointers runs.
+macro_rules! peers {
+    ($servo:expr, $std:expr, $word:expr) => {
+        &[("servo", $servo as Run), ("std", $std), ("word", $word)]
+    };
+}
+
+/// The same function of each of their modules.
+macro_rules! three {
+    ($f:ident) => {
+        peers!(servo::$f, standard::$f, word_arc::$f)
+    };
+}
 
 mod trees;
 mod versions;
@@ -15,7 +28,6 @@ use std::env;
 use std::hint::black_box;
 use std::process;
 use std::thread;
-use std::time::Instant;
 
 /// Knuth's generator. Every implementation of the workloads uses it, so that checksums agree.
 fn next(state: u64) -> u64 {
@@ -35,8 +47,8 @@ const ITEMS: u32 = 16; // of header-build and header-sum
 const RING: usize = 64; // handles kept by replace
 
 /// A counted pointer by the port's rules: one word, bit 63 the mark, a clone by a load and a compare-exchange that is
-/// tried again, a drop by a load and a subtraction. Its block has the port's other two words too: the stamp, which no
-/// workload uses, and the limit.
+/// tried again, a drop by a load and a subtraction. Its block has the port's other two words too: the stamp, by which
+/// it compares two handles as the port does, and the limit.
 mod word {
     use std::ops::Deref;
     use std::sync::atomic::{AtomicU64, Ordering::SeqCst};
@@ -47,7 +59,7 @@ mod word {
 
     struct Block<T> {
         word: AtomicU64,
-        _stamp: AtomicU64,
+        stamp: AtomicU64,
         limit: u64,
         value: T,
     }
@@ -68,7 +80,7 @@ mod word {
             Arc {
                 at: Box::into_raw(Box::new(Block {
                     word: AtomicU64::new(1),
-                    _stamp: AtomicU64::new(0),
+                    stamp: AtomicU64::new(0),
                     limit: MAX_REFCOUNT,
                     value,
                 })),
@@ -125,7 +137,28 @@ mod word {
 
         #[inline]
         pub fn ptr_eq(this: &Arc<T>, other: &Arc<T>) -> bool {
-            this.at == other.at
+            let (one, two) = unsafe { (&(*this.at).stamp, &(*other.at).stamp) };
+            let mut signs = 0;
+            let mut amount = 1u64;
+            for _ in 0..64 {
+                let before = two.load(SeqCst);
+                let own = one.fetch_add(amount, SeqCst);
+                let after = two.load(SeqCst);
+                if after == before {
+                    return false;
+                }
+                signs = if after.wrapping_sub(before) == amount {
+                    signs + 1
+                } else {
+                    0
+                };
+                if signs == 4 {
+                    return true;
+                }
+                let odd = own.wrapping_mul(0x9e37_79b9_7f4a_7c15) | 1;
+                amount = amount.wrapping_add(odd).wrapping_add(odd);
+            }
+            false
         }
 
         #[inline]
@@ -334,10 +367,10 @@ macro_rules! shared_workloads {
                 compare_often(&Arc::<u64>::new(7), &Arc::<u64>::new(7), n)
             }
 
-            pub fn ptr_eq_on_threads(threads: u64, n: u64) -> u64 {
+            pub fn ptr_eq_on_four(n: u64) -> u64 {
                 let (a, b) = (Arc::<u64>::new(7), Arc::<u64>::new(7));
                 thread::scope(|s| {
-                    let all: Vec<_> = (0..threads).map(|_| s.spawn(|| compare_often(&a, &b, n))).collect();
+                    let all: Vec<_> = (0..4).map(|_| s.spawn(|| compare_often(&a, &b, n))).collect();
                     all.into_iter().map(|t| t.join().unwrap()).sum()
                 })
             }
@@ -549,23 +582,27 @@ struct Workload {
     runs: &'static [(&'static str, Run)],
 }
 
-macro_rules! three {
-    ($f:ident) => {
-        &[
-            ("servo", servo::$f as Run),
-            ("std", standard::$f),
-            ("word", word_arc::$f),
-        ]
-    };
+const fn workload(
+    name: &'static str,
+    units: u64,
+    iterations: u64,
+    runs: &'static [(&'static str, Run)],
+) -> Workload {
+    Workload {
+        name,
+        units,
+        iterations,
+        runs,
+    }
 }
 
 macro_rules! contended {
     ($t:literal) => {
-        &[
-            ("servo", (|n| servo::contend($t, n)) as Run),
-            ("std", |n| standard::contend($t, n)),
-            ("word", |n| word_arc::contend($t, n)),
-        ]
+        peers!(
+            |n| servo::contend($t, n),
+            |n| standard::contend($t, n),
+            |n| word_arc::contend($t, n)
+        )
     };
 }
 
@@ -579,170 +616,64 @@ macro_rules! marked {
 }
 
 const WORKLOADS: &[Workload] = &[
-    Workload {
-        name: "new-drop",
-        units: 1,
-        iterations: 5_000_000,
-        runs: three!(new_drop),
-    },
-    Workload {
-        name: "replace",
-        units: 1,
-        iterations: 5_000_000,
-        runs: three!(replace),
-    },
-    Workload {
-        name: "clone-drop",
-        units: 1,
-        iterations: 8_000_000,
-        runs: three!(clone_drop),
-    },
-    Workload {
-        name: "clone-hold",
-        units: 64,
-        iterations: 125_000,
-        runs: three!(clone_hold),
-    },
-    Workload {
-        name: "deref-sum",
-        units: 1_000_000,
-        iterations: 60,
-        runs: three!(deref_sum),
-    },
-    Workload {
-        name: "make-mut-unique",
-        units: 1,
-        iterations: 50_000_000,
-        runs: three!(make_mut_unique),
-    },
-    Workload {
-        name: "make-mut-shared",
-        units: 1,
-        iterations: 3_000_000,
-        runs: three!(make_mut_shared),
-    },
-    Workload {
-        name: "get-mut-unique",
-        units: 1,
-        iterations: 50_000_000,
-        runs: three!(get_mut_unique),
-    },
-    Workload {
-        name: "contend-1",
-        units: 1,
-        iterations: 8_000_000,
-        runs: contended!(1),
-    },
-    Workload {
-        name: "contend-2",
-        units: 1,
-        iterations: 4_000_000,
-        runs: contended!(2),
-    },
-    Workload {
-        name: "contend-4",
-        units: 1,
-        iterations: 2_000_000,
-        runs: contended!(4),
-    },
-    Workload {
-        name: "ptr-eq-same",
-        units: 1,
-        iterations: 20_000_000,
-        runs: three!(ptr_eq_same),
-    },
-    Workload {
-        name: "ptr-eq-other",
-        units: 1,
-        iterations: 20_000_000,
-        runs: three!(ptr_eq_other),
-    },
-    Workload {
-        name: "ptr-eq-4",
-        units: 4,
-        iterations: 2_000_000,
-        runs: &[
-            ("servo", (|n| servo::ptr_eq_on_threads(4, n)) as Run),
-            ("std", |n| standard::ptr_eq_on_threads(4, n)),
-            ("word", |n| word_arc::ptr_eq_on_threads(4, n)),
-        ],
-    },
+    workload("new-drop", 1, 5_000_000, three!(new_drop)),
+    workload("replace", 1, 5_000_000, three!(replace)),
+    workload("clone-drop", 1, 8_000_000, three!(clone_drop)),
+    workload("clone-hold", 64, 125_000, three!(clone_hold)),
+    workload("deref-sum", 1_000_000, 60, three!(deref_sum)),
+    workload("make-mut-unique", 1, 50_000_000, three!(make_mut_unique)),
+    workload("make-mut-shared", 1, 3_000_000, three!(make_mut_shared)),
+    workload("get-mut-unique", 1, 50_000_000, three!(get_mut_unique)),
+    workload("contend-1", 1, 8_000_000, contended!(1)),
+    workload("contend-2", 1, 4_000_000, contended!(2)),
+    workload("contend-4", 1, 2_000_000, contended!(4)),
+    workload("ptr-eq-same", 1, 1_000_000, three!(ptr_eq_same)),
+    workload("ptr-eq-other", 1, 5_000_000, three!(ptr_eq_other)),
+    workload("ptr-eq-4", 4, 50_000, three!(ptr_eq_on_four)),
     // Beside a `get_mut` that is written through.
-    Workload {
-        name: "into-unique",
-        units: 1,
-        iterations: 50_000_000,
-        runs: three!(get_mut_unique),
-    },
-    Workload {
-        name: "unique-write",
-        units: 1,
-        iterations: 50_000_000,
-        runs: &[
-            ("servo", only_servo::unique_write as Run),
-            ("std", box_write),
-            ("word", box_write),
-        ],
-    },
-    Workload {
-        name: "header-get",
-        units: 1,
-        iterations: 20_000_000,
-        runs: &[
-            ("servo", servo_header::get as Run),
-            ("std", standard_header::get),
-            ("word", word_header::get),
-        ],
-    },
-    Workload {
-        name: "header-build",
-        units: 1,
-        iterations: 3_000_000,
-        runs: &[
-            ("servo", servo_header::build as Run),
-            ("std", standard_header::build),
-            ("word", word_header::build),
-        ],
-    },
-    Workload {
-        name: "header-sum",
-        units: 1,
-        iterations: 10_000_000,
-        runs: &[
-            ("servo", servo_header::sum as Run),
-            ("std", standard_header::sum),
-            ("word", word_header::sum),
-        ],
-    },
-    Workload {
-        name: "marked-clone",
-        units: 1,
-        iterations: 50_000_000,
-        runs: marked!(1),
-    },
-    Workload {
-        name: "marked-clone-4",
-        units: 1,
-        iterations: 50_000_000,
-        runs: marked!(4),
-    },
+    workload("into-unique", 1, 50_000_000, three!(get_mut_unique)),
+    workload(
+        "unique-write",
+        1,
+        50_000_000,
+        peers!(only_servo::unique_write, box_write, box_write),
+    ),
+    workload(
+        "header-get",
+        1,
+        20_000_000,
+        peers!(servo_header::get, standard_header::get, word_header::get),
+    ),
+    workload(
+        "header-build",
+        1,
+        3_000_000,
+        peers!(
+            servo_header::build,
+            standard_header::build,
+            word_header::build
+        ),
+    ),
+    workload(
+        "header-sum",
+        1,
+        10_000_000,
+        peers!(servo_header::sum, standard_header::sum, word_header::sum),
+    ),
+    workload("marked-clone", 1, 50_000_000, marked!(1)),
+    workload("marked-clone-4", 1, 50_000_000, marked!(4)),
     // Beside handles that only know the mark by a load.
-    Workload {
-        name: "static-clone",
-        units: 1,
-        iterations: 50_000_000,
-        runs: marked!(1),
-    },
-    Workload {
-        name: "union-clone",
-        units: 1,
-        iterations: 5_000_000,
-        runs: &[
-            ("servo", only_servo::union_clone as Run),
-            ("std", standard::union_clone),
-            ("word", word_arc::union_clone),
-        ],
-    },
+    workload("static-clone", 1, 50_000_000, marked!(1)),
+    workload(
+        "union-clone",
+        1,
+        5_000_000,
+        peers!(
+            only_servo::union_clone,
+            standard::union_clone,
+            word_arc::union_clone
+        ),
+    ),
 ];
 
 /// These and those of the other files.
@@ -751,58 +682,6 @@ fn workloads() -> impl Iterator<Item = &'static Workload> {
         .iter()
         .chain(versions::WORKLOADS)
         .chain(trees::WORKLOADS)
-}
-
-fn median(mut all: Vec<f64>) -> f64 {
-    all.sort_by(|a, b| a.total_cmp(b));
-    let m = all.len() / 2;
-    if all.len() % 2 == 1 {
-        all[m]
-    } else {
-        (all[m - 1] + all[m]) / 2.0
-    }
-}
-
-fn time(run: Run, n: u64) -> f64 {
-    let start = Instant::now();
-    std::hint::black_box(run(std::hint::black_box(n)));
-    start.elapsed().as_nanos() as f64
-}
-
-/// Nanoseconds a unit, each run less one of 0 iterations; the implementations in turn, then medians.
-fn table(repeats: usize) {
-    println!(
-        "{:<16} {:>10} {:>10} {:>10} | {:>10} {:>9}",
-        "workload", "servo", "std", "word", "word/servo", "std/servo"
-    );
-    for w in workloads() {
-        let mut found: Vec<Vec<f64>> = w.runs.iter().map(|_| Vec::new()).collect();
-        for _ in 0..repeats {
-            for (k, (_, run)) in w.runs.iter().enumerate() {
-                let none = time(*run, 0);
-                let some = time(*run, w.iterations);
-                found[k].push((some - none) / (w.iterations * w.units) as f64);
-            }
-        }
-        let medians: Vec<f64> = found.into_iter().map(median).collect();
-        let of = |name: &str| {
-            w.runs
-                .iter()
-                .position(|(x, _)| *x == name)
-                .map(|k| medians[k])
-        };
-        let show = |x: Option<f64>| x.map_or("-".to_string(), |x| format!("{x:.2}"));
-        let ratio = |x: Option<f64>| show(x.zip(of("servo")).map(|(x, y)| x / y));
-        println!(
-            "{:<16} {:>10} {:>10} {:>10} | {:>10} {:>9}",
-            w.name,
-            show(of("servo")),
-            show(of("std")),
-            show(of("word")),
-            ratio(of("word")),
-            ratio(of("std"))
-        );
-    }
 }
 
 fn one(implementation: &str, name: &str, n: &str) -> Option<u64> {
@@ -828,8 +707,6 @@ fn main() {
                 );
             }
         }
-        ["table"] => table(9),
-        ["table", k] => table(k.parse().expect("a number of repeats")),
         [implementation, name, n] => match one(implementation, name, n) {
             Some(sum) => println!("{sum}"),
             None => {
@@ -838,7 +715,7 @@ fn main() {
             }
         },
         _ => {
-            eprintln!("usage: bench IMPL WORKLOAD ITERATIONS | bench table [REPEATS] | bench list");
+            eprintln!("usage: bench IMPL WORKLOAD ITERATIONS | bench list");
             process::exit(2);
         }
     }

@@ -3,8 +3,8 @@
 
 `BENCH POINTER WORKLOAD N` and `PROGRAM WORKLOAD N` are run in turn: the ported crate `servo` twice, first as the
 control, which shows what noise alone gives; the program, `word` and `std`. Each run follows one of no iterations, which
-is taken off, so that the preparation is not measured. N is chosen so that a run of `servo` takes about --seconds, and
-twice as long as its preparation. All have to print one checksum.
+is taken off, so that the preparation is not measured. N is chosen so that the slower of `servo` and the program takes
+about --seconds, and twice as long as its preparation. All have to print one checksum.
 
 It prints the nanoseconds a unit of each, the ratio of the program's elapsed time to that of each pointer, the middle
 half of the first of these ratios, the control, the figure that has a goal, and a verdict. With --script it does the
@@ -19,8 +19,9 @@ the goal by less than these rounds can tell. Since it looks after each round, of
 are called met, and as many missed. If the control's interval is farther than --noise from 1, the verdict is `busy`: the
 order or the machine favours one.
 
-The status is 1 if a checksum differs or a workload that was named does not run, else 3 if a goal was missed, else 4
-if a goal could not be judged: a figure was at it, or the machine busy.
+Of a workload with several goals it shows the one that is met least. The status is 2 if a checksum differs or a
+workload that was named does not run, else 1 if a goal was missed, else 3 if a goal could not be judged: a figure was at
+it, or the machine busy.
 """
 import argparse
 import os
@@ -33,6 +34,7 @@ from measure import Run, instructions, interval, least, median, middle_half, rat
 
 PEERS = ["servo", "std", "word"]
 UNTOLD = ("at the goal", "busy")
+VERDICTS = ("met",) + UNTOLD + ("missed",)
 COLUMNS = (["workload", "rounds", "program_ns"] + [peer + "_ns" for peer in PEERS] + ["ratio", "low", "high"]
            + [peer + "_ratio" for peer in PEERS[1:]]
            + ["least_ratio", "control", "control_from", "control_to", "goal", "judged_from", "judged_to", "verdict",
@@ -48,11 +50,12 @@ def arguments():
     parser.add_argument("--script", nargs=5, action="append", default=[],
                         metavar=("KIND", "SIZE", "FILE", "PEER", "PROGRAM"), help="also a script, run by these two")
     parser.add_argument("--scripts-only", action="store_true", help="no workloads")
-    parser.add_argument("--goals", help="lines WORKLOAD and GOAL with a tab between them: a ratio to `servo`, as 1.05, to `word`, as 1.05 word, or 1.50 ns")
+    parser.add_argument("--goals", help="lines WORKLOAD and GOAL with a tab between them: a ratio to `servo`, as 1.05,"
+                        " to `word`, as 1.05 word, or 1.50 ns")
     parser.add_argument("--repeats", type=int, default=15, help="the least rounds of a workload")
     parser.add_argument("--most", type=int, default=61, help="the most rounds, if fewer do not tell")
     parser.add_argument("--most-seconds", type=float, default=60, help="after which only the least rounds are begun")
-    parser.add_argument("--seconds", type=float, default=0.12, help="about what a run of `servo` takes")
+    parser.add_argument("--seconds", type=float, default=0.12, help="about what a run takes")
     parser.add_argument("--noise", type=float, default=0.02, help="how far the control may be from 1")
     parser.add_argument("--instructions", action="store_true", help="counts them too, by callgrind")
     parser.add_argument("--table", help="a file for the figures, a line a workload, with tabs")
@@ -60,14 +63,15 @@ def arguments():
 
 
 def read_goals(path):
-    """Of each workload that has a goal: the figure that is judged, the most that it may be, and the goal's text."""
+    """The goals of each workload: the figure that is judged, the most that it may be, and the goal's text."""
     found = {}
     if path:
         with open(path, encoding="utf-8") as file:
             for line in file:
                 name, goal = line.rstrip("\n").split("\t")
                 most, _, of = goal.partition(" ")
-                found[name] = ({"": "ratio", "ns": "program_ns", "word": "word_ratio"}[of], float(most), goal)
+                of = {"": "ratio", "ns": "program_ns", "word": "word_ratio"}[of]
+                found.setdefault(name, []).append((of, float(most), goal))
     return found
 
 
@@ -107,9 +111,10 @@ class Workload:
 
     def prepare(self, seconds):
         """Chooses the iterations. A long preparation wants more of them, or its noise would drown them."""
-        runs = [self.run(PEERS[0], self.iterations) for _ in range(3)]
-        wanted = max(seconds, 2 * min(run.none for run in runs))
-        self.iterations = max(1, round(self.iterations * wanted / max(least(runs), 1e-4)))
+        runs = [[self.run(who, self.iterations) for _ in range(3)] for who in (PEERS[0], "program")]
+        wanted = max(seconds, 2 * min(run.none for run in runs[0]))
+        taken = max(least(of_one) for of_one in runs)
+        self.iterations = max(1, round(self.iterations * wanted / max(taken, 1e-4)))
         self.count = self.units * self.iterations
 
     def measure(self, who):
@@ -177,36 +182,35 @@ def of_rounds(workload, rounds):
     return found | {"ratio": ratios("program", PEERS[0]), "control": ratios("control", PEERS[0])}
 
 
-def figures_of(workload, rounds, goal, noise):
+def figures_of(workload, rounds, goals, noise):
     """The figures of one workload, with the verdict."""
     found = of_rounds(workload, rounds)
     figures = {"rounds": len(rounds), "verdict": "no goal"} | {name: median(values) for name, values in found.items()}
     figures["low"], figures["high"] = middle_half(found["ratio"])
     figures["control_from"], figures["control_to"] = interval(found["control"])
     figures["least_ratio"] = ratio(*(least([runs[who] for runs in rounds]) for who in ("program", PEERS[0])))
-    if goal:
-        of, most, figures["goal"] = goal
-        figures["judged_from"], figures["judged_to"] = interval(found[of])
-        figures["verdict"] = verdict(figures, most, noise)
-    return figures
+    judged = [judgement(figures, interval(found[of]), most, goal, noise) for of, most, goal in goals]
+    return figures | max(judged, key=lambda one: VERDICTS.index(one["verdict"]), default={})
 
 
-def verdict(figures, most, noise):
+def judgement(figures, judged, most, goal, noise):
     if not figures["control_from"] - noise <= 1 <= figures["control_to"] + noise:
-        return "busy"
-    if figures["judged_to"] <= most:
-        return "met"
-    return "missed" if figures["judged_from"] > most else "at the goal"
+        verdict = "busy"
+    elif judged[1] <= most:
+        verdict = "met"
+    else:
+        verdict = "missed" if judged[0] > most else "at the goal"
+    return {"goal": goal, "judged_from": judged[0], "judged_to": judged[1], "verdict": verdict}
 
 
-def measured(workload, goal, asked):
+def measured(workload, goals, asked):
     """The figures of one workload, of as many rounds as the verdict needs."""
     end = time.monotonic() + asked.most_seconds
     rounds = [one_round(workload, k % 2) for k in range(asked.repeats)]
-    figures = figures_of(workload, rounds, goal, asked.noise)
+    figures = figures_of(workload, rounds, goals, asked.noise)
     while figures["verdict"] in UNTOLD and len(rounds) < asked.most and time.monotonic() < end:
         rounds.append(one_round(workload, len(rounds) % 2))
-        figures = figures_of(workload, rounds, goal, asked.noise)
+        figures = figures_of(workload, rounds, goals, asked.noise)
     return figures
 
 
@@ -267,7 +271,7 @@ def main():
             wrong += 1
             continue
         workload.prepare(asked.seconds)
-        figures = measured(workload, goals.get(workload.name), asked)
+        figures = measured(workload, goals.get(workload.name, ()), asked)
         if asked.instructions:
             figures.update(workload.instructions())
         rows.append((workload.name, figures))
@@ -277,7 +281,7 @@ def main():
     verdicts = [figures["verdict"] for _, figures in rows]
     met, missed, at_goal, busy = (verdicts.count(word) for word in ("met", "missed") + UNTOLD)
     print(f"{met} goals met, {missed} missed, {at_goal} at the goal, {busy} busy")
-    sys.exit(1 if wrong else 3 if missed else 4 if at_goal or busy else 0)
+    sys.exit(2 if wrong else 1 if missed else 3 if at_goal or busy else 0)
 
 
 main()

@@ -2,8 +2,11 @@
 # judge.sh SOURCE [OPTION..]
 #
 # Builds all that is measured, and measures it: each workload and both scripts, beside each pointer, with a verdict by
-# goals.tsv. SOURCE is the source file of the crate that was ported. The options go to compare.py, as --instructions. It
-# takes 10 to 20 minutes once the crates are proved; BENCH_OUT is where it builds, bench/out if it is not set.
+# goals.tsv. It writes the figures to measured.tsv and draws them, docs/speed.svg. SOURCE is the source file of the crate
+# that was ported. The options go to compare.py, as --instructions. It takes less than 10 minutes once the crates are
+# proved; BENCH_OUT is where it builds, bench/out if it is not set.
+#
+# The status is 1 if a goal was missed, 0 if all were met, and 2 or 3 as compare.py says.
 set -eu
 if [ $# -lt 1 ]; then
     echo "usage: judge.sh SOURCE [OPTION..]" >&2
@@ -21,6 +24,10 @@ for kind in core table; do
     "$here/make_script.py" "$kind" 1000000 >"$out/$kind.txt"
 done
 arcbench=$here/../crates/arcbench/out/arcbench
-exec "$here/compare.py" "$out/bench" "$here/../crates/arcspeed/out/arcspeed" --goals "$here/goals.tsv" \
+status=0
+"$here/compare.py" "$out/bench" "$here/../crates/arcspeed/out/arcspeed" --goals "$here/goals.tsv" \
+    --table "$here/measured.tsv" --most 31 --most-seconds 10 \
     --script core 8 "$out/core.txt" "$out/script" "$arcbench" \
-    --script table 1000 "$out/table.txt" "$out/script" "$arcbench" "$@"
+    --script table 1000 "$out/table.txt" "$out/script" "$arcbench" "$@" || status=$?
+"$here/plot.py" "$here/measured.tsv" --goals "$here/goals.tsv" >"$here/../docs/speed.svg"
+exit "$status"

@@ -1,8 +1,8 @@
 #!/usr/bin/env python3
 """Draws the ratios of a table that `compare.py --table` wrote as an SVG, on standard output.
 
-Each workload is a bar up to its median ratio, with a line over the middle half, a ring for the control and, if GOALS
-has a ratio to the ported crate, a mark for it. GOALS has lines WORKLOAD and GOAL, with a tab between them.
+Each workload is a bar up to its median ratio, or to the edge, with a line over the middle half, a ring for the control
+and, if GOALS has a ratio to the ported crate, a mark for it. GOALS has lines WORKLOAD and GOAL, with a tab between them.
 """
 import argparse
 import csv
@@ -14,6 +14,7 @@ TOP = 56
 LEFT = 150
 WIDTH = 520
 RIGHT = 70
+MOST = 2.5  # the greatest ratio that is drawn in full
 
 
 def read_table(path):
@@ -63,7 +64,7 @@ def bar(row, y, place, goal):
 
 def picture(rows, goals, title):
     largest = max([1.0] + [float(row[name]) for row in rows for name in ("high", "control")] + list(goals.values()))
-    most = largest * 1.05
+    most = min(largest, MOST) * 1.05
 
     def place(ratio):
         return LEFT + min(ratio, most) / most * WIDTH

@@ -1,6 +1,6 @@
 //! Workloads on a list and a search tree whose versions share their nodes, the same code over each counted pointer.
 
-use super::{next, pick, Run, Workload};
+use super::{next, pick, workload, Run, Workload};
 
 const ITEMS: u64 = 1_000_000; // of the list
 const KEYS: usize = 100_000; // of the map
@@ -51,6 +51,16 @@ macro_rules! trees {
                     match self.place(key) {
                         Ok(index) => self.set(index, value),
                         Err(index) => self.put(index, (key, value)),
+                    }
+                }
+
+                fn numbered(&self, index: usize) -> Option<&(u64, u64)> {
+                    let node = self.root.as_ref()?;
+                    let before = node.left.len();
+                    match index.cmp(&before) {
+                        Ordering::Less => node.left.numbered(index),
+                        Ordering::Equal => Some(&node.entry),
+                        Ordering::Greater => node.right.numbered(index - before - 1),
                     }
                 }
 
@@ -171,6 +181,31 @@ macro_rules! trees {
                 sum
             }
 
+            pub fn tree_insert_alone(n: u64) -> u64 {
+                let mut state = 1u64;
+                let mut sum = 0u64;
+                for _ in 0..n {
+                    let mut map = Map::default();
+                    for value in 0..KEYS as u64 {
+                        state = next(state);
+                        map.insert(state, value);
+                    }
+                    sum = sum.wrapping_add(map.get(state).copied().unwrap_or(0));
+                }
+                sum
+            }
+
+            pub fn tree_iterate(n: u64) -> u64 {
+                let map = map();
+                let mut sum = 0u64;
+                for _ in 0..n {
+                    for (_, value) in (0..map.len()).map_while(|index| map.numbered(index)) {
+                        sum = sum.rotate_left(1).wrapping_add(*value);
+                    }
+                }
+                sum
+            }
+
             pub fn tree_get(n: u64) -> u64 {
                 let map = map();
                 let mut state = 1u64;
@@ -261,39 +296,16 @@ trees!(servo, servo_arc::Arc);
 trees!(standard, std::sync::Arc);
 trees!(word_arc, crate::word::Arc);
 
-macro_rules! three {
-    ($f:ident) => {
-        &[
-            ("servo", servo::$f as Run),
-            ("std", standard::$f),
-            ("word", word_arc::$f),
-        ]
-    };
-}
-
 pub const WORKLOADS: &[Workload] = &[
-    Workload {
-        name: "tree-insert",
-        units: 1,
-        iterations: 50_000,
-        runs: three!(tree_insert),
-    },
-    Workload {
-        name: "tree-get",
-        units: 1,
-        iterations: 500_000,
-        runs: three!(tree_get),
-    },
-    Workload {
-        name: "list-build",
-        units: ITEMS,
-        iterations: 3,
-        runs: three!(list_build),
-    },
-    Workload {
-        name: "list-walk",
-        units: ITEMS,
-        iterations: 30,
-        runs: three!(list_walk),
-    },
+    workload("tree-insert", 1, 50_000, three!(tree_insert)),
+    workload(
+        "tree-insert-alone",
+        KEYS as u64,
+        3,
+        three!(tree_insert_alone),
+    ),
+    workload("tree-iterate", KEYS as u64, 30, three!(tree_iterate)),
+    workload("tree-get", 1, 500_000, three!(tree_get)),
+    workload("list-build", ITEMS, 3, three!(list_build)),
+    workload("list-walk", ITEMS, 30, three!(list_walk)),
 ];

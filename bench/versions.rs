@@ -1,7 +1,7 @@
 //! Workloads on versions of a list. In pages behind counted pointers a version shares the pages that it does not write.
 //! `plain` is a `Vec`, which each version copies whole.
 
-use super::{next, pick, Run, Workload};
+use super::{next, pick, workload, Run, Workload};
 
 const ITEMS: usize = 100_000;
 const PAGE: usize = 64; // known to the compiler here, a number that is chosen at run time in the port
@@ -116,22 +116,7 @@ macro_rules! four {
 }
 
 pub const WORKLOADS: &[Workload] = &[
-    Workload {
-        name: "cow-version",
-        units: 1,
-        iterations: 3_000,
-        runs: four!(version),
-    },
-    Workload {
-        name: "cow-set",
-        units: 1,
-        iterations: 20_000_000,
-        runs: four!(set),
-    },
-    Workload {
-        name: "cow-get",
-        units: 1,
-        iterations: 5_000_000,
-        runs: four!(get),
-    },
+    workload("cow-version", 1, 3_000, four!(version)),
+    workload("cow-set", 1, 20_000_000, four!(set)),
+    workload("cow-get", 1, 5_000_000, four!(get)),
 ];

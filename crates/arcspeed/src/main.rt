@@ -67,10 +67,19 @@ fn checksum<R: Threads + Wait + Sync>(
         "marked-clone-4" => threads::marked_clone(rt, alloc, 4, iterations),
         "static-clone" => cloned::static_clone(alloc, iterations),
         "union-clone" => union::union_clone(alloc, iterations),
+        _ => checksum_of_versions(alloc, workload, iterations),
+    }
+}
+
+/// Of the workloads on lists and maps whose versions share.
+fn checksum_of_versions(alloc: Global, workload: &str, iterations: u64) -> Result<u64, Fault> {
+    match workload {
         "cow-version" => versions::cow_version(alloc, iterations),
         "cow-set" => versions::cow_set(alloc, iterations),
         "cow-get" => versions::cow_get(alloc, iterations),
         "tree-insert" => trees::tree_insert(alloc, iterations),
+        "tree-insert-alone" => trees::tree_insert_alone(alloc, iterations),
+        "tree-iterate" => trees::tree_iterate(alloc, iterations),
         "tree-get" => trees::tree_get(alloc, iterations),
         "list-build" => lists::list_build(alloc, iterations),
         "list-walk" => lists::list_walk(alloc, iterations),

@@ -42,6 +42,33 @@ pub fn tree_insert(alloc: Global, iterations: u64) -> Result<u64, Fault> {
     Ok(sum)
 }
 
+/// Builds a map that nobody shares, of keys in no order, and drops it.
+#[inline(never)]
+pub fn tree_insert_alone(alloc: Global, iterations: u64) -> Result<u64, Fault> {
+    let mut random = Random::new();
+    let mut sum = 0u64;
+    for _ in 0..iterations {
+        let mut map = TreeMap::new();
+        for value in 0..KEYS as u64 {
+            map.insert(alloc, random.next(), value)?;
+        }
+        sum = sum.wrapping_add(map.get(&random.state).copied().unwrap_or(0));
+    }
+    Ok(sum)
+}
+
+#[inline(never)]
+pub fn tree_iterate(alloc: Global, iterations: u64) -> Result<u64, Fault> {
+    let map = map(alloc)?;
+    let mut sum = 0u64;
+    for _ in 0..iterations {
+        for (_, value) in &map {
+            sum = sum.rotate_left(1).wrapping_add(*value);
+        }
+    }
+    Ok(sum)
+}
+
 #[inline(never)]
 pub fn tree_get(alloc: Global, iterations: u64) -> Result<u64, Fault> {
     let map = map(alloc)?;

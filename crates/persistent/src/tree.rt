@@ -19,10 +19,11 @@ pub(crate) struct Tree<K: Ord, V> {
 #[derive(Drop)]
 pub(crate) struct Node<K: Ord, V> {
     pub(crate) len: usize,
-    pub(crate) height: u8,
     pub(crate) left: Tree<K, V>,
     pub(crate) entry: (K, V),
     pub(crate) right: Tree<K, V>,
+    // Last, since it takes a word: so a search reads fewer lines of the cache.
+    pub(crate) height: u8,
 }
 
 impl<K: Ord, V> Model for Tree<K, V> {

@@ -3,6 +3,7 @@ pub mod Insertion
 pub mod Lookup
 pub mod Numbers
 pub mod Order
+pub mod Pairs
 pub mod Places
 pub mod Ranges
 pub mod Rank

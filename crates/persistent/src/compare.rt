@@ -1,11 +1,50 @@
-//! What a map has by its entries: equality and a text.
+//! What a list has by its items, and a map by its entries: equality, a hash and a text.
 ghost use Rattle.std.specs.Prelude.{◌&&◌};
 ghost use Rattle.std.specs.Cmp.{and_equiv, and_per, on_equiv, on_per};
 ghost use Rattle.std.specs.Cmp.Lexicographic.{lists_equiv, lists_per, pointwise};
+ghost use Rattle.std.specs.Hash.{items_Alike, slice};
 
+use crate::list::List;
 use crate::map::TreeMap;
 use std::fmt;
 use std::fmt::{Debug, Formatter, Write};
+use std::hash::{Hash, Hasher};
+
+/// Asks the items, also if both lists share their nodes.
+impl<T: PartialEq> PartialEq for List<T> {
+    ghost eq = { pointwise T.eq };
+
+    ghost laws = { lists_per T.laws };
+
+    fn eq(&self, other: &List<T>) -> bool {
+        self.len() == other.len() && self.into_iter().zip(other).all(|(x, y)| x == y)
+    }
+}
+
+impl<T: Eq> Eq for List<T> {
+    ghost laws = { lists_equiv T.Eq.laws };
+}
+
+/// As a slice of the items.
+impl<T: Hash> Hash for List<T> {
+    ghost hash_input = { slice T.hash_input };
+
+    ghost respects_eq = { (items_Alike (record { fed = T.respects_eq })).fed };
+
+    fn hash<H: Hasher>(&self, state: &mut H) {
+        state.write_usize(self.len());
+        for item in self {
+            item.hash(state);
+        }
+    }
+}
+
+/// As a list of the items.
+impl<T: Debug> Debug for List<T> {
+    fn fmt<W: Write>(&self, f: &mut Formatter<W>) -> fmt::Result {
+        f.debug_list().entries(self).finish()
+    }
+}
 
 /// Asks the entries, also if both versions share their branches.
 impl<K: Ord, V: PartialEq> PartialEq for TreeMap<K, V> {

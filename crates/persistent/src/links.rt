@@ -1,8 +1,8 @@
 //! The nodes of a list.
-ghost use Rattle.std.specs.Prelude.{◌≡◌, ◌∷◌, [], ◌↔◌, IfOk, IfSome, None, length};
+ghost use Rattle.std.specs.Prelude.{◌≡◌, ◌∷◌, [], ◌↔◌, IfSome, None, length};
 
 use servo_arc::Arc;
-use std::alloc::{AllocError, Global};
+use std::alloc::AllocError;
 use std::marker::Model;
 
 /// A list's first node, if it has one. Its own drop ends the nodes by a recursion, so the drop of a `List` takes them
@@ -76,20 +76,5 @@ impl<T> Links<T> {
     {
         let node = self.first.as_ref()?;
         Some((&node.value, &node.rest))
-    }
-}
-
-impl<T: Drop> Links<T> {
-    // These nodes behind one more.
-    pub(crate) fn with_first(self, alloc: Global, value: T) -> Result<Links<T>, AllocError>
-        ensures { IfOk result (λ links. links ≡ value ∷ self) }
-    {
-        let len = self.len.checked_add(1).ok_or(AllocError)?;
-        let node = Node { value, rest: self };
-        let first = Arc::try_new(alloc, node)?;
-        Ok(Links {
-            first: Some(first),
-            len,
-        })
     }
 }

@@ -1,11 +1,14 @@
 //! A list that shares its rest.
-ghost use Rattle.std.specs.Prelude.{◌≡◌, ◌<◌, ◌∷◌, [], ◌↔◌, IsTrue, IfOk, drop, length, slice_get};
+ghost use Rattle.std.specs.Prelude.{◌≡◌, ◌<◌, ◌∷◌, [], ◌↔◌, IsTrue, IfOk, OnOk};
+ghost use Rattle.std.specs.Prelude.{drop, length, reverse, slice_get};
 ghost use Rattle.std.specs.Option.{option_copied};
+ghost use Rattle.servo_arc.specs.Copies.{CopiesAreEqual};
 
-use crate::links::Links;
-use servo_arc::Arc;
+use crate::links::{Links, Node};
+use servo_arc::{Arc, UniqueArc};
 use std::alloc::{AllocError, Global};
 use std::marker::Model;
+use std::mem;
 
 /// A list whose versions share their last items: to push an item in front makes a list, and the old one stays.
 pub struct List<T> {
@@ -102,10 +105,35 @@ impl<T: Drop> List<T> {
     pub fn push(&self, alloc: Global, value: T) -> Result<List<T>, AllocError>
         ensures { IfOk result (λ list. list ≡ value ∷ self.now) }
     {
-        let links = self.links.clone()?;
-        Ok(List {
-            links: links.with_first(alloc, value)?,
-        })
+        let mut list = self.clone()?;
+        list.put_first(alloc, value)?;
+        Ok(list)
+    }
+
+    // One more item in front of this list.
+    fn put_first(&mut self, alloc: Global, value: T) -> Result<(), AllocError>
+        ensures { OnOk result (self.new ≡ value ∷ self.old) }
+    {
+        let len = self.len().checked_add(1).ok_or(AllocError)?;
+        let rest = Links::new();
+        let mut node = UniqueArc::try_new(alloc, Node { value, rest })?;
+        mem::swap(&mut node.rest, &mut self.links);
+        self.links = Links {
+            first: Some(node.shareable()),
+            len,
+        };
+        Ok(())
+    }
+
+    /// The list of these items, in their order. It requests memory for one node for each of them.
+    pub fn from_items(alloc: Global, mut items: Vec<T>) -> Result<List<T>, AllocError>
+        ensures { IfOk result (λ list. list ≡ items.items) }
+    {
+        let mut list = List::new();
+        while let Some(item) = items.pop() {
+            list.put_first(alloc, item)?;
+        }
+        Ok(list)
     }
 
     /// What comes after the first item, by one raise of a count. Nothing comes after the empty list. It is refused as
@@ -129,5 +157,19 @@ impl<T: Drop> List<T> {
             (Some(node), Some(same)) => Arc::ptr_eq(node, same),
             _ => false,
         }
+    }
+}
+
+impl<T: Clone> List<T> {
+    /// The items in the opposite order. It requests memory for one node for each item, and copies the item.
+    pub fn reverse(&self, alloc: Global) -> Result<List<T>, AllocError>
+        requires { CopiesAreEqual T.is_clone }
+        ensures { IfOk result (λ list. list ≡ reverse self.now) }
+    {
+        let mut reversed = List::new();
+        for item in self {
+            reversed.put_first(alloc, item.clone()?)?;
+        }
+        Ok(reversed)
     }
 }

@@ -1,19 +1,10 @@
 -- `all` over the pairs of two lists that are as long.
-use Rattle.std.proofs.Common.{◌≡◌, ◌∙◌, ap, refl, rules, tests, arith, length, List, [], ◌∷◌, Bool}
-use Rattle.std.proofs.Common.{◌&&◌}
+use Rattle.std.proofs.Common.{◌≡◌, ◌∙◌, ◌&&◌, rules, tests, arith, length}
 use Rattle.std.proofs.lemmas.Iterator.{YieldsList-from_zip}
 use Rattle.std.proofs.lemmas.Iterator.Consumers.{YieldsList-from_first}
 use Rattle.std.proofs.lemmas.Iterator.Search.{all_from_yields_List}
-use Rattle.std.specs.Cmp.Lexicographic.{pointwise}
-use Rattle.std.specs.List.{list_all, zip}
+use Rattle.persistent.proofs.Pairs.{list_all-zip}
 use Rattle.persistent.proofs.compare.TreeMapPartialEq.eq.Goals as goal
-
-list_all-zip : {X : Type 0} (E : X → X → Bool) (xs ys : List X) → length xs ≡ length ys
-    → list_all (λ p. E p.0 p.1) (zip xs ys) ≡ pointwise E xs ys
-list_all-zip E [] [] same = refl
-list_all-zip E [] (y ∷ ys) same = absurd (omega arith)
-list_all-zip E (x ∷ xs) [] same = absurd (omega arith)
-list_all-zip E (x ∷ xs) (y ∷ ys) same = ap (λ b. E x y && b) (list_all-zip E xs ys (omega arith))
 
 pub returns-then-len : goal.returns-then-len
 returns-then-len g c =

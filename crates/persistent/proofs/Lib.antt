@@ -1,3 +1,4 @@
+pub mod ChangedPlaces
 pub mod Heights
 pub mod Insertion
 pub mod Lookup

@@ -1,9 +1,12 @@
 //! A map in the order of its keys, whose versions share their branches.
 ghost use Rattle.std.specs.Prelude.{◌≡◌, ◌+◌, ◌^◌, ◌<◌, ◌≤◌, ◌↔◌, [], IsTrue};
-ghost use Rattle.std.specs.Prelude.{◌-◌, None, Some, IfOk, OnOk, OnErr, cond, is_some, length, slice_get};
-ghost use Rattle.std.specs.Option.{option_copied};
+ghost use Rattle.std.specs.Prelude.{◌-◌, None, Some, IfOk, OnOk, OnErr, IfNone, IfSome};
+ghost use Rattle.std.specs.Prelude.{cond, is_some, length, slice_get};
+ghost use Rattle.std.specs.Fn.{FnOnceTakesAtMut};
+ghost use Rattle.std.specs.Option.{ForSome, option_copied};
 ghost use Rattle.std.specs.Ordering.{is_eq};
 ghost use Rattle.servo_arc.specs.Copies.{CopiesAreEqual};
+ghost use Rattle.persistent.specs.Changes.{ChangesValue};
 ghost use Rattle.persistent.specs.Maps.{IsRising, lookup, rank, with_entries, with_entry, without};
 
 use crate::tree::Tree;
@@ -153,7 +156,7 @@ impl<K: Ord + Clone, V: Clone> TreeMap<K, V> {
         ensures refused { OnErr result (self.new ≡ self.old) }
     {
         match self.tree.place(&key) {
-            Ok(index) => Ok(self.tree.set(alloc, index, value)?),
+            Ok(index) => Ok(self.tree.modify(alloc, index, |old| *old = value)?),
             Err(_) if self.len() == usize::MAX => Err(AllocError),
             Err(index) => Ok(self.tree.insert(alloc, index, (key, value))?),
         }
@@ -178,6 +181,32 @@ impl<K: Ord + Clone, V: Clone> TreeMap<K, V> {
         };
         let (_, value) = self.tree.remove(alloc, index)?;
         Ok(Some(value))
+    }
+
+    /// Changes the value under the key, if there is one, and gives what the change answered.
+    ///
+    /// It writes in place and copies as `insert` does under a key that is there, and is refused as that is. The change
+    /// is then not called, and the map reads as it did. It is not called either if there is no value: then nothing
+    /// is copied or refused.
+    pub fn modify<R, F: FnOnce(&mut V) -> R>(
+        &mut self,
+        alloc: Global,
+        key: &K,
+        change: F,
+    ) -> Result<Option<R>, AllocError>
+        requires copies_of_keys { CopiesAreEqual K.is_clone }
+        requires copies_of_values { CopiesAreEqual V.is_clone }
+        requires callable { ForSome (lookup K.cmp key.now self.old) (FnOnceTakesAtMut F.FnOnce change) }
+        ensures absent { IfOk result (λ answer. IfNone answer
+            ((lookup K.cmp key.now self.old ≡ None) × (self.new ≡ self.old))) }
+        ensures changed { IfOk result (λ answer. IfSome answer
+            (ChangesValue F.FnOnce change K.cmp key.now self.old self.new)) }
+        ensures refused { OnErr result (self.new ≡ self.old) }
+    {
+        let Ok(index) = self.tree.place(key) else {
+            return Ok(None);
+        };
+        Ok(Some(self.tree.modify(alloc, index, change)?))
     }
 }
 

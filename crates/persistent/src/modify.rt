@@ -1,0 +1,79 @@
+// How a tree changes a value: in place, but for the nodes that others share, which are copied.
+ghost use Rattle.std.specs.Prelude.{◌≡◌, ◌<◌, IfOk, OnErr, length, slice_get};
+ghost use Rattle.std.specs.Option.{ForSome};
+ghost use Rattle.std.specs.Fn.{FnOnceTakesAtMut};
+ghost use Rattle.servo_arc.specs.Copies.{CopiesAreEqual};
+ghost use Rattle.persistent.specs.Changes.{ChangesAt};
+ghost use Rattle.persistent.specs.Nodes.{IsNode, entries_of};
+
+use crate::tree::{Node, Tree};
+use std::alloc::{AllocError, Global};
+use std::cmp::Ordering;
+
+impl<K: Ord + Clone, V: Clone> Tree<K, V> {
+    // Changes the value of the entry of that number. The change is called if nothing can be refused any more.
+    #[cycle(modify)]
+    #[tactic(auto, using(crate::proofs::Places::places))]
+    pub(crate) fn modify<R, F: FnOnce(&mut V) -> R>(
+        &mut self,
+        alloc: Global,
+        index: usize,
+        change: F,
+    ) -> Result<R, AllocError>
+        requires copies_of_keys { CopiesAreEqual K.is_clone }
+        requires copies_of_values { CopiesAreEqual V.is_clone }
+        requires within { index < length self.old.0 }
+        requires callable { ForSome (slice_get self.old.0 index) (λ e. FnOnceTakesAtMut F.FnOnce change e.1) }
+        ensures changed { IfOk result (ChangesAt F.FnOnce change index self.old.0 self.new.0) }
+        ensures height { self.new.1 ≡ self.old.1 }
+        ensures refused { OnErr result (self.new ≡ self.old) }
+    {
+        let Some(mut node) = self.take(alloc)? else {
+            unreachable!()
+        };
+        let answer = node.modify(alloc, index, change);
+        self.put(node);
+        answer
+    }
+}
+
+impl<K: Ord + Clone, V: Clone> Node<K, V> {
+    #[cycle(modify)]
+    #[tactic(auto, using(crate::proofs::Places::places))]
+    fn modify<R, F: FnOnce(&mut V) -> R>(
+        &mut self,
+        alloc: Global,
+        index: usize,
+        change: F,
+    ) -> Result<R, AllocError>
+        requires copies_of_keys { CopiesAreEqual K.is_clone }
+        requires copies_of_values { CopiesAreEqual V.is_clone }
+        requires whole { IsNode K.cmp self.old }
+        requires within { index < length (entries_of self.old) }
+        requires callable { ForSome (slice_get (entries_of self.old) index)
+            (λ e. FnOnceTakesAtMut F.FnOnce change e.1) }
+        ensures whole { IsNode K.cmp self.new }
+        ensures changed { IfOk result (ChangesAt F.FnOnce change index (entries_of self.old) (entries_of self.new)) }
+        ensures height { self.new.height ≡ self.old.height }
+        ensures refused { OnErr result (entries_of self.new ≡ entries_of self.old) }
+    {
+        let before = self.left.len();
+        match index.cmp(&before) {
+            Ordering::Less => {
+                let answer = self.left.modify(alloc, index, change)?;
+                self.update();
+                Ok(answer)
+            }
+            Ordering::Equal => {
+                let answer = change(&mut self.entry.1);
+                self.update();
+                Ok(answer)
+            }
+            Ordering::Greater => {
+                let answer = self.right.modify(alloc, index - before - 1, change)?;
+                self.update();
+                Ok(answer)
+            }
+        }
+    }
+}

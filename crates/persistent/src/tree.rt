@@ -108,13 +108,15 @@ impl<K: Ord, V> Tree<K, V> {
         ensures found { option_copied result ≡ lookup K.cmp key.now self.now.0 }
         ensures rising { IsRising K.cmp self.now.0 }
     {
-        let Some(node) = self.root() else {
-            return None;
-        };
-        match key.cmp(&node.entry.0) {
-            Ordering::Less => node.left.get(key),
-            Ordering::Equal => Some(&node.entry.1),
-            Ordering::Greater => node.right.get(key),
+        // A loop, since a call that goes down by itself is a call at each node.
+        let mut next = self.root();
+        while let Some(node) = next {
+            next = match key.cmp(&node.entry.0) {
+                Ordering::Less => node.left.root(),
+                Ordering::Equal => return Some(&node.entry.1),
+                Ordering::Greater => node.right.root(),
+            };
         }
+        None
     }
 }

@@ -27,6 +27,10 @@ module _ {K V : Type 0} where
   abbrev pub FitsHeight : List (K × V) × ℕ → Type 0
   FitsHeight tree = (2 ^ tree.1 ≤ (length tree.0 + 1) ^ 2) × (length tree.0 + 1 ≤ 2 ^ tree.1)
 
+  -- entries of a map that a tree can count
+  abbrev pub IsMap : (K → K → Ordering) → List (K × V) → Type 0
+  IsMap cmp es = IsRising cmp es × (length es < 2 ^ 64)
+
   pub record IsNode (cmp : K → K → Ordering) (node : Node K V) : Type 0 where
     pub rising : IsRising cmp (entries_of node)
     pub counted : node.len ≡ length (entries_of node)

@@ -1,10 +1,9 @@
 //! What becomes of a node one side of which has taken an entry in.
-ghost use Rattle.std.specs.Prelude.{◌≡◌, ◌+◌, ◌^◌, ◌<◌, ◌≤◌, ◌∷◌, ◌++◌, length, max};
+ghost use Rattle.std.specs.Prelude.{◌≡◌, ◌+◌, ◌≤◌, ◌∷◌, ◌++◌, max};
 ghost use Rattle.persistent.specs.Grown.{IsGrown, grown_entries};
-ghost use Rattle.persistent.specs.Maps.{IsRising};
-ghost use Rattle.persistent.specs.Nodes.{DifferByAtMost, IsNode, entries_of};
+ghost use Rattle.persistent.specs.Nodes.{DifferByAtMost, IsMap, IsNode, entries_of};
 
-use crate::tree::{Node, Tree};
+use crate::tree::Node;
 use servo_arc::UniqueArc;
 
 /// Whether a node is one higher than it was. If so, its higher side is held apart from it: a rotation opens it.
@@ -15,28 +14,30 @@ pub(crate) enum Grown<K: Ord, V> {
     Right(UniqueArc<Node<K, V>>),
 }
 
-impl<K: Ord + Drop, V: Drop> Tree<K, V> {
-    pub(crate) fn put_grown(&mut self, mut node: UniqueArc<Node<K, V>>, grown: Grown<K, V>)
-        requires grown { IsGrown K.cmp node.height node grown }
-        requires rising { IsRising K.cmp (grown_entries node grown) }
-        requires room { length (grown_entries node grown) < 2 ^ 64 }
-        ensures { self.new.0 ≡ grown_entries node grown }
+impl<K: Ord + Drop, V: Drop> Node<K, V> {
+    // The node with both of its sides.
+    #[tactic(auto, using(crate::proofs::Order::rotations))]
+    pub(crate) fn close(&mut self, grown: Grown<K, V>)
+        requires grown { IsGrown K.cmp self.old.height self.old grown }
+        requires map { IsMap K.cmp (grown_entries self.old grown) }
+        ensures whole { IsNode K.cmp self.new }
+        ensures entries { entries_of self.new ≡ grown_entries self.old grown }
+        ensures not_lower { self.old.height ≤ self.new.height }
+        ensures not_higher { self.new.height ≤ self.old.height + 1 }
     {
         match grown {
-            Grown::Same => self.put(node),
+            Grown::Same => {}
             Grown::Left(child) => {
-                node.left.put(child);
-                self.put_changed(node);
+                self.left.put(child);
+                self.update();
             }
             Grown::Right(child) => {
-                node.right.put(child);
-                self.put_changed(node);
+                self.right.put(child);
+                self.update();
             }
         }
     }
-}
 
-impl<K: Ord + Drop, V: Drop> Node<K, V> {
     // The left child has taken an entry in.
     #[tactic(auto, using(crate::proofs::Order::rotations))]
     pub(crate) fn settle_left(
@@ -45,50 +46,37 @@ impl<K: Ord + Drop, V: Drop> Node<K, V> {
         grown: Grown<K, V>,
     ) -> Grown<K, V>
         requires grown { IsGrown K.cmp child.height child grown }
-        requires rising { IsRising K.cmp (grown_entries child grown ++ self.old.entry ∷ self.old.right.0) }
-        requires room { length (grown_entries child grown ++ self.old.entry ∷ self.old.right.0) < 2 ^ 64 }
+        requires map { IsMap K.cmp (grown_entries child grown ++ self.old.entry ∷ self.old.right.0) }
         requires level { DifferByAtMost 1 child.height self.old.right.1 }
         requires height { self.old.height ≡ max child.height self.old.right.1 + 1 }
         ensures grown { IsGrown K.cmp self.old.height self.new result }
         ensures entries { grown_entries self.new result
             ≡ grown_entries child grown ++ self.old.entry ∷ self.old.right.0 }
     {
-        let is_higher = child.height > self.right.height();
+        if child.height <= self.right.height() {
+            child.close(grown);
+            return self.grow_left(child);
+        }
         match grown {
             Grown::Same => {
                 self.left.put(child);
                 self.update();
-                Grown::Same
             }
             Grown::Left(outer) => {
                 child.left.put(outer);
-                if is_higher {
-                    self.rotate_right(child);
-                    return Grown::Same;
-                }
-                child.update();
-                self.grow_left(child)
+                self.rotate_right(child);
             }
-            Grown::Right(inner) => {
-                if is_higher {
-                    self.put_pair_left(child, inner);
-                    return Grown::Same;
-                }
-                child.right.put(inner);
-                child.update();
-                self.grow_left(child)
-            }
+            Grown::Right(inner) => self.put_pair_left(child, inner),
         }
+        Grown::Same
     }
 
-    // The left child is one higher than it was, and is no higher than the right by more than one.
+    // The left child may be one higher than it was. It was no higher than the right.
     #[tactic(auto, using(crate::proofs::Order::rotations))]
     pub(crate) fn grow_left(&mut self, child: UniqueArc<Node<K, V>>) -> Grown<K, V>
         requires whole { IsNode K.cmp child }
-        requires rising { IsRising K.cmp (entries_of child ++ self.old.entry ∷ self.old.right.0) }
-        requires room { length (entries_of child ++ self.old.entry ∷ self.old.right.0) < 2 ^ 64 }
-        requires not_lower { self.old.right.1 ≤ child.height }
-        requires not_higher { child.height ≤ self.old.right.1 + 1 }
+        requires map { IsMap K.cmp (entries_of child ++ self.old.entry ∷ self.old.right.0) }
+        requires level { DifferByAtMost 1 child.height self.old.right.1 }
         requires height { self.old.height ≡ self.old.right.1 + 1 }
         ensures grown { IsGrown K.cmp self.old.height self.new result }
         ensures entries { grown_entries self.new result ≡ entries_of child ++ self.old.entry ∷ self.old.right.0 }
@@ -109,50 +97,37 @@ impl<K: Ord + Drop, V: Drop> Node<K, V> {
         grown: Grown<K, V>,
     ) -> Grown<K, V>
         requires grown { IsGrown K.cmp child.height child grown }
-        requires rising { IsRising K.cmp (self.old.left.0 ++ self.old.entry ∷ grown_entries child grown) }
-        requires room { length (self.old.left.0 ++ self.old.entry ∷ grown_entries child grown) < 2 ^ 64 }
+        requires map { IsMap K.cmp (self.old.left.0 ++ self.old.entry ∷ grown_entries child grown) }
         requires level { DifferByAtMost 1 self.old.left.1 child.height }
         requires height { self.old.height ≡ max self.old.left.1 child.height + 1 }
         ensures grown { IsGrown K.cmp self.old.height self.new result }
         ensures entries { grown_entries self.new result
             ≡ self.old.left.0 ++ self.old.entry ∷ grown_entries child grown }
     {
-        let is_higher = child.height > self.left.height();
+        if child.height <= self.left.height() {
+            child.close(grown);
+            return self.grow_right(child);
+        }
         match grown {
             Grown::Same => {
                 self.right.put(child);
                 self.update();
-                Grown::Same
             }
             Grown::Right(outer) => {
                 child.right.put(outer);
-                if is_higher {
-                    self.rotate_left(child);
-                    return Grown::Same;
-                }
-                child.update();
-                self.grow_right(child)
+                self.rotate_left(child);
             }
-            Grown::Left(inner) => {
-                if is_higher {
-                    self.put_pair_right(child, inner);
-                    return Grown::Same;
-                }
-                child.left.put(inner);
-                child.update();
-                self.grow_right(child)
-            }
+            Grown::Left(inner) => self.put_pair_right(child, inner),
         }
+        Grown::Same
     }
 
     // The same with the sides exchanged.
     #[tactic(auto, using(crate::proofs::Order::rotations))]
     pub(crate) fn grow_right(&mut self, child: UniqueArc<Node<K, V>>) -> Grown<K, V>
         requires whole { IsNode K.cmp child }
-        requires rising { IsRising K.cmp (self.old.left.0 ++ self.old.entry ∷ entries_of child) }
-        requires room { length (self.old.left.0 ++ self.old.entry ∷ entries_of child) < 2 ^ 64 }
-        requires not_lower { self.old.left.1 ≤ child.height }
-        requires not_higher { child.height ≤ self.old.left.1 + 1 }
+        requires map { IsMap K.cmp (self.old.left.0 ++ self.old.entry ∷ entries_of child) }
+        requires level { DifferByAtMost 1 self.old.left.1 child.height }
         requires height { self.old.height ≡ self.old.left.1 + 1 }
         ensures grown { IsGrown K.cmp self.old.height self.new result }
         ensures entries { grown_entries self.new result ≡ self.old.left.0 ++ self.old.entry ∷ entries_of child }

@@ -1,9 +1,8 @@
 //! How a tree takes an entry in: in place, but for the nodes that others share, which are copied.
-ghost use Rattle.std.specs.Prelude.{◌≡◌, ◌+◌, ◌^◌, ◌<◌, ◌≤◌, IfOk, OnOk, OnErr, length};
+ghost use Rattle.std.specs.Prelude.{◌≡◌, IfOk, OnOk, OnErr};
 ghost use Rattle.servo_arc.specs.Copies.{CopiesAreEqual};
 ghost use Rattle.persistent.specs.Grown.{IsGrown, grown_entries};
-ghost use Rattle.persistent.specs.Maps.{IsRising};
-ghost use Rattle.persistent.specs.Nodes.{IsNode, IsSame, entries_of};
+ghost use Rattle.persistent.specs.Nodes.{IsMap, IsNode, IsSame, entries_of};
 ghost use Rattle.persistent.specs.Places.{put_at};
 
 use crate::grow::Grown;
@@ -19,11 +18,8 @@ impl<K: Ord + Clone, V: Clone> Tree<K, V> {
         index: usize,
         entry: (K, V),
     ) -> Result<(), AllocError>
-        requires copies_of_keys { CopiesAreEqual K.is_clone }
-        requires copies_of_values { CopiesAreEqual V.is_clone }
-        requires within { index ≤ length self.old.0 }
-        requires rising { IsRising K.cmp (put_at index entry self.old.0) }
-        requires room { length self.old.0 + 1 < 2 ^ 64 }
+        requires copies { CopiesAreEqual K.is_clone × CopiesAreEqual V.is_clone }
+        requires map { IsMap K.cmp (put_at index entry self.old.0) }
         ensures entries { OnOk result (self.new.0 ≡ put_at index entry self.old.0) }
         ensures refused { OnErr result (self.new ≡ self.old) }
     {
@@ -33,7 +29,8 @@ impl<K: Ord + Clone, V: Clone> Tree<K, V> {
         };
         match node.insert(alloc, index, entry) {
             Ok(grown) => {
-                self.put_grown(node, grown);
+                node.close(grown);
+                self.put(node);
                 Ok(())
             }
             Err(refused) => {
@@ -53,12 +50,9 @@ impl<K: Ord + Clone, V: Clone> Node<K, V> {
         index: usize,
         entry: (K, V),
     ) -> Result<Grown<K, V>, AllocError>
-        requires copies_of_keys { CopiesAreEqual K.is_clone }
-        requires copies_of_values { CopiesAreEqual V.is_clone }
+        requires copies { CopiesAreEqual K.is_clone × CopiesAreEqual V.is_clone }
         requires whole { IsNode K.cmp self.old }
-        requires within { index ≤ length (entries_of self.old) }
-        requires rising { IsRising K.cmp (put_at index entry (entries_of self.old)) }
-        requires room { length (entries_of self.old) + 1 < 2 ^ 64 }
+        requires map { IsMap K.cmp (put_at index entry (entries_of self.old)) }
         ensures grown { IfOk result (IsGrown K.cmp self.old.height self.new) }
         ensures entries { IfOk result (λ grown.
             grown_entries self.new grown ≡ put_at index entry (entries_of self.old)) }
@@ -67,8 +61,7 @@ impl<K: Ord + Clone, V: Clone> Node<K, V> {
         let before = self.left.len();
         if index <= before {
             let Some(mut child) = self.left.take(alloc)? else {
-                let leaf = Node::leaf(alloc, entry)?;
-                return Ok(self.grow_left(leaf));
+                return Ok(self.grow_left(Node::leaf(alloc, entry)?));
             };
             match child.insert(alloc, index, entry) {
                 Ok(grown) => Ok(self.settle_left(child, grown)),
@@ -79,8 +72,7 @@ impl<K: Ord + Clone, V: Clone> Node<K, V> {
             }
         } else {
             let Some(mut child) = self.right.take(alloc)? else {
-                let leaf = Node::leaf(alloc, entry)?;
-                return Ok(self.grow_right(leaf));
+                return Ok(self.grow_right(Node::leaf(alloc, entry)?));
             };
             match child.insert(alloc, index - before - 1, entry) {
                 Ok(grown) => Ok(self.settle_right(child, grown)),

@@ -1,7 +1,6 @@
 //! How nodes are made, copied and counted.
-ghost use Rattle.std.specs.Prelude.{◌≡◌, ◌+◌, ◌^◌, ◌<◌, ◌∷◌, [], IfOk, length, max};
-ghost use Rattle.persistent.specs.Maps.{IsRising};
-ghost use Rattle.persistent.specs.Nodes.{DifferByAtMost, IsCopy, IsNode, entries_of};
+ghost use Rattle.std.specs.Prelude.{◌≡◌, ◌+◌, ◌∷◌, [], IfOk, max};
+ghost use Rattle.persistent.specs.Nodes.{DifferByAtMost, IsCopy, IsMap, IsNode, entries_of};
 
 use crate::tree::{Node, Tree};
 use servo_arc::UniqueArc;
@@ -10,9 +9,8 @@ use std::alloc::{AllocError, Global};
 impl<K: Ord, V> Node<K, V> {
     // Counts the entries and the height anew, where a side has changed.
     pub(crate) fn update(&mut self)
-        requires rising { IsRising K.cmp (entries_of self.old) }
+        requires map { IsMap K.cmp (entries_of self.old) }
         requires level { DifferByAtMost 1 self.old.left.1 self.old.right.1 }
-        requires room { length (entries_of self.old) < 2 ^ 64 }
         ensures whole { IsNode K.cmp self.new }
         ensures entries { entries_of self.new ≡ entries_of self.old }
         ensures height { self.new.height ≡ max self.old.left.1 self.old.right.1 + 1 }
@@ -40,19 +38,7 @@ impl<K: Ord + Drop, V: Drop> Node<K, V> {
             right: Tree::new(),
         };
         node.update();
-        Node::block(alloc, node)
-    }
-
-    pub(crate) fn block(
-        alloc: Global,
-        node: Node<K, V>,
-    ) -> Result<UniqueArc<Node<K, V>>, AllocError>
-        ensures { IfOk result (λ block. block ≡ node) }
-    {
-        match UniqueArc::new(alloc, node) {
-            Ok(block) => Ok(block),
-            Err(_) => Err(AllocError),
-        }
+        Ok(UniqueArc::try_new(alloc, node)?)
     }
 }
 

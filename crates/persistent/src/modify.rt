@@ -20,8 +20,7 @@ impl<K: Ord + Clone, V: Clone> Tree<K, V> {
         index: usize,
         change: F,
     ) -> Result<R, AllocError>
-        requires copies_of_keys { CopiesAreEqual K.is_clone }
-        requires copies_of_values { CopiesAreEqual V.is_clone }
+        requires copies { CopiesAreEqual K.is_clone × CopiesAreEqual V.is_clone }
         requires within { index < length self.old.0 }
         requires callable { ForSome (slice_get self.old.0 index) (λ e. FnOnceTakesAtMut F.FnOnce change e.1) }
         ensures changed { IfOk result (ChangesAt F.FnOnce change index self.old.0 self.new.0) }
@@ -46,8 +45,7 @@ impl<K: Ord + Clone, V: Clone> Node<K, V> {
         index: usize,
         change: F,
     ) -> Result<R, AllocError>
-        requires copies_of_keys { CopiesAreEqual K.is_clone }
-        requires copies_of_values { CopiesAreEqual V.is_clone }
+        requires copies { CopiesAreEqual K.is_clone × CopiesAreEqual V.is_clone }
         requires whole { IsNode K.cmp self.old }
         requires within { index < length (entries_of self.old) }
         requires callable { ForSome (slice_get (entries_of self.old) index)

@@ -1,8 +1,7 @@
 //! How a node is taken out of a tree to be changed, and put back.
-ghost use Rattle.std.specs.Prelude.{◌≡◌, ◌+◌, ◌^◌, ◌<◌, [], IfOk, OnOk, OnErr, length, max};
+ghost use Rattle.std.specs.Prelude.{◌≡◌, ◌+◌, [], IfOk, OnOk, OnErr, max};
 ghost use Rattle.servo_arc.specs.Copies.{CopiesAreEqual};
-ghost use Rattle.persistent.specs.Maps.{IsRising};
-ghost use Rattle.persistent.specs.Nodes.{DifferByAtMost, IsNode, IsTree, entries_of, summary};
+ghost use Rattle.persistent.specs.Nodes.{DifferByAtMost, IsMap, IsNode, IsTree, entries_of, summary};
 
 use crate::tree::{Node, Tree};
 use servo_arc::{Arc, UniqueArc};
@@ -14,8 +13,7 @@ impl<K: Ord + Clone, V: Clone> Tree<K, V> {
         &mut self,
         alloc: Global,
     ) -> Result<Option<UniqueArc<Node<K, V>>>, AllocError>
-        requires copies_of_keys { CopiesAreEqual K.is_clone }
-        requires copies_of_values { CopiesAreEqual V.is_clone }
+        requires copies { CopiesAreEqual K.is_clone × CopiesAreEqual V.is_clone }
         ensures same { IfOk result (λ node. summary node ≡ self.old) }
         ensures whole { IfOk result (IsTree K.cmp) }
         ensures empty { OnOk result (self.new ≡ ([], 0)) }
@@ -37,12 +35,11 @@ impl<K: Ord + Clone, V: Clone> Tree<K, V> {
     }
 
     fn copy(alloc: Global, node: &Node<K, V>) -> Result<UniqueArc<Node<K, V>>, AllocError>
-        requires copies_of_keys { CopiesAreEqual K.is_clone }
-        requires copies_of_values { CopiesAreEqual V.is_clone }
+        requires copies { CopiesAreEqual K.is_clone × CopiesAreEqual V.is_clone }
         ensures { IfOk result (λ copy. copy ≡ node.now) }
     {
         let copy = node.clone()?;
-        Node::block(alloc, copy)
+        Ok(UniqueArc::try_new(alloc, copy)?)
     }
 }
 
@@ -59,9 +56,8 @@ impl<K: Ord + Drop, V: Drop> Tree<K, V> {
 
     // The same of a node whose sides have changed.
     pub(crate) fn put_changed(&mut self, mut node: UniqueArc<Node<K, V>>)
-        requires rising { IsRising K.cmp (entries_of node) }
+        requires map { IsMap K.cmp (entries_of node) }
         requires level { DifferByAtMost 1 node.left.1 node.right.1 }
-        requires room { length (entries_of node) < 2 ^ 64 }
         ensures { self.new ≡ (entries_of node, max node.left.1 node.right.1 + 1) }
     {
         node.update();

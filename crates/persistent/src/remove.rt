@@ -14,8 +14,7 @@ impl<K: Ord + Clone, V: Clone> Tree<K, V> {
     #[cycle(remove)]
     #[tactic(auto, using(crate::proofs::Places::places))]
     pub(crate) fn remove(&mut self, alloc: Global, index: usize) -> Result<(K, V), AllocError>
-        requires copies_of_keys { CopiesAreEqual K.is_clone }
-        requires copies_of_values { CopiesAreEqual V.is_clone }
+        requires copies { CopiesAreEqual K.is_clone × CopiesAreEqual V.is_clone }
         requires within { index < length self.old.0 }
         ensures entry { IfOk result (λ entry. slice_get self.old.0 index ≡ Some entry) }
         ensures entries { OnOk result (self.new.0 ≡ without_at index self.old.0) }
@@ -49,8 +48,7 @@ impl<K: Ord + Clone, V: Clone> Node<K, V> {
     #[cycle(remove)]
     #[tactic(auto, using(crate::proofs::Places::places))]
     fn remove(&mut self, alloc: Global, index: usize) -> Result<(K, V), AllocError>
-        requires copies_of_keys { CopiesAreEqual K.is_clone }
-        requires copies_of_values { CopiesAreEqual V.is_clone }
+        requires copies { CopiesAreEqual K.is_clone × CopiesAreEqual V.is_clone }
         requires whole { IsNode K.cmp self.old }
         requires within { index < length (entries_of self.old) }
         requires stays { index ≡ length self.old.left.0 → 0 < length self.old.right.0 }
@@ -67,8 +65,7 @@ impl<K: Ord + Clone, V: Clone> Node<K, V> {
     #[cycle(remove)]
     #[tactic(auto, using(crate::proofs::Places::places))]
     fn remove_left(&mut self, alloc: Global, index: usize) -> Result<(K, V), AllocError>
-        requires copies_of_keys { CopiesAreEqual K.is_clone }
-        requires copies_of_values { CopiesAreEqual V.is_clone }
+        requires copies { CopiesAreEqual K.is_clone × CopiesAreEqual V.is_clone }
         requires whole { IsNode K.cmp self.old }
         requires left { index < length self.old.left.0 }
         ensures lost { IfOk result (λ entry. HasLost K.cmp index entry self.old self.new) }
@@ -94,8 +91,7 @@ impl<K: Ord + Clone, V: Clone> Node<K, V> {
     #[cycle(remove)]
     #[tactic(auto, using(crate::proofs::Places::places))]
     fn remove_right(&mut self, alloc: Global, index: usize) -> Result<(K, V), AllocError>
-        requires copies_of_keys { CopiesAreEqual K.is_clone }
-        requires copies_of_values { CopiesAreEqual V.is_clone }
+        requires copies { CopiesAreEqual K.is_clone × CopiesAreEqual V.is_clone }
         requires whole { IsNode K.cmp self.old }
         requires right { length self.old.left.0 < index }
         requires within { index < length (entries_of self.old) }
@@ -124,8 +120,7 @@ impl<K: Ord + Clone, V: Clone> Node<K, V> {
     #[cycle(remove)]
     #[tactic(auto, using(crate::proofs::Places::places))]
     fn remove_here(&mut self, alloc: Global) -> Result<(K, V), AllocError>
-        requires copies_of_keys { CopiesAreEqual K.is_clone }
-        requires copies_of_values { CopiesAreEqual V.is_clone }
+        requires copies { CopiesAreEqual K.is_clone × CopiesAreEqual V.is_clone }
         requires whole { IsNode K.cmp self.old }
         requires stays { 0 < length self.old.right.0 }
         ensures lost { IfOk result (λ entry. HasLost K.cmp (length self.old.left.0) entry self.old self.new) }

@@ -1,7 +1,6 @@
 //! Rotations of a node whose higher side is held apart from it. They take no memory, so nothing refuses them.
-ghost use Rattle.std.specs.Prelude.{◌≡◌, ◌+◌, ◌^◌, ◌<◌, ◌≤◌, ◌∷◌, ◌++◌, length, max};
-ghost use Rattle.persistent.specs.Maps.{IsRising};
-ghost use Rattle.persistent.specs.Nodes.{DifferByAtMost, IsNode, around, entries_of};
+ghost use Rattle.std.specs.Prelude.{◌≡◌, ◌+◌, ◌<◌, ◌≤◌, ◌∷◌, ◌++◌, max};
+ghost use Rattle.persistent.specs.Nodes.{DifferByAtMost, IsMap, IsNode, around, entries_of};
 
 use crate::tree::Node;
 use servo_arc::UniqueArc;
@@ -41,8 +40,7 @@ impl<K: Ord + Drop, V: Drop> Node<K, V> {
     // Puts the child, which belongs to the left, over this node.
     #[tactic(auto, using(crate::proofs::Order::rotations))]
     pub(crate) fn rotate_right(&mut self, mut child: UniqueArc<Node<K, V>>)
-        requires rising { IsRising K.cmp (entries_of child ++ self.old.entry ∷ self.old.right.0) }
-        requires room { length (entries_of child ++ self.old.entry ∷ self.old.right.0) < 2 ^ 64 }
+        requires map { IsMap K.cmp (entries_of child ++ self.old.entry ∷ self.old.right.0) }
         requires inner { DifferByAtMost 1 child.right.1 self.old.right.1 }
         requires outer { DifferByAtMost 1 child.left.1 (max child.right.1 self.old.right.1 + 1) }
         ensures whole { IsNode K.cmp self.new }
@@ -62,8 +60,7 @@ impl<K: Ord + Drop, V: Drop> Node<K, V> {
     // Puts the child, which belongs to the right, over this node.
     #[tactic(auto, using(crate::proofs::Order::rotations))]
     pub(crate) fn rotate_left(&mut self, mut child: UniqueArc<Node<K, V>>)
-        requires rising { IsRising K.cmp (self.old.left.0 ++ self.old.entry ∷ entries_of child) }
-        requires room { length (self.old.left.0 ++ self.old.entry ∷ entries_of child) < 2 ^ 64 }
+        requires map { IsMap K.cmp (self.old.left.0 ++ self.old.entry ∷ entries_of child) }
         requires inner { DifferByAtMost 1 self.old.left.1 child.left.1 }
         requires outer { DifferByAtMost 1 (max self.old.left.1 child.left.1 + 1) child.right.1 }
         ensures whole { IsNode K.cmp self.new }
@@ -89,10 +86,8 @@ impl<K: Ord + Drop, V: Drop> Node<K, V> {
         mut inner: UniqueArc<Node<K, V>>,
     )
         requires whole { IsNode K.cmp inner }
-        requires rising { IsRising K.cmp (child.left.0 ++ child.entry ∷ entries_of inner
+        requires map { IsMap K.cmp (child.left.0 ++ child.entry ∷ entries_of inner
             ++ self.old.entry ∷ self.old.right.0) }
-        requires room { length (child.left.0 ++ child.entry ∷ entries_of inner
-            ++ self.old.entry ∷ self.old.right.0) < 2 ^ 64 }
         requires outer { child.left.1 ≤ self.old.right.1 }
         requires right { self.old.right.1 ≤ child.left.1 + 1 }
         requires inward { child.left.1 ≤ inner.height }
@@ -121,10 +116,8 @@ impl<K: Ord + Drop, V: Drop> Node<K, V> {
         mut inner: UniqueArc<Node<K, V>>,
     )
         requires whole { IsNode K.cmp inner }
-        requires rising { IsRising K.cmp (self.old.left.0 ++ self.old.entry
+        requires map { IsMap K.cmp (self.old.left.0 ++ self.old.entry
             ∷ (entries_of inner ++ child.entry ∷ child.right.0)) }
-        requires room { length (self.old.left.0 ++ self.old.entry
-            ∷ (entries_of inner ++ child.entry ∷ child.right.0)) < 2 ^ 64 }
         requires outer { child.right.1 ≤ self.old.left.1 }
         requires left { self.old.left.1 ≤ child.right.1 + 1 }
         requires inward { child.right.1 ≤ inner.height }

@@ -14,8 +14,7 @@ impl<K: Ord + Clone, V: Clone> Node<K, V> {
     // Makes the left no lower than the right by a single rotation, or takes out what a double one needs.
     #[tactic(auto, using(crate::proofs::Order::rotations))]
     pub(crate) fn hold_right(&mut self, alloc: Global) -> Result<Option<Pair<K, V>>, AllocError>
-        requires copies_of_keys { CopiesAreEqual K.is_clone }
-        requires copies_of_values { CopiesAreEqual V.is_clone }
+        requires copies { CopiesAreEqual K.is_clone × CopiesAreEqual V.is_clone }
         requires whole { IsNode K.cmp self.old }
         ensures held { IfOk result (CanLoseLeft K.cmp self.old self.new) }
         ensures refused { OnErr result (IsSame K.cmp self.old self.new) }
@@ -43,8 +42,7 @@ impl<K: Ord + Clone, V: Clone> Node<K, V> {
     // The same with the sides exchanged.
     #[tactic(auto, using(crate::proofs::Order::rotations))]
     pub(crate) fn hold_left(&mut self, alloc: Global) -> Result<Option<Pair<K, V>>, AllocError>
-        requires copies_of_keys { CopiesAreEqual K.is_clone }
-        requires copies_of_values { CopiesAreEqual V.is_clone }
+        requires copies { CopiesAreEqual K.is_clone × CopiesAreEqual V.is_clone }
         requires whole { IsNode K.cmp self.old }
         ensures held { IfOk result (CanLoseRight K.cmp self.old self.new) }
         ensures refused { OnErr result (IsSame K.cmp self.old self.new) }

@@ -1,10 +1,11 @@
 -- The entry goes to its place.
-use Rattle.std.proofs.Common.{◌≡◌, ◌<◌, ◌≤◌, ◌∙◌, ap, sym, subst, length, rules}
+use Rattle.std.proofs.Common.{◌≡◌, ◌<◌, ◌∙◌, ap, sym, subst, length, rules, arith}
 use Rattle.persistent.specs.Maps.{IsRising, lookup, with_entry}
 use Rattle.persistent.specs.Places.{put_at, set_at}
 use Rattle.persistent.proofs.Insertion.{rising_with}
 use Rattle.persistent.proofs.Lookup.{lookup_with}
-use Rattle.persistent.proofs.Rank.{rank_most, rank_within, with_absent, with_found}
+use Rattle.persistent.proofs.Places.{length-put_at}
+use Rattle.persistent.proofs.Rank.{rank_within, with_absent, with_found}
 use Rattle.persistent.proofs.map.TreeMap.insert.Goals as goal
 
 pub modify-requires-clause-within : goal.modify-requires-clause-within
@@ -13,20 +14,17 @@ modify-requires-clause-within g c =
     subst (λ n. n < length es) (sym c.in-Ok.ensures.rank)
     (rank_within g.K.Ord.cmp g.met.K.Ord.total c.args.key es c.in-Ok.ensures.found)
 
-pub insert-requires-clause-within : goal.insert-requires-clause-within
-insert-requires-clause-within g c =
-    let es = c.self.inside.tree.0 in
-    subst (λ n. n ≤ length es) (sym c.in-Err.ensures.rank) (rank_most g.K.Ord.cmp c.args.key es)
-
-pub insert-requires-clause-rising : goal.insert-requires-clause-rising
-insert-requires-clause-rising g c =
+pub insert-requires-clause-map : goal.insert-requires-clause-map
+insert-requires-clause-map g c =
     let cmp = g.K.Ord.cmp in
     let es = c.self.inside.tree.0 in
     let key = c.args.key in
     let put =
     with_absent cmp key c.args.value es c.in-Err.ensures.found
-    ∙ ap (λ n. put_at n (key, c.args.value) es) (sym c.in-Err.ensures.rank) in
-    subst (IsRising cmp) put (rising_with cmp g.met.K.Ord.total key c.args.value es c.in-Err.ensures.rising)
+    ∙ ap (λ n. put_at n (key, c.args.value) es) (sym c.in-Err.ensures.rank) in (
+      subst (IsRising cmp) put (rising_with cmp g.met.K.Ord.total key c.args.value es c.in-Err.ensures.rising),
+      grind (arith, length-put_at),
+    )
 
 pub returns-in_ok-modify-in-Ok-clause-entries : goal.returns-in_ok-modify-in-Ok-clause-entries
 returns-in_ok-modify-in-Ok-clause-entries g c =

@@ -620,7 +620,7 @@ const WORKLOADS: &[Workload] = &[
     workload("replace", 1, 5_000_000, three!(replace)),
     workload("clone-drop", 1, 8_000_000, three!(clone_drop)),
     workload("clone-hold", 64, 125_000, three!(clone_hold)),
-    workload("deref-sum", 1_000_000, 60, three!(deref_sum)),
+    workload("deref-sum", 1_000_000, 10, three!(deref_sum)),
     workload("make-mut-unique", 1, 50_000_000, three!(make_mut_unique)),
     workload("make-mut-shared", 1, 3_000_000, three!(make_mut_shared)),
     workload("get-mut-unique", 1, 50_000_000, three!(get_mut_unique)),

@@ -14,7 +14,7 @@ Judged is the interval in which the median lies, 95 times of 100. A round is bel
 it reaches from the k-th least round to the k-th greatest, with the greatest k for which fewer than k heads in as many
 tosses are seen at most 2.5 times of 100: of 15 rounds from the 4th to the 12th. That takes the rounds to be
 independent, and no more. A goal is `met` if all of the interval is within it, and `missed` if none is. Until then it
-measures on, up to --most rounds and --most-seconds; if they do not tell, the figure is `at the goal`: it differs from
+measures on, up to --most rounds or --most-seconds; if they do not tell, the figure is `at the goal`: it differs from
 the goal by less than these rounds can tell. Since it looks after each round, of figures just at the goal 7 or 8 of 100
 are called met, and as many missed. If the control's interval is farther than --noise from 1, the verdict is `busy`: the
 order or the machine favours one.
@@ -35,6 +35,7 @@ from measure import Run, instructions, interval, least, median, middle_half, rat
 PEERS = ["servo", "std", "word"]
 UNTOLD = ("at the goal", "busy")
 VERDICTS = ("met",) + UNTOLD + ("missed",)
+FEWEST = 9  # rounds, however long they take
 COLUMNS = (["workload", "rounds", "program_ns"] + [peer + "_ns" for peer in PEERS] + ["ratio", "low", "high"]
            + [peer + "_ratio" for peer in PEERS[1:]]
            + ["least_ratio", "control", "control_from", "control_to", "goal", "judged_from", "judged_to", "verdict",
@@ -52,9 +53,9 @@ def arguments():
     parser.add_argument("--scripts-only", action="store_true", help="no workloads")
     parser.add_argument("--goals", help="lines WORKLOAD and GOAL with a tab between them: a ratio to `servo`, as 1.05,"
                         " to `word`, as 1.05 word, or 1.50 ns")
-    parser.add_argument("--repeats", type=int, default=15, help="the least rounds of a workload")
+    parser.add_argument("--repeats", type=int, default=15, help="the rounds of a workload that are enough to tell")
     parser.add_argument("--most", type=int, default=61, help="the most rounds, if fewer do not tell")
-    parser.add_argument("--most-seconds", type=float, default=60, help="after which only the least rounds are begun")
+    parser.add_argument("--most-seconds", type=float, default=60, help="after which no round follows the first nine")
     parser.add_argument("--seconds", type=float, default=0.12, help="about what a run takes")
     parser.add_argument("--noise", type=float, default=0.02, help="how far the control may be from 1")
     parser.add_argument("--instructions", action="store_true", help="counts them too, by callgrind")
@@ -204,14 +205,15 @@ def judgement(figures, judged, most, goal, noise):
 
 
 def measured(workload, goals, asked):
-    """The figures of one workload, of as many rounds as the verdict needs."""
+    """The figures of one workload, of as many rounds as the verdict needs and the time allows."""
     end = time.monotonic() + asked.most_seconds
-    rounds = [one_round(workload, k % 2) for k in range(asked.repeats)]
-    figures = figures_of(workload, rounds, goals, asked.noise)
-    while figures["verdict"] in UNTOLD and len(rounds) < asked.most and time.monotonic() < end:
-        rounds.append(one_round(workload, len(rounds) % 2))
+    rounds = [one_round(workload, k % 2) for k in range(FEWEST)]
+    while True:
         figures = figures_of(workload, rounds, goals, asked.noise)
-    return figures
+        is_told = len(rounds) >= asked.repeats and figures["verdict"] not in UNTOLD
+        if is_told or len(rounds) >= asked.most or time.monotonic() >= end:
+            return figures
+        rounds.append(one_round(workload, len(rounds) % 2))
 
 
 HEAD = (f"{'workload':<16} {'program':>9} {'servo':>9} {'std':>9} {'word':>9} {'/servo':>7} {'middle half':>13}"

@@ -2,9 +2,9 @@
 # judge.sh SOURCE [OPTION..]
 #
 # Builds all that is measured, and measures it: each workload and both scripts, beside each pointer, with a verdict by
-# goals.tsv. It writes the figures to measured.tsv and draws them, docs/speed.svg. SOURCE is the source file of the crate
-# that was ported. The options go to compare.py, as --instructions. It takes less than 10 minutes once the crates are
-# proved; BENCH_OUT is where it builds, bench/out if it is not set.
+# goals.tsv. It writes the figures to measured.tsv and draws them, docs/speed.svg. SOURCE is the source file of the
+# crate that was ported. The options go to compare.py, as --instructions. It takes less than 10 minutes once the crates
+# are proved; BENCH_OUT is where it builds, bench/out if it is not set.
 #
 # The status is 1 if a goal was missed, 0 if all were met, and 2 or 3 as compare.py says.
 set -eu
@@ -26,7 +26,7 @@ done
 arcbench=$here/../crates/arcbench/out/arcbench
 status=0
 "$here/compare.py" "$out/bench" "$here/../crates/arcspeed/out/arcspeed" --goals "$here/goals.tsv" \
-    --table "$here/measured.tsv" --most 31 --most-seconds 10 \
+    --table "$here/measured.tsv" --most 31 --most-seconds 12 \
     --script core 8 "$out/core.txt" "$out/script" "$arcbench" \
     --script table 1000 "$out/table.txt" "$out/script" "$arcbench" "$@" || status=$?
 "$here/plot.py" "$here/measured.tsv" --goals "$here/goals.tsv" >"$here/../docs/speed.svg"

@@ -304,8 +304,8 @@ pub const WORKLOADS: &[Workload] = &[
         3,
         three!(tree_insert_alone),
     ),
-    workload("tree-iterate", KEYS as u64, 30, three!(tree_iterate)),
-    workload("tree-get", 1, 500_000, three!(tree_get)),
+    workload("tree-iterate", KEYS as u64, 10, three!(tree_iterate)),
+    workload("tree-get", 1, 200_000, three!(tree_get)),
     workload("list-build", ITEMS, 3, three!(list_build)),
-    workload("list-walk", ITEMS, 30, three!(list_walk)),
+    workload("list-walk", ITEMS, 10, three!(list_walk)),
 ];

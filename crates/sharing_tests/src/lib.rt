@@ -48,6 +48,8 @@ mod threads;
 #[cfg(test)]
 mod tree_callers;
 #[cfg(test)]
+mod tree_changes;
+#[cfg(test)]
 mod tree_copies;
 #[cfg(test)]
 mod tree_threads;

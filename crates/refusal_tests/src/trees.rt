@@ -106,3 +106,43 @@ fn a_refused_remove_leaves_both_versions(rt: HostRuntime) {
         holds!(&rt, kept_none(&tally, 4));
     }
 }
+
+#[test]
+fn a_refused_change_leaves_both_versions(rt: HostRuntime) {
+    let tally = Tally::new();
+    let Ok(old) = halves(rt.alloc(), &tally) else {
+        return report(&rt, "the set-up");
+    };
+    for key in [0, 6] {
+        let mut new = again!(&rt, &old);
+        let changed = new.modify(rt.alloc(), &key, |counted| counted.value = 9);
+        holds!(&rt, has_halves(&old));
+        match changed {
+            Ok(_) => same!(&rt, value_at(&new, key), Some(9)),
+            Err(AllocError) => {
+                holds!(&rt, has_halves(&new));
+                report(&rt, "a node of the path");
+            }
+        }
+        drop(new);
+        holds!(&rt, kept_none(&tally, 4));
+    }
+}
+
+// The items that were moved or copied until then are dropped.
+#[test]
+fn a_refused_list_drops_its_items(rt: HostRuntime) {
+    let tally = Tally::new();
+    let Ok(items) = Vec::from_array(rt.alloc(), [1, 2].map(|value| Counted::new(&tally, value)))
+    else {
+        return report(&rt, "the items");
+    };
+    match List::from_items(rt.alloc(), items) {
+        Err(AllocError) => report(&rt, "a node"),
+        Ok(list) => match list.reverse(rt.alloc()) {
+            Err(AllocError) => report(&rt, "a node of the reversed list"),
+            Ok(reversed) => same!(&rt, (reversed.len(), tally.copies()), (2, 2)),
+        },
+    }
+    same!(&rt, tally.drops(), tally.copies().wrapping_add(2));
+}

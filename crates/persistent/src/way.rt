@@ -1,5 +1,5 @@
 //! How a node makes ready for a side that may become lower, before it does. What may be refused is done here.
-ghost use Rattle.std.specs.Prelude.{◌≡◌, ◌+◌, ◌^◌, ◌<◌, ◌≤◌, IfOk, OnErr};
+ghost use Rattle.std.specs.Prelude.{IfOk, OnErr};
 ghost use Rattle.servo_arc.specs.Copies.{CopiesAreEqual};
 ghost use Rattle.persistent.specs.Nodes.{CanLoseLeft, CanLoseRight, IsNode, IsSame};
 

@@ -1,38 +1,156 @@
 // The worked rows of the shared count, in one thread.
-use servo_arc::shared_count::{EndReply, SharedCount, TryClone, laws};
+ghost use Rattle.std.specs.Prelude.{◌≡◌};
+
+use self::Who::{P, Q};
+use servo_arc::shared_count::{CountPass, EndReply, SharedCount, TryClone, laws};
+use std::process::Abort;
 use test_support::opened::{open_one, open_two};
-use test_support::{holds, ok, same};
+use test_support::{holds, ok, same, same_at};
 
-#[test]
-fn a_pass_alone_is_unique_and_ends_last(rt: HostRuntime) {
-    let (count, mut p) = ok!(&rt, open_one(rt.alloc()));
-    holds!(&rt, p.owned() == 1);
-    holds!(&rt, count.try_clone(&mut p) == TryClone::Born);
-    holds!(&rt, p.owned() == 2);
-    holds!(&rt, count.end(&mut p) == EndReply::Ended);
-    holds!(&rt, count.is_unique(&mut p));
-    holds!(&rt, count.end(&mut p) == EndReply::Last);
-    holds!(&rt, p.owned() == 0);
+/// A call with its answer.
+#[derive(Clone, Copy, Debug, PartialEq)]
+enum Call {
+    Clone(TryClone),
+    End(EndReply),
+    Mark,
+    Unique(bool),
+    Static(bool),
+    Owned(u64),
 }
 
-#[test]
-fn two_passes_see_each_other_in_the_replies(rt: HostRuntime) {
-    let (count, mut p, mut q) = ok!(&rt, open_two(rt.alloc()));
-    holds!(&rt, !count.is_unique(&mut p));
-    holds!(&rt, count.end(&mut q) == EndReply::Ended);
-    holds!(&rt, count.is_unique(&mut p));
-    holds!(&rt, count.try_clone(&mut p) == TryClone::Born);
-    holds!(&rt, !count.is_unique(&mut p));
-    count.mark(&mut p);
-    holds!(&rt, count.is_static(&mut p));
-    holds!(&rt, count.end(&mut p) == EndReply::Ended);
-    holds!(&rt, count.end(&mut p) == EndReply::Ended);
+const BORN: Call = Call::Clone(TryClone::Born);
+
+const ENDED: Call = Call::End(EndReply::Ended);
+
+const LAST: Call = Call::End(EndReply::Last);
+
+/// A pass, and the count that it is of.
+#[derive(Drop)]
+struct Caller<'a> {
+    count: &'a SharedCount,
+    pass: CountPass,
+    ghost own: { pass.count ≡ count.now },
 }
 
+impl<'a> Caller<'a> {
+    fn of(count: &'a SharedCount, pass: CountPass) -> Caller<'a>
+        requires { pass.count ≡ count.now }
+    {
+        Caller { count, pass }
+    }
+
+    /// The call with the answer that it gets, or none if the pass owns no handle.
+    fn answered(&mut self, call: Call) -> Option<Call> {
+        let owned = self.pass.owned();
+        if owned == 0 || owned == u64::MAX {
+            return if call == Call::Owned(owned) {
+                Some(call)
+            } else {
+                None
+            };
+        }
+        match call {
+            Call::Clone(_) => Some(Call::Clone(self.count.try_clone(&mut self.pass))),
+            Call::End(_) => Some(Call::End(self.count.end(&mut self.pass))),
+            Call::Mark => {
+                self.count.mark(&mut self.pass);
+                Some(Call::Mark)
+            }
+            Call::Unique(_) => Some(Call::Unique(self.count.is_unique(&mut self.pass))),
+            Call::Static(_) => Some(Call::Static(self.count.is_static(&mut self.pass))),
+            Call::Owned(_) => Some(Call::Owned(owned)),
+        }
+    }
+}
+
+#[derive(Clone, Copy, Debug, PartialEq)]
+enum Who {
+    P,
+    Q,
+}
+
+/// Who calls, and the call.
+type Row = (Who, Call);
+
+fn check(rt: &impl Abort, name: &str, mut p: Caller<'_>, mut q: Caller<'_>, rows: &[Row]) {
+    for (who, call) in rows {
+        let found = match who {
+            P => p.answered(*call),
+            Q => q.answered(*call),
+        };
+        same_at!(rt, (name, *who), found, Some(*call));
+    }
+}
+
+/// Rows of the two passes of one count.
+const TOGETHER: [(&str, &[Row]); 2] = [
+    (
+        "two passes see each other in the replies",
+        &[
+            (P, Call::Unique(false)),
+            (Q, ENDED),
+            (P, Call::Unique(true)),
+            (P, BORN),
+            (P, Call::Unique(false)),
+            (P, Call::Mark),
+            (P, Call::Static(true)),
+            (P, ENDED),
+            (P, ENDED),
+        ],
+    ),
+    // A clone that raised from the word of `is_unique` would be overtaken here.
+    (
+        "a clone reads the word anew",
+        &[
+            (P, Call::Unique(false)),
+            (Q, ENDED),
+            (P, BORN),
+            (P, Call::Owned(2)),
+            (P, ENDED),
+            (P, LAST),
+        ],
+    ),
+];
+
+/// Rows of two passes, each the only one of its count.
+const APART: [(&str, &[Row]); 3] = [
+    (
+        "a pass alone is unique and ends last",
+        &[
+            (P, Call::Owned(1)),
+            (P, BORN),
+            (P, Call::Owned(2)),
+            (P, ENDED),
+            (P, Call::Unique(true)),
+            (P, LAST),
+            (P, Call::Owned(0)),
+        ],
+    ),
+    ("a pass alone ends last", &[(P, LAST)]),
+    (
+        "two counts know nothing of each other",
+        &[
+            (P, Call::Mark),
+            (Q, Call::Unique(true)),
+            (Q, LAST),
+            (P, Call::Static(true)),
+            (P, ENDED),
+        ],
+    ),
+];
+
 #[test]
-fn a_pass_alone_ends_last(rt: HostRuntime) {
-    let (count, mut alone) = ok!(&rt, open_one(rt.alloc()));
-    holds!(&rt, count.end(&mut alone) == EndReply::Last);
+fn passes_are_answered_in_turn(rt: HostRuntime) {
+    for (name, rows) in TOGETHER {
+        let (count, p, q) = ok!(&rt, open_two(rt.alloc()));
+        let (p, q) = (Caller::of(&count, p), Caller::of(&count, q));
+        check(&rt, name, p, q, rows);
+    }
+    for (name, rows) in APART {
+        let (one, p) = ok!(&rt, open_one(rt.alloc()));
+        let (two, q) = ok!(&rt, open_one(rt.alloc()));
+        check(&rt, name, Caller::of(&one, p), Caller::of(&two, q), rows);
+    }
 }
 
 #[test]
@@ -41,33 +159,14 @@ fn a_marked_count_never_ends_last(rt: HostRuntime) {
     count.mark(&mut p);
     holds!(&rt, count.try_clone(&mut q) == TryClone::Born);
     count.meet(&mut p, &mut q);
-    holds!(&rt, count.is_static(&mut p));
-    holds!(&rt, count.end(&mut q) == EndReply::Ended);
-    holds!(&rt, count.end(&mut q) == EndReply::Ended);
-    holds!(&rt, count.end(&mut p) == EndReply::Ended);
-}
-
-#[test]
-fn two_counts_know_nothing_of_each_other(rt: HostRuntime) {
-    let (one, mut p) = ok!(&rt, open_one(rt.alloc()));
-    let (two, mut q) = ok!(&rt, open_one(rt.alloc()));
-    one.mark(&mut p);
-    holds!(&rt, two.is_unique(&mut q));
-    holds!(&rt, two.end(&mut q) == EndReply::Last);
-    holds!(&rt, one.is_static(&mut p));
-    holds!(&rt, one.end(&mut p) == EndReply::Ended);
-}
-
-// A clone that raised from the word of `is_unique` would be overtaken here.
-#[test]
-fn a_clone_reads_the_word_anew(rt: HostRuntime) {
-    let (count, mut p, mut q) = ok!(&rt, open_two(rt.alloc()));
-    holds!(&rt, !count.is_unique(&mut p));
-    holds!(&rt, count.end(&mut q) == EndReply::Ended);
-    holds!(&rt, count.try_clone(&mut p) == TryClone::Born);
-    holds!(&rt, p.owned() == 2);
-    holds!(&rt, count.end(&mut p) == EndReply::Ended);
-    holds!(&rt, count.end(&mut p) == EndReply::Last);
+    let rows = [(P, Call::Static(true)), (Q, ENDED), (Q, ENDED), (P, ENDED)];
+    check(
+        &rt,
+        "met",
+        Caller::of(&count, p),
+        Caller::of(&count, q),
+        &rows,
+    );
 }
 
 #[test]

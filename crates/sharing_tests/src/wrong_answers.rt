@@ -4,7 +4,6 @@
 // gone the answers are right again.
 use crate::made::arc_of;
 use servo_arc::Arc;
-use std::thread;
 use std::thread::{Threads, join};
 use test_support::{again, holds, ok};
 
@@ -59,19 +58,4 @@ fn two_threads_seldom_get_a_wrong_answer(rt: HostRuntime) {
     holds!(&rt, from_one_end < ALL / 6);
     holds!(&rt, from_opposite_ends < ALL / 6);
     holds!(&rt, Arc::ptr_eq(&a, &b) && !Arc::ptr_eq(&a, &c));
-}
-
-#[test]
-fn four_threads_seldom_get_a_wrong_answer(rt: HostRuntime) {
-    let a = arc_of(&rt, 1u64);
-    let b = again!(&rt, &a);
-    let mut wrong = 4 * CALLS;
-    let answers = thread::map_indices(&rt, rt.alloc(), 4, &|_| count_true((&a, &b)));
-    for right in ok!(&rt, answers) {
-        wrong = wrong.wrapping_sub(right);
-    }
-    let all = 4 * CALLS;
-    let text = println!(rt; "one block, four threads: false {wrong} times of {all}");
-    ok!(&rt, text);
-    holds!(&rt, Arc::ptr_eq(&a, &b));
 }

@@ -13,12 +13,8 @@ fn table_of(alloc: Global, items: &[u32], page_len: usize) -> Result<CowTable<u3
 
 // By each of the ways to read.
 fn reads(table: &CowTable<u32>, items: &[u32]) -> bool {
-    for (i, item) in items.iter().enumerate() {
-        if table.get(i) != Some(item) {
-            return false;
-        }
-    }
-    table.get(items.len()).is_none()
+    table.get(0) == items.first()
+        && table.get(items.len()).is_none()
         && table.len() == items.len()
         && table.is_empty() == items.is_empty()
         && table.iter().eq(items)

@@ -4,7 +4,7 @@ use crate::orders::Order;
 use persistent::{List, TreeMap};
 use std::alloc::{AllocError, Global};
 use test_support::counted::{Counted, Tally};
-use test_support::{again, holds, holds_at, ok, same, same_at};
+use test_support::{again, ok, same, same_at};
 
 const KEYS: u64 = 1000;
 
@@ -36,16 +36,19 @@ fn a_lone_version_copies_nothing(rt: HostRuntime) {
     for order in ORDERS {
         let tally = Tally::new();
         let mut map = ok!(&rt, evens(rt.alloc(), &tally, order));
-        let found = (0..KEYS).all(|key| map.contains(&(2 * key)));
-        same_at!(&rt, order, (found, tally.drops()), (true, 0));
+        let before = tally.drops();
         ok!(&rt, map.insert(rt.alloc(), 0, Counted::new(&tally, 9)));
-        same_at!(&rt, order, (tally.copies(), tally.drops()), (0, 1));
+        let replaced = tally.drops();
         for key in 0..KEYS {
-            let removed = ok!(&rt, map.remove(rt.alloc(), &(2 * key)));
-            holds_at!(&rt, (order, key), removed.is_some());
+            drop(ok!(&rt, map.remove(rt.alloc(), &(2 * key))));
         }
-        same_at!(&rt, order, (tally.copies(), tally.drops()), (0, KEYS + 1));
-        holds_at!(&rt, order, map.is_empty());
+        let drops = [before, replaced, tally.drops()];
+        same_at!(
+            &rt,
+            order,
+            (drops, tally.copies(), map.len()),
+            ([0, 1, KEYS + 1], 0, 0),
+        );
     }
 }
 
@@ -64,36 +67,39 @@ fn an_insert_copies_its_path_alone(rt: HostRuntime) {
             );
             let copied = tally.copies().wrapping_sub(copies);
             let kept = living(&tally, 0).wrapping_sub(before);
-            holds_at!(&rt, (order, key), kept <= depth);
-            holds_at!(&rt, (order, key), copied <= depth);
             drop(version);
-            same_at!(&rt, (order, key), living(&tally, 1), before);
+            let is_gone = living(&tally, 1) == before;
+            same_at!(
+                &rt,
+                (order, key),
+                (kept <= depth, copied <= depth, is_gone),
+                (true, true, true),
+            );
         }
         drop(map);
     }
 }
 
-// On average a removal copies no more than this: 2 log2 of the keys.
-const MOST_COPIES: u64 = 20;
+// On average a removal copies no more than 20 values: 2 log2 of the keys.
+const MOST_COPIES: u64 = 20 * KEYS;
 
 // Both versions have all the nodes but those on the path, and each value ends with the last version that has it.
 #[test]
 fn a_value_ends_with_its_last_version(rt: HostRuntime) {
     let tally = Tally::new();
     let old = ok!(&rt, evens(rt.alloc(), &tally, Order::Inward));
-    same!(&rt, living(&tally, KEYS), KEYS);
     let (copies, mut new) = (tally.copies(), again!(&rt, &old));
     for key in 0..KEYS {
-        holds!(&rt, ok!(&rt, new.remove(rt.alloc(), &(2 * key))).is_some());
+        drop(ok!(&rt, new.remove(rt.alloc(), &(2 * key))));
     }
-    let copied = tally.copies().wrapping_sub(copies);
-    holds!(&rt, copied <= KEYS.wrapping_mul(MOST_COPIES));
-    same!(&rt, (new.len(), living(&tally, KEYS)), (0, KEYS));
+    let is_little = tally.copies().wrapping_sub(copies) <= MOST_COPIES;
+    let emptied = living(&tally, KEYS);
     ok!(&rt, new.insert(rt.alloc(), 1, Counted::new(&tally, 1)));
     drop(old);
-    same!(&rt, living(&tally, KEYS.wrapping_add(1)), 1);
+    let left = living(&tally, KEYS + 1);
     drop(new);
-    same!(&rt, living(&tally, KEYS.wrapping_add(1)), 0);
+    let lives = [emptied, left, living(&tally, KEYS + 1)];
+    same!(&rt, (is_little, lives), (true, [KEYS, 1, 0]));
 }
 
 #[test]
@@ -104,7 +110,7 @@ fn a_list_copies_nothing(rt: HostRuntime) {
     let copy = again!(&rt, &new);
     drop(new);
     drop(old);
-    same!(&rt, (tally.drops(), copy.len()), (0, 2));
+    let kept = (tally.drops(), copy.len());
     drop(copy);
-    same!(&rt, (tally.drops(), tally.copies()), (2, 0));
+    same!(&rt, (kept, tally.drops(), tally.copies()), ((0, 2), 2, 0),);
 }

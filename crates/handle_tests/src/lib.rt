@@ -49,6 +49,8 @@ mod table_rows;
 #[cfg(test)]
 mod texts;
 #[cfg(test)]
+mod two_handles;
+#[cfg(test)]
 mod union_rows;
 #[cfg(test)]
 mod unions;

@@ -5,7 +5,6 @@ use persistent::{List, TreeMap};
 use servo_arc::{Arc, ArcUnion};
 use std::alloc::{AllocError, Global};
 use test_support::{again, ok, same, same_at};
-use uses::rose::Rose;
 
 #[test]
 fn handles_are_told_apart(rt: HostRuntime) {
@@ -128,31 +127,5 @@ fn maps_are_told_apart(rt: HostRuntime) {
             TreeMap::ptr_eq(&a, &again!(&rt, &a)),
         ];
         same_at!(&rt, len, found, [false, false, true]);
-    }
-}
-
-fn rose_of(alloc: Global, children: u64) -> Result<Rose<u64>, AllocError> {
-    let mut leaves = Vec::new(alloc);
-    for value in 0..children {
-        leaves.push(Rose::leaf(alloc, value)?)?;
-    }
-    Rose::with_children(alloc, 7, leaves)
-}
-
-#[test]
-fn roses_are_told_apart(rt: HostRuntime) {
-    let alloc = rt.alloc();
-    for children in [0, 1, 3, 100] {
-        let (a, b) = (
-            ok!(&rt, rose_of(alloc, children)),
-            ok!(&rt, rose_of(alloc, children)),
-        );
-        let found = [Rose::ptr_eq(&a, &b), Rose::ptr_eq(&a, &again!(&rt, &a))];
-        let last = (a.children().last(), b.children().last());
-        let are_last_one = match last {
-            (Some(x), Some(y)) => Rose::ptr_eq(x, y),
-            _ => false,
-        };
-        same_at!(&rt, children, (found, are_last_one), ([false, true], false));
     }
 }

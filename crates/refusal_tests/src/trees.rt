@@ -1,4 +1,4 @@
-// What a call on versions of a list or a map leaves.
+// What a call on versions of a list or a map drops. What they then are is said by the clauses.
 use crate::reporting::report;
 use persistent::{List, TreeMap};
 use std::alloc::{AllocError, Global};
@@ -11,10 +11,7 @@ fn a_refused_push_leaves_the_list(rt: HostRuntime) {
     let Ok(old) = List::new().push(rt.alloc(), Counted::new(&tally, 1)) else {
         return report(&rt, "the set-up");
     };
-    let pushed = old.push(rt.alloc(), Counted::new(&tally, 2));
-    let first = old.first().expect(&rt, "an item").value;
-    same!(&rt, (first, old.len()), (1, 1));
-    match pushed {
+    match old.push(rt.alloc(), Counted::new(&tally, 2)) {
         Ok(new) => same!(&rt, (new.len(), tally.drops()), (2, 0)),
         Err(AllocError) => {
             same!(&rt, tally.drops(), 1);
@@ -32,21 +29,6 @@ fn halves<'a>(alloc: Global, tally: &'a Tally) -> Result<Map<'a>, AllocError> {
         map.insert(alloc, 2 * half, Counted::new(tally, half))?;
     }
     Ok(map)
-}
-
-fn has_halves(map: &Map<'_>) -> bool {
-    let mut half = 0u64;
-    for (key, value) in map.iter() {
-        if *key != half.wrapping_mul(2) || value.value != half {
-            return false;
-        }
-        half = half.wrapping_add(1);
-    }
-    half == 4
-}
-
-fn value_at(map: &Map<'_>, key: u64) -> Option<u64> {
-    Some(map.get(&key)?.value)
 }
 
 // Whether all values were dropped that were made since, but for those of the map itself.
@@ -67,14 +49,8 @@ fn a_refused_insert_leaves_both_versions(rt: HostRuntime) {
     };
     for (made, key) in [(5, 1), (6, 3), (7, 7)] {
         let mut new = again!(&rt, &old);
-        let inserted = new.insert(rt.alloc(), key, Counted::new(&tally, 9));
-        holds!(&rt, has_halves(&old));
-        match inserted {
-            Ok(()) => same!(&rt, value_at(&new, key), Some(9)),
-            Err(AllocError) => {
-                holds!(&rt, has_halves(&new));
-                report(&rt, "a node of the path or of the key");
-            }
+        if let Err(AllocError) = new.insert(rt.alloc(), key, Counted::new(&tally, 9)) {
+            report(&rt, "a node of the path or of the key");
         }
         drop(new);
         holds!(&rt, kept_none(&tally, made));
@@ -89,18 +65,9 @@ fn a_refused_remove_leaves_both_versions(rt: HostRuntime) {
     };
     for key in [0, 2, 4, 6] {
         let mut new = again!(&rt, &old);
-        let removed = new.remove(rt.alloc(), &key);
-        holds!(&rt, has_halves(&old));
-        match removed {
-            Ok(value) => {
-                let value = value.expect(&rt, "a value").value;
-                let seen = (value, new.contains(&key), new.len());
-                same!(&rt, seen, (key / 2, false, 3));
-            }
-            Err(AllocError) => {
-                holds!(&rt, has_halves(&new));
-                report(&rt, "a node of the path");
-            }
+        match new.remove(rt.alloc(), &key) {
+            Ok(value) => holds!(&rt, value.is_some()),
+            Err(AllocError) => report(&rt, "a node of the path"),
         }
         drop(new);
         holds!(&rt, kept_none(&tally, 4));

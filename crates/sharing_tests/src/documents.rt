@@ -73,6 +73,13 @@ fn edits_are_undone_and_done_again(rt: HostRuntime) {
     same!(&rt, names.as_str(), "page title date body ");
 }
 
+fn is_child_shared(old: &Rose<Part>, new: &Rose<Part>, index: usize) -> bool {
+    match (old.child(index), new.child(index)) {
+        (Some(x), Some(y)) => Rose::ptr_eq(x, y),
+        _ => false,
+    }
+}
+
 // The title stands in each version.
 #[test]
 fn versions_share_what_an_edit_left_alone(rt: HostRuntime) {
@@ -82,10 +89,7 @@ fn versions_share_what_an_edit_left_alone(rt: HostRuntime) {
     ok!(&rt, apply(&mut document, alloc, &[1], rename));
     let old = document.before().first().expect(&rt, "no version");
     let new = document.current();
-    let shared = [0, 1].map(|index| match (old.child(index), new.child(index)) {
-        (Some(x), Some(y)) => Rose::ptr_eq(x, y),
-        _ => false,
-    });
+    let shared = [is_child_shared(old, new, 0), is_child_shared(old, new, 1)];
     same!(&rt, shared, [true, false]);
 }
 

@@ -81,7 +81,7 @@ fn a_wide_tree_is_changed_at_its_last_child(rt: HostRuntime) {
     }
     let old = ok!(&rt, Rose::with_children(rt.alloc(), MANY, leaves));
     let new = ok!(&rt, old.with_value(rt.alloc(), &[999], 7));
-    let shared = [&[998][..], &[999]].map(|path| is_shared(&old, &new, path));
+    let shared = [is_shared(&old, &new, &[998]), is_shared(&old, &new, &[999])];
     same!(&rt, shared, [true, false]);
 }
 

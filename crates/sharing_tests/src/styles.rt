@@ -45,5 +45,5 @@ fn a_style_has_the_groups_of_its_source_alone(rt: HostRuntime) {
         seen_in(&thick, &plain),
     ];
     let (both, border, font) = ((true, true), (false, true), (true, false));
-    same!(&rt, seen, [both, border, font].map(|marks| (marks, marks)));
+    same!(&rt, seen, [(both, both), (border, border), (font, font)],);
 }

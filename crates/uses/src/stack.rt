@@ -1,5 +1,5 @@
 //! A stack of the caller's own, whose versions share their nodes.
-ghost use Rattle.std.specs.Prelude.{◌≡◌, ◌∷◌, [], IfOk, drop, slice_get};
+ghost use Rattle.std.specs.Prelude.{◌≡◌, ◌<◌, ◌^◌, ◌∷◌, [], IfOk, drop, length, slice_get};
 ghost use Rattle.std.specs.Option.{option_copied};
 
 use servo_arc::Arc;
@@ -52,6 +52,20 @@ impl<T> Stack<T> {
         ensures { option_copied result ≡ slice_get self.now 0 }
     {
         Some(&self.top.as_ref()?.item)
+    }
+
+    /// The number of the items, by a walk down the nodes.
+    pub fn len(&self) -> usize
+        requires { length self.now < 2 ^ 64 }
+        ensures { result ≡ length self.now }
+    {
+        let mut count: usize = 0;
+        let mut rest = &self.top;
+        while let Some(node) = rest {
+            count += 1;
+            rest = &node.below;
+        }
+        count
     }
 }
 

@@ -1,6 +1,7 @@
 pub mod Chains
 pub mod Changes
 pub mod Documents
+pub mod Fonts
 pub mod Roses
 pub mod Stacks
 pub mod Styles

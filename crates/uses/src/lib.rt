@@ -7,6 +7,7 @@ pub mod crossing;
 pub mod defaults;
 pub mod documents;
 pub mod edits;
+pub mod fonts;
 pub mod history;
 pub mod list_editions;
 pub mod map_editions;

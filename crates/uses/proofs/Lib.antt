@@ -1,3 +1,4 @@
 pub mod Preorder
+pub mod ReadBack
 pub mod Roses
 pub mod TwoPasses

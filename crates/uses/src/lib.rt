@@ -12,6 +12,7 @@ pub mod history;
 pub mod list_editions;
 pub mod map_editions;
 pub mod published;
+pub mod read_back;
 pub mod recursive;
 pub mod restyle;
 pub mod rose;

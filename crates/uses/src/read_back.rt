@@ -1,0 +1,33 @@
+//! A caller that reads behind a clause which says the whole map, and so cites a lemma of what is read there.
+ghost use Rattle.std.specs.Prelude.{◌≡◌, Some, IfOk, OnOk};
+ghost use Rattle.std.specs.Ordering.{nat_cmp};
+ghost use Rattle.persistent.specs.Maps.{with_entry};
+
+use persistent::TreeMap;
+use std::alloc::{AllocError, Global};
+
+/// Sets a value under a key.
+pub fn set(
+    map: &mut TreeMap<u64, u64>,
+    alloc: Global,
+    key: u64,
+    value: u64,
+) -> Result<(), AllocError>
+    ensures { OnOk result (map.new ≡ with_entry nat_cmp key value map.old) }
+{
+    map.insert(alloc, key, value)
+}
+
+/// What is read after that.
+#[tactic(auto, using(crate::proofs::ReadBack::read_back))]
+pub fn set_and_read(
+    map: &mut TreeMap<u64, u64>,
+    alloc: Global,
+    key: u64,
+    value: u64,
+) -> Result<Option<u64>, AllocError>
+    ensures { IfOk result (λ read. read ≡ Some value) }
+{
+    set(map, alloc, key, value)?;
+    Ok(map.get(&key).copied())
+}

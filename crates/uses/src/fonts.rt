@@ -1,5 +1,5 @@
 //! Fonts by key, each made once and then shared by all threads that ask for it, under a lock.
-ghost use Rattle.std.specs.Prelude.{◌≡◌, ℕ, None, Some, All, IfOk, IsSome, OnErr, OnOk, length};
+ghost use Rattle.std.specs.Prelude.{◌≡◌, ℕ, [], None, Some, All, IfOk, IsSome, OnErr, OnOk, length};
 ghost use Rattle.std.specs.Ordering.{nat_cmp};
 ghost use Rattle.persistent.specs.Maps.{lookup, with_entry};
 ghost use Rattle.uses.specs.Fonts.{font_of};
@@ -33,7 +33,10 @@ pub struct FontCache {
 }
 
 impl FontCache {
-    pub fn new() -> FontCache {
+    /// Without a font.
+    pub fn new() -> FontCache
+        ensures { result.fonts ≡ [] }
+    {
         FontCache {
             fonts: TreeMap::new(),
         }

@@ -18,6 +18,8 @@ mod documents;
 #[cfg(test)]
 mod ending;
 #[cfg(test)]
+mod fonts;
+#[cfg(test)]
 mod last_value;
 #[cfg(test)]
 mod limits_on_threads;

@@ -4,9 +4,9 @@ word after it. The answers come from the file beside the script, and the word fo
 
     docs/pictures/draw.py [--check]
 
-writes docs/pictures/NAME.svg for each example of NAMES, LOGGED once more, with the log of the block beside its trace, and
-VERSIONS, two versions of a tree by what a test sees them share. With --check it writes nothing, and ends with 1 if a
-picture is not as it would be drawn.
+writes docs/pictures/NAME.svg for each example of NAMES, LOGGED once more, with the log of the block beside its trace,
+VERSIONS, two versions of a tree by what a test sees them share, and word.svg, the steps on a word. With --check it
+writes nothing, and ends with 1 if a picture is not as it would be drawn.
 """
 import re
 import sys
@@ -42,6 +42,9 @@ COLUMN = 190
 WORD = 120
 TOP = 44
 NODE = 80
+LIMIT = 3
+TIP = """<defs><marker id="tip" viewBox="0 0 8 8" refX="8" refY="4" markerWidth="7" markerHeight="7" orient="auto">
+<path d="M0 0 L8 4 L0 8 z" fill="currentColor"/></marker></defs>"""
 
 STYLE = """<style>
   text { font: 14px system-ui, sans-serif; fill: currentColor; }
@@ -190,9 +193,45 @@ def drawn_versions():
     return picture(VERSIONS, int((2 * after - 1) * NODE), height, [*lines, *boxes])
 
 
+def moves():
+    """What each step makes of a word with a limit, as (mark, count). Without the mark a lower of the last one frees."""
+    for count in range(1, LIMIT + 1):
+        yield (False, count), "lower", (False, count - 1)
+        yield (False, count), "mark", (True, count)
+        if count < LIMIT:
+            yield (False, count), "raise", (False, count + 1)
+            yield (True, count + 1), "late lower", (True, count)
+
+
+def drawn_word():
+    """A word without the mark above, and with it below."""
+    def place(state):
+        return COLUMN * state[1] + COLUMN // 2, TOP + 2 * NODE * state[0]
+
+    parts = [TIP]
+    for state in sorted({state for start, _, end in moves() for state in (start, end)}):
+        x, y = place(state)
+        label = f"mark + {state[1]}" if state[0] else f"count {state[1]}" if state[1] else "freed"
+        kind = "lost" if state[0] else "step"
+        parts.append(f'<rect class="{kind}" x="{x - 45}" y="{y}" width="90" height="{NODE // 2}" rx="4"/>')
+        parts.append(f'<text x="{x}" y="{y + 25}" text-anchor="middle">{label}</text>')
+    for start, step, end in moves():
+        (x, y), (to, down) = place(start), place(end)
+        if x == to:
+            line, at, anchor = (x, y + NODE // 2, to, down), (x + 8, (y + NODE // 2 + down) // 2 + 4), "start"
+        else:
+            side, level = (1, y + 10) if to > x else (-1, y + NODE // 2 - 10)
+            line = (x + 45 * side, level, to - 45 * side, level)
+            at, anchor = ((x + to) // 2, level - 4 if to > x else level + 14), "middle"
+        parts.append('<line class="line" marker-end="url(#tip)" x1="{}" y1="{}" x2="{}" y2="{}"/>'.format(*line))
+        parts.append(f'<text class="small" x="{at[0]}" y="{at[1]}" text-anchor="{anchor}">{step}</text>')
+    return picture("word", COLUMN * (LIMIT + 1), TOP + 2 * NODE + NODE // 2 + 20, parts)
+
+
 def main():
     folder = ROOT / "docs" / "pictures"
-    pictures = {name: drawn(name) for name in NAMES} | {LOGGED[0]: drawn(LOGGED[1], logged=True), VERSIONS: drawn_versions()}
+    pictures = {name: drawn(name) for name in NAMES}
+    pictures |= {LOGGED[0]: drawn(LOGGED[1], logged=True), VERSIONS: drawn_versions(), "word": drawn_word()}
     other = []
     for name, picture in pictures.items():
         path = folder / f"{name}.svg"

@@ -62,7 +62,7 @@ rm crates/low/src/more.rt
 want "a file less" 0 'one two' "$both" ./small
 sleep 1
 echo wrong >crates/low/src/lib.rt
-want "wrong" 125 '' "small: it cannot be proved and built: $PWD/out/small/crates/*/log say why" ./small
+want "wrong" 125 '' "small: it cannot be proved and built: $PWD/out/small/*/crates/*/log say why" ./small
 rm -rf out && touch out
 want "no folder" 125 '' "small: cannot write to $PWD/out/small" ./small
 

@@ -55,8 +55,7 @@ def main():
             page.write_text(new)
         elif new != text:
             old.append(f"{page.parent.name}/CALLING.md: the contracts are not those of the source")
-    return "\n".join(old) or None
+    sys.exit("\n".join(old) or None)
 
 
-if __name__ == "__main__":
-    sys.exit(main())
+main()

@@ -29,7 +29,6 @@ def functions(source):
 
 
 def quoted(owner, lines):
-    """A line for the function, and one for each clause."""
     text = re.sub(r"\s+", " ", " ".join(lines)).replace("( ", "(").replace(", )", ")")
     kind = re.sub(r"<.*", "", re.sub(r"^(unsafe )?impl(<.*?>)? (?=[\w&])", "", owner).split(" for ")[-1])
     head, *clauses = CLAUSE.split(re.sub(r" \{ ?\}?$", "", text))

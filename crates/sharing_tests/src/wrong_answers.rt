@@ -1,5 +1,5 @@
 // How often `ptr_eq` errs while other threads ask the same of these blocks, as it may. Each figure is printed. That two
-// blocks are taken for one has a bound: with one sign in place of four, a fifth to a half of all answers was wrong. One
+// blocks are taken for one has a bound: with one sign in place of two, a fifth to a half of all answers was wrong. One
 // block may be taken for two in most calls, if the threads keep in step, so that has none. Once the other threads are
 // gone the answers are right again.
 use crate::made::arc_of;

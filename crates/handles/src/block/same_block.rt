@@ -4,14 +4,12 @@
 // A stamp that stays as it is says that the blocks are two. One that moves by exactly what was added is a sign of one
 // block. If no other thread asks the same of either block meanwhile, nothing else can happen, and the answer is
 // exact. If one does, the answer may be wrong either way: what that thread adds may hide what was added here, or
-// look like it. So several signs have to come in a row, by amounts that differ from each round to the next. That makes
-// a wrong `true` less likely, and does not rule it out: two threads that compare two blocks from opposite ends in step
-// see what one thread sees on one block.
+// look like it. So two signs have to come in a row, by amounts that differ. That makes a wrong `true` less likely, and
+// does not rule it out: two threads that compare two blocks from opposite ends in step see what one thread sees on one
+// block. More signs in a row make a wrong `false` of one block likelier, since each can be hidden.
 ghost use Rattle.std.specs.Prelude.{◌≡◌, false};
 
 use super::Handle;
-
-const SIGNS: u8 = 4;
 
 const MOST_ROUNDS: u8 = 64;
 
@@ -20,7 +18,7 @@ impl<T> Handle<T> {
     pub(crate) fn has_block_of(&self, other: &Handle<T>) -> bool
         requires { (self.now.sole ≡ false) × (other.now.sole ≡ false) }
     {
-        let mut signs = 0;
+        let mut saw_sign = false;
         let mut amount = 1;
         for _ in 0..MOST_ROUNDS {
             let before = other.stamp();
@@ -29,14 +27,11 @@ impl<T> Handle<T> {
             if after == before {
                 return false;
             }
-            signs = if after.wrapping_sub(before) == amount {
-                signs + 1
-            } else {
-                0
-            };
-            if signs == SIGNS {
+            let sees_sign = after.wrapping_sub(before) == amount;
+            if saw_sign && sees_sign {
                 return true;
             }
+            saw_sign = sees_sign;
             amount = next_amount(amount, own);
         }
         false

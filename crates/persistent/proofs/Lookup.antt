@@ -5,7 +5,7 @@ use Rattle.std.specs.Prelude.{Option, None, Some}
 use Rattle.std.specs.declared.cmp.Ordering.{Ordering}
 use Rattle.std.specs.declared.cmp.Ordering.TheVariants.{Less, Equal, Greater}
 use Rattle.std.specs.Cmp.{IsTotalOrder}
-use Rattle.std.specs.Ordering.{is_eq, match_ordering}
+use Rattle.std.specs.Ordering.{is_lt, is_eq, match_ordering}
 use Rattle.std.proofs.lemmas.Cmp.{alike_right}
 use Rattle.persistent.specs.Maps.{IsRising, lookup, with_entry, without}
 use Rattle.persistent.proofs.Order.{AreAbove, IsOver, to, rising_rest, above_more, rises_back, over_right, over_here}
@@ -28,10 +28,20 @@ gone : {X : Type 0} (b : Bool) (m n : Option X) → (b ≡ true → m ≡ None) 
 gone true m n h = h refl
 gone false m n h = refl
 
-eq_from : (o : Ordering) → is_eq o ≡ true → o ≡ Equal
+pub eq_from : (o : Ordering) → is_eq o ≡ true → o ≡ Equal
 eq_from Less t = absurd (true≢false (sym t))
 eq_from Equal t = refl
 eq_from Greater t = absurd (true≢false (sym t))
+
+pub less_from : (o : Ordering) → is_lt o ≡ true → o ≡ Less
+less_from Less t = refl
+less_from Equal t = absurd (true≢false (sym t))
+less_from Greater t = absurd (true≢false (sym t))
+
+pub greater_from : (o : Ordering) → is_lt o ≡ false → is_eq o ≡ false → o ≡ Greater
+greater_from Less t e = absurd (true≢false t)
+greater_from Equal t e = absurd (true≢false e)
+greater_from Greater t e = refl
 
 module _ {K V : Type 0} (cmp : K → K → Ordering) where
   lookup_over : (q : K) (l m : List (K × V)) → IsOver cmp q l → lookup cmp q (l ++ m) ≡ lookup cmp q m

@@ -4,7 +4,6 @@ ghost use Rattle.persistent.specs.Maps.{IsRising, lookup, rank};
 ghost use Rattle.persistent.specs.Places.{number};
 
 use crate::tree::Tree;
-use std::cmp::Ordering;
 
 impl<K: Ord, V> Tree<K, V> {
     // The number of the key's entry; `Err` has that which it would have.
@@ -14,19 +13,22 @@ impl<K: Ord, V> Tree<K, V> {
             (λ _. lookup K.cmp key.now self.now.0 ≡ None) }
         ensures rising { IsRising K.cmp self.now.0 }
     {
-        let Some(node) = self.root() else {
-            return Err(0);
-        };
-        match key.cmp(&node.entry.0) {
-            Ordering::Less => node.left.place(key),
-            Ordering::Equal => Ok(node.left.len()),
-            Ordering::Greater => {
-                let before = node.left.len() + 1;
-                match node.right.place(key) {
-                    Ok(index) => Ok(before + index),
-                    Err(index) => Err(before + index),
+        // A loop, as in `get`.
+        let mut next = self.root();
+        let mut before = 0;
+        while let Some(node) = next {
+            let order = key.cmp(&node.entry.0);
+            next = if order.is_lt() {
+                node.left.root()
+            } else {
+                let place = before + node.left.len();
+                if order.is_eq() {
+                    return Ok(place);
                 }
-            }
+                before = place + 1;
+                node.right.root()
+            };
         }
+        Err(before)
     }
 }

@@ -5,6 +5,7 @@ pub mod Lookup
 pub mod Numbers
 pub mod Order
 pub mod Pairs
+pub mod Parts
 pub mod Places
 pub mod Ranges
 pub mod Rank

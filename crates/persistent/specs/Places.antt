@@ -1,5 +1,5 @@
 -- Lists with an item more or less, by its number.
-use Rattle.std.specs.Prelude.{ℕ, zero, suc, List, [], ◌∷◌, Result, Ok, Err}
+use Rattle.std.specs.Prelude.{◌≡◌, ℕ, zero, suc, ◌+◌, ◌<◌, List, [], ◌∷◌, length, slice_get, Result, Ok, Err}
 
 module _ {E : Type 0} where
   -- the items with one more at that number
@@ -13,6 +13,10 @@ module _ {E : Type 0} where
   without_at i [] = []
   without_at zero (e ∷ es) = es
   without_at (suc i) (e ∷ es) = e ∷ without_at i es
+
+  -- the first are those of the second from that number on
+  pub record IsPart (part : List E) (start : ℕ) (all : List E) : Type 0 where
+    pub at : (k : ℕ) → k < length part → slice_get part k ≡ slice_get all (start + k)
 
 -- the entries with another value at that number
 unfoldable pub set_at : {K V : Type 0} → ℕ → V → List (K × V) → List (K × V)

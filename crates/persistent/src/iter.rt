@@ -1,10 +1,11 @@
 //! The entries of a map, one after another.
-ghost use Rattle.std.specs.Prelude.{◌≡◌, IfSome, Some, length, slice_range, ⊤};
+ghost use Rattle.std.specs.Prelude.{◌≡◌, ◌≤◌, IfSome, Some, length, slice_range, ⊤};
 ghost use Rattle.std.specs.Iterator.{UpTo, YieldsFirstRef, YieldsLastRef, item_count};
 ghost use Rattle.std.specs.Iterator.SizeHint.{IsWithinCount};
 ghost use Rattle.persistent.specs.Maps.{rank};
 
 use crate::map::TreeMap;
+use crate::tree::Tree;
 use std::alloc::AllocError;
 use std::iter::FusedIterator;
 use std::marker::Model;
@@ -12,23 +13,45 @@ use std::ops::Range;
 
 /// An iterator over the entries of a `TreeMap`, in the order of their keys.
 ///
-/// It takes no memory: for each entry it goes down from the root, in as many steps as the tree is deep.
+/// It takes no memory. Each end keeps a part of the tree with the entry that it gave last, mostly a low one. Most steps
+/// search that part alone; the others go down from the root, in as many steps as the tree is deep.
 #[derive(Drop)]
 pub struct Iter<'a, K: Ord, V> {
+    tree: &'a Tree<K, V>,
+    // Parts of it, each with the number of its first entry.
+    front: (&'a Tree<K, V>, usize),
+    back: (&'a Tree<K, V>, usize),
     // The entries that are left are those from the one number up to the other.
-    map: &'a TreeMap<K, V>,
     from: usize,
     to: usize,
 }
 
 impl<'a, K: Ord, V> Model for Iter<'a, K, V> {
     ghost use Rattle.std.specs.Prelude.{◌≤◌, List, length, slice_range};
+    ghost use Rattle.persistent.specs.Places.{IsPart};
 
     ghost Value = { List (K × V) };
 
-    ghost view = { λ i. slice_range i.map.now i.from i.to };
+    ghost view = { λ i. slice_range i.tree.now.0 i.from i.to };
 
-    ghost invariant = { λ i. (i.from ≤ i.to) × (i.to ≤ length i.map.now) };
+    ghost invariant = { λ i. (i.from ≤ i.to) × (i.to ≤ length i.tree.now.0)
+        × IsPart i.front.0.now.0 i.front.1 i.tree.now.0 × IsPart i.back.0.now.0 i.back.1 i.tree.now.0 };
+}
+
+impl<'a, K: Ord, V> Iter<'a, K, V> {
+    #[tactic(auto, using(crate::proofs::Parts::parts))]
+    fn between(tree: &'a Tree<K, V>, from: usize, to: usize) -> Iter<'a, K, V>
+        requires { (from ≤ to) × (to ≤ length tree.now.0) }
+        ensures { result ≡ slice_range tree.now.0 from to }
+    {
+        Iter {
+            tree,
+            front: (tree, 0),
+            back: (tree, 0),
+            from,
+            to,
+        }
+    }
 }
 
 impl<'a, K: Ord, V> IntoIterator for &'a TreeMap<K, V> {
@@ -40,11 +63,7 @@ impl<'a, K: Ord, V> IntoIterator for &'a TreeMap<K, V> {
 
     #[tactic(auto, using(crate::proofs::Ranges::ranges))]
     fn into_iter(self) -> Iter<'a, K, V> {
-        Iter {
-            map: self,
-            from: 0,
-            to: self.len(),
-        }
+        Iter::between(&self.tree, 0, self.len())
     }
 }
 
@@ -65,11 +84,7 @@ impl<K: Ord, V> TreeMap<K, V> {
     {
         let from = self.rank(keys.start);
         let to = self.rank(keys.end).max(from);
-        Iter {
-            map: self,
-            from,
-            to,
-        }
+        Iter::between(&self.tree, from, to)
     }
 }
 
@@ -85,8 +100,8 @@ impl<'a, K: Ord, V> Iterator for Iter<'a, K, V> {
         if self.from == self.to {
             return None;
         }
-        let map = self.map;
-        let entry = map.entry(self.from)?;
+        let (entry, near) = self.tree.numbered(self.front, self.from)?;
+        self.front = near;
         self.from += 1;
         Some(entry)
     }
@@ -110,8 +125,8 @@ impl<'a, K: Ord, V> DoubleEndedIterator for Iter<'a, K, V> {
         if self.from == self.to {
             return None;
         }
-        let map = self.map;
-        let entry = map.entry(self.to - 1)?;
+        let (entry, near) = self.tree.numbered(self.back, self.to - 1)?;
+        self.back = near;
         self.to -= 1;
         Some(entry)
     }
@@ -132,10 +147,6 @@ impl<'a, K: Ord, V> Clone for Iter<'a, K, V> {
     ghost is_infallible = { λ _. ⊤ };
 
     fn clone(&self) -> Result<Iter<'a, K, V>, AllocError> {
-        Ok(Iter {
-            map: self.map,
-            from: self.from,
-            to: self.to,
-        })
+        Ok(Iter::between(self.tree, self.from, self.to))
     }
 }

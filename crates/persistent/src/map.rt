@@ -106,10 +106,12 @@ impl<K: Ord, V> TreeMap<K, V> {
     }
 
     /// The entry of that number, counted from 0 in the order of the keys, in as many steps as the tree is deep.
+    #[tactic(auto, using(crate::proofs::Parts::part_all))]
     pub fn entry(&self, index: usize) -> Option<&(K, V)>
         ensures { option_copied result ≡ slice_get self.now index }
     {
-        self.tree.numbered(index)
+        let (entry, _) = self.tree.numbered((&self.tree, 0), index)?;
+        Some(entry)
     }
 
     /// The entry of the least key.

@@ -4,11 +4,12 @@ use super::{next, pick, workload, Run, Workload};
 
 const ITEMS: u64 = 1_000_000; // of the list
 const KEYS: usize = 100_000; // of the map
+const LOW: u8 = 4; // as high is a part of the map that is searched from its root
 
 macro_rules! trees {
     ($name:ident, $($path:tt)+) => {
         mod $name {
-            use super::{next, pick, ITEMS, KEYS};
+            use super::{next, pick, ITEMS, KEYS, LOW};
             use std::cmp::Ordering;
             use std::mem;
             type Arc<T> = $($path)+<T>;
@@ -50,7 +51,9 @@ macro_rules! trees {
                 fn insert(&mut self, key: u64, value: u64) {
                     match self.place(key) {
                         Ok(index) => self.set(index, value),
-                        Err(index) => self.put(index, (key, value)),
+                        Err(index) => {
+                            self.put(index, (key, value));
+                        }
                     }
                 }
 
@@ -62,6 +65,28 @@ macro_rules! trees {
                         Ordering::Equal => Some(&node.entry),
                         Ordering::Greater => node.right.numbered(index - before - 1),
                     }
+                }
+
+                /// A part that has the entry of that number, with the number of its first: it is low, or has the entry in
+                /// its root. It goes down from the part that is passed, if that has the entry.
+                fn near<'a>(&'a self, from: (&'a Map, usize), index: usize) -> (&'a Map, usize) {
+                    let (mut part, mut offset) = match index.checked_sub(from.1) {
+                        Some(offset) if offset < from.0.len() => (from.0, offset),
+                        _ => (self, index),
+                    };
+                    while let Some(node) = &part.root {
+                        let before = node.left.len();
+                        if node.height <= LOW || offset == before {
+                            break;
+                        }
+                        if offset < before {
+                            part = &node.left;
+                        } else {
+                            offset -= before + 1;
+                            part = &node.right;
+                        }
+                    }
+                    (part, index - offset)
                 }
 
                 /// The number of the key's entry, or that which it would have.
@@ -85,23 +110,29 @@ macro_rules! trees {
                         Ordering::Equal => node.entry.1 = value,
                         Ordering::Greater => node.right.set(index - before - 1, value),
                     }
-                    node.update();
                 }
 
-                fn put(&mut self, index: usize, entry: (u64, u64)) {
+                /// Whether the tree is higher now.
+                fn put(&mut self, index: usize, entry: (u64, u64)) -> bool {
                     let Some(handle) = &mut self.root else {
                         let (left, right) = (Map::default(), Map::default());
                         *self = Map { root: Some(Arc::new(Node { len: 1, height: 1, left, entry, right })) };
-                        return;
+                        return true;
                     };
                     let node = Arc::make_mut(handle);
                     let before = node.left.len();
-                    if index <= before {
-                        node.left.put(index, entry);
+                    let higher = if index <= before {
+                        node.left.put(index, entry)
                     } else {
-                        node.right.put(index - before - 1, entry);
+                        node.right.put(index - before - 1, entry)
+                    };
+                    if !higher {
+                        node.len += 1;
+                        return false;
                     }
+                    let height = node.height;
                     node.balance();
+                    node.height > height
                 }
             }
 
@@ -199,8 +230,11 @@ macro_rules! trees {
                 let map = map();
                 let mut sum = 0u64;
                 for _ in 0..n {
-                    for (_, value) in (0..map.len()).map_while(|index| map.numbered(index)) {
-                        sum = sum.rotate_left(1).wrapping_add(*value);
+                    let mut front = (&map, 0);
+                    for index in 0..map.len() {
+                        front = map.near(front, index);
+                        let value = front.0.numbered(index - front.1).map_or(0, |entry| entry.1);
+                        sum = sum.rotate_left(1).wrapping_add(value);
                     }
                 }
                 sum

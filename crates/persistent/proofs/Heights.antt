@@ -1,6 +1,6 @@
 -- How deep a balanced tree is.
 use Rattle.std.proofs.Common.{◌≡◌, ℕ, ◌+◌, ◌*◌, ◌^◌, ◌<◌, ◌≤◌, max, min, List}
-use Rattle.std.proofs.Common.{◌∷◌, length, subst, sym, ap, ◌∙◌, inl, inr, pow_mono}
+use Rattle.std.proofs.Common.{◌∷◌, ◌++◌, length, subst, sym, ap, ◌∙◌, inl, inr, pow_mono}
 use Rattle.std.proofs.Common.{arith, length-append}
 use Rattle.std.proofs.lemmas.Bool.{cases_lt}
 use Rattle.std.proofs.lemmas.Grind.{pow_more}
@@ -8,7 +8,7 @@ use native.Mathlib.Nat.{pow-zero, one-mul}
 use Rattle.std.specs.declared.cmp.Ordering.{Ordering}
 use Rattle.persistent.specs.Maps.{IsRising}
 use Rattle.persistent.specs.declared.tree.Node.{Node}
-use Rattle.persistent.specs.Nodes.{around, entries_of, DifferByAtMost, FitsHeight, IsNode}
+use Rattle.persistent.specs.Nodes.{entries_of, FitsHeight, IsLevel, IsNode}
 
 square : (x : ℕ) → x ^ 2 ≡ x * x
 square x = pow_more x 1 ∙ ap (λ y. y * x) (pow_more x 0 ∙ ap (λ y. y * x) (pow-zero x) ∙ one-mul x)
@@ -45,7 +45,7 @@ max_pow l r = elim (cases_lt l r) [
       subst (λ n. 2 ^ n ≤ max (2 ^ l) (2 ^ r)) (sym is) (omega arith)
 ]
 
-pub deeper : (l r a b : ℕ) → 2 ^ l ≤ (a + 1) ^ 2 → 2 ^ r ≤ (b + 1) ^ 2 → DifferByAtMost 1 l r
+pub deeper : (l r a b : ℕ) → 2 ^ l ≤ (a + 1) ^ 2 → 2 ^ r ≤ (b + 1) ^ 2 → IsLevel l r
     → 2 ^ (max l r + 1) ≤ (a + b + 2) ^ 2
 deeper l r a b h k d =
     let left : 2 ^ l ≤ (a + 1) * (a + 1) = subst (λ n. 2 ^ l ≤ n) (square (a + 1)) h in
@@ -70,10 +70,10 @@ low h n s f = elim (cases_lt 128 h) [
 
 pub fits_around : {K V : Type 0} → (left : List (K × V) × ℕ) → (entry : K × V)
     → (right : List (K × V) × ℕ)
-    → FitsHeight left → FitsHeight right → DifferByAtMost 1 left.1 right.1
-    → FitsHeight (around left entry right, max left.1 right.1 + 1)
+    → FitsHeight left → FitsHeight right → IsLevel left.1 right.1
+    → FitsHeight (left.0 ++ entry ∷ right.0, max left.1 right.1 + 1)
 fits_around left entry right h k d =
-    let n : length (around left entry right) + 1 ≡ length left.0 + length right.0 + 2 =
+    let n : length (left.0 ++ entry ∷ right.0) + 1 ≡ length left.0 + length right.0 + 2 =
     omega (arith, length-append left.0 (entry ∷ right.0)) in
     let most = deeper left.1 right.1 (length left.0) (length right.0) h.0 k.0 d in
     let least = wider left.1 right.1 (length left.0) (length right.0) h.1 k.1 in (
@@ -82,7 +82,7 @@ fits_around left entry right h k d =
     )
 
 pub whole : {K V : Type 0} → (cmp : K → K → Ordering) → (node : Node K V) → IsRising cmp (entries_of node)
-    → FitsHeight node.left → FitsHeight node.right → DifferByAtMost 1 node.left.1 node.right.1
+    → FitsHeight node.left → FitsHeight node.right → IsLevel node.left.1 node.right.1
     → node.len ≡ length (entries_of node) → node.len < 2 ^ 64
     → node.height ≡ max node.left.1 node.right.1 + 1
     → IsNode cmp node

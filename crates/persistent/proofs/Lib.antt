@@ -9,4 +9,5 @@ pub mod Parts
 pub mod Places
 pub mod Ranges
 pub mod Rank
+pub mod Sides
 pub mod Summary

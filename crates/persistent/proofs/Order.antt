@@ -1,5 +1,5 @@
 -- Entries whose keys rise.
-use Rattle.std.proofs.Common.{◌≡◌, true, List, [], ◌∷◌, ◌++◌, refl, ap, sym}
+use Rattle.std.proofs.Common.{◌≡◌, Bool, false, true, ◌⊎◌, inl, inr, List, [], ◌∷◌, ◌++◌, refl, ap, sym}
 use Rattle.std.proofs.Common.{◌∙◌, subst, append_assoc, length-append, true≢false}
 use Rattle.std.proofs.lemmas.Bool.{and_from, and_parts}
 use Rattle.std.specs.declared.cmp.Ordering.{Ordering}
@@ -7,6 +7,10 @@ use Rattle.std.specs.declared.cmp.Ordering.TheVariants.{Less, Equal, Greater}
 use Rattle.std.specs.Ordering.{is_lt, ordering_reverse}
 use Rattle.std.specs.Cmp.{IsTotalOrder}
 use Rattle.persistent.specs.Maps.{all_above, is_rising, IsRising}
+
+false_or_true : (b : Bool) → (b ≡ false) ⊎ (b ≡ true)
+false_or_true false = inl refl
+false_or_true true = inr refl
 
 lt_from : (o : Ordering) → is_lt o ≡ true → o ≡ Less
 lt_from Less t = refl
@@ -95,6 +99,14 @@ module _ {K V : Type 0} (cmp : K → K → Ordering) where
       → IsRising cmp r
   rising_after l e r s = rising_rest e r (rising_back l (e ∷ r) s)
 
+  -- what rises on both sides of an entry, in the form that a tactic uses forwards
+  pub rising_around : (l : List (K × V)) (e : K × V) (r : List (K × V))
+      → (is_rising cmp (l ++ e ∷ r) ≡ false) ⊎ (IsRising cmp l × IsRising cmp r)
+  rising_around l e r = elim (false_or_true (is_rising cmp (l ++ e ∷ r))) [
+    | inl not ↦ inl not
+    | inr is ↦ inr (rising_before l e r is, rising_after l e r is)
+  ]
+
   -- around a rotation
   pub rising_inner_right : (x : List (K × V)) (j : K × V) (y : List (K × V)) (k : K × V) (z : List (K × V))
       → IsRising cmp ((x ++ j ∷ y) ++ k ∷ z)
@@ -130,8 +142,7 @@ module _ {K V : Type 0} (cmp : K → K → Ordering) where
         (total.congr q e.0 x.0 h ∙ turned_back total x.0 e.0 left, over_here q l e r h s.1)
 
 pub ruleset rotations = (
-  rising_inner_left,
-  rising_inner_right,
+  rising_around,
   rising_before,
   rising_after,
   append_assoc,

@@ -4,24 +4,29 @@ use Rattle.std.specs.Prelude.{Option, None, Some, slice_get}
 use Rattle.std.specs.declared.cmp.Ordering.{Ordering}
 use Rattle.persistent.specs.Maps.{IsRising}
 use Rattle.persistent.specs.Places.{without_at}
+use Rattle.persistent.specs.Sides.{entries_with, on, other}
+use Rattle.persistent.specs.declared.node.Side.{Side}
 use Rattle.persistent.specs.declared.tree.Node.{Node}
 
--- neither height is more than this above the other
-abbrev pub DifferByAtMost : ℕ → ℕ → ℕ → Type 0
-DifferByAtMost by l r = (l ≤ r + by) × (r ≤ l + by)
+-- neither height is more than one above the other
+abbrev pub IsLevel : ℕ → ℕ → Type 0
+IsLevel l r = (l ≤ r + 1) × (r ≤ l + 1)
+
+-- the same height or the next
+abbrev pub IsNext : ℕ → ℕ → Type 0
+IsNext low high = (low ≤ high) × (high ≤ low + 1)
 
 module _ {K V : Type 0} where
-  -- the entries between two trees, which are seen as their entries and heights
-  abbrev pub around : List (K × V) × ℕ → K × V → List (K × V) × ℕ → List (K × V)
-  around left entry right = left.0 ++ entry ∷ right.0
-
   abbrev pub entries_of : Node K V → List (K × V)
-  entries_of node = around node.left node.entry node.right
+  entries_of node = node.left.0 ++ node.entry ∷ node.right.0
 
-  -- what a tree is seen as: its entries and its height
+  -- what a tree of that first node is seen as: its entries and its height
+  abbrev pub seen : Node K V → List (K × V) × ℕ
+  seen node = (entries_of node, node.height)
+
   abbrev pub summary : Option (Node K V) → List (K × V) × ℕ
   summary None = ([], 0)
-  summary (Some node) = (entries_of node, node.height)
+  summary (Some node) = seen node
 
   -- a tree of n entries is as high as log2 (n + 1) at least, and as twice that at most
   abbrev pub FitsHeight : List (K × V) × ℕ → Type 0
@@ -36,8 +41,8 @@ module _ {K V : Type 0} where
     pub counted : node.len ≡ length (entries_of node)
     pub room : length (entries_of node) < 2 ^ 64
     pub height : node.height ≡ max node.left.1 node.right.1 + 1
-    pub level : DifferByAtMost 1 node.left.1 node.right.1
-    pub fits : FitsHeight (entries_of node, node.height)
+    pub level : IsLevel node.left.1 node.right.1
+    pub fits : FitsHeight (seen node)
     pub low : node.height ≤ 128
 
   abbrev pub IsTree : (K → K → Ordering) → Option (Node K V) → Type 0
@@ -53,53 +58,41 @@ module _ {K V : Type 0} where
     pub key : C a.entry.0 b.entry.0
     pub value : D a.entry.1 b.entry.1
 
-  -- a node with the same entries, and as high
-  pub record IsSame (cmp : K → K → Ordering) (old new : Node K V) : Type 0 where
+  -- what a node is seen as once the child that may be held apart from it is put back
+  abbrev pub closed : Node K V → Option (Side × Node K V) → List (K × V) × ℕ
+  closed node None = seen node
+  closed node (Some held) = (entries_with held.0 node (entries_of held.1), node.height + 1)
+
+  -- a node that was so high; a child that is held apart from it is one higher than what stands beside it
+  abbrev pub IsGrown : (K → K → Ordering) → ℕ → Node K V → Option (Side × Node K V) → Type 0
+  IsGrown cmp was node None = IsNode cmp node × (node.height ≡ was)
+  IsGrown cmp was node (Some held) = IsNode cmp held.1 × (held.1.height ≡ was)
+      × ((on (other held.0) node).1 + 1 ≡ was) × (node.height ≡ was)
+
+  -- a tree that has lost the entry of that number
+  pub record HasLost (i : ℕ) (lost : K × V) (old new : List (K × V) × ℕ) : Type 0 where
+    pub entry : slice_get old.0 i ≡ Some lost
+    pub entries : new.0 ≡ without_at i old.0
+    pub not_lower : old.1 ≤ new.1 + 1
+    pub not_higher : new.1 ≤ old.1
+
+  -- a node whose subtree on that side may become lower: the other one is no higher, or is held as a child and its
+  -- inner child
+  pub record MayFall (side : Side) (cmp : K → K → Ordering) (old new : Node K V) : Type 0 where
     pub whole : IsNode cmp new
-    pub entries : entries_of new ≡ entries_of old
-    pub height : new.height ≡ old.height
+    pub same : seen new ≡ seen old
+    pub high : (on (other side) new).1 ≤ (on side new).1
+    pub more : length (on side old).0 ≤ length (on side new).0
 
-  -- a node that has lost the entry of that number
-  pub record HasLost (cmp : K → K → Ordering) (i : ℕ) (lost : K × V) (old new : Node K V) : Type 0 where
-    pub whole : IsNode cmp new
-    pub entry : slice_get (entries_of old) i ≡ Some lost
-    pub entries : entries_of new ≡ without_at i (entries_of old)
-    pub not_lower : old.height ≤ new.height + 1
-    pub not_higher : new.height ≤ old.height
-
-  -- a node whose left may become lower: no lower than the right, or the right is held as a child and its inner child
-  pub record MayFallLeft (cmp : K → K → Ordering) (old new : Node K V) : Type 0 where
-    pub same : IsSame cmp old new
-    pub high : new.right.1 ≤ new.left.1
-    pub more : length old.left.0 ≤ length new.left.0
-
-  pub record IsHeldRight (cmp : K → K → Ordering) (old new child inner : Node K V) : Type 0 where
-    pub left : new.left ≡ old.left
+  pub record IsHeld (side : Side) (cmp : K → K → Ordering) (old new child inner : Node K V) : Type 0 where
+    pub near : on side new ≡ on side old
+    pub len : new.len ≡ old.len
     pub whole : IsNode cmp inner
-    pub entries : new.left.0 ++ new.entry ∷ (entries_of inner ++ child.entry ∷ child.right.0) ≡ entries_of old
-    pub inward : inner.height ≡ old.left.1
-    pub outer : child.right.1 + 1 ≡ old.left.1
-    pub height : old.height ≡ old.left.1 + 2
+    pub entries : entries_of old ≡ entries_with (other side) new (entries_with side child (entries_of inner))
+    pub inward : inner.height ≡ (on side old).1
+    pub outer : (on (other side) child).1 + 1 ≡ (on side old).1
+    pub height : old.height ≡ (on side old).1 + 2
 
-  abbrev pub CanLoseLeft : (K → K → Ordering) → Node K V → Node K V → Option (Node K V × Node K V) → Type 0
-  CanLoseLeft cmp old new None = MayFallLeft cmp old new
-  CanLoseLeft cmp old new (Some pair) = IsHeldRight cmp old new pair.0 pair.1
-
-  -- the same with the sides exchanged
-  pub record MayFallRight (cmp : K → K → Ordering) (old new : Node K V) : Type 0 where
-    pub same : IsSame cmp old new
-    pub high : new.left.1 ≤ new.right.1
-    pub less : length new.left.0 ≤ length old.left.0
-
-  pub record IsHeldLeft (cmp : K → K → Ordering) (old new child inner : Node K V) : Type 0 where
-    pub right : new.right ≡ old.right
-    pub whole : IsNode cmp inner
-    pub before : old.left.0 ≡ child.left.0 ++ child.entry ∷ entries_of inner
-    pub entries : child.left.0 ++ child.entry ∷ entries_of inner ++ new.entry ∷ new.right.0 ≡ entries_of old
-    pub inward : inner.height ≡ old.right.1
-    pub outer : child.left.1 + 1 ≡ old.right.1
-    pub height : old.height ≡ old.right.1 + 2
-
-  abbrev pub CanLoseRight : (K → K → Ordering) → Node K V → Node K V → Option (Node K V × Node K V) → Type 0
-  CanLoseRight cmp old new None = MayFallRight cmp old new
-  CanLoseRight cmp old new (Some pair) = IsHeldLeft cmp old new pair.0 pair.1
+  abbrev pub CanLose : Side → (K → K → Ordering) → Node K V → Node K V → Option (Node K V × Node K V) → Type 0
+  CanLose side cmp old new None = MayFall side cmp old new
+  CanLose side cmp old new (Some pair) = IsHeld side cmp old new pair.0 pair.1

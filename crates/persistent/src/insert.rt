@@ -1,17 +1,21 @@
 //! How a tree takes an entry in: in place, but for the nodes that others share, which are copied.
-ghost use Rattle.std.specs.Prelude.{◌≡◌, IfOk, OnOk, OnErr};
-ghost use Rattle.servo_arc.specs.Copies.{CopiesAreEqual};
-ghost use Rattle.persistent.specs.Grown.{IsGrown, grown_entries};
-ghost use Rattle.persistent.specs.Nodes.{IsMap, IsNode, IsSame, entries_of};
-ghost use Rattle.persistent.specs.Places.{put_at};
+#![tactic(auto, using(crate::proofs::Places::places))]
 
-use crate::grow::Grown;
+ghost use Rattle.std.specs.Prelude.{◌≡◌, ◌+◌, ◌<◌, ◌≤◌, IfOk, OnOk, OnErr, max};
+ghost use Rattle.servo_arc.specs.Copies.{CopiesAreEqual};
+ghost use Rattle.persistent.specs.Nodes.{IsGrown, IsLevel, IsMap, IsNode, closed, entries_of, seen};
+ghost use Rattle.persistent.specs.Places.{put_at};
+ghost use Rattle.persistent.specs.Sides.{IsWay, entries_with, on, other};
+
+use crate::node::{Side, Sole};
 use crate::tree::{Node, Tree};
 use std::alloc::{AllocError, Global};
 
+// Of a node that is one higher than it was: its higher side, and the child there, held apart. A rotation opens it.
+pub(crate) type Grown<K, V> = Option<(Side, Sole<K, V>)>;
+
 impl<K: Ord + Clone, V: Clone> Tree<K, V> {
     // Puts the entry in at that number.
-    #[tactic(auto, using(crate::proofs::Places::places))]
     pub(crate) fn insert(
         &mut self,
         alloc: Global,
@@ -43,7 +47,6 @@ impl<K: Ord + Clone, V: Clone> Tree<K, V> {
 
 impl<K: Ord + Clone, V: Clone> Node<K, V> {
     // The same under this node. The side of the entry is taken out and put back, so that a rotation has what it needs.
-    #[tactic(auto, using(crate::proofs::Places::places))]
     fn insert(
         &mut self,
         alloc: Global,
@@ -54,32 +57,83 @@ impl<K: Ord + Clone, V: Clone> Node<K, V> {
         requires whole { IsNode K.cmp self.old }
         requires map { IsMap K.cmp (put_at index entry (entries_of self.old)) }
         ensures grown { IfOk result (IsGrown K.cmp self.old.height self.new) }
-        ensures entries { IfOk result (λ grown.
-            grown_entries self.new grown ≡ put_at index entry (entries_of self.old)) }
-        ensures refused { OnErr result (IsSame K.cmp self.old self.new) }
+        ensures entries { IfOk result (λ grown. (closed self.new grown).0 ≡ put_at index entry (entries_of self.old)) }
+        ensures refused { OnErr result (self.new ≡ self.old) }
+    {
+        let (side, index) = self.way(index);
+        let Some(mut child) = self.take(alloc, side)? else {
+            return Ok(self.settle(side, Node::leaf(alloc, entry)?, None));
+        };
+        match child.insert(alloc, index, entry) {
+            Ok(grown) => Ok(self.settle(side, child, grown)),
+            Err(refused) => {
+                self.put(side, child);
+                Err(refused)
+            }
+        }
+    }
+
+    // The side on which the entry of that number goes in, and its number there.
+    #[inline(always)]
+    fn way(&self, index: usize) -> (Side, usize)
+        ensures { IsWay self.now index result.0 result.1 }
     {
         let before = self.left.len();
         if index <= before {
-            let Some(mut child) = self.left.take(alloc)? else {
-                return Ok(self.grow_left(Node::leaf(alloc, entry)?));
-            };
-            match child.insert(alloc, index, entry) {
-                Ok(grown) => Ok(self.settle_left(child, grown)),
-                Err(refused) => {
-                    self.left.put(child);
-                    Err(refused)
-                }
-            }
+            (Side::Left, index)
         } else {
-            let Some(mut child) = self.right.take(alloc)? else {
-                return Ok(self.grow_right(Node::leaf(alloc, entry)?));
-            };
-            match child.insert(alloc, index - before - 1, entry) {
-                Ok(grown) => Ok(self.settle_right(child, grown)),
-                Err(refused) => {
-                    self.right.put(child);
-                    Err(refused)
+            (Side::Right, index - before - 1)
+        }
+    }
+}
+
+impl<K: Ord + Drop, V: Drop> Node<K, V> {
+    // The node with both of its sides.
+    #[tactic(auto, using(crate::proofs::Order::rotations))]
+    fn close(&mut self, grown: Grown<K, V>)
+        requires grown { IsGrown K.cmp self.old.height self.old grown }
+        requires map { IsMap K.cmp (closed self.old grown).0 }
+        ensures whole { IsNode K.cmp self.new }
+        ensures closed { seen self.new ≡ closed self.old grown }
+    {
+        if let Some((side, child)) = grown {
+            self.put(side, child);
+            self.update();
+        }
+    }
+
+    // Puts the child, which has taken an entry in, on that side, or holds it apart if the node is higher by it. The
+    // child is new, or counts what it was.
+    #[tactic(auto, using(crate::proofs::Order::rotations))]
+    fn settle(&mut self, side: Side, mut child: Sole<K, V>, grown: Grown<K, V>) -> Grown<K, V>
+        requires grown { IsGrown K.cmp child.height child grown }
+        requires map { IsMap K.cmp (entries_with side self.old (closed child grown).0) }
+        requires level { IsLevel child.height (on (other side) self.old).1 }
+        requires beside { (on (other side) self.old).1 < self.old.height }
+        requires low { (closed child grown).1 ≤ self.old.height }
+        requires high { self.old.height ≤ max child.height (on (other side) self.old).1 + 1 }
+        ensures grown { IsGrown K.cmp self.old.height self.new result }
+        ensures entries { (closed self.new result).0 ≡ entries_with side self.old (closed child grown).0 }
+    {
+        let beside = self.on(side.other()).height();
+        match grown {
+            Some((outer, inner)) if child.height > beside && outer == side => {
+                child.put(side, inner);
+                self.rotate(side, child);
+                None
+            }
+            Some((_, inner)) if child.height > beside => {
+                self.put_pair(side, child, inner);
+                None
+            }
+            grown => {
+                child.close(grown);
+                if child.height >= self.height {
+                    return Some((side, child));
                 }
+                self.put(side, child);
+                self.update();
+                None
             }
         }
     }

@@ -3,22 +3,19 @@
 #![tactic(auto)]
 
 mod compare;
-mod grow;
 mod insert;
 mod iter;
 mod links;
 mod list;
 mod list_iter;
-mod make;
 mod map;
 mod modify;
+mod node;
 mod numbered;
-mod own;
 mod place;
 mod remove;
 mod tree;
 mod turn;
-mod way;
 
 pub use iter::Iter;
 pub use list::List;

@@ -1,25 +1,27 @@
 //! How a tree lets an entry go: in place, but for the nodes that others share, which are copied.
-ghost use Rattle.std.specs.Prelude.{◌≡◌, ◌+◌, ◌<◌, ◌≤◌, IfOk, OnOk, OnErr, length, slice_get};
-ghost use Rattle.servo_arc.specs.Copies.{CopiesAreEqual};
-ghost use Rattle.persistent.specs.Nodes.{HasLost, IsNode, IsSame, entries_of};
-ghost use Rattle.persistent.specs.Places.{without_at};
+#![tactic(auto, using(crate::proofs::Places::places))]
 
+ghost use Rattle.std.specs.Prelude.{◌≡◌, ◌<◌, IfOk, OnOk, OnErr, length};
+ghost use Rattle.servo_arc.specs.Copies.{CopiesAreEqual};
+ghost use Rattle.persistent.specs.Nodes.{CanLose, HasLost, IsNode, entries_of, seen};
+ghost use Rattle.persistent.specs.Sides.{IsOn, number_on, on, with_side};
+
+use crate::node::{Side, Sole};
 use crate::tree::{Node, Tree};
 use std::alloc::{AllocError, Global};
 use std::cmp::Ordering;
 use std::mem;
 
+// The child on the higher side of a node, and its inner child, which is the higher of its sides.
+type Pair<K, V> = (Sole<K, V>, Sole<K, V>);
+
 impl<K: Ord + Clone, V: Clone> Tree<K, V> {
     // Takes the entry of that number out.
     #[cycle(remove)]
-    #[tactic(auto, using(crate::proofs::Places::places))]
     pub(crate) fn remove(&mut self, alloc: Global, index: usize) -> Result<(K, V), AllocError>
         requires copies { CopiesAreEqual K.is_clone × CopiesAreEqual V.is_clone }
         requires within { index < length self.old.0 }
-        ensures entry { IfOk result (λ entry. slice_get self.old.0 index ≡ Some entry) }
-        ensures entries { OnOk result (self.new.0 ≡ without_at index self.old.0) }
-        ensures not_lower { OnOk result (self.old.1 ≤ self.new.1 + 1) }
-        ensures not_higher { OnOk result (self.new.1 ≤ self.old.1) }
+        ensures lost { IfOk result (λ entry. HasLost index entry self.old self.new) }
         ensures refused { OnErr result (self.new ≡ self.old) }
     {
         let Some(mut node) = self.take(alloc)? else {
@@ -30,111 +32,107 @@ impl<K: Ord + Clone, V: Clone> Tree<K, V> {
             *self = left;
             return Ok(entry);
         }
-        match node.remove(alloc, index) {
-            Ok(entry) => {
-                self.put(node);
-                Ok(entry)
-            }
-            Err(refused) => {
-                self.put(node);
-                Err(refused)
-            }
-        }
+        let entry = node.remove(alloc, index);
+        self.put(node);
+        entry
     }
 }
 
 impl<K: Ord + Clone, V: Clone> Node<K, V> {
-    // Takes the entry of that number out, if another one stays.
+    // Takes the entry of that number out, if another one stays. In the place of the node's own comes its neighbour on
+    // the higher side, so that nothing turns.
     #[cycle(remove)]
-    #[tactic(auto, using(crate::proofs::Places::places))]
     fn remove(&mut self, alloc: Global, index: usize) -> Result<(K, V), AllocError>
         requires copies { CopiesAreEqual K.is_clone × CopiesAreEqual V.is_clone }
         requires whole { IsNode K.cmp self.old }
         requires within { index < length (entries_of self.old) }
         requires stays { index ≡ length self.old.left.0 → 0 < length self.old.right.0 }
-        ensures lost { IfOk result (λ entry. HasLost K.cmp index entry self.old self.new) }
-        ensures refused { OnErr result (IsSame K.cmp self.old self.new) }
+        ensures whole { IsNode K.cmp self.new }
+        ensures lost { IfOk result (λ entry. HasLost index entry (seen self.old) (seen self.new)) }
+        ensures refused { OnErr result (seen self.new ≡ seen self.old) }
     {
         match index.cmp(&self.left.len()) {
-            Ordering::Less => self.remove_left(alloc, index),
-            Ordering::Equal => self.remove_here(alloc),
-            Ordering::Greater => self.remove_right(alloc, index),
+            Ordering::Less => self.remove_on(alloc, Side::Left, index),
+            Ordering::Greater => self.remove_on(alloc, Side::Right, index),
+            Ordering::Equal if self.left.height() > self.right.height() => {
+                let last = self.left.remove(alloc, index - 1)?;
+                let entry = mem::replace(&mut self.entry, last);
+                self.update();
+                Ok(entry)
+            }
+            Ordering::Equal => {
+                let first = self.right.remove(alloc, 0)?;
+                let entry = mem::replace(&mut self.entry, first);
+                self.update();
+                Ok(entry)
+            }
         }
     }
 
+    // Takes out the entry of that number, which is on that side.
     #[cycle(remove)]
-    #[tactic(auto, using(crate::proofs::Places::places))]
-    fn remove_left(&mut self, alloc: Global, index: usize) -> Result<(K, V), AllocError>
+    fn remove_on(&mut self, alloc: Global, side: Side, index: usize) -> Result<(K, V), AllocError>
         requires copies { CopiesAreEqual K.is_clone × CopiesAreEqual V.is_clone }
         requires whole { IsNode K.cmp self.old }
-        requires left { index < length self.old.left.0 }
-        ensures lost { IfOk result (λ entry. HasLost K.cmp index entry self.old self.new) }
-        ensures refused { OnErr result (IsSame K.cmp self.old self.new) }
+        requires on { IsOn self.old index side }
+        ensures whole { IsNode K.cmp self.new }
+        ensures lost { IfOk result (λ entry. HasLost index entry (seen self.old) (seen self.new)) }
+        ensures refused { OnErr result (seen self.new ≡ seen self.old) }
     {
-        let Some((child, inner)) = self.hold_right(alloc)? else {
-            let entry = self.left.remove(alloc, index)?;
-            self.update();
-            return Ok(entry);
+        let held = self.hold(alloc, side)?;
+        let entry = self.take_entry(alloc, side, index);
+        match held {
+            None => self.update(),
+            Some((child, inner)) => self.put_pair(side.other(), child, inner),
+        }
+        entry
+    }
+
+    // Makes that side, which may become lower, no lower than the other by a single rotation, or takes out what a double
+    // one needs. What may be refused is done here, before anything is lost.
+    #[tactic(auto, using(crate::proofs::Order::rotations))]
+    fn hold(&mut self, alloc: Global, side: Side) -> Result<Option<Pair<K, V>>, AllocError>
+        requires copies { CopiesAreEqual K.is_clone × CopiesAreEqual V.is_clone }
+        requires whole { IsNode K.cmp self.old }
+        ensures held { IfOk result (CanLose side K.cmp self.old self.new) }
+        ensures refused { OnErr result (self.new ≡ self.old) }
+    {
+        let high = side.other();
+        if self.on(high).height() <= self.on(side).height() {
+            return Ok(None);
+        }
+        let Some(mut child) = self.take(alloc, high)? else {
+            unreachable!()
         };
-        match self.left.remove(alloc, index) {
-            Ok(entry) => {
-                self.put_pair_right(child, inner);
-                Ok(entry)
-            }
+        if child.on(side).height() <= child.on(high).height() {
+            self.rotate(high, child);
+            return Ok(None);
+        }
+        match child.take(alloc, side) {
+            Ok(Some(inner)) => Ok(Some((child, inner))),
+            Ok(None) => unreachable!(),
             Err(refused) => {
-                self.put_pair_right(child, inner);
+                self.put(high, child);
                 Err(refused)
             }
         }
     }
 
+    // Takes the entry out of that side alone.
     #[cycle(remove)]
-    #[tactic(auto, using(crate::proofs::Places::places))]
-    fn remove_right(&mut self, alloc: Global, index: usize) -> Result<(K, V), AllocError>
+    fn take_entry(&mut self, alloc: Global, side: Side, index: usize) -> Result<(K, V), AllocError>
         requires copies { CopiesAreEqual K.is_clone × CopiesAreEqual V.is_clone }
-        requires whole { IsNode K.cmp self.old }
-        requires right { length self.old.left.0 < index }
-        requires within { index < length (entries_of self.old) }
-        ensures lost { IfOk result (λ entry. HasLost K.cmp index entry self.old self.new) }
-        ensures refused { OnErr result (IsSame K.cmp self.old self.new) }
+        requires on { IsOn self.old index side }
+        ensures lost { IfOk result (λ entry.
+            HasLost (number_on self.old index side) entry (on side self.old) (on side self.new)) }
+        ensures rest { self.new ≡ with_side side self.old (on side self.new) }
+        ensures refused { OnErr result (self.new ≡ self.old) }
     {
-        let past = index - self.left.len() - 1;
-        let Some((child, inner)) = self.hold_left(alloc)? else {
-            let entry = self.right.remove(alloc, index - self.left.len() - 1)?;
-            self.update();
-            return Ok(entry);
-        };
-        match self.right.remove(alloc, past) {
-            Ok(entry) => {
-                self.put_pair_left(child, inner);
-                Ok(entry)
-            }
-            Err(refused) => {
-                self.put_pair_left(child, inner);
-                Err(refused)
-            }
+        match side {
+            Side::Left => self.left.remove(alloc, index),
+            Side::Right => self
+                .right
+                .remove(alloc, self.right.len() - (self.len - index)),
         }
-    }
-
-    // Takes the entry of this node out. Its neighbour on the higher side stands for it, so that nothing turns.
-    #[cycle(remove)]
-    #[tactic(auto, using(crate::proofs::Places::places))]
-    fn remove_here(&mut self, alloc: Global) -> Result<(K, V), AllocError>
-        requires copies { CopiesAreEqual K.is_clone × CopiesAreEqual V.is_clone }
-        requires whole { IsNode K.cmp self.old }
-        requires stays { 0 < length self.old.right.0 }
-        ensures lost { IfOk result (λ entry. HasLost K.cmp (length self.old.left.0) entry self.old self.new) }
-        ensures refused { OnErr result (IsSame K.cmp self.old self.new) }
-    {
-        if self.left.height() > self.right.height() {
-            let last = self.left.remove(alloc, self.left.len() - 1)?;
-            let entry = mem::replace(&mut self.entry, last);
-            self.update();
-            return Ok(entry);
-        }
-        let first = self.right.remove(alloc, 0)?;
-        let entry = mem::replace(&mut self.entry, first);
-        self.update();
-        Ok(entry)
     }
 }

@@ -1,5 +1,5 @@
 -- The change at, before or after the entry of the node.
-use Rattle.std.proofs.Common.{◌≡◌, ◌<◌, sym, subst, length, refl, rules, arith}
+use Rattle.std.proofs.Common.{◌≡◌, ◌<◌, ap, sym, subst, length, refl, rules, arith}
 use Rattle.std.proofs.lemmas.Grind.{common_steps}
 use Rattle.persistent.specs.Changes.{ChangesAt}
 use Rattle.persistent.specs.Nodes.{entries_of}
@@ -19,7 +19,7 @@ Node::modify-returns-in_ok-answer-in-Less-clause-changed g t c =
     let n = c.args.self.now in
     let below : c.args.index < length n.left.0 = search rules in
     subst (λ es. ChangesAt g.F.FnOnce c.args.change c.args.index (entries_of n) es c.in_ok-answer-in-Less.answer)
-    (sym c.update.ensures.entries)
+    (sym (ap (λ n. entries_of n) c.update.ensures.counted))
     (changes_left _ _ _ n.left.0 _ n.entry n.right.0 _ below c.in_ok-answer-in-Less.ensures.changed)
 
 pub Node::modify-returns-in-Equal-clause-changed : goal.Node::modify-returns-in-Equal-clause-changed
@@ -27,7 +27,7 @@ Node::modify-returns-in-Equal-clause-changed g t c =
     let n = c.args.self.now in
     let here : c.args.index ≡ length n.left.0 = grind (arith, common_steps) in
     subst (λ es. ChangesAt g.F.FnOnce c.args.change c.args.index (entries_of n) es c.change-answer.result)
-    (sym c.update-in-Equal.ensures.entries)
+    (sym (ap (λ n. entries_of n) c.update-in-Equal.ensures.counted))
     (changes_here _ _ _ n.left.0 n.entry n.right.0 _ _ here
     (record { shown = _; shows = refl; left = _; met = c.change-answer.ensures; leaves = refl }))
 
@@ -37,6 +37,6 @@ Node::modify-returns-in_ok-answer-in-Greater-clause-changed g t c =
     let n = c.args.self.now in
     let above : length n.left.0 < c.args.index = grind (arith, common_steps) in
     subst (λ es. ChangesAt g.F.FnOnce c.args.change c.args.index (entries_of n) es c.in_ok-answer-in-Greater.answer)
-    (sym c.update-in-Greater.ensures.entries)
+    (sym (ap (λ n. entries_of n) c.update-in-Greater.ensures.counted))
     (changes_right _ _ _ _ n.left.0 n.entry n.right.0 _ _ c.len-before.ensures above
     c.in_ok-answer-in-Greater.ensures.changed)

@@ -26,7 +26,7 @@ returns-clause-value g c =
     let es = c.self.inside.tree.0 in
     let at =
     subst (λ n. slice_get es n ≡ Some (c.in_ok-value.field-0-0, c.in_ok-value.value)) c.in-Ok.ensures.rank
-    c.in_ok-value.ensures.entry in
+    c.in_ok-value.ensures.lost.entry in
     entry_found cmp g.met.K.Ord.total key es _ c.in-Ok.ensures.rising c.in-Ok.ensures.found at
     ∙ ap (lookup cmp key) c.self.view_is
 
@@ -35,7 +35,7 @@ returns-clause-entries g c =
     let cmp = g.K.Ord.cmp in
     let key = c.args.key.now in
     let es = c.self.inside.tree.0 in
-    c.in_ok-value.ensures.entries ∙ ap (λ n. without_at n es) c.in-Ok.ensures.rank
+    c.in_ok-value.ensures.lost.entries ∙ ap (λ n. without_at n es) c.in-Ok.ensures.rank
     ∙ sym (without_found cmp g.met.K.Ord.total key es c.in-Ok.ensures.rising c.in-Ok.ensures.found)
     ∙ ap (without cmp key) c.self.view_is
 

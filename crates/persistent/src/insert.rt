@@ -1,7 +1,7 @@
 //! How a tree takes an entry in: in place, but for the nodes that others share, which are copied.
 #![tactic(auto, using(crate::proofs::Places::places))]
 
-ghost use Rattle.std.specs.Prelude.{◌≡◌, ◌+◌, ◌<◌, ◌≤◌, IfOk, OnOk, OnErr, max};
+ghost use Rattle.std.specs.Prelude.{◌≡◌, ◌+◌, ◌<◌, ◌≤◌, IfOk, OnOk, OnErr, length, max};
 ghost use Rattle.servo_arc.specs.Copies.{CopiesAreEqual};
 ghost use Rattle.persistent.specs.Nodes.{IsGrown, IsLevel, IsMap, IsNode, closed, entries_of, seen};
 ghost use Rattle.persistent.specs.Places.{put_at};
@@ -108,6 +108,7 @@ impl<K: Ord + Drop, V: Drop> Node<K, V> {
     fn settle(&mut self, side: Side, mut child: Sole<K, V>, grown: Grown<K, V>) -> Grown<K, V>
         requires grown { IsGrown K.cmp child.height child grown }
         requires map { IsMap K.cmp (entries_with side self.old (closed child grown).0) }
+        requires counted { self.old.len + 1 ≡ length (entries_with side self.old (closed child grown).0) }
         requires level { IsLevel child.height (on (other side) self.old).1 }
         requires beside { (on (other side) self.old).1 < self.old.height }
         requires low { (closed child grown).1 ≤ self.old.height }
@@ -115,15 +116,14 @@ impl<K: Ord + Drop, V: Drop> Node<K, V> {
         ensures grown { IsGrown K.cmp self.old.height self.new result }
         ensures entries { (closed self.new result).0 ≡ entries_with side self.old (closed child grown).0 }
     {
-        let beside = self.on(side.other()).height();
         match grown {
-            Some((outer, inner)) if child.height > beside && outer == side => {
-                child.put(side, inner);
-                self.rotate(side, child);
-                None
-            }
-            Some((_, inner)) if child.height > beside => {
-                self.put_pair(side, child, inner);
+            Some((outer, inner)) if child.height > self.on(side.other()).height() => {
+                if outer == side {
+                    child.put(side, inner);
+                    self.rotate(side, child);
+                } else {
+                    self.put_pair(side, child, inner);
+                }
                 None
             }
             grown => {
@@ -131,8 +131,10 @@ impl<K: Ord + Drop, V: Drop> Node<K, V> {
                 if child.height >= self.height {
                     return Some((side, child));
                 }
+                // The node is as high as it was, so that its other side, which may lie far off, is not read.
+                self.on(side.other()).fits();
                 self.put(side, child);
-                self.update();
+                self.len += 1;
                 None
             }
         }

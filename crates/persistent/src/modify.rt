@@ -57,21 +57,9 @@ impl<K: Ord + Clone, V: Clone> Node<K, V> {
     {
         let before = self.left.len();
         match index.cmp(&before) {
-            Ordering::Less => {
-                let answer = self.left.modify(alloc, index, change)?;
-                self.update();
-                Ok(answer)
-            }
-            Ordering::Equal => {
-                let answer = change(&mut self.entry.1);
-                self.update();
-                Ok(answer)
-            }
-            Ordering::Greater => {
-                let answer = self.right.modify(alloc, index - before - 1, change)?;
-                self.update();
-                Ok(answer)
-            }
+            Ordering::Less => Ok(self.left.modify(alloc, index, change)?),
+            Ordering::Equal => Ok(change(&mut self.entry.1)),
+            Ordering::Greater => Ok(self.right.modify(alloc, index - before - 1, change)?),
         }
     }
 }

@@ -89,6 +89,15 @@ impl<K: Ord, V> Tree<K, V> {
         }
     }
 
+    // It does nothing, and says what holds of each tree.
+    #[inline(always)]
+    #[tactic(auto, using(crate::proofs::Heights::fits_summary))]
+    pub(crate) fn fits(&self)
+        ensures { FitsHeight self.now }
+    {
+        let _ = &self.root;
+    }
+
     // The first node, if there is one.
     #[inline(always)]
     #[tactic(auto, using(crate::proofs::Summary::rising_summary))]

@@ -7,36 +7,30 @@ use Rattle.persistent.proofs.ChangedPlaces.{changes_left, changes_here, changes_
 use Rattle.persistent.proofs.Numbers.{entry_here}
 use Rattle.persistent.proofs.tree.+modify.Goals as goal
 
-pub Node::modify-change-answer-requires : goal.Node::modify-change-answer-requires
-Node::modify-change-answer-requires g t c =
+pub Node::modify-change-requires : goal.Node::modify-change-requires
+Node::modify-change-requires g t c =
     let n = c.args.self.now in
     let here : c.args.index ≡ length n.left.0 = search rules in
     c.requires.callable n.entry (entry_here n.left.0 n.entry n.right.0 c.args.index here) _ refl
 
-pub Node::modify-returns-in_ok-answer-in-Less-clause-changed :
-    goal.Node::modify-returns-in_ok-answer-in-Less-clause-changed
-Node::modify-returns-in_ok-answer-in-Less-clause-changed g t c =
+pub Node::modify-returns-in_ok-modify-in-Less-clause-changed :
+    goal.Node::modify-returns-in_ok-modify-in-Less-clause-changed
+Node::modify-returns-in_ok-modify-in-Less-clause-changed g t c =
     let n = c.args.self.now in
     let below : c.args.index < length n.left.0 = search rules in
-    subst (λ es. ChangesAt g.F.FnOnce c.args.change c.args.index (entries_of n) es c.in_ok-answer-in-Less.answer)
-    (sym (ap (λ n. entries_of n) c.update.ensures.counted))
-    (changes_left _ _ _ n.left.0 _ n.entry n.right.0 _ below c.in_ok-answer-in-Less.ensures.changed)
+    changes_left _ _ _ n.left.0 _ n.entry n.right.0 _ below c.in_ok-modify-in-Less.ensures.changed
 
 pub Node::modify-returns-in-Equal-clause-changed : goal.Node::modify-returns-in-Equal-clause-changed
 Node::modify-returns-in-Equal-clause-changed g t c =
     let n = c.args.self.now in
     let here : c.args.index ≡ length n.left.0 = grind (arith, common_steps) in
-    subst (λ es. ChangesAt g.F.FnOnce c.args.change c.args.index (entries_of n) es c.change-answer.result)
-    (sym (ap (λ n. entries_of n) c.update-in-Equal.ensures.counted))
-    (changes_here _ _ _ n.left.0 n.entry n.right.0 _ _ here
-    (record { shown = _; shows = refl; left = _; met = c.change-answer.ensures; leaves = refl }))
+    changes_here _ _ _ n.left.0 n.entry n.right.0 _ _ here
+    (record { shown = _; shows = refl; left = _; met = c.change.ensures; leaves = refl })
 
-pub Node::modify-returns-in_ok-answer-in-Greater-clause-changed :
-    goal.Node::modify-returns-in_ok-answer-in-Greater-clause-changed
-Node::modify-returns-in_ok-answer-in-Greater-clause-changed g t c =
+pub Node::modify-returns-in_ok-modify-in-Greater-clause-changed :
+    goal.Node::modify-returns-in_ok-modify-in-Greater-clause-changed
+Node::modify-returns-in_ok-modify-in-Greater-clause-changed g t c =
     let n = c.args.self.now in
     let above : length n.left.0 < c.args.index = grind (arith, common_steps) in
-    subst (λ es. ChangesAt g.F.FnOnce c.args.change c.args.index (entries_of n) es c.in_ok-answer-in-Greater.answer)
-    (sym (ap (λ n. entries_of n) c.update-in-Greater.ensures.counted))
-    (changes_right _ _ _ _ n.left.0 n.entry n.right.0 _ _ c.len-before.ensures above
-    c.in_ok-answer-in-Greater.ensures.changed)
+    changes_right _ _ _ _ n.left.0 n.entry n.right.0 _ _ c.len-before.ensures above
+    c.in_ok-modify-in-Greater.ensures.changed

@@ -1,20 +1,20 @@
--- What a tree is seen as by its first node, and what holds of that node.
-use Rattle.std.specs.Prelude.{◌≡◌, ℕ, ◌+◌, ◌^◌, ◌<◌, ◌≤◌, max, List, [], ◌∷◌, ◌++◌, length}
+-- What a tree is seen as by its first node, what holds of that node, and how it is seen from one of its sides.
+use Rattle.std.specs.Prelude.{◌≡◌, ℕ, ◌+◌, ◌-◌, ◌^◌, ◌<◌, ◌≤◌, max, List, [], ◌∷◌, ◌++◌, length}
 use Rattle.std.specs.Prelude.{Option, None, Some, slice_get}
 use Rattle.std.specs.declared.cmp.Ordering.{Ordering}
 use Rattle.persistent.specs.Maps.{IsRising}
 use Rattle.persistent.specs.Places.{without_at}
-use Rattle.persistent.specs.Sides.{entries_with, on, other}
 use Rattle.persistent.specs.declared.node.Side.{Side}
+use Rattle.persistent.specs.declared.node.Side.TheVariants.{Left, Right}
 use Rattle.persistent.specs.declared.tree.Node.{Node}
 
 -- neither height is more than one above the other
 abbrev pub IsLevel : ℕ → ℕ → Type 0
 IsLevel l r = (l ≤ r + 1) × (r ≤ l + 1)
 
--- the same height or the next
-abbrev pub IsNext : ℕ → ℕ → Type 0
-IsNext low high = (low ≤ high) × (high ≤ low + 1)
+abbrev pub other : Side → Side
+other Left = Right
+other Right = Left
 
 module _ {K V : Type 0} where
   abbrev pub entries_of : Node K V → List (K × V)
@@ -27,6 +27,30 @@ module _ {K V : Type 0} where
   abbrev pub summary : Option (Node K V) → List (K × V) × ℕ
   summary None = ([], 0)
   summary (Some node) = seen node
+
+  -- the subtree on that side
+  abbrev pub on : Side → Node K V → List (K × V) × ℕ
+  on Left node = node.left
+  on Right node = node.right
+
+  -- the node with another subtree on that side
+  abbrev pub with_side : Side → Node K V → List (K × V) × ℕ → Node K V
+  with_side Left node tree = record node { left = tree }
+  with_side Right node tree = record node { right = tree }
+
+  -- the node with these subtrees around an entry, the first of them on that side
+  abbrev pub between : Side → Node K V → List (K × V) × ℕ → K × V → List (K × V) × ℕ → Node K V
+  between side node near entry far = with_side side (with_side (other side) (record node { entry = entry }) far) near
+
+  -- the entries of the node if these stood on that side
+  abbrev pub entries_with : Side → Node K V → List (K × V) → List (K × V)
+  entries_with Left node es = es ++ node.entry ∷ node.right.0
+  entries_with Right node es = node.left.0 ++ node.entry ∷ es
+
+  -- the number of the entry beyond which so many stand on that side
+  abbrev pub number_of : Side → List (K × V) → ℕ → ℕ
+  number_of Left es beyond = beyond
+  number_of Right es beyond = length es - beyond - 1
 
   -- a tree of n entries is as high as log2 (n + 1) at least, and as twice that at most
   abbrev pub FitsHeight : List (K × V) × ℕ → Type 0
@@ -49,15 +73,6 @@ module _ {K V : Type 0} where
   IsTree cmp None = Unit {0}
   IsTree cmp (Some node) = IsNode cmp node
 
-  -- the same sides, and a copy of the entry
-  pub record IsCopy (C : K → K → Type 0) (D : V → V → Type 0) (a b : Node K V) : Type 0 where
-    pub len : b.len ≡ a.len
-    pub height : b.height ≡ a.height
-    pub left : b.left ≡ a.left
-    pub right : b.right ≡ a.right
-    pub key : C a.entry.0 b.entry.0
-    pub value : D a.entry.1 b.entry.1
-
   -- what a node is seen as once the child that may be held apart from it is put back
   abbrev pub closed : Node K V → Option (Side × Node K V) → List (K × V) × ℕ
   closed node None = seen node
@@ -76,23 +91,11 @@ module _ {K V : Type 0} where
     pub not_lower : old.1 ≤ new.1 + 1
     pub not_higher : new.1 ≤ old.1
 
-  -- a node whose subtree on that side may become lower: the other one is no higher, or is held as a child and its
-  -- inner child
-  pub record MayFall (side : Side) (cmp : K → K → Ordering) (old new : Node K V) : Type 0 where
-    pub whole : IsNode cmp new
-    pub same : seen new ≡ seen old
-    pub high : (on (other side) new).1 ≤ (on side new).1
-    pub more : length (on side old).0 ≤ length (on side new).0
-
-  pub record IsHeld (side : Side) (cmp : K → K → Ordering) (old new child inner : Node K V) : Type 0 where
-    pub near : on side new ≡ on side old
-    pub len : new.len ≡ old.len
-    pub whole : IsNode cmp inner
-    pub entries : entries_of old ≡ entries_with (other side) new (entries_with side child (entries_of inner))
-    pub inward : inner.height ≡ (on side old).1
-    pub outer : (on (other side) child).1 + 1 ≡ (on side old).1
-    pub height : old.height ≡ (on side old).1 + 2
-
+  -- a node whose subtree on that side may become lower: the other one is no higher, or it is held apart as a child and
+  -- its inner child, which is higher than the outer one
   abbrev pub CanLose : Side → (K → K → Ordering) → Node K V → Node K V → Option (Node K V × Node K V) → Type 0
-  CanLose side cmp old new None = MayFall side cmp old new
-  CanLose side cmp old new (Some pair) = IsHeld side cmp old new pair.0 pair.1
+  CanLose side cmp old new None = IsNode cmp new × (seen new ≡ seen old)
+      × ((on (other side) new).1 ≤ (on side new).1) × (length (on side old).0 ≤ length (on side new).0)
+  CanLose side cmp old new (Some pair) = IsNode cmp pair.1 × (new ≡ with_side (other side) old ([], 0))
+      × (on (other side) old ≡ (entries_with side pair.0 (entries_of pair.1), (on side old).1 + 1))
+      × (pair.1.height ≡ (on side old).1) × ((on (other side) pair.0).1 + 1 ≡ (on side old).1)

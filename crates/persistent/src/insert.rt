@@ -3,9 +3,9 @@
 
 ghost use Rattle.std.specs.Prelude.{◌≡◌, ◌+◌, ◌<◌, ◌≤◌, IfOk, OnOk, OnErr, length, max};
 ghost use Rattle.servo_arc.specs.Copies.{CopiesAreEqual};
-ghost use Rattle.persistent.specs.Nodes.{IsGrown, IsLevel, IsMap, IsNode, closed, entries_of, seen};
+ghost use Rattle.persistent.specs.Nodes.{IsGrown, IsLevel, IsMap, IsNode, closed, entries_of, entries_with, on};
+ghost use Rattle.persistent.specs.Nodes.{other, seen};
 ghost use Rattle.persistent.specs.Places.{put_at};
-ghost use Rattle.persistent.specs.Sides.{IsWay, entries_with, on, other};
 
 use crate::node::{Side, Sole};
 use crate::tree::{Node, Tree};
@@ -31,17 +31,12 @@ impl<K: Ord + Clone, V: Clone> Tree<K, V> {
             self.put(Node::leaf(alloc, entry)?);
             return Ok(());
         };
-        match node.insert(alloc, index, entry) {
-            Ok(grown) => {
-                node.close(grown);
-                self.put(node);
-                Ok(())
-            }
-            Err(refused) => {
-                self.put(node);
-                Err(refused)
-            }
-        }
+        let answer = match node.insert(alloc, index, entry) {
+            Ok(grown) => Ok(node.close(grown)),
+            Err(refused) => Err(refused),
+        };
+        self.put(node);
+        answer
     }
 }
 
@@ -76,7 +71,8 @@ impl<K: Ord + Clone, V: Clone> Node<K, V> {
     // The side on which the entry of that number goes in, and its number there.
     #[inline(always)]
     fn way(&self, index: usize) -> (Side, usize)
-        ensures { IsWay self.now index result.0 result.1 }
+        ensures { (entry : K × V) → put_at index entry (entries_of self.now)
+            ≡ entries_with result.0 self.now (put_at result.1 entry (on result.0 self.now).0) }
     {
         let before = self.left.len();
         if index <= before {

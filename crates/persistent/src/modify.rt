@@ -57,9 +57,9 @@ impl<K: Ord + Clone, V: Clone> Node<K, V> {
     {
         let before = self.left.len();
         match index.cmp(&before) {
-            Ordering::Less => Ok(self.left.modify(alloc, index, change)?),
+            Ordering::Less => self.left.modify(alloc, index, change),
             Ordering::Equal => Ok(change(&mut self.entry.1)),
-            Ordering::Greater => Ok(self.right.modify(alloc, index - before - 1, change)?),
+            Ordering::Greater => self.right.modify(alloc, index - before - 1, change),
         }
     }
 }

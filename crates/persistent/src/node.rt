@@ -2,8 +2,8 @@
 //! written once.
 ghost use Rattle.std.specs.Prelude.{◌≡◌, ◌+◌, ◌∷◌, [], IfOk, OnOk, OnErr, length, max};
 ghost use Rattle.servo_arc.specs.Copies.{CopiesAreEqual};
-ghost use Rattle.persistent.specs.Nodes.{IsCopy, IsLevel, IsMap, IsNode, IsTree, entries_of, seen, summary};
-ghost use Rattle.persistent.specs.Sides.{between, entries_with, on, other, with_side};
+ghost use Rattle.persistent.specs.Nodes.{IsLevel, IsMap, IsNode, IsTree, between, entries_of, entries_with, on};
+ghost use Rattle.persistent.specs.Nodes.{other, seen, summary, with_side};
 
 use crate::tree::{Node, Tree};
 use servo_arc::{Arc, UniqueArc};
@@ -127,24 +127,6 @@ impl<K: Ord + Clone, V: Clone> Node<K, V> {
     }
 }
 
-/// Shares both sides, and copies the entry.
-impl<K: Ord + Clone, V: Clone> Clone for Node<K, V> {
-    ghost is_clone = { IsCopy K.is_clone V.is_clone };
-
-    fn clone(&self) -> Result<Node<K, V>, AllocError> {
-        let (key, value) = &self.entry;
-        let key = key.clone()?;
-        let value = value.clone()?;
-        Ok(Node {
-            len: self.len,
-            height: self.height,
-            left: self.left.clone()?,
-            entry: (key, value),
-            right: self.right.clone()?,
-        })
-    }
-}
-
 impl<K: Ord + Clone, V: Clone> Tree<K, V> {
     // Takes the first node out, if there is one, so that the tree is empty. A node that others share is copied.
     pub(crate) fn take(&mut self, alloc: Global) -> Result<Option<Sole<K, V>>, AllocError>
@@ -169,11 +151,20 @@ impl<K: Ord + Clone, V: Clone> Tree<K, V> {
         }
     }
 
+    // Shares both sides, and copies the entry.
     fn copy(alloc: Global, node: &Node<K, V>) -> Result<Sole<K, V>, AllocError>
         requires copies { CopiesAreEqual K.is_clone × CopiesAreEqual V.is_clone }
         ensures { IfOk result (λ copy. copy ≡ node.now) }
     {
-        let copy = node.clone()?;
+        let key = node.entry.0.clone()?;
+        let value = node.entry.1.clone()?;
+        let copy = Node {
+            len: node.len,
+            height: node.height,
+            left: node.left.clone()?,
+            entry: (key, value),
+            right: node.right.clone()?,
+        };
         Ok(UniqueArc::try_new(alloc, copy)?)
     }
 }

@@ -3,8 +3,7 @@
 
 ghost use Rattle.std.specs.Prelude.{◌≡◌, ◌<◌, IfOk, OnOk, OnErr, length};
 ghost use Rattle.servo_arc.specs.Copies.{CopiesAreEqual};
-ghost use Rattle.persistent.specs.Nodes.{CanLose, HasLost, IsNode, entries_of, seen};
-ghost use Rattle.persistent.specs.Sides.{IsOn, number_on, on, with_side};
+ghost use Rattle.persistent.specs.Nodes.{CanLose, HasLost, IsNode, entries_of, number_of, on, seen, with_side};
 
 use crate::node::{Side, Sole};
 use crate::tree::{Node, Tree};
@@ -53,7 +52,7 @@ impl<K: Ord + Clone, V: Clone> Node<K, V> {
     {
         match index.cmp(&self.left.len()) {
             Ordering::Less => self.remove_on(alloc, Side::Left, index),
-            Ordering::Greater => self.remove_on(alloc, Side::Right, index),
+            Ordering::Greater => self.remove_on(alloc, Side::Right, self.len - index - 1),
             Ordering::Equal if self.left.height() > self.right.height() => {
                 let last = self.left.remove(alloc, index - 1)?;
                 let entry = mem::replace(&mut self.entry, last);
@@ -69,18 +68,19 @@ impl<K: Ord + Clone, V: Clone> Node<K, V> {
         }
     }
 
-    // Takes out the entry of that number, which is on that side.
+    // Takes the entry beyond which so many stand out of that side.
     #[cycle(remove)]
-    fn remove_on(&mut self, alloc: Global, side: Side, index: usize) -> Result<(K, V), AllocError>
+    fn remove_on(&mut self, alloc: Global, side: Side, beyond: usize) -> Result<(K, V), AllocError>
         requires copies { CopiesAreEqual K.is_clone × CopiesAreEqual V.is_clone }
         requires whole { IsNode K.cmp self.old }
-        requires on { IsOn self.old index side }
+        requires within { beyond < length (on side self.old).0 }
         ensures whole { IsNode K.cmp self.new }
-        ensures lost { IfOk result (λ entry. HasLost index entry (seen self.old) (seen self.new)) }
+        ensures lost { IfOk result (λ entry.
+            HasLost (number_of side (entries_of self.old) beyond) entry (seen self.old) (seen self.new)) }
         ensures refused { OnErr result (seen self.new ≡ seen self.old) }
     {
         let held = self.hold(alloc, side)?;
-        let entry = self.take_entry(alloc, side, index);
+        let entry = self.take_entry(alloc, side, beyond);
         match held {
             None => self.update(),
             Some((child, inner)) => self.put_pair(side.other(), child, inner),
@@ -118,21 +118,19 @@ impl<K: Ord + Clone, V: Clone> Node<K, V> {
         }
     }
 
-    // Takes the entry out of that side alone.
+    // The same, of that side alone.
     #[cycle(remove)]
-    fn take_entry(&mut self, alloc: Global, side: Side, index: usize) -> Result<(K, V), AllocError>
+    fn take_entry(&mut self, alloc: Global, side: Side, beyond: usize) -> Result<(K, V), AllocError>
         requires copies { CopiesAreEqual K.is_clone × CopiesAreEqual V.is_clone }
-        requires on { IsOn self.old index side }
+        requires within { beyond < length (on side self.old).0 }
         ensures lost { IfOk result (λ entry.
-            HasLost (number_on self.old index side) entry (on side self.old) (on side self.new)) }
+            HasLost (number_of side (on side self.old).0 beyond) entry (on side self.old) (on side self.new)) }
         ensures rest { self.new ≡ with_side side self.old (on side self.new) }
         ensures refused { OnErr result (self.new ≡ self.old) }
     {
         match side {
-            Side::Left => self.left.remove(alloc, index),
-            Side::Right => self
-                .right
-                .remove(alloc, self.right.len() - (self.len - index)),
+            Side::Left => self.left.remove(alloc, beyond),
+            Side::Right => self.right.remove(alloc, self.right.len() - beyond - 1),
         }
     }
 }

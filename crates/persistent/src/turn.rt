@@ -1,9 +1,8 @@
 //! Rotations of a node whose higher side is held apart from it. They take no memory, so nothing refuses them.
 #![tactic(auto, using(crate::proofs::Order::rotations))]
 
-ghost use Rattle.std.specs.Prelude.{◌≡◌, ◌+◌, max, min};
-ghost use Rattle.persistent.specs.Nodes.{IsLevel, IsMap, IsNext, IsNode, entries_of};
-ghost use Rattle.persistent.specs.Sides.{entries_with, on, other};
+ghost use Rattle.std.specs.Prelude.{◌≡◌, ◌+◌, ◌≤◌, max, min};
+ghost use Rattle.persistent.specs.Nodes.{IsLevel, IsMap, IsNode, entries_of, entries_with, on, other};
 
 use crate::node::{Side, Sole};
 use crate::tree::Node;
@@ -35,8 +34,9 @@ impl<K: Ord + Drop, V: Drop> Node<K, V> {
     pub(crate) fn put_pair(&mut self, side: Side, mut child: Sole<K, V>, mut inner: Sole<K, V>)
         requires whole { IsNode K.cmp inner }
         requires map { IsMap K.cmp (entries_with side self.old (entries_with (other side) child (entries_of inner))) }
-        requires beside { IsNext (on side child).1 (on (other side) self.old).1 }
-        requires inward { IsNext (on side child).1 inner.height }
+        requires beside { IsLevel (on side child).1 (on (other side) self.old).1 }
+        requires inward { IsLevel (on side child).1 inner.height }
+        requires low { (on side child).1 ≤ min inner.height (on (other side) self.old).1 }
         ensures whole { IsNode K.cmp self.new }
         ensures entries { entries_of self.new
             ≡ entries_with side self.old (entries_with (other side) child (entries_of inner)) }

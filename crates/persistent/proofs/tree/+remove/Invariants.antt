@@ -1,6 +1,5 @@
 use Rattle.std.proofs.Common.{◌+◌, ◌*◌, length}
-use Rattle.persistent.specs.Nodes.{entries_of}
-use Rattle.persistent.specs.Sides.{on}
+use Rattle.persistent.specs.Nodes.{entries_of, on}
 use Rattle.persistent.proofs.tree.+remove.Given as goal
 
 abbrev pub decreases-Tree::remove : goal.decreases-Tree::remove

@@ -1,7 +1,6 @@
 -- The child comes over the node.
 use Rattle.std.proofs.Common.{◌≡◌, ◌∙◌, ap, sym, subst}
-use Rattle.persistent.specs.Nodes.{IsMap, entries_of}
-use Rattle.persistent.specs.Sides.{between, entries_with, on, other}
+use Rattle.persistent.specs.Nodes.{IsMap, between, entries_of, entries_with, on, other}
 use Rattle.persistent.proofs.Sides.{rotated_entries, turned_entries, turned_map}
 use Rattle.persistent.proofs.tree.Node.rotate.Goals as goal
 

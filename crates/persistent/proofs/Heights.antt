@@ -9,8 +9,8 @@ use Rattle.std.specs.declared.cmp.Ordering.{Ordering}
 use Rattle.persistent.specs.Maps.{IsRising}
 use Rattle.persistent.specs.declared.tree.Node.{Node}
 use Rattle.std.specs.Prelude.{Option, None, Some}
-use Rattle.persistent.specs.Nodes.{closed, entries_of, FitsHeight, IsLevel, IsMap, IsNode, IsTree, summary}
-use Rattle.persistent.specs.Sides.{entries_with, on, other, with_side}
+use Rattle.persistent.specs.Nodes.{closed, entries_of, entries_with, on, other, with_side}
+use Rattle.persistent.specs.Nodes.{FitsHeight, IsLevel, IsMap, IsNode, IsTree, summary}
 use Rattle.persistent.specs.declared.node.Side.{Side}
 use Rattle.persistent.specs.declared.node.Side.TheVariants.{Left, Right}
 
@@ -120,7 +120,7 @@ module _ {K V : Type 0} where
       → FitsHeight tree → FitsHeight (on (other side) old) → IsLevel tree.1 (on (other side) old).1
       → old.height ≡ max tree.1 (on (other side) old).1 + 1
       → IsNode cmp (record (with_side side old tree) { len = (with_side side old tree).len + 1 })
-          × ((with_side side old tree).height ≡ old.height)
+      × ((with_side side old tree).height ≡ old.height)
   one_more cmp Left old tree map counted h k level height =
       (whole cmp _ map.0 h k level counted (omega (arith, counted, map.1)) height, refl)
   one_more cmp Right old tree map counted h k level height =

@@ -1,5 +1,5 @@
 -- What a rotation leaves, on either side.
-use Rattle.std.proofs.Common.{◌≡◌, ℕ, List, ◌∷◌, ◌++◌, refl, sym, append_assoc, arith, length-append}
+use Rattle.std.proofs.Common.{◌≡◌, List, ◌∷◌, ◌++◌, refl, sym, append_assoc, arith, length-append}
 use Rattle.std.specs.declared.cmp.Ordering.{Ordering}
 use Rattle.persistent.specs.Nodes.{IsMap, between, entries_of, entries_with, on, other}
 use Rattle.persistent.specs.declared.node.Side.{Side}

@@ -55,7 +55,12 @@ impl<K: Ord + Clone, V: Clone> Node<K, V> {
         ensures entries { IfOk result (λ grown. (closed self.new grown).0 ≡ put_at index entry (entries_of self.old)) }
         ensures refused { OnErr result (self.new ≡ self.old) }
     {
-        let (side, index) = self.way(index);
+        let before = self.left.len();
+        let (side, index) = if index <= before {
+            (Side::Left, index)
+        } else {
+            (Side::Right, index - before - 1)
+        };
         let Some(mut child) = self.take(alloc, side)? else {
             return Ok(self.settle(side, Node::leaf(alloc, entry)?, None));
         };
@@ -65,20 +70,6 @@ impl<K: Ord + Clone, V: Clone> Node<K, V> {
                 self.put(side, child);
                 Err(refused)
             }
-        }
-    }
-
-    // The side on which the entry of that number goes in, and its number there.
-    #[inline(always)]
-    fn way(&self, index: usize) -> (Side, usize)
-        ensures { (entry : K × V) → put_at index entry (entries_of self.now)
-            ≡ entries_with result.0 self.now (put_at result.1 entry (on result.0 self.now).0) }
-    {
-        let before = self.left.len();
-        if index <= before {
-            (Side::Left, index)
-        } else {
-            (Side::Right, index - before - 1)
         }
     }
 }

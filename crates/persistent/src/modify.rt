@@ -4,15 +4,13 @@ ghost use Rattle.std.specs.Option.{ForSome};
 ghost use Rattle.std.specs.Fn.{FnOnceTakesAtMut};
 ghost use Rattle.servo_arc.specs.Copies.{CopiesAreEqual};
 ghost use Rattle.persistent.specs.Changes.{ChangesAt};
-ghost use Rattle.persistent.specs.Nodes.{IsNode, entries_of};
 
-use crate::tree::{Node, Tree};
+use crate::tree::Tree;
 use std::alloc::{AllocError, Global};
 use std::cmp::Ordering;
 
 impl<K: Ord + Clone, V: Clone> Tree<K, V> {
     // Changes the value of the entry of that number. The change is called if nothing can be refused any more.
-    #[cycle(modify)]
     #[tactic(auto, using(crate::proofs::Places::places))]
     pub(crate) fn modify<R, F: FnOnce(&mut V) -> R>(
         &mut self,
@@ -30,36 +28,13 @@ impl<K: Ord + Clone, V: Clone> Tree<K, V> {
         let Some(mut node) = self.take(alloc)? else {
             unreachable!()
         };
-        let answer = node.modify(alloc, index, change);
+        let before = node.left.len();
+        let answer = match index.cmp(&before) {
+            Ordering::Less => node.left.modify(alloc, index, change),
+            Ordering::Equal => Ok(change(&mut node.entry.1)),
+            Ordering::Greater => node.right.modify(alloc, index - before - 1, change),
+        };
         self.put(node);
         answer
-    }
-}
-
-impl<K: Ord + Clone, V: Clone> Node<K, V> {
-    #[cycle(modify)]
-    #[tactic(auto, using(crate::proofs::Places::places))]
-    fn modify<R, F: FnOnce(&mut V) -> R>(
-        &mut self,
-        alloc: Global,
-        index: usize,
-        change: F,
-    ) -> Result<R, AllocError>
-        requires copies { CopiesAreEqual K.is_clone × CopiesAreEqual V.is_clone }
-        requires whole { IsNode K.cmp self.old }
-        requires within { index < length (entries_of self.old) }
-        requires callable { ForSome (slice_get (entries_of self.old) index)
-            (λ e. FnOnceTakesAtMut F.FnOnce change e.1) }
-        ensures whole { IsNode K.cmp self.new }
-        ensures changed { IfOk result (ChangesAt F.FnOnce change index (entries_of self.old) (entries_of self.new)) }
-        ensures height { self.new.height ≡ self.old.height }
-        ensures refused { OnErr result (entries_of self.new ≡ entries_of self.old) }
-    {
-        let before = self.left.len();
-        match index.cmp(&before) {
-            Ordering::Less => self.left.modify(alloc, index, change),
-            Ordering::Equal => Ok(change(&mut self.entry.1)),
-            Ordering::Greater => self.right.modify(alloc, index - before - 1, change),
-        }
     }
 }

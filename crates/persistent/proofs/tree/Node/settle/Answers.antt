@@ -1,7 +1,6 @@
-use Rattle.std.proofs.Common.{◌≡◌, ◌+◌, ◌<◌, ◌≤◌, ◌∙◌, ap, sym, subst, max, arith}
+use Rattle.std.proofs.Common.{◌≡◌, ◌+◌, ◌<◌, ◌∙◌, ap, sym, subst, max, arith}
 use Rattle.std.proofs.lemmas.Grind.{common_steps}
-use Rattle.persistent.specs.Nodes.{closed, FitsHeight, IsLevel, IsNode}
-use Rattle.persistent.specs.Sides.{on, other, with_side}
+use Rattle.persistent.specs.Nodes.{closed, on, other, with_side, FitsHeight, IsLevel, IsNode}
 use Rattle.persistent.proofs.Heights.{no_lower, one_more}
 use Rattle.persistent.proofs.tree.Node.settle.Goals.{in_default-via-in-Some+else-deref-height, in_default-via-in-None-1}
 use Rattle.persistent.proofs.tree.Node.settle.Goals as goal
@@ -23,8 +22,9 @@ returns-else-deref-self-clause-grown g c =
       | in_default-via-in-Some+else-deref-height w ↦ w.grown-is ∙ sym w.in-Some.is
       | in_default-via-in-None-1 w ↦ w.grown-is
     ] in
-    let closes = c.close.ensures.closed ∙ ap (λ child. closed child c.in_default-1.grown) c.deref_mut-in_default.ensures.value
-        ∙ ap (closed c.args.child) held in
+    let was = c.deref_mut-in_default.ensures.value in
+    let closes =
+    c.close.ensures.closed ∙ ap (λ child. closed child c.in_default-1.grown) was ∙ ap (closed c.args.child) held in
     let fits : FitsHeight tree = subst FitsHeight closes c.close.ensures.whole.fits in
     let far : FitsHeight beside =
     subst FitsHeight (c.on-in_default.ensures ∙ ap (λ side. on side n) c.other-in_default.ensures) c.fits.ensures in

@@ -89,8 +89,8 @@ impl<K: Ord + Drop, V: Drop> Node<K, V> {
         }
     }
 
-    // Puts the child, which has taken an entry in, on that side, or holds it apart if the node is higher by it. The
-    // child is new, or counts what it was.
+    // Puts the child, which has taken an entry in, on that side, or holds it apart if the node is higher by it. What
+    // the child counts is from before, unless it is new.
     #[tactic(auto, using(crate::proofs::Order::rotations))]
     fn settle(&mut self, side: Side, mut child: Sole<K, V>, grown: Grown<K, V>) -> Grown<K, V>
         requires grown { IsGrown K.cmp child.height child grown }

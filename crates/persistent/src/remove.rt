@@ -68,7 +68,7 @@ impl<K: Ord + Clone, V: Clone> Node<K, V> {
         }
     }
 
-    // Takes the entry beyond which so many stand out of that side.
+    // Takes an entry out of that side: the one that has so many beyond it, on to the end of the side.
     #[cycle(remove)]
     fn remove_on(&mut self, alloc: Global, side: Side, beyond: usize) -> Result<(K, V), AllocError>
         requires copies { CopiesAreEqual K.is_clone × CopiesAreEqual V.is_clone }
@@ -118,7 +118,7 @@ impl<K: Ord + Clone, V: Clone> Node<K, V> {
         }
     }
 
-    // The same, of that side alone.
+    // Takes it out of the side alone: what the node counts stays as it was.
     #[cycle(remove)]
     fn take_entry(&mut self, alloc: Global, side: Side, beyond: usize) -> Result<(K, V), AllocError>
         requires copies { CopiesAreEqual K.is_clone × CopiesAreEqual V.is_clone }

@@ -4,7 +4,7 @@ use super::{next, pick, workload, Run, Workload};
 
 const ITEMS: u64 = 1_000_000; // of the list
 const KEYS: usize = 100_000; // of the map
-const LOW: u8 = 4; // as high is a part of the map that is searched from its root
+const LOW: u8 = 3; // an iterator keeps no part of the map that is as low
 
 macro_rules! trees {
     ($name:ident, $($path:tt)+) => {
@@ -57,36 +57,33 @@ macro_rules! trees {
                     }
                 }
 
-                fn numbered(&self, index: usize) -> Option<&(u64, u64)> {
-                    let node = self.root.as_ref()?;
-                    let before = node.left.len();
-                    match index.cmp(&before) {
-                        Ordering::Less => node.left.numbered(index),
-                        Ordering::Equal => Some(&node.entry),
-                        Ordering::Greater => node.right.numbered(index - before - 1),
-                    }
-                }
-
-                /// A part that has the entry of that number, with the number of its first: it is low, or has the entry in
-                /// its root. It goes down from the part that is passed, if that has the entry.
-                fn near<'a>(&'a self, from: (&'a Map, usize), index: usize) -> (&'a Map, usize) {
-                    let (mut part, mut offset) = match index.checked_sub(from.1) {
-                        Some(offset) if offset < from.0.len() => (from.0, offset),
+                /// The entry of that number, and the last part on the way to it that is not low. The way begins at the
+                /// part that is passed, if the entry is there. Parts go with the number of their first entry.
+                fn numbered<'a>(
+                    &'a self,
+                    near: (&'a Map, usize),
+                    index: usize,
+                ) -> Option<(&'a (u64, u64), (&'a Map, usize))> {
+                    let (mut part, mut offset) = match index.checked_sub(near.1) {
+                        Some(offset) if offset < near.0.len() => (near.0, offset),
                         _ => (self, index),
                     };
+                    let mut near = (part, index - offset);
                     while let Some(node) = &part.root {
-                        let before = node.left.len();
-                        if node.height <= LOW || offset == before {
-                            break;
+                        if node.height > LOW {
+                            near = (part, index - offset);
                         }
+                        let before = node.left.len();
                         if offset < before {
                             part = &node.left;
+                        } else if offset == before {
+                            return Some((&node.entry, near));
                         } else {
                             offset -= before + 1;
                             part = &node.right;
                         }
                     }
-                    (part, index - offset)
+                    None
                 }
 
                 /// The number of the key's entry, or that which it would have.
@@ -232,9 +229,9 @@ macro_rules! trees {
                 for _ in 0..n {
                     let mut front = (&map, 0);
                     for index in 0..map.len() {
-                        front = map.near(front, index);
-                        let value = front.0.numbered(index - front.1).map_or(0, |entry| entry.1);
-                        sum = sum.rotate_left(1).wrapping_add(value);
+                        let Some((entry, near)) = map.numbered(front, index) else { break };
+                        front = near;
+                        sum = sum.rotate_left(1).wrapping_add(entry.1);
                     }
                 }
                 sum

@@ -1,6 +1,6 @@
 -- How deep a balanced tree is.
 use Rattle.std.proofs.Common.{◌≡◌, ℕ, ◌+◌, ◌*◌, ◌^◌, ◌<◌, ◌≤◌, max, min, List}
-use Rattle.std.proofs.Common.{◌∷◌, ◌++◌, length, subst, sym, refl, ap, ◌∙◌, inl, inr, pow_mono}
+use Rattle.std.proofs.Common.{◌∷◌, ◌++◌, length, subst, sym, ap, ◌∙◌, inl, inr, pow_mono}
 use Rattle.std.proofs.Common.{arith, length-append}
 use Rattle.std.proofs.lemmas.Bool.{cases_lt}
 use Rattle.std.proofs.lemmas.Grind.{pow_more}
@@ -9,7 +9,7 @@ use Rattle.std.specs.declared.cmp.Ordering.{Ordering}
 use Rattle.persistent.specs.Maps.{IsRising}
 use Rattle.persistent.specs.declared.tree.Node.{Node}
 use Rattle.std.specs.Prelude.{Option, None, Some}
-use Rattle.persistent.specs.Nodes.{closed, entries_of, entries_with, on, other, with_side}
+use Rattle.persistent.specs.Nodes.{entries_of, entries_with, on, other, with_side}
 use Rattle.persistent.specs.Nodes.{FitsHeight, IsLevel, IsMap, IsNode, IsTree, summary}
 use Rattle.persistent.specs.declared.node.Side.{Side}
 use Rattle.persistent.specs.declared.node.Side.TheVariants.{Left, Right}
@@ -110,18 +110,13 @@ fits_summary cmp None is = (omega arith, omega arith)
 fits_summary cmp (Some node) is = is.fits
 
 module _ {K V : Type 0} where
-  pub no_lower : (child : Node K V) → (grown : Option (Side × Node K V)) → child.height ≤ (closed child grown).1
-  no_lower child None = omega arith
-  no_lower child (Some held) = omega arith
-
   -- a node that is as high with another subtree on that side, and has one entry more
   pub one_more : (cmp : K → K → Ordering) → (side : Side) → (old : Node K V) → (tree : List (K × V) × ℕ)
       → IsMap cmp (entries_with side old tree.0) → old.len + 1 ≡ length (entries_with side old tree.0)
       → FitsHeight tree → FitsHeight (on (other side) old) → IsLevel tree.1 (on (other side) old).1
       → old.height ≡ max tree.1 (on (other side) old).1 + 1
       → IsNode cmp (record (with_side side old tree) { len = (with_side side old tree).len + 1 })
-      × ((with_side side old tree).height ≡ old.height)
   one_more cmp Left old tree map counted h k level height =
-      (whole cmp _ map.0 h k level counted (omega (arith, counted, map.1)) height, refl)
+      whole cmp _ map.0 h k level counted (omega (arith, counted, map.1)) height
   one_more cmp Right old tree map counted h k level height =
-      (whole cmp _ map.0 k h (level.1, level.0) counted (omega (arith, counted, map.1)) (omega (arith, height)), refl)
+      whole cmp _ map.0 k h (level.1, level.0) counted (omega (arith, counted, map.1)) (omega (arith, height))

@@ -65,6 +65,11 @@ impl<K: Ord + Clone, V: Clone> Node<K, V> {
             return Ok(self.settle(side, Node::leaf(alloc, entry)?, None));
         };
         match child.insert(alloc, index, entry) {
+            // The child is as high as it was, and the other side, which may lie far off, is not read.
+            Ok(None) => {
+                self.put_as_high(side, child);
+                Ok(None)
+            }
             Ok(grown) => Ok(self.settle(side, child, grown)),
             Err(refused) => {
                 self.put(side, child);
@@ -118,12 +123,25 @@ impl<K: Ord + Drop, V: Drop> Node<K, V> {
                 if child.height >= self.height {
                     return Some((side, child));
                 }
-                // The node is as high as it was, so that its other side, which may lie far off, is not read.
-                self.on(side.other()).fits();
-                self.put(side, child);
-                self.len += 1;
+                self.put_as_high(side, child);
                 None
             }
         }
+    }
+
+    // Puts the child, which has one entry more, on that side, where the node stays as high.
+    #[inline(always)]
+    fn put_as_high(&mut self, side: Side, child: Sole<K, V>)
+        requires whole { IsNode K.cmp child }
+        requires map { IsMap K.cmp (entries_with side self.old (entries_of child)) }
+        requires counted { self.old.len + 1 ≡ length (entries_with side self.old (entries_of child)) }
+        requires level { IsLevel child.height (on (other side) self.old).1 }
+        requires height { self.old.height ≡ max child.height (on (other side) self.old).1 + 1 }
+        ensures whole { IsNode K.cmp self.new }
+        ensures seen { seen self.new ≡ (entries_with side self.old (entries_of child), self.old.height) }
+    {
+        self.on(side.other()).fits();
+        self.put(side, child);
+        self.len += 1;
     }
 }

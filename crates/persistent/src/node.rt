@@ -129,6 +129,7 @@ impl<K: Ord + Clone, V: Clone> Node<K, V> {
 
 impl<K: Ord + Clone, V: Clone> Tree<K, V> {
     // Takes the first node out, if there is one, so that the tree is empty. A node that others share is copied.
+    #[inline(always)]
     pub(crate) fn take(&mut self, alloc: Global) -> Result<Option<Sole<K, V>>, AllocError>
         requires copies { CopiesAreEqual K.is_clone × CopiesAreEqual V.is_clone }
         ensures same { IfOk result (λ node. summary node ≡ self.old) }
@@ -141,13 +142,26 @@ impl<K: Ord + Clone, V: Clone> Tree<K, V> {
         };
         match Arc::into_unique(node) {
             Ok(node) => Ok(Some(node)),
-            Err(shared) => match Tree::copy(alloc, &shared) {
-                Ok(node) => Ok(Some(node)),
-                Err(refused) => {
-                    self.root = Some(shared);
-                    Err(refused)
-                }
-            },
+            Err(shared) => Ok(Some(self.copy_out(alloc, shared)?)),
+        }
+    }
+
+    // A copy of the node, which goes back here if that is refused. It is a call of its own, since most nodes have no
+    // other owner.
+    #[inline(never)]
+    fn copy_out(&mut self, alloc: Global, shared: Arc<Node<K, V>>) -> Result<Sole<K, V>, AllocError>
+        requires copies { CopiesAreEqual K.is_clone × CopiesAreEqual V.is_clone }
+        requires whole { IsNode K.cmp shared }
+        ensures copy { IfOk result (λ copy. copy ≡ shared) }
+        ensures taken { OnOk result (self.new ≡ self.old) }
+        ensures refused { OnErr result (self.new ≡ seen shared) }
+    {
+        match Tree::copy(alloc, &shared) {
+            Ok(copy) => Ok(copy),
+            Err(refused) => {
+                self.root = Some(shared);
+                Err(refused)
+            }
         }
     }
 

@@ -138,7 +138,7 @@ mod word {
         #[inline]
         pub fn ptr_eq(this: &Arc<T>, other: &Arc<T>) -> bool {
             let (one, two) = unsafe { (&(*this.at).stamp, &(*other.at).stamp) };
-            let mut signs = 0;
+            let mut saw_sign = false;
             let mut amount = 1u64;
             for _ in 0..64 {
                 let before = two.load(SeqCst);
@@ -147,14 +147,11 @@ mod word {
                 if after == before {
                     return false;
                 }
-                signs = if after.wrapping_sub(before) == amount {
-                    signs + 1
-                } else {
-                    0
-                };
-                if signs == 4 {
+                let sees_sign = after.wrapping_sub(before) == amount;
+                if saw_sign && sees_sign {
                     return true;
                 }
+                saw_sign = sees_sign;
                 let odd = own.wrapping_mul(0x9e37_79b9_7f4a_7c15) | 1;
                 amount = amount.wrapping_add(odd).wrapping_add(odd);
             }

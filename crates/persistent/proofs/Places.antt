@@ -229,7 +229,19 @@ module _ {K V : Type 0} (cmp : K → K → Ordering) where
       subst (λ n. IsRising cmp (l ++ e ∷ set_at n v r)) back
       (subst (IsRising cmp) (set_right place v l e r past) (rising_set place v (l ++ e ∷ r) s))
 
-pub ruleset places = (
+pub ruleset insertions = (
+  put_none,
+  put_left,
+  put_right,
+  length-put_at,
+  rising_put_left,
+  rising_put_right,
+  rising_before,
+  rising_after,
+  length-append,
+)
+
+pub ruleset removals = (
   without_left,
   without_here,
   without_right,
@@ -243,6 +255,13 @@ pub ruleset places = (
   rising_without_right,
   rising_before,
   rising_after,
+  entry_left,
+  entry_here,
+  entry_right,
+  length-append,
+)
+
+pub ruleset changes = (
   set_left,
   set_here,
   set_right,
@@ -250,12 +269,8 @@ pub ruleset places = (
   rising_set_left,
   rising_set_here,
   rising_set_right,
-  put_none,
-  put_left,
-  put_right,
-  length-put_at,
-  rising_put_left,
-  rising_put_right,
+  rising_before,
+  rising_after,
   entry_left,
   entry_here,
   entry_right,

@@ -1,18 +1,47 @@
 //! How a tree takes an entry in: in place, but for the nodes that others share, which are copied.
-#![tactic(auto, using(crate::proofs::Places::places))]
+#![tactic(auto, using(crate::proofs::Places::insertions))]
 
-ghost use Rattle.std.specs.Prelude.{◌≡◌, ◌+◌, ◌<◌, ◌≤◌, IfOk, OnOk, OnErr, length, max};
+ghost use Rattle.std.specs.Prelude.{◌≡◌, ◌+◌, ◌<◌, ◌≤◌, Some, IfOk, OnOk, OnErr, length, max};
 ghost use Rattle.servo_arc.specs.Copies.{CopiesAreEqual};
 ghost use Rattle.persistent.specs.Nodes.{IsGrown, IsLevel, IsMap, IsNode, closed, entries_of, entries_with, on};
 ghost use Rattle.persistent.specs.Nodes.{other, seen};
+ghost use Rattle.persistent.specs.Grown.{held};
 ghost use Rattle.persistent.specs.Places.{put_at};
 
 use crate::node::{Side, Sole};
 use crate::tree::{Node, Tree};
 use std::alloc::{AllocError, Global};
 
-// Of a node that is one higher than it was: its higher side, and the child there, held apart. A rotation opens it.
-pub(crate) type Grown<K, V> = Option<(Side, Sole<K, V>)>;
+// Whether an insert made a node one higher, and then its higher child, held apart, so that a rotation can open it. An
+// `Option` of the side and the child has padding, and to copy that cost a tenth of an insert.
+pub(crate) enum Grown<K: Ord, V> {
+    AsHigh,
+    HigherLeft(Sole<K, V>),
+    HigherRight(Sole<K, V>),
+}
+
+impl<K: Ord, V> Grown<K, V> {
+    #[inline(always)]
+    fn on(side: Side, child: Sole<K, V>) -> Grown<K, V>
+        ensures { held result ≡ Some (side, child) }
+    {
+        match side {
+            Side::Left => Grown::HigherLeft(child),
+            Side::Right => Grown::HigherRight(child),
+        }
+    }
+
+    #[inline(always)]
+    fn held(self) -> Option<(Side, Sole<K, V>)>
+        ensures { result ≡ held self }
+    {
+        match self {
+            Grown::AsHigh => None,
+            Grown::HigherLeft(child) => Some((Side::Left, child)),
+            Grown::HigherRight(child) => Some((Side::Right, child)),
+        }
+    }
+}
 
 impl<K: Ord + Clone, V: Clone> Tree<K, V> {
     // Puts the entry in at that number.
@@ -32,7 +61,12 @@ impl<K: Ord + Clone, V: Clone> Tree<K, V> {
             return Ok(());
         };
         let answer = match node.insert(alloc, index, entry) {
-            Ok(grown) => Ok(node.close(grown)),
+            Ok(grown) => {
+                if let Some((side, child)) = grown.held() {
+                    node.put_higher(side, child);
+                }
+                Ok(())
+            }
             Err(refused) => Err(refused),
         };
         self.put(node);
@@ -51,8 +85,9 @@ impl<K: Ord + Clone, V: Clone> Node<K, V> {
         requires copies { CopiesAreEqual K.is_clone × CopiesAreEqual V.is_clone }
         requires whole { IsNode K.cmp self.old }
         requires map { IsMap K.cmp (put_at index entry (entries_of self.old)) }
-        ensures grown { IfOk result (IsGrown K.cmp self.old.height self.new) }
-        ensures entries { IfOk result (λ grown. (closed self.new grown).0 ≡ put_at index entry (entries_of self.old)) }
+        ensures grown { IfOk result (λ grown. IsGrown K.cmp self.old.height self.new (held grown)) }
+        ensures entries { IfOk result (λ grown.
+            (closed self.new (held grown)).0 ≡ put_at index entry (entries_of self.old)) }
         ensures refused { OnErr result (self.new ≡ self.old) }
     {
         let before = self.left.len();
@@ -62,13 +97,13 @@ impl<K: Ord + Clone, V: Clone> Node<K, V> {
             (Side::Right, index - before - 1)
         };
         let Some(mut child) = self.take(alloc, side)? else {
-            return Ok(self.settle(side, Node::leaf(alloc, entry)?, None));
+            return Ok(self.settle(side, Node::leaf(alloc, entry)?, Grown::AsHigh));
         };
         match child.insert(alloc, index, entry) {
             // The child is as high as it was, and the other side, which may lie far off, is not read.
-            Ok(None) => {
+            Ok(Grown::AsHigh) => {
                 self.put_as_high(side, child);
-                Ok(None)
+                Ok(Grown::AsHigh)
             }
             Ok(grown) => Ok(self.settle(side, child, grown)),
             Err(refused) => {
@@ -80,35 +115,34 @@ impl<K: Ord + Clone, V: Clone> Node<K, V> {
 }
 
 impl<K: Ord + Drop, V: Drop> Node<K, V> {
-    // The node with both of its sides.
+    // Puts the child that was held apart on that side.
     #[tactic(auto, using(crate::proofs::Order::rotations))]
-    fn close(&mut self, grown: Grown<K, V>)
-        requires grown { IsGrown K.cmp self.old.height self.old grown }
-        requires map { IsMap K.cmp (closed self.old grown).0 }
+    fn put_higher(&mut self, side: Side, child: Sole<K, V>)
+        requires grown { IsGrown K.cmp self.old.height self.old (Some (side, child)) }
+        requires map { IsMap K.cmp (entries_with side self.old (entries_of child)) }
         ensures whole { IsNode K.cmp self.new }
-        ensures closed { seen self.new ≡ closed self.old grown }
+        ensures seen { seen self.new ≡ closed self.old (Some (side, child)) }
     {
-        if let Some((side, child)) = grown {
-            self.put(side, child);
-            self.update();
-        }
+        self.put(side, child);
+        self.update();
     }
 
     // Puts the child, which has taken an entry in, on that side, or holds it apart if the node is higher by it. What
     // the child counts is from before, unless it is new.
+    #[inline(always)]
     #[tactic(auto, using(crate::proofs::Order::rotations))]
     fn settle(&mut self, side: Side, mut child: Sole<K, V>, grown: Grown<K, V>) -> Grown<K, V>
-        requires grown { IsGrown K.cmp child.height child grown }
-        requires map { IsMap K.cmp (entries_with side self.old (closed child grown).0) }
-        requires counted { self.old.len + 1 ≡ length (entries_with side self.old (closed child grown).0) }
+        requires grown { IsGrown K.cmp child.height child (held grown) }
+        requires map { IsMap K.cmp (entries_with side self.old (closed child (held grown)).0) }
+        requires counted { self.old.len + 1 ≡ length (entries_with side self.old (closed child (held grown)).0) }
         requires level { IsLevel child.height (on (other side) self.old).1 }
         requires beside { (on (other side) self.old).1 < self.old.height }
-        requires low { (closed child grown).1 ≤ self.old.height }
+        requires low { (closed child (held grown)).1 ≤ self.old.height }
         requires high { self.old.height ≤ max child.height (on (other side) self.old).1 + 1 }
-        ensures grown { IsGrown K.cmp self.old.height self.new result }
-        ensures entries { (closed self.new result).0 ≡ entries_with side self.old (closed child grown).0 }
+        ensures grown { IsGrown K.cmp self.old.height self.new (held result) }
+        ensures entries { (closed self.new (held result)).0 ≡ entries_with side self.old (closed child (held grown)).0 }
     {
-        match grown {
+        match grown.held() {
             Some((outer, inner)) if child.height > self.on(side.other()).height() => {
                 if outer == side {
                     child.put(side, inner);
@@ -116,17 +150,16 @@ impl<K: Ord + Drop, V: Drop> Node<K, V> {
                 } else {
                     self.put_pair(side, child, inner);
                 }
-                None
+                return Grown::AsHigh;
             }
-            grown => {
-                child.close(grown);
-                if child.height >= self.height {
-                    return Some((side, child));
-                }
-                self.put_as_high(side, child);
-                None
-            }
+            Some((outer, inner)) => child.put_higher(outer, inner),
+            None => {}
         }
+        if child.height >= self.height {
+            return Grown::on(side, child);
+        }
+        self.put_as_high(side, child);
+        Grown::AsHigh
     }
 
     // Puts the child, which has one entry more, on that side, where the node stays as high.

@@ -11,7 +11,7 @@ use std::cmp::Ordering;
 
 impl<K: Ord + Clone, V: Clone> Tree<K, V> {
     // Changes the value of the entry of that number. The change is called if nothing can be refused any more.
-    #[tactic(auto, using(crate::proofs::Places::places))]
+    #[tactic(auto, using(crate::proofs::Places::changes))]
     pub(crate) fn modify<R, F: FnOnce(&mut V) -> R>(
         &mut self,
         alloc: Global,
@@ -25,9 +25,7 @@ impl<K: Ord + Clone, V: Clone> Tree<K, V> {
         ensures height { self.new.1 ≡ self.old.1 }
         ensures refused { OnErr result (self.new ≡ self.old) }
     {
-        let Some(mut node) = self.take(alloc)? else {
-            unreachable!()
-        };
+        let mut node = self.take(alloc)?.unwrap();
         let before = node.left.len();
         let answer = match index.cmp(&before) {
             Ordering::Less => node.left.modify(alloc, index, change),

@@ -1,5 +1,5 @@
 //! How a tree lets an entry go: in place, but for the nodes that others share, which are copied.
-#![tactic(auto, using(crate::proofs::Places::places))]
+#![tactic(auto, using(crate::proofs::Places::removals))]
 
 ghost use Rattle.std.specs.Prelude.{◌≡◌, ◌<◌, IfOk, OnOk, OnErr, length};
 ghost use Rattle.servo_arc.specs.Copies.{CopiesAreEqual};
@@ -23,9 +23,7 @@ impl<K: Ord + Clone, V: Clone> Tree<K, V> {
         ensures lost { IfOk result (λ entry. HasLost index entry self.old self.new) }
         ensures refused { OnErr result (self.new ≡ self.old) }
     {
-        let Some(mut node) = self.take(alloc)? else {
-            unreachable!()
-        };
+        let mut node = self.take(alloc)?.unwrap();
         if index == node.left.len() && node.right.is_empty() {
             let Node { left, entry, .. } = node.into_inner();
             *self = left;
@@ -101,16 +99,13 @@ impl<K: Ord + Clone, V: Clone> Node<K, V> {
         if self.on(high).height() <= self.on(side).height() {
             return Ok(None);
         }
-        let Some(mut child) = self.take(alloc, high)? else {
-            unreachable!()
-        };
+        let mut child = self.take(alloc, high)?.unwrap();
         if child.on(side).height() <= child.on(high).height() {
             self.rotate(high, child);
             return Ok(None);
         }
         match child.take(alloc, side) {
-            Ok(Some(inner)) => Ok(Some((child, inner))),
-            Ok(None) => unreachable!(),
+            Ok(inner) => Ok(Some((child, inner.unwrap()))),
             Err(refused) => {
                 self.put(high, child);
                 Err(refused)

@@ -18,11 +18,11 @@ pub(crate) struct Tree<K: Ord, V> {
 #[derive(Drop)]
 pub(crate) struct Node<K: Ord, V> {
     pub(crate) len: usize,
-    pub(crate) left: Tree<K, V>,
-    pub(crate) entry: (K, V),
-    pub(crate) right: Tree<K, V>,
-    // Last, since it takes a word: so a search reads fewer lines of the cache.
     pub(crate) height: u8,
+    // In this order a search finds the key and the way on from it in one line of the cache, mostly.
+    pub(crate) left: Tree<K, V>,
+    pub(crate) right: Tree<K, V>,
+    pub(crate) entry: (K, V),
 }
 
 impl<K: Ord, V> Model for Tree<K, V> {

@@ -13,7 +13,7 @@ use Rattle.persistent.proofs.tree.Tree.+modify.Goals.{in-Less, in-Equal, in-Grea
 pub change-requires : goal.change-requires
 change-requires g t c =
     let n = c.deref_mut-in-Equal.result.now in
-    let same = rw c.in-Some.is at c.in_ok-node.ensures.same in
+    let same = rw c.unwrap-node.ensures at c.in_ok-take.ensures.same in
     let all : entries_of n ≡ c.args.self.now.0 =
     ap (λ x. entries_of x) c.deref_mut-in-Equal.ensures.value ∙ ap (λ d. d.0) same in
     let here : c.args.index ≡ length n.left.0 = grind (arith, common_steps) in
@@ -26,7 +26,7 @@ returns-clause-changed g t c =
     let i = c.args.index in
     let old = c.args.self.now.0 in
     let new = c.put.new.self.0 in
-    let same = rw c.in-Some.is at c.in_ok-node.ensures.same in
+    let same = rw c.unwrap-node.ensures at c.in_ok-take.ensures.same in
     elim c.match-cmp.branch [
       | in-Less w ↦
           let n = w.deref_mut.result.now in

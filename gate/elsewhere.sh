@@ -7,7 +7,7 @@ cd "$(dirname "$0")/.."
 here=$PWD tree=$(mktemp -d)
 trap 'rm -rf "$tree"' EXIT
 mkdir "$tree/.git" && ./copy_crates "$tree" first_example uses || exit 1
-(cd "$tree/crates/first_example" && rt check --jobs 1 | tail -1) || exit 1
+(cd "$tree" && rt ci | tail -1) || exit 1
 cd "$tree" && sed -i -E '/^pub fn \w+_elsewhere/s/\bu32\b/std::cell::Cell<u32>/g' crates/uses/src/crossing.rt
 refused=$(timeout 100 rt all check --jobs 1 2>&1 | grep -c 'the trait bound `UnsafeCell<u32>: Sync` is not satisfied')
 mkdir -p third/{.git,crates/bounds/src} && cd third && cp ../HANDLES . && echo 'bounds:' >crates.txt && cd crates/bounds

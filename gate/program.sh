@@ -7,17 +7,11 @@ folder=$(mktemp -d)
 trap 'rm -rf "$folder"' EXIT
 
 passed=0 failed=0
-
 # holds WHAT COMMAND.. : counts it.
 holds() {
     local what=$1
     shift
-    if "$@"; then
-        passed=$((passed + 1))
-    else
-        failed=$((failed + 1))
-        echo "arcbench: $what" >&2
-    fi
+    "$@" && passed=$((passed + 1)) || { failed=$((failed + 1)) && echo "arcbench: $what" >&2; }
 }
 
 # printed STATUS OUTPUT ERRORS ARGUMENTS.. : whether the program ends so on what comes from standard input.
@@ -51,29 +45,32 @@ little_memory() {
     [[ $? = 5 && $(<"$folder/errors") = 'fault: memory' && ! -s $folder/output ]]
 }
 holds "refused memory does not end with 5 and its line" little_memory
-full_errors() {
-    "$program" core 0 </dev/null 2>/dev/full
-    [[ $? = 1 ]]
-}
+full_errors() { "$program" core 0 </dev/null 2>/dev/full; [[ $? = 1 ]]; }
 holds "a failed write to standard error changes the status" full_errors
 
 # Arguments. A word that is not UTF-8, or too long to be right, is a wrong one at each place, and ends no list.
-right=(core 2 3 7)
-for ((place = 0; place < 4; place++)); do
-    for word in '' $'\xff' 1$'\xff' "$(printf '1%.0s' {1..1000})" '1 ' ' 1' +1 -1 01 0x1 1.0 core1 CORE 4294967296 99999999999999999999; do
-        words=("${right[@]:0:place}" "$word" "${right[@]:place+1:3-place-1}")
-        want 1 '' "$wrong" "${words[@]}" </dev/null
+for right in 'core 2 3 7' 'table 3 7'; do
+    right=($right)
+    for ((place = 0; place < ${#right[@]}; place++)); do
+        after=("${right[@]:place+1}")
+        for word in '' $'\xff' 1$'\xff' core$'\xc3' $'\xef\xbc\x91' "$(printf '1%.0s' {1..1000})" '1 ' ' 1' '1 1' ' ' +1 -1 01 0x1 1.0 \
+            core1 CORE 4294967296 9999999999 10000000000 99999999999999999999; do
+            want 1 '' "$wrong" "${right[@]:0:place}" "$word" "${after[@]:0:${#after[@]} ? ${#after[@]} - 1 : 0}" </dev/null
+        done
     done
 done
 want 1 '' "$wrong" </dev/null
-for words in core 'core 1 0' 'core 1 1 1' 'core 1001' 'table 1001' 'table 1 1' 'table 1 1 1' 'table' --help; do
-    want 1 '' "$wrong" $words </dev/null
+for words in 1 core 'core 0' 'core 0 1' 'core 1 0' 'core 1 1 1' 'core 1001' table 'table 00' 'table 1001' 'table 1 1' --help; do
+    want 1 '' "$wrong" $words </
 done
-for limit in 2 12 123 1234 12345 123456 1234567 12345678 123456789 1234567890 4294967295; do
-    want 0 'pending\n' '' core 1 "$limit" < <(printf 'clone 0 0\n')
-done
-want 0 'full\n' '' core 1 1 < <(printf 'clone 0 0\n')
-want 0 'pending\nborn 1\nfull\n' '' core 1 2 < <(printf 'clone 0 0\nraise 0\nclone 0 0\n')
+for limit in 1234567 98765432 123456789 4294967295; do want 0 'pending\n' '' core 1 $limit <<<'clone 0 0'; done
+# So many handles there are, and no more.
+reached() {
+    { yes $'clone 0 0\nraise 0' | head -$((2 * $1 - 2)); printf 'load 0 %s\nclone 0 0\n' $(($1 - 1)); } |
+        "$program" core 1 "$1" | tail -2 | cmp -s - <(printf 'value 5\nfull\n')
+}
+for limit in 1 2 9 10 100 1024 65536 123456; do holds "a limit of $limit" reached $limit; done
+want 0 'barred\n' '' core 1000 < <(printf 'load 999 0\n')
 want 0 'empty\nno slot\n' '' table 1000 < <(printf 'get 999\nget 1000\n')
 
 echo "program: $passed runs as told, $failed not"

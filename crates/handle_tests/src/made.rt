@@ -1,8 +1,0 @@
-// A handle that a test begins with.
-use servo_arc::Arc;
-use std::process::Abort;
-use test_support::ok;
-
-pub fn arc_of<T: Drop>(rt: &(impl Abort + AllocGlobal), value: T) -> Arc<T> {
-    ok!(rt, Arc::new(rt.alloc(), value))
-}

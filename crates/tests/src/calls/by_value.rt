@@ -1,0 +1,41 @@
+// What a handle has by its value: order and hash.
+use crate::support::made::arc_of;
+use crate::support::{ok, same};
+use servo_arc::Arc;
+use std::collections::HashMap;
+use std::process::Abort;
+
+#[test]
+fn a_map_is_keyed_by_handles(rt: HostRuntime) {
+    let mut map = HashMap::new(rt.alloc());
+    ok!(&rt, map.insert(arc_of(&rt, 7u32), 1u8));
+    same!(&rt, map.get(&arc_of(&rt, 7)).copied(), Some(1));
+    same!(&rt, map.get(&arc_of(&rt, 8)).copied(), None);
+}
+
+fn handles_of(rt: &(impl Abort + AllocGlobal), numbers: &[u32]) -> Vec<Arc<u32>> {
+    let mut handles = Vec::new(rt.alloc());
+    for number in numbers {
+        ok!(rt, handles.push(arc_of(rt, *number)));
+    }
+    handles
+}
+
+#[test]
+fn handles_are_sorted(rt: HostRuntime) {
+    let mut handles = handles_of(&rt, &[3, 1, 2]);
+    ok!(&rt, handles.sort());
+    let text = ok!(&rt, format!(in rt.alloc(); "{handles:?}"));
+    same!(&rt, text.as_str(), "[1, 2, 3]");
+}
+
+#[test]
+fn a_handle_of_a_default_or_of_a_value(rt: HostRuntime) {
+    let zero = ok!(&rt, Arc::<u32>::try_default(rt.alloc()));
+    let nine = ok!(&rt, Arc::from_value(rt.alloc(), 9u32));
+    same!(
+        &rt,
+        (*zero, zero.is_unique(), *nine, nine.is_unique()),
+        (0, true, 9, true),
+    );
+}

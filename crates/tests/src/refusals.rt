@@ -1,0 +1,12 @@
+//! Tests in which one request for memory is refused: `gate/refused_memory.sh` refuses each of a test in turn. A test
+//! holds whichever it is, and reports what it came to. `outcomes.txt` has what all of them may come to, and have to.
+
+mod builders;
+mod counts;
+mod makers;
+mod reporting;
+mod shapes;
+mod steps;
+mod table_calls;
+mod trees;
+mod versions;

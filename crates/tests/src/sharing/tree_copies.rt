@@ -1,0 +1,116 @@
+// How many values a change copies, and what it drops. A node that a change makes out of an old one has a copy of its
+// value.
+use crate::sharing::orders::Order;
+use crate::support::counted::{Counted, Tally};
+use crate::support::{again, ok, same, same_at};
+use persistent::{List, TreeMap};
+use std::alloc::{AllocError, Global};
+
+const KEYS: u64 = 1000;
+
+type Map<'a> = TreeMap<u64, Counted<'a>>;
+
+// A map of the first even keys.
+fn evens<'a>(alloc: Global, tally: &'a Tally, order: Order) -> Result<Map<'a>, AllocError> {
+    let mut map = TreeMap::new();
+    for place in 0..KEYS {
+        let key = order.key(place, KEYS);
+        map.insert(alloc, 2 * key, Counted::new(tally, key))?;
+    }
+    Ok(map)
+}
+
+// How many values there are, if so many were made by no copy.
+fn living(tally: &Tally, made: u64) -> u64 {
+    tally
+        .copies()
+        .wrapping_add(made)
+        .wrapping_sub(tally.drops())
+}
+
+const ORDERS: [Order; 3] = [Order::Rising, Order::Falling, Order::Inward];
+
+// Every change is in place if the version shares nothing, whatever rotations it takes.
+#[test]
+fn a_lone_version_copies_nothing(rt: HostRuntime) {
+    for order in ORDERS {
+        let tally = Tally::new();
+        let mut map = ok!(&rt, evens(rt.alloc(), &tally, order));
+        let before = tally.drops();
+        ok!(&rt, map.insert(rt.alloc(), 0, Counted::new(&tally, 9)));
+        let replaced = tally.drops();
+        for key in 0..KEYS {
+            drop(ok!(&rt, map.remove(rt.alloc(), &(2 * key))));
+        }
+        let drops = [before, replaced, tally.drops()];
+        same_at!(
+            &rt,
+            order,
+            (drops, tally.copies(), map.len()),
+            ([0, 1, KEYS + 1], 0, 0),
+        );
+    }
+}
+
+#[test]
+fn an_insert_copies_its_path_alone(rt: HostRuntime) {
+    for order in ORDERS {
+        let tally = Tally::new();
+        let map = ok!(&rt, evens(rt.alloc(), &tally, order));
+        let depth = u64::from(map.depth());
+        for key in 0..2 * KEYS {
+            let (copies, before) = (tally.copies(), living(&tally, 0));
+            let mut version = again!(&rt, &map);
+            ok!(
+                &rt,
+                version.insert(rt.alloc(), key, Counted::new(&tally, key))
+            );
+            let copied = tally.copies().wrapping_sub(copies);
+            let kept = living(&tally, 0).wrapping_sub(before);
+            drop(version);
+            let is_gone = living(&tally, 1) == before;
+            same_at!(
+                &rt,
+                (order, key),
+                (kept <= depth, copied <= depth, is_gone),
+                (true, true, true),
+            );
+        }
+        drop(map);
+    }
+}
+
+// On average a removal copies no more than 20 values: 2 log2 of the keys.
+const MOST_COPIES: u64 = 20 * KEYS;
+
+// Both versions have all the nodes but those on the path, and each value ends with the last version that has it.
+#[test]
+fn a_value_ends_with_its_last_version(rt: HostRuntime) {
+    let tally = Tally::new();
+    let old = ok!(&rt, evens(rt.alloc(), &tally, Order::Inward));
+    let (copies, mut new) = (tally.copies(), again!(&rt, &old));
+    for key in 0..KEYS {
+        drop(ok!(&rt, new.remove(rt.alloc(), &(2 * key))));
+    }
+    let is_little = tally.copies().wrapping_sub(copies) <= MOST_COPIES;
+    let emptied = living(&tally, KEYS);
+    ok!(&rt, new.insert(rt.alloc(), 1, Counted::new(&tally, 1)));
+    drop(old);
+    let left = living(&tally, KEYS + 1);
+    drop(new);
+    let lives = [emptied, left, living(&tally, KEYS + 1)];
+    same!(&rt, (is_little, lives), (true, [KEYS, 1, 0]));
+}
+
+#[test]
+fn a_list_copies_nothing(rt: HostRuntime) {
+    let tally = Tally::new();
+    let old = ok!(&rt, List::new().push(rt.alloc(), Counted::new(&tally, 1)));
+    let new = ok!(&rt, old.push(rt.alloc(), Counted::new(&tally, 2)));
+    let copy = again!(&rt, &new);
+    drop(new);
+    drop(old);
+    let kept = (tally.drops(), copy.len());
+    drop(copy);
+    same!(&rt, (kept, tally.drops(), tally.copies()), ((0, 2), 2, 0),);
+}

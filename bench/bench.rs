@@ -7,6 +7,10 @@
 //! of this file's own that makes the port's four steps, each `SeqCst`, in Rust, to tell what they cost by themselves.
 //! Versions of a list are also in `plain`, a `Vec` that each version copies.
 
+// What is linked after it lies 16 bytes further.
+#[cfg(moved)]
+std::arch::global_asm!(".section .text.skip, \"axR\"", ".skip 16");
+
 /// What each of the three pointers runs.
 macro_rules! peers {
     ($servo:expr, $std:expr, $word:expr) => {

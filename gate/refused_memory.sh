@@ -5,7 +5,6 @@
 set -u
 cd "$(dirname "$0")/.."
 program=crates/tests/out/tests_tests
-expected=crates/tests/outcomes.txt
 folder=$(mktemp -d)
 trap 'rm -rf "$folder"' EXIT
 
@@ -41,7 +40,7 @@ printf '%s\n' 'new 0 5' 'clone 0 1' 'makemut 0 9' 'own 1' 'get 0' 'get 1' >"$fol
     outcomes_of 'arcbench table' "$folder/commands" crates/arcbench/out/arcbench table 2
 } >"$folder/runs"
 LC_ALL=C sort -u "$folder/runs" >"$folder/came"
-grep -v '^#' "$expected" | LC_ALL=C sort -u >"$folder/expected"
+grep -v '^#' crates/tests/outcomes.txt | LC_ALL=C sort -u >"$folder/expected"
 
 diff "$folder/expected" "$folder/came" >"$folder/differ"
 # A builder makes two requests at most, and one if its items take no room.

@@ -1,6 +1,6 @@
 #!/usr/bin/env bash
 # Runs the built program as a user does: each exit status, what is printed where, and arguments that are hard to read.
-set -u
+set -uo pipefail
 cd "$(dirname "$0")/.."
 program=crates/arcbench/out/arcbench
 folder=$(mktemp -d)
@@ -27,7 +27,6 @@ want() { holds "${*@Q}: another status, or other texts" printed "$@"; }
 
 wrong='fault: arguments\n'
 steps='unique 0 0\ndrop 0 0\nlower 0\n'
-
 # Each status.
 want 0 'is true\npending\ngiven up 5\n' '' core 1 < <(printf "$steps")
 want 0 '' '' table 0 </dev/null
@@ -53,25 +52,26 @@ for right in 'core 2 3 7' 'table 3 7'; do
     right=($right)
     for ((place = 0; place < ${#right[@]}; place++)); do
         after=("${right[@]:place+1}")
-        for word in '' $'\xff' 1$'\xff' core$'\xc3' $'\xef\xbc\x91' "$(printf '1%.0s' {1..1000})" '1 ' ' 1' '1 1' ' ' +1 -1 01 0x1 1.0 \
-            core1 CORE 4294967296 9999999999 10000000000 99999999999999999999; do
-            want 1 '' "$wrong" "${right[@]:0:place}" "$word" "${after[@]:0:${#after[@]} ? ${#after[@]} - 1 : 0}" </dev/null
+        for word in '' $'\xff' 1$'\xff' core$'\xc3' $'\xef\xbc\x91' "$(printf '1%.0s' {1..1000})" "$(printf '01%.0s' {1..35})" '1 ' ' 1' \
+            '1 1' ' ' +1 -1 01 0x1 1.0 core1 CORE Core Table 4294967296 9999999999 10000000000 99999999999999999999; do
+            want 1 '' "$wrong" "${right[@]:0:place}" "$word" </
+            want 1 '' "$wrong" "${right[@]:0:place}" "$word" "${after[@]:0:${#after[@]} ? ${#after[@]} - 1 : 0}" </
         done
     done
 done
-want 1 '' "$wrong" </dev/null
-for words in 1 core 'core 0' 'core 0 1' 'core 1 0' 'core 1 1 1' 'core 1001' table 'table 00' 'table 1001' 'table 1 1' --help; do
+for words in '' 1 core 'core 0' 'core 0 1' 'core 1 0' 'core 1 1 1' 'core 1001' table 'table 00' 'table 1001' 'table 1 0' \
+    'table 1 1' 'table 1 1 1' --help; do
     want 1 '' "$wrong" $words </
 done
-for limit in 1234567 98765432 123456789 4294967295; do want 0 'pending\n' '' core 1 $limit <<<'clone 0 0'; done
-# So many handles there are, and no more.
-reached() {
-    { yes $'clone 0 0\nraise 0' | head -$((2 * $1 - 2)); printf 'load 0 %s\nclone 0 0\n' $(($1 - 1)); } |
-        "$program" core 1 "$1" | tail -2 | cmp -s - <(printf 'value 5\nfull\n')
+# limited LIMIT CLONES ANSWER : whether the last of so many clones is read, and one more is answered so.
+limited() {
+    { yes $'clone 0 0\nraise 0' | head -$((2 * $2)); printf 'load 0 %s\nclone 0 0\n' "$2"; } |
+        "$program" core 1 "$1" 2>&1 | tail -2 | cmp -s - <(printf 'value 5\n%s\n' "$3")
 }
-for limit in 1 2 9 10 100 1024 65536 123456; do holds "a limit of $limit" reached $limit; done
+for limit in 1 2 9 10 100 1024 65536 123456; do holds "a limit of $limit" limited $limit $((limit - 1)) full; done
+for limit in 1234567 98765432 123456789 4294967295; do holds "a limit of $limit" limited $limit 9999 pending; done
 want 0 'barred\n' '' core 1000 < <(printf 'load 999 0\n')
 want 0 'empty\nno slot\n' '' table 1000 < <(printf 'get 999\nget 1000\n')
-
+holds "another name" bash -c 'exec -a other "$0" table 1' "$program" </dev/null
 echo "program: $passed runs as told, $failed not"
 ((failed == 0))

@@ -90,6 +90,11 @@ def workloads_of(bench):
     return found
 
 
+def places(program):
+    """Where the program was linked: as it is, and 16 bytes further."""
+    return [place for place in (program, program + ".moved") if os.path.exists(place)]
+
+
 class Workload:
     """One workload, as each program runs it."""
 
@@ -103,21 +108,22 @@ class Workload:
         """Chooses the place where this program is faster."""
         program, *words = self.commands[who]
         taken = {}
-        for place in filter(os.path.exists, (program, program + ".moved")):
+        for place in places(program):
             self.commands[who] = [place, *words]
             taken[place] = least([self.run(who, self.iterations) for _ in range(3)])
         self.commands[who] = [min(taken, key=taken.get), *words]
 
     def wrong(self):
         """What is wrong with the program's checksum, or None."""
-        few = [str(min(self.iterations, 1000))]
-        found = {}
-        for who, command in self.commands.items():
-            done, _ = timed(command + few)
-            found[who] = done.stdout if done.returncode == 0 else None
-        if found["program"] is None:
+        few = str(min(self.iterations, 1000))
+        found = {who: set() for who in self.commands}
+        for who, (program, *words) in self.commands.items():
+            for place in places(program):
+                done, _ = timed([place, *words, few])
+                found[who].add(done.stdout if done.returncode == 0 else None)
+        if None in found["program"]:
             return "does not run"
-        return None if len(set(found.values())) == 1 else "has another checksum"
+        return None if len(set.union(*found.values())) == 1 else "has another checksum"
 
     def run(self, who, iterations):
         return Run(*(timed(self.commands[who] + [str(count)])[1] for count in (0, iterations)))

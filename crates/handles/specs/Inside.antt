@@ -1,5 +1,5 @@
-pub mod Rows
 -- What contracts inside the crate cite, and no public one.
+pub mod Rows
 pub mod BlockWriteBack
 pub mod Blocks
 pub mod ItemsLending

@@ -125,7 +125,7 @@ impl<T> Arc<T> {
     /// either way: two threads that compare two blocks from opposite ends at once may both hear `true`.
     ///
     /// It never looks at the counts and takes no wait. It adds to a word of the block that nothing else uses: at most
-    /// 64 rounds of three atomic steps, 4 rounds for one block that nobody else asks about, 1 for two.
+    /// 64 rounds of three atomic steps, 2 rounds for one block that nobody else asks about, 1 for two.
     pub fn ptr_eq(this: &Arc<T>, other: &Arc<T>) -> bool {
         this.handle.has_block_of(&other.handle)
     }

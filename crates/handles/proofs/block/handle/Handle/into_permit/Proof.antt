@@ -1,4 +1,4 @@
--- `into_gain` takes the block of a handle that is known to be the only one.
+-- `into_permit` makes the permit of a handle that is known to be the only one: it has the right to the whole block.
 use Rattle.handles.proofs.Walks.{pick, permit_owns, use1, ◌≡◌, ℕ, Bool, true, [], ◌∷◌, refl, ‵, ◌$◌, !, by, keep}
 use Rattle.handles.proofs.Walks.{fjoin, use0, rewrite, stop, fld, of_opd, no_more, and_then, returns, alloc_all}
 use Rattle.handles.proofs.Walks.{pass_all, free_all, look_at, get, get_in, sets, agg, sub, whole, fact, RattleType}

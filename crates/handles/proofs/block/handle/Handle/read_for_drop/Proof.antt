@@ -1,4 +1,4 @@
--- `leave` is the load by which a handle ends.
+-- `read_for_drop` is the load by which a handle ends.
 use Rattle.handles.proofs.Walks.{◌≡◌, ℕ, ◌+◌, false, [], ◌∷◌, refl, sym, ap, lit<, via, Lft, Share, Fml, ftrue, flft}
 use Rattle.handles.proofs.Walks.{‵, ◌⊛◌, later, ◌$◌, !, by, keep, drop, split, fsplit, fsplit3, fpick, use1, use2}
 use Rattle.handles.proofs.Walks.{await, stop, fld, addr, lit, of_opd, no_more, and_then, first, blocks, Calls-last}

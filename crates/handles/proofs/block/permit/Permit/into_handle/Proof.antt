@@ -1,4 +1,4 @@
--- `into_handle` makes the handle that was granted.
+-- `into_handle` makes the handle that the permit has the right to.
 use Rattle.handles.proofs.Walks.{drop, ◌≡◌, ℕ, false, [], ◌∷◌, refl, ‵, ◌$◌, !, by, keep, fsplit, rewrite, stop, fld}
 use Rattle.handles.proofs.Walks.{of_opd, no_more, and_then, returns, alloc_all, pass_all, free_all, look_at, get}
 use Rattle.handles.proofs.Walks.{get_in, sets, agg, sub, whole, fact, RattleType, Ptr, param, Right, HeldRow}

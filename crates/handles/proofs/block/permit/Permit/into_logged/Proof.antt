@@ -1,4 +1,4 @@
--- `into_logged` keeps of a gain that its step is in the log.
+-- `into_logged` keeps of a permit only that its step is in the log.
 use Rattle.handles.proofs.Walks.{ℕ, List, [], ◌∷◌, refl, ‵, ◌$◌, !, by, move, keep, drop, fsplit, fjoin, use0}
 use Rattle.handles.proofs.Walks.{no_more, returns, alloc_all, pass_all, free_all, look_at, sets, agg, RattleType, Ptr}
 use Rattle.handles.proofs.Walks.{param, one_word-Good, by_value, permit_worded, so, also, vstruct, vnil, WordStep}

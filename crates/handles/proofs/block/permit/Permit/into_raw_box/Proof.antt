@@ -1,4 +1,4 @@
--- `into_loose` takes a block that nobody shares, with the allocator that it was requested from.
+-- `into_raw_box` takes a block that nobody shares, with the allocator that it was requested from.
 use Rattle.handles.proofs.Walks.{◌≡◌, ℕ, ◌+◌, [], ◌∷◌, refl, ap, Val, vptr, full_share, fat, ‵, ◌⊛◌, some, given, ◌$◌}
 use Rattle.handles.proofs.Walks.{ !, by, move, keep, drop, split, fsplit, fsplit3, fjoin3, fpick, pick, learn, use1}
 use Rattle.handles.proofs.Walks.{use2, rewrite, stop, fld, load, of_opd, no_more, and_then, first, blocks, returns}

@@ -1,6 +1,6 @@
 -- The read by which a handle ends, and what every step by a handle's holder has. Assumes `Logic`.
 use Rattle.handles.proofs.Asking as asking
-use Rattle.handles.proofs.Steps.Turns.{turns_last}
+use Rattle.handles.proofs.Steps.Turns.{turns_drop_read}
 use Rattle.handles.proofs.Steps.Stepped.{Turns, stepped, unknown}
 use Rattle.handles.proofs.Steps.Shared.{◌≡◌, ℕ, ◌^◌, ◌<◌, Bool, true, false, [], ◌∷◌, ap, if◌then◌else◌, Ura, SProp}
 use Rattle.handles.proofs.Steps.Shared.{ent, never, Share, Fml, fsep, flft, Logic, sem, ‵, ◌$◌, ◌∵◌, !, qed, by}
@@ -18,8 +18,8 @@ a_stake s y e = fsep (entitled s.names e y) (flft (shared s) e)
 abbrev pub after_drop_read : SharedBlock → ℕ → Fml
 after_drop_read s w = grants s (right_by_drop_read w)
 
-abbrev bare_last_read : SharedBlock → ℕ → Fml
-bare_last_read s w = granted s (right_by_drop_read w)
+abbrev bare_drop_read : SharedBlock → ℕ → Fml
+bare_drop_read s w = granted s (right_by_drop_read w)
 
 module _ {M : Type 1} {𝓤 : Ura M} (𝓛 : Logic 𝓤) (s : SharedBlock) where
   no_stake : ent 𝓤 (sem 𝓛 (fsep (unshared s.names) (title s.names))) (never 𝓤)
@@ -50,29 +50,29 @@ module _ {M : Type 1} {𝓤 : Ura M} (𝓛 : Logic 𝓤) (s : SharedBlock) where
   pub drop_reads : Asks 𝓛 s (λ w. w) (fsep ftrue (stake s.names)) (and_logged s [] reads_for_drop (after_drop_read s))
   drop_reads = held_step reads_for_drop (λ w. w) (λ w _. refl) (after_drop_read s)
       (λ w. passed s (right_by_drop_read w))
-      (turns_last 𝓛 s)
+      (turns_drop_read 𝓛 s)
       (λ j mark y e w n small holds. passes_on 𝓛 s w mark n (a_stake s y e) (passed s (right_by_drop_read w))
-      (bare_last_read s w) (after_drop_read s w) j (id⊢ 𝓤 _) (at j mark y e w n holds))
+      (bare_drop_read s w) (after_drop_read s w) j (id⊢ 𝓤 _) (at j mark y e w n holds))
     where
       right_is : (w : ℕ) (y : Bool)
           → is_marked_word w ≡ y → right_by_drop_read w ≡ (if y then nothing else to_lower)
       right_is w y e = ap (λ z. if z then nothing else to_lower) e
 
       at : (j : ℕ) (mark y : Bool) (e : Share) (w n : ℕ) → StandsWithin s.limit w mark n
-          → Lands 𝓛 s w mark n (a_stake s y e) (bare_last_read s w) j
+          → Lands 𝓛 s w mark n (a_stake s y e) (bare_drop_read s w) j
       at j false true e w n holds = qed 𝓛 (‵ (counts s w) ∷ ‵ (beside s false n)
           ∷ ‵ (entitled s.names e true)
           ∷ ‵ (flft (shared s) e) ∷ []) ∵ use2 𝓛 (‵ (rule s)) (lives 𝓛 s false w n holds) $ move ! (1 ∷ []) $
           fpick ! (λ c. drop ! $ move ! (1 ∷ []) $
           use1 𝓛 (‵ (unit_of_count s.names)) (part_in 64 𝓛 s.names.shared e c) $
-          use1 𝓛 (‵ (bare_last_read s w)) (regranted 𝓛 s to_lower (right_by_drop_read w)
+          use1 𝓛 (‵ (bare_drop_read s w)) (regranted 𝓛 s to_lower (right_by_drop_read w)
           (right_is w false holds.0.same_mark)) $ move ! (1 ∷ 0 ∷ []) $
-          by ! (asking.closes 𝓛 (rule s) (bare_last_read s w) j))
+          by ! (asking.closes 𝓛 (rule s) (bare_drop_read s w) j))
       at j false false e w n holds = qed 𝓛 (‵ (counts s w) ∷ ‵ (beside s false n) ∷ ‵ (a_stake s false e)
           ∷ []) ∵
           keep ! (1 ∷ 2 ∷ []) $ by ! (not_yet_marked e n _)
       at j true y e w n holds = qed 𝓛 (‵ (counts s w) ∷ ‵ (beside s true n) ∷ ‵ (a_stake s y e) ∷ []) ∵
           use2 𝓛 (‵ (rule s)) (lives 𝓛 s true w n holds) $ keep ! (0 ∷ []) $ nothing_more ! $
-          use1 𝓛 (‵ (bare_last_read s w)) (regranted 𝓛 s nothing (right_by_drop_read w)
+          use1 𝓛 (‵ (bare_drop_read s w)) (regranted 𝓛 s nothing (right_by_drop_read w)
           (right_is w true holds.0.same_mark)) $ move ! (1 ∷ 0 ∷ []) $
-          by ! (asking.closes 𝓛 (rule s) (bare_last_read s w) j)
+          by ! (asking.closes 𝓛 (rule s) (bare_drop_read s w) j)

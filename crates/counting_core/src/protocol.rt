@@ -33,7 +33,7 @@ impl<V> Model for Core<V> {
 }
 
 impl<V: Copy> Core<V> {
-    ghost use Rattle.std.specs.Prelude.{◌≡◌, ◌<◌, ◌⊎◌, IfOk, IfErr, OnErr};
+    ghost use Rattle.std.specs.Prelude.{◌≡◌, ◌<◌, ◌⊎◌, [], IfOk, IfErr, IsOk, OnErr};
     ghost use Rattle.counting_word.specs.CountingWord.{IsLimit};
     ghost use Rattle.counting_core.specs.Trace.{Trace, Open};
     ghost use Rattle.counting_core.specs.Represents.{Represents, Continues, ContinuesAll};
@@ -85,6 +85,7 @@ impl<V: Copy> Core<V> {
         ensures ran { IfOk result (λ answers.
             ContinuesAll self.old steps.now answers.items self.new) }
         ensures refused { OnErr result (self.new ≡ self.old) }
+        ensures empty { steps.now ≡ [] → IsOk result }
     {
         let mut answers = Vec::with_capacity(self.alloc, steps.len())?;
         for step in steps {

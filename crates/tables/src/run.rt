@@ -1,5 +1,5 @@
 //! Runs of commands, for every kind of table.
-ghost use Rattle.std.specs.Prelude.{◌≡◌, All, IfOk, OnErr, ⊤};
+ghost use Rattle.std.specs.Prelude.{◌≡◌, [], All, IfOk, IsOk, OnErr, ⊤};
 ghost use Rattle.tables.specs.Runs.{IsAmong, Means, Run};
 
 use crate::commands::Reply;
@@ -30,6 +30,7 @@ pub fn run<S: Serve<C>, C: Drop>(
     ensures ok { IfOk result (λ replies.
         Run S.meaning commands.items table.old replies.items table.new) }
     ensures err { OnErr result (table.new ≡ table.old) }
+    ensures empty { commands.items ≡ [] → IsOk result }
 {
     let mut replies = Vec::with_capacity(alloc, commands.len())?;
     for command in commands {

@@ -1,5 +1,5 @@
 //! A table of `Arc`s.
-ghost use Rattle.std.specs.Prelude.{◌≡◌, IfOk, IsTrue, OnErr, slice_get};
+ghost use Rattle.std.specs.Prelude.{◌≡◌, [], IfOk, IsOk, IsTrue, OnErr, slice_get};
 ghost use Rattle.std.specs.List.{list_any};
 ghost use Rattle.std.specs.Option.{option_copied, option_flatten};
 ghost use Rattle.handles.specs.Copies.{CopiesAreEqual};
@@ -58,6 +58,7 @@ impl<T: PartialEq + Drop> Slots<Arc<T>> {
         ensures ok { IfOk result (λ replies.
             Run (plain_outcomes_of T.eq) commands.items self.old replies.items self.new) }
         ensures err { OnErr result (self.new ≡ self.old) }
+        ensures empty { commands.items ≡ [] → IsOk result }
     {
         run(self, alloc, commands)
     }
@@ -114,6 +115,7 @@ impl<T: Clone + PartialEq> Slots<Arc<T>> {
         ensures ok { IfOk result (λ replies.
             Run (outcomes_of T.eq) commands.items self.old replies.items self.new) }
         ensures err { OnErr result (self.new ≡ self.old) }
+        ensures empty { commands.items ≡ [] → IsOk result }
     {
         run(self, alloc, commands)
     }

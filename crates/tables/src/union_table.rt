@@ -1,5 +1,5 @@
 //! A table of `ArcUnion`s.
-ghost use Rattle.std.specs.Prelude.{◌≡◌, IfOk, OnErr, option_map, slice_get};
+ghost use Rattle.std.specs.Prelude.{◌≡◌, [], IfOk, IsOk, OnErr, option_map, slice_get};
 ghost use Rattle.std.specs.Option.{option_flatten};
 ghost use Rattle.handles.specs.UnionHandles.{borrowed_union};
 ghost use Rattle.tables.specs.UnionTableModel.{union_outcomes_of};
@@ -78,6 +78,7 @@ impl<A: PartialEq + Drop, B: PartialEq + Drop> Slots<ArcUnion<A, B>> {
         ensures ok { IfOk result (λ replies.
             Run (union_outcomes_of A.eq B.eq) commands.items self.old replies.items self.new) }
         ensures err { OnErr result (self.new ≡ self.old) }
+        ensures empty { commands.items ≡ [] → IsOk result }
     {
         run(self, alloc, commands)
     }

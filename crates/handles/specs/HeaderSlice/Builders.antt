@@ -15,7 +15,7 @@ module _ {S A : Type 0} (steps : S → Option A → S → Type 0) (source : S) (
   abbrev pub TakesUpTo : S → ItemsInRoom A → Type 0
   TakesUpTo after taken = GivesRight steps source n after taken.items
 
-  -- if memory is refused, the iterator was not asked at all
+  -- what the iterator has become when a refusal comes: by `Memory` it was not asked at all
   abbrev pub RefusesUpTo : S → BuildError → Type 0
   RefusesUpTo after Memory = after ≡ source
   RefusesUpTo after OverReported = GivesFewer steps source n after
@@ -24,6 +24,7 @@ module _ {S A : Type 0} (steps : S → Option A → S → Type 0) (source : S) (
   abbrev pub IsBuilt : {H : Type 0} → H → HeaderAndItems H A → Type 0
   IsBuilt header slice = (after : S) × IsBuiltUpTo after header slice
 
+  -- A public builder keeps no iterator that its caller could ask about. So of `Memory` this says nothing.
   abbrev pub Refuses : BuildError → Type 0
   Refuses refusal = (after : S) × RefusesUpTo after refusal
 

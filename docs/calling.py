@@ -1,7 +1,7 @@
 #!/usr/bin/env python3
-"""Quotes each public call with its contract from the source, in each block of a crates/NAME/CALLING.md that names folders
-of source, as ```text cow_table/src. With --check it writes nothing, and ends with 1 if a block is not up to date, or does
-not name what it quotes."""
+"""Quotes each public call with its contract from the source, in each block of a crates/NAME/CALLING.md that names
+folders of source, as ```text cow_table/src. With --check it writes nothing, and ends with 1 if a block is not up to
+date, or does not name what it quotes."""
 import re
 import sys
 from pathlib import Path

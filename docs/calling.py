@@ -1,12 +1,14 @@
 #!/usr/bin/env python3
-"""Quotes each public call with its contract from the source, in each block of a crates/NAME/CALLING.md that names folders
-of source, as ```text cow_table/src. With --check it writes nothing, and ends with 1 if a block is not up to date."""
+"""Quotes each public call with its contract from the source, in each block of a crates/NAME/CALLING.md that names
+folders of source, as ```text cow_table/src. With --check it writes nothing, and ends with 1 if a block is not up to
+date, or does not name what it quotes."""
 import re
 import sys
 from pathlib import Path
 
 CRATES = Path(__file__).resolve().parent.parent / "crates"
 BLOCK = re.compile(r"```text ((?:\w+/src ?)+)\n.*?```", re.S)
+HEAD = re.compile(r"text(?: \w+/src)+|rust \S+")
 FUNCTION = re.compile(r"^( *)(pub )?(?:unsafe |const )?fn (.*)$")
 CLAUSE = re.compile(r" (requires|ensures\*?)( \w+)? \{ ?")
 
@@ -52,8 +54,8 @@ def main():
         new = BLOCK.sub(lambda block: "\n".join([f"```text {block[1]}", *calls(block[1].split()), "```"]), text)
         if "--check" not in sys.argv:
             page.write_text(new)
-        elif new != text:
-            old.append(f"{page.parent.name}/CALLING.md: the contracts are not those of the source")
+        elif new != text or not all(map(HEAD.fullmatch, re.findall("^```(.*)", text, re.M)[::2])):
+            old.append(f"{page.parent.name}/CALLING.md: a block is not that of the source")
     sys.exit("\n".join(old) or None)
 
 

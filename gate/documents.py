@@ -3,8 +3,11 @@
 
 - each file and heading that a link leads to is there, and if the link's text is code, the file has each of its names;
 - a block of Rust names a file, as ```rust crates/first_example/src/main.rt, in which it stands as it is. One that names
-  none is of docs/DECISIONS.md, and the checker refuses it: gate/elsewhere.sh.
+  none is of docs/DECISIONS.md, and the checker refuses it: gate/elsewhere.sh;
+- what a command prints on an example, as after `# prints:`, is what the example's expected lines say;
+- docs/SPEED.md and docs/speed.svg show the figures of bench/measured.tsv.
 """
+import csv
 import re
 import subprocess
 import sys
@@ -12,6 +15,8 @@ from pathlib import Path
 
 ROOT = Path(__file__).resolve().parent.parent
 LINK = re.compile(r"\[((?:[^\]\[]|\[[^\]]*\])+)\]\(([^)\s]+)\)")
+REFERENCE = re.compile(r"\]\[|^ *\[[^\]]+\]:", re.M)
+PRINTS = re.compile(r"< examples/(\w+)\.\w+ +# prints: (.*)")
 QUOTE = re.compile(r"```rust ?(\S*)\n(.*?)```", re.S)
 
 
@@ -38,19 +43,49 @@ def wrong_link(document, label, target):
 
 def wrong_in(document):
     text = document.read_text()
-    for label, target in LINK.findall(re.sub(r"```.*?```", "", text, flags=re.S)):
+    prose = re.sub(r"```.*?```", "", text, flags=re.S)
+    if REFERENCE.search(re.sub(r"`[^`]*`", "", prose)):
+        yield "a link has its target elsewhere, where nothing checks it"
+    for label, target in LINK.findall(prose):
         if not re.match(r"[a-z]+:", target) and (wrong := wrong_link(document, label, target)):
             yield f"[{label}]({target}): {wrong}"
     for file, quoted in QUOTE.findall(text):
         source = ROOT / file if file or document.name != "DECISIONS.md" else document
         if not source.is_file() or quoted not in source.read_text():
             yield f"not in {file or 'a file that is named'}: {quoted.splitlines()[0]}"
+    for name, printed in PRINTS.findall(text):
+        expected = (ROOT / "examples" / f"{name}.expected").read_text().splitlines()
+        if printed != ", ".join(expected):
+            yield f"the example {name} prints {', '.join(expected)}"
+
+
+def is_shown(row, ratio, word, goal, verdict):
+    """Whether a line of docs/SPEED.md has the figures of a workload, rounded, and its verdict."""
+    def rounded(figure):
+        return {f"{float(figure) + off:.2f}" for off in (-0.0005, 0.0005)} if figure else {"-"}
+
+    told = verdict if verdict in ("met", "missed") else "at the goal"
+    is_near = ratio in rounded(row["ratio"]) and word in rounded(row["word_ratio"])
+    return is_near and (goal, told) == (row["goal"], row["verdict"])
+
+
+def wrong_speed():
+    with open(ROOT / "bench" / "measured.tsv", encoding="utf-8", newline="") as file:
+        rows = {row["workload"]: row for row in csv.DictReader(file, delimiter="\t")}
+    lines = [re.split(r"[ |]{2,}", line.strip("| ")) for line in (ROOT / "docs" / "SPEED.md").read_text().splitlines()]
+    shown = {line[0]: line[1:] for line in lines if line[0] in rows and len(line) == 5}
+    yield from (name for name, row in rows.items() if name not in shown or not is_shown(row, *shown[name]))
+    plot = ["bench/plot.py", "bench/measured.tsv", "--goals", "bench/goals.tsv"]
+    drawn = subprocess.run(plot, cwd=ROOT, capture_output=True, text=True, check=True).stdout
+    if drawn != (ROOT / "docs" / "speed.svg").read_text():
+        yield "speed.svg"
 
 
 def main():
     listed = subprocess.run(["git", "ls-files", "*.md"], cwd=ROOT, capture_output=True, text=True, check=True)
     documents = [ROOT / name for name in listed.stdout.split()]
     wrong = [f"{document.relative_to(ROOT)}: {line}" for document in documents for line in wrong_in(document)]
+    wrong += [f"docs/SPEED.md: not as measured: {name}" for name in wrong_speed()]
     print("\n".join([*wrong, f"documents: {len(documents)}, {len(wrong)} wrong"]))
     return 1 if wrong else 0
 

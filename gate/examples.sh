@@ -1,6 +1,7 @@
 #!/usr/bin/env bash
 # Runs each script of examples/, with the limit that stands beside it if one does: it prints what the file beside it has,
-# just the blocks that it marks are never freed, and under valgrind, if that is installed, no freed memory is read.
+# just the blocks that it marks are never freed, and under valgrind, if that is installed, no freed memory is read. No
+# expected lines and no limit stand there without a script.
 set -u
 cd "$(dirname "$0")/../examples"
 program=../crates/arcbench/out/arcbench
@@ -28,5 +29,6 @@ for script in *.core *.table; do
     ! command -v valgrind >/dev/null || valgrind -q --error-exitcode=99 "$program" "${words[@]}" <"$script" >"$folder/output" ||
         wrong "reads freed memory"
 done
+for script in *.expected *.limit; do [[ -f ${script%.*}.core || -f ${script%.*}.table ]] || wrong "has no script"; done
 echo "examples: $count, $failed times something else"
 ((failed == 0))

@@ -1,8 +1,9 @@
 #!/usr/bin/env python3
-"""Runs `arcbench` on 2000 random scripts, right and broken ones, or as many as its first argument says, by the seed that
-the second gives. It compares what is printed with reference models that are written here from examples/README.md: a core
-that knows live handles and no word, and a table whose slots share blocks. It ends at the first script that differs.
+"""Runs `arcbench` on random scripts, right and broken ones. It compares what is printed with reference models that are
+written here from examples/README.md: a core that knows live handles and no word, and a table whose slots share blocks.
+It ends at the first script that differs.
 """
+import argparse
 import random
 import subprocess
 import sys
@@ -219,6 +220,12 @@ class Table:
         return chance.choice([0, 7, GREATEST_NUMBER, chance.randrange(GREATEST_NUMBER)])
 
 
+class TableBeside(Table):
+    """A table without the call that the ported crate does not have."""
+
+    LINES = {word: numbers for word, numbers in Table.LINES.items() if word != "intounique"}
+
+
 def broken(line, chance):
     """A line that is none of the language, by one fault."""
     word, *numbers = line.split(b" ")
@@ -243,29 +250,41 @@ def play(machine, chance):
     return b"\n".join(lines) + b"\n" * (chance.random() < 0.8), answers, 0
 
 
-def draw(chance):
+def draw(chance, is_beside):
     """The words of a call, and the machine that it opens."""
-    if chance.random() < 0.6:
+    if not is_beside and chance.random() < 0.6:
         owners, limit = chance.choice([1, 2, 3, 5]), chance.choice([None, 1, 2, 3, 4])
         return ["core", str(owners)] + [str(limit)] * (limit is not None), Core(owners, limit or GREATEST_LIMIT)
     slots = chance.choice([0, 1, 2, 3, 5])
-    return ["table", str(slots)], Table(slots)
+    return ["table", str(slots)], (TableBeside if is_beside else Table)(slots)
+
+
+def arguments():
+    parser = argparse.ArgumentParser(description=__doc__, formatter_class=argparse.RawDescriptionHelpFormatter)
+    parser.add_argument("scripts", nargs="?", type=int, default=2000)
+    parser.add_argument("seed", nargs="?", type=int, default=random.randrange(2**32))
+    parser.add_argument("--beside", metavar="PROGRAM", help="compares scripts of a table, and none of a core, with what"
+                        " this program prints too: OUT/script of bench/build_peers.sh, over the ported crate's `Arc`")
+    return parser.parse_args()
 
 
 def main():
-    scripts = int(sys.argv[1]) if len(sys.argv) > 1 else 2000
-    seed = int(sys.argv[2]) if len(sys.argv) > 2 else random.randrange(2**32)
-    chance = random.Random(seed)
-    for number in range(scripts):
-        words, machine = draw(chance)
+    asked = arguments()
+    chance = random.Random(asked.seed)
+    programs = [PROGRAM, asked.beside] if asked.beside else [PROGRAM]
+    for number in range(asked.scripts):
+        words, machine = draw(chance, asked.beside)
         script, answers, status = play(machine, chance)
-        ran = subprocess.run([PROGRAM, *words], input=script, capture_output=True)
-        wanted = "".join(answer + "\n" for answer in answers).encode()
-        if (ran.stdout, ran.stderr, ran.returncode) != (wanted, b"", status):
-            print(f"fuzz: script {number} of seed {seed} differs: arcbench {' '.join(words)}")
-            print(f"-- script\n{script!r}\n-- wanted {status}\n{wanted!r}\n-- got {ran.returncode}\n{ran.stdout!r}{ran.stderr!r}")
-            return 1
-    print(f"fuzz: {scripts} scripts of seed {seed} are answered as by the reference models")
+        wanted = ("".join(answer + "\n" for answer in answers).encode(), b"", status)
+        for program in programs:
+            ran = subprocess.run([program, *words], input=script, capture_output=True)
+            got = (ran.stdout, ran.stderr, ran.returncode)
+            if got != wanted:
+                print(f"fuzz: script {number} of seed {asked.seed} differs: {program} {' '.join(words)}")
+                print(f"-- script\n{script!r}\n-- wanted\n{wanted!r}\n-- got\n{got!r}")
+                return 1
+    beside = f" and by {asked.beside}" if asked.beside else ""
+    print(f"fuzz: {asked.scripts} scripts of seed {asked.seed} are answered as by the reference models{beside}")
     return 0
 
 

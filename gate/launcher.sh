@@ -1,70 +1,40 @@
 #!/usr/bin/env bash
-# Tries the launcher on a program of two small crates: by the toolchain from nothing, and then with a stand-in for `rt`.
+# Tries the launcher on a program of two small crates: by the toolchain from nothing, and then by a stand-in for `rt`,
+# whose program prints its sources and how many lines crates.txt has.
 set -u
-launcher=$PWD/$(dirname "$0")/../arcbench
 folder=$(mktemp -d)
 trap 'rm -rf "$folder"' EXIT
-cd "$folder" && cp "$launcher" small && mkdir -p .git crates/{low,small,other}/src
-echo 'Handles allowed: none.' >HANDLES
-printf '%s\n' '# Lowest first.' 'low:' 'other: low' 'small: low  # the program' >crates.txt
-printf '%s\n' '//! A number.' '#![tactic(auto)]' '' 'ghost use Rattle.std.specs.Prelude.{◌≡◌};' '' \
-    'pub fn number() -> u32' '    ensures { result ≡ 7 }' '{' '    7' '}' >crates/low/src/lib.rt
-cp crates/low/src/lib.rt crates/other/src/lib.rt
-printf '%s\n' '//! It is printed.' '#![tactic(auto)]' '' 'fn main(rt: HostRuntime) -> std::io::Result<()> {' \
+cp "$(dirname "$0")/../arcbench" "$folder/small" && cd "$folder" && ln -s "$PWD/small" link
+mkdir -p .git commands crates/{low,small,other}/src && echo 'Handles allowed: none.' >HANDLES
+printf '%s\n' 'small: low  # the program' 'low:' 'other: low' >crates.txt
+printf '%s\n' '#![tactic(auto)]' 'pub fn number() -> u32 {' '    7' '}' >crates/low/src/lib.rt
+printf '%s\n' '#![tactic(auto)]' 'fn main(rt: HostRuntime) -> std::io::Result<()> {' \
     '    println!(rt; "{}", low::number())' '}' >crates/small/src/main.rt
-
-passed=0 failed=0
-
+printf '%s\n' '#!/bin/sh' 'grep -rq wrong ../low && exit 1; [ "$1" = lib ] && exit; mkdir -p out' \
+    'echo echo $(cat ../low/*/* src/*; wc -l <../../crates.txt) >out/small; chmod +x out/small; exit 3' >commands/rt
+passed=0 failed=0 both=$'[1/2] low\n[2/2] small'
 # want WHAT STATUS OUTPUT ERRORS COMMAND.. : runs it. Errors are compared without their seconds.
 want() {
-    local what=$1 status=$2 output=$3 errors=$4 got told
-    shift 4
-    "$@" </dev/null >output 2>errors
-    got=$?
-    told=$(sed -E 's/: [0-9]+ s$//' errors)
-    if [[ $got = "$status" && $(<output) = "$output" && $told = "$errors" ]]; then
-        passed=$((passed + 1))
-    else
-        failed=$((failed + 1))
-        echo "launcher: $what: status $got, not $status, or other texts:" >&2
-        cat output errors >&2
-    fi
+    "${@:5}" </dev/null >output 2>errors
+    [[ $? = "$2" && $(<output) = "$3" && $(sed -E 's/: [0-9]+ s$//' errors) = "$4" ]] && ((++passed)) && return
+    ((++failed)) && echo "launcher: $1: another status than $2, or other texts:" >&2 && cat output errors >&2
 }
-
-both=$'[1/2] low\n[2/2] small'
-want "from nothing" 0 7 "$both" ./small
-want "current, without rt" 0 7 '' env PATH=/usr/bin:/bin ./small
-
-# As far as the launcher can tell, it proves and builds: a program then prints what its sources are.
-mkdir commands
-cat >commands/rt <<'END'
-#!/bin/sh
-grep -rq wrong ../*/src && exit 1; [ "$1" = lib ] && exit
-mkdir -p out && { echo '#!/bin/sh' && echo echo $(cat ../*/src/*); } >out/small && chmod +x out/small
-END
-chmod +x commands/rt
+after() { eval "$1" && want "$1" 0 "$2" "$both" ./small; }
+refused() { eval "$1" && want "$1" 125 '' "small: $2" ./small; }
+after 'rm -rf crates/*/out' 7
+after 'touch crates.txt' 7
+want "current, by a link from elsewhere" 0 7 '' sh -c 'cd / && PATH=/usr/bin:/bin "$0"' "$PWD/link"
+echo two >crates/small/src/main.rt && mkdir crates/low/{specs,proofs} && chmod +x commands/rt
+refused 'PATH=/usr/bin:/bin' "the toolchain's command rt is not there"
 PATH=$PWD/commands:$PATH
-sleep 1
-echo one >crates/low/src/lib.rt
-echo two >crates/small/src/main.rt
-want "a change, without rt" 125 '' "small: the toolchain's command rt is not there, which has to prove and build the program" \
-    env PATH=/usr/bin:/bin ./small
-want "a change, two at once" 0 'one two' "$both" sh -c './small >/dev/null & ./small && wait $!'
-ln -s "$PWD/small" "$folder/link"
-want "by a link, from another folder" 0 'one two' '' sh -c 'cd / && "$0"' "$folder/link"
-sleep 1
-echo wrong >crates/other/src/lib.rt
-want "a change elsewhere" 0 'one two' '' ./small
-echo three >crates/low/src/more.rt
-want "a file more" 0 'one three two' "$both" ./small
-sleep 1
-rm crates/low/src/more.rt
-want "a file less" 0 'one two' "$both" ./small
-sleep 1
-echo wrong >crates/low/src/lib.rt
-want "wrong" 125 '' "small: it cannot be proved and built: $PWD/out/small/*/crates/*/log say why" ./small
-rm -rf out && touch out
-want "no folder" 125 '' "small: cannot write to $PWD/out/small" ./small
-
-echo "launcher: $passed runs as told, $failed not"
-((failed == 0))
+after 'echo one >crates/low/src/lib.rt' 'one two 3'
+after 'echo spec >crates/low/specs/new' 'spec one two 3'
+after 'echo proof >crates/low/proofs/new' 'proof spec one two 3'
+after 'echo other >crates/low/specs/new' 'proof other one two 3'
+after 'rm crates/low/proofs/new' 'other one two 3'
+echo 'more:' >>crates.txt
+want "two starts at once" 0 'other one two 4' "$both" sh -c './small >/dev/null & ./small && wait $!'
+want "a change elsewhere" 0 'other one two 4' '' sh -c 'echo >crates/other/src/lib.rt; ./small'
+refused 'echo wrong >crates/low/src/lib.rt' "low cannot be proved and built: $PWD/crates/small/out/log says why"
+refused 'rm -r crates/small/out && touch crates/small/out' "cannot write to $PWD/crates/small/out"
+echo "launcher: $passed runs as told, $failed not" && ((failed == 0))

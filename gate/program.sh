@@ -59,19 +59,28 @@ for right in 'core 2 3 7' 'table 3 7'; do
         done
     done
 done
-for words in '' 1 core 'core 0' 'core 0 1' 'core 1 0' 'core 1 1 1' 'core 1001' table 'table 00' 'table 1001' 'table 1 0' \
-    'table 1 1' 'table 1 1 1' --help; do
+for words in '' 1 core 'core 0' 'core 0 1' 'core 1 0' 'core 1 1 1' table 'table 00' 'table 1 0' 'table 1 1' \
+    'table 1 1 1' --help; do
     want 1 '' "$wrong" $words </
 done
+# Each size: its last owner or slot is there, and the next one is not.
+sized() {
+    printed 0 "$2" '' core "$1" < <(printf 'lend 0 0 %d\n' $(($1 - 1)) "$1") &&
+        printed 0 'empty\nno slot\n' '' table "$1" < <(printf 'get %d\n' $(($1 - 1)) "$1")
+}
+holds "a size of 1" sized 1 'barred\nbarred\n'
+for size in {2..1000}; do holds "a size of $size" sized $size 'done\nbarred\n'; done
+for size in {1001..1100} 65537 4294967295; do
+    for kind in core table; do want 1 '' "$wrong" $kind $size </; done
+done
+want 0 'no slot\n' '' table 0 < <(printf 'get 0\n')
 # limited LIMIT CLONES ANSWER : whether the last of so many clones is read, and one more is answered so.
 limited() {
     { yes $'clone 0 0\nraise 0' | head -$((2 * $2)); printf 'load 0 %s\nclone 0 0\n' "$2"; } |
         "$program" core 1 "$1" 2>&1 | tail -2 | cmp -s - <(printf 'value 5\n%s\n' "$3")
 }
-for limit in 1 2 9 10 100 1024 65536 123456; do holds "a limit of $limit" limited $limit $((limit - 1)) full; done
+for limit in {1..300} 1000 1024 65536 123456; do holds "a limit of $limit" limited $limit $((limit - 1)) full; done
 for limit in 1234567 98765432 123456789 4294967295; do holds "a limit of $limit" limited $limit 9999 pending; done
-want 0 'barred\n' '' core 1000 < <(printf 'load 999 0\n')
-want 0 'empty\nno slot\n' '' table 1000 < <(printf 'get 999\nget 1000\n')
 holds "another name" bash -c 'exec -a other "$0" table 1' "$program" </dev/null
 echo "program: $passed runs as told, $failed not"
 ((failed == 0))

@@ -1,4 +1,5 @@
 pub mod State
+pub mod Actions
 pub mod Permitted
 pub mod Trace
 pub mod ReferenceModel

@@ -1,50 +1,45 @@
 //! What each step makes of a core.
 ghost use Rattle.std.specs.Prelude.{◌≡◌};
-ghost use Rattle.counting_core.specs.Permitted.{owner_of};
+ghost use Rattle.counting_core.specs.Actions.{step_of, step_on};
 ghost use Rattle.counting_core.specs.Represents.{activity, IsReached};
 ghost use Rattle.counting_core.specs.ByWord.{IsPermitted, FollowsWord};
 
+use crate::action::{Action, HandleAction};
 use crate::activity::Activity;
 use crate::handle_entry::{Access, push_newborn};
 use crate::protocol::Core;
-use crate::step::{Answer, Step};
+use crate::step::Answer;
 use counting_word::{
     ClonePlan, DropPlan, is_alone, is_last, is_marked, plan_clone, plan_drop, with_mark,
 };
 
 impl<V: Copy> Core<V> {
-    // What a step does depends on what its owner is in the middle of.
-    pub(crate) fn advance(&mut self, step: Step<V>) -> Answer<V>
+    // What an owner may do depends on what it is in the middle of.
+    pub(crate) fn step_by_word(&mut self, owner: usize, action: Action<V>) -> Answer<V>
         ensures reached { IsReached self.old }
-        ensures word { FollowsWord self.old step result self.new }
+        ensures word { FollowsWord self.old (step_of owner action) result self.new }
     {
-        let owner = step.owner();
         if owner >= self.owners.len() {
             return Answer::Barred;
         }
-        match self.owners[owner] {
-            Activity::Idle => {
-                if self.permits(&step) {
-                    self.act(step)
+        match (self.owners[owner], action) {
+            (Activity::Idle, Action::Use(handle, action)) => {
+                if self.permits(owner, handle, action) {
+                    self.step_when_idle(owner, handle, action)
                 } else {
                     Answer::Barred
                 }
             }
-            Activity::Cloning { handle, seen } => match step {
-                Step::Raise { .. } => self.raise(owner, handle, seen),
-                Step::Quit { .. } => self.quit(owner),
-                _ => Answer::Barred,
-            },
-            Activity::Dropping { handle } => match step {
-                Step::Lower { .. } => self.lower(owner, handle),
-                _ => Answer::Barred,
-            },
+            (Activity::Cloning { handle, seen }, Action::Raise) => self.raise(owner, handle, seen),
+            (Activity::Cloning { .. }, Action::Quit) => self.quit(owner),
+            (Activity::Dropping { handle }, Action::Lower) => self.lower(owner, handle),
+            _ => Answer::Barred,
         }
     }
 
     fn clone_handle(&mut self, owner: usize, handle: usize) -> Answer<V>
-        requires { IsPermitted self.old (Step.Clone owner handle) }
-        ensures { FollowsWord self.old (Step.Clone owner handle) result self.new }
+        requires { IsPermitted self.old (step_on owner handle HandleAction.Clone) }
+        ensures { FollowsWord self.old (step_on owner handle HandleAction.Clone) result self.new }
     {
         match plan_clone(self.word, self.limit) {
             ClonePlan::Static => match push_newborn(&mut self.handles, self.alloc, owner) {
@@ -62,9 +57,9 @@ impl<V: Copy> Core<V> {
 
     // A compare-exchange from the word that the owner saw last. One that fails has read the word anew.
     fn raise(&mut self, owner: usize, handle: usize, seen: u64) -> Answer<V>
-        requires allowed { IsPermitted self.old (Step.Raise owner) }
+        requires allowed { IsPermitted self.old (step_of owner Action.Raise) }
         requires cloning { activity self.old owner ≡ Activity.Cloning handle seen }
-        ensures { FollowsWord self.old (Step.Raise owner) result self.new }
+        ensures { FollowsWord self.old (step_of owner Action.Raise) result self.new }
     {
         let next = match plan_clone(self.word, self.limit) {
             ClonePlan::Static => self.word,
@@ -93,16 +88,16 @@ impl<V: Copy> Core<V> {
     }
 
     fn quit(&mut self, owner: usize) -> Answer<V>
-        requires { IsPermitted self.old (Step.Quit owner) }
-        ensures { FollowsWord self.old (Step.Quit owner) result self.new }
+        requires { IsPermitted self.old (step_of owner Action.Quit) }
+        ensures { FollowsWord self.old (step_of owner Action.Quit) result self.new }
     {
         self.owners[owner] = Activity::Idle;
         Answer::Quit
     }
 
     fn drop_handle(&mut self, owner: usize, handle: usize) -> Answer<V>
-        requires { IsPermitted self.old (Step.Drop owner handle) }
-        ensures { FollowsWord self.old (Step.Drop owner handle) result self.new }
+        requires { IsPermitted self.old (step_on owner handle HandleAction.Drop) }
+        ensures { FollowsWord self.old (step_on owner handle HandleAction.Drop) result self.new }
     {
         match plan_drop(self.word) {
             DropPlan::Static => {
@@ -117,9 +112,9 @@ impl<V: Copy> Core<V> {
     }
 
     fn lower(&mut self, owner: usize, handle: usize) -> Answer<V>
-        requires allowed { IsPermitted self.old (Step.Lower owner) }
+        requires allowed { IsPermitted self.old (step_of owner Action.Lower) }
         requires dropping { activity self.old owner ≡ Activity.Dropping handle }
-        ensures { FollowsWord self.old (Step.Lower owner) result self.new }
+        ensures { FollowsWord self.old (step_of owner Action.Lower) result self.new }
     {
         let old = self.word;
         self.word = old - 1;
@@ -132,39 +127,52 @@ impl<V: Copy> Core<V> {
         }
     }
 
-    // A step of an owner that has nothing in flight.
-    fn act(&mut self, step: Step<V>) -> Answer<V>
-        requires allowed { IsPermitted self.old step }
-        requires idle { activity self.old (owner_of step) ≡ Activity.Idle }
-        ensures { FollowsWord self.old step result self.new }
+    // What an owner that has nothing in flight does with a handle.
+    fn step_when_idle(&mut self, owner: usize, handle: usize, action: HandleAction<V>) -> Answer<V>
+        requires allowed { IsPermitted self.old (step_on owner handle action) }
+        requires idle { activity self.old owner ≡ Activity.Idle }
+        ensures { FollowsWord self.old (step_on owner handle action) result self.new }
     {
         let alone = is_alone(self.word);
-        match step {
-            Step::Clone { owner, handle } => self.clone_handle(owner, handle),
-            Step::Drop { owner, handle } => self.drop_handle(owner, handle),
-            Step::Mark { .. } => {
+        match action {
+            HandleAction::Clone => self.clone_handle(owner, handle),
+            HandleAction::Drop => self.drop_handle(owner, handle),
+            HandleAction::Mark => {
                 self.word = with_mark(self.word);
                 Answer::Marked
             }
-            Step::Unique { .. } => Answer::Is(alone),
-            Step::Static { .. } => Answer::Is(is_marked(self.word)),
-            Step::GetMut { handle, .. } => {
-                self.handles[handle].take(alone, Access::Written, Answer::Alone)
+            HandleAction::Unique => Answer::Is(alone),
+            HandleAction::Static => Answer::Is(is_marked(self.word)),
+            HandleAction::GetMut if alone => {
+                self.handles[handle].use_as(Access::Written);
+                Answer::Alone
             }
-            Step::IntoUnique { handle, .. } => {
-                self.handles[handle].take(alone, Access::Sole, Answer::Sole)
+            HandleAction::IntoUnique if alone => {
+                self.handles[handle].use_as(Access::Sole);
+                Answer::Sole
             }
-            Step::Load { .. } => Answer::Value(self.value),
-            Step::Write { value, .. } => {
+            HandleAction::GetMut | HandleAction::IntoUnique => Answer::Shared,
+            HandleAction::Load => Answer::Value(self.value),
+            HandleAction::Write(value) => {
                 self.value = value;
                 Answer::Done
             }
-            Step::EndWrite { handle, .. } | Step::Share { handle, .. } =>
-                self.handles[handle].share(),
-            Step::Lend { handle, to, .. } => self.handles[handle].lend_to(to),
-            Step::Return { owner, handle } => self.handles[handle].take_back_from(owner),
-            Step::Give { handle, to, .. } => self.handles[handle].give_to(to),
-            Step::Raise { .. } | Step::Quit { .. } | Step::Lower { .. } => Answer::Barred,
+            HandleAction::EndWrite | HandleAction::Share => {
+                self.handles[handle].use_as(Access::Shared);
+                Answer::Done
+            }
+            HandleAction::Lend(to) => match self.handles[handle].lend_to(to) {
+                Ok(()) => Answer::Done,
+                Err(_) => Answer::Memory,
+            },
+            HandleAction::Return => {
+                self.handles[handle].take_back_from(owner);
+                Answer::Done
+            }
+            HandleAction::Give(to) => {
+                self.handles[handle].give_to(to);
+                Answer::Done
+            }
         }
     }
 }

@@ -1,11 +1,10 @@
 //! What is known of a handle that was born.
-ghost use Rattle.std.specs.Prelude.{◌≡◌, ◌++◌, ◌∷◌, [], length, false, true, if◌then◌else◌};
-ghost use Rattle.std.specs.Prelude.{◌⊎◌, IfSome, IfNone};
+ghost use Rattle.std.specs.Prelude.{◌≡◌, ◌++◌, ◌∷◌, [], length, false, true};
+ghost use Rattle.std.specs.Prelude.{IfSome, IfNone, OnOk, OnErr};
 ghost use Rattle.counting_core.specs.State.{newborn, lent_to, returned_by};
 ghost use Rattle.counting_core.specs.Permitted.{holds, is_lent_to, is_shared, may_use, may_take, is_writing, has_sole};
 
-use crate::step::Answer;
-use std::alloc::Global;
+use std::alloc::{AllocError, Global};
 use std::collections::BTreeSet;
 use std::marker::Model;
 
@@ -111,58 +110,31 @@ impl HandleEntry {
         self.lives = false;
     }
 
-    /// Lets it be used as any other again.
-    pub(crate) fn share<V: Copy>(&mut self) -> Answer<V>
-        ensures answer { result ≡ Answer.Done }
-        ensures shared { self.new ≡ record self.old { access = Access.Shared } }
+    pub(crate) fn use_as(&mut self, access: Access)
+        ensures { self.new ≡ record self.old { access = access } }
     {
-        self.access = Access::Shared;
-        Answer::Done
+        self.access = access;
     }
 
-    /// Sets the access and answers `taken` if the handle is alone. Otherwise answers that the block is shared.
-    pub(crate) fn take<V: Copy>(
-        &mut self,
-        alone: bool,
-        access: Access,
-        taken: Answer<V>,
-    ) -> Answer<V>
-        ensures answer { result ≡ (if alone then taken else Answer.Shared) }
-        ensures taken { self.new ≡ (if alone then record self.old { access = access } else self.old) }
-    {
-        if alone {
-            self.access = access;
-            taken
-        } else {
-            Answer::Shared
-        }
-    }
-
-    pub(crate) fn give_to<V: Copy>(&mut self, owner: usize) -> Answer<V>
-        ensures answer { result ≡ Answer.Done }
-        ensures given { self.new ≡ record self.old { holder = owner } }
+    pub(crate) fn give_to(&mut self, owner: usize)
+        ensures { self.new ≡ record self.old { holder = owner } }
     {
         self.holder = owner;
-        Answer::Done
     }
 
-    /// Lends it, or answers that memory was refused.
-    pub(crate) fn lend_to<V: Copy>(&mut self, owner: usize) -> Answer<V>
-        ensures { ((result ≡ Answer.Done) × (self.new ≡ lent_to self.old owner))
-            ⊎ ((result ≡ Answer.Memory) × (self.new ≡ self.old)) }
+    /// An `Err` lent nothing.
+    pub(crate) fn lend_to(&mut self, owner: usize) -> Result<(), AllocError>
+        ensures lent { OnOk result (self.new ≡ lent_to self.old owner) }
+        ensures refused { OnErr result (self.new ≡ self.old) }
     {
-        match self.borrowers.insert(owner) {
-            Ok(_) => Answer::Done,
-            Err(_) => Answer::Memory,
-        }
+        self.borrowers.insert(owner)?;
+        Ok(())
     }
 
-    pub(crate) fn take_back_from<V: Copy>(&mut self, owner: usize) -> Answer<V>
-        ensures answer { result ≡ Answer.Done }
-        ensures returned { self.new ≡ returned_by self.old owner }
+    pub(crate) fn take_back_from(&mut self, owner: usize)
+        ensures { self.new ≡ returned_by self.old owner }
     {
         self.borrowers.remove(&owner);
-        Answer::Done
     }
 }
 

@@ -8,6 +8,7 @@
 #![tactic(auto)]
 
 mod acting;
+mod action;
 mod activity;
 mod handle_entry;
 pub mod laws;

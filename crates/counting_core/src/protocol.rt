@@ -76,7 +76,8 @@ impl<V: Copy> Core<V> {
             → self.new ≡ self.old }
         ensures word { FollowsWord self.old step result self.new }
     {
-        self.advance(step)
+        let (owner, action) = step.apart();
+        self.step_by_word(owner, action)
     }
 
     /// The answers of the steps, in order. Their room is reserved first, so an `Err` did nothing.

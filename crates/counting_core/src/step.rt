@@ -1,6 +1,7 @@
 //! The steps of the owners of a block, and what they are answered.
 ghost use Rattle.std.specs.Prelude.{◌≡◌, ⊤};
 
+use crate::action::{Action, HandleAction};
 use std::alloc::AllocError;
 
 /// A step of `owner`, mostly on `handle`. Owners and handles are numbers from 0 on; a handle has the
@@ -141,29 +142,47 @@ impl<V: Copy> Clone for Step<V> {
 }
 
 impl<V: Copy> Step<V> {
-    ghost use Rattle.counting_core.specs.Permitted.{handle_of, owner_of};
+    ghost use Rattle.counting_core.specs.Permitted.{owner_of};
+    ghost use Rattle.counting_core.specs.Actions.{step_of};
 
-    // The owner whose step it is, and the handle that it is on. A raise, a quit and a lower go on with what is in
-    // flight, and are on none.
-    fn addressed(&self) -> (usize, Option<usize>)
-        ensures { result ≡ (owner_of self.now, handle_of self.now) }
+    // Its owner, and what that does.
+    pub(crate) fn apart(self) -> (usize, Action<V>)
+        ensures { step_of result.0 result.1 ≡ self }
     {
-        match *self {
-            Step::Raise { owner } | Step::Quit { owner } | Step::Lower { owner } => (owner, None),
-            Step::Clone { owner, handle }
-            | Step::Drop { owner, handle }
-            | Step::Mark { owner, handle }
-            | Step::Unique { owner, handle }
-            | Step::Static { owner, handle }
-            | Step::GetMut { owner, handle }
-            | Step::Write { owner, handle, .. }
-            | Step::EndWrite { owner, handle }
-            | Step::IntoUnique { owner, handle }
-            | Step::Share { owner, handle }
-            | Step::Load { owner, handle }
-            | Step::Lend { owner, handle, .. }
-            | Step::Return { owner, handle }
-            | Step::Give { owner, handle, .. } => (owner, Some(handle)),
+        match self {
+            Step::Raise { owner } => (owner, Action::Raise),
+            Step::Quit { owner } => (owner, Action::Quit),
+            Step::Lower { owner } => (owner, Action::Lower),
+            Step::Clone { owner, handle } => (owner, Action::Use(handle, HandleAction::Clone)),
+            Step::Drop { owner, handle } => (owner, Action::Use(handle, HandleAction::Drop)),
+            Step::Mark { owner, handle } => (owner, Action::Use(handle, HandleAction::Mark)),
+            Step::Unique { owner, handle } => (owner, Action::Use(handle, HandleAction::Unique)),
+            Step::Static { owner, handle } => (owner, Action::Use(handle, HandleAction::Static)),
+            Step::GetMut { owner, handle } => (owner, Action::Use(handle, HandleAction::GetMut)),
+            Step::Write {
+                owner,
+                handle,
+                value,
+            } => (owner, Action::Use(handle, HandleAction::Write(value))),
+            Step::EndWrite { owner, handle } => (
+                owner,
+                Action::Use(handle, HandleAction::EndWrite),
+            ),
+            Step::IntoUnique { owner, handle } => (
+                owner,
+                Action::Use(handle, HandleAction::IntoUnique),
+            ),
+            Step::Share { owner, handle } => (owner, Action::Use(handle, HandleAction::Share)),
+            Step::Load { owner, handle } => (owner, Action::Use(handle, HandleAction::Load)),
+            Step::Lend { owner, handle, to } => (
+                owner,
+                Action::Use(handle, HandleAction::Lend(to)),
+            ),
+            Step::Return { owner, handle } => (owner, Action::Use(handle, HandleAction::Return)),
+            Step::Give { owner, handle, to } => (
+                owner,
+                Action::Use(handle, HandleAction::Give(to)),
+            ),
         }
     }
 
@@ -171,12 +190,6 @@ impl<V: Copy> Step<V> {
     pub fn owner(&self) -> usize
         ensures { result ≡ owner_of self.now }
     {
-        self.addressed().0
-    }
-
-    pub(crate) fn handle(&self) -> Option<usize>
-        ensures { result ≡ handle_of self.now }
-    {
-        self.addressed().1
+        self.apart().0
     }
 }

@@ -4,7 +4,7 @@
 //! the call that read it, so that all who share a word decide by the same rules.
 #![tactic(auto)]
 
-ghost use Rattle.std.specs.Prelude.{◌≡◌};
+ghost use Rattle.std.specs.Prelude.{◌≡◌, ◌+◌, IfSome, IfNone, false};
 ghost use Rattle.counting_word.specs.CountingWord.{is_marked_word, is_one_handle, marked_word, IsLimit, IsWithin};
 ghost use Rattle.counting_word.specs.Plans.{clone_plan, drop_plan};
 
@@ -69,12 +69,24 @@ pub fn plan_clone(word: u64, limit: u64) -> ClonePlan
     ensures { result ≡ clone_plan word limit }
 {
     if is_marked(word) {
-        ClonePlan::Static
-    } else if word == limit {
-        ClonePlan::Full
-    } else {
-        ClonePlan::Raise(word + 1)
+        return ClonePlan::Static;
     }
+    match raised(word, limit) {
+        Some(next) => ClonePlan::Raise(next),
+        None => ClonePlan::Full,
+    }
+}
+
+/// The word to which a clone raises this one, which has no mark, or nothing if its count is at its limit.
+#[inline]
+pub fn raised(word: u64, limit: u64) -> Option<u64>
+    requires limit { IsLimit limit }
+    requires within { IsWithin word limit }
+    requires unmarked { is_marked_word word ≡ false }
+    ensures raise { IfSome result (λ next. (next ≡ word + 1) × (clone_plan word limit ≡ ClonePlan.Raise next)) }
+    ensures full { IfNone result (clone_plan word limit ≡ ClonePlan.Full) }
+{
+    if word == limit { None } else { Some(word + 1) }
 }
 
 /// What a drop that read this word does next.

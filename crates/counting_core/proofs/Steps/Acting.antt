@@ -181,41 +181,17 @@ module _ {V : Type 0} (f : CoreState V) where
       at false one = effect f _ (Lower o) Ended may (ap₂ (λ b w. (if b then GivenUp f.value else Ended, w))
           (sym one) left) same refl (length-set f.handles h new) refl
 
-    -- what is written back as it was
-    same-new : new ≡ k → with_new ≡ f
-    same-new now = ap (λ (l : List HandleState). record f { handles = l })
-        (ap (set f.handles h) (now ∙ was) ∙ set-get_or f.handles h k)
-
-    -- a step that takes a handle, if it is the only one
-    takes : (s : Step V) (access : Access) (taken a : Answer V) (alone : Bool) → alone ≡ is_one_handle f.word
-        → a ≡ (if alone then taken else Shared) → new ≡ (if alone then record k { access = access } else k)
-        → (is_one_handle f.word ≡ true → new ≡ record k { access = access } → FollowsWord f s taken with_new)
-        → (is_one_handle f.word ≡ false → FollowsWord f s Shared f) → FollowsWord f s a with_new
-    takes s access taken a true one answer now only others =
-        subst (λ x. FollowsWord f s x with_new) (sym answer) (only (sym one) now)
-    takes s access taken a false one answer now only others =
-        subst (λ x. FollowsWord f s x with_new) (sym answer)
-        (subst (λ d. FollowsWord f s Shared d) (sym (same-new now)) (others (sym one)))
-
-    pub gets : (a : Answer V) (alone : Bool) → alone ≡ is_one_handle f.word → a ≡ (if alone then Alone else Shared)
-        → new ≡ (if alone then record k { access = Written } else k) → IsPermitted f (GetMut o h)
-        → FollowsWord f (GetMut o h) a with_new
-    gets a alone one answer now may = takes (GetMut o h) Written Alone a alone one answer now
-        (λ e written. edits f h (λ s. record s { access = Written }) k new was written
+    pub gets : is_one_handle f.word ≡ true → new ≡ record k { access = Written } → IsPermitted f (GetMut o h)
+        → TakesEffect f (GetMut o h) Alone with_new
+    gets one now may = edits f h (λ s. record s { access = Written }) k new was now
         (taken-lives (handle f h) o (begun (state_of f) (GetMut o h) may refl).1) (GetMut o h) Alone may
-        (ap (λ b. (if b then Alone else Shared, f.word)) (sym e)) refl refl refl)
-        (λ e. effect f f (GetMut o h) Shared may (ap (λ b. (if b then Alone else Shared, f.word)) (sym e)) refl refl
-        refl refl)
+        (ap (λ b. (if b then Alone else Shared, f.word)) (sym one)) refl refl refl
 
-    pub owns : (a : Answer V) (alone : Bool) → alone ≡ is_one_handle f.word → a ≡ (if alone then Sole else Shared)
-        → new ≡ (if alone then record k { access = SoleAccess } else k) → IsPermitted f (IntoUnique o h)
-        → FollowsWord f (IntoUnique o h) a with_new
-    owns a alone one answer now may = takes (IntoUnique o h) SoleAccess Sole a alone one answer now
-        (λ e sole. edits f h (λ s. record s { access = SoleAccess }) k new was sole
+    pub owns : is_one_handle f.word ≡ true → new ≡ record k { access = SoleAccess } → IsPermitted f (IntoUnique o h)
+        → TakesEffect f (IntoUnique o h) Sole with_new
+    owns one now may = edits f h (λ s. record s { access = SoleAccess }) k new was now
         (taken-lives (handle f h) o (begun (state_of f) (IntoUnique o h) may refl).1) (IntoUnique o h) Sole may
-        (ap (λ b. (if b then Sole else Shared, f.word)) (sym e)) refl refl refl)
-        (λ e. effect f f (IntoUnique o h) Shared may (ap (λ b. (if b then Sole else Shared, f.word)) (sym e)) refl
-        refl refl refl)
+        (ap (λ b. (if b then Sole else Shared, f.word)) (sym one)) refl refl refl
 
     pub ends_write : new ≡ record k { access = SharedAccess } → IsPermitted f (EndWrite o h)
         → TakesEffect f (EndWrite o h) Done with_new
@@ -229,14 +205,19 @@ module _ {V : Type 0} (f : CoreState V) where
         (and_parts _ _ (and_parts _ _ (and_parts _ _ (begun (state_of f) (Share o h) may refl).1).0).0).0 (Share o h)
         Done may refl refl refl refl
 
-    pub lends : (to : ℕ) (a : Answer V) → ((a ≡ Done) × (new ≡ lent_to k to)) ⊎ ((a ≡ Memory) × (new ≡ k))
-        → IsPermitted f (Lend o h to) → FollowsWord f (Lend o h to) a with_new
-    lends to a (inl (answer, now)) may = subst (λ x. FollowsWord f (Lend o h to) x with_new) (sym answer)
-        (edits f h (λ s. lent_to s to) k new was now
+    pub lends : (to : ℕ) → new ≡ lent_to k to → IsPermitted f (Lend o h to) → TakesEffect f (Lend o h to) Done with_new
+    lends to now may = edits f h (λ s. lent_to s to) k new was now
         (and_parts _ _ (and_parts _ _ (begun (state_of f) (Lend o h to) may refl).1).0).0 (Lend o h to) Done may refl
-        refl refl refl)
-    lends to a (inr (answer, now)) may = subst (λ x. FollowsWord f (Lend o h to) x with_new) (sym answer)
-        (may, refl, same-new now)
+        refl refl refl
+
+    -- what is written back as it was
+    pub lends_none : (to : ℕ) → new ≡ k → IsPermitted f (Lend o h to) → FollowsWord f (Lend o h to) Memory with_new
+    lends_none to now may = (
+      may,
+      refl,
+      ap (λ (l : List HandleState). record f { handles = l })
+          (ap (set f.handles h) (now ∙ was) ∙ set-get_or f.handles h k),
+    )
 
     pub returns : new ≡ returned_by k o → IsPermitted f (Return o h) → TakesEffect f (Return o h) Done with_new
     returns now may = edits f h (λ s. returned_by s o) k new was now

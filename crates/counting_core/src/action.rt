@@ -1,0 +1,32 @@
+//! What a step does, apart from whose it is.
+
+/// A step without its owner. A raise, a quit and a lower go on with what is in flight.
+#[derive(Clone, Copy)]
+pub(crate) enum Action<V> {
+    Raise,
+    Quit,
+    Lower,
+    /// What is done with the handle of this number.
+    Use(usize, HandleAction<V>),
+}
+
+/// What an owner that has nothing in flight does with a handle.
+#[derive(Clone, Copy)]
+pub(crate) enum HandleAction<V> {
+    Clone,
+    Drop,
+    Mark,
+    Unique,
+    Static,
+    GetMut,
+    Write(V),
+    EndWrite,
+    IntoUnique,
+    Share,
+    Load,
+    /// To this owner.
+    Lend(usize),
+    Return,
+    /// To this owner.
+    Give(usize),
+}

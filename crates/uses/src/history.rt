@@ -1,6 +1,6 @@
 //! Undo: a list with all of its earlier versions.
 ghost use Rattle.std.specs.Prelude.{◌≡◌, ◌<◌, ◌∷◌, ◌++◌, ◌↔◌, IsTrue, OnErr, OnOk, [], length, slice_set};
-ghost use Rattle.std.specs.Bool.{OnTrue};
+ghost use Rattle.std.specs.Bool.{OnFalse, OnTrue};
 
 use cow_table::{CowTable, SetError};
 use std::alloc::Global;
@@ -33,6 +33,7 @@ impl History {
         ensures there { IsTrue result ↔ (0 < length self.old.before.items) }
         ensures back { OnTrue result (
             self.old.before.items ≡ self.new.before.items ++ self.new.now ∷ []) }
+        ensures first { OnFalse result (self.new.now ≡ self.old.now) }
     {
         match self.before.pop() {
             Some(version) => {

@@ -1,13 +1,15 @@
 -- What the last step of a log found, from what the step says.
 use Rattle.std.proofs.Common.{◌≡◌, ◌≢◌, ℕ, Bool, false, if◌then◌else◌, List, [], ◌∷◌, ◌++◌, refl, sym, ap, ◌∙◌}
 use Rattle.std.proofs.Common.{ne_eqb}
-use Rattle.counting_word.specs.CountingWord.{is_marked_word}
-use Rattle.counting_word.specs.Plans.{clone_plan}
+use Rattle.counting_word.specs.CountingWord.{is_marked_word, is_one_handle}
+use Rattle.counting_word.specs.declared.DropPlan.TheVariants.{Static as StaticDrop}
+use mathlib.Core.Logic.{inl, inr}
+use Rattle.counting_word.specs.Plans.{clone_plan, drop_plan}
 use Rattle.counting_word.specs.declared.ClonePlan.TheVariants.{Full}
 use Rattle.counting_word.specs.Rights.{Right, a_handle, right_by_read, right_by_raise}
-use Rattle.counting_word.specs.WordSteps.{WordStep, raises_from, word_by, left_from}
+use Rattle.counting_word.specs.WordSteps.{WordStep, raises_from, reads_for_drop, lowers, word_by, left_from}
 use Rattle.counting_word.specs.Tallies.{Adds}
-use Rattle.handles.specs.Founds.{found_from, found_by, Found, FoundFull, FoundUnmarked, LostRaise}
+use Rattle.handles.specs.Founds.{found_from, found_by, Found, FoundFull, FoundUnmarked, LostRaise, DropOver}
 
 found-last : (log : List WordStep) (s : WordStep) (found word : ℕ)
     → found_from found word (log ++ s ∷ []) ≡ left_from word log
@@ -40,3 +42,21 @@ pub lost_raise : (limit : ℕ) (old : List WordStep) (seen word : ℕ) (log : Li
 lost_raise limit old seen word log adds differs =
     let found : Found word log = found_word limit old (raises_from seen) word log adds in
     (old ++ adds.others, seen, adds.ends, λ same. differs (sym found ∙ same))
+
+pub over_by_read : (limit word : ℕ) (log same : List WordStep) → Adds limit [] reads_for_drop word log
+    → drop_plan word ≡ StaticDrop → same ≡ log → DropOver same
+over_by_read limit word log same adds plan is = inl (
+  [] ++ adds.others,
+  is ∙ adds.ends,
+  ap (λ (l : List WordStep). drop_plan (found_by l)) is
+      ∙ ap drop_plan (found_word limit [] reads_for_drop word log adds) ∙ plan,
+)
+
+pub over_by_lower : (limit word : ℕ) (old log same : List WordStep) → Adds limit old lowers word log
+    → is_one_handle word ≡ false → same ≡ log → DropOver same
+over_by_lower limit word old log same adds others is = inr (
+  old ++ adds.others,
+  is ∙ adds.ends,
+  ap (λ (l : List WordStep). is_one_handle (found_by l)) is
+      ∙ ap is_one_handle (found_word limit old lowers word log adds) ∙ others,
+)

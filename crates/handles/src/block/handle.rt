@@ -6,6 +6,7 @@ ghost use Rattle.counting_word.specs.WordSteps.{reads, asks, raises_from, reads_
 ghost use Rattle.counting_word.specs.Tallies.{Adds};
 ghost use Rattle.counting_word.specs.Rights.{nothing, whole_block, right_by_read, right_by_raise, right_by_drop_read};
 ghost use Rattle.handles.specs.Inside.Blocks.{handle_owns, handle_shares};
+ghost use Rattle.handles.specs.Founds.{DropOver, Found};
 ghost use Rattle.handles.specs.declared.block.Held.{Held};
 
 use super::{Block, Held, Logged, Permit, RawBox};
@@ -112,6 +113,7 @@ impl<T> Handle<T> {
         requires block { permit.block ≡ self.now.block }
         requires right { permit.right ≡ nothing }
         requires id { permit.id ≡ self.now.id }
+        requires found { Found seen permit.log }
         ensures right { result.1.right ≡ right_by_raise seen result.0 }
         ensures held { result.1.held ≡ self.now.held }
         ensures within { IsWithin result.0 self.now.held.limit.count }
@@ -205,7 +207,7 @@ impl<T: Drop> Handle<T> {
     #[inline(always)]
     pub(crate) fn end(self) -> Result<Box<Block<T>>, Logged>
         ensures last { IfOk result (λ block. block.value.held ≡ self.held) }
-        ensures ended { IfErr result (λ logged. logged.id ≡ self.id) }
+        ensures ended { IfErr result (λ logged. (logged.id ≡ self.id) × DropOver logged.log) }
     {
         let (word, permit) = self.read_for_drop();
         match plan_drop(word) {

@@ -46,7 +46,7 @@ raise_spec 𝓤 𝓛 𝓜 𝓡 wired T L =
     qed 𝓛 (((‵ (flft κ q) ⊛ ‵ others) ⊛ ‵ (owns (types_at En.signature.params κs) a y.0.4)) ∷ raw (fact 𝓤 _)
     ∷ raw (fact 𝓤 (a.0.now.sole ≡ false)) ∷ raw (fact 𝓤 (seen < a.0.now.held.limit.count))
     ∷ raw (fact 𝓤 (next ≡ seen + 1)) ∷ raw (fact 𝓤 (same ≡ p)) ∷ raw (fact 𝓤 _)
-    ∷ raw (fact 𝓤 (a.1.1.1.0.id ≡ η)) ∷ []) ∵ keep ! (2 ∷ 3 ∷ 4 ∷ 5 ∷ 7 ∷ 0 ∷ []) $
+    ∷ raw (fact 𝓤 (a.1.1.1.0.id ≡ η)) ∷ raw (fact 𝓤 _) ∷ []) ∵ keep ! (2 ∷ 3 ∷ 4 ∷ 5 ∷ 7 ∷ 0 ∷ []) $
     heard ! (a.0.now.sole ≡ false) (λ shared. heard ! (seen < a.0.now.held.limit.count)
     (λ below. heard ! (next ≡ seen + 1) (λ is_next. heard ! (same ≡ p) (λ is_same. heard ! (a.1.1.1.0.id ≡ η) (λ is_id.
     split ! $ split ! $ move ! (2 ∷ []) $ fsplit ! $ fsplit ! $ move ! (2 ∷ []) $ fsplit3 ! $ move ! (2 ∷ []) $

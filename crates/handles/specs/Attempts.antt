@@ -1,11 +1,12 @@
 -- What a try to make one more handle came to.
-use Rattle.std.specs.Prelude.{◌≡◌, ℕ, ◌+◌, ◌⊎◌, List, Option, false}
+use Rattle.std.specs.Prelude.{◌≡◌, ℕ, ◌+◌, ◌⊎◌, Bool, List, Option, false}
 use Rattle.std.specs.Iterator.{Drains}
-use Rattle.counting_word.specs.CountingWord.{IsWithin}
+use Rattle.counting_word.specs.CountingWord.{is_one_handle, IsWithin}
 use Rattle.counting_word.specs.Plans.{clone_plan}
 use Rattle.counting_word.specs.Rights.{right_by_read}
 use Rattle.counting_word.specs.declared.ClonePlan.TheVariants.{Static as StaticPlan, Full as FullPlan, Raise}
-use Rattle.handles.specs.Founds.{Found, FoundFull, LostRaise}
+use Rattle.handles.specs.Founds.{Answers, Found, FoundFull, LostRaise}
+use Rattle.counting_word.specs.WordSteps.{reads_for_unique}
 use Rattle.handles.specs.declared.block.handle.Handle.{Handle}
 use Rattle.handles.specs.declared.block.permit.Logged.{Logged}
 use Rattle.handles.specs.declared.block.permit.Permit.{Permit}
@@ -18,6 +19,10 @@ IsSeen of word permit =
     (permit.held ≡ of.held) × (permit.block ≡ of.block) × (permit.id ≡ of.id)
     × (permit.right ≡ right_by_read word) × IsWithin word of.held.limit.count × Found word permit.log
 
+-- one more handle of the same block
+abbrev pub IsMadeOf : {X : Type 0} → Handle X → Handle X → Type 0
+IsMadeOf of h = (h.held ≡ of.held) × (h.sole ≡ false) × (h.id ≡ of.id)
+
 -- the block of the handle was found to be full
 abbrev pub IsFullOf : {X : Type 0} → Handle X → Logged → Type 0
 IsFullOf of logged = (logged.id ≡ of.id) × FoundFull of.held.limit.count logged.log
@@ -26,9 +31,14 @@ IsFullOf of logged = (logged.id ≡ of.id) × FoundFull of.held.limit.count logg
 abbrev pub IsRefusedOf : {X : Type 0} → Handle X → Logged → Type 0
 IsRefusedOf of logged = (logged.id ≡ of.id) × (FoundFull of.held.limit.count logged.log ⊎ LostRaise logged.log)
 
+-- A read for unique says so of the handle, whether or not it is the only one.
+abbrev pub IsSoleBy : {X : Type 0} → Handle X → Bool → Logged → Type 0
+IsSoleBy of sole logged =
+    (logged.id ≡ of.id) × Answers of.held.limit.count reads_for_unique is_one_handle sole logged.log
+
 -- A handle that was made holds the same. A full block was found to be full, and a lost raise found another word.
 abbrev pub IsAttempt : {X : Type 0} → Handle X → Attempt X → Type 0
-IsAttempt of (Made h) = (h.held ≡ of.held) × (h.sole ≡ false) × (h.id ≡ of.id)
+IsAttempt of (Made h) = IsMadeOf of h
 IsAttempt of (Full logged) = IsFullOf of logged
 IsAttempt of (Lost word permit) = IsSeen of word permit × LostRaise permit.log
 

@@ -1,10 +1,10 @@
 -- What the last step of a log found. A log is had of steps alone, so none of this can be made up.
-use Rattle.std.specs.Prelude.{◌≡◌, ◌≢◌, ◌⊎◌, ℕ, false, List, [], ◌∷◌, ◌++◌}
+use Rattle.std.specs.Prelude.{◌≡◌, ◌≢◌, ◌⊎◌, ℕ, Bool, true, false, List, [], ◌∷◌, ◌++◌}
 use Rattle.counting_word.specs.CountingWord.{is_marked_word, is_one_handle}
-use Rattle.counting_word.specs.Plans.{clone_plan, drop_plan}
+use Rattle.counting_word.specs.Plans.{clone_plan}
 use Rattle.counting_word.specs.declared.ClonePlan.TheVariants.{Full}
-use Rattle.counting_word.specs.declared.DropPlan.TheVariants.{Static as StaticDrop}
 use Rattle.counting_word.specs.WordSteps.{WordStep, raises_from, reads_for_drop, lowers, word_by}
+use Rattle.counting_word.specs.Tallies.{Adds}
 
 -- the word that the last step found, if the steps go on from this word, and one before them found that one
 abbrev pub found_from : ℕ → ℕ → List WordStep → ℕ
@@ -21,17 +21,16 @@ Found word log = found_by log ≡ word
 abbrev pub FoundFull : ℕ → List WordStep → Type 0
 FoundFull limit log = clone_plan (found_by log) limit ≡ Full
 
--- a word with no mark
-abbrev pub FoundUnmarked : List WordStep → Type 0
-FoundUnmarked log = is_marked_word (found_by log) ≡ false
-
 -- another word than the one that it raised from
 abbrev pub LostRaise : List WordStep → Type 0
 LostRaise log = (others : List WordStep) × (seen : ℕ) × (log ≡ others ++ raises_from seen ∷ [])
     × (found_by log ≢ seen)
 
--- a drop's last step: a read that found the mark, or a lower that left others
-abbrev pub DropOver : List WordStep → Type 0
-DropOver log =
-    ((others : List WordStep) × (log ≡ others ++ reads_for_drop ∷ []) × (drop_plan (found_by log) ≡ StaticDrop))
-    ⊎ ((others : List WordStep) × (log ≡ others ++ lowers ∷ []) × (is_one_handle (found_by log) ≡ false))
+-- This step was made on a block of this limit, and the answer is what this test says of the word that it found.
+abbrev pub Answers : ℕ → WordStep → (ℕ → Bool) → Bool → List WordStep → Type 0
+Answers limit s test answer log = (word : ℕ) × Adds limit [] s word log × (answer ≡ test word)
+
+-- A drop is over: it read the mark, or its lower left others.
+abbrev pub DropOver : ℕ → List WordStep → Type 0
+DropOver limit log =
+    Answers limit reads_for_drop is_marked_word true log ⊎ Answers limit lowers is_one_handle false log

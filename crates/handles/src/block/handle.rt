@@ -1,18 +1,18 @@
 // A counted handle of a block.
 ghost use Rattle.std.specs.Prelude.{◌≡◌, ◌<◌, ◌+◌, ℕ, [], Bool, true, false, IfOk, IfErr};
 ghost use types.Logic.{sem};
-ghost use Rattle.counting_word.specs.CountingWord.{is_one_handle, IsWithin};
+ghost use Rattle.counting_word.specs.CountingWord.{is_one_handle, is_marked_word, IsWithin};
 ghost use Rattle.counting_word.specs.WordSteps.{reads, asks, raises_from, reads_for_drop, reads_for_unique, marks};
 ghost use Rattle.counting_word.specs.Tallies.{Adds};
 ghost use Rattle.counting_word.specs.Rights.{nothing, whole_block, right_by_read, right_by_raise, right_by_drop_read};
 ghost use Rattle.handles.specs.Inside.Blocks.{handle_owns, handle_shares};
-ghost use Rattle.handles.specs.Founds.{DropOver, Found};
+ghost use Rattle.handles.specs.Founds.{Answers, DropOver, Found};
 ghost use Rattle.handles.specs.declared.block.Held.{Held};
 
 use super::{Block, Held, Logged, Permit, RawBox};
 use crate::limit::Limit;
 use atomic_table::exchange;
-use counting_word::{DropPlan, MARK, is_last, plan_drop};
+use counting_word::{DropPlan, MARK, is_alone, is_last, is_marked, plan_drop};
 use std::marker::{Brand, Model};
 use std::sync::atomic::Ordering::SeqCst;
 use std::sync::atomic::raw;
@@ -75,6 +75,28 @@ impl<T> Handle<T> {
         let block = self.block;
         let asked = unsafe { raw::load::<Brand>(&raw const (*block).word, SeqCst) };
         (asked, Logged {})
+    }
+
+    // Whether this is the only handle of an unmarked block, by one load.
+    #[inline]
+    pub(crate) fn is_only(&self) -> (bool, Logged)
+        requires { self.now.sole ≡ false }
+        ensures id { result.1.id ≡ self.now.id }
+        ensures log { Answers self.now.held.limit.count asks is_one_handle result.0 result.1.log }
+    {
+        let (word, logged) = self.word();
+        (is_alone(word), logged)
+    }
+
+    // Whether the block is marked, by one load.
+    #[inline]
+    pub(crate) fn is_marked(&self) -> (bool, Logged)
+        requires { self.now.sole ≡ false }
+        ensures id { result.1.id ≡ self.now.id }
+        ensures log { Answers self.now.held.limit.count asks is_marked_word result.0 result.1.log }
+    {
+        let (word, logged) = self.word();
+        (is_marked(word), logged)
     }
 
     // Reads the word, by which the handle knows whether it is the only one.
@@ -207,7 +229,7 @@ impl<T: Drop> Handle<T> {
     #[inline(always)]
     pub(crate) fn end(self) -> Result<Box<Block<T>>, Logged>
         ensures last { IfOk result (λ block. block.value.held ≡ self.held) }
-        ensures ended { IfErr result (λ logged. (logged.id ≡ self.id) × DropOver logged.log) }
+        ensures ended { IfErr result (λ logged. (logged.id ≡ self.id) × DropOver self.held.limit.count logged.log) }
     {
         let (word, permit) = self.read_for_drop();
         match plan_drop(word) {

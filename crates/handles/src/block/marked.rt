@@ -1,13 +1,13 @@
 // A block that is marked for good, and what may be had of it again and again.
 ghost use Rattle.std.specs.Prelude.{◌≡◌, IfOk, IfErr, false};
 ghost use base.Fml.{ffalse};
-ghost use Rattle.counting_word.specs.CountingWord.{marked_word};
+ghost use Rattle.counting_word.specs.CountingWord.{is_marked_word, marked_word};
+ghost use Rattle.counting_word.specs.WordSteps.{asks};
 ghost use Rattle.handles.specs.declared.block.Held.{Held};
-ghost use Rattle.handles.specs.Founds.{FoundUnmarked};
+ghost use Rattle.handles.specs.Founds.{Answers};
 ghost use Rattle.handles.specs.Inside.Marked.{HasMark, marked_shares};
 
 use super::{Block, Handle, Held, Logged, RawBox};
-use counting_word::is_marked;
 use std::marker::{Move, Owns};
 
 // No `Marked` is ever owned. A `&` to one says that the block there is marked, so that it is never freed. To the
@@ -97,10 +97,10 @@ impl<T> Handle<T> {
         T: 'a,
         requires { self.now.sole ≡ false }
         ensures found { IfOk result (λ m. m.now ≡ self.now.held) }
-        ensures none { IfErr result (λ logged. (logged.id ≡ self.now.id) × FoundUnmarked logged.log) }
+        ensures none { IfErr result (λ logged. (logged.id ≡ self.now.id) × Answers self.now.held.limit.count asks is_marked_word false logged.log) }
     {
-        let (word, logged) = self.word();
-        if is_marked(word) {
+        let (is_marked, logged) = self.is_marked();
+        if is_marked {
             Ok(self.marked_by(logged))
         } else {
             Err(logged)

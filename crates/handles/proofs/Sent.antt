@@ -3,7 +3,7 @@ use Rattle.std.proofs.Common.{ℕ, ◌+◌, Bool, true, false, [], ◌∷◌, Li
 use base.Fml.{Fml, Lft, Share}
 use base.Shift.{Keyless}
 use base.Fraction.{full_share}
-use base.Growing.{latest}
+use base.Growing.{latest, at_least}
 use Rattle.counting_word.specs.WordSteps.{WordStep}
 use Rattle.handles.proofs.Rows.{row-Keyless, pass-Keyless}
 use denote.RattleType.{RattleType}
@@ -16,7 +16,8 @@ use Rattle.std_heap.specs.contracts.Global.{the_row as heap_row}
 use Rattle.std_alloc.proofs.SendSync.{lies, seen, quiet}
 use Rattle.std.proofs.Crossing as crossing
 use Rattle.handles.proofs.block.Held.TheSendSync.{the_send as held_send, the_sync as held_sync}
-use Rattle.handles.specs.Inside.Blocks.{HeldRow, Names, Stage, living, over, entitled, stage, logs, kept_log, stamp}
+use Rattle.handles.specs.Inside.Blocks.{HeldRow, Names, Stage, living, over, entitled, stage, logs, kept_log, reached}
+use Rattle.handles.specs.Inside.Blocks.{stamp}
 use Rattle.handles.specs.Inside.Blocks.{left_at, block_type, held_offset, heap_offset, held_and_block, shown}
 use Rattle.handles.specs.Inside.Blocks.{Sharing, not_yet, begun, held_as, owned_as, shared_as}
 use Rattle.handles.specs.contracts.block.handle.Handle as handle_type
@@ -35,6 +36,10 @@ entitled-Keyless i e false = tt
 latest-Keyless : (η : ℕ) (log : List WordStep) → Keyless (latest logs full_share η (kept_log log))
 unfolding latest
 latest-Keyless η log = tt
+
+reached-Keyless : (η : ℕ) (log : List WordStep) → Keyless (reached η log)
+unfolding at_least
+reached-Keyless η log = tt
 
 stage-Keyless : (content kept : Fml) → Keyless content → Keyless kept → (limit b o η : ℕ) (i : Names)
     (s : Stage)
@@ -117,13 +122,16 @@ handle-Sync R s y = let O = handle_type.the_type R in record {
 
 pub marked-Sync : (R : RattleType) → IsSend R → IsSync R → IsSync (marked_type.the_row R)
 marked-Sync R s y = record {
-  shared = λ x b o κ. let p : Ptr = block_ptr b o in λ t. let i : Names = t.1 in (
-    tt,
-    (
-      (λ q. tt),
+  shared = λ d b o κ. let p : Ptr = block_ptr b o in (
+    (reached-Keyless d.known_by.id d.known_by.log, λ _. tt),
+    λ i. (
+      tt,
       (
-        (λ q. (tt, pass-Keyless i.handles i.own q)),
-        (rule-Keyless R s y p x t.0 i, shown-Common R s y p x (i.shared ∷ [])),
+        (λ q. tt),
+        (
+          (λ q. (tt, pass-Keyless i.handles i.own q)),
+          (rule-Keyless R s y p d.held d.known_by.id i, shown-Common R s y p d.held (i.shared ∷ [])),
+        ),
       ),
     ),
   );

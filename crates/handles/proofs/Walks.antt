@@ -58,7 +58,7 @@ pub use Rattle.handles.proofs.RawBoxes.{glues, handle_tells, heap, heap_arg, hea
 pub use Rattle.handles.proofs.RawBoxes.{named_in, pair_val, passed, raw_box-Good, raw_box_opens, raw_box_shuts}
 pub use Rattle.handles.proofs.RawBoxes.{triple_of, ⊑_static}
 pub use Rattle.core.proofs.cell.Inside.{Good}
-pub use Rattle.handles.specs.Inside.Marked.{HasMark, marked_shares}
+pub use Rattle.handles.specs.Inside.Marked.{HasMark, marked_shares, tells_mark}
 pub use denote.Struct.Lending.{Lends-both, Lends-said, lent_at, of_Lends}
 pub use Rattle.handles.proofs.Owners.{Lends-owned, forgets, handle_settles, handle_shares-ShrLaws, shown_by}
 pub use Rattle.handles.proofs.LoggedSteps.{LoggedRow, NoBytes, no_bytes-made, no_bytes_told, returns_logged}
@@ -68,7 +68,8 @@ pub use Rattle.handles.proofs.Steps.Shared.{SharedBlock, and_logged, block_at}
 pub use denote.Triple.Entry.{Vals}
 pub use Rattle.counting_word.specs.WordSteps.{WordStep}
 pub use Rattle.handles.proofs.Steps.Reads.{a_share, after_read, asks, reads}
-pub use Rattle.handles.proofs.MarkedShared.{becomes_lasting, marked_shares-ShrLaws, new_lasts, stays_shown}
+pub use Rattle.handles.proofs.MarkedShared.{becomes_lasting, marked_shares-ShrLaws, stays_shown}
+pub use Rattle.handles.proofs.MarkedShared.{Lasts_new, new_lasts, staying}
 pub use denote.Triple.Call.{calls_at, calls_at_last}
 pub use denote.Opens.{hide, unhide}
 pub use Rattle.counting_word.specs.CountingWord.{is_one_handle, mark_bit, marked_word}

@@ -1,12 +1,13 @@
 -- What a try to make one more handle came to.
-use Rattle.std.specs.Prelude.{◌≡◌, ℕ, ◌+◌, ◌⊎◌, Bool, List, Option, false}
+use Rattle.std.specs.Prelude.{◌≡◌, ℕ, ◌+◌, ◌⊎◌, Bool, List, [], Option, false}
 use Rattle.std.specs.Iterator.{Drains}
-use Rattle.counting_word.specs.CountingWord.{is_one_handle, IsWithin}
+use Rattle.counting_word.specs.CountingWord.{IsWithin}
 use Rattle.counting_word.specs.Plans.{clone_plan}
 use Rattle.counting_word.specs.Rights.{right_by_read}
 use Rattle.counting_word.specs.declared.ClonePlan.TheVariants.{Static as StaticPlan, Full as FullPlan, Raise}
 use Rattle.handles.specs.Founds.{Answers, Found, FoundFull, LostRaise}
-use Rattle.counting_word.specs.WordSteps.{reads_for_unique}
+use Rattle.counting_word.specs.WordSteps.{WordStep, marks}
+use Rattle.counting_word.specs.Tallies.{Adds}
 use Rattle.handles.specs.declared.block.handle.Handle.{Handle}
 use Rattle.handles.specs.declared.block.permit.Logged.{Logged}
 use Rattle.handles.specs.declared.block.permit.Permit.{Permit}
@@ -31,10 +32,13 @@ IsFullOf of logged = (logged.id ≡ of.id) × FoundFull of.held.limit.count logg
 abbrev pub IsRefusedOf : {X : Type 0} → Handle X → Logged → Type 0
 IsRefusedOf of logged = (logged.id ≡ of.id) × (FoundFull of.held.limit.count logged.log ⊎ LostRaise logged.log)
 
--- A read for unique says so of the handle, whether or not it is the only one.
-abbrev pub IsSoleBy : {X : Type 0} → Handle X → Bool → Logged → Type 0
-IsSoleBy of sole logged =
-    (logged.id ≡ of.id) × Answers of.held.limit.count reads_for_unique is_one_handle sole logged.log
+-- This step of the handle found a word of which the test says this.
+abbrev pub IsAnswerOf : {X : Type 0} → Handle X → WordStep → (ℕ → Bool) → Bool → Logged → Type 0
+IsAnswerOf of s test answer logged = (logged.id ≡ of.id) × Answers of.held.limit.count s test answer logged.log
+
+-- The handle's block was marked by this step.
+abbrev pub IsMarking : {X : Type 0} → Handle X → Logged → Type 0
+IsMarking of logged = (logged.id ≡ of.id) × (found : ℕ) × Adds of.held.limit.count [] marks found logged.log
 
 -- A handle that was made holds the same. A full block was found to be full, and a lost raise found another word.
 abbrev pub IsAttempt : {X : Type 0} → Handle X → Attempt X → Type 0

@@ -6,7 +6,7 @@ ghost use Rattle.counting_word.specs.WordSteps.{reads, asks, raises_from, reads_
 ghost use Rattle.counting_word.specs.Tallies.{Adds};
 ghost use Rattle.counting_word.specs.Rights.{nothing, whole_block, right_by_read, right_by_raise, right_by_drop_read};
 ghost use Rattle.handles.specs.Inside.Blocks.{handle_owns, handle_shares};
-ghost use Rattle.handles.specs.Founds.{Answers, DropOver, Found};
+ghost use Rattle.handles.specs.Founds.{DropOver, Found};
 ghost use Rattle.handles.specs.declared.block.Held.{Held};
 
 use super::{Block, Held, Logged, Permit, RawBox};
@@ -75,28 +75,6 @@ impl<T> Handle<T> {
         let block = self.block;
         let asked = unsafe { raw::load::<Brand>(&raw const (*block).word, SeqCst) };
         (asked, Logged {})
-    }
-
-    // Whether this is the only handle of an unmarked block, by one load.
-    #[inline]
-    pub(crate) fn is_only(&self) -> (bool, Logged)
-        requires { self.now.sole ≡ false }
-        ensures id { result.1.id ≡ self.now.id }
-        ensures log { Answers self.now.held.limit.count asks is_one_handle result.0 result.1.log }
-    {
-        let (word, logged) = self.word();
-        (is_alone(word), logged)
-    }
-
-    // Whether the block is marked, by one load.
-    #[inline]
-    pub(crate) fn is_marked(&self) -> (bool, Logged)
-        requires { self.now.sole ≡ false }
-        ensures id { result.1.id ≡ self.now.id }
-        ensures log { Answers self.now.held.limit.count asks is_marked_word result.0 result.1.log }
-    {
-        let (word, logged) = self.word();
-        (is_marked(word), logged)
     }
 
     // Reads the word, by which the handle knows whether it is the only one.
@@ -206,6 +184,30 @@ impl<T> Handle<T> {
         let Handle { block } = self;
         let word = unsafe { raw::load::<Brand>(&raw const (*block).word, SeqCst) };
         (word, Permit { block })
+    }
+}
+
+impl<T> Handle<T> {
+    ghost use Rattle.handles.specs.Attempts.{IsAnswerOf};
+
+    // Whether this is the only handle of an unmarked block, by one load.
+    #[inline]
+    pub(crate) fn is_only(&self) -> (bool, Logged)
+        requires { self.now.sole ≡ false }
+        ensures { IsAnswerOf self.now asks is_one_handle result.0 result.1 }
+    {
+        let (word, logged) = self.word();
+        (is_alone(word), logged)
+    }
+
+    // Whether the block is marked, by one load.
+    #[inline]
+    pub(crate) fn is_marked(&self) -> (bool, Logged)
+        requires { self.now.sole ≡ false }
+        ensures { IsAnswerOf self.now asks is_marked_word result.0 result.1 }
+    {
+        let (word, logged) = self.word();
+        (is_marked(word), logged)
     }
 }
 

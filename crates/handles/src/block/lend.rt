@@ -3,7 +3,9 @@ ghost use Rattle.std.specs.Prelude.{◌≡◌, IfOk, IfErr, OnOk, OnErr, true, f
 ghost use types.Logic.{sem};
 ghost use Rattle.handles.specs.Inside.BlockWriteBack.{LendsIfAlone};
 ghost use Rattle.handles.specs.Copies.{SameOrCopy};
-ghost use Rattle.handles.specs.Attempts.{IsSoleBy};
+ghost use Rattle.handles.specs.Attempts.{IsAnswerOf};
+ghost use Rattle.counting_word.specs.CountingWord.{is_one_handle};
+ghost use Rattle.counting_word.specs.WordSteps.{reads_for_unique};
 
 use super::{Block, Handle, Logged, RawBox};
 use counting_word::is_alone;
@@ -13,7 +15,7 @@ impl<T> Handle<T> {
     #[inline]
     fn is_sole(&mut self) -> (bool, Logged)
         ensures sole { self.new ≡ record self.old { sole = result.0 } }
-        ensures log { IsSoleBy self.old result.0 result.1 }
+        ensures log { IsAnswerOf self.old reads_for_unique is_one_handle result.0 result.1 }
     {
         let (word, logged) = self.read_for_unique();
         (is_alone(word), logged)
@@ -24,7 +26,7 @@ impl<T> Handle<T> {
     pub(crate) fn get_mut(&mut self) -> Result<&mut T, Logged>
         ensures* writes_back { sem 𝓛 (LendsIfAlone T.row self.entry result) }
         ensures value { IfOk result (λ x. x.now ≡ self.old.held.value) }
-        ensures shared { IfErr result (IsSoleBy self.old false) }
+        ensures shared { IfErr result (IsAnswerOf self.old reads_for_unique is_one_handle false) }
     {
         let (is_sole, logged) = self.is_sole();
         if is_sole {
@@ -40,7 +42,7 @@ impl<T> Handle<T> {
         T: Drop,
         ensures alone { IfOk result (λ b. (b.value.word ≡ 1) × (b.value.held ≡ self.held)) }
         ensures shared { IfErr result (λ h. (h.0.held ≡ self.held) × (h.0.sole ≡ false) × (h.0.id ≡ self.id)) }
-        ensures log { IfErr result (λ h. IsSoleBy self false h.1) }
+        ensures log { IfErr result (λ h. IsAnswerOf self reads_for_unique is_one_handle false h.1) }
     {
         let (is_sole, logged) = self.is_sole();
         if !is_sole {

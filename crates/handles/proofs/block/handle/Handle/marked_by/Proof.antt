@@ -9,9 +9,10 @@ use Rattle.handles.proofs.Walks.{types_at, plain, Ptr, block_ptr, block_of, offs
 use Rattle.handles.proofs.Walks.{shuts, param, param_laws, RefOf, shr_vals, shr_Tells, Stays, stay_dropped, walk_of}
 use Rattle.handles.proofs.Walks.{Goes-dropped, HeldRow, block_rule, one_word, HandleRow, HandleWords, opens_handle}
 use Rattle.handles.proofs.Walks.{closes_borrow, known, vstruct, vnil, exists, hide, WordStep, Names, marked, HasMark}
-use Rattle.handles.proofs.Walks.{marked_shares, becomes_lasting, LoggedRow, no_bytes_told, SharedBlock, block_at}
-use Rattle.handles.proofs.Walks.{Born, born, Known, knows, at_type, walks}
-use Rattle.handles.specs.Inside.Blocks.{reached}
+use Rattle.handles.proofs.Walks.{marked_shares, becomes_lasting, staying, fpack, LoggedRow, no_bytes_told}
+use Rattle.handles.proofs.Walks.{SharedBlock, block_at, Born, born, Known, knows, at_type, walks}
+use types.Growing.{at_least_dup}
+use Rattle.handles.specs.Inside.Blocks.{kept_log, logs, reached}
 use Rattle.handles.specs.contracts.block.handle.Handle.marked_by.{ended, clauses}
 use Rattle.handles.specs.contracts.block.handle.Handle.marked_by.Key.{name as #self}
 use Rattle.handles.proofs.block.handle.Handle.marked_by.Statement.{statement}
@@ -41,10 +42,12 @@ marked_by_spec 𝓤 𝓛 𝓜 𝓡 wired T L =
     move ! (1 ∷ []) $ rewrite ! 0 (λ (z : ℕ). ‵ (reached z old)) is_id refl $ keep ! (4 ∷ 5 ∷ 6 ∷ 0 ∷ []) $
     go.enters (vptr b o ∷ vstruct vnil ∷ []) refl $
     alloc_all ! (λ l. pass_all ! refl ((tt, tt), ((tt, tt), tt)) $
+    move ! (3 ∷ []) $ use1 𝓛 (‵ (reached η old) ⊛ ‵ (reached η old)) (at_least_dup logs 𝓛 η (kept_log old)) $
+    split ! $ move ! (2 ∷ 3 ∷ 4 ∷ []) $
     opens_handle R p x η ! tt a.0.now.sole shared b o (λ inb i e r. let I : Fml = block_rule R p x η i in
     let s : SharedBlock = block_at R p x η i in
     -- [the word; what it says; the token's way back; the open borrow; the share; the rule; the sharing; the
-    -- other tokens; the log]
+    -- other tokens; the log, twice]
     sets ! (of_opd ! (load ! (through ! refl (fld ! refl (stop !)))
     (look_in ! 0 (sub ! 0 refl (whole !))))) refl (tt, tt) $
     shuts ! tt D r (p, tt) (one_word (block_ptr pb po) ∷ []) b o $
@@ -62,13 +65,17 @@ marked_by_spec 𝓤 𝓛 𝓜 𝓡 wired T L =
     drop ! $ fsplit ! $ move ! (1 ∷ []) $ fpick ! (λ k. let j : Names = record i { own = k } in
     -- [the new handle's pass; its title; the tokens; the rule; the mark; the sharing]
     move ! (1 ∷ 0 ∷ []) $ fjoin ! $ move ! (0 ∷ 2 ∷ 4 ∷ []) $ fjoin3 ! $ move ! (2 ∷ 0 ∷ []) $ fjoin ! $
-    use1 𝓛 (later (‵ (marked_shares R p x κs.1.0))) (becomes_lasting R (param_laws 0 T L) p x 𝓛 η j κs.1.0) $
+    -- [the handle and the mark; the tokens; the log]
+    nothing_more ! $ fpack ! (HasMark old) (λ _. ftrue) has $ move ! (3 ∷ 0 ∷ []) $ fjoin ! $ move ! (1 ∷ 0 ∷ []) $
+    fjoin ! $ let L' = param_laws 0 T L in let stays = staying R L' p x η old in
+    use1 𝓛 (later (‵ (marked_shares R p stays κs.1.0))) (becomes_lasting R L' p stays 𝓛 j κs.1.0) $
     await ! tt $ first ! $ blocks ! $ sets ! (of_opd ! (get ! refl)) refl (tt, tt) $
     sets_last ! (addr ! (through ! refl (stop !))) refl (tt, tt) $
     go.ahead l 2 $ sets ! (of_opd ! (get ! refl)) refl (tt, tt) $
-    rewrite ! 0 (λ (z : Ptr). ‵ (marked_shares R z x κs.1.0)) (at_block p inb) refl $ hide ! $
+    rewrite ! 0 (λ (z : Ptr). ‵ (marked_shares R z stays κs.1.0)) (at_block p inb) refl $ hide ! $
     feq_i ! (List Val) (vptr pb po ∷ []) (vptr pb po ∷ []) refl $ fjoin ! $
-    known ! (x ≡ x) refl $ nothing_more ! $ nothing_more ! $ fjoin ! $ nothing_more ! $ fjoin ! $
+    known ! ((x ≡ x) × (η ≡ η) × (old ≡ old)) (refl, refl, refl) $
+    nothing_more ! $ nothing_more ! $ fjoin ! $ nothing_more ! $ fjoin ! $
     returns ! (look_at ! 0 refl) $ free_all ! refl $ keep ! (3 ∷ 0 ∷ 2 ∷ 1 ∷ []) $
-    by ! (ends (vptr pb po) (record { ref_ptr = (pb, po); now = x }) (tt, (tt, tt))
+    by ! (ends (vptr pb po) (record { ref_ptr = (pb, po); now = stays }) (tt, (tt, tt))
     (tt, (tt, tt)))))))))))

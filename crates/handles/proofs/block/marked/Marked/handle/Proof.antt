@@ -4,7 +4,7 @@ use Rattle.handles.proofs.Walks.{pick, block_rule, ‵, ◌⊛◌, ◌$◌, !, b
 use Rattle.handles.proofs.Walks.{use0, use1, use2, stop, addr, of_opd, no_more, and_then, returns, alloc_all}
 use Rattle.handles.proofs.Walks.{pass_all, free_all, look_at, get, through, sets, agg, RattleType, Ptr, block_ptr}
 use Rattle.handles.proofs.Walks.{param, HeldRow, one_word, shows_permit, by_ref, handle_at, is_handle, so, also}
-use Rattle.handles.proofs.Walks.{exists, unhide, a_handle, Names, marked_shares, SharedBlock, block_at, Born, born}
+use Rattle.handles.proofs.Walks.{exists, unhide, a_handle, marked_shares, SharedBlock, block_at, Born, born}
 use Rattle.handles.proofs.Walks.{fact_i}
 use types.Tokens.{shr_bor-open}
 use Rattle.counting_word.specs.WordSteps as step
@@ -21,10 +21,10 @@ handle_spec 𝓤 𝓛 𝓜 𝓡 wired T L =
     (λ κs a. Unit {0}) (λ κs a gh. fact_i 𝓤 _ _ tt) T #self code.function
     (code.unfolded 𝓤 𝓛.H 𝓜 𝓡 wired (T, tt)) (λ κs qs a gh Post asked ends go.
     let b : ℕ = a.ref_ptr.0 in let o : ℕ = a.ref_ptr.1 in let p : Ptr = block_ptr b o in
-    let x : (HeldRow R).Denot = a.now in let κ : Lft = κs.0 in
+    let x : (HeldRow R).Denot = a.now.held in let η : ℕ = a.now.known_by.id in let κ : Lft = κs.0 in
     alloc_all ! (λ l. pass_all ! refl ((tt, tt), tt) $
-    use1 𝓛 (‵ (fhide (marked_shares R p x κ))) (id⊢ 𝓤 _) $ unhide ! $ fpick ! (λ t. let i : Names = t.1 in
-    let I : Fml = block_rule R p x t.0 i in let s : SharedBlock = block_at R p x t.0 i in
+    use1 𝓛 (‵ (fhide (marked_shares R p a.now κ))) (id⊢ 𝓤 _) $ unhide ! $ fsplit ! $ drop ! $ fpick ! (λ i.
+    let I : Fml = block_rule R p x η i in let s : SharedBlock = block_at R p x η i in
     fsplit ! $ move ! (1 ∷ []) $ fsplit ! $ drop ! $ fsplit ! $ move ! (1 ∷ []) $ fsplit ! $
     -- [the rule; the sharing; what is lent; the mark; the token; the other tokens]
     use0 𝓛 (‵ (flft [] full_share)) (𝓛.lfts.lft-nil full_share) $ move ! (3 ∷ 0 ∷ []) $
@@ -33,8 +33,8 @@ handle_spec 𝓤 𝓛 𝓜 𝓡 wired T L =
     drop ! $ move ! (3 ∷ 0 ∷ []) $ fjoin ! $ move ! (1 ∷ []) $
     use1 𝓛 (‵ (finv I) ⊛ ‵ (finv I)) (𝓛.invs.inv_dup I) $ split ! $ move ! (0 ∷ 2 ∷ []) $
     use2 𝓛 (later (exists (λ (w : ℕ). ‵ (Born 𝓛 s e w)))) (born 𝓛 s e) $ await ! tt $ pick ! (λ w. fsplit ! $ drop ! $
-    shows_permit R p x t.0 ! tt tt i a_handle [] step.reads w (λ log added. fsplit ! $ drop ! $
+    shows_permit R p x η ! tt tt i a_handle [] step.reads w (λ log added. fsplit ! $ drop ! $
     sets ! (addr ! (through ! refl (stop !))) refl (tt, tt) $ sets ! (of_opd ! (get ! refl)) refl (tt, tt) $
-    sets ! (agg ! (and_then ! (get ! refl) (no_more !))) refl (tt, (tt, tt)) $ is_handle R p x t.0 ! false $
+    sets ! (agg ! (and_then ! (get ! refl) (no_more !))) refl (tt, (tt, tt)) $ is_handle R p x η ! false $
     returns ! (look_at ! 0 refl) $ free_all ! refl $ keep ! (1 ∷ 2 ∷ 0 ∷ []) $
-    by ! (ends (one_word p) (handle_at R p x false t.0) (also 𝓤 refl (so 𝓤 refl)))))))))
+    by ! (ends (one_word p) (handle_at R p x false η) (also 𝓤 refl (also 𝓤 refl (so 𝓤 refl))))))))))

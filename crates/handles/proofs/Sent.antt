@@ -12,6 +12,7 @@ use denote.Builtin.{RawPtr}
 use denote.Struct.Struct.{exits_of}
 use denote.Struct.Owning.{shape, fields, to}
 use denote.Param.Send.{IsSend, IsSync, Common, AllSend, owning_send, struct_send, struct_sync, sendable}
+use denote.Param.Send.{whole-keyless}
 use Rattle.std_heap.specs.contracts.Global.{the_row as heap_row}
 use Rattle.std_alloc.proofs.SendSync.{lies, seen, quiet}
 use Rattle.std.proofs.Crossing as crossing
@@ -20,6 +21,7 @@ use Rattle.handles.specs.Inside.Blocks.{HeldRow, Names, Stage, living, over, ent
 use Rattle.handles.specs.Inside.Blocks.{stamp}
 use Rattle.handles.specs.Inside.Blocks.{left_at, block_type, held_offset, heap_offset, held_and_block, shown}
 use Rattle.handles.specs.Inside.Blocks.{Sharing, not_yet, begun, held_as, owned_as, shared_as}
+use Rattle.handles.specs.contracts.arc.full.Full as full_type
 use Rattle.handles.specs.contracts.block.handle.Handle as handle_type
 use Rattle.handles.specs.contracts.block.marked.Marked as marked_type
 
@@ -135,4 +137,18 @@ marked-Sync R s y = record {
       ),
     ),
   );
+}
+
+-- a log says the same to every thread
+full-Keyless : (f : full_type.the_type.D) → Keyless (full_type.the_type.heap f)
+full-Keyless f = (reached-Keyless f.id f.log, λ _. tt)
+
+pub full-Send : IsSend full_type.the_row
+full-Send = let O = full_type.the_type in
+    owning_send O tt full-Keyless (λ k. quiet (to O) (exits_of k (fields O)) ((struct_send (shape O) tt).leaving k))
+
+pub full-Sync : IsSync full_type.the_row
+full-Sync = let O = full_type.the_type in record {
+  shared = λ d b o κ q. whole-keyless _ _ (λ f vs. ((struct_send (shape O) tt).owned (to O f) vs, full-Keyless f)) q d
+      b o;
 }

@@ -26,6 +26,10 @@ impl Model for Full {
     ghost also_owns = { λ f. fsep (reached f.id f.log) (fact (FoundFull f.limit f.log)) };
 }
 
+unsafe impl Send for Full {}
+
+unsafe impl Sync for Full {}
+
 impl<T> Handle<T> {
     // By a step that found the block of this handle to be full.
     #[inline]

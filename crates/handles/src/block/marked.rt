@@ -92,7 +92,7 @@ impl<T> Handle<T> {
         self.marked_by(self.mark().1)
     }
 
-    // By one load of the word, which is in the log if it found no mark.
+    // By one load of the word, which both answers name.
     pub(crate) fn find_marked<'a>(&self) -> Result<&'a Marked<T>, Logged>
     where
         T: 'a,

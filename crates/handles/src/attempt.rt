@@ -88,7 +88,7 @@ impl<T: Drop> Handle<T> {
     ) -> Result<Handle<T>, Logged>
         requires shared { self.now.sole ≡ false }
         requires seen { IsSeen self.now word permit }
-        requires lost { LostRaise permit.log }
+        requires lost { LostRaise self.now.number permit.log }
         ensures made { IfOk result (IsMadeOf self.now) }
         ensures full { IfErr result (IsFullOf self.now) }
     {
@@ -106,7 +106,7 @@ impl<T: Drop> Handle<T> {
         I::Item: Drop,
         requires shared { self.now.sole ≡ false }
         requires seen { IsSeen self.now word permit }
-        requires lost { LostRaise permit.log }
+        requires lost { LostRaise self.now.number permit.log }
         requires turns { I.can_next turns × IsFinite (I.remaining turns) }
         ensures made { IfOk result (IsMadeOf self.now) }
         ensures refused { IfErr result (IsRefusedOf self.now) }

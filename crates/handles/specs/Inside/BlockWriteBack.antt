@@ -1,6 +1,6 @@
 -- What a block's handle holds once a `&mut` to its value has ended: what was last written through it. Others may come
 -- then.
-use Rattle.std.specs.Prelude.{false}
+use Rattle.std.specs.Prelude.{false, []}
 use Rattle.std.specs.Borrow.{Fml, MutBor, RattleType, Lends, LendsIfOk}
 use Rattle.std.specs.declared.result.Result.{Result}
 use Rattle.handles.specs.declared.block.handle.Handle.{Handle}
@@ -16,6 +16,8 @@ with_value h w = record {
   held = record { limit = h.held.limit; value = w };
   sole = false;
   id = h.id;
+  number = h.number;
+  log = [];
 }
 
 -- of a block that nobody shares

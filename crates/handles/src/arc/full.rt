@@ -1,10 +1,11 @@
 //! What a clone at the limit is refused with.
 ghost use Rattle.std.specs.Prelude.{◌≡◌, ℕ, List};
 ghost use base.Fml.{fsep};
-ghost use Rattle.counting_word.specs.WordSteps.{WordStep, coded_log};
+ghost use Rattle.counting_word.specs.Logs.{Entry};
+ghost use Rattle.counting_word.specs.Codes.{coded_log};
 ghost use Rattle.handles.specs.Founds.{FoundFull};
 ghost use Rattle.handles.specs.Attempts.{IsFullOf};
-ghost use Rattle.handles.specs.Inside.Blocks.{fact, reached};
+ghost use Rattle.handles.specs.Inside.Blocks.{BlockId, coded_id, fact, reached};
 
 use crate::block::{Handle, Logged};
 use std::marker::Model;
@@ -18,8 +19,8 @@ use thiserror::Error;
 #[error("the handle limit is reached")]
 pub struct Full {
     ghost limit: { ℕ },
-    ghost id: { ℕ },
-    ghost log: { List WordStep } by { coded_log },
+    ghost id: { BlockId } by { coded_id },
+    ghost log: { List Entry } by { coded_log },
 }
 
 impl Model for Full {

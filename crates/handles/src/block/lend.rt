@@ -2,6 +2,7 @@
 ghost use Rattle.std.specs.Prelude.{◌≡◌, IfOk, IfErr, OnOk, OnErr, true, false};
 ghost use types.Logic.{sem};
 ghost use Rattle.handles.specs.Inside.BlockWriteBack.{LendsIfAlone};
+ghost use Rattle.handles.specs.Inside.Blocks.{known_log};
 ghost use Rattle.handles.specs.Copies.{SameOrCopy};
 ghost use Rattle.handles.specs.Attempts.{IsAnswerOf};
 ghost use Rattle.counting_word.specs.CountingWord.{is_one_handle};
@@ -14,7 +15,7 @@ use std::alloc::{AllocError, Global};
 impl<T> Handle<T> {
     #[inline]
     fn is_sole(&mut self) -> (bool, Logged)
-        ensures sole { self.new ≡ record self.old { sole = result.0 } }
+        ensures sole { self.new ≡ record self.old { sole = result.0; log = known_log result.0 result.1.log } }
         ensures log { IsAnswerOf self.old reads_for_unique is_one_handle result.0 result.1 }
     {
         let (word, logged) = self.read_for_unique();

@@ -4,7 +4,7 @@ ghost use base.Fml.{ffalse};
 ghost use Rattle.counting_word.specs.CountingWord.{is_marked_word, marked_word};
 ghost use Rattle.counting_word.specs.WordSteps.{asks};
 ghost use Rattle.handles.specs.Attempts.{IsAnswerOf, IsMarking};
-ghost use Rattle.handles.specs.Inside.Marked.{HasMark, IsKnownBy, Staying, marked_shares};
+ghost use Rattle.handles.specs.Inside.Marked.{HasMark, IsKnownBy, Staying, born_static, marked_shares};
 
 use super::{Block, Handle, Held, Logged, RawBox};
 use std::marker::{Move, Owns};
@@ -34,7 +34,7 @@ impl<T> Marked<T> {
     where
         T: 'a,
         requires { block.value.word ≡ marked_word 1 }
-        ensures { (result.now.held ≡ block.value.held) × HasMark result.now.known_by.log }
+        ensures { (result.now.held ≡ block.value.held) × (result.now.known_by.log ≡ born_static) }
     {
         let RawBox { at, alloc: _ } = block;
         unsafe { &*(at as *const Marked<T>) }

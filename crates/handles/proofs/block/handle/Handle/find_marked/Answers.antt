@@ -8,13 +8,13 @@ use Rattle.handles.proofs.block.handle.Handle.find_marked.Goals as goal
 -- the word that was read has the mark, which is then in the log
 pub marked_by-requires-clause-mark : goal.marked_by-requires-clause-mark
 marked_by-requires-clause-mark g c = let asked = c.is_marked-is_marked in let log = asked.ensures.1 in
-    asks_shown _ c.args.self.now.held.limit.in_range log.0 asked.result.1.log log.1
+    asks_shown _ c.args.self.now.held.limit.in_range c.args.self.now.number log.0 asked.result.1.log log.1
     (sym log.2 ∙ c.if-is_marked.true)
 
 pub returns-then-is_marked-clause-found : goal.returns-then-is_marked-clause-found
 returns-then-is_marked-clause-found g c = let asked = c.is_marked-is_marked in let known = c.marked_by.ensures in (
   known.1,
-  subst (λ log. Answers c.args.self.now.held.limit.count asks is_marked_word true log) (sym known.2)
+  subst (λ log. Answers c.args.self.now.held.limit.count c.args.self.now.number asks is_marked_word true log) (sym known.2)
       (asked.ensures.1.0, asked.ensures.1.1, sym c.if-is_marked.true ∙ asked.ensures.1.2),
 )
 

@@ -4,7 +4,7 @@ use Rattle.handles.proofs.Walks.{Fml, ftrue, fsep, flft, sem, ‵, raw, ◌⊛�
 use Rattle.handles.proofs.Walks.{join, fsplit, fjoin, fpack, rewrite, use0, no_more, returns, alloc_all, pass_all}
 use Rattle.handles.proofs.Walks.{free_all, look_at, sets, agg, fact, yes, RattleType, owns, types_at, plain}
 use Rattle.handles.proofs.Walks.{nothing_more, heard, known, param, shr_vals, shr_Tells, Stays, stay_dropped, walk_of}
-use Rattle.handles.proofs.Walks.{Goes-dropped, HeldRow, HandleRow, LoggedRow, no_bytes_told, WordStep, at_type, walks}
+use Rattle.handles.proofs.Walks.{Goes-dropped, HeldRow, HandleRow, LoggedRow, no_bytes_told, Entry, BlockId, at_type, walks}
 use Rattle.handles.proofs.Walks.{a_ref}
 use seplogic.Ra.Ura.{Ura}
 use types.Logic.{Logic}
@@ -38,13 +38,13 @@ full_by_spec 𝓤 𝓛 𝓜 𝓡 wired T L =
     (λ κs qs bounds a gh are go ends.
     let b : ℕ = a.0.ref_ptr.0 in let o : ℕ = a.0.ref_ptr.1 in let κ : Lft = κs.0 in let q : Share = qs.0 in
     let others : Fml = fsep (flft κs.1.0 qs.1.0) ftrue in let x : (HeldRow R).Denot = a.0.now.held in
-    let η : ℕ = a.0.now.id in let log : List WordStep = a.1.0.log in
+    let η : BlockId = a.0.now.id in let log : List Entry = a.1.0.log in
     let y : (walk_of 𝓛 En hs c).Ghost = ((κs, qs, bounds, a, (vptr b o ∷ [], (vstruct vnil ∷ [], tt))), gh) in
     qed 𝓛 (((‵ (flft κ q) ⊛ ‵ others) ⊛ ‵ (owns (types_at En.signature.params κs) a y.0.4)) ∷ raw (fact 𝓤 _)
     ∷ raw (fact 𝓤 (IsFullOf a.0.now a.1.0)) ∷ []) ∵
     keep ! (2 ∷ 0 ∷ []) $ heard ! (IsFullOf a.0.now a.1.0) (λ is.
     split ! $ split ! $ move ! (2 ∷ []) $ fsplit ! $ fsplit ! $ move ! (2 ∷ []) $ fsplit ! $ fsplit ! $
-    move ! (1 ∷ []) $ rewrite ! 0 (λ (z : ℕ). ‵ (reached z log)) is.0 refl $
+    move ! (1 ∷ []) $ rewrite ! 0 (λ (z : BlockId). ‵ (reached z log)) is.0 refl $
     -- [the log; the token; the other tokens]
     keep ! (0 ∷ 5 ∷ 6 ∷ []) $ go.enters (vptr b o ∷ vstruct vnil ∷ []) refl $
     alloc_all ! (λ l. pass_all ! refl ((tt, tt), ((tt, tt), tt)) $

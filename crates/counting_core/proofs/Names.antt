@@ -5,7 +5,7 @@ pub use Rattle.std.proofs.Common.{IsTrue, nat_eq, ne_eqb, eq-eqb, eqb-true, leb-
 pub use Rattle.std.proofs.Common.{nat_lt, ltb-true, length-append, inl, inr, get_or-set_other, get_or-set_same}
 pub use Rattle.std.proofs.Common.{true≢false, take, replicate, ◌⊎◌, ⊎_elim, ◌↔◌, append-nil, lt-ltb, lt_irrefl}
 pub use Rattle.std.proofs.Common.{count_by, append_assoc, Ordering, Less, Equal, Greater, take_all, le_trans, le_refl}
-pub use Rattle.std.proofs.Common.{◌*◌, mul-add, add-one, rules, vec_len, vec_capacity}
+pub use Rattle.std.proofs.Common.{Contains, ◌*◌, mul-add, add-one, rules, vec_len, vec_capacity}
 pub use Rattle.std.proofs.Math.Bool.{and-true}
 pub use Rattle.std.proofs.Math.ListN.{get_or-eq_default}
 pub use Rattle.std.proofs.Math.Seq.{get_or-append_seam}
@@ -24,6 +24,7 @@ pub use Rattle.std.specs.Ordering.{nat_cmp, match_ordering}
 pub use Rattle.std.specs.Set.{remove_key}
 pub use mathlib.Core.Path.{fun_ext}
 pub use Rattle.counting_word.proofs.Plans.{ClonePlanSays, clone_plan-says}
+pub use Rattle.counting_word.proofs.Standings.{born}
 pub use Rattle.counting_word.proofs.Tallies.{run-more, tally-more}
 pub use Rattle.counting_word.proofs.Words.{count_of-unmarked, word-unmarked, exactly-unmarked, is_one_handle-exactly}
 pub use Rattle.counting_word.proofs.Words.{stands-live, stands-in_drop, stands-raise, stands-lower, stands-marked_word}
@@ -33,8 +34,11 @@ pub use Rattle.counting_word.specs.CountingWord.{is_one_handle, count_of, marked
 pub use Rattle.counting_word.specs.CountingWord.{StandsFor, IsLimit, IsWithin, greatest_count}
 pub use Rattle.counting_word.specs.Plans.{clone_plan, drop_plan}
 pub use Rattle.counting_word.specs.Rights.{a_handle, nothing, to_lower, whole_block}
-pub use Rattle.counting_word.specs.Tallies.{Tally, has_exactly, after_drop_read, one_more, first, after_read}
-pub use Rattle.counting_word.specs.Tallies.{tally_after, MayMake, IsRunFrom, IsRun, tally_from, tally_right, tally_of}
+pub use Rattle.counting_word.specs.Logs.{EntryKind, atomic, static_handle, static_birth, Entry, made}
+pub use Rattle.counting_word.specs.Tallies.{Standing, lives, dropping, ended as has_ended, is_counted, Tally, first}
+pub use Rattle.counting_word.specs.Tallies.{standing_of, Lives, has_exactly, one_more, goes_to, after_read, after_step}
+pub use Rattle.counting_word.specs.Tallies.{after_kind, tally_after, tally_from, tally_of, tally_right, MayDo}
+pub use Rattle.counting_word.specs.Tallies.{IsRunFrom, IsRun}
 pub use Rattle.counting_word.specs.WordSteps.{lowered, reads_for_drop, lowers, reads, asks, raises_from}
 pub use Rattle.counting_word.specs.WordSteps.{reads_for_unique, marks}
 pub use Rattle.counting_word.specs.WordSteps.{WordStep}
@@ -56,7 +60,7 @@ pub use Rattle.counting_core.specs.ReferenceModel.{Model, is_full, is_only, Clon
 pub use Rattle.counting_core.specs.Represents.{CoreState, handle, activity, state_of, Represents, IsReached}
 pub use Rattle.counting_core.specs.Represents.{is_dropping, drops_in_flight, Continues, ContinuesAll, core_of}
 pub use Rattle.counting_core.specs.Represents.{number_below}
-pub use Rattle.counting_core.specs.Runs.{Entry, entries_of, spelled_step, spelled_from, spelled, Runs, IsReportedBy}
+pub use Rattle.counting_core.specs.Runs.{Report, reports_of, spelled_step, spelled_from, spelled, Runs, IsReportedBy}
 pub use Rattle.counting_core.specs.State.{HandleState, lent_to, returned_by, ended, State, goes_on_to, newborn}
 pub use Rattle.counting_core.specs.State.{handle_in, seen_in, unborn, put}
 pub use Rattle.counting_core.specs.Trace.{Trace, after, limit_of, Then, Open, then_all}

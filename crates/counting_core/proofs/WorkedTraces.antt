@@ -3,12 +3,19 @@ use Rattle.counting_core.proofs.Names.{◌≡◌, ℕ, true, false, List, [], �
 use Rattle.counting_core.proofs.Names.{Quit, Drop, Lower, Mark, Unique, Static, GetMut, Write, EndWrite, IntoUnique}
 use Rattle.counting_core.proofs.Names.{Share, Load, Lend, Return, Give, Answer, Born, Full, Pending, Quitted, Ended}
 use Rattle.counting_core.proofs.Names.{GivenUp, Marked, Is, Alone, Sole, Shared, Done, Value, Barred, Trace, Open, Then}
-use Rattle.counting_core.proofs.Names.{expected}
+use Rattle.counting_core.proofs.Names.{expected, then_all, log_of, made, reads, raises_from, reads_for_drop, marks}
+use Rattle.counting_core.proofs.Names.{lowers}
 
 -- the answers to steps in order, unless memory is refused
 abbrev answers : Trace ℕ → List (Step ℕ) → List (Answer ℕ)
 answers t [] = []
 answers t (s ∷ steps) = expected t s ∷ answers (Then t s (expected t s)) steps
+
+the_log_names_the_handle_in_flight :
+    let steps : List (Step ℕ) = Lend 0 0 1 ∷ Clone 1 0 ∷ Raise 1 ∷ Return 1 0 ∷ Drop 1 1 ∷ Mark 0 0 ∷ Lower 1 ∷ [] in
+    log_of (then_all (Open 5 2 greatest_count) steps (answers (Open 5 2 greatest_count) steps))
+    ≡ (made 0 reads ∷ made 0 (raises_from 1) ∷ made 1 reads_for_drop ∷ made 0 marks ∷ made 1 lowers ∷ [])
+the_log_names_the_handle_in_flight = refl
 
 the_last_handle :
     answers (Open 5 1 greatest_count) (Unique 0 0 ∷ Drop 0 0 ∷ Lower 0 ∷ [])

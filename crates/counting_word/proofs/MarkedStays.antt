@@ -1,5 +1,5 @@
 -- No step on a marked word leaves its maker with the block.
-use Rattle.std.proofs.Common.{◌≡◌, ℕ, Bool, true, false, nat_eq, if◌then◌else◌, sym, subst}
+use Rattle.std.proofs.Common.{◌≡◌, ℕ, Bool, true, false, nat_eq, if◌then◌else◌, subst}
 use Rattle.counting_word.specs.CountingWord.{is_marked_word, is_one_handle}
 use Rattle.counting_word.specs.Rights.{Right, nothing, a_handle, to_lower, whole_block, right_by_read, IsWholeBlock}
 use Rattle.counting_word.specs.WordSteps.{reads, asks, raises_from, reads_for_drop, lowers, reads_for_unique, marks}

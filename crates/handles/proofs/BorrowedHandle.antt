@@ -8,7 +8,7 @@ use base.Logic.{id⊢, SProp, ent, sep}
 use base.Fml.{Lft, Share, Fml, flft, fobor, fhide, finv, fsep, ftrue}
 use base.Share
 use types.Logic.{Logic, sem}
-use types.Kit.{some as exists, given, pick, learn, Item, Goal, Seq, Soaks, Step, step, ‵, ◌⊛◌, later, ◌$◌, ◌∵◌, ! }
+use types.Kit.{given, learn, Item, Goal, Seq, Soaks, Step, step, ‵, ◌⊛◌, later, ◌$◌, ◌∵◌, ! }
 use types.Kit.{qed, fjoin, frame, done, move, drop, split, fsplit, fsplit3, fpick, rewrite, use1, use2, use3, await}
 use types.Kit.{raw}
 use types.Tokens.{obor_close, shr_bor-open}
@@ -23,31 +23,33 @@ use denote.RawPtr.{Ptr, InBlock, block_ptr, block_of, count_of as offset_of, at_
 use denote.Steps.{looks, peeks, nothing as nothing_more}
 use Rattle.counting_word.specs.CountingWord.{IsWithin}
 use Rattle.handles.proofs.Steps.Reads.{reported}
-use Rattle.handles.specs.Inside.Blocks.{reached, HeldRow, Names, block_rule, shown, lent_share, handle_shares}
-use Rattle.handles.specs.Inside.Blocks.{permit_owns, logged}
+use Rattle.handles.specs.Inside.Blocks.{reached, adds, HeldRow, Names, BlockId, block_rule, shown, lent_share}
+use Rattle.handles.specs.Inside.Blocks.{handle_shares, permit_owns}
 use Rattle.counting_word.specs.Rights.{Right}
 use Rattle.counting_word.specs.WordSteps.{WordStep}
-use Rattle.counting_word.specs.Tallies.{Adds}
+use Rattle.counting_word.specs.Logs.{Entry, made}
+use Rattle.counting_word.specs.Tallies.{Adds, newest}
 use Rattle.handles.specs.contracts.block.handle.Handle as handle_type
-use Rattle.handles.proofs.Fields.{one_word, words_are, words_open, HandleRow, HandleWords, permit_shown}
-use Rattle.handles.proofs.Steps.Shared.{block_at, grants}
+use Rattle.handles.proofs.Fields.{one_word, words_are, words_open, HandleRow, HandleWords, handle_at, NoBlock}
+use Rattle.handles.proofs.Fields.{permit_shown}
+use Rattle.handles.proofs.Steps.Shared.{block_at, and_logged, grants}
 
 -- what a `&` has of a handle goes in halves
-module _ {M : Type 1} {𝓤 : Ura M} (𝓛 : Logic 𝓤) (i : Names) where
+module _ {M : Type 1} {𝓤 : Ura M} (𝓛 : Logic 𝓤) (i : Names) (η : BlockId) (n : ℕ) where
   open 𝓛 use {H, A}
 
-  pub lent_halves : Halves 𝓤 H A (lent_share i)
+  pub lent_halves : Halves 𝓤 H A (lent_share i η n)
   lent_halves = record {
-    cut = λ q. qed 𝓛 (‵ (lent_share i q) ∷ []) ∵ fsplit ! $
+    cut = λ q. qed 𝓛 (‵ (lent_share i η n q) ∷ []) ∵ fsplit ! $
         use1 𝓛 (‵ (flft (i.shared ∷ []) (Share.left q)) ⊛ ‵ (flft (i.shared ∷ []) (Share.right q)))
         (𝓛.lfts.lft_split (i.shared ∷ []) q) $ split ! $ move ! (2 ∷ []) $
-        use1 𝓛 (‵ (pass i.handles i.own (Share.left q)) ⊛ ‵ (pass i.handles i.own (Share.right q)))
-        (pass_halves 𝓛 i.handles i.own q) $ split ! $ move ! (2 ∷ 0 ∷ []) $ fjoin ! $ frame ! $
+        use1 𝓛 (‵ (pass η.living n (Share.left q)) ⊛ ‵ (pass η.living n (Share.right q)))
+        (pass_halves 𝓛 η.living n q) $ split ! $ move ! (2 ∷ 0 ∷ []) $ fjoin ! $ frame ! $
         move ! (1 ∷ 0 ∷ []) $ fjoin ! $ done !;
-    join = λ q. qed 𝓛 (‵ (lent_share i (Share.left q)) ∷ ‵ (lent_share i (Share.right q)) ∷ [])
+    join = λ q. qed 𝓛 (‵ (lent_share i η n (Share.left q)) ∷ ‵ (lent_share i η n (Share.right q)) ∷ [])
         ∵ fsplit ! $ move ! (2 ∷ []) $ fsplit ! $ move ! (2 ∷ 0 ∷ []) $
         use2 𝓛 (‵ (flft (i.shared ∷ []) q)) (𝓛.lfts.lft_join (i.shared ∷ []) q) $ move ! (2 ∷ 1 ∷ []) $
-        use2 𝓛 (‵ (pass i.handles i.own q)) (pass_joins 𝓛 i.handles i.own q) $ move ! (1 ∷ 0 ∷ []) $ fjoin ! $ done !;
+        use2 𝓛 (‵ (pass η.living n q)) (pass_joins 𝓛 η.living n q) $ move ! (1 ∷ 0 ∷ []) $ fjoin ! $ done !;
   }
 
 -- the pointer of a handle, as its block and its offset
@@ -94,68 +96,69 @@ module _ {M : Type 1} {𝓤 : Ura M} {𝓛 : Logic 𝓤} {K : Type 0} {Γ : List
     asks_new t h = step (λ s. nothing_more t $ fjoin t $ asks_with t h $ s)
 
 module _ (R : RattleType) (p : Ptr) (x : (HeldRow R).Denot)
-    (η : ℕ) {M : Type 1} {𝓤 : Ura M} {𝓛 : Logic 𝓤} {K : Type 0} {Γ : List (Item 𝓤)} {G : Goal 𝓤
+    (η : BlockId) (n : ℕ) {M : Type 1} {𝓤 : Ura M} {𝓛 : Logic 𝓤} {K : Type 0} {Γ : List (Item 𝓤)} {G : Goal 𝓤
     𝓛.H} where
   -- A counted handle's block has a name for the sharing, of whose token there is a share while the borrow of the `&`
   -- is open.
   -- [the word; what it says; its token's way back; the open borrow; the share; the rule; the sharing]
-  pub opens_handle : K → Soaks G → {κ : Lft} {q : Share} (sole : Bool) → sole ≡ false → (b o : ℕ)
+  pub opens_handle : K → Soaks G → {κ : Lft} {q : Share} (sole : Bool) (log : List Entry) → sole ≡ false → (b o : ℕ)
       → ((inb : InBlock p) (i : Names) (e r : Share)
       → Seq K 𝓛 (‵ (cell_at r (HandleWords R).mir (one_word (parted p) ∷ []) b o)
       ∷ ‵ ((HandleWords R).own_val (p, tt) (one_word (parted p) ∷ [])) ∷ Shut 𝓛 κ (Share.right q)
       (part_at (HandleWords R) r (p, tt) b o)
-      ∷ ‵ (fobor κ (Share.left q) (lent_share i e)) ∷ ‵ (lent_share i e) ∷ ‵ (finv (block_rule R p x η i))
+      ∷ ‵ (fobor κ (Share.left q) (lent_share i η n e)) ∷ ‵ (lent_share i η n e) ∷ ‵ (finv (block_rule R p x η i))
       ∷ ‵ (shown R p x (i.shared ∷ [])) ∷ Γ) G)
-      → Seq K 𝓛 (‵ (hidden_shr (HandleRow R) κ (record { block = p; held = x; sole = sole; id = η }) b o) ∷ ‵ (flft κ q)
+      → Seq K 𝓛 (‵ (hidden_shr (HandleRow R) κ (handle_at R p x sole η n log) b o) ∷ ‵ (flft κ q)
       ∷ Γ) G
-  opens_handle t soaks {κ} {q} sole shared b o k = use1 𝓛 (‵ (hidden_shr (HandleWords R) κ (p, tt) b o)
-      ⊛ ‵ (fhide (handle_shares R p x η sole κ))) (id⊢ 𝓤 _) $ split t $ move t (1 ∷ []) $ unhide t $
-      rewrite t 0 (λ (z : Bool). ‵ (handle_shares R p x η z κ)) shared refl $ fsplit t $
+  opens_handle t soaks {κ} {q} sole log shared b o k = use1 𝓛 (‵ (hidden_shr (HandleWords R) κ (p, tt) b o)
+      ⊛ ‵ (fhide (handle_shares R p x η n sole κ))) (id⊢ 𝓤 _) $ split t $ move t (1 ∷ []) $ unhide t $
+      rewrite t 0 (λ (z : Bool). ‵ (handle_shares R p x η n z κ)) shared refl $ fsplit t $
       fpick t (λ inb. drop t $ fpick t (λ i. fsplit3 t $ drop t $ move t (1 ∷ []) $ fsplit t $ move t (2 ∷ []) $
       -- [what opens the share; the rule; the sharing; the word; the token]
       move t (4 ∷ []) $ use1 𝓛 (‵ (flft κ (Share.left q)) ⊛ ‵ (flft κ (Share.right q))) (𝓛.lfts.lft_split κ q) $
-      split t $ move t (2 ∷ 0 ∷ []) $ shr_bor-open t soaks (lent_halves 𝓛 i) (λ e.
+      split t $ move t (2 ∷ 0 ∷ []) $ shr_bor-open t soaks (lent_halves 𝓛 i η n) (λ e.
       -- [the open borrow; the share; half of the token; the rule; the sharing; the word]
       move t (5 ∷ 2 ∷ []) $ opens_word R p t soaks inb b o (λ r. k inb i e r))))
 
-  -- a permit that was made through a `&`
-  pub shows_permit : K → Soaks G → InBlock p → (i : Names) (r : Right) (old : List WordStep) (what : WordStep)
-      (n : ℕ)
-      → ((log : List WordStep) → Adds x.limit.count old what n log → Seq K 𝓛 (‵ (permit_owns R p x η r log) ∷ Γ) G)
-      → Seq K 𝓛 (‵ (fsep (logged x.limit.count η old what n) (grants (block_at R p x η i) r))
+  -- a permit that was made through a `&`, of the handle that was born last
+  pub shows_permit : K → Soaks G → InBlock p → (i : Names) (r : Right) → NoBlock r → (old log : List Entry) (e : Entry)
+      (w : ℕ) → (Adds x.limit.count old e w log → Seq K 𝓛 (‵ (permit_owns R p x η (newest log) r log) ∷ Γ) G)
+      → Seq K 𝓛 (‵ (fsep (adds x.limit.count η old e w log) (grants (block_at R p x η n i) r log))
       ∷ ‵ (finv (block_rule R p x η i)) ∷ ‵ (shown R p x (i.shared ∷ [])) ∷ Γ) G
-  shows_permit t soaks inb i r old what n k = use3 𝓛 (later
-      (exists (λ (log : List WordStep). given (Adds x.limit.count old what n log) (‵ (permit_owns R p x η r log)))))
-      (permit_shown 𝓛 R p x η inb i old what n r) $ await t soaks $ pick t (λ log. learn t (k log))
+  shows_permit t soaks inb i r none old log e w k = use3 𝓛 (later
+      (given (Adds x.limit.count old e w log) (‵ (permit_owns R p x η (newest log) r log))))
+      (permit_shown 𝓛 R p x η n inb i old e w r log none) $ await t soaks $ learn t k
 
 module _ (R : RattleType) (p : Ptr) (x : (HeldRow R).Denot)
-    (η : ℕ) {M : Type 1} {𝓤 : Ura M} {𝓛 : Logic 𝓤} {K : Type 0} {Γ : List (Item 𝓤)} {G : Goal 𝓤
+    (η : BlockId) (n : ℕ) {M : Type 1} {𝓤 : Ura M} {𝓛 : Logic 𝓤} {K : Type 0} {Γ : List (Item 𝓤)} {G : Goal 𝓤
     𝓛.H} where
   -- What a step through a `&` has left: that it is in the log, and the token again.
-  pub logs : K → Soaks G → {κ : Lft} {q : Share} (i : Names) (e : Share) (old : List WordStep) (what : WordStep)
-      (n : ℕ)
-      → ((log : List WordStep) → Adds x.limit.count old what n log
+  pub logs : K → Soaks G → {κ : Lft} {q : Share} (i : Names) (e : Share) (old : List Entry) (what : WordStep)
+      (w : ℕ)
+      → ((log : List Entry) → Adds x.limit.count old (made n what) w log
       → Seq K 𝓛 (‵ (reached η log) ∷ ‵ (flft κ q) ∷ Γ) G)
-      → Seq K 𝓛 (‵ (fsep (logged x.limit.count η old what n) (lent_share i e)) ∷ ‵ (finv (block_rule R p x η i))
-      ∷ ‵ (flft κ (Share.right q)) ∷ ‵ (fobor κ (Share.left q) (lent_share i e)) ∷ ‵ (shown R p x (i.shared ∷ []))
+      → Seq K 𝓛 (‵ (and_logged (block_at R p x η n i) old (made n what) (λ _ _. lent_share i η n e) w)
+      ∷ ‵ (finv (block_rule R p x η i))
+      ∷ ‵ (flft κ (Share.right q)) ∷ ‵ (fobor κ (Share.left q) (lent_share i η n e)) ∷ ‵ (shown R p x (i.shared ∷ []))
       ∷ Γ) G
-  logs t soaks i e old what n k = fsplit t $ fpick t (λ log. fsplit t $ move t (1 ∷ []) $ fpick t (λ adds. drop t $
+  logs t soaks i e old what w k = fpick t (λ log. fsplit t $ fsplit t $ move t (1 ∷ []) $ fpick t (λ adds. drop t $
       -- [the log; the share; the rule; half of the token; the open borrow; the sharing]
       move t (1 ∷ 3 ∷ 4 ∷ []) $ closes_borrow t soaks $ move t (2 ∷ []) $ drop t $ move t (2 ∷ []) $ drop t $
       move t (1 ∷ 0 ∷ []) $ k log adds))
 
   -- the same with the permit of a step that reported the word
-  pub reports : K → Soaks G → {κ : Lft} {q : Share} → InBlock p → (i : Names) (e : Share) (r : Right)
-      (old : List WordStep) (what : WordStep) (n : ℕ)
-      → (IsWithin n x.limit.count → (log : List WordStep) → Adds x.limit.count old what n log
-      → Seq K 𝓛 (‵ (permit_owns R p x η r log) ∷ ‵ (flft κ q) ∷ Γ) G)
-      → Seq K 𝓛 (‵ (fsep (logged x.limit.count η old what n) (reported (block_at R p x η i) e n r))
-      ∷ ‵ (finv (block_rule R p x η i)) ∷ ‵ (flft κ (Share.right q)) ∷ ‵ (fobor κ (Share.left q) (lent_share i e))
+  pub reports : K → Soaks G → {κ : Lft} {q : Share} → InBlock p → (i : Names) (e : Share) (r : Right) → NoBlock r
+      → (old : List Entry) (what : WordStep) (w : ℕ)
+      → (IsWithin w x.limit.count → (log : List Entry) → Adds x.limit.count old (made n what) w log
+      → Seq K 𝓛 (‵ (permit_owns R p x η (newest log) r log) ∷ ‵ (flft κ q) ∷ Γ) G)
+      → Seq K 𝓛 (‵ (and_logged (block_at R p x η n i) old (made n what)
+      (λ w log. reported (block_at R p x η n i) e w r log) w)
+      ∷ ‵ (finv (block_rule R p x η i)) ∷ ‵ (flft κ (Share.right q)) ∷ ‵ (fobor κ (Share.left q) (lent_share i η n e))
       ∷ ‵ (shown R p x (i.shared ∷ [])) ∷ Γ) G
-  reports t soaks {κ} {q} inb i e r old what n k = fsplit t $ move t (1 ∷ []) $ fsplit3 t $
+  reports t soaks {κ} {q} inb i e r none old what w k = fpick t (λ log. fsplit t $ move t (1 ∷ []) $ fsplit3 t $
       -- [the share; that it is within; the right; that it is in the log; the rule; half of the token; the open borrow;
       -- the sharing]
       move t (1 ∷ []) $ fpick t (λ within. drop t $ move t (0 ∷ 4 ∷ 5 ∷ []) $ closes_borrow t soaks $
       -- [the token; the right; that it is in the log; the rule; the sharing]
       move t (2 ∷ 1 ∷ []) $ fjoin t $ move t (0 ∷ 2 ∷ 3 ∷ []) $
-      shows_permit R p x η t soaks inb i r old what n (λ log adds. k within log adds))
+      shows_permit R p x η n t soaks inb i r none old log (made n what) w (λ adds. k within log adds)))

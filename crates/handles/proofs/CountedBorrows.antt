@@ -19,14 +19,14 @@ use denote.SharingLaws.{contraction}
 use denote.Moves.{moves_from}
 use denote.Steps.{nothing as nothing_more}
 use denote.Struct.Lending.{Lends}
-use Rattle.handles.specs.Inside.Blocks.{lent_share, Names, entitled, Rule, counted, counted_shares}
+use Rattle.handles.specs.Inside.Blocks.{lent_share, Names, BlockId, entitled, Rule, counted, counted_shares}
 
-module _ (content kept : Fml) (limit b o η : ℕ) (t : Lft → Fml) (L : ShrLaws t) where
+module _ (content kept : Fml) (limit b o : ℕ) (η : BlockId) (n : ℕ) (t : Lft → Fml) (L : ShrLaws t) where
   abbrev Held : Names → Fml
-  Held i = counted content kept limit b o η i t
+  Held i = counted content kept limit b o η i n t
 
   abbrev Shared : Names → Lft → Fml
-  Shared i = counted_shares content kept limit b o η i t
+  Shared i = counted_shares content kept limit b o η i n t
 
   module _ {M : Type 1} {𝓤 : Ura M} (𝓛 : Logic 𝓤) where
     open 𝓛 use {H, A}
@@ -41,21 +41,21 @@ module _ (content kept : Fml) (limit b o η : ℕ) (t : Lft → Fml) (L : ShrLaw
       -- a borrow that lends the token and the pass out gets the handle back with them
       comes_back : (i : Names) (e : Share) → ent 𝓤 (sep 𝓤 (sem 𝓛 (fex Bool (entitled i e)))
           (sep 𝓤 (sem 𝓛 (finv (Rule content kept limit b o η i))) (sep 𝓤 (sem 𝓛 (t (i.shared ∷ [])))
-          (sem 𝓛 (left_over 𝓛 i.handles i.own (Share.right e))))))
-          (sem 𝓛 (fwand (fsep (fdead κ) (fseps (flft (i.shared ∷ []) (Share.left e) ∷ lent_share i (Share.right e)
+          (sem 𝓛 (left_over 𝓛 η.living n (Share.right e))))))
+          (sem 𝓛 (fwand (fsep (fdead κ) (fseps (flft (i.shared ∷ []) (Share.left e) ∷ lent_share i η n (Share.right e)
           ∷ []))) (fupd Owns)))
       unfolding fseps
       comes_back i e = let a : Lft = i.shared ∷ [] in
-          let Rest : Fml = left_over 𝓛 i.handles i.own (Share.right e) in
+          let Rest : Fml = left_over 𝓛 η.living n (Share.right e) in
           qed 𝓛 (‵ (fex Bool (entitled i e)) ∷ ‵ (finv (Rule content kept limit b o η i)) ∷ ‵ (t a) ∷ ‵ Rest ∷ []) ∵
-          assume ! (‵ (fsep (fdead κ) (fsep (flft a (Share.left e)) (fsep (lent_share i (Share.right e)) ftrue)))) $
+          assume ! (‵ (fsep (fdead κ) (fsep (flft a (Share.left e)) (fsep (lent_share i η n (Share.right e)) ftrue)))) $
           suffices ! (sem 𝓛 Owns) (upd_i 𝓤 (sem 𝓛 Owns)) $ fsplit3 ! $ move ! (2 ∷ []) $ fsplit ! $ fsplit ! $
           -- [half of the token's share; the pass's; nothing; that κ is over; the other half; the entitlement; the
           -- rule;
           -- the sharing; what was left]
           move ! (4 ∷ 0 ∷ []) $ use2 𝓛 (‵ (flft a e)) (𝓛.lfts.lft_join a e) $ move ! (4 ∷ 0 ∷ []) $ fjoin ! $
           fpack ! Share (λ e. fsep (fex Bool (entitled i e)) (flft a e)) e $
-          move ! (1 ∷ 6 ∷ []) $ use2 𝓛 (‵ (pass i.handles i.own full_share)) (pass_whole 𝓛 i.handles i.own
+          move ! (1 ∷ 6 ∷ []) $ use2 𝓛 (‵ (pass η.living n full_share)) (pass_whole 𝓛 η.living n
           (Share.right e)) $
           move ! (1 ∷ 0 ∷ []) $ fjoin ! $ keep ! (0 ∷ 3 ∷ 4 ∷ []) $ fjoin3 ! $ fpack ! Names Held i $ done !
 
@@ -67,22 +67,22 @@ module _ (content kept : Fml) (limit b o η : ℕ) (t : Lft → Fml) (L : ShrLaw
           fpick ! (λ i. let a : Lft = i.shared ∷ [] in let I : Fml = Rule content kept limit b o η i in fsplit3 ! $
           fsplit ! $ fpick ! (λ e. fsplit ! $
           -- [the entitlement; the token's share; the pass; the rule; the sharing; the open borrow]
-          move ! (2 ∷ []) $ use1 𝓛 (‵ (pass i.handles i.own (Share.right e))
-          ⊛ ‵ (left_over 𝓛 i.handles i.own (Share.right e))) (pass_cut 𝓛 i.handles i.own (Share.right e)) $ split ! $
+          move ! (2 ∷ []) $ use1 𝓛 (‵ (pass η.living n (Share.right e))
+          ⊛ ‵ (left_over 𝓛 η.living n (Share.right e))) (pass_cut 𝓛 η.living n (Share.right e)) $ split ! $
           move ! (3 ∷ []) $ use1 𝓛 (‵ (flft a (Share.left e)) ⊛ ‵ (flft a (Share.right e))) (𝓛.lfts.lft_split a e) $
           split ! $ move ! (1 ∷ 2 ∷ []) $ fjoin ! $ move ! (3 ∷ 0 ∷ 4 ∷ 5 ∷ 6 ∷ 2 ∷ 1 ∷ []) $
           -- [the entitlement; what is lent; the rule; the sharing; the open borrow; what is left of the pass; half of
           -- the token's share]
           move ! (2 ∷ []) $ use1 𝓛 (‵ (finv I) ⊛ ‵ (finv I)) (𝓛.invs.inv_dup I) $ split ! $ move ! (4 ∷ []) $
           use1 𝓛 (‵ (t a) ⊛ ‵ (t a)) (contraction 𝓛 t L a) $ split ! $ move ! (4 ∷ 2 ∷ 0 ∷ 7 ∷ []) $ group ! 4 $
-          use1 𝓛 (‵ (fwand (fsep (fdead κ) (fseps (flft a (Share.left e) ∷ lent_share i (Share.right e) ∷ [])))
+          use1 𝓛 (‵ (fwand (fsep (fdead κ) (fseps (flft a (Share.left e) ∷ lent_share i η n (Share.right e) ∷ [])))
           (fupd Owns))) (comes_back i e) $
           -- [the way back; the sharing; the rule; what is lent; the open borrow; half of the token's share]
           nothing_more ! $ move ! (4 ∷ 0 ∷ []) $ fjoin ! $ move ! (5 ∷ 0 ∷ []) $ fjoin ! $ move ! (4 ∷ 0 ∷ 1 ∷ []) $
-          obor_alter ! tt (flft a (Share.left e) ∷ lent_share i (Share.right e) ∷ []) $
-          use1 𝓛 (‵ (fbor κ (flft a (Share.left e))) ⊛ ‵ (fbor κ (lent_share i (Share.right e))) ⊛ ‵ ftrue) (id⊢ 𝓤 _) $
+          obor_alter ! tt (flft a (Share.left e) ∷ lent_share i η n (Share.right e) ∷ []) $
+          use1 𝓛 (‵ (fbor κ (flft a (Share.left e))) ⊛ ‵ (fbor κ (lent_share i η n (Share.right e))) ⊛ ‵ ftrue) (id⊢ 𝓤 _) $
           split3 ! $ bor_fracture ! tt (λ r. flft a r) (Share.left e) $ move ! (1 ∷ []) $
-          bor_fracture ! tt (lent_share i) (Share.right e) $
+          bor_fracture ! tt (lent_share i η n) (Share.right e) $
           -- [the way to a share; to the token; nothing; the token; the sharing; the rule]
           move ! (5 ∷ 4 ∷ []) $ fjoin ! $ move ! (2 ∷ 1 ∷ 0 ∷ []) $ fjoin3 ! $ fpack ! Names (λ i. Shared i κ) i $
           now ! $ keep ! (0 ∷ 2 ∷ []) $ done !))

@@ -26,37 +26,42 @@ use Rattle.handles.specs.contracts.limit.Limit.{the_row as LimitRow}
 use Rattle.handles.proofs.limit.Limit.TheLaws.{the_row_laws as limit_laws}
 use Rattle.handles.specs.contracts.block.Held as held
 use Rattle.handles.specs.contracts.block.handle.Handle as handle_type
-use Rattle.handles.specs.Inside.Blocks.{HeldRow, held_offset, recorded, stamp, frees, unshared_block, Sharing}
-use Rattle.handles.specs.Inside.Blocks.{not_yet, held_as}
-use Rattle.handles.proofs.Fields.{HandleRow, HandleWords, one_word, words_made}
+use Rattle.counting_word.specs.Logs.{Entry}
+use Rattle.handles.specs.Inside.Rows.{pass}
+use Rattle.handles.specs.Inside.Blocks.{BlockId, HeldRow, held_offset, noted_as, stamp, frees, unshared_block, Sharing}
+use Rattle.handles.specs.Inside.Blocks.{sole_handle, not_yet, held_as}
+use Rattle.handles.proofs.Fields.{HandleRow, HandleWords, handle_at, one_word, words_made}
 
 -- what an unshared block's handle at (b, o) has beside what the block holds
-abbrev beside_held : (R : RattleType) → Ptr → ℕ → ℕ → ℕ → ℕ → Fml
-beside_held R p limit η b o = let at : Ptr = block_ptr (block_of p) (offset_of p) in
-    fsep (fex Global (frees R at)) (fsep (fsep (word (block_of p) (offset_of p + 0) 1) (recorded limit η 1))
-    (fsep (stamp at) (cell_at full_share (HandleRow R).mir (one_word at ∷ []) b o)))
+abbrev beside_held : (R : RattleType) → Ptr → ℕ → BlockId → ℕ → List Entry → ℕ → ℕ → Fml
+beside_held R p limit η n log b o = let at : Ptr = block_ptr (block_of p) (offset_of p) in
+    fsep (fex Global (frees R at)) (fsep (fsep (word (block_of p) (offset_of p + 0) 1) (noted_as limit η 1 log))
+    (fsep (pass η.living n full_share)
+    (fsep (stamp at) (cell_at full_share (HandleRow R).mir (one_word at ∷ []) b o))))
 
-module _ {M : Type 1} {𝓤 : Ura M} (𝓛 : Logic 𝓤) (R : RattleType) (p : Ptr) (η b o : ℕ) (inb : InBlock p)
+module _ {M : Type 1} {𝓤 : Ura M} (𝓛 : Logic 𝓤) (R : RattleType) (p : Ptr) (η : BlockId) (n : ℕ) (log : List Entry)
+    (b o : ℕ) (inb : InBlock p)
   where
     -- with anything held, that is the handle again
     held_back : (w : (HeldRow R).Denot) → ent 𝓤 (sep 𝓤
         (sem 𝓛 ((mem (HeldRow R)).own_at w (block_of p) (offset_of p + held_offset R)))
-        (sem 𝓛 (beside_held R p w.limit.count η b o))) (sem 𝓛 ((mem (HandleRow R)).own_at
-        (record { block = p; held = w; sole = false; id = η }) b o))
+        (sem 𝓛 (beside_held R p w.limit.count η n log b o))) (sem 𝓛 ((mem (HandleRow R)).own_at
+        (handle_at R p w false η n []) b o))
     unfolding part_of
     held_back w = let at : Ptr = block_ptr (block_of p) (offset_of p) in
         qed 𝓛 (‵ (part_at (HeldRow R) full_share w (block_of p) (offset_of p + held_offset R))
-        ∷ ‵ (beside_held R p w.limit.count η b o) ∷ []) ∵ move ! (1 ∷ []) $ fsplit3 ! $ move ! (2 ∷ []) $ fsplit ! $
-        -- [the stamp; the cell; what frees; the word; the value]
-        move ! (4 ∷ 2 ∷ []) $ fjoin ! $ move ! (3 ∷ 0 ∷ 1 ∷ []) $ fjoin3 ! $
-        rewrite ! 0 (λ (z : Ptr). ‵ (unshared_block R z w η 1)) (sym (at_block p inb)) refl $
+        ∷ ‵ (beside_held R p w.limit.count η n log b o) ∷ []) ∵ move ! (1 ∷ []) $ fsplit3 ! $ move ! (2 ∷ []) $
+        fsplit3 ! $
+        -- [the pass; the stamp; the cell; what frees; the word; the value]
+        move ! (5 ∷ 3 ∷ []) $ fjoin ! $ move ! (4 ∷ 0 ∷ 2 ∷ []) $ fjoin3 ! $
+        rewrite ! 0 (λ (z : Ptr). ‵ (unshared_block R z w η 1 log)) (sym (at_block p inb)) refl $ fjoin ! $
         rewrite ! 1 (λ (z : Ptr). ‵ (cell_at full_share (HandleRow R).mir (one_word z ∷ []) b o))
         (sym (at_block p inb)) refl $
-        fpack ! Sharing (held_as R p w η) not_yet $ nothing_more ! $ fpack ! (InBlock p) (λ _. ftrue) inb $ fjoin ! $
+        fpack ! (List Entry) (sole_handle R p w η n) log $ fpack ! Sharing (held_as R p w η n) not_yet $ nothing_more ! $ fpack ! (InBlock p) (λ _. ftrue) inb $ fjoin ! $
         use0 𝓛 (‵ ((HandleWords R).own_val (p, tt) (one_word p ∷ []))) (words_made (handle_type.the_type R).name (R
         ∷ []) 𝓛 p) $ fjoin ! $ move ! (1 ∷ 0 ∷ []) $ fjoin ! $
         fpack ! (List Val) (λ vs. fsep (cell_at full_share (HandleRow R).mir vs b o)
-        ((HandleRow R).own_val (record { block = p; held = w; sole = false; id = η }) vs)) (one_word p ∷ []) $ done !
+        ((HandleRow R).own_val (handle_at R p w false η n []) vs)) (one_word p ∷ []) $ done !
 
 module _ (T : RattleType) where
   abbrev R : RattleType
@@ -82,8 +87,9 @@ module _ (T : RattleType) where
   Apart x b o = fsep (part_at R full_share x.value b (o + value_offset)) (beside_value x.limit b o)
 
   -- what the only handle at (b, o) has beside its value
-  abbrev pub Rest : Ptr → Limit → ℕ → ℕ → ℕ → Fml
-  Rest p l η b o = fsep (beside_value l (block_of p) (offset_of p + held_offset R)) (beside_held R p l.count η b o)
+  abbrev pub Rest : Ptr → Limit → BlockId → ℕ → List Entry → ℕ → ℕ → Fml
+  Rest p l η n log b o = fsep (beside_value l (block_of p) (offset_of p + held_offset R))
+      (beside_held R p l.count η n log b o)
 
   module _ (L : Laws T) {M : Type 1} {𝓤 : Ura M} (𝓛 : Logic 𝓤) where
     pub held_out : (x : (HeldRow R).Denot) (b o : ℕ)
@@ -106,15 +112,16 @@ module _ (T : RattleType) where
         by ! (left_Struct 𝓛 full_share (held.the_type R).name parts (x.limit, (x.value, tt)) b o)
 
     -- with any value, that is the handle again
-    pub value_back : (p : Ptr) (l : Limit) (η b o : ℕ) → InBlock p → (v : R.Denot)
+    pub value_back : (p : Ptr) (l : Limit) (η : BlockId) (n : ℕ) (log : List Entry) (b o : ℕ) → InBlock p
+        → (v : R.Denot)
         → ent 𝓤 (sep 𝓤 (sem 𝓛 ((mem R).own_at v (block_of p) (offset_of p + held_offset R + value_offset)))
-        (sem 𝓛 (Rest p l η b o))) (sem 𝓛 ((mem (HandleRow R)).own_at
-        (record { block = p; held = record { limit = l; value = v }; sole = false; id = η }) b o))
-    value_back p l η b o inb v =
+        (sem 𝓛 (Rest p l η n log b o))) (sem 𝓛 ((mem (HandleRow R)).own_at
+        (handle_at R p (record { limit = l; value = v }) false η n []) b o))
+    value_back p l η n log b o inb v =
         let x : (HeldRow R).Denot = record { limit = l; value = v } in
         let pb : ℕ = block_of p in let po : ℕ = offset_of p + held_offset R in
-        qed 𝓛 (‵ (part_at R full_share v pb (po + value_offset)) ∷ ‵ (Rest p l η b o) ∷ []) ∵
+        qed 𝓛 (‵ (part_at R full_share v pb (po + value_offset)) ∷ ‵ (Rest p l η n log b o) ∷ []) ∵
         move ! (1 ∷ []) $ fsplit ! $
         -- [the limit and what is left; what is beside what is held; the value]
         move ! (2 ∷ 0 ∷ []) $ fjoin ! $ use1 𝓛 (‵ (part_at (HeldRow R) full_share x pb po)) (held_in x pb po) $
-        by ! (held_back 𝓛 R p η b o inb x)
+        by ! (held_back 𝓛 R p η n log b o inb x)

@@ -7,7 +7,7 @@ use mir.Val.{Val, vint, vstruct, vcons, vnil, of_list, has_ty, WT}
 use base.Logic.{ent, emp}
 use base.Fml.{feq, fsep}
 use types.Logic.{Logic, sem}
-use types.Kit.{Item, Goal, Seq, Step, step, ‵, ◌$◌, move, drop, fsplit, fjoin, fjoin3, fpick, fpack, feq_i, flt_i}
+use types.Kit.{Item, Goal, Step, step, ‵, ◌$◌, move, fjoin, fjoin3, fpack, feq_i, flt_i}
 use types.Kit.{use0}
 use denote.RattleType.{RattleType, Valss, owns}
 use denote.Laws.{Is}
@@ -17,9 +17,8 @@ use denote.Steps.{nothing as nothing_more}
 use denote.Struct.Owning.{shape}
 use denote.Struct.Struct.{Struct}
 use denote.Struct.Tuple.{Tuple}
-use Rattle.counting_word.specs.WordSteps.{WordStep}
-use Rattle.counting_word.specs.Tallies.{Adds}
-use Rattle.handles.specs.Inside.Blocks.{reached, logged}
+use Rattle.counting_word.specs.Logs.{Entry}
+use Rattle.handles.specs.Inside.Blocks.{BlockId, reached}
 use Rattle.handles.specs.contracts.block.permit.Logged as logged_type
 
 -- a word, and that a step is in the log, which has no bytes
@@ -44,19 +43,10 @@ no_bytes-made 𝓛 = makes_shadow 𝓛 (NoBytes.own_val tt (vstruct vnil ∷ [])
 pub no_bytes_told : (vs : List Val) → Is NoBytes tt vs → vs ≡ vstruct vnil ∷ []
 no_bytes_told vs is = is.1.0
 
-module _ (limit id n : ℕ) {M : Type 1} {𝓤 : Ura M} {𝓛 : Logic 𝓤} {K : Type 0} {Γ : List (Item 𝓤)} {G :
-    Goal 𝓤 𝓛.H} where
-  -- what a step has put into the log
-  pub tells : K → (old : List WordStep) (what : WordStep)
-      → ((log : List WordStep) → Adds limit old what n log → Seq K 𝓛 (‵ (reached id log) ∷ Γ) G)
-      → Seq K 𝓛 (‵ (logged limit id old what n) ∷ Γ) G
-  tells t old what k =
-      fpick t (λ log. fsplit t $ move t (1 ∷ []) $ fpick t (λ adds. drop t $ k log adds))
-
-module _ (id n : ℕ) {M : Type 1} {𝓤 : Ura M} {𝓛 : Logic 𝓤} {K : Type 0} {Γ : List (Item 𝓤)} {G : Goal
+module _ (id : BlockId) (n : ℕ) {M : Type 1} {𝓤 : Ura M} {𝓛 : Logic 𝓤} {K : Type 0} {Γ : List (Item 𝓤)} {G : Goal
     𝓤 𝓛.H} where
   -- the result of a step that gives no right: the word that it found, and what is in the log
-  pub returns_logged : K → n < 2 ^ 64 → (log : List WordStep)
+  pub returns_logged : K → n < 2 ^ 64 → (log : List Entry)
       → Step K 𝓛 (‵ ((Tuple (u64 ∷ LoggedRow ∷ [])).own_val (n, record { id = id; log = log }) (word_and_logged n ∷ []))
       ∷ Γ)
       G (‵ (reached id log) ∷ Γ) G

@@ -1,31 +1,53 @@
 -- What a `&` to a marked block has: it may be had twice, and it shows the value at every lifetime. Assumes `Logic`.
-use Rattle.std.proofs.Common.{ℕ, [], ◌∷◌}
+use Rattle.std.proofs.Common.{ℕ, List, [], ◌∷◌, refl}
 use seplogic.Ra.Ura.{Ura}
 use base.Logic.{ent, sep, snd∗}
 use base.Before.{before}
-use base.Fml.{Lft, Incl, Incl-refl, Share, Fml, fsep, fex, flft}
+use base.Fraction.{full_share}
+use base.Growing.{latest}
+use base.Fml.{Lft, Incl, Incl-refl, Share, Fml, ftrue, fsep, fex, flft}
 use base.Share
 use contract.BorrowLft.{meet_⊑_left, ⊑_static}
 use types.Logic.{Logic, sem}
-use types.Kit.{‵, ◌⊛◌, later, some, pick, await, use2, ◌$◌, ◌∵◌, !, qed, by, move, drop, split, fsplit, fsplit3}
-use types.Kit.{fjoin, fpick, fpack, use1, updating, now, done}
+use types.Kit.{‵, ◌⊛◌, later, some as some_of, pick, await, use2, ◌$◌, ◌∵◌, !, qed, by, move, drop, split}
+use types.Kit.{fsplit, fsplit3, fjoin, fpick, fpack, use1, updating, now, done}
+use types.Growing.{latest_shows, at_least_dup}
 use types.Tokens.{shr_bor_shorten, bor_new, bor_fracture}
 use denote.RattleType.{RattleType}
 use denote.RawPtr.{Ptr}
 use denote.Moves.{moves_from}
-use denote.Sharing.{ShrLaws, said, beside, one, held, always}
+use denote.Steps.{nothing as nothing_more}
+use denote.Sharing.{ShrLaws, said, beside, some, one, held, always}
 use denote.SharingLaws.{some_shr_laws, beside_shr_laws, one_shr_laws, always_shr_laws, held_shr_laws}
 use denote.Param.Laws.{Laws}
 use Rattle.counting_word.specs.CountingWord.{marked_word}
-use Rattle.handles.specs.Inside.Blocks.{HeldRow, Names, marked, lent_share, bare_block, unshared_block, block_rule}
-use Rattle.handles.specs.Inside.Blocks.{shown}
-use Rattle.handles.specs.Inside.Marked.{Lasting, stays, marked_shares}
+use Rattle.counting_word.specs.Logs.{Entry}
+use Rattle.handles.specs.declared.block.permit.Logged.{Logged}
+use Rattle.handles.specs.Inside.Blocks.{HeldRow, Names, BlockId, marked, lent_share, bare_block, block_rule, shown}
+use Rattle.handles.specs.Inside.Blocks.{kept_log, logs, reached}
+use Rattle.handles.specs.Inside.Marked.{HasMark, Staying, Lasting, born_static, stays, tells_mark, marked_shares}
 use Rattle.handles.specs.Inside.Rows.{pass}
 use Rattle.handles.proofs.Rows.{pass_cut, left_over}
-use Rattle.handles.proofs.NewBlocks.{begins_marked}
+use Rattle.handles.proofs.NewBlocks.{New, begins_marked}
 use Rattle.handles.proofs.Owners.{shown-ShrLaws, counted_of, known_settles}
 
-module _ (R : RattleType) (L : Laws R) (p : Ptr) (x : (HeldRow R).Denot) where
+tells-ShrLaws : (l : Logged) → ShrLaws (said (tells_mark l))
+tells-ShrLaws l = let T : Fml = tells_mark l in record {
+  contraction = λ M 𝓤 𝓛 κ. qed 𝓛 (‵ T ∷ []) ∵ fsplit ! $
+      use1 𝓛 (‵ (reached l.id l.log) ⊛ ‵ (reached l.id l.log)) (at_least_dup logs 𝓛 l.id.log (kept_log l.log)) $
+      split ! $ move ! (2 ∷ []) $ fpick ! (λ has. drop ! $
+      nothing_more ! $ fpack ! (HasMark l.log) (λ _. ftrue) has $ move ! (1 ∷ 0 ∷ []) $ fjoin ! $
+      nothing_more ! $ fpack ! (HasMark l.log) (λ _. ftrue) has $ move ! (2 ∷ 0 ∷ []) $ fjoin ! $ done !);
+  mono = λ M 𝓤 𝓛 κ' κ. snd∗ 𝓤 (sem 𝓛 (before κ' κ)) (sem 𝓛 T);
+}
+
+module _ (R : RattleType) (L : Laws R) (p : Ptr) (d : Staying R.Denot) where
+  abbrev x : (HeldRow R).Denot
+  x = d.held
+
+  abbrev η : BlockId
+  η = d.known_by.id
+
   marked-ShrLaws : (i : Names) → ShrLaws (said (marked i))
   marked-ShrLaws i = record {
     contraction = λ M 𝓤 𝓛 κ. 𝓛.lfts.dead_dup (i.unmarked ∷ []);
@@ -33,57 +55,81 @@ module _ (R : RattleType) (L : Laws R) (p : Ptr) (x : (HeldRow R).Denot) where
   }
 
   shows-ShrLaws : ShrLaws (shown R p x)
-  shows-ShrLaws = shown-ShrLaws R L p x 0
+  shows-ShrLaws = shown-ShrLaws R L p x η 0
 
-  stays-ShrLaws : (t : Lasting) → ShrLaws (stays R p x t)
-  stays-ShrLaws t = let i : Names = t.1 in let token : Lft → Fml = one (λ q. flft (i.shared ∷ []) q) in
-      let lent : Lft → Fml = one (lent_share i) in let rule : Lft → Fml = always (block_rule R p x t.0 i) in
+  stays-ShrLaws : (t : Lasting) → ShrLaws (stays R p d t)
+  stays-ShrLaws t = let i : Names = t.names in let token : Lft → Fml = one (λ q. flft (i.shared ∷ []) q) in
+      let lent : Lft → Fml = one (lent_share i η t.number) in let rule : Lft → Fml = always (block_rule R p x η i) in
       let s : Lft → Fml = held (i.shared ∷ []) (shown R p x) in
       beside_shr_laws (said (marked i)) (beside (held [] token) (beside (held [] lent) (beside rule s)))
       (marked-ShrLaws i) (beside_shr_laws (held [] token) (beside (held [] lent) (beside rule s))
       (held_shr_laws [] token (one_shr_laws (λ q. flft (i.shared ∷ []) q)))
-      (beside_shr_laws (held [] lent) (beside rule s) (held_shr_laws [] lent (one_shr_laws (lent_share i)))
-      (beside_shr_laws rule s (always_shr_laws (block_rule R p x t.0 i)) (held_shr_laws (i.shared ∷ [])
+      (beside_shr_laws (held [] lent) (beside rule s) (held_shr_laws [] lent (one_shr_laws (lent_share i η t.number)))
+      (beside_shr_laws rule s (always_shr_laws (block_rule R p x η i)) (held_shr_laws (i.shared ∷ [])
       (shown R p x) shows-ShrLaws))))
 
-  pub marked_shares-ShrLaws : ShrLaws (marked_shares R p x)
-  marked_shares-ShrLaws = some_shr_laws Lasting (stays R p x) stays-ShrLaws
+  pub marked_shares-ShrLaws : ShrLaws (marked_shares R p d)
+  marked_shares-ShrLaws = beside_shr_laws (said (tells_mark d.known_by)) (some Lasting (stays R p d))
+      (tells-ShrLaws d.known_by) (some_shr_laws Lasting (stays R p d) stays-ShrLaws)
 
   module _ {M : Type 1} {𝓤 : Ura M} (𝓛 : Logic 𝓤) where
     -- the value is seen at every lifetime
-    pub stays_shown : (κ : Lft) → ent 𝓤 (sem 𝓛 (marked_shares R p x κ)) (sem 𝓛 (shown R p x κ))
-    stays_shown κ = qed 𝓛 (‵ (marked_shares R p x κ) ∷ [])
-        ∵ fpick ! (λ t. let a : Lft = t.1.shared ∷ [] in
+    pub stays_shown : (κ : Lft) → ent 𝓤 (sem 𝓛 (marked_shares R p d κ)) (sem 𝓛 (shown R p x κ))
+    stays_shown κ = qed 𝓛 (‵ (marked_shares R p d κ) ∷ [])
+        ∵ fsplit ! $ drop ! $ fpick ! (λ t. let a : Lft = t.names.shared ∷ [] in
         fsplit ! $ drop ! $ fsplit ! $ shr_bor_shorten ! κ (⊑_static κ) $ move ! (1 ∷ []) $ fsplit ! $ drop ! $
         fsplit ! $ drop ! $
         move ! (1 ∷ 0 ∷ []) $ by ! (moves_from 𝓛 (shown R p x) shows-ShrLaws κ a a (meet_⊑_left a κ)))
 
-    -- a counted handle of a marked block, given away for good
-    pub becomes_lasting : (η : ℕ) (i : Names) (κ : Lft)
-        → ent 𝓤 (sem 𝓛 (fsep (marked i) (counted_of R p x η i))) (𝓛.H.⇛ (sem 𝓛 (marked_shares R p x κ)))
-    becomes_lasting η i κ = let a : Lft = i.shared ∷ [] in
-        qed 𝓛 (‵ (fsep (marked i) (counted_of R p x η i)) ∷ []) ∵ updating ! $
-        fsplit ! $ move ! (1 ∷ []) $ fsplit3 ! $ fsplit ! $ fpick ! (λ d. fsplit ! $ drop ! $
-        -- [a share of the token; the pass; the rule; the sharing; the mark]
-        use1 𝓛 (‵ (flft a (Share.left d)) ⊛ ‵ (flft a (Share.right d))) (𝓛.lfts.lft_split a d) $ split ! $
-        bor_new ! tt [] $ move ! (1 ∷ []) $ drop ! $ bor_fracture ! tt (λ r. flft a r) (Share.left d) $
+    -- a counted handle of a block that a log tells to be marked, given away for good
+    pub becomes_lasting : (n : ℕ) (i : Names) (κ : Lft)
+        → ent 𝓤 (sem 𝓛 (fsep (fsep (marked i) (counted_of R p x η n i)) (tells_mark d.known_by)))
+        (𝓛.H.⇛ (sem 𝓛 (marked_shares R p d κ)))
+    becomes_lasting n i κ = let a : Lft = i.shared ∷ [] in
+        qed 𝓛 (‵ (fsep (fsep (marked i) (counted_of R p x η n i)) (tells_mark d.known_by)) ∷ []) ∵ updating ! $
+        fsplit ! $ fsplit ! $ move ! (1 ∷ []) $ fsplit3 ! $ fsplit ! $ fpick ! (λ e. fsplit ! $ drop ! $
+        -- [a share of the token; the pass; the rule; the sharing; the mark; the log]
+        use1 𝓛 (‵ (flft a (Share.left e)) ⊛ ‵ (flft a (Share.right e))) (𝓛.lfts.lft_split a e) $ split ! $
+        bor_new ! tt [] $ move ! (1 ∷ []) $ drop ! $ bor_fracture ! tt (λ r. flft a r) (Share.left e) $
         move ! (2 ∷ []) $
-        use1 𝓛 (‵ (pass i.handles i.own (Share.right d)) ⊛ ‵ (left_over 𝓛 i.handles i.own (Share.right d)))
-        (pass_cut 𝓛 i.handles i.own (Share.right d)) $
+        use1 𝓛 (‵ (pass η.living n (Share.right e)) ⊛ ‵ (left_over 𝓛 η.living n (Share.right e)))
+        (pass_cut 𝓛 η.living n (Share.right e)) $
         split ! $ move ! (1 ∷ []) $ drop ! $ move ! (2 ∷ 0 ∷ []) $ fjoin ! $
-        bor_new ! tt [] $ move ! (1 ∷ []) $ drop ! $ bor_fracture ! tt (lent_share i) (Share.right d) $
-        -- [what is lent of the pass; of the token; the rule; the sharing; the mark]
+        bor_new ! tt [] $ move ! (1 ∷ []) $ drop ! $ bor_fracture ! tt (lent_share i η n) (Share.right e) $
+        -- [what is lent of the pass; of the token; the rule; the sharing; the mark; the log]
         move ! (2 ∷ 3 ∷ []) $ fjoin ! $ move ! (1 ∷ 0 ∷ []) $ fjoin ! $ move ! (1 ∷ 0 ∷ []) $ fjoin ! $
-        move ! (1 ∷ 0 ∷ []) $ fjoin ! $ fpack ! Lasting (λ t. stays R p x t κ) (η, i) $ now ! $ done !)
+        move ! (1 ∷ 0 ∷ []) $ fjoin ! $ fpack ! Lasting (λ t. stays R p d t κ) (record { number = n; names = i }) $
+        move ! (1 ∷ 0 ∷ []) $ fjoin ! $
+        now ! $ done !)
+
+module _ (R : RattleType) (L : Laws R) (p : Ptr) (x : (HeldRow R).Denot) where
+  abbrev pub staying : BlockId → List Entry → Staying R.Denot
+  staying η log = record { held = x; known_by = record { id = η; log = log } }
+
+  module _ {M : Type 1} {𝓤 : Ura M} (𝓛 : Logic 𝓤) where
+    abbrev pub Lasts_new : Lft → BlockId → Fml
+    Lasts_new κ η = marked_shares R p (staying η born_static) κ
 
     -- a new block that is marked, given away for good
     pub new_lasts : (μ : Lft) (q : Share) → Incl μ R.lives → (κ : Lft)
         → ent 𝓤 (sep 𝓤 (sem 𝓛 (bare_block R p x (marked_word 1))) (sem 𝓛 (flft μ q)))
-        (𝓛.H.⇛ (sep 𝓤 (sem 𝓛 (marked_shares R p x κ)) (sem 𝓛 (flft μ q))))
-    new_lasts μ q lives κ = qed 𝓛 (‵ (bare_block R p x (marked_word 1)) ∷ ‵ (flft μ q) ∷ [])
-        ∵ updating ! $ use1 𝓛 (later (some (λ (η : ℕ). ‵ (unshared_block R p x η (marked_word 1)))))
+        (𝓛.H.⇛ (sep 𝓤 (sem 𝓛 (fex BlockId (Lasts_new κ))) (sem 𝓛 (flft μ q))))
+    new_lasts μ q lives κ = let w : ℕ = marked_word 1 in let log : List Entry = born_static in
+        qed 𝓛 (‵ (bare_block R p x w) ∷ ‵ (flft μ q) ∷ [])
+        ∵ updating ! $ use1 𝓛 (later (some_of (λ (η : BlockId). ‵ (New R 𝓛 p x w log η))))
         (begins_marked R 𝓛 p x) $ await ! tt $ pick ! (λ η.
-        use2 𝓛 (later (‵ (fex Names (λ i. fsep (marked i) (counted_of R p x η i))) ⊛ ‵ (flft μ q)))
-        (known_settles R L 𝓛 p x η μ lives μ q (Incl-refl μ)) $
-        await ! tt $ split ! $ fpick ! (λ i. use1 𝓛 (later (‵ (marked_shares R p x κ))) (becomes_lasting η i κ) $
-        await ! tt $ now ! $ done !))
+        fsplit ! $ fsplit ! $ fsplit ! $ move ! (1 ∷ []) $ fsplit ! $
+        -- [the log; the run and the rows; the word; what is held and the stamp; the pass; the token]
+        use1 𝓛 (‵ (latest logs full_share η.log (kept_log log)) ⊛ ‵ (reached η log)) (latest_shows logs 𝓛 full_share η.log
+        (kept_log log) (kept_log log) (logs.same (kept_log log))) $ split ! $
+        -- [the log; that it was reached; the run and the rows; the word; what is held and the stamp; the pass; the token]
+        move ! (0 ∷ 2 ∷ []) $ fjoin ! $ move ! (2 ∷ 0 ∷ []) $ fjoin ! $ move ! (0 ∷ 2 ∷ []) $ fjoin ! $
+        -- [the block; that the log was reached; the pass; the token]
+        move ! (0 ∷ 2 ∷ []) $ fjoin ! $ move ! (0 ∷ 2 ∷ []) $
+        use2 𝓛 (later (‵ (fex Names (λ i. fsep (marked i) (counted_of R p x η 0 i))) ⊛ ‵ (flft μ q)))
+        (known_settles R L 𝓛 p x η log μ lives μ q (Incl-refl μ)) $
+        await ! tt $ split ! $ fpick ! (λ i. nothing_more ! $ fpack ! (HasMark log) (λ _. ftrue) refl $
+        -- [the mark; the handle; the token; that the log was reached]
+        move ! (3 ∷ 0 ∷ []) $ fjoin ! $ move ! (1 ∷ 0 ∷ []) $ fjoin ! $
+        use1 𝓛 (later (‵ (Lasts_new κ η))) (becomes_lasting R L p (staying η log) 𝓛 0 i κ) $
+        await ! tt $ fpack ! BlockId (Lasts_new κ) η $ now ! $ done !))

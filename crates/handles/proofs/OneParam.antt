@@ -29,7 +29,8 @@ use denote.Triple.Clauses.{Ended, Clauses, Lasts, at_exit, closing}
 use denote.Triple.Spec.{Meets}
 use denote.Triple.Walked.{Stays, stay_dropped, walk_of, Silent, Goes-dropped}
 use Rattle.handles.proofs.AtType.{at_type, entered, Code, walks}
-use Rattle.handles.specs.Inside.Blocks.{HeldRow, handle_owns, permit_owns}
+use Rattle.counting_word.specs.Logs.{Entry}
+use Rattle.handles.specs.Inside.Blocks.{HeldRow, BlockId, handle_owns, permit_owns}
 use Rattle.handles.specs.contracts.block.handle.Handle as handle_type
 use Rattle.handles.specs.contracts.block.permit.Permit as permit_type
 use Rattle.handles.proofs.Fields.{one_word, words_are, words_made, HandleRow, HandleWords, PermitRow, handle_at}
@@ -93,25 +94,27 @@ module _ (T : RattleType) {os : List (Outlives 2)} {r : Slot 2} {M : Type 1} {�
   abbrev R : RattleType
   R = param 0 T
 
-  abbrev lent : Ptr → (HeldRow R).Denot → Bool → ℕ → ℕ → ℕ → Bor (HandleRow R).Denot
-  lent p x sole η b o = record { ref_ptr = (b, o); now = handle_at R p x sole η }
+  abbrev lent : (HandleRow R).Denot → ℕ → ℕ → Bor (HandleRow R).Denot
+  lent h b o = record { ref_ptr = (b, o); now = h }
 
   pub by_handle : (key : Args → Callee) (f : Fn)
       → Closed 𝓤 H (tables 𝓤 H 𝓜 𝓡 𝓡.env).C (tables 𝓤 H 𝓜 𝓡 𝓡.env).Λ (key (at_type T)) (inst_fn (at_type T) f)
-      → ((κs : Lfts 2) (qs : Shares 2) (p : Ptr) (x : (HeldRow R).Denot) (sole : Bool) (η b o : ℕ)
-      (gh : (c κs (lent p x sole η b o, tt)).ghost) (Post : Val → SProp 𝓤) → Asked sole
-      → ((v : Val) (y : (r.row κs).Denot) → ent 𝓤 (emp 𝓤) ((c κs (lent p x sole η b o, tt)).ensures gh y
-      (at_exit (taking os (a_ref (HandleRow R) tt) yes r) κs (lent p x sole η b o, tt) (tt, tt)))
+      → ((κs : Lfts 2) (qs : Shares 2) (p : Ptr) (x : (HeldRow R).Denot) (sole : Bool) (η : BlockId) (n : ℕ)
+      (log : List Entry) (b o : ℕ) (gh : (c κs (lent (handle_at R p x sole η n log) b o, tt)).ghost)
+      (Post : Val → SProp 𝓤) → Asked sole
+      → ((v : Val) (y : (r.row κs).Denot)
+      → ent 𝓤 (emp 𝓤) ((c κs (lent (handle_at R p x sole η n log) b o, tt)).ensures gh y
+      (at_exit (taking os (a_ref (HandleRow R) tt) yes r) κs (lent (handle_at R p x sole η n log) b o, tt) (tt, tt)))
       → ent 𝓤 (⋆ 𝓛 (‵ (flft κs.0 qs.0) ∷ ‵ (fsep (flft κs.1.0 qs.1.0) ftrue) ∷ ‵ ((r.row κs).own_val y (v ∷ []))
       ∷ [])) (Post v))
       → Code (at_type T) f 𝓛 𝓜 𝓡 Post
-      → Sq 𝓛 (‵ (hidden_shr (HandleRow R) κs.0 (handle_at R p x sole η) b o) ∷ ‵ (flft κs.0 qs.0)
+      → Sq 𝓛 (‵ (hidden_shr (HandleRow R) κs.0 (handle_at R p x sole η n log) b o) ∷ ‵ (flft κs.0 qs.0)
       ∷ ‵ (fsep (flft κs.1.0 qs.1.0) ftrue) ∷ []) (entered (at_type T) f 𝓛 𝓜 𝓡 Post (vptr b o ∷ [])))
       → Meets 𝓛 (taking os (a_ref (HandleRow R) tt) yes r).signature ((tables 𝓤 H 𝓜 𝓡 𝓡.env).C (key (at_type T)))
       (closing 𝓛 (taking os (a_ref (HandleRow R) tt) yes r) c)
   by_handle key f closed walk =
       by_ref (HandleRow R) tt 𝓛 𝓜 𝓡 c (λ κs a. Asked a.now.sole) asked T key f closed (λ κs qs a.
-      walk κs qs a.now.block a.now.held a.now.sole a.now.id a.ref_ptr.0 a.ref_ptr.1)
+      walk κs qs a.now.block a.now.held a.now.sole a.now.id a.now.number a.now.log a.ref_ptr.0 a.ref_ptr.1)
 
 -- A type whose values are one word, and what it owns beside that.
 pub record Worded : Type 2 where
@@ -127,7 +130,7 @@ handle_worded R = record {
   row = HandleRow R;
   block = λ h. h.block;
   tells = λ h vs so. words_are (handle_type.the_type R).name (R ∷ []) h.block vs so.0;
-  owned = λ h. handle_owns R h.block h.held h.id h.sole;
+  owned = λ h. handle_owns R h.block h.held h.id h.number h.sole h.log;
   opens = λ 𝓛 h. qed 𝓛 (‵ ((HandleRow R).own_val h (one_word h.block ∷ [])) ∷ []) ∵ fsplit ! $ drop ! $ done !;
 }
 
@@ -136,7 +139,7 @@ permit_worded R = record {
   row = PermitRow R;
   block = λ p. p.block;
   tells = λ p vs so. words_are (permit_type.the_type R).name (R ∷ []) p.block vs so.0;
-  owned = λ p. permit_owns R p.block p.held p.id p.right p.log;
+  owned = λ p. permit_owns R p.block p.held p.id p.number p.right p.log;
   opens = λ 𝓛 p. qed 𝓛 (‵ ((PermitRow R).own_val p (one_word p.block ∷ [])) ∷ []) ∵ fsplit ! $ drop ! $ done !;
 }
 
@@ -176,13 +179,13 @@ module _ (W : Worded) {os : List (Outlives 1)} {r : Slot 1} {M : Type 1} {𝓤 :
       use0 𝓛 (raw ((c κs a).ensures gh x (at_exit En κs a (lasts κs a.0)))) e $ nothing_more ! $ nothing_more ! $
       fjoin ! $ move ! (2 ∷ 0 ∷ 3 ∷ 1 ∷ []) $ by ! (leaves v x (lasts κs a.0) (tt, tt))) go))
 
-module _ (R : RattleType) (p : Ptr) (x : (HeldRow R).Denot) (η : ℕ) {M : Type 1} {𝓤 : Ura M} {𝓛 : Logic 𝓤}
+module _ (R : RattleType) (p : Ptr) (x : (HeldRow R).Denot) (η : BlockId) (n : ℕ) {M : Type 1} {𝓤 : Ura M} {𝓛 : Logic 𝓤}
     {K : Type 0} {Γ : List (Item 𝓤)} {G : Goal 𝓤 𝓛.H} where
   -- a handle by its word
-  pub is_handle : K → (sole : Bool)
-      → Step K 𝓛 (‵ ((HandleRow R).own_val (handle_at R p x sole η) (one_word p ∷ [])) ∷ Γ) G
-      (‵ (handle_owns R p x η sole) ∷ Γ) G
-  is_handle t sole = step (λ s. use0 𝓛 (‵ ((HandleWords R).own_val (p, tt) (one_word p ∷ [])))
+  pub is_handle : K → (sole : Bool) (log : List Entry)
+      → Step K 𝓛 (‵ ((HandleRow R).own_val (handle_at R p x sole η n log) (one_word p ∷ [])) ∷ Γ) G
+      (‵ (handle_owns R p x η n sole log) ∷ Γ) G
+  is_handle t sole log = step (λ s. use0 𝓛 (‵ ((HandleWords R).own_val (p, tt) (one_word p ∷ [])))
       (words_made (handle_type.the_type R).name (R ∷ []) 𝓛 p) $ fjoin t $ s)
 
 -- what an `ensures` of facts comes to

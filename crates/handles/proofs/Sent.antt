@@ -1,10 +1,11 @@
 -- A handle says the same to every thread, if its value may go to any thread and be seen by any.
-use Rattle.std.proofs.Common.{ℕ, ◌+◌, Bool, true, false, [], ◌∷◌, List}
+use Rattle.std.proofs.Common.{ℕ, ◌+◌, Bool, true, false, [], ◌∷◌, List, map}
 use base.Fml.{Fml, Lft, Share}
 use base.Shift.{Keyless}
 use base.Fraction.{full_share}
-use base.Growing.{latest}
-use Rattle.counting_word.specs.WordSteps.{WordStep}
+use base.Growing.{latest, at_least}
+use Rattle.counting_word.specs.Logs.{Entry}
+use Rattle.counting_word.specs.Tallies.{is_living, is_dropping, tally_of}
 use Rattle.handles.proofs.Rows.{row-Keyless, pass-Keyless}
 use denote.RattleType.{RattleType}
 use denote.RawPtr.{Ptr, block_ptr, null_ptr, block_of, count_of as offset_of, ◌+ₚ◌}
@@ -12,13 +13,16 @@ use denote.Builtin.{RawPtr}
 use denote.Struct.Struct.{exits_of}
 use denote.Struct.Owning.{shape, fields, to}
 use denote.Param.Send.{IsSend, IsSync, Common, AllSend, owning_send, struct_send, struct_sync, sendable}
+use denote.Param.Send.{whole-keyless}
 use Rattle.std_heap.specs.contracts.Global.{the_row as heap_row}
 use Rattle.std_alloc.proofs.SendSync.{lies, seen, quiet}
 use Rattle.std.proofs.Crossing as crossing
 use Rattle.handles.proofs.block.Held.TheSendSync.{the_send as held_send, the_sync as held_sync}
-use Rattle.handles.specs.Inside.Blocks.{HeldRow, Names, Stage, living, over, entitled, stage, logs, kept_log, stamp}
+use Rattle.handles.specs.Inside.Blocks.{HeldRow, Names, BlockId, Stage, living, over, entitled, stage, logs}
+use Rattle.handles.specs.Inside.Blocks.{kept_log, reached, noted_as, stamp, sole_handle}
 use Rattle.handles.specs.Inside.Blocks.{left_at, block_type, held_offset, heap_offset, held_and_block, shown}
 use Rattle.handles.specs.Inside.Blocks.{Sharing, not_yet, begun, held_as, owned_as, shared_as}
+use Rattle.handles.specs.contracts.arc.full.Full as full_type
 use Rattle.handles.specs.contracts.block.handle.Handle as handle_type
 use Rattle.handles.specs.contracts.block.marked.Marked as marked_type
 
@@ -32,19 +36,35 @@ entitled-Keyless : (i : Names) (e : Share) (y : Bool) → Keyless (entitled i e 
 entitled-Keyless i e true = λ _. tt
 entitled-Keyless i e false = tt
 
-latest-Keyless : (η : ℕ) (log : List WordStep) → Keyless (latest logs full_share η (kept_log log))
+latest-Keyless : (η : ℕ) (log : List Entry) → Keyless (latest logs full_share η (kept_log log))
 unfolding latest
 latest-Keyless η log = tt
 
-stage-Keyless : (content kept : Fml) → Keyless content → Keyless kept → (limit b o η : ℕ) (i : Names)
-    (s : Stage)
+reached-Keyless : (η : BlockId) (log : List Entry) → Keyless (reached η log)
+unfolding at_least
+reached-Keyless η log = tt
+
+noted-Keyless : (limit : ℕ) (η : BlockId) (w : ℕ) (log : List Entry) → Keyless (noted_as limit η w log)
+noted-Keyless limit η w log = (
+  latest-Keyless η.log log,
+  (
+    (λ _. tt),
+    (
+      row-Keyless η.living (map is_living (tally_of log).handles),
+      row-Keyless η.dropping (map is_dropping (tally_of log).handles),
+    ),
+  ),
+)
+
+stage-Keyless : (content kept : Fml) → Keyless content → Keyless kept → (limit b o : ℕ) (η : BlockId)
+    (i : Names) (s : Stage)
     → Keyless (stage content kept limit b o η i s)
 stage-Keyless content kept c k limit b o η i (living false w n) = (
-  (tt, λ p. ((λ log. (latest-Keyless η log, λ _. tt)), (row-Keyless i.handles p.handles, row-Keyless i.drops p.drops))),
+  (tt, noted-Keyless limit η w),
   ((λ _. tt), ((λ r c. tt), ((c, k), tt))),
 )
 stage-Keyless content kept c k limit b o η i (living true w n) = (
-  (tt, λ p. ((λ log. (latest-Keyless η log, λ _. tt)), (row-Keyless i.handles p.handles, row-Keyless i.drops p.drops))),
+  (tt, noted-Keyless limit η w),
   ((λ _. tt), ((λ r c. tt), (((λ e. tt), k), tt))),
 )
 stage-Keyless content kept c k limit b o η i over = (tt, tt)
@@ -65,7 +85,7 @@ module _ (R : RattleType) (s : IsSend R) (y : IsSync R) where
   stamp-Keyless : (p : Ptr) → Keyless (stamp p)
   stamp-Keyless p = λ n. tt
 
-  rule-Keyless : (p : Ptr) (x : (HeldRow R).Denot) (η : ℕ) (i : Names) (z : Stage)
+  rule-Keyless : (p : Ptr) (x : (HeldRow R).Denot) (η : BlockId) (i : Names) (z : Stage)
       → Keyless (stage (held_and_block R p x) (stamp p) x.limit.count (block_of p) (offset_of p + 0) η i z)
   rule-Keyless p x η = stage-Keyless (held_and_block R p x) (stamp p) (content-Keyless p x)
       (stamp-Keyless p) x.limit.count (block_of p) (offset_of p + 0) η
@@ -73,30 +93,32 @@ module _ (R : RattleType) (s : IsSend R) (y : IsSync R) where
   shown-Common : (p : Ptr) (x : (HeldRow R).Denot) → Common (shown R p x)
   shown-Common p x = seen (HeldRow R) (held_sync R y) (p +ₚ held_offset R) x
 
-  handle-Keyless : (p : Ptr) (x : (HeldRow R).Denot) (η : ℕ) (z : Sharing) → Keyless (held_as R p x η z)
-  handle-Keyless p x η not_yet = ((tt, λ log. (latest-Keyless η log, λ _. tt)), (content-Keyless p x, stamp-Keyless p))
-  handle-Keyless p x η begun = λ i. (
-    ((λ e. (entitled-Keyless i e, tt)), pass-Keyless i.handles i.own full_share),
+  sole-Keyless : (p : Ptr) (x : (HeldRow R).Denot) (η : BlockId) (n : ℕ) (log : List Entry)
+      → Keyless (sole_handle R p x η n log)
+  sole-Keyless p x η n log = (
+    ((tt, noted-Keyless x.limit.count η 1 log), (content-Keyless p x, stamp-Keyless p)),
+    pass-Keyless η.living n full_share,
+  )
+
+  handle-Keyless : (p : Ptr) (x : (HeldRow R).Denot) (η : BlockId) (n : ℕ) (z : Sharing)
+      → Keyless (held_as R p x η n z)
+  handle-Keyless p x η n not_yet = sole-Keyless p x η n
+  handle-Keyless p x η n begun = λ i. (
+    ((λ e. (entitled-Keyless i e, tt)), pass-Keyless η.living n full_share),
     (rule-Keyless p x η i, shown-Common p x (i.shared ∷ [])),
   )
 
-  owned-Keyless : (p : Ptr) (x : (HeldRow R).Denot) (η : ℕ) (sole : Bool) → Keyless (owned_as R p x η sole)
-  owned-Keyless p x η true = ((tt, λ log. (latest-Keyless η log, λ _. tt)), (content-Keyless p x, stamp-Keyless p))
-  owned-Keyless p x η false = handle-Keyless p x η
+  owned-Keyless : (p : Ptr) (x : (HeldRow R).Denot) (η : BlockId) (n : ℕ) (sole : Bool) (log : List Entry)
+      → Keyless (owned_as R p x η n sole log)
+  owned-Keyless p x η n true log = sole-Keyless p x η n log
+  owned-Keyless p x η n false log = handle-Keyless p x η n
 
-  shared-Keyless : (p : Ptr) (x : (HeldRow R).Denot) (η : ℕ) (sole : Bool) (κ : Lft)
-      → Keyless (shared_as R p x η sole κ)
-  shared-Keyless p x η true κ = shown-Common p x κ
-  shared-Keyless p x η false κ = λ i. (
+  shared-Keyless : (p : Ptr) (x : (HeldRow R).Denot) (η : BlockId) (n : ℕ) (sole : Bool) (κ : Lft)
+      → Keyless (shared_as R p x η n sole κ)
+  shared-Keyless p x η n true κ = shown-Common p x κ
+  shared-Keyless p x η n false κ = λ i. (
     (λ q. tt),
-    (
-      (λ q. (tt, pass-Keyless i.handles i.own q)),
-      (
-        rule-Keyless p x η i,
-        shown-Common p x (i.shared
-            ∷ []),
-      ),
-    ),
+    ((λ q. (tt, pass-Keyless η.living n q)), (rule-Keyless p x η i, shown-Common p x (i.shared ∷ []))),
   )
 
   fields-Send : AllSend (fields (handle_type.the_type R))
@@ -104,27 +126,44 @@ module _ (R : RattleType) (s : IsSend R) (y : IsSync R) where
 
 pub handle-Send : (R : RattleType) → IsSend R → IsSync R → IsSend (handle_type.the_row R)
 handle-Send R s y = let O = handle_type.the_type R in
-    owning_send O (fields-Send R s y) (λ d. ((λ _. tt), owned-Keyless R s y d.block d.held d.id d.sole))
+    owning_send O (fields-Send R s y) (λ d. ((λ _. tt), owned-Keyless R s y d.block d.held d.id d.number d.sole d.log))
     (λ k. quiet (to O) (exits_of k (fields O)) ((struct_send (shape O) (fields-Send R s y)).leaving k))
 
 pub handle-Sync : (R : RattleType) → IsSend R → IsSync R → IsSync (handle_type.the_row R)
 handle-Sync R s y = let O = handle_type.the_type R in record {
   shared = λ d b o κ. (
     (struct_sync (shape O) (pointers_shared, tt)).shared (to O d) b o κ,
-    ((λ _. tt), shared-Keyless R s y d.block d.held d.id d.sole κ),
+    ((λ _. tt), shared-Keyless R s y d.block d.held d.id d.number d.sole κ),
   );
 }
 
 pub marked-Sync : (R : RattleType) → IsSend R → IsSync R → IsSync (marked_type.the_row R)
 marked-Sync R s y = record {
-  shared = λ x b o κ. let p : Ptr = block_ptr b o in λ t. let i : Names = t.1 in (
-    tt,
-    (
-      (λ q. tt),
+  shared = λ d b o κ. let p : Ptr = block_ptr b o in (
+    (reached-Keyless d.known_by.id d.known_by.log, λ _. tt),
+    λ t. (
+      tt,
       (
-        (λ q. (tt, pass-Keyless i.handles i.own q)),
-        (rule-Keyless R s y p x t.0 i, shown-Common R s y p x (i.shared ∷ [])),
+        (λ q. tt),
+        (
+          (λ q. (tt, pass-Keyless d.known_by.id.living t.number q)),
+          (rule-Keyless R s y p d.held d.known_by.id t.names, shown-Common R s y p d.held (t.names.shared ∷ [])),
+        ),
       ),
     ),
   );
+}
+
+-- a log says the same to every thread
+full-Keyless : (f : full_type.the_type.D) → Keyless (full_type.the_type.heap f)
+full-Keyless f = (reached-Keyless f.id f.log, λ _. tt)
+
+pub full-Send : IsSend full_type.the_row
+full-Send = let O = full_type.the_type in
+    owning_send O tt full-Keyless (λ k. quiet (to O) (exits_of k (fields O)) ((struct_send (shape O) tt).leaving k))
+
+pub full-Sync : IsSync full_type.the_row
+full-Sync = let O = full_type.the_type in record {
+  shared = λ d b o κ q. whole-keyless _ _ (λ f vs. ((struct_send (shape O) tt).owned (to O f) vs, full-Keyless f)) q d
+      b o;
 }

@@ -1,11 +1,14 @@
 -- What a try to make one more handle came to.
-use Rattle.std.specs.Prelude.{◌≡◌, ℕ, ◌+◌, ◌⊎◌, List, Option, false}
+use Rattle.std.specs.Prelude.{◌≡◌, ℕ, ◌+◌, ◌⊎◌, Bool, List, [], Option, false}
 use Rattle.std.specs.Iterator.{Drains}
-use Rattle.counting_word.specs.CountingWord.{IsWithin}
+use Rattle.counting_word.specs.CountingWord.{IsWithin, is_marked_word}
 use Rattle.counting_word.specs.Plans.{clone_plan}
 use Rattle.counting_word.specs.Rights.{right_by_read}
 use Rattle.counting_word.specs.declared.ClonePlan.TheVariants.{Static as StaticPlan, Full as FullPlan, Raise}
-use Rattle.handles.specs.Founds.{Found, FoundFull, LostRaise}
+use Rattle.handles.specs.Founds.{Answers, Found, HasFound, FoundFull, LostRaise}
+use Rattle.counting_word.specs.WordSteps.{WordStep, marks}
+use Rattle.counting_word.specs.Logs.{made}
+use Rattle.counting_word.specs.Tallies.{Adds}
 use Rattle.handles.specs.declared.block.handle.Handle.{Handle}
 use Rattle.handles.specs.declared.block.permit.Logged.{Logged}
 use Rattle.handles.specs.declared.block.permit.Permit.{Permit}
@@ -17,6 +20,11 @@ abbrev pub IsSeen : {X : Type 0} → Handle X → ℕ → Permit X → Type 0
 IsSeen of word permit =
     (permit.held ≡ of.held) × (permit.block ≡ of.block) × (permit.id ≡ of.id)
     × (permit.right ≡ right_by_read word) × IsWithin word of.held.limit.count × Found word permit.log
+    × (is_marked_word word ≡ false → HasFound of.number word permit.log)
+
+-- one more handle of the same block
+abbrev pub IsMadeOf : {X : Type 0} → Handle X → Handle X → Type 0
+IsMadeOf of h = (h.held ≡ of.held) × (h.sole ≡ false) × (h.id ≡ of.id)
 
 -- the block of the handle was found to be full
 abbrev pub IsFullOf : {X : Type 0} → Handle X → Logged → Type 0
@@ -24,13 +32,22 @@ IsFullOf of logged = (logged.id ≡ of.id) × FoundFull of.held.limit.count logg
 
 -- or its last raise was lost
 abbrev pub IsRefusedOf : {X : Type 0} → Handle X → Logged → Type 0
-IsRefusedOf of logged = (logged.id ≡ of.id) × (FoundFull of.held.limit.count logged.log ⊎ LostRaise logged.log)
+IsRefusedOf of logged = (logged.id ≡ of.id) × (FoundFull of.held.limit.count logged.log ⊎ LostRaise of.number logged.log)
+
+-- This step of the handle found a word of which the test says this.
+abbrev pub IsAnswerOf : {X : Type 0} → Handle X → WordStep → (ℕ → Bool) → Bool → Logged → Type 0
+IsAnswerOf of s test answer logged =
+    (logged.id ≡ of.id) × Answers of.held.limit.count of.number s test answer logged.log
+
+-- The handle's block was marked by this step.
+abbrev pub IsMarking : {X : Type 0} → Handle X → Logged → Type 0
+IsMarking of logged = (logged.id ≡ of.id) × (found : ℕ) × Adds of.held.limit.count [] (made of.number marks) found logged.log
 
 -- A handle that was made holds the same. A full block was found to be full, and a lost raise found another word.
 abbrev pub IsAttempt : {X : Type 0} → Handle X → Attempt X → Type 0
-IsAttempt of (Made h) = (h.held ≡ of.held) × (h.sole ≡ false) × (h.id ≡ of.id)
+IsAttempt of (Made h) = IsMadeOf of h
 IsAttempt of (Full logged) = IsFullOf of logged
-IsAttempt of (Lost word permit) = IsSeen of word permit × LostRaise permit.log
+IsAttempt of (Lost word permit) = IsSeen of word permit × LostRaise of.number permit.log
 
 -- What the plan is by the word that was seen: a handle is made with no further step or by a raise.
 abbrev pub IsPlanned : {X : Type 0} → ℕ → ℕ → Attempt X → Type 0

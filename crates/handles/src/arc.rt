@@ -5,18 +5,18 @@ ghost use Rattle.counting_word.specs.CountingWord.{IsLimit};
 mod compare;
 mod convert;
 mod copy_on_write;
+mod full;
 
 use crate::attempt::Attempt;
 use crate::block::Handle;
 use crate::limit::Limit;
 use crate::static_arc::StaticArc;
 use crate::unique::UniqueArc;
-use counting_word::{is_alone, is_marked};
+pub use full::Full;
 use std::alloc::{AllocError, AllocFailed, Global};
 use std::marker::Model;
 use std::ops::Deref;
 use std::sync::Wait;
-use thiserror::Error;
 
 /// How often the trait's `clone` raises the word before it gives up.
 const MOST_RAISES: u8 = 64;
@@ -37,11 +37,6 @@ impl<T> Model for Arc<T> {
 
     ghost invariant = { λ a. a.handle.sole ≡ false };
 }
-
-/// The block has as many handles as its limit allows.
-#[derive(Clone, Copy, Debug, PartialEq, Eq, Error)]
-#[error("the handle limit is reached")]
-pub struct Full;
 
 impl<T: Drop> Arc<T> {
     /// The value comes back if there is no memory for the block.
@@ -101,11 +96,11 @@ impl<T: Drop> Arc<T> {
     {
         match this.handle.first_attempt() {
             Attempt::Made(handle) => Ok(Arc { handle }),
-            Attempt::Full(_) => Err(Full),
+            Attempt::Full(logged) => Err(this.handle.full_by(logged)),
             // Only a clone that lost a raise makes the call that may wait.
             Attempt::Lost(word, permit) => match this.handle.raise_unless_full(word, permit, rt) {
                 Ok(handle) => Ok(Arc { handle }),
-                Err(_) => Err(Full),
+                Err(logged) => Err(this.handle.full_by(logged)),
             },
         }
     }
@@ -134,13 +129,13 @@ impl<T> Arc<T> {
     /// thread that borrows this handle may end that by a clone. To write, ask `get_mut`.
     #[inline]
     pub fn is_unique(&self) -> bool {
-        is_alone(self.handle.word().0)
+        self.handle.is_only().0
     }
 
     /// Whether the block is marked, which it then stays.
     #[inline]
     pub fn is_static(&self) -> bool {
-        is_marked(self.handle.word().0)
+        self.handle.is_marked().0
     }
 
     /// Marks the block: from then on it is never freed, and its value is never dropped. Marking again is harmless.

@@ -2,7 +2,7 @@
 ghost use Rattle.std.specs.Prelude.{◌≡◌, ◌⊎◌, IfOk, IfErr, false};
 ghost use Rattle.std.specs.Iterator.{IsFinite};
 ghost use Rattle.handles.specs.Founds.{LostRaise};
-ghost use Rattle.handles.specs.Attempts.{IsSeen, IsAttempt, IsPlanned, Stops, IsFullOf, IsRefusedOf};
+ghost use Rattle.handles.specs.Attempts.{IsSeen, IsMadeOf, IsAttempt, IsPlanned, Stops, IsFullOf, IsRefusedOf};
 
 use crate::block::{Handle, Held, Logged, Permit};
 use counting_word::{ClonePlan, is_marked, plan_clone};
@@ -66,7 +66,7 @@ impl<T: Drop> Handle<T> {
     #[inline]
     pub(crate) fn try_clone(&self, raises: u8) -> Result<Handle<T>, Logged>
         requires { self.now.sole ≡ false }
-        ensures made { IfOk result (λ h. (h.held ≡ self.now.held) × (h.sole ≡ false)) }
+        ensures made { IfOk result (IsMadeOf self.now) }
         ensures refused { IfErr result (IsRefusedOf self.now) }
     {
         match self.first_attempt() {
@@ -88,8 +88,8 @@ impl<T: Drop> Handle<T> {
     ) -> Result<Handle<T>, Logged>
         requires shared { self.now.sole ≡ false }
         requires seen { IsSeen self.now word permit }
-        requires lost { LostRaise permit.log }
-        ensures made { IfOk result (λ h. (h.held ≡ self.now.held) × (h.sole ≡ false)) }
+        requires lost { LostRaise self.now.number permit.log }
+        ensures made { IfOk result (IsMadeOf self.now) }
         ensures full { IfErr result (IsFullOf self.now) }
     {
         self.raise_again(word, permit, rt.forever())
@@ -106,9 +106,9 @@ impl<T: Drop> Handle<T> {
         I::Item: Drop,
         requires shared { self.now.sole ≡ false }
         requires seen { IsSeen self.now word permit }
-        requires lost { LostRaise permit.log }
+        requires lost { LostRaise self.now.number permit.log }
         requires turns { I.can_next turns × IsFinite (I.remaining turns) }
-        ensures made { IfOk result (λ h. (h.held ≡ self.now.held) × (h.sole ≡ false)) }
+        ensures made { IfOk result (IsMadeOf self.now) }
         ensures refused { IfErr result (IsRefusedOf self.now) }
         ensures stops { IfErr result (λ logged. IsFullOf self.now logged ⊎ Stops I.next_gives turns) }
     {

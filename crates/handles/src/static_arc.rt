@@ -44,7 +44,7 @@ impl<'a, T> StaticArc<'a, T> {
 
     // Of a block that is marked, as the type of the reference says.
     pub(crate) fn of(marked: &'a Marked<T>) -> StaticArc<'a, T>
-        ensures { value_of result ≡ marked.now.value }
+        ensures { value_of result ≡ marked.now.held.value }
     {
         StaticArc(marked)
     }

@@ -116,7 +116,7 @@ impl<T: Drop> Arc<T> {
     {
         match this.handle.into_block() {
             Ok(block) => Ok(UniqueArc { block }),
-            Err(handle) => Err(Arc::of(handle)),
+            Err((handle, _)) => Err(Arc::of(handle)),
         }
     }
 }

@@ -9,7 +9,7 @@ use Rattle.counting_core.proofs.Names.{state_of, IsPermitted, by_word, value_aft
 use Rattle.counting_core.proofs.Traces.Places.{put-all}
 
 module _ {A : Type 0} where
-  get_or-set : (xs : List A) (d : A) (i : ℕ) (y : A) → i < length xs
+  pub get_or-set : (xs : List A) (d : A) (i : ℕ) (y : A) → i < length xs
       → (λ k. get_or (set xs i y) k d) ≡ put (λ k. get_or xs k d) i y
   get_or-set xs d i y lt =
       sym (fun_ext (put-all (λ k. get_or xs k d) i y (λ k z. z ≡ get_or (set xs i y) k d)

@@ -1,187 +1,196 @@
 -- The steps of a run by a handle that stays, as steps of owner 0.
-use Rattle.counting_core.proofs.Names.{◌≡◌, ℕ, ◌+◌, ◌<◌, Bool, true, false, not, ◌&&◌, ◌||◌, nat_eq, List, [], ◌∷◌}
-use Rattle.counting_core.proofs.Names.{◌++◌, length, append_assoc, append-nil, if◌then◌else◌, refl, sym, ◌∙◌, ap, ap₂}
-use Rattle.counting_core.proofs.Names.{subst, arith, true≢false, eqb-true, ne_eqb, or_right, nothing, a_handle}
-use Rattle.counting_core.proofs.Names.{whole_block, reads, asks, raises_from, reads_for_unique, marks, Tally}
-use Rattle.counting_core.proofs.Names.{has_exactly}
-use Rattle.counting_core.proofs.Names.{one_more, SharedAccess, Written, Idle, Cloning, Clone, Raise, Quit, Mark, Unique}
-use Rattle.counting_core.proofs.Names.{GetMut, EndWrite, Born, Full, Pending, Marked, Is, Alone, Shared, Done, Quitted}
-use Rattle.counting_core.proofs.Names.{Trace, Then, HandleState, put, may_use, may_take, is_writing, Model, is_full}
-use Rattle.counting_core.proofs.Names.{is_only, raise_settles, state, model, Entry, entries_of, Step, Answer}
-use Rattle.counting_core.proofs.Names.{owner_of, permitted_by}
-use Rattle.counting_core.proofs.Traces.Places.{put-all}
+use Rattle.counting_core.proofs.Names.{◌≡◌, ℕ, ◌+◌, ◌<◌, ◌≤◌, Bool, true, false, not, ◌&&◌, nat_eq, List, [], ◌∷◌, ◌++◌}
+use Rattle.counting_core.proofs.Names.{length, length-append, append_assoc, append-nil, if◌then◌else◌, refl, sym, ◌∙◌}
+use Rattle.counting_core.proofs.Names.{ap, ap₂, subst, arith, true≢false, eqb-true, ne_eqb, or_right, count_by, get_or}
+use Rattle.counting_core.proofs.Names.{nothing, a_handle, whole_block, reads, asks, raises_from, reads_for_unique}
+use Rattle.counting_core.proofs.Names.{marks, made, Standing, lives, has_ended, is_counted, SharedAccess, Written, Idle}
+use Rattle.counting_core.proofs.Names.{Cloning, Clone, Raise, Quit, Mark, Unique, GetMut, EndWrite, Born, Full, Pending}
+use Rattle.counting_core.proofs.Names.{Marked, Is, Alone, Shared, Done, Quitted, Trace, Then, HandleState, newborn, put}
+use Rattle.counting_core.proofs.Names.{may_use, may_take, is_writing, Model, is_full, is_only, raise_settles, state}
+use Rattle.counting_core.proofs.Names.{model, Report, reports_of, Step, Answer, owner_of, permitted_by}
+use Rattle.counting_core.proofs.Traces.Places.{put-all, put-here}
 use Rattle.counting_core.proofs.Traces.HandleLists.{has, nat_eq-same}
 use Rattle.counting_core.proofs.Traces.Deeds.{Deed, clone_reads, clone_bears, clone_full, raise_bears, quits}
 use Rattle.counting_core.proofs.Traces.Deeds.{marks as deed_marks, asks_unique, finds_alone, finds_shared, ends_write}
 use Rattle.counting_core.proofs.Traces.Deeds.{grown}
-use Rattle.counting_core.proofs.Traces.LiveHandles.{counted}
-use Rattle.counting_core.proofs.Traces.Limits.{model_limit}
-use Rattle.counting_core.proofs.Traces.Shapes.{held_by_0, Shape, Comes, here, makes, zero-idle, put-over, put-idle}
-use Rattle.counting_core.proofs.Traces.Shapes.{keeps, bears}
 use Rattle.counting_core.proofs.Traces.LegalSteps.{takes_effect}
+use Rattle.counting_core.proofs.Traces.Limits.{model_limit}
+use Rattle.counting_core.proofs.Traces.LiveHandles.{counted}
+use Rattle.counting_core.proofs.Traces.Shapes.{HeldAs, Shape, Comes, here, makes, same-lives, same-count, keeps, bears}
 
 module _ {V : Type 0} (limit : ℕ) where
-  -- a trace that has gone on by these entries
-  pub record Goes (owners k : ℕ) (p : Tally) (t : Trace V) (es : List Entry) : Type 0 where
+  -- a trace that has gone on by these reports to these handles
+  pub record Goes (owners : ℕ) (hs : List Standing) (mark : Bool) (t : Trace V) (rs : List Report) : Type 0 where
     pub now : Trace V
-    pub hs : List ℕ
-    pub ds : List ℕ
-    pub shape : Shape limit owners k p hs ds now
-    pub entries : entries_of now ≡ entries_of t ++ es
+    pub shape : Shape limit owners hs mark now
+    pub few : length hs ≤ (model t).births + 1
+    pub reports : reports_of now ≡ reports_of t ++ rs
 
-  module _ (owners k : ℕ) (p : Tally) (h : ℕ) (hs ds : List ℕ) (t : Trace V)
-      (s : Shape limit owners k p (h ∷ hs) ds t)
-      (some : 0 < owners) where
-    pub first-held : (state t).handle h ≡ held_by_0
-    first-held = s.held h (ap (λ b. b || has h hs) (nat_eq-same h))
+  module _ (owners : ℕ) (hs : List Standing) (mark : Bool) (t : Trace V) (s : Shape limit owners hs mark t) (h : ℕ)
+    where
+      -- the handle is the only one if just one is counted
+      pub only-by : is_counted (get_or hs h has_ended) ≡ true
+          → is_only (model t) h ≡ (if mark then false else nat_eq (count_by is_counted hs) 1)
+      only-by there = ap₂ (λ (m : Bool) (n : ℕ). not m && (nat_eq n 1 && has h (model t).live)) s.marked
+          (same-count limit owners hs mark t s)
+          ∙ ap (λ b. not mark && (nat_eq (count_by is_counted hs) 1 && b))
+          ((counted t s.legal).same h ∙ same-lives limit owners hs mark t s h ∙ there)
+          ∙ at mark (nat_eq (count_by is_counted hs) 1) where
+            at : (m b : Bool) → (not m && (b && true)) ≡ (if m then false else b)
+            at true b = refl
+            at false true = refl
+            at false false = refl
+
+  module _ (owners : ℕ) (hs : List Standing) (mark : Bool) (t : Trace V) (s : Shape limit owners hs mark t)
+      (room : length hs < owners) (h : ℕ) (there : get_or hs h has_ended ≡ lives) where
+    abbrev count : ℕ
+    count = count_by is_counted hs
+
+    -- owner 0 has the handle alone, and there is an owner 0
+    pub held-here : (state t).handle h ≡ newborn 0
+    held-here = subst (λ (x : Standing). HeldAs x ((state t).handle h)) there (s.held h)
 
     usable : may_use ((state t).handle h) 0 ≡ true
-    usable = ap (λ (x : HandleState). may_use x 0) first-held
+    usable = ap (λ (x : HandleState). may_use x 0) held-here
 
     pub takable : may_take ((state t).handle h) 0 ≡ true
-    takable = ap (λ (x : HandleState). may_take x 0) first-held
+    takable = ap (λ (x : HandleState). may_take x 0) held-here
 
     pub within : 0 < (state t).owners
-    within = subst (λ n. 0 < n) (sym s.owned) some
+    within = let owned : (state t).owners ≡ owners = s.owned in omega (arith, room)
 
-    pub idle-0 : (state t).activity 0 ≡ Idle
-    idle-0 = zero-idle limit owners k p (h ∷ hs) ds t s
-
-    full-by : is_full (model t) ≡ (not p.mark && nat_eq (p.handles + p.drops) limit)
-    full-by = ap₂ (λ (m : Bool) (b : Bool). not m && b) s.marked (ap₂ nat_eq s.live (model_limit t s.legal
-        ∙ s.limited))
+    full-by : is_full (model t) ≡ (not mark && nat_eq count limit)
+    full-by = ap₂ (λ (m : Bool) (b : Bool). not m && b) s.marked
+        (ap₂ nat_eq (same-count limit owners hs mark t s) (model_limit t s.legal ∙ s.limited))
 
     -- the first step of owner 0
     acts : (x : Step V) (a : Answer V) (m : Model V) → takes_effect a ≡ true → owner_of x ≡ 0
         → permitted_by (state t) Idle x ≡ true → Deed (model t) (state t) x a m → Comes t (Then t x a) m
     acts x a m effect by = makes t t (model t) (here t s.legal) x a m Idle effect
-        (subst (λ o. o < (state t).owners) (sym by) within) (ap (state t).activity by ∙ idle-0)
+        (subst (λ o. o < (state t).owners) (sym by) within) (ap (state t).activity by ∙ s.busy 0)
 
     -- what leaves handles and owners as they were
-    stays : (q : Tally) (n : Trace V) (m : Model V) (es : List Entry) → Comes t n m → m.mark ≡ q.mark
-        → length m.live ≡ length (model t).live → q.handles ≡ p.handles → q.drops ≡ p.drops
-        → ((j : ℕ) → (state n).handle j ≡ (state t).handle j)
-        → ((o : ℕ) → (state n).activity o ≡ (state t).activity o) → entries_of n ≡ entries_of t ++ es
-        → Goes owners k q t es
-    stays q n m es c mark live handles drops same_handle same_activity entries = record {
+    stays : (new : Bool) (n : Trace V) (m : Model V) (rs : List Report) → Comes t n m → m.mark ≡ new
+        → m.births ≡ (model t).births → ((j : ℕ) → (state n).handle j ≡ (state t).handle j)
+        → ((o : ℕ) → (state n).activity o ≡ (state t).activity o) → reports_of n ≡ reports_of t ++ rs
+        → Goes owners hs new t rs
+    stays new n m rs c is births same_handle same_activity reports = record {
       now = n;
-      hs = h ∷ hs;
-      ds = ds;
-      shape = keeps limit owners k p (h ∷ hs) ds t s q n m c mark live handles drops same_handle same_activity;
-      entries = entries;
+      shape = keeps limit owners hs mark t s new n m c is births same_handle same_activity;
+      few = let so_far : (model t).births ≡ length hs = s.births in omega arith;
+      reports = reports;
     }
+
+    born : (n : Trace V) (rs : List Report) → Comes t n (grown (model t))
+        → (state n).handle ≡ put (state t).handle (model t).births (newborn 0)
+        → ((o : ℕ) → (state n).activity o ≡ (state t).activity o) → reports_of n ≡ reports_of t ++ rs
+        → Goes owners (hs ++ lives ∷ []) mark t rs
+    born n rs c handles same_activity reports = record {
+      now = n;
+      shape = bears limit owners hs mark t s n c handles same_activity;
+      few = let so_far : (model t).births ≡ length hs = s.births in
+          let more : length (hs ++ lives ∷ []) ≡ length hs + 1 = length-append hs (lives ∷ []) in omega arith;
+      reports = reports;
+    }
+
+    -- something in flight of owner 0 that is over again
+    put-over : (c : _) (o : ℕ) → put (put (state t).activity 0 c) 0 Idle o ≡ (state t).activity o
+    put-over c = put-all (put (state t).activity 0 c) 0 Idle (λ o z. z ≡ (state t).activity o) (sym (s.busy 0))
+        (λ o other. ap (λ b. if b then c else (state t).activity o) other)
+
+    put-idle : (o : ℕ) → put (state t).activity 0 Idle o ≡ (state t).activity o
+    put-idle = put-all (state t).activity 0 Idle (λ o z. z ≡ (state t).activity o) (sym (s.busy 0)) (λ _ _. refl)
 
     -- what is only asked
-    pub asked : Goes owners k p t ((asks, nothing) ∷ [])
-    asked = stays p _ _ _ (acts (Unique 0 h) (Is (is_only (model t) h)) (model t) refl refl usable (asks_unique 0 h))
-        s.marked refl refl refl (λ _. refl) (λ _. refl) refl
+    pub asked : Goes owners hs mark t ((made h asks, nothing) ∷ [])
+    asked = stays mark _ _ _
+        (acts (Unique 0 h) (Is (is_only (model t) h)) (model t) refl refl usable (asks_unique 0 h))
+        s.marked refl (λ _. refl) (λ _. refl) refl
 
-    pub marked_now : Goes owners k (record p { mark = true }) t ((marks, nothing) ∷ [])
-    marked_now = stays (record p { mark = true }) _ _ _
+    pub marked_now : Goes owners hs true t ((made h marks, nothing) ∷ [])
+    marked_now = stays true _ _ _
         (acts (Mark 0 h) Marked (record (model t) { mark = true }) refl refl usable (deed_marks 0 h))
-        refl refl refl refl (λ _. refl) (λ _. refl) refl
+        refl refl (λ _. refl) (λ _. refl) refl
 
     -- a read by which a handle is born
-    pub read_bears : p.mark ≡ true → Goes owners k (one_more p) t ((reads, a_handle) ∷ [])
-    read_bears mark = record {
-      now = Then t (Clone 0 h) (Born (model t).births);
-      hs = (model t).births ∷ h ∷ hs;
-      ds = ds;
-      shape = bears limit owners k p (h ∷ hs) ds t s _
-          (acts (Clone 0 h) (Born (model t).births) (grown (model t)) refl refl usable
-          (clone_bears 0 h (s.marked ∙ mark)
-          (full-by ∙ ap (λ b. not b && nat_eq (p.handles + p.drops) limit) mark)))
-          (λ _. refl) (put-idle limit owners k p (h ∷ hs) ds t s);
-      entries = refl;
-    }
+    pub read_bears : mark ≡ true → Goes owners (hs ++ lives ∷ []) mark t ((made h reads, a_handle) ∷ [])
+    read_bears is = born (Then t (Clone 0 h) (Born (model t).births)) _
+        (acts (Clone 0 h) (Born (model t).births) (grown (model t)) refl refl usable
+        (clone_bears 0 h (s.marked ∙ is) (full-by ∙ ap (λ b. not b && nat_eq count limit) is)))
+        refl put-idle refl
 
-    read : p.mark ≡ false → is_full (model t) ≡ false → Comes t (Then t (Clone 0 h) Pending) (model t)
-    read mark room = acts (Clone 0 h) Pending (model t) refl refl usable (clone_reads 0 h (s.marked ∙ mark) room)
+    read : mark ≡ false → is_full (model t) ≡ false → Comes t (Then t (Clone 0 h) Pending) (model t)
+    read is free = acts (Clone 0 h) Pending (model t) refl refl usable (clone_reads 0 h (s.marked ∙ is) free)
 
     -- a read that comes to nothing
-    pub read_fails : p.mark ≡ false → Goes owners k p t ((reads, nothing) ∷ [])
-    read_fails mark = at (is_full (model t)) refl where
-      at : (b : Bool) → is_full (model t) ≡ b → Goes owners k p t ((reads, nothing) ∷ [])
-      at true full = stays p _ _ _ (acts (Clone 0 h) Full (model t) refl refl usable (clone_full 0 h full))
-          s.marked refl refl refl (λ _. refl) (put-idle limit owners k p (h ∷ hs) ds t s) refl
-      at false room = stays p _ _ _
-          (makes t (Then t (Clone 0 h) Pending) (model t) (read mark room) (Quit 0) Quitted (model t)
+    pub read_fails : mark ≡ false → Goes owners hs mark t ((made h reads, nothing) ∷ [])
+    read_fails is = at (is_full (model t)) refl where
+      at : (b : Bool) → is_full (model t) ≡ b → Goes owners hs mark t ((made h reads, nothing) ∷ [])
+      at true full = stays mark _ _ _ (acts (Clone 0 h) Full (model t) refl refl usable (clone_full 0 h full))
+          s.marked refl (λ _. refl) put-idle refl
+      at false free = stays mark _ _ _
+          (makes t (Then t (Clone 0 h) Pending) (model t) (read is free) (Quit 0) Quitted (model t)
           (Cloning h (length (model t).live)) refl within refl refl (quits 0))
-          s.marked refl refl refl (λ _. refl)
-          (put-over limit owners k p (h ∷ hs) ds t s (Cloning h (length (model t).live))) (append-nil _)
+          s.marked refl (λ _. refl) (put-over (Cloning h (length (model t).live))) (append-nil _)
 
     -- a raise that wins, right after its read
-    pub raise_wins : (seen : ℕ) → seen < limit → has_exactly seen p ≡ true
-        → Goes owners k (one_more p) t ((reads, nothing) ∷ (raises_from seen, a_handle) ∷ [])
-    raise_wins seen low won = record {
-      now = Then (Then t (Clone 0 h) Pending) (Raise 0) (Born (model t).births);
-      hs = (model t).births ∷ h ∷ hs;
-      ds = ds;
-      shape = bears limit owners k p (h ∷ hs) ds t s _
-          (makes t (Then t (Clone 0 h) Pending) (model t) (read known.0 room) (Raise 0) (Born (model t).births)
-          (grown (model t)) (Cloning h (length (model t).live)) refl within refl refl (raise_bears 0 settles room))
-          (λ _. refl) (put-over limit owners k p (h ∷ hs) ds t s (Cloning h (length (model t).live)));
-      entries = append_assoc (entries_of t) ((reads, nothing) ∷ []) _
-          ∙ ap (λ z. entries_of t ++ (reads, nothing) ∷ (raises_from z, a_handle) ∷ []) (s.live ∙ known.1);
-    } where
-      parts : (b : Bool) → p.mark ≡ b → (if b then false else nat_eq (p.handles + p.drops) seen) ≡ true
-          → (p.mark ≡ false) × (p.handles + p.drops ≡ seen)
-      parts true e w = absurd (true≢false (sym w))
-      parts false e w = (e, eqb-true (p.handles + p.drops) seen w)
+    pub raise_wins : (seen : ℕ) → seen < limit → (if mark then false else nat_eq count seen) ≡ true
+        → Goes owners (hs ++ lives ∷ []) mark t ((made h reads, nothing) ∷ (made h (raises_from seen), a_handle) ∷ [])
+    raise_wins seen low won =
+        born (Then (Then t (Clone 0 h) Pending) (Raise 0) (Born (model t).births)) _
+        (makes t (Then t (Clone 0 h) Pending) (model t) (read known.0 free) (Raise 0) (Born (model t).births)
+        (grown (model t)) (Cloning h (length (model t).live)) refl within refl refl (raise_bears 0 settles free))
+        refl (put-over (Cloning h (length (model t).live)))
+        (append_assoc (reports_of t) ((made h reads, nothing) ∷ []) _
+        ∙ ap (λ z. reports_of t ++ (made h reads, nothing) ∷ (made h (raises_from z), a_handle) ∷ [])
+        (same-count limit owners hs mark t s ∙ known.1)) where
+          parts : (b : Bool) → mark ≡ b → (if b then false else nat_eq count seen) ≡ true
+              → (mark ≡ false) × (count ≡ seen)
+          parts true e w = absurd (true≢false (sym w))
+          parts false e w = (e, eqb-true count seen w)
 
-      known : (p.mark ≡ false) × (p.handles + p.drops ≡ seen)
-      known = parts p.mark refl won
+          known : (mark ≡ false) × (count ≡ seen)
+          known = parts mark refl won
 
-      room : is_full (model t) ≡ false
-      room = full-by ∙ ap (λ b. not b && nat_eq (p.handles + p.drops) limit) known.0
-          ∙ ne_eqb (p.handles + p.drops) limit (λ e. let is : p.handles + p.drops ≡ seen = known.1 in
-          absurd (omega (arith, low)))
+          free : is_full (model t) ≡ false
+          free = full-by ∙ ap (λ b. not b && nat_eq count limit) known.0
+              ∙ ne_eqb count limit (λ e. let is : count ≡ seen = known.1 in absurd (omega (arith, low)))
 
-      settles : raise_settles (model t) (length (model t).live) ≡ true
-      settles = or_right (model t).mark _ (or_right (is_full (model t)) _ (nat_eq-same (length (model t).live)))
-
-    pub first-lives : has h (model t).live ≡ true
-    first-lives = (counted t s.legal).same h ∙ ap (λ (x : HandleState). x.lives) first-held
-
-    only-by : is_only (model t) h ≡ has_exactly 1 p
-    only-by = ap₂ (λ (m : Bool) (n : ℕ). not m && (nat_eq n 1 && has h (model t).live)) s.marked s.live
-        ∙ ap (λ b. not p.mark && (nat_eq (p.handles + p.drops) 1 && b)) first-lives
-        ∙ at p.mark (nat_eq (p.handles + p.drops) 1) where
-          at : (m b : Bool) → (not m && (b && true)) ≡ (if m then false else b)
-          at true b = refl
-          at false true = refl
-          at false false = refl
-
-    pub put-here : (x : HandleState) → put (state t).handle h x h ≡ x
-    put-here x = ap (λ b. if b then x else (state t).handle h) (nat_eq-same h)
+          settles : raise_settles (model t) (length (model t).live) ≡ true
+          settles = or_right (model t).mark _ (or_right (is_full (model t)) _ (nat_eq-same (length (model t).live)))
 
     -- a read for unique; one that finds the only handle is ended at once
-    pub sole_read : Goes owners k p t ((reads_for_unique, if has_exactly 1 p then whole_block 1 else a_handle) ∷ [])
-    sole_read = at (has_exactly 1 p) refl where
+    pub sole_read : Goes owners hs mark t
+        ((made h reads_for_unique, if (if mark then false else nat_eq count 1) then whole_block 1 else a_handle) ∷ [])
+    sole_read = at (if mark then false else nat_eq count 1) refl where
+      only : is_only (model t) h ≡ (if mark then false else nat_eq count 1)
+      only = only-by owners hs mark t s h (ap is_counted there)
+
       written : HandleState
       written = record ((state t).handle h) { access = Written }
 
       t1 : Trace V
       t1 = Then t (GetMut 0 h) Alone
 
-      here-1 : (state t1).handle h ≡ record held_by_0 { access = Written }
-      here-1 = put-here written ∙ ap (λ (x : HandleState). record x { access = Written }) first-held
+      here-1 : (state t1).handle h ≡ record (newborn 0) { access = Written }
+      here-1 = put-here (state t).handle h written
+          ∙ ap (λ (x : HandleState). record x { access = Written }) held-here
 
       back : HandleState
       back = record ((state t1).handle h) { access = SharedAccess }
 
       as_before : (j : ℕ) → put (state t1).handle h back j ≡ (state t).handle j
       as_before = put-all (state t1).handle h back (λ j z. z ≡ (state t).handle j)
-          (ap (λ (x : HandleState). record x { access = SharedAccess }) here-1 ∙ sym first-held)
+          (ap (λ (x : HandleState). record x { access = SharedAccess }) here-1 ∙ sym held-here)
           (λ j other. ap (λ b. if b then written else (state t).handle j) other)
 
-      at : (b : Bool) → has_exactly 1 p ≡ b
-          → Goes owners k p t ((reads_for_unique, if b then whole_block 1 else a_handle) ∷ [])
-      at true one = stays p (Then t1 (EndWrite 0 h) Done) _ _
-          (makes t t1 (model t) (acts (GetMut 0 h) Alone (model t) refl refl takable (finds_alone 0 h (only-by ∙ one)))
-          (EndWrite 0 h) Done (model t) Idle refl within idle-0 (ap (λ (x : HandleState). is_writing x 0) here-1)
+      at : (b : Bool) → (if mark then false else nat_eq count 1) ≡ b
+          → Goes owners hs mark t ((made h reads_for_unique, if b then whole_block 1 else a_handle) ∷ [])
+      at true one = stays mark (Then t1 (EndWrite 0 h) Done) _ _
+          (makes t t1 (model t) (acts (GetMut 0 h) Alone (model t) refl refl takable (finds_alone 0 h (only ∙ one)))
+          (EndWrite 0 h) Done (model t) Idle refl within (s.busy 0) (ap (λ (x : HandleState). is_writing x 0) here-1)
           (ends_write 0 h))
-          s.marked refl refl refl as_before (λ _. refl) (append-nil _)
-      at false more = stays p _ _ _
-          (acts (GetMut 0 h) Shared (model t) refl refl takable (finds_shared 0 h (only-by ∙ more)))
-          s.marked refl refl refl (λ _. refl) (λ _. refl) refl
+          s.marked refl as_before (λ _. refl) (append-nil _)
+      at false more = stays mark _ _ _
+          (acts (GetMut 0 h) Shared (model t) refl refl takable (finds_shared 0 h (only ∙ more)))
+          s.marked refl (λ _. refl) (λ _. refl) refl

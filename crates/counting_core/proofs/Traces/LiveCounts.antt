@@ -4,8 +4,8 @@ use Rattle.counting_core.proofs.Names.{nat_lt, List, length, take_all, count_by,
 use Rattle.counting_core.proofs.Names.{le_trans, le_refl, ltb-true, eqb-true, and_parts, false_from_ne_true}
 use Rattle.counting_core.proofs.Names.{is_marked_word, count_of, IsLimit, IsWithin, Activity, Dropping, Lower, Trace}
 use Rattle.counting_core.proofs.Names.{HandleState, unborn, State, limit_of, handle_in, has_alone, permitted}
-use Rattle.counting_core.proofs.Names.{permitted_by, without, CoreState, Represents, handle, is_dropping}
-use Rattle.counting_core.proofs.Names.{drops_in_flight, number_below, live_handles, has_mark, state, IsLegal}
+use Rattle.counting_core.proofs.Names.{permitted_by, without, CoreState, Represents, is_dropping, drops_in_flight}
+use Rattle.counting_core.proofs.Names.{number_below, live_handles, has_mark, state, model, IsLegal, get_or}
 use Rattle.counting_core.proofs.Traces.Limits.{legal_limit, no_count_passes_limit}
 use Rattle.counting_core.proofs.Traces.HandleLists.{has, IsApart, length-without, apart-without, has-without}
 use Rattle.counting_core.proofs.Traces.LiveHandles.{counted}
@@ -50,6 +50,15 @@ module _ {V : Type 0} (t : Trace V) (legal : IsLegal t) where
   pub dropped-live : (o h : ℕ) → (state t).activity o ≡ Dropping h → has h (live_handles t) ≡ true
   dropped-live o h e = (counted t legal).same h ∙ dropped-lives (state t) (all_fit t legal) o h e
 
+  -- as many live as pass the test by which the handles ever born, in a list, are those that live
+  pub live-listed : {A : Type 0} (passes : A → Bool) (d : A) (xs : List A) → (model t).births ≡ length xs
+      → ((h : ℕ) → ((state t).handle h).lives ≡ passes (get_or xs h d)) → length (live_handles t) ≡ count_by passes xs
+  live-listed passes d xs births same =
+      number-length (λ h. passes (get_or xs h d)) (length xs) (live_handles t) (counted t legal).apart
+      (λ h e. subst (λ n. h < n) births ((counted t legal).below h e)) (λ h lt. (counted t legal).same h ∙ same h)
+      ∙ number-count_by passes d xs (length xs) (le_refl (length xs))
+      ∙ ap (count_by passes) (take_all (length xs) xs (le_refl (length xs)))
+
   -- each drop in flight is of a live handle of its own
   pub drops-le-live : drops_in_flight (state t) ≤ length (live_handles t)
   drops-le-live = pigeonhole (state t).activity apart (state t).owners (live_handles t) (counted t legal).apart
@@ -60,19 +69,10 @@ module _ {V : Type 0} (t : Trace V) (legal : IsLegal t) where
             ∙ holder-is ((state t).handle h) p (dropped-alone (state t) (all_fit t legal) p h e)
 
 module _ {V : Type 0} (core : CoreState V) (t : Trace V) (r : Represents core t) where
-  -- a handle is among the live ones if the core has it live
-  lives-seen : (h : ℕ) → has h (live_handles t) ≡ (handle core h).lives
-  lives-seen h = (counted t r.legal).same h ∙ ap (λ (u : State). (u.handle h).lives) (sym r.same_state)
-
-  -- and as many are
+  -- as many handles live as the core has live
   live-counted : length (live_handles t) ≡ count_by (λ (k : HandleState). k.lives) core.handles
-  live-counted =
-      number-length (λ h. (handle core h).lives) (length core.handles) (live_handles t) (counted t r.legal).apart
-      (λ h e. rw r.same_births ((counted t r.legal).below h e)) (λ h lt. lives-seen h)
-      ∙ number-count_by (λ (k : HandleState). k.lives) unborn core.handles (length core.handles)
-      (le_refl (length core.handles))
-      ∙ ap (count_by (λ (k : HandleState). k.lives)) (take_all (length core.handles)
-      core.handles (le_refl (length core.handles)))
+  live-counted = live-listed t r.legal (λ (k : HandleState). k.lives) unborn core.handles (sym r.same_births)
+      (λ h. ap (λ (u : State). (u.handle h).lives) (sym r.same_state))
 
   -- the count of an unmarked word is the number of live handles
   pub count_is_live : is_marked_word core.word ≡ false

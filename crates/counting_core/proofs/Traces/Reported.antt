@@ -1,205 +1,280 @@
--- What the log of a trace reports: the handles and the drops in flight, whose owners have handles of their own, and one
--- step more.
-use Rattle.counting_core.proofs.Names.{◌≡◌, ℕ, ◌+◌, ◌≤◌, true, not, ◌||◌, nat_eq, List, [], ◌∷◌, length, sym, ◌∙◌, ap}
-use Rattle.counting_core.proofs.Names.{arith, true≢false, eqb-true, ◌⊎◌, inl, inr, and_parts, and_from}
-use Rattle.counting_core.proofs.Names.{false_from_ne_true, common_steps, Activity, Idle, Cloning, Dropping, HandleState}
-use Rattle.counting_core.proofs.Names.{State, handle_in, has_alone, may_use, without, is_dropping, ◌-◌, ◌<◌, Bool}
-use Rattle.counting_core.proofs.Names.{false, ◌++◌, append-nil, length-append, if◌then◌else◌, refl, ap₂, subst}
-use Rattle.counting_core.proofs.Names.{WordStep, raises_from, Tally, first, has_exactly, one_more, after_read}
-use Rattle.counting_core.proofs.Names.{tally_after, MayMake, IsRun, tally_of, run-more, tally-more, Trace, limit_of}
-use Rattle.counting_core.proofs.Names.{put, Model, IsLegal, state, model, log_of}
-use Rattle.counting_core.proofs.Traces.HandleLists.{has, IsApart, nat_eq-same, has-without, length-without}
-use Rattle.counting_core.proofs.Traces.HandleLists.{apart-without}
-use Rattle.counting_core.proofs.Traces.InFlight.{Fits, all_fit}
-use Rattle.counting_core.proofs.Traces.Places.{put-all}
+-- What the log of a trace reports of what is in flight and of the handles, and how that changes by one step.
+use Rattle.counting_core.proofs.Names.{◌≡◌, ℕ, suc, ◌+◌, ◌<◌, Bool, true, false, not, ◌&&◌, ◌||◌, nat_eq, List, [], ◌∷◌}
+use Rattle.counting_core.proofs.Names.{◌++◌, length, length-append, length-set, append-nil, get_or, if◌then◌else◌, refl}
+use Rattle.counting_core.proofs.Names.{sym, ◌∙◌, ap, ap₂, subst, arith, true≢false, eqb-true, ◌⊎◌, inl, inr, and_parts}
+use Rattle.counting_core.proofs.Names.{common_steps, Contains, count_by, born, lt_irrefl, Standing, lives, dropping}
+use Rattle.counting_core.proofs.Names.{has_ended, is_counted, Tally, first, standing_of, Lives, has_exactly, one_more}
+use Rattle.counting_core.proofs.Names.{goes_to, after_read, after_step, tally_of, MayDo, IsRun, run-more, tally-more}
+use Rattle.counting_core.proofs.Names.{atomic, Entry, made, WordStep, raises_from, Activity, Idle, Cloning, Dropping}
+use Rattle.counting_core.proofs.Names.{HandleState, State, handle_in, seen_in, put, has_alone, may_use, without}
+use Rattle.counting_core.proofs.Names.{is_dropping, Trace, limit_of, Model, IsLegal, state, model, log_of}
+use Rattle.counting_core.proofs.Steps.Edits.{get_or-set, get_or-push}
+use Rattle.counting_core.proofs.Traces.Places.{put-all, put-here}
+use Rattle.counting_core.proofs.Traces.HandleLists.{has, nat_eq-same, has-push, has-without}
+use Rattle.counting_core.proofs.Traces.InFlight.{all_fit, dropped-alone}
+use Rattle.counting_core.proofs.Traces.LiveCounts.{live-listed}
 use Rattle.counting_core.proofs.Traces.LiveHandles.{counted}
-
--- numbers that have others of their own in a list are no more than those
-pub mapped-length : (g : ℕ → ℕ) (xs ys : List ℕ) → IsApart xs → IsApart ys → ((o : ℕ)
-    → has o xs ≡ true
-    → has (g o) ys ≡ true)
-    → ((o q : ℕ) → has o xs ≡ true → has q xs ≡ true → g o ≡ g q → o ≡ q)
-    → length xs ≤ length ys
-mapped-length g [] ys apart distinct own one = omega arith
-mapped-length g (x ∷ xs) ys apart distinct own one =
-    let fewer : length xs ≤ length (without (g x) ys) =
-    mapped-length g xs (without (g x) ys) apart.1 (apart-without (g x) ys distinct) others
-    (λ o q i j. one o q (more o i) (more q j)) in
-    let one_less : length (without (g x) ys) + 1 ≡ length ys = length-without (g x) ys (own x here) distinct in
-    omega arith where
-      here : has x (x ∷ xs) ≡ true
-      here = ap (λ b. b || has x xs) (nat_eq-same x)
-
-      more : (o : ℕ) → has o xs ≡ true → has o (x ∷ xs) ≡ true
-      more o i = grind arith
-
-      others : (o : ℕ) → has o xs ≡ true → has (g o) (without (g x) ys) ≡ true
-      others o i = has-without (g o) (g x) ys ∙ and_from _ _ (ap not (false_from_ne_true (nat_eq (g x) (g o)) same))
-          (own o (more o i)) where
-            same : nat_eq (g x) (g o) ≡ true → ⊥
-            same e = true≢false (sym i ∙ ap (λ n. has n xs) (sym (one x o here (more o i) (eqb-true (g x) (g o)
-                e)))
-                ∙ apart.0)
 
 alone-user : (k : HandleState) (q o : ℕ) → has_alone k q ≡ true → may_use k o ≡ true → nat_eq q o ≡ true
 alone-user k q o own uses = grind (arith, common_steps)
 
-pub alone-alone : (k : HandleState) (q o : ℕ)
-    → has_alone k q ≡ true → has_alone k o ≡ true → nat_eq q o ≡ true
+alone-alone : (k : HandleState) (q o : ℕ) → has_alone k q ≡ true → has_alone k o ≡ true → nat_eq q o ≡ true
 alone-alone k q o own other = grind arith
 
 -- an owner who may use a handle, or has it alone
 abbrev pub Has : HandleState → ℕ → Type 0
 Has k o = (may_use k o ≡ true) ⊎ (has_alone k o ≡ true)
 
-pub has-lives : (k : HandleState) (o : ℕ) → Has k o → k.lives ≡ true
+has-lives : (k : HandleState) (o : ℕ) → Has k o → k.lives ≡ true
 has-lives k o (inl uses) = (and_parts _ _ uses).0
 has-lives k o (inr own) = (and_parts _ _ (and_parts _ _ own).0).0
 
-pub has-is : (k : HandleState) (q o : ℕ) → has_alone k q ≡ true → Has k o → nat_eq q o ≡ true
+has-is : (k : HandleState) (q o : ℕ) → has_alone k q ≡ true → Has k o → nat_eq q o ≡ true
 has-is k q o own (inl uses) = alone-user k q o own uses
 has-is k q o own (inr other) = alone-alone k q o own other
 
-pub dropped-alone : (hs : ℕ → HandleState) (o : ℕ) (c : Activity) → is_dropping c ≡ true → Fits hs o c
-    → has_alone (hs (handle_in c)) o ≡ true
-dropped-alone hs o (Dropping h) e fits = fits
-dropped-alone hs o Idle e fits = absurd (true≢false (sym e))
-dropped-alone hs o (Cloning h n) e fits = absurd (true≢false (sym e))
+no-drop : (c : Activity) (h : ℕ) → is_dropping c ≡ false → c ≡ Dropping h → ⊥
+no-drop c h is e = true≢false (sym (ap is_dropping e) ∙ is)
 
--- the owners whose drop is in flight
-abbrev pub AreDropping : List ℕ → State → Type 0
-AreDropping ds u = (o : ℕ) → has o ds ≡ is_dropping (u.activity o)
+-- What the owners are in the middle of, by the standings and the counts found: a clone saw what was found through its
+-- handle, and the handles of the drops in flight are those that are dropping.
+pub record Flights (standing : ℕ → Standing) (found : List (ℕ × ℕ)) (acts : ℕ → Activity) : Type 0 where
+  pub clones : (o h n : ℕ) → acts o ≡ Cloning h n → Contains found (h, n)
+  pub drops : (o h : ℕ) → acts o ≡ Dropping h → standing h ≡ dropping
+  pub dropper : (h : ℕ) → standing h ≡ dropping → (o : ℕ) × (acts o ≡ Dropping h)
+
+module _ (standing : ℕ → Standing) (found : List (ℕ × ℕ)) (acts : ℕ → Activity) (f : Flights standing found acts)
+  where
+    -- a count more is found
+    pub finds : (x : ℕ × ℕ) → Flights standing (x ∷ found) acts
+    finds x = record {
+      clones = λ o h n e. let c : Contains found (h, n) = f.clones o h n e in
+          let low : c.0 < length found = c.1 in (suc c.0, omega arith, c.2);
+      drops = f.drops;
+      dropper = f.dropper;
+    }
+
+    -- the drop of another owner goes on
+    other-drop : (o : ℕ) (c : Activity) (h : ℕ) → (acts o ≡ Dropping h → ⊥) → (q : ℕ) × (acts q ≡ Dropping h)
+        → (q : ℕ) × (put acts o c q ≡ Dropping h)
+    other-drop o c h another d = (
+      d.0,
+      put-all acts o c (λ q b. acts q ≡ Dropping h → b ≡ Dropping h) (λ i. absurd (another i)) (λ _ _ i. i) d.0 d.1,
+    )
+
+    -- an owner that drops nothing goes on to something else
+    pub goes-on : (o : ℕ) (c : Activity) → is_dropping (acts o) ≡ false → is_dropping c ≡ false
+        → ((h n : ℕ) → c ≡ Cloning h n → Contains found (h, n)) → Flights standing found (put acts o c)
+    goes-on o c was is saw = record {
+      clones = λ q h n. put-all acts o c (λ q d. d ≡ Cloning h n → Contains found (h, n)) (saw h n)
+          (λ q _. f.clones q h n) q;
+      drops = λ q h. put-all acts o c (λ q d. d ≡ Dropping h → standing h ≡ dropping)
+          (λ e. absurd (no-drop c h is e)) (λ q _. f.drops q h) q;
+      dropper = λ h e. other-drop o c h (no-drop (acts o) h was) (f.dropper h e);
+    }
+
+    -- a handle that is not dropping gets another standing
+    pub stands : (h : ℕ) (x : Standing) → (standing h ≡ dropping → ⊥) → (x ≡ dropping → ⊥)
+        → Flights (put standing h x) found acts
+    stands h x was is = record {
+      clones = f.clones;
+      drops = λ q k e. put-all standing h x (λ k z. standing k ≡ dropping → z ≡ dropping) (λ i. absurd (was i))
+          (λ _ _ i. i) k (f.drops q k e);
+      dropper = λ k e. f.dropper k (put-all standing h x (λ k z. z ≡ dropping → standing k ≡ dropping)
+          (λ i. absurd (is i)) (λ _ _ i. i) k e);
+    }
+
+    -- the drop of a handle begins
+    pub drop-begins : (o h : ℕ) → is_dropping (acts o) ≡ false
+        → Flights (put standing h dropping) found (put acts o (Dropping h))
+    drop-begins o h was = record {
+      clones = λ q k n. put-all acts o (Dropping h) (λ q d. d ≡ Cloning k n → Contains found (k, n))
+          (λ e. absurd (cc)) (λ q _. f.clones q k n) q;
+      drops = λ q k. put-all acts o (Dropping h) (λ q d. d ≡ Dropping k → put standing h dropping k ≡ dropping)
+          (λ e. ap (put standing h dropping) (sym (ap handle_in e)) ∙ put-here standing h dropping)
+          (λ q _ e. put-all standing h dropping (λ k z. standing k ≡ dropping → z ≡ dropping) (λ _. refl) (λ _ _ i. i) k
+          (f.drops q k e)) q;
+      dropper = put-all standing h dropping
+          (λ k z. z ≡ dropping → (q : ℕ) × (put acts o (Dropping h) q ≡ Dropping k))
+          (λ _. (o, put-here acts o (Dropping h)))
+          (λ k _ e. other-drop o (Dropping h) k (no-drop (acts o) k was) (f.dropper k e));
+    }
+
+    -- and ends
+    pub drop-ends : (o h : ℕ) → acts o ≡ Dropping h → ((q : ℕ) → acts q ≡ Dropping h → nat_eq o q ≡ true)
+        → Flights (put standing h has_ended) found (put acts o Idle)
+    drop-ends o h busy alone = record {
+      clones = λ q k n. put-all acts o Idle (λ q d. d ≡ Cloning k n → Contains found (k, n))
+          (λ e. absurd (cc)) (λ q _. f.clones q k n) q;
+      drops = λ q k. put-all acts o Idle (λ q d. d ≡ Dropping k → put standing h has_ended k ≡ dropping)
+          (λ e. absurd (cc))
+          (λ q other e. put-all standing h has_ended (λ k z. acts q ≡ Dropping k → z ≡ dropping)
+          (λ i. absurd (true≢false (sym (alone q i) ∙ other))) (λ k _. f.drops q k) k e) q;
+      dropper = put-all standing h has_ended (λ k z. z ≡ dropping → (q : ℕ) × (put acts o Idle q ≡ Dropping k))
+          (λ e. absurd (cc)) (λ k other e. other-drop o Idle k (another k other) (f.dropper k e));
+    } where
+      another : (k : ℕ) → nat_eq h k ≡ false → acts o ≡ Dropping k → ⊥
+      another k other i = true≢false (sym (nat_eq-same h) ∙ ap (nat_eq h) (ap handle_in (sym busy ∙ i)) ∙ other)
 
 module _ {V : Type 0} where
-  abbrev pub tally : Model V → List ℕ → Tally
-  tally m ds = record { handles = length m.live - length ds; drops = length ds; mark = m.mark }
+  -- The tally agrees with the model on the handles, and with the owners on what is in flight.
+  pub record Agrees (acts : ℕ → Activity) (m : Model V) (p : Tally) : Type 0 where
+    pub births : m.births ≡ length p.handles
+    pub mark : m.mark ≡ p.mark
+    pub live : (h : ℕ) → has h m.live ≡ is_counted (standing_of p h)
+    pub flights : Flights (standing_of p) p.found acts
 
-  pub record Reported (limit : ℕ) (u : State) (m : Model V) (log : List WordStep) : Type 0 where
-    pub ds : List ℕ
-    pub apart : IsApart ds
-    pub same : AreDropping ds u
+  pub record Reported (limit : ℕ) (u : State) (m : Model V) (log : List Entry) : Type 0 where
     pub runs : IsRun limit log
-    pub so_far : tally_of log ≡ tally m ds
+    pub agrees : Agrees u.activity m (tally_of log)
 
-  module _ (t : Trace V) (legal : IsLegal t) (known : Reported (limit_of t) (state t) (model t)
-      (log_of t)) where
-    abbrev limit : ℕ
-    limit = limit_of t
-
+  module _ (t : Trace V) (legal : IsLegal t) (known : Reported (limit_of t) (state t) (model t) (log_of t)) where
     abbrev u : State
     u = state t
 
     abbrev now : Model V
-    now = (model t)
+    now = model t
 
     abbrev p : Tally
-    p = tally now known.ds
+    p = tally_of (log_of t)
 
-    abbrev pub dropped : ℕ → ℕ
-    dropped o = handle_in (u.activity o)
+    a : Agrees u.activity now p
+    a = known.agrees
 
-    pub own-drop : (o : ℕ) → has o known.ds ≡ true → has_alone (u.handle (dropped o)) o ≡ true
-    own-drop o i = dropped-alone u.handle o (u.activity o) (sym (known.same o) ∙ i) (all_fit t legal o)
+    -- the handles that live are those that are counted
+    pub same-lives : (h : ℕ) → (u.handle h).lives ≡ is_counted (standing_of p h)
+    same-lives h = sym ((counted t legal).same h) ∙ a.live h
 
-    pub is-live : (h : ℕ) → (u.handle h).lives ≡ true → has h now.live ≡ true
-    is-live h e = (counted t legal).same h ∙ e
+    -- so as many live
+    pub same-count : length now.live ≡ count_by is_counted p.handles
+    same-count = live-listed t legal is_counted has_ended p.handles a.births same-lives
 
-    pub one-drop : (o q : ℕ) → has o known.ds ≡ true → has q known.ds ≡ true → dropped o ≡ dropped q →
-        o ≡ q
-    one-drop o q i j e = eqb-true o q (alone-alone (u.handle (dropped q)) o q
-        (subst (λ (h : ℕ). has_alone (u.handle h) o ≡ true) e (own-drop o i)) (own-drop q j))
+    -- a handle lives in the tally if an owner has it who does not drop it
+    pub used-lives : (o h : ℕ) → is_dropping (u.activity o) ≡ false → Has (u.handle h) o → Lives p h
+    used-lives o h idle own = at (standing_of p h) refl where
+      at : (x : Standing) → standing_of p h ≡ x → standing_of p h ≡ lives
+      at lives e = e
+      at has_ended e = absurd (true≢false (sym (has-lives (u.handle h) o own) ∙ same-lives h ∙ ap is_counted e))
+      at dropping e =
+          let d : (q : ℕ) × (u.activity q ≡ Dropping h) = a.flights.dropper h e in
+          let is : d.0 ≡ o = eqb-true d.0 o (has-is (u.handle h) d.0 o
+          (dropped-alone u (all_fit t legal) d.0 h d.1) own) in
+          absurd (true≢false (sym (ap is_dropping (ap u.activity (sym is) ∙ d.1)) ∙ idle))
 
-    pub live-drop : (o : ℕ) → has o known.ds ≡ true → has (dropped o) now.live ≡ true
-    live-drop o i = is-live (dropped o) (and_parts _ _ (and_parts _ _ (own-drop o i)).0).0
+    -- no other owner drops the same handle
+    pub one-drop : (o h : ℕ) → u.activity o ≡ Dropping h → (q : ℕ) → u.activity q ≡ Dropping h → nat_eq o q ≡ true
+    one-drop o h e q i = alone-alone (u.handle h) o q (dropped-alone u (all_fit t legal) o h e)
+        (dropped-alone u (all_fit t legal) q h i)
 
-    pub few : length known.ds ≤ length now.live
-    few = mapped-length dropped known.ds now.live known.apart (counted t legal).apart live-drop one-drop
-
-    -- a handle that is not dropped leaves one handle more than there are drops
-    pub spare : (o h : ℕ) → is_dropping (u.activity o) ≡ false → Has (u.handle h)
-        o → length known.ds < length now.live
-    spare o h idle own =
-        let fewer : length known.ds ≤ length (without h now.live) =
-        mapped-length dropped known.ds (without h now.live) known.apart (apart-without h now.live
-        (counted t legal).apart) others one-drop in
-        let one_less : length (without h now.live) + 1 ≡ length now.live =
-        length-without h now.live (is-live h (has-lives (u.handle h) o own)) (counted t legal).apart in
-        omega arith where
-          others : (q : ℕ) → has q known.ds ≡ true → has (dropped q) (without h now.live) ≡ true
-          others q i = has-without (dropped q) h now.live
-              ∙ and_from _ _ (ap not (false_from_ne_true (nat_eq h (dropped q)) same)) (live-drop q i) where
-                same : nat_eq h (dropped q) ≡ true → ⊥
-                same e =
-                    let at : h ≡ dropped q = eqb-true h (dropped q) e in
-                    let is : q ≡ o = eqb-true q o (has-is (u.handle h) q o
-                    (subst (λ (n : ℕ). has_alone (u.handle n) q ≡ true) (sym at) (own-drop q i)) own) in
-                    true≢false (sym (sym (known.same q) ∙ i) ∙ ap (λ (n : ℕ). is_dropping (u.activity n))
-                    is ∙ idle)
-
-    pub some-of : (o h : ℕ) → is_dropping (u.activity o) ≡ false → Has (u.handle h) o → 1 ≤ p.handles
-    some-of o h idle own = let more : length known.ds < length now.live = spare o h idle own in omega arith
-
-    pub sum-is : p.handles + p.drops ≡ length now.live
-    sum-is = let le : length known.ds ≤ length now.live = few in omega arith
-
-    -- the owner goes on, and no drop begins or ends
-    pub goes-on : (o : ℕ) (c : Activity) → is_dropping (u.activity o)
-        ≡ false → is_dropping c ≡ false → (q : ℕ)
-        → has q known.ds ≡ is_dropping (put u.activity o c q)
-    goes-on o c was is = put-all u.activity o c (λ q d. has q known.ds ≡ is_dropping d) (known.same o ∙ was
-        ∙ sym is) (λ q other. known.same q)
-
-    module _ (w : WordStep) (n : State) (m : Model V) where
-      -- one more step in the log
-      pub adds : (ds : List ℕ) → IsApart ds → AreDropping ds n → MayMake limit p w → tally_after p w ≡
-          tally m ds
-          → Reported limit n m (log_of t ++ w ∷ [])
-      adds ds apart same may is = record {
-        ds = ds;
-        apart = apart;
-        same = same;
-        runs = run-more limit first (log_of t) w known.runs (subst (λ (z : Tally). MayMake limit z w)
-            (sym known.so_far) may);
-        so_far = tally-more first (log_of t) w ∙ ap (λ (z : Tally). tally_after z w) known.so_far ∙ is;
-      }
-
-    pub internal : (n : State) (m : Model V) → AreDropping known.ds n → tally now known.ds ≡ tally m known.ds
-        → Reported limit n m (log_of t ++ [])
-    internal n m same is = record {
-      ds = known.ds;
-      apart = known.apart;
-      same = same;
-      runs = subst (IsRun limit) (sym (append-nil (log_of t))) known.runs;
-      so_far = ap tally_of (append-nil (log_of t)) ∙ known.so_far ∙ is;
+    -- one more step in the log
+    pub adds : (h : ℕ) (w : WordStep) (q : Tally) (n : State) (m : Model V) → MayDo (limit_of t) p h (atomic w)
+        → after_step p h w ≡ q → Agrees n.activity m q → Reported (limit_of t) n m (log_of t ++ made h w ∷ [])
+    adds h w q n m may is agrees = record {
+      runs = run-more (limit_of t) first (log_of t) (made h w) known.runs may;
+      agrees = subst (Agrees n.activity m) (sym (tally-more first (log_of t) (made h w) ∙ is)) agrees;
     }
 
-    pub grown-live : (n : ℕ) → length (now.live ++ n ∷ []) ≡ length now.live + 1
-    grown-live n = length-append now.live (n ∷ [])
+    -- or none
+    pub internal : (n : State) (m : Model V) → Agrees n.activity m p → Reported (limit_of t) n m (log_of t ++ [])
+    internal n m agrees = record {
+      runs = subst (IsRun (limit_of t)) (sym (append-nil (log_of t))) known.runs;
+      agrees = subst (λ (l : List Entry). Agrees n.activity m (tally_of l)) (sym (append-nil (log_of t))) agrees;
+    }
 
-    pub born-tally : (m : Model V) (n : ℕ) → m.mark ≡ now.mark → m.live ≡ now.live ++ n ∷ []
-        → one_more p ≡ tally m known.ds
-    born-tally m n mark live =
-        let le : length known.ds ≤ length now.live = few in
-        let long : length m.live ≡ length now.live + 1 = ap (λ (l : List ℕ). length l) live ∙ grown-live n in
-        let is : length now.live - length known.ds + 1 ≡ length m.live - length known.ds = omega arith in
-        ap₂ (λ (h : ℕ) (b : Bool). record { handles = h; drops = length known.ds; mark = b }) is (sym mark)
+    -- no handle is born or ends
+    pub stays : (m : Model V) (q : Tally) (acts : ℕ → Activity) → m.births ≡ now.births → m.mark ≡ q.mark
+        → m.live ≡ now.live → q.handles ≡ p.handles → Flights (standing_of q) q.found acts → Agrees acts m q
+    stays m q acts births mark live same flights = record {
+      births = births ∙ a.births ∙ ap (λ (hs : List Standing). length hs) (sym same);
+      mark = mark;
+      live = λ h. ap (has h) live ∙ a.live h
+          ∙ ap (λ (hs : List Standing). is_counted (get_or hs h has_ended)) (sym same);
+      flights = flights;
+    }
 
-    pub marked-by : (b : Bool) → now.mark ≡ b → after_read p ≡ (if b then one_more p else p)
-    marked-by b e = ap (λ (z : Bool). if z then one_more p else p) e
+    -- a birth
+    pub bears : (m : Model V) (acts : ℕ → Activity) → m.births ≡ now.births + 1 → m.mark ≡ now.mark
+        → m.live ≡ now.live ++ now.births ∷ [] → Flights (standing_of p) p.found acts → Agrees acts m (one_more p)
+    bears m acts births mark live flights = record {
+      births = births ∙ ap (λ n. n + 1) a.births ∙ sym (length-append p.handles (lives ∷ []));
+      mark = mark ∙ a.mark;
+      live = λ h. ap (has h) live ∙ has-push h now.births now.live
+          ∙ ap (λ n. nat_eq n h || has h now.live) a.births ∙ each h
+          ∙ sym (ap (λ (f : ℕ → Standing). is_counted (f h)) (get_or-push p.handles has_ended lives));
+      flights = subst (λ (f : ℕ → Standing). Flights f p.found acts) (sym (get_or-push p.handles has_ended lives))
+          (stands (standing_of p) p.found acts flights (length p.handles) lives unborn (λ e. absurd (cc)));
+    } where
+      each : (h : ℕ) → (nat_eq (length p.handles) h || has h now.live)
+          ≡ is_counted (put (standing_of p) (length p.handles) lives h)
+      each = put-all (standing_of p) (length p.handles) lives
+          (λ h x. (nat_eq (length p.handles) h || has h now.live) ≡ is_counted x)
+          (ap (λ b. b || has (length p.handles) now.live) (nat_eq-same (length p.handles)))
+          (λ h other. ap (λ b. b || has h now.live) other ∙ a.live h)
 
-    pub exactly-by : (saw : ℕ) (b : Bool) → now.mark ≡ b → has_exactly saw p ≡ (if b then false else nat_eq
-        (length now.live) saw)
-    exactly-by saw b e = ap₂ (λ (z : Bool) (n : ℕ). if z then false else nat_eq n saw) e sum-is
+      unborn : standing_of p (length p.handles) ≡ dropping → ⊥
+      unborn e = lt_irrefl (length p.handles) (born p.handles (length p.handles) dropping refl e)
 
-    pub raise-lost : (saw : ℕ)
-        → has_exactly saw p ≡ false → now.mark ≡ false → tally_after p (raises_from saw) ≡ p
-    raise-lost saw lost mark = ap (λ (z : Bool). if z then one_more p else after_read p) lost ∙ marked-by false mark
+    -- a handle gets another standing
+    pub turns : (h : ℕ) (x : Standing) (m : Model V) (acts : ℕ → Activity) → is_counted (standing_of p h) ≡ true
+        → m.births ≡ now.births → m.mark ≡ now.mark
+        → ((k : ℕ) → has k m.live ≡ is_counted (put (standing_of p) h x k))
+        → Flights (put (standing_of p) h x) p.found acts → Agrees acts m (goes_to p h x)
+    turns h x m acts there births mark live flights = record {
+      births = births ∙ a.births ∙ sym (length-set p.handles h x);
+      mark = mark ∙ a.mark;
+      live = λ k. live k ∙ sym (ap (λ (f : ℕ → Standing). is_counted (f k)) is);
+      flights = subst (λ (f : ℕ → Standing). Flights f p.found acts) (sym is) flights;
+    } where
+      is : standing_of (goes_to p h x) ≡ put (standing_of p) h x
+      is = get_or-set p.handles has_ended h x (born p.handles h (standing_of p h) there refl)
 
-    pub raise-born : (saw : ℕ) → (now.mark || nat_eq (length now.live) saw) ≡ true
-        → tally_after p (raises_from saw) ≡ one_more p
-    raise-born saw won = at now.mark refl where
-      at : (b : Bool) → now.mark ≡ b → tally_after p (raises_from saw) ≡ one_more p
-      at true e = ap (λ (z : Bool). if z then one_more p else after_read p) (exactly-by saw true e)
-          ∙ marked-by true e
-      at false e = ap (λ (z : Bool). if z then one_more p else after_read p) (exactly-by saw false e
+    -- the handles that live without one that ended
+    pub without-it : (h k : ℕ) → has k (without h now.live) ≡ is_counted (put (standing_of p) h has_ended k)
+    without-it h k = has-without k h now.live ∙ put-all (standing_of p) h has_ended
+        (λ k x. (not (nat_eq h k) && has k now.live) ≡ is_counted x)
+        (ap (λ b. not b && has h now.live) (nat_eq-same h))
+        (λ k other. ap (λ b. not b && has k now.live) other ∙ a.live k) k
+
+    -- the tally after a read that bears no handle
+    abbrev pub read_at : ℕ → Tally
+    read_at h = record p { found = (h, count_by is_counted p.handles) ∷ p.found }
+
+    -- a read, by the mark that it finds
+    pub read-by : (h : ℕ) (b : Bool) → now.mark ≡ b → after_read p h ≡ (if b then one_more p else read_at h)
+    read-by h b e = ap (λ (z : Bool). if z then one_more p else read_at h) (sym a.mark ∙ e)
+
+    exactly-by : (saw : ℕ) (b : Bool) → now.mark ≡ b
+        → has_exactly saw p ≡ (if b then false else nat_eq (length now.live) saw)
+    exactly-by saw b e = ap₂ (λ (z : Bool) (n : ℕ). if z then false else nat_eq n saw) (sym a.mark ∙ e) (sym same-count)
+
+    -- a raise that finds another count without a mark is one more read, and any other bears a handle
+    pub raise-lost : (h saw : ℕ) → now.mark ≡ false → nat_eq (length now.live) saw ≡ false
+        → after_step p h (raises_from saw) ≡ read_at h
+    raise-lost h saw mark lost =
+        ap (λ (z : Bool). if z then one_more p else after_read p h) (exactly-by saw false mark ∙ lost)
+        ∙ read-by h false mark
+
+    pub raise-born : (h saw : ℕ) → (now.mark || nat_eq (length now.live) saw) ≡ true
+        → after_step p h (raises_from saw) ≡ one_more p
+    raise-born h saw won = at now.mark refl where
+      at : (b : Bool) → now.mark ≡ b → after_step p h (raises_from saw) ≡ one_more p
+      at true e = ap (λ (z : Bool). if z then one_more p else after_read p h) (exactly-by saw true e)
+          ∙ read-by h true e
+      at false e = ap (λ (z : Bool). if z then one_more p else after_read p h) (exactly-by saw false e
           ∙ sym (ap (λ (z : Bool). z || nat_eq (length now.live) saw) e) ∙ won)
+
+    -- an owner that dropped nothing is idle now
+    pub idles : (o : ℕ) → is_dropping (u.activity o) ≡ false
+        → Flights (standing_of p) p.found (put u.activity o Idle)
+    idles o was = goes-on (standing_of p) p.found u.activity a.flights o Idle was refl (λ h n e. absurd (cc))
+
+    -- or it has just read for a clone
+    pub reads-on : (o h : ℕ) → is_dropping (u.activity o) ≡ false
+        → Flights (standing_of p) (read_at h).found (put u.activity o (Cloning h (length now.live)))
+    reads-on o h was = goes-on (standing_of p) (read_at h).found u.activity
+        (finds (standing_of p) p.found u.activity a.flights (h, count_by is_counted p.handles)) o
+        (Cloning h (length now.live)) was refl (λ k n e. (
+          0,
+          omega arith,
+          ap (λ (z : ℕ). (h, z)) (sym same-count) ∙ ap (λ (c : Activity). (handle_in c, seen_in c)) e,
+        ))

@@ -4,36 +4,37 @@ use Rattle.handles.proofs.Steps.Shared.{fsep, ◌≡◌, ◌≢◌, ℕ, ◌+◌
 use Rattle.handles.proofs.Steps.Shared.{ap, ◌∙◌, subst, arith, eq-eqb, ne_eqb, if◌then◌else◌, dite, ℕ_discrete, Ura}
 use Rattle.handles.proofs.Steps.Shared.{Share, Fml, Logic, ‵, ◌⊛◌, ◌$◌, ◌∵◌, !, qed, by, move, split, fsplit, fjoin}
 use Rattle.handles.proofs.Steps.Shared.{use1, use2, rest, takes, mark_bit, StandsFor, count_of-unmarked, nothing}
-use Rattle.handles.proofs.Steps.Shared.{a_handle, right_by_read, StandsWithin, unit_of_count, title, pass, passed}
-use Rattle.handles.proofs.Steps.Shared.{passes_on, SharedBlock, counts, beside, rule, granted, counted_stake, lives}
-use Rattle.handles.proofs.Steps.Shared.{regranted, Lands, Asks, and_logged, WordStep, List, eqb, leb-true}
-use Rattle.handles.proofs.Steps.Shared.{greatest_count, stands-raised, right_by_raise, reached}
+use Rattle.handles.proofs.Steps.Shared.{a_handle, right_by_read, StandsWithin, unit_of_count, title, passed}
+use Rattle.handles.proofs.Steps.Shared.{passes_on, SharedBlock, counts, beside, rule, granted, counted_stake}
+use Rattle.handles.proofs.Steps.Shared.{stays_living, regranted, Lands, Asks, and_logged, by_own, Entry, List, eqb}
+use Rattle.handles.proofs.Steps.Shared.{leb-true, greatest_count, stands-raised, right_by_raise, reached}
 use prog.Atomic.{either}
 use Rattle.counting_word.specs.WordSteps as step
+use Rattle.handles.specs.Founds.{HasFound}
 use Rattle.handles.proofs.Steps.Words.{stands-unmarked}
-use Rattle.handles.proofs.Steps.Reads.{bare_share, a_share, bare_reported, reported, reported_passed, no_share, shut}
-use Rattle.handles.proofs.Steps.Reads.{found_marked, found_unmarked}
+use Rattle.handles.proofs.Steps.Reads.{bare_share, own_pass, a_share, bare_reported, reported, reported_passed}
+use Rattle.handles.proofs.Steps.Reads.{no_share, shut, found_marked, found_unmarked}
 use Rattle.handles.proofs.Steps.Turns.{turns_raise}
 
 -- the word that a raise from `seen` to `next` makes of w
 abbrev pub raised : ℕ → ℕ → ℕ → ℕ
 raised seen next w = either (eqb w seen) next w
 
-abbrev pub after_raise : SharedBlock → Share → ℕ → ℕ → Fml
-after_raise s q seen w = reported s q w (right_by_raise seen w)
+abbrev pub after_raise : SharedBlock → Share → ℕ → ℕ → List Entry → Fml
+after_raise s q seen w log = reported s q w (right_by_raise seen w) log
 
-abbrev bare_raise : SharedBlock → Share → ℕ → ℕ → Fml
-bare_raise s q seen w = bare_reported s q w (right_by_raise seen w)
+abbrev bare_raise : SharedBlock → Share → ℕ → ℕ → List Entry → Fml
+bare_raise s q seen w log = bare_reported s q w (right_by_raise seen w) log
 
 lost : (seen w : ℕ) → w ≢ seen → right_by_raise seen w ≡ right_by_read w
 lost seen w other = ap (λ y. if y then a_handle else right_by_read w) (ne_eqb w seen other)
 
 module _ {M : Type 1} {𝓤 : Ura M} (𝓛 : Logic 𝓤) (s : SharedBlock) (q : Share) (seen : ℕ)
-    (old : List WordStep) (below : seen < s.limit) where
+    (old : List Entry) (below : seen < s.limit) (has : HasFound s.own seen old) where
   -- a raise that wins
-  won : (j n : ℕ) → StandsWithin s.limit seen false n → Lands 𝓛 s (seen + 1) false n (bare_share s q)
-      (bare_raise s q seen seen) j
-  won j n holds =
+  won : (j n : ℕ) (log : List Entry) → StandsWithin s.limit seen false n
+      → Lands 𝓛 s (seen + 1) log false n (bare_share s q) (bare_raise s q seen seen log) j
+  won j n log holds =
       let most : s.limit ≤ greatest_count = s.most in let low : seen < greatest_count = omega (arith, below, most) in
       let same : n ≡ seen = sym (holds.0.counts_live refl) ∙ count_of-unmarked seen holds.0.same_mark in
       let room : n ≢ greatest_count = λ full. absurd (omega arith) in
@@ -41,15 +42,15 @@ module _ {M : Type 1} {𝓤 : Ura M} (𝓛 : Logic 𝓤) (s : SharedBlock) (q : 
       (stands-raised seen n n holds.0 room) in let within : (seen + 1) % mark_bit ≤ s.limit = omega (arith, below) in
       let next : StandsWithin s.limit (seen + 1) false (n + 1) = (stands, λ _. within) in
       let wins : right_by_raise seen seen ≡ a_handle = ap (λ y. if y then a_handle else right_by_read seen)
-      (eq-eqb seen seen refl) in qed 𝓛 (‵ (counts s (seen + 1)) ∷ ‵ (beside s false n) ∷ ‵ (bare_share s q) ∷ [])
+      (eq-eqb seen seen refl) in qed 𝓛 (‵ (counts s (seen + 1) log) ∷ ‵ (beside s false n) ∷ ‵ (bare_share s q) ∷ [])
       ∵ move ! (1 ∷ []) $ fsplit ! $ use1 𝓛 (‵ (rest 64 s.names.shared (n + 1)) ⊛ ‵ (unit_of_count s.names))
       (takes 64 𝓛 s.names.shared n (omega arith)) $ split ! $
       -- [the parts; the part; the lender and the mark; the word; the token]
       move ! (0 ∷ 2 ∷ []) $ fjoin ! $ move ! (2 ∷ 0 ∷ []) $
-      use2 𝓛 (‵ (rule s)) (lives 𝓛 s false (seen + 1) (n + 1) next) $ move ! (1 ∷ []) $
+      use2 𝓛 (‵ (rule s)) (stays_living 𝓛 s false (seen + 1) (n + 1) log next) $ move ! (1 ∷ []) $
       use1 𝓛 (‵ (title s.names)) (counted_stake 𝓛 s.names) $
-      use1 𝓛 (‵ (granted s (right_by_raise seen seen))) (regranted 𝓛 s a_handle (right_by_raise seen seen) wins) $
-      move ! (1 ∷ 0 ∷ []) $ by ! (shut 𝓛 s q (right_by_raise seen seen) j seen holds.1)
+      use1 𝓛 (‵ (granted s (right_by_raise seen seen) log)) (regranted 𝓛 s a_handle (right_by_raise seen seen) log wins) $
+      move ! (1 ∷ 0 ∷ []) $ by ! (shut 𝓛 s q log (right_by_raise seen seen) j seen holds.1)
 
   is_raised : (w : ℕ) → step.word_by (step.raises_from seen) w ≡ raised seen (seen + 1) w
   is_raised w = dite (ℕ_discrete w seen)
@@ -58,37 +59,44 @@ module _ {M : Type 1} {𝓤 : Ura M} (𝓛 : Logic 𝓤) (s : SharedBlock) (q : 
       (λ other. ap (λ (b : Bool). if b then w + 1 else w) (ne_eqb w seen other)
       ∙ sym (ap (λ (b : Bool). either b (seen + 1) w) (ne_eqb w seen other)))
 
-  abbrev Also : ℕ → Fml
-  Also w = fsep (pass s.names.handles s.names.own q) (passed s (right_by_raise seen w))
+  abbrev Also : ℕ → List Entry → Fml
+  Also w log = fsep (own_pass s q) (passed s (right_by_raise seen w) log)
 
-  pub raises : (next : ℕ) → next ≡ seen + 1 → Asks 𝓛 s (raised seen next) (fsep (reached s.log old)
-      (a_share s q)) (and_logged s old (step.raises_from seen) (after_raise s q seen))
-  raises next is_next = subst (λ m. Asks 𝓛 s (raised seen m) (fsep (reached s.log old) (a_share s q))
-      (and_logged s old (step.raises_from seen) (after_raise s q seen))) (sym is_next)
-      (stepped 𝓛 s old (reached s.log old) (begun_with 𝓛 s old) (step.raises_from seen) (raised seen (seen + 1))
-      (λ w _. is_raised w) (after_raise s q seen) (bare_share s q) (pass s.names.handles s.names.own q) Also
-      (turns_raise 𝓛 s q seen below)
-      (λ j mark w n small holds. passes_on 𝓛 s (raised seen (seen + 1) w) mark n (bare_share s q) (Also w)
-      (bare_raise s q seen w) (after_raise s q seen w) j (reported_passed 𝓛 s q w (right_by_raise seen w))
-      (at j mark w n holds)) (no_share 𝓛 s q))
+  abbrev Raises : ℕ → Type 1
+  Raises next = Asks 𝓛 s (raised seen next) (fsep (reached s.id old) (a_share s q))
+      (and_logged s old (by_own s (step.raises_from seen)) (after_raise s q seen))
+
+  pub raises : (next : ℕ) → next ≡ seen + 1 → Raises next
+  raises next is_next = subst Raises (sym is_next)
+      (stepped 𝓛 s old (reached s.id old) (begun_with 𝓛 s old) (by_own s (step.raises_from seen))
+      (raised seen (seen + 1)) (λ w _. is_raised w) (after_raise s q seen) (bare_share s q) (own_pass s q) Also
+      (turns_raise 𝓛 s old q seen below has)
+      (λ j mark w n log small holds. passes_on 𝓛 s (raised seen (seen + 1) w) log mark n (bare_share s q) (Also w log)
+      (bare_raise s q seen w log) (after_raise s q seen w log) j (reported_passed 𝓛 s q log w (right_by_raise seen w))
+      (at j mark w n log holds)) (no_share 𝓛 s q))
     where
-      F : ℕ → Bool → ℕ → ℕ → Bool → Type 1
-      F j mark w n y = Lands 𝓛 s (either y (seen + 1) w) mark n (bare_share s q) (bare_raise s q seen w) j
+      F : ℕ → Bool → ℕ → ℕ → List Entry → Bool → Type 1
+      F j mark w n log y =
+          Lands 𝓛 s (either y (seen + 1) w) log mark n (bare_share s q) (bare_raise s q seen w log) j
 
-      missed : (j : ℕ) (mark : Bool) (w n : ℕ) → w ≢ seen → StandsWithin s.limit w mark n → F j mark w n false
-      missed j true w n other holds = found_marked 𝓛 s q (right_by_raise seen w)
+      missed : (j : ℕ) (mark : Bool) (w n : ℕ) (log : List Entry) → w ≢ seen → StandsWithin s.limit w mark n
+          → F j mark w n log false
+      missed j true w n log other holds = found_marked 𝓛 s q log (right_by_raise seen w)
           (lost seen w other ∙ ap (λ y. if y then a_handle else nothing) holds.0.same_mark) j w n holds
-      missed j false w n other holds = found_unmarked 𝓛 s q (right_by_raise seen w)
+      missed j false w n log other holds = found_unmarked 𝓛 s q log (right_by_raise seen w)
           (lost seen w other ∙ ap (λ y. if y then a_handle else nothing) holds.0.same_mark) j w n holds
 
-      same_word : (j : ℕ) (mark : Bool) (n : ℕ) → StandsWithin s.limit seen mark n → F j mark seen n true
-      same_word j true n holds = let most : s.limit ≤ greatest_count = s.most in
+      same_word : (j : ℕ) (mark : Bool) (n : ℕ) (log : List Entry) → StandsWithin s.limit seen mark n
+          → F j mark seen n log true
+      same_word j true n log holds = let most : s.limit ≤ greatest_count = s.most in
           let low : seen < greatest_count = omega (arith, below, most) in
           let high : mark_bit ≤ seen = leb-true mark_bit seen holds.0.same_mark in absurd (omega arith)
-      same_word j false n holds = won j n holds
+      same_word j false n log holds = won j n log holds
 
-      at : (j : ℕ) (mark : Bool) (w n : ℕ) → StandsWithin s.limit w mark n → F j mark w n (eqb w seen)
-      at j mark w n holds = dite (ℕ_discrete w seen)
-          (λ same. subst (λ z. F j mark z n (eqb z seen)) (sym same) (subst (F j mark seen n)
-          (sym (eq-eqb seen seen refl)) (same_word j mark n (subst (λ z. StandsWithin s.limit z mark n) same holds))))
-          (λ other. subst (F j mark w n) (sym (ne_eqb w seen other)) (missed j mark w n other holds))
+      at : (j : ℕ) (mark : Bool) (w n : ℕ) (log : List Entry) → StandsWithin s.limit w mark n
+          → F j mark w n log (eqb w seen)
+      at j mark w n log holds = dite (ℕ_discrete w seen)
+          (λ same. subst (λ z. F j mark z n log (eqb z seen)) (sym same) (subst (F j mark seen n log)
+          (sym (eq-eqb seen seen refl))
+          (same_word j mark n log (subst (λ z. StandsWithin s.limit z mark n) same holds))))
+          (λ other. subst (F j mark w n log) (sym (ne_eqb w seen other)) (missed j mark w n log other holds))

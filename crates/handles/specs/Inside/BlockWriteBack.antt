@@ -1,10 +1,11 @@
 -- What a block's handle holds once a `&mut` to its value has ended: what was last written through it. Others may come
 -- then.
-use Rattle.std.specs.Prelude.{false}
-use Rattle.std.specs.Borrow.{Fml, MutBor, RattleType, Lends, LendsIf}
-use Rattle.std.specs.declared.option.Option.{Option}
+use Rattle.std.specs.Prelude.{false, []}
+use Rattle.std.specs.Borrow.{Fml, MutBor, RattleType, Lends, LendsIfOk}
+use Rattle.std.specs.declared.result.Result.{Result}
 use Rattle.handles.specs.declared.block.handle.Handle.{Handle}
 use Rattle.handles.specs.declared.block.Block.{Block}
+use Rattle.handles.specs.declared.block.permit.Logged.{Logged}
 use Rattle.handles.specs.contracts.block.handle.Handle.{the_row}
 use Rattle.handles.specs.contracts.block.Block.{the_row as block_row}
 
@@ -15,6 +16,8 @@ with_value h w = record {
   held = record { limit = h.held.limit; value = w };
   sole = false;
   id = h.id;
+  number = h.number;
+  log = [];
 }
 
 -- of a block that nobody shares
@@ -29,6 +32,6 @@ LendsValue R b r = Lends (block_row R) R b r (λ w. record {
 abbrev pub LendsSole : (R : RattleType) → MutBor (Handle R.Denot) → MutBor R.Denot → Fml
 LendsSole R h r = Lends (the_row R) R h r (with_value h.now)
 
--- at `None` the value is as it was
-abbrev pub LendsIfAlone : (R : RattleType) → MutBor (Handle R.Denot) → Option (MutBor R.Denot) → Fml
-LendsIfAlone R h r = LendsIf (the_row R) R h r (with_value h.now) (with_value h.now h.now.held.value)
+-- at `Err` the value is as it was
+abbrev pub LendsIfAlone : (R : RattleType) → MutBor (Handle R.Denot) → Result (MutBor R.Denot) Logged → Fml
+LendsIfAlone R h r = LendsIfOk (the_row R) R h r (with_value h.now) (with_value h.now h.now.held.value)

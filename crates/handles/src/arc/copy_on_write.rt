@@ -14,7 +14,10 @@ impl<T> Arc<T> {
         ensures* writes_back { sem 𝓛 (LendsIfAlone T.row this.entry result) }
         ensures value { IfSome result (λ x. x.now ≡ this.old) }
     {
-        this.handle.get_mut()
+        match this.handle.get_mut() {
+            Ok(value) => Some(value),
+            Err(_) => None,
+        }
     }
 
     /// The value, to write to. If the block has other handles or is marked, it is copied into a new block first, and

@@ -1,13 +1,12 @@
 // A block that is marked for good, and what may be had of it again and again.
-ghost use Rattle.std.specs.Prelude.{◌≡◌, IfOk, IfErr, false};
+ghost use Rattle.std.specs.Prelude.{◌≡◌, IfOk, IfErr, true, false};
 ghost use base.Fml.{ffalse};
-ghost use Rattle.counting_word.specs.CountingWord.{marked_word};
-ghost use Rattle.handles.specs.declared.block.Held.{Held};
-ghost use Rattle.handles.specs.Founds.{FoundUnmarked};
-ghost use Rattle.handles.specs.Inside.Marked.{HasMark, marked_shares};
+ghost use Rattle.counting_word.specs.CountingWord.{is_marked_word, marked_word};
+ghost use Rattle.counting_word.specs.WordSteps.{asks};
+ghost use Rattle.handles.specs.Attempts.{IsAnswerOf, IsMarking};
+ghost use Rattle.handles.specs.Inside.Marked.{HasMark, IsKnownBy, Staying, born_static, marked_shares};
 
 use super::{Block, Handle, Held, Logged, RawBox};
-use counting_word::is_marked;
 use std::marker::{Move, Owns};
 
 // No `Marked` is ever owned. A `&` to one says that the block there is marked, so that it is never freed. To the
@@ -18,7 +17,7 @@ pub(crate) struct Marked<T> {
 }
 
 impl<T> Owns for Marked<T> {
-    ghost Value = { Held T };
+    ghost Value = { Staying T };
 
     ghost shr_at = { λ x p κ. marked_shares T.row p x κ };
 }
@@ -35,7 +34,7 @@ impl<T> Marked<T> {
     where
         T: 'a,
         requires { block.value.word ≡ marked_word 1 }
-        ensures { result.now ≡ block.value.held }
+        ensures { (result.now.held ≡ block.value.held) × (result.now.known_by.log ≡ born_static) }
     {
         let RawBox { at, alloc: _ } = block;
         unsafe { &*(at as *const Marked<T>) }
@@ -43,7 +42,7 @@ impl<T> Marked<T> {
 
     #[inline]
     pub(crate) fn held(&self) -> &Held<T>
-        ensures { result.now ≡ self.now }
+        ensures { result.now ≡ self.now.held }
     {
         let block = self as *const Marked<T> as *const Block<T>;
         unsafe { &(*block).held }
@@ -51,7 +50,7 @@ impl<T> Marked<T> {
 
     #[inline]
     pub(crate) fn value(&self) -> &T
-        ensures { result.now ≡ self.now.value }
+        ensures { result.now ≡ self.now.held.value }
     {
         &self.held().value
     }
@@ -59,8 +58,9 @@ impl<T> Marked<T> {
     // One handle more, with no step on the word. The log has it as the read that it is spared.
     #[inline]
     pub(crate) fn handle(&self) -> Handle<T>
-        ensures held { result.held ≡ self.now }
+        ensures held { result.held ≡ self.now.held }
         ensures sole { result.sole ≡ false }
+        ensures id { result.id ≡ self.now.known_by.id }
     {
         let block = self as *const Marked<T> as *const Block<T>;
         Handle { block }
@@ -75,7 +75,7 @@ impl<T> Handle<T> {
         requires shared { self.now.sole ≡ false }
         requires block { known.id ≡ self.now.id }
         requires mark { HasMark known.log }
-        ensures { result.now ≡ self.now.held }
+        ensures { IsKnownBy self.now known.log result.now }
     {
         let Logged {} = known;
         let block = self.block;
@@ -86,21 +86,23 @@ impl<T> Handle<T> {
     where
         T: 'a,
         requires { self.now.sole ≡ false }
-        ensures { result.now ≡ self.now.held }
+        ensures held { result.now.held ≡ self.now.held }
+        ensures log { IsMarking self.now result.now.known_by }
     {
         self.marked_by(self.mark().1)
     }
 
-    // By one load of the word, which is in the log if it found no mark.
+    // By one load of the word, which both answers name.
     pub(crate) fn find_marked<'a>(&self) -> Result<&'a Marked<T>, Logged>
     where
         T: 'a,
         requires { self.now.sole ≡ false }
-        ensures found { IfOk result (λ m. m.now ≡ self.now.held) }
-        ensures none { IfErr result (λ logged. (logged.id ≡ self.now.id) × FoundUnmarked logged.log) }
+        ensures held { IfOk result (λ m. m.now.held ≡ self.now.held) }
+        ensures found { IfOk result (λ m. IsAnswerOf self.now asks is_marked_word true m.now.known_by) }
+        ensures none { IfErr result (IsAnswerOf self.now asks is_marked_word false) }
     {
-        let (word, logged) = self.word();
-        if is_marked(word) {
+        let (is_marked, logged) = self.is_marked();
+        if is_marked {
             Ok(self.marked_by(logged))
         } else {
             Err(logged)

@@ -1,10 +1,12 @@
 // What a step on the word of a block leaves its caller with.
 ghost use Rattle.std.specs.Prelude.{◌≡◌, ℕ, List, false};
-ghost use Rattle.counting_word.specs.WordSteps.{WordStep, lowers, coded_log};
+ghost use Rattle.counting_word.specs.WordSteps.{lowers};
+ghost use Rattle.counting_word.specs.Logs.{Entry, made};
+ghost use Rattle.counting_word.specs.Codes.{coded_log, coded_right};
 ghost use Rattle.counting_word.specs.Tallies.{Adds};
-ghost use Rattle.counting_word.specs.Rights.{Right, nothing, a_handle, to_lower, whole_block, coded_right};
+ghost use Rattle.counting_word.specs.Rights.{Right, nothing, a_handle, to_lower, whole_block};
 ghost use Rattle.counting_word.specs.Rights.{IsWholeBlock, right_by_lower};
-ghost use Rattle.handles.specs.Inside.Blocks.{permit_owns, reached};
+ghost use Rattle.handles.specs.Inside.Blocks.{BlockId, coded_id, permit_owns, reached};
 ghost use Rattle.handles.specs.declared.block.Held.{Held};
 
 use super::{Block, Handle, Held, RawBox};
@@ -17,20 +19,22 @@ pub(crate) struct Permit<T> {
     pub(super) block: *const Block<T>,
     pub(crate) ghost held: { Held T },
     pub(crate) ghost right: { Right } by { coded_right },
-    pub(crate) ghost id: { ℕ },
+    pub(crate) ghost id: { BlockId } by { coded_id },
+    // The handle that the right is to: the newborn one, or the one whose drop is in flight.
+    pub(crate) ghost number: { ℕ },
     // The log of the block, up to this step.
-    pub(crate) ghost log: { List WordStep } by { coded_log },
+    pub(crate) ghost log: { List Entry } by { coded_log },
 }
 
 impl<T> Model for Permit<T> {
-    ghost also_owns = { λ p. permit_owns T.row p.block p.held p.id p.right p.log };
+    ghost also_owns = { λ p. permit_owns T.row p.block p.held p.id p.number p.right p.log };
 }
 
 // That a step is in the log of a block, which is this one up to that step. It takes no bytes.
 #[derive(Drop)]
 pub(crate) struct Logged {
-    pub(crate) ghost id: { ℕ },
-    pub(crate) ghost log: { List WordStep } by { coded_log },
+    pub(crate) ghost id: { BlockId } by { coded_id },
+    pub(crate) ghost log: { List Entry } by { coded_log },
 }
 
 impl Model for Logged {
@@ -55,6 +59,7 @@ impl<T> Permit<T> {
         ensures held { result.held ≡ self.held }
         ensures sole { result.sole ≡ false }
         ensures id { result.id ≡ self.id }
+        ensures number { result.number ≡ self.number }
     {
         let Permit { block } = self;
         Handle { block }
@@ -66,7 +71,7 @@ impl<T> Permit<T> {
         ensures right { result.1.right ≡ right_by_lower result.0 }
         ensures held { result.1.held ≡ self.held }
         ensures id { result.1.id ≡ self.id }
-        ensures log { Adds self.held.limit.count self.log lowers result.0 result.1.log }
+        ensures log { Adds self.held.limit.count self.log (made self.number lowers) result.0 result.1.log }
     {
         let Permit { block } = self;
         let found = unsafe { raw::fetch_sub::<Brand>(&raw const (*block).word, 1, SeqCst) };

@@ -4,7 +4,7 @@ ghost use Rattle.servo_arc.specs.CountingWord.{IsLimit};
 
 use crate::support::{again, ok, same, same_at};
 use servo_arc::word::MAX_REFCOUNT;
-use servo_arc::{Arc, ArcUnion, Full, ThinArc, UniqueArc};
+use servo_arc::{Arc, ArcUnion, ThinArc, UniqueArc};
 use std::alloc::{AllocError, Global};
 use std::process::Abort;
 use std::sync::Wait;
@@ -18,16 +18,16 @@ fn limited(alloc: Global, limit: u64) -> Result<Arc<u64>, AllocError>
 }
 
 fn is_full(handle: &Arc<u64>, rt: &impl Wait) -> bool {
-    matches!(Arc::clone(handle, rt), Err(Full)) && handle.clone().is_err()
+    Arc::clone(handle, rt).is_err() && handle.clone().is_err()
 }
 
 #[test]
 fn a_third_handle_waits_for_a_drop(rt: HostRuntime) {
     let a = ok!(&rt, limited(rt.alloc(), 2));
     let b = again!(&rt, &a);
-    let refused = a.borrow_arc().clone_arc(&rt).err();
+    let refused = a.borrow_arc().clone_arc(&rt).is_err();
     let seen = (is_full(&a, &rt), is_full(&b, &rt), refused);
-    same!(&rt, seen, (true, true, Some(Full)));
+    same!(&rt, seen, (true, true, true));
     drop(b);
     let c = ok!(&rt, Arc::clone(&a, &rt));
     same!(&rt, (*c, is_full(&c, &rt)), (5, true));
@@ -63,8 +63,8 @@ fn tokens_count_to_the_limit(rt: HostRuntime) {
     let first = Arc::from_raw_addrefed(&raw, &rt);
     let second = Arc::from_raw_addrefed(&raw, &rt);
     let kept = Arc::from_raw(raw);
-    let seen = (*ok!(&rt, first), second.err(), *kept);
-    same!(&rt, seen, (5, Some(Full), 5));
+    let seen = (*ok!(&rt, first), second.is_err(), *kept);
+    same!(&rt, seen, (5, true, 5));
 }
 
 /// What is done with the only handle of a block before its handles are counted.

@@ -1,7 +1,7 @@
 // The printed texts.
 use crate::support::made::arc_of;
-use crate::support::{ok, same, same_at};
-use servo_arc::{Arc, ArcUnion, BuildError, Full, UniqueArc};
+use crate::support::{holds, ok, same, same_at};
+use servo_arc::{Arc, ArcUnion, BuildError, UniqueArc};
 use std::alloc::AllocError;
 use std::process::Abort;
 
@@ -38,10 +38,10 @@ fn unions_have_their_texts(rt: HostRuntime) {
 #[test]
 fn refusals_have_their_texts(rt: HostRuntime) {
     let alloc = rt.alloc();
+    let only = ok!(&rt, Arc::new_with_limit(alloc, 7u32, 1));
+    let full = ok!(&rt, Arc::clone(&only, &rt).err().ok_or(AllocError));
     let text = format!(in alloc;
-        "{}, {:?}, {}, {}, {}",
-        Full,
-        Full,
+        "{full}, {full:?}, {}, {}, {}",
         BuildError::from(AllocError),
         BuildError::OverReported,
         BuildError::UnderReported,
@@ -52,6 +52,7 @@ fn refusals_have_their_texts(rt: HostRuntime) {
         "the handle limit is reached, Full, out of memory, ExactSizeIterator over-reported length, \
          ExactSizeIterator under-reported length",
     );
+    holds!(&rt, Arc::clone(&only, &rt).err() == Some(full));
 }
 
 #[test]

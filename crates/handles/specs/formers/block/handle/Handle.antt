@@ -1,5 +1,5 @@
 -- `Handle` as a type that may hold the type that holds it.
-use Rattle.std.specs.Prelude.{Bool, ℕ}
+use Rattle.std.specs.Prelude.{Bool, ℕ, List}
 use mathlib.Core.Path.{refl}
 use mathlib.Core.Former.{Former, this, const, pair, via}
 use base.Stored.{gnil}
@@ -11,17 +11,33 @@ use denote.Sharing.{nothing}
 use denote.HoleLaws.{Alike}
 use denote.HolePlaces.{Recodes, one_value}
 use denote.Param.Weighed.{Weighed}
+use Rattle.counting_word.specs.Logs.{Entry}
+use Rattle.handles.specs.Inside.Blocks.{BlockId}
 use Rattle.handles.specs.declared.block.handle.Handle.{Handle}
 use Rattle.handles.specs.declared.limit.Limit.{Limit}
 use Rattle.handles.specs.contracts.block.handle.Handle as C
 
 abbrev pub with_value : {X Y : Type 0} → Handle X → Y → Handle Y
-with_value h y = record { block = h.block; held = record { limit = h.held.limit; value = y }; sole = h.sole; id = h.id }
+with_value h y = record {
+  block = h.block;
+  held = record { limit = h.held.limit; value = y };
+  sole = h.sole;
+  id = h.id;
+  number = h.number;
+  log = h.log;
+}
 
 abbrev pub the_former : Former {0} → Former {0}
-the_former g = via (pair (const (Ptr × Limit × Bool × ℕ)) g) (λ X. Handle (g.Of X))
-    (λ X h. ((h.block, h.held.limit, h.sole, h.id), h.held.value))
-    (λ X v. record { block = v.0.0; held = record { limit = v.0.1; value = v.1 }; sole = v.0.2; id = v.0.3 })
+the_former g = via (pair (const (Ptr × Limit × Bool × BlockId × ℕ × List Entry)) g) (λ X. Handle (g.Of X))
+    (λ X h. ((h.block, h.held.limit, h.sole, h.id, h.number, h.log), h.held.value))
+    (λ X v. record {
+      block = v.0.0;
+      held = record { limit = v.0.1; value = v.1 };
+      sole = v.0.2;
+      id = v.0.3;
+      number = v.0.4;
+      log = v.0.5;
+    })
     (λ X h. refl) (λ X v. refl)
 
 abbrev pub the_weighed : {g : Former {0}} → Weighed g → Weighed (the_former g)

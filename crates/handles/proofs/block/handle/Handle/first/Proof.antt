@@ -5,7 +5,7 @@ use Rattle.handles.proofs.Walks.{fld, of_opd, no_more, and_then, returns, alloc_
 use Rattle.handles.proofs.Walks.{get_in, sets, agg, sub, whole, fact, no, RattleType, owns, types_at, plain, Ptr}
 use Rattle.handles.proofs.Walks.{InBlock, block_ptr, nothing_more, heard, param, Stays, stay_dropped, HeldRow}
 use Rattle.handles.proofs.Walks.{one_word, words_made, HandleWords, known, rewrite, true, exists, bare_block}
-use Rattle.handles.proofs.Walks.{owned_as, Goes-blank, pair_val, RawBoxRow, raw_box-Good, raw_box_opens, box_opens}
+use Rattle.handles.proofs.Walks.{BlockId, sole_handle, handle_at, Entry, List, Goes-blank, pair_val, RawBoxRow, raw_box-Good, raw_box_opens, box_opens}
 use Rattle.handles.proofs.Walks.{at_type, walks_at}
 use Rattle.handles.specs.contracts.block.Block as block_type
 use Rattle.handles.proofs.NewBlocks.{begins_sole}
@@ -22,6 +22,7 @@ first_spec 𝓤 𝓛 𝓜 𝓡 wired T L =
     let hs : Stays En.signature.params En.kept = (stay_dropped boxed no, tt) in
     walks_at (at_type T) code.function 𝓛 𝓜 𝓡 En hs c (Goes-blank 𝓛 1 boxed no (λ κs x f. tt), tt) #self
     (code.unfolded 𝓤 𝓛.H 𝓜 𝓡 wired (T, tt)) (λ z are go ends.
+    let nil : List Entry = [] in
     let κs = z.0.0 in let d : RawBox.Denot = z.0.3.0 in let x : (HeldRow R).Denot = d.value.held in
     qed 𝓛 (((‵ (flft κs.0 z.0.1.0) ⊛ ‵ ftrue) ⊛ ‵ (owns (types_at En.signature.params κs)
     z.0.3 z.0.4)) ∷ raw (fact 𝓤 _) ∷ raw (fact 𝓤 (d.value.word ≡ 1)) ∷ []) ∵
@@ -30,13 +31,14 @@ first_spec 𝓤 𝓛 𝓜 𝓡 wired T L =
     -- [the box; its allocator; nothing; the tokens]
     use1 𝓛 (‵ (bare_block R p x d.value.word)) (box_opens T L 𝓛 b o d.value.word d.value.stamp x d.value.alloc) $
     rewrite ! 0 (λ (w : ℕ). ‵ (bare_block R p x w)) new refl $
-    use1 𝓛 (later (exists (λ (η : ℕ). ‵ (owned_as R p x η true)))) (begins_sole R 𝓛 p x) $ keep ! (0 ∷ 3 ∷ []) $
+    use1 𝓛 (later (exists (λ (η : BlockId). ‵ (sole_handle R p x η 0 [])))) (begins_sole R 𝓛 p x) $ keep ! (0 ∷ 3 ∷ []) $
     go.enters (pair_val (vptr b o) h ∷ []) (λ j. is_pair j ++ []) $
     alloc_all ! (λ l. pass_all ! refl (raw_box-Good b o h good, tt) $ await ! tt $ pick ! (λ η.
     nothing_more ! $ fpack ! (InBlock p) (λ _. ftrue) tt $ fjoin ! $
     use0 𝓛 (‵ ((HandleWords R).own_val (p, tt) (one_word p ∷ []))) (words_made (handle_type.the_type R).name (R
     ∷ []) 𝓛 p) $ fjoin ! $ sets ! (of_opd ! (get_in ! (fld ! refl (stop !)) (sub ! 0 refl (whole !)))) refl (tt, tt) $
     sets ! (agg ! (and_then ! (get ! refl) (no_more !))) refl (tt, (tt, tt)) $
-    known ! (true ≡ true) refl $ known ! (x ≡ x) refl $ join ! $ nothing_more ! $ nothing_more ! $ fjoin ! $
+    known ! (nil ≡ nil) refl $ known ! (0 ≡ 0) refl $ join ! $ known ! (true ≡ true) refl $ join ! $
+    known ! (x ≡ x) refl $ join ! $ nothing_more ! $ nothing_more ! $ fjoin ! $
     returns ! (look_at ! 0 refl) $ free_all ! refl $ keep ! (3 ∷ 0 ∷ 2 ∷ 1 ∷ []) $
-    by ! (ends (one_word p) (record { block = p; held = x; sole = true; id = η }) (tt, tt) (tt, tt)))))))
+    by ! (ends (one_word p) (handle_at R p x true η 0 nil) (tt, tt) (tt, tt)))))))

@@ -1,4 +1,4 @@
-use Rattle.handles.proofs.Founds.{found_word}
+use Rattle.handles.proofs.Founds.{found_word, read_found}
 use Rattle.handles.proofs.block.handle.Handle.first_attempt.Goals as goal
 
 -- the read found the word
@@ -10,4 +10,5 @@ next_attempt-requires-clause-seen g c = let read = c.read-word in (
   read.ensures.right,
   read.ensures.within,
   found_word _ _ _ read.result.0 read.result.1.log read.ensures.log,
+  read_found _ c.args.self.now.held.limit.in_range _ _ read.result.0 read.result.1.log read.ensures.log,
 )

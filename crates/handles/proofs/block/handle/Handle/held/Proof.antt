@@ -15,12 +15,12 @@ pub held_spec : {M : Type 1} → statement M
 held_spec 𝓤 𝓛 𝓜 𝓡 wired T L =
     let R : RattleType = param 0 T in let D : RattleType = HandleWords R in
     by_handle T 𝓛 𝓜 𝓡 (clauses T 𝓛 𝓜.mem 𝓡.returns) (λ sole. Unit {0}) (λ κs a gh. fact_i 𝓤 _ _ tt) #self code.function
-    (code.unfolded 𝓤 𝓛.H 𝓜 𝓡 wired (T, tt)) (λ κs qs p x sole η b o gh Post asked ends go.
+    (code.unfolded 𝓤 𝓛.H 𝓜 𝓡 wired (T, tt)) (λ κs qs p x sole η n log b o gh Post asked ends go.
     let κ : Lft = κs.0 in let pb : ℕ = block_of p in let po : ℕ = offset_of p in
     alloc_all ! (λ l. pass_all ! refl ((tt, tt), tt) $
-    use1 𝓛 (‵ (hidden_shr D κ (p, tt) b o) ⊛ ‵ (fhide (handle_shares R p x η sole κ))) (id⊢ 𝓤 _) $ split ! $
+    use1 𝓛 (‵ (hidden_shr D κ (p, tt) b o) ⊛ ‵ (fhide (handle_shares R p x η n sole κ))) (id⊢ 𝓤 _) $ split ! $
     move ! (1 ∷ []) $ unhide ! $ fsplit ! $ fpick ! (λ inb. drop ! $ let there : ℕ = po + held_offset R in
-    use1 𝓛 (‵ (shown R p x κ)) (shown_by R (param_laws 0 T L) 𝓛 p x η sole κ) $
+    use1 𝓛 (‵ (shown R p x κ)) (shown_by R (param_laws 0 T L) 𝓛 p x η n sole κ) $
     rewrite ! 0 (λ (z : Ptr). ‵ (lent_at (HeldRow R) (z +ₚ held_offset R) x κ)) (at_block p inb) refl $
     fsplit ! $ drop ! $ hide ! $
     -- [what is held; the handle's word; the token; the other tokens]

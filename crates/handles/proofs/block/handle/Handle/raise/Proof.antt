@@ -10,7 +10,9 @@ use Rattle.handles.proofs.Walks.{shuts, param, u64, shr_vals, shr_Tells, Stays, 
 use Rattle.handles.proofs.Walks.{fm, found, finds, Right, HeldRow, one_word, word_and_permit, one_word-Good}
 use Rattle.handles.proofs.Walks.{HandleRow, HandleWords, returns_permit, word_and_permit-Good, opens_handle}
 use Rattle.handles.proofs.Walks.{PermitRow, ptr_val, get_in, no, so, use0, a_ref, permit_worded, permit_at, asks_with}
-use Rattle.handles.proofs.Walks.{reports, also, block_at, and_logged, List, ◌∙◌, WordStep, uint_vals, uint_Tells}
+use Rattle.handles.proofs.Walks.{reports, also, block_at, and_logged, List, ◌∙◌, Entry, made, newest, SharedBlock}
+use Rattle.handles.proofs.Walks.{BlockId, raise-NoBlock, uint_vals, uint_Tells}
+use Rattle.handles.specs.Founds.{HasFound}
 use Rattle.handles.proofs.Walks.{right_by_raise, Vals, Fits, at_type, walks}
 use Rattle.atomic_table.proofs.Calls.{exchanges}
 use Rattle.counting_word.specs.WordSteps as step
@@ -38,49 +40,51 @@ raise_spec 𝓤 𝓛 𝓜 𝓡 wired T L =
     (λ κs qs bounds a gh are go ends.
     let b : ℕ = a.0.ref_ptr.0 in let o : ℕ = a.0.ref_ptr.1 in let κ : Lft = κs.0 in let q : Share = qs.0 in
     let others : Fml = fsep (flft κs.1.0 qs.1.0) ftrue in let p : Ptr = a.0.now.block in
-    let x : (HeldRow R).Denot = a.0.now.held in let η : ℕ = a.0.now.id in let pb : ℕ = block_of p in
+    let x : (HeldRow R).Denot = a.0.now.held in let η : BlockId = a.0.now.id in let n : ℕ = a.0.now.number in let pb : ℕ = block_of p in
     let po : ℕ = offset_of p in let seen : ℕ = a.1.0 in let next : ℕ = a.1.1.0 in
-    let same : Ptr = a.1.1.1.0.block in let old : List WordStep = a.1.1.1.0.log in let values : Vals En.signature κs =
+    let same : Ptr = a.1.1.1.0.block in let old : List Entry = a.1.1.1.0.log in let values : Vals En.signature κs =
     (vptr b o ∷ [], (vint w64 seen ∷ [], (vint w64 next ∷ [], (one_word same ∷ [], tt)))) in
     let y : (walk_of 𝓛 En hs c).Ghost = ((κs, qs, bounds, a, values), gh) in let D : RattleType = HandleWords R in
     qed 𝓛 (((‵ (flft κ q) ⊛ ‵ others) ⊛ ‵ (owns (types_at En.signature.params κs) a y.0.4)) ∷ raw (fact 𝓤 _)
     ∷ raw (fact 𝓤 (a.0.now.sole ≡ false)) ∷ raw (fact 𝓤 (seen < a.0.now.held.limit.count))
     ∷ raw (fact 𝓤 (next ≡ seen + 1)) ∷ raw (fact 𝓤 (same ≡ p)) ∷ raw (fact 𝓤 _)
-    ∷ raw (fact 𝓤 (a.1.1.1.0.id ≡ η)) ∷ []) ∵ keep ! (2 ∷ 3 ∷ 4 ∷ 5 ∷ 7 ∷ 0 ∷ []) $
+    ∷ raw (fact 𝓤 (a.1.1.1.0.id ≡ η)) ∷ raw (fact 𝓤 (HasFound n seen old)) ∷ []) ∵
+    keep ! (2 ∷ 3 ∷ 4 ∷ 5 ∷ 7 ∷ 8 ∷ 0 ∷ []) $
     heard ! (a.0.now.sole ≡ false) (λ shared. heard ! (seen < a.0.now.held.limit.count)
     (λ below. heard ! (next ≡ seen + 1) (λ is_next. heard ! (same ≡ p) (λ is_same. heard ! (a.1.1.1.0.id ≡ η) (λ is_id.
+    heard ! (HasFound n seen old) (λ has.
     split ! $ split ! $ move ! (2 ∷ []) $ fsplit ! $ fsplit ! $ move ! (2 ∷ []) $ fsplit3 ! $ move ! (2 ∷ []) $
-    fsplit ! $ fsplit ! $ move ! (1 ∷ []) $ fsplit ! $ rewrite ! 0 (λ (z : ℕ). ‵ (reached z old)) is_id refl $
+    fsplit ! $ fsplit ! $ move ! (1 ∷ []) $ fsplit ! $ rewrite ! 0 (λ (z : BlockId). ‵ (reached z old)) is_id refl $
     keep ! (7 ∷ 8 ∷ 9 ∷ 0 ∷ []) $ let s_fits : Fits w64 seen = record { fits = are.1.0.1 } in
     let n_fits : Fits w64 next = record { fits = are.1.1.0.1 } in
     go.enters (vptr b o ∷ vint w64 seen ∷ vint w64 next ∷ one_word same ∷ []) refl $
     alloc_all ! (λ l. pass_all ! refl ((tt, tt), ((tt, s_fits), ((tt, n_fits), (one_word-Good same, tt)))) $
-    opens_handle R p x η ! tt a.0.now.sole shared b o (λ inb i e r.
+    opens_handle R p x η n ! tt a.0.now.sole a.0.now.log shared b o (λ inb i e r.
     -- [the word; what it says; the token's way back; the open borrow; the share; the rule; the sharing; the other
     -- tokens; that the log was reached]
     sets ! (is ! (of_opd ! (get_in ! (fld ! refl (stop !)) (sub ! 0 refl (whole !))))
     (ap ptr_val (is_same ∙ at_block p inb))) refl (tt, tt) $
     shuts ! tt D r (p, tt) (one_word (block_ptr pb po) ∷ []) b o $
     -- [half of the token; the open borrow; the share; the rule; the sharing; the other tokens; the log]
-    let aft : ℕ → Fml = and_logged (block_at R p x η i) old (step.raises_from seen)
-    (after_raise (block_at R p x η i) e seen) in
+    let s : SharedBlock = block_at R p x η n i in
+    let aft : ℕ → Fml = and_logged s old (made n (step.raises_from seen)) (after_raise s e seen) in
     first ! $ blocks ! $ sets ! (addr ! (through ! refl (fld ! refl (stop !)))) refl (tt, tt) $
     move ! (6 ∷ 2 ∷ []) $ fjoin ! $ move ! (0 ∷ 3 ∷ []) $
-    asks_with ! (via 𝓤 _ (raises 𝓛 (block_at R p x η i) e seen old below next is_next)
+    asks_with ! (via 𝓤 _ (raises 𝓛 s e seen old below has next is_next)
     (exchanges 𝓛 𝓜 𝓡 (code.calls-atomic_table::exchange 𝓡.env wired)
     (block_ptr pb (po + 0)) seen next are.1.0.1 are.1.1.0.1 aft)) $
     Calls-last ! (fm 𝓛 𝓜 𝓡) (found aft) (and_then ! (get ! refl) (and_then ! (get ! refl)
-    (and_then ! (get ! refl) (no_more !)))) (λ u. finds ! aft (λ n fits. let r' : Right = right_by_raise seen n in
+    (and_then ! (get ! refl) (no_more !)))) (λ u. finds ! aft (λ w fits. let r' : Right = right_by_raise seen w in
     lands_last ! refl (tt, record { fits = fits }) $ go.ahead l 2 $
     sets ! (of_opd ! (get ! refl)) refl (tt, record { fits = fits }) $
-    reports R p x η ! tt inb i e r' old (step.raises_from seen) n (λ within log adds.
+    reports R p x η n ! tt inb i e r' (raise-NoBlock seen w) old (step.raises_from seen) w (λ within log adds.
     sets ! (is ! (agg ! (and_then ! (get ! refl) (no_more !))) (ap one_word (sym (at_block p inb))))
     refl (one_word-Good p) $ sets ! (agg ! (and_then ! (get ! refl) (and_then ! (get ! refl) (no_more !))))
-    refl (word_and_permit-Good n fits p) $ returns_permit R p x η ! n fits r' log $
+    refl (word_and_permit-Good w fits p) $ returns_permit R p x η (newest log) ! w fits r' log $
     move ! (1 ∷ 2 ∷ []) $ join ! $ move ! (1 ∷ []) $
-    use0 𝓛 (raw ((c κs a).ensures gh (n, permit_at R p x r' η log) (at_exit En κs a (tt, (tt, (tt, (tt, tt)))))))
-    (also 𝓤 refl (also 𝓤 refl (also 𝓤 within (also 𝓤 refl (also 𝓤 refl (so 𝓤 adds)))))) $
+    use0 𝓛 (raw ((c κs a).ensures gh (w, permit_at R p x r' η (newest log) log) (at_exit En κs a (tt, (tt, (tt, (tt, tt)))))))
+    (also 𝓤 refl (also 𝓤 refl (also 𝓤 within (also 𝓤 refl (also 𝓤 refl (also 𝓤 refl (so 𝓤 adds))))))) $
     nothing_more ! $ nothing_more ! $ fjoin ! $ nothing_more ! $ fjoin ! $ nothing_more ! $ fjoin ! $
     nothing_more ! $ fjoin ! $ returns ! (look_at ! 0 refl) $ free_all ! refl $ keep ! (3 ∷ 0 ∷ 2 ∷ 1 ∷ []) $
-    by ! (ends (word_and_permit n p) (n, permit_at R p x r' η log) (tt, (tt, (tt, (tt, tt))))
-    (tt, (tt, (tt, (tt, tt))))))))))))))))
+    by ! (ends (word_and_permit w p) (w, permit_at R p x r' η (newest log) log) (tt, (tt, (tt, (tt, tt))))
+    (tt, (tt, (tt, (tt, tt)))))))))))))))))

@@ -1,5 +1,5 @@
 -- `read_for_unique` is one load of the word, by which the handle knows whether it is the only one.
-use Rattle.handles.proofs.Walks.{◌≡◌, ℕ, ◌+◌, false, List, [], ◌∷◌, refl, sym, ap, ◌∙◌, lit<, named, Val, vptr}
+use Rattle.handles.proofs.Walks.{◌≡◌, ℕ, ◌+◌, List, [], ◌∷◌, refl, sym, ap, ◌∙◌, lit<, named, Val, vptr}
 use Rattle.handles.proofs.Walks.{full_share, via, Lft, Share, Fml, ftrue, flft, ‵, raw, ◌⊛◌, later, ◌$◌, ◌∵◌, !, qed}
 use Rattle.handles.proofs.Walks.{by, move, keep, drop, split, split3, join, fsplit, fsplit3, fjoin, fjoin3, fpick}
 use Rattle.handles.proofs.Walks.{use1, use2, await, rewrite, stop, fld, load, addr, lit, of_opd, no_more, and_then}
@@ -7,11 +7,14 @@ use Rattle.handles.proofs.Walks.{first, blocks, Calls-last, returns, alloc_all, 
 use Rattle.handles.proofs.Walks.{through, sets, lands_last, agg, sub, whole, look_in, fact, RattleType, owns}
 use Rattle.handles.proofs.Walks.{types_at, plain, Ptr, block_ptr, block_of, offset_of, at_block, nothing_more, peeks}
 use Rattle.handles.proofs.Walks.{heard, Is, shows, cell_at, param, param_laws, Stays, walk_of, fm, found, finds}
-use Rattle.handles.proofs.Walks.{HeldRow, one_word, words_are, HandleRow, HandleWords, known, shows_permit, asks_new}
+use Rattle.handles.proofs.Walks.{HeldRow, one_word, words_are, HandleRow, HandleWords, known, asks_new}
 use Rattle.handles.proofs.Walks.{handle_at, is_handle, Adds, GName, Incl-refl, mut_vals, mut_Tells, opens, closes}
-use Rattle.handles.proofs.Walks.{Goes-ref, stay_ref, is_one_handle, right_by_unique_read, counted_handle, owned_as}
+use Rattle.handles.proofs.Walks.{Goes-ref, stay_ref, is_one_handle, counted_handle}
 use Rattle.handles.proofs.Walks.{handle_owns, block_at, and_logged, sole_shown, returns_logged, word_and_logged}
 use Rattle.handles.proofs.Walks.{word_and_logged-Good, forgets, handle_settles, at_type, walks}
+use Rattle.handles.proofs.Walks.{BlockId, SharedBlock, Sharing, held_as, made, use3, Bool}
+use base.Fml.{fex}
+use Rattle.handles.specs.Inside.Blocks.{known_log}
 use contract.BorrowLft.{◌⊑◌}
 use Rattle.atomic_table.proofs.Calls.{loads}
 use Rattle.counting_word.specs.WordSteps as step
@@ -32,7 +35,7 @@ read_for_unique_spec 𝓤 𝓛 𝓜 𝓡 wired T L =
     (λ κs qs bounds a gh are go ends.
     let b : ℕ = a.0.ref_ptr.0 in let o : ℕ = a.0.ref_ptr.1 in let κ : Lft = κs.0 in let q : Share = qs.0 in
     let μ : Lft = κs.1.0 in let r : Share = qs.1.0 in let me : Self.Denot = a.0.now in let p : Ptr = me.block in
-    let x : (HeldRow R).Denot = me.held in let η : ℕ = me.id in let γ : GName = a.0.ghost_name in
+    let x : (HeldRow R).Denot = me.held in let η : BlockId = me.id in let n : ℕ = me.number in let γ : GName = a.0.ghost_name in
     let pb : ℕ = block_of p in let po : ℕ = offset_of p in
     let y : (walk_of 𝓛 En hs c).Ghost = ((κs, qs, bounds, a, (vptr b o ∷ [], tt)), gh) in
     qed 𝓛 (((‵ (flft κ q) ⊛ ‵ (flft μ r) ⊛ ‵ ftrue) ⊛ ‵ (owns (types_at En.signature.params κs)
@@ -47,35 +50,40 @@ read_for_unique_spec 𝓤 𝓛 𝓜 𝓡 wired T L =
     rewrite ! 1 (λ (ws : List Val). ‵ (cell_at full_share Self.mir ws b o))
     (ev ∙ ap (λ (z : Ptr). one_word z ∷ []) at) refl $
     -- [what it owns; its cell; the open borrow; its two names; its place; nothing; the token of T; nothing]
-    use1 𝓛 (‵ (owned_as R p x η false)) (forgets R (param_laws 0 T L) 𝓛 p x η me.sole) $ move ! (0 ∷ 7 ∷ []) $
-    use2 𝓛 (later (‵ (counted_handle R p x η) ⊛ ‵ (flft μ r))) (handle_settles R (param_laws 0 T L)
-    𝓛 p x η μ lives μ r (Incl-refl μ)) $ await ! tt $ split ! $ fpick ! (λ i. fsplit3 ! $
-    let aft : ℕ → Fml = and_logged (block_at R p x η i) [] step.reads_for_unique
-    (after_unique_read (block_at R p x η i)) in
+    use1 𝓛 (‵ (fex Sharing (held_as R p x η n))) (forgets R (param_laws 0 T L) 𝓛 p x η n me.sole me.log) $
+    move ! (0 ∷ 7 ∷ []) $
+    use2 𝓛 (later (‵ (counted_handle R p x η n) ⊛ ‵ (flft μ r))) (handle_settles R (param_laws 0 T L)
+    𝓛 p x η n μ lives μ r (Incl-refl μ)) $ await ! tt $ split ! $ fpick ! (λ i. fsplit3 ! $
+    let b' : SharedBlock = block_at R p x η n i in
+    let aft : ℕ → Fml = and_logged b' [] (made n step.reads_for_unique) (after_unique_read b') in
     sets ! (of_opd ! (load ! (through ! refl (fld ! refl (stop !))) (look_in ! 4 (sub ! 0 refl (whole !)))))
     refl (tt, tt) $ first ! $ blocks ! $ sets ! (addr ! (through ! refl (fld ! refl (stop !)))) refl (tt, tt) $
-    asks_new ! (via 𝓤 _ (reads_for_unique 𝓛 (block_at R p x η i))
+    asks_new ! (via 𝓤 _ (reads_for_unique 𝓛 b')
     (loads 𝓛 𝓜 𝓡 (code.calls-core::raw_atomic::load 𝓡.env wired) (block_ptr pb (po + 0)) aft)) $
     sets ! (agg ! (and_then ! (lit ! tt) (no_more !))) refl (tt, (record { fits = lit< tt }, tt)) $
     Calls-last ! (fm 𝓛 𝓜 𝓡) (found aft) (and_then ! (get ! refl) (and_then ! (get ! refl) (no_more !)))
-    (λ u. finds ! aft (λ n fits. let reported : Self.Denot = handle_at R p x (is_one_handle n) η in
+    (λ u. finds ! aft (λ w fits.
     lands_last ! refl (tt, record { fits = fits }) $ go.ahead l 2 $
     sets ! (of_opd ! (get ! refl)) refl (tt, record { fits = fits }) $
-    shows_permit R p x η ! tt inb i (right_by_unique_read n) [] step.reads_for_unique n (λ log adds.
-    fsplit ! $ move ! (1 ∷ []) $ use1 𝓛 (‵ (handle_owns R p x η (is_one_handle n)))
-    (sole_shown 𝓛 R p x η (is_one_handle n)) $
+    fpick ! (λ log. let sole : Bool = is_one_handle w in
+    let reported : Self.Denot = handle_at R p x sole η n (known_log sole log) in
+    fsplit ! $ fsplit ! $ move ! (1 ∷ []) $ fpick ! (λ adds. drop ! $
+    -- [that the log was reached; the right and the pass; the rule; the sharing; the token of T; ..]
+    move ! (1 ∷ 2 ∷ 3 ∷ []) $
+    use3 𝓛 (later (‵ (handle_owns R p x η n sole (known_log sole log)))) (sole_shown 𝓛 R p x η n inb i sole log) $
+    await ! tt $
     -- [the right; that the log was reached; the token of T; the cell; the open borrow; its two names; its place]
     rewrite ! 3 (λ (z : Ptr). ‵ (cell_at full_share Self.mir (one_word z ∷ []) b o)) (sym at) refl $
-    is_handle R p x η ! (is_one_handle n) $
+    is_handle R p x η n ! sole (known_log sole log) $
     move ! (3 ∷ 0 ∷ 4 ∷ 5 ∷ 6 ∷ []) $ closes ! tt Self reported (one_word p ∷ []) b o $
     -- [its name; its borrow; its token; that the log was reached; the token of T; its place; nothing; nothing]
     move ! (5 ∷ 0 ∷ 1 ∷ []) $ fjoin3 ! $ move ! (3 ∷ 4 ∷ []) $ join ! $ move ! (2 ∷ 0 ∷ []) $ join ! $ move ! (2 ∷ []) $
     sets ! (agg ! (no_more !)) refl (tt, tt) $
-    sets ! (agg ! (and_then ! (get ! refl) (and_then ! (get ! refl) (no_more !)))) refl (word_and_logged-Good n fits) $
-    returns_logged η n ! fits log $
-    known ! (Adds x.limit.count [] step.reads_for_unique n log) adds $ known ! (η ≡ η) refl $ join ! $
+    sets ! (agg ! (and_then ! (get ! refl) (and_then ! (get ! refl) (no_more !)))) refl (word_and_logged-Good w fits) $
+    returns_logged η w ! fits log $
+    known ! (Adds x.limit.count [] (made n step.reads_for_unique) w log) adds $ known ! (η ≡ η) refl $ join ! $
     known ! (reported ≡ reported) refl $ join ! $
     -- [the facts; the result; the tokens; the reference; nothing]
     nothing_more ! $ move ! (4 ∷ 0 ∷ []) $ fjoin ! $
     returns ! (look_at ! 0 refl) $ free_all ! refl $ keep ! (3 ∷ 0 ∷ 2 ∷ 1 ∷ []) $
-    by ! (ends (word_and_logged n) (n, record { id = η; log = log }) (reported, tt) (tt, tt))))))))))))
+    by ! (ends (word_and_logged w) (w, record { id = η; log = log }) (reported, tt) (tt, tt)))))))))))))

@@ -16,21 +16,21 @@ pub stamp_spec : {M : Type 1} → statement M
 stamp_spec 𝓤 𝓛 𝓜 𝓡 wired T L =
     let R : RattleType = param 0 T in
     by_handle T 𝓛 𝓜 𝓡 (clauses T 𝓛 𝓜.mem 𝓡.returns) (λ sole. sole ≡ false) (λ κs a gh. snd∗ 𝓤 (fact 𝓤 _) (fact 𝓤 _))
-    #self code.function (code.unfolded 𝓤 𝓛.H 𝓜 𝓡 wired (T, tt)) (λ κs qs p x sole η b o gh Post shared ends go.
-    alloc_all ! (λ l. pass_all ! refl ((tt, tt), tt) $ opens_handle R p x η ! tt sole shared b o (λ inb i e r.
+    #self code.function (code.unfolded 𝓤 𝓛.H 𝓜 𝓡 wired (T, tt)) (λ κs qs p x sole η n log b o gh Post shared ends go.
+    alloc_all ! (λ l. pass_all ! refl ((tt, tt), tt) $ opens_handle R p x η n ! tt sole log shared b o (λ inb i e r.
     sets ! (of_opd ! (load ! (through ! refl (fld ! refl (stop !))) (look_in ! 0 (sub ! 0 refl (whole !)))))
     refl (tt, tt) $ shuts ! tt (HandleWords R) r (p, tt) (one_word (parted p) ∷ []) b o $
     -- [half of the token; the open borrow; the share; the rule; the sharing; the other tokens]
-    let at_stamp : ℕ = offset_of p + stamp_offset in let aft : ℕ → Fml = λ _. lent_share i e in
+    let at_stamp : ℕ = offset_of p + stamp_offset in let aft : ℕ → Fml = λ _. lent_share i η n e in
     first ! $ blocks ! $ sets ! (addr ! (through ! refl (fld ! refl (stop !)))) refl (tt, tt) $
-    move ! (2 ∷ 3 ∷ []) $ asks_with ! (via 𝓤 _ (stamps 𝓛 (block_at R p x η i) at_stamp e (λ n. n))
+    move ! (2 ∷ 3 ∷ []) $ asks_with ! (via 𝓤 _ (stamps 𝓛 (block_at R p x η n i) at_stamp e (λ n. n))
     (loads 𝓛 𝓜 𝓡 (code.calls-core::raw_atomic::load 𝓡.env wired) (block_ptr (block_of p) at_stamp) aft)) $
     sets ! (agg ! (and_then ! (lit ! tt) (no_more !))) refl (tt, (record { fits = lit< tt }, tt)) $
     Calls-last ! (fm 𝓛 𝓜 𝓡) (found aft) (and_then ! (get ! refl) (and_then ! (get ! refl) (no_more !)))
-    (λ u. finds ! aft (λ n fits.
+    (λ u. finds ! aft (λ w fits.
     lands_last ! refl (tt, record { fits = fits }) $ go.ahead l 2 $
     sets ! (of_opd ! (get ! refl)) refl (tt, record { fits = fits }) $
     -- [the share; the rule; half of the token; the open borrow; the sharing; the other tokens]
-    move ! (0 ∷ 2 ∷ 3 ∷ []) $ closes_borrow ! tt $ is_number ! n fits $
+    move ! (0 ∷ 2 ∷ 3 ∷ []) $ closes_borrow ! tt $ is_number ! w fits $
     returns ! (look_at ! 0 refl) $ free_all ! refl $ keep ! (1 ∷ 4 ∷ 0 ∷ []) $
-    by ! (ends (vint w64 n) n (id⊢ 𝓤 (emp 𝓤))))))))
+    by ! (ends (vint w64 w) w (id⊢ 𝓤 (emp 𝓤))))))))

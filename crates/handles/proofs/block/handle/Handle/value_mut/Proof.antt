@@ -8,7 +8,7 @@ use Rattle.handles.proofs.Walks.{RattleType, owns, types_at, plain, Ptr, block_p
 use Rattle.handles.proofs.Walks.{nothing_more, peeks, heard, Is, shows, cell_at, param, Stays, stay_dropped, walk_of}
 use Rattle.handles.proofs.Walks.{HeldRow, one_word, words_are, HandleRow, HandleWords, known, GName, MutRef, MutBor}
 use Rattle.handles.proofs.Walks.{mut_vals, mut_Tells, opens, group, Goes-spent_ref, held_offset, handle_owns}
-use Rattle.handles.proofs.Walks.{unshared_block, at_type, walks}
+use Rattle.handles.proofs.Walks.{unshared_block, at_type, walks, BlockId}
 use denote.Signature.{mut_ref_to}
 use denote.Follow.{follows, lends_Part}
 use Rattle.handles.specs.Inside.BlockWriteBack.{with_value}
@@ -29,7 +29,8 @@ value_mut_spec 𝓤 𝓛 𝓜 𝓡 wired T L =
     (λ κs qs bounds a gh are go ends.
     let b : ℕ = a.0.ref_ptr.0 in let o : ℕ = a.0.ref_ptr.1 in let κ : Lft = κs.0 in let q : Share = qs.0 in
     let μ : Lft = κs.1.0 in let r : Share = qs.1.0 in let me : Self.Denot = a.0.now in let p : Ptr = me.block in
-    let x : (HeldRow R).Denot = me.held in let η : ℕ = me.id in let γ : GName = a.0.ghost_name in
+    let x : (HeldRow R).Denot = me.held in let η : BlockId = me.id in
+    let n : ℕ = me.number in let γ : GName = a.0.ghost_name in
     let Lent : RattleType = MutRef (named 0) κ R in let held_at : ℕ = offset_of p + held_offset R in
     let there : ℕ = held_at + value_offset T in let pb : ℕ = block_of p in let po : ℕ = offset_of p in
     let y : (walk_of 𝓛 En hs c).Ghost = ((κs, qs, bounds, a, (vptr b o ∷ [], tt)), gh) in
@@ -42,25 +43,26 @@ value_mut_spec 𝓤 𝓛 𝓜 𝓡 wired T L =
     move ! (0 ∷ 1 ∷ 3 ∷ []) $ opens ! tt Self {h = me} b o (λ vs. move ! (1 ∷ []) $ fsplit ! $
     peeks ! D (Is D) (shows 𝓛 D) (p, tt) vs (λ is_so. let ev : vs ≡ one_word p
     ∷ [] = words_are (handle_type.the_type R).name (R ∷ []) p vs is_so in drop ! $
-    rewrite ! 0 (λ (z : Bool). ‵ (handle_owns R p x η z)) sole refl $ fsplit ! $ fpick ! (λ inb. drop ! $
+    rewrite ! 0 (λ (z : Bool). ‵ (handle_owns R p x η n z me.log)) sole refl $ fsplit ! $ fpick ! (λ inb. drop ! $
     let at : p ≡ block_ptr pb po = at_block p inb in
     rewrite ! 1 (λ (ws : List Val). ‵ (cell_at full_share Self.mir ws b o))
     (ev ∙ ap (λ (z : Ptr). one_word z ∷ []) at) refl $
     sets ! (of_opd ! (load ! (through ! refl (fld ! refl (stop !))) (look_in ! 1 (sub ! 0 refl (whole !)))))
     refl (tt, tt) $
-    rewrite ! 0 (λ (z : Ptr). ‵ (unshared_block R z x η 1)) at refl $ fsplit3 ! $ move ! (1 ∷ []) $ fsplit ! $
+    fsplit ! $ rewrite ! 0 (λ (z : Ptr). ‵ (unshared_block R z x η 1 me.log)) at refl $ fsplit3 ! $ move ! (1 ∷ []) $ fsplit ! $
     use1 𝓛 (‵ (Apart T x pb held_at)) (held_out T L 𝓛 x pb held_at) $ fsplit ! $
-    -- [the value; the limit and what is left; what frees; the word; the stamp; the cell; the open borrow; its
+    -- [the value; the limit and what is left; what frees; the word; the stamp; the pass; the cell; the open borrow; its
     -- two names; nothing; the token of T; nothing]
     first ! $ blocks ! $ sets_last ! (addr ! (through ! refl (fld ! refl (fld ! refl (stop !))))) refl (tt, tt) $
     go.ahead l 2 $ sets ! (of_opd ! (get ! refl)) refl (tt, tt) $
-    move ! (4 ∷ 5 ∷ []) $ fjoin ! $ move ! (4 ∷ 0 ∷ []) $ fjoin ! $ move ! (3 ∷ 0 ∷ []) $ fjoin ! $
+    move ! (4 ∷ 6 ∷ []) $ fjoin ! $ move ! (5 ∷ 0 ∷ []) $ fjoin ! $ move ! (4 ∷ 0 ∷ []) $ fjoin ! $
+    move ! (3 ∷ 0 ∷ []) $ fjoin ! $
     -- [what is beside what is held; the value; the limit and what is left; the open borrow; its two names]
     move ! (2 ∷ 0 ∷ []) $ fjoin ! $ move ! (2 ∷ 3 ∷ 4 ∷ 1 ∷ 0 ∷ []) $ group ! 5 $ use1 𝓛 (later (some (λ (δ : GName).
     ‵ (Lent.own_val (record { ref_ptr = (pb, there); ghost_name = δ; now = x.value }) (vptr pb there ∷ []))
     ⊛ ‵ (flft κ q) ⊛ ‵ (follows Self R γ δ (with_value me)))))
-    (lends_Part 𝓛 Self R (with_value me) (named 0) κ q b o pb there γ (sem 𝓛 (Rest T p x.limit η b o))
-    (value_back T L 𝓛 p x.limit η b o inb) (Self.coded.code me) (Self.coded.code me) x.value) $
+    (lends_Part 𝓛 Self R (with_value me) (named 0) κ q b o pb there γ (sem 𝓛 (Rest T p x.limit η n me.log b o))
+    (value_back T L 𝓛 p x.limit η n me.log b o inb) (Self.coded.code me) (Self.coded.code me) x.value) $
     await ! tt $ pick ! (λ δ.
     let lent : MutBor R.Denot = record { ref_ptr = (pb, there); ghost_name = δ; now = x.value } in
     -- [the result; the token; what follows; nothing; the token of T; nothing]

@@ -5,7 +5,7 @@ use Rattle.handles.proofs.Walks.{alloc_all, pass_all, free_all, look_at, get, th
 use Rattle.handles.proofs.Walks.{whole, look_in, fact, RattleType, shuts, param, fm, found, finds, one_word}
 use Rattle.handles.proofs.Walks.{HandleWords, opens_handle, so, also, asks_new, logs, returns_logged, word_and_logged}
 use Rattle.handles.proofs.Walks.{word_and_logged-Good, block_at, and_logged, asks, a_share, snd∗, by_handle, parted}
-use Rattle.handles.proofs.Walks.{word_at}
+use Rattle.handles.proofs.Walks.{word_at, made}
 use Rattle.atomic_table.proofs.Calls.{loads}
 use Rattle.counting_word.specs.WordSteps as step
 use Rattle.handles.specs.contracts.block.handle.Handle.word.{clauses}
@@ -17,21 +17,22 @@ pub word_spec : {M : Type 1} → statement M
 word_spec 𝓤 𝓛 𝓜 𝓡 wired T L =
     let R : RattleType = param 0 T in
     by_handle T 𝓛 𝓜 𝓡 (clauses T 𝓛 𝓜.mem 𝓡.returns) (λ sole. sole ≡ false) (λ κs a gh. snd∗ 𝓤 (fact 𝓤 _) (fact 𝓤 _))
-    #self code.function (code.unfolded 𝓤 𝓛.H 𝓜 𝓡 wired (T, tt)) (λ κs qs p x sole η b o gh Post shared ends go.
-    alloc_all ! (λ l. pass_all ! refl ((tt, tt), tt) $ opens_handle R p x η ! tt sole shared b o (λ inb i e r.
+    #self code.function (code.unfolded 𝓤 𝓛.H 𝓜 𝓡 wired (T, tt)) (λ κs qs p x sole η n log b o gh Post shared ends go.
+    alloc_all ! (λ l. pass_all ! refl ((tt, tt), tt) $ opens_handle R p x η n ! tt sole log shared b o (λ inb i e r.
     sets ! (of_opd ! (load ! (through ! refl (fld ! refl (stop !))) (look_in ! 0 (sub ! 0 refl (whole !))))) refl
     (tt, tt) $ shuts ! tt (HandleWords R) r (p, tt) (one_word (parted p) ∷ []) b o $
     -- [half of the token; the open borrow; the share; the rule; the sharing; the other tokens]
-    let aft : ℕ → Fml = and_logged (block_at R p x η i) [] step.asks (λ _. a_share (block_at R p x η i) e) in
+    let aft : ℕ → Fml = and_logged (block_at R p x η n i) [] (made n step.asks)
+    (λ _ _. a_share (block_at R p x η n i) e) in
     first ! $ blocks ! $ sets ! (addr ! (through ! refl (fld ! refl (stop !)))) refl (tt, tt) $
-    move ! (2 ∷ 3 ∷ []) $ asks_new ! (via 𝓤 _ (asks 𝓛 (block_at R p x η i) e)
+    move ! (2 ∷ 3 ∷ []) $ asks_new ! (via 𝓤 _ (asks 𝓛 (block_at R p x η n i) e)
     (loads 𝓛 𝓜 𝓡 (code.calls-core::raw_atomic::load 𝓡.env wired) (word_at p) aft)) $
     sets ! (agg ! (and_then ! (lit ! tt) (no_more !))) refl (tt, (record { fits = lit< tt }, tt)) $
     Calls-last ! (fm 𝓛 𝓜 𝓡) (found aft) (and_then ! (get ! refl) (and_then ! (get ! refl) (no_more !)))
-    (λ u. finds ! aft (λ n fits.
+    (λ u. finds ! aft (λ w fits.
     lands_last ! refl (tt, record { fits = fits }) $ go.ahead l 2 $
     sets ! (of_opd ! (get ! refl)) refl (tt, record { fits = fits }) $
-    logs R p x η ! tt i e [] step.asks n (λ log adds. sets ! (agg ! (no_more !)) refl (tt, tt) $
-    sets ! (agg ! (and_then ! (get ! refl) (and_then ! (get ! refl) (no_more !)))) refl (word_and_logged-Good n fits) $
-    returns_logged η n ! fits log $ returns ! (look_at ! 0 refl) $ free_all ! refl $ keep ! (1 ∷ 2 ∷ 0 ∷ []) $
-    by ! (ends (word_and_logged n) (n, record { id = η; log = log }) (also 𝓤 refl (so 𝓤 adds)))))))))
+    logs R p x η n ! tt i e [] step.asks w (λ now adds. sets ! (agg ! (no_more !)) refl (tt, tt) $
+    sets ! (agg ! (and_then ! (get ! refl) (and_then ! (get ! refl) (no_more !)))) refl (word_and_logged-Good w fits) $
+    returns_logged η w ! fits now $ returns ! (look_at ! 0 refl) $ free_all ! refl $ keep ! (1 ∷ 2 ∷ 0 ∷ []) $
+    by ! (ends (word_and_logged w) (w, record { id = η; log = now }) (also 𝓤 refl (so 𝓤 adds)))))))))

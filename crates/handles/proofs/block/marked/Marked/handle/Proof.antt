@@ -1,13 +1,13 @@
 -- `handle` makes one more handle of a block that is marked, with no step on its word.
 use Rattle.handles.proofs.Walks.{ℕ, false, [], ◌∷◌, refl, id⊢, Lft, Fml, flft, fhide, full_share, finv, later, await}
-use Rattle.handles.proofs.Walks.{pick, block_rule, ‵, ◌⊛◌, ◌$◌, !, by, move, keep, drop, split, fsplit, fjoin, fpick}
+use Rattle.handles.proofs.Walks.{block_rule, ‵, ◌⊛◌, ◌$◌, !, by, move, keep, drop, split, fsplit, fjoin, fpick}
 use Rattle.handles.proofs.Walks.{use0, use1, use2, stop, addr, of_opd, no_more, and_then, returns, alloc_all}
 use Rattle.handles.proofs.Walks.{pass_all, free_all, look_at, get, through, sets, agg, RattleType, Ptr, block_ptr}
 use Rattle.handles.proofs.Walks.{param, HeldRow, one_word, shows_permit, by_ref, handle_at, is_handle, so, also}
-use Rattle.handles.proofs.Walks.{exists, unhide, a_handle, Names, marked_shares, SharedBlock, block_at, Born, born}
+use Rattle.handles.proofs.Walks.{unhide, a_handle, marked_shares, SharedBlock, block_at, born}
 use Rattle.handles.proofs.Walks.{fact_i}
+use Rattle.handles.proofs.Walks.{BlockId, Names, BornSome, static_entry, newest}
 use types.Tokens.{shr_bor-open}
-use Rattle.counting_word.specs.WordSteps as step
 use Rattle.handles.proofs.BorrowedHandle.{lent_halves}
 use Rattle.handles.specs.contracts.block.marked.Marked as marked_type
 use Rattle.handles.specs.contracts.block.marked.Marked.handle.{clauses}
@@ -21,20 +21,22 @@ handle_spec 𝓤 𝓛 𝓜 𝓡 wired T L =
     (λ κs a. Unit {0}) (λ κs a gh. fact_i 𝓤 _ _ tt) T #self code.function
     (code.unfolded 𝓤 𝓛.H 𝓜 𝓡 wired (T, tt)) (λ κs qs a gh Post asked ends go.
     let b : ℕ = a.ref_ptr.0 in let o : ℕ = a.ref_ptr.1 in let p : Ptr = block_ptr b o in
-    let x : (HeldRow R).Denot = a.now in let κ : Lft = κs.0 in
+    let x : (HeldRow R).Denot = a.now.held in let η : BlockId = a.now.known_by.id in let κ : Lft = κs.0 in
     alloc_all ! (λ l. pass_all ! refl ((tt, tt), tt) $
-    use1 𝓛 (‵ (fhide (marked_shares R p x κ))) (id⊢ 𝓤 _) $ unhide ! $ fpick ! (λ t. let i : Names = t.1 in
-    let I : Fml = block_rule R p x t.0 i in let s : SharedBlock = block_at R p x t.0 i in
+    use1 𝓛 (‵ (fhide (marked_shares R p a.now κ))) (id⊢ 𝓤 _) $ unhide ! $ fsplit ! $ drop ! $ fpick ! (λ t.
+    let i : Names = t.names in let n : ℕ = t.number in
+    let I : Fml = block_rule R p x η i in let s : SharedBlock = block_at R p x η n i in
     fsplit ! $ move ! (1 ∷ []) $ fsplit ! $ drop ! $ fsplit ! $ move ! (1 ∷ []) $ fsplit ! $
     -- [the rule; the sharing; what is lent; the mark; the token; the other tokens]
     use0 𝓛 (‵ (flft [] full_share)) (𝓛.lfts.lft-nil full_share) $ move ! (3 ∷ 0 ∷ []) $
-    shr_bor-open ! tt (lent_halves 𝓛 i) (λ e.
+    shr_bor-open ! tt (lent_halves 𝓛 i η n) (λ e.
     -- [the open borrow; the share; the rule; the sharing; the mark; the token; the other tokens]
     drop ! $ move ! (3 ∷ 0 ∷ []) $ fjoin ! $ move ! (1 ∷ []) $
     use1 𝓛 (‵ (finv I) ⊛ ‵ (finv I)) (𝓛.invs.inv_dup I) $ split ! $ move ! (0 ∷ 2 ∷ []) $
-    use2 𝓛 (later (exists (λ (w : ℕ). ‵ (Born 𝓛 s e w)))) (born 𝓛 s e) $ await ! tt $ pick ! (λ w. fsplit ! $ drop ! $
-    shows_permit R p x t.0 ! tt tt i a_handle [] step.reads w (λ log added. fsplit ! $ drop ! $
+    use2 𝓛 (later (‵ (BornSome 𝓛 s e))) (born 𝓛 s e) $ await ! tt $ fpick ! (λ w. fpick ! (λ log. fsplit ! $ drop ! $
+    shows_permit R p x η n ! tt tt i a_handle tt [] log (static_entry s) w (λ added. fsplit ! $ drop ! $
     sets ! (addr ! (through ! refl (stop !))) refl (tt, tt) $ sets ! (of_opd ! (get ! refl)) refl (tt, tt) $
-    sets ! (agg ! (and_then ! (get ! refl) (no_more !))) refl (tt, (tt, tt)) $ is_handle R p x t.0 ! false $
+    sets ! (agg ! (and_then ! (get ! refl) (no_more !))) refl (tt, (tt, tt)) $ is_handle R p x η (newest log) ! false log $
     returns ! (look_at ! 0 refl) $ free_all ! refl $ keep ! (1 ∷ 2 ∷ 0 ∷ []) $
-    by ! (ends (one_word p) (handle_at R p x false t.0) (also 𝓤 refl (so 𝓤 refl)))))))))
+    by ! (ends (one_word p) (handle_at R p x false η (newest log) log)
+    (also 𝓤 refl (also 𝓤 refl (so 𝓤 refl)))))))))))

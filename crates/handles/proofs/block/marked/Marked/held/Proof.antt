@@ -16,11 +16,11 @@ held_spec 𝓤 𝓛 𝓜 𝓡 wired T L =
     (λ κs a. Unit {0}) (λ κs a gh. fact_i 𝓤 _ _ tt) T #self code.function
     (code.unfolded 𝓤 𝓛.H 𝓜 𝓡 wired (T, tt)) (λ κs qs a gh Post asked ends go.
     let b : ℕ = a.ref_ptr.0 in let o : ℕ = a.ref_ptr.1 in let p : Ptr = block_ptr b o in
-    let x : (HeldRow R).Denot = a.now in let κ : Lft = κs.0 in
+    let x : (HeldRow R).Denot = a.now.held in let κ : Lft = κs.0 in
     alloc_all ! (λ l. pass_all ! refl ((tt, tt), tt) $
     let there : ℕ = o + held_offset R in
-    use1 𝓛 (‵ (fhide (marked_shares R p x κ))) (id⊢ 𝓤 _) $ unhide ! $
-    use1 𝓛 (‵ (shown R p x κ)) (stays_shown R (param_laws 0 T L) p x 𝓛 κ) $ fsplit ! $ drop ! $ hide ! $
+    use1 𝓛 (‵ (fhide (marked_shares R p a.now κ))) (id⊢ 𝓤 _) $ unhide ! $
+    use1 𝓛 (‵ (shown R p x κ)) (stays_shown R (param_laws 0 T L) p a.now 𝓛 κ) $ fsplit ! $ drop ! $ hide ! $
     -- [what is held; the token; the other tokens]
     sets ! (addr ! (through ! refl (stop !))) refl (tt, tt) $ sets ! (of_opd ! (get ! refl)) refl (tt, tt) $
     first ! $ blocks ! $ sets_last ! (addr ! (through ! refl (fld ! refl (stop !)))) refl (tt, tt) $

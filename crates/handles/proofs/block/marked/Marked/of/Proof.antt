@@ -1,12 +1,14 @@
 -- `of` gives a new block that is marked away for good.
-use Rattle.handles.proofs.Walks.{◌≡◌, ℕ, List, [], ◌∷◌, ◌++◌, refl, subst, Val, vptr, ent, id⊢, Lft, Share, ftrue}
-use Rattle.handles.proofs.Walks.{fsep, flft, sem, later, await, ‵, raw, ◌⊛◌, ◌$◌, ◌∵◌, !, qed, by, move, keep, split}
-use Rattle.handles.proofs.Walks.{join, fsplit, fjoin, use1, use2, feq_i, stop, fld, addr, of_opd, first, blocks}
+use Rattle.handles.proofs.Walks.{◌≡◌, ℕ, List, [], ◌∷◌, ◌++◌, refl, subst, Val, vptr, ent, id⊢, Lft, Share}
+use base.Fml.{fex, ftrue}
+use Rattle.handles.proofs.Walks.{fsep, flft, sem, later, await, ‵, raw, ◌⊛◌, ◌$◌, ◌∵◌, !, qed, by, move, keep}
+use Rattle.handles.proofs.Walks.{split, join, fsplit, fjoin, fpick, use1, use2, feq_i, stop, fld, addr, of_opd, first, blocks}
 use Rattle.handles.proofs.Walks.{returns, alloc_all, pass_all, free_all, look_at, get, get_in, through, sets}
 use Rattle.handles.proofs.Walks.{sets_last, sub, whole, fact, no, RattleType, owns, types_at, plain, Ptr, block_ptr}
 use Rattle.handles.proofs.Walks.{nothing_more, heard, param, param_laws, Stays, stay_dropped, HeldRow, known, hide}
 use Rattle.handles.proofs.Walks.{marked_word, Goes-blank, pair_val, RawBoxRow, raw_box-Good, raw_box_opens}
-use Rattle.handles.proofs.Walks.{bare_block, marked_shares, new_lasts, box_opens, at_type, walks_at}
+use Rattle.handles.proofs.Walks.{bare_block, BlockId, Lasts_new, staying, new_lasts, box_opens, at_type, walks_at}
+use Rattle.handles.specs.Inside.Marked.{born_static}
 use contract.BorrowLft.{◌⊑◌}
 use Rattle.handles.specs.contracts.block.Block as block_type
 use Rattle.handles.specs.contracts.block.marked.Marked.of.{ended, clauses}
@@ -16,7 +18,8 @@ use Rattle.handles.proofs.block.marked.Marked.of.Code as code
 
 pub of_spec : {M : Type 1} → statement M
 of_spec 𝓤 𝓛 𝓜 𝓡 wired T L =
-    let R : RattleType = param 0 T in let En = ended T in let c = clauses T 𝓛 𝓜.mem 𝓡.returns in
+    let R : RattleType = param 0 T in let L' = param_laws 0 T L in let En = ended T in
+    let c = clauses T 𝓛 𝓜.mem 𝓡.returns in
     let RawBox : RattleType = RawBoxRow (block_type.the_row R) in let boxed = plain (λ _. RawBox) in
     let hs : Stays En.signature.params En.kept = (stay_dropped boxed no, tt) in
     walks_at (at_type T) code.function 𝓛 𝓜 𝓡 En hs c (Goes-blank 𝓛 2 boxed no (λ κs x f. tt), tt)
@@ -35,17 +38,19 @@ of_spec 𝓤 𝓛 𝓜 𝓡 wired T L =
     (subst (λ (w : ℕ). ent 𝓤 (sem 𝓛 (bare_block R p x d.value.word))
     (sem 𝓛 (bare_block R p x w))) is_marked (id⊢ 𝓤 _)) $
     move ! (1 ∷ []) $ split ! $ move ! (1 ∷ []) $ fsplit ! $ move ! (3 ∷ 0 ∷ []) $
-    use2 𝓛 (later (‵ (marked_shares R p x a) ⊛ ‵ (flft κ q))) (new_lasts R (param_laws 0 T L)
-    p x 𝓛 κ q lives a) $
+    use2 𝓛 (later (‵ (fex BlockId (Lasts_new R L' p x 𝓛 a)) ⊛ ‵ (flft κ q))) (new_lasts R L' p x 𝓛 κ q lives a) $
     go.enters (pair_val (vptr b o) h ∷ []) (λ j. is_pair j ++ []) $
     alloc_all ! (λ l. pass_all ! refl (raw_box-Good b o h good, tt) $ await ! tt $ split ! $
+    fpick ! (λ η.
+    let stays = staying R L' p x η born_static in
     -- [what lasts; its token; no more; the other token]
     move ! (1 ∷ 2 ∷ []) $ fjoin ! $ move ! (2 ∷ 0 ∷ []) $ join ! $ move ! (1 ∷ []) $
     sets ! (of_opd ! (get_in ! (fld ! refl (stop !)) (sub ! 0 refl (whole !)))) refl (tt, tt) $
     first ! $ blocks ! $ sets ! (of_opd ! (get ! refl)) refl (tt, tt) $
     sets_last ! (addr ! (through ! refl (stop !))) refl (tt, tt) $
     go.ahead l 2 $ sets ! (of_opd ! (get ! refl)) refl (tt, tt) $
-    hide ! $ feq_i ! (List Val) (vptr b o ∷ []) (vptr b o ∷ []) refl $ fjoin ! $ known ! (x ≡ x) refl $
+    hide ! $ feq_i ! (List Val) (vptr b o ∷ []) (vptr b o ∷ []) refl $ fjoin ! $
+    known ! ((x ≡ x) × (stays.known_by.log ≡ born_static)) (refl, refl) $
     nothing_more ! $ nothing_more ! $ fjoin ! $
     returns ! (look_at ! 0 refl) $ free_all ! refl $ keep ! (3 ∷ 0 ∷ 2 ∷ 1 ∷ []) $
-    by ! (ends (vptr b o) (record { ref_ptr = (b, o); now = x }) (tt, tt) (tt, tt)))))))
+    by ! (ends (vptr b o) (record { ref_ptr = (b, o); now = stays }) (tt, tt) (tt, tt))))))))

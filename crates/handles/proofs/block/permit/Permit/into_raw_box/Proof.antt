@@ -7,7 +7,7 @@ use Rattle.handles.proofs.Walks.{agg, sub, whole, fact, RattleType, Ptr, block_p
 use Rattle.handles.proofs.Walks.{at_block, param, layout, Right, HeldRow, permit_owns, one_word-Good, by_value}
 use Rattle.handles.proofs.Walks.{permit_worded, so, also, heap_row, pair_val, raw_box-Good, raw_box_shuts, look}
 use Rattle.handles.proofs.Walks.{whole_block, IsWholeBlock, heap_offset, unshared_block, Good, group, part_at, Boxed}
-use Rattle.handles.proofs.Walks.{box_shuts, heap_twice, whole_block_of, snd∗}
+use Rattle.handles.proofs.Walks.{box_shuts, heap_twice, whole_block_of, snd∗, BlockId}
 use Rattle.handles.specs.contracts.block.Block as block_type
 use borrow.Table.OneValue.{part_in, part_out}
 use Rattle.handles.specs.contracts.block.permit.Permit.into_raw_box.{clauses}
@@ -20,13 +20,13 @@ into_raw_box_spec 𝓤 𝓛 𝓜 𝓡 wired T L =
     let R : RattleType = param 0 T in by_value (permit_worded R) 𝓛 𝓜 𝓡 (clauses T 𝓛 𝓜.mem 𝓡.returns)
     (λ κs a. IsWholeBlock a.right) (λ κs a gh. snd∗ 𝓤 (fact 𝓤 _) (fact 𝓤 _)) (λ κs a. (tt, tt)) (λ κs x f. refl)
     T #self code.function (code.unfolded 𝓤 𝓛.H 𝓜 𝓡 wired (T, tt)) (λ κs qs a gh Post asked ends go.
-    let p : Ptr = a.block in let x : (HeldRow R).Denot = a.held in let η : ℕ = a.id in let pb : ℕ = block_of p in
+    let p : Ptr = a.block in let x : (HeldRow R).Denot = a.held in let η : BlockId = a.id in let pb : ℕ = block_of p in
     let po : ℕ = offset_of p in let there : Ptr = block_ptr pb po in
     let Block : RattleType = block_type.the_row R in let n : ℕ = (whole_block_of a.right asked).0 in
     let is_whole : a.right ≡ whole_block n = (whole_block_of a.right asked).1 in
-    rewrite ! 0 (λ (r : Right). ‵ (permit_owns R p x η r a.log)) is_whole refl $ fsplit ! $ drop ! $
+    rewrite ! 0 (λ (r : Right). ‵ (permit_owns R p x η a.number r a.log)) is_whole refl $ fsplit ! $ drop ! $
     fsplit ! $ fpick ! (λ inb. drop ! $ let at : p ≡ block_ptr pb po = at_block p inb in
-    rewrite ! 0 (λ (z : Ptr). ‵ (unshared_block R z x η n)) at refl $
+    rewrite ! 0 (λ (z : Ptr). ‵ (unshared_block R z x η n a.log)) at refl $
     fsplit3 ! $ fsplit ! $ move ! (1 ∷ []) $ drop ! $ move ! (1 ∷ []) $ fsplit ! $ move ! (1 ∷ []) $
     fpick ! (λ h. fsplit3 ! $
     -- [the handle of the heap; the right to free; what is left; the value; the word; the stamp; the tokens]

@@ -1,0 +1,44 @@
+//! What a clone at the limit is refused with.
+ghost use Rattle.std.specs.Prelude.{◌≡◌, ℕ, List};
+ghost use base.Fml.{fsep};
+ghost use Rattle.counting_word.specs.Logs.{Entry};
+ghost use Rattle.counting_word.specs.Codes.{coded_log};
+ghost use Rattle.handles.specs.Founds.{FoundFull};
+ghost use Rattle.handles.specs.Attempts.{IsFullOf};
+ghost use Rattle.handles.specs.Inside.Blocks.{BlockId, coded_id, fact, reached};
+
+use crate::block::{Handle, Logged};
+use std::marker::Model;
+use thiserror::Error;
+
+/// The block has as many handles as its limit allows.
+///
+/// Only a refused clone makes one: with it goes the log of the block up to the step that found the limit. It takes no
+/// bytes.
+#[derive(Debug, PartialEq, Eq, Error, Drop)]
+#[error("the handle limit is reached")]
+pub struct Full {
+    ghost limit: { ℕ },
+    ghost id: { BlockId } by { coded_id },
+    ghost log: { List Entry } by { coded_log },
+}
+
+impl Model for Full {
+    ghost also_owns = { λ f. fsep (reached f.id f.log) (fact (FoundFull f.limit f.log)) };
+}
+
+unsafe impl Send for Full {}
+
+unsafe impl Sync for Full {}
+
+impl<T> Handle<T> {
+    // By a step that found the block of this handle to be full.
+    #[inline]
+    pub(crate) fn full_by(&self, logged: Logged) -> Full
+        requires { IsFullOf self.now logged }
+        ensures { (result.limit ≡ self.now.held.limit.count) × (result.id ≡ self.now.id) × (result.log ≡ logged.log) }
+    {
+        let Logged {} = logged;
+        Full {}
+    }
+}

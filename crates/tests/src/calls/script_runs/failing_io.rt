@@ -62,6 +62,30 @@ fn ends_at_a_failed_write(rt: HostRuntime) {
     }
 }
 
+#[test]
+fn ends_at_a_write_that_takes_nothing(rt: HostRuntime) {
+    for (kind, script, _) in SHORT {
+        let mut output = ShortWriter::new(rt.alloc(), 0);
+        let ended = run_into(rt.alloc(), kind, script, &mut output);
+        same_at!(&rt, kind, (ended, output.held.len()), ((4, 0), 0));
+    }
+}
+
+#[test]
+fn ends_at_a_failed_flush_of_a_fault_at_the_first_line(rt: HostRuntime) {
+    for kind in ["core", "table"] {
+        let mut output = FailingWriter::new(rt.alloc(), 1);
+        let ended = run_into(rt.alloc(), kind, b"faulty\n", &mut output);
+        let seen = (ended, output.held.as_slice(), output.has_failed);
+        same_at!(
+            &rt,
+            kind,
+            seen,
+            ((4, 0), b"fault: line 1\n".as_slice(), true)
+        );
+    }
+}
+
 // The answers to so many lines take three parts.
 const LINES: usize = 20_000;
 

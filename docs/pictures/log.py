@@ -33,10 +33,13 @@ def right_of(command, answer):
 
 def entries(steps):
     """The entry of each step in the log with what it leaves its maker with, or nothing if it is no step on the word."""
-    atomic, seen = atomic_steps(), {}
-    for ((command, owner, *_), answer), word in zip(steps, ["1", *words_after(steps)]):
+    atomic, seen, used = atomic_steps(), {}, {}
+    for ((command, owner, *handle), answer), word in zip(steps, ["1", *words_after(steps)]):
         entry = atomic.get(command) if answer != "barred" else None
-        yield entry and (f"{entry} {seen[owner]}" if command == "raise" else entry, right_of(command, answer))
+        # A raise and a lower name no handle: they go on with the one of the read before them.
+        used[owner] = handle[0] if handle else used.get(owner)
+        step = f"{entry} {seen[owner]}" if command == "raise" else entry
+        yield entry and (f"{used[owner]}: {step}", right_of(command, answer))
         if command in ("clone", "raise"):
             seen[owner] = word
 
@@ -45,7 +48,7 @@ def drawn():
     steps = read(TRACE)
     left = right_edge(steps)
     right = left + WIDTH - 8
-    parts = [f'<text x="{left + 8}" y="20">log</text>', f'<text x="{right}" y="20" text-anchor="end">leaves</text>']
+    parts = [f'<text x="{left + 8}" y="20">log: handle, step</text>', f'<text x="{right}" y="20" text-anchor="end">leaves</text>']
     for row, entry in enumerate(entries(steps)):
         y = TOP + ROW * row
         if entry:

@@ -1,6 +1,6 @@
 -- Whose step it is, and which step is permitted to whom.
 use Rattle.std.specs.List.{list_any}
-use Rattle.std.specs.Prelude.{ℕ, Bool, true, false, not, ◌&&◌, ◌||◌, nat_eq, nat_lt, Option, None, Some, length}
+use Rattle.std.specs.Prelude.{ℕ, Bool, true, false, not, ◌&&◌, ◌||◌, nat_eq, nat_lt, length}
 use Rattle.counting_core.specs.declared.activity.Activity.{Activity}
 use Rattle.counting_core.specs.declared.activity.Activity.TheVariants.{Idle, Cloning, Dropping}
 use Rattle.counting_core.specs.declared.handle_entry.Access.{Access}
@@ -52,44 +52,40 @@ module _ (k : HandleState) (o : ℕ) where
 abbrev pub is_another : State → ℕ → ℕ → Bool
 is_another u o to = nat_lt to u.owners && not (nat_eq to o)
 
--- The owner whose step it is, the handle that it is on, and whether the owner may make it with nothing in flight. A
--- raise, a quit and a lower go on with what is in flight, and are on no handle.
-abbrev pub request : {V : Type 0} → Step V → ℕ × Option ℕ × (State → Bool)
-request (Raise o) = (o, None, λ u. false)
-request (Quit o) = (o, None, λ u. false)
-request (Lower o) = (o, None, λ u. false)
-request (Clone o h) = (o, Some h, λ u. may_use (u.handle h) o)
-request (Mark o h) = (o, Some h, λ u. may_use (u.handle h) o)
-request (Load o h) = (o, Some h, λ u. may_use (u.handle h) o || has_sole (u.handle h) o)
-request (Unique o h) = (o, Some h, λ u. may_use (u.handle h) o)
-request (Static o h) = (o, Some h, λ u. may_use (u.handle h) o)
-request (GetMut o h) = (o, Some h, λ u. may_take (u.handle h) o)
-request (IntoUnique o h) = (o, Some h, λ u. may_take (u.handle h) o)
-request (Drop o h) = (o, Some h, λ u. may_take (u.handle h) o || has_sole (u.handle h) o)
-request (Give o h to) = (o, Some h, λ u. (may_take (u.handle h) o || has_sole (u.handle h) o) && is_another u o to)
+-- The owner whose step it is, and whether it may make the step with nothing in flight. A raise, a quit and a lower go on
+-- with what is in flight.
+abbrev pub request : {V : Type 0} → Step V → ℕ × (State → Bool)
+request (Raise o) = (o, λ u. false)
+request (Quit o) = (o, λ u. false)
+request (Lower o) = (o, λ u. false)
+request (Clone o h) = (o, λ u. may_use (u.handle h) o)
+request (Mark o h) = (o, λ u. may_use (u.handle h) o)
+request (Load o h) = (o, λ u. may_use (u.handle h) o || has_sole (u.handle h) o)
+request (Unique o h) = (o, λ u. may_use (u.handle h) o)
+request (Static o h) = (o, λ u. may_use (u.handle h) o)
+request (GetMut o h) = (o, λ u. may_take (u.handle h) o)
+request (IntoUnique o h) = (o, λ u. may_take (u.handle h) o)
+request (Drop o h) = (o, λ u. may_take (u.handle h) o || has_sole (u.handle h) o)
+request (Give o h to) = (o, λ u. (may_take (u.handle h) o || has_sole (u.handle h) o) && is_another u o to)
 request (Lend o h to) = (
   o,
-  Some h,
   λ u. holds (u.handle h) o
       && (is_shared (u.handle h).access && (is_another u o to && not (is_lent_to (u.handle h) to))),
 )
-request (Return o h) = (o, Some h, λ u. (u.handle h).lives && is_lent_to (u.handle h) o)
-request (Write o h v) = (o, Some h, λ u. is_writing (u.handle h) o || has_sole (u.handle h) o)
-request (EndWrite o h) = (o, Some h, λ u. is_writing (u.handle h) o)
-request (Share o h) = (o, Some h, λ u. has_sole (u.handle h) o)
+request (Return o h) = (o, λ u. (u.handle h).lives && is_lent_to (u.handle h) o)
+request (Write o h v) = (o, λ u. is_writing (u.handle h) o || has_sole (u.handle h) o)
+request (EndWrite o h) = (o, λ u. is_writing (u.handle h) o)
+request (Share o h) = (o, λ u. has_sole (u.handle h) o)
 
 abbrev pub owner_of : {V : Type 0} → Step V → ℕ
 owner_of s = (request s).0
-
-abbrev pub handle_of : {V : Type 0} → Step V → Option ℕ
-handle_of s = (request s).1
 
 -- by what the owner of the step is in the middle of
 abbrev pub permitted_by : {V : Type 0} → State → Activity → Step V → Bool
 permitted_by u (Cloning h seen) (Raise o) = true
 permitted_by u (Cloning h seen) (Quit o) = true
 permitted_by u (Dropping h) (Lower o) = true
-permitted_by u Idle s = (request s).2 u
+permitted_by u Idle s = (request s).1 u
 permitted_by u activity s = false
 
 abbrev pub permitted : {V : Type 0} → State → Step V → Bool

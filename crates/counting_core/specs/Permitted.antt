@@ -52,8 +52,8 @@ module _ (k : HandleState) (o : ℕ) where
 abbrev pub is_another : State → ℕ → ℕ → Bool
 is_another u o to = nat_lt to u.owners && not (nat_eq to o)
 
--- The owner whose step it is, and whether it may make the step with nothing in flight. A raise, a quit and a lower go on
--- with what is in flight.
+-- The owner whose step it is, and whether it may make the step with nothing in flight. A raise, a quit and a lower go
+-- on with what is in flight.
 abbrev pub request : {V : Type 0} → Step V → ℕ × (State → Bool)
 request (Raise o) = (o, λ u. false)
 request (Quit o) = (o, λ u. false)

@@ -2,10 +2,10 @@
 use Rattle.counting_core.proofs.Names.{StepsAreThoseOfHandles}
 use Rattle.counting_core.proofs.Names.{◌≡◌, ◌+◌, Bool, true, false, if◌then◌else◌, nat_eq, length, refl, is_marked_word}
 use Rattle.counting_core.proofs.Names.{is_one_handle, count_of, a_handle, nothing, to_lower, whole_block, StaticClone}
-use Rattle.counting_core.proofs.Names.{FullClone, RaiseClone, StaticDrop, LowerDrop, Step, Clone, Raise, Drop, Lower}
+use Rattle.counting_core.proofs.Names.{FullClone, RaiseClone, StaticDrop, LowerDrop, Clone, Raise, Drop, Lower}
 use Rattle.counting_core.proofs.Names.{Quit, Write, EndWrite, Share, Load, Lend, Return, Give}
 use Rattle.counting_core.proofs.Names.{Mark, Unique, Static, GetMut, IntoUnique, Born, Ended, GivenUp, Alone, Sole}
-use Rattle.counting_core.proofs.Names.{Shared, owner_of, seen_in, CoreState, activity, word_step, cloned, dropped, IsAs}
+use Rattle.counting_core.proofs.Names.{Shared, seen_in, activity, cloned, dropped}
 use Rattle.counting_core.proofs.Names.{right_of}
 
 both : (P : Bool → Type 0) (b : Bool) → P true → P false → P b
@@ -14,14 +14,16 @@ both P false first second = second
 
 module _ {V : Type 0} where
   pub steps_of_handles : StepsAreThoseOfHandles V
-  steps_of_handles core (Clone o h) = (at (is_marked_word core.word) (nat_eq (count_of core.word) core.limit), λ _. refl)
-    where
-      at : (m full : Bool) → right_of {V = V} (Clone o h)
-          (cloned core (if m then StaticClone else (if full then FullClone else RaiseClone (core.word + 1)))) ≡
-          (if m then a_handle else nothing)
-      at true full = refl
-      at false true = refl
-      at false false = refl
+  steps_of_handles core (Clone o h) = (
+    at (is_marked_word core.word) (nat_eq (count_of core.word) core.limit),
+    λ _. refl,
+  ) where
+    at : (m full : Bool) → right_of {V = V} (Clone o h)
+        (cloned core (if m then StaticClone else (if full then FullClone else RaiseClone (core.word + 1)))) ≡
+        (if m then a_handle else nothing)
+    at true full = refl
+    at false true = refl
+    at false false = refl
   steps_of_handles core (Raise o) = (
     at (nat_eq core.word (seen_in (activity core o))) (is_marked_word core.word)
         (nat_eq (count_of core.word) core.limit),

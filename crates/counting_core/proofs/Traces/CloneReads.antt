@@ -1,10 +1,10 @@
 -- What a read of the word for a clone finds: the limit, or a number of handles that a raise straight after it finds
 -- again.
 use Rattle.counting_core.proofs.Names.{FullExactlyAtLimit, BornStraightAfterRead}
-use Rattle.counting_core.proofs.Names.{◌≡◌, ℕ, true, false, not, nat_eq, length, refl, sym, ◌∙◌, ap, true≢false, ◌⊎◌}
-use Rattle.counting_core.proofs.Names.{inl, inr, ⊎_elim, ◌↔◌, eqb-true, eq-eqb, and_parts, and_from, or_parts, or_right}
-use Rattle.counting_core.proofs.Names.{not-true, Cloning, Step, Clone, Raise, Answer, Born, Full, Pending, Memory}
-use Rattle.counting_core.proofs.Names.{Trace, Then, State, after, owner_of, limit_of, seen_in, permitted, permitted_by}
+use Rattle.counting_core.proofs.Names.{◌≡◌, ℕ, true, false, not, nat_eq, length, refl, sym, ◌∙◌, ap, true≢false}
+use Rattle.counting_core.proofs.Names.{inl, inr, ⊎_elim, eqb-true, eq-eqb, and_parts, and_from, or_parts, or_right}
+use Rattle.counting_core.proofs.Names.{not-true, Cloning, Step, Clone, Raise, Answer, Born, Full, Pending}
+use Rattle.counting_core.proofs.Names.{Then, State, after, owner_of, limit_of, seen_in, permitted, permitted_by}
 use Rattle.counting_core.proofs.Names.{Model, is_full, raise_settles, expected, takes_memory, IsLegal, state, model}
 use Rattle.counting_core.proofs.Names.{live_handles, has_mark, is_clone_read, nat_lt, handle_in}
 use Rattle.counting_core.proofs.Traces.HandleLists.{nat_eq-same}

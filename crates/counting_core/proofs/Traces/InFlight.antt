@@ -1,6 +1,7 @@
 -- The handle of a clone in flight is one that its owner may use, and the handle of a drop in flight is its owner's
 -- alone.
-use Rattle.counting_core.proofs.Names.{◌≡◌, ℕ, Bool, true, false, ◌&&◌, ◌||◌, nat_eq, List, [], ◌∷◌, refl, sym, subst, arith}
+use Rattle.counting_core.proofs.Names.{◌≡◌, ℕ, Bool, true, false, ◌&&◌, ◌||◌, nat_eq, List, [], ◌∷◌, refl, sym, subst}
+use Rattle.counting_core.proofs.Names.{arith}
 use Rattle.counting_core.proofs.Names.{true≢false, ⊎_elim, Ordering, Less, Equal, Greater, list_any, nat_cmp}
 use Rattle.counting_core.proofs.Names.{match_ordering, insert_key, remove_key, and_parts, or_cases, common_steps}
 use Rattle.counting_core.proofs.Names.{Activity, Idle, Cloning, Dropping, Step, Clone, Drop, Lower, GetMut, EndWrite}

@@ -1,10 +1,10 @@
 -- What the answer of a step says of it in a legal trace.
 use Rattle.counting_core.proofs.Names.{EachStepHasOneAnswer, BarredExactlyIfNotPermitted}
-use Rattle.counting_core.proofs.Names.{◌≡◌, Bool, true, false, refl, sym, ◌∙◌, ap, subst, true≢false, ◌⊎◌, inl, inr}
-use Rattle.counting_core.proofs.Names.{⊎_elim, ◌↔◌, IsTrue, nat_lt, if◌then◌else◌, true_from_ne_false}
+use Rattle.counting_core.proofs.Names.{◌≡◌, Bool, true, false, refl, sym, ◌∙◌, ap, subst, true≢false, inl, inr}
+use Rattle.counting_core.proofs.Names.{⊎_elim, IsTrue, nat_lt, if◌then◌else◌, true_from_ne_false}
 use Rattle.counting_core.proofs.Names.{false_from_ne_true, and_parts, Step, Answer, Pending, Memory, Barred, Trace}
 use Rattle.counting_core.proofs.Names.{Then, State, owner_of, permitted, permitted_by, Model, model_after, move}
-use Rattle.counting_core.proofs.Names.{outcome, expected, takes_memory, IsLegal, IsAnswer, state, model}
+use Rattle.counting_core.proofs.Names.{outcome, expected, takes_memory, IsAnswer, state, model}
 use Rattle.counting_core.proofs.Traces.Deeds.{Deed, deed_of, outcome_is, not_barred, pending_stays}
 
 module _ {V : Type 0} where

@@ -8,7 +8,7 @@ use Rattle.counting_core.proofs.Names.{Answer, Pending, Ended, GivenUp, Memory, 
 use Rattle.counting_core.proofs.Names.{unborn, newborn, lent_to, returned_by, State, handle_in, owner_of, after, ended}
 use Rattle.counting_core.proofs.Names.{put, is_shared, is_sole, is_lent_to, has_alone, may_use, permitted, permitted_by}
 use Rattle.counting_core.proofs.Names.{Model, Ends, opened, is_only, Visible, Internal, outcome, expected, IsLegal}
-use Rattle.counting_core.proofs.Names.{state, model, live_handles, has_mark, IsSole}
+use Rattle.counting_core.proofs.Names.{state, model, live_handles, has_mark}
 use Rattle.counting_core.proofs.Traces.HandleLists.{has}
 use Rattle.counting_core.proofs.Traces.Places.{put-all}
 use Rattle.counting_core.proofs.Traces.Deeds.{Deed, clone_bears, raise_bears, drop_ends, lower_ends, lower_gives_up}

@@ -48,9 +48,11 @@ pub use Rattle.counting_word.specs.declared.DropPlan.TheVariants.{Static as Stat
 pub use Rattle.counting_core.specs.Actions.{step_of, step_on}
 pub use Rattle.counting_core.specs.ByWord.{IsPermitted, cloned, dropped, by_word, value_after, births_after}
 pub use Rattle.counting_core.specs.ByWord.{TakesEffect, FollowsWord, answered}
-pub use Rattle.counting_core.specs.HandleSteps.{IsAs, right_of}
+pub use Rattle.counting_core.specs.HandleSteps.{IsAs, right_of, AnswersAreByTheWord, StepsAreThoseOfHandles}
 pub use Rattle.counting_core.specs.Laws.{live_handles, has_mark, is_clone_read, is_end, is_given_up, some_answer}
-pub use Rattle.counting_core.specs.Laws.{is_marked_answer, IsSole}
+pub use Rattle.counting_core.specs.Laws.{is_marked_answer, IsSole, EachStepHasOneAnswer, BarredExactlyIfNotPermitted}
+pub use Rattle.counting_core.specs.Laws.{FullExactlyAtLimit, BornStraightAfterRead, SoleHandleIsTheOnlyOne}
+pub use Rattle.counting_core.specs.Laws.{SoleDropGivesUp, GivenUpOnce, MarkedBlockKeepsItsValue}
 pub use Rattle.counting_core.specs.Legal.{state, takes_memory, model, expected, raise_settles, IsAnswer, IsLegal, Move}
 pub use Rattle.counting_core.specs.Legal.{Visible, Internal, move, outcome, model_after}
 pub use Rattle.counting_core.specs.LostRaises.{is_lost_raise, is_change, how_many}

@@ -10,6 +10,7 @@ use Rattle.counting_core.specs.declared.step.Step.{Step}
 use Rattle.counting_core.specs.declared.step.Step as Step
 
 module _ {V : Type 0} where
+  -- what the owner o does with the handle h
   abbrev pub step_on : ℕ → ℕ → HandleAction V → Step V
   step_on o h Clone = Step.TheVariants.Clone o h
   step_on o h Drop = Step.TheVariants.Drop o h

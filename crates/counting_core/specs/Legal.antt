@@ -5,7 +5,8 @@ use Rattle.counting_core.specs.declared.step.Answer.{Answer}
 use Rattle.counting_core.specs.declared.step.Answer.TheVariants.{Born, Pending, Done, Memory, Barred, Quit as Quitted}
 use Rattle.counting_core.specs.declared.step.Step.{Step}
 use Rattle.counting_core.specs.declared.step.Step.TheVariants.{Clone, Raise, Quit, Drop, Lower, Mark, Unique, Static}
-use Rattle.counting_core.specs.declared.step.Step.TheVariants.{GetMut, Write, IntoUnique, Load, Lend}
+use Rattle.counting_core.specs.declared.step.Step.TheVariants.{GetMut, Write, EndWrite, IntoUnique, Share, Load, Lend}
+use Rattle.counting_core.specs.declared.step.Step.TheVariants.{Return, Give}
 use Rattle.counting_core.specs.State.{State, handle_in, seen_in, opening}
 use Rattle.counting_core.specs.Permitted.{permitted}
 use Rattle.counting_core.specs.Trace.{Trace, Open, Then, after}
@@ -41,7 +42,11 @@ module _ {V : Type 0} where
   move r u (Write o h v) = Visible (Writes v)
   move r u (IntoUnique o h) = Visible (AsksSole h)
   move r u (Load o h) = Visible Loads
-  move r u s = Internal Done
+  move r u (EndWrite o h) = Internal Done
+  move r u (Share o h) = Internal Done
+  move r u (Lend o h to) = Internal Done
+  move r u (Return o h) = Internal Done
+  move r u (Give o h to) = Internal Done
 
   -- the answer to a move, and the model after it
   abbrev pub outcome : Model V → Move V → Answer V × Model V

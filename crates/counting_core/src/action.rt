@@ -1,7 +1,10 @@
 //! What a step does, apart from whose it is.
+ghost use Rattle.std.specs.Prelude.{◌≡◌, ⊤};
+
+use std::alloc::AllocError;
 
 /// A step without its owner. A raise, a quit and a lower go on with what is in flight.
-#[derive(Clone, Copy)]
+#[derive(Copy)]
 pub(crate) enum Action<V> {
     Raise,
     Quit,
@@ -11,7 +14,7 @@ pub(crate) enum Action<V> {
 }
 
 /// What an owner that has nothing in flight does with a handle.
-#[derive(Clone, Copy)]
+#[derive(Copy)]
 pub(crate) enum HandleAction<V> {
     Clone,
     Drop,
@@ -29,4 +32,24 @@ pub(crate) enum HandleAction<V> {
     Return,
     /// To this owner.
     Give(usize),
+}
+
+impl<V: Copy> Clone for Action<V> {
+    ghost is_clone = { λ action copy. copy ≡ action };
+
+    ghost is_infallible = { λ _. ⊤ };
+
+    fn clone(&self) -> Result<Self, AllocError> {
+        Ok(*self)
+    }
+}
+
+impl<V: Copy> Clone for HandleAction<V> {
+    ghost is_clone = { λ action copy. copy ≡ action };
+
+    ghost is_infallible = { λ _. ⊤ };
+
+    fn clone(&self) -> Result<Self, AllocError> {
+        Ok(*self)
+    }
 }

@@ -5,14 +5,14 @@ use Rattle.counting_core.proofs.Names.{◌∙◌, ap, ap₂, subst, length-set, 
 use Rattle.counting_core.proofs.Names.{leb-true, and_parts, set-get_or, is_one_handle, count_of, marked_word}
 use Rattle.counting_core.proofs.Names.{clone_plan, drop_plan, lowered, StaticClone, FullClone, RaiseClone, StaticDrop}
 use Rattle.counting_core.proofs.Names.{LowerDrop, ClonePlanSays, clone_plan-says, count_of-unmarked, Idle, Cloning}
-use Rattle.counting_core.proofs.Names.{Dropping, Access, SharedAccess, Written, SoleAccess, Step, Clone, Raise, Quit}
+use Rattle.counting_core.proofs.Names.{Dropping, SharedAccess, Written, SoleAccess, Clone, Raise, Quit}
 use Rattle.counting_core.proofs.Names.{Drop, Lower, Mark, GetMut, Write, EndWrite, IntoUnique, Share, Lend, Return}
-use Rattle.counting_core.proofs.Names.{Give, Answer, Born, Full, Pending, Ended, GivenUp, Alone, Sole, Shared, Done}
+use Rattle.counting_core.proofs.Names.{Give, Born, Full, Pending, Ended, GivenUp, Alone, Sole, Shared, Done}
 use Rattle.counting_core.proofs.Names.{Marked, Memory, Quitted, Trace, HandleState, lent_to, returned_by, ended}
 use Rattle.counting_core.proofs.Names.{State, goes_on_to, newborn, handle_in, seen_in, limit_of, permitted}
 use Rattle.counting_core.proofs.Names.{state, takes_memory, CoreState, handle, activity, state_of, Represents}
 use Rattle.counting_core.proofs.Names.{IsReached, IsPermitted, cloned, dropped, by_word}
-use Rattle.counting_core.proofs.Names.{TakesEffect, FollowsWord, ◌⊎◌, inl, inr}
+use Rattle.counting_core.proofs.Names.{TakesEffect, FollowsWord}
 use Rattle.counting_core.proofs.Traces.Activities.{begun}
 use Rattle.counting_core.proofs.Traces.InFlight.{parts-alone, taken-lives, all_fit, dropped-lives}
 use Rattle.counting_core.proofs.Traces.Places.{put-same}

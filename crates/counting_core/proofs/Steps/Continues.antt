@@ -86,6 +86,11 @@ module _ {V : Type 0} where
   pub reaches : (f d : CoreState V) (s : Step V) (a : Answer V) → FollowsWord f s a d → IsReached f → IsReached d
   reaches f d s a w reached = (Then reached.0 s a, continues f d s a w reached.0 reached.1)
 
+  -- The fields are those of the core, whose step leads some trace on.
+  pub led_on : {f now : CoreState V} → f ≡ now → IsReached f → (s : Step V) (d : CoreState V) (a : Answer V)
+      → FollowsWord now s a d → IsReached d
+  led_on is reached s d a w = reaches _ d s a w (subst IsReached is reached)
+
   -- The fields are those of the core: what a step makes of them it makes of the core, and some trace has led to it.
   module _ {f now : CoreState V} (is : f ≡ now) (d : CoreState V) {x s : Step V} (same : x ≡ s) (a : Answer V)
       (may : IsPermitted now x) where

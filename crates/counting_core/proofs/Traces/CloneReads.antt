@@ -1,9 +1,10 @@
 -- What a read of the word for a clone finds: the limit, or a number of handles that a raise straight after it finds
 -- again.
-use Rattle.counting_core.proofs.Names.{◌≡◌, ℕ, true, false, not, nat_eq, length, refl, sym, ◌∙◌, ap, true≢false, ◌⊎◌}
-use Rattle.counting_core.proofs.Names.{inl, inr, ⊎_elim, ◌↔◌, eqb-true, eq-eqb, and_parts, and_from, or_parts, or_right}
-use Rattle.counting_core.proofs.Names.{not-true, Cloning, Step, Clone, Raise, Answer, Born, Full, Pending, Memory}
-use Rattle.counting_core.proofs.Names.{Trace, Then, State, after, owner_of, limit_of, seen_in, permitted, permitted_by}
+use Rattle.counting_core.proofs.Names.{FullExactlyAtLimit, BornStraightAfterRead}
+use Rattle.counting_core.proofs.Names.{◌≡◌, ℕ, true, false, not, nat_eq, length, refl, sym, ◌∙◌, ap, true≢false}
+use Rattle.counting_core.proofs.Names.{inl, inr, ⊎_elim, eqb-true, eq-eqb, and_parts, and_from, or_parts, or_right}
+use Rattle.counting_core.proofs.Names.{not-true, Cloning, Step, Clone, Raise, Answer, Born, Full, Pending}
+use Rattle.counting_core.proofs.Names.{Then, State, after, owner_of, limit_of, seen_in, permitted, permitted_by}
 use Rattle.counting_core.proofs.Names.{Model, is_full, raise_settles, expected, takes_memory, IsLegal, state, model}
 use Rattle.counting_core.proofs.Names.{live_handles, has_mark, is_clone_read, nat_lt, handle_in}
 use Rattle.counting_core.proofs.Traces.HandleLists.{nat_eq-same}
@@ -33,9 +34,7 @@ module _ {V : Type 0} where
   full-answer r u s a m _ read full = absurd (true≢false (sym read))
 
   -- a clone is refused exactly if its read finds the limit, without a mark
-  pub full_exactly_at_limit : (t : Trace V) (s : Step V) (a : Answer V) → IsLegal (Then t s a)
-      → (a ≡ Full) ↔ ((permitted (state t) s ≡ true) × (is_clone_read s ≡ true)
-      × (has_mark t ≡ false) × (length (live_handles t) ≡ limit_of t))
+  pub full_exactly_at_limit : FullExactlyAtLimit V
   full_exactly_at_limit t s a legal = (found a legal, refused) where
     found : (a : Answer V) → IsLegal (Then t s a) → a ≡ Full
         → (permitted (state t) s ≡ true) × (is_clone_read s ≡ true) × (has_mark t ≡ false)
@@ -92,9 +91,7 @@ module _ {V : Type 0} where
         within _ read may = absurd (true≢false (sym read))
 
   -- a raise straight after its read is answered Born, if memory is not wanted
-  pub born_straight_after_read : (t : Trace V) (s : Step V) (a : Answer V)
-      → IsLegal (Then (Then t s Pending) (Raise (owner_of s)) a) → is_clone_read s ≡ true
-      → (a ≡ Born (model t).births) ⊎ (a ≡ Memory)
+  pub born_straight_after_read : BornStraightAfterRead V
   born_straight_after_read t s a legal read = ⊎_elim (λ e. inl (e ∙ is_due)) (λ m. inr m.0) legal.1 where
     read_it : Happens t s Pending
     read_it = happens t s Pending refl legal.0.1

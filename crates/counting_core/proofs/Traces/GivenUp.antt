@@ -1,4 +1,5 @@
 -- When the value is given up, that no step is permitted afterwards, and that a mark keeps it.
+use Rattle.counting_core.proofs.Names.{GivenUpOnce, MarkedBlockKeepsItsValue}
 use Rattle.counting_core.proofs.Names.{◌≡◌, ℕ, ◌+◌, Bool, true, false, not, ◌&&◌, if◌then◌else◌, nat_eq, List, [], ◌∷◌}
 use Rattle.counting_core.proofs.Names.{length, refl, sym, ◌∙◌, ap, arith, true≢false, ⊎_elim, eqb-true, and_parts}
 use Rattle.counting_core.proofs.Names.{and_right, or_cases, fun_ext, Activity, Idle, Cloning, Dropping, Step, Raise}
@@ -104,8 +105,7 @@ module _ {V : Type 0} where
       (or_cases (is_given_up a) _ e)
 
   -- once the value is given up, every step is Barred
-  pub given_up_once : (t : Trace V) (s : Step V) (a : Answer V) → IsLegal (Then t s a)
-      → some_answer is_given_up t ≡ true → a ≡ Barred
+  pub given_up_once : GivenUpOnce V
   given_up_once t s a legal given =
       (barred_if_not_permitted t s a legal).1 (and_right _ _ (none-permitted (state t) s (over t legal.0 given)
       (owner_of s) _ (all_fit t legal.0 (owner_of s))))
@@ -127,8 +127,7 @@ module _ {V : Type 0} where
       s a _ (happens t s a refl legal.1).deed ∙ ap (λ b. is_marked_answer a || b) (marked_if_answered t legal.0)
 
   -- a marked block stays marked, and its value is not given up
-  pub keeps_mark : (t : Trace V) (s : Step V) (a : Answer V) → IsLegal (Then t s a) → has_mark t ≡ true
-      → (has_mark (Then t s a) ≡ true) × (is_given_up a ≡ false)
+  pub keeps_mark : MarkedBlockKeepsItsValue V
   keeps_mark t s a legal marked = (
     stays,
     false_from_ne_true _ (λ e. true≢false (sym marked ∙ (given-up t s a

@@ -1,6 +1,7 @@
 -- The handle of a clone in flight is one that its owner may use, and the handle of a drop in flight is its owner's
 -- alone.
-use Rattle.counting_core.proofs.Names.{◌≡◌, ℕ, true, false, ◌||◌, nat_eq, List, [], ◌∷◌, refl, sym, subst, arith}
+use Rattle.counting_core.proofs.Names.{◌≡◌, ℕ, Bool, true, false, ◌&&◌, ◌||◌, nat_eq, List, [], ◌∷◌, refl, sym, subst}
+use Rattle.counting_core.proofs.Names.{arith}
 use Rattle.counting_core.proofs.Names.{true≢false, ⊎_elim, Ordering, Less, Equal, Greater, list_any, nat_cmp}
 use Rattle.counting_core.proofs.Names.{match_ordering, insert_key, remove_key, and_parts, or_cases, common_steps}
 use Rattle.counting_core.proofs.Names.{Activity, Idle, Cloning, Dropping, Step, Clone, Drop, Lower, GetMut, EndWrite}
@@ -130,6 +131,13 @@ module _ (u : State) (was : AllFit u) (p : ℕ) where
     fits-still_idle idle = subst (λ (acts : ℕ → Activity). (q : ℕ) → Fits (put u.handle h new) q (acts q))
         (put-same u.activity p Idle idle) fits-then_idle
 
+-- an idle owner changed a handle that it has alone
+own-fits : (u : State) → AllFit u → (o h : ℕ) (new : HandleState) (rest : Bool)
+    → (u.activity o ≡ Idle) × (has_alone (u.handle h) o && rest ≡ true)
+    → (q : ℕ) → Fits (put u.handle h new) q (u.activity q)
+own-fits u was o h new rest free =
+    fits-still_idle u was o h new (spares-own o (u.handle h) new (and_parts _ rest free.1).0) free.0
+
 lower-fits : (V : Type 0) (u : State) → AllFit u → (o : ℕ) → permitted_by {V = V} u (u.activity o) (Lower o) ≡ true
     → AllFit (goes_on_to (ended u (handle_in (u.activity o))) o Idle)
 lower-fits V u was o may = fits-then_idle u was o _ _
@@ -153,18 +161,12 @@ module _ {V : Type 0} where
       fits-still_idle u was o h _ (spares-own o (u.handle h) _ (parts-alone (u.handle h) o free.1)) free.0
   fits-then sees u (Lower o) Ended may fresh was = lower-fits V u was o may
   fits-then sees u (Lower o) (GivenUp v) may fresh was = lower-fits V u was o may
-  fits-then sees u (GetMut o h) Alone may fresh was =
-      let free : _ = begins u (GetMut o h) _ may refl in
-      fits-still_idle u was o h _ (spares-own o (u.handle h) _ (and_parts _ _ free.1).0) free.0
+  fits-then sees u (GetMut o h) Alone may fresh was = own-fits u was o h _ _ (begins u (GetMut o h) _ may refl)
   fits-then sees u (EndWrite o h) Done may fresh was =
       let free : _ = begins u (EndWrite o h) _ may refl in
       fits-still_idle u was o h _ (spares-writer o (u.handle h) _ free.1) free.0
-  fits-then sees u (IntoUnique o h) Sole may fresh was =
-      let free : _ = begins u (IntoUnique o h) _ may refl in
-      fits-still_idle u was o h _ (spares-own o (u.handle h) _ (and_parts _ _ free.1).0) free.0
-  fits-then sees u (Share o h) Done may fresh was =
-      let free : _ = begins u (Share o h) _ may refl in
-      fits-still_idle u was o h _ (spares-own o (u.handle h) _ (and_parts _ _ free.1).0) free.0
+  fits-then sees u (IntoUnique o h) Sole may fresh was = own-fits u was o h _ _ (begins u (IntoUnique o h) _ may refl)
+  fits-then sees u (Share o h) Done may fresh was = own-fits u was o h _ _ (begins u (Share o h) _ may refl)
   fits-then sees u (Lend o h to) Done may fresh was =
       let free : _ = begins u (Lend o h to) _ may refl in
       fits-still_idle u was o h _ (spares-lent o to (u.handle h) (and_parts _ _ free.1).0) free.0

@@ -1,9 +1,10 @@
 -- What the answer of a step says of it in a legal trace.
-use Rattle.counting_core.proofs.Names.{◌≡◌, Bool, true, false, refl, sym, ◌∙◌, ap, subst, true≢false, ◌⊎◌, inl, inr}
-use Rattle.counting_core.proofs.Names.{⊎_elim, ◌↔◌, IsTrue, nat_lt, if◌then◌else◌, true_from_ne_false}
+use Rattle.counting_core.proofs.Names.{EachStepHasOneAnswer, BarredExactlyIfNotPermitted}
+use Rattle.counting_core.proofs.Names.{◌≡◌, Bool, true, false, refl, sym, ◌∙◌, ap, subst, true≢false, inl, inr}
+use Rattle.counting_core.proofs.Names.{⊎_elim, IsTrue, nat_lt, if◌then◌else◌, true_from_ne_false}
 use Rattle.counting_core.proofs.Names.{false_from_ne_true, and_parts, Step, Answer, Pending, Memory, Barred, Trace}
 use Rattle.counting_core.proofs.Names.{Then, State, owner_of, permitted, permitted_by, Model, model_after, move}
-use Rattle.counting_core.proofs.Names.{outcome, expected, takes_memory, IsLegal, IsAnswer, state, model}
+use Rattle.counting_core.proofs.Names.{outcome, expected, takes_memory, IsAnswer, state, model}
 use Rattle.counting_core.proofs.Traces.Deeds.{Deed, deed_of, outcome_is, not_barred, pending_stays}
 
 module _ {V : Type 0} where
@@ -60,14 +61,11 @@ module _ {V : Type 0} where
         s)).1) (sym is_due) (expected-deed t s may)
 
   -- each step has a legal answer, and no other but Memory
-  pub one_answer : (t : Trace V) (s : Step V) → IsLegal t
-      → IsLegal (Then t s (expected t s)) × ((a : Answer V) → IsLegal (Then t s a) → (a ≡ expected t s)
-      ⊎ (a ≡ Memory))
+  pub one_answer : EachStepHasOneAnswer V
   one_answer t s legal = ((legal, inl refl), λ a other. ⊎_elim inl (λ m. inr m.0) other.1)
 
   -- and it is Barred exactly if the step is not permitted
-  pub barred_if_not_permitted : (t : Trace V) (s : Step V) (a : Answer V) → IsLegal (Then t s a)
-      → (a ≡ Barred) ↔ (permitted (state t) s ≡ false)
+  pub barred_if_not_permitted : BarredExactlyIfNotPermitted V
   barred_if_not_permitted t s a legal = (given, refused) where
     given : a ≡ Barred → permitted (state t) s ≡ false
     given e = false_from_ne_true _ (λ may.

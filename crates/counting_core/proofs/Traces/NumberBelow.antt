@@ -70,21 +70,18 @@ number-length f (suc n) xs apart below same = by_last (f n) refl (number-length 
 pub number-count_by : {A : Type 0} (p : A → Bool) (d : A) (xs : List A) (n : ℕ) → n ≤ length xs
     → number_below (λ i. p (get_or xs i d)) n ≡ count_by p (take n xs)
 number-count_by p d xs zero le = refl
-number-count_by p d xs (suc n) le = by_last (p (get_or xs n d)) refl (number-count_by p d xs n (omega arith)) where
-  by_last : (b : Bool) → p (get_or xs n d) ≡ b → number_below (λ i. p (get_or xs i d))
-      n ≡ count_by p (take n xs)
-      → (if b then 1 else 0) + number_below (λ i. p (get_or xs i d)) n ≡ count_by p (take (suc n) xs)
-  by_last true e so =
-      let more : count_by p (take (n + 1) xs) ≡ count_by p (take n xs)
-      + 1 = count_by_more_yes p xs n d (omega arith) e in
-      let next : count_by p (take (n + 1) xs) ≡ count_by p (take (suc n) xs) = ap (λ k. count_by p (take k xs))
-      (add-one n) in
-      omega arith
-  by_last false e so =
-      let more : count_by p (take (n + 1) xs) ≡ count_by p (take n xs) = count_by_more_no p xs n d (omega arith) e in
-      let next : count_by p (take (n + 1) xs) ≡ count_by p (take (suc n) xs) = ap (λ k. count_by p (take k xs))
-      (add-one n) in
-      omega arith
+number-count_by p d xs (suc n) le =
+    let so : number_below (λ i. p (get_or xs i d)) n ≡ count_by p (take n xs) = number-count_by p d xs n
+    (omega arith) in
+    let more : count_by p (take (n + 1) xs) ≡ count_by p (take n xs) + (if p (get_or xs n d) then 1 else 0)
+    = by_last (p (get_or xs n d)) refl in
+    let next : count_by p (take (n + 1) xs) ≡ count_by p (take (suc n) xs) = ap (λ k. count_by p (take k xs))
+    (add-one n) in
+    omega arith where
+      by_last : (b : Bool) → p (get_or xs n d) ≡ b
+          → count_by p (take (n + 1) xs) ≡ count_by p (take n xs) + (if b then 1 else 0)
+      by_last true e = count_by_more_yes p xs n d (omega arith) e
+      by_last false e = omega (arith, count_by_more_no p xs n d (omega arith) e)
 
 -- a test that answers the same below the bound passes as many
 number-same : (f g : ℕ → Bool) (n : ℕ) → ((q : ℕ) → q < n → f q ≡ g q) → number_below f n ≡ number_below g n

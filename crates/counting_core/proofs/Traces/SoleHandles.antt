@@ -1,4 +1,5 @@
 -- A sole handle is the only live one of an unmarked block, and it is lent to nobody.
+use Rattle.counting_core.proofs.Names.{SoleHandleIsTheOnlyOne, SoleDropGivesUp}
 use Rattle.counting_core.proofs.Names.{◌≡◌, ℕ, Bool, true, false, not, ◌&&◌, ◌||◌, nat_eq, nat_lt, List, [], ◌∷◌}
 use Rattle.counting_core.proofs.Names.{length, if◌then◌else◌, refl, sym, ◌∙◌, ap, subst, arith, true≢false, eqb-true}
 use Rattle.counting_core.proofs.Names.{eq-eqb, list_any, and_parts, not-true, Access, SharedAccess, Written, SoleAccess}
@@ -7,7 +8,7 @@ use Rattle.counting_core.proofs.Names.{Answer, Pending, Ended, GivenUp, Memory, 
 use Rattle.counting_core.proofs.Names.{unborn, newborn, lent_to, returned_by, State, handle_in, owner_of, after, ended}
 use Rattle.counting_core.proofs.Names.{put, is_shared, is_sole, is_lent_to, has_alone, may_use, permitted, permitted_by}
 use Rattle.counting_core.proofs.Names.{Model, Ends, opened, is_only, Visible, Internal, outcome, expected, IsLegal}
-use Rattle.counting_core.proofs.Names.{state, model, live_handles, has_mark, IsSole}
+use Rattle.counting_core.proofs.Names.{state, model, live_handles, has_mark}
 use Rattle.counting_core.proofs.Traces.HandleLists.{has}
 use Rattle.counting_core.proofs.Traces.Places.{put-all}
 use Rattle.counting_core.proofs.Traces.Deeds.{Deed, clone_bears, raise_bears, drop_ends, lower_ends, lower_gives_up}
@@ -170,8 +171,7 @@ module _ {V : Type 0} where
       (soles_are_alone t legal.0) (length (model t).live)
 
   -- while a handle is sole, no other lives, the block is unmarked, and the handle is lent to nobody
-  pub sole_is_only : (t : Trace V) (h : ℕ) → IsLegal t → IsSole t h
-      → (live_handles t ≡ h ∷ []) × (has_mark t ≡ false) × (((state t).handle h).borrowers ≡ [])
+  pub sole_is_only : SoleHandleIsTheOnlyOne V
   sole_is_only t h legal sole =
       let alone : (is_only (model t) h ≡ true) × (length ((state t).handle h).borrowers ≡ 0)
       = soles_are_alone t legal h sole.lives sole.sole in
@@ -186,9 +186,7 @@ module _ {V : Type 0} where
       )
 
   -- its drop is in flight after its read, and gives the value up by its lower
-  pub sole_drop_gives_up : (t : Trace V) (o h : ℕ) → IsLegal t → IsSole t h
-      → (permitted {V = V} (state t) (Drop o h) ≡ true → expected t (Drop o h) ≡ Pending)
-      × (permitted {V = V} (state t) (Lower o) ≡ true → expected t (Lower o) ≡ GivenUp (model t).value)
+  pub sole_drop_gives_up : SoleDropGivesUp V
   sole_drop_gives_up t o h legal sole = (reads, lowers) where
     reads : permitted {V = V} (state t) (Drop o h) ≡ true → expected t (Drop o h) ≡ Pending
     reads may =

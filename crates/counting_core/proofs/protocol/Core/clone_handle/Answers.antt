@@ -1,6 +1,6 @@
 use Rattle.counting_core.proofs.Names.{refl, sym, ◌∙◌, Clone, Born, Pending, Memory}
 use Rattle.counting_core.proofs.Traces.LiveCounts.{core_limit, core_within}
-use Rattle.counting_core.proofs.Steps.Continues.{stays, follows}
+use Rattle.counting_core.proofs.Steps.Continues.{stays, follows, led_on}
 use Rattle.counting_core.proofs.Steps.Acting.{clone_reads, clone_bears, clone_unborn}
 use Rattle.counting_core.proofs.protocol.Core.clone_handle.Goals.{in-Some, in-None}
 use Rattle.counting_core.proofs.protocol.Core.clone_handle.Goals as goal
@@ -10,19 +10,6 @@ plan_clone-requires-clause-limit g c = core_limit _ c.self.invariant.0 c.self.in
 
 pub plan_clone-requires-clause-within : goal.plan_clone-requires-clause-within
 plan_clone-requires-clause-within g c = core_within _ c.self.invariant.0 c.self.invariant.1
-
-pub invariant_of-self : goal.invariant_of-self
-invariant_of-self g c =
-    elim c.match-push_newborn.branch [
-      | in-Some w ↦ stays c.self.view_is _ (refl {a = Clone c.args.owner c.args.handle}) (Born w.in-Some.number)
-          c.requires
-          c.self.invariant (λ may. clone_bears _ c.args.owner c.args.handle (sym c.plan_clone.ensures ∙ c.in-Static.is)
-          may w.in-Some.number w.in-Some.ensures.number c.push_newborn.new.handles.items w.in-Some.ensures.born)
-      | in-None w ↦ stays c.self.view_is _ (refl {a = Clone c.args.owner c.args.handle}) Memory c.requires
-          c.self.invariant
-          (λ may. clone_unborn _ c.args.owner c.args.handle (sym c.plan_clone.ensures ∙ c.in-Static.is) may
-          c.push_newborn.new.handles.items w.in-None.ensures.refused)
-    ]
 
 pub returns-after-push_newborn : goal.returns-after-push_newborn
 returns-after-push_newborn g c =
@@ -36,6 +23,9 @@ returns-after-push_newborn g c =
           (λ may. clone_unborn _ c.args.owner c.args.handle (sym c.plan_clone.ensures ∙ c.in-Static.is) may
           c.push_newborn.new.handles.items w.in-None.ensures.refused))
     ]
+
+pub invariant_of-self : goal.invariant_of-self
+invariant_of-self g c = led_on c.self.view_is c.self.invariant _ _ _ (returns-after-push_newborn g c)
 
 pub invariant_of-self-in-Raise : goal.invariant_of-self-in-Raise
 invariant_of-self-in-Raise g c =

@@ -1,6 +1,6 @@
 use Rattle.counting_core.proofs.Names.{refl, ◌<◌, true, false, sym, ◌∙◌, subst, Lower, Ended, GivenUp}
 use Rattle.counting_core.proofs.Names.{CoreState, core_of, IsPermitted}
-use Rattle.counting_core.proofs.Steps.Continues.{stays, follows}
+use Rattle.counting_core.proofs.Steps.Continues.{follows, led_on}
 use Rattle.counting_core.proofs.Steps.Edits.{born}
 use Rattle.counting_core.proofs.Steps.Acting.{lower_some, lower_lives, lowers}
 use Rattle.counting_core.proofs.protocol.Core.lower.Goals.{then-is_last, else-is_last}
@@ -18,19 +18,6 @@ index_mut-requires-2 g c =
     (lower_lives f c.self.invariant
     c.args.owner c.args.handle c.self.view_is c.requires.dropping))
 
-pub invariant_of-self : goal.invariant_of-self
-invariant_of-self g c =
-    elim c.if-is_last.branch [
-      | then-is_last w ↦ stays c.self.view_is _ (refl {a = Lower c.args.owner}) (GivenUp c.self.inside.value)
-          c.requires.allowed c.self.invariant (lowers _ c.args.owner c.args.handle c.index_mut-2.result.now
-          c.end.new.self c.index_mut-2.ensures.value c.end.ensures c.self.invariant c.self.view_is c.requires.dropping
-          true (sym c.is_last.ensures ∙ w.if-is_last.true))
-      | else-is_last w ↦ stays c.self.view_is _ (refl {a = Lower c.args.owner}) Ended c.requires.allowed
-          c.self.invariant (lowers _ c.args.owner c.args.handle c.index_mut-2.result.now c.end.new.self
-          c.index_mut-2.ensures.value c.end.ensures c.self.invariant c.self.view_is c.requires.dropping false (sym
-          c.is_last.ensures ∙ w.if-is_last.false))
-    ]
-
 pub returns : goal.returns
 returns g c =
     elim c.if-is_last.branch [
@@ -43,3 +30,6 @@ returns g c =
           c.index_mut-2.ensures.value c.end.ensures c.self.invariant c.self.view_is c.requires.dropping false (sym
           c.is_last.ensures ∙ w.if-is_last.false)))
     ]
+
+pub invariant_of-self : goal.invariant_of-self
+invariant_of-self g c = led_on c.self.view_is c.self.invariant _ _ _ (returns g c)

@@ -71,7 +71,7 @@ const OVER: Option<BuildError> = Some(BuildError::OverReported);
 
 const UNDER: Option<BuildError> = Some(BuildError::UnderReported);
 
-const ROWS: [Row; 13] = [
+const ROWS: [Row; 17] = [
     (3, 3, None),
     (3, 2, OVER),
     (1, 2, UNDER),
@@ -81,6 +81,10 @@ const ROWS: [Row; 13] = [
     (12, 12, None),
     (13, 12, OVER),
     (11, 12, UNDER),
+    (64, 64, None),
+    (65, 64, OVER),
+    (64, 65, UNDER),
+    (65, 65, None),
     (100, 100, None),
     (101, 100, OVER),
     (99, 100, UNDER),

@@ -135,6 +135,17 @@ fn two_items(rt: &(impl Abort + AllocGlobal), header: u8, items: [u8; 2]) -> Thi
 }
 
 #[test]
+fn items_are_read_one_by_one(rt: HostRuntime) {
+    let slice = two_items(&rt, 1, [5, 6]);
+    let mut last = 0u8;
+    for item in &*slice {
+        last = *item;
+    }
+    let seen = (slice[0], slice.iter().next_back().copied(), last);
+    same!(&rt, seen, (5, Some(6), 6));
+}
+
+#[test]
 fn slices_are_sorted(rt: HostRuntime) {
     let slices = vec![in rt.alloc();
         two_items(&rt, 2, [0, 0]),

@@ -1,7 +1,8 @@
 // How often an iterator is asked, and what is built of what it answers.
 ghost use Rattle.std.specs.Prelude.{◌≤◌};
 
-use crate::support::{ok, same_at};
+use crate::support::counted::{Counted, Tally};
+use crate::support::{ok, same, same_at};
 use servo_arc::{Arc, BuildError, HeaderSlice, ThinArc, UniqueArc};
 use std::alloc::{AllocError, Global};
 use std::fmt::Debug;
@@ -170,5 +171,22 @@ fn asks_the_iterator_for_the_number_once(rt: HostRuntime) {
         let asked = AtomicU64::new(0);
         let built = UniqueArc::from_header_and_iter(rt.alloc(), 1u8, boaster(row.0, &asked));
         check_built(&rt, &row, shared(built), &asked);
+    }
+}
+
+// What was taken of results is dropped, and then the header.
+#[test]
+fn drops_what_a_boaster_gave(rt: HostRuntime) {
+    let (asked, headers, items) = (AtomicU64::new(0), Tally::new(), Tally::new());
+    for builds in 1..=2 {
+        let header = Counted::new(&headers, 0);
+        let results = boaster(4, &asked).map(|_: u8| Ok(Counted::new(&items, 0)));
+        let refusal = if builds == 1 {
+            Arc::try_from_header_and_iter(rt.alloc(), header, results).err()
+        } else {
+            UniqueArc::try_from_header_and_iter(rt.alloc(), header, results).err()
+        };
+        let seen = (refusal, [headers.drops(), items.drops()]);
+        same_at!(&rt, builds, seen, (Some(OVER), [builds, 3 * builds]));
     }
 }

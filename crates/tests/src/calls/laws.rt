@@ -2,6 +2,7 @@
 use servo_arc::counting_core::laws;
 use servo_arc::table::laws as table_laws;
 use servo_arc::union_table::laws as union_laws;
+use servo_arc::word::laws as word_laws;
 
 #[test]
 fn the_laws_hold_at_types() {
@@ -20,6 +21,12 @@ fn the_laws_hold_at_types() {
     laws::lost_raises_are_bounded::<u32>();
     laws::sole_handle_is_the_only_one::<u32>();
     laws::sole_drop_gives_up::<u32>();
+    laws::answers_are_by_the_word::<u32>();
+    laws::steps_are_those_of_handles::<u32>();
+    laws::runs_are_traces::<u32>();
+    laws::traces_are_runs::<u32>();
+    word_laws::marked_blocks_stay();
+    word_laws::runs_are_counted();
     table_laws::number_of_slots_stays::<u32>();
     table_laws::other_slots_stay::<u32>();
     table_laws::only_done_changes::<u32>();

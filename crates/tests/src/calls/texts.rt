@@ -27,11 +27,15 @@ fn unions_have_their_texts(rt: HostRuntime) {
     let first = Numbers::from_first(arc_of(&rt, 7));
     let second = Numbers::from_second(arc_of(&rt, 7));
     let halves = (first.borrow(), second.borrow());
-    let text = format!(in rt.alloc(); "{first:?} {second:?} {:?} {:?}", halves.0, halves.1);
+    let marked = Numbers::from_first(ok!(&rt, Arc::new_leaked(rt.alloc(), 7)));
+    let text = format!(in rt.alloc();
+        "{first:?} {second:?} {:?} {:?} {marked:?}",
+        halves.0, halves.1
+    );
     same!(
         &rt,
         ok!(&rt, text).as_str(),
-        "First(ArcBorrow(7)) Second(ArcBorrow(7)) First(ArcBorrow(7)) Second(ArcBorrow(7))",
+        "First(ArcBorrow(7)) Second(ArcBorrow(7)) First(ArcBorrow(7)) Second(ArcBorrow(7)) First(ArcBorrow(7))",
     );
 }
 
@@ -78,7 +82,7 @@ fn texts_of(rt: &(impl Abort + AllocGlobal), len: u8) -> (String, String) {
 
 #[test]
 fn header_slices_have_their_texts(rt: HostRuntime) {
-    for len in [0u8, 1, 2, 4, 100] {
+    for len in [0u8, 1, 2, 4, 100, 101] {
         let (found, expected) = texts_of(&rt, len);
         same_at!(&rt, len, found.as_str(), expected.as_str());
     }

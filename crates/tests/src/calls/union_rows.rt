@@ -1,7 +1,9 @@
 //! What no clause says of a table of unions: that commands are served if memory is ample, and
 //! which of two allowed replies comes when.
 use crate::calls::replies::parted;
-use crate::support::{ok, same};
+use crate::support::made::arc_of;
+use crate::support::{again, ok, same};
+use servo_arc::ArcUnion;
 use servo_arc::table::{Reply, UnionCommand, UnionTable};
 use std::process::Abort;
 
@@ -32,6 +34,16 @@ fn a_shared_first_gives_way_to_a_second(rt: HostRuntime) {
         (UnionCommand::IsFirst(2), Reply::NoSlot),
     ];
     check(&rt, 2, ok!(&rt, rows));
+}
+
+#[test]
+fn a_union_is_put(rt: HostRuntime) {
+    let mut table: UnionTable<u32, u32> = ok!(&rt, UnionTable::new(rt.alloc(), 1));
+    let union = ArcUnion::from_first(arc_of(&rt, 7));
+    let there = table.put(0, again!(&rt, &union)).is_ok();
+    let past_the_last = table.put(1, union).is_ok();
+    let seen = (there, past_the_last, table.get(0).is_some());
+    same!(&rt, seen, (true, false, true));
 }
 
 #[test]

@@ -20,6 +20,9 @@ fn a_borrow_reads(rt: HostRuntime) {
     let was_unique = b.with_arc(|handle: &Arc<u32>| handle.is_unique());
     let seen = (*b.get(), *value_of(&a), next, was_unique);
     same!(&rt, seen, (7, 7, 8, true));
+    let eight = arc_of(&rt, 8u32);
+    let ordered = is_less(&b, &eight.borrow_arc());
+    same!(&rt, (ordered, hash_of(&b)), (true, hash_of(&7u32)));
 }
 
 #[test]
@@ -47,9 +50,16 @@ fn unions_are_compared_by_kind_and_value(rt: HostRuntime) {
         Numbers::ptr_eq(&first, &second),
         Numbers::ptr_eq(&first, &other),
     ];
-    let has_second = first.as_second().is_some();
-    let seen = (equal, of_one_block, has_second);
-    same!(&rt, seen, ([true, false, false], [false, false], false));
+    let has = [first.as_first().is_some(), first.as_second().is_some()];
+    let seen = (equal, of_one_block, has, second.is_second());
+    let expected = ([true, false, false], [false, false], [true, false], true);
+    same!(&rt, seen, expected);
+    let given = [
+        first.into_first().is_ok(),
+        other.into_second().is_ok(),
+        second.into_second().is_ok(),
+    ];
+    same!(&rt, given, [true, false, true]);
 }
 
 #[derive(PartialEq, Eq, Hash)]

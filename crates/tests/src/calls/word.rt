@@ -1,6 +1,9 @@
-//! The plan of a clone, at the words on both sides of its rule.
+//! What words mean: the plan of a clone, at the words on both sides of its rule, and the other decisions once.
 use crate::support::same;
-use servo_arc::word::{ClonePlan, MARK, MAX_REFCOUNT, plan_clone};
+use servo_arc::word::{
+    ClonePlan, DropPlan, MARK, MAX_REFCOUNT, is_alone, is_last, is_marked, plan_clone, plan_drop,
+    with_mark,
+};
 
 #[test]
 fn a_clone_is_planned_by_mark_and_limit(rt: HostRuntime) {
@@ -21,4 +24,19 @@ fn a_clone_is_planned_by_mark_and_limit(rt: HostRuntime) {
         ClonePlan::Static,
     ];
     same!(&rt, plans, expected);
+}
+
+#[test]
+fn a_word_is_read_and_marked(rt: HostRuntime) {
+    let marked = with_mark(1);
+    same!(
+        &rt,
+        [is_alone(1), is_last(2), is_marked(marked)],
+        [true, false, true]
+    );
+    same!(
+        &rt,
+        [plan_drop(1), plan_drop(marked)],
+        [DropPlan::Lower, DropPlan::Static]
+    );
 }

@@ -55,7 +55,7 @@ fn two_threads_seldom_get_a_wrong_answer(rt: HostRuntime) {
          two blocks, from opposite ends: true {from_opposite_ends} times"
     );
     ok!(&rt, text);
-    holds!(&rt, from_one_end < ALL / 6);
-    holds!(&rt, from_opposite_ends < ALL / 6);
+    holds!(&rt, from_one_end < ALL / 20);
+    holds!(&rt, from_opposite_ends < ALL / 20);
     holds!(&rt, Arc::ptr_eq(&a, &b) && !Arc::ptr_eq(&a, &c));
 }

@@ -10,8 +10,8 @@ ghost use Rattle.script_text.specs.declared.fault.Fault.TheVariants as Fault;
 
 use crate::fault::Fault;
 use crate::output::write_whole;
+use crate::split::split_once;
 use itoa::Buffer;
-use memchr::memchr;
 use std::alloc::{AllocError, Global};
 use std::io;
 use std::io::{ErrorKind, Read, Write};
@@ -68,7 +68,7 @@ fn read_fault(error: &io::Error) -> Fault
 }
 
 /// Runs the lines up to the first faulty one, and writes their answers and that fault.
-pub fn run<I: Interpreter, W: Write>(
+pub fn answer_lines<I: Interpreter, W: Write>(
     alloc: Global,
     script: &[u8],
     interpreter: &mut I,
@@ -107,10 +107,8 @@ fn split_line(text: &[u8]) -> Option<(&[u8], &[u8])>
     if text.is_empty() {
         return None;
     }
-    match memchr(b'\n', text) {
-        Some(at) => Some((&text[..at], &text[at + 1..])),
-        None => Some((text, &[])),
-    }
+    let (line, rest) = split_once(text, b'\n');
+    Some((line, rest.unwrap_or(&[])))
 }
 
 /// Appends an answer of words and a number. One of words alone is appended as it stands, with its line feed.
@@ -135,7 +133,7 @@ fn write_part<W: Write>(part: &mut Vec<u8>, output: &mut W) -> Result<(), Fault>
     ensures emptied { OnOk result (part.new.items ≡ []) }
     ensures fault { IfErr result (λ fault. fault ≡ Fault.Output) }
 {
-    write_whole(part, output).map_err(|_| Fault::Output)?;
+    write_whole(part, output)?;
     part.clear();
     Ok(())
 }
@@ -146,6 +144,6 @@ fn write_last<W: Write>(part: &[u8], output: &mut W) -> Result<(), Fault>
     ensures begun { WroteBeginning part.now (W.contents output.old) (W.contents output.new) }
     ensures fault { IfErr result (λ fault. fault ≡ Fault.Output) }
 {
-    write_whole(part, output).map_err(|_| Fault::Output)?;
+    write_whole(part, output)?;
     output.flush().map_err(|_| Fault::Output)
 }

@@ -8,8 +8,10 @@ pub fn split_once(text: &[u8], separator: u8) -> (&[u8], Option<&[u8]>)
     ensures first { All (λ byte. byte ≢ separator) result.0.now }
     ensures parts { text.now ≡ with_rest separator result.0.now (option_copied result.1) }
 {
-    match text.iter().position(|byte| *byte == separator) {
-        Some(at) => (&text[..at], Some(&text[at + 1..])),
-        None => (text, None),
+    for (at, byte) in text.iter().enumerate() {
+        if *byte == separator {
+            return (&text[..at], Some(&text[at + 1..]));
+        }
     }
+    (text, None)
 }

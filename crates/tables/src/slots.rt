@@ -57,7 +57,10 @@ impl<H> Slots<H> {
         if j >= self.slots() {
             return Err(Reply::NoSlot);
         }
-        Ok((self.handle(i)?, self.handle(j)?))
+        match (self.handle(i), self.handle(j)) {
+            (Ok(first), Ok(second)) => Ok((first, second)),
+            (Err(missing), _) | (_, Err(missing)) => Err(missing),
+        }
     }
 }
 

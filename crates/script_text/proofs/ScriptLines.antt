@@ -1,13 +1,16 @@
 -- How the lines of a text follow from the lines of what is left of it.
-use Rattle.std.proofs.Common.{◌≡◌, ◌≢◌, ℕ, List, [], ◌∷◌, ◌++◌, length, Option, Some, None, unwrap_or}
-use Rattle.std.proofs.Common.{refl, sym, ap, ◌∙◌, ⊎_elim, subst, append_assoc}
-use Rattle.std.specs.List.{All, flat_map, onto_first}
-use Rattle.std.proofs.lemmas.Bool.{ne_eqb}
+use Rattle.std.proofs.Common.{◌≡◌, ◌≢◌, ℕ, ◌+◌, ◌<◌, ◌≤◌, ◌==◌, true, List, [], ◌∷◌, ◌++◌, length, get_or, take, drop}
+use Rattle.std.proofs.Common.{refl, sym, ap, ◌∙◌, ⊎_elim, arith, subst, append_assoc}
+use Rattle.std.specs.List.{All, flat_map, onto_first, slice_index}
+use Rattle.std.proofs.lemmas.Bool.{eqb-true, ne_eqb}
 use Rattle.std.proofs.lemmas.Bool.Decides.{eqb_tells}
+use Rattle.std.proofs.lemmas.List.{drop_more, get_or-take, get_or_default, length-take, take-append-drop}
 use Rattle.std.proofs.lemmas.List.Elements.{All-cons, All-head, All-nil, All-tail}
 use Rattle.script_text.specs.Laws.{AreLines, EachTextHasItsLines, IsUnbroken, line_if_any}
 use Rattle.script_text.specs.Script.{line_feed, lines_of}
-use Rattle.script_text.specs.Split.{with_rest}
+
+IsNoFeed : ℕ → Type 0
+IsNoFeed byte = byte ≢ line_feed
 
 -- a byte that is no line feed belongs to the first line
 more : (byte : ℕ) (text : List ℕ) → byte ≢ line_feed → lines_of (byte ∷ text) ≡ onto_first byte (lines_of text)
@@ -31,12 +34,34 @@ line_alone (byte ∷ text) h =
     joined [] = refl
     joined (b ∷ rest) = refl
 
--- a text that is not empty is its first line and the lines after it, if there are any
-pub next_line : (text line rest : List ℕ) (after : Option (List ℕ)) → length text ≢ 0 → IsUnbroken line
-    → text ≡ with_rest line_feed line after → rest ≡ unwrap_or after [] → lines_of text ≡ line ∷ lines_of rest
-next_line text line rest (Some more) some apart is e = rw e (rw is (line_then line more apart))
-next_line text [] rest None some apart is e = absurd (some (ap length is))
-next_line text (byte ∷ line) rest None some apart is e = rw e (rw is (line_alone (byte ∷ line) apart))
+-- no byte before this place is a line feed
+abbrev IsUnbrokenUpTo : List ℕ → ℕ → Type 0
+IsUnbrokenUpTo text at = (k : ℕ) → 0 ≤ k → k < at → ¬ (slice_index text k == line_feed ≡ true)
+
+unbroken : (text line : List ℕ) (at : ℕ) → length line ≤ at
+    → ((k : ℕ) (d : ℕ) → k < length line → get_or line k d ≡ get_or text k 0) → IsUnbrokenUpTo text at → IsUnbroken line
+unbroken text line at within same none k d below is =
+    none k (omega arith) (omega arith) (ap (λ byte. byte == line_feed) (sym (same k d below) ∙ is))
+
+-- a text up to its first line feed is a line
+pub line_up_to : (text : List ℕ) (at : ℕ) → at < length text → IsUnbrokenUpTo text at
+    → slice_index text at == line_feed ≡ true → lines_of text ≡ take at text ∷ lines_of (drop (at + 1) text)
+line_up_to text at within none feed =
+    let len : length (take at text) ≡ at = omega (arith, length-take at text) in
+    let line : IsUnbroken (take at text) = unbroken text (take at text) at (omega arith) (λ k d below.
+    get_or-take at text k d (omega arith) ∙ get_or_default text k d 0 (omega arith)) none in
+    let here : drop at text ≡ line_feed ∷ drop (at + 1) text =
+    drop_more text at 0 within ∙ ap (λ byte. byte ∷ drop (at + 1) text) (eqb-true _ line_feed feed) in
+    let parts : text ≡ take at text ++ line_feed ∷ drop (at + 1) text =
+    sym (take-append-drop at text) ∙ ap (λ rest. take at text ++ rest) here in
+    ap lines_of parts ∙ line_then (take at text) (drop (at + 1) text) line
+
+-- a text with no line feed is a line, if it is not empty
+pub only_line : (text : List ℕ) → 0 < length text → IsUnbrokenUpTo text (length text) → lines_of text ≡ text ∷ []
+only_line [] some none = absurd (omega arith)
+only_line (byte ∷ text) some none =
+    line_alone (byte ∷ text) (unbroken (byte ∷ text) (byte ∷ text) (length (byte ∷ text)) (omega arith)
+    (λ k d below. get_or_default (byte ∷ text) k d 0 below) none)
 
 -- a byte before the first line of a text
 longer : (byte : ℕ) (text : List ℕ) (ended : List (List ℕ)) (last : List ℕ)

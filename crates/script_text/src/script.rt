@@ -10,8 +10,8 @@ ghost use Rattle.script_text.specs.declared.fault.Fault.TheVariants as Fault;
 
 use crate::fault::Fault;
 use crate::output::write_whole;
-use crate::split::split_once;
 use itoa::Buffer;
+use memchr::memchr;
 use std::alloc::{AllocError, Global};
 use std::io;
 use std::io::{ErrorKind, Read, Write};
@@ -107,8 +107,10 @@ fn split_line(text: &[u8]) -> Option<(&[u8], &[u8])>
     if text.is_empty() {
         return None;
     }
-    let (line, rest) = split_once(text, b'\n');
-    Some((line, rest.unwrap_or(&[])))
+    match memchr(b'\n', text) {
+        Some(at) => Some((&text[..at], &text[at + 1..])),
+        None => Some((text, &[])),
+    }
 }
 
 /// Appends an answer of words and a number. One of words alone is appended as it stands, with its line feed.

@@ -16,23 +16,6 @@ pub struct Line<'a> {
     pub numbers: [u32; 3],
 }
 
-impl Line<'_> {
-    /// Whether the line is this word and so many numbers.
-    // An array has a constant length, so its bytes are compared without a loop.
-    #[inline(always)]
-    pub fn is<const N: usize>(&self, word: &[u8; N], count: usize) -> bool
-        ensures { IsTrue result ↔ (self.now.word.now ≡ word.now) × (self.now.count ≡ count) }
-    {
-        if self.count != count {
-            return false;
-        }
-        match <&[u8; N]>::try_from(self.word) {
-            Ok(own) => own == word,
-            Err(_) => false,
-        }
-    }
-}
-
 /// The line that the text is, or nothing if it is none.
 pub fn read_line(text: &[u8]) -> Option<Line<'_>>
     ensures line { IfSome result (λ line. IsLine text.now line.word.now (numbers_in line.count line.numbers)) }
@@ -74,4 +57,15 @@ fn split_field(text: &[u8]) -> Option<(u32, Option<&[u8]>)>
         return None;
     }
     Some((number, Some(rest)))
+}
+
+/// Whether the text is this word. An array has a constant length, so its bytes are compared without a loop.
+#[inline(always)]
+pub fn is_word<const N: usize>(text: &[u8], word: &[u8; N]) -> bool
+    ensures { IsTrue result ↔ (text.now ≡ word.now) }
+{
+    match <&[u8; N]>::try_from(text) {
+        Ok(text) => text == word,
+        Err(_) => false,
+    }
 }

@@ -68,7 +68,7 @@ fn read_fault(error: &io::Error) -> Fault
 }
 
 /// Runs the lines up to the first faulty one, and writes their answers and that fault.
-pub fn run<I: Interpreter, W: Write>(
+pub fn answer_lines<I: Interpreter, W: Write>(
     alloc: Global,
     script: &[u8],
     interpreter: &mut I,
@@ -135,7 +135,7 @@ fn write_part<W: Write>(part: &mut Vec<u8>, output: &mut W) -> Result<(), Fault>
     ensures emptied { OnOk result (part.new.items ≡ []) }
     ensures fault { IfErr result (λ fault. fault ≡ Fault.Output) }
 {
-    write_whole(part, output).map_err(|_| Fault::Output)?;
+    write_whole(part, output)?;
     part.clear();
     Ok(())
 }
@@ -146,6 +146,6 @@ fn write_last<W: Write>(part: &[u8], output: &mut W) -> Result<(), Fault>
     ensures begun { WroteBeginning part.now (W.contents output.old) (W.contents output.new) }
     ensures fault { IfErr result (λ fault. fault ≡ Fault.Output) }
 {
-    write_whole(part, output).map_err(|_| Fault::Output)?;
+    write_whole(part, output)?;
     output.flush().map_err(|_| Fault::Output)
 }

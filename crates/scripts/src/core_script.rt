@@ -15,8 +15,7 @@ ghost use Rattle.scripts.specs.StepLine.{step_line};
 use crate::step_line::read_step;
 use counting_core::{Answer, Core};
 use script_text::fault::Fault;
-use script_text::script;
-use script_text::script::{Interpreter, append_with_number};
+use script_text::script::{Interpreter, answer_lines, append_with_number};
 use std::alloc::{AllocError, Global};
 use std::io::Write;
 
@@ -28,7 +27,7 @@ const VALUE: u32 = 5;
 ///
 /// Ends with `Line` at that line, with `Output` if a write fails, and with `Memory` if the core or the room for
 /// the answers is refused. A step that is refused memory is answered so, and the run goes on.
-pub fn run<W: Write>(
+pub fn run_core_script<W: Write>(
     alloc: Global,
     owners: usize,
     limit: u64,
@@ -44,7 +43,7 @@ pub fn run<W: Write>(
     let Ok(core) = Core::new(alloc, VALUE, owners, limit) else {
         return Err(Fault::Memory);
     };
-    script::run(alloc, script, &mut CoreRunner { core }, output)
+    answer_lines(alloc, script, &mut CoreRunner { core }, output)
 }
 
 /// A core on which a script runs.

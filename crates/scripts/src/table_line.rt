@@ -1,10 +1,10 @@
 //! The lines of a table's script: each is a command, or asks what a slot reads.
-ghost use Rattle.std.specs.Prelude.{ℕ, IfSome, IfNone};
+ghost use Rattle.std.specs.Prelude.{◌≡◌, ℕ, [], ◌∷◌, length, IfSome, IfNone};
 ghost use Rattle.script_text.specs.Line.{Encodes, IsInvalid, Parses, numbers_in};
 ghost use Rattle.scripts.specs.declared.table_line.TableLine.{TableLine as Asked};
 ghost use Rattle.scripts.specs.TableLine.{table_line};
 
-use script_text::line::{Line, read_line};
+use script_text::line::{Line, is_word, read_line};
 use tables::table::Command;
 
 /// What a line asks of a table.
@@ -22,28 +22,51 @@ pub fn read_table_line(text: &[u8]) -> Option<TableLine>
     asked_by(read_line(text)?)
 }
 
-// By the word and the number of its operands.
+// By the number of operands, and then by the word.
 fn asked_by(line: Line<'_>) -> Option<TableLine>
+    requires { length (numbers_in line.count line.numbers) ≡ line.count }
     ensures line { IfSome result (Encodes table_line line.entry.word.now
         (numbers_in line.entry.count line.entry.numbers)) }
     ensures none { IfNone result ((asked : Asked) → ¬ (Encodes table_line line.entry.word.now
         (numbers_in line.entry.count line.entry.numbers) asked)) }
 {
     let [slot, value, _] = line.numbers;
-    let (slot, other) = (slot as usize, value as usize);
-    Some(TableLine::Serve(match line {
-        _ if line.is(b"get", 1) => return Some(TableLine::Get(slot)),
-        _ if line.is(b"new", 2) => Command::New(slot, value),
-        _ if line.is(b"clone", 2) => Command::Clone(slot, other),
-        _ if line.is(b"drop", 1) => Command::Drop(slot),
-        _ if line.is(b"getmut", 2) => Command::GetMut(slot, value),
-        _ if line.is(b"intounique", 2) => Command::IntoUnique(slot, value),
-        _ if line.is(b"makemut", 2) => Command::MakeMut(slot, value),
-        _ if line.is(b"own", 1) => Command::Own(slot),
-        _ if line.is(b"mark", 1) => Command::Mark(slot),
-        _ if line.is(b"raw", 1) => Command::Raw(slot),
-        _ if line.is(b"ptreq", 2) => Command::PtrEq(slot, other),
-        _ if line.is(b"same", 2) => Command::Same(slot, other),
+    match line.count {
+        1 => asked_of_slot(line.word, slot as usize),
+        2 => asked_with_value(line.word, slot as usize, value),
+        _ => None,
+    }
+}
+
+fn asked_of_slot(word: &[u8], slot: usize) -> Option<TableLine>
+    ensures line { IfSome result (Encodes table_line word.now (slot ∷ [])) }
+    ensures none { IfNone result ((asked : Asked) → ¬ (Encodes table_line word.now (slot ∷ []) asked)) }
+{
+    Some(TableLine::Serve(match word {
+        _ if is_word(word, b"get") => return Some(TableLine::Get(slot)),
+        _ if is_word(word, b"drop") => Command::Drop(slot),
+        _ if is_word(word, b"own") => Command::Own(slot),
+        _ if is_word(word, b"mark") => Command::Mark(slot),
+        _ if is_word(word, b"raw") => Command::Raw(slot),
+        _ => return None,
+    }))
+}
+
+// The value may be the number of another slot.
+fn asked_with_value(word: &[u8], slot: usize, value: u32) -> Option<TableLine>
+    ensures line { IfSome result (Encodes table_line word.now (slot ∷ value ∷ [])) }
+    ensures none { IfNone result ((asked : Asked)
+        → ¬ (Encodes table_line word.now (slot ∷ value ∷ []) asked)) }
+{
+    let other = value as usize;
+    Some(TableLine::Serve(match word {
+        _ if is_word(word, b"new") => Command::New(slot, value),
+        _ if is_word(word, b"clone") => Command::Clone(slot, other),
+        _ if is_word(word, b"getmut") => Command::GetMut(slot, value),
+        _ if is_word(word, b"intounique") => Command::IntoUnique(slot, value),
+        _ if is_word(word, b"makemut") => Command::MakeMut(slot, value),
+        _ if is_word(word, b"ptreq") => Command::PtrEq(slot, other),
+        _ if is_word(word, b"same") => Command::Same(slot, other),
         _ => return None,
     }))
 }

@@ -11,8 +11,7 @@ ghost use Rattle.scripts.specs.TableScript.{PrintsModelTable, TableAnswers};
 
 use crate::table_line::{TableLine, read_table_line};
 use script_text::fault::Fault;
-use script_text::script;
-use script_text::script::{Interpreter, append_with_number};
+use script_text::script::{Interpreter, answer_lines, append_with_number};
 use std::alloc::{AllocError, Global};
 use std::io::Write;
 use tables::table::{Reply, Table};
@@ -22,7 +21,7 @@ use tables::table::{Reply, Table};
 ///
 /// Ends with `Line` at that line, with `Output` if a write fails, and with `Memory` if the table or the room for
 /// the answers is refused. A command that is refused memory is answered so, and the run goes on.
-pub fn run<W: Write>(
+pub fn run_table_script<W: Write>(
     alloc: Global,
     slots: usize,
     script: &[u8],
@@ -33,7 +32,7 @@ pub fn run<W: Write>(
         (W.contents output.old) (W.contents output.new) }
 {
     let table = Table::new(alloc, slots)?;
-    script::run(alloc, script, &mut TableRunner { alloc, table }, output)
+    answer_lines(alloc, script, &mut TableRunner { alloc, table }, output)
 }
 
 /// A table, and where its commands take their memory.

@@ -25,8 +25,8 @@ pub use Rattle.tables.specs.TableLaws
 pub use Rattle.tables.specs.declared.commands.Command
 pub use Rattle.tables.specs.declared.commands.PlainCommand
 pub use Rattle.tables.specs.declared.commands.Reply
-pub use Rattle.tables.specs.UnionTableModel
-pub use Rattle.tables.specs.declared.commands.UnionCommand
+pub use Rattle.union_tables.specs.UnionTableModel
+pub use Rattle.union_tables.specs.declared.command.UnionCommand
 pub use Rattle.shared_count.specs.History
 pub use Rattle.shared_count.specs.Extends
 pub use Rattle.shared_count.specs.Passes

@@ -16,10 +16,10 @@ pub use handles::static_arc::StaticArc;
 pub use handles::unique::{UninitArc, UniqueArc};
 pub use handles::{arc, arc_union, borrow, header_slice, unique};
 pub use shared_count;
-pub use tables::union_table;
+pub use union_tables::union_table;
 
 /// Tables of handles, and of unions of them.
 pub mod table {
     pub use tables::table::{Command, PlainCommand, Reply, Table, laws};
-    pub use tables::union_table::{UnionCommand, UnionTable};
+    pub use union_tables::union_table::{UnionCommand, UnionTable};
 }

@@ -4,17 +4,14 @@ use Rattle.std.proofs.Common.{length, slice_get, slice_set, refl, ◌∙◌, ap,
 use Rattle.std.proofs.lemmas.Grind.{common_steps}
 use Rattle.std.proofs.lemmas.List.{length-set}
 use Rattle.std.proofs.lemmas.Option.{gets}
-use Rattle.handles.specs.Unions.{Union, First, Second}
 use Rattle.tables.specs.declared.commands.Command.TheVariants.{New, Clone, Drop, GetMut, IntoUnique, MakeMut}
 use Rattle.tables.specs.declared.commands.Command.TheVariants.{Own, Mark, Raw, PtrEq, Same}
 use Rattle.tables.specs.declared.commands.Reply.{Reply}
 use Rattle.tables.specs.declared.commands.Reply.TheVariants.{Done}
-use Rattle.tables.specs.declared.commands.UnionCommand.TheVariants as union
 use Rattle.tables.specs.Runs.{IsAmong}
 use Rattle.tables.specs.TableLaws.{written, plain_written, NumberOfSlotsStays, OtherSlotsStay, OnlyDoneChanges}
 use Rattle.tables.specs.TableModel.{Slots, Outcome, Meaning, if_there, if_filled, at, reading, reading_both}
 use Rattle.tables.specs.TableModel.{command_of, outcomes_of, plain_outcomes_of}
-use Rattle.tables.specs.UnionTableModel.{of_one_block, union_outcomes_of, union_written}
 
 module _ {V : Type 0} where
   get-set_other : (slots : Slots V) (i k : ℕ) (slot : Option V) → i ≢ k → slice_get (slice_set slots i slot)
@@ -38,26 +35,26 @@ module _ {V : Type 0} where
   change_of old target (outcome ∷ outcomes) reply new changes (inr among) =
       change_of old target outcomes reply new changes.1 among
 
-  set : (old : Slots V) (i : ℕ) (slot : Option V) → IsChange old (Some i) Done (slice_set old i slot)
+  pub set : (old : Slots V) (i : ℕ) (slot : Option V) → IsChange old (Some i) Done (slice_set old i slot)
   set old i slot = inr (i, slot, refl, refl, refl)
 
-  set_or : (old : Slots V) (i : ℕ) (v : V) (refused : Reply)
+  pub set_or : (old : Slots V) (i : ℕ) (v : V) (refused : Reply)
       → AreChanges old (Some i) ((Done, slice_set old i (Some v)) ∷ (refused, old) ∷ [])
   set_or old i v refused = (set old i (Some v), (inl refl, tt))
 
-  there : (old : Slots V) (target : Option ℕ) (i : ℕ) (outcomes : List (Outcome V))
+  pub there : (old : Slots V) (target : Option ℕ) (i : ℕ) (outcomes : List (Outcome V))
       → AreChanges old target outcomes → AreChanges old target (at old i outcomes)
   there old target i outcomes rest =
       elim (slice_get old i) as (λ found. AreChanges old target (if_there old found outcomes))
       [ None ↦ (inl refl, tt) | Some slot ↦ rest ]
 
-  reads : (old : Slots V) (target : Option ℕ) (i : ℕ) (outcomes : V → List (Outcome V))
+  pub reads : (old : Slots V) (target : Option ℕ) (i : ℕ) (outcomes : V → List (Outcome V))
       → ((v : V) → AreChanges old target (outcomes v)) → AreChanges old target (reading old i outcomes)
   reads old target i outcomes rest =
       elim (slice_get old i) as (λ found. AreChanges old target (if_filled old found outcomes))
       [ None ↦ (inl refl, tt) | Some None ↦ (inl refl, tt) | Some (Some v) ↦ rest v ]
 
-  reads_both : (old : Slots V) (target : Option ℕ) (i j : ℕ) (outcomes : V → V → List (Outcome V))
+  pub reads_both : (old : Slots V) (target : Option ℕ) (i j : ℕ) (outcomes : V → V → List (Outcome V))
       → ((v w : V) → AreChanges old target (outcomes v w)) → AreChanges old target (reading_both old i j outcomes)
   reads_both old target i j outcomes rest =
       there old target j _ (reads old target i _ (λ v. reads old target j (outcomes v) (rest v)))
@@ -120,32 +117,3 @@ module _ {V : Type 0} (equal : V → V → Bool) where
 
   pub only_done_plain : OnlyDoneChanges (plain_outcomes_of equal)
   only_done_plain command = only_done_table (command_of command)
-
-module _ {A B : Type 0} where
-  one_block : (old : Slots (Union A B)) (u w : Union A B) → AreChanges old None (of_one_block old u w)
-  one_block old (First a) (First x) = (inl refl, (inl refl, tt))
-  one_block old (First a) (Second y) = (inl refl, tt)
-  one_block old (Second b) (First x) = (inl refl, tt)
-  one_block old (Second b) (Second y) = (inl refl, (inl refl, tt))
-
-  module _ (first_eq : A → A → Bool) (second_eq : B → B → Bool) where
-    union_changes : AllChange (union_outcomes_of first_eq second_eq) union_written
-    union_changes (union.First i a) old = there old _ i _ (set_or old i (First a) _)
-    union_changes (union.Second i b) old = there old _ i _ (set_or old i (Second b) _)
-    union_changes (union.Clone i j) old = there old _ j _ (reads old _ i _ (λ u. set_or old j u _))
-    union_changes (union.Drop i) old = reads old _ i _ (λ _. (set old i None, tt))
-    union_changes (union.IsFirst i) old = reads old _ i _ (λ _. (inl refl, tt))
-    union_changes (union.IsSecond i) old = reads old _ i _ (λ _. (inl refl, tt))
-    union_changes (union.ReadFirst i a) old = reads old _ i _ (λ _. (inl refl, tt))
-    union_changes (union.ReadSecond i b) old = reads old _ i _ (λ _. (inl refl, tt))
-    union_changes (union.PtrEq i j) old = reads_both old _ i j _ (one_block old)
-    union_changes (union.Same i j) old = reads_both old _ i j _ (λ _ _. (inl refl, tt))
-
-    pub number_stays_union : NumberOfSlotsStays (union_outcomes_of first_eq second_eq)
-    number_stays_union = number_stays _ _ union_changes
-
-    pub others_stay_union : OtherSlotsStay (union_outcomes_of first_eq second_eq) union_written
-    others_stay_union = others_stay _ _ union_changes
-
-    pub only_done_union : OnlyDoneChanges (union_outcomes_of first_eq second_eq)
-    only_done_union = only_done _ _ union_changes

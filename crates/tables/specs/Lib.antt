@@ -1,4 +1,4 @@
+pub mod CommandKinds
 pub mod Runs
 pub mod TableLaws
 pub mod TableModel
-pub mod UnionTableModel

@@ -7,7 +7,7 @@ use Rattle.tables.specs.declared.commands.PlainCommand.{PlainCommand}
 use Rattle.tables.specs.declared.commands.PlainCommand.TheVariants as plain
 use Rattle.tables.specs.declared.commands.Reply.{Reply}
 use Rattle.tables.specs.declared.commands.Reply.TheVariants.{Done, Is, Shared, Empty, NoSlot, Refused}
-use Rattle.tables.specs.Runs.{Means}
+use Rattle.tables.specs.Runs.{IsAmong, Means}
 
 -- slots, each with a value or empty
 abbrev pub Slots : Type 0 → Type 0
@@ -50,6 +50,15 @@ module _ {V : Type 0} where
   -- the outcomes of a command that reads slots i and j
   abbrev pub reading_both : Slots V → ℕ → ℕ → (V → V → List (Outcome V)) → List (Outcome V)
   reading_both slots i j outcomes = at slots j (reading slots i (λ v. reading slots j (outcomes v)))
+
+  -- the reply of each command that reads slot i, if the slot has nothing to read
+  abbrev pub IsMissing : Slots V → ℕ → Reply → Type 0
+  IsMissing slots i reply = (outcomes : V → List (Outcome V)) → IsAmong (reading slots i outcomes) reply slots
+
+  -- the same of each command that reads slots i and j
+  abbrev pub AreMissing : Slots V → ℕ → ℕ → Reply → Type 0
+  AreMissing slots i j reply =
+      (outcomes : V → V → List (Outcome V)) → IsAmong (reading_both slots i j outcomes) reply slots
 
   -- slot j gets a clone of slot i's handle
   abbrev pub clones : ℕ → ℕ → Meaning V

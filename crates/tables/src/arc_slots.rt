@@ -6,7 +6,7 @@ ghost use Rattle.tables.specs.TableModel.{outcomes_of};
 ghost use Rattle.tables.specs.Runs.{IsAmong};
 
 use crate::commands::{Command, Reply};
-use crate::slots::{Slots, handle, handle_mut, start, two_handles};
+use crate::slots::Slots;
 use handles::arc::Arc;
 use std::alloc::Global;
 
@@ -15,14 +15,29 @@ impl<T: PartialEq + Drop> Slots<Arc<T>> {
     pub(crate) fn new_handle(&mut self, alloc: Global, i: usize, value: T) -> Reply
         ensures { IsAmong (outcomes_of T.eq (Command.New i value) self.old) result self.new }
     {
-        start!(self, alloc, i, value)
+        if i >= self.slots() {
+            return Reply::NoSlot;
+        }
+        match Arc::new(alloc, value) {
+            Ok(handle) => {
+                self.fill(i, handle);
+                Reply::Done
+            }
+            Err(_) => Reply::Refused,
+        }
     }
 
     #[inline]
     pub(crate) fn get_mut(&mut self, i: usize, value: T) -> Reply
         ensures { IsAmong (outcomes_of T.eq (Command.GetMut i value) self.old) result self.new }
     {
-        let Some(place) = Arc::get_mut(handle_mut!(self, i)) else {
+        let Some(slot) = self.handles.get_mut(i) else {
+            return Reply::NoSlot;
+        };
+        let Some(handle) = &mut *slot else {
+            return Reply::Empty;
+        };
+        let Some(place) = Arc::get_mut(handle) else {
             return Reply::Shared;
         };
         *place = value;
@@ -33,16 +48,23 @@ impl<T: PartialEq + Drop> Slots<Arc<T>> {
     pub(crate) fn mark(&self, i: usize) -> Reply
         ensures { IsAmong (outcomes_of T.eq (Command.Mark i) self.now) result self.now }
     {
-        handle!(self, i).mark_as_intentionally_leaked();
-        Reply::Done
+        match self.handle(i) {
+            Ok(handle) => {
+                handle.mark_as_intentionally_leaked();
+                Reply::Done
+            }
+            Err(missing) => missing,
+        }
     }
 
     #[inline]
     pub(crate) fn ptr_eq(&self, i: usize, j: usize) -> Reply
         ensures { IsAmong (outcomes_of T.eq (Command.PtrEq i j) self.now) result self.now }
     {
-        let (a, b) = two_handles!(self, i, j);
-        Reply::Is(Arc::ptr_eq(a, b))
+        match self.two_handles(i, j) {
+            Ok((a, b)) => Reply::Is(Arc::ptr_eq(a, b)),
+            Err(missing) => missing,
+        }
     }
 
     #[inline]
@@ -88,7 +110,13 @@ impl<T: Clone + PartialEq> Slots<Arc<T>> {
     pub(crate) fn make_mut(&mut self, alloc: Global, i: usize, value: T) -> Reply
         ensures { IsAmong (outcomes_of T.eq (Command.MakeMut i value) self.old) result self.new }
     {
-        let Ok(owned) = Arc::make_mut(handle_mut!(self, i), alloc) else {
+        let Some(slot) = self.handles.get_mut(i) else {
+            return Reply::NoSlot;
+        };
+        let Some(handle) = &mut *slot else {
+            return Reply::Empty;
+        };
+        let Ok(owned) = Arc::make_mut(handle, alloc) else {
             return Reply::Refused;
         };
         *owned = value;
@@ -100,7 +128,13 @@ impl<T: Clone + PartialEq> Slots<Arc<T>> {
         requires { CopiesAreEqual T.is_clone }
         ensures { IsAmong (outcomes_of T.eq (Command.Own i) self.old) result self.new }
     {
-        let Ok(_own) = Arc::make_mut(handle_mut!(self, i), alloc) else {
+        let Some(slot) = self.handles.get_mut(i) else {
+            return Reply::NoSlot;
+        };
+        let Some(handle) = &mut *slot else {
+            return Reply::Empty;
+        };
+        let Ok(_own) = Arc::make_mut(handle, alloc) else {
             return Reply::Refused;
         };
         Reply::Done

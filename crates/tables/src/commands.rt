@@ -1,4 +1,5 @@
 //! The commands of tables, and the replies.
+ghost use Rattle.std.specs.Prelude.{◌≡◌};
 
 /// A command on the slots of a table, which are numbered from 0.
 #[derive(Debug, PartialEq, Drop)]
@@ -42,31 +43,6 @@ pub enum PlainCommand<T> {
     Same(usize, usize),
 }
 
-/// A command on the slots of a table of unions, which are numbered from 0.
-#[derive(Debug, PartialEq, Drop)]
-pub enum UnionCommand<A, B> {
-    /// Puts a new handle of the first type in the slot; a handle that stood there ends.
-    First(usize, A),
-    /// Puts a new handle of the second type in the slot; a handle that stood there ends.
-    Second(usize, B),
-    /// Puts a clone of the first slot's handle in the second slot.
-    Clone(usize, usize),
-    /// Ends the slot's handle.
-    Drop(usize),
-    /// Asks whether the slot's handle is of the first type.
-    IsFirst(usize),
-    /// Asks whether the slot's handle is of the second type.
-    IsSecond(usize),
-    /// Asks whether the slot's handle is of the first type, with a value equal to this one.
-    ReadFirst(usize, A),
-    /// Asks whether the slot's handle is of the second type, with a value equal to this one.
-    ReadSecond(usize, B),
-    /// Asks whether two slots have handles of one block.
-    PtrEq(usize, usize),
-    /// Asks whether two slots have handles of one type with equal values.
-    Same(usize, usize),
-}
-
 /// The reply to a command. Only `Done` may go with a change. The value of a command with another reply is dropped.
 #[derive(Clone, Copy, Debug, PartialEq, Eq)]
 pub enum Reply {
@@ -81,4 +57,35 @@ pub enum Reply {
     NoSlot,
     /// There was no memory, or the handle could not be cloned.
     Refused,
+}
+
+/// A command taken apart: a plain one, or one of those that may copy a value.
+#[derive(Drop)]
+pub(crate) enum CommandKind<T> {
+    Plain(PlainCommand<T>),
+    MakeMut(usize, T),
+    Own(usize),
+}
+
+impl<T> Command<T> {
+    ghost use Rattle.tables.specs.CommandKinds.{of_kind};
+
+    #[inline]
+    pub(crate) fn into_kind(self) -> CommandKind<T>
+        ensures { of_kind result ≡ self }
+    {
+        CommandKind::Plain(match self {
+            Command::New(i, value) => PlainCommand::New(i, value),
+            Command::Clone(i, j) => PlainCommand::Clone(i, j),
+            Command::Drop(i) => PlainCommand::Drop(i),
+            Command::GetMut(i, value) => PlainCommand::GetMut(i, value),
+            Command::IntoUnique(i, value) => PlainCommand::IntoUnique(i, value),
+            Command::MakeMut(i, value) => return CommandKind::MakeMut(i, value),
+            Command::Own(i) => return CommandKind::Own(i),
+            Command::Mark(i) => PlainCommand::Mark(i),
+            Command::Raw(i) => PlainCommand::Raw(i),
+            Command::PtrEq(i, j) => PlainCommand::PtrEq(i, j),
+            Command::Same(i, j) => PlainCommand::Same(i, j),
+        })
+    }
 }

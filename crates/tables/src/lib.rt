@@ -4,8 +4,6 @@
 mod arc_slots;
 mod commands;
 pub mod laws;
-pub mod run;
+pub mod serve;
 pub mod slots;
 pub mod table;
-pub mod union_laws;
-pub mod union_table;

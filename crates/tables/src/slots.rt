@@ -1,67 +1,14 @@
 //! Slots, and the commands that are the same for every kind of handle.
 ghost use Rattle.std.specs.Prelude.{◌≡◌, ◌<◌, ◌↔◌, IfErr, IfOk, IsOk, None, OnErr, OnOk, Some};
-ghost use Rattle.std.specs.Prelude.{length, replicate, slice_set};
+ghost use Rattle.std.specs.Prelude.{length, replicate, slice_get, slice_set};
+ghost use Rattle.std.specs.Option.{option_flatten};
 ghost use Rattle.handles.specs.Copies.{CopiesAreEqual};
-ghost use Rattle.tables.specs.TableModel.{clones, compares, ends};
+ghost use Rattle.tables.specs.TableModel.{IsMissing, AreMissing, clones, compares, ends};
 ghost use Rattle.tables.specs.Runs.{IsAmong};
 
 use crate::commands::Reply;
 use std::alloc::{AllocError, Global};
 use std::marker::Model;
-
-/// The handle in a slot. Without one, the function that asks replies `NoSlot` or `Empty`.
-macro_rules! handle {
-    ($slots:expr, $i:expr) => {
-        match $slots.handles.get($i) {
-            None => return Reply::NoSlot,
-            Some(None) => return Reply::Empty,
-            Some(Some(handle)) => handle,
-        }
-    };
-}
-
-/// As `handle`, to write to.
-macro_rules! handle_mut {
-    ($slots:expr, $i:expr) => {{
-        let Some(slot) = $slots.handles.get_mut($i) else {
-            return Reply::NoSlot;
-        };
-        let Some(handle) = &mut *slot else {
-            return Reply::Empty;
-        };
-        handle
-    }};
-}
-
-/// As `handle`, of two slots.
-macro_rules! two_handles {
-    ($slots:expr, $i:expr, $j:expr) => {
-        match ($slots.handles.get($i), $slots.handles.get($j)) {
-            (Some(Some(a)), Some(Some(b))) => (a, b),
-            (None, _) | (_, None) => return Reply::NoSlot,
-            _ => return Reply::Empty,
-        }
-    };
-}
-
-/// Puts a new `Arc` in a slot, wrapped by `$of`, and gives the reply. Without such a slot none is made.
-macro_rules! start {
-    ($slots:expr, $alloc:expr, $i:expr, $value:expr $(, $of:path)?) => {{
-        let Some(slot) = $slots.handles.get_mut($i) else {
-            return Reply::NoSlot;
-        };
-        let Ok(handle) = Arc::new($alloc, $value) else {
-            return Reply::Refused;
-        };
-        *slot = Some($($of)?(handle));
-        Reply::Done
-    }};
-}
-
-pub(crate) use handle;
-pub(crate) use handle_mut;
-pub(crate) use start;
-pub(crate) use two_handles;
 
 /// Slots, each empty or with a handle. Handles may share a block; the values that the slots read never show it.
 #[derive(Drop)]
@@ -77,6 +24,46 @@ impl<H> Model for Slots<H> {
     ghost view = { λ slots. slots.handles.items };
 }
 
+impl<H> Slots<H> {
+    /// How many slots there are, empty ones too.
+    #[inline]
+    pub fn slots(&self) -> usize
+        ensures { result ≡ length self.now }
+    {
+        self.handles.len()
+    }
+
+    /// The handle in a slot, or else the reply of each command that reads the slot.
+    #[inline]
+    pub fn handle(&self, i: usize) -> Result<&H, Reply>
+        ensures found { IfOk result (λ handle. slice_get self.now i ≡ Some (Some handle.now)) }
+        ensures nothing { OnErr result (option_flatten (slice_get self.now i) ≡ None) }
+        ensures missing { IfErr result (IsMissing self.now i) }
+    {
+        match self.handles.get(i) {
+            None => Err(Reply::NoSlot),
+            Some(None) => Err(Reply::Empty),
+            Some(Some(handle)) => Ok(handle),
+        }
+    }
+
+    /// The handles in two slots, or else the reply of each command that reads both.
+    #[inline]
+    pub fn two_handles(&self, i: usize, j: usize) -> Result<(&H, &H), Reply>
+        ensures first { IfOk result (λ found. slice_get self.now i ≡ Some (Some found.0.now)) }
+        ensures second { IfOk result (λ found. slice_get self.now j ≡ Some (Some found.1.now)) }
+        ensures missing { IfErr result (AreMissing self.now i j) }
+    {
+        if j >= self.slots() {
+            return Err(Reply::NoSlot);
+        }
+        match (self.handle(i), self.handle(j)) {
+            (Ok(first), Ok(second)) => Ok((first, second)),
+            (Err(missing), _) | (_, Err(missing)) => Err(missing),
+        }
+    }
+}
+
 impl<H: Drop> Slots<H> {
     /// A table with that many slots, all of them empty.
     pub fn new(alloc: Global, slots: usize) -> Result<Slots<H>, AllocError>
@@ -89,12 +76,13 @@ impl<H: Drop> Slots<H> {
         Ok(Slots { handles })
     }
 
-    /// How many slots there are, empty ones too.
+    /// Puts the handle in a slot that is there. The slot's old handle ends.
     #[inline]
-    pub fn slots(&self) -> usize
-        ensures { result ≡ length self.now }
+    pub fn fill(&mut self, i: usize, handle: H)
+        requires { i < length self.old }
+        ensures { self.new ≡ slice_set self.old i (Some handle) }
     {
-        self.handles.len()
+        self.handles[i] = Some(handle);
     }
 
     /// Puts the handle in a slot, whose old handle ends. If there is no such slot the handle comes back.
@@ -105,13 +93,11 @@ impl<H: Drop> Slots<H> {
         ensures back { IfErr result (λ back. back ≡ handle) }
         ensures kept { OnErr result (self.new ≡ self.old) }
     {
-        match self.handles.get_mut(i) {
-            None => Err(handle),
-            Some(slot) => {
-                *slot = Some(handle);
-                Ok(())
-            }
+        if i >= self.slots() {
+            return Err(handle);
         }
+        self.fill(i, handle);
+        Ok(())
     }
 
     /// Ends the slot's handle.
@@ -137,14 +123,19 @@ impl<H: Clone> Slots<H> {
         requires { CopiesAreEqual H.is_clone }
         ensures { IsAmong (clones i j self.old) result self.new }
     {
-        if self.handles.get(j).is_none() {
+        if j >= self.slots() {
             return Reply::NoSlot;
         }
-        let Ok(handle) = handle!(self, i).clone() else {
-            return Reply::Refused;
-        };
-        self.handles[j] = Some(handle);
-        Reply::Done
+        match self.handle(i) {
+            Ok(handle) => match handle.clone() {
+                Ok(handle) => {
+                    self.fill(j, handle);
+                    Reply::Done
+                }
+                Err(_) => Reply::Refused,
+            },
+            Err(missing) => missing,
+        }
     }
 }
 
@@ -154,7 +145,9 @@ impl<H: PartialEq> Slots<H> {
     pub fn same(&self, i: usize, j: usize) -> Reply
         ensures { IsAmong (compares H.eq i j self.now) result self.now }
     {
-        let (a, b) = two_handles!(self, i, j);
-        Reply::Is(*a == *b)
+        match self.two_handles(i, j) {
+            Ok((a, b)) => Reply::Is(*a == *b),
+            Err(missing) => missing,
+        }
     }
 }

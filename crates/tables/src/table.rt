@@ -6,9 +6,10 @@ ghost use Rattle.handles.specs.Copies.{CopiesAreEqual};
 ghost use Rattle.tables.specs.TableModel.{is_own, outcomes_of, plain_outcomes_of};
 ghost use Rattle.tables.specs.Runs.{IsAmong, Run};
 
+use crate::commands::CommandKind;
 pub use crate::commands::{Command, PlainCommand, Reply};
 pub use crate::laws;
-use crate::run::{Serve, run};
+use crate::serve::{Serve, serve_all};
 use crate::slots::Slots;
 use handles::arc::Arc;
 use std::alloc::{AllocError, Global};
@@ -22,9 +23,9 @@ impl<T: Drop> Slots<Arc<T>> {
     pub fn get(&self, i: usize) -> Option<&T>
         ensures { option_copied result ≡ option_flatten (slice_get self.now i) }
     {
-        match self.handles.get(i) {
-            Some(Some(handle)) => Some(&**handle),
-            _ => None,
+        match self.handle(i) {
+            Ok(handle) => Some(&**handle),
+            Err(_) => None,
         }
     }
 }
@@ -60,7 +61,7 @@ impl<T: PartialEq + Drop> Slots<Arc<T>> {
         ensures err { OnErr result (self.new ≡ self.old) }
         ensures empty { commands.items ≡ [] → IsOk result }
     {
-        run(self, alloc, commands)
+        serve_all(self, alloc, commands)
     }
 }
 
@@ -84,18 +85,10 @@ impl<T: Clone + PartialEq> Slots<Arc<T>> {
         requires copies { IsTrue (is_own command) → CopiesAreEqual T.is_clone }
         ensures { IsAmong (outcomes_of T.eq command self.old) result self.new }
     {
-        match command {
-            Command::New(i, value) => self.new_handle(alloc, i, value),
-            Command::Clone(i, j) => self.clone_handle(i, j),
-            Command::Drop(i) => self.end(i),
-            Command::GetMut(i, value) => self.get_mut(i, value),
-            Command::IntoUnique(i, value) => self.into_unique(i, value),
-            Command::MakeMut(i, value) => self.make_mut(alloc, i, value),
-            Command::Own(i) => self.own(alloc, i),
-            Command::Mark(i) => self.mark(i),
-            Command::Raw(i) => self.raw(i),
-            Command::PtrEq(i, j) => self.ptr_eq(i, j),
-            Command::Same(i, j) => self.same(i, j),
+        match command.into_kind() {
+            CommandKind::Plain(command) => self.serve_one(alloc, command),
+            CommandKind::MakeMut(i, value) => self.make_mut(alloc, i, value),
+            CommandKind::Own(i) => self.own(alloc, i),
         }
     }
 
@@ -117,6 +110,6 @@ impl<T: Clone + PartialEq> Slots<Arc<T>> {
         ensures err { OnErr result (self.new ≡ self.old) }
         ensures empty { commands.items ≡ [] → IsOk result }
     {
-        run(self, alloc, commands)
+        serve_all(self, alloc, commands)
     }
 }

@@ -4,7 +4,7 @@ use Rattle.script_text.specs.Script.{stops, SomeLines}
 use Rattle.script_text.specs.declared.fault.Fault.TheVariants.{Output, Memory}
 use Rattle.script_text.proofs.Runs.{SoFar, SoFar-none, SoFar-more, SoFar-written, SoFar-faulty}
 use Rattle.script_text.proofs.Runs.{whole, stopped, stopped_by, stopped_between, ended}
-use Rattle.script_text.proofs.script.run.Goals as goal
+use Rattle.script_text.proofs.script.answer_lines.Goals as goal
 
 pub returns-in_err-part-clause-wrote : goal.returns-in_err-part-clause-wrote
 returns-in_err-part-clause-wrote g c =

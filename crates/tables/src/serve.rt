@@ -21,7 +21,7 @@ pub trait Serve<C> {
 /// Serves commands in order and gives a reply to each.
 ///
 /// The room for the replies is reserved first: if it is refused, no command was served, and all are dropped.
-pub fn run<S: Serve<C>, C: Drop>(
+pub fn serve_all<S: Serve<C>, C: Drop>(
     table: &mut S,
     alloc: Global,
     commands: Vec<C>,

@@ -1,7 +1,7 @@
 use Rattle.std.proofs.Common.{ℕ, ◌+◌, ◌≤◌, List, length}
 use Rattle.std.specs.Io.KnownBytes.{Appends}
 use Rattle.script_text.proofs.Runs.{SoFar}
-use Rattle.script_text.proofs.script.run.Given as goal
+use Rattle.script_text.proofs.script.answer_lines.Given as goal
 
 abbrev pub invariant-loop-line : goal.invariant-loop-line
 invariant-loop-line g l = record {

@@ -2,7 +2,7 @@ use Rattle.std.proofs.Common.{All, subst, ◌≡◌, ◌∷◌, [], length, ap, 
 use Rattle.std.specs.Vec.Iter.{into_iter_items}
 use Rattle.std.proofs.lemmas.List.Elements.{All-tail}
 use Rattle.tables.proofs.RunLemmas.{run_more}
-use Rattle.tables.proofs.run.run.Goals as goal
+use Rattle.tables.proofs.serve.serve_all.Goals as goal
 
 pub loop-command-preserved : goal.loop-command-preserved
 loop-command-preserved g c =

@@ -2,8 +2,8 @@
 use Rattle.std.specs.Prelude.{ℕ, Bool, true, false, List, [], ◌∷◌, Option, Some, None}
 use Rattle.handles.specs.Unions.{Union, First, Second, is_first, is_second, union_eq}
 use Rattle.tables.specs.declared.commands.Reply.TheVariants.{Is, Refused}
-use Rattle.tables.specs.declared.commands.UnionCommand.{UnionCommand}
-use Rattle.tables.specs.declared.commands.UnionCommand.TheVariants as command
+use Rattle.union_tables.specs.declared.command.UnionCommand.{UnionCommand}
+use Rattle.union_tables.specs.declared.command.UnionCommand.TheVariants as command
 use Rattle.tables.specs.TableModel.{Slots, Outcome, Meaning, at, reading, reading_both, sets, stays}
 use Rattle.tables.specs.TableModel.{clones, ends, compares}
 

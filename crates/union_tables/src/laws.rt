@@ -1,6 +1,6 @@
 //! What holds of every command and of every run, by what commands mean.
 ghost use Rattle.tables.specs.TableLaws.{NumberOfSlotsStays, OnlyDoneChanges, OtherSlotsStay};
-ghost use Rattle.tables.specs.UnionTableModel.{union_outcomes_of, union_written};
+ghost use Rattle.union_tables.specs.UnionTableModel.{union_outcomes_of, union_written};
 
 /// No run changes the number of slots.
 pub fn number_of_slots_stays<A: PartialEq, B: PartialEq>()
@@ -8,13 +8,13 @@ pub fn number_of_slots_stays<A: PartialEq, B: PartialEq>()
 {}
 
 /// No command changes a slot but the one that it writes, if it writes one.
-#[tactic(auto, using(crate::proofs::Changes::others_stay_union))]
+#[tactic(auto, using(crate::proofs::UnionChanges::others_stay_union))]
 pub fn other_slots_stay<A: PartialEq, B: PartialEq>()
     ensures { OtherSlotsStay (union_outcomes_of A.eq B.eq) union_written }
 {}
 
 /// A command that is answered other than `Done` changes nothing.
-#[tactic(auto, using(crate::proofs::Changes::only_done_union))]
+#[tactic(auto, using(crate::proofs::UnionChanges::only_done_union))]
 pub fn only_done_changes<A: PartialEq, B: PartialEq>()
     ensures { OnlyDoneChanges (union_outcomes_of A.eq B.eq) }
 {}

@@ -1,0 +1,26 @@
+//! The commands of tables of unions.
+
+/// A command on the slots of a table of unions, which are numbered from 0.
+#[derive(Debug, PartialEq, Drop)]
+pub enum UnionCommand<A, B> {
+    /// Puts a new handle of the first type in the slot; a handle that stood there ends.
+    First(usize, A),
+    /// Puts a new handle of the second type in the slot; a handle that stood there ends.
+    Second(usize, B),
+    /// Puts a clone of the first slot's handle in the second slot.
+    Clone(usize, usize),
+    /// Ends the slot's handle.
+    Drop(usize),
+    /// Asks whether the slot's handle is of the first type.
+    IsFirst(usize),
+    /// Asks whether the slot's handle is of the second type.
+    IsSecond(usize),
+    /// Asks whether the slot's handle is of the first type, with a value equal to this one.
+    ReadFirst(usize, A),
+    /// Asks whether the slot's handle is of the second type, with a value equal to this one.
+    ReadSecond(usize, B),
+    /// Asks whether two slots have handles of one block.
+    PtrEq(usize, usize),
+    /// Asks whether two slots have handles of one type with equal values.
+    Same(usize, usize),
+}

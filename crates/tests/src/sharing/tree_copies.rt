@@ -1,5 +1,5 @@
-// How many values a change copies, and what it drops. A node that a change makes out of an old one has a copy of its
-// value.
+// How many values a change copies, and what it drops. A leaf that a change makes out of old ones has copies of their
+// values.
 use crate::sharing::orders::Order;
 use crate::support::counted::{Counted, Tally};
 use crate::support::{again, ok, same, same_at};
@@ -30,34 +30,43 @@ fn living(tally: &Tally, made: u64) -> u64 {
 
 const ORDERS: [Order; 3] = [Order::Rising, Order::Falling, Order::Inward];
 
-// Every change is in place if the version shares nothing, whatever rotations it takes.
+// The most entries of a leaf.
+const LEAF: u64 = 64;
+
+// A lone version copies only what leaves have that become two or one: two of a full one have half of its entries each,
+// and so have two that are joined and halved again. A fourth of a leaf is left before it is joined with its neighbour.
 #[test]
-fn a_lone_version_copies_nothing(rt: HostRuntime) {
+fn a_lone_version_copies_at_splits_and_joins_alone(rt: HostRuntime) {
     for order in ORDERS {
         let tally = Tally::new();
         let mut map = ok!(&rt, evens(rt.alloc(), &tally, order));
-        let before = tally.drops();
+        let splits = tally.copies();
+        let before = living(&tally, KEYS);
         ok!(&rt, map.insert(rt.alloc(), 0, Counted::new(&tally, 9)));
-        let replaced = tally.drops();
+        let replaced = (
+            tally.copies().wrapping_sub(splits),
+            living(&tally, KEYS + 1),
+        );
         for key in 0..KEYS {
             drop(ok!(&rt, map.remove(rt.alloc(), &(2 * key))));
         }
-        let drops = [before, replaced, tally.drops()];
+        let joins = tally.copies().wrapping_sub(splits);
+        let is_little = (splits <= 2 * KEYS, joins <= 10 * KEYS);
         same_at!(
             &rt,
             order,
-            (drops, tally.copies(), map.len()),
-            ([0, 1, KEYS + 1], 0, 0),
+            (before, replaced, is_little),
+            (KEYS, (0, KEYS), (true, true))
         );
+        same_at!(&rt, order, (living(&tally, KEYS + 1), map.len()), (0, 0));
     }
 }
 
 #[test]
-fn an_insert_copies_its_path_alone(rt: HostRuntime) {
+fn an_insert_copies_one_leaf(rt: HostRuntime) {
     for order in ORDERS {
         let tally = Tally::new();
         let map = ok!(&rt, evens(rt.alloc(), &tally, order));
-        let depth = u64::from(map.depth());
         for key in 0..2 * KEYS {
             let (copies, before) = (tally.copies(), living(&tally, 0));
             let mut version = again!(&rt, &map);
@@ -72,7 +81,7 @@ fn an_insert_copies_its_path_alone(rt: HostRuntime) {
             same_at!(
                 &rt,
                 (order, key),
-                (kept <= depth, copied <= depth, is_gone),
+                (kept <= LEAF, copied <= LEAF, is_gone),
                 (true, true, true),
             );
         }
@@ -80,10 +89,10 @@ fn an_insert_copies_its_path_alone(rt: HostRuntime) {
     }
 }
 
-// On average a removal copies no more than 20 values: 2 log2 of the keys.
+// On average a removal copies no more than 20 values.
 const MOST_COPIES: u64 = 20 * KEYS;
 
-// Both versions have all the nodes but those on the path, and each value ends with the last version that has it.
+// Both versions have all the nodes but those that changed, and each value ends with the last version that has it.
 #[test]
 fn a_value_ends_with_its_last_version(rt: HostRuntime) {
     let tally = Tally::new();

@@ -66,14 +66,20 @@ module _ (p : Tally) where
 pub drops-few : (hs : List Standing) → count_by is_dropping hs ≤ count_by is_counted hs
 drops-few [] = omega arith
 drops-few (lives ∷ hs) = let few : count_by is_dropping hs ≤ count_by is_counted hs = drops-few hs in
-    let one : count_by is_dropping (lives ∷ hs) ≡ 0 + count_by is_dropping hs = sum_by-cons (one_if is_dropping) lives hs in
-    let two : count_by is_counted (lives ∷ hs) ≡ 1 + count_by is_counted hs = sum_by-cons (one_if is_counted) lives hs in
+    let one : count_by is_dropping (lives ∷ hs) ≡ 0 + count_by is_dropping hs = sum_by-cons
+    (one_if is_dropping) lives hs in
+    let two : count_by is_counted (lives ∷ hs) ≡ 1 + count_by is_counted hs = sum_by-cons
+    (one_if is_counted) lives hs in
     omega arith
 drops-few (dropping ∷ hs) = let few : count_by is_dropping hs ≤ count_by is_counted hs = drops-few hs in
-    let one : count_by is_dropping (dropping ∷ hs) ≡ 1 + count_by is_dropping hs = sum_by-cons (one_if is_dropping) dropping hs in
-    let two : count_by is_counted (dropping ∷ hs) ≡ 1 + count_by is_counted hs = sum_by-cons (one_if is_counted) dropping hs in
+    let one : count_by is_dropping (dropping ∷ hs) ≡ 1 + count_by is_dropping hs = sum_by-cons
+    (one_if is_dropping) dropping hs in
+    let two : count_by is_counted (dropping ∷ hs) ≡ 1 + count_by is_counted hs = sum_by-cons
+    (one_if is_counted) dropping hs in
     omega arith
 drops-few (ended ∷ hs) = let few : count_by is_dropping hs ≤ count_by is_counted hs = drops-few hs in
-    let one : count_by is_dropping (ended ∷ hs) ≡ 0 + count_by is_dropping hs = sum_by-cons (one_if is_dropping) ended hs in
-    let two : count_by is_counted (ended ∷ hs) ≡ 0 + count_by is_counted hs = sum_by-cons (one_if is_counted) ended hs in
+    let one : count_by is_dropping (ended ∷ hs) ≡ 0 + count_by is_dropping hs = sum_by-cons
+    (one_if is_dropping) ended hs in
+    let two : count_by is_counted (ended ∷ hs) ≡ 0 + count_by is_counted hs = sum_by-cons
+    (one_if is_counted) ended hs in
     omega arith

@@ -80,7 +80,8 @@ module _ (content kept : Fml) (limit b o : ℕ) (η : BlockId) (n : ℕ) (t : Lf
           -- [the way back; the sharing; the rule; what is lent; the open borrow; half of the token's share]
           nothing_more ! $ move ! (4 ∷ 0 ∷ []) $ fjoin ! $ move ! (5 ∷ 0 ∷ []) $ fjoin ! $ move ! (4 ∷ 0 ∷ 1 ∷ []) $
           obor_alter ! tt (flft a (Share.left e) ∷ lent_share i η n (Share.right e) ∷ []) $
-          use1 𝓛 (‵ (fbor κ (flft a (Share.left e))) ⊛ ‵ (fbor κ (lent_share i η n (Share.right e))) ⊛ ‵ ftrue) (id⊢ 𝓤 _) $
+          use1 𝓛 (‵ (fbor κ (flft a (Share.left e))) ⊛ ‵ (fbor κ (lent_share i η n (Share.right e))) ⊛ ‵ ftrue)
+          (id⊢ 𝓤 _) $
           split3 ! $ bor_fracture ! tt (λ r. flft a r) (Share.left e) $ move ! (1 ∷ []) $
           bor_fracture ! tt (lent_share i η n) (Share.right e) $
           -- [the way to a share; to the token; nothing; the token; the sharing; the rule]

@@ -57,7 +57,8 @@ module _ {M : Type 1} {𝓤 : Ura M} (𝓛 : Logic 𝓤) (R : RattleType) (p : P
         rewrite ! 0 (λ (z : Ptr). ‵ (unshared_block R z w η 1 log)) (sym (at_block p inb)) refl $ fjoin ! $
         rewrite ! 1 (λ (z : Ptr). ‵ (cell_at full_share (HandleRow R).mir (one_word z ∷ []) b o))
         (sym (at_block p inb)) refl $
-        fpack ! (List Entry) (sole_handle R p w η n) log $ fpack ! Sharing (held_as R p w η n) not_yet $ nothing_more ! $ fpack ! (InBlock p) (λ _. ftrue) inb $ fjoin ! $
+        fpack ! (List Entry) (sole_handle R p w η n) log $ fpack ! Sharing
+        (held_as R p w η n) not_yet $ nothing_more ! $ fpack ! (InBlock p) (λ _. ftrue) inb $ fjoin ! $
         use0 𝓛 (‵ ((HandleWords R).own_val (p, tt) (one_word p ∷ []))) (words_made (handle_type.the_type R).name (R
         ∷ []) 𝓛 p) $ fjoin ! $ move ! (1 ∷ 0 ∷ []) $ fjoin ! $
         fpack ! (List Val) (λ vs. fsep (cell_at full_share (HandleRow R).mir vs b o)

@@ -120,9 +120,11 @@ module _ (R : RattleType) (L : Laws R) (p : Ptr) (x : (HeldRow R).Denot) where
         (begins_marked R 𝓛 p x) $ await ! tt $ pick ! (λ η.
         fsplit ! $ fsplit ! $ fsplit ! $ move ! (1 ∷ []) $ fsplit ! $
         -- [the log; the run and the rows; the word; what is held and the stamp; the pass; the token]
-        use1 𝓛 (‵ (latest logs full_share η.log (kept_log log)) ⊛ ‵ (reached η log)) (latest_shows logs 𝓛 full_share η.log
+        use1 𝓛 (‵ (latest logs full_share η.log (kept_log log)) ⊛ ‵ (reached η log))
+        (latest_shows logs 𝓛 full_share η.log
         (kept_log log) (kept_log log) (logs.same (kept_log log))) $ split ! $
-        -- [the log; that it was reached; the run and the rows; the word; what is held and the stamp; the pass; the token]
+        -- [the log; that it was reached; the run and the rows; the word; what is held and the stamp; the pass; the
+        -- token]
         move ! (0 ∷ 2 ∷ []) $ fjoin ! $ move ! (2 ∷ 0 ∷ []) $ fjoin ! $ move ! (0 ∷ 2 ∷ []) $ fjoin ! $
         -- [the block; that the log was reached; the pass; the token]
         move ! (0 ∷ 2 ∷ []) $ fjoin ! $ move ! (0 ∷ 2 ∷ []) $

@@ -32,7 +32,8 @@ IsFullOf of logged = (logged.id ≡ of.id) × FoundFull of.held.limit.count logg
 
 -- or its last raise was lost
 abbrev pub IsRefusedOf : {X : Type 0} → Handle X → Logged → Type 0
-IsRefusedOf of logged = (logged.id ≡ of.id) × (FoundFull of.held.limit.count logged.log ⊎ LostRaise of.number logged.log)
+IsRefusedOf of logged =
+    (logged.id ≡ of.id) × (FoundFull of.held.limit.count logged.log ⊎ LostRaise of.number logged.log)
 
 -- This step of the handle found a word of which the test says this.
 abbrev pub IsAnswerOf : {X : Type 0} → Handle X → WordStep → (ℕ → Bool) → Bool → Logged → Type 0
@@ -41,7 +42,8 @@ IsAnswerOf of s test answer logged =
 
 -- The handle's block was marked by this step.
 abbrev pub IsMarking : {X : Type 0} → Handle X → Logged → Type 0
-IsMarking of logged = (logged.id ≡ of.id) × (found : ℕ) × Adds of.held.limit.count [] (made of.number marks) found logged.log
+IsMarking of logged =
+    (logged.id ≡ of.id) × (found : ℕ) × Adds of.held.limit.count [] (made of.number marks) found logged.log
 
 -- A handle that was made holds the same. A full block was found to be full, and a lost raise found another word.
 abbrev pub IsAttempt : {X : Type 0} → Handle X → Attempt X → Type 0

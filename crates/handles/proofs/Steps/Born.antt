@@ -6,7 +6,8 @@ use Rattle.handles.proofs.Steps.Reads.{own_pass, a_share, no_share}
 use Rattle.handles.proofs.Steps.Turns.{turns_static}
 use Rattle.handles.proofs.Steps.Stepped.{begun_with, records, Recorded, unknown}
 use Rattle.handles.proofs.Steps.Shared.{◌≡◌, ℕ, true, false, [], ◌∷◌, ◌++◌, refl, sym, ◌∙◌, Ura, ent, upd, upd_i, via}
-use Rattle.handles.proofs.Steps.Shared.{never, never_e, sep, ftrue, full_share, Share, Fml, fsep, fex, finv, Entry, List}
+use Rattle.handles.proofs.Steps.Shared.{never, never_e, sep, ftrue, full_share, Share, Fml, fsep, fex, finv, Entry}
+use Rattle.handles.proofs.Steps.Shared.{List}
 use Rattle.handles.proofs.Steps.Shared.{static_handle, given, learn, Logic, sem, ‵, ◌⊛◌, ◌$◌, ◌∵◌, !, qed}
 use Rattle.handles.proofs.Steps.Shared.{by, move, keep, drop, frame, assume, split, fsplit, fsplit3, fjoin, fjoin3}
 use Rattle.handles.proofs.Steps.Shared.{fpick, fpack, suffices, use1, use2, done, settle, raw, a_handle, title, marked}

@@ -55,7 +55,8 @@ module _ {M : Type 1} {𝓤 : Ura M} (𝓛 : Logic 𝓤) (s : SharedBlock) where
       (and_logged s [] (by_own s reads_for_drop) (after_drop_read s))
   drop_reads = held_step reads_for_drop (λ w. w) (λ w _. refl) (after_drop_read s)
       (λ w log. passed s (right_by_drop_read w) log) (turns_drop_read 𝓛 s [])
-      (λ j mark y e w n log small holds. passes_on 𝓛 s w log mark n (a_stake s y e) (passed s (right_by_drop_read w) log)
+      (λ j mark y e w n log small holds. passes_on 𝓛 s w log mark n (a_stake s y e) (passed s
+      (right_by_drop_read w) log)
       (bare_drop_read s w log) (after_drop_read s w log) j (id⊢ 𝓤 _) (at j mark y e w n log holds))
     where
       right_is : (w : ℕ) (y : Bool)

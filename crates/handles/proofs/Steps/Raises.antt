@@ -49,7 +49,8 @@ module _ {M : Type 1} {𝓤 : Ura M} (𝓛 : Logic 𝓤) (s : SharedBlock) (q : 
       move ! (0 ∷ 2 ∷ []) $ fjoin ! $ move ! (2 ∷ 0 ∷ []) $
       use2 𝓛 (‵ (rule s)) (stays_living 𝓛 s false (seen + 1) (n + 1) log next) $ move ! (1 ∷ []) $
       use1 𝓛 (‵ (title s.names)) (counted_stake 𝓛 s.names) $
-      use1 𝓛 (‵ (granted s (right_by_raise seen seen) log)) (regranted 𝓛 s a_handle (right_by_raise seen seen) log wins) $
+      use1 𝓛 (‵ (granted s (right_by_raise seen seen) log)) (regranted 𝓛 s a_handle
+      (right_by_raise seen seen) log wins) $
       move ! (1 ∷ 0 ∷ []) $ by ! (shut 𝓛 s q log (right_by_raise seen seen) j seen holds.1)
 
   is_raised : (w : ℕ) → step.word_by (step.raises_from seen) w ≡ raised seen (seen + 1) w

@@ -66,7 +66,8 @@ module _ {M : Type 1} {𝓤 : Ura M} (𝓛 : Logic 𝓤) (s : SharedBlock) where
           qed 𝓛 (‵ (noted_as s.limit s.id w log) ∷ ‵ (fsep Old T) ∷ []) ∵ fsplit3 ! $
           move ! (1 ∷ []) $ fpick ! (λ left. drop ! $ move ! (2 ∷ []) $ fsplit ! $
           -- [what is known of the log; the passes; the log; the rows]
-          move ! (2 ∷ 0 ∷ []) $ use2 𝓛 (given (IsPrefix old log) (‵ (latest logs full_share γ (kept_log log)))) (known log)
+          move ! (2 ∷ 0 ∷ []) $ use2 𝓛 (given (IsPrefix old log) (‵ (latest logs full_share γ (kept_log log))))
+          (known log)
           $ learn ! (λ begun. move ! (1 ∷ 2 ∷ []) $
           use2 𝓛 (given (MayMake s.limit (tally_of log) e) (‵ (fsep (T' w more) (rows s.id (tally_of more)))))
           (turns log begun (keeps-counts s.limit s.most log w left)) $ learn ! (λ may. move ! (1 ∷ []) $
@@ -119,7 +120,8 @@ module _ {M : Type 1} {𝓤 : Ura M} (𝓛 : Logic 𝓤) (s : SharedBlock) where
             move ! (2 ∷ []) $ fsplit ! $
             -- [what its maker has; the passes; what is beside the word; what is known of the log; the word; the log]
             move ! (3 ∷ 1 ∷ []) $ fjoin ! $ move ! (4 ∷ 0 ∷ []) $ fjoin ! $
-            use1 𝓛 (raw (upd 𝓤 (sem 𝓛 (Ready w more)))) (records old Old known e T T' w (f w) (is w small) (turns w) log)
+            use1 𝓛 (raw (upd 𝓤 (sem 𝓛 (Ready w more)))) (records old Old known e T T' w (f w) (is w small)
+            (turns w) log)
             $ settle 𝓛 (Goes j) (‵ (Ready w more)) $
             fsplit ! $ fsplit ! $
             -- [the log; the passes; what is in it; what its maker has; what is beside the word; the word]
@@ -138,7 +140,8 @@ module _ {M : Type 1} {𝓤 : Ura M} (𝓛 : Logic 𝓤) (s : SharedBlock) where
             move ! (1 ∷ []) $ move ! (1 ∷ []) $ fsplit3 ! $ move ! (1 ∷ []) $ fpick ! (λ holds. drop ! $ fsplit ! $
             fits 𝓛 s ! w (λ small. move ! (1 ∷ []) $ fpick ! (λ log.
             -- [the log; the word; what is beside it; what its maker has]
-            move ! (2 ∷ 3 ∷ []) $ fjoin ! $ move ! (2 ∷ 1 ∷ 0 ∷ []) $ fjoin3 ! $ by ! (made j mark w n log holds small))))
+            move ! (2 ∷ 3 ∷ []) $ fjoin ! $ move ! (2 ∷ 1 ∷ 0 ∷ []) $ fjoin3 ! $ by !
+            (made j mark w n log holds small))))
         at j over = qed 𝓛 (‵ (at_stage s over) ∷ ‵ (fsep Old (fsep X T)) ∷ []) ∵ move ! (1 ∷ []) $
             fsplit3 ! $ move ! (3 ∷ []) $ fsplit ! $ keep ! (0 ∷ 3 ∷ []) $ by ! (via 𝓤 (never 𝓤) over-not (never_e 𝓤 _))
 

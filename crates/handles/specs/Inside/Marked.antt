@@ -37,7 +37,8 @@ module _ (R : RattleType) (p : Ptr) (d : Staying R.Denot) where
   -- A handle that never ends is lent for good: shares of the token of the sharing, and of the handle's pass.
   abbrev pub stays : Lasting → Lft → Fml
   stays t = let i : Names = t.names in beside (said (marked i))
-      (beside (held [] (one (λ q. flft (i.shared ∷ []) q))) (beside (held [] (one (lent_share i d.known_by.id t.number)))
+      (beside (held [] (one (λ q. flft (i.shared ∷ []) q)))
+      (beside (held [] (one (lent_share i d.known_by.id t.number)))
       (beside (always (block_rule R p d.held d.known_by.id i)) (held (i.shared ∷ []) (shown R p d.held)))))
 
   abbrev pub marked_shares : Lft → Fml

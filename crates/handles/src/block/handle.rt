@@ -247,7 +247,8 @@ impl<T: Drop> Handle<T> {
     #[inline(always)]
     pub(crate) fn end(self) -> Result<Box<Block<T>>, Logged>
         ensures last { IfOk result (λ block. block.value.held ≡ self.held) }
-        ensures ended { IfErr result (λ logged. (logged.id ≡ self.id) × DropOver self.held.limit.count self.number logged.log) }
+        ensures ended { IfErr result (λ logged.
+            (logged.id ≡ self.id) × DropOver self.held.limit.count self.number logged.log) }
     {
         let (word, permit) = self.read_for_drop();
         match plan_drop(word) {

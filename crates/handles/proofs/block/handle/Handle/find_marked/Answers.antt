@@ -14,7 +14,8 @@ marked_by-requires-clause-mark g c = let asked = c.is_marked-is_marked in let lo
 pub returns-then-is_marked-clause-found : goal.returns-then-is_marked-clause-found
 returns-then-is_marked-clause-found g c = let asked = c.is_marked-is_marked in let known = c.marked_by.ensures in (
   known.1,
-  subst (λ log. Answers c.args.self.now.held.limit.count c.args.self.now.number asks is_marked_word true log) (sym known.2)
+  subst (λ log. Answers c.args.self.now.held.limit.count c.args.self.now.number asks is_marked_word true log)
+      (sym known.2)
       (asked.ensures.1.0, asked.ensures.1.1, sym c.if-is_marked.true ∙ asked.ensures.1.2),
 )
 

@@ -5,7 +5,8 @@ use Rattle.handles.proofs.Walks.{fld, of_opd, no_more, and_then, returns, alloc_
 use Rattle.handles.proofs.Walks.{get_in, sets, agg, sub, whole, fact, no, RattleType, owns, types_at, plain, Ptr}
 use Rattle.handles.proofs.Walks.{InBlock, block_ptr, nothing_more, heard, param, Stays, stay_dropped, HeldRow}
 use Rattle.handles.proofs.Walks.{one_word, words_made, HandleWords, known, rewrite, true, exists, bare_block}
-use Rattle.handles.proofs.Walks.{BlockId, sole_handle, handle_at, Entry, List, Goes-blank, pair_val, RawBoxRow, raw_box-Good, raw_box_opens, box_opens}
+use Rattle.handles.proofs.Walks.{BlockId, sole_handle, handle_at, Entry, List, Goes-blank, pair_val, RawBoxRow}
+use Rattle.handles.proofs.Walks.{raw_box-Good, raw_box_opens, box_opens}
 use Rattle.handles.proofs.Walks.{at_type, walks_at}
 use Rattle.handles.specs.contracts.block.Block as block_type
 use Rattle.handles.proofs.NewBlocks.{begins_sole}
@@ -31,7 +32,8 @@ first_spec 𝓤 𝓛 𝓜 𝓡 wired T L =
     -- [the box; its allocator; nothing; the tokens]
     use1 𝓛 (‵ (bare_block R p x d.value.word)) (box_opens T L 𝓛 b o d.value.word d.value.stamp x d.value.alloc) $
     rewrite ! 0 (λ (w : ℕ). ‵ (bare_block R p x w)) new refl $
-    use1 𝓛 (later (exists (λ (η : BlockId). ‵ (sole_handle R p x η 0 [])))) (begins_sole R 𝓛 p x) $ keep ! (0 ∷ 3 ∷ []) $
+    use1 𝓛 (later (exists (λ (η : BlockId). ‵ (sole_handle R p x η 0 [])))) (begins_sole R 𝓛 p x) $ keep ! (0 ∷ 3
+    ∷ []) $
     go.enters (pair_val (vptr b o) h ∷ []) (λ j. is_pair j ++ []) $
     alloc_all ! (λ l. pass_all ! refl (raw_box-Good b o h good, tt) $ await ! tt $ pick ! (λ η.
     nothing_more ! $ fpack ! (InBlock p) (λ _. ftrue) tt $ fjoin ! $

@@ -4,7 +4,8 @@ use Rattle.handles.proofs.Walks.{Fml, ftrue, fsep, flft, sem, ‵, raw, ◌⊛�
 use Rattle.handles.proofs.Walks.{join, fsplit, fjoin, fpack, rewrite, use0, no_more, returns, alloc_all, pass_all}
 use Rattle.handles.proofs.Walks.{free_all, look_at, sets, agg, fact, yes, RattleType, owns, types_at, plain}
 use Rattle.handles.proofs.Walks.{nothing_more, heard, known, param, shr_vals, shr_Tells, Stays, stay_dropped, walk_of}
-use Rattle.handles.proofs.Walks.{Goes-dropped, HeldRow, HandleRow, LoggedRow, no_bytes_told, Entry, BlockId, at_type, walks}
+use Rattle.handles.proofs.Walks.{Goes-dropped, HeldRow, HandleRow, LoggedRow, no_bytes_told, Entry, BlockId, at_type}
+use Rattle.handles.proofs.Walks.{walks}
 use Rattle.handles.proofs.Walks.{a_ref}
 use seplogic.Ra.Ura.{Ura}
 use types.Logic.{Logic}

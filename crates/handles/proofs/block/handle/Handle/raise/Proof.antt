@@ -40,7 +40,8 @@ raise_spec 𝓤 𝓛 𝓜 𝓡 wired T L =
     (λ κs qs bounds a gh are go ends.
     let b : ℕ = a.0.ref_ptr.0 in let o : ℕ = a.0.ref_ptr.1 in let κ : Lft = κs.0 in let q : Share = qs.0 in
     let others : Fml = fsep (flft κs.1.0 qs.1.0) ftrue in let p : Ptr = a.0.now.block in
-    let x : (HeldRow R).Denot = a.0.now.held in let η : BlockId = a.0.now.id in let n : ℕ = a.0.now.number in let pb : ℕ = block_of p in
+    let x : (HeldRow R).Denot = a.0.now.held in let η : BlockId = a.0.now.id in let n : ℕ = a.0.now.number in
+    let pb : ℕ = block_of p in
     let po : ℕ = offset_of p in let seen : ℕ = a.1.0 in let next : ℕ = a.1.1.0 in
     let same : Ptr = a.1.1.1.0.block in let old : List Entry = a.1.1.1.0.log in let values : Vals En.signature κs =
     (vptr b o ∷ [], (vint w64 seen ∷ [], (vint w64 next ∷ [], (one_word same ∷ [], tt)))) in
@@ -82,7 +83,16 @@ raise_spec 𝓤 𝓛 𝓜 𝓡 wired T L =
     refl (one_word-Good p) $ sets ! (agg ! (and_then ! (get ! refl) (and_then ! (get ! refl) (no_more !))))
     refl (word_and_permit-Good w fits p) $ returns_permit R p x η (newest log) ! w fits r' log $
     move ! (1 ∷ 2 ∷ []) $ join ! $ move ! (1 ∷ []) $
-    use0 𝓛 (raw ((c κs a).ensures gh (w, permit_at R p x r' η (newest log) log) (at_exit En κs a (tt, (tt, (tt, (tt, tt)))))))
+    use0 𝓛 (raw ((c κs a).ensures gh (w, permit_at R p x r' η (newest log) log) (at_exit En κs a (
+      tt,
+      (
+        tt,
+        (
+          tt,
+          (tt, tt),
+        ),
+      ),
+    ))))
     (also 𝓤 refl (also 𝓤 refl (also 𝓤 within (also 𝓤 refl (also 𝓤 refl (also 𝓤 refl (so 𝓤 adds))))))) $
     nothing_more ! $ nothing_more ! $ fjoin ! $ nothing_more ! $ fjoin ! $ nothing_more ! $ fjoin ! $
     nothing_more ! $ fjoin ! $ returns ! (look_at ! 0 refl) $ free_all ! refl $ keep ! (3 ∷ 0 ∷ 2 ∷ 1 ∷ []) $

@@ -35,7 +35,8 @@ read_for_unique_spec 𝓤 𝓛 𝓜 𝓡 wired T L =
     (λ κs qs bounds a gh are go ends.
     let b : ℕ = a.0.ref_ptr.0 in let o : ℕ = a.0.ref_ptr.1 in let κ : Lft = κs.0 in let q : Share = qs.0 in
     let μ : Lft = κs.1.0 in let r : Share = qs.1.0 in let me : Self.Denot = a.0.now in let p : Ptr = me.block in
-    let x : (HeldRow R).Denot = me.held in let η : BlockId = me.id in let n : ℕ = me.number in let γ : GName = a.0.ghost_name in
+    let x : (HeldRow R).Denot = me.held in let η : BlockId = me.id in let n : ℕ = me.number in
+    let γ : GName = a.0.ghost_name in
     let pb : ℕ = block_of p in let po : ℕ = offset_of p in
     let y : (walk_of 𝓛 En hs c).Ghost = ((κs, qs, bounds, a, (vptr b o ∷ [], tt)), gh) in
     qed 𝓛 (((‵ (flft κ q) ⊛ ‵ (flft μ r) ⊛ ‵ ftrue) ⊛ ‵ (owns (types_at En.signature.params κs)

@@ -13,5 +13,6 @@ pub returns-clause-log : goal.returns-clause-log
 returns-clause-log g c = let known = c.marked_by.ensures in (
   known.1,
   c.mark.result.0,
-  subst (λ log. Adds c.args.self.now.held.limit.count [] (made c.args.self.now.number marks) c.mark.result.0 log) (sym known.2) c.mark.ensures.log,
+  subst (λ log. Adds c.args.self.now.held.limit.count [] (made c.args.self.now.number marks) c.mark.result.0 log)
+      (sym known.2) c.mark.ensures.log,
 )

@@ -49,7 +49,8 @@ value_mut_spec 𝓤 𝓛 𝓜 𝓡 wired T L =
     (ev ∙ ap (λ (z : Ptr). one_word z ∷ []) at) refl $
     sets ! (of_opd ! (load ! (through ! refl (fld ! refl (stop !))) (look_in ! 1 (sub ! 0 refl (whole !)))))
     refl (tt, tt) $
-    fsplit ! $ rewrite ! 0 (λ (z : Ptr). ‵ (unshared_block R z x η 1 me.log)) at refl $ fsplit3 ! $ move ! (1 ∷ []) $ fsplit ! $
+    fsplit ! $ rewrite ! 0 (λ (z : Ptr). ‵ (unshared_block R z x η 1 me.log)) at refl $ fsplit3 ! $ move ! (1
+    ∷ []) $ fsplit ! $
     use1 𝓛 (‵ (Apart T x pb held_at)) (held_out T L 𝓛 x pb held_at) $ fsplit ! $
     -- [the value; the limit and what is left; what frees; the word; the stamp; the pass; the cell; the open borrow; its
     -- two names; nothing; the token of T; nothing]

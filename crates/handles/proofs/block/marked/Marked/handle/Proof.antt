@@ -36,7 +36,8 @@ handle_spec 𝓤 𝓛 𝓜 𝓡 wired T L =
     use2 𝓛 (later (‵ (BornSome 𝓛 s e))) (born 𝓛 s e) $ await ! tt $ fpick ! (λ w. fpick ! (λ log. fsplit ! $ drop ! $
     shows_permit R p x η n ! tt tt i a_handle tt [] log (static_entry s) w (λ added. fsplit ! $ drop ! $
     sets ! (addr ! (through ! refl (stop !))) refl (tt, tt) $ sets ! (of_opd ! (get ! refl)) refl (tt, tt) $
-    sets ! (agg ! (and_then ! (get ! refl) (no_more !))) refl (tt, (tt, tt)) $ is_handle R p x η (newest log) ! false log $
+    sets ! (agg ! (and_then ! (get ! refl) (no_more !))) refl (tt, (tt, tt)) $ is_handle R p x η
+    (newest log) ! false log $
     returns ! (look_at ! 0 refl) $ free_all ! refl $ keep ! (1 ∷ 2 ∷ 0 ∷ []) $
     by ! (ends (one_word p) (handle_at R p x false η (newest log) log)
     (also 𝓤 refl (also 𝓤 refl (so 𝓤 refl)))))))))))

@@ -2,7 +2,8 @@
 use Rattle.handles.proofs.Walks.{◌≡◌, ℕ, List, [], ◌∷◌, ◌++◌, refl, subst, Val, vptr, ent, id⊢, Lft, Share}
 use base.Fml.{fex, ftrue}
 use Rattle.handles.proofs.Walks.{fsep, flft, sem, later, await, ‵, raw, ◌⊛◌, ◌$◌, ◌∵◌, !, qed, by, move, keep}
-use Rattle.handles.proofs.Walks.{split, join, fsplit, fjoin, fpick, use1, use2, feq_i, stop, fld, addr, of_opd, first, blocks}
+use Rattle.handles.proofs.Walks.{split, join, fsplit, fjoin, fpick, use1, use2, feq_i, stop, fld, addr, of_opd, first}
+use Rattle.handles.proofs.Walks.{blocks}
 use Rattle.handles.proofs.Walks.{returns, alloc_all, pass_all, free_all, look_at, get, get_in, through, sets}
 use Rattle.handles.proofs.Walks.{sets_last, sub, whole, fact, no, RattleType, owns, types_at, plain, Ptr, block_ptr}
 use Rattle.handles.proofs.Walks.{nothing_more, heard, param, param_laws, Stays, stay_dropped, HeldRow, known, hide}

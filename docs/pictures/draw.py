@@ -9,6 +9,7 @@ import sys
 from pathlib import Path
 
 import log
+import sharing
 import traces
 import versions
 import word
@@ -18,7 +19,7 @@ FOLDER = Path(__file__).resolve().parent
 
 def main():
     pictures = {name: traces.drawn(name) for name in traces.NAMES}
-    pictures |= {module.NAME: module.drawn() for module in (log, versions, word)}
+    pictures |= {module.NAME: module.drawn() for module in (log, sharing, versions, word)}
     other = []
     for name, picture in pictures.items():
         path = FOLDER / f"{name}.svg"

@@ -6,7 +6,7 @@ ghost use Rattle.std.specs.Prelude.{◌≡◌, IfOk};
 use servo_arc::Arc;
 use std::alloc::{AllocError, Global};
 
-/// What two handles of a 5 read once a 9 was written through the second of them.
+/// Writes 9 through the second of two handles to a 5, and returns what each of them then reads.
 fn written_once(alloc: Global) -> Result<(u32, u32), AllocError>
     ensures { IfOk result (λ read. read ≡ (5, 9)) }
 {

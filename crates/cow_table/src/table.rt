@@ -15,7 +15,9 @@ use std::alloc::{AllocError, Global};
 use std::marker::Model;
 use std::ops::Index;
 
-/// A list whose clones are versions of it: what is set in one version is seen in no other.
+/// A list in pages, for many versions of a long list: `table.set(alloc, i, value)?` copies one page.
+///
+/// A clone is a version, and costs one count. What is set in one version is seen in no other.
 ///
 /// The items hold no cell, no lock and no atomic. What these hold can be written through a shared handle: every version
 /// that shares the item then reads the change, and no clause speaks of it.

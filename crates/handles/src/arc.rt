@@ -21,8 +21,10 @@ use std::sync::Wait;
 /// How often the trait's `clone` raises the word before it gives up.
 const MOST_RAISES: u8 = 64;
 
-/// A handle of a block whose value is shared. The last handle's end drops the value and frees the block, unless the
-/// block is marked.
+/// An atomically reference-counted pointer: its clones share one value, in one thread or in many.
+///
+/// It reads as a `&T`. `make_mut` writes, in a copy if somebody else shares the value: `*Arc::make_mut(&mut a, alloc)? =
+/// 9`. When the last handle ends, the value is dropped and the block is freed, unless the block is marked.
 #[derive(Drop)]
 pub struct Arc<T> {
     pub(crate) handle: Handle<T>,
@@ -73,7 +75,7 @@ impl<T: Drop> Arc<T> {
         Ok(StaticArc::new(alloc, value)?.arc())
     }
 
-    /// The same as `new_leaked`, under the original's name for memory that is never freed.
+    /// The same as `new_leaked`, under the original's name.
     pub fn new_static(alloc: Global, value: T) -> Result<Arc<T>, T>
         ensures made { IfOk result (λ a. a ≡ value) }
         ensures refused { IfErr result (λ x. x ≡ value) }
@@ -173,9 +175,9 @@ impl<T> Deref for Arc<T> {
     }
 }
 
-/// Makes one more handle by at most 64 raises of the count, and without memory. The `AllocError` of a refusal stands
-/// for no want of memory, but for the limit or for 64 raises that were lost to other threads. The handle is then as it
-/// was. `Arc::clone(this, rt)` tries on.
+/// Makes one more handle, by at most 64 raises of the count. It takes no memory: `AllocError` means here that the block is
+/// at its limit, or that 64 raises in a row lost to other threads. The handle stays as it was. `Arc::clone(this, rt)` does
+/// not give up.
 impl<T: Drop> Clone for Arc<T> {
     ghost is_clone = { λ a b. b ≡ a };
 
@@ -188,7 +190,9 @@ impl<T: Drop> Clone for Arc<T> {
     }
 }
 
-/// A handle that is kept as a token. It counts as a live handle, and only `Arc::from_raw` ends it.
+/// A handle kept as a token, for code that hands it out as a plain value and takes it back later: `Arc::into_raw(a)`.
+///
+/// It counts as a live handle. It cannot be dropped: only `Arc::from_raw` ends it.
 pub struct RawArc<T> {
     arc: Arc<T>,
 }

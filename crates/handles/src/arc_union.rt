@@ -11,7 +11,10 @@ use crate::header_slice::HeaderSlice;
 use std::alloc::AllocError;
 use std::marker::Model;
 
-/// A handle of a first or of a second type. The two kinds stay apart even if their types are the same.
+/// One of two handles, such as where a style comes from: a rule, or the element itself.
+///
+/// Make it by `ArcUnion::from_first(rule)` or `from_second(inline)`, and match on what `borrow` returns. The two kinds stay
+/// apart even if their types are the same.
 #[derive(Drop)]
 pub struct ArcUnion<A, B> {
     handle: EitherArc<A, B>,
@@ -36,7 +39,7 @@ impl<A, B> Model for ArcUnion<A, B> {
     ghost view = { λ u. shown_union u.handle };
 }
 
-/// The handle of a union, borrowed.
+/// What `ArcUnion::borrow` returns: the handle of a union, borrowed.
 #[derive(Debug)]
 #[derive_where(Clone, Copy)]
 pub enum ArcUnionBorrow<'a, A, B> {

@@ -47,7 +47,7 @@ impl<T> Handle<T> {
         if is_marked(word) {
             return Attempt::Made(permit.into_handle());
         }
-        // Without a mark, a clone that raises nothing is one that is refused.
+        // The mark was asked for above, so what is no raise is `Full`.
         let ClonePlan::Raise(next) = plan_clone(word, held.limit.count) else {
             return Attempt::Full(permit.into_logged());
         };

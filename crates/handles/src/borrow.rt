@@ -8,7 +8,9 @@ use crate::arc::{Arc, Full};
 use std::ops::Deref;
 use std::sync::Wait;
 
-/// A borrowed handle: it reads as a `&T`, and more handles can be made of it. It is not counted.
+/// A borrowed handle: `a.borrow_arc()`. It reads as a `&T`, is not counted, and is copied like a reference.
+///
+/// Take it as a parameter where the callee may want a handle of its own, which `clone_arc` makes.
 #[derive(Debug)]
 #[derive_where(Clone, Copy)]
 pub struct ArcBorrow<'a, T>(pub(crate) &'a Arc<T>);

@@ -19,10 +19,13 @@ use items::Items;
 use std::fmt;
 use std::marker::Model;
 
-/// A shared header slice.
+/// A shared header slice, in one word: `Arc::from_header_and_slice(alloc, header, &items)?`.
 pub type ThinArc<H, T> = Arc<HeaderSlice<H, T>>;
 
-/// A header beside items, which are neither added nor removed. Only the builders of `Arc` and `UniqueArc` make one.
+/// A header and a fixed number of items, such as a rule and its declarations.
+///
+/// Read `header`, `slice()` and `iter()`. Items are neither added nor removed. Only the builders of `Arc` and `UniqueArc`
+/// make one.
 pub struct HeaderSlice<H, T> {
     pub header: H,
     items: Items<T>,

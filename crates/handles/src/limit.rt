@@ -12,7 +12,7 @@ pub(crate) struct Limit {
 }
 
 impl Limit {
-    // What the word of a block can count at all.
+    // The most that the word of a block can count.
     pub(crate) const GREATEST: Limit = Limit {
         count: MAX_REFCOUNT,
     };

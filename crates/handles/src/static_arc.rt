@@ -9,12 +9,12 @@ use crate::unique::UniqueArc;
 use std::alloc::{AllocError, Global};
 use std::ops::Deref;
 
-/// A handle that knows its block to be marked: the value stays for good, and counted handles are had without end.
+/// A handle of a block that is never freed, for defaults that live as long as the program: `StaticArc::new(alloc, x)?`.
 ///
-/// It is one pointer, is copied as a reference is, and is not counted itself.
+/// It is one pointer and is copied like a reference; no copy is counted. `arc` makes an `Arc` of it, which cannot fail.
 pub struct StaticArc<'a, T>(&'a Marked<T>);
 
-/// Never refused. As a `Copy` type it needs no `clone`, but what is generic over `Clone` does.
+/// Never refused. The type is `Copy`; this is for code that is generic over `Clone`.
 impl<T> Clone for StaticArc<'_, T> {
     ghost is_clone = { λ x y. y ≡ x };
 

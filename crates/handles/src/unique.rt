@@ -14,7 +14,9 @@ use std::marker::Model;
 use std::ops::{Deref, DerefMut};
 use std_alloc::room::Vacant;
 
-/// The only handle of its block.
+/// The only handle to a block that nobody shares yet, so it can be written: `UniqueArc::try_new(alloc, x)?`.
+///
+/// Fill it in, then turn it into an `Arc` by `shareable`, without a second allocation.
 #[derive(Drop)]
 pub struct UniqueArc<T> {
     block: Box<Block<T>>,

@@ -19,7 +19,9 @@ use counting_word::{MARK, is_alone, is_marked};
 use std::alloc::{AllocError, Global};
 use std::marker::Model;
 
-/// A count of handles in one word, which its passes change by single atomic steps.
+/// A count of handles without a value, for threads that must agree who was the last: `count.end(&mut pass)`.
+///
+/// It is one word, changed by single atomic steps, whose replies form one legal history.
 ///
 /// Each call requires a pass of this count, and all but `meet` require that the pass owns a handle.
 ///

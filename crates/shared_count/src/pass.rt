@@ -7,11 +7,10 @@ use crate::ghost_types::View;
 use atomic_table::Seat;
 use std::marker::Model;
 
-/// The right to use a count, in one thread at a time. It owns some of the count's handles; one that is dropped leaves
-/// them counted for good.
+/// The right to use a count, in one thread at a time. It owns some of the count's handles. If it is dropped, they stay
+/// counted for good.
 ///
-/// To a contract it is the `count` that it is of, its `name`, which no other pass of that count has, and the history
-/// that it has `seen`.
+/// To a contract it is its `count`, its `name`, which no other pass of that count has, and the history that it has `seen`.
 #[derive(Drop)]
 pub struct CountPass {
     pub(crate) seat: Seat<(), View>,

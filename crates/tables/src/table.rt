@@ -14,7 +14,7 @@ use crate::slots::Slots;
 use handles::arc::Arc;
 use std::alloc::{AllocError, Global};
 
-/// Slots of `Arc`s.
+/// Slots of `Arc`s, for lists of commands on many handles: `table.run(alloc, commands)?`.
 pub type Table<T> = Slots<Arc<T>>;
 
 impl<T: Drop> Slots<Arc<T>> {

@@ -19,7 +19,7 @@ use tables::serve::{Serve, serve_all};
 use tables::slots::Slots;
 use tables::table::Reply;
 
-/// Slots of `ArcUnion`s, each a handle of one of two types.
+/// Slots of `ArcUnion`s, for lists of commands on handles of two types: `table.run(alloc, commands)?`.
 #[derive(Drop)]
 pub struct UnionTable<A, B> {
     handles: Slots<ArcUnion<A, B>>,

@@ -13,8 +13,7 @@ use thiserror::Error;
 
 /// The block has as many handles as its limit allows.
 ///
-/// Only a refused clone makes one: with it goes the log of the block up to the step that found the limit. It takes no
-/// bytes.
+/// Only a refused clone makes one, since its ghost log ends with the step that found the limit. It takes no bytes.
 #[derive(Debug, PartialEq, Eq, Error, Drop)]
 #[error("the handle limit is reached")]
 pub struct Full {

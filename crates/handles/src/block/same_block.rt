@@ -1,12 +1,11 @@
-// Whether two handles have one block. The language compares no addresses of two blocks, so this is observed: what is
-// added to the stamp through one handle is seen through the other, if they have one block.
+// Whether two handles have one block. The language does not compare addresses of two blocks, so this observes: what is
+// added to the stamp through one handle can be read through the other if they have one block.
 //
-// A stamp that stays as it is says that the blocks are two. One that moves by exactly what was added is a sign of one
-// block. If no other thread asks the same of either block meanwhile, nothing else can happen, and the answer is
-// exact. If one does, the answer may be wrong either way: what that thread adds may hide what was added here, or
-// look like it. So two signs have to come in a row, by amounts that differ. That makes a wrong `true` less likely, and
-// does not rule it out: two threads that compare two blocks from opposite ends in step see what one thread sees on one
-// block. More signs in a row make a wrong `false` of one block likelier, since each can be hidden.
+// If the stamp stays the same, there are two blocks. If it moves by exactly what was added, that is a sign of one block.
+// The answer is exact unless another thread compares one of the blocks at the same time: what that thread adds may hide
+// what was added here, or look like it. So two signs are needed in a row, by different amounts. That makes a wrong `true`
+// less likely, but two threads that compare two blocks from opposite ends in step see what one thread sees on one block.
+// More signs in a row would make a wrong `false` likelier, since each can be hidden.
 ghost use Rattle.std.specs.Prelude.{◌≡◌, false};
 
 use super::Handle;
@@ -14,7 +13,7 @@ use super::Handle;
 const MOST_ROUNDS: u8 = 64;
 
 impl<T> Handle<T> {
-    // It errs to `false` if other threads keep it from an answer through all rounds.
+    // If other threads spoil every round, it answers `false`.
     pub(crate) fn has_block_of(&self, other: &Handle<T>) -> bool
         requires { (self.now.sole ≡ false) × (other.now.sole ≡ false) }
     {

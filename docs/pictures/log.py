@@ -48,7 +48,8 @@ def drawn():
     steps = read(TRACE)
     left = right_edge(steps)
     right = left + WIDTH - 8
-    parts = [f'<text x="{left + 8}" y="20">log: handle, step</text>', f'<text x="{right}" y="20" text-anchor="end">leaves</text>']
+    parts = [f'<text x="{left + 8}" y="20">log: handle, step</text>']
+    parts.append(f'<text x="{right}" y="20" text-anchor="end">leaves</text>')
     for row, entry in enumerate(entries(steps)):
         y = TOP + ROW * row
         if entry:

@@ -23,8 +23,9 @@ const MOST_RAISES: u8 = 64;
 
 /// An atomically reference-counted pointer: its clones share one value, in one thread or in many.
 ///
-/// It reads as a `&T`. `make_mut` writes, in a copy if somebody else shares the value: `*Arc::make_mut(&mut a, alloc)? =
-/// 9`. When the last handle ends, the value is dropped and the block is freed, unless the block is marked.
+/// It reads as a `&T`. To write a number through it: `*Arc::make_mut(&mut a, alloc)? = 9`, which copies the value if
+/// somebody else shares it. When the last handle ends, the value is dropped and the block is freed, unless the block is
+/// marked.
 #[derive(Drop)]
 pub struct Arc<T> {
     pub(crate) handle: Handle<T>,
@@ -175,9 +176,9 @@ impl<T> Deref for Arc<T> {
     }
 }
 
-/// Makes one more handle, by at most 64 raises of the count. It takes no memory: `AllocError` means here that the block is
-/// at its limit, or that 64 raises in a row lost to other threads. The handle stays as it was. `Arc::clone(this, rt)` does
-/// not give up.
+/// Makes one more handle, by at most 64 raises of the count. It takes no memory: `AllocError` means here that the block
+/// is at its limit, or that 64 raises in a row lost to other threads. The handle stays as it was. `Arc::clone(this,
+/// rt)` does not give up.
 impl<T: Drop> Clone for Arc<T> {
     ghost is_clone = { λ a b. b ≡ a };
 

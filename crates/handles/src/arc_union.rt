@@ -13,8 +13,8 @@ use std::marker::Model;
 
 /// One of two handles, such as where a style comes from: a rule, or the element itself.
 ///
-/// Make it by `ArcUnion::from_first(rule)` or `from_second(inline)`, and match on what `borrow` returns. The two kinds stay
-/// apart even if their types are the same.
+/// Make it by `ArcUnion::from_first(rule)` or `from_second(inline)`, and match on what `borrow` returns. The two kinds
+/// stay apart even if their types are the same.
 #[derive(Drop)]
 pub struct ArcUnion<A, B> {
     handle: EitherArc<A, B>,

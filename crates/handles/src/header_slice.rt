@@ -24,8 +24,8 @@ pub type ThinArc<H, T> = Arc<HeaderSlice<H, T>>;
 
 /// A header and a fixed number of items, such as a rule and its declarations.
 ///
-/// Read `header`, `slice()` and `iter()`. Items are neither added nor removed. Only the builders of `Arc` and `UniqueArc`
-/// make one.
+/// Read `header`, `slice()` and `iter()`. Items are neither added nor removed. Only the builders of `Arc` and
+/// `UniqueArc` make one.
 pub struct HeaderSlice<H, T> {
     pub header: H,
     items: Items<T>,

@@ -10,7 +10,8 @@ use std::marker::Model;
 /// The right to use a count, in one thread at a time. It owns some of the count's handles. If it is dropped, they stay
 /// counted for good.
 ///
-/// To a contract it is its `count`, its `name`, which no other pass of that count has, and the history that it has `seen`.
+/// To a contract it is its `count`, its `name`, which no other pass of that count has, and the history that it has
+/// `seen`.
 #[derive(Drop)]
 pub struct CountPass {
     pub(crate) seat: Seat<(), View>,

@@ -1,11 +1,11 @@
 // Whether two handles have one block. The language does not compare addresses of two blocks, so this observes: what is
 // added to the stamp through one handle can be read through the other if they have one block.
 //
-// If the stamp stays the same, there are two blocks. If it moves by exactly what was added, that is a sign of one block.
-// The answer is exact unless another thread compares one of the blocks at the same time: what that thread adds may hide
-// what was added here, or look like it. So two signs are needed in a row, by different amounts. That makes a wrong `true`
-// less likely, but two threads that compare two blocks from opposite ends in step see what one thread sees on one block.
-// More signs in a row would make a wrong `false` likelier, since each can be hidden.
+// If the stamp stays the same, there are two blocks. If it moves by exactly what was added, that is a sign of one
+// block. The answer is exact unless another thread compares one of the blocks at the same time: what that thread adds
+// may hide what was added here, or look like it. So two signs are needed in a row, by different amounts. That makes a
+// wrong `true` less likely, but two threads that compare two blocks from opposite ends in step see what one thread sees
+// on one block. More signs in a row would make a wrong `false` likelier, since each can be hidden.
 ghost use Rattle.std.specs.Prelude.{◌≡◌, false};
 
 use super::Handle;

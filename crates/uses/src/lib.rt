@@ -20,5 +20,5 @@ pub mod stack;
 pub mod style;
 pub mod text_style;
 pub mod two_threads;
+pub mod two_versions;
 pub mod undo;
-pub mod versions;

@@ -5,7 +5,7 @@ use crate::support::{again, holds, ok, same};
 use servo_arc::Arc;
 use std::thread::Builder;
 use uses::edits::{Article, two_titles};
-use uses::stack::Stack;
+use trees::Stack;
 use uses::text_style::{
     TextStyle, plain_and_bold, plain_style, properties, properties_of, put_under, rule_of, size_of,
     styled,

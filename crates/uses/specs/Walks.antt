@@ -7,7 +7,7 @@ use Rattle.uses.specs.declared.recursive.by_arc.Node.{Node, fold-Node}
 use Rattle.uses.specs.declared.recursive.by_arc.Tree.{Tree, fold-Tree}
 use Rattle.uses.specs.declared.recursive.by_other_handles.Borrowing.{Borrowing, fold-Borrowing}
 use Rattle.uses.specs.declared.recursive.by_other_handles.FirstOfUnion.{FirstOfUnion, fold-FirstOfUnion}
-use Rattle.uses.specs.declared.recursive.by_other_handles.Rose.{Rose, fold-Rose}
+use Rattle.uses.specs.declared.recursive.by_other_handles.HeaderTree.{HeaderTree, fold-HeaderTree}
 use Rattle.uses.specs.declared.recursive.by_other_handles.Token.{Token, fold-Token}
 use Rattle.uses.specs.declared.recursive.by_other_handles.Unique.{Unique, fold-Unique}
 
@@ -33,8 +33,8 @@ abbrev pub token_values : Token → List ℕ
 token_values token = fold-Token (List ℕ) (λ t. t.value ∷ unwrap_or t.next []) token
 
 -- the headers from a tree down, by the first kid of each
-abbrev pub first_headers : Rose → List ℕ
-first_headers rose = fold-Rose (List ℕ) (λ r. r.kids.header ∷ unwrap_or (slice_get r.kids.items 0) []) rose
+abbrev pub first_headers : HeaderTree → List ℕ
+first_headers tree = fold-HeaderTree (List ℕ) (λ t. t.kids.header ∷ unwrap_or (slice_get t.kids.items 0) []) tree
 
 abbrev pub behind : Union (List ℕ) ℕ → List ℕ
 behind (First values) = values

@@ -1,12 +1,15 @@
 //! Handles that cross threads: each kind may be sent and lent, if its values may be both.
 ghost use Rattle.std.specs.Prelude.{◌≡◌, IfOk, IfErr, length};
 
+use crate::recursive::by_arc::Node;
+use crate::recursive::by_other_handles::{Borrowing, FirstOfUnion, HeaderTree, Token, Unique};
+use crate::recursive::by_static::Linked;
 use persistent::List;
 use servo_arc::{Arc, ArcBorrow, HeaderSlice, RawArc, StaticArc, ThinArc, ThinArcUnion, UniqueArc};
 use std::alloc::Global;
 use std::thread::{Threads, join};
 
-pub fn crosses_threads<T: Send + Sync>() {}
+fn crosses_threads<T: Send + Sync>() {}
 
 pub fn all_handles_cross_threads() {
     crosses_threads::<Arc<u64>>();
@@ -17,6 +20,17 @@ pub fn all_handles_cross_threads() {
     crosses_threads::<ThinArcUnion<u8, u32, u32, u64>>();
     crosses_threads::<ArcBorrow<'_, u32>>();
     crosses_threads::<StaticArc<'_, u64>>();
+}
+
+/// So may a type that leads back to itself, one for each kind of handle.
+pub fn all_recursive_types_cross_threads() {
+    crosses_threads::<Node>();
+    crosses_threads::<Unique>();
+    crosses_threads::<Token>();
+    crosses_threads::<FirstOfUnion>();
+    crosses_threads::<HeaderTree>();
+    crosses_threads::<Borrowing<'static>>();
+    crosses_threads::<Linked>();
 }
 
 /// Whether the handle is the only one, asked by a thread that it is lent to.

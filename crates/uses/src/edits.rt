@@ -1,4 +1,4 @@
-//! A change of a shared document through a trait of the caller's own.
+//! A change of a shared article through a trait of the caller's own.
 ghost use Rattle.std.specs.Prelude.{◌≡◌, ℕ, IfOk, IfErr};
 
 use servo_arc::Arc;
@@ -6,17 +6,17 @@ use std::alloc::{AllocError, Global};
 
 /// A body under its title. The body is shared by the copies that an edit makes.
 #[derive(Drop)]
-pub struct Document<T> {
+pub struct Article<T> {
     pub title: u64,
     pub body: Arc<T>,
 }
 
 /// One more handle of the body. It is refused as the `clone` of an `Arc` is.
-impl<T: Drop> Clone for Document<T> {
+impl<T: Drop> Clone for Article<T> {
     ghost is_clone = { λ a b. b ≡ a };
 
-    fn clone(&self) -> Result<Document<T>, AllocError> {
-        Ok(Document {
+    fn clone(&self) -> Result<Article<T>, AllocError> {
+        Ok(Article {
             title: self.title,
             body: self.body.clone()?,
         })
@@ -24,7 +24,7 @@ impl<T: Drop> Clone for Document<T> {
 }
 
 /// What has a title that can be changed.
-pub trait Edit {
+pub trait Retitle {
     ghost titled: { ℕ → Self → Self };
 
     /// Writes the title. Nothing has changed if it is refused.
@@ -33,9 +33,9 @@ pub trait Edit {
         ensures refused { IfErr result (λ _. self.new ≡ self.old) };
 }
 
-/// A document that nobody else shares is written in place, and any other in a copy.
-impl<T: Drop> Edit for Arc<Document<T>> {
-    ghost titled = { λ title document. record document { title = title } };
+/// An article that nobody else shares is written in place, and any other in a copy.
+impl<T: Drop> Retitle for Arc<Article<T>> {
+    ghost titled = { λ title article. record article { title = title } };
 
     fn set_title(&mut self, alloc: Global, title: u64) -> Result<(), AllocError> {
         Arc::make_mut(self, alloc)?.title = title;
@@ -43,16 +43,16 @@ impl<T: Drop> Edit for Arc<Document<T>> {
     }
 }
 
-/// The document, and the same under another title. The first is read after the change.
+/// The article, and the same under another title. The first is read after the change.
 pub fn two_titles<T: Drop>(
     alloc: Global,
-    document: Arc<Document<T>>,
+    article: Arc<Article<T>>,
     title: u64,
-) -> Result<(Arc<Document<T>>, Arc<Document<T>>), AllocError>
-    ensures old { IfOk result (λ documents. documents.0 ≡ document) }
-    ensures new { IfOk result (λ documents. documents.1 ≡ record document { title = title }) }
+) -> Result<(Arc<Article<T>>, Arc<Article<T>>), AllocError>
+    ensures old { IfOk result (λ articles. articles.0 ≡ article) }
+    ensures new { IfOk result (λ articles. articles.1 ≡ record article { title = title }) }
 {
-    let mut changed = document.clone()?;
+    let mut changed = article.clone()?;
     changed.set_title(alloc, title)?;
-    Ok((document, changed))
+    Ok((article, changed))
 }

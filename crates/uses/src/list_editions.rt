@@ -11,13 +11,13 @@ const WRITTEN: u64 = 8;
 
 /// A version with its number, which is also its first item.
 #[derive(Drop)]
-pub struct Edition {
+pub struct ListEdition {
     pub number: u64,
     pub items: CowTable<u64>,
     ghost numbered: { slice_get items 0 ≡ Some number },
 }
 
-impl Edition {
+impl ListEdition {
     /// Known by the type, on whichever thread it is read.
     pub fn has_its_number(&self) -> bool
         ensures { IsTrue result }
@@ -44,7 +44,7 @@ pub fn publish(
     alloc: Global,
     mut items: CowTable<u64>,
     editions: u64,
-    readers: &[Sender<Edition, Global>],
+    readers: &[Sender<ListEdition, Global>],
 ) -> Result<(), SetError> {
     for number in 1..=editions {
         items.set(alloc, (number % WRITTEN) as usize, number)?;
@@ -56,17 +56,21 @@ pub fn publish(
     Ok(())
 }
 
-fn numbered(items: &mut CowTable<u64>, alloc: Global, number: u64) -> Result<Edition, SetError> {
+fn numbered(
+    items: &mut CowTable<u64>,
+    alloc: Global,
+    number: u64,
+) -> Result<ListEdition, SetError> {
     items.set(alloc, 0, number)?;
     let version: CowTable<u64> = items.clone()?;
-    Ok(Edition {
+    Ok(ListEdition {
         number,
         items: version,
     })
 }
 
 /// Reads editions until no more come. Returns how many came, if each was as it was published.
-pub fn read_all(rt: &impl Wait, editions: Receiver<Edition, Global>) -> Option<u64> {
+pub fn read_all(rt: &impl Wait, editions: Receiver<ListEdition, Global>) -> Option<u64> {
     let mut read = 0u64;
     for edition in editions.iter(rt) {
         if !edition.has_its_number() || !edition.is_as_published() {

@@ -13,13 +13,13 @@ const KEYS: u64 = 8;
 
 /// A version with its number.
 #[derive(Drop)]
-pub struct Edition {
+pub struct MapEdition {
     pub number: u64,
     pub map: TreeMap<u64, u64>,
     ghost numbered: { lookup nat_cmp 0 map ≡ Some number },
 }
 
-impl Edition {
+impl MapEdition {
     /// Known by the type, on whichever thread it is read.
     pub fn has_its_number(&self) -> bool
         ensures { IsTrue result }
@@ -48,7 +48,7 @@ pub fn publish(
     rt: &impl Wait,
     alloc: Global,
     editions: u64,
-    readers: &[Sender<Edition, Global>],
+    readers: &[Sender<MapEdition, Global>],
 ) -> Result<(), AllocError> {
     let mut map = TreeMap::new();
     for number in 1..=editions {
@@ -61,14 +61,14 @@ pub fn publish(
     Ok(())
 }
 
-fn numbered(map: &TreeMap<u64, u64>, alloc: Global, number: u64) -> Result<Edition, AllocError> {
+fn numbered(map: &TreeMap<u64, u64>, alloc: Global, number: u64) -> Result<MapEdition, AllocError> {
     let mut map: TreeMap<u64, u64> = map.clone()?;
     map.insert(alloc, 0, number)?;
-    Ok(Edition { number, map })
+    Ok(MapEdition { number, map })
 }
 
 /// Reads editions until no more come. Returns how many came, if each was as it was published.
-pub fn read_all(rt: &impl Wait, editions: Receiver<Edition, Global>) -> Option<u64> {
+pub fn read_all(rt: &impl Wait, editions: Receiver<MapEdition, Global>) -> Option<u64> {
     let mut read = 0u64;
     for edition in editions.iter(rt) {
         if !edition.has_its_number() || !edition.is_as_published() {

@@ -8,17 +8,17 @@ use std::alloc::{AllocError, Global};
 
 /// How a run of text looks.
 #[derive(Clone, Debug, PartialEq, Drop)]
-pub struct Style {
+pub struct TextStyle {
     pub size: u32,
     pub is_bold: bool,
 }
 
 /// A style that is written first and then shared. If there is no memory for it, the empty style comes back.
-pub fn plain_style(alloc: Global, size: u32) -> Result<Arc<Style>, Style>
+pub fn plain_style(alloc: Global, size: u32) -> Result<Arc<TextStyle>, TextStyle>
     ensures made { IfOk result (λ style. style ≡ record { size = size; is_bold = false }) }
     ensures refused { IfErr result (λ style. style ≡ record { size = 0; is_bold = false }) }
 {
-    let empty = Style {
+    let empty = TextStyle {
         size: 0,
         is_bold: false,
     };
@@ -28,7 +28,7 @@ pub fn plain_style(alloc: Global, size: u32) -> Result<Arc<Style>, Style>
 }
 
 /// The bold form of a style, in a block of its own. Who shares the given style still sees it as it was.
-pub fn with_bold(alloc: Global, style: &Arc<Style>) -> Result<Arc<Style>, AllocError>
+pub fn with_bold(alloc: Global, style: &Arc<TextStyle>) -> Result<Arc<TextStyle>, AllocError>
     ensures { IfOk result (λ bold. bold ≡ record style.now { is_bold = true }) }
 {
     let mut bold = style.clone()?;
@@ -37,7 +37,10 @@ pub fn with_bold(alloc: Global, style: &Arc<Style>) -> Result<Arc<Style>, AllocE
 }
 
 /// A style beside its bold form.
-pub fn plain_and_bold(alloc: Global, size: u32) -> Result<(Arc<Style>, Arc<Style>), AllocError>
+pub fn plain_and_bold(
+    alloc: Global,
+    size: u32,
+) -> Result<(Arc<TextStyle>, Arc<TextStyle>), AllocError>
     ensures plain { IfOk result (λ styles. styles.0 ≡ record { size = size; is_bold = false }) }
     ensures bold { IfOk result (λ styles. styles.1 ≡ record { size = size; is_bold = true }) }
 {
@@ -49,7 +52,7 @@ pub fn plain_and_bold(alloc: Global, size: u32) -> Result<(Arc<Style>, Arc<Style
 }
 
 /// The size of a style that is borrowed.
-pub fn size_of(style: ArcBorrow<'_, Style>) -> u32
+pub fn size_of(style: ArcBorrow<'_, TextStyle>) -> u32
     ensures { result ≡ (borrowed style.entry).size }
 {
     style.get().size
@@ -58,10 +61,10 @@ pub fn size_of(style: ArcBorrow<'_, Style>) -> u32
 /// Letters under their style. They are refused for want of memory, or if the iterator does not give just `number`.
 pub fn styled<I: Iterator<Item = char>>(
     alloc: Global,
-    style: Style,
+    style: TextStyle,
     letters: I,
     number: usize,
-) -> Result<ThinArc<Style, char>, BuildError>
+) -> Result<ThinArc<TextStyle, char>, BuildError>
     requires { I.can_next letters }
     ensures built { IfOk result (λ text. IsBuilt I.next_gives letters number style text) }
     ensures refused { IfErr result (Refuses I.next_gives letters number) }

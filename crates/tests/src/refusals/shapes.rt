@@ -4,7 +4,7 @@ use crate::support::counted::{Counted, Tally};
 use crate::support::{again, ok, same};
 use servo_arc::{Arc, ArcUnion};
 use std::alloc::{AllocError, Global};
-use uses::rose::{Rose, RoseError};
+use trees::{Rose, RoseError};
 use uses::style::{Declared, Inline, Style};
 
 // 1 over 2 and 3.

@@ -4,10 +4,10 @@ use crate::support::counted::{Counted, Tally};
 use crate::support::{again, holds, ok, same};
 use servo_arc::Arc;
 use std::thread::Builder;
-use uses::edits::{Document, two_titles};
-use uses::stack::Stack;
+use uses::edits::{Article, two_titles};
+use trees::Stack;
 use uses::text_style::{
-    Style, plain_and_bold, plain_style, properties, properties_of, put_under, rule_of, size_of,
+    TextStyle, plain_and_bold, plain_style, properties, properties_of, put_under, rule_of, size_of,
     styled,
 };
 
@@ -23,7 +23,7 @@ fn a_bold_style_leaves_the_plain_one(rt: HostRuntime) {
 
 #[test]
 fn letters_stand_under_their_style(rt: HostRuntime) {
-    let style = Style {
+    let style = TextStyle {
         size: 12,
         is_bold: false,
     };
@@ -78,7 +78,7 @@ fn a_tall_stack_ends_on_a_small_one(rt: HostRuntime) {
 #[test]
 fn a_new_title_leaves_the_old_document(rt: HostRuntime) {
     let body = ok!(&rt, Arc::new(rt.alloc(), 7u32));
-    let document = ok!(&rt, Arc::new(rt.alloc(), Document { title: 1, body }));
+    let document = ok!(&rt, Arc::new(rt.alloc(), Article { title: 1, body }));
     let (old, new) = ok!(&rt, two_titles(rt.alloc(), document, 2));
     let is_shared = Arc::ptr_eq(&old.body, &new.body);
     same!(&rt, (old.title, new.title, is_shared), (1, 2, true));

@@ -5,9 +5,9 @@ use servo_arc::{Arc, ArcUnion};
 use std::alloc::{AllocError, Global};
 use std::thread::Builder;
 use uses::documents::{Document, Edit, Part, apply};
-use uses::rose::Rose;
+use trees::Rose;
 use uses::style::{Declared, Inline, Style};
-use uses::undo::Undo;
+use trees::Undo;
 
 fn name(alloc: Global, text: &str) -> Result<Arc<String>, AllocError> {
     Ok(Arc::try_new(alloc, String::from_str(alloc, text)?)?)

@@ -2,7 +2,7 @@
 use crate::support::counted::{Counted, Tally};
 use crate::support::{holds, ok, same, same_at};
 use std::alloc::{AllocError, Global};
-use uses::rose::{Rose, RoseError};
+use trees::{Rose, RoseError};
 
 fn leaf<'a>(alloc: Global, tally: &'a Tally, value: u64) -> Result<Rose<Counted<'a>>, AllocError> {
     Rose::leaf(alloc, Counted::new(tally, value))

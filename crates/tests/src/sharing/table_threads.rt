@@ -6,11 +6,11 @@ use cow_table::CowTable;
 use crossbeam_channel::{Receiver, Sender, unbounded};
 use std::alloc::{AllocError, Global};
 use std::thread;
-use uses::list_editions::{Edition, publish, read_all};
+use uses::list_editions::{ListEdition, publish, read_all};
 
 const EDITIONS: u64 = 1000;
 
-type Ends = (Sender<Edition, Global>, Receiver<Edition, Global>);
+type Ends = (Sender<ListEdition, Global>, Receiver<ListEdition, Global>);
 
 fn channel(alloc: Global) -> Result<Ends, AllocError> {
     unbounded(alloc)

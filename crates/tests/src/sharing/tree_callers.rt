@@ -3,9 +3,9 @@ use crate::support::{ok, same};
 use persistent::TreeMap;
 use servo_arc::Arc;
 use uses::restyle;
-use uses::rose::Rose;
+use trees::Rose;
 use uses::style::{Declared, Inline};
-use uses::versions::{before_and_after, two_lists};
+use uses::two_versions::{before_and_after, two_lists};
 
 #[test]
 fn callers_make_both_versions(rt: HostRuntime) {

@@ -8,11 +8,11 @@ use std::alloc::{AllocError, Global};
 use std::process::Abort;
 use std::sync::atomic::AtomicU64;
 use std::thread;
-use uses::map_editions::{Edition, publish, read_all};
+use uses::map_editions::{MapEdition, publish, read_all};
 
 const EDITIONS: u64 = 1000;
 
-type Ends = (Sender<Edition, Global>, Receiver<Edition, Global>);
+type Ends = (Sender<MapEdition, Global>, Receiver<MapEdition, Global>);
 
 fn channel(alloc: Global) -> Result<Ends, AllocError> {
     unbounded(alloc)

@@ -27,8 +27,8 @@ pub struct FirstOfUnion {
 }
 
 #[derive(Drop, Debug, Clone, PartialEq, Eq)]
-pub struct Rose {
-    pub kids: ThinArc<u32, Rose>,
+pub struct HeaderTree {
+    pub kids: ThinArc<u32, HeaderTree>,
 }
 
 #[derive(Debug, Clone, Copy, PartialEq, Eq, PartialOrd, Ord, Hash)]

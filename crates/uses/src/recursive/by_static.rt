@@ -21,9 +21,9 @@ pub struct Named<'a> {
 
 /// The toolchain proves no derived `Debug` or `==` of this one, as it does where an `Arc` leads back.
 #[derive(Drop)]
-pub struct Generic<'a, T> {
+pub struct StaticGeneric<'a, T> {
     pub value: T,
-    pub next: Option<StaticArc<'a, Generic<'a, T>>>,
+    pub next: Option<StaticArc<'a, StaticGeneric<'a, T>>>,
 }
 
 #[derive(Drop)]

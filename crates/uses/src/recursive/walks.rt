@@ -6,7 +6,7 @@ ghost use Rattle.uses.specs.Walks.{unique_values, values, with_last};
 ghost use Rattle.uses.specs.declared.recursive.by_arc.Node.{out-Node};
 
 use super::by_arc::{Node, Tree};
-use super::by_other_handles::{Borrowing, FirstOfUnion, Rose, Token, Unique};
+use super::by_other_handles::{Borrowing, FirstOfUnion, HeaderTree, Token, Unique};
 use servo_arc::{Arc, ArcUnionBorrow};
 use std::alloc::{AllocError, Global};
 
@@ -59,11 +59,11 @@ pub fn set_last(unique: &mut Unique, value: u32)
 }
 
 /// The number of headers from this tree down, by the first kid of each.
-pub fn first_depth(rose: &Rose) -> usize
-    requires { length (first_headers rose.now) < 2 ^ 64 }
-    ensures { result ≡ length (first_headers rose.now) }
+pub fn first_depth(tree: &HeaderTree) -> usize
+    requires { length (first_headers tree.now) < 2 ^ 64 }
+    ensures { result ≡ length (first_headers tree.now) }
 {
-    match rose.kids.slice().first() {
+    match tree.kids.slice().first() {
         None => 1,
         Some(kid) => first_depth(kid) + 1,
     }

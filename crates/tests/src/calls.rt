@@ -3,19 +3,14 @@
 
 mod by_bound;
 mod by_value;
-mod core_steps;
 mod drop_order;
 mod header_slices;
 mod iterators;
 mod laws;
 mod limits;
-mod list_makers;
-mod long_lists;
 mod one_thread;
 mod pages;
 mod put;
-mod replies;
-mod reporting;
 mod same_blocks;
 mod script_runs;
 mod sizes;

@@ -1,10 +1,10 @@
-// Calls on two handles of one block, whose value counts its copies and drops.
+//! Calls on two handles of one block, whose value counts its copies and drops.
 use self::Call::{
     End, GetMut, IntoInner, IntoUnique, IsStatic, IsUnique, MakeMut, Mark, PtrEq, Reads,
 };
 use self::Who::{A, B};
 use crate::support::counted::{Counted, Tally};
-use crate::support::{again, ok, same, same_at};
+use crate::support::{again, ok, same_at};
 use servo_arc::Arc;
 use std::alloc::Global;
 use std::process::Abort;

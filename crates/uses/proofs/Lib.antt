@@ -1,4 +1,2 @@
-pub mod Preorder
 pub mod ReadBack
-pub mod Roses
 pub mod TwoPasses

@@ -6,10 +6,10 @@ use Rattle.servo_arc.specs.Unions.{Union}
 use Rattle.uses.specs.declared.documents.Edit.{Edit}
 use Rattle.uses.specs.declared.documents.Edit.TheVariants.{Rename, Restyle, Insert, Remove}
 use Rattle.uses.specs.declared.documents.Part.{Part}
-use Rattle.uses.specs.declared.rose.Rose.{Rose}
+use Rattle.trees.specs.declared.rose.Rose.{Rose}
 use Rattle.uses.specs.declared.style.Rule.{Rule}
 use Rattle.uses.specs.declared.style.Inline.{Inline}
-use Rattle.uses.specs.Roses.{at, root, with_inserted, with_value, without}
+use Rattle.trees.specs.Roses.{at, root, with_inserted, with_value, without}
 use Rattle.uses.specs.Styles.{cascaded}
 
 -- the tree with the change made of a part

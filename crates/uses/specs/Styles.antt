@@ -6,8 +6,8 @@ use Rattle.uses.specs.declared.style.Declared.{Declared}
 use Rattle.uses.specs.declared.style.Rule.{Rule}
 use Rattle.uses.specs.declared.style.Inline.{Inline}
 use Rattle.uses.specs.declared.style.Style.{Style}
-use Rattle.uses.specs.declared.rose.Rose.{Rose}
-use Rattle.uses.specs.Roses.{at, root, with_value}
+use Rattle.trees.specs.declared.rose.Rose.{Rose}
+use Rattle.trees.specs.Roses.{at, root, with_value}
 
 -- what a source declares, of whichever kind it is
 abbrev pub declared : Union Rule Inline → Declared

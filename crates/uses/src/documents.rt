@@ -1,13 +1,12 @@
 //! A document with undo: a tree of named parts. A change makes a version, which shares all parts that it left alone.
 ghost use Rattle.std.specs.Prelude.{◌≡◌, ◌↔◌, ◌∷◌, ◌++◌, [], Err, None, Some, IfOk, OnErr, OnOk};
 ghost use Rattle.uses.specs.Documents.{edited, renamed, restyled};
-ghost use Rattle.uses.specs.declared.rose.RoseError.TheVariants.{NoSuchPlace};
+ghost use Rattle.trees.specs.declared.rose.RoseError.TheVariants.{NoSuchPlace};
 
-use crate::rose::{Rose, RoseError};
 use crate::style::{Source, Style};
-use crate::undo::Undo;
 use servo_arc::Arc;
 use std::alloc::{AllocError, Global};
+use trees::{Rose, RoseError, Undo};
 
 /// What stands at a place of a document. The name is text behind an `Arc`: a copy has the same text, by contract, and
 /// takes no memory.
@@ -82,7 +81,7 @@ fn edited(
     }
 }
 
-#[tactic(auto, using(crate::proofs::Roses::setting))]
+#[tactic(auto, using(trees::proofs::Roses::setting))]
 fn renamed(
     alloc: Global,
     tree: &Rose<Part>,
@@ -97,7 +96,7 @@ fn renamed(
     tree.with_value(alloc, path, Part { name, style })
 }
 
-#[tactic(auto, using(crate::proofs::Roses::setting))]
+#[tactic(auto, using(trees::proofs::Roses::setting))]
 fn restyled(
     alloc: Global,
     tree: &Rose<Part>,

@@ -1,14 +1,14 @@
 //! Callers that make two versions of a rose tree or a style and read both: the old one stays as it was, by contract.
 ghost use Rattle.std.specs.Prelude.{◌≡◌, ◌≢◌, ◌↔◌, [], Err, None, Some, IfOk};
 ghost use Rattle.servo_arc.specs.Unions.{Second};
-ghost use Rattle.uses.specs.Roses.{at, branch, root};
+ghost use Rattle.trees.specs.Roses.{at, branch, root};
 ghost use Rattle.uses.specs.Styles.{cascaded, initial, restyled};
-ghost use Rattle.uses.specs.declared.rose.RoseError.TheVariants.{NoSuchPlace};
+ghost use Rattle.trees.specs.declared.rose.RoseError.TheVariants.{NoSuchPlace};
 
-use crate::rose::{Rose, RoseError};
 use crate::style::{Inline, Source, Style};
 use servo_arc::Arc;
 use std::alloc::{AllocError, Global};
+use trees::{Rose, RoseError};
 
 /// A tree of one value, and the tree with another.
 pub fn two_leaves(alloc: Global) -> Result<(Rose<u64>, Rose<u64>), RoseError>
@@ -43,7 +43,7 @@ pub fn two_styles(alloc: Global, inline: Arc<Inline>) -> Result<(Style, Style), 
 }
 
 /// The tree of elements in which the one at the path takes what the source says.
-#[tactic(auto, using(crate::proofs::Roses::setting))]
+#[tactic(auto, using(trees::proofs::Roses::setting))]
 pub fn restyle(
     alloc: Global,
     tree: &Rose<Style>,

@@ -3,7 +3,7 @@ use crate::refusals::reporting::report;
 use crate::support::counted::{Counted, Tally};
 use crate::support::same;
 use std::alloc::{AllocError, Global};
-use uses::rose::{Rose, RoseError};
+use trees::{Rose, RoseError};
 
 // 1 over 2 and 3.
 fn three<'a>(alloc: Global, tally: &'a Tally) -> Result<Rose<Counted<'a>>, AllocError> {

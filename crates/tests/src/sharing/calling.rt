@@ -6,10 +6,10 @@ use persistent::List;
 use servo_arc::Arc;
 use std::sync::Mutex;
 use std::thread::Builder;
+use trees::Stack;
 use uses::crossing::{end_elsewhere, is_unique_elsewhere, len_elsewhere, made_elsewhere};
 use uses::edits::{Article, two_titles};
 use uses::fonts::{FontCache, in_four_threads, shared_font};
-use uses::stack::Stack;
 use uses::text_style::{
     TextStyle, plain_and_bold, plain_style, properties, properties_of, put_under, rule_of, size_of,
     styled,

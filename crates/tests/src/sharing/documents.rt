@@ -5,10 +5,9 @@ use crate::support::{ok, same};
 use servo_arc::{Arc, ArcUnion};
 use std::alloc::{AllocError, Global};
 use std::thread::Builder;
+use trees::{Rose, Undo};
 use uses::documents::{Document, Edit, Part, apply};
-use uses::rose::Rose;
 use uses::style::{Declared, Inline, Style};
-use uses::undo::Undo;
 
 fn name(alloc: Global, text: &str) -> Result<Arc<String>, AllocError> {
     Ok(Arc::try_new(alloc, String::from_str(alloc, text)?)?)

@@ -2,7 +2,7 @@
 use crate::support::counted::{Counted, Tally};
 use crate::support::{holds, ok, same, same_at};
 use std::alloc::{AllocError, Global};
-use uses::rose::{Rose, RoseError};
+use trees::{Rose, RoseError};
 
 fn leaf<'a>(alloc: Global, tally: &'a Tally, value: u64) -> Result<Rose<Counted<'a>>, AllocError> {
     Rose::leaf(alloc, Counted::new(tally, value))
@@ -68,4 +68,15 @@ fn there_is_no_place_outside_the_tree(rt: HostRuntime) {
     let new = old.with_value(rt.alloc(), &[1, 2], Counted::new(&tally, 9));
     holds!(&rt, matches!(new, Err(RoseError::NoSuchPlace)));
     same!(&rt, (tally.copies(), tally.drops()), (0, 1));
+}
+
+#[test]
+fn errors_have_their_texts(rt: HostRuntime) {
+    let alloc = rt.alloc();
+    for (error, text) in [
+        (RoseError::NoSuchPlace, "no such place"),
+        (RoseError::Memory, "out of memory"),
+    ] {
+        same!(&rt, ok!(&rt, format!(in alloc; "{error}")).as_str(), text);
+    }
 }

@@ -23,7 +23,7 @@ impl<T> Model for Stack<T> {
 
     ghost Value = { List T };
 
-    ghost use Rattle.uses.specs.Stacks.{items};
+    ghost use Rattle.trees.specs.Stacks.{items};
 
     ghost view = { λ s. items s.top };
 }

@@ -1,7 +1,7 @@
 //! Undo and redo of any value, whose versions are kept as they were.
 ghost use Rattle.std.specs.Prelude.{◌≡◌, ◌↔◌, ◌<◌, ◌∷◌, ◌++◌, [], IfOk, IsTrue, OnErr, OnOk, length};
 ghost use Rattle.std.specs.Bool.{OnFalse, OnTrue};
-ghost use Rattle.uses.specs.Versions.{IsUndone};
+ghost use Rattle.trees.specs.Versions.{IsUndone};
 
 use std::alloc::{AllocError, Global};
 use std::marker::Model;
@@ -16,7 +16,7 @@ pub struct Undo<T> {
 }
 
 impl<T> Model for Undo<T> {
-    ghost use Rattle.uses.specs.Versions.{Versions};
+    ghost use Rattle.trees.specs.Versions.{Versions};
 
     ghost Value = { Versions T };
 

@@ -1,6 +1,6 @@
 use Rattle.std.proofs.Common.{ap, arith}
-use Rattle.uses.proofs.Preorder.{count, count-push, count-extended}
-use Rattle.uses.proofs.rose.Rose.end.Goals as goal
+use Rattle.trees.proofs.Preorder.{count, count-push, count-extended}
+use Rattle.trees.proofs.rose.Rose.end.Goals as goal
 
 pub loop-tree-smaller : goal.loop-tree-smaller
 loop-tree-smaller g c =

@@ -1,6 +1,6 @@
 //! All values of a tree, and its end, by loops over what is left to be seen.
 ghost use Rattle.std.specs.Prelude.{◌≡◌, IfOk, map};
-ghost use Rattle.uses.specs.Roses.{preorder};
+ghost use Rattle.trees.specs.Roses.{preorder};
 
 use super::Rose;
 use servo_arc::Arc;

@@ -1,8 +1,8 @@
 -- What was seen and what is still to be seen are all values; each turn sees one or ends a list.
 use Rattle.std.proofs.Common.{◌≡◌, ◌++◌, ◌+◌, ◌*◌, length, map}
-use Rattle.uses.specs.Roses.{preorder}
-use Rattle.uses.proofs.Preorder.{to_see}
-use Rattle.uses.proofs.rose.Rose.values.Given as goal
+use Rattle.trees.specs.Roses.{preorder}
+use Rattle.trees.proofs.Preorder.{to_see}
+use Rattle.trees.proofs.rose.Rose.values.Given as goal
 
 abbrev pub invariant-loop-trees : goal.invariant-loop-trees
 invariant-loop-trees g l =

@@ -2,8 +2,8 @@
 use Rattle.std.proofs.Common.{◌≡◌, ℕ, List, [], ◌∷◌, refl, ap, arith}
 use Rattle.std.specs.Prelude.{Option, None, Some, slice_get}
 use Rattle.std.specs.Option.{option_map, option_and_then}
-use Rattle.uses.specs.declared.rose.Rose.{Rose}
-use Rattle.uses.specs.Roses.{at, children, with_child, with_value}
+use Rattle.trees.specs.declared.rose.Rose.{Rose}
+use Rattle.trees.specs.Roses.{at, children, with_child, with_value}
 
 none_mapped : {A B : Type 0} (f : A → B) (o : Option A) → option_map f o ≡ None → o ≡ None
 none_mapped f None is = refl

@@ -1,6 +1,6 @@
 -- What the top of a stack is seen as.
 use Rattle.std.specs.Prelude.{List, [], ◌∷◌, Option, None, Some, unwrap_or}
-use Rattle.uses.specs.declared.stack.Node.{Node, fold-Node}
+use Rattle.trees.specs.declared.stack.Node.{Node, fold-Node}
 
 -- the items from a node down
 abbrev pub items_of : {T : Type 0} → Node T → List T

@@ -1,7 +1,7 @@
 use Rattle.std.proofs.Common.{ap, sym, ◌∙◌, ◌++◌, map, rules}
-use Rattle.uses.specs.Roses.{preorder, root}
-use Rattle.uses.proofs.Preorder.{to_see, to_see-same, fewer_lists, to_see-root, fewer_values, seen-more}
-use Rattle.uses.proofs.rose.Rose.values.Goals as goal
+use Rattle.trees.specs.Roses.{preorder, root}
+use Rattle.trees.proofs.Preorder.{to_see, to_see-same, fewer_lists, to_see-root, fewer_values, seen-more}
+use Rattle.trees.proofs.rose.Rose.values.Goals as goal
 
 pub loop-trees-preserved-in_default-split_first : goal.loop-trees-preserved-in_default-split_first
 loop-trees-preserved-in_default-split_first g c =

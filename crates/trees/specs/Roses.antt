@@ -3,7 +3,7 @@ use Rattle.std.specs.Prelude.{ℕ, List, [], ◌∷◌, Option, None, Some, if�
 use Rattle.std.specs.Prelude.{remove, set, slice_get}
 use Rattle.std.specs.List.{flat_map}
 use Rattle.std.specs.Option.{option_map, option_and_then}
-use Rattle.uses.specs.declared.rose.Rose.{Rose, fold-Rose, out-Rose, roll-Rose}
+use Rattle.trees.specs.declared.rose.Rose.{Rose, fold-Rose, out-Rose, roll-Rose}
 
 abbrev pub root : {V : Type 0} → Rose V → V
 root {V} tree = (out-Rose V tree).node.header

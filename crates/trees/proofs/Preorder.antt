@@ -6,8 +6,8 @@ use Rattle.std.specs.Prelude.{Result, Ok, Err, OnOk, OnErr}
 use Rattle.std.specs.List.{flat_map, AppendsClones, each_same}
 use Rattle.std.proofs.lemmas.List.Folds.{flat_map-map}
 use Rattle.std.proofs.lemmas.List.Concat.{flat_map-append}
-use Rattle.uses.specs.declared.rose.Rose.{Rose, fold_out-Rose}
-use Rattle.uses.specs.Roses.{children, preorder, root}
+use Rattle.trees.specs.declared.rose.Rose.{Rose, fold_out-Rose}
+use Rattle.trees.specs.Roses.{children, preorder, root}
 
 module _ {V : Type 0} where
   pub preorder_out : (tree : Rose V) → preorder tree ≡ root tree ∷ flat_map preorder (children tree)

@@ -1,7 +1,7 @@
 //! A tree of any number of children, whose versions share their branches.
 ghost use Rattle.std.specs.Prelude.{◌≡◌, [], Some, IfOk, slice_get};
 ghost use Rattle.std.specs.Option.{option_copied};
-ghost use Rattle.uses.specs.Roses.{at, branch, children, root};
+ghost use Rattle.trees.specs.Roses.{at, branch, children, root};
 
 mod change;
 mod walk;
@@ -33,7 +33,7 @@ pub enum RoseError {
 }
 
 impl From<AllocError> for RoseError {
-    ghost use Rattle.uses.specs.declared.rose.RoseError.TheVariants.{Memory};
+    ghost use Rattle.trees.specs.declared.rose.RoseError.TheVariants.{Memory};
 
     ghost from_gives = { λ _ error. error ≡ Memory };
 

@@ -1,0 +1,4 @@
+pub mod Changes
+pub mod Roses
+pub mod Stacks
+pub mod Versions

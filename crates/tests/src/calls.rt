@@ -1,5 +1,4 @@
-//! Tests of the word, the core, the handles and what stands on them, in one thread and through `servo_arc`, and of the
-//! scripts of `arcbench`: what no contract says.
+//! Tests in one thread, of handles and of what stands on them, and of the scripts of `arcbench`.
 
 mod by_bound;
 mod by_value;

@@ -1,6 +1,5 @@
-//! Tests of what is shared. Threads share one block or one count: clones, drops, marks, writes and tokens against each
-//! other. Versions of `cow_table` and `persistent` share pages and nodes, as do the callers in `uses`: what no
-//! contract says.
+//! Tests of what is shared: by threads that clone, drop, mark and write one block or one count, and by versions of lists,
+//! maps and trees, as callers in `uses` make them.
 
 mod alone_again;
 mod calling;

@@ -1,7 +1,5 @@
 //! Blocks with a limit of their own: each way to make one more handle stops there, and each way that a handle goes
 //! keeps it.
-ghost use Rattle.servo_arc.specs.CountingWord.{IsLimit};
-
 use crate::support::{again, ok, same, same_at};
 use servo_arc::word::MAX_REFCOUNT;
 use servo_arc::{Arc, ArcUnion, ThinArc, UniqueArc};
@@ -9,21 +7,13 @@ use std::alloc::{AllocError, Global};
 use std::process::Abort;
 use std::sync::Wait;
 
-fn limited(alloc: Global, limit: u64) -> Result<Arc<u64>, AllocError>
-    requires { IsLimit limit }
-{
-    Arc::new_with_limit(alloc, 5u64, limit)
-        .ok()
-        .ok_or(AllocError)
-}
-
 fn is_full(handle: &Arc<u64>, rt: &impl Wait) -> bool {
     Arc::clone(handle, rt).is_err() && handle.clone().is_err()
 }
 
 #[test]
 fn a_third_handle_waits_for_a_drop(rt: HostRuntime) {
-    let a = ok!(&rt, limited(rt.alloc(), 2));
+    let a = ok!(&rt, Arc::new_with_limit(rt.alloc(), 5u64, 2));
     let b = again!(&rt, &a);
     let refused = a.borrow_arc().clone_arc(&rt).is_err();
     let seen = (is_full(&a, &rt), is_full(&b, &rt), refused);
@@ -35,7 +25,7 @@ fn a_third_handle_waits_for_a_drop(rt: HostRuntime) {
 
 #[test]
 fn the_only_handle_of_a_limit_of_one_writes(rt: HostRuntime) {
-    let mut a = ok!(&rt, limited(rt.alloc(), 1));
+    let mut a = ok!(&rt, Arc::new_with_limit(rt.alloc(), 5u64, 1));
     let was_full = is_full(&a, &rt);
     if let Some(value) = Arc::get_mut(&mut a) {
         *value = 6;
@@ -48,7 +38,7 @@ fn the_only_handle_of_a_limit_of_one_writes(rt: HostRuntime) {
 
 #[test]
 fn a_copied_block_keeps_the_limit(rt: HostRuntime) {
-    let mut a = ok!(&rt, limited(rt.alloc(), 2));
+    let mut a = ok!(&rt, Arc::new_with_limit(rt.alloc(), 5u64, 2));
     let b = again!(&rt, &a);
     *ok!(&rt, Arc::make_mut(&mut a, rt.alloc())) = 9;
     for (handle, value) in [(&a, 9), (&b, 5)] {
@@ -59,7 +49,7 @@ fn a_copied_block_keeps_the_limit(rt: HostRuntime) {
 
 #[test]
 fn tokens_count_to_the_limit(rt: HostRuntime) {
-    let raw = Arc::into_raw(ok!(&rt, limited(rt.alloc(), 2)));
+    let raw = Arc::into_raw(ok!(&rt, Arc::new_with_limit(rt.alloc(), 5u64, 2)));
     let first = Arc::from_raw_addrefed(&raw, &rt);
     let second = Arc::from_raw_addrefed(&raw, &rt);
     let kept = Arc::from_raw(raw);
@@ -134,7 +124,10 @@ fn after(alloc: Global, way: Way, handle: Arc<u64>) -> Result<Arc<u64>, AllocErr
 fn each_way_keeps_each_limit(rt: HostRuntime) {
     for limit in LIMITS {
         for (name, way) in WAYS {
-            let handle = ok!(&rt, limited(rt.alloc(), limit.clamp(1, MAX_REFCOUNT)));
+            let handle = ok!(
+                &rt,
+                Arc::new_with_limit(rt.alloc(), 5u64, limit.clamp(1, MAX_REFCOUNT))
+            );
             let handle = ok!(&rt, after(rt.alloc(), way, handle));
             let handles = counted(rt.alloc(), &handle);
             same_at!(&rt, (limit, name), handles, Ok(limit as usize));
@@ -145,10 +138,16 @@ fn each_way_keeps_each_limit(rt: HostRuntime) {
 #[test]
 fn unions_keep_each_limit(rt: HostRuntime) {
     for limit in LIMITS {
-        let handle = ok!(&rt, limited(rt.alloc(), limit.clamp(1, MAX_REFCOUNT)));
+        let handle = ok!(
+            &rt,
+            Arc::new_with_limit(rt.alloc(), 5u64, limit.clamp(1, MAX_REFCOUNT))
+        );
         let first = ArcUnion::<u64, u32>::from_first(handle);
         same_at!(&rt, limit, counted(rt.alloc(), &first), Ok(limit as usize));
-        let handle = ok!(&rt, limited(rt.alloc(), limit.clamp(1, MAX_REFCOUNT)));
+        let handle = ok!(
+            &rt,
+            Arc::new_with_limit(rt.alloc(), 5u64, limit.clamp(1, MAX_REFCOUNT))
+        );
         let second = ArcUnion::<u32, u64>::from_second(handle);
         same_at!(&rt, limit, counted(rt.alloc(), &second), Ok(limit as usize));
     }

@@ -1,5 +1,4 @@
-//! What no clause says: that commands are served if memory is ample, and which of two allowed
-//! replies comes when. What `serve` replies is tested by the scripts of `script_runs`.
+//! What no clause says: that commands are served if memory is ample, and which of two allowed replies comes when.
 use crate::support::{ok, same};
 use servo_arc::table::{Command, PlainCommand, Reply, Table};
 use std::alloc::{AllocError, Global};

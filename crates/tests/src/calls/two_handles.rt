@@ -87,7 +87,7 @@ fn is_one_block<'a>(a: &Slot<'a>, b: &Slot<'a>) -> bool {
     }
 }
 
-#[derive(Clone, Copy, Debug, PartialEq)]
+#[derive(Clone, Copy)]
 enum Who {
     A,
     B,
@@ -104,14 +104,14 @@ fn check<'a>(
     mut b: Slot<'a>,
     rows: &[Row],
 ) {
-    for (who, call, counts) in rows {
+    for (number, (who, call, counts)) in rows.iter().enumerate() {
         let found = match (who, call) {
             (_, PtrEq(_)) => Some(PtrEq(is_one_block(&a, &b))),
             (A, _) => answered(rt.alloc(), &mut a, *call),
             (B, _) => answered(rt.alloc(), &mut b, *call),
         };
         let seen = (found, [tally.copies(), tally.drops()]);
-        same_at!(rt, (name, *who), seen, (Some(*call), *counts));
+        same_at!(rt, (name, number), seen, (Some(*call), *counts));
     }
 }
 

@@ -63,7 +63,7 @@ impl<'a> Caller<'a> {
     }
 }
 
-#[derive(Clone, Copy, Debug, PartialEq)]
+#[derive(Clone, Copy)]
 enum Who {
     P,
     Q,
@@ -73,12 +73,12 @@ enum Who {
 type Row = (Who, Call);
 
 fn check(rt: &impl Abort, name: &str, mut p: Caller<'_>, mut q: Caller<'_>, rows: &[Row]) {
-    for (who, call) in rows {
+    for (number, (who, call)) in rows.iter().enumerate() {
         let found = match who {
             P => p.answered(*call),
             Q => q.answered(*call),
         };
-        same_at!(rt, (name, *who), found, Some(*call));
+        same_at!(rt, (name, number), found, Some(*call));
     }
 }
 

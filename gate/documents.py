@@ -16,7 +16,7 @@ from pathlib import Path
 ROOT = Path(__file__).resolve().parent.parent
 LINK = re.compile(r"\[((?:[^\]\[]|\[[^\]]*\])+)\]\(([^)\s]+)\)")
 REFERENCE = re.compile(r"\]\[|^ *\[[^\]]+\]:", re.M)
-PRINTS = re.compile(r"< examples/(\w+)\.\w+ +# prints: (.*)")
+PRINTS = re.compile(r"< examples/(\w+/\w+) +# prints: (.*)")
 QUOTE = re.compile(r"```rust ?(\S*)\n(.*?)```", re.S)
 
 
@@ -54,7 +54,7 @@ def wrong_in(document):
         if not source.is_file() or quoted not in source.read_text():
             yield f"not in {file or 'a file that is named'}: {quoted.splitlines()[0]}"
     for name, printed in PRINTS.findall(text):
-        expected = (ROOT / "examples" / f"{name}.expected").read_text().splitlines()
+        expected = (ROOT / "examples" / f"{name}.stdout").read_text().splitlines()
         if printed != ", ".join(expected):
             yield f"the example {name} prints {', '.join(expected)}"
 

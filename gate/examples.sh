@@ -1,7 +1,7 @@
 #!/usr/bin/env bash
-# Runs each script of examples/, with the limit that stands beside it if one does: it prints what the file beside it has,
-# just the blocks that it marks are never freed, and under valgrind, if that is installed, no freed memory is read. No
-# expected lines and no limit stand there without a script.
+# Runs each script of examples/, NAME in the folder of its machine, with the arguments of NAME.args if that is there: it
+# prints NAME.stdout, just the blocks that it marks are never freed, and under valgrind, if that is installed, no freed
+# memory is read. No printed lines and no arguments stand there without a script.
 set -u
 cd "$(dirname "$0")/../examples"
 program=../crates/arcbench/out/arcbench
@@ -16,19 +16,24 @@ wrong() {
 }
 
 failed=0 count=0
-for script in *.core *.table; do
+for script in core/* table/*; do
+    case $script in
+    *.stdout | *.args)
+        [[ -f ${script%.*} ]] || wrong "has no script"
+        continue
+        ;;
+    esac
     count=$((count + 1))
-    words=("${script##*.}" 3)
-    [[ -f ${script%.*}.limit ]] && words+=("$(<"${script%.*}.limit")")
+    words=("${script%/*}" 3)
+    [[ -f $script.args ]] && mapfile -t -O 2 words <"$script.args"
     # No example marks a block of a table twice, and a core has no blocks.
     marked=0
-    [[ $script = *.table ]] && marked=$(grep -c '^mark ' "$script")
+    [[ $script = table/* ]] && marked=$(grep -c '^mark ' "$script")
     LD_PRELOAD=$folder/memory.so "$program" "${words[@]}" <"$script" >"$folder/output" 2>"$folder/memory"
-    cmp -s "$folder/output" "${script%.*}.expected" || wrong "prints something else"
+    cmp -s "$folder/output" "$script.stdout" || wrong "prints something else"
     [[ $(<"$folder/memory") = "memory: granted, $marked kept" ]] || wrong "marks $marked blocks: $(<"$folder/memory")"
     ! command -v valgrind >/dev/null || valgrind -q --error-exitcode=99 "$program" "${words[@]}" <"$script" >"$folder/output" ||
         wrong "reads freed memory"
 done
-for script in *.expected *.limit; do [[ -f ${script%.*}.core || -f ${script%.*}.table ]] || wrong "has no script"; done
 echo "examples: $count, $failed times something else"
 ((failed == 0))

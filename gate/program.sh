@@ -30,7 +30,6 @@ steps='unique 0 0\ndrop 0 0\nlower 0\n'
 # Each status.
 want 0 'is true\npending\ngiven up 5\n' '' core 1 < <(printf "$steps")
 want 0 '' '' table 0 </dev/null
-want 2 'is true\nfault: line 2\n' '' core 1 < <(printf 'unique 0 0\nunique 0\n')
 want 1 '' "$wrong" core 0 < <(printf "$steps")
 want 3 '' 'fault: input\n' core 1 </
 full_output() {
@@ -46,6 +45,43 @@ little_memory() {
 holds "refused memory does not end with 5 and its line" little_memory
 full_errors() { "$program" core 0 </dev/null 2>/dev/full; [[ $? = 1 ]]; }
 holds "a failed write to standard error changes the status" full_errors
+
+# What a line may be: a machine, a script, and what it prints up to its first line that is none.
+while IFS='|' read -r kind script output; do
+    status=0
+    [[ $output = *fault* ]] && status=2
+    want $status "$output" '' $kind 1 < <(printf "$script")
+done <<'END'
+core||
+core|unique 0 0|is true\n
+core|unique 0 0\nunique 0\n|is true\nfault: line 2\n
+core|unique 0 0\n\n|is true\nfault: line 2\n
+core|\n|fault: line 1\n
+core|unique 0 0\r\n|fault: line 1\n
+core|load 0 4294967295\nload 0 4294967296\n|barred\nfault: line 2\n
+core|load 0 0\nunique  0 0\n|value 5\nfault: line 2\n
+core|unique 0 0 \n|fault: line 1\n
+core| unique 0 0\n|fault: line 1\n
+core|lend 0 0\nload 0 0\n|fault: line 1\n
+core|\0|fault: line 1\n
+core|\xff|fault: line 1\n
+core|Load 0 0\n|fault: line 1\n
+core|load 0 00\n|fault: line 1\n
+table||
+table|get 0|empty\n
+table|new 0 05\n|fault: line 1\n
+table|new 0 5\nget 0\nput 0 6\nget 0\n|done\nvalue 5\nfault: line 3\n
+table|unique 0 0\n|fault: line 1\n
+table|New 0 5\n|fault: line 1\n
+table|get 0 0\n|fault: line 1\n
+table|get\n|fault: line 1\n
+table|drop 0 0\n|fault: line 1\n
+table|clone 0\n|fault: line 1\n
+table|same 0 0 0\n|fault: line 1\n
+table|new 0 4294967295\nnew 0 4294967296\n|done\nfault: line 2\n
+table|new 0  5\n|fault: line 1\n
+table|get 0\n\n|empty\nfault: line 2\n
+END
 
 # Arguments. A word that is not UTF-8, or too long to be right, is a wrong one at each place, and ends no list.
 for right in 'core 2 3 7' 'table 3 7'; do
@@ -81,6 +117,18 @@ limited() {
 }
 for limit in {1..300} 1000 1024 65536 123456; do holds "a limit of $limit" limited $limit $((limit - 1)) full; done
 for limit in 1234567 98765432 123456789 4294967295; do holds "a limit of $limit" limited $limit 9999 pending; done
+lent() {
+    { printf 'lend 0 0 %d\n' {1..999}; printf '%s\n' 'load 999 0' 'load 500 0' 'clone 4 0' 'raise 4' 'load 4 1'; } |
+        "$program" core 1000 2>&1 |
+        cmp -s - <(yes done | head -999; printf '%s\n' 'value 5' 'value 5' pending 'born 1' 'value 5')
+}
+holds "a handle that is lent to all other owners" lent
+{ echo 'getmut 0 0'; yes $'write 0 0 4294967295\nload 0 0' | head -140000; printf 'load 0 1\nload\n'; } >"$folder/megabytes"
+megabytes() {
+    "$program" core 1 <"$folder/megabytes" >"$folder/output" 2>&1
+    [[ $? = 2 ]] && tail -2 "$folder/output" | cmp -s - <(printf 'barred\nfault: line 140003\n')
+}
+holds "a script of megabytes" megabytes
 holds "another name" bash -c 'exec -a other "$0" table 1' "$program" </dev/null
 echo "program: $passed runs as told, $failed not"
 ((failed == 0))

@@ -16,9 +16,9 @@ WORD = 120
 
 def read(name):
     """The steps of an example, each with its answer."""
-    examples = ROOT / "examples"
-    lines = (examples / f"{name}.core").read_text().splitlines()
-    answers = (examples / f"{name}.expected").read_text().splitlines()
+    examples = ROOT / "examples" / "core"
+    lines = (examples / name).read_text().splitlines()
+    answers = (examples / f"{name}.stdout").read_text().splitlines()
     return [(line.split(), answer) for line, answer in zip(lines, answers, strict=True)]
 
 

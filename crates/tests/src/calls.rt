@@ -1,21 +1,15 @@
-//! Tests of the word, the core, the handles and what stands on them, in one thread and through `servo_arc`, and of the
-//! scripts of `arcbench`: what no contract says.
+//! Tests in one thread, of handles and of what stands on them, and of the scripts of `arcbench`.
 
 mod by_bound;
 mod by_value;
-mod core_steps;
 mod drop_order;
 mod header_slices;
 mod iterators;
 mod laws;
 mod limits;
-mod list_makers;
-mod long_lists;
 mod one_thread;
 mod pages;
 mod put;
-mod replies;
-mod reporting;
 mod same_blocks;
 mod script_runs;
 mod sizes;

@@ -3,10 +3,10 @@
 
 mod builders;
 mod counts;
+mod list_versions;
 mod makers;
 mod reporting;
-mod shapes;
+mod rose_trees;
 mod steps;
 mod table_calls;
 mod trees;
-mod versions;

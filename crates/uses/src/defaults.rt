@@ -4,10 +4,10 @@ ghost use Rattle.trees.specs.Roses.{branch};
 ghost use Rattle.uses.specs.Styles.{initial};
 ghost use Rattle.servo_arc.specs.Stays.{value_of};
 
-use trees::Rose;
 use crate::style::{Border, Font, Style};
 use servo_arc::{StaticArc, UniqueArc};
 use std::alloc::{AllocError, Global};
+use trees::Rose;
 
 /// Handles that know their blocks to be marked, so no style that is made of them is refused. They are copied as two
 /// pointers are, also to other threads.

@@ -3,11 +3,10 @@ ghost use Rattle.std.specs.Prelude.{◌≡◌, ◌↔◌, ◌∷◌, ◌++◌, [
 ghost use Rattle.uses.specs.Documents.{edited, renamed, restyled};
 ghost use Rattle.trees.specs.declared.rose.RoseError.TheVariants.{NoSuchPlace};
 
-use trees::{Rose, RoseError};
 use crate::style::{Source, Style};
-use trees::Undo;
 use servo_arc::Arc;
 use std::alloc::{AllocError, Global};
+use trees::{Rose, RoseError, Undo};
 
 /// What stands at a place of a document. The name is text behind an `Arc`: a copy has the same text, by contract, and
 /// takes no memory.

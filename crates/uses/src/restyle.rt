@@ -5,10 +5,10 @@ ghost use Rattle.trees.specs.Roses.{at, branch, root};
 ghost use Rattle.uses.specs.Styles.{cascaded, initial, restyled};
 ghost use Rattle.trees.specs.declared.rose.RoseError.TheVariants.{NoSuchPlace};
 
-use trees::{Rose, RoseError};
 use crate::style::{Inline, Source, Style};
 use servo_arc::Arc;
 use std::alloc::{AllocError, Global};
+use trees::{Rose, RoseError};
 
 /// A tree of one value, and the tree with another.
 pub fn two_leaves(alloc: Global) -> Result<(Rose<u64>, Rose<u64>), RoseError>

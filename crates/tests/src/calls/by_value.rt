@@ -1,9 +1,8 @@
-// What a handle has by its value: order and hash.
+//! What a handle has by its value: order and hash.
 use crate::support::made::arc_of;
 use crate::support::{ok, same};
 use servo_arc::Arc;
 use std::collections::HashMap;
-use std::process::Abort;
 
 #[test]
 fn a_map_is_keyed_by_handles(rt: HostRuntime) {
@@ -13,17 +12,10 @@ fn a_map_is_keyed_by_handles(rt: HostRuntime) {
     same!(&rt, map.get(&arc_of(&rt, 8)).copied(), None);
 }
 
-fn handles_of(rt: &(impl Abort + AllocGlobal), numbers: &[u32]) -> Vec<Arc<u32>> {
-    let mut handles = Vec::new(rt.alloc());
-    for number in numbers {
-        ok!(rt, handles.push(arc_of(rt, *number)));
-    }
-    handles
-}
-
 #[test]
 fn handles_are_sorted(rt: HostRuntime) {
-    let mut handles = handles_of(&rt, &[3, 1, 2]);
+    let handles = vec![in rt.alloc(); arc_of(&rt, 3u32), arc_of(&rt, 1), arc_of(&rt, 2)];
+    let mut handles = ok!(&rt, handles);
     ok!(&rt, handles.sort());
     let text = ok!(&rt, format!(in rt.alloc(); "{handles:?}"));
     same!(&rt, text.as_str(), "[1, 2, 3]");

@@ -1,4 +1,4 @@
-// In which order the values of a header slice are dropped.
+//! In which order the values of a header slice are dropped.
 ghost use Rattle.std.specs.Prelude.{◌==◌};
 ghost use Rattle.std.specs.Cmp.{on_per, partial_equiv_from_equiv};
 ghost use Rattle.std.proofs.lemmas.Cmp.{nat_eq_equiv};
@@ -106,23 +106,18 @@ fn check<T: Drop>(rt: &impl Abort, row: Row, log: &Log, built: Result<T, BuildEr
 fn drops_items_in_order_and_then_the_header(rt: HostRuntime) {
     for row in ROWS {
         let (num_items, turn, _) = row;
-        let log = Log::new();
+        let (log, unique_log) = (Log::new(), Log::new());
         let items = ok!(&rt, in_turn(rt.alloc(), turn, &log));
         let header = Placed { turn, log: &log };
         let built = Arc::from_header_and_iter_with_size(rt.alloc(), header, items, num_items);
         check(&rt, row, &log, built);
-    }
-}
-
-#[test]
-fn drops_items_of_a_unique_slice_in_order_and_then_the_header(rt: HostRuntime) {
-    for row in ROWS {
-        let (num_items, turn, _) = row;
-        let log = Log::new();
-        let items = ok!(&rt, in_turn(rt.alloc(), turn, &log));
-        let header = Placed { turn, log: &log };
+        let items = ok!(&rt, in_turn(rt.alloc(), turn, &unique_log));
+        let header = Placed {
+            turn,
+            log: &unique_log,
+        };
         let built = UniqueArc::from_header_and_iter_with_size(rt.alloc(), header, items, num_items);
-        check(&rt, row, &log, built);
+        check(&rt, row, &unique_log, built);
     }
 }
 

@@ -1,4 +1,4 @@
-// What header slices read, and how they are written before they are shared.
+//! What header slices read, and how they are written before they are shared.
 ghost use Rattle.std.specs.Prelude.{◌≡◌, length};
 
 use crate::support::{ok, same, same_at};

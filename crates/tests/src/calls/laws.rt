@@ -1,5 +1,7 @@
-// The laws at a concrete type.
+//! The laws, each called once at a concrete type.
+use scripts::laws as script_laws;
 use servo_arc::counting_core::laws;
+use servo_arc::shared_count::laws as history_laws;
 use servo_arc::table::laws as table_laws;
 use servo_arc::union_table::laws as union_laws;
 use servo_arc::word::laws as word_laws;
@@ -33,4 +35,12 @@ fn the_laws_hold_at_types() {
     union_laws::number_of_slots_stays::<u32, u8>();
     union_laws::other_slots_stay::<u32, u8>();
     union_laws::only_done_changes::<u32, u8>();
+    history_laws::beginnings_are_legal();
+    history_laws::handles_are_owned();
+    history_laws::calls_are_of_passes();
+    history_laws::marked_exactly_if_called();
+    history_laws::last_is_told_once();
+    history_laws::one_end_is_last();
+    script_laws::each_line_is_one_step();
+    script_laws::each_line_asks_one_thing_of_a_table();
 }

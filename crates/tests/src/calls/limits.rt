@@ -1,7 +1,5 @@
-// Blocks with a limit of their own: each way to make one more handle stops there, and each way that a handle goes
-// keeps it.
-ghost use Rattle.servo_arc.specs.CountingWord.{IsLimit};
-
+//! Blocks with a limit of their own: each way to make one more handle stops there, and each way that a handle goes
+//! keeps it.
 use crate::support::{again, ok, same, same_at};
 use servo_arc::word::MAX_REFCOUNT;
 use servo_arc::{Arc, ArcUnion, ThinArc, UniqueArc};
@@ -9,21 +7,13 @@ use std::alloc::{AllocError, Global};
 use std::process::Abort;
 use std::sync::Wait;
 
-fn limited(alloc: Global, limit: u64) -> Result<Arc<u64>, AllocError>
-    requires { IsLimit limit }
-{
-    Arc::new_with_limit(alloc, 5u64, limit)
-        .ok()
-        .ok_or(AllocError)
-}
-
 fn is_full(handle: &Arc<u64>, rt: &impl Wait) -> bool {
     Arc::clone(handle, rt).is_err() && handle.clone().is_err()
 }
 
 #[test]
 fn a_third_handle_waits_for_a_drop(rt: HostRuntime) {
-    let a = ok!(&rt, limited(rt.alloc(), 2));
+    let a = ok!(&rt, Arc::new_with_limit(rt.alloc(), 5u64, 2));
     let b = again!(&rt, &a);
     let refused = a.borrow_arc().clone_arc(&rt).is_err();
     let seen = (is_full(&a, &rt), is_full(&b, &rt), refused);
@@ -35,7 +25,7 @@ fn a_third_handle_waits_for_a_drop(rt: HostRuntime) {
 
 #[test]
 fn the_only_handle_of_a_limit_of_one_writes(rt: HostRuntime) {
-    let mut a = ok!(&rt, limited(rt.alloc(), 1));
+    let mut a = ok!(&rt, Arc::new_with_limit(rt.alloc(), 5u64, 1));
     let was_full = is_full(&a, &rt);
     if let Some(value) = Arc::get_mut(&mut a) {
         *value = 6;
@@ -48,7 +38,7 @@ fn the_only_handle_of_a_limit_of_one_writes(rt: HostRuntime) {
 
 #[test]
 fn a_copied_block_keeps_the_limit(rt: HostRuntime) {
-    let mut a = ok!(&rt, limited(rt.alloc(), 2));
+    let mut a = ok!(&rt, Arc::new_with_limit(rt.alloc(), 5u64, 2));
     let b = again!(&rt, &a);
     *ok!(&rt, Arc::make_mut(&mut a, rt.alloc())) = 9;
     for (handle, value) in [(&a, 9), (&b, 5)] {
@@ -59,7 +49,7 @@ fn a_copied_block_keeps_the_limit(rt: HostRuntime) {
 
 #[test]
 fn tokens_count_to_the_limit(rt: HostRuntime) {
-    let raw = Arc::into_raw(ok!(&rt, limited(rt.alloc(), 2)));
+    let raw = Arc::into_raw(ok!(&rt, Arc::new_with_limit(rt.alloc(), 5u64, 2)));
     let first = Arc::from_raw_addrefed(&raw, &rt);
     let second = Arc::from_raw_addrefed(&raw, &rt);
     let kept = Arc::from_raw(raw);
@@ -130,18 +120,14 @@ fn after(alloc: Global, way: Way, handle: Arc<u64>) -> Result<Arc<u64>, AllocErr
     }
 }
 
-fn limited_if_it_can_be(alloc: Global, limit: u64) -> Result<Arc<u64>, AllocError> {
-    if limit < 1 || MAX_REFCOUNT < limit {
-        return Err(AllocError);
-    }
-    limited(alloc, limit)
-}
-
 #[test]
 fn each_way_keeps_each_limit(rt: HostRuntime) {
     for limit in LIMITS {
         for (name, way) in WAYS {
-            let handle = ok!(&rt, limited_if_it_can_be(rt.alloc(), limit));
+            let handle = ok!(
+                &rt,
+                Arc::new_with_limit(rt.alloc(), 5u64, limit.clamp(1, MAX_REFCOUNT))
+            );
             let handle = ok!(&rt, after(rt.alloc(), way, handle));
             let handles = counted(rt.alloc(), &handle);
             same_at!(&rt, (limit, name), handles, Ok(limit as usize));
@@ -152,79 +138,69 @@ fn each_way_keeps_each_limit(rt: HostRuntime) {
 #[test]
 fn unions_keep_each_limit(rt: HostRuntime) {
     for limit in LIMITS {
-        let handle = ok!(&rt, limited_if_it_can_be(rt.alloc(), limit));
+        let handle = ok!(
+            &rt,
+            Arc::new_with_limit(rt.alloc(), 5u64, limit.clamp(1, MAX_REFCOUNT))
+        );
         let first = ArcUnion::<u64, u32>::from_first(handle);
         same_at!(&rt, limit, counted(rt.alloc(), &first), Ok(limit as usize));
-        let handle = ok!(&rt, limited_if_it_can_be(rt.alloc(), limit));
+        let handle = ok!(
+            &rt,
+            Arc::new_with_limit(rt.alloc(), 5u64, limit.clamp(1, MAX_REFCOUNT))
+        );
         let second = ArcUnion::<u32, u64>::from_second(handle);
         same_at!(&rt, limit, counted(rt.alloc(), &second), Ok(limit as usize));
     }
 }
 
-// So far as handles can be counted in a test, no other maker has a limit.
-fn check_maker<T: Drop, E: Drop>(
-    rt: &(impl Abort + AllocGlobal),
-    name: &str,
-    made: Result<Arc<T>, E>,
-) {
-    let handle = ok!(rt, made);
-    same_at!(rt, name, counted(rt.alloc(), &handle), Ok(MANY));
+/// A copy of a block that is marked, or shared, has its limit.
+fn copied(alloc: Global, made: Result<Arc<u64>, u64>) -> Option<Arc<u64>> {
+    let handle = made.ok()?;
+    let _other = handle.clone().ok();
+    written(alloc, handle).ok()
 }
 
+fn made_otherwise(alloc: Global) -> [Option<Arc<u64>>; 9] {
+    let unique = UniqueArc::new(alloc, 5u64).ok();
+    let unwritten = UniqueArc::new_uninit(alloc).ok();
+    [
+        Arc::new_with_limit(alloc, 5, MAX_REFCOUNT).ok(),
+        Arc::new(alloc, 5).ok(),
+        Arc::from_value(alloc, 5).ok(),
+        Arc::try_default(alloc).ok(),
+        unique.map(|unique| unique.shareable()),
+        unwritten.map(|block| block.write(5u64).shareable()),
+        copied(alloc, Arc::new(alloc, 5)),
+        copied(alloc, Arc::new_leaked(alloc, 5)),
+        copied(alloc, Arc::new_static(alloc, 5)),
+    ]
+}
+
+fn built_otherwise(alloc: Global) -> [Option<ThinArc<u64, u64>>; 5] {
+    let one = [1u64];
+    let unique = UniqueArc::from_header_and_iter(alloc, 5u64, one.into_iter());
+    let sized = UniqueArc::from_header_and_iter_with_size(alloc, 5u64, one.into_iter(), 1);
+    [
+        Arc::from_header_and_iter(alloc, 5, one.into_iter()).ok(),
+        Arc::from_header_and_iter_with_size(alloc, 5, one.into_iter(), 1).ok(),
+        Arc::from_header_and_iter_alloc(alloc, 5, one.into_iter(), 1, false).ok(),
+        unique.ok().map(|unique| unique.shareable()),
+        sized.ok().map(|unique| unique.shareable()),
+    ]
+}
+
+fn check_maker<T: Drop>(rt: &(impl Abort + AllocGlobal), number: usize, made: Option<Arc<T>>) {
+    let handle = ok!(rt, made.ok_or("not made"));
+    same_at!(rt, number, counted(rt.alloc(), &handle), Ok(MANY));
+}
+
+// So far as handles can be counted in a test, no other maker has a limit.
 #[test]
 fn other_makers_have_the_greatest_limit(rt: HostRuntime) {
-    let alloc = rt.alloc();
-    check_maker(
-        &rt,
-        "the greatest",
-        Arc::new_with_limit(alloc, 5u64, MAX_REFCOUNT),
-    );
-    check_maker(&rt, "new", Arc::new(alloc, 5u64));
-    check_maker(&rt, "of a value", Arc::from_value(alloc, 5u64));
-    check_maker(&rt, "default", Arc::<u64>::try_default(alloc));
-    let unique = ok!(&rt, UniqueArc::new(alloc, 5u64));
-    check_maker(&rt, "unique", Ok::<_, ()>(unique.shareable()));
-    let unwritten = ok!(&rt, UniqueArc::new_uninit(alloc));
-    let written = unwritten.write(5u64).shareable();
-    check_maker(&rt, "written", Ok::<_, ()>(written));
-}
-
-/// A copy of a block that is marked, or shared, has its limit.
-fn copied(alloc: Global, made: Result<Arc<u64>, u64>) -> Result<Arc<u64>, u64> {
-    let handle = made?;
-    let _other = handle.clone().ok();
-    written(alloc, handle).ok().ok_or(0)
-}
-
-#[test]
-fn copies_have_the_greatest_limit(rt: HostRuntime) {
-    let alloc = rt.alloc();
-    check_maker(&rt, "new", copied(alloc, Arc::new(alloc, 5u64)));
-    check_maker(&rt, "leaked", copied(alloc, Arc::new_leaked(alloc, 5u64)));
-    check_maker(&rt, "static", copied(alloc, Arc::new_static(alloc, 5u64)));
-}
-
-type Thin = ThinArc<u64, u64>;
-
-#[test]
-fn builders_have_the_greatest_limit(rt: HostRuntime) {
-    let (alloc, one) = (rt.alloc(), [1]);
-    let built: Result<Thin, _> = Arc::from_header_and_iter(alloc, 5, one.into_iter());
-    check_maker(&rt, "shared", built);
-    let built: Result<Thin, _> = Arc::from_header_and_iter_with_size(alloc, 5, one.into_iter(), 1);
-    check_maker(&rt, "with size", built);
-    let built: Result<Thin, _> = Arc::from_header_and_iter_alloc(
-        alloc,
-        5,
-        one.into_iter(),
-        1,
-        false,
-    );
-    check_maker(&rt, "alloc", built);
-    let unique = UniqueArc::from_header_and_iter(alloc, 5u64, one.into_iter());
-    let built: Thin = ok!(&rt, unique).shareable();
-    check_maker(&rt, "unique", Ok::<_, ()>(built));
-    let unique = UniqueArc::from_header_and_iter_with_size(alloc, 5u64, one.into_iter(), 1);
-    let built: Thin = ok!(&rt, unique).shareable();
-    check_maker(&rt, "unique with size", Ok::<_, ()>(built));
+    for (number, made) in made_otherwise(rt.alloc()).into_iter().enumerate() {
+        check_maker(&rt, number, made);
+    }
+    for (number, built) in built_otherwise(rt.alloc()).into_iter().enumerate() {
+        check_maker(&rt, number, built);
+    }
 }

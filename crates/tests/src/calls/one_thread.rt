@@ -1,4 +1,4 @@
-// Calls of tokens, unique handles and unwritten blocks, and equality, each once.
+//! Calls of tokens, unique handles and unwritten blocks, and equality, each once.
 use crate::calls::by_bound::are_equal;
 use crate::support::counted::{Counted, Tally};
 use crate::support::made::arc_of;

@@ -1,6 +1,6 @@
-// Memory is freed. Each test asks for a page again and again and lets it go: were they kept, that would take 16 or
-// 32 GiB. Where there is more memory than that, they show something only in a limited address space. A page is 4 KiB
-// of values, so that no two of them lie in one page of the machine.
+//! Memory is freed. Each test asks for a page again and again and lets it go: were they kept, that would take 16 or
+//! 32 GiB. Where there is more memory than that, they show something only in a limited address space. A page is 4 KiB
+//! of values, so that no two of them lie in one page of the machine.
 use crate::support::ok;
 use servo_arc::{Arc, UniqueArc};
 

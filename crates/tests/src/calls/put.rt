@@ -1,5 +1,5 @@
 //! Handles that are made outside and put into a table.
-use crate::calls::replies::parted;
+use crate::calls::table_rows::parted;
 use crate::support::{again, holds, ok, same};
 use servo_arc::table::{PlainCommand, Reply, Table};
 use servo_arc::{Arc, HeaderSlice, ThinArc};

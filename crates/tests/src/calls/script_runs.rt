@@ -1,9 +1,7 @@
-//! Scripts of `arcbench`: rows of them, and readers and writers that fail.
+//! Scripts of `arcbench`: rows of them, and readers and writers that fail. What a line may be, and large scripts, are
+//! asked of the built program by `gate/program.sh`.
 
-mod bytes;
-mod core_rows;
 mod failing_io;
 mod fakes;
 mod runs;
-mod sizes;
-mod table_rows;
+mod worked_rows;

@@ -1,7 +1,9 @@
-// Long runs, many slots and a long slice: a cap that nobody asked for would refuse them.
+//! Long runs, many slots and a long slice: a cap that nobody asked for would refuse them.
 use crate::support::{again, ok, same};
 use cow_table::CowTable;
+use servo_arc::counting_core::{Answer, Core, Step};
 use servo_arc::table::{Command, Reply, Table};
+use servo_arc::word::MAX_REFCOUNT;
 use servo_arc::{Arc, ThinArc};
 use std::alloc::{AllocError, Global};
 use std::process::Abort;
@@ -65,4 +67,22 @@ fn a_table_cannot_have_all_slots(rt: HostRuntime) {
         Table::<u32>::new(rt.alloc(), usize::MAX).is_err(),
         true
     );
+}
+
+const OWNERS: usize = 5001;
+
+// A handle goes from each owner to the next, who reads through it.
+#[test]
+fn a_run_takes_ten_thousand_steps(rt: HostRuntime) {
+    let mut core = ok!(&rt, Core::new(rt.alloc(), 5u32, OWNERS, MAX_REFCOUNT));
+    let mut steps = Vec::new(rt.alloc());
+    for to in 1..OWNERS {
+        let (owner, handle) = (to - 1, 0);
+        ok!(&rt, steps.push(Step::Give { owner, handle, to }));
+        ok!(&rt, steps.push(Step::Load { owner: to, handle }));
+    }
+    let answers = ok!(&rt, core.run(&steps));
+    let pair = [Answer::Done, Answer::Value(5)];
+    let are_given = answers.chunks(2).all(|answers| answers == pair.as_slice());
+    same!(&rt, (answers.len(), are_given), (10_000, true));
 }

@@ -1,9 +1,8 @@
-// Handles that know their block to be marked, in one thread.
+//! Handles that know their block to be marked, in one thread.
 use crate::support::counted::{Counted, Tally};
 use crate::support::made::arc_of;
 use crate::support::{again, ok, same};
 use servo_arc::{Arc, StaticArc, ThinArc, UniqueArc};
-use std::sync::OnceLock;
 
 type Kept<T> = StaticArc<'static, T>;
 
@@ -53,10 +52,6 @@ fn only_a_mark_is_found(rt: HostRuntime) {
     let kept: Option<Kept<u64>> = handle.find_static();
     let value = kept.map(|kept| *kept);
     same!(&rt, (unmarked, value), ((false, false, true), Some(7)));
-}
-
-#[test]
-fn a_mark_that_was_made_is_found(rt: HostRuntime) {
     let leaked = ok!(&rt, Arc::new_leaked(rt.alloc(), 8u64));
     let kept: Kept<u64> = ok!(&rt, leaked.find_static().ok_or(()));
     drop(leaked);
@@ -70,41 +65,4 @@ fn a_mark_of_a_header_slice_is_found(rt: HostRuntime) {
     let thin: ThinArc<u32, u8> = ok!(&rt, made);
     let kept = ok!(&rt, thin.find_static().ok_or(()));
     same!(&rt, (kept.header, kept.slice()), (8, &[4][..]));
-}
-
-// Its way on is the number of a node: a type cannot lead back to itself through what is written later.
-#[derive(Drop)]
-struct Node {
-    value: u32,
-    next: OnceLock<usize>,
-}
-
-fn lone(value: u32) -> Node {
-    Node {
-        value,
-        next: OnceLock::new(),
-    }
-}
-
-// The sum of the values of five nodes, and the value that comes next.
-fn walked(nodes: [Kept<Node>; 2]) -> Option<(u32, u32)> {
-    let [mut at, _] = nodes;
-    let mut sum = 0u32;
-    for _ in 0..5u32 {
-        sum = sum.wrapping_add(at.value);
-        at = *nodes.get(*at.next.get()?)?;
-    }
-    Some((sum, at.value))
-}
-
-#[test]
-fn two_static_nodes_lead_to_each_other(rt: HostRuntime) {
-    let one: Kept<Node> = ok!(&rt, StaticArc::new(rt.alloc(), lone(1)));
-    let two: Kept<Node> = ok!(&rt, StaticArc::new(rt.alloc(), lone(2)));
-    let were_set = [one.next.set(&rt, 1).is_ok(), two.next.set(&rt, 0).is_ok()];
-    same!(
-        &rt,
-        (were_set, walked([one, two])),
-        ([true; 2], Some((7, 2)))
-    );
 }

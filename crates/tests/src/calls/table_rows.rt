@@ -1,9 +1,21 @@
-//! What no clause says: that commands are served if memory is ample, and which of two allowed
-//! replies comes when. What `serve` replies is tested by the scripts of `script_runs`.
-use crate::calls::replies::parted;
+//! What no clause says: that commands are served if memory is ample, and which of two allowed replies comes when.
 use crate::support::{ok, same};
 use servo_arc::table::{Command, PlainCommand, Reply, Table};
+use std::alloc::{AllocError, Global};
 use std::process::Abort;
+
+/// Commands, and the replies that they should get.
+pub fn parted<C: Drop>(
+    alloc: Global,
+    rows: Vec<(C, Reply)>,
+) -> Result<(Vec<C>, Vec<Reply>), AllocError> {
+    let (mut commands, mut replies) = (Vec::new(alloc), Vec::new(alloc));
+    for (command, reply) in rows {
+        commands.push(command)?;
+        replies.push(reply)?;
+    }
+    Ok((commands, replies))
+}
 
 /// Runs commands. Each gets the reply beside it.
 fn check(

@@ -1,7 +1,7 @@
-// The printed texts.
+//! The printed texts.
 use crate::support::made::arc_of;
 use crate::support::{holds, ok, same, same_at};
-use servo_arc::{Arc, ArcUnion, BuildError, UniqueArc};
+use servo_arc::{Arc, ArcUnion, BuildError, StaticArc, UniqueArc};
 use std::alloc::AllocError;
 use std::process::Abort;
 
@@ -11,14 +11,17 @@ type Numbers = ArcUnion<u32, u32>;
 fn handles_have_their_texts(rt: HostRuntime) {
     let (seven, word) = (arc_of(&rt, 7u32), arc_of(&rt, "a word"));
     let unique = ok!(&rt, UniqueArc::new(rt.alloc(), 8u32));
-    let borrowed = seven.borrow_arc();
+    let (borrowed, kept) = (
+        seven.borrow_arc(),
+        ok!(&rt, StaticArc::new(rt.alloc(), 9u32)),
+    );
     let text = format!(in rt.alloc();
-        "{seven} {seven:?} {seven:04} {word} {word:?} {unique} {unique:?} {unique:04} {borrowed:?}"
+        "{seven} {seven:?} {seven:04} {word} {word:?} {unique} {unique:?} {unique:04} {borrowed:?} {kept} {kept:?}"
     );
     same!(
         &rt,
         ok!(&rt, text).as_str(),
-        "7 7 0007 a word \"a word\" 8 8 0008 ArcBorrow(7)",
+        "7 7 0007 a word \"a word\" 8 8 0008 ArcBorrow(7) 9 9",
     );
 }
 

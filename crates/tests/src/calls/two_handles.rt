@@ -1,10 +1,10 @@
-// Calls on two handles of one block, whose value counts its copies and drops.
+//! Calls on two handles of one block, whose value counts its copies and drops.
 use self::Call::{
     End, GetMut, IntoInner, IntoUnique, IsStatic, IsUnique, MakeMut, Mark, PtrEq, Reads,
 };
 use self::Who::{A, B};
 use crate::support::counted::{Counted, Tally};
-use crate::support::{again, ok, same, same_at};
+use crate::support::{again, ok, same_at};
 use servo_arc::Arc;
 use std::alloc::Global;
 use std::process::Abort;
@@ -87,7 +87,7 @@ fn is_one_block<'a>(a: &Slot<'a>, b: &Slot<'a>) -> bool {
     }
 }
 
-#[derive(Clone, Copy, Debug, PartialEq)]
+#[derive(Clone, Copy)]
 enum Who {
     A,
     B,
@@ -104,14 +104,14 @@ fn check<'a>(
     mut b: Slot<'a>,
     rows: &[Row],
 ) {
-    for (who, call, counts) in rows {
+    for (number, (who, call, counts)) in rows.iter().enumerate() {
         let found = match (who, call) {
             (_, PtrEq(_)) => Some(PtrEq(is_one_block(&a, &b))),
             (A, _) => answered(rt.alloc(), &mut a, *call),
             (B, _) => answered(rt.alloc(), &mut b, *call),
         };
         let seen = (found, [tally.copies(), tally.drops()]);
-        same_at!(rt, (name, *who), seen, (Some(*call), *counts));
+        same_at!(rt, (name, number), seen, (Some(*call), *counts));
     }
 }
 

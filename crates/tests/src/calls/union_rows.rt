@@ -1,6 +1,6 @@
 //! What no clause says of a table of unions: that commands are served if memory is ample, and
 //! which of two allowed replies comes when.
-use crate::calls::replies::parted;
+use crate::calls::table_rows::parted;
 use crate::support::made::arc_of;
 use crate::support::{again, ok, same};
 use servo_arc::ArcUnion;

@@ -1,4 +1,4 @@
-// Borrowed handles, and unions of handles.
+//! Borrowed handles, and unions of handles.
 use crate::calls::by_bound::{are_equal, hash_of, is_less};
 use crate::support::made::arc_of;
 use crate::support::{holds, ok, same};
@@ -21,8 +21,15 @@ fn a_borrow_reads(rt: HostRuntime) {
     let seen = (*b.get(), *value_of(&a), next, was_unique);
     same!(&rt, seen, (7, 7, 8, true));
     let eight = arc_of(&rt, 8u32);
-    let ordered = is_less(&b, &eight.borrow_arc());
-    same!(&rt, (ordered, hash_of(&b)), (true, hash_of(&7u32)));
+    let compared = [
+        is_less(&b, &eight.borrow_arc()),
+        are_equal(&b, &eight.borrow_arc()),
+    ];
+    same!(
+        &rt,
+        (compared, hash_of(&b)),
+        ([true, false], hash_of(&7u32))
+    );
 }
 
 #[test]

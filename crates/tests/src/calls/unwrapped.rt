@@ -1,4 +1,4 @@
-// The calls that take the value out of its block, at values that count their copies and drops.
+//! The calls that take the value out of its block, at values that count their copies and drops.
 use crate::support::counted::{Counted, Tally};
 use crate::support::made::arc_of;
 use crate::support::{again, holds, ok, same, same_at};

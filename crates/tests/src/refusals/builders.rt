@@ -1,4 +1,4 @@
-// What a builder of header slices leaves.
+//! What a builder of header slices leaves.
 use crate::refusals::reporting::report;
 use crate::support::counted::{Counted, Tally};
 use crate::support::{ok, same, same_at};

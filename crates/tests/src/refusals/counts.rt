@@ -1,4 +1,4 @@
-// What a shared count that could not be opened leaves.
+//! What a shared count that could not be opened leaves.
 use crate::refusals::reporting::report;
 use crate::support::holds;
 use crate::support::opened::open_two;

@@ -1,4 +1,4 @@
-// What a call that makes a handle or copies its value leaves.
+//! What a call that makes a handle or copies its value leaves.
 use crate::refusals::reporting::report;
 use crate::support::counted::{Counted, Tally};
 use crate::support::{holds, ok, same};

@@ -1,4 +1,4 @@
-// What a run came to. `gate/refused_memory.sh` gathers what all runs report.
+//! What a run came to. `gate/refused_memory.sh` gathers what all runs report.
 use crate::support::ok;
 use std::io::Print;
 use std::process::Abort;

@@ -1,4 +1,4 @@
-// What a call on the core leaves, and a run of steps.
+//! What a call on the core leaves, and a run of steps.
 use crate::refusals::reporting::report;
 use crate::support::{ok, same};
 use servo_arc::counting_core::{Answer, Core, Step};

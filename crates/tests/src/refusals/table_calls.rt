@@ -1,4 +1,4 @@
-// What a call on a table of handles, or on one of unions, leaves.
+//! What a call on a table of handles, or on one of unions, leaves.
 use crate::refusals::reporting::report;
 use crate::support::{ok, same};
 use servo_arc::ArcUnionBorrow;

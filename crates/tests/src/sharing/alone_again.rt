@@ -1,5 +1,5 @@
-// A handle asks whether it is alone while another thread drops the other handle of its block. It is not before, and is
-// once the other is gone. Between these both answers are possible.
+//! A handle asks whether it is alone while another thread drops the other handle of its block. It is not before, and is
+//! once the other is gone. Between these both answers are possible.
 use crate::sharing::waiting::{MOST_TURNS, have_come, wait_for};
 use crate::support::made::arc_of;
 use crate::support::{again, holds, ok};

@@ -1,10 +1,10 @@
-// The worked rows of the shared count, in one thread.
+//! The worked rows of the shared count, in one thread.
 ghost use Rattle.std.specs.Prelude.{◌≡◌};
 
 use self::Who::{P, Q};
 use crate::support::opened::{open_one, open_two};
 use crate::support::{holds, ok, same, same_at};
-use servo_arc::shared_count::{CountPass, EndReply, SharedCount, TryClone, laws};
+use servo_arc::shared_count::{CountPass, EndReply, SharedCount, TryClone};
 use std::process::Abort;
 
 /// A call with its answer.
@@ -63,7 +63,7 @@ impl<'a> Caller<'a> {
     }
 }
 
-#[derive(Clone, Copy, Debug, PartialEq)]
+#[derive(Clone, Copy)]
 enum Who {
     P,
     Q,
@@ -73,12 +73,12 @@ enum Who {
 type Row = (Who, Call);
 
 fn check(rt: &impl Abort, name: &str, mut p: Caller<'_>, mut q: Caller<'_>, rows: &[Row]) {
-    for (who, call) in rows {
+    for (number, (who, call)) in rows.iter().enumerate() {
         let found = match who {
             P => p.answered(*call),
             Q => q.answered(*call),
         };
-        same_at!(rt, (name, *who), found, Some(*call));
+        same_at!(rt, (name, number), found, Some(*call));
     }
 }
 
@@ -183,14 +183,4 @@ fn a_count_has_many_passes_and_not_all(rt: HostRuntime) {
     let (_count, passes) = ok!(&rt, SharedCount::open(rt.alloc(), 70_000));
     let is_refused = SharedCount::open(rt.alloc(), usize::MAX).is_err();
     same!(&rt, (passes.len(), is_refused), (70_000, true));
-}
-
-#[test]
-fn each_law_may_be_called() {
-    laws::beginnings_are_legal();
-    laws::handles_are_owned();
-    laws::calls_are_of_passes();
-    laws::marked_exactly_if_called();
-    laws::last_is_told_once();
-    laws::one_end_is_last();
 }

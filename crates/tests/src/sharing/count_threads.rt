@@ -1,4 +1,4 @@
-// Threads that share a count.
+//! Threads that share a count.
 ghost use Rattle.std.specs.Prelude.{◌≡◌, ◌+◌, ◌<◌};
 ghost use Rattle.servo_arc.specs.Passes.{handles};
 

@@ -1,13 +1,13 @@
-// What the versions of a document share, and how a tree ends.
+//! What the versions of a document share, and how a tree ends.
+use crate::sharing::lists::SMALL_STACK;
 use crate::support::counted::{Counted, Tally};
 use crate::support::{ok, same};
 use servo_arc::{Arc, ArcUnion};
 use std::alloc::{AllocError, Global};
 use std::thread::Builder;
+use trees::{Rose, Undo};
 use uses::documents::{Document, Edit, Part, apply};
-use trees::Rose;
 use uses::style::{Declared, Inline, Style};
-use trees::Undo;
 
 fn name(alloc: Global, text: &str) -> Result<Arc<String>, AllocError> {
     Ok(Arc::try_new(alloc, String::from_str(alloc, text)?)?)
@@ -92,9 +92,6 @@ fn versions_share_what_an_edit_left_alone(rt: HostRuntime) {
     let shared = [is_child_shared(old, new, 0), is_child_shared(old, new, 1)];
     same!(&rt, shared, [true, false]);
 }
-
-// In bytes. A drop of each node inside the one before would take more for some thousands of nodes.
-const SMALL_STACK: usize = 0x4_0000;
 
 #[test]
 fn a_deep_tree_ends_on_a_small_stack(rt: HostRuntime) {

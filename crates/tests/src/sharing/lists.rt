@@ -1,4 +1,4 @@
-// The end of a long list.
+//! The end of a long list.
 use crate::support::{ok, same};
 use persistent::List;
 use std::alloc::{AllocError, Global};

@@ -1,4 +1,4 @@
-// More threads, more handles, and each way in which a handle reaches a thread. Each thread is joined.
+//! More threads, more handles, and each way in which a handle reaches a thread. Each thread is joined.
 use crate::support::counted::{Counted, Tally};
 use crate::support::made::{arc_of, both};
 use crate::support::{again, holds, ok, same};
@@ -39,7 +39,7 @@ fn four_threads_are_seldom_refused(rt: HostRuntime) {
 
 const CLONES: u64 = 1000;
 
-fn clone_and_drop<T: Drop>(handle: &Arc<T>) {
+pub fn clone_and_drop<T: Drop>(handle: &Arc<T>) {
     for _ in 0..CLONES {
         let again: Result<_, _> = handle.clone();
         drop(again);

@@ -1,4 +1,4 @@
-// What rose trees share and drop.
+//! What rose trees share and drop.
 use crate::support::counted::{Counted, Tally};
 use crate::support::{holds, ok, same, same_at};
 use std::alloc::{AllocError, Global};
@@ -68,31 +68,6 @@ fn there_is_no_place_outside_the_tree(rt: HostRuntime) {
     let new = old.with_value(rt.alloc(), &[1, 2], Counted::new(&tally, 9));
     holds!(&rt, matches!(new, Err(RoseError::NoSuchPlace)));
     same!(&rt, (tally.copies(), tally.drops()), (0, 1));
-}
-
-// A cap that nobody asked for would refuse these trees, or a change of them.
-const MANY: u64 = 1000;
-
-#[test]
-fn a_wide_tree_is_changed_at_its_last_child(rt: HostRuntime) {
-    let mut leaves = Vec::new(rt.alloc());
-    for value in 0..MANY {
-        ok!(&rt, leaves.push(ok!(&rt, Rose::leaf(rt.alloc(), value))));
-    }
-    let old = ok!(&rt, Rose::with_children(rt.alloc(), MANY, leaves));
-    let new = ok!(&rt, old.with_value(rt.alloc(), &[999], 7));
-    let shared = [is_shared(&old, &new, &[998]), is_shared(&old, &new, &[999])];
-    same!(&rt, shared, [true, false]);
-}
-
-#[test]
-fn a_deep_tree_is_changed_at_its_leaf(rt: HostRuntime) {
-    let mut tree = ok!(&rt, Rose::leaf(rt.alloc(), 0));
-    for value in 1..=MANY {
-        let below = ok!(&rt, vec![in rt.alloc(); tree]);
-        tree = ok!(&rt, Rose::with_children(rt.alloc(), value, below));
-    }
-    holds!(&rt, tree.with_value(rt.alloc(), &[0; 1000], 7).is_ok());
 }
 
 #[test]

@@ -1,10 +1,8 @@
-// Threads that copy one static handle, and a last counted handle that ends meanwhile.
+//! Threads that copy one static handle, and a last counted handle that ends meanwhile.
 use crate::support::counted::{Counted, Tally};
 use crate::support::made::arc_of;
-use crate::support::{holds, ok, same};
+use crate::support::{ok, same};
 use servo_arc::{Arc, StaticArc};
-use std::sync::atomic::AtomicBool;
-use std::sync::atomic::Ordering::SeqCst;
 use std::thread;
 
 const HANDLES: u64 = 100_000;
@@ -33,22 +31,10 @@ fn four_threads_copy_one_static_handle(rt: HostRuntime) {
 #[test]
 fn the_last_counted_handle_ends_while_a_static_one_is_used(rt: HostRuntime) {
     let tally = Tally::new();
-    let gone = AtomicBool::new(false);
     let last = arc_of(&rt, Counted::new(&tally, 5));
     let first: Arc<Counted<'_>> = ok!(&rt, last.clone());
     let kept = first.into_static();
-    let (right, ()) = thread::join(
-        &rt,
-        || make_and_drop(kept),
-        || {
-            drop(last);
-            gone.store(true, SeqCst);
-        },
-    );
-    same!(
-        &rt,
-        (right, kept.arc().value, tally.drops()),
-        (HANDLES, 5, 0)
-    );
-    holds!(&rt, gone.load(SeqCst) && kept.arc().is_static());
+    let (right, ()) = thread::join(&rt, || make_and_drop(kept), || drop(last));
+    let seen = (right, kept.value, kept.arc().is_static(), tally.drops());
+    same!(&rt, seen, (HANDLES, 5, true, 0));
 }

@@ -1,4 +1,4 @@
-// What styles share.
+//! What styles share.
 use crate::support::{ok, same};
 use servo_arc::Arc;
 use uses::style::{Declared, Inline, Rule, Style};

@@ -1,4 +1,4 @@
-// How many items are copied and dropped, alone and shared.
+//! How many items are copied and dropped, alone and shared.
 use crate::support::counted::{Counted, Tally};
 use crate::support::counted_lists::{counted_pages, counted_table};
 use crate::support::{again, holds, ok, same};

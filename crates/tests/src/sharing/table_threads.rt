@@ -1,4 +1,4 @@
-// Versions on several threads, each of which is joined.
+//! Versions on several threads, each of which is joined.
 use crate::support::counted::{Counted, Tally};
 use crate::support::counted_lists::counted_table;
 use crate::support::{holds, ok, same};

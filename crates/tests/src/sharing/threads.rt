@@ -1,8 +1,9 @@
-// Threads that share one block. Each is joined. If two should act at the same moment, each looks for the other before.
+//! Threads that share one block. Each is joined. If two should act at the same moment, each looks for the other before.
+use crate::sharing::many_threads::clone_and_drop;
 use crate::sharing::waiting::arrive;
 use crate::support::counted::{Counted, Tally};
 use crate::support::made::{arc_of, both, two_of};
-use crate::support::{again, holds, ok, same};
+use crate::support::{again, holds, ok, same, same_at};
 use servo_arc::{Arc, ArcUnion};
 use std::process::Abort;
 use std::sync::Wait;
@@ -35,6 +36,12 @@ fn by_borrow<'a>(rt: &(impl Abort + AllocGlobal + Wait), tally: &'a Tally) -> Pa
     both(rt, a, b)
 }
 
+fn by_union<'a>(rt: &(impl Abort + AllocGlobal), tally: &'a Tally) -> Pair<'a> {
+    let a = ArcUnion::<u64, _>::from_second(arc_of(rt, Counted::new(tally, 5)));
+    let b = again!(rt, &a);
+    both(rt, ok!(rt, a.into_second()), ok!(rt, b.into_second()))
+}
+
 fn check_pair<R: Abort + Threads + Sync>(rt: &R, tally: &Tally, pair: Pair<'_>) {
     let before = tally.drops();
     let here = AtomicU64::new(0);
@@ -49,28 +56,7 @@ fn handles_that_came_in_each_way_are_cloned_at_once(rt: HostRuntime) {
     check_pair(&rt, &tally, two_of(&rt, Counted::new(&tally, 5)));
     check_pair(&rt, &tally, by_token(&rt, &tally));
     check_pair(&rt, &tally, by_borrow(&rt, &tally));
-}
-
-type Numbers<'a> = ArcUnion<u64, Counted<'a>>;
-
-fn clone_union_after(rt: &impl Abort, here: &AtomicU64, union: Numbers<'_>) -> bool {
-    arrive(rt, here, 2);
-    match union.clone() {
-        Ok(again) => again.as_second().is_some_and(|borrow| borrow.value == 5),
-        Err(_) => false,
-    }
-}
-
-#[test]
-fn two_threads_clone_a_union_at_once(rt: HostRuntime) {
-    let tally = Tally::new();
-    let here = AtomicU64::new(0);
-    let a = Numbers::from_second(arc_of(&rt, Counted::new(&tally, 5)));
-    let b = again!(&rt, &a);
-    let unions = both(&rt, a, b);
-    let done = thread::map_vec(&rt, unions, &|union| clone_union_after(&rt, &here, union));
-    same!(&rt, ok!(&rt, done).as_slice(), &[true, true][..]);
-    same!(&rt, tally.drops(), 1);
+    check_pair(&rt, &tally, by_union(&rt, &tally));
 }
 
 fn clone_often(handle: &Arc<u64>, rt: &impl Wait) -> bool {
@@ -91,13 +77,6 @@ fn four_threads_clone_a_lent_handle(rt: HostRuntime) {
     holds!(&rt, a.is_unique());
 }
 
-fn clone_and_drop(handle: Arc<Counted<'_>>) {
-    for _ in 0..1000 {
-        let again: Result<_, _> = handle.clone();
-        drop(again);
-    }
-}
-
 #[test]
 fn a_mark_among_clones_keeps_the_value(rt: HostRuntime) {
     let tally = Tally::new();
@@ -106,7 +85,7 @@ fn a_mark_among_clones_keeps_the_value(rt: HostRuntime) {
     let c = again!(&rt, &kept);
     let (cloned, ()) = thread::join(
         &rt,
-        || thread::map_vec(&rt, handles, &|handle| clone_and_drop(handle)).is_ok(),
+        || thread::map_vec(&rt, handles, &|handle| clone_and_drop(&handle)).is_ok(),
         || c.mark_as_intentionally_leaked(),
     );
     let is_static = kept.is_static();
@@ -130,5 +109,50 @@ fn the_last_two_handles_drop_the_value_once(rt: HostRuntime) {
             thread::map_vec(&rt, handles, &|handle| drop_after(&rt, &here, handle))
         );
         same!(&rt, tally.drops(), round);
+    }
+}
+
+fn clone_union_often(union: ArcUnion<Counted<'_>, Counted<'_>>) -> bool {
+    for _ in 0..1000 {
+        match union.clone() {
+            Ok(again) if again.is_first() == union.is_first() => {}
+            _ => return false,
+        }
+    }
+    true
+}
+
+#[test]
+fn unions_of_both_kinds_on_two_threads_drop_each_value_once(rt: HostRuntime) {
+    let (first_tally, second_tally) = (Tally::new(), Tally::new());
+    let first = ArcUnion::<_, Counted<'_>>::from_first(arc_of(&rt, Counted::new(&first_tally, 1)));
+    let second = ArcUnion::<Counted<'_>, _>::from_second(arc_of(
+        &rt,
+        Counted::new(&second_tally, 2),
+    ));
+    let (first_again, second_again) = (again!(&rt, &first), again!(&rt, &second));
+    let done = thread::join(
+        &rt,
+        || clone_union_often(first) && clone_union_often(second),
+        || clone_union_often(second_again) && clone_union_often(first_again),
+    );
+    same!(&rt, done, (true, true));
+    same!(&rt, (first_tally.drops(), second_tally.drops()), (1, 1));
+}
+
+fn end(rt: &impl Abort, here: &AtomicU64, handle: Arc<u64>) -> Option<u64> {
+    arrive(rt, here, 2);
+    Arc::into_inner(handle)
+}
+
+#[test]
+fn one_of_two_threads_gets_the_value(rt: HostRuntime) {
+    for value in 0..1000u64 {
+        let here = AtomicU64::new(0);
+        let handles = two_of(&rt, value);
+        let given = thread::map_vec(&rt, handles, &|handle| end(&rt, &here, handle));
+        let given = ok!(&rt, given);
+        let is_given = given.contains(&Some(value)) && given.contains(&None);
+        same_at!(&rt, value, (given.len(), is_given), (2, true));
     }
 }

@@ -2,8 +2,8 @@
 use crate::support::{ok, same};
 use persistent::TreeMap;
 use servo_arc::Arc;
-use uses::restyle;
 use trees::Rose;
+use uses::restyle;
 use uses::style::{Declared, Inline};
 use uses::two_versions::{before_and_after, two_lists};
 

@@ -1,4 +1,4 @@
-// Waiting for other threads, by a counter of those that have come. A thread that waits too long ends the test badly.
+//! Waiting for other threads, by a counter of those that have come. A thread that waits too long ends the test badly.
 use std::process::Abort;
 use std::sync::atomic::AtomicU64;
 use std::sync::atomic::Ordering::SeqCst;

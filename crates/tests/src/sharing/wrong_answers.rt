@@ -1,7 +1,7 @@
-// How often `ptr_eq` errs while other threads ask the same of these blocks, as it may. Each figure is printed. That two
-// blocks are taken for one has a bound: with one sign in place of two, a fifth to a half of all answers was wrong. One
-// block may be taken for two in most calls, if the threads keep in step, so that has none. Once the other threads are
-// gone the answers are right again.
+//! How often `ptr_eq` errs while other threads ask the same of these blocks, as it may. Each figure is printed. That
+//! two blocks are taken for one has a bound: with one sign in place of two, a fifth to a half of all answers was wrong.
+//! One block may be taken for two in most calls, if the threads keep in step, so that has none. Once the other threads
+//! are gone the answers are right again.
 use crate::support::made::arc_of;
 use crate::support::{again, holds, ok};
 use servo_arc::Arc;

@@ -1,4 +1,4 @@
-// What a test begins with.
+//! What a test begins with.
 use crate::support::{again, ok};
 use servo_arc::Arc;
 use std::process::Abort;

@@ -1,4 +1,4 @@
-// Changes of a tree, each of which makes another.
+//! Changes of a tree, each of which makes another.
 ghost use Rattle.std.specs.Prelude.{◌≡◌, ◌↔◌, Err, None, Some, IfOk, ◌<◌, length};
 ghost use Rattle.servo_arc.specs.Copies.{CopiesAreEqual};
 ghost use Rattle.trees.specs.Changes.{made};

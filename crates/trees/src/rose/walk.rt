@@ -1,4 +1,4 @@
-// All values of a tree, and its end, by loops over what is left to be seen.
+//! All values of a tree, and its end, by loops over what is left to be seen.
 ghost use Rattle.std.specs.Prelude.{◌≡◌, IfOk, map};
 ghost use Rattle.trees.specs.Roses.{preorder};
 

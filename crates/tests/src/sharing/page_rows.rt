@@ -1,4 +1,4 @@
-// What versions read, which pages they share, and the texts.
+//! What versions read, which pages they share, and the texts.
 ghost use Rattle.std.specs.Prelude.{◌<◌};
 
 use crate::support::{again, ok, same, same_at};
@@ -17,7 +17,7 @@ fn reads(table: &CowTable<u32>, items: &[u32]) -> bool {
         && table.get(items.len()).is_none()
         && table.len() == items.len()
         && table.is_empty() == items.is_empty()
-        && table.iter().eq(items)
+        && table.into_iter().eq(items)
         && table.iter().rev().eq(items.iter().rev())
 }
 

@@ -1,4 +1,4 @@
-// What a call on versions of a list leaves.
+//! What a call on versions of a list leaves.
 use crate::refusals::reporting::report;
 use crate::support::counted::Tally;
 use crate::support::counted_lists::counted_items;

@@ -2,8 +2,9 @@
 ghost use Rattle.std.specs.Prelude.{◌≤◌};
 
 use crate::support::counted::{Counted, Tally};
+use crate::support::made::shared;
 use crate::support::{ok, same, same_at};
-use servo_arc::{Arc, BuildError, HeaderSlice, ThinArc, UniqueArc};
+use servo_arc::{Arc, BuildError, ThinArc, UniqueArc};
 use std::alloc::{AllocError, Global};
 use std::fmt::Debug;
 use std::process::Abort;
@@ -43,13 +44,6 @@ fn source_of<'a, T: Copy>(
 }
 
 type Built<T> = Result<ThinArc<u8, T>, BuildError>;
-
-fn shared<T: Drop>(unique: Result<UniqueArc<HeaderSlice<u8, T>>, BuildError>) -> Built<T> {
-    match unique {
-        Ok(unique) => Ok(unique.shareable()),
-        Err(refusal) => Err(refusal),
-    }
-}
 
 fn check_built<T: Debug + PartialEq + Drop>(
     rt: &impl Abort,

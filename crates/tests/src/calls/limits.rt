@@ -1,5 +1,6 @@
 //! Blocks with a limit of their own: each way to make one more handle stops there, and each way that a handle goes
 //! keeps it.
+use crate::support::made::shared;
 use crate::support::{again, ok, same, same_at};
 use servo_arc::word::MAX_REFCOUNT;
 use servo_arc::{Arc, ArcUnion, ThinArc, UniqueArc};
@@ -161,14 +162,14 @@ fn copied(alloc: Global, made: Result<Arc<u64>, u64>) -> Option<Arc<u64>> {
 }
 
 fn made_otherwise(alloc: Global) -> [Option<Arc<u64>>; 9] {
-    let unique = UniqueArc::new(alloc, 5u64).ok();
+    let unique = UniqueArc::new(alloc, 5u64);
     let unwritten = UniqueArc::new_uninit(alloc).ok();
     [
         Arc::new_with_limit(alloc, 5, MAX_REFCOUNT).ok(),
         Arc::new(alloc, 5).ok(),
         Arc::from_value(alloc, 5).ok(),
         Arc::try_default(alloc).ok(),
-        unique.map(|unique| unique.shareable()),
+        shared(unique).ok(),
         unwritten.map(|block| block.write(5u64).shareable()),
         copied(alloc, Arc::new(alloc, 5)),
         copied(alloc, Arc::new_leaked(alloc, 5)),
@@ -184,8 +185,8 @@ fn built_otherwise(alloc: Global) -> [Option<ThinArc<u64, u64>>; 5] {
         Arc::from_header_and_iter(alloc, 5, one.into_iter()).ok(),
         Arc::from_header_and_iter_with_size(alloc, 5, one.into_iter(), 1).ok(),
         Arc::from_header_and_iter_alloc(alloc, 5, one.into_iter(), 1, false).ok(),
-        unique.ok().map(|unique| unique.shareable()),
-        sized.ok().map(|unique| unique.shareable()),
+        shared(unique).ok(),
+        shared(sized).ok(),
     ]
 }
 

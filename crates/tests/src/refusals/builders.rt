@@ -1,6 +1,7 @@
 //! What a builder of header slices leaves.
 use crate::refusals::reporting::report;
 use crate::support::counted::{Counted, Tally};
+use crate::support::made::shared;
 use crate::support::{ok, same, same_at};
 use servo_arc::{Arc, BuildError, HeaderSlice, UniqueArc};
 use std::alloc::{AllocError, Global};
@@ -103,15 +104,6 @@ const BUILDERS: [Builder; 8] = [
 type Counts<'a> = HeaderSlice<Counted<'a>, Counted<'a>>;
 
 type Built<'a> = Result<Arc<Counts<'a>>, BuildError>;
-
-fn shared<'a, T: Drop, E>(
-    built: Result<UniqueArc<HeaderSlice<Counted<'a>, T>>, E>,
-) -> Result<Arc<HeaderSlice<Counted<'a>, T>>, E> {
-    match built {
-        Ok(unique) => Ok(unique.shareable()),
-        Err(refusal) => Err(refusal),
-    }
-}
 
 fn build<'a>(builder: Builder, alloc: Global, ledger: &'a Ledger, len: usize) -> Built<'a> {
     let (header, items) = (ledger.header(), ledger.source(len));

@@ -1,6 +1,7 @@
 //! What a call that makes a handle or copies its value leaves.
 use crate::refusals::reporting::report;
 use crate::support::counted::{Counted, Tally};
+use crate::support::made::shared;
 use crate::support::{holds, ok, same};
 use servo_arc::word::MAX_REFCOUNT;
 use servo_arc::{Arc, UniqueArc};
@@ -39,10 +40,7 @@ fn made<T: Drop>(maker: Maker, alloc: Global, value: T) -> Result<Arc<T>, T> {
         Maker::NewLeaked => Arc::new_leaked(alloc, value),
         Maker::NewStatic => Arc::new_static(alloc, value),
         Maker::FromValue => Arc::from_value(alloc, value),
-        Maker::Unique => match UniqueArc::new(alloc, value) {
-            Ok(unique) => Ok(unique.shareable()),
-            Err(value) => Err(value),
-        },
+        Maker::Unique => shared(UniqueArc::new(alloc, value)),
         Maker::TryNew => match Arc::try_new(alloc, value) {
             Ok(handle) => Ok(handle),
             Err(failed) => Err(failed.value),

@@ -1,10 +1,17 @@
 //! What a test begins with.
 use crate::support::{again, ok};
-use servo_arc::Arc;
+use servo_arc::{Arc, UniqueArc};
 use std::process::Abort;
 
 pub fn arc_of<T: Drop>(rt: &(impl Abort + AllocGlobal), value: T) -> Arc<T> {
     ok!(rt, Arc::new(rt.alloc(), value))
+}
+
+pub fn shared<T: Drop, E>(made: Result<UniqueArc<T>, E>) -> Result<Arc<T>, E> {
+    match made {
+        Ok(unique) => Ok(unique.shareable()),
+        Err(refusal) => Err(refusal),
+    }
 }
 
 /// A job for each of two threads.

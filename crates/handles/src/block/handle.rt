@@ -132,7 +132,8 @@ impl<T> Handle<T> {
         ensures block { result.1.block ≡ self.now.block }
         ensures id { result.1.id ≡ self.now.id }
         ensures number { result.1.number ≡ newest result.1.log }
-        ensures log { Adds self.now.held.limit.count permit.log (made self.now.number (raises_from seen)) result.0 result.1.log }
+        ensures log { Adds self.now.held.limit.count permit.log
+            (made self.now.number (raises_from seen)) result.0 result.1.log }
     {
         let Permit { block } = permit;
         let found = unsafe { exchange::<Brand>(&raw const (*block).word, seen, next) };

@@ -1,4 +1,6 @@
 -- The steps on a block's word, each under the block's rule: what its maker puts in, and what it leaves the maker with.
+pub mod Asking
+mod Framing
 pub mod Words
 pub mod Shared
 pub mod Stepped

@@ -1,4 +1,9 @@
 -- The names that the walks over a block's raw pointer cite.
+pub mod AtType
+pub mod BorrowedHandle
+pub mod Fields
+pub mod Logged
+pub mod OneParam
 pub use Rattle.std.proofs.Common.{◌≡◌, ℕ, ◌+◌, ◌-◌, ◌%◌, ◌^◌, ◌<◌, Bool, true, false, List, [], ◌∷◌, ◌++◌, refl, sym}
 pub use Rattle.std.proofs.Common.{ap, ◌∙◌, subst, lit<, arith, w64}
 pub use mir.Syntax.{a_type, named}
@@ -34,7 +39,7 @@ pub use denote.Ref.{shr_vals, shr_Tells, MutBor, MutRef, mut_Tells, mut_vals}
 pub use denote.Triple.Walked.{Stays, stay_dropped, walk_of, Goes-dropped, Goes-ref, Goes-spent_ref, stay_ref}
 pub use Rattle.core.proofs.alloc.Shapes.{after}
 pub use Rattle.atomic_table.proofs.Walks.{proved, leaves}
-pub use Rattle.handles.proofs.AtType.{at_type, walks, walks_at}
+pub use Rattle.handles.proofs.Walks.AtType.{at_type, walks, walks_at}
 pub use Rattle.atomic_table.proofs.Calls.{fm, found, finds}
 pub use Rattle.counting_word.specs.Rights.{Right, IsWholeBlock, a_handle, right_by_unique_read, right_by_drop_read}
 pub use Rattle.counting_word.specs.Rights.{right_by_lower, right_by_raise, right_by_read, to_lower, whole_block}
@@ -42,35 +47,35 @@ pub use Rattle.handles.specs.Inside.Blocks.{HeldRow, BlockId, stamp, block_rule,
 pub use Rattle.handles.specs.Inside.Blocks.{bare_block, counted_handle, handle_owns, handle_shares, heap_offset}
 pub use Rattle.handles.specs.Inside.Blocks.{held_offset, lent_share, marked, owned_as, placed, shared_as, shown}
 pub use Rattle.handles.specs.Inside.Blocks.{stamp_offset, unshared_block, sole_handle, Sharing, held_as}
-pub use Rattle.handles.proofs.Fields.{one_word, word_and_permit, one_word-Good, words_are, words_made, HandleRow}
-pub use Rattle.handles.proofs.Fields.{PermitRow, HandleWords, PermitWords, known, is_number, returns_permit}
-pub use Rattle.handles.proofs.Fields.{word_and_permit-Good, handle_at, permit_at, big_lit, lower-NoHandle}
-pub use Rattle.handles.proofs.Fields.{permit_kept, sole_permits, sole_shown, whole_block_of, read-NoBlock}
-pub use Rattle.handles.proofs.Fields.{raise-NoBlock, drop_read-NoHandle}
-pub use Rattle.handles.proofs.BorrowedHandle.{opens_word, opens_handle, shows_permit, closes_borrow, asks_with}
-pub use Rattle.handles.proofs.BorrowedHandle.{asks_new, logs, reports, parted, word_at}
-pub use Rattle.handles.proofs.OneParam.{a_ref, by_ref, by_handle, by_value, handle_worded, permit_worded, is_handle}
-pub use Rattle.handles.proofs.OneParam.{so, also}
+pub use Rattle.handles.proofs.Walks.Fields.{one_word, word_and_permit, one_word-Good, words_are, words_made, HandleRow}
+pub use Rattle.handles.proofs.Walks.Fields.{PermitRow, HandleWords, PermitWords, known, is_number, returns_permit}
+pub use Rattle.handles.proofs.Walks.Fields.{word_and_permit-Good, handle_at, permit_at, big_lit, lower-NoHandle}
+pub use Rattle.handles.proofs.Walks.Fields.{permit_kept, sole_permits, sole_shown, whole_block_of, read-NoBlock}
+pub use Rattle.handles.proofs.Walks.Fields.{raise-NoBlock, drop_read-NoHandle}
+pub use Rattle.handles.proofs.Walks.BorrowedHandle.{opens_word, opens_handle, shows_permit, closes_borrow, asks_with}
+pub use Rattle.handles.proofs.Walks.BorrowedHandle.{asks_new, logs, reports, parted, word_at}
+pub use Rattle.handles.proofs.Walks.OneParam.{a_ref, by_ref, by_handle, by_value, handle_worded, permit_worded}
+pub use Rattle.handles.proofs.Walks.OneParam.{is_handle, so, also}
 pub use Rattle.counting_word.specs.Tallies.{Adds, newest}
 pub use Rattle.handles.proofs.Steps.Born.{static_entry, Born, BornSome, Known, born, knows}
-pub use Rattle.handles.proofs.Boxes.{Boxed, box_opens, box_shuts, heap_twice}
-pub use Rattle.handles.proofs.RawBoxes.{Global, Goes-blank, Lasts, RawBoxRow, box_in, box_out, dcons, dnil, ghosts}
-pub use Rattle.handles.proofs.RawBoxes.{glues, handle_tells, heap, heap_arg, heap_arg-laws, heap_row, lasts}
-pub use Rattle.handles.proofs.RawBoxes.{named_in, pair_val, passed, raw_box-Good, raw_box_opens, raw_box_shuts}
-pub use Rattle.handles.proofs.RawBoxes.{triple_of, ⊑_static}
+pub use Rattle.handles.proofs.Blocks.Boxes.{Boxed, box_opens, box_shuts, heap_twice}
+pub use Rattle.handles.proofs.Blocks.RawBoxes.{Global, Goes-blank, Lasts, RawBoxRow, box_in, box_out, dcons, dnil}
+pub use Rattle.handles.proofs.Blocks.RawBoxes.{ghosts, glues, handle_tells, heap, heap_arg, heap_arg-laws, heap_row}
+pub use Rattle.handles.proofs.Blocks.RawBoxes.{lasts, named_in, pair_val, passed, raw_box-Good, raw_box_opens}
+pub use Rattle.handles.proofs.Blocks.RawBoxes.{raw_box_shuts, triple_of, ⊑_static}
 pub use Rattle.core.proofs.cell.Inside.{Good}
 pub use Rattle.handles.specs.Inside.Marked.{HasMark, marked_shares, tells_mark}
 pub use denote.Struct.Lending.{Lends-both, Lends-said, lent_at, of_Lends}
 pub use Rattle.handles.proofs.Owners.{Lends-owned, forgets, handle_settles, handle_shares-ShrLaws, shown_by}
-pub use Rattle.handles.proofs.LoggedSteps.{LoggedRow, NoBytes, no_bytes-made, no_bytes_told, returns_logged}
-pub use Rattle.handles.proofs.LoggedSteps.{word_and_logged, word_and_logged-Good}
+pub use Rattle.handles.proofs.Walks.Logged.{LoggedRow, NoBytes, no_bytes-made, no_bytes_told, returns_logged}
+pub use Rattle.handles.proofs.Walks.Logged.{word_and_logged, word_and_logged-Good}
 pub use Rattle.std_alloc.proofs.RcSteps.{Ptr-Good}
 pub use Rattle.handles.proofs.Steps.Shared.{SharedBlock, and_logged, block_at}
 pub use denote.Triple.Entry.{Vals}
 pub use Rattle.counting_word.specs.Logs.{Entry, made}
 pub use Rattle.handles.proofs.Steps.Reads.{a_share, after_read, asks, reads}
-pub use Rattle.handles.proofs.MarkedShared.{becomes_lasting, marked_shares-ShrLaws, stays_shown}
-pub use Rattle.handles.proofs.MarkedShared.{Lasts_new, new_lasts, staying}
+pub use Rattle.handles.proofs.Owners.Marked.{becomes_lasting, marked_shares-ShrLaws, stays_shown}
+pub use Rattle.handles.proofs.Owners.Marked.{Lasts_new, new_lasts, staying}
 pub use denote.Triple.Call.{calls_at, calls_at_last}
 pub use denote.Opens.{hide, unhide}
 pub use Rattle.counting_word.specs.CountingWord.{is_one_handle, mark_bit, marked_word}

@@ -35,7 +35,7 @@ impl<T> Handle<T> {
 
     // One raise, if the word that was seen allows it.
     #[inline]
-    #[tactic(auto, using(crate::proofs::Founds::found_full))]
+    #[tactic(auto, using(crate::proofs::Logs::Founds::found_full))]
     pub(crate) fn next_attempt(&self, held: &Held<T>, word: u64, permit: Permit<T>) -> Attempt<T>
         requires shared { self.now.sole ≡ false }
         requires held { held.now ≡ self.now.held }

@@ -1,7 +1,7 @@
 -- What is known of a marked block with no step on its word: that it is marked, by a log with a mark in it; and then a
 -- handle more, which the log has as an entry that is no step. Assumes `Logic`.
 use Rattle.handles.specs.Inside.Marked.{HasMark}
-use Rattle.handles.proofs.MarkedLogs.{has_mark-prefix}
+use Rattle.handles.proofs.Logs.Marks.{has_mark-prefix}
 use Rattle.handles.proofs.Steps.Reads.{own_pass, a_share, no_share}
 use Rattle.handles.proofs.Steps.Turns.{turns_static}
 use Rattle.handles.proofs.Steps.Stepped.{begun_with, records, Recorded, unknown}
@@ -27,9 +27,11 @@ module _ {M : Type 1} {𝓤 : Ura M} (𝓛 : Logic 𝓤) (s : SharedBlock) (q : 
   abbrev pub Born : ℕ → List Entry → Fml
   Born w log = fsep (a_share s q) (fsep (adds s.limit s.id [] (static_entry s) w log) (grants s a_handle log))
 
+  -- at some word and log
   abbrev pub BornSome : Fml
   BornSome = fex ℕ (λ w. fex (List Entry) (Born w))
 
+  -- a share of the token of a marked block makes one more handle
   pub born : ent 𝓤 (sep 𝓤 (sem 𝓛 (finv (rule s))) (sem 𝓛 (fsep (marked s.names) (a_share s q))))
       (H.⇛ (sem 𝓛 BornSome))
   born = qed 𝓛 (‵ (finv (rule s)) ∷ ‵ (fsep (marked s.names) (a_share s q)) ∷ []) ∵
@@ -74,9 +76,11 @@ module _ {M : Type 1} {𝓤 : Ura M} (𝓛 : Logic 𝓤) (s : SharedBlock) (q : 
     abbrev Knows : Fml
     Knows = fsep (reached s.id old) (a_share s q)
 
+    -- the mark, and the share as it was
     abbrev pub Known : Fml
     Known = fsep (marked s.names) (a_share s q)
 
+    -- the log tells the mark
     pub knows : ent 𝓤 (sep 𝓤 (sem 𝓛 (finv (rule s))) (sem 𝓛 Knows)) (H.⇛ (sem 𝓛 Known))
     knows = qed 𝓛 (‵ (finv (rule s)) ∷ ‵ Knows ∷ []) ∵
         suffices ! _ (𝓛.invs.inv_acc (rule s) (sem 𝓛 Known)) $ frame ! $ assume ! (‵ (rule s)) $

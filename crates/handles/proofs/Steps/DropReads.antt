@@ -1,5 +1,5 @@
 -- The read by which a handle ends, and what every step by a handle's holder has. Assumes `Logic`.
-use Rattle.handles.proofs.Asking as asking
+use Rattle.handles.proofs.Steps.Asking as asking
 use Rattle.handles.proofs.Steps.Turns.{turns_drop_read}
 use Rattle.handles.proofs.Steps.Stepped.{Turns, stepped, unknown}
 use Rattle.handles.proofs.Steps.Shared.{◌≡◌, ℕ, ◌^◌, ◌<◌, Bool, true, false, [], ◌∷◌, ap, if◌then◌else◌, Ura, SProp}
@@ -19,6 +19,7 @@ a_stake s y e = fsep (entitled s.names e y) (flft (shared s) e)
 abbrev pub whole_pass : SharedBlock → Fml
 whole_pass s = pass s.id.living s.own full_share
 
+-- what the read leaves
 abbrev pub after_drop_read : SharedBlock → ℕ → List Entry → Fml
 after_drop_read s w log = grants s (right_by_drop_read w) log
 
@@ -38,11 +39,13 @@ module _ {M : Type 1} {𝓤 : Ura M} (𝓛 : Logic 𝓤) (s : SharedBlock) where
 
   module _ (what : WordStep) (f : ℕ → ℕ) (is : (w : ℕ) → w < 2 ^ 64 → word_by what w ≡ f w)
       (after Also : ℕ → List Entry → Fml) (turns : Turns 𝓛 s [] (by_own s what) (whole_pass s) Also) where
+    -- what the step does while the block lives, by the share that the holder has of the token
     abbrev pub HeldSteps : Type 1
     HeldSteps = (j : ℕ) (mark y : Bool) (e : Share) (w n : ℕ) (log : List Entry) → w < 2 ^ 64
         → StandsWithin s.limit w mark n
         → Lands 𝓛 s (f w) log mark n (fsep (a_stake s y e) (Also w log)) (after w log) j
 
+    -- then the holder of a handle may ask for it
     pub held_step : HeldSteps → Asks 𝓛 s f (fsep ftrue (stake s.names s.id s.own))
         (and_logged s [] (by_own s what) after)
     held_step steps = stepped 𝓛 s [] ftrue (unknown 𝓛 s) (by_own s what) f is after (title s.names) (whole_pass s)
@@ -51,6 +54,7 @@ module _ {M : Type 1} {𝓤 : Ura M} (𝓛 : Logic 𝓤) (s : SharedBlock) where
         fpick ! (λ e. fsplit ! $ fpick ! (λ y. move ! (0 ∷ 1 ∷ []) $ fjoin ! $ move ! (0 ∷ 1 ∷ []) $ fjoin ! $
         move ! (1 ∷ 2 ∷ 0 ∷ []) $ by ! (steps j mark y e w n log small holds)))) no_stake
 
+  -- the read by which a handle ends
   pub drop_reads : Asks 𝓛 s (λ w. w) (fsep ftrue (stake s.names s.id s.own))
       (and_logged s [] (by_own s reads_for_drop) (after_drop_read s))
   drop_reads = held_step reads_for_drop (λ w. w) (λ w _. refl) (after_drop_read s)

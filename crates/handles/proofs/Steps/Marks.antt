@@ -1,7 +1,7 @@
 -- The mark, made through a `&` to a handle. Assumes `Logic`.
 use lib.Bits.{bit_or}
 use Rattle.counting_word.specs.WordSteps as step
-use Rattle.handles.proofs.Asking as asking
+use Rattle.handles.proofs.Steps.Asking as asking
 use Rattle.handles.proofs.Steps.Stepped.{stepped, unknown}
 use Rattle.handles.proofs.Steps.Shared.{◌≡◌, ℕ, ◌+◌, ◌^◌, ◌<◌, Bool, true, false, [], ◌∷◌, sym, refl, ◌∙◌, subst}
 use Rattle.handles.proofs.Steps.Shared.{List, Entry, by_own}
@@ -20,6 +20,7 @@ abbrev pub after_mark : SharedBlock → Share → ℕ → List Entry → Fml
 after_mark s q w log = a_share s q
 
 module _ {M : Type 1} {𝓤 : Ura M} (𝓛 : Logic 𝓤) (s : SharedBlock) (q : Share) where
+  -- an or with the mark
   pub marks : Asks 𝓛 s (λ w. bit_or w mark_bit) (fsep ftrue (a_share s q))
       (and_logged s [] (by_own s step.marks) (after_mark s q))
   marks = stepped 𝓛 s [] ftrue (unknown 𝓛 s) (by_own s step.marks) (λ w. bit_or w mark_bit)

@@ -20,6 +20,7 @@ use Rattle.handles.proofs.Steps.Turns.{turns_raise}
 abbrev pub raised : ℕ → ℕ → ℕ → ℕ
 raised seen next w = either (eqb w seen) next w
 
+-- what a raise leaves
 abbrev pub after_raise : SharedBlock → Share → ℕ → ℕ → List Entry → Fml
 after_raise s q seen w log = reported s q w (right_by_raise seen w) log
 
@@ -67,6 +68,7 @@ module _ {M : Type 1} {𝓤 : Ura M} (𝓛 : Logic 𝓤) (s : SharedBlock) (q : 
   Raises next = Asks 𝓛 s (raised seen next) (fsep (reached s.id old) (a_share s q))
       (and_logged s old (by_own s (step.raises_from seen)) (after_raise s q seen))
 
+  -- a raise from a count that a read through the same handle found
   pub raises : (next : ℕ) → next ≡ seen + 1 → Raises next
   raises next is_next = subst Raises (sym is_next)
       (stepped 𝓛 s old (reached s.id old) (begun_with 𝓛 s old) (by_own s (step.raises_from seen))

@@ -9,7 +9,7 @@ use Rattle.handles.proofs.Steps.Shared.{SharedBlock, shared, counts, beside, rul
 use Rattle.handles.proofs.Steps.Shared.{Bool, passes_on, Entails, no_token, stays_living, regranted, makes_one, Lands}
 use Rattle.handles.proofs.Steps.Shared.{Asks, by_own}
 use Rattle.handles.proofs.Steps.Shared.{and_logged, refl, ftrue, IsWithin, Right, fact, id⊢}
-use Rattle.handles.proofs.Asking as asking
+use Rattle.handles.proofs.Steps.Asking as asking
 use Rattle.handles.proofs.Steps.Turns.{turns_read, turns_none}
 
 module _ (s : SharedBlock) (q : Share) where
@@ -17,9 +17,11 @@ module _ (s : SharedBlock) (q : Share) where
   abbrev pub bare_share : Fml
   bare_share = flft (shared s) q
 
+  -- a share of the pass of the handle
   abbrev pub own_pass : Fml
   own_pass = pass s.id.living s.own q
 
+  -- a share of the token and of the pass
   abbrev pub a_share : Fml
   a_share = fsep bare_share own_pass
 
@@ -27,18 +29,22 @@ module _ (s : SharedBlock) (q : Share) where
   abbrev pub bare_reported : ℕ → Right → List Entry → Fml
   bare_reported w r log = fsep bare_share (fsep (fact (IsWithin w s.limit)) (granted s r log))
 
+  -- the same, with the passes
   abbrev pub reported : ℕ → Right → List Entry → Fml
   reported w r log = fsep a_share (fsep (fact (IsWithin w s.limit)) (grants s r log))
 
+  -- what a read leaves
   abbrev pub after_read : ℕ → List Entry → Fml
   after_read w log = reported w (right_by_read w) log
 
 module _ {M : Type 1} {𝓤 : Ura M} (𝓛 : Logic 𝓤) (s : SharedBlock) (q : Share) where
+  -- nobody has a share of the token of a block that is over
   pub no_share : ent 𝓤 (sem 𝓛 (fsep (unshared s.names) (bare_share s q))) (never 𝓤)
   no_share = qed 𝓛 (‵ (unshared s.names) ∷ ‵ (bare_share s q) ∷ []) ∵ move ! (1 ∷ 0 ∷ []) $
       by ! (no_token 𝓛 (shared s) q (never 𝓤))
 
   module _ (log : List Entry) where
+    -- the invariant stands again, and the share and the right are left
     pub shut : (r : Right) (j w : ℕ) → IsWithin w s.limit
         → ent 𝓤 (sem 𝓛 (fsep (rule s) (fsep (granted s r log) (bare_share s q)))) (asking.Ending 𝓛 (rule s)
         (bare_reported s q w r log) j)
@@ -56,6 +62,7 @@ module _ {M : Type 1} {𝓤 : Ura M} (𝓛 : Logic 𝓤) (s : SharedBlock) (q : 
         use1 𝓛 (‵ (granted s r log)) (regranted 𝓛 s a_handle r log e) $ move ! (1 ∷ 0 ∷ []) $
         by ! (shut r j w holds.1)
 
+    -- a step that found no mark and gives nothing
     pub found_unmarked : (r : Right) → r ≡ nothing → (j w n : ℕ) → StandsWithin s.limit w false n
         → Lands 𝓛 s w log false n (bare_share s q) (bare_reported s q w r log) j
     found_unmarked r e j w n holds = qed 𝓛 (‵ (counts s w log) ∷ ‵ (beside s false n) ∷ ‵ (bare_share s q)
@@ -85,6 +92,7 @@ module _ {M : Type 1} {𝓤 : Ura M} (𝓛 : Logic 𝓤) (s : SharedBlock) (q : 
       use2 𝓛 (‵ (rule s)) (stays_living 𝓛 s mark w n log holds) $ by ! (asking.closes 𝓛 (rule s) (bare_share s q) j)))
       no_share
 
+  -- a load that makes a handle if it finds the mark
   pub reads : Asks 𝓛 s (λ w. w) (fsep ftrue (a_share s q)) (and_logged s [] (by_own s step.reads) (after_read s q))
   reads = stepped 𝓛 s [] ftrue (unknown 𝓛 s) (by_own s step.reads) (λ w. w) (λ w _. refl) (after_read s q)
       (bare_share s q) (own_pass s q) (λ w log. fsep (own_pass s q) (passed s (right_by_read w) log))

@@ -1,6 +1,6 @@
 -- A step on a word that stays in the invariant beside the counting word, as the stamp: it changes nothing else.
 -- Assumes `Logic`.
-use Rattle.handles.proofs.Asking as asking
+use Rattle.handles.proofs.Steps.Asking as asking
 use Rattle.handles.proofs.Steps.Shared.{finv, ℕ, ◌+◌, Bool, true, false, [], ◌∷◌, Ura, full_share, SProp, ent, never}
 use Rattle.handles.proofs.Steps.Shared.{Share, Fml, fsep, fex, flft, flent, Logic, sem, ‵, ◌⊛◌, ◌$◌, ◌∵◌, !, qed, by}
 use Rattle.handles.proofs.Steps.Shared.{move, keep, split, fsplit, fsplit3, fjoin, fjoin3, fpick, fpack, frame}
@@ -41,6 +41,7 @@ module _ {M : Type 1} {𝓤 : Ura M} (𝓛 : Logic 𝓤) (s : SharedBlock) (o : 
   goes_in true n = qed 𝓛 (‵ (kept_word s o) ∷ ‵ (Others true n) ∷ []) ∵ move ! (1 ∷ []) $ fsplit3 ! $
       move ! (1 ∷ 3 ∷ []) $ fjoin ! $ move ! (1 ∷ 0 ∷ 2 ∷ []) $ fjoin3 ! $ done !
 
+  -- any step on the stamp through a `&` to a handle
   pub stamps : ent 𝓤 (sem 𝓛 (fsep (finv I) (a_share s q))) (asks 𝓛 (block_ptr s.block o)
       f always (λ _. a_share s q))
   stamps = asking.opened 𝓛 I s.block o f (λ _. a_share s q) (a_share s q)

@@ -4,8 +4,8 @@ use seplogic.Ra.Ura.{Ura}
 use base.Fraction.{full_share}
 use types.Logic.{Logic, sem}
 use denote.Steps.{nothing as nothing_more}
-use Rattle.handles.proofs.Framing.{shifted_framed}
-use Rattle.handles.proofs.Asking as asking
+use Rattle.handles.proofs.Steps.Framing.{shifted_framed}
+use Rattle.handles.proofs.Steps.Asking as asking
 use types.Growing.{latest_grows, latest_shows, latest_bounds}
 use base.Stored.{Gv}
 use Rattle.handles.proofs.Steps.Shared.{SharedBlock, rule, beside, at_stage, and_logged, Lands, Asks, fits, guard}
@@ -28,6 +28,7 @@ module _ {M : Type 1} {𝓤 : Ura M} (𝓛 : Logic 𝓤) (s : SharedBlock) where
       → ent 𝓤 (sem 𝓛 (fsep T (rows s.id (tally_of log)))) (guard 𝓤 (MayMake s.limit (tally_of log) e)
       (sem 𝓛 (fsep (T' w (log ++ e ∷ [])) (rows s.id (tally_of (log ++ e ∷ []))))))
 
+  -- the same, whatever word it finds
   abbrev pub Turns : List Entry → Entry → Fml → (ℕ → List Entry → Fml) → Type 1
   Turns old e T T' = (w : ℕ) → TurnsAt old e T T' w
 
@@ -88,6 +89,7 @@ module _ {M : Type 1} {𝓤 : Ura M} (𝓛 : Logic 𝓤) (s : SharedBlock) where
   module _ (old : List Entry) (Old : Fml) (known : Knows old Old) (e : Entry) (f : ℕ → ℕ)
       (is : (w : ℕ) → w < 2 ^ 64 → word_after e.kind w ≡ f w) (after : ℕ → List Entry → Fml) (X T : Fml)
       (T' : ℕ → List Entry → Fml) (turns : Turns old e T T') where
+    -- what the step does while the block lives
     abbrev pub Steps : Type 1
     Steps = (j : ℕ) (mark : Bool) (w n : ℕ) (log : List Entry) → w < 2 ^ 64 → StandsWithin s.limit w mark n
         → Lands 𝓛 s (f w) log mark n (fsep X (T' w log)) (after w log) j
@@ -95,6 +97,7 @@ module _ {M : Type 1} {𝓤 : Ura M} (𝓛 : Logic 𝓤) (s : SharedBlock) where
     abbrev Ready : ℕ → List Entry → Fml
     Ready w log = Recorded old Old known e T T' w (f w) log
 
+    -- then it may be asked for, and leaves its entry in the log
     pub stepped : Steps → ent 𝓤 (sem 𝓛 (fsep (unshared s.names) X)) (never 𝓤)
         → Asks 𝓛 s f (fsep Old (fsep X T)) (and_logged s old e after)
     stepped steps over-not = asking.opened 𝓛 (rule s) s.block s.offset f (and_logged s old e after)

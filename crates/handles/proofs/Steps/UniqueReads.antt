@@ -1,6 +1,6 @@
 -- A read by the holder of a handle that nobody borrows: if it finds 1, that is the only one. Assumes `Logic`.
 use Rattle.counting_word.specs.WordSteps as step
-use Rattle.handles.proofs.Asking as asking
+use Rattle.handles.proofs.Steps.Asking as asking
 use Rattle.handles.proofs.Steps.Shared.{◌≡◌, ◌≢◌, ℕ, Bool, true, false, [], ◌∷◌, sym, refl, ap, ◌∙◌, subst, eq-eqb}
 use Rattle.handles.proofs.Steps.Shared.{ne_eqb, if◌then◌else◌, dite, ℕ_discrete, Ura, ent, Share, Fml, fsep, fex}
 use Rattle.handles.proofs.Steps.Shared.{flft, Logic, sem, ‵, ◌$◌, ◌∵◌, !, qed, by, move, keep, drop, fjoin, fpick}
@@ -22,6 +22,7 @@ abbrev pub after_unique_read : SharedBlock → ℕ → List Entry → Fml
 after_unique_read s w log = fsep (bare_unique_read s w log) (whole_pass s)
 
 module _ {M : Type 1} {𝓤 : Ura M} (𝓛 : Logic 𝓤) (s : SharedBlock) where
+  -- the read shows whether the handle is the only one
   pub reads_for_unique : Asks 𝓛 s (λ w. w) (fsep ftrue (stake s.names s.id s.own))
       (and_logged s [] (by_own s step.reads_for_unique) (after_unique_read s))
   reads_for_unique = held_step 𝓛 s step.reads_for_unique (λ w. w) (λ w _. refl) (after_unique_read s)

@@ -1,9 +1,9 @@
 -- `has_no_size` compares the size that a word holds.
-use Rattle.handles.proofs.PlacesWalks.{◌≡◌, Bool, List, [], ◌∷◌, refl, a_type, Val, inst_fn, SProp, emp, ftrue, flft}
-use Rattle.handles.proofs.PlacesWalks.{‵, raw, ◌⊛◌, ◌$◌, ◌∵◌, !, qed, by, move, keep, split, join, use0, feq_i, lit}
-use Rattle.handles.proofs.PlacesWalks.{returns, enter, alloc_all, pass_all, free_all, look_at, sets, tables, fact}
-use Rattle.handles.proofs.PlacesWalks.{fact_i, nothing_more, layout, layouts, walk_of, proved, leaves, capped, bin}
-use Rattle.handles.proofs.PlacesWalks.{size_word, vbool, eqb, capped_zero}
+use Rattle.handles.proofs.Places.{◌≡◌, Bool, List, [], ◌∷◌, refl, a_type, Val, inst_fn, SProp, emp, ftrue, flft}
+use Rattle.handles.proofs.Places.{‵, raw, ◌⊛◌, ◌$◌, ◌∵◌, !, qed, by, move, keep, split, join, use0, feq_i, lit}
+use Rattle.handles.proofs.Places.{returns, enter, alloc_all, pass_all, free_all, look_at, sets, tables, fact}
+use Rattle.handles.proofs.Places.{fact_i, nothing_more, layout, layouts, walk_of, proved, leaves, capped, bin}
+use Rattle.handles.proofs.Places.{size_word, vbool, eqb, capped_zero}
 use Rattle.std.specs.Prelude.{IsTrue, ◌↔◌}
 use prog.Memory.{size}
 use Rattle.handles.specs.contracts.header_slice.places.has_no_size.{ended, clauses}

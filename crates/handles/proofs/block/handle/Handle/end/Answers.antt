@@ -4,7 +4,7 @@ use Rattle.counting_word.specs.WordSteps.{lowers}
 use Rattle.counting_word.specs.Logs.{made}
 use Rattle.counting_word.specs.Tallies.{Adds}
 use Rattle.handles.specs.declared.block.Held.{Held}
-use Rattle.handles.proofs.Founds.{answers, marked_by_plan}
+use Rattle.handles.proofs.Logs.Founds.{answers, marked_by_plan}
 use Rattle.handles.proofs.block.handle.Handle.end.Goals as goal
 
 -- the read found the mark

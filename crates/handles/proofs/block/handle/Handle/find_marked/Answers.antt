@@ -2,7 +2,7 @@ use Rattle.std.proofs.Common.{sym, ◌∙◌, subst, true}
 use Rattle.counting_word.specs.CountingWord.{is_marked_word}
 use Rattle.counting_word.specs.WordSteps.{asks}
 use Rattle.handles.specs.Founds.{Answers}
-use Rattle.handles.proofs.MarkedLogs.{asks_shown}
+use Rattle.handles.proofs.Logs.Marks.{asks_shown}
 use Rattle.handles.proofs.block.handle.Handle.find_marked.Goals as goal
 
 -- the word that was read has the mark, which is then in the log

@@ -9,7 +9,7 @@ use Rattle.handles.proofs.Walks.{BlockId, sole_handle, handle_at, Entry, List, G
 use Rattle.handles.proofs.Walks.{raw_box-Good, raw_box_opens, box_opens}
 use Rattle.handles.proofs.Walks.{at_type, walks_at}
 use Rattle.handles.specs.contracts.block.Block as block_type
-use Rattle.handles.proofs.NewBlocks.{begins_sole}
+use Rattle.handles.proofs.Blocks.New.{begins_sole}
 use Rattle.handles.specs.contracts.block.handle.Handle as handle_type
 use Rattle.handles.specs.contracts.block.handle.Handle.first.{ended, clauses}
 use Rattle.handles.specs.contracts.block.handle.Handle.first.Key.{name as #self}

@@ -1,4 +1,4 @@
-use Rattle.handles.proofs.Founds.{found_word, read_found}
+use Rattle.handles.proofs.Logs.Founds.{found_word, read_found}
 use Rattle.handles.proofs.block.handle.Handle.first_attempt.Goals as goal
 
 -- the read found the word

@@ -1,5 +1,5 @@
 use Rattle.std.proofs.Common.{refl}
-use Rattle.handles.proofs.Founds.{answers}
+use Rattle.handles.proofs.Logs.Founds.{answers}
 use Rattle.handles.proofs.block.handle.Handle.is_only.Goals as goal
 
 pub returns : goal.returns

@@ -1,4 +1,4 @@
-use Rattle.handles.proofs.Founds.{found_word, lost_right, lost_raise, raise_found}
+use Rattle.handles.proofs.Logs.Founds.{found_word, lost_right, lost_raise, raise_found}
 use Rattle.handles.proofs.block.handle.Handle.next_attempt.Goals as goal
 
 -- a raise that was lost found the word

@@ -2,7 +2,7 @@ use Rattle.std.proofs.Common.{[], sym, subst}
 use Rattle.counting_word.specs.WordSteps.{marks}
 use Rattle.counting_word.specs.Logs.{made}
 use Rattle.counting_word.specs.Tallies.{Adds}
-use Rattle.handles.proofs.MarkedLogs.{marks_shown}
+use Rattle.handles.proofs.Logs.Marks.{marks_shown}
 use Rattle.handles.proofs.block.handle.Handle.to_marked.Goals as goal
 
 -- the mark is in the log

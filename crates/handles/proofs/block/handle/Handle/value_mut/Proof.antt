@@ -12,7 +12,7 @@ use Rattle.handles.proofs.Walks.{unshared_block, at_type, walks, BlockId}
 use denote.Signature.{mut_ref_to}
 use denote.Follow.{follows, lends_Part}
 use Rattle.handles.specs.Inside.BlockWriteBack.{with_value}
-use Rattle.handles.proofs.HeldParts.{value_offset, Apart, held_out, Rest, value_back}
+use Rattle.handles.proofs.Blocks.HeldParts.{value_offset, Apart, held_out, Rest, value_back}
 use Rattle.handles.specs.contracts.block.handle.Handle as handle_type
 use Rattle.handles.specs.contracts.block.handle.Handle.value_mut.{ended, clauses}
 use Rattle.handles.specs.contracts.block.handle.Handle.value_mut.Key.{name as #self}

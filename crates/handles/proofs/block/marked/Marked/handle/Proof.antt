@@ -8,7 +8,7 @@ use Rattle.handles.proofs.Walks.{unhide, a_handle, marked_shares, SharedBlock, b
 use Rattle.handles.proofs.Walks.{fact_i}
 use Rattle.handles.proofs.Walks.{BlockId, Names, BornSome, static_entry, newest}
 use types.Tokens.{shr_bor-open}
-use Rattle.handles.proofs.BorrowedHandle.{lent_halves}
+use Rattle.handles.proofs.Walks.BorrowedHandle.{lent_halves}
 use Rattle.handles.specs.contracts.block.marked.Marked as marked_type
 use Rattle.handles.specs.contracts.block.marked.Marked.handle.{clauses}
 use Rattle.handles.specs.contracts.block.marked.Marked.handle.Key.{name as #self}

@@ -11,7 +11,7 @@ use Rattle.handles.proofs.Walks.{heap_row, ghosts, heap, heap_arg, heap_arg-laws
 use Rattle.handles.proofs.Walks.{raw_box_opens, walks_at}
 use Rattle.std_alloc.specs.contracts.boxed.Box.from_raw as callee
 use Rattle.std_alloc.proofs.boxed.Box.from_raw.Met.{met}
-use Rattle.handles.proofs.RawBoxes.{◌⊑◌}
+use Rattle.handles.proofs.Blocks.RawBoxes.{◌⊑◌}
 use Rattle.std_alloc.proofs.BoxSteps.Form as box
 use Rattle.std_alloc.specs.contracts.boxed.Box as boxed
 use Rattle.handles.specs.contracts.block.raw_box.RawBox.into_box.{ended, clauses}

@@ -14,7 +14,7 @@ use denote.Builtin.{RawPtr}
 use denote.Struct.Tuple.{Tuple}
 use Rattle.std_alloc.specs.contracts.boxed.Box.into_raw_with_allocator as callee
 use Rattle.std_alloc.proofs.boxed.Box.into_raw_with_allocator.Met.{met}
-use Rattle.handles.proofs.RawBoxes.{◌⊑◌}
+use Rattle.handles.proofs.Blocks.RawBoxes.{◌⊑◌}
 use Rattle.std_alloc.specs.Box.Ownership.{box_owns}
 use Rattle.std_alloc.proofs.BoxSteps.Form as box
 use Rattle.std_alloc.specs.contracts.boxed.Box as boxed

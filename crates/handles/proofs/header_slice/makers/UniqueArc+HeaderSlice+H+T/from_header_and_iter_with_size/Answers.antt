@@ -1,4 +1,4 @@
-use Rattle.handles.proofs.BuilderRuns.{built_takes_all, refused_run}
+use Rattle.handles.proofs.Builders.Runs.{built_takes_all, refused_run}
 use Rattle.handles.proofs.header_slice.makers.UniqueArc+HeaderSlice+H+T.from_header_and_iter_with_size.Goals as goal
 
 pub returns-clause-runs : goal.returns-clause-runs

@@ -1,18 +1,18 @@
 -- `free` makes room of the places, and frees their block if they take bytes.
-use Rattle.handles.proofs.PlacesWalks.{◌≡◌, ℕ, ◌+◌, ◌-◌, ◌^◌, ◌<◌, Bool, List, [], ◌∷◌, refl, sym, ap, ◌∙◌, subst}
-use Rattle.handles.proofs.PlacesWalks.{arith, w64, named, Val, vint, vptr, vunit, SProp, Lft, Share, ftrue, flft, ‵}
-use Rattle.handles.proofs.PlacesWalks.{raw, ◌⊛◌, given, later, ◌$◌, ◌∵◌, !, qed, by, move, keep, drop, split, join}
-use Rattle.handles.proofs.PlacesWalks.{fsplit, fsplit3, fjoin3, learn, use1, use2, use3, await, rewrite, feq_i, flt_l}
-use Rattle.handles.proofs.PlacesWalks.{unit_lit, stop, fld, lit, of_opd, no_more, and_then, first, blocks, returns}
-use Rattle.handles.proofs.PlacesWalks.{alloc_all, pass_all, free_all, look_at, get, get_in, sets, lands_last, is, sub}
-use Rattle.handles.proofs.PlacesWalks.{whole, fact, yes, no, RattleType, owns, types_at, plain, Ptr, block_ptr}
-use Rattle.handles.proofs.PlacesWalks.{ptr_val, nothing_more, heard, param, param_laws, RefOf, shr_vals, shr_Tells}
-use Rattle.handles.proofs.PlacesWalks.{Stays, stay_dropped, walk_of, Goes-dropped, fm, heap, spared, run_framed}
-use Rattle.handles.proofs.PlacesWalks.{⊑_static, Global, Goes-blank, elτ, sz, uncapped, LeavingRow, leaving-Good}
-use Rattle.handles.proofs.PlacesWalks.{leaving_val, none_at_null, right_to_free, leaving_own, ◌*◌, as_raw, as_written}
-use Rattle.handles.proofs.PlacesWalks.{owns_if, froom, in_a_block, length, ty_array, capped_fits, align, capped}
-use Rattle.handles.proofs.PlacesWalks.{align_word, bin, size_word, Holds, has_ty, WT, Sq, prop, branches, skips}
-use Rattle.handles.proofs.PlacesWalks.{whole_room, at_type, walks}
+use Rattle.handles.proofs.Places.{◌≡◌, ℕ, ◌+◌, ◌-◌, ◌^◌, ◌<◌, Bool, List, [], ◌∷◌, refl, sym, ap, ◌∙◌, subst}
+use Rattle.handles.proofs.Places.{arith, w64, named, Val, vint, vptr, vunit, SProp, Lft, Share, ftrue, flft, ‵}
+use Rattle.handles.proofs.Places.{raw, ◌⊛◌, given, later, ◌$◌, ◌∵◌, !, qed, by, move, keep, drop, split, join}
+use Rattle.handles.proofs.Places.{fsplit, fsplit3, fjoin3, learn, use1, use2, use3, await, rewrite, feq_i, flt_l}
+use Rattle.handles.proofs.Places.{unit_lit, stop, fld, lit, of_opd, no_more, and_then, first, blocks, returns}
+use Rattle.handles.proofs.Places.{alloc_all, pass_all, free_all, look_at, get, get_in, sets, lands_last, is, sub}
+use Rattle.handles.proofs.Places.{whole, fact, yes, no, RattleType, owns, types_at, plain, Ptr, block_ptr}
+use Rattle.handles.proofs.Places.{ptr_val, nothing_more, heard, param, param_laws, RefOf, shr_vals, shr_Tells}
+use Rattle.handles.proofs.Places.{Stays, stay_dropped, walk_of, Goes-dropped, fm, heap, spared, run_framed}
+use Rattle.handles.proofs.Places.{⊑_static, Global, Goes-blank, elτ, sz, uncapped, LeavingRow, leaving-Good}
+use Rattle.handles.proofs.Places.{leaving_val, none_at_null, right_to_free, leaving_own, ◌*◌, as_raw, as_written}
+use Rattle.handles.proofs.Places.{owns_if, froom, in_a_block, length, ty_array, capped_fits, align, capped}
+use Rattle.handles.proofs.Places.{align_word, bin, size_word, Holds, has_ty, WT, Sq, prop, branches, skips}
+use Rattle.handles.proofs.Places.{whole_room, at_type, walks}
 use mir.Raw.{raw as bare}
 use mir.Syntax.{Ty, ty_unit}
 use prog.Capped.{capped_is}

@@ -1,17 +1,17 @@
 -- `take_first` reads the first item that is left, and its place is empty.
-use Rattle.handles.proofs.PlacesWalks.{◌≡◌, ℕ, ◌+◌, ◌-◌, ◌^◌, ◌<◌, List, [], ◌∷◌, refl, sym, ap, ◌∙◌, arith, named}
-use Rattle.handles.proofs.PlacesWalks.{Val, vptr, full_share, emp, fat, Lft, Share, ftrue, flft, ‵, raw, ◌⊛◌, some}
-use Rattle.handles.proofs.PlacesWalks.{given, ◌$◌, ◌∵◌, !, qed, by, move, keep, drop, split, split3, join, fsplit}
-use Rattle.handles.proofs.PlacesWalks.{fsplit3, fjoin, fjoin3, pick, learn, use0, use1, use2, rewrite, feq_i, flt_i}
-use Rattle.handles.proofs.PlacesWalks.{flt_l, stop, fld, load, lit, of_opd, first, blocks, returns, alloc_all}
-use Rattle.handles.proofs.PlacesWalks.{pass_all, free_all, look_at, get, through, sets, sets_last, sub, whole}
-use Rattle.handles.proofs.PlacesWalks.{look_in, fact, fact_i, RattleType, owns, types_at, plain, Ptr, nothing_more}
-use Rattle.handles.proofs.PlacesWalks.{peeks, heard, Is, shows, cell_at, param, param_laws, Stays, walk_of, elτ}
-use Rattle.handles.proofs.PlacesWalks.{one_below, sz, times_below, LeavingRow, LeavingWords, leaving_val}
-use Rattle.handles.proofs.PlacesWalks.{leaving_words, none_at_null, leaving_own, ◌*◌, ◌≤◌, as_raw, as_written, froom}
-use Rattle.handles.proofs.PlacesWalks.{Array, part_at, in_a_block, mut_Tells, mut_vals, closes, opens, Goes-ref}
-use Rattle.handles.proofs.PlacesWalks.{stay_ref, length, ty_array, store_in, assigns, bin, size_lit, look, first_of}
-use Rattle.handles.proofs.PlacesWalks.{first_out, room_after, at_type, walks}
+use Rattle.handles.proofs.Places.{◌≡◌, ℕ, ◌+◌, ◌-◌, ◌^◌, ◌<◌, List, [], ◌∷◌, refl, sym, ap, ◌∙◌, arith, named}
+use Rattle.handles.proofs.Places.{Val, vptr, full_share, emp, fat, Lft, Share, ftrue, flft, ‵, raw, ◌⊛◌, some}
+use Rattle.handles.proofs.Places.{given, ◌$◌, ◌∵◌, !, qed, by, move, keep, drop, split, split3, join, fsplit}
+use Rattle.handles.proofs.Places.{fsplit3, fjoin, fjoin3, pick, learn, use0, use1, use2, rewrite, feq_i, flt_i}
+use Rattle.handles.proofs.Places.{flt_l, stop, fld, load, lit, of_opd, first, blocks, returns, alloc_all}
+use Rattle.handles.proofs.Places.{pass_all, free_all, look_at, get, through, sets, sets_last, sub, whole}
+use Rattle.handles.proofs.Places.{look_in, fact, fact_i, RattleType, owns, types_at, plain, Ptr, nothing_more}
+use Rattle.handles.proofs.Places.{peeks, heard, Is, shows, cell_at, param, param_laws, Stays, walk_of, elτ}
+use Rattle.handles.proofs.Places.{one_below, sz, times_below, LeavingRow, LeavingWords, leaving_val}
+use Rattle.handles.proofs.Places.{leaving_words, none_at_null, leaving_own, ◌*◌, ◌≤◌, as_raw, as_written, froom}
+use Rattle.handles.proofs.Places.{Array, part_at, in_a_block, mut_Tells, mut_vals, closes, opens, Goes-ref}
+use Rattle.handles.proofs.Places.{stay_ref, length, ty_array, store_in, assigns, bin, size_lit, look, first_of}
+use Rattle.handles.proofs.Places.{first_out, room_after, at_type, walks}
 use Rattle.core.proofs.ptr.Rows.{El, Good}
 use Rattle.handles.proofs.header_slice.places.Leaving.TheLaws.{lowers}
 use Rattle.handles.specs.contracts.header_slice.places.Leaving.take_first.{ended, clauses}

@@ -1,6 +1,6 @@
 -- A `&` to the places lends the items and neither the room after them nor the right to free the block. Assumes
 -- `Logic`.
-use Rattle.handles.proofs.PlacesWalks.{Incl-trans, of_Lends, places_share-ShrLaws, Lends-places}
+use Rattle.handles.proofs.Places.{Incl-trans, of_Lends, places_share-ShrLaws, Lends-places}
 use mathlib.Core.List.{[], ◌++◌}
 use contract.BorrowLft.{meet_⊑_left}
 use denote.RattleType.{RattleType}

@@ -1,1 +1,1 @@
-pub use Rattle.handles.proofs.PlacesShared.{places-Send as send}
+pub use Rattle.handles.proofs.Places.Shared.{places-Send as send}

@@ -1,1 +1,1 @@
-pub use Rattle.handles.proofs.PlacesShared.{places-Sync as sync}
+pub use Rattle.handles.proofs.Places.Shared.{places-Sync as sync}

@@ -1,12 +1,12 @@
 -- `into_leaving` makes of the places those that no item has left yet.
-use Rattle.handles.proofs.PlacesWalks.{◌≡◌, ℕ, ◌^◌, ◌<◌, [], ◌∷◌, refl, lit<, arith, emp, ftrue, flft, ‵, raw, ◌⊛◌}
-use Rattle.handles.proofs.PlacesWalks.{◌$◌, ◌∵◌, !, qed, by, move, keep, split, fsplit, fjoin, use0, use1, stop, fld}
-use Rattle.handles.proofs.PlacesWalks.{lit, of_opd, no_more, and_then, returns, alloc_all, pass_all, free_all}
-use Rattle.handles.proofs.PlacesWalks.{look_at, get, get_in, sets, agg, sub, whole, fact, fact_i, no, RattleType}
-use Rattle.handles.proofs.PlacesWalks.{owns, types_at, plain, Ptr, nothing_more, param, param_laws, Stays}
-use Rattle.handles.proofs.PlacesWalks.{stay_dropped, walk_of, Goes-blank, LeavingRow, LeavingWords, leaving-Good}
-use Rattle.handles.proofs.PlacesWalks.{leaving_val, leaving_words, PlacesRow, places_val, leaving_own, places-Good}
-use Rattle.handles.proofs.PlacesWalks.{none_left, at_type, walks}
+use Rattle.handles.proofs.Places.{◌≡◌, ℕ, ◌^◌, ◌<◌, [], ◌∷◌, refl, lit<, arith, emp, ftrue, flft, ‵, raw, ◌⊛◌}
+use Rattle.handles.proofs.Places.{◌$◌, ◌∵◌, !, qed, by, move, keep, split, fsplit, fjoin, use0, use1, stop, fld}
+use Rattle.handles.proofs.Places.{lit, of_opd, no_more, and_then, returns, alloc_all, pass_all, free_all}
+use Rattle.handles.proofs.Places.{look_at, get, get_in, sets, agg, sub, whole, fact, fact_i, no, RattleType}
+use Rattle.handles.proofs.Places.{owns, types_at, plain, Ptr, nothing_more, param, param_laws, Stays}
+use Rattle.handles.proofs.Places.{stay_dropped, walk_of, Goes-blank, LeavingRow, LeavingWords, leaving-Good}
+use Rattle.handles.proofs.Places.{leaving_val, leaving_words, PlacesRow, places_val, leaving_own, places-Good}
+use Rattle.handles.proofs.Places.{none_left, at_type, walks}
 use Rattle.core.proofs.atomic.Steps.{Ptr-Good}
 use Rattle.handles.proofs.header_slice.places.Places.TheLaws.{lowers}
 use Rattle.handles.specs.contracts.header_slice.places.Places.into_leaving.{ended, clauses}

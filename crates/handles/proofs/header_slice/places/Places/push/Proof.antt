@@ -1,15 +1,15 @@
 -- `push` writes an item into the first place after the others.
-use Rattle.handles.proofs.PlacesWalks.{ℕ, ◌+◌, ◌-◌, ◌^◌, ◌<◌, List, [], ◌∷◌, ◌++◌, refl, sym, ap, ◌∙◌, arith, Val}
-use Rattle.handles.proofs.PlacesWalks.{vptr, vunit, full_share, ftrue, flft, ‵, raw, ◌⊛◌, ◌$◌, ◌∵◌, !, qed, move}
-use Rattle.handles.proofs.PlacesWalks.{keep, drop, split, split3, join, fsplit3, fjoin, fjoin3, use1, use2, rewrite}
-use Rattle.handles.proofs.PlacesWalks.{feq_i, suffices, done, unit_lit, stop, fld, load, lit, of_opd, first, blocks}
-use Rattle.handles.proofs.PlacesWalks.{returns, alloc_all, pass_all, free_all, look_at, get, through, sets, sub}
-use Rattle.handles.proofs.PlacesWalks.{whole, look_in, fact, no, RattleType, owns, types_at, plain, block_ptr}
-use Rattle.handles.proofs.PlacesWalks.{nothing_more, heard, cell_at, param, Stays, stay_dropped, Goes-dropped, elτ}
-use Rattle.handles.proofs.PlacesWalks.{one_below, sz, times_below, PlacesRow, places_val, places_opens, ◌*◌, as_raw}
-use Rattle.handles.proofs.PlacesWalks.{as_written, froom, Array, part_at, closes, opens, Goes-ref, stay_ref, ty_array}
-use Rattle.handles.proofs.PlacesWalks.{store_in, assigns, bin, size_lit, init, assigns_last, ends_at, el_in, spare}
-use Rattle.handles.proofs.PlacesWalks.{snoc, places_shuts, at_type, walks_at}
+use Rattle.handles.proofs.Places.{ℕ, ◌+◌, ◌-◌, ◌^◌, ◌<◌, List, [], ◌∷◌, ◌++◌, refl, sym, ap, ◌∙◌, arith, Val}
+use Rattle.handles.proofs.Places.{vptr, vunit, full_share, ftrue, flft, ‵, raw, ◌⊛◌, ◌$◌, ◌∵◌, !, qed, move}
+use Rattle.handles.proofs.Places.{keep, drop, split, split3, join, fsplit3, fjoin, fjoin3, use1, use2, rewrite}
+use Rattle.handles.proofs.Places.{feq_i, suffices, done, unit_lit, stop, fld, load, lit, of_opd, first, blocks}
+use Rattle.handles.proofs.Places.{returns, alloc_all, pass_all, free_all, look_at, get, through, sets, sub}
+use Rattle.handles.proofs.Places.{whole, look_in, fact, no, RattleType, owns, types_at, plain, block_ptr}
+use Rattle.handles.proofs.Places.{nothing_more, heard, cell_at, param, Stays, stay_dropped, Goes-dropped, elτ}
+use Rattle.handles.proofs.Places.{one_below, sz, times_below, PlacesRow, places_val, places_opens, ◌*◌, as_raw}
+use Rattle.handles.proofs.Places.{as_written, froom, Array, part_at, closes, opens, Goes-ref, stay_ref, ty_array}
+use Rattle.handles.proofs.Places.{store_in, assigns, bin, size_lit, init, assigns_last, ends_at, el_in, spare}
+use Rattle.handles.proofs.Places.{snoc, places_shuts, at_type, walks_at}
 use lib.ListN.{length-append}
 use Rattle.core.proofs.mem.Facts.{says_two}
 use Rattle.core.proofs.mem.Param as param_steps

@@ -1,22 +1,22 @@
 -- `reserve` asks the allocator for an array, and makes places of it that hold nothing yet.
-use Rattle.handles.proofs.PlacesWalks.{◌≡◌, ℕ, ◌^◌, ◌<◌, Bool, true, false, [], ◌∷◌, refl, sym, ap, subst, lit<}
-use Rattle.handles.proofs.PlacesWalks.{arith, w64, a_type, named, Val, vint, vptr, inst_fn, SProp, ent, sep, emp}
-use Rattle.handles.proofs.PlacesWalks.{Lft, Share, Fml, ftrue, fsep, flft, sem, ‵, raw, ◌⊛◌, later, at_ret, ◌$◌, ◌∵◌}
-use Rattle.handles.proofs.PlacesWalks.{ !, qed, by, move, keep, drop, split, join, fsplit, fjoin, use0, use1, use2}
-use Rattle.handles.proofs.PlacesWalks.{await, rewrite, stop, fld, lit, of_opd, no_more, and_then, first, exec}
-use Rattle.handles.proofs.PlacesWalks.{returns, enter, lands_as, alloc_all, pass_all, free_all, look_at, get, get_in}
-use Rattle.handles.proofs.PlacesWalks.{sets, sets_last, is, env, agg, whole, tables, fact, fact_i, yes, RattleType}
-use Rattle.handles.proofs.PlacesWalks.{owns, types_at, plain, block_ptr, nothing_more, heard, Is, param, layout}
-use Rattle.handles.proofs.PlacesWalks.{layouts, RefOf, shr_vals, shr_Tells, Stays, stay_dropped, walk_of}
-use Rattle.handles.proofs.PlacesWalks.{Goes-dropped, after, proved, leaves, fm, heap, spared, run_framed, ⊑_static}
-use Rattle.handles.proofs.PlacesWalks.{Global, Answer-typed, Answered, Takes, Takes-gives, Takes-goes, answers}
-use Rattle.handles.proofs.PlacesWalks.{at_takes, token, arm_body, head, block_align, block_size, block_ty, uncapped}
-use Rattle.handles.proofs.PlacesWalks.{PlacesRow, places_val, has_bytes, places_made, without_items, ◌*◌, ◌≢◌}
-use Rattle.handles.proofs.PlacesWalks.{type_size, Err, IfOk, Ok, FitsInBlock, as_written, Good, first_Good, err_of}
-use Rattle.handles.proofs.PlacesWalks.{ok_of, owns_if, ◌⊑◌, usize, uint_Tells, uint_vals, owned, Struct}
-use Rattle.handles.proofs.PlacesWalks.{Struct-Makes, calls_at, ty_array, vcons, vnil, vstruct, capped_fits, align}
-use Rattle.handles.proofs.PlacesWalks.{capped, Wp, after_seq, at_return, get_tag, After, any_q, in_variant, live}
-use Rattle.handles.proofs.PlacesWalks.{vrt, align_word, bin, size_word, switches_on}
+use Rattle.handles.proofs.Places.{◌≡◌, ℕ, ◌^◌, ◌<◌, Bool, true, false, [], ◌∷◌, refl, sym, ap, subst, lit<}
+use Rattle.handles.proofs.Places.{arith, w64, a_type, named, Val, vint, vptr, inst_fn, SProp, ent, sep, emp}
+use Rattle.handles.proofs.Places.{Lft, Share, Fml, ftrue, fsep, flft, sem, ‵, raw, ◌⊛◌, later, at_ret, ◌$◌, ◌∵◌}
+use Rattle.handles.proofs.Places.{ !, qed, by, move, keep, drop, split, join, fsplit, fjoin, use0, use1, use2}
+use Rattle.handles.proofs.Places.{await, rewrite, stop, fld, lit, of_opd, no_more, and_then, first, exec}
+use Rattle.handles.proofs.Places.{returns, enter, lands_as, alloc_all, pass_all, free_all, look_at, get, get_in}
+use Rattle.handles.proofs.Places.{sets, sets_last, is, env, agg, whole, tables, fact, fact_i, yes, RattleType}
+use Rattle.handles.proofs.Places.{owns, types_at, plain, block_ptr, nothing_more, heard, Is, param, layout}
+use Rattle.handles.proofs.Places.{layouts, RefOf, shr_vals, shr_Tells, Stays, stay_dropped, walk_of}
+use Rattle.handles.proofs.Places.{Goes-dropped, after, proved, leaves, fm, heap, spared, run_framed, ⊑_static}
+use Rattle.handles.proofs.Places.{Global, Answer-typed, Answered, Takes, Takes-gives, Takes-goes, answers}
+use Rattle.handles.proofs.Places.{at_takes, token, arm_body, head, block_align, block_size, block_ty, uncapped}
+use Rattle.handles.proofs.Places.{PlacesRow, places_val, has_bytes, places_made, without_items, ◌*◌, ◌≢◌}
+use Rattle.handles.proofs.Places.{type_size, Err, IfOk, Ok, FitsInBlock, as_written, Good, first_Good, err_of}
+use Rattle.handles.proofs.Places.{ok_of, owns_if, ◌⊑◌, usize, uint_Tells, uint_vals, owned, Struct}
+use Rattle.handles.proofs.Places.{Struct-Makes, calls_at, ty_array, vcons, vnil, vstruct, capped_fits, align}
+use Rattle.handles.proofs.Places.{capped, Wp, after_seq, at_return, get_tag, After, any_q, in_variant, live}
+use Rattle.handles.proofs.Places.{vrt, align_word, bin, size_word, switches_on}
 use denote.Struct.Declared as Declared
 use Rattle.core.specs.contracts.result.Result as result
 use Rattle.core.specs.contracts.alloc.AllocError as refusal

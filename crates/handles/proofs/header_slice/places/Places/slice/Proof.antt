@@ -1,22 +1,22 @@
 -- `slice` shows the items that the places lend. Assumes `Logic`.
-use Rattle.handles.proofs.PlacesWalks.{◌≡◌, ℕ, ◌^◌, ◌<◌, List, [], ◌∷◌, refl, sym, ap, ◌∙◌, subst, Val, id⊢, Lft}
-use Rattle.handles.proofs.PlacesWalks.{fhide, ‵, raw, ◌⊛◌, ◌$◌, !, by, move, keep, drop, split, fsplit, fjoin, use1}
-use Rattle.handles.proofs.PlacesWalks.{rewrite, feq_i, flt_i, flt_l, stop, fld, load, of_opd, no_more, and_then}
-use Rattle.handles.proofs.PlacesWalks.{first, blocks, returns, alloc_all, pass_all, free_all, look_at, get, through}
-use Rattle.handles.proofs.PlacesWalks.{sets, sets_last, agg, sub, whole, look_in, fact, fact_i, RattleType, Ptr}
-use Rattle.handles.proofs.PlacesWalks.{InBlock, block_ptr, block_of, offset_of, at_block, peeks, heard, looks, shuts}
-use Rattle.handles.proofs.PlacesWalks.{Is, shows, cell_at, param, PlacesRow, places_val, ◌*◌, ◌≤◌, type_size}
-use Rattle.handles.proofs.PlacesWalks.{slice_val, length, hidden_shr, in_block_says, words_open}
+use Rattle.handles.proofs.Places.{◌≡◌, ℕ, ◌^◌, ◌<◌, List, [], ◌∷◌, refl, sym, ap, ◌∙◌, subst, Val, id⊢, Lft}
+use Rattle.handles.proofs.Places.{fhide, ‵, raw, ◌⊛◌, ◌$◌, !, by, move, keep, drop, split, fsplit, fjoin, use1}
+use Rattle.handles.proofs.Places.{rewrite, feq_i, flt_i, flt_l, stop, fld, load, of_opd, no_more, and_then}
+use Rattle.handles.proofs.Places.{first, blocks, returns, alloc_all, pass_all, free_all, look_at, get, through}
+use Rattle.handles.proofs.Places.{sets, sets_last, agg, sub, whole, look_in, fact, fact_i, RattleType, Ptr}
+use Rattle.handles.proofs.Places.{InBlock, block_ptr, block_of, offset_of, at_block, peeks, heard, looks, shuts}
+use Rattle.handles.proofs.Places.{Is, shows, cell_at, param, PlacesRow, places_val, ◌*◌, ◌≤◌, type_size}
+use Rattle.handles.proofs.Places.{slice_val, length, hidden_shr, in_block_says, words_open}
 use native.Mathlib.Nat.{mul-le-mul_right, lt_of_le_of_lt}
 use denote.Opens.{unhide, hide}
 use denote.Struct.Owning.{to}
 use Rattle.handles.specs.Inside.PlacesOwnership.{places_share}
-use Rattle.handles.proofs.PlacesFields.{PlacesType, PlacesWords, words_are}
+use Rattle.handles.proofs.Places.Fields.{PlacesType, PlacesWords, words_are}
 use Rattle.handles.specs.contracts.header_slice.places.Places.slice.{clauses}
 use Rattle.handles.specs.contracts.header_slice.places.Places.slice.Key.{name as #self}
 use Rattle.handles.proofs.header_slice.places.Places.slice.Statement.{statement}
 use Rattle.handles.proofs.header_slice.places.Places.slice.Code as code
-use Rattle.handles.proofs.OneParam.{by_ref, so}
+use Rattle.handles.proofs.Walks.OneParam.{by_ref, so}
 
 pub slice_spec : {M : Type 1} → statement M
 slice_spec 𝓤 𝓛 𝓜 𝓡 wired T L =

@@ -1,14 +1,14 @@
 -- `slice_mut` lends the items, and the places follow them.
-use Rattle.handles.proofs.PlacesWalks.{◌≡◌, ℕ, ◌^◌, ◌<◌, List, [], ◌∷◌, refl, sym, arith, named, Val, vptr}
-use Rattle.handles.proofs.PlacesWalks.{full_share, SProp, emp, Lft, Share, ftrue, flft, sem, ‵, raw, ◌⊛◌, some, later}
-use Rattle.handles.proofs.PlacesWalks.{◌$◌, ◌∵◌, !, qed, by, move, keep, drop, split, split3, join, fsplit, fsplit3}
-use Rattle.handles.proofs.PlacesWalks.{fjoin, fjoin3, pick, use0, use1, await, rewrite, stop, fld, load, of_opd}
-use Rattle.handles.proofs.PlacesWalks.{no_more, and_then, first, blocks, returns, alloc_all, pass_all, free_all}
-use Rattle.handles.proofs.PlacesWalks.{look_at, get, through, sets, sets_last, agg, sub, whole, look_in, fact, fact_i}
-use Rattle.handles.proofs.PlacesWalks.{no, RattleType, owns, types_at, plain, nothing_more, cell_at, param, Stays}
-use Rattle.handles.proofs.PlacesWalks.{stay_dropped, walk_of, times_below, PlacesRow, places_opens, ◌*◌, type_size}
-use Rattle.handles.proofs.PlacesWalks.{Array, mut_Tells, mut_vals, slice_val, opens, length, GName, group, mem}
-use Rattle.handles.proofs.PlacesWalks.{Goes-spent_ref, Beside, items_out, items_back, at_type, walks}
+use Rattle.handles.proofs.Places.{◌≡◌, ℕ, ◌^◌, ◌<◌, List, [], ◌∷◌, refl, sym, arith, named, Val, vptr}
+use Rattle.handles.proofs.Places.{full_share, SProp, emp, Lft, Share, ftrue, flft, sem, ‵, raw, ◌⊛◌, some, later}
+use Rattle.handles.proofs.Places.{◌$◌, ◌∵◌, !, qed, by, move, keep, drop, split, split3, join, fsplit, fsplit3}
+use Rattle.handles.proofs.Places.{fjoin, fjoin3, pick, use0, use1, await, rewrite, stop, fld, load, of_opd}
+use Rattle.handles.proofs.Places.{no_more, and_then, first, blocks, returns, alloc_all, pass_all, free_all}
+use Rattle.handles.proofs.Places.{look_at, get, through, sets, sets_last, agg, sub, whole, look_in, fact, fact_i}
+use Rattle.handles.proofs.Places.{no, RattleType, owns, types_at, plain, nothing_more, cell_at, param, Stays}
+use Rattle.handles.proofs.Places.{stay_dropped, walk_of, times_below, PlacesRow, places_opens, ◌*◌, type_size}
+use Rattle.handles.proofs.Places.{Array, mut_Tells, mut_vals, slice_val, opens, length, GName, group, mem}
+use Rattle.handles.proofs.Places.{Goes-spent_ref, Beside, items_out, items_back, at_type, walks}
 use types.SemTy.{cells}
 use denote.Follow.{follows}
 use denote.FollowSlice.{lends_Elements}

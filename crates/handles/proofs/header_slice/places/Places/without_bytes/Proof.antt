@@ -1,12 +1,12 @@
 -- `without_bytes` makes places that hold nothing yet and take no memory, at the address of an empty array.
-use Rattle.handles.proofs.PlacesWalks.{◌≡◌, ℕ, ◌^◌, ◌<◌, Bool, [], ◌∷◌, refl, lit<, arith, w64, Val, vint, emp, ftrue}
-use Rattle.handles.proofs.PlacesWalks.{flft, ‵, raw, ◌⊛◌, ◌$◌, ◌∵◌, !, qed, by, move, keep, drop, split, join, fjoin}
-use Rattle.handles.proofs.PlacesWalks.{use0, rewrite, stop, addr, lit, no_more, and_then, returns, alloc_all}
-use Rattle.handles.proofs.PlacesWalks.{pass_all, free_all, look_at, get, sets, agg, fact, fact_i, yes, RattleType}
-use Rattle.handles.proofs.PlacesWalks.{owns, types_at, plain, block_ptr, nothing_more, heard, param, layout, Stays}
-use Rattle.handles.proofs.PlacesWalks.{stay_dropped, walk_of, Goes-dropped, PlacesRow, places_val, places_made}
-use Rattle.handles.proofs.PlacesWalks.{without_items, right_to_free, Good, ◌*◌, type_size, owns_if, froom, ◌⊑◌, usize}
-use Rattle.handles.proofs.PlacesWalks.{uint_Tells, uint_vals, ty_array, from, no_bytes, no_memory, at_type, walks}
+use Rattle.handles.proofs.Places.{◌≡◌, ℕ, ◌^◌, ◌<◌, Bool, [], ◌∷◌, refl, lit<, arith, w64, Val, vint, emp, ftrue}
+use Rattle.handles.proofs.Places.{flft, ‵, raw, ◌⊛◌, ◌$◌, ◌∵◌, !, qed, by, move, keep, drop, split, join, fjoin}
+use Rattle.handles.proofs.Places.{use0, rewrite, stop, addr, lit, no_more, and_then, returns, alloc_all}
+use Rattle.handles.proofs.Places.{pass_all, free_all, look_at, get, sets, agg, fact, fact_i, yes, RattleType}
+use Rattle.handles.proofs.Places.{owns, types_at, plain, block_ptr, nothing_more, heard, param, layout, Stays}
+use Rattle.handles.proofs.Places.{stay_dropped, walk_of, Goes-dropped, PlacesRow, places_val, places_made}
+use Rattle.handles.proofs.Places.{without_items, right_to_free, Good, ◌*◌, type_size, owns_if, froom, ◌⊑◌, usize}
+use Rattle.handles.proofs.Places.{uint_Tells, uint_vals, ty_array, from, no_bytes, no_memory, at_type, walks}
 use Rattle.core.specs.Allocator.{array_of}
 use Rattle.handles.specs.contracts.header_slice.places.Places.without_bytes.{ended, clauses}
 use Rattle.handles.specs.contracts.header_slice.places.Places.without_bytes.Key.{name as #self}

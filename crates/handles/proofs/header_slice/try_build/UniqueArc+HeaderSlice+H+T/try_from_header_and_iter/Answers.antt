@@ -1,4 +1,4 @@
-use Rattle.handles.proofs.TryBuilderRuns.{failed, takes_all_good}
+use Rattle.handles.proofs.Builders.TryRuns.{failed, takes_all_good}
 use Rattle.handles.proofs.header_slice.try_build.UniqueArc+HeaderSlice+H+T.try_from_header_and_iter.Goals as goal
 
 pub returns-clause-failed : goal.returns-clause-failed

@@ -16,7 +16,7 @@ use base.Growing.{latest}
 use Rattle.counting_word.specs.Logs.{Entry}
 use Rattle.counting_word.specs.Tallies.{Standing, lives, tally_of, is_living, is_dropping, Keeps}
 use Rattle.handles.specs.Inside.Rows.{pass, row}
-use Rattle.handles.proofs.Rows.{row_new, row_begins, row_waits}
+use Rattle.handles.proofs.Blocks.Rows.{row_new, row_begins, row_waits}
 use types.Tokens.{lft_new, lft_end, bor_new}
 use types.RcWeak.{part, rest, part_in, cut}
 use denote.Sharing.{ShrLaws, some}
@@ -149,6 +149,7 @@ module _ (R : RattleType) {M : Type 1} {𝓤 : Ura M} (𝓛 : Logic 𝓤) (p : P
       move ! (2 ∷ 0 ∷ []) $ fjoin ! $ move ! (2 ∷ 0 ∷ []) $ fjoin ! $ move ! (0 ∷ 2 ∷ []) $ fjoin ! $ fjoin ! $ now ! $
       show ! (λ (η : BlockId). sem 𝓛 (New w log η)) id $ done !)))
 
+  -- a new block that is marked: its log is the birth of a static block
   pub begins_marked : ent 𝓤 (sem 𝓛 (bare_block R p x (marked_word 1)))
       (H.⇛ (ex 𝓤 (λ (η : BlockId). sem 𝓛 (New (marked_word 1) born_static η))))
   begins_marked = begins_log (marked_word 1) born_static refl

@@ -19,10 +19,12 @@ module _ {S A : Type 0} (steps : S → Option A → S → Type 0) (source : S) (
       ≡ n + 1 = omega (arith, length-append items (extra ∷ []), right) in
       (run steps source (items ++ extra ∷ []) false (to_item steps source after items extra given), refl, one_more)
 
+  -- what a refusal says up to here holds of a run
   pub refused_run : {B : Type 0} (r : Result B BuildError) → IfErr r (RefusesUpTo steps source n after)
       → IfErr r (RefusesRun steps source n)
   refused_run r = IfErr-weaker r (RefusesUpTo steps source n after) (RefusesRun steps source n) refuses_run
 
+  -- what was built up to here has all items of a run
   pub built_takes_all : {H E : Type 0} (header : H) (r : Result (HeaderAndItems H A) E)
       → IfOk r (IsBuiltUpTo steps source n after header) → IfOk r (TakesAll steps source)
   built_takes_all header r = IfOk-weaker r (IsBuiltUpTo steps source n after header) (TakesAll steps source)

@@ -25,7 +25,7 @@ use Rattle.std.specs.Mem.{type_size}
 use Rattle.core.proofs.ptr.Rows.{El, apart, whole}
 use Rattle.handles.specs.Inside.PlacesLending.{with_items}
 use Rattle.handles.specs.Inside.PlacesOwnership.{spare, frees_room, places_own}
-use Rattle.handles.proofs.PlacesFields.{places_val, PlacesRow, PlacesWords, words_are, words_made}
+use Rattle.handles.proofs.Places.Fields.{places_val, PlacesRow, PlacesWords, words_are, words_made}
 
 module _ (R : RattleType) where
   -- all but the items: the room after them, the right to free the block, and the four words at (rb, ro)
@@ -55,6 +55,7 @@ module _ (R : RattleType) where
         (λ b o at. fsplit t $ flt_l t (λ fits. fsplit3 t $
         k b o at (reported.0 ∙ ap (λ (p : Ptr). places_val p d.filled d.room ∷ []) at) reported.1 reported.2 fits)))
 
+    -- put together again
     pub places_shuts : K → (d : (PlacesRow R).Denot) (b o : ℕ)
         → d.first ≡ block_ptr b o → d.filled < 2 ^ 64 → d.room < 2 ^ 64 → d.room * type_size R < 2 ^ 63
         → Step K 𝓛 (‵ ((PlacesRow R).own_val d (places_val (block_ptr b o) d.filled d.room ∷ [])) ∷ Γ) G
@@ -75,6 +76,7 @@ module _ (T : RattleType) (L : Laws T) {M : Type 1} {𝓤 : Ura M} (𝓛 : Logic
   abbrev element : El
   element = record { row = T; laws = L }
 
+  -- the items, each in its place
   pub items_out : ent 𝓤 (sem 𝓛 (part_at (Array R d.filled) full_share d.items b o)) (sem 𝓛 (cells (mem R)
       d.items b o))
   items_out = qed 𝓛 (‵ (part_at (Array R d.filled) full_share d.items b o) ∷ []) ∵

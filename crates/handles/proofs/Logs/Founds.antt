@@ -19,6 +19,7 @@ found-last : (log : List Entry) (e : Entry) (found word : ℕ)
 found-last [] e found word = refl
 found-last (t ∷ ts) e found word = found-last ts e word (word_after t.kind word)
 
+-- the word that the last entry found is the one that its step reports
 pub found_word : (limit : ℕ) (old : List Entry) (e : Entry) (word : ℕ) (log : List Entry)
     → Adds limit old e word log → Found word log
 found_word limit old e word log adds = ap found_by adds.ends ∙ found-last (old ++ adds.others)
@@ -36,6 +37,7 @@ pub lost_right : (seen found : ℕ) (r : Right)
 lost_right seen found r is differs = is ∙ ap (λ (b : Bool). if b then a_handle else right_by_read found)
     (ne_eqb found seen differs)
 
+-- a raise that found another word is a lost one in the log
 pub lost_raise : (limit : ℕ) (old : List Entry) (n seen word : ℕ) (log : List Entry)
     → Adds limit old (made n (raises_from seen)) word log → word ≢ seen → LostRaise n log
 lost_raise limit old n seen word log adds differs =
@@ -61,6 +63,7 @@ abbrev is-static : DropPlan → Bool
 is-static StaticDrop = true
 is-static Lower = false
 
+-- a drop that is planned for a static block has read the mark
 pub marked_by_plan : (word : ℕ) → drop_plan word ≡ StaticDrop → true ≡ is_marked_word word
 marked_by_plan word plan = at (is_marked_word word) plan where
   at : (b : Bool) → (if b then StaticDrop else Lower) ≡ StaticDrop → true ≡ b

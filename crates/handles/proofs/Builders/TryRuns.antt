@@ -15,6 +15,7 @@ module _ {S T E : Type 0} (steps : S → Option (Result T E) → S → Type 0) (
       (IfErr-weaker r (FailsUpTo steps source m from after) (Fails steps source m from)
       (λ e given. (after, given)) fails)
 
+  -- what was built up to here has all items of a run, none of which was an error
   pub takes_all_good : {H : Type 0} (n : ℕ) (header : H) (r : Result (HeaderAndItems H T) E)
       → IfOk r (IsBuiltGoodUpTo steps source n after header) → IfOk r (TakesAllGood steps source)
   takes_all_good n header r =

@@ -12,7 +12,7 @@ use types.Kit.{‵, raw, ◌⊛◌, some as exists, later, ◌$◌, ◌∵◌, !
 use types.Kit.{fsplit, fsplit3, fjoin, fjoin3, fpick, fpack, pick, assume, suffices, group, await, updating, now}
 use types.Kit.{done}
 use Rattle.handles.specs.Inside.Rows.{pass}
-use Rattle.handles.proofs.Rows.{left_over, pass_cut, pass_whole}
+use Rattle.handles.proofs.Blocks.Rows.{left_over, pass_cut, pass_whole}
 use types.Tokens.{bor_open, obor_alter, bor_fracture, one_token}
 use denote.Sharing.{ShrLaws, some}
 use denote.SharingLaws.{contraction}

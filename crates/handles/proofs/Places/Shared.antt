@@ -30,13 +30,15 @@ use Rattle.std_heap.proofs.Handle.{handle}
 use Rattle.std.proofs.Crossing as crossing
 use Rattle.std.specs.Mem.{type_size}
 use Rattle.handles.specs.Inside.PlacesOwnership.{fits, spare, frees_room, places_own, places_share}
-use Rattle.handles.proofs.PlacesFields.{PlacesType, PlacesRow, PlacesWords}
+use Rattle.handles.proofs.Places.Fields.{PlacesType, PlacesRow, PlacesWords}
 
 module _ (R : RattleType) (p : Ptr) (filled room : ℕ) (items : List R.Denot) where
+  -- what a `&` to places has may be had twice, and for a shorter lifetime
   pub places_share-ShrLaws : RowLaws R → ShrLaws (places_share R p filled room items)
   places_share-ShrLaws L = beside_shr_laws (said (fits R room)) (lent_at (Array R filled) p items)
       (said_shr_laws (fits R room) tt) (lent_at_shr_laws (Array R filled) (Array-row_laws R L filled) p items)
 
+  -- places lend their items
   pub Lends-places : {M : Type 1} {𝓤 : Ura M} (𝓛 : Logic 𝓤) → Laws R → (l : Lft)
       → Shares 𝓛 R l → Lends 𝓛 (places_own R p filled room items) (places_share R p filled room items) l
   Lends-places 𝓛 L l s = let run : Fml = lies_at (Array R filled) full_share p items in
@@ -80,6 +82,7 @@ module _ (R : RattleType) where
         ),
       )) (λ k. quiet (to O) (exits_of k (fields O)) ((struct_send (shape O) fields-Send).leaving k))
 
+  -- they may be seen by a thread if their items may
   pub places-Sync : IsSync R → IsSync (PlacesRow R)
   places-Sync y = record {
     shared = λ d b o κ. (
@@ -93,6 +96,7 @@ module _ (R : RattleType) where
   abbrev words_copy : Copyables O.parts
   words_copy = (RawPtr-copy, (usize-copy, (usize-copy, tt)))
 
+  -- a `&` to the fields can be read
   pub words_open : {M : Type 1} {𝓤 : Ura M} (𝓛 : Logic 𝓤) → Opens 𝓛 (PlacesWords R)
   words_open {M} {𝓤 = 𝓤} 𝓛 = (Struct-Copied 𝓛 (shape O) (alones O.parts words_copy)
       (copieds 𝓛 O.parts words_copy)).opens

@@ -43,9 +43,11 @@ pub use Rattle.handles.specs.contracts.block.raw_box.RawBox.{the_type as RawBoxT
 abbrev pub heap_arg : RattleType
 heap_arg = arg (bare (layout heap_row)) no heap_row
 
+-- it keeps the laws of a type that is passed so
 pub heap_arg-laws : Laws heap_arg
 heap_arg-laws = arg_laws (bare (layout heap_row)) no heap_row heap_laws refl
 
+-- the heap as the allocator of what is called
 abbrev pub heap : Al
 heap = record {
   row = heap_row;
@@ -56,9 +58,11 @@ heap = record {
       (tcons (layout heap_arg) tnil) dnil;
 }
 
+-- a struct of two fields, as one machine value
 abbrev pub pair_val : Val → Val → Val
 pair_val v w = vstruct (vcons v (vcons w vnil))
 
+-- a pointer and an allocator are a value of its type
 pub raw_box-Good : (b o : ℕ) (h : Val) → Good (layout heap_row) h → T (has_ty (layout heap_row) h && true)
     × WT (pair_val (vptr b o) h)
 raw_box-Good b o h good = (and_tt (has_ty (layout heap_row) h) good.0, (tt, (good.1, tt)))
@@ -83,6 +87,7 @@ module _ (R : RattleType) where
         let pointer : vss.0 ≡ vptr b o ∷ [] = is_ptr ∙ ap (λ (p : Ptr). ptr_val p ∷ []) placed in
         k b o h placed (is_pair ∙ (λ j. vstruct (of_list (pointer j ++ (is_handle j ++ []))) ∷ [])) good)))))
 
+    -- put together again
     pub raw_box_shuts : K → (b o : ℕ) (h : Val) (a : Global) (x : R.Denot)
         → Step K 𝓛 (‵ ((RawBoxRow R).own_val (record { at = block_ptr b o; alloc = a; value = x })
         (pair_val (vptr b o) h ∷ [])) ∷ Γ) G (‵ (Owned a (block_ptr b o) x) ∷ ‵ (heap_row.own_val a (h ∷ [])) ∷ Γ) G

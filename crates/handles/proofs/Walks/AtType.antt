@@ -25,6 +25,7 @@ use denote.Triple.Walked.{Stays, AllGo, Fit, has_of, walk_of}
 use Rattle.atomic_table.proofs.Walks.{proved, proved_at, leaves}
 use Rattle.core.proofs.alloc.Shapes.{after}
 
+-- the type arguments of a function with one type parameter
 abbrev pub at_type : RattleType → Args
 at_type T = layouts (a_type ∷ []) (T, tt)
 
@@ -69,6 +70,7 @@ module _ (inst : Args) (f : Fn) {M : Type 1} {𝓤 : Ura M} (𝓛 : Logic 𝓤) 
         (sep 𝓤 (sem 𝓛 ((type_at S.result y.0.0).own_val r (v ∷ [])))
         ((c y.0.0 y.0.3).ensures y.1 r (at_exit En y.0.0 y.0.3 ws))))) ((walk_of 𝓛 En hs c).post y v)
 
+    -- a walk from the entry of the code to its end proves that the function meets its contract
     pub walks : AllGo 𝓛 S.lifetimes S.params En.kept hs → (key : Args → Callee) → Closed 𝓤 H 𝓣.C 𝓣.Λ (key inst) fn
         → (sp : (κs : Lfts S.lifetimes) → Spells (types_at S.params κs))
         → ((κs : Lfts S.lifetimes) → Tellss (types_at S.params κs) (Ises (types_at S.params κs)) (sp κs))

@@ -13,7 +13,7 @@ use types.Kit.{qed, fjoin, frame, done, move, drop, split, fsplit, fsplit3, fpic
 use types.Kit.{raw}
 use types.Tokens.{obor_close, shr_bor-open}
 use ghost.Rules.{Halves}
-use Rattle.handles.proofs.Rows.{pass_halves, pass_joins}
+use Rattle.handles.proofs.Blocks.Rows.{pass_halves, pass_joins}
 use Rattle.handles.specs.Inside.Rows.{pass}
 use denote.RattleType.{RattleType}
 use denote.Laws.{Is, shows}
@@ -30,14 +30,15 @@ use Rattle.counting_word.specs.WordSteps.{WordStep}
 use Rattle.counting_word.specs.Logs.{Entry, made}
 use Rattle.counting_word.specs.Tallies.{Adds, newest}
 use Rattle.handles.specs.contracts.block.handle.Handle as handle_type
-use Rattle.handles.proofs.Fields.{one_word, words_are, words_open, HandleRow, HandleWords, handle_at, NoBlock}
-use Rattle.handles.proofs.Fields.{permit_shown}
+use Rattle.handles.proofs.Walks.Fields.{one_word, words_are, words_open, HandleRow, HandleWords, handle_at, NoBlock}
+use Rattle.handles.proofs.Walks.Fields.{permit_shown}
 use Rattle.handles.proofs.Steps.Shared.{block_at, and_logged, grants}
 
 -- what a `&` has of a handle goes in halves
 module _ {M : Type 1} {𝓤 : Ura M} (𝓛 : Logic 𝓤) (i : Names) (η : BlockId) (n : ℕ) where
   open 𝓛 use {H, A}
 
+  -- it is cut and joined
   pub lent_halves : Halves 𝓤 H A (lent_share i η n)
   lent_halves = record {
     cut = λ q. qed 𝓛 (‵ (lent_share i η n q) ∷ []) ∵ fsplit ! $

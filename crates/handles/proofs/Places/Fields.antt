@@ -12,6 +12,7 @@ use denote.Struct.Struct.{Struct}
 use denote.Struct.Owning.{shape}
 pub use Rattle.handles.specs.contracts.header_slice.places.Places.{the_type as PlacesType, the_row as PlacesRow}
 
+-- places as one machine value
 abbrev pub places_val : Ptr → ℕ → ℕ → Val
 places_val p filled room = vstruct (vcons (ptr_val p) (vcons (vint w64 filled) (vcons (vint w64 room) vnil)))
 
@@ -20,6 +21,7 @@ module _ (R : RattleType) where
   abbrev pub PlacesWords : RattleType
   PlacesWords = Struct (shape (PlacesType R))
 
+  -- the fields tell the machine value, and that the numbers fit their words
   pub words_are : (p : Ptr) (filled room : ℕ) (vs : List Val) → Is PlacesWords (p, (filled, (room, tt))) vs
       → (vs ≡ places_val p filled room ∷ []) × (filled < 2 ^ 64) × (room < 2 ^ 64)
   words_are p filled room vs is = (
@@ -29,6 +31,7 @@ module _ (R : RattleType) where
     is.1.1.1.1.0.1,
   )
 
+  -- numbers that fit their words make the fields
   pub words_made : {M : Type 1} {𝓤 : Ura M} (𝓛 : Logic 𝓤) (p : Ptr) (filled room : ℕ)
       → filled < 2 ^ 64 → room < 2 ^ 64
       → ent 𝓤 (emp 𝓤) (sem 𝓛 (PlacesWords.own_val (p, (filled, (room, tt))) (places_val p filled room ∷ [])))

@@ -26,7 +26,7 @@ use denote.Steps.{nothing as nothing_more}
 use Rattle.std.specs.Mem.{type_size}
 use Rattle.handles.specs.Inside.PlacesOwnership.{frees_room}
 use Rattle.std_alloc.proofs.RawLayout.{as_raw}
-use Rattle.handles.proofs.PlacesFields.{places_val, PlacesRow, PlacesWords, words_made}
+use Rattle.handles.proofs.Places.Fields.{places_val, PlacesRow, PlacesWords, words_made}
 
 -- the size that a word holds is 0 if the size is
 pub capped_zero : (n : ℕ) → IsTrue (eqb (capped n) 0) ↔ (n ≡ 0)
@@ -42,9 +42,11 @@ whole room = omega arith
 first : (o n : ℕ) → o ≡ o + 0 * n
 first o n = omega arith
 
+-- the test for bytes says yes where there are some
 pub has_bytes : (n : ℕ) → n ≢ 0 → true ≡ not (eqb n 0)
 has_bytes n some = sym (ap not (ne_eqb n 0 some))
 
+-- and no where there are none
 pub no_bytes : (n : ℕ) → n ≡ 0 → false ≡ not (eqb n 0)
 no_bytes n none = sym (ap (λ k. not (eqb k 0)) none)
 
@@ -57,6 +59,7 @@ no_memory {𝓤 = 𝓤} 𝓛 τ n b o none = qed 𝓛 [] ∵ use0 𝓛 (‵ (fro
     b o (none ∙ sym (zero-mul (size τ))) (dv_self (align τ))) $ split ! $ keep ! (0 ∷ []) $ done !
 
 module _ (R : RattleType) where
+  -- places that hold nothing yet
   abbrev pub without_items : Ptr → ℕ → (PlacesRow R).Denot
   without_items p room = record { first = p; filled = 0; room = room; items = []; within = (refl, omega arith) }
 

@@ -25,21 +25,26 @@ use Rattle.handles.specs.contracts.block.permit.Logged as logged_type
 abbrev pub word_and_logged : ℕ → Val
 word_and_logged n = vstruct (vcons (vint w64 n) (vcons (vstruct vnil) vnil))
 
+-- they are a value of their type if the word fits
 pub word_and_logged-Good : (n : ℕ) → n < 2 ^ 64
     → T (has_ty (ty_struct [] (tcons (ty_int w64) (tcons (ty_struct [] tnil) tnil))) (word_and_logged n))
     × WT (word_and_logged n)
 word_and_logged-Good n fits = (tt, (record { fits = fits }, (tt, tt)))
 
+-- `Logged` as a type of the logic
 abbrev pub LoggedRow : RattleType
 LoggedRow = logged_type.the_row
 
+-- its fields, which are none
 abbrev pub NoBytes : RattleType
 NoBytes = Struct (shape logged_type.the_type)
 
+-- they are made of nothing
 pub no_bytes-made : {M : Type 1} {𝓤 : Ura M} (𝓛 : Logic 𝓤)
     → ent 𝓤 (emp 𝓤) (sem 𝓛 (NoBytes.own_val tt (vstruct vnil ∷ [])))
 no_bytes-made 𝓛 = makes_shadow 𝓛 (NoBytes.own_val tt (vstruct vnil ∷ [])) (λ vss. (tt, tt)) (tt, (refl, tt))
 
+-- and tell their machine value
 pub no_bytes_told : (vs : List Val) → Is NoBytes tt vs → vs ≡ vstruct vnil ∷ []
 no_bytes_told vs is = is.1.0
 

@@ -28,12 +28,12 @@ use denote.Steps.{nothing as nothing_more, heard}
 use denote.Triple.Clauses.{Ended, Clauses, Lasts, at_exit, closing}
 use denote.Triple.Spec.{Meets}
 use denote.Triple.Walked.{Stays, stay_dropped, walk_of, Silent, Goes-dropped}
-use Rattle.handles.proofs.AtType.{at_type, entered, Code, walks}
+use Rattle.handles.proofs.Walks.AtType.{at_type, entered, Code, walks}
 use Rattle.counting_word.specs.Logs.{Entry}
 use Rattle.handles.specs.Inside.Blocks.{HeldRow, BlockId, handle_owns, permit_owns}
 use Rattle.handles.specs.contracts.block.handle.Handle as handle_type
 use Rattle.handles.specs.contracts.block.permit.Permit as permit_type
-use Rattle.handles.proofs.Fields.{one_word, words_are, words_made, HandleRow, HandleWords, PermitRow, handle_at}
+use Rattle.handles.proofs.Walks.Fields.{one_word, words_are, words_made, HandleRow, HandleWords, PermitRow, handle_at}
 
 -- a signature of one parameter
 abbrev pub taking : {n : ℕ} → List (Outlives n) → Slot n → Kept → Slot n → Ended
@@ -42,6 +42,7 @@ taking {n} os s k r = record {
   kept = (k, tt);
 }
 
+-- a `&` to such a value
 abbrev pub a_ref : (Row : RattleType) → One Row.mir → Slot 2
 a_ref Row one = RefOf (0 ∷ []) tt (plain (λ _. Row)) (λ _. one)
 
@@ -56,6 +57,7 @@ module _ (Row : RattleType) (one : One Row.mir) {os : List (Outlives 2)} {r : Sl
   abbrev others : Lfts 2 → Shares 2 → Fml
   others κs qs = fsep (flft κs.1.0 qs.1.0) ftrue
 
+  -- a walk through a function that takes a `&`
   pub by_ref : (T : RattleType) (key : Args → Callee) (f : Fn)
       → Closed 𝓤 H (tables 𝓤 H 𝓜 𝓡 𝓡.env).C (tables 𝓤 H 𝓜 𝓡 𝓡.env).Λ (key (at_type T)) (inst_fn (at_type T) f)
       → ((κs : Lfts 2) (qs : Shares 2) (a : Bor Row.Denot) (gh : (c κs (a, tt)).ghost) (Post : Val → SProp 𝓤)
@@ -97,6 +99,7 @@ module _ (T : RattleType) {os : List (Outlives 2)} {r : Slot 2} {M : Type 1} {�
   abbrev lent : (HandleRow R).Denot → ℕ → ℕ → Bor (HandleRow R).Denot
   lent h b o = record { ref_ptr = (b, o); now = h }
 
+  -- a walk through a function that takes a `&` to a handle
   pub by_handle : (key : Args → Callee) (f : Fn)
       → Closed 𝓤 H (tables 𝓤 H 𝓜 𝓡 𝓡.env).C (tables 𝓤 H 𝓜 𝓡 𝓡.env).Λ (key (at_type T)) (inst_fn (at_type T) f)
       → ((κs : Lfts 2) (qs : Shares 2) (p : Ptr) (x : (HeldRow R).Denot) (sole : Bool) (η : BlockId) (n : ℕ)
@@ -125,6 +128,7 @@ pub record Worded : Type 2 where
   pub opens : {M : Type 1} {𝓤 : Ura M} (𝓛 : Logic 𝓤) (x : row.Denot)
       → ent 𝓤 (sem 𝓛 (row.own_val x (one_word (block x) ∷ []))) (sem 𝓛 (owned x))
 
+-- a handle, by its word
 abbrev pub handle_worded : RattleType → Worded
 handle_worded R = record {
   row = HandleRow R;
@@ -134,6 +138,7 @@ handle_worded R = record {
   opens = λ 𝓛 h. qed 𝓛 (‵ ((HandleRow R).own_val h (one_word h.block ∷ [])) ∷ []) ∵ fsplit ! $ drop ! $ done !;
 }
 
+-- a permit, by its word
 abbrev pub permit_worded : RattleType → Worded
 permit_worded R = record {
   row = PermitRow R;
@@ -152,6 +157,7 @@ module _ (W : Worded) {os : List (Outlives 1)} {r : Slot 1} {M : Type 1} {𝓤 :
     (silent : Silent 𝓛 1 (plain (λ _. W.row)) no) where
   open 𝓛 use {H}
 
+  -- a walk through a function that takes such a value
   pub by_value : (T : RattleType) (key : Args → Callee) (f : Fn)
       → Closed 𝓤 H (tables 𝓤 H 𝓜 𝓡 𝓡.env).C (tables 𝓤 H 𝓜 𝓡 𝓡.env).Λ (key (at_type T)) (inst_fn (at_type T) f)
       → ((κs : Lfts 1) (qs : Shares 1) (a : W.row.Denot) (gh : (c κs (a, tt)).ghost) (Post : Val → SProp 𝓤)
@@ -190,9 +196,11 @@ module _ (R : RattleType) (p : Ptr) (x : (HeldRow R).Denot) (η : BlockId) (n : 
 
 -- what an `ensures` of facts comes to
 module _ {M : Type 1} (𝓤 : Ura M) where
+  -- one fact
   pub so : {φ : Type 0} → φ → ent 𝓤 (emp 𝓤) (fact 𝓤 φ)
   so {φ} y = fact_i 𝓤 φ (emp 𝓤) y
 
+  -- one fact more
   pub also : {φ : Type 0} {X : SProp 𝓤} → φ → ent 𝓤 (emp 𝓤) X → ent 𝓤 (emp 𝓤) (sep 𝓤 (fact 𝓤 φ) X)
   also {φ} {X} y h = via 𝓤 (sep 𝓤 (fact 𝓤 φ) (emp 𝓤)) (via 𝓤 (sep 𝓤 (emp 𝓤) (emp 𝓤)) (emp∗ 𝓤 (emp 𝓤))
       (mono_l 𝓤 (emp 𝓤) (so y))) (mono_r 𝓤 (fact 𝓤 φ) h)

@@ -27,8 +27,8 @@ use Rattle.handles.specs.Inside.Blocks.{HeldRow, Names, BlockId, marked, lent_sh
 use Rattle.handles.specs.Inside.Blocks.{kept_log, logs, reached}
 use Rattle.handles.specs.Inside.Marked.{HasMark, Staying, Lasting, born_static, stays, tells_mark, marked_shares}
 use Rattle.handles.specs.Inside.Rows.{pass}
-use Rattle.handles.proofs.Rows.{pass_cut, left_over}
-use Rattle.handles.proofs.NewBlocks.{New, begins_marked}
+use Rattle.handles.proofs.Blocks.Rows.{pass_cut, left_over}
+use Rattle.handles.proofs.Blocks.New.{New, begins_marked}
 use Rattle.handles.proofs.Owners.{shown-ShrLaws, counted_of, known_settles}
 
 tells-ShrLaws : (l : Logged) → ShrLaws (said (tells_mark l))
@@ -68,6 +68,7 @@ module _ (R : RattleType) (L : Laws R) (p : Ptr) (d : Staying R.Denot) where
       (beside_shr_laws rule s (always_shr_laws (block_rule R p x η i)) (held_shr_laws (i.shared ∷ [])
       (shown R p x) shows-ShrLaws))))
 
+  -- what a `&` to a marked block has may be had twice, and for a shorter lifetime
   pub marked_shares-ShrLaws : ShrLaws (marked_shares R p d)
   marked_shares-ShrLaws = beside_shr_laws (said (tells_mark d.known_by)) (some Lasting (stays R p d))
       (tells-ShrLaws d.known_by) (some_shr_laws Lasting (stays R p d) stays-ShrLaws)
@@ -103,10 +104,12 @@ module _ (R : RattleType) (L : Laws R) (p : Ptr) (d : Staying R.Denot) where
         now ! $ done !)
 
 module _ (R : RattleType) (L : Laws R) (p : Ptr) (x : (HeldRow R).Denot) where
+  -- a marked block that holds x, known by this log
   abbrev pub staying : BlockId → List Entry → Staying R.Denot
   staying η log = record { held = x; known_by = record { id = η; log = log } }
 
   module _ {M : Type 1} {𝓤 : Ura M} (𝓛 : Logic 𝓤) where
+    -- what a `&` to a new marked block has
     abbrev pub Lasts_new : Lft → BlockId → Fml
     Lasts_new κ η = marked_shares R p (staying η born_static) κ
 

@@ -6,7 +6,7 @@ use base.Fraction.{full_share}
 use base.Growing.{latest, at_least}
 use Rattle.counting_word.specs.Logs.{Entry}
 use Rattle.counting_word.specs.Tallies.{is_living, is_dropping, tally_of}
-use Rattle.handles.proofs.Rows.{row-Keyless, pass-Keyless}
+use Rattle.handles.proofs.Blocks.Rows.{row-Keyless, pass-Keyless}
 use denote.RattleType.{RattleType}
 use denote.RawPtr.{Ptr, block_ptr, null_ptr, block_of, count_of as offset_of, ◌+ₚ◌}
 use denote.Builtin.{RawPtr}
@@ -124,11 +124,13 @@ module _ (R : RattleType) (s : IsSend R) (y : IsSync R) where
   fields-Send : AllSend (fields (handle_type.the_type R))
   fields-Send = (pointers, tt)
 
+-- a handle may go to a thread
 pub handle-Send : (R : RattleType) → IsSend R → IsSync R → IsSend (handle_type.the_row R)
 handle-Send R s y = let O = handle_type.the_type R in
     owning_send O (fields-Send R s y) (λ d. ((λ _. tt), owned-Keyless R s y d.block d.held d.id d.number d.sole d.log))
     (λ k. quiet (to O) (exits_of k (fields O)) ((struct_send (shape O) (fields-Send R s y)).leaving k))
 
+-- and be seen by one
 pub handle-Sync : (R : RattleType) → IsSend R → IsSync R → IsSync (handle_type.the_row R)
 handle-Sync R s y = let O = handle_type.the_type R in record {
   shared = λ d b o κ. (
@@ -137,6 +139,7 @@ handle-Sync R s y = let O = handle_type.the_type R in record {
   );
 }
 
+-- a marked block may be seen by any thread
 pub marked-Sync : (R : RattleType) → IsSend R → IsSync R → IsSync (marked_type.the_row R)
 marked-Sync R s y = record {
   shared = λ d b o κ. let p : Ptr = block_ptr b o in (
@@ -158,10 +161,12 @@ marked-Sync R s y = record {
 full-Keyless : (f : full_type.the_type.D) → Keyless (full_type.the_type.heap f)
 full-Keyless f = (reached-Keyless f.id f.log, λ _. tt)
 
+-- a `Full` may go to a thread
 pub full-Send : IsSend full_type.the_row
 full-Send = let O = full_type.the_type in
     owning_send O tt full-Keyless (λ k. quiet (to O) (exits_of k (fields O)) ((struct_send (shape O) tt).leaving k))
 
+-- and be seen by one
 pub full-Sync : IsSync full_type.the_row
 full-Sync = let O = full_type.the_type in record {
   shared = λ d b o κ q. whole-keyless _ _ (λ f vs. ((struct_send (shape O) tt).owned (to O f) vs, full-Keyless f)) q d

@@ -1,4 +1,9 @@
 -- The names that the walks over the places of items cite.
+pub mod Fields
+pub mod Leaving
+pub mod Made
+pub mod Opened
+pub mod Shared
 pub use Rattle.handles.proofs.Walks.{◌≡◌, ℕ, ◌+◌, ◌-◌, ◌^◌, ◌<◌, Bool, true, false, List, [], ◌∷◌, ◌++◌, refl, sym}
 pub use Rattle.handles.proofs.Walks.{ap, ◌∙◌, subst, lit<, arith, w64, a_type, named, Val, vint, vptr, vunit}
 pub use Rattle.handles.proofs.Walks.{inst_fn, full_share, SProp, ent, sep, emp, id⊢, fat, Lft, Share, Fml, ftrue}
@@ -52,14 +57,14 @@ pub use Rattle.core.proofs.alloc.Calls.{at_takes, token}
 pub use Rattle.core.proofs.alloc.Shapes.{arm_body, head}
 pub use Rattle.core.proofs.ptr.Rows.{elτ, one_below, sz, times_below, el_in, snoc, spare}
 pub use Rattle.core.proofs.slots.Leases.{block_align, block_size, block_ty, uncapped}
-pub use Rattle.handles.proofs.RawBoxes.{heap, Global, ◌⊑◌, ⊑_static}
-pub use Rattle.handles.proofs.LeavingFields.{LeavingRow, LeavingWords, leaving-Good, leaving_val, leaving_words}
-pub use Rattle.handles.proofs.LeavingFields.{none_at_null, first_of, first_out, none_left, places-Good, room_after}
-pub use Rattle.handles.proofs.LeavingFields.{whole_room}
-pub use Rattle.handles.proofs.PlacesFields.{PlacesRow, places_val}
-pub use Rattle.handles.proofs.PlacesMade.{has_bytes, places_made, without_items, capped_zero, no_bytes, no_memory}
-pub use Rattle.handles.proofs.PlacesOpened.{places_opens, Beside, items_back, items_out, places_shuts}
+pub use Rattle.handles.proofs.Blocks.RawBoxes.{heap, Global, ◌⊑◌, ⊑_static}
+pub use Rattle.handles.proofs.Places.Leaving.{LeavingRow, LeavingWords, leaving-Good, leaving_val, leaving_words}
+pub use Rattle.handles.proofs.Places.Leaving.{none_at_null, first_of, first_out, none_left, places-Good, room_after}
+pub use Rattle.handles.proofs.Places.Leaving.{whole_room}
+pub use Rattle.handles.proofs.Places.Fields.{PlacesRow, places_val}
+pub use Rattle.handles.proofs.Places.Made.{has_bytes, places_made, without_items, capped_zero, no_bytes, no_memory}
+pub use Rattle.handles.proofs.Places.Opened.{places_opens, Beside, items_back, items_out, places_shuts}
 pub use Rattle.handles.specs.Inside.PlacesOwnership.{right_to_free, leaving_own}
 pub use lib.Dec.{T as Holds, eqb}
-pub use Rattle.handles.proofs.PlacesShared.{Lends-places, places_share-ShrLaws, words_open}
+pub use Rattle.handles.proofs.Places.Shared.{Lends-places, places_share-ShrLaws, words_open}
 pub use denote.Struct.Lending.{in_block_says, of_Lends}

@@ -21,7 +21,7 @@ use denote.Struct.Parts.{shape_of, Struct-left, left_Struct}
 use Rattle.core.proofs.tally.Steps.{word_out, word_in}
 use Rattle.core.specs.Sync.RawAtomic.{word}
 use Rattle.std.specs.declared.alloc.Global.{Global}
-use Rattle.handles.proofs.RawBoxes.{heap_row, heap_laws, ghosts}
+use Rattle.handles.proofs.Blocks.RawBoxes.{heap_row, heap_laws, ghosts}
 use Rattle.std_alloc.specs.Box.Ownership.{box_owns}
 use mir.Val.{Val}
 use Rattle.std_heap.specs.contracts.Global as heap
@@ -73,6 +73,7 @@ module _ (T : RattleType) (L : Laws T) {M : Type 1} {𝓤 : Ura M} (𝓛 : Logic
       move ! (0 ∷ 1 ∷ []) $ fjoin ! $
       by ! (left_Struct 𝓛 full_share (block.the_type R).name (members R) (w, (s, (x, (h, tt)))) b o)
 
+  -- a box of a block with these fields
   abbrev pub Boxed : ℕ → ℕ → (HeldRow R).Denot → Global → Fml
   Boxed w s x h = box_owns (ghosts.dealloc_token h) BlockRow (block_ptr b o)
       (record { word = w; stamp = s; held = x; alloc = h })
@@ -87,6 +88,7 @@ module _ (T : RattleType) (L : Laws T) {M : Type 1} {𝓤 : Ura M} (𝓛 : Logic
       move ! (1 ∷ 0 ∷ []) $ fjoin ! $ move ! (2 ∷ []) $ fpack ! ℕ (λ n. word b (o + stamp_offset) n) s $
       move ! (2 ∷ 1 ∷ 0 ∷ []) $ fjoin3 ! $ done !
 
+  -- its parts make the box again
   pub box_shuts : (w s : ℕ) (x : (HeldRow R).Denot) (h : Global)
       → ent 𝓤 (sep 𝓤 (sem 𝓛 (word b (o + 0) w)) (sep 𝓤 (sem 𝓛 (word b (o + stamp_offset) s))
       (sep 𝓤 (sem 𝓛 (part_at (HeldRow R) full_share x b (o + held_offset R)))

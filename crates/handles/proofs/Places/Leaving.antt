@@ -28,13 +28,15 @@ use Rattle.core.proofs.ptr.Rows.{El, R, Good, el_own, el_x, elτ, sz, el_out, ap
 use Rattle.core.proofs.ptr.Rows.{one_more, next}
 use Rattle.std_alloc.proofs.RawLayout.{as_raw}
 use Rattle.handles.specs.Inside.PlacesOwnership.{places_own, leaving_own}
-use Rattle.handles.proofs.PlacesFields.{places_val}
+use Rattle.handles.proofs.Places.Fields.{places_val}
 pub use Rattle.handles.specs.contracts.header_slice.places.Leaving.{the_type as LeavingType, the_row as LeavingRow}
 
+-- leaving places as one machine value
 abbrev pub leaving_val : Ptr → ℕ → ℕ → ℕ → Val
 leaving_val p taken filled room = vstruct (vcons (ptr_val p) (vcons (vint w64 taken) (vcons (vint w64 filled)
     (vcons (vint w64 room) vnil))))
 
+-- places are a value of their type if their numbers fit the words
 pub places-Good : (p : Ptr) (filled room : ℕ) → filled < 2 ^ 64 → room < 2 ^ 64
     → T (has_ty (ty_struct [] (tcons ty_ptr (tcons (ty_int w64) (tcons (ty_int w64) tnil))))
     (places_val p filled room)) × WT (places_val p filled room)
@@ -42,6 +44,7 @@ places-Good p filled room filled_fits room_fits = as_fields (ty_ptr ∷ ty_int w
     (ptr_val p ∷ vint w64 filled ∷ vint w64 room ∷ [])
     (Ptr-Good p, ((tt, record { fits = filled_fits }), ((tt, record { fits = room_fits }), tt)))
 
+-- and so are leaving places
 pub leaving-Good : (p : Ptr) (taken filled room : ℕ) → taken < 2 ^ 64 → filled < 2 ^ 64 → room < 2 ^ 64
     → T (has_ty (ty_struct [] (tcons ty_ptr (tcons (ty_int w64) (tcons (ty_int w64) (tcons (ty_int w64) tnil)))))
     (leaving_val p taken filled room)) × WT (leaving_val p taken filled room)
@@ -55,9 +58,11 @@ leaving-Good p taken filled room taken_fits filled_fits room_fits = as_fields (t
     )
 
 module _ (R : RattleType) where
+  -- the fields, as a plain struct
   abbrev pub LeavingWords : RattleType
   LeavingWords = Struct (shape (LeavingType R))
 
+  -- numbers that fit their words make the fields
   pub leaving_words : {M : Type 1} {𝓤 : Ura M} (𝓛 : Logic 𝓤) (p : Ptr) (taken filled room : ℕ)
       → taken < 2 ^ 64 → filled < 2 ^ 64 → room < 2 ^ 64
       → ent 𝓤 (emp 𝓤) (sem 𝓛 (LeavingWords.own_val (p, (taken, (filled, (room, tt))))
@@ -92,6 +97,7 @@ module _ (R : RattleType) {M : Type 1} {𝓤 : Ura M} (𝓛 : Logic 𝓤) where
   none_at_null taken filled room items = qed 𝓛 (‵ (leaving_own R null_ptr taken filled room items) ∷ [])
       ∵ fsplit3 ! $ keep ! (1 ∷ []) $ by ! (id⊢ 𝓤 (never 𝓤))
 
+-- a list that is not empty, as its first item and the others
 pub first_of : {X : Type 0} (xs : List X) → 0 < length xs → (x : X) × ((others : List X) × (xs ≡ x ∷ others))
 first_of [] asked = absurd (not-suc-le-zero asked)
 first_of (x ∷ xs) asked = (x, (xs, refl))

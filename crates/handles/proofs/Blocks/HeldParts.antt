@@ -30,7 +30,7 @@ use Rattle.counting_word.specs.Logs.{Entry}
 use Rattle.handles.specs.Inside.Rows.{pass}
 use Rattle.handles.specs.Inside.Blocks.{BlockId, HeldRow, held_offset, noted_as, stamp, frees, unshared_block, Sharing}
 use Rattle.handles.specs.Inside.Blocks.{sole_handle, not_yet, held_as}
-use Rattle.handles.proofs.Fields.{HandleRow, HandleWords, handle_at, one_word, words_made}
+use Rattle.handles.proofs.Walks.Fields.{HandleRow, HandleWords, handle_at, one_word, words_made}
 
 -- what an unshared block's handle at (b, o) has beside what the block holds
 abbrev beside_held : (R : RattleType) → Ptr → ℕ → BlockId → ℕ → List Entry → ℕ → ℕ → Fml
@@ -74,6 +74,7 @@ module _ (T : RattleType) where
   abbrev held_type : Ty
   held_type = ty_struct [] (raw_tys parts)
 
+  -- where the value lies in what is held
   abbrev pub value_offset : ℕ
   value_offset = up (align (lone R.mir)) 8
 
@@ -84,6 +85,7 @@ module _ (T : RattleType) where
   abbrev beside_value : Limit → ℕ → ℕ → Fml
   beside_value l b o = fsep (part_at LimitRow full_share l b (o + 0)) (fleft full_share held_type (raw_tys parts) b o)
 
+  -- what is held, as its value and what is beside it
   abbrev pub Apart : (HeldRow R).Denot → ℕ → ℕ → Fml
   Apart x b o = fsep (part_at R full_share x.value b (o + value_offset)) (beside_value x.limit b o)
 
@@ -93,6 +95,7 @@ module _ (T : RattleType) where
       (beside_held R p l.count η n log b o)
 
   module _ (L : Laws T) {M : Type 1} {𝓤 : Ura M} (𝓛 : Logic 𝓤) where
+    -- what is held is taken apart
     pub held_out : (x : (HeldRow R).Denot) (b o : ℕ)
         → ent 𝓤 (sem 𝓛 (part_at (HeldRow R) full_share x b o)) (sem 𝓛 (Apart x b o))
     unfolding part_of

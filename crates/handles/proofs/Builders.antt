@@ -1,0 +1,3 @@
+-- What builders of header slices heard from their iterators.
+pub mod Runs
+pub mod TryRuns

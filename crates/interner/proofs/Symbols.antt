@@ -1,6 +1,6 @@
 -- The symbols of a list of values.
 use Rattle.std.proofs.Common.{◌≡◌, ℕ, ◌↔◌, Bool, true, false, not, List, [], ◌∷◌, ◌++◌, length, get_or, Some, None}
-use Rattle.std.proofs.Common.{Option, IsSome, refl, sym, ap, ◌∙◌, true≢false, position, nat_lt, arith}
+use Rattle.std.proofs.Common.{Option, IsSome, is_some, nat_eq, refl, sym, ap, ◌∙◌, true≢false, position, nat_lt, arith}
 use Rattle.std.proofs.lemmas.List.Folds.{position_or_len_push}
 use Rattle.std.proofs.lemmas.List.Sums.{prefix_len-le-length}
 use Rattle.std.proofs.lemmas.List.Quantifiers.{position-Some}
@@ -76,3 +76,21 @@ module _ {T : Type 0} {eq : T → T → Bool} (laws : IsEquivalence eq) where
           one = λ v. symbol_of_equals new value v s place;
           stays = λ v some. ap (λ xs. symbol_of eq xs v) is ∙ stays v some;
         }
+
+-- two symbols are equal exactly if the values are that were interned for them
+module _ {T : Type 0} (eq : T → T → Bool) (old mid new : List T) (a b : T) (s t : ℕ)
+    (laws : IsEquivalence eq) (first : IsInterned eq old a mid s) (second : IsInterned eq mid b new t) where
+  found : symbol_of eq new a ≡ Some s
+  found =
+      let then = (first.one a).1 (laws.refl a) in
+      second.stays a (ap is_some then) ∙ then
+
+  pub equal_symbols : nat_eq s t ≡ eq a b
+  equal_symbols = by (eq a b) refl (nat_eq s t) refl
+    where
+      by : (e : Bool) → eq a b ≡ e → (n : Bool) → nat_eq s t ≡ n → n ≡ e
+      by true equal n is = grind (arith, is, found, (second.one a).1 equal)
+      by false equal true is =
+          let same : s ≡ t = grind (arith, is) in
+          absurd (true≢false (sym ((second.one a).0 (found ∙ ap Some same)) ∙ equal))
+      by false equal false is = refl

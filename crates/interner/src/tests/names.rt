@@ -6,7 +6,8 @@ use std::alloc::Global;
 use std::hash::Hash;
 
 /// Whether two values are equal, asked of their symbols.
-pub fn are_equal<T: Eq + Hash + Drop>(
+#[tactic(auto, using(crate::proofs::Symbols::equal_symbols))]
+pub(super) fn are_equal<T: Eq + Hash + Drop>(
     interner: &mut Interner<T>,
     alloc: Global,
     a: T,

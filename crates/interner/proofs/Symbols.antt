@@ -1,0 +1,96 @@
+-- The symbols of a list of values.
+use Rattle.std.proofs.Common.{◌≡◌, ℕ, ◌↔◌, Bool, true, false, not, List, [], ◌∷◌, ◌++◌, length, get_or, Some, None}
+use Rattle.std.proofs.Common.{Option, IsSome, is_some, nat_eq, refl, sym, ap, ◌∙◌, true≢false, position, nat_lt, arith}
+use Rattle.std.proofs.lemmas.List.Folds.{position_or_len_push}
+use Rattle.std.proofs.lemmas.List.Sums.{prefix_len-le-length}
+use Rattle.std.proofs.lemmas.List.Quantifiers.{position-Some}
+use Rattle.std.proofs.lemmas.Grind.{common_steps}
+use Rattle.std.specs.Cmp.{IsEquivalence}
+use Rattle.std.specs.List.{list_any, position_or_len}
+use Rattle.interner.specs.Symbols.{symbol_of, with_value, IsInterned}
+
+module _ {T : Type 0} (p : T → Bool) where
+  any_by_place : (xs : List T) → list_any p xs ≡ nat_lt (position_or_len p xs) (length xs)
+  any_by_place [] = refl
+  any_by_place (x ∷ xs) = grind (arith, any_by_place xs)
+
+  module _ (xs : List T) (y : T) where
+    -- what is found stays where it is found
+    place_stays : (i : ℕ) → position p xs ≡ Some i → position p (xs ++ y ∷ []) ≡ Some i
+    place_stays i is = grind (arith, common_steps, position_or_len_push p xs y, position-Some p xs i y is)
+
+    -- what is found nowhere is found behind the others
+    place_of_last : position p xs ≡ None → p y ≡ true → position p (xs ++ y ∷ []) ≡ Some (length xs)
+    place_of_last none is =
+        grind (arith, common_steps, position_or_len_push p xs y, prefix_len-le-length (λ x. not (p x)) xs)
+
+module _ {T : Type 0} {eq : T → T → Bool} (laws : IsEquivalence eq) where
+  -- a symbol stands for the values that are equal to its own
+  symbol_of_equals : (values : List T) (value v : T) (s : ℕ) → symbol_of eq values value ≡ Some s
+      → (symbol_of eq values v ≡ Some s) ↔ (eq v value ≡ true)
+  symbol_of_equals values value v s is =
+      let found = position-Some (eq value) values s v is in
+      let kept = get_or values s v in (
+        λ same. let at = position-Some (eq v) values s v same in
+            laws.congr v kept value at.1 ∙ laws.symm kept value ∙ found.1,
+        λ equal. (λ j. position (λ x. laws.congr v value x equal j) values) ∙ is,
+      )
+
+  module _ (old : List T) (value : T) where
+    symbol_of_new : symbol_of eq (with_value eq old value) value ≡ Some (position_or_len (eq value) old)
+    symbol_of_new = by (list_any (eq value) old) refl
+      where
+        by : (b : Bool) → list_any (eq value) old ≡ b
+            → symbol_of eq (with_value eq old value) value ≡ Some (position_or_len (eq value) old)
+        by true is = grind (arith, is, any_by_place (eq value) old)
+        by false is = grind (
+          arith,
+          is,
+          any_by_place (eq value) old,
+          place_of_last (eq value) old value,
+          laws.refl value,
+          prefix_len-le-length (λ x. not (eq value x)) old,
+        )
+
+    symbols_stay : (v : T) (s : ℕ) → symbol_of eq old v ≡ Some s → symbol_of eq (with_value eq old value) v ≡ Some s
+    symbols_stay v s is = by (list_any (eq value) old) refl
+      where
+        by : (b : Bool) → list_any (eq value) old ≡ b → symbol_of eq (with_value eq old value) v ≡ Some s
+        by true any = grind (arith, any, is)
+        by false any = grind (arith, any, place_stays (eq v) old value s is)
+
+    stays : (v : T) → IsSome (symbol_of eq old v) → symbol_of eq (with_value eq old value) v ≡ symbol_of eq old v
+    stays v some = by (symbol_of eq old v) refl some
+      where
+        by : (found : Option ℕ) → symbol_of eq old v ≡ found → IsSome found
+            → symbol_of eq (with_value eq old value) v ≡ symbol_of eq old v
+        by None is some = absurd (true≢false (sym some))
+        by (Some s) is some = symbols_stay v s is ∙ sym is
+
+    pub interned : (new : List T) (s : ℕ) → new ≡ with_value eq old value → s ≡ position_or_len (eq value) old
+        → IsInterned eq old value new s
+    interned new s is at =
+        let place = ap (λ xs. symbol_of eq xs value) is ∙ symbol_of_new ∙ ap Some (sym at) in
+        record {
+          values = is;
+          one = λ v. symbol_of_equals new value v s place;
+          stays = λ v some. ap (λ xs. symbol_of eq xs v) is ∙ stays v some;
+        }
+
+-- two symbols are equal exactly if the values are that were interned for them
+module _ {T : Type 0} (eq : T → T → Bool) (old mid new : List T) (a b : T) (s t : ℕ)
+    (laws : IsEquivalence eq) (first : IsInterned eq old a mid s) (second : IsInterned eq mid b new t) where
+  found : symbol_of eq new a ≡ Some s
+  found =
+      let then = (first.one a).1 (laws.refl a) in
+      second.stays a (ap is_some then) ∙ then
+
+  pub equal_symbols : nat_eq s t ≡ eq a b
+  equal_symbols = by (eq a b) refl (nat_eq s t) refl
+    where
+      by : (e : Bool) → eq a b ≡ e → (n : Bool) → nat_eq s t ≡ n → n ≡ e
+      by true equal n is = grind (arith, is, found, (second.one a).1 equal)
+      by false equal true is =
+          let same : s ≡ t = grind (arith, is) in
+          absurd (true≢false (sym ((second.one a).0 (found ∙ ap Some same)) ∙ equal))
+      by false equal false is = refl

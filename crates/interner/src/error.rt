@@ -1,0 +1,25 @@
+//! The error of `Interner::intern`.
+ghost use Rattle.std.specs.Prelude.{◌≡◌};
+ghost use Rattle.interner.specs.declared.error.InternError.TheVariants.{Memory};
+
+use std::alloc::AllocError;
+use thiserror::Error;
+
+/// Why `Interner::intern` refused a value. The interner has the values that it had.
+#[derive(Clone, Copy, Debug, PartialEq, Eq, Error)]
+pub enum InternError {
+    /// There are 2^32 values, and no more symbols.
+    #[error("no symbol is left")]
+    Full,
+    /// Memory for the block of the value or for its entry was refused.
+    #[error("out of memory")]
+    Memory,
+}
+
+impl From<AllocError> for InternError {
+    ghost from_gives = { λ _ refusal. refusal ≡ Memory };
+
+    fn from(_error: AllocError) -> InternError {
+        InternError::Memory
+    }
+}

@@ -15,6 +15,7 @@ impl<V: Copy> Core<V> {
         to < self.owners.len() && to != owner
     }
 
+    #[inline(always)]
     pub(crate) fn permits(&self, owner: usize, handle: usize, action: HandleAction<V>) -> bool
         ensures { result ≡ permitted_by (state_of self.now) Activity.Idle (step_on owner handle action) }
     {

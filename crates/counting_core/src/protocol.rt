@@ -76,8 +76,7 @@ impl<V: Copy> Core<V> {
             → self.new ≡ self.old }
         ensures word { FollowsWord self.old step result self.new }
     {
-        let (owner, action) = step.apart();
-        self.step_by_word(owner, action)
+        self.step_by_word(step)
     }
 
     /// The answers of the steps, in order. Their room is reserved first, so an `Err` did nothing.

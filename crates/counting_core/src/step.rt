@@ -1,7 +1,6 @@
 //! The steps of the owners of a block, and what they are answered.
 ghost use Rattle.std.specs.Prelude.{◌≡◌, ⊤};
 
-use crate::action::{Action, HandleAction};
 use std::alloc::AllocError;
 
 /// A step of `owner`, mostly on `handle`. Owners and handles are numbers from 0 on; a handle has the
@@ -143,53 +142,29 @@ impl<V: Copy> Clone for Step<V> {
 
 impl<V: Copy> Step<V> {
     ghost use Rattle.counting_core.specs.Permitted.{owner_of};
-    ghost use Rattle.counting_core.specs.Actions.{step_of};
-
-    // Its owner, and what that does.
-    pub(crate) fn apart(self) -> (usize, Action<V>)
-        ensures { step_of result.0 result.1 ≡ self }
-    {
-        match self {
-            Step::Raise { owner } => (owner, Action::Raise),
-            Step::Quit { owner } => (owner, Action::Quit),
-            Step::Lower { owner } => (owner, Action::Lower),
-            Step::Clone { owner, handle } => (owner, Action::Use(handle, HandleAction::Clone)),
-            Step::Drop { owner, handle } => (owner, Action::Use(handle, HandleAction::Drop)),
-            Step::Mark { owner, handle } => (owner, Action::Use(handle, HandleAction::Mark)),
-            Step::Unique { owner, handle } => (owner, Action::Use(handle, HandleAction::Unique)),
-            Step::Static { owner, handle } => (owner, Action::Use(handle, HandleAction::Static)),
-            Step::GetMut { owner, handle } => (owner, Action::Use(handle, HandleAction::GetMut)),
-            Step::Write {
-                owner,
-                handle,
-                value,
-            } => (owner, Action::Use(handle, HandleAction::Write(value))),
-            Step::EndWrite { owner, handle } => (
-                owner,
-                Action::Use(handle, HandleAction::EndWrite),
-            ),
-            Step::IntoUnique { owner, handle } => (
-                owner,
-                Action::Use(handle, HandleAction::IntoUnique),
-            ),
-            Step::Share { owner, handle } => (owner, Action::Use(handle, HandleAction::Share)),
-            Step::Load { owner, handle } => (owner, Action::Use(handle, HandleAction::Load)),
-            Step::Lend { owner, handle, to } => (
-                owner,
-                Action::Use(handle, HandleAction::Lend(to)),
-            ),
-            Step::Return { owner, handle } => (owner, Action::Use(handle, HandleAction::Return)),
-            Step::Give { owner, handle, to } => (
-                owner,
-                Action::Use(handle, HandleAction::Give(to)),
-            ),
-        }
-    }
 
     /// The owner whose step it is.
     pub fn owner(&self) -> usize
         ensures { result ≡ owner_of self.now }
     {
-        self.apart().0
+        match *self {
+            Step::Raise { owner }
+            | Step::Quit { owner }
+            | Step::Lower { owner }
+            | Step::Clone { owner, .. }
+            | Step::Drop { owner, .. }
+            | Step::Mark { owner, .. }
+            | Step::Unique { owner, .. }
+            | Step::Static { owner, .. }
+            | Step::GetMut { owner, .. }
+            | Step::Write { owner, .. }
+            | Step::EndWrite { owner, .. }
+            | Step::IntoUnique { owner, .. }
+            | Step::Share { owner, .. }
+            | Step::Load { owner, .. }
+            | Step::Lend { owner, .. }
+            | Step::Return { owner, .. }
+            | Step::Give { owner, .. } => owner,
+        }
     }
 }

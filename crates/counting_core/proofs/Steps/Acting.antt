@@ -146,6 +146,9 @@ module _ {V : Type 0} (f : CoreState V) where
   drop_lives o h may = (and_parts _ _ (and_parts _ _ (parts-alone (handle f h) o
       (begun (state_of f) (Drop o h) may refl).1)).0).0
 
+  pub lend_lives : (o h to : ℕ) → IsPermitted f (Lend o h to) → (handle f h).lives ≡ true
+  lend_lives o h to may = (and_parts _ _ (and_parts _ _ (begun (state_of f) (Lend o h to) may refl).1).0).0
+
   -- the handle was k, and is new
   module _ (o h : ℕ) (k new : HandleState) (was : k ≡ get_or f.handles h k) where
     abbrev with_new : CoreState V
@@ -207,8 +210,7 @@ module _ {V : Type 0} (f : CoreState V) where
 
     pub lends : (to : ℕ) → new ≡ lent_to k to → IsPermitted f (Lend o h to) → TakesEffect f (Lend o h to) Done with_new
     lends to now may = edits f h (λ s. lent_to s to) k new was now
-        (and_parts _ _ (and_parts _ _ (begun (state_of f) (Lend o h to) may refl).1).0).0 (Lend o h to) Done may refl
-        refl refl refl
+        (lend_lives o h to may) (Lend o h to) Done may refl refl refl refl
 
     -- what is written back as it was
     pub lends_none : (to : ℕ) → new ≡ k → IsPermitted f (Lend o h to) → FollowsWord f (Lend o h to) Memory with_new

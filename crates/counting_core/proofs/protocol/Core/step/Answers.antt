@@ -1,9 +1,6 @@
-use Rattle.counting_core.proofs.Names.{FollowsWord, subst}
 use Rattle.counting_core.proofs.Steps.Continues.{continues}
 use Rattle.counting_core.proofs.protocol.Core.step.Goals as goal
 
 pub returns-clause-continues : goal.returns-clause-continues
 returns-clause-continues g c =
-    continues c.args.self.now c.step_by_word.new.self c.args.step c.step_by_word.result
-    (subst (λ s. FollowsWord c.args.self.now s c.step_by_word.result c.step_by_word.new.self) c.apart-owner.ensures
-    c.step_by_word.ensures.word)
+    continues c.args.self.now c.step_by_word.new.self c.args.step c.step_by_word.result c.step_by_word.ensures.word

@@ -1,8 +1,6 @@
-use Rattle.counting_core.proofs.Names.{Alone, Sole, Marked, Done, Memory, ap, step_on, sym, ◌∙◌, inl, inr}
+use Rattle.counting_core.proofs.Names.{Alone, Sole, Marked, Done, ap, step_on, sym, ◌∙◌, inl, inr}
 use Rattle.counting_core.proofs.Steps.Continues.{stays, follows, led_on}
-use Rattle.counting_core.proofs.Steps.Acting.{marks, gets, owns, writes, ends_write, shares, lends, returns, gives}
-use Rattle.counting_core.proofs.Steps.Acting.{lends_none}
-use Rattle.counting_core.proofs.protocol.Core.step_when_idle.Goals.{in-Ok, in-Err}
+use Rattle.counting_core.proofs.Steps.Acting.{marks, gets, owns, writes, ends_write, shares, returns, gives}
 use Rattle.counting_core.proofs.protocol.Core.step_when_idle.Goals as goal
 
 pub invariant_of-self : goal.invariant_of-self
@@ -43,18 +41,6 @@ returns-in-EndWrite g c = elim c.in-EndWrite.is [
 
 pub invariant_of-self-in-EndWrite-1 : goal.invariant_of-self-in-EndWrite-1
 invariant_of-self-in-EndWrite-1 g c = led_on c.self.view_is c.self.invariant _ _ Done (returns-in-EndWrite g c)
-
-pub returns-after-lend_to : goal.returns-after-lend_to
-returns-after-lend_to g c = elim c.match-lend_to.branch [
-  | in-Ok w ↦ rw w.result-is (follows c.self.view_is _ (ap (step_on _ _) c.in-Lend.is) Done c.requires.allowed
-      (lends _ c.args.owner c.args.handle _ _ c.index_mut-in-Lend.ensures.value c.in-Lend.to w.in-Ok.ensures.lent))
-  | in-Err w ↦ rw w.result-is (follows c.self.view_is _ (ap (step_on _ _) c.in-Lend.is) Memory c.requires.allowed
-      (lends_none _ c.args.owner c.args.handle _ _ c.index_mut-in-Lend.ensures.value c.in-Lend.to
-      w.in-Err.ensures.refused))
-]
-
-pub invariant_of-self-in-Lend-1 : goal.invariant_of-self-in-Lend-1
-invariant_of-self-in-Lend-1 g c = led_on c.self.view_is c.self.invariant _ _ _ (returns-after-lend_to g c)
 
 pub returns-in-Return : goal.returns-in-Return
 returns-in-Return g c =

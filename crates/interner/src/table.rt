@@ -101,6 +101,8 @@ impl<T: Eq + Hash + Drop> Interner<T> {
     /// The same, of a value that has no block yet. The block is made first, also if an equal value is there.
     pub fn intern(&mut self, alloc: Global, value: T) -> Result<Symbol, InternError>
         ensures interned { IfOk result (IsInterned T.eq self.old value self.new) }
+        ensures full { result ≡ Err InternError.Full →
+            (list_any (T.eq value) self.old ≡ false) × (2 ^ 32 ≤ length self.old) }
         ensures refused { OnErr result (self.new ≡ self.old) }
     {
         let value = Arc::try_new(alloc, value).map_err(AllocError::from)?;

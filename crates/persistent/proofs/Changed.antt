@@ -9,9 +9,9 @@ use Rattle.std.specs.Cmp.{IsTotalOrder}
 use Rattle.persistent.specs.Changes.{ChangesValue}
 use Rattle.persistent.specs.declared.tree.Child.{Child}
 use Rattle.persistent.specs.Maps.{IsRising, lookup, with_entry}
-use Rattle.persistent.specs.Nodes.{AreChildren, IsChild, IsMap, IsUnder, entries_in, first_key, height_in}
+use Rattle.persistent.specs.Nodes.{AreChildren, IsChild, IsMap, IsUnder, StandFor, entries_in, first_key}
+use Rattle.persistent.specs.Nodes.{height_in}
 use Rattle.persistent.proofs.Children.{entries_split}
-use Rattle.persistent.proofs.Halves.{IsSplit}
 use Rattle.persistent.proofs.Inserted.{entries_same, entries_with, children_set, height_set}
 use Rattle.persistent.proofs.Lookup.{lookup_with}
 use Rattle.persistent.proofs.Order.{rising_front, rising_back}
@@ -44,7 +44,7 @@ module _ {K V : Type 0} (cmp : K → K → Ordering) (total : IsTotalOrder cmp) 
   -- a child that reads as before stands in for it
   pub kept : (cs : List (Child K V)) (i : ℕ) (d new : Child K V) → AreChildren cmp cs → i < length cs
       → d ≡ get_or cs i d → new.key ≡ d.key → new.len ≡ d.len → new.tree.0 ≡ d.tree.0 → new.tree.1 ≡ d.tree.1
-      → IsSplit cmp cs (set cs i new)
+      → StandFor cmp cs (set cs i new)
   kept cs i d new are h is key len es level =
       let here = subst (IsChild (height_in cs)) (sym is) (are.each i d h) in
       let child : IsChild (height_in cs) new = record {

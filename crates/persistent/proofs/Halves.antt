@@ -1,17 +1,18 @@
 -- The parts of what a node has, and nodes that are made of them.
-use Rattle.std.proofs.Common.{◌≡◌, ◌+◌, ◌<◌, ◌≤◌, ◌^◌, ℕ, List, [], ◌∷◌, ◌++◌, length, take, drop, get_or, set, ap}
-use Rattle.std.proofs.Common.{sym, ◌∙◌, subst, arith, take-append-drop, length-append, length-take, length-drop}
-use Rattle.std.proofs.Common.{append_assoc, append-nil}
-use Rattle.std.specs.Prelude.{Some}
-use Rattle.std.specs.List.{All, insert}
-use Rattle.std.proofs.lemmas.List.{take_more, set_at, length-take-le}
+use Rattle.std.proofs.Common.{◌≡◌, ◌+◌, ◌<◌, ◌≤◌, ◌^◌, ℕ, List, [], ◌∷◌, ◌++◌, length, take, drop, get_or, ap}
+use Rattle.std.proofs.Common.{sym, ◌∙◌, subst, arith, take-append-drop, length-append, length-take, length-drop, refl}
+use Rattle.std.proofs.Common.{append-nil, ◌-◌}
+use Rattle.std.specs.Prelude.{Some, slice_get}
+use Rattle.std.specs.List.{All}
+use Rattle.std.proofs.lemmas.List.{drop_more, drop-drop}
 use Rattle.std.proofs.lemmas.List.Concat.{flat_map-append}
 use Rattle.std.proofs.lemmas.List.Elements.{All-tail, All-take, All-drop, All-append, All-cons, All-nil}
-use Rattle.std.proofs.lemmas.Option.{none-some}
+use Rattle.std.proofs.lemmas.Option.{none-some, same_Some}
 use Rattle.std.specs.declared.cmp.Ordering.{Ordering}
 use Rattle.persistent.specs.declared.tree.Child.{Child}
 use Rattle.persistent.specs.Maps.{IsRising}
-use Rattle.persistent.specs.Nodes.{AreChildren, AreHalves, IsChild, IsMap, entries_in, first_key, height_in}
+use Rattle.persistent.specs.Nodes.{AreChildren, AreHalves, IsChild, IsMap, StandFor, entries_in, first_key}
+use Rattle.persistent.specs.Nodes.{height_in}
 use Rattle.persistent.proofs.Children.{entries_split}
 use Rattle.persistent.proofs.Order.{rising_front, rising_back}
 use Rattle.persistent.proofs.Wide.{some_in, two_children, three_children}
@@ -37,6 +38,57 @@ module _ {K V : Type 0} where
   some_children h (c ∷ cs) a p =
       let some = some_first c.tree.0 c.key (a 0 c (omega arith)).first in
       omega (arith, some, length-append c.tree.0 (entries_in cs))
+
+  -- more entries behind leave the first key
+  pub first_in : (es rest : List (K × V)) (key : K) → first_key es ≡ Some key → first_key (es ++ rest) ≡ Some key
+  first_in [] rest key h = absurd (none-some key h)
+  first_in (e ∷ es) rest key h = h
+
+  -- the first child has the least key
+  first_child : (h : ℕ) (cs : List (Child K V)) (d : Child K V) → All (IsChild h) cs → 0 < length cs
+      → first_key (entries_in cs) ≡ Some (get_or cs 0 d).key
+  first_child h [] d a p = absurd (omega arith)
+  first_child h (c ∷ cs) d a p = first_in c.tree.0 (entries_in cs) c.key (a 0 c (omega arith)).first
+
+  -- a branch of these children is a child
+  pub branch_is : (cmp : K → K → Ordering) (cs : List (Child K V)) (d : Child K V) (new : Child K V)
+      → AreChildren cmp cs
+      → 1 < length cs → new.tree ≡ (entries_in cs, height_in cs) → new.key ≡ (get_or cs 0 d).key
+      → new.len ≡ length (entries_in cs) → IsChild (height_in cs + 1) new
+  branch_is cmp cs d new are wide is key len = record {
+    first = ap (λ (t : List (K × V) × ℕ). first_key t.0) is ∙ first_child (height_in cs) cs d are.each
+        (some_in cmp cs are)
+        ∙ ap (λ (k : K). Some k) (sym key);
+    counted = len ∙ ap (λ (t : List (K × V) × ℕ). length t.0) (sym is);
+    level = ap (λ (t : List (K × V) × ℕ). t.1 + 1) is;
+    wide = subst (λ (t : List (K × V) × ℕ). 2 ^ t.1 ≤ length t.0) (sym is)
+        (two_children (height_in cs) cs are.each wide);
+  }
+
+  -- fewer entries behind leave the first key
+  first_front : (es rest : List (K × V)) → 0 < length es → first_key es ≡ first_key (es ++ rest)
+  first_front [] rest p = absurd (omega arith)
+  first_front (e ∷ es) rest p = refl
+
+  -- a child that keeps the first half
+  pub left_is : (old right new : Child K V) → IsChild (old.tree.1 + 1) old → AreHalves old.tree new.tree right
+      → new.key ≡ old.key → new.len ≡ old.len - right.len → IsChild (old.tree.1 + 1) new
+  left_is old right new child halves key len =
+      let all = ap (length {A = K × V}) halves.entries in
+      let more = length-append new.tree.0 right.tree.0 in
+      let some : 0 < length new.tree.0 = omega (arith, halves.spare.0) in
+      record {
+        first = first_front new.tree.0 right.tree.0 some ∙ ap (first_key {K = K} {V = V}) halves.entries ∙ child.first
+            ∙ ap (λ (k : K). Some k) (sym key);
+        counted = omega (arith, len, child.counted, halves.child.counted, all, more);
+        level = ap (λ (n : ℕ). n + 1) halves.height;
+        wide = omega (arith, halves.spare.0);
+      }
+
+  -- the first entry has the first key
+  pub first_entry : (es : List (K × V)) (e : K × V) → slice_get es 0 ≡ Some e → first_key es ≡ Some e.0
+  first_entry [] e h = absurd (none-some e h)
+  first_entry (x ∷ es) e h = ap (λ (y : K × V). Some y.0) (same_Some x e h)
 
   module _ (cmp : K → K → Ordering) where
     -- children on one level with entries that rise make a node
@@ -105,100 +157,93 @@ module _ {K V : Type 0} where
         height_is (height_in cs) (drop n cs) (All-drop (IsChild (height_in cs)) n cs are.each)
         (omega (arith, length-drop n cs))
 
-    -- two children that share the entries of a tree between them are its halves
-    pub halves_are : (es : List (K × V)) (h : ℕ) (l r : Child K V) → IsMap cmp es → l.tree.0 ++ r.tree.0 ≡ es
-        → IsChild (h + 1) l → IsChild (h + 1) r → 2 ^ h < length l.tree.0 → 2 ^ h < length r.tree.0
-        → AreHalves cmp (es, h) (l, r)
-    halves_are es h l r map is left right more rest =
-        let low : l.tree.1 ≡ h = omega (arith, left.level) in
-        let high : r.tree.1 ≡ h = omega (arith, right.level) in
-        let entries : entries_in (l ∷ r ∷ []) ≡ es = ap (λ x. l.tree.0 ++ x) (append-nil r.tree.0) ∙ is in
-        let each : All (IsChild (h + 1)) (l ∷ r ∷ []) =
-        All-cons (IsChild (h + 1)) l (r ∷ []) left
-        (All-cons (IsChild (h + 1)) r [] right (All-nil (IsChild (h + 1)))) in
+    -- a tree as the only child of another one
+    pub only_is : (es : List (K × V)) (c : Child K V) → first_key es ≡ Some c.key → c.len ≡ length es → c.tree.0 ≡ es
+        → 2 ^ c.tree.1 ≤ length es → IsRising cmp es → length es < 2 ^ 64 → AreChildren cmp (c ∷ [])
+    only_is es c first len is wide rising room =
+        let h = c.tree.1 + 1 in
+        let same : entries_in (c ∷ []) ≡ es = append-nil c.tree.0 ∙ is in
+        let child : IsChild h c = record {
+          first = ap (first_key {K = K} {V = V}) is ∙ first;
+          counted = len ∙ ap (length {A = K × V}) (sym is);
+          level = refl;
+          wide = subst (λ (x : List (K × V)). 2 ^ c.tree.1 ≤ length x) (sym is) wide;
+        } in
+        children_are h (c ∷ []) (All-cons (IsChild h) c [] child (All-nil (IsChild h))) (omega arith)
+        (subst (IsRising cmp) (sym same) rising) (subst (λ (x : List (K × V)). length x < 2 ^ 64) (sym same) room)
+
+    -- the halves of a leaf
+    pub leaves_are : (es : List (K × V)) (n : ℕ) (d : K × V) (r : Child K V) → IsMap cmp es → 1 < n → n + 1 < length es
+        → r.key ≡ (get_or es n d).0 → r.len ≡ length (drop n es) → r.tree ≡ (drop n es, 0)
+        → AreHalves (es, 0) (take n es, 0) r
+    leaves_are es n d r map p h key len is = record {
+      entries = ap (λ (t : List (K × V) × ℕ). take n es ++ t.0) is ∙ take-append-drop n es;
+      height = refl;
+      child = record {
+        first = ap (λ (t : List (K × V) × ℕ). first_key t.0) is
+            ∙ ap (first_key {K = K} {V = V}) (drop_more es n d (omega arith)) ∙ ap (λ (k : K). Some k) (sym key);
+        counted = len ∙ ap (λ (t : List (K × V) × ℕ). length t.0) (sym is);
+        level = ap (λ (t : List (K × V) × ℕ). t.1 + 1) is;
+        wide = subst (λ (t : List (K × V) × ℕ). 2 ^ t.1 ≤ length t.0) (sym is) (omega (arith, length-drop n es));
+      };
+      spare = (
+        omega (arith, length-take n es),
+        subst (λ (t : List (K × V) × ℕ). 2 ^ t.1 < length t.0) (sym is) (omega (arith, length-drop n es)),
+      );
+    }
+
+    -- the halves of a branch
+    pub branches_are : (cs : List (Child K V)) (n : ℕ) (d r : Child K V) → AreChildren cmp cs → 2 < n
+        → n + 2 < length cs → r.key ≡ (get_or cs n d).key → r.len ≡ length (entries_in (drop n cs))
+        → r.tree ≡ (entries_in (drop n cs), height_in (drop n cs))
+        → AreHalves (entries_in cs, height_in cs) (entries_in (take n cs), height_in (take n cs)) r
+    branches_are cs n d r are p h key len is =
+        let front = height_take cs n are (omega arith) (omega arith) in
+        let back = height_drop cs n are (omega arith) in
+        let rest = children_drop cs n are (omega arith) in
+        let each = All-take (IsChild (height_in cs)) n cs are.each in
+        let more = All-drop (IsChild (height_in cs)) n cs are.each in
         record {
-          children = children_are (h + 1) (l ∷ r ∷ []) each (omega arith)
-              (subst (IsRising cmp) (sym entries) map.rising)
-              (subst (λ (x : List (K × V)). length x < 2 ^ 64) (sym entries) map.room);
-          entries = entries;
-          height = height_is (h + 1) (l ∷ r ∷ []) each (omega arith);
+          entries = ap (λ (t : List (K × V) × ℕ). entries_in (take n cs) ++ t.0) is ∙ sym (two_parts cs n);
+          height = front;
+          child = subst (λ (h : ℕ). IsChild (h + 1) r) back
+              (branch_is cmp (drop n cs) d r rest (omega (arith, length-drop n cs)) is
+              (key ∙ ap (λ (xs : List (Child K V)). (get_or xs 0 d).key) (sym (drop_more cs n d (omega arith)))) len);
           spare = (
-            subst (λ (n : ℕ). 2 ^ n < length l.tree.0) (sym low) more,
-            subst (λ (n : ℕ). 2 ^ n < length r.tree.0) (sym high) rest,
+            subst (λ (h : ℕ). 2 ^ h < length (entries_in (take n cs))) (sym front)
+                (three_children (height_in cs) (take n cs) each (omega (arith, length-take n cs))),
+            subst (λ (t : List (K × V) × ℕ). 2 ^ t.1 < length t.0) (sym is)
+                (subst (λ (h : ℕ). 2 ^ h < length (entries_in (drop n cs))) (sym back)
+                (three_children (height_in cs) (drop n cs) more (omega (arith, length-drop n cs)))),
           );
         }
 
-    -- two halves of a leaf are
-    pub leaves_are : (es : List (K × V)) (n : ℕ) (l r : Child K V) → IsMap cmp es → 1 < n → n + 1 < length es
-        → l.tree.0 ≡ take n es → r.tree.0 ≡ drop n es → IsChild 1 l → IsChild 1 r → AreHalves cmp (es, 0) (l, r)
-    leaves_are es n l r map p h is rest left right =
-        halves_are es 0 l r map
-        (ap (λ x. x ++ r.tree.0) is ∙ ap (λ x. take n es ++ x) rest ∙ take-append-drop n es) left right
-        (omega (arith, ap (length {A = K × V}) is, length-take n es))
-        (omega (arith, ap (length {A = K × V}) rest, length-drop n es))
-
-    -- two halves of a branch are
-    pub branches_are : (cs : List (Child K V)) (n : ℕ) (l r : Child K V) → AreChildren cmp cs → 2 < n
-        → n + 2 < length cs → l.tree.0 ≡ entries_in (take n cs) → r.tree.0 ≡ entries_in (drop n cs)
-        → IsChild (height_in (take n cs) + 1) l → IsChild (height_in (drop n cs) + 1) r
-        → AreHalves cmp (entries_in cs, height_in cs) (l, r)
-    branches_are cs n l r are p h is rest left right =
-        halves_are (entries_in cs) (height_in cs) l r are.map
-        (ap (λ x. x ++ r.tree.0) is ∙ ap (λ x. entries_in (take n cs) ++ x) rest ∙ sym (two_parts cs n))
-        (subst (λ (h : ℕ). IsChild (h + 1) l) (height_take cs n are (omega arith) (omega arith)) left)
-        (subst (λ (h : ℕ). IsChild (h + 1) r) (height_drop cs n are (omega arith)) right)
-        (subst (λ (x : List (K × V)). 2 ^ height_in cs < length x) (sym is)
-        (three_children (height_in cs) (take n cs) (All-take (IsChild (height_in cs)) n cs are.each)
-        (omega (arith, length-take n cs))))
-        (subst (λ (x : List (K × V)). 2 ^ height_in cs < length x) (sym rest)
-        (three_children (height_in cs) (drop n cs) (All-drop (IsChild (height_in cs)) n cs are.each)
-        (omega (arith, length-drop n cs))))
-
-    -- the same entries under other children
-    pub record IsSplit (old new : List (Child K V)) : Type 0 where
-      pub entries : entries_in new ≡ entries_in old
-      pub height : height_in new ≡ height_in old
-      pub children : AreChildren cmp new
-
-    -- two halves stand in for the child
-    pub split_child : (cs : List (Child K V)) (i : ℕ) (d l r : Child K V) → AreChildren cmp cs → i < length cs
-        → AreHalves cmp (get_or cs i d).tree (l, r) → IsSplit cs (set (insert cs (i + 1) r) i l)
-    split_child cs i d l r are h halves =
+    -- children in place of k, with the entries of those, stand for all
+    pub replaced : (cs ns : List (Child K V)) (i k : ℕ) → AreChildren cmp cs → All (IsChild (height_in cs)) ns
+        → 0 < length ns → entries_in ns ≡ entries_in (take k (drop i cs))
+        → StandFor cmp cs (take i cs ++ (ns ++ drop (i + k) cs))
+    replaced cs ns i k are each some is =
         let P = IsChild (height_in cs) in
-        let after = drop (i + 1) cs in
-        let list : set (insert cs (i + 1) r) i l ≡ take i cs ++ l ∷ r ∷ after =
-        ap (λ (xs : List (Child K V)). set (xs ++ r ∷ after) i l) (take_more cs i d h)
-        ∙ ap (λ (xs : List (Child K V)). set xs i l) (append_assoc (take i cs) (get_or cs i d ∷ []) (r ∷ after))
-        ∙ set_at (take i cs) (get_or cs i d) (r ∷ after) l i (length-take-le i cs (omega arith)) in
-        let level : height_in (l ∷ r ∷ []) ≡ height_in cs = halves.height ∙ (are.each i d h).level in
-        let pair = subst (λ (h : ℕ). All (IsChild h) (l ∷ r ∷ [])) level halves.children.each in
-        let each : All P (take i cs ++ l ∷ r ∷ after) =
-        All-append P (take i cs) (l ∷ r ∷ after) (All-take P i cs are.each)
-        (All-append P (l ∷ r ∷ []) after pair (All-drop P (i + 1) cs are.each)) in
-        let inner : l.tree.0 ++ (r.tree.0 ++ entries_in after) ≡ (get_or cs i d).tree.0 ++ entries_in after =
-        sym (append_assoc l.tree.0 r.tree.0 (entries_in after))
-        ∙ ap (λ x. (l.tree.0 ++ x) ++ entries_in after) (sym (append-nil r.tree.0))
-        ∙ ap (λ x. x ++ entries_in after) halves.entries in
-        let same : entries_in (take i cs ++ l ∷ r ∷ after) ≡ entries_in cs =
-        flat_map-append (λ (c : Child K V). c.tree.0) (take i cs) (l ∷ r ∷ after)
-        ∙ ap (λ x. entries_in (take i cs) ++ x) inner ∙ sym (entries_split cs i d h) in
-        let wide : 0 < length (take i cs ++ l ∷ r ∷ after) = omega (arith, length-append (take i cs) (l ∷ r ∷ after)) in
-        subst (IsSplit cs) (sym list) record {
+        let rest = drop k (drop i cs) in
+        let new = take i cs ++ (ns ++ rest) in
+        let f = λ (c : Child K V). c.tree.0 in
+        let all : All P new =
+        All-append P (take i cs) (ns ++ rest) (All-take P i cs are.each)
+        (All-append P ns rest each (All-drop P k (drop i cs) (All-drop P i cs are.each))) in
+        let same : entries_in new ≡ entries_in cs =
+        flat_map-append f (take i cs) (ns ++ rest)
+        ∙ ap (λ (x : List (K × V)). entries_in (take i cs) ++ x) (flat_map-append f ns rest
+        ∙ ap (λ (x : List (K × V)). x ++ entries_in rest) is ∙ sym (two_parts (drop i cs) k))
+        ∙ sym (two_parts cs i) in
+        let wide : 0 < length new = omega (arith, length-append (take i cs) (ns ++ rest), length-append ns rest) in
+        subst (λ (xs : List (Child K V)). StandFor cmp cs (take i cs ++ (ns ++ xs))) (drop-drop k i cs) record {
           entries = same;
-          height = height_is (height_in cs) (take i cs ++ l ∷ r ∷ after) each wide;
-          children = children_are (height_in cs) (take i cs ++ l ∷ r ∷ after) each wide
-              (subst (IsRising cmp) (sym same) are.map.rising)
+          height = height_is (height_in cs) new all wide;
+          children = children_are (height_in cs) new all wide (subst (IsRising cmp) (sym same) are.map.rising)
               (subst (λ (x : List (K × V)). length x < 2 ^ 64) (sym same) are.map.room);
         }
 
-    -- what stands after `insert` and a write
-    pub split_done : (cs new : List (Child K V)) (i : ℕ) (d l r : Child K V) → AreChildren cmp cs → i < length cs
-        → d ≡ get_or cs i d → AreHalves cmp d.tree (l, r) → new ≡ insert cs (i + 1) r → IsSplit cs (set new i l)
-    split_done cs new i d l r are h is halves put =
-        subst (λ (xs : List (Child K V)). IsSplit cs (set xs i l)) (sym put)
-        (split_child cs i d l r are h (subst (λ (c : Child K V). AreHalves cmp c.tree (l, r)) is halves))
-
-pub ruleset halving = (map_take, map_drop, children_take, children_drop, leaves_are, branches_are)
+pub ruleset halving = (map_take, map_drop, children_take, children_drop)
 
 module _ {K V : Type 0} where
   -- the entries up to a child are no more than all
@@ -212,32 +257,6 @@ module _ {K V : Type 0} where
         length-append (entries_in (take i cs)) ((get_or cs i d).tree.0 ++ entries_in (drop (i + 1) cs)),
         length-append (get_or cs i d).tree.0 (entries_in (drop (i + 1) cs)),
       )
-
-  -- more entries behind leave the first key
-  pub first_in : (es rest : List (K × V)) (key : K) → first_key es ≡ Some key → first_key (es ++ rest) ≡ Some key
-  first_in [] rest key h = absurd (none-some key h)
-  first_in (e ∷ es) rest key h = h
-
-  -- the first child has the least key
-  first_child : (h : ℕ) (cs : List (Child K V)) (d : Child K V) → All (IsChild h) cs → 0 < length cs
-      → first_key (entries_in cs) ≡ Some (get_or cs 0 d).key
-  first_child h [] d a p = absurd (omega arith)
-  first_child h (c ∷ cs) d a p = first_in c.tree.0 (entries_in cs) c.key (a 0 c (omega arith)).first
-
-  -- a branch of these children is a child
-  pub branch_is : (cmp : K → K → Ordering) (cs : List (Child K V)) (d : Child K V) (new : Child K V)
-      → AreChildren cmp cs
-      → 1 < length cs → new.tree ≡ (entries_in cs, height_in cs) → new.key ≡ (get_or cs 0 d).key
-      → new.len ≡ length (entries_in cs) → IsChild (height_in cs + 1) new
-  branch_is cmp cs d new are wide is key len = record {
-    first = ap (λ (t : List (K × V) × ℕ). first_key t.0) is ∙ first_child (height_in cs) cs d are.each
-        (some_in cmp cs are)
-        ∙ ap (λ (k : K). Some k) (sym key);
-    counted = len ∙ ap (λ (t : List (K × V) × ℕ). length t.0) (sym is);
-    level = ap (λ (t : List (K × V) × ℕ). t.1 + 1) is;
-    wide = subst (λ (t : List (K × V) × ℕ). 2 ^ t.1 ≤ length t.0) (sym is)
-        (two_children (height_in cs) cs are.each wide);
-  }
 
   -- the front has no more entries than all
   pub entries_front : (cs : List (Child K V)) (n : ℕ) → length (entries_in (take n cs)) ≤ length (entries_in cs)

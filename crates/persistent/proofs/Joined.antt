@@ -1,16 +1,16 @@
 -- A node two of whose children, side by side, became one or two others.
 use Rattle.std.proofs.Common.{◌≡◌, ◌+◌, ◌<◌, ◌≤◌, ◌^◌, ℕ, zero, suc, true, false, List, [], ◌∷◌, ◌++◌, length, take}
 use Rattle.std.proofs.Common.{drop, get_or, set, ap, sym, ◌∙◌, subst, arith, length-append, length-drop, length-set}
-use Rattle.std.proofs.Common.{append_assoc, append-nil, ◌*◌, inl, inr}
+use Rattle.std.proofs.Common.{append_assoc, append-nil, ◌*◌, ◌-◌, add-one, inl, inr, refl}
 use Rattle.std.specs.Prelude.{Some}
-use Rattle.std.specs.List.{All, remove}
-use Rattle.std.proofs.lemmas.List.{drop_more, take_more, set_at, length-take-le, take-append-le, get_or-set_same}
-use Rattle.std.proofs.lemmas.List.{get_or-set_other}
+use Rattle.std.specs.List.{All, insert, remove}
+use Rattle.std.proofs.lemmas.List.{drop_more, take_more, set_at, set_split, length-take-le, take-append-le}
+use Rattle.std.proofs.lemmas.List.{get_or-append_right, get_or-set_same}
+use Rattle.std.proofs.lemmas.List.Elements.{All-append, All-cons, All-nil}
 use Rattle.std.proofs.lemmas.List.Concat.{flat_map-append}
-use Rattle.std.proofs.lemmas.List.Elements.{All-take, All-drop, All-append, All-cons, All-nil}
 use Rattle.std.proofs.lemmas.Bool.{cases_Bool}
 use Rattle.std.proofs.lemmas.Grind.{pow_more}
-use Rattle.std.proofs.lemmas.List.Edits.{length-remove}
+use Rattle.std.proofs.lemmas.List.Edits.{insert-append_right, length-remove}
 use Rattle.std.proofs.lemmas.Nat.{pow_pos}
 use Rattle.std.proofs.Math.Seq.{drop-append-add, take-length}
 use Rattle.std.specs.declared.cmp.Ordering.{Ordering}
@@ -19,11 +19,10 @@ use Rattle.std.specs.Ordering.{is_lt}
 use Rattle.persistent.specs.declared.tree.Child.{Child}
 use Rattle.persistent.specs.Maps.{IsRising}
 use Rattle.persistent.specs.Nodes.{AreChildren, AreHalves, CanLose, IsChild, IsMap, IsUnder, entries_in, first_key}
-use Rattle.persistent.specs.Nodes.{height_in}
+use Rattle.persistent.specs.Nodes.{StandFor, height_in}
 use Rattle.persistent.specs.Places.{AreAbove, AreBelow}
-use Rattle.persistent.proofs.Children.{entries_split, entries_from, children_later, children_sooner, below_child}
-use Rattle.persistent.proofs.Children.{above_child}
-use Rattle.persistent.proofs.Halves.{IsSplit, children_are, children_drop, children_take, first_in, height_is}
+use Rattle.persistent.proofs.Children.{above_child, below_child, children_later, children_sooner}
+use Rattle.persistent.proofs.Halves.{children_are, children_drop, children_take, first_in, height_is, replaced}
 use Rattle.persistent.proofs.Wide.{some_in}
 use Rattle.persistent.proofs.Steps.{split_at}
 
@@ -51,19 +50,39 @@ module _ {X : Type 0} where
       ∙ set_at (take i xs) (get_or xs i x) (drop (suc (i + 1)) xs) x i (length-take-le i xs (omega arith))
       ∙ ap (λ (n : ℕ). take i xs ++ x ∷ drop n xs) next
 
-  -- two others in place of the two
-  pub two_for_two : (xs : List X) (i : ℕ) (x y : X) → i + 1 < length xs
-      → set (set xs i x) (i + 1) y ≡ take i xs ++ x ∷ y ∷ drop (i + 2) xs
-  two_for_two xs i x y h =
-      let front = take i xs in
-      let b = get_or xs (i + 1) y in
-      let rest = drop (i + 2) xs in
-      let long : length front ≡ i = length-take-le i xs (omega arith) in
-      ap (λ (ys : List X). set (set ys i x) (i + 1) y) (around_two xs i x y h)
-      ∙ ap (λ (ys : List X). set ys (i + 1) y) (set_at front (get_or xs i x) (b ∷ rest) x i long)
-      ∙ ap (λ (ys : List X). set ys (i + 1) y) (sym (append_assoc front (x ∷ []) (b ∷ rest)))
-      ∙ set_at (front ++ x ∷ []) b rest y (i + 1) (omega (arith, long, length-append front (x ∷ [])))
-      ∙ append_assoc front (x ∷ []) (y ∷ rest)
+  -- another behind the item
+  insert_behind : (xs ys : List X) (i : ℕ) (x y : X) → i ≤ length xs
+      → insert (take i xs ++ x ∷ ys) (i + 1) y ≡ take i xs ++ x ∷ y ∷ ys
+  insert_behind xs ys i x y h =
+      let one : i + 1 - i ≡ 1 = omega arith in
+      insert-append_right (take i xs) (x ∷ ys) i (i + 1) y (length-take-le i xs h) (omega arith)
+      ∙ ap (λ (n : ℕ). take i xs ++ insert (x ∷ ys) n y) one
+
+  -- two items in place of one
+  two_for_one : (xs : List X) (i : ℕ) (x y : X) → i < length xs
+      → insert (set xs i x) (i + 1) y ≡ take i xs ++ x ∷ y ∷ drop (i + 1) xs
+  two_for_one xs i x y h =
+      ap (λ (ys : List X). insert ys (i + 1) y) (set_split xs i x h)
+      ∙ insert_behind xs (drop (suc i) xs) i x y (omega arith)
+      ∙ ap (λ (n : ℕ). take i xs ++ x ∷ y ∷ drop n xs) (sym (add-one i))
+
+  -- an item that was taken out goes back
+  pub back : (xs : List X) (i : ℕ) (d e x y : X) → i + 1 < length xs → x ≡ get_or xs i d → y ≡ get_or xs (i + 1) e
+      → insert (set (remove xs (i + 1)) i x) (i + 1) y ≡ xs
+  back xs i d e x y h is next =
+      ap (λ (ys : List X). insert ys (i + 1) y) (one_for_two xs i x h)
+      ∙ insert_behind xs (drop (i + 2) xs) i x y (omega arith)
+      ∙ ap (λ (z : X). take i xs ++ z ∷ y ∷ drop (i + 2) xs) is
+      ∙ ap (λ (z : X). take i xs ++ get_or xs i d ∷ z ∷ drop (i + 2) xs) next
+      ∙ sym (around_two xs i d e h)
+
+  -- an item behind the front
+  behind_front : (xs ys : List X) (i n k : ℕ) (d : X) → i ≤ length xs → n ≡ i + k
+      → get_or (take i xs ++ ys) n d ≡ get_or ys k d
+  behind_front xs ys i n k d h is =
+      let rest : n - i ≡ k = omega arith in
+      get_or-append_right (take i xs) ys i n d (length-take-le i xs h) (omega arith)
+      ∙ ap (λ (m : ℕ). get_or ys m d) rest
 
   -- what stands before the front's end
   take_front : (xs ys : List X) (i : ℕ) → i ≤ length xs → take i (take i xs ++ ys) ≡ take i xs
@@ -77,83 +96,50 @@ module _ {X : Type 0} where
       ap (λ (k : ℕ). drop (k + n) (take i xs ++ ys)) (sym (length-take-le i xs h)) ∙ drop-append-add (take i xs) ys n
 
 module _ {K V : Type 0} (cmp : K → K → Ordering) where
-  -- children with the entries of both in place of the two
-  pub pair_done : (cs : List (Child K V)) (i : ℕ) (d e : Child K V) (ns : List (Child K V)) → AreChildren cmp cs
-      → i + 1 < length cs → All (IsChild (height_in cs)) ns → 0 < length ns
-      → entries_in ns ≡ (get_or cs i d).tree.0 ++ (get_or cs (i + 1) e).tree.0
-      → IsSplit cmp cs (take i cs ++ (ns ++ drop (i + 2) cs))
-  pair_done cs i d e ns are h each some is =
-      let P = IsChild (height_in cs) in
-      let a = (get_or cs i d).tree.0 in
-      let b = (get_or cs (i + 1) e).tree.0 in
-      let after = drop (i + 2) cs in
-      let f = λ (c : Child K V). c.tree.0 in
-      let new = take i cs ++ (ns ++ after) in
-      let next : i + 1 + 1 ≡ i + 2 = omega arith in
-      let all : All P new =
-      All-append P (take i cs) (ns ++ after) (All-take P i cs are.each)
-      (All-append P ns after each (All-drop P (i + 2) cs are.each)) in
-      let rest : b ++ entries_in after ≡ entries_in (drop (i + 1) cs) =
-      sym (entries_from cs (i + 1) e h ∙ ap (λ (n : ℕ). b ++ entries_in (drop n cs)) next) in
-      let same : entries_in new ≡ entries_in cs =
-      flat_map-append f (take i cs) (ns ++ after)
-      ∙ ap (λ (x : List (K × V)). entries_in (take i cs) ++ x) (flat_map-append f ns after
-      ∙ ap (λ (x : List (K × V)). x ++ entries_in after) is ∙ append_assoc a b (entries_in after)
-      ∙ ap (λ (x : List (K × V)). a ++ x) rest) ∙ sym (entries_split cs i d (omega arith)) in
-      let wide : 0 < length new = omega (arith, length-append (take i cs) (ns ++ after), length-append ns after) in
-      record {
-        entries = same;
-        height = height_is (height_in cs) new all wide;
-        children = children_are cmp (height_in cs) new all wide
-            (subst (IsRising cmp) (sym same) are.map.rising)
-            (subst (λ (x : List (K × V)). length x < 2 ^ 64) (sym same) are.map.room);
-      }
-
-  -- two children side by side are those of a node by themselves
-  pub pair_are : (cs : List (Child K V)) (i : ℕ) (d e : Child K V) → AreChildren cmp cs → i + 1 < length cs
-      → d ≡ get_or cs i d → e ≡ get_or cs (i + 1) e → AreChildren cmp (d ∷ e ∷ [])
-  pair_are cs i d e are h is next =
-      let both : take 2 (drop i cs) ≡ d ∷ e ∷ [] =
+  -- two children side by side
+  two_at : (cs : List (Child K V)) (i : ℕ) (d e : Child K V) → i + 1 < length cs → d ≡ get_or cs i d
+      → e ≡ get_or cs (i + 1) e → take 2 (drop i cs) ≡ d ∷ e ∷ []
+  two_at cs i d e h is next =
       ap (take 2) (drop_more cs i d (omega arith)
       ∙ ap (λ (ys : List (Child K V)). get_or cs i d ∷ ys) (drop_more cs (i + 1) e h))
       ∙ ap (λ (c : Child K V). c ∷ get_or cs (i + 1) e ∷ []) (sym is)
-      ∙ ap (λ (c : Child K V). d ∷ c ∷ []) (sym next) in
-      subst (AreChildren cmp) both
+      ∙ ap (λ (c : Child K V). d ∷ c ∷ []) (sym next)
+
+  -- are those of a node by themselves
+  pub pair_are : (cs : List (Child K V)) (i : ℕ) (d e : Child K V) → AreChildren cmp cs → i + 1 < length cs
+      → d ≡ get_or cs i d → e ≡ get_or cs (i + 1) e → AreChildren cmp (d ∷ e ∷ [])
+  pair_are cs i d e are h is next =
+      subst (AreChildren cmp) (two_at cs i d e h is next)
       (children_take cmp (drop i cs) 2 (children_drop cmp cs i are (omega arith)) (omega arith)
       (omega (arith, length-drop i cs)))
 
-  -- what a join leaves
-  pub record IsJoin (old new : List (Child K V)) (q : K) (at : ℕ) : Type 0 where
-    pub split : IsSplit cmp old new
-    pub under : IsUnder cmp q new at
-    pub spare : (d : Child K V) → CanLose (get_or new at d).tree
+  -- the entries of neighbours, by their places
+  two_entries : (cs : List (Child K V)) (i : ℕ) (d e : Child K V) → i + 1 < length cs → d ≡ get_or cs i d
+      → e ≡ get_or cs (i + 1) e → d.tree.0 ++ e.tree.0 ≡ entries_in (take 2 (drop i cs))
+  two_entries cs i d e h is next =
+      ap (λ (es : List (K × V)). d.tree.0 ++ es) (sym (append-nil e.tree.0))
+      ∙ ap (entries_in {K = K} {V = V}) (sym (two_at cs i d e h is next))
 
-  module _ (total : IsTotalOrder cmp) (q : K) (cs : List (Child K V)) (at i : ℕ) (d e : Child K V)
-      (are : AreChildren cmp cs) (under : IsUnder cmp q cs at) (h : i + 1 < length cs) (from : i ≤ at) (to : at ≤ i + 1)
-      (is : d ≡ get_or cs i d) (next : e ≡ get_or cs (i + 1) e) where
-    -- what stands before and after the two
-    below : (ys : List (Child K V)) → AreBelow cmp q (entries_in (take i (take i cs ++ ys)))
-    below ys =
-        subst (λ (l : List (Child K V)). AreBelow cmp q (entries_in l)) (sym (take_front cs ys i (omega arith)))
-        (children_sooner cmp total q cs i at from under.between.below)
+  module _ (cs : List (Child K V)) (i : ℕ) (d e j : Child K V) (are : AreChildren cmp cs) (h : i + 1 < length cs)
+      (is : d ≡ get_or cs i d) (next : e ≡ get_or cs (i + 1) e) (child : IsChild (d.tree.1 + 1) j)
+      (same : j.tree.0 ≡ d.tree.0 ++ e.tree.0) where
+    -- one child of two neighbours stands for both
+    pub joined_same : StandFor cmp cs (set (remove cs (i + 1)) i j)
+    joined_same =
+        let P : Child K V → Type 0 = IsChild (height_in cs) in
+        let level = ap (λ (c : Child K V). c.tree.1 + 1) is ∙ (are.each i d (omega arith)).level in
+        subst (StandFor cmp cs) (sym (one_for_two cs i j h))
+        (replaced cmp cs (j ∷ []) i 2 are (All-cons P j [] (subst (λ (n : ℕ). IsChild n j) level child) (All-nil P))
+        (omega arith) (append-nil j.tree.0 ∙ same ∙ two_entries cs i d e h is next))
 
-    -- what stands after the two
-    above : AreAbove cmp q (entries_in (drop (i + 2) cs))
-    above = children_later cmp total q cs (at + 1) (i + 2) (omega arith) under.between.above
-
-    -- the entries of both, by their places
-    pair : d.tree.0 ++ e.tree.0 ≡ (get_or cs i d).tree.0 ++ (get_or cs (i + 1) e).tree.0
-    pair =
-        ap (λ (c : Child K V). c.tree.0 ++ e.tree.0) is
-        ∙ ap (λ (c : Child K V). (get_or cs i d).tree.0 ++ c.tree.0) next
-
-    -- the join of two could lose an entry
-    joined_spare : (j : Child K V) → IsChild (d.tree.1 + 1) j → j.tree.0 ≡ d.tree.0 ++ e.tree.0 → CanLose j.tree
-    joined_spare j child same =
+    -- and could lose an entry
+    pub joined_spare : (x : Child K V) → CanLose (get_or (set (remove cs (i + 1)) i j) i x).tree
+    joined_spare x =
+        let count : i < length (remove cs (i + 1)) = omega (arith, length-remove cs (i + 1) h) in
         let one = subst (IsChild (height_in cs)) (sym is) (are.each i d (omega arith)) in
         let two = subst (IsChild (height_in cs)) (sym next) (are.each (i + 1) e h) in
-        let level : j.tree.1 ≡ d.tree.1 = omega (arith, child.level) in
-        subst (λ (n : ℕ). 2 ^ n < length j.tree.0) (sym level)
+        let low : j.tree.1 ≡ d.tree.1 = omega (arith, child.level) in
+        let spare : CanLose j.tree = subst (λ (n : ℕ). 2 ^ n < length j.tree.0) (sym low)
         (omega (
           arith,
           one.wide,
@@ -161,88 +147,116 @@ module _ {K V : Type 0} (cmp : K → K → Ordering) where
           pow_pos e.tree.1,
           ap (length {A = K × V}) same,
           length-append d.tree.0 e.tree.0,
-        ))
+        )) in
+        subst (λ (c : Child K V). CanLose c.tree) (sym (get_or-set_same (remove cs (i + 1)) i j x count)) spare
 
-    -- the two become one
-    pub join_one : (j : Child K V) → IsChild (d.tree.1 + 1) j → j.tree.0 ≡ d.tree.0 ++ e.tree.0
-        → IsJoin cs (set (remove cs (i + 1)) i j) q i
-    join_one j child same =
-        let P = IsChild (height_in cs) in
-        let new = set (remove cs (i + 1)) i j in
+  -- what room that was made for a key leaves
+  pub record IsRoom (old new : List (Child K V)) (q : K) (at : ℕ) : Type 0 where
+    pub same : StandFor cmp old new
+    pub under : IsUnder cmp q new at
+    pub spare : (d : Child K V) → CanLose (get_or new at d).tree
+
+  module _ (total : IsTotalOrder cmp) (q : K) (cs : List (Child K V)) (i : ℕ) (d : Child K V)
+      (are : AreChildren cmp cs) (is : d ≡ get_or cs i d) where
+    -- nothing changes before the place
+    below : (ys : List (Child K V)) → i ≤ length cs → AreBelow cmp q (entries_in (take i cs))
+        → AreBelow cmp q (entries_in (take i (take i cs ++ ys)))
+    below ys h = subst (λ (l : List (Child K V)). AreBelow cmp q (entries_in l)) (sym (take_front cs ys i h))
+
+    -- nor behind what was put there
+    above : (ys zs : List (Child K V)) (n k : ℕ) → i ≤ length cs → n ≡ i + k → drop k ys ≡ zs
+        → AreAbove cmp q (entries_in zs) → AreAbove cmp q (entries_in (drop n (take i cs ++ ys)))
+    above ys zs n k h place rest =
+        subst (λ (l : List (Child K V)). AreAbove cmp q (entries_in l))
+        (sym (ap (λ (n : ℕ). drop n (take i cs ++ ys)) place ∙ drop_front cs ys i k h ∙ rest))
+
+    -- the key belongs under the one child of both
+    pub joined_under : (at : ℕ) (j : Child K V) → IsUnder cmp q cs at → i + 1 < length cs → i ≤ at → at ≤ i + 1
+        → IsUnder cmp q (set (remove cs (i + 1)) i j) i
+    joined_under at j under h from to =
         let after = drop (i + 2) cs in
-        let list : new ≡ take i cs ++ j ∷ after = one_for_two cs i j h in
-        let level = ap (λ (c : Child K V). c.tree.1 + 1) is ∙ (are.each i d (omega arith)).level in
-        let each : All P (j ∷ []) =
-        All-cons P j [] (subst (λ (n : ℕ). IsChild n j) level child) (All-nil P) in
+        let list = one_for_two cs i j h in
         let count : i < length (remove cs (i + 1)) = omega (arith, length-remove cs (i + 1) h) in
         record {
-          split = subst (IsSplit cmp cs) (sym list)
-              (pair_done cs i d e (j ∷ []) are h each (omega arith) (append-nil j.tree.0 ∙ same ∙ pair));
-          under = record {
-            within = omega (arith, count, length-set (remove cs (i + 1)) i j);
-            between = record {
-              below = subst (λ (l : List (Child K V)). AreBelow cmp q (entries_in (take i l))) (sym list)
-                  (below (j ∷ after));
-              above = subst (λ (l : List (Child K V)). AreAbove cmp q (entries_in (drop (i + 1) l))) (sym list)
-                  (subst (λ (l : List (Child K V)). AreAbove cmp q (entries_in l))
-                  (sym (drop_front cs (j ∷ after) i 1 (omega arith))) above);
-            };
+          within = omega (arith, count, length-set (remove cs (i + 1)) i j);
+          between = record {
+            below = subst (λ (l : List (Child K V)). AreBelow cmp q (entries_in (take i l))) (sym list)
+                (below (j ∷ after) (omega arith) (children_sooner cmp total q cs i at from under.between.below));
+            above = subst (λ (l : List (Child K V)). AreAbove cmp q (entries_in (drop (i + 1) l))) (sym list)
+                (above (j ∷ after) after (i + 1) 1 (omega arith) refl refl
+                (children_later cmp total q cs (at + 1) (i + 2) (omega arith) under.between.above));
           };
-          spare = λ x. subst (λ (c : Child K V). CanLose c.tree) (sym (get_or-set_same (remove cs (i + 1)) i j x count))
-              (joined_spare j child same);
         }
 
-    -- both are evened out
-    pub join_two : (j l r : Child K V) (o : Ordering) → IsChild (d.tree.1 + 1) j → j.tree.0 ≡ d.tree.0 ++ e.tree.0
-        → AreHalves cmp j.tree (l, r) → cmp q r.key ≡ o → (n : ℕ) → (is_lt o ≡ true → n ≡ i)
-        → (is_lt o ≡ false → n ≡ i + 1) → IsJoin cs (set (set cs i l) (i + 1) r) q n
-    join_two j l r o child same halves was n less more =
-        let P = IsChild (height_in cs) in
-        let after = drop (i + 2) cs in
-        let inner = set cs i l in
-        let new = set inner (i + 1) r in
-        let list : new ≡ take i cs ++ l ∷ r ∷ after = two_for_two cs i l r h in
-        let level = halves.height ∙ child.level ∙ ap (λ (c : Child K V). c.tree.1 + 1) is
-        ∙ (are.each i d (omega arith)).level in
-        let each : All P (l ∷ r ∷ []) = subst (λ (n : ℕ). All (IsChild n) (l ∷ r ∷ [])) level halves.children.each in
-        let split : IsSplit cmp cs new = subst (IsSplit cmp cs) (sym list)
-        (pair_done cs i d e (l ∷ r ∷ []) are h each (omega arith) (halves.entries ∙ same ∙ pair)) in
-        let count : i + 1 < length inner = omega (arith, length-set cs i l) in
-        let long : i + 1 < length new = omega (arith, count, length-set inner (i + 1) r) in
-        let right : (x : Child K V) → get_or new (i + 1) x ≡ r = λ x. get_or-set_same inner (i + 1) r x count in
+    -- the child becomes two
+    pub split_one : (l r : Child K V) (o : Ordering) → IsUnder cmp q cs i → IsChild (d.tree.1 + 1) l
+        → AreHalves d.tree l.tree r → cmp q r.key ≡ o → (n : ℕ) → (is_lt o ≡ true → n ≡ i)
+        → (is_lt o ≡ false → n ≡ i + 1) → IsRoom cs (insert (set cs i l) (i + 1) r) q n
+    split_one l r o under child halves was n less more =
+        let P : Child K V → Type 0 = IsChild (height_in cs) in
+        let h = under.within in
+        let after = drop (i + 1) cs in
+        let new = insert (set cs i l) (i + 1) r in
+        let list = two_for_one cs i l r h in
+        let level = ap (λ (c : Child K V). c.tree.1 + 1) is ∙ (are.each i d h).level in
+        let each : All P (l ∷ r ∷ []) =
+        All-cons P l (r ∷ []) (subst (λ (n : ℕ). IsChild n l) level child)
+        (All-cons P r [] (subst (λ (n : ℕ). IsChild n r) level halves.child) (All-nil P)) in
+        let entries : entries_in (l ∷ r ∷ []) ≡ entries_in (take 1 (drop i cs)) =
+        ap (λ (es : List (K × V)). l.tree.0 ++ es) (append-nil r.tree.0) ∙ halves.entries
+        ∙ sym (append-nil d.tree.0) ∙ ap (λ (c : Child K V). entries_in (c ∷ [])) is
+        ∙ ap (λ (xs : List (Child K V)). entries_in (take 1 xs)) (sym (drop_more cs i d h)) in
+        let same : StandFor cmp cs new =
+        subst (StandFor cmp cs) (sym list) (replaced cmp cs (l ∷ r ∷ []) i 1 are each (omega arith) entries) in
+        let long : i + 1 < length new = omega (
+          arith,
+          ap (length {A = Child K V}) list,
+          length-append (take i cs) (l ∷ r ∷ after),
+          length-take-le i cs (omega arith),
+        ) in
+        let at_list = λ (k : ℕ) (x : Child K V). ap (λ (xs : List (Child K V)). get_or xs k x) list in
         let left : (x : Child K V) → get_or new i x ≡ l =
-        λ x. get_or-set_other inner (i + 1) i r x (omega arith) ∙ get_or-set_same cs i l x (omega arith) in
+        λ x. at_list i x ∙ behind_front cs (l ∷ r ∷ after) i i 0 x (omega arith) (omega arith) in
+        let right : (x : Child K V) → get_or new (i + 1) x ≡ r =
+        λ x. at_list (i + 1) x ∙ behind_front cs (l ∷ r ∷ after) i (i + 1) 1 x (omega arith) (omega arith) in
         let key : cmp q (get_or new (i + 1) r).key ≡ o = ap (λ (c : Child K V). cmp q c.key) (right r) ∙ was in
-        let first = (split.children.each (i + 1) r long).first in
-        let place : i + 2 ≡ i + 1 + 1 = omega arith in
+        let first = (same.children.each (i + 1) r long).first in
         elim (cases_Bool (is_lt o)) [
-          | inl t ↦ subst (IsJoin cs new q) (sym (less t)) record {
-            split = split;
+          | inl t ↦ subst (IsRoom cs new q) (sym (less t)) record {
+            same = same;
             under = record {
               within = omega (arith, long);
               between = record {
                 below = subst (λ (xs : List (Child K V)). AreBelow cmp q (entries_in (take i xs))) (sym list)
-                    (below (l ∷ r ∷ after));
-                above = above_child cmp total q new (i + 1) r o long split.children.map.rising first key t;
+                    (below (l ∷ r ∷ after) (omega arith) under.between.below);
+                above = above_child cmp total q new (i + 1) r o long same.children.map.rising first key t;
               };
             };
             spare = λ x. subst (λ (c : Child K V). CanLose c.tree) (sym (left x)) halves.spare.0;
           }
-          | inr t ↦ subst (IsJoin cs new q) (sym (more t)) record {
-            split = split;
+          | inr t ↦ subst (IsRoom cs new q) (sym (more t)) record {
+            same = same;
             under = record {
               within = long;
               between = record {
-                below = below_child cmp total q new (i + 1) r o long split.children.map.rising first key t;
+                below = below_child cmp total q new (i + 1) r o long same.children.map.rising first key t;
                 above = subst (λ (xs : List (Child K V)). AreAbove cmp q (entries_in (drop (i + 1 + 1) xs))) (sym list)
-                    (subst (λ (k : ℕ). AreAbove cmp q (entries_in (drop k (take i cs ++ l ∷ r ∷ after)))) place
-                    (subst (λ (xs : List (Child K V)). AreAbove cmp q (entries_in xs))
-                    (sym (drop_front cs (l ∷ r ∷ after) i 2 (omega arith))) above));
+                    (above (l ∷ r ∷ after) after (i + 1 + 1) 2 (omega arith) (omega arith) refl under.between.above);
               };
             };
             spare = λ x. subst (λ (c : Child K V). CanLose c.tree) (sym (right x)) halves.spare.1;
           }
         ]
+
+    -- what stands after the room was taken, a write and an insert
+    pub split_done : (rs new : List (Child K V)) (l r : Child K V) (o : Ordering) → IsUnder cmp q cs i → rs ≡ cs
+        → IsChild (d.tree.1 + 1) l → AreHalves d.tree l.tree r → cmp q r.key ≡ o
+        → new ≡ insert (set rs i l) (i + 1) r → (n : ℕ) → (is_lt o ≡ true → n ≡ i)
+        → (is_lt o ≡ false → n ≡ i + 1) → IsRoom cs new q n
+    split_done rs new l r o under room child halves was put n less more =
+        subst (λ (xs : List (Child K V)). IsRoom cs xs q n)
+        (sym (put ∙ ap (λ (xs : List (Child K V)). insert (set xs i l) (i + 1) r) room))
+        (split_one l r o under child halves was n less more)
 
   -- the only child can lose an entry if the node can
   pub only_child : (cs : List (Child K V)) (i : ℕ) (d : Child K V) → AreChildren cmp cs → length cs ≡ 1

@@ -1,5 +1,5 @@
 -- What a tree is seen as by its first node, and what holds of that node.
-use Rattle.std.specs.Prelude.{◌≡◌, ℕ, ◌+◌, ◌<◌, ◌≤◌, ◌^◌, List, [], ◌∷◌, length}
+use Rattle.std.specs.Prelude.{◌≡◌, ℕ, ◌+◌, ◌<◌, ◌≤◌, ◌^◌, List, [], ◌∷◌, ◌++◌, length}
 use Rattle.std.specs.Prelude.{Option, None, Some, take, drop}
 use Rattle.std.specs.List.{All, flat_map}
 use Rattle.std.specs.declared.cmp.Ordering.{Ordering}
@@ -64,12 +64,18 @@ module _ {K V : Type 0} where
   IsNode cmp (Leaf entries) = IsMap cmp entries.items
   IsNode cmp (Branch children) = AreChildren cmp children.items
 
-  -- two children that have what a tree had, and could lose an entry
-  pub record AreHalves (cmp : K → K → Ordering) (tree : List (K × V) × ℕ) (halves : Child K V × Child K V) : Type 0 where
-    pub children : AreChildren cmp (halves.0 ∷ halves.1 ∷ [])
-    pub entries : entries_in (halves.0 ∷ halves.1 ∷ []) ≡ tree.0
-    pub height : height_in (halves.0 ∷ halves.1 ∷ []) ≡ tree.1 + 1
-    pub spare : CanLose halves.0.tree × CanLose halves.1.tree
+  -- the tree in two, of which each could lose an entry: what its first node keeps, and a child with the rest
+  pub record AreHalves (tree left : List (K × V) × ℕ) (right : Child K V) : Type 0 where
+    pub entries : left.0 ++ right.tree.0 ≡ tree.0
+    pub height : left.1 ≡ tree.1
+    pub child : IsChild (tree.1 + 1) right
+    pub spare : CanLose left × CanLose right.tree
+
+  -- other children with the same entries, which are as high
+  pub record StandFor (cmp : K → K → Ordering) (old new : List (Child K V)) : Type 0 where
+    pub entries : entries_in new ≡ entries_in old
+    pub height : height_in new ≡ height_in old
+    pub children : AreChildren cmp new
 
   -- the key belongs under the child of that number
   pub record IsUnder (cmp : K → K → Ordering) (key : K) (cs : List (Child K V)) (at : ℕ) : Type 0 where

@@ -159,10 +159,9 @@ impl<K: Ord + Clone, V: Clone> TreeMap<K, V> {
 
     /// Puts the value under the key. An equal key stays, and the new one is dropped.
     ///
-    /// It writes the leaf of the key in place, but copies each node on the way to it that other versions have, and
-    /// before that each full one, into two. It is refused if there is no memory, if the `clone` of a key, a value or a
-    /// handle is, and for any key at `usize::MAX` entries. The map then reads as it did, and the key and the value are
-    /// dropped.
+    /// It writes in place, but copies each node on the way to the key that other versions have. A full node on the way
+    /// becomes two before, by moves. It is refused if there is no memory, if the `clone` of a key, a value or a handle
+    /// is, and for any key at `usize::MAX` entries. The map then reads as it did, and the key and the value are dropped.
     pub fn insert(&mut self, alloc: Global, key: K, value: V) -> Result<(), AllocError>
         requires copies_of_keys { CopiesAreEqual K.is_clone }
         requires copies_of_values { CopiesAreEqual V.is_clone }
@@ -181,7 +180,7 @@ impl<K: Ord + Clone, V: Clone> TreeMap<K, V> {
                 Ok(())
             }
             Some(tree) => {
-                tree.grow(alloc)?;
+                tree.grow(alloc, self.len)?;
                 let more = tree.insert(alloc, key, value)?;
                 self.len += more;
                 Ok(())
@@ -191,9 +190,9 @@ impl<K: Ord + Clone, V: Clone> TreeMap<K, V> {
 
     /// Takes the entry of the key out, and gives its value, if there is one.
     ///
-    /// It writes in place and copies as `insert` does; a node with few items is joined with the one beside it before.
-    /// It is refused if there is no memory, or if the `clone` of a key, a value or a handle is. The map then reads as
-    /// it did. If there is no value, nothing is copied or refused. The last value of a map is cloned.
+    /// It writes in place and copies as `insert` does. A node on the way with few items is joined with the one beside
+    /// it before, by moves. It is refused if there is no memory, or if the `clone` of a key, a value or a handle is. The
+    /// map then reads as it did. If there is no value, nothing is copied or refused.
     pub fn remove(&mut self, alloc: Global, key: &K) -> Result<Option<V>, AllocError>
         requires copies_of_keys { CopiesAreEqual K.is_clone }
         requires copies_of_values { CopiesAreEqual V.is_clone }
@@ -206,16 +205,15 @@ impl<K: Ord + Clone, V: Clone> TreeMap<K, V> {
         let Some(tree) = &mut self.root else {
             return Ok(None);
         };
-        let Some(value) = tree.get(key) else {
+        let Some(_) = tree.get(key) else {
             return Ok(None);
         };
+        tree.shrink()?;
         if self.len == 1 {
-            let value = value.clone()?;
-            self.root = None;
+            let value = Tree::take_only(&mut self.root, alloc, key)?;
             self.len = 0;
             return Ok(Some(value));
         }
-        tree.shrink()?;
         let value = tree.remove(alloc, key)?;
         self.len -= 1;
         Ok(Some(value))

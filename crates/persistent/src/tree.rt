@@ -5,6 +5,7 @@ ghost use Rattle.persistent.specs.Nodes.{IsDeep, IsNode, seen};
 
 mod copies;
 mod insert;
+mod join;
 mod modify;
 mod remove;
 mod search;

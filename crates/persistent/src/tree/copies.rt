@@ -1,5 +1,5 @@
 //! How a node is copied. A copy has room for as many items as a node may have.
-ghost use Rattle.std.specs.Prelude.{◌≡◌, ◌++◌, IfOk, OnOk};
+ghost use Rattle.std.specs.Prelude.{◌≡◌, IfOk};
 ghost use Rattle.servo_arc.specs.Copies.{CopiesAreEqual};
 ghost use Rattle.persistent.specs.Nodes.{IsCopy};
 
@@ -12,26 +12,14 @@ pub(crate) const LEAF: usize = 64;
 pub(crate) const BRANCH: usize = 16;
 
 // Copies of the items, in a vector with that much room.
-pub(crate) fn copies<T: Clone>(
-    alloc: Global,
-    items: &[T],
-    room: usize,
-) -> Result<Vec<T>, AllocError>
+fn copies<T: Clone>(alloc: Global, items: &[T], room: usize) -> Result<Vec<T>, AllocError>
     ensures { IfOk result (λ copy. CopiesAreEqual T.is_clone → copy.items ≡ items.now) }
 {
     let mut copy = Vec::with_capacity(alloc, room)?;
-    push_copies(&mut copy, items)?;
-    Ok(copy)
-}
-
-// Puts copies of the items behind those that are there.
-pub(crate) fn push_copies<T: Clone>(all: &mut Vec<T>, items: &[T]) -> Result<(), AllocError>
-    ensures { OnOk result (CopiesAreEqual T.is_clone → all.new.items ≡ all.old.items ++ items.now) }
-{
     for item in items {
-        all.push(item.clone()?)?;
+        copy.push(item.clone()?)?;
     }
-    Ok(())
+    Ok(copy)
 }
 
 impl<K: Ord + Clone, V: Drop> Clone for Child<K, V> {

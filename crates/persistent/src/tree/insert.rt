@@ -2,9 +2,10 @@
 ghost use Rattle.std.specs.Prelude.{◌≡◌, ◌+◌, ◌<◌, ◌≤◌, ◌^◌, IfOk, OnOk, OnErr, length};
 ghost use Rattle.servo_arc.specs.Copies.{CopiesAreEqual};
 ghost use Rattle.persistent.specs.Maps.{with_entry};
-ghost use Rattle.persistent.specs.Nodes.{AreChildren, IsChild, IsMap, IsUnder, entries_in, height_in};
+ghost use Rattle.persistent.specs.Nodes.{AreChildren, IsChild, IsMap, entries_in, height_in};
 
 use crate::tree::search::{child_of, entry_of};
+use crate::tree::split::room_under;
 use crate::tree::{Child, Node, Tree};
 use servo_arc::Arc;
 use std::alloc::{AllocError, Global};
@@ -49,7 +50,8 @@ fn insert_under<K: Ord + Clone, V: Clone>(
     ensures children { AreChildren K.cmp children.new.items }
     ensures refused { OnErr result (entries_in children.new.items ≡ entries_in children.old.items) }
 {
-    let at = room_for(children, alloc, &key)?;
+    let place = child_of(children, &key);
+    let at = room_under(children, place, alloc, &key)?;
     let more = children[at].insert(alloc, key, value)?;
     Ok(more)
 }
@@ -104,26 +106,4 @@ fn put<K: Ord + Drop, V: Drop>(
             Ok(1)
         }
     }
-}
-
-// The number of the child to which the key belongs. If that is full it becomes two before.
-fn room_for<K: Ord + Clone, V: Clone>(
-    children: &mut Vec<Child<K, V>>,
-    alloc: Global,
-    key: &K,
-) -> Result<usize, AllocError>
-    requires copies { CopiesAreEqual K.is_clone × CopiesAreEqual V.is_clone }
-    requires children { AreChildren K.cmp children.old.items }
-    ensures same { entries_in children.new.items ≡ entries_in children.old.items }
-    ensures height { height_in children.new.items ≡ height_in children.old.items }
-    ensures children { AreChildren K.cmp children.new.items }
-    ensures under { IfOk result (IsUnder K.cmp key.now children.new.items) }
-{
-    let at = child_of(children, key);
-    let Some((left, right)) = children[at].tree.halves(alloc)? else {
-        return Ok(at);
-    };
-    children.insert(at + 1, right)?;
-    children[at] = left;
-    Ok(child_of(children, key))
 }

@@ -3,10 +3,12 @@ ghost use Rattle.std.specs.Prelude.{◌≡◌, ◌+◌, ◌*◌, ◌^◌, ◌<�
 ghost use Rattle.std.specs.Prelude.{is_some, length};
 ghost use Rattle.servo_arc.specs.Copies.{CopiesAreEqual};
 ghost use Rattle.persistent.specs.Maps.{lookup, without};
-ghost use Rattle.persistent.specs.Nodes.{AreChildren, CanLose, IsChild, IsMap, IsUnder, entries_in, height_in};
+ghost use Rattle.persistent.specs.Nodes.{AreChildren, CanLose, IsChild, IsMap, IsUnder, StandFor, entries_in, height_in};
 
 use crate::tree::copies::{BRANCH, LEAF};
+use crate::tree::join::join;
 use crate::tree::search::{child_of, entry_of};
+use crate::tree::split::room_under;
 use crate::tree::{Child, Node, Tree};
 use servo_arc::Arc;
 use std::alloc::{AllocError, Global};
@@ -113,9 +115,7 @@ fn spare_for<K: Ord + Clone, V: Clone>(
     requires copies { CopiesAreEqual K.is_clone × CopiesAreEqual V.is_clone }
     requires children { AreChildren K.cmp children.old.items }
     requires wide { 2 ^ height_in children.old.items < 2 * length (entries_in children.old.items) }
-    ensures same { entries_in children.new.items ≡ entries_in children.old.items }
-    ensures height { height_in children.new.items ≡ height_in children.old.items }
-    ensures children { AreChildren K.cmp children.new.items }
+    ensures same { StandFor K.cmp children.old.items children.new.items }
     ensures under { IfOk result (IsUnder K.cmp key.now children.new.items) }
     ensures spare { IfOk result (λ at. (d : Child K V) → CanLose (get_or children.new.items at d).tree) }
 {
@@ -124,20 +124,8 @@ fn spare_for<K: Ord + Clone, V: Clone>(
         return Ok(at);
     }
     let left = at.min(children.len() - 2);
-    let joined = children[left].joined(alloc, &children[left + 1])?;
-    let Some((first, second)) = joined.tree.halves(alloc)? else {
-        children.remove(left + 1);
-        children[left] = joined;
-        return Ok(left);
-    };
-    let at = if key.cmp(&second.key).is_lt() {
-        left
-    } else {
-        left + 1
-    };
-    children[left] = first;
-    children[left + 1] = second;
-    Ok(at)
+    join(children, left, alloc)?;
+    room_under(children, left, alloc, key)
 }
 
 impl<K: Ord, V> Tree<K, V> {

@@ -67,9 +67,9 @@ fn child_at<K: Ord, V>(children: &[Child<K, V>], index: usize) -> (usize, usize)
 }
 
 // How many entries the children before that number have.
-fn before<K: Ord, V>(children: &[Child<K, V>], at: usize) -> usize
+pub(crate) fn before<K: Ord, V>(children: &[Child<K, V>], at: usize) -> usize
     requires children { AreChildren K.cmp children.now }
-    requires within { at < length children.now }
+    requires within { at ≤ length children.now }
     ensures { result ≡ length (entries_in (take at children.now)) }
 {
     let mut before = 0;

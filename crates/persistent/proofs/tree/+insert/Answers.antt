@@ -11,14 +11,14 @@ use Rattle.persistent.proofs.tree.+insert.Goals as goal
 
 pub insert::insert_under-insert-requires : goal.insert::insert_under-insert-requires
 insert::insert_under-insert-requires g t c κs within =
-    let cs = c.room_for.new.children.items in
-    let are = c.in_ok-at.ensures.children in
+    let cs = c.room_under.new.children.items in
+    let are = c.in_ok-at.ensures.same.children in
     let in' = c.in_ok-at.ensures.under.within in
     let d = c.index_mut.result.now in
     let child = child_here g.K.Ord.cmp cs c.in_ok-at.at d are in' c.index_mut.ensures.value in
     let level = ap (λ child. child.tree.1) c.index_mut.ensures.value in
     let lengths = ap (λ child. length child.tree.0) c.index_mut.ensures.value in (
-      omega (arith, c.decreases, level, (are.each c.in_ok-at.at d in').level, c.in_ok-at.ensures.height),
+      omega (arith, c.decreases, level, (are.each c.in_ok-at.at d in').level, c.in_ok-at.ensures.same.height),
       (
         search rules,
         (
@@ -31,7 +31,7 @@ insert::insert_under-insert-requires g t c κs within =
                 arith,
                 lengths,
                 entries_within cs c.in_ok-at.at d in',
-                ap (λ es. length es) c.in_ok-at.ensures.same,
+                ap (λ es. length es) c.in_ok-at.ensures.same.entries,
                 c.requires.room,
               ),
             ),
@@ -43,19 +43,19 @@ insert::insert_under-insert-requires g t c κs within =
 pub insert::insert_under-returns-in_err-more-clause-height : goal.insert::insert_under-returns-in_err-more-clause-height
 insert::insert_under-returns-in_err-more-clause-height g t c =
     let cmp = g.K.Ord.cmp in
-    let cs = c.room_for.new.children.items in
-    let are = c.in_ok-at.ensures.children in
+    let cs = c.room_under.new.children.items in
+    let are = c.in_ok-at.ensures.same.children in
     let in' = c.in_ok-at.ensures.under.within in
     height_set cmp cs c.in_ok-at.at c.insert.new.self are in'
     (child_level cmp cs c.in_ok-at.at c.index_mut.result.now c.insert.new.self are in' c.index_mut.ensures.value
-    c.in_err-more.ensures.child) ∙ c.in_ok-at.ensures.height
+    c.in_err-more.ensures.child) ∙ c.in_ok-at.ensures.same.height
 
 pub insert::insert_under-returns-in_err-more-clause-children
     : goal.insert::insert_under-returns-in_err-more-clause-children
 insert::insert_under-returns-in_err-more-clause-children g t c =
     let cmp = g.K.Ord.cmp in
-    let cs = c.room_for.new.children.items in
-    let are = c.in_ok-at.ensures.children in
+    let cs = c.room_under.new.children.items in
+    let are = c.in_ok-at.ensures.same.children in
     let in' = c.in_ok-at.ensures.under.within in
     let d = c.index_mut.result.now in
     let same = entries_same cs c.in_ok-at.at d c.insert.new.self in'
@@ -67,10 +67,10 @@ insert::insert_under-returns-in_err-more-clause-children g t c =
 pub insert::insert_under-returns-in_err-more-clause-refused
     : goal.insert::insert_under-returns-in_err-more-clause-refused
 insert::insert_under-returns-in_err-more-clause-refused g t c =
-    let cs = c.room_for.new.children.items in
+    let cs = c.room_under.new.children.items in
     let same = entries_same cs c.in_ok-at.at c.index_mut.result.now c.insert.new.self c.in_ok-at.ensures.under.within
     (c.in_err-more.ensures.refused ∙ ap (λ child. child.tree.0) c.index_mut.ensures.value)
-    ∙ c.in_ok-at.ensures.same in
+    ∙ c.in_ok-at.ensures.same.entries in
     search (rules, same)
 
 pub insert::insert_under-returns-clause-entries : goal.insert::insert_under-returns-clause-entries
@@ -78,41 +78,41 @@ insert::insert_under-returns-clause-entries g t c =
     let cmp = g.K.Ord.cmp in
     let q = c.args.key in
     let v = c.args.value in
-    entries_with cmp q v c.room_for.new.children.items c.in_ok-at.at c.index_mut.result.now c.insert.new.self
+    entries_with cmp q v c.room_under.new.children.items c.in_ok-at.at c.index_mut.result.now c.insert.new.self
     c.in_ok-at.ensures.under
     (c.in_ok-more.ensures.entries ∙ ap (λ child. with_entry cmp q v child.tree.0) c.index_mut.ensures.value)
-    ∙ ap (with_entry cmp q v) c.in_ok-at.ensures.same
+    ∙ ap (with_entry cmp q v) c.in_ok-at.ensures.same.entries
 
 pub insert::insert_under-returns-clause-more : goal.insert::insert_under-returns-clause-more
 insert::insert_under-returns-clause-more g t c =
-    length-set_child c.room_for.new.children.items c.in_ok-at.at c.index_mut.result.now c.insert.new.self
+    length-set_child c.room_under.new.children.items c.in_ok-at.at c.index_mut.result.now c.insert.new.self
     c.in_ok-more.more
     c.in_ok-at.ensures.under.within c.index_mut.ensures.value c.in_ok-more.ensures.more
-    ∙ ap (λ es. length es + c.in_ok-more.more) c.in_ok-at.ensures.same
+    ∙ ap (λ es. length es + c.in_ok-more.more) c.in_ok-at.ensures.same.entries
 
 pub insert::insert_under-returns-clause-height : goal.insert::insert_under-returns-clause-height
 insert::insert_under-returns-clause-height g t c =
     let cmp = g.K.Ord.cmp in
-    let cs = c.room_for.new.children.items in
-    let are = c.in_ok-at.ensures.children in
+    let cs = c.room_under.new.children.items in
+    let are = c.in_ok-at.ensures.same.children in
     let in' = c.in_ok-at.ensures.under.within in
     height_set cmp cs c.in_ok-at.at c.insert.new.self are in'
     (child_level cmp cs c.in_ok-at.at c.index_mut.result.now c.insert.new.self are in' c.index_mut.ensures.value
-    c.in_ok-more.ensures.child) ∙ c.in_ok-at.ensures.height
+    c.in_ok-more.ensures.child) ∙ c.in_ok-at.ensures.same.height
 
 pub insert::insert_under-returns-clause-children : goal.insert::insert_under-returns-clause-children
 insert::insert_under-returns-clause-children g t c =
     let cmp = g.K.Ord.cmp in
     let q = c.args.key in
     let v = c.args.value in
-    let cs = c.room_for.new.children.items in
-    let are = c.in_ok-at.ensures.children in
+    let cs = c.room_under.new.children.items in
+    let are = c.in_ok-at.ensures.same.children in
     let in' = c.in_ok-at.ensures.under.within in
     let d = c.index_mut.result.now in
     let entries = entries_with cmp q v cs c.in_ok-at.at d c.insert.new.self c.in_ok-at.ensures.under
     (c.in_ok-more.ensures.entries ∙ ap (λ child. with_entry cmp q v child.tree.0) c.index_mut.ensures.value) in
     let room : length (entries_in cs) + 1 < 2 ^ 64 =
-    subst (λ es. length es + 1 < 2 ^ 64) (sym c.in_ok-at.ensures.same) c.requires.room in
+    subst (λ es. length es + 1 < 2 ^ 64) (sym c.in_ok-at.ensures.same.entries) c.requires.room in
     children_set cmp cs c.in_ok-at.at c.insert.new.self are in'
     (child_level cmp cs c.in_ok-at.at d c.insert.new.self are in' c.index_mut.ensures.value c.in_ok-more.ensures.child)
     (subst (IsMap cmp) (sym entries) (map_with cmp g.met.K.Ord.total q v (entries_in cs) are.map room))

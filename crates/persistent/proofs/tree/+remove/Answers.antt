@@ -18,7 +18,7 @@ remove::remove_under-remove-requires g t c κs within =
     let key = c.args.key.now in
     let cs = c.spare_for.new.children.items in
     let at = c.in_ok-at.at in
-    let are = c.in_ok-at.ensures.children in
+    let are = c.in_ok-at.ensures.same.children in
     let in' = c.in_ok-at.ensures.under.within in
     let d = c.index_mut.result.now in
     let is = c.index_mut.ensures.value in
@@ -27,8 +27,8 @@ remove::remove_under-remove-requires g t c κs within =
     let spare = subst (λ child. CanLose child.tree) (sym is) (c.in_ok-at.ensures.spare d) in
     let found : is_some (lookup cmp key d.tree.0) ≡ true =
     ap (λ v. is_some v) (sym (lookup_under cmp key cs at d c.in_ok-at.ensures.under is))
-    ∙ ap (λ es. is_some (lookup cmp key es)) c.in_ok-at.ensures.same ∙ c.requires.found in (
-      omega (arith, c.decreases, level, (are.each at d in').level, c.in_ok-at.ensures.height),
+    ∙ ap (λ es. is_some (lookup cmp key es)) c.in_ok-at.ensures.same.entries ∙ c.requires.found in (
+      omega (arith, c.decreases, level, (are.each at d in').level, c.in_ok-at.ensures.same.height),
       (search rules, (search rules, (c.requires.copies, (child, (spare, found))))),
     )
 
@@ -37,18 +37,18 @@ pub remove::remove_under-returns-in_err-value-clause-height
 remove::remove_under-returns-in_err-value-clause-height g t c =
     let cmp = g.K.Ord.cmp in
     let cs = c.spare_for.new.children.items in
-    let are = c.in_ok-at.ensures.children in
+    let are = c.in_ok-at.ensures.same.children in
     let in' = c.in_ok-at.ensures.under.within in
     height_set cmp cs c.in_ok-at.at c.remove.new.self are in'
     (child_level cmp cs c.in_ok-at.at c.index_mut.result.now c.remove.new.self are in' c.index_mut.ensures.value
-    c.in_err-value.ensures.child) ∙ c.in_ok-at.ensures.height
+    c.in_err-value.ensures.child) ∙ c.in_ok-at.ensures.same.height
 
 pub remove::remove_under-returns-in_err-value-clause-children
     : goal.remove::remove_under-returns-in_err-value-clause-children
 remove::remove_under-returns-in_err-value-clause-children g t c =
     let cmp = g.K.Ord.cmp in
     let cs = c.spare_for.new.children.items in
-    let are = c.in_ok-at.ensures.children in
+    let are = c.in_ok-at.ensures.same.children in
     let in' = c.in_ok-at.ensures.under.within in
     let d = c.index_mut.result.now in
     let same = entries_same cs c.in_ok-at.at d c.remove.new.self in'
@@ -64,7 +64,7 @@ remove::remove_under-returns-in_err-value-clause-refused g t c =
     let cs = c.spare_for.new.children.items in
     let same = entries_same cs c.in_ok-at.at c.index_mut.result.now c.remove.new.self c.in_ok-at.ensures.under.within
     (c.in_err-value.ensures.refused ∙ ap (λ child. child.tree.0) c.index_mut.ensures.value)
-    ∙ c.in_ok-at.ensures.same in
+    ∙ c.in_ok-at.ensures.same.entries in
     search (rules, same)
 
 pub remove::remove_under-returns-clause-value : goal.remove::remove_under-returns-clause-value
@@ -72,7 +72,7 @@ remove::remove_under-returns-clause-value g t c =
     let cmp = g.K.Ord.cmp in
     let key = c.args.key.now in
     let cs = c.spare_for.new.children.items in
-    ap (lookup cmp key) (sym c.in_ok-at.ensures.same)
+    ap (lookup cmp key) (sym c.in_ok-at.ensures.same.entries)
     ∙ lookup_under cmp key cs c.in_ok-at.at c.index_mut.result.now c.in_ok-at.ensures.under c.index_mut.ensures.value
     ∙ c.in_ok-value.ensures.value
 
@@ -83,14 +83,14 @@ remove::remove_under-returns-clause-entries g t c =
     entries_without cmp key c.spare_for.new.children.items c.in_ok-at.at c.index_mut.result.now c.in_ok-at.ensures.under
     c.remove.new.self
     (c.in_ok-value.ensures.entries ∙ ap (λ child. without cmp key child.tree.0) c.index_mut.ensures.value)
-    ∙ ap (without cmp key) c.in_ok-at.ensures.same
+    ∙ ap (without cmp key) c.in_ok-at.ensures.same.entries
 
 pub remove::remove_under-returns-clause-fewer : goal.remove::remove_under-returns-clause-fewer
 remove::remove_under-returns-clause-fewer g t c =
     let cmp = g.K.Ord.cmp in
     let key = c.args.key.now in
     let es = entries_in c.args.children.now.items in
-    let rising = subst (λ es. IsRising cmp es) c.in_ok-at.ensures.same c.in_ok-at.ensures.children.map.rising in
+    let rising = subst (λ es. IsRising cmp es) c.in_ok-at.ensures.same.entries c.in_ok-at.ensures.same.children.map.rising in
     ap (λ es. length es + 1) (remove::remove_under-returns-clause-entries g t c)
     ∙ length_without cmp g.met.K.Ord.total key es rising c.requires.found
 
@@ -98,11 +98,11 @@ pub remove::remove_under-returns-clause-height : goal.remove::remove_under-retur
 remove::remove_under-returns-clause-height g t c =
     let cmp = g.K.Ord.cmp in
     let cs = c.spare_for.new.children.items in
-    let are = c.in_ok-at.ensures.children in
+    let are = c.in_ok-at.ensures.same.children in
     let in' = c.in_ok-at.ensures.under.within in
     height_set cmp cs c.in_ok-at.at c.remove.new.self are in'
     (child_level cmp cs c.in_ok-at.at c.index_mut.result.now c.remove.new.self are in' c.index_mut.ensures.value
-    c.in_ok-value.ensures.child) ∙ c.in_ok-at.ensures.height
+    c.in_ok-value.ensures.child) ∙ c.in_ok-at.ensures.same.height
 
 pub remove::remove_under-returns-clause-children : goal.remove::remove_under-returns-clause-children
 remove::remove_under-returns-clause-children g t c =
@@ -110,13 +110,13 @@ remove::remove_under-returns-clause-children g t c =
     let key = c.args.key.now in
     let cs = c.spare_for.new.children.items in
     let at = c.in_ok-at.at in
-    let are = c.in_ok-at.ensures.children in
+    let are = c.in_ok-at.ensures.same.children in
     let in' = c.in_ok-at.ensures.under.within in
     let d = c.index_mut.result.now in
     let entries = entries_without cmp key cs at d c.in_ok-at.ensures.under c.remove.new.self
     (c.in_ok-value.ensures.entries ∙ ap (λ child. without cmp key child.tree.0) c.index_mut.ensures.value) in
     let found : is_some (lookup cmp key (entries_in cs)) ≡ true =
-    ap (λ es. is_some (lookup cmp key es)) c.in_ok-at.ensures.same ∙ c.requires.found in
+    ap (λ es. is_some (lookup cmp key es)) c.in_ok-at.ensures.same.entries ∙ c.requires.found in
     let spare = c.in_ok-at.ensures.spare d in
     let more : 1 < length (entries_in cs) =
     omega (arith, spare, pow_pos (get_or cs at d).tree.1, entries_within cs at d in') in

@@ -34,7 +34,8 @@ returns-then-self-eq1-clause-entries g c =
     ∙ ap (λ v. is_some v) (sym c.get.ensures.found ∙ ap (λ r. option_copied r) c.in-Some-get.is) in
     let one : length c.args.self.now ≡ 1 =
     sym (ap (λ es. length es) c.self.view_is) ∙ sym c.self.invariant ∙ c.if-self-eq1.true in
-    without_only cmp g.met.K.Ord.total key c.args.self.now (subst (IsRising cmp) old c.get.ensures.rising) found one
+    ap (λ root. entries_under root) c.in_ok-value.ensures.none
+    ∙ without_only cmp g.met.K.Ord.total key c.args.self.now (subst (IsRising cmp) old c.get.ensures.rising) found one
 
 pub returns-then-self-eq1-clause-changes : goal.returns-then-self-eq1-clause-changes
 returns-then-self-eq1-clause-changes g c k =

@@ -4,181 +4,215 @@ use super::{next, pick, workload, Run, Workload};
 
 const ITEMS: u64 = 1_000_000; // of the list
 const KEYS: usize = 100_000; // of the map
-const LOW: u8 = 3; // an iterator keeps no part of the map that is as low
+const LEAF: usize = 64; // the most entries of a leaf
+const BRANCH: usize = 16; // the most children of a branch
 
 macro_rules! trees {
     ($name:ident, $($path:tt)+) => {
         mod $name {
-            use super::{next, pick, ITEMS, KEYS, LOW};
+            use super::{next, pick, BRANCH, ITEMS, KEYS, LEAF};
             use std::cmp::Ordering;
-            use std::mem;
             type Arc<T> = $($path)+<T>;
 
-            /// A tree in which the heights of the two sides of a node differ by 1 at most.
             #[derive(Clone, Default)]
             struct Map {
-                root: Option<Arc<Node>>,
+                root: Option<Tree>,
+                len: usize,
             }
 
             #[derive(Clone)]
-            struct Node {
-                len: usize,
-                height: u8,
-                left: Map,
-                entry: (u64, u64),
-                right: Map,
+            struct Tree {
+                root: Arc<Node>,
             }
 
-            impl Map {
-                fn len(&self) -> usize {
-                    self.root.as_ref().map_or(0, |node| node.len)
-                }
+            /// All leaves are as deep.
+            enum Node {
+                Leaf(Vec<(u64, u64)>),
+                Branch(Vec<Child>),
+            }
 
-                fn height(&self) -> u8 {
-                    self.root.as_ref().map_or(0, |node| node.height)
+            /// A part of a tree, with its least key and the number of its entries.
+            #[derive(Clone)]
+            struct Child {
+                key: u64,
+                len: usize,
+                tree: Tree,
+            }
+
+            fn copies<T: Clone>(items: &[T], room: usize) -> Vec<T> {
+                let mut copy = Vec::with_capacity(room);
+                for item in items {
+                    copy.push(item.clone());
+                }
+                copy
+            }
+
+            impl Clone for Node {
+                fn clone(&self) -> Node {
+                    match self {
+                        Node::Leaf(entries) => Node::Leaf(copies(entries, LEAF)),
+                        Node::Branch(children) => Node::Branch(copies(children, BRANCH)),
+                    }
+                }
+            }
+
+            fn entry_of(entries: &[(u64, u64)], key: u64) -> Result<usize, usize> {
+                let mut at = 0;
+                let mut size = entries.len();
+                while size > 1 {
+                    let half = size / 2;
+                    size -= half;
+                    if !key.cmp(&entries[at + half].0).is_lt() {
+                        at += half;
+                    }
+                }
+                match key.cmp(&entries[at].0) {
+                    Ordering::Less => Err(at),
+                    Ordering::Equal => Ok(at),
+                    Ordering::Greater => Err(at + 1),
+                }
+            }
+
+            fn child_of(children: &[Child], key: u64) -> usize {
+                let mut at = 0;
+                let mut size = children.len();
+                while size > 1 {
+                    let half = size / 2;
+                    size -= half;
+                    if !key.cmp(&children[at + half].key).is_lt() {
+                        at += half;
+                    }
+                }
+                at
+            }
+
+            fn leaf(entries: &[(u64, u64)]) -> Child {
+                let root = Arc::new(Node::Leaf(copies(entries, LEAF)));
+                Child { key: entries[0].0, len: entries.len(), tree: Tree { root } }
+            }
+
+            fn branch(children: &[Child]) -> Child {
+                let root = Arc::new(Node::Branch(copies(children, BRANCH)));
+                let len = children.iter().map(|child| child.len).sum();
+                Child { key: children[0].key, len, tree: Tree { root } }
+            }
+
+            impl Tree {
+                /// The two parts, if the first node is full.
+                #[inline(always)]
+                fn halves(&self) -> Option<(Child, Child)> {
+                    match &*self.root {
+                        Node::Leaf(entries) if entries.len() >= LEAF => Some(leaves(entries)),
+                        Node::Branch(children) if children.len() >= BRANCH => Some(branches(children)),
+                        _ => None,
+                    }
                 }
 
                 fn get(&self, key: u64) -> Option<&u64> {
-                    let node = self.root.as_ref()?;
-                    match key.cmp(&node.entry.0) {
-                        Ordering::Less => node.left.get(key),
-                        Ordering::Equal => Some(&node.entry.1),
-                        Ordering::Greater => node.right.get(key),
-                    }
-                }
-
-                /// In place where nobody else shares a node.
-                fn insert(&mut self, key: u64, value: u64) {
-                    match self.place(key) {
-                        Ok(index) => self.set(index, value),
-                        Err(index) => {
-                            self.put(index, (key, value));
+                    let mut node = &*self.root;
+                    loop {
+                        match node {
+                            Node::Leaf(entries) => return entry_of(entries, key).ok().map(|at| &entries[at].1),
+                            Node::Branch(children) => node = &children[child_of(children, key)].tree.root,
                         }
                     }
                 }
 
-                /// The entry of that number, and the last part on the way to it that is not low. The way begins at the
-                /// part that is passed, if the entry is there. Parts go with the number of their first entry.
-                fn numbered<'a>(
-                    &'a self,
-                    near: (&'a Map, usize),
-                    index: usize,
-                ) -> Option<(&'a (u64, u64), (&'a Map, usize))> {
-                    let (mut part, mut offset) = match index.checked_sub(near.1) {
-                        Some(offset) if offset < near.0.len() => (near.0, offset),
-                        _ => (self, index),
-                    };
-                    let mut near = (part, index - offset);
-                    while let Some(node) = &part.root {
-                        if node.height > LOW {
-                            near = (part, index - offset);
-                        }
-                        let before = node.left.len();
-                        if offset < before {
-                            part = &node.left;
-                        } else if offset == before {
-                            return Some((&node.entry, near));
-                        } else {
-                            offset -= before + 1;
-                            part = &node.right;
-                        }
-                    }
-                    None
-                }
-
-                /// The number of the key's entry, or that which it would have.
-                fn place(&self, key: u64) -> Result<usize, usize> {
-                    let Some(node) = &self.root else { return Err(0) };
-                    match key.cmp(&node.entry.0) {
-                        Ordering::Less => node.left.place(key),
-                        Ordering::Equal => Ok(node.left.len()),
-                        Ordering::Greater => {
-                            let before = node.left.len() + 1;
-                            node.right.place(key).map(|index| before + index).map_err(|index| before + index)
+                /// How many entries the tree has more. In place where nobody else shares a node.
+                fn insert(&mut self, key: u64, value: u64) -> usize {
+                    match Arc::make_mut(&mut self.root) {
+                        Node::Leaf(entries) => match entry_of(entries, key) {
+                            Ok(at) => {
+                                entries[at].1 = value;
+                                0
+                            }
+                            Err(at) => {
+                                entries.insert(at, (key, value));
+                                1
+                            }
+                        },
+                        Node::Branch(children) => {
+                            let mut at = child_of(children, key);
+                            if let Some((left, right)) = children[at].tree.halves() {
+                                children.insert(at + 1, right);
+                                children[at] = left;
+                                at = child_of(children, key);
+                            }
+                            let child = &mut children[at];
+                            let more = child.tree.insert(key, value);
+                            child.key = child.key.min(key);
+                            child.len += more;
+                            more
                         }
                     }
                 }
 
-                fn set(&mut self, index: usize, value: u64) {
-                    let node = Arc::make_mut(self.root.as_mut().unwrap());
-                    let before = node.left.len();
-                    match index.cmp(&before) {
-                        Ordering::Less => node.left.set(index, value),
-                        Ordering::Equal => node.entry.1 = value,
-                        Ordering::Greater => node.right.set(index - before - 1, value),
+                /// The leaf with the entry of that number, and the number of the leaf's first entry.
+                fn leaf_at(&self, index: usize) -> (&[(u64, u64)], usize) {
+                    let mut node = &*self.root;
+                    let mut start = 0;
+                    loop {
+                        match node {
+                            Node::Leaf(entries) => return (entries, start),
+                            Node::Branch(children) => {
+                                let mut at = 0;
+                                while index - start >= children[at].len {
+                                    start += children[at].len;
+                                    at += 1;
+                                }
+                                node = &children[at].tree.root;
+                            }
+                        }
                     }
-                }
-
-                /// Whether the tree is higher now.
-                fn put(&mut self, index: usize, entry: (u64, u64)) -> bool {
-                    let Some(handle) = &mut self.root else {
-                        let (left, right) = (Map::default(), Map::default());
-                        *self = Map { root: Some(Arc::new(Node { len: 1, height: 1, left, entry, right })) };
-                        return true;
-                    };
-                    let node = Arc::make_mut(handle);
-                    let before = node.left.len();
-                    let higher = if index <= before {
-                        node.left.put(index, entry)
-                    } else {
-                        node.right.put(index - before - 1, entry)
-                    };
-                    if !higher {
-                        node.len += 1;
-                        return false;
-                    }
-                    let height = node.height;
-                    node.balance();
-                    node.height > height
                 }
             }
 
-            impl Node {
-                fn update(&mut self) {
-                    self.len = self.left.len() + self.right.len() + 1;
-                    self.height = self.left.height().max(self.right.height()) + 1;
+            #[inline(never)]
+            fn leaves(entries: &[(u64, u64)]) -> (Child, Child) {
+                let (left, right) = entries.split_at(entries.len() / 2);
+                (leaf(left), leaf(right))
+            }
+
+            #[inline(never)]
+            fn branches(children: &[Child]) -> (Child, Child) {
+                let (left, right) = children.split_at(children.len() / 2);
+                (branch(left), branch(right))
+            }
+
+            impl Map {
+                fn get(&self, key: u64) -> Option<&u64> {
+                    self.root.as_ref()?.get(key)
                 }
 
-                /// Of a node one side of which may be two higher.
-                fn balance(&mut self) {
-                    let (low, high) = (self.left.height(), self.right.height());
-                    if low > high + 1 {
-                        let child = Arc::make_mut(self.left.root.as_mut().unwrap());
-                        if child.right.height() > child.left.height() {
-                            child.rotate_left();
-                        }
-                        self.rotate_right();
-                    } else if high > low + 1 {
-                        let child = Arc::make_mut(self.right.root.as_mut().unwrap());
-                        if child.left.height() > child.right.height() {
-                            child.rotate_right();
-                        }
-                        self.rotate_left();
-                    } else {
-                        self.update();
+                fn insert(&mut self, key: u64, value: u64) {
+                    let Some(tree) = &mut self.root else {
+                        let mut entries = Vec::with_capacity(LEAF);
+                        entries.push((key, value));
+                        self.root = Some(Tree { root: Arc::new(Node::Leaf(entries)) });
+                        self.len = 1;
+                        return;
+                    };
+                    if let Some((left, right)) = tree.halves() {
+                        let mut children = Vec::with_capacity(BRANCH);
+                        children.push(left);
+                        children.push(right);
+                        tree.root = Arc::new(Node::Branch(children));
                     }
+                    self.len += tree.insert(key, value);
                 }
 
-                fn rotate_right(&mut self) {
-                    let mut handle = self.left.root.take().unwrap();
-                    let child = Arc::make_mut(&mut handle);
-                    mem::swap(&mut self.entry, &mut child.entry);
-                    self.left = mem::replace(&mut child.left, mem::take(&mut child.right));
-                    child.right = mem::take(&mut self.right);
-                    child.update();
-                    self.right.root = Some(handle);
-                    self.update();
-                }
-
-                fn rotate_left(&mut self) {
-                    let mut handle = self.right.root.take().unwrap();
-                    let child = Arc::make_mut(&mut handle);
-                    mem::swap(&mut self.entry, &mut child.entry);
-                    self.right = mem::replace(&mut child.right, mem::take(&mut child.left));
-                    child.left = mem::take(&mut self.left);
-                    child.update();
-                    self.left.root = Some(handle);
-                    self.update();
+                /// The entry of that number, and its leaf: the one that is passed, if the entry is there.
+                #[inline(always)]
+                fn numbered<'a>(
+                    &'a self,
+                    near: (&'a [(u64, u64)], usize),
+                    index: usize,
+                ) -> Option<(&'a (u64, u64), (&'a [(u64, u64)], usize))> {
+                    let (leaf, start) = match index.checked_sub(near.1) {
+                        Some(offset) if offset < near.0.len() => near,
+                        _ => self.root.as_ref()?.leaf_at(index),
+                    };
+                    Some((&leaf[index - start], (leaf, start)))
                 }
             }
 
@@ -227,8 +261,8 @@ macro_rules! trees {
                 let map = map();
                 let mut sum = 0u64;
                 for _ in 0..n {
-                    let mut front = (&map, 0);
-                    for index in 0..map.len() {
+                    let mut front: (&[(u64, u64)], usize) = (&[], 0);
+                    for index in 0..map.len {
                         let Some((entry, near)) = map.numbered(front, index) else { break };
                         front = near;
                         sum = sum.rotate_left(1).wrapping_add(entry.1);

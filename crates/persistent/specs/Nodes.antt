@@ -1,101 +1,90 @@
--- What a tree is seen as by its first node, what holds of that node, and how it is seen from one of its sides.
-use Rattle.std.specs.Prelude.{◌≡◌, ℕ, ◌+◌, ◌-◌, ◌^◌, ◌<◌, ◌≤◌, max, List, [], ◌∷◌, ◌++◌, length}
-use Rattle.std.specs.Prelude.{Option, None, Some, slice_get}
+-- What a tree is seen as by its first node, and what holds of that node.
+use Rattle.std.specs.Prelude.{◌≡◌, ℕ, ◌+◌, ◌<◌, ◌≤◌, ◌^◌, List, [], ◌∷◌, ◌++◌, length}
+use Rattle.std.specs.Prelude.{Option, None, Some, take, drop}
+use Rattle.std.specs.List.{All, flat_map}
 use Rattle.std.specs.declared.cmp.Ordering.{Ordering}
+use denote.Param.Weighed.{most}
 use Rattle.persistent.specs.Maps.{IsRising}
-use Rattle.persistent.specs.Places.{without_at}
-use Rattle.persistent.specs.declared.node.Side.{Side}
-use Rattle.persistent.specs.declared.node.Side.TheVariants.{Left, Right}
+use Rattle.persistent.specs.Places.{IsBetween}
 use Rattle.persistent.specs.declared.tree.Node.{Node}
-
--- neither height is more than one above the other
-abbrev pub IsLevel : ℕ → ℕ → Type 0
-IsLevel l r = (l ≤ r + 1) × (r ≤ l + 1)
-
-abbrev pub other : Side → Side
-other Left = Right
-other Right = Left
+use Rattle.persistent.specs.declared.tree.Node.TheVariants.{Leaf, Branch}
+use Rattle.persistent.specs.declared.tree.Child.{Child}
 
 module _ {K V : Type 0} where
-  abbrev pub entries_of : Node K V → List (K × V)
-  entries_of node = node.left.0 ++ node.entry ∷ node.right.0
+  abbrev pub entries_in : List (Child K V) → List (K × V)
+  entries_in children = flat_map (λ c. c.tree.0) children
 
-  -- what a tree of that first node is seen as: its entries and its height
+  -- one more than that of the highest child
+  abbrev pub height_in : List (Child K V) → ℕ
+  height_in children = most (λ c. c.tree.1 + 1) children
+
+  -- the entries of the tree of that first node, and its height
   abbrev pub seen : Node K V → List (K × V) × ℕ
-  seen node = (entries_of node, node.height)
+  seen (Leaf entries) = (entries.items, 0)
+  seen (Branch children) = (entries_in children.items, height_in children.items)
 
-  abbrev pub summary : Option (Node K V) → List (K × V) × ℕ
-  summary None = ([], 0)
-  summary (Some node) = seen node
+  abbrev pub entries_under : Option (List (K × V) × ℕ) → List (K × V)
+  entries_under None = []
+  entries_under (Some tree) = tree.0
 
-  -- the subtree on that side
-  abbrev pub on : Side → Node K V → List (K × V) × ℕ
-  on Left node = node.left
-  on Right node = node.right
+  abbrev pub first_key : List (K × V) → Option K
+  first_key [] = None
+  first_key (e ∷ es) = Some e.0
 
-  -- the node with another subtree on that side
-  abbrev pub with_side : Side → Node K V → List (K × V) × ℕ → Node K V
-  with_side Left node tree = record node { left = tree }
-  with_side Right node tree = record node { right = tree }
+  -- a copy of a node has its entries or its children
+  abbrev pub IsCopy : Node K V → Node K V → Type 0
+  IsCopy (Leaf es) (Leaf copy) = copy.items ≡ es.items
+  IsCopy (Branch cs) (Branch copy) = copy.items ≡ cs.items
+  IsCopy (Leaf es) (Branch copy) = ⊥
+  IsCopy (Branch cs) (Leaf copy) = ⊥
 
-  -- the node with these subtrees around an entry, the first of them on that side
-  abbrev pub between : Side → Node K V → List (K × V) × ℕ → K × V → List (K × V) × ℕ → Node K V
-  between side node near entry far = with_side side (with_side (other side) (record node { entry = entry }) far) near
+  -- a child under a node of that height, which has as many entries as that makes of it at least
+  pub record IsChild (height : ℕ) (child : Child K V) : Type 0 where
+    pub first : first_key child.tree.0 ≡ Some child.key
+    pub counted : child.len ≡ length child.tree.0
+    pub level : child.tree.1 + 1 ≡ height
+    pub wide : 2 ^ child.tree.1 ≤ length child.tree.0
 
-  -- the entries of the node if these stood on that side
-  abbrev pub entries_with : Side → Node K V → List (K × V) → List (K × V)
-  entries_with Left node es = es ++ node.entry ∷ node.right.0
-  entries_with Right node es = node.left.0 ++ node.entry ∷ es
-
-  -- the number of the entry beyond which so many stand on that side
-  abbrev pub number_of : Side → List (K × V) → ℕ → ℕ
-  number_of Left es beyond = beyond
-  number_of Right es beyond = length es - beyond - 1
-
-  -- a tree of n entries is as high as log2 (n + 1) at least, and as twice that at most
-  abbrev pub FitsHeight : List (K × V) × ℕ → Type 0
-  FitsHeight tree = (2 ^ tree.1 ≤ (length tree.0 + 1) ^ 2) × (length tree.0 + 1 ≤ 2 ^ tree.1)
+  -- a tree that has more entries than a child of its height has at least
+  abbrev pub CanLose : List (K × V) × ℕ → Type 0
+  CanLose tree = 2 ^ tree.1 < length tree.0
 
   -- entries of a map that a tree can count
-  abbrev pub IsMap : (K → K → Ordering) → List (K × V) → Type 0
-  IsMap cmp es = IsRising cmp es × (length es < 2 ^ 64)
+  pub record IsMap (cmp : K → K → Ordering) (es : List (K × V)) : Type 0 where
+    pub rising : IsRising cmp es
+    pub some : 0 < length es
+    pub room : length es < 2 ^ 64
 
-  pub record IsNode (cmp : K → K → Ordering) (node : Node K V) : Type 0 where
-    pub rising : IsRising cmp (entries_of node)
-    pub counted : node.len ≡ length (entries_of node)
-    pub room : length (entries_of node) < 2 ^ 64
-    pub height : node.height ≡ max node.left.1 node.right.1 + 1
-    pub level : IsLevel node.left.1 node.right.1
-    pub fits : FitsHeight (seen node)
-    pub low : node.height ≤ 128
+  -- the children under a node
+  pub record AreChildren (cmp : K → K → Ordering) (cs : List (Child K V)) : Type 0 where
+    pub map : IsMap cmp (entries_in cs)
+    pub each : All (IsChild (height_in cs)) cs
 
-  abbrev pub IsTree : (K → K → Ordering) → Option (Node K V) → Type 0
-  IsTree cmp None = Unit {0}
-  IsTree cmp (Some node) = IsNode cmp node
+  abbrev pub IsNode : (K → K → Ordering) → Node K V → Type 0
+  IsNode cmp (Leaf entries) = IsMap cmp entries.items
+  IsNode cmp (Branch children) = AreChildren cmp children.items
 
-  -- what a node is seen as once the child that may be held apart from it is put back
-  abbrev pub closed : Node K V → Option (Side × Node K V) → List (K × V) × ℕ
-  closed node None = seen node
-  closed node (Some held) = (entries_with held.0 node (entries_of held.1), node.height + 1)
+  -- the tree in two, of which each could lose an entry: what its first node keeps, and a child with the rest
+  pub record AreHalves (tree left : List (K × V) × ℕ) (right : Child K V) : Type 0 where
+    pub entries : left.0 ++ right.tree.0 ≡ tree.0
+    pub height : left.1 ≡ tree.1
+    pub child : IsChild (tree.1 + 1) right
+    pub spare : CanLose left × CanLose right.tree
 
-  -- a node that was so high; a child that is held apart from it is one higher than what stands beside it
-  abbrev pub IsGrown : (K → K → Ordering) → ℕ → Node K V → Option (Side × Node K V) → Type 0
-  IsGrown cmp was node None = IsNode cmp node × (node.height ≡ was)
-  IsGrown cmp was node (Some held) = IsNode cmp held.1 × (held.1.height ≡ was)
-      × ((on (other held.0) node).1 + 1 ≡ was) × (node.height ≡ was)
+  -- other children with the same entries, which are as high
+  pub record StandFor (cmp : K → K → Ordering) (old new : List (Child K V)) : Type 0 where
+    pub entries : entries_in new ≡ entries_in old
+    pub height : height_in new ≡ height_in old
+    pub children : AreChildren cmp new
 
-  -- a tree that has lost the entry of that number
-  pub record HasLost (i : ℕ) (lost : K × V) (old new : List (K × V) × ℕ) : Type 0 where
-    pub entry : slice_get old.0 i ≡ Some lost
-    pub entries : new.0 ≡ without_at i old.0
-    pub not_lower : old.1 ≤ new.1 + 1
-    pub not_higher : new.1 ≤ old.1
+  -- the key belongs under the child of that number
+  pub record IsUnder (cmp : K → K → Ordering) (key : K) (cs : List (Child K V)) (at : ℕ) : Type 0 where
+    pub within : at < length cs
+    pub between : IsBetween cmp key (entries_in (take at cs)) (entries_in (drop (at + 1) cs))
 
-  -- a node whose subtree on that side may become lower: the other one is no higher, or it is held apart as a child and
-  -- its inner child, which is higher than the outer one
-  abbrev pub CanLose : Side → (K → K → Ordering) → Node K V → Node K V → Option (Node K V × Node K V) → Type 0
-  CanLose side cmp old new None = IsNode cmp new × (seen new ≡ seen old)
-      × ((on (other side) new).1 ≤ (on side new).1) × (length (on side old).0 ≤ length (on side new).0)
-  CanLose side cmp old new (Some pair) = IsNode cmp pair.1 × (new ≡ with_side (other side) old ([], 0))
-      × (on (other side) old ≡ (entries_with side pair.0 (entries_of pair.1), (on side old).1 + 1))
-      × (pair.1.height ≡ (on side old).1) × ((on (other side) pair.0).1 + 1 ≡ (on side old).1)
+  -- a whole tree with these entries has so many nodes on each way down
+  pub record IsDeep (cmp : K → K → Ordering) (es : List (K × V)) (depth : ℕ) : Type 0 where
+    pub root : Node K V
+    pub whole : IsNode cmp root
+    pub entries : (seen root).0 ≡ es
+    pub nodes : (seen root).1 + 1 ≡ depth

@@ -1,4 +1,4 @@
-//! A map in the order of its keys, whose versions share their branches.
+//! A map in the order of its keys, whose versions share their nodes.
 ghost use Rattle.std.specs.Prelude.{◌≡◌, ◌+◌, ◌^◌, ◌<◌, ◌≤◌, ◌↔◌, [], IsTrue};
 ghost use Rattle.std.specs.Prelude.{◌-◌, None, Some, IfOk, OnOk, OnErr, IfNone, IfSome};
 ghost use Rattle.std.specs.Prelude.{cond, is_some, length, slice_get};
@@ -8,32 +8,34 @@ ghost use Rattle.std.specs.Ordering.{is_eq};
 ghost use Rattle.servo_arc.specs.Copies.{CopiesAreEqual};
 ghost use Rattle.persistent.specs.Changes.{ChangesValue};
 ghost use Rattle.persistent.specs.Maps.{IsRising, lookup, rank, with_entries, with_entry, without};
+ghost use Rattle.persistent.specs.Nodes.{IsDeep};
+
+pub(crate) mod iter;
 
 use crate::tree::Tree;
-use servo_arc::Arc;
 use std::alloc::{AllocError, Global};
 use std::marker::Model;
 
 /// A map in the order of its keys. Its clones are versions of it, which share all that no change has touched: what
 /// is changed in one of them is seen in no other.
+///
+/// Its drop is as many drops one inside the other as the map is deep.
+#[derive(Drop)]
 pub struct TreeMap<K: Ord, V> {
-    pub(crate) tree: Tree<K, V>,
+    pub(crate) root: Option<Tree<K, V>>,
+    len: usize,
 }
 
 impl<K: Ord, V> Model for TreeMap<K, V> {
-    ghost use Rattle.std.specs.Prelude.{List};
+    ghost use Rattle.std.specs.Prelude.{◌≡◌, List, length};
 
     ghost Value = { List (K × V) };
 
-    ghost view = { λ m. m.tree.0 };
-}
+    ghost use Rattle.persistent.specs.Nodes.{entries_under};
 
-/// At most 128 drops one inside the other.
-impl<K: Ord + Drop, V: Drop> Drop for TreeMap<K, V> {
-    fn drop(self) {
-        let TreeMap { tree } = self;
-        drop(tree);
-    }
+    ghost view = { λ m. entries_under m.root };
+
+    ghost invariant = { λ m. m.len ≡ length (entries_under m.root) };
 }
 
 /// One more version: one raise of a count, with no copy and no memory. It is refused as the `clone` of an `Arc` is.
@@ -41,8 +43,13 @@ impl<K: Ord + Drop, V: Drop> Clone for TreeMap<K, V> {
     ghost is_clone = { λ a b. b ≡ a };
 
     fn clone(&self) -> Result<TreeMap<K, V>, AllocError> {
+        let root = match &self.root {
+            None => None,
+            Some(tree) => Some(tree.clone()?),
+        };
         Ok(TreeMap {
-            tree: self.tree.clone()?,
+            root,
+            len: self.len,
         })
     }
 }
@@ -52,14 +59,14 @@ impl<K: Ord, V> TreeMap<K, V> {
     pub fn new() -> TreeMap<K, V>
         ensures { result ≡ [] }
     {
-        TreeMap { tree: Tree::new() }
+        TreeMap { root: None, len: 0 }
     }
 
     /// The number of entries, in O(1).
     pub fn len(&self) -> usize
         ensures { result ≡ length self.now }
     {
-        self.tree.len()
+        self.len
     }
 
     /// Whether there are no entries.
@@ -69,21 +76,27 @@ impl<K: Ord, V> TreeMap<K, V> {
         self.len() == 0
     }
 
-    /// How many nodes stand on the longest way down, in O(1): at most twice the logarithm of one more than there are
-    /// entries, to the base 2, and so at most 128.
+    /// How many nodes stand on each way down: at most twice the logarithm of one more than there are entries, to the
+    /// base 2. It takes as many steps.
     pub fn depth(&self) -> u8
+        ensures nodes { 0 < length self.now → IsDeep K.cmp self.now result }
         ensures at_most { 2 ^ result ≤ (length self.now + 1) ^ 2 }
-        ensures at_least { length self.now + 1 ≤ 2 ^ result }
     {
-        self.tree.height()
+        match &self.root {
+            None => 0,
+            Some(tree) => tree.depth(),
+        }
     }
 
-    /// The value under the key, in as many steps as the tree is deep. Each key is above those before it.
+    /// The value under the key, by one search in each node on the way down. Each key is above those before it.
     pub fn get(&self, key: &K) -> Option<&V>
         ensures found { option_copied result ≡ lookup K.cmp key.now self.now }
         ensures rising { IsRising K.cmp self.now }
     {
-        self.tree.get(key)
+        match &self.root {
+            None => None,
+            Some(tree) => tree.get(key),
+        }
     }
 
     /// Whether there is a value under the key.
@@ -94,24 +107,24 @@ impl<K: Ord, V> TreeMap<K, V> {
     }
 
     /// How many keys are below this one: the number of its entry, if there is one.
-    #[tactic(auto, using(crate::proofs::Rank::rank_most))]
     pub fn rank(&self, key: &K) -> usize
         ensures rank { result ≡ rank K.cmp key.now self.now }
         ensures within { result ≤ length self.now }
     {
-        match self.tree.place(key) {
-            Ok(index) => index,
-            Err(index) => index,
+        match &self.root {
+            None => 0,
+            Some(tree) => tree.rank(key),
         }
     }
 
-    /// The entry of that number, counted from 0 in the order of the keys, in as many steps as the tree is deep.
-    #[tactic(auto, using(crate::proofs::Parts::part_all))]
+    /// The entry of that number, counted from 0 in the order of the keys, by one way down.
     pub fn entry(&self, index: usize) -> Option<&(K, V)>
         ensures { option_copied result ≡ slice_get self.now index }
     {
-        let (entry, _) = self.tree.numbered((&self.tree, 0), index)?;
-        Some(entry)
+        match &self.root {
+            Some(tree) if index < self.len => Some(tree.entry(index)),
+            _ => None,
+        }
     }
 
     /// The entry of the least key.
@@ -146,9 +159,9 @@ impl<K: Ord + Clone, V: Clone> TreeMap<K, V> {
 
     /// Puts the value under the key. An equal key stays, and the new one is dropped.
     ///
-    /// It writes the nodes on the way to the key in place, but for those that other versions have, which it copies. It
-    /// is refused if there is no memory, if the `clone` of a key, a value or a handle is, and for a new key at
-    /// `usize::MAX` entries. The map then reads as it did, and the key and the value are dropped.
+    /// It writes in place, but copies each node on the way to the key that other versions have. A full node on the way
+    /// becomes two before, by moves. It is refused if there is no memory, if the `clone` of a key, a value or a handle
+    /// is, and for any key at `usize::MAX` entries. The map then reads as it did, and the key and the value are dropped.
     pub fn insert(&mut self, alloc: Global, key: K, value: V) -> Result<(), AllocError>
         requires copies_of_keys { CopiesAreEqual K.is_clone }
         requires copies_of_values { CopiesAreEqual V.is_clone }
@@ -157,18 +170,29 @@ impl<K: Ord + Clone, V: Clone> TreeMap<K, V> {
             ≡ cond (is_eq (K.cmp k key)) (Some value) (lookup K.cmp k self.old)) }
         ensures refused { OnErr result (self.new ≡ self.old) }
     {
-        match self.tree.place(&key) {
-            Ok(index) => Ok(self.tree.modify(alloc, index, |old| *old = value)?),
-            Err(_) if self.len() == usize::MAX => Err(AllocError),
-            Err(index) => Ok(self.tree.insert(alloc, index, (key, value))?),
+        if self.len == usize::MAX {
+            return Err(AllocError);
+        }
+        match &mut self.root {
+            None => {
+                self.root = Some(Tree::of(alloc, key, value)?);
+                self.len = 1;
+                Ok(())
+            }
+            Some(tree) => {
+                tree.grow(alloc, self.len)?;
+                let more = tree.insert(alloc, key, value)?;
+                self.len += more;
+                Ok(())
+            }
         }
     }
 
     /// Takes the entry of the key out, and gives its value, if there is one.
     ///
-    /// It writes in place, but for the nodes that other versions have: of those it copies the ones on the way to the
-    /// key and to the entry beside it, and what a rotation needs. It is refused if there is no memory, or if the
-    /// `clone` of a key, a value or a handle is. The map then reads as it did.
+    /// It writes in place and copies as `insert` does. A node on the way with few items is joined with the one beside
+    /// it before, by moves. It is refused if there is no memory, or if the `clone` of a key, a value or a handle is. The
+    /// map then reads as it did. If there is no value, nothing is copied or refused.
     pub fn remove(&mut self, alloc: Global, key: &K) -> Result<Option<V>, AllocError>
         requires copies_of_keys { CopiesAreEqual K.is_clone }
         requires copies_of_values { CopiesAreEqual V.is_clone }
@@ -178,18 +202,28 @@ impl<K: Ord + Clone, V: Clone> TreeMap<K, V> {
             ≡ cond (is_eq (K.cmp k key.now)) None (lookup K.cmp k self.old)) }
         ensures refused { OnErr result (self.new ≡ self.old) }
     {
-        let Ok(index) = self.tree.place(key) else {
+        let Some(tree) = &mut self.root else {
             return Ok(None);
         };
-        let (_, value) = self.tree.remove(alloc, index)?;
+        let Some(_) = tree.get(key) else {
+            return Ok(None);
+        };
+        tree.shrink()?;
+        if self.len == 1 {
+            let value = Tree::take_only(&mut self.root, alloc, key)?;
+            self.len = 0;
+            return Ok(Some(value));
+        }
+        let value = tree.remove(alloc, key)?;
+        self.len -= 1;
         Ok(Some(value))
     }
 
     /// Changes the value under the key, if there is one, and gives what the change answered.
     ///
-    /// It writes in place and copies as `insert` does under a key that is there, and is refused as that is. The change
-    /// is then not called, and the map reads as it did. It is not called either if there is no value: then nothing
-    /// is copied or refused.
+    /// It writes in place, but copies each node on the way to the key that other versions have, and is refused as
+    /// `insert` is. The change is then not called, and the map reads as it did. It is not called either if there is no
+    /// value: then nothing is copied or refused.
     pub fn modify<R, F: FnOnce(&mut V) -> R>(
         &mut self,
         alloc: Global,
@@ -205,10 +239,14 @@ impl<K: Ord + Clone, V: Clone> TreeMap<K, V> {
             (ChangesValue F.FnOnce change K.cmp key.now self.old self.new)) }
         ensures refused { OnErr result (self.new ≡ self.old) }
     {
-        let Ok(index) = self.tree.place(key) else {
+        let Some(tree) = &mut self.root else {
             return Ok(None);
         };
-        Ok(Some(self.tree.modify(alloc, index, change)?))
+        if tree.get(key).is_none() {
+            return Ok(None);
+        }
+        let answer = tree.modify(alloc, key, change)?;
+        Ok(Some(answer))
     }
 }
 
@@ -217,9 +255,9 @@ impl<K: Ord, V> TreeMap<K, V> {
     pub fn ptr_eq(this: &TreeMap<K, V>, other: &TreeMap<K, V>) -> bool
         ensures { IsTrue result → (0 < length this.now) × (0 < length other.now) }
     {
-        match (&this.tree.root, &other.tree.root) {
-            // Nodes of two lengths are two: that takes no step on their counts.
-            (Some(node), Some(same)) => node.len == same.len && Arc::ptr_eq(node, same),
+        match (&this.root, &other.root) {
+            // Trees of two lengths are two: that takes no step on their counts.
+            (Some(tree), Some(same)) => this.len == other.len && tree.is_at(same),
             _ => false,
         }
     }

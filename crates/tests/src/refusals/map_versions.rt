@@ -22,72 +22,82 @@ fn a_refused_push_leaves_the_list(rt: HostRuntime) {
 
 type Map<'a> = TreeMap<u64, Counted<'a>>;
 
-// The even keys below 8, with half of each.
-fn halves<'a>(alloc: Global, tally: &'a Tally) -> Result<Map<'a>, AllocError> {
+// The first even keys, with half of each.
+fn evens<'a>(alloc: Global, tally: &'a Tally, len: u8) -> Result<Map<'a>, AllocError> {
     let mut map = TreeMap::new();
-    for half in 0..4u64 {
+    for half in 0..len {
+        let half = u64::from(half);
         map.insert(alloc, 2 * half, Counted::new(tally, half))?;
     }
     Ok(map)
 }
 
-// Whether all values were dropped that were made since, but for those of the map itself.
-fn kept_none(tally: &Tally, made: u64) -> bool {
-    let lost = tally
+// How many values there are, if so many were made by no copy.
+fn living(tally: &Tally, made: u64) -> u64 {
+    tally
         .copies()
         .wrapping_add(made)
-        .wrapping_sub(tally.drops());
-    lost == 4
+        .wrapping_sub(tally.drops())
 }
 
-// The first key goes to a side that is no higher, the second and the third to a side that grows: one turns.
+// The one leaf is full, so a root and two leaves are made.
 #[test]
 fn a_refused_insert_leaves_both_versions(rt: HostRuntime) {
     let tally = Tally::new();
-    let Ok(old) = halves(rt.alloc(), &tally) else {
+    let Ok(old) = evens(rt.alloc(), &tally, 64) else {
         return report(&rt, "the set-up");
     };
-    for (made, key) in [(5, 1), (6, 3), (7, 7)] {
+    for (made, key) in [(65, 1), (66, 63), (67, 127)] {
         let mut new = again!(&rt, &old);
         if let Err(AllocError) = new.insert(rt.alloc(), key, Counted::new(&tally, 9)) {
             report(&rt, "a node of the path or of the key");
         }
         drop(new);
-        holds!(&rt, kept_none(&tally, made));
+        same!(&rt, living(&tally, made), 64);
     }
 }
 
+// A map of two leaves, of 16 entries and of 33.
+fn thin<'a>(alloc: Global, tally: &'a Tally) -> Result<Map<'a>, AllocError> {
+    let mut map = evens(alloc, tally, 65)?;
+    for half in 0..16u64 {
+        drop(map.remove(alloc, &(2 * half))?);
+    }
+    Ok(map)
+}
+
+// The first leaf is joined with the second one.
 #[test]
 fn a_refused_remove_leaves_both_versions(rt: HostRuntime) {
     let tally = Tally::new();
-    let Ok(old) = halves(rt.alloc(), &tally) else {
+    let Ok(old) = thin(rt.alloc(), &tally) else {
         return report(&rt, "the set-up");
     };
-    for key in [0, 2, 4, 6] {
+    for key in [32, 62, 64, 128] {
         let mut new = again!(&rt, &old);
         match new.remove(rt.alloc(), &key) {
             Ok(value) => holds!(&rt, value.is_some()),
             Err(AllocError) => report(&rt, "a node of the path"),
         }
         drop(new);
-        holds!(&rt, kept_none(&tally, 4));
+        same!(&rt, living(&tally, 65), 49);
     }
 }
 
 #[test]
 fn a_refused_change_leaves_both_versions(rt: HostRuntime) {
     let tally = Tally::new();
-    let Ok(old) = halves(rt.alloc(), &tally) else {
+    let Ok(old) = thin(rt.alloc(), &tally) else {
         return report(&rt, "the set-up");
     };
-    for key in [0, 6] {
+    for key in [32, 128] {
         let mut new = again!(&rt, &old);
         match new.modify(rt.alloc(), &key, |counted| counted.value = 9) {
             Ok(changed) => holds!(&rt, changed.is_some()),
             Err(AllocError) => report(&rt, "a node of the path"),
         }
         drop(new);
-        holds!(&rt, kept_none(&tally, 4));
+        same!(&rt, living(&tally, 65), 49);
     }
 }
 

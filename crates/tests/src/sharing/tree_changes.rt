@@ -14,7 +14,7 @@ fn value_of_0(map: &TreeMap<u64, Counted<'_>>) -> Option<u64> {
     Some(map.get(&0)?.value)
 }
 
-// Seven keys that were put in as they rise make a tree of three nodes on each way.
+// Seven keys lie in one leaf.
 #[test]
 fn a_change_copies_what_others_have(rt: HostRuntime) {
     let tally = Tally::new();
@@ -28,7 +28,7 @@ fn a_change_copies_what_others_have(rt: HostRuntime) {
     same!(&rt, ok!(&rt, map.modify(rt.alloc(), &9, add_ten)), None);
     holds!(&rt, TreeMap::ptr_eq(&old, &map));
     same!(&rt, ok!(&rt, map.modify(rt.alloc(), &0, add_ten)), Some(20));
-    same!(&rt, tally.copies(), 3);
+    same!(&rt, tally.copies(), 7);
     same!(&rt, value_of_0(&old), Some(10));
     same!(&rt, value_of_0(&map), Some(20));
 }

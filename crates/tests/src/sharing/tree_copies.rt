@@ -1,5 +1,5 @@
-// How many values a change copies, and what it drops. A node that a change makes out of an old one has a copy of its
-// value.
+// How many values a change copies, and what it drops. A leaf that a change makes out of a shared one has copies of its
+// values.
 use crate::sharing::orders::Order;
 use crate::support::counted::{Counted, Tally};
 use crate::support::{again, ok, same, same_at};
@@ -30,7 +30,7 @@ fn living(tally: &Tally, made: u64) -> u64 {
 
 const ORDERS: [Order; 3] = [Order::Rising, Order::Falling, Order::Inward];
 
-// Every change is in place if the version shares nothing, whatever rotations it takes.
+// Every change is in place if the version shares nothing, whatever nodes become two or one.
 #[test]
 fn a_lone_version_copies_nothing(rt: HostRuntime) {
     for order in ORDERS {
@@ -52,12 +52,15 @@ fn a_lone_version_copies_nothing(rt: HostRuntime) {
     }
 }
 
+// The most entries of a leaf.
+const LEAF: u64 = 64;
+
+// The only values of a path are those of its leaf.
 #[test]
 fn an_insert_copies_its_path_alone(rt: HostRuntime) {
     for order in ORDERS {
         let tally = Tally::new();
         let map = ok!(&rt, evens(rt.alloc(), &tally, order));
-        let depth = u64::from(map.depth());
         for key in 0..2 * KEYS {
             let (copies, before) = (tally.copies(), living(&tally, 0));
             let mut version = again!(&rt, &map);
@@ -72,7 +75,7 @@ fn an_insert_copies_its_path_alone(rt: HostRuntime) {
             same_at!(
                 &rt,
                 (order, key),
-                (kept <= depth, copied <= depth, is_gone),
+                (kept <= LEAF, copied <= LEAF, is_gone),
                 (true, true, true),
             );
         }
@@ -80,10 +83,7 @@ fn an_insert_copies_its_path_alone(rt: HostRuntime) {
     }
 }
 
-// On average a removal copies no more than 20 values: 2 log2 of the keys.
-const MOST_COPIES: u64 = 20 * KEYS;
-
-// Both versions have all the nodes but those on the path, and each value ends with the last version that has it.
+// Each leaf is copied once at most, for its first change, and each value ends with the last version that has it.
 #[test]
 fn a_value_ends_with_its_last_version(rt: HostRuntime) {
     let tally = Tally::new();
@@ -92,7 +92,7 @@ fn a_value_ends_with_its_last_version(rt: HostRuntime) {
     for key in 0..KEYS {
         drop(ok!(&rt, new.remove(rt.alloc(), &(2 * key))));
     }
-    let is_little = tally.copies().wrapping_sub(copies) <= MOST_COPIES;
+    let is_little = tally.copies().wrapping_sub(copies) <= KEYS;
     let emptied = living(&tally, KEYS);
     ok!(&rt, new.insert(rt.alloc(), 1, Counted::new(&tally, 1)));
     drop(old);

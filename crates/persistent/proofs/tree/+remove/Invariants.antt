@@ -1,15 +1,12 @@
-use Rattle.std.proofs.Common.{◌+◌, ◌*◌, length}
-use Rattle.persistent.specs.Nodes.{entries_of, on}
+use Rattle.std.proofs.Common.{◌+◌, ◌*◌, ◌-◌}
+use Rattle.persistent.specs.Nodes.{height_in}
 use Rattle.persistent.proofs.tree.+remove.Given as goal
 
 abbrev pub decreases-Tree::remove : goal.decreases-Tree::remove
-decreases-Tree::remove g l = 4 * length l.self.now.0 + 3
+decreases-Tree::remove g l = 3 * l.self.now.1
 
-abbrev pub decreases-Node::remove : goal.decreases-Node::remove
-decreases-Node::remove g l = 4 * length (entries_of l.self.now) + 2
+abbrev pub decreases-remove::remove_under : goal.decreases-remove::remove_under
+decreases-remove::remove_under g l = 3 * height_in l.children.now.items - 1
 
-abbrev pub decreases-Node::remove_on : goal.decreases-Node::remove_on
-decreases-Node::remove_on g l = 4 * length (entries_of l.self.now) + 1
-
-abbrev pub decreases-Node::take_entry : goal.decreases-Node::take_entry
-decreases-Node::take_entry g l = 4 * length (on l.side l.self.now).0 + 4
+abbrev pub decreases-Child::remove : goal.decreases-Child::remove
+decreases-Child::remove g l = 3 * l.self.now.tree.1 + 1

@@ -1,48 +1,54 @@
--- The entry that is taken out is that of the key.
-use Rattle.std.proofs.Common.{◌≡◌, ◌<◌, ◌∙◌, ap, sym, subst, length, slice_get}
-use Rattle.std.specs.Prelude.{Some}
+-- What the tree lets go, the map does.
+use Rattle.std.proofs.Common.{◌≡◌, ◌∙◌, [], ap, sym, subst, length, true}
+use Rattle.std.specs.Prelude.{None, is_some}
+use Rattle.std.specs.Option.{option_copied}
 use Rattle.persistent.specs.Maps.{IsRising, lookup, without}
-use Rattle.persistent.specs.Places.{without_at}
+use Rattle.persistent.specs.Nodes.{entries_under}
 use Rattle.persistent.proofs.Lookup.{lookup_without}
-use Rattle.persistent.proofs.Rank.{rank_within, without_absent, without_found, entry_found}
+use Rattle.persistent.proofs.Present.{without_absent, without_only}
 use Rattle.persistent.proofs.map.TreeMap.remove.Goals as goal
 
 pub returns-in_default-clause-entries : goal.returns-in_default-clause-entries
 returns-in_default-clause-entries g c =
     let cmp = g.K.Ord.cmp in
     let key = c.args.key.now in
-    sym (without_absent cmp key c.args.self.now (ap (lookup cmp key) (sym c.self.view_is) ∙ c.in_default.ensures.found))
+    let none : [] ≡ c.args.self.now = sym (ap (λ root. entries_under root) c.in_default.is) ∙ c.self.view_is in
+    c.self.view_is ∙ sym (without_absent cmp key c.args.self.now (ap (lookup cmp key) (sym none)))
 
-pub remove-requires-clause-within : goal.remove-requires-clause-within
-remove-requires-clause-within g c =
-    let es = c.self.inside.tree.0 in
-    subst (λ n. n < length es) (sym c.in-Ok.ensures.rank)
-    (rank_within g.K.Ord.cmp g.met.K.Ord.total c.args.key.now es c.in-Ok.ensures.found)
-
-pub returns-clause-value : goal.returns-clause-value
-returns-clause-value g c =
+pub returns-in_default-get-clause-entries : goal.returns-in_default-get-clause-entries
+returns-in_default-get-clause-entries g c =
     let cmp = g.K.Ord.cmp in
     let key = c.args.key.now in
-    let es = c.self.inside.tree.0 in
-    let at =
-    subst (λ n. slice_get es n ≡ Some (c.in_ok-value.field-0-0, c.in_ok-value.value)) c.in-Ok.ensures.rank
-    c.in_ok-value.ensures.lost.entry in
-    entry_found cmp g.met.K.Ord.total key es _ c.in-Ok.ensures.rising c.in-Ok.ensures.found at
-    ∙ ap (lookup cmp key) c.self.view_is
+    let old = sym (ap (λ root. entries_under root) c.in-Some.is) ∙ c.self.view_is in
+    let none : lookup cmp key c.in-Some.tree.0 ≡ None =
+    sym c.get.ensures.found ∙ ap (λ r. option_copied r) c.in_default-get.is in
+    old ∙ sym (without_absent cmp key c.args.self.now (ap (lookup cmp key) (sym old) ∙ none))
 
-pub returns-clause-entries : goal.returns-clause-entries
-returns-clause-entries g c =
+pub returns-then-self-eq1-clause-entries : goal.returns-then-self-eq1-clause-entries
+returns-then-self-eq1-clause-entries g c =
     let cmp = g.K.Ord.cmp in
     let key = c.args.key.now in
-    let es = c.self.inside.tree.0 in
-    c.in_ok-value.ensures.lost.entries ∙ ap (λ n. without_at n es) c.in-Ok.ensures.rank
-    ∙ sym (without_found cmp g.met.K.Ord.total key es c.in-Ok.ensures.rising c.in-Ok.ensures.found)
-    ∙ ap (without cmp key) c.self.view_is
+    let old = sym (ap (λ root. entries_under root) c.in-Some.is) ∙ c.self.view_is in
+    let found : is_some (lookup cmp key c.args.self.now) ≡ true =
+    ap (λ es. is_some (lookup cmp key es)) (sym old)
+    ∙ ap (λ v. is_some v) (sym c.get.ensures.found ∙ ap (λ r. option_copied r) c.in-Some-get.is) in
+    let one : length c.args.self.now ≡ 1 =
+    sym (ap (λ es. length es) c.self.view_is) ∙ sym c.self.invariant ∙ c.if-self-eq1.true in
+    ap (λ root. entries_under root) c.in_ok-value.ensures.none
+    ∙ without_only cmp g.met.K.Ord.total key c.args.self.now (subst (IsRising cmp) old c.get.ensures.rising) found one
+
+pub returns-then-self-eq1-clause-changes : goal.returns-then-self-eq1-clause-changes
+returns-then-self-eq1-clause-changes g c k =
+    let cmp = g.K.Ord.cmp in
+    let old = sym (ap (λ root. entries_under root) c.in-Some.is) ∙ c.self.view_is in
+    ap (lookup cmp k) (returns-then-self-eq1-clause-entries g c)
+    ∙ lookup_without cmp g.met.K.Ord.total k c.args.key.now c.args.self.now
+    (subst (IsRising cmp) old c.get.ensures.rising)
 
 pub returns-clause-changes : goal.returns-clause-changes
 returns-clause-changes g c k =
     let cmp = g.K.Ord.cmp in
     let key = c.args.key.now in
-    ap (lookup cmp k) (returns-clause-entries g c)
-    ∙ lookup_without cmp g.met.K.Ord.total k key c.args.self.now
-    (subst (IsRising cmp) c.self.view_is c.in-Ok.ensures.rising)
+    let old = sym (ap (λ root. entries_under root) c.in-Some.is) ∙ c.self.view_is in
+    ap (lookup cmp k) (c.in_ok-value-2.ensures.entries ∙ ap (without cmp key) (c.in_ok-shrink.ensures.same ∙ old))
+    ∙ lookup_without cmp g.met.K.Ord.total k key c.args.self.now (subst (IsRising cmp) old c.get.ensures.rising)

@@ -1,77 +1,179 @@
--- The change at, before or after the entry of the node.
-use Rattle.std.proofs.Common.{◌≡◌, ◌∙◌, ◌-◌, ◌<◌, ◌∷◌, ◌++◌, ap, sym, subst, length, refl, rules, arith, slice_get}
-use Rattle.std.specs.Prelude.{IfOk}
-use Rattle.std.proofs.lemmas.Grind.{common_steps}
-use Rattle.std.proofs.lemmas.Result.{IfOk-weaker}
-use Rattle.persistent.specs.Changes.{ChangesAt}
-use Rattle.persistent.specs.Nodes.{entries_of}
-use Rattle.persistent.proofs.ChangedPlaces.{changes_left, changes_here, changes_right}
-use Rattle.persistent.proofs.Numbers.{entry_here}
+-- The value is changed in the child with the key.
+use Rattle.std.proofs.Common.{◌≡◌, ◌∙◌, ap, sym, arith, rules, refl, true}
+use Rattle.std.specs.Prelude.{IsOk, is_some}
+use Rattle.persistent.specs.Maps.{lookup}
+use Rattle.persistent.specs.Nodes.{entries_in, height_in}
+use Rattle.persistent.proofs.Changed.{changes_under, children_changed, height_changed, kept}
+use Rattle.persistent.proofs.Copied.{seen_copy, whole_copy}
+use Rattle.persistent.proofs.Inserted.{copied}
+use Rattle.persistent.proofs.Removed.{lookup_under}
 use Rattle.persistent.proofs.tree.Tree.+modify.Goals as goal
-use Rattle.persistent.proofs.tree.Tree.+modify.Goals.{in-Less, in-Equal, in-Greater}
 
-pub change-requires : goal.change-requires
-change-requires g t c =
-    let n = c.deref_mut-in-Equal.result.now in
-    let same = rw c.unwrap-node.ensures at c.in_ok-take.ensures.same in
-    let all : entries_of n ≡ c.args.self.now.0 =
-    ap (λ x. entries_of x) c.deref_mut-in-Equal.ensures.value ∙ ap (λ d. d.0) same in
-    let here : c.args.index ≡ length n.left.0 = grind (arith, common_steps) in
-    c.requires.callable n.entry
-    (ap (λ es. slice_get es c.args.index) (sym all) ∙ entry_here n.left.0 n.entry n.right.0 c.args.index here) _ refl
+pub modify-requires : goal.modify-requires
+modify-requires g t c κs within =
+    let cmp = g.K.Ord.cmp in
+    let q = c.args.key.now in
+    let cs = c.in-Branch.children.items in
+    let at = c.child_of-at.result in
+    let d = c.index_mut.result.now in
+    let is = c.index_mut.ensures.value in
+    let root = c.self.inside.root in
+    let node = c.in_ok-entries.field-0.now in
+    let copy = copied root node c.in_ok-entries.ensures.value c.requires.copies in
+    let whole = rw c.in-Branch.is at (whole_copy cmp root node c.self.invariant copy) in
+    let same = rw c.in-Branch.is at (seen_copy root node copy) in
+    let entries : entries_in cs ≡ c.args.self.now.0 = ap (λ t. t.0) (same ∙ c.self.view_is) in
+    let height : height_in cs ≡ c.args.self.now.1 = ap (λ t. t.1) (same ∙ c.self.view_is) in
+    let under = rw c.deref.ensures.value at c.child_of-at.ensures in
+    let level = ap (λ child. child.tree.1) is in
+    let found : is_some (lookup cmp q d.tree.0) ≡ true =
+    ap (λ v. is_some v) (sym (lookup_under cmp q cs at d under is)) ∙ ap (λ es. is_some (lookup cmp q es)) entries
+    ∙ c.requires.found in (
+      omega (arith, c.decreases, height, level, (whole.each at d under.within).level),
+      (
+        search rules,
+        (
+          search rules,
+          (
+            search rules,
+            (
+              search rules,
+              (
+                c.requires.copies,
+                (
+                  found,
+                  λ x e. c.requires.callable x
+                      (ap (lookup cmp q) (sym entries) ∙ lookup_under cmp q cs at d under is ∙ e),
+                ),
+              ),
+            ),
+          ),
+        ),
+      ),
+    )
+
+pub invariant_of-self-in_err-answer : goal.invariant_of-self-in_err-answer
+invariant_of-self-in_err-answer g t c =
+    let cmp = g.K.Ord.cmp in
+    let q = c.args.key.now in
+    let cs = c.in-Branch.children.items in
+    let at = c.child_of-at.result in
+    let d = c.index_mut.result.now in
+    let is = c.index_mut.ensures.value in
+    let root = c.self.inside.root in
+    let node = c.in_ok-entries.field-0.now in
+    let copy = copied root node c.in_ok-entries.ensures.value c.requires.copies in
+    let whole = rw c.in-Branch.is at (whole_copy cmp root node c.self.invariant copy) in
+    let same = rw c.in-Branch.is at (seen_copy root node copy) in
+    let entries : entries_in cs ≡ c.args.self.now.0 = ap (λ t. t.0) (same ∙ c.self.view_is) in
+    let height : height_in cs ≡ c.args.self.now.1 = ap (λ t. t.1) (same ∙ c.self.view_is) in
+    let under = rw c.deref.ensures.value at c.child_of-at.ensures in
+    let ok : IsOk c.make_mut.result = search rules in
+    rw c.make_mut.follows.holds ((kept cmp g.met.K.Ord.total q cs at d _ whole under.within is refl refl
+    c.in_err-answer.ensures.refused
+    c.in_err-answer.ensures.height).children)
+
+pub returns-in_err-answer-clause-height : goal.returns-in_err-answer-clause-height
+returns-in_err-answer-clause-height g t c =
+    let cmp = g.K.Ord.cmp in
+    let q = c.args.key.now in
+    let cs = c.in-Branch.children.items in
+    let at = c.child_of-at.result in
+    let d = c.index_mut.result.now in
+    let is = c.index_mut.ensures.value in
+    let root = c.self.inside.root in
+    let node = c.in_ok-entries.field-0.now in
+    let copy = copied root node c.in_ok-entries.ensures.value c.requires.copies in
+    let whole = rw c.in-Branch.is at (whole_copy cmp root node c.self.invariant copy) in
+    let same = rw c.in-Branch.is at (seen_copy root node copy) in
+    let entries : entries_in cs ≡ c.args.self.now.0 = ap (λ t. t.0) (same ∙ c.self.view_is) in
+    let height : height_in cs ≡ c.args.self.now.1 = ap (λ t. t.1) (same ∙ c.self.view_is) in
+    let under = rw c.deref.ensures.value at c.child_of-at.ensures in
+    let ok : IsOk c.make_mut.result = search rules in
+    rw c.make_mut.follows.holds ((kept cmp g.met.K.Ord.total q cs at d _ whole under.within is refl refl
+    c.in_err-answer.ensures.refused
+    c.in_err-answer.ensures.height).height ∙ height)
+
+pub returns-in_err-answer-clause-refused : goal.returns-in_err-answer-clause-refused
+returns-in_err-answer-clause-refused g t c =
+    let cmp = g.K.Ord.cmp in
+    let q = c.args.key.now in
+    let cs = c.in-Branch.children.items in
+    let at = c.child_of-at.result in
+    let d = c.index_mut.result.now in
+    let is = c.index_mut.ensures.value in
+    let root = c.self.inside.root in
+    let node = c.in_ok-entries.field-0.now in
+    let copy = copied root node c.in_ok-entries.ensures.value c.requires.copies in
+    let whole = rw c.in-Branch.is at (whole_copy cmp root node c.self.invariant copy) in
+    let same = rw c.in-Branch.is at (seen_copy root node copy) in
+    let entries : entries_in cs ≡ c.args.self.now.0 = ap (λ t. t.0) (same ∙ c.self.view_is) in
+    let height : height_in cs ≡ c.args.self.now.1 = ap (λ t. t.1) (same ∙ c.self.view_is) in
+    let under = rw c.deref.ensures.value at c.child_of-at.ensures in
+    let ok : IsOk c.make_mut.result = search rules in
+    let back = (kept cmp g.met.K.Ord.total q cs at d _ whole under.within is refl refl c.in_err-answer.ensures.refused
+    c.in_err-answer.ensures.height).entries ∙ entries in
+    rw c.make_mut.follows.holds (search (rules, back))
+
+pub invariant_of-self-2 : goal.invariant_of-self-2
+invariant_of-self-2 g t c =
+    let cmp = g.K.Ord.cmp in
+    let q = c.args.key.now in
+    let cs = c.in-Branch.children.items in
+    let at = c.child_of-at.result in
+    let d = c.index_mut.result.now in
+    let is = c.index_mut.ensures.value in
+    let root = c.self.inside.root in
+    let node = c.in_ok-entries.field-0.now in
+    let copy = copied root node c.in_ok-entries.ensures.value c.requires.copies in
+    let whole = rw c.in-Branch.is at (whole_copy cmp root node c.self.invariant copy) in
+    let same = rw c.in-Branch.is at (seen_copy root node copy) in
+    let entries : entries_in cs ≡ c.args.self.now.0 = ap (λ t. t.0) (same ∙ c.self.view_is) in
+    let height : height_in cs ≡ c.args.self.now.1 = ap (λ t. t.1) (same ∙ c.self.view_is) in
+    let under = rw c.deref.ensures.value at c.child_of-at.ensures in
+    let ok : IsOk c.make_mut.result = search rules in
+    rw c.make_mut.follows.holds (children_changed cmp g.met.K.Ord.total q g.F.FnOnce c.args.change cs at d _
+    c.in_ok-answer.answer whole under is
+    c.in_ok-answer.ensures.changed refl refl c.in_ok-answer.ensures.height)
 
 pub returns-clause-changed : goal.returns-clause-changed
 returns-clause-changed g t c =
-    let f = g.F.FnOnce in
-    let i = c.args.index in
-    let old = c.args.self.now.0 in
-    let new = c.put.new.self.0 in
-    let same = rw c.unwrap-node.ensures at c.in_ok-take.ensures.same in
-    elim c.match-cmp.branch [
-      | in-Less w ↦
-          let n = w.deref_mut.result.now in
-          let left = w.modify-answer.new.self.0 in
-          let is_old : entries_of n ≡ old =
-          ap (λ x. entries_of x) w.deref_mut.ensures.value ∙ ap (λ d. d.0) same in
-          let is_new : left ++ n.entry ∷ n.right.0 ≡ new =
-          sym (ap (λ d. d.0) c.put.ensures ∙ ap (λ x. entries_of x) w.node-is) in
-          let below : i < length n.left.0 = first_of (search rules, omega arith, grind arith) in
-          subst (λ a. IfOk a (ChangesAt f c.args.change i old new)) (sym w.answer-is)
-          (IfOk-weaker w.modify-answer.result (ChangesAt f c.args.change i n.left.0 left)
-          (ChangesAt f c.args.change i old new)
-          (λ x h. subst (λ es. ChangesAt f c.args.change i es new x) is_old
-          (subst (λ es. ChangesAt f c.args.change i (entries_of n) es x) is_new
-          (changes_left f c.args.change i n.left.0 left n.entry n.right.0 x below h)))
-          w.modify-answer.ensures.changed)
-      | in-Equal w ↦
-          let n = w.deref_mut-in-Equal.result.now in
-          let v = w.change.new.arg2 in
-          let x = w.change.result in
-          let is_old : entries_of n ≡ old =
-          ap (λ x. entries_of x) w.deref_mut-in-Equal.ensures.value ∙ ap (λ d. d.0) same in
-          let is_new : n.left.0 ++ (n.entry.0, v) ∷ n.right.0 ≡ new =
-          sym (ap (λ d. d.0) c.put.ensures ∙ ap (λ x. entries_of x) w.node-is) in
-          let here : i ≡ length n.left.0 = first_of (search rules, omega arith, grind arith) in
-          subst (λ a. IfOk a (ChangesAt f c.args.change i old new)) (sym w.answer-is)
-          (subst (λ es. ChangesAt f c.args.change i es new x) is_old
-          (subst (λ es. ChangesAt f c.args.change i (entries_of n) es x) is_new
-          (changes_here f c.args.change i n.left.0 n.entry n.right.0 v x here
-          (record { shown = _; shows = refl; left = _; met = w.change.ensures; leaves = refl }))))
-      | in-Greater w ↦
-          let n = w.deref_mut-in-Greater.result.now in
-          let before = c.len-before.result in
-          let right = w.modify-answer-in-Greater.new.self.0 in
-          let is_old : entries_of n ≡ old =
-          ap (λ x. entries_of x) w.deref_mut-in-Greater.ensures.value ∙ ap (λ d. d.0) same in
-          let is_new : n.left.0 ++ n.entry ∷ right ≡ new =
-          sym (ap (λ d. d.0) c.put.ensures ∙ ap (λ x. entries_of x) w.node-is) in
-          let is_before : before ≡ length n.left.0 = first_of (search rules, omega arith, grind arith) in
-          let above : length n.left.0 < i = first_of (search rules, omega arith, grind arith) in
-          subst (λ a. IfOk a (ChangesAt f c.args.change i old new)) (sym w.answer-is)
-          (IfOk-weaker w.modify-answer-in-Greater.result
-          (ChangesAt f c.args.change (i - before - 1) n.right.0 right) (ChangesAt f c.args.change i old new)
-          (λ x h. subst (λ es. ChangesAt f c.args.change i es new x) is_old
-          (subst (λ es. ChangesAt f c.args.change i (entries_of n) es x) is_new
-          (changes_right f c.args.change i before n.left.0 n.entry n.right.0 right x is_before above h)))
-          w.modify-answer-in-Greater.ensures.changed)
-    ]
+    let cmp = g.K.Ord.cmp in
+    let q = c.args.key.now in
+    let cs = c.in-Branch.children.items in
+    let at = c.child_of-at.result in
+    let d = c.index_mut.result.now in
+    let is = c.index_mut.ensures.value in
+    let root = c.self.inside.root in
+    let node = c.in_ok-entries.field-0.now in
+    let copy = copied root node c.in_ok-entries.ensures.value c.requires.copies in
+    let whole = rw c.in-Branch.is at (whole_copy cmp root node c.self.invariant copy) in
+    let same = rw c.in-Branch.is at (seen_copy root node copy) in
+    let entries : entries_in cs ≡ c.args.self.now.0 = ap (λ t. t.0) (same ∙ c.self.view_is) in
+    let height : height_in cs ≡ c.args.self.now.1 = ap (λ t. t.1) (same ∙ c.self.view_is) in
+    let under = rw c.deref.ensures.value at c.child_of-at.ensures in
+    let ok : IsOk c.make_mut.result = search rules in
+    rw (c.make_mut.follows.holds, ← entries) (changes_under cmp g.met.K.Ord.total q g.F.FnOnce c.args.change cs at d _
+    c.in_ok-answer.answer whole under is
+    c.in_ok-answer.ensures.changed)
+
+pub returns-clause-height : goal.returns-clause-height
+returns-clause-height g t c =
+    let cmp = g.K.Ord.cmp in
+    let q = c.args.key.now in
+    let cs = c.in-Branch.children.items in
+    let at = c.child_of-at.result in
+    let d = c.index_mut.result.now in
+    let is = c.index_mut.ensures.value in
+    let root = c.self.inside.root in
+    let node = c.in_ok-entries.field-0.now in
+    let copy = copied root node c.in_ok-entries.ensures.value c.requires.copies in
+    let whole = rw c.in-Branch.is at (whole_copy cmp root node c.self.invariant copy) in
+    let same = rw c.in-Branch.is at (seen_copy root node copy) in
+    let entries : entries_in cs ≡ c.args.self.now.0 = ap (λ t. t.0) (same ∙ c.self.view_is) in
+    let height : height_in cs ≡ c.args.self.now.1 = ap (λ t. t.1) (same ∙ c.self.view_is) in
+    let under = rw c.deref.ensures.value at c.child_of-at.ensures in
+    let ok : IsOk c.make_mut.result = search rules in
+    rw c.make_mut.follows.holds (height_changed cmp g.met.K.Ord.total q g.F.FnOnce c.args.change cs at d _
+    c.in_ok-answer.answer whole under is
+    c.in_ok-answer.ensures.changed refl refl c.in_ok-answer.ensures.height ∙ height)

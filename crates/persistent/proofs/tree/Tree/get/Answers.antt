@@ -1,41 +1,36 @@
-use Rattle.std.proofs.Common.{ap, sym, ◌∙◌}
+-- The leaf has what the tree has, and so has the child to which the key belongs.
+use Rattle.std.proofs.Common.{◌∙◌, ap, sym}
+use Rattle.std.specs.Prelude.{Some}
 use Rattle.persistent.specs.Maps.{lookup}
-use Rattle.persistent.proofs.Lookup.{lookup_left, lookup_right, lookup_here, less_from, eq_from, greater_from}
+use Rattle.persistent.proofs.Under.{lookup_found, lookup_missing, lookup_child}
 use Rattle.persistent.proofs.tree.Tree.get.Goals as goal
 
-pub returns-then-is_eq-clause-found : goal.returns-then-is_eq-clause-found
-returns-then-is_eq-clause-found g c =
-    let n = c.in-Some.node.now in
-    let whole = rw c.in-Some.is at c.loop-next.invariant.whole in
-    let equal = sym c.cmp-order.ensures ∙ eq_from c.cmp-order.result (sym c.if-is_eq.ensures) in
-    sym
-    (lookup_here g.K.Ord.cmp g.met.K.Ord.total c.args.key.now n.left.0 n.entry n.right.0 equal whole.rising)
-    ∙ rw c.in-Some.is at c.loop-next.invariant.found
+pub returns-in-Ok-clause-found : goal.returns-in-Ok-clause-found
+returns-in-Ok-clause-found g c =
+    let cmp = g.K.Ord.cmp in
+    let key = c.args.key.now in
+    let found = rw c.in-Leaf.is at c.down.invariant.found in
+    let is = rw c.deref.ensures.value at c.in-Ok.ensures in
+    ap (λ e. Some e.1) c.index.ensures ∙ sym (lookup_found cmp key c.in-Leaf.entries.items c.in-Ok.at _ is) ∙ found
 
-pub loop-next-preserved-then-is_lt : goal.loop-next-preserved-then-is_lt
-loop-next-preserved-then-is_lt g c =
-    let n = c.in-Some.node.now in
-    let whole = rw c.in-Some.is at c.loop-next.invariant.whole in
-    let less = sym c.cmp-order.ensures ∙ less_from c.cmp-order.result (sym c.if-is_lt.ensures) in
-    record {
-      found = ap (λ d. lookup g.K.Ord.cmp c.args.key.now d.0) c.root-next-then-is_lt.ensures.same
-          ∙ sym (lookup_left g.K.Ord.cmp g.met.K.Ord.total c.args.key.now n.left.0 n.entry n.right.0 less
-          whole.rising)
-          ∙ rw c.in-Some.is at c.loop-next.invariant.found;
-      whole = c.root-next-then-is_lt.ensures.whole;
-    }
+pub returns-in-Err-clause-found : goal.returns-in-Err-clause-found
+returns-in-Err-clause-found g c =
+    let cmp = g.K.Ord.cmp in
+    let key = c.args.key.now in
+    let found = rw c.in-Leaf.is at c.down.invariant.found in
+    let is = rw c.deref.ensures.value at c.in-Err.ensures in
+    sym (lookup_missing cmp key c.in-Leaf.entries.items _ is) ∙ found
 
-pub loop-next-preserved : goal.loop-next-preserved
-loop-next-preserved g c =
-    let n = c.in-Some.node.now in
-    let whole = rw c.in-Some.is at c.loop-next.invariant.whole in
-    let greater =
-    sym c.cmp-order.ensures
-    ∙ greater_from c.cmp-order.result (sym c.if-is_lt.ensures) (sym c.if-is_eq.ensures) in
+pub down-preserved : goal.down-preserved
+down-preserved g c =
+    let cmp = g.K.Ord.cmp in
+    let key = c.args.key.now in
+    let cs = c.in-Branch.children.items in
+    let found = rw c.in-Branch.is at c.down.invariant.found in
+    let under = rw c.deref-in-Branch.ensures.value at c.child_of.ensures in
     record {
-      found = ap (λ d. lookup g.K.Ord.cmp c.args.key.now d.0) c.root.ensures.same
-          ∙ sym (lookup_right g.K.Ord.cmp g.met.K.Ord.total c.args.key.now n.left.0 n.entry n.right.0 greater
-          whole.rising)
-          ∙ rw c.in-Some.is at c.loop-next.invariant.found;
-      whole = c.root.ensures.whole;
+      found = ap (λ t. lookup cmp key t.0) c.node-node-in-Branch.ensures.same
+          ∙ ap (λ child. lookup cmp key child.tree.0) c.index-in-Branch.ensures
+          ∙ sym (lookup_child cmp key cs c.child_of.result _ under.within under.between) ∙ found;
+      whole = c.node-node-in-Branch.ensures.whole;
     }

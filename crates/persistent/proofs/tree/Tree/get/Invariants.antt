@@ -1,15 +1,14 @@
-use Rattle.std.proofs.Common.{◌≡◌, length}
-use Rattle.std.specs.Option.{option_copied}
+use Rattle.std.proofs.Common.{◌≡◌}
 use Rattle.persistent.specs.Maps.{lookup}
-use Rattle.persistent.specs.Nodes.{IsTree, summary}
+use Rattle.persistent.specs.Nodes.{IsNode, seen}
 use Rattle.persistent.proofs.tree.Tree.get.Given as goal
 
--- what is left of the way down has under the key what all of it has
-abbrev pub invariant-loop-next : goal.invariant-loop-next
-invariant-loop-next g l = record {
-  found : lookup g.K.Ord.cmp l.key (summary (option_copied l.next)).0 ≡ lookup g.K.Ord.cmp l.key l.self.0;
-  whole : IsTree g.K.Ord.cmp (option_copied l.next);
+-- the node has under the key what the tree has
+abbrev pub invariant-down : goal.invariant-down
+invariant-down g l = record {
+  found : lookup g.K.Ord.cmp l.key (seen l.node).0 ≡ lookup g.K.Ord.cmp l.key l.self.0;
+  whole : IsNode g.K.Ord.cmp l.node;
 }
 
-abbrev pub decreases-loop-next : goal.decreases-loop-next
-decreases-loop-next g l = length (summary (option_copied l.next)).0
+abbrev pub decreases-down : goal.decreases-down
+decreases-down g l = (seen l.node).1

@@ -1,0 +1,165 @@
+-- A map under a key that is there, with another value for it or without it.
+use Rattle.std.proofs.Common.{◌≡◌, ◌+◌, ◌<◌, suc, true, false, cond, List, [], ◌∷◌, length, refl, ap, sym, ◌∙◌, arith}
+use Rattle.std.proofs.Common.{true≢false}
+use Rattle.std.specs.Prelude.{None, Some, is_some, slice_get}
+use Rattle.std.proofs.lemmas.Option.{none-some, same_Some}
+use Rattle.std.specs.declared.cmp.Ordering.{Ordering}
+use Rattle.std.specs.declared.cmp.Ordering.TheVariants.{Less, Equal, Greater}
+use Rattle.std.specs.Cmp.{IsTotalOrder}
+use Rattle.std.specs.Ordering.{is_eq, match_ordering}
+use Rattle.persistent.specs.Maps.{IsRising, lookup, with_entry, without}
+use Rattle.persistent.specs.Nodes.{IsMap, first_key}
+use Rattle.persistent.specs.Places.{AreAbove}
+use Rattle.persistent.proofs.Between.{lookup_none}
+use Rattle.persistent.proofs.Grown.{rises_with}
+use Rattle.persistent.proofs.Order.{Rises, to, from, above_more}
+
+module _ {K V : Type 0} (cmp : K → K → Ordering) (total : IsTotalOrder cmp) (q : K) where
+  -- a key below all entries is not there
+  lost : (x : K × V) (es : List (K × V)) → cmp q x.0 ≡ Less → Rises cmp (x ∷ es)
+      → is_some (lookup cmp q es) ≡ true → {A : Type 0} → A
+  lost x es h s is =
+      absurd (true≢false (sym is ∙ ap is_some (lookup_none cmp q es (above_more cmp total q x.0 es h s.0))))
+
+  -- the same, of keys that rise
+  length_with : (v : V) (es : List (K × V)) → Rises cmp es → is_some (lookup cmp q es) ≡ true
+      → length (with_entry cmp q v es) ≡ length es
+  unfolding with_entry
+  length_with v [] s is = absurd (true≢false (sym is))
+  length_with v (x ∷ es) s is =
+      elim (cmp q x.0) as (λ o. cmp q x.0 ≡ o → is_some (cond (is_eq o) (Some x.1) (lookup cmp q es)) ≡ true
+      → length (match_ordering o ((q, v) ∷ x ∷ es) ((x.0, v) ∷ es) (x ∷ with_entry cmp q v es)) ≡ suc (length es)) [
+        | Less ↦ λ o is. lost x es o s is
+        | Equal ↦ λ o is. refl
+        | Greater ↦ λ o is. ap suc (length_with v es s.1 is)
+      ] refl is
+
+  -- another value for it leaves the number of entries
+  pub length_changed : (v : V) (es : List (K × V)) → IsRising cmp es → is_some (lookup cmp q es) ≡ true
+      → length (with_entry cmp q v es) ≡ length es
+  length_changed v es s is = length_with v es (to cmp es s) is
+
+  -- and so the entries are still a map
+  pub map_changed : (v : V) (es : List (K × V)) → IsMap cmp es → is_some (lookup cmp q es) ≡ true
+      → IsMap cmp (with_entry cmp q v es)
+  map_changed v es map is =
+      let same = length_changed v es map.rising is in
+      record {
+        rising = from cmp (with_entry cmp q v es) (rises_with cmp total q v es (to cmp es map.rising));
+        some = omega (arith, same, map.some);
+        room = omega (arith, same, map.room);
+      }
+
+  -- and the least key
+  pub first_changed : (v : V) (es : List (K × V)) → IsRising cmp es → is_some (lookup cmp q es) ≡ true
+      → first_key (with_entry cmp q v es) ≡ first_key es
+  unfolding with_entry
+  first_changed v [] s is = absurd (true≢false (sym is))
+  first_changed v (x ∷ es) s is =
+      elim (cmp q x.0) as (λ o. cmp q x.0 ≡ o → is_some (cond (is_eq o) (Some x.1) (lookup cmp q es)) ≡ true
+      → first_key (match_ordering o ((q, v) ∷ x ∷ es) ((x.0, v) ∷ es) (x ∷ with_entry cmp q v es)) ≡ Some x.0) [
+        | Less ↦ λ o is. lost x es o (to cmp (x ∷ es) s) is
+        | Equal ↦ λ o is. refl
+        | Greater ↦ λ o is. refl
+      ] refl is
+
+  -- the same, of keys that rise
+  length_less : (es : List (K × V)) → Rises cmp es → is_some (lookup cmp q es) ≡ true
+      → length (without cmp q es) + 1 ≡ length es
+  unfolding without
+  length_less [] s is = absurd (true≢false (sym is))
+  length_less (x ∷ es) s is =
+      elim (cmp q x.0) as (λ o. cmp q x.0 ≡ o → is_some (cond (is_eq o) (Some x.1) (lookup cmp q es)) ≡ true
+      → length (match_ordering o (x ∷ es) es (x ∷ without cmp q es)) + 1 ≡ suc (length es)) [
+        | Less ↦ λ o is. lost x es o s is
+        | Equal ↦ λ o is. omega arith
+        | Greater ↦ λ o is. omega (arith, length_less es s.1 is)
+      ] refl is
+
+  -- without it there is one entry less
+  pub length_without : (es : List (K × V)) → IsRising cmp es → is_some (lookup cmp q es) ≡ true
+      → length (without cmp q es) + 1 ≡ length es
+  length_without es s is = length_less es (to cmp es s) is
+
+  -- a list without a length is empty
+  none_left : (es : List (K × V)) → length es ≡ 0 → [] ≡ es
+  none_left [] h = refl
+  none_left (x ∷ es) h = absurd (omega (arith, h))
+
+  -- and none if it was the only one
+  pub without_only : (es : List (K × V)) → IsRising cmp es → is_some (lookup cmp q es) ≡ true → length es ≡ 1
+      → [] ≡ without cmp q es
+  without_only es s is one = none_left (without cmp q es) (omega (arith, length_without es s is, one))
+
+  -- a key below all stays so
+  above_without : (j : K) (es : List (K × V)) → AreAbove cmp j es → AreAbove cmp j (without cmp q es)
+  unfolding without
+  above_without j [] a = tt
+  above_without j (x ∷ es) a =
+      elim (cmp q x.0) as (λ o. AreAbove cmp j (match_ordering o (x ∷ es) es (x ∷ without cmp q es))) [
+        | Less ↦ a
+        | Equal ↦ a.1
+        | Greater ↦ (a.0, above_without j es a.1)
+      ]
+
+  -- the keys rise still
+  rises_without : (es : List (K × V)) → Rises cmp es → Rises cmp (without cmp q es)
+  unfolding without
+  rises_without [] s = tt
+  rises_without (x ∷ es) s =
+      elim (cmp q x.0) as (λ o. Rises cmp (match_ordering o (x ∷ es) es (x ∷ without cmp q es))) [
+        | Less ↦ s
+        | Equal ↦ s.1
+        | Greater ↦ (above_without x.0 es s.0, rises_without es s.1)
+      ]
+
+  -- the others are a map if there are any
+  pub map_without : (es : List (K × V)) → IsMap cmp es → is_some (lookup cmp q es) ≡ true → 1 < length es
+      → IsMap cmp (without cmp q es)
+  map_without es map is more =
+      let less = length_without es map.rising is in
+      record {
+        rising = from cmp (without cmp q es) (rises_without es (to cmp es map.rising));
+        some = omega (arith, less, more);
+        room = omega (arith, less, map.room);
+      }
+
+  -- the least key goes only if it is the key, and then the next one takes its place
+  pub first_without : (es : List (K × V)) (k : K) (o : Ordering) → first_key es ≡ Some k → cmp q k ≡ o
+      → is_eq o ≡ false → first_key (without cmp q es) ≡ Some k
+  unfolding without
+  first_without [] k o h was t = absurd (none-some k h)
+  first_without (x ∷ es) k o h was t =
+      elim (cmp q x.0) as (λ p. cmp q x.0 ≡ p
+      → first_key (match_ordering p (x ∷ es) es (x ∷ without cmp q es)) ≡ Some k) [
+        | Less ↦ λ is. h
+        | Equal ↦ λ is. absurd (true≢false (sym (ap is_eq (sym was ∙ ap (cmp q) (sym (same_Some x.0 k h)) ∙ is)) ∙ t))
+        | Greater ↦ λ is. h
+      ] refl
+
+  -- then the next one takes its place
+  pub first_next : (es : List (K × V)) (k : K) (o : Ordering) (e : K × V) → first_key es ≡ Some k → cmp q k ≡ o
+      → is_eq o ≡ true → slice_get es 1 ≡ Some e → first_key (without cmp q es) ≡ Some e.0
+  unfolding without
+  first_next [] k o e h was t next = absurd (none-some k h)
+  first_next (x ∷ []) k o e h was t next = absurd (none-some e next)
+  first_next (x ∷ y ∷ es) k o e h was t next =
+      elim (cmp q x.0) as (λ p. cmp q x.0 ≡ p
+      → first_key (match_ordering p (x ∷ y ∷ es) (y ∷ es) (x ∷ without cmp q (y ∷ es))) ≡ Some e.0) [
+        | Less ↦ λ is. absurd (true≢false (sym t ∙ ap is_eq (sym was ∙ ap (cmp q) (sym (same_Some x.0 k h)) ∙ is)))
+        | Equal ↦ λ is. ap (λ (z : K × V). Some z.0) (same_Some y e next)
+        | Greater ↦ λ is. absurd (true≢false (sym t ∙ ap is_eq (sym was ∙ ap (cmp q) (sym (same_Some x.0 k h)) ∙ is)))
+      ] refl
+
+-- a key without a value
+pub without_absent : {K V : Type 0} (cmp : K → K → Ordering) (q : K) (es : List (K × V)) → lookup cmp q es ≡ None
+    → without cmp q es ≡ es
+unfolding without
+without_absent cmp q [] none = refl
+without_absent cmp q (x ∷ es) none =
+    elim (cmp q x.0) as (λ o. cond (is_eq o) (Some x.1) (lookup cmp q es) ≡ None
+    → match_ordering o (x ∷ es) es (x ∷ without cmp q es) ≡ x ∷ es) [
+      | Less ↦ λ none. refl
+      | Equal ↦ λ none. absurd (none-some x.1 (sym none))
+      | Greater ↦ λ none. ap (λ l. x ∷ l) (without_absent cmp q es none)
+    ] none

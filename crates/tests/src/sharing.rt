@@ -15,6 +15,7 @@ mod lists;
 mod many_threads;
 mod maps;
 mod orders;
+mod random_maps;
 mod roses;
 mod static_threads;
 mod styles;

@@ -25,7 +25,7 @@ macro_rules! three {
     };
 }
 
-mod trees;
+mod lists;
 mod versions;
 
 use std::env;
@@ -682,7 +682,7 @@ fn workloads() -> impl Iterator<Item = &'static Workload> {
     WORKLOADS
         .iter()
         .chain(versions::WORKLOADS)
-        .chain(trees::WORKLOADS)
+        .chain(lists::WORKLOADS)
 }
 
 fn one(implementation: &str, name: &str, n: &str) -> Option<u64> {

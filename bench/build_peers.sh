@@ -1,21 +1,23 @@
 #!/bin/sh
 # build_peers.sh OUT SOURCE
 #
-# Builds the programs that the port is measured beside, OUT/bench, OUT/bench.moved and OUT/script, with rustc alone.
-# SOURCE is the source file of the crate that was ported, its lib.rs under any name; it is compiled where it lies. Only
-# OUT is written to.
+# Builds the programs that the port is measured beside, OUT/bench, OUT/bench.moved, OUT/script and OUT/maps, with rustc
+# alone. SOURCE is the source file of the crate that was ported, its lib.rs under any name; it is compiled where it lies.
+# OUT/maps has the map of im-rc if Debian's librust-im-rc-dev is installed. Only OUT is written to.
 set -eu
 if [ $# -ne 2 ]; then
     echo "usage: build_peers.sh OUT SOURCE" >&2
     exit 2
 fi
 here=$(cd "$(dirname "$0")" && pwd)
-out=$1
+mkdir -p "$1"
+out=$(cd "$1" && pwd)
 source=$2
-mkdir -p "$out"
+shift 2
 
+edition=2021
 compile() {
-    rustc -C opt-level=3 -C codegen-units=1 --edition 2021 --cap-lints allow -L "$out" "$@"
+    rustc -C opt-level=3 -C codegen-units=1 --edition "$edition" --cap-lints allow -L "$out" "$@"
 }
 
 library() {
@@ -37,3 +39,20 @@ program() {
 program bench bench
 program bench bench.moved --cfg moved
 program script script
+
+debian=/usr/share/cargo/registry
+if ls -d "$debian"/im-rc-* >/dev/null 2>&1; then
+    edition=2018
+    OUT_DIR=$out TYPENUM_BUILD_CONSTS=$out/consts.rs TYPENUM_BUILD_OP=$out/op.rs
+    export OUT_DIR TYPENUM_BUILD_CONSTS TYPENUM_BUILD_OP
+    compile -o "$out/typenum_build" "$debian"/typenum-*/build/main.rs
+    "$out/typenum_build" >/dev/null
+    for crate in typenum bitmaps rand_core rand_xoshiro sized-chunks im-rc; do
+        name=$(echo "$crate" | tr - _)
+        library "$name" "$debian/$crate"-*/src/lib.rs --cfg threadsafe "$@"
+        set -- "$@" --extern "$name"
+    done
+    set -- "$@" --cfg im
+    edition=2021
+fi
+program maps maps "$@"

@@ -8,21 +8,24 @@ mod fault;
 mod header;
 mod lists;
 mod made;
+mod maps;
 mod random;
 mod read;
 mod threads;
-mod trees;
 mod union;
 mod versions;
 mod written;
 
 use fault::Fault;
+use maps::Order;
 use std::alloc::Global;
 use std::env;
 use std::env::Env;
+use std::io::Print;
 use std::process::ExitCode;
 use std::sync::Wait;
 use std::thread::Threads;
+use std::time::Clock;
 
 /// The name of a workload, and how often it is repeated.
 fn request(rt: &impl Env, alloc: Global) -> Result<(String, u64), Fault> {
@@ -77,19 +80,22 @@ fn checksum_of_versions(alloc: Global, workload: &str, iterations: u64) -> Resul
         "cow-version" => versions::cow_version(alloc, iterations),
         "cow-set" => versions::cow_set(alloc, iterations),
         "cow-get" => versions::cow_get(alloc, iterations),
-        "tree-insert" => trees::tree_insert(alloc, iterations),
-        "tree-insert-alone" => trees::tree_insert_alone(alloc, iterations),
-        "tree-iterate" => trees::tree_iterate(alloc, iterations),
-        "tree-get" => trees::tree_get(alloc, iterations),
         "list-build" => lists::list_build(alloc, iterations),
         "list-walk" => lists::list_walk(alloc, iterations),
         _ => Err(Fault::Usage),
     }
 }
 
-fn run<R: Env + Threads + Wait + Sync>(rt: &R, alloc: Global) -> Result<u64, Fault> {
+fn run<R: Env + Clock + Print + Threads + Wait + Sync>(
+    rt: &R,
+    alloc: Global,
+) -> Result<u64, Fault> {
     let (workload, iterations) = request(rt, alloc)?;
-    checksum(rt, alloc, &workload, iterations)
+    match workload.as_str() {
+        "map-rising" => maps::measure(rt, alloc, Order::Rising, iterations),
+        "map-mixed" => maps::measure(rt, alloc, Order::Mixed, iterations),
+        _ => checksum(rt, alloc, &workload, iterations),
+    }
 }
 
 fn main(rt: HostRuntime) -> ExitCode {

@@ -38,3 +38,12 @@ impl Random {
         self.pick(bound)
     }
 }
+
+/// Puts the items in another order.
+pub fn shuffle<T: Drop>(items: &mut [T]) {
+    let mut random = Random::new();
+    for i in 1..items.len() {
+        let other = random.below(i + 1);
+        items.swap(i, other);
+    }
+}

@@ -1,6 +1,6 @@
 //! Values that are read through handles.
 use crate::fault::{Fault, made};
-use crate::random::Random;
+use crate::random::shuffle;
 use servo_arc::Arc;
 use std::alloc::Global;
 
@@ -19,14 +19,6 @@ pub fn deref_sum(alloc: Global, iterations: u64) -> Result<u64, Fault> {
         sum = sum.rotate_left(1).wrapping_add(sum_of(&handles));
     }
     Ok(sum)
-}
-
-fn shuffle(handles: &mut [Arc<u64>]) {
-    let mut random = Random::new();
-    for i in 1..handles.len() {
-        let other = random.below(i + 1);
-        handles.swap(i, other);
-    }
 }
 
 fn sum_of(handles: &[Arc<u64>]) -> u64 {

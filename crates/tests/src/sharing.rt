@@ -11,6 +11,7 @@ mod many_threads;
 mod maps;
 mod orders;
 mod page_rows;
+mod random_maps;
 mod roses;
 mod static_threads;
 mod styles;

@@ -1,6 +1,6 @@
 // What maps share, and how deep they are.
 use crate::sharing::lists::SMALL_STACK;
-use crate::sharing::orders::Order;
+use crate::sharing::orders::{ORDERS, Order};
 use crate::support::{again, holds, holds_at, ok, same, same_at};
 use persistent::TreeMap;
 use std::alloc::{AllocError, Global};
@@ -35,6 +35,27 @@ fn versions_read_as_they_were_made(rt: HostRuntime) {
     );
 }
 
+// As std's maps are printed.
+const TEXTS: [(&[(u8, char)], &str); 3] = [
+    (&[], "{} {}"),
+    (&[(2, 'b')], "{2: 'b'} {\n    2: 'b',\n}"),
+    (
+        &[(2, 'b'), (1, 'a'), (2, 'c')],
+        "{1: 'a', 2: 'c'} {\n    1: 'a',\n    2: 'c',\n}",
+    ),
+];
+
+#[test]
+fn maps_have_their_texts(rt: HostRuntime) {
+    let alloc = rt.alloc();
+    for (items, text) in TEXTS {
+        let items = ok!(&rt, items.to_vec(alloc));
+        let map = ok!(&rt, TreeMap::from_items(alloc, items));
+        let found = ok!(&rt, format!(in alloc; "{map:?} {map:#?}"));
+        same!(&rt, found.as_str(), text);
+    }
+}
+
 // A range has the keys from its start on and below its end.
 #[test]
 fn a_range_is_read_from_either_end(rt: HostRuntime) {
@@ -51,8 +72,8 @@ fn a_range_is_read_from_either_end(rt: HostRuntime) {
 
 const MANY: u64 = 1_000_000;
 
-// 2 log2 of one more than the keys.
-const MOST_DEPTH: u8 = 39;
+// Leaves of 32 entries, and branches of 8 children.
+const MOST_DEPTH: u8 = 6;
 
 fn keys_in(alloc: Global, order: Order) -> Result<TreeMap<u64, u64>, AllocError> {
     let mut map = TreeMap::new();
@@ -65,7 +86,7 @@ fn keys_in(alloc: Global, order: Order) -> Result<TreeMap<u64, u64>, AllocError>
 // A drop of each node inside the one before would run out of stack, if they stood in one line.
 #[test]
 fn a_million_keys_end_on_a_small_stack(rt: HostRuntime) {
-    for order in [Order::Rising, Order::Falling, Order::Inward] {
+    for (order, _) in ORDERS {
         let map = ok!(&rt, keys_in(rt.alloc(), order));
         same_at!(&rt, order, map.len() as u64, MANY);
         holds_at!(&rt, order, map.depth() <= MOST_DEPTH);

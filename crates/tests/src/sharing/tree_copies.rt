@@ -1,12 +1,12 @@
 // How many values a change copies, and what it drops. A leaf that a change makes out of a shared one has copies of its
 // values.
-use crate::sharing::orders::Order;
+use crate::sharing::orders::{ORDERS, Order};
 use crate::support::counted::{Counted, Tally};
 use crate::support::{again, ok, same, same_at};
 use persistent::{List, TreeMap};
 use std::alloc::{AllocError, Global};
 
-const KEYS: u64 = 1000;
+const KEYS: u64 = 1_000_000;
 
 type Map<'a> = TreeMap<u64, Counted<'a>>;
 
@@ -28,24 +28,23 @@ fn living(tally: &Tally, made: u64) -> u64 {
         .wrapping_sub(tally.drops())
 }
 
-const ORDERS: [Order; 3] = [Order::Rising, Order::Falling, Order::Inward];
-
 // Every change is in place if the version shares nothing, whatever nodes become two or one.
 #[test]
 fn a_lone_version_copies_nothing(rt: HostRuntime) {
-    for order in ORDERS {
+    for (coming, going) in ORDERS {
         let tally = Tally::new();
-        let mut map = ok!(&rt, evens(rt.alloc(), &tally, order));
+        let mut map = ok!(&rt, evens(rt.alloc(), &tally, coming));
         let before = tally.drops();
         ok!(&rt, map.insert(rt.alloc(), 0, Counted::new(&tally, 9)));
         let replaced = tally.drops();
-        for key in 0..KEYS {
-            drop(ok!(&rt, map.remove(rt.alloc(), &(2 * key))));
+        for place in 0..KEYS {
+            let key = 2 * going.key(place, KEYS);
+            drop(ok!(&rt, map.remove(rt.alloc(), &key)));
         }
         let drops = [before, replaced, tally.drops()];
         same_at!(
             &rt,
-            order,
+            (coming, going),
             (drops, tally.copies(), map.len()),
             ([0, 1, KEYS + 1], 0, 0),
         );
@@ -58,10 +57,10 @@ const LEAF: u64 = 64;
 // The only values of a path are those of its leaf.
 #[test]
 fn an_insert_copies_its_path_alone(rt: HostRuntime) {
-    for order in ORDERS {
+    for (order, _) in ORDERS {
         let tally = Tally::new();
         let map = ok!(&rt, evens(rt.alloc(), &tally, order));
-        for key in 0..2 * KEYS {
+        for key in (0..2 * KEYS).step_by(999) {
             let (copies, before) = (tally.copies(), living(&tally, 0));
             let mut version = again!(&rt, &map);
             ok!(

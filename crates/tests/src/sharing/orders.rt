@@ -1,4 +1,4 @@
-// The orders in which a map gets its keys. In each of them a plain tree is a list.
+//! The orders in which a map gets its keys. In each of them a plain tree is a list.
 ghost use Rattle.std.specs.Prelude.{◌<◌};
 
 #[derive(Clone, Copy, Debug, PartialEq)]

@@ -1,4 +1,4 @@
-// A try to make one more handle of a block.
+//! A try to make one more handle of a block.
 ghost use Rattle.std.specs.Prelude.{◌≡◌, ◌⊎◌, IfOk, IfErr, false};
 ghost use Rattle.std.specs.Iterator.{IsFinite};
 ghost use Rattle.handles.specs.Founds.{LostRaise};

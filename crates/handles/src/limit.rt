@@ -1,4 +1,4 @@
-// How many handles a block may have.
+//! How many handles a block may have.
 ghost use Rattle.std.specs.Prelude.{◌≡◌};
 ghost use Rattle.counting_word.specs.CountingWord.{greatest_count, IsLimit};
 

@@ -1,4 +1,4 @@
-// What an interner does with values of an own type and with text.
+//! What an interner does with values of an own type and with text.
 mod names;
 
 use crate::{InternError, Interner};

@@ -1,4 +1,4 @@
-// What a handle has by its value: equality, order, hash and texts.
+//! What a handle has by its value: equality, order, hash and texts.
 use super::Arc;
 use std::cmp::Ordering;
 use std::fmt;

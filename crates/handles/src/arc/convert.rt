@@ -1,4 +1,4 @@
-// From a value to a handle, in place of `Default` and `From`, which take no allocator; and back.
+//! From a value to a handle, in place of `Default` and `From`, which take no allocator; and back.
 ghost use Rattle.std.specs.Prelude.{◌≡◌, IfOk, IfErr, IfSome, IsOk};
 ghost use Rattle.handles.specs.Copies.{SameOrCopy};
 

@@ -1,4 +1,4 @@
-// Writing through a handle that others may share.
+//! Writing through a handle that others may share.
 ghost use Rattle.std.specs.Prelude.{◌≡◌, ◌⊎◌, IfSome, IfOk};
 ghost use types.Logic.{sem};
 

@@ -1,4 +1,4 @@
-// What a handle of one of two types has by its kind and its value: equality, order, hash and texts.
+//! What a handle of one of two types has by its kind and its value: equality, order, hash and texts.
 ghost use Rattle.handles.specs.Unions.{union_eq, union_partial_cmp, union_cmp, union_hash_input};
 ghost use Rattle.handles.specs.UnionLaws.{union_eq_per, union_eq_equiv, union_po, union_agrees, union_total};
 ghost use Rattle.handles.specs.UnionLaws.{union_ties, union_respects_eq};

@@ -1,4 +1,4 @@
-// A counted handle of a block.
+//! A counted handle of a block.
 ghost use Rattle.std.specs.Prelude.{◌≡◌, ◌<◌, ◌+◌, ℕ, List, [], Bool, true, false, IfOk, IfErr};
 ghost use types.Logic.{sem};
 ghost use Rattle.counting_word.specs.CountingWord.{is_one_handle, is_marked_word, IsWithin};

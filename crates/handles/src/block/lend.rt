@@ -1,4 +1,4 @@
-// Writing through the only handle of a block.
+//! Writing through the only handle of a block.
 ghost use Rattle.std.specs.Prelude.{◌≡◌, IfOk, IfErr, OnOk, OnErr, true, false};
 ghost use types.Logic.{sem};
 ghost use Rattle.handles.specs.Inside.BlockWriteBack.{LendsIfAlone};

@@ -1,4 +1,4 @@
-// A block that is marked for good, and what may be had of it again and again.
+//! A block that is marked for good, and what may be had of it again and again.
 ghost use Rattle.std.specs.Prelude.{◌≡◌, IfOk, IfErr, true, false};
 ghost use base.Fml.{ffalse};
 ghost use Rattle.counting_word.specs.CountingWord.{is_marked_word, marked_word};

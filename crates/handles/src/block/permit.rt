@@ -1,4 +1,4 @@
-// What a step on the word of a block leaves its caller with.
+//! What a step on the word of a block leaves its caller with.
 ghost use Rattle.std.specs.Prelude.{◌≡◌, ℕ, List, false};
 ghost use Rattle.counting_word.specs.WordSteps.{lowers};
 ghost use Rattle.counting_word.specs.Logs.{Entry, made};

@@ -1,4 +1,4 @@
-// A box as its pointer.
+//! A box as its pointer.
 ghost use Rattle.std.specs.Prelude.{◌≡◌};
 ghost use Rattle.std.specs.contracts.impls.GlobalAllocator.TheImpl.{ghosts};
 ghost use Rattle.std_alloc.specs.Box.Ownership.{box_owns};

@@ -1,5 +1,5 @@
-// Whether two handles have one block. The language does not compare addresses of two blocks, so this observes: what is
-// added to the stamp through one handle can be read through the other if they have one block.
+//! Whether two handles have one block. The language does not compare addresses of two blocks, so this observes: what is
+//! added to the stamp through one handle can be read through the other if they have one block.
 //
 // If the stamp stays the same, there are two blocks. If it moves by exactly what was added, that is a sign of one
 // block. The answer is exact unless another thread compares one of the blocks at the same time: what that thread adds

@@ -1,4 +1,4 @@
-// What a borrowed handle has by its value: equality, order and hash.
+//! What a borrowed handle has by its value: equality, order and hash.
 use super::ArcBorrow;
 use std::cmp::Ordering;
 use std::hash::{Hash, Hasher};

@@ -1,4 +1,4 @@
-// How a header slice takes its items from an iterator.
+//! How a header slice takes its items from an iterator.
 ghost use Rattle.std.specs.Prelude.{◌≡◌, [], IfOk, IfErr};
 ghost use Rattle.handles.specs.HeaderSlice.Builders.{IsBuiltUpTo, TakesUpTo, RefusesUpTo};
 ghost use Rattle.handles.specs.declared.header_slice.build.BuildError.TheVariants.{Memory};

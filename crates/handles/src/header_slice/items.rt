@@ -1,4 +1,4 @@
-// Items in one block whose room is known before the first of them comes.
+//! Items in one block whose room is known before the first of them comes.
 ghost use Rattle.std.specs.Prelude.{◌≡◌, ◌<◌, [], ◌∷◌, ◌++◌, length, IfOk};
 ghost use Rattle.std.specs.Borrow.{sem};
 

@@ -1,4 +1,4 @@
-// Makers that take a slice or a vector.
+//! Makers that take a slice or a vector.
 ghost use Rattle.std.specs.Prelude.{◌≡◌, IfOk};
 
 use super::HeaderSlice;

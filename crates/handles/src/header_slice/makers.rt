@@ -1,4 +1,4 @@
-// The public builders, and writing to what they built before it is shared.
+//! The public builders, and writing to what they built before it is shared.
 ghost use Rattle.std.specs.Prelude.{◌≡◌, IfOk, IfErr};
 ghost use Rattle.std.specs.Iterator.{size};
 ghost use Rattle.std.specs.Borrow.{sem};

@@ -1,4 +1,4 @@
-// The order and the hash of header slices: the header first, then the items, as a derive does of two fields.
+//! The order and the hash of header slices: the header first, then the items, as a derive does of two fields.
 ghost use Rattle.handles.specs.HeaderSlice.Order.{slice_order, slice_partial_order, slice_hash_input};
 ghost use Rattle.handles.specs.HeaderSlice.Order.{slices_po, slices_total, slices_agree, slices_tie, slices_hash_alike};
 

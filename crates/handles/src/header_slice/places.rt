@@ -1,4 +1,4 @@
-// One raw block of places for items, and each step that is made on it through its pointer.
+//! One raw block of places for items, and each step that is made on it through its pointer.
 ghost use Rattle.std.specs.Prelude.{◌≡◌, ◌≢◌, ◌*◌, ◌<◌, ◌≤◌, ◌+◌, ◌↔◌, List, [], ◌∷◌, ◌++◌, length, IfOk, IsTrue};
 ghost use Rattle.std.specs.Borrow.{sem};
 ghost use Rattle.std.specs.Mem.{type_size};

@@ -1,4 +1,4 @@
-// How a header slice takes items that may be errors.
+//! How a header slice takes items that may be errors.
 ghost use Rattle.std.specs.Prelude.{◌≡◌, [], IfOk, IfErr};
 ghost use Rattle.std.specs.Iterator.{size};
 ghost use Rattle.handles.specs.HeaderSlice.TryBuilders.{IsBuiltGood, IsBuiltGoodUpTo, TakesGoodUpTo, TakesAllGood};

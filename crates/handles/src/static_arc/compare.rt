@@ -1,4 +1,4 @@
-// What a handle has by its value: equality, order, hash and texts.
+//! What a handle has by its value: equality, order, hash and texts.
 use super::StaticArc;
 use std::cmp::Ordering;
 use std::fmt;

@@ -1,4 +1,4 @@
-// What a handle has by its value: equality and texts.
+//! What a handle has by its value: equality and texts.
 use super::UniqueArc;
 use std::fmt;
 use std::fmt::{Debug, Display, Formatter, Write};

@@ -1,4 +1,4 @@
-// Equal values in different blocks are told apart, and handles of one block are not, at each length and place.
+//! Equal values in different blocks are told apart, and handles of one block are not, at each length and place.
 use crate::support::made::arc_of;
 use crate::support::{again, ok, same, same_at};
 use cow_table::CowTable;

@@ -1,4 +1,4 @@
-// What a call on versions of a list or a map drops. What they then are is said by the clauses.
+//! What a call on versions of a list or a map drops. What they then are is said by the clauses.
 use crate::refusals::reporting::report;
 use crate::support::counted::{Counted, Tally};
 use crate::support::{again, holds, same};

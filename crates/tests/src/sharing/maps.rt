@@ -1,4 +1,4 @@
-// What maps share, and how deep they are.
+//! What maps share, and how deep they are.
 use crate::sharing::lists::SMALL_STACK;
 use crate::sharing::orders::{ORDERS, Order};
 use crate::support::{again, holds, holds_at, ok, same, same_at};

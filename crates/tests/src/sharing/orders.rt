@@ -1,4 +1,4 @@
-// The orders in which a map gets its keys, or loses them.
+//! The orders in which a map gets its keys, or loses them.
 ghost use Rattle.std.specs.Prelude.{◌<◌};
 
 #[derive(Clone, Copy, Debug, PartialEq)]

@@ -1,4 +1,4 @@
-// Random changes of maps, beside the same changes of sorted lists. Versions are kept, and changed later on.
+//! Random changes of maps, beside the same changes of sorted lists. Versions are kept, and changed later on.
 use crate::support::{again, holds_at, ok, same_at};
 use persistent::TreeMap;
 use std::alloc::{AllocError, Global};

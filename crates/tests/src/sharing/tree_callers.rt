@@ -1,4 +1,4 @@
-// The callers in `uses` succeed if memory is ample. What they then read is said by their clauses.
+//! The callers in `uses` succeed if memory is ample. What they then read is said by their clauses.
 use crate::support::{ok, same};
 use persistent::TreeMap;
 use servo_arc::Arc;

@@ -1,4 +1,4 @@
-// What a change of one value copies, and what lists are by their items.
+//! What a change of one value copies, and what lists are by their items.
 use crate::support::counted::{Counted, Tally};
 use crate::support::{again, holds, ok, same};
 use persistent::{List, TreeMap};

@@ -1,5 +1,5 @@
-// How many values a change copies, and what it drops. A leaf that a change makes out of a shared one has copies of its
-// values.
+//! How many values a change copies, and what it drops. A leaf that a change makes out of a shared one has copies of its
+//! values.
 use crate::sharing::orders::{ORDERS, Order};
 use crate::support::counted::{Counted, Tally};
 use crate::support::{again, ok, same, same_at};

@@ -1,4 +1,4 @@
-// Versions on several threads, each of which is joined.
+//! Versions on several threads, each of which is joined.
 use crate::sharing::waiting::arrive;
 use crate::support::counted::{Counted, Tally};
 use crate::support::{again, ok, same};

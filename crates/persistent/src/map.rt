@@ -161,7 +161,8 @@ impl<K: Ord + Clone, V: Clone> TreeMap<K, V> {
     ///
     /// It writes in place, but copies each node on the way to the key that other versions have. A full node on the way
     /// becomes two before, by moves. It is refused if there is no memory, if the `clone` of a key, a value or a handle
-    /// is, and for any key at `usize::MAX` entries. The map then reads as it did, and the key and the value are dropped.
+    /// is, and for any key at `usize::MAX` entries. The map then reads as it did, and the key and the value are
+    /// dropped.
     pub fn insert(&mut self, alloc: Global, key: K, value: V) -> Result<(), AllocError>
         requires copies_of_keys { CopiesAreEqual K.is_clone }
         requires copies_of_values { CopiesAreEqual V.is_clone }
@@ -191,8 +192,8 @@ impl<K: Ord + Clone, V: Clone> TreeMap<K, V> {
     /// Takes the entry of the key out, and gives its value, if there is one.
     ///
     /// It writes in place and copies as `insert` does. A node on the way with few items is joined with the one beside
-    /// it before, by moves. It is refused if there is no memory, or if the `clone` of a key, a value or a handle is. The
-    /// map then reads as it did. If there is no value, nothing is copied or refused.
+    /// it before, by moves. It is refused if there is no memory, or if the `clone` of a key, a value or a handle is.
+    /// The map then reads as it did. If there is no value, nothing is copied or refused.
     pub fn remove(&mut self, alloc: Global, key: &K) -> Result<Option<V>, AllocError>
         requires copies_of_keys { CopiesAreEqual K.is_clone }
         requires copies_of_values { CopiesAreEqual V.is_clone }

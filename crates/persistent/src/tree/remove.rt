@@ -3,7 +3,8 @@ ghost use Rattle.std.specs.Prelude.{◌≡◌, ◌+◌, ◌*◌, ◌^◌, ◌<�
 ghost use Rattle.std.specs.Prelude.{is_some, length};
 ghost use Rattle.servo_arc.specs.Copies.{CopiesAreEqual};
 ghost use Rattle.persistent.specs.Maps.{lookup, without};
-ghost use Rattle.persistent.specs.Nodes.{AreChildren, CanLose, IsChild, IsMap, IsUnder, StandFor, entries_in, height_in};
+ghost use Rattle.persistent.specs.Nodes.{AreChildren, CanLose, IsChild, IsMap, IsUnder, StandFor};
+ghost use Rattle.persistent.specs.Nodes.{entries_in, height_in};
 
 use crate::tree::copies::{BRANCH, LEAF};
 use crate::tree::join::join;

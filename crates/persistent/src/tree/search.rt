@@ -1,11 +1,22 @@
 //! Where a key or a number stands.
-ghost use Rattle.std.specs.Prelude.{◌≡◌, ◌+◌, ◌<◌, ◌≤◌, MatchResult, length, take, drop, slice_get, Some};
+ghost use Rattle.std.specs.Prelude.{◌≡◌, ◌+◌, ◌*◌, ◌^◌, ◌<◌, ◌≤◌, if◌then◌else◌, MatchResult, length, take, drop};
+ghost use Rattle.std.specs.Prelude.{slice_get, Some};
 ghost use Rattle.std.specs.Option.{option_copied};
 ghost use Rattle.persistent.specs.Maps.{IsRising, lookup, rank};
 ghost use Rattle.persistent.specs.Nodes.{AreChildren, IsMap, IsUnder, entries_in};
 ghost use Rattle.persistent.specs.Places.{IsBetween, IsFound, IsMissing, IsPart};
 
 use crate::tree::{Child, Node, Tree};
+
+// The place that is half a part further, or the same. As an `if` it is a jump, which a processor guesses wrong half of
+// the times.
+#[inline(always)]
+fn further(at: usize, half: usize, goes_on: bool) -> usize
+    requires { at + 2 * half < 2 ^ 64 }
+    ensures { result ≡ (if goes_on then at + half else at) }
+{
+    at + half * (1 + usize::from(goes_on)) - half
+}
 
 // The number of the key's entry; `Err` has that which it would have.
 pub(crate) fn entry_of<K: Ord, V>(entries: &[(K, V)], key: &K) -> Result<usize, usize>
@@ -17,9 +28,8 @@ pub(crate) fn entry_of<K: Ord, V>(entries: &[(K, V)], key: &K) -> Result<usize, 
     while size > 1 {
         let half = size / 2;
         size -= half;
-        if !key.cmp(&entries[at + half].0).is_lt() {
-            at += half;
-        }
+        let order = key.cmp(&entries[at + half].0);
+        at = further(at, half, !order.is_lt());
     }
     let order = key.cmp(&entries[at].0);
     if order.is_eq() {
@@ -41,9 +51,8 @@ pub(crate) fn child_of<K: Ord, V>(children: &[Child<K, V>], key: &K) -> usize
     while size > 1 {
         let half = size / 2;
         size -= half;
-        if !key.cmp(&children[at + half].key).is_lt() {
-            at += half;
-        }
+        let order = key.cmp(&children[at + half].key);
+        at = further(at, half, !order.is_lt());
     }
     at
 }

@@ -1,37 +1,48 @@
-use Rattle.std.proofs.Common.{◌≡◌, ◌+◌, ◌-◌, ◌/◌, ◌<◌, ℕ, length, drop, sym, subst, arith}
+use Rattle.std.proofs.Common.{◌≡◌, ◌+◌, ◌-◌, ◌/◌, ◌<◌, ◌≤◌, ◌∙◌, ℕ, length, drop, take, refl, sym, subst, arith}
+use Rattle.std.specs.Prelude.{Bool, true, false, not, if◌then◌else◌, List}
+use Rattle.std.specs.declared.cmp.Ordering.{Ordering}
 use Rattle.persistent.specs.Nodes.{entries_in}
-use Rattle.persistent.specs.Places.{AreAbove}
+use Rattle.persistent.specs.Places.{AreAbove, AreBelow}
+use Rattle.persistent.specs.declared.tree.Child.{Child}
 use Rattle.persistent.proofs.Children.{below_child, above_child, children_later}
 use Rattle.persistent.proofs.tree.search.child_of.Goals as goal
 
-pub loop-size-preserved-then-not-is_lt : goal.loop-size-preserved-then-not-is_lt
-loop-size-preserved-then-not-is_lt g c =
-    let cmp = g.K.Ord.cmp in
-    let cs = c.args.children.now in
-    let key = c.args.key.now in
-    let i = c.loop-size.at + c.loop-size.size / 2 in
-    let within : i < length cs = omega (arith, c.loop-size.invariant.within) in
-    let same : c.loop-size.at + c.loop-size.size ≡ i + (c.loop-size.size - c.loop-size.size / 2) = omega arith in
-    record {
-      within = omega (arith, c.loop-size.invariant.within);
-      some = omega arith;
-      below = below_child cmp g.met.K.Ord.total key cs i _ c.cmp.result within c.requires.map.rising
-          (c.requires.each i _ within).first (sym c.cmp.ensures) (cc);
-      above = subst (λ (n : ℕ). AreAbove cmp key (entries_in (drop n cs))) same c.loop-size.invariant.above;
-    }
+-- the children that are left to be searched
+abbrev Narrowed : {K V : Type 0} → (K → K → Ordering) → K → List (Child K V) → ℕ → ℕ → Type 0
+Narrowed cmp key cs at size = record {
+  within : at + size ≤ length cs;
+  some : 0 < size;
+  below : AreBelow cmp key (entries_in (take at cs));
+  above : AreAbove cmp key (entries_in (drop (at + size) cs));
+}
 
 pub loop-size-preserved : goal.loop-size-preserved
 loop-size-preserved g c =
     let cmp = g.K.Ord.cmp in
     let cs = c.args.children.now in
     let key = c.args.key.now in
-    let i = c.loop-size.at + c.loop-size.size / 2 in
+    let at = c.loop-size.at in
+    let i = at + c.loop-size.size / 2 in
+    let rest = c.loop-size.size - c.loop-size.size / 2 in
     let within : i < length cs = omega (arith, c.loop-size.invariant.within) in
-    record {
-      within = omega (arith, c.loop-size.invariant.within);
-      some = omega arith;
-      below = c.loop-size.invariant.below;
-      above = children_later cmp g.met.K.Ord.total key cs i _ (omega arith)
-          (above_child cmp g.met.K.Ord.total key cs i _ c.cmp.result within c.requires.map.rising
-          (c.requires.each i _ within).first (sym c.cmp.ensures) (cc));
-    }
+    let some : 0 < rest = omega arith in
+    let order = sym c.cmp-order.ensures in
+    let goes = c.is_lt.ensures in
+    let total = g.met.K.Ord.total in
+    let first = (c.requires.each i _ within).first in
+    elim c.is_lt.result as (λ (lower : Bool). c.is_lt.result ≡ lower → (next : ℕ)
+    → next ≡ (if not lower then i else at) → Narrowed cmp key cs next rest) [
+      | true ↦ λ is next stays. subst (λ (k : ℕ). Narrowed cmp key cs k rest) (sym stays) (record {
+        within = omega (arith, c.loop-size.invariant.within);
+        some = some;
+        below = c.loop-size.invariant.below;
+        above = children_later cmp total key cs i _ (omega arith)
+            (above_child cmp total key cs i _ c.cmp-order.result within c.requires.map.rising first order (sym goes ∙ is));
+      })
+      | false ↦ λ is next goes_on. subst (λ (k : ℕ). Narrowed cmp key cs k rest) (sym goes_on) (record {
+        within = omega (arith, c.loop-size.invariant.within);
+        some = some;
+        below = below_child cmp total key cs i _ c.cmp-order.result within c.requires.map.rising first order (sym goes ∙ is);
+        above = subst (λ (n : ℕ). AreAbove cmp key (entries_in (drop n cs))) (omega arith) c.loop-size.invariant.above;
+      })
+    ] refl c.further-at.result c.further-at.ensures

@@ -1,5 +1,5 @@
-//! Tests of what is shared: by threads that clone, drop, mark and write one block or one count, and by versions of lists,
-//! maps and trees, as callers in `uses` make them.
+//! Tests of what is shared: by threads that clone, drop, mark and write one block or one count, and by versions of
+//! lists, maps and trees, as callers in `uses` make them.
 
 mod alone_again;
 mod calling;

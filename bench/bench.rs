@@ -3,7 +3,7 @@
 //!     bench IMPLEMENTATION WORKLOAD ITERATIONS     prints a checksum
 //!     bench list                                   prints WORKLOAD UNITS ITERATIONS IMPLEMENTATIONS, a line each
 //!
-//! An implementation is `servo` (the crate that was ported), `std` (the standard library's `Arc`) or `word`: a pointer
+//! An implementation is `servo` (the crate that was ported), `std` (the standard library's `Arc`) or `twin`: a pointer
 //! of this file's own that makes the port's four steps, each `SeqCst`, in Rust, to tell what they cost by themselves.
 //! Versions of a list are also in `plain`, a `Vec` that each version copies.
 
@@ -13,15 +13,15 @@ std::arch::global_asm!(".section .text.skip, \"axR\"", ".skip 16");
 
 /// What each of the three pointers runs.
 macro_rules! peers {
-    ($servo:expr, $std:expr, $word:expr) => {
-        &[("servo", $servo as Run), ("std", $std), ("word", $word)]
+    ($servo:expr, $std:expr, $twin:expr) => {
+        &[("servo", $servo as Run), ("std", $std), ("twin", $twin)]
     };
 }
 
 /// The same function of each of their modules.
 macro_rules! three {
     ($f:ident) => {
-        peers!(servo::$f, standard::$f, word_arc::$f)
+        peers!(servo::$f, standard::$f, twin_arc::$f)
     };
 }
 
@@ -53,7 +53,7 @@ const RING: usize = 64; // handles kept by replace
 /// A counted pointer by the port's rules: one word, bit 63 the mark, a clone by a load and a compare-exchange that is
 /// tried again, a drop by a load and a subtraction. Its block has the port's other two words too: the stamp, by which
 /// it compares two handles as the port does, and the limit.
-mod word {
+mod twin {
     use std::ops::Deref;
     use std::sync::atomic::{AtomicU64, Ordering::SeqCst};
 
@@ -439,7 +439,7 @@ macro_rules! shared_workloads {
 
 shared_workloads!(servo, servo_arc::Arc);
 shared_workloads!(standard, std::sync::Arc);
-shared_workloads!(word_arc, word::Arc);
+shared_workloads!(twin_arc, twin::Arc);
 
 /// The header slices: the three pointers build them in different ways.
 macro_rules! header_workloads {
@@ -510,8 +510,8 @@ header_workloads!(
 );
 header_workloads!(
     word_header,
-    word::Arc<word::HeaderSlice<u64>>,
-    |header, items| word::HeaderSlice::make(header, items),
+    twin::Arc<twin::HeaderSlice<u64>>,
+    |header, items| twin::HeaderSlice::make(header, items),
     |a| a.header,
     |b| b.slice()
 );
@@ -568,10 +568,10 @@ fn marked_servo(threads: usize, n: u64) -> u64 {
     servo::on_marked(servo_arc::Arc::new_leaked(7), threads, n)
 }
 
-fn marked_word(threads: usize, n: u64) -> u64 {
-    let a = word::Arc::new(7);
+fn marked_twin(threads: usize, n: u64) -> u64 {
+    let a = twin::Arc::new(7);
     a.mark_as_intentionally_leaked();
-    word_arc::on_marked(a, threads, n)
+    twin_arc::on_marked(a, threads, n)
 }
 
 type Run = fn(u64) -> u64;
@@ -602,7 +602,7 @@ macro_rules! contended {
         peers!(
             |n| servo::contend($t, n),
             |n| standard::contend($t, n),
-            |n| word_arc::contend($t, n)
+            |n| twin_arc::contend($t, n)
         )
     };
 }
@@ -611,7 +611,7 @@ macro_rules! marked {
     ($t:literal) => {
         &[
             ("servo", (|n| marked_servo($t, n)) as Run),
-            ("word", |n| marked_word($t, n)),
+            ("twin", |n| marked_twin($t, n)),
         ]
     };
 }
@@ -672,7 +672,7 @@ const WORKLOADS: &[Workload] = &[
         peers!(
             only_servo::union_clone,
             standard::union_clone,
-            word_arc::union_clone
+            twin_arc::union_clone
         ),
     ),
 ];

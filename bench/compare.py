@@ -2,7 +2,7 @@
 """Compares a program's workloads with those of each pointer that has them.
 
 `BENCH POINTER WORKLOAD N` and `PROGRAM WORKLOAD N` are run in turn: the ported crate `servo` twice, first as the
-control, which shows what noise alone gives; the program, `word` and `std`. Each run follows one of no iterations, which
+control, which shows what noise alone gives; the program, `twin` and `std`. Each run follows one of no iterations, which
 is taken off, so that the preparation is not measured. N is chosen so that the slower of `servo` and the program takes
 about --seconds, and twice as long as its preparation. All have to print one checksum. What has one thread is held to
 one processor. A short loop that crosses a line of 32 bytes may take twice as long, so a program that was linked at a
@@ -34,7 +34,7 @@ import time
 
 from measure import Run, instructions, interval, least, median, middle_half, ratio, timed
 
-PEERS = ["servo", "std", "word"]
+PEERS = ["servo", "std", "twin"]
 PROCESSORS = os.sched_getaffinity(0)
 UNTOLD = ("at the goal", "busy")
 VERDICTS = ("met",) + UNTOLD + ("missed",)
@@ -55,7 +55,7 @@ def arguments():
                         metavar=("KIND", "SIZE", "FILE", "PEER", "PROGRAM"), help="also a script, run by these two")
     parser.add_argument("--scripts-only", action="store_true", help="no workloads")
     parser.add_argument("--goals", help="lines WORKLOAD and GOAL with a tab between them: a ratio to `servo`, as 1.05,"
-                        " to `word`, as 1.05 word, or 1.50 ns")
+                        " to `twin`, as 1.05 twin, or 1.50 ns")
     parser.add_argument("--repeats", type=int, default=15, help="the rounds of a workload that are enough to tell")
     parser.add_argument("--most", type=int, default=61, help="the most rounds, if fewer do not tell")
     parser.add_argument("--most-seconds", type=float, default=60, help="after which no round follows the first nine")
@@ -74,7 +74,7 @@ def read_goals(path):
             for line in file:
                 name, goal = line.rstrip("\n").split("\t")
                 most, _, of = goal.partition(" ")
-                of = {"": "ratio", "ns": "program_ns", "word": "word_ratio"}[of]
+                of = {"": "ratio", "ns": "program_ns", "twin": "twin_ratio"}[of]
                 found.setdefault(name, []).append((of, float(most), goal))
     return found
 
@@ -236,8 +236,8 @@ def measured(workload, goals, asked):
         rounds.append(one_round(workload, len(rounds) % 2))
 
 
-HEAD = (f"{'workload':<16} {'program':>9} {'servo':>9} {'std':>9} {'word':>9} {'/servo':>7} {'middle half':>13}"
-        f" {'/std':>6} {'/word':>6} {'least':>6} {'control':>21} {'goal':>9} {'judged':>15} {'rounds':>6} verdict")
+HEAD = (f"{'workload':<16} {'program':>9} {'servo':>9} {'std':>9} {'twin':>9} {'/servo':>7} {'middle half':>13}"
+        f" {'/std':>6} {'/twin':>6} {'least':>6} {'control':>21} {'goal':>9} {'judged':>15} {'rounds':>6} verdict")
 
 
 def shown(name, figures):

@@ -87,7 +87,7 @@ macro_rules! lists {
 
 lists!(servo, servo_arc::Arc);
 lists!(standard, std::sync::Arc);
-lists!(word_arc, crate::word::Arc);
+lists!(twin_arc, crate::twin::Arc);
 
 pub const WORKLOADS: &[Workload] = &[
     workload("list-build", ITEMS, 3, three!(list_build)),

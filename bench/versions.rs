@@ -61,7 +61,7 @@ macro_rules! paged {
 
 paged!(servo, servo_arc::Arc);
 paged!(standard, std::sync::Arc);
-paged!(word_arc, crate::word::Arc);
+paged!(twin_arc, crate::twin::Arc);
 
 fn numbers<L: List>() -> L {
     L::of((0..ITEMS as u64).collect())
@@ -109,7 +109,7 @@ macro_rules! four {
         &[
             ("servo", $f::<servo::Paged> as Run),
             ("std", $f::<standard::Paged>),
-            ("word", $f::<word_arc::Paged>),
+            ("twin", $f::<twin_arc::Paged>),
             ("plain", $f::<Vec<u64>>),
         ]
     };

@@ -5,7 +5,7 @@
 - a block of Rust names a file, as ```rust crates/first_example/src/main.rt, in which it stands as it is. One that names
   none is of docs/DECISIONS.md, and the checker refuses it: gate/elsewhere.sh;
 - what a command prints on an example, as after `# prints:`, is what the example's expected lines say;
-- docs/SPEED.md and docs/speed.svg show the figures of bench/measured.tsv.
+- docs/SPEED.md and docs/speed.svg show the figures of bench/measured.tsv and bench/maps.tsv.
 """
 import csv
 import re
@@ -59,22 +59,40 @@ def wrong_in(document):
             yield f"the example {name} prints {', '.join(expected)}"
 
 
-def is_shown(row, ratio, word, goal, verdict):
-    """Whether a line of docs/SPEED.md has the figures of a workload, rounded, and its verdict."""
-    def rounded(figure):
-        return {f"{float(figure) + off:.2f}" for off in (-0.0005, 0.0005)} if figure else {"-"}
+def nanoseconds(figure):
+    """As docs/SPEED.md shows it: with one digit behind the point, and with two below 1."""
+    if not figure:
+        return "-"
+    digits = 0 if float(figure) >= 100 else 1 if float(figure) >= 1 else 2
+    return f"{float(figure):.{digits}f}"
 
-    told = verdict if verdict in ("met", "missed") else "at the goal"
-    is_near = ratio in rounded(row["ratio"]) and word in rounded(row["word_ratio"])
-    return is_near and (goal, told) == (row["goal"], row["verdict"])
+
+def speed_line(row):
+    """The line of docs/SPEED.md for a workload."""
+    figures = [nanoseconds(row[peer + "_ns"]) for peer in ("program", "servo", "std", "twin")]
+    return f"{row['workload']:<16}" + "".join(f"{figure:>9}" for figure in [*figures, f"{float(row['ratio']):.2f}"])
+
+
+def map_line(rows):
+    """The line for a call of a map in one order: the figures of each number of keys."""
+    cells = [(nanoseconds(row["program"]), row["/std"], row["/im"]) for row in rows]
+    return f"{rows[0]['order']:<7}{rows[0]['call']:<8}" + "  ".join("".join(f"{part:>6}" for part in cell) for cell in cells)
+
+
+def table(name):
+    with open(ROOT / "bench" / name, encoding="utf-8", newline="") as file:
+        return list(csv.DictReader(file, delimiter="\t"))
 
 
 def wrong_speed():
-    with open(ROOT / "bench" / "measured.tsv", encoding="utf-8", newline="") as file:
-        rows = {row["workload"]: row for row in csv.DictReader(file, delimiter="\t")}
-    lines = [re.split(r"[ |]{2,}", line.strip("| ")) for line in (ROOT / "docs" / "SPEED.md").read_text().splitlines()]
-    shown = {line[0]: line[1:] for line in lines if line[0] in rows and len(line) == 5}
-    yield from (name for name, row in rows.items() if name not in shown or not is_shown(row, *shown[name]))
+    """The lines that docs/SPEED.md lacks, and its figure if that is another."""
+    wanted = [speed_line(row) for row in table("measured.tsv") if not row["workload"].startswith("script")]
+    calls = {}
+    for row in table("maps.tsv"):
+        calls.setdefault((row["order"], row["call"]), []).append(row)
+    wanted += map(map_line, calls.values())
+    shown = (ROOT / "docs" / "SPEED.md").read_text().splitlines()
+    yield from (line for line in wanted if line not in shown)
     plot = ["bench/plot.py", "bench/measured.tsv", "--goals", "bench/goals.tsv"]
     drawn = subprocess.run(plot, cwd=ROOT, capture_output=True, text=True, check=True).stdout
     if drawn != (ROOT / "docs" / "speed.svg").read_text():

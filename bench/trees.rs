@@ -48,15 +48,18 @@ impl Clone for Node {
     }
 }
 
+/// As an `if` this is a jump.
+fn further(at: usize, half: usize, goes_on: bool) -> usize {
+    at + half * (1 + usize::from(goes_on)) - half
+}
+
 fn entry_of(entries: &[(u64, u64)], key: u64) -> Result<usize, usize> {
     let mut at = 0;
     let mut size = entries.len();
     while size > 1 {
         let half = size / 2;
         size -= half;
-        if !key.cmp(&entries[at + half].0).is_lt() {
-            at += half;
-        }
+        at = further(at, half, key >= entries[at + half].0);
     }
     match key.cmp(&entries[at].0) {
         Ordering::Less => Err(at),
@@ -71,40 +74,45 @@ fn child_of(children: &[Child], key: u64) -> usize {
     while size > 1 {
         let half = size / 2;
         size -= half;
-        if !key.cmp(&children[at + half].key).is_lt() {
-            at += half;
-        }
+        at = further(at, half, key >= children[at + half].key);
     }
     at
 }
 
-fn leaf(entries: &[(u64, u64)]) -> Child {
-    let root = Arc::new(Node::Leaf(copies(entries, LEAF)));
-    Child {
-        key: entries[0].0,
-        len: entries.len(),
-        tree: Tree { root },
-    }
-}
-
-fn branch(children: &[Child]) -> Child {
-    let root = Arc::new(Node::Branch(copies(children, BRANCH)));
-    let len = children.iter().map(|child| child.len).sum();
-    Child {
-        key: children[0].key,
-        len,
-        tree: Tree { root },
-    }
-}
-
 impl Tree {
-    /// The two parts, if the first node is full.
+    fn of(node: Node) -> Tree {
+        let root = Arc::new(node);
+        Tree { root }
+    }
+
     #[inline(always)]
-    fn halves(&self) -> Option<(Child, Child)> {
+    fn is_full(&self) -> bool {
         match &*self.root {
-            Node::Leaf(entries) if entries.len() >= LEAF => Some(leaves(entries)),
-            Node::Branch(children) if children.len() >= BRANCH => Some(branches(children)),
-            _ => None,
+            Node::Leaf(entries) => entries.len() >= LEAF,
+            Node::Branch(children) => children.len() >= BRANCH,
+        }
+    }
+
+    /// Moves the second half of a full node out.
+    #[inline(never)]
+    fn halve(&mut self) -> Child {
+        match Arc::make_mut(&mut self.root) {
+            Node::Leaf(entries) => {
+                let tail = entries.split_off(entries.len() / 2);
+                Child {
+                    key: tail[0].0,
+                    len: tail.len(),
+                    tree: Tree::of(Node::Leaf(tail)),
+                }
+            }
+            Node::Branch(children) => {
+                let tail = children.split_off(children.len() / 2);
+                Child {
+                    key: tail[0].key,
+                    len: tail.iter().map(|child| child.len).sum(),
+                    tree: Tree::of(Node::Branch(tail)),
+                }
+            }
         }
     }
 
@@ -132,12 +140,8 @@ impl Tree {
                 }
             },
             Node::Branch(children) => {
-                let mut at = child_of(children, key);
-                if let Some((left, right)) = children[at].tree.halves() {
-                    children.insert(at + 1, right);
-                    children[at] = left;
-                    at = child_of(children, key);
-                }
+                let at = child_of(children, key);
+                let at = room_under(children, at, key);
                 let child = &mut children[at];
                 let more = child.tree.insert(key, value);
                 child.key = child.key.min(key);
@@ -167,16 +171,16 @@ impl Tree {
     }
 }
 
-#[inline(never)]
-fn leaves(entries: &[(u64, u64)]) -> (Child, Child) {
-    let (left, right) = entries.split_at(entries.len() / 2);
-    (leaf(left), leaf(right))
-}
-
-#[inline(never)]
-fn branches(children: &[Child]) -> (Child, Child) {
-    let (left, right) = children.split_at(children.len() / 2);
-    (branch(left), branch(right))
+/// The number of the child with the key, if it is the one of that number. A full child becomes two before.
+fn room_under(children: &mut Vec<Child>, at: usize, key: u64) -> usize {
+    if !children[at].tree.is_full() {
+        return at;
+    }
+    let right = children[at].tree.halve();
+    children[at].len -= right.len;
+    let is_left = key < right.key;
+    children.insert(at + 1, right);
+    if is_left { at } else { at + 1 }
 }
 
 impl Map {
@@ -188,17 +192,19 @@ impl Map {
         let Some(tree) = &mut self.root else {
             let mut entries = Vec::with_capacity(LEAF);
             entries.push((key, value));
-            self.root = Some(Tree {
-                root: Arc::new(Node::Leaf(entries)),
-            });
+            self.root = Some(Tree::of(Node::Leaf(entries)));
             self.len = 1;
             return;
         };
-        if let Some((left, right)) = tree.halves() {
+        if tree.is_full() {
+            let key = tree.leaf_at(0).0[0].0;
             let mut children = Vec::with_capacity(BRANCH);
-            children.push(left);
-            children.push(right);
-            tree.root = Arc::new(Node::Branch(children));
+            children.push(Child {
+                key,
+                len: self.len,
+                tree: tree.clone(),
+            });
+            *tree = Tree::of(Node::Branch(children));
         }
         self.len += tree.insert(key, value);
     }
@@ -226,28 +232,15 @@ impl Child {
         }
     }
 
+    /// Takes over what the next child has.
     #[inline(never)]
-    fn joined(&self, next: &Child) -> Child {
-        let root = match (&*self.tree.root, &*next.tree.root) {
-            (Node::Leaf(entries), Node::Leaf(more)) => {
-                let mut both = copies(entries, LEAF);
-                both.extend_from_slice(more);
-                Node::Leaf(both)
-            }
-            (Node::Branch(children), Node::Branch(more)) => {
-                let mut both = copies(children, BRANCH);
-                both.extend_from_slice(more);
-                Node::Branch(both)
-            }
+    fn join(&mut self, mut next: Child) {
+        match (Arc::make_mut(&mut self.tree.root), Arc::make_mut(&mut next.tree.root)) {
+            (Node::Leaf(entries), Node::Leaf(more)) => entries.append(more),
+            (Node::Branch(children), Node::Branch(more)) => children.append(more),
             _ => unreachable!(),
-        };
-        Child {
-            key: self.key,
-            len: self.len + next.len,
-            tree: Tree {
-                root: Arc::new(root),
-            },
         }
+        self.len += next.len;
     }
 }
 
@@ -258,16 +251,9 @@ fn spare_for(children: &mut Vec<Child>, key: u64) -> usize {
         return at;
     }
     let left = at.min(children.len() - 2);
-    let joined = children[left].joined(&children[left + 1]);
-    let Some((first, second)) = joined.tree.halves() else {
-        children.remove(left + 1);
-        children[left] = joined;
-        return left;
-    };
-    let at = if key < second.key { left } else { left + 1 };
-    children[left] = first;
-    children[left + 1] = second;
-    at
+    let next = children.remove(left + 1);
+    children[left].join(next);
+    room_under(children, left, key)
 }
 
 impl Tree {

@@ -90,7 +90,8 @@ remove::remove_under-returns-clause-fewer g t c =
     let cmp = g.K.Ord.cmp in
     let key = c.args.key.now in
     let es = entries_in c.args.children.now.items in
-    let rising = subst (λ es. IsRising cmp es) c.in_ok-at.ensures.same.entries c.in_ok-at.ensures.same.children.map.rising in
+    let rising = subst (λ es. IsRising cmp es) c.in_ok-at.ensures.same.entries
+    c.in_ok-at.ensures.same.children.map.rising in
     ap (λ es. length es + 1) (remove::remove_under-returns-clause-entries g t c)
     ∙ length_without cmp g.met.K.Ord.total key es rising c.requires.found
 

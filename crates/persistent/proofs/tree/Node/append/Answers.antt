@@ -14,11 +14,13 @@ unreachable-requires g c =
     elim c.in_default.branch [
       | in_default-via-in-Leaf+in_default w ↦
           let level = rw w.in_default.is-1 at (rw w.in_default.is-0 at c.requires.level) in
-          let high = height_some g.K.Ord.cmp w.in_default.field-0-1.items (rw w.in_default.is-1 at c.requires.whole.1) in
+          let high = height_some g.K.Ord.cmp w.in_default.field-0-1.items
+          (rw w.in_default.is-1 at c.requires.whole.1) in
           omega (arith, level, high)
       | in_default-via-in-Branch+in_default w ↦
           let level = rw w.in_default.is-1 at (rw w.in_default.is-0 at c.requires.level) in
-          let high = height_some g.K.Ord.cmp w.in_default.field-0-0.items (rw w.in_default.is-0 at c.requires.whole.0) in
+          let high = height_some g.K.Ord.cmp w.in_default.field-0-0.items
+          (rw w.in_default.is-0 at c.requires.whole.0) in
           omega (arith, level, high)
     ]
 

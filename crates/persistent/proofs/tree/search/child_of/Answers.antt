@@ -37,12 +37,14 @@ loop-size-preserved g c =
         some = some;
         below = c.loop-size.invariant.below;
         above = children_later cmp total key cs i _ (omega arith)
-            (above_child cmp total key cs i _ c.cmp-order.result within c.requires.map.rising first order (sym goes ∙ is));
+            (above_child cmp total key cs i _ c.cmp-order.result within c.requires.map.rising first order
+            (sym goes ∙ is));
       })
       | false ↦ λ is next goes_on. subst (λ (k : ℕ). Narrowed cmp key cs k rest) (sym goes_on) (record {
         within = omega (arith, c.loop-size.invariant.within);
         some = some;
-        below = below_child cmp total key cs i _ c.cmp-order.result within c.requires.map.rising first order (sym goes ∙ is);
+        below = below_child cmp total key cs i _ c.cmp-order.result within c.requires.map.rising first order
+            (sym goes ∙ is);
         above = subst (λ (n : ℕ). AreAbove cmp key (entries_in (drop n cs))) (omega arith) c.loop-size.invariant.above;
       })
     ] refl c.further-at.result c.further-at.ensures

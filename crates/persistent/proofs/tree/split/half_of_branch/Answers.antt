@@ -51,5 +51,6 @@ returns-clause-halves g c =
     record { key = c.in_ok-key.key; len = c.before-2.result; tree = seen c.shareable.result } in
     subst (λ xs. AreHalves (entries_in cs, height_in cs) (entries_in xs, height_in xs) right)
     (sym c.in_ok-tail.ensures.items)
-    (branches_are cmp cs n c.index.result.now right c.requires.children (omega (arith, c.len-half.ensures, c.requires.wide))
+    (branches_are cmp cs n c.index.result.now right c.requires.children (omega
+    (arith, c.len-half.ensures, c.requires.wide))
     (omega (arith, c.len-half.ensures, c.requires.wide)) key len is)

@@ -19,7 +19,8 @@ returns-clause-map g c =
     let es = c.args.entries.now.items in
     let n = c.len-half.result / 2 in
     subst (IsMap cmp) (sym c.in_ok-tail.ensures.items)
-    (map_take cmp es n c.requires.map (omega (arith, c.len-half.ensures, c.requires.wide)) (omega (arith, c.len-half.ensures)))
+    (map_take cmp es n c.requires.map (omega (arith, c.len-half.ensures, c.requires.wide)) (omega
+    (arith, c.len-half.ensures)))
 
 pub returns-clause-halves : goal.returns-clause-halves
 returns-clause-halves g c =

@@ -14,7 +14,8 @@ returns-then-is_left-clause-same g c =
     let halves = rw c.in-Some.is at c.in_ok-right.ensures.halves in
     (split_done cmp g.met.K.Ord.total q cs c.args.at d c.requires.children is c.reserve.new.self.items
     c.insert.new.self.items c.halve.new.self c.in-Some.right c.cmp.result c.requires.under room child halves
-    (sym c.cmp.ensures) c.in-Ok.ensures.items (c.args.at) (λ t. refl) (λ t. cc (t, c.is_lt-is_left.ensures, c.if-is_left.true))).same
+    (sym c.cmp.ensures) c.in-Ok.ensures.items (c.args.at) (λ t. refl) (λ t. cc
+    (t, c.is_lt-is_left.ensures, c.if-is_left.true))).same
 
 pub returns-then-is_left-clause-under : goal.returns-then-is_left-clause-under
 returns-then-is_left-clause-under g c =
@@ -28,7 +29,8 @@ returns-then-is_left-clause-under g c =
     let halves = rw c.in-Some.is at c.in_ok-right.ensures.halves in
     (split_done cmp g.met.K.Ord.total q cs c.args.at d c.requires.children is c.reserve.new.self.items
     c.insert.new.self.items c.halve.new.self c.in-Some.right c.cmp.result c.requires.under room child halves
-    (sym c.cmp.ensures) c.in-Ok.ensures.items (c.args.at) (λ t. refl) (λ t. cc (t, c.is_lt-is_left.ensures, c.if-is_left.true))).under
+    (sym c.cmp.ensures) c.in-Ok.ensures.items (c.args.at) (λ t. refl) (λ t. cc
+    (t, c.is_lt-is_left.ensures, c.if-is_left.true))).under
 
 pub returns-else-is_left-clause-same : goal.returns-else-is_left-clause-same
 returns-else-is_left-clause-same g c =
@@ -42,7 +44,8 @@ returns-else-is_left-clause-same g c =
     let halves = rw c.in-Some.is at c.in_ok-right.ensures.halves in
     (split_done cmp g.met.K.Ord.total q cs c.args.at d c.requires.children is c.reserve.new.self.items
     c.insert.new.self.items c.halve.new.self c.in-Some.right c.cmp.result c.requires.under room child halves
-    (sym c.cmp.ensures) c.in-Ok.ensures.items (c.args.at + 1) (λ t. cc (t, c.is_lt-is_left.ensures, c.if-is_left.false)) (λ t. refl)).same
+    (sym c.cmp.ensures) c.in-Ok.ensures.items (c.args.at + 1) (λ t. cc
+    (t, c.is_lt-is_left.ensures, c.if-is_left.false)) (λ t. refl)).same
 
 pub returns-else-is_left-clause-under : goal.returns-else-is_left-clause-under
 returns-else-is_left-clause-under g c =
@@ -56,4 +59,5 @@ returns-else-is_left-clause-under g c =
     let halves = rw c.in-Some.is at c.in_ok-right.ensures.halves in
     (split_done cmp g.met.K.Ord.total q cs c.args.at d c.requires.children is c.reserve.new.self.items
     c.insert.new.self.items c.halve.new.self c.in-Some.right c.cmp.result c.requires.under room child halves
-    (sym c.cmp.ensures) c.in-Ok.ensures.items (c.args.at + 1) (λ t. cc (t, c.is_lt-is_left.ensures, c.if-is_left.false)) (λ t. refl)).under
+    (sym c.cmp.ensures) c.in-Ok.ensures.items (c.args.at + 1) (λ t. cc
+    (t, c.is_lt-is_left.ensures, c.if-is_left.false)) (λ t. refl)).under

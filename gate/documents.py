@@ -76,7 +76,8 @@ def speed_line(row):
 def map_line(rows):
     """The line for a call of a map in one order: the figures of each number of keys."""
     cells = [(nanoseconds(row["program"]), row["/std"], row["/im"]) for row in rows]
-    return f"{rows[0]['order']:<7}{rows[0]['call']:<8}" + "  ".join("".join(f"{part:>6}" for part in cell) for cell in cells)
+    shown = ("".join(f"{part:>6}" for part in cell) for cell in cells)
+    return f"{rows[0]['order']:<7}{rows[0]['call']:<8}" + "  ".join(shown)
 
 
 def table(name):

@@ -1,7 +1,7 @@
 #!/usr/bin/env bash
 # In another repository, into which copy_crates copies them, the crates are as they are here, so what is proved here is
-# proved there, and the first example runs. There the checker lets no handle and no list of a cell, which threads may not
-# share, be lent, moved or sent to a thread. In a third one it refuses the code of docs/DECISIONS.md.
+# proved there, and the first example runs. There the checker lets no handle and no list of a cell, which threads may
+# not share, be lent, moved or sent to a thread. In a third one it refuses the code of docs/DECISIONS.md.
 set -uo pipefail
 cd "$(dirname "$0")/.."
 here=$PWD tree=$(mktemp -d)

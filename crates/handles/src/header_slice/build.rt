@@ -31,6 +31,14 @@ impl From<AllocError> for BuildError {
     }
 }
 
+/// By `?` a refusal becomes the error of a caller that fails by memory alone. It then says less: where an iterator may
+/// err about its length, keep the `BuildError`.
+impl From<BuildError> for AllocError {
+    fn from(_refusal: BuildError) -> AllocError {
+        AllocError
+    }
+}
+
 // All memory is requested before the source is asked for its first item. A refusal drops what was taken, then the
 // header.
 pub(super) fn build<H: Drop, T: Drop, I: Iterator<Item = T>>(

@@ -1,14 +1,16 @@
 //! Makers that take a slice or a vector.
 ghost use Rattle.std.specs.Prelude.{◌≡◌, IfOk};
+ghost use Rattle.std.specs.List.{AllZip};
+ghost use Rattle.handles.specs.Copies.{CopiesAreEqual};
 
 use super::HeaderSlice;
+use super::items::Items;
 use crate::arc::Arc;
 use crate::unique::UniqueArc;
 use std::alloc::{AllocError, Global};
 
 impl<H: Drop, T: Copy> Arc<HeaderSlice<H, T>> {
-    /// The header beside a copy of the items. If these are not `Copy`, `Vec::from_clones` makes a vector of clones, for
-    /// `from_header_and_vec`.
+    /// The header beside a copy of the items. If these are not `Copy`, call `from_header_and_clones`.
     ///
     /// Memory is requested as by `from_header_and_iter`. If it is refused, the header is dropped.
     pub fn from_header_and_slice(
@@ -19,6 +21,25 @@ impl<H: Drop, T: Copy> Arc<HeaderSlice<H, T>> {
         ensures { IfOk result (λ slice. slice ≡ record { header = header; items = items.now }) }
     {
         Ok(UniqueArc::from_header_and_slice(alloc, header, items)?.shareable())
+    }
+}
+
+impl<H: Drop, T: Clone> Arc<HeaderSlice<H, T>> {
+    /// The header beside a clone of each item, in their order.
+    ///
+    /// Memory is requested as by `from_header_and_iter`, before the first clone. If it or a clone is refused, the
+    /// clones made so far are dropped, then the header.
+    pub fn from_header_and_clones(
+        alloc: Global,
+        header: H,
+        items: &[T],
+    ) -> Result<Arc<HeaderSlice<H, T>>, AllocError>
+        ensures header { IfOk result (λ slice. slice.header ≡ header) }
+        ensures clones { IfOk result (λ slice. AllZip T.is_clone items.now slice.items) }
+        ensures if_clones_equal { IfOk result (λ slice. CopiesAreEqual T.is_clone
+            → slice ≡ record { header = header; items = items.now }) }
+    {
+        Ok(UniqueArc::from_header_and_clones(alloc, header, items)?.shareable())
     }
 }
 
@@ -39,8 +60,7 @@ impl<H: Drop, T: Drop> Arc<HeaderSlice<H, T>> {
 }
 
 impl<H: Drop, T: Copy> UniqueArc<HeaderSlice<H, T>> {
-    /// The header beside a copy of the items. If these are not `Copy`, `Vec::from_clones` makes a vector of clones, for
-    /// `from_header_and_vec`.
+    /// The header beside a copy of the items. If these are not `Copy`, call `from_header_and_clones`.
     ///
     /// Memory is requested as by `from_header_and_iter`. If it is refused, the header is dropped.
     pub fn from_header_and_slice(
@@ -51,8 +71,34 @@ impl<H: Drop, T: Copy> UniqueArc<HeaderSlice<H, T>> {
         ensures { IfOk result (λ slice. slice ≡ record { header = header; items = items.now }) }
     {
         // The iterator gives as many items as it says, so that only memory is refused.
-        let built = UniqueArc::from_header_and_iter(alloc, header, items.iter().copied());
-        built.map_err(|_| AllocError)
+        Ok(UniqueArc::from_header_and_iter(alloc, header, items.iter().copied())?)
+    }
+}
+
+impl<H: Drop, T: Clone> UniqueArc<HeaderSlice<H, T>> {
+    /// The header beside a clone of each item, in their order.
+    ///
+    /// Memory is requested as by `from_header_and_iter`, before the first clone. If it or a clone is refused, the
+    /// clones made so far are dropped, then the header.
+    pub fn from_header_and_clones(
+        alloc: Global,
+        header: H,
+        items: &[T],
+    ) -> Result<UniqueArc<HeaderSlice<H, T>>, AllocError>
+        ensures header { IfOk result (λ slice. slice.header ≡ header) }
+        ensures clones { IfOk result (λ slice. AllZip T.is_clone items.now slice.items) }
+        ensures if_clones_equal { IfOk result (λ slice. CopiesAreEqual T.is_clone
+            → slice ≡ record { header = header; items = items.now }) }
+    {
+        let mut clones = Items::with_room(alloc, items.len())?;
+        let block = UniqueArc::new_uninit(alloc)?;
+        for item in items {
+            clones.push(item.clone()?);
+        }
+        Ok(block.write(HeaderSlice {
+            header,
+            items: clones,
+        }))
     }
 }
 
@@ -68,7 +114,6 @@ impl<H: Drop, T: Drop> UniqueArc<HeaderSlice<H, T>> {
     ) -> Result<UniqueArc<HeaderSlice<H, T>>, AllocError>
         ensures { IfOk result (λ slice. slice ≡ record { header = header; items = items.items }) }
     {
-        let built = UniqueArc::from_header_and_iter(alloc, header, items.into_iter());
-        built.map_err(|_| AllocError)
+        Ok(UniqueArc::from_header_and_iter(alloc, header, items.into_iter())?)
     }
 }

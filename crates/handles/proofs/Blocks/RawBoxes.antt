@@ -68,6 +68,7 @@ pub raw_box-Good : (b o : ℕ) (h : Val) → Good (layout heap_row) h → T (has
 raw_box-Good b o h good = (and_tt (has_ty (layout heap_row) h) good.0, (tt, (good.1, tt)))
 
 module _ (R : RattleType) where
+  -- what a box at p by the allocator a owns, with x in it
   abbrev pub Owned : Global → Ptr → R.Denot → Fml
   Owned a p x = box_owns (ghosts.dealloc_token a) R p x
 

@@ -119,7 +119,8 @@ module _ (T : RattleType) {os : List (Outlives 2)} {r : Slot 2} {M : Type 1} {�
       by_ref (HandleRow R) tt 𝓛 𝓜 𝓡 c (λ κs a. Asked a.now.sole) asked T key f closed (λ κs qs a.
       walk κs qs a.now.block a.now.held a.now.sole a.now.id a.now.number a.now.log a.ref_ptr.0 a.ref_ptr.1)
 
--- A type whose values are one word, and what it owns beside that.
+-- A type whose values are one word, the address of their block. A value tells that word, and `owned` is what it owns
+-- as one that has it.
 pub record Worded : Type 2 where
   pub row : RattleType
   pub block : row.Denot → Ptr

@@ -13,3 +13,4 @@ pub use list::List;
 pub use list_iter::ListIter;
 pub use map::TreeMap;
 pub use map::iter::Iter;
+pub use tree::Tree;

@@ -8,7 +8,7 @@ ghost use Rattle.std.specs.Ordering.{is_eq};
 ghost use Rattle.servo_arc.specs.Copies.{CopiesAreEqual};
 ghost use Rattle.persistent.specs.Changes.{ChangesValue};
 ghost use Rattle.persistent.specs.Maps.{IsRising, lookup, rank, with_entries, with_entry, without};
-ghost use Rattle.persistent.specs.Nodes.{IsDeep};
+ghost use Rattle.persistent.specs.Nodes.{IsDeep, entries_under};
 
 pub(crate) mod iter;
 
@@ -74,6 +74,17 @@ impl<K: Ord, V> TreeMap<K, V> {
         ensures { IsTrue result ↔ (self.now ≡ []) }
     {
         self.len() == 0
+    }
+
+    /// The nodes of the map, which has some if it has an entry. They tell how deep the map is.
+    pub fn tree(&self) -> Option<&Tree<K, V>>
+        ensures entries { entries_under (option_copied result) ≡ self.now }
+        ensures none { (result ≡ None) ↔ (self.now ≡ []) }
+    {
+        let tree = self.root.as_ref()?;
+        // It has an entry.
+        let _ = tree.node();
+        Some(tree)
     }
 
     /// How many nodes stand on each way down: at most twice the logarithm of one more than there are entries, to the

@@ -15,9 +15,15 @@ use servo_arc::Arc;
 use std::alloc::AllocError;
 use std::marker::Model;
 
+/// The nodes of a map that is not empty, as `TreeMap::tree` gives them.
+///
+/// A contract sees it as a pair: the entries, in the order of their keys, and the height, which is how many branches
+/// stand above each leaf. The height is read off the nodes themselves: it is 0 at a leaf, and at a branch one more than
+/// that of its highest child. So the clause of `depth` speaks of the nodes that stand there, and not of another tree
+/// with the same entries.
 #[cycle(tree)]
 #[derive(Drop)]
-pub(crate) struct Tree<K: Ord, V> {
+pub struct Tree<K: Ord, V> {
     pub(crate) root: Arc<Node<K, V>>,
 }
 
@@ -79,8 +85,9 @@ impl<K: Ord, V> Tree<K, V> {
         &self.root
     }
 
-    // How many nodes stand on each way down.
-    pub(crate) fn depth(&self) -> u8
+    /// How many nodes stand on each way down: the branches, and the leaf. It takes as many steps.
+    pub fn depth(&self) -> u8
+        ensures height { result ≡ self.now.1 + 1 }
         ensures nodes { IsDeep K.cmp self.now.0 result }
         ensures at_most { 2 ^ result ≤ 4 * length self.now.0 }
     {

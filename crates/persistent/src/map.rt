@@ -11,6 +11,7 @@ ghost use Rattle.persistent.specs.Maps.{IsRising, lookup, rank, with_entries, wi
 ghost use Rattle.persistent.specs.Nodes.{IsDeep, entries_under};
 
 pub(crate) mod iter;
+mod range;
 
 use crate::tree::Tree;
 use std::alloc::{AllocError, Global};
@@ -64,7 +65,8 @@ impl<K: Ord, V> TreeMap<K, V> {
 
     /// The number of entries, in O(1).
     pub fn len(&self) -> usize
-        ensures { result ≡ length self.now }
+        ensures count { result ≡ length self.now }
+        ensures fits { length self.now < 2 ^ 64 }
     {
         self.len
     }

@@ -3,7 +3,6 @@ ghost use Rattle.std.specs.Prelude.{◌≡◌, ◌+◌, ◌<◌, ◌≤◌, IfSo
 ghost use Rattle.std.specs.Option.{option_copied};
 ghost use Rattle.std.specs.Iterator.{UpTo, YieldsFirstRef, YieldsLastRef, item_count};
 ghost use Rattle.std.specs.Iterator.SizeHint.{IsWithinCount};
-ghost use Rattle.persistent.specs.Maps.{rank};
 ghost use Rattle.persistent.specs.Nodes.{entries_under};
 ghost use Rattle.persistent.specs.Places.{IsPart};
 
@@ -12,7 +11,6 @@ use crate::tree::Tree;
 use std::alloc::AllocError;
 use std::iter::FusedIterator;
 use std::marker::Model;
-use std::ops::Range;
 
 /// An iterator over the entries of a `TreeMap`, in the order of their keys.
 ///
@@ -44,7 +42,7 @@ impl<'a, K: Ord, V> Model for Iter<'a, K, V> {
 }
 
 impl<'a, K: Ord, V> Iter<'a, K, V> {
-    fn between(tree: Option<&'a Tree<K, V>>, from: usize, to: usize) -> Iter<'a, K, V>
+    pub(crate) fn between(tree: Option<&'a Tree<K, V>>, from: usize, to: usize) -> Iter<'a, K, V>
         requires { (from ≤ to) × (to ≤ length (entries_under (option_copied tree))) }
         ensures { result ≡ slice_range (entries_under (option_copied tree.entry)) from to }
     {
@@ -99,18 +97,6 @@ impl<K: Ord, V> TreeMap<K, V> {
         ensures { result ≡ self.now }
     {
         self.into_iter()
-    }
-
-    /// An iterator over the entries whose keys are in the range, in the order of their keys. There are none if the
-    /// range ends before it starts.
-    #[tactic(auto, using(crate::proofs::Ranges::ranges))]
-    pub fn range(&self, keys: Range<&K>) -> Iter<'_, K, V>
-        ensures { result ≡ slice_range self.now
-            (rank K.cmp keys.entry.start.now self.now) (rank K.cmp keys.entry.end.now self.now) }
-    {
-        let from = self.rank(keys.start);
-        let to = self.rank(keys.end).max(from);
-        Iter::between(self.root.as_ref(), from, to)
     }
 }
 

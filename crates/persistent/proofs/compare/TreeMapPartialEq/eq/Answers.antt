@@ -9,7 +9,7 @@ use Rattle.persistent.proofs.compare.TreeMapPartialEq.eq.Goals as goal
 pub returns-then-len : goal.returns-then-len
 returns-then-len g c =
     let as_long : length c.args.self.now ≡ length c.args.other.now =
-    omega (arith, c.len.ensures, c.len-2.ensures, c.if-len.true) in
+    omega (arith, c.len.ensures.count, c.len-2.ensures.count, c.if-len.true) in
     let mine = YieldsList-from_first (λ x. x.now) (λ s. s)
     c.args.self.now (c.zip.ensures.first ∙ c.into_iter.ensures.into_iter_gives) in
     let theirs = YieldsList-from_first (λ x. x.now) (λ s. s) c.args.other.now c.zip.ensures.second in

@@ -13,4 +13,6 @@ pub use list::List;
 pub use list_iter::ListIter;
 pub use map::TreeMap;
 pub use map::iter::Iter;
+pub use map::keys::Keys;
+pub use map::values::Values;
 pub use tree::Tree;

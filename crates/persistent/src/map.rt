@@ -10,8 +10,11 @@ ghost use Rattle.persistent.specs.Changes.{ChangesValue};
 ghost use Rattle.persistent.specs.Maps.{IsRising, lookup, rank, with_entries, with_entry, without};
 ghost use Rattle.persistent.specs.Nodes.{IsDeep, entries_under};
 
+mod index;
 pub(crate) mod iter;
+pub(crate) mod keys;
 mod range;
+pub(crate) mod values;
 
 use crate::tree::Tree;
 use std::alloc::{AllocError, Global};

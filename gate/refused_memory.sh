@@ -1,10 +1,10 @@
 #!/usr/bin/env bash
 # Refuses each single request for memory in turn: each test of `refusals`, and `arcbench` on two scripts, runs with its
 # first request refused, then with its second, until a run meets no refusal. What a run reports, and how many blocks it
-# keeps to its end, is its outcome. Those of all runs have to be just those of crates/tests/outcomes.txt.
+# keeps to its end, is its outcome. Those of all runs have to be just those of crates/test_refusals/outcomes.txt.
 set -u
 cd "$(dirname "$0")/.."
-program=crates/tests/out/tests_tests
+program=crates/test_refusals/out/test_refusals_tests
 folder=$(mktemp -d)
 trap 'rm -rf "$folder"' EXIT
 
@@ -40,7 +40,7 @@ printf '%s\n' 'new 0 5' 'clone 0 1' 'makemut 0 9' 'own 1' 'get 0' 'get 1' >"$fol
     outcomes_of 'arcbench table' "$folder/commands" crates/arcbench/out/arcbench table 2
 } >"$folder/runs"
 LC_ALL=C sort -u "$folder/runs" >"$folder/came"
-grep -v '^#' crates/tests/outcomes.txt | LC_ALL=C sort -u >"$folder/expected"
+grep -v '^#' crates/test_refusals/outcomes.txt | LC_ALL=C sort -u >"$folder/expected"
 
 diff "$folder/expected" "$folder/came" >"$folder/differ"
 # A builder makes two requests at most, and one if its items take no room.

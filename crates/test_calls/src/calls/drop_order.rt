@@ -1,0 +1,145 @@
+//! In which order the values of a header slice are dropped.
+ghost use Rattle.std.specs.Prelude.{◌==◌};
+ghost use Rattle.std.specs.Cmp.{on_per, partial_equiv_from_equiv};
+ghost use Rattle.std.proofs.lemmas.Cmp.{nat_eq_equiv};
+
+use servo_arc::{Arc, BuildError, UniqueArc};
+use std::alloc::{AllocError, Global};
+use std::process::Abort;
+use std::sync::atomic::AtomicU64;
+use std::sync::atomic::Ordering::SeqCst;
+use std::vec::IntoIter;
+use testing::{again, ok, same, same_at};
+
+/// How many values were dropped, and how many of them out of their turn.
+#[derive(Drop)]
+struct Log {
+    drops: AtomicU64,
+    misplaced: AtomicU64,
+}
+
+impl Log {
+    fn new() -> Log {
+        Log {
+            drops: AtomicU64::new(0),
+            misplaced: AtomicU64::new(0),
+        }
+    }
+
+    fn read(&self) -> (u64, u64) {
+        (self.drops.load(SeqCst), self.misplaced.load(SeqCst))
+    }
+}
+
+/// A value whose turn comes after so many drops.
+struct Placed<'a> {
+    turn: u64,
+    log: &'a Log,
+}
+
+impl Drop for Placed<'_> {
+    fn drop(self) {
+        let Placed { turn, log } = self;
+        if log.drops.fetch_add(1, SeqCst) != turn {
+            log.misplaced.fetch_add(1, SeqCst);
+        }
+    }
+}
+
+impl PartialEq for Placed<'_> {
+    ghost eq = { λ x y. x.turn == y.turn };
+
+    ghost laws = { on_per (λ x. x.turn) (partial_equiv_from_equiv nat_eq_equiv) };
+
+    fn eq(&self, other: &Self) -> bool {
+        self.turn == other.turn
+    }
+}
+
+fn in_turn(alloc: Global, number: u64, log: &Log) -> Result<IntoIter<Placed<'_>>, AllocError> {
+    let mut made = Vec::new(alloc);
+    for turn in 0..number {
+        made.push(Placed { turn, log })?;
+    }
+    Ok(made.into_iter())
+}
+
+/// So many items are asked for, so many are there, and so it is refused.
+type Row = (usize, u64, Option<BuildError>);
+
+const OVER: Option<BuildError> = Some(BuildError::OverReported);
+
+const UNDER: Option<BuildError> = Some(BuildError::UnderReported);
+
+const ROWS: [Row; 17] = [
+    (3, 3, None),
+    (3, 2, OVER),
+    (1, 2, UNDER),
+    (0, 1, UNDER),
+    (0, 0, None),
+    (usize::MAX, 0, Some(BuildError::Memory)),
+    (12, 12, None),
+    (13, 12, OVER),
+    (11, 12, UNDER),
+    (64, 64, None),
+    (65, 64, OVER),
+    (64, 65, UNDER),
+    (65, 65, None),
+    (100, 100, None),
+    (101, 100, OVER),
+    (99, 100, UNDER),
+    (5000, 5000, None),
+];
+
+// All that was taken and then the header is dropped, each in its turn, and nothing before the slice is.
+fn check<T: Drop>(rt: &impl Abort, row: Row, log: &Log, built: Result<T, BuildError>) {
+    let (_, items, refusal) = row;
+    let all = items.wrapping_add(1);
+    let before = if refusal.is_none() { 0 } else { all };
+    let seen = (built.as_ref().err().copied(), log.read());
+    same_at!(rt, row, seen, (refusal, (before, 0)));
+    drop(built);
+    same_at!(rt, row, log.read(), (all, 0));
+}
+
+#[test]
+fn drops_items_in_order_and_then_the_header(rt: HostRuntime) {
+    for row in ROWS {
+        let (num_items, turn, _) = row;
+        let (log, unique_log) = (Log::new(), Log::new());
+        let items = ok!(&rt, in_turn(rt.alloc(), turn, &log));
+        let header = Placed { turn, log: &log };
+        let built = Arc::from_header_and_iter_with_size(rt.alloc(), header, items, num_items);
+        check(&rt, row, &log, built);
+        let items = ok!(&rt, in_turn(rt.alloc(), turn, &unique_log));
+        let header = Placed {
+            turn,
+            log: &unique_log,
+        };
+        let built = UniqueArc::from_header_and_iter_with_size(rt.alloc(), header, items, num_items);
+        check(&rt, row, &unique_log, built);
+    }
+}
+
+#[test]
+fn drops_the_header_once(rt: HostRuntime) {
+    let log = Log::new();
+    let items = ok!(&rt, vec![in rt.alloc(); 5u64, 6]).into_iter();
+    let header = Placed { turn: 0, log: &log };
+    let shared = ok!(&rt, Arc::from_header_and_iter(rt.alloc(), header, items));
+    drop(again!(&rt, &shared));
+    let is_itself = *shared == *shared;
+    let before = log.read();
+    drop(shared);
+    same!(&rt, (is_itself, before, log.read()), (true, (0, 0), (1, 0)));
+}
+
+#[test]
+fn keeps_the_values_of_a_static_slice(rt: HostRuntime) {
+    let log = Log::new();
+    let items = ok!(&rt, in_turn(rt.alloc(), 2, &log));
+    let header = Placed { turn: 2, log: &log };
+    let built = Arc::from_header_and_iter_alloc(rt.alloc(), header, items, 2, true);
+    drop(ok!(&rt, built));
+    same!(&rt, log.read(), (0, 0));
+}

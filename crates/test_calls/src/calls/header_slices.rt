@@ -1,0 +1,160 @@
+//! What header slices read, and how they are written before they are shared.
+ghost use Rattle.std.specs.Prelude.{◌≡◌, length};
+
+use servo_arc::{Arc, HeaderSlice, ThinArc, UniqueArc};
+use std::collections::HashMap;
+use std::mem;
+use std::process::Abort;
+use std::vec::IntoIter;
+use testing::{ok, same, same_at};
+
+#[derive(Clone, Copy)]
+struct Padded {
+    _first: u8,
+    i: u64,
+    _last: u8,
+}
+
+fn with_padding(i: u64) -> Padded {
+    Padded {
+        _first: 1,
+        i,
+        _last: 2,
+    }
+}
+
+// The header, the length and what the two items have.
+fn read(slice: &HeaderSlice<u8, Padded>) -> Option<(u8, usize, u64, u64)> {
+    match slice.slice() {
+        [first, second] => Some((slice.header, slice.len(), first.i, second.i)),
+        _ => None,
+    }
+}
+
+fn two_padded(rt: &(impl Abort + AllocGlobal)) -> IntoIter<Padded> {
+    let items = vec![in rt.alloc(); with_padding(0xdead), with_padding(0xbeef)];
+    ok!(rt, items).into_iter()
+}
+
+#[test]
+fn reads_padded_items(rt: HostRuntime) {
+    let shared = Arc::from_header_and_iter(rt.alloc(), 0u8, two_padded(&rt));
+    let shared = ok!(&rt, shared);
+    same!(&rt, read(&shared), Some((0, 2, 0xdead, 0xbeef)));
+    let unique = UniqueArc::from_header_and_iter(rt.alloc(), 0u8, two_padded(&rt));
+    let unique = ok!(&rt, unique);
+    same!(&rt, read(&unique), Some((0, 2, 0xdead, 0xbeef)));
+}
+
+#[test]
+fn reads_an_empty_slice(rt: HostRuntime) {
+    let none: Vec<u32> = Vec::new(rt.alloc());
+    let built = Arc::from_header_and_iter_with_size(rt.alloc(), 100u8, none.into_iter(), 0);
+    let slice = ok!(&rt, built);
+    let seen = (slice.header, slice.len(), slice.is_empty(), slice.slice());
+    same!(&rt, seen, (100, 0, true, &[][..]));
+}
+
+// The items, whether the block is marked, and whether it may be written.
+fn marked(rt: &(impl Abort + AllocGlobal), is_static: bool) -> (Option<[u64; 2]>, bool, bool) {
+    let items = [1, 2].into_iter();
+    let built = Arc::from_header_and_iter_alloc(rt.alloc(), 0u8, items, 2, is_static);
+    let mut shared = ok!(rt, built);
+    let items = shared.slice().first_chunk().copied();
+    (
+        items,
+        shared.is_static(),
+        Arc::get_mut(&mut shared).is_some(),
+    )
+}
+
+#[test]
+fn marks_a_static_slice(rt: HostRuntime) {
+    same!(&rt, marked(&rt, false), (Some([1, 2]), false, true));
+    same!(&rt, marked(&rt, true), (Some([1, 2]), true, false));
+}
+
+fn swap<H, T>(x: &mut UniqueArc<HeaderSlice<H, T>>, y: &mut UniqueArc<HeaderSlice<H, T>>)
+    ensures x { x.new ≡ y.old }
+    ensures y { y.new ≡ x.old }
+{
+    mem::swap(&mut **x, &mut **y);
+}
+
+type Unique = UniqueArc<HeaderSlice<u8, u64>>;
+
+fn unique_of(rt: &(impl Abort + AllocGlobal), header: u8, items: &[u64]) -> Unique {
+    let built = UniqueArc::from_header_and_slice(rt.alloc(), header, items);
+    ok!(rt, built)
+}
+
+#[test]
+fn swaps_header_and_items(rt: HostRuntime) {
+    let (mut x, mut y) = (unique_of(&rt, 1, &[5]), unique_of(&rt, 2, &[6, 7]));
+    swap(&mut x, &mut y);
+    same!(&rt, (x.header, x.slice(), x.len()), (2, &[6, 7][..], 2));
+    same!(&rt, (y.header, y.slice(), y.len()), (1, &[5][..], 1));
+}
+
+#[test]
+fn is_written_by_its_unique_and_by_its_only_handle(rt: HostRuntime) {
+    let mut unique = unique_of(&rt, 1, &[5, 6]);
+    *unique.header_mut() = 3;
+    if let Some(item) = unique.data_mut().get_mut(1) {
+        *item = 9;
+    }
+    let mut shared = unique.shareable();
+    same!(&rt, (shared.header, shared.slice()), (3, &[5, 9][..]));
+    if let Some(slice) = Arc::get_mut(&mut shared) {
+        slice.header = 4;
+        if let Some(item) = slice.slice_mut().get_mut(0) {
+            *item = 8;
+        }
+    }
+    same!(&rt, (shared.header, shared.slice()), (4, &[8, 9][..]));
+}
+
+fn two_items(rt: &(impl Abort + AllocGlobal), header: u8, items: [u8; 2]) -> ThinArc<u8, u8>
+    ensures { length result.items ≡ 2 }
+{
+    ok!(rt, Arc::from_header_and_slice(rt.alloc(), header, &items))
+}
+
+#[test]
+fn items_are_read_one_by_one(rt: HostRuntime) {
+    let slice = two_items(&rt, 1, [5, 6]);
+    let mut last = 0u8;
+    for item in &*slice {
+        last = *item;
+    }
+    let seen = (slice[0], slice.iter().next_back().copied(), last);
+    same!(&rt, seen, (5, Some(6), 6));
+}
+
+#[test]
+fn slices_are_sorted(rt: HostRuntime) {
+    let slices = vec![in rt.alloc();
+        two_items(&rt, 2, [0, 0]),
+        two_items(&rt, 1, [5, 7]),
+        two_items(&rt, 1, [5, 6]),
+    ];
+    let mut slices = ok!(&rt, slices);
+    ok!(&rt, slices.sort());
+    let text = ok!(&rt, format!(in rt.alloc(); "{slices:?}"));
+    same!(
+        &rt,
+        text.as_str(),
+        "[HeaderSlice { header: 1, slice: [5, 6] }, HeaderSlice { header: 1, slice: [5, 7] }, \
+         HeaderSlice { header: 2, slice: [0, 0] }]",
+    );
+}
+
+#[test]
+fn a_map_is_keyed_by_slices(rt: HostRuntime) {
+    let mut map = HashMap::new(rt.alloc());
+    ok!(&rt, map.insert(two_items(&rt, 1, [5, 6]), 9u8));
+    for (header, items, value) in [(1, [5, 6], Some(9)), (1, [5, 7], None), (2, [0, 0], None)] {
+        let found = map.get(&two_items(&rt, header, items)).copied();
+        same_at!(&rt, (header, items), found, value);
+    }
+}

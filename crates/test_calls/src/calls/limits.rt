@@ -1,0 +1,197 @@
+//! Blocks with a limit of their own: each way to make one more handle stops there, and each way that a handle goes
+//! keeps it.
+use servo_arc::word::MAX_REFCOUNT;
+use servo_arc::{Arc, ArcUnion, ThinArc, UniqueArc};
+use std::alloc::{AllocError, Global};
+use std::process::Abort;
+use std::sync::Wait;
+use testing::{again, ok, same, same_at, shared};
+
+fn is_full(handle: &Arc<u64>, rt: &impl Wait) -> bool {
+    Arc::clone(handle, rt).is_err() && handle.clone().is_err()
+}
+
+#[test]
+fn a_third_handle_waits_for_a_drop(rt: HostRuntime) {
+    let a = ok!(&rt, Arc::new_with_limit(rt.alloc(), 5u64, 2));
+    let b = again!(&rt, &a);
+    let refused = a.borrow_arc().clone_arc(&rt).is_err();
+    let seen = (is_full(&a, &rt), is_full(&b, &rt), refused);
+    same!(&rt, seen, (true, true, true));
+    drop(b);
+    let c = ok!(&rt, Arc::clone(&a, &rt));
+    same!(&rt, (*c, is_full(&c, &rt)), (5, true));
+}
+
+#[test]
+fn the_only_handle_of_a_limit_of_one_writes(rt: HostRuntime) {
+    let mut a = ok!(&rt, Arc::new_with_limit(rt.alloc(), 5u64, 1));
+    let was_full = is_full(&a, &rt);
+    if let Some(value) = Arc::get_mut(&mut a) {
+        *value = 6;
+    }
+    a.mark_as_intentionally_leaked();
+    let b = ok!(&rt, Arc::clone(&a, &rt));
+    let c = again!(&rt, &b);
+    same!(&rt, (was_full, *b, *c), (true, 6, 6));
+}
+
+#[test]
+fn a_copied_block_keeps_the_limit(rt: HostRuntime) {
+    let mut a = ok!(&rt, Arc::new_with_limit(rt.alloc(), 5u64, 2));
+    let b = again!(&rt, &a);
+    *ok!(&rt, Arc::make_mut(&mut a, rt.alloc())) = 9;
+    for (handle, value) in [(&a, 9), (&b, 5)] {
+        let other = ok!(&rt, Arc::clone(handle, &rt));
+        same!(&rt, (*other, is_full(handle, &rt)), (value, true));
+    }
+}
+
+#[test]
+fn tokens_count_to_the_limit(rt: HostRuntime) {
+    let raw = Arc::into_raw(ok!(&rt, Arc::new_with_limit(rt.alloc(), 5u64, 2)));
+    let first = Arc::from_raw_addrefed(&raw, &rt);
+    let second = Arc::from_raw_addrefed(&raw, &rt);
+    let kept = Arc::from_raw(raw);
+    let seen = (*ok!(&rt, first), second.is_err(), *kept);
+    same!(&rt, seen, (5, true, 5));
+}
+
+/// What is done with the only handle of a block before its handles are counted.
+#[derive(Clone, Copy)]
+enum Way {
+    Kept,
+    Unique,
+    Token,
+    WrittenInPlace,
+    Copied,
+    MarkedAndCopied,
+}
+
+const WAYS: [(&str, Way); 6] = [
+    ("kept", Way::Kept),
+    ("unique", Way::Unique),
+    ("token", Way::Token),
+    ("written in place", Way::WrittenInPlace),
+    ("copied", Way::Copied),
+    ("marked and copied", Way::MarkedAndCopied),
+];
+
+// More than sixteen bits can count, as the greatest of the limits is.
+const MANY: usize = 70_000;
+
+const LIMITS: [u64; 4] = [1, 2, 3, 65_537];
+
+/// How many handles there are when one more is refused, if they are fewer than `MANY`.
+fn counted<H: Clone + Drop>(alloc: Global, first: &H) -> Result<usize, AllocError> {
+    let mut others = Vec::with_capacity(alloc, MANY)?;
+    for handles in 1..MANY {
+        match first.clone() {
+            Ok(other) => others.push(other)?,
+            Err(AllocError) => return Ok(handles),
+        }
+    }
+    Ok(MANY)
+}
+
+fn written(alloc: Global, mut handle: Arc<u64>) -> Result<Arc<u64>, AllocError> {
+    *Arc::make_mut(&mut handle, alloc)? = 9;
+    Ok(handle)
+}
+
+fn after(alloc: Global, way: Way, handle: Arc<u64>) -> Result<Arc<u64>, AllocError> {
+    match way {
+        Way::Kept => Ok(handle),
+        Way::Unique => match Arc::into_unique(handle) {
+            Ok(unique) => Ok(unique.shareable()),
+            Err(_) => Err(AllocError),
+        },
+        Way::Token => Ok(Arc::from_raw(Arc::into_raw(handle))),
+        Way::WrittenInPlace => written(alloc, handle),
+        Way::Copied => {
+            // At a limit of 1 there is no other, and the block is written in place.
+            let _other = handle.clone().ok();
+            written(alloc, handle)
+        }
+        Way::MarkedAndCopied => {
+            handle.mark_as_intentionally_leaked();
+            written(alloc, handle)
+        }
+    }
+}
+
+fn limited(rt: &(impl Abort + AllocGlobal), limit: u64) -> Arc<u64> {
+    let limit = limit.clamp(1, MAX_REFCOUNT);
+    ok!(rt, Arc::new_with_limit(rt.alloc(), 5, limit))
+}
+
+#[test]
+fn each_way_keeps_each_limit(rt: HostRuntime) {
+    for limit in LIMITS {
+        for (name, way) in WAYS {
+            let handle = ok!(&rt, after(rt.alloc(), way, limited(&rt, limit)));
+            let handles = counted(rt.alloc(), &handle);
+            same_at!(&rt, (limit, name), handles, Ok(limit as usize));
+        }
+    }
+}
+
+#[test]
+fn unions_keep_each_limit(rt: HostRuntime) {
+    for limit in LIMITS {
+        let first = ArcUnion::<u64, u32>::from_first(limited(&rt, limit));
+        same_at!(&rt, limit, counted(rt.alloc(), &first), Ok(limit as usize));
+        let second = ArcUnion::<u32, u64>::from_second(limited(&rt, limit));
+        same_at!(&rt, limit, counted(rt.alloc(), &second), Ok(limit as usize));
+    }
+}
+
+/// A copy of a block that is marked, or shared, has its limit.
+fn copied(alloc: Global, made: Result<Arc<u64>, u64>) -> Option<Arc<u64>> {
+    let handle = made.ok()?;
+    let _other = handle.clone().ok();
+    written(alloc, handle).ok()
+}
+
+fn made_otherwise(alloc: Global) -> Result<Vec<Option<Arc<u64>>>, AllocError> {
+    let unique = UniqueArc::new(alloc, 5u64);
+    let unwritten = UniqueArc::new_uninit(alloc).ok();
+    Ok(vec![in alloc;
+        Arc::new_with_limit(alloc, 5, MAX_REFCOUNT).ok(),
+        Arc::new(alloc, 5).ok(),
+        Arc::from_value(alloc, 5).ok(),
+        Arc::try_default(alloc).ok(),
+        shared(unique).ok(),
+        unwritten.map(|block| block.write(5u64).shareable()),
+        copied(alloc, Arc::new(alloc, 5)),
+        copied(alloc, Arc::new_leaked(alloc, 5)),
+        copied(alloc, Arc::new_static(alloc, 5)),
+    ]?)
+}
+
+fn built_otherwise(alloc: Global) -> Result<Vec<Option<ThinArc<u64, u64>>>, AllocError> {
+    let one = [1u64];
+    let unique = UniqueArc::from_header_and_iter(alloc, 5u64, one.into_iter());
+    let sized = UniqueArc::from_header_and_iter_with_size(alloc, 5u64, one.into_iter(), 1);
+    Ok(vec![in alloc;
+        Arc::from_header_and_iter(alloc, 5, one.into_iter()).ok(),
+        Arc::from_header_and_iter_with_size(alloc, 5, one.into_iter(), 1).ok(),
+        Arc::from_header_and_iter_alloc(alloc, 5, one.into_iter(), 1, false).ok(),
+        shared(unique).ok(),
+        shared(sized).ok(),
+    ]?)
+}
+
+fn check_made<T: Drop>(rt: &(impl Abort + AllocGlobal), made: Vec<Option<Arc<T>>>) {
+    for (number, made) in made.into_iter().enumerate() {
+        let handle = ok!(rt, made.ok_or("not made"));
+        same_at!(rt, number, counted(rt.alloc(), &handle), Ok(MANY));
+    }
+}
+
+// So far as handles can be counted in a test, no other maker has a limit.
+#[test]
+fn other_makers_have_the_greatest_limit(rt: HostRuntime) {
+    check_made(&rt, ok!(&rt, made_otherwise(rt.alloc())));
+    check_made(&rt, ok!(&rt, built_otherwise(rt.alloc())));
+}

@@ -1,0 +1,77 @@
+//! Calls of tokens, unique handles and unwritten blocks, and equality, each once.
+use crate::calls::by_bound::are_equal;
+use crate::made::arc_of;
+use servo_arc::{Arc, UniqueArc};
+use std::process::Abort;
+use testing::counted::{Counted, Tally};
+use testing::{again, ok, same};
+
+#[test]
+fn a_token_is_a_handle(rt: HostRuntime) {
+    let raw = Arc::into_raw(arc_of(&rt, 7u64));
+    let read = *raw.value();
+    let added = Arc::from_raw_addrefed(&raw, &rt);
+    let c = Arc::from_raw(raw);
+    let b = ok!(&rt, added);
+    let shared = (read, *b, *c, Arc::ptr_eq(&b, &c), c.is_unique());
+    drop(b);
+    same!(&rt, (shared, c.is_unique()), ((7, 7, 7, true, false), true));
+}
+
+#[test]
+fn a_unique_handle_is_written_and_then_shared(rt: HostRuntime) {
+    let mut x = ok!(&rt, UniqueArc::new(rt.alloc(), [1u64, 2, 3, 4, 5]));
+    x[4] = 7;
+    let read = x[4];
+    let a = x.shareable();
+    let seen = (read, *a, a.is_unique(), a.is_static());
+    same!(&rt, seen, (7, [1, 2, 3, 4, 7], true, false));
+}
+
+#[test]
+fn an_unwritten_block_drops_no_value(rt: HostRuntime) {
+    let tally = Tally::new();
+    drop(ok!(&rt, UniqueArc::<Counted<'_>>::new_uninit(rt.alloc())));
+    let unwritten = tally.drops();
+    let a = ok!(&rt, UniqueArc::new_uninit(rt.alloc()))
+        .write(Counted::new(&tally, 2))
+        .shareable();
+    let written = (a.value, tally.drops());
+    drop(a);
+    same!(&rt, (unwritten, written, tally.drops()), (0, (2, 0), 1));
+}
+
+// Whether two handles of one block are equal, and whether a unique one equals itself.
+fn equals_itself<T: PartialEq + Drop>(rt: &(impl Abort + AllocGlobal), value: T) -> [bool; 2] {
+    let a = arc_of(rt, value);
+    let b = again!(rt, &a);
+    let is_equal = a == b;
+    drop(b);
+    let unique = ok!(rt, Arc::into_unique(a));
+    [is_equal, unique == unique]
+}
+
+#[test]
+fn equality_asks_the_values(rt: HostRuntime) {
+    same!(&rt, equals_itself(&rt, NeverEqual), [false, false]);
+    same!(&rt, equals_itself(&rt, 4u64), [true, true]);
+    let (c, d) = (arc_of(&rt, 4u64), arc_of(&rt, 4u64));
+    same!(&rt, c == d, true);
+    let (c, d) = (ok!(&rt, Arc::into_unique(c)), ok!(&rt, Arc::into_unique(d)));
+    same!(&rt, are_equal(&c, &d), true);
+}
+
+#[derive(Drop)]
+struct NeverEqual;
+
+impl PartialEq for NeverEqual {
+    ghost use Rattle.std.specs.Prelude.{false, refl};
+
+    ghost eq = { λ _ _. false };
+
+    ghost laws = { record { symm = λ _ _. refl; trans = λ _ _ _ equal _. equal } };
+
+    fn eq(&self, _other: &NeverEqual) -> bool {
+        false
+    }
+}

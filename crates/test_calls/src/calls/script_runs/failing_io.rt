@@ -1,0 +1,121 @@
+//! Runs whose input, output or standard error fails.
+use super::fakes::{FailingReader, FailingWriter, ShortWriter};
+use super::runs::{repeated, run_from};
+use scripts::bench;
+use std::alloc::Global;
+use std::io::Write;
+use std::process::Abort;
+use testing::{ok, same, same_at};
+
+/// What runs a script, the script and its answers.
+const SHORT: [(&str, &str, &str); 2] = [
+    ("core", "unique 0 0\nload 0 0\n", "is true\nvalue 5\n"),
+    ("table", "new 0 5\nget 0\n", "done\nvalue 5\n"),
+];
+
+// Each half of a script takes a read, and one more read finds the end.
+const READS: usize = 3;
+
+#[test]
+fn reports_input_that_cannot_be_read(rt: HostRuntime) {
+    for (kind, script, answers) in SHORT {
+        let (bytes, half) = (script.as_bytes(), script.len() / 2);
+        for reads_before in 0..READS {
+            let mut input = FailingReader::new(bytes, half, reads_before);
+            let ran = run_from(rt.alloc(), &[kind, "1"], &mut input);
+            ran.check(&rt, (kind, reads_before), b"", b"fault: input\n", 3);
+        }
+        for (most, reads_before) in [(half, READS), (1, usize::MAX)] {
+            let mut input = FailingReader::new(bytes, most, reads_before);
+            let ran = run_from(rt.alloc(), &[kind, "1"], &mut input);
+            ran.check(&rt, (kind, most), answers.as_bytes(), b"", 0);
+        }
+    }
+}
+
+/// The status, and how many bytes were written on standard error.
+fn run_into(alloc: Global, kind: &str, script: &str, output: &mut impl Write) -> (u8, usize) {
+    let mut errors = Vec::new(alloc);
+    let status = bench(
+        alloc,
+        &[kind, "1"],
+        &mut script.as_bytes(),
+        output,
+        &mut errors,
+    );
+    (status, errors.len())
+}
+
+/// A script, what it prints, the status, and how many writes that takes. Each write and then a flush fails in turn, and
+/// then none does.
+type Failures<'a> = (&'a str, &'a str, &'a str, u8, usize);
+
+fn check_failures(rt: &(impl Abort + AllocGlobal), row: Failures<'_>) {
+    let (kind, script, answers, status, writes) = row;
+    for before in 0..writes.saturating_add(2) {
+        let mut output = FailingWriter::new(rt.alloc(), before);
+        let ended = run_into(rt.alloc(), kind, script, &mut output);
+        let seen = (
+            answers.as_bytes().starts_with(&output.held),
+            output.held.as_slice() == answers.as_bytes(),
+            output.has_failed,
+            ended,
+        );
+        let has_failed = before <= writes;
+        let status = if has_failed { 4 } else { status };
+        let expected = (true, writes <= before, has_failed, (status, 0));
+        same_at!(rt, (kind, before), seen, expected);
+    }
+}
+
+// The answers to so many lines take three writes.
+const LINES: usize = 20_000;
+
+/// What runs a line, the line and its answer.
+const REPEATED: [(&str, &str, &str); 2] = [
+    ("core", "unique 0 0\n", "is true\n"),
+    ("table", "get 1\n", "no slot\n"),
+];
+
+#[test]
+fn ends_at_a_failed_write_or_flush(rt: HostRuntime) {
+    for (kind, script, answers) in SHORT {
+        check_failures(&rt, (kind, script, answers, 0, 1));
+        check_failures(&rt, (kind, "faulty\n", "fault: line 1\n", 2, 1));
+    }
+    for (kind, line, answer) in REPEATED {
+        let script = ok!(&rt, repeated(rt.alloc(), line, LINES));
+        let answers = ok!(&rt, repeated(rt.alloc(), answer, LINES));
+        check_failures(&rt, (kind, &script, &answers, 0, 3));
+    }
+}
+
+#[test]
+fn writes_all_through_short_and_interrupted_writes(rt: HostRuntime) {
+    for (kind, line, answer) in REPEATED {
+        let script = ok!(&rt, repeated(rt.alloc(), line, LINES));
+        let answers = ok!(&rt, repeated(rt.alloc(), answer, LINES));
+        for (most, status) in [(0, 4), (1, 0), (7, 0), (1000, 0), (65_535, 0)] {
+            let mut output = ShortWriter::new(rt.alloc(), most);
+            let ended = run_into(rt.alloc(), kind, &script, &mut output);
+            let is_whole = output.held.as_slice() == answers.as_bytes();
+            let expected = (status == 0, (status, 0));
+            same_at!(&rt, (kind, most), (is_whole, ended), expected);
+        }
+    }
+}
+
+/// The status, whether standard error failed, and how many bytes were written on standard output. The input fails too.
+fn run_unheard(alloc: Global, words: &[&str]) -> (u8, bool, usize) {
+    let mut input = FailingReader::new(b"", 1, 0);
+    let (mut output, mut errors) = (Vec::new(alloc), FailingWriter::new(alloc, 0));
+    let status = bench(alloc, words, &mut input, &mut output, &mut errors);
+    (status, errors.has_failed, output.len())
+}
+
+#[test]
+fn keeps_the_status_where_errors_cannot_be_written(rt: HostRuntime) {
+    let wrong = run_unheard(rt.alloc(), &["core"]);
+    let unread = run_unheard(rt.alloc(), &["table", "1"]);
+    same!(&rt, [wrong, unread], [(1, true, 0), (3, true, 0)]);
+}

@@ -1,0 +1,71 @@
+//! Long runs, many slots and a long slice: a cap that nobody asked for would refuse them.
+use servo_arc::counting_core::{Answer, Core, Step};
+use servo_arc::table::{Command, Reply, Table};
+use servo_arc::word::MAX_REFCOUNT;
+use servo_arc::{Arc, ThinArc};
+use std::alloc::{AllocError, Global};
+use std::process::Abort;
+use testing::{holds, ok, same};
+
+// More than sixteen bits can count.
+const MANY: usize = 70_000;
+
+const PAIRS: u32 = 35_000;
+
+fn commands(alloc: Global) -> Result<Vec<Command<u32>>, AllocError> {
+    let mut commands = Vec::with_capacity(alloc, MANY)?;
+    for value in 0..PAIRS {
+        commands.push(Command::New(0, value))?;
+        commands.push(Command::Same(0, 0))?;
+    }
+    Ok(commands)
+}
+
+fn are_done_and_true(replies: &[Reply]) -> bool {
+    let pair = [Reply::Done, Reply::Is(true)];
+    replies.len() == MANY && replies.chunks(2).all(|replies| replies == pair.as_slice())
+}
+
+#[test]
+fn a_run_takes_many_commands(rt: HostRuntime) {
+    let mut table = ok!(&rt, Table::new(rt.alloc(), 1));
+    let commands = ok!(&rt, commands(rt.alloc()));
+    let replies = ok!(&rt, table.run(rt.alloc(), commands));
+    let seen = (are_done_and_true(&replies), table.get(0));
+    same!(&rt, seen, (true, Some(&34_999)));
+}
+
+fn numbers(rt: &(impl Abort + AllocGlobal)) -> Vec<u32> {
+    ok!(rt, (0..70_000).collect(rt.alloc()))
+}
+
+#[test]
+fn a_header_slice_is_long(rt: HostRuntime) {
+    let items = numbers(&rt).into_iter();
+    let list: ThinArc<u8, u32> = ok!(&rt, Arc::from_header_and_iter(rt.alloc(), 7, items));
+    let seen = (list.len(), list.slice().last());
+    same!(&rt, seen, (MANY, Some(&69_999)));
+}
+
+#[test]
+fn a_table_cannot_have_all_slots(rt: HostRuntime) {
+    holds!(&rt, Table::<u32>::new(rt.alloc(), usize::MAX).is_err());
+}
+
+const OWNERS: usize = 5001;
+
+// A handle goes from each owner to the next, who reads through it.
+#[test]
+fn a_run_takes_ten_thousand_steps(rt: HostRuntime) {
+    let mut core = ok!(&rt, Core::new(rt.alloc(), 5u32, OWNERS, MAX_REFCOUNT));
+    let mut steps = Vec::new(rt.alloc());
+    for to in 1..OWNERS {
+        let (owner, handle) = (to - 1, 0);
+        ok!(&rt, steps.push(Step::Give { owner, handle, to }));
+        ok!(&rt, steps.push(Step::Load { owner: to, handle }));
+    }
+    let answers = ok!(&rt, core.run(&steps));
+    let pair = [Answer::Done, Answer::Value(5)];
+    let are_given = answers.chunks(2).all(|answers| answers == pair.as_slice());
+    same!(&rt, (answers.len(), are_given), (10_000, true));
+}

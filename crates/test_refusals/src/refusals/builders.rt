@@ -1,0 +1,251 @@
+//! What a builder of header slices leaves.
+use crate::refusals::reporting::report;
+use servo_arc::{Arc, BuildError, HeaderSlice, UniqueArc};
+use std::alloc::{AllocError, Global};
+use std::io::Print;
+use std::process::Abort;
+use std::sync::atomic::AtomicU64;
+use std::sync::atomic::Ordering::SeqCst;
+use testing::counted::{Counted, Tally};
+use testing::{ok, same, same_at, shared};
+
+// What was asked of an iterator, and what was dropped.
+#[derive(Drop)]
+struct Ledger {
+    asks: AtomicU64,
+    headers: Tally,
+    items: Tally,
+    sources: Tally,
+}
+
+impl Ledger {
+    fn new() -> Ledger {
+        Ledger {
+            asks: AtomicU64::new(0),
+            headers: Tally::new(),
+            items: Tally::new(),
+            sources: Tally::new(),
+        }
+    }
+
+    fn header(&self) -> Counted<'_> {
+        Counted::new(&self.headers, 9)
+    }
+
+    fn source(&self, len: usize) -> Source<'_> {
+        Source {
+            left: len,
+            ledger: self,
+            end: Counted::new(&self.sources, 0),
+        }
+    }
+
+    // How often the iterator was asked, and how many headers and items were dropped.
+    fn asks_and_drops(&self) -> [u64; 3] {
+        let asks = self.asks.load(SeqCst);
+        [asks, self.headers.drops(), self.items.drops()]
+    }
+}
+
+#[derive(Drop)]
+struct Source<'a> {
+    left: usize,
+    ledger: &'a Ledger,
+    end: Counted<'a>,
+}
+
+impl<'a> Iterator for Source<'a> {
+    ghost use Rattle.std.specs.Iterator.{at_most};
+
+    type Item = Counted<'a>;
+
+    ghost remaining = { λ s. at_most s.left };
+
+    fn next(&mut self) -> Option<Counted<'a>> {
+        self.ledger.asks.fetch_add(1, SeqCst);
+        if self.left == 0 {
+            return None;
+        }
+        self.left -= 1;
+        Some(Counted::new(&self.ledger.items, 5))
+    }
+}
+
+impl ExactSizeIterator for Source<'_> {
+    fn len(&self) -> usize {
+        self.left
+    }
+}
+
+#[derive(Clone, Copy, Debug, PartialEq)]
+enum Builder {
+    OfArc,
+    OfArcWithSize,
+    OfArcAlloc,
+    OfStaticArc,
+    OfUnique,
+    OfUniqueWithSize,
+    OfResults,
+    OfResultsUnique,
+}
+
+const BUILDERS: [Builder; 8] = [
+    Builder::OfArc,
+    Builder::OfArcWithSize,
+    Builder::OfArcAlloc,
+    Builder::OfStaticArc,
+    Builder::OfUnique,
+    Builder::OfUniqueWithSize,
+    Builder::OfResults,
+    Builder::OfResultsUnique,
+];
+
+type Counts<'a> = HeaderSlice<Counted<'a>, Counted<'a>>;
+
+type Built<'a> = Result<Arc<Counts<'a>>, BuildError>;
+
+fn build<'a>(builder: Builder, alloc: Global, ledger: &'a Ledger, len: usize) -> Built<'a> {
+    let (header, items) = (ledger.header(), ledger.source(len));
+    match builder {
+        Builder::OfArc => Arc::from_header_and_iter(alloc, header, items),
+        Builder::OfArcWithSize => Arc::from_header_and_iter_with_size(alloc, header, items, len),
+        Builder::OfArcAlloc => Arc::from_header_and_iter_alloc(alloc, header, items, len, false),
+        Builder::OfStaticArc => Arc::from_header_and_iter_alloc(alloc, header, items, len, true),
+        Builder::OfUnique => shared(UniqueArc::from_header_and_iter(alloc, header, items)),
+        Builder::OfUniqueWithSize => {
+            shared(UniqueArc::from_header_and_iter_with_size(alloc, header, items, len))
+        }
+        Builder::OfResults => Arc::try_from_header_and_iter(alloc, header, items.map(Ok)),
+        Builder::OfResultsUnique => {
+            shared(UniqueArc::try_from_header_and_iter(alloc, header, items.map(Ok)))
+        }
+    }
+}
+
+// A header and the items of a marked slice are never dropped.
+fn check_builder(rt: &(impl Abort + Print + AllocGlobal), builder: Builder, len: usize) {
+    let ledger = Ledger::new();
+    let number = len as u64;
+    let untouched = (9, len, [number.wrapping_add(1), 0, 0]);
+    let (expected, made) = match build(builder, rt.alloc(), &ledger, len) {
+        Ok(slice) => {
+            let made = (slice.header.value, slice.len(), ledger.asks_and_drops());
+            drop(slice);
+            let is_static = builder == Builder::OfStaticArc;
+            let after = if is_static { [0, 0] } else { [1, number] };
+            ([number.wrapping_add(1), after[0], after[1]], made)
+        }
+        Err(refusal) => {
+            same!(rt, refusal, BuildError::Memory);
+            let told = println!(rt; "{builder:?} of {len} items: nothing asked");
+            ok!(rt, told);
+            ([0, 1, 0], untouched)
+        }
+    };
+    same_at!(rt, (builder, len), made, untouched);
+    same_at!(rt, (builder, len), ledger.asks_and_drops(), expected);
+    same!(rt, ledger.sources.drops(), 1);
+}
+
+// The largest has 65,536 bytes of items.
+#[test]
+fn a_refused_builder_asks_for_nothing(rt: HostRuntime) {
+    for builder in BUILDERS {
+        for len in [0, 1, 3, 100, 4096] {
+            check_builder(&rt, builder, len);
+        }
+    }
+}
+
+#[derive(Clone, Copy, Debug, PartialEq)]
+enum OfList {
+    Slice,
+    SliceUnique,
+    Vector,
+    VectorUnique,
+}
+
+// By one request, if there are items at all.
+fn counted_vector<'a>(alloc: Global, tally: &'a Tally, len: usize) -> Option<Vec<Counted<'a>>> {
+    let mut items = Vec::with_capacity(alloc, len).ok()?;
+    for _ in 0..len {
+        items.push(Counted::new(tally, 5)).ok()?;
+    }
+    Some(items)
+}
+
+// So many of the items are counted.
+fn check_list<T: Drop>(
+    rt: &(impl Abort + Print),
+    row: (OfList, usize),
+    counted: u64,
+    ledger: &Ledger,
+    built: Result<Arc<HeaderSlice<Counted<'_>, T>>, AllocError>,
+) {
+    match built {
+        Ok(slice) => same_at!(
+            rt,
+            row,
+            (slice.len(), ledger.asks_and_drops()),
+            (row.1, [0; 3])
+        ),
+        Err(AllocError) => ok!(
+            rt,
+            println!(rt; "{:?} of {} items: all dropped", row.0, row.1)
+        ),
+    }
+    same_at!(rt, row, ledger.asks_and_drops(), [0, 1, counted]);
+}
+
+fn check_of_list(rt: &(impl Abort + Print + AllocGlobal), of: OfList, len: usize) {
+    let (alloc, ledger, row) = (rt.alloc(), Ledger::new(), (of, len));
+    let numbers = [7u64; 100];
+    let numbers = numbers.get(..len).unwrap_or(&[]);
+    let Some(items) = counted_vector(alloc, &ledger.items, len) else {
+        return ok!(rt, println!(rt; "{of:?} of {len} items: no vector"));
+    };
+    let (header, counted) = (ledger.header(), len as u64);
+    match of {
+        OfList::Slice => {
+            let built = Arc::from_header_and_slice(alloc, header, numbers);
+            check_list(rt, row, 0, &ledger, built);
+        }
+        OfList::SliceUnique => {
+            let built = UniqueArc::from_header_and_slice(alloc, header, numbers);
+            check_list(rt, row, 0, &ledger, shared(built));
+        }
+        OfList::Vector => {
+            let built = Arc::from_header_and_vec(alloc, header, items);
+            check_list(rt, row, counted, &ledger, built);
+        }
+        OfList::VectorUnique => {
+            let built = UniqueArc::from_header_and_vec(alloc, header, items);
+            check_list(rt, row, counted, &ledger, shared(built));
+        }
+    }
+}
+
+#[test]
+fn a_refused_list_is_dropped_with_its_header(rt: HostRuntime) {
+    for of in [
+        OfList::Slice,
+        OfList::SliceUnique,
+        OfList::Vector,
+        OfList::VectorUnique,
+    ] {
+        for len in [0, 1, 100] {
+            check_of_list(&rt, of, len);
+        }
+    }
+}
+
+#[test]
+fn a_builder_of_items_without_size_asks_for_its_block_alone(rt: HostRuntime) {
+    match Arc::from_header_and_iter(rt.alloc(), 9, [(), (), ()].into_iter()) {
+        Ok(slice) => same!(&rt, (slice.header, slice.len()), (9, 3)),
+        Err(refusal) => {
+            same!(&rt, refusal, BuildError::Memory);
+            report(&rt, "no block");
+        }
+    }
+}

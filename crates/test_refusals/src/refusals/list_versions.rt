@@ -1,0 +1,109 @@
+//! What a call on versions of a list leaves.
+use crate::refusals::reporting::report;
+use cow_table::{CowTable, SetError};
+use std::alloc::{AllocError, Global};
+use std::process::Abort;
+use testing::counted::{Tally, counted_items};
+use testing::{holds, same};
+
+#[test]
+fn items_that_get_no_pages_are_dropped(rt: HostRuntime) {
+    let tally = Tally::new();
+    let Some(items) = counted_items(rt.alloc(), &tally, 5) else {
+        return report(&rt, "the set-up");
+    };
+    match CowTable::from_items(rt.alloc(), items, 2) {
+        Ok(table) => same!(&rt, (table.len(), tally.drops()), (5, 0)),
+        Err(AllocError) => {
+            same!(&rt, tally.drops(), 5);
+            report(&rt, "a page, the list of pages or a block");
+        }
+    }
+}
+
+// Two versions that share all three of their pages.
+fn versions(alloc: Global) -> Option<(CowTable<u32>, CowTable<u32>)> {
+    let items = vec![in alloc; 1, 2, 3, 4, 5].ok()?;
+    let a = CowTable::from_items(alloc, items, 2).ok()?;
+    let b = a.clone().ok()?;
+    Some((a, b))
+}
+
+// What the version reads that was set, and which pages both share.
+fn check_set(
+    rt: &impl Abort,
+    (a, b): (&CowTable<u32>, &CowTable<u32>),
+    items: &[u32],
+    shared: [bool; 3],
+) {
+    let found = [
+        CowTable::page_ptr_eq(a, b, 0),
+        CowTable::page_ptr_eq(a, b, 1),
+        CowTable::page_ptr_eq(a, b, 2),
+    ];
+    same!(rt, (b.iter().eq(items), found), (true, shared));
+}
+
+#[test]
+fn a_refused_set_leaves_both_versions(rt: HostRuntime) {
+    let Some((a, mut b)) = versions(rt.alloc()) else {
+        return report(&rt, "the set-up");
+    };
+    match b.set(rt.alloc(), 2, 9) {
+        Ok(()) => check_set(&rt, (&a, &b), &[1, 2, 9, 4, 5], [true, false, true]),
+        Err(error) => {
+            same!(&rt, error, SetError::Memory);
+            check_set(&rt, (&a, &b), &[1, 2, 3, 4, 5], [true; 3]);
+            report(&rt, "the list of pages, the page or a block");
+        }
+    }
+    holds!(&rt, a.iter().eq(&[1, 2, 3, 4, 5]));
+}
+
+// A value whose copy is always refused.
+#[derive(Debug, PartialEq, Drop)]
+struct Original(u32);
+
+impl Clone for Original {
+    ghost use Rattle.std.specs.Prelude.{◌≡◌};
+
+    ghost is_clone = { λ x y. y ≡ x };
+
+    fn clone(&self) -> Result<Original, AllocError> {
+        Err(AllocError)
+    }
+}
+
+fn originals(alloc: Global) -> Option<(CowTable<Original>, CowTable<Original>)> {
+    let items = vec![in alloc; Original(1), Original(2)].ok()?;
+    let a = CowTable::from_items(alloc, items, 2).ok()?;
+    let b = a.clone().ok()?;
+    Some((a, b))
+}
+
+#[test]
+fn a_refused_copy_leaves_both_versions(rt: HostRuntime) {
+    let Some((a, mut b)) = originals(rt.alloc()) else {
+        return report(&rt, "the set-up");
+    };
+    let set = b.set(rt.alloc(), 1, Original(9));
+    same!(&rt, set, Err(SetError::Memory));
+    holds!(&rt, a == b && CowTable::page_ptr_eq(&a, &b, 0));
+    drop(a);
+    same!(&rt, b.set(rt.alloc(), 1, Original(9)), Ok(()));
+    holds!(&rt, b.iter().eq(&[Original(1), Original(9)]));
+}
+
+// Neither a version nor a write to a lone one requests memory.
+#[test]
+fn a_lone_set_is_never_refused(rt: HostRuntime) {
+    let Some((mut a, b)) = versions(rt.alloc()) else {
+        return report(&rt, "the set-up");
+    };
+    drop(b);
+    for i in 0..5 {
+        same!(&rt, a.set(rt.alloc(), i, 0), Ok(()));
+    }
+    let again: Result<CowTable<u32>, AllocError> = a.clone();
+    holds!(&rt, again.is_ok());
+}

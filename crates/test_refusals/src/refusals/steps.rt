@@ -1,0 +1,52 @@
+//! What a call on the core leaves, and a run of steps.
+use crate::refusals::reporting::report;
+use servo_arc::counting_core::{Answer, Core, Step};
+use servo_arc::word::MAX_REFCOUNT;
+use testing::{ok, same};
+
+const LOAD: Step<u32> = Step::Load {
+    owner: 0,
+    handle: 0,
+};
+
+#[test]
+fn a_core_hands_the_value_back(rt: HostRuntime) {
+    for owners in [1usize, 2, 1000] {
+        match Core::new(rt.alloc(), 5u32, owners.max(1), MAX_REFCOUNT) {
+            Ok(mut core) => same!(&rt, core.step(LOAD), Answer::Value(5)),
+            Err(value) => ok!(&rt, println!(rt; "{owners} owners: {value} back")),
+        }
+    }
+}
+
+// A handle is lent, and then cloned by the one that borrows it.
+const STEPS: [Step<u32>; 5] = [
+    Step::Lend {
+        owner: 0,
+        handle: 0,
+        to: 1,
+    },
+    Step::Clone {
+        owner: 1,
+        handle: 0,
+    },
+    Step::Raise { owner: 1 },
+    Step::Raise { owner: 1 },
+    Step::Quit { owner: 1 },
+];
+
+// After a run that was refused the room of its answers nothing has happened, so all of it still can.
+#[test]
+fn one_refusal_in_a_run(rt: HostRuntime) {
+    let Ok(mut core) = Core::new(rt.alloc(), 5u32, 2, MAX_REFCOUNT) else {
+        return report(&rt, "the set-up");
+    };
+    let answers = match core.run(&STEPS) {
+        Ok(answers) => answers,
+        Err(_) => {
+            report(&rt, "the room of the answers");
+            ok!(&rt, core.run(&STEPS))
+        }
+    };
+    ok!(&rt, println!(rt; "{:?}", answers.as_slice()));
+}

@@ -1,0 +1,29 @@
+//! Tests of what is shared: by threads that clone, drop, mark and write one block or one count, and by versions of
+//! lists, maps and trees, as callers in `uses` make them.
+
+mod alone_again;
+mod calling;
+mod channels;
+mod count_rows;
+mod count_threads;
+mod counted_tables;
+mod documents;
+mod lists;
+mod many_threads;
+mod maps;
+mod orders;
+mod page_rows;
+mod random_maps;
+mod roses;
+mod static_threads;
+mod styles;
+mod table_copies;
+mod table_threads;
+mod threads;
+mod told_apart;
+mod tree_callers;
+mod tree_changes;
+mod tree_copies;
+mod tree_threads;
+mod waiting;
+mod wrong_answers;

@@ -1,0 +1,88 @@
+//! A handle asks whether it is alone while another thread drops the other handle of its block. It is not before, and is
+//! once the other is gone. Between these both answers are possible.
+use crate::made::arc_of;
+use crate::sharing::waiting::{MOST_TURNS, have_come, wait_for};
+use servo_arc::{Arc, UniqueArc};
+use std::process::Abort;
+use std::sync::atomic::AtomicU64;
+use std::sync::atomic::Ordering::SeqCst;
+use std::thread;
+use testing::{again, holds, ok};
+
+const ROUNDS: u64 = 1000;
+
+// Steps, one after the other, of the thread that asks and of the one that drops.
+const ASKED: u64 = 1;
+
+const GONE: u64 = 2;
+
+fn drop_once_asked(rt: &impl Abort, steps: &AtomicU64, handle: Arc<u64>) {
+    wait_for(rt, steps, ASKED);
+    drop(handle);
+    steps.fetch_add(1, SeqCst);
+}
+
+fn write_when_alone(rt: &impl Abort, steps: &AtomicU64, mut handle: Arc<u64>) -> bool {
+    let was_refused = Arc::get_mut(&mut handle).is_none();
+    steps.fetch_add(1, SeqCst);
+    for turn in 0..=MOST_TURNS {
+        if have_come(rt, steps, GONE, turn) {
+            break;
+        }
+        if let Some(value) = Arc::get_mut(&mut handle) {
+            *value = 3;
+        }
+    }
+    match Arc::get_mut(&mut handle) {
+        Some(value) => *value = 2,
+        None => return false,
+    }
+    was_refused && *handle == 2
+}
+
+#[test]
+fn a_handle_writes_once_the_other_is_gone(rt: HostRuntime) {
+    for _ in 0..ROUNDS {
+        let steps = AtomicU64::new(0);
+        let a = arc_of(&rt, 1u64);
+        let b = again!(&rt, &a);
+        let (is_written, ()) = thread::join(
+            &rt,
+            || write_when_alone(&rt, &steps, a),
+            || drop_once_asked(&rt, &steps, b),
+        );
+        holds!(&rt, is_written);
+    }
+}
+
+fn unique_at_last(rt: &impl Abort, steps: &AtomicU64, handle: Arc<u64>) -> Option<UniqueArc<u64>> {
+    let mut handle = Arc::into_unique(handle).err()?;
+    steps.fetch_add(1, SeqCst);
+    for turn in 0..=MOST_TURNS {
+        if have_come(rt, steps, GONE, turn) {
+            break;
+        }
+        handle = match Arc::into_unique(handle) {
+            Ok(unique) => unique.shareable(),
+            Err(handle) => handle,
+        };
+    }
+    Arc::into_unique(handle).ok()
+}
+
+#[test]
+fn a_handle_is_unique_once_the_other_is_gone(rt: HostRuntime) {
+    for _ in 0..ROUNDS {
+        let steps = AtomicU64::new(0);
+        let a = arc_of(&rt, 1u64);
+        let b = again!(&rt, &a);
+        let (unique, ()) = thread::join(
+            &rt,
+            || unique_at_last(&rt, &steps, a),
+            || drop_once_asked(&rt, &steps, b),
+        );
+        let mut unique = ok!(&rt, unique.ok_or("shared"));
+        *unique = 2;
+        holds!(&rt, *unique.shareable() == 2);
+    }
+}

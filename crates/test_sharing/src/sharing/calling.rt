@@ -1,0 +1,110 @@
+//! The callers of the documentation, called: what they share, and on which threads.
+use crate::sharing::lists::SMALL_STACK;
+use persistent::List;
+use servo_arc::Arc;
+use std::sync::Mutex;
+use std::thread::Builder;
+use testing::counted::{Counted, Tally};
+use testing::{again, holds, ok, same};
+use trees::Stack;
+use uses::crossing::{end_elsewhere, is_unique_elsewhere, len_elsewhere, made_elsewhere};
+use uses::edits::{Article, two_titles};
+use uses::fonts::{FontCache, in_four_threads, shared_font};
+use uses::text_style::{
+    TextStyle, plain_and_bold, plain_style, properties, properties_of, put_under, rule_of, size_of,
+    styled,
+};
+
+#[test]
+fn a_bold_style_leaves_the_plain_one(rt: HostRuntime) {
+    let (plain, bold) = ok!(&rt, plain_and_bold(rt.alloc(), 12));
+    let is_one_block = Arc::ptr_eq(&plain, &bold);
+    let seen = (plain.is_unique(), bold.is_unique(), is_one_block);
+    same!(&rt, seen, (true, true, false));
+    let style = ok!(&rt, plain_style(rt.alloc(), 12));
+    same!(&rt, size_of(style.borrow_arc()), 12);
+}
+
+#[test]
+fn letters_stand_under_their_style(rt: HostRuntime) {
+    let style = TextStyle {
+        size: 12,
+        is_bold: false,
+    };
+    let text = styled(rt.alloc(), style, ['a', 'b'].into_iter(), 2);
+    same!(&rt, ok!(&rt, text).slice(), &['a', 'b'][..]);
+}
+
+#[test]
+fn properties_stand_under_their_rule(rt: HostRuntime) {
+    let mut list = ok!(&rt, properties(rt.alloc(), 7, &[1, 2, 3]));
+    let other = again!(&rt, &list);
+    let was_put = put_under(&mut list, 8);
+    drop(other);
+    same!(&rt, (was_put, put_under(&mut list, 9)), (false, true));
+    same!(&rt, rule_of(&list), 9);
+    let numbers = ok!(&rt, vec![in rt.alloc(); 4, 5]);
+    holds!(&rt, properties_of(rt.alloc(), 7, numbers).is_ok());
+}
+
+fn value_on_top(stack: &Stack<Counted<'_>>) -> Option<u64> {
+    Some(stack.top()?.value)
+}
+
+// Each item ends with the last version that has it.
+#[test]
+fn a_stack_shares_its_items(rt: HostRuntime) {
+    let tally = Tally::new();
+    let old = ok!(&rt, Stack::new().push(rt.alloc(), Counted::new(&tally, 1)));
+    let new = ok!(&rt, old.push(rt.alloc(), Counted::new(&tally, 2)));
+    let rest = ok!(&rt, new.rest());
+    drop(old);
+    drop(new);
+    let kept = (value_on_top(&rest), tally.drops());
+    drop(rest);
+    let seen = (kept, tally.drops(), tally.copies());
+    same!(&rt, seen, ((Some(1), 1), 2, 0));
+}
+
+#[test]
+fn a_tall_stack_ends_on_a_small_one(rt: HostRuntime) {
+    let mut tall = Stack::new();
+    for value in 0..100_000u64 {
+        tall = ok!(&rt, tall.push(rt.alloc(), value));
+    }
+    let small = Builder::new().stack_size(SMALL_STACK);
+    ok!(&rt, small.spawn(&rt, move || drop(tall))).join(&rt);
+}
+
+#[test]
+fn a_new_title_leaves_the_old_document(rt: HostRuntime) {
+    let body = ok!(&rt, Arc::new(rt.alloc(), 7u32));
+    let document = ok!(&rt, Arc::new(rt.alloc(), Article { title: 1, body }));
+    let (old, new) = ok!(&rt, two_titles(rt.alloc(), document, 2));
+    let is_shared = Arc::ptr_eq(&old.body, &new.body);
+    same!(&rt, (old.title, new.title, is_shared), (1, 2, true));
+}
+
+#[test]
+fn four_threads_share_one_font(rt: HostRuntime) {
+    let cache = Mutex::new(FontCache::new());
+    let fonts = ok!(&rt, in_four_threads(&rt, &cache, rt.alloc(), 70));
+    let first = ok!(&rt, shared_font(&rt, &cache, rt.alloc(), 70));
+    let one = fonts.iter().all(|font| match font {
+        Ok(font) => Arc::ptr_eq(font, &first),
+        Err(_) => false,
+    });
+    holds!(&rt, one);
+}
+
+// A handle that another thread makes, is lent and is given, and a list that is lent.
+#[test]
+fn a_handle_crosses_threads(rt: HostRuntime) {
+    let a = ok!(&rt, made_elsewhere(&rt, rt.alloc(), 7));
+    let b = again!(&rt, &a);
+    let shared = (*a, is_unique_elsewhere(&rt, &a), end_elsewhere(&rt, b));
+    let alone = (is_unique_elsewhere(&rt, &a), end_elsewhere(&rt, a));
+    same!(&rt, (shared, alone), ((7, false, false), (true, true)));
+    let list = ok!(&rt, List::new().push(rt.alloc(), 7));
+    same!(&rt, len_elsewhere(&rt, &list), 1);
+}

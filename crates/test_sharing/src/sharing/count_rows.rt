@@ -1,0 +1,186 @@
+//! The worked rows of the shared count, in one thread.
+ghost use Rattle.std.specs.Prelude.{◌≡◌};
+
+use self::Who::{P, Q};
+use servo_arc::shared_count::{CountPass, EndReply, SharedCount, TryClone};
+use std::process::Abort;
+use testing::opened::{open_one, open_two};
+use testing::{holds, ok, same, same_at};
+
+/// A call with its answer.
+#[derive(Clone, Copy, Debug, PartialEq)]
+enum Call {
+    Clone(TryClone),
+    End(EndReply),
+    Mark,
+    Unique(bool),
+    Static(bool),
+    Owned(u64),
+}
+
+const BORN: Call = Call::Clone(TryClone::Born);
+
+const ENDED: Call = Call::End(EndReply::Ended);
+
+const LAST: Call = Call::End(EndReply::Last);
+
+/// A pass, and the count that it is of.
+#[derive(Drop)]
+struct Caller<'a> {
+    count: &'a SharedCount,
+    pass: CountPass,
+    ghost own: { pass.count ≡ count.now },
+}
+
+impl<'a> Caller<'a> {
+    fn of(count: &'a SharedCount, pass: CountPass) -> Caller<'a>
+        requires { pass.count ≡ count.now }
+    {
+        Caller { count, pass }
+    }
+
+    /// The call with the answer that it gets, or none if the pass owns no handle.
+    fn answered(&mut self, call: Call) -> Option<Call> {
+        let owned = self.pass.owned();
+        if owned == 0 || owned == u64::MAX {
+            return if call == Call::Owned(owned) {
+                Some(call)
+            } else {
+                None
+            };
+        }
+        match call {
+            Call::Clone(_) => Some(Call::Clone(self.count.try_clone(&mut self.pass))),
+            Call::End(_) => Some(Call::End(self.count.end(&mut self.pass))),
+            Call::Mark => {
+                self.count.mark(&mut self.pass);
+                Some(Call::Mark)
+            }
+            Call::Unique(_) => Some(Call::Unique(self.count.is_unique(&mut self.pass))),
+            Call::Static(_) => Some(Call::Static(self.count.is_static(&mut self.pass))),
+            Call::Owned(_) => Some(Call::Owned(owned)),
+        }
+    }
+}
+
+#[derive(Clone, Copy)]
+enum Who {
+    P,
+    Q,
+}
+
+/// Who calls, and the call.
+type Row = (Who, Call);
+
+fn check(rt: &impl Abort, name: &str, mut p: Caller<'_>, mut q: Caller<'_>, rows: &[Row]) {
+    for (number, (who, call)) in rows.iter().enumerate() {
+        let found = match who {
+            P => p.answered(*call),
+            Q => q.answered(*call),
+        };
+        same_at!(rt, (name, number), found, Some(*call));
+    }
+}
+
+/// Rows of the two passes of one count.
+const TOGETHER: [(&str, &[Row]); 2] = [
+    (
+        "two passes see each other in the replies",
+        &[
+            (P, Call::Unique(false)),
+            (Q, ENDED),
+            (P, Call::Unique(true)),
+            (P, BORN),
+            (P, Call::Unique(false)),
+            (P, Call::Mark),
+            (P, Call::Static(true)),
+            (P, ENDED),
+            (P, ENDED),
+        ],
+    ),
+    // A clone that raised from the word of `is_unique` would be overtaken here.
+    (
+        "a clone reads the word anew",
+        &[
+            (P, Call::Unique(false)),
+            (Q, ENDED),
+            (P, BORN),
+            (P, Call::Owned(2)),
+            (P, ENDED),
+            (P, LAST),
+        ],
+    ),
+];
+
+/// Rows of two passes, each the only one of its count.
+const APART: [(&str, &[Row]); 3] = [
+    (
+        "a pass alone is unique and ends last",
+        &[
+            (P, Call::Owned(1)),
+            (P, BORN),
+            (P, Call::Owned(2)),
+            (P, ENDED),
+            (P, Call::Unique(true)),
+            (P, LAST),
+            (P, Call::Owned(0)),
+        ],
+    ),
+    ("a pass alone ends last", &[(P, LAST)]),
+    (
+        "two counts know nothing of each other",
+        &[
+            (P, Call::Mark),
+            (Q, Call::Unique(true)),
+            (Q, LAST),
+            (P, Call::Static(true)),
+            (P, ENDED),
+        ],
+    ),
+];
+
+#[test]
+fn passes_are_answered_in_turn(rt: HostRuntime) {
+    for (name, rows) in TOGETHER {
+        let (count, p, q) = ok!(&rt, open_two(rt.alloc()));
+        let (p, q) = (Caller::of(&count, p), Caller::of(&count, q));
+        check(&rt, name, p, q, rows);
+    }
+    for (name, rows) in APART {
+        let (one, p) = ok!(&rt, open_one(rt.alloc()));
+        let (two, q) = ok!(&rt, open_one(rt.alloc()));
+        check(&rt, name, Caller::of(&one, p), Caller::of(&two, q), rows);
+    }
+}
+
+#[test]
+fn a_marked_count_never_ends_last(rt: HostRuntime) {
+    let (count, mut p, mut q) = ok!(&rt, open_two(rt.alloc()));
+    count.mark(&mut p);
+    holds!(&rt, count.try_clone(&mut q) == TryClone::Born);
+    count.meet(&mut p, &mut q);
+    let rows = [(P, Call::Static(true)), (Q, ENDED), (Q, ENDED), (P, ENDED)];
+    check(
+        &rt,
+        "met",
+        Caller::of(&count, p),
+        Caller::of(&count, q),
+        &rows,
+    );
+}
+
+#[test]
+fn the_handles_of_a_dropped_pass_stay_counted(rt: HostRuntime) {
+    let (count, mut p, q) = ok!(&rt, open_two(rt.alloc()));
+    drop(q);
+    holds!(&rt, !count.is_unique(&mut p));
+    holds!(&rt, count.end(&mut p) == EndReply::Ended);
+}
+
+// More than sixteen bits can count. A cap that nobody asked for would refuse them.
+#[test]
+fn a_count_has_many_passes_and_not_all(rt: HostRuntime) {
+    let (_count, passes) = ok!(&rt, SharedCount::open(rt.alloc(), 70_000));
+    let is_refused = SharedCount::open(rt.alloc(), usize::MAX).is_err();
+    same!(&rt, (passes.len(), is_refused), (70_000, true));
+}

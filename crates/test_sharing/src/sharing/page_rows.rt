@@ -1,0 +1,124 @@
+//! What versions read, which pages they share, and the texts.
+ghost use Rattle.std.specs.Prelude.{◌<◌};
+
+use cow_table::{CowTable, SetError};
+use std::alloc::{AllocError, Global};
+use testing::{again, ok, same, same_at};
+
+fn table_of(alloc: Global, items: &[u32], page_len: usize) -> Result<CowTable<u32>, AllocError>
+    requires { 0 < page_len }
+{
+    CowTable::from_items(alloc, items.to_vec(alloc)?, page_len)
+}
+
+// By each of the ways to read.
+fn reads(table: &CowTable<u32>, items: &[u32]) -> bool {
+    table.get(0) == items.first()
+        && table.get(items.len()).is_none()
+        && table.len() == items.len()
+        && table.is_empty() == items.is_empty()
+        && table.into_iter().eq(items)
+        && table.iter().rev().eq(items.iter().rev())
+}
+
+pub fn shared_pages<T>(a: &CowTable<T>, b: &CowTable<T>) -> [bool; 4] {
+    [
+        CowTable::page_ptr_eq(a, b, 0),
+        CowTable::page_ptr_eq(a, b, 1),
+        CowTable::page_ptr_eq(a, b, 2),
+        CowTable::page_ptr_eq(a, b, 3),
+    ]
+}
+
+// What a version sets, beside another one of the same items.
+struct Row {
+    items: &'static [u32],
+    page_len: usize,
+    place: usize,
+    value: u32,
+    set: Result<(), SetError>,
+    new_items: &'static [u32],
+    // Before and after.
+    shared: [[bool; 4]; 2],
+}
+
+const ROWS: [Row; 3] = [
+    Row {
+        items: &[1, 2, 3, 4, 5],
+        page_len: 2,
+        place: 2,
+        value: 9,
+        set: Ok(()),
+        new_items: &[1, 2, 9, 4, 5],
+        shared: [[true, true, true, false], [true, false, true, false]],
+    },
+    Row {
+        items: &[1, 2, 3],
+        page_len: 5,
+        place: 2,
+        value: 7,
+        set: Ok(()),
+        new_items: &[1, 2, 7],
+        shared: [[true, false, false, false], [false; 4]],
+    },
+    Row {
+        items: &[],
+        page_len: 3,
+        place: 0,
+        value: 1,
+        set: Err(SetError::NoPlace),
+        new_items: &[],
+        shared: [[false; 4], [false; 4]],
+    },
+];
+
+// Neither version has a place past its items.
+#[test]
+fn a_version_changes_alone(rt: HostRuntime) {
+    let no_place = Err(SetError::NoPlace);
+    for (number, row) in ROWS.iter().enumerate() {
+        let mut old = ok!(&rt, table_of(rt.alloc(), row.items, row.page_len.max(1)));
+        let mut new = again!(&rt, &old);
+        let before = shared_pages(&old, &new);
+        let sets = [
+            new.set(rt.alloc(), row.place, row.value),
+            new.set(rt.alloc(), row.items.len(), 0),
+            old.set(rt.alloc(), row.items.len(), 0),
+        ];
+        let shared = [before, shared_pages(&old, &new)];
+        let are_read = reads(&old, row.items) && reads(&new, row.new_items);
+        let expected = ([row.set, no_place, no_place], true, row.shared);
+        same_at!(&rt, number, (sets, are_read, shared), expected);
+    }
+}
+
+#[test]
+fn tables_and_errors_have_their_texts(rt: HostRuntime) {
+    let alloc = rt.alloc();
+    for (items, text) in [(&[][..], "[]"), (&[1, 2, 3][..], "[1, 2, 3]")] {
+        let table = ok!(&rt, table_of(alloc, items, 2));
+        same!(&rt, ok!(&rt, format!(in alloc; "{table:?}")).as_str(), text);
+    }
+    for (error, text) in [
+        (SetError::NoPlace, "no such place"),
+        (SetError::Memory, "out of memory"),
+    ] {
+        same!(&rt, ok!(&rt, format!(in alloc; "{error}")).as_str(), text);
+    }
+}
+
+// More than sixteen bits can count. A cap that nobody asked for would refuse them.
+const MANY: u32 = 70_000;
+
+#[test]
+fn a_table_has_many_pages(rt: HostRuntime) {
+    let items = ok!(&rt, (0..MANY).collect(rt.alloc()));
+    let pages = ok!(&rt, CowTable::from_items(rt.alloc(), items, 1));
+    let copy = again!(&rt, &pages);
+    let shared = [
+        CowTable::page_ptr_eq(&pages, &copy, 69_999),
+        CowTable::page_ptr_eq(&pages, &copy, 70_000),
+    ];
+    let seen = (pages.len(), pages.get(69_999), shared);
+    same!(&rt, seen, (70_000, Some(&69_999), [true, false]));
+}

@@ -1,0 +1,120 @@
+//! Random changes of maps, beside the same changes of sorted lists. Versions are kept, and changed later on.
+use persistent::TreeMap;
+use std::alloc::{AllocError, Global};
+use std::mem::{replace, swap};
+use std::process::Abort;
+use testing::{again, holds_at, ok, same_at};
+
+const SEEDS: u64 = 100;
+
+const STEPS: u64 = 10_000;
+
+// So many steps put in more than they take out, and as many the other way round.
+const TURN: u64 = 2_500;
+
+// A version is kept after each so many steps.
+const KEPT: u64 = 500;
+
+// A map of half of them has branches under its first node.
+const KEYS: u64 = 4_000;
+
+#[derive(Clone, Copy, Debug, PartialEq)]
+enum Call {
+    Insert(u64),
+    Flip(u64),
+    Remove,
+}
+
+// By 31 random bits.
+fn call_of(bits: u64, is_growing: bool) -> Call {
+    match bits % 8 {
+        0 => Call::Flip(bits),
+        1 | 2 if is_growing => Call::Remove,
+        1 | 2 => Call::Insert(bits),
+        _ if is_growing => Call::Insert(bits),
+        _ => Call::Remove,
+    }
+}
+
+type Map = TreeMap<u64, u64>;
+
+type List = Vec<(u64, u64)>;
+
+// What the key had, or has once it is flipped.
+fn in_map(map: &mut Map, alloc: Global, call: Call, key: u64) -> Result<Option<u64>, AllocError> {
+    match call {
+        Call::Insert(value) => {
+            let old = map.get(&key).copied();
+            map.insert(alloc, key, value)?;
+            Ok(old)
+        }
+        Call::Flip(bits) => map.modify(alloc, &key, |value| {
+            *value ^= bits;
+            *value
+        }),
+        Call::Remove => map.remove(alloc, &key),
+    }
+}
+
+fn in_list(list: &mut List, call: Call, key: u64) -> Result<Option<u64>, AllocError> {
+    match (call, list.binary_search_by_key(&key, |entry| entry.0)) {
+        (Call::Insert(value), Err(at)) => {
+            list.insert(at, (key, value))?;
+            Ok(None)
+        }
+        (Call::Insert(value), Ok(at)) => Ok(Some(replace(&mut list[at].1, value))),
+        (Call::Flip(bits), Ok(at)) => {
+            list[at].1 ^= bits;
+            Ok(Some(list[at].1))
+        }
+        (Call::Remove, Ok(at)) => Ok(Some(list.remove(at).1)),
+        (Call::Flip(_) | Call::Remove, Err(_)) => Ok(None),
+    }
+}
+
+// By each of the ways to read.
+fn reads(map: &Map, list: &[(u64, u64)]) -> bool {
+    map.len() == list.len()
+        && map.iter().eq(list)
+        && map.iter().rev().eq(list.iter().rev())
+        && list.iter().enumerate().all(|(at, entry)| {
+            map.entry(at) == Some(entry)
+                && map.get(&entry.0) == Some(&entry.1)
+                && map.range(&entry.0..&KEYS).next() == Some(entry)
+        })
+}
+
+fn next(state: u64) -> u64 {
+    state
+        .wrapping_mul(6364136223846793005)
+        .wrapping_add(1442695040888963407)
+}
+
+fn run(rt: &(impl Abort + AllocGlobal), seed: u64) {
+    let mut now = (TreeMap::new(), Vec::new(rt.alloc()));
+    let mut kept = Vec::new(rt.alloc());
+    let mut state = seed;
+    for step in 0..STEPS {
+        state = next(state);
+        let bits = state >> 33;
+        let (call, key) = (call_of(bits, step / TURN % 2 == 0), bits / 8 % KEYS);
+        let found = ok!(rt, in_map(&mut now.0, rt.alloc(), call, key));
+        let expected = ok!(rt, in_list(&mut now.1, call, key));
+        same_at!(rt, (seed, step, call, key), found, expected);
+        if step % KEPT == 0 {
+            ok!(rt, kept.push((again!(rt, &now.0), again!(rt, &now.1))));
+            let at = bits as usize % kept.len();
+            swap(&mut now, &mut kept[at]);
+        }
+    }
+    for (map, list) in &kept {
+        holds_at!(rt, seed, reads(map, list));
+    }
+}
+
+#[test]
+fn random_versions_are_sorted_lists(rt: HostRuntime) {
+    for seed in 0..SEEDS {
+        run(&rt, seed);
+    }
+}

@@ -1,0 +1,96 @@
+//! How many values a change copies, and what it drops. A leaf that a change makes out of a shared one has copies of its
+//! values.
+use crate::sharing::orders::{ORDERS, Order};
+use persistent::{List, TreeMap};
+use std::alloc::{AllocError, Global};
+use testing::counted::{Counted, Tally};
+use testing::{again, ok, same, same_at};
+
+const KEYS: u64 = 1_000_000;
+
+type Map<'a> = TreeMap<u64, Counted<'a>>;
+
+// A map of the first even keys.
+fn evens<'a>(alloc: Global, tally: &'a Tally, order: Order) -> Result<Map<'a>, AllocError> {
+    let mut map = TreeMap::new();
+    for place in 0..KEYS {
+        let key = order.key(place, KEYS);
+        map.insert(alloc, 2 * key, Counted::new(tally, key))?;
+    }
+    Ok(map)
+}
+
+// Every change is in place if the version shares nothing, whatever nodes become two or one.
+#[test]
+fn a_lone_version_copies_nothing(rt: HostRuntime) {
+    for (coming, going) in ORDERS {
+        let tally = Tally::new();
+        let mut map = ok!(&rt, evens(rt.alloc(), &tally, coming));
+        let before = tally.drops();
+        ok!(&rt, map.insert(rt.alloc(), 0, Counted::new(&tally, 9)));
+        let replaced = tally.drops();
+        for place in 0..KEYS {
+            let key = 2 * going.key(place, KEYS);
+            drop(ok!(&rt, map.remove(rt.alloc(), &key)));
+        }
+        let drops = [before, replaced, tally.drops()];
+        let seen = (drops, tally.copies(), map.len());
+        same_at!(&rt, (coming, going), seen, ([0, 1, KEYS + 1], 0, 0));
+    }
+}
+
+// The most entries of a leaf.
+const LEAF: u64 = 64;
+
+// The only values of a path are those of its leaf.
+#[test]
+fn an_insert_copies_its_path_alone(rt: HostRuntime) {
+    for (order, _) in ORDERS {
+        let tally = Tally::new();
+        let map = ok!(&rt, evens(rt.alloc(), &tally, order));
+        for key in (0..2 * KEYS).step_by(999) {
+            let (copies, before) = (tally.copies(), tally.living(0));
+            let mut version = again!(&rt, &map);
+            let value = Counted::new(&tally, key);
+            ok!(&rt, version.insert(rt.alloc(), key, value));
+            let copied = tally.copies().wrapping_sub(copies);
+            let kept = tally.living(0).wrapping_sub(before);
+            drop(version);
+            let seen = [kept <= LEAF, copied <= LEAF, tally.living(1) == before];
+            same_at!(&rt, (order, key), seen, [true; 3]);
+        }
+        drop(map);
+    }
+}
+
+// Each leaf is copied once at most, for its first change, and each value ends with the last version that has it.
+#[test]
+fn a_value_ends_with_its_last_version(rt: HostRuntime) {
+    let tally = Tally::new();
+    let old = ok!(&rt, evens(rt.alloc(), &tally, Order::Inward));
+    let (copies, mut new) = (tally.copies(), again!(&rt, &old));
+    for key in 0..KEYS {
+        drop(ok!(&rt, new.remove(rt.alloc(), &(2 * key))));
+    }
+    let is_little = tally.copies().wrapping_sub(copies) <= KEYS;
+    let emptied = tally.living(KEYS);
+    ok!(&rt, new.insert(rt.alloc(), 1, Counted::new(&tally, 1)));
+    drop(old);
+    let left = tally.living(KEYS + 1);
+    drop(new);
+    let lives = [emptied, left, tally.living(KEYS + 1)];
+    same!(&rt, (is_little, lives), (true, [KEYS, 1, 0]));
+}
+
+#[test]
+fn a_list_copies_nothing(rt: HostRuntime) {
+    let tally = Tally::new();
+    let old = ok!(&rt, List::new().push(rt.alloc(), Counted::new(&tally, 1)));
+    let new = ok!(&rt, old.push(rt.alloc(), Counted::new(&tally, 2)));
+    let copy = again!(&rt, &new);
+    drop(new);
+    drop(old);
+    let kept = (tally.drops(), copy.len());
+    drop(copy);
+    same!(&rt, (kept, tally.drops(), tally.copies()), ((0, 2), 2, 0),);
+}

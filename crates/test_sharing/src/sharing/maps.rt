@@ -3,8 +3,10 @@ use crate::sharing::lists::SMALL_STACK;
 use crate::sharing::orders::{ORDERS, Order};
 use persistent::TreeMap;
 use std::alloc::{AllocError, Global};
+use std::fmt::Debug;
+use std::process::Abort;
 use std::thread::Builder;
-use testing::{again, holds, holds_at, ok, same, same_at};
+use testing::{again, holds_at, ok, same, same_at};
 
 fn three(alloc: Global) -> Result<TreeMap<(char, u8), u32>, AllocError> {
     let mut map = TreeMap::new();
@@ -12,6 +14,11 @@ fn three(alloc: Global) -> Result<TreeMap<(char, u8), u32>, AllocError> {
         map.insert(alloc, key, value)?;
     }
     Ok(map)
+}
+
+fn check_text<T: Debug>(rt: &(impl Abort + AllocGlobal), value: &T, text: &str) {
+    let found = format!(in rt.alloc(); "{value:?}");
+    same!(rt, ok!(rt, found).as_str(), text);
 }
 
 // A copy of a map shares its root. Its keys are of any type that has an order.
@@ -22,11 +29,10 @@ fn versions_read_as_they_were_made(rt: HostRuntime) {
     let copy = again!(&rt, &old);
     let mut new = again!(&rt, &old);
     same!(&rt, ok!(&rt, new.remove(alloc, &('b', 1))), Some(8));
-    let texts = ok!(&rt, format!(in alloc; "{old:?} {new:?}"));
     let are_one = [TreeMap::ptr_eq(&old, &copy), TreeMap::ptr_eq(&old, &new)];
     same!(&rt, (are_one, old == copy), ([true, false], true));
-    let expected = "{('a', 9): 3, ('b', 1): 8, ('b', 2): 5} {('a', 9): 3, ('b', 2): 5}";
-    same!(&rt, texts.as_str(), expected);
+    check_text(&rt, &old, "{('a', 9): 3, ('b', 1): 8, ('b', 2): 5}");
+    check_text(&rt, &new, "{('a', 9): 3, ('b', 2): 5}");
 }
 
 // As std's maps are printed.

@@ -6,6 +6,7 @@ use crate::sharing::orders::Order;
 use cow_table::CowTable;
 use persistent::{List, TreeMap};
 use std::alloc::{AllocError, Global};
+use std::process::Abort;
 use testing::{again, ok, same_at};
 
 const ITEMS: u32 = 100;
@@ -23,23 +24,23 @@ fn table_of(alloc: Global, page_len: usize) -> Result<CowTable<u32>, AllocError>
     CowTable::from_items(alloc, (0..ITEMS).collect(alloc)?, page_len.max(1))
 }
 
+// How many pages a table shares with its copy, and with a version of which one item was set.
+fn check_pages(rt: &(impl Abort + AllocGlobal), page_len: usize, pages: usize, unset: usize) {
+    let a = ok!(rt, table_of(rt.alloc(), page_len));
+    let with_equal = shared_pages(&a, &ok!(rt, table_of(rt.alloc(), page_len)));
+    let with_copy = shared_pages(&a, &again!(rt, &a));
+    let mut written = again!(rt, &a);
+    let was_set = written.set(rt.alloc(), 97, 97).is_ok();
+    let is_kept = CowTable::page_ptr_eq(&a, &written, 97 / page_len.max(1));
+    let shared = [with_equal, with_copy, shared_pages(&a, &written)];
+    let seen = (was_set, shared, is_kept);
+    same_at!(rt, page_len, seen, (true, [0, pages, unset], false));
+}
+
 #[test]
 fn pages_are_told_apart(rt: HostRuntime) {
-    let alloc = rt.alloc();
-    for (page_len, pages) in [(1, 100), (3, 34), (64, 2), (100, 1)] {
-        let a = ok!(&rt, table_of(alloc, page_len));
-        let equal = ok!(&rt, table_of(alloc, page_len));
-        let copy = again!(&rt, &a);
-        let mut written = again!(&rt, &a);
-        let was_set = written.set(alloc, 97, 97).is_ok();
-        let shared = [
-            shared_pages(&a, &equal),
-            shared_pages(&a, &copy),
-            shared_pages(&a, &written),
-        ];
-        let is_kept = CowTable::page_ptr_eq(&a, &written, 97 / page_len.max(1));
-        let expected = (true, [0, pages, pages - 1], false);
-        same_at!(&rt, page_len, (was_set, shared, is_kept), expected);
+    for (page_len, pages, unset) in [(1, 100, 99), (3, 34, 33), (64, 2, 1), (100, 1, 0)] {
+        check_pages(&rt, page_len, pages, unset);
     }
 }
 

@@ -1,10 +1,12 @@
 -- The symbols of a list of values.
-use Rattle.std.proofs.Common.{◌≡◌, ℕ, ◌↔◌, Bool, true, false, not, List, [], ◌∷◌, ◌++◌, length, get_or, Some, None}
-use Rattle.std.proofs.Common.{Option, IsSome, is_some, nat_eq, refl, sym, ap, ◌∙◌, true≢false, position, nat_lt, arith}
+use Rattle.std.proofs.Common.{◌≡◌, ℕ, ◌↔◌, Bool, true, false, not, List, [], ◌∷◌, ◌++◌, length, get_or, Some, None, if◌then◌else◌}
+use Rattle.std.proofs.Common.{Option, IsSome, is_some, nat_eq, refl, sym, ap, ◌∙◌, true≢false, position, nat_lt, slice_get, arith}
 use Rattle.std.proofs.lemmas.List.Folds.{position_or_len_push}
 use Rattle.std.proofs.lemmas.List.Sums.{prefix_len-le-length}
 use Rattle.std.proofs.lemmas.List.Quantifiers.{position-Some}
 use Rattle.std.proofs.lemmas.Grind.{common_steps}
+use Rattle.std.proofs.lemmas.List.{get_or_append_left}
+use Rattle.std.proofs.lemmas.Option.{get_or_from_slice_get, slice_get-get_or, slice_get_within}
 use Rattle.std.specs.Cmp.{IsEquivalence}
 use Rattle.std.specs.List.{list_any, position_or_len}
 use Rattle.interner.specs.Symbols.{symbol_of, with_value, IsInterned}
@@ -77,13 +79,53 @@ module _ {T : Type 0} {eq : T → T → Bool} (laws : IsEquivalence eq) where
           stays = λ v some. ap (λ xs. symbol_of eq xs v) is ∙ stays v some;
         }
 
+    -- the value of a symbol is there already
+    pub known : (s : ℕ) → symbol_of eq old value ≡ Some s → IsInterned eq old value old s
+    known s is = interned old s (grind (arith, is, any_by_place (eq value) old)) (grind (arith, is))
+
+    -- a new value gets the next symbol
+    pub added : (new : List T) (s : ℕ) → list_any (eq value) old ≡ false → new ≡ old ++ value ∷ [] → s ≡ length old
+        → IsInterned eq old value new s
+    added new s none is at = interned new s (grind (arith, none, is))
+        (grind (arith, none, at, any_by_place (eq value) old, prefix_len-le-length (λ x. not (eq value x)) old))
+
+    -- a value is there exactly if it has a symbol
+    pub has_symbol : is_some (symbol_of eq old value) ≡ list_any (eq value) old
+    has_symbol = grind (arith, any_by_place (eq value) old)
+
+-- what a caller knows after an `intern`
+module _ {T : Type 0} {eq : T → T → Bool} {old new : List T} {value : T} {s : ℕ}
+    (met : IsInterned eq old value new s) where
+  -- the value stands under its symbol, where no other value is equal to it
+  pub stands_at : eq value value ≡ true → ((v : T) → eq value v ≡ true → value ≡ v) → slice_get new s ≡ Some value
+  stands_at self same =
+      let at = position-Some (eq value) new s value ((met.one value).1 self) in
+      slice_get-get_or new s value at.0 ∙ ap Some (sym (same (get_or new s value) at.1))
+
+  -- a value that was there stays under its symbol
+  pub stays_at : (k : ℕ) (v : T) → slice_get old k ≡ Some v → slice_get new k ≡ Some v
+  stays_at k v is = ap (λ vs. slice_get vs k) met.values ∙ by (list_any (eq value) old)
+    where
+      by : (there : Bool) → slice_get (if there then old else old ++ value ∷ []) k ≡ Some v
+      by true = is
+      by false =
+          let within = slice_get_within old k v is in
+          grind (
+            arith,
+            common_steps,
+            within,
+            slice_get-get_or (old ++ value ∷ []) k v,
+            get_or_append_left old (value ∷ []) v k within,
+            get_or_from_slice_get old k v v is,
+          )
+
 -- two symbols are equal exactly if the values are that were interned for them
 module _ {T : Type 0} (eq : T → T → Bool) (old mid new : List T) (a b : T) (s t : ℕ)
     (laws : IsEquivalence eq) (first : IsInterned eq old a mid s) (second : IsInterned eq mid b new t) where
   found : symbol_of eq new a ≡ Some s
   found =
-      let then = (first.one a).1 (laws.refl a) in
-      second.stays a (ap is_some then) ∙ then
+      let at = (first.one a).1 (laws.refl a) in
+      second.stays a (ap is_some at) ∙ at
 
   pub equal_symbols : nat_eq s t ≡ eq a b
   equal_symbols = by (eq a b) refl (nat_eq s t) refl

@@ -37,16 +37,16 @@ fn a_color_keeps_its_number(rt: HostRuntime) -> Result<(), Fail> {
     Ok(())
 }
 
-fn compared(alloc: Global) -> Result<(bool, bool), InternError> {
+fn compared(alloc: Global) -> Result<(bool, bool, bool), InternError> {
     let mut colors = Interner::new(alloc);
     let same = are_equal(&mut colors, alloc, RED, RED)?;
     let other = are_equal(&mut colors, alloc, RED, BLUE)?;
-    Ok((same, other))
+    Ok((same, other, colors.find(&BLUE).is_some()))
 }
 
 #[test]
-fn colors_are_compared_by_their_symbols(rt: HostRuntime) -> Result<(), Fail> {
-    assert_eq!(rt; compared(rt.alloc())?, (true, false));
+fn colors_are_compared_by_their_symbols_and_found(rt: HostRuntime) -> Result<(), Fail> {
+    assert_eq!(rt; compared(rt.alloc())?, (true, false, true));
     Ok(())
 }
 

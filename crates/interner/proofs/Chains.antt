@@ -1,14 +1,14 @@
 -- What a walk along a chain leaves out, and that the chains stay with one value more.
-use Rattle.std.proofs.Common.{◌≡◌, ℕ, zero, suc, ◌+◌, ◌<◌, ◌≤◌, ◌^◌, Bool, true, false, List, [], ◌∷◌, ◌++◌, length, map}
-use Rattle.std.proofs.Common.{Option, None, Some, IfSome, get_or, slice_get, slice_index, nat_eq, nat_lt, if◌then◌else◌}
-use Rattle.std.proofs.Common.{refl, sym, ap, ◌∙◌, subst, true≢false, arith, position}
+use Rattle.std.proofs.Common.{◌≡◌, ℕ, zero, suc, ◌+◌, ◌<◌, ◌≤◌, ◌^◌, Bool, true, false, List, [], ◌∷◌, ◌++◌, length}
+use Rattle.std.proofs.Common.{Option, None, Some, IfSome, map, get_or, slice_get, slice_index, nat_eq, nat_lt, if◌then◌else◌}
+use Rattle.std.proofs.Common.{refl, sym, ap, ◌∙◌, subst, true≢false, arith}
 use Rattle.std.proofs.lemmas.Bool.{eqb-true, eq-eqb}
 use Rattle.std.proofs.lemmas.List.{get_or-map, get_or_append_left, length-append, length-map, map-append}
 use Rattle.std.proofs.lemmas.List.Sums.{position_or_len_is}
 use Rattle.std.proofs.lemmas.Map.Keys.{apart_from_distinct, IsDistinct-from_apart, IsDistinct-push}
 use Rattle.std.proofs.lemmas.Option.{slice_get-get_or}
-use Rattle.std.specs.Cmp.{IsEquivalence}
 use Rattle.std.proofs.Math.Seq.{get_or-append_seam}
+use Rattle.std.specs.Cmp.{IsEquivalence}
 use Rattle.std.specs.List.{IsDistinct, list_any}
 use Rattle.interner.specs.Chains.{last_below, last_of, IsChained, IsIndexed}
 use Rattle.interner.specs.Symbols.{symbol_of}

@@ -2,11 +2,12 @@
 use Rattle.std.proofs.Common.{◌≡◌, ◌+◌, ◌-◌, ◌<◌, ◌≤◌, ℕ, true, false, List, [], ◌∷◌, ◌++◌, length, take, drop}
 use Rattle.std.proofs.Common.{get_or, refl, ap, sym, ◌∙◌, subst, arith, take-append-drop}
 use Rattle.std.specs.Prelude.{Some}
-use Rattle.std.proofs.lemmas.List.{drop_more, drop-drop, drop_all}
+use Rattle.std.proofs.lemmas.List.{drop_more, drop-drop}
 use Rattle.std.proofs.lemmas.List.Concat.{flat_map-append}
 use Rattle.std.proofs.Math.Seq.{take-add}
 use Rattle.std.proofs.lemmas.Option.{none-some, same_Some}
 use Rattle.std.specs.declared.cmp.Ordering.{Ordering}
+use Rattle.std.specs.declared.cmp.Ordering.TheVariants.{Less}
 use Rattle.std.specs.Cmp.{IsTotalOrder}
 use Rattle.std.specs.Ordering.{is_lt}
 use Rattle.persistent.specs.declared.tree.Child.{Child}
@@ -42,10 +43,6 @@ module _ {K V : Type 0} where
   starts (e ∷ es) key h = record { entry = e; rest = es; is = refl; same = same_Some e.0 key h }
 
   module _ (cmp : K → K → Ordering) (total : IsTotalOrder cmp) (q : K) where
-    -- no entries stand after the last child
-    pub no_children : (cs : List (Child K V)) (n : ℕ) → length cs ≤ n → AreAbove cmp q (entries_in (drop n cs))
-    no_children cs n h = subst (λ (cs : List (Child K V)). AreAbove cmp q (entries_in cs)) (sym (drop_all n cs h)) tt
-
     -- what stands above from one child on does from a later one
     pub children_later : (cs : List (Child K V)) (i j : ℕ) → i ≤ j → AreAbove cmp q (entries_in (drop i cs))
         → AreAbove cmp q (entries_in (drop j cs))
@@ -59,6 +56,17 @@ module _ {K V : Type 0} where
         (subst (AreAbove cmp q) parts a) in
         subst (λ (n : ℕ). AreAbove cmp q (entries_in (drop n cs))) same
         (subst (λ (cs : List (Child K V)). AreAbove cmp q (entries_in cs)) (drop-drop (j - i) i cs) later)
+
+    -- the key of a child whose entries stand above does
+    pub above_key : (cs : List (Child K V)) (i : ℕ) (d : Child K V) → i < length cs
+        → first_key (get_or cs i d).tree.0 ≡ Some (get_or cs i d).key → AreAbove cmp q (entries_in (drop i cs))
+        → cmp q (get_or cs i d).key ≡ Less
+    above_key cs i d h first a =
+        let b = starts (get_or cs i d).tree.0 (get_or cs i d).key first in
+        let rest = entries_in (drop (i + 1) cs) in
+        let parts : entries_in (drop i cs) ≡ b.entry ∷ (b.rest ++ rest) =
+        entries_from cs i d h ∙ ap (λ (es : List (K × V)). es ++ rest) b.is in
+        sym (ap (cmp q) b.same) ∙ (subst (AreAbove cmp q) parts a).0
 
     -- what stands below in all does in the front
     below_front : (l m : List (K × V)) → AreBelow cmp q (l ++ m) → AreBelow cmp q l

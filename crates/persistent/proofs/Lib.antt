@@ -2,6 +2,7 @@ pub mod Between
 pub mod Changed
 pub mod Children
 pub mod Copied
+pub mod Counts
 pub mod Grown
 pub mod Halves
 pub mod Inserted

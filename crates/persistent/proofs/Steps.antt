@@ -1,7 +1,7 @@
 -- A step of a search among entries that rise.
-use Rattle.std.proofs.Common.{◌≡◌, ◌+◌, ◌<◌, ◌≤◌, ◌-◌, ℕ, zero, suc, true, false, List, [], ◌∷◌, ◌++◌, length, take}
-use Rattle.std.proofs.Common.{drop, get_or, ap, sym, ◌∙◌, subst, arith, take-append-drop}
-use Rattle.std.proofs.lemmas.List.{drop_more, take_more, get_or_default, drop-drop}
+use Rattle.std.proofs.Common.{◌≡◌, ◌+◌, ◌<◌, ◌≤◌, ℕ, zero, suc, true, false, List, [], ◌∷◌, ◌++◌, length, take}
+use Rattle.std.proofs.Common.{drop, get_or, ap, sym, ◌∙◌, subst, arith, take-append-drop, true≢false}
+use Rattle.std.proofs.lemmas.List.{drop_more, take_more, get_or_default, drop_all}
 use Rattle.std.specs.declared.cmp.Ordering.{Ordering}
 use Rattle.std.specs.declared.cmp.Ordering.TheVariants.{Greater}
 use Rattle.std.specs.Cmp.{IsTotalOrder}
@@ -16,31 +16,24 @@ pub split_at : {X : Type 0} (xs : List X) (i : ℕ) (d : X) → i < length xs
 split_at xs i d h = sym (take-append-drop i xs) ∙ ap (λ r. take i xs ++ r) (drop_more xs i d h)
 
 module _ {K V : Type 0} (cmp : K → K → Ordering) (total : IsTotalOrder cmp) (q : K) where
-  -- nothing stands before the first
-  pub none_below : (es : List (K × V)) → AreBelow cmp q (take 0 es)
-  none_below es = tt
+  -- nothing stands above from the end on
+  pub none_behind : (es : List (K × V)) (n : ℕ) → length es ≤ n → AreAbove cmp q (drop n es)
+  none_behind es n h = subst (AreAbove cmp q) (sym (drop_all n es h)) tt
 
-  -- nothing stands after the last
-  none_above_here : (es : List (K × V)) → AreAbove cmp q (drop (length es) es)
-  none_above_here [] = tt
-  none_above_here (e ∷ es) = none_above_here es
+  -- what stands below stays so up to a sooner place
+  pub below_sooner : (es : List (K × V)) (i j : ℕ) → i ≤ j → AreBelow cmp q (take j es) → AreBelow cmp q (take i es)
+  below_sooner es zero j h b = tt
+  below_sooner [] (suc i) j h b = tt
+  below_sooner (e ∷ es) (suc i) zero h b = absurd (omega (arith, h))
+  below_sooner (e ∷ es) (suc i) (suc j) h b = (b.0, below_sooner es i j (omega (arith, h)) b.1)
 
-  -- the same by its number
-  pub none_above : (es : List (K × V)) (n : ℕ) → n ≡ length es → AreAbove cmp q (drop n es)
-  none_above es n is = subst (λ (n : ℕ). AreAbove cmp q (drop n es)) (sym is) (none_above_here es)
-
-  -- what stands above stays so behind
-  above_drop : (es : List (K × V)) (n : ℕ) → AreAbove cmp q es → AreAbove cmp q (drop n es)
-  above_drop es zero a = a
-  above_drop [] (suc n) a = a
-  above_drop (e ∷ es) (suc n) a = above_drop es n a.1
-
-  -- and from a later place on
-  pub above_later : (es : List (K × V)) (i j : ℕ) → i ≤ j → AreAbove cmp q (drop i es) → AreAbove cmp q (drop j es)
-  above_later es i j h a =
-      let same : i + (j - i) ≡ j = omega arith in
-      subst (λ (n : ℕ). AreAbove cmp q (drop n es)) same
-      (subst (AreAbove cmp q) (drop-drop (j - i) i es) (above_drop (drop i es) (j - i) a))
+  -- no entry stands both above and below
+  pub apart : (es : List (K × V)) (i j : ℕ) → i < j → j ≤ length es → AreAbove cmp q (drop i es)
+      → AreBelow cmp q (take j es) → ⊥
+  apart [] i j h w a b = omega (arith, h, w)
+  apart (e ∷ es) i zero h w a b = omega (arith, h)
+  apart (e ∷ es) zero (suc j) h w a b = true≢false (sym (ap is_lt a.0) ∙ ap is_lt b.0)
+  apart (e ∷ es) (suc i) (suc j) h w a b = apart es i j (omega (arith, h)) (omega (arith, w)) a b.1
 
   module _ (es : List (K × V)) (i : ℕ) (d : K × V) (o : Ordering) (h : i < length es) (s : IsRising cmp es)
       (was : cmp q (get_or es i d).0 ≡ o) where

@@ -1,21 +1,77 @@
 //! Where a key or a number stands.
-ghost use Rattle.std.specs.Prelude.{◌≡◌, ◌+◌, ◌*◌, ◌^◌, ◌<◌, ◌≤◌, if◌then◌else◌, MatchResult, length, take, drop};
-ghost use Rattle.std.specs.Prelude.{slice_get, Some};
+ghost use Rattle.std.specs.Prelude.{◌≡◌, ◌+◌, ◌*◌, ◌^◌, ◌<◌, ◌≤◌, MatchResult, length, take, drop};
+ghost use Rattle.std.specs.Prelude.{slice_get, IsFalse, IsTrue, Some};
 ghost use Rattle.std.specs.Option.{option_copied};
 ghost use Rattle.persistent.specs.Maps.{IsRising, lookup, rank};
 ghost use Rattle.persistent.specs.Nodes.{AreChildren, IsMap, IsUnder, entries_in};
-ghost use Rattle.persistent.specs.Places.{IsBetween, IsFound, IsMissing, IsPart};
+ghost use Rattle.persistent.specs.Places.{AreAbove, AreBelow, IsBetween, IsFound, IsMissing, IsPart};
 
 use crate::tree::{Child, Node, Tree};
 
-// The place that is half a part further, or the same. As an `if` it is a jump, which a processor guesses wrong half of
-// the times.
+// How many entries stand in a part of a leaf, when it is searched.
+const PART: usize = 16;
+
+// How many of them stand in a quarter of a part.
+const QUARTER: usize = 4;
+
+// Whether the key is not below that of the entry of that number.
 #[inline(always)]
-fn further(at: usize, half: usize, goes_on: bool) -> usize
-    requires { at + 2 * half < 2 ^ 64 }
-    ensures { result ≡ (if goes_on then at + half else at) }
+fn is_past<K: Ord, V>(entries: &[(K, V)], key: &K, at: usize) -> bool
+    requires rising { IsRising K.cmp entries.now }
+    requires within { at < length entries.now }
+    ensures below { IsTrue result → AreBelow K.cmp key.now (take at entries.now) }
+    ensures above { IsFalse result → AreAbove K.cmp key.now (drop at entries.now) }
 {
-    at + half * (1 + usize::from(goes_on)) - half
+    !key.cmp(&entries[at].0).is_lt()
+}
+
+// Where the part begins to which the key belongs, of the parts of that many entries. It counts all that are past, since
+// a jump would be guessed wrong half of the times.
+#[inline(always)]
+fn part_of<K: Ord, V>(entries: &[(K, V)], key: &K, part: usize) -> usize
+    requires map { IsMap K.cmp entries.now }
+    requires some { 0 < part }
+    ensures within { result < length entries.now }
+    ensures between { IsBetween K.cmp key.now (take result entries.now) (drop (result + part) entries.now) }
+{
+    let mut at = 0;
+    let mut seen = 0;
+    'along: while entries.len() - seen > part {
+        seen += part;
+        at += part * usize::from(is_past(entries, key, seen));
+    }
+    at
+}
+
+// Where the quarter begins to which the key belongs, of four that begin there and have that many entries each.
+#[inline(always)]
+fn quarter_of<K: Ord, V>(entries: &[(K, V)], key: &K, at: usize, quarter: usize) -> usize
+    requires rising { IsRising K.cmp entries.now }
+    requires some { 0 < quarter }
+    requires within { at + 4 * quarter ≤ length entries.now }
+    requires between { IsBetween K.cmp key.now (take at entries.now) (drop (at + 4 * quarter) entries.now) }
+    ensures within { result + quarter ≤ length entries.now }
+    ensures between { IsBetween K.cmp key.now (take result entries.now) (drop (result + quarter) entries.now) }
+{
+    let first = usize::from(is_past(entries, key, at + quarter));
+    let second = usize::from(is_past(entries, key, at + 2 * quarter));
+    let third = usize::from(is_past(entries, key, at + 3 * quarter));
+    at + quarter * (first + second + third)
+}
+
+// The number of the last entry whose key is not above this one, or of the first.
+#[inline(always)]
+fn place_of<K: Ord, V>(entries: &[(K, V)], key: &K) -> usize
+    requires { IsMap K.cmp entries.now }
+    ensures within { result < length entries.now }
+    ensures between { IsBetween K.cmp key.now (take result entries.now) (drop (result + 1) entries.now) }
+{
+    if entries.len() < PART {
+        return part_of(entries, key, 1);
+    }
+    let at = part_of(entries, key, PART).min(entries.len() - PART);
+    let at = quarter_of(entries, key, at, QUARTER);
+    quarter_of(entries, key, at, 1)
 }
 
 // The number of the key's entry; `Err` has that which it would have.
@@ -23,14 +79,7 @@ pub(crate) fn entry_of<K: Ord, V>(entries: &[(K, V)], key: &K) -> Result<usize, 
     requires { IsMap K.cmp entries.now }
     ensures { MatchResult result (IsFound K.cmp key.now entries.now) (IsMissing K.cmp key.now entries.now) }
 {
-    let mut at = 0;
-    let mut size = entries.len();
-    while size > 1 {
-        let half = size / 2;
-        size -= half;
-        let order = key.cmp(&entries[at + half].0);
-        at = further(at, half, !order.is_lt());
-    }
+    let at = place_of(entries, key);
     let order = key.cmp(&entries[at].0);
     if order.is_eq() {
         Ok(at)
@@ -41,18 +90,16 @@ pub(crate) fn entry_of<K: Ord, V>(entries: &[(K, V)], key: &K) -> Result<usize, 
     }
 }
 
-// The number of the child to which the key belongs.
+// The number of the child to which the key belongs. It counts as `part_of` does.
 pub(crate) fn child_of<K: Ord, V>(children: &[Child<K, V>], key: &K) -> usize
     requires { AreChildren K.cmp children.now }
     ensures { IsUnder K.cmp key.now children.now result }
 {
     let mut at = 0;
-    let mut size = children.len();
-    while size > 1 {
-        let half = size / 2;
-        size -= half;
-        let order = key.cmp(&children[at + half].key);
-        at = further(at, half, !order.is_lt());
+    let mut seen = 0;
+    'along: while children.len() - seen > 1 {
+        seen += 1;
+        at += usize::from(!key.cmp(&children[seen].key).is_lt());
     }
     at
 }

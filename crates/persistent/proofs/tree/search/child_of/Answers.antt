@@ -1,50 +1,35 @@
-use Rattle.std.proofs.Common.{◌≡◌, ◌+◌, ◌-◌, ◌/◌, ◌<◌, ◌≤◌, ◌∙◌, ℕ, length, drop, take, refl, sym, subst, arith}
-use Rattle.std.specs.Prelude.{Bool, true, false, not, if◌then◌else◌, List}
-use Rattle.std.specs.declared.cmp.Ordering.{Ordering}
+use Rattle.std.proofs.Common.{◌+◌, ◌<◌, ◌∙◌, ℕ, ap, arith, drop, length, sym, take, true≢false}
+use Rattle.std.specs.Prelude.{not}
+use Rattle.std.specs.Ordering.{is_lt}
+use Rattle.std.proofs.lemmas.Bool.{not-false, not-true}
+use Rattle.std.proofs.Math.Nat.{eq-or-lt_of_le}
 use Rattle.persistent.specs.Nodes.{entries_in}
 use Rattle.persistent.specs.Places.{AreAbove, AreBelow}
-use Rattle.persistent.specs.declared.tree.Child.{Child}
-use Rattle.persistent.proofs.Children.{below_child, above_child, children_later}
+use Rattle.persistent.proofs.Children.{above_child, above_key, below_child, children_later}
+use Rattle.persistent.proofs.Counts.{counted_more}
 use Rattle.persistent.proofs.tree.search.child_of.Goals as goal
 
--- the children that are left to be searched
-abbrev Narrowed : {K V : Type 0} → (K → K → Ordering) → K → List (Child K V) → ℕ → ℕ → Type 0
-Narrowed cmp key cs at size = record {
-  within : at + size ≤ length cs;
-  some : 0 < size;
-  below : AreBelow cmp key (entries_in (take at cs));
-  above : AreAbove cmp key (entries_in (drop (at + size) cs));
-}
-
-pub loop-size-preserved : goal.loop-size-preserved
-loop-size-preserved g c =
+pub along-preserved : goal.along-preserved
+along-preserved g c =
     let cmp = g.K.Ord.cmp in
+    let total = g.met.K.Ord.total in
     let cs = c.args.children.now in
     let key = c.args.key.now in
-    let at = c.loop-size.at in
-    let i = at + c.loop-size.size / 2 in
-    let rest = c.loop-size.size - c.loop-size.size / 2 in
-    let within : i < length cs = omega (arith, c.loop-size.invariant.within) in
-    let some : 0 < rest = omega arith in
-    let order = sym c.cmp-order.ensures in
-    let goes = c.is_lt.ensures in
-    let total = g.met.K.Ord.total in
-    let first = (c.requires.each i _ within).first in
-    elim c.is_lt.result as (λ (lower : Bool). c.is_lt.result ≡ lower → (next : ℕ)
-    → next ≡ (if not lower then i else at) → Narrowed cmp key cs next rest) [
-      | true ↦ λ is next stays. subst (λ (k : ℕ). Narrowed cmp key cs k rest) (sym stays) (record {
-        within = omega (arith, c.loop-size.invariant.within);
-        some = some;
-        below = c.loop-size.invariant.below;
-        above = children_later cmp total key cs i _ (omega arith)
-            (above_child cmp total key cs i _ c.cmp-order.result within c.requires.map.rising first order
-            (sym goes ∙ is));
-      })
-      | false ↦ λ is next goes_on. subst (λ (k : ℕ). Narrowed cmp key cs k rest) (sym goes_on) (record {
-        within = omega (arith, c.loop-size.invariant.within);
-        some = some;
-        below = below_child cmp total key cs i _ c.cmp-order.result within c.requires.map.rising first order
-            (sym goes ∙ is);
-        above = subst (λ (n : ℕ). AreAbove cmp key (entries_in (drop n cs))) (omega arith) c.loop-size.invariant.above;
-      })
-    ] refl c.further-at.result c.further-at.ensures
+    let at = c.along.at in
+    let seen = c.along.seen in
+    let before = c.along.invariant in
+    let within : seen + 1 < length cs = omega (arith, c.along-test.true, before.within) in
+    let order = c.cmp.result in
+    let was = sym c.cmp.ensures in
+    let goes = sym c.is_lt.ensures in
+    let rising = c.requires.map.rising in
+    let first = (c.requires.each (seen + 1) _ within).first in
+    counted_more (λ (i : ℕ). AreBelow cmp key (entries_in (take i cs)))
+    (λ (i : ℕ). AreAbove cmp key (entries_in (drop i cs))) (length cs)
+    at seen 1 (not c.is_lt.result) (omega arith) within before.behind before.below before.above
+    (λ is. below_child cmp total key cs (seen + 1) _ order within rising first was (goes ∙ not-true _ is))
+    (λ is. above_child cmp total key cs (seen + 1) _ order within rising first was (goes ∙ not-false _ is))
+    (λ less is. true≢false (sym (ap is_lt (sym was ∙ above_key cmp total key cs (seen + 1) _ within first
+    (children_later cmp total key cs (at + 1) (seen + 1) (omega (arith, less)) (before.above less))))
+    ∙ (goes ∙ not-true _ is)))
+    (eq-or-lt_of_le before.behind) (at + c.from-at.result) (omega (arith, c.from-at.ensures))

@@ -1,0 +1,14 @@
+use Rattle.std.proofs.Common.{sym, ◌∙◌}
+use Rattle.std.proofs.lemmas.Bool.{not-false, not-true}
+use Rattle.persistent.proofs.Steps.{above_at, below_at}
+use Rattle.persistent.proofs.tree.search.is_past.Goals as goal
+
+pub returns-clause-below : goal.returns-clause-below
+returns-clause-below g c = λ is.
+    below_at g.K.Ord.cmp g.met.K.Ord.total c.args.key.now c.args.entries.now c.args.at _ c.cmp.result
+    c.requires.within c.requires.rising (sym c.cmp.ensures) (sym c.is_lt.ensures ∙ not-true _ is)
+
+pub returns-clause-above : goal.returns-clause-above
+returns-clause-above g c = λ is.
+    above_at g.K.Ord.cmp g.met.K.Ord.total c.args.key.now c.args.entries.now c.args.at _ c.cmp.result
+    c.requires.within c.requires.rising (sym c.cmp.ensures) (sym c.is_lt.ensures ∙ not-false _ is)

@@ -2,12 +2,12 @@
 use Rattle.std.proofs.Common.{◌≡◌, ◌+◌, ◌<◌, ◌≤◌, ◌^◌, ℕ, List, [], ◌∷◌, ◌++◌, length, take, drop, get_or, ap}
 use Rattle.std.proofs.Common.{sym, ◌∙◌, subst, arith, take-append-drop, length-append, length-take, length-drop, refl}
 use Rattle.std.proofs.Common.{append-nil, ◌-◌}
-use Rattle.std.specs.Prelude.{Some, slice_get}
+use Rattle.std.specs.Prelude.{Some}
 use Rattle.std.specs.List.{All}
 use Rattle.std.proofs.lemmas.List.{drop_more, drop-drop}
 use Rattle.std.proofs.lemmas.List.Concat.{flat_map-append}
 use Rattle.std.proofs.lemmas.List.Elements.{All-tail, All-take, All-drop, All-append, All-cons, All-nil}
-use Rattle.std.proofs.lemmas.Option.{none-some, same_Some}
+use Rattle.std.proofs.lemmas.Option.{none-some}
 use Rattle.std.specs.declared.cmp.Ordering.{Ordering}
 use Rattle.persistent.specs.declared.tree.Child.{Child}
 use Rattle.persistent.specs.Maps.{IsRising}
@@ -85,11 +85,6 @@ module _ {K V : Type 0} where
         wide = omega (arith, halves.spare.0);
       }
 
-  -- the first entry has the first key
-  pub first_entry : (es : List (K × V)) (e : K × V) → slice_get es 0 ≡ Some e → first_key es ≡ Some e.0
-  first_entry [] e h = absurd (none-some e h)
-  first_entry (x ∷ es) e h = ap (λ (y : K × V). Some y.0) (same_Some x e h)
-
   module _ (cmp : K → K → Ordering) where
     -- children on one level with entries that rise make a node
     pub children_are : (h : ℕ) (cs : List (Child K V)) → All (IsChild h) cs → 0 < length cs
@@ -158,19 +153,13 @@ module _ {K V : Type 0} where
         (omega (arith, length-drop n cs))
 
     -- a tree as the only child of another one
-    pub only_is : (es : List (K × V)) (c : Child K V) → first_key es ≡ Some c.key → c.len ≡ length es → c.tree.0 ≡ es
-        → 2 ^ c.tree.1 ≤ length es → IsRising cmp es → length es < 2 ^ 64 → AreChildren cmp (c ∷ [])
-    only_is es c first len is wide rising room =
-        let h = c.tree.1 + 1 in
-        let same : entries_in (c ∷ []) ≡ es = append-nil c.tree.0 ∙ is in
-        let child : IsChild h c = record {
-          first = ap (first_key {K = K} {V = V}) is ∙ first;
-          counted = len ∙ ap (length {A = K × V}) (sym is);
-          level = refl;
-          wide = subst (λ (x : List (K × V)). 2 ^ c.tree.1 ≤ length x) (sym is) wide;
-        } in
+    pub only_is : (h : ℕ) (c : Child K V) → IsChild h c → IsRising cmp c.tree.0 → length c.tree.0 < 2 ^ 64
+        → AreChildren cmp (c ∷ [])
+    only_is h c child rising room =
+        let same : entries_in (c ∷ []) ≡ c.tree.0 = append-nil c.tree.0 in
         children_are h (c ∷ []) (All-cons (IsChild h) c [] child (All-nil (IsChild h))) (omega arith)
-        (subst (IsRising cmp) (sym same) rising) (subst (λ (x : List (K × V)). length x < 2 ^ 64) (sym same) room)
+        (subst (IsRising cmp) (sym same) rising)
+        (subst (λ (x : List (K × V)). length x < 2 ^ 64) (sym same) room)
 
     -- the halves of a leaf
     pub leaves_are : (es : List (K × V)) (n : ℕ) (d : K × V) (r : Child K V) → IsMap cmp es → 1 < n → n + 1 < length es

@@ -1,4 +1,5 @@
 pub mod Between
+pub mod Built
 pub mod Changed
 pub mod Children
 pub mod Copied
@@ -14,6 +15,7 @@ pub mod Parts
 pub mod Present
 pub mod Ranges
 pub mod Removed
+pub mod Rising
 pub mod Steps
 pub mod Under
 pub mod Wide

@@ -27,6 +27,12 @@ gt_from Less t e = absurd (true≢false t)
 gt_from Equal t e = absurd (true≢false e)
 gt_from Greater t e = refl
 
+-- only an equal order is its own reverse
+turns_into_itself : (o : Ordering) → o ≡ ordering_reverse o → o ≡ Equal
+turns_into_itself Less h = cc
+turns_into_itself Equal h = refl
+turns_into_itself Greater h = cc
+
 module _ {K : Type 0} {cmp : K → K → Ordering} (total : IsTotalOrder cmp) where
   -- a key above another has that below it
   pub turned : (j k : K) → cmp j k ≡ Greater → cmp k j ≡ Less
@@ -35,6 +41,10 @@ module _ {K : Type 0} {cmp : K → K → Ordering} (total : IsTotalOrder cmp) wh
   -- and the other way round
   pub turned_back : (j k : K) → cmp j k ≡ Less → cmp k j ≡ Greater
   turned_back j k h = total.antisymm k j ∙ ap ordering_reverse h
+
+  -- a key is equal to itself
+  pub equal_itself : (k : K) → cmp k k ≡ Equal
+  equal_itself k = turns_into_itself (cmp k k) (total.antisymm k k)
 
 -- no entries rise
 pub rising_nil : {K : Type 0} (V : Type 0) (cmp : K → K → Ordering) → IsRising {V = V} cmp []

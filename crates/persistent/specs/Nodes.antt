@@ -71,6 +71,12 @@ module _ {K V : Type 0} where
     pub child : IsChild (tree.1 + 1) right
     pub spare : CanLose left × CanLose right.tree
 
+  -- the children that are made of a whole tree: the level above it
+  pub record AreParts (cmp : K → K → Ordering) (tree : List (K × V) × ℕ) (cs : List (Child K V)) : Type 0 where
+    pub entries : entries_in cs ≡ tree.0
+    pub height : height_in cs ≡ tree.1 + 1
+    pub children : AreChildren cmp cs
+
   -- other children with the same entries, which are as high
   pub record StandFor (cmp : K → K → Ordering) (old new : List (Child K V)) : Type 0 where
     pub entries : entries_in new ≡ entries_in old

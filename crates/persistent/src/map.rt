@@ -7,9 +7,10 @@ ghost use Rattle.std.specs.Option.{ForSome, option_copied};
 ghost use Rattle.std.specs.Ordering.{is_eq};
 ghost use Rattle.servo_arc.specs.Copies.{CopiesAreEqual};
 ghost use Rattle.persistent.specs.Changes.{ChangesValue};
-ghost use Rattle.persistent.specs.Maps.{IsRising, lookup, rank, with_entries, with_entry, without};
+ghost use Rattle.persistent.specs.Maps.{IsRising, lookup, rank, with_entry, without};
 ghost use Rattle.persistent.specs.Nodes.{IsDeep, entries_under};
 
+mod from_items;
 mod index;
 pub(crate) mod iter;
 pub(crate) mod keys;
@@ -159,20 +160,6 @@ impl<K: Ord, V> TreeMap<K, V> {
 }
 
 impl<K: Ord + Clone, V: Clone> TreeMap<K, V> {
-    /// The map of these entries, which are put in one after another, as by `insert`: of those with an equal key the
-    /// first gives the key, and the last the value.
-    pub fn from_items(alloc: Global, items: Vec<(K, V)>) -> Result<TreeMap<K, V>, AllocError>
-        requires copies_of_keys { CopiesAreEqual K.is_clone }
-        requires copies_of_values { CopiesAreEqual V.is_clone }
-        ensures { IfOk result (λ map. map ≡ with_entries K.cmp items.items []) }
-    {
-        let mut map = TreeMap::new();
-        for (key, value) in items {
-            map.insert(alloc, key, value)?;
-        }
-        Ok(map)
-    }
-
     /// Puts the value under the key. An equal key stays, and the new one is dropped.
     ///
     /// It writes in place, but copies each node on the way to the key that other versions have. A full node on the way

@@ -3,6 +3,7 @@ ghost use Rattle.std.specs.Prelude.{◌≡◌, ◌+◌, ◌*◌, ◌^◌, ◌<�
 ghost use Rattle.persistent.specs.Maps.{IsRising};
 ghost use Rattle.persistent.specs.Nodes.{IsDeep, IsNode, seen};
 
+mod build;
 mod copies;
 mod insert;
 mod join;

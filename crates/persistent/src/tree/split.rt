@@ -1,6 +1,6 @@
 //! How a full node becomes two: the second half of what it has moves into a block that was taken before.
-ghost use Rattle.std.specs.Prelude.{◌≡◌, ◌+◌, ◌<◌, ◌^◌, ◌≤◌, ◌∷◌, [], IfOk, IfNone};
-ghost use Rattle.std.specs.Prelude.{IfSome, IsTrue, OnErr, get_or, length};
+ghost use Rattle.std.specs.Prelude.{◌≡◌, ◌+◌, ◌/◌, ◌<◌, ◌^◌, ◌≤◌, ◌∷◌, [], IfOk, IfNone};
+ghost use Rattle.std.specs.Prelude.{IfSome, IsTrue, OnErr, get_or, length, min};
 ghost use Rattle.servo_arc.specs.Copies.{CopiesAreEqual};
 ghost use Rattle.persistent.specs.Maps.{IsRising};
 ghost use Rattle.persistent.specs.Nodes.{AreChildren, AreHalves, CanLose, IsChild, IsMap, IsNode, IsUnder, StandFor};
@@ -34,14 +34,30 @@ impl<K: Ord + Clone, V: Clone> Tree<K, V> {
         if !self.is_full() {
             return Ok(());
         }
-        let key = self.entry(0).0.clone()?;
-        let tree = self.clone()?;
+        let child = self.clone()?.child(len)?;
         let mut children = Vec::with_capacity(alloc, BRANCH)?;
-        children.push(Child { key, len, tree })?;
+        children.push(child)?;
         *self = Tree {
             root: Arc::try_new(alloc, Node::Branch(children))?,
         };
         Ok(())
+    }
+
+    // The tree, which has that many entries, as a child.
+    #[inline(always)]
+    pub(crate) fn child(self, len: usize) -> Result<Child<K, V>, AllocError>
+        requires keys { CopiesAreEqual K.is_clone }
+        requires len { len ≡ length self.0 }
+        requires wide { 2 ^ self.1 ≤ length self.0 }
+        ensures child { IfOk result (IsChild (self.1 + 1)) }
+        ensures same { IfOk result (λ child. child.tree ≡ self) }
+    {
+        let key = self.entry(0).0.clone()?;
+        Ok(Child {
+            key,
+            len,
+            tree: self,
+        })
     }
 }
 
@@ -50,10 +66,20 @@ impl<K: Ord, V> Tree<K, V> {
     #[inline(always)]
     fn is_full(&self) -> bool
         ensures wide { IsTrue result → 2 ^ self.now.1 ≤ length self.now.0 }
-        ensures some { 0 < length self.now.0 }
         ensures rising { IsRising K.cmp self.now.0 }
     {
-        match self.node() {
+        self.node().is_full()
+    }
+}
+
+impl<K: Ord, V> Node<K, V> {
+    // The same of a node.
+    #[inline(always)]
+    pub(crate) fn is_full(&self) -> bool
+        requires { IsNode K.cmp self.now }
+        ensures { IsTrue result → 2 ^ (seen self.now).1 ≤ length (seen self.now).0 }
+    {
+        match self {
             Node::Leaf(entries) => entries.len() >= LEAF,
             Node::Branch(children) => children.len() >= BRANCH,
         }
@@ -123,7 +149,7 @@ impl<K: Ord + Clone, V: Clone> Tree<K, V> {
 
 impl<K: Ord + Clone, V: Clone> Node<K, V> {
     // The same of a node.
-    fn halve(&mut self, alloc: Global) -> Result<Option<Child<K, V>>, AllocError>
+    pub(crate) fn halve(&mut self, alloc: Global) -> Result<Option<Child<K, V>>, AllocError>
         requires keys { CopiesAreEqual K.is_clone }
         requires node { IsNode K.cmp self.old }
         ensures node { IsNode K.cmp self.new }
@@ -141,6 +167,13 @@ impl<K: Ord + Clone, V: Clone> Node<K, V> {
     }
 }
 
+// How many of so many items a node keeps if it becomes two. The other one has half of them, but no more than its width.
+fn kept(len: usize, width: usize) -> usize
+    ensures { result + min width (len / 2) ≡ len }
+{
+    len - width.min(len / 2)
+}
+
 fn half_of_leaf<K: Ord + Clone, V: Drop>(
     entries: &mut Vec<(K, V)>,
     alloc: Global,
@@ -152,7 +185,7 @@ fn half_of_leaf<K: Ord + Clone, V: Drop>(
     ensures halves { IfOk result (AreHalves (entries.old.items, 0) (entries.new.items, 0)) }
     ensures refused { OnErr result (entries.new.items ≡ entries.old.items) }
 {
-    let half = entries.len() / 2;
+    let half = kept(entries.len(), LEAF);
     let key = entries[half].0.clone()?;
     let block = UniqueArc::new_uninit(alloc)?;
     let tail = entries.split_off(half)?;
@@ -177,7 +210,7 @@ fn half_of_branch<K: Ord + Clone, V: Drop>(
         (entries_in children.new.items, height_in children.new.items)) }
     ensures refused { OnErr result (children.new.items ≡ children.old.items) }
 {
-    let half = children.len() / 2;
+    let half = kept(children.len(), BRANCH);
     let key = children[half].key.clone()?;
     let block = UniqueArc::new_uninit(alloc)?;
     let tail = children.split_off(half)?;

@@ -1,0 +1,17 @@
+use Rattle.std.proofs.Common.{◌≡◌, ◌+◌, ◌≤◌, ◌^◌, length}
+use Rattle.persistent.specs.Nodes.{IsNode, seen}
+use Rattle.persistent.proofs.Built.{IsBefore}
+use Rattle.persistent.proofs.tree.build.parts.Given as goal
+
+-- the node has the entries in front of those that were split off
+abbrev pub invariant-off : goal.invariant-off
+invariant-off g l = record {
+  node : IsNode g.K.Ord.cmp l.node;
+  height : (seen l.node).1 ≡ (seen l.fn.node).1;
+  wide : 2 ^ (seen l.node).1 ≤ length (seen l.node).0;
+  len : l.len ≡ length (seen l.node).0;
+  before : IsBefore ((seen l.fn.node).1 + 1) (seen l.fn.node).0 (seen l.node).0 l.children.items;
+}
+
+abbrev pub decreases-off : goal.decreases-off
+decreases-off g l = length (seen l.node).0

@@ -1,10 +1,10 @@
 -- What a closure did to one value of a map.
-use Rattle.std.specs.Prelude.{◌≡◌, List, Some, cond}
+use Rattle.std.specs.Prelude.{◌≡◌, List, Option, Some, cond}
 use Rattle.std.specs.Borrow.{MutBor}
 use Rattle.std.specs.Fn.{Once, FnOnceReturnsAtMut}
 use Rattle.std.specs.declared.cmp.Ordering.{Ordering}
 use Rattle.std.specs.Ordering.{is_eq}
-use Rattle.persistent.specs.Maps.{lookup, with_entry}
+use Rattle.persistent.specs.Maps.{lookup, with_answer, with_entry}
 
 module _ {F K V R : Type 0} (g : Once F (MutBor V × Unit {0}) (R × (MutBor V × Unit {0}))) (change : F) where
   -- its call on the value under the key gave r, and the map has there what that call left
@@ -15,3 +15,11 @@ module _ {F K V R : Type 0} (g : Once F (MutBor V × Unit {0}) (R × (MutBor V �
     pub called : FnOnceReturnsAtMut g change before r after
     pub entries : new ≡ with_entry cmp key after old
     pub changes : (k : K) → lookup cmp k new ≡ cond (is_eq (cmp k key)) (Some after) (lookup cmp k old)
+
+-- a call on what the key had gave an answer, which is what it has now
+pub record Updates {K V : Type 0} (calls : Option V → Option V → Type 0) (cmp : K → K → Ordering) (key : K)
+    (old new : List (K × V)) : Type 0 where
+  pub answer : Option V
+  pub called : calls (lookup cmp key old) answer
+  pub entries : new ≡ with_answer cmp key answer old
+  pub changes : (k : K) → lookup cmp k new ≡ cond (is_eq (cmp k key)) answer (lookup cmp k old)

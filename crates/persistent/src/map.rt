@@ -15,6 +15,7 @@ mod index;
 pub(crate) mod iter;
 pub(crate) mod keys;
 mod range;
+mod update;
 pub(crate) mod values;
 
 use crate::tree::Tree;

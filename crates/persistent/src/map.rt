@@ -14,7 +14,9 @@ mod from_items;
 mod index;
 pub(crate) mod iter;
 pub(crate) mod keys;
+mod merge;
 mod range;
+mod split;
 mod update;
 pub(crate) mod values;
 
@@ -132,6 +134,21 @@ impl<K: Ord, V> TreeMap<K, V> {
         match &self.root {
             None => 0,
             Some(tree) => tree.rank(key),
+        }
+    }
+
+    // The tree with the entries.
+    #[inline(always)]
+    pub(crate) fn tree(&self) -> Option<&Tree<K, V>>
+        ensures same { entries_under (option_copied result) ≡ self.now }
+        ensures rising { IsRising K.cmp self.now }
+    {
+        match &self.root {
+            None => None,
+            Some(tree) => {
+                let _ = tree.node();
+                Some(tree)
+            }
         }
     }
 

@@ -42,7 +42,7 @@ impl<'a, K: Ord, V> Model for Iter<'a, K, V> {
 }
 
 impl<'a, K: Ord, V> Iter<'a, K, V> {
-    pub(crate) fn between(tree: Option<&'a Tree<K, V>>, from: usize, to: usize) -> Iter<'a, K, V>
+    pub(super) fn between(tree: Option<&'a Tree<K, V>>, from: usize, to: usize) -> Iter<'a, K, V>
         requires { (from ≤ to) × (to ≤ length (entries_under (option_copied tree))) }
         ensures { result ≡ slice_range (entries_under (option_copied tree.entry)) from to }
     {

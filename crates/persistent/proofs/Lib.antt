@@ -4,6 +4,7 @@ pub mod Changed
 pub mod Children
 pub mod Copied
 pub mod Counts
+pub mod Differences
 pub mod Grown
 pub mod Halves
 pub mod Inserted

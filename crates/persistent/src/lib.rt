@@ -12,6 +12,7 @@ mod tree;
 pub use list::List;
 pub use list_iter::ListIter;
 pub use map::TreeMap;
+pub use map::diff::Change;
 pub use map::iter::Iter;
 pub use map::keys::Keys;
 pub use map::values::Values;

@@ -10,6 +10,7 @@ ghost use Rattle.persistent.specs.Changes.{ChangesValue};
 ghost use Rattle.persistent.specs.Maps.{IsRising, lookup, rank, with_entry, without};
 ghost use Rattle.persistent.specs.Nodes.{IsDeep, entries_under};
 
+pub(crate) mod diff;
 mod from_items;
 mod index;
 pub(crate) mod iter;

@@ -87,14 +87,20 @@ impl<K: Ord, V> TreeMap<K, V> {
     }
 
     /// The nodes of the map, which has some if it has an entry. They tell how deep the map is.
+    #[inline(always)]
     pub fn tree(&self) -> Option<&Tree<K, V>>
         ensures entries { entries_under (option_copied result) ≡ self.now }
         ensures none { (result ≡ None) ↔ (self.now ≡ []) }
+        ensures rising { IsRising K.cmp self.now }
     {
-        let tree = self.root.as_ref()?;
-        // It has an entry.
-        let _ = tree.node();
-        Some(tree)
+        match &self.root {
+            None => None,
+            Some(tree) => {
+                // It has an entry, and its keys rise.
+                let _ = tree.node();
+                Some(tree)
+            }
+        }
     }
 
     /// How many nodes stand on each way down: at most twice the logarithm of one more than there are entries, to the
@@ -135,21 +141,6 @@ impl<K: Ord, V> TreeMap<K, V> {
         match &self.root {
             None => 0,
             Some(tree) => tree.rank(key),
-        }
-    }
-
-    // The tree with the entries.
-    #[inline(always)]
-    pub(crate) fn tree(&self) -> Option<&Tree<K, V>>
-        ensures same { entries_under (option_copied result) ≡ self.now }
-        ensures rising { IsRising K.cmp self.now }
-    {
-        match &self.root {
-            None => None,
-            Some(tree) => {
-                let _ = tree.node();
-                Some(tree)
-            }
         }
     }
 

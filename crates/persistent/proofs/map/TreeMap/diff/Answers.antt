@@ -20,14 +20,14 @@ not_false false h = sym h
 
 pub along-init : goal.along-init
 along-init g c =
-    let same = c.tree.ensures.same in
-    let same_new = c.tree-2.ensures.same in
+    let same = c.tree.ensures.entries in
+    let same_new = c.tree-2.ensures.entries in
     let olds : left c.next-old.result c.next-old.new.self ≡ c.args.self.now =
     left_next c.next-old.result c.between-olds.result c.next-old.new.self c.next-old.ensures.steps
-    ∙ c.between-olds.ensures ∙ range_all _ _ (c.len.ensures ∙ ap (λ es. length es) (sym same)) ∙ same in
+    ∙ c.between-olds.ensures ∙ range_all _ _ (c.len.ensures.count ∙ ap (λ es. length es) (sym same)) ∙ same in
     let news : left c.next-new.result c.next-new.new.self ≡ c.args.newer.now =
     left_next c.next-new.result c.between-news.result c.next-new.new.self c.next-new.ensures.steps
-    ∙ c.between-news.ensures ∙ range_all _ _ (c.len-2.ensures ∙ ap (λ es. length es) (sym same_new)) ∙ same_new in
+    ∙ c.between-news.ensures ∙ range_all _ _ (c.len-2.ensures.count ∙ ap (λ es. length es) (sym same_new)) ∙ same_new in
     subst (λ cs. IsLeft g.K.Ord.cmp g.V.PartialEq.eq c.args.self.now c.args.newer.now (listed cs)
     (left c.next-old.result c.next-old.new.self) (left c.next-new.result c.next-new.new.self))
     (sym c.new-changes.ensures.items)

@@ -3,6 +3,7 @@
 
 mod alone_again;
 mod calling;
+mod cascade;
 mod channels;
 mod count_rows;
 mod count_threads;
@@ -16,7 +17,6 @@ mod page_rows;
 mod random_maps;
 mod roses;
 mod static_threads;
-mod styles;
 mod table_copies;
 mod table_threads;
 mod threads;

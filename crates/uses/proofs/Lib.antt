@@ -1,2 +1,4 @@
+pub mod Equal
 pub mod ReadBack
+pub mod RuleTree
 pub mod TwoPasses

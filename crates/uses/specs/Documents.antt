@@ -1,16 +1,13 @@
 -- What an edit makes of a document. A path leads to the part that it is for.
-use Rattle.std.specs.Prelude.{ℕ, List, Option, String}
+use Rattle.std.specs.Prelude.{ℕ, List, Option, Some, String}
 use Rattle.std.specs.Option.{option_and_then}
 use Rattle.std.specs.declared.alloc.Global.{Global}
-use Rattle.servo_arc.specs.Unions.{Union}
 use Rattle.uses.specs.declared.documents.Edit.{Edit}
 use Rattle.uses.specs.declared.documents.Edit.TheVariants.{Rename, Restyle, Insert, Remove}
 use Rattle.uses.specs.declared.documents.Part.{Part}
 use Rattle.trees.specs.declared.rose.Rose.{Rose}
-use Rattle.uses.specs.declared.style.Rule.{Rule}
-use Rattle.uses.specs.declared.style.Inline.{Inline}
+use Rattle.uses.specs.declared.cascade.source.Inline.{Inline}
 use Rattle.trees.specs.Roses.{at, root, with_inserted, with_value, without}
-use Rattle.uses.specs.Styles.{cascaded}
 
 -- the tree with the change made of a part
 abbrev pub with_part : (Part → Part) → List ℕ → Rose Part → Option (Rose Part)
@@ -21,12 +18,12 @@ with_part change path tree =
 abbrev pub renamed : String Global → List ℕ → Rose Part → Option (Rose Part)
 renamed name = with_part (λ part. record part { name = name })
 
--- the tree in which the style of a part takes from a source what that declares
-abbrev pub restyled : Union Rule Inline → List ℕ → Rose Part → Option (Rose Part)
-restyled source = with_part (λ part. record part { style = cascaded source part.style })
+-- the tree in which the element of a part has another block of its own
+abbrev pub restyled : Inline → List ℕ → Rose Part → Option (Rose Part)
+restyled inline = with_part (λ part. record part { element = record part.element { inline = Some inline } })
 
 abbrev pub edited : Edit → List ℕ → Rose Part → Option (Rose Part)
 edited (Rename name) path tree = renamed name path tree
-edited (Restyle source) path tree = restyled source path tree
+edited (Restyle inline) path tree = restyled inline path tree
 edited (Insert i child) path tree = with_inserted path i child tree
 edited (Remove i) path tree = without path i tree

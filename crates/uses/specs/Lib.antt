@@ -1,5 +1,5 @@
+pub mod Cascade
 pub mod Chains
 pub mod Documents
-pub mod Fonts
-pub mod Styles
+pub mod RuleTree
 pub mod Walks

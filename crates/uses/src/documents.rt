@@ -1,9 +1,15 @@
 //! A document with undo: a tree of named parts. A change makes a version, which shares all parts that it left alone.
-ghost use Rattle.std.specs.Prelude.{◌≡◌, ◌↔◌, ◌∷◌, ◌++◌, [], Err, None, Some, IfOk, OnErr, OnOk};
+ghost use Rattle.std.specs.Prelude.{◌≡◌, ◌↔◌, ◌∷◌, ◌++◌, [], Err, None, Some, IfOk, OnErr, OnOk, map};
+ghost use Rattle.uses.specs.Cascade.{style_of};
 ghost use Rattle.uses.specs.Documents.{edited, renamed, restyled};
+ghost use Rattle.trees.specs.Roses.{preorder};
 ghost use Rattle.trees.specs.declared.rose.RoseError.TheVariants.{NoSuchPlace};
 
-use crate::style::{Source, Style};
+use crate::cascade::cache::StyleCache;
+use crate::cascade::element::Element;
+use crate::cascade::source::Inline;
+use crate::cascade::style::Style;
+use interner::InternError;
 use servo_arc::Arc;
 use std::alloc::{AllocError, Global};
 use trees::{Rose, RoseError, Undo};
@@ -13,17 +19,17 @@ use trees::{Rose, RoseError, Undo};
 #[derive(Drop)]
 pub struct Part {
     pub name: Arc<String>,
-    pub style: Style,
+    pub element: Element,
 }
 
-/// One more handle of the name and of each group of the style. It is refused as the `clone` of an `Arc` is.
+/// One more handle of the name and of what declares the style. It is refused as the `clone` of an `Arc` is.
 impl Clone for Part {
     ghost is_clone = { λ a b. b ≡ a };
 
     fn clone(&self) -> Result<Part, AllocError> {
         Ok(Part {
             name: self.name.clone()?,
-            style: self.style.clone()?,
+            element: self.element.clone()?,
         })
     }
 }
@@ -35,8 +41,8 @@ pub type Document = Undo<Rose<Part>>;
 #[derive(Drop)]
 pub enum Edit {
     Rename(Arc<String>),
-    /// The style takes what the source says.
-    Restyle(Source),
+    /// Another block stands at the element itself.
+    Restyle(Arc<Inline>),
     /// One more part below, which gets that number.
     Insert(usize, Rose<Part>),
     /// The part below of that number goes, with all below it.
@@ -75,7 +81,7 @@ fn edited(
 {
     match edit {
         Edit::Rename(name) => renamed(alloc, tree, path, name),
-        Edit::Restyle(source) => restyled(alloc, tree, path, source),
+        Edit::Restyle(inline) => restyled(alloc, tree, path, inline),
         Edit::Insert(index, child) => tree.with_inserted(alloc, path, index, child),
         Edit::Remove(index) => tree.without(alloc, path, index),
     }
@@ -91,9 +97,9 @@ fn renamed(
     ensures made { IfOk result (λ new. Some new ≡ renamed name path.now tree.now) }
     ensures nowhere { (result ≡ Err NoSuchPlace) ↔ (renamed name path.now tree.now ≡ None) }
 {
-    let element = tree.at(path).ok_or(RoseError::NoSuchPlace)?;
-    let style = element.value().style.clone()?;
-    tree.with_value(alloc, path, Part { name, style })
+    let place = tree.at(path).ok_or(RoseError::NoSuchPlace)?;
+    let element = place.value().element.clone()?;
+    tree.with_value(alloc, path, Part { name, element })
 }
 
 #[tactic(auto, using(trees::proofs::Roses::setting))]
@@ -101,13 +107,33 @@ fn restyled(
     alloc: Global,
     tree: &Rose<Part>,
     path: &[usize],
-    source: Source,
+    inline: Arc<Inline>,
 ) -> Result<Rose<Part>, RoseError>
-    ensures made { IfOk result (λ new. Some new ≡ restyled source path.now tree.now) }
-    ensures nowhere { (result ≡ Err NoSuchPlace) ↔ (restyled source path.now tree.now ≡ None) }
+    ensures made { IfOk result (λ new. Some new ≡ restyled inline path.now tree.now) }
+    ensures nowhere { (result ≡ Err NoSuchPlace) ↔ (restyled inline path.now tree.now ≡ None) }
 {
-    let element = tree.at(path).ok_or(RoseError::NoSuchPlace)?;
-    let mut part = element.value().clone()?;
-    part.style.cascade(alloc, source)?;
-    tree.with_value(alloc, path, part)
+    let place = tree.at(path).ok_or(RoseError::NoSuchPlace)?;
+    let part = place.value();
+    let name = part.name.clone()?;
+    let element = part.element.with_inline(inline)?;
+    tree.with_value(alloc, path, Part { name, element })
+}
+
+/// The styles of the parts, each before those below it. What an edit left alone keeps the style that it had.
+pub fn styles(
+    cache: &mut StyleCache,
+    alloc: Global,
+    tree: &Rose<Part>,
+) -> Result<Vec<Arc<Style>>, InternError>
+    ensures { IfOk result (λ styles.
+        styles.items ≡ map (λ part. style_of part.element) (preorder tree.now)) }
+{
+    let values = tree.values(alloc)?;
+    let parts = values.as_slice();
+    let mut styles = Vec::new(alloc);
+    for part in parts {
+        let style = cache.style(alloc, &part.element)?;
+        styles.push(style).map_err(AllocError::from)?;
+    }
+    Ok(styles)
 }

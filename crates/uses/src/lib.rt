@@ -2,20 +2,17 @@
 #![tactic(auto)]
 
 pub mod along_a_path;
+pub mod cascade;
 pub mod copies;
 pub mod crossing;
-pub mod defaults;
 pub mod documents;
 pub mod edits;
-pub mod fonts;
 pub mod history;
 pub mod list_editions;
 pub mod map_editions;
 pub mod published;
 pub mod read_back;
 pub mod recursive;
-pub mod restyle;
-pub mod style;
 pub mod text_style;
 pub mod two_threads;
 pub mod two_versions;

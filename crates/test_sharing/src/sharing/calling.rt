@@ -2,14 +2,12 @@
 use crate::sharing::lists::SMALL_STACK;
 use persistent::List;
 use servo_arc::Arc;
-use std::sync::Mutex;
 use std::thread::Builder;
 use testing::counted::{Counted, Tally};
 use testing::{again, holds, ok, same};
 use trees::Stack;
 use uses::crossing::{end_elsewhere, is_unique_elsewhere, len_elsewhere, made_elsewhere};
 use uses::edits::{Article, two_titles};
-use uses::fonts::{FontCache, in_four_threads, shared_font};
 use uses::text_style::{
     TextStyle, plain_and_bold, plain_style, properties, properties_of, put_under, rule_of, size_of,
     styled,
@@ -83,18 +81,6 @@ fn a_new_title_leaves_the_old_document(rt: HostRuntime) {
     let (old, new) = ok!(&rt, two_titles(rt.alloc(), document, 2));
     let is_shared = Arc::ptr_eq(&old.body, &new.body);
     same!(&rt, (old.title, new.title, is_shared), (1, 2, true));
-}
-
-#[test]
-fn four_threads_share_one_font(rt: HostRuntime) {
-    let cache = Mutex::new(FontCache::new());
-    let fonts = ok!(&rt, in_four_threads(&rt, &cache, rt.alloc(), 70));
-    let first = ok!(&rt, shared_font(&rt, &cache, rt.alloc(), 70));
-    let one = fonts.iter().all(|font| match font {
-        Ok(font) => Arc::ptr_eq(font, &first),
-        Err(_) => false,
-    });
-    holds!(&rt, one);
 }
 
 // A handle that another thread makes, is lent and is given, and a list that is lent.

@@ -1,13 +1,16 @@
 //! What the versions of a document share, and how a tree ends.
 use crate::sharing::lists::SMALL_STACK;
-use servo_arc::{Arc, ArcUnion};
+use servo_arc::Arc;
 use std::alloc::{AllocError, Global};
 use std::thread::Builder;
 use testing::counted::{Counted, Tally};
 use testing::{ok, same};
 use trees::{Rose, Undo};
-use uses::documents::{Document, Edit, Part, apply};
-use uses::style::{Declared, Inline, Style};
+use uses::cascade::cache::StyleCache;
+use uses::cascade::element::Element;
+use uses::cascade::initial::Initial;
+use uses::cascade::source::{Declaration, Inline};
+use uses::documents::{Document, Edit, Part, apply, styles};
 
 fn name(alloc: Global, text: &str) -> Result<Arc<String>, AllocError> {
     Ok(Arc::try_new(alloc, String::from_str(alloc, text)?)?)
@@ -16,7 +19,7 @@ fn name(alloc: Global, text: &str) -> Result<Arc<String>, AllocError> {
 fn part(alloc: Global, text: &str) -> Result<Rose<Part>, AllocError> {
     let part = Part {
         name: name(alloc, text)?,
-        style: Style::initial(alloc)?,
+        element: Element::of_rules(alloc, Vec::new(alloc))?,
     };
     Rose::leaf(alloc, part)
 }
@@ -26,18 +29,14 @@ fn page(alloc: Global) -> Result<Document, AllocError> {
     let low = vec![in alloc; part(alloc, "title")?, part(alloc, "text")?]?;
     let part = Part {
         name: name(alloc, "page")?,
-        style: Style::initial(alloc)?,
+        element: Element::of_rules(alloc, Vec::new(alloc))?,
     };
     Ok(Undo::new(alloc, Rose::with_children(alloc, part, low)?))
 }
 
 fn large(alloc: Global) -> Result<Edit, AllocError> {
-    let declared = Declared {
-        font_size: Some(40),
-        border_width: None,
-    };
-    let inline = Arc::try_new(alloc, Inline { declared })?;
-    Ok(Edit::Restyle(ArcUnion::from_second(inline)))
+    let declarations = Arc::from_header_and_slice(alloc, (), &[Declaration::FontSize(40)])?;
+    Ok(Edit::Restyle(Arc::try_new(alloc, Inline { declarations })?))
 }
 
 fn names_of(alloc: Global, tree: &Rose<Part>) -> Result<String, AllocError> {
@@ -91,6 +90,21 @@ fn versions_share_what_an_edit_left_alone(rt: HostRuntime) {
     let new = document.current();
     let shared = [is_child_shared(old, new, 0), is_child_shared(old, new, 1)];
     same!(&rt, shared, [true, false]);
+}
+
+// The page and its title keep their blocks, and the text has its old style in the old version.
+#[test]
+fn a_part_that_is_restyled_leaves_the_others(rt: HostRuntime) {
+    let alloc = rt.alloc();
+    let initial = ok!(&rt, Initial::new(alloc));
+    let mut cache = ok!(&rt, StyleCache::new(alloc, initial));
+    let mut document = ok!(&rt, page(alloc));
+    let old = ok!(&rt, styles(&mut cache, alloc, document.current()));
+    ok!(&rt, apply(&mut document, alloc, &[1], ok!(&rt, large(alloc))));
+    let new = ok!(&rt, styles(&mut cache, alloc, document.current()));
+    let shared = [0, 1, 2].map(|i: usize| Arc::ptr_eq(&old[i], &new[i]));
+    same!(&rt, shared, [true, true, false]);
+    same!(&rt, (old[2].font.size, new[2].font.size), (16, 40));
 }
 
 #[test]

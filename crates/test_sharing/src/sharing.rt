@@ -11,6 +11,7 @@ mod counted_tables;
 mod documents;
 mod lists;
 mod many_threads;
+mod map_reads;
 mod maps;
 mod orders;
 mod page_rows;

@@ -1,10 +1,10 @@
 //! Ranges of a map, its keys and its values, and what it has as std's maps do: an index, an order and a hash.
-use testing::{holds_at, ok, same};
 use persistent::{Iter, TreeMap};
 use std::alloc::{AllocError, Global};
 use std::cmp::Ordering;
 use std::collections::HashSet;
 use std::ops::Bound;
+use testing::{holds_at, ok, same};
 
 fn map_of(alloc: Global, items: &[(u8, char)]) -> Result<TreeMap<u8, char>, AllocError> {
     TreeMap::from_items(alloc, items.to_vec(alloc)?)

@@ -1,5 +1,5 @@
 //! Random changes of maps, beside the same changes of sorted lists. Versions are kept, and changed later on.
-use persistent::TreeMap;
+use persistent::{Change, TreeMap};
 use std::alloc::{AllocError, Global};
 use std::mem::{replace, swap};
 use std::process::Abort;
@@ -84,6 +84,36 @@ fn reads(map: &Map, list: &[(u64, u64)]) -> bool {
         })
 }
 
+// Cuts the map and joins it again, makes it anew, and makes the other one of it.
+fn by_whole_calls(
+    alloc: Global,
+    map: &Map,
+    other: &Map,
+    list: List,
+    key: u64,
+) -> Result<bool, AllocError> {
+    let mut joined = map.clone()?;
+    let back = joined.split_off(alloc, &key)?;
+    let is_cut = joined.len() == map.rank(&key);
+    joined.append(alloc, &back)?;
+    let mut made = map.clone()?;
+    for (key, change) in map.diff(alloc, other)? {
+        made.update(alloc, *key, |_| match change {
+            Change::Added(value) | Change::Changed(_, value) => Some(*value),
+            Change::Removed(_) => None,
+        })?;
+    }
+    let both = map.union(alloc, other)?;
+    let has_both = both.iter().all(|(key, value)| map.get(key).or(other.get(key)) == Some(value));
+    Ok(
+        is_cut
+            && joined == *map
+            && made == *other
+            && has_both
+            && TreeMap::from_items(alloc, list)? == *map,
+    )
+}
+
 fn next(state: u64) -> u64 {
     state
         .wrapping_mul(6364136223846793005)
@@ -109,6 +139,10 @@ fn run(rt: &(impl Abort + AllocGlobal), seed: u64) {
     }
     for (map, list) in &kept {
         holds_at!(rt, seed, reads(map, list));
+    }
+    if let Some((map, list)) = kept.last() {
+        let is_right = by_whole_calls(rt.alloc(), map, &now.0, again!(rt, list), state % KEYS);
+        holds_at!(rt, seed, ok!(rt, is_right));
     }
 }
 

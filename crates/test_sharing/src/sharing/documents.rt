@@ -100,7 +100,8 @@ fn a_part_that_is_restyled_leaves_the_others(rt: HostRuntime) {
     let mut cache = ok!(&rt, StyleCache::new(alloc, initial));
     let mut document = ok!(&rt, page(alloc));
     let old = ok!(&rt, styles(&mut cache, alloc, document.current()));
-    ok!(&rt, apply(&mut document, alloc, &[1], ok!(&rt, large(alloc))));
+    let edit = ok!(&rt, large(alloc));
+    ok!(&rt, apply(&mut document, alloc, &[1], edit));
     let new = ok!(&rt, styles(&mut cache, alloc, document.current()));
     let shared = [0, 1, 2].map(|i: usize| Arc::ptr_eq(&old[i], &new[i]));
     same!(&rt, shared, [true, true, false]);

@@ -25,6 +25,7 @@ macro_rules! three {
     };
 }
 
+mod cascade;
 mod lists;
 mod versions;
 
@@ -683,6 +684,7 @@ fn workloads() -> impl Iterator<Item = &'static Workload> {
         .iter()
         .chain(versions::WORKLOADS)
         .chain(lists::WORKLOADS)
+        .chain(cascade::WORKLOADS)
 }
 
 fn one(implementation: &str, name: &str, n: &str) -> Option<u64> {

@@ -1,5 +1,6 @@
 //! Why a workload gave no checksum.
 use cow_table::SetError;
+use interner::InternError;
 use servo_arc::Full;
 use servo_arc::header_slice::BuildError;
 use std::alloc::{AllocError, AllocFailed};
@@ -47,6 +48,12 @@ impl From<BuildError> for Fault {
 
 impl From<SetError> for Fault {
     fn from(_error: SetError) -> Fault {
+        Fault::Refused
+    }
+}
+
+impl From<InternError> for Fault {
+    fn from(_error: InternError) -> Fault {
         Fault::Refused
     }
 }

@@ -2,6 +2,7 @@
 //! read. With 0 iterations it only prepares, so that the preparation can be taken off what was measured.
 #![tactic(auto)]
 
+mod cascade;
 mod cloned;
 mod compared;
 mod fault;
@@ -70,6 +71,8 @@ fn checksum<R: Threads + Wait + Sync>(
         "marked-clone-4" => threads::marked_clone(rt, alloc, 4, iterations),
         "static-clone" => cloned::static_clone(alloc, iterations),
         "union-clone" => union::union_clone(alloc, iterations),
+        "cascade" => cascade::cascade(alloc, iterations),
+        "cascade-4" => cascade::cascade_in_four(rt, alloc, iterations),
         _ => checksum_of_versions(alloc, workload, iterations),
     }
 }

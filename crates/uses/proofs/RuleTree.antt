@@ -7,10 +7,7 @@ use Rattle.std.proofs.lemmas.List.Quantifiers.{position-Some}
 use Rattle.std.specs.Cmp.{IsEquivalence}
 use Rattle.std.specs.List.{list_any, position_or_len}
 use Rattle.interner.specs.Symbols.{IsInterned}
-use Rattle.servo_arc.specs.Unions.{Union}
 use Rattle.uses.specs.declared.cascade.cache.RuleNode.{RuleNode}
-use Rattle.uses.specs.declared.cascade.source.Inline.{Inline}
-use Rattle.uses.specs.declared.cascade.source.Rule.{Rule}
 use Rattle.uses.specs.declared.cascade.style.Style.{Style}
 use Rattle.uses.specs.Cascade.{cascaded, initial}
 use Rattle.uses.specs.RuleTree.{IsBefore, AreComputed, style_at}
@@ -88,27 +85,19 @@ module _ (E : RuleNode → RuleNode → Bool) (node : RuleNode) (s : ℕ) where
       )
 
   -- and so has one that is added
-  pub added : (nodes new : List RuleNode) (styles after : List Style) (parent : Option ℕ) (source : Union Rule Inline)
-      (style : Style) → IsInterned E nodes node new s → position (E node) nodes ≡ None → AreComputed nodes styles
-      → IsBefore parent (length styles) → node ≡ record { parent = parent; source = source }
-      → style ≡ cascaded (style_at styles parent) source → after ≡ styles ++ style ∷ []
-      → IsEquivalence E → ((a b : RuleNode) → E a b ≡ true → a ≡ b)
+  pub added : (nodes new : List RuleNode) (styles after : List Style) (style : Style)
+      → IsInterned E nodes node new s → position (E node) nodes ≡ None → AreComputed nodes styles
+      → IsBefore node.parent (length styles) → style ≡ cascaded (style_at styles node.parent) node.source
+      → after ≡ styles ++ style ∷ [] → IsEquivalence E → ((a b : RuleNode) → E a b ≡ true → a ≡ b)
       → AreComputed new after × (s < length after)
-      × (get_or after s initial ≡ cascaded (style_at styles parent) source)
-  added nodes new styles after parent source style interned none old there of_node is is_after laws exact =
+      × (get_or after s initial ≡ cascaded (style_at styles node.parent) node.source)
+  added nodes new styles after style interned none old there is is_after laws exact =
       let any = not_there (E node) nodes none in
       let grown : new ≡ nodes ++ node ∷ [] = grind (arith, interned.values, any) in
-      let above = subst (λ (n : RuleNode). IsBefore n.parent (length styles)) (sym of_node) there in
-      let fits = is ∙ ap (λ (n : RuleNode). cascaded (style_at styles n.parent) n.source) (sym of_node) in
       let all : AreComputed new after =
       subst (λ n. AreComputed n after) (sym grown) (subst (AreComputed (nodes ++ node ∷ [])) (sym is_after)
-      (computed_with nodes styles node style old above fits)) in
+      (computed_with nodes styles node style old there is)) in
       let one = found new after ((interned.one node).1 (laws.refl node)) all exact in
       let stays : style_at after node.parent ≡ style_at styles node.parent =
-      ap (λ l. style_at l node.parent) is_after ∙ style_stays styles style node.parent above in (
-        all,
-        one.0,
-        one.1
-            ∙ ap (λ p. cascaded p node.source) stays
-            ∙ ap (λ (n : RuleNode). cascaded (style_at styles n.parent) n.source) of_node,
-      )
+      ap (λ l. style_at l node.parent) is_after ∙ style_stays styles style node.parent there in
+      (all, one.0, one.1 ∙ ap (λ p. cascaded p node.source) stays)

@@ -1,6 +1,6 @@
 -- The cascade: a style takes declarations in turn, and of two that declare one property the later wins.
-use Rattle.std.specs.Prelude.{ℕ, List, [], ◌∷◌, ◌++◌, map, Option, None, Some}
-use Rattle.std.specs.List.{flat_map, fold}
+use Rattle.std.specs.Prelude.{List, ◌++◌, map}
+use Rattle.std.specs.List.{fold}
 use Rattle.std.specs.Option.{option_map, option_to_list}
 use Rattle.servo_arc.specs.Unions.{Union, First, Second}
 use Rattle.uses.specs.declared.cascade.element.Element.{Element}

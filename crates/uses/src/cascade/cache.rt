@@ -87,14 +87,14 @@ impl StyleCache {
             ≡ cascaded (style_at self.old.styles.items parent) source) }
         ensures refused { OnErr result (self.new.nodes ≡ self.old.nodes) }
     {
-        let node = Arc::try_new(alloc, RuleNode { parent, source }).map_err(AllocError::from)?;
+        let node = RuleNode { parent, source };
         if let Some(symbol) = self.nodes.find(&node) {
             return Ok(Some(symbol));
         }
         let style = self.at(&node.parent).cascade(alloc, &node.source)?;
         let style = Arc::try_new(alloc, style).map_err(AllocError::from)?;
         self.styles.reserve(1)?;
-        let symbol = self.nodes.intern_arc(node)?;
+        let symbol = self.nodes.intern(alloc, node)?;
         self.styles.push_reserved(style);
         Ok(Some(symbol))
     }

@@ -2,6 +2,7 @@
 //! holds whichever it is, and reports what it came to. `outcomes.txt` has what all of them may come to, and have to.
 
 mod builders;
+mod cascade;
 mod clones;
 mod counts;
 mod list_versions;

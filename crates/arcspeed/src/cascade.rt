@@ -24,10 +24,7 @@ fn declaration(number: u32) -> Declaration {
 }
 
 fn rule(alloc: Global, number: u32) -> Result<Arc<Rule>, Fault> {
-    let declarations = [
-        declaration(number),
-        declaration(number.wrapping_mul(7) / 4),
-    ];
+    let declarations = [declaration(number), declaration(number.wrapping_mul(7) / 4)];
     let rule = Rule {
         specificity: number % 3,
         declarations: Arc::from_header_and_slice(alloc, (), &declarations)?,
@@ -48,7 +45,7 @@ fn element(alloc: Global, rules: &[Arc<Rule>], random: u64) -> Result<Element, F
     if (random >> 6) % 8 != 0 {
         return Ok(element);
     }
-    let own = [declaration((random >> 9) as u32 % 64)];
+    let own = [declaration(((random >> 9) % 64) as u32)];
     let inline = Inline {
         declarations: Arc::from_header_and_slice(alloc, (), &own)?,
     };

@@ -50,14 +50,18 @@ fn elements(alloc: Global) -> Result<Vec<Element>, AllocError> {
     Ok(elements)
 }
 
+fn with_one(number: usize, is_one: bool) -> usize {
+    number.wrapping_add(usize::from(is_one))
+}
+
 /// How many styles, fonts and borders are in the blocks of the first of their kind.
 fn shared(styles: &[Arc<Style>]) -> (usize, usize, usize) {
     let (mut whole, mut fonts, mut borders) = (0, 0, 0);
     for (i, style) in styles.iter().enumerate() {
         let first = &styles[i % 4];
-        whole += usize::from(Arc::ptr_eq(style, first));
-        fonts += usize::from(Arc::ptr_eq(&style.font, &first.font));
-        borders += usize::from(Arc::ptr_eq(&style.border, &first.border));
+        whole = with_one(whole, Arc::ptr_eq(style, first));
+        fonts = with_one(fonts, Arc::ptr_eq(&style.font, &first.font));
+        borders = with_one(borders, Arc::ptr_eq(&style.border, &first.border));
     }
     (whole, fonts, borders)
 }

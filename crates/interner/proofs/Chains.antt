@@ -1,6 +1,7 @@
 -- What a walk along a chain leaves out, and that the chains stay with one value more.
 use Rattle.std.proofs.Common.{◌≡◌, ℕ, zero, suc, ◌+◌, ◌<◌, ◌≤◌, ◌^◌, Bool, true, false, List, [], ◌∷◌, ◌++◌, length}
-use Rattle.std.proofs.Common.{Option, None, Some, IfSome, map, get_or, slice_get, slice_index, nat_eq, nat_lt, if◌then◌else◌}
+use Rattle.std.proofs.Common.{Option, None, Some, IfSome, map, get_or, slice_get, slice_index, nat_eq, nat_lt}
+use Rattle.std.proofs.Common.{if◌then◌else◌}
 use Rattle.std.proofs.Common.{refl, sym, ap, ◌∙◌, subst, true≢false, arith}
 use Rattle.std.proofs.lemmas.Bool.{eqb-true, eq-eqb}
 use Rattle.std.proofs.lemmas.List.{get_or-map, get_or_append_left, length-append, length-map, map-append}

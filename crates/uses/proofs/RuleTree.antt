@@ -1,5 +1,6 @@
 -- What a node that is found, and one that is added, say of the styles of a rule tree.
-use Rattle.std.proofs.Common.{◌≡◌, ℕ, ◌<◌, Bool, true, false, nat_lt, List, [], ◌∷◌, ◌++◌, length, get_or, Option, None, Some}
+use Rattle.std.proofs.Common.{◌≡◌, ℕ, ◌<◌, Bool, true, false, nat_lt, List, [], ◌∷◌, ◌++◌, length, get_or}
+use Rattle.std.proofs.Common.{Option, None, Some}
 use Rattle.std.proofs.Common.{refl, sym, ap, ◌∙◌, subst, arith, length-append, position}
 use Rattle.std.proofs.lemmas.Grind.{common_steps}
 use Rattle.std.proofs.lemmas.List.{get_or_append_left, get_or_push}
@@ -73,8 +74,8 @@ not_there p xs none = grind (arith, common_steps, any_by_place p xs, none)
 
 module _ (E : RuleNode → RuleNode → Bool) (node : RuleNode) (s : ℕ) where
   -- a node that is found has the style of its parent with what its source declares
-  pub found : (nodes : List RuleNode) (styles : List Style) → position (E node) nodes ≡ Some s → AreComputed nodes styles
-      → ((a b : RuleNode) → E a b ≡ true → a ≡ b)
+  pub found : (nodes : List RuleNode) (styles : List Style) → position (E node) nodes ≡ Some s
+      → AreComputed nodes styles → ((a b : RuleNode) → E a b ≡ true → a ≡ b)
       → (s < length styles) × (get_or styles s initial ≡ cascaded (style_at styles node.parent) node.source)
   found nodes styles at old exact =
       let place = position-Some (E node) nodes s node at in

@@ -12,5 +12,6 @@ behind (p ∷ parts) = ap (λ styles. style_of p.now.element ∷ styles) (behind
 pub returns : goal.returns
 returns c =
     let parts = c.in_ok-values.values.items in
-    let all : c.loop-part.styles.items ≡ map (λ (p : Bor Part). style_of p.now.element) parts = grind (arith, common_steps) in
+    let all : c.loop-part.styles.items ≡ map (λ (p : Bor Part). style_of p.now.element) parts =
+    grind (arith, common_steps) in
     all ∙ behind parts ∙ ap (map (λ (part : Part). style_of part.element)) c.in_ok-values.ensures

@@ -15,7 +15,8 @@ returns-clause-sorted c =
 
 pub returns-clause-stable : goal.returns-clause-stable
 returns-clause-stable c =
-    let stable : IsStableByKey (λ (r : Arc Rule). r.specificity) nat_cmp c.args.rules.items c.sort_by_key.new.self.items =
+    let sorted = c.sort_by_key.new.self.items in
+    let stable : IsStableByKey (λ (r : Arc Rule). r.specificity) nat_cmp c.args.rules.items sorted =
     c.in_ok-sort_by_key.ensures.stable (λ (r : Arc Rule). r.specificity)
     (answers_always _ _ _ (λ f a r q k. search rules)) in
     rw c.in_ok-from_header_and_vec.ensures stable

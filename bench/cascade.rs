@@ -1,6 +1,7 @@
 //! The styles of many elements by a rule tree, the same code over each counted pointer.
 
 use super::{next, workload, Run, Workload};
+use std::hash::{BuildHasherDefault, Hasher};
 
 const ELEMENTS: u64 = 1_000;
 const RULES: u32 = 24;
@@ -22,10 +23,40 @@ fn declaration(number: u32) -> Declaration {
     }
 }
 
+/// A fast hash, as engines have it in place of std's.
+#[derive(Default)]
+struct FastHasher(u64);
+
+impl Hasher for FastHasher {
+    fn write(&mut self, bytes: &[u8]) {
+        for byte in bytes {
+            self.write_u64(u64::from(*byte));
+        }
+    }
+
+    fn write_u32(&mut self, n: u32) {
+        self.write_u64(u64::from(n));
+    }
+
+    fn write_usize(&mut self, n: usize) {
+        self.write_u64(n as u64);
+    }
+
+    fn write_u64(&mut self, n: u64) {
+        self.0 = (self.0.rotate_left(5) ^ n).wrapping_mul(0x517c_c1b7_2722_0a95);
+    }
+
+    fn finish(&self) -> u64 {
+        self.0.rotate_left(26)
+    }
+}
+
+type FastHash = BuildHasherDefault<FastHasher>;
+
 macro_rules! cascades {
     ($name:ident, $($path:tt)+) => {
         mod $name {
-            use super::{declaration, next, Declaration, ELEMENTS, RULES};
+            use super::{declaration, next, Declaration, FastHash, ELEMENTS, RULES};
             use std::collections::HashMap;
             use std::hash::{Hash, Hasher};
             use std::ops::Deref;
@@ -144,7 +175,7 @@ macro_rules! cascades {
 
             struct StyleCache {
                 root: Arc<Style>,
-                nodes: HashMap<ByValue<RuleNode>, u32>,
+                nodes: HashMap<RuleNode, u32, FastHash>,
                 styles: Vec<Arc<Style>>,
             }
 
@@ -152,7 +183,7 @@ macro_rules! cascades {
                 fn new(initial: &Style) -> StyleCache {
                     StyleCache {
                         root: Arc::new(initial.clone()),
-                        nodes: HashMap::new(),
+                        nodes: HashMap::default(),
                         styles: Vec::new(),
                     }
                 }
@@ -165,7 +196,7 @@ macro_rules! cascades {
                 }
 
                 fn child(&mut self, parent: Option<u32>, source: Source) -> Option<u32> {
-                    let node = shared(RuleNode { parent, source });
+                    let node = RuleNode { parent, source };
                     if let Some(number) = self.nodes.get(&node) {
                         return Some(*number);
                     }

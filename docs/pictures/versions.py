@@ -11,7 +11,7 @@ def nodes():
     """The nodes of a tree by their paths: the values before and after a change, and whether both versions have the
     node, as the test says."""
     rows = re.compile(r"\(&\[(.*?)\], Some\((\d+)\), Some\((\d+)\), (true|false)\)")
-    found = rows.findall((ROOT / "crates" / "tests" / "src" / "sharing" / "roses.rt").read_text())
+    found = rows.findall((ROOT / "crates" / "test_sharing" / "src" / "sharing" / "roses.rt").read_text())
     return {tuple(re.findall(r"\d+", path)): (old, new, shared == "true") for path, old, new, shared in found}
 
 

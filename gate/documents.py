@@ -5,8 +5,8 @@
 - a block of Rust names a file, as ```rust crates/first_example/src/main.rt, in which it stands as it is. One that names
   none is of docs/DECISIONS.md, and the checker refuses it: gate/elsewhere.sh;
 - what a command prints on an example, as after `# prints:`, is what the example's expected lines say;
-- docs/SPEED.md shows the figures of bench/measured.tsv, of some workloads, and those of bench/maps.tsv; docs/speed.svg
-  is drawn from the former.
+- docs/SPEED.md shows the figures of bench/maps.tsv, and of bench/measured.tsv some, with each that misses its goal;
+  docs/speed.svg is drawn from the latter.
 """
 import csv
 import re
@@ -87,11 +87,14 @@ def table(name):
 
 
 def wrong_speed():
-    """The lines of docs/SPEED.md on a workload that say something else, the lines of maps that it lacks, and its figure
-    if that is another."""
-    measured = {row["workload"]: speed_line(row) for row in table("measured.tsv")}
+    """The lines of docs/SPEED.md on a workload that say something else, the lines that it lacks of maps and of missed
+    goals, and its figure if that is another."""
+    rows = table("measured.tsv")
+    measured = {row["workload"]: speed_line(row) for row in rows}
     shown = (ROOT / "docs" / "SPEED.md").read_text().splitlines()
     yield from (line for line in shown if measured.get(line.partition(" ")[0], line) != line)
+    missed = (measured[row["workload"]] for row in rows if row["verdict"] == "missed")
+    yield from (line for line in missed if line not in shown)
     calls = {}
     for row in table("maps.tsv"):
         calls.setdefault((row["order"], row["call"]), []).append(row)

@@ -2,12 +2,13 @@
 """Quotes each public call with its contract from the source, in each block of a crates/NAME/CALLING.md that names
 folders of source and then types, as ```text cow_table/src: CowTable Iter. The types come in that order, others after
 them, functions without a type last. Of each type come first its makers, then the calls that read it, clone it, write
-it and use it up. Calls without a clause share one line at the end.
+it and use it up. Calls of one kind with the same clauses share them. Laws, which take nothing and promise what their
+names spell, share a line, and so do the calls without a clause at the end.
 
 With --check it writes nothing, and ends with 1 if a block is not up to date, or does not name what it quotes."""
 import re
 import sys
-from itertools import chain
+from itertools import chain, groupby
 from pathlib import Path
 from textwrap import wrap
 
@@ -55,7 +56,7 @@ def use_of(head):
 
 
 def quoted(kind, lines):
-    """The head of a call, and a line for each of its clauses. A single clause that fits stands behind the head."""
+    """The head of a call, and its clauses: what it requires in one line, if that fits, and each `ensures` apart."""
     text = re.sub(r"\s+", " ", " ".join(lines)).replace("( ", "(").replace(", )", ")")
     head, *clauses = CLAUSE.split(re.sub(r" \{ ?\}?$", "", text))
     head = ("fn " + (f"{kind}::" if kind else "") + head).replace("< ", "<").replace(", >", ">").rstrip(",")
@@ -63,27 +64,52 @@ def quoted(kind, lines):
         f"{word}{name or ''}: {body.removesuffix('}').strip()}"
         for word, name, body in zip(clauses[::3], clauses[1::3], clauses[2::3])
     ]
-    if len(told) == 1 and len(f"{head}  {told[0]}") <= COLUMNS:
-        return [f"{head}  {told[0]}"], True
-    return [head, *("  " + clause for clause in told)], bool(told)
+    required = [clause for clause in told if clause.startswith("requires")]
+    in_one = "; ".join([*required[:1], *(clause.removeprefix("requires ") for clause in required[1:])])
+    if required and len("  " + in_one) <= COLUMNS:
+        told[: len(required)] = [in_one]
+    return head, tuple(told)
+
+
+def law(head, clauses):
+    """The name and the type parameter of a function that takes nothing and whose clause is what its name spells."""
+    taken = re.fullmatch(r"fn (\w+)(?:<(\w+): Copy>)?\(\)", head)
+    spelt = taken and f"{taken[1].title().replace('_', '')} {taken[2] or ''}".strip()
+    return taken.groups() if clauses == (f"ensures: {spelt}",) else None
+
+
+def as_lines(told):
+    """The calls, each with its only clause behind it if that fits, else above the clauses that it shares."""
+    groups = {}
+    for place, use, head, clauses in sorted(told, key=lambda call: call[:2]):
+        line = "  ".join([head, *clauses])
+        fits = len(clauses) == 1 and len(line) <= COLUMNS
+        groups.setdefault((place, use, line if fits else clauses), []).append(line if fits else head)
+    for clauses, alike in groupby(groups.items(), key=lambda group: group[0][2]):
+        yield from chain.from_iterable(heads for _, heads in alike)
+        yield from ("  " + clause for clause in clauses) if isinstance(clauses, tuple) else ()
 
 
 def calls(folders, order):
     paths = [sorted((CRATES / folder).rglob("*.rt"), key=lambda path: path.with_suffix("").parts) for folder in folders]
     files = [path.read_text() for path in chain(*paths)]
     types = set(re.findall(r"^pub (?:struct|enum|trait) (\w+)", "\n".join(files), re.M))
-    told, silent = [], {}
+    told, laws, silent = [], {}, {}
     for owner, public, lines in (function for file in files for function in functions(file)):
         if not public and not types & set(re.findall(r" for &?(?:'\w+ )?(\w+)", owner)):
             continue
         kind = kind_of(owner)
-        text, has_clause = quoted(kind, lines)
+        head, clauses = quoted(kind, lines)
         place = order.index(kind) if kind in order else len(order) + (kind == "")
-        if has_clause:
-            told.append((place, use_of(text[0]) if kind else 0, text))
+        if named := law(head, clauses):
+            laws.setdefault(f"laws<{named[1]}: Copy>" if named[1] else "laws", []).append(named[0])
+        elif clauses:
+            told.append((place, use_of(head) if kind else 0, head, clauses))
         else:
             silent.setdefault((place, kind), []).append(re.match(r"\w+", lines[0])[0])
-    yield from (line for _, _, text in sorted(told, key=lambda call: call[:2]) for line in text)
+    yield from as_lines(told)
+    for start, names in laws.items():
+        yield from wrap(f"{start}: {', '.join(names)}", COLUMNS, subsequent_indent="  ")
     rows = (f"{kind}: {', '.join(dict.fromkeys(names))}" for (_, kind), names in sorted(silent.items()))
     yield from wrap("without a clause: " + "; ".join(rows), COLUMNS, subsequent_indent="  ") if silent else ()
 

@@ -5,8 +5,5 @@ pub mod Founds
 pub mod HeaderSlice
 pub mod Inside
 pub mod Stays
-pub mod UnionHandles
-pub mod UnionLaws
-pub mod Unions
 pub mod WriteBack
 pub mod formers

@@ -2,7 +2,6 @@
 #![tactic(auto)]
 
 pub mod arc;
-pub mod arc_union;
 mod attempt;
 mod block;
 pub mod borrow;

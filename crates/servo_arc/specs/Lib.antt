@@ -15,8 +15,6 @@ pub use Rattle.handles.specs.Borrowed
 pub use Rattle.handles.specs.Copies
 pub use Rattle.handles.specs.HeaderSlice
 pub use Rattle.handles.specs.Stays
-pub use Rattle.handles.specs.UnionHandles
-pub use Rattle.handles.specs.Unions
 pub use Rattle.handles.specs.WriteBack
 pub use Rattle.handles.specs.declared.header_slice.build.BuildError
 pub use Rattle.tables.specs.TableModel
@@ -25,8 +23,10 @@ pub use Rattle.tables.specs.TableLaws
 pub use Rattle.tables.specs.declared.commands.Command
 pub use Rattle.tables.specs.declared.commands.PlainCommand
 pub use Rattle.tables.specs.declared.commands.Reply
-pub use Rattle.union_tables.specs.UnionTableModel
-pub use Rattle.union_tables.specs.declared.command.UnionCommand
+pub use Rattle.unions.specs.UnionHandles
+pub use Rattle.unions.specs.UnionTableModel
+pub use Rattle.unions.specs.Unions
+pub use Rattle.unions.specs.declared.command.UnionCommand
 pub use Rattle.shared_count.specs.History
 pub use Rattle.shared_count.specs.Extends
 pub use Rattle.shared_count.specs.Passes

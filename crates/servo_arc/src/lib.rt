@@ -9,17 +9,17 @@
 pub use counting_core;
 pub use counting_word as word;
 pub use handles::arc::{Arc, Full, RawArc};
-pub use handles::arc_union::{ArcUnion, ArcUnionBorrow, ThinArcUnion};
 pub use handles::borrow::ArcBorrow;
 pub use handles::header_slice::{BuildError, HeaderSlice, ThinArc};
 pub use handles::static_arc::StaticArc;
 pub use handles::unique::{UninitArc, UniqueArc};
-pub use handles::{arc, arc_union, borrow, header_slice, unique};
+pub use handles::{arc, borrow, header_slice, unique};
 pub use shared_count;
-pub use union_tables::union_table;
+pub use unions::arc_union::{ArcUnion, ArcUnionBorrow, ThinArcUnion};
+pub use unions::{arc_union, union_table};
 
 /// Tables of handles, and of unions of them.
 pub mod table {
     pub use tables::table::{Command, PlainCommand, Reply, Table, laws};
-    pub use union_tables::union_table::{UnionCommand, UnionTable};
+    pub use unions::union_table::{UnionCommand, UnionTable};
 }

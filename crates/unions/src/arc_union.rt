@@ -1,13 +1,13 @@
 //! A handle of one of two types.
 ghost use Rattle.std.specs.Prelude.{◌≡◌, IfOk, IfErr, IsTrue, option_map};
 ghost use Rattle.handles.specs.Borrowed.{borrowed};
-ghost use Rattle.handles.specs.Unions.{First, Second, is_first, is_second, first, second};
+ghost use Rattle.unions.specs.Unions.{First, Second, is_first, is_second, first, second};
 
 mod compare;
 
-use crate::arc::Arc;
-use crate::borrow::ArcBorrow;
-use crate::header_slice::HeaderSlice;
+use handles::arc::Arc;
+use handles::borrow::ArcBorrow;
+use handles::header_slice::HeaderSlice;
 use std::alloc::AllocError;
 use std::marker::Model;
 
@@ -30,11 +30,11 @@ enum EitherArc<A, B> {
 }
 
 impl<A, B> Model for ArcUnion<A, B> {
-    ghost use Rattle.handles.specs.Unions.{Union};
+    ghost use Rattle.unions.specs.Unions.{Union};
 
     ghost Value = { Union A B };
 
-    ghost use Rattle.handles.specs.UnionHandles.{shown_union};
+    ghost use Rattle.unions.specs.UnionHandles.{shown_union};
 
     ghost view = { λ u. shown_union u.handle };
 }
@@ -48,7 +48,7 @@ pub enum ArcUnionBorrow<'a, A, B> {
 }
 
 impl<A, B> ArcUnion<A, B> {
-    ghost use Rattle.handles.specs.UnionHandles.{borrowed_union};
+    ghost use Rattle.unions.specs.UnionHandles.{borrowed_union};
 
     /// The handle as one of the first kind. The count stays as it is.
     pub fn from_first(handle: Arc<A>) -> ArcUnion<A, B>

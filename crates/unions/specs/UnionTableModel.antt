@@ -1,11 +1,11 @@
 -- The reference model of a table of unions: each value is a first or a second.
 use Rattle.std.specs.Prelude.{ℕ, Bool, true, false, List, [], ◌∷◌, Option, Some, None}
-use Rattle.handles.specs.Unions.{Union, First, Second, is_first, is_second, union_eq}
 use Rattle.tables.specs.declared.commands.Reply.TheVariants.{Is, Refused}
-use Rattle.union_tables.specs.declared.command.UnionCommand.{UnionCommand}
-use Rattle.union_tables.specs.declared.command.UnionCommand.TheVariants as command
 use Rattle.tables.specs.TableModel.{Slots, Outcome, Meaning, at, reading, reading_both, sets, stays}
 use Rattle.tables.specs.TableModel.{clones, ends, compares}
+use Rattle.unions.specs.Unions.{Union, First, Second, is_first, is_second, union_eq}
+use Rattle.unions.specs.declared.command.UnionCommand.{UnionCommand}
+use Rattle.unions.specs.declared.command.UnionCommand.TheVariants as command
 
 module _ {A B : Type 0} where
   -- whether two handles are of one block is open, but no block is of both kinds

@@ -2,17 +2,17 @@
 ghost use Rattle.std.specs.Prelude.{◌≡◌, ◌<◌, ◌↔◌, [], IfErr, IfOk, IsOk, None, OnErr, OnOk, Some};
 ghost use Rattle.std.specs.Prelude.{length, option_map, replicate, slice_get, slice_set};
 ghost use Rattle.std.specs.Option.{option_flatten};
-ghost use Rattle.handles.specs.UnionHandles.{borrowed_union};
-ghost use Rattle.handles.specs.Unions.{union_eq};
 ghost use Rattle.tables.specs.Runs.{IsAmong, Run};
 ghost use Rattle.tables.specs.TableModel.{clones, compares, ends};
-ghost use Rattle.union_tables.specs.UnionTableModel.{union_outcomes_of};
-ghost use Rattle.union_tables.specs.declared.command.UnionCommand.TheVariants as Command;
+ghost use Rattle.unions.specs.UnionHandles.{borrowed_union};
+ghost use Rattle.unions.specs.Unions.{union_eq};
+ghost use Rattle.unions.specs.UnionTableModel.{union_outcomes_of};
+ghost use Rattle.unions.specs.declared.command.UnionCommand.TheVariants as Command;
 
+use crate::arc_union::{ArcUnion, ArcUnionBorrow};
 pub use crate::command::UnionCommand;
 pub use crate::laws;
 use handles::arc::Arc;
-use handles::arc_union::{ArcUnion, ArcUnionBorrow};
 use std::alloc::{AllocError, Global};
 use std::marker::Model;
 use tables::serve::{Serve, serve_all};
@@ -27,7 +27,7 @@ pub struct UnionTable<A, B> {
 
 impl<A, B> Model for UnionTable<A, B> {
     ghost use Rattle.std.specs.Prelude.{List, Option};
-    ghost use Rattle.handles.specs.Unions.{Union};
+    ghost use Rattle.unions.specs.Unions.{Union};
 
     ghost Value = { List (Option (Union A B)) };
 

@@ -1,6 +1,6 @@
 //! What holds of every command and of every run, by what commands mean.
 ghost use Rattle.tables.specs.TableLaws.{NumberOfSlotsStays, OnlyDoneChanges, OtherSlotsStay};
-ghost use Rattle.union_tables.specs.UnionTableModel.{union_outcomes_of, union_written};
+ghost use Rattle.unions.specs.UnionTableModel.{union_outcomes_of, union_written};
 
 /// No run changes the number of slots.
 pub fn number_of_slots_stays<A: PartialEq, B: PartialEq>()

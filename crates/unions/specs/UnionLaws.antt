@@ -9,7 +9,7 @@ use Rattle.std.specs.Ordering.{ordering_reverse, is_eq, is_lt, is_gt, is_some_an
 use Rattle.std.specs.Hash.{HashWrites, isize}
 use Rattle.std.specs.Cmp.{IsPartialEquivalence, IsEquivalence, IsPartialOrder, IsTotalOrder, Agrees, equiv}
 use Rattle.std.specs.Cmp.{partial_equiv_from_equiv, total, ties}
-use Rattle.handles.specs.Unions.{Union, First, Second, union_eq, union_partial_cmp, union_cmp, union_hash_input}
+use Rattle.unions.specs.Unions.{Union, First, Second, union_eq, union_partial_cmp, union_cmp, union_hash_input}
 
 apart : {P : Type 0} → false ≡ true → P
 apart e = absurd (true≢false (sym e))

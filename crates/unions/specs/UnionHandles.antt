@@ -1,10 +1,10 @@
 -- What union handles and their borrows show.
 use Rattle.handles.specs.Borrowed.{borrowed}
-use Rattle.handles.specs.Unions.{Union, First, Second}
-use Rattle.handles.specs.declared.arc_union.EitherArc.{EitherArc}
-use Rattle.handles.specs.declared.arc_union.EitherArc.TheVariants as of_arcs
-use Rattle.handles.specs.declared.arc_union.ArcUnionBorrow.{ArcUnionBorrow}
-use Rattle.handles.specs.declared.arc_union.ArcUnionBorrow.TheVariants as of_borrows
+use Rattle.unions.specs.Unions.{Union, First, Second}
+use Rattle.unions.specs.declared.arc_union.EitherArc.{EitherArc}
+use Rattle.unions.specs.declared.arc_union.EitherArc.TheVariants as of_arcs
+use Rattle.unions.specs.declared.arc_union.ArcUnionBorrow.{ArcUnionBorrow}
+use Rattle.unions.specs.declared.arc_union.ArcUnionBorrow.TheVariants as of_borrows
 
 abbrev pub shown_union : {A B : Type 0} → EitherArc A B → Union A B
 shown_union (of_arcs.First a) = First a

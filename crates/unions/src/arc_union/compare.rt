@@ -1,10 +1,9 @@
 //! What a handle of one of two types has by its kind and its value: equality, order, hash and texts.
-ghost use Rattle.handles.specs.Unions.{union_eq, union_partial_cmp, union_cmp, union_hash_input};
-ghost use Rattle.handles.specs.UnionLaws.{union_eq_per, union_eq_equiv, union_po, union_agrees, union_total};
-ghost use Rattle.handles.specs.UnionLaws.{union_ties, union_respects_eq};
+ghost use Rattle.unions.specs.Unions.{union_eq, union_partial_cmp, union_cmp, union_hash_input};
+ghost use Rattle.unions.specs.UnionLaws.{union_eq_per, union_eq_equiv, union_po, union_agrees, union_total};
+ghost use Rattle.unions.specs.UnionLaws.{union_ties, union_respects_eq};
 
-use super::{ArcUnion, ArcUnionBorrow, EitherArc};
-use crate::borrow::ArcBorrow;
+use super::{ArcUnion, EitherArc};
 use std::cmp::Ordering;
 use std::fmt;
 use std::fmt::{Debug, Formatter, Write};
@@ -86,10 +85,6 @@ impl<A: Hash, B: Hash> Hash for ArcUnion<A, B> {
 
 impl<A: Debug, B: Debug> Debug for ArcUnion<A, B> {
     fn fmt<W: Write>(&self, f: &mut Formatter<W>) -> fmt::Result {
-        let borrow = match &self.handle {
-            EitherArc::First(handle) => ArcUnionBorrow::First(ArcBorrow(handle)),
-            EitherArc::Second(handle) => ArcUnionBorrow::Second(ArcBorrow(handle)),
-        };
-        Debug::fmt(&borrow, f)
+        Debug::fmt(&self.borrow(), f)
     }
 }

@@ -1,5 +1,0 @@
-use Rattle.union_tables.proofs.UnionChanges.{number_stays_union}
-use Rattle.union_tables.proofs.laws.number_of_slots_stays.Goals as goal
-
-pub returns : goal.returns
-returns g c = number_stays_union g.A.PartialEq.eq g.B.PartialEq.eq

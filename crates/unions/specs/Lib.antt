@@ -1,0 +1,5 @@
+pub mod UnionHandles
+pub mod UnionLaws
+pub mod UnionTableModel
+pub mod Unions
+pub mod formers

@@ -1,7 +1,7 @@
 //! How code above uses the handles.
 ghost use Rattle.std.specs.Prelude.{◌≡◌, if◌then◌else◌, false, true, IfOk, IfErr};
 ghost use Rattle.servo_arc.specs.Borrowed.{borrowed};
-ghost use Rattle.servo_arc.specs.HeaderSlice.Builders.{IsBuilt, Refuses};
+ghost use Rattle.servo_arc.specs.HeaderSlice.Builders.{Builds};
 
 use servo_arc::{Arc, ArcBorrow, BuildError, ThinArc, UniqueArc};
 use std::alloc::{AllocError, Global};
@@ -66,8 +66,7 @@ pub fn styled<I: Iterator<Item = char>>(
     number: usize,
 ) -> Result<ThinArc<TextStyle, char>, BuildError>
     requires { I.can_next letters }
-    ensures built { IfOk result (λ text. IsBuilt I.next_gives letters number style text) }
-    ensures refused { IfErr result (Refuses I.next_gives letters number) }
+    ensures { Builds I.next_gives letters number style result }
 {
     Arc::from_header_and_iter_with_size(alloc, style, letters, number)
 }

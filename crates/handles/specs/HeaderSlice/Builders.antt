@@ -1,5 +1,5 @@
 -- What a builder that wants n items answers, by what it heard.
-use Rattle.std.specs.Prelude.{◌≡◌, ⊤, ℕ, ◌+◌, ◌<◌, Option}
+use Rattle.std.specs.Prelude.{◌≡◌, ⊤, ℕ, ◌+◌, ◌<◌, Option, Result, IfOk, IfErr}
 use Rattle.std.specs.Iterator.Runs.{SomeRun, WholeRun}
 use Rattle.handles.specs.HeaderSlice.{HeaderAndItems, ItemsInRoom}
 use Rattle.handles.specs.HeaderSlice.Pulls.{GivesRight, GivesFewer, GivesMore}
@@ -38,3 +38,11 @@ module _ {S A : Type 0} (steps : S → Option A → S → Type 0) (source : S) (
 -- iterator. By it a slice that is built from a vector, or from a chain over a slice, is known to be that list.
 abbrev pub TakesAll : {S A H : Type 0} → (S → Option A → S → Type 0) → S → HeaderAndItems H A → Type 0
 TakesAll steps source slice = WholeRun steps source (λ p. p.items ≡ slice.items)
+
+-- What a builder answers that wants n items: what is built or refused, and the same of the iterator's whole run.
+pub record Builds {S A H : Type 0} (steps : S → Option A → S → Type 0) (source : S) (n : ℕ) (header : H)
+    (answer : Result (HeaderAndItems H A) BuildError) : Type 0 where
+  pub built : IfOk answer (IsBuilt steps source n header)
+  pub refused : IfErr answer (Refuses steps source n)
+  pub runs : IfOk answer (TakesAll steps source)
+  pub refusals : IfErr answer (RefusesRun steps source n)

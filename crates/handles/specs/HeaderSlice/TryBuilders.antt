@@ -1,5 +1,5 @@
 -- What a builder that wants n items answers, by what it heard of an iterator whose items may be errors.
-use Rattle.std.specs.Prelude.{◌≡◌, ℕ, ◌<◌, ◌⊎◌, List, map, length, Option, None, Some, Result, Ok, Err}
+use Rattle.std.specs.Prelude.{◌≡◌, ℕ, ◌<◌, ◌⊎◌, List, map, length, Option, None, Some, Result, Ok, Err, IfOk, IfErr}
 use Rattle.std.specs.Iterator.{YieldsThen}
 use Rattle.std.specs.Iterator.Runs.{WholeRun}
 use Rattle.handles.specs.HeaderSlice.{HeaderAndItems, ItemsInRoom}
@@ -41,3 +41,10 @@ module _ {S T E : Type 0} (steps : S → Option (Result T E) → S → Type 0) (
 abbrev pub TakesAllGood : {S T E H : Type 0} → (S → Option (Result T E) → S → Type 0)
     → S → HeaderAndItems H T → Type 0
 TakesAllGood steps source slice = WholeRun steps source (λ p. p.items ≡ map Ok slice.items)
+
+-- What a builder answers that wants n items and no error among them.
+pub record BuildsGood {S T E H : Type 0} (steps : S → Option (Result T E) → S → Type 0) (source : S) (n : ℕ)
+    (from : BuildError → E → Type 0) (header : H) (answer : Result (HeaderAndItems H T) E) : Type 0 where
+  pub built : IfOk answer (IsBuiltGood steps source n header)
+  pub failed : IfErr answer (Fails steps source n from)
+  pub runs : IfOk answer (TakesAllGood steps source)

@@ -1,8 +1,8 @@
 //! The public builders, and writing to what they built before it is shared.
-ghost use Rattle.std.specs.Prelude.{◌≡◌, IfOk, IfErr};
+ghost use Rattle.std.specs.Prelude.{◌≡◌};
 ghost use Rattle.std.specs.Iterator.{size};
 ghost use Rattle.std.specs.Borrow.{sem};
-ghost use Rattle.handles.specs.HeaderSlice.Builders.{IsBuilt, Refuses, RefusesRun, TakesAll};
+ghost use Rattle.handles.specs.HeaderSlice.Builders.{Builds};
 
 use super::HeaderSlice;
 use super::build::{BuildError, build};
@@ -19,10 +19,7 @@ impl<H: Drop, T: Drop> Arc<HeaderSlice<H, T>> {
         items: I,
     ) -> Result<Arc<HeaderSlice<H, T>>, BuildError>
         requires { I.can_next items }
-        ensures built { IfOk result (IsBuilt I.next_gives items (size (I.remaining items)) header) }
-        ensures refused { IfErr result (Refuses I.next_gives items (size (I.remaining items))) }
-        ensures runs { IfOk result (TakesAll I.next_gives items) }
-        ensures refusals { IfErr result (RefusesRun I.next_gives items (size (I.remaining items))) }
+        ensures { Builds I.next_gives items (size (I.remaining items)) header result }
     {
         let num_items = items.len();
         Arc::from_header_and_iter_with_size(alloc, header, items, num_items)
@@ -39,10 +36,7 @@ impl<H: Drop, T: Drop> Arc<HeaderSlice<H, T>> {
         num_items: usize,
     ) -> Result<Arc<HeaderSlice<H, T>>, BuildError>
         requires { I.can_next items }
-        ensures built { IfOk result (IsBuilt I.next_gives items num_items header) }
-        ensures refused { IfErr result (Refuses I.next_gives items num_items) }
-        ensures runs { IfOk result (TakesAll I.next_gives items) }
-        ensures refusals { IfErr result (RefusesRun I.next_gives items num_items) }
+        ensures { Builds I.next_gives items num_items header result }
     {
         Arc::from_header_and_iter_alloc(alloc, header, items, num_items, false)
     }
@@ -57,10 +51,7 @@ impl<H: Drop, T: Drop> Arc<HeaderSlice<H, T>> {
         is_static: bool,
     ) -> Result<Arc<HeaderSlice<H, T>>, BuildError>
         requires { I.can_next items }
-        ensures built { IfOk result (IsBuilt I.next_gives items num_items header) }
-        ensures refused { IfErr result (Refuses I.next_gives items num_items) }
-        ensures runs { IfOk result (TakesAll I.next_gives items) }
-        ensures refusals { IfErr result (RefusesRun I.next_gives items num_items) }
+        ensures { Builds I.next_gives items num_items header result }
     {
         let slice = UniqueArc::from_header_and_iter_with_size(alloc, header, items, num_items);
         Ok(slice?.into_arc(is_static))
@@ -75,10 +66,7 @@ impl<H: Drop, T: Drop> UniqueArc<HeaderSlice<H, T>> {
         items: I,
     ) -> Result<UniqueArc<HeaderSlice<H, T>>, BuildError>
         requires { I.can_next items }
-        ensures built { IfOk result (IsBuilt I.next_gives items (size (I.remaining items)) header) }
-        ensures refused { IfErr result (Refuses I.next_gives items (size (I.remaining items))) }
-        ensures runs { IfOk result (TakesAll I.next_gives items) }
-        ensures refusals { IfErr result (RefusesRun I.next_gives items (size (I.remaining items))) }
+        ensures { Builds I.next_gives items (size (I.remaining items)) header result }
     {
         let num_items = items.len();
         UniqueArc::from_header_and_iter_with_size(alloc, header, items, num_items)
@@ -95,10 +83,7 @@ impl<H: Drop, T: Drop> UniqueArc<HeaderSlice<H, T>> {
         num_items: usize,
     ) -> Result<UniqueArc<HeaderSlice<H, T>>, BuildError>
         requires { I.can_next items }
-        ensures built { IfOk result (IsBuilt I.next_gives items num_items header) }
-        ensures refused { IfErr result (Refuses I.next_gives items num_items) }
-        ensures runs { IfOk result (TakesAll I.next_gives items) }
-        ensures refusals { IfErr result (RefusesRun I.next_gives items num_items) }
+        ensures { Builds I.next_gives items num_items header result }
     {
         build(alloc, header, &mut items, num_items)
     }

@@ -1,8 +1,7 @@
 //! How a header slice takes items that may be errors.
 ghost use Rattle.std.specs.Prelude.{◌≡◌, [], IfOk, IfErr};
 ghost use Rattle.std.specs.Iterator.{size};
-ghost use Rattle.handles.specs.HeaderSlice.TryBuilders.{IsBuiltGood, IsBuiltGoodUpTo, TakesGoodUpTo, TakesAllGood};
-ghost use Rattle.handles.specs.HeaderSlice.TryBuilders.{Fails, FailsUpTo};
+ghost use Rattle.handles.specs.HeaderSlice.TryBuilders.{BuildsGood, IsBuiltGoodUpTo, TakesGoodUpTo, FailsUpTo};
 
 use super::HeaderSlice;
 use super::build::BuildError;
@@ -20,9 +19,7 @@ impl<H: Drop, T: Drop> Arc<HeaderSlice<H, T>> {
         I: Iterator<Item = Result<T, E>> + ExactSizeIterator,
     >(alloc: Global, header: H, items: I) -> Result<Arc<HeaderSlice<H, T>>, E>
         requires { I.can_next items }
-        ensures built { IfOk result (IsBuiltGood I.next_gives items (size (I.remaining items)) header) }
-        ensures failed { IfErr result (Fails I.next_gives items (size (I.remaining items)) E.from_gives) }
-        ensures runs { IfOk result (TakesAllGood I.next_gives items) }
+        ensures { BuildsGood I.next_gives items (size (I.remaining items)) E.from_gives header result }
     {
         match UniqueArc::try_from_header_and_iter(alloc, header, items) {
             Ok(slice) => Ok(slice.shareable()),
@@ -40,9 +37,7 @@ impl<H: Drop, T: Drop> UniqueArc<HeaderSlice<H, T>> {
         I: Iterator<Item = Result<T, E>> + ExactSizeIterator,
     >(alloc: Global, header: H, mut items: I) -> Result<UniqueArc<HeaderSlice<H, T>>, E>
         requires { I.can_next items }
-        ensures built { IfOk result (IsBuiltGood I.next_gives items (size (I.remaining items)) header) }
-        ensures failed { IfErr result (Fails I.next_gives items (size (I.remaining items)) E.from_gives) }
-        ensures runs { IfOk result (TakesAllGood I.next_gives items) }
+        ensures { BuildsGood I.next_gives items (size (I.remaining items)) E.from_gives header result }
     {
         let num_items = items.len();
         try_build(alloc, header, &mut items, num_items)

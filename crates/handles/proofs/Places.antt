@@ -3,6 +3,7 @@ pub mod Fields
 pub mod Leaving
 pub mod Made
 pub mod Opened
+pub mod Reads
 pub mod Shared
 pub use Rattle.handles.proofs.Walks.{◌≡◌, ℕ, ◌+◌, ◌-◌, ◌^◌, ◌<◌, Bool, true, false, List, [], ◌∷◌, ◌++◌, refl, sym}
 pub use Rattle.handles.proofs.Walks.{ap, ◌∙◌, subst, lit<, arith, w64, a_type, named, Val, vint, vptr, vunit}
@@ -58,11 +59,12 @@ pub use Rattle.core.proofs.alloc.Shapes.{arm_body, head}
 pub use Rattle.core.proofs.ptr.Rows.{elτ, one_below, sz, times_below, el_in, snoc, spare}
 pub use Rattle.core.proofs.slots.Leases.{block_align, block_size, block_ty, uncapped}
 pub use Rattle.handles.proofs.Blocks.RawBoxes.{heap, Global, ◌⊑◌, ⊑_static}
-pub use Rattle.handles.proofs.Places.Leaving.{LeavingRow, LeavingWords, leaving-Good, leaving_val, leaving_words}
-pub use Rattle.handles.proofs.Places.Leaving.{none_at_null, first_of, first_out, none_left, places-Good, room_after}
+pub use Rattle.handles.proofs.Places.Leaving.{LeavingRow, words-Good, leaving_val, leaving_words, leaving_made}
+pub use Rattle.handles.proofs.Places.Leaving.{none_at_null, first_of, FitWords, first_and_others, first_out, none_left, room_after}
 pub use Rattle.handles.proofs.Places.Leaving.{whole_room}
 pub use Rattle.handles.proofs.Places.Fields.{PlacesRow, places_val}
 pub use Rattle.handles.proofs.Places.Made.{has_bytes, places_made, without_items, capped_zero, no_bytes, no_memory}
+pub use Rattle.handles.proofs.Places.Reads.{field_behind, field_in}
 pub use Rattle.handles.proofs.Places.Opened.{places_opens, Beside, items_back, items_out, places_shuts}
 pub use Rattle.handles.specs.Inside.PlacesOwnership.{right_to_free, leaving_own}
 pub use lib.Dec.{T as Holds, eqb}

@@ -2,6 +2,7 @@
 use Rattle.std.proofs.Common.{◌≡◌, ℕ, ◌^◌, ◌<◌, List, [], ◌∷◌, ◌++◌, refl, ◌∙◌, w64}
 use seplogic.Ra.Ura.{Ura}
 use mir.Val.{Val, vint, vstruct, vcons, vnil, of_list}
+use base.Fml.{Fml}
 use base.Logic.{ent, emp}
 use types.Logic.{Logic, sem}
 use denote.RattleType.{RattleType}
@@ -31,12 +32,14 @@ module _ (R : RattleType) where
     is.1.1.1.1.0.1,
   )
 
+  -- the fields with what they own
+  abbrev pub places_words : Ptr → ℕ → ℕ → Fml
+  places_words p filled room = PlacesWords.own_val (p, (filled, (room, tt))) (places_val p filled room ∷ [])
+
   -- numbers that fit their words make the fields
   pub words_made : {M : Type 1} {𝓤 : Ura M} (𝓛 : Logic 𝓤) (p : Ptr) (filled room : ℕ)
-      → filled < 2 ^ 64 → room < 2 ^ 64
-      → ent 𝓤 (emp 𝓤) (sem 𝓛 (PlacesWords.own_val (p, (filled, (room, tt))) (places_val p filled room ∷ [])))
-  words_made 𝓛 p filled room small_filled small_room = makes_shadow 𝓛 (PlacesWords.own_val
-      (p, (filled, (room, tt))) (places_val p filled room ∷ [])) (λ vss. (tt, (tt, ((tt, tt), ((tt, tt), tt))))) (
-        (ptr_val p ∷ [], (vint w64 filled ∷ [], (vint w64 room ∷ [], tt))),
-        (refl, (refl, ((refl, small_filled), ((refl, small_room), tt)))),
-      )
+      → filled < 2 ^ 64 → room < 2 ^ 64 → ent 𝓤 (emp 𝓤) (sem 𝓛 (places_words p filled room))
+  words_made 𝓛 p filled room small_filled small_room = makes_shadow 𝓛 (places_words p filled room) (λ vss. (tt, (tt, ((tt, tt), ((tt, tt), tt))))) (
+    (ptr_val p ∷ [], (vint w64 filled ∷ [], (vint w64 room ∷ [], tt))),
+    (refl, (refl, ((refl, small_filled), ((refl, small_room), tt)))),
+  )

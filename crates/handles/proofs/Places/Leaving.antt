@@ -1,18 +1,19 @@
 -- The words of the places and of the leaving places, and what they own on the way from the one to the other. Assumes
 -- `Logic`.
-use Rattle.std.proofs.Common.{◌≡◌, ℕ, ◌+◌, ◌-◌, ◌*◌, ◌^◌, ◌<◌, ◌≤◌, List, [], ◌∷◌, refl, sym, ap, ◌∙◌, w64, arith}
+use Rattle.std.proofs.Common.{◌≡◌, ℕ, ◌+◌, ◌-◌, ◌*◌, ◌^◌, ◌<◌, ◌≤◌, List, [], ◌∷◌, map, refl, sym, ap, ◌∙◌, w64}
+use Rattle.std.proofs.Common.{arith}
 use native.Mathlib.Nat.{add_assoc, add_comm, zero-mul, sub-zero, not-suc-le-zero}
 use Prim.Native.Nat.{suc}
 use lib.ListN.{length}
 use lib.Dec.{T}
 use seplogic.Ra.Ura.{Ura}
 use base.Fraction.{full_share}
-use base.Logic.{ent, sep, emp, ex, guard, via, never, never_e, id⊢}
-use base.Fml.{fat, froom}
-use mir.Syntax.{ty_int, ty_ptr, ty_struct, ty_array, tcons, tnil}
-use mir.Val.{Val, vint, vstruct, vcons, vnil, has_ty, WT}
+use base.Logic.{ent, sep, emp, via, never, never_e, id⊢}
+use base.Fml.{Fml, fat, froom}
+use mir.Syntax.{ty_int, ty_ptr, ty_struct, ty_array}
+use mir.Val.{Val, vint, vstruct, vcons, vnil, of_list, has_ty, WT}
 use types.Logic.{Logic, sem}
-use types.Kit.{‵, ◌⊛◌, some, given, ◌$◌, ◌∵◌, !, qed, by, move, keep, pick, learn, show, check, split, use0, use1}
+use types.Kit.{Item, mean, ‵, ◌⊛◌, some, given, ◌$◌, ◌∵◌, !, qed, by, move, keep, pick, learn, show, check, split, use0, use1}
 use types.Kit.{use2, fsplit, fsplit3, fjoin, rewrite, done}
 use denote.RattleType.{RattleType}
 use denote.Memory.{lone, part_at}
@@ -20,7 +21,8 @@ use denote.Array.{Array}
 use denote.Index.{row}
 use denote.RawPtr.{Ptr, block_ptr, null_ptr, ptr_val}
 use denote.Shadow.{makes_shadow}
-use denote.Struct.Struct.{Struct, as_fields}
+use denote.Laws.{Typed}
+use denote.Struct.Struct.{Struct, as_fields, to_tys}
 use denote.Struct.Owning.{shape}
 use Rattle.core.specs.Mem.{type_size}
 use Rattle.core.proofs.atomic.Steps.{Ptr-Good}
@@ -28,7 +30,7 @@ use Rattle.core.proofs.ptr.Rows.{El, R, Good, el_own, el_x, elτ, sz, el_out, ap
 use Rattle.core.proofs.ptr.Rows.{one_more, next}
 use Rattle.std_alloc.proofs.RawLayout.{as_raw}
 use Rattle.handles.specs.Inside.PlacesOwnership.{places_own, leaving_own}
-use Rattle.handles.proofs.Places.Fields.{places_val}
+use Rattle.handles.proofs.Places.Opened.{none_at_null as no_places_at_null}
 pub use Rattle.handles.specs.contracts.header_slice.places.Leaving.{the_type as LeavingType, the_row as LeavingRow}
 
 -- leaving places as one machine value
@@ -36,51 +38,46 @@ abbrev pub leaving_val : Ptr → ℕ → ℕ → ℕ → Val
 leaving_val p taken filled room = vstruct (vcons (ptr_val p) (vcons (vint w64 taken) (vcons (vint w64 filled)
     (vcons (vint w64 room) vnil))))
 
--- places are a value of their type if their numbers fit the words
-pub places-Good : (p : Ptr) (filled room : ℕ) → filled < 2 ^ 64 → room < 2 ^ 64
-    → T (has_ty (ty_struct [] (tcons ty_ptr (tcons (ty_int w64) (tcons (ty_int w64) tnil))))
-    (places_val p filled room)) × WT (places_val p filled room)
-places-Good p filled room filled_fits room_fits = as_fields (ty_ptr ∷ ty_int w64 ∷ ty_int w64 ∷ [])
-    (ptr_val p ∷ vint w64 filled ∷ vint w64 room ∷ [])
-    (Ptr-Good p, ((tt, record { fits = filled_fits }), ((tt, record { fits = room_fits }), tt)))
+-- numbers that fit their words
+abbrev pub FitWords : List ℕ → Type 0
+FitWords [] = Unit {0}
+FitWords (n ∷ ns) = (n < 2 ^ 64) × FitWords ns
 
--- and so are leaving places
-pub leaving-Good : (p : Ptr) (taken filled room : ℕ) → taken < 2 ^ 64 → filled < 2 ^ 64 → room < 2 ^ 64
-    → T (has_ty (ty_struct [] (tcons ty_ptr (tcons (ty_int w64) (tcons (ty_int w64) (tcons (ty_int w64) tnil)))))
-    (leaving_val p taken filled room)) × WT (leaving_val p taken filled room)
-leaving-Good p taken filled room taken_fits filled_fits room_fits = as_fields (ty_ptr ∷ ty_int w64 ∷ ty_int w64
-    ∷ ty_int w64 ∷ []) (ptr_val p ∷ vint w64 taken ∷ vint w64 filled ∷ vint w64 room ∷ []) (
-      Ptr-Good p,
-      (
-        (tt, record { fits = taken_fits }),
-        ((tt, record { fits = filled_fits }), ((tt, record { fits = room_fits }), tt)),
-      ),
-    )
+fit_words : (ns : List ℕ) → FitWords ns → Typed (map (λ _. ty_int w64) ns) (map (vint w64) ns)
+fit_words [] fit = tt
+fit_words (n ∷ ns) fit = ((tt, record { fits = fit.0 }), fit_words ns fit.1)
+
+-- a pointer and such numbers are the fields of a value of its type
+pub words-Good : (p : Ptr) (ns : List ℕ) → FitWords ns
+    → T (has_ty (ty_struct [] (to_tys (ty_ptr ∷ map (λ _. ty_int w64) ns)))
+    (vstruct (of_list (ptr_val p ∷ map (vint w64) ns)))) × WT (vstruct (of_list (ptr_val p ∷ map (vint w64) ns)))
+words-Good p ns fit = as_fields (ty_ptr ∷ map (λ _. ty_int w64) ns) (ptr_val p ∷ map (vint w64) ns)
+    (Ptr-Good p, fit_words ns fit)
 
 module _ (R : RattleType) where
   -- the fields, as a plain struct
   abbrev pub LeavingWords : RattleType
   LeavingWords = Struct (shape (LeavingType R))
 
+  -- the fields with what they own
+  abbrev pub leaving_words : Ptr → ℕ → ℕ → ℕ → Fml
+  leaving_words p taken filled room = LeavingWords.own_val (p, (taken, (filled, (room, tt))))
+      (leaving_val p taken filled room ∷ [])
+
   -- numbers that fit their words make the fields
-  pub leaving_words : {M : Type 1} {𝓤 : Ura M} (𝓛 : Logic 𝓤) (p : Ptr) (taken filled room : ℕ)
-      → taken < 2 ^ 64 → filled < 2 ^ 64 → room < 2 ^ 64
-      → ent 𝓤 (emp 𝓤) (sem 𝓛 (LeavingWords.own_val (p, (taken, (filled, (room, tt))))
-      (leaving_val p taken filled room ∷ [])))
-  leaving_words 𝓛 p taken filled room taken_fits filled_fits room_fits = makes_shadow 𝓛 (LeavingWords.own_val
-      (p, (taken, (filled, (room, tt)))) (leaving_val p taken filled room ∷ []))
+  pub leaving_made : {M : Type 1} {𝓤 : Ura M} (𝓛 : Logic 𝓤) (p : Ptr) (taken filled room : ℕ)
+      → FitWords (taken ∷ filled ∷ room ∷ []) → ent 𝓤 (emp 𝓤) (sem 𝓛 (leaving_words p taken filled room))
+  leaving_made 𝓛 p taken filled room fit = makes_shadow 𝓛 (leaving_words p taken filled room)
       (λ vss. (tt, (tt, ((tt, tt), ((tt, tt), ((tt, tt), tt)))))) (
         (ptr_val p ∷ [], (vint w64 taken ∷ [], (vint w64 filled ∷ [], (vint w64 room ∷ [], tt)))),
-        (refl, (refl, ((refl, taken_fits), ((refl, filled_fits), ((refl, room_fits), tt))))),
+        (refl, (refl, ((refl, fit.0), ((refl, fit.1.0), ((refl, fit.1.1.0), tt))))),
       )
 
 module _ (R : RattleType) {M : Type 1} {𝓤 : Ura M} (𝓛 : Logic 𝓤) where
   -- no item has left the places yet
   pub none_left : (p : Ptr) (filled room : ℕ) (items : List R.Denot)
       → ent 𝓤 (sem 𝓛 (places_own R p filled room items)) (sem 𝓛 (leaving_own R p 0 filled room items))
-  none_left null_ptr filled room items = via 𝓤 (never 𝓤)
-      (qed 𝓛 (‵ (places_own R null_ptr filled room items) ∷ []) ∵ fsplit3 ! $ keep ! (1 ∷ []) $
-      by ! (id⊢ 𝓤 (never 𝓤))) (never_e 𝓤 _)
+  none_left null_ptr filled room items = via 𝓤 (never 𝓤) (no_places_at_null R 𝓛 filled room items) (never_e 𝓤 _)
   none_left (block_ptr b o) filled room items = let s : ℕ = type_size R in let none : 0 * s ≡ 0 = zero-mul s in
       let there : o ≡ o + 0 * s = omega arith in
       qed 𝓛 (‵ (places_own R (block_ptr b o) filled room items) ∷ []) ∵ fsplit3 ! $ move ! (1 ∷ []) $
@@ -111,12 +108,21 @@ module _ (E : El) {M : Type 1} {𝓤 : Ura M} (𝓛 : Logic 𝓤) (b o taken fil
   abbrev after_it : o + taken * s + s ≡ o + (taken + 1) * s
   after_it = add_assoc o (taken * s) s ∙ ap (λ (k : ℕ). o + k) (sym (next taken s))
 
+  -- the items after the first that is left
+  abbrev later_items : List (el_x E) → Fml
+  later_items others = part_at (Array (R E) (filled - (taken + 1))) full_share others b (o + (taken + 1) * s)
+
+  abbrev first_at : el_x E → List (el_x E) → Val → Item 𝓤
+  first_at x others v = given (Good E v) (‵ (fat full_share (elτ E) b (taken * s + o) v) ⊛ ‵ (el_own E x (v ∷ []))
+      ⊛ ‵ (later_items others))
+
   -- the first item that is left, at the place where the machine finds it, and the others
+  abbrev pub first_and_others : el_x E → List (el_x E) → Item 𝓤
+  first_and_others x others = some (λ (v : Val). first_at x others v)
+
+  -- the items that are left, as these
   pub first_out : (x : el_x E) (others : List (el_x E)) → ent 𝓤 (sem 𝓛 (part_at (Array (R E)
-      (filled - taken)) full_share (x ∷ others) b (o + taken * s)))
-      (ex 𝓤 (λ (v : Val). guard 𝓤 (Good E v) (sep 𝓤 (H.at full_share (elτ E) b (taken * s + o) v)
-      (sep 𝓤 (sem 𝓛 (el_own E x (v ∷ []))) (sem 𝓛 (part_at (Array (R E) (filled - (taken + 1)))
-      full_share others b (o + (taken + 1) * s)))))))
+      (filled - taken)) full_share (x ∷ others) b (o + taken * s))) (mean 𝓛 (first_and_others x others))
   first_out x others = let left : ℕ = filled - taken in
       qed 𝓛 (‵ (part_at (Array (R E) left) full_share (x ∷ others) b (o + taken * s)) ∷ []) ∵
       use1 𝓛 (given (length (x ∷ others) ≡ left) (‵ (row (R E) full_share (x ∷ others)
@@ -124,14 +130,12 @@ module _ (E : El) {M : Type 1} {𝓤 : Ura M} (𝓛 : Logic 𝓤) (b o taken fil
       learn ! (λ long. fsplit ! $ move ! (1 ∷ []) $
       let fewer : length others ≡ filled - (taken + 1) = omega (arith, long) in
       rewrite ! 0 (λ (k : ℕ). ‵ (row (R E) full_share others b k)) after_it refl $
-      use1 𝓛 (‵ (part_at (Array (R E) (filled - (taken + 1))) full_share others b (o + (taken + 1) * s)))
+      use1 𝓛 (‵ (later_items others))
       (whole E 𝓛 full_share (filled - (taken + 1)) others b (o + (taken + 1) * s) fewer) $ move ! (1 ∷ []) $
       rewrite ! 0 (λ (k : ℕ). ‵ (part_at (R E) full_share x b k)) (add_comm o (taken * s)) refl $
       use1 𝓛 (some (λ (v : Val). given (Good E v) (‵ (fat full_share (elτ E) b (taken * s + o) v)
       ⊛ ‵ (el_own E x (v ∷ []))))) (el_out E 𝓛 full_share x b (taken * s + o)) $ pick ! (λ v. learn ! (λ good. split ! $
-      show ! (λ (w : Val). guard 𝓤 (Good E w) (sep 𝓤 (H.at full_share (elτ E) b (taken * s + o) w)
-      (sep 𝓤 (sem 𝓛 (el_own E x (w ∷ []))) (sem 𝓛 (part_at (Array (R E) (filled - (taken + 1)))
-      full_share others b (o + (taken + 1) * s)))))) v $ check ! good $ done !)))
+      show ! (λ (w : Val). mean 𝓛 (first_at x others w)) v $ check ! good $ done !)))
 
   -- its place is room again, beside the room before it
   pub room_after : (v : Val) → ent 𝓤 (sep 𝓤 (H.room (ty_array (elτ E) taken) b o) (H.at full_share (elτ E)

@@ -6,7 +6,6 @@ use Rattle.std.specs.Prelude.{IsTrue, ◌↔◌, not}
 use lib.Dec.{T, eqb, eqb→eq}
 use seplogic.Ra.Ura.{Ura}
 use mir.Syntax.{Ty, ty_array}
-use mir.Val.{Val}
 use base.Fraction.{full_share}
 use base.Logic.{ent, emp, wand}
 use base.Fml.{froom}
@@ -26,7 +25,7 @@ use denote.Steps.{nothing as nothing_more}
 use Rattle.std.specs.Mem.{type_size}
 use Rattle.handles.specs.Inside.PlacesOwnership.{frees_room}
 use Rattle.std_alloc.proofs.RawLayout.{as_raw}
-use Rattle.handles.proofs.Places.Fields.{places_val, PlacesRow, PlacesWords, words_made}
+use Rattle.handles.proofs.Places.Fields.{places_val, places_words, PlacesRow, words_made}
 
 -- the size that a word holds is 0 if the size is
 pub capped_zero : (n : ℕ) → IsTrue (eqb (capped n) 0) ↔ (n ≡ 0)
@@ -70,11 +69,9 @@ module _ (R : RattleType) where
         → Step K 𝓛 (‵ ((PlacesRow R).own_val (without_items (block_ptr b o) room) (places_val (block_ptr b o)
         0 room ∷ [])) ∷ Γ) G (‵ (froom (ty_array (lone R.mir) room) b o) ∷ ‵ (frees_room R (block_ptr b o) room) ∷ Γ) G
     places_made t b o room small fits = step (λ s. let τ : Ty = lone R.mir in let n : ℕ = type_size R in
-        let v : Val = places_val (block_ptr b o) 0 room in
         rewrite t 0 (λ (k : ℕ). ‵ (froom (ty_array τ k) b o)) (whole room) refl $
         rewrite t 0 (λ (k : ℕ). ‵ (froom (ty_array τ (room - 0)) b k)) (first o n) refl $
         as_raw t (ty_array τ (room - 0)) b (o + 0 * n) $ fjoin t $ nothing_more t $ feq_i t ℕ 0 0 refl $ fjoin t $
         use1 𝓛 (‵ (part_at (Array R 0) full_share [] b o)) (Array-whole 𝓛 R full_share 0 [] b o) $
         fjoin t $ flt_i t (room * n) (2 ^ 63) fits $ fjoin t $
-        use0 𝓛 (‵ ((PlacesWords R).own_val (block_ptr b o, (0, (room, tt))) (v ∷ [])))
-        (words_made R 𝓛 (block_ptr b o) 0 room (lit< tt) small) $ fjoin t $ s)
+        use0 𝓛 (‵ (places_words R (block_ptr b o) 0 room)) (words_made R 𝓛 (block_ptr b o) 0 room (lit< tt) small) $ fjoin t $ s)

@@ -25,48 +25,55 @@ use Rattle.std.specs.Mem.{type_size}
 use Rattle.core.proofs.ptr.Rows.{El, apart, whole}
 use Rattle.handles.specs.Inside.PlacesLending.{with_items}
 use Rattle.handles.specs.Inside.PlacesOwnership.{spare, frees_room, places_own}
-use Rattle.handles.proofs.Places.Fields.{places_val, PlacesRow, PlacesWords, words_are, words_made}
+use Rattle.handles.proofs.Places.Fields.{places_val, places_words, PlacesRow, PlacesWords, words_are, words_made}
 
 module _ (R : RattleType) where
+  -- these places begin at (b, o), and their numbers fit
+  pub record LieAt (first : Ptr) (filled room b o : ℕ) : Type 0 where
+    pub at : first ≡ block_ptr b o
+    pub filled_fits : filled < 2 ^ 64
+    pub room_fits : room < 2 ^ 64
+    pub bytes_fit : room * type_size R < 2 ^ 63
+
   -- all but the items: the room after them, the right to free the block, and the four words at (rb, ro)
   abbrev pub Beside : (PlacesRow R).Denot → ℕ → ℕ → ℕ → ℕ → Fml
   Beside d b o rb ro = fsep (spare R (block_ptr b o) d.filled d.room) (fsep (frees_room R (block_ptr b o) d.room)
       (cell_at full_share (PlacesRow R).mir (places_val (block_ptr b o) d.filled d.room ∷ []) rb ro))
 
   -- no places lie at null
-  pub none_at_null : {M : Type 1} {𝓤 : Ura M} (𝓛 : Logic 𝓤) (d : (PlacesRow R).Denot)
-      → ent 𝓤 (sem 𝓛 (places_own R null_ptr d.filled d.room d.items)) (never 𝓤)
-  none_at_null {𝓤 = 𝓤} 𝓛 d = qed 𝓛 (‵ (places_own R null_ptr d.filled d.room d.items) ∷ [])
+  pub none_at_null : {M : Type 1} {𝓤 : Ura M} (𝓛 : Logic 𝓤) (filled room : ℕ) (items : List R.Denot)
+      → ent 𝓤 (sem 𝓛 (places_own R null_ptr filled room items)) (never 𝓤)
+  none_at_null {𝓤 = 𝓤} 𝓛 filled room items = qed 𝓛 (‵ (places_own R null_ptr filled room items) ∷ [])
       ∵ fsplit3 ! $ move ! (1 ∷ []) $ keep ! (0 ∷ []) $ by ! (id⊢ 𝓤 (never 𝓤))
+
+  -- the items, the room after them and the right to free the block, before what else there is
+  abbrev Parts : {M : Type 1} {𝓤 : Ura M} → (PlacesRow R).Denot → ℕ → ℕ → List (Item 𝓤) → List (Item 𝓤)
+  Parts d b o Γ = ‵ (part_at (Array R d.filled) full_share d.items b o) ∷ ‵ (spare R (block_ptr b o) d.filled d.room)
+      ∷ ‵ (frees_room R (block_ptr b o) d.room) ∷ Γ
 
   module _ {M : Type 1} {𝓤 : Ura M} {𝓛 : Logic 𝓤} {K : Type 0} {Γ : List (Item 𝓤)} {G : Goal 𝓤
       𝓛.H} where
-    -- [the items; the room after them; the right to free the block]
+    -- places are taken apart
     pub places_opens : K → (d : (PlacesRow R).Denot) (vs : List Val)
-        → ((b o : ℕ) → d.first ≡ block_ptr b o → vs ≡ places_val (block_ptr b o)
-        d.filled d.room ∷ [] → d.filled < 2 ^ 64 → d.room < 2 ^ 64 → d.room * type_size R < 2 ^ 63
-        → Seq K 𝓛 (‵ (part_at (Array R d.filled) full_share d.items b o) ∷ ‵ (spare R (block_ptr b o)
-        d.filled d.room) ∷ ‵ (frees_room R (block_ptr b o) d.room) ∷ Γ) G)
-        → Seq K 𝓛 (‵ ((PlacesRow R).own_val d vs) ∷ Γ) G
+        → ((b o : ℕ) → LieAt d.first d.filled d.room b o → vs ≡ places_val (block_ptr b o) d.filled d.room ∷ []
+        → Seq K 𝓛 (Parts d b o Γ) G) → Seq K 𝓛 (‵ ((PlacesRow R).own_val d vs) ∷ Γ) G
     places_opens t d vs k = fsplit t $
         facts t (PlacesWords R) (Is (PlacesWords R)) (shows 𝓛 (PlacesWords R)) (d.first, (d.filled, (d.room, tt)))
         vs (λ is. let reported = words_are R d.first d.filled d.room vs is in
-        in_a_block t d.first (λ p. places_own R p d.filled d.room d.items) (none_at_null 𝓛 d)
+        in_a_block t d.first (λ p. places_own R p d.filled d.room d.items) (none_at_null 𝓛 d.filled d.room d.items)
         (λ b o at. fsplit t $ flt_l t (λ fits. fsplit3 t $
-        k b o at (reported.0 ∙ ap (λ (p : Ptr). places_val p d.filled d.room ∷ []) at) reported.1 reported.2 fits)))
+        k b o (record { at = at; filled_fits = reported.1; room_fits = reported.2; bytes_fit = fits })
+        (reported.0 ∙ ap (λ (p : Ptr). places_val p d.filled d.room ∷ []) at))))
 
     -- put together again
-    pub places_shuts : K → (d : (PlacesRow R).Denot) (b o : ℕ)
-        → d.first ≡ block_ptr b o → d.filled < 2 ^ 64 → d.room < 2 ^ 64 → d.room * type_size R < 2 ^ 63
-        → Step K 𝓛 (‵ ((PlacesRow R).own_val d (places_val (block_ptr b o) d.filled d.room ∷ [])) ∷ Γ) G
-        (‵ (part_at (Array R d.filled) full_share d.items b o) ∷ ‵ (spare R (block_ptr b o) d.filled d.room)
-        ∷ ‵ (frees_room R (block_ptr b o) d.room) ∷ Γ) G
-    places_shuts t d b o at small_filled small_room fits = step (λ s. let v : Val = places_val (block_ptr b o)
-        d.filled d.room in fjoin3 t $ flt_i t (d.room * type_size R) (2 ^ 63) fits $ fjoin t $
-        use0 𝓛 (‵ ((PlacesWords R).own_val (block_ptr b o, (d.filled, (d.room, tt))) (v ∷ [])))
-        (words_made R 𝓛 (block_ptr b o) d.filled d.room small_filled small_room) $ fjoin t $
+    pub places_shuts : K → (d : (PlacesRow R).Denot) (b o : ℕ) → LieAt d.first d.filled d.room b o
+        → Step K 𝓛 (‵ ((PlacesRow R).own_val d (places_val (block_ptr b o) d.filled d.room ∷ [])) ∷ Γ) G (Parts d b o Γ) G
+    places_shuts t d b o lie = step (λ s. let v : Val = places_val (block_ptr b o) d.filled d.room in
+        fjoin3 t $ flt_i t (d.room * type_size R) (2 ^ 63) lie.bytes_fit $ fjoin t $
+        use0 𝓛 (‵ (places_words R (block_ptr b o) d.filled d.room))
+        (words_made R 𝓛 (block_ptr b o) d.filled d.room lie.filled_fits lie.room_fits) $ fjoin t $
         rewrite t 0 (λ (p : Ptr). ‵ (fsep ((PlacesWords R).own_val (p, (d.filled, (d.room, tt))) (v ∷ []))
-        (places_own R p d.filled d.room d.items))) (sym at) refl $ s)
+        (places_own R p d.filled d.room d.items))) (sym lie.at) refl $ s)
 
 module _ (T : RattleType) (L : Laws T) {M : Type 1} {𝓤 : Ura M} (𝓛 : Logic 𝓤)
     (d : (PlacesRow (param 0 T)).Denot) (b o : ℕ) where
@@ -84,12 +91,12 @@ module _ (T : RattleType) (L : Laws T) {M : Type 1} {𝓤 : Ura M} (𝓛 : Logic
       (apart element 𝓛 full_share d.filled d.items b o) $ learn ! (λ _. by ! (whole_in 𝓛 R d.items b o))
 
   -- items that were lent and written come back
-  pub items_back : d.first ≡ block_ptr b o → d.filled < 2 ^ 64 → d.room < 2 ^ 64 → d.room * type_size R < 2 ^
-      63 → (rb ro : ℕ) (written : List T.Denot) → length written ≡ length d.items
+  pub items_back : LieAt R d.first d.filled d.room b o
+      → (rb ro : ℕ) (written : List T.Denot) → length written ≡ length d.items
       → ent 𝓤 (sep 𝓤 (sem 𝓛 (cells (mem R) written b o)) (sem 𝓛 (Beside R d b o rb ro)))
       (sem 𝓛 ((mem (PlacesRow R)).own_at (with_items d written) rb ro))
   unfolding part_of
-  items_back at small_filled small_room fits rb ro written same = let new : (PlacesRow R).Denot = with_items d
+  items_back lie rb ro written same = let new : (PlacesRow R).Denot = with_items d
       written in
       let all : new.items ≡ written = take_at written (skip (length written) d.items) (length d.items) same in
       qed 𝓛 (‵ (cells (mem R) written b o) ∷ ‵ (Beside R d b o rb ro) ∷ [])
@@ -99,7 +106,7 @@ module _ (T : RattleType) (L : Laws T) {M : Type 1} {𝓤 : Ura M} (𝓛 : Logic
       rewrite ! 0 (λ (items : List T.Denot). ‵ (part_at (Array R d.filled) full_share items b o)) (sym all) refl $
       move ! (1 ∷ []) $ fsplit3 ! $
       -- [the room; the right to free; the words; the items]
-      move ! (3 ∷ 0 ∷ 1 ∷ []) $ places_shuts R ! new b o at small_filled small_room fits $
+      move ! (3 ∷ 0 ∷ 1 ∷ []) $ places_shuts R ! new b o lie $
       move ! (1 ∷ 0 ∷ []) $ fjoin ! $
       fpack ! (List Val) (λ us. fsep (cell_at full_share (PlacesRow R).mir us rb ro) ((PlacesRow R).own_val new us))
       (places_val (block_ptr b o) d.filled d.room ∷ []) $ done !

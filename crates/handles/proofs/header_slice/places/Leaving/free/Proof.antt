@@ -3,16 +3,16 @@ use Rattle.handles.proofs.Places.{◌≡◌, ℕ, ◌+◌, ◌-◌, ◌^◌, ◌
 use Rattle.handles.proofs.Places.{arith, w64, named, Val, vint, vptr, vunit, SProp, Lft, Share, ftrue, flft, ‵}
 use Rattle.handles.proofs.Places.{raw, ◌⊛◌, given, later, ◌$◌, ◌∵◌, !, qed, by, move, keep, drop, split, join}
 use Rattle.handles.proofs.Places.{fsplit, fsplit3, fjoin3, learn, use1, use2, use3, await, rewrite, feq_i, flt_l}
-use Rattle.handles.proofs.Places.{unit_lit, stop, fld, lit, of_opd, no_more, and_then, first, blocks, returns}
-use Rattle.handles.proofs.Places.{alloc_all, pass_all, free_all, look_at, get, get_in, sets, lands_last, is, sub}
+use Rattle.handles.proofs.Places.{unit_lit, lit, of_opd, no_more, and_then, first, blocks, returns}
+use Rattle.handles.proofs.Places.{alloc_all, pass_all, free_all, look_at, get, sets, lands_last, is}
 use Rattle.handles.proofs.Places.{whole, fact, yes, no, RattleType, owns, types_at, plain, Ptr, block_ptr}
 use Rattle.handles.proofs.Places.{ptr_val, nothing_more, heard, param, param_laws, RefOf, shr_vals, shr_Tells}
 use Rattle.handles.proofs.Places.{Stays, stay_dropped, walk_of, Goes-dropped, fm, heap, spared, run_framed}
-use Rattle.handles.proofs.Places.{⊑_static, Global, Goes-blank, elτ, sz, uncapped, LeavingRow, leaving-Good}
+use Rattle.handles.proofs.Places.{⊑_static, Global, Goes-blank, elτ, sz, uncapped, LeavingRow, words-Good}
 use Rattle.handles.proofs.Places.{leaving_val, none_at_null, right_to_free, leaving_own, ◌*◌, as_raw, as_written}
 use Rattle.handles.proofs.Places.{owns_if, froom, in_a_block, length, ty_array, capped_fits, align, capped}
 use Rattle.handles.proofs.Places.{align_word, bin, size_word, Holds, has_ty, WT, Sq, prop, branches, skips}
-use Rattle.handles.proofs.Places.{whole_room, at_type, walks}
+use Rattle.handles.proofs.Places.{whole_room, at_type, walks, field_in}
 use mir.Raw.{raw as bare}
 use mir.Syntax.{Ty, ty_unit}
 use prog.Capped.{capped_is}
@@ -76,9 +76,9 @@ free_spec 𝓤 𝓛 𝓜 𝓡 wired T L =
     ((x.0.0, x.0.1, tt, x.0.3, x.0.4), x.1) in
     go.enters (leaving_val p taken filled room ∷ vptr at_heap.0 at_heap.1 ∷ []) refl $
     alloc_all ! (λ l. pass_all ! refl
-    (leaving-Good p taken filled room taken_fits filled_fits room_fits, ((tt, tt), tt)) $
-    sets ! (is ! (of_opd ! (get_in ! (fld ! refl (stop !)) (sub ! 0 refl (whole !)))) (ap ptr_val at)) refl (tt, tt)
-    $ sets ! (of_opd ! (get_in ! (fld ! refl (stop !)) (sub ! 3 refl (whole !))))
+    (words-Good p (taken ∷ filled ∷ room ∷ []) (taken_fits, (filled_fits, (room_fits, tt))), ((tt, tt), tt)) $
+    sets ! (is ! (field_in ! 0 refl refl (whole !)) (ap ptr_val at)) refl (tt, tt)
+    $ sets ! (field_in ! 3 refl refl (whole !))
     refl (tt, record { fits = room_fits }) $ sets ! (is ! (bin ! (get ! refl) (size_word !)
     (record { fits = subst (λ (z : ℕ). z < 2 ^ 64) (sym product) bytes })
     ) (ap (vint w64) product)) refl (tt, record { fits = bytes }) $

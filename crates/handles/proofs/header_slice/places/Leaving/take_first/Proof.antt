@@ -1,17 +1,17 @@
 -- `take_first` reads the first item that is left, and its place is empty.
 use Rattle.handles.proofs.Places.{◌≡◌, ℕ, ◌+◌, ◌-◌, ◌^◌, ◌<◌, List, [], ◌∷◌, refl, sym, ap, ◌∙◌, arith, named}
-use Rattle.handles.proofs.Places.{Val, vptr, full_share, emp, fat, Lft, Share, ftrue, flft, ‵, raw, ◌⊛◌, some}
-use Rattle.handles.proofs.Places.{given, ◌$◌, ◌∵◌, !, qed, by, move, keep, drop, split, split3, join, fsplit}
+use Rattle.handles.proofs.Places.{Val, vptr, full_share, emp, Lft, Share, ftrue, flft, ‵, raw, ◌⊛◌}
+use Rattle.handles.proofs.Places.{◌$◌, ◌∵◌, !, qed, by, move, keep, drop, split, split3, join, fsplit}
 use Rattle.handles.proofs.Places.{fsplit3, fjoin, fjoin3, pick, learn, use0, use1, use2, rewrite, feq_i, flt_i}
 use Rattle.handles.proofs.Places.{flt_l, stop, fld, load, lit, of_opd, first, blocks, returns, alloc_all}
 use Rattle.handles.proofs.Places.{pass_all, free_all, look_at, get, through, sets, sets_last, sub, whole}
-use Rattle.handles.proofs.Places.{look_in, fact, fact_i, RattleType, owns, types_at, plain, Ptr, nothing_more}
+use Rattle.handles.proofs.Places.{fact, fact_i, RattleType, owns, types_at, plain, Ptr, nothing_more}
 use Rattle.handles.proofs.Places.{peeks, heard, Is, shows, cell_at, param, param_laws, Stays, walk_of, elτ}
-use Rattle.handles.proofs.Places.{one_below, sz, times_below, LeavingRow, LeavingWords, leaving_val}
+use Rattle.handles.proofs.Places.{one_below, sz, times_below, LeavingRow, leaving_val, leaving_made}
 use Rattle.handles.proofs.Places.{leaving_words, none_at_null, leaving_own, ◌*◌, ◌≤◌, as_raw, as_written, froom}
 use Rattle.handles.proofs.Places.{Array, part_at, in_a_block, mut_Tells, mut_vals, closes, opens, Goes-ref}
 use Rattle.handles.proofs.Places.{stay_ref, length, ty_array, store_in, assigns, bin, size_lit, look, first_of}
-use Rattle.handles.proofs.Places.{first_out, room_after, at_type, walks}
+use Rattle.handles.proofs.Places.{first_and_others, first_out, room_after, at_type, walks, field_behind}
 use Rattle.core.proofs.ptr.Rows.{El, Good}
 use Rattle.handles.proofs.header_slice.places.Leaving.TheLaws.{lowers}
 use Rattle.handles.specs.contracts.header_slice.places.Leaving.take_first.{ended, clauses}
@@ -52,19 +52,17 @@ take_first_spec 𝓤 𝓛 𝓜 𝓡 wired T L =
     let far : taken * s < 2 ^ 64 = omega (arith, times_below taken room s (2 ^ 63) (omega arith) fit) in
     -- [the items; what is after them; the room before them; the cell; the open borrow; its two names; the other tokens]
     rewrite ! 0 (λ (xs : List T.Denot). ‵ (part_at (Array R (filled - taken)) full_share xs pb (po + taken * s)))
-    is_first refl $ use1 𝓛 (some (λ (v : Val). given (Good E v) (‵ (fat full_share (elτ E) pb (taken * s + po) v)
-    ⊛ ‵ (T.own_val x (v ∷ [])) ⊛ ‵ (part_at (Array R (filled - (taken + 1)))
-    full_share later pb (po + (taken + 1) * s))))) (first_out E 𝓛 pb po taken filled x later) $
+    is_first refl $
+    use1 𝓛 (first_and_others E 𝓛 pb po taken filled x later) (first_out E 𝓛 pb po taken filled x later) $
     pick ! (λ v. learn ! (λ good. split3 ! $ rewrite ! 5 (λ (ws : List Val). ‵ (cell_at full_share Self.mir ws b o))
     (word ∙ ap (λ (z : Ptr). leaving_val z taken filled room ∷ []) at) refl $
     -- [the first item's cell; what it owns; the other items; what is after them; the room before them; the cell; the
     -- open borrow; its two names; the other tokens]
-    sets ! (of_opd ! (load ! (through ! refl (fld ! refl (stop !))) (look_in ! 5 (sub ! 1 refl (whole !)))))
+    sets ! (field_behind ! 5 1 refl refl refl (whole !))
     refl (tt, record { fits = taken_fits }) $
     sets ! (bin ! (get ! refl) (lit ! tt) (record { fits = up })) refl (tt, record { fits = up }) $
     assigns ! (of_opd ! (get ! refl)) (through ! refl (fld ! refl (stop !))) (store_in ! 5 (sub ! 1 refl (whole !))
-    (tt, record { fits = up })) $ first ! $ blocks ! $ sets ! (of_opd ! (load ! (through ! refl (fld ! refl (stop !)))
-    (look_in ! 5 (sub ! 0 refl (whole !))))) refl (tt, tt) $
+    (tt, record { fits = up })) $ first ! $ blocks ! $ sets ! (field_behind ! 5 0 refl refl refl (whole !)) refl (tt, tt) $
     sets ! (bin ! (get ! refl) (size_lit ! (record { fits = tiny })) (record { fits = far }))
     refl (tt, record { fits = far }) $ sets ! (bin ! (get ! refl) (get ! refl) tt) refl (tt, tt) $
     sets_last ! (of_opd ! (load ! (through ! refl (stop !)) (look ! 0 refl))) refl good $
@@ -82,8 +80,8 @@ take_first_spec 𝓤 𝓛 𝓜 𝓡 wired T L =
     as_raw ! (ty_array (elτ E) (taken + 1)) pb po $
     move ! (2 ∷ 3 ∷ []) $ fjoin ! $ move ! (1 ∷ 0 ∷ []) $ fjoin ! $ flt_i ! (room * s) (2 ^ 63) fit $
     fjoin ! $ rewrite ! 0 (λ (z : Ptr). ‵ (leaving_own R z (taken + 1) filled room later)) (sym at) refl $
-    use0 𝓛 (‵ ((LeavingWords R).own_val (p, (taken + 1, (filled, (room, tt)))) (leaving_val p (taken + 1)
-    filled room ∷ []))) (leaving_words R 𝓛 p (taken + 1) filled room up filled_fits room_fits) $ fjoin ! $
+    use0 𝓛 (‵ (leaving_words R p (taken + 1) filled room))
+    (leaving_made R 𝓛 p (taken + 1) filled room (up, (filled_fits, (room_fits, tt)))) $ fjoin ! $
     rewrite ! 2 (λ (ws : List Val). ‵ (cell_at full_share Self.mir ws b o))
     (ap (λ (z : Ptr). leaving_val z (taken + 1) filled room ∷ []) (sym at)) refl $ move ! (2 ∷ 0 ∷ 3 ∷ 4 ∷ 5 ∷ []) $
     closes ! tt Self new (leaving_val p (taken + 1) filled room ∷ []) b o $

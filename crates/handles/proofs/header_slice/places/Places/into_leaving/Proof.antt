@@ -1,12 +1,12 @@
 -- `into_leaving` makes of the places those that no item has left yet.
 use Rattle.handles.proofs.Places.{◌≡◌, ℕ, ◌^◌, ◌<◌, [], ◌∷◌, refl, lit<, arith, emp, ftrue, flft, ‵, raw, ◌⊛◌}
-use Rattle.handles.proofs.Places.{◌$◌, ◌∵◌, !, qed, by, move, keep, split, fsplit, fjoin, use0, use1, stop, fld}
-use Rattle.handles.proofs.Places.{lit, of_opd, no_more, and_then, returns, alloc_all, pass_all, free_all}
-use Rattle.handles.proofs.Places.{look_at, get, get_in, sets, agg, sub, whole, fact, fact_i, no, RattleType}
+use Rattle.handles.proofs.Places.{◌$◌, ◌∵◌, !, qed, by, move, keep, split, fsplit, fjoin, use0, use1}
+use Rattle.handles.proofs.Places.{lit, no_more, and_then, returns, alloc_all, pass_all, free_all}
+use Rattle.handles.proofs.Places.{look_at, get, sets, agg, whole, fact, fact_i, no, RattleType}
 use Rattle.handles.proofs.Places.{owns, types_at, plain, Ptr, nothing_more, param, param_laws, Stays}
-use Rattle.handles.proofs.Places.{stay_dropped, walk_of, Goes-blank, LeavingRow, LeavingWords, leaving-Good}
-use Rattle.handles.proofs.Places.{leaving_val, leaving_words, PlacesRow, places_val, leaving_own, places-Good}
-use Rattle.handles.proofs.Places.{none_left, at_type, walks}
+use Rattle.handles.proofs.Places.{stay_dropped, walk_of, Goes-blank, LeavingRow, words-Good, FitWords}
+use Rattle.handles.proofs.Places.{leaving_val, leaving_words, leaving_made, PlacesRow, places_val, leaving_own}
+use Rattle.handles.proofs.Places.{none_left, at_type, walks, field_in}
 use Rattle.core.proofs.atomic.Steps.{Ptr-Good}
 use Rattle.handles.proofs.header_slice.places.Places.TheLaws.{lowers}
 use Rattle.handles.specs.contracts.header_slice.places.Places.into_leaving.{ended, clauses}
@@ -31,21 +31,21 @@ into_leaving_spec 𝓤 𝓛 𝓜 𝓡 wired T L =
       room = room;
       items = me.items;
       within = (omega (arith, me.within.0), me.within.1);
-    } in let toks = ‵ (flft κs.0 qs.0) ⊛ ‵ ftrue in
+    } in let fit : FitWords (0 ∷ filled ∷ room ∷ []) = (lit< tt, (filled_fits, (room_fits, tt))) in
+    let toks = ‵ (flft κs.0 qs.0) ⊛ ‵ ftrue in
     qed 𝓛 ((toks ⊛ ‵ (owns (types_at En.signature.params κs) a y.0.4)) ∷ raw ((c κs a).requires gh)
     ∷ []) ∵ split ! $ move ! (1 ∷ []) $ fsplit ! $ fsplit ! $ keep ! (1 ∷ 3 ∷ []) $
     -- [what the places own; the tokens]
     use1 𝓛 (‵ (leaving_own R p 0 filled room me.items)) (none_left R 𝓛 p filled room me.items) $
     go.enters (places_val p filled room ∷ []) refl $
-    alloc_all ! (λ l. pass_all ! refl (places-Good p filled room filled_fits room_fits, tt) $
-    sets ! (of_opd ! (get_in ! (fld ! refl (stop !)) (sub ! 0 refl (whole !)))) refl (Ptr-Good p) $
-    sets ! (of_opd ! (get_in ! (fld ! refl (stop !)) (sub ! 1 refl (whole !))))
+    alloc_all ! (λ l. pass_all ! refl (words-Good p (filled ∷ room ∷ []) (filled_fits, (room_fits, tt)), tt) $
+    sets ! (field_in ! 0 refl refl (whole !)) refl (Ptr-Good p) $
+    sets ! (field_in ! 1 refl refl (whole !))
     refl (tt, record { fits = filled_fits }) $
-    sets ! (of_opd ! (get_in ! (fld ! refl (stop !)) (sub ! 2 refl (whole !)))) refl (tt, record { fits = room_fits }) $
+    sets ! (field_in ! 2 refl refl (whole !)) refl (tt, record { fits = room_fits }) $
     sets ! (agg ! (and_then ! (get ! refl) (and_then ! (lit ! tt) (and_then ! (get ! refl) (and_then ! (get ! refl)
-    (no_more !)))))) refl (leaving-Good p 0 filled room (lit< tt) filled_fits room_fits) $
-    use0 𝓛 (‵ ((LeavingWords R).own_val (p, (0, (filled, (room, tt)))) (leaving_val p 0 filled room ∷ [])))
-    (leaving_words R 𝓛 p 0 filled room (lit< tt) filled_fits room_fits) $ fjoin ! $
+    (no_more !)))))) refl (words-Good p (0 ∷ filled ∷ room ∷ []) fit) $
+    use0 𝓛 (‵ (leaving_words R p 0 filled room)) (leaving_made R 𝓛 p 0 filled room fit) $ fjoin ! $
     use0 𝓛 (raw (fact 𝓤 (me.items ≡ me.items))) (fact_i 𝓤 (me.items ≡ me.items) (emp 𝓤) refl) $
     nothing_more ! $ nothing_more ! $ fjoin ! $
     returns ! (look_at ! 0 refl) $ free_all ! refl $ keep ! (3 ∷ 0 ∷ 2 ∷ 1 ∷ []) $

@@ -2,14 +2,14 @@
 use Rattle.handles.proofs.Places.{ℕ, ◌+◌, ◌-◌, ◌^◌, ◌<◌, List, [], ◌∷◌, ◌++◌, refl, sym, ap, ◌∙◌, arith, Val}
 use Rattle.handles.proofs.Places.{vptr, vunit, full_share, ftrue, flft, ‵, raw, ◌⊛◌, ◌$◌, ◌∵◌, !, qed, move}
 use Rattle.handles.proofs.Places.{keep, drop, split, split3, join, fsplit3, fjoin, fjoin3, use1, use2, rewrite}
-use Rattle.handles.proofs.Places.{feq_i, suffices, done, unit_lit, stop, fld, load, lit, of_opd, first, blocks}
+use Rattle.handles.proofs.Places.{feq_i, suffices, done, unit_lit, stop, fld, lit, of_opd, first, blocks}
 use Rattle.handles.proofs.Places.{returns, alloc_all, pass_all, free_all, look_at, get, through, sets, sub}
-use Rattle.handles.proofs.Places.{whole, look_in, fact, no, RattleType, owns, types_at, plain, block_ptr}
+use Rattle.handles.proofs.Places.{whole, fact, no, RattleType, owns, types_at, plain, block_ptr}
 use Rattle.handles.proofs.Places.{nothing_more, heard, cell_at, param, Stays, stay_dropped, Goes-dropped, elτ}
 use Rattle.handles.proofs.Places.{one_below, sz, times_below, PlacesRow, places_val, places_opens, ◌*◌, as_raw}
 use Rattle.handles.proofs.Places.{as_written, froom, Array, part_at, closes, opens, Goes-ref, stay_ref, ty_array}
 use Rattle.handles.proofs.Places.{store_in, assigns, bin, size_lit, init, assigns_last, ends_at, el_in, spare}
-use Rattle.handles.proofs.Places.{snoc, places_shuts, at_type, walks_at}
+use Rattle.handles.proofs.Places.{snoc, places_shuts, at_type, walks_at, field_behind}
 use lib.ListN.{length-append}
 use Rattle.core.proofs.mem.Facts.{says_two}
 use Rattle.core.proofs.mem.Param as param_steps
@@ -44,10 +44,10 @@ push_spec 𝓤 𝓛 𝓜 𝓡 wired T L =
     (λ j. are.0.0 j ++ (is_item.1 j ++ [])) $
     alloc_all ! (λ l. pass_all ! refl ((tt, tt), (is_item.2, tt)) $
     opens ! tt Self {h = h} rb ro (λ vs. move ! (1 ∷ []) $
-    places_opens R ! h vs (λ b o at words small_filled small_room fits. let τ = elτ E in
-    let tiny : s < 2 ^ 64 = omega (arith, one_below room s (2 ^ 63) (omega arith) fits) in
+    places_opens R ! h vs (λ b o lie words. let τ = elτ E in
+    let tiny : s < 2 ^ 64 = omega (arith, one_below room s (2 ^ 63) (omega arith) lie.bytes_fit) in
     let more : n + 1 < 2 ^ 64 = omega arith in
-    let far : n * s < 2 ^ 64 = omega (arith, times_below n room s (2 ^ 63) (omega arith) fits) in
+    let far : n * s < 2 ^ 64 = omega (arith, times_below n room s (2 ^ 63) (omega arith) lie.bytes_fit) in
     let new : Self.Denot = record {
       first = block_ptr b o;
       filled = n + 1;
@@ -60,9 +60,9 @@ push_spec 𝓤 𝓛 𝓜 𝓡 wired T L =
     (spare E 𝓛 b o n room below) $ split ! $
     -- [the place; the room after it; the items; the right to free; the cell; the open borrow; its two names; the
     -- item; nothing; the token of T]
-    sets ! (of_opd ! (load ! (through ! refl (fld ! refl (stop !))) (look_in ! 4 (sub ! 1 refl (whole !)))))
-    refl (tt, record { fits = small_filled }) $ first ! $ blocks ! $
-    sets ! (of_opd ! (load ! (through ! refl (fld ! refl (stop !))) (look_in ! 4 (sub ! 0 refl (whole !)))))
+    sets ! (field_behind ! 4 1 refl refl refl (whole !))
+    refl (tt, record { fits = lie.filled_fits }) $ first ! $ blocks ! $
+    sets ! (field_behind ! 4 0 refl refl refl (whole !))
     refl (tt, tt) $ sets ! (bin ! (get ! refl) (size_lit ! (record { fits = tiny })) (record { fits = far }))
     refl (tt, record { fits = far }) $
     sets ! (bin ! (get ! refl) (get ! refl) tt) refl (tt, tt) $ sets ! (of_opd ! (get ! refl)) refl is_item.2 $
@@ -75,7 +75,8 @@ push_spec 𝓤 𝓛 𝓜 𝓡 wired T L =
     use2 𝓛 (‵ (part_at R full_share x b (n * s + o))) (el_in E 𝓛 full_share x b (n * s + o) v) $
     move ! (2 ∷ 0 ∷ []) $ use2 𝓛 (‵ (part_at (Array R (n + 1)) full_share (xs ++ x ∷ []) b o))
     (snoc E 𝓛 b o n xs x) $ move ! (1 ∷ []) $ as_raw ! (ty_array τ (room - (n + 1))) b (o + (n + 1) * s) $
-    move ! (1 ∷ []) $ places_shuts R ! new b o refl more small_room fits $ move ! (1 ∷ []) $
+    move ! (1 ∷ []) $ places_shuts R ! new b o
+    (record { at = refl; filled_fits = more; room_fits = lie.room_fits; bytes_fit = lie.bytes_fit }) $ move ! (1 ∷ []) $
     closes ! tt Self new (places_val (block_ptr b o) (n + 1) room ∷ []) rb ro $
     -- [the reference's two parts; its token; nothing; the token of T]
     returns ! (look_at ! 0 refl) $ free_all ! refl $ feq_i ! (List Val) z.0.4.0 (vptr rb ro ∷ []) are.0.0 $

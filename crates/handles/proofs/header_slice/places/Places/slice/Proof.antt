@@ -1,9 +1,9 @@
 -- `slice` shows the items that the places lend. Assumes `Logic`.
 use Rattle.handles.proofs.Places.{◌≡◌, ℕ, ◌^◌, ◌<◌, List, [], ◌∷◌, refl, sym, ap, ◌∙◌, subst, Val, id⊢, Lft}
 use Rattle.handles.proofs.Places.{fhide, ‵, raw, ◌⊛◌, ◌$◌, !, by, move, keep, drop, split, fsplit, fjoin, use1}
-use Rattle.handles.proofs.Places.{rewrite, feq_i, flt_i, flt_l, stop, fld, load, of_opd, no_more, and_then}
-use Rattle.handles.proofs.Places.{first, blocks, returns, alloc_all, pass_all, free_all, look_at, get, through}
-use Rattle.handles.proofs.Places.{sets, sets_last, agg, sub, whole, look_in, fact, fact_i, RattleType, Ptr}
+use Rattle.handles.proofs.Places.{rewrite, feq_i, flt_i, flt_l, of_opd, no_more, and_then, field_behind}
+use Rattle.handles.proofs.Places.{first, blocks, returns, alloc_all, pass_all, free_all, look_at, get}
+use Rattle.handles.proofs.Places.{sets, sets_last, agg, whole, fact, fact_i, RattleType, Ptr}
 use Rattle.handles.proofs.Places.{InBlock, block_ptr, block_of, offset_of, at_block, peeks, heard, looks, shuts}
 use Rattle.handles.proofs.Places.{Is, shows, cell_at, param, PlacesRow, places_val, ◌*◌, ◌≤◌, type_size}
 use Rattle.handles.proofs.Places.{slice_val, length, hidden_shr, in_block_says, words_open}
@@ -39,9 +39,9 @@ slice_spec 𝓤 𝓛 𝓜 𝓡 wired T L =
     let fits : s.filled < 2 ^ 64 = reported.1 in let ev : vs ≡ places_val (block_ptr pb po)
     s.filled s.room ∷ [] = reported.0 ∙ ap (λ (z : Ptr). places_val z s.filled s.room ∷ []) at in
     let Cell = λ (ws : List Val). ‵ (cell_at r D.mir ws b o) in rewrite ! 1 Cell ev refl $ first ! $ blocks ! $
-    sets ! (of_opd ! (load ! (through ! refl (fld ! refl (stop !))) (look_in ! 1 (sub ! 0 refl (whole !)))))
+    sets ! (field_behind ! 1 0 refl refl refl (whole !))
     refl (tt, tt) $
-    sets ! (of_opd ! (load ! (through ! refl (fld ! refl (stop !))) (look_in ! 1 (sub ! 1 refl (whole !)))))
+    sets ! (field_behind ! 1 1 refl refl refl (whole !))
     refl (tt, record { fits = fits }) $
     rewrite ! 1 Cell (sym ev) refl $ move ! (1 ∷ 0 ∷ 2 ∷ []) $ shuts ! tt D r (to O s) vs b o $
     move ! (1 ∷ []) $ drop ! $ sets_last ! (agg ! (and_then ! (get ! refl) (and_then ! (get ! refl) (no_more !))))

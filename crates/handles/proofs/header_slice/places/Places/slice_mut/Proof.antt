@@ -2,9 +2,9 @@
 use Rattle.handles.proofs.Places.{◌≡◌, ℕ, ◌^◌, ◌<◌, List, [], ◌∷◌, refl, sym, arith, named, Val, vptr}
 use Rattle.handles.proofs.Places.{full_share, SProp, emp, Lft, Share, ftrue, flft, sem, ‵, raw, ◌⊛◌, some, later}
 use Rattle.handles.proofs.Places.{◌$◌, ◌∵◌, !, qed, by, move, keep, drop, split, split3, join, fsplit, fsplit3}
-use Rattle.handles.proofs.Places.{fjoin, fjoin3, pick, use0, use1, await, rewrite, stop, fld, load, of_opd}
+use Rattle.handles.proofs.Places.{fjoin, fjoin3, pick, use0, use1, await, rewrite, of_opd, field_behind}
 use Rattle.handles.proofs.Places.{no_more, and_then, first, blocks, returns, alloc_all, pass_all, free_all}
-use Rattle.handles.proofs.Places.{look_at, get, through, sets, sets_last, agg, sub, whole, look_in, fact, fact_i}
+use Rattle.handles.proofs.Places.{look_at, get, sets, sets_last, agg, whole, fact, fact_i}
 use Rattle.handles.proofs.Places.{no, RattleType, owns, types_at, plain, nothing_more, cell_at, param, Stays}
 use Rattle.handles.proofs.Places.{stay_dropped, walk_of, times_below, PlacesRow, places_opens, ◌*◌, type_size}
 use Rattle.handles.proofs.Places.{Array, mut_Tells, mut_vals, slice_val, opens, length, GName, group, mem}
@@ -39,18 +39,17 @@ slice_mut_spec 𝓤 𝓛 𝓜 𝓡 wired T L =
     go.enters (vptr rb ro ∷ []) refl $ alloc_all ! (λ l. pass_all ! refl ((tt, tt), tt) $
     -- [the reference's two parts; its token; nothing; the token of T]
     move ! (0 ∷ 1 ∷ 3 ∷ []) $ opens ! tt Self {h = h} rb ro (λ vs. move ! (1 ∷ []) $
-    places_opens R ! h vs (λ b o at words small_filled small_room fits.
+    places_opens R ! h vs (λ b o lie words.
     let roomy : length xs < 2 ^ 64 = omega (arith, h.within.0, h.within.1) in
     let fitting : length xs * type_size R < 2 ^ 63 = times_below (length xs) h.room (type_size R) (2 ^ 63)
-    (omega (arith, h.within.0, h.within.1)) fits in let Rest : SProp 𝓤 = sem 𝓛 (Beside R h b o rb ro) in
-    let back = items_back T L 𝓛 h b o at small_filled small_room fits rb ro in
+    (omega (arith, h.within.0, h.within.1)) lie.bytes_fit in let Rest : SProp 𝓤 = sem 𝓛 (Beside R h b o rb ro) in
+    let back = items_back T L 𝓛 h b o lie rb ro in
     rewrite ! 3 (λ (us : List Val). ‵ (cell_at full_share Self.mir us rb ro)) words refl $ first ! $ blocks ! $
-    sets ! (of_opd ! (load ! (through ! refl (fld ! refl (stop !))) (look_in ! 3 (sub ! 0 refl (whole !)))))
-    refl (tt, tt) $ sets ! (of_opd ! (load ! (through ! refl (fld ! refl (stop !)))
-    (look_in ! 3 (sub ! 1 refl (whole !))))) refl (tt, record { fits = small_filled }) $
+    sets ! (field_behind ! 3 0 refl refl refl (whole !))
+    refl (tt, tt) $ sets ! (field_behind ! 3 1 refl refl refl (whole !)) refl (tt, record { fits = lie.filled_fits }) $
     sets_last ! (agg ! (and_then ! (get ! refl) (and_then ! (get ! refl) (no_more !))))
-    refl (tt, (tt, (record { fits = small_filled }, tt))) $ go.ahead l 1 $
-    sets ! (of_opd ! (get ! refl)) refl (tt, (tt, (record { fits = small_filled }, tt))) $
+    refl (tt, (tt, (record { fits = lie.filled_fits }, tt))) $ go.ahead l 1 $
+    sets ! (of_opd ! (get ! refl)) refl (tt, (tt, (record { fits = lie.filled_fits }, tt))) $
     use1 𝓛 (‵ (cells (mem R) xs b o)) (items_out T L 𝓛 h b o) $ move ! (1 ∷ 2 ∷ 3 ∷ []) $ fjoin3 ! $
     move ! (2 ∷ 3 ∷ 4 ∷ 1 ∷ 0 ∷ []) $ group ! 5 $ use1 𝓛 (later (some (λ (δ : GName). ‵ ((MutSlice (named 0)
     κ R).own_val (record { ref_ptr = (b, o); ghost_name = δ; now = xs }) (slice_val (b, o) (length xs) ∷ []))

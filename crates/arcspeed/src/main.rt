@@ -2,7 +2,6 @@
 //! read. With 0 iterations it only prepares, so that the preparation can be taken off what was measured.
 #![tactic(auto)]
 
-mod cascade;
 mod cloned;
 mod compared;
 mod fault;
@@ -12,6 +11,7 @@ mod made;
 mod maps;
 mod random;
 mod read;
+mod styles;
 mod threads;
 mod union;
 mod versions;
@@ -71,8 +71,8 @@ fn checksum<R: Threads + Wait + Sync>(
         "marked-clone-4" => threads::marked_clone(rt, alloc, 4, iterations),
         "static-clone" => cloned::static_clone(alloc, iterations),
         "union-clone" => union::union_clone(alloc, iterations),
-        "cascade" => cascade::cascade(alloc, iterations),
-        "cascade-4" => cascade::cascade_in_four(rt, alloc, iterations),
+        "cascade" => styles::cascade(alloc, iterations),
+        "cascade-4" => styles::cascade_in_four(rt, alloc, iterations),
         _ => checksum_of_versions(alloc, workload, iterations),
     }
 }

@@ -2,7 +2,6 @@
 //! holds whichever it is, and reports what it came to. `outcomes.txt` has what all of them may come to, and have to.
 
 mod builders;
-mod cascade;
 mod clones;
 mod counts;
 mod list_versions;
@@ -11,4 +10,5 @@ mod map_versions;
 mod reporting;
 mod rose_trees;
 mod steps;
+mod styles;
 mod table_calls;

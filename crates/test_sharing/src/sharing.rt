@@ -3,7 +3,6 @@
 
 mod alone_again;
 mod calling;
-mod cascade;
 mod channels;
 mod count_rows;
 mod count_threads;
@@ -18,6 +17,7 @@ mod page_rows;
 mod random_maps;
 mod roses;
 mod static_threads;
+mod styles;
 mod table_copies;
 mod table_threads;
 mod threads;

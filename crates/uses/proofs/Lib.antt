@@ -1,4 +1,2 @@
-pub mod Equal
 pub mod ReadBack
-pub mod RuleTree
 pub mod TwoPasses

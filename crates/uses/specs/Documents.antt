@@ -6,7 +6,7 @@ use Rattle.uses.specs.declared.documents.Edit.{Edit}
 use Rattle.uses.specs.declared.documents.Edit.TheVariants.{Rename, Restyle, Insert, Remove}
 use Rattle.uses.specs.declared.documents.Part.{Part}
 use Rattle.trees.specs.declared.rose.Rose.{Rose}
-use Rattle.uses.specs.declared.cascade.source.Inline.{Inline}
+use Rattle.cascade.specs.declared.source.Inline.{Inline}
 use Rattle.trees.specs.Roses.{at, root, with_inserted, with_value, without}
 
 -- the tree with the change made of a part

@@ -1,14 +1,11 @@
 //! A document with undo: a tree of named parts. A change makes a version, which shares all parts that it left alone.
 ghost use Rattle.std.specs.Prelude.{◌≡◌, ◌↔◌, ◌∷◌, ◌++◌, [], Err, None, Some, IfOk, OnErr, OnOk, map};
-ghost use Rattle.uses.specs.Cascade.{style_of};
+ghost use Rattle.cascade.specs.Cascade.{style_of};
 ghost use Rattle.uses.specs.Documents.{edited, renamed, restyled};
 ghost use Rattle.trees.specs.Roses.{preorder};
 ghost use Rattle.trees.specs.declared.rose.RoseError.TheVariants.{NoSuchPlace};
 
-use crate::cascade::cache::StyleCache;
-use crate::cascade::element::Element;
-use crate::cascade::source::Inline;
-use crate::cascade::style::Style;
+use cascade::{Element, Inline, Style, StyleCache};
 use interner::InternError;
 use servo_arc::Arc;
 use std::alloc::{AllocError, Global};

@@ -2,7 +2,6 @@
 #![tactic(auto)]
 
 pub mod along_a_path;
-pub mod cascade;
 pub mod copies;
 pub mod crossing;
 pub mod documents;

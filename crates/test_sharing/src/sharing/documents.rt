@@ -1,16 +1,12 @@
 //! What the versions of a document share, and how a tree ends.
 use crate::sharing::lists::SMALL_STACK;
+use cascade::{Declaration, Element, Initial, Inline, Style, StyleCache};
 use servo_arc::Arc;
 use std::alloc::{AllocError, Global};
 use std::thread::Builder;
 use testing::counted::{Counted, Tally};
 use testing::{ok, same};
 use trees::{Rose, Undo};
-use uses::cascade::cache::StyleCache;
-use uses::cascade::element::Element;
-use uses::cascade::initial::Initial;
-use uses::cascade::source::{Declaration, Inline};
-use uses::cascade::style::Style;
 use uses::documents::{Document, Edit, Part, apply, styles};
 
 fn name(alloc: Global, text: &str) -> Result<Arc<String>, AllocError> {

@@ -1,7 +1,7 @@
 use Rattle.std.proofs.Common.{◌≡◌, ◌∙◌, List, [], ◌∷◌, map, Bor, refl, ap, arith}
 use Rattle.std.proofs.lemmas.Grind.{common_steps}
 use Rattle.uses.specs.declared.documents.Part.{Part}
-use Rattle.uses.specs.Cascade.{style_of}
+use Rattle.cascade.specs.Cascade.{style_of}
 use Rattle.uses.proofs.documents.styles.Goals as goal
 
 behind : (parts : List (Bor Part))

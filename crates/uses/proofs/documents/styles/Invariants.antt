@@ -1,5 +1,5 @@
 use Rattle.std.proofs.Common.{◌≡◌, take, map}
-use Rattle.uses.specs.Cascade.{style_of}
+use Rattle.cascade.specs.Cascade.{style_of}
 use Rattle.uses.proofs.documents.styles.Given as goal
 
 -- the parts so far have their styles

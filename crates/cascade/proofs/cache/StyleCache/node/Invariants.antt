@@ -1,0 +1,14 @@
+use Rattle.std.proofs.Common.{◌≡◌, length, take, map}
+use Rattle.std.specs.List.{fold}
+use Rattle.servo_arc.specs.Unions.{First}
+use Rattle.cascade.specs.Cascade.{cascaded, initial}
+use Rattle.cascade.specs.RuleTree.{IsBefore, style_at}
+use Rattle.cascade.proofs.cache.StyleCache.node.Given as goal
+
+-- the node is there, and its style is that of the rules so far
+abbrev pub invariant-loop-rule : goal.invariant-loop-rule
+invariant-loop-rule l = record {
+  there : IsBefore l.node (length l.self.styles.items);
+  style : style_at l.self.styles.items l.node
+      ≡ fold cascaded initial (map First (take l.rule-index l.rules));
+}

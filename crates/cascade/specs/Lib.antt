@@ -1,0 +1,2 @@
+pub mod Cascade
+pub mod RuleTree

@@ -1,0 +1,87 @@
+//! The styles of many elements, in one thread or in four, and of one that threads ask for under a lock.
+ghost use Rattle.std.specs.Prelude.{◌≡◌, IfOk, map, ◌++◌};
+ghost use Rattle.cascade.specs.Cascade.{style_of};
+
+use crate::cache::StyleCache;
+use crate::element::Element;
+use crate::initial::Initial;
+use crate::style::Style;
+use interner::InternError;
+use servo_arc::Arc;
+use std::alloc::{AllocError, Global};
+use std::sync::{Mutex, Wait};
+use std::thread::{Threads, join};
+
+/// The styles of the elements, each at the place of its element, by a cache of their own.
+pub fn styles(
+    alloc: Global,
+    initial: Initial,
+    elements: &[Element],
+) -> Result<Vec<Arc<Style>>, InternError>
+    ensures { IfOk result (λ styles. styles.items ≡ map style_of elements.now) }
+{
+    let mut cache = StyleCache::new(alloc, initial)?;
+    let mut styles = Vec::new(alloc);
+    for element in elements {
+        let style = cache.style(alloc, element)?;
+        styles.push(style).map_err(AllocError::from)?;
+    }
+    Ok(styles)
+}
+
+/// The same, each half by a thread.
+pub fn styles_in_two<R: Threads + Sync>(
+    rt: &R,
+    alloc: Global,
+    initial: Initial,
+    elements: &[Element],
+) -> Result<Vec<Arc<Style>>, InternError>
+    ensures { IfOk result (λ styles. styles.items ≡ map style_of elements.now) }
+{
+    let (left, right) = elements.split_at(elements.len() / 2);
+    let (left, right) = join(
+        rt,
+        || styles(alloc, initial, left),
+        || styles(alloc, initial, right),
+    );
+    joined(left?, right?)
+}
+
+/// The same, each quarter by a thread.
+pub fn styles_in_four<R: Threads + Sync>(
+    rt: &R,
+    alloc: Global,
+    initial: Initial,
+    elements: &[Element],
+) -> Result<Vec<Arc<Style>>, InternError>
+    ensures { IfOk result (λ styles. styles.items ≡ map style_of elements.now) }
+{
+    let (left, right) = elements.split_at(elements.len() / 2);
+    let (left, right) = join(
+        rt,
+        || styles_in_two(rt, alloc, initial, left),
+        || styles_in_two(rt, alloc, initial, right),
+    );
+    joined(left?, right?)
+}
+
+fn joined(left: Vec<Arc<Style>>, right: Vec<Arc<Style>>) -> Result<Vec<Arc<Style>>, InternError>
+    ensures { IfOk result (λ styles. styles.items ≡ left.items ++ right.items) }
+{
+    let mut styles = left;
+    let mut right = right;
+    styles.append(&mut right)?;
+    Ok(styles)
+}
+
+/// The style of the element, asked of a cache that threads share.
+pub fn shared_style(
+    rt: &impl Wait,
+    cache: &Mutex<StyleCache>,
+    alloc: Global,
+    element: &Element,
+) -> Result<Arc<Style>, InternError>
+    ensures { IfOk result (λ style. style ≡ style_of element.now) }
+{
+    cache.lock(rt).style(alloc, element)
+}

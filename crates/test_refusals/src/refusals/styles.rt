@@ -1,0 +1,38 @@
+//! What a cache of styles leaves.
+use crate::refusals::reporting::report;
+use cascade::{Declaration, Element, Initial, Inline, Rule, StyleCache};
+use interner::InternError;
+use servo_arc::Arc;
+use std::alloc::{AllocError, Global};
+use testing::{ok, same};
+
+// An element with a rule and a block of its own.
+fn element(alloc: Global) -> Result<Element, AllocError> {
+    let rule = Rule {
+        specificity: 1,
+        declarations: Arc::from_header_and_slice(alloc, (), &[Declaration::FontSize(40)])?,
+    };
+    let mut rules = Vec::new(alloc);
+    rules.push(Arc::try_new(alloc, rule)?)?;
+    let declarations = Arc::from_header_and_slice(alloc, (), &[Declaration::BorderWidth(2)])?;
+    Element::of_rules(alloc, rules)?.with_inline(Arc::try_new(alloc, Inline { declarations })?)
+}
+
+fn cache(alloc: Global) -> Result<StyleCache, AllocError> {
+    StyleCache::new(alloc, Initial::new(alloc)?)
+}
+
+// Only the two initial groups are kept for good. After a refusal the cache has the nodes that were added by then, and
+// the same call ends well.
+#[test]
+fn a_refused_style_can_be_asked_for_again(rt: HostRuntime) {
+    let (Ok(element), Ok(mut cache)) = (element(rt.alloc()), cache(rt.alloc())) else {
+        return report(&rt, "the set-up");
+    };
+    if let Err(refusal) = cache.style(rt.alloc(), &element) {
+        same!(&rt, refusal, InternError::Memory);
+        report(&rt, "a node or a style");
+    }
+    let style = ok!(&rt, cache.style(rt.alloc(), &element));
+    same!(&rt, (style.font.size, style.border.width), (40, 2));
+}

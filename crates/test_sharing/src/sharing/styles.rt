@@ -1,0 +1,113 @@
+//! What styles share that `cascade` computed, for elements of four kinds in turn.
+use cascade::{
+    Declaration, Element, Initial, Inline, Rule, Style, StyleCache, shared_style, styles,
+    styles_in_four,
+};
+use interner::InternError;
+use servo_arc::Arc;
+use std::alloc::{AllocError, Global};
+use std::sync::{Mutex, Wait};
+use testing::{ok, same};
+
+const ELEMENTS: usize = 1_000;
+
+fn rule(
+    alloc: Global,
+    specificity: u32,
+    declarations: &[Declaration],
+) -> Result<Arc<Rule>, AllocError> {
+    let rule = Rule {
+        specificity,
+        declarations: Arc::from_header_and_slice(alloc, (), declarations)?,
+    };
+    Ok(Arc::try_new(alloc, rule)?)
+}
+
+/// The first kind has no rule, the second a large font, the third a border over it, the fourth a block of its own.
+fn element(alloc: Global, kind: usize) -> Result<Element, AllocError> {
+    let mut rules = Vec::new(alloc);
+    if kind > 1 {
+        rules.push(rule(alloc, 9, &[Declaration::BorderWidth(2)])?)?;
+    }
+    if kind > 0 {
+        rules.push(rule(alloc, 1, &[Declaration::FontSize(40)])?)?;
+    }
+    let element = Element::of_rules(alloc, rules)?;
+    if kind < 3 {
+        return Ok(element);
+    }
+    let declarations = Arc::from_header_and_slice(alloc, (), &[Declaration::FontWeight(700)])?;
+    element.with_inline(Arc::try_new(alloc, Inline { declarations })?)
+}
+
+fn elements(alloc: Global) -> Result<Vec<Element>, AllocError> {
+    let mut elements = Vec::new(alloc);
+    for i in 0..ELEMENTS {
+        elements.push(element(alloc, i % 4)?)?;
+    }
+    Ok(elements)
+}
+
+fn with_one(number: usize, is_one: bool) -> usize {
+    number.wrapping_add(usize::from(is_one))
+}
+
+/// How many styles, fonts and borders are in the blocks of the first of their kind.
+fn shared(styles: &[Arc<Style>]) -> (usize, usize, usize) {
+    let (mut whole, mut fonts, mut borders) = (0, 0, 0);
+    for (i, style) in styles.iter().enumerate() {
+        let first = &styles[i % 4];
+        whole = with_one(whole, Arc::ptr_eq(style, first));
+        fonts = with_one(fonts, Arc::ptr_eq(&style.font, &first.font));
+        borders = with_one(borders, Arc::ptr_eq(&style.border, &first.border));
+    }
+    (whole, fonts, borders)
+}
+
+// One cache computes each style once. Each of four threads has a cache of its own, and all have the initial groups.
+#[test]
+fn elements_of_one_kind_share_their_style(rt: HostRuntime) {
+    let alloc = rt.alloc();
+    let elements = ok!(&rt, elements(alloc));
+    let initial = ok!(&rt, Initial::new(alloc));
+    let one = ok!(&rt, styles(alloc, initial, &elements));
+    let four = ok!(&rt, styles_in_four(&rt, alloc, initial, &elements));
+    same!(&rt, one == four, true);
+    same!(&rt, shared(&one), (1000, 1000, 1000));
+    same!(&rt, shared(&four), (250, 437, 624));
+}
+
+fn computed(
+    rt: &impl Wait,
+    alloc: Global,
+    kind: usize,
+    cache: &Mutex<StyleCache>,
+) -> Result<Arc<Style>, InternError> {
+    shared_style(rt, cache, alloc, &element(alloc, kind)?)
+}
+
+// A style shares with that of the path before the groups that the last source left alone.
+#[test]
+fn a_style_has_the_groups_of_its_own_source_alone(rt: HostRuntime) {
+    let alloc = rt.alloc();
+    let initial = ok!(&rt, Initial::new(alloc));
+    let cache = Mutex::new(ok!(&rt, StyleCache::new(alloc, initial)));
+    let plain = ok!(&rt, computed(&rt, alloc, 0, &cache));
+    let large = ok!(&rt, computed(&rt, alloc, 1, &cache));
+    let framed = ok!(&rt, computed(&rt, alloc, 2, &cache));
+    let bold = ok!(&rt, computed(&rt, alloc, 3, &cache));
+    let shared = [
+        (plain.font.is_static(), plain.border.is_static()),
+        (large.font.is_static(), large.border.is_static()),
+        (
+            Arc::ptr_eq(&framed.font, &large.font),
+            Arc::ptr_eq(&framed.border, &large.border),
+        ),
+        (
+            Arc::ptr_eq(&bold.font, &framed.font),
+            Arc::ptr_eq(&bold.border, &framed.border),
+        ),
+    ];
+    let expected = [(true, true), (false, true), (true, false), (false, true)];
+    same!(&rt, shared, expected);
+}

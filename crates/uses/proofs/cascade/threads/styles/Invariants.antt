@@ -1,7 +1,0 @@
-use Rattle.std.proofs.Common.{◌≡◌, take, map}
-use Rattle.uses.specs.Cascade.{style_of}
-use Rattle.uses.proofs.cascade.threads.styles.Given as goal
-
--- the elements so far have their styles
-abbrev pub invariant-loop-element : goal.invariant-loop-element
-invariant-loop-element l = l.styles.items ≡ map style_of (take l.element-index l.elements)

@@ -7,12 +7,25 @@ use crate::source::{Inline, Rule};
 use servo_arc::{Arc, ThinArc};
 use std::alloc::{AllocError, Global};
 
-/// The rules that match an element, the weakest first, and what stands at the element itself, which is stronger than
-/// each rule.
-#[derive(Clone, Drop)]
+/// The rules that match an element, the weakest first, as its type says, and what stands at the element itself, which
+/// is stronger than each rule.
+#[derive(Drop)]
 pub struct Element {
     pub rules: ThinArc<(), Arc<Rule>>,
     pub inline: Option<Arc<Inline>>,
+    pub ghost sorted: { IsNonDecreasingBy (λ rule. rule.specificity) rules.items },
+}
+
+/// One more handle of each part. It is refused as the `clone` of an `Arc` is.
+impl Clone for Element {
+    ghost is_clone = { λ a b. b ≡ a };
+
+    fn clone(&self) -> Result<Element, AllocError> {
+        Ok(Element {
+            rules: self.rules.clone()?,
+            inline: self.inline.clone()?,
+        })
+    }
 }
 
 impl Element {
@@ -20,8 +33,6 @@ impl Element {
     /// that have the same the later is the stronger.
     pub fn of_rules(alloc: Global, rules: Vec<Arc<Rule>>) -> Result<Element, AllocError>
         ensures rules { IfOk result (λ element. IsPermutation rules.items element.rules.items) }
-        ensures sorted { IfOk result (λ element.
-            IsNonDecreasingBy (λ rule. rule.specificity) element.rules.items) }
         ensures stable { IfOk result (λ element.
             IsStableByKey (λ rule. rule.specificity) nat_cmp rules.items element.rules.items) }
         ensures inline { IfOk result (λ element. element.inline ≡ None) }

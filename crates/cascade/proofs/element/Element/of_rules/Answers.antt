@@ -6,12 +6,12 @@ use Rattle.servo_arc.specs.declared.Arc.{Arc}
 use Rattle.cascade.specs.declared.source.Rule.{Rule}
 use Rattle.cascade.proofs.element.Element.of_rules.Goals as goal
 
-pub returns-clause-sorted : goal.returns-clause-sorted
-returns-clause-sorted c =
+pub invariant_of-result : goal.invariant_of-result
+invariant_of-result c =
     let sorted : IsNonDecreasingBy (λ (r : Arc Rule). r.specificity) c.sort_by_key.new.self.items =
     IsNonDecreasingBy-from_sort_by_key (λ (r : Arc Rule). r.specificity) c.sort_by_key.new.self.items
     c.in_ok-sort_by_key.ensures.sorted (λ a r q k. search rules) in
-    rw c.in_ok-from_header_and_vec.ensures sorted
+    record { sorted = rw c.in_ok-from_header_and_vec.ensures sorted }
 
 pub returns-clause-stable : goal.returns-clause-stable
 returns-clause-stable c =

@@ -6,7 +6,7 @@ use std::alloc::{AllocError, Global};
 use std::thread;
 use testing::counted::{Counted, Tally};
 use testing::{holds, ok, same};
-use uses::list_editions::{publish, read_all};
+use uses::editions::{publish, read_all};
 
 const EDITIONS: u64 = 1000;
 

@@ -1,5 +1,4 @@
 //! Versions on several threads, each of which is joined.
-use crate::sharing::channels::channels;
 use crate::sharing::waiting::arrive;
 use persistent::List;
 use std::process::Abort;
@@ -7,26 +6,6 @@ use std::sync::atomic::AtomicU64;
 use std::thread;
 use testing::counted::{Counted, Tally};
 use testing::{again, ok, same};
-use uses::map_editions::{publish, read_all};
-
-const EDITIONS: u64 = 1000;
-
-#[test]
-fn four_threads_read_what_one_publishes(rt: HostRuntime) {
-    let alloc = rt.alloc();
-    let (to_readers, readers) = ok!(&rt, channels(alloc, 4));
-    let rt = &rt;
-    let (published, read) = thread::join(
-        rt,
-        move || {
-            let to_readers = to_readers;
-            publish(rt, alloc, EDITIONS, &to_readers)
-        },
-        move || thread::map_vec(rt, readers, &|reader| read_all(rt, reader)),
-    );
-    same!(rt, published, Ok(()));
-    same!(rt, ok!(rt, read).as_slice(), &[Some(EDITIONS); 4][..]);
-}
 
 const ROUNDS: u32 = 20;
 

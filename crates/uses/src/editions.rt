@@ -1,0 +1,97 @@
+//! Snapshots: one thread makes versions of a list and of a map, and others read each of them.
+ghost use Rattle.std.specs.Prelude.{◌≡◌, IsTrue, Some, slice_get};
+ghost use Rattle.std.specs.Ordering.{nat_cmp};
+ghost use Rattle.persistent.specs.Maps.{lookup};
+
+use cow_table::{CowTable, SetError};
+use crossbeam_channel::{Receiver, Sender};
+use persistent::TreeMap;
+use std::alloc::Global;
+use std::sync::Wait;
+
+/// The places of the list, and the keys of the map, that are written in turn.
+const WRITTEN: u64 = 8;
+
+/// Versions with their number, which is also the first item of the list, and stands under key 0 of the map.
+#[derive(Drop)]
+pub struct Edition {
+    pub number: u64,
+    pub items: CowTable<u64>,
+    pub map: TreeMap<u64, u64>,
+    ghost first: { slice_get items 0 ≡ Some number },
+    ghost under_zero: { lookup nat_cmp 0 map ≡ Some number },
+}
+
+impl Edition {
+    /// Known by the type, on whichever thread it is read.
+    pub fn has_its_number(&self) -> bool
+        ensures { IsTrue result }
+    {
+        let number = Some(self.number);
+        self.items.get(0).copied() == number && self.map.get(&0).copied() == number
+    }
+
+    /// Whether the other items and keys have what `publish` had written by then.
+    pub fn is_as_published(&self) -> bool {
+        let items = self.items.iter().copied().skip(1);
+        let written = (1..WRITTEN).map(|place| latest(self.number, place).unwrap_or(0));
+        items.eq(written)
+            && (1..WRITTEN).all(|key| self.map.get(&key).copied() == latest(self.number, key))
+    }
+}
+
+// The last number, up to this one, that was written to the place. Numbers are counted from 1.
+fn latest(number: u64, place: u64) -> Option<u64> {
+    let since = (number % WRITTEN + WRITTEN - place % WRITTEN) % WRITTEN;
+    if since < number {
+        Some(number - since)
+    } else {
+        None
+    }
+}
+
+/// Makes that many editions of a list of `WRITTEN` items, and of a map, each out of the one before, and sends each to
+/// all readers.
+pub fn publish(
+    rt: &impl Wait,
+    alloc: Global,
+    mut items: CowTable<u64>,
+    editions: u64,
+    readers: &[Sender<Edition, Global>],
+) -> Result<(), SetError> {
+    let mut map = TreeMap::new();
+    for number in 1..=editions {
+        items.set(alloc, (number % WRITTEN) as usize, number)?;
+        map.insert(alloc, number % WRITTEN, number)?;
+        for reader in readers {
+            let edition = numbered(&mut items, &map, alloc, number)?;
+            let _gone = reader.send(rt, edition);
+        }
+    }
+    Ok(())
+}
+
+fn numbered(
+    items: &mut CowTable<u64>,
+    map: &TreeMap<u64, u64>,
+    alloc: Global,
+    number: u64,
+) -> Result<Edition, SetError> {
+    items.set(alloc, 0, number)?;
+    let items: CowTable<u64> = items.clone()?;
+    let mut map: TreeMap<u64, u64> = map.clone()?;
+    map.insert(alloc, 0, number)?;
+    Ok(Edition { number, items, map })
+}
+
+/// Reads editions until no more come. Returns how many came, if each was as it was published.
+pub fn read_all(rt: &impl Wait, editions: Receiver<Edition, Global>) -> Option<u64> {
+    let mut read = 0u64;
+    for edition in editions.iter(rt) {
+        if !edition.has_its_number() || !edition.is_as_published() {
+            return None;
+        }
+        read = read.wrapping_add(1);
+    }
+    Some(read)
+}

@@ -7,21 +7,21 @@ use servo_arc::Arc;
 use std::alloc::{AllocError, Global};
 
 /// The properties of text.
-#[derive(Clone, Copy, PartialEq, Eq, Drop)]
+#[derive(Clone, Copy, PartialEq)]
 pub struct Font {
     pub size: u32,
     pub weight: u32,
 }
 
 /// The properties of an edge.
-#[derive(Clone, Copy, PartialEq, Eq, Drop)]
+#[derive(Clone, Copy, PartialEq)]
 pub struct Border {
     pub width: u32,
     pub color: u32,
 }
 
 /// How an element looks. Each group of properties is in a block of its own, which styles share.
-#[derive(Clone, PartialEq, Eq, Drop)]
+#[derive(Clone, PartialEq, Drop)]
 pub struct Style {
     pub font: Arc<Font>,
     pub border: Arc<Border>,

@@ -7,7 +7,7 @@ use servo_arc::{Arc, ArcBorrow, BuildError, ThinArc, UniqueArc};
 use std::alloc::{AllocError, Global};
 
 /// How a run of text looks.
-#[derive(Clone, Debug, PartialEq, Drop)]
+#[derive(Clone, Debug, Drop)]
 pub struct TextStyle {
     pub size: u32,
     pub is_bold: bool,

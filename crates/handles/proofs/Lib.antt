@@ -16,5 +16,6 @@ pub mod Builders
 pub mod Logs
 pub mod Owners
 pub mod Places
+pub mod Scripts
 pub mod Steps
 pub mod Walks

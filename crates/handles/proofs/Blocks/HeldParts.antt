@@ -3,7 +3,7 @@ use Rattle.std.proofs.Common.{ℕ, zero, ◌+◌, false, List, [], ◌∷◌, re
 use seplogic.Ra.Ura.{Ura}
 use base.Fraction.{full_share}
 use base.Logic.{ent, sep}
-use base.Fml.{Fml, ftrue, fsep, fex, fleft}
+use base.Fml.{Fml, fsep, fex, fleft}
 use mir.Syntax.{Ty, ty_struct}
 use mir.Val.{Val}
 use prog.Memory.{align, up}
@@ -23,13 +23,14 @@ use Rattle.core.specs.Sync.RawAtomic.{word}
 use Rattle.std.specs.declared.alloc.Global.{Global}
 use Rattle.handles.specs.declared.limit.Limit.{Limit}
 use Rattle.handles.specs.contracts.limit.Limit.{the_row as LimitRow}
+use Rattle.handles.proofs.Scripts.{fpair, ffact}
 use Rattle.handles.proofs.limit.Limit.TheLaws.{the_row_laws as limit_laws}
 use Rattle.handles.specs.contracts.block.Held as held
 use Rattle.handles.specs.contracts.block.handle.Handle as handle_type
 use Rattle.counting_word.specs.Logs.{Entry}
 use Rattle.handles.specs.Inside.Rows.{pass}
-use Rattle.handles.specs.Inside.Blocks.{BlockId, HeldRow, held_offset, noted_as, stamp, frees, unshared_block, Sharing}
-use Rattle.handles.specs.Inside.Blocks.{sole_handle, not_yet, held_as}
+use Rattle.handles.specs.Inside.Blocks.{BlockId, HeldRow, held_offset, noted_as, stamp, frees, unshared_block}
+use Rattle.handles.specs.Inside.Blocks.{Sharing, sole_handle, not_yet, held_as}
 use Rattle.handles.proofs.Walks.Fields.{HandleRow, HandleWords, handle_at, one_word, words_made}
 
 -- what an unshared block's handle at (b, o) has beside what the block holds
@@ -53,14 +54,14 @@ module _ {M : Type 1} {𝓤 : Ura M} (𝓛 : Logic 𝓤) (R : RattleType) (p : P
         ∷ ‵ (beside_held R p w.limit.count η n log b o) ∷ []) ∵ move ! (1 ∷ []) $ fsplit3 ! $ move ! (2 ∷ []) $
         fsplit3 ! $
         -- [the pass; the stamp; the cell; what frees; the word; the value]
-        move ! (5 ∷ 3 ∷ []) $ fjoin ! $ move ! (4 ∷ 0 ∷ 2 ∷ []) $ fjoin3 ! $
+        fpair ! 5 3 $ move ! (4 ∷ 0 ∷ 2 ∷ []) $ fjoin3 ! $
         rewrite ! 0 (λ (z : Ptr). ‵ (unshared_block R z w η 1 log)) (sym (at_block p inb)) refl $ fjoin ! $
         rewrite ! 1 (λ (z : Ptr). ‵ (cell_at full_share (HandleRow R).mir (one_word z ∷ []) b o))
         (sym (at_block p inb)) refl $
         fpack ! (List Entry) (sole_handle R p w η n) log $ fpack ! Sharing
-        (held_as R p w η n) not_yet $ nothing_more ! $ fpack ! (InBlock p) (λ _. ftrue) inb $ fjoin ! $
+        (held_as R p w η n) not_yet $ ffact ! (InBlock p) inb $ fjoin ! $
         use0 𝓛 (‵ ((HandleWords R).own_val (p, tt) (one_word p ∷ []))) (words_made (handle_type.the_type R).name (R
-        ∷ []) 𝓛 p) $ fjoin ! $ move ! (1 ∷ 0 ∷ []) $ fjoin ! $
+        ∷ []) 𝓛 p) $ fjoin ! $ fpair ! 1 0 $
         fpack ! (List Val) (λ vs. fsep (cell_at full_share (HandleRow R).mir vs b o)
         ((HandleRow R).own_val (handle_at R p w false η n []) vs)) (one_word p ∷ []) $ done !
 
@@ -105,14 +106,14 @@ module _ (T : RattleType) where
         (lawful_Lones 𝓛 parts (limit_laws.lawful 𝓛, ((param_laws 0 T L).lawful 𝓛, tt))) (x.limit, (x.value, tt)) b o) $
         split ! $ fsplit3 ! $
         -- [the limit; the value; nothing; what is left]
-        move ! (0 ∷ 3 ∷ []) $ fjoin ! $ move ! (1 ∷ 0 ∷ []) $ fjoin ! $ keep ! (0 ∷ []) $ done !
+        fpair ! 0 3 $ fpair ! 1 0 $ keep ! (0 ∷ []) $ done !
 
     held_in : (x : (HeldRow R).Denot) (b o : ℕ)
         → ent 𝓤 (sem 𝓛 (Apart x b o)) (sem 𝓛 (part_at (HeldRow R) full_share x b o))
     unfolding part_of
     held_in x b o = qed 𝓛 (‵ (Apart x b o) ∷ []) ∵ fsplit3 ! $
         -- [the value; the limit; what is left]
-        nothing_more ! $ move ! (1 ∷ 0 ∷ []) $ fjoin ! $ move ! (1 ∷ 0 ∷ []) $ fjoin ! $
+        nothing_more ! $ fpair ! 1 0 $ fpair ! 1 0 $
         by ! (left_Struct 𝓛 full_share (held.the_type R).name parts (x.limit, (x.value, tt)) b o)
 
     -- with any value, that is the handle again
@@ -127,5 +128,5 @@ module _ (T : RattleType) where
         qed 𝓛 (‵ (part_at R full_share v pb (po + value_offset)) ∷ ‵ (Rest p l η n log b o) ∷ []) ∵
         move ! (1 ∷ []) $ fsplit ! $
         -- [the limit and what is left; what is beside what is held; the value]
-        move ! (2 ∷ 0 ∷ []) $ fjoin ! $ use1 𝓛 (‵ (part_at (HeldRow R) full_share x pb po)) (held_in x pb po) $
+        fpair ! 2 0 $ use1 𝓛 (‵ (part_at (HeldRow R) full_share x pb po)) (held_in x pb po) $
         by ! (held_back 𝓛 R p η n log b o inb x)

@@ -24,6 +24,7 @@ use Rattle.core.proofs.cell.Inside.{Good}
 use Rattle.std_alloc.specs.Box.Ownership.{box_owns}
 use Rattle.std_alloc.proofs.ResultValues.{and_tt}
 use Rattle.handles.specs.contracts.Destruct++none.drop.Key.{symbol as none}
+use Rattle.handles.proofs.Scripts.{fpair}
 pub use Rattle.std_heap.proofs.Global.TheLaws.{the_row_laws as heap_laws}
 pub use Rattle.core.proofs.alloc.Calls.{Al, handle_tells, Goes-blank}
 pub use Rattle.std_heap.specs.contracts.Global.{the_row as heap_row}
@@ -93,7 +94,7 @@ module _ (R : RattleType) where
         → Step K 𝓛 (‵ ((RawBoxRow R).own_val (record { at = block_ptr b o; alloc = a; value = x })
         (pair_val (vptr b o) h ∷ [])) ∷ Γ) G (‵ (Owned a (block_ptr b o) x) ∷ ‵ (heap_row.own_val a (h ∷ [])) ∷ Γ) G
     raw_box_shuts t b o h a x = step (λ s. let v : Val = pair_val (vptr b o) h in
-        nothing_more t $ move t (2 ∷ 0 ∷ []) $ fjoin t $
+        nothing_more t $ fpair t 2 0 $
         feq_i t (List Val) (vptr b o ∷ []) (vptr b o ∷ []) refl $ fjoin t $
         feq_i t (List Val) (v ∷ []) (v ∷ []) refl $ fjoin t $
         fpack t (Valss (RawPtr ∷ heap_row ∷ [])) (within (shape (RawBoxType R)) (to (RawBoxType R)

@@ -5,20 +5,19 @@ use base.Logic.{ent, sep, snd∗}
 use base.Before.{before}
 use base.Fraction.{full_share}
 use base.Growing.{latest}
-use base.Fml.{Lft, Incl, Incl-refl, Share, Fml, ftrue, fsep, fex, flft}
+use base.Fml.{Lft, Incl, Incl-refl, Share, Fml, fsep, fex, flft}
 use base.Share
 use contract.BorrowLft.{meet_⊑_left, ⊑_static}
 use types.Logic.{Logic, sem}
-use types.Kit.{‵, ◌⊛◌, later, some as some_of, pick, await, use2, ◌$◌, ◌∵◌, !, qed, by, move, drop, split}
-use types.Kit.{fsplit, fsplit3, fjoin, fpick, fpack, use1, updating, now, done}
+use types.Kit.{‵, ◌⊛◌, later, some as some_of, pick, await, use2, ◌$◌, ◌∵◌, !, qed, by, move, drop, split, fsplit}
+use types.Kit.{fsplit3, fpick, fpack, use1, updating, now, done}
 use types.Growing.{latest_shows, at_least_dup}
 use types.Tokens.{shr_bor_shorten, bor_new, bor_fracture}
 use denote.RattleType.{RattleType}
 use denote.RawPtr.{Ptr}
 use denote.Moves.{moves_from}
-use denote.Steps.{nothing as nothing_more}
-use denote.Sharing.{ShrLaws, said, beside, some, one, held, always}
-use denote.SharingLaws.{some_shr_laws, beside_shr_laws, one_shr_laws, always_shr_laws, held_shr_laws}
+use denote.Sharing.{ShrLaws, said, one, held}
+use denote.SharingLaws.{some_shr_laws, one_shr_laws, always_shr_laws, held_shr_laws}
 use denote.Param.Laws.{Laws}
 use Rattle.counting_word.specs.CountingWord.{marked_word}
 use Rattle.counting_word.specs.Logs.{Entry}
@@ -26,20 +25,29 @@ use Rattle.handles.specs.declared.block.permit.Logged.{Logged}
 use Rattle.handles.specs.Inside.Blocks.{HeldRow, Names, BlockId, marked, lent_share, bare_block, block_rule, shown}
 use Rattle.handles.specs.Inside.Blocks.{kept_log, logs, reached}
 use Rattle.handles.specs.Inside.Marked.{HasMark, Staying, Lasting, born_static, stays, tells_mark, marked_shares}
-use Rattle.handles.specs.Inside.Rows.{pass}
-use Rattle.handles.proofs.Blocks.Rows.{pass_cut, left_over}
-use Rattle.handles.proofs.Blocks.New.{New, begins_marked}
-use Rattle.handles.proofs.Owners.{shown-ShrLaws, counted_of, known_settles}
+use Rattle.handles.proofs.Blocks.Rows.{cut_pass}
+use Rattle.handles.proofs.Scripts.{fpair, ffact, flft_halves}
+use Rattle.handles.proofs.Blocks.New.{Held, Held_marked, New, begins_marked}
+use Rattle.handles.proofs.Owners.{block_of_handle, both_laws, shown-ShrLaws, known_settles}
+
+-- what may be had twice, and is said for good
+said_twice : (F : Fml) → ((M : Type 1) (𝓤 : Ura M) (𝓛 : Logic 𝓤) → ent 𝓤 (sem 𝓛 F) (sep 𝓤 (sem 𝓛 F) (sem 𝓛 F)))
+    → ShrLaws (said F)
+said_twice F twice = record {
+  contraction = λ M 𝓤 𝓛 κ. twice M 𝓤 𝓛;
+  mono = λ M 𝓤 𝓛 κ' κ. snd∗ 𝓤 (sem 𝓛 (before κ' κ)) (sem 𝓛 F);
+}
 
 tells-ShrLaws : (l : Logged) → ShrLaws (said (tells_mark l))
-tells-ShrLaws l = let T : Fml = tells_mark l in record {
-  contraction = λ M 𝓤 𝓛 κ. qed 𝓛 (‵ T ∷ []) ∵ fsplit ! $
+tells-ShrLaws l = said_twice T twice where
+  T : Fml
+  T = tells_mark l
+
+  twice : (M : Type 1) (𝓤 : Ura M) (𝓛 : Logic 𝓤) → ent 𝓤 (sem 𝓛 T) (sep 𝓤 (sem 𝓛 T) (sem 𝓛 T))
+  twice M 𝓤 𝓛 = qed 𝓛 (‵ T ∷ []) ∵ fsplit ! $
       use1 𝓛 (‵ (reached l.id l.log) ⊛ ‵ (reached l.id l.log)) (at_least_dup logs 𝓛 l.id.log (kept_log l.log)) $
       split ! $ move ! (2 ∷ []) $ fpick ! (λ has. drop ! $
-      nothing_more ! $ fpack ! (HasMark l.log) (λ _. ftrue) has $ move ! (1 ∷ 0 ∷ []) $ fjoin ! $
-      nothing_more ! $ fpack ! (HasMark l.log) (λ _. ftrue) has $ move ! (2 ∷ 0 ∷ []) $ fjoin ! $ done !);
-  mono = λ M 𝓤 𝓛 κ' κ. snd∗ 𝓤 (sem 𝓛 (before κ' κ)) (sem 𝓛 T);
-}
+      ffact ! (HasMark l.log) has $ fpair ! 1 0 $ ffact ! (HasMark l.log) has $ fpair ! 2 0 $ done !)
 
 module _ (R : RattleType) (L : Laws R) (p : Ptr) (d : Staying R.Denot) where
   abbrev x : (HeldRow R).Denot
@@ -49,29 +57,21 @@ module _ (R : RattleType) (L : Laws R) (p : Ptr) (d : Staying R.Denot) where
   η = d.known_by.id
 
   marked-ShrLaws : (i : Names) → ShrLaws (said (marked i))
-  marked-ShrLaws i = record {
-    contraction = λ M 𝓤 𝓛 κ. 𝓛.lfts.dead_dup (i.unmarked ∷ []);
-    mono = λ M 𝓤 𝓛 κ' κ. snd∗ 𝓤 (sem 𝓛 (before κ' κ)) (sem 𝓛 (marked i));
-  }
+  marked-ShrLaws i = said_twice (marked i) (λ M 𝓤 𝓛. 𝓛.lfts.dead_dup (i.unmarked ∷ []))
 
   shows-ShrLaws : ShrLaws (shown R p x)
   shows-ShrLaws = shown-ShrLaws R L p x η 0
 
   stays-ShrLaws : (t : Lasting) → ShrLaws (stays R p d t)
-  stays-ShrLaws t = let i : Names = t.names in let token : Lft → Fml = one (λ q. flft (i.shared ∷ []) q) in
-      let lent : Lft → Fml = one (lent_share i η t.number) in let rule : Lft → Fml = always (block_rule R p x η i) in
-      let s : Lft → Fml = held (i.shared ∷ []) (shown R p x) in
-      beside_shr_laws (said (marked i)) (beside (held [] token) (beside (held [] lent) (beside rule s)))
-      (marked-ShrLaws i) (beside_shr_laws (held [] token) (beside (held [] lent) (beside rule s))
-      (held_shr_laws [] token (one_shr_laws (λ q. flft (i.shared ∷ []) q)))
-      (beside_shr_laws (held [] lent) (beside rule s) (held_shr_laws [] lent (one_shr_laws (lent_share i η t.number)))
-      (beside_shr_laws rule s (always_shr_laws (block_rule R p x η i)) (held_shr_laws (i.shared ∷ [])
-      (shown R p x) shows-ShrLaws))))
+  stays-ShrLaws t = let i : Names = t.names in let token : Share → Fml = λ q. flft (i.shared ∷ []) q in
+      let lent : Share → Fml = lent_share i η t.number in
+      both_laws (marked-ShrLaws i) (both_laws (held_shr_laws [] (one token) (one_shr_laws token))
+      (both_laws (held_shr_laws [] (one lent) (one_shr_laws lent)) (both_laws
+      (always_shr_laws (block_rule R p x η i)) (held_shr_laws (i.shared ∷ []) (shown R p x) shows-ShrLaws))))
 
   -- what a `&` to a marked block has may be had twice, and for a shorter lifetime
   pub marked_shares-ShrLaws : ShrLaws (marked_shares R p d)
-  marked_shares-ShrLaws = beside_shr_laws (said (tells_mark d.known_by)) (some Lasting (stays R p d))
-      (tells-ShrLaws d.known_by) (some_shr_laws Lasting (stays R p d) stays-ShrLaws)
+  marked_shares-ShrLaws = both_laws (tells-ShrLaws d.known_by) (some_shr_laws Lasting (stays R p d) stays-ShrLaws)
 
   module _ {M : Type 1} {𝓤 : Ura M} (𝓛 : Logic 𝓤) where
     -- the value is seen at every lifetime
@@ -84,23 +84,20 @@ module _ (R : RattleType) (L : Laws R) (p : Ptr) (d : Staying R.Denot) where
 
     -- a counted handle of a block that a log tells to be marked, given away for good
     pub becomes_lasting : (n : ℕ) (i : Names) (κ : Lft)
-        → ent 𝓤 (sem 𝓛 (fsep (fsep (marked i) (counted_of R p x η n i)) (tells_mark d.known_by)))
+        → ent 𝓤 (sem 𝓛 (fsep (fsep (marked i) (Held (block_of_handle R L p x η n) i)) (tells_mark d.known_by)))
         (𝓛.H.⇛ (sem 𝓛 (marked_shares R p d κ)))
     becomes_lasting n i κ = let a : Lft = i.shared ∷ [] in
-        qed 𝓛 (‵ (fsep (fsep (marked i) (counted_of R p x η n i)) (tells_mark d.known_by)) ∷ []) ∵ updating ! $
+        qed 𝓛 (‵ (fsep (fsep (marked i) (Held (block_of_handle R L p x η n) i)) (tells_mark d.known_by)) ∷ []) ∵ updating ! $
         fsplit ! $ fsplit ! $ move ! (1 ∷ []) $ fsplit3 ! $ fsplit ! $ fpick ! (λ e. fsplit ! $ drop ! $
         -- [a share of the token; the pass; the rule; the sharing; the mark; the log]
-        use1 𝓛 (‵ (flft a (Share.left e)) ⊛ ‵ (flft a (Share.right e))) (𝓛.lfts.lft_split a e) $ split ! $
-        bor_new ! tt [] $ move ! (1 ∷ []) $ drop ! $ bor_fracture ! tt (λ r. flft a r) (Share.left e) $
+        flft_halves ! $ bor_new ! tt [] $ move ! (1 ∷ []) $ drop ! $ bor_fracture ! tt (λ r. flft a r) (Share.left e) $
         move ! (2 ∷ []) $
-        use1 𝓛 (‵ (pass η.living n (Share.right e)) ⊛ ‵ (left_over 𝓛 η.living n (Share.right e)))
-        (pass_cut 𝓛 η.living n (Share.right e)) $
-        split ! $ move ! (1 ∷ []) $ drop ! $ move ! (2 ∷ 0 ∷ []) $ fjoin ! $
+        cut_pass 𝓛 η.living ! n (Share.right e) $ move ! (1 ∷ []) $ drop ! $ fpair ! 2 0 $
         bor_new ! tt [] $ move ! (1 ∷ []) $ drop ! $ bor_fracture ! tt (lent_share i η n) (Share.right e) $
         -- [what is lent of the pass; of the token; the rule; the sharing; the mark; the log]
-        move ! (2 ∷ 3 ∷ []) $ fjoin ! $ move ! (1 ∷ 0 ∷ []) $ fjoin ! $ move ! (1 ∷ 0 ∷ []) $ fjoin ! $
-        move ! (1 ∷ 0 ∷ []) $ fjoin ! $ fpack ! Lasting (λ t. stays R p d t κ) (record { number = n; names = i }) $
-        move ! (1 ∷ 0 ∷ []) $ fjoin ! $
+        fpair ! 2 3 $ fpair ! 1 0 $ fpair ! 1 0 $
+        fpair ! 1 0 $ fpack ! Lasting (λ t. stays R p d t κ) (record { number = n; names = i }) $
+        fpair ! 1 0 $
         now ! $ done !)
 
 module _ (R : RattleType) (L : Laws R) (p : Ptr) (x : (HeldRow R).Denot) where
@@ -128,13 +125,13 @@ module _ (R : RattleType) (L : Laws R) (p : Ptr) (x : (HeldRow R).Denot) where
         (kept_log log) (kept_log log) (logs.same (kept_log log))) $ split ! $
         -- [the log; that it was reached; the run and the rows; the word; what is held and the stamp; the pass; the
         -- token]
-        move ! (0 ∷ 2 ∷ []) $ fjoin ! $ move ! (2 ∷ 0 ∷ []) $ fjoin ! $ move ! (0 ∷ 2 ∷ []) $ fjoin ! $
+        fpair ! 0 2 $ fpair ! 2 0 $ fpair ! 0 2 $
         -- [the block; that the log was reached; the pass; the token]
-        move ! (0 ∷ 2 ∷ []) $ fjoin ! $ move ! (0 ∷ 2 ∷ []) $
-        use2 𝓛 (later (‵ (fex Names (λ i. fsep (marked i) (counted_of R p x η 0 i))) ⊛ ‵ (flft μ q)))
-        (known_settles R L 𝓛 p x η log μ lives μ q (Incl-refl μ)) $
-        await ! tt $ split ! $ fpick ! (λ i. nothing_more ! $ fpack ! (HasMark log) (λ _. ftrue) refl $
+        fpair ! 0 2 $ move ! (0 ∷ 2 ∷ []) $
+        use2 𝓛 (later (‵ (fex Names (Held_marked (block_of_handle R L p x η 0))) ⊛ ‵ (flft μ q)))
+        (known_settles R L 𝓛 p x η 0 log μ lives μ q (Incl-refl μ)) $
+        await ! tt $ split ! $ fpick ! (λ i. ffact ! (HasMark log) refl $
         -- [the mark; the handle; the token; that the log was reached]
-        move ! (3 ∷ 0 ∷ []) $ fjoin ! $ move ! (1 ∷ 0 ∷ []) $ fjoin ! $
+        fpair ! 3 0 $ fpair ! 1 0 $
         use1 𝓛 (later (‵ (Lasts_new κ η))) (becomes_lasting R L p (staying η log) 𝓛 0 i κ) $
         await ! tt $ fpack ! BlockId (Lasts_new κ) η $ now ! $ done !))

@@ -18,10 +18,10 @@ use Rattle.std_heap.specs.contracts.Global.{the_row as heap_row}
 use Rattle.std_alloc.proofs.SendSync.{lies, seen, quiet}
 use Rattle.std.proofs.Crossing as crossing
 use Rattle.handles.proofs.block.Held.TheSendSync.{the_send as held_send, the_sync as held_sync}
-use Rattle.handles.specs.Inside.Blocks.{HeldRow, Names, BlockId, Stage, living, over, entitled, stage, logs}
-use Rattle.handles.specs.Inside.Blocks.{kept_log, reached, noted_as, stamp, sole_handle}
-use Rattle.handles.specs.Inside.Blocks.{left_at, block_type, held_offset, heap_offset, held_and_block, shown}
-use Rattle.handles.specs.Inside.Blocks.{Sharing, not_yet, begun, held_as, owned_as, shared_as}
+use Rattle.handles.specs.Inside.Blocks.{HeldRow, Names, BlockId, Stage, living, over, beside_word, entitled, stage}
+use Rattle.handles.specs.Inside.Blocks.{logs, kept_log, reached, noted_as, stamp, sole_handle, left_at, block_type}
+use Rattle.handles.specs.Inside.Blocks.{held_offset, heap_offset, held_and_block, shown, Sharing, not_yet, begun}
+use Rattle.handles.specs.Inside.Blocks.{held_as, owned_as, shared_as}
 use Rattle.handles.specs.contracts.arc.full.Full as full_type
 use Rattle.handles.specs.contracts.block.handle.Handle as handle_type
 use Rattle.handles.specs.contracts.block.marked.Marked as marked_type
@@ -59,14 +59,13 @@ noted-Keyless limit η w log = (
 stage-Keyless : (content kept : Fml) → Keyless content → Keyless kept → (limit b o : ℕ) (η : BlockId)
     (i : Names) (s : Stage)
     → Keyless (stage content kept limit b o η i s)
-stage-Keyless content kept c k limit b o η i (living false w n) = (
+stage-Keyless content kept c k limit b o η i (living mark w n) = (
   (tt, noted-Keyless limit η w),
-  ((λ _. tt), ((λ r c. tt), ((c, k), tt))),
-)
-stage-Keyless content kept c k limit b o η i (living true w n) = (
-  (tt, noted-Keyless limit η w),
-  ((λ _. tt), ((λ r c. tt), (((λ e. tt), k), tt))),
-)
+  ((λ _. tt), at mark),
+) where
+  at : (mark : Bool) → Keyless (beside_word content kept limit b o η i mark n)
+  at false = ((λ r c. tt), ((c, k), tt))
+  at true = ((λ r c. tt), (((λ e. tt), k), tt))
 stage-Keyless content kept c k limit b o η i over = (tt, tt)
 
 module _ (R : RattleType) (s : IsSend R) (y : IsSync R) where

@@ -2,17 +2,15 @@
 use lib.Bits.{bit_or}
 use Rattle.counting_word.specs.WordSteps as step
 use Rattle.handles.proofs.Steps.Asking as asking
-use Rattle.handles.proofs.Steps.Stepped.{stepped, unknown}
 use Rattle.handles.proofs.Steps.Shared.{◌≡◌, ℕ, ◌+◌, ◌^◌, ◌<◌, Bool, true, false, [], ◌∷◌, sym, refl, ◌∙◌, subst}
-use Rattle.handles.proofs.Steps.Shared.{List, Entry, by_own}
-use Rattle.handles.proofs.Steps.Shared.{arith, Ura, ftrue, Share, Fml, fsep, flft, Logic, ‵, ◌⊛◌, ◌$◌, ◌∵◌, !, qed}
-use Rattle.handles.proofs.Steps.Shared.{by, move, keep, split, fsplit, fsplit3, fjoin, fjoin3, fpick, fpack}
-use Rattle.handles.proofs.Steps.Shared.{suffices, use1, use2, done, rest, takes, mark_bit, count_of-unmarked}
+use Rattle.handles.proofs.Steps.Shared.{List, Entry, by_own, arith, Ura, ftrue, Share, Fml, fsep, flft, Logic, ‵, ◌⊛◌}
+use Rattle.handles.proofs.Steps.Shared.{◌$◌, ◌∵◌, !, qed, by, move, keep, split, fsplit, fsplit3, fjoin3, fpair}
+use Rattle.handles.proofs.Steps.Shared.{fpick, fpack, suffices, use1, done, rest, takes, mark_bit, count_of-unmarked}
 use Rattle.handles.proofs.Steps.Shared.{StandsWithin, unit_of_count, marked, SharedBlock, shared, counts, beside}
-use Rattle.handles.proofs.Steps.Shared.{rule, Entails, stays_living, Lands, Asks, passes_on, and_logged, id⊢}
-use Rattle.handles.proofs.Steps.Shared.{leb-false, marked_word, bit_or-mark_bit, stands-marked_word}
+use Rattle.handles.proofs.Steps.Shared.{rule, Entails, lives_on, Lands, Asks, and_logged, leb-false, marked_word}
+use Rattle.handles.proofs.Steps.Shared.{bit_or-mark_bit, stands-marked_word}
 use Rattle.handles.proofs.Steps.Words.{marked-stands}
-use Rattle.handles.proofs.Steps.Reads.{bare_share, own_pass, a_share, no_share}
+use Rattle.handles.proofs.Steps.Reads.{bare_share, a_share, plain_step}
 use Rattle.handles.proofs.Steps.Turns.{turns_none}
 
 -- the token is all that comes back
@@ -23,18 +21,21 @@ module _ {M : Type 1} {𝓤 : Ura M} (𝓛 : Logic 𝓤) (s : SharedBlock) (q : 
   -- an or with the mark
   pub marks : Asks 𝓛 s (λ w. bit_or w mark_bit) (fsep ftrue (a_share s q))
       (and_logged s [] (by_own s step.marks) (after_mark s q))
-  marks = stepped 𝓛 s [] ftrue (unknown 𝓛 s) (by_own s step.marks) (λ w. bit_or w mark_bit)
-      (λ w small. sym (bit_or-mark_bit w small)) (after_mark s q) (bare_share s q) (own_pass s q)
-      (λ _ _. own_pass s q) (turns_none 𝓛 s [] q (by_own s step.marks) (λ log there. there) (λ p. refl))
-      (λ j mark w n log small holds. passes_on 𝓛 s (bit_or w mark_bit) log mark n (bare_share s q)
-      (own_pass s q) (bare_share s q) (a_share s q) j (id⊢ 𝓤 _) (at j mark w n log small holds)) (no_share 𝓛 s q)
+  marks = plain_step 𝓛 s q step.marks (λ w. bit_or w mark_bit) (λ w small. sym (bit_or-mark_bit w small))
+      (turns_none 𝓛 s [] q (by_own s step.marks) (λ log there. there) (λ p. refl))
+      (λ j mark w n log small holds. subst (λ z. Marked j mark z n log) (sym (bit_or-mark_bit w small))
+      (at j mark w n log small holds))
     where
+      -- the word is z by now
+      Marked : ℕ → Bool → ℕ → ℕ → List Entry → Type 1
+      Marked j mark z n log = Lands 𝓛 s z log mark n (bare_share s q) (bare_share s q) j
+
       -- what the block had, but for its lender
       Had : ℕ → ℕ → List Entry → Fml
       Had w n log = fsep (counts s w log) (fsep (rest 64 s.names.shared n) (fsep s.kept (bare_share s q)))
 
       first_mark : (j w n : ℕ) (log : List Entry) → n < mark_bit → StandsWithin s.limit (marked_word w) true n
-          → Lands 𝓛 s (marked_word w) log false n (bare_share s q) (bare_share s q) j
+          → Marked j false (marked_word w) n log
       first_mark j w n log low holds =
           qed 𝓛 (‵ (counts s (marked_word w) log) ∷ ‵ (beside s false n) ∷ ‵ (bare_share s q) ∷ [])
           ∵ move ! (1 ∷ []) $ fsplit3 ! $ move ! (1 ∷ []) $ fsplit ! $ move ! (3 ∷ 4 ∷ 2 ∷ 1 ∷ 5 ∷ []) $
@@ -48,22 +49,16 @@ module _ {M : Type 1} {𝓤 : Ura M} (𝓛 : Logic 𝓤) (s : SharedBlock) (q : 
               (takes 64 𝓛 s.names.shared n (omega arith)) $ split ! $ move ! (1 ∷ []) $
               fpick ! (λ e. fpick ! (λ c. fpack ! Share (λ e. flft (shared s) e) e $
               -- [the pool; the parts; the mark; the word; what is kept; the token]
-              move ! (0 ∷ 4 ∷ []) $ fjoin ! $ move ! (1 ∷ 0 ∷ 2 ∷ []) $ fjoin3 ! $
-              move ! (1 ∷ 0 ∷ []) $ use2 𝓛 (‵ (rule s)) (stays_living 𝓛 s true (marked_word w) n log holds) $ done !))
+              fpair ! 0 4 $ move ! (1 ∷ 0 ∷ 2 ∷ []) $ fjoin3 ! $
+              move ! (1 ∷ 0 ∷ []) $ lives_on 𝓛 s ! true (marked_word w) n log holds $ done !))
 
-      at_word : (j : ℕ) (mark : Bool) (w n : ℕ) (log : List Entry) → w < 2 ^ 64 → StandsWithin s.limit w mark n
-          → Lands 𝓛 s (marked_word w) log mark n (bare_share s q) (bare_share s q) j
-      at_word j false w n log small holds =
+      at : (j : ℕ) (mark : Bool) (w n : ℕ) (log : List Entry) → w < 2 ^ 64 → StandsWithin s.limit w mark n
+          → Marked j mark (marked_word w) n log
+      at j false w n log small holds =
           let low : w < mark_bit = leb-false mark_bit w holds.0.same_mark in
           let same : n ≡ w = sym (holds.0.counts_live refl) ∙ count_of-unmarked w holds.0.same_mark in
           first_mark j w n log (omega arith) (marked-stands s.limit (marked_word w)
           n (stands-marked_word w n n false holds.0 (omega arith)))
-      at_word j true w n log small holds = qed 𝓛 (‵ (counts s (marked_word w) log) ∷ ‵ (beside s true n)
-          ∷ ‵ (bare_share s q) ∷ []) ∵
-          use2 𝓛 (‵ (rule s)) (stays_living 𝓛 s true (marked_word w) n log (marked-stands s.limit (marked_word w) n
-          (stands-marked_word w n n true holds.0 (omega arith)))) $ by ! (asking.closes 𝓛 (rule s) (bare_share s q) j)
-
-      at : (j : ℕ) (mark : Bool) (w n : ℕ) (log : List Entry) → w < 2 ^ 64 → StandsWithin s.limit w mark n
-          → Lands 𝓛 s (bit_or w mark_bit) log mark n (bare_share s q) (bare_share s q) j
-      at j mark w n log small holds = subst (λ z. Lands 𝓛 s z log mark n (bare_share s q) (bare_share s q) j)
-          (sym (bit_or-mark_bit w small)) (at_word j mark w n log small holds)
+      at j true w n log small holds = qed 𝓛 (‵ (counts s (marked_word w) log) ∷ ‵ (beside s true n)
+          ∷ ‵ (bare_share s q) ∷ []) ∵ lives_on 𝓛 s ! true (marked_word w) n log (marked-stands s.limit (marked_word w) n
+          (stands-marked_word w n n true holds.0 (omega arith))) $ by ! (asking.closes 𝓛 (rule s) (bare_share s q) j)

@@ -1,19 +1,17 @@
 -- A raise of the word through a `&` to a handle. Assumes `Logic`.
-use Rattle.handles.proofs.Steps.Stepped.{stepped, begun_with}
-use Rattle.handles.proofs.Steps.Shared.{fsep, ◌≡◌, ◌≢◌, ℕ, ◌+◌, ◌%◌, ◌<◌, ◌≤◌, Bool, true, false, [], ◌∷◌, sym, refl}
-use Rattle.handles.proofs.Steps.Shared.{ap, ◌∙◌, subst, arith, eq-eqb, ne_eqb, if◌then◌else◌, dite, ℕ_discrete, Ura}
-use Rattle.handles.proofs.Steps.Shared.{Share, Fml, Logic, ‵, ◌⊛◌, ◌$◌, ◌∵◌, !, qed, by, move, split, fsplit, fjoin}
-use Rattle.handles.proofs.Steps.Shared.{use1, use2, rest, takes, mark_bit, StandsFor, count_of-unmarked, nothing}
-use Rattle.handles.proofs.Steps.Shared.{a_handle, right_by_read, StandsWithin, unit_of_count, title, passed}
-use Rattle.handles.proofs.Steps.Shared.{passes_on, SharedBlock, counts, beside, rule, granted, counted_stake}
-use Rattle.handles.proofs.Steps.Shared.{stays_living, regranted, Lands, Asks, and_logged, by_own, Entry, List, eqb}
-use Rattle.handles.proofs.Steps.Shared.{leb-true, greatest_count, stands-raised, right_by_raise, reached}
 use prog.Atomic.{either}
 use Rattle.counting_word.specs.WordSteps as step
 use Rattle.handles.specs.Founds.{HasFound}
+use Rattle.handles.proofs.Steps.Stepped.{begun_with}
+use Rattle.handles.proofs.Steps.Shared.{fsep, ◌≡◌, ◌≢◌, ℕ, ◌+◌, ◌%◌, ◌<◌, ◌≤◌, Bool, true, false, [], ◌∷◌, sym, refl}
+use Rattle.handles.proofs.Steps.Shared.{ap, ◌∙◌, subst, arith, eq-eqb, ne_eqb, if◌then◌else◌, dite, ℕ_discrete, Ura}
+use Rattle.handles.proofs.Steps.Shared.{Share, Fml, Logic, ‵, ◌⊛◌, ◌$◌, ◌∵◌, !, qed, by, move, split, fsplit, fpair}
+use Rattle.handles.proofs.Steps.Shared.{use1, rest, takes, mark_bit, StandsFor, count_of-unmarked, a_handle}
+use Rattle.handles.proofs.Steps.Shared.{right_by_read, StandsWithin, unit_of_count, title, SharedBlock, counts}
+use Rattle.handles.proofs.Steps.Shared.{beside, counted_stake, lives_on, Lands, Asks, and_logged, by_own, Entry, List}
+use Rattle.handles.proofs.Steps.Shared.{eqb, leb-true, greatest_count, stands-raised, right_by_raise, reached}
 use Rattle.handles.proofs.Steps.Words.{stands-unmarked}
-use Rattle.handles.proofs.Steps.Reads.{bare_share, own_pass, a_share, bare_reported, reported, reported_passed}
-use Rattle.handles.proofs.Steps.Reads.{no_share, shut, found_marked, found_unmarked}
+use Rattle.handles.proofs.Steps.Reads.{bare_share, a_share, bare_reported, reported, shut, found, right_step}
 use Rattle.handles.proofs.Steps.Turns.{turns_raise}
 
 -- the word that a raise from `seen` to `next` makes of w
@@ -27,32 +25,28 @@ after_raise s q seen w log = reported s q w (right_by_raise seen w) log
 abbrev bare_raise : SharedBlock → Share → ℕ → ℕ → List Entry → Fml
 bare_raise s q seen w log = bare_reported s q w (right_by_raise seen w) log
 
-lost : (seen w : ℕ) → w ≢ seen → right_by_raise seen w ≡ right_by_read w
-lost seen w other = ap (λ y. if y then a_handle else right_by_read w) (ne_eqb w seen other)
-
 module _ {M : Type 1} {𝓤 : Ura M} (𝓛 : Logic 𝓤) (s : SharedBlock) (q : Share) (seen : ℕ)
     (old : List Entry) (below : seen < s.limit) (has : HasFound s.own seen old) where
+  low : seen < greatest_count
+  low = let most : s.limit ≤ greatest_count = s.most in omega (arith, below, most)
+
   -- a raise that wins
   won : (j n : ℕ) (log : List Entry) → StandsWithin s.limit seen false n
       → Lands 𝓛 s (seen + 1) log false n (bare_share s q) (bare_raise s q seen seen log) j
-  won j n log holds =
-      let most : s.limit ≤ greatest_count = s.most in let low : seen < greatest_count = omega (arith, below, most) in
+  won j n log holds = let few : seen < greatest_count = low in
       let same : n ≡ seen = sym (holds.0.counts_live refl) ∙ count_of-unmarked seen holds.0.same_mark in
-      let room : n ≢ greatest_count = λ full. absurd (omega arith) in
       let stands : StandsFor (seen + 1) false (n + 1) (n + 1) = stands-unmarked (seen + 1) (n + 1) n (n + 1)
-      (stands-raised seen n n holds.0 room) in let within : (seen + 1) % mark_bit ≤ s.limit = omega (arith, below) in
-      let next : StandsWithin s.limit (seen + 1) false (n + 1) = (stands, λ _. within) in
+      (stands-raised seen n n holds.0 (λ full. absurd (omega arith))) in
+      let within : (seen + 1) % mark_bit ≤ s.limit = omega (arith, below) in
       let wins : right_by_raise seen seen ≡ a_handle = ap (λ y. if y then a_handle else right_by_read seen)
       (eq-eqb seen seen refl) in qed 𝓛 (‵ (counts s (seen + 1) log) ∷ ‵ (beside s false n) ∷ ‵ (bare_share s q) ∷ [])
       ∵ move ! (1 ∷ []) $ fsplit ! $ use1 𝓛 (‵ (rest 64 s.names.shared (n + 1)) ⊛ ‵ (unit_of_count s.names))
       (takes 64 𝓛 s.names.shared n (omega arith)) $ split ! $
       -- [the parts; the part; the lender and the mark; the word; the token]
-      move ! (0 ∷ 2 ∷ []) $ fjoin ! $ move ! (2 ∷ 0 ∷ []) $
-      use2 𝓛 (‵ (rule s)) (stays_living 𝓛 s false (seen + 1) (n + 1) log next) $ move ! (1 ∷ []) $
+      fpair ! 0 2 $ move ! (2 ∷ 0 ∷ []) $
+      lives_on 𝓛 s ! false (seen + 1) (n + 1) log (stands, λ _. within) $ move ! (1 ∷ []) $
       use1 𝓛 (‵ (title s.names)) (counted_stake 𝓛 s.names) $
-      use1 𝓛 (‵ (granted s (right_by_raise seen seen) log)) (regranted 𝓛 s a_handle
-      (right_by_raise seen seen) log wins) $
-      move ! (1 ∷ 0 ∷ []) $ by ! (shut 𝓛 s q log (right_by_raise seen seen) j seen holds.1)
+      by ! (shut 𝓛 s q log a_handle (right_by_raise seen seen) wins j seen holds.1)
 
   is_raised : (w : ℕ) → step.word_by (step.raises_from seen) w ≡ raised seen (seen + 1) w
   is_raised w = dite (ℕ_discrete w seen)
@@ -61,22 +55,15 @@ module _ {M : Type 1} {𝓤 : Ura M} (𝓛 : Logic 𝓤) (s : SharedBlock) (q : 
       (λ other. ap (λ (b : Bool). if b then w + 1 else w) (ne_eqb w seen other)
       ∙ sym (ap (λ (b : Bool). either b (seen + 1) w) (ne_eqb w seen other)))
 
-  abbrev Also : ℕ → List Entry → Fml
-  Also w log = fsep (own_pass s q) (passed s (right_by_raise seen w) log)
-
   abbrev Raises : ℕ → Type 1
   Raises next = Asks 𝓛 s (raised seen next) (fsep (reached s.id old) (a_share s q))
       (and_logged s old (by_own s (step.raises_from seen)) (after_raise s q seen))
 
   -- a raise from a count that a read through the same handle found
   pub raises : (next : ℕ) → next ≡ seen + 1 → Raises next
-  raises next is_next = subst Raises (sym is_next)
-      (stepped 𝓛 s old (reached s.id old) (begun_with 𝓛 s old) (by_own s (step.raises_from seen))
-      (raised seen (seen + 1)) (λ w _. is_raised w) (after_raise s q seen) (bare_share s q) (own_pass s q) Also
-      (turns_raise 𝓛 s old q seen below has)
-      (λ j mark w n log small holds. passes_on 𝓛 s (raised seen (seen + 1) w) log mark n (bare_share s q) (Also w log)
-      (bare_raise s q seen w log) (after_raise s q seen w log) j (reported_passed 𝓛 s q log w (right_by_raise seen w))
-      (at j mark w n log holds)) (no_share 𝓛 s q))
+  raises next is_next = subst Raises (sym is_next) (right_step 𝓛 s q (step.raises_from seen) (raised seen (seen + 1))
+      (λ w _. is_raised w) old (reached s.id old) (begun_with 𝓛 s old) (right_by_raise seen)
+      (turns_raise 𝓛 s old q seen below has) (λ j mark w n log small holds. at j mark w n log holds))
     where
       F : ℕ → Bool → ℕ → ℕ → List Entry → Bool → Type 1
       F j mark w n log y =
@@ -84,15 +71,12 @@ module _ {M : Type 1} {𝓤 : Ura M} (𝓛 : Logic 𝓤) (s : SharedBlock) (q : 
 
       missed : (j : ℕ) (mark : Bool) (w n : ℕ) (log : List Entry) → w ≢ seen → StandsWithin s.limit w mark n
           → F j mark w n log false
-      missed j true w n log other holds = found_marked 𝓛 s q log (right_by_raise seen w)
-          (lost seen w other ∙ ap (λ y. if y then a_handle else nothing) holds.0.same_mark) j w n holds
-      missed j false w n log other holds = found_unmarked 𝓛 s q log (right_by_raise seen w)
-          (lost seen w other ∙ ap (λ y. if y then a_handle else nothing) holds.0.same_mark) j w n holds
+      missed j mark w n log other holds = found 𝓛 s q log (right_by_raise seen w) j mark w n
+          (ap (λ y. if y then a_handle else right_by_read w) (ne_eqb w seen other)) holds
 
       same_word : (j : ℕ) (mark : Bool) (n : ℕ) (log : List Entry) → StandsWithin s.limit seen mark n
           → F j mark seen n log true
-      same_word j true n log holds = let most : s.limit ≤ greatest_count = s.most in
-          let low : seen < greatest_count = omega (arith, below, most) in
+      same_word j true n log holds = let few : seen < greatest_count = low in
           let high : mark_bit ≤ seen = leb-true mark_bit seen holds.0.same_mark in absurd (omega arith)
       same_word j false n log holds = won j n log holds
 

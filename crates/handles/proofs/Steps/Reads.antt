@@ -1,14 +1,13 @@
 -- A read of the word through a `&` to a handle, and what every step through a `&` leaves. Assumes `Logic`.
 use Rattle.counting_word.specs.WordSteps as step
-use Rattle.handles.proofs.Steps.Stepped.{stepped, unknown}
-use Rattle.handles.proofs.Steps.Shared.{Entry, List, fsplit, fsplit3, done, unshared, ◌≡◌, ℕ, true, false, []}
-use Rattle.handles.proofs.Steps.Shared.{◌∷◌, ap, if◌then◌else◌, Ura, ent, never, Share, Fml, fsep, flft, Logic, sem}
-use Rattle.handles.proofs.Steps.Shared.{‵, ◌⊛◌, ◌$◌, ◌∵◌, !, qed, by, move, split, fjoin, fpack, use1, use2}
+use Rattle.handles.proofs.Steps.Stepped.{Knows, Turns, stepped, unknown}
+use Rattle.handles.proofs.Steps.Shared.{Entry, List, fsplit, fsplit3, done, unshared, ◌≡◌, ℕ, ◌^◌, ◌<◌, true, false}
+use Rattle.handles.proofs.Steps.Shared.{[], ◌∷◌, ◌∙◌, ap, if◌then◌else◌, Ura, ent, never, Share, Fml, fsep, flft}
+use Rattle.handles.proofs.Steps.Shared.{Logic, sem, ‵, ◌$◌, ◌∵◌, !, qed, by, move, fjoin, fpair, ffact, use1, use2}
 use Rattle.handles.proofs.Steps.Shared.{nothing_more, nothing, a_handle, right_by_read, StandsWithin, title}
 use Rattle.handles.proofs.Steps.Shared.{SharedBlock, shared, counts, beside, rule, granted, grants, passed, pass}
-use Rattle.handles.proofs.Steps.Shared.{Bool, passes_on, Entails, no_token, stays_living, regranted, makes_one, Lands}
-use Rattle.handles.proofs.Steps.Shared.{Asks, by_own}
-use Rattle.handles.proofs.Steps.Shared.{and_logged, refl, ftrue, IsWithin, Right, fact, id⊢}
+use Rattle.handles.proofs.Steps.Shared.{Bool, Entails, no_token, lives_on, regranted, makes_one, Lands, Asks, by_own}
+use Rattle.handles.proofs.Steps.Shared.{WordStep, word_by, and_logged, refl, ftrue, IsWithin, Right, fact, id⊢}
 use Rattle.handles.proofs.Steps.Asking as asking
 use Rattle.handles.proofs.Steps.Turns.{turns_read, turns_none}
 
@@ -44,32 +43,23 @@ module _ {M : Type 1} {𝓤 : Ura M} (𝓛 : Logic 𝓤) (s : SharedBlock) (q : 
       by ! (no_token 𝓛 (shared s) q (never 𝓤))
 
   module _ (log : List Entry) where
-    -- the invariant stands again, and the share and the right are left
-    pub shut : (r : Right) (j w : ℕ) → IsWithin w s.limit
-        → ent 𝓤 (sem 𝓛 (fsep (rule s) (fsep (granted s r log) (bare_share s q)))) (asking.Ending 𝓛 (rule s)
-        (bare_reported s q w r log) j)
-    shut r j w within = qed 𝓛 (‵ (rule s) ∷ ‵ (granted s r log) ∷ ‵ (bare_share s q) ∷ [])
-        ∵ move ! (1 ∷ []) $ nothing_more ! $ fpack ! (IsWithin w s.limit) (λ _. ftrue) within $ fjoin ! $
-        move ! (2 ∷ 0 ∷ []) $ fjoin ! $ move ! (1 ∷ 0 ∷ []) $
-        by ! (asking.closes 𝓛 (rule s) (bare_reported s q w r log) j)
+    -- the invariant stands again, and the share and the right r, as r', are left
+    pub shut : (r r' : Right) → r' ≡ r → (j w : ℕ) → IsWithin w s.limit
+        → ent 𝓤 (sem 𝓛 (fsep (granted s r log) (fsep (rule s) (bare_share s q)))) (asking.Ending 𝓛 (rule s)
+        (bare_reported s q w r' log) j)
+    shut r r' e j w within = qed 𝓛 (‵ (granted s r log) ∷ ‵ (rule s) ∷ ‵ (bare_share s q) ∷ []) ∵
+        use1 𝓛 (‵ (granted s r' log)) (regranted 𝓛 s r r' log e) $ ffact ! (IsWithin w s.limit) within $ fjoin ! $
+        fpair ! 2 0 $ move ! (1 ∷ 0 ∷ []) $ by ! (asking.closes 𝓛 (rule s) (bare_reported s q w r' log) j)
 
     -- the word is as it was, and the rest comes by what is read
-    pub found_marked : (r : Right) → r ≡ a_handle → (j w n : ℕ) → StandsWithin s.limit w true n
-        → Lands 𝓛 s w log true n (bare_share s q) (bare_reported s q w r log) j
-    found_marked r e j w n holds = qed 𝓛 (‵ (counts s w log) ∷ ‵ (beside s true n) ∷ ‵ (bare_share s q) ∷ [])
-        ∵
-        use2 𝓛 (‵ (rule s) ⊛ ‵ (title s.names)) (makes_one 𝓛 s w n log holds) $ split ! $ move ! (1 ∷ []) $
-        use1 𝓛 (‵ (granted s r log)) (regranted 𝓛 s a_handle r log e) $ move ! (1 ∷ 0 ∷ []) $
-        by ! (shut r j w holds.1)
-
-    -- a step that found no mark and gives nothing
-    pub found_unmarked : (r : Right) → r ≡ nothing → (j w n : ℕ) → StandsWithin s.limit w false n
-        → Lands 𝓛 s w log false n (bare_share s q) (bare_reported s q w r log) j
-    found_unmarked r e j w n holds = qed 𝓛 (‵ (counts s w log) ∷ ‵ (beside s false n) ∷ ‵ (bare_share s q)
-        ∷ []) ∵
-        use2 𝓛 (‵ (rule s)) (stays_living 𝓛 s false w n log holds) $ nothing_more ! $
-        use1 𝓛 (‵ (granted s r log)) (regranted 𝓛 s nothing r log e) $ move ! (1 ∷ 0 ∷ []) $
-        by ! (shut r j w holds.1)
+    pub found : (r : Right) (j : ℕ) (mark : Bool) (w n : ℕ) → r ≡ right_by_read w → StandsWithin s.limit w mark n
+        → Lands 𝓛 s w log mark n (bare_share s q) (bare_reported s q w r log) j
+    found r j true w n e holds = qed 𝓛 (‵ (counts s w log) ∷ ‵ (beside s true n) ∷ ‵ (bare_share s q) ∷ []) ∵
+        use2 𝓛 (‵ (fsep (rule s) (title s.names))) (makes_one 𝓛 s w n log holds) $ fsplit ! $ move ! (1 ∷ []) $
+        by ! (shut a_handle r (e ∙ ap (λ y. if y then a_handle else nothing) holds.0.same_mark) j w holds.1)
+    found r j false w n e holds = qed 𝓛 (‵ (counts s w log) ∷ ‵ (beside s false n) ∷ ‵ (bare_share s q) ∷ []) ∵
+        lives_on 𝓛 s ! false w n log holds $ nothing_more ! $
+        by ! (shut nothing r (e ∙ ap (λ y. if y then a_handle else nothing) holds.0.same_mark) j w holds.1)
 
     -- the passes are reported too
     pub reported_passed : (w : ℕ) (r : Right) → Entails 𝓛 (fsep (bare_reported s q w r log)
@@ -77,33 +67,39 @@ module _ {M : Type 1} {𝓤 : Ura M} (𝓛 : Logic 𝓤) (s : SharedBlock) (q : 
     reported_passed w r = qed 𝓛 (‵ (bare_reported s q w r log) ∷ ‵ (fsep (own_pass s q) (passed s r log)) ∷ []) ∵
         fsplit3 ! $ move ! (3 ∷ []) $ fsplit ! $
         -- [the pass; the pass that goes with the right; the share; what is reported; the right]
-        move ! (2 ∷ 0 ∷ []) $ fjoin ! $ move ! (3 ∷ 1 ∷ []) $ fjoin ! $ move ! (2 ∷ 0 ∷ []) $ fjoin ! $
-        move ! (1 ∷ 0 ∷ []) $ fjoin ! $ done !
+        fpair ! 2 0 $ fpair ! 3 1 $ fpair ! 2 0 $ fpair ! 1 0 $ done !
+
+  module _ (what : WordStep) (f : ℕ → ℕ) (is : (w : ℕ) → w < 2 ^ 64 → word_by what w ≡ f w) where
+    -- what such a step does while the block lives
+    abbrev ByShare : (ℕ → List Entry → Fml) → Type 1
+    ByShare bare = (j : ℕ) (mark : Bool) (w n : ℕ) (log : List Entry) → w < 2 ^ 64 → StandsWithin s.limit w mark n
+        → Lands 𝓛 s (f w) log mark n (bare_share s q) (bare w log) j
+
+    -- a step that leaves its maker the share alone
+    pub plain_step : Turns 𝓛 s [] (by_own s what) (own_pass s q) (λ _ _. own_pass s q)
+        → ByShare (λ _ _. bare_share s q)
+        → Asks 𝓛 s f (fsep ftrue (a_share s q)) (and_logged s [] (by_own s what) (λ _ _. a_share s q))
+    plain_step turns steps = stepped 𝓛 s [] ftrue (unknown 𝓛 s) (by_own s what) f is (λ _ _. bare_share s q)
+        (λ _ _. a_share s q) (bare_share s q) (own_pass s q) (λ _ _. own_pass s q) turns (λ _ _. id⊢ 𝓤 _) steps no_share
+
+    -- a step that leaves a right, by the word that it found
+    pub right_step : (old : List Entry) (Old : Fml) → Knows 𝓛 s old Old → (r : ℕ → Right)
+        → Turns 𝓛 s old (by_own s what) (own_pass s q) (λ w log. fsep (own_pass s q) (passed s (r w) log))
+        → ByShare (λ w log. bare_reported s q w (r w) log)
+        → Asks 𝓛 s f (fsep Old (a_share s q)) (and_logged s old (by_own s what) (λ w log. reported s q w (r w) log))
+    right_step old Old known r turns steps = stepped 𝓛 s old Old known (by_own s what) f is
+        (λ w log. bare_reported s q w (r w) log) (λ w log. reported s q w (r w) log) (bare_share s q) (own_pass s q)
+        (λ w log. fsep (own_pass s q) (passed s (r w) log)) turns (λ w log. reported_passed log w (r w)) steps no_share
 
   -- a load that only asks
   pub asks : Asks 𝓛 s (λ w. w) (fsep ftrue (a_share s q))
       (and_logged s [] (by_own s step.asks) (λ _ _. a_share s q))
-  asks = stepped 𝓛 s [] ftrue (unknown 𝓛 s) (by_own s step.asks) (λ w. w) (λ w _. refl) (λ _ _. a_share s q)
-      (bare_share s q) (own_pass s q) (λ _ _. own_pass s q)
-      (turns_none 𝓛 s [] q (by_own s step.asks) (λ log there. there) (λ p. refl))
-      (λ j mark w n log small holds. passes_on 𝓛 s w log mark n (bare_share s q) (own_pass s q)
-      (bare_share s q) (a_share s q) j (id⊢ 𝓤 _)
-      (qed 𝓛 (‵ (counts s w log) ∷ ‵ (beside s mark n) ∷ ‵ (bare_share s q) ∷ []) ∵
-      use2 𝓛 (‵ (rule s)) (stays_living 𝓛 s mark w n log holds) $ by ! (asking.closes 𝓛 (rule s) (bare_share s q) j)))
-      no_share
+  asks = plain_step step.asks (λ w. w) (λ w _. refl)
+      (turns_none 𝓛 s [] q (by_own s step.asks) (λ log there. there) (λ p. refl)) (λ j mark w n log small holds.
+      qed 𝓛 (‵ (counts s w log) ∷ ‵ (beside s mark n) ∷ ‵ (bare_share s q) ∷ []) ∵
+      lives_on 𝓛 s ! mark w n log holds $ by ! (asking.closes 𝓛 (rule s) (bare_share s q) j))
 
   -- a load that makes a handle if it finds the mark
   pub reads : Asks 𝓛 s (λ w. w) (fsep ftrue (a_share s q)) (and_logged s [] (by_own s step.reads) (after_read s q))
-  reads = stepped 𝓛 s [] ftrue (unknown 𝓛 s) (by_own s step.reads) (λ w. w) (λ w _. refl) (after_read s q)
-      (bare_share s q) (own_pass s q) (λ w log. fsep (own_pass s q) (passed s (right_by_read w) log))
-      (turns_read 𝓛 s [] q)
-      (λ j mark w n log small holds. passes_on 𝓛 s w log mark n (bare_share s q) (fsep (own_pass s q)
-      (passed s (right_by_read w) log)) (bare_reported s q w (right_by_read w) log) (after_read s q w log) j
-      (reported_passed log w (right_by_read w)) (at j mark w n log holds)) no_share
-    where
-      at : (j : ℕ) (mark : Bool) (w n : ℕ) (log : List Entry) → StandsWithin s.limit w mark n
-          → Lands 𝓛 s w log mark n (bare_share s q) (bare_reported s q w (right_by_read w) log) j
-      at j true w n log holds = found_marked log (right_by_read w)
-          (ap (λ y. if y then a_handle else nothing) holds.0.same_mark) j w n holds
-      at j false w n log holds = found_unmarked log (right_by_read w)
-          (ap (λ y. if y then a_handle else nothing) holds.0.same_mark) j w n holds
+  reads = right_step step.reads (λ w. w) (λ w _. refl) [] ftrue (unknown 𝓛 s) right_by_read (turns_read 𝓛 s [] q)
+      (λ j mark w n log small holds. found log (right_by_read w) j mark w n refl holds)

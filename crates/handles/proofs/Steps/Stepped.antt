@@ -3,7 +3,6 @@
 use seplogic.Ra.Ura.{Ura}
 use base.Fraction.{full_share}
 use types.Logic.{Logic, sem}
-use denote.Steps.{nothing as nothing_more}
 use Rattle.handles.proofs.Steps.Framing.{shifted_framed}
 use Rattle.handles.proofs.Steps.Asking as asking
 use types.Growing.{latest_grows, latest_shows, latest_bounds}
@@ -12,11 +11,11 @@ use Rattle.handles.proofs.Steps.Shared.{SharedBlock, rule, beside, at_stage, and
 use Rattle.handles.proofs.Steps.Shared.{List, ◌≡◌, ℕ, ◌^◌, ◌<◌, Bool, [], ◌∷◌, sym, subst, ap, refl, ◌∙◌, ex, upd}
 use Rattle.handles.proofs.Steps.Shared.{upd_i, via, never_e, SProp, ent, sep, never, ftrue, Fml, fsep, given, learn}
 use Rattle.handles.proofs.Steps.Shared.{check, show, assume, ‵, ◌⊛◌, ◌$◌, ◌∵◌, !, qed, by, move, keep, drop, split}
-use Rattle.handles.proofs.Steps.Shared.{fsplit, fsplit3, fjoin, fjoin3, fpick, fpack, frame, suffices, use1, use2}
-use Rattle.handles.proofs.Steps.Shared.{done, word, living, StandsWithin, unshared, rows, noted_as, adds, Stage}
+use Rattle.handles.proofs.Steps.Shared.{fsplit, fsplit3, fjoin3, fpair, ffact, fpick, fpack, frame, suffices, use1}
+use Rattle.handles.proofs.Steps.Shared.{use2, done, word, living, StandsWithin, unshared, rows, noted_as, adds, Stage}
 use Rattle.handles.proofs.Steps.Shared.{over, logs, kept_log, reached, Entry, word_after, left_by, tally_of}
-use Rattle.handles.proofs.Steps.Shared.{coded_entry, MayMake, IsTallied, Keeps, Adds}
-use Rattle.handles.proofs.Steps.Shared.{keeps-counts, keeps-more, settle, raw, latest, IsPrefix, ◌++◌, ap₂}
+use Rattle.handles.proofs.Steps.Shared.{coded_entry, MayMake, IsTallied, Keeps, Adds, keeps-counts, keeps-more}
+use Rattle.handles.proofs.Steps.Shared.{settle, raw, latest, IsPrefix, ◌++◌, ap₂}
 
 module _ {M : Type 1} {𝓤 : Ura M} (𝓛 : Logic 𝓤) (s : SharedBlock) where
   open 𝓛 use {H, A}
@@ -68,8 +67,7 @@ module _ {M : Type 1} {𝓤 : Ura M} (𝓛 : Logic 𝓤) (s : SharedBlock) where
           move ! (1 ∷ []) $ fpick ! (λ left. drop ! $ move ! (2 ∷ []) $ fsplit ! $
           -- [what is known of the log; the passes; the log; the rows]
           move ! (2 ∷ 0 ∷ []) $ use2 𝓛 (given (IsPrefix old log) (‵ (latest logs full_share γ (kept_log log))))
-          (known log)
-          $ learn ! (λ begun. move ! (1 ∷ 2 ∷ []) $
+          (known log) $ learn ! (λ begun. move ! (1 ∷ 2 ∷ []) $
           use2 𝓛 (given (MayMake s.limit (tally_of log) e) (‵ (fsep (T' w more) (rows s.id (tally_of more)))))
           (turns log begun (keeps-counts s.limit s.most log w left)) $ learn ! (λ may. move ! (1 ∷ []) $
           -- [the log; the passes and the rows]
@@ -77,75 +75,77 @@ module _ {M : Type 1} {𝓤 : Ura M} (𝓛 : Logic 𝓤) (s : SharedBlock) where
           (kept_log more) (begins log)) $ settle 𝓛 Z (‵ (latest logs full_share γ (kept_log more))) $
           use1 𝓛 (‵ (latest logs full_share γ (kept_log more)) ⊛ ‵ (reached s.id more))
           (latest_shows logs 𝓛 full_share γ (kept_log more) (kept_log more) (logs.same (kept_log more))) $ split ! $
-          suffices ! _ (upd_i 𝓤 Z) $ nothing_more ! $ fpack ! (Keeps s.limit more v) (λ _. ftrue)
+          suffices ! _ (upd_i 𝓤 Z) $ ffact ! (Keeps s.limit more v)
           (subst (Keeps s.limit more) is (keeps-more s.limit log w e left may)) $ move ! (3 ∷ []) $ fsplit ! $
           -- [the passes; the rows; that it is a run; the log; that it was reached]
-          move ! (3 ∷ 2 ∷ 1 ∷ []) $ fjoin3 ! $ move ! (0 ∷ 1 ∷ []) $ fjoin ! $ move ! (1 ∷ []) $
-          nothing_more ! $ fpack ! (Adds s.limit old e w more) (λ _. ftrue) (added log w left may begun) $
-          move ! (1 ∷ 0 ∷ []) $ fjoin ! $ move ! (1 ∷ 0 ∷ []) $ fjoin ! $ done !)))
+          move ! (3 ∷ 2 ∷ 1 ∷ []) $ fjoin3 ! $ fpair ! 0 1 $ move ! (1 ∷ []) $
+          ffact ! (Adds s.limit old e w more) (added log w left may begun) $
+          fpair ! 1 0 $ fpair ! 1 0 $ done !)))
 
   -- A step is proved by what it does on a living block: its maker has X, which no block that is over leaves to
-  -- anyone. It goes into the log.
+  -- anyone, and gets `bare`. It goes into the log, and with the passes that its entry leaves `bare` is `after`.
   module _ (old : List Entry) (Old : Fml) (known : Knows old Old) (e : Entry) (f : ℕ → ℕ)
-      (is : (w : ℕ) → w < 2 ^ 64 → word_after e.kind w ≡ f w) (after : ℕ → List Entry → Fml) (X T : Fml)
-      (T' : ℕ → List Entry → Fml) (turns : Turns old e T T') where
+      (is : (w : ℕ) → w < 2 ^ 64 → word_after e.kind w ≡ f w) (bare after : ℕ → List Entry → Fml) (X T : Fml)
+      (T' : ℕ → List Entry → Fml) (turns : Turns old e T T')
+      (joined : (w : ℕ) (log : List Entry) → ent 𝓤 (sem 𝓛 (fsep (bare w log) (T' w log))) (sem 𝓛 (after w log))) where
     -- what the step does while the block lives
     abbrev pub Steps : Type 1
     Steps = (j : ℕ) (mark : Bool) (w n : ℕ) (log : List Entry) → w < 2 ^ 64 → StandsWithin s.limit w mark n
-        → Lands 𝓛 s (f w) log mark n (fsep X (T' w log)) (after w log) j
+        → Lands 𝓛 s (f w) log mark n X (bare w log) j
 
-    abbrev Ready : ℕ → List Entry → Fml
-    Ready w log = Recorded old Old known e T T' w (f w) log
+    abbrev Left : ℕ → Fml
+    Left = and_logged s old e after
+
+    -- what its maker has
+    abbrev Has : Fml
+    Has = fsep Old (fsep X T)
 
     -- then it may be asked for, and leaves its entry in the log
-    pub stepped : Steps → ent 𝓤 (sem 𝓛 (fsep (unshared s.names) X)) (never 𝓤)
-        → Asks 𝓛 s f (fsep Old (fsep X T)) (and_logged s old e after)
-    stepped steps over-not = asking.opened 𝓛 (rule s) s.block s.offset f (and_logged s old e after)
-        (fsep Old (fsep X T)) (λ j. qed 𝓛 (‵ (rule s) ∷ ‵ (fsep Old (fsep X T)) ∷ [])
-        ∵ fpick ! (λ g. by ! (at j g)))
+    pub stepped : Steps → ent 𝓤 (sem 𝓛 (fsep (unshared s.names) X)) (never 𝓤) → Asks 𝓛 s f Has Left
+    stepped steps over-not = asking.opened 𝓛 (rule s) s.block s.offset f Left Has
+        (λ j. qed 𝓛 (‵ (rule s) ∷ ‵ Has ∷ []) ∵ fpick ! (λ g. by ! (at j g)))
       where
-        Goes : ℕ → SProp 𝓤
-        Goes j = ex 𝓤 (asking.Lies 𝓛 (rule s) s.block s.offset f (and_logged s old e after) j)
+        Lies : ℕ → ℕ → SProp 𝓤
+        Lies j = asking.Lies 𝓛 (rule s) s.block s.offset f Left j
 
-        swaps : (w : ℕ) (log : List Entry)
-            → ent 𝓤 (sep 𝓤 (sem 𝓛 (after w log)) (sem 𝓛 (adds s.limit s.id old e w log)))
-            (sem 𝓛 (and_logged s old e after w))
-        swaps w log = qed 𝓛 (‵ (after w log) ∷ ‵ (adds s.limit s.id old e w log) ∷ [])
-            ∵ move ! (1 ∷ 0 ∷ []) $ fjoin ! $
+        Goes : ℕ → SProp 𝓤
+        Goes j = ex 𝓤 (Lies j)
+
+        swaps : (w : ℕ) (log : List Entry) → ent 𝓤 (sep 𝓤 (sem 𝓛 (bare w log))
+            (sem 𝓛 (fsep (T' w log) (adds s.limit s.id old e w log)))) (sem 𝓛 (Left w))
+        swaps w log = qed 𝓛 (‵ (bare w log) ∷ ‵ (fsep (T' w log) (adds s.limit s.id old e w log)) ∷ []) ∵
+            move ! (1 ∷ []) $ fsplit ! $ move ! (2 ∷ 0 ∷ []) $ use2 𝓛 (‵ (after w log)) (joined w log) $ fpair ! 1 0 $
             fpack ! (List Entry) (λ log. fsep (adds s.limit s.id old e w log) (after w log)) log $ done !
 
-        made : (j : ℕ) (mark : Bool) (w n : ℕ) (log : List Entry) → StandsWithin s.limit w mark n → w < 2 ^ 64
-            → ent 𝓤 (sem 𝓛 (fsep (word s.block s.offset w) (fsep (noted_as s.limit s.id w log)
-            (fsep (beside s mark n) (fsep Old (fsep X T)))))) (upd 𝓤 (Goes j))
-        made j mark w n log holds small = let more : List Entry = log ++ e ∷ [] in
-            qed 𝓛 (‵ (fsep (word s.block s.offset w) (fsep (noted_as s.limit s.id w log)
-            (fsep (beside s mark n) (fsep Old (fsep X T))))) ∷ []) ∵ fsplit3 ! $ move ! (2 ∷ []) $ fsplit3 ! $
-            move ! (2 ∷ []) $ fsplit ! $
-            -- [what its maker has; the passes; what is beside the word; what is known of the log; the word; the log]
-            move ! (3 ∷ 1 ∷ []) $ fjoin ! $ move ! (4 ∷ 0 ∷ []) $ fjoin ! $
-            use1 𝓛 (raw (upd 𝓤 (sem 𝓛 (Ready w more)))) (records old Old known e T T' w (f w) (is w small)
-            (turns w) log)
-            $ settle 𝓛 (Goes j) (‵ (Ready w more)) $
-            fsplit ! $ fsplit ! $
-            -- [the log; the passes; what is in it; what its maker has; what is beside the word; the word]
-            suffices ! _ (upd_i 𝓤 (Goes j)) $ show ! (asking.Lies 𝓛 (rule s) s.block s.offset f
-            (and_logged s old e after) j) w $ move ! (5 ∷ []) $ frame ! $
-            assume ! (‵ (word s.block s.offset (f w))) $
-            move ! (0 ∷ 1 ∷ []) $ fjoin ! $ move ! (3 ∷ 1 ∷ []) $ fjoin ! $ move ! (1 ∷ 3 ∷ 0 ∷ []) $ fjoin3 ! $
-            use1 𝓛 (raw (asking.Ending 𝓛 (rule s) (after w more) j)) (steps j mark w n more small holds) $
-            by ! (shifted_framed 𝓛 (sem 𝓛 (after w more)) (sem 𝓛 (and_logged s old e after w))
-            (sem 𝓛 (adds s.limit s.id old e w more)) (swaps w more) ((j, rule s) ∷ []))
+        Found : Bool → ℕ → ℕ → List Entry → Fml
+        Found mark w n log =
+            fsep (word s.block s.offset w) (fsep (noted_as s.limit s.id w log) (fsep (beside s mark n) Has))
 
-        at : (j : ℕ) (g : Stage) → ent 𝓤 (sem 𝓛 (fsep (at_stage s g) (fsep Old (fsep X T))))
-            (upd 𝓤 (Goes j))
-        at j (living mark w n) = qed 𝓛 (‵ (at_stage s (living mark w n)) ∷ ‵ (fsep Old (fsep X T)) ∷ [])
-            ∵
+        made : (j : ℕ) (mark : Bool) (w n : ℕ) (log : List Entry) → StandsWithin s.limit w mark n → w < 2 ^ 64
+            → ent 𝓤 (sem 𝓛 (Found mark w n log)) (upd 𝓤 (Goes j))
+        made j mark w n log holds small = let more : List Entry = log ++ e ∷ [] in
+            let Ready : Fml = Recorded old Old known e T T' w (f w) more in
+            qed 𝓛 (‵ (Found mark w n log) ∷ []) ∵ fsplit3 ! $ move ! (2 ∷ []) $ fsplit3 ! $ move ! (2 ∷ []) $ fsplit ! $
+            -- [what its maker has; the passes; what is beside the word; what is known of the log; the word; the log]
+            fpair ! 3 1 $ fpair ! 4 0 $
+            use1 𝓛 (raw (upd 𝓤 (sem 𝓛 Ready))) (records old Old known e T T' w (f w) (is w small) (turns w) log) $
+            settle 𝓛 (Goes j) (‵ Ready) $ fsplit ! $ fsplit ! $
+            -- [the log; the passes; what is in it; what its maker has; what is beside the word; the word]
+            suffices ! _ (upd_i 𝓤 (Goes j)) $ show ! (Lies j) w $ move ! (5 ∷ []) $ frame ! $
+            assume ! (‵ (word s.block s.offset (f w))) $
+            fpair ! 0 1 $ move ! (0 ∷ 4 ∷ 3 ∷ []) $ fjoin3 ! $
+            use1 𝓛 (raw (asking.Ending 𝓛 (rule s) (bare w more) j)) (steps j mark w n more small holds) $
+            fpair ! 1 2 $ move ! (1 ∷ 0 ∷ []) $
+            by ! (shifted_framed 𝓛 (sem 𝓛 (bare w more)) (sem 𝓛 (Left w))
+            (sem 𝓛 (fsep (T' w more) (adds s.limit s.id old e w more))) (swaps w more) ((j, rule s) ∷ []))
+
+        at : (j : ℕ) (g : Stage) → ent 𝓤 (sem 𝓛 (fsep (at_stage s g) Has)) (upd 𝓤 (Goes j))
+        at j (living mark w n) = qed 𝓛 (‵ (at_stage s (living mark w n)) ∷ ‵ Has ∷ []) ∵
             move ! (1 ∷ []) $ move ! (1 ∷ []) $ fsplit3 ! $ move ! (1 ∷ []) $ fpick ! (λ holds. drop ! $ fsplit ! $
             fits 𝓛 s ! w (λ small. move ! (1 ∷ []) $ fpick ! (λ log.
             -- [the log; the word; what is beside it; what its maker has]
-            move ! (2 ∷ 3 ∷ []) $ fjoin ! $ move ! (2 ∷ 1 ∷ 0 ∷ []) $ fjoin3 ! $ by !
-            (made j mark w n log holds small))))
-        at j over = qed 𝓛 (‵ (at_stage s over) ∷ ‵ (fsep Old (fsep X T)) ∷ []) ∵ move ! (1 ∷ []) $
+            fpair ! 2 3 $ move ! (2 ∷ 1 ∷ 0 ∷ []) $ fjoin3 ! $ by ! (made j mark w n log holds small))))
+        at j over = qed 𝓛 (‵ (at_stage s over) ∷ ‵ Has ∷ []) ∵ move ! (1 ∷ []) $
             fsplit3 ! $ move ! (3 ∷ []) $ fsplit ! $ keep ! (0 ∷ 3 ∷ []) $ by ! (via 𝓤 (never 𝓤) over-not (never_e 𝓤 _))
 
   -- nothing is known of the log

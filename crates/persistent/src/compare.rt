@@ -21,7 +21,7 @@ impl<T: PartialEq> PartialEq for List<T> {
     ghost laws = { lists_per T.laws };
 
     fn eq(&self, other: &List<T>) -> bool {
-        self.len() == other.len() && self.into_iter().zip(other).all(|(x, y)| x == y)
+        self.len() == other.len() && self.into_iter().eq(other)
     }
 }
 
@@ -57,7 +57,7 @@ impl<K: Ord, V: PartialEq> PartialEq for TreeMap<K, V> {
     ghost laws = { lists_per (and_per (on_per (λ e. e.0) K.PartialEq.laws) (on_per (λ e. e.1) V.laws)) };
 
     fn eq(&self, other: &TreeMap<K, V>) -> bool {
-        self.len() == other.len() && self.into_iter().zip(other).all(|(x, y)| x == y)
+        self.len() == other.len() && self.into_iter().eq(other)
     }
 }
 
@@ -74,20 +74,7 @@ impl<K: Ord, V: PartialOrd> PartialOrd for TreeMap<K, V> {
     ghost laws = { lists_po (then_po (on_po (λ e. e.0) K.PartialOrd.laws) (on_po (λ e. e.1) V.PartialOrd.laws)) };
 
     fn partial_cmp(&self, other: &TreeMap<K, V>) -> Option<Ordering> {
-        let mut others = other.iter();
-        for entry in self {
-            let Some(other) = others.next() else {
-                return Some(Ordering::Greater);
-            };
-            let order = entry.partial_cmp(other);
-            if order != Some(Ordering::Equal) {
-                return order;
-            }
-        }
-        match others.next() {
-            Some(_) => Some(Ordering::Less),
-            None => Some(Ordering::Equal),
-        }
+        self.into_iter().partial_cmp(other)
     }
 }
 

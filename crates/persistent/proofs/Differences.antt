@@ -1,251 +1,186 @@
--- What differs between two maps, as far as both have been gone through.
-use Rattle.std.proofs.Common.{◌≡◌, true, false, Bool, cond, List, [], ◌∷◌, ◌++◌, map, refl, ap, sym, ◌∙◌, subst}
-use Rattle.std.proofs.Common.{append-nil}
+-- What differs between two maps, from the first keys on.
+use Rattle.std.proofs.Common.{◌≡◌, ◌∙◌, ◌+◌, ◌<◌, true, false, Bool, cond, List, [], ◌∷◌, ◌++◌, refl, ap, sym, subst}
+use Rattle.std.proofs.Common.{append-nil, append_assoc, arith, drop, length, option_map, option_to_list}
 use Rattle.std.specs.Prelude.{Option, None, Some}
 use Rattle.std.specs.Borrow.{Bor}
 use Rattle.std.specs.declared.cmp.Ordering.{Ordering}
-use Rattle.std.specs.declared.cmp.Ordering.TheVariants.{Equal}
+use Rattle.std.specs.declared.cmp.Ordering.TheVariants.{Less, Equal, Greater}
 use Rattle.std.specs.Cmp.{IsTotalOrder}
-use Rattle.std.specs.Iterator.{YieldsFirstRef}
-use Rattle.std.specs.Ordering.{is_eq}
+use Rattle.std.specs.Ordering.{is_eq, is_ge, is_le}
 use Rattle.std.proofs.lemmas.Cmp.{alike_right}
 use Rattle.std.proofs.lemmas.List.{map-append}
 use Rattle.persistent.specs.declared.map.diff.Change.{Change}
-use Rattle.persistent.specs.Differences.{difference, listed, sides}
+use Rattle.persistent.specs.Differences.{as_entry, change_of, difference, first_change, listed, sides}
 use Rattle.persistent.specs.Maps.{IsRising, lookup}
 use Rattle.persistent.specs.Places.{AreAbove}
 use Rattle.persistent.proofs.Between.{lookup_none}
-use Rattle.persistent.proofs.Order.{Rises, above_alike, eq_from, from, to}
+use Rattle.persistent.proofs.Order.{Rises, above_alike, above_more, eq_from, from, to, turned}
 
--- the first of two that is there
-abbrev or_else : {X : Type 0} → Option X → Option X → Option X
-or_else None other = other
-or_else (Some x) other = Some x
+-- one more change, if it is there, stands before what follows
+listed_more : {K V : Type 0} (changes more : List (Bor K × Change V)) (change : Option (Bor K × Change V))
+    (cs : List (K × (Option V × Option V))) → more ≡ changes ++ option_to_list change
+    → listed more ++ cs ≡ listed changes ++ (option_to_list (option_map as_entry change) ++ cs)
+listed_more changes more None cs is = ap (λ xs. listed xs ++ cs) (is ∙ append-nil changes)
+listed_more changes more (Some c) cs is =
+    ap (λ xs. listed xs ++ cs) is ∙ ap (λ xs. xs ++ cs) (map-append (λ c. (c.0.now, sides c.1)) changes (c ∷ []))
+    ∙ append_assoc (listed changes) (as_entry c ∷ []) cs
 
-or_else_none : {X : Type 0} (x : Option X) → or_else x None ≡ x
-or_else_none None = refl
-or_else_none (Some x) = refl
+-- what is left once the first item was passed, or was not
+abbrev pub past : {X : Type 0} → Bool → List X → List X
+past goes xs = cond goes (drop 1 xs) xs
 
-or_else_assoc : {X : Type 0} (x y z : Option X) → or_else (or_else x y) z ≡ or_else x (or_else y z)
-or_else_assoc None y z = refl
-or_else_assoc (Some x) y z = refl
+module _ {K V : Type 0} (cmp : K → K → Ordering) (eq : V → V → Bool) where
+  -- these are the differences of two maps
+  pub record AreBetween (es fs : List (K × V)) (cs : List (K × (Option V × Option V))) : Type 0 where
+    pub above : (k : K) → AreAbove cmp k es → AreAbove cmp k fs → AreAbove cmp k cs
+    pub rises : Rises cmp es → Rises cmp fs → Rises cmp cs
+    pub under : Rises cmp es → Rises cmp fs → (k : K) → lookup cmp k cs ≡ difference eq (lookup cmp k es) (lookup cmp k fs)
 
-none_either : {X : Type 0} (t : Bool) (x : Option X) → or_else (cond t None None) x ≡ x
-none_either true x = refl
-none_either false x = refl
+  pub between_none : AreBetween [] [] []
+  between_none = record { above = λ k a b. tt; rises = λ r s. tt; under = λ r s k. refl }
 
--- a front entry and the entries behind it
-abbrev pub left : {X : Type 0} → Option (Bor X) → List X → List X
-left None rest = []
-left (Some first) rest = first.now ∷ rest
+  -- whatever differs behind the first change, that change stands before it
+  abbrev Leads : List (K × V) → List (K × V) → Option (Ordering × Option (K × (Option V × Option V))) → Type 0
+  Leads es fs None = Unit {0}
+  Leads es fs (Some s) = (cs : List (K × (Option V × Option V))) → AreBetween (past (is_le s.0) es) (past (is_ge s.0) fs) cs
+      → AreBetween es fs (option_to_list s.1 ++ cs)
 
-module _ {K V : Type 0} (cmp : K → K → Ordering) where
-  cond_or : (b : Bool) (v : V) (x y : Option V) → cond b (Some v) (or_else x y) ≡ or_else (cond b (Some v) x) y
-  cond_or true v x y = refl
-  cond_or false v x y = refl
+  -- each step passes an entry
+  abbrev Falls : List (K × V) → List (K × V) → Option (Ordering × Option (K × (Option V × Option V))) → Type 0
+  Falls es fs None = Unit {0}
+  Falls es fs (Some s) = length (past (is_le s.0) es) + length (past (is_ge s.0) fs) < length es + length fs
 
-  -- what stands under a key in two lists
-  lookup_both : (k : K) (xs ys : List (K × V)) → lookup cmp k (xs ++ ys) ≡ or_else (lookup cmp k xs) (lookup cmp k ys)
-  lookup_both k [] ys = refl
-  lookup_both k (x ∷ xs) ys =
-      ap (λ o. cond (is_eq (cmp k x.0)) (Some x.1) o) (lookup_both k xs ys)
-      ∙ cond_or (is_eq (cmp k x.0)) x.1 (lookup cmp k xs) (lookup cmp k ys)
+  falls : (es fs : List (K × V)) → Falls es fs (first_change cmp eq es fs)
+  falls [] [] = tt
+  falls (e ∷ es) [] = omega arith
+  falls [] (f ∷ fs) = omega arith
+  falls (e ∷ es) (f ∷ fs) = elim (cmp e.0 f.0) as (λ o. Falls (e ∷ es) (f ∷ fs) (Some (o, change_of eq o e f))) [
+    | Less ↦ omega arith
+    | Equal ↦ omega arith
+    | Greater ↦ omega arith
+  ]
 
-  -- the keys alone
-  abbrev keyed : List (K × V) → List (K × Unit {0})
-  keyed es = map (λ e. (e.0, tt)) es
+  -- so less is left after it
+  pub falls_after : (es fs as_es as_fs : List (K × V)) (o : Ordering) (change : Option (K × (Option V × Option V)))
+      → Some (o, change) ≡ first_change cmp eq es fs → as_es ≡ past (is_le o) es → as_fs ≡ past (is_ge o) fs
+      → length as_es + length as_fs < length es + length fs
+  falls_after es fs as_es as_fs o change first olds news =
+      subst (λ xs. length xs + length as_fs < length es + length fs) (sym olds)
+      (subst (λ ys. length (past (is_le o) es) + length ys < length es + length fs) (sym news)
+      (subst (Falls es fs) (sym first) (falls es fs)))
 
-  above_keyed : (k : K) (es : List (K × V)) → AreAbove cmp k es → AreAbove cmp k (keyed es)
-  above_keyed k [] a = tt
-  above_keyed k (e ∷ es) a = (a.0, above_keyed k es a.1)
-
-  rises_keyed : (es : List (K × V)) → Rises cmp es → Rises cmp (keyed es)
-  rises_keyed [] s = tt
-  rises_keyed (e ∷ es) s = (above_keyed e.0 es s.0, rises_keyed es s.1)
-
-  above_of_keyed : (k : K) (es : List (K × V)) → AreAbove cmp k (keyed es) → AreAbove cmp k es
-  above_of_keyed k [] a = tt
-  above_of_keyed k (e ∷ es) a = (a.0, above_of_keyed k es a.1)
-
-  rises_of_keyed : (es : List (K × V)) → Rises cmp (keyed es) → Rises cmp es
-  rises_of_keyed [] s = tt
-  rises_of_keyed (e ∷ es) s = (above_of_keyed e.0 es s.0, rises_of_keyed es s.1)
-
-  keyed_more : (es : List (K × V)) (q : K) (v : V) (r : List (K × Unit {0}))
-      → keyed (es ++ (q, v) ∷ []) ++ r ≡ keyed es ++ (q, tt) ∷ r
-  keyed_more [] q v r = refl
-  keyed_more (e ∷ es) q v r = ap (λ ks. (e.0, tt) ∷ ks) (keyed_more es q v r)
-
-module _ {K X : Type 0} (cmp : K → K → Ordering) where
-  above_into : (k : K) (l : List (K × X)) (x : K × X) (r s : List (K × X)) → AreAbove cmp k (l ++ x ∷ r)
-      → AreAbove cmp k (l ++ s) → AreAbove cmp k (l ++ x ∷ s)
-  above_into k [] x r s a b = (a.0, b)
-  above_into k (y ∷ l) x r s a b = (a.0, above_into k l x r s a.1 b.1)
-
-  -- an entry goes in front of others that it is below
-  rises_into : (l : List (K × X)) (x : K × X) (r s : List (K × X)) → Rises cmp (l ++ x ∷ r) → AreAbove cmp x.0 s
-      → Rises cmp (l ++ s) → Rises cmp (l ++ x ∷ s)
-  rises_into [] x r s a above b = (above, b)
-  rises_into (y ∷ l) x r s a above b =
-      (above_into y.0 l x r s a.0 b.0, rises_into l x r s a.1 above b.1)
-
-  above_without : (k : K) (l : List (K × X)) (x : K × X) (r : List (K × X)) → AreAbove cmp k (l ++ x ∷ r)
-      → AreAbove cmp k (l ++ r)
-  above_without k [] x r a = a.1
-  above_without k (y ∷ l) x r a = (a.0, above_without k l x r a.1)
-
-  -- without an entry the others rise
-  rises_without : (l : List (K × X)) (x : K × X) (r : List (K × X)) → Rises cmp (l ++ x ∷ r) → Rises cmp (l ++ r)
-  rises_without [] x r s = s.1
-  rises_without (y ∷ l) x r s = (above_without y.0 l x r s.0, rises_without l x r s.1)
-
--- the first item and those behind it
-pub left_next : {X : Type 0} (first : Option (Bor X)) (all rest : List X) → YieldsFirstRef (λ s. s) all first rest
-    → left first rest ≡ all
-left_next None all rest h = sym h.0
-left_next (Some first) all rest h = sym h
-
-module _ {K V : Type 0} (cmp : K → K → Ordering) (eq : V → V → Bool) (old new : List (K × V)) where
-  abbrev differs : K → List (K × V) → List (K × V) → Option (Option V × Option V)
-  differs k es fs = difference eq (lookup cmp k es) (lookup cmp k fs)
-
-  -- what differs was found, or differs in what is left, whose keys are above those that were found
-  pub record IsLeft (found : List (K × (Option V × Option V))) (es fs : List (K × V)) : Type 0 where
-    pub under : (k : K) → or_else (lookup cmp k found) (differs k es fs) ≡ differs k old new
-    pub olds : Rises cmp es
-    pub news : Rises cmp fs
-    pub before_olds : Rises cmp (keyed cmp found ++ keyed cmp es)
-    pub before_news : Rises cmp (keyed cmp found ++ keyed cmp fs)
-
-  -- before anything is found
-  pub left_all : IsRising cmp old → IsRising cmp new → IsLeft [] old new
-  left_all s t =
-      let olds = to cmp old s in
-      let news = to cmp new t in
-      record {
-        under = λ k. refl;
-        olds = olds;
-        news = news;
-        before_olds = rises_keyed cmp old olds;
-        before_news = rises_keyed cmp new news;
-      }
-
-  -- the same, once the first of each was taken out
-  pub left_first : (e f : Option (Bor (K × V))) (es fs : List (K × V)) → IsRising cmp old → IsRising cmp new
-      → left e es ≡ old → left f fs ≡ new → IsLeft [] (left e es) (left f fs)
-  left_first e f es fs s t olds news =
-      subst (λ xs. IsLeft [] xs (left f fs)) (sym olds) (subst (λ ys. IsLeft [] old ys) (sym news) (left_all s t))
-
-  -- one more change was found, and what is left is told by other names
-  pub left_after : (changes more : List (Bor K × Change V)) (change : Bor K × Change V)
-      (e : K × (Option V × Option V)) (es fs as_es as_fs : List (K × V)) → more ≡ changes ++ change ∷ []
-      → ◌≡◌ {A = K × (Option V × Option V)} (change.0.now, sides change.1) e → as_es ≡ es → as_fs ≡ fs
-      → IsLeft (listed changes ++ e ∷ []) es fs → IsLeft (listed more) as_es as_fs
-  left_after changes more change e es fs as_es as_fs is same olds news found =
-      let items : listed more ≡ listed changes ++ e ∷ [] =
-      ap (λ (cs : List (Bor K × Change V)). listed cs) is ∙ map-append (λ c. (c.0.now, sides c.1)) changes (change ∷ [])
-      ∙ ap (λ (x : K × (Option V × Option V)). listed changes ++ x ∷ []) same in
-      subst (λ xs. IsLeft xs as_es as_fs) (sym items)
-      (subst (λ xs. IsLeft (listed changes ++ e ∷ []) xs as_fs) (sym olds)
-      (subst (λ ys. IsLeft (listed changes ++ e ∷ []) es ys) (sym news) found))
-
-  -- when nothing is left, all was found
-  pub left_none : (found : List (K × (Option V × Option V))) → IsLeft found [] []
-      → ((k : K) → lookup cmp k found ≡ differs k old new) × IsRising cmp found
-  left_none found is = (
-    λ k. sym (or_else_none (lookup cmp k found)) ∙ is.under k,
-    from cmp found (rises_of_keyed cmp found (subst (Rises cmp) (append-nil (keyed cmp found)) is.before_olds)),
-  )
-
-  module _ (found : List (K × (Option V × Option V))) where
-    more : (q : K) (s : Option V × Option V) (es fs cs ds : List (K × V)) → IsLeft found es fs
-        → ((k : K) → differs k es fs ≡ or_else (cond (is_eq (cmp k q)) (Some s) None) (differs k cs ds))
-        → Rises cmp cs → Rises cmp ds → Rises cmp (keyed cmp found ++ (q, tt) ∷ keyed cmp cs)
-        → Rises cmp (keyed cmp found ++ (q, tt) ∷ keyed cmp ds) → IsLeft (found ++ (q, s) ∷ []) cs ds
-    more q s es fs cs ds is step olds news before after = record {
-      under = λ k. ap (λ x. or_else x (differs k cs ds)) (lookup_both cmp k found ((q, s) ∷ []))
-          ∙ or_else_assoc (lookup cmp k found) (cond (is_eq (cmp k q)) (Some s) None) (differs k cs ds)
-          ∙ ap (λ x. or_else (lookup cmp k found) x) (sym (step k)) ∙ is.under k;
-      olds = olds;
-      news = news;
-      before_olds = subst (Rises cmp) (sym (keyed_more cmp found q s (keyed cmp cs))) before;
-      before_news = subst (Rises cmp) (sym (keyed_more cmp found q s (keyed cmp ds))) after;
+  module _ (total : IsTotalOrder cmp) where
+    -- a key that only the older map has
+    removed : (e : K × V) (es fs : List (K × V)) (cs : List (K × (Option V × Option V)))
+        → (Rises cmp fs → AreAbove cmp e.0 fs) → AreBetween es fs cs
+        → AreBetween (e ∷ es) fs ((e.0, (Some e.1, None)) ∷ cs)
+    removed e es fs cs out is = record {
+      above = λ k a b. (a.0, is.above k a.1 b);
+      rises = λ r s. (is.above e.0 r.0 (out s), is.rises r.1 s);
+      under = λ r s k. elim (is_eq (cmp k e.0)) as (λ t. is_eq (cmp k e.0) ≡ t
+          → cond t (Some (Some e.1, None)) (lookup cmp k cs)
+          ≡ difference eq (cond t (Some e.1) (lookup cmp k es)) (lookup cmp k fs)) [
+            | true ↦ λ h. sym (ap (difference eq (Some e.1))
+                (lookup_none cmp k fs (above_alike cmp total k e.0 fs (eq_from (cmp k e.0) h) (out s))))
+            | false ↦ λ h. is.under r.1 s k
+          ] refl;
     }
 
-  module _ (total : IsTotalOrder cmp) (found : List (K × (Option V × Option V))) where
-    -- a key that only the older map has
-    pub left_removed : (a : K × V) (es fs : List (K × V)) → IsLeft found (a ∷ es) fs → AreAbove cmp a.0 fs
-        → IsLeft (found ++ (a.0, (Some a.1, None)) ∷ []) es fs
-    left_removed a es fs is above =
-        more found a.0 (Some a.1, None) (a ∷ es) fs es fs is (λ k. elim (is_eq (cmp k a.0)) as
-        (λ t. is_eq (cmp k a.0) ≡ t
-        → difference eq (cond t (Some a.1) (lookup cmp k es)) (lookup cmp k fs)
-        ≡ or_else (cond t (Some (Some a.1, None)) None) (differs k es fs)) [
-          | true ↦ λ h. ap (difference eq (Some a.1))
-              (lookup_none cmp k fs (above_alike cmp total k a.0 fs (eq_from (cmp k a.0) h) above))
-          | false ↦ λ h. refl
-        ] refl) is.olds.1 is.news is.before_olds
-        (rises_into cmp (keyed cmp found) (a.0, tt) (keyed cmp es) (keyed cmp fs) is.before_olds
-        (above_keyed cmp a.0 fs above) is.before_news)
-
     -- a key that only the newer map has
-    pub left_added : (b : K × V) (es fs : List (K × V)) → IsLeft found es (b ∷ fs) → AreAbove cmp b.0 es
-        → IsLeft (found ++ (b.0, (None, Some b.1)) ∷ []) es fs
-    left_added b es fs is above =
-        more found b.0 (None, Some b.1) es (b ∷ fs) es fs is (λ k. elim (is_eq (cmp k b.0)) as
-        (λ t. is_eq (cmp k b.0) ≡ t
-        → difference eq (lookup cmp k es) (cond t (Some b.1) (lookup cmp k fs))
-        ≡ or_else (cond t (Some (None, Some b.1)) None) (differs k es fs)) [
-          | true ↦ λ h. ap (λ x. difference eq x (Some b.1))
-              (lookup_none cmp k es (above_alike cmp total k b.0 es (eq_from (cmp k b.0) h) above))
-          | false ↦ λ h. refl
-        ] refl) is.olds is.news.1
-        (rises_into cmp (keyed cmp found) (b.0, tt) (keyed cmp fs) (keyed cmp es) is.before_news
-        (above_keyed cmp b.0 es above) is.before_olds)
-        is.before_news
+    added : (f : K × V) (es fs : List (K × V)) (cs : List (K × (Option V × Option V)))
+        → (Rises cmp es → AreAbove cmp f.0 es) → AreBetween es fs cs
+        → AreBetween es (f ∷ fs) ((f.0, (None, Some f.1)) ∷ cs)
+    added f es fs cs out is = record {
+      above = λ k a b. (b.0, is.above k a b.1);
+      rises = λ r s. (is.above f.0 (out r) s.0, is.rises r s.1);
+      under = λ r s k. elim (is_eq (cmp k f.0)) as (λ t. is_eq (cmp k f.0) ≡ t
+          → cond t (Some (None, Some f.1)) (lookup cmp k cs)
+          ≡ difference eq (lookup cmp k es) (cond t (Some f.1) (lookup cmp k fs))) [
+            | true ↦ λ h. sym (ap (λ x. difference eq x (Some f.1))
+                (lookup_none cmp k es (above_alike cmp total k f.0 es (eq_from (cmp k f.0) h) (out r))))
+            | false ↦ λ h. is.under r s.1 k
+          ] refl;
+    }
 
-    module _ (a b : K × V) (es fs : List (K × V)) (is : IsLeft found (a ∷ es) (b ∷ fs)) (e : cmp a.0 b.0 ≡ Equal) where
-      -- no other entry has the key
-      once : (k : K) (t : Bool) → is_eq (cmp k a.0) ≡ t
-          → difference eq (cond t (Some a.1) (lookup cmp k es)) (cond t (Some b.1) (lookup cmp k fs))
-          ≡ or_else (cond t (difference eq (Some a.1) (Some b.1)) None) (differs k es fs)
-      once k true h =
-          let here = eq_from (cmp k a.0) h in
-          let there = sym (alike_right total a.0 b.0 k e) ∙ here in
-          let none = ap (λ x. difference eq x (lookup cmp k fs))
-          (lookup_none cmp k es (above_alike cmp total k a.0 es here is.olds.0))
-          ∙ ap (difference eq None) (lookup_none cmp k fs (above_alike cmp total k b.0 fs there is.news.0)) in
-          let here_alone = difference eq (Some a.1) (Some b.1) in
-          sym (ap (or_else here_alone) none ∙ or_else_none here_alone)
-      once k false h = refl
+    -- a key of both
+    both : (e f : K × V) (es fs : List (K × V)) (cs : List (K × (Option V × Option V))) → cmp e.0 f.0 ≡ Equal
+        → AreBetween es fs cs → AreBetween (e ∷ es) (f ∷ fs) (option_to_list (change_of eq Equal e f) ++ cs)
+    both e f es fs cs alike is =
+        let none = λ (r : Rises cmp (e ∷ es)) (s : Rises cmp (f ∷ fs)) (k : K) (h : is_eq (cmp k e.0) ≡ true).
+        let here = eq_from (cmp k e.0) h in
+        is.under r.1 s.1 k
+        ∙ ap (λ x. difference eq x (lookup cmp k fs)) (lookup_none cmp k es (above_alike cmp total k e.0 es here r.0))
+        ∙ ap (difference eq None) (lookup_none cmp k fs
+        (above_alike cmp total k f.0 fs (sym (alike_right total e.0 f.0 k alike) ∙ here) s.0)) in
+        elim (eq e.1 f.1) as (λ t. eq e.1 f.1 ≡ t → AreBetween (e ∷ es) (f ∷ fs)
+        (option_to_list (cond t None (Some (e.0, (Some e.1, Some f.1)))) ++ cs)) [
+          | true ↦ λ same. record {
+            above = λ k a b. is.above k a.1 b.1;
+            rises = λ r s. is.rises r.1 s.1;
+            under = λ r s k. rw (sym (alike_right total e.0 f.0 k alike)) (elim (is_eq (cmp k e.0)) as (λ t.
+                is_eq (cmp k e.0) ≡ t → lookup cmp k cs
+                ≡ difference eq (cond t (Some e.1) (lookup cmp k es)) (cond t (Some f.1) (lookup cmp k fs))) [
+                  | true ↦ λ h. none r s k h ∙ sym (ap (λ t. cond t None (Some (Some e.1, Some f.1))) same)
+                  | false ↦ λ h. is.under r.1 s.1 k
+                ] refl);
+          }
+          | false ↦ λ unlike. record {
+            above = λ k a b. (a.0, is.above k a.1 b.1);
+            rises = λ r s. (is.above e.0 r.0 (above_alike cmp total e.0 f.0 fs alike s.0), is.rises r.1 s.1);
+            under = λ r s k. rw (sym (alike_right total e.0 f.0 k alike)) (elim (is_eq (cmp k e.0)) as (λ t.
+                cond t (Some (Some e.1, Some f.1)) (lookup cmp k cs)
+                ≡ difference eq (cond t (Some e.1) (lookup cmp k es)) (cond t (Some f.1) (lookup cmp k fs))) [
+                  | true ↦ sym (ap (λ t. cond t None (Some (Some e.1, Some f.1))) unlike)
+                  | false ↦ is.under r.1 s.1 k
+                ]);
+          }
+        ] refl
 
-      step : (k : K) → differs k (a ∷ es) (b ∷ fs)
-          ≡ or_else (cond (is_eq (cmp k a.0)) (difference eq (Some a.1) (Some b.1)) None) (differs k es fs)
-      step k =
-          ap (λ o. difference eq (cond (is_eq (cmp k a.0)) (Some a.1) (lookup cmp k es))
-          (cond (is_eq o) (Some b.1) (lookup cmp k fs))) (sym (alike_right total a.0 b.0 k e))
-          ∙ once k (is_eq (cmp k a.0)) refl
+    leads : (es fs : List (K × V)) → Leads es fs (first_change cmp eq es fs)
+    leads [] [] = tt
+    leads (e ∷ es) [] = λ cs is. removed e es [] cs (λ s. tt) is
+    leads [] (f ∷ fs) = λ cs is. added f [] fs cs (λ r. tt) is
+    leads (e ∷ es) (f ∷ fs) =
+        elim (cmp e.0 f.0) as (λ o. cmp e.0 f.0 ≡ o → Leads (e ∷ es) (f ∷ fs) (Some (o, change_of eq o e f))) [
+          | Less ↦ λ h cs is. removed e es (f ∷ fs) cs (λ s. (h, above_more cmp total e.0 f.0 fs h s.0)) is
+          | Equal ↦ λ h cs is. both e f es fs cs h is
+          | Greater ↦ λ h cs is.
+              let below = turned total e.0 f.0 h in
+              added f (e ∷ es) fs cs (λ r. (below, above_more cmp total f.0 e.0 es below r.0)) is
+        ] refl
 
-      -- a key of both with another value
-      pub left_changed : eq a.1 b.1 ≡ false → IsLeft (found ++ (a.0, (Some a.1, Some b.1)) ∷ []) es fs
-      left_changed h =
-          more found a.0 (Some a.1, Some b.1) (a ∷ es) (b ∷ fs) es fs is (λ k. step k
-          ∙ ap (λ t. or_else (cond (is_eq (cmp k a.0)) (cond t None (Some (Some a.1, Some b.1))) None)
-          (differs k es fs)) h)
-          is.olds.1 is.news.1 is.before_olds
-          (rises_into cmp (keyed cmp found) (a.0, tt) (keyed cmp es) (keyed cmp fs) is.before_olds
-          (above_keyed cmp a.0 fs (above_alike cmp total a.0 b.0 fs e is.news.0))
-          (rises_without cmp (keyed cmp found) (b.0, tt) (keyed cmp fs) is.before_news))
+  module _ (old new : List (K × V)) where
+    -- what was found and what differs in what is left are all differences
+    abbrev pub AreFound : List (Bor K × Change V) → List (K × V) → List (K × V) → Type 0
+    AreFound changes es fs = (cs : List (K × (Option V × Option V))) → AreBetween es fs cs
+        → AreBetween old new (listed changes ++ cs)
 
-      -- a key of both with the same value
-      pub left_same : eq a.1 b.1 ≡ true → IsLeft found es fs
-      left_same h = record {
-        under = λ k. ap (or_else (lookup cmp k found)) (sym (step k
-            ∙ ap (λ t. or_else (cond (is_eq (cmp k a.0)) (cond t None (Some (Some a.1, Some b.1))) None)
-            (differs k es fs)) h
-            ∙ none_either (is_eq (cmp k a.0)) (differs k es fs))) ∙ is.under k;
-        olds = is.olds.1;
-        news = is.news.1;
-        before_olds = rises_without cmp (keyed cmp found) (a.0, tt) (keyed cmp es) is.before_olds;
-        before_news = rises_without cmp (keyed cmp found) (b.0, tt) (keyed cmp fs) is.before_news;
-      }
+    -- at first all is left
+    pub found_none : (changes : List (Bor K × Change V)) (es fs : List (K × V)) → changes ≡ [] → es ≡ old → fs ≡ new
+        → AreFound changes es fs
+    found_none changes es fs none olds news cs left =
+        subst (λ xs. AreBetween old new (listed xs ++ cs)) (sym none)
+        (subst (λ xs. AreBetween xs new cs) olds (subst (λ ys. AreBetween es ys cs) news left))
+
+    -- one step goes past the first change
+    pub found_after : IsTotalOrder cmp → (changes more : List (Bor K × Change V)) (change : Option (Bor K × Change V))
+        (es fs as_es as_fs : List (K × V)) (o : Ordering) → Some (o, option_map as_entry change) ≡ first_change cmp eq es fs
+        → as_es ≡ past (is_le o) es → as_fs ≡ past (is_ge o) fs → more ≡ changes ++ option_to_list change
+        → AreFound changes es fs → AreFound more as_es as_fs
+    found_after total changes more change es fs as_es as_fs o first olds news is found cs left =
+        let step = subst (Leads es fs) (sym first) (leads total es fs) in
+        let was = subst (λ xs. AreBetween xs (past (is_ge o) fs) cs) olds (subst (λ ys. AreBetween as_es ys cs) news left) in
+        subst (λ ds. AreBetween old new ds) (sym (listed_more changes more change cs is))
+        (found (option_to_list (option_map as_entry change) ++ cs) (step cs was))
+
+    -- at the end all is found
+    pub found_all : IsRising cmp old → IsRising cmp new → (changes : List (Bor K × Change V)) (es fs : List (K × V))
+        → None ≡ first_change cmp eq es fs → AreFound changes es fs
+        → ((k : K) → lookup cmp k (listed changes) ≡ difference eq (lookup cmp k old) (lookup cmp k new))
+        × IsRising cmp (listed changes)
+    found_all s t changes [] [] first found =
+        let all = subst (AreBetween old new) (append-nil (listed changes)) (found [] between_none) in
+        (all.under (to cmp old s) (to cmp new t), from cmp (listed changes) (all.rises (to cmp old s) (to cmp new t)))
+    found_all s t changes (e ∷ es) [] first found = cc
+    found_all s t changes [] (f ∷ fs) first found = cc
+    found_all s t changes (e ∷ es) (f ∷ fs) first found = cc

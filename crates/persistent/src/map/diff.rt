@@ -1,12 +1,13 @@
 //! What differs between two maps.
-ghost use Rattle.std.specs.Prelude.{◌≡◌, IfOk};
-ghost use Rattle.persistent.specs.Differences.{difference, listed};
+ghost use Rattle.std.specs.Prelude.{◌≡◌, ◌++◌, IfOk, OnOk, cond, drop, option_map, option_to_list};
+ghost use Rattle.persistent.specs.Differences.{as_entry, change_of, difference, first_change, listed};
 ghost use Rattle.persistent.specs.Maps.{IsRising, lookup};
 
 use crate::map::TreeMap;
 use crate::map::iter::Iter;
 use std::alloc::{AllocError, Global};
 use std::cmp::Ordering;
+use std::marker::Model;
 
 /// What differs under a key: a value that only the newer map has, one that only the older one has, or the older and the
 /// newer one.
@@ -31,38 +32,106 @@ impl<K: Ord, V: PartialEq> TreeMap<K, V> {
         ensures rising { IfOk result (λ changes. IsRising K.cmp (listed changes.items)) }
     {
         let mut changes = Vec::new(alloc);
-        let mut olds = Iter::between(self.tree(), 0, self.len());
-        let mut news = Iter::between(newer.tree(), 0, newer.len());
-        let (mut old, mut new) = (olds.next(), news.next());
-        'along: loop {
-            match (old, new) {
-                (None, None) => return Ok(changes),
-                (Some((key, value)), None) => {
-                    changes.push((key, Change::Removed(value)))?;
-                    old = olds.next();
-                }
-                (None, Some((key, value))) => {
-                    changes.push((key, Change::Added(value)))?;
-                    new = news.next();
-                }
-                (Some((key, before)), Some((other, after))) => match key.cmp(other) {
-                    Ordering::Less => {
-                        changes.push((key, Change::Removed(before)))?;
-                        old = olds.next();
-                    }
-                    Ordering::Equal => {
-                        if before != after {
-                            changes.push((key, Change::Changed(before, after)))?;
-                        }
-                        old = olds.next();
-                        new = news.next();
-                    }
-                    Ordering::Greater => {
-                        changes.push((other, Change::Added(after)))?;
-                        new = news.next();
-                    }
-                },
-            }
+        let mut olds = Left::of(self);
+        let mut news = Left::of(newer);
+        while let Some((order, change)) = olds.first_change(&news) {
+            olds.pass(order.is_le());
+            news.pass(order.is_ge());
+            push_any(&mut changes, change)?;
+        }
+        Ok(changes)
+    }
+}
+
+// What is left of a map: its first entry, and those behind it.
+#[derive(Drop)]
+struct Left<'a, K: Ord, V> {
+    first: Option<&'a (K, V)>,
+    behind: Iter<'a, K, V>,
+}
+
+impl<'a, K: Ord, V> Model for Left<'a, K, V> {
+    ghost use Rattle.std.specs.Prelude.{◌≡◌, [], IfNone, List};
+    ghost use Rattle.persistent.specs.Lists.{left};
+
+    ghost Value = { List (K × V) };
+
+    ghost view = { λ l. left l.first l.behind };
+
+    ghost invariant = { λ l. IfNone l.first (l.behind ≡ []) };
+}
+
+impl<'a, K: Ord, V> Left<'a, K, V> {
+    fn of(map: &'a TreeMap<K, V>) -> Left<'a, K, V>
+        ensures entries { result ≡ map.now }
+        ensures rising { IsRising K.cmp map.now }
+    {
+        let mut behind = Iter::between(map.tree(), 0, map.len());
+        let first = behind.next();
+        Left { first, behind }
+    }
+
+    // Takes the first entry out, if that is asked.
+    #[inline(always)]
+    fn pass(&mut self, goes: bool)
+        ensures { self.new ≡ cond goes (drop 1 self.old) self.old }
+    {
+        if goes {
+            self.first = self.behind.next();
         }
     }
+}
+
+impl<'a, K: Ord, V: PartialEq> Left<'a, K, V> {
+    // How the first key stands to the first one of the newer map, and what differs under the lower one.
+    #[inline(always)]
+    fn first_change(
+        &self,
+        news: &Left<'a, K, V>,
+    ) -> Option<(Ordering, Option<(&'a K, Change<'a, V>)>)>
+        ensures { option_map (λ r. (r.0, option_map as_entry r.1)) result ≡ first_change K.cmp V.eq self.now news.now }
+    {
+        match (self.first, news.first) {
+            (None, None) => None,
+            (Some((key, value)), None) => {
+                let removed = (key, Change::Removed(value));
+                Some((Ordering::Less, Some(removed)))
+            }
+            (None, Some((key, value))) => {
+                let added = (key, Change::Added(value));
+                Some((Ordering::Greater, Some(added)))
+            }
+            (Some(old), Some(new)) => Some(change_of(old, new)),
+        }
+    }
+}
+
+// How the key of an entry stands to that of one in the newer map, and what differs under the lower one.
+#[inline(always)]
+fn change_of<'a, K: Ord, V: PartialEq>(
+    old: &'a (K, V),
+    new: &'a (K, V),
+) -> (Ordering, Option<(&'a K, Change<'a, V>)>)
+    ensures order { result.0 ≡ K.cmp old.now.0 new.now.0 }
+    ensures change { option_map as_entry result.1 ≡ change_of V.eq result.0 old.now new.now }
+{
+    let order = old.0.cmp(&new.0);
+    let change = match order {
+        Ordering::Less => Some((&old.0, Change::Removed(&old.1))),
+        Ordering::Equal if old.1 == new.1 => None,
+        Ordering::Equal => Some((&old.0, Change::Changed(&old.1, &new.1))),
+        Ordering::Greater => Some((&new.0, Change::Added(&new.1))),
+    };
+    (order, change)
+}
+
+// Puts the item behind the others, if there is one.
+#[inline(always)]
+fn push_any<T: Drop>(items: &mut Vec<T>, item: Option<T>) -> Result<(), AllocError>
+    ensures { OnOk result (items.new.items ≡ items.old.items ++ option_to_list item) }
+{
+    if let Some(item) = item {
+        items.push(item)?;
+    }
+    Ok(())
 }

@@ -120,10 +120,7 @@ impl<K: Ord, V> TreeMap<K, V> {
         ensures found { option_copied result ≡ lookup K.cmp key.now self.now }
         ensures rising { IsRising K.cmp self.now }
     {
-        match &self.root {
-            None => None,
-            Some(tree) => tree.get(key),
-        }
+        self.tree()?.get(key)
     }
 
     /// Whether there is a value under the key.
@@ -134,11 +131,12 @@ impl<K: Ord, V> TreeMap<K, V> {
     }
 
     /// How many keys are below this one: the number of its entry, if there is one.
+    #[tactic(auto, using(crate::proofs::Between::rank_most), unfolding(crate::specs::Maps::rank))]
     pub fn rank(&self, key: &K) -> usize
         ensures rank { result ≡ rank K.cmp key.now self.now }
         ensures within { result ≤ length self.now }
     {
-        match &self.root {
+        match self.tree() {
             None => 0,
             Some(tree) => tree.rank(key),
         }

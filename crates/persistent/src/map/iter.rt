@@ -54,25 +54,25 @@ impl<'a, K: Ord, V> Iter<'a, K, V> {
             to,
         }
     }
-}
 
-impl<K: Ord, V> Tree<K, V> {
     // The entry of that number, and its leaf: the one that is passed, if the entry is there.
     #[inline(always)]
     #[tactic(auto, using(crate::proofs::Parts::parts))]
-    fn numbered<'a>(
-        &'a self,
+    fn numbered(
+        tree: Option<&'a Tree<K, V>>,
         near: (&'a [(K, V)], usize),
         index: usize,
     ) -> (&'a (K, V), (&'a [(K, V)], usize))
-        requires near { IsPart near.0.now near.1 self.now.0 }
-        requires there { index < length self.now.0 }
-        ensures entry { slice_get self.now.0 index ≡ Some result.0.now }
-        ensures near { IsPart result.1.0.now result.1.1 self.now.0 }
+        requires near { IsPart near.0.now near.1 (entries_under (option_copied tree)) }
+        requires there { index < length (entries_under (option_copied tree)) }
+        ensures entry { slice_get (entries_under (option_copied tree.entry)) index ≡ Some result.0.now }
+        ensures near { IsPart result.1.0.now result.1.1 (entries_under (option_copied tree.entry)) }
     {
+        // A map with an entry has nodes.
+        let tree = tree.unwrap();
         let (leaf, start) = match index.checked_sub(near.1) {
             Some(offset) if offset < near.0.len() => near,
-            _ => self.leaf_at(index),
+            _ => tree.leaf_at(index),
         };
         (&leaf[index - start], (leaf, start))
     }
@@ -113,7 +113,7 @@ impl<'a, K: Ord, V> Iterator for Iter<'a, K, V> {
         if self.from == self.to {
             return None;
         }
-        let (entry, near) = self.tree?.numbered(self.front, self.from);
+        let (entry, near) = Iter::numbered(self.tree, self.front, self.from);
         self.front = near;
         self.from += 1;
         Some(entry)
@@ -138,7 +138,7 @@ impl<'a, K: Ord, V> DoubleEndedIterator for Iter<'a, K, V> {
         if self.from == self.to {
             return None;
         }
-        let (entry, near) = self.tree?.numbered(self.back, self.to - 1);
+        let (entry, near) = Iter::numbered(self.tree, self.back, self.to - 1);
         self.back = near;
         self.to -= 1;
         Some(entry)

@@ -34,8 +34,8 @@ impl<K: Ord + Clone, V: Clone> TreeMap<K, V> {
         ensures { IfOk result (λ map. map ≡ slice_range self.now from to) }
     {
         let mut items = Vec::with_capacity(alloc, to - from)?;
-        for (key, value) in Iter::between(self.tree(), from, to) {
-            items.push((key.clone()?, value.clone()?))?;
+        for entry in Iter::between(self.tree(), from, to) {
+            items.push(entry.clone()?)?;
         }
         TreeMap::of_rising(alloc, items)
     }

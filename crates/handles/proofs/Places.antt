@@ -18,7 +18,7 @@ pub use Rattle.handles.proofs.Walks.{agg, sub, whole, look_in, tables, fact, fac
 pub use Rattle.handles.proofs.Walks.{types_at, plain, Ptr, InBlock, block_ptr, ptr_val, block_of, offset_of}
 pub use Rattle.handles.proofs.Walks.{at_block, nothing_more, peeks, heard, looks, shuts, Is, shows, cell_at, param}
 pub use Rattle.handles.proofs.Walks.{layout, layouts, param_laws, RefOf, shr_vals, shr_Tells, Stays, stay_dropped}
-pub use Rattle.handles.proofs.Walks.{walk_of, Goes-dropped, after, proved, leaves, fm, at_type, walks, walks_at}
+pub use Rattle.handles.proofs.Walks.{walk_of, Goes-dropped, after, fm, at_type, walks, walks_at, known}
 pub use Rattle.std.proofs.Common.{◌*◌, ◌≢◌, ◌≤◌}
 pub use Rattle.std.specs.Mem.{type_size}
 pub use Rattle.std.specs.Prelude.{Err, IfOk, Ok}
@@ -60,11 +60,11 @@ pub use Rattle.core.proofs.ptr.Rows.{elτ, one_below, sz, times_below, el_in, sn
 pub use Rattle.core.proofs.slots.Leases.{block_align, block_size, block_ty, uncapped}
 pub use Rattle.handles.proofs.Blocks.RawBoxes.{heap, Global, ◌⊑◌, ⊑_static}
 pub use Rattle.handles.proofs.Places.Leaving.{LeavingRow, words-Good, leaving_val, leaving_words, leaving_made}
-pub use Rattle.handles.proofs.Places.Leaving.{none_at_null, first_of, FitWords, first_and_others, first_out, none_left, room_after}
-pub use Rattle.handles.proofs.Places.Leaving.{whole_room}
+pub use Rattle.handles.proofs.Places.Leaving.{none_at_null, first_of, FitWords, first_and_others, first_out, none_left}
+pub use Rattle.handles.proofs.Places.Leaving.{room_after, whole_room}
 pub use Rattle.handles.proofs.Places.Fields.{PlacesRow, places_val}
 pub use Rattle.handles.proofs.Places.Made.{has_bytes, places_made, without_items, capped_zero, no_bytes, no_memory}
-pub use Rattle.handles.proofs.Places.Reads.{field_behind, field_in}
+pub use Rattle.handles.proofs.Places.Reads.{field_behind, field_in, pair}
 pub use Rattle.handles.proofs.Places.Opened.{places_opens, Beside, items_back, items_out, places_shuts}
 pub use Rattle.handles.specs.Inside.PlacesOwnership.{right_to_free, leaving_own}
 pub use lib.Dec.{T as Holds, eqb}

@@ -39,7 +39,8 @@ module _ (R : RattleType) where
   -- numbers that fit their words make the fields
   pub words_made : {M : Type 1} {𝓤 : Ura M} (𝓛 : Logic 𝓤) (p : Ptr) (filled room : ℕ)
       → filled < 2 ^ 64 → room < 2 ^ 64 → ent 𝓤 (emp 𝓤) (sem 𝓛 (places_words p filled room))
-  words_made 𝓛 p filled room small_filled small_room = makes_shadow 𝓛 (places_words p filled room) (λ vss. (tt, (tt, ((tt, tt), ((tt, tt), tt))))) (
-    (ptr_val p ∷ [], (vint w64 filled ∷ [], (vint w64 room ∷ [], tt))),
-    (refl, (refl, ((refl, small_filled), ((refl, small_room), tt)))),
-  )
+  words_made 𝓛 p filled room small_filled small_room = makes_shadow 𝓛 (places_words p filled room)
+      (λ vss. (tt, (tt, ((tt, tt), ((tt, tt), tt))))) (
+        (ptr_val p ∷ [], (vint w64 filled ∷ [], (vint w64 room ∷ [], tt))),
+        (refl, (refl, ((refl, small_filled), ((refl, small_room), tt)))),
+      )

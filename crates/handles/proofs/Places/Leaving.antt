@@ -13,8 +13,8 @@ use base.Fml.{Fml, fat, froom}
 use mir.Syntax.{ty_int, ty_ptr, ty_struct, ty_array}
 use mir.Val.{Val, vint, vstruct, vcons, vnil, of_list, has_ty, WT}
 use types.Logic.{Logic, sem}
-use types.Kit.{Item, mean, ‵, ◌⊛◌, some, given, ◌$◌, ◌∵◌, !, qed, by, move, keep, pick, learn, show, check, split, use0, use1}
-use types.Kit.{use2, fsplit, fsplit3, fjoin, rewrite, done}
+use types.Kit.{Item, mean, ‵, ◌⊛◌, some, given, ◌$◌, ◌∵◌, !, qed, by, move, keep, pick, learn, show, check, split, use0}
+use types.Kit.{use1, use2, fsplit, fsplit3, fjoin, rewrite, done}
 use denote.RattleType.{RattleType}
 use denote.Memory.{lone, part_at}
 use denote.Array.{Array}

@@ -74,4 +74,5 @@ module _ (R : RattleType) where
         as_raw t (ty_array τ (room - 0)) b (o + 0 * n) $ fjoin t $ nothing_more t $ feq_i t ℕ 0 0 refl $ fjoin t $
         use1 𝓛 (‵ (part_at (Array R 0) full_share [] b o)) (Array-whole 𝓛 R full_share 0 [] b o) $
         fjoin t $ flt_i t (room * n) (2 ^ 63) fits $ fjoin t $
-        use0 𝓛 (‵ (places_words R (block_ptr b o) 0 room)) (words_made R 𝓛 (block_ptr b o) 0 room (lit< tt) small) $ fjoin t $ s)
+        use0 𝓛 (‵ (places_words R (block_ptr b o) 0 room)) (words_made R 𝓛 (block_ptr b o) 0 room (lit< tt) small) $
+        fjoin t $ s)

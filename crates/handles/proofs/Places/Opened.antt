@@ -67,7 +67,8 @@ module _ (R : RattleType) where
 
     -- put together again
     pub places_shuts : K → (d : (PlacesRow R).Denot) (b o : ℕ) → LieAt d.first d.filled d.room b o
-        → Step K 𝓛 (‵ ((PlacesRow R).own_val d (places_val (block_ptr b o) d.filled d.room ∷ [])) ∷ Γ) G (Parts d b o Γ) G
+        → Step K 𝓛 (‵ ((PlacesRow R).own_val d (places_val (block_ptr b o) d.filled d.room ∷ [])) ∷ Γ) G
+        (Parts d b o Γ) G
     places_shuts t d b o lie = step (λ s. let v : Val = places_val (block_ptr b o) d.filled d.room in
         fjoin3 t $ flt_i t (d.room * type_size R) (2 ^ 63) lie.bytes_fit $ fjoin t $
         use0 𝓛 (‵ (places_words R (block_ptr b o) d.filled d.room))

@@ -1,19 +1,19 @@
--- What a statement of a walk reads: a field of the struct in a local, or of the struct behind a reference in one.
--- Assumes `Logic`.
+-- What a statement of a walk reads: a field of the struct in a local, a field of the struct behind a reference in one,
+-- or two locals. Assumes `Logic`.
 use mathlib.Core.Option.{some}
 use Rattle.std.proofs.Common.{◌≡◌, ℕ, List, [], ◌∷◌}
 use seplogic.Ra.Ura.{Ura}
 use base.Fml.{Share, fat}
 use mir.Fields.{get_v}
-use mir.Syntax.{Sym, Ty, Tys, ty_struct, copy, deref, field, place, rv_opd}
-use mir.Val.{Val, Vals, vptr, vstruct}
+use mir.Syntax.{Sym, Ty, Tys, ty_struct, aggregate, copy, deref, field, place, rv_opd}
+use mir.Val.{Val, Vals, of_list, vptr, vstruct}
 use prog.Memory.{field_at, field_of}
 use prog.Wp.{Env, spot_of}
-use types.ByLocal.{at, get_in, through}
+use types.ByLocal.{at, get, get_in, through}
 use types.Kit.{Item, ‵, nth}
 use types.Logic.{Logic}
-use types.Part.{Part, look_in, sub}
-use types.Run.{Rv, fld, load, of_opd, stop}
+use types.Part.{Part, agg, look_in, sub}
+use types.Run.{Rv, and_then, fld, load, no_more, of_opd, stop}
 
 module _ {M : Type 1} {𝓤 : Ura M} {𝓛 : Logic 𝓤} {K : Type 0} {Γ : List (Item 𝓤)} {E : Env 𝓤 𝓛.H} {i : ℕ} {q : Share}
     {ν : Sym} {τs : Tys} {vs : Vals} {τ : Ty} {d : ℕ} {back : Val → Item 𝓤} where
@@ -33,3 +33,13 @@ module _ {M : Type 1} {𝓤 : Ura M} {𝓛 : Logic 𝓤} {K : Type 0} {Γ : List
       → Rv K 𝓛 Γ E (rv_opd (copy (place i (deref σ ∷ field k ∷ [])))) (get_v vs k)
   field_behind t n k points lies found p =
       of_opd t (load t (through t points (fld t lies (stop t))) (look_in t n (sub t k found p)))
+
+module _ {M : Type 1} {𝓤 : Ura M} {𝓛 : Logic 𝓤} {K : Type 0} {Γ : List (Item 𝓤)} {E : Env 𝓤 𝓛.H} {i j : ℕ}
+    {q r : Share} {u v : Val} where
+  open 𝓛 use {H}
+
+  -- what two locals hold, as one struct
+  pub pair : K → at 𝓛 i Γ ≡ ‵ (fat q (spot_of 𝓤 H E i).0 (spot_of 𝓤 H E i).1 0 u)
+      → at 𝓛 j Γ ≡ ‵ (fat r (spot_of 𝓤 H E j).0 (spot_of 𝓤 H E j).1 0 v)
+      → Rv K 𝓛 Γ E (aggregate (copy (place i []) ∷ copy (place j []) ∷ [])) (vstruct (of_list (u ∷ v ∷ [])))
+  pair t one other = agg t (and_then t (get t one) (and_then t (get t other) (no_more t)))

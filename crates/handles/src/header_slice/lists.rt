@@ -60,9 +60,7 @@ impl<H: Drop, T: Drop> Arc<HeaderSlice<H, T>> {
 }
 
 impl<H: Drop, T: Copy> UniqueArc<HeaderSlice<H, T>> {
-    /// The header beside a copy of the items. If these are not `Copy`, call `from_header_and_clones`.
-    ///
-    /// Memory is requested as by `from_header_and_iter`. If it is refused, the header is dropped.
+    /// As `Arc::from_header_and_slice`.
     pub fn from_header_and_slice(
         alloc: Global,
         header: H,
@@ -76,10 +74,7 @@ impl<H: Drop, T: Copy> UniqueArc<HeaderSlice<H, T>> {
 }
 
 impl<H: Drop, T: Clone> UniqueArc<HeaderSlice<H, T>> {
-    /// The header beside a clone of each item, in their order.
-    ///
-    /// Memory is requested as by `from_header_and_iter`, before the first clone. If it or a clone is refused, the
-    /// clones made so far are dropped, then the header.
+    /// As `Arc::from_header_and_clones`.
     pub fn from_header_and_clones(
         alloc: Global,
         header: H,
@@ -103,10 +98,7 @@ impl<H: Drop, T: Clone> UniqueArc<HeaderSlice<H, T>> {
 }
 
 impl<H: Drop, T: Drop> UniqueArc<HeaderSlice<H, T>> {
-    /// The header beside the items of a vector, which are moved, not cloned.
-    ///
-    /// Memory is requested as by `from_header_and_iter`. If it is refused, the header and the items are dropped.
-    /// The vector's own memory is freed either way.
+    /// As `Arc::from_header_and_vec`.
     pub fn from_header_and_vec(
         alloc: Global,
         header: H,

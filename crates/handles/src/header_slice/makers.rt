@@ -72,10 +72,7 @@ impl<H: Drop, T: Drop> UniqueArc<HeaderSlice<H, T>> {
         UniqueArc::from_header_and_iter_with_size(alloc, header, items, num_items)
     }
 
-    /// Asks the iterator until `num_items` items were taken and then once more, but never after a `None`.
-    ///
-    /// Before the first item is asked for, memory is requested: at most once for the items, not at all for no items or
-    /// for items without size, and once for the block.
+    /// As `Arc::from_header_and_iter_with_size`.
     pub fn from_header_and_iter_with_size<I: Iterator<Item = T>>(
         alloc: Global,
         header: H,

@@ -29,9 +29,7 @@ impl<H: Drop, T: Drop> Arc<HeaderSlice<H, T>> {
 }
 
 impl<H: Drop, T: Drop> UniqueArc<HeaderSlice<H, T>> {
-    /// As `from_header_and_iter`, of items that may be errors. The first error is the answer, and the iterator is not
-    /// asked on: what was taken by then and the header are dropped. A refusal becomes an error of that type; one item
-    /// too many is a refusal, be it an error or not.
+    /// As `Arc::try_from_header_and_iter`.
     pub fn try_from_header_and_iter<
         E: From<BuildError> + Drop,
         I: Iterator<Item = Result<T, E>> + ExactSizeIterator,

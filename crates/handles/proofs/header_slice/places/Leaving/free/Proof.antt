@@ -1,18 +1,16 @@
 -- `free` makes room of the places, and frees their block if they take bytes.
-use Rattle.handles.proofs.Places.{◌≡◌, ℕ, ◌+◌, ◌-◌, ◌^◌, ◌<◌, Bool, List, [], ◌∷◌, refl, sym, ap, ◌∙◌, subst}
-use Rattle.handles.proofs.Places.{arith, w64, named, Val, vint, vptr, vunit, SProp, Lft, Share, ftrue, flft, ‵}
-use Rattle.handles.proofs.Places.{raw, ◌⊛◌, given, later, ◌$◌, ◌∵◌, !, qed, by, move, keep, drop, split, join}
-use Rattle.handles.proofs.Places.{fsplit, fsplit3, fjoin3, learn, use1, use2, use3, await, rewrite, feq_i, flt_l}
-use Rattle.handles.proofs.Places.{unit_lit, lit, of_opd, no_more, and_then, first, blocks, returns}
-use Rattle.handles.proofs.Places.{alloc_all, pass_all, free_all, look_at, get, sets, lands_last, is}
-use Rattle.handles.proofs.Places.{whole, fact, yes, no, RattleType, owns, types_at, plain, Ptr, block_ptr}
-use Rattle.handles.proofs.Places.{ptr_val, nothing_more, heard, param, param_laws, RefOf, shr_vals, shr_Tells}
-use Rattle.handles.proofs.Places.{Stays, stay_dropped, walk_of, Goes-dropped, fm, heap, spared, run_framed}
-use Rattle.handles.proofs.Places.{⊑_static, Global, Goes-blank, elτ, sz, uncapped, LeavingRow, words-Good}
-use Rattle.handles.proofs.Places.{leaving_val, none_at_null, right_to_free, leaving_own, ◌*◌, as_raw, as_written}
-use Rattle.handles.proofs.Places.{owns_if, froom, in_a_block, length, ty_array, capped_fits, align, capped}
-use Rattle.handles.proofs.Places.{align_word, bin, size_word, Holds, has_ty, WT, Sq, prop, branches, skips}
-use Rattle.handles.proofs.Places.{whole_room, at_type, walks, field_in}
+use Rattle.handles.proofs.Places.{◌≡◌, ℕ, ◌+◌, ◌-◌, ◌^◌, ◌<◌, Bool, List, [], ◌∷◌, refl, sym, ap, ◌∙◌, subst, arith}
+use Rattle.handles.proofs.Places.{w64, named, Val, vint, vptr, vunit, SProp, Lft, Share, ftrue, flft, ‵, raw, ◌⊛◌}
+use Rattle.handles.proofs.Places.{given, later, ◌$◌, ◌∵◌, !, qed, by, move, keep, drop, split, join, fsplit, fsplit3}
+use Rattle.handles.proofs.Places.{fjoin3, learn, use1, use2, use3, await, rewrite, feq_i, flt_l, unit_lit, lit, of_opd}
+use Rattle.handles.proofs.Places.{no_more, and_then, first, blocks, returns, alloc_all, pass_all, free_all, look_at}
+use Rattle.handles.proofs.Places.{get, sets, lands_last, is, whole, fact, yes, no, RattleType, owns, types_at, plain}
+use Rattle.handles.proofs.Places.{Ptr, block_ptr, ptr_val, nothing_more, heard, param, param_laws, RefOf, shr_vals}
+use Rattle.handles.proofs.Places.{shr_Tells, Stays, stay_dropped, walk_of, Goes-dropped, fm, heap, spared, run_framed}
+use Rattle.handles.proofs.Places.{⊑_static, Global, Goes-blank, elτ, sz, uncapped, LeavingRow, words-Good, leaving_val}
+use Rattle.handles.proofs.Places.{none_at_null, right_to_free, leaving_own, ◌*◌, as_raw, as_written, owns_if, froom}
+use Rattle.handles.proofs.Places.{in_a_block, length, ty_array, capped_fits, align, capped, align_word, bin, size_word}
+use Rattle.handles.proofs.Places.{Holds, has_ty, WT, Sq, prop, branches, skips, whole_room, at_type, walks, field_in}
 use mir.Raw.{raw as bare}
 use mir.Syntax.{Ty, ty_unit}
 use prog.Capped.{capped_is}
@@ -46,6 +44,7 @@ free_spec 𝓤 𝓛 𝓜 𝓡 wired T L =
     let κ : Lft = κs.0 in let q : Share = qs.0 in
     let taken_fits : taken < 2 ^ 64 = are.0.0.1.1.1.0.1 in let filled_fits : filled < 2 ^ 64 = are.0.0.1.1.1.1.0.1 in
     let room_fits : room < 2 ^ 64 = are.0.0.1.1.1.1.1.0.1 in let s : ℕ = sz E in let τ : Ty = elτ E in
+    let al : ℕ = capped (align τ) in let block : Ty = bare (ty_array τ room) in
     let others = ‵ (flft κs.1.0 qs.1.0) ⊛ ‵ ftrue in let y : (walk_of 𝓛 En hs c).Ghost =
     ((κs, qs, bounds, a, (leaving_val p taken filled room ∷ [], (vptr at_heap.0 at_heap.1 ∷ [], tt))), gh)
     in let Post : Val → SProp 𝓤 = (walk_of 𝓛 En hs c).post y in
@@ -67,8 +66,8 @@ free_spec 𝓤 𝓛 𝓜 𝓡 wired T L =
     use2 𝓛 (‵ (froom (ty_array τ room) b o)) (whole_room E 𝓛 b o taken filled room all_left me.within.1)
     $ as_raw ! (ty_array τ room) b o $
     -- [the room; the right to free; the `&` to the allocator; its token; the other tokens; nothing]
-    let back = at_gives heap 𝓛 𝓜.mem 𝓡.returns κ q at_heap h b o (room * s) (capped (align τ))
-    (bare (ty_array τ room)) in let product = uncapped room s bytes in
+    let back = at_gives heap 𝓛 𝓜.mem 𝓡.returns κ q at_heap h b o (room * s) al block in
+    let product = uncapped room s bytes in
     -- the contract of the bound names one lifetime more, that of the type parameter
     let k = Gives heap 𝓛 𝓜.mem 𝓡.returns in
     let gives = λ (x : k.Ghost). spared 𝓛 heap_gives.signature _ (run_framed 𝓤 𝓛.H 𝓜 𝓡 _) 1 ([], tt)
@@ -77,24 +76,22 @@ free_spec 𝓤 𝓛 𝓜 𝓡 wired T L =
     go.enters (leaving_val p taken filled room ∷ vptr at_heap.0 at_heap.1 ∷ []) refl $
     alloc_all ! (λ l. pass_all ! refl
     (words-Good p (taken ∷ filled ∷ room ∷ []) (taken_fits, (filled_fits, (room_fits, tt))), ((tt, tt), tt)) $
-    sets ! (is ! (field_in ! 0 refl refl (whole !)) (ap ptr_val at)) refl (tt, tt)
-    $ sets ! (field_in ! 3 refl refl (whole !))
-    refl (tt, record { fits = room_fits }) $ sets ! (is ! (bin ! (get ! refl) (size_word !)
-    (record { fits = subst (λ (z : ℕ). z < 2 ^ 64) (sym product) bytes })
-    ) (ap (vint w64) product)) refl (tt, record { fits = bytes }) $
+    sets ! (is ! (field_in ! 0 refl refl (whole !)) (ap ptr_val at)) refl (tt, tt) $
+    sets ! (field_in ! 3 refl refl (whole !)) refl (tt, record { fits = room_fits }) $
+    sets ! (is ! (bin ! (get ! refl) (size_word !)
+    (record { fits = subst (λ (z : ℕ). z < 2 ^ 64) (sym product) bytes })) (ap (vint w64) product))
+    refl (tt, record { fits = bytes }) $
     sets ! (bin ! (get ! refl) (lit ! tt) tt) refl (tt, tt) $ first ! $ branches ! (get ! refl)
-    (λ has_bytes. rewrite ! 1 (λ (z : Bool). ‵ (owns_if z (right_to_free (bare (ty_array τ room))
-    (block_ptr b o)))) (T_true _ has_bytes) refl $ blocks ! $ sets ! (of_opd ! (get ! refl)) refl (tt, tt) $
-    move ! (2 ∷ 3 ∷ []) $ join ! $ move ! (1 ∷ 2 ∷ 0 ∷ []) $
+    (λ has_bytes. rewrite ! 1 (λ (z : Bool). ‵ (owns_if z (right_to_free block (block_ptr b o))))
+    (T_true _ has_bytes) refl $ blocks ! $ sets ! (of_opd ! (get ! refl)) refl (tt, tt) $ move ! (2 ∷ 3 ∷ []) $ join ! $
+    move ! (1 ∷ 2 ∷ 0 ∷ []) $
     use3 𝓛 (raw (k.pre back)) (Gives-goes heap 𝓛 𝓜.mem 𝓡.returns κ q at_heap h (⊑_static κ)
-    b o (room * s) (capped (align τ)) (bare (ty_array τ room))
-    (ap capped (size-raw (ty_array τ room)) ∙ capped_is (room * s) bytes)
+    b o (room * s) al block (ap capped (size-raw (ty_array τ room)) ∙ capped_is (room * s) bytes)
     (ap capped (align-raw (ty_array τ room))) bytes (capped_fits (align τ))) $
     calls_at_last ! (fm 𝓛 𝓜 𝓡) k gives back (and_then ! (get ! refl) (and_then ! (get ! refl)
     (and_then ! (get ! refl) (and_then ! (align_word !) (no_more !))))) (λ v.
     use1 𝓛 (later (given (v ≡ vunit) (‵ (flft κ q))))
-    (Gives-Gives heap 𝓛 𝓜.mem 𝓡.returns κ q at_heap h b o (room * s) (capped (align τ))
-    (bare (ty_array τ room)) v) $ await ! tt $ learn ! (λ is_unit.
+    (Gives-Gives heap 𝓛 𝓜.mem 𝓡.returns κ q at_heap h b o (room * s) al block v) $ await ! tt $ learn ! (λ is_unit.
     lands_last ! refl (subst (λ (z : Val). Holds (has_ty ty_unit z) × WT z) (sym is_unit) (tt, tt)) $
     go.ahead l 5 $ sets ! (of_opd ! (unit_lit !)) refl (tt, tt) $
     returns ! (look_at ! 0 refl) $ free_all ! refl $ keep ! (0 ∷ 1 ∷ []) $ to_end)))

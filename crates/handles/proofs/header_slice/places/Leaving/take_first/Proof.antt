@@ -1,18 +1,17 @@
 -- `take_first` reads the first item that is left, and its place is empty.
-use Rattle.handles.proofs.Places.{◌≡◌, ℕ, ◌+◌, ◌-◌, ◌^◌, ◌<◌, List, [], ◌∷◌, refl, sym, ap, ◌∙◌, arith, named}
-use Rattle.handles.proofs.Places.{Val, vptr, full_share, emp, Lft, Share, ftrue, flft, ‵, raw, ◌⊛◌}
-use Rattle.handles.proofs.Places.{◌$◌, ◌∵◌, !, qed, by, move, keep, drop, split, split3, join, fsplit}
-use Rattle.handles.proofs.Places.{fsplit3, fjoin, fjoin3, pick, learn, use0, use1, use2, rewrite, feq_i, flt_i}
-use Rattle.handles.proofs.Places.{flt_l, stop, fld, load, lit, of_opd, first, blocks, returns, alloc_all}
-use Rattle.handles.proofs.Places.{pass_all, free_all, look_at, get, through, sets, sets_last, sub, whole}
-use Rattle.handles.proofs.Places.{fact, fact_i, RattleType, owns, types_at, plain, Ptr, nothing_more}
-use Rattle.handles.proofs.Places.{peeks, heard, Is, shows, cell_at, param, param_laws, Stays, walk_of, elτ}
-use Rattle.handles.proofs.Places.{one_below, sz, times_below, LeavingRow, leaving_val, leaving_made}
-use Rattle.handles.proofs.Places.{leaving_words, none_at_null, leaving_own, ◌*◌, ◌≤◌, as_raw, as_written, froom}
-use Rattle.handles.proofs.Places.{Array, part_at, in_a_block, mut_Tells, mut_vals, closes, opens, Goes-ref}
-use Rattle.handles.proofs.Places.{stay_ref, length, ty_array, store_in, assigns, bin, size_lit, look, first_of}
-use Rattle.handles.proofs.Places.{first_and_others, first_out, room_after, at_type, walks, field_behind}
-use Rattle.core.proofs.ptr.Rows.{El, Good}
+use Rattle.handles.proofs.Places.{◌≡◌, ℕ, ◌+◌, ◌-◌, ◌^◌, ◌<◌, List, [], ◌∷◌, refl, sym, ap, ◌∙◌, arith, named, Val}
+use Rattle.handles.proofs.Places.{vptr, full_share, Lft, Share, ftrue, flft, ‵, raw, ◌⊛◌, ◌$◌, ◌∵◌, !, qed, by, move}
+use Rattle.handles.proofs.Places.{keep, drop, split, split3, join, fsplit, fsplit3, fjoin, fjoin3, pick, learn, use0}
+use Rattle.handles.proofs.Places.{use1, use2, rewrite, feq_i, flt_i, flt_l, stop, fld, load, lit, of_opd, first, blocks}
+use Rattle.handles.proofs.Places.{returns, alloc_all, pass_all, free_all, look_at, get, through, sets, sets_last, sub}
+use Rattle.handles.proofs.Places.{whole, fact, RattleType, owns, types_at, plain, Ptr, nothing_more, peeks, heard, Is}
+use Rattle.handles.proofs.Places.{shows, cell_at, param, param_laws, elτ, one_below, sz, times_below, LeavingRow}
+use Rattle.handles.proofs.Places.{leaving_val, leaving_made, leaving_words, none_at_null, leaving_own, ◌*◌, ◌≤◌, as_raw}
+use Rattle.handles.proofs.Places.{as_written, froom, Array, part_at, in_a_block, mut_Tells, mut_vals, closes, opens}
+use Rattle.handles.proofs.Places.{Goes-ref, stay_ref, length, ty_array, store_in, assigns, bin, size_lit, look}
+use Rattle.handles.proofs.Places.{first_of, first_and_others, first_out, room_after, at_type, walks, field_behind}
+use Rattle.handles.proofs.Places.{known}
+use Rattle.core.proofs.ptr.Rows.{El}
 use Rattle.handles.proofs.header_slice.places.Leaving.TheLaws.{lowers}
 use Rattle.handles.specs.contracts.header_slice.places.Leaving.take_first.{ended, clauses}
 use Rattle.handles.specs.contracts.header_slice.places.Leaving.take_first.Key.{name as #self}
@@ -21,19 +20,15 @@ use Rattle.handles.proofs.header_slice.places.Leaving.take_first.Code as code
 
 pub take_first_spec : {M : Type 1} → statement M
 take_first_spec 𝓤 𝓛 𝓜 𝓡 wired T L =
-    let R : RattleType = param 0 T in
-    let E : El = record { row = T; laws = L } in let En = ended T in let c = clauses T 𝓛 𝓜.mem 𝓡.returns in
+    let R : RattleType = param 0 T in let E : El = record { row = T; laws = L } in
     let Self : RattleType = LeavingRow R in let row = plain (λ _. Self) in
-    let hs : Stays En.signature.params En.kept = (stay_ref (0 ∷ []) tt row, tt) in
-    walks (at_type T) code.function 𝓛 𝓜 𝓡 En hs c (Goes-ref 𝓛 2 0 tt row, tt) #self
-    (code.unfolded 𝓤 𝓛.H 𝓜 𝓡 wired (T, tt)) (λ κs. (mut_vals, tt)) (λ κs.
-    (mut_Tells (named 0) κs.0 Self, tt)) (λ κs qs bounds a gh are go ends.
+    walks (at_type T) code.function 𝓛 𝓜 𝓡 (ended T) (stay_ref (0 ∷ []) tt row, tt) (clauses T 𝓛 𝓜.mem 𝓡.returns)
+    (Goes-ref 𝓛 2 0 tt row, tt) #self (code.unfolded 𝓤 𝓛.H 𝓜 𝓡 wired (T, tt))
+    (λ κs. (mut_vals, tt)) (λ κs. (mut_Tells (named 0) κs.0 Self, tt)) (λ κs qs bounds a gh are go ends.
     let b : ℕ = a.0.ref_ptr.0 in let o : ℕ = a.0.ref_ptr.1 in let κ : Lft = κs.0 in let q : Share = qs.0 in
     let me : Self.Denot = a.0.now in let p : Ptr = me.first in let taken : ℕ = me.taken in
-    let filled : ℕ = me.filled in let room : ℕ = me.room in
-    let y : (walk_of 𝓛 En hs c).Ghost = ((κs, qs, bounds, a, (vptr b o ∷ [], tt)), gh) in
-    let others = ‵ (flft κs.1.0 qs.1.0) ⊛ ‵ ftrue in
-    qed 𝓛 (((‵ (flft κ q) ⊛ others) ⊛ ‵ (owns (types_at En.signature.params κs) a y.0.4))
+    let filled : ℕ = me.filled in let room : ℕ = me.room in let others = ‵ (flft κs.1.0 qs.1.0) ⊛ ‵ ftrue in
+    qed 𝓛 (((‵ (flft κ q) ⊛ others) ⊛ ‵ (owns (types_at (ended T).signature.params κs) a (vptr b o ∷ [], tt)))
     ∷ raw (fact 𝓤 _) ∷ raw (fact 𝓤 (0 < length me.items)) ∷ []) ∵
     keep ! (2 ∷ 0 ∷ []) $ heard ! (0 < length me.items) (λ asked. let one = first_of me.items asked in
     let x : T.Denot = one.0 in let later : List T.Denot = one.1.0 in let is_first : me.items ≡ x ∷ later = one.1.1 in
@@ -58,11 +53,11 @@ take_first_spec 𝓤 𝓛 𝓜 𝓡 wired T L =
     (word ∙ ap (λ (z : Ptr). leaving_val z taken filled room ∷ []) at) refl $
     -- [the first item's cell; what it owns; the other items; what is after them; the room before them; the cell; the
     -- open borrow; its two names; the other tokens]
-    sets ! (field_behind ! 5 1 refl refl refl (whole !))
-    refl (tt, record { fits = taken_fits }) $
+    sets ! (field_behind ! 5 1 refl refl refl (whole !)) refl (tt, record { fits = taken_fits }) $
     sets ! (bin ! (get ! refl) (lit ! tt) (record { fits = up })) refl (tt, record { fits = up }) $
     assigns ! (of_opd ! (get ! refl)) (through ! refl (fld ! refl (stop !))) (store_in ! 5 (sub ! 1 refl (whole !))
-    (tt, record { fits = up })) $ first ! $ blocks ! $ sets ! (field_behind ! 5 0 refl refl refl (whole !)) refl (tt, tt) $
+    (tt, record { fits = up })) $ first ! $ blocks ! $
+    sets ! (field_behind ! 5 0 refl refl refl (whole !)) refl (tt, tt) $
     sets ! (bin ! (get ! refl) (size_lit ! (record { fits = tiny })) (record { fits = far }))
     refl (tt, record { fits = far }) $ sets ! (bin ! (get ! refl) (get ! refl) tt) refl (tt, tt) $
     sets_last ! (of_opd ! (load ! (through ! refl (stop !)) (look ! 0 refl))) refl good $
@@ -73,8 +68,7 @@ take_first_spec 𝓤 𝓛 𝓜 𝓡 wired T L =
       filled = filled;
       room = room;
       items = later;
-      within
-          = (omega (arith, ap length is_first), enough);
+      within = (omega (arith, ap length is_first), enough);
     } in move ! (4 ∷ 0 ∷ []) $ as_written ! (ty_array (elτ E) taken) pb po $
     use2 𝓛 (‵ (froom (ty_array (elτ E) (taken + 1)) pb po)) (room_after E 𝓛 pb po taken filled v) $
     as_raw ! (ty_array (elτ E) (taken + 1)) pb po $
@@ -88,6 +82,5 @@ take_first_spec 𝓤 𝓛 𝓜 𝓡 wired T L =
     -- [the reference's two parts; its token; what the item owns; the other tokens]
     feq_i ! (List Val) (vptr b o ∷ []) (vptr b o ∷ []) refl $ fjoin3 ! $ nothing_more ! $
     move ! (1 ∷ 0 ∷ []) $ fjoin ! $ move ! (1 ∷ 3 ∷ []) $ join ! $
-    use0 𝓛 (raw (fact 𝓤 (me.items ≡ x ∷ later))) (fact_i 𝓤 (me.items ≡ x ∷ later) (emp 𝓤)
-    is_first) $ returns ! (look_at ! 0 refl) $ free_all ! refl $ keep ! (1 ∷ 2 ∷ 3 ∷ 0 ∷ []) $
-    by ! (ends v x (new, tt) (tt, tt)))))))))))
+    known ! (me.items ≡ x ∷ later) is_first $ returns ! (look_at ! 0 refl) $ free_all ! refl $
+    keep ! (1 ∷ 2 ∷ 3 ∷ 0 ∷ []) $ by ! (ends v x (new, tt) (tt, tt)))))))))))

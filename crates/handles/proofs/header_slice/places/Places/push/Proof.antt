@@ -1,14 +1,13 @@
 -- `push` writes an item into the first place after the others.
-use Rattle.handles.proofs.Places.{ℕ, ◌+◌, ◌-◌, ◌^◌, ◌<◌, List, [], ◌∷◌, ◌++◌, refl, sym, ap, ◌∙◌, arith, Val}
-use Rattle.handles.proofs.Places.{vptr, vunit, full_share, ftrue, flft, ‵, raw, ◌⊛◌, ◌$◌, ◌∵◌, !, qed, move}
-use Rattle.handles.proofs.Places.{keep, drop, split, split3, join, fsplit3, fjoin, fjoin3, use1, use2, rewrite}
-use Rattle.handles.proofs.Places.{feq_i, suffices, done, unit_lit, stop, fld, lit, of_opd, first, blocks}
-use Rattle.handles.proofs.Places.{returns, alloc_all, pass_all, free_all, look_at, get, through, sets, sub}
-use Rattle.handles.proofs.Places.{whole, fact, no, RattleType, owns, types_at, plain, block_ptr}
-use Rattle.handles.proofs.Places.{nothing_more, heard, cell_at, param, Stays, stay_dropped, Goes-dropped, elτ}
-use Rattle.handles.proofs.Places.{one_below, sz, times_below, PlacesRow, places_val, places_opens, ◌*◌, as_raw}
-use Rattle.handles.proofs.Places.{as_written, froom, Array, part_at, closes, opens, Goes-ref, stay_ref, ty_array}
-use Rattle.handles.proofs.Places.{store_in, assigns, bin, size_lit, init, assigns_last, ends_at, el_in, spare}
+use Rattle.handles.proofs.Places.{ℕ, ◌+◌, ◌-◌, ◌^◌, ◌<◌, List, [], ◌∷◌, ◌++◌, refl, sym, ap, ◌∙◌, arith, Val, vptr}
+use Rattle.handles.proofs.Places.{vunit, full_share, ftrue, flft, ‵, raw, ◌⊛◌, ◌$◌, ◌∵◌, !, qed, move, keep, drop}
+use Rattle.handles.proofs.Places.{split, split3, join, fsplit3, fjoin, fjoin3, use1, use2, rewrite, feq_i, suffices}
+use Rattle.handles.proofs.Places.{done, unit_lit, stop, fld, lit, of_opd, first, blocks, returns, alloc_all, pass_all}
+use Rattle.handles.proofs.Places.{free_all, look_at, get, through, sets, sub, whole, fact, no, RattleType, owns}
+use Rattle.handles.proofs.Places.{types_at, plain, block_ptr, nothing_more, heard, cell_at, param, Stays, stay_dropped}
+use Rattle.handles.proofs.Places.{Goes-dropped, elτ, one_below, sz, times_below, PlacesRow, places_val, places_opens}
+use Rattle.handles.proofs.Places.{◌*◌, as_raw, as_written, froom, Array, part_at, closes, opens, Goes-ref, stay_ref}
+use Rattle.handles.proofs.Places.{ty_array, store_in, assigns, bin, size_lit, init, assigns_last, ends_at, el_in, spare}
 use Rattle.handles.proofs.Places.{snoc, places_shuts, at_type, walks_at, field_behind}
 use lib.ListN.{length-append}
 use Rattle.core.proofs.mem.Facts.{says_two}
@@ -60,14 +59,12 @@ push_spec 𝓤 𝓛 𝓜 𝓡 wired T L =
     (spare E 𝓛 b o n room below) $ split ! $
     -- [the place; the room after it; the items; the right to free; the cell; the open borrow; its two names; the
     -- item; nothing; the token of T]
-    sets ! (field_behind ! 4 1 refl refl refl (whole !))
-    refl (tt, record { fits = lie.filled_fits }) $ first ! $ blocks ! $
-    sets ! (field_behind ! 4 0 refl refl refl (whole !))
-    refl (tt, tt) $ sets ! (bin ! (get ! refl) (size_lit ! (record { fits = tiny })) (record { fits = far }))
+    sets ! (field_behind ! 4 1 refl refl refl (whole !)) refl (tt, record { fits = lie.filled_fits }) $ first ! $
+    blocks ! $ sets ! (field_behind ! 4 0 refl refl refl (whole !)) refl (tt, tt) $
+    sets ! (bin ! (get ! refl) (size_lit ! (record { fits = tiny })) (record { fits = far }))
     refl (tt, record { fits = far }) $
     sets ! (bin ! (get ! refl) (get ! refl) tt) refl (tt, tt) $ sets ! (of_opd ! (get ! refl)) refl is_item.2 $
-    assigns_last ! (of_opd ! (get ! refl)) (through ! refl (stop !)) (init ! 0 refl is_item.2) $
-    go.ahead l 2 $
+    assigns_last ! (of_opd ! (get ! refl)) (through ! refl (stop !)) (init ! 0 refl is_item.2) $ go.ahead l 2 $
     sets ! (bin ! (get ! refl) (lit ! tt) (record { fits = more })) refl (tt, record { fits = more }) $
     assigns ! (of_opd ! (get ! refl)) (through ! refl (fld ! refl (stop !)))
     (store_in ! 4 (sub ! 1 refl (whole !)) (tt, record { fits = more })) $

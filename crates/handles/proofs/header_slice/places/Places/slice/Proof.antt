@@ -1,12 +1,11 @@
 -- `slice` shows the items that the places lend. Assumes `Logic`.
-use Rattle.handles.proofs.Places.{◌≡◌, ℕ, ◌^◌, ◌<◌, List, [], ◌∷◌, refl, sym, ap, ◌∙◌, subst, Val, id⊢, Lft}
-use Rattle.handles.proofs.Places.{fhide, ‵, raw, ◌⊛◌, ◌$◌, !, by, move, keep, drop, split, fsplit, fjoin, use1}
-use Rattle.handles.proofs.Places.{rewrite, feq_i, flt_i, flt_l, of_opd, no_more, and_then, field_behind}
-use Rattle.handles.proofs.Places.{first, blocks, returns, alloc_all, pass_all, free_all, look_at, get}
-use Rattle.handles.proofs.Places.{sets, sets_last, agg, whole, fact, fact_i, RattleType, Ptr}
-use Rattle.handles.proofs.Places.{InBlock, block_ptr, block_of, offset_of, at_block, peeks, heard, looks, shuts}
-use Rattle.handles.proofs.Places.{Is, shows, cell_at, param, PlacesRow, places_val, ◌*◌, ◌≤◌, type_size}
-use Rattle.handles.proofs.Places.{slice_val, length, hidden_shr, in_block_says, words_open}
+use Rattle.handles.proofs.Places.{◌≡◌, ℕ, ◌^◌, ◌<◌, List, [], ◌∷◌, refl, sym, ap, ◌∙◌, subst, Val, id⊢, Lft, fhide, ‵}
+use Rattle.handles.proofs.Places.{raw, ◌⊛◌, ◌$◌, !, by, move, keep, drop, split, fsplit, fjoin, use1, rewrite, feq_i}
+use Rattle.handles.proofs.Places.{flt_i, flt_l, of_opd, field_behind, pair, first, blocks, returns, alloc_all, pass_all}
+use Rattle.handles.proofs.Places.{free_all, look_at, get, sets, sets_last, whole, fact, fact_i, RattleType, Ptr}
+use Rattle.handles.proofs.Places.{InBlock, block_ptr, block_of, offset_of, at_block, peeks, heard, looks, shuts, Is}
+use Rattle.handles.proofs.Places.{shows, cell_at, param, PlacesRow, places_val, ◌*◌, ◌≤◌, type_size, slice_val, length}
+use Rattle.handles.proofs.Places.{hidden_shr, in_block_says, words_open}
 use native.Mathlib.Nat.{mul-le-mul_right, lt_of_le_of_lt}
 use denote.Opens.{unhide, hide}
 use denote.Struct.Owning.{to}
@@ -39,14 +38,11 @@ slice_spec 𝓤 𝓛 𝓜 𝓡 wired T L =
     let fits : s.filled < 2 ^ 64 = reported.1 in let ev : vs ≡ places_val (block_ptr pb po)
     s.filled s.room ∷ [] = reported.0 ∙ ap (λ (z : Ptr). places_val z s.filled s.room ∷ []) at in
     let Cell = λ (ws : List Val). ‵ (cell_at r D.mir ws b o) in rewrite ! 1 Cell ev refl $ first ! $ blocks ! $
-    sets ! (field_behind ! 1 0 refl refl refl (whole !))
-    refl (tt, tt) $
-    sets ! (field_behind ! 1 1 refl refl refl (whole !))
-    refl (tt, record { fits = fits }) $
+    sets ! (field_behind ! 1 0 refl refl refl (whole !)) refl (tt, tt) $
+    sets ! (field_behind ! 1 1 refl refl refl (whole !)) refl (tt, record { fits = fits }) $
     rewrite ! 1 Cell (sym ev) refl $ move ! (1 ∷ 0 ∷ 2 ∷ []) $ shuts ! tt D r (to O s) vs b o $
-    move ! (1 ∷ []) $ drop ! $ sets_last ! (agg ! (and_then ! (get ! refl) (and_then ! (get ! refl) (no_more !))))
-    refl (tt, (tt, (record { fits = fits }, tt))) $ go.ahead l 1 $
-    sets ! (of_opd ! (get ! refl)) refl (tt, (tt, (record { fits = fits }, tt))) $
+    move ! (1 ∷ []) $ drop ! $ sets_last ! (pair ! refl refl) refl (tt, (tt, (record { fits = fits }, tt))) $
+    go.ahead l 1 $ sets ! (of_opd ! (get ! refl)) refl (tt, (tt, (record { fits = fits }, tt))) $
     move ! (1 ∷ []) $ flt_i ! (n * type_size R) (2 ^ 63) small $
     flt_i ! n (2 ^ 64) (subst (λ (k : ℕ). k < 2 ^ 64) long fits) $ fjoin ! $
     feq_i ! (List Val) (slice_val (pb, po) s.filled ∷ []) (slice_val (pb, po) n ∷ [])

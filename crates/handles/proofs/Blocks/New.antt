@@ -76,8 +76,7 @@ module _ (c : CountedBlock) where
   Sole w log = fsep (fsep (fsep (word c.block c.offset w) (noted_as c.limit c.id w log)) (fsep c.content c.kept))
       (pass c.id.living c.own full_share)
 
-  -- What the sharing begins with: what is shown, the part of a handle, the other parts, the lender, and the token of the
-  -- mark.
+  -- What the sharing begins with: what is shown, a handle's part, the other parts, the lender, and the mark's token.
   abbrev Begun : Names → Fml
   Begun i = fsep (c.shown (i.shared ∷ [])) (fsep (part 64 i.shared) (fsep (rest 64 i.shared 1)
       (fsep (flent (i.shared ∷ []) c.content) (flft (i.unmarked ∷ []) full_share))))
@@ -109,7 +108,7 @@ module _ (c : CountedBlock) where
         fpack ! (List Entry) (noted_as c.limit c.id 1) log $ fpair ! 1 0 $ move ! (1 ∷ 4 ∷ []) $
         use2 𝓛 (later (‵ (fex Names Begun) ⊛ ‵ (flft μ q))) (sharing_begins l lends μ q inc) $ await ! tt $ split ! $
         fpick ! (λ i. fsplit3 ! $ move ! (2 ∷ []) $ fsplit3 ! $
-        -- [the parts; the lender; the mark's token; what is shown; the part; the token; the word; what is kept; the pass]
+        -- [the parts; the lender; the mark's token; what is shown; the part; the token; the word; the kept; the pass]
         fpair ! 1 7 $ fpair ! 0 2 $ fpair ! 1 0 $ ffact ! (StandsWithin c.limit 1 false 1) (new-stands c.limit some) $
         fjoin ! $ fpair ! 4 0 $
         fpack ! Stage (stage c.content c.kept c.limit c.block c.offset c.id i) (living false 1 1) $
@@ -138,7 +137,7 @@ module _ (c : CountedBlock) where
         }
         in fsplit3 ! $ move ! (1 ∷ []) $ fpick ! (λ e. fpick ! (λ c'. fpack ! Share (λ e. flft (i.shared ∷ []) e) e $
         move ! (2 ∷ []) $ fsplit3 ! $
-        -- [the parts; the lender; the mark's token; the pool; what is shown; the token; the word; what is kept; the pass]
+        -- [the parts; the lender; the mark's token; the pool; what is shown; the token; the word; the kept; the pass]
         fpair ! 3 7 $ move ! (3 ∷ []) $ lft_end ! tt $ fdead_twice ! $ fpair ! 2 0 $ fpair ! 2 0 $
         -- [what is beside the word; the mark; the lender; what is shown; the token; the word; the pass]
         move ! (5 ∷ 0 ∷ []) $ use2 𝓛 (‵ (fsep (rule_of i) (title i)))

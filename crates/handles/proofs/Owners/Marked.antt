@@ -27,7 +27,7 @@ use Rattle.handles.specs.Inside.Blocks.{kept_log, logs, reached}
 use Rattle.handles.specs.Inside.Marked.{HasMark, Staying, Lasting, born_static, stays, tells_mark, marked_shares}
 use Rattle.handles.proofs.Blocks.Rows.{cut_pass}
 use Rattle.handles.proofs.Scripts.{fpair, ffact, flft_halves}
-use Rattle.handles.proofs.Blocks.New.{Held, Held_marked, New, begins_marked}
+use Rattle.handles.proofs.Blocks.New.{Held_marked, New, begins_marked}
 use Rattle.handles.proofs.Owners.{block_of_handle, both_laws, shown-ShrLaws, known_settles}
 
 -- what may be had twice, and is said for good
@@ -82,12 +82,16 @@ module _ (R : RattleType) (L : Laws R) (p : Ptr) (d : Staying R.Denot) where
         fsplit ! $ drop ! $
         move ! (1 ∷ 0 ∷ []) $ by ! (moves_from 𝓛 (shown R p x) shows-ShrLaws κ a a (meet_⊑_left a κ)))
 
-    -- a counted handle of a block that a log tells to be marked, given away for good
+    -- a counted handle of a block that a log tells to be marked
+    abbrev Told : ℕ → Names → Fml
+    Told n i = fsep (Held_marked (block_of_handle R L p x η n) i) (tells_mark d.known_by)
+
+    -- given away for good
     pub becomes_lasting : (n : ℕ) (i : Names) (κ : Lft)
-        → ent 𝓤 (sem 𝓛 (fsep (fsep (marked i) (Held (block_of_handle R L p x η n) i)) (tells_mark d.known_by)))
+        → ent 𝓤 (sem 𝓛 (Told n i))
         (𝓛.H.⇛ (sem 𝓛 (marked_shares R p d κ)))
     becomes_lasting n i κ = let a : Lft = i.shared ∷ [] in
-        qed 𝓛 (‵ (fsep (fsep (marked i) (Held (block_of_handle R L p x η n) i)) (tells_mark d.known_by)) ∷ []) ∵ updating ! $
+        qed 𝓛 (‵ (Told n i) ∷ []) ∵ updating ! $
         fsplit ! $ fsplit ! $ move ! (1 ∷ []) $ fsplit3 ! $ fsplit ! $ fpick ! (λ e. fsplit ! $ drop ! $
         -- [a share of the token; the pass; the rule; the sharing; the mark; the log]
         flft_halves ! $ bor_new ! tt [] $ move ! (1 ∷ []) $ drop ! $ bor_fracture ! tt (λ r. flft a r) (Share.left e) $

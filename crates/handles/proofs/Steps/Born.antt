@@ -13,7 +13,7 @@ use Rattle.handles.proofs.Steps.Shared.{suffices, use1, use2, done, settle, raw,
 use Rattle.handles.proofs.Steps.Shared.{Stage, living, over, SharedBlock, at_stage, rule, Bool, counts, beside}
 use Rattle.handles.proofs.Steps.Shared.{StandsWithin, makes_one, lives_on, fdead_twice, no_token, passed, grants}
 use Rattle.handles.proofs.Steps.Shared.{adds, reached, latest, logs, kept_log, IsPrefix, is_marked_word, keeps-counts}
-use Rattle.handles.proofs.Steps.Shared.{true≢false, tally_of, nothing_more}
+use Rattle.handles.proofs.Steps.Shared.{true≢false, tally_of, nothing_more, finds}
 
 -- the entry of a handle that is made with no step
 abbrev pub static_entry : SharedBlock → Entry
@@ -30,6 +30,10 @@ module _ {M : Type 1} {𝓤 : Ura M} (𝓛 : Logic 𝓤) (s : SharedBlock) (q : 
   abbrev pub BornSome : Fml
   BornSome = fex ℕ (λ w. fex (List Entry) (Born w))
 
+  -- the mark, and the share
+  abbrev Marks : Fml
+  Marks = fsep (marked s.names) (a_share s q)
+
   -- who has a share of the token, and X beside it, finds the block alive, and may do with it what leaves it so
   module _ (X Y : Fml) where
     abbrev Maker : Fml
@@ -38,9 +42,11 @@ module _ {M : Type 1} {𝓤 : Ura M} (𝓛 : Logic 𝓤) (s : SharedBlock) (q : 
     abbrev Done : SProp 𝓤
     Done = sep 𝓤 (sem 𝓛 (rule s)) (sem 𝓛 Y)
 
-    inside : ((mark : Bool) (w n : ℕ) (log : List Entry) → StandsWithin s.limit w mark n
-        → ent 𝓤 (sem 𝓛 (fsep (counts s w log) (fsep (beside s mark n) Maker))) (upd 𝓤 Done))
-        → ent 𝓤 (sep 𝓤 (sem 𝓛 (finv (rule s))) (sem 𝓛 Maker)) (H.⇛ (sem 𝓛 Y))
+    abbrev Alive : Type 1
+    Alive = (mark : Bool) (w n : ℕ) (log : List Entry) → StandsWithin s.limit w mark n
+        → ent 𝓤 (sem 𝓛 (fsep (counts s w log) (fsep (beside s mark n) Maker))) (upd 𝓤 Done)
+
+    inside : Alive → ent 𝓤 (sep 𝓤 (sem 𝓛 (finv (rule s))) (sem 𝓛 Maker)) (H.⇛ (sem 𝓛 Y))
     inside alive = qed 𝓛 (‵ (finv (rule s)) ∷ ‵ Maker ∷ []) ∵
         suffices ! _ (𝓛.invs.inv_acc (rule s) (sem 𝓛 Y)) $ frame ! $ assume ! (‵ (rule s)) $
         fpick ! (λ g. by ! (at g))
@@ -56,8 +62,7 @@ module _ {M : Type 1} {𝓤 : Ura M} (𝓛 : Logic 𝓤) (s : SharedBlock) (q : 
             fpair ! 1 0 $ by ! (alive mark w n log holds)))
 
   -- a share of the token of a marked block makes one more handle
-  pub born : ent 𝓤 (sep 𝓤 (sem 𝓛 (finv (rule s))) (sem 𝓛 (fsep (marked s.names) (a_share s q))))
-      (H.⇛ (sem 𝓛 BornSome))
+  pub born : ent 𝓤 (sep 𝓤 (sem 𝓛 (finv (rule s))) (sem 𝓛 Marks)) (H.⇛ (sem 𝓛 BornSome))
   born = inside (marked s.names) BornSome at where
     T' : ℕ → List Entry → Fml
     T' w log = fsep (own_pass s q) (passed s a_handle log)
@@ -65,15 +70,13 @@ module _ {M : Type 1} {𝓤 : Ura M} (𝓛 : Logic 𝓤) (s : SharedBlock) (q : 
     Now : SProp 𝓤
     Now = Done (marked s.names) BornSome
 
-    at : (mark : Bool) (w n : ℕ) (log : List Entry) → StandsWithin s.limit w mark n
-        → ent 𝓤 (sem 𝓛 (fsep (counts s w log) (fsep (beside s mark n) (Maker (marked s.names) BornSome)))) (upd 𝓤 Now)
-    at false w n log holds =
-        qed 𝓛 (‵ (counts s w log) ∷ ‵ (beside s false n) ∷ ‵ (marked s.names) ∷ ‵ (a_share s q) ∷ []) ∵
-        move ! (1 ∷ []) $ fsplit3 ! $ keep ! (2 ∷ 4 ∷ []) $ by ! (no_token 𝓛 (unmarked s) full_share _)
+    at : Alive (marked s.names) BornSome
+    at false w n log holds = qed 𝓛 (finds s w log false n Marks) ∵ move ! (2 ∷ []) $ fsplit ! $
+        -- [the mark; the share; the word; what is beside it]
+        move ! (3 ∷ []) $ fsplit3 ! $ keep ! (2 ∷ 3 ∷ []) $ by ! (no_token 𝓛 (unmarked s) full_share _)
     at true w n log holds = let more : List Entry = log ++ static_entry s ∷ [] in
         let Ready : Fml = Recorded 𝓛 s [] ftrue (unknown 𝓛 s) (static_entry s) (own_pass s q) T' w w more in
-        qed 𝓛 (‵ (counts s w log) ∷ ‵ (beside s true n) ∷ ‵ (marked s.names) ∷ ‵ (a_share s q) ∷ []) ∵
-        fsplit ! $ move ! (4 ∷ []) $ fsplit ! $ move ! (1 ∷ 3 ∷ []) $
+        qed 𝓛 (finds s w log true n Marks) ∵ fsplit ! $ move ! (3 ∷ []) $ fsplit3 ! $ move ! (2 ∷ 4 ∷ 1 ∷ 3 ∷ 5 ∷ []) $
         -- [the pass; the log; the share; the word; what is beside the word; the mark]
         nothing_more ! $ fpair ! 0 1 $ fpair ! 1 0 $
         use1 𝓛 (raw (upd 𝓤 (sem 𝓛 Ready))) (records 𝓛 s [] ftrue (unknown 𝓛 s) (static_entry s) (own_pass s q) T' w w
@@ -90,27 +93,26 @@ module _ {M : Type 1} {𝓤 : Ura M} (𝓛 : Logic 𝓤) (s : SharedBlock) (q : 
   module _ (old : List Entry) (has : HasMark old) where
     -- the mark, and the share as it was
     abbrev pub Known : Fml
-    Known = fsep (marked s.names) (a_share s q)
+    Known = Marks
 
     -- the log tells the mark
-    pub knows : ent 𝓤 (sep 𝓤 (sem 𝓛 (finv (rule s))) (sem 𝓛 (fsep (reached s.id old) (a_share s q)))) (H.⇛ (sem 𝓛 Known))
+    pub knows : ent 𝓤 (sep 𝓤 (sem 𝓛 (finv (rule s))) (sem 𝓛 (fsep (reached s.id old) (a_share s q))))
+        (H.⇛ (sem 𝓛 Known))
     knows = inside (reached s.id old) Known at where
       Now : SProp 𝓤
       Now = Done (reached s.id old) Known
 
-      at : (mark : Bool) (w n : ℕ) (log : List Entry) → StandsWithin s.limit w mark n
-          → ent 𝓤 (sem 𝓛 (fsep (counts s w log) (fsep (beside s mark n) (Maker (reached s.id old) Known)))) (upd 𝓤 Now)
-      at false w n log holds =
-          qed 𝓛 (‵ (counts s w log) ∷ ‵ (beside s false n) ∷ ‵ (reached s.id old) ∷ ‵ (a_share s q) ∷ []) ∵
+      at : Alive (reached s.id old) Known
+      at false w n log holds = qed 𝓛 (finds s w log false n (fsep (reached s.id old) (a_share s q))) ∵
           fsplit ! $ move ! (1 ∷ []) $ fsplit3 ! $ move ! (1 ∷ []) $ fpick ! (λ left. drop ! $
-          -- [the log; the rows; the word; what is beside it; what is known; the share]
-          move ! (0 ∷ 4 ∷ []) $ use2 𝓛 (given (IsPrefix old log) (‵ (latest logs full_share s.id.log (kept_log log))))
+          -- [the log; the rows; the word; what is beside it; what is known and the share]
+          move ! (4 ∷ []) $ fsplit ! $ move ! (2 ∷ 0 ∷ []) $
+          use2 𝓛 (given (IsPrefix old log) (‵ (latest logs full_share s.id.log (kept_log log))))
           (begun_with 𝓛 s old log) $ learn ! (λ begun.
           let same_mark : is_marked_word w ≡ (tally_of log).mark = (keeps-counts s.limit s.most log w left).same_mark
           in absurd (true≢false (sym (has_mark-prefix old log has begun) ∙ sym same_mark ∙ holds.0.same_mark))))
-      at true w n log holds =
-          qed 𝓛 (‵ (counts s w log) ∷ ‵ (beside s true n) ∷ ‵ (reached s.id old) ∷ ‵ (a_share s q) ∷ []) ∵
+      at true w n log holds = qed 𝓛 (finds s w log true n (fsep (reached s.id old) (a_share s q))) ∵
           move ! (1 ∷ []) $ fsplit3 ! $ move ! (2 ∷ []) $ fdead_twice ! $
-          -- [the mark, twice; the parts; the pool and what is kept; the word; what is known; the share]
+          -- [the mark, twice; the parts; the pool and what is kept; the word; what is known and the share]
           move ! (2 ∷ 3 ∷ 0 ∷ []) $ fjoin3 ! $ move ! (2 ∷ 0 ∷ []) $ lives_on 𝓛 s ! true w n log holds $
-          suffices ! _ (upd_i 𝓤 Now) $ frame ! $ fpair ! 0 2 $ keep ! (0 ∷ []) $ done !
+          suffices ! _ (upd_i 𝓤 Now) $ frame ! $ move ! (1 ∷ []) $ fsplit ! $ drop ! $ fpair ! 1 0 $ done !

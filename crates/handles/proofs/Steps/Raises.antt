@@ -5,11 +5,11 @@ use Rattle.handles.specs.Founds.{HasFound}
 use Rattle.handles.proofs.Steps.Stepped.{begun_with}
 use Rattle.handles.proofs.Steps.Shared.{fsep, ◌≡◌, ◌≢◌, ℕ, ◌+◌, ◌%◌, ◌<◌, ◌≤◌, Bool, true, false, [], ◌∷◌, sym, refl}
 use Rattle.handles.proofs.Steps.Shared.{ap, ◌∙◌, subst, arith, eq-eqb, ne_eqb, if◌then◌else◌, dite, ℕ_discrete, Ura}
-use Rattle.handles.proofs.Steps.Shared.{Share, Fml, Logic, ‵, ◌⊛◌, ◌$◌, ◌∵◌, !, qed, by, move, split, fsplit, fpair}
-use Rattle.handles.proofs.Steps.Shared.{use1, rest, takes, mark_bit, StandsFor, count_of-unmarked, a_handle}
-use Rattle.handles.proofs.Steps.Shared.{right_by_read, StandsWithin, unit_of_count, title, SharedBlock, counts}
-use Rattle.handles.proofs.Steps.Shared.{beside, counted_stake, lives_on, Lands, Asks, and_logged, by_own, Entry, List}
-use Rattle.handles.proofs.Steps.Shared.{eqb, leb-true, greatest_count, stands-raised, right_by_raise, reached}
+use Rattle.handles.proofs.Steps.Shared.{Share, Fml, Logic, ‵, ◌$◌, ◌∵◌, !, qed, by, move, fsplit, fpair, use1}
+use Rattle.handles.proofs.Steps.Shared.{mark_bit, StandsFor, count_of-unmarked, a_handle, right_by_read, StandsWithin}
+use Rattle.handles.proofs.Steps.Shared.{title, SharedBlock, counted_stake, lives_on, Lands, Asks, and_logged, by_own}
+use Rattle.handles.proofs.Steps.Shared.{Entry, List, eqb, leb-true, greatest_count, stands-raised, right_by_raise}
+use Rattle.handles.proofs.Steps.Shared.{reached, finds, counts_one}
 use Rattle.handles.proofs.Steps.Words.{stands-unmarked}
 use Rattle.handles.proofs.Steps.Reads.{bare_share, a_share, bare_reported, reported, shut, found, right_step}
 use Rattle.handles.proofs.Steps.Turns.{turns_raise}
@@ -39,9 +39,9 @@ module _ {M : Type 1} {𝓤 : Ura M} (𝓛 : Logic 𝓤) (s : SharedBlock) (q : 
       (stands-raised seen n n holds.0 (λ full. absurd (omega arith))) in
       let within : (seen + 1) % mark_bit ≤ s.limit = omega (arith, below) in
       let wins : right_by_raise seen seen ≡ a_handle = ap (λ y. if y then a_handle else right_by_read seen)
-      (eq-eqb seen seen refl) in qed 𝓛 (‵ (counts s (seen + 1) log) ∷ ‵ (beside s false n) ∷ ‵ (bare_share s q) ∷ [])
-      ∵ move ! (1 ∷ []) $ fsplit ! $ use1 𝓛 (‵ (rest 64 s.names.shared (n + 1)) ⊛ ‵ (unit_of_count s.names))
-      (takes 64 𝓛 s.names.shared n (omega arith)) $ split ! $
+      (eq-eqb seen seen refl) in
+      qed 𝓛 (finds s (seen + 1) log false n (bare_share s q)) ∵ move ! (1 ∷ []) $ fsplit ! $
+      counts_one 𝓛 s ! n (omega arith) $
       -- [the parts; the part; the lender and the mark; the word; the token]
       fpair ! 0 2 $ move ! (2 ∷ 0 ∷ []) $
       lives_on 𝓛 s ! false (seen + 1) (n + 1) log (stands, λ _. within) $ move ! (1 ∷ []) $

@@ -2,8 +2,8 @@
 -- Assumes `Logic`.
 use Rattle.handles.proofs.Steps.Asking as asking
 use Rattle.handles.proofs.Steps.Shared.{finv, ℕ, ◌+◌, Bool, true, false, [], ◌∷◌, Ura, full_share, SProp, ent, never}
-use Rattle.handles.proofs.Steps.Shared.{Share, Fml, fsep, fex, flft, flent, Logic, sem, ‵, ◌⊛◌, ◌$◌, ◌∵◌, !, qed, by}
-use Rattle.handles.proofs.Steps.Shared.{move, keep, split, fsplit, fsplit3, fjoin3, fpick, fpack, frame, fpair}
+use Rattle.handles.proofs.Steps.Shared.{Share, Fml, fsep, fex, flft, flent, Logic, sem, ‵, ◌$◌, ◌∵◌, !, qed, by}
+use Rattle.handles.proofs.Steps.Shared.{move, keep, fsplit, fsplit3, fjoin3, fpick, fpack, frame, fpair}
 use Rattle.handles.proofs.Steps.Shared.{suffices, use1, use2, done, rest, marked, Stage, over, SharedBlock, shared}
 use Rattle.handles.proofs.Steps.Shared.{unmarked, beside, at_stage, rule, Entails, ex, upd_i, via, never_e, show}
 use Rattle.handles.proofs.Steps.Shared.{assume, block_ptr, asks, always, word, living}
@@ -54,7 +54,8 @@ module _ {M : Type 1} {𝓤 : Ura M} (𝓛 : Logic 𝓤) (s : SharedBlock) (o : 
 
       at : (j : ℕ) (g : Stage) → ent 𝓤 (sem 𝓛 (fsep (at_stage (keeps s o) g) (a_share s q))) (Goes j)
       at j (living mark w n) = qed 𝓛 (‵ (at_stage (keeps s o) (living mark w n)) ∷ ‵ (a_share s q) ∷ [])
-          ∵ fsplit3 ! $ move ! (2 ∷ []) $ use1 𝓛 (‵ (kept_word s o) ⊛ ‵ (Others mark n)) (kept_swaps mark n).0 $ split ! $
+          ∵ fsplit3 ! $ move ! (2 ∷ []) $
+          use1 𝓛 (‵ (fsep (kept_word s o) (Others mark n))) (kept_swaps mark n).0 $ fsplit ! $
           fpick ! (λ k. show ! (asking.Lies 𝓛 I s.block o f (λ _. a_share s q) j) k $ frame ! $
           assume ! (‵ (word s.block o (f k))) $
           fpack ! ℕ (λ k. word s.block o k) (f k) $ use2 𝓛 (‵ (beside (keeps s o) mark n)) (kept_swaps mark n).1 $

@@ -7,15 +7,15 @@ use Rattle.handles.proofs.Steps.Framing.{shifted_framed}
 use Rattle.handles.proofs.Steps.Asking as asking
 use types.Growing.{latest_grows, latest_shows, latest_bounds}
 use base.Stored.{Gv}
-use Rattle.handles.proofs.Steps.Shared.{SharedBlock, rule, beside, at_stage, and_logged, Lands, Asks, fits, guard}
-use Rattle.handles.proofs.Steps.Shared.{List, ◌≡◌, ℕ, ◌^◌, ◌<◌, Bool, [], ◌∷◌, sym, subst, ap, refl, ◌∙◌, ex, upd}
-use Rattle.handles.proofs.Steps.Shared.{upd_i, via, never_e, SProp, ent, sep, never, ftrue, Fml, fsep, given, learn}
-use Rattle.handles.proofs.Steps.Shared.{check, show, assume, ‵, ◌⊛◌, ◌$◌, ◌∵◌, !, qed, by, move, keep, drop, split}
-use Rattle.handles.proofs.Steps.Shared.{fsplit, fsplit3, fjoin3, fpair, ffact, fpick, fpack, frame, suffices, use1}
-use Rattle.handles.proofs.Steps.Shared.{use2, done, word, living, StandsWithin, unshared, rows, noted_as, adds, Stage}
-use Rattle.handles.proofs.Steps.Shared.{over, logs, kept_log, reached, Entry, word_after, left_by, tally_of}
-use Rattle.handles.proofs.Steps.Shared.{coded_entry, MayMake, IsTallied, Keeps, Adds, keeps-counts, keeps-more}
-use Rattle.handles.proofs.Steps.Shared.{settle, raw, latest, IsPrefix, ◌++◌, ap₂}
+use Rattle.handles.proofs.Steps.Shared.{SharedBlock, rule, beside, at_stage, and_logged, Asks, fits, guard, List, ◌≡◌}
+use Rattle.handles.proofs.Steps.Shared.{ℕ, ◌^◌, ◌<◌, Bool, [], ◌∷◌, sym, subst, ap, refl, ◌∙◌, ex, upd, upd_i, via}
+use Rattle.handles.proofs.Steps.Shared.{never_e, SProp, ent, sep, never, ftrue, Fml, fsep, given, learn, check, show}
+use Rattle.handles.proofs.Steps.Shared.{assume, ‵, ◌⊛◌, ◌$◌, ◌∵◌, !, qed, by, move, keep, drop, split, fsplit}
+use Rattle.handles.proofs.Steps.Shared.{fsplit3, fjoin3, fpair, ffact, fpick, fpack, frame, suffices, use1, use2}
+use Rattle.handles.proofs.Steps.Shared.{done, word, living, StandsWithin, unshared, rows, noted_as, adds, Stage, over}
+use Rattle.handles.proofs.Steps.Shared.{logs, kept_log, reached, Entry, word_after, left_by, tally_of, coded_entry}
+use Rattle.handles.proofs.Steps.Shared.{MayMake, IsTallied, Keeps, Adds, keeps-counts, keeps-more, settle, raw}
+use Rattle.handles.proofs.Steps.Shared.{latest, IsPrefix, ◌++◌, ap₂, WhileAlive}
 
 module _ {M : Type 1} {𝓤 : Ura M} (𝓛 : Logic 𝓤) (s : SharedBlock) where
   open 𝓛 use {H, A}
@@ -88,11 +88,6 @@ module _ {M : Type 1} {𝓤 : Ura M} (𝓛 : Logic 𝓤) (s : SharedBlock) where
       (is : (w : ℕ) → w < 2 ^ 64 → word_after e.kind w ≡ f w) (bare after : ℕ → List Entry → Fml) (X T : Fml)
       (T' : ℕ → List Entry → Fml) (turns : Turns old e T T')
       (joined : (w : ℕ) (log : List Entry) → ent 𝓤 (sem 𝓛 (fsep (bare w log) (T' w log))) (sem 𝓛 (after w log))) where
-    -- what the step does while the block lives
-    abbrev pub Steps : Type 1
-    Steps = (j : ℕ) (mark : Bool) (w n : ℕ) (log : List Entry) → w < 2 ^ 64 → StandsWithin s.limit w mark n
-        → Lands 𝓛 s (f w) log mark n X (bare w log) j
-
     abbrev Left : ℕ → Fml
     Left = and_logged s old e after
 
@@ -101,7 +96,7 @@ module _ {M : Type 1} {𝓤 : Ura M} (𝓛 : Logic 𝓤) (s : SharedBlock) where
     Has = fsep Old (fsep X T)
 
     -- then it may be asked for, and leaves its entry in the log
-    pub stepped : Steps → ent 𝓤 (sem 𝓛 (fsep (unshared s.names) X)) (never 𝓤) → Asks 𝓛 s f Has Left
+    pub stepped : WhileAlive 𝓛 s f X bare → ent 𝓤 (sem 𝓛 (fsep (unshared s.names) X)) (never 𝓤) → Asks 𝓛 s f Has Left
     stepped steps over-not = asking.opened 𝓛 (rule s) s.block s.offset f Left Has
         (λ j. qed 𝓛 (‵ (rule s) ∷ ‵ Has ∷ []) ∵ fpick ! (λ g. by ! (at j g)))
       where

@@ -3,12 +3,11 @@ use Rattle.counting_word.specs.WordSteps as step
 use Rattle.handles.proofs.Steps.Shared.{◌≡◌, ◌≢◌, ℕ, Bool, true, false, [], ◌∷◌, refl, ap, ◌∙◌, ne_eqb, if◌then◌else◌}
 use Rattle.handles.proofs.Steps.Shared.{dite, ℕ_discrete, Ura, Share, Fml, fsep, Logic, ‵, ◌$◌, ◌∵◌, !, qed, by, move}
 use Rattle.handles.proofs.Steps.Shared.{use1, is_one_handle, full_share, is_one_handle-marked, is_one_handle-unmarked}
-use Rattle.handles.proofs.Steps.Shared.{a_handle, whole_block, StandsWithin, unit_of_count, stake, SharedBlock}
-use Rattle.handles.proofs.Steps.Shared.{counts, beside, granted, counted_stake, entitles, lives_on, leaves, Lands}
-use Rattle.handles.proofs.Steps.Shared.{Asks, and_logged, by_own, ftrue, title, Entry, List, id⊢}
-use Rattle.handles.proofs.Steps.Shared.{right_by_unique_read}
+use Rattle.handles.proofs.Steps.Shared.{a_handle, whole_block, unit_of_count, stake, SharedBlock, granted}
+use Rattle.handles.proofs.Steps.Shared.{counted_stake, entitles, lives_on, leaves, Asks, and_logged, by_own, ftrue}
+use Rattle.handles.proofs.Steps.Shared.{title, Entry, List, id⊢, right_by_unique_read, finds}
 use Rattle.handles.proofs.Steps.Turns.{turns_none}
-use Rattle.handles.proofs.Steps.DropReads.{a_stake, whole_pass, held_step, by_part, HeldStep}
+use Rattle.handles.proofs.Steps.DropReads.{a_stake, whole_pass, held_step, Held}
 use Rattle.handles.proofs.Steps.Lowers.{last_one}
 
 abbrev bare_unique_read : SharedBlock → ℕ → List Entry → Fml
@@ -25,27 +24,22 @@ module _ {M : Type 1} {𝓤 : Ura M} (𝓛 : Logic 𝓤) (s : SharedBlock) where
   reads_for_unique = held_step 𝓛 s (bare_unique_read s) step.reads_for_unique (λ w _. refl) (after_unique_read s)
       (λ _ _. whole_pass s)
       (turns_none 𝓛 s [] full_share (by_own s step.reads_for_unique) (λ log there. there) (λ p. refl))
-      (λ _ _. id⊢ 𝓤 _) (λ j mark y e w n. by_part 𝓛 s (bare_unique_read s) j mark y e w n
-      (λ log holds. dite (ℕ_discrete n 1)
+      (λ _ _. id⊢ 𝓤 _) (λ j w n log holds. dite (ℕ_discrete n 1)
       (λ one. last_one 𝓛 s (λ w. w) right_by_unique_read 1 refl refl j w n log one holds)
-      (λ other. more j w n log other holds)) (marked_one j y e w n))
+      (λ other. more j w n other log holds)) any
     where
       others : (w : ℕ) → is_one_handle w ≡ false → right_by_unique_read w ≡ a_handle
       others w other = ap (λ z. if z then whole_block 1 else a_handle) other
 
-      more : (j w n : ℕ) (log : List Entry) → n ≢ 1 → StandsWithin s.limit w false n
-          → Lands 𝓛 s w log false n (unit_of_count s.names) (bare_unique_read s w log) j
-      more j w n log other holds =
-          qed 𝓛 (‵ (counts s w log) ∷ ‵ (beside s false n) ∷ ‵ (unit_of_count s.names) ∷ []) ∵
+      more : (j w n : ℕ) → n ≢ 1 → Held 𝓛 s (bare_unique_read s) (unit_of_count s.names) j false w n
+      more j w n other log holds = qed 𝓛 (finds s w log false n (unit_of_count s.names)) ∵
           lives_on 𝓛 s ! false w n log holds $ move ! (1 ∷ []) $
           use1 𝓛 (‵ (title s.names)) (counted_stake 𝓛 s.names) $
           by ! (leaves 𝓛 s a_handle (right_by_unique_read w) log j
           (others w (is_one_handle-unmarked w n n holds.0 ∙ ne_eqb n 1 other)))
 
-      marked_one : (j : ℕ) (y : Bool) (e : Share) (w n : ℕ)
-          → HeldStep 𝓛 s (bare_unique_read s) j true y e w n
-      marked_one j y e w n log holds =
-          qed 𝓛 (‵ (counts s w log) ∷ ‵ (beside s true n) ∷ ‵ (a_stake s y e) ∷ []) ∵
+      any : (j : ℕ) (y : Bool) (e : Share) (w n : ℕ) → Held 𝓛 s (bare_unique_read s) (a_stake s y e) j true w n
+      any j y e w n log holds = qed 𝓛 (finds s w log true n (a_stake s y e)) ∵
           lives_on 𝓛 s ! true w n log holds $ move ! (1 ∷ []) $
           use1 𝓛 (‵ (title s.names)) (entitles 𝓛 s.names e y) $
           by ! (leaves 𝓛 s a_handle (right_by_unique_read w) log j

@@ -1,9 +1,11 @@
 -- The names that the walks over a block's raw pointer cite.
+pub mod AsksWord
 pub mod AtType
 pub mod BorrowedHandle
 pub mod Fields
 pub mod Logged
 pub mod OneParam
+pub mod Statements
 pub use Rattle.std.proofs.Common.{◌≡◌, ℕ, ◌+◌, ◌-◌, ◌%◌, ◌^◌, ◌<◌, Bool, true, false, List, [], ◌∷◌, ◌++◌, refl, sym}
 pub use Rattle.std.proofs.Common.{ap, ◌∙◌, subst, lit<, arith, w64}
 pub use mir.Syntax.{a_type, named}
@@ -39,9 +41,10 @@ pub use denote.Ref.{shr_vals, shr_Tells, MutBor, MutRef, mut_Tells, mut_vals}
 pub use denote.Triple.Walked.{Stays, stay_dropped, walk_of, Goes-dropped, Goes-ref, Goes-spent_ref, stay_ref}
 pub use Rattle.core.proofs.alloc.Shapes.{after}
 pub use Rattle.atomic_table.proofs.Walks.{proved, leaves}
-pub use Rattle.handles.proofs.Walks.AtType.{at_type, walks, walks_at}
+pub use Rattle.handles.proofs.Walks.AtType.{at_type, walks, walks_at, dropped, dropped_at}
 pub use Rattle.atomic_table.proofs.Calls.{fm, found, finds}
-pub use Rattle.counting_word.specs.Rights.{Right, IsWholeBlock, a_handle, right_by_unique_read, right_by_drop_read}
+pub use Rattle.counting_word.specs.Rights.{Right, IsWholeBlock, nothing, a_handle, right_by_unique_read}
+pub use Rattle.counting_word.specs.Rights.{right_by_drop_read}
 pub use Rattle.counting_word.specs.Rights.{right_by_lower, right_by_raise, right_by_read, to_lower, whole_block}
 pub use Rattle.handles.specs.Inside.Blocks.{HeldRow, BlockId, stamp, block_rule, permit_owns, Names}
 pub use Rattle.handles.specs.Inside.Blocks.{bare_block, counted_handle, handle_owns, handle_shares, heap_offset}
@@ -54,8 +57,11 @@ pub use Rattle.handles.proofs.Walks.Fields.{permit_kept, sole_permits, sole_show
 pub use Rattle.handles.proofs.Walks.Fields.{raise-NoBlock, drop_read-NoHandle}
 pub use Rattle.handles.proofs.Walks.BorrowedHandle.{opens_word, opens_handle, shows_permit, closes_borrow, asks_with}
 pub use Rattle.handles.proofs.Walks.BorrowedHandle.{asks_new, logs, reports, parted, word_at}
-pub use Rattle.handles.proofs.Walks.OneParam.{a_ref, by_ref, by_handle, by_value, handle_worded, permit_worded}
-pub use Rattle.handles.proofs.Walks.OneParam.{is_handle, so, also}
+pub use Rattle.handles.proofs.Walks.OneParam.{a_ref, by_ref, by_value, handle_worded, permit_worded}
+pub use Rattle.handles.proofs.Walks.OneParam.{is_handle, so, also, both, by_shared, turns}
+pub use Rattle.handles.proofs.Walks.Statements.{its_field, field_behind}
+pub use Rattle.handles.proofs.Walks.AsksWord.{asks_word, returns_found}
+pub use Rattle.handles.proofs.Walks.BorrowedHandle.{keeps_permit}
 pub use Rattle.counting_word.specs.Tallies.{Adds, newest}
 pub use Rattle.handles.proofs.Steps.Born.{static_entry, Born, BornSome, Known, born, knows}
 pub use Rattle.handles.proofs.Blocks.Boxes.{Boxed, box_opens, box_shuts, heap_twice}

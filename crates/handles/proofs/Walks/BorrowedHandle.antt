@@ -31,7 +31,7 @@ use Rattle.counting_word.specs.Logs.{Entry, made}
 use Rattle.counting_word.specs.Tallies.{Adds, newest}
 use Rattle.handles.specs.contracts.block.handle.Handle as handle_type
 use Rattle.handles.proofs.Walks.Fields.{one_word, words_are, words_open, HandleRow, HandleWords, handle_at, NoBlock}
-use Rattle.handles.proofs.Walks.Fields.{permit_shown}
+use Rattle.handles.proofs.Walks.Fields.{permit_shown, permit_kept, NoHandle}
 use Rattle.handles.proofs.Steps.Shared.{block_at, and_logged, grants}
 
 -- what a `&` has of a handle goes in halves
@@ -121,6 +121,15 @@ module _ (R : RattleType) (p : Ptr) (x : (HeldRow R).Denot)
       -- [the open borrow; the share; half of the token; the rule; the sharing; the word]
       move t (5 ∷ 2 ∷ []) $ opens_word R p t soaks inb b o (λ r. k inb i e r))))
 
+  -- a permit of the handle that made the step
+  pub keeps_permit : K → Soaks G → InBlock p → (i : Names) (r : Right) → NoHandle r → (old log : List Entry) (e : Entry)
+      (w : ℕ) → (Adds x.limit.count old e w log → Seq K 𝓛 (‵ (permit_owns R p x η n r log) ∷ Γ) G)
+      → Seq K 𝓛 (‵ (fsep (adds x.limit.count η old e w log) (grants (block_at R p x η n i) r log))
+      ∷ ‵ (finv (block_rule R p x η i)) ∷ Γ) G
+  keeps_permit t soaks inb i r none old log e w k = use2 𝓛 (later
+      (given (Adds x.limit.count old e w log) (‵ (permit_owns R p x η n r log))))
+      (permit_kept 𝓛 R p x η n inb i old e w r log none) $ await t soaks $ learn t k
+
   -- a permit that was made through a `&`, of the handle that was born last
   pub shows_permit : K → Soaks G → InBlock p → (i : Names) (r : Right) → NoBlock r → (old log : List Entry) (e : Entry)
       (w : ℕ) → (Adds x.limit.count old e w log → Seq K 𝓛 (‵ (permit_owns R p x η (newest log) r log) ∷ Γ) G)
@@ -129,6 +138,12 @@ module _ (R : RattleType) (p : Ptr) (x : (HeldRow R).Denot)
   shows_permit t soaks inb i r none old log e w k = use3 𝓛 (later
       (given (Adds x.limit.count old e w log) (‵ (permit_owns R p x η (newest log) r log))))
       (permit_shown 𝓛 R p x η n inb i old e w r log none) $ await t soaks $ learn t k
+
+-- what is beside a step through a `&`: the rule, half of the token, the open borrow, the sharing
+abbrev pub left_open : (R : RattleType) (p : Ptr) (x : (HeldRow R).Denot) (η : BlockId) (n : ℕ) {M : Type 1} {𝓤 : Ura M}
+    → Lft → Share → Names → Share → List (Item 𝓤) → List (Item 𝓤)
+left_open R p x η n κ q i e Γ = ‵ (finv (block_rule R p x η i)) ∷ ‵ (flft κ (Share.right q))
+    ∷ ‵ (fobor κ (Share.left q) (lent_share i η n e)) ∷ ‵ (shown R p x (i.shared ∷ [])) ∷ Γ
 
 module _ (R : RattleType) (p : Ptr) (x : (HeldRow R).Denot)
     (η : BlockId) (n : ℕ) {M : Type 1} {𝓤 : Ura M} {𝓛 : Logic 𝓤} {K : Type 0} {Γ : List (Item 𝓤)} {G : Goal 𝓤
@@ -139,9 +154,7 @@ module _ (R : RattleType) (p : Ptr) (x : (HeldRow R).Denot)
       → ((log : List Entry) → Adds x.limit.count old (made n what) w log
       → Seq K 𝓛 (‵ (reached η log) ∷ ‵ (flft κ q) ∷ Γ) G)
       → Seq K 𝓛 (‵ (and_logged (block_at R p x η n i) old (made n what) (λ _ _. lent_share i η n e) w)
-      ∷ ‵ (finv (block_rule R p x η i))
-      ∷ ‵ (flft κ (Share.right q)) ∷ ‵ (fobor κ (Share.left q) (lent_share i η n e)) ∷ ‵ (shown R p x (i.shared ∷ []))
-      ∷ Γ) G
+      ∷ left_open R p x η n κ q i e Γ) G
   logs t soaks i e old what w k = fpick t (λ log. fsplit t $ fsplit t $ move t (1 ∷ []) $ fpick t (λ adds. drop t $
       -- [the log; the share; the rule; half of the token; the open borrow; the sharing]
       move t (1 ∷ 3 ∷ 4 ∷ []) $ closes_borrow t soaks $ move t (2 ∷ []) $ drop t $ move t (2 ∷ []) $ drop t $
@@ -154,8 +167,7 @@ module _ (R : RattleType) (p : Ptr) (x : (HeldRow R).Denot)
       → Seq K 𝓛 (‵ (permit_owns R p x η (newest log) r log) ∷ ‵ (flft κ q) ∷ Γ) G)
       → Seq K 𝓛 (‵ (and_logged (block_at R p x η n i) old (made n what)
       (λ w log. reported (block_at R p x η n i) e w r log) w)
-      ∷ ‵ (finv (block_rule R p x η i)) ∷ ‵ (flft κ (Share.right q)) ∷ ‵ (fobor κ (Share.left q) (lent_share i η n e))
-      ∷ ‵ (shown R p x (i.shared ∷ [])) ∷ Γ) G
+      ∷ left_open R p x η n κ q i e Γ) G
   reports t soaks {κ} {q} inb i e r none old what w k = fpick t (λ log. fsplit t $ move t (1 ∷ []) $ fsplit3 t $
       -- [the share; that it is within; the right; that it is in the log; the rule; half of the token; the open borrow;
       -- the sharing]

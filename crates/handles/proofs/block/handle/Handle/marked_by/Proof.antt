@@ -1,16 +1,15 @@
 -- `marked_by` knows the block to be marked by the log of a step, and gives a handle away for good. It makes no
 -- step itself.
-use Rattle.handles.proofs.Walks.{◌≡◌, ℕ, false, List, [], ◌∷◌, refl, named, Val, vptr, Lft, Share, Fml, ftrue, fsep}
-use Rattle.handles.proofs.Walks.{flft, finv, later, await, ‵, raw, ◌⊛◌, ◌$◌, ◌∵◌, !, qed, by, move, keep, drop}
-use Rattle.handles.proofs.Walks.{split, join, fsplit, fjoin, fjoin3, fpick, rewrite, use1, use2, feq_i, stop, fld}
-use Rattle.handles.proofs.Walks.{load, addr, of_opd, first, blocks, returns, alloc_all, pass_all, free_all, look_at}
-use Rattle.handles.proofs.Walks.{get, through, sets, sets_last, sub, whole, look_in, fact, yes, RattleType, owns}
-use Rattle.handles.proofs.Walks.{types_at, plain, Ptr, block_ptr, block_of, offset_of, at_block, nothing_more, heard}
-use Rattle.handles.proofs.Walks.{shuts, param, param_laws, RefOf, shr_vals, shr_Tells, Stays, stay_dropped, walk_of}
-use Rattle.handles.proofs.Walks.{Goes-dropped, HeldRow, block_rule, one_word, HandleRow, HandleWords, opens_handle}
-use Rattle.handles.proofs.Walks.{closes_borrow, known, vstruct, vnil, hide, Entry, BlockId, marked, HasMark}
-use Rattle.handles.proofs.Walks.{marked_shares, becomes_lasting, staying, fpack, LoggedRow, no_bytes_told}
-use Rattle.handles.proofs.Walks.{SharedBlock, block_at, BornSome, born, Known, knows, newest, at_type, walks}
+use Rattle.handles.proofs.Walks.{dropped, snd∗, id⊢, via, so, both, field_behind, ◌≡◌, ℕ, false, List, [], ◌∷◌, refl}
+use Rattle.handles.proofs.Walks.{named, Val, vptr, Fml, ftrue, fsep, flft, finv, later, await, ‵, ◌⊛◌, ◌$◌, ◌∵◌, !, by}
+use Rattle.handles.proofs.Walks.{move, keep, drop, split, join, fsplit, fjoin, fjoin3, fpick, rewrite, use1, use2}
+use Rattle.handles.proofs.Walks.{feq_i, stop, addr, of_opd, first, blocks, returns, alloc_all, pass_all, free_all}
+use Rattle.handles.proofs.Walks.{look_at, get, through, sets, sets_last, fact, yes, RattleType, plain, Ptr, block_ptr}
+use Rattle.handles.proofs.Walks.{block_of, offset_of, at_block, nothing_more, shuts, param, param_laws, RefOf}
+use Rattle.handles.proofs.Walks.{shr_vals, shr_Tells, Goes-dropped, HeldRow, block_rule, one_word, HandleRow}
+use Rattle.handles.proofs.Walks.{HandleWords, opens_handle, closes_borrow, vstruct, vnil, hide, Entry, BlockId, marked}
+use Rattle.handles.proofs.Walks.{HasMark, marked_shares, becomes_lasting, staying, fpack, LoggedRow, no_bytes_told}
+use Rattle.handles.proofs.Walks.{SharedBlock, block_at, BornSome, born, Known, knows, newest, at_type}
 use types.Growing.{at_least_dup}
 use Rattle.handles.specs.Inside.Blocks.{kept_log, logs, reached}
 use Rattle.handles.specs.contracts.block.handle.Handle.marked_by.{ended, clauses}
@@ -20,38 +19,31 @@ use Rattle.handles.proofs.block.handle.Handle.marked_by.Code as code
 
 pub marked_by_spec : {M : Type 1} → statement M
 marked_by_spec 𝓤 𝓛 𝓜 𝓡 wired T L =
-    let R : RattleType = param 0 T in let En = ended T in let c = clauses T 𝓛 𝓜.mem 𝓡.returns in
-    let self = RefOf (0 ∷ []) tt (plain (λ _. HandleRow R)) (λ _. tt) in let reported = plain (λ _. LoggedRow) in
-    let hs : Stays En.signature.params En.kept = (stay_dropped self yes, (stay_dropped reported yes, tt)) in
-    let goes = Goes-dropped 𝓛 3 reported yes (λ κs x f. refl) in
-    walks (at_type T) code.function 𝓛 𝓜 𝓡 En hs c (Goes-dropped 𝓛 3 self yes (λ κs x f. refl), (goes, tt)) #self
-    (code.unfolded 𝓤 𝓛.H 𝓜 𝓡 wired (T, tt)) (λ κs. (shr_vals, ((λ s. vstruct vnil ∷ []), tt)))
+    let R : RattleType = param 0 T in let self = RefOf (0 ∷ []) tt (plain (λ _. HandleRow R)) (λ _. tt) in
+    dropped (at_type T) code.function 𝓛 𝓜 𝓡 (ended T) (clauses T 𝓛 𝓜.mem 𝓡.returns)
+    (λ κs a. (a.0.now.sole ≡ false) × ((a.1.0.id ≡ a.0.now.id) × HasMark a.1.0.log))
+    (λ κs a gh. via 𝓤 _ (snd∗ 𝓤 (fact 𝓤 _) _) (both 𝓤 (both 𝓤 (id⊢ 𝓤 _))))
+    (Goes-dropped 𝓛 3 self yes (λ κs x f. refl), (Goes-dropped 𝓛 3 (plain (λ _. LoggedRow)) yes (λ κs x f. refl), tt))
+    #self (code.unfolded 𝓤 𝓛.H 𝓜 𝓡 wired (T, tt)) (λ κs. (shr_vals, ((λ s. vstruct vnil ∷ []), tt)))
     (λ κs. (shr_Tells (named 0) κs.0 (HandleRow R), ((λ s vs so. no_bytes_told vs so.0), tt)))
-    (λ κs qs bounds a gh are go ends.
-    let b : ℕ = a.0.ref_ptr.0 in let o : ℕ = a.0.ref_ptr.1 in let κ : Lft = κs.0 in let q : Share = qs.0 in
-    let others : Fml = fsep (flft κs.1.0 qs.1.0) (fsep (flft κs.1.1.0 qs.1.1.0) ftrue) in
+    (λ κs a qs gh Post is are ends go. let b : ℕ = a.0.ref_ptr.0 in let o : ℕ = a.0.ref_ptr.1 in
     let p : Ptr = a.0.now.block in let x : (HeldRow R).Denot = a.0.now.held in let η : BlockId = a.0.now.id in
-    let n : ℕ = a.0.now.number in
-    let old : List Entry = a.1.0.log in let pb : ℕ = block_of p in let po : ℕ = offset_of p in
-    let y : (walk_of 𝓛 En hs c).Ghost = ((κs, qs, bounds, a, (vptr b o ∷ [], (vstruct vnil ∷ [], tt))), gh) in let D :
-    RattleType = HandleWords R in
-    qed 𝓛 (((‵ (flft κ q) ⊛ ‵ others) ⊛ ‵ (owns (types_at En.signature.params κs) a y.0.4)) ∷ raw (fact 𝓤 _)
-    ∷ raw (fact 𝓤 (a.0.now.sole ≡ false)) ∷ raw (fact 𝓤 (a.1.0.id ≡ η)) ∷ raw (fact 𝓤 (HasMark old)) ∷ []) ∵
-    keep ! (2 ∷ 3 ∷ 4 ∷ 0 ∷ []) $ heard ! (a.0.now.sole ≡ false) (λ shared. heard ! (a.1.0.id ≡ η)
-    (λ is_id. heard ! (HasMark old) (λ has.
-    split ! $ split ! $ move ! (2 ∷ []) $ fsplit ! $ fsplit ! $ move ! (2 ∷ []) $ fsplit ! $ fsplit ! $
-    move ! (1 ∷ []) $ rewrite ! 0 (λ (z : BlockId). ‵ (reached z old)) is_id refl $ keep ! (4 ∷ 5 ∷ 6 ∷ 0 ∷ []) $
-    go.enters (vptr b o ∷ vstruct vnil ∷ []) refl $
+    let n : ℕ = a.0.now.number in let old : List Entry = a.1.0.log in let has : HasMark old = is.1.1 in
+    let pb : ℕ = block_of p in let po : ℕ = offset_of p in
+    fsplit ! $ fsplit ! $ move ! (2 ∷ []) $ fsplit ! $ fsplit ! $ move ! (1 ∷ []) $
+    rewrite ! 0 (λ (z : BlockId). ‵ (reached z old)) is.1.0 refl $ move ! (5 ∷ []) $
+    use1 𝓛 (‵ (flft κs.0 qs.0) ⊛ ‵ (fsep (flft κs.1.0 qs.1.0) (fsep (flft κs.1.1.0 qs.1.1.0) ftrue))) (id⊢ 𝓤 _) $
+    -- [what is lent; the token; the other tokens; the log]
+    split ! $ keep ! (6 ∷ 0 ∷ 1 ∷ 2 ∷ []) $
     alloc_all ! (λ l. pass_all ! refl ((tt, tt), ((tt, tt), tt)) $
     move ! (3 ∷ []) $ use1 𝓛 (‵ (reached η old) ⊛ ‵ (reached η old)) (at_least_dup logs 𝓛 η.log (kept_log old)) $
     split ! $ move ! (2 ∷ 3 ∷ 4 ∷ []) $
-    opens_handle R p x η n ! tt a.0.now.sole a.0.now.log shared b o (λ inb i e r. let I : Fml = block_rule R p x η i in
+    opens_handle R p x η n ! tt a.0.now.sole a.0.now.log is.0 b o (λ inb i e r. let I : Fml = block_rule R p x η i in
     let s : SharedBlock = block_at R p x η n i in
     -- [the word; what it says; the token's way back; the open borrow; the share; the rule; the sharing; the
     -- other tokens; the log, twice]
-    sets ! (of_opd ! (load ! (through ! refl (fld ! refl (stop !)))
-    (look_in ! 0 (sub ! 0 refl (whole !))))) refl (tt, tt) $
-    shuts ! tt D r (p, tt) (one_word (block_ptr pb po) ∷ []) b o $
+    sets ! (field_behind ! 0 refl refl refl refl) refl (tt, tt) $
+    shuts ! tt (HandleWords R) r (p, tt) (one_word (block_ptr pb po) ∷ []) b o $
     -- [half of the token; the open borrow; the share; the rule; the sharing; the other tokens; the log]
     move ! (6 ∷ 2 ∷ []) $ fjoin ! $ move ! (3 ∷ []) $ use1 𝓛 (‵ (finv I) ⊛ ‵ (finv I)) (𝓛.invs.inv_dup I) $
     split ! $ move ! (0 ∷ 2 ∷ []) $
@@ -75,8 +67,6 @@ marked_by_spec 𝓤 𝓛 𝓜 𝓡 wired T L =
     go.ahead l 2 $ sets ! (of_opd ! (get ! refl)) refl (tt, tt) $
     rewrite ! 0 (λ (z : Ptr). ‵ (marked_shares R z stays κs.1.0)) (at_block p inb) refl $ hide ! $
     feq_i ! (List Val) (vptr pb po ∷ []) (vptr pb po ∷ []) refl $ fjoin ! $
-    known ! ((x ≡ x) × (η ≡ η) × (old ≡ old)) (refl, refl, refl) $
-    nothing_more ! $ nothing_more ! $ fjoin ! $ nothing_more ! $ fjoin ! $
-    returns ! (look_at ! 0 refl) $ free_all ! refl $ keep ! (3 ∷ 0 ∷ 2 ∷ 1 ∷ []) $
+    returns ! (look_at ! 0 refl) $ free_all ! refl $ keep ! (1 ∷ 0 ∷ []) $
     by ! (ends (vptr pb po) (record { ref_ptr = (pb, po); now = stays }) (tt, (tt, tt))
-    (tt, (tt, tt)))))))))))
+    (so 𝓤 (refl, refl, refl))))))))

@@ -1,18 +1,15 @@
 -- `read_for_unique` is one load of the word, by which the handle knows whether it is the only one.
-use Rattle.handles.proofs.Walks.{◌≡◌, ℕ, ◌+◌, List, [], ◌∷◌, refl, sym, ap, ◌∙◌, lit<, named, Val, vptr}
-use Rattle.handles.proofs.Walks.{full_share, via, Lft, Share, Fml, ftrue, flft, ‵, raw, ◌⊛◌, later, ◌$◌, ◌∵◌, !, qed}
-use Rattle.handles.proofs.Walks.{by, move, keep, drop, split, split3, join, fsplit, fsplit3, fjoin, fjoin3, fpick}
-use Rattle.handles.proofs.Walks.{use1, use2, await, rewrite, stop, fld, load, addr, lit, of_opd, no_more, and_then}
-use Rattle.handles.proofs.Walks.{first, blocks, Calls-last, returns, alloc_all, pass_all, free_all, look_at, get}
-use Rattle.handles.proofs.Walks.{through, sets, lands_last, agg, sub, whole, look_in, fact, RattleType, owns}
-use Rattle.handles.proofs.Walks.{types_at, plain, Ptr, block_ptr, block_of, offset_of, at_block, nothing_more, peeks}
-use Rattle.handles.proofs.Walks.{heard, Is, shows, cell_at, param, param_laws, Stays, walk_of, fm, found, finds}
-use Rattle.handles.proofs.Walks.{HeldRow, one_word, words_are, HandleRow, HandleWords, known, asks_new}
-use Rattle.handles.proofs.Walks.{handle_at, is_handle, Adds, GName, Incl-refl, mut_vals, mut_Tells, opens, closes}
-use Rattle.handles.proofs.Walks.{Goes-ref, stay_ref, is_one_handle, counted_handle}
-use Rattle.handles.proofs.Walks.{handle_owns, block_at, and_logged, sole_shown, returns_logged, word_and_logged}
-use Rattle.handles.proofs.Walks.{word_and_logged-Good, forgets, handle_settles, at_type, walks}
-use Rattle.handles.proofs.Walks.{BlockId, SharedBlock, Sharing, held_as, made, use3, Bool}
+use Rattle.handles.proofs.Walks.{◌≡◌, ℕ, ◌+◌, List, [], ◌∷◌, refl, sym, ap, ◌∙◌, named, Val, vptr, full_share, via}
+use Rattle.handles.proofs.Walks.{Lft, Share, Fml, ftrue, flft, ‵, raw, ◌⊛◌, later, ◌$◌, ◌∵◌, !, qed, by, move, keep}
+use Rattle.handles.proofs.Walks.{drop, split, split3, join, fsplit, fsplit3, fjoin, fjoin3, fpick, use1, use2, await}
+use Rattle.handles.proofs.Walks.{rewrite, alloc_all, pass_all, sets, fact, RattleType, owns, types_at, plain, Ptr}
+use Rattle.handles.proofs.Walks.{block_ptr, block_of, offset_of, at_block, nothing_more, peeks, heard, Is, shows}
+use Rattle.handles.proofs.Walks.{cell_at, param, param_laws, Stays, walk_of, fm, HeldRow, one_word, words_are}
+use Rattle.handles.proofs.Walks.{HandleRow, HandleWords, known, asks_new, handle_at, is_handle, Adds, GName, Incl-refl}
+use Rattle.handles.proofs.Walks.{mut_vals, mut_Tells, opens, closes, Goes-ref, stay_ref, is_one_handle, counted_handle}
+use Rattle.handles.proofs.Walks.{handle_owns, block_at, and_logged, sole_shown, word_and_logged, word_and_logged-Good}
+use Rattle.handles.proofs.Walks.{forgets, handle_settles, at_type, walks, BlockId, SharedBlock, Sharing, held_as, made}
+use Rattle.handles.proofs.Walks.{use3, Bool, field_behind, asks_word, returns_found, no_more, agg, returns_logged}
 use base.Fml.{fex}
 use Rattle.handles.specs.Inside.Blocks.{known_log}
 use contract.BorrowLft.{◌⊑◌}
@@ -57,15 +54,10 @@ read_for_unique_spec 𝓤 𝓛 𝓜 𝓡 wired T L =
     𝓛 p x η n μ lives μ r (Incl-refl μ)) $ await ! tt $ split ! $ fpick ! (λ i. fsplit3 ! $
     let b' : SharedBlock = block_at R p x η n i in
     let aft : ℕ → Fml = and_logged b' [] (made n step.reads_for_unique) (after_unique_read b') in
-    sets ! (of_opd ! (load ! (through ! refl (fld ! refl (stop !))) (look_in ! 4 (sub ! 0 refl (whole !)))))
-    refl (tt, tt) $ first ! $ blocks ! $ sets ! (addr ! (through ! refl (fld ! refl (stop !)))) refl (tt, tt) $
+    sets ! (field_behind ! 4 refl refl refl refl) refl (tt, tt) $
     asks_new ! (via 𝓤 _ (reads_for_unique 𝓛 b')
     (loads 𝓛 𝓜 𝓡 (code.calls-core::raw_atomic::load 𝓡.env wired) (block_ptr pb (po + 0)) aft)) $
-    sets ! (agg ! (and_then ! (lit ! tt) (no_more !))) refl (tt, (record { fits = lit< tt }, tt)) $
-    Calls-last ! (fm 𝓛 𝓜 𝓡) (found aft) (and_then ! (get ! refl) (and_then ! (get ! refl) (no_more !)))
-    (λ u. finds ! aft (λ w fits.
-    lands_last ! refl (tt, record { fits = fits }) $ go.ahead l 2 $
-    sets ! (of_opd ! (get ! refl)) refl (tt, record { fits = fits }) $
+    asks_word l ! (fm 𝓛 𝓜 𝓡) aft refl refl (λ Δ last. last) (λ w fits.
     fpick ! (λ log. let sole : Bool = is_one_handle w in
     let reported : Self.Denot = handle_at R p x sole η n (known_log sole log) in
     fsplit ! $ fsplit ! $ move ! (1 ∷ []) $ fpick ! (λ adds. drop ! $
@@ -79,12 +71,9 @@ read_for_unique_spec 𝓤 𝓛 𝓜 𝓡 wired T L =
     move ! (3 ∷ 0 ∷ 4 ∷ 5 ∷ 6 ∷ []) $ closes ! tt Self reported (one_word p ∷ []) b o $
     -- [its name; its borrow; its token; that the log was reached; the token of T; its place; nothing; nothing]
     move ! (5 ∷ 0 ∷ 1 ∷ []) $ fjoin3 ! $ move ! (3 ∷ 4 ∷ []) $ join ! $ move ! (2 ∷ 0 ∷ []) $ join ! $ move ! (2 ∷ []) $
-    sets ! (agg ! (no_more !)) refl (tt, tt) $
-    sets ! (agg ! (and_then ! (get ! refl) (and_then ! (get ! refl) (no_more !)))) refl (word_and_logged-Good w fits) $
-    returns_logged η w ! fits log $
+    returns_found l ! refl (agg ! (no_more !)) (tt, tt) (word_and_logged-Good w fits) $ returns_logged η w ! fits log $
     known ! (Adds x.limit.count [] (made n step.reads_for_unique) w log) adds $ known ! (η ≡ η) refl $ join ! $
     known ! (reported ≡ reported) refl $ join ! $
     -- [the facts; the result; the tokens; the reference; nothing]
-    nothing_more ! $ move ! (4 ∷ 0 ∷ []) $ fjoin ! $
-    returns ! (look_at ! 0 refl) $ free_all ! refl $ keep ! (3 ∷ 0 ∷ 2 ∷ 1 ∷ []) $
-    by ! (ends (word_and_logged w) (w, record { id = η; log = log }) (reported, tt) (tt, tt)))))))))))))
+    nothing_more ! $ move ! (4 ∷ 0 ∷ []) $ fjoin ! $ keep ! (3 ∷ 0 ∷ 2 ∷ 1 ∷ []) $
+    by ! (ends (word_and_logged w) (w, record { id = η; log = log }) (reported, tt) (tt, tt))))))))))))

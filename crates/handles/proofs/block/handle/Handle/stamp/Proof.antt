@@ -1,11 +1,11 @@
 -- `stamp` is one load of the stamp.
-use Rattle.handles.proofs.Walks.{◌≡◌, ℕ, ◌+◌, false, [], ◌∷◌, refl, lit<, w64, vint, via, Fml, ◌$◌, !, by, move, keep}
-use Rattle.handles.proofs.Walks.{stop, fld, load, addr, lit, of_opd, no_more, and_then, first, blocks, Calls-last}
-use Rattle.handles.proofs.Walks.{returns, alloc_all, pass_all, free_all, look_at, get, through, sets, lands_last, agg}
-use Rattle.handles.proofs.Walks.{sub, whole, look_in, fact, RattleType, block_ptr, block_of, offset_of, shuts, param}
-use Rattle.handles.proofs.Walks.{fm, found, finds, one_word, HandleWords, is_number, opens_handle, closes_borrow}
-use Rattle.handles.proofs.Walks.{asks_with, emp, id⊢, stamp_offset, lent_share, block_at, stamps, snd∗, by_handle}
-use Rattle.handles.proofs.Walks.{parted}
+use Rattle.handles.proofs.Walks.{HandleRow, BlockId, HeldRow, Ptr, field_behind, ◌≡◌, ℕ, ◌+◌, false, [], ◌∷◌, refl}
+use Rattle.handles.proofs.Walks.{lit<, w64, vint, via, Fml, ◌$◌, !, by, move, keep, stop, fld, addr, lit, of_opd}
+use Rattle.handles.proofs.Walks.{no_more, and_then, first, blocks, Calls-last, returns, alloc_all, pass_all, free_all}
+use Rattle.handles.proofs.Walks.{look_at, get, through, sets, lands_last, agg, fact, RattleType, block_ptr, block_of}
+use Rattle.handles.proofs.Walks.{offset_of, shuts, param, fm, found, finds, one_word, HandleWords, is_number}
+use Rattle.handles.proofs.Walks.{opens_handle, closes_borrow, asks_with, emp, id⊢, stamp_offset, lent_share, block_at}
+use Rattle.handles.proofs.Walks.{stamps, snd∗, by_ref, parted}
 use Rattle.atomic_table.proofs.Calls.{loads}
 use Rattle.handles.specs.contracts.block.handle.Handle.stamp.{clauses}
 use Rattle.handles.specs.contracts.block.handle.Handle.stamp.Key.{name as #self}
@@ -15,10 +15,12 @@ use Rattle.handles.proofs.block.handle.Handle.stamp.Code as code
 pub stamp_spec : {M : Type 1} → statement M
 stamp_spec 𝓤 𝓛 𝓜 𝓡 wired T L =
     let R : RattleType = param 0 T in
-    by_handle T 𝓛 𝓜 𝓡 (clauses T 𝓛 𝓜.mem 𝓡.returns) (λ sole. sole ≡ false) (λ κs a gh. snd∗ 𝓤 (fact 𝓤 _) (fact 𝓤 _))
-    #self code.function (code.unfolded 𝓤 𝓛.H 𝓜 𝓡 wired (T, tt)) (λ κs qs p x sole η n log b o gh Post shared ends go.
-    alloc_all ! (λ l. pass_all ! refl ((tt, tt), tt) $ opens_handle R p x η n ! tt sole log shared b o (λ inb i e r.
-    sets ! (of_opd ! (load ! (through ! refl (fld ! refl (stop !))) (look_in ! 0 (sub ! 0 refl (whole !)))))
+    by_ref (HandleRow R) tt 𝓛 𝓜 𝓡 (clauses T 𝓛 𝓜.mem 𝓡.returns) (λ κs a. a.now.sole ≡ false)
+    (λ κs a gh. snd∗ 𝓤 (fact 𝓤 _) (fact 𝓤 _)) T #self code.function (code.unfolded 𝓤 𝓛.H 𝓜 𝓡 wired (T, tt))
+    (λ κs qs a gh Post shared ends go. let b : ℕ = a.ref_ptr.0 in let o : ℕ = a.ref_ptr.1 in let h = a.now in
+    let p : Ptr = h.block in let x : (HeldRow R).Denot = h.held in let η : BlockId = h.id in let n : ℕ = h.number in
+    alloc_all ! (λ l. pass_all ! refl ((tt, tt), tt) $ opens_handle R p x η n ! tt h.sole h.log shared b o (λ inb i e r.
+    sets ! (field_behind ! 0 refl refl refl refl)
     refl (tt, tt) $ shuts ! tt (HandleWords R) r (p, tt) (one_word (parted p) ∷ []) b o $
     -- [half of the token; the open borrow; the share; the rule; the sharing; the other tokens]
     let at_stamp : ℕ = offset_of p + stamp_offset in let aft : ℕ → Fml = λ _. lent_share i η n e in

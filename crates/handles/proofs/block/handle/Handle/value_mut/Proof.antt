@@ -1,14 +1,14 @@
 -- `value_mut` lends the value of the block of a handle that is known to be the only one.
-use Rattle.handles.proofs.Walks.{◌≡◌, ℕ, ◌+◌, Bool, true, List, [], ◌∷◌, refl, ap, ◌∙◌, named, Val, vptr, full_share}
-use Rattle.handles.proofs.Walks.{Lft, Share, ftrue, flft, sem, ‵, raw, ◌⊛◌, some, later, ◌$◌, ◌∵◌, !, qed, by, move}
-use Rattle.handles.proofs.Walks.{keep, drop, split, split3, join, fsplit, fsplit3, fjoin, fpick, pick, use1, await}
-use Rattle.handles.proofs.Walks.{rewrite, stop, fld, load, addr, of_opd, first, blocks, returns, alloc_all, pass_all}
-use Rattle.handles.proofs.Walks.{free_all, look_at, get, through, sets, sets_last, sub, whole, look_in, fact, no}
-use Rattle.handles.proofs.Walks.{RattleType, owns, types_at, plain, Ptr, block_ptr, block_of, offset_of, at_block}
-use Rattle.handles.proofs.Walks.{nothing_more, peeks, heard, Is, shows, cell_at, param, Stays, stay_dropped, walk_of}
-use Rattle.handles.proofs.Walks.{HeldRow, one_word, words_are, HandleRow, HandleWords, known, GName, MutRef, MutBor}
-use Rattle.handles.proofs.Walks.{mut_vals, mut_Tells, opens, group, Goes-spent_ref, held_offset, handle_owns}
-use Rattle.handles.proofs.Walks.{unshared_block, at_type, walks, BlockId}
+use Rattle.handles.proofs.Walks.{field_behind, ◌≡◌, ℕ, ◌+◌, Bool, true, List, [], ◌∷◌, refl, ap, ◌∙◌, named, Val, vptr}
+use Rattle.handles.proofs.Walks.{full_share, Lft, Share, ftrue, flft, sem, ‵, raw, ◌⊛◌, some, later, ◌$◌, ◌∵◌, !, qed}
+use Rattle.handles.proofs.Walks.{by, move, keep, drop, split, split3, join, fsplit, fsplit3, fjoin, fpick, pick, use1}
+use Rattle.handles.proofs.Walks.{await, rewrite, stop, fld, addr, of_opd, first, blocks, returns, alloc_all, pass_all}
+use Rattle.handles.proofs.Walks.{free_all, look_at, get, through, sets, sets_last, fact, no, RattleType, owns}
+use Rattle.handles.proofs.Walks.{types_at, plain, Ptr, block_ptr, block_of, offset_of, at_block, nothing_more, peeks}
+use Rattle.handles.proofs.Walks.{heard, Is, shows, cell_at, param, Stays, stay_dropped, walk_of, HeldRow, one_word}
+use Rattle.handles.proofs.Walks.{words_are, HandleRow, HandleWords, known, GName, MutRef, MutBor, mut_vals, mut_Tells}
+use Rattle.handles.proofs.Walks.{opens, group, Goes-spent_ref, held_offset, handle_owns, unshared_block, at_type}
+use Rattle.handles.proofs.Walks.{walks, BlockId}
 use denote.Signature.{mut_ref_to}
 use denote.Follow.{follows, lends_Part}
 use Rattle.handles.specs.Inside.BlockWriteBack.{with_value}
@@ -47,7 +47,7 @@ value_mut_spec 𝓤 𝓛 𝓜 𝓡 wired T L =
     let at : p ≡ block_ptr pb po = at_block p inb in
     rewrite ! 1 (λ (ws : List Val). ‵ (cell_at full_share Self.mir ws b o))
     (ev ∙ ap (λ (z : Ptr). one_word z ∷ []) at) refl $
-    sets ! (of_opd ! (load ! (through ! refl (fld ! refl (stop !))) (look_in ! 1 (sub ! 0 refl (whole !)))))
+    sets ! (field_behind ! 1 refl refl refl refl)
     refl (tt, tt) $
     fsplit ! $ rewrite ! 0 (λ (z : Ptr). ‵ (unshared_block R z x η 1 me.log)) at refl $ fsplit3 ! $ move ! (1
     ∷ []) $ fsplit ! $

@@ -1,12 +1,11 @@
 -- `handle` makes one more handle of a block that is marked, with no step on its word.
 use Rattle.handles.proofs.Walks.{ℕ, false, [], ◌∷◌, refl, id⊢, Lft, Fml, flft, fhide, full_share, finv, later, await}
-use Rattle.handles.proofs.Walks.{block_rule, ‵, ◌⊛◌, ◌$◌, !, by, move, keep, drop, split, fsplit, fjoin, fpick}
-use Rattle.handles.proofs.Walks.{use0, use1, use2, stop, addr, of_opd, no_more, and_then, returns, alloc_all}
-use Rattle.handles.proofs.Walks.{pass_all, free_all, look_at, get, through, sets, agg, RattleType, Ptr, block_ptr}
-use Rattle.handles.proofs.Walks.{param, HeldRow, one_word, shows_permit, by_ref, handle_at, is_handle, so, also}
-use Rattle.handles.proofs.Walks.{unhide, a_handle, marked_shares, SharedBlock, block_at, born}
-use Rattle.handles.proofs.Walks.{fact_i}
-use Rattle.handles.proofs.Walks.{BlockId, Names, BornSome, static_entry, newest}
+use Rattle.handles.proofs.Walks.{block_rule, ‵, ◌⊛◌, ◌$◌, !, by, move, keep, drop, split, fsplit, fjoin, fpick, use0}
+use Rattle.handles.proofs.Walks.{use1, use2, stop, addr, of_opd, no_more, and_then, returns, alloc_all, pass_all}
+use Rattle.handles.proofs.Walks.{free_all, look_at, get, through, sets, agg, RattleType, Ptr, block_ptr, param}
+use Rattle.handles.proofs.Walks.{HeldRow, one_word, shows_permit, by_ref, handle_at, is_handle, so, also, unhide}
+use Rattle.handles.proofs.Walks.{a_handle, marked_shares, SharedBlock, block_at, born, fact_i, BlockId, Names}
+use Rattle.handles.proofs.Walks.{BornSome, static_entry, newest}
 use types.Tokens.{shr_bor-open}
 use Rattle.handles.proofs.Walks.BorrowedHandle.{lent_halves}
 use Rattle.handles.specs.contracts.block.marked.Marked as marked_type

@@ -1,7 +1,7 @@
 -- `into_logged` keeps of a permit that its step is in the log.
-use Rattle.handles.proofs.Walks.{List, [], ◌∷◌, refl, ‵, ◌$◌, !, by, move, keep, drop, fsplit, fjoin, use0}
-use Rattle.handles.proofs.Walks.{no_more, returns, alloc_all, pass_all, free_all, look_at, sets, agg, RattleType, Ptr}
-use Rattle.handles.proofs.Walks.{param, one_word-Good, by_value, permit_worded, so, also, vstruct, vnil, Entry, BlockId}
+use Rattle.handles.proofs.Walks.{List, [], ◌∷◌, refl, ‵, ◌$◌, !, by, move, keep, drop, fsplit, fjoin, use0, no_more}
+use Rattle.handles.proofs.Walks.{returns, alloc_all, pass_all, free_all, look_at, sets, agg, RattleType, Ptr, param}
+use Rattle.handles.proofs.Walks.{one_word-Good, by_value, permit_worded, so, also, vstruct, vnil, Entry, BlockId}
 use Rattle.handles.proofs.Walks.{NoBytes, no_bytes-made, fact_i}
 use Rattle.handles.specs.contracts.block.permit.Permit.into_logged.{clauses}
 use Rattle.handles.specs.contracts.block.permit.Permit.into_logged.Key.{name as #self}
@@ -11,7 +11,7 @@ use Rattle.handles.proofs.block.permit.Permit.into_logged.Code as code
 pub into_logged_spec : {M : Type 1} → statement M
 into_logged_spec 𝓤 𝓛 𝓜 𝓡 wired T L =
     let R : RattleType = param 0 T in by_value (permit_worded R) 𝓛 𝓜 𝓡 (clauses T 𝓛 𝓜.mem 𝓡.returns)
-    (λ κs a. Unit {0}) (λ κs a gh. fact_i 𝓤 _ _ tt) (λ κs a. (tt, tt)) (λ κs x f. refl) T #self code.function
+    (λ κs a. Unit {0}) (λ κs a gh. fact_i 𝓤 _ _ tt) T #self code.function
     (code.unfolded 𝓤 𝓛.H 𝓜 𝓡 wired (T, tt)) (λ κs qs a gh Post asked ends go.
     let p : Ptr = a.block in let η : BlockId = a.id in let log : List Entry = a.log in
     fsplit ! $ move ! (1 ∷ []) $ drop ! $

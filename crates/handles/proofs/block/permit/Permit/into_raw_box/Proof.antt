@@ -1,13 +1,13 @@
 -- `into_raw_box` takes a block that nobody shares, with the allocator that it was requested from.
-use Rattle.handles.proofs.Walks.{◌≡◌, ℕ, ◌+◌, [], ◌∷◌, refl, ap, Val, vptr, full_share, fat, ‵, ◌⊛◌, some, given, ◌$◌}
-use Rattle.handles.proofs.Walks.{ !, by, move, keep, drop, split, fsplit, fsplit3, fjoin3, fpick, pick, learn, use1}
-use Rattle.handles.proofs.Walks.{use2, rewrite, stop, fld, load, of_opd, no_more, and_then, first, blocks, returns}
-use Rattle.handles.proofs.Walks.{alloc_all, pass_all, free_all, look_at, get, get_in, through, sets, sets_last, is}
-use Rattle.handles.proofs.Walks.{agg, sub, whole, fact, RattleType, Ptr, block_ptr, ptr_val, block_of, offset_of}
-use Rattle.handles.proofs.Walks.{at_block, param, layout, Right, HeldRow, permit_owns, one_word-Good, by_value}
-use Rattle.handles.proofs.Walks.{permit_worded, so, also, heap_row, pair_val, raw_box-Good, raw_box_shuts, look}
-use Rattle.handles.proofs.Walks.{whole_block, IsWholeBlock, heap_offset, unshared_block, Good, group, part_at, Boxed}
-use Rattle.handles.proofs.Walks.{box_shuts, heap_twice, whole_block_of, snd∗, BlockId}
+use Rattle.handles.proofs.Walks.{its_field, ◌≡◌, ℕ, ◌+◌, [], ◌∷◌, refl, ap, Val, vptr, full_share, fat, ‵, ◌⊛◌, some}
+use Rattle.handles.proofs.Walks.{given, ◌$◌, !, by, move, keep, drop, split, fsplit, fsplit3, fjoin3, fpick, pick}
+use Rattle.handles.proofs.Walks.{learn, use1, use2, rewrite, stop, fld, load, of_opd, no_more, and_then, first, blocks}
+use Rattle.handles.proofs.Walks.{returns, alloc_all, pass_all, free_all, look_at, get, through, sets, sets_last, is}
+use Rattle.handles.proofs.Walks.{agg, fact, RattleType, Ptr, block_ptr, ptr_val, block_of, offset_of, at_block, param}
+use Rattle.handles.proofs.Walks.{layout, Right, HeldRow, permit_owns, one_word-Good, by_value, permit_worded, so, also}
+use Rattle.handles.proofs.Walks.{heap_row, pair_val, raw_box-Good, raw_box_shuts, look, whole_block, IsWholeBlock}
+use Rattle.handles.proofs.Walks.{heap_offset, unshared_block, Good, group, part_at, Boxed, box_shuts, heap_twice}
+use Rattle.handles.proofs.Walks.{whole_block_of, snd∗, BlockId}
 use Rattle.handles.specs.contracts.block.Block as block_type
 use borrow.Table.OneValue.{part_in, part_out}
 use Rattle.handles.specs.contracts.block.permit.Permit.into_raw_box.{clauses}
@@ -18,7 +18,7 @@ use Rattle.handles.proofs.block.permit.Permit.into_raw_box.Code as code
 pub into_raw_box_spec : {M : Type 1} → statement M
 into_raw_box_spec 𝓤 𝓛 𝓜 𝓡 wired T L =
     let R : RattleType = param 0 T in by_value (permit_worded R) 𝓛 𝓜 𝓡 (clauses T 𝓛 𝓜.mem 𝓡.returns)
-    (λ κs a. IsWholeBlock a.right) (λ κs a gh. snd∗ 𝓤 (fact 𝓤 _) (fact 𝓤 _)) (λ κs a. (tt, tt)) (λ κs x f. refl)
+    (λ κs a. IsWholeBlock a.right) (λ κs a gh. snd∗ 𝓤 (fact 𝓤 _) (fact 𝓤 _))
     T #self code.function (code.unfolded 𝓤 𝓛.H 𝓜 𝓡 wired (T, tt)) (λ κs qs a gh Post asked ends go.
     let p : Ptr = a.block in let x : (HeldRow R).Denot = a.held in let η : BlockId = a.id in let pb : ℕ = block_of p in
     let po : ℕ = offset_of p in let there : Ptr = block_ptr pb po in
@@ -36,7 +36,7 @@ into_raw_box_spec 𝓤 𝓛 𝓜 𝓡 wired T L =
     use1 𝓛 (given (Good (layout heap_row) v) (‵ (fat full_share (layout heap_row) pb (po + heap_offset R) v)))
     (𝓛.laws.at_wt full_share (layout heap_row) pb (po + heap_offset R) v) $ learn ! (λ good.
     alloc_all ! (λ l. pass_all ! refl (one_word-Good p, tt) $
-    sets ! (is ! (of_opd ! (get_in ! (fld ! refl (stop !)) (sub ! 0 refl (whole !)))) (ap ptr_val at)) refl (tt, tt)
+    sets ! (is ! (its_field ! refl refl refl) (ap ptr_val at)) refl (tt, tt)
     $ sets ! (of_opd ! (get ! refl)) refl (tt, tt) $
     first ! $ blocks ! $ sets_last ! (of_opd ! (load ! (through ! refl (fld ! refl (stop !))) (look ! 0 refl)))
     refl good $ go.ahead l 3 $ sets ! (of_opd ! (get ! refl)) refl good $

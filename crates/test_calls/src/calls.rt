@@ -1,7 +1,6 @@
 //! Tests in one thread, of handles and of what stands on them, and of the scripts of `arcbench`.
 
 mod by_bound;
-mod by_value;
 mod drop_order;
 mod header_slices;
 mod iterators;

@@ -76,3 +76,22 @@ macro_rules! again {
         crate::ending::given($rt, ($value).clone(), stringify!($value))
     };
 }
+
+/// Commands, and the replies that they should get.
+#[macro_export]
+macro_rules! served {
+    ($rt:expr; $($command:expr => $reply:expr),* $(,)?) => {
+        (
+            crate::ending::given($rt, vec![in $rt.alloc(); $($command),*], "commands"),
+            crate::ending::given($rt, vec![in $rt.alloc(); $($reply),*], "replies"),
+        )
+    };
+}
+
+/// A name, and calls in turn: whose, the call, and what holds then if that is said.
+#[macro_export]
+macro_rules! turns {
+    ($name:literal; $($who:ident $call:expr $(=> $($after:expr),+)?);* $(;)?) => {
+        ($name, &[$(($who, $call $($(, $after)+)?)),*])
+    };
+}

@@ -1,15 +1,11 @@
 //! In which order the values of a header slice are dropped.
-ghost use Rattle.std.specs.Prelude.{◌==◌};
-ghost use Rattle.std.specs.Cmp.{on_per, partial_equiv_from_equiv};
-ghost use Rattle.std.proofs.lemmas.Cmp.{nat_eq_equiv};
-
 use servo_arc::{Arc, BuildError, UniqueArc};
 use std::alloc::{AllocError, Global};
 use std::process::Abort;
 use std::sync::atomic::AtomicU64;
 use std::sync::atomic::Ordering::SeqCst;
 use std::vec::IntoIter;
-use testing::{again, ok, same, same_at};
+use testing::{ok, same_at};
 
 /// How many values were dropped, and how many of them out of their turn.
 #[derive(Drop)]
@@ -43,16 +39,6 @@ impl Drop for Placed<'_> {
         if log.drops.fetch_add(1, SeqCst) != turn {
             log.misplaced.fetch_add(1, SeqCst);
         }
-    }
-}
-
-impl PartialEq for Placed<'_> {
-    ghost eq = { λ x y. x.turn == y.turn };
-
-    ghost laws = { on_per (λ x. x.turn) (partial_equiv_from_equiv nat_eq_equiv) };
-
-    fn eq(&self, other: &Self) -> bool {
-        self.turn == other.turn
     }
 }
 
@@ -102,44 +88,24 @@ fn check<T: Drop>(rt: &impl Abort, row: Row, log: &Log, built: Result<T, BuildEr
     same_at!(rt, row, log.read(), (all, 0));
 }
 
-#[test]
-fn drops_items_in_order_and_then_the_header(rt: HostRuntime) {
-    for row in ROWS {
-        let (num_items, turn, _) = row;
-        let (log, unique_log) = (Log::new(), Log::new());
-        let items = ok!(&rt, in_turn(rt.alloc(), turn, &log));
-        let header = Placed { turn, log: &log };
-        let built = Arc::from_header_and_iter_with_size(rt.alloc(), header, items, num_items);
-        check(&rt, row, &log, built);
-        let items = ok!(&rt, in_turn(rt.alloc(), turn, &unique_log));
-        let header = Placed {
-            turn,
-            log: &unique_log,
-        };
+fn check_row(rt: &(impl Abort + AllocGlobal), row: Row, is_unique: bool) {
+    let (num_items, turn, _) = row;
+    let log = Log::new();
+    let items = ok!(rt, in_turn(rt.alloc(), turn, &log));
+    let header = Placed { turn, log: &log };
+    if is_unique {
         let built = UniqueArc::from_header_and_iter_with_size(rt.alloc(), header, items, num_items);
-        check(&rt, row, &unique_log, built);
+        check(rt, row, &log, built);
+    } else {
+        let built = Arc::from_header_and_iter_with_size(rt.alloc(), header, items, num_items);
+        check(rt, row, &log, built);
     }
 }
 
 #[test]
-fn drops_the_header_once(rt: HostRuntime) {
-    let log = Log::new();
-    let items = ok!(&rt, vec![in rt.alloc(); 5u64, 6]).into_iter();
-    let header = Placed { turn: 0, log: &log };
-    let shared = ok!(&rt, Arc::from_header_and_iter(rt.alloc(), header, items));
-    drop(again!(&rt, &shared));
-    let is_itself = *shared == *shared;
-    let before = log.read();
-    drop(shared);
-    same!(&rt, (is_itself, before, log.read()), (true, (0, 0), (1, 0)));
-}
-
-#[test]
-fn keeps_the_values_of_a_static_slice(rt: HostRuntime) {
-    let log = Log::new();
-    let items = ok!(&rt, in_turn(rt.alloc(), 2, &log));
-    let header = Placed { turn: 2, log: &log };
-    let built = Arc::from_header_and_iter_alloc(rt.alloc(), header, items, 2, true);
-    drop(ok!(&rt, built));
-    same!(&rt, log.read(), (0, 0));
+fn drops_items_in_order_and_then_the_header(rt: HostRuntime) {
+    for row in ROWS {
+        check_row(&rt, row, false);
+        check_row(&rt, row, true);
+    }
 }

@@ -46,34 +46,6 @@ fn reads_padded_items(rt: HostRuntime) {
     same!(&rt, read(&unique), Some((0, 2, 0xdead, 0xbeef)));
 }
 
-#[test]
-fn reads_an_empty_slice(rt: HostRuntime) {
-    let none: Vec<u32> = Vec::new(rt.alloc());
-    let built = Arc::from_header_and_iter_with_size(rt.alloc(), 100u8, none.into_iter(), 0);
-    let slice = ok!(&rt, built);
-    let seen = (slice.header, slice.len(), slice.is_empty(), slice.slice());
-    same!(&rt, seen, (100, 0, true, &[][..]));
-}
-
-// The items, whether the block is marked, and whether it may be written.
-fn marked(rt: &(impl Abort + AllocGlobal), is_static: bool) -> (Option<[u64; 2]>, bool, bool) {
-    let items = [1, 2].into_iter();
-    let built = Arc::from_header_and_iter_alloc(rt.alloc(), 0u8, items, 2, is_static);
-    let mut shared = ok!(rt, built);
-    let items = shared.slice().first_chunk().copied();
-    (
-        items,
-        shared.is_static(),
-        Arc::get_mut(&mut shared).is_some(),
-    )
-}
-
-#[test]
-fn marks_a_static_slice(rt: HostRuntime) {
-    same!(&rt, marked(&rt, false), (Some([1, 2]), false, true));
-    same!(&rt, marked(&rt, true), (Some([1, 2]), true, false));
-}
-
 fn swap<H, T>(x: &mut UniqueArc<HeaderSlice<H, T>>, y: &mut UniqueArc<HeaderSlice<H, T>>)
     ensures x { x.new ≡ y.old }
     ensures y { y.new ≡ x.old }
@@ -127,8 +99,8 @@ fn items_are_read_one_by_one(rt: HostRuntime) {
     for item in &*slice {
         last = *item;
     }
-    let seen = (slice[0], slice.iter().next_back().copied(), last);
-    same!(&rt, seen, (5, Some(6), 6));
+    let ends = (slice[0], slice.iter().next_back().copied(), last);
+    same!(&rt, (ends, slice.is_empty()), ((5, Some(6), 6), false));
 }
 
 #[test]

@@ -9,7 +9,7 @@ use std::sync::atomic::AtomicU64;
 use std::sync::atomic::Ordering::SeqCst;
 use std::vec::IntoIter;
 use testing::counted::{Counted, Tally};
-use testing::{ok, same, same_at, shared};
+use testing::{holds, ok, same, same_at, shared};
 
 // Gives these answers in turn and then only `None`, so that it may go on after a `None`, and counts how often it was
 // asked.
@@ -44,6 +44,7 @@ fn source_of<'a, T: Copy>(
 
 type Built<T> = Result<ThinArc<u8, T>, BuildError>;
 
+// How often something was asked begins anew.
 fn check_built<T: Debug + PartialEq + Drop>(
     rt: &impl Abort,
     row: &Row<'_, T>,
@@ -55,7 +56,7 @@ fn check_built<T: Debug + PartialEq + Drop>(
         Ok(slice) => same_at!(rt, *num_items, Ok(slice.slice()), *expected),
         Err(refusal) => same_at!(rt, *num_items, Err(refusal), *expected),
     }
-    same_at!(rt, *num_items, asked.load(SeqCst), *asks);
+    same_at!(rt, *num_items, asked.swap(0, SeqCst), *asks);
 }
 
 // The row through both makers.
@@ -65,7 +66,6 @@ fn check<T: Copy + Debug + PartialEq + Drop>(rt: &(impl Abort + AllocGlobal), ro
     let source = ok!(rt, source_of(rt.alloc(), answers, &asked));
     let built = Arc::from_header_and_iter_with_size(rt.alloc(), 7u8, source, num_items);
     check_built(rt, &row, built, &asked);
-    let asked = AtomicU64::new(0);
     let source = ok!(rt, source_of(rt.alloc(), answers, &asked));
     let built = UniqueArc::from_header_and_iter_with_size(rt.alloc(), 7u8, source, num_items);
     check_built(rt, &row, shared(built), &asked);
@@ -161,7 +161,6 @@ fn asks_the_iterator_for_the_number_once(rt: HostRuntime) {
         let asked = AtomicU64::new(0);
         let built = Arc::from_header_and_iter(rt.alloc(), 1u8, boaster(row.0, &asked));
         check_built(&rt, &row, built, &asked);
-        let asked = AtomicU64::new(0);
         let built = UniqueArc::from_header_and_iter(rt.alloc(), 1u8, boaster(row.0, &asked));
         check_built(&rt, &row, shared(built), &asked);
     }
@@ -173,21 +172,15 @@ fn drops_what_a_boaster_gave(rt: HostRuntime) {
     let (asked, headers, items) = (AtomicU64::new(0), Tally::new(), Tally::new());
     let results = boaster(4, &asked).map(|_: u8| Ok(Counted::new(&items, 0)));
     let built = Arc::try_from_header_and_iter(rt.alloc(), Counted::new(&headers, 0), results);
-    same!(
-        &rt,
-        (built.err(), headers.drops(), items.drops()),
-        (Some(OVER), 1, 3)
-    );
+    let seen = (built.err(), headers.drops(), items.drops());
+    same!(&rt, seen, (Some(OVER), 1, 3));
     let results = boaster(4, &asked).map(|_: u8| Ok(Counted::new(&items, 0)));
     let built = UniqueArc::try_from_header_and_iter(rt.alloc(), Counted::new(&headers, 0), results);
-    same!(
-        &rt,
-        (built.err(), headers.drops(), items.drops()),
-        (Some(OVER), 2, 6)
-    );
+    let seen = (built.err(), headers.drops(), items.drops());
+    same!(&rt, seen, (Some(OVER), 2, 6));
 }
 
-#[derive(Debug, PartialEq, Drop)]
+#[derive(Drop)]
 enum Fault {
     Number(u64),
     Build(BuildError),
@@ -211,6 +204,6 @@ fn an_error_drops_what_was_taken(rt: HostRuntime) {
     let header = Counted::new(&headers, 9);
     let results = ok!(&rt, results).into_iter();
     let built = Arc::try_from_header_and_iter(rt.alloc(), header, results);
-    same!(&rt, built.err(), Some(Fault::Number(7)));
+    holds!(&rt, matches!(built.err(), Some(Fault::Number(7))));
     same!(&rt, (headers.drops(), items.drops()), (1, 2));
 }

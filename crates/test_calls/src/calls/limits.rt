@@ -37,17 +37,6 @@ fn the_only_handle_of_a_limit_of_one_writes(rt: HostRuntime) {
 }
 
 #[test]
-fn a_copied_block_keeps_the_limit(rt: HostRuntime) {
-    let mut a = ok!(&rt, Arc::new_with_limit(rt.alloc(), 5u64, 2));
-    let b = again!(&rt, &a);
-    *ok!(&rt, Arc::make_mut(&mut a, rt.alloc())) = 9;
-    for (handle, value) in [(&a, 9), (&b, 5)] {
-        let other = ok!(&rt, Arc::clone(handle, &rt));
-        same!(&rt, (*other, is_full(handle, &rt)), (value, true));
-    }
-}
-
-#[test]
 fn tokens_count_to_the_limit(rt: HostRuntime) {
     let raw = Arc::into_raw(ok!(&rt, Arc::new_with_limit(rt.alloc(), 5u64, 2)));
     let first = Arc::from_raw_addrefed(&raw, &rt);
@@ -56,26 +45,6 @@ fn tokens_count_to_the_limit(rt: HostRuntime) {
     let seen = (*ok!(&rt, first), second.is_err(), *kept);
     same!(&rt, seen, (5, true, 5));
 }
-
-/// What is done with the only handle of a block before its handles are counted.
-#[derive(Clone, Copy)]
-enum Way {
-    Kept,
-    Unique,
-    Token,
-    WrittenInPlace,
-    Copied,
-    MarkedAndCopied,
-}
-
-const WAYS: [(&str, Way); 6] = [
-    ("kept", Way::Kept),
-    ("unique", Way::Unique),
-    ("token", Way::Token),
-    ("written in place", Way::WrittenInPlace),
-    ("copied", Way::Copied),
-    ("marked and copied", Way::MarkedAndCopied),
-];
 
 // More than sixteen bits can count, as the greatest of the limits is.
 const MANY: usize = 70_000;
@@ -99,40 +68,47 @@ fn written(alloc: Global, mut handle: Arc<u64>) -> Result<Arc<u64>, AllocError> 
     Ok(handle)
 }
 
-fn after(alloc: Global, way: Way, handle: Arc<u64>) -> Result<Arc<u64>, AllocError> {
-    match way {
-        Way::Kept => Ok(handle),
-        Way::Unique => match Arc::into_unique(handle) {
-            Ok(unique) => Ok(unique.shareable()),
-            Err(_) => Err(AllocError),
-        },
-        Way::Token => Ok(Arc::from_raw(Arc::into_raw(handle))),
-        Way::WrittenInPlace => written(alloc, handle),
-        Way::Copied => {
-            // At a limit of 1 there is no other, and the block is written in place.
-            let _other = handle.clone().ok();
-            written(alloc, handle)
-        }
-        Way::MarkedAndCopied => {
-            handle.mark_as_intentionally_leaked();
-            written(alloc, handle)
-        }
-    }
-}
-
 fn limited(rt: &(impl Abort + AllocGlobal), limit: u64) -> Arc<u64> {
     let limit = limit.clamp(1, MAX_REFCOUNT);
     ok!(rt, Arc::new_with_limit(rt.alloc(), 5, limit))
 }
 
+// The other handle has the block. At a limit of 1 there is none, and the block is written in place.
+fn copied(alloc: Global, made: Result<Arc<u64>, u64>) -> Option<Arc<u64>> {
+    let handle = made.ok()?;
+    let _other = handle.clone().ok();
+    written(alloc, handle).ok()
+}
+
+fn check_made<T: Drop>(rt: &(impl Abort + AllocGlobal), made: Vec<Option<Arc<T>>>, handles: usize) {
+    for (number, made) in made.into_iter().enumerate() {
+        let handle = ok!(rt, made.ok_or("not made"));
+        let found = counted(rt.alloc(), &handle);
+        same_at!(rt, (handles, number), found, Ok(handles));
+    }
+}
+
+/// The only handle of a block, once something was done with it.
+fn by_each_way(rt: &(impl Abort + AllocGlobal), limit: u64) -> Vec<Option<Arc<u64>>> {
+    let alloc = rt.alloc();
+    let unique = Arc::into_unique(limited(rt, limit));
+    let marked = limited(rt, limit);
+    marked.mark_as_intentionally_leaked();
+    let handles = vec![in alloc;
+        Some(limited(rt, limit)),
+        shared(unique).ok(),
+        Some(Arc::from_raw(Arc::into_raw(limited(rt, limit)))),
+        written(alloc, limited(rt, limit)).ok(),
+        copied(alloc, Ok(limited(rt, limit))),
+        written(alloc, marked).ok(),
+    ];
+    ok!(rt, handles)
+}
+
 #[test]
 fn each_way_keeps_each_limit(rt: HostRuntime) {
     for limit in LIMITS {
-        for (name, way) in WAYS {
-            let handle = ok!(&rt, after(rt.alloc(), way, limited(&rt, limit)));
-            let handles = counted(rt.alloc(), &handle);
-            same_at!(&rt, (limit, name), handles, Ok(limit as usize));
-        }
+        check_made(&rt, by_each_way(&rt, limit), limit as usize);
     }
 }
 
@@ -144,13 +120,6 @@ fn unions_keep_each_limit(rt: HostRuntime) {
         let second = ArcUnion::<u32, u64>::from_second(limited(&rt, limit));
         same_at!(&rt, limit, counted(rt.alloc(), &second), Ok(limit as usize));
     }
-}
-
-/// A copy of a block that is marked, or shared, has its limit.
-fn copied(alloc: Global, made: Result<Arc<u64>, u64>) -> Option<Arc<u64>> {
-    let handle = made.ok()?;
-    let _other = handle.clone().ok();
-    written(alloc, handle).ok()
 }
 
 fn made_otherwise(alloc: Global) -> Result<Vec<Option<Arc<u64>>>, AllocError> {
@@ -182,16 +151,9 @@ fn built_otherwise(alloc: Global) -> Result<Vec<Option<ThinArc<u64, u64>>>, Allo
     ]?)
 }
 
-fn check_made<T: Drop>(rt: &(impl Abort + AllocGlobal), made: Vec<Option<Arc<T>>>) {
-    for (number, made) in made.into_iter().enumerate() {
-        let handle = ok!(rt, made.ok_or("not made"));
-        same_at!(rt, number, counted(rt.alloc(), &handle), Ok(MANY));
-    }
-}
-
 // So far as handles can be counted in a test, no other maker has a limit.
 #[test]
 fn other_makers_have_the_greatest_limit(rt: HostRuntime) {
-    check_made(&rt, ok!(&rt, made_otherwise(rt.alloc())));
-    check_made(&rt, ok!(&rt, built_otherwise(rt.alloc())));
+    check_made(&rt, ok!(&rt, made_otherwise(rt.alloc())), MANY);
+    check_made(&rt, ok!(&rt, built_otherwise(rt.alloc())), MANY);
 }

@@ -75,3 +75,11 @@ impl PartialEq for NeverEqual {
         false
     }
 }
+
+#[test]
+fn a_handle_of_a_default_or_of_a_value(rt: HostRuntime) {
+    let zero = ok!(&rt, Arc::<u32>::try_default(rt.alloc()));
+    let nine = ok!(&rt, Arc::from_value(rt.alloc(), 9u32));
+    let seen = (*zero, zero.is_unique(), *nine, nine.is_unique());
+    same!(&rt, seen, (0, true, 9, true));
+}

@@ -1,9 +1,9 @@
 //! Handles that are made outside and put into a table.
-use crate::calls::table_rows::parted;
-use servo_arc::table::{PlainCommand, Reply, Table};
+use servo_arc::table::Reply::{Done, Is};
+use servo_arc::table::{PlainCommand, Table};
 use servo_arc::{Arc, HeaderSlice, ThinArc};
 use std::process::Abort;
-use testing::{again, holds, ok, same};
+use testing::{again, holds, ok, same, served};
 
 fn thin_of(rt: &(impl Abort + AllocGlobal), header: u32, items: &[u32]) -> ThinArc<u32, u32> {
     ok!(rt, Arc::from_header_and_slice(rt.alloc(), header, items))
@@ -22,15 +22,11 @@ fn reads(table: &Slices, i: usize, header: u32, items: &[u32]) -> bool {
 fn put_and_shared(rt: &(impl Abort + AllocGlobal)) -> Slices {
     let mut table: Slices = ok!(rt, Table::new(rt.alloc(), 2));
     holds!(rt, table.put(0, thin_of(rt, 1, &[5, 6])).is_ok());
-    let rows = vec![in rt.alloc();
-        (PlainCommand::Clone(0, 1), Reply::Done),
-        (PlainCommand::Same(0, 1), Reply::Is(true)),
-        (PlainCommand::PtrEq(0, 1), Reply::Is(true)),
-        (PlainCommand::Mark(0), Reply::Done),
-        (PlainCommand::Drop(0), Reply::Done),
-    ];
-    let (commands, expected) = ok!(rt, parted(rt.alloc(), ok!(rt, rows)));
-    same!(rt, ok!(rt, table.run_plain(rt.alloc(), commands)), expected);
+    let (commands, replies) = served!(rt;
+        PlainCommand::Clone(0, 1) => Done, PlainCommand::Same(0, 1) => Is(true),
+        PlainCommand::PtrEq(0, 1) => Is(true), PlainCommand::Mark(0) => Done, PlainCommand::Drop(0) => Done);
+    let found = ok!(rt, table.run_plain(rt.alloc(), commands));
+    same!(rt, found, replies);
     table
 }
 

@@ -5,7 +5,7 @@ use servo_arc::word::MAX_REFCOUNT;
 use servo_arc::{Arc, ThinArc};
 use std::alloc::{AllocError, Global};
 use std::process::Abort;
-use testing::{holds, ok, same};
+use testing::{ok, same};
 
 // More than sixteen bits can count.
 const MANY: usize = 70_000;
@@ -45,11 +45,6 @@ fn a_header_slice_is_long(rt: HostRuntime) {
     let list: ThinArc<u8, u32> = ok!(&rt, Arc::from_header_and_iter(rt.alloc(), 7, items));
     let seen = (list.len(), list.slice().last());
     same!(&rt, seen, (MANY, Some(&69_999)));
-}
-
-#[test]
-fn a_table_cannot_have_all_slots(rt: HostRuntime) {
-    holds!(&rt, Table::<u32>::new(rt.alloc(), usize::MAX).is_err());
 }
 
 const OWNERS: usize = 5001;

@@ -33,6 +33,11 @@ fn other_handles_have_their_texts(rt: HostRuntime) {
     let unique = ok!(&rt, UniqueArc::new(rt.alloc(), 8u32));
     check_display(&rt, &unique, "8 0008");
     check_debug(&rt, &unique, "8");
+    let pair = ok!(
+        &rt,
+        UniqueArc::from_header_and_slice(rt.alloc(), 100u8, &[5u8, 6])
+    );
+    check_debug(&rt, &*pair, "HeaderSlice { header: 100, slice: [5, 6] }");
     let kept = ok!(&rt, StaticArc::new(rt.alloc(), 9u32));
     check_display(&rt, &kept, "9 0009");
     check_debug(&rt, &kept, "9");
@@ -70,13 +75,6 @@ fn refusals_have_their_texts(rt: HostRuntime) {
     holds!(&rt, Arc::clone(&only, &rt).err() == Some(full));
 }
 
-#[test]
-fn a_header_slice_has_its_text(rt: HostRuntime) {
-    let pair = UniqueArc::from_header_and_slice(rt.alloc(), 100u8, &[5u8, 6]);
-    let pair = ok!(&rt, pair);
-    check_debug(&rt, &*pair, "HeaderSlice { header: 100, slice: [5, 6] }");
-}
-
 // Header 100 and the numbers below `len`. Std prints a vector.
 #[test]
 fn header_slices_have_their_texts(rt: HostRuntime) {
@@ -90,10 +88,7 @@ fn header_slices_have_their_texts(rt: HostRuntime) {
 
 #[test]
 fn a_difference_is_reported_with_both_values(rt: HostRuntime) {
-    let are_equal = [
-        compared((1u8, "a"), (1, "a")).is_ok(),
-        compared((1u8, "a"), (1, "b")).is_ok(),
-    ];
+    let are_equal = [compared(5u64, 5).is_ok(), compared(6u64, 5).is_ok()];
     assert_eq!(rt; are_equal, [true, false]);
     let text = format!(in rt.alloc(); "{:?}", compared(6u64, 5)).expect(&rt, "memory");
     assert_eq!(rt; text.as_str(), "Err(Differ { found: 6, expected: 5 })");

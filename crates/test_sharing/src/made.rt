@@ -1,7 +1,8 @@
 //! What a test begins with.
 use servo_arc::Arc;
+use std::fmt::{Debug, Display};
 use std::process::Abort;
-use testing::{again, ok};
+use testing::{again, ok, same};
 
 pub fn arc_of<T: Drop>(rt: &(impl Abort + AllocGlobal), value: T) -> Arc<T> {
     ok!(rt, Arc::new(rt.alloc(), value))
@@ -20,4 +21,14 @@ pub fn two_of<T: Drop>(rt: &(impl Abort + AllocGlobal), value: T) -> Vec<Arc<T>>
     let handle = arc_of(rt, value);
     let other = again!(rt, &handle);
     both(rt, handle, other)
+}
+
+pub fn check_debug<T: Debug>(rt: &(impl Abort + AllocGlobal), value: &T, text: &str) {
+    let found = format!(in rt.alloc(); "{value:?}");
+    same!(rt, ok!(rt, found).as_str(), text);
+}
+
+pub fn check_display<T: Display>(rt: &(impl Abort + AllocGlobal), value: &T, text: &str) {
+    let found = format!(in rt.alloc(); "{value}");
+    same!(rt, ok!(rt, found).as_str(), text);
 }

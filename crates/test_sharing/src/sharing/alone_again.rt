@@ -7,7 +7,7 @@ use std::process::Abort;
 use std::sync::atomic::AtomicU64;
 use std::sync::atomic::Ordering::SeqCst;
 use std::thread;
-use testing::{again, holds, ok};
+use testing::{again, holds_at};
 
 const ROUNDS: u64 = 1000;
 
@@ -40,21 +40,6 @@ fn write_when_alone(rt: &impl Abort, steps: &AtomicU64, mut handle: Arc<u64>) ->
     was_refused && *handle == 2
 }
 
-#[test]
-fn a_handle_writes_once_the_other_is_gone(rt: HostRuntime) {
-    for _ in 0..ROUNDS {
-        let steps = AtomicU64::new(0);
-        let a = arc_of(&rt, 1u64);
-        let b = again!(&rt, &a);
-        let (is_written, ()) = thread::join(
-            &rt,
-            || write_when_alone(&rt, &steps, a),
-            || drop_once_asked(&rt, &steps, b),
-        );
-        holds!(&rt, is_written);
-    }
-}
-
 fn unique_at_last(rt: &impl Abort, steps: &AtomicU64, handle: Arc<u64>) -> Option<UniqueArc<u64>> {
     let mut handle = Arc::into_unique(handle).err()?;
     steps.fetch_add(1, SeqCst);
@@ -70,19 +55,31 @@ fn unique_at_last(rt: &impl Abort, steps: &AtomicU64, handle: Arc<u64>) -> Optio
     Arc::into_unique(handle).ok()
 }
 
+fn write_once_unique(rt: &impl Abort, steps: &AtomicU64, handle: Arc<u64>) -> bool {
+    match unique_at_last(rt, steps, handle) {
+        Some(mut unique) => {
+            *unique = 2;
+            *unique.shareable() == 2
+        }
+        None => false,
+    }
+}
+
+// By either way in turn.
 #[test]
-fn a_handle_is_unique_once_the_other_is_gone(rt: HostRuntime) {
-    for _ in 0..ROUNDS {
+fn a_handle_writes_once_the_other_is_gone(rt: HostRuntime) {
+    for round in 0..2 * ROUNDS {
         let steps = AtomicU64::new(0);
         let a = arc_of(&rt, 1u64);
         let b = again!(&rt, &a);
-        let (unique, ()) = thread::join(
+        let (is_written, ()) = thread::join(
             &rt,
-            || unique_at_last(&rt, &steps, a),
+            || match round % 2 {
+                0 => write_when_alone(&rt, &steps, a),
+                _ => write_once_unique(&rt, &steps, a),
+            },
             || drop_once_asked(&rt, &steps, b),
         );
-        let mut unique = ok!(&rt, unique.ok_or("shared"));
-        *unique = 2;
-        holds!(&rt, *unique.shareable() == 2);
+        holds_at!(&rt, round, is_written);
     }
 }

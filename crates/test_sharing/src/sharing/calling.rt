@@ -1,8 +1,7 @@
 //! The callers of the documentation, called: what they share, and on which threads.
-use crate::sharing::lists::SMALL_STACK;
-use persistent::List;
+use crate::sharing::lists::end_on_a_small_stack;
+use persistent::{List, TreeMap};
 use servo_arc::Arc;
-use std::thread::Builder;
 use testing::counted::{Counted, Tally};
 use testing::{again, holds, ok, same};
 use trees::Stack;
@@ -12,6 +11,7 @@ use uses::text_style::{
     TextStyle, plain_and_bold, plain_style, properties, properties_of, put_under, rule_of, size_of,
     styled,
 };
+use uses::two_versions::{before_and_after, two_lists};
 
 #[test]
 fn a_bold_style_leaves_the_plain_one(rt: HostRuntime) {
@@ -70,8 +70,7 @@ fn a_tall_stack_ends_on_a_small_one(rt: HostRuntime) {
     for value in 0..100_000u64 {
         tall = ok!(&rt, tall.push(rt.alloc(), value));
     }
-    let small = Builder::new().stack_size(SMALL_STACK);
-    ok!(&rt, small.spawn(&rt, move || drop(tall))).join(&rt);
+    end_on_a_small_stack(&rt, tall);
 }
 
 #[test]
@@ -93,4 +92,12 @@ fn a_handle_crosses_threads(rt: HostRuntime) {
     same!(&rt, (shared, alone), ((7, false, false), (true, true)));
     let list = ok!(&rt, List::new().push(rt.alloc(), 7));
     same!(&rt, len_elsewhere(&rt, &list), 1);
+}
+
+// What they then read is said by their clauses.
+#[test]
+fn callers_make_both_versions(rt: HostRuntime) {
+    let mut map = TreeMap::new();
+    let read = before_and_after(rt.alloc(), &mut map, 3, 5).is_ok();
+    same!(&rt, [two_lists(rt.alloc()).is_ok(), read], [true; 2]);
 }

@@ -1,11 +1,12 @@
 //! The worked rows of the shared count, in one thread.
 ghost use Rattle.std.specs.Prelude.{◌≡◌};
 
+use self::Call::{Mark, Owned, Static, Unique};
 use self::Who::{P, Q};
 use servo_arc::shared_count::{CountPass, EndReply, SharedCount, TryClone};
 use std::process::Abort;
 use testing::opened::{open_one, open_two};
-use testing::{holds, ok, same, same_at};
+use testing::{holds, ok, same, same_at, turns};
 
 /// A call with its answer.
 #[derive(Clone, Copy, Debug, PartialEq)]
@@ -43,7 +44,7 @@ impl<'a> Caller<'a> {
     fn answered(&mut self, call: Call) -> Option<Call> {
         let owned = self.pass.owned();
         if owned == 0 || owned == u64::MAX {
-            return if call == Call::Owned(owned) {
+            return if call == Owned(owned) {
                 Some(call)
             } else {
                 None
@@ -52,13 +53,13 @@ impl<'a> Caller<'a> {
         match call {
             Call::Clone(_) => Some(Call::Clone(self.count.try_clone(&mut self.pass))),
             Call::End(_) => Some(Call::End(self.count.end(&mut self.pass))),
-            Call::Mark => {
+            Mark => {
                 self.count.mark(&mut self.pass);
-                Some(Call::Mark)
+                Some(Mark)
             }
-            Call::Unique(_) => Some(Call::Unique(self.count.is_unique(&mut self.pass))),
-            Call::Static(_) => Some(Call::Static(self.count.is_static(&mut self.pass))),
-            Call::Owned(_) => Some(Call::Owned(owned)),
+            Unique(_) => Some(Unique(self.count.is_unique(&mut self.pass))),
+            Static(_) => Some(Static(self.count.is_static(&mut self.pass))),
+            Owned(_) => Some(Owned(owned)),
         }
     }
 }
@@ -72,7 +73,7 @@ enum Who {
 /// Who calls, and the call.
 type Row = (Who, Call);
 
-fn check(rt: &impl Abort, name: &str, mut p: Caller<'_>, mut q: Caller<'_>, rows: &[Row]) {
+fn check(rt: &impl Abort, mut p: Caller<'_>, mut q: Caller<'_>, (name, rows): Rows) {
     for (number, (who, call)) in rows.iter().enumerate() {
         let found = match who {
             P => p.answered(*call),
@@ -82,74 +83,39 @@ fn check(rt: &impl Abort, name: &str, mut p: Caller<'_>, mut q: Caller<'_>, rows
     }
 }
 
-/// Rows of the two passes of one count.
-const TOGETHER: [(&str, &[Row]); 2] = [
-    (
-        "two passes see each other in the replies",
-        &[
-            (P, Call::Unique(false)),
-            (Q, ENDED),
-            (P, Call::Unique(true)),
-            (P, BORN),
-            (P, Call::Unique(false)),
-            (P, Call::Mark),
-            (P, Call::Static(true)),
-            (P, ENDED),
-            (P, ENDED),
-        ],
-    ),
+/// A name, and calls of two passes.
+type Rows = (&'static str, &'static [Row]);
+
+/// Calls of the two passes of one count.
+const TOGETHER: [Rows; 2] = [
+    turns!["two passes see each other in the replies";
+        P Unique(false); Q ENDED; P Unique(true); P BORN; P Unique(false); P Mark; P Static(true); P ENDED; P ENDED],
     // A clone that raised from the word of `is_unique` would be overtaken here.
-    (
-        "a clone reads the word anew",
-        &[
-            (P, Call::Unique(false)),
-            (Q, ENDED),
-            (P, BORN),
-            (P, Call::Owned(2)),
-            (P, ENDED),
-            (P, LAST),
-        ],
-    ),
+    turns!["a clone reads the word anew"; P Unique(false); Q ENDED; P BORN; P Owned(2); P ENDED; P LAST],
 ];
 
-/// Rows of two passes, each the only one of its count.
-const APART: [(&str, &[Row]); 3] = [
-    (
-        "a pass alone is unique and ends last",
-        &[
-            (P, Call::Owned(1)),
-            (P, BORN),
-            (P, Call::Owned(2)),
-            (P, ENDED),
-            (P, Call::Unique(true)),
-            (P, LAST),
-            (P, Call::Owned(0)),
-        ],
-    ),
-    ("a pass alone ends last", &[(P, LAST)]),
-    (
-        "two counts know nothing of each other",
-        &[
-            (P, Call::Mark),
-            (Q, Call::Unique(true)),
-            (Q, LAST),
-            (P, Call::Static(true)),
-            (P, ENDED),
-        ],
-    ),
+/// Calls of two passes, each the only one of its count.
+const APART: [Rows; 3] = [
+    turns!["a pass alone is unique and ends last";
+        P Owned(1); P BORN; P Owned(2); P ENDED; P Unique(true); P LAST; P Owned(0)],
+    turns!["a pass alone ends last"; P LAST],
+    turns!["two counts know nothing of each other"; P Mark; Q Unique(true); Q LAST; P Static(true); P ENDED],
 ];
+
+const MET: Rows =
+    turns!["a marked count never ends last"; P Static(true); Q ENDED; Q ENDED; P ENDED];
 
 #[test]
 fn passes_are_answered_in_turn(rt: HostRuntime) {
-    for (name, rows) in TOGETHER {
+    for rows in TOGETHER {
         let (count, p, q) = ok!(&rt, open_two(rt.alloc()));
         let (p, q) = (Caller::of(&count, p), Caller::of(&count, q));
-        check(&rt, name, p, q, rows);
+        check(&rt, p, q, rows);
     }
-    for (name, rows) in APART {
+    for rows in APART {
         let (one, p) = ok!(&rt, open_one(rt.alloc()));
         let (two, q) = ok!(&rt, open_one(rt.alloc()));
-        check(&rt, name, Caller::of(&one, p), Caller::of(&two, q), rows);
+        check(&rt, Caller::of(&one, p), Caller::of(&two, q), rows);
     }
 }
 
@@ -159,14 +125,7 @@ fn a_marked_count_never_ends_last(rt: HostRuntime) {
     count.mark(&mut p);
     holds!(&rt, count.try_clone(&mut q) == TryClone::Born);
     count.meet(&mut p, &mut q);
-    let rows = [(P, Call::Static(true)), (Q, ENDED), (Q, ENDED), (P, ENDED)];
-    check(
-        &rt,
-        "met",
-        Caller::of(&count, p),
-        Caller::of(&count, q),
-        &rows,
-    );
+    check(&rt, Caller::of(&count, p), Caller::of(&count, q), MET);
 }
 
 #[test]

@@ -1,92 +1,76 @@
 //! What the versions of a document share, and how a tree ends.
+use crate::made::arc_of;
 use crate::sharing::lists::SMALL_STACK;
+use crate::sharing::roses::is_shared;
 use cascade::{Declaration, Element, Initial, Inline, Style, StyleCache};
 use servo_arc::Arc;
-use std::alloc::{AllocError, Global};
+use std::process::Abort;
 use std::thread::Builder;
 use testing::counted::{Counted, Tally};
 use testing::{ok, same};
 use trees::{Rose, Undo};
 use uses::documents::{Document, Edit, Part, apply, styles};
 
-fn name(alloc: Global, text: &str) -> Result<Arc<String>, AllocError> {
-    Ok(Arc::try_new(alloc, String::from_str(alloc, text)?)?)
+fn name(rt: &(impl Abort + AllocGlobal), text: &str) -> Arc<String> {
+    arc_of(rt, ok!(rt, String::from_str(rt.alloc(), text)))
 }
 
-fn part(alloc: Global, text: &str) -> Result<Rose<Part>, AllocError> {
-    let part = Part {
-        name: name(alloc, text)?,
-        element: Element::of_rules(alloc, Vec::new(alloc))?,
-    };
-    Rose::leaf(alloc, part)
+fn part(rt: &(impl Abort + AllocGlobal), text: &str) -> Part {
+    let element = Element::of_rules(rt.alloc(), Vec::new(rt.alloc()));
+    Part {
+        name: name(rt, text),
+        element: ok!(rt, element),
+    }
+}
+
+fn leaf(rt: &(impl Abort + AllocGlobal), text: &str) -> Rose<Part> {
+    ok!(rt, Rose::leaf(rt.alloc(), part(rt, text)))
 }
 
 // A page over a title and a text.
-fn page(alloc: Global) -> Result<Document, AllocError> {
-    let low = vec![in alloc; part(alloc, "title")?, part(alloc, "text")?]?;
-    let part = Part {
-        name: name(alloc, "page")?,
-        element: Element::of_rules(alloc, Vec::new(alloc))?,
-    };
-    Ok(Undo::new(alloc, Rose::with_children(alloc, part, low)?))
+fn page(rt: &(impl Abort + AllocGlobal)) -> Document {
+    let low = vec![in rt.alloc(); leaf(rt, "title"), leaf(rt, "text")];
+    let tree = Rose::with_children(rt.alloc(), part(rt, "page"), ok!(rt, low));
+    Undo::new(rt.alloc(), ok!(rt, tree))
 }
 
-fn large(alloc: Global) -> Result<Edit, AllocError> {
-    let declarations = Arc::from_header_and_slice(alloc, (), &[Declaration::FontSize(40)])?;
-    Ok(Edit::Restyle(Arc::try_new(alloc, Inline { declarations })?))
+fn large(rt: &(impl Abort + AllocGlobal)) -> Edit {
+    let declarations = Arc::from_header_and_slice(rt.alloc(), (), &[Declaration::FontSize(40)]);
+    let declarations = ok!(rt, declarations);
+    Edit::Restyle(arc_of(rt, Inline { declarations }))
 }
 
-fn names_of(alloc: Global, tree: &Rose<Part>) -> Result<String, AllocError> {
-    let mut names = String::new(alloc);
-    for part in tree.values(alloc)? {
-        names.push_str(part.name.as_str())?;
-        names.push_str(" ")?;
+fn names_of(rt: &(impl Abort + AllocGlobal), tree: &Rose<Part>) -> String {
+    let mut names = String::new(rt.alloc());
+    for part in ok!(rt, tree.values(rt.alloc())) {
+        ok!(rt, names.push_str(part.name.as_str()));
+        ok!(rt, names.push_str(" "));
     }
-    Ok(names)
+    names
+}
+
+fn edits(rt: &(impl Abort + AllocGlobal)) -> Vec<(&'static [usize], Edit)> {
+    let edits = vec![in rt.alloc();
+        (&[1][..], Edit::Rename(name(rt, "body"))),
+        (&[][..], Edit::Insert(1, leaf(rt, "date"))),
+        (&[2][..], large(rt)),
+        (&[][..], Edit::Remove(0)),
+    ];
+    ok!(rt, edits)
 }
 
 // What each of them comes to is said by its clauses, and that it succeeds if memory is ample is not.
 #[test]
 fn edits_are_undone_and_done_again(rt: HostRuntime) {
     let alloc = rt.alloc();
-    let mut document = ok!(&rt, page(alloc));
-    let edits = vec![in alloc;
-        (&[1][..], Edit::Rename(ok!(&rt, name(alloc, "body")))),
-        (&[][..], Edit::Insert(1, ok!(&rt, part(alloc, "date")))),
-        (&[2][..], ok!(&rt, large(alloc))),
-        (&[][..], Edit::Remove(0)),
-    ];
-    for (path, edit) in ok!(&rt, edits) {
+    let mut document = page(&rt);
+    for (path, edit) in edits(&rt) {
         ok!(&rt, apply(&mut document, alloc, path, edit));
     }
-    let moved = [
-        document.undo().ok(),
-        document.undo().ok(),
-        document.redo().ok(),
-    ];
-    same!(&rt, moved, [Some(true); 3]);
-    let names = ok!(&rt, names_of(alloc, document.current()));
+    let moved = [document.undo(), document.undo(), document.redo()];
+    same!(&rt, moved.map(Result::ok), [Some(true); 3]);
+    let names = names_of(&rt, document.current());
     same!(&rt, names.as_str(), "page title date body ");
-}
-
-fn is_child_shared(old: &Rose<Part>, new: &Rose<Part>, index: usize) -> bool {
-    match (old.child(index), new.child(index)) {
-        (Some(x), Some(y)) => Rose::ptr_eq(x, y),
-        _ => false,
-    }
-}
-
-// The title stands in each version.
-#[test]
-fn versions_share_what_an_edit_left_alone(rt: HostRuntime) {
-    let alloc = rt.alloc();
-    let mut document = ok!(&rt, page(alloc));
-    let rename = Edit::Rename(ok!(&rt, name(alloc, "body")));
-    ok!(&rt, apply(&mut document, alloc, &[1], rename));
-    let old = document.before().first().expect(&rt, "no version");
-    let new = document.current();
-    let shared = [is_child_shared(old, new, 0), is_child_shared(old, new, 1)];
-    same!(&rt, shared, [true, false]);
 }
 
 fn is_style_shared(old: &[Arc<Style>], new: &[Arc<Style>], at: usize) -> bool {
@@ -96,21 +80,39 @@ fn is_style_shared(old: &[Arc<Style>], new: &[Arc<Style>], at: usize) -> bool {
     }
 }
 
-// The page and its title keep their blocks, and the text has its old style in the old version.
+fn shared_styles(old: &[Arc<Style>], new: &[Arc<Style>]) -> [bool; 3] {
+    [
+        is_style_shared(old, new, 0),
+        is_style_shared(old, new, 1),
+        is_style_shared(old, new, 2),
+    ]
+}
+
+fn text_size(styles: &[Arc<Style>]) -> Option<u32> {
+    Some(styles.get(2)?.font.size)
+}
+
+// The title stands in both versions. The styles of the page and of the title keep their blocks, and the text has its
+// old style in the old version.
 #[test]
 fn a_part_that_is_restyled_leaves_the_others(rt: HostRuntime) {
     let alloc = rt.alloc();
     let initial = ok!(&rt, Initial::new(alloc));
     let mut cache = ok!(&rt, StyleCache::new(alloc, initial));
-    let mut document = ok!(&rt, page(alloc));
+    let mut document = page(&rt);
     let old = ok!(&rt, styles(&mut cache, alloc, document.current()));
-    let edit = ok!(&rt, large(alloc));
+    let edit = large(&rt);
     ok!(&rt, apply(&mut document, alloc, &[1], edit));
     let new = ok!(&rt, styles(&mut cache, alloc, document.current()));
-    let shared = [0, 1, 2].map(|at| is_style_shared(&old, &new, at));
-    same!(&rt, shared, [true, true, false]);
-    let sizes = [&old, &new].map(|styles| Some(styles.get(2)?.font.size));
-    same!(&rt, sizes, [Some(16), Some(40)]);
+    let before = document.before().first().expect(&rt, "no version");
+    let shared = [
+        is_shared(before, document.current(), &[0]),
+        is_shared(before, document.current(), &[1]),
+    ];
+    same!(&rt, shared, [true, false]);
+    same!(&rt, shared_styles(&old, &new), [true, true, false]);
+    let sizes = (text_size(&old), text_size(&new));
+    same!(&rt, sizes, (Some(16), Some(40)));
 }
 
 #[test]

@@ -1,6 +1,6 @@
 //! More threads, more handles, and each way in which a handle reaches a thread. Each thread is joined.
 use crate::made::{arc_of, both};
-use servo_arc::{Arc, RawArc, ThinArc};
+use servo_arc::{Arc, RawArc, StaticArc, ThinArc};
 use std::thread;
 use testing::counted::{Counted, Tally};
 use testing::{again, holds, ok, same};
@@ -95,13 +95,35 @@ fn a_token_is_spent_on_another_thread(rt: HostRuntime) {
     same!(&rt, (read, tally.drops()), (5, 1));
 }
 
+const HANDLES: u64 = 100_000;
+
+// Makes and drops so many counted handles, and counts those that read right.
+fn make_and_drop(kept: StaticArc<'_, Counted<'_>>) -> u64 {
+    let mut right = 0u64;
+    for _ in 0..HANDLES {
+        let handle = kept.arc();
+        if handle.value == 5 {
+            right = right.wrapping_add(1);
+        }
+    }
+    right
+}
+
 #[test]
-fn a_marked_value_outlives_two_threads(rt: HostRuntime) {
+fn four_threads_copy_one_static_handle(rt: HostRuntime) {
     let tally = Tally::new();
-    let a = ok!(&rt, Arc::new_leaked(rt.alloc(), Counted::new(&tally, 5)));
-    let done = thread::map_indices(&rt, rt.alloc(), 2, &|_| clone_and_drop(&a));
-    ok!(&rt, done);
-    let marks = (a.is_static(), a.is_unique());
-    drop(a);
-    same!(&rt, (marks, tally.drops()), ((true, false), 0));
+    let kept = ok!(&rt, StaticArc::new(rt.alloc(), Counted::new(&tally, 5)));
+    let right = thread::map_indices(&rt, rt.alloc(), 4, &|_| make_and_drop(kept));
+    same!(&rt, ok!(&rt, right).as_slice(), &[HANDLES; 4][..]);
+    same!(&rt, (kept.value, tally.drops()), (5, 0));
+}
+
+#[test]
+fn the_last_counted_handle_ends_while_a_static_one_is_used(rt: HostRuntime) {
+    let tally = Tally::new();
+    let last = arc_of(&rt, Counted::new(&tally, 5));
+    let kept = again!(&rt, &last).into_static();
+    let (right, ()) = thread::join(&rt, || make_and_drop(kept), || drop(last));
+    let seen = (right, kept.value, kept.arc().is_static(), tally.drops());
+    same!(&rt, seen, (HANDLES, 5, true, 0));
 }

@@ -67,16 +67,10 @@ fn maps_are_indexed_ordered_and_hashed(rt: HostRuntime) {
     let alloc = rt.alloc();
     let small = ok!(&rt, map_of(alloc, &[(1, 'a'), (2, 'b')]));
     let great = ok!(&rt, map_of(alloc, &[(2, 'c'), (1, 'a')]));
-    same!(
-        &rt,
-        (value_of(&small, &2), value_of(&great, &3)),
-        (Some('b'), None)
-    );
-    same!(
-        &rt,
-        (small.cmp(&great), great.partial_cmp(&small)),
-        (Ordering::Less, Some(Ordering::Greater))
-    );
+    let found = (value_of(&small, &2), value_of(&great, &3));
+    same!(&rt, found, (Some('b'), None));
+    let ordered = (small.cmp(&great), great.partial_cmp(&small));
+    same!(&rt, ordered, (Ordering::Less, Some(Ordering::Greater)));
     let again = ok!(&rt, map_of(alloc, &[(2, 'b'), (1, 'a')]));
     let mut seen = HashSet::new(alloc);
     let added = [small, great, again].map(|map| ok!(&rt, seen.insert(map)));

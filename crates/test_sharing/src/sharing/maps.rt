@@ -1,11 +1,9 @@
 //! What maps share, and how deep they are.
-use crate::sharing::lists::SMALL_STACK;
+use crate::made::check_debug;
+use crate::sharing::lists::end_on_a_small_stack;
 use crate::sharing::orders::{ORDERS, Order};
 use persistent::TreeMap;
 use std::alloc::{AllocError, Global};
-use std::fmt::Debug;
-use std::process::Abort;
-use std::thread::Builder;
 use testing::{again, holds_at, ok, same, same_at};
 
 fn three(alloc: Global) -> Result<TreeMap<(char, u8), u32>, AllocError> {
@@ -14,11 +12,6 @@ fn three(alloc: Global) -> Result<TreeMap<(char, u8), u32>, AllocError> {
         map.insert(alloc, key, value)?;
     }
     Ok(map)
-}
-
-fn check_text<T: Debug>(rt: &(impl Abort + AllocGlobal), value: &T, text: &str) {
-    let found = format!(in rt.alloc(); "{value:?}");
-    same!(rt, ok!(rt, found).as_str(), text);
 }
 
 // A copy of a map shares its root. Its keys are of any type that has an order.
@@ -31,8 +24,8 @@ fn versions_read_as_they_were_made(rt: HostRuntime) {
     same!(&rt, ok!(&rt, new.remove(alloc, &('b', 1))), Some(8));
     let are_one = [TreeMap::ptr_eq(&old, &copy), TreeMap::ptr_eq(&old, &new)];
     same!(&rt, (are_one, old == copy), ([true, false], true));
-    check_text(&rt, &old, "{('a', 9): 3, ('b', 1): 8, ('b', 2): 5}");
-    check_text(&rt, &new, "{('a', 9): 3, ('b', 2): 5}");
+    check_debug(&rt, &old, "{('a', 9): 3, ('b', 1): 8, ('b', 2): 5}");
+    check_debug(&rt, &new, "{('a', 9): 3, ('b', 2): 5}");
 }
 
 // As std's maps are printed.
@@ -88,7 +81,6 @@ fn a_million_keys_end_on_a_small_stack(rt: HostRuntime) {
         let map = ok!(&rt, keys_in(rt.alloc(), order, MANY));
         same_at!(&rt, order, map.len() as u64, MANY);
         holds_at!(&rt, order, map.depth() <= MOST_DEPTH);
-        let small = Builder::new().stack_size(SMALL_STACK);
-        ok!(&rt, small.spawn(&rt, move || drop(map))).join(&rt);
+        end_on_a_small_stack(&rt, map);
     }
 }

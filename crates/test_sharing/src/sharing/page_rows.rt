@@ -1,6 +1,7 @@
 //! What versions read, which pages they share, and the texts.
 ghost use Rattle.std.specs.Prelude.{◌<◌};
 
+use crate::made::{check_debug, check_display};
 use cow_table::{CowTable, SetError};
 use std::alloc::{AllocError, Global};
 use testing::{again, ok, same, same_at};
@@ -13,12 +14,15 @@ fn table_of(alloc: Global, items: &[u32], page_len: usize) -> Result<CowTable<u3
 
 // By each of the ways to read.
 fn reads(table: &CowTable<u32>, items: &[u32]) -> bool {
-    table.get(0) == items.first()
-        && table.get(items.len()).is_none()
-        && table.len() == items.len()
-        && table.is_empty() == items.is_empty()
-        && table.into_iter().eq(items)
-        && table.iter().rev().eq(items.iter().rev())
+    let are_right = [
+        table.get(0) == items.first(),
+        table.get(items.len()).is_none(),
+        table.len() == items.len(),
+        table.is_empty() == items.is_empty(),
+        table.into_iter().eq(items),
+        table.iter().rev().eq(items.iter().rev()),
+    ];
+    are_right == [true; 6]
 }
 
 pub fn shared_pages<T>(a: &CowTable<T>, b: &CowTable<T>) -> [bool; 4] {
@@ -86,25 +90,22 @@ fn a_version_changes_alone(rt: HostRuntime) {
             old.set(rt.alloc(), row.items.len(), 0),
         ];
         let shared = [before, shared_pages(&old, &new)];
-        let are_read = reads(&old, row.items) && reads(&new, row.new_items);
-        let expected = ([row.set, no_place, no_place], true, row.shared);
+        let are_read = [reads(&old, row.items), reads(&new, row.new_items)];
+        let expected = ([row.set, no_place, no_place], [true; 2], row.shared);
         same_at!(&rt, number, (sets, are_read, shared), expected);
     }
 }
 
 #[test]
 fn tables_and_errors_have_their_texts(rt: HostRuntime) {
-    let alloc = rt.alloc();
-    for (items, text) in [(&[][..], "[]"), (&[1, 2, 3][..], "[1, 2, 3]")] {
-        let table = ok!(&rt, table_of(alloc, items, 2));
-        same!(&rt, ok!(&rt, format!(in alloc; "{table:?}")).as_str(), text);
-    }
-    for (error, text) in [
-        (SetError::NoPlace, "no such place"),
-        (SetError::Memory, "out of memory"),
-    ] {
-        same!(&rt, ok!(&rt, format!(in alloc; "{error}")).as_str(), text);
-    }
+    check_debug(&rt, &ok!(&rt, table_of(rt.alloc(), &[], 2)), "[]");
+    check_debug(
+        &rt,
+        &ok!(&rt, table_of(rt.alloc(), &[1, 2, 3], 2)),
+        "[1, 2, 3]",
+    );
+    check_display(&rt, &SetError::NoPlace, "no such place");
+    check_display(&rt, &SetError::Memory, "out of memory");
 }
 
 // More than sixteen bits can count. A cap that nobody asked for would refuse them.

@@ -1,6 +1,5 @@
 //! Random changes of maps, beside the same changes of sorted lists. Versions are kept, and changed later on.
 use persistent::{Change, TreeMap};
-use std::alloc::{AllocError, Global};
 use std::mem::{replace, swap};
 use std::process::Abort;
 use testing::{again, holds_at, ok, same_at};
@@ -18,7 +17,7 @@ const KEPT: u64 = 500;
 // A map of half of them has branches under its first node.
 const KEYS: u64 = 4_000;
 
-#[derive(Clone, Copy, Debug, PartialEq)]
+#[derive(Clone, Copy)]
 enum Call {
     Insert(u64),
     Flip(u64),
@@ -41,77 +40,88 @@ type Map = TreeMap<u64, u64>;
 type List = Vec<(u64, u64)>;
 
 // What the key had, or has once it is flipped.
-fn in_map(map: &mut Map, alloc: Global, call: Call, key: u64) -> Result<Option<u64>, AllocError> {
+fn in_map(rt: &(impl Abort + AllocGlobal), map: &mut Map, call: Call, key: u64) -> Option<u64> {
+    let alloc = rt.alloc();
     match call {
         Call::Insert(value) => {
             let old = map.get(&key).copied();
-            map.insert(alloc, key, value)?;
-            Ok(old)
+            ok!(rt, map.insert(alloc, key, value));
+            old
         }
-        Call::Flip(bits) => map.modify(alloc, &key, |value| {
-            *value ^= bits;
-            *value
-        }),
-        Call::Remove => map.remove(alloc, &key),
+        Call::Flip(bits) => {
+            let flipped = map.modify(alloc, &key, |value| {
+                *value ^= bits;
+                *value
+            });
+            ok!(rt, flipped)
+        }
+        Call::Remove => ok!(rt, map.remove(alloc, &key)),
     }
 }
 
-fn in_list(list: &mut List, call: Call, key: u64) -> Result<Option<u64>, AllocError> {
+fn in_list(rt: &impl Abort, list: &mut List, call: Call, key: u64) -> Option<u64> {
     match (call, list.binary_search_by_key(&key, |entry| entry.0)) {
         (Call::Insert(value), Err(at)) => {
-            list.insert(at, (key, value))?;
-            Ok(None)
+            ok!(rt, list.insert(at, (key, value)));
+            None
         }
-        (Call::Insert(value), Ok(at)) => Ok(Some(replace(&mut list[at].1, value))),
+        (Call::Insert(value), Ok(at)) => Some(replace(&mut list[at].1, value)),
         (Call::Flip(bits), Ok(at)) => {
             list[at].1 ^= bits;
-            Ok(Some(list[at].1))
+            Some(list[at].1)
         }
-        (Call::Remove, Ok(at)) => Ok(Some(list.remove(at).1)),
-        (Call::Flip(_) | Call::Remove, Err(_)) => Ok(None),
+        (Call::Remove, Ok(at)) => Some(list.remove(at).1),
+        (Call::Flip(_) | Call::Remove, Err(_)) => None,
     }
 }
 
 // By each of the ways to read.
 fn reads(map: &Map, list: &[(u64, u64)]) -> bool {
-    map.len() == list.len()
-        && map.iter().eq(list)
-        && map.iter().rev().eq(list.iter().rev())
-        && list.iter().enumerate().all(|(at, entry)| {
-            map.entry(at) == Some(entry)
-                && map.get(&entry.0) == Some(&entry.1)
-                && map.range(&entry.0..&KEYS).next() == Some(entry)
-        })
+    let are_right = [
+        map.len() == list.len(),
+        map.iter().eq(list),
+        map.iter().rev().eq(list.iter().rev()),
+        list.iter()
+            .enumerate()
+            .all(|(at, entry)| map.entry(at) == Some(entry)),
+        list.iter().all(|entry| map.get(&entry.0) == Some(&entry.1)),
+        list.iter()
+            .all(|entry| map.range(&entry.0..&KEYS).next() == Some(entry)),
+    ];
+    are_right == [true; 6]
 }
 
 // Cuts the map and joins it again, makes it anew, and makes the other one of it.
 fn by_whole_calls(
-    alloc: Global,
+    rt: &(impl Abort + AllocGlobal),
     map: &Map,
     other: &Map,
     list: List,
     key: u64,
-) -> Result<bool, AllocError> {
-    let mut joined = map.clone()?;
-    let back = joined.split_off(alloc, &key)?;
+) -> [bool; 5] {
+    let alloc = rt.alloc();
+    let mut joined = again!(rt, map);
+    let back = ok!(rt, joined.split_off(alloc, &key));
     let is_cut = joined.len() == map.rank(&key);
-    joined.append(alloc, &back)?;
-    let mut made = map.clone()?;
-    for (key, change) in map.diff(alloc, other)? {
-        made.update(alloc, *key, |_| match change {
+    ok!(rt, joined.append(alloc, &back));
+    let mut made = again!(rt, map);
+    for (key, change) in ok!(rt, map.diff(alloc, other)) {
+        let updated = made.update(alloc, *key, |_| match change {
             Change::Added(value) | Change::Changed(_, value) => Some(*value),
             Change::Removed(_) => None,
-        })?;
+        });
+        ok!(rt, updated);
     }
-    let both = map.union(alloc, other)?;
+    let both = ok!(rt, map.union(alloc, other));
     let has_both = both.iter().all(|(key, value)| map.get(key).or(other.get(key)) == Some(value));
-    Ok(
-        is_cut
-            && joined == *map
-            && made == *other
-            && has_both
-            && TreeMap::from_items(alloc, list)? == *map,
-    )
+    let anew = ok!(rt, TreeMap::from_items(alloc, list));
+    [
+        is_cut,
+        has_both,
+        joined == *map,
+        made == *other,
+        anew == *map,
+    ]
 }
 
 fn next(state: u64) -> u64 {
@@ -128,9 +138,9 @@ fn run(rt: &(impl Abort + AllocGlobal), seed: u64) {
         state = next(state);
         let bits = state >> 33;
         let (call, key) = (call_of(bits, step / TURN % 2 == 0), bits / 8 % KEYS);
-        let found = ok!(rt, in_map(&mut now.0, rt.alloc(), call, key));
-        let expected = ok!(rt, in_list(&mut now.1, call, key));
-        same_at!(rt, (seed, step, call, key), found, expected);
+        let found = in_map(rt, &mut now.0, call, key);
+        let expected = in_list(rt, &mut now.1, call, key);
+        same_at!(rt, (seed, step, key), found, expected);
         if step % KEPT == 0 {
             ok!(rt, kept.push((again!(rt, &now.0), again!(rt, &now.1))));
             let at = bits as usize % kept.len();
@@ -141,8 +151,8 @@ fn run(rt: &(impl Abort + AllocGlobal), seed: u64) {
         holds_at!(rt, seed, reads(map, list));
     }
     if let Some((map, list)) = kept.last() {
-        let is_right = by_whole_calls(rt.alloc(), map, &now.0, again!(rt, list), state % KEYS);
-        holds_at!(rt, seed, ok!(rt, is_right));
+        let are_right = by_whole_calls(rt, map, &now.0, again!(rt, list), state % KEYS);
+        same_at!(rt, seed, are_right, [true; 5]);
     }
 }
 

@@ -1,26 +1,37 @@
 //! What rose trees share and drop.
-use std::alloc::{AllocError, Global};
+use crate::made::check_display;
+use std::process::Abort;
 use testing::counted::{Counted, Tally};
 use testing::{holds, ok, same, same_at};
 use trees::{Rose, RoseError};
 
-fn leaf<'a>(alloc: Global, tally: &'a Tally, value: u64) -> Result<Rose<Counted<'a>>, AllocError> {
-    Rose::leaf(alloc, Counted::new(tally, value))
+type Tree<'a> = Rose<Counted<'a>>;
+
+fn tree<'a>(
+    rt: &(impl Abort + AllocGlobal),
+    tally: &'a Tally,
+    value: u64,
+    low: Vec<Tree<'a>>,
+) -> Tree<'a> {
+    ok!(
+        rt,
+        Rose::with_children(rt.alloc(), Counted::new(tally, value), low)
+    )
 }
 
 // 1 over 2, 3 and 4, of which 3 is over 5 and 6.
-fn six<'a>(alloc: Global, tally: &'a Tally) -> Result<Rose<Counted<'a>>, AllocError> {
-    let low = vec![in alloc; leaf(alloc, tally, 5)?, leaf(alloc, tally, 6)?]?;
-    let middle = Rose::with_children(alloc, Counted::new(tally, 3), low)?;
-    let high = vec![in alloc; leaf(alloc, tally, 2)?, middle, leaf(alloc, tally, 4)?]?;
-    Rose::with_children(alloc, Counted::new(tally, 1), high)
+fn six<'a>(rt: &(impl Abort + AllocGlobal), tally: &'a Tally) -> Tree<'a> {
+    let leaf = |value: u64| tree(rt, tally, value, Vec::new(rt.alloc()));
+    let low = ok!(rt, vec![in rt.alloc(); leaf(5), leaf(6)]);
+    let high = vec![in rt.alloc(); leaf(2), tree(rt, tally, 3, low), leaf(4)];
+    tree(rt, tally, 1, ok!(rt, high))
 }
 
 fn value_at(tree: &Rose<Counted<'_>>, path: &[usize]) -> Option<u64> {
     Some(tree.at(path)?.value().value)
 }
 
-fn is_shared<V>(a: &Rose<V>, b: &Rose<V>, path: &[usize]) -> bool {
+pub fn is_shared<V>(a: &Rose<V>, b: &Rose<V>, path: &[usize]) -> bool {
     match (a.at(path), b.at(path)) {
         (Some(x), Some(y)) => Rose::ptr_eq(x, y),
         _ => false,
@@ -46,7 +57,7 @@ const ROWS: [Row; 7] = [
 #[test]
 fn a_change_makes_its_path_alone(rt: HostRuntime) {
     let tally = Tally::new();
-    let old = ok!(&rt, six(rt.alloc(), &tally));
+    let old = six(&rt, &tally);
     let changed = old.with_value(rt.alloc(), &[1, 0], Counted::new(&tally, 9));
     let new = ok!(&rt, changed);
     same!(&rt, (tally.copies(), tally.drops()), (2, 0));
@@ -64,7 +75,7 @@ fn a_change_makes_its_path_alone(rt: HostRuntime) {
 #[test]
 fn there_is_no_place_outside_the_tree(rt: HostRuntime) {
     let tally = Tally::new();
-    let old = ok!(&rt, six(rt.alloc(), &tally));
+    let old = six(&rt, &tally);
     let new = old.with_value(rt.alloc(), &[1, 2], Counted::new(&tally, 9));
     holds!(&rt, matches!(new, Err(RoseError::NoSuchPlace)));
     same!(&rt, (tally.copies(), tally.drops()), (0, 1));
@@ -72,11 +83,6 @@ fn there_is_no_place_outside_the_tree(rt: HostRuntime) {
 
 #[test]
 fn errors_have_their_texts(rt: HostRuntime) {
-    let alloc = rt.alloc();
-    for (error, text) in [
-        (RoseError::NoSuchPlace, "no such place"),
-        (RoseError::Memory, "out of memory"),
-    ] {
-        same!(&rt, ok!(&rt, format!(in alloc; "{error}")).as_str(), text);
-    }
+    check_display(&rt, &RoseError::NoSuchPlace, "no such place");
+    check_display(&rt, &RoseError::Memory, "out of memory");
 }

@@ -1,25 +1,46 @@
 //! How many items are copied and dropped, alone and shared.
-use crate::sharing::counted_tables::{counted_pages, counted_table};
-use crate::sharing::page_rows::shared_pages;
-use cow_table::{CowTable, SetError};
-use std::alloc::Global;
-use testing::counted::{Counted, Tally};
-use testing::{again, holds, ok, same};
+ghost use Rattle.std.specs.Prelude.{◌<◌};
 
-// Sets an item at each place in turn. True if the number beside each place is the number of copies made by then.
-fn makes_copies<'a>(
+use crate::sharing::page_rows::shared_pages;
+use cow_table::CowTable;
+use std::alloc::{AllocError, Global};
+use std::process::Abort;
+use testing::counted::{Counted, Tally, counted_items};
+use testing::{again, ok, same, same_at};
+
+/// Items 0, 1 and so on, in pages of two.
+pub fn counted_table<'a>(
     alloc: Global,
+    tally: &'a Tally,
+    len: u64,
+) -> Result<CowTable<Counted<'a>>, AllocError> {
+    counted_pages(alloc, tally, len, 2)
+}
+
+/// The same in pages of that length.
+pub fn counted_pages<'a>(
+    alloc: Global,
+    tally: &'a Tally,
+    len: u64,
+    page_len: usize,
+) -> Result<CowTable<Counted<'a>>, AllocError>
+    requires { 0 < page_len }
+{
+    let items = counted_items(alloc, tally, len).ok_or(AllocError)?;
+    CowTable::from_items(alloc, items, page_len)
+}
+
+// Sets an item at each place in turn. The number beside each place is the number of copies made by then.
+fn check_sets<'a>(
+    rt: &(impl Abort + AllocGlobal),
     tally: &'a Tally,
     table: &mut CowTable<Counted<'a>>,
     copies_by_place: &[(usize, u64)],
-) -> Result<bool, SetError> {
+) {
     for (place, copies) in copies_by_place {
-        table.set(alloc, *place, Counted::new(tally, 9))?;
-        if tally.copies() != *copies {
-            return Ok(false);
-        }
+        ok!(rt, table.set(rt.alloc(), *place, Counted::new(tally, 9)));
+        same_at!(rt, *place, tally.copies(), *copies);
     }
-    Ok(true)
 }
 
 // A version that is gone shares nothing.
@@ -31,8 +52,8 @@ fn a_lone_version_copies_nothing(rt: HostRuntime) {
     drop(again!(&rt, &other));
     drop(other);
     let copies = [(0, 0), (1, 0), (2, 0), (4, 0), (0, 0)];
-    let made = makes_copies(rt.alloc(), &tally, &mut table, &copies);
-    same!(&rt, (made, tally.drops()), (Ok(true), 5));
+    check_sets(&rt, &tally, &mut table, &copies);
+    same!(&rt, tally.drops(), 5);
     drop(table);
     same!(&rt, tally.drops(), 10);
 }
@@ -42,12 +63,8 @@ fn a_shared_version_copies_a_page_once(rt: HostRuntime) {
     let tally = Tally::new();
     let mut a = ok!(&rt, counted_table(rt.alloc(), &tally, 5));
     let mut b = again!(&rt, &a);
-    let by_b = [(2, 2), (3, 2), (4, 3)];
-    let made = makes_copies(rt.alloc(), &tally, &mut b, &by_b);
-    same!(&rt, made, Ok(true));
-    let by_a = [(2, 3), (0, 5), (1, 5), (4, 5)];
-    let made = makes_copies(rt.alloc(), &tally, &mut a, &by_a);
-    same!(&rt, made, Ok(true));
+    check_sets(&rt, &tally, &mut b, &[(2, 2), (3, 2), (4, 3)]);
+    check_sets(&rt, &tally, &mut a, &[(2, 3), (0, 5), (1, 5), (4, 5)]);
     drop(a);
     drop(b);
     same!(&rt, (tally.copies(), tally.drops()), (5, 5 + 5 + 7));

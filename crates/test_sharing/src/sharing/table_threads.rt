@@ -1,6 +1,6 @@
 //! Versions on several threads, each of which is joined.
 use crate::sharing::channels::channels;
-use crate::sharing::counted_tables::counted_table;
+use crate::sharing::table_copies::counted_table;
 use cow_table::CowTable;
 use std::alloc::{AllocError, Global};
 use std::thread;
@@ -15,7 +15,7 @@ fn four_threads_read_what_one_publishes(rt: HostRuntime) {
     let alloc = rt.alloc();
     let zeros = ok!(&rt, vec![in alloc; 0u64; 8]);
     let items = ok!(&rt, CowTable::from_items(alloc, zeros, 3));
-    let (to_readers, readers) = ok!(&rt, channels(alloc, 4));
+    let (to_readers, readers) = channels(&rt, 4);
     let rt = &rt;
     let (published, read) = thread::join(
         rt,

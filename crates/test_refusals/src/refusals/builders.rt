@@ -1,4 +1,5 @@
 //! What a builder of header slices leaves.
+use self::OfList::{Slice, SliceUnique, Vector, VectorUnique};
 use crate::refusals::reporting::report;
 use servo_arc::{Arc, BuildError, HeaderSlice, UniqueArc};
 use std::alloc::{AllocError, Global};
@@ -183,12 +184,10 @@ fn check_list<T: Drop>(
     built: Result<Arc<HeaderSlice<Counted<'_>, T>>, AllocError>,
 ) {
     match built {
-        Ok(slice) => same_at!(
-            rt,
-            row,
-            (slice.len(), ledger.asks_and_drops()),
-            (row.1, [0; 3])
-        ),
+        Ok(slice) => {
+            let seen = (slice.len(), ledger.asks_and_drops());
+            same_at!(rt, row, seen, (row.1, [0; 3]));
+        }
         Err(AllocError) => ok!(
             rt,
             println!(rt; "{:?} of {} items: all dropped", row.0, row.1)
@@ -206,19 +205,19 @@ fn check_of_list(rt: &(impl Abort + Print + AllocGlobal), of: OfList, len: usize
     };
     let (header, counted) = (ledger.header(), len as u64);
     match of {
-        OfList::Slice => {
+        Slice => {
             let built = Arc::from_header_and_slice(alloc, header, numbers);
             check_list(rt, row, 0, &ledger, built);
         }
-        OfList::SliceUnique => {
+        SliceUnique => {
             let built = UniqueArc::from_header_and_slice(alloc, header, numbers);
             check_list(rt, row, 0, &ledger, shared(built));
         }
-        OfList::Vector => {
+        Vector => {
             let built = Arc::from_header_and_vec(alloc, header, items);
             check_list(rt, row, counted, &ledger, built);
         }
-        OfList::VectorUnique => {
+        VectorUnique => {
             let built = UniqueArc::from_header_and_vec(alloc, header, items);
             check_list(rt, row, counted, &ledger, shared(built));
         }
@@ -227,12 +226,7 @@ fn check_of_list(rt: &(impl Abort + Print + AllocGlobal), of: OfList, len: usize
 
 #[test]
 fn a_refused_list_is_dropped_with_its_header(rt: HostRuntime) {
-    for of in [
-        OfList::Slice,
-        OfList::SliceUnique,
-        OfList::Vector,
-        OfList::VectorUnique,
-    ] {
+    for of in [Slice, SliceUnique, Vector, VectorUnique] {
         for len in [0, 1, 100] {
             check_of_list(&rt, of, len);
         }

@@ -61,7 +61,7 @@ fn a_refused_set_leaves_both_versions(rt: HostRuntime) {
 }
 
 // A value whose copy is always refused.
-#[derive(Debug, PartialEq, Drop)]
+#[derive(PartialEq, Drop)]
 struct Original(u32);
 
 impl Clone for Original {

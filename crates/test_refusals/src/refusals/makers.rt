@@ -70,8 +70,7 @@ fn a_refused_maker_hands_the_value_back(rt: HostRuntime) {
 #[test]
 fn a_refused_static_node_is_none(rt: HostRuntime) {
     let Ok(last) = in_front(rt.alloc(), 1, None) else {
-        report(&rt, "no node");
-        return;
+        return report(&rt, "no node");
     };
     match in_front(rt.alloc(), 2, Some(last)) {
         Ok(first) => holds!(&rt, first > last && first.next == Some(last)),

@@ -13,7 +13,7 @@ use base.Fml.{Fml, fat, froom}
 use mir.Syntax.{ty_int, ty_ptr, ty_struct, ty_array}
 use mir.Val.{Val, vint, vstruct, vcons, vnil, of_list, has_ty, WT}
 use types.Logic.{Logic, sem}
-use types.Kit.{Item, mean, ‵, ◌⊛◌, some, given, ◌$◌, ◌∵◌, !, qed, by, move, keep, pick, learn, show, check, split, use0}
+use types.Kit.{Item, mean, ‵, ◌⊛◌, some, given, ◌$◌, ◌∵◌, !, qed, by, move, keep, pick, learn, show, check, use0}
 use types.Kit.{use1, use2, fsplit, fsplit3, fjoin, rewrite, done}
 use denote.RattleType.{RattleType}
 use denote.Memory.{lone, part_at}
@@ -112,11 +112,14 @@ module _ (E : El) {M : Type 1} {𝓤 : Ura M} (𝓛 : Logic 𝓤) (b o taken fil
   abbrev later_items : List (el_x E) → Fml
   later_items others = part_at (Array (R E) (filled - (taken + 1))) full_share others b (o + (taken + 1) * s)
 
-  abbrev first_at : el_x E → List (el_x E) → Val → Item 𝓤
-  first_at x others v = given (Good E v) (‵ (fat full_share (elτ E) b (taken * s + o) v) ⊛ ‵ (el_own E x (v ∷ []))
-      ⊛ ‵ (later_items others))
+  -- the first item that is left, at the place where the machine finds it
+  abbrev first_item : el_x E → Val → Item 𝓤
+  first_item x v = ‵ (fat full_share (elτ E) b (taken * s + o) v) ⊛ ‵ (el_own E x (v ∷ []))
 
-  -- the first item that is left, at the place where the machine finds it, and the others
+  abbrev first_at : el_x E → List (el_x E) → Val → Item 𝓤
+  first_at x others v = given (Good E v) (first_item x v ⊛ ‵ (later_items others))
+
+  -- that item and the others
   abbrev pub first_and_others : el_x E → List (el_x E) → Item 𝓤
   first_and_others x others = some (λ (v : Val). first_at x others v)
 
@@ -133,9 +136,8 @@ module _ (E : El) {M : Type 1} {𝓤 : Ura M} (𝓛 : Logic 𝓤) (b o taken fil
       use1 𝓛 (‵ (later_items others))
       (whole E 𝓛 full_share (filled - (taken + 1)) others b (o + (taken + 1) * s) fewer) $ move ! (1 ∷ []) $
       rewrite ! 0 (λ (k : ℕ). ‵ (part_at (R E) full_share x b k)) (add_comm o (taken * s)) refl $
-      use1 𝓛 (some (λ (v : Val). given (Good E v) (‵ (fat full_share (elτ E) b (taken * s + o) v)
-      ⊛ ‵ (el_own E x (v ∷ []))))) (el_out E 𝓛 full_share x b (taken * s + o)) $ pick ! (λ v. learn ! (λ good. split ! $
-      show ! (λ (w : Val). mean 𝓛 (first_at x others w)) v $ check ! good $ done !)))
+      use1 𝓛 (some (λ (v : Val). given (Good E v) (first_item x v))) (el_out E 𝓛 full_share x b (taken * s + o)) $
+      pick ! (λ v. learn ! (λ good. show ! (λ (w : Val). mean 𝓛 (first_at x others w)) v $ check ! good $ done !)))
 
   -- its place is room again, beside the room before it
   pub room_after : (v : Val) → ent 𝓤 (sep 𝓤 (H.room (ty_array (elτ E) taken) b o) (H.at full_share (elτ E)

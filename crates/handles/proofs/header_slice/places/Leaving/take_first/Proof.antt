@@ -1,7 +1,7 @@
 -- `take_first` reads the first item that is left, and its place is empty.
 use Rattle.handles.proofs.Places.{◌≡◌, ℕ, ◌+◌, ◌-◌, ◌^◌, ◌<◌, List, [], ◌∷◌, refl, sym, ap, ◌∙◌, arith, named, Val}
 use Rattle.handles.proofs.Places.{vptr, full_share, Lft, Share, ftrue, flft, ‵, raw, ◌⊛◌, ◌$◌, ◌∵◌, !, qed, by, move}
-use Rattle.handles.proofs.Places.{keep, drop, split, split3, join, fsplit, fsplit3, fjoin, fjoin3, pick, learn, use0}
+use Rattle.handles.proofs.Places.{keep, drop, split, join, fsplit, fsplit3, fjoin, fjoin3, pick, learn, use0}
 use Rattle.handles.proofs.Places.{use1, use2, rewrite, feq_i, flt_i, flt_l, stop, fld, load, lit, of_opd, first, blocks}
 use Rattle.handles.proofs.Places.{returns, alloc_all, pass_all, free_all, look_at, get, through, sets, sets_last, sub}
 use Rattle.handles.proofs.Places.{whole, fact, RattleType, owns, types_at, plain, Ptr, nothing_more, peeks, heard, Is}
@@ -49,7 +49,8 @@ take_first_spec 𝓤 𝓛 𝓜 𝓡 wired T L =
     rewrite ! 0 (λ (xs : List T.Denot). ‵ (part_at (Array R (filled - taken)) full_share xs pb (po + taken * s)))
     is_first refl $
     use1 𝓛 (first_and_others E 𝓛 pb po taken filled x later) (first_out E 𝓛 pb po taken filled x later) $
-    pick ! (λ v. learn ! (λ good. split3 ! $ rewrite ! 5 (λ (ws : List Val). ‵ (cell_at full_share Self.mir ws b o))
+    pick ! (λ v. learn ! (λ good. split ! $ split ! $
+    rewrite ! 5 (λ (ws : List Val). ‵ (cell_at full_share Self.mir ws b o))
     (word ∙ ap (λ (z : Ptr). leaving_val z taken filled room ∷ []) at) refl $
     -- [the first item's cell; what it owns; the other items; what is after them; the room before them; the cell; the
     -- open borrow; its two names; the other tokens]

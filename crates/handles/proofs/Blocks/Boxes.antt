@@ -36,6 +36,7 @@ module _ (T : RattleType) (L : Laws T) {M : Type 1} {𝓤 : Ura M} (𝓛 : Logic
   abbrev R : RattleType
   R = param 0 T
 
+  -- blocks with values of this type
   abbrev pub BlockRow : RattleType
   BlockRow = block.the_row R
 
@@ -57,6 +58,7 @@ module _ (T : RattleType) (L : Laws T) {M : Type 1} {𝓤 : Ura M} (𝓛 : Logic
     abbrev values : Fields.Denot
     values = (w, (s, (x, (h, tt))))
 
+    -- a block is taken apart
     pub block_out : ent 𝓤 (sem 𝓛 Whole) (sem 𝓛 Apart)
     unfolding part_of
     block_out = qed 𝓛 (‵ (part_at Fields full_share values b o) ∷ []) ∵
@@ -70,6 +72,7 @@ module _ (T : RattleType) (L : Laws T) {M : Type 1} {𝓤 : Ura M} (𝓛 : Logic
         -- [what is held; the handle; nothing; the stamp; the word; what is left]
         fpair ! 1 5 $ move ! (3 ∷ 1 ∷ 0 ∷ []) $ fjoin3 ! $ fpair ! 2 0 $ keep ! (0 ∷ []) $ done !
 
+    -- and put together again
     pub block_in : ent 𝓤 (sem 𝓛 Apart) (sem 𝓛 Whole)
     unfolding part_of
     block_in = qed 𝓛 (‵ Apart ∷ []) ∵ fsplit3 ! $ move ! (2 ∷ []) $ fsplit3 ! $

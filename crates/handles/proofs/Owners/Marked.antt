@@ -27,8 +27,8 @@ use Rattle.handles.specs.Inside.Blocks.{kept_log, logs, reached}
 use Rattle.handles.specs.Inside.Marked.{HasMark, Staying, Lasting, born_static, stays, tells_mark, marked_shares}
 use Rattle.handles.proofs.Blocks.Rows.{cut_pass}
 use Rattle.handles.proofs.Scripts.{fpair, ffact, flft_halves}
-use Rattle.handles.proofs.Blocks.New.{Held_marked, New, begins_marked}
-use Rattle.handles.proofs.Owners.{block_of_handle, both_laws, shown-ShrLaws, known_settles}
+use Rattle.handles.proofs.Blocks.New.{Held_marked, Sole, begins_marked}
+use Rattle.handles.proofs.Owners.{both_laws, shown-ShrLaws, known_settles}
 
 -- what may be had twice, and is said for good
 said_twice : (F : Fml) → ((M : Type 1) (𝓤 : Ura M) (𝓛 : Logic 𝓤) → ent 𝓤 (sem 𝓛 F) (sep 𝓤 (sem 𝓛 F) (sem 𝓛 F)))
@@ -84,7 +84,7 @@ module _ (R : RattleType) (L : Laws R) (p : Ptr) (d : Staying R.Denot) where
 
     -- a counted handle of a block that a log tells to be marked
     abbrev Told : ℕ → Names → Fml
-    Told n i = fsep (Held_marked (block_of_handle R L p x η n) i) (tells_mark d.known_by)
+    Told n i = fsep (Held_marked R p x η n i) (tells_mark d.known_by)
 
     -- given away for good
     pub becomes_lasting : (n : ℕ) (i : Names) (κ : Lft)
@@ -120,7 +120,7 @@ module _ (R : RattleType) (L : Laws R) (p : Ptr) (x : (HeldRow R).Denot) where
         (𝓛.H.⇛ (sep 𝓤 (sem 𝓛 (fex BlockId (Lasts_new κ))) (sem 𝓛 (flft μ q))))
     new_lasts μ q lives κ = let w : ℕ = marked_word 1 in let log : List Entry = born_static in
         qed 𝓛 (‵ (bare_block R p x w) ∷ ‵ (flft μ q) ∷ [])
-        ∵ updating ! $ use1 𝓛 (later (some_of (λ (η : BlockId). ‵ (New R 𝓛 p x w log η))))
+        ∵ updating ! $ use1 𝓛 (later (some_of (λ (η : BlockId). ‵ (Sole R p x η 0 w log))))
         (begins_marked R 𝓛 p x) $ await ! tt $ pick ! (λ η.
         fsplit ! $ fsplit ! $ fsplit ! $ move ! (1 ∷ []) $ fsplit ! $
         -- [the log; the run and the rows; the word; what is held and the stamp; the pass; the token]
@@ -132,7 +132,7 @@ module _ (R : RattleType) (L : Laws R) (p : Ptr) (x : (HeldRow R).Denot) where
         fpair ! 0 2 $ fpair ! 2 0 $ fpair ! 0 2 $
         -- [the block; that the log was reached; the pass; the token]
         fpair ! 0 2 $ move ! (0 ∷ 2 ∷ []) $
-        use2 𝓛 (later (‵ (fex Names (Held_marked (block_of_handle R L p x η 0))) ⊛ ‵ (flft μ q)))
+        use2 𝓛 (later (‵ (fex Names (Held_marked R p x η 0)) ⊛ ‵ (flft μ q)))
         (known_settles R L 𝓛 p x η 0 log μ lives μ q (Incl-refl μ)) $
         await ! tt $ split ! $ fpick ! (λ i. ffact ! (HasMark log) refl $
         -- [the mark; the handle; the token; that the log was reached]

@@ -1,6 +1,6 @@
 -- A handle says the same to every thread, if its value may go to any thread and be seen by any.
 use Rattle.std.proofs.Common.{ℕ, ◌+◌, Bool, true, false, [], ◌∷◌, List, map}
-use base.Fml.{Fml, Lft, Share}
+use base.Fml.{Fml, Lft, Share, fsep, finv}
 use base.Shift.{Keyless}
 use base.Fraction.{full_share}
 use base.Growing.{latest, at_least}
@@ -21,7 +21,7 @@ use Rattle.handles.proofs.block.Held.TheSendSync.{the_send as held_send, the_syn
 use Rattle.handles.specs.Inside.Blocks.{HeldRow, Names, BlockId, Stage, living, over, beside_word, entitled, stage}
 use Rattle.handles.specs.Inside.Blocks.{logs, kept_log, reached, noted_as, stamp, sole_handle, left_at, block_type}
 use Rattle.handles.specs.Inside.Blocks.{held_offset, heap_offset, held_and_block, shown, Sharing, not_yet, begun}
-use Rattle.handles.specs.Inside.Blocks.{held_as, owned_as, shared_as}
+use Rattle.handles.specs.Inside.Blocks.{held_as, owned_as, shared_as, block_rule}
 use Rattle.handles.specs.contracts.arc.full.Full as full_type
 use Rattle.handles.specs.contracts.block.handle.Handle as handle_type
 use Rattle.handles.specs.contracts.block.marked.Marked as marked_type
@@ -73,52 +73,49 @@ module _ (R : RattleType) (s : IsSend R) (y : IsSync R) where
   left-Keyless (block_ptr b o) = tt
   left-Keyless null_ptr = tt
 
-  content-Keyless : (p : Ptr) (x : (HeldRow R).Denot) → Keyless (held_and_block R p x)
-  content-Keyless p x = (
-    lies (HeldRow R) (held_send R s) (p +ₚ held_offset R)
-        x,
-    λ h.
-        (lies heap_row crossing.send (p +ₚ heap_offset R) h, (crossing.frees.frees h (block_type R) p, left-Keyless p)),
-  )
+  module _ (p : Ptr) (x : (HeldRow R).Denot) where
+    content-Keyless : Keyless (held_and_block R p x)
+    content-Keyless = (
+      lies (HeldRow R) (held_send R s) (p +ₚ held_offset R) x,
+      λ h. (
+        lies heap_row crossing.send (p +ₚ heap_offset R) h,
+        (crossing.frees.frees h (block_type R) p, left-Keyless p),
+      ),
+    )
 
-  stamp-Keyless : (p : Ptr) → Keyless (stamp p)
-  stamp-Keyless p = λ n. tt
+    shown-Common : Common (shown R p x)
+    shown-Common = seen (HeldRow R) (held_sync R y) (p +ₚ held_offset R) x
 
-  rule-Keyless : (p : Ptr) (x : (HeldRow R).Denot) (η : BlockId) (i : Names) (z : Stage)
-      → Keyless (stage (held_and_block R p x) (stamp p) x.limit.count (block_of p) (offset_of p + 0) η i z)
-  rule-Keyless p x η = stage-Keyless (held_and_block R p x) (stamp p) (content-Keyless p x)
-      (stamp-Keyless p) x.limit.count (block_of p) (offset_of p + 0) η
+    module _ (η : BlockId) where
+      -- the rule of a block, and what is shown, under these names of the sharing
+      told-Keyless : (i : Names) → Keyless (fsep (finv (block_rule R p x η i)) (shown R p x (i.shared ∷ [])))
+      told-Keyless i = (
+        stage-Keyless (held_and_block R p x) (stamp p) content-Keyless (λ n. tt) x.limit.count (block_of p)
+            (offset_of p + 0) η i,
+        shown-Common (i.shared ∷ []),
+      )
 
-  shown-Common : (p : Ptr) (x : (HeldRow R).Denot) → Common (shown R p x)
-  shown-Common p x = seen (HeldRow R) (held_sync R y) (p +ₚ held_offset R) x
+      module _ (n : ℕ) where
+        sole-Keyless : (log : List Entry) → Keyless (sole_handle R p x η n log)
+        sole-Keyless log = (
+          ((tt, noted-Keyless x.limit.count η 1 log), (content-Keyless, λ n. tt)),
+          pass-Keyless η.living n full_share,
+        )
 
-  sole-Keyless : (p : Ptr) (x : (HeldRow R).Denot) (η : BlockId) (n : ℕ) (log : List Entry)
-      → Keyless (sole_handle R p x η n log)
-  sole-Keyless p x η n log = (
-    ((tt, noted-Keyless x.limit.count η 1 log), (content-Keyless p x, stamp-Keyless p)),
-    pass-Keyless η.living n full_share,
-  )
+        handle-Keyless : (z : Sharing) → Keyless (held_as R p x η n z)
+        handle-Keyless not_yet = sole-Keyless
+        handle-Keyless begun = λ i. (
+          ((λ e. (entitled-Keyless i e, tt)), pass-Keyless η.living n full_share),
+          told-Keyless i,
+        )
 
-  handle-Keyless : (p : Ptr) (x : (HeldRow R).Denot) (η : BlockId) (n : ℕ) (z : Sharing)
-      → Keyless (held_as R p x η n z)
-  handle-Keyless p x η n not_yet = sole-Keyless p x η n
-  handle-Keyless p x η n begun = λ i. (
-    ((λ e. (entitled-Keyless i e, tt)), pass-Keyless η.living n full_share),
-    (rule-Keyless p x η i, shown-Common p x (i.shared ∷ [])),
-  )
+        owned-Keyless : (sole : Bool) (log : List Entry) → Keyless (owned_as R p x η n sole log)
+        owned-Keyless true log = sole-Keyless log
+        owned-Keyless false log = handle-Keyless
 
-  owned-Keyless : (p : Ptr) (x : (HeldRow R).Denot) (η : BlockId) (n : ℕ) (sole : Bool) (log : List Entry)
-      → Keyless (owned_as R p x η n sole log)
-  owned-Keyless p x η n true log = sole-Keyless p x η n log
-  owned-Keyless p x η n false log = handle-Keyless p x η n
-
-  shared-Keyless : (p : Ptr) (x : (HeldRow R).Denot) (η : BlockId) (n : ℕ) (sole : Bool) (κ : Lft)
-      → Keyless (shared_as R p x η n sole κ)
-  shared-Keyless p x η n true κ = shown-Common p x κ
-  shared-Keyless p x η n false κ = λ i. (
-    (λ q. tt),
-    ((λ q. (tt, pass-Keyless η.living n q)), (rule-Keyless p x η i, shown-Common p x (i.shared ∷ []))),
-  )
+        shared-Keyless : (sole : Bool) (κ : Lft) → Keyless (shared_as R p x η n sole κ)
+        shared-Keyless true κ = shown-Common κ
+        shared-Keyless false κ = λ i. ((λ q. tt), ((λ q. (tt, pass-Keyless η.living n q)), told-Keyless i))
 
   fields-Send : AllSend (fields (handle_type.the_type R))
   fields-Send = (pointers, tt)
@@ -147,10 +144,7 @@ marked-Sync R s y = record {
       tt,
       (
         (λ q. tt),
-        (
-          (λ q. (tt, pass-Keyless d.known_by.id.living t.number q)),
-          (rule-Keyless R s y p d.held d.known_by.id t.names, shown-Common R s y p d.held (t.names.shared ∷ [])),
-        ),
+        ((λ q. (tt, pass-Keyless d.known_by.id.living t.number q)), told-Keyless R s y p d.held d.known_by.id t.names),
       ),
     ),
   );

@@ -3,13 +3,13 @@ use prog.Atomic.{either}
 use Rattle.counting_word.specs.WordSteps as step
 use Rattle.handles.specs.Founds.{HasFound}
 use Rattle.handles.proofs.Steps.Stepped.{begun_with}
-use Rattle.handles.proofs.Steps.Shared.{fsep, ◌≡◌, ◌≢◌, ℕ, ◌+◌, ◌%◌, ◌<◌, ◌≤◌, Bool, true, false, [], ◌∷◌, sym, refl}
+use Rattle.handles.proofs.Steps.Shared.{fsep, ◌≡◌, ℕ, ◌+◌, ◌%◌, ◌<◌, ◌≤◌, Bool, true, false, [], ◌∷◌, sym, refl}
 use Rattle.handles.proofs.Steps.Shared.{ap, ◌∙◌, subst, arith, eq-eqb, ne_eqb, if◌then◌else◌, dite, ℕ_discrete, Ura}
 use Rattle.handles.proofs.Steps.Shared.{Share, Fml, Logic, ‵, ◌$◌, ◌∵◌, !, qed, by, move, fsplit, fpair, use1}
 use Rattle.handles.proofs.Steps.Shared.{mark_bit, StandsFor, count_of-unmarked, a_handle, right_by_read, StandsWithin}
-use Rattle.handles.proofs.Steps.Shared.{title, SharedBlock, counted_stake, lives_on, Lands, Asks, and_logged, by_own}
-use Rattle.handles.proofs.Steps.Shared.{Entry, List, eqb, leb-true, greatest_count, stands-raised, right_by_raise}
-use Rattle.handles.proofs.Steps.Shared.{reached, finds, counts_one}
+use Rattle.handles.proofs.Steps.Shared.{WhileAlive, title, SharedBlock, counted_stake, lives_on, Lands, Asks}
+use Rattle.handles.proofs.Steps.Shared.{and_logged, by_own, Entry, List, eqb, leb-true, greatest_count, stands-raised}
+use Rattle.handles.proofs.Steps.Shared.{right_by_raise, reached, finds, counts_one}
 use Rattle.handles.proofs.Steps.Words.{stands-unmarked}
 use Rattle.handles.proofs.Steps.Reads.{bare_share, a_share, bare_reported, reported, shut, found, right_step}
 use Rattle.handles.proofs.Steps.Turns.{turns_raise}
@@ -31,9 +31,11 @@ module _ {M : Type 1} {𝓤 : Ura M} (𝓛 : Logic 𝓤) (s : SharedBlock) (q : 
   low = let most : s.limit ≤ greatest_count = s.most in omega (arith, below, most)
 
   -- a raise that wins
-  won : (j n : ℕ) (log : List Entry) → StandsWithin s.limit seen false n
-      → Lands 𝓛 s (seen + 1) log false n (bare_share s q) (bare_raise s q seen seen log) j
-  won j n log holds = let few : seen < greatest_count = low in
+  won : (j : ℕ) (mark : Bool) (n : ℕ) (log : List Entry) → StandsWithin s.limit seen mark n
+      → Lands 𝓛 s (seen + 1) log mark n (bare_share s q) (bare_raise s q seen seen log) j
+  won j true n log holds = let few : seen < greatest_count = low in
+      let high : mark_bit ≤ seen = leb-true mark_bit seen holds.0.same_mark in absurd (omega arith)
+  won j false n log holds = let few : seen < greatest_count = low in
       let same : n ≡ seen = sym (holds.0.counts_live refl) ∙ count_of-unmarked seen holds.0.same_mark in
       let stands : StandsFor (seen + 1) false (n + 1) (n + 1) = stands-unmarked (seen + 1) (n + 1) n (n + 1)
       (stands-raised seen n n holds.0 (λ full. absurd (omega arith))) in
@@ -63,27 +65,16 @@ module _ {M : Type 1} {𝓤 : Ura M} (𝓛 : Logic 𝓤) (s : SharedBlock) (q : 
   pub raises : (next : ℕ) → next ≡ seen + 1 → Raises next
   raises next is_next = subst Raises (sym is_next) (right_step 𝓛 s q (step.raises_from seen) (raised seen (seen + 1))
       (λ w _. is_raised w) old (reached s.id old) (begun_with 𝓛 s old) (right_by_raise seen)
-      (turns_raise 𝓛 s old q seen below has) (λ j mark w n log small holds. at j mark w n log holds))
+      (turns_raise 𝓛 s old q seen below has) at)
     where
       F : ℕ → Bool → ℕ → ℕ → List Entry → Bool → Type 1
       F j mark w n log y =
           Lands 𝓛 s (either y (seen + 1) w) log mark n (bare_share s q) (bare_raise s q seen w log) j
 
-      missed : (j : ℕ) (mark : Bool) (w n : ℕ) (log : List Entry) → w ≢ seen → StandsWithin s.limit w mark n
-          → F j mark w n log false
-      missed j mark w n log other holds = found 𝓛 s q log (right_by_raise seen w) j mark w n
-          (ap (λ y. if y then a_handle else right_by_read w) (ne_eqb w seen other)) holds
-
-      same_word : (j : ℕ) (mark : Bool) (n : ℕ) (log : List Entry) → StandsWithin s.limit seen mark n
-          → F j mark seen n log true
-      same_word j true n log holds = let few : seen < greatest_count = low in
-          let high : mark_bit ≤ seen = leb-true mark_bit seen holds.0.same_mark in absurd (omega arith)
-      same_word j false n log holds = won j n log holds
-
-      at : (j : ℕ) (mark : Bool) (w n : ℕ) (log : List Entry) → StandsWithin s.limit w mark n
-          → F j mark w n log (eqb w seen)
-      at j mark w n log holds = dite (ℕ_discrete w seen)
+      at : WhileAlive 𝓛 s (raised seen (seen + 1)) (bare_share s q) (bare_raise s q seen)
+      at j mark w n log small holds = dite (ℕ_discrete w seen)
           (λ same. subst (λ z. F j mark z n log (eqb z seen)) (sym same) (subst (F j mark seen n log)
           (sym (eq-eqb seen seen refl))
-          (same_word j mark n log (subst (λ z. StandsWithin s.limit z mark n) same holds))))
-          (λ other. subst (F j mark w n log) (sym (ne_eqb w seen other)) (missed j mark w n log other holds))
+          (won j mark n log (subst (λ z. StandsWithin s.limit z mark n) same holds))))
+          (λ other. subst (F j mark w n log) (sym (ne_eqb w seen other)) (found 𝓛 s q log (right_by_raise seen w) j mark
+          w n (ap (λ y. if y then a_handle else right_by_read w) (ne_eqb w seen other)) holds))

@@ -53,15 +53,16 @@ pub use Rattle.handles.specs.Inside.Blocks.{stamp_offset, unshared_block, sole_h
 pub use Rattle.handles.proofs.Walks.Fields.{one_word, word_and_permit, one_word-Good, words_are, words_made, HandleRow}
 pub use Rattle.handles.proofs.Walks.Fields.{PermitRow, HandleWords, PermitWords, known, is_number, returns_permit}
 pub use Rattle.handles.proofs.Walks.Fields.{word_and_permit-Good, handle_at, permit_at, big_lit, lower-NoHandle}
-pub use Rattle.handles.proofs.Walks.Fields.{permit_kept, sole_permits, sole_shown, whole_block_of, read-NoBlock}
+pub use Rattle.handles.proofs.Walks.Fields.{permit_kept, permit_shown, sole_permits, sole_shown, whole_block_of}
+pub use Rattle.handles.proofs.Walks.Fields.{read-NoBlock}
 pub use Rattle.handles.proofs.Walks.Fields.{raise-NoBlock, drop_read-NoHandle}
-pub use Rattle.handles.proofs.Walks.BorrowedHandle.{opens_word, opens_handle, shows_permit, closes_borrow, asks_with}
+pub use Rattle.handles.proofs.Walks.BorrowedHandle.{opens_word, opens_handle, learns_permit, closes_borrow, asks_with}
+pub use Rattle.handles.proofs.Walks.BorrowedHandle.{under_rule}
 pub use Rattle.handles.proofs.Walks.BorrowedHandle.{asks_new, logs, reports, parted, word_at}
-pub use Rattle.handles.proofs.Walks.OneParam.{a_ref, by_ref, by_value, handle_worded, permit_worded}
+pub use Rattle.handles.proofs.Walks.OneParam.{by_ref, by_ref_and, by_value, handle_worded, permit_worded}
 pub use Rattle.handles.proofs.Walks.OneParam.{is_handle, so, also, both, by_shared, turns}
 pub use Rattle.handles.proofs.Walks.Statements.{its_field, field_behind}
 pub use Rattle.handles.proofs.Walks.AsksWord.{asks_word, returns_found}
-pub use Rattle.handles.proofs.Walks.BorrowedHandle.{keeps_permit}
 pub use Rattle.counting_word.specs.Tallies.{Adds, newest}
 pub use Rattle.handles.proofs.Steps.Born.{static_entry, Born, BornSome, Known, born, knows}
 pub use Rattle.handles.proofs.Blocks.Boxes.{Boxed, box_opens, box_shuts, heap_twice}

@@ -4,13 +4,13 @@
 use Rattle.std.proofs.Common.{◌≡◌, ℕ, ◌+◌, Bool, false, List, [], ◌∷◌, refl, ap, ◌∙◌}
 use seplogic.Ra.Ura.{Ura}
 use mir.Val.{Val}
-use base.Logic.{id⊢, SProp, ent, sep}
+use base.Logic.{id⊢, SProp, ent, guard, sep}
 use base.Fml.{Lft, Share, Fml, flft, fobor, fhide, finv, fsep, ftrue}
 use base.Share
 use types.Logic.{Logic, sem}
 use types.Kit.{given, learn, Item, Goal, Seq, Soaks, Step, step, ‵, ◌⊛◌, later, ◌$◌, ◌∵◌, ! }
 use types.Kit.{qed, fjoin, frame, done, move, drop, split, fsplit, fsplit3, fpick, rewrite, use1, use2, use3, await}
-use types.Kit.{raw}
+use types.Kit.{raw, join, ⋆, mean}
 use types.Tokens.{obor_close, shr_bor-open}
 use ghost.Rules.{Halves}
 use Rattle.handles.proofs.Blocks.Rows.{pass_halves, pass_joins}
@@ -31,7 +31,7 @@ use Rattle.counting_word.specs.Logs.{Entry, made}
 use Rattle.counting_word.specs.Tallies.{Adds, newest}
 use Rattle.handles.specs.contracts.block.handle.Handle as handle_type
 use Rattle.handles.proofs.Walks.Fields.{one_word, words_are, words_open, HandleRow, HandleWords, handle_at, NoBlock}
-use Rattle.handles.proofs.Walks.Fields.{permit_shown, permit_kept, NoHandle}
+use Rattle.handles.proofs.Walks.Fields.{permit_shown}
 use Rattle.handles.proofs.Steps.Shared.{block_at, and_logged, grants}
 
 -- what a `&` has of a handle goes in halves
@@ -85,11 +85,16 @@ module _ {M : Type 1} {𝓤 : Ura M} {𝓛 : Logic 𝓤} {K : Type 0} {Γ : List
     closes_borrow t soaks {κ} {q} = step (λ s. move t (2 ∷ 0 ∷ []) $ obor_close t soaks $ drop t $
         use2 𝓛 (‵ (flft κ q)) (𝓛.lfts.lft_join κ q) $ s)
 
-    -- A step is asked for under a rule, which stays, by what its maker puts in.
+    -- something is made under a rule, which stays
+    pub under_rule : K → {I P : Fml} (k : Item 𝓤) → ent 𝓤 (sep 𝓤 (sem 𝓛 (finv I)) (sem 𝓛 P)) (mean 𝓛 k)
+        → Step K 𝓛 (k ∷ ‵ (finv I) ∷ Γ) G (‵ P ∷ ‵ (finv I) ∷ Γ) G
+    under_rule t {I} k h = step (λ s. move t (1 ∷ []) $ use1 𝓛 (‵ (finv I) ⊛ ‵ (finv I)) (𝓛.invs.inv_dup I) $
+        split t $ move t (0 ∷ 2 ∷ []) $ use2 𝓛 k h $ s)
+
+    -- a step is asked for, by what its maker puts in
     pub asks_with : K → {I P : Fml} {X : SProp 𝓤} → ent 𝓤 (sep 𝓤 (sem 𝓛 (finv I)) (sem 𝓛 P)) X
         → Step K 𝓛 (raw X ∷ ‵ (finv I) ∷ Γ) G (‵ P ∷ ‵ (finv I) ∷ Γ) G
-    asks_with t {I} {P} {X} h = step (λ s. move t (1 ∷ []) $
-        use1 𝓛 (‵ (finv I) ⊛ ‵ (finv I)) (𝓛.invs.inv_dup I) $ split t $ move t (0 ∷ 2 ∷ []) $ use2 𝓛 (raw X) h $ s)
+    asks_with t {X = X} h = under_rule t (raw X) h
 
     -- the same with nothing known of the log
     pub asks_new : K → {I P : Fml} {X : SProp 𝓤} → ent 𝓤 (sep 𝓤 (sem 𝓛 (finv I)) (sem 𝓛 (fsep ftrue P))) X
@@ -121,23 +126,15 @@ module _ (R : RattleType) (p : Ptr) (x : (HeldRow R).Denot)
       -- [the open borrow; the share; half of the token; the rule; the sharing; the word]
       move t (5 ∷ 2 ∷ []) $ opens_word R p t soaks inb b o (λ r. k inb i e r))))
 
-  -- a permit of the handle that made the step
-  pub keeps_permit : K → Soaks G → InBlock p → (i : Names) (r : Right) → NoHandle r → (old log : List Entry) (e : Entry)
-      (w : ℕ) → (Adds x.limit.count old e w log → Seq K 𝓛 (‵ (permit_owns R p x η n r log) ∷ Γ) G)
-      → Seq K 𝓛 (‵ (fsep (adds x.limit.count η old e w log) (grants (block_at R p x η n i) r log))
-      ∷ ‵ (finv (block_rule R p x η i)) ∷ Γ) G
-  keeps_permit t soaks inb i r none old log e w k = use2 𝓛 (later
-      (given (Adds x.limit.count old e w log) (‵ (permit_owns R p x η n r log))))
-      (permit_kept 𝓛 R p x η n inb i old e w r log none) $ await t soaks $ learn t k
-
-  -- a permit that was made through a `&`, of the handle that was born last
-  pub shows_permit : K → Soaks G → InBlock p → (i : Names) (r : Right) → NoBlock r → (old log : List Entry) (e : Entry)
-      (w : ℕ) → (Adds x.limit.count old e w log → Seq K 𝓛 (‵ (permit_owns R p x η (newest log) r log) ∷ Γ) G)
-      → Seq K 𝓛 (‵ (fsep (adds x.limit.count η old e w log) (grants (block_at R p x η n i) r log))
-      ∷ ‵ (finv (block_rule R p x η i)) ∷ ‵ (shown R p x (i.shared ∷ [])) ∷ Γ) G
-  shows_permit t soaks inb i r none old log e w k = use3 𝓛 (later
-      (given (Adds x.limit.count old e w log) (‵ (permit_owns R p x η (newest log) r log))))
-      (permit_shown 𝓛 R p x η n inb i old e w r log none) $ await t soaks $ learn t k
+  -- a permit, of the handle that made the step or of the one that was born, by what it is made of
+  pub learns_permit : K → Soaks G
+      → (i : Names) (m : ℕ) (r : Right) (old log : List Entry) (e : Entry) (w : ℕ) {j : Item 𝓤}
+      → ent 𝓤 (⋆ 𝓛 (‵ (fsep (adds x.limit.count η old e w log) (grants (block_at R p x η n i) r log)) ∷ j ∷ []))
+      (𝓛.H.⇛ (guard 𝓤 (Adds x.limit.count old e w log) (sem 𝓛 (permit_owns R p x η m r log))))
+      → (Adds x.limit.count old e w log → Seq K 𝓛 (‵ (permit_owns R p x η m r log) ∷ Γ) G)
+      → Seq K 𝓛 (‵ (fsep (adds x.limit.count η old e w log) (grants (block_at R p x η n i) r log)) ∷ j ∷ Γ) G
+  learns_permit t soaks i m r old log e w made k = use2 𝓛 (later (given (Adds x.limit.count old e w log)
+      (‵ (permit_owns R p x η m r log)))) made $ await t soaks $ learn t k
 
 -- what is beside a step through a `&`: the rule, half of the token, the open borrow, the sharing
 abbrev pub left_open : (R : RattleType) (p : Ptr) (x : (HeldRow R).Denot) (η : BlockId) (n : ℕ) {M : Type 1} {𝓤 : Ura M}
@@ -174,4 +171,5 @@ module _ (R : RattleType) (p : Ptr) (x : (HeldRow R).Denot)
       move t (1 ∷ []) $ fpick t (λ within. drop t $ move t (0 ∷ 4 ∷ 5 ∷ []) $ closes_borrow t soaks $
       -- [the token; the right; that it is in the log; the rule; the sharing]
       move t (2 ∷ 1 ∷ []) $ fjoin t $ move t (0 ∷ 2 ∷ 3 ∷ []) $
-      shows_permit R p x η n t soaks inb i r none old log (made n what) w (λ adds. k within log adds)))
+      move t (1 ∷ 2 ∷ []) $ join t $ move t (1 ∷ 0 ∷ []) $ learns_permit R p x η n t soaks i (newest log) r old log
+      (made n what) w (permit_shown 𝓛 R p x η n inb i old (made n what) w r log none) (λ adds. k within log adds)))

@@ -1,25 +1,23 @@
 -- The result of a step that leaves no right: the word that it found, and that it is in the log. Assumes `Logic`.
-use Rattle.std.proofs.Common.{◌≡◌, ℕ, ◌^◌, ◌<◌, List, [], ◌∷◌, ◌++◌, refl, w64}
+use Rattle.std.proofs.Common.{◌≡◌, ℕ, ◌^◌, ◌<◌, List, [], ◌∷◌, refl, w64}
 use seplogic.Ra.Ura.{Ura}
 use lib.Dec.{T}
 use mir.Syntax.{ty_int, ty_struct, tcons, tnil}
-use mir.Val.{Val, vint, vstruct, vcons, vnil, of_list, has_ty, WT}
+use mir.Val.{Val, vint, vstruct, vcons, vnil, has_ty, WT}
 use base.Logic.{ent, emp}
-use base.Fml.{feq, fsep}
 use types.Logic.{Logic, sem}
-use types.Kit.{Item, Goal, Step, step, ‵, ◌$◌, move, fjoin, fjoin3, fpack, feq_i, flt_i}
-use types.Kit.{use0}
-use denote.RattleType.{RattleType, Valss, owns}
+use types.Kit.{Item, Goal, Step, step, ‵, ◌$◌, fjoin, use0}
+use denote.RattleType.{RattleType}
 use denote.Laws.{Is}
 use denote.Builtin.{u64}
 use denote.Shadow.{makes_shadow}
-use denote.Steps.{nothing as nothing_more}
 use denote.Struct.Owning.{shape}
 use denote.Struct.Struct.{Struct}
 use denote.Struct.Tuple.{Tuple}
 use Rattle.counting_word.specs.Logs.{Entry}
 use Rattle.handles.specs.Inside.Blocks.{BlockId, reached}
 use Rattle.handles.specs.contracts.block.permit.Logged as logged_type
+use Rattle.handles.proofs.Walks.Fields.{with_word}
 
 -- a word, and that a step is in the log, which has no bytes
 abbrev pub word_and_logged : ℕ → Val
@@ -55,11 +53,5 @@ module _ (id : BlockId) (n : ℕ) {M : Type 1} {𝓤 : Ura M} {𝓛 : Logic 𝓤
       → Step K 𝓛 (‵ ((Tuple (u64 ∷ LoggedRow ∷ [])).own_val (n, record { id = id; log = log }) (word_and_logged n ∷ []))
       ∷ Γ)
       G (‵ (reached id log) ∷ Γ) G
-  returns_logged t fits log = step (λ s. let v : Val = word_and_logged n in
-      use0 𝓛 (‵ (NoBytes.own_val tt (vstruct vnil ∷ []))) (no_bytes-made 𝓛) $ fjoin t $ nothing_more t $
-      flt_i t n (2 ^ 64) fits $ feq_i t (List Val) (vint w64 n ∷ []) (vint w64 n ∷ []) refl $ fjoin t $
-      move t (0 ∷ 2 ∷ 1 ∷ []) $ fjoin3 t $ feq_i t (List Val) (v ∷ []) (v ∷ []) refl $ fjoin t $
-      fpack t (Valss (u64 ∷ LoggedRow ∷ []))
-      (λ uss. fsep (feq (List Val) (v ∷ []) (vstruct (of_list (uss.0 ++ (uss.1.0 ++ []))) ∷ []))
-      (owns (u64 ∷ LoggedRow ∷ []) (n, (record { id = id; log = log }, tt)) uss))
-      (vint w64 n ∷ [], (vstruct vnil ∷ [], tt)) $ s)
+  returns_logged t fits log = step (λ s. use0 𝓛 (‵ (NoBytes.own_val tt (vstruct vnil ∷ []))) (no_bytes-made 𝓛) $
+      fjoin t $ with_word t LoggedRow (record { id = id; log = log }) (vstruct vnil) n fits $ s)

@@ -1,6 +1,7 @@
 -- Walks of the functions with one type parameter whose one parameter is a `&`, or a handle or a permit by value.
 -- Assumes `Logic`.
 use Rattle.std.proofs.Common.{◌≡◌, ℕ, Bool, false, List, [], ◌∷◌, refl, sym, subst}
+use Prim.Native.Nat.{suc}
 use seplogic.Ra.Ura.{Ura}
 use mathlib.Core.Option.{some}
 use mir.Syntax.{Fn, Callee, Args, named, Ty, Body, ty_ptr, ty_ref, imm, seq, assign, place, rv_opd, copy, deref, field}
@@ -14,24 +15,25 @@ use types.Logic.{Logic, sem}
 use types.Kit.{allocs, params', runs, at_ret, Item, Goal, Step, step, Sq, use0, ⋆, ‵, raw, ◌⊛◌, ◌$◌, ◌∵◌, !, qed, by}
 use types.Kit.{move, keep, drop, use1}
 use types.Kit.{split, fsplit, fjoin, done, join, rewrite}
-use contract.Lifetimes.{Lfts, Shares, Outlives}
+use contract.Lifetimes.{Lfts, Shares, Outlives, toks}
 use contract.Monad.{fact, fact_i, fact_use}
 use contract.Running.{Running, MachineTables, tables}
-use denote.Exit.{Kept, Last, yes, no}
-use denote.Laws.{Is, Tells}
+use denote.Exit.{Last, yes, no}
+use denote.Laws.{Are, Is, Ises, Spells, Tells, Tellss, valss}
 use denote.Memory.{hidden_shr}
 use denote.Param.{param}
-use denote.RattleType.{RattleType, owns}
+use denote.RattleType.{RattleType, Denots, flat, owns}
 use denote.RawPtr.{Ptr, InBlock, block_of, count_of as offset_of}
 use denote.Ref.{Bor, shr_vals, shr_Tells}
 use denote.Builtin.{RefOf, One}
 use denote.Signature.{Slot, plain, types_at}
+use denote.Triple.End.{Fins, Kepts}
 use denote.Steps.{nothing as nothing_more, shuts}
 use denote.Triple.Clauses.{Ended, Clauses, at_exit}
 use Rattle.std_alloc.proofs.RcSteps.{Ptr-Good}
 use denote.Triple.Spec.{Meets}
-use denote.Triple.Walked.{Stays, stay_dropped, walk_of, Silent, Goes-dropped}
-use Rattle.handles.proofs.Walks.AtType.{at_type, entered, Asks, Code, IsCode, Proved, dropped}
+use denote.Triple.Walked.{AllGo, Silent, Goes-dropped}
+use Rattle.handles.proofs.Walks.AtType.{all_dropped, at_type, entered, Asks, Code, IsCode, Proved, dropped}
 use Rattle.counting_word.specs.Logs.{Entry}
 use Rattle.handles.specs.Inside.Blocks.{HeldRow, BlockId, Names, lent_share, handle_owns, permit_owns}
 use Rattle.handles.specs.contracts.block.handle.Handle as handle_type
@@ -45,56 +47,74 @@ use types.Run.{and_then, no_more, returns}
 use Rattle.handles.proofs.Walks.Fields.{one_word, one_word-Good, PermitWords, words_are, words_made, HandleRow}
 use Rattle.handles.proofs.Walks.Fields.{HandleWords, PermitRow, handle_at}
 
--- a signature of one parameter
-abbrev pub taking : {n : ℕ} → List (Outlives n) → Slot n → Kept → Slot n → Ended
-taking {n} os s k r = record {
-  signature = record { lifetimes = n; outlives = os; params = s ∷ []; result = r };
-  kept = (k, tt);
-}
-
--- a `&` to such a value
-abbrev pub a_ref : (Row : RattleType) → One Row.mir → Slot 2
+-- a `&` to a value of a type that is one machine value
+abbrev pub a_ref : {m : ℕ} (Row : RattleType) → One Row.mir → Slot (suc m)
 a_ref Row one = RefOf (0 ∷ []) tt (plain (λ _. Row)) (λ _. one)
 
--- the same with a `&` to such a value
-abbrev pub lent_to : (Row : RattleType) → One Row.mir → List (Outlives 2) → Slot 2 → Ended
-lent_to Row one os r = taking os (a_ref Row one) yes r
+-- a signature of such a `&` and of more parameters
+abbrev pub lent_to : {m : ℕ} (Row : RattleType) → One Row.mir → List (Outlives (suc m)) → (ss : List (Slot (suc m)))
+    → Kepts ss → Slot (suc m) → Ended
+lent_to {m} Row one os ss ks r = record {
+  signature = record { lifetimes = suc m; outlives = os; params = a_ref Row one ∷ ss; result = r };
+  kept = (yes, ks);
+}
 
--- A walk through a function that takes such a `&` begins with what the `&` lends, its token and the other tokens.
+-- A walk through a function that takes such a `&` begins with what the `&` lends, its token, the other tokens, and what
+-- the other parameters own.
+module _ (Row : RattleType) (one : One Row.mir) {m : ℕ} {os : List (Outlives (suc m))} {r : Slot (suc m)}
+    (ss : List (Slot (suc m))) (ks : Kepts ss) {M : Type 1} {𝓤 : Ura M} (𝓛 : Logic 𝓤) (𝓜 : Model 𝓤 𝓛.H)
+    (𝓡 : Running 𝓤 𝓛.H 𝓜) (c : Clauses 𝓤 (lent_to Row one os ss ks r)) where
+  -- a walk through a function that takes a `&` and more
+  pub by_ref_and : (Asked : (κs : Lfts (suc m)) → Bor Row.Denot → Denots (types_at ss κs) → Type 0)
+      → Asks (lent_to Row one os ss ks r) c (λ κs a. Asked κs a.0 a.1) → AllGo 𝓛 (suc m) ss ks (all_dropped ss ks)
+      → (sp : (κs : Lfts (suc m)) → Spells (types_at ss κs))
+      → ((κs : Lfts (suc m)) → Tellss (types_at ss κs) (Ises (types_at ss κs)) (sp κs)) → (T : RattleType)
+      (key : Args → Callee) (f : Fn) → IsCode (at_type T) f 𝓛 𝓜 𝓡 key
+      → ((κs : Lfts (suc m)) (qs : Shares (suc m)) (a : Bor Row.Denot) (bs : Denots (types_at ss κs))
+      (gh : (c κs (a, bs)).ghost) (Post : Val → SProp 𝓤) → Asked κs a bs
+      → Are (types_at ss κs) (Ises (types_at ss κs)) bs (valss (types_at ss κs) (sp κs) bs)
+      → ((v : Val) (x : (r.row κs).Denot) (ws : Fins κs ss ks bs)
+      → ent 𝓤 (emp 𝓤) ((c κs (a, bs)).ensures gh x (at_exit (lent_to Row one os ss ks r) κs (a, bs) (tt, ws)))
+      → ent 𝓤 (⋆ 𝓛 (‵ (flft κs.0 qs.0) ∷ raw (toks 𝓛 m κs.1 qs.1) ∷ ‵ ((r.row κs).own_val x (v ∷ [])) ∷ [])) (Post v))
+      → Code (at_type T) f 𝓛 𝓜 𝓡 Post
+      → Sq 𝓛 (‵ (hidden_shr Row κs.0 a.now a.ref_ptr.0 a.ref_ptr.1) ∷ ‵ (flft κs.0 qs.0) ∷ raw (toks 𝓛 m κs.1 qs.1)
+      ∷ ‵ (owns (types_at ss κs) bs (valss (types_at ss κs) (sp κs) bs)) ∷ []) (entered (at_type T) f 𝓛 𝓜 𝓡 Post
+      (vptr a.ref_ptr.0 a.ref_ptr.1 ∷ flat (types_at ss κs) (valss (types_at ss κs) (sp κs) bs))))
+      → Proved (at_type T) 𝓛 𝓜 𝓡 (lent_to Row one os ss ks r) c key
+  by_ref_and Asked asked law sp tells T key f closed walk = dropped (at_type T) f 𝓛 𝓜 𝓡 (lent_to Row one os ss ks r) c
+      (λ κs a. Asked κs a.0 a.1) asked (Goes-dropped 𝓛 (suc m) (a_ref Row one) yes (λ κs x f. refl), law) key closed
+      (λ κs. (shr_vals, sp κs)) (λ κs. (shr_Tells (named 0) κs.0 Row, tells κs)) (λ κs a qs gh Post is are left go.
+      fsplit ! $ fsplit ! $ move ! (3 ∷ []) $ use1 𝓛 (‵ (flft κs.0 qs.0) ⊛ raw (toks 𝓛 m κs.1 qs.1)) (id⊢ 𝓤 _) $
+      split ! $ keep ! (3 ∷ 0 ∷ 1 ∷ 4 ∷ []) $ walk κs qs a.0 a.1 gh Post is are.1 (λ v x ws e.
+      qed 𝓛 (‵ (flft κs.0 qs.0) ∷ raw (toks 𝓛 m κs.1 qs.1) ∷ ‵ ((r.row κs).own_val x (v ∷ [])) ∷ []) ∵ join ! $
+      by ! (left v x (tt, ws) e)) go)
+
+-- the same with no more parameters
+abbrev pub ref_to : (Row : RattleType) → One Row.mir → List (Outlives 2) → Slot 2 → Ended
+ref_to Row one os r = lent_to {m = 1} Row one os [] tt r
+
 module _ (Row : RattleType) (one : One Row.mir) {os : List (Outlives 2)} {r : Slot 2} {M : Type 1} {𝓤 : Ura M}
-    (𝓛 : Logic 𝓤) (𝓜 : Model 𝓤 𝓛.H) (𝓡 : Running 𝓤 𝓛.H 𝓜) (c : Clauses 𝓤 (lent_to Row one os r)) where
-  abbrev others : Lfts 2 → Shares 2 → Fml
-  others κs qs = fsep (flft κs.1.0 qs.1.0) ftrue
-
+    (𝓛 : Logic 𝓤) (𝓜 : Model 𝓤 𝓛.H) (𝓡 : Running 𝓤 𝓛.H 𝓜) (c : Clauses 𝓤 (ref_to Row one os r)) where
   -- it ends with the tokens and the result
   abbrev pub RefLeft : (κs : Lfts 2) → Shares 2 → (a : Bor Row.Denot) → (c κs (a, tt)).ghost → (Val → SProp 𝓤) → Type 1
   RefLeft κs qs a gh Post = (v : Val) (x : (r.row κs).Denot)
-      → ent 𝓤 (emp 𝓤) ((c κs (a, tt)).ensures gh x (at_exit (lent_to Row one os r) κs (a, tt) (tt, tt)))
-      → ent 𝓤 (⋆ 𝓛 (‵ (flft κs.0 qs.0) ∷ ‵ (others κs qs) ∷ ‵ ((r.row κs).own_val x (v ∷ [])) ∷ [])) (Post v)
-
-  -- what it is given
-  abbrev pub RefWalk : RattleType → Fn → Lfts 2 → Shares 2 → Bor Row.Denot → Type 0 → Type 2
-  RefWalk T f κs qs a Asked = (gh : (c κs (a, tt)).ghost) (Post : Val → SProp 𝓤) → Asked → RefLeft κs qs a gh Post
-      → Code (at_type T) f 𝓛 𝓜 𝓡 Post
-      → Sq 𝓛 (‵ (hidden_shr Row κs.0 a.now a.ref_ptr.0 a.ref_ptr.1) ∷ ‵ (flft κs.0 qs.0) ∷ ‵ (others κs qs) ∷ [])
-      (entered (at_type T) f 𝓛 𝓜 𝓡 Post (shr_vals a))
+      → ent 𝓤 (emp 𝓤) ((c κs (a, tt)).ensures gh x (at_exit (ref_to Row one os r) κs (a, tt) (tt, tt)))
+      → ent 𝓤 (⋆ 𝓛 (‵ (flft κs.0 qs.0) ∷ raw (toks 𝓛 1 κs.1 qs.1) ∷ ‵ ((r.row κs).own_val x (v ∷ [])) ∷ [])) (Post v)
 
   -- a walk through a function that takes a `&`
-  pub by_ref : (Asked : Lfts 2 → Bor Row.Denot → Type 0)
-      → Asks (lent_to Row one os r) c (λ κs a. Asked κs a.0) → (T : RattleType) (key : Args → Callee) (f : Fn)
-      → IsCode (at_type T) f 𝓛 𝓜 𝓡 key
-      → ((κs : Lfts 2) (qs : Shares 2) (a : Bor Row.Denot) → RefWalk T f κs qs a (Asked κs a))
-      → Proved (at_type T) 𝓛 𝓜 𝓡 (lent_to Row one os r) c key
-  by_ref Asked asked T key f closed walk = dropped (at_type T) f 𝓛 𝓜 𝓡 (lent_to Row one os r) c
-      (λ κs a. Asked κs a.0) asked (Goes-dropped 𝓛 2 (a_ref Row one) yes (λ κs x f. refl), tt) key closed
-      (λ κs. (shr_vals, tt))
-      (λ κs. (shr_Tells (named 0) κs.0 Row, tt)) (λ κs a qs gh Post is are left go. fsplit ! $ fsplit ! $
-      move ! (3 ∷ []) $ use1 𝓛 (‵ (flft κs.0 qs.0) ⊛ ‵ (others κs qs)) (id⊢ 𝓤 _) $ split ! $ keep ! (3 ∷ 0 ∷ 1 ∷ []) $
-      walk κs qs a.0 gh Post is (λ v x e. qed 𝓛 (‵ (flft κs.0 qs.0) ∷ ‵ (others κs qs)
-      ∷ ‵ ((r.row κs).own_val x (v ∷ [])) ∷ []) ∵ join ! $ by ! (left v x (tt, tt) e)) go)
+  pub by_ref : (Asked : Lfts 2 → Bor Row.Denot → Type 0) → Asks (ref_to Row one os r) c (λ κs a. Asked κs a.0)
+      → (T : RattleType) (key : Args → Callee) (f : Fn) → IsCode (at_type T) f 𝓛 𝓜 𝓡 key
+      → ((κs : Lfts 2) (qs : Shares 2) (a : Bor Row.Denot) (gh : (c κs (a, tt)).ghost) (Post : Val → SProp 𝓤)
+      → Asked κs a → RefLeft κs qs a gh Post → Code (at_type T) f 𝓛 𝓜 𝓡 Post
+      → Sq 𝓛 (‵ (hidden_shr Row κs.0 a.now a.ref_ptr.0 a.ref_ptr.1) ∷ ‵ (flft κs.0 qs.0) ∷ raw (toks 𝓛 1 κs.1 qs.1)
+      ∷ ‵ ftrue ∷ []) (entered (at_type T) f 𝓛 𝓜 𝓡 Post (shr_vals a)))
+      → Proved (at_type T) 𝓛 𝓜 𝓡 (ref_to Row one os r) c key
+  by_ref Asked asked T key f closed walk = by_ref_and Row one {m = 1} [] tt 𝓛 𝓜 𝓡 c (λ κs a bs. Asked κs a) asked tt
+      (λ κs. tt) (λ κs. tt) T key f closed (λ κs qs a bs gh Post is are left.
+      walk κs qs a gh Post is (λ v x. left v x tt))
 
 module _ (T : RattleType) {os : List (Outlives 2)} {r : Slot 2} {M : Type 1} {𝓤 : Ura M} (𝓛 : Logic 𝓤)
-    (𝓜 : Model 𝓤 𝓛.H) (𝓡 : Running 𝓤 𝓛.H 𝓜) (c : Clauses 𝓤 (lent_to (HandleRow (param 0 T)) tt os r)) where
+    (𝓜 : Model 𝓤 𝓛.H) (𝓡 : Running 𝓤 𝓛.H 𝓜) (c : Clauses 𝓤 (ref_to (HandleRow (param 0 T)) tt os r)) where
   open 𝓛 use {H}
 
   abbrev R : RattleType
@@ -108,8 +128,8 @@ module _ (T : RattleType) {os : List (Outlives 2)} {r : Slot 2} {M : Type 1} {�
 
   -- A walk through a function that takes a `&` to a shared handle and makes one step on the word, from its step on.
   -- [the share; the rule; half of the token; the open borrow; the sharing; the other tokens]
-  pub by_shared : Asks (lent_to (HandleRow R) tt os r) c (λ κs a. a.0.now.sole ≡ false) → (key : Args → Callee) (f : Fn)
-      → IsCode (at_type T) f 𝓛 𝓜 𝓡 key → {ρ ω σ τ : Ty} {then : Body} → field_of τ 0 ≡ some (ty_ptr, 0)
+  pub by_shared : Asks (ref_to (HandleRow R) tt os r) c (λ κs a. a.0.now.sole ≡ false) → (key : Args → Callee)
+      (f : Fn) → IsCode (at_type T) f 𝓛 𝓜 𝓡 key → {ρ ω σ τ : Ty} {then : Body} → field_of τ 0 ≡ some (ty_ptr, 0)
       → ((Post : Val → SProp 𝓤) (v : Val) → entered (at_type T) f 𝓛 𝓜 𝓡 Post (v ∷ [])
       ≡ allocs (locals ρ (ty_ref (named 0) imm σ) ω) (λ E. params' E (v ∷ []) (runs 𝓣.C 𝓣.Λ E
       (seq (assign (place 2 []) (rv_opd (copy (place 1 (deref τ ∷ field 0 ∷ []))))) then) (at_ret E Post))))
@@ -118,14 +138,13 @@ module _ (T : RattleType) {os : List (Outlives 2)} {r : Slot 2} {M : Type 1} {�
       (Post : Val → SProp 𝓤)
       → RefLeft (HandleRow R) tt 𝓛 𝓜 𝓡 c κs qs (lent (handle_at R p x sole η n log) b o) gh Post
       → (l : ℕ → ℕ) (inb : InBlock p) (i : Names) (e : Share) → Sq 𝓛 (‵ (lent_share i η n e)
-      ∷ left_open R p x η n κs.0 qs.0 i e (‵ (fsep (flft κs.1.0 qs.1.0) ftrue)
+      ∷ left_open R p x η n κs.0 qs.0 i e (raw (toks 𝓛 1 κs.1 qs.1) ∷ ‵ ftrue
       ∷ pointed 𝓛 l ρ (ty_ref (named 0) imm σ) ω (vptr b o) (block_of p) (offset_of p)))
       (runs 𝓣.C 𝓣.Λ (eight l ρ (ty_ref (named 0) imm σ) ω) then (at_ret (eight l ρ (ty_ref (named 0) imm σ) ω) Post)))
-      → Proved (at_type T) 𝓛 𝓜 𝓡 (lent_to (HandleRow R) tt os r) c key
+      → Proved (at_type T) 𝓛 𝓜 𝓡 (ref_to (HandleRow R) tt os r) c key
   by_shared asked key f closed lies shape walk = by_ref (HandleRow R) tt 𝓛 𝓜 𝓡 c (λ κs a. a.now.sole ≡ false) asked T
-      key f
-      closed (λ κs qs a gh Post shared ends go. let b : ℕ = a.ref_ptr.0 in let o : ℕ = a.ref_ptr.1 in let h = a.now in
-      same_goal ! (shape Post (vptr b o)) $ alloc_all ! (λ l. pass_all ! refl ((tt, tt), tt) $
+      key f closed (λ κs qs a gh Post shared ends go. let b : ℕ = a.ref_ptr.0 in let o : ℕ = a.ref_ptr.1 in
+      let h = a.now in same_goal ! (shape Post (vptr b o)) $ alloc_all ! (λ l. pass_all ! refl ((tt, tt), tt) $
       opens_handle R h.block h.held h.id h.number ! tt h.sole h.log shared b o (λ inb i e r.
       sets ! (field_behind ! 0 refl lies refl refl) refl (tt, tt) $
       shuts ! tt (HandleWords R) r (h.block, tt) (one_word (parted h.block) ∷ []) b o $ move ! (2 ∷ 3 ∷ []) $
@@ -177,7 +196,10 @@ permit_worded R = record {
 
 -- the signature of a function that takes such a value
 abbrev pub given_to : Worded → List (Outlives 1) → Slot 1 → Ended
-given_to W os r = taking os (plain (λ _. W.row)) no r
+given_to W os r = record {
+  signature = record { lifetimes = 1; outlives = os; params = plain (λ _. W.row) ∷ []; result = r };
+  kept = (no, tt);
+}
 
 -- A walk through such a function begins with what is owned and its token.
 module _ (W : Worded) {os : List (Outlives 1)} {r : Slot 1} {M : Type 1} {𝓤 : Ura M} (𝓛 : Logic 𝓤)

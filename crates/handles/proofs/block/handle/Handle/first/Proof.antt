@@ -18,10 +18,8 @@ pub first_spec : {M : Type 1} → statement M
 first_spec 𝓤 𝓛 𝓜 𝓡 wired T L =
     let R : RattleType = param 0 T in let Block : RattleType = block_type.the_row R in
     dropped_at (at_type T) code.function 𝓛 𝓜 𝓡 (ended T) (clauses T 𝓛 𝓜.mem 𝓡.returns) (λ κs a. a.0.value.word ≡ 1)
-    (λ κs a gh. snd∗ 𝓤 (fact 𝓤 _) (fact 𝓤 _)) (
-      Goes-blank 𝓛 1 (plain (λ _. RawBoxRow Block)) no (λ κs x f. tt),
-      tt,
-    ) #self
+    (λ κs a gh. snd∗ 𝓤 (fact 𝓤 _) (fact 𝓤 _))
+    (Goes-blank 𝓛 1 (plain (λ _. RawBoxRow Block)) no (λ κs x f. tt), tt) #self
     (code.unfolded 𝓤 𝓛.H 𝓜 𝓡 wired (T, tt)) (λ κs a vss qs gh Post new are ends go. let nil : List Entry = [] in
     let d = a.0 in let x : (HeldRow R).Denot = d.value.held in fsplit ! $
     raw_box_opens Block ! d vss.0 (λ b o h placed is_pair good. let p : Ptr = block_ptr b o in

@@ -1,9 +1,9 @@
 -- `full_by` keeps of a log that its last step found the limit. The handle stays as it is.
-use Rattle.handles.proofs.Walks.{dropped, snd∗, so, ◌≡◌, List, [], ◌∷◌, refl, named, vstruct, vnil, ent, emp, ftrue}
-use Rattle.handles.proofs.Walks.{sem, ‵, ◌⊛◌, ◌$◌, ◌∵◌, !, by, move, keep, fsplit, fjoin, fpack, rewrite, use0}
-use Rattle.handles.proofs.Walks.{no_more, returns, alloc_all, pass_all, free_all, look_at, sets, agg, fact, yes}
-use Rattle.handles.proofs.Walks.{RattleType, plain, nothing_more, param, shr_vals, shr_Tells, Goes-dropped, HeldRow}
-use Rattle.handles.proofs.Walks.{HandleRow, LoggedRow, no_bytes_told, Entry, BlockId, at_type, a_ref}
+use Rattle.handles.proofs.Walks.{snd∗, so, ◌≡◌, List, [], ◌∷◌, refl, vstruct, vnil, ent, emp, ftrue, sem, ‵, ◌⊛◌, ◌$◌}
+use Rattle.handles.proofs.Walks.{◌∵◌, !, by, move, keep, fsplit, fjoin, fpack, rewrite, use0, no_more, returns}
+use Rattle.handles.proofs.Walks.{alloc_all, pass_all, free_all, look_at, sets, agg, fact, yes, RattleType, plain}
+use Rattle.handles.proofs.Walks.{nothing_more, param, Goes-dropped, HeldRow, HandleRow, LoggedRow, no_bytes_told}
+use Rattle.handles.proofs.Walks.{Entry, BlockId, by_ref_and}
 use seplogic.Ra.Ura.{Ura}
 use types.Logic.{Logic}
 use denote.Shadow.{makes_shadow}
@@ -27,22 +27,20 @@ no_bytes 𝓛 = makes_shadow 𝓛 (NoBytes.own_val tt (vstruct vnil ∷ [])) (λ
 pub full_by_spec : {M : Type 1} → statement M
 full_by_spec 𝓤 𝓛 𝓜 𝓡 wired T L =
     let R : RattleType = param 0 T in
-    dropped (at_type T) code.function 𝓛 𝓜 𝓡 (ended T) (clauses T 𝓛 𝓜.mem 𝓡.returns) (λ κs a. IsFullOf a.0.now a.1.0)
-    (λ κs a gh. snd∗ 𝓤 (fact 𝓤 _) (fact 𝓤 _)) (
-      Goes-dropped 𝓛 2 (a_ref (HandleRow R) tt) yes (λ κs x f. refl),
-      (Goes-dropped 𝓛 2 (plain (λ _. LoggedRow)) yes (λ κs x f. refl), tt),
-    ) #self
-    (code.unfolded 𝓤 𝓛.H 𝓜 𝓡 wired (T, tt)) (λ κs. (shr_vals, ((λ s. vstruct vnil ∷ []), tt)))
-    (λ κs. (shr_Tells (named 0) κs.0 (HandleRow R), ((λ s vs so. no_bytes_told vs so.0), tt)))
-    (λ κs a qs gh Post is are ends go. let x : (HeldRow R).Denot = a.0.now.held in
-    let η : BlockId = a.0.now.id in let log : List Entry = a.1.0.log in
-    fsplit ! $ move ! (1 ∷ []) $ fsplit ! $ fsplit ! $ move ! (1 ∷ []) $
+    by_ref_and (HandleRow R) tt {m = 1} (plain (λ _. LoggedRow) ∷ []) (yes, tt) 𝓛 𝓜 𝓡 (clauses T 𝓛 𝓜.mem 𝓡.returns)
+    (λ κs a bs. IsFullOf a.now bs.0) (λ κs a gh. snd∗ 𝓤 (fact 𝓤 _) (fact 𝓤 _))
+    (Goes-dropped 𝓛 2 (plain (λ _. LoggedRow)) yes (λ κs x f. refl), tt) (λ κs. ((λ s. vstruct vnil ∷ []), tt))
+    (λ κs. ((λ s vs so. no_bytes_told vs so.0), tt)) T #self code.function (code.unfolded 𝓤 𝓛.H 𝓜 𝓡 wired (T, tt))
+    (λ κs qs a bs gh Post is are ends go. let x : (HeldRow R).Denot = a.now.held in
+    let η : BlockId = a.now.id in let log : List Entry = bs.0.log in
+    move ! (3 ∷ []) $ fsplit ! $ fsplit ! $ move ! (1 ∷ []) $
     rewrite ! 0 (λ (z : BlockId). ‵ (reached z log)) is.0 refl $
-    -- [the log; the tokens]
-    keep ! (0 ∷ 4 ∷ []) $
+    -- [the log; the token; the other tokens]
+    keep ! (0 ∷ 4 ∷ 5 ∷ []) $
     alloc_all ! (λ l. pass_all ! refl ((tt, tt), ((tt, tt), tt)) $
     nothing_more ! $ fpack ! (FoundFull x.limit.count log) (λ _. ftrue) is.1 $ move ! (1 ∷ 0 ∷ []) $ fjoin ! $
     use0 𝓛 (‵ (NoBytes.own_val tt (vstruct vnil ∷ []))) (no_bytes 𝓛) $ fjoin ! $
-    sets ! (agg ! (no_more !)) refl (tt, tt) $ returns ! (look_at ! 0 refl) $ free_all ! refl $ keep ! (1 ∷ 0 ∷ []) $
-    by ! (ends (vstruct vnil) (record { limit = x.limit.count; id = η; log = log }) (tt, (tt, tt))
+    sets ! (agg ! (no_more !)) refl (tt, tt) $ returns ! (look_at ! 0 refl) $ free_all ! refl $
+    keep ! (1 ∷ 2 ∷ 0 ∷ []) $
+    by ! (ends (vstruct vnil) (record { limit = x.limit.count; id = η; log = log }) (tt, tt)
     (so 𝓤 (refl, refl, refl)))))

@@ -6,8 +6,8 @@ use Rattle.handles.proofs.Walks.{Right, HeldRow, word_and_permit, one_word-Good,
 use Rattle.handles.proofs.Walks.{handle_worded, permit_at, so, also, asks_new, Incl-refl, right_by_drop_read}
 use Rattle.handles.proofs.Walks.{counted_handle, Sharing, held_as, SharedBlock, block_at, and_logged, forgets}
 use Rattle.handles.proofs.Walks.{handle_settles, fst∗, BlockId, made, drop_read-NoHandle, word_at, its_field}
-use Rattle.handles.proofs.Walks.{keeps_permit, asks_word, returns_found, sym, no_more, and_then, get, agg, one_word}
-use Rattle.handles.proofs.Walks.{returns_permit}
+use Rattle.handles.proofs.Walks.{asks_word, returns_found, sym, no_more, and_then, get, agg, one_word}
+use Rattle.handles.proofs.Walks.{returns_permit, permit_kept, learns_permit}
 use base.Fml.{fex}
 use contract.BorrowLft.{◌⊑◌}
 use Rattle.atomic_table.proofs.Calls.{loads}
@@ -38,9 +38,9 @@ read_for_drop_spec 𝓤 𝓛 𝓜 𝓡 wired T L =
     (loads 𝓛 𝓜 𝓡 (code.calls-core::raw_atomic::load 𝓡.env wired) (word_at p) aft)) $
     asks_word l ! (fm 𝓛 𝓜 𝓡) aft refl refl (λ Δ last. last) (λ w fits. let r : Right = right_by_drop_read w in
     -- [that it is in the log, with the right; the rule; the sharing; the token]
-    fpick ! (λ now. keeps_permit R p x η n ! tt inb i r (drop_read-NoHandle w) [] now (made n step.reads_for_drop) w
-    (λ adds. returns_found l ! refl (is ! (agg ! (and_then ! (get ! refl) (no_more !))) (ap one_word (sym (at_block p
-    inb))))
-    (one_word-Good p) (word_and_permit-Good w fits p) $ returns_permit R p x η n ! w fits r now $
+    fpick ! (λ now. let ends_by = made n step.reads_for_drop in learns_permit R p x η n ! tt i n r [] now ends_by w
+    (permit_kept 𝓛 R p x η n inb i [] ends_by w r now (drop_read-NoHandle w)) (λ adds. returns_found l ! refl
+    (is ! (agg ! (and_then ! (get ! refl) (no_more !))) (ap one_word (sym (at_block p inb)))) (one_word-Good p)
+    (word_and_permit-Good w fits p) $ returns_permit R p x η n ! w fits r now $
     keep ! (2 ∷ 0 ∷ []) $ by ! (ends (word_and_permit w p) (w, permit_at R p x r η n now)
     (also 𝓤 refl (also 𝓤 refl (also 𝓤 refl (also 𝓤 refl (so 𝓤 adds)))))))))))))

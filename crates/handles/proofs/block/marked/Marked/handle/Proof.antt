@@ -1,11 +1,11 @@
 -- `handle` makes one more handle of a block that is marked, with no step on its word.
-use Rattle.handles.proofs.Walks.{ℕ, false, [], ◌∷◌, refl, id⊢, Lft, Fml, flft, fhide, full_share, finv, later, await}
-use Rattle.handles.proofs.Walks.{block_rule, ‵, ◌⊛◌, ◌$◌, !, by, move, keep, drop, split, fsplit, fjoin, fpick, use0}
-use Rattle.handles.proofs.Walks.{use1, use2, stop, addr, of_opd, no_more, and_then, returns, alloc_all, pass_all}
-use Rattle.handles.proofs.Walks.{free_all, look_at, get, through, sets, agg, RattleType, Ptr, block_ptr, param}
-use Rattle.handles.proofs.Walks.{HeldRow, one_word, shows_permit, by_ref, handle_at, is_handle, so, also, unhide}
-use Rattle.handles.proofs.Walks.{a_handle, marked_shares, SharedBlock, block_at, born, fact_i, BlockId, Names}
-use Rattle.handles.proofs.Walks.{BornSome, static_entry, newest}
+use Rattle.handles.proofs.Walks.{ℕ, false, [], ◌∷◌, refl, id⊢, Lft, flft, fhide, full_share, later, await, ‵, ◌⊛◌, ◌$◌}
+use Rattle.handles.proofs.Walks.{ !, by, move, keep, drop, fsplit, fjoin, fpick, use0, use1, stop, addr, of_opd}
+use Rattle.handles.proofs.Walks.{no_more, and_then, returns, alloc_all, pass_all, free_all, look_at, get, through}
+use Rattle.handles.proofs.Walks.{sets, agg, RattleType, Ptr, block_ptr, param, HeldRow, one_word, by_ref}
+use Rattle.handles.proofs.Walks.{handle_at, is_handle, so, also, unhide, a_handle, marked_shares, SharedBlock}
+use Rattle.handles.proofs.Walks.{block_at, born, fact_i, BlockId, Names, BornSome, static_entry, newest, join}
+use Rattle.handles.proofs.Walks.{permit_shown, learns_permit, under_rule}
 use types.Tokens.{shr_bor-open}
 use Rattle.handles.proofs.Walks.BorrowedHandle.{lent_halves}
 use Rattle.handles.specs.contracts.block.marked.Marked as marked_type
@@ -24,16 +24,17 @@ handle_spec 𝓤 𝓛 𝓜 𝓡 wired T L =
     alloc_all ! (λ l. pass_all ! refl ((tt, tt), tt) $
     use1 𝓛 (‵ (fhide (marked_shares R p a.now κ))) (id⊢ 𝓤 _) $ unhide ! $ fsplit ! $ drop ! $ fpick ! (λ t.
     let i : Names = t.names in let n : ℕ = t.number in
-    let I : Fml = block_rule R p x η i in let s : SharedBlock = block_at R p x η n i in
+    let s : SharedBlock = block_at R p x η n i in
     fsplit ! $ move ! (1 ∷ []) $ fsplit ! $ drop ! $ fsplit ! $ move ! (1 ∷ []) $ fsplit ! $
     -- [the rule; the sharing; what is lent; the mark; the token; the other tokens]
     use0 𝓛 (‵ (flft [] full_share)) (𝓛.lfts.lft-nil full_share) $ move ! (3 ∷ 0 ∷ []) $
     shr_bor-open ! tt (lent_halves 𝓛 i η n) (λ e.
     -- [the open borrow; the share; the rule; the sharing; the mark; the token; the other tokens]
-    drop ! $ move ! (3 ∷ 0 ∷ []) $ fjoin ! $ move ! (1 ∷ []) $
-    use1 𝓛 (‵ (finv I) ⊛ ‵ (finv I)) (𝓛.invs.inv_dup I) $ split ! $ move ! (0 ∷ 2 ∷ []) $
-    use2 𝓛 (later (‵ (BornSome 𝓛 s e))) (born 𝓛 s e) $ await ! tt $ fpick ! (λ w. fpick ! (λ log. fsplit ! $ drop ! $
-    shows_permit R p x η n ! tt tt i a_handle tt [] log (static_entry s) w (λ added. fsplit ! $ drop ! $
+    drop ! $ move ! (3 ∷ 0 ∷ []) $ fjoin ! $ under_rule ! (later (‵ (BornSome 𝓛 s e))) (born 𝓛 s e) $ await ! tt $
+    fpick ! (λ w. fpick ! (λ log. fsplit ! $ drop ! $
+    move ! (1 ∷ 2 ∷ []) $ join ! $ move ! (1 ∷ 0 ∷ []) $ learns_permit R p x η n ! tt i (newest log) a_handle [] log
+    (static_entry s) w (permit_shown 𝓛 R p x η n tt i [] (static_entry s) w a_handle log tt) (λ added. fsplit ! $
+    drop ! $
     sets ! (addr ! (through ! refl (stop !))) refl (tt, tt) $ sets ! (of_opd ! (get ! refl)) refl (tt, tt) $
     sets ! (agg ! (and_then ! (get ! refl) (no_more !))) refl (tt, (tt, tt)) $ is_handle R p x η
     (newest log) ! false log $

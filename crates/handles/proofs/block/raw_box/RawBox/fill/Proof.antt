@@ -20,13 +20,8 @@ fill_spec 𝓤 𝓛 𝓜 𝓡 wired T L =
     let R : RattleType = param 0 T in let E : box.Bx = record { row = T; laws = L; al = heap } in
     let room = plain (λ _. vacant.the_row R heap.row heap.g) in let item = plain (λ _. R) in
     dropped_at (at_type T) code.function 𝓛 𝓜 𝓡 (ended T) (clauses T 𝓛 𝓜.mem 𝓡.returns) (λ κs a. Unit {0})
-    (λ κs a gh. fact_i 𝓤 _ _ tt) (
-      Goes-blank 𝓛 1 room no (λ κs x f. tt),
-      (
-        Goes-dropped 𝓛 1 item no (λ κs x f. refl),
-        tt,
-      ),
-    )
+    (λ κs a gh. fact_i 𝓤 _ _ tt)
+    (Goes-blank 𝓛 1 room no (λ κs x f. tt), (Goes-dropped 𝓛 1 item no (λ κs x f. refl), tt))
     #self (code.unfolded 𝓤 𝓛.H 𝓜 𝓡 wired (T, tt)) (λ κs z vss qs gh Post asked are ends go.
     let a : Global = z.0.alloc in let x : T.Denot = z.1.0 in
     fsplit3 ! $ Vacant-had heap R ! z.0 vss.0 (λ b o h at is_room good. move ! (3 ∷ []) $

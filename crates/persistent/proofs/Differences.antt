@@ -1,6 +1,6 @@
 -- What differs between two maps, from the first keys on.
-use Rattle.std.proofs.Common.{◌≡◌, ◌∙◌, ◌+◌, ◌<◌, true, false, Bool, cond, List, [], ◌∷◌, ◌++◌, refl, ap, sym, subst}
-use Rattle.std.proofs.Common.{append-nil, append_assoc, arith, drop, length, option_map, option_to_list}
+use Rattle.std.proofs.Common.{◌≡◌, ◌∙◌, true, false, Bool, cond, List, [], ◌∷◌, ◌++◌, refl, ap, sym, subst}
+use Rattle.std.proofs.Common.{append-nil, append_assoc, drop, option_map, option_to_list}
 use Rattle.std.specs.Prelude.{Option, None, Some}
 use Rattle.std.specs.Borrow.{Bor}
 use Rattle.std.specs.declared.cmp.Ordering.{Ordering}
@@ -34,40 +34,17 @@ module _ {K V : Type 0} (cmp : K → K → Ordering) (eq : V → V → Bool) whe
   pub record AreBetween (es fs : List (K × V)) (cs : List (K × (Option V × Option V))) : Type 0 where
     pub above : (k : K) → AreAbove cmp k es → AreAbove cmp k fs → AreAbove cmp k cs
     pub rises : Rises cmp es → Rises cmp fs → Rises cmp cs
-    pub under : Rises cmp es → Rises cmp fs → (k : K) → lookup cmp k cs ≡ difference eq (lookup cmp k es) (lookup cmp k fs)
+    pub under : Rises cmp es → Rises cmp fs → (k : K)
+        → lookup cmp k cs ≡ difference eq (lookup cmp k es) (lookup cmp k fs)
 
-  pub between_none : AreBetween [] [] []
+  between_none : AreBetween [] [] []
   between_none = record { above = λ k a b. tt; rises = λ r s. tt; under = λ r s k. refl }
 
   -- whatever differs behind the first change, that change stands before it
   abbrev Leads : List (K × V) → List (K × V) → Option (Ordering × Option (K × (Option V × Option V))) → Type 0
   Leads es fs None = Unit {0}
-  Leads es fs (Some s) = (cs : List (K × (Option V × Option V))) → AreBetween (past (is_le s.0) es) (past (is_ge s.0) fs) cs
-      → AreBetween es fs (option_to_list s.1 ++ cs)
-
-  -- each step passes an entry
-  abbrev Falls : List (K × V) → List (K × V) → Option (Ordering × Option (K × (Option V × Option V))) → Type 0
-  Falls es fs None = Unit {0}
-  Falls es fs (Some s) = length (past (is_le s.0) es) + length (past (is_ge s.0) fs) < length es + length fs
-
-  falls : (es fs : List (K × V)) → Falls es fs (first_change cmp eq es fs)
-  falls [] [] = tt
-  falls (e ∷ es) [] = omega arith
-  falls [] (f ∷ fs) = omega arith
-  falls (e ∷ es) (f ∷ fs) = elim (cmp e.0 f.0) as (λ o. Falls (e ∷ es) (f ∷ fs) (Some (o, change_of eq o e f))) [
-    | Less ↦ omega arith
-    | Equal ↦ omega arith
-    | Greater ↦ omega arith
-  ]
-
-  -- so less is left after it
-  pub falls_after : (es fs as_es as_fs : List (K × V)) (o : Ordering) (change : Option (K × (Option V × Option V)))
-      → Some (o, change) ≡ first_change cmp eq es fs → as_es ≡ past (is_le o) es → as_fs ≡ past (is_ge o) fs
-      → length as_es + length as_fs < length es + length fs
-  falls_after es fs as_es as_fs o change first olds news =
-      subst (λ xs. length xs + length as_fs < length es + length fs) (sym olds)
-      (subst (λ ys. length (past (is_le o) es) + length ys < length es + length fs) (sym news)
-      (subst (Falls es fs) (sym first) (falls es fs)))
+  Leads es fs (Some s) = (cs : List (K × (Option V × Option V)))
+      → AreBetween (past (is_le s.0) es) (past (is_ge s.0) fs) cs → AreBetween es fs (option_to_list s.1 ++ cs)
 
   module _ (total : IsTotalOrder cmp) where
     -- a key that only the older map has
@@ -155,21 +132,16 @@ module _ {K V : Type 0} (cmp : K → K → Ordering) (eq : V → V → Bool) whe
     AreFound changes es fs = (cs : List (K × (Option V × Option V))) → AreBetween es fs cs
         → AreBetween old new (listed changes ++ cs)
 
-    -- at first all is left
-    pub found_none : (changes : List (Bor K × Change V)) (es fs : List (K × V)) → changes ≡ [] → es ≡ old → fs ≡ new
-        → AreFound changes es fs
-    found_none changes es fs none olds news cs left =
-        subst (λ xs. AreBetween old new (listed xs ++ cs)) (sym none)
-        (subst (λ xs. AreBetween xs new cs) olds (subst (λ ys. AreBetween es ys cs) news left))
-
     -- one step goes past the first change
-    pub found_after : IsTotalOrder cmp → (changes more : List (Bor K × Change V)) (change : Option (Bor K × Change V))
-        (es fs as_es as_fs : List (K × V)) (o : Ordering) → Some (o, option_map as_entry change) ≡ first_change cmp eq es fs
-        → as_es ≡ past (is_le o) es → as_fs ≡ past (is_ge o) fs → more ≡ changes ++ option_to_list change
-        → AreFound changes es fs → AreFound more as_es as_fs
+    pub found_after : IsTotalOrder cmp → (changes more : List (Bor K × Change V))
+        (change : Option (Bor K × Change V)) (es fs as_es as_fs : List (K × V)) (o : Ordering)
+        → Some (o, option_map as_entry change) ≡ first_change cmp eq es fs → as_es ≡ past (is_le o) es
+        → as_fs ≡ past (is_ge o) fs → more ≡ changes ++ option_to_list change → AreFound changes es fs
+        → AreFound more as_es as_fs
     found_after total changes more change es fs as_es as_fs o first olds news is found cs left =
         let step = subst (Leads es fs) (sym first) (leads total es fs) in
-        let was = subst (λ xs. AreBetween xs (past (is_ge o) fs) cs) olds (subst (λ ys. AreBetween as_es ys cs) news left) in
+        let was = subst (λ xs. AreBetween xs (past (is_ge o) fs) cs) olds
+        (subst (λ ys. AreBetween as_es ys cs) news left) in
         subst (λ ds. AreBetween old new ds) (sym (listed_more changes more change cs is))
         (found (option_to_list (option_map as_entry change) ++ cs) (step cs was))
 

@@ -23,7 +23,7 @@ module _ {X : Type 0} where
   steps = YieldsFirstRef (λ s. s)
 
   -- what a call gave, and what it left
-  pub left_next : (first : Option (Bor X)) (all rest : List X) → steps all first rest → left first rest ≡ all
+  left_next : (first : Option (Bor X)) (all rest : List X) → steps all first rest → left first rest ≡ all
   left_next None all rest h = sym h.0
   left_next (Some first) all rest h = sym h
 

@@ -214,10 +214,10 @@ impl<K: Ord + Clone, V: Clone> TreeMap<K, V> {
             ≡ cond (is_eq (K.cmp k key.now)) None (lookup K.cmp k self.old)) }
         ensures refused { OnErr result (self.new ≡ self.old) }
     {
-        let Some(_) = self.get(key) else {
+        let Some(tree) = &mut self.root else {
             return Ok(None);
         };
-        let Some(tree) = &mut self.root else {
+        let Some(_) = tree.get(key) else {
             return Ok(None);
         };
         tree.shrink()?;

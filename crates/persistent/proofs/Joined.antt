@@ -2,7 +2,8 @@
 use Rattle.std.proofs.Common.{◌≡◌, ◌+◌, ◌<◌, ◌≤◌, ◌^◌, ℕ, zero, suc, true, false, List, [], ◌∷◌, ◌++◌, length, take}
 use Rattle.std.proofs.Common.{drop, get_or, set, ap, sym, ◌∙◌, subst, arith, length-append, length-drop, length-set}
 use Rattle.std.proofs.Common.{append_assoc, append-nil, ◌*◌, ◌-◌, add-one, inl, inr, refl}
-use Rattle.std.specs.Prelude.{Some}
+use Rattle.std.specs.Int.{from_bool}
+use Rattle.std.specs.Prelude.{Bool, Some, not}
 use Rattle.std.specs.List.{All, insert, remove}
 use Rattle.std.proofs.lemmas.List.{drop_more, take_more, set_at, set_split, length-take-le, take-append-le}
 use Rattle.std.proofs.lemmas.List.{get_or-append_right, get_or-set_same}
@@ -10,7 +11,7 @@ use Rattle.std.proofs.lemmas.List.Elements.{All-append, All-cons, All-nil}
 use Rattle.std.proofs.lemmas.List.Concat.{flat_map-append}
 use Rattle.std.proofs.lemmas.Bool.{cases_Bool}
 use Rattle.std.proofs.lemmas.Grind.{pow_more}
-use Rattle.std.proofs.lemmas.List.Edits.{insert-append_right, length-remove}
+use Rattle.std.proofs.lemmas.List.Edits.{get_or-remove_below, insert-append_right, length-remove}
 use Rattle.std.proofs.lemmas.Nat.{pow_pos}
 use Rattle.std.proofs.Math.Seq.{drop-append-add, take-length}
 use Rattle.std.specs.declared.cmp.Ordering.{Ordering}
@@ -75,6 +76,24 @@ module _ {X : Type 0} where
       ∙ ap (λ (z : X). take i xs ++ z ∷ y ∷ drop (i + 2) xs) is
       ∙ ap (λ (z : X). take i xs ++ get_or xs i d ∷ z ∷ drop (i + 2) xs) next
       ∙ sym (around_two xs i d e h)
+
+  -- the items of those places, of which the second was taken out
+  pub record AreTaken (xs rest : List X) (i : ℕ) (d e : X) : Type 0 where
+    pub left : rest ≡ remove xs (i + 1)
+    pub first : d ≡ get_or xs i d
+    pub second : e ≡ get_or xs (i + 1) e
+
+  -- what a removal gave and an access read, after room was made
+  pub taken : (xs room rest : List X) (i : ℕ) (d e : X) → i + 1 < length xs → room ≡ xs → rest ≡ remove room (i + 1)
+      → d ≡ get_or rest i d → e ≡ get_or room (i + 1) e → AreTaken xs rest i d e
+  taken xs room rest i d e h same gone first second =
+      let is = gone ∙ ap (λ (ys : List X). remove ys (i + 1)) same in
+      record {
+        left = is;
+        first = first ∙ ap (λ (ys : List X). get_or ys i d) is
+            ∙ get_or-remove_below xs (i + 1) d i (omega arith) h;
+        second = second ∙ ap (λ (ys : List X). get_or ys (i + 1) e) same;
+      }
 
   -- an item behind the front
   behind_front : (xs ys : List X) (i n k : ℕ) (d : X) → i ≤ length xs → n ≡ i + k
@@ -190,9 +209,9 @@ module _ {K V : Type 0} (cmp : K → K → Ordering) where
 
     -- the child becomes two
     pub split_one : (l r : Child K V) (o : Ordering) → IsUnder cmp q cs i → IsChild (d.tree.1 + 1) l
-        → AreHalves d.tree l.tree r → cmp q r.key ≡ o → (n : ℕ) → (is_lt o ≡ true → n ≡ i)
-        → (is_lt o ≡ false → n ≡ i + 1) → IsRoom cs (insert (set cs i l) (i + 1) r) q n
-    split_one l r o under child halves was n less more =
+        → AreHalves d.tree l.tree r → cmp q r.key ≡ o → (n : ℕ) → n ≡ i + from_bool (not (is_lt o))
+        → IsRoom cs (insert (set cs i l) (i + 1) r) q n
+    split_one l r o under child halves was n place =
         let P : Child K V → Type 0 = IsChild (height_in cs) in
         let h = under.within in
         let after = drop (i + 1) cs in
@@ -221,6 +240,9 @@ module _ {K V : Type 0} (cmp : K → K → Ordering) where
         λ x. at_list (i + 1) x ∙ behind_front cs (l ∷ r ∷ after) i (i + 1) 1 x (omega arith) (omega arith) in
         let key : cmp q (get_or new (i + 1) r).key ≡ o = ap (λ (c : Child K V). cmp q c.key) (right r) ∙ was in
         let first = (same.children.each (i + 1) r long).first in
+        let at = λ (b : Bool) (t : is_lt o ≡ b). place ∙ ap (λ (b : Bool). i + from_bool (not b)) t in
+        let less : is_lt o ≡ true → n ≡ i = λ t. omega (arith, at true t) in
+        let more : is_lt o ≡ false → n ≡ i + 1 = λ t. at false t in
         elim (cases_Bool (is_lt o)) [
           | inl t ↦ subst (IsRoom cs new q) (sym (less t)) record {
             same = same;
@@ -251,12 +273,11 @@ module _ {K V : Type 0} (cmp : K → K → Ordering) where
     -- what stands after the room was taken, a write and an insert
     pub split_done : (rs new : List (Child K V)) (l r : Child K V) (o : Ordering) → IsUnder cmp q cs i → rs ≡ cs
         → IsChild (d.tree.1 + 1) l → AreHalves d.tree l.tree r → cmp q r.key ≡ o
-        → new ≡ insert (set rs i l) (i + 1) r → (n : ℕ) → (is_lt o ≡ true → n ≡ i)
-        → (is_lt o ≡ false → n ≡ i + 1) → IsRoom cs new q n
-    split_done rs new l r o under room child halves was put n less more =
+        → new ≡ insert (set rs i l) (i + 1) r → (n : ℕ) → n ≡ i + from_bool (not (is_lt o)) → IsRoom cs new q n
+    split_done rs new l r o under room child halves was put n place =
         subst (λ (xs : List (Child K V)). IsRoom cs xs q n)
         (sym (put ∙ ap (λ (xs : List (Child K V)). insert (set xs i l) (i + 1) r) room))
-        (split_one l r o under child halves was n less more)
+        (split_one l r o under child halves was n place)
 
   -- the only child can lose an entry if the node can
   pub only_child : (cs : List (Child K V)) (i : ℕ) (d : Child K V) → AreChildren cmp cs → length cs ≡ 1

@@ -124,32 +124,32 @@ module _ {K V : Type 0} (cmp : K → K → Ordering) (total : IsTotalOrder cmp) 
         room = omega (arith, less, map.room);
       }
 
-  -- the least key goes only if it is the key, and then the next one takes its place
-  pub first_without : (es : List (K × V)) (k : K) (o : Ordering) → first_key es ≡ Some k → cmp q k ≡ o
-      → is_eq o ≡ false → first_key (without cmp q es) ≡ Some k
+  -- the least key stays if the key is another
+  pub first_without : (es : List (K × V)) (k : K) → first_key es ≡ Some k → is_eq (cmp q k) ≡ false
+      → first_key (without cmp q es) ≡ Some k
   unfolding without
-  first_without [] k o h was t = absurd (none-some k h)
-  first_without (x ∷ es) k o h was t =
-      elim (cmp q x.0) as (λ p. cmp q x.0 ≡ p
-      → first_key (match_ordering p (x ∷ es) es (x ∷ without cmp q es)) ≡ Some k) [
-        | Less ↦ λ is. h
-        | Equal ↦ λ is. absurd (true≢false (sym (ap is_eq (sym was ∙ ap (cmp q) (sym (same_Some x.0 k h)) ∙ is)) ∙ t))
-        | Greater ↦ λ is. h
-      ] refl
+  first_without [] k h t = absurd (none-some k h)
+  first_without (x ∷ es) k h t =
+      (elim (cmp q x.0) as (λ o. is_eq o ≡ false
+      → first_key (match_ordering o (x ∷ es) es (x ∷ without cmp q es)) ≡ Some x.0) [
+        | Less ↦ λ t. refl
+        | Equal ↦ λ t. absurd (true≢false t)
+        | Greater ↦ λ t. refl
+      ] (ap (λ (k : K). is_eq (cmp q k)) (same_Some x.0 k h) ∙ t)) ∙ h
 
-  -- then the next one takes its place
-  pub first_next : (es : List (K × V)) (k : K) (o : Ordering) (e : K × V) → first_key es ≡ Some k → cmp q k ≡ o
-      → is_eq o ≡ true → slice_get es 1 ≡ Some e → first_key (without cmp q es) ≡ Some e.0
+  -- if it is the key, the next one takes its place
+  pub first_next : (es : List (K × V)) (k : K) (e : K × V) → first_key es ≡ Some k → is_eq (cmp q k) ≡ true
+      → slice_get es 1 ≡ Some e → first_key (without cmp q es) ≡ Some e.0
   unfolding without
-  first_next [] k o e h was t next = absurd (none-some k h)
-  first_next (x ∷ []) k o e h was t next = absurd (none-some e next)
-  first_next (x ∷ y ∷ es) k o e h was t next =
-      elim (cmp q x.0) as (λ p. cmp q x.0 ≡ p
-      → first_key (match_ordering p (x ∷ y ∷ es) (y ∷ es) (x ∷ without cmp q (y ∷ es))) ≡ Some e.0) [
-        | Less ↦ λ is. absurd (true≢false (sym t ∙ ap is_eq (sym was ∙ ap (cmp q) (sym (same_Some x.0 k h)) ∙ is)))
-        | Equal ↦ λ is. ap (λ (z : K × V). Some z.0) (same_Some y e next)
-        | Greater ↦ λ is. absurd (true≢false (sym t ∙ ap is_eq (sym was ∙ ap (cmp q) (sym (same_Some x.0 k h)) ∙ is)))
-      ] refl
+  first_next [] k e h t next = absurd (none-some k h)
+  first_next (x ∷ []) k e h t next = absurd (none-some e next)
+  first_next (x ∷ y ∷ es) k e h t next =
+      elim (cmp q x.0) as (λ o. is_eq o ≡ true
+      → first_key (match_ordering o (x ∷ y ∷ es) (y ∷ es) (x ∷ without cmp q (y ∷ es))) ≡ Some e.0) [
+        | Less ↦ λ t. absurd (true≢false (sym t))
+        | Equal ↦ λ t. ap (λ (z : K × V). Some z.0) (same_Some y e next)
+        | Greater ↦ λ t. absurd (true≢false (sym t))
+      ] (ap (λ (k : K). is_eq (cmp q k)) (same_Some x.0 k h) ∙ t)
 
 -- a key without a value
 pub without_absent : {K V : Type 0} (cmp : K → K → Ordering) (q : K) (es : List (K × V)) → lookup cmp q es ≡ None

@@ -52,8 +52,7 @@ fn insert_under<K: Ord + Clone, V: Clone>(
 {
     let place = child_of(children, &key);
     let at = room_under(children, place, alloc, &key)?;
-    let more = children[at].insert(alloc, key, value)?;
-    Ok(more)
+    children[at].insert(alloc, key, value)
 }
 
 impl<K: Ord + Clone, V: Clone> Child<K, V> {

@@ -32,8 +32,7 @@ impl<K: Ord + Clone, V: Clone> Tree<K, V> {
             Node::Branch(children) => children,
         };
         let at = child_of(children, key);
-        let answer = children[at].tree.modify(alloc, key, change)?;
-        Ok(answer)
+        children[at].tree.modify(alloc, key, change)
     }
 }
 

@@ -57,8 +57,7 @@ fn remove_under<K: Ord + Clone, V: Clone>(
     ensures refused { OnErr result (entries_in children.new.items ≡ entries_in children.old.items) }
 {
     let at = spare_for(children, alloc, key)?;
-    let value = children[at].remove(alloc, key)?;
-    Ok(value)
+    children[at].remove(alloc, key)
 }
 
 impl<K: Ord + Clone, V: Clone> Child<K, V> {

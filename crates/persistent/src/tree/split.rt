@@ -112,7 +112,7 @@ pub(crate) fn room_under<K: Ord + Clone, V: Clone>(
     let Ok(()) = children.insert(at + 1, right) else {
         unreachable!()
     };
-    Ok(if is_left { at } else { at + 1 })
+    Ok(at + usize::from(!is_left))
 }
 
 impl<K: Ord + Clone, V: Clone> Child<K, V> {

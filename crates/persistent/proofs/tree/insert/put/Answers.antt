@@ -10,7 +10,7 @@ returns-in-Ok-clause-entries g c =
     let v = c.args.value in
     let is = rw c.deref.ensures.value at c.in-Ok.ensures in
     ap (λ e. set es c.in-Ok.at (e.0, v)) c.index_mut.ensures.value
-    ∙ sym (with_found g.K.Ord.cmp c.args.key v es c.in-Ok.at c.index_mut.result.now is)
+    ∙ sym (with_found g.K.Ord.cmp c.args.key es c.in-Ok.at c.index_mut.result.now is v)
 
 pub returns-in-Ok-clause-map : goal.returns-in-Ok-clause-map
 returns-in-Ok-clause-map g c =
@@ -22,7 +22,7 @@ pub returns-in_ok-insert-in-Err-clause-entries : goal.returns-in_ok-insert-in-Er
 returns-in_ok-insert-in-Err-clause-entries g c =
     let es = c.args.entries.now.items in
     let is = rw c.deref.ensures.value at c.in-Err.ensures in
-    c.in_ok-insert-in-Err.ensures.items ∙ sym (with_missing g.K.Ord.cmp c.args.key c.args.value es c.in-Err.at is)
+    c.in_ok-insert-in-Err.ensures.items ∙ sym (with_missing g.K.Ord.cmp c.args.key es c.in-Err.at is c.args.value)
 
 pub returns-in_ok-insert-in-Err-clause-map : goal.returns-in_ok-insert-in-Err-clause-map
 returns-in_ok-insert-in-Err-clause-map g c =

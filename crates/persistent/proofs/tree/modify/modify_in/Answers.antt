@@ -22,8 +22,8 @@ unreachable-requires g c =
     absurd (true≢false (sym c.requires.found
     ∙ ap (λ v. is_some v) (lookup_missing g.K.Ord.cmp c.args.key.now c.args.entries.now.items _ is)))
 
-pub returns-clause-changed : goal.returns-clause-changed
-returns-clause-changed g c =
+pub returns : goal.returns
+returns g c =
     let cmp = g.K.Ord.cmp in
     let es = c.args.entries.now.items in
     let key = c.args.key.now in
@@ -31,23 +31,16 @@ returns-clause-changed g c =
     let d = c.index_mut.result.now in
     let v = c.change.new.arg2 in
     let entries = ap (λ e. set es c.in-Ok.at (e.0, v)) c.index_mut.ensures.value
-    ∙ sym (with_found cmp key v es c.in-Ok.at d is) in
+    ∙ sym (with_found cmp key es c.in-Ok.at d is v) in
     record {
-      before = d.1;
-      after = v;
-      found = lookup_found cmp key es c.in-Ok.at d is ∙ ap (λ e. Some e.1) (sym c.index_mut.ensures.value);
-      called = record { shown = _; shows = refl; left = _; met = c.change.ensures; leaves = refl };
-      entries = entries;
-      changes = λ k. ap (lookup cmp k) entries ∙ lookup_with cmp g.met.K.Ord.total k key v es;
+      changed = record {
+        before = d.1;
+        after = v;
+        found = lookup_found cmp key es c.in-Ok.at d is ∙ ap (λ e. Some e.1) (sym c.index_mut.ensures.value);
+        called = record { shown = _; shows = refl; left = _; met = c.change.ensures; leaves = refl };
+        entries = entries;
+        changes = λ k. ap (lookup cmp k) entries ∙ lookup_with cmp g.met.K.Ord.total k key v es;
+      };
+      map = subst (IsMap cmp) (sym entries)
+          (map_changed cmp g.met.K.Ord.total key v es c.requires.map c.requires.found);
     }
-
-pub returns-clause-map : goal.returns-clause-map
-returns-clause-map g c =
-    let cmp = g.K.Ord.cmp in
-    let es = c.args.entries.now.items in
-    let key = c.args.key.now in
-    let is = rw c.deref.ensures.value at c.in-Ok.ensures in
-    let v = c.change.new.arg2 in
-    let entries = ap (λ e. set es c.in-Ok.at (e.0, v)) c.index_mut.ensures.value
-    ∙ sym (with_found cmp key v es c.in-Ok.at c.index_mut.result.now is) in
-    subst (IsMap cmp) (sym entries) (map_changed cmp g.met.K.Ord.total key v es c.requires.map c.requires.found)

@@ -12,27 +12,20 @@ unreachable-requires g c =
     absurd (true≢false (sym c.requires.found
     ∙ ap (λ v. is_some v) (lookup_missing g.K.Ord.cmp c.args.key.now c.args.entries.now.items _ is)))
 
-pub returns-clause-value : goal.returns-clause-value
-returns-clause-value g c =
-    let is = rw c.deref.ensures.value at c.in-Ok.ensures in
-    lookup_found g.K.Ord.cmp c.args.key.now c.args.entries.now.items c.in-Ok.at c.remove-value.result is
-    ∙ ap (λ e. Some e.1) (sym c.remove-value.ensures.value)
-
-pub returns-clause-entries : goal.returns-clause-entries
-returns-clause-entries g c =
-    let is = rw c.deref.ensures.value at c.in-Ok.ensures in
-    c.remove-value.ensures.items
-    ∙ sym (without_found g.K.Ord.cmp c.args.key.now c.args.entries.now.items c.in-Ok.at c.remove-value.result is)
-
-pub returns-clause-fewer : goal.returns-clause-fewer
-returns-clause-fewer g c =
-    ap (λ es. length es + 1) (returns-clause-entries g c)
-    ∙ length_without g.K.Ord.cmp g.met.K.Ord.total c.args.key.now c.args.entries.now.items c.requires.map.rising
-    c.requires.found
-
-pub returns-clause-map : goal.returns-clause-map
-returns-clause-map g c =
+pub returns : goal.returns
+returns g c =
     let cmp = g.K.Ord.cmp in
-    subst (IsMap cmp) (sym (returns-clause-entries g c))
-    (map_without cmp g.met.K.Ord.total c.args.key.now c.args.entries.now.items c.requires.map c.requires.found
-    c.requires.some)
+    let total = g.met.K.Ord.total in
+    let es = c.args.entries.now.items in
+    let key = c.args.key.now in
+    let is = rw c.deref.ensures.value at c.in-Ok.ensures in
+    let entries = c.remove-value.ensures.items ∙ sym (without_found cmp key es c.in-Ok.at c.remove-value.result is) in
+    record {
+      value = lookup_found cmp key es c.in-Ok.at c.remove-value.result is
+          ∙ ap (λ e. Some e.1) (sym c.remove-value.ensures.value);
+      entries = entries;
+      fewer = ap (λ es. length es + 1) entries
+          ∙ length_without cmp total key es c.requires.map.rising c.requires.found;
+      map = subst (IsMap cmp) (sym entries)
+          (map_without cmp total key es c.requires.map c.requires.found c.requires.some);
+    }

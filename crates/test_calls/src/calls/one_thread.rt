@@ -1,4 +1,4 @@
-//! Calls of tokens, unique handles and unwritten blocks, and equality, each once.
+//! Calls of tokens, unique handles, unwritten blocks and two makers, and equality, each once.
 use crate::calls::by_bound::are_equal;
 use crate::made::arc_of;
 use servo_arc::{Arc, UniqueArc};

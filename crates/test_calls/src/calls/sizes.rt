@@ -1,9 +1,8 @@
-//! Long runs, many slots and a long slice: a cap that nobody asked for would refuse them.
+//! Long runs and a long slice: a cap that nobody asked for would refuse them.
 use servo_arc::counting_core::{Answer, Core, Step};
 use servo_arc::table::{Command, Reply, Table};
 use servo_arc::word::MAX_REFCOUNT;
 use servo_arc::{Arc, ThinArc};
-use std::alloc::{AllocError, Global};
 use std::process::Abort;
 use testing::{ok, same};
 
@@ -12,13 +11,13 @@ const MANY: usize = 70_000;
 
 const PAIRS: u32 = 35_000;
 
-fn commands(alloc: Global) -> Result<Vec<Command<u32>>, AllocError> {
-    let mut commands = Vec::with_capacity(alloc, MANY)?;
+fn commands(rt: &(impl Abort + AllocGlobal)) -> Vec<Command<u32>> {
+    let mut commands = ok!(rt, Vec::with_capacity(rt.alloc(), MANY));
     for value in 0..PAIRS {
-        commands.push(Command::New(0, value))?;
-        commands.push(Command::Same(0, 0))?;
+        ok!(rt, commands.push(Command::New(0, value)));
+        ok!(rt, commands.push(Command::Same(0, 0)));
     }
-    Ok(commands)
+    commands
 }
 
 fn are_done_and_true(replies: &[Reply]) -> bool {
@@ -29,20 +28,16 @@ fn are_done_and_true(replies: &[Reply]) -> bool {
 #[test]
 fn a_run_takes_many_commands(rt: HostRuntime) {
     let mut table = ok!(&rt, Table::new(rt.alloc(), 1));
-    let commands = ok!(&rt, commands(rt.alloc()));
-    let replies = ok!(&rt, table.run(rt.alloc(), commands));
+    let replies = ok!(&rt, table.run(rt.alloc(), commands(&rt)));
     let seen = (are_done_and_true(&replies), table.get(0));
     same!(&rt, seen, (true, Some(&34_999)));
 }
 
-fn numbers(rt: &(impl Abort + AllocGlobal)) -> Vec<u32> {
-    ok!(rt, (0..70_000).collect(rt.alloc()))
-}
-
 #[test]
 fn a_header_slice_is_long(rt: HostRuntime) {
-    let items = numbers(&rt).into_iter();
-    let list: ThinArc<u8, u32> = ok!(&rt, Arc::from_header_and_iter(rt.alloc(), 7, items));
+    let items: Vec<u32> = ok!(&rt, (0..70_000).collect(rt.alloc()));
+    let list = Arc::from_header_and_iter(rt.alloc(), 7, items.into_iter());
+    let list: ThinArc<u8, u32> = ok!(&rt, list);
     let seen = (list.len(), list.slice().last());
     same!(&rt, seen, (MANY, Some(&69_999)));
 }

@@ -6,13 +6,12 @@ use lib.Dec.{T}
 use mathlib.Core.Option.{some}
 use Prim.Native.Nat.{zero, suc}
 use mir.Syntax.{Callee, Ty, ty_ptr, ty_int, Body, Opd as Operand, w8, seq, block, assign, place, rv_opd, copy, deref}
-use mir.Syntax.{field}
-use mir.Syntax.{addr_of, aggregate, int, call, return, Local, local, value_local}
+use mir.Syntax.{field, addr_of, aggregate, int, call, return, Local, local, value_local}
 use mir.Val.{Val, vint, vptr, vstruct, vcons, vnil, has_ty, WT}
-use base.Logic.{SProp, ent, id⊢, via, mono_r}
+use base.Logic.{SProp, ent, via, mono_r}
 use base.Fml.{Fml}
 use prog.Memory.{field_of}
-use prog.Wp.{Calls, Loops, Env}
+use prog.Wp.{Calls, Loops}
 use sound.WpLaws.{FmC}
 use denote.Param.{layout}
 use types.Logic.{Logic}

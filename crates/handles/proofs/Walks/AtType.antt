@@ -10,7 +10,7 @@ use prog.Model.{Model}
 use prog.Wp.{Wp, WpFn, Closed}
 use types.ByLocal.{env}
 use types.Kit.{Go, Item, Goal, Step, step, prop, post, runs, allocs, params', at_ret, ◌$◌, !, regoal, Sq, ⋆, ‵, raw}
-use types.Kit.{◌⊛◌, ◌∵◌, qed, by, move, keep, split, join, fjoin, done, use0, use1}
+use types.Kit.{◌⊛◌, ◌∵◌, qed, by, move, split, fjoin, done, use0, use1}
 use types.Logic.{Logic, sem}
 use types.Run.{enter, exec}
 use contract.Lifetimes.{Lfts, Shares, AllOutlive}

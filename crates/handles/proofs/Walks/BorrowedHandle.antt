@@ -8,9 +8,8 @@ use base.Logic.{id⊢, SProp, ent, guard, sep}
 use base.Fml.{Lft, Share, Fml, flft, fobor, fhide, finv, fsep, ftrue}
 use base.Share
 use types.Logic.{Logic, sem}
-use types.Kit.{given, learn, Item, Goal, Seq, Soaks, Step, step, ‵, ◌⊛◌, later, ◌$◌, ◌∵◌, ! }
-use types.Kit.{qed, fjoin, frame, done, move, drop, split, fsplit, fsplit3, fpick, rewrite, use1, use2, use3, await}
-use types.Kit.{raw, join, ⋆, mean}
+use types.Kit.{given, learn, Item, Goal, Seq, Soaks, Step, step, ‵, ◌⊛◌, later, ◌$◌, ◌∵◌, !, qed, fjoin, frame, done}
+use types.Kit.{move, drop, split, fsplit, fsplit3, fpick, rewrite, use1, use2, await, raw, join, ⋆, mean}
 use types.Tokens.{obor_close, shr_bor-open}
 use ghost.Rules.{Halves}
 use Rattle.handles.proofs.Blocks.Rows.{pass_halves, pass_joins}

@@ -1,6 +1,6 @@
 -- Walks of the functions with one type parameter whose one parameter is a `&`, or a handle or a permit by value.
 -- Assumes `Logic`.
-use Rattle.std.proofs.Common.{◌≡◌, ℕ, Bool, false, List, [], ◌∷◌, refl, sym, subst}
+use Rattle.std.proofs.Common.{◌≡◌, ℕ, Bool, false, List, [], ◌∷◌, refl}
 use Prim.Native.Nat.{suc}
 use seplogic.Ra.Ura.{Ura}
 use mathlib.Core.Option.{some}
@@ -8,13 +8,12 @@ use mir.Syntax.{Fn, Callee, Args, named, Ty, Body, ty_ptr, ty_ref, imm, seq, ass
 use mir.Syntax.{Sym, ty_struct, tcons, tnil, local, value_local, aggregate, return}
 use mir.Val.{Val, vptr}
 use base.Logic.{SProp, ent, sep, emp, via, emp∗, mono_l, mono_r, id⊢, fst∗, snd∗}
-use base.Fml.{Fml, Share, ftrue, fsep, flft}
+use base.Fml.{Fml, Share, ftrue, flft}
 use prog.Model.{Model}
 use prog.Memory.{field_of}
 use types.Logic.{Logic, sem}
-use types.Kit.{allocs, params', runs, at_ret, Item, Goal, Step, step, Sq, use0, ⋆, ‵, raw, ◌⊛◌, ◌$◌, ◌∵◌, !, qed, by}
-use types.Kit.{move, keep, drop, use1}
-use types.Kit.{split, fsplit, fjoin, done, join, rewrite}
+use types.Kit.{allocs, params', runs, at_ret, Item, Goal, Step, Sq, use0, ⋆, ‵, raw, ◌⊛◌, ◌$◌, ◌∵◌, !, qed, by, move}
+use types.Kit.{keep, drop, use1, split, fsplit, fjoin, done, join, rewrite}
 use contract.Lifetimes.{Lfts, Shares, Outlives, toks}
 use contract.Monad.{fact, fact_i, fact_use}
 use contract.Running.{Running, MachineTables, tables}
@@ -31,7 +30,6 @@ use denote.Triple.End.{Fins, Kepts}
 use denote.Steps.{nothing as nothing_more, shuts}
 use denote.Triple.Clauses.{Ended, Clauses, at_exit}
 use Rattle.std_alloc.proofs.RcSteps.{Ptr-Good}
-use denote.Triple.Spec.{Meets}
 use denote.Triple.Walked.{AllGo, Silent, Goes-dropped}
 use Rattle.handles.proofs.Walks.AtType.{all_dropped, at_type, entered, Asks, Code, IsCode, Proved, dropped}
 use Rattle.counting_word.specs.Logs.{Entry}

@@ -1,14 +1,14 @@
 -- `add_to_stamp` is one addition to the stamp.
 use Rattle.handles.proofs.Walks.{snd∗, id⊢, emp, parted, field_behind, ◌≡◌, ℕ, ◌+◌, ◌%◌, ◌^◌, false, [], ◌∷◌, refl}
-use Rattle.handles.proofs.Walks.{lit<, w64, vint, via, Fml, ◌⊛◌, ◌$◌, ◌∵◌, !, by, move, keep, stop, fld, addr, lit}
-use Rattle.handles.proofs.Walks.{of_opd, no_more, and_then, first, blocks, Calls-last, returns, alloc_all, pass_all}
-use Rattle.handles.proofs.Walks.{free_all, look_at, get, through, sets, lands_last, agg, fact, yes, RattleType, plain}
-use Rattle.handles.proofs.Walks.{Ptr, block_ptr, block_of, offset_of, shuts, param, u64, Goes-dropped, fm, found}
-use Rattle.handles.proofs.Walks.{finds, HeldRow, one_word, HandleRow, HandleWords, is_number, opens_handle}
-use Rattle.handles.proofs.Walks.{closes_borrow, asks_with, uint_vals, uint_Tells, stamp_offset, lent_share}
-use Rattle.handles.proofs.Walks.{block_at, stamps, BlockId, by_ref_and}
+use Rattle.handles.proofs.Walks.{lit<, w64, vint, via, Fml, ◌$◌, !, by, move, keep, stop, fld, addr, lit, of_opd}
+use Rattle.handles.proofs.Walks.{no_more, and_then, first, blocks, Calls-last, returns, alloc_all, pass_all, free_all}
+use Rattle.handles.proofs.Walks.{look_at, get, through, sets, lands_last, agg, fact, yes, RattleType, plain, Ptr}
+use Rattle.handles.proofs.Walks.{block_ptr, block_of, offset_of, shuts, param, u64, Goes-dropped, fm, found, finds}
+use Rattle.handles.proofs.Walks.{HeldRow, one_word, HandleRow, HandleWords, is_number, opens_handle, closes_borrow}
+use Rattle.handles.proofs.Walks.{asks_with, uint_vals, uint_Tells, stamp_offset, lent_share, block_at, stamps, BlockId}
+use Rattle.handles.proofs.Walks.{by_ref_and}
 use Rattle.atomic_table.proofs.Calls.{adds}
-use Rattle.handles.specs.contracts.block.handle.Handle.add_to_stamp.{ended, clauses}
+use Rattle.handles.specs.contracts.block.handle.Handle.add_to_stamp.{clauses}
 use Rattle.handles.specs.contracts.block.handle.Handle.add_to_stamp.Key.{name as #self}
 use Rattle.handles.proofs.block.handle.Handle.add_to_stamp.Statement.{statement}
 use Rattle.handles.proofs.block.handle.Handle.add_to_stamp.Code as code

@@ -1,14 +1,12 @@
 -- `first` makes the handle of a new block.
 use Rattle.handles.proofs.Walks.{dropped_at, snd∗, is_handle, also, so, its_field, pick, await, ℕ, later, ◌≡◌, [], ◌∷◌}
-use Rattle.handles.proofs.Walks.{◌++◌, refl, vptr, ftrue, ‵, ◌⊛◌, ◌$◌, ◌∵◌, !, by, keep, fsplit, fjoin, fpack, use1}
-use Rattle.handles.proofs.Walks.{no_more, and_then, returns, alloc_all, pass_all, free_all, look_at, get, sets, agg}
-use Rattle.handles.proofs.Walks.{fact, no, RattleType, plain, Ptr, InBlock, block_ptr, nothing_more, param, HeldRow}
-use Rattle.handles.proofs.Walks.{one_word, rewrite, true, exists, bare_block, BlockId, sole_handle, handle_at, Entry}
-use Rattle.handles.proofs.Walks.{List, Goes-blank, pair_val, RawBoxRow, raw_box-Good, raw_box_opens, box_opens}
-use Rattle.handles.proofs.Walks.{at_type}
+use Rattle.handles.proofs.Walks.{◌++◌, refl, vptr, ftrue, ‵, ◌$◌, !, by, keep, fsplit, fjoin, fpack, use1, no_more}
+use Rattle.handles.proofs.Walks.{and_then, returns, alloc_all, pass_all, free_all, look_at, get, sets, agg, fact, no}
+use Rattle.handles.proofs.Walks.{RattleType, plain, Ptr, InBlock, block_ptr, nothing_more, param, HeldRow, one_word}
+use Rattle.handles.proofs.Walks.{rewrite, true, exists, bare_block, BlockId, sole_handle, handle_at, Entry, List}
+use Rattle.handles.proofs.Walks.{Goes-blank, pair_val, RawBoxRow, raw_box-Good, raw_box_opens, box_opens, at_type}
 use Rattle.handles.specs.contracts.block.Block as block_type
 use Rattle.handles.proofs.Blocks.New.{begins_sole}
-use Rattle.handles.specs.contracts.block.handle.Handle as handle_type
 use Rattle.handles.specs.contracts.block.handle.Handle.first.{ended, clauses}
 use Rattle.handles.specs.contracts.block.handle.Handle.first.Key.{name as #self}
 use Rattle.handles.proofs.block.handle.Handle.first.Statement.{statement}

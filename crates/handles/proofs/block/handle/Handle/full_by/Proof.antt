@@ -1,9 +1,9 @@
 -- `full_by` keeps of a log that its last step found the limit. The handle stays as it is.
-use Rattle.handles.proofs.Walks.{snd∗, so, ◌≡◌, List, [], ◌∷◌, refl, vstruct, vnil, ent, emp, ftrue, sem, ‵, ◌⊛◌, ◌$◌}
-use Rattle.handles.proofs.Walks.{◌∵◌, !, by, move, keep, fsplit, fjoin, fpack, rewrite, use0, no_more, returns}
-use Rattle.handles.proofs.Walks.{alloc_all, pass_all, free_all, look_at, sets, agg, fact, yes, RattleType, plain}
-use Rattle.handles.proofs.Walks.{nothing_more, param, Goes-dropped, HeldRow, HandleRow, LoggedRow, no_bytes_told}
-use Rattle.handles.proofs.Walks.{Entry, BlockId, by_ref_and}
+use Rattle.handles.proofs.Walks.{snd∗, so, List, [], ◌∷◌, refl, vstruct, vnil, ent, emp, ftrue, sem, ‵, ◌$◌, !, by}
+use Rattle.handles.proofs.Walks.{move, keep, fsplit, fjoin, fpack, rewrite, use0, no_more, returns, alloc_all}
+use Rattle.handles.proofs.Walks.{pass_all, free_all, look_at, sets, agg, fact, yes, RattleType, plain, nothing_more}
+use Rattle.handles.proofs.Walks.{param, Goes-dropped, HeldRow, HandleRow, LoggedRow, no_bytes_told, Entry, BlockId}
+use Rattle.handles.proofs.Walks.{by_ref_and}
 use seplogic.Ra.Ura.{Ura}
 use types.Logic.{Logic}
 use denote.Shadow.{makes_shadow}
@@ -13,7 +13,7 @@ use Rattle.handles.specs.Attempts.{IsFullOf}
 use Rattle.handles.specs.Founds.{FoundFull}
 use Rattle.handles.specs.Inside.Blocks.{reached}
 use Rattle.handles.specs.contracts.arc.full.Full as full_type
-use Rattle.handles.specs.contracts.block.handle.Handle.full_by.{ended, clauses}
+use Rattle.handles.specs.contracts.block.handle.Handle.full_by.{clauses}
 use Rattle.handles.specs.contracts.block.handle.Handle.full_by.Key.{name as #self}
 use Rattle.handles.proofs.block.handle.Handle.full_by.Statement.{statement}
 use Rattle.handles.proofs.block.handle.Handle.full_by.Code as code

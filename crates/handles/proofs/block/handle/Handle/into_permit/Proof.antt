@@ -2,7 +2,6 @@
 use Rattle.handles.proofs.Walks.{◌≡◌, Bool, true, [], ◌∷◌, refl, ‵, ◌$◌, !, by, rewrite, fact, RattleType, param}
 use Rattle.handles.proofs.Walks.{handle_worded, permit_at, so, also, sole_permits, whole_block, handle_owns, snd∗}
 use Rattle.handles.proofs.Walks.{turns, permit_worded, qed, ◌∵◌, Fml}
-use Rattle.handles.specs.contracts.block.permit.Permit as permit_type
 use Rattle.handles.specs.contracts.block.handle.Handle.into_permit.{clauses}
 use Rattle.handles.specs.contracts.block.handle.Handle.into_permit.Key.{name as #self}
 use Rattle.handles.proofs.block.handle.Handle.into_permit.Statement.{statement}

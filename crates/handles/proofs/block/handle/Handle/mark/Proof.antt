@@ -1,6 +1,6 @@
 -- `mark` sets bit 63 of the word.
-use Rattle.handles.proofs.Walks.{◌≡◌, ℕ, [], ◌∷◌, refl, lit<, via, Fml, ◌$◌, !, by, keep, and_then, fact, RattleType}
-use Rattle.handles.proofs.Walks.{param, fm, so, also, asks_new, logs, mark_bit, word_and_logged, word_and_logged-Good}
+use Rattle.handles.proofs.Walks.{ℕ, [], ◌∷◌, refl, lit<, via, Fml, ◌$◌, !, by, keep, and_then, fact, RattleType, param}
+use Rattle.handles.proofs.Walks.{fm, so, also, asks_new, logs, mark_bit, word_and_logged, word_and_logged-Good}
 use Rattle.handles.proofs.Walks.{block_at, and_logged, big_lit, snd∗, word_at, made, SharedBlock, by_shared, asks_word}
 use Rattle.handles.proofs.Walks.{returns_found, no_more, agg, returns_logged}
 use Rattle.atomic_table.proofs.Calls.{ors}

@@ -1,17 +1,17 @@
 -- `marked_by` knows the block to be marked by the log of a step, and gives a handle away for good. It makes no
 -- step itself.
 use Rattle.handles.proofs.Walks.{snd∗, id⊢, via, so, both, field_behind, ◌≡◌, ℕ, false, List, [], ◌∷◌, refl, Val, vptr}
-use Rattle.handles.proofs.Walks.{ftrue, later, await, ‵, ◌⊛◌, ◌$◌, ◌∵◌, !, by, move, keep, drop, split, join, fsplit}
-use Rattle.handles.proofs.Walks.{fjoin, fjoin3, fpick, rewrite, use1, feq_i, stop, addr, of_opd, first, blocks}
-use Rattle.handles.proofs.Walks.{returns, alloc_all, pass_all, free_all, look_at, get, through, sets, sets_last, fact}
-use Rattle.handles.proofs.Walks.{yes, RattleType, plain, Ptr, block_ptr, block_of, offset_of, at_block, nothing_more}
-use Rattle.handles.proofs.Walks.{shuts, param, param_laws, Goes-dropped, HeldRow, one_word, HandleRow, HandleWords}
+use Rattle.handles.proofs.Walks.{ftrue, later, await, ‵, ◌⊛◌, ◌$◌, !, by, move, keep, drop, split, join, fsplit, fjoin}
+use Rattle.handles.proofs.Walks.{fjoin3, fpick, rewrite, use1, feq_i, stop, addr, of_opd, first, blocks, returns}
+use Rattle.handles.proofs.Walks.{alloc_all, pass_all, free_all, look_at, get, through, sets, sets_last, fact, yes}
+use Rattle.handles.proofs.Walks.{RattleType, plain, Ptr, block_ptr, block_of, offset_of, at_block, nothing_more, shuts}
+use Rattle.handles.proofs.Walks.{param, param_laws, Goes-dropped, HeldRow, one_word, HandleRow, HandleWords}
 use Rattle.handles.proofs.Walks.{opens_handle, closes_borrow, vstruct, vnil, hide, Entry, BlockId, marked, HasMark}
 use Rattle.handles.proofs.Walks.{marked_shares, becomes_lasting, staying, fpack, LoggedRow, no_bytes_told, SharedBlock}
 use Rattle.handles.proofs.Walks.{block_at, BornSome, born, Known, knows, newest, under_rule, by_ref_and}
 use types.Growing.{at_least_dup}
 use Rattle.handles.specs.Inside.Blocks.{kept_log, logs, reached}
-use Rattle.handles.specs.contracts.block.handle.Handle.marked_by.{ended, clauses}
+use Rattle.handles.specs.contracts.block.handle.Handle.marked_by.{clauses}
 use Rattle.handles.specs.contracts.block.handle.Handle.marked_by.Key.{name as #self}
 use Rattle.handles.proofs.block.handle.Handle.marked_by.Statement.{statement}
 use Rattle.handles.proofs.block.handle.Handle.marked_by.Code as code

@@ -1,20 +1,20 @@
 -- `raise` is one compare-exchange of the word.
 use Rattle.handles.proofs.Steps.Shared.{reached}
 use Rattle.handles.proofs.Walks.{snd∗, id⊢, both, parted, word_at, nothing, its_field, rewrite, ◌≡◌, ℕ, ◌+◌, ◌<◌}
-use Rattle.handles.proofs.Walks.{false, [], ◌∷◌, refl, sym, ap, w64, via, Fml, ‵, ◌⊛◌, ◌$◌, ◌∵◌, !, by, move, keep}
-use Rattle.handles.proofs.Walks.{fsplit, fsplit3, fjoin, stop, fld, addr, of_opd, no_more, and_then, first, blocks}
-use Rattle.handles.proofs.Walks.{Calls-last, returns, alloc_all, pass_all, free_all, look_at, get, through, sets}
-use Rattle.handles.proofs.Walks.{lands_last, is, agg, fact, yes, RattleType, plain, Ptr, at_block, shuts, param, u64}
-use Rattle.handles.proofs.Walks.{Goes-dropped, fm, found, finds, Right, HeldRow, one_word, word_and_permit}
-use Rattle.handles.proofs.Walks.{one_word-Good, HandleRow, HandleWords, returns_permit, word_and_permit-Good}
-use Rattle.handles.proofs.Walks.{opens_handle, PermitRow, ptr_val, no, so, permit_worded, permit_at, asks_with}
-use Rattle.handles.proofs.Walks.{reports, also, block_at, and_logged, List, ◌∙◌, Entry, made, newest, SharedBlock}
-use Rattle.handles.proofs.Walks.{BlockId, raise-NoBlock, uint_vals, uint_Tells, right_by_raise, Fits, by_ref_and}
+use Rattle.handles.proofs.Walks.{false, [], ◌∷◌, refl, sym, ap, w64, via, Fml, ‵, ◌$◌, !, by, move, keep, fsplit}
+use Rattle.handles.proofs.Walks.{fsplit3, fjoin, stop, fld, addr, of_opd, no_more, and_then, first, blocks, Calls-last}
+use Rattle.handles.proofs.Walks.{returns, alloc_all, pass_all, free_all, look_at, get, through, sets, lands_last, is}
+use Rattle.handles.proofs.Walks.{agg, fact, yes, RattleType, plain, Ptr, at_block, shuts, param, u64, Goes-dropped, fm}
+use Rattle.handles.proofs.Walks.{found, finds, Right, HeldRow, one_word, word_and_permit, one_word-Good, HandleRow}
+use Rattle.handles.proofs.Walks.{HandleWords, returns_permit, word_and_permit-Good, opens_handle, PermitRow, ptr_val}
+use Rattle.handles.proofs.Walks.{no, so, permit_worded, permit_at, asks_with, reports, also, block_at, and_logged}
+use Rattle.handles.proofs.Walks.{List, ◌∙◌, Entry, made, newest, SharedBlock, BlockId, raise-NoBlock, uint_vals}
+use Rattle.handles.proofs.Walks.{uint_Tells, right_by_raise, Fits, by_ref_and}
 use Rattle.handles.specs.Founds.{HasFound}
 use Rattle.atomic_table.proofs.Calls.{exchanges}
 use Rattle.counting_word.specs.WordSteps as step
 use Rattle.handles.proofs.Steps.Raises.{raises, after_raise}
-use Rattle.handles.specs.contracts.block.handle.Handle.raise.{ended, clauses}
+use Rattle.handles.specs.contracts.block.handle.Handle.raise.{clauses}
 use Rattle.handles.specs.contracts.block.handle.Handle.raise.Key.{name as #self}
 use Rattle.handles.proofs.block.handle.Handle.raise.Statement.{statement}
 use Rattle.handles.proofs.block.handle.Handle.raise.Code as code

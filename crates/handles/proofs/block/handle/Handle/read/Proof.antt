@@ -1,5 +1,5 @@
 -- `read` is one load of the word.
-use Rattle.handles.proofs.Walks.{◌≡◌, ℕ, [], ◌∷◌, refl, via, Fml, ◌$◌, !, by, keep, fact, RattleType, param, fm, Right}
+use Rattle.handles.proofs.Walks.{ℕ, [], ◌∷◌, refl, via, Fml, ◌$◌, !, by, keep, fact, RattleType, param, fm, Right}
 use Rattle.handles.proofs.Walks.{word_and_permit, one_word-Good, word_and_permit-Good, permit_at, so, also, asks_new}
 use Rattle.handles.proofs.Walks.{reports, reads, after_read, right_by_read, block_at, and_logged, snd∗, word_at}
 use Rattle.handles.proofs.Walks.{SharedBlock, made, newest, read-NoBlock, by_shared, asks_word, returns_found, sym, ap}

@@ -1,13 +1,13 @@
 -- `read_for_drop` is the load by which a handle ends.
-use Rattle.handles.proofs.Walks.{◌≡◌, ℕ, ◌+◌, [], ◌∷◌, refl, ap, via, Lft, Share, Fml, ftrue, flft, ‵, ◌⊛◌, later, ◌$◌}
-use Rattle.handles.proofs.Walks.{ !, by, keep, drop, split, fsplit, fsplit3, fpick, use1, use2, await, alloc_all}
-use Rattle.handles.proofs.Walks.{pass_all, sets, is, fact, RattleType, Ptr, ptr_val, at_block, param, param_laws, fm}
-use Rattle.handles.proofs.Walks.{Right, HeldRow, word_and_permit, one_word-Good, word_and_permit-Good, sem, by_value}
+use Rattle.handles.proofs.Walks.{ℕ, [], ◌∷◌, refl, ap, via, Lft, Share, Fml, ftrue, flft, ‵, ◌⊛◌, later, ◌$◌, !, by}
+use Rattle.handles.proofs.Walks.{keep, drop, split, fsplit, fsplit3, fpick, use1, use2, await, alloc_all, pass_all}
+use Rattle.handles.proofs.Walks.{sets, is, fact, RattleType, Ptr, ptr_val, at_block, param, param_laws, fm, Right}
+use Rattle.handles.proofs.Walks.{HeldRow, word_and_permit, one_word-Good, word_and_permit-Good, sem, by_value}
 use Rattle.handles.proofs.Walks.{handle_worded, permit_at, so, also, asks_new, Incl-refl, right_by_drop_read}
 use Rattle.handles.proofs.Walks.{counted_handle, Sharing, held_as, SharedBlock, block_at, and_logged, forgets}
 use Rattle.handles.proofs.Walks.{handle_settles, fst∗, BlockId, made, drop_read-NoHandle, word_at, its_field}
-use Rattle.handles.proofs.Walks.{asks_word, returns_found, sym, no_more, and_then, get, agg, one_word}
-use Rattle.handles.proofs.Walks.{returns_permit, permit_kept, learns_permit}
+use Rattle.handles.proofs.Walks.{asks_word, returns_found, sym, no_more, and_then, get, agg, one_word, returns_permit}
+use Rattle.handles.proofs.Walks.{permit_kept, learns_permit}
 use base.Fml.{fex}
 use contract.BorrowLft.{◌⊑◌}
 use Rattle.atomic_table.proofs.Calls.{loads}

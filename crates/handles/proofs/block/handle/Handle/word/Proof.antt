@@ -1,7 +1,7 @@
 -- `word` is one load of the word, which only asks.
-use Rattle.handles.proofs.Walks.{◌≡◌, ℕ, [], ◌∷◌, refl, via, Fml, ◌$◌, !, by, keep, fact, RattleType, param, fm, so}
-use Rattle.handles.proofs.Walks.{also, asks_new, logs, word_and_logged, word_and_logged-Good, block_at, and_logged}
-use Rattle.handles.proofs.Walks.{asks, a_share, snd∗, word_at, made, SharedBlock, by_shared, asks_word, returns_found}
+use Rattle.handles.proofs.Walks.{ℕ, [], ◌∷◌, refl, via, Fml, ◌$◌, !, by, keep, fact, RattleType, param, fm, so, also}
+use Rattle.handles.proofs.Walks.{asks_new, logs, word_and_logged, word_and_logged-Good, block_at, and_logged, asks}
+use Rattle.handles.proofs.Walks.{a_share, snd∗, word_at, made, SharedBlock, by_shared, asks_word, returns_found}
 use Rattle.handles.proofs.Walks.{no_more, agg, returns_logged}
 use Rattle.atomic_table.proofs.Calls.{loads}
 use Rattle.counting_word.specs.WordSteps as step

@@ -1,11 +1,11 @@
 -- `handle` makes one more handle of a block that is marked, with no step on its word.
-use Rattle.handles.proofs.Walks.{ℕ, false, [], ◌∷◌, refl, id⊢, Lft, flft, fhide, full_share, later, await, ‵, ◌⊛◌, ◌$◌}
-use Rattle.handles.proofs.Walks.{ !, by, move, keep, drop, fsplit, fjoin, fpick, use0, use1, stop, addr, of_opd}
-use Rattle.handles.proofs.Walks.{no_more, and_then, returns, alloc_all, pass_all, free_all, look_at, get, through}
-use Rattle.handles.proofs.Walks.{sets, agg, RattleType, Ptr, block_ptr, param, HeldRow, one_word, by_ref}
-use Rattle.handles.proofs.Walks.{handle_at, is_handle, so, also, unhide, a_handle, marked_shares, SharedBlock}
-use Rattle.handles.proofs.Walks.{block_at, born, fact_i, BlockId, Names, BornSome, static_entry, newest, join}
-use Rattle.handles.proofs.Walks.{permit_shown, learns_permit, under_rule}
+use Rattle.handles.proofs.Walks.{ℕ, false, [], ◌∷◌, refl, id⊢, Lft, flft, fhide, full_share, later, await, ‵, ◌$◌, ! }
+use Rattle.handles.proofs.Walks.{by, move, keep, drop, fsplit, fjoin, fpick, use0, use1, stop, addr, of_opd, no_more}
+use Rattle.handles.proofs.Walks.{and_then, returns, alloc_all, pass_all, free_all, look_at, get, through, sets, agg}
+use Rattle.handles.proofs.Walks.{RattleType, Ptr, block_ptr, param, HeldRow, one_word, by_ref, handle_at, is_handle}
+use Rattle.handles.proofs.Walks.{so, also, unhide, a_handle, marked_shares, SharedBlock, block_at, born, fact_i}
+use Rattle.handles.proofs.Walks.{BlockId, Names, BornSome, static_entry, newest, join, permit_shown, learns_permit}
+use Rattle.handles.proofs.Walks.{under_rule}
 use types.Tokens.{shr_bor-open}
 use Rattle.handles.proofs.Walks.BorrowedHandle.{lent_halves}
 use Rattle.handles.specs.contracts.block.marked.Marked as marked_type

@@ -1,6 +1,6 @@
 -- `of` gives a new block that is marked away for good.
 use Rattle.handles.proofs.Walks.{dropped_at, both, rewrite, so, its_field, ◌≡◌, ℕ, List, [], ◌∷◌, ◌++◌, refl, Val}
-use Rattle.handles.proofs.Walks.{vptr, id⊢, Lft, Share, fsep, flft, later, await, ‵, ◌⊛◌, ◌$◌, ◌∵◌, !, by, move, keep}
+use Rattle.handles.proofs.Walks.{vptr, id⊢, Lft, Share, fsep, flft, later, await, ‵, ◌⊛◌, ◌$◌, !, by, move, keep}
 use Rattle.handles.proofs.Walks.{split, join, fsplit, fjoin, fpick, use1, use2, feq_i, stop, addr, of_opd, first}
 use Rattle.handles.proofs.Walks.{blocks, returns, alloc_all, pass_all, free_all, look_at, get, through, sets}
 use Rattle.handles.proofs.Walks.{sets_last, no, RattleType, plain, Ptr, block_ptr, param, param_laws, HeldRow, hide}

@@ -1,10 +1,9 @@
 -- `fill` writes a value into its room.
-use Rattle.handles.proofs.Walks.{dropped_at, so, fact_i, its_field, ◌≡◌, [], ◌∷◌, ◌++◌, refl, Val, vptr, full_share, ‵}
-use Rattle.handles.proofs.Walks.{◌⊛◌, ◌$◌, ◌∵◌, !, by, move, keep, fsplit3, fjoin, use2, stop, of_opd, no_more}
-use Rattle.handles.proofs.Walks.{and_then, first, blocks, returns, alloc_all, pass_all, free_all, look_at, get}
-use Rattle.handles.proofs.Walks.{through, sets, agg, no, RattleType, plain, block_ptr, param, Goes-dropped, init}
-use Rattle.handles.proofs.Walks.{assigns_last, part_at, Global, Goes-blank, heap, pair_val, raw_box-Good}
-use Rattle.handles.proofs.Walks.{raw_box_shuts, at_type}
+use Rattle.handles.proofs.Walks.{dropped_at, so, fact_i, its_field, [], ◌∷◌, ◌++◌, refl, Val, vptr, full_share, ‵, ◌$◌}
+use Rattle.handles.proofs.Walks.{ !, by, move, keep, fsplit3, fjoin, use2, stop, of_opd, no_more, and_then, first}
+use Rattle.handles.proofs.Walks.{blocks, returns, alloc_all, pass_all, free_all, look_at, get, through, sets, agg, no}
+use Rattle.handles.proofs.Walks.{RattleType, plain, block_ptr, param, Goes-dropped, init, assigns_last, part_at}
+use Rattle.handles.proofs.Walks.{Global, Goes-blank, heap, pair_val, raw_box-Good, raw_box_shuts, at_type}
 use Rattle.std_alloc.proofs.BoxSteps.Form as box
 use Rattle.std_alloc.proofs.BoxSteps.Steps.{el_tells, el_in}
 use Rattle.std_alloc.specs.contracts.room.vacant.Vacant as vacant

@@ -1,6 +1,6 @@
 -- `of` takes a box apart.
 use Rattle.handles.proofs.Walks.{dropped_at, so, its_field, ◌≡◌, [], ◌∷◌, ◌++◌, refl, ap, ◌∙◌, a_type, Val, vptr, id⊢}
-use Rattle.handles.proofs.Walks.{ftrue, flft, sem, ‵, raw, ◌⊛◌, some, later, ◌$◌, ◌∵◌, !, by, move, keep, drop, split}
+use Rattle.handles.proofs.Walks.{ftrue, flft, sem, ‵, raw, ◌⊛◌, some, later, ◌$◌, !, by, move, keep, drop, split}
 use Rattle.handles.proofs.Walks.{split3, join, fsplit, fjoin, fpick, pick, use1, await, rewrite, feq_l, of_opd}
 use Rattle.handles.proofs.Walks.{no_more, and_then, returns, lands_as, alloc_all, pass_all, free_all, look_at, get}
 use Rattle.handles.proofs.Walks.{sets, agg, fact, no, RattleType, plain, Ptr, block_ptr, ptr_val, nothing_more, only}

@@ -50,20 +50,25 @@ module _ {K V : Type 0} where
   first_child h [] d a p = absurd (omega arith)
   first_child h (c ∷ cs) d a p = first_in c.tree.0 (entries_in cs) c.key (a 0 c (omega arith)).first
 
+  -- a child with that tree
+  pub child_is : (t : List (K × V) × ℕ) (new : Child K V) → new.tree ≡ t → first_key t.0 ≡ Some new.key
+      → new.len ≡ length t.0 → 2 ^ t.1 ≤ length t.0 → IsChild (t.1 + 1) new
+  child_is t new is first len wide = record {
+    first = ap (λ (t : List (K × V) × ℕ). first_key t.0) is ∙ first;
+    counted = len ∙ ap (λ (t : List (K × V) × ℕ). length t.0) (sym is);
+    level = ap (λ (t : List (K × V) × ℕ). t.1 + 1) is;
+    wide = subst (λ (t : List (K × V) × ℕ). 2 ^ t.1 ≤ length t.0) (sym is) wide;
+  }
+
   -- a branch of these children is a child
   pub branch_is : (cmp : K → K → Ordering) (cs : List (Child K V)) (d : Child K V) (new : Child K V)
       → AreChildren cmp cs
       → 1 < length cs → new.tree ≡ (entries_in cs, height_in cs) → new.key ≡ (get_or cs 0 d).key
       → new.len ≡ length (entries_in cs) → IsChild (height_in cs + 1) new
-  branch_is cmp cs d new are wide is key len = record {
-    first = ap (λ (t : List (K × V) × ℕ). first_key t.0) is ∙ first_child (height_in cs) cs d are.each
-        (some_in cmp cs are)
-        ∙ ap (λ (k : K). Some k) (sym key);
-    counted = len ∙ ap (λ (t : List (K × V) × ℕ). length t.0) (sym is);
-    level = ap (λ (t : List (K × V) × ℕ). t.1 + 1) is;
-    wide = subst (λ (t : List (K × V) × ℕ). 2 ^ t.1 ≤ length t.0) (sym is)
-        (two_children (height_in cs) cs are.each wide);
-  }
+  branch_is cmp cs d new are wide is key len =
+      child_is (entries_in cs, height_in cs) new is
+      (first_child (height_in cs) cs d are.each (some_in cmp cs are) ∙ ap (λ (k : K). Some k) (sym key)) len
+      (two_children (height_in cs) cs are.each wide)
 
   -- fewer entries behind leave the first key
   first_front : (es rest : List (K × V)) → 0 < length es → first_key es ≡ first_key (es ++ rest)
@@ -94,21 +99,26 @@ module _ {K V : Type 0} where
       each = subst (λ (h : ℕ). All (IsChild h) cs) (sym (height_is h cs a p)) a;
     }
 
-    -- the front of a map is one
-    pub map_take : (es : List (K × V)) (n : ℕ) → IsMap cmp es → 0 < n → n ≤ length es → IsMap cmp (take n es)
-    map_take es n map p h = record {
-      rising = rising_front cmp (take n es) (drop n es) (subst (IsRising cmp) (sym (take-append-drop n es)) map.rising);
-      some = omega (arith, length-take n es);
-      room = omega (arith, map.room, length-take n es);
-    }
+    module _ (es : List (K × V)) (n : ℕ) (map : IsMap cmp es) where
+      -- the front and the back rise
+      both_rise : IsRising cmp (take n es ++ drop n es)
+      both_rise = subst (IsRising cmp) (sym (take-append-drop n es)) map.rising
 
-    -- and so is the back
-    pub map_drop : (es : List (K × V)) (n : ℕ) → IsMap cmp es → n < length es → IsMap cmp (drop n es)
-    map_drop es n map h = record {
-      rising = rising_back cmp (take n es) (drop n es) (subst (IsRising cmp) (sym (take-append-drop n es)) map.rising);
-      some = omega (arith, length-drop n es);
-      room = omega (arith, map.room, length-drop n es);
-    }
+      -- the front of a map is one
+      pub map_take : 0 < n → n ≤ length es → IsMap cmp (take n es)
+      map_take p h = record {
+        rising = rising_front cmp (take n es) (drop n es) both_rise;
+        some = omega (arith, length-take n es);
+        room = omega (arith, map.room, length-take n es);
+      }
+
+      -- and so is the back
+      pub map_drop : n < length es → IsMap cmp (drop n es)
+      map_drop h = record {
+        rising = rising_back cmp (take n es) (drop n es) both_rise;
+        some = omega (arith, length-drop n es);
+        room = omega (arith, map.room, length-drop n es);
+      }
 
     -- the entries under the front and the back
     two_parts : (cs : List (Child K V)) (n : ℕ) → entries_in cs ≡ entries_in (take n cs) ++ entries_in (drop n cs)
@@ -116,41 +126,46 @@ module _ {K V : Type 0} where
         ap (entries_in {K = K} {V = V}) (sym (take-append-drop n cs))
         ∙ flat_map-append (λ (c : Child K V). c.tree.0) (take n cs) (drop n cs)
 
-    -- the front of the children of a node are those of one
-    pub children_take : (cs : List (Child K V)) (n : ℕ) → AreChildren cmp cs → 0 < n → n ≤ length cs
-        → AreChildren cmp (take n cs)
-    children_take cs n are p h =
-        let parts = two_parts cs n in
-        let lengths = ap (length {A = K × V}) parts in
-        children_are (height_in cs) (take n cs) (All-take (IsChild (height_in cs)) n cs are.each)
-        (omega (arith, length-take n cs))
-        (rising_front cmp (entries_in (take n cs)) (entries_in (drop n cs)) (subst (IsRising cmp) parts are.map.rising))
-        (omega (arith, are.map.room, lengths, length-append (entries_in (take n cs)) (entries_in (drop n cs))))
+    module _ (cs : List (Child K V)) (n : ℕ) (are : AreChildren cmp cs) where
+      -- the entries of both parts rise
+      parts_rise : IsRising cmp (entries_in (take n cs) ++ entries_in (drop n cs))
+      parts_rise = subst (IsRising cmp) (two_parts cs n) are.map.rising
 
-    -- and so is the back
-    pub children_drop : (cs : List (Child K V)) (n : ℕ) → AreChildren cmp cs → n < length cs
-        → AreChildren cmp (drop n cs)
-    children_drop cs n are h =
-        let parts = two_parts cs n in
-        let lengths = ap (length {A = K × V}) parts in
-        children_are (height_in cs) (drop n cs) (All-drop (IsChild (height_in cs)) n cs are.each)
-        (omega (arith, length-drop n cs))
-        (rising_back cmp (entries_in (take n cs)) (entries_in (drop n cs)) (subst (IsRising cmp) parts are.map.rising))
-        (omega (arith, are.map.room, lengths, length-append (entries_in (take n cs)) (entries_in (drop n cs))))
+      -- and there are as many as of all
+      parts_count : length (entries_in (take n cs)) + length (entries_in (drop n cs)) ≡ length (entries_in cs)
+      parts_count = omega (
+        arith,
+        ap (length {A = K × V}) (two_parts cs n),
+        length-append (entries_in (take n cs)) (entries_in (drop n cs)),
+      )
 
-    -- the front is as high
-    pub height_take : (cs : List (Child K V)) (n : ℕ) → AreChildren cmp cs → 0 < n → n ≤ length cs
-        → height_in (take n cs) ≡ height_in cs
-    height_take cs n are p h =
-        height_is (height_in cs) (take n cs) (All-take (IsChild (height_in cs)) n cs are.each)
-        (omega (arith, length-take n cs))
+      -- the front of the children of a node are those of one
+      pub children_take : 0 < n → n ≤ length cs → AreChildren cmp (take n cs)
+      children_take p h =
+          children_are (height_in cs) (take n cs) (All-take (IsChild (height_in cs)) n cs are.each)
+          (omega (arith, length-take n cs))
+          (rising_front cmp (entries_in (take n cs)) (entries_in (drop n cs)) parts_rise)
+          (omega (arith, are.map.room, parts_count))
 
-    -- and so is the back
-    pub height_drop : (cs : List (Child K V)) (n : ℕ) → AreChildren cmp cs → n < length cs
-        → height_in (drop n cs) ≡ height_in cs
-    height_drop cs n are h =
-        height_is (height_in cs) (drop n cs) (All-drop (IsChild (height_in cs)) n cs are.each)
-        (omega (arith, length-drop n cs))
+      -- and so is the back
+      pub children_drop : n < length cs → AreChildren cmp (drop n cs)
+      children_drop h =
+          children_are (height_in cs) (drop n cs) (All-drop (IsChild (height_in cs)) n cs are.each)
+          (omega (arith, length-drop n cs))
+          (rising_back cmp (entries_in (take n cs)) (entries_in (drop n cs)) parts_rise)
+          (omega (arith, are.map.room, parts_count))
+
+      -- the front is as high
+      height_take : 0 < n → n ≤ length cs → height_in (take n cs) ≡ height_in cs
+      height_take p h =
+          height_is (height_in cs) (take n cs) (All-take (IsChild (height_in cs)) n cs are.each)
+          (omega (arith, length-take n cs))
+
+      -- and so is the back
+      height_drop : n < length cs → height_in (drop n cs) ≡ height_in cs
+      height_drop h =
+          height_is (height_in cs) (drop n cs) (All-drop (IsChild (height_in cs)) n cs are.each)
+          (omega (arith, length-drop n cs))
 
     -- a tree as the only child of another one
     pub only_is : (h : ℕ) (c : Child K V) → IsChild h c → IsRising cmp c.tree.0 → length c.tree.0 < 2 ^ 64
@@ -168,13 +183,9 @@ module _ {K V : Type 0} where
     leaves_are es n d r map p h key len is = record {
       entries = ap (λ (t : List (K × V) × ℕ). take n es ++ t.0) is ∙ take-append-drop n es;
       height = refl;
-      child = record {
-        first = ap (λ (t : List (K × V) × ℕ). first_key t.0) is
-            ∙ ap (first_key {K = K} {V = V}) (drop_more es n d (omega arith)) ∙ ap (λ (k : K). Some k) (sym key);
-        counted = len ∙ ap (λ (t : List (K × V) × ℕ). length t.0) (sym is);
-        level = ap (λ (t : List (K × V) × ℕ). t.1 + 1) is;
-        wide = subst (λ (t : List (K × V) × ℕ). 2 ^ t.1 ≤ length t.0) (sym is) (omega (arith, length-drop n es));
-      };
+      child = child_is (drop n es, 0) r is
+          (ap (first_key {K = K} {V = V}) (drop_more es n d (omega arith)) ∙ ap (λ (k : K). Some k) (sym key)) len
+          (omega (arith, length-drop n es));
       spare = (
         omega (arith, length-take n es),
         subst (λ (t : List (K × V) × ℕ). 2 ^ t.1 < length t.0) (sym is) (omega (arith, length-drop n es)),
@@ -191,7 +202,6 @@ module _ {K V : Type 0} where
         let back = height_drop cs n are (omega arith) in
         let rest = children_drop cs n are (omega arith) in
         let each = All-take (IsChild (height_in cs)) n cs are.each in
-        let more = All-drop (IsChild (height_in cs)) n cs are.each in
         record {
           entries = ap (λ (t : List (K × V) × ℕ). entries_in (take n cs) ++ t.0) is ∙ sym (two_parts cs n);
           height = front;
@@ -202,8 +212,7 @@ module _ {K V : Type 0} where
             subst (λ (h : ℕ). 2 ^ h < length (entries_in (take n cs))) (sym front)
                 (three_children (height_in cs) (take n cs) each (omega (arith, length-take n cs))),
             subst (λ (t : List (K × V) × ℕ). 2 ^ t.1 < length t.0) (sym is)
-                (subst (λ (h : ℕ). 2 ^ h < length (entries_in (drop n cs))) (sym back)
-                (three_children (height_in cs) (drop n cs) more (omega (arith, length-drop n cs)))),
+                (three_children (height_in (drop n cs)) (drop n cs) rest.each (omega (arith, length-drop n cs))),
           );
         }
 
@@ -231,8 +240,6 @@ module _ {K V : Type 0} where
           children = children_are (height_in cs) new all wide (subst (IsRising cmp) (sym same) are.map.rising)
               (subst (λ (x : List (K × V)). length x < 2 ^ 64) (sym same) are.map.room);
         }
-
-pub ruleset halving = (map_take, map_drop, children_take, children_drop)
 
 module _ {K V : Type 0} where
   -- the entries up to a child are no more than all

@@ -23,7 +23,8 @@ use Rattle.persistent.specs.Nodes.{AreChildren, AreHalves, CanLose, IsChild, IsM
 use Rattle.persistent.specs.Nodes.{StandFor, height_in}
 use Rattle.persistent.specs.Places.{AreAbove, AreBelow}
 use Rattle.persistent.proofs.Children.{above_child, below_child, children_later, children_sooner}
-use Rattle.persistent.proofs.Halves.{children_are, children_drop, children_take, first_in, height_is, replaced}
+use Rattle.persistent.proofs.Halves.{child_is, children_are, children_drop, children_take, first_in, height_is}
+use Rattle.persistent.proofs.Halves.{replaced}
 use Rattle.persistent.proofs.Wide.{some_in}
 use Rattle.persistent.proofs.Steps.{split_at}
 
@@ -309,24 +310,24 @@ module _ {K V : Type 0} (cmp : K → K → Ordering) where
       let one = are.each 0 c (omega arith) in
       let two = are.each 1 c (omega arith) in
       let long = length-append c.tree.0 next.tree.0 in
-      let same = ap (λ (t : List (K × V) × ℕ). length t.0) is in
-      record {
-        first = ap (λ (t : List (K × V) × ℕ). first_key t.0) is ∙ first_in c.tree.0 next.tree.0 c.key one.first
-            ∙ ap (λ (k : K). Some k) (sym key);
-        counted = omega (arith, len, one.counted, two.counted, same, long);
-        level = ap (λ (t : List (K × V) × ℕ). t.1 + 1) is;
-        wide = subst (λ (t : List (K × V) × ℕ). 2 ^ t.1 ≤ length t.0) (sym is) (omega (arith, one.wide, long));
-      }
+      child_is (c.tree.0 ++ next.tree.0, c.tree.1) new is
+      (first_in c.tree.0 next.tree.0 c.key one.first ∙ ap (λ (k : K). Some k) (sym key))
+      (omega (arith, len, one.counted, two.counted, long)) (omega (arith, one.wide, long))
+
+  -- children on one level, in one
+  each_both : (cs ds : List (Child K V)) → AreChildren cmp cs → AreChildren cmp ds → height_in cs ≡ height_in ds
+      → All (IsChild (height_in cs)) (cs ++ ds)
+  each_both cs ds are more level =
+      All-append (IsChild (height_in cs)) cs ds are.each
+      (subst (λ (n : ℕ). All (IsChild n) ds) (sym level) more.each)
 
   -- the children of two nodes that are as high, in one
   pub children_both : (cs ds : List (Child K V)) → AreChildren cmp cs → AreChildren cmp ds → height_in cs ≡ height_in ds
       → IsMap cmp (entries_in cs ++ entries_in ds) → AreChildren cmp (cs ++ ds)
   children_both cs ds are more level map =
-      let h = height_in cs in
-      let each = All-append (IsChild h) cs ds are.each
-      (subst (λ (n : ℕ). All (IsChild n) ds) (sym level) more.each) in
       let same = flat_map-append (λ (c : Child K V). c.tree.0) cs ds in
-      children_are cmp h (cs ++ ds) each (omega (arith, some_in cmp cs are, length-append cs ds))
+      children_are cmp (height_in cs) (cs ++ ds) (each_both cs ds are more level)
+      (omega (arith, some_in cmp cs are, length-append cs ds))
       (subst (IsRising cmp) (sym same) map.rising)
       (subst (λ (es : List (K × V)). length es < 2 ^ 64) (sym same) map.room)
 
@@ -335,11 +336,9 @@ module _ {K V : Type 0} (cmp : K → K → Ordering) where
       → ◌≡◌ {A = List (K × V) × ℕ} (entries_in (cs ++ ds), height_in (cs ++ ds))
       (entries_in cs ++ entries_in ds, height_in cs)
   seen_both cs ds are more level =
-      let h = height_in cs in
-      let each = All-append (IsChild h) cs ds are.each
-      (subst (λ (n : ℕ). All (IsChild n) ds) (sym level) more.each) in
-      let high : height_in (cs ++ ds) ≡ h =
-      height_is h (cs ++ ds) each (omega (arith, some_in cmp cs are, length-append cs ds)) in
+      let high : height_in (cs ++ ds) ≡ height_in cs =
+      height_is (height_in cs) (cs ++ ds) (each_both cs ds are more level)
+      (omega (arith, some_in cmp cs are, length-append cs ds)) in
       ap {B = List (K × V) × ℕ} (λ (es : List (K × V)). (es, height_in (cs ++ ds)))
       (flat_map-append (λ (c : Child K V). c.tree.0) cs ds)
       ∙ ap {B = List (K × V) × ℕ} (λ (n : ℕ). (entries_in cs ++ entries_in ds, n)) high

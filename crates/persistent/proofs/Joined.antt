@@ -19,7 +19,7 @@ use Rattle.std.specs.Cmp.{IsTotalOrder}
 use Rattle.std.specs.Ordering.{is_lt}
 use Rattle.persistent.specs.declared.tree.Child.{Child}
 use Rattle.persistent.specs.Maps.{IsRising}
-use Rattle.persistent.specs.Nodes.{AreChildren, AreHalves, CanLose, IsChild, IsMap, IsUnder, entries_in, first_key}
+use Rattle.persistent.specs.Nodes.{AreChildren, AreHalves, CanLose, IsChild, IsMap, IsUnder, entries_in}
 use Rattle.persistent.specs.Nodes.{StandFor, height_in}
 use Rattle.persistent.specs.Places.{AreAbove, AreBelow}
 use Rattle.persistent.proofs.Children.{above_child, below_child, children_later, children_sooner}

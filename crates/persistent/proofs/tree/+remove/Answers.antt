@@ -2,10 +2,9 @@
 use Rattle.std.proofs.Common.{◌≡◌, ◌*◌, ◌<◌, ◌∙◌, ◌^◌, ℕ, ap, sym, subst, arith, length, rules, true, false, List}
 use Rattle.std.specs.Prelude.{Some, is_some}
 use Rattle.std.specs.Ordering.{is_eq}
-use Rattle.persistent.specs.declared.tree.Node.TheVariants.{Branch}
 use Rattle.persistent.specs.Maps.{lookup}
 use Rattle.persistent.specs.Nodes.{CanLose, first_key}
-use Rattle.persistent.proofs.Copied.{IsMade, made}
+use Rattle.persistent.proofs.Copied.{made}
 use Rattle.persistent.proofs.Inserted.{child_here, height_some}
 use Rattle.persistent.proofs.Present.{first_next, first_without}
 use Rattle.persistent.proofs.Removed.{child_fewer, found_under, taken_under}

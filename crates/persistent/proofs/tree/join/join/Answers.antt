@@ -1,4 +1,4 @@
-use Rattle.std.proofs.Common.{◌≡◌, ◌+◌, ◌∙◌, ap, get_or, refl, set, subst, sym}
+use Rattle.std.proofs.Common.{◌+◌, ◌∙◌, ap, get_or, refl, set, subst, sym}
 use Rattle.std.specs.List.{insert}
 use Rattle.persistent.specs.Nodes.{CanLose, IsUnder, StandFor}
 use Rattle.persistent.proofs.Joined.{back, joined_same, joined_spare, joined_under, pair_are, taken}

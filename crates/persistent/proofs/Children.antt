@@ -25,6 +25,12 @@ module _ {K V : Type 0} where
       ap (entries_in {K = K} {V = V}) (split_at cs i d h)
       ∙ flat_map-append (λ (c : Child K V). c.tree.0) (take i cs) (get_or cs i d ∷ drop (i + 1) cs)
 
+  -- the entries of the front and of the back
+  pub two_parts : (cs : List (Child K V)) (n : ℕ) → entries_in cs ≡ entries_in (take n cs) ++ entries_in (drop n cs)
+  two_parts cs n =
+      ap (entries_in {K = K} {V = V}) (sym (take-append-drop n cs))
+      ∙ flat_map-append (λ (c : Child K V). c.tree.0) (take n cs) (drop n cs)
+
   -- the entries from a child on
   pub entries_from : (cs : List (Child K V)) (i : ℕ) (d : Child K V) → i < length cs
       → entries_in (drop i cs) ≡ (get_or cs i d).tree.0 ++ entries_in (drop (i + 1) cs)
@@ -49,11 +55,8 @@ module _ {K V : Type 0} where
     children_later cs i j h a =
         let same : i + (j - i) ≡ j = omega arith in
         let rest = drop i cs in
-        let parts : entries_in rest ≡ entries_in (take (j - i) rest) ++ entries_in (drop (j - i) rest) =
-        ap (entries_in {K = K} {V = V}) (sym (take-append-drop (j - i) rest))
-        ∙ flat_map-append (λ (c : Child K V). c.tree.0) (take (j - i) rest) (drop (j - i) rest) in
         let later = above_back cmp q (entries_in (take (j - i) rest)) (entries_in (drop (j - i) rest))
-        (subst (AreAbove cmp q) parts a) in
+        (subst (AreAbove cmp q) (two_parts rest (j - i)) a) in
         subst (λ (n : ℕ). AreAbove cmp q (entries_in (drop n cs))) same
         (subst (λ (cs : List (Child K V)). AreAbove cmp q (entries_in cs)) (drop-drop (j - i) i cs) later)
 

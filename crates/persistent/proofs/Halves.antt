@@ -13,7 +13,7 @@ use Rattle.persistent.specs.declared.tree.Child.{Child}
 use Rattle.persistent.specs.Maps.{IsRising}
 use Rattle.persistent.specs.Nodes.{AreChildren, AreHalves, IsChild, IsMap, StandFor, entries_in, first_key}
 use Rattle.persistent.specs.Nodes.{height_in}
-use Rattle.persistent.proofs.Children.{entries_split}
+use Rattle.persistent.proofs.Children.{entries_split, two_parts}
 use Rattle.persistent.proofs.Order.{rising_front, rising_back}
 use Rattle.persistent.proofs.Wide.{some_in, two_children, three_children}
 
@@ -119,12 +119,6 @@ module _ {K V : Type 0} where
         some = omega (arith, length-drop n es);
         room = omega (arith, map.room, length-drop n es);
       }
-
-    -- the entries under the front and the back
-    two_parts : (cs : List (Child K V)) (n : ℕ) → entries_in cs ≡ entries_in (take n cs) ++ entries_in (drop n cs)
-    two_parts cs n =
-        ap (entries_in {K = K} {V = V}) (sym (take-append-drop n cs))
-        ∙ flat_map-append (λ (c : Child K V). c.tree.0) (take n cs) (drop n cs)
 
     module _ (cs : List (Child K V)) (n : ℕ) (are : AreChildren cmp cs) where
       -- the entries of both parts rise
@@ -257,7 +251,8 @@ module _ {K V : Type 0} where
   -- the front has no more entries than all
   pub entries_front : (cs : List (Child K V)) (n : ℕ) → length (entries_in (take n cs)) ≤ length (entries_in cs)
   entries_front cs n =
-      let parts = ap (length {A = K × V})
-      (ap (entries_in {K = K} {V = V}) (sym (take-append-drop n cs))
-      ∙ flat_map-append (λ (c : Child K V). c.tree.0) (take n cs) (drop n cs)) in
-      omega (arith, parts, length-append (entries_in (take n cs)) (entries_in (drop n cs)))
+      omega (
+        arith,
+        ap (length {A = K × V}) (two_parts cs n),
+        length-append (entries_in (take n cs)) (entries_in (drop n cs)),
+      )

@@ -135,25 +135,19 @@ module _ {K V : Type 0} (cmp : K → K → Ordering) where
         → IsRising cmp (l ++ e ∷ r) → AreAbove cmp q r
     above_here q l e r h s = above_alike q e.0 r h (rises_back l (e ∷ r) (to (l ++ e ∷ r) s)).0
 
-    -- a key above an entry is above all before it
-    greater_over : (q : K) (l : List (K × V)) (e : K × V) (r : List (K × V)) → cmp q e.0 ≡ Greater
-        → Rises (l ++ e ∷ r) → AreBelow cmp q l
-    greater_over q [] e r h s = tt
-    greater_over q (x ∷ l) e r h s =
+    -- the same, of entries whose keys rise
+    over : (q : K) (l : List (K × V)) (e : K × V) (r : List (K × V)) (o : Ordering) → cmp q e.0 ≡ o
+        → is_lt o ≡ false → Rises (l ++ e ∷ r) → AreBelow cmp q l
+    over q [] e r o h t s = tt
+    over q (x ∷ l) e r Less h t s = absurd (true≢false t)
+    over q (x ∷ l) e r Equal h t s =
         let left : cmp x.0 e.0 ≡ Less = (above_back x.0 l (e ∷ r) s.0).0 in
-        (turned_back total x.0 q (total.trans x.0 e.0 q left (turned total q e.0 h)), greater_over q l e r h s.1)
-
-    -- and so is one equal to its
-    equal_over : (q : K) (l : List (K × V)) (e : K × V) (r : List (K × V)) → cmp q e.0 ≡ Equal
-        → Rises (l ++ e ∷ r) → AreBelow cmp q l
-    equal_over q [] e r h s = tt
-    equal_over q (x ∷ l) e r h s =
+        (total.congr q e.0 x.0 h ∙ turned_back total x.0 e.0 left, over q l e r Equal h t s.1)
+    over q (x ∷ l) e r Greater h t s =
         let left : cmp x.0 e.0 ≡ Less = (above_back x.0 l (e ∷ r) s.0).0 in
-        (total.congr q e.0 x.0 h ∙ turned_back total x.0 e.0 left, equal_over q l e r h s.1)
+        (turned_back total x.0 q (total.trans x.0 e.0 q left (turned total q e.0 h)), over q l e r Greater h t s.1)
 
     -- a key at or above an entry is above all before it
     pub below_before : (q : K) (l : List (K × V)) (e : K × V) (r : List (K × V)) (o : Ordering) → cmp q e.0 ≡ o
         → is_lt o ≡ false → IsRising cmp (l ++ e ∷ r) → AreBelow cmp q l
-    below_before q l e r Less h t s = absurd (true≢false t)
-    below_before q l e r Equal h t s = equal_over q l e r h (to (l ++ e ∷ r) s)
-    below_before q l e r Greater h t s = greater_over q l e r h (to (l ++ e ∷ r) s)
+    below_before q l e r o h t s = over q l e r o h t (to (l ++ e ∷ r) s)

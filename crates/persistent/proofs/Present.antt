@@ -15,11 +15,17 @@ use Rattle.persistent.proofs.Grown.{rises_with}
 use Rattle.persistent.proofs.Order.{Rises, to, from, above_more}
 
 module _ {K V : Type 0} (cmp : K → K → Ordering) (total : IsTotalOrder cmp) (q : K) where
-  -- a key below all entries is not there
-  lost : (x : K × V) (es : List (K × V)) → cmp q x.0 ≡ Less → Rises cmp (x ∷ es)
-      → is_some (lookup cmp q es) ≡ true → {A : Type 0} → A
-  lost x es h s is =
-      absurd (true≢false (sym is ∙ ap is_some (lookup_none cmp q es (above_more cmp total q x.0 es h s.0))))
+  -- a key that is there is the first one, or stands behind it
+  there : (P : Ordering → Type 0) (x : K × V) (es : List (K × V)) → Rises cmp (x ∷ es)
+      → is_some (lookup cmp q (x ∷ es)) ≡ true → P Equal → (is_some (lookup cmp q es) ≡ true → P Greater)
+      → P (cmp q x.0)
+  there P x es s is here behind =
+      elim (cmp q x.0) as (λ o. cmp q x.0 ≡ o → is_some (cond (is_eq o) (Some x.1) (lookup cmp q es)) ≡ true → P o) [
+        | Less ↦ λ o is. absurd (true≢false (sym is
+            ∙ ap is_some (lookup_none cmp q es (above_more cmp total q x.0 es o s.0))))
+        | Equal ↦ λ o is. here
+        | Greater ↦ λ o is. behind is
+      ] refl is
 
   -- the same, of keys that rise
   length_with : (v : V) (es : List (K × V)) → Rises cmp es → is_some (lookup cmp q es) ≡ true
@@ -27,12 +33,8 @@ module _ {K V : Type 0} (cmp : K → K → Ordering) (total : IsTotalOrder cmp) 
   unfolding with_entry
   length_with v [] s is = absurd (true≢false (sym is))
   length_with v (x ∷ es) s is =
-      elim (cmp q x.0) as (λ o. cmp q x.0 ≡ o → is_some (cond (is_eq o) (Some x.1) (lookup cmp q es)) ≡ true
-      → length (match_ordering o ((q, v) ∷ x ∷ es) ((x.0, v) ∷ es) (x ∷ with_entry cmp q v es)) ≡ suc (length es)) [
-        | Less ↦ λ o is. lost x es o s is
-        | Equal ↦ λ o is. refl
-        | Greater ↦ λ o is. ap suc (length_with v es s.1 is)
-      ] refl is
+      there (λ o. length (match_ordering o ((q, v) ∷ x ∷ es) ((x.0, v) ∷ es) (x ∷ with_entry cmp q v es))
+      ≡ suc (length es)) x es s is refl (λ is. ap suc (length_with v es s.1 is))
 
   -- another value for it leaves the number of entries
   pub length_changed : (v : V) (es : List (K × V)) → IsRising cmp es → is_some (lookup cmp q es) ≡ true
@@ -56,12 +58,8 @@ module _ {K V : Type 0} (cmp : K → K → Ordering) (total : IsTotalOrder cmp) 
   unfolding with_entry
   first_changed v [] s is = absurd (true≢false (sym is))
   first_changed v (x ∷ es) s is =
-      elim (cmp q x.0) as (λ o. cmp q x.0 ≡ o → is_some (cond (is_eq o) (Some x.1) (lookup cmp q es)) ≡ true
-      → first_key (match_ordering o ((q, v) ∷ x ∷ es) ((x.0, v) ∷ es) (x ∷ with_entry cmp q v es)) ≡ Some x.0) [
-        | Less ↦ λ o is. lost x es o (to cmp (x ∷ es) s) is
-        | Equal ↦ λ o is. refl
-        | Greater ↦ λ o is. refl
-      ] refl is
+      there (λ o. first_key (match_ordering o ((q, v) ∷ x ∷ es) ((x.0, v) ∷ es) (x ∷ with_entry cmp q v es))
+      ≡ Some x.0) x es (to cmp (x ∷ es) s) is refl (λ _. refl)
 
   -- the same, of keys that rise
   length_less : (es : List (K × V)) → Rises cmp es → is_some (lookup cmp q es) ≡ true
@@ -69,12 +67,8 @@ module _ {K V : Type 0} (cmp : K → K → Ordering) (total : IsTotalOrder cmp) 
   unfolding without
   length_less [] s is = absurd (true≢false (sym is))
   length_less (x ∷ es) s is =
-      elim (cmp q x.0) as (λ o. cmp q x.0 ≡ o → is_some (cond (is_eq o) (Some x.1) (lookup cmp q es)) ≡ true
-      → length (match_ordering o (x ∷ es) es (x ∷ without cmp q es)) + 1 ≡ suc (length es)) [
-        | Less ↦ λ o is. lost x es o s is
-        | Equal ↦ λ o is. omega arith
-        | Greater ↦ λ o is. omega (arith, length_less es s.1 is)
-      ] refl is
+      there (λ o. length (match_ordering o (x ∷ es) es (x ∷ without cmp q es)) + 1 ≡ suc (length es)) x es s is
+      (omega arith) (λ is. omega (arith, length_less es s.1 is))
 
   -- without it there is one entry less
   pub length_without : (es : List (K × V)) → IsRising cmp es → is_some (lookup cmp q es) ≡ true

@@ -6,20 +6,6 @@ room_under-requires-clause-under g c =
     let at = c.child_of-at.result in
     let i = c.min-left.result in
     let under = rw c.deref.ensures.value at c.child_of-at.ensures in
-    let from : i ≤ at = omega (
-      arith,
-      c.min-left.ensures,
-      c.len-2.ensures,
-      c.len.ensures,
-      c.if-len-eq1.false,
-      under.within,
-    ) in
-    let to : at ≤ i + 1 = omega (
-      arith,
-      c.min-left.ensures,
-      c.len-2.ensures,
-      c.len.ensures,
-      c.if-len-eq1.false,
-      under.within,
-    ) in
+    let from : i ≤ at = omega (arith, c.min-left.ensures, c.len-2.ensures, under.within) in
+    let to : at ≤ i + 1 = omega (arith, c.min-left.ensures, c.len-2.ensures, under.within) in
     c.in_ok-join.ensures.under c.args.key.now at from to under

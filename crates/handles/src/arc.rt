@@ -120,9 +120,9 @@ impl<T> Arc<T> {
     /// Whether both are handles of one block.
     ///
     /// The answer is exact if no other `ptr_eq` runs on either block meanwhile. If one does, it may be wrong
-    /// either way: two threads that compare two blocks from opposite ends at once may both hear `true`.
+    /// either way: two threads that compare two blocks from opposite ends at once may both get `true`.
     ///
-    /// It never looks at the counts and takes no wait. It adds to a word of the block that nothing else uses: at most
+    /// It reads no count and does not wait. It adds to a word of the block that nothing else uses: at most
     /// 64 rounds of three atomic steps, 2 rounds for one block that nobody else asks about, 1 for two.
     pub fn ptr_eq(this: &Arc<T>, other: &Arc<T>) -> bool {
         this.handle.has_block_of(&other.handle)

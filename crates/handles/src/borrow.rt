@@ -45,7 +45,7 @@ impl<'a, T> ArcBorrow<'a, T> {
         Arc::clone(self.0, rt)
     }
 
-    /// Whether both are of one block, as exactly as `Arc::ptr_eq` says it.
+    /// Whether both are of one block. The answer is as exact as that of `Arc::ptr_eq`.
     pub fn ptr_eq(this: &Self, other: &Self) -> bool {
         Arc::ptr_eq(this.0, other.0)
     }

@@ -134,7 +134,7 @@ impl<A, B> ArcUnion<A, B> {
         }
     }
 
-    /// Whether both are of one kind and of one block, as exactly as `Arc::ptr_eq` says it.
+    /// Whether both are of one kind and of one block. The answer is as exact as that of `Arc::ptr_eq`.
     pub fn ptr_eq(this: &Self, other: &Self) -> bool
         ensures one_kind { IsTrue result → is_first this.now ≡ is_first other.now }
     {

@@ -5,6 +5,7 @@
 --     Steps/Stepped          a step is proved by what it does while the block lives, and goes into the log
 --     Steps/Turns            what each entry of the log makes of the rows of passes
 --     Steps/Reads, ..        a file a step, as WordSteps of `counting_word` names them
+--     Walks/AsksWord         the code of one atomic step on the word, walked once for five functions
 --     Walks/BorrowedHandle   one step through a `&` to a handle
 --     Walks/OneParam         how the walk of a function with one type parameter begins and ends
 --     block/.., header_slice/..    the walk of each function, at the path of its code

@@ -1,5 +1,6 @@
 //! Tests in one thread, of handles and of what stands on them, and of the scripts of `arcbench`.
 
+mod borrows;
 mod by_bound;
 mod drop_order;
 mod header_slices;
@@ -17,6 +18,5 @@ mod table_rows;
 mod texts;
 mod two_handles;
 mod union_rows;
-mod unions;
 mod unwrapped;
 mod word;

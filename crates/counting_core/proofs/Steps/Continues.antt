@@ -1,21 +1,19 @@
 -- A step by the word that it finds goes on with each trace that the core represents.
 use Rattle.counting_core.proofs.Names.{IsTrue, ◌≡◌, inl, inr, ℕ, true, length, refl, sym, ◌∙◌, ap, subst, or_parts}
-use Rattle.counting_core.proofs.Names.{StandsFor, Step, Answer, Memory, Barred, Trace, Then, State, after, permitted}
+use Rattle.counting_core.proofs.Names.{StandsFor, Step, Answer, Memory, Barred, Trace, Then, after, permitted}
 use Rattle.counting_core.proofs.Names.{Model, state, model, takes_memory, IsAnswer, CoreState, Represents, state_of}
 use Rattle.counting_core.proofs.Names.{Continues, IsReached, drops_in_flight, IsPermitted, value_after, births_after}
 use Rattle.counting_core.proofs.Names.{TakesEffect, FollowsWord}
-use Rattle.counting_core.proofs.Traces.Deeds.{Deed, clone_reads, raise_loses, clone_bears, writes}
+use Rattle.counting_core.proofs.Traces.Deeds.{EachDeed, Deed, clone_reads, raise_loses, clone_bears, writes}
 use Rattle.counting_core.proofs.Traces.LegalSteps.{takes_effect, Happens, happens, expected-by}
 use Rattle.counting_core.proofs.Steps.ByTheWord.{answers_by_word, word-now, stands_for}
 
 module _ {V : Type 0} where
-  value-then : (r : Model V) (u : State) (s : Step V) (a : Answer V) (m : Model V) → Deed r u s a m
-      → value_after r.value s ≡ m.value
+  value-then : EachDeed V (λ r u s a m. value_after r.value s ≡ m.value)
   value-then r u s a m (writes o h v) = refl
   value-then r u s a m _ = refl
 
-  births-then : (r : Model V) (u : State) (s : Step V) (a : Answer V) (m : Model V) → Deed r u s a m
-      → births_after r.births a ≡ m.births
+  births-then : EachDeed V (λ r u s a m. births_after r.births a ≡ m.births)
   births-then r u s a m (clone_bears _ _ _ _) = refl
   births-then r u s a m _ = refl
 

@@ -8,8 +8,8 @@ use Rattle.counting_core.proofs.Names.{Then, State, after, owner_of, limit_of, s
 use Rattle.counting_core.proofs.Names.{Model, is_full, raise_settles, expected, takes_memory, IsLegal, state, model}
 use Rattle.counting_core.proofs.Names.{live_handles, has_mark, is_clone_read, nat_lt, handle_in}
 use Rattle.counting_core.proofs.Traces.HandleLists.{nat_eq-same}
-use Rattle.counting_core.proofs.Traces.Deeds.{Deed, clone_reads, clone_bears, clone_full, raise_loses, raise_bears}
-use Rattle.counting_core.proofs.Traces.Deeds.{raise_full}
+use Rattle.counting_core.proofs.Traces.Deeds.{EachDeed, Deed, clone_reads, clone_bears, clone_full, raise_loses}
+use Rattle.counting_core.proofs.Traces.Deeds.{raise_bears, raise_full}
 use Rattle.counting_core.proofs.Traces.LegalSteps.{Happens, happens, expected-deed}
 use Rattle.counting_core.proofs.Traces.Limits.{model_limit}
 use Rattle.counting_core.proofs.Traces.Places.{put-here}
@@ -22,8 +22,8 @@ module _ {V : Type 0} where
   full-deed r u s m (raise_full o full) = (refl, full)
 
   -- a full model answers Full to each read for a clone, and takes no memory for that
-  full-answer : (r : Model V) (u : State) (s : Step V) (a : Answer V) (m : Model V) → Deed r u s a m
-      → is_clone_read s ≡ true → is_full r ≡ true → (a ≡ Full) × (takes_memory s a ≡ false)
+  full-answer : EachDeed V (λ r u s a m. is_clone_read s ≡ true → is_full r ≡ true
+      → (a ≡ Full) × (takes_memory s a ≡ false))
   full-answer r u s a m (clone_full o h _) read full = (refl, refl)
   full-answer r u s a m (raise_full o _) read full = (refl, refl)
   full-answer r u s a m (clone_reads o h _ room) read full = absurd (true≢false (sym full ∙ room))

@@ -160,3 +160,8 @@ module _ {V : Type 0} (r : Model V) (u : State) where
   pending_stays s m (clone_reads o h e f) = refl
   pending_stays s m (raise_loses o e) = refl
   pending_stays s m (drop_reads o h e) = refl
+
+-- what holds of the model and the state before each deed, its step, its answer and the model after it
+abbrev pub EachDeed : (V : Type 0) → (Model V → State → Step V → Answer V → Model V → Type 0) → Type 0
+EachDeed V Holds =
+    (r : Model V) (u : State) (s : Step V) (a : Answer V) (m : Model V) → Deed r u s a m → Holds r u s a m

@@ -8,7 +8,7 @@ use Rattle.counting_core.proofs.Names.{owner_of, permitted_by, Model, is_only, w
 use Rattle.counting_core.proofs.Names.{live_handles, is_end, is_given_up, some_answer, ◌||◌, or_right}
 use Rattle.counting_core.proofs.Names.{false_from_ne_true, is_marked_answer}
 use Rattle.counting_core.proofs.Traces.HandleLists.{has, length-without}
-use Rattle.counting_core.proofs.Traces.Deeds.{Deed, drop_ends, lower_ends, lower_gives_up, marks}
+use Rattle.counting_core.proofs.Traces.Deeds.{EachDeed, drop_ends, lower_ends, lower_gives_up, marks}
 use Rattle.counting_core.proofs.Traces.LegalSteps.{happens, takes_effect, barred_if_not_permitted}
 use Rattle.counting_core.proofs.Traces.LiveHandles.{IsCounted, counted}
 use Rattle.counting_core.proofs.Traces.InFlight.{AllFit, Fits, all_fit, dropped-lives}
@@ -34,8 +34,7 @@ module _ {V : Type 0} where
       let fewer : length (without h m.live) + 1 ≡ length m.live = length-without h m.live there c.apart in
       grind (arith, there)
 
-  end-answer : (r : Model V) (u : State) (s : Step V) (a : Answer V) (m : Model V) → Deed r u s a m
-      → IsCounted u.handle r → AllFit u → is_end a ≡ true → a ≡ end_answer r m
+  end-answer : EachDeed V (λ r u s a m. IsCounted u.handle r → AllFit u → is_end a ≡ true → a ≡ end_answer r m)
   end-answer r u s a m (drop_ends o h mark)
       c fit end = sym (ap (λ b. if not b && nat_eq (length (without h r.live))
       0 then GivenUp r.value else Ended) mark)
@@ -112,8 +111,7 @@ module _ {V : Type 0} where
 
 module _ {V : Type 0} where
   -- a step marks if it is answered Marked
-  mark-then : (r : Model V) (u : State) (s : Step V) (a : Answer V) (m : Model V) → Deed r u s a m
-      → m.mark ≡ (is_marked_answer a || r.mark)
+  mark-then : EachDeed V (λ r u s a m. m.mark ≡ (is_marked_answer a || r.mark))
   mark-then r u s a m (marks o h) = refl
   mark-then r u s a m _ = refl
 

@@ -11,7 +11,7 @@ use Rattle.counting_core.proofs.Names.{HandleState, lent_to, returned_by, State,
 use Rattle.counting_core.proofs.Names.{holds, is_lent_to, has_alone, may_use, may_take, is_writing, has_sole}
 use Rattle.counting_core.proofs.Names.{permitted_by, Model, IsLegal, state, model, goes_on_to, Raise, length}
 use Rattle.counting_core.proofs.Traces.Places.{put-all, put-same}
-use Rattle.counting_core.proofs.Traces.Deeds.{Deed, clone_bears, raise_bears}
+use Rattle.counting_core.proofs.Traces.Deeds.{EachDeed, clone_bears, raise_bears}
 use Rattle.counting_core.proofs.Traces.LegalSteps.{Happens, happens}
 use Rattle.counting_core.proofs.Traces.LiveHandles.{IsCounted, next-dead, counted}
 use Rattle.counting_core.proofs.Traces.Activities.{raising, lowering, begins}
@@ -97,11 +97,12 @@ abbrev pub AllFit : State → Type 0
 AllFit u = (o : ℕ) → Fits u.handle o (u.activity o)
 
 -- the handle of a drop in flight is its owner's alone, and lives
-pub dropped-alone : (u : State) → AllFit u → (o h : ℕ) → u.activity o ≡ Dropping h → has_alone (u.handle h) o ≡ true
-dropped-alone u fit o h e = subst (Fits u.handle o) e (fit o)
+module _ (u : State) (fit : AllFit u) (o h : ℕ) (e : u.activity o ≡ Dropping h) where
+  pub dropped-alone : has_alone (u.handle h) o ≡ true
+  dropped-alone = subst (Fits u.handle o) e (fit o)
 
-pub dropped-lives : (u : State) → AllFit u → (o h : ℕ) → u.activity o ≡ Dropping h → (u.handle h).lives ≡ true
-dropped-lives u fit o h e = (and_parts _ _ (and_parts _ _ (dropped-alone u fit o h e)).0).0
+  pub dropped-lives : (u.handle h).lives ≡ true
+  dropped-lives = (and_parts _ _ (and_parts _ _ dropped-alone).0).0
 
 -- a change of a handle that spares the other owners leaves them what they have in flight
 fits-put : (hs : ℕ → HandleState) (p h : ℕ) (new : HandleState) → Spares p (hs h) new → (q : ℕ)
@@ -131,62 +132,64 @@ module _ (u : State) (was : AllFit u) (p : ℕ) where
     fits-still_idle idle = subst (λ (acts : ℕ → Activity). (q : ℕ) → Fits (put u.handle h new) q (acts q))
         (put-same u.activity p Idle idle) fits-then_idle
 
--- an idle owner changed a handle that it has alone
-own-fits : (u : State) → AllFit u → (o h : ℕ) (new : HandleState) (rest : Bool)
-    → (u.activity o ≡ Idle) × (has_alone (u.handle h) o && rest ≡ true)
-    → (q : ℕ) → Fits (put u.handle h new) q (u.activity q)
-own-fits u was o h new rest free =
-    fits-still_idle u was o h new (spares-own o (u.handle h) new (and_parts _ rest free.1).0) free.0
+module _ (u : State) (was : AllFit u) where
+  -- an idle owner changed a handle, which spares the others because it was permitted
+  free-fits : (o h : ℕ) (new : HandleState) {P : Type 0} → (u.activity o ≡ Idle) × P → (P → Spares o (u.handle h) new)
+      → (q : ℕ) → Fits (put u.handle h new) q (u.activity q)
+  free-fits o h new free spares = fits-still_idle u was o h new (spares free.1) free.0
 
-lower-fits : (V : Type 0) (u : State) → AllFit u → (o : ℕ) → permitted_by {V = V} u (u.activity o) (Lower o) ≡ true
-    → AllFit (goes_on_to (ended u (handle_in (u.activity o))) o Idle)
-lower-fits V u was o may = fits-then_idle u was o _ _
-    (spares-own o _ _ (subst (Fits u.handle o) (lowering V u o _ may) (was o)))
+  -- it has the handle alone
+  own-fits : (o h : ℕ) (new : HandleState) (rest : Bool)
+      → (u.activity o ≡ Idle) × (has_alone (u.handle h) o && rest ≡ true)
+      → (q : ℕ) → Fits (put u.handle h new) q (u.activity q)
+  own-fits o h new rest free =
+      free-fits o h new free (λ own. spares-own o (u.handle h) new (and_parts _ rest own).0)
+
+  lower-fits : (V : Type 0) (o : ℕ) → permitted_by {V = V} u (u.activity o) (Lower o) ≡ true
+      → AllFit (goes_on_to (ended u (handle_in (u.activity o))) o Idle)
+  lower-fits V o may = fits-then_idle u was o _ _
+      (spares-own o _ _ (subst (Fits u.handle o) (lowering V u o _ may) (was o)))
+
+  module _ {V : Type 0} (sees : ℕ) where
+    fits-then : (s : Step V) (a : Answer V) → permitted_by u (u.activity (owner_of s)) s ≡ true
+        → ((n : ℕ) → a ≡ Born n → (u.handle n).lives ≡ false) → AllFit (after sees u s a)
+    fits-then s (Born n) may fresh = fits-then_idle u was (owner_of s) n _
+        (spares-unborn (owner_of s) (u.handle n) _ (fresh n refl))
+    fits-then s Full may fresh = fits-now u was (owner_of s) Idle tt
+    fits-then s Quitted may fresh = fits-now u was (owner_of s) Idle tt
+    fits-then (Clone o h) Pending may fresh =
+        fits-now u was o (Cloning h sees) (begins u (Clone o h) _ may refl).1
+    fits-then (Raise o) Pending may fresh = fits-now u was o _ (subst (Fits u.handle o) (raising V u o _ may) (was o))
+    fits-then (Drop o h) Pending may fresh =
+        fits-now u was o (Dropping h) (parts-alone (u.handle h) o (begins u (Drop o h) _ may refl).1)
+    fits-then (Drop o h) Ended may fresh = free-fits o h _ (begins u (Drop o h) _ may refl)
+        (λ own. spares-own o (u.handle h) _ (parts-alone (u.handle h) o own))
+    fits-then (Lower o) Ended may fresh = lower-fits V o may
+    fits-then (Lower o) (GivenUp v) may fresh = lower-fits V o may
+    fits-then (GetMut o h) Alone may fresh = own-fits o h _ _ (begins u (GetMut o h) _ may refl)
+    fits-then (EndWrite o h) Done may fresh =
+        free-fits o h _ (begins u (EndWrite o h) _ may refl) (spares-writer o (u.handle h) _)
+    fits-then (IntoUnique o h) Sole may fresh = own-fits o h _ _ (begins u (IntoUnique o h) _ may refl)
+    fits-then (Share o h) Done may fresh = own-fits o h _ _ (begins u (Share o h) _ may refl)
+    fits-then (Lend o h to) Done may fresh = free-fits o h _ (begins u (Lend o h to) _ may refl)
+        (λ lend. spares-lent o to (u.handle h) (and_parts _ _ lend).0)
+    fits-then (Return o h) Done may fresh = free-fits o h _ (begins u (Return o h) _ may refl)
+        (λ lent. spares-returned o (u.handle h) (and_parts _ _ lent).1)
+    fits-then (Give o h to) Done may fresh = free-fits o h _ (begins u (Give o h to) _ may refl)
+        (λ give. spares-own o (u.handle h) _ (parts-alone (u.handle h) o (and_parts _ _ give).0))
+    fits-then s a may fresh = was
 
 module _ {V : Type 0} where
-  fits-then : (sees : ℕ) (u : State) (s : Step V) (a : Answer V) → permitted_by u (u.activity (owner_of s)) s ≡ true
-      → ((n : ℕ) → a ≡ Born n → (u.handle n).lives ≡ false) → AllFit u → AllFit (after sees u s a)
-  fits-then sees u s (Born n) may fresh was = fits-then_idle u was (owner_of s) n _ (spares-unborn (owner_of s)
-      (u.handle n) _ (fresh n refl))
-  fits-then sees u s Full may fresh was = fits-now u was (owner_of s) Idle tt
-  fits-then sees u s Quitted may fresh was = fits-now u was (owner_of s) Idle tt
-  fits-then sees u (Clone o h) Pending may fresh was = fits-now u was o (Cloning h sees) (begins u (Clone o h)
-      _ may refl).1
-  fits-then sees u (Raise o) Pending may fresh was =
-      fits-now u was o _ (subst (Fits u.handle o) (raising V u o _ may) (was o))
-  fits-then sees u (Drop o h) Pending may fresh was = fits-now u was o (Dropping h) (parts-alone (u.handle h)
-      o (begins u (Drop o h) _ may refl).1)
-  fits-then sees u (Drop o h) Ended may fresh was =
-      let free : _ = begins u (Drop o h) _ may refl in
-      fits-still_idle u was o h _ (spares-own o (u.handle h) _ (parts-alone (u.handle h) o free.1)) free.0
-  fits-then sees u (Lower o) Ended may fresh was = lower-fits V u was o may
-  fits-then sees u (Lower o) (GivenUp v) may fresh was = lower-fits V u was o may
-  fits-then sees u (GetMut o h) Alone may fresh was = own-fits u was o h _ _ (begins u (GetMut o h) _ may refl)
-  fits-then sees u (EndWrite o h) Done may fresh was =
-      let free : _ = begins u (EndWrite o h) _ may refl in
-      fits-still_idle u was o h _ (spares-writer o (u.handle h) _ free.1) free.0
-  fits-then sees u (IntoUnique o h) Sole may fresh was = own-fits u was o h _ _ (begins u (IntoUnique o h) _ may refl)
-  fits-then sees u (Share o h) Done may fresh was = own-fits u was o h _ _ (begins u (Share o h) _ may refl)
-  fits-then sees u (Lend o h to) Done may fresh was =
-      let free : _ = begins u (Lend o h to) _ may refl in
-      fits-still_idle u was o h _ (spares-lent o to (u.handle h) (and_parts _ _ free.1).0) free.0
-  fits-then sees u (Return o h) Done may fresh was =
-      let free : _ = begins u (Return o h) _ may refl in
-      fits-still_idle u was o h _ (spares-returned o (u.handle h) (and_parts _ _ free.1).1) free.0
-  fits-then sees u (Give o h to) Done may fresh was =
-      let free : _ = begins u (Give o h to) _ may refl in
-      fits-still_idle u was o h _ (spares-own o (u.handle h) _ (parts-alone (u.handle h) o (and_parts _ _ free.1).0))
-      free.0
-  fits-then sees u s a may fresh was = was
-
   -- a birth is of a handle that did not live before
-  fresh-birth : (r : Model V) (u : State) (s : Step V) (a : Answer V) (m : Model V) → Deed r u s a m
-      → IsCounted u.handle r → (n : ℕ) → a ≡ Born n → (u.handle n).lives ≡ false
-  fresh-birth r u s a m (clone_bears o h _ _) c n e = let is : r.births ≡ n = cc in
-      rw (← is) (next-dead u.handle r c)
-  fresh-birth r u s a m (raise_bears o _ _) c n e = let is : r.births ≡ n = cc in
-      rw (← is) (next-dead u.handle r c)
-  fresh-birth r u s a m _ c n e = absurd (cc)
+  born-fresh : (r : Model V) (u : State) (a : Answer V) → a ≡ Born r.births → IsCounted u.handle r → (n : ℕ)
+      → a ≡ Born n → (u.handle n).lives ≡ false
+  born-fresh r u a first c n e = let is : r.births ≡ n = cc in rw (← is) (next-dead u.handle r c)
+
+  fresh-birth : EachDeed V (λ r u s a m. IsCounted u.handle r → (n : ℕ) → a ≡ Born n
+      → (u.handle n).lives ≡ false)
+  fresh-birth r u s a m (clone_bears o h _ _) = born-fresh r u a refl
+  fresh-birth r u s a m (raise_bears o _ _) = born-fresh r u a refl
+  fresh-birth r u s a m _ = λ c n e. absurd (cc)
 
   pub all_fit : (t : Trace V) → IsLegal t → AllFit (state t)
   all_fit (Open v n limit) legal = λ o. tt
@@ -194,5 +197,5 @@ module _ {V : Type 0} where
   all_fit (Then t s Memory) legal = all_fit t legal.0
   all_fit (Then t s a) legal =
       let h : Happens t s a = happens t s a refl legal.1 in
-      fits-then (length (model t).live) (state t) s a h.by_activity (fresh-birth (model t) (state t)
-      s a _ h.deed (counted t legal.0)) (all_fit t legal.0)
+      fits-then (state t) (all_fit t legal.0) (length (model t).live) s a h.by_activity
+      (fresh-birth (model t) (state t) s a _ h.deed (counted t legal.0))

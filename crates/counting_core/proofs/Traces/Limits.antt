@@ -5,9 +5,9 @@ use Rattle.counting_core.proofs.Names.{length-append, true≢false, eqb-false, l
 use Rattle.counting_core.proofs.Names.{Step, Answer, Memory, Barred, Trace, Open, Then, State, limit_of, Model, is_full}
 use Rattle.counting_core.proofs.Names.{IsLegal, state, model, has_mark, live_handles, ℕ, ◌<◌, or_parts, Activity, Idle}
 use Rattle.counting_core.proofs.Names.{Cloning, Dropping, after, put}
-use Rattle.counting_core.proofs.Traces.Deeds.{Deed, clone_bears, raise_bears, drop_ends, lower_ends, lower_gives_up}
-use Rattle.counting_core.proofs.Traces.Deeds.{marks, grown, shrunk, clone_reads, clone_full, raise_loses, raise_full}
-use Rattle.counting_core.proofs.Traces.Deeds.{quits, drop_reads}
+use Rattle.counting_core.proofs.Traces.Deeds.{EachDeed, Deed, clone_bears, raise_bears, drop_ends, lower_ends}
+use Rattle.counting_core.proofs.Traces.Deeds.{lower_gives_up, marks, grown, shrunk, clone_reads, clone_full}
+use Rattle.counting_core.proofs.Traces.Deeds.{raise_loses, raise_full, quits, drop_reads}
 use Rattle.counting_core.proofs.Traces.LegalSteps.{happens}
 use Rattle.counting_core.proofs.Traces.Places.{put-all}
 
@@ -16,8 +16,7 @@ module _ {V : Type 0} where
   legal_limit (Open v n limit) legal = legal
   legal_limit (Then t s a) legal = legal_limit t legal.0
 
-  limit-then : (r : Model V) (u : State) (s : Step V) (a : Answer V) (m : Model V) → Deed r u s a m
-      → m.limit ≡ r.limit
+  limit-then : EachDeed V (λ r u s a m. m.limit ≡ r.limit)
   limit-then r u s a m (marks o h) = refl
   limit-then r u s a m _ = refl
 
@@ -44,8 +43,7 @@ module _ {V : Type 0} where
       let so_far : length m.live ≤ m.limit = within unmarked in
       omega (arith, length-filter (λ k. not (nat_eq h k)) m.live, count_by-le-length (λ k. not (nat_eq h k)) m.live)
 
-  within-then : (r : Model V) (u : State) (s : Step V) (a : Answer V) (m : Model V) → Deed r u s a m
-      → IsWithinLimit r → IsWithinLimit m
+  within-then : EachDeed V (λ r u s a m. IsWithinLimit r → IsWithinLimit m)
   within-then r u s a m (clone_bears o h mark room) within = within-grown r room within
   within-then r u s a m (raise_bears o settles room) within = within-grown r room within
   within-then r u s a m (drop_ends o h mark) within = within-shrunk r h within

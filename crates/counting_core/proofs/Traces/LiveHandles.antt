@@ -1,13 +1,13 @@
 -- The live handles of a trace's model: none twice, each born, and the ones that the trace lets live.
 use Rattle.counting_core.proofs.Names.{length, ◌≡◌, ℕ, ◌+◌, ◌<◌, Bool, true, false, not, ◌&&◌, ◌||◌, nat_eq, []}
 use Rattle.counting_core.proofs.Names.{count_by, refl, sym, ◌∙◌, ap, subst, arith, lt_irrefl, true≢false, if◌then◌else◌}
-use Rattle.counting_core.proofs.Names.{eqb-true, and_parts, false_from_ne_true, Activity, Dropping, Step, Answer}
+use Rattle.counting_core.proofs.Names.{eqb-true, and_parts, false_from_ne_true, Activity, Dropping}
 use Rattle.counting_core.proofs.Names.{Memory, Barred, Trace, Open, Then, HandleState, unborn, newborn, State, after}
 use Rattle.counting_core.proofs.Names.{handle_in, ended, put, Model, IsLegal, state, model}
 use Rattle.counting_core.proofs.Traces.Places.{part-put, part_kept-put}
 use Rattle.counting_core.proofs.Traces.HandleLists.{has, IsApart, once, has-without, has-push, apart-without}
 use Rattle.counting_core.proofs.Traces.HandleLists.{apart-push}
-use Rattle.counting_core.proofs.Traces.Deeds.{Deed, clone_bears, raise_bears, drop_ends, lower_ends, lower_gives_up}
+use Rattle.counting_core.proofs.Traces.Deeds.{EachDeed, clone_bears, raise_bears, drop_ends, lower_ends, lower_gives_up}
 use Rattle.counting_core.proofs.Traces.Deeds.{marks, finds_alone, writes, ends_write, becomes_sole, shares, lends}
 use Rattle.counting_core.proofs.Traces.Deeds.{returns, gives, grown, shrunk}
 use Rattle.counting_core.proofs.Traces.LegalSteps.{happens}
@@ -54,8 +54,8 @@ module _ {V : Type 0} where
       either false l = refl
 
     -- a change of a handle that lives as before
-    counted-kept : (h : ℕ) (s : HandleState) → s.lives ≡ (hs h).lives → IsCounted (put hs h s) m
-    counted-kept h s e = record {
+    kept : (h : ℕ) (s : HandleState) → s.lives ≡ (hs h).lives → IsCounted (put hs h s) m
+    kept h s e = record {
       apart = c.apart;
       below = c.below;
       same = λ k. c.same k ∙ sym (part_kept-put hs h
@@ -68,20 +68,20 @@ module _ {V : Type 0} where
   counted-lowered r u o h e c = subst (λ (a : Activity). IsCounted (ended u (handle_in a)).handle (shrunk r
       h)) (sym e) (counted-ended u.handle r c h)
 
-  counted-then : (r : Model V) (u : State) (s : Step V) (a : Answer V) (m : Model V) → Deed r u s a m
-      → IsCounted u.handle r → (sees : ℕ) → IsCounted (after sees u s a).handle m
+  counted-then : EachDeed V (λ r u s a m. IsCounted u.handle r → (sees : ℕ)
+      → IsCounted (after sees u s a).handle m)
   counted-then r u s a m (clone_bears o h mark room) c sees = counted-born u.handle r c o
   counted-then r u s a m (raise_bears o settles room) c sees = counted-born u.handle r c o
   counted-then r u s a m (drop_ends o h mark) c sees = counted-ended u.handle r c h
   counted-then r u s a m (lower_ends o h e more) c sees = counted-lowered r u o h e c
   counted-then r u s a m (lower_gives_up o h e last) c sees = counted-lowered r u o h e c
-  counted-then r u s a m (finds_alone o h only) c sees = counted-kept u.handle m c h _ refl
-  counted-then r u s a m (ends_write o h) c sees = counted-kept u.handle m c h _ refl
-  counted-then r u s a m (becomes_sole o h only) c sees = counted-kept u.handle m c h _ refl
-  counted-then r u s a m (shares o h) c sees = counted-kept u.handle m c h _ refl
-  counted-then r u s a m (lends o h to) c sees = counted-kept u.handle m c h _ refl
-  counted-then r u s a m (returns o h) c sees = counted-kept u.handle m c h _ refl
-  counted-then r u s a m (gives o h to) c sees = counted-kept u.handle m c h _ refl
+  counted-then r u s a m (finds_alone o h only) c sees = kept u.handle m c h _ refl
+  counted-then r u s a m (ends_write o h) c sees = kept u.handle m c h _ refl
+  counted-then r u s a m (becomes_sole o h only) c sees = kept u.handle m c h _ refl
+  counted-then r u s a m (shares o h) c sees = kept u.handle m c h _ refl
+  counted-then r u s a m (lends o h to) c sees = kept u.handle m c h _ refl
+  counted-then r u s a m (returns o h) c sees = kept u.handle m c h _ refl
+  counted-then r u s a m (gives o h to) c sees = kept u.handle m c h _ refl
   counted-then r u s a m (marks o h) c sees = record { apart = c.apart; below = c.below; same = c.same }
   counted-then r u s a m (writes o h v) c sees = record { apart = c.apart; below = c.below; same = c.same }
   counted-then r u s a m _ c sees = c

@@ -4,9 +4,9 @@ use Rattle.counting_core.proofs.Names.{◌≡◌, ℕ, ◌+◌, ◌-◌, ◌*◌
 use Rattle.counting_core.proofs.Names.{length, refl, sym, ◌∙◌, ap, ap₂, arith, true≢false, eqb-true, ltb-true, mul-add}
 use Rattle.counting_core.proofs.Names.{and_parts, or_parts, Activity, Idle, Cloning, Dropping, Step, Clone, Raise, Drop}
 use Rattle.counting_core.proofs.Names.{Lower, Answer, Born, Full, Pending, Ended, GivenUp, Memory, Barred, Quitted}
-use Rattle.counting_core.proofs.Names.{Trace, Open, Then, State, owner_of, after, put, permitted_by, Model, IsLegal}
+use Rattle.counting_core.proofs.Names.{Trace, Open, Then, State, owner_of, after, put, permitted_by, IsLegal}
 use Rattle.counting_core.proofs.Names.{state, model, is_lost_raise, is_change, how_many, number_below}
-use Rattle.counting_core.proofs.Traces.Deeds.{Deed, clone_reads, clone_bears, clone_full, raise_loses, raise_bears}
+use Rattle.counting_core.proofs.Traces.Deeds.{EachDeed, clone_reads, clone_bears, clone_full, raise_loses, raise_bears}
 use Rattle.counting_core.proofs.Traces.Deeds.{raise_full, quits, drop_reads, drop_ends, lower_ends, lower_gives_up}
 use Rattle.counting_core.proofs.Traces.LegalSteps.{Happens, happens}
 use Rattle.counting_core.proofs.Traces.HandleLists.{nat_eq-same}
@@ -50,8 +50,7 @@ module _ {V : Type 0} where
   activity-kept sees u s a q other = refl
 
   -- only a birth and an end change the number of live handles
-  live-kept : (r : Model V) (u : State) (s : Step V) (a : Answer V) (m : Model V) → Deed r u s a m
-      → is_change a s ≡ false → length m.live ≡ length r.live
+  live-kept : EachDeed V (λ r u s a m. is_change a s ≡ false → length m.live ≡ length r.live)
   live-kept r u s a m (clone_bears o h _ _) quiet = absurd (true≢false quiet)
   live-kept r u s a m (raise_bears o _ _) quiet = absurd (true≢false quiet)
   live-kept r u s a m (drop_ends o h _) quiet = absurd (true≢false quiet)
@@ -60,9 +59,8 @@ module _ {V : Type 0} where
   live-kept r u s a m _ quiet = refl
 
   -- after a step its own owner has no clone that is stale: it has just read the word, or has none in flight
-  fresh : (r : Model V) (u : State) (s : Step V) (a : Answer V) (m : Model V) → Deed r u s a m
-      → permitted_by u (u.activity (owner_of s)) s ≡ true
-      → stale_by (length m.live) ((after (length r.live) u s a).activity (owner_of s)) ≡ false
+  fresh : EachDeed V (λ r u s a m. permitted_by u (u.activity (owner_of s)) s ≡ true
+      → stale_by (length m.live) ((after (length r.live) u s a).activity (owner_of s)) ≡ false)
   fresh r u s a m (clone_reads o h _ _) may = now u o _ (Cloning h (length r.live))
       (ap not (nat_eq-same (length r.live)))
   fresh r u s a m (raise_loses o _) may = now u o _ (Cloning _ (length r.live)) (ap not (nat_eq-same (length r.live)))
@@ -84,9 +82,8 @@ module _ {V : Type 0} where
       (activity-kept (length (model t).live) (state t) s a q other)
 
   -- the clone of a raise that loses was stale
-  was-stale : (r : Model V) (u : State) (s : Step V) (a : Answer V) (m : Model V) → Deed r u s a m
-      → permitted_by u (u.activity (owner_of s)) s ≡ true → is_lost_raise a s ≡ true
-      → stale_by (length r.live) (u.activity (owner_of s)) ≡ true
+  was-stale : EachDeed V (λ r u s a m. permitted_by u (u.activity (owner_of s)) s ≡ true
+      → is_lost_raise a s ≡ true → stale_by (length r.live) (u.activity (owner_of s)) ≡ true)
   was-stale r u s a m (raise_loses o lost) may e =
       ap (stale_by (length r.live)) (raising V u o _ may) ∙ ap not (or_parts _ _ (or_parts _ _ lost).1).1
   was-stale r u s a m _ may e = absurd (true≢false (sym e))

@@ -13,7 +13,7 @@ use Rattle.counting_core.proofs.Traces.HandleLists.{has}
 use Rattle.counting_core.proofs.Traces.Places.{put-all}
 use Rattle.counting_core.proofs.Traces.Deeds.{Deed, clone_bears, raise_bears, drop_ends, lower_ends, lower_gives_up}
 use Rattle.counting_core.proofs.Traces.Deeds.{marks, finds_alone, writes, ends_write, becomes_sole, shares, lends}
-use Rattle.counting_core.proofs.Traces.Deeds.{returns, gives}
+use Rattle.counting_core.proofs.Traces.Deeds.{returns, gives, grown}
 use Rattle.counting_core.proofs.Traces.LegalSteps.{Happens, happens, expected-by}
 use Rattle.counting_core.proofs.Traces.LiveHandles.{IsCounted, counted}
 use Rattle.counting_core.proofs.Traces.InFlight.{AllFit, Fits, all_fit, dropped-lives}
@@ -64,100 +64,95 @@ module _ {V : Type 0} where
   not-sole : (m : Model V) (h : ℕ) (k : HandleState) → is_sole k.access ≡ false → IsAloneIfSole m h k
   not-sole m h k other = λ lives sole. absurd (true≢false (sym sole ∙ other))
 
-  module _ (hs : ℕ → HandleState) (m : Model V) (c : IsCounted hs m) (was : SolesAreAlone hs m) where
+  module _ (r : Model V) (u : State) (c : IsCounted u.handle r) (was : SolesAreAlone u.handle r) where
     -- a live handle beside a sole one is that one
-    only-live : (h k : ℕ) → (hs h).lives ≡ true → is_sole (hs h).access ≡ true → (hs k).lives ≡ true
+    only-live : (h k : ℕ) → (u.handle h).lives ≡ true → is_sole (u.handle h).access ≡ true → (u.handle k).lives ≡ true
         → k ≡ h
     only-live h k lives sole other =
-        let parts : (nat_eq (length m.live) 1 ≡ true) × (has h m.live ≡ true)
-        = and_parts _ _ (and_parts (not m.mark) _ (was h lives sole).0).1 in
-        let one : m.live ≡ h ∷ [] = one-is h m.live (eqb-true (length m.live) 1 parts.0) parts.1 in
+        let parts : (nat_eq (length r.live) 1 ≡ true) × (has h r.live ≡ true)
+        = and_parts _ _ (and_parts (not r.mark) _ (was h lives sole).0).1 in
+        let one : r.live ≡ h ∷ [] = one-is h r.live (eqb-true (length r.live) 1 parts.0) parts.1 in
         at (nat_eq k h) refl (sym (ap (has k) one) ∙ c.same k ∙ other) where
           at : (b : Bool) → nat_eq k h ≡ b → (nat_eq k h || false) ≡ true → k ≡ h
           at true e there = eqb-true k h e
           at false e there = absurd (true≢false (sym there ∙ ap (λ b. b || false) e))
 
     -- so there is none beside a live one that is shared
-    none-beside : (k : ℕ) → (hs k).lives ≡ true → is_shared (hs k).access ≡ true → (h : ℕ)
-        → (hs h).lives ≡ true
-        → is_sole (hs h).access ≡ true → ⊥
+    none-beside : (k : ℕ) → (u.handle k).lives ≡ true → is_shared (u.handle k).access ≡ true → (h : ℕ)
+        → (u.handle h).lives ≡ true
+        → is_sole (u.handle h).access ≡ true → ⊥
     none-beside k lives shared h other sole =
-        true≢false (sym sole ∙ ap (λ n. is_sole (hs n).access) (sym (only-live h k other sole lives))
-        ∙ shared-not_sole (hs k).access shared)
+        true≢false (sym sole ∙ ap (λ n. is_sole (u.handle n).access) (sym (only-live h k other sole lives))
+        ∙ shared-not_sole (u.handle k).access shared)
 
-    none-marked : m.mark ≡ true → (h : ℕ) → (hs h).lives ≡ true → is_sole (hs h).access ≡ true → ⊥
-    none-marked mark h lives sole = true≢false (sym (and_parts (not m.mark) _ (was h lives sole).0).0 ∙ ap not mark)
+    none-marked : r.mark ≡ true → (h : ℕ) → (u.handle h).lives ≡ true → is_sole (u.handle h).access ≡ true → ⊥
+    none-marked mark h lives sole = true≢false (sym (and_parts (not r.mark) _ (was h lives sole).0).0 ∙ ap not mark)
 
     -- a change of one handle
-    alone-put : (h : ℕ) (k : HandleState) → IsAloneIfSole m h k → SolesAreAlone (put hs h k) m
-    alone-put h k here = put-all hs h k (IsAloneIfSole m) here (λ g _. was g)
+    alone-put : (h : ℕ) (k : HandleState) → IsAloneIfSole r h k → SolesAreAlone (put u.handle h k) r
+    alone-put h k here = put-all u.handle h k (IsAloneIfSole r) here (λ g _. was g)
 
-    alone-not_sole : (h : ℕ) (k : HandleState) → is_sole k.access ≡ false → SolesAreAlone (put hs h k) m
-    alone-not_sole h k other = alone-put h k (not-sole m h k other)
+    alone-not_sole : (h : ℕ) (k : HandleState) → is_sole k.access ≡ false → SolesAreAlone (put u.handle h k) r
+    alone-not_sole h k other = alone-put h k (not-sole r h k other)
 
     -- if there is no other sole handle, the model may change too
     alone-only : (n : Model V) (h : ℕ) (k : HandleState) → IsAloneIfSole n h k
-        → ((g : ℕ) → nat_eq h g ≡ false → (hs g).lives ≡ true → is_sole (hs g).access ≡ true → ⊥)
-        → SolesAreAlone (put hs h k) n
-    alone-only n h k here none = put-all hs h k (IsAloneIfSole n)
+        → ((g : ℕ) → nat_eq h g ≡ false → (u.handle g).lives ≡ true → is_sole (u.handle g).access ≡ true → ⊥)
+        → SolesAreAlone (put u.handle h k) n
+    alone-only n h k here none = put-all u.handle h k (IsAloneIfSole n)
         here (λ g other lives sole. absurd (none g other lives sole))
 
     -- the end of a live handle
-    alone-ended : (n : Model V) (h : ℕ) → (hs h).lives ≡ true → SolesAreAlone (put hs h (record (hs h)
-        { lives = false })) n
+    alone-ended : (n : Model V) (h : ℕ) → (u.handle h).lives ≡ true → SolesAreAlone (ended u h).handle n
     alone-ended n h lives =
-        alone-only n h (record (hs h) { lives = false }) (λ dead _. absurd (true≢false (sym dead)))
+        alone-only n h (record (u.handle h) { lives = false }) (λ dead _. absurd (true≢false (sym dead)))
         (λ g other alive sole. true≢false (sym (eq-eqb h g (only-live g h alive sole lives)) ∙ other))
 
-  alone-lowered : (r : Model V) (u : State) (o h : ℕ) (n : Model V) → u.activity o ≡ Dropping h
-      → IsCounted u.handle r → AllFit u → SolesAreAlone u.handle r
-      → SolesAreAlone (ended u (handle_in (u.activity o))).handle n
-  alone-lowered r u o h n e c fit was =
-      subst (λ (a : Activity). SolesAreAlone (ended u (handle_in a)).handle n) (sym e)
-      (alone-ended u.handle r c was n h (dropped-lives u fit o h e))
+    module _ (fit : AllFit u) where
+      alone-lowered : (n : Model V) (o h : ℕ) → u.activity o ≡ Dropping h
+          → SolesAreAlone (ended u (handle_in (u.activity o))).handle n
+      alone-lowered n o h e = subst (λ (a : Activity). SolesAreAlone (ended u (handle_in a)).handle n) (sym e)
+          (alone-ended n h (dropped-lives u fit o h e))
 
-  alone-then : (r : Model V) (u : State) (s : Step V) (a : Answer V) (m : Model V) → Deed r u s a m
-      → permitted_by u (u.activity (owner_of s)) s ≡ true → IsCounted u.handle r → AllFit u
-      → SolesAreAlone u.handle r → (sees : ℕ) → SolesAreAlone (after sees u s a).handle m
-  alone-then r u s a m (clone_bears o h mark room) may c fit was sees =
-      alone-only u.handle r c was m r.births (newborn o) (not-sole m r.births (newborn o) refl)
-      (λ g _. none-marked u.handle r c was mark g)
-  alone-then r u s a m (raise_bears o settles room) may c fit was sees =
-      let clone : (k : ℕ) × ((u.handle k).lives ≡ true) × (is_shared (u.handle k).access ≡ true)
-      = cloning-shared V u fit o may in
-      alone-only u.handle r c was m r.births (newborn o) (not-sole m r.births (newborn o) refl)
-      (λ g _. none-beside u.handle r c was clone.0 clone.1 clone.2 g)
-  alone-then r u s a m (drop_ends o h mark) may c fit was sees =
-      alone-only u.handle r c was m h (record (u.handle h) { lives = false })
-      (λ dead _. absurd (true≢false (sym dead))) (λ g _. none-marked u.handle r c was mark g)
-  alone-then r u s a m (lower_ends o h e more) may c fit was sees = alone-lowered r u o h m e c fit was
-  alone-then r u s a m (lower_gives_up o h e last) may c fit was sees = alone-lowered r u o h m e c fit was
-  alone-then r u s a m (marks o h) may c fit was sees =
-      let uses : may_use (u.handle h) o ≡ true = (begins u (Mark o h) _ may refl).1 in
-      λ g lives sole. absurd (none-beside u.handle r c was h (and_parts _ _ uses).0 (and_parts _ _
-      (and_parts _ _ uses).1).1 g lives sole)
-  alone-then r u s a m (finds_alone o h only)
-      may c fit was sees = alone-not_sole u.handle r c was h (record (u.handle h) { access = Written }) refl
-  alone-then r u s a m (ends_write o h)
-      may c fit was sees = alone-not_sole u.handle r c was h (record (u.handle h) { access = SharedAccess }) refl
-  alone-then r u s a m (shares o h) may c fit was sees = alone-not_sole u.handle r c was h (record (u.handle h)
-      { access = SharedAccess }) refl
-  alone-then r u s a m (becomes_sole o h only) may c fit was sees =
-      let own : has_alone (u.handle h) o ≡ true = (and_parts _ _ (begins u (IntoUnique o h) _ may refl).1).0 in
-      alone-put u.handle r c was h (record (u.handle h) { access = SoleAccess })
-      (λ _ _. (only, eqb-true _ 0 (and_parts _ _ own).1))
-  alone-then r u s a m (lends o h to) may c fit was sees =
-      let lend : _ = (begins u (Lend o h to) _ may refl).1 in
-      alone-not_sole u.handle r c was h (lent_to (u.handle h) to)
-      (shared-not_sole (u.handle h).access (and_parts _ _ (and_parts _ _ lend).1).0)
-  alone-then r u s a m (returns o h) may c fit was sees =
-      let lent : is_lent_to (u.handle h) o ≡ true = (and_parts _ _ (begins u (Return o h) _ may refl).1).1 in
-      alone-put u.handle r c was h (returned_by (u.handle h) o)
-      (λ lives sole. absurd (true≢false (sym lent ∙ lent-some (u.handle h) o (was h lives sole).1)))
-  alone-then r u s a m (gives o h to) may c fit was sees = alone-put u.handle r c was h (record (u.handle h)
-      { holder = to }) (was h)
-  alone-then r u s a m (writes o h v) may c fit was sees = was
-  alone-then r u s a m _ may c fit was sees = was
+      -- a birth, if no other handle is sole
+      alone-born : (o : ℕ) → ((h : ℕ) → (u.handle h).lives ≡ true → is_sole (u.handle h).access ≡ true → ⊥)
+          → SolesAreAlone (put u.handle r.births (newborn o)) (grown r)
+      alone-born o none = alone-only (grown r) r.births (newborn o) (not-sole (grown r) r.births (newborn o) refl)
+          (λ g _. none g)
+
+      alone-then : (s : Step V) (a : Answer V) (m : Model V) → Deed r u s a m
+          → permitted_by u (u.activity (owner_of s)) s ≡ true → (sees : ℕ)
+          → SolesAreAlone (after sees u s a).handle m
+      alone-then s a m (clone_bears o h mark room) may sees = alone-born o (none-marked mark)
+      alone-then s a m (raise_bears o settles room) may sees =
+          let clone : (k : ℕ) × ((u.handle k).lives ≡ true) × (is_shared (u.handle k).access ≡ true)
+          = cloning-shared V u fit o may in
+          alone-born o (none-beside clone.0 clone.1 clone.2)
+      alone-then s a m (drop_ends o h mark) may sees = alone-only m h (record (u.handle h) { lives = false })
+          (λ dead _. absurd (true≢false (sym dead))) (λ g _. none-marked mark g)
+      alone-then s a m (lower_ends o h e more) may sees = alone-lowered m o h e
+      alone-then s a m (lower_gives_up o h e last) may sees = alone-lowered m o h e
+      alone-then s a m (marks o h) may sees =
+          let uses : may_use (u.handle h) o ≡ true = (begins u (Mark o h) _ may refl).1 in
+          λ g lives sole. absurd (none-beside h (and_parts _ _ uses).0 (and_parts _ _ (and_parts _ _ uses).1).1
+          g lives sole)
+      alone-then s a m (finds_alone o h only) may sees = alone-not_sole h _ refl
+      alone-then s a m (ends_write o h) may sees = alone-not_sole h _ refl
+      alone-then s a m (shares o h) may sees = alone-not_sole h _ refl
+      alone-then s a m (becomes_sole o h only) may sees =
+          let own : has_alone (u.handle h) o ≡ true = (and_parts _ _ (begins u (IntoUnique o h) _ may refl).1).0 in
+          alone-put h (record (u.handle h) { access = SoleAccess }) (λ _ _. (only, eqb-true _ 0 (and_parts _ _ own).1))
+      alone-then s a m (lends o h to) may sees =
+          let lend : _ = (begins u (Lend o h to) _ may refl).1 in
+          alone-not_sole h (lent_to (u.handle h) to)
+          (shared-not_sole (u.handle h).access (and_parts _ _ (and_parts _ _ lend).1).0)
+      alone-then s a m (returns o h) may sees =
+          let lent : is_lent_to (u.handle h) o ≡ true = (and_parts _ _ (begins u (Return o h) _ may refl).1).1 in
+          alone-put h (returned_by (u.handle h) o)
+          (λ lives sole. absurd (true≢false (sym lent ∙ lent-some (u.handle h) o (was h lives sole).1)))
+      alone-then s a m (gives o h to) may sees = alone-put h (record (u.handle h) { holder = to }) (was h)
+      alone-then s a m (writes o h v) may sees = was
+      alone-then s a m _ may sees = was
 
   soles_are_alone : (t : Trace V) → IsLegal t → SolesAreAlone (state t).handle (model t)
   soles_are_alone (Open v n limit) legal =
@@ -167,8 +162,8 @@ module _ {V : Type 0} where
   soles_are_alone (Then t s Memory) legal = soles_are_alone t legal.0
   soles_are_alone (Then t s a) legal =
       let h : Happens t s a = happens t s a refl legal.1 in
-      alone-then (model t) (state t) s a _ h.deed h.by_activity (counted t legal.0) (all_fit t legal.0)
-      (soles_are_alone t legal.0) (length (model t).live)
+      alone-then (model t) (state t) (counted t legal.0) (soles_are_alone t legal.0) (all_fit t legal.0) s a _ h.deed
+      h.by_activity (length (model t).live)
 
   -- while a handle is sole, no other lives, the block is unmarked, and the handle is lent to nobody
   pub sole_is_only : SoleHandleIsTheOnlyOne V
@@ -200,7 +195,7 @@ module _ {V : Type 0} where
         let e : (state t).activity o ≡ Dropping k = lowering V (state t) o ((state t).activity o)
         (and_parts (nat_lt o (state t).owners) (permitted_by {V = V} (state t) ((state t).activity o) (Lower o))
         may).1 in
-        let same : k ≡ h = only-live (state t).handle (model t) (counted t legal) (soles_are_alone t legal) h k
+        let same : k ≡ h = only-live (model t) (state t) (counted t legal) (soles_are_alone t legal) h k
         sole.lives sole.sole (dropped-lives (state t) (all_fit t legal) o k e) in
         ap (is_only (model t)) same ∙ (soles_are_alone t legal h sole.lives sole.sole).0
 

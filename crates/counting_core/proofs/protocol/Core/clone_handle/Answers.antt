@@ -13,15 +13,13 @@ plan_clone-requires-clause-within g c = core_within _ c.self.invariant.0 c.self.
 
 pub returns-after-push_newborn : goal.returns-after-push_newborn
 returns-after-push_newborn g c =
+    let static : _ = sym c.plan_clone.ensures ∙ c.in-Static.is in
     elim c.match-push_newborn.branch [
       | in-Some w ↦ rw w.result-is (follows c.self.view_is _ (refl {a = Clone c.args.owner c.args.handle})
-          (Born w.in-Some.number)
-          c.requires (λ may. clone_bears _ c.args.owner c.args.handle (sym c.plan_clone.ensures ∙ c.in-Static.is)
-          may w.in-Some.number w.in-Some.ensures.number c.push_newborn.new.handles.items w.in-Some.ensures.born))
-      | in-None w ↦ rw w.result-is (follows c.self.view_is _ (refl {a = Clone c.args.owner c.args.handle}) Memory
-          c.requires
-          (λ may. clone_unborn _ c.args.owner c.args.handle (sym c.plan_clone.ensures ∙ c.in-Static.is) may
-          c.push_newborn.new.handles.items w.in-None.ensures.refused))
+          (Born w.in-Some.number) c.requires
+          (λ may. clone_bears _ c.args.owner c.args.handle static may w.in-Some.ensures.number w.in-Some.ensures.born))
+      | in-None w ↦ rw w.result-is (follows c.self.view_is _ (refl {a = Clone _ _}) Memory c.requires
+          (λ may. clone_unborn _ c.args.owner c.args.handle static may w.in-None.ensures.refused))
     ]
 
 pub invariant_of-self : goal.invariant_of-self

@@ -1,16 +1,11 @@
-use Rattle.counting_core.proofs.Names.{refl, ◌<◌, sym, ◌∙◌, subst, Drop, Ended, Pending, CoreState, core_of}
-use Rattle.counting_core.proofs.Names.{IsPermitted}
+use Rattle.counting_core.proofs.Names.{refl, sym, ◌∙◌, Drop, Ended, Pending}
 use Rattle.counting_core.proofs.Steps.Continues.{follows, led_on}
-use Rattle.counting_core.proofs.Steps.Edits.{born}
-use Rattle.counting_core.proofs.Steps.Acting.{drop_lives, drop_ends, drop_reads}
+use Rattle.counting_core.proofs.Steps.Acting.{drop_born, drop_ends, drop_reads}
 use Rattle.counting_core.proofs.protocol.Core.drop_handle.Goals as goal
 
 pub index_mut-requires : goal.index_mut-requires
 index_mut-requires g c =
-    let f : CoreState _ = core_of c.self.inside.value c.self.inside.word c.self.inside.limit c.self.inside.handles.items
-    c.self.inside.owners.items in
-    subst (λ n. c.args.handle < n) (sym c.self.inside.handles.ok.0) (born f c.args.handle (drop_lives f c.args.owner
-    c.args.handle (subst (λ k. IsPermitted k (Drop c.args.owner c.args.handle)) (sym c.self.view_is) c.requires)))
+    drop_born _ c.self.inside.handles.ok.0 c.args.owner c.args.handle c.self.view_is c.requires
 
 pub returns-in-Static : goal.returns-in-Static
 returns-in-Static g c =

@@ -1,25 +1,18 @@
-use Rattle.counting_core.proofs.Names.{refl, ◌<◌, sym, subst, Lend, Done, Memory, CoreState, core_of, IsPermitted}
+use Rattle.counting_core.proofs.Names.{refl, Lend, Done, Memory}
 use Rattle.counting_core.proofs.Steps.Continues.{follows, led_on}
-use Rattle.counting_core.proofs.Steps.Edits.{born}
-use Rattle.counting_core.proofs.Steps.Acting.{lend_lives, lends, lends_none}
+use Rattle.counting_core.proofs.Steps.Acting.{lend_born, lends, lends_none}
 use Rattle.counting_core.proofs.protocol.Core.lend.Goals.{in-Ok, in-Err}
 use Rattle.counting_core.proofs.protocol.Core.lend.Goals as goal
 
 pub index_mut-requires : goal.index_mut-requires
 index_mut-requires g c =
-    let f : CoreState _ = core_of c.self.inside.value c.self.inside.word c.self.inside.limit c.self.inside.handles.items
-    c.self.inside.owners.items in
-    subst (λ n. c.args.handle < n) (sym c.self.inside.handles.ok.0) (born f c.args.handle (lend_lives f c.args.owner
-    c.args.handle c.args.to (subst (λ k. IsPermitted k (Lend c.args.owner c.args.handle c.args.to))
-    (sym c.self.view_is) c.requires)))
+    lend_born _ c.self.inside.handles.ok.0 c.args.owner c.args.handle c.args.to c.self.view_is c.requires
 
 pub returns : goal.returns
 returns g c = elim c.match-lend_to.branch [
   | in-Ok w ↦ rw w.result-is (follows c.self.view_is _ (refl {a = Lend c.args.owner c.args.handle c.args.to}) Done
-      c.requires
-      (lends _ c.args.owner c.args.handle _ _ c.index_mut.ensures.value c.args.to w.in-Ok.ensures.lent))
-  | in-Err w ↦ rw w.result-is (follows c.self.view_is _ (refl {a = Lend c.args.owner c.args.handle c.args.to}) Memory
-      c.requires
+      c.requires (lends _ _ _ _ _ c.index_mut.ensures.value c.args.to w.in-Ok.ensures.lent))
+  | in-Err w ↦ rw w.result-is (follows c.self.view_is _ (refl {a = Lend _ _ _}) Memory c.requires
       (lends_none _ c.args.owner c.args.handle _ _ c.index_mut.ensures.value c.args.to w.in-Err.ensures.refused))
 ]
 

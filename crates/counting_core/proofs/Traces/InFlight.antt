@@ -21,8 +21,7 @@ lent-insert : (o to : ℕ) (os : List ℕ) → list_any (nat_eq o) os ≡ true
     → list_any (nat_eq o) (insert_key nat_cmp os to) ≡ true
 lent-insert o to [] e = absurd (true≢false (sym e))
 lent-insert o to (q ∷ os) e = by_order (nat_cmp to q) (lent-insert o to os) where
-  by_order : (c : Ordering) → (list_any (nat_eq o) os ≡ true → list_any (nat_eq o) (insert_key nat_cmp os to)
-      ≡ true)
+  by_order : (c : Ordering) → (list_any (nat_eq o) os ≡ true → list_any (nat_eq o) (insert_key nat_cmp os to) ≡ true)
       → list_any (nat_eq o) (match_ordering c (to ∷ q ∷ os) (q ∷ os) (q ∷ insert_key nat_cmp os to)) ≡ true
   by_order Less more = grind arith
   by_order Equal more = e
@@ -33,8 +32,8 @@ lent-remove : (o p : ℕ) (os : List ℕ) → nat_eq p o ≡ false → list_any 
     → list_any (nat_eq o) (remove_key (nat_eq p) os) ≡ true
 lent-remove o p [] other e = absurd (true≢false (sym e))
 lent-remove o p (q ∷ os) other e =
-    let more : list_any (nat_eq o) os ≡ true → list_any (nat_eq o) (remove_key (nat_eq p) os)
-    ≡ true = lent-remove o p os other in grind arith
+    let more : list_any (nat_eq o) os ≡ true → list_any (nat_eq o) (remove_key (nat_eq p) os) ≡ true
+    = lent-remove o p os other in grind arith
 
 -- A change of a handle by p, which leaves it to the other owners who may use it or have it alone.
 record Spares (p : ℕ) (old new : HandleState) : Type 0 where
@@ -45,23 +44,20 @@ module _ (p : ℕ) (old new : HandleState) where
   spares-unborn : old.lives ≡ false → Spares p old new
   spares-unborn e = record {
     may_use_still = λ q other theirs. grind arith;
-    alone_still = λ q other theirs. grind
-        arith;
+    alone_still = λ q other theirs. grind arith;
   }
 
   -- a handle that p has alone, or that it is writing
   spares-own : has_alone old p ≡ true → Spares p old new
   spares-own own = record {
     may_use_still = λ q other theirs. grind (arith, common_steps);
-    alone_still = λ q other
-        theirs. grind (arith, common_steps);
+    alone_still = λ q other theirs. grind (arith, common_steps);
   }
 
   spares-writer : is_writing old p ≡ true → Spares p old new
   spares-writer own = record {
     may_use_still = λ q other theirs. grind (arith, common_steps);
-    alone_still = λ q
-        other theirs. grind (arith, common_steps);
+    alone_still = λ q other theirs. grind (arith, common_steps);
   }
 
 spares-lent : (p to : ℕ) (old : HandleState) → holds old p ≡ true → Spares p old (lent_to old to)
@@ -72,11 +68,7 @@ spares-lent p to old own = record {
 
 spares-returned : (p : ℕ) (old : HandleState) → is_lent_to old p ≡ true → Spares p old (returned_by old p)
 spares-returned p old lent = record {
-  may_use_still = λ q other theirs. grind (
-    arith,
-    lent-remove q p old.borrowers
-        other,
-  );
+  may_use_still = λ q other theirs. grind (arith, lent-remove q p old.borrowers other);
   alone_still = λ q other theirs. grind (arith, common_steps);
 }
 
@@ -106,8 +98,7 @@ module _ (u : State) (fit : AllFit u) (o h : ℕ) (e : u.activity o ≡ Dropping
 
 -- a change of a handle that spares the other owners leaves them what they have in flight
 fits-put : (hs : ℕ → HandleState) (p h : ℕ) (new : HandleState) → Spares p (hs h) new → (q : ℕ)
-    → nat_eq p q ≡ false
-    → (a : Activity) → Fits hs q a → Fits (put hs h new) q a
+    → nat_eq p q ≡ false → (a : Activity) → Fits hs q a → Fits (put hs h new) q a
 fits-put hs p h new spares q other Idle fits = tt
 fits-put hs p h new spares q other (Cloning k n) fits =
     put-all hs h new (λ j s. may_use (hs j) q ≡ true → may_use s q ≡ true) (spares.may_use_still q other)

@@ -21,34 +21,35 @@ module _ {V : Type 0} where
     pub deed : Deed (model t) (state t) s a (model (Then t s a))
 
   -- the model after a deed
-  pub model-deed : (r : Model V) (u : State) (s : Step V) (a : Answer V) (m : Model V)
-      → takes_effect a ≡ true
+  pub model-deed : (r : Model V) (u : State) (s : Step V) (a : Answer V) (m : Model V) → takes_effect a ≡ true
       → Deed r u s a m → model_after r u s a ≡ m
   model-deed r u s Barred m effect d = absurd (true≢false (sym effect))
   model-deed r u s Memory m effect d = absurd (true≢false (sym effect))
   model-deed r u s Pending m effect d = sym (pending_stays r u s m d)
   model-deed r u s a m effect d = ap (λ (x : Answer V × Model V). x.1) (outcome_is r u s a m d)
 
+  -- what is due for a permitted step: an answer and the model after it
+  abbrev due : Trace V → Step V → Answer V × Model V
+  due t s = outcome (model t) (move (model t) (state t) s)
+
+  abbrev IsDeed : Trace V → Step V → Answer V → Type 0
+  IsDeed t s a = Deed (model t) (state t) s a (due t s).1
+
   -- the answer that is expected, by whether the step is permitted
   pub expected-by : (t : Trace V) (s : Step V) (b : Bool) → permitted (state t) s ≡ b
-      → expected t s ≡ (if b then (outcome (model t) (move (model t) (state t) s)).0 else Barred)
-  expected-by t s b e = ap (λ c. if c then (outcome (model t) (move (model t) (state t) s)).0 else Barred) e
+      → expected t s ≡ (if b then (due t s).0 else Barred)
+  expected-by t s b = ap (λ c. if c then (due t s).0 else Barred)
 
   -- the deed of a permitted step
-  pub expected-deed : (t : Trace V) (s : Step V) → permitted (state t) s ≡ true
-      → Deed (model t) (state t) s (expected t s) (outcome (model t) (move (model t) (state t) s)).1
-  expected-deed t s may =
-      subst (λ a. Deed (model t) (state t) s a (outcome (model t) (move (model t) (state t)
-      s)).1) (sym (expected-by t s true may))
+  pub expected-deed : (t : Trace V) (s : Step V) → permitted (state t) s ≡ true → IsDeed t s (expected t s)
+  expected-deed t s may = subst (IsDeed t s) (sym (expected-by t s true may))
       (deed_of (model t) (state t) s (and_parts (nat_lt (owner_of s) (state t).owners) _ may).1)
 
-  pub happens : (t : Trace V) (s : Step V) (a : Answer V)
-      → takes_effect a ≡ true → IsAnswer t s a → Happens t s a
+  pub happens : (t : Trace V) (s : Step V) (a : Answer V) → takes_effect a ≡ true → IsAnswer t s a → Happens t s a
   happens t s a effect answer = record {
     permitted = may;
     by_activity = (and_parts _ _ may).1;
-    deed = subst (Deed (model t) (state t) s a) (sym (model-deed (model t) (state t) s a _ effect done))
-        done;
+    deed = subst (Deed (model t) (state t) s a) (sym (model-deed (model t) (state t) s a _ effect done)) done;
   } where
     is_due : a ≡ expected t s
     is_due = ⊎_elim (λ e. e) (λ m. absurd (true≢false (sym effect ∙ ap takes_effect m.0))) answer
@@ -56,9 +57,8 @@ module _ {V : Type 0} where
     may : permitted (state t) s ≡ true
     may = true_from_ne_false _ (λ e. true≢false (sym effect ∙ ap takes_effect (is_due ∙ expected-by t s false e)))
 
-    done : Deed (model t) (state t) s a (outcome (model t) (move (model t) (state t) s)).1
-    done = subst (λ x. Deed (model t) (state t) s x (outcome (model t) (move (model t) (state t)
-        s)).1) (sym is_due) (expected-deed t s may)
+    done : IsDeed t s a
+    done = subst (IsDeed t s) (sym is_due) (expected-deed t s may)
 
   -- each step has a legal answer, and no other but Memory
   pub one_answer : EachStepHasOneAnswer V
@@ -68,11 +68,8 @@ module _ {V : Type 0} where
   pub barred_if_not_permitted : BarredExactlyIfNotPermitted V
   barred_if_not_permitted t s a legal = (given, refused) where
     given : a ≡ Barred → permitted (state t) s ≡ false
-    given e = false_from_ne_true _ (λ may.
-        not_barred (model t) (state t) s (outcome (model t) (move (model t) (state t) s)).1
-        (subst (λ x. Deed (model t) (state t) s x (outcome (model t) (move (model t) (state t)
-        s)).1)
-        (⊎_elim (λ d. sym d ∙ e) (λ m. absurd (cc)) legal.1) (expected-deed t s may)))
+    given e = false_from_ne_true _ (λ may. not_barred (model t) (state t) s (due t s).1
+        (subst (IsDeed t s) (⊎_elim (λ d. sym d ∙ e) (λ m. absurd (cc)) legal.1) (expected-deed t s may)))
 
     refused : permitted (state t) s ≡ false → a ≡ Barred
     refused e =

@@ -58,15 +58,14 @@ module _ {V : Type 0} where
     kept h s e = record {
       apart = c.apart;
       below = c.below;
-      same = λ k. c.same k ∙ sym (part_kept-put hs h
-          s (λ x. x.lives) e k);
+      same = λ k. c.same k ∙ sym (part_kept-put hs h s (λ x. x.lives) e k);
     }
 
-  counted-lowered : (r : Model V) (u : State) (o h : ℕ)
-      → u.activity o ≡ Dropping h → IsCounted u.handle r
+  counted-lowered : (r : Model V) (u : State) (o h : ℕ) → u.activity o ≡ Dropping h → IsCounted u.handle r
       → IsCounted (ended u (handle_in (u.activity o))).handle (shrunk r h)
-  counted-lowered r u o h e c = subst (λ (a : Activity). IsCounted (ended u (handle_in a)).handle (shrunk r
-      h)) (sym e) (counted-ended u.handle r c h)
+  counted-lowered r u o h e c =
+      subst (λ (a : Activity). IsCounted (ended u (handle_in a)).handle (shrunk r h)) (sym e)
+      (counted-ended u.handle r c h)
 
   counted-then : EachDeed V (λ r u s a m. IsCounted u.handle r → (sees : ℕ)
       → IsCounted (after sees u s a).handle m)

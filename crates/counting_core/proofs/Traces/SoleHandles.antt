@@ -16,7 +16,7 @@ use Rattle.counting_core.proofs.Traces.Deeds.{marks, finds_alone, writes, ends_w
 use Rattle.counting_core.proofs.Traces.Deeds.{returns, gives, grown}
 use Rattle.counting_core.proofs.Traces.LegalSteps.{Happens, happens, expected-by}
 use Rattle.counting_core.proofs.Traces.LiveHandles.{IsCounted, counted}
-use Rattle.counting_core.proofs.Traces.InFlight.{AllFit, Fits, all_fit, dropped-lives}
+use Rattle.counting_core.proofs.Traces.InFlight.{AllFit, Fits, all_fit, parts-alone, dropped-lives}
 use Rattle.counting_core.proofs.Traces.Activities.{raising, lowering, begins}
 
 -- a list of one handle is that handle
@@ -52,11 +52,15 @@ cloning-shared V u fit o may =
     let uses : may_use (u.handle k) o ≡ true = subst (Fits u.handle o) (raising V u o _ may) (fit o) in
     (k, (and_parts _ _ uses).0, (and_parts _ _ (and_parts _ _ uses).1).1)
 
+-- no live handle is sole
+abbrev NoneSole : State → Type 0
+NoneSole u = (h : ℕ) → (u.handle h).lives ≡ true → is_sole (u.handle h).access ≡ true → ⊥
+
 module _ {V : Type 0} where
   -- if the handle lives and is sole, no other lives, and it is lent to nobody
   abbrev IsAloneIfSole : Model V → ℕ → HandleState → Type 0
-  IsAloneIfSole m h k = k.lives ≡ true → is_sole k.access ≡ true → (is_only m h ≡ true)
-      × (length k.borrowers ≡ 0)
+  IsAloneIfSole m h k =
+      k.lives ≡ true → is_sole k.access ≡ true → (is_only m h ≡ true) × (length k.borrowers ≡ 0)
 
   abbrev SolesAreAlone : (ℕ → HandleState) → Model V → Type 0
   SolesAreAlone hs m = (h : ℕ) → IsAloneIfSole m h (hs h)
@@ -66,8 +70,8 @@ module _ {V : Type 0} where
 
   module _ (r : Model V) (u : State) (c : IsCounted u.handle r) (was : SolesAreAlone u.handle r) where
     -- a live handle beside a sole one is that one
-    only-live : (h k : ℕ) → (u.handle h).lives ≡ true → is_sole (u.handle h).access ≡ true → (u.handle k).lives ≡ true
-        → k ≡ h
+    only-live : (h k : ℕ) → (u.handle h).lives ≡ true → is_sole (u.handle h).access ≡ true
+        → (u.handle k).lives ≡ true → k ≡ h
     only-live h k lives sole other =
         let parts : (nat_eq (length r.live) 1 ≡ true) × (has h r.live ≡ true)
         = and_parts _ _ (and_parts (not r.mark) _ (was h lives sole).0).1 in
@@ -78,14 +82,12 @@ module _ {V : Type 0} where
           at false e there = absurd (true≢false (sym there ∙ ap (λ b. b || false) e))
 
     -- so there is none beside a live one that is shared
-    none-beside : (k : ℕ) → (u.handle k).lives ≡ true → is_shared (u.handle k).access ≡ true → (h : ℕ)
-        → (u.handle h).lives ≡ true
-        → is_sole (u.handle h).access ≡ true → ⊥
+    none-beside : (k : ℕ) → (u.handle k).lives ≡ true → is_shared (u.handle k).access ≡ true → NoneSole u
     none-beside k lives shared h other sole =
         true≢false (sym sole ∙ ap (λ n. is_sole (u.handle n).access) (sym (only-live h k other sole lives))
         ∙ shared-not_sole (u.handle k).access shared)
 
-    none-marked : r.mark ≡ true → (h : ℕ) → (u.handle h).lives ≡ true → is_sole (u.handle h).access ≡ true → ⊥
+    none-marked : r.mark ≡ true → NoneSole u
     none-marked mark h lives sole = true≢false (sym (and_parts (not r.mark) _ (was h lives sole).0).0 ∙ ap not mark)
 
     -- a change of one handle
@@ -115,8 +117,7 @@ module _ {V : Type 0} where
           (alone-ended n h (dropped-lives u fit o h e))
 
       -- a birth, if no other handle is sole
-      alone-born : (o : ℕ) → ((h : ℕ) → (u.handle h).lives ≡ true → is_sole (u.handle h).access ≡ true → ⊥)
-          → SolesAreAlone (put u.handle r.births (newborn o)) (grown r)
+      alone-born : (o : ℕ) → NoneSole u → SolesAreAlone (put u.handle r.births (newborn o)) (grown r)
       alone-born o none = alone-only (grown r) r.births (newborn o) (not-sole (grown r) r.births (newborn o) refl)
           (λ g _. none g)
 
@@ -125,11 +126,10 @@ module _ {V : Type 0} where
           → SolesAreAlone (after sees u s a).handle m
       alone-then s a m (clone_bears o h mark room) may sees = alone-born o (none-marked mark)
       alone-then s a m (raise_bears o settles room) may sees =
-          let clone : (k : ℕ) × ((u.handle k).lives ≡ true) × (is_shared (u.handle k).access ≡ true)
-          = cloning-shared V u fit o may in
+          let clone : _ = cloning-shared V u fit o may in
           alone-born o (none-beside clone.0 clone.1 clone.2)
-      alone-then s a m (drop_ends o h mark) may sees = alone-only m h (record (u.handle h) { lives = false })
-          (λ dead _. absurd (true≢false (sym dead))) (λ g _. none-marked mark g)
+      alone-then s a m (drop_ends o h mark) may sees = alone-ended m h (and_parts _ _ (and_parts _ _
+          (parts-alone (u.handle h) o (begins u (Drop o h) _ may refl).1)).0).0
       alone-then s a m (lower_ends o h e more) may sees = alone-lowered m o h e
       alone-then s a m (lower_gives_up o h e last) may sees = alone-lowered m o h e
       alone-then s a m (marks o h) may sees =
@@ -175,8 +175,7 @@ module _ {V : Type 0} where
       let live : (nat_eq (length (live_handles t)) 1 ≡ true) × (has h (live_handles t) ≡ true)
       = and_parts _ _ parts.1 in (
         one-is h (live_handles t) (eqb-true (length (live_handles t)) 1 live.0) live.1,
-        not-true (has_mark t)
-            parts.0,
+        not-true (has_mark t) parts.0,
         none-is ((state t).handle h).borrowers alone.1,
       )
 

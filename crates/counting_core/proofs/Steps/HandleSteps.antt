@@ -1,18 +1,20 @@
 -- By its answer and its word a step on the word is the atomic step of a handle.
 use Rattle.counting_core.proofs.Names.{StepsAreThoseOfHandles}
 use Rattle.counting_core.proofs.Names.{◌≡◌, ◌+◌, Bool, true, false, if◌then◌else◌, nat_eq, length, refl, is_marked_word}
-use Rattle.counting_core.proofs.Names.{is_one_handle, count_of, a_handle, nothing, to_lower, whole_block, StaticClone}
+use Rattle.counting_core.proofs.Names.{is_one_handle, count_of, a_handle, nothing, StaticClone}
 use Rattle.counting_core.proofs.Names.{FullClone, RaiseClone, StaticDrop, LowerDrop, Clone, Raise, Drop, Lower}
 use Rattle.counting_core.proofs.Names.{Quit, Write, EndWrite, Share, Load, Lend, Return, Give}
 use Rattle.counting_core.proofs.Names.{Mark, Unique, Static, GetMut, IntoUnique, Born, Ended, GivenUp, Alone, Sole}
-use Rattle.counting_core.proofs.Names.{Shared, seen_in, activity, cloned, dropped}
+use Rattle.counting_core.proofs.Names.{Shared, seen_in, activity, cloned, dropped, Step, Answer}
 use Rattle.counting_core.proofs.Names.{right_of}
 
-both : (P : Bool → Type 0) (b : Bool) → P true → P false → P b
-both P true first second = first
-both P false first second = second
-
 module _ {V : Type 0} where
+  -- what an answer gives that hangs on one test
+  by_test : {A : Type 0} (s : Step V) (answer : A → Answer V) (x y : A) (b : Bool)
+      → right_of s (answer (if b then x else y)) ≡ (if b then right_of s (answer x) else right_of s (answer y))
+  by_test s answer x y true = refl
+  by_test s answer x y false = refl
+
   pub steps_of_handles : StepsAreThoseOfHandles V
   steps_of_handles core (Clone o h) = (
     at (is_marked_word core.word) (nat_eq (count_of core.word) core.limit),
@@ -36,26 +38,14 @@ module _ {V : Type 0} where
     at false true full = refl
     at false false true = refl
     at false false false = refl
-  steps_of_handles core (Drop o h) = (
-    both (λ m. right_of {V = V} (Drop o h) (dropped (if m then StaticDrop else LowerDrop))
-        ≡ (if m then nothing else to_lower)) (is_marked_word core.word) refl refl,
-    λ _. refl,
-  )
-  steps_of_handles core (Lower o) = (
-    both (λ b. right_of {V = V} (Lower o) (if b then GivenUp core.value else Ended)
-        ≡ (if b then whole_block 0 else nothing)) (is_one_handle core.word) refl refl,
-    λ _. refl,
-  )
-  steps_of_handles core (GetMut o h) = (
-    both (λ b. right_of {V = V} (GetMut o h) (if b then Alone else Shared)
-        ≡ (if b then whole_block 1 else a_handle)) (is_one_handle core.word) refl refl,
-    λ _. refl,
-  )
-  steps_of_handles core (IntoUnique o h) = (
-    both (λ b. right_of {V = V} (IntoUnique o h) (if b then Sole else Shared)
-        ≡ (if b then whole_block 1 else a_handle)) (is_one_handle core.word) refl refl,
-    λ _. refl,
-  )
+  steps_of_handles core (Drop o h) =
+      (by_test (Drop o h) dropped StaticDrop LowerDrop (is_marked_word core.word), λ _. refl)
+  steps_of_handles core (Lower o) =
+      (by_test (Lower o) (λ a. a) (GivenUp core.value) Ended (is_one_handle core.word), λ _. refl)
+  steps_of_handles core (GetMut o h) =
+      (by_test (GetMut o h) (λ a. a) Alone Shared (is_one_handle core.word), λ _. refl)
+  steps_of_handles core (IntoUnique o h) =
+      (by_test (IntoUnique o h) (λ a. a) Sole Shared (is_one_handle core.word), λ _. refl)
   steps_of_handles core (Mark o h) = (refl, λ _. refl)
   steps_of_handles core (Unique o h) = (refl, λ _. refl)
   steps_of_handles core (Static o h) = (refl, λ _. refl)

@@ -16,7 +16,8 @@ use Rattle.counting_core.proofs.Traces.Deeds.{grown}
 use Rattle.counting_core.proofs.Traces.LegalSteps.{takes_effect}
 use Rattle.counting_core.proofs.Traces.Limits.{model_limit}
 use Rattle.counting_core.proofs.Traces.LiveHandles.{counted}
-use Rattle.counting_core.proofs.Traces.Shapes.{HeldAs, Shape, Comes, here, makes, same-lives, same-count, keeps, bears}
+use Rattle.counting_core.proofs.Traces.Shapes.{HeldAs, Shape, Comes, SameOwners, here, makes, same-lives, same-count}
+use Rattle.counting_core.proofs.Traces.Shapes.{keeps, bears}
 
 module _ {V : Type 0} (limit : ℕ) where
   -- a trace that has gone on by these reports to these handles
@@ -71,9 +72,8 @@ module _ {V : Type 0} (limit : ℕ) where
 
     -- what leaves handles and owners as they were
     stays : (new : Bool) (n : Trace V) (m : Model V) (rs : List Report) → Comes t n m → m.mark ≡ new
-        → m.births ≡ (model t).births → ((j : ℕ) → (state n).handle j ≡ (state t).handle j)
-        → ((o : ℕ) → (state n).activity o ≡ (state t).activity o) → reports_of n ≡ reports_of t ++ rs
-        → Goes owners hs new t rs
+        → m.births ≡ (model t).births → ((j : ℕ) → (state n).handle j ≡ (state t).handle j) → SameOwners t n
+        → reports_of n ≡ reports_of t ++ rs → Goes owners hs new t rs
     stays new n m rs c is births same_handle same_activity reports = record {
       now = n;
       shape = keeps limit owners hs mark t s new n m c is births same_handle same_activity;
@@ -82,9 +82,8 @@ module _ {V : Type 0} (limit : ℕ) where
     }
 
     born : (n : Trace V) (rs : List Report) → Comes t n (grown (model t))
-        → (state n).handle ≡ put (state t).handle (model t).births (newborn 0)
-        → ((o : ℕ) → (state n).activity o ≡ (state t).activity o) → reports_of n ≡ reports_of t ++ rs
-        → Goes owners (hs ++ lives ∷ []) mark t rs
+        → (state n).handle ≡ put (state t).handle (model t).births (newborn 0) → SameOwners t n
+        → reports_of n ≡ reports_of t ++ rs → Goes owners (hs ++ lives ∷ []) mark t rs
     born n rs c handles same_activity reports = record {
       now = n;
       shape = bears limit owners hs mark t s n c handles same_activity;

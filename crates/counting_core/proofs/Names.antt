@@ -25,7 +25,8 @@ pub use Rattle.std.specs.Set.{remove_key}
 pub use mathlib.Core.Path.{fun_ext}
 pub use Rattle.counting_word.proofs.Plans.{ClonePlanSays, clone_plan-says}
 pub use Rattle.counting_word.proofs.Standings.{born}
-pub use Rattle.counting_word.proofs.Tallies.{run-more, tally-more}
+pub use Rattle.counting_word.proofs.Tallies.{run-more}
+pub use Rattle.counting_word.proofs.Kept.{tally-append}
 pub use Rattle.counting_word.proofs.Words.{count_of-unmarked, word-unmarked, exactly-unmarked, is_one_handle-exactly}
 pub use Rattle.counting_word.proofs.Words.{stands-live, stands-in_drop, stands-raise, stands-lower, stands-marked_word}
 pub use Rattle.counting_word.proofs.Words.{stands-new}

@@ -2,6 +2,7 @@ pub mod Plans
 pub mod Words
 pub mod Standings
 pub mod WordLogs
-pub mod MarkedStays
+pub mod MarkedBlocks
+pub mod Kept
 pub mod Tallies
 mod WorkedLogs

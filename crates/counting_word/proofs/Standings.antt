@@ -1,7 +1,7 @@
 -- How many handles are counted and how many are dropping, after a birth and after a change of one handle's standing.
 use Rattle.std.proofs.Common.{◌≡◌, ℕ, zero, suc, ◌+◌, ◌<◌, ◌≤◌, Bool, true, cond, List, [], ◌∷◌}
 use Rattle.std.proofs.Common.{length, get_or, set, refl, sym, ◌∙◌, ap, arith, count_by}
-use Rattle.std.proofs.lemmas.List.Sums.{sum_by-set, sum_by-append, get_or-le-sum_by, sum_by-cons}
+use Rattle.std.proofs.lemmas.List.Sums.{sum_by-set, sum_by-append, sum_by-cons}
 use Rattle.counting_word.specs.Tallies.{Standing, lives, dropping, ended, is_dropping, is_counted, Tally, standing_of}
 use Rattle.counting_word.specs.Tallies.{counted, drops, one_more, goes_to}
 
@@ -33,20 +33,10 @@ module _ (p : Tally) where
     changed test t = ap (λ z. count_by test (set p.handles h t) + one_if test z) (sym e)
         ∙ sum_by-set (one_if test) p.handles h t ended low
 
-    pub counted-some : 1 ≤ counted p
-    counted-some = let at : one_if is_counted (get_or p.handles h ended) ≤ counted p =
-        get_or-le-sum_by (one_if is_counted) p.handles h ended low in
-        let one : one_if is_counted (get_or p.handles h ended) ≡ 1 =
-        ap (one_if is_counted) e ∙ ap (λ b. cond b 1 0) is in omega arith
-
   -- a read for drop on an unmarked block
   pub counted-drop : (h : ℕ) → standing_of p h ≡ lives → counted (goes_to p h dropping) ≡ counted p
   counted-drop h e = let both : counted (goes_to p h dropping) + 1 ≡ counted p + 1 =
       changed h lives refl e is_counted dropping in omega arith
-
-  pub drops-drop : (h : ℕ) → standing_of p h ≡ lives → drops (goes_to p h dropping) ≡ drops p + 1
-  drops-drop h e = let both : drops (goes_to p h dropping) + 0 ≡ drops p + 1 =
-      changed h lives refl e is_dropping dropping in omega arith
 
   -- and on a marked one
   pub drops-end : (h : ℕ) → standing_of p h ≡ lives → drops (goes_to p h ended) ≡ drops p

@@ -4,7 +4,8 @@ use Rattle.counting_core.proofs.Names.{◌++◌, length, length-append, length-s
 use Rattle.counting_core.proofs.Names.{sym, ◌∙◌, ap, ap₂, subst, arith, true≢false, eqb-true, ◌⊎◌, inl, inr, and_parts}
 use Rattle.counting_core.proofs.Names.{common_steps, Contains, count_by, born, lt_irrefl, Standing, lives, dropping}
 use Rattle.counting_core.proofs.Names.{has_ended, is_counted, Tally, first, standing_of, Lives, has_exactly, one_more}
-use Rattle.counting_core.proofs.Names.{goes_to, after_read, after_step, tally_of, MayDo, IsRun, run-more, tally-more}
+use Rattle.counting_core.proofs.Names.{goes_to, after_read, after_step, tally_of, MayDo, IsRun, run-more}
+use Rattle.counting_core.proofs.Names.{tally-append}
 use Rattle.counting_core.proofs.Names.{atomic, Entry, made, WordStep, raises_from, Activity, Idle, Cloning, Dropping}
 use Rattle.counting_core.proofs.Names.{HandleState, State, handle_in, seen_in, put, has_alone, may_use, without}
 use Rattle.counting_core.proofs.Names.{is_dropping, Trace, limit_of, Model, IsLegal, state, model, log_of}
@@ -171,7 +172,7 @@ module _ {V : Type 0} where
         → after_step p h w ≡ q → Agrees n.activity m q → Reported (limit_of t) n m (log_of t ++ made h w ∷ [])
     adds h w q n m may is agrees = record {
       runs = run-more (limit_of t) first (log_of t) (made h w) known.runs may;
-      agrees = subst (Agrees n.activity m) (sym (tally-more first (log_of t) (made h w) ∙ is)) agrees;
+      agrees = subst (Agrees n.activity m) (sym (tally-append first (log_of t) (made h w ∷ []) ∙ is)) agrees;
     }
 
     -- or none

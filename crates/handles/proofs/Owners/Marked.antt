@@ -16,7 +16,7 @@ use types.Tokens.{shr_bor_shorten, bor_new, bor_fracture}
 use denote.RattleType.{RattleType}
 use denote.RawPtr.{Ptr}
 use denote.Moves.{moves_from}
-use denote.Sharing.{ShrLaws, said, one, held}
+use denote.Sharing.{ShrLaws, said, one}
 use denote.SharingLaws.{some_shr_laws, one_shr_laws, always_shr_laws, held_shr_laws}
 use denote.Param.Laws.{Laws}
 use Rattle.counting_word.specs.CountingWord.{marked_word}

@@ -27,8 +27,9 @@ fn the_laws_hold_at_types() {
     laws::steps_are_those_of_handles::<u32>();
     laws::runs_are_traces::<u32>();
     laws::traces_are_runs::<u32>();
-    word_laws::marked_blocks_stay();
     word_laws::runs_are_counted();
+    word_laws::marks_stay();
+    word_laws::no_marked_block_is_given();
     table_laws::number_of_slots_stays::<u32>();
     table_laws::other_slots_stay::<u32>();
     table_laws::only_done_changes::<u32>();

@@ -139,32 +139,3 @@ impl<V: Copy> Clone for Step<V> {
         Ok(*self)
     }
 }
-
-impl<V: Copy> Step<V> {
-    ghost use Rattle.counting_core.specs.Permitted.{owner_of};
-
-    /// The owner whose step it is.
-    pub fn owner(&self) -> usize
-        ensures { result ≡ owner_of self.now }
-    {
-        match *self {
-            Step::Raise { owner }
-            | Step::Quit { owner }
-            | Step::Lower { owner }
-            | Step::Clone { owner, .. }
-            | Step::Drop { owner, .. }
-            | Step::Mark { owner, .. }
-            | Step::Unique { owner, .. }
-            | Step::Static { owner, .. }
-            | Step::GetMut { owner, .. }
-            | Step::Write { owner, .. }
-            | Step::EndWrite { owner, .. }
-            | Step::IntoUnique { owner, .. }
-            | Step::Share { owner, .. }
-            | Step::Load { owner, .. }
-            | Step::Lend { owner, .. }
-            | Step::Return { owner, .. }
-            | Step::Give { owner, .. } => owner,
-        }
-    }
-}

@@ -2,8 +2,6 @@
 ghost use Rattle.std.specs.Prelude.{◌≡◌, IfOk};
 ghost use Rattle.std.specs.Fn.{FnOnceTakesAt, FnOnceReturnsAt};
 
-mod compare;
-
 use crate::arc::{Arc, Full};
 use std::ops::Deref;
 use std::sync::Wait;
@@ -11,7 +9,7 @@ use std::sync::Wait;
 /// A borrowed handle: `a.borrow_arc()`. It reads as a `&T`, is not counted, and is copied like a reference.
 ///
 /// Take it as a parameter where the callee may want a handle of its own, which `clone_arc` makes.
-#[derive(Debug)]
+#[derive(Debug, PartialEq, Eq, PartialOrd, Ord, Hash)]
 #[derive_where(Clone, Copy)]
 pub struct ArcBorrow<'a, T>(pub(crate) &'a Arc<T>);
 

@@ -19,7 +19,8 @@ use Rattle.handles.specs.declared.attempt.Attempt.TheVariants.{Made, Full, Lost}
 abbrev pub IsSeen : {X : Type 0} → Handle X → ℕ → Permit X → Type 0
 IsSeen of word permit =
     (permit.held ≡ of.held) × (permit.block ≡ of.block) × (permit.id ≡ of.id)
-    × (permit.right ≡ right_by_read word) × IsWithin word of.held.limit.count × Found word permit.log
+    × (permit.right ≡ right_by_read word) × IsWithin word of.held.limit.count
+    × Found of.held.limit.count word permit.log
     × (is_marked_word word ≡ false → HasFound of.number word permit.log)
 
 -- one more handle of the same block
@@ -33,7 +34,7 @@ IsFullOf of logged = (logged.id ≡ of.id) × FoundFull of.held.limit.count logg
 -- or its last raise was lost
 abbrev pub IsRefusedOf : {X : Type 0} → Handle X → Logged → Type 0
 IsRefusedOf of logged =
-    (logged.id ≡ of.id) × (FoundFull of.held.limit.count logged.log ⊎ LostRaise of.number logged.log)
+    (logged.id ≡ of.id) × (FoundFull of.held.limit.count logged.log ⊎ LostRaise of.held.limit.count of.number logged.log)
 
 -- This step of the handle found a word of which the test says this.
 abbrev pub IsAnswerOf : {X : Type 0} → Handle X → WordStep → (ℕ → Bool) → Bool → Logged → Type 0
@@ -49,7 +50,7 @@ IsMarking of logged =
 abbrev pub IsAttempt : {X : Type 0} → Handle X → Attempt X → Type 0
 IsAttempt of (Made h) = IsMadeOf of h
 IsAttempt of (Full logged) = IsFullOf of logged
-IsAttempt of (Lost word permit) = IsSeen of word permit × LostRaise of.number permit.log
+IsAttempt of (Lost word permit) = IsSeen of word permit × LostRaise of.held.limit.count of.number permit.log
 
 -- What the plan is by the word that was seen: a handle is made with no further step or by a raise.
 abbrev pub IsPlanned : {X : Type 0} → ℕ → ℕ → Attempt X → Type 0

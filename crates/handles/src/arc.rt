@@ -7,7 +7,6 @@ mod convert;
 mod copy_on_write;
 mod full;
 
-use crate::attempt::Attempt;
 use crate::block::Handle;
 use crate::limit::Limit;
 use crate::static_arc::StaticArc;
@@ -97,15 +96,8 @@ impl<T: Drop> Arc<T> {
     pub fn clone(this: &Arc<T>, rt: &impl Wait) -> Result<Arc<T>, Full>
         ensures { IfOk result (λ a. a ≡ this.now) }
     {
-        match this.handle.first_attempt() {
-            Attempt::Made(handle) => Ok(Arc { handle }),
-            Attempt::Full(logged) => Err(this.handle.full_by(logged)),
-            // Only a clone that lost a raise makes the call that may wait.
-            Attempt::Lost(word, permit) => match this.handle.raise_unless_full(word, permit, rt) {
-                Ok(handle) => Ok(Arc { handle }),
-                Err(logged) => Err(this.handle.full_by(logged)),
-            },
-        }
+        let handle = this.handle.clone_or_full(rt)?;
+        Ok(Arc { handle })
     }
 }
 

@@ -4,8 +4,9 @@ ghost use Rattle.std.specs.Iterator.{IsFinite};
 ghost use Rattle.handles.specs.Founds.{LostRaise};
 ghost use Rattle.handles.specs.Attempts.{IsSeen, IsMadeOf, IsAttempt, IsPlanned, Stops, IsFullOf, IsRefusedOf};
 
+use crate::arc::Full;
 use crate::block::{Handle, Held, Logged, Permit};
-use counting_word::{ClonePlan, is_marked, plan_clone};
+use counting_word::{is_marked, raised};
 use std::hint;
 use std::sync::Wait;
 
@@ -43,12 +44,10 @@ impl<T> Handle<T> {
         ensures shows { IsAttempt self.now result }
         ensures plan { IsPlanned word self.now.held.limit.count result }
     {
-        // The plan says so too. Asked first, a mark costs one branch, and no plan is built and then told apart.
         if is_marked(word) {
             return Attempt::Made(permit.into_handle());
         }
-        // The mark was asked for above, so what is no raise is `Full`.
-        let ClonePlan::Raise(next) = plan_clone(word, held.limit.count) else {
+        let Some(next) = raised(word, held.limit.count) else {
             return Attempt::Full(permit.into_logged());
         };
         let (found, permit) = self.raise(word, next, permit);
@@ -77,6 +76,24 @@ impl<T: Drop> Handle<T> {
         }
     }
 
+    // Until it has a handle or the block is full, of which the `Full` is the evidence.
+    #[inline]
+    pub(crate) fn clone_or_full(&self, rt: &impl Wait) -> Result<Handle<T>, Full>
+        requires { self.now.sole ≡ false }
+        ensures made { IfOk result (IsMadeOf self.now) }
+        ensures full { IfErr result (λ full. (full.id ≡ self.now.id) × (full.limit ≡ self.now.held.limit.count)) }
+    {
+        match self.first_attempt() {
+            Attempt::Made(handle) => Ok(handle),
+            Attempt::Full(logged) => Err(self.full_by(logged)),
+            // Only a clone that lost a raise makes the call that may wait.
+            Attempt::Lost(word, permit) => match self.raise_unless_full(word, permit, rt) {
+                Ok(handle) => Ok(handle),
+                Err(logged) => Err(self.full_by(logged)),
+            },
+        }
+    }
+
     // After a lost raise, until it has a handle or the block is full. Kept out of line, since only this path may wait.
     #[cold]
     #[inline(never)]
@@ -88,7 +105,7 @@ impl<T: Drop> Handle<T> {
     ) -> Result<Handle<T>, Logged>
         requires shared { self.now.sole ≡ false }
         requires seen { IsSeen self.now word permit }
-        requires lost { LostRaise self.now.number permit.log }
+        requires lost { LostRaise self.now.held.limit.count self.now.number permit.log }
         ensures made { IfOk result (IsMadeOf self.now) }
         ensures full { IfErr result (IsFullOf self.now) }
     {
@@ -106,7 +123,7 @@ impl<T: Drop> Handle<T> {
         I::Item: Drop,
         requires shared { self.now.sole ≡ false }
         requires seen { IsSeen self.now word permit }
-        requires lost { LostRaise self.now.number permit.log }
+        requires lost { LostRaise self.now.held.limit.count self.now.number permit.log }
         requires turns { I.can_next turns × IsFinite (I.remaining turns) }
         ensures made { IfOk result (IsMadeOf self.now) }
         ensures refused { IfErr result (IsRefusedOf self.now) }

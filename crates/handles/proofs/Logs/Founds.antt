@@ -1,4 +1,4 @@
--- What the last step of a log found, from what the step says.
+-- What the last entry of a log found, from what its step says.
 use Rattle.std.proofs.Common.{◌≡◌, ◌≢◌, ℕ, Bool, true, false, if◌then◌else◌, List, [], ◌∷◌, ◌++◌, refl, sym, ap}
 use Rattle.std.proofs.Common.{◌∙◌, subst, ne_eqb, Contains, arith, zero, nat_eq}
 use Rattle.counting_word.specs.CountingWord.{is_marked_word, IsLimit}
@@ -8,41 +8,22 @@ use Rattle.counting_word.specs.Plans.{clone_plan, drop_plan}
 use Rattle.counting_word.specs.declared.ClonePlan.TheVariants.{Full}
 use Rattle.counting_word.specs.Rights.{Right, a_handle, right_by_read, right_by_raise}
 use Rattle.counting_word.specs.WordSteps.{WordStep, reads, raises_from}
-use Rattle.counting_word.specs.Logs.{Entry, made, word_after, left_from}
+use Rattle.counting_word.specs.Logs.{Entry, made}
 use Rattle.counting_word.specs.Tallies.{Tally, first, counted, has_exactly, one_more, after_read, tally_after, tally_of}
 use Rattle.counting_word.specs.Tallies.{IsRunFrom, IsRun, IsTallied, Adds}
-use Rattle.counting_word.proofs.Tallies.{tally-more, runs_are_counted}
-use Rattle.handles.specs.Founds.{found_from, found_by, Found, HasFound, FoundFull, LostRaise, Answers}
+use Rattle.counting_word.proofs.Kept.{tally-append}
+use Rattle.counting_word.proofs.Tallies.{runs_are_counted}
+use Rattle.handles.specs.Founds.{Found, HasFound, FoundFull, Answers}
 
-found-last : (log : List Entry) (e : Entry) (found word : ℕ)
-    → found_from found word (log ++ e ∷ []) ≡ left_from word log
-found-last [] e found word = refl
-found-last (t ∷ ts) e found word = found-last ts e word (word_after t.kind word)
-
--- the word that the last entry found is the one that its step reports
-pub found_word : (limit : ℕ) (old : List Entry) (e : Entry) (word : ℕ) (log : List Entry)
-    → Adds limit old e word log → Found word log
-found_word limit old e word log adds = ap found_by adds.ends ∙ found-last (old ++ adds.others)
-    e 1 1 ∙ adds.found_word
-
-pub found_full : (word limit : ℕ) (log same : List Entry) → Found word log → clone_plan word limit ≡ Full
-    → same ≡ log
-    → FoundFull limit same
-found_full word limit log same found plan is = ap (λ (l : List Entry). clone_plan (found_by l) limit) is
-    ∙ ap (λ (w : ℕ). clone_plan w limit) found ∙ plan
+pub found_full : (word limit : ℕ) (log same : List Entry) → Found limit word log → clone_plan word limit ≡ Full
+    → same ≡ log → FoundFull limit same
+found_full word limit log same found plan is = (word, subst (Found limit word) (sym is) found, plan)
 
 -- what a lost raise leaves its maker with
 pub lost_right : (seen found : ℕ) (r : Right)
     → r ≡ right_by_raise seen found → found ≢ seen → r ≡ right_by_read found
 lost_right seen found r is differs = is ∙ ap (λ (b : Bool). if b then a_handle else right_by_read found)
     (ne_eqb found seen differs)
-
--- a raise that found another word is a lost one in the log
-pub lost_raise : (limit : ℕ) (old : List Entry) (n seen word : ℕ) (log : List Entry)
-    → Adds limit old (made n (raises_from seen)) word log → word ≢ seen → LostRaise n log
-lost_raise limit old n seen word log adds differs =
-    let found : Found word log = found_word limit old (made n (raises_from seen)) word log adds in
-    (old ++ adds.others, seen, adds.ends, λ same. differs (sym found ∙ same))
 
 -- the step that answers may go on from a log that is known
 pub answers : {n : ℕ} {s : WordStep} {test : ℕ → Bool} {answer : Bool} (limit : ℕ) (old : List Entry) (word : ℕ)
@@ -87,7 +68,7 @@ module _ (limit : ℕ) (is : IsLimit limit) (old : List Entry) (e : Entry) (word
       (runs_are_counted limit before is (run-less limit first before e (subst (IsRun limit) adds.ends adds.runs))).0
 
   after : tally_of log ≡ tally_after (tally_of before) e
-  after = ap tally_of adds.ends ∙ tally-more first before e
+  after = ap tally_of adds.ends ∙ tally-append first before (e ∷ [])
 
   found-here : (n : ℕ) → tally_after (tally_of before) e ≡ after_read (tally_of before) n
       → is_marked_word word ≡ false → HasFound n word log

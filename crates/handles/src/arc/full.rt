@@ -11,15 +11,14 @@ use crate::block::{Handle, Logged};
 use std::marker::Model;
 use thiserror::Error;
 
-/// The block has as many handles as its limit allows.
-///
-/// Only a refused clone makes one, since its ghost log ends with the step that found the limit. It takes no bytes.
+/// The block has as many handles as its limit allows. It takes no bytes.
 #[derive(Debug, PartialEq, Eq, Error, Drop)]
 #[error("the handle limit is reached")]
 pub struct Full {
-    ghost limit: { ℕ },
-    ghost id: { BlockId } by { coded_id },
-    ghost log: { List Entry } by { coded_log },
+    pub(crate) ghost limit: { ℕ },
+    pub(crate) ghost id: { BlockId } by { coded_id },
+    // A log of that block, whose last entry found the limit.
+    pub(crate) ghost log: { List Entry } by { coded_log },
 }
 
 impl Model for Full {

@@ -1,4 +1,4 @@
-use Rattle.handles.proofs.Logs.Founds.{found_word, read_found}
+use Rattle.handles.proofs.Logs.Founds.{read_found}
 use Rattle.handles.proofs.block.handle.Handle.first_attempt.Goals as goal
 
 -- the read found the word
@@ -9,6 +9,6 @@ next_attempt-requires-clause-seen g c = let read = c.read-word in (
   read.ensures.id,
   read.ensures.right,
   read.ensures.within,
-  found_word _ _ _ read.result.0 read.result.1.log read.ensures.log,
+  (_, _, read.ensures.log),
   read_found _ c.args.self.now.held.limit.in_range _ _ read.result.0 read.result.1.log read.ensures.log,
 )

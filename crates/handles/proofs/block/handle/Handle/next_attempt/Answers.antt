@@ -1,4 +1,4 @@
-use Rattle.handles.proofs.Logs.Founds.{found_word, lost_right, lost_raise, raise_found}
+use Rattle.handles.proofs.Logs.Founds.{lost_right, raise_found}
 use Rattle.handles.proofs.block.handle.Handle.next_attempt.Goals as goal
 
 -- a raise that was lost found the word
@@ -10,9 +10,9 @@ returns-else-found-word-clause-shows g c = let raise = c.raise-found in (
     raise.ensures.id,
     lost_right c.args.word raise.result.0 raise.result.1.right raise.ensures.right c.if-found-word.false,
     raise.ensures.within,
-    found_word _ _ _ raise.result.0 raise.result.1.log raise.ensures.log,
+    (_, _, raise.ensures.log),
     raise_found _ c.args.self.now.held.limit.in_range _ _ _ raise.result.0 raise.result.1.log raise.ensures.log
         c.if-found-word.false,
   ),
-  lost_raise _ _ _ _ raise.result.0 raise.result.1.log raise.ensures.log c.if-found-word.false,
+  (_, _, raise.result.0, raise.ensures.log, c.if-found-word.false),
 )

@@ -4,4 +4,4 @@ use Rattle.handles.proofs.block.handle.Handle.raise_again.Given as goal
 
 -- the permit is that of a raise that was lost
 abbrev pub invariant-loop : goal.invariant-loop
-invariant-loop g l = IsSeen l.self l.word l.permit × LostRaise l.self.number l.permit.log
+invariant-loop g l = IsSeen l.self l.word l.permit × LostRaise l.self.held.limit.count l.self.number l.permit.log

@@ -1,7 +1,7 @@
 #!/usr/bin/env bash
-# Runs each script of examples/, NAME in the folder of its machine, with the arguments of NAME.args if that is there: it
-# prints NAME.stdout, just the blocks that it marks are never freed, and under valgrind, if that is installed, no freed
-# memory is read. No printed lines and no arguments stand there without a script.
+# Runs each script of examples/, NAME in the folder of its machine, with the arguments of NAME.args: it prints
+# NAME.stdout, just the blocks that it marks are never freed, and under valgrind, if that is installed, no freed memory
+# is read. No printed lines and no arguments stand there without a script.
 set -u
 cd "$(dirname "$0")/../examples"
 program=../crates/arcbench/out/arcbench
@@ -24,8 +24,7 @@ for script in core/* table/*; do
         ;;
     esac
     count=$((count + 1))
-    words=("${script%/*}" 3)
-    [[ -f $script.args ]] && mapfile -t -O 2 words <"$script.args"
+    mapfile -t words < <(echo "${script%/*}" && cat "$script.args")
     # No example marks a block of a table twice, and a core has no blocks.
     marked=0
     [[ $script = table/* ]] && marked=$(grep -c '^mark ' "$script")

@@ -1,8 +1,8 @@
 #!/usr/bin/env bash
 # copy_crates copies crates into another repository as they are here, so what is proved here is proved there. Over an
-# older copy it leaves nothing of that, and all that is the user's own. In the copy the first example runs, and the
-# checker lets no handle and no list of a cell, which threads may not share, be lent, moved or sent to a thread. In a
-# third repository it refuses the code of docs/DECISIONS.md.
+# older copy it leaves nothing of that, and all that is the user's own. In the copy the first example prints, unproved,
+# what README says of this toolchain, and the checker lets no handle and no list of a cell, which threads may not share,
+# be lent, moved or sent to a thread. In a third repository it refuses the code of docs/DECISIONS.md.
 set -uo pipefail
 cd "$(dirname "$0")/.."
 here=$PWD tree=$(mktemp -d) && new=$tree/new old=$tree/old
@@ -22,7 +22,9 @@ touch "$old"/crates/uses/{src,specs,proofs}/gone && sed -i '1i own: uses
 diff -r "$new/crates" "$old/crates" -x LICENSE || exit
 [[ $(cat "$old/HANDLES" "$old/crates/LICENSE") = $'own\nown' ]] || fail "what the user had of his own is lost"
 
+told=$(sed -n 's/.*first_example && rt try *# prints `\([^`]*\)`.*/\1/p' README.md)
 printed=$(cd "$new/crates/first_example" && rt try 2>&1 | head -1)
+[[ -n $told && $printed = "$told" ]] && grep -qF "\`$(rt version)\`" README.md || fail "$printed, by $(rt version)"
 cd "$new" && sed -i -E '/^pub fn \w+_elsewhere/s/\bu32\b/std::cell::Cell<u32>/g' crates/uses/src/crossing.rt
 refused=$(timeout 100 rt all check --jobs 1 2>&1 | grep -c 'the trait bound `UnsafeCell<u32>: Sync` is not satisfied')
 mkdir -p "$tree"/third/{.git,crates/bounds/src} && cd "$tree/third" && cp "$new/HANDLES" . && echo 'bounds:' >crates.txt
@@ -30,4 +32,4 @@ cd crates/bounds && sed -n '/^```rust$/,/^```$/{/^```/d;p}' "$here/docs/DECISION
 sed -i '1i #![tactic(auto)]' src/lib.rt && bounds=$(rt check --jobs 1 2>&1 |
     grep -c '^fn .*what it sends to a thread rests on a bound that is assumed of this thread alone')
 echo "elsewhere: the first example prints $printed, $refused places of 4 are refused, $bounds of 1 by its bound"
-[[ $printed = "5 9" ]] && ((refused == 4 && bounds == 1))
+((refused == 4 && bounds == 1))

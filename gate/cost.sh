@@ -1,7 +1,7 @@
 #!/usr/bin/env bash
 # Counts the instructions and requests for memory of the built program, if valgrind is installed: a step costs the same
-# with 10 handles and with 100,000, a birth the same on the average of 50,000 and of 100,000, lending no more than the
-# logarithm of the borrowers, and a command on a table of 1000 slots what it costs on 10.
+# with 10 handles of 2 owners and with 100,000 of 1000, a birth the same on the average of 50,000 and of 100,000,
+# lending no more than the logarithm of the borrowers, and a command the same on 10 slots and on 1000.
 set -u
 cd "$(dirname "$0")/.."
 command -v valgrind >/dev/null || {
@@ -12,7 +12,8 @@ program=crates/arcbench/out/arcbench
 
 # The instructions of a run on what comes from standard input, and its requests for memory.
 instructions() {
-    valgrind --tool=callgrind --callgrind-out-file=/dev/null "$program" "$@" 2>&1 >/dev/null | sed -n 's/.*Collected : \([0-9]*\).*/\1/p'
+    valgrind --tool=callgrind --callgrind-out-file=/dev/null "$program" "$@" 2>&1 >/dev/null |
+        sed -n 's/.*Collected : \([0-9]*\).*/\1/p'
 }
 requests() {
     valgrind "$program" "$@" 2>&1 >/dev/null | sed -n 's/.*total heap usage: \([0-9,]*\) allocs.*/\1/p' | tr -d ,
@@ -25,11 +26,9 @@ repeat() {
     yes "$(printf '%s\n' "$@")" | head -n $((times * $#))
 }
 
-# beyond SETUP ROUNDS.. : the instructions that the rounds add to those of the setup, in the words of `call`.
+# beyond WORDS SETUP ROUNDS.. : the instructions that the rounds add to those of the setup, with these arguments.
 beyond() {
-    local setup=$1
-    shift
-    echo $(($({ echo "$setup"; repeat "$@"; } | instructions $call) - $(echo "$setup" | instructions $call)))
+    echo $(($({ echo "$2"; repeat "${@:3}"; } | instructions $1) - $(echo "$2" | instructions $1)))
 }
 
 births() { repeat "$1" 'clone 0 0' 'raise 0'; }
@@ -51,15 +50,16 @@ at_most() {
     }
 }
 
-call='core 2'
-at_most 110 "instructions of 1000 rounds of steps with 10 and with 100,000 handles" \
-    "$(beyond "$(births 10)" 1000 "${steps[@]}")" "$(beyond "$(births 100000)" 1000 "${steps[@]}")"
-at_most 220 "instructions of 50,000 and of 100,000 births" "$(births 50000 | instructions core 1)" "$(births 100000 | instructions core 1)"
-at_most 300 "requests for memory of 1000 and of 100,000 births" "$(births 1000 | requests core 1)" "$(births 100000 | requests core 1)"
-call='core 1000'
+at_most 110 "instructions of 1000 rounds of steps with 10 handles of 2 owners, and with 100,000 of 1000" \
+    "$(beyond 'core 2' "$(births 10)" 1000 "${steps[@]}")" "$(beyond 'core 1000' "$(births 100000)" 1000 "${steps[@]}")"
+at_most 220 "instructions of 50,000 and of 100,000 births" \
+    "$(births 50000 | instructions core 1)" "$(births 100000 | instructions core 1)"
+at_most 300 "requests for memory of 1000 and of 100,000 births" \
+    "$(births 1000 | requests core 1)" "$(births 100000 | requests core 1)"
+lend=(2000 'lend 0 0 1' 'return 1 0')
 at_most 400 "instructions of 2000 lendings beside 9 and beside 900 borrowers" \
-    "$(beyond "$(lendings 9)" 2000 'lend 0 0 1' 'return 1 0')" "$(beyond "$(lendings 900)" 2000 'lend 0 0 1' 'return 1 0')"
-call='table 1000'
+    "$(beyond 'core 1000' "$(lendings 9)" "${lend[@]}")" "$(beyond 'core 1000' "$(lendings 900)" "${lend[@]}")"
 at_most 110 "instructions of 500 rounds of commands on 10 and on 1000 slots" \
-    "$(beyond "$(filled 10)" 500 "${commands[@]}")" "$(beyond "$(filled 1000)" 500 "${commands[@]}")"
+    "$(beyond 'table 10' "$(filled 10)" 500 "${commands[@]}")" \
+    "$(beyond 'table 1000' "$(filled 1000)" 500 "${commands[@]}")"
 ((failed == 0))

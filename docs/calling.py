@@ -5,7 +5,8 @@ them, functions without a type last. Of each type come first its makers, then th
 it and use it up. Calls of one kind with the same clauses share them. Laws, which take nothing and promise what their
 names spell, share a line, and so do the calls without a clause at the end.
 
-With --check it writes nothing, and ends with 1 if a block is not up to date, or does not name what it quotes."""
+With --check it writes nothing, and ends with 1 if a block is not up to date, or does not name what it quotes, or if no
+block quotes a crate that docs/TOUR.md names, as in `trees`, or that such a crate names in crates.txt."""
 import re
 import sys
 from itertools import chain, groupby
@@ -114,8 +115,18 @@ def calls(folders, order):
     yield from wrap("without a clause: " + "; ".join(rows), COLUMNS, subsequent_indent="  ") if silent else ()
 
 
+def toured():
+    """The source of each crate with public calls that the tour names, and of those that it stands on."""
+    used = dict(re.findall(r"^(\w+).*?:(.*)", (CRATES.parent / "crates.txt").read_text(), re.M))
+    named = set(re.findall(r"\bin `(\w+)`", (CRATES.parent / "docs" / "TOUR.md").read_text())) & used.keys()
+    for name in sorted(named.union(*(used[name].split() for name in named)) & used.keys()):
+        sources = (path.read_text() for path in (CRATES / name / "src").rglob("*.rt"))
+        if any(public for source in sources for _, public, _ in functions(source)):
+            yield f"{name}/src"
+
+
 def main():
-    old = []
+    old, quoted = [], set()
     for page in sorted(CRATES.glob("*/CALLING.md")):
         text = page.read_text()
         new = BLOCK.sub(lambda block: "\n".join([
@@ -125,6 +136,9 @@ def main():
             page.write_text(new)
         elif new != text or not all(map(HEAD.fullmatch, re.findall("^```(.*)", text, re.M)[::2])):
             old.append(f"{page.parent.name}/CALLING.md: a block is not that of the source")
+        quoted.update(chain.from_iterable(block[1].split() for block in BLOCK.finditer(text)))
+    if "--check" in sys.argv:
+        old += [f"{folder}: no CALLING.md quotes its calls" for folder in toured() if folder not in quoted]
     sys.exit("\n".join(old) or None)
 
 

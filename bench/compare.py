@@ -39,6 +39,7 @@ PROCESSORS = os.sched_getaffinity(0)
 UNTOLD = ("at the goal", "busy")
 VERDICTS = ("met",) + UNTOLD + ("missed",)
 FEWEST = 9  # rounds, however long they take
+NOISE = 0.02
 COLUMNS = (["workload", "rounds", "program_ns"] + [peer + "_ns" for peer in PEERS] + ["ratio", "low", "high"]
            + [peer + "_ratio" for peer in PEERS[1:]]
            + ["least_ratio", "control", "control_from", "control_to", "goal", "judged_from", "judged_to", "verdict",
@@ -60,7 +61,7 @@ def arguments():
     parser.add_argument("--most", type=int, default=61, help="the most rounds, if fewer do not tell")
     parser.add_argument("--most-seconds", type=float, default=60, help="after which no round follows the first nine")
     parser.add_argument("--seconds", type=float, default=0.12, help="about what a run takes")
-    parser.add_argument("--noise", type=float, default=0.02, help="how far the control may be from 1")
+    parser.add_argument("--noise", type=float, default=NOISE, help="how far the control may be from 1")
     parser.add_argument("--instructions", action="store_true", help="counts them too, by callgrind")
     parser.add_argument("--table", help="a file for the figures, a line a workload, with tabs")
     return parser.parse_args()
@@ -308,4 +309,5 @@ def main():
     sys.exit(2 if wrong else 1 if missed else 3 if at_goal or busy else 0)
 
 
-main()
+if __name__ == "__main__":
+    main()

@@ -6,7 +6,8 @@
   none is of docs/DECISIONS.md, and the checker refuses it: gate/elsewhere.sh;
 - what a command prints on an example, as after `# prints:`, is what the example's expected lines say;
 - docs/SPEED.md shows the figures of bench/maps.tsv, and of bench/measured.tsv some, with each that misses its goal;
-  docs/speed.svg is drawn from the latter.
+  docs/speed.svg is drawn from the latter;
+- bench/measured.tsv has each goal of bench/goals.tsv and no other, with the verdict that follows from its figures.
 """
 import csv
 import re
@@ -15,6 +16,8 @@ import sys
 from pathlib import Path
 
 ROOT = Path(__file__).resolve().parent.parent
+sys.path.append(str(ROOT / "bench"))
+from compare import NOISE, judgement, read_goals
 LINK = re.compile(r"\[((?:[^\]\[]|\[[^\]]*\])+)\]\(([^)\s]+)\)")
 REFERENCE = re.compile(r"\]\[|^ *\[[^\]]+\]:", re.M)
 PRINTS = re.compile(r"< examples/(\w+/\w+) +# prints: (.*)")
@@ -105,11 +108,30 @@ def wrong_speed():
         yield "speed.svg"
 
 
+def verdict(row, most):
+    """What bench/compare.py says of the figures of a workload."""
+    control = {name: float(row[name]) for name in ("control_from", "control_to")}
+    judged = float(row["judged_from"]), float(row["judged_to"])
+    return judgement(control, judged, most, row["goal"], NOISE)["verdict"]
+
+
+def wrong_verdicts():
+    """The workloads whose goal is not in bench/goals.tsv or whose verdict is another, and the goals of no workload."""
+    found = read_goals(ROOT / "bench" / "goals.tsv").items()
+    goals = {(name, goal): most for name, of_one in found for _, most, goal in of_one}
+    for row in table("measured.tsv"):
+        most = goals.pop((row["workload"], row["goal"]), None)
+        if most is None or verdict(row, most) != row["verdict"]:
+            yield f"the goal or the verdict of {row['workload']}"
+    yield from (f"the goal {goal} of {name}" for name, goal in goals)
+
+
 def main():
     listed = subprocess.run(["git", "ls-files", "*.md"], cwd=ROOT, capture_output=True, text=True, check=True)
     documents = [ROOT / name for name in listed.stdout.split()]
     wrong = [f"{document.relative_to(ROOT)}: {line}" for document in documents for line in wrong_in(document)]
     wrong += [f"docs/SPEED.md: not as measured: {name}" for name in wrong_speed()]
+    wrong += [f"bench/measured.tsv: {name}" for name in wrong_verdicts()]
     print("\n".join([*wrong, f"documents: {len(documents)}, {len(wrong)} wrong"]))
     return 1 if wrong else 0
 

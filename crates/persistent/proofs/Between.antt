@@ -142,11 +142,6 @@ module _ {K V : Type 0} (cmp : K → K → Ordering) (q : K) where
   rank_same l e r is h =
       let none : rank cmp q (e ∷ []) ≡ 0 = rw h refl in omega (arith, rank_between l (e ∷ []) r is, none)
 
--- in no entries a key has the rank 0
-pub rank_nil : {K : Type 0} (V : Type 0) (cmp : K → K → Ordering) (q : K) → rank {V = V} cmp q [] ≡ 0
-unfolding rank
-rank_nil V cmp q = refl
-
 -- no key has a rank above the number of entries
 pub rank_most : {K V : Type 0} (cmp : K → K → Ordering) (q : K) (es : List (K × V)) → rank cmp q es ≤ length es
 unfolding rank

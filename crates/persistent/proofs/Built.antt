@@ -1,8 +1,8 @@
 -- The children that a node becomes, of which the last is split off first.
 use Rattle.std.proofs.Common.{◌≡◌, ◌+◌, ◌<◌, ◌^◌, ℕ, List, [], ◌∷◌, ◌++◌, length, reverse, ap, sym, ◌∙◌, subst}
-use Rattle.std.proofs.Common.{append-nil, append_assoc, arith}
+use Rattle.std.proofs.Common.{append_assoc, arith}
 use Rattle.std.proofs.lemmas.List.{reverse-append}
-use Rattle.std.proofs.lemmas.List.Elements.{All-cons, All-nil}
+use Rattle.std.proofs.lemmas.List.Elements.{All-cons}
 use Rattle.std.specs.List.{All}
 use Rattle.std.specs.declared.cmp.Ordering.{Ordering}
 use Rattle.persistent.specs.declared.tree.Child.{Child}
@@ -15,10 +15,6 @@ module _ {K V : Type 0} where
   pub record IsBefore (h : ℕ) (all front : List (K × V)) (cs : List (Child K V)) : Type 0 where
     pub each : All (IsChild h) (reverse cs)
     pub entries : front ++ entries_in (reverse cs) ≡ all
-
-  -- before anything is split off
-  pub parts_none : (h : ℕ) (all : List (K × V)) → IsBefore h all all []
-  parts_none h all = record { each = All-nil (IsChild h); entries = append-nil all }
 
   -- one more child takes over the back of what stands in front
   pub parts_more : (h : ℕ) (all front left : List (K × V)) (cs : List (Child K V)) (c : Child K V)

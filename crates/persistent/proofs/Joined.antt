@@ -1,7 +1,7 @@
 -- A node two of whose children, side by side, became one or two others.
-use Rattle.std.proofs.Common.{◌≡◌, ◌+◌, ◌<◌, ◌≤◌, ◌^◌, ℕ, zero, suc, true, false, List, [], ◌∷◌, ◌++◌, length, take}
+use Rattle.std.proofs.Common.{◌≡◌, ◌+◌, ◌<◌, ◌≤◌, ◌^◌, ℕ, suc, true, false, List, [], ◌∷◌, ◌++◌, length, take}
 use Rattle.std.proofs.Common.{drop, get_or, set, ap, sym, ◌∙◌, subst, arith, length-append, length-drop, length-set}
-use Rattle.std.proofs.Common.{append_assoc, append-nil, ◌*◌, ◌-◌, add-one, inl, inr, refl}
+use Rattle.std.proofs.Common.{append_assoc, append-nil, ◌-◌, add-one, inl, inr, refl}
 use Rattle.std.specs.Int.{from_bool}
 use Rattle.std.specs.Prelude.{Bool, Some, not}
 use Rattle.std.specs.List.{All, insert, remove}
@@ -10,7 +10,6 @@ use Rattle.std.proofs.lemmas.List.{get_or-append_right, get_or-set_same}
 use Rattle.std.proofs.lemmas.List.Elements.{All-append, All-cons, All-nil}
 use Rattle.std.proofs.lemmas.List.Concat.{flat_map-append}
 use Rattle.std.proofs.lemmas.Bool.{cases_Bool}
-use Rattle.std.proofs.lemmas.Grind.{pow_more}
 use Rattle.std.proofs.lemmas.List.Edits.{get_or-remove_below, insert-append_right, length-remove}
 use Rattle.std.proofs.lemmas.Nat.{pow_pos}
 use Rattle.std.proofs.Math.Seq.{drop-append-add, take-length}
@@ -27,10 +26,6 @@ use Rattle.persistent.proofs.Halves.{child_is, children_are, children_drop, chil
 use Rattle.persistent.proofs.Halves.{replaced}
 use Rattle.persistent.proofs.Wide.{some_in}
 use Rattle.persistent.proofs.Steps.{split_at}
-
--- two pairs of the same parts
-pub pair_same : {A B : Type 0} (a c : A) (b d : B) → a ≡ c → b ≡ d → ◌≡◌ {A = A × B} (a, b) (c, d)
-pair_same {A} {B} a c b d p q = ap {B = A × B} (λ (x : A). (x, b)) p ∙ ap {B = A × B} (λ (y : B). (c, y)) q
 
 module _ {X : Type 0} where
   -- a list around two items
@@ -280,29 +275,7 @@ module _ {K V : Type 0} (cmp : K → K → Ordering) where
         (sym (put ∙ ap (λ (xs : List (Child K V)). insert (set xs i l) (i + 1) r) room))
         (split_one l r o under child halves was n place)
 
-  -- the only child can lose an entry if the node can
-  pub only_child : (cs : List (Child K V)) (i : ℕ) (d : Child K V) → AreChildren cmp cs → length cs ≡ 1
-      → i < length cs → 2 ^ height_in cs < 2 * length (entries_in cs) → CanLose (get_or cs i d).tree
-  only_child [] i d are one h wide = absurd (omega arith)
-  only_child (c ∷ x ∷ cs) i d are one h wide = absurd (omega arith)
-  only_child (c ∷ []) (suc i) d are one h wide = absurd (omega arith)
-  only_child (c ∷ []) zero d are one h wide =
-      let level = (are.each 0 c (omega arith)).level in
-      let more : 2 ^ (c.tree.1 + 1) < 2 * length (c.tree.0 ++ []) =
-      subst (λ (n : ℕ). 2 ^ n < 2 * length (c.tree.0 ++ [])) (sym level) wide in
-      omega (arith, more, pow_more 2 c.tree.1, length-append c.tree.0 [])
-
 module _ {K V : Type 0} (cmp : K → K → Ordering) where
-  -- the entries of two neighbours are a map, and the two are as high
-  pub pair_map : (c next : Child K V) → AreChildren cmp (c ∷ next ∷ []) → IsMap cmp (c.tree.0 ++ next.tree.0)
-  pair_map c next are =
-      subst (IsMap cmp) (ap (λ (es : List (K × V)). c.tree.0 ++ es) (append-nil next.tree.0)) are.map
-
-  -- the two are as high
-  pub pair_level : (c next : Child K V) → AreChildren cmp (c ∷ next ∷ []) → c.tree.1 ≡ next.tree.1
-  pair_level c next are =
-      omega (arith, (are.each 0 c (omega arith)).level, (are.each 1 c (omega arith)).level)
-
   -- one child of both
   pub joined_is : (c next new : Child K V) → AreChildren cmp (c ∷ next ∷ []) → new.key ≡ c.key
       → new.len ≡ c.len + next.len → new.tree ≡ (c.tree.0 ++ next.tree.0, c.tree.1) → IsChild (c.tree.1 + 1) new

@@ -130,11 +130,6 @@ module _ {K V : Type 0} (cmp : K → K → Ordering) where
     above_first q l e r h s =
         (h, above_more q e.0 r h (rises_back l (e ∷ r) (to (l ++ e ∷ r) s)).0)
 
-    -- a key of an entry is below all after it
-    pub above_here : (q : K) (l : List (K × V)) (e : K × V) (r : List (K × V)) → cmp q e.0 ≡ Equal
-        → IsRising cmp (l ++ e ∷ r) → AreAbove cmp q r
-    above_here q l e r h s = above_alike q e.0 r h (rises_back l (e ∷ r) (to (l ++ e ∷ r) s)).0
-
     -- the same, of entries whose keys rise
     over : (q : K) (l : List (K × V)) (e : K × V) (r : List (K × V)) (o : Ordering) → cmp q e.0 ≡ o
         → is_lt o ≡ false → Rises (l ++ e ∷ r) → AreBelow cmp q l

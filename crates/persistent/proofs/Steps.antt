@@ -65,13 +65,6 @@ module _ {K V : Type 0} (cmp : K → K → Ordering) (total : IsTotalOrder cmp) 
         equal = λ e. ap (λ (y : K × V). cmp q y.0) (get_or_default es i e d h) ∙ was ∙ eq_from o t;
       }
 
-      -- the key would stand before the entry
-      pub missing_here : is_lt o ≡ true → IsMissing cmp q es i
-      missing_here t = record {
-        within = omega arith;
-        between = record { below = below; above = above_at t };
-      }
-
       -- the key would stand behind the entry
       pub missing_after : is_eq o ≡ false → is_lt o ≡ false → IsMissing cmp q es (i + 1)
       missing_after t u = record {

@@ -1,6 +1,6 @@
 //! A map in the order of its keys, whose versions share their nodes.
 ghost use Rattle.std.specs.Prelude.{◌≡◌, ◌+◌, ◌^◌, ◌<◌, ◌≤◌, ◌↔◌, [], IsTrue};
-ghost use Rattle.std.specs.Prelude.{◌-◌, None, Some, IfOk, OnOk, OnErr, IfNone, IfSome};
+ghost use Rattle.std.specs.Prelude.{◌-◌, None, Some, IfOk, IsOk, OnOk, OnErr, IfNone, IfSome};
 ghost use Rattle.std.specs.Prelude.{cond, is_some, length, slice_get};
 ghost use Rattle.std.specs.Fn.{FnOnceTakesAtMut};
 ghost use Rattle.std.specs.Option.{ForSome, option_copied};
@@ -212,6 +212,7 @@ impl<K: Ord + Clone, V: Clone> TreeMap<K, V> {
         ensures entries { OnOk result (self.new ≡ without K.cmp key.now self.old) }
         ensures changes { OnOk result ((k : K) → lookup K.cmp k self.new
             ≡ cond (is_eq (K.cmp k key.now)) None (lookup K.cmp k self.old)) }
+        ensures none { lookup K.cmp key.now self.old ≡ None → IsOk result }
         ensures refused { OnErr result (self.new ≡ self.old) }
     {
         let Some(tree) = &mut self.root else {
@@ -249,6 +250,7 @@ impl<K: Ord + Clone, V: Clone> TreeMap<K, V> {
             ((lookup K.cmp key.now self.old ≡ None) × (self.new ≡ self.old))) }
         ensures changed { IfOk result (λ answer. IfSome answer
             (ChangesValue F.FnOnce change K.cmp key.now self.old self.new)) }
+        ensures none { lookup K.cmp key.now self.old ≡ None → IsOk result }
         ensures refused { OnErr result (self.new ≡ self.old) }
     {
         let Some(tree) = &mut self.root else {

@@ -1,9 +1,10 @@
 -- The parts of what a node has, and nodes that are made of them.
 use Rattle.std.proofs.Common.{◌≡◌, ◌+◌, ◌<◌, ◌≤◌, ◌^◌, ℕ, List, [], ◌∷◌, ◌++◌, length, take, drop, get_or, ap}
 use Rattle.std.proofs.Common.{sym, ◌∙◌, subst, arith, take-append-drop, length-append, length-take, length-drop, refl}
-use Rattle.std.proofs.Common.{append-nil, ◌-◌}
-use Rattle.std.specs.Prelude.{Some}
-use Rattle.std.specs.List.{All}
+use Rattle.std.proofs.Common.{append-nil, ◌-◌, Bool, true, eq-eqb}
+use Rattle.std.specs.Prelude.{Some, cond, nat_eq}
+use Rattle.std.specs.List.{All, list_all}
+use denote.Param.Weighed.{most}
 use Rattle.std.proofs.lemmas.List.{drop_more, drop-drop}
 use Rattle.std.proofs.lemmas.List.Concat.{flat_map-append}
 use Rattle.std.proofs.lemmas.List.Elements.{All-tail, All-take, All-drop, All-append, All-cons, All-nil}
@@ -18,14 +19,30 @@ use Rattle.persistent.proofs.Order.{rising_front, rising_back}
 use Rattle.persistent.proofs.Wide.{some_in, two_children, three_children}
 
 module _ {K V : Type 0} where
+  -- of children on one level the highest stands there
+  most_is : (h : ℕ) (cs : List (Child K V)) → All (IsChild h) cs → 0 < length cs → most (λ c. c.tree.1 + 1) cs ≡ h
+  most_is h [] a p = absurd (omega arith)
+  most_is h (c ∷ []) a p = let here = (a 0 c (omega arith)).level in omega arith
+  most_is h (c ∷ d ∷ ds) a p =
+      let here = (a 0 c (omega arith)).level in
+      let rest = most_is h (d ∷ ds) (All-tail (IsChild h) c (d ∷ ds) a) (omega arith) in
+      omega arith
+
+  -- and no two of them differ
+  none_differs : (n : ℕ) (cs : List (Child K V)) → All (IsChild (n + 1)) cs
+      → list_all (λ c. nat_eq c.tree.1 n) cs ≡ true
+  none_differs n [] a = refl
+  none_differs n (c ∷ cs) a =
+      let here : c.tree.1 ≡ n = omega (arith, (a 0 c (omega arith)).level) in
+      rw (eq-eqb c.tree.1 n here) (none_differs n cs (All-tail (IsChild (n + 1)) c cs a))
+
   -- children on one level have that height
   pub height_is : (h : ℕ) (cs : List (Child K V)) → All (IsChild h) cs → 0 < length cs → height_in cs ≡ h
   height_is h [] a p = absurd (omega arith)
-  height_is h (c ∷ []) a p = let here = (a 0 c (omega arith)).level in omega arith
-  height_is h (c ∷ d ∷ ds) a p =
-      let here = (a 0 c (omega arith)).level in
-      let rest : height_in (d ∷ ds) ≡ h = height_is h (d ∷ ds) (All-tail (IsChild h) c (d ∷ ds) a) (omega arith) in
-      omega arith
+  height_is h (c ∷ cs) a p =
+      let level = subst (λ (h : ℕ). All (IsChild h) (c ∷ cs)) (sym (a 0 c (omega arith)).level) a in
+      let same = none_differs c.tree.1 cs (All-tail (IsChild (c.tree.1 + 1)) c cs level) in
+      omega (arith, most_is h (c ∷ cs) a p, ap (λ (b : Bool). cond b 0 (2 ^ 64)) same)
 
   -- entries with a first key are some
   some_first : (es : List (K × V)) (key : K) → first_key es ≡ Some key → 0 < length es

@@ -1,7 +1,7 @@
 -- What a tree is seen as by its first node, and what holds of that node.
-use Rattle.std.specs.Prelude.{◌≡◌, ℕ, ◌+◌, ◌<◌, ◌≤◌, ◌^◌, List, [], ◌∷◌, ◌++◌, length}
+use Rattle.std.specs.Prelude.{◌≡◌, ℕ, ◌+◌, ◌<◌, ◌≤◌, ◌^◌, Bool, true, cond, nat_eq, List, [], ◌∷◌, ◌++◌, length}
 use Rattle.std.specs.Prelude.{Option, None, Some, take, drop}
-use Rattle.std.specs.List.{All, flat_map}
+use Rattle.std.specs.List.{All, flat_map, list_all}
 use Rattle.std.specs.declared.cmp.Ordering.{Ordering}
 use denote.Param.Weighed.{most}
 use Rattle.persistent.specs.Maps.{IsRising}
@@ -14,14 +14,23 @@ module _ {K V : Type 0} where
   abbrev pub entries_in : List (Child K V) → List (K × V)
   entries_in children = flat_map (λ c. c.tree.0) children
 
-  -- one more than that of the highest child
+  -- whether these children are equally high
+  abbrev pub are_level : List (Child K V) → Bool
+  are_level [] = true
+  are_level (c ∷ cs) = list_all (λ d. nat_eq d.tree.1 c.tree.1) cs
+
+  -- one more than that of the highest child, and 2 ^ 64 more where two children differ
   abbrev pub height_in : List (Child K V) → ℕ
-  height_in children = most (λ c. c.tree.1 + 1) children
+  height_in children = most (λ c. c.tree.1 + 1) children + cond (are_level children) 0 (2 ^ 64)
 
   -- the entries of the tree of that first node, and its height
   abbrev pub seen : Node K V → List (K × V) × ℕ
   seen (Leaf entries) = (entries.items, 0)
   seen (Branch children) = (entries_in children.items, height_in children.items)
+
+  -- no branch of the tree has two children that differ in height: all leaves are equally deep
+  abbrev pub IsLevel : List (K × V) × ℕ → Type 0
+  IsLevel tree = tree.1 < 2 ^ 64
 
   abbrev pub entries_under : Option (List (K × V) × ℕ) → List (K × V)
   entries_under None = []

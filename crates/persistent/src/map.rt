@@ -8,7 +8,7 @@ ghost use Rattle.std.specs.Ordering.{is_eq};
 ghost use Rattle.servo_arc.specs.Copies.{CopiesAreEqual};
 ghost use Rattle.persistent.specs.Changes.{ChangesValue};
 ghost use Rattle.persistent.specs.Maps.{IsRising, lookup, rank, with_entry, without};
-ghost use Rattle.persistent.specs.Nodes.{IsDeep, entries_under};
+ghost use Rattle.persistent.specs.Nodes.{IsDeep, IsLevel, entries_under};
 
 pub(crate) mod diff;
 mod from_items;
@@ -86,17 +86,18 @@ impl<K: Ord, V> TreeMap<K, V> {
         self.len() == 0
     }
 
-    /// The nodes of the map, which has some if it has an entry. They tell how deep the map is.
+    /// The nodes of the map, which has some if it has an entry. All leaves of them are equally deep.
     #[inline(always)]
     pub fn tree(&self) -> Option<&Tree<K, V>>
         ensures entries { entries_under (option_copied result) ≡ self.now }
         ensures none { (result ≡ None) ↔ (self.now ≡ []) }
+        ensures level { IfSome result (λ tree. IsLevel tree.now) }
         ensures rising { IsRising K.cmp self.now }
     {
         match &self.root {
             None => None,
             Some(tree) => {
-                // It has an entry, and its keys rise.
+                // It has an entry and is level, and its keys rise.
                 let _ = tree.node();
                 Some(tree)
             }

@@ -20,8 +20,8 @@ use std::marker::Model;
 ///
 /// A contract sees it as a pair: the entries, in the order of their keys, and the height, which is how many branches
 /// stand above each leaf. The height is read off the nodes themselves: it is 0 at a leaf, and at a branch one more than
-/// that of its highest child. So the clause of `depth` speaks of the nodes that stand there, and not of another tree
-/// with the same entries.
+/// that of its highest child, and 2^64 more where two children differ. So the clauses of `TreeMap::tree` and of `depth`
+/// speak of the nodes that stand there, and not of another tree with the same entries.
 #[cycle(tree)]
 #[derive(Drop)]
 pub struct Tree<K: Ord, V> {

@@ -15,6 +15,10 @@ branch g t c =
     rw c.in-Branch.is at (made g.K.Ord.cmp c.args.self.now c.self.inside.root c.in_ok-entries.field-0.now
     c.self.invariant c.self.view_is c.in_ok-entries.ensures.value c.requires.copies)
 
+pub child_of-at-requires : goal.child_of-at-requires
+child_of-at-requires g t c =
+    rw c.deref.ensures.value (branch g t (goal.at.child_of-at-requires g t c).In-Branch).whole
+
 pub modify-requires : goal.modify-requires
 modify-requires g t c κs within =
     let cmp = g.K.Ord.cmp in

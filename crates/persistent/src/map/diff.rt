@@ -19,7 +19,8 @@ pub enum Change<'a, V> {
 }
 
 impl<K: Ord, V: PartialEq> TreeMap<K, V> {
-    /// What differs in the newer map, in the order of the keys.
+    /// What differs in the newer map, in the order of the keys. Two values differ if `==` says so. A key that both maps
+    /// have is that of the older one; the clauses fix it only up to `cmp`.
     ///
     /// It goes through both maps once, also if they share their nodes. It is refused if there is no memory.
     pub fn diff<'a>(

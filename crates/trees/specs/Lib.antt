@@ -1,4 +1,3 @@
 pub mod Changes
 pub mod Roses
-pub mod Stacks
 pub mod Versions

@@ -1,10 +1,7 @@
 //! The callers of the documentation, called: what they share, and on which threads.
-use crate::sharing::lists::end_on_a_small_stack;
 use persistent::{List, TreeMap};
 use servo_arc::Arc;
-use testing::counted::{Counted, Tally};
 use testing::{again, holds, ok, same};
-use trees::Stack;
 use uses::crossing::{end_elsewhere, is_unique_elsewhere, len_elsewhere, made_elsewhere};
 use uses::edits::{Article, two_titles};
 use uses::text_style::{
@@ -43,34 +40,6 @@ fn properties_stand_under_their_rule(rt: HostRuntime) {
     same!(&rt, rule_of(&list), 9);
     let numbers = ok!(&rt, vec![in rt.alloc(); 4, 5]);
     holds!(&rt, properties_of(rt.alloc(), 7, numbers).is_ok());
-}
-
-fn value_on_top(stack: &Stack<Counted<'_>>) -> Option<u64> {
-    Some(stack.top()?.value)
-}
-
-// Each item ends with the last version that has it.
-#[test]
-fn a_stack_shares_its_items(rt: HostRuntime) {
-    let tally = Tally::new();
-    let old = ok!(&rt, Stack::new().push(rt.alloc(), Counted::new(&tally, 1)));
-    let new = ok!(&rt, old.push(rt.alloc(), Counted::new(&tally, 2)));
-    let rest = ok!(&rt, new.rest());
-    drop(old);
-    drop(new);
-    let kept = (value_on_top(&rest), tally.drops());
-    drop(rest);
-    let seen = (kept, tally.drops(), tally.copies());
-    same!(&rt, seen, ((Some(1), 1), 2, 0));
-}
-
-#[test]
-fn a_tall_stack_ends_on_a_small_one(rt: HostRuntime) {
-    let mut tall = Stack::new();
-    for value in 0..100_000u64 {
-        tall = ok!(&rt, tall.push(rt.alloc(), value));
-    }
-    end_on_a_small_stack(&rt, tall);
 }
 
 #[test]

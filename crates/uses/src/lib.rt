@@ -7,7 +7,7 @@ pub mod crossing;
 pub mod documents;
 pub mod editions;
 pub mod edits;
-pub mod history;
+pub mod list_with_undo;
 pub mod published;
 pub mod read_back;
 pub mod recursive;

@@ -108,8 +108,8 @@ impl<T: Eq + Hash> Interner<T> {
 impl<T: Eq + Hash + Drop> Interner<T> {
     /// The symbol of the value, whose block is kept if no equal one is there, and dropped otherwise.
     ///
-    /// A value that is there takes no memory and cannot be refused. A new one takes none but for the table, now and
-    /// then. It takes O(1) steps on average.
+    /// A value that is there is never refused: no want of memory can hide it. A new one takes none but for the table,
+    /// now and then. It takes O(1) steps on average.
     pub fn intern_arc(&mut self, value: Arc<T>) -> Result<Symbol, InternError>
         ensures interned { IfOk result (IsInterned T.eq self.old value self.new) }
         ensures there { IsTrue (list_any (T.eq value) self.old) → IsOk result }

@@ -24,7 +24,7 @@ pub struct Rose<V> {
 /// Why no version was made. The tree stays as it was.
 #[derive(Clone, Copy, Debug, PartialEq, Eq, Error)]
 pub enum RoseError {
-    /// The path leads out of the tree. No memory was requested.
+    /// The path leads out of the tree, or the number of the child is too great. No want of memory can hide it.
     #[error("no such place")]
     NoSuchPlace,
     /// There was no memory, or a `clone` was refused.

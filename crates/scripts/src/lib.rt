@@ -16,12 +16,8 @@
 //!   been printed before. Memory that one line needs is no fault: the line is answered `memory` or `refused`.
 #![tactic(auto)]
 
-mod arguments;
-mod core_script;
-pub mod laws;
 mod program;
-mod step_line;
-mod table_line;
 mod table_script;
 
 pub use program::{bench, start};
+pub use script_lines::laws;

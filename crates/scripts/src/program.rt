@@ -5,12 +5,12 @@ ghost use Rattle.script_text.specs.Fault.{note_of, status_of};
 ghost use Rattle.script_text.specs.Written.{WroteBeginning};
 ghost use Rattle.script_text.specs.declared.fault.Fault.{Fault as EndedBy};
 ghost use Rattle.script_text.specs.declared.fault.Fault.TheVariants as Fault;
-ghost use Rattle.scripts.specs.Arguments.{AreWrong};
-ghost use Rattle.scripts.specs.Program.{DidAsAsked, DidByStatus};
+ghost use Rattle.script_lines.specs.Arguments.{AreWrong};
+ghost use Rattle.script_lines.specs.Program.{DidAsAsked, DidByStatus};
 
-use crate::arguments::Request;
-use crate::core_script::run_core_script;
 use crate::table_script::run_table_script;
+use script_lines::arguments::Request;
+use script_lines::core_script::run_core_script;
 use script_text::fault::Fault;
 use script_text::script;
 use std::alloc::{AllocError, Global};

@@ -5,11 +5,12 @@ ghost use Rattle.script_text.specs.Line.{IsInvalid};
 ghost use Rattle.script_text.specs.Script.{answer_text};
 ghost use Rattle.script_text.specs.Written.{Wrote};
 ghost use Rattle.script_text.specs.declared.fault.Fault.TheVariants as Fault;
-ghost use Rattle.scripts.specs.TableAnswer.{IsAnsweredBy, printed_reply, printed_slot};
-ghost use Rattle.scripts.specs.TableLine.{table_line};
-ghost use Rattle.scripts.specs.TableScript.{PrintsModelTable, TableAnswers};
+ghost use Rattle.script_lines.specs.TableAnswer.{IsAnsweredBy, printed_slot};
+ghost use Rattle.script_lines.specs.TableLine.{table_line};
+ghost use Rattle.script_lines.specs.TableScript.{PrintsModelTable, TableAnswers};
 
-use crate::table_line::{TableLine, read_table_line};
+use script_lines::table_answer::append_reply;
+use script_lines::table_line::{TableLine, read_table_line};
 use script_text::fault::Fault;
 use script_text::script::{Interpreter, answer_lines, append_with_number};
 use std::alloc::{AllocError, Global};
@@ -65,22 +66,6 @@ impl TableRunner {
             }
             TableLine::Get(slot) => append_reading(gathered, &self.table, slot),
         }
-    }
-}
-
-// Each reply by itself, so that its bytes are copied without a loop.
-fn append_reply(gathered: &mut Vec<u8>, reply: Reply) -> Result<(), AllocError>
-    ensures { OnOk result (gathered.new.items
-        ≡ gathered.old.items ++ answer_text (printed_reply reply)) }
-{
-    match reply {
-        Reply::Done => gathered.extend_from_slice(b"done\n"),
-        Reply::Is(true) => gathered.extend_from_slice(b"is true\n"),
-        Reply::Is(false) => gathered.extend_from_slice(b"is false\n"),
-        Reply::Shared => gathered.extend_from_slice(b"shared\n"),
-        Reply::Empty => gathered.extend_from_slice(b"empty\n"),
-        Reply::NoSlot => gathered.extend_from_slice(b"no slot\n"),
-        Reply::Refused => gathered.extend_from_slice(b"refused\n"),
     }
 }
 

@@ -1,3 +1,2 @@
-pub mod Changes
 pub mod RunLemmas
 pub mod SlotLemmas

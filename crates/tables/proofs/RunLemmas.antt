@@ -1,7 +1,7 @@
 -- Whole runs.
 use Rattle.std.proofs.Common.{List, [], ◌∷◌, ◌++◌, subst, refl}
-use Rattle.tables.specs.declared.commands.Reply.{Reply}
-use Rattle.tables.specs.Runs.{IsAmong, Means, Run}
+use Rattle.commands.specs.declared.Reply.{Reply}
+use Rattle.commands.specs.Runs.{IsAmong, Means, Run}
 
 module _ {C X : Type 0} (meaning : C → Means X) where
   -- a run goes on by one command

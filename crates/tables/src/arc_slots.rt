@@ -2,11 +2,11 @@
 #![tactic(auto, using(crate::proofs::SlotLemmas::slots))]
 
 ghost use Rattle.handles.specs.Copies.{CopiesAreEqual};
-ghost use Rattle.tables.specs.TableModel.{outcomes_of};
-ghost use Rattle.tables.specs.Runs.{IsAmong};
+ghost use Rattle.commands.specs.TableModel.{outcomes_of};
+ghost use Rattle.commands.specs.Runs.{IsAmong};
 
-use crate::commands::{Command, Reply};
 use crate::slots::Slots;
+use commands::{Command, Reply};
 use handles::arc::Arc;
 use std::alloc::Global;
 

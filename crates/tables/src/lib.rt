@@ -2,8 +2,6 @@
 #![tactic(auto)]
 
 mod arc_slots;
-mod commands;
-pub mod laws;
 pub mod serve;
 pub mod slots;
 pub mod table;

@@ -1,8 +1,8 @@
 //! Runs of commands, for every kind of table.
 ghost use Rattle.std.specs.Prelude.{◌≡◌, [], All, IfOk, IsOk, OnErr, ⊤};
-ghost use Rattle.tables.specs.Runs.{IsAmong, Means, Run};
+ghost use Rattle.commands.specs.Runs.{IsAmong, Means, Run};
 
-use crate::commands::Reply;
+use commands::Reply;
 use std::alloc::{AllocError, Global};
 
 /// A table that serves commands of this type.

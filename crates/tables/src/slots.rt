@@ -3,10 +3,10 @@ ghost use Rattle.std.specs.Prelude.{◌≡◌, ◌<◌, ◌↔◌, IfErr, IfOk, 
 ghost use Rattle.std.specs.Prelude.{length, replicate, slice_get, slice_set};
 ghost use Rattle.std.specs.Option.{option_flatten};
 ghost use Rattle.handles.specs.Copies.{CopiesAreEqual};
-ghost use Rattle.tables.specs.TableModel.{IsMissing, AreMissing, clones, compares, ends};
-ghost use Rattle.tables.specs.Runs.{IsAmong};
+ghost use Rattle.commands.specs.TableModel.{IsMissing, AreMissing, clones, compares, ends};
+ghost use Rattle.commands.specs.Runs.{IsAmong};
 
-use crate::commands::Reply;
+use commands::Reply;
 use std::alloc::{AllocError, Global};
 use std::marker::Model;
 

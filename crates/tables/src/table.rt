@@ -3,14 +3,12 @@ ghost use Rattle.std.specs.Prelude.{◌≡◌, [], IfOk, IsOk, IsTrue, OnErr, sl
 ghost use Rattle.std.specs.List.{list_any};
 ghost use Rattle.std.specs.Option.{option_copied, option_flatten};
 ghost use Rattle.handles.specs.Copies.{CopiesAreEqual};
-ghost use Rattle.tables.specs.TableModel.{is_own, outcomes_of, plain_outcomes_of};
-ghost use Rattle.tables.specs.Runs.{IsAmong, Run};
+ghost use Rattle.commands.specs.TableModel.{is_own, outcomes_of, plain_outcomes_of};
+ghost use Rattle.commands.specs.Runs.{IsAmong, Run};
 
-use crate::commands::CommandKind;
-pub use crate::commands::{Command, PlainCommand, Reply};
-pub use crate::laws;
 use crate::serve::{Serve, serve_all};
 use crate::slots::Slots;
+pub use commands::{Command, PlainCommand, Reply, laws};
 use handles::arc::Arc;
 use std::alloc::{AllocError, Global};
 
@@ -85,10 +83,18 @@ impl<T: Clone + PartialEq> Slots<Arc<T>> {
         requires copies { IsTrue (is_own command) → CopiesAreEqual T.is_clone }
         ensures { IsAmong (outcomes_of T.eq command self.old) result self.new }
     {
-        match command.into_kind() {
-            CommandKind::Plain(command) => self.serve_one(alloc, command),
-            CommandKind::MakeMut(i, value) => self.make_mut(alloc, i, value),
-            CommandKind::Own(i) => self.own(alloc, i),
+        match command {
+            Command::New(i, value) => self.new_handle(alloc, i, value),
+            Command::Clone(i, j) => self.clone_handle(i, j),
+            Command::Drop(i) => self.end(i),
+            Command::GetMut(i, value) => self.get_mut(i, value),
+            Command::IntoUnique(i, value) => self.into_unique(i, value),
+            Command::MakeMut(i, value) => self.make_mut(alloc, i, value),
+            Command::Own(i) => self.own(alloc, i),
+            Command::Mark(i) => self.mark(i),
+            Command::Raw(i) => self.raw(i),
+            Command::PtrEq(i, j) => self.ptr_eq(i, j),
+            Command::Same(i, j) => self.same(i, j),
         }
     }
 

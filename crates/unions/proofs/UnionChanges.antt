@@ -1,9 +1,9 @@
 -- What a command on unions may change: nothing, or the one slot that it writes.
 use Rattle.std.proofs.Common.{Bool, None, refl, inl}
-use Rattle.tables.proofs.Changes.{AllChange, AreChanges, number_stays, only_done, others_stay}
-use Rattle.tables.proofs.Changes.{reads, reads_both, set, set_or, there}
-use Rattle.tables.specs.TableLaws.{NumberOfSlotsStays, OnlyDoneChanges, OtherSlotsStay}
-use Rattle.tables.specs.TableModel.{Slots}
+use Rattle.commands.proofs.Changes.{AllChange, AreChanges, number_stays, only_done, others_stay}
+use Rattle.commands.proofs.Changes.{reads, reads_both, set, set_or, there}
+use Rattle.commands.specs.TableLaws.{NumberOfSlotsStays, OnlyDoneChanges, OtherSlotsStay}
+use Rattle.commands.specs.TableModel.{Slots}
 use Rattle.unions.specs.Unions.{Union, First, Second}
 use Rattle.unions.specs.declared.command.UnionCommand.TheVariants as union
 use Rattle.unions.specs.UnionTableModel.{of_one_block, union_outcomes_of, union_written}

@@ -1,8 +1,8 @@
 -- The reference model of a table of unions: each value is a first or a second.
 use Rattle.std.specs.Prelude.{ℕ, Bool, true, false, List, [], ◌∷◌, Option, Some, None}
-use Rattle.tables.specs.declared.commands.Reply.TheVariants.{Is, Refused}
-use Rattle.tables.specs.TableModel.{Slots, Outcome, Meaning, at, reading, reading_both, sets, stays}
-use Rattle.tables.specs.TableModel.{clones, ends, compares}
+use Rattle.commands.specs.declared.Reply.TheVariants.{Is, Refused}
+use Rattle.commands.specs.TableModel.{Slots, Outcome, Meaning, at, reading, reading_both, sets, stays}
+use Rattle.commands.specs.TableModel.{clones, ends, compares}
 use Rattle.unions.specs.Unions.{Union, First, Second, is_first, is_second, union_eq}
 use Rattle.unions.specs.declared.command.UnionCommand.{UnionCommand}
 use Rattle.unions.specs.declared.command.UnionCommand.TheVariants as command

@@ -1,5 +1,5 @@
 //! What holds of every command and of every run, by what commands mean.
-ghost use Rattle.tables.specs.TableLaws.{NumberOfSlotsStays, OnlyDoneChanges, OtherSlotsStay};
+ghost use Rattle.commands.specs.TableLaws.{NumberOfSlotsStays, OnlyDoneChanges, OtherSlotsStay};
 ghost use Rattle.unions.specs.UnionTableModel.{union_outcomes_of, union_written};
 
 /// No run changes the number of slots.

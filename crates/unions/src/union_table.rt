@@ -2,8 +2,8 @@
 ghost use Rattle.std.specs.Prelude.{◌≡◌, ◌<◌, ◌↔◌, [], IfErr, IfOk, IsOk, None, OnErr, OnOk, Some};
 ghost use Rattle.std.specs.Prelude.{length, option_map, replicate, slice_get, slice_set};
 ghost use Rattle.std.specs.Option.{option_flatten};
-ghost use Rattle.tables.specs.Runs.{IsAmong, Run};
-ghost use Rattle.tables.specs.TableModel.{clones, compares, ends};
+ghost use Rattle.commands.specs.Runs.{IsAmong, Run};
+ghost use Rattle.commands.specs.TableModel.{clones, compares, ends};
 ghost use Rattle.unions.specs.UnionHandles.{borrowed_union};
 ghost use Rattle.unions.specs.Unions.{union_eq};
 ghost use Rattle.unions.specs.UnionTableModel.{union_outcomes_of};

@@ -3,8 +3,8 @@ use Rattle.std.specs.Option.{ok_or}
 use Rattle.script_text.specs.declared.fault.Fault.{Fault}
 use Rattle.script_text.specs.declared.fault.Fault.TheVariants.{Input, Memory}
 use Rattle.script_text.proofs.Runs.{IsStopped, stopped_by}
-use Rattle.scripts.specs.declared.arguments.Request.{Request}
-use Rattle.scripts.proofs.Showing.{did_nothing}
+use Rattle.script_lines.specs.declared.arguments.Request.{Request}
+use Rattle.script_lines.proofs.Showing.{did_nothing}
 use Rattle.scripts.proofs.program.do_as_asked.Goals as goal
 
 -- what is known of the request that was found

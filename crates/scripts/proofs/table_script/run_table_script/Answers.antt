@@ -1,6 +1,6 @@
 use Rattle.script_text.specs.declared.fault.Fault.TheVariants.{Memory}
 use Rattle.script_text.proofs.Runs.{stopped_by}
-use Rattle.scripts.proofs.Showing.{table_prints, table_stopped}
+use Rattle.script_lines.proofs.Showing.{table_prints, table_stopped}
 use Rattle.scripts.proofs.table_script.run_table_script.Goals as goal
 
 pub returns-in_err-table-clause-wrote : goal.returns-in_err-table-clause-wrote

@@ -1,6 +1,6 @@
 use Rattle.std.proofs.Common.{All, ◌≡◌, ◌≤◌, ◌+◌, ◌++◌, length, vec_len, vec_capacity}
 use Rattle.std.specs.Vec.Iter.{into_iter_items, into_iter_len}
-use Rattle.tables.specs.Runs.{Run}
+use Rattle.commands.specs.Runs.{Run}
 use Rattle.tables.proofs.serve.serve_all.Given as goal
 
 abbrev pub invariant-loop-command : goal.invariant-loop-command

@@ -1,0 +1,58 @@
+//! What the argument words ask for.
+ghost use Rattle.std.specs.Prelude.{ℕ, IfSome, IfNone, map};
+ghost use Rattle.script_lines.specs.Arguments.{AskLimit};
+
+use counting_word::MAX_REFCOUNT;
+use script_text::number::parse_number;
+use std::convert::AsStr;
+
+const MOST_OWNERS: usize = 1000;
+
+const MOST_SLOTS: usize = 1000;
+
+/// A program that the arguments ask for.
+#[derive(Clone, Copy)]
+pub enum Request {
+    Core { owners: usize, limit: u64 },
+    Table { slots: usize },
+}
+
+impl Request {
+    ghost use Rattle.script_lines.specs.Arguments.{AreWrong, Asks};
+
+    /// What the words ask for, or nothing if they are wrong.
+    pub fn from_words<S: AsStr>(words: &[S]) -> Option<Request>
+        ensures asked { IfSome result (Asks (map S.text words.now)) }
+        ensures wrong { IfNone result (AreWrong (map S.text words.now)) }
+    {
+        let [kind, size, others @ ..] = words else {
+            return None;
+        };
+        let size = parse_number(size.as_str().as_bytes())? as usize;
+        match kind.as_str() {
+            "core" if 1 <= size && size <= MOST_OWNERS => Some(Request::Core {
+                owners: size,
+                limit: limit_from_words(others)?,
+            }),
+            "table" if size <= MOST_SLOTS && others.is_empty() => {
+                Some(Request::Table { slots: size })
+            }
+            _ => None,
+        }
+    }
+}
+
+/// The limit that the words after the number of owners ask for, or nothing if they are wrong.
+fn limit_from_words<S: AsStr>(words: &[S]) -> Option<u64>
+    ensures asked { IfSome result (AskLimit (map S.text words.now)) }
+    ensures wrong { IfNone result ((limit : ℕ) → ¬ (AskLimit (map S.text words.now) limit)) }
+{
+    match words {
+        [] => Some(MAX_REFCOUNT),
+        [limit] => match parse_number(limit.as_str().as_bytes())? {
+            0 => None,
+            limit => Some(u64::from(limit)),
+        },
+        _ => None,
+    }
+}

@@ -1,4 +1,0 @@
-pub mod CommandKinds
-pub mod Runs
-pub mod TableLaws
-pub mod TableModel

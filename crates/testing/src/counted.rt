@@ -28,6 +28,11 @@ impl Tally {
         self.copies.load(SeqCst)
     }
 
+    /// The copies and the drops.
+    pub fn read(&self) -> (u64, u64) {
+        (self.copies(), self.drops())
+    }
+
     /// How many values there are, if so many were made by no copy.
     pub fn living(&self, made: u64) -> u64 {
         made.wrapping_add(self.copies()).wrapping_sub(self.drops())
@@ -64,6 +69,21 @@ impl Clone for Counted<'_> {
             value: self.value,
             tally: self.tally,
         })
+    }
+}
+
+/// By their values.
+impl PartialEq for Counted<'_> {
+    ghost use Rattle.std.specs.Prelude.{◌==◌};
+    ghost use Rattle.std.specs.Cmp.{on_per, partial_equiv_from_equiv};
+    ghost use Rattle.std.proofs.lemmas.Cmp.{nat_eq_equiv};
+
+    ghost eq = { λ x y. x.value == y.value };
+
+    ghost laws = { on_per (λ x. x.value) (partial_equiv_from_equiv nat_eq_equiv) };
+
+    fn eq(&self, other: &Self) -> bool {
+        self.value == other.value
     }
 }
 

@@ -42,25 +42,33 @@ impl Drop for Placed<'_> {
     }
 }
 
-fn in_turn(alloc: Global, number: u64, log: &Log) -> Result<IntoIter<Placed<'_>>, AllocError> {
+// So many values, of which so many are taken. The rest is dropped with the iterator, and when that is, is left open.
+fn source_of<'a>(
+    alloc: Global,
+    (number, taken): (u64, u64),
+    log: &'a Log,
+    rest: &'a Log,
+) -> Result<IntoIter<Placed<'a>>, AllocError> {
     let mut made = Vec::new(alloc);
     for turn in 0..number {
+        let log = if turn < taken { log } else { rest };
         made.push(Placed { turn, log })?;
     }
     Ok(made.into_iter())
 }
 
-/// So many items are asked for, so many are there, and so it is refused.
+/// So many items are asked for, so many are there, or are taken, and so it is refused.
 type Row = (usize, u64, Option<BuildError>);
 
 const OVER: Option<BuildError> = Some(BuildError::OverReported);
 
 const UNDER: Option<BuildError> = Some(BuildError::UnderReported);
 
-const ROWS: [Row; 17] = [
+const ROWS: [Row; 18] = [
     (3, 3, None),
     (3, 2, OVER),
     (1, 2, UNDER),
+    (1, 3, UNDER),
     (0, 1, UNDER),
     (0, 0, None),
     (usize::MAX, 0, Some(BuildError::Memory)),
@@ -89,17 +97,20 @@ fn check<T: Drop>(rt: &impl Abort, row: Row, log: &Log, built: Result<T, BuildEr
 }
 
 fn check_row(rt: &(impl Abort + AllocGlobal), row: Row, is_unique: bool) {
-    let (num_items, turn, _) = row;
-    let log = Log::new();
-    let items = ok!(rt, in_turn(rt.alloc(), turn, &log));
+    let (num_items, number, refusal) = row;
+    let turn = number.min((num_items as u64).saturating_add(1));
+    let (log, rest) = (Log::new(), Log::new());
+    let items = ok!(rt, source_of(rt.alloc(), (number, turn), &log, &rest));
     let header = Placed { turn, log: &log };
+    let taken = (num_items, turn, refusal);
     if is_unique {
         let built = UniqueArc::from_header_and_iter_with_size(rt.alloc(), header, items, num_items);
-        check(rt, row, &log, built);
+        check(rt, taken, &log, built);
     } else {
         let built = Arc::from_header_and_iter_with_size(rt.alloc(), header, items, num_items);
-        check(rt, row, &log, built);
+        check(rt, taken, &log, built);
     }
+    same_at!(rt, row, rest.read().0, number.wrapping_sub(turn));
 }
 
 #[test]

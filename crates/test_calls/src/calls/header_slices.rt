@@ -6,7 +6,8 @@ use std::collections::HashMap;
 use std::mem;
 use std::process::Abort;
 use std::vec::IntoIter;
-use testing::{ok, same, same_at};
+use testing::counted::{Counted, Tally};
+use testing::{again, ok, same, same_at};
 
 #[derive(Clone, Copy)]
 struct Padded {
@@ -44,6 +45,40 @@ fn reads_padded_items(rt: HostRuntime) {
     let unique = UniqueArc::from_header_and_iter(rt.alloc(), 0u8, two_padded(&rt));
     let unique = ok!(&rt, unique);
     same!(&rt, read(&unique), Some((0, 2, 0xdead, 0xbeef)));
+}
+
+#[test]
+fn reads_an_empty_slice(rt: HostRuntime) {
+    let none: Vec<u32> = Vec::new(rt.alloc());
+    let built = Arc::from_header_and_iter_with_size(rt.alloc(), 100u8, none.into_iter(), 0);
+    let slice = ok!(&rt, built);
+    let seen = (slice.header, slice.len(), slice.is_empty(), slice.slice());
+    same!(&rt, seen, (100, 0, true, &[][..]));
+}
+
+#[test]
+fn drops_the_header_once(rt: HostRuntime) {
+    let tally = Tally::new();
+    let (header, items) = (Counted::new(&tally, 9), [5u64, 6].into_iter());
+    let shared = ok!(&rt, Arc::from_header_and_iter(rt.alloc(), header, items));
+    drop(again!(&rt, &shared));
+    let is_itself = *shared == *shared;
+    let before = tally.drops();
+    drop(shared);
+    same!(&rt, (is_itself, before, tally.read()), (true, 0, (0, 1)));
+}
+
+#[test]
+fn marks_a_static_slice(rt: HostRuntime) {
+    let items = [1u64, 2].into_iter();
+    let built = Arc::from_header_and_iter_alloc(rt.alloc(), 0u8, items, 2, true);
+    let mut slice = ok!(&rt, built);
+    let marks = (slice.is_static(), Arc::get_mut(&mut slice).is_none());
+    same!(
+        &rt,
+        (slice.header, slice.slice(), marks),
+        (0, &[1, 2][..], (true, true))
+    );
 }
 
 fn swap<H, T>(x: &mut UniqueArc<HeaderSlice<H, T>>, y: &mut UniqueArc<HeaderSlice<H, T>>)

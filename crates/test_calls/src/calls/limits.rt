@@ -37,6 +37,17 @@ fn the_only_handle_of_a_limit_of_one_writes(rt: HostRuntime) {
 }
 
 #[test]
+fn a_copied_block_keeps_the_limit(rt: HostRuntime) {
+    let mut a = ok!(&rt, Arc::new_with_limit(rt.alloc(), 5u64, 2));
+    let b = again!(&rt, &a);
+    *ok!(&rt, Arc::make_mut(&mut a, rt.alloc())) = 9;
+    for (handle, value) in [(&a, 9), (&b, 5)] {
+        let other = ok!(&rt, Arc::clone(handle, &rt));
+        same!(&rt, (*other, is_full(handle, &rt)), (value, true));
+    }
+}
+
+#[test]
 fn tokens_count_to_the_limit(rt: HostRuntime) {
     let raw = Arc::into_raw(ok!(&rt, Arc::new_with_limit(rt.alloc(), 5u64, 2)));
     let first = Arc::from_raw_addrefed(&raw, &rt);

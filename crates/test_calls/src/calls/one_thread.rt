@@ -1,7 +1,8 @@
-//! Calls of tokens, unique handles, unwritten blocks and two makers, and equality, each once.
+//! Calls of tokens, unique handles, unwritten blocks and two makers, and what handles have by their values, each once.
 use crate::calls::by_bound::are_equal;
 use crate::made::arc_of;
 use servo_arc::{Arc, UniqueArc};
+use std::collections::HashMap;
 use std::process::Abort;
 use testing::counted::{Counted, Tally};
 use testing::{again, ok, same};
@@ -74,6 +75,23 @@ impl PartialEq for NeverEqual {
     fn eq(&self, _other: &NeverEqual) -> bool {
         false
     }
+}
+
+#[test]
+fn a_map_is_keyed_by_handles(rt: HostRuntime) {
+    let mut map = HashMap::new(rt.alloc());
+    ok!(&rt, map.insert(arc_of(&rt, 7u32), 1u8));
+    same!(&rt, map.get(&arc_of(&rt, 7)).copied(), Some(1));
+    same!(&rt, map.get(&arc_of(&rt, 8)).copied(), None);
+}
+
+#[test]
+fn handles_are_sorted(rt: HostRuntime) {
+    let handles = vec![in rt.alloc(); arc_of(&rt, 3u32), arc_of(&rt, 1), arc_of(&rt, 2)];
+    let mut handles = ok!(&rt, handles);
+    ok!(&rt, handles.sort());
+    let text = ok!(&rt, format!(in rt.alloc(); "{handles:?}"));
+    same!(&rt, text.as_str(), "[1, 2, 3]");
 }
 
 #[test]

@@ -159,8 +159,8 @@ const LEAKED: Rows = turns!["a marked block is left as it is";
     A MakeMut(4) => Value(3), [1, 0]; A Read => Value(4), [1, 0]; A IsStatic => Is(false), [1, 0];
     B Read => Value(3), [1, 0]; B IsStatic => Is(true), [1, 0]; B End => Done, [1, 0]; A End => Done, [1, 1]];
 
-const STATIC: Rows = turns!["a static value is marked from the start";
-    A Read => Value(3), [0, 0]; A IsStatic => Is(true), [0, 0]; A IsUnique => Is(false), [0, 0];
+const STATIC: Rows = turns!["the only handle of a marked block is not alone";
+    B End => Done, [0, 0]; A Read => Value(3), [0, 0]; A IsStatic => Is(true), [0, 0]; A IsUnique => Is(false), [0, 0];
     A GetMut(4) => Is(false), [0, 0]];
 
 #[test]
@@ -179,4 +179,6 @@ fn two_handles_of_a_marked_block_are_answered_in_turn(rt: HostRuntime) {
     check(&rt, &tally, ok!(&rt, leaked), LEAKED);
     let kept = Arc::new_static(rt.alloc(), Counted::new(&static_tally, 3));
     check(&rt, &static_tally, ok!(&rt, kept), STATIC);
+    let leaked = Arc::new_leaked(rt.alloc(), Counted::new(&static_tally, 3));
+    check(&rt, &static_tally, ok!(&rt, leaked), STATIC);
 }

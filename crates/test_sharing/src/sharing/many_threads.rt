@@ -45,6 +45,17 @@ pub fn clone_and_drop<T: Drop>(handle: &Arc<T>) {
 }
 
 #[test]
+fn a_leaked_value_outlives_two_threads(rt: HostRuntime) {
+    let tally = Tally::new();
+    let a = ok!(&rt, Arc::new_leaked(rt.alloc(), Counted::new(&tally, 5)));
+    let done = thread::map_indices(&rt, rt.alloc(), 2, &|_| clone_and_drop(&a));
+    ok!(&rt, done);
+    let marks = (a.is_static(), a.is_unique());
+    drop(a);
+    same!(&rt, (marks, tally.drops()), ((true, false), 0));
+}
+
+#[test]
 fn a_header_slice_of_two_threads_is_dropped_once(rt: HostRuntime) {
     let (header, first, second) = (Tally::new(), Tally::new(), Tally::new());
     let items = both(&rt, Counted::new(&first, 1), Counted::new(&second, 2)).into_iter();

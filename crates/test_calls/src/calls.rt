@@ -2,6 +2,7 @@
 
 mod borrows;
 mod by_bound;
+mod counted_tables;
 mod drop_order;
 mod header_slices;
 mod iterators;
@@ -18,5 +19,6 @@ mod table_rows;
 mod texts;
 mod two_handles;
 mod union_rows;
+mod unmarked;
 mod unwrapped;
 mod word;

@@ -11,7 +11,9 @@ pub fn hold(rt: &impl Abort, fact: bool, text: &str)
     assert!(rt; fact, "{text}")
 }
 
-pub fn same<T: PartialEq + Debug + Drop>(rt: &impl Abort, found: T, expected: T, text: &str) {
+pub fn same<T: PartialEq + Debug + Drop>(rt: &impl Abort, found: T, expected: T, text: &str)
+    ensures { IsTrue (T.eq found expected) }
+{
     compared(found, expected).expect(rt, text)
 }
 

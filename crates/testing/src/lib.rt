@@ -6,6 +6,8 @@
 pub mod counted;
 pub mod opened;
 
+ghost use Rattle.std.specs.Prelude.{IsOk, IsTrue};
+
 use servo_arc::{Arc, UniqueArc};
 use std::fmt::Debug;
 
@@ -16,7 +18,9 @@ pub struct Differ<T> {
     expected: T,
 }
 
-pub fn compared<T: PartialEq + Debug + Drop>(found: T, expected: T) -> Result<(), Differ<T>> {
+pub fn compared<T: PartialEq + Debug + Drop>(found: T, expected: T) -> Result<(), Differ<T>>
+    ensures { IsOk result → IsTrue (T.eq found expected) }
+{
     if found == expected {
         Ok(())
     } else {

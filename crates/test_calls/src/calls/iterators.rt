@@ -163,6 +163,9 @@ fn asks_the_iterator_for_the_number_once(rt: HostRuntime) {
         check_built(&rt, &row, built, &asked);
         let built = UniqueArc::from_header_and_iter(rt.alloc(), 1u8, boaster(row.0, &asked));
         check_built(&rt, &row, shared(built), &asked);
+        let results = boaster(row.0, &asked).map(Ok);
+        let built = Arc::try_from_header_and_iter(rt.alloc(), 1u8, results);
+        check_built(&rt, &row, built, &asked);
     }
 }
 

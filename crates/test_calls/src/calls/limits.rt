@@ -1,7 +1,7 @@
 //! Blocks with a limit of their own: each way to make one more handle stops there, and each way that a handle goes
 //! keeps it.
 use servo_arc::word::MAX_REFCOUNT;
-use servo_arc::{Arc, ArcUnion, ThinArc, UniqueArc};
+use servo_arc::{Arc, ArcUnion, BuildError, ThinArc, UniqueArc};
 use std::alloc::{AllocError, Global};
 use std::process::Abort;
 use std::sync::Wait;
@@ -135,9 +135,12 @@ fn unions_keep_each_limit(rt: HostRuntime) {
 
 fn made_otherwise(alloc: Global) -> Result<Vec<Option<Arc<u64>>>, AllocError> {
     let unique = UniqueArc::new(alloc, 5u64);
+    let tried = UniqueArc::try_new(alloc, 5u64);
     let unwritten = UniqueArc::new_uninit(alloc).ok();
     Ok(vec![in alloc;
         Arc::new_with_limit(alloc, 5, MAX_REFCOUNT).ok(),
+        Arc::try_new(alloc, 5).ok(),
+        shared(tried).ok(),
         Arc::new(alloc, 5).ok(),
         Arc::from_value(alloc, 5).ok(),
         Arc::try_default(alloc).ok(),
@@ -153,12 +156,21 @@ fn built_otherwise(alloc: Global) -> Result<Vec<Option<ThinArc<u64, u64>>>, Allo
     let one = [1u64];
     let unique = UniqueArc::from_header_and_iter(alloc, 5u64, one.into_iter());
     let sized = UniqueArc::from_header_and_iter_with_size(alloc, 5u64, one.into_iter(), 1);
+    let tried: Result<_, BuildError> = Arc::try_from_header_and_iter(
+        alloc,
+        5,
+        one.into_iter().map(Ok),
+    );
     Ok(vec![in alloc;
         Arc::from_header_and_iter(alloc, 5, one.into_iter()).ok(),
         Arc::from_header_and_iter_with_size(alloc, 5, one.into_iter(), 1).ok(),
         Arc::from_header_and_iter_alloc(alloc, 5, one.into_iter(), 1, false).ok(),
         shared(unique).ok(),
         shared(sized).ok(),
+        tried.ok(),
+        Arc::from_header_and_slice(alloc, 5, &one).ok(),
+        Arc::from_header_and_clones(alloc, 5, &one).ok(),
+        Arc::from_header_and_vec(alloc, 5, one.to_vec(alloc)?).ok(),
     ]?)
 }
 

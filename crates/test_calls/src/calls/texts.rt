@@ -43,6 +43,19 @@ fn other_handles_have_their_texts(rt: HostRuntime) {
     check_debug(&rt, &kept, "9");
 }
 
+// As the value is, with a width and on several lines.
+fn check_flags<T: Debug>(rt: &(impl Abort + AllocGlobal), value: &T) {
+    let found = format!(in rt.alloc(); "{value:5?} {value:#?}");
+    same!(rt, ok!(rt, found).as_str(), "Some(    7) Some(\n    7,\n)");
+}
+
+#[test]
+fn handles_are_printed_as_their_values(rt: HostRuntime) {
+    check_flags(&rt, &arc_of(&rt, Some(7u32)));
+    check_flags(&rt, &ok!(&rt, UniqueArc::new(rt.alloc(), Some(7u32))));
+    check_flags(&rt, &ok!(&rt, StaticArc::new(rt.alloc(), Some(7u32))));
+}
+
 #[test]
 fn unions_have_their_texts(rt: HostRuntime) {
     let first = Numbers::from_first(arc_of(&rt, 7));

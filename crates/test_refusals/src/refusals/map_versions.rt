@@ -1,23 +1,39 @@
 //! What a call on versions of a list or a map drops. What they then are is said by the clauses.
+use self::Change::*;
 use crate::refusals::reporting::report;
 use persistent::{List, TreeMap};
 use std::alloc::{AllocError, Global};
+use std::io::Print;
+use std::process::Abort;
 use testing::counted::{Counted, Tally};
-use testing::{again, holds, same};
+use testing::{again, ok, same, same_at};
+
+// Makes, turns and lengthens a list of these items.
+fn make_lists<'a>(
+    rt: &(impl Abort + AllocGlobal + Print),
+    items: Vec<Counted<'a>>,
+    last: Counted<'a>,
+) {
+    let Ok(list) = List::from_items(rt.alloc(), items) else {
+        return report(rt, "a node");
+    };
+    if list.reverse(rt.alloc()).is_err() {
+        report(rt, "a node of the reversed list");
+    }
+    if list.push(rt.alloc(), last).is_err() {
+        report(rt, "a node in front");
+    }
+}
 
 #[test]
-fn a_refused_push_leaves_the_list(rt: HostRuntime) {
+fn a_refused_list_drops_its_items(rt: HostRuntime) {
     let tally = Tally::new();
-    let Ok(old) = List::new().push(rt.alloc(), Counted::new(&tally, 1)) else {
-        return report(&rt, "the set-up");
+    let Ok(items) = Vec::from_array(rt.alloc(), [1, 2].map(|value| Counted::new(&tally, value)))
+    else {
+        return report(&rt, "the items");
     };
-    match old.push(rt.alloc(), Counted::new(&tally, 2)) {
-        Ok(new) => same!(&rt, (new.len(), tally.drops()), (2, 0)),
-        Err(AllocError) => {
-            same!(&rt, tally.drops(), 1);
-            report(&rt, "a node");
-        }
-    }
+    make_lists(&rt, items, Counted::new(&tally, 3));
+    same!(&rt, tally.living(3), 0);
 }
 
 type Map<'a> = TreeMap<u64, Counted<'a>>;
@@ -32,24 +48,7 @@ fn evens<'a>(alloc: Global, tally: &'a Tally, len: u8) -> Result<Map<'a>, AllocE
     Ok(map)
 }
 
-// The one leaf is full, so a root and two leaves are made.
-#[test]
-fn a_refused_insert_leaves_both_versions(rt: HostRuntime) {
-    let tally = Tally::new();
-    let Ok(old) = evens(rt.alloc(), &tally, 64) else {
-        return report(&rt, "the set-up");
-    };
-    for (made, key) in [(65, 1), (66, 63), (67, 127)] {
-        let mut new = again!(&rt, &old);
-        if let Err(AllocError) = new.insert(rt.alloc(), key, Counted::new(&tally, 9)) {
-            report(&rt, "a node of the path or of the key");
-        }
-        drop(new);
-        same!(&rt, tally.living(made), 64);
-    }
-}
-
-// A map of two leaves, of 16 entries and of 33.
+// Of two leaves, of 16 entries and of 33. The first is joined with the second one if it loses an entry.
 fn thin<'a>(alloc: Global, tally: &'a Tally) -> Result<Map<'a>, AllocError> {
     let mut map = evens(alloc, tally, 65)?;
     for half in 0..16u64 {
@@ -58,55 +57,75 @@ fn thin<'a>(alloc: Global, tally: &'a Tally) -> Result<Map<'a>, AllocError> {
     Ok(map)
 }
 
-// The first leaf is joined with the second one.
-#[test]
-fn a_refused_remove_leaves_both_versions(rt: HostRuntime) {
-    let tally = Tally::new();
-    let Ok(old) = thin(rt.alloc(), &tally) else {
-        return report(&rt, "the set-up");
-    };
-    for key in [32, 62, 64, 128] {
-        let mut new = again!(&rt, &old);
-        match new.remove(rt.alloc(), &key) {
-            Ok(value) => holds!(&rt, value.is_some()),
-            Err(AllocError) => report(&rt, "a node of the path"),
-        }
-        drop(new);
-        same!(&rt, tally.living(65), 49);
+#[derive(Clone, Copy, Debug, PartialEq)]
+enum Change {
+    Insert(u64),
+    Remove(u64),
+    Modify(u64),
+    Update(u64),
+    SplitOff(u64),
+    Append,
+    Union,
+}
+
+const CHANGES: [Change; 13] = [
+    Insert(1),
+    Insert(63),
+    Insert(127),
+    Remove(32),
+    Remove(62),
+    Remove(64),
+    Remove(128),
+    Modify(32),
+    Modify(128),
+    Update(32),
+    SplitOff(64),
+    Append,
+    Union,
+];
+
+fn is_changed<'a>(
+    alloc: Global,
+    map: &mut Map<'a>,
+    change: Change,
+    other: &Map<'a>,
+    value: Counted<'a>,
+) -> bool {
+    match change {
+        Insert(key) => map.insert(alloc, key, value).is_ok(),
+        Remove(key) => map.remove(alloc, &key).is_ok(),
+        Modify(key) => map.modify(alloc, &key, |counted| counted.value = 9).is_ok(),
+        Update(key) => map.update(alloc, key, |_| Some(value)).is_ok(),
+        SplitOff(key) => map.split_off(alloc, &key).is_ok(),
+        Append => map.append(alloc, other).is_ok(),
+        Union => map.union(alloc, other).is_ok(),
     }
 }
 
-#[test]
-fn a_refused_change_leaves_both_versions(rt: HostRuntime) {
-    let tally = Tally::new();
-    let Ok(old) = thin(rt.alloc(), &tally) else {
-        return report(&rt, "the set-up");
-    };
-    for key in [32, 128] {
-        let mut new = again!(&rt, &old);
-        match new.modify(rt.alloc(), &key, |counted| counted.value = 9) {
-            Ok(changed) => holds!(&rt, changed.is_some()),
-            Err(AllocError) => report(&rt, "a node of the path"),
+fn check_changes<'a>(
+    rt: &(impl Abort + AllocGlobal + Print),
+    tally: &'a Tally,
+    old: &Map<'a>,
+    other: &Map<'a>,
+) {
+    for change in CHANGES {
+        let (before, mut new) = (tally.living(0), again!(rt, old));
+        let value = Counted::new(tally, 9);
+        if !is_changed(rt.alloc(), &mut new, change, other, value) {
+            ok!(rt, println!(rt; "{change:?}"));
         }
         drop(new);
-        same!(&rt, tally.living(65), 49);
+        same_at!(rt, change, tally.living(1), before);
     }
 }
 
-// The items that were moved or copied until then are dropped.
+// A leaf that is full becomes two under a root, and thin ones are joined.
 #[test]
-fn a_refused_list_drops_its_items(rt: HostRuntime) {
-    let tally = Tally::new();
-    let Ok(items) = Vec::from_array(rt.alloc(), [1, 2].map(|value| Counted::new(&tally, value)))
-    else {
-        return report(&rt, "the items");
+fn a_refused_change_drops_what_it_made(rt: HostRuntime) {
+    let (alloc, tally) = (rt.alloc(), Tally::new());
+    let (Ok(full), Ok(thin)) = (evens(alloc, &tally, 64), thin(alloc, &tally)) else {
+        return report(&rt, "the set-up");
     };
-    match List::from_items(rt.alloc(), items) {
-        Err(AllocError) => report(&rt, "a node"),
-        Ok(list) => match list.reverse(rt.alloc()) {
-            Err(AllocError) => report(&rt, "a node of the reversed list"),
-            Ok(reversed) => same!(&rt, (reversed.len(), tally.copies()), (2, 2)),
-        },
-    }
-    same!(&rt, tally.drops(), tally.copies().wrapping_add(2));
+    check_changes(&rt, &tally, &full, &thin);
+    check_changes(&rt, &tally, &thin, &full);
 }

@@ -1,9 +1,11 @@
-//! What a change of a rose tree leaves.
+//! What a change of a rose tree and of what can be undone drops, and a value that is not interned.
 use crate::refusals::reporting::report;
+use interner::Interner;
+use servo_arc::Arc;
 use std::alloc::{AllocError, Global};
 use testing::counted::{Counted, Tally};
-use testing::same;
-use trees::{Rose, RoseError};
+use testing::{again, holds, ok, same};
+use trees::{Rose, Undo};
 
 // 1 over 2 and 3.
 fn three<'a>(alloc: Global, tally: &'a Tally) -> Result<Rose<Counted<'a>>, AllocError> {
@@ -14,18 +16,45 @@ fn three<'a>(alloc: Global, tally: &'a Tally) -> Result<Rose<Counted<'a>>, Alloc
 
 // That the old tree stays as it was needs no test: it is only lent.
 #[test]
-fn a_refused_change_leaves_the_tree(rt: HostRuntime) {
-    let tally = Tally::new();
-    let Ok(old) = three(rt.alloc(), &tally) else {
+fn a_refused_change_drops_what_it_made(rt: HostRuntime) {
+    let (alloc, tally) = (rt.alloc(), Tally::new());
+    let Ok(old) = three(alloc, &tally) else {
         return report(&rt, "the set-up");
     };
-    match old.with_value(rt.alloc(), &[1], Counted::new(&tally, 9)) {
-        Ok(new) => same!(&rt, (new.children().len(), tally.drops()), (2, 0)),
-        Err(error) => {
-            same!(&rt, error, RoseError::Memory);
-            // The new value, and the copies that were made by then.
-            same!(&rt, tally.drops(), tally.copies().wrapping_add(1));
-            report(&rt, "a list of children or a node");
-        }
+    let are_made = [
+        old.with_value(alloc, &[1], Counted::new(&tally, 9)).is_ok(),
+        old.with_tree(alloc, &[1], again!(&rt, &old)).is_ok(),
+        old.with_inserted(alloc, &[], 2, again!(&rt, &old)).is_ok(),
+        old.without(alloc, &[], 0).is_ok(),
+    ];
+    ok!(&rt, println!(rt; "{are_made:?}"));
+    drop(old);
+    same!(&rt, tally.living(4), 0);
+}
+
+#[test]
+fn a_refused_undo_drops_no_version_twice(rt: HostRuntime) {
+    let tally = Tally::new();
+    let mut versions = Undo::new(rt.alloc(), Counted::new(&tally, 1));
+    let are_done = [
+        versions.change(Counted::new(&tally, 2)).is_ok(),
+        versions.undo().is_ok(),
+        versions.redo().is_ok(),
+    ];
+    ok!(&rt, println!(rt; "{are_done:?}"));
+    drop(versions);
+    same!(&rt, tally.living(2), 0);
+}
+
+#[test]
+fn a_value_that_is_not_interned_is_dropped(rt: HostRuntime) {
+    let Ok(value) = Arc::new(rt.alloc(), 7u64) else {
+        return report(&rt, "the set-up");
+    };
+    let mut interner = Interner::new(rt.alloc());
+    if interner.intern(rt.alloc(), again!(&rt, &value)).is_err() {
+        report(&rt, "no symbol");
     }
+    drop(interner);
+    holds!(&rt, value.is_unique());
 }

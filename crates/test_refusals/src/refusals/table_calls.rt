@@ -6,6 +6,7 @@ use servo_arc::union_table::{UnionCommand, UnionTable};
 use std::alloc::{AllocError, Global};
 use std::io::Print;
 use std::process::Abort;
+use testing::counted::{Counted, Tally};
 use testing::{ok, same};
 
 #[test]
@@ -103,4 +104,30 @@ fn one_refusal_on_unions(rt: HostRuntime) {
         union_of(&table, 2),
     ];
     ok!(&rt, println!(rt; "{slots:?}"));
+}
+
+// Each value ends, also that of a command that was refused.
+#[test]
+fn a_refused_command_drops_its_value(rt: HostRuntime) {
+    let (alloc, tally) = (rt.alloc(), Tally::new());
+    let five = || Counted::new(&tally, 5);
+    let commands = vec![in alloc;
+        Command::New(0, five()),
+        Command::Clone(0, 1),
+        Command::MakeMut(0, five()),
+    ];
+    let of_unions = vec![in alloc;
+        UnionCommand::First(0, five()),
+        UnionCommand::Second(0, five()),
+    ];
+    let (Ok(commands), Ok(of_unions)) = (commands, of_unions) else {
+        return report(&rt, "the set-up");
+    };
+    let (Ok(mut table), Ok(mut unions)) = (Table::new(alloc, 2), UnionTable::new(alloc, 1)) else {
+        return report(&rt, "the set-up");
+    };
+    report_run(&rt, table.run(alloc, commands));
+    report_run(&rt, unions.run(alloc, of_unions));
+    drop((table, unions));
+    same!(&rt, tally.living(4), 0);
 }

@@ -1,5 +1,6 @@
 //! What rose trees share and drop.
-use crate::made::check_display;
+use crate::made::{check_debug, check_display};
+use interner::InternError;
 use std::process::Abort;
 use testing::counted::{Counted, Tally};
 use testing::{holds, ok, same, same_at};
@@ -72,6 +73,35 @@ fn a_change_makes_its_path_alone(rt: HostRuntime) {
     same!(&rt, tally.drops(), 9);
 }
 
+// The change of that number, and how many values the new tree was given.
+fn changed<'a>(
+    rt: &(impl Abort + AllocGlobal),
+    tally: &'a Tally,
+    old: &Tree<'a>,
+    change: u64,
+) -> (Result<Tree<'a>, RoseError>, u64) {
+    let (alloc, leaf) = (rt.alloc(), || tree(rt, tally, 9, Vec::new(rt.alloc())));
+    match change {
+        0 => (old.with_tree(alloc, &[1, 0], leaf()), 1),
+        1 => (old.with_inserted(alloc, &[1], 2, leaf()), 1),
+        _ => (old.without(alloc, &[1], 0), 0),
+    }
+}
+
+// Two nodes stand on the path. Each value ends with its last tree.
+#[test]
+fn each_change_copies_its_path_once(rt: HostRuntime) {
+    for change in 0..3 {
+        let tally = Tally::new();
+        let old = six(&rt, &tally);
+        let (new, given) = changed(&rt, &tally, &old, change);
+        let new = ok!(&rt, new);
+        same_at!(&rt, change, tally.read(), (2, 0));
+        drop((old, new));
+        same_at!(&rt, change, tally.living(given.wrapping_add(6)), 0);
+    }
+}
+
 #[test]
 fn there_is_no_place_outside_the_tree(rt: HostRuntime) {
     let tally = Tally::new();
@@ -82,7 +112,15 @@ fn there_is_no_place_outside_the_tree(rt: HostRuntime) {
 }
 
 #[test]
-fn errors_have_their_texts(rt: HostRuntime) {
+fn trees_and_errors_have_their_texts(rt: HostRuntime) {
+    let leaf = ok!(&rt, Rose::leaf(rt.alloc(), 7u8));
+    check_debug(
+        &rt,
+        &leaf,
+        "Rose { node: HeaderSlice { header: 7, slice: [] } }",
+    );
     check_display(&rt, &RoseError::NoSuchPlace, "no such place");
     check_display(&rt, &RoseError::Memory, "out of memory");
+    check_display(&rt, &InternError::Full, "no symbol is left");
+    check_display(&rt, &InternError::Memory, "out of memory");
 }

@@ -1,11 +1,13 @@
-//! What a change of one value copies, and what lists are by their items.
-use crate::made::check_debug;
+//! What a change of a version copies and keeps, and what lists are by their items.
+use crate::made::{arc_of, check_debug};
+use interner::Interner;
 use persistent::{List, TreeMap};
 use std::alloc::{AllocError, Global};
 use std::collections::HashSet;
 use std::process::Abort;
 use testing::counted::{Counted, Tally};
 use testing::{again, holds, ok, same};
+use trees::Undo;
 
 fn add_ten(counted: &mut Counted<'_>) -> u64 {
     counted.value = counted.value.wrapping_add(10);
@@ -42,6 +44,64 @@ fn a_change_copies_what_others_have(rt: HostRuntime) {
     same!(&rt, changed(&rt, &mut map, 0, &tally), (Some(20), 7));
     let values = (value_of_0(&old), value_of_0(&map));
     same!(&rt, values, (Some(10), Some(20)));
+}
+
+fn map_of<'a>(
+    rt: &(impl Abort + AllocGlobal),
+    tally: &'a Tally,
+    keys: &[u64],
+) -> TreeMap<u64, Counted<'a>> {
+    let mut items = Vec::new(rt.alloc());
+    for key in keys {
+        ok!(rt, items.push((*key, Counted::new(tally, *key))));
+    }
+    ok!(rt, TreeMap::from_items(rt.alloc(), items))
+}
+
+// A map into which entries of another are put shares its only leaf with the version that stays in case of a refusal.
+#[test]
+fn a_whole_call_copies_each_entry_once(rt: HostRuntime) {
+    let (alloc, tally) = (rt.alloc(), Tally::new());
+    let mut map = map_of(&rt, &tally, &[4, 0, 2]);
+    let other = map_of(&rt, &tally, &[1, 9]);
+    let unchanged = ok!(&rt, TreeMap::new().union(alloc, &other));
+    let made = tally.copies();
+    let both = ok!(&rt, map.union(alloc, &other));
+    let united = tally.copies();
+    ok!(&rt, map.append(alloc, &other));
+    let appended = tally.copies();
+    let back = ok!(&rt, map.split_off(alloc, &2));
+    let cut = tally.copies();
+    ok!(&rt, map.update(alloc, 0, |value| value));
+    let copies = [made, united, appended, cut, tally.copies()];
+    same!(&rt, copies, [0, 5, 10, 15, 16]);
+    drop((map, other, unchanged, both, back));
+    same!(&rt, tally.living(5), 0);
+}
+
+#[test]
+fn what_was_undone_ends_with_the_next_change(rt: HostRuntime) {
+    let tally = Tally::new();
+    let mut versions = Undo::new(rt.alloc(), Counted::new(&tally, 1));
+    ok!(&rt, versions.change(Counted::new(&tally, 2)));
+    holds!(&rt, ok!(&rt, versions.undo()));
+    ok!(&rt, versions.change(Counted::new(&tally, 3)));
+    let changed = tally.read();
+    drop(versions);
+    same!(&rt, (changed, tally.read()), ((0, 1), (0, 3)));
+}
+
+// The second value is equal, and is dropped. An interner has the only handle of each of its blocks.
+#[test]
+fn an_interner_keeps_one_of_equal_values(rt: HostRuntime) {
+    let value = arc_of(&rt, 7u64);
+    let mut interner = Interner::new(rt.alloc());
+    for _ in 0..2 {
+        ok!(&rt, interner.intern(rt.alloc(), again!(&rt, &value)));
+    }
+    let is_alone = interner.values().iter().all(|kept| kept.is_unique());
+    drop(interner);
+    same!(&rt, [is_alone, value.is_unique()], [true; 2]);
 }
 
 fn list(alloc: Global, items: [u64; 3]) -> Result<List<u64>, AllocError> {

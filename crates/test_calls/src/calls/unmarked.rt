@@ -1,0 +1,58 @@
+//! A call that asks, compares or prints leaves the block unmarked: of a marked one no handle is ever alone.
+use crate::calls::by_bound::hash_of;
+use crate::made::arc_of;
+use servo_arc::{Arc, ArcUnion};
+use std::cmp::Ordering::Equal;
+use std::fmt::Debug;
+use std::hash::Hash;
+use std::process::Abort;
+use testing::{ok, same, same_at};
+
+// By each of the bounds.
+fn ask<T: Ord + Hash + Debug>(rt: &(impl Abort + AllocGlobal), x: &T) {
+    let asked = (x == x, x.partial_cmp(x), x.cmp(x));
+    same!(rt, asked, (true, Some(Equal), Equal));
+    same!(rt, hash_of(x), hash_of(x));
+    ok!(rt, format!(in rt.alloc(); "{x:?}"));
+}
+
+#[test]
+fn a_handle_is_asked(rt: HostRuntime) {
+    let a = arc_of(&rt, 7u32);
+    ask(&rt, &a);
+    ask(&rt, &a.borrow_arc());
+    let text = ok!(&rt, format!(in rt.alloc(); "{a}"));
+    let seen = (text.as_str(), Arc::ptr_eq(&a, &a), a.is_unique());
+    same!(&rt, seen, ("7", true, true));
+}
+
+type Numbers = ArcUnion<u32, u32>;
+
+// Asked first for a handle of the other type.
+fn taken_out(union: Numbers) -> Option<Arc<u32>> {
+    match union.is_first() {
+        true => union.into_second().err()?.into_first().ok(),
+        false => union.into_first().err()?.into_second().ok(),
+    }
+}
+
+#[test]
+fn a_union_is_asked(rt: HostRuntime) {
+    for union in [
+        Numbers::from_first(arc_of(&rt, 7)),
+        Numbers::from_second(arc_of(&rt, 7)),
+    ] {
+        ask(&rt, &union);
+        let is_first = union.is_first();
+        let is_there = (union.as_first().is_some(), union.as_second().is_some());
+        let is_itself = Numbers::ptr_eq(&union, &union);
+        let is_alone = taken_out(union).map(|handle| handle.is_unique());
+        let seen = (is_there, is_itself, is_alone);
+        same_at!(
+            &rt,
+            is_first,
+            seen,
+            ((is_first, !is_first), true, Some(true))
+        );
+    }
+}

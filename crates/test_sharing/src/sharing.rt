@@ -3,13 +3,12 @@
 
 mod alone_again;
 mod calling;
-mod channels;
 mod count_rows;
 mod count_threads;
 mod documents;
+mod editions;
 mod lists;
 mod many_threads;
-mod map_reads;
 mod maps;
 mod orders;
 mod page_rows;
@@ -17,11 +16,8 @@ mod random_maps;
 mod roses;
 mod styles;
 mod table_copies;
-mod table_threads;
 mod threads;
-mod told_apart;
 mod tree_changes;
 mod tree_copies;
-mod tree_threads;
 mod waiting;
 mod wrong_answers;

@@ -87,9 +87,9 @@ impl PartialEq for Counted<'_> {
     }
 }
 
-/// Items 0, 1 and so on.
+/// Items 0, 1 and so on, by one request for memory.
 pub fn counted_items<'a>(alloc: Global, tally: &'a Tally, len: u64) -> Option<Vec<Counted<'a>>> {
-    let mut items = Vec::new(alloc);
+    let mut items = Vec::with_capacity(alloc, len as usize).ok()?;
     for value in 0..len {
         items.push(Counted::new(tally, value)).ok()?;
     }

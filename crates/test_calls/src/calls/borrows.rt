@@ -1,8 +1,8 @@
 //! Borrowed handles, and unions of handles.
-use crate::calls::by_bound::{are_equal, hash_of, is_less};
+use crate::calls::by_bound::are_equal;
 use crate::made::arc_of;
 use servo_arc::{Arc, ArcBorrow, ArcUnion};
-use testing::{holds, ok, same};
+use testing::{ok, same};
 
 type Numbers = ArcUnion<u32, u32>;
 
@@ -20,13 +20,6 @@ fn a_borrow_reads(rt: HostRuntime) {
     let was_unique = b.with_arc(|handle: &Arc<u32>| handle.is_unique());
     let seen = (*b.get(), *value_of(&a), next, was_unique);
     same!(&rt, seen, (7, 7, 8, true));
-    let eight = arc_of(&rt, 8u32);
-    let compared = [
-        is_less(&b, &eight.borrow_arc()),
-        are_equal(&b, &eight.borrow_arc()),
-    ];
-    let expected = ([true, false], hash_of(&7u32));
-    same!(&rt, (compared, hash_of(&b)), expected);
 }
 
 #[test]
@@ -53,27 +46,4 @@ fn unions_are_compared_by_kind_and_value(rt: HostRuntime) {
     let has = [first.as_first().is_some(), first.as_second().is_some()];
     let seen = (equal, has, second.is_second());
     same!(&rt, seen, ([true, false, false], [true, false], true));
-    let given = [
-        first.into_first().is_ok(),
-        other.into_second().is_ok(),
-        second.into_second().is_ok(),
-    ];
-    same!(&rt, given, [true, false, true]);
-}
-
-#[derive(PartialEq, Eq, Hash)]
-enum Derived {
-    First(u32),
-    Second(u32),
-}
-
-#[test]
-fn unions_are_ordered_and_hashed_as_a_derived_enum_is(rt: HostRuntime) {
-    let first = Numbers::from_first(arc_of(&rt, 7));
-    let second = Numbers::from_second(arc_of(&rt, 7));
-    let are_less = [is_less(&first, &second), is_less(&second, &first)];
-    let hashes = [hash_of(&first), hash_of(&second)];
-    let expected = [hash_of(&Derived::First(7)), hash_of(&Derived::Second(7))];
-    same!(&rt, (are_less, hashes), ([true, false], expected));
-    holds!(&rt, hashes[0] != hashes[1]);
 }

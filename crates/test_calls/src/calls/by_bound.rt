@@ -5,10 +5,6 @@ pub fn are_equal<T: Eq>(x: &T, y: &T) -> bool {
     x == y
 }
 
-pub fn is_less<T: PartialOrd>(x: &T, y: &T) -> bool {
-    x < y
-}
-
 pub fn hash_of<T: Hash>(x: &T) -> u64 {
     let mut hasher = DefaultHasher::new();
     x.hash(&mut hasher);

@@ -5,7 +5,6 @@ use servo_arc::{Arc, HeaderSlice, ThinArc, UniqueArc};
 use std::collections::HashMap;
 use std::mem;
 use std::process::Abort;
-use std::vec::IntoIter;
 use testing::counted::{Counted, Tally};
 use testing::{again, ok, same, same_at};
 
@@ -32,19 +31,12 @@ fn read(slice: &HeaderSlice<u8, Padded>) -> Option<(u8, usize, u64, u64)> {
     }
 }
 
-fn two_padded(rt: &(impl Abort + AllocGlobal)) -> IntoIter<Padded> {
-    let items = vec![in rt.alloc(); with_padding(0xdead), with_padding(0xbeef)];
-    ok!(rt, items).into_iter()
-}
-
 #[test]
 fn reads_padded_items(rt: HostRuntime) {
-    let shared = Arc::from_header_and_iter(rt.alloc(), 0u8, two_padded(&rt));
+    let items = [with_padding(0xdead), with_padding(0xbeef)].into_iter();
+    let shared = Arc::from_header_and_iter(rt.alloc(), 0u8, items);
     let shared = ok!(&rt, shared);
     same!(&rt, read(&shared), Some((0, 2, 0xdead, 0xbeef)));
-    let unique = UniqueArc::from_header_and_iter(rt.alloc(), 0u8, two_padded(&rt));
-    let unique = ok!(&rt, unique);
-    same!(&rt, read(&unique), Some((0, 2, 0xdead, 0xbeef)));
 }
 
 #[test]
@@ -81,6 +73,14 @@ fn marks_a_static_slice(rt: HostRuntime) {
     );
 }
 
+#[test]
+fn a_mark_of_a_slice_is_found(rt: HostRuntime) {
+    let letters = [4u8].into_iter();
+    let made = Arc::from_header_and_iter_alloc(rt.alloc(), 8u32, letters, 1, true);
+    let kept = ok!(&rt, ok!(&rt, made).find_static().ok_or(()));
+    same!(&rt, (kept.header, kept.slice()), (8, &[4][..]));
+}
+
 fn swap<H, T>(x: &mut UniqueArc<HeaderSlice<H, T>>, y: &mut UniqueArc<HeaderSlice<H, T>>)
     ensures x { x.new ≡ y.old }
     ensures y { y.new ≡ x.old }
@@ -104,38 +104,20 @@ fn swaps_header_and_items(rt: HostRuntime) {
 }
 
 #[test]
-fn is_written_by_its_unique_and_by_its_only_handle(rt: HostRuntime) {
+fn is_written_before_it_is_shared(rt: HostRuntime) {
     let mut unique = unique_of(&rt, 1, &[5, 6]);
     *unique.header_mut() = 3;
     if let Some(item) = unique.data_mut().get_mut(1) {
         *item = 9;
     }
-    let mut shared = unique.shareable();
+    let shared = unique.shareable();
     same!(&rt, (shared.header, shared.slice()), (3, &[5, 9][..]));
-    if let Some(slice) = Arc::get_mut(&mut shared) {
-        slice.header = 4;
-        if let Some(item) = slice.slice_mut().get_mut(0) {
-            *item = 8;
-        }
-    }
-    same!(&rt, (shared.header, shared.slice()), (4, &[8, 9][..]));
 }
 
 fn two_items(rt: &(impl Abort + AllocGlobal), header: u8, items: [u8; 2]) -> ThinArc<u8, u8>
     ensures { length result.items ≡ 2 }
 {
     ok!(rt, Arc::from_header_and_slice(rt.alloc(), header, &items))
-}
-
-#[test]
-fn items_are_read_one_by_one(rt: HostRuntime) {
-    let slice = two_items(&rt, 1, [5, 6]);
-    let mut last = 0u8;
-    for item in &*slice {
-        last = *item;
-    }
-    let ends = (slice[0], slice.iter().next_back().copied(), last);
-    same!(&rt, (ends, slice.is_empty()), ((5, Some(6), 6), false));
 }
 
 #[test]

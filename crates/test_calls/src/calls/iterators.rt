@@ -9,7 +9,7 @@ use std::sync::atomic::AtomicU64;
 use std::sync::atomic::Ordering::SeqCst;
 use std::vec::IntoIter;
 use testing::counted::{Counted, Tally};
-use testing::{holds, ok, same, same_at, shared};
+use testing::{ok, same, same_at, shared};
 
 // Gives these answers in turn and then only `None`, so that it may go on after a `None`, and counts how often it was
 // asked.
@@ -177,22 +177,6 @@ fn drops_what_a_boaster_gave(rt: HostRuntime) {
     let built = Arc::try_from_header_and_iter(rt.alloc(), Counted::new(&headers, 0), results);
     let seen = (built.err(), headers.drops(), items.drops());
     same!(&rt, seen, (Some(OVER), 1, 3));
-    let results = boaster(4, &asked).map(|_: u8| Ok(Counted::new(&items, 0)));
-    let built = UniqueArc::try_from_header_and_iter(rt.alloc(), Counted::new(&headers, 0), results);
-    let seen = (built.err(), headers.drops(), items.drops());
-    same!(&rt, seen, (Some(OVER), 2, 6));
-}
-
-#[derive(Drop)]
-enum Fault {
-    Number(u64),
-    Build(BuildError),
-}
-
-impl From<BuildError> for Fault {
-    fn from(refusal: BuildError) -> Fault {
-        Fault::Build(refusal)
-    }
 }
 
 #[test]
@@ -200,13 +184,11 @@ fn an_error_drops_what_was_taken(rt: HostRuntime) {
     let (headers, items) = (Tally::new(), Tally::new());
     let results = vec![in rt.alloc();
         Ok(Counted::new(&items, 5)),
+        Err(UNDER),
         Ok(Counted::new(&items, 6)),
-        Err(Fault::Number(7)),
-        Err(Fault::Number(8)),
     ];
-    let header = Counted::new(&headers, 9);
-    let results = ok!(&rt, results).into_iter();
+    let (header, results) = (Counted::new(&headers, 9), ok!(&rt, results).into_iter());
     let built = Arc::try_from_header_and_iter(rt.alloc(), header, results);
-    holds!(&rt, matches!(built.err(), Some(Fault::Number(7))));
-    same!(&rt, (headers.drops(), items.drops()), (1, 2));
+    let seen = (built.err(), headers.drops(), items.drops());
+    same!(&rt, seen, (Some(UNDER), 1, 2));
 }

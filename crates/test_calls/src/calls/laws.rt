@@ -1,47 +1,33 @@
-//! The laws, each called once at a concrete type.
+//! The laws, each called once at concrete types.
 use scripts::laws as script_laws;
-use servo_arc::counting_core::laws;
+use servo_arc::counting_core::laws as core_laws;
 use servo_arc::shared_count::laws as history_laws;
 use servo_arc::table::laws as table_laws;
 use servo_arc::union_table::laws as union_laws;
 use servo_arc::word::laws as word_laws;
 
+macro_rules! call_each {
+    ($module:ident: $($law:ident)*) => {
+        $($module::$law();)*
+    };
+    ($module:ident at $type:ty: $($law:ident)*) => {
+        $($module::$law::<$type>();)*
+    };
+}
+
 #[test]
 fn the_laws_hold_at_types() {
-    laws::each_step_has_one_answer::<u32>();
-    laws::barred_exactly_if_not_permitted::<u32>();
-    laws::live_handles_live::<u32>();
-    laws::count_is_the_number_of_live_handles::<u32>();
-    laws::no_lower_wraps::<u32>();
-    laws::no_count_passes_limit::<u32>();
-    laws::marked_exactly_if_answered::<u32>();
-    laws::marked_block_keeps_its_value::<u32>();
-    laws::given_up_by_last_end::<u32>();
-    laws::given_up_once::<u32>();
-    laws::full_exactly_at_limit::<u32>();
-    laws::born_straight_after_read::<u32>();
-    laws::lost_raises_are_bounded::<u32>();
-    laws::sole_handle_is_the_only_one::<u32>();
-    laws::sole_drop_gives_up::<u32>();
-    laws::answers_are_by_the_word::<u32>();
-    laws::steps_are_those_of_handles::<u32>();
-    laws::runs_are_traces::<u32>();
-    laws::traces_are_runs::<u32>();
-    word_laws::runs_are_counted();
-    word_laws::marks_stay();
-    word_laws::no_marked_block_is_given();
-    table_laws::number_of_slots_stays::<u32>();
-    table_laws::other_slots_stay::<u32>();
-    table_laws::only_done_changes::<u32>();
+    call_each!(core_laws at u32: each_step_has_one_answer barred_exactly_if_not_permitted live_handles_live
+        count_is_the_number_of_live_handles no_lower_wraps no_count_passes_limit marked_exactly_if_answered
+        marked_block_keeps_its_value given_up_by_last_end given_up_once full_exactly_at_limit born_straight_after_read
+        lost_raises_are_bounded sole_handle_is_the_only_one sole_drop_gives_up answers_are_by_the_word
+        steps_are_those_of_handles runs_are_traces traces_are_runs);
+    call_each!(word_laws: runs_are_counted marks_stay no_marked_block_is_given);
+    call_each!(table_laws at u32: number_of_slots_stays other_slots_stay only_done_changes);
     union_laws::number_of_slots_stays::<u32, u8>();
     union_laws::other_slots_stay::<u32, u8>();
     union_laws::only_done_changes::<u32, u8>();
-    history_laws::beginnings_are_legal();
-    history_laws::handles_are_owned();
-    history_laws::calls_are_of_passes();
-    history_laws::marked_exactly_if_called();
-    history_laws::last_is_told_once();
-    history_laws::one_end_is_last();
-    script_laws::each_line_is_one_step();
-    script_laws::each_line_asks_one_thing_of_a_table();
+    call_each!(history_laws: beginnings_are_legal handles_are_owned calls_are_of_passes marked_exactly_if_called
+        last_is_told_once one_end_is_last);
+    call_each!(script_laws: each_line_is_one_step each_line_asks_one_thing_of_a_table);
 }

@@ -1,7 +1,7 @@
 //! Blocks with a limit of their own: each way to make one more handle stops there, and each way that a handle goes
 //! keeps it.
 use servo_arc::word::MAX_REFCOUNT;
-use servo_arc::{Arc, ArcUnion, BuildError, ThinArc, UniqueArc};
+use servo_arc::{Arc, BuildError, ThinArc, UniqueArc};
 use std::alloc::{AllocError, Global};
 use std::process::Abort;
 use std::sync::Wait;
@@ -120,16 +120,6 @@ fn by_each_way(rt: &(impl Abort + AllocGlobal), limit: u64) -> Vec<Option<Arc<u6
 fn each_way_keeps_each_limit(rt: HostRuntime) {
     for limit in LIMITS {
         check_made(&rt, by_each_way(&rt, limit), limit as usize);
-    }
-}
-
-#[test]
-fn unions_keep_each_limit(rt: HostRuntime) {
-    for limit in LIMITS {
-        let first = ArcUnion::<u64, u32>::from_first(limited(&rt, limit));
-        same_at!(&rt, limit, counted(rt.alloc(), &first), Ok(limit as usize));
-        let second = ArcUnion::<u32, u64>::from_second(limited(&rt, limit));
-        same_at!(&rt, limit, counted(rt.alloc(), &second), Ok(limit as usize));
     }
 }
 

@@ -1,11 +1,11 @@
 //! Calls of tokens, unique handles, unwritten blocks and two makers, and what handles have by their values, each once.
-use crate::calls::by_bound::are_equal;
 use crate::made::arc_of;
 use servo_arc::{Arc, UniqueArc};
+use std::alloc::AllocError;
 use std::collections::HashMap;
 use std::process::Abort;
 use testing::counted::{Counted, Tally};
-use testing::{again, ok, same};
+use testing::{again, holds, ok, same};
 
 #[test]
 fn a_token_is_a_handle(rt: HostRuntime) {
@@ -55,15 +55,24 @@ fn equals_itself<T: PartialEq + Drop>(rt: &(impl Abort + AllocGlobal), value: T)
 #[test]
 fn equality_asks_the_values(rt: HostRuntime) {
     same!(&rt, equals_itself(&rt, NeverEqual), [false, false]);
-    same!(&rt, equals_itself(&rt, 4u64), [true, true]);
-    let (c, d) = (arc_of(&rt, 4u64), arc_of(&rt, 4u64));
-    same!(&rt, c == d, true);
-    let (c, d) = (ok!(&rt, Arc::into_unique(c)), ok!(&rt, Arc::into_unique(d)));
-    same!(&rt, are_equal(&c, &d), true);
 }
 
+// Nor is it ever copied.
 #[derive(Drop)]
 struct NeverEqual;
+
+impl Clone for NeverEqual {
+    fn clone(&self) -> Result<NeverEqual, AllocError> {
+        Err(AllocError)
+    }
+}
+
+#[test]
+fn a_refused_copy_ends_the_handle_all_the_same(rt: HostRuntime) {
+    let a = arc_of(&rt, NeverEqual);
+    let b = again!(&rt, &a);
+    holds!(&rt, Arc::unwrap_or_clone(a).is_err() && b.is_unique());
+}
 
 impl PartialEq for NeverEqual {
     ghost use Rattle.std.specs.Prelude.{false, refl};

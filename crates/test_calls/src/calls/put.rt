@@ -41,7 +41,6 @@ fn a_header_slice_is_put_and_shared(rt: HostRuntime) {
     let back = table.put(2, thin_of(&rt, 3, &[7]));
     let back = back.err().expect(&rt, "a third slot");
     same!(&rt, (back.header, back.slice()), (3, &[7][..]));
-    holds!(&rt, has_kept_the_second(&table));
 }
 
 #[test]
@@ -53,5 +52,4 @@ fn a_slot_has_the_handle_that_was_put(rt: HostRuntime) {
     let was_replaced = table.put(1, thin_of(&rt, 2, &[8])).is_ok();
     let seen = [was_put, is_unique, was_replaced, kept.is_unique()];
     same!(&rt, seen, [true, false, true, true]);
-    holds!(&rt, reads(&table, 1, 2, &[8]));
 }

@@ -4,7 +4,7 @@ use servo_arc::{Arc, ArcUnion, BuildError, StaticArc, UniqueArc};
 use std::alloc::AllocError;
 use std::fmt::{Debug, Display};
 use std::process::Abort;
-use testing::{compared, holds, ok, same};
+use testing::{holds, ok, same};
 
 type Numbers = ArcUnion<u32, u32>;
 
@@ -20,27 +20,17 @@ fn check_debug<T: Debug>(rt: &(impl Abort + AllocGlobal), value: &T, text: &str)
 
 #[test]
 fn handles_have_their_texts(rt: HostRuntime) {
-    let (seven, word) = (arc_of(&rt, 7u32), arc_of(&rt, "a word"));
+    let seven = arc_of(&rt, 7u32);
     check_display(&rt, &seven, "7 0007");
     check_debug(&rt, &seven, "7");
     check_debug(&rt, &seven.borrow_arc(), "ArcBorrow(7)");
-    check_display(&rt, &word, "a word a word");
-    check_debug(&rt, &word, "\"a word\"");
-}
-
-#[test]
-fn other_handles_have_their_texts(rt: HostRuntime) {
     let unique = ok!(&rt, UniqueArc::new(rt.alloc(), 8u32));
     check_display(&rt, &unique, "8 0008");
-    check_debug(&rt, &unique, "8");
-    let pair = ok!(
-        &rt,
-        UniqueArc::from_header_and_slice(rt.alloc(), 100u8, &[5u8, 6])
-    );
+    let pair = Arc::from_header_and_slice(rt.alloc(), 100u8, &[5u8, 6]);
+    let pair = ok!(&rt, pair);
     check_debug(&rt, &*pair, "HeaderSlice { header: 100, slice: [5, 6] }");
     let kept = ok!(&rt, StaticArc::new(rt.alloc(), 9u32));
     check_display(&rt, &kept, "9 0009");
-    check_debug(&rt, &kept, "9");
 }
 
 // As the value is, with a width and on several lines.
@@ -60,12 +50,9 @@ fn handles_are_printed_as_their_values(rt: HostRuntime) {
 fn unions_have_their_texts(rt: HostRuntime) {
     let first = Numbers::from_first(arc_of(&rt, 7));
     check_debug(&rt, &first, "First(ArcBorrow(7))");
-    check_debug(&rt, &first.borrow(), "First(ArcBorrow(7))");
     let second = Numbers::from_second(arc_of(&rt, 7));
     check_debug(&rt, &second, "Second(ArcBorrow(7))");
     check_debug(&rt, &second.borrow(), "Second(ArcBorrow(7))");
-    let marked = Numbers::from_first(ok!(&rt, Arc::new_leaked(rt.alloc(), 7)));
-    check_debug(&rt, &marked, "First(ArcBorrow(7))");
 }
 
 #[test]
@@ -86,23 +73,4 @@ fn refusals_have_their_texts(rt: HostRuntime) {
          ExactSizeIterator under-reported length",
     );
     holds!(&rt, Arc::clone(&only, &rt).err() == Some(full));
-}
-
-// Header 100 and the numbers below `len`. Std prints a vector.
-#[test]
-fn header_slices_have_their_texts(rt: HostRuntime) {
-    for len in [0u8, 1, 2, 4, 100, 101] {
-        let items: Vec<u8> = ok!(&rt, (0..len).collect(rt.alloc()));
-        let text = format!(in rt.alloc(); "HeaderSlice {{ header: 100, slice: {items:?} }}");
-        let slice = ok!(&rt, Arc::from_header_and_vec(rt.alloc(), 100u8, items));
-        check_debug(&rt, &slice, ok!(&rt, text).as_str());
-    }
-}
-
-#[test]
-fn a_difference_is_reported_with_both_values(rt: HostRuntime) {
-    let are_equal = [compared(5u64, 5).is_ok(), compared(6u64, 5).is_ok()];
-    assert_eq!(rt; are_equal, [true, false]);
-    let text = format!(in rt.alloc(); "{:?}", compared(6u64, 5)).expect(&rt, "memory");
-    assert_eq!(rt; text.as_str(), "Err(Differ { found: 6, expected: 5 })");
 }

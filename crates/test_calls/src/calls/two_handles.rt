@@ -28,6 +28,14 @@ enum Call {
     IntoUnique(u64),
     // The value, which is then dropped.
     IntoInner,
+    // The same. The handle stays if it does not give the value.
+    TryUnwrap,
+    // The value or a copy of it, which is then dropped.
+    UnwrapOrClone,
+    // Whether the block is found marked.
+    FindStatic,
+    // The value of a handle that then stays for good.
+    IntoStatic,
     End,
 }
 
@@ -55,6 +63,7 @@ fn answered(alloc: Global, slot: &mut Slot<'_>, call: Call) -> Option<Answer> {
         Read => Some(Value(handle.value)),
         IsUnique => Some(Is(handle.is_unique())),
         IsStatic => Some(Is(handle.is_static())),
+        FindStatic => Some(Is(handle.find_static().is_some())),
         Mark => {
             handle.mark_as_intentionally_leaked();
             Some(Done)
@@ -86,6 +95,18 @@ fn answered_by_spending(slot: &mut Slot<'_>, call: Call) -> Option<Answer> {
             Some(value) => Some(Value(value.value)),
             None => Some(Nothing),
         },
+        TryUnwrap => match Arc::try_unwrap(handle) {
+            Ok(value) => Some(Value(value.value)),
+            Err(handle) => {
+                *slot = Some(handle);
+                Some(Nothing)
+            }
+        },
+        UnwrapOrClone => {
+            let value = Arc::unwrap_or_clone(handle).ok()?;
+            Some(Value(value.value))
+        }
+        IntoStatic => Some(Value(handle.into_static().value)),
         _ => Some(Done),
     }
 }
@@ -128,7 +149,7 @@ fn check<'a>(
 /// A name, and what is called on two handles of one block.
 type Rows = (&'static str, &'static [Row]);
 
-const ROWS: [Rows; 7] = [
+const ROWS: [Rows; 10] = [
     turns!["the last handle drops the value";
         A Read => Value(5), [0, 0]; B Read => Value(5), [0, 0]; A End => Done, [0, 0]; B Read => Value(5), [0, 0];
         B End => Done, [0, 1]],
@@ -152,6 +173,14 @@ const ROWS: [Rows; 7] = [
         A PtrEq => Is(true), [0, 0]; B IsUnique => Is(false), [0, 0]; A End => Done, [0, 0];
         B IntoUnique(6) => Is(true), [0, 0]; B End => Done, [0, 1]],
     turns!["the last handle gives the value"; A IntoInner => Nothing, [0, 0]; B IntoInner => Value(5), [0, 1]],
+    turns!["only the last handle gives the value, and another one a copy";
+        A TryUnwrap => Nothing, [0, 0]; A UnwrapOrClone => Value(5), [1, 1]; B IsUnique => Is(true), [1, 1];
+        B TryUnwrap => Value(5), [1, 2]],
+    turns!["the last handle gives no copy"; B End => Done, [0, 0]; A UnwrapOrClone => Value(5), [0, 1]],
+    turns!["a handle stays for good, and marks the block";
+        A FindStatic => Is(false), [0, 0]; A IsStatic => Is(false), [0, 0]; A IntoStatic => Value(5), [0, 0];
+        B FindStatic => Is(true), [0, 0]; B IsStatic => Is(true), [0, 0]; B TryUnwrap => Nothing, [0, 0];
+        B UnwrapOrClone => Value(5), [1, 1]],
 ];
 
 const LEAKED: Rows = turns!["a marked block is left as it is";

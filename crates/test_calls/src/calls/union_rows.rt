@@ -32,18 +32,6 @@ fn a_shared_first_gives_way_to_a_second_and_a_union_to_itself(rt: HostRuntime) {
 }
 
 #[test]
-fn unions_of_equal_values_are_told_apart_in_high_slots(rt: HostRuntime) {
-    let rows = served!(&rt;
-        Command::First(69_999, 7) => Done, Command::First(69_998, 7) => Done, Command::Second(69_997, 7) => Done,
-        Command::Second(69_996, 7) => Done, Command::Clone(69_996, 69_000) => Done,
-        Command::PtrEq(69_999, 69_998) => Is(false), Command::Same(69_999, 69_998) => Is(true),
-        Command::PtrEq(69_998, 69_997) => Is(false), Command::Same(69_998, 69_997) => Is(false),
-        Command::PtrEq(69_997, 69_996) => Is(false), Command::Same(69_997, 69_996) => Is(true),
-        Command::PtrEq(69_996, 69_000) => Is(true));
-    check(&rt, 70_000, rows);
-}
-
-#[test]
 fn a_union_is_put(rt: HostRuntime) {
     let mut table: UnionTable<u32, u32> = ok!(&rt, UnionTable::new(rt.alloc(), 1));
     let union = ArcUnion::from_first(arc_of(&rt, 7));

@@ -1,8 +1,5 @@
-//! What words mean: the plan of a clone, at the words on both sides of its rule, and the other decisions once.
-use servo_arc::word::{
-    ClonePlan, DropPlan, MARK, MAX_REFCOUNT, is_alone, is_last, is_marked, plan_clone, plan_drop,
-    with_mark,
-};
+//! The plan of a clone, at the words on both sides of its rule.
+use servo_arc::word::{ClonePlan, MARK, MAX_REFCOUNT, plan_clone};
 use testing::same;
 
 #[test]
@@ -24,13 +21,4 @@ fn a_clone_is_planned_by_mark_and_limit(rt: HostRuntime) {
         ClonePlan::Static,
     ];
     same!(&rt, plans, expected);
-}
-
-#[test]
-fn a_word_is_read_and_marked(rt: HostRuntime) {
-    let marked = with_mark(1);
-    let seen = [is_alone(1), is_last(2), is_marked(marked)];
-    same!(&rt, seen, [true, false, true]);
-    let plans = [plan_drop(1), plan_drop(marked)];
-    same!(&rt, plans, [DropPlan::Lower, DropPlan::Static]);
 }

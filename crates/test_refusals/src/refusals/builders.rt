@@ -1,13 +1,12 @@
 //! What a builder of header slices leaves.
-use self::OfList::{Slice, SliceUnique, Vector, VectorUnique};
 use crate::refusals::reporting::report;
 use servo_arc::{Arc, BuildError, HeaderSlice, UniqueArc};
-use std::alloc::{AllocError, Global};
+use std::alloc::Global;
 use std::io::Print;
 use std::process::Abort;
 use std::sync::atomic::AtomicU64;
 use std::sync::atomic::Ordering::SeqCst;
-use testing::counted::{Counted, Tally};
+use testing::counted::{Counted, Tally, counted_items};
 use testing::{ok, same, same_at, shared};
 
 // What was asked of an iterator, and what was dropped.
@@ -158,78 +157,27 @@ fn a_refused_builder_asks_for_nothing(rt: HostRuntime) {
     }
 }
 
-#[derive(Clone, Copy, Debug, PartialEq)]
-enum OfList {
-    Slice,
-    SliceUnique,
-    Vector,
-    VectorUnique,
-}
-
-// By one request, if there are items at all.
-fn counted_vector<'a>(alloc: Global, tally: &'a Tally, len: usize) -> Option<Vec<Counted<'a>>> {
-    let mut items = Vec::with_capacity(alloc, len).ok()?;
-    for _ in 0..len {
-        items.push(Counted::new(tally, 5)).ok()?;
-    }
-    Some(items)
-}
-
-// So many of the items are counted.
-fn check_list<T: Drop>(
-    rt: &(impl Abort + Print),
-    row: (OfList, usize),
-    counted: u64,
-    ledger: &Ledger,
-    built: Result<Arc<HeaderSlice<Counted<'_>, T>>, AllocError>,
-) {
-    match built {
-        Ok(slice) => {
-            let seen = (slice.len(), ledger.asks_and_drops());
-            same_at!(rt, row, seen, (row.1, [0; 3]));
-        }
-        Err(AllocError) => ok!(
-            rt,
-            println!(rt; "{:?} of {} items: all dropped", row.0, row.1)
-        ),
-    }
-    same_at!(rt, row, ledger.asks_and_drops(), [0, 1, counted]);
-}
-
-fn check_of_list(rt: &(impl Abort + Print + AllocGlobal), of: OfList, len: usize) {
-    let (alloc, ledger, row) = (rt.alloc(), Ledger::new(), (of, len));
-    let numbers = [7u64; 100];
-    let numbers = numbers.get(..len).unwrap_or(&[]);
-    let Some(items) = counted_vector(alloc, &ledger.items, len) else {
-        return ok!(rt, println!(rt; "{of:?} of {len} items: no vector"));
-    };
-    let (header, counted) = (ledger.header(), len as u64);
-    match of {
-        Slice => {
-            let built = Arc::from_header_and_slice(alloc, header, numbers);
-            check_list(rt, row, 0, &ledger, built);
-        }
-        SliceUnique => {
-            let built = UniqueArc::from_header_and_slice(alloc, header, numbers);
-            check_list(rt, row, 0, &ledger, shared(built));
-        }
-        Vector => {
-            let built = Arc::from_header_and_vec(alloc, header, items);
-            check_list(rt, row, counted, &ledger, built);
-        }
-        VectorUnique => {
-            let built = UniqueArc::from_header_and_vec(alloc, header, items);
-            check_list(rt, row, counted, &ledger, shared(built));
-        }
+// Whether a slice is made of a list of items.
+fn is_made<'a>(list: &str, alloc: Global, header: Counted<'a>, items: Vec<Counted<'a>>) -> bool {
+    match list {
+        "Slice" => Arc::from_header_and_slice(alloc, header, &[7u64; 3]).is_ok(),
+        "SliceUnique" => UniqueArc::from_header_and_slice(alloc, header, &[7u64; 3]).is_ok(),
+        "Vector" => Arc::from_header_and_vec(alloc, header, items).is_ok(),
+        _ => UniqueArc::from_header_and_vec(alloc, header, items).is_ok(),
     }
 }
 
 #[test]
 fn a_refused_list_is_dropped_with_its_header(rt: HostRuntime) {
-    for of in [Slice, SliceUnique, Vector, VectorUnique] {
-        for len in [0, 1, 100] {
-            check_of_list(&rt, of, len);
+    for list in ["Slice", "SliceUnique", "Vector", "VectorUnique"] {
+        let tally = Tally::new();
+        let Some(items) = counted_items(rt.alloc(), &tally, 3) else {
+            return ok!(&rt, println!(rt; "{list}: no vector"));
+        };
+        if !is_made(list, rt.alloc(), Counted::new(&tally, 9), items) {
+            ok!(&rt, println!(rt; "{list}: all dropped"));
         }
+        same_at!(&rt, list, tally.living(4), 0);
     }
 }
 

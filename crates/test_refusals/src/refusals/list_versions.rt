@@ -93,17 +93,3 @@ fn a_refused_copy_leaves_both_versions(rt: HostRuntime) {
     same!(&rt, b.set(rt.alloc(), 1, Original(9)), Ok(()));
     holds!(&rt, b.iter().eq(&[Original(1), Original(9)]));
 }
-
-// Neither a version nor a write to a lone one requests memory.
-#[test]
-fn a_lone_set_is_never_refused(rt: HostRuntime) {
-    let Some((mut a, b)) = versions(rt.alloc()) else {
-        return report(&rt, "the set-up");
-    };
-    drop(b);
-    for i in 0..5 {
-        same!(&rt, a.set(rt.alloc(), i, 0), Ok(()));
-    }
-    let again: Result<CowTable<u32>, AllocError> = a.clone();
-    holds!(&rt, again.is_ok());
-}

@@ -1,50 +1,45 @@
 //! What a call that makes a handle or copies its value leaves.
+use self::Maker::*;
 use crate::refusals::reporting::report;
 use servo_arc::word::MAX_REFCOUNT;
-use servo_arc::{Arc, UniqueArc};
+use servo_arc::{Arc, StaticArc, UniqueArc};
 use std::alloc::{AllocError, Global};
 use std::io::Print;
 use std::process::Abort;
 use testing::counted::{Counted, Tally};
 use testing::{holds, ok, same, shared};
-use uses::recursive::by_static::in_front;
 
 #[derive(Clone, Copy, Debug)]
 enum Maker {
     New,
-    NewWithLimit,
+    Limited,
     NewLeaked,
     NewStatic,
+    Static,
     FromValue,
     Unique,
     TryNew,
     TryUnique,
 }
 
-const MAKERS: [Maker; 8] = [
-    Maker::New,
-    Maker::NewWithLimit,
-    Maker::NewLeaked,
-    Maker::NewStatic,
-    Maker::FromValue,
-    Maker::Unique,
-    Maker::TryNew,
-    Maker::TryUnique,
+const MAKERS: [Maker; 9] = [
+    New, Limited, NewLeaked, NewStatic, Static, FromValue, Unique, TryNew, TryUnique,
 ];
 
 fn made<T: Drop>(maker: Maker, alloc: Global, value: T) -> Result<Arc<T>, T> {
     match maker {
-        Maker::New => Arc::new(alloc, value),
-        Maker::NewWithLimit => Arc::new_with_limit(alloc, value, 2),
-        Maker::NewLeaked => Arc::new_leaked(alloc, value),
-        Maker::NewStatic => Arc::new_static(alloc, value),
-        Maker::FromValue => Arc::from_value(alloc, value),
-        Maker::Unique => shared(UniqueArc::new(alloc, value)),
-        Maker::TryNew => match Arc::try_new(alloc, value) {
+        New => Arc::new(alloc, value),
+        Limited => Arc::new_with_limit(alloc, value, 2),
+        NewLeaked => Arc::new_leaked(alloc, value),
+        NewStatic => Arc::new_static(alloc, value),
+        Static => Ok(StaticArc::new(alloc, value)?.arc()),
+        FromValue => Arc::from_value(alloc, value),
+        Unique => shared(UniqueArc::new(alloc, value)),
+        TryNew => match Arc::try_new(alloc, value) {
             Ok(handle) => Ok(handle),
             Err(failed) => Err(failed.value),
         },
-        Maker::TryUnique => match UniqueArc::try_new(alloc, value) {
+        TryUnique => match UniqueArc::try_new(alloc, value) {
             Ok(unique) => Ok(unique.shareable()),
             Err(failed) => Err(failed.value),
         },
@@ -68,17 +63,6 @@ fn a_refused_maker_hands_the_value_back(rt: HostRuntime) {
 }
 
 #[test]
-fn a_refused_static_node_is_none(rt: HostRuntime) {
-    let Ok(last) = in_front(rt.alloc(), 1, None) else {
-        return report(&rt, "no node");
-    };
-    match in_front(rt.alloc(), 2, Some(last)) {
-        Ok(first) => holds!(&rt, first > last && first.next == Some(last)),
-        Err(AllocError) => report(&rt, "one node"),
-    }
-}
-
-#[test]
 fn a_refused_default_comes_back_and_an_unwritten_block_is_none(rt: HostRuntime) {
     match Arc::<u32>::try_default(rt.alloc()) {
         Ok(handle) => same!(&rt, *handle, 0),
@@ -91,34 +75,6 @@ fn a_refused_default_comes_back_and_an_unwritten_block_is_none(rt: HostRuntime) 
             same!(&rt, (unique.value, tally.drops()), (5, 0));
         }
         Err(AllocError) => report(&rt, "new_uninit: no block"),
-    }
-}
-
-// Makes a block of that value, and drops it. A block that is kept past a size or at one limit is not freed.
-fn check_block<T: Drop>(
-    rt: &(impl Abort + Print + AllocGlobal),
-    value: T,
-    limit: u64,
-    tally: &Tally,
-) {
-    let drops = tally.drops();
-    match Arc::new_with_limit(rt.alloc(), value, limit.clamp(1, MAX_REFCOUNT)) {
-        Ok(handle) => drop(handle),
-        Err(value) => {
-            drop(value);
-            report(rt, "a block: the value back");
-        }
-    }
-    same!(rt, tally.drops(), drops.wrapping_add(1));
-}
-
-#[test]
-fn blocks_of_each_size_and_limit_are_freed(rt: HostRuntime) {
-    let tally = Tally::new();
-    for limit in [1, 2, 3, 1000, MAX_REFCOUNT] {
-        check_block(&rt, Counted::new(&tally, 5), limit, &tally);
-        check_block(&rt, (Counted::new(&tally, 5), [0u8; 1000]), limit, &tally);
-        check_block(&rt, (Counted::new(&tally, 5), [0u8; 65_536]), limit, &tally);
     }
 }
 

@@ -135,11 +135,3 @@ fn the_handles_of_a_dropped_pass_stay_counted(rt: HostRuntime) {
     holds!(&rt, !count.is_unique(&mut p));
     holds!(&rt, count.end(&mut p) == EndReply::Ended);
 }
-
-// More than sixteen bits can count. A cap that nobody asked for would refuse them.
-#[test]
-fn a_count_has_many_passes_and_not_all(rt: HostRuntime) {
-    let (_count, passes) = ok!(&rt, SharedCount::open(rt.alloc(), 70_000));
-    let is_refused = SharedCount::open(rt.alloc(), usize::MAX).is_err();
-    same!(&rt, (passes.len(), is_refused), (70_000, true));
-}

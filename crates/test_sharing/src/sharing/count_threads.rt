@@ -7,17 +7,9 @@ use servo_arc::shared_count::{CountPass, EndReply, SharedCount, TryClone};
 use std::process::Abort;
 use std::sync::atomic::AtomicU64;
 use std::thread::{Threads, join};
-use testing::{holds, ok, same};
-use uses::two_threads::look_in_two_threads;
+use testing::{ok, same};
 
 const TURNS: u32 = 10_000;
-
-#[test]
-fn one_of_two_threads_is_last(rt: HostRuntime) {
-    let looks = look_in_two_threads(&rt, rt.alloc(), &[0, 7, 0]);
-    let (first, second) = ok!(&rt, looks);
-    holds!(&rt, first != second);
-}
 
 // What a thread was answered.
 #[derive(Clone, Copy)]

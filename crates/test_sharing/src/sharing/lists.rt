@@ -1,19 +1,14 @@
-//! The end of a long list.
+//! The end of a long list. A drop of each node inside the one before would run out of stack.
+use crate::sharing::waiting::arrive;
 use persistent::List;
-use std::alloc::{AllocError, Global};
 use std::process::Abort;
+use std::sync::atomic::AtomicU64;
+use std::thread;
 use std::thread::{Builder, Threads};
-use testing::{ok, same};
+use testing::counted::{Counted, Tally};
+use testing::{again, ok, same};
 
-pub fn up_to(alloc: Global, len: u64) -> Result<List<u64>, AllocError> {
-    let mut list = List::new();
-    for value in 0..len {
-        list = list.push(alloc, value)?;
-    }
-    Ok(list)
-}
-
-// In bytes. A drop of each node inside the one before would take more for some thousands of nodes.
+// In bytes. It would do for some thousands of nodes.
 pub(crate) const SMALL_STACK: usize = 0x4_0000;
 
 pub fn end_on_a_small_stack<T: Drop + Send + 'static>(rt: &(impl Abort + Threads), value: T) {
@@ -25,8 +20,41 @@ const MANY: u64 = 10_000_000;
 
 #[test]
 fn ten_million_nodes_end_on_a_small_stack(rt: HostRuntime) {
-    let list = ok!(&rt, up_to(rt.alloc(), MANY));
-    let seen = (list.len() as u64, list.get(9_999_999).copied());
-    same!(&rt, seen, (MANY, Some(0)));
+    let mut list = List::new();
+    for value in 0..MANY {
+        list = ok!(&rt, list.push(rt.alloc(), value));
+    }
     end_on_a_small_stack(&rt, list);
+}
+
+const ROUNDS: u32 = 20;
+
+const NODES: u64 = 200_000;
+
+fn long_list<'a>(rt: &(impl Abort + AllocGlobal), tally: &'a Tally) -> List<Counted<'a>> {
+    let mut list = List::new();
+    for value in 0..NODES {
+        list = ok!(rt, list.push(rt.alloc(), Counted::new(tally, value)));
+    }
+    list
+}
+
+fn end(rt: &impl Abort, here: &AtomicU64, list: List<Counted<'_>>) {
+    arrive(rt, here, 4);
+    drop(list);
+}
+
+// Whichever thread ends its version last has to end the nodes, and none knows that before.
+#[test]
+fn four_threads_end_one_long_list(rt: HostRuntime) {
+    for _ in 0..ROUNDS {
+        let (tally, here) = (Tally::new(), AtomicU64::new(0));
+        let list = long_list(&rt, &tally);
+        let others = [again!(&rt, &list), again!(&rt, &list), again!(&rt, &list)];
+        let mut versions = ok!(&rt, Vec::from_array(rt.alloc(), others));
+        ok!(&rt, versions.push(list));
+        let ended = thread::map_vec(&rt, versions, &|list| end(&rt, &here, list));
+        ok!(&rt, ended);
+        same!(&rt, tally.drops(), NODES);
+    }
 }

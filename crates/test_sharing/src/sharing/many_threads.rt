@@ -121,15 +121,6 @@ fn make_and_drop(kept: StaticArc<'_, Counted<'_>>) -> u64 {
 }
 
 #[test]
-fn four_threads_copy_one_static_handle(rt: HostRuntime) {
-    let tally = Tally::new();
-    let kept = ok!(&rt, StaticArc::new(rt.alloc(), Counted::new(&tally, 5)));
-    let right = thread::map_indices(&rt, rt.alloc(), 4, &|_| make_and_drop(kept));
-    same!(&rt, ok!(&rt, right).as_slice(), &[HANDLES; 4][..]);
-    same!(&rt, (kept.value, tally.drops()), (5, 0));
-}
-
-#[test]
 fn the_last_counted_handle_ends_while_a_static_one_is_used(rt: HostRuntime) {
     let tally = Tally::new();
     let last = arc_of(&rt, Counted::new(&tally, 5));

@@ -107,19 +107,3 @@ fn tables_and_errors_have_their_texts(rt: HostRuntime) {
     check_display(&rt, &SetError::NoPlace, "no such place");
     check_display(&rt, &SetError::Memory, "out of memory");
 }
-
-// More than sixteen bits can count. A cap that nobody asked for would refuse them.
-const MANY: u32 = 70_000;
-
-#[test]
-fn a_table_has_many_pages(rt: HostRuntime) {
-    let items = ok!(&rt, (0..MANY).collect(rt.alloc()));
-    let pages = ok!(&rt, CowTable::from_items(rt.alloc(), items, 1));
-    let copy = again!(&rt, &pages);
-    let shared = [
-        CowTable::page_ptr_eq(&pages, &copy, 69_999),
-        CowTable::page_ptr_eq(&pages, &copy, 70_000),
-    ];
-    let seen = (pages.len(), pages.get(69_999), shared);
-    same!(&rt, seen, (70_000, Some(&69_999), [true, false]));
-}

@@ -3,10 +3,9 @@ use cascade::{
     Declaration, Element, Initial, Inline, Rule, Style, StyleCache, shared_style, styles,
     styles_in_four,
 };
-use interner::InternError;
 use servo_arc::Arc;
 use std::alloc::{AllocError, Global};
-use std::sync::{Mutex, Wait};
+use std::sync::Mutex;
 use testing::{ok, same};
 
 const ELEMENTS: usize = 1_000;
@@ -64,6 +63,20 @@ fn shared(styles: &[Arc<Style>]) -> (usize, usize, usize) {
     (whole, fonts, borders)
 }
 
+// Whether each of the first four styles has the groups that its last source left alone from the one before, or from the
+// initial style.
+fn have_groups_of_others(styles: &[Arc<Style>]) -> [bool; 4] {
+    match styles {
+        [plain, large, framed, bold, ..] => [
+            plain.font.is_static() && plain.border.is_static(),
+            !large.font.is_static() && large.border.is_static(),
+            Arc::ptr_eq(&framed.font, &large.font) && !framed.border.is_static(),
+            !Arc::ptr_eq(&bold.font, &framed.font) && Arc::ptr_eq(&bold.border, &framed.border),
+        ],
+        _ => [false; 4],
+    }
+}
+
 // One cache computes each style once. Each of four threads has a cache of its own, and all have the initial groups.
 #[test]
 fn elements_of_one_kind_share_their_style(rt: HostRuntime) {
@@ -75,39 +88,9 @@ fn elements_of_one_kind_share_their_style(rt: HostRuntime) {
     same!(&rt, one == four, true);
     same!(&rt, shared(&one), (1000, 1000, 1000));
     same!(&rt, shared(&four), (250, 437, 624));
-}
-
-fn computed(
-    rt: &impl Wait,
-    alloc: Global,
-    kind: usize,
-    cache: &Mutex<StyleCache>,
-) -> Result<Arc<Style>, InternError> {
-    shared_style(rt, cache, alloc, &element(alloc, kind)?)
-}
-
-// A style shares with that of the path before the groups that the last source left alone.
-#[test]
-fn a_style_has_the_groups_of_its_own_source_alone(rt: HostRuntime) {
-    let alloc = rt.alloc();
-    let initial = ok!(&rt, Initial::new(alloc));
+    same!(&rt, have_groups_of_others(&one), [true; 4]);
     let cache = Mutex::new(ok!(&rt, StyleCache::new(alloc, initial)));
-    let plain = ok!(&rt, computed(&rt, alloc, 0, &cache));
-    let large = ok!(&rt, computed(&rt, alloc, 1, &cache));
-    let framed = ok!(&rt, computed(&rt, alloc, 2, &cache));
-    let bold = ok!(&rt, computed(&rt, alloc, 3, &cache));
-    let shared = [
-        (plain.font.is_static(), plain.border.is_static()),
-        (large.font.is_static(), large.border.is_static()),
-        (
-            Arc::ptr_eq(&framed.font, &large.font),
-            Arc::ptr_eq(&framed.border, &large.border),
-        ),
-        (
-            Arc::ptr_eq(&bold.font, &framed.font),
-            Arc::ptr_eq(&bold.border, &framed.border),
-        ),
-    ];
-    let expected = [(true, true), (false, true), (true, false), (false, true)];
-    same!(&rt, shared, expected);
+    for element in elements.iter().take(4) {
+        ok!(&rt, shared_style(&rt, &cache, alloc, element));
+    }
 }

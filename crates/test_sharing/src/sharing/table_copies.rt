@@ -3,31 +3,21 @@ ghost use Rattle.std.specs.Prelude.{◌<◌};
 
 use crate::sharing::page_rows::shared_pages;
 use cow_table::CowTable;
-use std::alloc::{AllocError, Global};
 use std::process::Abort;
 use testing::counted::{Counted, Tally, counted_items};
 use testing::{again, ok, same, same_at};
 
-/// Items 0, 1 and so on, in pages of two.
-pub fn counted_table<'a>(
-    alloc: Global,
-    tally: &'a Tally,
-    len: u64,
-) -> Result<CowTable<Counted<'a>>, AllocError> {
-    counted_pages(alloc, tally, len, 2)
-}
-
-/// The same in pages of that length.
-pub fn counted_pages<'a>(
-    alloc: Global,
+/// Items 0, 1 and so on, in pages of that length.
+fn counted_table<'a>(
+    rt: &(impl Abort + AllocGlobal),
     tally: &'a Tally,
     len: u64,
     page_len: usize,
-) -> Result<CowTable<Counted<'a>>, AllocError>
+) -> CowTable<Counted<'a>>
     requires { 0 < page_len }
 {
-    let items = counted_items(alloc, tally, len).ok_or(AllocError)?;
-    CowTable::from_items(alloc, items, page_len)
+    let items = counted_items(rt.alloc(), tally, len).expect(rt, "items");
+    ok!(rt, CowTable::from_items(rt.alloc(), items, page_len))
 }
 
 // Sets an item at each place in turn. The number beside each place is the number of copies made by then.
@@ -47,7 +37,7 @@ fn check_sets<'a>(
 #[test]
 fn a_lone_version_copies_nothing(rt: HostRuntime) {
     let tally = Tally::new();
-    let mut table = ok!(&rt, counted_table(rt.alloc(), &tally, 5));
+    let mut table = counted_table(&rt, &tally, 5, 2);
     let other = again!(&rt, &table);
     drop(again!(&rt, &other));
     drop(other);
@@ -61,7 +51,7 @@ fn a_lone_version_copies_nothing(rt: HostRuntime) {
 #[test]
 fn a_shared_version_copies_a_page_once(rt: HostRuntime) {
     let tally = Tally::new();
-    let mut a = ok!(&rt, counted_table(rt.alloc(), &tally, 5));
+    let mut a = counted_table(&rt, &tally, 5, 2);
     let mut b = again!(&rt, &a);
     check_sets(&rt, &tally, &mut b, &[(2, 2), (3, 2), (4, 3)]);
     check_sets(&rt, &tally, &mut a, &[(2, 3), (0, 5), (1, 5), (4, 5)]);
@@ -74,7 +64,7 @@ fn a_shared_version_copies_a_page_once(rt: HostRuntime) {
 #[test]
 fn a_long_page_is_copied_whole(rt: HostRuntime) {
     let tally = Tally::new();
-    let a = ok!(&rt, counted_pages(rt.alloc(), &tally, 200, 64));
+    let a = counted_table(&rt, &tally, 200, 64);
     let mut b = again!(&rt, &a);
     ok!(&rt, b.set(rt.alloc(), 70, Counted::new(&tally, 9)));
     same!(&rt, tally.copies(), 64);

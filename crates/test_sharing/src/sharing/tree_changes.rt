@@ -1,9 +1,7 @@
-//! What a change of a version copies and keeps, and what lists are by their items.
-use crate::made::{arc_of, check_debug};
+//! What a change of a version copies and keeps.
+use crate::made::arc_of;
 use interner::Interner;
-use persistent::{List, TreeMap};
-use std::alloc::{AllocError, Global};
-use std::collections::HashSet;
+use persistent::TreeMap;
 use std::process::Abort;
 use testing::counted::{Counted, Tally};
 use testing::{again, holds, ok, same};
@@ -44,6 +42,11 @@ fn a_change_copies_what_others_have(rt: HostRuntime) {
     same!(&rt, changed(&rt, &mut map, 0, &tally), (Some(20), 7));
     let values = (value_of_0(&old), value_of_0(&map));
     same!(&rt, values, (Some(10), Some(20)));
+    let mut less = again!(&rt, &map);
+    drop(ok!(&rt, less.remove(rt.alloc(), &0)));
+    same!(&rt, tally.copies(), 14);
+    drop((old, map, less));
+    same!(&rt, tally.living(7), 0);
 }
 
 fn map_of<'a>(
@@ -102,21 +105,4 @@ fn an_interner_keeps_one_of_equal_values(rt: HostRuntime) {
     let is_alone = interner.values().iter().all(|kept| kept.is_unique());
     drop(interner);
     same!(&rt, [is_alone, value.is_unique()], [true; 2]);
-}
-
-fn list(alloc: Global, items: [u64; 3]) -> Result<List<u64>, AllocError> {
-    List::from_items(alloc, Vec::from_array(alloc, items)?)
-}
-
-#[test]
-fn a_list_is_its_items(rt: HostRuntime) {
-    let alloc = rt.alloc();
-    let rising = ok!(&rt, list(alloc, [1, 2, 3]));
-    let falling = ok!(&rt, rising.reverse(alloc));
-    let again = ok!(&rt, falling.reverse(alloc));
-    same!(&rt, (rising == falling, rising == again), (false, true));
-    check_debug(&rt, &falling, "[3, 2, 1]");
-    let mut seen = HashSet::new(alloc);
-    let added = [rising, falling, again].map(|list| ok!(&rt, seen.insert(list)));
-    same!(&rt, added, [true, true, false]);
 }

@@ -4,7 +4,7 @@ use crate::sharing::orders::{ORDERS, Order};
 use persistent::TreeMap;
 use std::alloc::{AllocError, Global};
 use testing::counted::{Counted, Tally};
-use testing::{again, ok, same, same_at};
+use testing::{again, holds_at, ok, same, same_at};
 
 const KEYS: u64 = 1_000_000;
 
@@ -42,12 +42,16 @@ fn a_lone_version_copies_nothing(rt: HostRuntime) {
 // The most entries of a leaf.
 const LEAF: u64 = 64;
 
+// Of leaves of 32 entries, and branches of 8 children.
+const MOST_DEPTH: u8 = 6;
+
 // The only values of a path are those of its leaf.
 #[test]
 fn an_insert_copies_its_path_alone(rt: HostRuntime) {
     for (order, _) in ORDERS {
         let tally = Tally::new();
         let map = ok!(&rt, evens(rt.alloc(), &tally, order));
+        holds_at!(&rt, order, map.depth() <= MOST_DEPTH);
         for key in (0..2 * KEYS).step_by(999) {
             let (copies, before) = (tally.copies(), tally.living(0));
             let mut version = again!(&rt, &map);
@@ -63,9 +67,9 @@ fn an_insert_copies_its_path_alone(rt: HostRuntime) {
     }
 }
 
-// Each leaf is copied once at most, for its first change, and each value ends with the last version that has it.
+// A leaf is copied once, for its first change, and a value ends with the last version that has it.
 #[test]
-fn a_value_ends_with_its_last_version(rt: HostRuntime) {
+fn removals_copy_each_leaf_once(rt: HostRuntime) {
     let tally = Tally::new();
     let old = ok!(&rt, evens(rt.alloc(), &tally, Order::Inward));
     let (copies, mut new) = (tally.copies(), again!(&rt, &old));
@@ -73,11 +77,7 @@ fn a_value_ends_with_its_last_version(rt: HostRuntime) {
         drop(ok!(&rt, new.remove(rt.alloc(), &(2 * key))));
     }
     let is_little = tally.copies().wrapping_sub(copies) <= KEYS;
-    let emptied = tally.living(KEYS);
-    ok!(&rt, new.insert(rt.alloc(), 1, Counted::new(&tally, 1)));
+    let left = tally.living(KEYS);
     drop(old);
-    let left = tally.living(KEYS + 1);
-    drop(new);
-    let lives = [emptied, left, tally.living(KEYS + 1)];
-    same!(&rt, (is_little, lives), (true, [KEYS, 1, 0]));
+    same!(&rt, (is_little, left, tally.living(KEYS)), (true, KEYS, 0));
 }

@@ -83,37 +83,3 @@ impl Write for FailingWriter {
         self.fail_in_turn()
     }
 }
-
-/// Holds what is written. Each write is interrupted first, and then takes a few bytes of it.
-#[derive(Drop)]
-pub struct ShortWriter {
-    pub held: Vec<u8>,
-    most: usize,
-    was_interrupted: bool,
-}
-
-impl ShortWriter {
-    pub fn new(alloc: Global, most: usize) -> Self {
-        ShortWriter {
-            held: Vec::new(alloc),
-            most,
-            was_interrupted: false,
-        }
-    }
-}
-
-impl Write for ShortWriter {
-    fn write(&mut self, buf: &[u8]) -> io::Result<usize>
-        ensures { WritesAtMost result buf.now }
-    {
-        self.was_interrupted = !self.was_interrupted;
-        if self.was_interrupted {
-            return Err(io::Error::from(ErrorKind::Interrupted));
-        }
-        self.held.write(buf.get(..self.most).unwrap_or(buf))
-    }
-
-    fn flush(&mut self) -> io::Result<()> {
-        Ok(())
-    }
-}

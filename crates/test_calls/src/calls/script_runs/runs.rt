@@ -1,6 +1,6 @@
 //! Runs of the program.
 use scripts::bench;
-use std::alloc::{AllocError, Global};
+use std::alloc::Global;
 use std::fmt::Debug;
 use std::io::Read;
 use std::process::Abort;
@@ -37,13 +37,4 @@ pub fn run_from(alloc: Global, words: &[&str], input: &mut impl Read) -> Ran {
         errors,
         status,
     }
-}
-
-/// The lines, so many times.
-pub fn repeated(alloc: Global, lines: &str, times: usize) -> Result<String, AllocError> {
-    let mut script = String::with_capacity(alloc, times.saturating_mul(lines.len()))?;
-    for _ in 0..times {
-        script.push_str(lines)?;
-    }
-    Ok(script)
 }

@@ -88,11 +88,6 @@ a shared value is copied before it is written: table 3
 new 0 5 = done / clone 0 1 = done / getmut 0 9 = shared / makemut 0 9 = done / ptreq 0 1 = is false
 same 0 1 = is false / drop 2 = empty / new 3 1 = no slot / get 0 = value 9 / get 1 = value 5 / get 2 = empty
 
-a handle passes through each of its forms and is not written once it is marked: table 2
-new 0 5 = done / clone 0 1 = done / getmut 0 9 = shared / ptreq 0 1 = is true / same 0 1 = is true / drop 1 = done
-raw 0 = done / intounique 0 7 = done / mark 0 = done / getmut 0 8 = shared / raw 1 = empty / new 2 1 = no slot
-get 0 = value 7 / get 1 = empty / get 2 = no slot
-
 a handle is unique again only alone: table 2
 new 0 5 = done / intounique 0 6 = done / clone 0 1 = done / intounique 0 7 = shared / get 0 = value 6
 get 1 = value 6
@@ -188,7 +183,7 @@ fn answers_each_line(rt: HostRuntime) {
     for row in ROWS.split("\n\n") {
         check_row(&rt, row);
     }
-    same!(&rt, ROWS.split("\n\n").count(), 44);
+    same!(&rt, ROWS.split("\n\n").count(), 43);
 }
 
 /// Input that is not all lines of text, what it prints, and the status.

@@ -10,7 +10,6 @@ mod editions;
 mod lists;
 mod many_threads;
 mod maps;
-mod orders;
 mod page_rows;
 mod random_maps;
 mod roses;

@@ -1,21 +1,23 @@
 //! How many values a change copies, and what it drops. A leaf that a change makes out of a shared one has copies of its
 //! values.
-use crate::sharing::orders::{ORDERS, Order};
 use persistent::TreeMap;
 use std::alloc::{AllocError, Global};
 use testing::counted::{Counted, Tally};
-use testing::{again, holds_at, ok, same, same_at};
+use testing::{again, holds, ok, same, same_at};
 
 const KEYS: u64 = 1_000_000;
 
 type Map<'a> = TreeMap<u64, Counted<'a>>;
 
-// A map of the first even keys.
-fn evens<'a>(alloc: Global, tally: &'a Tally, order: Order) -> Result<Map<'a>, AllocError> {
+// The even keys in an order in which the next one is far from the last: a step shares no factor with their number.
+fn key_at(place: u64) -> u64 {
+    place.wrapping_mul(618_033) % KEYS * 2
+}
+
+fn evens<'a>(alloc: Global, tally: &'a Tally) -> Result<Map<'a>, AllocError> {
     let mut map = TreeMap::new();
     for place in 0..KEYS {
-        let key = order.key(place, KEYS);
-        map.insert(alloc, key.wrapping_mul(2), Counted::new(tally, key))?;
+        map.insert(alloc, key_at(place), Counted::new(tally, place))?;
     }
     Ok(map)
 }
@@ -23,20 +25,16 @@ fn evens<'a>(alloc: Global, tally: &'a Tally, order: Order) -> Result<Map<'a>, A
 // Every change is in place if the version shares nothing, whatever nodes become two or one.
 #[test]
 fn a_lone_version_copies_nothing(rt: HostRuntime) {
-    for (coming, going) in ORDERS {
-        let tally = Tally::new();
-        let mut map = ok!(&rt, evens(rt.alloc(), &tally, coming));
-        let before = tally.drops();
-        ok!(&rt, map.insert(rt.alloc(), 0, Counted::new(&tally, 9)));
-        let replaced = tally.drops();
-        for place in 0..KEYS {
-            let key = 2 * going.key(place, KEYS);
-            drop(ok!(&rt, map.remove(rt.alloc(), &key)));
-        }
-        let drops = [before, replaced, tally.drops()];
-        let seen = (drops, tally.copies(), map.len());
-        same_at!(&rt, (coming, going), seen, ([0, 1, KEYS + 1], 0, 0));
+    let tally = Tally::new();
+    let mut map = ok!(&rt, evens(rt.alloc(), &tally));
+    let before = tally.drops();
+    ok!(&rt, map.insert(rt.alloc(), 0, Counted::new(&tally, 9)));
+    let replaced = tally.drops();
+    for place in 0..KEYS {
+        drop(ok!(&rt, map.remove(rt.alloc(), &key_at(place))));
     }
+    let seen = (before, replaced, tally.read(), map.len());
+    same!(&rt, seen, (0, 1, (0, KEYS + 1), 0));
 }
 
 // The most entries of a leaf.
@@ -48,22 +46,21 @@ const MOST_DEPTH: u8 = 6;
 // The only values of a path are those of its leaf.
 #[test]
 fn an_insert_copies_its_path_alone(rt: HostRuntime) {
-    for (order, _) in ORDERS {
-        let tally = Tally::new();
-        let map = ok!(&rt, evens(rt.alloc(), &tally, order));
-        holds_at!(&rt, order, map.depth() <= MOST_DEPTH);
-        for key in (0..2 * KEYS).step_by(999) {
-            let (copies, before) = (tally.copies(), tally.living(0));
-            let mut version = again!(&rt, &map);
-            let value = Counted::new(&tally, key);
-            ok!(&rt, version.insert(rt.alloc(), key, value));
-            let copied = tally.copies().wrapping_sub(copies);
-            let kept = tally.living(0).wrapping_sub(before);
-            drop(version);
-            let seen = [kept <= LEAF, copied <= LEAF, tally.living(1) == before];
-            same_at!(&rt, (order, key), seen, [true; 3]);
-        }
-        drop(map);
+    let tally = Tally::new();
+    let map = ok!(&rt, evens(rt.alloc(), &tally));
+    holds!(&rt, map.depth() <= MOST_DEPTH);
+    for key in (0..2 * KEYS).step_by(999) {
+        let (copies, before) = (tally.copies(), tally.living(0));
+        let mut version = again!(&rt, &map);
+        ok!(
+            &rt,
+            version.insert(rt.alloc(), key, Counted::new(&tally, key))
+        );
+        let copied = tally.copies().wrapping_sub(copies);
+        let kept = tally.living(0).wrapping_sub(before);
+        drop(version);
+        let seen = [kept <= LEAF, copied <= LEAF, tally.living(1) == before];
+        same_at!(&rt, key, seen, [true; 3]);
     }
 }
 
@@ -71,10 +68,11 @@ fn an_insert_copies_its_path_alone(rt: HostRuntime) {
 #[test]
 fn removals_copy_each_leaf_once(rt: HostRuntime) {
     let tally = Tally::new();
-    let old = ok!(&rt, evens(rt.alloc(), &tally, Order::Inward));
-    let (copies, mut new) = (tally.copies(), again!(&rt, &old));
-    for key in 0..KEYS {
-        drop(ok!(&rt, new.remove(rt.alloc(), &(2 * key))));
+    let old = ok!(&rt, evens(rt.alloc(), &tally));
+    let mut new = again!(&rt, &old);
+    let copies = tally.copies();
+    for place in 0..KEYS {
+        drop(ok!(&rt, new.remove(rt.alloc(), &key_at(place))));
     }
     let is_little = tally.copies().wrapping_sub(copies) <= KEYS;
     let left = tally.living(KEYS);

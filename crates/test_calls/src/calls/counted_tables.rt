@@ -1,5 +1,5 @@
-//! Each command drops the value that it does not keep, and the one that it replaces, and none but `Mark` marks a block,
-//! whose value would then stay.
+//! A command drops the value that it does not keep, and the value that it replaces. Only `Mark` marks a block, whose
+//! value would never be dropped.
 use servo_arc::table::Reply::{Done, Empty, Is, NoSlot, Shared};
 use servo_arc::table::{Command, PlainCommand as Plain, Table, UnionCommand as Union, UnionTable};
 use testing::counted::{Counted, Tally};
@@ -23,7 +23,7 @@ fn a_table_drops_what_it_does_not_keep(rt: HostRuntime) {
         Plain::GetMut(0, five(&tally)) => Shared, Plain::IntoUnique(1, five(&tally)) => Shared);
     let found = ok!(&rt, table.run_plain(rt.alloc(), commands));
     same!(&rt, (found, tally.read()), (replies, (0, 10)));
-    // Of the eleven values that were made one is left, in both slots.
+    // Eleven values were made. One is left, in both slots.
     let (commands, replies) = served!(&rt;
         Command::MakeMut(0, five(&tally)) => Done, Command::MakeMut(0, five(&tally)) => Done,
         Command::MakeMut(2, five(&tally)) => NoSlot, Command::Clone(0, 1) => Done, Command::Own(1) => Done,
@@ -48,7 +48,7 @@ fn a_table_of_unions_drops_what_it_does_not_keep(rt: HostRuntime) {
         Union::PtrEq(0, 0) => Is(true), Union::PtrEq(1, 1) => Is(true), Union::Same(0, 0) => Is(true),
         Union::Same(1, 1) => Is(true), Union::Clone(0, 1) => Done, Union::Second(0, five(&tally)) => Done);
     let found = ok!(&rt, table.run(rt.alloc(), commands));
-    // Of the twelve values that were made two are left.
+    // Twelve values were made, and two are left.
     same!(&rt, (found, tally.read()), (replies, (0, 10)));
     drop(table);
     same!(&rt, tally.living(12), 0);

@@ -42,7 +42,7 @@ impl Drop for Placed<'_> {
     }
 }
 
-// So many values, of which so many are taken. The rest is dropped with the iterator, and when that is, is left open.
+// That many values, of which the builder takes the first ones. The rest is dropped with the iterator, at any time.
 fn source_of<'a>(
     alloc: Global,
     (number, taken): (u64, u64),
@@ -57,7 +57,7 @@ fn source_of<'a>(
     Ok(made.into_iter())
 }
 
-/// So many items are asked for, so many are there, or are taken, and so it is refused.
+/// How many items are asked for, how many there are or are taken, and the refusal.
 type Row = (usize, u64, Option<BuildError>);
 
 const OVER: Option<BuildError> = Some(BuildError::OverReported);

@@ -34,8 +34,7 @@ fn read(slice: &HeaderSlice<u8, Padded>) -> Option<(u8, usize, u64, u64)> {
 #[test]
 fn reads_padded_items(rt: HostRuntime) {
     let items = [with_padding(0xdead), with_padding(0xbeef)].into_iter();
-    let shared = Arc::from_header_and_iter(rt.alloc(), 0u8, items);
-    let shared = ok!(&rt, shared);
+    let shared = ok!(&rt, Arc::from_header_and_iter(rt.alloc(), 0u8, items));
     same!(&rt, read(&shared), Some((0, 2, 0xdead, 0xbeef)));
 }
 

@@ -169,26 +169,21 @@ fn asks_the_iterator_for_the_number_once(rt: HostRuntime) {
     }
 }
 
-// What was taken of results is dropped, and then the header.
+// If the iterator ends early or gives an error, what was taken is dropped, and then the header.
 #[test]
-fn drops_what_a_boaster_gave(rt: HostRuntime) {
+fn drops_what_was_taken_of_results(rt: HostRuntime) {
     let (asked, headers, items) = (AtomicU64::new(0), Tally::new(), Tally::new());
     let results = boaster(4, &asked).map(|_: u8| Ok(Counted::new(&items, 0)));
     let built = Arc::try_from_header_and_iter(rt.alloc(), Counted::new(&headers, 0), results);
     let seen = (built.err(), headers.drops(), items.drops());
     same!(&rt, seen, (Some(OVER), 1, 3));
-}
-
-#[test]
-fn an_error_drops_what_was_taken(rt: HostRuntime) {
-    let (headers, items) = (Tally::new(), Tally::new());
-    let results = vec![in rt.alloc();
+    let results = [
         Ok(Counted::new(&items, 5)),
         Err(UNDER),
         Ok(Counted::new(&items, 6)),
     ];
-    let (header, results) = (Counted::new(&headers, 9), ok!(&rt, results).into_iter());
+    let (header, results) = (Counted::new(&headers, 9), results.into_iter());
     let built = Arc::try_from_header_and_iter(rt.alloc(), header, results);
     let seen = (built.err(), headers.drops(), items.drops());
-    same!(&rt, seen, (Some(UNDER), 1, 2));
+    same!(&rt, seen, (Some(UNDER), 2, 5));
 }

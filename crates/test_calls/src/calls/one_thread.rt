@@ -57,7 +57,7 @@ fn equality_asks_the_values(rt: HostRuntime) {
     same!(&rt, equals_itself(&rt, NeverEqual), [false, false]);
 }
 
-// Nor is it ever copied.
+// Equal to no value, and never copied.
 #[derive(Drop)]
 struct NeverEqual;
 

@@ -33,7 +33,7 @@ fn handles_have_their_texts(rt: HostRuntime) {
     check_display(&rt, &kept, "9 0009");
 }
 
-// As the value is, with a width and on several lines.
+// The value is printed with the width and on the lines that are asked for.
 fn check_flags<T: Debug>(rt: &(impl Abort + AllocGlobal), value: &T) {
     let found = format!(in rt.alloc(); "{value:5?} {value:#?}");
     same!(rt, ok!(rt, found).as_str(), "Some(    7) Some(\n    7,\n)");

@@ -28,13 +28,13 @@ enum Call {
     IntoUnique(u64),
     // The value, which is then dropped.
     IntoInner,
-    // The same. The handle stays if it does not give the value.
+    // The same, but the handle stays if it does not give the value.
     TryUnwrap,
     // The value or a copy of it, which is then dropped.
     UnwrapOrClone,
-    // Whether the block is found marked.
+    // Whether `find_static` finds the mark.
     FindStatic,
-    // The value of a handle that then stays for good.
+    // The value of the handle, which then is static.
     IntoStatic,
     End,
 }

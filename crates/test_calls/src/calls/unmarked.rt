@@ -1,4 +1,5 @@
-//! A call that asks, compares or prints leaves the block unmarked: of a marked one no handle is ever alone.
+//! A call that only asks, compares or prints does not mark the block. The value of a marked block is never dropped, and
+//! no handle of it is ever alone.
 use crate::calls::by_bound::hash_of;
 use crate::made::arc_of;
 use servo_arc::{Arc, ArcUnion};
@@ -8,7 +9,7 @@ use std::hash::Hash;
 use std::process::Abort;
 use testing::{ok, same, same_at};
 
-// By each of the bounds.
+// Compares, hashes and prints the value.
 fn ask<T: Ord + Hash + Debug>(rt: &(impl Abort + AllocGlobal), x: &T) {
     let asked = (x == x, x.partial_cmp(x), x.cmp(x));
     same!(rt, asked, (true, Some(Equal), Equal));
@@ -28,7 +29,7 @@ fn a_handle_is_asked(rt: HostRuntime) {
 
 type Numbers = ArcUnion<u32, u32>;
 
-// Asked first for a handle of the other type.
+// The handle of a union, which is first asked for a handle of the other type and comes back.
 fn taken_out(union: Numbers) -> Option<Arc<u32>> {
     match union.is_first() {
         true => union.into_second().err()?.into_first().ok(),

@@ -157,7 +157,7 @@ fn a_refused_builder_asks_for_nothing(rt: HostRuntime) {
     }
 }
 
-// Whether a slice is made of a list of items.
+// Whether a header slice is made of a slice or a vector, for an `Arc` or for a `UniqueArc`.
 fn is_made<'a>(list: &str, alloc: Global, header: Counted<'a>, items: Vec<Counted<'a>>) -> bool {
     match list {
         "Slice" => Arc::from_header_and_slice(alloc, header, &[7u64; 3]).is_ok(),

@@ -4,7 +4,7 @@ use servo_arc::{Arc, UniqueArc};
 use testing::counted::{Counted, Tally};
 use testing::{ok, same};
 
-// Each clone takes memory, which is free at the end.
+// Each clone takes memory, which is freed again.
 #[test]
 fn a_refused_clone_drops_those_before_it(rt: HostRuntime) {
     let (alloc, tally) = (rt.alloc(), Tally::new());

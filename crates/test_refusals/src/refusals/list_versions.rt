@@ -21,10 +21,9 @@ fn items_that_get_no_pages_are_dropped(rt: HostRuntime) {
     }
 }
 
-// Two versions that share all three of their pages.
-fn versions(alloc: Global) -> Option<(CowTable<u32>, CowTable<u32>)> {
-    let items = vec![in alloc; 1, 2, 3, 4, 5].ok()?;
-    let a = CowTable::from_items(alloc, items, 2).ok()?;
+// Two versions that share all their pages, of two items each.
+fn versions<T: Drop>(alloc: Global, items: Option<Vec<T>>) -> Option<(CowTable<T>, CowTable<T>)> {
+    let a = CowTable::from_items(alloc, items?, 2).ok()?;
     let b = a.clone().ok()?;
     Some((a, b))
 }
@@ -36,17 +35,14 @@ fn check_set(
     items: &[u32],
     shared: [bool; 3],
 ) {
-    let found = [
-        CowTable::page_ptr_eq(a, b, 0),
-        CowTable::page_ptr_eq(a, b, 1),
-        CowTable::page_ptr_eq(a, b, 2),
-    ];
+    let found = [0, 1, 2].map(|p: usize| CowTable::page_ptr_eq(a, b, p));
     same!(rt, (b.iter().eq(items), found), (true, shared));
 }
 
 #[test]
 fn a_refused_set_leaves_both_versions(rt: HostRuntime) {
-    let Some((a, mut b)) = versions(rt.alloc()) else {
+    let items = vec![in rt.alloc(); 1, 2, 3, 4, 5].ok();
+    let Some((a, mut b)) = versions(rt.alloc(), items) else {
         return report(&rt, "the set-up");
     };
     match b.set(rt.alloc(), 2, 9) {
@@ -74,16 +70,10 @@ impl Clone for Original {
     }
 }
 
-fn originals(alloc: Global) -> Option<(CowTable<Original>, CowTable<Original>)> {
-    let items = vec![in alloc; Original(1), Original(2)].ok()?;
-    let a = CowTable::from_items(alloc, items, 2).ok()?;
-    let b = a.clone().ok()?;
-    Some((a, b))
-}
-
 #[test]
 fn a_refused_copy_leaves_both_versions(rt: HostRuntime) {
-    let Some((a, mut b)) = originals(rt.alloc()) else {
+    let items = vec![in rt.alloc(); Original(1), Original(2)].ok();
+    let Some((a, mut b)) = versions(rt.alloc(), items) else {
         return report(&rt, "the set-up");
     };
     let set = b.set(rt.alloc(), 1, Original(9));

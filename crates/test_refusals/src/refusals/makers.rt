@@ -35,14 +35,8 @@ fn made<T: Drop>(maker: Maker, alloc: Global, value: T) -> Result<Arc<T>, T> {
         Static => Ok(StaticArc::new(alloc, value)?.arc()),
         FromValue => Arc::from_value(alloc, value),
         Unique => shared(UniqueArc::new(alloc, value)),
-        TryNew => match Arc::try_new(alloc, value) {
-            Ok(handle) => Ok(handle),
-            Err(failed) => Err(failed.value),
-        },
-        TryUnique => match UniqueArc::try_new(alloc, value) {
-            Ok(unique) => Ok(unique.shareable()),
-            Err(failed) => Err(failed.value),
-        },
+        TryNew => Arc::try_new(alloc, value).map_err(|failed| failed.value),
+        TryUnique => shared(UniqueArc::try_new(alloc, value)).map_err(|failed| failed.value),
     }
 }
 

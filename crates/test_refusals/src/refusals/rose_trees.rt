@@ -1,4 +1,4 @@
-//! What a change of a rose tree and of what can be undone drops, and a value that is not interned.
+//! What is dropped when a change of a rose tree, an undo or an interning is refused.
 use crate::refusals::reporting::report;
 use interner::Interner;
 use servo_arc::Arc;
@@ -33,7 +33,7 @@ fn a_refused_change_drops_what_it_made(rt: HostRuntime) {
 }
 
 #[test]
-fn a_refused_undo_drops_no_version_twice(rt: HostRuntime) {
+fn a_refused_undo_drops_each_version_once(rt: HostRuntime) {
     let tally = Tally::new();
     let mut versions = Undo::new(rt.alloc(), Counted::new(&tally, 1));
     let are_done = [

@@ -1,21 +1,16 @@
 //! What a cache of styles leaves.
 use crate::refusals::reporting::report;
-use cascade::{Declaration, Element, Initial, Inline, Rule, StyleCache};
+use cascade::{Declaration, Element, Initial, Inline, StyleCache};
 use interner::InternError;
 use servo_arc::Arc;
 use std::alloc::{AllocError, Global};
 use testing::{ok, same};
 
-// An element with a rule and a block of its own.
+// With declarations of its own.
 fn element(alloc: Global) -> Result<Element, AllocError> {
-    let rule = Rule {
-        specificity: 1,
-        declarations: Arc::from_header_and_slice(alloc, (), &[Declaration::FontSize(40)])?,
-    };
-    let mut rules = Vec::new(alloc);
-    rules.push(Arc::try_new(alloc, rule)?)?;
     let declarations = Arc::from_header_and_slice(alloc, (), &[Declaration::BorderWidth(2)])?;
-    Element::of_rules(alloc, rules)?.with_inline(Arc::try_new(alloc, Inline { declarations })?)
+    let inline = Arc::try_new(alloc, Inline { declarations })?;
+    Element::of_rules(alloc, Vec::new(alloc))?.with_inline(inline)
 }
 
 fn cache(alloc: Global) -> Result<StyleCache, AllocError> {
@@ -34,5 +29,5 @@ fn a_refused_style_can_be_asked_for_again(rt: HostRuntime) {
         report(&rt, "a node or a style");
     }
     let style = ok!(&rt, cache.style(rt.alloc(), &element));
-    same!(&rt, (style.font.size, style.border.width), (40, 2));
+    same!(&rt, style.border.width, 2);
 }

@@ -46,12 +46,7 @@ fn report_run(rt: &(impl Abort + Print), run: Result<Vec<Reply>, AllocError>) {
 }
 
 fn slots_of(table: &Table<u32>) -> [Option<u32>; 4] {
-    [
-        table.get(0).copied(),
-        table.get(1).copied(),
-        table.get(2).copied(),
-        table.get(3).copied(),
-    ]
+    [0, 1, 2, 3].map(|i: usize| table.get(i).copied())
 }
 
 #[test]
@@ -98,11 +93,7 @@ fn one_refusal_on_unions(rt: HostRuntime) {
         return report(&rt, "the set-up");
     };
     report_run(&rt, table.run(rt.alloc(), commands));
-    let slots = [
-        union_of(&table, 0),
-        union_of(&table, 1),
-        union_of(&table, 2),
-    ];
+    let slots = [0, 1, 2].map(|i: usize| union_of(&table, i));
     ok!(&rt, println!(rt; "{slots:?}"));
 }
 

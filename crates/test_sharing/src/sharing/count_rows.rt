@@ -6,7 +6,7 @@ use self::Who::{P, Q};
 use servo_arc::shared_count::{CountPass, EndReply, SharedCount, TryClone};
 use std::process::Abort;
 use testing::opened::{open_one, open_two};
-use testing::{holds, ok, same, same_at, turns};
+use testing::{holds, ok, same_at, turns};
 
 /// A call with its answer.
 #[derive(Clone, Copy, Debug, PartialEq)]

@@ -8,7 +8,7 @@ use std::thread::{Builder, Threads};
 use testing::counted::{Counted, Tally};
 use testing::{again, ok, same};
 
-// In bytes. It would do for some thousands of nodes.
+// In bytes, enough for some thousands of nodes.
 pub(crate) const SMALL_STACK: usize = 0x4_0000;
 
 pub fn end_on_a_small_stack<T: Drop + Send + 'static>(rt: &(impl Abort + Threads), value: T) {

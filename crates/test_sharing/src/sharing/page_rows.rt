@@ -26,12 +26,7 @@ fn reads(table: &CowTable<u32>, items: &[u32]) -> bool {
 }
 
 pub fn shared_pages<T>(a: &CowTable<T>, b: &CowTable<T>) -> [bool; 4] {
-    [
-        CowTable::page_ptr_eq(a, b, 0),
-        CowTable::page_ptr_eq(a, b, 1),
-        CowTable::page_ptr_eq(a, b, 2),
-        CowTable::page_ptr_eq(a, b, 3),
-    ]
+    [0, 1, 2, 3].map(|p: usize| CowTable::page_ptr_eq(a, b, p))
 }
 
 // What a version sets, beside another one of the same items.

@@ -3,7 +3,7 @@ use crate::made::{check_debug, check_display};
 use interner::InternError;
 use std::process::Abort;
 use testing::counted::{Counted, Tally};
-use testing::{holds, ok, same, same_at};
+use testing::{ok, same, same_at};
 use trees::{Rose, RoseError};
 
 type Tree<'a> = Rose<Counted<'a>>;
@@ -61,7 +61,7 @@ fn a_change_makes_its_path_alone(rt: HostRuntime) {
     let old = six(&rt, &tally);
     let changed = old.with_value(rt.alloc(), &[1, 0], Counted::new(&tally, 9));
     let new = ok!(&rt, changed);
-    same!(&rt, (tally.copies(), tally.drops()), (2, 0));
+    same!(&rt, tally.read(), (2, 0));
     for (path, before, after, shared) in ROWS {
         let found = (value_at(&old, path), value_at(&new, path));
         same_at!(&rt, path, found, (before, after));
@@ -73,42 +73,22 @@ fn a_change_makes_its_path_alone(rt: HostRuntime) {
     same!(&rt, tally.drops(), 9);
 }
 
-// The change of that number, and how many values the new tree was given.
-fn changed<'a>(
-    rt: &(impl Abort + AllocGlobal),
-    tally: &'a Tally,
-    old: &Tree<'a>,
-    change: u64,
-) -> (Result<Tree<'a>, RoseError>, u64) {
-    let (alloc, leaf) = (rt.alloc(), || tree(rt, tally, 9, Vec::new(rt.alloc())));
-    match change {
-        0 => (old.with_tree(alloc, &[1, 0], leaf()), 1),
-        1 => (old.with_inserted(alloc, &[1], 2, leaf()), 1),
-        _ => (old.without(alloc, &[1], 0), 0),
-    }
-}
-
-// Two nodes stand on the path. Each value ends with its last tree.
+// Two nodes stand on the path. Each value ends with its last tree, or at once if there is no such place.
 #[test]
 fn each_change_copies_its_path_once(rt: HostRuntime) {
-    for change in 0..3 {
-        let tally = Tally::new();
-        let old = six(&rt, &tally);
-        let (new, given) = changed(&rt, &tally, &old, change);
-        let new = ok!(&rt, new);
-        same_at!(&rt, change, tally.read(), (2, 0));
-        drop((old, new));
-        same_at!(&rt, change, tally.living(given.wrapping_add(6)), 0);
-    }
-}
-
-#[test]
-fn there_is_no_place_outside_the_tree(rt: HostRuntime) {
-    let tally = Tally::new();
+    let (alloc, tally) = (rt.alloc(), Tally::new());
     let old = six(&rt, &tally);
-    let new = old.with_value(rt.alloc(), &[1, 2], Counted::new(&tally, 9));
-    holds!(&rt, matches!(new, Err(RoseError::NoSuchPlace)));
-    same!(&rt, (tally.copies(), tally.drops()), (0, 1));
+    let nowhere = old.with_value(alloc, &[1, 2], Counted::new(&tally, 9));
+    same!(&rt, (nowhere.is_ok(), tally.read()), (false, (0, 1)));
+    let leaf = || tree(&rt, &tally, 9, Vec::new(alloc));
+    let trees = [
+        ok!(&rt, old.with_tree(alloc, &[1, 0], leaf())),
+        ok!(&rt, old.with_inserted(alloc, &[1], 2, leaf())),
+        ok!(&rt, old.without(alloc, &[1], 0)),
+    ];
+    same!(&rt, tally.read(), (6, 1));
+    drop((old, trees));
+    same!(&rt, tally.living(9), 0);
 }
 
 #[test]

@@ -63,8 +63,8 @@ fn shared(styles: &[Arc<Style>]) -> (usize, usize, usize) {
     (whole, fonts, borders)
 }
 
-// Whether each of the first four styles has the groups that its last source left alone from the one before, or from the
-// initial style.
+// Whether each of the first four styles shares the groups that its last source left alone: with the style before it, or
+// with the initial one.
 fn have_groups_of_others(styles: &[Arc<Style>]) -> [bool; 4] {
     match styles {
         [plain, large, framed, bold, ..] => [

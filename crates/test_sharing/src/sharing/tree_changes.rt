@@ -12,43 +12,6 @@ fn add_ten(counted: &mut Counted<'_>) -> u64 {
     counted.value
 }
 
-fn value_of_0(map: &TreeMap<u64, Counted<'_>>) -> Option<u64> {
-    Some(map.get(&0)?.value)
-}
-
-// What the key has once ten was added, and how many values were copied by then.
-fn changed(
-    rt: &(impl Abort + AllocGlobal),
-    map: &mut TreeMap<u64, Counted<'_>>,
-    key: u64,
-    tally: &Tally,
-) -> (Option<u64>, u64) {
-    let value = ok!(rt, map.modify(rt.alloc(), &key, add_ten));
-    (value, tally.copies())
-}
-
-// Seven keys lie in one leaf.
-#[test]
-fn a_change_copies_what_others_have(rt: HostRuntime) {
-    let tally = Tally::new();
-    let mut map = TreeMap::new();
-    for key in 0..7u64 {
-        ok!(&rt, map.insert(rt.alloc(), key, Counted::new(&tally, key)));
-    }
-    same!(&rt, changed(&rt, &mut map, 0, &tally), (Some(10), 0));
-    let old = again!(&rt, &map);
-    same!(&rt, changed(&rt, &mut map, 9, &tally), (None, 0));
-    holds!(&rt, TreeMap::ptr_eq(&old, &map));
-    same!(&rt, changed(&rt, &mut map, 0, &tally), (Some(20), 7));
-    let values = (value_of_0(&old), value_of_0(&map));
-    same!(&rt, values, (Some(10), Some(20)));
-    let mut less = again!(&rt, &map);
-    drop(ok!(&rt, less.remove(rt.alloc(), &0)));
-    same!(&rt, tally.copies(), 14);
-    drop((old, map, less));
-    same!(&rt, tally.living(7), 0);
-}
-
 fn map_of<'a>(
     rt: &(impl Abort + AllocGlobal),
     tally: &'a Tally,
@@ -61,7 +24,27 @@ fn map_of<'a>(
     ok!(rt, TreeMap::from_items(rt.alloc(), items))
 }
 
-// A map into which entries of another are put shares its only leaf with the version that stays in case of a refusal.
+// Seven keys lie in one leaf.
+#[test]
+fn a_change_copies_what_others_have(rt: HostRuntime) {
+    let (alloc, tally) = (rt.alloc(), Tally::new());
+    let mut map = map_of(&rt, &tally, &[0, 1, 2, 3, 4, 5, 6]);
+    let lone = ok!(&rt, map.modify(alloc, &0, add_ten));
+    let old = again!(&rt, &map);
+    let absent = ok!(&rt, map.modify(alloc, &9, add_ten));
+    let seen = (lone, absent, TreeMap::ptr_eq(&old, &map), tally.copies());
+    same!(&rt, seen, (Some(10), None, true, 0));
+    let shared = ok!(&rt, map.modify(alloc, &0, add_ten));
+    let copies = tally.copies();
+    let mut less = again!(&rt, &map);
+    drop(ok!(&rt, less.remove(alloc, &0)));
+    same!(&rt, (shared, copies, tally.copies()), (Some(20), 7, 14));
+    drop((old, map, less));
+    same!(&rt, tally.living(7), 0);
+}
+
+// A map that gets entries of another one shares its only leaf with the version that stays if the call is refused. So
+// that leaf is copied too.
 #[test]
 fn a_whole_call_copies_each_entry_once(rt: HostRuntime) {
     let (alloc, tally) = (rt.alloc(), Tally::new());

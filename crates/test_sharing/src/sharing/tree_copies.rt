@@ -9,7 +9,7 @@ const KEYS: u64 = 1_000_000;
 
 type Map<'a> = TreeMap<u64, Counted<'a>>;
 
-// The even keys in an order in which the next one is far from the last: a step shares no factor with their number.
+// The even keys, each far from the one before it: the step and the number of keys have no common factor.
 fn key_at(place: u64) -> u64 {
     place.wrapping_mul(618_033) % KEYS * 2
 }

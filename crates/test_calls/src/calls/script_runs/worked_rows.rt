@@ -9,8 +9,6 @@ const ROWS: &str = "\
 a drop in flight bars all but its lower: core 1
 drop 0 0 = pending / unique 0 0 = barred / lower 0 = given up 5 / lower 0 = barred
 
-a script without lines: core 1
-
 only what is there is loaded: core 1
 load 1 0 = barred / load 0 1 = barred / load 0 0 = value 5
 
@@ -123,29 +121,8 @@ a sole handle is written, given and shared: core 2
 intounique 0 0 = sole / write 0 0 9 = done / clone 0 0 = barred / lend 0 0 1 = barred / endwrite 0 0 = barred
 give 0 0 1 = done / load 1 0 = value 9 / share 1 0 = done / share 1 0 = barred
 
-an empty line is a fault: core 1
-unique 0 0 = is true /  = fault: line 2
-
-a script is an empty line: core 1
- = fault: line 1
-
-a carriage return is a fault: core 1
-unique 0 0\r = fault: line 1
-
 the greatest number has 32 bits: core 1
-load 0 4294967295 = barred / load 0 4294967296 = fault: line 2
-
-two spaces are a fault: core 1
-load 0 0 = value 5 / unique  0 0 = fault: line 2
-
-an operand too few is a fault: core 1
-lend 0 0 = fault: line 1
-
-a byte of zero is a fault: core 1
-\0 = fault: line 1
-
-an upper case letter is a fault: core 1
-Load 0 0 = fault: line 1";
+load 0 4294967295 = barred / load 0 4294967296 = fault: line 2";
 
 fn push_line(rt: &impl Abort, text: &mut String, line: &str) {
     ok!(rt, text.push_str(line));
@@ -183,13 +160,21 @@ fn answers_each_line(rt: HostRuntime) {
     for row in ROWS.split("\n\n") {
         check_row(&rt, row);
     }
-    same!(&rt, ROWS.split("\n\n").count(), 43);
+    same!(&rt, ROWS.split("\n\n").count(), 35);
 }
 
-/// Input that is not all lines of text, what it prints, and the status.
-const BYTES: [(&[u8], &[u8], u8); 2] = [
+/// Input that is not all good lines, what it prints, and the status.
+const BYTES: [(&[u8], &[u8], u8); 10] = [
+    (b"", b"", 0),
     (b"unique 0 0", b"is true\n", 0),
+    (b"unique 0 0\n\n", b"is true\nfault: line 2\n", 2),
+    (b"\n", b"fault: line 1\n", 2),
+    (b"unique 0 0\r\n", b"fault: line 1\n", 2),
+    (b"load 0 0\nunique  0 0\n", b"value 5\nfault: line 2\n", 2),
+    (b"lend 0 0\n", b"fault: line 1\n", 2),
+    (b"\0", b"fault: line 1\n", 2),
     (b"\xff", b"fault: line 1\n", 2),
+    (b"Load 0 0\n", b"fault: line 1\n", 2),
 ];
 
 const WRONG_WORDS: [&[&str]; 6] = [

@@ -1,24 +1,22 @@
 //! `arcspeed WORKLOAD ITERATIONS` repeats one workload on the handles of `servo_arc`, and prints a checksum of what it
 //! read. With 0 iterations it only prepares, so that the preparation can be taken off what was measured.
+//!
+//! A workload ends without a checksum if memory, a clone or the clock is refused.
 #![tactic(auto)]
 
-mod cloned;
-mod compared;
-mod fault;
+mod arcs;
 mod header;
 mod lists;
-mod made;
 mod maps;
+mod pages;
 mod random;
-mod read;
 mod styles;
 mod threads;
 mod union;
-mod versions;
-mod written;
 
-use fault::Fault;
+use arcs::VALUE;
 use maps::Order;
+use servo_arc::Arc;
 use std::alloc::Global;
 use std::env;
 use std::env::Env;
@@ -27,90 +25,56 @@ use std::process::ExitCode;
 use std::sync::Wait;
 use std::thread::Threads;
 use std::time::Clock;
+use threads::Turn;
 
-/// The name of a workload, and how often it is repeated.
-fn request(rt: &impl Env, alloc: Global) -> Result<(String, u64), Fault> {
-    let mut words = env::args(&(rt, alloc)).map_err(|_| Fault::Usage)?;
-    let _program = words.next();
-    let workload = words.next().ok_or(Fault::Usage)?;
-    let iterations = words.next().ok_or(Fault::Usage)?;
-    if words.next().is_some() {
-        return Err(Fault::Usage);
-    }
-    let iterations = iterations.parse::<u64>().map_err(|_| Fault::Usage)?;
-    Ok((workload, iterations))
-}
-
-fn checksum<R: Threads + Wait + Sync>(
+fn checksum<R: Clock + Print + Threads + Wait + Sync>(
     rt: &R,
     alloc: Global,
     workload: &str,
-    iterations: u64,
-) -> Result<u64, Fault> {
+    n: u64,
+) -> Option<u64> {
     match workload {
-        "new-drop" => made::new_drop(alloc, iterations),
-        "replace" => made::replace(alloc, iterations),
-        "clone-drop" => cloned::clone_drop(alloc, iterations),
-        "clone-hold" => cloned::clone_hold(alloc, iterations),
-        "deref-sum" => read::deref_sum(alloc, iterations),
-        "make-mut-unique" => written::make_mut_unique(alloc, iterations),
-        "make-mut-shared" => written::make_mut_shared(alloc, iterations),
-        "get-mut-unique" => written::get_mut_unique(alloc, iterations),
-        "contend-1" => threads::contend(rt, alloc, 1, iterations),
-        "contend-2" => threads::contend(rt, alloc, 2, iterations),
-        "contend-4" => threads::contend(rt, alloc, 4, iterations),
-        "ptr-eq-same" => compared::ptr_eq_same(alloc, iterations),
-        "ptr-eq-other" => compared::ptr_eq_other(alloc, iterations),
-        "ptr-eq-4" => compared::ptr_eq_on_threads(rt, alloc, 4, iterations),
-        "into-unique" => written::into_unique(alloc, iterations),
-        "unique-write" => written::unique_write(alloc, iterations),
-        "header-build" => header::header_build(alloc, iterations),
-        "header-sum" => header::header_sum(alloc, iterations),
-        "header-get" => header::header_get(alloc, iterations),
-        "marked-clone" => cloned::marked_clone(alloc, iterations),
-        "marked-clone-4" => threads::marked_clone(rt, alloc, 4, iterations),
-        "static-clone" => cloned::static_clone(alloc, iterations),
-        "union-clone" => union::union_clone(alloc, iterations),
-        "cascade" => styles::cascade(alloc, iterations),
-        "cascade-4" => styles::cascade_in_four(rt, alloc, iterations),
-        _ => checksum_of_versions(alloc, workload, iterations),
+        "new-drop" => arcs::new_drop(alloc, n),
+        "clone-drop" => arcs::clone_often(Arc::new(alloc, VALUE), n),
+        "deref-sum" => arcs::deref_sum(alloc, n),
+        "make-mut-unique" => arcs::make_mut_unique(alloc, n),
+        "get-mut-unique" => arcs::get_mut_unique(alloc, n),
+        "make-mut-shared" => arcs::make_mut_shared(alloc, n),
+        "contend-4" => threads::in_four(rt, alloc, Turn::Clone, n),
+        "ptr-eq-same" => arcs::ptr_eq_same(alloc, n),
+        "ptr-eq-4" => threads::in_four(rt, alloc, Turn::Compare, n),
+        "header-get" => header::get(alloc, n),
+        "header-build" => header::build(alloc, n),
+        "marked-clone" => arcs::clone_often(Arc::new_leaked(alloc, VALUE), n),
+        "static-clone" => arcs::clone_static(alloc, n),
+        "union-clone" => union::clone_often(alloc, n),
+        "cow-set" => pages::set_often(alloc, n),
+        "list-walk" => lists::walk(alloc, n),
+        "cascade" => styles::cascade(rt, alloc, 1, n),
+        "cascade-4" => styles::cascade(rt, alloc, 4, n),
+        "map-rising" => maps::measure(rt, alloc, Order::Rising, n),
+        "map-mixed" => maps::measure(rt, alloc, Order::Mixed, n),
+        _ => None,
     }
 }
 
-/// Of the workloads on lists and maps whose versions share.
-fn checksum_of_versions(alloc: Global, workload: &str, iterations: u64) -> Result<u64, Fault> {
-    match workload {
-        "cow-version" => versions::cow_version(alloc, iterations),
-        "cow-set" => versions::cow_set(alloc, iterations),
-        "cow-get" => versions::cow_get(alloc, iterations),
-        "list-build" => lists::list_build(alloc, iterations),
-        "list-walk" => lists::list_walk(alloc, iterations),
-        _ => Err(Fault::Usage),
-    }
-}
-
-fn run<R: Env + Clock + Print + Threads + Wait + Sync>(
-    rt: &R,
-    alloc: Global,
-) -> Result<u64, Fault> {
-    let (workload, iterations) = request(rt, alloc)?;
-    match workload.as_str() {
-        "map-rising" => maps::measure(rt, alloc, Order::Rising, iterations),
-        "map-mixed" => maps::measure(rt, alloc, Order::Mixed, iterations),
-        _ => checksum(rt, alloc, &workload, iterations),
-    }
+/// The checksum of the workload that the arguments name, repeated as often as they say.
+fn run<R: Env + Clock + Print + Threads + Wait + Sync>(rt: &R, alloc: Global) -> Option<u64> {
+    let words: Vec<String> = env::args(&(rt, alloc)).ok()?.collect(alloc).ok()?;
+    let [_, workload, n] = words.as_slice() else {
+        return None;
+    };
+    checksum(rt, alloc, workload, n.parse().ok()?)
 }
 
 fn main(rt: HostRuntime) -> ExitCode {
-    let printed = match run(&rt, rt.alloc()) {
-        Ok(sum) => println!(rt; "{sum}").map_err(|_| Fault::Output),
-        Err(fault) => Err(fault),
-    };
-    match printed {
-        Ok(()) => ExitCode::SUCCESS,
-        Err(fault) => {
-            let _ = eprintln!(rt; "{fault}");
-            ExitCode::FAILURE
-        }
+    if let Some(sum) = run(&rt, rt.alloc())
+        && println!(rt; "{sum}").is_ok()
+    {
+        return ExitCode::SUCCESS;
     }
+    let _ = eprintln!(rt;
+        "usage: arcspeed WORKLOAD ITERATIONS; or memory, a clone, the clock or the output was refused"
+    );
+    ExitCode::FAILURE
 }

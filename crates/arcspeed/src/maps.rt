@@ -1,7 +1,6 @@
 //! A map of numbers through its calls, each of them timed. The map is `persistent`'s, whose versions share.
 ghost use Rattle.std.specs.Prelude.{◌<◌, length};
 
-use crate::fault::Fault;
 use crate::random::shuffle;
 use persistent::TreeMap;
 use std::alloc::Global;
@@ -22,34 +21,59 @@ pub enum Order {
     Mixed,
 }
 
-fn keys(alloc: Global, order: Order, len: u64) -> Result<Vec<u64>, Fault> {
-    let mut keys = Vec::new(alloc);
-    for key in 0..len {
-        keys.push(key)?;
+const CALLS: [&str; 7] = [
+    "insert", "get", "step", "clone", "version", "remove", "drop",
+];
+
+/// All calls on maps of that many keys, one after another. It prints the nanoseconds that each took.
+pub fn measure<R: Clock + Print>(rt: &R, alloc: Global, order: Order, len: u64) -> Option<u64> {
+    let mut keys: Vec<u64> = (0..len).collect(alloc).ok()?;
+    if let Order::Mixed = order {
+        shuffle(&mut keys);
     }
-    match order {
-        Order::Rising => {}
-        Order::Mixed => shuffle(&mut keys),
+    let mut maps = Vec::new(alloc);
+    let mut sum = 0u64;
+    for call in &CALLS {
+        let start = Instant::now(rt).ok()?;
+        sum = sum.wrapping_add(called(call, &mut maps, alloc, &keys)?);
+        let taken = start.elapsed(rt).ok()?.as_nanos();
+        println!(rt; "{call} {taken}").ok()?;
     }
-    Ok(keys)
+    Some(sum)
 }
 
-/// Prints the nanoseconds since the start.
-fn tell<R: Clock + Print>(rt: &R, call: &str, start: Instant) -> Result<(), Fault> {
-    let taken = start.elapsed(rt).map_err(|_| Fault::Output)?.as_nanos();
-    println!(rt; "{call} {taken}").map_err(|_| Fault::Output)
-}
-
-fn now(rt: &impl Clock) -> Result<Instant, Fault> {
-    Instant::now(rt).map_err(|_| Fault::Output)
-}
-
-fn map(alloc: Global, keys: &[u64]) -> Result<Map, Fault> {
-    let mut map = TreeMap::new();
-    for key in keys {
-        map.insert(alloc, *key, *key)?;
+/// Makes a call, on the last of the maps if it makes none or ends none.
+fn called(call: &str, maps: &mut Vec<Map>, alloc: Global, keys: &[u64]) -> Option<u64> {
+    let rounds = ENTRIES.checked_div(keys.len())?;
+    let Some(map) = maps.last_mut() else {
+        return insert(maps, alloc, keys, rounds.max(2));
+    };
+    match call {
+        "get" => Some(get(map, keys, rounds)),
+        "step" => Some(step(map, rounds)),
+        "clone" => clone(map),
+        "version" => version(map, alloc, keys),
+        "remove" => {
+            let half = maps.len() / 2;
+            remove(&mut maps[half..], alloc, keys)
+        }
+        _ => {
+            maps.clear();
+            Some(0)
+        }
     }
-    Ok(map)
+}
+
+#[inline(never)]
+fn insert(maps: &mut Vec<Map>, alloc: Global, keys: &[u64], count: usize) -> Option<u64> {
+    for _ in 0..count {
+        let mut map = TreeMap::new();
+        for key in keys {
+            map.insert(alloc, *key, *key).ok()?;
+        }
+        maps.push(map).ok()?;
+    }
+    Some(0)
 }
 
 #[inline(never)]
@@ -75,84 +99,36 @@ fn step(map: &Map, rounds: usize) -> u64 {
 }
 
 #[inline(never)]
-fn clone(map: &Map) -> Result<u64, Fault> {
+fn clone(map: &Map) -> Option<u64> {
     let mut sum = 0u64;
     for _ in 0..ENTRIES {
-        let version = map.clone()?;
+        let version = map.clone().ok()?;
         sum = sum.wrapping_add(version.len() as u64);
     }
-    Ok(sum)
+    Some(sum)
 }
 
 /// Each version has another value under one key, and ends the version before it.
 #[inline(never)]
-fn version(map: &mut Map, alloc: Global, keys: &[u64]) -> Result<(), Fault>
+fn version(map: &mut Map, alloc: Global, keys: &[u64]) -> Option<u64>
     requires { 0 < length keys.now }
 {
     for at in 0..VERSIONS {
-        let old = map.clone()?;
-        map.insert(alloc, keys[at % keys.len()], at as u64)?;
+        let old = map.clone().ok()?;
+        map.insert(alloc, keys[at % keys.len()], at as u64).ok()?;
         drop(old);
     }
-    Ok(())
+    Some(0)
 }
 
+/// Removes the keys from each of the maps.
 #[inline(never)]
-fn remove(maps: Vec<Map>, alloc: Global, keys: &[u64]) -> Result<u64, Fault> {
+fn remove(maps: &mut [Map], alloc: Global, keys: &[u64]) -> Option<u64> {
     let mut sum = 0u64;
-    for mut map in maps {
+    for map in maps {
         for key in keys {
-            sum = sum.wrapping_add(map.remove(alloc, key)?.unwrap_or(0));
+            sum = sum.wrapping_add(map.remove(alloc, key).ok()?.unwrap_or(0));
         }
     }
-    Ok(sum)
-}
-
-#[inline(never)]
-fn insert(alloc: Global, keys: &[u64], maps: usize) -> Result<Vec<Map>, Fault> {
-    let mut made = Vec::new(alloc);
-    for _ in 0..maps {
-        made.push(map(alloc, keys)?)?;
-    }
-    Ok(made)
-}
-
-/// All calls on maps of that many keys, one after another.
-pub fn measure<R: Clock + Print>(
-    rt: &R,
-    alloc: Global,
-    order: Order,
-    len: u64,
-) -> Result<u64, Fault> {
-    let keys = keys(alloc, order, len)?;
-    let rounds = ENTRIES.checked_div(keys.len()).ok_or(Fault::Usage)?;
-
-    let start = now(rt)?;
-    let mut kept = insert(alloc, &keys, rounds.max(2))?;
-    tell(rt, "insert", start)?;
-    let mut map = kept.pop().ok_or(Fault::Usage)?;
-
-    let start = now(rt)?;
-    let mut sum = get(&map, &keys, rounds);
-    tell(rt, "get", start)?;
-    let start = now(rt)?;
-    sum = sum.wrapping_add(step(&map, rounds));
-    tell(rt, "step", start)?;
-    let start = now(rt)?;
-    sum = sum.wrapping_add(clone(&map)?);
-    tell(rt, "clone", start)?;
-    let start = now(rt)?;
-    version(&mut map, alloc, &keys)?;
-    tell(rt, "version", start)?;
-    kept.push(map)?;
-
-    let half = kept.len() / 2;
-    let removed = kept.split_off(half)?;
-    let start = now(rt)?;
-    sum = sum.wrapping_add(remove(removed, alloc, &keys)?);
-    tell(rt, "remove", start)?;
-    let start = now(rt)?;
-    drop(kept);
-    tell(rt, "drop", start)?;
-    Ok(sum)
+    Some(sum)
 }

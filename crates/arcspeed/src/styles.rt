@@ -1,5 +1,4 @@
 //! The styles of many elements, by the crate `cascade`.
-use crate::fault::{Fault, made};
 use crate::random::Random;
 use cascade::{Declaration, Element, Initial, Inline, Rule, Style, styles, styles_in_four};
 use servo_arc::Arc;
@@ -19,47 +18,54 @@ fn declaration(number: u32) -> Declaration {
     }
 }
 
-fn rule(alloc: Global, number: u32) -> Result<Arc<Rule>, Fault> {
+fn rule(alloc: Global, number: u32) -> Option<Arc<Rule>> {
     let declarations = [declaration(number), declaration(number.wrapping_mul(7) / 4)];
     let rule = Rule {
         specificity: number % 3,
-        declarations: Arc::from_header_and_slice(alloc, (), &declarations)?,
+        declarations: Arc::from_header_and_slice(alloc, (), &declarations).ok()?,
     };
-    made(Arc::new(alloc, rule))
+    Arc::new(alloc, rule).ok()
 }
 
-/// An element of one of 64 kinds, which says of six classes of rules whether they match. One of eight has a block of
-/// its own.
-fn element(alloc: Global, rules: &[Arc<Rule>], random: u64) -> Result<Element, Fault> {
+/// The rules that say of six classes whether they match.
+fn matching(alloc: Global, rules: &[Arc<Rule>], random: u64) -> Option<Vec<Arc<Rule>>> {
     let mut matched = Vec::new(alloc);
     for (i, rule) in rules.iter().enumerate() {
         if (random >> (i % 6)) & 1 == 1 {
-            matched.push(rule.clone()?)?;
+            matched.push(rule.clone().ok()?).ok()?;
         }
     }
-    let element = Element::of_rules(alloc, matched)?;
-    if (random >> 6) % 8 != 0 {
-        return Ok(element);
-    }
-    let own = [declaration(((random >> 9) % 64) as u32)];
-    let inline = Inline {
-        declarations: Arc::from_header_and_slice(alloc, (), &own)?,
-    };
-    Ok(element.with_inline(made(Arc::new(alloc, inline))?)?)
+    Some(matched)
 }
 
-fn elements(alloc: Global) -> Result<Vec<Element>, Fault> {
+fn inline(alloc: Global, random: u64) -> Option<Arc<Inline>> {
+    let own = [declaration((random % 64) as u32)];
+    let declarations = Arc::from_header_and_slice(alloc, (), &own).ok()?;
+    Arc::new(alloc, Inline { declarations }).ok()
+}
+
+/// An element of one of 64 kinds. One of eight has a block of its own.
+fn element(alloc: Global, rules: &[Arc<Rule>], random: u64) -> Option<Element> {
+    let mut element = Element::of_rules(alloc, matching(alloc, rules, random)?).ok()?;
+    if (random >> 6) % 8 == 0 {
+        element.inline = Some(inline(alloc, random >> 9)?);
+    }
+    Some(element)
+}
+
+fn elements(alloc: Global) -> Option<Vec<Element>> {
     let mut rules = Vec::new(alloc);
     for number in 0..RULES {
-        rules.push(rule(alloc, number)?)?;
+        rules.push(rule(alloc, number)?).ok()?;
     }
     let mut random = Random::new();
-    let mut elements = Vec::with_capacity(alloc, ELEMENTS)?;
+    let mut elements = Vec::new(alloc);
     for _ in 0..ELEMENTS {
-        let upper = random.next() >> 33;
-        elements.push(element(alloc, &rules, upper)?)?;
+        elements
+            .push(element(alloc, &rules, random.next() >> 33)?)
+            .ok()?;
     }
-    Ok(elements)
+    Some(elements)
 }
 
 fn sum_of(styles: &[Arc<Style>]) -> u64 {
@@ -72,30 +78,19 @@ fn sum_of(styles: &[Arc<Style>]) -> u64 {
     sum
 }
 
+/// By one thread, or by four.
 #[inline(never)]
-pub fn cascade(alloc: Global, iterations: u64) -> Result<u64, Fault> {
+pub fn cascade<R: Threads + Sync>(rt: &R, alloc: Global, threads: u32, n: u64) -> Option<u64> {
     let elements = elements(alloc)?;
-    let initial = Initial::new(alloc)?;
+    let initial = Initial::new(alloc).ok()?;
     let mut sum = 0u64;
-    for _ in 0..iterations {
-        let styles = styles(alloc, initial, &elements)?;
-        sum = sum.wrapping_add(sum_of(&styles));
+    for _ in 0..n {
+        let styles = if threads == 1 {
+            styles(alloc, initial, &elements)
+        } else {
+            styles_in_four(rt, alloc, initial, &elements)
+        };
+        sum = sum.wrapping_add(sum_of(&styles.ok()?));
     }
-    Ok(sum)
-}
-
-#[inline(never)]
-pub fn cascade_in_four<R: Threads + Sync>(
-    rt: &R,
-    alloc: Global,
-    iterations: u64,
-) -> Result<u64, Fault> {
-    let elements = elements(alloc)?;
-    let initial = Initial::new(alloc)?;
-    let mut sum = 0u64;
-    for _ in 0..iterations {
-        let styles = styles_in_four(rt, alloc, initial, &elements)?;
-        sum = sum.wrapping_add(sum_of(&styles));
-    }
-    Ok(sum)
+    Some(sum)
 }

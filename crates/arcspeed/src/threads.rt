@@ -1,56 +1,49 @@
-//! One block that several threads clone and drop at once.
-use crate::cloned::{VALUE, clone_often};
-use crate::fault::{Fault, made};
+//! Blocks that four threads use at once.
+use crate::arcs::{VALUE, compare_often};
 use servo_arc::Arc;
 use std::alloc::Global;
 use std::sync::Wait;
 use std::thread;
 use std::thread::Threads;
 
-/// Each thread makes so many clones, and waits until it has each of them.
+/// What each thread repeats.
+#[derive(Clone, Copy)]
+pub enum Turn {
+    Clone,
+    Compare,
+}
+
 #[inline(never)]
-pub fn contend<R: Threads + Wait + Sync>(
-    rt: &R,
-    alloc: Global,
-    threads: usize,
-    iterations: u64,
-) -> Result<u64, Fault> {
-    let handle = made(Arc::new(alloc, VALUE))?;
+pub fn in_four<R: Threads + Wait + Sync>(rt: &R, alloc: Global, turn: Turn, n: u64) -> Option<u64> {
+    let first = Arc::new(alloc, VALUE).ok()?;
+    let second = Arc::new(alloc, VALUE).ok()?;
     let sums = thread::map_indices(
         rt,
         alloc,
-        threads,
-        &|_| { clone_waiting(&handle, rt, iterations) },
-    )?;
+        4,
+        &|_| match turn {
+            Turn::Clone => clone_waiting(&first, rt, n),
+            Turn::Compare => Some(compare_often(&first, &second, n)),
+        },
+    )
+    .ok()?;
     total(&sums)
 }
 
-/// Each thread makes so many clones of a marked block.
-#[inline(never)]
-pub fn marked_clone<R: Threads + Sync>(
-    rt: &R,
-    alloc: Global,
-    threads: usize,
-    iterations: u64,
-) -> Result<u64, Fault> {
-    let handle = made(Arc::new_leaked(alloc, VALUE))?;
-    let sums = thread::map_indices(rt, alloc, threads, &|_| clone_often(&handle, iterations))?;
-    total(&sums)
-}
-
-fn clone_waiting(handle: &Arc<u64>, rt: &impl Wait, iterations: u64) -> Result<u64, Fault> {
-    let mut sum = 0u64;
-    for _ in 0..iterations {
-        let again = Arc::clone(handle, rt)?;
-        sum = sum.wrapping_add(*again);
-    }
-    Ok(sum)
-}
-
-fn total(sums: &[Result<u64, Fault>]) -> Result<u64, Fault> {
+fn total(sums: &[Option<u64>]) -> Option<u64> {
     let mut total = 0u64;
     for sum in sums {
         total = total.wrapping_add((*sum)?);
     }
-    Ok(total)
+    Some(total)
+}
+
+/// Waits until it has each of the clones.
+fn clone_waiting(handle: &Arc<u64>, rt: &impl Wait, n: u64) -> Option<u64> {
+    let mut sum = 0u64;
+    for _ in 0..n {
+        let again = Arc::clone(handle, rt).ok()?;
+        sum = sum.wrapping_add(*again);
+    }
+    Some(sum)
 }

@@ -6,6 +6,7 @@
 //! `std` is the port's own tree over `std::sync::Arc`, and `im` the `OrdMap` of im-rc with atomic counts, which is
 //! there if this was compiled with `--cfg im`.
 
+mod random;
 mod trees;
 
 use std::time::Instant;
@@ -69,97 +70,106 @@ impl Map for im_rc::OrdMap<u64, u64> {
 const ENTRIES: usize = 1_000_000;
 const VERSIONS: usize = 100_000;
 
-fn next(state: u64) -> u64 {
-    state
-        .wrapping_mul(6364136223846793005)
-        .wrapping_add(1442695040888963407)
-}
-
 fn keys(order: &str, len: usize) -> Option<Vec<u64>> {
     let mut keys: Vec<u64> = (0..len as u64).collect();
     match order {
         "map-rising" => {}
-        "map-mixed" => {
-            let mut state = 1;
-            for i in 1..len {
-                state = next(state);
-                keys.swap(i, (state >> 33) as usize % (i + 1));
-            }
-        }
+        "map-mixed" => random::shuffle(&mut keys),
         _ => return None,
     }
     Some(keys)
 }
 
-fn told(name: &str, start: Instant) {
-    println!("{name} {}", start.elapsed().as_nanos());
+/// Prints how long the work took.
+fn timed<T>(call: &str, work: impl FnOnce() -> T) -> T {
+    let start = Instant::now();
+    let made = work();
+    println!("{call} {}", start.elapsed().as_nanos());
+    made
 }
 
-fn measure<M: Map>(keys: &[u64]) -> u64 {
-    let rounds = ENTRIES / keys.len();
-    let mut sum = 0u64;
-    let start = Instant::now();
-    let mut maps = Vec::new();
-    for _ in 0..rounds.max(2) {
+fn insert<M: Map>(keys: &[u64], maps: usize) -> Vec<M> {
+    let mut made = Vec::new();
+    for _ in 0..maps {
         let mut map = M::default();
         for &key in keys {
             map.insert(key, key);
         }
-        maps.push(map);
+        made.push(map);
     }
-    told("insert", start);
+    made
+}
 
-    let mut map = maps.pop().unwrap();
-    let start = Instant::now();
+fn get(map: &impl Map, keys: &[u64], rounds: usize) -> u64 {
+    let mut sum = 0u64;
     for _ in 0..rounds {
         for &key in keys {
             sum = sum.wrapping_add(map.get(key).unwrap_or(0));
         }
     }
-    told("get", start);
-    let start = Instant::now();
-    let mut steps = 0u64;
+    sum
+}
+
+fn step(map: &impl Map, rounds: usize) -> u64 {
+    let mut sum = 0u64;
     for _ in 0..rounds {
         for value in map.values() {
-            steps = steps.rotate_left(1).wrapping_add(value);
+            sum = sum.rotate_left(1).wrapping_add(value);
         }
     }
-    told("step", start);
-    sum = sum.wrapping_add(steps);
-    let start = Instant::now();
+    sum
+}
+
+fn clone(map: &impl Map) -> u64 {
+    let mut sum = 0u64;
     for _ in 0..ENTRIES {
         let version = map.clone();
         sum = sum.wrapping_add(version.len() as u64);
     }
-    told("clone", start);
-    let start = Instant::now();
+    sum
+}
+
+/// Each version has another value under one key, and ends the version before it.
+fn version(map: &mut impl Map, keys: &[u64]) {
     for at in 0..VERSIONS {
         let old = map.clone();
         map.insert(keys[at % keys.len()], at as u64);
         drop(old);
     }
-    told("version", start);
-    maps.push(map);
+}
 
-    let rest = maps.split_off(maps.len() / 2);
-    let start = Instant::now();
-    for mut map in rest {
+fn remove(maps: Vec<impl Map>, keys: &[u64]) -> u64 {
+    let mut sum = 0u64;
+    for mut map in maps {
         for &key in keys {
             sum = sum.wrapping_add(map.remove(key).unwrap_or(0));
         }
     }
-    told("remove", start);
-    let start = Instant::now();
-    drop(maps);
-    told("drop", start);
     sum
 }
 
-fn measured(implementation: &str, keys: &[u64]) -> Option<u64> {
+/// All calls on maps of these keys, one after another.
+fn measure<M: Map>(keys: &[u64]) -> u64 {
+    let rounds = ENTRIES / keys.len();
+    let mut maps: Vec<M> = timed("insert", || insert(keys, rounds.max(2)));
+    let mut map = maps.pop().unwrap();
+    let mut sum = timed("get", || get(&map, keys, rounds));
+    sum = sum.wrapping_add(timed("step", || step(&map, rounds)));
+    sum = sum.wrapping_add(timed("clone", || clone(&map)));
+    timed("version", || version(&mut map, keys));
+    maps.push(map);
+    let rest = maps.split_off(maps.len() / 2);
+    sum = sum.wrapping_add(timed("remove", || remove(rest, keys)));
+    timed("drop", || drop(maps));
+    sum
+}
+
+fn checksum(implementation: &str, order: &str, len: &str) -> Option<u64> {
+    let keys = keys(order, len.parse().ok().filter(|len| *len > 0)?)?;
     match implementation {
-        "std" => Some(measure::<trees::Map>(keys)),
+        "std" => Some(measure::<trees::Map>(&keys)),
         #[cfg(im)]
-        "im" => Some(measure::<im_rc::OrdMap<u64, u64>>(keys)),
+        "im" => Some(measure::<im_rc::OrdMap<u64, u64>>(&keys)),
         _ => None,
     }
 }
@@ -169,11 +179,7 @@ fn main() {
     let words: Vec<&str> = words.iter().map(|word| word.as_str()).collect();
     let sum = match words.as_slice() {
         ["list"] => return println!("std{}", if cfg!(im) { " im" } else { "" }),
-        [implementation, order, len] => len
-            .parse()
-            .ok()
-            .and_then(|len| keys(order, len))
-            .and_then(|keys| measured(implementation, &keys)),
+        [implementation, order, len] => checksum(implementation, order, len),
         _ => None,
     };
     match sum {

@@ -1,10 +1,7 @@
-"""What the comparisons share: one timed run, medians, and instructions."""
+"""What the comparison rests on: one timed run, medians and the interval in which a median lies."""
 import itertools
 import math
-import os
-import re
 import subprocess
-import tempfile
 import time
 from typing import NamedTuple
 
@@ -56,13 +53,3 @@ def middle_half(values):
 
 def ratio(one, other):
     return one / max(other, 1e-9)
-
-
-def instructions(command):
-    """The instructions of one run by valgrind's callgrind, or None if valgrind is not there."""
-    with tempfile.TemporaryDirectory() as folder:
-        counted = subprocess.run(
-            ["valgrind", "--tool=callgrind", "--callgrind-out-file=" + os.path.join(folder, "out")] + command,
-            stdin=subprocess.DEVNULL, capture_output=True, text=True)
-    found = re.search(r"Collected : (\d+)", counted.stderr)
-    return int(found.group(1)) if found else None

@@ -5,8 +5,7 @@
 - a block of Rust names a file, as ```rust crates/first_example/src/main.rt, in which it stands as it is. One that names
   none is of docs/DECISIONS.md, and the checker refuses it: gate/elsewhere.sh;
 - what a command prints on an example, as after `# prints:`, is what the example's expected lines say;
-- docs/SPEED.md shows the figures of bench/maps.tsv, and of bench/measured.tsv some, with each that misses its goal;
-  docs/speed.svg is drawn from the latter;
+- docs/SPEED.md shows the figures of bench/maps.tsv and bench/measured.tsv, but for scripts that meet their goals;
 - bench/measured.tsv has each goal of bench/goals.tsv and no other, with the verdict that follows from its figures.
 """
 import csv
@@ -17,7 +16,7 @@ from pathlib import Path
 
 ROOT = Path(__file__).resolve().parent.parent
 sys.path.append(str(ROOT / "bench"))
-from compare import NOISE, judgement, read_goals
+from compare import read_goals, verdict
 LINK = re.compile(r"\[((?:[^\]\[]|\[[^\]]*\])+)\]\(([^)\s]+)\)")
 REFERENCE = re.compile(r"\]\[|^ *\[[^\]]+\]:", re.M)
 PRINTS = re.compile(r"< examples/(\w+/\w+) +# prints: (.*)")
@@ -90,40 +89,28 @@ def table(name):
 
 
 def wrong_speed():
-    """The lines of docs/SPEED.md on a workload that say something else, the lines that it lacks of maps and of missed
-    goals, and its figure if that is another."""
+    """The lines of docs/SPEED.md on a workload that say something else, and the lines that it lacks."""
     rows = table("measured.tsv")
-    measured = {row["workload"]: speed_line(row) for row in rows}
-    shown = (ROOT / "docs" / "SPEED.md").read_text().splitlines()
-    yield from (line for line in shown if measured.get(line.partition(" ")[0], line) != line)
-    missed = (measured[row["workload"]] for row in rows if row["verdict"] == "missed")
-    yield from (line for line in missed if line not in shown)
+    names = {row["workload"] for row in rows}
+    shown = set((ROOT / "docs" / "SPEED.md").read_text().splitlines())
+    told = (row for row in rows if row["verdict"] == "missed" or not row["workload"].startswith("script-"))
+    wanted = {speed_line(row) for row in told}
+    yield from wanted ^ {line for line in shown if line.partition(" ")[0] in names}
     calls = {}
     for row in table("maps.tsv"):
         calls.setdefault((row["order"], row["call"]), []).append(row)
     yield from (line for line in map(map_line, calls.values()) if line not in shown)
-    plot = ["bench/plot.py", "bench/measured.tsv", "--goals", "bench/goals.tsv"]
-    drawn = subprocess.run(plot, cwd=ROOT, capture_output=True, text=True, check=True).stdout
-    if drawn != (ROOT / "docs" / "speed.svg").read_text():
-        yield "speed.svg"
-
-
-def verdict(row, most):
-    """What bench/compare.py says of the figures of a workload."""
-    control = {name: float(row[name]) for name in ("control_from", "control_to")}
-    judged = float(row["judged_from"]), float(row["judged_to"])
-    return judgement(control, judged, most, row["goal"], NOISE)["verdict"]
 
 
 def wrong_verdicts():
     """The workloads whose goal is not in bench/goals.tsv or whose verdict is another, and the goals of no workload."""
-    found = read_goals(ROOT / "bench" / "goals.tsv").items()
-    goals = {(name, goal): most for name, of_one in found for _, most, goal in of_one}
+    goals = read_goals(ROOT / "bench" / "goals.tsv")
     for row in table("measured.tsv"):
-        most = goals.pop((row["workload"], row["goal"]), None)
-        if most is None or verdict(row, most) != row["verdict"]:
+        _, most, goal = goals.pop(row["workload"], (None, None, None))
+        judged = {name: float(row[name]) for name in ("control_from", "control_to", "judged_from", "judged_to")}
+        if goal != row["goal"] or verdict(judged, most) != row["verdict"]:
             yield f"the goal or the verdict of {row['workload']}"
-    yield from (f"the goal {goal} of {name}" for name, goal in goals)
+    yield from (f"the goal of {name}" for name in goals)
 
 
 def main():

@@ -4,7 +4,8 @@
 - each file and heading that a link leads to is there, and if the link's text is code, the file has each of its names;
 - a block of Rust names a file, as ```rust crates/first_example/src/main.rt, in which it stands as it is. One that names
   none is of docs/DECISIONS.md, and the checker refuses it: gate/elsewhere.sh;
-- what a command prints on an example, as after `# prints:`, is what the example's expected lines say;
+- what a command prints on an example, as after `# prints:`, is what the example's expected lines say; a drawing of an
+  example, as ```text examples/core/first, has its steps and answers, each in the column of its owner;
 - docs/SPEED.md shows the figures of bench/maps.tsv and bench/measured.tsv, but for scripts that meet their goals;
 - bench/measured.tsv has each goal of bench/goals.tsv and no other, with the verdict that follows from its figures.
 """
@@ -20,6 +21,8 @@ from compare import read_goals, verdict
 LINK = re.compile(r"\[((?:[^\]\[]|\[[^\]]*\])+)\]\(([^)\s]+)\)")
 REFERENCE = re.compile(r"\]\[|^ *\[[^\]]+\]:", re.M)
 PRINTS = re.compile(r"< examples/(\w+/\w+) +# prints: (.*)")
+DRAWN = re.compile(r"```text examples/(core/\w+)\n(.*?)```", re.S)
+STEP = re.compile(r"([a-z]+)((?: \d+)*): (\S+(?: \S+)*)")
 QUOTE = re.compile(r"```rust ?(\S*)\n(.*?)```", re.S)
 
 
@@ -44,6 +47,15 @@ def wrong_link(document, label, target):
     return f"the file has no {', '.join(lacking)}" if lacking else None
 
 
+def drawn_steps(drawing):
+    """The lines of the script that a drawing shows, and their answers."""
+    head, *rows = drawing.splitlines()
+    found = [step for row in rows for step in STEP.finditer(row)]
+    owners = [re.sub(r"\D*", "", head[step.start():].partition("  ")[0]) for step in found]
+    steps = [f"{step[1]} {owner}{step[2]}" for step, owner in zip(found, owners)]
+    return [steps, [step[3] for step in found]]
+
+
 def wrong_in(document):
     text = document.read_text()
     prose = re.sub(r"```.*?```", "", text, flags=re.S)
@@ -60,6 +72,10 @@ def wrong_in(document):
         expected = (ROOT / "examples" / f"{name}.stdout").read_text().splitlines()
         if printed != ", ".join(expected):
             yield f"the example {name} prints {', '.join(expected)}"
+    for name, drawing in DRAWN.findall(text):
+        example = ROOT / "examples" / name
+        if drawn_steps(drawing) != [path.read_text().splitlines() for path in (example, Path(f"{example}.stdout"))]:
+            yield f"the drawing of {name} has other steps or answers"
 
 
 def nanoseconds(figure):

@@ -40,7 +40,7 @@ pub fn is_shared<V>(a: &Rose<V>, b: &Rose<V>, path: &[usize]) -> bool {
 }
 
 // A path, the values there before and after a change at [1, 0], and whether both trees share the node.
-// docs/pictures/draw.py draws them.
+// docs/pictures/versions_share_nodes.svg shows them.
 type Row = (&'static [usize], Option<u64>, Option<u64>, bool);
 
 const ROWS: [Row; 7] = [

@@ -47,7 +47,7 @@ pub use Rattle.counting_word.specs.declared.ClonePlan.{ClonePlan}
 pub use Rattle.counting_word.specs.declared.ClonePlan.TheVariants.{Static as StaticClone, Full as FullClone}
 pub use Rattle.counting_word.specs.declared.ClonePlan.TheVariants.{Raise as RaiseClone}
 pub use Rattle.counting_word.specs.declared.DropPlan.TheVariants.{Static as StaticDrop, Lower as LowerDrop}
-pub use Rattle.counting_core.specs.Actions.{step_of, step_on}
+pub use Rattle.counting_core.specs.Actions.{step_on}
 pub use Rattle.counting_core.specs.ByWord.{IsPermitted, cloned, dropped, by_word, value_after, births_after}
 pub use Rattle.counting_core.specs.ByWord.{TakesEffect, FollowsWord, answered}
 pub use Rattle.counting_core.specs.HandleSteps.{IsAs, right_of, AnswersAreByTheWord, StepsAreThoseOfHandles}

@@ -1,7 +1,5 @@
 -- The step that an owner makes, by what it does.
 use Rattle.std.specs.Prelude.{ℕ}
-use Rattle.counting_core.specs.declared.action.FlightAction.{FlightAction}
-use Rattle.counting_core.specs.declared.action.FlightAction.TheVariants.{Raise, Quit, Lower}
 use Rattle.counting_core.specs.declared.action.HandleAction.{HandleAction}
 use Rattle.counting_core.specs.declared.action.HandleAction.TheVariants.{Clone, Drop, Mark, Unique, Static, GetMut}
 use Rattle.counting_core.specs.declared.action.HandleAction.TheVariants.{Write, EndWrite, IntoUnique, Share, Load}
@@ -26,9 +24,3 @@ module _ {V : Type 0} where
   step_on o h (Lend to) = Step.TheVariants.Lend o h to
   step_on o h Return = Step.TheVariants.Return o h
   step_on o h (Give to) = Step.TheVariants.Give o h to
-
-  -- how the owner o goes on with what it has in flight
-  abbrev pub step_of : ℕ → FlightAction → Step V
-  step_of o Raise = Step.TheVariants.Raise o
-  step_of o Quit = Step.TheVariants.Quit o
-  step_of o Lower = Step.TheVariants.Lower o

@@ -1,18 +1,7 @@
-//! What a step does, apart from whose it is.
-ghost use Rattle.std.specs.Prelude.{◌≡◌, ⊤};
+//! What an owner does with a handle.
 
-use std::alloc::AllocError;
-
-/// How an owner goes on with what it has in flight.
-#[derive(Clone, Copy)]
-pub(crate) enum FlightAction {
-    Raise,
-    Quit,
-    Lower,
-}
-
-/// What an owner that has nothing in flight does with a handle.
-#[derive(Copy)]
+/// A step on a handle, apart from its owner and the handle.
+#[derive(Drop)]
 pub(crate) enum HandleAction<V> {
     Clone,
     Drop,
@@ -30,14 +19,4 @@ pub(crate) enum HandleAction<V> {
     Return,
     /// To this owner.
     Give(usize),
-}
-
-impl<V: Copy> Clone for HandleAction<V> {
-    ghost is_clone = { λ action copy. copy ≡ action };
-
-    ghost is_infallible = { λ _. ⊤ };
-
-    fn clone(&self) -> Result<Self, AllocError> {
-        Ok(*self)
-    }
 }

@@ -1,28 +1,32 @@
-//! Which step is permitted to an owner that has nothing in flight.
-ghost use Rattle.std.specs.Prelude.{◌≡◌};
+//! Which step on a handle is permitted.
+ghost use Rattle.std.specs.Prelude.{◌≡◌, ◌<◌, length, true};
 ghost use Rattle.counting_core.specs.Actions.{step_on};
-ghost use Rattle.counting_core.specs.Permitted.{is_another, permitted_by};
-ghost use Rattle.counting_core.specs.Represents.{state_of};
+ghost use Rattle.counting_core.specs.Permitted.{is_another, permitted};
+ghost use Rattle.counting_core.specs.Represents.{core_of, state_of};
 
+use crate::acting::Machine;
 use crate::action::HandleAction;
 use crate::activity::Activity;
-use crate::protocol::Core;
 
-impl<V: Copy> Core<V> {
+impl<V: Copy> Machine<V> {
     fn is_another(&self, owner: usize, to: usize) -> bool
-        ensures { result ≡ is_another (state_of self.now) owner to }
+        ensures { result ≡ is_another (state_of (core_of self.now)) owner to }
     {
         to < self.owners.len() && to != owner
     }
 
-    #[inline(always)]
-    pub(crate) fn permits(&self, owner: usize, handle: usize, action: HandleAction<V>) -> bool
-        ensures { result ≡ permitted_by (state_of self.now) Activity.Idle (step_on owner handle action) }
+    /// Only an owner that has nothing in flight may begin a step on a handle.
+    pub(crate) fn permits(&self, owner: usize, handle: usize, action: &HandleAction<V>) -> bool
+        ensures permitted { result ≡ permitted (state_of (core_of self.now)) (step_on owner handle action.now) }
+        ensures born { result ≡ true → handle < length self.now.handles.items }
     {
+        let Some(Activity::Idle) = self.owners.get(owner) else {
+            return false;
+        };
         let Some(entry) = self.handles.get(handle) else {
             return false;
         };
-        match action {
+        match *action {
             HandleAction::Clone
             | HandleAction::Mark
             | HandleAction::Unique

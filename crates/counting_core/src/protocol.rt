@@ -1,6 +1,7 @@
 //! The core: the fields of a block, which its owners step.
+use crate::acting::Machine;
 use crate::activity::Activity;
-use crate::handle_entry::{HandleEntry, push_newborn};
+use crate::handle_entry::push_newborn;
 use crate::step::{Answer, Step};
 use std::alloc::{AllocError, Global};
 use std::marker::Model;
@@ -13,12 +14,7 @@ use std::marker::Model;
 /// the number of its borrowers.
 #[derive(Drop)]
 pub struct Core<V> {
-    pub(crate) alloc: Global,
-    pub(crate) value: V,
-    pub(crate) word: u64,
-    pub(crate) limit: u64,
-    pub(crate) handles: Vec<HandleEntry>,
-    pub(crate) owners: Vec<Activity>,
+    pub(crate) machine: Machine<V>,
 }
 
 impl<V> Model for Core<V> {
@@ -26,10 +22,9 @@ impl<V> Model for Core<V> {
 
     ghost Value = { CoreState V };
 
-    ghost view = { λ core. core_of core.value core.word core.limit core.handles.items core.owners.items };
+    ghost view = { λ core. core_of core.machine };
 
-    ghost invariant = { λ core.
-        IsReached (core_of core.value core.word core.limit core.handles.items core.owners.items) };
+    ghost invariant = { λ core. IsReached (core_of core.machine) };
 }
 
 impl<V: Copy> Core<V> {
@@ -58,12 +53,14 @@ impl<V: Copy> Core<V> {
             return Err(value);
         };
         Ok(Self {
-            alloc,
-            value,
-            word: 1,
-            limit,
-            handles,
-            owners,
+            machine: Machine {
+                alloc,
+                value,
+                word: 1,
+                limit,
+                handles,
+                owners,
+            },
         })
     }
 
@@ -87,7 +84,7 @@ impl<V: Copy> Core<V> {
         ensures refused { OnErr result (self.new ≡ self.old) }
         ensures empty { steps.now ≡ [] → IsOk result }
     {
-        let mut answers = Vec::with_capacity(self.alloc, steps.len())?;
+        let mut answers = Vec::with_capacity(self.machine.alloc, steps.len())?;
         for step in steps {
             answers.push_reserved(self.step(*step));
         }

@@ -2,7 +2,7 @@
 use Rattle.counting_core.proofs.Names.{IsTrue, ◌≡◌, inl, inr, ℕ, true, length, refl, sym, ◌∙◌, ap, subst, or_parts}
 use Rattle.counting_core.proofs.Names.{StandsFor, Step, Answer, Memory, Barred, Trace, Then, after, permitted}
 use Rattle.counting_core.proofs.Names.{Model, state, model, takes_memory, IsAnswer, CoreState, Represents, state_of}
-use Rattle.counting_core.proofs.Names.{Continues, IsReached, drops_in_flight, IsPermitted, value_after, births_after}
+use Rattle.counting_core.proofs.Names.{Continues, IsReached, drops_in_flight, value_after, births_after}
 use Rattle.counting_core.proofs.Names.{TakesEffect, FollowsWord}
 use Rattle.counting_core.proofs.Traces.Deeds.{EachDeed, Deed, clone_reads, raise_loses, clone_bears, writes}
 use Rattle.counting_core.proofs.Traces.LegalSteps.{takes_effect, Happens, happens, expected-by}
@@ -83,21 +83,3 @@ module _ {V : Type 0} where
 
   pub reaches : (f d : CoreState V) (s : Step V) (a : Answer V) → FollowsWord f s a d → IsReached f → IsReached d
   reaches f d s a w reached = (Then reached.0 s a, continues f d s a w reached.0 reached.1)
-
-  -- The fields are those of the core, whose step leads some trace on.
-  pub led_on : {f now : CoreState V} → f ≡ now → IsReached f → (s : Step V) (d : CoreState V) (a : Answer V)
-      → FollowsWord now s a d → IsReached d
-  led_on is reached s d a w = reaches _ d s a w (subst IsReached is reached)
-
-  -- The fields are those of the core: what a step makes of them it makes of the core, and some trace has led to it.
-  module _ {f now : CoreState V} (is : f ≡ now) (d : CoreState V) {x s : Step V} (same : x ≡ s) (a : Answer V)
-      (may : IsPermitted now x) where
-    made-of : (IsPermitted f s → FollowsWord f s a d) → FollowsWord f x a d
-    made-of made = subst (λ y. IsPermitted f y → FollowsWord f y a d) (sym same) made
-        (subst (λ k. IsPermitted k x) (sym is) may)
-
-    pub follows : (IsPermitted f s → FollowsWord f s a d) → FollowsWord now x a d
-    follows made = subst (λ k. FollowsWord k x a d) is (made-of made)
-
-    pub stays : IsReached f → (IsPermitted f s → FollowsWord f s a d) → IsReached d
-    stays reached made = reaches f d x a (made-of made) reached

@@ -4,7 +4,6 @@ use Rattle.counting_core.proofs.Names.{replicate, refl, sym, ◌∙◌, ap, subs
 use Rattle.counting_core.proofs.Names.{get_or-replicate, length-replicate, get_or-eq_default, fun_ext, IsLimit}
 use Rattle.counting_core.proofs.Names.{stands-new, Activity, Idle, Step, Answer, Trace, Open, Then, then_all}
 use Rattle.counting_core.proofs.Names.{HandleState, unborn, newborn, CoreState, Represents, Continues, ContinuesAll}
-use Rattle.counting_core.proofs.Names.{core_of}
 use Rattle.counting_core.proofs.Steps.Edits.{get_or-push}
 
 owner-replicate : (n q : ℕ) → get_or (replicate n Idle) q Idle ≡ Idle
@@ -19,7 +18,7 @@ module _ {V : Type 0} where
   -- a core as it is made
   pub opens : (v : V) (n limit : ℕ) → IsLimit limit → (before handles : List HandleState) (owners : List Activity)
       → before ≡ [] → handles ≡ before ++ newborn 0 ∷ [] → owners ≡ replicate n Idle
-      → Represents (core_of v 1 limit handles owners) (Open v n limit)
+      → Represents (record { value = v; word = 1; limit = limit; handles = handles; owners = owners }) (Open v n limit)
   opens v n limit is_limit before handles owners none one idles = record {
     legal = is_limit;
     same_state = λ i. record {

@@ -179,7 +179,8 @@ impl<V: Copy> Machine<V> {
     }
 
     fn drop_handle(&mut self, owner: usize, handle: usize) -> Answer<V>
-        requires { IsPermitted (core_of self.old) (Step.Drop owner handle) }
+        requires allowed { IsPermitted (core_of self.old) (Step.Drop owner handle) }
+        requires born { handle < length self.old.handles.items }
         ensures { FollowsWord (core_of self.old) (Step.Drop owner handle) result (core_of self.new) }
     {
         match plan_drop(self.word) {

@@ -2,19 +2,19 @@
 use Rattle.counting_core.proofs.Names.{lowered-less, mark_bit, greatest_count, ◌≡◌, ◌≢◌, ℕ, ◌-◌, ◌%◌, ◌≤◌, ◌<◌, ◌++◌}
 use Rattle.counting_core.proofs.Names.{◌∷◌, [], Bool, true, false, List, length, if◌then◌else◌, get_or, set, refl, sym}
 use Rattle.counting_core.proofs.Names.{◌∙◌, ap, ap₂, subst, length-set, arith, nat_eq, ne_eqb, eq-eqb, eqb-true}
-use Rattle.counting_core.proofs.Names.{leb-true, and_parts, is_one_handle, count_of}
-use Rattle.counting_core.proofs.Names.{ClonePlan, clone_plan, drop_plan, StaticClone, FullClone, RaiseClone, StaticDrop}
+use Rattle.counting_core.proofs.Names.{leb-true, is_one_handle, count_of}
+use Rattle.counting_core.proofs.Names.{ClonePlan, clone_plan, StaticClone, FullClone, RaiseClone}
 use Rattle.counting_core.proofs.Names.{ClonePlanSays, clone_plan-says, count_of-unmarked, Idle, Cloning}
-use Rattle.counting_core.proofs.Names.{Dropping, Clone, Raise, Drop, Lower, Born, Full, Ended, GivenUp}
+use Rattle.counting_core.proofs.Names.{Dropping, Clone, Raise, Lower, Born, Full, Ended, GivenUp}
 use Rattle.counting_core.proofs.Names.{HandleState, ended, State, goes_on_to, newborn, handle_in, seen_in, limit_of}
 use Rattle.counting_core.proofs.Names.{permitted, state, CoreState, handle, activity, state_of, Represents}
-use Rattle.counting_core.proofs.Names.{IsReached, IsPermitted, cloned, dropped, by_word, TakesEffect}
+use Rattle.counting_core.proofs.Names.{IsReached, IsPermitted, cloned, by_word, TakesEffect}
 use Rattle.counting_core.proofs.Traces.Activities.{begun}
-use Rattle.counting_core.proofs.Traces.InFlight.{parts-alone, all_fit, dropped-lives}
+use Rattle.counting_core.proofs.Traces.InFlight.{all_fit, dropped-lives}
 use Rattle.counting_core.proofs.Traces.Places.{put-same}
 use Rattle.counting_core.proofs.Traces.Limits.{room_seen}
 use Rattle.counting_core.proofs.Traces.LiveCounts.{core_limit, lower_counts}
-use Rattle.counting_core.proofs.Steps.Edits.{born, effect, edits, goes, bears, within, state-owner, state-edit}
+use Rattle.counting_core.proofs.Steps.Edits.{born, effect, goes, bears, within, state-owner, state-edit}
 use Rattle.counting_core.proofs.Steps.ByTheWord.{raise-by}
 
 module _ {V : Type 0} (f : CoreState V) where
@@ -73,21 +73,6 @@ module _ {V : Type 0} (f : CoreState V) where
   raise_bears o word by may {n} number {handles} pushed =
       bears f o word (Raise o) n handles (set f.owners o Idle) may refl number pushed (length-set f.owners o Idle)
       (ap (λ (u : State). u.activity) (state-owner f o Idle (within f (Raise o) may))) by refl
-
-  -- the handle of a drop lives, so it was born
-  drop_lives : (o h : ℕ) → IsPermitted f (Drop o h) → (handle f h).lives ≡ true
-  drop_lives o h may = (and_parts _ _ (and_parts _ _ (parts-alone (handle f h) o
-      (begun (state_of f) (Drop o h) may refl).1)).0).0
-
-  pub drop_born : {n : ℕ} → n ≡ length f.handles → (o h : ℕ) → IsPermitted f (Drop o h) → h < n
-  drop_born all o h may = subst (λ n. h < n) (sym all) (born f h (drop_lives o h may))
-
-  pub drop_ends : (o h : ℕ) (k new : HandleState) → k ≡ get_or f.handles h k → new ≡ record k { lives = false }
-      → drop_plan f.word ≡ StaticDrop → IsPermitted f (Drop o h)
-      → TakesEffect f (Drop o h) Ended (record f { handles = set f.handles h new })
-  drop_ends o h k new was now plan may =
-      edits f h (λ s. record s { lives = false }) k new was now (drop_lives o h may)
-      (Drop o h) Ended may (ap (λ p. (dropped p, f.word)) (sym plan)) refl refl refl
 
   -- a lower, whose owner has a drop in flight
   module _ (reached : IsReached f) (o h : ℕ) (busy : activity f o ≡ Dropping h) where

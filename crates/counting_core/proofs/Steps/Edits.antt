@@ -82,14 +82,6 @@ module _ {V : Type 0} (f : CoreState V) where
         ∙ ap (λ (s : HandleState). record (state_of f) { handle = put (handle f) h s })
         (now ∙ ap edit (was ∙ get_or_default f.handles h k unborn (born h lives)))
 
-    -- a step that changes one handle
-    pub edits : (x : Step V) (a : Answer V) → IsPermitted f x → (a, f.word) ≡ by_word f x
-        → record (state_of f) { handle = put (handle f) h (edit (handle f h)) } ≡ after f.word (state_of f) x a
-        → f.value ≡ value_after f.value x → length f.handles ≡ births_after (length f.handles) a
-        → TakesEffect f x a (record f { handles = set f.handles h new })
-    edits x a may by same value births = effect (record f { handles = set f.handles h new }) x a may by
-        (state-edit ∙ same) value (length-set f.handles h new ∙ births) refl
-
   -- a birth, after which its owner is idle
   pub bears : (o word : ℕ) (x : Step V) (n : ℕ) (handles : List HandleState) (owners : List Activity)
       → IsPermitted f x → owner_of x ≡ o → n ≡ length f.handles

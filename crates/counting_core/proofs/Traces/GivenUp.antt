@@ -3,13 +3,13 @@ use Rattle.counting_core.proofs.Names.{GivenUpOnce, MarkedBlockKeepsItsValue}
 use Rattle.counting_core.proofs.Names.{◌≡◌, ℕ, ◌+◌, Bool, true, false, not, ◌&&◌, if◌then◌else◌, nat_eq, List, [], ◌∷◌}
 use Rattle.counting_core.proofs.Names.{length, refl, sym, ◌∙◌, ap, arith, true≢false, ⊎_elim, eqb-true, and_parts}
 use Rattle.counting_core.proofs.Names.{and_right, or_cases, fun_ext, Activity, Idle, Cloning, Dropping, Step, Raise}
-use Rattle.counting_core.proofs.Names.{Answer, Ended, GivenUp, Memory, Barred, Trace, Open, Then, HandleState, State}
+use Rattle.counting_core.proofs.Names.{Answer, Ended, GivenUp, Memory, Barred, Trace, Then, HandleState, State}
 use Rattle.counting_core.proofs.Names.{owner_of, permitted_by, Model, is_only, without, IsLegal, state, model, has_mark}
 use Rattle.counting_core.proofs.Names.{live_handles, is_end, is_given_up, some_answer, ◌||◌, or_right}
 use Rattle.counting_core.proofs.Names.{false_from_ne_true, is_marked_answer}
 use Rattle.counting_core.proofs.Traces.HandleLists.{has, length-without}
 use Rattle.counting_core.proofs.Traces.Deeds.{EachDeed, drop_ends, lower_ends, lower_gives_up, marks}
-use Rattle.counting_core.proofs.Traces.LegalSteps.{happens, takes_effect, barred_if_not_permitted}
+use Rattle.counting_core.proofs.Traces.LegalSteps.{happens, each_legal, takes_effect, barred_if_not_permitted}
 use Rattle.counting_core.proofs.Traces.LiveHandles.{IsCounted, counted}
 use Rattle.counting_core.proofs.Traces.InFlight.{AllFit, Fits, all_fit, dropped-lives}
 
@@ -92,16 +92,14 @@ module _ {V : Type 0} where
 
   -- once the value is given up, no handle lives
   over : (t : Trace V) → IsLegal t → some_answer is_given_up t ≡ true → IsOver (state t)
-  over (Open v n limit) legal e = absurd (true≢false (sym e))
-  over (Then t s Barred) legal e = over t legal.0 e
-  over (Then t s Memory) legal e = over t legal.0 e
-  over (Then t s a) legal e =
-      ⊎_elim (λ now. λ h. sym ((counted (Then t s a) legal).same h) ∙ none h (live_handles (Then t s a))
+  over = each_legal (λ t. some_answer is_given_up t ≡ true → IsOver (state t))
+      (λ _ _ _ _ e. absurd (true≢false (sym e))) (λ _ _ was. (was, was))
+      (λ t s a legal h was e. ⊎_elim
+      (λ now. λ h. sym ((counted (Then t s a) legal).same h) ∙ none h (live_handles (Then t s a))
       (given-up t s a legal now).1)
-      (λ before.
-      absurd (true≢false (sym (happens t s a refl legal.1).by_activity ∙ none-permitted (state t)
-      s (over t legal.0 before) (owner_of s) _ (all_fit t legal.0 (owner_of s)))))
-      (or_cases (is_given_up a) _ e)
+      (λ before. absurd (true≢false (sym h.by_activity ∙ none-permitted (state t) s (was before) (owner_of s) _
+      (all_fit t legal.0 (owner_of s)))))
+      (or_cases (is_given_up a) _ e))
 
   -- once the value is given up, every step is Barred
   pub given_up_once : GivenUpOnce V
@@ -117,12 +115,9 @@ module _ {V : Type 0} where
 
   -- a model is marked if some answer was Marked
   pub marked_if_answered : (t : Trace V) → IsLegal t → has_mark t ≡ some_answer is_marked_answer t
-  marked_if_answered (Open v n limit) legal = refl
-  marked_if_answered (Then t s Barred) legal = marked_if_answered t legal.0
-  marked_if_answered (Then t s Memory) legal = marked_if_answered t legal.0
-  marked_if_answered (Then t s a) legal =
-      mark-then (model t) (state t)
-      s a _ (happens t s a refl legal.1).deed ∙ ap (λ b. is_marked_answer a || b) (marked_if_answered t legal.0)
+  marked_if_answered = each_legal (λ t. has_mark t ≡ some_answer is_marked_answer t) (λ _ _ _ _. refl)
+      (λ _ _ same. (same, same))
+      (λ t s a _ h same. mark-then (model t) (state t) s a _ h.deed ∙ ap (λ b. is_marked_answer a || b) same)
 
   -- a marked block stays marked, and its value is not given up
   pub keeps_mark : MarkedBlockKeepsItsValue V

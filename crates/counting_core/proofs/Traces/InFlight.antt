@@ -6,13 +6,13 @@ use Rattle.counting_core.proofs.Names.{true≢false, ⊎_elim, Ordering, Less, E
 use Rattle.counting_core.proofs.Names.{match_ordering, insert_key, remove_key, and_parts, or_cases, common_steps}
 use Rattle.counting_core.proofs.Names.{Activity, Idle, Cloning, Dropping, Step, Clone, Drop, Lower, GetMut, EndWrite}
 use Rattle.counting_core.proofs.Names.{IntoUnique, Share, Lend, Return, Give, Answer, Born, Full, Pending, Ended}
-use Rattle.counting_core.proofs.Names.{GivenUp, Alone, Sole, Done, Memory, Barred, Quitted, Trace, Open, Then}
+use Rattle.counting_core.proofs.Names.{GivenUp, Alone, Sole, Done, Quitted, Trace}
 use Rattle.counting_core.proofs.Names.{HandleState, lent_to, returned_by, State, handle_in, owner_of, ended, put, after}
 use Rattle.counting_core.proofs.Names.{holds, is_lent_to, has_alone, may_use, may_take, is_writing, has_sole}
 use Rattle.counting_core.proofs.Names.{permitted_by, Model, IsLegal, state, model, goes_on_to, Raise, length}
 use Rattle.counting_core.proofs.Traces.Places.{put-all, put-same}
 use Rattle.counting_core.proofs.Traces.Deeds.{EachDeed, clone_bears, raise_bears}
-use Rattle.counting_core.proofs.Traces.LegalSteps.{Happens, happens}
+use Rattle.counting_core.proofs.Traces.LegalSteps.{each_legal}
 use Rattle.counting_core.proofs.Traces.LiveHandles.{IsCounted, next-dead, counted}
 use Rattle.counting_core.proofs.Traces.Activities.{raising, lowering, begins}
 
@@ -183,10 +183,6 @@ module _ {V : Type 0} where
   fresh-birth r u s a m _ = λ c n e. absurd (cc)
 
   pub all_fit : (t : Trace V) → IsLegal t → AllFit (state t)
-  all_fit (Open v n limit) legal = λ o. tt
-  all_fit (Then t s Barred) legal = all_fit t legal.0
-  all_fit (Then t s Memory) legal = all_fit t legal.0
-  all_fit (Then t s a) legal =
-      let h : Happens t s a = happens t s a refl legal.1 in
-      fits-then (state t) (all_fit t legal.0) (length (model t).live) s a h.by_activity
-      (fresh-birth (model t) (state t) s a _ h.deed (counted t legal.0))
+  all_fit = each_legal (λ t. AllFit (state t)) (λ _ _ _ _ _. tt) (λ _ _ was. (was, was))
+      (λ t s a legal h was. fits-then (state t) was (length (model t).live) s a h.by_activity
+      (fresh-birth (model t) (state t) s a _ h.deed (counted t legal.0)))

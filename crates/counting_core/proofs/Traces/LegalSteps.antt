@@ -4,7 +4,8 @@ use Rattle.counting_core.proofs.Names.{◌≡◌, Bool, true, false, refl, sym, 
 use Rattle.counting_core.proofs.Names.{⊎_elim, IsTrue, nat_lt, if◌then◌else◌, true_from_ne_false}
 use Rattle.counting_core.proofs.Names.{false_from_ne_true, and_parts, Step, Answer, Pending, Memory, Barred, Trace}
 use Rattle.counting_core.proofs.Names.{Then, State, owner_of, permitted, permitted_by, Model, model_after, move}
-use Rattle.counting_core.proofs.Names.{outcome, expected, takes_memory, IsAnswer, state, model}
+use Rattle.counting_core.proofs.Names.{outcome, expected, takes_memory, IsAnswer, state, model, ℕ, IsLimit}
+use Rattle.counting_core.proofs.Names.{Open, IsLegal}
 use Rattle.counting_core.proofs.Traces.Deeds.{Deed, deed_of, outcome_is, not_barred, pending_stays}
 
 module _ {V : Type 0} where
@@ -59,6 +60,18 @@ module _ {V : Type 0} where
 
     done : IsDeed t s a
     done = subst (IsDeed t s) (sym is_due) (expected-deed t s may)
+
+  -- What holds of each block as it is opened, stays where a step counts for nothing, and holds after each step that
+  -- happens, holds of each legal trace.
+  module _ (P : Trace V → Type 0) (opens : (v : V) (n limit : ℕ) → IsLimit limit → P (Open v n limit))
+      (stays : (t : Trace V) (s : Step V) → P t → P (Then t s Barred) × P (Then t s Memory))
+      (happening : (t : Trace V) (s : Step V) (a : Answer V) → IsLegal (Then t s a) → Happens t s a → P t
+      → P (Then t s a)) where
+    pub each_legal : (t : Trace V) → IsLegal t → P t
+    each_legal (Open v n limit) legal = opens v n limit legal
+    each_legal (Then t s Barred) legal = (stays t s (each_legal t legal.0)).0
+    each_legal (Then t s Memory) legal = (stays t s (each_legal t legal.0)).1
+    each_legal (Then t s a) legal = happening t s a legal (happens t s a refl legal.1) (each_legal t legal.0)
 
   -- each step has a legal answer, and no other but Memory
   pub one_answer : EachStepHasOneAnswer V

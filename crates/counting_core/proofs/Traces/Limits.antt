@@ -2,13 +2,13 @@
 -- fewer handles than that.
 use Rattle.counting_core.proofs.Names.{◌≡◌, ◌≤◌, false, not, ◌&&◌, nat_eq, length, refl, sym, ◌∙◌, ap, subst, arith}
 use Rattle.counting_core.proofs.Names.{length-append, true≢false, eqb-false, length-filter, count_by-le-length, IsLimit}
-use Rattle.counting_core.proofs.Names.{Step, Answer, Memory, Barred, Trace, Open, Then, State, limit_of, Model, is_full}
+use Rattle.counting_core.proofs.Names.{Step, Answer, Trace, Open, Then, State, limit_of, Model, is_full}
 use Rattle.counting_core.proofs.Names.{IsLegal, state, model, has_mark, live_handles, ℕ, ◌<◌, or_parts, Activity, Idle}
 use Rattle.counting_core.proofs.Names.{Cloning, Dropping, after, put}
 use Rattle.counting_core.proofs.Traces.Deeds.{EachDeed, Deed, clone_bears, raise_bears, drop_ends, lower_ends}
 use Rattle.counting_core.proofs.Traces.Deeds.{lower_gives_up, marks, grown, shrunk, clone_reads, clone_full}
 use Rattle.counting_core.proofs.Traces.Deeds.{raise_loses, raise_full, quits, drop_reads}
-use Rattle.counting_core.proofs.Traces.LegalSteps.{happens}
+use Rattle.counting_core.proofs.Traces.LegalSteps.{each_legal}
 use Rattle.counting_core.proofs.Traces.Places.{put-all}
 
 module _ {V : Type 0} where
@@ -21,11 +21,8 @@ module _ {V : Type 0} where
   limit-then r u s a m _ = refl
 
   pub model_limit : (t : Trace V) → IsLegal t → (model t).limit ≡ limit_of t
-  model_limit (Open v n limit) legal = refl
-  model_limit (Then t s Barred) legal = model_limit t legal.0
-  model_limit (Then t s Memory) legal = model_limit t legal.0
-  model_limit (Then t s a) legal =
-      limit-then (model t) (state t) s a _ (happens t s a refl legal.1).deed ∙ model_limit t legal.0
+  model_limit = each_legal (λ t. (model t).limit ≡ limit_of t) (λ _ _ _ _. refl) (λ _ _ same. (same, same))
+      (λ t s a _ h same. limit-then (model t) (state t) s a _ h.deed ∙ same)
 
   abbrev IsWithinLimit : Model V → Type 0
   IsWithinLimit m = m.mark ≡ false → length m.live ≤ m.limit
@@ -53,11 +50,8 @@ module _ {V : Type 0} where
   within-then r u s a m _ within = within
 
   within_limit : (t : Trace V) → IsLegal t → IsWithinLimit (model t)
-  within_limit (Open v n limit) legal = λ _. legal.0
-  within_limit (Then t s Barred) legal = within_limit t legal.0
-  within_limit (Then t s Memory) legal = within_limit t legal.0
-  within_limit (Then t s a) legal = within-then (model t) (state t)
-      s a _ (happens t s a refl legal.1).deed (within_limit t legal.0)
+  within_limit = each_legal (λ t. IsWithinLimit (model t)) (λ _ _ _ is _. is.0) (λ _ _ within. (within, within))
+      (λ t s a _ h. within-then (model t) (state t) s a _ h.deed)
 
   -- without a mark no more handles live than the limit
   pub no_count_passes_limit : (t : Trace V) → IsLegal t → has_mark t ≡ false → length (live_handles t)
@@ -104,12 +98,8 @@ module _ {V : Type 0} where
     room-then s a m _ = was
 
   all_have_room : (t : Trace V) → IsLegal t → AllHaveRoom (limit_of t) (state t)
-  all_have_room (Open v n limit) legal = λ q. tt
-  all_have_room (Then t s Barred) legal = all_have_room t legal.0
-  all_have_room (Then t s Memory) legal = all_have_room t legal.0
-  all_have_room (Then t s a) legal =
-      room-then (limit_of t) (model t) (state t) (all_have_room t legal.0) (room-read t legal.0) s a _
-      (happens t s a refl legal.1).deed
+  all_have_room = each_legal (λ t. AllHaveRoom (limit_of t) (state t)) (λ _ _ _ _ _. tt) (λ _ _ was. (was, was))
+      (λ t s a legal h was. room-then (limit_of t) (model t) (state t) was (room-read t legal.0) s a _ h.deed)
 
   pub room_seen : (t : Trace V) → IsLegal t → (o h seen : ℕ) → (state t).activity o ≡ Cloning h seen
       → seen < limit_of t

@@ -2,7 +2,7 @@
 use Rattle.counting_core.proofs.Names.{length, ◌≡◌, ℕ, ◌+◌, ◌<◌, Bool, true, false, not, ◌&&◌, ◌||◌, nat_eq, []}
 use Rattle.counting_core.proofs.Names.{count_by, refl, sym, ◌∙◌, ap, subst, arith, lt_irrefl, true≢false, if◌then◌else◌}
 use Rattle.counting_core.proofs.Names.{eqb-true, and_parts, false_from_ne_true, Activity, Dropping}
-use Rattle.counting_core.proofs.Names.{Memory, Barred, Trace, Open, Then, HandleState, unborn, newborn, State, after}
+use Rattle.counting_core.proofs.Names.{Trace, HandleState, unborn, newborn, State, after}
 use Rattle.counting_core.proofs.Names.{handle_in, ended, put, Model, IsLegal, state, model}
 use Rattle.counting_core.proofs.Traces.Places.{part-put, part_kept-put}
 use Rattle.counting_core.proofs.Traces.HandleLists.{has, IsApart, once, has-without, has-push, apart-without}
@@ -10,7 +10,7 @@ use Rattle.counting_core.proofs.Traces.HandleLists.{apart-push}
 use Rattle.counting_core.proofs.Traces.Deeds.{EachDeed, clone_bears, raise_bears, drop_ends, lower_ends, lower_gives_up}
 use Rattle.counting_core.proofs.Traces.Deeds.{marks, finds_alone, writes, ends_write, becomes_sole, shares, lends}
 use Rattle.counting_core.proofs.Traces.Deeds.{returns, gives, grown, shrunk}
-use Rattle.counting_core.proofs.Traces.LegalSteps.{happens}
+use Rattle.counting_core.proofs.Traces.LegalSteps.{each_legal}
 
 module _ {V : Type 0} where
   -- The model's live handles are those that live, each once, and each was born.
@@ -86,13 +86,12 @@ module _ {V : Type 0} where
   counted-then r u s a m _ c sees = c
 
   pub counted : (t : Trace V) → IsLegal t → IsCounted (state t).handle (model t)
-  counted (Open v n limit) legal =
-      counted-born (λ h. unborn) (record { value = v; live = []; mark = false; births = 0; limit = limit })
-      (record { apart = tt; below = λ h e. absurd (true≢false (sym e)); same = λ h. refl }) 0
-  counted (Then t s Barred) legal = counted t legal.0
-  counted (Then t s Memory) legal = counted t legal.0
-  counted (Then t s a) legal = counted-then (model t) (state t)
-      s a _ (happens t s a refl legal.1).deed (counted t legal.0) (length (model t).live)
+  counted = each_legal (λ t. IsCounted (state t).handle (model t))
+      (λ v n limit _. counted-born (λ h. unborn)
+      (record { value = v; live = []; mark = false; births = 0; limit = limit })
+      (record { apart = tt; below = λ h e. absurd (true≢false (sym e)); same = λ h. refl }) 0)
+      (λ _ _ was. (was, was))
+      (λ t s a _ h was. counted-then (model t) (state t) s a _ h.deed was (length (model t).live))
 
   -- the model's live handles are those that the trace lets live, each once
   pub live_handles_live : (t : Trace V) → IsLegal t → (h : ℕ)

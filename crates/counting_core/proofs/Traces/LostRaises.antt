@@ -3,12 +3,12 @@
 use Rattle.counting_core.proofs.Names.{◌≡◌, ℕ, ◌+◌, ◌-◌, ◌*◌, ◌<◌, ◌≤◌, Bool, true, false, not, if◌then◌else◌, nat_eq}
 use Rattle.counting_core.proofs.Names.{length, refl, sym, ◌∙◌, ap, ap₂, arith, true≢false, eqb-true, ltb-true, mul-add}
 use Rattle.counting_core.proofs.Names.{and_parts, or_parts, Activity, Idle, Cloning, Dropping, Step, Clone, Raise, Drop}
-use Rattle.counting_core.proofs.Names.{Lower, Answer, Born, Full, Pending, Ended, GivenUp, Memory, Barred, Quitted}
-use Rattle.counting_core.proofs.Names.{Trace, Open, Then, State, owner_of, after, put, permitted_by, IsLegal}
+use Rattle.counting_core.proofs.Names.{Lower, Answer, Born, Full, Pending, Ended, GivenUp, Quitted}
+use Rattle.counting_core.proofs.Names.{Trace, Then, State, owner_of, after, put, permitted_by, IsLegal}
 use Rattle.counting_core.proofs.Names.{state, model, is_lost_raise, is_change, how_many, number_below}
 use Rattle.counting_core.proofs.Traces.Deeds.{EachDeed, clone_reads, clone_bears, clone_full, raise_loses, raise_bears}
 use Rattle.counting_core.proofs.Traces.Deeds.{raise_full, quits, drop_reads, drop_ends, lower_ends, lower_gives_up}
-use Rattle.counting_core.proofs.Traces.LegalSteps.{Happens, happens}
+use Rattle.counting_core.proofs.Traces.LegalSteps.{Happens, each_legal}
 use Rattle.counting_core.proofs.Traces.HandleLists.{nat_eq-same}
 use Rattle.counting_core.proofs.Traces.Activities.{raising, begins}
 use Rattle.counting_core.proofs.Traces.Places.{put-here, put-other}
@@ -136,10 +136,9 @@ module _ {V : Type 0} where
 
   -- a raise loses only to a birth or an end of another owner's
   bounded : (t : Trace V) → IsLegal t → IsBounded t
-  bounded (Open v n limit) legal = let none : number_below (λ q. false) n ≡ 0 = number-none n in omega arith
-  bounded (Then t s Barred) legal = let so_far : IsBounded t = bounded t legal.0 in omega arith
-  bounded (Then t s Memory) legal = let so_far : IsBounded t = bounded t legal.0 in omega arith
-  bounded (Then t s a) legal = bounded-then t s a (happens t s a refl legal.1) (bounded t legal.0)
+  bounded = each_legal IsBounded
+      (λ _ n _ _. let none : number_below (λ q. false) n ≡ 0 = number-none n in omega arith)
+      (λ t s so_far. (omega arith, omega arith)) (λ t s a _. bounded-then t s a)
 
   -- so raises that lose are few
   pub lost_raises_are_bounded : (t : Trace V) → IsLegal t

@@ -4,7 +4,7 @@ use Rattle.counting_core.proofs.Names.{◌≡◌, ℕ, Bool, true, false, not, �
 use Rattle.counting_core.proofs.Names.{length, if◌then◌else◌, refl, sym, ◌∙◌, ap, subst, arith, true≢false, eqb-true}
 use Rattle.counting_core.proofs.Names.{eq-eqb, list_any, and_parts, not-true, Access, SharedAccess, Written, SoleAccess}
 use Rattle.counting_core.proofs.Names.{Activity, Dropping, Step, Raise, Drop, Lower, Mark, IntoUnique, Lend, Return}
-use Rattle.counting_core.proofs.Names.{Answer, Pending, Ended, GivenUp, Memory, Barred, Trace, Open, Then, HandleState}
+use Rattle.counting_core.proofs.Names.{Answer, Pending, Ended, GivenUp, Trace, HandleState}
 use Rattle.counting_core.proofs.Names.{unborn, newborn, lent_to, returned_by, State, handle_in, owner_of, after, ended}
 use Rattle.counting_core.proofs.Names.{put, is_shared, is_sole, is_lent_to, has_alone, may_use, permitted, permitted_by}
 use Rattle.counting_core.proofs.Names.{Model, Ends, opened, is_only, Visible, Internal, outcome, expected, IsLegal}
@@ -14,7 +14,7 @@ use Rattle.counting_core.proofs.Traces.Places.{put-all}
 use Rattle.counting_core.proofs.Traces.Deeds.{Deed, clone_bears, raise_bears, drop_ends, lower_ends, lower_gives_up}
 use Rattle.counting_core.proofs.Traces.Deeds.{marks, finds_alone, writes, ends_write, becomes_sole, shares, lends}
 use Rattle.counting_core.proofs.Traces.Deeds.{returns, gives, grown}
-use Rattle.counting_core.proofs.Traces.LegalSteps.{Happens, happens, expected-by}
+use Rattle.counting_core.proofs.Traces.LegalSteps.{each_legal, expected-by}
 use Rattle.counting_core.proofs.Traces.LiveHandles.{IsCounted, counted}
 use Rattle.counting_core.proofs.Traces.InFlight.{AllFit, Fits, all_fit, parts-alone, dropped-lives}
 use Rattle.counting_core.proofs.Traces.Activities.{raising, lowering, begins}
@@ -155,15 +155,12 @@ module _ {V : Type 0} where
       alone-then s a m _ may sees = was
 
   soles_are_alone : (t : Trace V) → IsLegal t → SolesAreAlone (state t).handle (model t)
-  soles_are_alone (Open v n limit) legal =
-      put-all (λ h. unborn) 0 (newborn 0) (IsAloneIfSole (opened v limit)) (not-sole (opened v limit) 0 (newborn 0)
-      refl) (λ g _. not-sole (opened v limit) g unborn refl)
-  soles_are_alone (Then t s Barred) legal = soles_are_alone t legal.0
-  soles_are_alone (Then t s Memory) legal = soles_are_alone t legal.0
-  soles_are_alone (Then t s a) legal =
-      let h : Happens t s a = happens t s a refl legal.1 in
-      alone-then (model t) (state t) (counted t legal.0) (soles_are_alone t legal.0) (all_fit t legal.0) s a _ h.deed
-      h.by_activity (length (model t).live)
+  soles_are_alone = each_legal (λ t. SolesAreAlone (state t).handle (model t))
+      (λ v n limit _. put-all (λ h. unborn) 0 (newborn 0) (IsAloneIfSole (opened v limit))
+      (not-sole (opened v limit) 0 (newborn 0) refl) (λ g _. not-sole (opened v limit) g unborn refl))
+      (λ _ _ was. (was, was))
+      (λ t s a legal h was. alone-then (model t) (state t) (counted t legal.0) was (all_fit t legal.0) s a _ h.deed
+      h.by_activity (length (model t).live))
 
   -- while a handle is sole, no other lives, the block is unmarked, and the handle is lent to nobody
   pub sole_is_only : SoleHandleIsTheOnlyOne V

@@ -15,8 +15,9 @@ pub use Rattle.std.proofs.lemmas.Bool.{true_from_ne_false}
 pub use Rattle.std.proofs.lemmas.Grind.{common_steps}
 pub use Rattle.std.proofs.lemmas.List.{set-get_or, get_or_append_left, get_or_default, take_more, get_or-replicate}
 pub use Rattle.std.proofs.lemmas.List.{length-replicate}
-pub use Rattle.std.proofs.lemmas.List.Sums.{sum_by-cons, length-filter, count_by-le-length, count_by_more_yes}
-pub use Rattle.std.proofs.lemmas.List.Sums.{count_by_more_no}
+pub use Rattle.std.proofs.lemmas.List.Filters.{length-filter_both}
+pub use Rattle.std.proofs.lemmas.List.Folds.{list_any-append}
+pub use Rattle.std.proofs.lemmas.List.Sums.{sum_by-cons, sum_by_push, sum_by_more, length-filter, count_by-le-length}
 pub use Rattle.std.proofs.lemmas.Map.Views.{any-filter_same}
 pub use Rattle.std.specs.BTreeSet.{insert_key}
 pub use Rattle.std.specs.List.{list_any}

@@ -1,16 +1,16 @@
 -- When the value is given up, that no step is permitted afterwards, and that a mark keeps it.
 use Rattle.counting_core.proofs.Names.{GivenUpOnce, MarkedBlockKeepsItsValue}
-use Rattle.counting_core.proofs.Names.{◌≡◌, ℕ, ◌+◌, Bool, true, false, not, ◌&&◌, if◌then◌else◌, nat_eq, List, [], ◌∷◌}
+use Rattle.counting_core.proofs.Names.{◌≡◌, ℕ, Bool, true, false, not, ◌&&◌, if◌then◌else◌, nat_eq, List, [], ◌∷◌}
 use Rattle.counting_core.proofs.Names.{length, refl, sym, ◌∙◌, ap, arith, true≢false, ⊎_elim, eqb-true, and_parts}
 use Rattle.counting_core.proofs.Names.{and_right, or_cases, fun_ext, Activity, Idle, Cloning, Dropping, Step, Raise}
 use Rattle.counting_core.proofs.Names.{Answer, Ended, GivenUp, Memory, Barred, Trace, Then, HandleState, State}
 use Rattle.counting_core.proofs.Names.{owner_of, permitted_by, Model, is_only, without, IsLegal, state, model, has_mark}
 use Rattle.counting_core.proofs.Names.{live_handles, is_end, is_given_up, some_answer, ◌||◌, or_right}
 use Rattle.counting_core.proofs.Names.{false_from_ne_true, is_marked_answer}
-use Rattle.counting_core.proofs.Traces.HandleLists.{has, length-without}
+use Rattle.counting_core.proofs.Traces.HandleLists.{has}
 use Rattle.counting_core.proofs.Traces.Deeds.{EachDeed, drop_ends, lower_ends, lower_gives_up, marks}
 use Rattle.counting_core.proofs.Traces.LegalSteps.{happens, each_legal, takes_effect, barred_if_not_permitted}
-use Rattle.counting_core.proofs.Traces.LiveHandles.{IsCounted, counted}
+use Rattle.counting_core.proofs.Traces.LiveHandles.{IsCounted, counted, live-in, one-fewer}
 use Rattle.counting_core.proofs.Traces.InFlight.{AllFit, Fits, all_fit, dropped-lives}
 
 none : (h : ℕ) (xs : List ℕ) → length xs ≡ 0 → has h xs ≡ false
@@ -30,9 +30,7 @@ module _ {V : Type 0} where
   only-last : (hs : ℕ → HandleState) (m : Model V) → IsCounted hs m → (h : ℕ) → (hs h).lives ≡ true
       → is_only m h ≡ (not m.mark && nat_eq (length (without h m.live)) 0)
   only-last hs m c h lives =
-      let there : has h m.live ≡ true = c.same h ∙ lives in
-      let fewer : length (without h m.live) + 1 ≡ length m.live = length-without h m.live there c.apart in
-      grind (arith, there)
+      grind (arith, live-in hs m c h ∙ lives, one-fewer hs m c h lives)
 
   end-answer : EachDeed V (λ r u s a m. IsCounted u.handle r → AllFit u → is_end a ≡ true → a ≡ end_answer r m)
   end-answer r u s a m (drop_ends o h mark)
@@ -95,8 +93,8 @@ module _ {V : Type 0} where
   over = each_legal (λ t. some_answer is_given_up t ≡ true → IsOver (state t))
       (λ _ _ _ _ e. absurd (true≢false (sym e))) (λ _ _ was. (was, was))
       (λ t s a legal h was e. ⊎_elim
-      (λ now. λ h. sym ((counted (Then t s a) legal).same h) ∙ none h (live_handles (Then t s a))
-      (given-up t s a legal now).1)
+      (λ now. λ h. sym (live-in (state (Then t s a)).handle (model (Then t s a)) (counted (Then t s a) legal) h)
+      ∙ none h (live_handles (Then t s a)) (given-up t s a legal now).1)
       (λ before. absurd (true≢false (sym h.by_activity ∙ none-permitted (state t) s (was before) (owner_of s) _
       (all_fit t legal.0 (owner_of s)))))
       (or_cases (is_given_up a) _ e))

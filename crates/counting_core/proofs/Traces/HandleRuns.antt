@@ -15,7 +15,7 @@ use Rattle.counting_core.proofs.Traces.Deeds.{marks as deed_marks, asks_unique, 
 use Rattle.counting_core.proofs.Traces.Deeds.{grown}
 use Rattle.counting_core.proofs.Traces.LegalSteps.{takes_effect}
 use Rattle.counting_core.proofs.Traces.Limits.{model_limit}
-use Rattle.counting_core.proofs.Traces.LiveHandles.{counted}
+use Rattle.counting_core.proofs.Traces.LiveHandles.{counted, live-in}
 use Rattle.counting_core.proofs.Traces.Shapes.{HeldAs, Shape, Comes, SameOwners, here, makes, same-lives, same-count}
 use Rattle.counting_core.proofs.Traces.Shapes.{keeps, bears}
 
@@ -35,7 +35,7 @@ module _ {V : Type 0} (limit : ℕ) where
       only-by there = ap₂ (λ (m : Bool) (n : ℕ). not m && (nat_eq n 1 && has h (model t).live)) s.marked
           (same-count limit owners hs mark t s)
           ∙ ap (λ b. not mark && (nat_eq (count_by is_counted hs) 1 && b))
-          ((counted t s.legal).same h ∙ same-lives limit owners hs mark t s h ∙ there)
+          (live-in (state t).handle (model t) (counted t s.legal) h ∙ same-lives limit owners hs mark t s h ∙ there)
           ∙ at mark (nat_eq (count_by is_counted hs) 1) where
             at : (m b : Bool) → (not m && (b && true)) ≡ (if m then false else b)
             at true b = refl

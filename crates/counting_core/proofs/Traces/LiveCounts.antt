@@ -7,62 +7,67 @@ use Rattle.counting_core.proofs.Names.{HandleState, unborn, State, limit_of, han
 use Rattle.counting_core.proofs.Names.{permitted_by, without, CoreState, Represents, is_dropping, drops_in_flight}
 use Rattle.counting_core.proofs.Names.{number_below, live_handles, has_mark, state, model, IsLegal, get_or}
 use Rattle.counting_core.proofs.Traces.Limits.{legal_limit, no_count_passes_limit}
-use Rattle.counting_core.proofs.Traces.HandleLists.{has, IsApart, length-without, apart-without, has-without}
-use Rattle.counting_core.proofs.Traces.LiveHandles.{counted}
+use Rattle.counting_core.proofs.Names.{lt-ltb, ◌&&◌}
+use Rattle.counting_core.proofs.Traces.HandleLists.{one_if, times, times-without, length-without}
+use Rattle.counting_core.proofs.Traces.LiveHandles.{counted, one-fewer}
 use Rattle.counting_core.proofs.Traces.InFlight.{all_fit, dropped-alone, dropped-lives}
 use Rattle.counting_core.proofs.Traces.Activities.{lowering}
 use Rattle.counting_core.proofs.Traces.NumberBelow.{number-length, number-count_by, number-some}
 
 -- owners with handles of their own are no more than the handles
 pigeonhole : (of : ℕ → Activity) → ((o p h : ℕ) → of o ≡ Dropping h → of p ≡ Dropping h → o ≡ p)
-    → (n : ℕ) (xs : List ℕ)
-    → IsApart xs → ((o h : ℕ) → o < n → of o ≡ Dropping h → has h xs ≡ true)
+    → (n : ℕ) (xs : List ℕ) → ((o h : ℕ) → o < n → of o ≡ Dropping h → 1 ≤ times h xs)
     → number_below (λ o. is_dropping (of o)) n ≤ length xs
-pigeonhole of apart zero xs distinct own = omega arith
-pigeonhole of apart (suc n) xs distinct own = by_last (of n) refl (pigeonhole of apart n) where
+pigeonhole of apart zero xs own = omega arith
+pigeonhole of apart (suc n) xs own = by_last (of n) refl (pigeonhole of apart n) where
   by_last : (a : Activity) → of n ≡ a
-      → ((ys : List ℕ) → IsApart ys → ((o h : ℕ) → o < n → of o ≡ Dropping h → has h ys ≡ true)
+      → ((ys : List ℕ) → ((o h : ℕ) → o < n → of o ≡ Dropping h → 1 ≤ times h ys)
       → number_below (λ o. is_dropping (of o)) n ≤ length ys)
-      → (if is_dropping a then 1 else 0) + number_below (λ o. is_dropping (of o)) n ≤ length xs
+      → one_if (is_dropping a) + number_below (λ o. is_dropping (of o)) n ≤ length xs
   by_last (Dropping h) e fewer =
-      let le : number_below (λ o. is_dropping (of o)) n ≤ length (without h xs) = fewer (without h xs)
-      (apart-without h xs distinct) others in
-      let one_less : length (without h xs) + 1 ≡ length xs = length-without h xs (own n h (omega arith) e) distinct in
-      omega arith where
-        others : (o k : ℕ) → o < n → of o ≡ Dropping k → has k (without h xs) ≡ true
-        others o k lt q = has-without k h xs ∙ grind (
-          arith,
-          own o k (omega arith)
-              q,
-          false_from_ne_true (nat_eq h k) same,
-        ) where
-          same : nat_eq h k ≡ true → ⊥
-          same i = let is : o ≡ n = apart o n k q (e ∙ ap Dropping (eqb-true h k i)) in omega arith
-  by_last a e fewer = let le : number_below (λ o. is_dropping (of o))
-      n ≤ length xs = fewer xs distinct (λ o h lt q. own o h (omega arith) q) in omega arith
+      let le : number_below (λ o. is_dropping (of o)) n ≤ length (without h xs) = fewer (without h xs) others in
+      let here : 1 ≤ times h xs = own n h (omega arith) e in
+      omega (arith, length-without h xs) where
+        others : (o k : ℕ) → o < n → of o ≡ Dropping k → 1 ≤ times k (without h xs)
+        others o k lt q = subst (λ m. 1 ≤ m) (sym (times-without k h xs
+            ∙ ap (λ b. if b then 0 else times k xs) (false_from_ne_true (nat_eq h k) same)))
+            (own o k (omega arith) q) where
+              same : nat_eq h k ≡ true → ⊥
+              same i = let is : o ≡ n = apart o n k q (e ∙ ap Dropping (eqb-true h k i)) in omega arith
+  by_last a e fewer =
+      let le : number_below (λ o. is_dropping (of o)) n ≤ length xs = fewer xs (λ o h lt q. own o h (omega arith) q) in
+      omega arith
 
 -- an owner holds the handle that it alone has
 holder-is : (k : HandleState) (o : ℕ) → has_alone k o ≡ true → k.holder ≡ o
 holder-is k o own = grind arith
 
 module _ {V : Type 0} (t : Trace V) (legal : IsLegal t) where
-  -- the handle of a drop in flight is a live one
-  pub dropped-live : (o h : ℕ) → (state t).activity o ≡ Dropping h → has h (live_handles t) ≡ true
-  dropped-live o h e = (counted t legal).same h ∙ dropped-lives (state t) (all_fit t legal) o h e
+  -- without the handle of a drop in flight one handle fewer lives
+  pub dropped-fewer : (o h : ℕ) → (state t).activity o ≡ Dropping h
+      → length (without h (live_handles t)) + 1 ≡ length (live_handles t)
+  dropped-fewer o h e = one-fewer (state t).handle (model t) (counted t legal) h
+      (dropped-lives (state t) (all_fit t legal) o h e)
 
   -- as many live as pass the test by which the handles ever born, in a list, are those that live
   pub live-listed : {A : Type 0} (passes : A → Bool) (d : A) (xs : List A) → (model t).births ≡ length xs
       → ((h : ℕ) → ((state t).handle h).lives ≡ passes (get_or xs h d)) → length (live_handles t) ≡ count_by passes xs
   live-listed passes d xs births same =
-      number-length (λ h. passes (get_or xs h d)) (length xs) (live_handles t) (counted t legal).apart
-      (λ h e. subst (λ n. h < n) births ((counted t legal).below h e)) (λ h lt. (counted t legal).same h ∙ same h)
+      number-length (λ h. passes (get_or xs h d)) (length xs) (live_handles t) (λ h. (counted t legal).once h
+      ∙ ap one_if (within h (((state t).handle h).lives) refl ∙ ap (λ b. nat_lt h (length xs) && b) (same h)))
       ∙ number-count_by passes d xs (length xs) (le_refl (length xs))
-      ∙ ap (count_by passes) (take_all (length xs) xs (le_refl (length xs)))
+      ∙ ap (count_by passes) (take_all (length xs) xs (le_refl (length xs))) where
+        within : (h : ℕ) (b : Bool) → ((state t).handle h).lives ≡ b
+            → ((state t).handle h).lives ≡ (nat_lt h (length xs) && ((state t).handle h).lives)
+        within h true e = let lt : h < (model t).births = (counted t legal).below h e in
+            rw (e, lt-ltb h (length xs) (omega arith)) refl
+        within h false e = grind (arith, e)
 
   -- each drop in flight is of a live handle of its own
   pub drops-le-live : drops_in_flight (state t) ≤ length (live_handles t)
-  drops-le-live = pigeonhole (state t).activity apart (state t).owners (live_handles t) (counted t legal).apart
-      (λ o h lt. dropped-live o h) where
+  drops-le-live = pigeonhole (state t).activity apart (state t).owners (live_handles t) (λ o h lt e.
+      let once : times h (live_handles t) ≡ 1 = (counted t legal).once h
+      ∙ ap one_if (dropped-lives (state t) (all_fit t legal) o h e) in omega arith) where
         apart : (o p h : ℕ) → (state t).activity o ≡ Dropping h → (state t).activity p ≡ Dropping h → o ≡ p
         apart o p h d e =
             sym (holder-is ((state t).handle h) o (dropped-alone (state t) (all_fit t legal) o h d))
@@ -110,7 +115,6 @@ module _ {V : Type 0} (core : CoreState V) (t : Trace V) (r : Represents core t)
         (ap is_dropping is) (ltb-true o (state t).owners parts.0)) (r.word.covers_drops m)
     by_mark false m =
         let one_less : length (without (handle_in ((state t).activity o)) (live_handles t)) + 1
-        ≡ length (live_handles t) = length-without _ (live_handles t) (dropped-live t r.legal o _ is)
-        (counted t r.legal).apart in
+        ≡ length (live_handles t) = dropped-fewer t r.legal o _ is in
         let count : count_of core.word ≡ length (live_handles t) = r.word.counts_live m in
         omega arith

@@ -1,12 +1,11 @@
 -- How many of the numbers below a bound pass a test.
-use Rattle.counting_core.proofs.Names.{◌≡◌, ◌≢◌, ℕ, zero, suc, ◌+◌, ◌<◌, ◌≤◌, Bool, true, false, not, ◌&&◌, ◌||◌}
+use Rattle.counting_core.proofs.Names.{◌≡◌, ◌≢◌, ℕ, zero, suc, ◌+◌, ◌<◌, ◌≤◌, Bool, true, false, ◌&&◌}
 use Rattle.counting_core.proofs.Names.{if◌then◌else◌, nat_eq, List, [], ◌∷◌, length, take, get_or, count_by, refl, sym}
-use Rattle.counting_core.proofs.Names.{◌∙◌, ap, ap₂, arith, true≢false, eqb-true, ne_eqb, subst, add-one, and_parts}
-use Rattle.counting_core.proofs.Names.{eqb-false, not-true, count_by_more_yes, count_by_more_no, without, put}
+use Rattle.counting_core.proofs.Names.{◌∙◌, ap, ap₂, arith, true≢false, eqb-true, ne_eqb, subst, add-one}
+use Rattle.counting_core.proofs.Names.{eqb-false, sum_by_more, without, put, nat_lt, lt-ltb}
 use Rattle.counting_core.proofs.Names.{number_below}
 use Rattle.counting_core.proofs.Traces.Places.{put-all}
-use Rattle.counting_core.proofs.Traces.HandleLists.{has, IsApart, nat_eq-same, has-without, length-without}
-use Rattle.counting_core.proofs.Traces.HandleLists.{apart-without}
+use Rattle.counting_core.proofs.Traces.HandleLists.{one_if, times, times-cons, times-without, length-without}
 
 -- no more pass a stricter test
 pub number-le : (f g : ℕ → Bool) → ((q : ℕ) → f q ≡ true → g q ≡ true) → (n : ℕ)
@@ -30,58 +29,30 @@ pub number-all : (n : ℕ) → number_below (λ q. true) n ≡ n
 number-all zero = refl
 number-all (suc n) = let rest : number_below (λ q. true) n ≡ n = number-all n in omega arith
 
--- handles that are apart and are those below a bound that pass are as many as pass
-pub number-length : (f : ℕ → Bool) (n : ℕ) (xs : List ℕ) → IsApart xs → ((h : ℕ)
-    → has h xs ≡ true → h < n)
-    → ((h : ℕ) → h < n → has h xs ≡ f h) → length xs ≡ number_below f n
-number-length f zero [] apart below same = refl
-number-length f zero (x ∷ xs) apart below same =
-    let none : x < 0 = below x (ap (λ b. b || has x xs) (nat_eq-same x)) in absurd (omega arith)
-number-length f (suc n) xs apart below same = by_last (f n) refl (number-length f n) where
-  within : (h : ℕ) → has h xs ≡ true → n ≢ h → h < n
-  within h e other = let lt : h < suc n = below h e in omega arith
-
-  by_last : (b : Bool) → f n ≡ b
-      → ((ys : List ℕ) → IsApart ys → ((h : ℕ) → has h ys ≡ true → h < n) → ((h : ℕ)
-      → h < n → has h ys ≡ f h) → length ys ≡ number_below f n)
-      → length xs ≡ (if b then 1 else 0) + number_below f n
-  by_last true e rest =
-      let one_more : length (without n xs) + 1 ≡ length xs = length-without n xs (same n (omega arith) ∙ e) apart in
-      let others : length (without n xs) ≡ number_below f n = rest (without n xs) (apart-without n xs apart)
-      still_below still_same in
-      omega arith where
-        still_below : (h : ℕ) → has h (without n xs) ≡ true → h < n
-        still_below h e =
-            let parts : (not (nat_eq n h) ≡ true) × (has h xs ≡ true) = and_parts (not (nat_eq n h)) (has h xs)
-            (sym (has-without h n xs) ∙ e) in
-            within h parts.1 (eqb-false n h (not-true (nat_eq n h) parts.0))
-
-        still_same : (h : ℕ) → h < n → has h (without n xs) ≡ f h
-        still_same h lt = has-without h n xs ∙ ap₂ (λ a b. not a && b) (ne_eqb n h (λ e. omega arith))
-            (same h (omega arith))
-  by_last false e rest =
-      let others : length xs ≡ number_below f n = rest xs apart (λ h i. within h i (last h i))
-      (λ h lt. same h (omega arith)) in
-      omega arith where
-        last : (h : ℕ) → has h xs ≡ true → n ≢ h
-        last h i is = true≢false (sym i ∙ ap (λ k. has k xs) (sym is) ∙ same n (omega arith) ∙ e)
+-- a list in which just the numbers below a bound that pass stand, once each, is as long as those are many
+pub number-length : (f : ℕ → Bool) (n : ℕ) (xs : List ℕ) → ((h : ℕ) → times h xs ≡ one_if (nat_lt h n && f h))
+    → length xs ≡ number_below f n
+number-length f zero [] once = refl
+number-length f zero (x ∷ xs) once = absurd (grind (arith, once x, times-cons x x xs))
+number-length f (suc n) xs once =
+    let here : times n xs ≡ one_if (f n) = once n ∙ ap (λ b. one_if (b && f n)) (lt-ltb n (suc n) (omega arith)) in
+    let others : length (without n xs) ≡ number_below f n = number-length f n (without n xs) without_n in
+    omega (arith, length-without n xs) where
+      without_n : (h : ℕ) → times h (without n xs) ≡ one_if (nat_lt h n && f h)
+      without_n h = times-without h n xs ∙ grind (arith, once h)
 
 -- the elements of a list that pass, by their places
 pub number-count_by : {A : Type 0} (p : A → Bool) (d : A) (xs : List A) (n : ℕ) → n ≤ length xs
     → number_below (λ i. p (get_or xs i d)) n ≡ count_by p (take n xs)
 number-count_by p d xs zero le = refl
 number-count_by p d xs (suc n) le =
-    let so : number_below (λ i. p (get_or xs i d)) n ≡ count_by p (take n xs) = number-count_by p d xs n
+    let so_far : number_below (λ i. p (get_or xs i d)) n ≡ count_by p (take n xs) = number-count_by p d xs n
     (omega arith) in
-    let more : count_by p (take (n + 1) xs) ≡ count_by p (take n xs) + (if p (get_or xs n d) then 1 else 0)
-    = by_last (p (get_or xs n d)) refl in
+    let more : count_by p (take (n + 1) xs) ≡ count_by p (take n xs) + one_if (p (get_or xs n d))
+    = sum_by_more (λ x. one_if (p x)) xs n d (omega arith) in
     let next : count_by p (take (n + 1) xs) ≡ count_by p (take (suc n) xs) = ap (λ k. count_by p (take k xs))
     (add-one n) in
-    omega arith where
-      by_last : (b : Bool) → p (get_or xs n d) ≡ b
-          → count_by p (take (n + 1) xs) ≡ count_by p (take n xs) + (if b then 1 else 0)
-      by_last true e = count_by_more_yes p xs n d (omega arith) e
-      by_last false e = omega (arith, count_by_more_no p xs n d (omega arith) e)
+    omega arith
 
 -- a test that answers the same below the bound passes as many
 number-same : (f g : ℕ → Bool) (n : ℕ) → ((q : ℕ) → q < n → f q ≡ g q) → number_below f n ≡ number_below g n
@@ -89,9 +60,6 @@ number-same f g zero same = refl
 number-same f g (suc n) same =
     ap₂ (λ b k. (if b then 1 else 0) + k) (same n (omega arith))
     (number-same f g n (λ q lt. same q (omega arith)))
-
-abbrev pub one_if : Bool → ℕ
-one_if b = if b then 1 else 0
 
 -- how many pass when one place changed
 pub number-put : {A : Type 0} (p : A → Bool) (f : ℕ → A) (o : ℕ) (y : A) (n : ℕ) → o < n

@@ -21,15 +21,3 @@ module _ {A : Type 0} (f : ℕ → A) (i : ℕ) (y : A) where
   -- a value that is put where it was already
   pub put-same : f i ≡ y → put f i y ≡ f
   put-same same = fun_ext (put-all (λ k z. z ≡ f k) (sym same) (λ k _. refl))
-
-  module _ {B : Type 0} (part : A → B) where
-    -- a part of the value put
-    pub part-put : (k : ℕ) → part (put f i y k) ≡ put (λ n. part (f n)) i (part y) k
-    part-put k = at (nat_eq i k) where
-      at : (b : Bool) → part (if b then y else f k) ≡ (if b then part y else part (f k))
-      at true = refl
-      at false = refl
-
-    -- a part that is as it was
-    pub part_kept-put : part y ≡ part (f i) → (k : ℕ) → part (put f i y k) ≡ part (f k)
-    part_kept-put same = put-all (λ k z. part z ≡ part (f k)) same (λ k _. refl)

@@ -14,7 +14,7 @@ use Rattle.counting_core.proofs.Traces.Places.{put-all, put-here}
 use Rattle.counting_core.proofs.Traces.HandleLists.{has, nat_eq-same, has-push, has-without}
 use Rattle.counting_core.proofs.Traces.InFlight.{all_fit, dropped-alone}
 use Rattle.counting_core.proofs.Traces.LiveCounts.{live-listed}
-use Rattle.counting_core.proofs.Traces.LiveHandles.{counted}
+use Rattle.counting_core.proofs.Traces.LiveHandles.{counted, live-in}
 
 alone-user : (k : HandleState) (q o : ℕ) → has_alone k q ≡ true → may_use k o ≡ true → nat_eq q o ≡ true
 alone-user k q o own uses = grind (arith, common_steps)
@@ -144,7 +144,7 @@ module _ {V : Type 0} where
 
     -- the handles that live are those that are counted
     pub same-lives : (h : ℕ) → (u.handle h).lives ≡ is_counted (standing_of p h)
-    same-lives h = sym ((counted t legal).same h) ∙ a.live h
+    same-lives h = sym (live-in u.handle now (counted t legal) h) ∙ a.live h
 
     -- so as many live
     pub same-count : length now.live ≡ count_by is_counted p.handles

@@ -15,7 +15,7 @@ use Rattle.counting_core.proofs.Traces.Deeds.{Deed, clone_bears, raise_bears, dr
 use Rattle.counting_core.proofs.Traces.Deeds.{marks, finds_alone, writes, ends_write, becomes_sole, shares, lends}
 use Rattle.counting_core.proofs.Traces.Deeds.{returns, gives, grown}
 use Rattle.counting_core.proofs.Traces.LegalSteps.{each_legal, expected-by}
-use Rattle.counting_core.proofs.Traces.LiveHandles.{IsCounted, counted}
+use Rattle.counting_core.proofs.Traces.LiveHandles.{IsCounted, counted, live-in}
 use Rattle.counting_core.proofs.Traces.InFlight.{AllFit, Fits, all_fit, parts-alone, dropped-lives}
 use Rattle.counting_core.proofs.Traces.Activities.{raising, lowering, begins}
 
@@ -76,7 +76,7 @@ module _ {V : Type 0} where
         let parts : (nat_eq (length r.live) 1 ≡ true) × (has h r.live ≡ true)
         = and_parts _ _ (and_parts (not r.mark) _ (was h lives sole).0).1 in
         let one : r.live ≡ h ∷ [] = one-is h r.live (eqb-true (length r.live) 1 parts.0) parts.1 in
-        at (nat_eq k h) refl (sym (ap (has k) one) ∙ c.same k ∙ other) where
+        at (nat_eq k h) refl (sym (ap (has k) one) ∙ live-in u.handle r c k ∙ other) where
           at : (b : Bool) → nat_eq k h ≡ b → (nat_eq k h || false) ≡ true → k ≡ h
           at true e there = eqb-true k h e
           at false e there = absurd (true≢false (sym there ∙ ap (λ b. b || false) e))

@@ -42,8 +42,7 @@ pub use Rattle.counting_word.specs.Tallies.{standing_of, Lives, has_exactly, one
 pub use Rattle.counting_word.specs.Tallies.{after_kind, tally_after, tally_from, tally_of, tally_right, MayDo}
 pub use Rattle.counting_word.specs.Tallies.{IsRunFrom, IsRun}
 pub use Rattle.counting_word.specs.WordSteps.{lowered, reads_for_drop, lowers, reads, asks, raises_from}
-pub use Rattle.counting_word.specs.WordSteps.{reads_for_unique, marks}
-pub use Rattle.counting_word.specs.WordSteps.{WordStep}
+pub use Rattle.counting_word.specs.WordSteps.{reads_for_unique, marks, WordStep}
 pub use Rattle.counting_word.specs.declared.ClonePlan.{ClonePlan}
 pub use Rattle.counting_word.specs.declared.ClonePlan.TheVariants.{Static as StaticClone, Full as FullClone}
 pub use Rattle.counting_word.specs.declared.ClonePlan.TheVariants.{Raise as RaiseClone}

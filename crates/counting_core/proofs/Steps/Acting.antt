@@ -2,13 +2,12 @@
 use Rattle.counting_core.proofs.Names.{lowered-less, mark_bit, greatest_count, ◌≡◌, ◌≢◌, ℕ, ◌-◌, ◌%◌, ◌≤◌, ◌<◌, ◌++◌}
 use Rattle.counting_core.proofs.Names.{◌∷◌, [], Bool, true, false, List, length, if◌then◌else◌, get_or, set, refl, sym}
 use Rattle.counting_core.proofs.Names.{◌∙◌, ap, ap₂, subst, length-set, arith, nat_eq, ne_eqb, eq-eqb, eqb-true}
-use Rattle.counting_core.proofs.Names.{leb-true, is_one_handle, count_of}
-use Rattle.counting_core.proofs.Names.{ClonePlan, clone_plan, StaticClone, FullClone, RaiseClone}
-use Rattle.counting_core.proofs.Names.{ClonePlanSays, clone_plan-says, count_of-unmarked, Idle, Cloning}
-use Rattle.counting_core.proofs.Names.{Dropping, Clone, Raise, Lower, Born, Full, Ended, GivenUp}
-use Rattle.counting_core.proofs.Names.{HandleState, ended, State, goes_on_to, newborn, handle_in, seen_in, limit_of}
-use Rattle.counting_core.proofs.Names.{permitted, state, CoreState, handle, activity, state_of, Represents}
-use Rattle.counting_core.proofs.Names.{IsReached, IsPermitted, cloned, by_word, TakesEffect}
+use Rattle.counting_core.proofs.Names.{leb-true, is_one_handle, count_of, ClonePlan, clone_plan, StaticClone, FullClone}
+use Rattle.counting_core.proofs.Names.{RaiseClone, ClonePlanSays, clone_plan-says, count_of-unmarked, Idle, Cloning}
+use Rattle.counting_core.proofs.Names.{Dropping, Clone, Raise, Lower, Born, Full, Ended, GivenUp, HandleState, ended}
+use Rattle.counting_core.proofs.Names.{State, goes_on_to, newborn, handle_in, seen_in, limit_of, permitted, state}
+use Rattle.counting_core.proofs.Names.{CoreState, handle, activity, state_of, Represents, IsReached, IsPermitted}
+use Rattle.counting_core.proofs.Names.{cloned, by_word, TakesEffect}
 use Rattle.counting_core.proofs.Traces.Activities.{begun}
 use Rattle.counting_core.proofs.Traces.InFlight.{all_fit, dropped-lives}
 use Rattle.counting_core.proofs.Traces.Places.{put-same}

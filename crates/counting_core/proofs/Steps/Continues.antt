@@ -1,9 +1,8 @@
 -- A step by the word that it finds goes on with each trace that the core represents.
 use Rattle.counting_core.proofs.Names.{IsTrue, ◌≡◌, inl, inr, ℕ, true, length, refl, sym, ◌∙◌, ap, subst, or_parts}
-use Rattle.counting_core.proofs.Names.{StandsFor, Step, Answer, Memory, Barred, Trace, Then, after, permitted}
-use Rattle.counting_core.proofs.Names.{Model, state, model, takes_memory, IsAnswer, CoreState, Represents, state_of}
-use Rattle.counting_core.proofs.Names.{Continues, IsReached, drops_in_flight, value_after, births_after}
-use Rattle.counting_core.proofs.Names.{TakesEffect, FollowsWord}
+use Rattle.counting_core.proofs.Names.{StandsFor, Step, Answer, Memory, Barred, Trace, Then, after, permitted, Model}
+use Rattle.counting_core.proofs.Names.{state, model, takes_memory, IsAnswer, CoreState, Represents, state_of, Continues}
+use Rattle.counting_core.proofs.Names.{IsReached, drops_in_flight, value_after, births_after, TakesEffect, FollowsWord}
 use Rattle.counting_core.proofs.Traces.Deeds.{EachDeed, Deed, clone_reads, raise_loses, clone_bears, writes}
 use Rattle.counting_core.proofs.Traces.LegalSteps.{takes_effect, Happens, happens, expected-by}
 use Rattle.counting_core.proofs.Steps.ByTheWord.{answers_by_word, word-now, stands_for}

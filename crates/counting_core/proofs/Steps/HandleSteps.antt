@@ -1,12 +1,10 @@
 -- By its answer and its word a step on the word is the atomic step of a handle.
-use Rattle.counting_core.proofs.Names.{StepsAreThoseOfHandles}
-use Rattle.counting_core.proofs.Names.{◌≡◌, ◌+◌, Bool, true, false, if◌then◌else◌, nat_eq, length, refl, is_marked_word}
-use Rattle.counting_core.proofs.Names.{is_one_handle, count_of, a_handle, nothing, StaticClone}
-use Rattle.counting_core.proofs.Names.{FullClone, RaiseClone, StaticDrop, LowerDrop, Clone, Raise, Drop, Lower}
-use Rattle.counting_core.proofs.Names.{Quit, Write, EndWrite, Share, Load, Lend, Return, Give}
-use Rattle.counting_core.proofs.Names.{Mark, Unique, Static, GetMut, IntoUnique, Born, Ended, GivenUp, Alone, Sole}
-use Rattle.counting_core.proofs.Names.{Shared, seen_in, activity, cloned, dropped, Step, Answer}
-use Rattle.counting_core.proofs.Names.{right_of}
+use Rattle.counting_core.proofs.Names.{StepsAreThoseOfHandles, ◌≡◌, ◌+◌, Bool, true, false, if◌then◌else◌, nat_eq}
+use Rattle.counting_core.proofs.Names.{length, refl, is_marked_word, is_one_handle, count_of, a_handle, nothing}
+use Rattle.counting_core.proofs.Names.{StaticClone, FullClone, RaiseClone, StaticDrop, LowerDrop, Clone, Raise, Drop}
+use Rattle.counting_core.proofs.Names.{Lower, Quit, Write, EndWrite, Share, Load, Lend, Return, Give, Mark, Unique}
+use Rattle.counting_core.proofs.Names.{Static, GetMut, IntoUnique, Born, Ended, GivenUp, Alone, Sole, Shared, seen_in}
+use Rattle.counting_core.proofs.Names.{activity, cloned, dropped, Step, Answer, right_of}
 
 module _ {V : Type 0} where
   -- what an answer gives that hangs on one test

@@ -1,12 +1,11 @@
 -- What a read of the word for a clone finds: the limit, or a number of handles that a raise straight after it finds
 -- again.
-use Rattle.counting_core.proofs.Names.{FullExactlyAtLimit, BornStraightAfterRead}
-use Rattle.counting_core.proofs.Names.{◌≡◌, ℕ, true, false, not, nat_eq, length, refl, sym, ◌∙◌, ap, true≢false}
-use Rattle.counting_core.proofs.Names.{inl, inr, ⊎_elim, eqb-true, eq-eqb, and_parts, and_from, or_parts, or_right}
-use Rattle.counting_core.proofs.Names.{not-true, Cloning, Step, Clone, Raise, Answer, Born, Full, Pending}
-use Rattle.counting_core.proofs.Names.{Then, State, after, owner_of, limit_of, seen_in, permitted, permitted_by}
-use Rattle.counting_core.proofs.Names.{Model, is_full, raise_settles, expected, takes_memory, IsLegal, state, model}
-use Rattle.counting_core.proofs.Names.{live_handles, has_mark, is_clone_read, nat_lt, handle_in}
+use Rattle.counting_core.proofs.Names.{FullExactlyAtLimit, BornStraightAfterRead, ◌≡◌, ℕ, true, false, not, nat_eq}
+use Rattle.counting_core.proofs.Names.{length, refl, sym, ◌∙◌, ap, true≢false, inl, inr, ⊎_elim, eqb-true, eq-eqb}
+use Rattle.counting_core.proofs.Names.{and_parts, and_from, or_parts, or_right, not-true, Cloning, Step, Clone, Raise}
+use Rattle.counting_core.proofs.Names.{Answer, Born, Full, Pending, Then, State, after, owner_of, limit_of, seen_in}
+use Rattle.counting_core.proofs.Names.{permitted, permitted_by, Model, is_full, raise_settles, expected, takes_memory}
+use Rattle.counting_core.proofs.Names.{IsLegal, state, model, live_handles, has_mark, is_clone_read, nat_lt, handle_in}
 use Rattle.counting_core.proofs.Traces.HandleLists.{nat_eq-same}
 use Rattle.counting_core.proofs.Traces.Deeds.{EachDeed, Deed, clone_reads, clone_bears, clone_full, raise_loses}
 use Rattle.counting_core.proofs.Traces.Deeds.{raise_bears, raise_full}
@@ -92,7 +91,7 @@ module _ {V : Type 0} where
 
   -- a raise straight after its read is answered Born, if memory is not wanted
   pub born_straight_after_read : BornStraightAfterRead V
-  born_straight_after_read t s a legal read = ⊎_elim (λ e. inl (e ∙ is_due)) (λ m. inr m.0) legal.1 where
+  born_straight_after_read t s a legal read = ⊎_elim (λ e. inl (e ∙ as_expected)) (λ m. inr m.0) legal.1 where
     read_it : Happens t s Pending
     read_it = happens t s Pending refl legal.0.1
 
@@ -105,8 +104,8 @@ module _ {V : Type 0} where
         (ap (λ c. nat_eq (length (live_handles t)) (seen_in c)) (read-sees (length (live_handles t)) (state t) s read).1
         ∙ nat_eq-same (length (live_handles t))))
 
-    is_due : expected (Then t s Pending) (Raise (owner_of s)) ≡ Born (model t).births
-    is_due =
+    as_expected : expected (Then t s Pending) (Raise (owner_of s)) ≡ Born (model t).births
+    as_expected =
         birth-deed (model (Then t s Pending)) (state (Then t s Pending)) (owner_of s) _ _
         (expected-deed (Then t s Pending) (Raise (owner_of s)) (raise-permitted _ (state t) s read read_it.permitted))
         settles found.1

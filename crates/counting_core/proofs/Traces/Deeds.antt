@@ -7,7 +7,9 @@ use Rattle.counting_core.proofs.Names.{Lend, Return, Give, Answer, Born, Full, P
 use Rattle.counting_core.proofs.Names.{Alone, Sole, Shared, Done, Value, Barred, Quitted, State, owner_of, handle_in}
 use Rattle.counting_core.proofs.Names.{permitted_by, Model, Clones, Ends, is_full, is_only, without, Move, Visible}
 use Rattle.counting_core.proofs.Names.{Internal, raise_settles, move, outcome, seen_in}
-use Rattle.counting_core.proofs.Traces.Activities.{lowering}
+use Rattle.counting_core.proofs.Names.{Activity, Idle, Cloning, after, put}
+use Rattle.counting_core.proofs.Traces.Activities.{begins, lowering}
+use Rattle.counting_core.proofs.Traces.Places.{put-same}
 
 module _ {V : Type 0} where
   -- the model with one more live handle, and without one
@@ -16,6 +18,12 @@ module _ {V : Type 0} where
 
   abbrev pub shrunk : Model V → ℕ → Model V
   shrunk m h = record m { live = without h m.live }
+
+  -- a step changes no number of owners
+  pub owners-kept : (sees : ℕ) (u : State) (s : Step V) (a : Answer V) → (after sees u s a).owners ≡ u.owners
+  owners-kept sees u s (Born n) = refl
+  owners-kept sees u (Clone o h) a = refl
+  owners-kept sees u s a = refl
 
 -- A step, its answer and the model after it.
 module _ {V : Type 0} (r : Model V) (u : State) where
@@ -50,6 +58,28 @@ module _ {V : Type 0} (r : Model V) (u : State) where
     lends : (o h to : ℕ) → Deed (Lend o h to) Done r
     returns : (o h : ℕ) → Deed (Return o h) Done r
     gives : (o h to : ℕ) → Deed (Give o h to) Done r
+
+  -- what its owner goes on to
+  abbrev pub next : {s : Step V} {a : Answer V} {m : Model V} → Deed s a m → Activity
+  next (clone_reads o h _ _) = Cloning h (length r.live)
+  next (raise_loses o _) = Cloning (handle_in (u.activity o)) (length r.live)
+  next (drop_reads o h _) = Dropping h
+  next _ = Idle
+
+  pub goes_on : {s : Step V} {a : Answer V} {m : Model V} (d : Deed s a m)
+      → permitted_by u (u.activity (owner_of s)) s ≡ true
+      → (after (length r.live) u s a).activity ≡ put u.activity (owner_of s) (next d)
+  goes_on (clone_reads o h _ _) may = refl
+  goes_on (clone_bears o h _ _) may = refl
+  goes_on (clone_full o h _) may = refl
+  goes_on (raise_loses o _) may = refl
+  goes_on (raise_bears o _ _) may = refl
+  goes_on (raise_full o _) may = refl
+  goes_on (quits o) may = refl
+  goes_on (drop_reads o h _) may = refl
+  goes_on (lower_ends o h _ _) may = refl
+  goes_on (lower_gives_up o h _ _) may = refl
+  goes_on {s} _ may = sym (put-same u.activity (owner_of s) Idle (begins u s _ may refl).0)
 
   abbrev Does : Step V → Move V → Type 0
   Does s x = Deed s (outcome r x).0 (outcome r x).1

@@ -18,9 +18,10 @@ module _ {V : Type 0} (limit owners : ℕ) (hs : List Standing) (mark : Bool) (t
   m = model t
 
   -- the handle goes on to another standing
-  turns : (x : Standing) (rs : List Report) (n : Trace V) → h < length hs → Shape limit owners (set hs h x) mark n
-      → reports_of n ≡ reports_of t ++ rs → Goes limit owners (set hs h x) mark t rs
-  turns x rs n low shape reports = record {
+  gets-standing : (x : Standing) (rs : List Report) (n : Trace V) → h < length hs
+      → Shape limit owners (set hs h x) mark n → reports_of n ≡ reports_of t ++ rs
+      → Goes limit owners (set hs h x) mark t rs
+  gets-standing x rs n low shape reports = record {
     now = n;
     shape = shape;
     few = let so_far : (model t).births ≡ length hs = s.births in
@@ -66,7 +67,7 @@ module _ {V : Type 0} (limit owners : ℕ) (hs : List Standing) (mark : Bool) (t
     left_by_last = at mark refl where
       at : (b : Bool) → mark ≡ b → Goes limit owners (set hs h (if b then has_ended else dropping)) mark t
           ((made h reads_for_drop, if b then nothing else to_lower) ∷ [])
-      at true is = turns has_ended _ (Then t1 (Drop (suc h) h) Ended) low
+      at true is = gets-standing has_ended _ (Then t1 (Drop (suc h) h) Ended) low
           (goes limit owners hs mark t s h has_ended low (Then t1 (Drop (suc h) h) Ended) (shrunk m h)
           (makes t t1 m gave (Drop (suc h) h) Ended (shrunk m h) Idle refl (free low) new-idle may
           (drop_ends (suc h) h (s.marked ∙ is))) refl refl
@@ -76,7 +77,7 @@ module _ {V : Type 0} (limit owners : ℕ) (hs : List Standing) (mark : Bool) (t
           ∙ put-other (state t).handle h given k other)
           new-idle (λ _ _. refl))
           (ap (λ (l : List Report). l ++ (made h reads_for_drop, nothing) ∷ []) (append-nil (reports_of t)))
-      at false is = turns dropping _ (Then t1 (Drop (suc h) h) Pending) low
+      at false is = gets-standing dropping _ (Then t1 (Drop (suc h) h) Pending) low
           (goes limit owners hs mark t s h dropping low (Then t1 (Drop (suc h) h) Pending) m
           (makes t t1 m gave (Drop (suc h) h) Pending m Idle refl (free low) new-idle may
           (drop_reads (suc h) h (s.marked ∙ is))) refl refl
@@ -105,11 +106,11 @@ module _ {V : Type 0} (limit owners : ℕ) (hs : List Standing) (mark : Bool) (t
         (record ((state t).handle (handle_in ((state t).activity (suc h)))) { lives = false })
         → (state (Then t (Lower (suc h)) a)).activity ≡ put (state t).activity (suc h) Idle
         → Shape limit owners (set hs h has_ended) mark (Then t (Lower (suc h)) a)
-    over a done handles acts = goes limit owners hs mark t s h has_ended begun (Then t (Lower (suc h)) a) (shrunk m h)
+    over a done handles doing = goes limit owners hs mark t s h has_ended begun (Then t (Lower (suc h)) a) (shrunk m h)
         done refl refl (ap (λ (x : HandleState). x.lives) (at h ∙ put-here (state t).handle h gone))
         (λ k other. at k ∙ put-other (state t).handle h gone k other)
-        (ap (λ (f : ℕ → Activity). f (suc h)) acts ∙ put-here (state t).activity (suc h) Idle)
-        (λ o other. ap (λ (f : ℕ → Activity). f o) acts ∙ put-other (state t).activity (suc h) Idle o other) where
+        (ap (λ (f : ℕ → Activity). f (suc h)) doing ∙ put-here (state t).activity (suc h) Idle)
+        (λ o other. ap (λ (f : ℕ → Activity). f o) doing ∙ put-other (state t).activity (suc h) Idle o other) where
           at : (k : ℕ) → (state (Then t (Lower (suc h)) a)).handle k ≡ put (state t).handle h gone k
           at k = ap (λ (f : ℕ → HandleState). f k) handles ∙ ap (λ (c : Activity). put (state t).handle (handle_in c)
               (record ((state t).handle (handle_in c)) { lives = false }) k) busy
@@ -124,11 +125,11 @@ module _ {V : Type 0} (limit owners : ℕ) (hs : List Standing) (mark : Bool) (t
     lowered = at (if mark then false else nat_eq (count_by is_counted hs) 1) refl where
       at : (b : Bool) → (if mark then false else nat_eq (count_by is_counted hs) 1) ≡ b
           → Goes limit owners (set hs h has_ended) mark t ((made h lowers, if b then whole_block 0 else nothing) ∷ [])
-      at true one = turns has_ended _ (Then t (Lower (suc h)) (GivenUp m.value)) begun
+      at true one = gets-standing has_ended _ (Then t (Lower (suc h)) (GivenUp m.value)) begun
           (over (GivenUp m.value) (makes t t m (here t s.legal) (Lower (suc h)) (GivenUp m.value) (shrunk m h)
           (Dropping h) refl (free begun) busy refl (lower_gives_up (suc h) h busy (only ∙ one))) refl refl)
           (ap (λ (c : Activity). reports_of t ++ (made (handle_in c) lowers, whole_block 0) ∷ []) busy)
-      at false more = turns has_ended _ (Then t (Lower (suc h)) Ended) begun
+      at false more = gets-standing has_ended _ (Then t (Lower (suc h)) Ended) begun
           (over Ended (makes t t m (here t s.legal) (Lower (suc h)) Ended (shrunk m h)
           (Dropping h) refl (free begun) busy refl (lower_ends (suc h) h busy (only ∙ more))) refl refl)
           (ap (λ (c : Activity). reports_of t ++ (made (handle_in c) lowers, nothing) ∷ []) busy)

@@ -1,12 +1,11 @@
 -- When the value is given up, that no step is permitted afterwards, and that a mark keeps it.
-use Rattle.counting_core.proofs.Names.{GivenUpOnce, MarkedBlockKeepsItsValue}
-use Rattle.counting_core.proofs.Names.{◌≡◌, ℕ, Bool, true, false, not, ◌&&◌, if◌then◌else◌, nat_eq, List, [], ◌∷◌}
-use Rattle.counting_core.proofs.Names.{length, refl, sym, ◌∙◌, ap, arith, true≢false, ⊎_elim, eqb-true, and_parts}
-use Rattle.counting_core.proofs.Names.{and_right, or_cases, fun_ext, Activity, Idle, Cloning, Dropping, Step, Raise}
-use Rattle.counting_core.proofs.Names.{Answer, Ended, GivenUp, Memory, Barred, Trace, Then, HandleState, State}
-use Rattle.counting_core.proofs.Names.{owner_of, permitted_by, Model, is_only, without, IsLegal, state, model, has_mark}
-use Rattle.counting_core.proofs.Names.{live_handles, is_end, is_given_up, some_answer, ◌||◌, or_right}
-use Rattle.counting_core.proofs.Names.{false_from_ne_true, is_marked_answer}
+use Rattle.counting_core.proofs.Names.{GivenUpOnce, MarkedBlockKeepsItsValue, ◌≡◌, ℕ, Bool, true, false, not, ◌&&◌}
+use Rattle.counting_core.proofs.Names.{if◌then◌else◌, nat_eq, List, [], ◌∷◌, length, refl, sym, ◌∙◌, ap, arith}
+use Rattle.counting_core.proofs.Names.{true≢false, ⊎_elim, eqb-true, and_parts, and_right, or_cases, fun_ext, Activity}
+use Rattle.counting_core.proofs.Names.{Idle, Cloning, Dropping, Step, Raise, Answer, Ended, GivenUp, Memory, Barred}
+use Rattle.counting_core.proofs.Names.{Trace, Then, HandleState, State, owner_of, permitted_by, Model, is_only, without}
+use Rattle.counting_core.proofs.Names.{IsLegal, state, model, has_mark, live_handles, is_end, is_given_up, some_answer}
+use Rattle.counting_core.proofs.Names.{◌||◌, or_right, false_from_ne_true, is_marked_answer}
 use Rattle.counting_core.proofs.Traces.HandleLists.{has}
 use Rattle.counting_core.proofs.Traces.Deeds.{EachDeed, drop_ends, lower_ends, lower_gives_up, marks}
 use Rattle.counting_core.proofs.Traces.LegalSteps.{happens, each_legal, takes_effect, barred_if_not_permitted}

@@ -65,9 +65,9 @@ module _ {V : Type 0} (limit : ℕ) where
         (ap₂ nat_eq (same-count limit owners hs mark t s) (model_limit t s.legal ∙ s.limited))
 
     -- the first step of owner 0
-    acts : (x : Step V) (a : Answer V) (m : Model V) → takes_effect a ≡ true → owner_of x ≡ 0
+    first-step : (x : Step V) (a : Answer V) (m : Model V) → takes_effect a ≡ true → owner_of x ≡ 0
         → permitted_by (state t) Idle x ≡ true → Deed (model t) (state t) x a m → Comes t (Then t x a) m
-    acts x a m effect by = makes t t (model t) (here t s.legal) x a m Idle effect
+    first-step x a m effect by = makes t t (model t) (here t s.legal) x a m Idle effect
         (subst (λ o. o < (state t).owners) (sym by) within) (ap (state t).activity by ∙ s.busy 0)
 
     -- what leaves handles and owners as they were
@@ -103,29 +103,29 @@ module _ {V : Type 0} (limit : ℕ) where
     -- what is only asked
     pub asked : Goes owners hs mark t ((made h asks, nothing) ∷ [])
     asked = stays mark _ _ _
-        (acts (Unique 0 h) (Is (is_only (model t) h)) (model t) refl refl usable (asks_unique 0 h))
+        (first-step (Unique 0 h) (Is (is_only (model t) h)) (model t) refl refl usable (asks_unique 0 h))
         s.marked refl (λ _. refl) (λ _. refl) refl
 
     pub marked_now : Goes owners hs true t ((made h marks, nothing) ∷ [])
     marked_now = stays true _ _ _
-        (acts (Mark 0 h) Marked (record (model t) { mark = true }) refl refl usable (deed_marks 0 h))
+        (first-step (Mark 0 h) Marked (record (model t) { mark = true }) refl refl usable (deed_marks 0 h))
         refl refl (λ _. refl) (λ _. refl) refl
 
     -- a read by which a handle is born
     pub read_bears : mark ≡ true → Goes owners (hs ++ lives ∷ []) mark t ((made h reads, a_handle) ∷ [])
     read_bears is = born (Then t (Clone 0 h) (Born (model t).births)) _
-        (acts (Clone 0 h) (Born (model t).births) (grown (model t)) refl refl usable
+        (first-step (Clone 0 h) (Born (model t).births) (grown (model t)) refl refl usable
         (clone_bears 0 h (s.marked ∙ is) (full-by ∙ ap (λ b. not b && nat_eq count limit) is)))
         refl put-idle refl
 
     read : mark ≡ false → is_full (model t) ≡ false → Comes t (Then t (Clone 0 h) Pending) (model t)
-    read is free = acts (Clone 0 h) Pending (model t) refl refl usable (clone_reads 0 h (s.marked ∙ is) free)
+    read is free = first-step (Clone 0 h) Pending (model t) refl refl usable (clone_reads 0 h (s.marked ∙ is) free)
 
     -- a read that comes to nothing
     pub read_fails : mark ≡ false → Goes owners hs mark t ((made h reads, nothing) ∷ [])
     read_fails is = at (is_full (model t)) refl where
       at : (b : Bool) → is_full (model t) ≡ b → Goes owners hs mark t ((made h reads, nothing) ∷ [])
-      at true full = stays mark _ _ _ (acts (Clone 0 h) Full (model t) refl refl usable (clone_full 0 h full))
+      at true full = stays mark _ _ _ (first-step (Clone 0 h) Full (model t) refl refl usable (clone_full 0 h full))
           s.marked refl (λ _. refl) put-idle refl
       at false free = stays mark _ _ _
           (makes t (Then t (Clone 0 h) Pending) (model t) (read is free) (Quit 0) Quitted (model t)
@@ -186,10 +186,11 @@ module _ {V : Type 0} (limit : ℕ) where
       at : (b : Bool) → (if mark then false else nat_eq count 1) ≡ b
           → Goes owners hs mark t ((made h reads_for_unique, if b then whole_block 1 else a_handle) ∷ [])
       at true one = stays mark (Then t1 (EndWrite 0 h) Done) _ _
-          (makes t t1 (model t) (acts (GetMut 0 h) Alone (model t) refl refl takable (finds_alone 0 h (only ∙ one)))
+          (makes t t1 (model t)
+          (first-step (GetMut 0 h) Alone (model t) refl refl takable (finds_alone 0 h (only ∙ one)))
           (EndWrite 0 h) Done (model t) Idle refl within (s.busy 0) (ap (λ (x : HandleState). is_writing x 0) here-1)
           (ends_write 0 h))
           s.marked refl as_before (λ _. refl) (append-nil _)
       at false more = stays mark _ _ _
-          (acts (GetMut 0 h) Shared (model t) refl refl takable (finds_shared 0 h (only ∙ more)))
+          (first-step (GetMut 0 h) Shared (model t) refl refl takable (finds_shared 0 h (only ∙ more)))
           s.marked refl (λ _. refl) (λ _. refl) refl

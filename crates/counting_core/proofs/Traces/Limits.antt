@@ -2,14 +2,11 @@
 -- fewer handles than that.
 use Rattle.counting_core.proofs.Names.{◌≡◌, ◌≤◌, false, not, ◌&&◌, nat_eq, length, refl, sym, ◌∙◌, ap, subst, arith}
 use Rattle.counting_core.proofs.Names.{length-append, true≢false, eqb-false, length-filter, count_by-le-length, IsLimit}
-use Rattle.counting_core.proofs.Names.{Step, Answer, Trace, Open, Then, State, limit_of, Model, is_full}
-use Rattle.counting_core.proofs.Names.{IsLegal, state, model, has_mark, live_handles, ℕ, ◌<◌, or_parts, Activity, Idle}
-use Rattle.counting_core.proofs.Names.{Cloning, Dropping, after, put}
+use Rattle.counting_core.proofs.Names.{Step, Answer, Trace, Open, Then, State, limit_of, Model, is_full, IsLegal, state}
+use Rattle.counting_core.proofs.Names.{model, has_mark, live_handles, ℕ, ◌<◌, or_parts, Activity, Cloning}
 use Rattle.counting_core.proofs.Traces.Deeds.{EachDeed, Deed, clone_bears, raise_bears, drop_ends, lower_ends}
-use Rattle.counting_core.proofs.Traces.Deeds.{lower_gives_up, marks, grown, shrunk, clone_reads, clone_full}
-use Rattle.counting_core.proofs.Traces.Deeds.{raise_loses, raise_full, quits, drop_reads}
-use Rattle.counting_core.proofs.Traces.LegalSteps.{each_legal}
-use Rattle.counting_core.proofs.Traces.Places.{put-all}
+use Rattle.counting_core.proofs.Traces.Deeds.{lower_gives_up, marks, grown, shrunk, clone_reads, raise_loses, next}
+use Rattle.counting_core.proofs.Traces.LegalSteps.{each_legal, each_owner}
 
 module _ {V : Type 0} where
   pub legal_limit : (t : Trace V) → IsLegal t → IsLimit (limit_of t)
@@ -77,29 +74,17 @@ module _ {V : Type 0} where
       let same : (model t).limit ≡ limit_of t = model_limit t legal in
       omega arith
 
-  module _ (limit : ℕ) (r : Model V) (u : State) (was : AllHaveRoom limit u)
-      (few : r.mark ≡ false → is_full r ≡ false → length r.live < limit) where
-    now : (o : ℕ) (c : Activity) → HasRoom limit c → (q : ℕ) → HasRoom limit (put u.activity o c q)
-    now o c own = put-all u.activity o c (λ _ k. HasRoom limit k) own (λ q _. was q)
-
-    room-then : (s : Step V) (a : Answer V) (m : Model V) → Deed r u s a m
-        → AllHaveRoom limit (after (length r.live) u s a)
-    room-then s a m (clone_reads o h mark room) = now o (Cloning h (length r.live)) (few mark room)
-    room-then s a m (raise_loses o lost) =
-        now o (Cloning _ (length r.live)) (few (or_parts _ _ lost).0 (or_parts _ _ (or_parts _ _ lost).1).0)
-    room-then s a m (drop_reads o h _) = now o (Dropping h) tt
-    room-then s a m (clone_bears o _ _ _) = now o Idle tt
-    room-then s a m (clone_full o _ _) = now o Idle tt
-    room-then s a m (raise_bears o _ _) = now o Idle tt
-    room-then s a m (raise_full o _) = now o Idle tt
-    room-then s a m (quits o) = now o Idle tt
-    room-then s a m (lower_ends o _ _ _) = now o Idle tt
-    room-then s a m (lower_gives_up o _ _ _) = now o Idle tt
-    room-then s a m _ = was
+  room-next : (t : Trace V) → IsLegal t → {s : Step V} {a : Answer V} {m : Model V}
+      (d : Deed (model t) (state t) s a m) → HasRoom (limit_of t) (next (model t) (state t) d)
+  room-next t legal (clone_reads o h mark room) = room-read t legal mark room
+  room-next t legal (raise_loses o lost) =
+      room-read t legal (or_parts _ _ lost).0 (or_parts _ _ (or_parts _ _ lost).1).0
+  room-next t legal _ = tt
 
   all_have_room : (t : Trace V) → IsLegal t → AllHaveRoom (limit_of t) (state t)
   all_have_room = each_legal (λ t. AllHaveRoom (limit_of t) (state t)) (λ _ _ _ _ _. tt) (λ _ _ was. (was, was))
-      (λ t s a legal h was. room-then (limit_of t) (model t) (state t) was (room-read t legal.0) s a _ h.deed)
+      (λ t s a legal h was. each_owner t s a h (λ _ c. HasRoom (limit_of t) c) (room-next t legal.0 h.deed)
+      (λ q _. was q))
 
   pub room_seen : (t : Trace V) → IsLegal t → (o h seen : ℕ) → (state t).activity o ≡ Cloning h seen
       → seen < limit_of t

@@ -1,10 +1,9 @@
 -- The live handles of a trace's model: none twice, each born, and the ones that the trace lets live.
-use Rattle.counting_core.proofs.Names.{length, ◌≡◌, ℕ, ◌+◌, ◌<◌, Bool, true, false, not, nat_eq, []}
-use Rattle.counting_core.proofs.Names.{count_by, refl, sym, ◌∙◌, ap, subst, arith, lt_irrefl, true≢false, if◌then◌else◌}
-use Rattle.counting_core.proofs.Names.{false_from_ne_true, Activity, Dropping}
-use Rattle.counting_core.proofs.Names.{Trace, HandleState, unborn, newborn, State, after}
-use Rattle.counting_core.proofs.Names.{handle_in, ended, put, Model, IsLegal, state, model}
-use Rattle.counting_core.proofs.Names.{ap₂, List, without}
+use Rattle.counting_core.proofs.Names.{length, ◌≡◌, ℕ, ◌+◌, ◌<◌, Bool, true, false, not, nat_eq, [], count_by, refl}
+use Rattle.counting_core.proofs.Names.{sym, ◌∙◌, ap, subst, arith, lt_irrefl, true≢false, if◌then◌else◌}
+use Rattle.counting_core.proofs.Names.{false_from_ne_true, Activity, Dropping, Trace, HandleState, unborn, newborn}
+use Rattle.counting_core.proofs.Names.{State, after, handle_in, ended, put, Model, IsLegal, state, model, ap₂, List}
+use Rattle.counting_core.proofs.Names.{without}
 use Rattle.counting_core.proofs.Traces.Places.{put-all}
 use Rattle.counting_core.proofs.Traces.HandleLists.{one_if, times, has, nat_eq-same, in-list, times-push, times-without}
 use Rattle.counting_core.proofs.Traces.HandleLists.{length-without}

@@ -1,9 +1,8 @@
 -- How many of the numbers below a bound pass a test.
-use Rattle.counting_core.proofs.Names.{◌≡◌, ◌≢◌, ℕ, zero, suc, ◌+◌, ◌<◌, ◌≤◌, Bool, true, false, ◌&&◌}
-use Rattle.counting_core.proofs.Names.{if◌then◌else◌, nat_eq, List, [], ◌∷◌, length, take, get_or, count_by, refl, sym}
-use Rattle.counting_core.proofs.Names.{◌∙◌, ap, ap₂, arith, true≢false, eqb-true, ne_eqb, subst, add-one}
-use Rattle.counting_core.proofs.Names.{eqb-false, sum_by_more, without, put, nat_lt, lt-ltb}
-use Rattle.counting_core.proofs.Names.{number_below}
+use Rattle.counting_core.proofs.Names.{◌≡◌, ◌≢◌, ℕ, zero, suc, ◌+◌, ◌<◌, ◌≤◌, Bool, true, false, ◌&&◌, if◌then◌else◌}
+use Rattle.counting_core.proofs.Names.{nat_eq, List, [], ◌∷◌, length, take, get_or, count_by, refl, sym, ◌∙◌, ap, ap₂}
+use Rattle.counting_core.proofs.Names.{arith, true≢false, eqb-true, ne_eqb, subst, add-one, eqb-false, sum_by_more}
+use Rattle.counting_core.proofs.Names.{without, put, nat_lt, lt-ltb, number_below}
 use Rattle.counting_core.proofs.Traces.Places.{put-all}
 use Rattle.counting_core.proofs.Traces.HandleLists.{one_if, times, times-cons, times-without, length-without}
 
@@ -80,7 +79,7 @@ number-put p f o y (suc n) lt = at (nat_eq o n) refl (number-put p f o y n) wher
       omega arith
   at false e rest =
       let apart : o ≢ n = eqb-false o n e in
-      let so : number_below (λ q. p (put f o y q)) n + one_if (p (f o))
+      let so_far : number_below (λ q. p (put f o y q)) n + one_if (p (f o))
       ≡ number_below (λ q. p (f q)) n + one_if (p y) = rest (omega arith) in
       omega arith
 

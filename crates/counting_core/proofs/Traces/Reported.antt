@@ -4,8 +4,7 @@ use Rattle.counting_core.proofs.Names.{◌++◌, length, length-append, length-s
 use Rattle.counting_core.proofs.Names.{sym, ◌∙◌, ap, ap₂, subst, arith, true≢false, eqb-true, ◌⊎◌, inl, inr, and_parts}
 use Rattle.counting_core.proofs.Names.{common_steps, Contains, count_by, born, lt_irrefl, Standing, lives, dropping}
 use Rattle.counting_core.proofs.Names.{has_ended, is_counted, Tally, first, standing_of, Lives, has_exactly, one_more}
-use Rattle.counting_core.proofs.Names.{goes_to, after_read, after_step, tally_of, MayDo, IsRun, run-more}
-use Rattle.counting_core.proofs.Names.{tally-append}
+use Rattle.counting_core.proofs.Names.{goes_to, after_read, after_step, tally_of, MayDo, IsRun, run-more, tally-append}
 use Rattle.counting_core.proofs.Names.{atomic, Entry, made, WordStep, raises_from, Activity, Idle, Cloning, Dropping}
 use Rattle.counting_core.proofs.Names.{HandleState, State, handle_in, seen_in, put, has_alone, may_use, without}
 use Rattle.counting_core.proofs.Names.{is_dropping, Trace, limit_of, Model, IsLegal, state, model, log_of}
@@ -39,15 +38,15 @@ no-drop c h is e = true≢false (sym (ap is_dropping e) ∙ is)
 
 -- What the owners are in the middle of, by the standings and the counts found: a clone saw what was found through its
 -- handle, and the handles of the drops in flight are those that are dropping.
-pub record Flights (standing : ℕ → Standing) (found : List (ℕ × ℕ)) (acts : ℕ → Activity) : Type 0 where
-  pub clones : (o h n : ℕ) → acts o ≡ Cloning h n → Contains found (h, n)
-  pub drops : (o h : ℕ) → acts o ≡ Dropping h → standing h ≡ dropping
-  pub dropper : (h : ℕ) → standing h ≡ dropping → (o : ℕ) × (acts o ≡ Dropping h)
+pub record Flights (standing : ℕ → Standing) (found : List (ℕ × ℕ)) (doing : ℕ → Activity) : Type 0 where
+  pub clones : (o h n : ℕ) → doing o ≡ Cloning h n → Contains found (h, n)
+  pub drops : (o h : ℕ) → doing o ≡ Dropping h → standing h ≡ dropping
+  pub dropper : (h : ℕ) → standing h ≡ dropping → (o : ℕ) × (doing o ≡ Dropping h)
 
-module _ (standing : ℕ → Standing) (found : List (ℕ × ℕ)) (acts : ℕ → Activity) (f : Flights standing found acts)
+module _ (standing : ℕ → Standing) (found : List (ℕ × ℕ)) (doing : ℕ → Activity) (f : Flights standing found doing)
   where
     -- a count more is found
-    pub finds : (x : ℕ × ℕ) → Flights standing (x ∷ found) acts
+    pub finds : (x : ℕ × ℕ) → Flights standing (x ∷ found) doing
     finds x = record {
       clones = λ o h n e. let c : Contains found (h, n) = f.clones o h n e in
           let low : c.0 < length found = c.1 in (suc c.0, omega arith, c.2);
@@ -56,27 +55,27 @@ module _ (standing : ℕ → Standing) (found : List (ℕ × ℕ)) (acts : ℕ �
     }
 
     -- the drop of another owner goes on
-    other-drop : (o : ℕ) (c : Activity) (h : ℕ) → (acts o ≡ Dropping h → ⊥) → (q : ℕ) × (acts q ≡ Dropping h)
-        → (q : ℕ) × (put acts o c q ≡ Dropping h)
+    other-drop : (o : ℕ) (c : Activity) (h : ℕ) → (doing o ≡ Dropping h → ⊥) → (q : ℕ) × (doing q ≡ Dropping h)
+        → (q : ℕ) × (put doing o c q ≡ Dropping h)
     other-drop o c h another d = (
       d.0,
-      put-all acts o c (λ q b. acts q ≡ Dropping h → b ≡ Dropping h) (λ i. absurd (another i)) (λ _ _ i. i) d.0 d.1,
+      put-all doing o c (λ q b. doing q ≡ Dropping h → b ≡ Dropping h) (λ i. absurd (another i)) (λ _ _ i. i) d.0 d.1,
     )
 
     -- an owner that drops nothing goes on to something else
-    pub goes-on : (o : ℕ) (c : Activity) → is_dropping (acts o) ≡ false → is_dropping c ≡ false
-        → ((h n : ℕ) → c ≡ Cloning h n → Contains found (h, n)) → Flights standing found (put acts o c)
+    pub goes-on : (o : ℕ) (c : Activity) → is_dropping (doing o) ≡ false → is_dropping c ≡ false
+        → ((h n : ℕ) → c ≡ Cloning h n → Contains found (h, n)) → Flights standing found (put doing o c)
     goes-on o c was is saw = record {
-      clones = λ q h n. put-all acts o c (λ q d. d ≡ Cloning h n → Contains found (h, n)) (saw h n)
+      clones = λ q h n. put-all doing o c (λ q d. d ≡ Cloning h n → Contains found (h, n)) (saw h n)
           (λ q _. f.clones q h n) q;
-      drops = λ q h. put-all acts o c (λ q d. d ≡ Dropping h → standing h ≡ dropping)
+      drops = λ q h. put-all doing o c (λ q d. d ≡ Dropping h → standing h ≡ dropping)
           (λ e. absurd (no-drop c h is e)) (λ q _. f.drops q h) q;
-      dropper = λ h e. other-drop o c h (no-drop (acts o) h was) (f.dropper h e);
+      dropper = λ h e. other-drop o c h (no-drop (doing o) h was) (f.dropper h e);
     }
 
     -- a handle that is not dropping gets another standing
     pub stands : (h : ℕ) (x : Standing) → (standing h ≡ dropping → ⊥) → (x ≡ dropping → ⊥)
-        → Flights (put standing h x) found acts
+        → Flights (put standing h x) found doing
     stands h x was is = record {
       clones = f.clones;
       drops = λ q k e. put-all standing h x (λ k z. standing k ≡ dropping → z ≡ dropping) (λ i. absurd (was i))
@@ -86,44 +85,44 @@ module _ (standing : ℕ → Standing) (found : List (ℕ × ℕ)) (acts : ℕ �
     }
 
     -- the drop of a handle begins
-    pub drop-begins : (o h : ℕ) → is_dropping (acts o) ≡ false
-        → Flights (put standing h dropping) found (put acts o (Dropping h))
+    pub drop-begins : (o h : ℕ) → is_dropping (doing o) ≡ false
+        → Flights (put standing h dropping) found (put doing o (Dropping h))
     drop-begins o h was = record {
-      clones = λ q k n. put-all acts o (Dropping h) (λ q d. d ≡ Cloning k n → Contains found (k, n))
+      clones = λ q k n. put-all doing o (Dropping h) (λ q d. d ≡ Cloning k n → Contains found (k, n))
           (λ e. absurd (cc)) (λ q _. f.clones q k n) q;
-      drops = λ q k. put-all acts o (Dropping h) (λ q d. d ≡ Dropping k → put standing h dropping k ≡ dropping)
+      drops = λ q k. put-all doing o (Dropping h) (λ q d. d ≡ Dropping k → put standing h dropping k ≡ dropping)
           (λ e. ap (put standing h dropping) (sym (ap handle_in e)) ∙ put-here standing h dropping)
           (λ q _ e. put-all standing h dropping (λ k z. standing k ≡ dropping → z ≡ dropping) (λ _. refl) (λ _ _ i. i) k
           (f.drops q k e)) q;
       dropper = put-all standing h dropping
-          (λ k z. z ≡ dropping → (q : ℕ) × (put acts o (Dropping h) q ≡ Dropping k))
-          (λ _. (o, put-here acts o (Dropping h)))
-          (λ k _ e. other-drop o (Dropping h) k (no-drop (acts o) k was) (f.dropper k e));
+          (λ k z. z ≡ dropping → (q : ℕ) × (put doing o (Dropping h) q ≡ Dropping k))
+          (λ _. (o, put-here doing o (Dropping h)))
+          (λ k _ e. other-drop o (Dropping h) k (no-drop (doing o) k was) (f.dropper k e));
     }
 
     -- and ends
-    pub drop-ends : (o h : ℕ) → acts o ≡ Dropping h → ((q : ℕ) → acts q ≡ Dropping h → nat_eq o q ≡ true)
-        → Flights (put standing h has_ended) found (put acts o Idle)
+    pub drop-ends : (o h : ℕ) → doing o ≡ Dropping h → ((q : ℕ) → doing q ≡ Dropping h → nat_eq o q ≡ true)
+        → Flights (put standing h has_ended) found (put doing o Idle)
     drop-ends o h busy alone = record {
-      clones = λ q k n. put-all acts o Idle (λ q d. d ≡ Cloning k n → Contains found (k, n))
+      clones = λ q k n. put-all doing o Idle (λ q d. d ≡ Cloning k n → Contains found (k, n))
           (λ e. absurd (cc)) (λ q _. f.clones q k n) q;
-      drops = λ q k. put-all acts o Idle (λ q d. d ≡ Dropping k → put standing h has_ended k ≡ dropping)
+      drops = λ q k. put-all doing o Idle (λ q d. d ≡ Dropping k → put standing h has_ended k ≡ dropping)
           (λ e. absurd (cc))
-          (λ q other e. put-all standing h has_ended (λ k z. acts q ≡ Dropping k → z ≡ dropping)
+          (λ q other e. put-all standing h has_ended (λ k z. doing q ≡ Dropping k → z ≡ dropping)
           (λ i. absurd (true≢false (sym (alone q i) ∙ other))) (λ k _. f.drops q k) k e) q;
-      dropper = put-all standing h has_ended (λ k z. z ≡ dropping → (q : ℕ) × (put acts o Idle q ≡ Dropping k))
+      dropper = put-all standing h has_ended (λ k z. z ≡ dropping → (q : ℕ) × (put doing o Idle q ≡ Dropping k))
           (λ e. absurd (cc)) (λ k other e. other-drop o Idle k (another k other) (f.dropper k e));
     } where
-      another : (k : ℕ) → nat_eq h k ≡ false → acts o ≡ Dropping k → ⊥
+      another : (k : ℕ) → nat_eq h k ≡ false → doing o ≡ Dropping k → ⊥
       another k other i = true≢false (sym (nat_eq-same h) ∙ ap (nat_eq h) (ap handle_in (sym busy ∙ i)) ∙ other)
 
 module _ {V : Type 0} where
   -- The tally agrees with the model on the handles, and with the owners on what is in flight.
-  pub record Agrees (acts : ℕ → Activity) (m : Model V) (p : Tally) : Type 0 where
+  pub record Agrees (doing : ℕ → Activity) (m : Model V) (p : Tally) : Type 0 where
     pub births : m.births ≡ length p.handles
     pub mark : m.mark ≡ p.mark
     pub live : (h : ℕ) → has h m.live ≡ is_counted (standing_of p h)
-    pub flights : Flights (standing_of p) p.found acts
+    pub flights : Flights (standing_of p) p.found doing
 
   pub record Reported (limit : ℕ) (u : State) (m : Model V) (log : List Entry) : Type 0 where
     pub runs : IsRun limit log
@@ -183,9 +182,9 @@ module _ {V : Type 0} where
     }
 
     -- no handle is born or ends
-    pub stays : (m : Model V) (q : Tally) (acts : ℕ → Activity) → m.births ≡ now.births → m.mark ≡ q.mark
-        → m.live ≡ now.live → q.handles ≡ p.handles → Flights (standing_of q) q.found acts → Agrees acts m q
-    stays m q acts births mark live same flights = record {
+    pub stays : (m : Model V) (q : Tally) (doing : ℕ → Activity) → m.births ≡ now.births → m.mark ≡ q.mark
+        → m.live ≡ now.live → q.handles ≡ p.handles → Flights (standing_of q) q.found doing → Agrees doing m q
+    stays m q doing births mark live same flights = record {
       births = births ∙ a.births ∙ ap (λ (hs : List Standing). length hs) (sym same);
       mark = mark;
       live = λ h. ap (has h) live ∙ a.live h
@@ -194,16 +193,16 @@ module _ {V : Type 0} where
     }
 
     -- a birth
-    pub bears : (m : Model V) (acts : ℕ → Activity) → m.births ≡ now.births + 1 → m.mark ≡ now.mark
-        → m.live ≡ now.live ++ now.births ∷ [] → Flights (standing_of p) p.found acts → Agrees acts m (one_more p)
-    bears m acts births mark live flights = record {
+    pub bears : (m : Model V) (doing : ℕ → Activity) → m.births ≡ now.births + 1 → m.mark ≡ now.mark
+        → m.live ≡ now.live ++ now.births ∷ [] → Flights (standing_of p) p.found doing → Agrees doing m (one_more p)
+    bears m doing births mark live flights = record {
       births = births ∙ ap (λ n. n + 1) a.births ∙ sym (length-append p.handles (lives ∷ []));
       mark = mark ∙ a.mark;
       live = λ h. ap (has h) live ∙ has-push h now.births now.live
           ∙ ap (λ n. nat_eq n h || has h now.live) a.births ∙ each h
           ∙ sym (ap (λ (f : ℕ → Standing). is_counted (f h)) (get_or-push p.handles has_ended lives));
-      flights = subst (λ (f : ℕ → Standing). Flights f p.found acts) (sym (get_or-push p.handles has_ended lives))
-          (stands (standing_of p) p.found acts flights (length p.handles) lives unborn (λ e. absurd (cc)));
+      flights = subst (λ (f : ℕ → Standing). Flights f p.found doing) (sym (get_or-push p.handles has_ended lives))
+          (stands (standing_of p) p.found doing flights (length p.handles) lives unborn (λ e. absurd (cc)));
     } where
       each : (h : ℕ) → (nat_eq (length p.handles) h || has h now.live)
           ≡ is_counted (put (standing_of p) (length p.handles) lives h)
@@ -216,15 +215,15 @@ module _ {V : Type 0} where
       unborn e = lt_irrefl (length p.handles) (born p.handles (length p.handles) dropping refl e)
 
     -- a handle gets another standing
-    pub turns : (h : ℕ) (x : Standing) (m : Model V) (acts : ℕ → Activity) → is_counted (standing_of p h) ≡ true
-        → m.births ≡ now.births → m.mark ≡ now.mark
+    pub gets-standing : (h : ℕ) (x : Standing) (m : Model V) (doing : ℕ → Activity)
+        → is_counted (standing_of p h) ≡ true → m.births ≡ now.births → m.mark ≡ now.mark
         → ((k : ℕ) → has k m.live ≡ is_counted (put (standing_of p) h x k))
-        → Flights (put (standing_of p) h x) p.found acts → Agrees acts m (goes_to p h x)
-    turns h x m acts there births mark live flights = record {
+        → Flights (put (standing_of p) h x) p.found doing → Agrees doing m (goes_to p h x)
+    gets-standing h x m doing there births mark live flights = record {
       births = births ∙ a.births ∙ sym (length-set p.handles h x);
       mark = mark ∙ a.mark;
       live = λ k. live k ∙ sym (ap (λ (f : ℕ → Standing). is_counted (f k)) is);
-      flights = subst (λ (f : ℕ → Standing). Flights f p.found acts) (sym is) flights;
+      flights = subst (λ (f : ℕ → Standing). Flights f p.found doing) (sym is) flights;
     } where
       is : standing_of (goes_to p h x) ≡ put (standing_of p) h x
       is = get_or-set p.handles has_ended h x (born p.handles h (standing_of p h) there refl)

@@ -1,14 +1,13 @@
 -- A sole handle is the only live one of an unmarked block, and it is lent to nobody.
-use Rattle.counting_core.proofs.Names.{SoleHandleIsTheOnlyOne, SoleDropGivesUp}
-use Rattle.counting_core.proofs.Names.{◌≡◌, ℕ, Bool, true, false, not, ◌&&◌, ◌||◌, nat_eq, nat_lt, List, [], ◌∷◌}
-use Rattle.counting_core.proofs.Names.{length, if◌then◌else◌, refl, sym, ◌∙◌, ap, subst, arith, true≢false, eqb-true}
-use Rattle.counting_core.proofs.Names.{eq-eqb, list_any, and_parts, not-true, Access, SharedAccess, Written, SoleAccess}
-use Rattle.counting_core.proofs.Names.{Activity, Dropping, Step, Raise, Drop, Lower, Mark, IntoUnique, Lend, Return}
-use Rattle.counting_core.proofs.Names.{Answer, Pending, Ended, GivenUp, Trace, HandleState}
-use Rattle.counting_core.proofs.Names.{unborn, newborn, lent_to, returned_by, State, handle_in, owner_of, after, ended}
-use Rattle.counting_core.proofs.Names.{put, is_shared, is_sole, is_lent_to, has_alone, may_use, permitted, permitted_by}
-use Rattle.counting_core.proofs.Names.{Model, Ends, opened, is_only, Visible, Internal, outcome, expected, IsLegal}
-use Rattle.counting_core.proofs.Names.{state, model, live_handles, has_mark}
+use Rattle.counting_core.proofs.Names.{SoleHandleIsTheOnlyOne, SoleDropGivesUp, ◌≡◌, ℕ, Bool, true, false, not, ◌&&◌}
+use Rattle.counting_core.proofs.Names.{◌||◌, nat_eq, nat_lt, List, [], ◌∷◌, length, if◌then◌else◌, refl, sym, ◌∙◌, ap}
+use Rattle.counting_core.proofs.Names.{subst, arith, true≢false, eqb-true, eq-eqb, list_any, and_parts, not-true}
+use Rattle.counting_core.proofs.Names.{Access, SharedAccess, Written, SoleAccess, Activity, Dropping, Step, Raise, Drop}
+use Rattle.counting_core.proofs.Names.{Lower, Mark, IntoUnique, Lend, Return, Answer, Pending, Ended, GivenUp, Trace}
+use Rattle.counting_core.proofs.Names.{HandleState, unborn, newborn, lent_to, returned_by, State, handle_in, owner_of}
+use Rattle.counting_core.proofs.Names.{after, ended, put, is_shared, is_sole, is_lent_to, has_alone, may_use, permitted}
+use Rattle.counting_core.proofs.Names.{permitted_by, Model, Ends, opened, is_only, Visible, Internal, outcome, expected}
+use Rattle.counting_core.proofs.Names.{IsLegal, state, model, live_handles, has_mark}
 use Rattle.counting_core.proofs.Traces.HandleLists.{has}
 use Rattle.counting_core.proofs.Traces.Places.{put-all}
 use Rattle.counting_core.proofs.Traces.Deeds.{Deed, clone_bears, raise_bears, drop_ends, lower_ends, lower_gives_up}

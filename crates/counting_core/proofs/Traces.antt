@@ -16,5 +16,6 @@ pub mod Shapes
 pub mod HandleRuns
 pub mod EndRuns
 pub mod Runs
+pub mod Flights
 pub mod Reported
 pub mod TraceRuns

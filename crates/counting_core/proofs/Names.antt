@@ -3,7 +3,7 @@ pub use Rattle.std.proofs.Common.{◌≡◌, ◌≢◌, ℕ, ◌-◌, ◌%◌, �
 pub use Rattle.std.proofs.Common.{if◌then◌else◌, get_or, set, refl, sym, ◌∙◌, ap, ap₂, subst, length-set, arith}
 pub use Rattle.std.proofs.Common.{IsTrue, nat_eq, ne_eqb, eq-eqb, eqb-true, leb-true, ◌+◌, not, ◌&&◌, ◌||◌, zero, suc}
 pub use Rattle.std.proofs.Common.{nat_lt, ltb-true, length-append, inl, inr, get_or-set_other, get_or-set_same}
-pub use Rattle.std.proofs.Common.{true≢false, take, replicate, ◌⊎◌, ⊎_elim, ◌↔◌, append-nil, lt-ltb, lt_irrefl}
+pub use Rattle.std.proofs.Common.{true≢false, take, replicate, ◌⊎◌, ⊎_elim, append-nil, lt-ltb, lt_irrefl}
 pub use Rattle.std.proofs.Common.{count_by, append_assoc, Ordering, Less, Equal, Greater, take_all, le_trans, le_refl}
 pub use Rattle.std.proofs.Common.{Contains, ◌*◌, mul-add, add-one, rules, vec_len, vec_capacity}
 pub use Rattle.std.proofs.Math.Bool.{and-true}
@@ -13,7 +13,7 @@ pub use Rattle.std.proofs.lemmas.Bool.{and_parts, or_parts, not-true, cases_lt, 
 pub use Rattle.std.proofs.lemmas.Bool.{cond_both, or_from, or_left, false_from_ne_true, and_right, or_cases}
 pub use Rattle.std.proofs.lemmas.Bool.{true_from_ne_false}
 pub use Rattle.std.proofs.lemmas.Grind.{common_steps}
-pub use Rattle.std.proofs.lemmas.List.{set-get_or, get_or_append_left, get_or_default, take_more, get_or-replicate}
+pub use Rattle.std.proofs.lemmas.List.{get_or_append_left, get_or_default, take_more, get_or-replicate}
 pub use Rattle.std.proofs.lemmas.List.{length-replicate}
 pub use Rattle.std.proofs.lemmas.List.Filters.{length-filter_both}
 pub use Rattle.std.proofs.lemmas.List.Folds.{list_any-append}
@@ -32,7 +32,7 @@ pub use Rattle.counting_word.proofs.Words.{count_of-unmarked, word-unmarked, exa
 pub use Rattle.counting_word.proofs.Words.{stands-live, stands-in_drop, stands-raise, stands-lower, stands-marked_word}
 pub use Rattle.counting_word.proofs.Words.{stands-new}
 pub use Rattle.counting_word.proofs.WordLogs.{lowered-less}
-pub use Rattle.counting_word.specs.CountingWord.{is_one_handle, count_of, marked_word, mark_bit, is_marked_word}
+pub use Rattle.counting_word.specs.CountingWord.{is_one_handle, count_of, mark_bit, is_marked_word}
 pub use Rattle.counting_word.specs.CountingWord.{StandsFor, IsLimit, IsWithin, greatest_count}
 pub use Rattle.counting_word.specs.Plans.{clone_plan, drop_plan}
 pub use Rattle.counting_word.specs.Rights.{a_handle, nothing, to_lower, whole_block}
@@ -47,12 +47,11 @@ pub use Rattle.counting_word.specs.declared.ClonePlan.{ClonePlan}
 pub use Rattle.counting_word.specs.declared.ClonePlan.TheVariants.{Static as StaticClone, Full as FullClone}
 pub use Rattle.counting_word.specs.declared.ClonePlan.TheVariants.{Raise as RaiseClone}
 pub use Rattle.counting_word.specs.declared.DropPlan.TheVariants.{Static as StaticDrop, Lower as LowerDrop}
-pub use Rattle.counting_core.specs.Actions.{step_on}
 pub use Rattle.counting_core.specs.ByWord.{IsPermitted, cloned, dropped, by_word, value_after, births_after}
 pub use Rattle.counting_core.specs.ByWord.{TakesEffect, FollowsWord, answered}
-pub use Rattle.counting_core.specs.HandleSteps.{IsAs, right_of, AnswersAreByTheWord, StepsAreThoseOfHandles}
+pub use Rattle.counting_core.specs.HandleSteps.{right_of, AnswersAreByTheWord, StepsAreThoseOfHandles}
 pub use Rattle.counting_core.specs.Laws.{live_handles, has_mark, is_clone_read, is_end, is_given_up, some_answer}
-pub use Rattle.counting_core.specs.Laws.{is_marked_answer, IsSole, EachStepHasOneAnswer, BarredExactlyIfNotPermitted}
+pub use Rattle.counting_core.specs.Laws.{is_marked_answer, EachStepHasOneAnswer, BarredExactlyIfNotPermitted}
 pub use Rattle.counting_core.specs.Laws.{FullExactlyAtLimit, BornStraightAfterRead, SoleHandleIsTheOnlyOne}
 pub use Rattle.counting_core.specs.Laws.{SoleDropGivesUp, GivenUpOnce, MarkedBlockKeepsItsValue}
 pub use Rattle.counting_core.specs.Legal.{state, takes_memory, model, expected, raise_settles, IsAnswer, IsLegal, Move}
@@ -68,7 +67,7 @@ pub use Rattle.counting_core.specs.Runs.{Report, reports_of, spelled_step, spell
 pub use Rattle.counting_core.specs.State.{HandleState, lent_to, returned_by, ended, State, goes_on_to, newborn}
 pub use Rattle.counting_core.specs.State.{handle_in, seen_in, unborn, put}
 pub use Rattle.counting_core.specs.Trace.{Trace, after, limit_of, Then, Open, then_all}
-pub use Rattle.counting_core.specs.TraceLogs.{word_step, log_of}
+pub use Rattle.counting_core.specs.TraceLogs.{log_of}
 pub use Rattle.counting_core.specs.declared.activity.Activity.{Activity}
 pub use Rattle.counting_core.specs.declared.activity.Activity.TheVariants.{Idle, Cloning, Dropping}
 pub use Rattle.counting_core.specs.declared.handle_entry.Access.{Access}

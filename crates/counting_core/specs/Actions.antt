@@ -1,4 +1,4 @@
--- The step that an owner makes, by what it does.
+-- The step that an owner makes, by what it does with a handle.
 use Rattle.std.specs.Prelude.{ℕ}
 use Rattle.counting_core.specs.declared.action.HandleAction.{HandleAction}
 use Rattle.counting_core.specs.declared.action.HandleAction.TheVariants.{Clone, Drop, Mark, Unique, Static, GetMut}

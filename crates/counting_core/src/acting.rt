@@ -26,8 +26,7 @@ pub(crate) struct Machine<V> {
 }
 
 impl<V: Copy> Core<V> {
-    // A raise, a quit and a lower go on with what their owner has in flight.
-    #[tactic(auto, using(crate::proofs::Steps::Continues::reaches))]
+    // A raise, a quit and a lower go on with what their owner has in flight. The others are on a handle.
     pub(crate) fn step_by_word(&mut self, step: Step<V>) -> Answer<V>
         ensures reached { IsReached self.old }
         ensures word { FollowsWord self.old step result self.new }
@@ -60,7 +59,6 @@ impl<V: Copy> Core<V> {
 }
 
 impl<V: Copy> Machine<V> {
-    // Only an owner with nothing in flight is permitted a step on a handle.
     fn step_on(&mut self, owner: usize, handle: usize, action: HandleAction<V>) -> Answer<V>
         requires { IsReached (core_of self.old) }
         ensures { FollowsWord (core_of self.old) (step_on owner handle action) result (core_of self.new) }
@@ -214,7 +212,8 @@ impl<V: Copy> Machine<V> {
     }
 
     fn lend(&mut self, owner: usize, handle: usize, to: usize) -> Answer<V>
-        requires { IsPermitted (core_of self.old) (Step.Lend owner handle to) }
+        requires allowed { IsPermitted (core_of self.old) (Step.Lend owner handle to) }
+        requires born { handle < length self.old.handles.items }
         ensures { FollowsWord (core_of self.old) (Step.Lend owner handle to) result (core_of self.new) }
     {
         match self.handles[handle].lend_to(to) {

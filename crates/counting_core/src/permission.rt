@@ -15,7 +15,7 @@ impl<V: Copy> Machine<V> {
         to < self.owners.len() && to != owner
     }
 
-    /// Only an owner that has nothing in flight may begin a step on a handle.
+    /// Whether the owner may do so with the handle now. With something in flight it may not.
     pub(crate) fn permits(&self, owner: usize, handle: usize, action: &HandleAction<V>) -> bool
         ensures permitted { result ≡ permitted (state_of (core_of self.now)) (step_on owner handle action.now) }
         ensures born { result ≡ true → handle < length self.now.handles.items }

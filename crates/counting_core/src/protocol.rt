@@ -1,4 +1,4 @@
-//! The core: the fields of a block, which its owners step.
+//! The core: a machine that some trace of steps has led to.
 use crate::acting::Machine;
 use crate::activity::Activity;
 use crate::handle_entry::push_newborn;

@@ -24,13 +24,11 @@ pub use Rattle.std.specs.List.{list_any}
 pub use Rattle.std.specs.Ordering.{nat_cmp, match_ordering}
 pub use Rattle.std.specs.Set.{remove_key}
 pub use mathlib.Core.Path.{fun_ext}
-pub use Rattle.counting_word.proofs.Plans.{ClonePlanSays, clone_plan-says}
 pub use Rattle.counting_word.proofs.Standings.{born}
 pub use Rattle.counting_word.proofs.Tallies.{run-more}
 pub use Rattle.counting_word.proofs.Kept.{tally-append}
-pub use Rattle.counting_word.proofs.Words.{count_of-unmarked, word-unmarked, exactly-unmarked, is_one_handle-exactly}
-pub use Rattle.counting_word.proofs.Words.{stands-live, stands-in_drop, stands-raise, stands-lower, stands-marked_word}
-pub use Rattle.counting_word.proofs.Words.{stands-new}
+pub use Rattle.counting_word.proofs.Words.{word-unmarked, exactly-unmarked, is_one_handle-exactly, stands-live}
+pub use Rattle.counting_word.proofs.Words.{stands-in_drop, stands-raise, stands-lower, stands-marked_word, stands-new}
 pub use Rattle.counting_word.proofs.WordLogs.{lowered-less}
 pub use Rattle.counting_word.specs.CountingWord.{is_one_handle, count_of, mark_bit, is_marked_word}
 pub use Rattle.counting_word.specs.CountingWord.{StandsFor, IsLimit, IsWithin, greatest_count}
@@ -43,7 +41,6 @@ pub use Rattle.counting_word.specs.Tallies.{after_kind, tally_after, tally_from,
 pub use Rattle.counting_word.specs.Tallies.{IsRunFrom, IsRun}
 pub use Rattle.counting_word.specs.WordSteps.{lowered, reads_for_drop, lowers, reads, asks, raises_from}
 pub use Rattle.counting_word.specs.WordSteps.{reads_for_unique, marks, WordStep}
-pub use Rattle.counting_word.specs.declared.ClonePlan.{ClonePlan}
 pub use Rattle.counting_word.specs.declared.ClonePlan.TheVariants.{Static as StaticClone, Full as FullClone}
 pub use Rattle.counting_word.specs.declared.ClonePlan.TheVariants.{Raise as RaiseClone}
 pub use Rattle.counting_word.specs.declared.DropPlan.TheVariants.{Static as StaticDrop, Lower as LowerDrop}

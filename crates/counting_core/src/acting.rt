@@ -140,22 +140,21 @@ impl<V: Copy> Machine<V> {
         let Some(&Activity::Cloning { handle, seen }) = self.owners.get(owner) else {
             return Answer::Barred;
         };
-        let next = match plan_clone(self.word, self.limit) {
-            ClonePlan::Static => self.word,
-            ClonePlan::Full => {
-                self.owners[owner] = Activity::Idle;
-                return Answer::Full;
-            }
-            ClonePlan::Raise(next) => {
-                let found = self.word;
-                if found != seen {
-                    self.owners[owner] = Activity::Cloning {
-                        handle,
-                        seen: found,
-                    };
+        let found = self.word;
+        let next = if found == seen {
+            found + 1
+        } else {
+            match plan_clone(self.word, self.limit) {
+                ClonePlan::Static => self.word,
+                ClonePlan::Full => {
+                    self.owners[owner] = Activity::Idle;
+                    return Answer::Full;
+                }
+                ClonePlan::Raise(..) => {
+                    let seen = self.word;
+                    self.owners[owner] = Activity::Cloning { handle, seen };
                     return Answer::Pending;
                 }
-                next
             }
         };
         let Some(number) = push_newborn(&mut self.handles, self.alloc, owner) else {

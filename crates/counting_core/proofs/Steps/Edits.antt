@@ -64,14 +64,6 @@ module _ {V : Type 0} (f : CoreState V) where
     same_limit = limit;
   }
 
-  -- a step after which its owner goes on to something
-  pub goes : (x : Step V) (a : Answer V) (next : Activity) → IsPermitted f x → (a, f.word) ≡ by_word f x
-      → goes_on_to (state_of f) (owner_of x) next ≡ after f.word (state_of f) x a
-      → f.value ≡ value_after f.value x → length f.handles ≡ births_after (length f.handles) a
-      → TakesEffect f x a (record f { owners = set f.owners (owner_of x) next })
-  goes x a next may by same value births = effect (record f { owners = set f.owners (owner_of x) next }) x a may by
-      (state-owner (owner_of x) next (within x may) ∙ same) value births refl
-
   -- The handle was k, and is new, which is an edit of it.
   module _ (h : ℕ) (edit : HandleState → HandleState) (k new : HandleState) (was : k ≡ get_or f.handles h k)
       (now : new ≡ edit k) (lives : (handle f h).lives ≡ true) where

@@ -54,12 +54,12 @@ pub use Rattle.counting_core.specs.Laws.{SoleDropGivesUp, GivenUpOnce, MarkedBlo
 pub use Rattle.counting_core.specs.Legal.{state, takes_memory, model, expected, raise_settles, IsAnswer, IsLegal, Move}
 pub use Rattle.counting_core.specs.Legal.{Visible, Internal, move, outcome, model_after}
 pub use Rattle.counting_core.specs.LostRaises.{is_lost_raise, is_change, how_many}
+pub use Rattle.counting_core.specs.Machines.{core_of}
 pub use Rattle.counting_core.specs.Permitted.{permitted, may_take, permitted_by, has_alone, may_use, is_writing, holds}
 pub use Rattle.counting_core.specs.Permitted.{is_lent_to, has_sole, is_shared, is_sole, owner_of}
 pub use Rattle.counting_core.specs.ReferenceModel.{Model, is_full, is_only, Clones, Ends, without, opened}
 pub use Rattle.counting_core.specs.Represents.{CoreState, handle, activity, state_of, Represents, IsReached}
-pub use Rattle.counting_core.specs.Represents.{is_dropping, drops_in_flight, Continues, ContinuesAll, core_of}
-pub use Rattle.counting_core.specs.Represents.{number_below}
+pub use Rattle.counting_core.specs.Represents.{is_dropping, drops_in_flight, Continues, ContinuesAll, number_below}
 pub use Rattle.counting_core.specs.Runs.{Report, reports_of, spelled_step, spelled_from, spelled, Runs, IsReportedBy}
 pub use Rattle.counting_core.specs.State.{HandleState, lent_to, returned_by, ended, State, goes_on_to, newborn}
 pub use Rattle.counting_core.specs.State.{handle_in, seen_in, unborn, put}

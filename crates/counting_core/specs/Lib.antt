@@ -5,6 +5,7 @@ pub mod Trace
 pub mod ReferenceModel
 pub mod Legal
 pub mod Represents
+pub mod Machines
 pub mod Laws
 pub mod LostRaises
 pub mod TraceLogs

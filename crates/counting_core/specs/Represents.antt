@@ -1,11 +1,8 @@
 -- When a core represents a trace.
 use Rattle.std.specs.Prelude.{◌≡◌, ℕ, zero, suc, ◌+◌, Bool, true, false, if◌then◌else◌, List, length, slice_index_or}
-use Rattle.std.specs.Prelude.{slice_set}
 use Rattle.counting_word.specs.CountingWord.{StandsFor}
 use Rattle.counting_core.specs.declared.activity.Activity.{Activity}
 use Rattle.counting_core.specs.declared.activity.Activity.TheVariants.{Idle, Dropping}
-use Rattle.counting_core.specs.declared.acting.Machine.{Machine}
-use Rattle.counting_core.specs.declared.handle_entry.Access.{Access}
 use Rattle.counting_core.specs.declared.step.Answer.{Answer}
 use Rattle.counting_core.specs.declared.step.Step.{Step}
 use Rattle.counting_core.specs.State.{HandleState, unborn, State}
@@ -34,23 +31,8 @@ abbrev pub drops_in_flight : State → ℕ
 drops_in_flight u = number_below (λ o. is_dropping (u.activity o)) u.owners
 
 module _ {V : Type 0} where
-  -- the fields of its machine
-  abbrev pub core_of : Machine V → CoreState V
-  core_of m = record {
-    value = m.value;
-    word = m.word;
-    limit = m.limit;
-    handles = m.handles.items;
-    owners = m.owners.items;
-  }
-
   abbrev pub handle : CoreState V → ℕ → HandleState
   handle core h = slice_index_or core.handles h unborn
-
-  -- one of its handles used so
-  abbrev pub with_access : CoreState V → ℕ → Access → CoreState V
-  with_access core h access =
-      record core { handles = slice_set core.handles h (record (handle core h) { access = access }) }
 
   abbrev pub activity : CoreState V → ℕ → Activity
   activity core o = slice_index_or core.owners o Idle

@@ -2,7 +2,8 @@
 ghost use Rattle.std.specs.Prelude.{◌≡◌, ◌<◌, length, true, false};
 ghost use Rattle.counting_word.specs.CountingWord.{is_one_handle};
 ghost use Rattle.counting_core.specs.Actions.{step_on};
-ghost use Rattle.counting_core.specs.Represents.{core_of, with_access, IsReached};
+ghost use Rattle.counting_core.specs.Machines.{core_of, with_access};
+ghost use Rattle.counting_core.specs.Represents.{IsReached};
 ghost use Rattle.counting_core.specs.ByWord.{IsPermitted, FollowsWord};
 
 use crate::action::HandleAction;

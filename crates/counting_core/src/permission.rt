@@ -1,8 +1,9 @@
 //! Which step on a handle is permitted.
 ghost use Rattle.std.specs.Prelude.{◌≡◌, ◌<◌, length, true};
 ghost use Rattle.counting_core.specs.Actions.{step_on};
+ghost use Rattle.counting_core.specs.Machines.{core_of};
 ghost use Rattle.counting_core.specs.Permitted.{is_another, permitted};
-ghost use Rattle.counting_core.specs.Represents.{core_of, state_of};
+ghost use Rattle.counting_core.specs.Represents.{state_of};
 
 use crate::acting::Machine;
 use crate::action::HandleAction;

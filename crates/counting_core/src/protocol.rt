@@ -18,7 +18,8 @@ pub struct Core<V> {
 }
 
 impl<V> Model for Core<V> {
-    ghost use Rattle.counting_core.specs.Represents.{CoreState, core_of, IsReached};
+    ghost use Rattle.counting_core.specs.Machines.{core_of};
+    ghost use Rattle.counting_core.specs.Represents.{CoreState, IsReached};
 
     ghost Value = { CoreState V };
 

@@ -2,9 +2,8 @@
 use Rattle.counting_core.proofs.Names.{StepsAreThoseOfHandles, ◌≡◌, ◌+◌, Bool, true, false, if◌then◌else◌, nat_eq}
 use Rattle.counting_core.proofs.Names.{length, refl, is_marked_word, is_one_handle, count_of, a_handle, nothing}
 use Rattle.counting_core.proofs.Names.{StaticClone, FullClone, RaiseClone, StaticDrop, LowerDrop, Clone, Raise, Drop}
-use Rattle.counting_core.proofs.Names.{Lower, Quit, Write, EndWrite, Share, Load, Lend, Return, Give, Mark, Unique}
-use Rattle.counting_core.proofs.Names.{Static, GetMut, IntoUnique, Born, Ended, GivenUp, Alone, Sole, Shared, seen_in}
-use Rattle.counting_core.proofs.Names.{activity, cloned, dropped, Step, Answer, right_of}
+use Rattle.counting_core.proofs.Names.{Lower, Mark, Unique, Static, GetMut, IntoUnique, Born, Ended, GivenUp, Alone}
+use Rattle.counting_core.proofs.Names.{Sole, Shared, seen_in, activity, cloned, dropped, Step, Answer, right_of}
 
 module _ {V : Type 0} where
   -- what an answer gives that hangs on one test
@@ -47,11 +46,4 @@ module _ {V : Type 0} where
   steps_of_handles core (Mark o h) = (refl, λ _. refl)
   steps_of_handles core (Unique o h) = (refl, λ _. refl)
   steps_of_handles core (Static o h) = (refl, λ _. refl)
-  steps_of_handles core (Quit o) = refl
-  steps_of_handles core (Write o h v) = refl
-  steps_of_handles core (EndWrite o h) = refl
-  steps_of_handles core (Share o h) = refl
-  steps_of_handles core (Load o h) = refl
-  steps_of_handles core (Lend o h to) = refl
-  steps_of_handles core (Return o h) = refl
-  steps_of_handles core (Give o h to) = refl
+  steps_of_handles core s = refl

@@ -4,6 +4,7 @@ mod Framing
 pub mod Words
 pub mod Shared
 pub mod Stepped
+mod Growth
 pub mod Turns
 pub mod Reads
 pub mod Raises

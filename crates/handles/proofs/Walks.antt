@@ -3,6 +3,7 @@ pub mod AsksWord
 pub mod AtType
 pub mod BorrowedHandle
 pub mod Fields
+pub mod Granted
 pub mod Logged
 pub mod OneParam
 pub mod Statements
@@ -51,9 +52,9 @@ pub use Rattle.handles.specs.Inside.Blocks.{owned_as, placed, shared_as, shown, 
 pub use Rattle.handles.specs.Inside.Blocks.{sole_handle, Sharing, held_as}
 pub use Rattle.handles.proofs.Walks.Fields.{one_word, word_and_permit, one_word-Good, words_are, HandleRow, PermitRow}
 pub use Rattle.handles.proofs.Walks.Fields.{HandleWords, known, is_number, returns_permit, word_and_permit-Good}
-pub use Rattle.handles.proofs.Walks.Fields.{handle_at, permit_at, big_lit, lower-NoHandle, permit_kept, permit_shown}
-pub use Rattle.handles.proofs.Walks.Fields.{sole_permits, sole_shown, whole_block_of, read-NoBlock, raise-NoBlock}
-pub use Rattle.handles.proofs.Walks.Fields.{drop_read-NoHandle}
+pub use Rattle.handles.proofs.Walks.Fields.{handle_at, permit_at, big_lit}
+pub use Rattle.handles.proofs.Walks.Granted.{lower-NoHandle, permit_kept, permit_shown, sole_permits, sole_shown}
+pub use Rattle.handles.proofs.Walks.Granted.{whole_block_of, read-NoBlock, raise-NoBlock, drop_read-NoHandle}
 pub use Rattle.handles.proofs.Walks.BorrowedHandle.{opens_word, opens_handle, learns_permit, closes_borrow, asks_with}
 pub use Rattle.handles.proofs.Walks.BorrowedHandle.{under_rule, asks_new, logs, reports, parted, word_at}
 pub use Rattle.handles.proofs.Walks.OneParam.{by_ref, by_ref_and, by_value, handle_worded, permit_worded, is_handle}

@@ -72,7 +72,7 @@ impl<T: Drop> Handle<T> {
             Attempt::Made(handle) => Ok(handle),
             Attempt::Full(logged) => Err(logged),
             // The first attempt made one.
-            Attempt::Lost(word, permit) => self.raise_again(word, permit, 1..raises),
+            Attempt::Lost(word, permit) => self.raise_again(word, permit, &mut (1..raises)),
         }
     }
 
@@ -109,25 +109,25 @@ impl<T: Drop> Handle<T> {
         ensures made { IfOk result (IsMadeOf self.now) }
         ensures full { IfErr result (IsFullOf self.now) }
     {
-        self.raise_again(word, permit, rt.forever())
+        self.raise_again(word, permit, &mut rt.forever())
     }
 
     // After a lost raise, as often as there are turns.
-    fn raise_again<I: Iterator + Drop>(
+    fn raise_again<I: Iterator>(
         &self,
         mut word: u64,
         mut permit: Permit<T>,
-        turns: I,
+        turns: &mut I,
     ) -> Result<Handle<T>, Logged>
     where
         I::Item: Drop,
         requires shared { self.now.sole ≡ false }
         requires seen { IsSeen self.now word permit }
         requires lost { LostRaise self.now.held.limit.count self.now.number permit.log }
-        requires turns { I.can_next turns × IsFinite (I.remaining turns) }
+        requires turns { I.can_next turns.old × IsFinite (I.remaining turns.old) }
         ensures made { IfOk result (IsMadeOf self.now) }
         ensures refused { IfErr result (IsRefusedOf self.now) }
-        ensures stops { IfErr result (λ logged. IsFullOf self.now logged ⊎ Stops I.next_gives turns) }
+        ensures stops { IfErr result (λ logged. IsFullOf self.now logged ⊎ Stops I.next_gives turns.old) }
     {
         let held = self.held();
         for _ in turns {

@@ -29,8 +29,8 @@ use Rattle.counting_word.specs.WordSteps.{WordStep}
 use Rattle.counting_word.specs.Logs.{Entry, made}
 use Rattle.counting_word.specs.Tallies.{Adds, newest}
 use Rattle.handles.specs.contracts.block.handle.Handle as handle_type
-use Rattle.handles.proofs.Walks.Fields.{one_word, words_are, words_open, HandleRow, HandleWords, handle_at, NoBlock}
-use Rattle.handles.proofs.Walks.Fields.{permit_shown}
+use Rattle.handles.proofs.Walks.Fields.{one_word, words_are, words_open, HandleRow, HandleWords, handle_at}
+use Rattle.handles.proofs.Walks.Granted.{NoBlock, permit_shown}
 use Rattle.handles.proofs.Steps.Shared.{block_at, and_logged, grants}
 
 -- what a `&` has of a handle goes in halves

@@ -1,5 +1,5 @@
 //! Makers that take a slice or a vector.
-ghost use Rattle.std.specs.Prelude.{◌≡◌, IfOk};
+ghost use Rattle.std.specs.Prelude.{◌≡◌, [], IfOk, OnOk, length};
 ghost use Rattle.std.specs.List.{AllZip};
 ghost use Rattle.handles.specs.Copies.{CopiesAreEqual};
 
@@ -87,13 +87,24 @@ impl<H: Drop, T: Clone> UniqueArc<HeaderSlice<H, T>> {
     {
         let mut clones = Items::with_room(alloc, items.len())?;
         let block = UniqueArc::new_uninit(alloc)?;
-        for item in items {
-            clones.push(item.clone()?);
-        }
+        clones.push_clones(items)?;
         Ok(block.write(HeaderSlice {
             header,
             items: clones,
         }))
+    }
+}
+
+impl<T: Clone> Items<T> {
+    fn push_clones(&mut self, items: &[T]) -> Result<(), AllocError>
+        requires empty { self.old.items ≡ [] }
+        requires room { self.old.room ≡ length items.now }
+        ensures { OnOk result (AllZip T.is_clone items.now self.new.items) }
+    {
+        for item in items {
+            self.push(item.clone()?);
+        }
+        Ok(())
     }
 }
 

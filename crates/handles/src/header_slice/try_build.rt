@@ -1,5 +1,5 @@
 //! How a header slice takes items that may be errors.
-ghost use Rattle.std.specs.Prelude.{◌≡◌, [], IfOk, IfErr};
+ghost use Rattle.std.specs.Prelude.{◌≡◌, [], IfOk, OnOk, IfErr};
 ghost use Rattle.std.specs.Iterator.{size};
 ghost use Rattle.handles.specs.HeaderSlice.TryBuilders.{BuildsGood, IsBuiltGoodUpTo, TakesGoodUpTo, FailsUpTo};
 
@@ -53,27 +53,27 @@ fn try_build<H: Drop, T: Drop, E: From<BuildError> + Drop, I: Iterator<Item = Re
     ensures built { IfOk result (IsBuiltGoodUpTo I.next_gives source.old number source.new header) }
     ensures failed { IfErr result (FailsUpTo I.next_gives source.old number E.from_gives source.new) }
 {
-    let Ok(items) = Items::with_room(alloc, number) else {
+    let Ok(mut items) = Items::with_room(alloc, number) else {
         return Err(E::from(BuildError::Memory));
     };
     let Ok(block) = UniqueArc::new_uninit(alloc) else {
         return Err(E::from(BuildError::Memory));
     };
-    let items = items.try_take_all(source, number)?;
+    items.try_take_all(source, number)?;
     Ok(block.write(HeaderSlice { header, items }))
 }
 
 impl<T: Drop> Items<T> {
     // Asks until every place is filled and then once more, or until `None` or an error.
     fn try_take_all<E: From<BuildError> + Drop, I: Iterator<Item = Result<T, E>>>(
-        mut self,
+        &mut self,
         source: &mut I,
         number: usize,
-    ) -> Result<Items<T>, E>
+    ) -> Result<(), E>
         requires can_next { I.can_next source.old }
-        requires empty { self.items ≡ [] }
-        requires room { self.room ≡ number }
-        ensures taken { IfOk result (TakesGoodUpTo I.next_gives source.old number source.new) }
+        requires empty { self.old.items ≡ [] }
+        requires room { self.old.room ≡ number }
+        ensures taken { OnOk result (TakesGoodUpTo I.next_gives source.old number source.new self.new) }
         ensures failed { IfErr result (FailsUpTo I.next_gives source.old number E.from_gives source.new) }
     {
         while self.len() < number {
@@ -83,9 +83,9 @@ impl<T: Drop> Items<T> {
                 None => return Err(E::from(BuildError::OverReported)),
             }
         }
-        match source.next() {
-            Some(_) => Err(E::from(BuildError::UnderReported)),
-            None => Ok(self),
-        }
+        let Some(_extra) = source.next() else {
+            return Ok(());
+        };
+        Err(E::from(BuildError::UnderReported))
     }
 }

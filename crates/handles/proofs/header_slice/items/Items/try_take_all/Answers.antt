@@ -17,11 +17,11 @@ loop-source-preserved g c =
       rw c.push.ensures.room room,
     )
 
-pub returns-in-Some-clause-failed : goal.returns-in-Some-clause-failed
-returns-in-Some-clause-failed g c =
+pub returns-clause-failed : goal.returns-clause-failed
+returns-clause-failed g c =
     let (can, given, within, room) = c.loop-source.invariant in let items = c.loop-source.self.items in
     let full : length items ≡ c.args.number = search rules in inr (
       UnderReported,
-      c.from-in-Some.ensures,
-      (items, c.in-Some.field-0, (c.loop-source.source, given, c.in-Some.ensures.steps), full),
+      c.from-2.ensures,
+      (items, c.in-Some._extra, (c.loop-source.source, given, c.in-Some.ensures.steps), full),
     )

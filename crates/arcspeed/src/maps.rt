@@ -42,7 +42,7 @@ pub fn measure<R: Clock + Print>(rt: &R, alloc: Global, order: Order, len: u64) 
     Some(sum)
 }
 
-/// Makes a call, on the last of the maps if it makes none or ends none.
+/// Makes a call: on the last of the maps, unless it is one that makes or ends them.
 fn called(call: &str, maps: &mut Vec<Map>, alloc: Global, keys: &[u64]) -> Option<u64> {
     let rounds = ENTRIES.checked_div(keys.len())?;
     let Some(map) = maps.last_mut() else {
@@ -55,10 +55,11 @@ fn called(call: &str, maps: &mut Vec<Map>, alloc: Global, keys: &[u64]) -> Optio
         "version" => version(map, alloc, keys),
         "remove" => {
             let half = maps.len() / 2;
-            remove(&mut maps[half..], alloc, keys)
+            remove(&mut maps.split_off(half).ok()?, alloc, keys)
         }
         _ => {
-            maps.clear();
+            // The list ends too, as in the twin: only then does the allocator give memory back.
+            *maps = Vec::new(alloc);
             Some(0)
         }
     }

@@ -84,12 +84,12 @@ const WORKLOADS: [(&str, u64, u64, &str); 18] = [
     ("cascade-4", 1_000, 100, ALL),
 ];
 
-fn checksum(implementation: &str, workload: &str, n: &str) -> Option<u64> {
-    let n = n.parse().ok()?;
+fn checksum(implementation: &str, workload: &str, times: &str) -> Option<u64> {
+    let times = times.parse().ok()?;
     match implementation {
-        "servo" => on_servo::workloads::run(workload, n),
-        "std" => on_std::workloads::run(workload, n),
-        "twin" => on_twin::workloads::run(workload, n),
+        "servo" => on_servo::workloads::run(workload, times),
+        "std" => on_std::workloads::run(workload, times),
+        "twin" => on_twin::workloads::run(workload, times),
         _ => None,
     }
 }
@@ -104,7 +104,7 @@ fn main() {
             }
             return;
         }
-        [implementation, workload, n] => checksum(implementation, workload, n),
+        [implementation, workload, times] => checksum(implementation, workload, times),
         _ => None,
     };
     match sum {

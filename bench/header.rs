@@ -67,9 +67,9 @@ fn make<S: Slice>(number: u64, first: u32) -> S {
 }
 
 #[inline(never)]
-pub fn build<S: Slice>(n: u64) -> u64 {
+pub fn build<S: Slice>(times: u64) -> u64 {
     let mut sum = 0u64;
-    for i in 0..n {
+    for i in 0..times {
         let slice: S = make(i, i as u32);
         let last = slice.items().last().copied().unwrap_or(0);
         sum = sum
@@ -81,11 +81,11 @@ pub fn build<S: Slice>(n: u64) -> u64 {
 
 /// One item of a slice after the other.
 #[inline(never)]
-pub fn get<S: Slice>(n: u64) -> u64 {
+pub fn get<S: Slice>(times: u64) -> u64 {
     let slices: Vec<S> = (0..SLICES as u64).map(|i| make(i, i as u32)).collect();
     let mut at = 0usize;
     let mut sum = 0u64;
-    for _ in 0..n {
+    for _ in 0..times {
         let items = slices[at % SLICES].items();
         let item = items.get((at >> 16) % ITEMS as usize);
         sum = sum.wrapping_add(u64::from(item.copied().unwrap_or(0)));

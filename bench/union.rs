@@ -51,11 +51,11 @@ where
 }
 
 #[inline(never)]
-pub fn clone_often<U: Union>(n: u64) -> u64 {
+pub fn clone_often<U: Union>(times: u64) -> u64 {
     let unions = U::both();
     let mut random = Random::new();
     let mut sum = 0u64;
-    for _ in 0..n {
+    for _ in 0..times {
         let again = unions[random.below(2)].clone();
         sum = sum.wrapping_add(again.value());
     }

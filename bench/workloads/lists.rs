@@ -45,14 +45,14 @@ fn sum_of(list: &List) -> u64 {
 }
 
 #[inline(never)]
-pub fn list_walk(n: u64) -> u64 {
+pub fn list_walk(times: u64) -> u64 {
     let empty = List {
         first: None,
         len: 0,
     };
     let list = (0..ITEMS).fold(empty, |list, value| list.push(value));
     let mut sum = 0u64;
-    for _ in 0..n {
+    for _ in 0..times {
         sum = sum.rotate_left(1).wrapping_add(sum_of(&list));
     }
     sum

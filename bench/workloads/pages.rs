@@ -31,11 +31,11 @@ impl Paged {
 }
 
 #[inline(never)]
-pub fn set_often(n: u64) -> u64 {
+pub fn set_often(times: u64) -> u64 {
     let items: Vec<u64> = (0..ITEMS as u64).collect();
     let mut list = Paged::of(&items);
     let mut random = Random::new();
-    for _ in 0..n {
+    for _ in 0..times {
         let i = random.below(ITEMS);
         list.set(i, list.get(i).wrapping_add(random.state));
     }

@@ -213,7 +213,7 @@ fn sum_of(styles: &[Arc<Style>]) -> u64 {
 }
 
 #[inline(never)]
-pub fn cascade(threads: usize, n: u64) -> u64 {
+pub fn cascade(threads: usize, times: u64) -> u64 {
     let rules: Vec<Shared<Rule>> = (0..RULES).map(rule).collect();
     let mut random = Random::new();
     let elements: Vec<Element> = (0..ELEMENTS)
@@ -227,7 +227,7 @@ pub fn cascade(threads: usize, n: u64) -> u64 {
         border: Arc::new(Border { width: 0, color: 0 }),
     };
     let mut sum = 0u64;
-    for _ in 0..n {
+    for _ in 0..times {
         sum = sum.wrapping_add(sum_of(&styles_in(threads, &initial, &elements)));
     }
     sum

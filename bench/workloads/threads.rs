@@ -5,15 +5,15 @@ use super::Arc;
 use std::thread;
 
 #[inline(never)]
-pub fn contend(n: u64) -> u64 {
+pub fn contend(times: u64) -> u64 {
     let handle = Arc::new(7u64);
-    in_four(|| clone_often(&handle, n))
+    in_four(|| clone_often(&handle, times))
 }
 
 #[inline(never)]
-pub fn ptr_eq(n: u64) -> u64 {
+pub fn ptr_eq(times: u64) -> u64 {
     let (first, second) = (Arc::new(7u64), Arc::new(7u64));
-    in_four(|| compare_often(&first, &second, n))
+    in_four(|| compare_often(&first, &second, times))
 }
 
 fn in_four(work: impl Fn() -> u64 + Sync) -> u64 {

@@ -15,9 +15,9 @@ fn make(alloc: Global, number: u64) -> Option<ThinArc<u64, u32>> {
 }
 
 #[inline(never)]
-pub fn build(alloc: Global, n: u64) -> Option<u64> {
+pub fn build(alloc: Global, times: u64) -> Option<u64> {
     let mut sum = 0u64;
-    for i in 0..n {
+    for i in 0..times {
         let slice = make(alloc, i)?;
         let last = slice.slice().last().copied().unwrap_or(0);
         sum = sum.wrapping_add(slice.header).wrapping_add(u64::from(last));
@@ -27,18 +27,18 @@ pub fn build(alloc: Global, n: u64) -> Option<u64> {
 
 /// One item of a slice after the other.
 #[inline(never)]
-pub fn get(alloc: Global, n: u64) -> Option<u64> {
+pub fn get(alloc: Global, times: u64) -> Option<u64> {
     let mut slices = Vec::new(alloc);
     for j in 0..SLICES {
         slices.push(make(alloc, j as u64)?).ok()?;
     }
-    Some(read_often(&slices, n))
+    Some(read_often(&slices, times))
 }
 
-fn read_often(slices: &[ThinArc<u64, u32>], n: u64) -> u64 {
+fn read_often(slices: &[ThinArc<u64, u32>], times: u64) -> u64 {
     let mut at = 0u64;
     let mut sum = 0u64;
-    for _ in 0..n {
+    for _ in 0..times {
         if let Some(slice) = slices.get(at as usize % SLICES) {
             let item = slice.slice().get((at >> 16) as usize % ITEMS as usize);
             sum = sum.wrapping_add(u64::from(item.copied().unwrap_or(0)));

@@ -14,13 +14,13 @@ fn sum_of(list: &List<u64>) -> u64 {
 }
 
 #[inline(never)]
-pub fn walk(alloc: Global, n: u64) -> Option<u64> {
+pub fn walk(alloc: Global, times: u64) -> Option<u64> {
     let mut list = List::new();
     for value in 0..ITEMS {
         list = list.push(alloc, value).ok()?;
     }
     let mut sum = 0u64;
-    for _ in 0..n {
+    for _ in 0..times {
         sum = sum.rotate_left(1).wrapping_add(sum_of(&list));
     }
     Some(sum)

@@ -27,33 +27,34 @@ use std::thread::Threads;
 use std::time::Clock;
 use threads::Turn;
 
+/// What the workload read, unless there is none of that name.
 fn checksum<R: Clock + Print + Threads + Wait + Sync>(
     rt: &R,
     alloc: Global,
     workload: &str,
-    n: u64,
+    times: u64,
 ) -> Option<u64> {
     match workload {
-        "new-drop" => arcs::new_drop(alloc, n),
-        "clone-drop" => arcs::clone_often(Arc::new(alloc, VALUE), n),
-        "deref-sum" => arcs::deref_sum(alloc, n),
-        "make-mut-unique" => arcs::make_mut_unique(alloc, n),
-        "get-mut-unique" => arcs::get_mut_unique(alloc, n),
-        "make-mut-shared" => arcs::make_mut_shared(alloc, n),
-        "contend-4" => threads::in_four(rt, alloc, Turn::Clone, n),
-        "ptr-eq-same" => arcs::ptr_eq_same(alloc, n),
-        "ptr-eq-4" => threads::in_four(rt, alloc, Turn::Compare, n),
-        "header-get" => header::get(alloc, n),
-        "header-build" => header::build(alloc, n),
-        "marked-clone" => arcs::clone_often(Arc::new_leaked(alloc, VALUE), n),
-        "static-clone" => arcs::clone_static(alloc, n),
-        "union-clone" => union::clone_often(alloc, n),
-        "cow-set" => pages::set_often(alloc, n),
-        "list-walk" => lists::walk(alloc, n),
-        "cascade" => styles::cascade(rt, alloc, 1, n),
-        "cascade-4" => styles::cascade(rt, alloc, 4, n),
-        "map-rising" => maps::measure(rt, alloc, Order::Rising, n),
-        "map-mixed" => maps::measure(rt, alloc, Order::Mixed, n),
+        "new-drop" => arcs::new_drop(alloc, times),
+        "clone-drop" => arcs::clone_often(Arc::new(alloc, VALUE), times),
+        "deref-sum" => arcs::deref_sum(alloc, times),
+        "make-mut-unique" => arcs::make_mut_unique(alloc, times),
+        "get-mut-unique" => arcs::get_mut_unique(alloc, times),
+        "make-mut-shared" => arcs::make_mut_shared(alloc, times),
+        "contend-4" => threads::in_four(rt, alloc, Turn::Clone, times),
+        "ptr-eq-same" => arcs::ptr_eq_same(alloc, times),
+        "ptr-eq-4" => threads::in_four(rt, alloc, Turn::Compare, times),
+        "header-get" => header::get(alloc, times),
+        "header-build" => header::build(alloc, times),
+        "marked-clone" => arcs::clone_often(Arc::new_leaked(alloc, VALUE), times),
+        "static-clone" => arcs::clone_static(alloc, times),
+        "union-clone" => union::clone_often(alloc, times),
+        "cow-set" => pages::set_often(alloc, times),
+        "list-walk" => lists::walk(alloc, times),
+        "cascade" => styles::cascade(rt, alloc, 1, times),
+        "cascade-4" => styles::cascade(rt, alloc, 4, times),
+        "map-rising" => maps::measure(rt, alloc, Order::Rising, times),
+        "map-mixed" => maps::measure(rt, alloc, Order::Mixed, times),
         _ => None,
     }
 }
@@ -61,10 +62,10 @@ fn checksum<R: Clock + Print + Threads + Wait + Sync>(
 /// The checksum of the workload that the arguments name, repeated as often as they say.
 fn run<R: Env + Clock + Print + Threads + Wait + Sync>(rt: &R, alloc: Global) -> Option<u64> {
     let words: Vec<String> = env::args(&(rt, alloc)).ok()?.collect(alloc).ok()?;
-    let [_, workload, n] = words.as_slice() else {
+    let [_, workload, times] = words.as_slice() else {
         return None;
     };
-    checksum(rt, alloc, workload, n.parse().ok()?)
+    checksum(rt, alloc, workload, times.parse().ok()?)
 }
 
 fn main(rt: HostRuntime) -> ExitCode {

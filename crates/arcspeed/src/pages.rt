@@ -18,11 +18,11 @@ fn write(table: &mut CowTable<u64>, alloc: Global, i: usize, item: u64) -> Optio
 }
 
 #[inline(never)]
-pub fn set_often(alloc: Global, n: u64) -> Option<u64> {
+pub fn set_often(alloc: Global, times: u64) -> Option<u64> {
     let items = (0..ITEMS as u64).collect(alloc).ok()?;
     let mut table = CowTable::from_items(alloc, items, PAGE).ok()?;
     let mut random = Random::new();
-    for _ in 0..n {
+    for _ in 0..times {
         let i = random.below(ITEMS);
         let item = read(&table, i).wrapping_add(random.state);
         write(&mut table, alloc, i, item)?;

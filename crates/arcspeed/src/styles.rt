@@ -80,11 +80,11 @@ fn sum_of(styles: &[Arc<Style>]) -> u64 {
 
 /// By one thread, or by four.
 #[inline(never)]
-pub fn cascade<R: Threads + Sync>(rt: &R, alloc: Global, threads: u32, n: u64) -> Option<u64> {
+pub fn cascade<R: Threads + Sync>(rt: &R, alloc: Global, threads: u32, times: u64) -> Option<u64> {
     let elements = elements(alloc)?;
     let initial = Initial::new(alloc).ok()?;
     let mut sum = 0u64;
-    for _ in 0..n {
+    for _ in 0..times {
         let styles = if threads == 1 {
             styles(alloc, initial, &elements)
         } else {

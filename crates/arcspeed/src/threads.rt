@@ -14,7 +14,12 @@ pub enum Turn {
 }
 
 #[inline(never)]
-pub fn in_four<R: Threads + Wait + Sync>(rt: &R, alloc: Global, turn: Turn, n: u64) -> Option<u64> {
+pub fn in_four<R: Threads + Wait + Sync>(
+    rt: &R,
+    alloc: Global,
+    turn: Turn,
+    times: u64,
+) -> Option<u64> {
     let first = Arc::new(alloc, VALUE).ok()?;
     let second = Arc::new(alloc, VALUE).ok()?;
     let sums = thread::map_indices(
@@ -22,8 +27,8 @@ pub fn in_four<R: Threads + Wait + Sync>(rt: &R, alloc: Global, turn: Turn, n: u
         alloc,
         4,
         &|_| match turn {
-            Turn::Clone => clone_waiting(&first, rt, n),
-            Turn::Compare => Some(compare_often(&first, &second, n)),
+            Turn::Clone => clone_waiting(&first, rt, times),
+            Turn::Compare => Some(compare_often(&first, &second, times)),
         },
     )
     .ok()?;
@@ -39,9 +44,9 @@ fn total(sums: &[Option<u64>]) -> Option<u64> {
 }
 
 /// Waits until it has each of the clones.
-fn clone_waiting(handle: &Arc<u64>, rt: &impl Wait, n: u64) -> Option<u64> {
+fn clone_waiting(handle: &Arc<u64>, rt: &impl Wait, times: u64) -> Option<u64> {
     let mut sum = 0u64;
-    for _ in 0..n {
+    for _ in 0..times {
         let again = Arc::clone(handle, rt).ok()?;
         sum = sum.wrapping_add(*again);
     }

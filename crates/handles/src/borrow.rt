@@ -49,7 +49,7 @@ impl<'a, T> ArcBorrow<'a, T> {
     }
 
     /// What `f` answers on the handle. The count stays as it is, unless `f` changes it.
-    pub fn with_arc<U, F: FnOnce(&Arc<T>) -> U>(&self, f: F) -> U
+    pub fn with_arc<F: FnOnce(&Arc<T>) -> U, U>(&self, f: F) -> U
         requires { FnOnceTakesAt F.FnOnce f (borrowed self.now) }
         ensures { FnOnceReturnsAt F.FnOnce f (borrowed self.now) result }
     {

@@ -1,9 +1,10 @@
-//! From a value to a handle, in place of `Default` and `From`, which take no allocator; and back.
+//! From a value to a handle, in place of `Default` and `From`, which take no allocator; and back, also by reference.
 ghost use Rattle.std.specs.Prelude.{◌≡◌, IfOk, IfErr, IfSome, IsOk};
 ghost use Rattle.handles.specs.Copies.{SameOrCopy};
 
 use super::Arc;
 use std::alloc::{AllocError, Global};
+use std::convert::AsRef;
 
 impl<T: Drop> Arc<T> {
     /// A handle of a default. The one that was made comes back if there is no memory for the block.
@@ -58,5 +59,13 @@ impl<T: Drop> Arc<T> {
         ensures given { T.is_infallible this → IsOk result }
     {
         Arc::try_unwrap(this).or_else(|shared| (*shared).clone())
+    }
+}
+
+impl<T> AsRef<T> for Arc<T> {
+    fn as_ref(&self) -> &T
+        ensures { result.now ≡ self.now }
+    {
+        self
     }
 }

@@ -20,6 +20,8 @@ fn a_borrow_reads(rt: HostRuntime) {
     let was_unique = b.with_arc(|handle: &Arc<u32>| handle.is_unique());
     let seen = (*b.get(), *value_of(&a), next, was_unique);
     same!(&rt, seen, (7, 7, 8, true));
+    let read: &u32 = a.as_ref();
+    same!(&rt, *read, 7);
 }
 
 #[test]

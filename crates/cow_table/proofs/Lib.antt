@@ -1,4 +1,5 @@
 pub mod Filled
+pub mod LastPage
 pub mod Lent
 pub mod Paged
 pub mod Places

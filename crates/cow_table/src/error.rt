@@ -2,7 +2,7 @@
 ghost use Rattle.std.specs.Prelude.{◌≡◌};
 ghost use Rattle.cow_table.specs.declared.error.SetError.TheVariants.{Memory};
 
-use std::alloc::AllocError;
+use std::alloc::{AllocError, AllocFailed};
 use thiserror::Error;
 
 /// Why `CowTable::set` set nothing. The version is the same list as before, but may no longer share its list of pages.
@@ -20,6 +20,15 @@ impl From<AllocError> for SetError {
     ghost from_gives = { λ _ refusal. refusal ≡ Memory };
 
     fn from(_error: AllocError) -> SetError {
+        SetError::Memory
+    }
+}
+
+/// So `?` takes the refusal of a `push` or a maker, and drops what that hands back.
+impl<T: Drop> From<AllocFailed<T>> for SetError {
+    ghost from_gives = { λ _ refusal. refusal ≡ Memory };
+
+    fn from(_refusal: AllocFailed<T>) -> SetError {
         SetError::Memory
     }
 }

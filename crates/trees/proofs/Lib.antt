@@ -1,2 +1,4 @@
+pub mod Branches
+pub mod Forgotten
 pub mod Preorder
 pub mod Roses

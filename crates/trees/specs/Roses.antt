@@ -1,6 +1,6 @@
 -- A rose tree is its value and its children. A path has the number of a child for each step down.
 use Rattle.std.specs.Prelude.{ℕ, List, [], ◌∷◌, Option, None, Some, if◌then◌else◌, insert, length, nat_le, nat_lt}
-use Rattle.std.specs.Prelude.{remove, set, slice_get}
+use Rattle.std.specs.Prelude.{map, remove, set, slice_get}
 use Rattle.std.specs.List.{flat_map}
 use Rattle.std.specs.Option.{option_map, option_and_then}
 use Rattle.trees.specs.declared.rose.Rose.{Rose, fold-Rose, out-Rose, roll-Rose}
@@ -13,6 +13,10 @@ children {V} tree = (out-Rose V tree).node.items
 
 abbrev pub branch : {V : Type 0} → V → List (Rose V) → Rose V
 branch {V} v trees = roll-Rose V (record { node = record { header = v; items = trees } })
+
+-- the values of the trees right below, as the lines of a text under its name
+abbrev pub values_below : {V : Type 0} → Rose V → List V
+values_below tree = map root (children tree)
 
 -- the tree at the end of a path
 abbrev pub at : {V : Type 0} → List ℕ → Rose V → Option (Rose V)

@@ -7,7 +7,7 @@ mod change;
 mod walk;
 
 use servo_arc::{Arc, ThinArc};
-use std::alloc::{AllocError, Global};
+use std::alloc::{AllocError, AllocFailed, Global};
 use thiserror::Error;
 
 /// A value with the trees below it, in one block. A tree is changed by making another, which shares all branches that
@@ -38,6 +38,17 @@ impl From<AllocError> for RoseError {
     ghost from_gives = { λ _ error. error ≡ Memory };
 
     fn from(_error: AllocError) -> RoseError {
+        RoseError::Memory
+    }
+}
+
+/// So `?` takes the refusal of a `push` or a maker, and drops what that hands back.
+impl<T: Drop> From<AllocFailed<T>> for RoseError {
+    ghost use Rattle.trees.specs.declared.rose.RoseError.TheVariants.{Memory};
+
+    ghost from_gives = { λ _ error. error ≡ Memory };
+
+    fn from(_refusal: AllocFailed<T>) -> RoseError {
         RoseError::Memory
     }
 }

@@ -1,5 +1,7 @@
 //! Undo and redo of any value, whose versions are kept as they were.
-ghost use Rattle.std.specs.Prelude.{◌≡◌, ◌↔◌, ◌<◌, ◌∷◌, ◌++◌, [], IfOk, IsTrue, OnErr, OnOk, length};
+ghost use Rattle.std.specs.Prelude.{◌≡◌, ◌↔◌, ◌<◌, ◌-◌, ◌∷◌, ◌++◌, ◌&&◌, [], IfOk, IsTrue, OnErr, OnOk, drop, length};
+ghost use Rattle.std.specs.Cmp.{and_equiv, and_per, on_equiv, on_per};
+ghost use Rattle.std.specs.Cmp.Lexicographic.{lists_equiv, lists_per, pointwise};
 ghost use Rattle.std.specs.Bool.{OnFalse, OnTrue};
 ghost use Rattle.trees.specs.Versions.{IsUndone};
 
@@ -8,7 +10,7 @@ use std::marker::Model;
 use std::mem;
 
 /// A value, what it was before each change, and what it was before each undo.
-#[derive(Drop)]
+#[derive(Drop, Debug)]
 pub struct Undo<T> {
     before: Vec<T>,
     current: T,
@@ -21,6 +23,24 @@ impl<T> Model for Undo<T> {
     ghost Value = { Versions T };
 
     ghost view = { λ u. record { before = u.before.items; current = u.current; undone = u.undone.items } };
+}
+
+/// Compares the versions on both sides too.
+impl<T: PartialEq> PartialEq for Undo<T> {
+    ghost eq = { λ u v. pointwise T.eq u.before v.before && T.eq u.current v.current
+        && pointwise T.eq u.undone v.undone };
+
+    ghost laws = { and_per (and_per (on_per (λ u. u.before) (lists_per T.laws)) (on_per (λ u. u.current) T.laws))
+        (on_per (λ u. u.undone) (lists_per T.laws)) };
+
+    fn eq(&self, other: &Undo<T>) -> bool {
+        self.before == other.before && self.current == other.current && self.undone == other.undone
+    }
+}
+
+impl<T: Eq> Eq for Undo<T> {
+    ghost laws = { and_equiv (and_equiv (on_equiv (λ u. u.before) (lists_equiv T.Eq.laws))
+        (on_equiv (λ u. u.current) T.Eq.laws)) (on_equiv (λ u. u.undone) (lists_equiv T.Eq.laws)) };
 }
 
 impl<T> Undo<T> {
@@ -48,6 +68,20 @@ impl<T> Undo<T> {
     {
         &self.before
     }
+
+    /// Whether there is a version to go back to.
+    pub fn can_undo(&self) -> bool
+        ensures { IsTrue result ↔ (0 < length self.now.before) }
+    {
+        !self.before.is_empty()
+    }
+
+    /// Whether there was an undo since the last change.
+    pub fn can_redo(&self) -> bool
+        ensures { IsTrue result ↔ (0 < length self.now.undone) }
+    {
+        !self.undone.is_empty()
+    }
 }
 
 impl<T: Drop> Undo<T> {
@@ -64,6 +98,20 @@ impl<T: Drop> Undo<T> {
             .push_reserved(mem::replace(&mut self.current, next));
         self.undone.clear();
         Ok(())
+    }
+
+    /// Drops the oldest versions, so that at most `kept` are left to go back to. Call it after each change for a history
+    /// of that length at most. It requests no memory, and moves the versions that stay.
+    #[tactic(auto, using(crate::proofs::Forgotten::forgetting))]
+    pub fn forget(&mut self, kept: usize)
+        ensures before { self.new.before ≡ drop (length self.old.before - kept) self.old.before }
+        ensures others { self.new ≡ record self.old { before = self.new.before } }
+    {
+        let Some(gone) = self.before.len().checked_sub(kept) else {
+            return;
+        };
+        self.before.rotate_left(gone);
+        self.before.truncate(kept);
     }
 
     /// Goes back to what the value was before the last change, if there was one. It is refused if there is no memory.

@@ -116,9 +116,7 @@ impl<V: Clone> Rose<V> {
             return Err(RoseError::NoSuchPlace);
         }
         let mut children = self.children().to_vec(alloc)?;
-        children
-            .insert(index, child)
-            .map_err(|_| RoseError::Memory)?;
+        children.insert(index, child)?;
         Ok(Rose::with_children(alloc, self.value().clone()?, children)?)
     }
 

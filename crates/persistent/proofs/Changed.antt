@@ -15,7 +15,7 @@ use Rattle.persistent.proofs.Inserted.{child_here, children_set, entries_with, h
 use Rattle.persistent.proofs.Lookup.{lookup_with}
 use Rattle.persistent.proofs.Order.{rising_front, rising_back}
 use Rattle.persistent.proofs.Present.{first_changed, length_changed, map_changed}
-use Rattle.persistent.proofs.Removed.{lookup_under}
+use Rattle.persistent.proofs.Under.{lookup_under}
 
 module _ {K V : Type 0} (cmp : K → K → Ordering) (total : IsTotalOrder cmp) (q : K) where
   -- the entries of one child rise
@@ -42,12 +42,12 @@ module _ {K V : Type 0} (cmp : K → K → Ordering) (total : IsTotalOrder cmp) 
 
   module _ {F R : Type 0} (g : Once F (MutBor V × Unit {0}) (R × (MutBor V × Unit {0}))) (change : F)
       (tree : List (K × V) × ℕ) (cs : List (Child K V)) (i : ℕ) (d : Child K V) (are : AreChildren cmp cs)
-      (same : ◌≡◌ {A = List (K × V) × ℕ} (entries_in cs, height_in cs) tree) (under : IsUnder cmp q cs i)
+      (same : ◌≡◌ {A = List (K × V) × ℕ} (entries_in cs, height_in cs) tree) (under : IsUnder (cmp q) cs i)
       (is : d ≡ get_or cs i d) where
     -- what stands under the key stands there in the child
     pub lookup_tree : lookup cmp q tree.0 ≡ lookup cmp q d.tree.0
     lookup_tree =
-        ap (λ (t : List (K × V) × ℕ). lookup cmp q t.0) (sym same) ∙ lookup_under cmp q cs i d under is
+        ap (λ (t : List (K × V) × ℕ). lookup cmp q t.0) (sym same) ∙ lookup_under (cmp q) cs i d under is
 
     -- the node after the call on that child, whose answer is r
     pub record IsChanged {E : Type 0} (new : List (Child K V)) (r : Result R E) : Type 0 where
@@ -69,7 +69,7 @@ module _ {K V : Type 0} (cmp : K → K → Ordering) (total : IsTotalOrder cmp) 
         let put : entries_in (set cs i c) ≡ with_entry cmp q changed.after (entries_in cs) =
         entries_with cmp q changed.after cs i d c under
         (changed.entries ∙ ap (λ (c : Child K V). with_entry cmp q changed.after c.tree.0) is) in
-        let found = lookup_under cmp q cs i d under is ∙ changed.found in
+        let found = lookup_under (cmp q) cs i d under is ∙ changed.found in
         let map = map_changed cmp total q changed.after (entries_in cs) are.map (ap is_some found) in
         let entries = put ∙ ap (λ (t : List (K × V) × ℕ). with_entry cmp q changed.after t.0) same in
         record {

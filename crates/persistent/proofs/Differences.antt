@@ -13,7 +13,8 @@ use Rattle.persistent.specs.declared.map.diff.Change.{Change}
 use Rattle.persistent.specs.Differences.{as_entry, change_of, difference, first_change, listed, sides}
 use Rattle.persistent.specs.Maps.{IsRising, lookup}
 use Rattle.persistent.specs.Places.{AreAbove}
-use Rattle.persistent.proofs.Between.{lookup_none}
+use Rattle.persistent.specs.Queries.{key_form}
+use Rattle.persistent.proofs.Between.{found_none}
 use Rattle.persistent.proofs.Order.{Rises, above_alike, above_more, eq_from, from, to, turned}
 
 -- one more change, if it is there, stands before what follows
@@ -32,7 +33,7 @@ past goes xs = cond goes (drop 1 xs) xs
 module _ {K V : Type 0} (cmp : K → K → Ordering) (eq : V → V → Bool) where
   -- these are the differences of two maps
   pub record AreBetween (es fs : List (K × V)) (cs : List (K × (Option V × Option V))) : Type 0 where
-    pub above : (k : K) → AreAbove cmp k es → AreAbove cmp k fs → AreAbove cmp k cs
+    pub above : (k : K) → AreAbove (cmp k) es → AreAbove (cmp k) fs → AreAbove (cmp k) cs
     pub rises : Rises cmp es → Rises cmp fs → Rises cmp cs
     pub under : Rises cmp es → Rises cmp fs → (k : K)
         → lookup cmp k cs ≡ difference eq (lookup cmp k es) (lookup cmp k fs)
@@ -47,9 +48,13 @@ module _ {K V : Type 0} (cmp : K → K → Ordering) (eq : V → V → Bool) whe
       → AreBetween (past (is_le s.0) es) (past (is_ge s.0) fs) cs → AreBetween es fs (option_to_list s.1 ++ cs)
 
   module _ (total : IsTotalOrder cmp) where
+    -- a key that is equal to another is below the same
+    below_alike : (j k : K) (es : List (K × V)) → cmp j k ≡ Equal → AreAbove (cmp k) es → AreAbove (cmp j) es
+    below_alike j = above_alike cmp (cmp j) (key_form total j)
+
     -- a key that only the older map has
     removed : (e : K × V) (es fs : List (K × V)) (cs : List (K × (Option V × Option V)))
-        → (Rises cmp fs → AreAbove cmp e.0 fs) → AreBetween es fs cs
+        → (Rises cmp fs → AreAbove (cmp e.0) fs) → AreBetween es fs cs
         → AreBetween (e ∷ es) fs ((e.0, (Some e.1, None)) ∷ cs)
     removed e es fs cs out is = record {
       above = λ k a b. (a.0, is.above k a.1 b);
@@ -58,14 +63,14 @@ module _ {K V : Type 0} (cmp : K → K → Ordering) (eq : V → V → Bool) whe
           → cond t (Some (Some e.1, None)) (lookup cmp k cs)
           ≡ difference eq (cond t (Some e.1) (lookup cmp k es)) (lookup cmp k fs)) [
             | true ↦ λ h. sym (ap (difference eq (Some e.1))
-                (lookup_none cmp k fs (above_alike cmp total k e.0 fs (eq_from (cmp k e.0) h) (out s))))
+                (found_none (cmp k) (λ e. e.1) fs (below_alike k e.0 fs (eq_from (cmp k e.0) h) (out s))))
             | false ↦ λ h. is.under r.1 s k
           ] refl;
     }
 
     -- a key that only the newer map has
     added : (f : K × V) (es fs : List (K × V)) (cs : List (K × (Option V × Option V)))
-        → (Rises cmp es → AreAbove cmp f.0 es) → AreBetween es fs cs
+        → (Rises cmp es → AreAbove (cmp f.0) es) → AreBetween es fs cs
         → AreBetween es (f ∷ fs) ((f.0, (None, Some f.1)) ∷ cs)
     added f es fs cs out is = record {
       above = λ k a b. (b.0, is.above k a b.1);
@@ -74,7 +79,7 @@ module _ {K V : Type 0} (cmp : K → K → Ordering) (eq : V → V → Bool) whe
           → cond t (Some (None, Some f.1)) (lookup cmp k cs)
           ≡ difference eq (lookup cmp k es) (cond t (Some f.1) (lookup cmp k fs))) [
             | true ↦ λ h. sym (ap (λ x. difference eq x (Some f.1))
-                (lookup_none cmp k es (above_alike cmp total k f.0 es (eq_from (cmp k f.0) h) (out r))))
+                (found_none (cmp k) (λ e. e.1) es (below_alike k f.0 es (eq_from (cmp k f.0) h) (out r))))
             | false ↦ λ h. is.under r s.1 k
           ] refl;
     }
@@ -86,9 +91,9 @@ module _ {K V : Type 0} (cmp : K → K → Ordering) (eq : V → V → Bool) whe
         let none = λ (r : Rises cmp (e ∷ es)) (s : Rises cmp (f ∷ fs)) (k : K) (h : is_eq (cmp k e.0) ≡ true).
         let here = eq_from (cmp k e.0) h in
         is.under r.1 s.1 k
-        ∙ ap (λ x. difference eq x (lookup cmp k fs)) (lookup_none cmp k es (above_alike cmp total k e.0 es here r.0))
-        ∙ ap (difference eq None) (lookup_none cmp k fs
-        (above_alike cmp total k f.0 fs (sym (alike_right total e.0 f.0 k alike) ∙ here) s.0)) in
+        ∙ ap (λ x. difference eq x (lookup cmp k fs)) (found_none (cmp k) (λ e. e.1) es (below_alike k e.0 es here r.0))
+        ∙ ap (difference eq None) (found_none (cmp k) (λ e. e.1) fs
+        (below_alike k f.0 fs (sym (alike_right total e.0 f.0 k alike) ∙ here) s.0)) in
         elim (eq e.1 f.1) as (λ t. eq e.1 f.1 ≡ t → AreBetween (e ∷ es) (f ∷ fs)
         (option_to_list (cond t None (Some (e.0, (Some e.1, Some f.1)))) ++ cs)) [
           | true ↦ λ same. record {
@@ -103,7 +108,7 @@ module _ {K V : Type 0} (cmp : K → K → Ordering) (eq : V → V → Bool) whe
           }
           | false ↦ λ unlike. record {
             above = λ k a b. (a.0, is.above k a.1 b.1);
-            rises = λ r s. (is.above e.0 r.0 (above_alike cmp total e.0 f.0 fs alike s.0), is.rises r.1 s.1);
+            rises = λ r s. (is.above e.0 r.0 (below_alike e.0 f.0 fs alike s.0), is.rises r.1 s.1);
             under = λ r s k. rw (sym (alike_right total e.0 f.0 k alike)) (elim (is_eq (cmp k e.0)) as (λ t.
                 cond t (Some (Some e.1, Some f.1)) (lookup cmp k cs)
                 ≡ difference eq (cond t (Some e.1) (lookup cmp k es)) (cond t (Some f.1) (lookup cmp k fs))) [
@@ -119,11 +124,13 @@ module _ {K V : Type 0} (cmp : K → K → Ordering) (eq : V → V → Bool) whe
     leads [] (f ∷ fs) = λ cs is. added f [] fs cs (λ r. tt) is
     leads (e ∷ es) (f ∷ fs) =
         elim (cmp e.0 f.0) as (λ o. cmp e.0 f.0 ≡ o → Leads (e ∷ es) (f ∷ fs) (Some (o, change_of eq o e f))) [
-          | Less ↦ λ h cs is. removed e es (f ∷ fs) cs (λ s. (h, above_more cmp total e.0 f.0 fs h s.0)) is
+          | Less ↦ λ h cs is.
+              removed e es (f ∷ fs) cs
+              (λ s. (h, above_more cmp (cmp e.0) (key_form total e.0) f.0 fs h s.0)) is
           | Equal ↦ λ h cs is. both e f es fs cs h is
           | Greater ↦ λ h cs is.
               let below = turned total e.0 f.0 h in
-              added f (e ∷ es) fs cs (λ r. (below, above_more cmp total f.0 e.0 es below r.0)) is
+              added f (e ∷ es) fs cs (λ r. (below, above_more cmp (cmp f.0) (key_form total f.0) e.0 es below r.0)) is
         ] refl
 
   module _ (old new : List (K × V)) where

@@ -7,6 +7,7 @@ use Rattle.std.specs.Ordering.{match_ordering}
 use Rattle.persistent.specs.Maps.{with_entry}
 use Rattle.persistent.specs.Nodes.{IsMap}
 use Rattle.persistent.specs.Places.{AreAbove}
+use Rattle.persistent.specs.Queries.{key_form}
 use Rattle.persistent.proofs.Order.{Rises, to, from, turned, above_more, rising_one}
 
 module _ {K V : Type 0} (cmp : K → K → Ordering) where
@@ -31,13 +32,13 @@ module _ {K V : Type 0} (cmp : K → K → Ordering) where
 
   module _ (total : IsTotalOrder cmp) where
     -- a key below all stays so
-    above_with : (j q : K) (v : V) (es : List (K × V)) → cmp j q ≡ Less → AreAbove cmp j es
-        → AreAbove cmp j (with_entry cmp q v es)
+    above_with : (j q : K) (v : V) (es : List (K × V)) → cmp j q ≡ Less → AreAbove (cmp j) es
+        → AreAbove (cmp j) (with_entry cmp q v es)
     unfolding with_entry
     above_with j q v [] h a = (h, tt)
     above_with j q v (x ∷ es) h a =
         elim (cmp q x.0) as
-        (λ o. AreAbove cmp j (match_ordering o ((q, v) ∷ x ∷ es) ((x.0, v) ∷ es)
+        (λ o. AreAbove (cmp j) (match_ordering o ((q, v) ∷ x ∷ es) ((x.0, v) ∷ es)
         (x ∷ with_entry cmp q v es))) [
           | Less ↦ (h, a)
           | Equal ↦ a
@@ -51,7 +52,7 @@ module _ {K V : Type 0} (cmp : K → K → Ordering) where
     rises_with q v (x ∷ es) s =
         elim (cmp q x.0) as (λ o. cmp q x.0 ≡ o
         → Rises cmp (match_ordering o ((q, v) ∷ x ∷ es) ((x.0, v) ∷ es) (x ∷ with_entry cmp q v es))) [
-          | Less ↦ λ is. ((is, above_more cmp total q x.0 es is s.0), s)
+          | Less ↦ λ is. ((is, above_more cmp (cmp q) (key_form total q) x.0 es is s.0), s)
           | Equal ↦ λ is. s
           | Greater ↦ λ is. (above_with x.0 q v es (turned total q x.0 is) s.0, rises_with q v es s.1)
         ] refl

@@ -1,7 +1,9 @@
 -- A node after one of its children took an entry in.
 use Rattle.std.proofs.Common.{◌≡◌, ◌+◌, ◌<◌, ◌≤◌, ◌^◌, ℕ, cond, List, [], ◌∷◌, ◌++◌, length, take, drop, suc, get_or}
 use Rattle.std.proofs.Common.{set, refl, ap, sym, ◌∙◌, subst, arith, add-one, length-append, length-set}
-use Rattle.std.specs.Prelude.{Some, Result, Ok, Err, IfOk, OnOk, OnErr}
+use Rattle.std.proofs.Common.{Bool, true, false}
+use Rattle.std.specs.Prelude.{Option, None, Some, Result, Ok, Err, IfOk, OnOk, OnErr, is_some, not}
+use Rattle.std.specs.Int.{from_bool}
 use Rattle.std.specs.List.{All}
 use Rattle.std.proofs.lemmas.List.{set_split}
 use Rattle.std.proofs.lemmas.List.Concat.{flat_map-append}
@@ -12,12 +14,20 @@ use Rattle.std.specs.declared.cmp.Ordering.TheVariants.{Less, Equal, Greater}
 use Rattle.std.specs.Cmp.{IsTotalOrder}
 use Rattle.std.specs.Ordering.{is_lt, match_ordering}
 use Rattle.persistent.specs.declared.tree.Child.{Child}
-use Rattle.persistent.specs.Maps.{with_entry}
+use Rattle.persistent.specs.Changes.{added}
+use Rattle.persistent.specs.Maps.{lookup, with_entry}
 use Rattle.persistent.specs.Nodes.{AreChildren, IsChild, IsMap, IsUnder, StandFor, entries_in, first_key, height_in}
 use Rattle.persistent.proofs.Children.{entries_split}
 use Rattle.persistent.proofs.Grown.{length-with, map_with}
 use Rattle.persistent.proofs.Halves.{children_are, height_is}
-use Rattle.persistent.proofs.Under.{with_child}
+use Rattle.persistent.proofs.Under.{lookup_under, with_child}
+
+-- an insertion adds an entry if the key had no value
+pub added_is : {V : Type 0} (o : Option V) (b : Bool) → is_some o ≡ not b → added o ≡ from_bool b
+added_is None true is = refl
+added_is None false is = cc
+added_is (Some old) true is = cc
+added_is (Some old) false is = refl
 
 module _ {K V : Type 0} where
   -- the entries with another child in a place
@@ -50,7 +60,7 @@ module _ {K V : Type 0} where
 
   module _ (cmp : K → K → Ordering) where
     -- have the new entry if the child has
-    pub entries_with : (q : K) (v : V) (cs : List (Child K V)) (i : ℕ) (d c : Child K V) → IsUnder cmp q cs i
+    pub entries_with : (q : K) (v : V) (cs : List (Child K V)) (i : ℕ) (d c : Child K V) → IsUnder (cmp q) cs i
         → c.tree.0 ≡ with_entry cmp q v (get_or cs i d).tree.0
         → entries_in (set cs i c) ≡ with_entry cmp q v (entries_in cs)
     entries_with q v cs i d c under is =
@@ -137,34 +147,45 @@ module _ {K V : Type 0} where
             }
 
   module _ (cmp : K → K → Ordering) (total : IsTotalOrder cmp) (q : K) (v : V) (old cs : List (Child K V)) (i : ℕ)
-      (d new : Child K V) (same : StandFor cmp old cs) (under : IsUnder cmp q cs i) (is : d ≡ get_or cs i d)
+      (d new : Child K V) (same : StandFor cmp old cs) (under : IsUnder (cmp q) cs i) (is : d ≡ get_or cs i d)
       (child : IsChild (d.tree.1 + 1) new) where
     -- the node after the call on that child, whose answer is r
-    pub record IsPut {E : Type 0} (r : Result ℕ E) : Type 0 where
+    pub record IsPut {E : Type 0} (r : Result (Option V) E) : Type 0 where
+      pub value : IfOk r (λ o. o ≡ lookup cmp q (entries_in old))
       pub entries : OnOk r (entries_in (set cs i new) ≡ with_entry cmp q v (entries_in old))
-      pub more : IfOk r (λ more. length (entries_in (set cs i new)) ≡ length (entries_in old) + more)
+      pub more : IfOk r (λ o. length (entries_in (set cs i new)) ≡ length (entries_in old) + added o)
       pub height : height_in (set cs i new) ≡ height_in old
       pub children : AreChildren cmp (set cs i new)
       pub refused : OnErr r (entries_in (set cs i new) ≡ entries_in old)
 
     -- the child took the entry in, or the call was refused
-    pub put_under : {E : Type 0} (r : Result ℕ E) → OnOk r (new.tree.0 ≡ with_entry cmp q v d.tree.0)
-        → IfOk r (λ more. length new.tree.0 ≡ length d.tree.0 + more) → OnErr r (new.tree.0 ≡ d.tree.0)
+    pub put_under : {E : Type 0} (r : Result (Option V) E) → IfOk r (λ o. o ≡ lookup cmp q d.tree.0)
+        → OnOk r (new.tree.0 ≡ with_entry cmp q v d.tree.0)
+        → IfOk r (λ o. length new.tree.0 ≡ length d.tree.0 + added o) → OnErr r (new.tree.0 ≡ d.tree.0)
         → length (entries_in old) + 1 < 2 ^ 64 → IsPut r
-    put_under (Ok n) entry more refused room =
+    put_under (Ok o) value entry more refused room =
         let put = entries_with cmp q v cs i d new under
         (entry ∙ ap (λ (c : Child K V). with_entry cmp q v c.tree.0) is) in
         let count = ap (λ (es : List (K × V)). length es + 1) same.entries in
         let map = map_with cmp total q v (entries_in cs) same.children.map (omega (arith, count, room)) in
         record {
+          value = value ∙ sym (lookup_under (cmp q) cs i d under is) ∙ ap (lookup cmp q) same.entries;
           entries = put ∙ ap (with_entry cmp q v) same.entries;
-          more = length-set_child cs i d new n under.within is more ∙ ap (λ es. length es + n) same.entries;
+          more = length-set_child cs i d new (added o) under.within is more
+              ∙ ap (λ es. length es + added o) same.entries;
           height = height_set cmp cs i d same.children under.within is new child ∙ same.height;
           children = children_set cmp cs i d same.children under.within is new child
               (subst (IsMap cmp) (sym put) map);
           refused = tt;
         }
-    put_under (Err e) entry more refused room =
+    put_under (Err e) value entry more refused room =
         let done = stand_on cmp old cs (set cs i new) same
         (stands_in cmp cs i d same.children under.within is new child refused) in
-        record { entries = tt; more = tt; height = done.height; children = done.children; refused = done.entries }
+        record {
+          value = tt;
+          entries = tt;
+          more = tt;
+          height = done.height;
+          children = done.children;
+          refused = done.entries;
+        }

@@ -21,6 +21,7 @@ use Rattle.persistent.specs.Maps.{IsRising}
 use Rattle.persistent.specs.Nodes.{AreChildren, AreHalves, CanLose, IsChild, IsMap, IsUnder, entries_in}
 use Rattle.persistent.specs.Nodes.{StandFor, height_in}
 use Rattle.persistent.specs.Places.{AreAbove, AreBelow}
+use Rattle.persistent.specs.Queries.{IsForm}
 use Rattle.persistent.proofs.Children.{above_child, below_child, children_later, children_sooner}
 use Rattle.persistent.proofs.Halves.{child_is, children_are, children_drop, children_take, first_in, height_is}
 use Rattle.persistent.proofs.Halves.{replaced}
@@ -165,29 +166,29 @@ module _ {K V : Type 0} (cmp : K → K → Ordering) where
         )) in
         subst (λ (c : Child K V). CanLose c.tree) (sym (get_or-set_same (remove cs (i + 1)) i j x count)) spare
 
-  -- what room that was made for a key leaves
-  pub record IsRoom (old new : List (Child K V)) (q : K) (at : ℕ) : Type 0 where
+  -- what room that was made for what is asked leaves
+  pub record IsRoom (old new : List (Child K V)) (order : K → Ordering) (at : ℕ) : Type 0 where
     pub same : StandFor cmp old new
-    pub under : IsUnder cmp q new at
+    pub under : IsUnder order new at
     pub spare : (d : Child K V) → CanLose (get_or new at d).tree
 
-  module _ (total : IsTotalOrder cmp) (q : K) (cs : List (Child K V)) (i : ℕ) (d : Child K V)
+  module _ (order : K → Ordering) (cs : List (Child K V)) (i : ℕ) (d : Child K V)
       (are : AreChildren cmp cs) (is : d ≡ get_or cs i d) where
     -- nothing changes before the place
-    below : (ys : List (Child K V)) → i ≤ length cs → AreBelow cmp q (entries_in (take i cs))
-        → AreBelow cmp q (entries_in (take i (take i cs ++ ys)))
-    below ys h = subst (λ (l : List (Child K V)). AreBelow cmp q (entries_in l)) (sym (take_front cs ys i h))
+    below : (ys : List (Child K V)) → i ≤ length cs → AreBelow order (entries_in (take i cs))
+        → AreBelow order (entries_in (take i (take i cs ++ ys)))
+    below ys h = subst (λ (l : List (Child K V)). AreBelow order (entries_in l)) (sym (take_front cs ys i h))
 
     -- nor behind what was put there
     above : (ys zs : List (Child K V)) (n k : ℕ) → i ≤ length cs → n ≡ i + k → drop k ys ≡ zs
-        → AreAbove cmp q (entries_in zs) → AreAbove cmp q (entries_in (drop n (take i cs ++ ys)))
+        → AreAbove order (entries_in zs) → AreAbove order (entries_in (drop n (take i cs ++ ys)))
     above ys zs n k h place rest =
-        subst (λ (l : List (Child K V)). AreAbove cmp q (entries_in l))
+        subst (λ (l : List (Child K V)). AreAbove order (entries_in l))
         (sym (ap (λ (n : ℕ). drop n (take i cs ++ ys)) place ∙ drop_front cs ys i k h ∙ rest))
 
-    -- the key belongs under the one child of both
-    pub joined_under : (at : ℕ) (j : Child K V) → IsUnder cmp q cs at → i + 1 < length cs → i ≤ at → at ≤ i + 1
-        → IsUnder cmp q (set (remove cs (i + 1)) i j) i
+    -- what belongs under one of two children belongs under the child of both
+    pub joined_under : (at : ℕ) (j : Child K V) → IsUnder order cs at → i + 1 < length cs → i ≤ at → at ≤ i + 1
+        → IsUnder order (set (remove cs (i + 1)) i j) i
     joined_under at j under h from to =
         let after = drop (i + 2) cs in
         let list = one_for_two cs i j h in
@@ -195,85 +196,87 @@ module _ {K V : Type 0} (cmp : K → K → Ordering) where
         record {
           within = omega (arith, count, length-set (remove cs (i + 1)) i j);
           between = record {
-            below = subst (λ (l : List (Child K V)). AreBelow cmp q (entries_in (take i l))) (sym list)
-                (below (j ∷ after) (omega arith) (children_sooner cmp total q cs i at from under.between.below));
-            above = subst (λ (l : List (Child K V)). AreAbove cmp q (entries_in (drop (i + 1) l))) (sym list)
+            below = subst (λ (l : List (Child K V)). AreBelow order (entries_in (take i l))) (sym list)
+                (below (j ∷ after) (omega arith) (children_sooner order cs i at from under.between.below));
+            above = subst (λ (l : List (Child K V)). AreAbove order (entries_in (drop (i + 1) l))) (sym list)
                 (above (j ∷ after) after (i + 1) 1 (omega arith) refl refl
-                (children_later cmp total q cs (at + 1) (i + 2) (omega arith) under.between.above));
+                (children_later order cs (at + 1) (i + 2) (omega arith) under.between.above));
           };
         }
 
-    -- the child becomes two
-    pub split_one : (l r : Child K V) (o : Ordering) → IsUnder cmp q cs i → IsChild (d.tree.1 + 1) l
-        → AreHalves d.tree l.tree r → cmp q r.key ≡ o → (n : ℕ) → n ≡ i + from_bool (not (is_lt o))
-        → IsRoom cs (insert (set cs i l) (i + 1) r) q n
-    split_one l r o under child halves was n place =
-        let P : Child K V → Type 0 = IsChild (height_in cs) in
-        let h = under.within in
-        let after = drop (i + 1) cs in
-        let new = insert (set cs i l) (i + 1) r in
-        let list = two_for_one cs i l r h in
-        let level = ap (λ (c : Child K V). c.tree.1 + 1) is ∙ (are.each i d h).level in
-        let each : All P (l ∷ r ∷ []) =
-        All-cons P l (r ∷ []) (subst (λ (n : ℕ). IsChild n l) level child)
-        (All-cons P r [] (subst (λ (n : ℕ). IsChild n r) level halves.child) (All-nil P)) in
-        let entries : entries_in (l ∷ r ∷ []) ≡ entries_in (take 1 (drop i cs)) =
-        ap (λ (es : List (K × V)). l.tree.0 ++ es) (append-nil r.tree.0) ∙ halves.entries
-        ∙ sym (append-nil d.tree.0) ∙ ap (λ (c : Child K V). entries_in (c ∷ [])) is
-        ∙ ap (λ (xs : List (Child K V)). entries_in (take 1 xs)) (sym (drop_more cs i d h)) in
-        let same : StandFor cmp cs new =
-        subst (StandFor cmp cs) (sym list) (replaced cmp cs (l ∷ r ∷ []) i 1 are each (omega arith) entries) in
-        let long : i + 1 < length new = omega (
-          arith,
-          ap (length {A = Child K V}) list,
-          length-append (take i cs) (l ∷ r ∷ after),
-          length-take-le i cs (omega arith),
-        ) in
-        let at_list = λ (k : ℕ) (x : Child K V). ap (λ (xs : List (Child K V)). get_or xs k x) list in
-        let left : (x : Child K V) → get_or new i x ≡ l =
-        λ x. at_list i x ∙ behind_front cs (l ∷ r ∷ after) i i 0 x (omega arith) (omega arith) in
-        let right : (x : Child K V) → get_or new (i + 1) x ≡ r =
-        λ x. at_list (i + 1) x ∙ behind_front cs (l ∷ r ∷ after) i (i + 1) 1 x (omega arith) (omega arith) in
-        let key : cmp q (get_or new (i + 1) r).key ≡ o = ap (λ (c : Child K V). cmp q c.key) (right r) ∙ was in
-        let first = (same.children.each (i + 1) r long).first in
-        let at = λ (b : Bool) (t : is_lt o ≡ b). place ∙ ap (λ (b : Bool). i + from_bool (not b)) t in
-        let less : is_lt o ≡ true → n ≡ i = λ t. omega (arith, at true t) in
-        let more : is_lt o ≡ false → n ≡ i + 1 = λ t. at false t in
-        elim (cases_Bool (is_lt o)) [
-          | inl t ↦ subst (IsRoom cs new q) (sym (less t)) record {
-            same = same;
-            under = record {
-              within = omega (arith, long);
-              between = record {
-                below = subst (λ (xs : List (Child K V)). AreBelow cmp q (entries_in (take i xs))) (sym list)
-                    (below (l ∷ r ∷ after) (omega arith) under.between.below);
-                above = above_child cmp total q new (i + 1) r o long same.children.map.rising first key t;
+    module _ (total : IsTotalOrder cmp) (form : IsForm cmp order) where
+      -- the child becomes two
+      pub split_one : (l r : Child K V) (o : Ordering) → IsUnder order cs i → IsChild (d.tree.1 + 1) l
+          → AreHalves d.tree l.tree r → order r.key ≡ o → (n : ℕ) → n ≡ i + from_bool (not (is_lt o))
+          → IsRoom cs (insert (set cs i l) (i + 1) r) order n
+      split_one l r o under child halves was n place =
+          let P : Child K V → Type 0 = IsChild (height_in cs) in
+          let h = under.within in
+          let after = drop (i + 1) cs in
+          let new = insert (set cs i l) (i + 1) r in
+          let list = two_for_one cs i l r h in
+          let level = ap (λ (c : Child K V). c.tree.1 + 1) is ∙ (are.each i d h).level in
+          let each : All P (l ∷ r ∷ []) =
+          All-cons P l (r ∷ []) (subst (λ (n : ℕ). IsChild n l) level child)
+          (All-cons P r [] (subst (λ (n : ℕ). IsChild n r) level halves.child) (All-nil P)) in
+          let entries : entries_in (l ∷ r ∷ []) ≡ entries_in (take 1 (drop i cs)) =
+          ap (λ (es : List (K × V)). l.tree.0 ++ es) (append-nil r.tree.0) ∙ halves.entries
+          ∙ sym (append-nil d.tree.0) ∙ ap (λ (c : Child K V). entries_in (c ∷ [])) is
+          ∙ ap (λ (xs : List (Child K V)). entries_in (take 1 xs)) (sym (drop_more cs i d h)) in
+          let same : StandFor cmp cs new =
+          subst (StandFor cmp cs) (sym list) (replaced cmp cs (l ∷ r ∷ []) i 1 are each (omega arith) entries) in
+          let long : i + 1 < length new = omega (
+            arith,
+            ap (length {A = Child K V}) list,
+            length-append (take i cs) (l ∷ r ∷ after),
+            length-take-le i cs (omega arith),
+          ) in
+          let at_list = λ (k : ℕ) (x : Child K V). ap (λ (xs : List (Child K V)). get_or xs k x) list in
+          let left : (x : Child K V) → get_or new i x ≡ l =
+          λ x. at_list i x ∙ behind_front cs (l ∷ r ∷ after) i i 0 x (omega arith) (omega arith) in
+          let right : (x : Child K V) → get_or new (i + 1) x ≡ r =
+          λ x. at_list (i + 1) x ∙ behind_front cs (l ∷ r ∷ after) i (i + 1) 1 x (omega arith) (omega arith) in
+          let key : order (get_or new (i + 1) r).key ≡ o = ap (λ (c : Child K V). order c.key) (right r) ∙ was in
+          let first = (same.children.each (i + 1) r long).first in
+          let at = λ (b : Bool) (t : is_lt o ≡ b). place ∙ ap (λ (b : Bool). i + from_bool (not b)) t in
+          let less : is_lt o ≡ true → n ≡ i = λ t. omega (arith, at true t) in
+          let more : is_lt o ≡ false → n ≡ i + 1 = λ t. at false t in
+          elim (cases_Bool (is_lt o)) [
+            | inl t ↦ subst (IsRoom cs new order) (sym (less t)) record {
+              same = same;
+              under = record {
+                within = omega (arith, long);
+                between = record {
+                  below = subst (λ (xs : List (Child K V)). AreBelow order (entries_in (take i xs))) (sym list)
+                      (below (l ∷ r ∷ after) (omega arith) under.between.below);
+                  above = above_child cmp total order form new (i + 1) r o long same.children.map.rising first key t;
+                };
               };
-            };
-            spare = λ x. subst (λ (c : Child K V). CanLose c.tree) (sym (left x)) halves.spare.0;
-          }
-          | inr t ↦ subst (IsRoom cs new q) (sym (more t)) record {
-            same = same;
-            under = record {
-              within = long;
-              between = record {
-                below = below_child cmp total q new (i + 1) r o long same.children.map.rising first key t;
-                above = subst (λ (xs : List (Child K V)). AreAbove cmp q (entries_in (drop (i + 1 + 1) xs))) (sym list)
-                    (above (l ∷ r ∷ after) after (i + 1 + 1) 2 (omega arith) (omega arith) refl under.between.above);
+              spare = λ x. subst (λ (c : Child K V). CanLose c.tree) (sym (left x)) halves.spare.0;
+            }
+            | inr t ↦ subst (IsRoom cs new order) (sym (more t)) record {
+              same = same;
+              under = record {
+                within = long;
+                between = record {
+                  below = below_child cmp total order form new (i + 1) r o long same.children.map.rising first key t;
+                  above = subst (λ (xs : List (Child K V)). AreAbove order (entries_in (drop (i + 1 + 1) xs)))
+                      (sym list)
+                      (above (l ∷ r ∷ after) after (i + 1 + 1) 2 (omega arith) (omega arith) refl under.between.above);
+                };
               };
-            };
-            spare = λ x. subst (λ (c : Child K V). CanLose c.tree) (sym (right x)) halves.spare.1;
-          }
-        ]
+              spare = λ x. subst (λ (c : Child K V). CanLose c.tree) (sym (right x)) halves.spare.1;
+            }
+          ]
 
-    -- what stands after the room was taken, a write and an insert
-    pub split_done : (rs new : List (Child K V)) (l r : Child K V) (o : Ordering) → IsUnder cmp q cs i → rs ≡ cs
-        → IsChild (d.tree.1 + 1) l → AreHalves d.tree l.tree r → cmp q r.key ≡ o
-        → new ≡ insert (set rs i l) (i + 1) r → (n : ℕ) → n ≡ i + from_bool (not (is_lt o)) → IsRoom cs new q n
-    split_done rs new l r o under room child halves was put n place =
-        subst (λ (xs : List (Child K V)). IsRoom cs xs q n)
-        (sym (put ∙ ap (λ (xs : List (Child K V)). insert (set xs i l) (i + 1) r) room))
-        (split_one l r o under child halves was n place)
+      -- what stands after the room was taken, a write and an insert
+      pub split_done : (rs new : List (Child K V)) (l r : Child K V) (o : Ordering) → IsUnder order cs i → rs ≡ cs
+          → IsChild (d.tree.1 + 1) l → AreHalves d.tree l.tree r → order r.key ≡ o
+          → new ≡ insert (set rs i l) (i + 1) r → (n : ℕ) → n ≡ i + from_bool (not (is_lt o)) → IsRoom cs new order n
+      split_done rs new l r o under room child halves was put n place =
+          subst (λ (xs : List (Child K V)). IsRoom cs xs order n)
+          (sym (put ∙ ap (λ (xs : List (Child K V)). insert (set xs i l) (i + 1) r) room))
+          (split_one l r o under child halves was n place)
 
 module _ {K V : Type 0} (cmp : K → K → Ordering) where
   -- one child of both

@@ -9,7 +9,9 @@ pub mod Grown
 pub mod Halves
 pub mod Inserted
 pub mod Joined
+pub mod Kept
 pub mod Lookup
+pub mod Numbered
 pub mod Order
 pub mod Pairs
 pub mod Parts

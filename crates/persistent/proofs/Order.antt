@@ -8,6 +8,7 @@ use Rattle.std.specs.Ordering.{is_lt, is_eq, ordering_reverse}
 use Rattle.std.specs.Cmp.{IsTotalOrder}
 use Rattle.persistent.specs.Maps.{all_above, is_rising, IsRising}
 use Rattle.persistent.specs.Places.{AreAbove, AreBelow}
+use Rattle.persistent.specs.Queries.{IsForm}
 
 -- orders by their tests
 pub lt_from : (o : Ordering) → is_lt o ≡ true → o ≡ Less
@@ -46,25 +47,46 @@ module _ {K : Type 0} {cmp : K → K → Ordering} (total : IsTotalOrder cmp) wh
   pub equal_itself : (k : K) → cmp k k ≡ Equal
   equal_itself k = turns_into_itself (cmp k k) (total.antisymm k k)
 
+-- what is above a key is above a lower one
+over_lower : {K : Type 0} (cmp : K → K → Ordering) (order : K → Ordering) → IsForm cmp order → (j k : K)
+    → cmp j k ≡ Less → order k ≡ Greater → order j ≡ Greater
+over_lower cmp order form j k less h =
+    elim (order j) as (λ o. order j ≡ o → o ≡ Greater) [
+      | Less ↦ λ is. sym (form.below j k is less) ∙ h
+      | Equal ↦ λ is. let same = form.equal j k is in cc
+      | Greater ↦ λ is. refl
+    ] refl
+
 -- no entries rise
 pub rising_nil : {K : Type 0} (V : Type 0) (cmp : K → K → Ordering) → IsRising {V = V} cmp []
 unfolding is_rising
 rising_nil V cmp = refl
 
+module _ {K V : Type 0} (order : K → Ordering) where
+  -- what is below all is below the front
+  above_front : (l m : List (K × V)) → AreAbove order (l ++ m) → AreAbove order l
+  above_front [] m a = tt
+  above_front (x ∷ l) m a = (a.0, above_front l m a.1)
+
+  -- and below the back
+  pub above_back : (l m : List (K × V)) → AreAbove order (l ++ m) → AreAbove order m
+  above_back [] m a = a
+  above_back (x ∷ l) m a = above_back l m a.1
+
 module _ {K V : Type 0} (cmp : K → K → Ordering) where
   abbrev pub Rises : List (K × V) → Type 0
   Rises [] = Unit {0}
-  Rises (e ∷ es) = AreAbove cmp e.0 es × Rises es
+  Rises (e ∷ es) = AreAbove (cmp e.0) es × Rises es
 
   -- the test as a fact
-  to_above : (k : K) (es : List (K × V)) → all_above cmp k es ≡ true → AreAbove cmp k es
+  to_above : (k : K) (es : List (K × V)) → all_above cmp k es ≡ true → AreAbove (cmp k) es
   to_above k [] t = tt
   to_above k (e ∷ es) t =
       let parts = and_parts (is_lt (cmp k e.0)) (all_above cmp k es) t in
       (lt_from (cmp k e.0) parts.0, to_above k es parts.1)
 
   -- the fact as a test
-  from_above : (k : K) (es : List (K × V)) → AreAbove cmp k es → all_above cmp k es ≡ true
+  from_above : (k : K) (es : List (K × V)) → AreAbove (cmp k) es → all_above cmp k es ≡ true
   from_above k [] a = refl
   from_above k (e ∷ es) a = and_from (is_lt (cmp k e.0)) (all_above cmp k es) (ap is_lt a.0) (from_above k es a.1)
 
@@ -81,20 +103,10 @@ module _ {K V : Type 0} (cmp : K → K → Ordering) where
   from [] s = refl
   from (e ∷ es) s = and_from (all_above cmp e.0 es) (is_rising cmp es) (from_above e.0 es s.0) (from es s.1)
 
-  -- a key below all is below the front
-  above_front : (k : K) (l m : List (K × V)) → AreAbove cmp k (l ++ m) → AreAbove cmp k l
-  above_front k [] m a = tt
-  above_front k (x ∷ l) m a = (a.0, above_front k l m a.1)
-
-  -- and below the back
-  pub above_back : (k : K) (l m : List (K × V)) → AreAbove cmp k (l ++ m) → AreAbove cmp k m
-  above_back k [] m a = a
-  above_back k (x ∷ l) m a = above_back k l m a.1
-
   -- the front of what rises does
   rises_front : (l m : List (K × V)) → Rises (l ++ m) → Rises l
   rises_front [] m s = tt
-  rises_front (x ∷ l) m s = (above_front x.0 l m s.0, rises_front l m s.1)
+  rises_front (x ∷ l) m s = (above_front (cmp x.0) l m s.0, rises_front l m s.1)
 
   -- and the back
   rises_back : (l m : List (K × V)) → Rises (l ++ m) → Rises m
@@ -113,36 +125,41 @@ module _ {K V : Type 0} (cmp : K → K → Ordering) where
   pub rising_one : (e : K × V) → IsRising cmp (e ∷ [])
   rising_one e = from (e ∷ []) (tt, tt)
 
-  module _ (total : IsTotalOrder cmp) where
-    -- a key below a lower bound is below all
-    pub above_more : (j k : K) (es : List (K × V)) → cmp j k ≡ Less → AreAbove cmp k es → AreAbove cmp j es
-    above_more j k [] h a = tt
-    above_more j k (e ∷ es) h a = (total.trans j k e.0 h a.0, above_more j k es h a.1)
+  module _ (order : K → Ordering) (form : IsForm cmp order) where
+    -- what is below a lower bound is below all
+    pub above_more : (k : K) (es : List (K × V)) → order k ≡ Less → AreAbove (cmp k) es → AreAbove order es
+    above_more k [] h a = tt
+    above_more k (e ∷ es) h a = (form.below k e.0 h a.0, above_more k es h a.1)
 
-    -- an equal key is below the same
-    pub above_alike : (j k : K) (es : List (K × V)) → cmp j k ≡ Equal → AreAbove cmp k es → AreAbove cmp j es
-    above_alike j k [] h a = tt
-    above_alike j k (e ∷ es) h a = (total.congr j k e.0 h ∙ a.0, above_alike j k es h a.1)
+    -- what is equal to a key is below the same
+    pub above_alike : (k : K) (es : List (K × V)) → order k ≡ Equal → AreAbove (cmp k) es → AreAbove order es
+    above_alike k [] h a = tt
+    above_alike k (e ∷ es) h a = (form.equal k e.0 h ∙ a.0, above_alike k es h a.1)
 
-    -- a key below the first of entries that rise is below all of them
-    pub above_first : (q : K) (l : List (K × V)) (e : K × V) (r : List (K × V)) → cmp q e.0 ≡ Less
-        → IsRising cmp (l ++ e ∷ r) → AreAbove cmp q (e ∷ r)
-    above_first q l e r h s =
-        (h, above_more q e.0 r h (rises_back l (e ∷ r) (to (l ++ e ∷ r) s)).0)
+    -- and the other way round
+    pub above_equal : (k : K) (es : List (K × V)) → order k ≡ Equal → AreAbove order es → AreAbove (cmp k) es
+    above_equal k [] h a = tt
+    above_equal k (e ∷ es) h a = (sym (form.equal k e.0 h) ∙ a.0, above_equal k es h a.1)
 
-    -- the same, of entries whose keys rise
-    over : (q : K) (l : List (K × V)) (e : K × V) (r : List (K × V)) (o : Ordering) → cmp q e.0 ≡ o
-        → is_lt o ≡ false → Rises (l ++ e ∷ r) → AreBelow cmp q l
-    over q [] e r o h t s = tt
-    over q (x ∷ l) e r Less h t s = absurd (true≢false t)
-    over q (x ∷ l) e r Equal h t s =
-        let left : cmp x.0 e.0 ≡ Less = (above_back x.0 l (e ∷ r) s.0).0 in
-        (total.congr q e.0 x.0 h ∙ turned_back total x.0 e.0 left, over q l e r Equal h t s.1)
-    over q (x ∷ l) e r Greater h t s =
-        let left : cmp x.0 e.0 ≡ Less = (above_back x.0 l (e ∷ r) s.0).0 in
-        (turned_back total x.0 q (total.trans x.0 e.0 q left (turned total q e.0 h)), over q l e r Greater h t s.1)
+    -- what is below the first of entries that rise is below all of them
+    pub above_first : (l : List (K × V)) (e : K × V) (r : List (K × V)) → order e.0 ≡ Less
+        → IsRising cmp (l ++ e ∷ r) → AreAbove order (e ∷ r)
+    above_first l e r h s = (h, above_more e.0 r h (rises_back l (e ∷ r) (to (l ++ e ∷ r) s)).0)
 
-    -- a key at or above an entry is above all before it
-    pub below_before : (q : K) (l : List (K × V)) (e : K × V) (r : List (K × V)) (o : Ordering) → cmp q e.0 ≡ o
-        → is_lt o ≡ false → IsRising cmp (l ++ e ∷ r) → AreBelow cmp q l
-    below_before q l e r o h t s = over q l e r o h t (to (l ++ e ∷ r) s)
+    module _ (total : IsTotalOrder cmp) where
+      -- the same, of entries whose keys rise
+      over : (l : List (K × V)) (e : K × V) (r : List (K × V)) (o : Ordering) → order e.0 ≡ o → is_lt o ≡ false
+          → Rises (l ++ e ∷ r) → AreBelow order l
+      over [] e r o h t s = tt
+      over (x ∷ l) e r Less h t s = absurd (true≢false t)
+      over (x ∷ l) e r Equal h t s =
+          let left : cmp x.0 e.0 ≡ Less = (above_back (cmp x.0) l (e ∷ r) s.0).0 in
+          (form.equal e.0 x.0 h ∙ turned_back total x.0 e.0 left, over l e r Equal h t s.1)
+      over (x ∷ l) e r Greater h t s =
+          let left : cmp x.0 e.0 ≡ Less = (above_back (cmp x.0) l (e ∷ r) s.0).0 in
+          (over_lower cmp order form x.0 e.0 left h, over l e r Greater h t s.1)
+
+      -- what is at or above an entry is above all before it
+      pub below_before : (l : List (K × V)) (e : K × V) (r : List (K × V)) (o : Ordering) → order e.0 ≡ o
+          → is_lt o ≡ false → IsRising cmp (l ++ e ∷ r) → AreBelow order l
+      below_before l e r o h t s = over l e r o h t (to (l ++ e ∷ r) s)

@@ -4,15 +4,15 @@ use Rattle.std.proofs.Common.{◌∙◌, subst, arith}
 use Rattle.std.specs.Prelude.{Some, Result, Ok, Err, IfOk, OnOk, OnErr, is_some}
 use Rattle.std.proofs.lemmas.Nat.{pow_pos}
 use Rattle.std.specs.declared.cmp.Ordering.{Ordering}
-use Rattle.std.specs.Cmp.{IsTotalOrder}
 use Rattle.persistent.specs.declared.tree.Child.{Child}
-use Rattle.persistent.specs.Maps.{lookup, without}
+use Rattle.persistent.specs.Maps.{lookup_by, without_by}
 use Rattle.persistent.specs.Nodes.{AreChildren, CanLose, IsChild, IsMap, IsUnder, StandFor, entries_in, first_key}
 use Rattle.persistent.specs.Nodes.{height_in}
+use Rattle.persistent.specs.Queries.{IsForm}
 use Rattle.persistent.proofs.Halves.{entries_within}
 use Rattle.persistent.proofs.Inserted.{children_set, entries_set, height_set, stand_on, stands_in}
 use Rattle.persistent.proofs.Present.{length_without, map_without}
-use Rattle.persistent.proofs.Under.{lookup_child, without_child}
+use Rattle.persistent.proofs.Under.{lookup_under, without_child}
 
 module _ {K V : Type 0} where
   -- the child that could lose an entry, and did
@@ -26,26 +26,20 @@ module _ {K V : Type 0} where
     wide = subst (λ (n : ℕ). 2 ^ n ≤ length new.tree.0) (sym level) (omega (arith, spare, fewer));
   }
 
-  -- what stands under the key stands there in the child
-  pub lookup_under : (cmp : K → K → Ordering) (q : K) (cs : List (Child K V)) (i : ℕ) (d : Child K V)
-      → IsUnder cmp q cs i → d ≡ get_or cs i d → lookup cmp q (entries_in cs) ≡ lookup cmp q d.tree.0
-  lookup_under cmp q cs i d under is =
-      lookup_child cmp q cs i d under.within under.between
-      ∙ ap (λ (c : Child K V). lookup cmp q c.tree.0) (sym is)
-
-  module _ (cmp : K → K → Ordering) (total : IsTotalOrder cmp) (q : K) (old cs : List (Child K V)) (i : ℕ)
-      (d new : Child K V) (same : StandFor cmp old cs) (under : IsUnder cmp q cs i) (is : d ≡ get_or cs i d)
-      (found : is_some (lookup cmp q (entries_in old)) ≡ true) where
+  module _ (cmp : K → K → Ordering) (order : K → Ordering) (form : IsForm cmp order)
+      (old cs : List (Child K V)) (i : ℕ) (d new : Child K V) (same : StandFor cmp old cs)
+      (under : IsUnder order cs i) (is : d ≡ get_or cs i d)
+      (found : is_some (lookup_by order (entries_in old)) ≡ true) where
     -- the child has the key
-    pub found_under : is_some (lookup cmp q d.tree.0) ≡ true
+    pub found_under : is_some (lookup_by order d.tree.0) ≡ true
     found_under =
-        ap is_some (sym (lookup_under cmp q cs i d under is))
-        ∙ ap (λ (es : List (K × V)). is_some (lookup cmp q es)) same.entries ∙ found
+        ap is_some (sym (lookup_under order cs i d under is))
+        ∙ ap (λ (es : List (K × V)). is_some (lookup_by order es)) same.entries ∙ found
 
     -- the node after the call on that child, whose answer is r
     pub record IsTaken {E : Type 0} (r : Result V E) : Type 0 where
-      pub value : IfOk r (λ value. lookup cmp q (entries_in old) ≡ Some value)
-      pub entries : OnOk r (entries_in (set cs i new) ≡ without cmp q (entries_in old))
+      pub value : IfOk r (λ value. lookup_by order (entries_in old) ≡ Some value)
+      pub entries : OnOk r (entries_in (set cs i new) ≡ without_by order (entries_in old))
       pub fewer : OnOk r (length (entries_in (set cs i new)) + 1 ≡ length (entries_in old))
       pub height : height_in (set cs i new) ≡ height_in old
       pub children : AreChildren cmp (set cs i new)
@@ -53,26 +47,26 @@ module _ {K V : Type 0} where
 
     -- the child let the entry go, or the call was refused
     pub taken_under : {E : Type 0} (r : Result V E) → IsChild (d.tree.1 + 1) new
-        → IfOk r (λ value. lookup cmp q d.tree.0 ≡ Some value) → OnOk r (new.tree.0 ≡ without cmp q d.tree.0)
+        → IfOk r (λ value. lookup_by order d.tree.0 ≡ Some value) → OnOk r (new.tree.0 ≡ without_by order d.tree.0)
         → OnErr r (new.tree.0 ≡ d.tree.0) → CanLose (get_or cs i d).tree → IsTaken r
     taken_under (Ok v) child value gone refused spare =
-        let taken : entries_in (set cs i new) ≡ without cmp q (entries_in old) =
+        let taken : entries_in (set cs i new) ≡ without_by order (entries_in old) =
         entries_set cs i new under.within
         ∙ ap (λ (es : List (K × V)). entries_in (take i cs) ++ (es ++ entries_in (drop (i + 1) cs)))
-        (gone ∙ ap (λ (c : Child K V). without cmp q c.tree.0) is)
-        ∙ sym (without_child cmp q cs i d under.within under.between) ∙ ap (without cmp q) same.entries in
+        (gone ∙ ap (λ (c : Child K V). without_by order c.tree.0) is)
+        ∙ sym (without_child order cs i d under.within under.between) ∙ ap (without_by order) same.entries in
         let map = subst (IsMap cmp) same.entries same.children.map in
         let more : 1 < length (entries_in cs) =
         omega (arith, spare, pow_pos (get_or cs i d).tree.1, entries_within cs i d under.within) in
         let some = subst (λ (es : List (K × V)). 1 < length es) same.entries more in
         record {
-          value = ap (lookup cmp q) (sym same.entries) ∙ lookup_under cmp q cs i d under is ∙ value;
+          value = ap (lookup_by order) (sym same.entries) ∙ lookup_under order cs i d under is ∙ value;
           entries = taken;
           fewer = ap (λ (es : List (K × V)). length es + 1) taken
-              ∙ length_without cmp total q (entries_in old) map.rising found;
+              ∙ length_without cmp order form (entries_in old) map.rising found;
           height = height_set cmp cs i d same.children under.within is new child ∙ same.height;
           children = children_set cmp cs i d same.children under.within is new child
-              (subst (IsMap cmp) (sym taken) (map_without cmp total q (entries_in old) map found some));
+              (subst (IsMap cmp) (sym taken) (map_without cmp order form (entries_in old) map found some));
           refused = tt;
         }
     taken_under (Err e) child value gone refused spare =

@@ -8,6 +8,7 @@ use Rattle.std.specs.declared.cmp.Ordering.TheVariants.{Equal}
 use Rattle.std.specs.Cmp.{IsTotalOrder}
 use Rattle.std.specs.Ordering.{is_lt}
 use Rattle.persistent.specs.Maps.{IsRising, with_entries, with_entry}
+use Rattle.persistent.specs.Queries.{key_form}
 use Rattle.persistent.proofs.Between.{with_new}
 use Rattle.persistent.proofs.Order.{Rises, above_more, below_before, equal_itself, from, lt_from}
 use Rattle.persistent.proofs.Order.{rising_back, rising_front}
@@ -31,7 +32,7 @@ module _ {K V : Type 0} (cmp : K → K → Ordering) (total : IsTotalOrder cmp) 
   rises_each (e ∷ f ∷ es) each =
       let rest = rises_each (f ∷ es) (λ k d within. each (suc k) d (omega (arith, within))) in
       let first = lt_from (cmp e.0 f.0) (each 0 e (omega arith)) in
-      ((first, above_more cmp total e.0 f.0 es first rest.0), rest)
+      ((first, above_more cmp (cmp e.0) (key_form total e.0) f.0 es first rest.0), rest)
 
   -- if each key is below the next, it is below all that come after it
   pub rising_each : (es : List (K × V))
@@ -43,7 +44,8 @@ module _ {K V : Type 0} (cmp : K → K → Ordering) (total : IsTotalOrder cmp) 
   with_last : (es : List (K × V)) (e : K × V) (rest : List (K × V)) → IsRising cmp (es ++ e ∷ rest)
       → with_entry cmp e.0 e.1 es ≡ es ++ e ∷ []
   with_last es e rest s =
-      let below = below_before cmp total e.0 es e rest Equal (equal_itself total e.0) refl s in
+      let itself = equal_itself total e.0 in
+      let below = below_before cmp (cmp e.0) (key_form total e.0) total es e rest Equal itself refl s in
       ap (with_entry cmp e.0 e.1) (sym (append-nil es))
       ∙ with_new cmp e.0 e.1 es [] (record { below = below; above = tt })
 

@@ -92,10 +92,10 @@ module _ {K V : Type 0} where
     pub height : height_in new ≡ height_in old
     pub children : AreChildren cmp new
 
-  -- the key belongs under the child of that number
-  pub record IsUnder (cmp : K → K → Ordering) (key : K) (cs : List (Child K V)) (at : ℕ) : Type 0 where
+  -- what is asked belongs under the child of that number
+  pub record IsUnder (order : K → Ordering) (cs : List (Child K V)) (at : ℕ) : Type 0 where
     pub within : at < length cs
-    pub between : IsBetween cmp key (entries_in (take at cs)) (entries_in (drop (at + 1) cs))
+    pub between : IsBetween order (entries_in (take at cs)) (entries_in (drop (at + 1) cs))
 
   -- a whole tree with these entries has so many nodes on each way down
   pub record IsDeep (cmp : K → K → Ordering) (es : List (K × V)) (depth : ℕ) : Type 0 where

@@ -29,6 +29,31 @@ impl<T: Eq> Eq for List<T> {
     ghost laws = { lists_equiv T.Eq.laws };
 }
 
+/// As a slice of the items: the first two that differ decide.
+impl<T: PartialOrd> PartialOrd for List<T> {
+    ghost partial_cmp = { slice_partial_cmp T.partial_cmp };
+
+    ghost laws = { lists_po T.PartialOrd.laws };
+
+    fn partial_cmp(&self, other: &List<T>) -> Option<Ordering> {
+        self.into_iter().partial_cmp(other)
+    }
+}
+
+impl<T: Ord> Ord for List<T> {
+    ghost cmp = { slice_cmp T.cmp };
+
+    ghost total = { lists_total T.total };
+
+    ghost matches_partial_cmp = { lists_agrees T.matches_partial_cmp };
+
+    ghost matches_eq = { lists_ties T.cmp T.matches_eq };
+
+    fn cmp(&self, other: &List<T>) -> Ordering {
+        self.into_iter().cmp(other)
+    }
+}
+
 /// As a slice of the items.
 impl<T: Hash> Hash for List<T> {
     ghost hash_input = { slice T.hash_input };

@@ -7,6 +7,7 @@ mod links;
 mod list;
 mod list_iter;
 mod map;
+mod query;
 mod tree;
 
 pub use list::List;
@@ -16,4 +17,5 @@ pub use map::diff::Change;
 pub use map::iter::Iter;
 pub use map::keys::Keys;
 pub use map::values::Values;
+pub use query::Query;
 pub use tree::Tree;

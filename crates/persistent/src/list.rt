@@ -1,5 +1,5 @@
 //! A list that shares its rest.
-ghost use Rattle.std.specs.Prelude.{◌≡◌, ◌<◌, ◌∷◌, [], ◌↔◌, IsTrue, IfOk, OnOk};
+ghost use Rattle.std.specs.Prelude.{◌≡◌, ◌-◌, ◌<◌, ◌∷◌, [], ◌↔◌, IsTrue, IfOk, OnOk};
 ghost use Rattle.std.specs.Prelude.{drop, length, reverse, slice_get};
 ghost use Rattle.std.specs.Option.{option_copied};
 ghost use Rattle.servo_arc.specs.Copies.{CopiesAreEqual};
@@ -94,6 +94,22 @@ impl<T> List<T> {
         }
         let (item, _) = links.split_first()?;
         Some(item)
+    }
+
+    /// The item that was pushed first, in as many steps as there are items.
+    pub fn last(&self) -> Option<&T>
+        ensures { option_copied result ≡ slice_get self.now (length self.now - 1) }
+    {
+        self.get(self.len().checked_sub(1)?)
+    }
+}
+
+/// The empty list.
+impl<T> Default for List<T> {
+    ghost is_default = { λ list. list ≡ [] };
+
+    fn default() -> List<T> {
+        List::new()
     }
 }
 

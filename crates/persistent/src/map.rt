@@ -1,26 +1,31 @@
 //! A map in the order of its keys, whose versions share their nodes.
 ghost use Rattle.std.specs.Prelude.{◌≡◌, ◌+◌, ◌^◌, ◌<◌, ◌≤◌, ◌↔◌, [], IsTrue};
 ghost use Rattle.std.specs.Prelude.{◌-◌, None, Some, IfOk, IsOk, OnOk, OnErr, IfNone, IfSome};
-ghost use Rattle.std.specs.Prelude.{cond, is_some, length, slice_get};
+ghost use Rattle.std.specs.Prelude.{cond, is_some, length, option_map, slice_get};
 ghost use Rattle.std.specs.Fn.{FnOnceTakesAtMut};
 ghost use Rattle.std.specs.Option.{ForSome, option_copied};
 ghost use Rattle.std.specs.Ordering.{is_eq};
 ghost use Rattle.servo_arc.specs.Copies.{CopiesAreEqual};
 ghost use Rattle.persistent.specs.Changes.{ChangesValue};
-ghost use Rattle.persistent.specs.Maps.{IsRising, lookup, rank, with_entry, without};
+ghost use Rattle.persistent.specs.Maps.{IsRising, entry_by, lookup, lookup_by, rank_by, with_entry, without_by};
 ghost use Rattle.persistent.specs.Nodes.{IsDeep, IsLevel, entries_under};
 
+mod alter;
 pub(crate) mod diff;
+mod empty;
 mod from_items;
 mod index;
 pub(crate) mod iter;
+mod keep;
 pub(crate) mod keys;
 mod merge;
+mod near;
+mod pop;
 mod range;
 mod split;
-mod update;
 pub(crate) mod values;
 
+use crate::query::Query;
 use crate::tree::Tree;
 use std::alloc::{AllocError, Global};
 use std::marker::Model;
@@ -64,13 +69,6 @@ impl<K: Ord + Drop, V: Drop> Clone for TreeMap<K, V> {
 }
 
 impl<K: Ord, V> TreeMap<K, V> {
-    /// The empty map, which takes no memory.
-    pub fn new() -> TreeMap<K, V>
-        ensures { result ≡ [] }
-    {
-        TreeMap { root: None, len: 0 }
-    }
-
     /// The number of entries, in O(1).
     pub fn len(&self) -> usize
         ensures count { result ≡ length self.now }
@@ -117,24 +115,34 @@ impl<K: Ord, V> TreeMap<K, V> {
     }
 
     /// The value under the key, by one search in each node on the way down. Each key is above those before it.
-    pub fn get(&self, key: &K) -> Option<&V>
-        ensures found { option_copied result ≡ lookup K.cmp key.now self.now }
+    pub fn get<Q: Query<K>>(&self, key: Q) -> Option<&V>
+        ensures found { option_copied result ≡ lookup_by (Q.order key) self.now }
+        ensures rising { IsRising K.cmp self.now }
+    {
+        let (_, value) = self.get_key_value(key)?;
+        Some(value)
+    }
+
+    /// The entry of the key, with the key that the map has.
+    pub fn get_key_value<Q: Query<K>>(&self, key: Q) -> Option<&(K, V)>
+        ensures found { option_copied result ≡ entry_by (Q.order key) self.now }
+        ensures value { option_map (λ e. e.1) (option_copied result) ≡ lookup_by (Q.order key) self.now }
         ensures rising { IsRising K.cmp self.now }
     {
         self.tree()?.get(key)
     }
 
     /// Whether there is a value under the key.
-    pub fn contains(&self, key: &K) -> bool
-        ensures { result ≡ is_some (lookup K.cmp key.now self.now) }
+    pub fn contains_key<Q: Query<K>>(&self, key: Q) -> bool
+        ensures { result ≡ is_some (lookup_by (Q.order key) self.now) }
     {
         self.get(key).is_some()
     }
 
     /// How many keys are below this one: the number of its entry, if there is one.
-    #[tactic(auto, using(crate::proofs::Between::rank_most), unfolding(crate::specs::Maps::rank))]
-    pub fn rank(&self, key: &K) -> usize
-        ensures rank { result ≡ rank K.cmp key.now self.now }
+    #[tactic(auto, using(crate::proofs::Between::rank_most), unfolding(crate::specs::Maps::rank_by))]
+    pub fn rank<Q: Query<K>>(&self, key: Q) -> usize
+        ensures rank { result ≡ rank_by (Q.order key) self.now }
         ensures within { result ≤ length self.now }
     {
         match self.tree() {
@@ -144,10 +152,11 @@ impl<K: Ord, V> TreeMap<K, V> {
     }
 
     /// The entry of that number, counted from 0 in the order of the keys, by one way down.
-    pub fn entry(&self, index: usize) -> Option<&(K, V)>
-        ensures { option_copied result ≡ slice_get self.now index }
+    pub fn nth(&self, index: usize) -> Option<&(K, V)>
+        ensures entry { option_copied result ≡ slice_get self.now index }
+        ensures rising { IsRising K.cmp self.now }
     {
-        match &self.root {
+        match self.tree() {
             Some(tree) if index < self.len => Some(tree.entry(index)),
             _ => None,
         }
@@ -157,27 +166,28 @@ impl<K: Ord, V> TreeMap<K, V> {
     pub fn first(&self) -> Option<&(K, V)>
         ensures { option_copied result ≡ slice_get self.now 0 }
     {
-        self.entry(0)
+        self.nth(0)
     }
 
     /// The entry of the greatest key.
     pub fn last(&self) -> Option<&(K, V)>
         ensures { option_copied result ≡ slice_get self.now (length self.now - 1) }
     {
-        self.entry(self.len().checked_sub(1)?)
+        self.nth(self.len().checked_sub(1)?)
     }
 }
 
 impl<K: Ord + Clone, V: Clone> TreeMap<K, V> {
-    /// Puts the value under the key. An equal key stays, and the new one is dropped.
+    /// Puts the value under the key, and gives the one that it had. An equal key stays, and the new one is dropped.
     ///
     /// It writes in place, but copies each node on the way to the key that other versions have. A full node on the way
     /// becomes two before, by moves. It is refused if there is no memory, if the `clone` of a key, a value or a handle
     /// is, and for any key at `usize::MAX` entries. The map then reads as it did, and the key and the value are
     /// dropped.
-    pub fn insert(&mut self, alloc: Global, key: K, value: V) -> Result<(), AllocError>
+    pub fn insert(&mut self, alloc: Global, key: K, value: V) -> Result<Option<V>, AllocError>
         requires copies_of_keys { CopiesAreEqual K.is_clone }
         requires copies_of_values { CopiesAreEqual V.is_clone }
+        ensures value { IfOk result (λ old. old ≡ lookup K.cmp key self.old) }
         ensures entries { OnOk result (self.new ≡ with_entry K.cmp key value self.old) }
         ensures changes { OnOk result ((k : K) → lookup K.cmp k self.new
             ≡ cond (is_eq (K.cmp k key)) (Some value) (lookup K.cmp k self.old)) }
@@ -190,13 +200,13 @@ impl<K: Ord + Clone, V: Clone> TreeMap<K, V> {
             None => {
                 self.root = Some(Tree::of(alloc, key, value)?);
                 self.len = 1;
-                Ok(())
+                Ok(None)
             }
             Some(tree) => {
                 tree.grow(alloc, self.len)?;
-                let more = tree.insert(alloc, key, value)?;
-                self.len += more;
-                Ok(())
+                let old = tree.insert(alloc, key, value)?;
+                self.len += usize::from(old.is_none());
+                Ok(old)
             }
         }
     }
@@ -206,14 +216,14 @@ impl<K: Ord + Clone, V: Clone> TreeMap<K, V> {
     /// It writes in place and copies as `insert` does. A node on the way with few items is joined with the one beside
     /// it before, by moves. It is refused if there is no memory, or if the `clone` of a key, a value or a handle is.
     /// The map then reads as it did. If there is no value, nothing is copied or refused.
-    pub fn remove(&mut self, alloc: Global, key: &K) -> Result<Option<V>, AllocError>
+    pub fn remove<Q: Query<K>>(&mut self, alloc: Global, key: Q) -> Result<Option<V>, AllocError>
         requires copies_of_keys { CopiesAreEqual K.is_clone }
         requires copies_of_values { CopiesAreEqual V.is_clone }
-        ensures value { IfOk result (λ value. value ≡ lookup K.cmp key.now self.old) }
-        ensures entries { OnOk result (self.new ≡ without K.cmp key.now self.old) }
+        ensures value { IfOk result (λ value. value ≡ lookup_by (Q.order key) self.old) }
+        ensures entries { OnOk result (self.new ≡ without_by (Q.order key) self.old) }
         ensures changes { OnOk result ((k : K) → lookup K.cmp k self.new
-            ≡ cond (is_eq (K.cmp k key.now)) None (lookup K.cmp k self.old)) }
-        ensures none { lookup K.cmp key.now self.old ≡ None → IsOk result }
+            ≡ cond (is_eq (Q.order key k)) None (lookup K.cmp k self.old)) }
+        ensures none { lookup_by (Q.order key) self.old ≡ None → IsOk result }
         ensures refused { OnErr result (self.new ≡ self.old) }
     {
         let Some(tree) = &mut self.root else {

@@ -15,7 +15,8 @@ pub fn set(
 ) -> Result<(), AllocError>
     ensures { OnOk result (map.new ≡ with_entry nat_cmp key value map.old) }
 {
-    map.insert(alloc, key, value)
+    map.insert(alloc, key, value)?;
+    Ok(())
 }
 
 /// What is read after that.

@@ -8,7 +8,7 @@ use std::alloc::{AllocError, Global};
 
 impl<K: Ord + Clone, V: Clone> TreeMap<K, V> {
     /// Puts copies of the entries of the other map in, one after another, as by `insert`: under a key of both the value
-    /// of the other one stands.
+    /// of the other one stands. The other map stays as it is, while that of `std` moves its entries out of it.
     ///
     /// It takes an `insert` for each entry of the other map, into a version of this one, which takes its place at the
     /// end. So a refusal leaves the map as it was.

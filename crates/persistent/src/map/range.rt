@@ -1,10 +1,11 @@
 //! The entries of a map whose keys lie within bounds.
 ghost use Rattle.std.specs.Prelude.{◌≡◌, ◌≤◌, length};
 ghost use Rattle.std.specs.Range.Bound.{bound_map};
-ghost use Rattle.persistent.specs.Bounds.{before_start, entries_within, rank_with, up_to_end};
+ghost use Rattle.persistent.specs.Bounds.{before_start, entries_between, entries_within, rank_with_by, up_to_end};
 
 use crate::map::TreeMap;
 use crate::map::iter::Iter;
+use crate::query::Query;
 use std::ops::{Bound, RangeBounds};
 
 impl<K: Ord, V> TreeMap<K, V> {
@@ -13,19 +14,26 @@ impl<K: Ord, V> TreeMap<K, V> {
     ///
     /// It takes a range of keys or of references to keys, as `a..b`, `..=&b` or a pair of `Bound`s. It searches once
     /// for an end, and twice for `Included` at the end or `Excluded` at the start.
-    #[tactic(auto, using(crate::proofs::Ranges::ranges))]
     pub fn range<R: RangeBounds<K>>(&self, keys: R) -> Iter<'_, K, V>
         ensures { R.has_bounds keys
             → result ≡ entries_within K.cmp (R.start_bound keys) (R.end_bound keys) self.now }
     {
-        let from = self.before_start(keys.start_bound());
-        let to = self.up_to_end(keys.end_bound()).max(from);
+        self.range_by(keys.start_bound(), keys.end_bound())
+    }
+
+    /// The same within bounds that stand for keys, as `Bound::Included("text")` for an `Arc<String>`.
+    #[tactic(auto, using(crate::proofs::Ranges::ranges))]
+    pub fn range_by<Q: Query<K>>(&self, start: Bound<Q>, end: Bound<Q>) -> Iter<'_, K, V>
+        ensures { result ≡ entries_between (bound_map Q.order start) (bound_map Q.order end) self.now }
+    {
+        let from = self.before_start(start);
+        let to = self.up_to_end(end).max(from);
         Iter::between(self.root.as_ref(), from, to)
     }
 
     // How many keys are before the start.
-    fn before_start(&self, start: Bound<&K>) -> usize
-        ensures before { result ≡ before_start K.cmp (bound_map (λ key. key.now) start.entry) self.now }
+    fn before_start<Q: Query<K>>(&self, start: Bound<Q>) -> usize
+        ensures before { result ≡ before_start (bound_map Q.order start) self.now }
         ensures within { result ≤ length self.now }
     {
         match start {
@@ -36,8 +44,8 @@ impl<K: Ord, V> TreeMap<K, V> {
     }
 
     // How many keys are not past the end.
-    fn up_to_end(&self, end: Bound<&K>) -> usize
-        ensures up_to { result ≡ up_to_end K.cmp (bound_map (λ key. key.now) end.entry) self.now }
+    fn up_to_end<Q: Query<K>>(&self, end: Bound<Q>) -> usize
+        ensures up_to { result ≡ up_to_end (bound_map Q.order end) self.now }
         ensures within { result ≤ length self.now }
     {
         match end {
@@ -49,13 +57,17 @@ impl<K: Ord, V> TreeMap<K, V> {
 
     // How many keys are at or below this one.
     #[tactic(auto, using(crate::proofs::Ranges::rank_present))]
-    fn rank_with(&self, key: &K) -> usize
-        ensures rank { result ≡ rank_with K.cmp key.now self.now }
+    pub(super) fn rank_with<Q: Query<K>>(&self, key: Q) -> usize
+        ensures rank { result ≡ rank_with_by (Q.order key) self.now }
         ensures within { result ≤ length self.now }
     {
         let below = self.rank(key);
         // The keys are fewer than 2 ^ 64.
         let _ = self.len();
-        if self.contains(key) { below + 1 } else { below }
+        if self.contains_key(key) {
+            below + 1
+        } else {
+            below
+        }
     }
 }

@@ -1,10 +1,11 @@
 //! Two maps out of one.
 ghost use Rattle.std.specs.Prelude.{◌≡◌, ◌≤◌, IfOk, OnErr, OnOk, drop, length, slice_range, take};
 ghost use Rattle.servo_arc.specs.Copies.{CopiesAreEqual};
-ghost use Rattle.persistent.specs.Maps.{rank};
+ghost use Rattle.persistent.specs.Maps.{rank_by};
 
 use crate::map::TreeMap;
 use crate::map::iter::Iter;
+use crate::query::Query;
 use std::alloc::{AllocError, Global};
 
 impl<K: Ord + Clone, V: Clone> TreeMap<K, V> {
@@ -12,11 +13,15 @@ impl<K: Ord + Clone, V: Clone> TreeMap<K, V> {
     ///
     /// It makes both maps of copies of their entries, in O(n). A refusal leaves the map as it was.
     #[tactic(auto, using(crate::proofs::Ranges::ranges))]
-    pub fn split_off(&mut self, alloc: Global, key: &K) -> Result<TreeMap<K, V>, AllocError>
+    pub fn split_off<Q: Query<K>>(
+        &mut self,
+        alloc: Global,
+        key: Q,
+    ) -> Result<TreeMap<K, V>, AllocError>
         requires copies_of_keys { CopiesAreEqual K.is_clone }
         requires copies_of_values { CopiesAreEqual V.is_clone }
-        ensures out { IfOk result (λ map. map ≡ drop (rank K.cmp key.now self.old) self.old) }
-        ensures rest { OnOk result (self.new ≡ take (rank K.cmp key.now self.old) self.old) }
+        ensures out { IfOk result (λ map. map ≡ drop (rank_by (Q.order key) self.old) self.old) }
+        ensures rest { OnOk result (self.new ≡ take (rank_by (Q.order key) self.old) self.old) }
         ensures refused { OnErr result (self.new ≡ self.old) }
     {
         let at = self.rank(key);

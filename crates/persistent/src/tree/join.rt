@@ -2,10 +2,12 @@
 ghost use Rattle.std.specs.Prelude.{◌≡◌, ℕ, ◌+◌, ◌*◌, ◌<◌, ◌≤◌, ◌^◌, ◌++◌, ◌∷◌, [], IfErr, IfOk, None, OnErr, OnOk};
 ghost use Rattle.std.specs.Prelude.{IfSome, IsTrue, Some, get_or, is_some, length};
 ghost use Rattle.servo_arc.specs.Copies.{CopiesAreEqual};
-ghost use Rattle.persistent.specs.Maps.{lookup};
+ghost use Rattle.std.specs.declared.cmp.Ordering.{Ordering};
+ghost use Rattle.persistent.specs.Maps.{lookup_by};
 ghost use Rattle.persistent.specs.Nodes.{AreChildren, CanLose, IsChild, IsMap, IsNode, IsUnder, StandFor};
 ghost use Rattle.persistent.specs.Nodes.{entries_in, entries_under, height_in, seen};
 
+use crate::query::Query;
 use crate::tree::{Child, Node, Tree};
 use servo_arc::{Arc, UniqueArc};
 use std::alloc::{AllocError, Global};
@@ -20,8 +22,8 @@ pub(crate) fn join<K: Ord + Clone, V: Clone>(
     requires children { AreChildren K.cmp children.old.items }
     requires within { at + 1 < length children.old.items }
     ensures same { StandFor K.cmp children.old.items children.new.items }
-    ensures under { OnOk result ((key : K) → (i : ℕ) → at ≤ i → i ≤ at + 1
-        → IsUnder K.cmp key children.old.items i → IsUnder K.cmp key children.new.items at) }
+    ensures under { OnOk result ((order : K → Ordering) → (i : ℕ) → at ≤ i → i ≤ at + 1
+        → IsUnder order children.old.items i → IsUnder order children.new.items at) }
     ensures spare { OnOk result ((d : Child K V) → CanLose (get_or children.new.items at d).tree) }
 {
     children.reserve(0)?;
@@ -94,16 +96,16 @@ impl<K: Ord + Clone, V: Clone> Tree<K, V> {
     }
 
     // Takes the only entry out, which is that of the key, and gives its value.
-    pub(crate) fn take_only(
+    pub(crate) fn take_only<Q: Query<K>>(
         root: &mut Option<Tree<K, V>>,
         alloc: Global,
-        key: &K,
+        key: Q,
     ) -> Result<V, AllocError>
         requires copies { CopiesAreEqual K.is_clone × CopiesAreEqual V.is_clone }
-        requires found { IsTrue (is_some (lookup K.cmp key.now (entries_under root.old))) }
+        requires found { IsTrue (is_some (lookup_by (Q.order key) (entries_under root.old))) }
         requires one { length (entries_under root.old) ≡ 1 }
         requires low { IfSome root.old (λ tree. 2 ^ tree.1 < 2 * length tree.0) }
-        ensures value { IfOk result (λ value. lookup K.cmp key.now (entries_under root.old) ≡ Some value) }
+        ensures value { IfOk result (λ value. lookup_by (Q.order key) (entries_under root.old) ≡ Some value) }
         ensures none { OnOk result (root.new ≡ None) }
         ensures refused { OnErr result (root.new ≡ root.old) }
     {

@@ -1,11 +1,12 @@
-//! Where a key or a number stands.
+//! Where a key, or what stands for it, or a number stands.
 ghost use Rattle.std.specs.Prelude.{◌≡◌, ◌+◌, ◌*◌, ◌^◌, ◌<◌, ◌≤◌, MatchResult, length, take, drop};
-ghost use Rattle.std.specs.Prelude.{slice_get, IsFalse, IsTrue, Some};
+ghost use Rattle.std.specs.Prelude.{slice_get, IsFalse, IsTrue, Some, option_map};
 ghost use Rattle.std.specs.Option.{option_copied};
-ghost use Rattle.persistent.specs.Maps.{IsRising, lookup, rank};
+ghost use Rattle.persistent.specs.Maps.{IsRising, entry_by, lookup_by, rank_by};
 ghost use Rattle.persistent.specs.Nodes.{AreChildren, IsMap, IsUnder, entries_in};
 ghost use Rattle.persistent.specs.Places.{AreAbove, AreBelow, IsBetween, IsFound, IsMissing, IsPart};
 
+use crate::query::Query;
 use crate::tree::{Child, Node, Tree};
 
 // How many entries stand in a part of a leaf, when it is searched.
@@ -16,23 +17,23 @@ const QUARTER: usize = 4;
 
 // Whether the key is not below that of the entry of that number.
 #[inline(always)]
-fn is_past<K: Ord, V>(entries: &[(K, V)], key: &K, at: usize) -> bool
+fn is_past<K: Ord, V, Q: Query<K>>(entries: &[(K, V)], key: Q, at: usize) -> bool
     requires rising { IsRising K.cmp entries.now }
     requires within { at < length entries.now }
-    ensures below { IsTrue result → AreBelow K.cmp key.now (take at entries.now) }
-    ensures above { IsFalse result → AreAbove K.cmp key.now (drop at entries.now) }
+    ensures below { IsTrue result → AreBelow (Q.order key) (take at entries.now) }
+    ensures above { IsFalse result → AreAbove (Q.order key) (drop at entries.now) }
 {
-    !key.cmp(&entries[at].0).is_lt()
+    !key.order(&entries[at].0).is_lt()
 }
 
 // Where the part begins to which the key belongs, of the parts of that many entries. It counts all that are past, since
 // a jump would be guessed wrong half of the times.
 #[inline(always)]
-fn part_of<K: Ord, V>(entries: &[(K, V)], key: &K, part: usize) -> usize
+fn part_of<K: Ord, V, Q: Query<K>>(entries: &[(K, V)], key: Q, part: usize) -> usize
     requires map { IsMap K.cmp entries.now }
     requires some { 0 < part }
     ensures within { result < length entries.now }
-    ensures between { IsBetween K.cmp key.now (take result entries.now) (drop (result + part) entries.now) }
+    ensures between { IsBetween (Q.order key) (take result entries.now) (drop (result + part) entries.now) }
 {
     let mut at = 0;
     let mut seen = 0;
@@ -45,13 +46,18 @@ fn part_of<K: Ord, V>(entries: &[(K, V)], key: &K, part: usize) -> usize
 
 // Where the quarter begins to which the key belongs, of four that begin there and have that many entries each.
 #[inline(always)]
-fn quarter_of<K: Ord, V>(entries: &[(K, V)], key: &K, at: usize, quarter: usize) -> usize
+fn quarter_of<K: Ord, V, Q: Query<K>>(
+    entries: &[(K, V)],
+    key: Q,
+    at: usize,
+    quarter: usize,
+) -> usize
     requires rising { IsRising K.cmp entries.now }
     requires some { 0 < quarter }
     requires within { at + 4 * quarter ≤ length entries.now }
-    requires between { IsBetween K.cmp key.now (take at entries.now) (drop (at + 4 * quarter) entries.now) }
+    requires between { IsBetween (Q.order key) (take at entries.now) (drop (at + 4 * quarter) entries.now) }
     ensures within { result + quarter ≤ length entries.now }
-    ensures between { IsBetween K.cmp key.now (take result entries.now) (drop (result + quarter) entries.now) }
+    ensures between { IsBetween (Q.order key) (take result entries.now) (drop (result + quarter) entries.now) }
 {
     let first = usize::from(is_past(entries, key, at + quarter));
     let second = usize::from(is_past(entries, key, at + 2 * quarter));
@@ -61,10 +67,10 @@ fn quarter_of<K: Ord, V>(entries: &[(K, V)], key: &K, at: usize, quarter: usize)
 
 // The number of the last entry whose key is not above this one, or of the first.
 #[inline(always)]
-fn place_of<K: Ord, V>(entries: &[(K, V)], key: &K) -> usize
+fn place_of<K: Ord, V, Q: Query<K>>(entries: &[(K, V)], key: Q) -> usize
     requires { IsMap K.cmp entries.now }
     ensures within { result < length entries.now }
-    ensures between { IsBetween K.cmp key.now (take result entries.now) (drop (result + 1) entries.now) }
+    ensures between { IsBetween (Q.order key) (take result entries.now) (drop (result + 1) entries.now) }
 {
     if entries.len() < PART {
         return part_of(entries, key, 1);
@@ -75,12 +81,12 @@ fn place_of<K: Ord, V>(entries: &[(K, V)], key: &K) -> usize
 }
 
 // The number of the key's entry; `Err` has that which it would have.
-pub(crate) fn entry_of<K: Ord, V>(entries: &[(K, V)], key: &K) -> Result<usize, usize>
+pub(crate) fn entry_of<K: Ord, V, Q: Query<K>>(entries: &[(K, V)], key: Q) -> Result<usize, usize>
     requires { IsMap K.cmp entries.now }
-    ensures { MatchResult result (IsFound K.cmp key.now entries.now) (IsMissing K.cmp key.now entries.now) }
+    ensures { MatchResult result (IsFound (Q.order key) entries.now) (IsMissing (Q.order key) entries.now) }
 {
     let at = place_of(entries, key);
-    let order = key.cmp(&entries[at].0);
+    let order = key.order(&entries[at].0);
     if order.is_eq() {
         Ok(at)
     } else if order.is_lt() {
@@ -91,15 +97,15 @@ pub(crate) fn entry_of<K: Ord, V>(entries: &[(K, V)], key: &K) -> Result<usize, 
 }
 
 // The number of the child to which the key belongs. It counts as `part_of` does.
-pub(crate) fn child_of<K: Ord, V>(children: &[Child<K, V>], key: &K) -> usize
+pub(crate) fn child_of<K: Ord, V, Q: Query<K>>(children: &[Child<K, V>], key: Q) -> usize
     requires { AreChildren K.cmp children.now }
-    ensures { IsUnder K.cmp key.now children.now result }
+    ensures { IsUnder (Q.order key) children.now result }
 {
     let mut at = 0;
     let mut seen = 0;
     'along: while children.len() - seen > 1 {
         seen += 1;
-        at += usize::from(!key.cmp(&children[seen].key).is_lt());
+        at += usize::from(!key.order(&children[seen].key).is_lt());
     }
     at
 }
@@ -139,8 +145,8 @@ pub(crate) fn before<K: Ord, V>(children: &[Child<K, V>], at: usize) -> usize
 
 impl<K: Ord, V> Tree<K, V> {
     // How many keys are below this one.
-    pub(crate) fn rank(&self, key: &K) -> usize
-        ensures { result ≡ rank K.cmp key.now self.now.0 }
+    pub(crate) fn rank<Q: Query<K>>(&self, key: Q) -> usize
+        ensures { result ≡ rank_by (Q.order key) self.now.0 }
     {
         let mut node = self.node();
         let mut start = 0;
@@ -159,9 +165,10 @@ impl<K: Ord, V> Tree<K, V> {
         }
     }
 
-    // The value under the key.
-    pub(crate) fn get(&self, key: &K) -> Option<&V>
-        ensures found { option_copied result ≡ lookup K.cmp key.now self.now.0 }
+    // The entry of the key.
+    pub(crate) fn get<Q: Query<K>>(&self, key: Q) -> Option<&(K, V)>
+        ensures entry { option_copied result ≡ entry_by (Q.order key) self.now.0 }
+        ensures value { option_map (λ e. e.1) (option_copied result) ≡ lookup_by (Q.order key) self.now.0 }
         ensures rising { IsRising K.cmp self.now.0 }
     {
         let mut node = self.node();
@@ -169,7 +176,7 @@ impl<K: Ord, V> Tree<K, V> {
             match node {
                 Node::Leaf(entries) => {
                     return match entry_of(entries, key) {
-                        Ok(at) => Some(&entries[at].1),
+                        Ok(at) => Some(&entries[at]),
                         Err(_) => None,
                     };
                 }

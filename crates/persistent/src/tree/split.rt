@@ -6,6 +6,7 @@ ghost use Rattle.persistent.specs.Maps.{IsRising};
 ghost use Rattle.persistent.specs.Nodes.{AreChildren, AreHalves, CanLose, IsChild, IsMap, IsNode, IsUnder, StandFor};
 ghost use Rattle.persistent.specs.Nodes.{entries_in, height_in, seen};
 
+use crate::query::Query;
 use crate::tree::copies::{BRANCH, LEAF};
 use crate::tree::search::before;
 use crate::tree::{Child, Node, Tree};
@@ -87,17 +88,17 @@ impl<K: Ord, V> Node<K, V> {
 }
 
 // The number of the child to which the key belongs, if it is the one of that number. A full child becomes two before.
-pub(crate) fn room_under<K: Ord + Clone, V: Clone>(
+pub(crate) fn room_under<K: Ord + Clone, V: Clone, Q: Query<K>>(
     children: &mut Vec<Child<K, V>>,
     at: usize,
     alloc: Global,
-    key: &K,
+    key: Q,
 ) -> Result<usize, AllocError>
     requires copies { CopiesAreEqual K.is_clone × CopiesAreEqual V.is_clone }
     requires children { AreChildren K.cmp children.old.items }
-    requires under { IsUnder K.cmp key.now children.old.items at }
+    requires under { IsUnder (Q.order key) children.old.items at }
     ensures same { StandFor K.cmp children.old.items children.new.items }
-    ensures under { IfOk result (IsUnder K.cmp key.now children.new.items) }
+    ensures under { IfOk result (IsUnder (Q.order key) children.new.items) }
     ensures spare { IfOk result (λ i. (d : Child K V) → CanLose (get_or children.old.items at d).tree
         → CanLose (get_or children.new.items i d).tree) }
 {
@@ -108,7 +109,7 @@ pub(crate) fn room_under<K: Ord + Clone, V: Clone>(
     let Some(right) = children[at].halve(alloc)? else {
         return Ok(at);
     };
-    let is_left = key.cmp(&right.key).is_lt();
+    let is_left = key.order(&right.key).is_lt();
     let Ok(()) = children.insert(at + 1, right) else {
         unreachable!()
     };

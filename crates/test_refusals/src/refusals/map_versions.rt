@@ -62,13 +62,18 @@ enum Change {
     Insert(u64),
     Remove(u64),
     Modify(u64),
-    Update(u64),
+    Alter(u64),
     SplitOff(u64),
+    PopFirst,
+    PopLast,
+    Retain(u64),
     Append,
     Union,
+    Intersection,
+    Difference,
 }
 
-const CHANGES: [Change; 13] = [
+const CHANGES: [Change; 18] = [
     Insert(1),
     Insert(63),
     Insert(127),
@@ -78,10 +83,15 @@ const CHANGES: [Change; 13] = [
     Remove(128),
     Modify(32),
     Modify(128),
-    Update(32),
+    Alter(32),
     SplitOff(64),
+    PopFirst,
+    PopLast,
+    Retain(64),
     Append,
     Union,
+    Intersection,
+    Difference,
 ];
 
 fn is_changed<'a>(
@@ -95,10 +105,15 @@ fn is_changed<'a>(
         Insert(key) => map.insert(alloc, key, value).is_ok(),
         Remove(key) => map.remove(alloc, &key).is_ok(),
         Modify(key) => map.modify(alloc, &key, |counted| counted.value = 9).is_ok(),
-        Update(key) => map.update(alloc, key, |_| Some(value)).is_ok(),
+        Alter(key) => map.alter(alloc, key, |_| Some(value)).is_ok(),
         SplitOff(key) => map.split_off(alloc, &key).is_ok(),
+        PopFirst => map.pop_first(alloc).is_ok(),
+        PopLast => map.pop_last(alloc).is_ok(),
+        Retain(least) => map.retain(alloc, |key, _| *key >= least).is_ok(),
         Append => map.append(alloc, other).is_ok(),
         Union => map.union(alloc, other).is_ok(),
+        Intersection => map.intersection(alloc, other).is_ok(),
+        Difference => map.difference(alloc, other).is_ok(),
     }
 }
 

@@ -43,11 +43,7 @@ type List = Vec<(u64, u64)>;
 fn in_map(rt: &(impl Abort + AllocGlobal), map: &mut Map, call: Call, key: u64) -> Option<u64> {
     let alloc = rt.alloc();
     match call {
-        Call::Insert(value) => {
-            let old = map.get(&key).copied();
-            ok!(rt, map.insert(alloc, key, value));
-            old
-        }
+        Call::Insert(value) => ok!(rt, map.insert(alloc, key, value)),
         Call::Flip(bits) => {
             let flipped = map.modify(alloc, &key, |value| {
                 *value ^= bits;
@@ -83,7 +79,7 @@ fn reads(map: &Map, list: &[(u64, u64)]) -> bool {
         map.iter().rev().eq(list.iter().rev()),
         list.iter()
             .enumerate()
-            .all(|(at, entry)| map.entry(at) == Some(entry)),
+            .all(|(at, entry)| map.nth(at) == Some(entry)),
         list.iter().all(|entry| map.get(&entry.0) == Some(&entry.1)),
         list.iter()
             .all(|entry| map.range(&entry.0..&KEYS).next() == Some(entry)),
@@ -106,11 +102,11 @@ fn by_whole_calls(
     ok!(rt, joined.append(alloc, &back));
     let mut made = again!(rt, map);
     for (key, change) in ok!(rt, map.diff(alloc, other)) {
-        let updated = made.update(alloc, *key, |_| match change {
+        let altered = made.alter(alloc, *key, |_| match change {
             Change::Added(value) | Change::Changed(_, value) => Some(*value),
             Change::Removed(_) => None,
         });
-        ok!(rt, updated);
+        ok!(rt, altered);
     }
     let both = ok!(rt, map.union(alloc, other));
     let has_both = both.iter().all(|(key, value)| map.get(key).or(other.get(key)) == Some(value));

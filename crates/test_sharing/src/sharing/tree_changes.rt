@@ -58,7 +58,7 @@ fn a_whole_call_copies_each_entry_once(rt: HostRuntime) {
     let appended = tally.copies();
     let back = ok!(&rt, map.split_off(alloc, &2));
     let cut = tally.copies();
-    ok!(&rt, map.update(alloc, 0, |value| value));
+    ok!(&rt, map.alter(alloc, 0, |value| value));
     let copies = [made, united, appended, cut, tally.copies()];
     same!(&rt, copies, [0, 5, 10, 15, 16]);
     drop((map, other, unchanged, both, back));

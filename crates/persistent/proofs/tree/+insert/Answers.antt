@@ -3,7 +3,7 @@ use Rattle.std.proofs.Common.{◌≡◌, ◌+◌, ◌<◌, ◌^◌, ◌∙◌, a
 use Rattle.std.specs.Ordering.{is_lt}
 use Rattle.persistent.proofs.Copied.{made}
 use Rattle.persistent.proofs.Halves.{entries_within}
-use Rattle.persistent.proofs.Inserted.{child_here, child_with, height_some, put_under}
+use Rattle.persistent.proofs.Inserted.{added_is, child_here, child_with, height_some, put_under}
 use Rattle.persistent.proofs.tree.+insert.Goals as goal
 
 pub insert::insert_under-insert-requires : goal.insert::insert_under-insert-requires
@@ -41,12 +41,12 @@ pub insert::insert_under-returns : goal.insert::insert_under-returns
 insert::insert_under-returns g t c =
     let done = put_under g.K.Ord.cmp g.met.K.Ord.total c.args.key c.args.value c.args.children.now.items
     c.room_under.new.children.items c.in_ok-at.at c.index_mut.result.now c.insert.new.self c.in_ok-at.ensures.same
-    c.in_ok-at.ensures.under c.index_mut.ensures.value c.insert.ensures.child c.insert.result c.insert.ensures.entries
-    c.insert.ensures.more c.insert.ensures.refused c.requires.room in
+    c.in_ok-at.ensures.under c.index_mut.ensures.value c.insert.ensures.child c.insert.result c.insert.ensures.value
+    c.insert.ensures.entries c.insert.ensures.more c.insert.ensures.refused c.requires.room in
     record {
+      value = done.value;
       entries = done.entries;
       more = done.more;
-      one = c.insert.ensures.one;
       height = done.height;
       children = done.children;
       refused = done.refused;
@@ -60,8 +60,14 @@ Child::insert-returns-then-is_lt-clause-child g t c =
     let below : is_lt (cmp q old.key) ≡ true = cc (c.cmp.ensures, c.is_lt.ensures, c.if-is_lt.true) in
     child_with cmp q c.args.value old _ c.requires.child
     (c.requires.copies.0 _ _ c.in_ok-first.ensures.cases ∙ ap (λ b. cond b q old.key) (sym below))
-    c.in_ok-more.ensures.entries (omega (arith, c.requires.child.counted, c.in_ok-more.ensures.more))
-    c.in_ok-more.ensures.height
+    c.in_ok-old.ensures.entries (omega (
+      arith,
+      c.requires.child.counted,
+      c.in_ok-old.ensures.more,
+      c.from.ensures,
+      added_is c.in_ok-old.old c.is_none.result c.is_none.ensures,
+    ))
+    c.in_ok-old.ensures.height
 
 pub Child::insert-returns-clause-child : goal.Child::insert-returns-clause-child
 Child::insert-returns-clause-child g t c =
@@ -70,8 +76,14 @@ Child::insert-returns-clause-child g t c =
     let old = c.args.self.now in
     let above : is_lt (cmp q old.key) ≡ false = cc (c.cmp.ensures, c.is_lt.ensures, c.if-is_lt.false) in
     child_with cmp q c.args.value old _ c.requires.child (ap (λ b. cond b q old.key) (sym above))
-    c.in_ok-more-2.ensures.entries (omega (arith, c.requires.child.counted, c.in_ok-more-2.ensures.more))
-    c.in_ok-more-2.ensures.height
+    c.in_ok-old-2.ensures.entries (omega (
+      arith,
+      c.requires.child.counted,
+      c.in_ok-old-2.ensures.more,
+      c.from-2.ensures,
+      added_is c.in_ok-old-2.old c.is_none-2.result c.is_none-2.ensures,
+    ))
+    c.in_ok-old-2.ensures.height
 
 pub Tree::insert-insert_under-requires : goal.Tree::insert-insert_under-requires
 Tree::insert-insert_under-requires g t c κs within =

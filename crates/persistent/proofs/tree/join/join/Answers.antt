@@ -28,8 +28,8 @@ returns-in_default g c =
     record {
       same = subst (λ xs. StandFor cmp cs (set xs at new)) (sym two.left)
           (joined_same cmp cs at d e new are within two.first two.second one.child one.joined);
-      under = λ key i from to under. subst (λ xs. IsUnder cmp key (set xs at new) at) (sym two.left)
-          (joined_under cmp g.met.K.Ord.total key cs at d are two.first i new under within from to);
+      under = λ order i from to under. subst (λ xs. IsUnder order (set xs at new) at) (sym two.left)
+          (joined_under cmp order cs at d are two.first i new under within from to);
       spare = λ x. subst (λ xs. CanLose (get_or (set xs at new) at x).tree) (sym two.left)
           (joined_spare cmp cs at d e new are within two.first two.second one.child one.joined x);
     }

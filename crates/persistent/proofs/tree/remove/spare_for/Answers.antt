@@ -8,4 +8,4 @@ room_under-requires-clause-under g c =
     let under = rw c.deref.ensures.value at c.child_of-at.ensures in
     let from : i ≤ at = omega (arith, c.min-left.ensures, c.len-2.ensures, under.within) in
     let to : at ≤ i + 1 = omega (arith, c.min-left.ensures, c.len-2.ensures, under.within) in
-    c.in_ok-join.ensures.under c.args.key.now at from to under
+    c.in_ok-join.ensures.under (g.Q.Query.order c.args.key) at from to under

@@ -7,8 +7,8 @@ abbrev pub invariant-along : goal.invariant-along
 invariant-along g l = record {
   within : l.seen < length l.children;
   behind : l.at ≤ l.seen;
-  below : AreBelow g.K.Ord.cmp l.key (entries_in (take l.at l.children));
-  above : l.at < l.seen → AreAbove g.K.Ord.cmp l.key (entries_in (drop (l.at + 1) l.children));
+  below : AreBelow (g.Q.Query.order l.key) (entries_in (take l.at l.children));
+  above : l.at < l.seen → AreAbove (g.Q.Query.order l.key) (entries_in (drop (l.at + 1) l.children));
 }
 
 abbrev pub decreases-along : goal.decreases-along

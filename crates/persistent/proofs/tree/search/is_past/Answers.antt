@@ -5,10 +5,12 @@ use Rattle.persistent.proofs.tree.search.is_past.Goals as goal
 
 pub returns-clause-below : goal.returns-clause-below
 returns-clause-below g c = λ is.
-    below_at g.K.Ord.cmp g.met.K.Ord.total c.args.key.now c.args.entries.now c.args.at _ c.cmp.result
-    c.requires.within c.requires.rising (sym c.cmp.ensures) (sym c.is_lt.ensures ∙ not-true _ is)
+    below_at g.K.Ord.cmp g.met.K.Ord.total (g.Q.Query.order c.args.key) (g.met.Q.Query.is_form c.args.key)
+    c.args.entries.now c.args.at _ c.order.result
+    c.requires.within c.requires.rising (sym c.order.ensures) (sym c.is_lt.ensures ∙ not-true _ is)
 
 pub returns-clause-above : goal.returns-clause-above
 returns-clause-above g c = λ is.
-    above_at g.K.Ord.cmp g.met.K.Ord.total c.args.key.now c.args.entries.now c.args.at _ c.cmp.result
-    c.requires.within c.requires.rising (sym c.cmp.ensures) (sym c.is_lt.ensures ∙ not-false _ is)
+    above_at g.K.Ord.cmp g.met.K.Ord.total (g.Q.Query.order c.args.key) (g.met.Q.Query.is_form c.args.key)
+    c.args.entries.now c.args.at _ c.order.result
+    c.requires.within c.requires.rising (sym c.order.ensures) (sym c.is_lt.ensures ∙ not-false _ is)

@@ -6,8 +6,8 @@ abbrev pub invariant-along : goal.invariant-along
 invariant-along g l = record {
   within : l.seen < length l.entries;
   behind : l.at ≤ l.seen;
-  below : AreBelow g.K.Ord.cmp l.key (take l.at l.entries);
-  above : l.at < l.seen → AreAbove g.K.Ord.cmp l.key (drop (l.at + l.part) l.entries);
+  below : AreBelow (g.Q.Query.order l.key) (take l.at l.entries);
+  above : l.at < l.seen → AreAbove (g.Q.Query.order l.key) (drop (l.at + l.part) l.entries);
 }
 
 abbrev pub decreases-along : goal.decreases-along

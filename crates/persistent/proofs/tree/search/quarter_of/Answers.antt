@@ -7,9 +7,8 @@ use Rattle.persistent.proofs.tree.search.quarter_of.Goals as goal
 
 pub returns-clause-between : goal.returns-clause-between
 returns-clause-between g c =
-    let cmp = g.K.Ord.cmp in
+    let order = g.Q.Query.order c.args.key in
     let es = c.args.entries.now in
-    let key = c.args.key.now in
     let first = c.is_past in
     let second = c.is_past-2 in
     let third = c.is_past-3 in
@@ -18,8 +17,8 @@ returns-clause-between g c =
     let passed = c.from-first.result + c.from-second.result + c.from-third.result in
     let are : passed ≡ from_bool first.result + from_bool second.result + from_bool third.result =
     omega (arith, c.from-first.ensures, c.from-second.ensures, c.from-third.ensures) in
-    let among = quartered (λ (i : ℕ). AreBelow cmp key (take i es)) (λ (i : ℕ). AreAbove cmp key (drop i es))
-    (length es) (apart cmp g.met.K.Ord.total key es) at quarter c.requires.some c.requires.within
+    let among = quartered (λ (i : ℕ). AreBelow order (take i es)) (λ (i : ℕ). AreAbove order (drop i es))
+    (length es) (apart order es) at quarter c.requires.some c.requires.within
     c.requires.between.below c.requires.between.above first.result second.result third.result
     first.ensures.below first.ensures.above second.ensures.below second.ensures.above
     third.ensures.below third.ensures.above (at + quarter * passed)

@@ -1,7 +1,7 @@
 //! How one call changes, puts in or takes out what stands under a key.
 ghost use Rattle.std.specs.Prelude.{◌≡◌, IfOk, OnErr, OnOk};
 ghost use Rattle.servo_arc.specs.Copies.{CopiesAreEqual};
-ghost use Rattle.persistent.specs.Changes.{Updates};
+ghost use Rattle.persistent.specs.Changes.{Alters};
 ghost use Rattle.persistent.specs.Maps.{lookup};
 
 use crate::map::TreeMap;
@@ -13,7 +13,7 @@ impl<K: Ord + Clone, V: Clone> TreeMap<K, V> {
     ///
     /// It searches twice, as `get` and then `insert` or `remove` do, and is refused as they are. The map then reads as
     /// it did, though the change may have been called. `modify` changes a value without a copy of it.
-    pub fn update<F: FnOnce(Option<V>) -> Option<V>>(
+    pub fn alter<F: FnOnce(Option<V>) -> Option<V>>(
         &mut self,
         alloc: Global,
         key: K,
@@ -22,7 +22,7 @@ impl<K: Ord + Clone, V: Clone> TreeMap<K, V> {
         requires copies_of_keys { CopiesAreEqual K.is_clone }
         requires copies_of_values { CopiesAreEqual V.is_clone }
         requires callable { F.pre change (lookup K.cmp key self.old) }
-        ensures updated { OnOk result (Updates (F.post change) K.cmp key self.old self.new) }
+        ensures altered { OnOk result (Alters (F.post change) K.cmp key self.old self.new) }
         ensures refused { OnErr result (self.new ≡ self.old) }
     {
         let before = self.copy_of(&key)?;
@@ -31,7 +31,10 @@ impl<K: Ord + Clone, V: Clone> TreeMap<K, V> {
                 self.remove(alloc, &key)?;
                 Ok(())
             }
-            Some(value) => self.insert(alloc, key, value),
+            Some(value) => {
+                self.insert(alloc, key, value)?;
+                Ok(())
+            }
         }
     }
 

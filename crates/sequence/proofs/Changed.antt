@@ -1,0 +1,115 @@
+-- A branch after an item was changed under one of its children.
+use Rattle.std.proofs.Common.{◌≡◌, ◌+◌, ◌<◌, ◌≤◌, ◌^◌, ℕ, zero, suc, List, [], ◌∷◌, ◌++◌, length, take, drop, get_or, set, ap, sym, ◌∙◌}
+use Rattle.std.proofs.Common.{subst, arith, length-set}
+use Rattle.std.specs.Prelude.{Option, None, Some, Result, Ok, Err, IfNone, IfOk, IfSome, OnErr, OnOk, slice_get}
+use Rattle.std.specs.Borrow.{MutBor}
+use Rattle.std.specs.Fn.{FnOnceReturnsAtMut, Once}
+use Rattle.std.proofs.lemmas.List.{set_past}
+use Rattle.std.proofs.lemmas.Option.{none-some}
+use Rattle.sequence.specs.Changes.{ChangesItem}
+use Rattle.sequence.specs.declared.tree.Child.{Child}
+use Rattle.sequence.specs.Nodes.{AreChildren, IsChild, height_in, items_in}
+use Rattle.sequence.proofs.Children.{items_set, items_split}
+use Rattle.sequence.proofs.Placed.{child_here, children_set, height_set, stands_in}
+use Rattle.sequence.proofs.Spliced.{get_between, set_between}
+
+module _ {T : Type 0} (tree : List T × ℕ) (cs : List (Child T)) (i : ℕ) (d : Child T) (are : AreChildren cs)
+    (same : ◌≡◌ {A = List T × ℕ} (items_in cs, height_in cs) tree) (h : i < length cs) (is : d ≡ get_or cs i d)
+    (at p : ℕ) (place : at ≡ length (items_in (take i cs)) + p) (inside : p < length d.tree.0) where
+  -- the item of the whole is that of the child
+  pub item_under : slice_get tree.0 at ≡ slice_get d.tree.0 p
+  item_under =
+      let l = items_in (take i cs) in
+      let m = (get_or cs i d).tree.0 in
+      let r = items_in (drop (i + 1) cs) in
+      ap (λ (t : List T × ℕ). slice_get t.0 at) (sym same)
+      ∙ ap (λ (es : List T). slice_get es at) (items_split cs i d h)
+      ∙ get_between l m r at p place (omega (arith, inside, ap (λ (c : Child T). length c.tree.0) is))
+      ∙ ap (λ (c : Child T). slice_get c.tree.0 p) (sym is)
+
+  module _ {F R : Type 0} (g : Once F (MutBor T × Unit {0}) (R × (MutBor T × Unit {0}))) (change : F) where
+    -- the node after the call on that child, whose answer is r
+    pub record IsChanged {E : Type 0} (new : List (Child T)) (r : Result R E) : Type 0 where
+      pub whole : AreChildren new
+      pub changed : IfOk r (ChangesItem g change at tree.0 (items_in new))
+      pub height : height_in new ≡ tree.1
+      pub refused : OnErr r (items_in new ≡ tree.0)
+
+    -- the item was changed in the child, or the call was refused
+    pub changed_under : {E : Type 0} (new : List T × ℕ) (r : Result R E)
+        → IfOk r (ChangesItem g change p d.tree.0 new.0) → new.1 ≡ d.tree.1 → OnErr r (new.0 ≡ d.tree.0)
+        → IsChanged (set cs i (record d { tree = new })) r
+    changed_under new (Ok r) changed level refused =
+        let c = record d { tree = new } in
+        let old = child_here cs i d are h is in
+        let many : length new.0 ≡ length d.tree.0 =
+        ap (length {A = T}) changed.items ∙ length-set d.tree.0 p changed.after in
+        let child : IsChild (d.tree.1 + 1) c = record {
+          counted = omega (arith, many, old.counted);
+          level = ap (λ (n : ℕ). n + 1) level;
+          wide = subst (λ (n : ℕ). 2 ^ n ≤ length new.0) (sym level) (omega (arith, many, old.wide));
+        } in
+        let l = items_in (take i cs) in
+        let m = (get_or cs i d).tree.0 in
+        let r = items_in (drop (i + 1) cs) in
+        let items : items_in (set cs i c) ≡ set (items_in cs) at changed.after =
+        items_set cs i c h
+        ∙ ap (λ (es : List T). l ++ (es ++ r))
+        (changed.items ∙ ap (λ (c : Child T). set c.tree.0 p changed.after) is)
+        ∙ sym (set_between l m r at p changed.after place
+        (omega (arith, inside, ap (λ (c : Child T). length c.tree.0) is)))
+        ∙ ap (λ (es : List T). set es at changed.after) (sym (items_split cs i d h)) in
+        let count : length (items_in (set cs i c)) < 2 ^ 64 = omega (
+          arith,
+          ap (length {A = T}) items,
+          length-set (items_in cs) at changed.after,
+          are.list.room,
+        ) in
+        record {
+          whole = children_set cs i d are h is c child count;
+          changed = record {
+            before = changed.before;
+            after = changed.after;
+            found = item_under ∙ changed.found;
+            called = changed.called;
+            items = items ∙ ap (λ (t : List T × ℕ). set t.0 at changed.after) same;
+          };
+          height = height_set cs i d are h is c child ∙ ap (λ (t : List T × ℕ). t.1) same;
+          refused = tt;
+        }
+    changed_under new (Err e) changed level refused =
+        let c = record d { tree = new } in
+        let old = child_here cs i d are h is in
+        let many : length new.0 ≡ length d.tree.0 = ap (length {A = T}) refused in
+        let child : IsChild (d.tree.1 + 1) c = record {
+          counted = omega (arith, many, old.counted);
+          level = ap (λ (n : ℕ). n + 1) level;
+          wide = subst (λ (n : ℕ). 2 ^ n ≤ length new.0) (sym level) (omega (arith, many, old.wide));
+        } in
+        let done = stands_in cs i d are h is c child refused in
+        record {
+          whole = done.children;
+          changed = tt;
+          height = done.height ∙ ap (λ (t : List T × ℕ). t.1) same;
+          refused = done.items ∙ ap (λ (t : List T × ℕ). t.0) same;
+        }
+
+module _ {T : Type 0} where
+  -- a number without an item is past the end
+  past_end : (xs : List T) (i : ℕ) → slice_get xs i ≡ None → length xs ≤ i
+  past_end [] i h = omega arith
+  past_end (x ∷ xs) zero h = absurd (none-some x (sym h))
+  past_end (x ∷ xs) (suc i) h = omega (arith, past_end xs i h)
+
+  -- a change that always leaves that item writes it, if there is such a number
+  pub written : {F R E : Type 0} (g : Once F (MutBor T × Unit {0}) (R × (MutBor T × Unit {0}))) (change : F)
+      (old new : List T) (at : ℕ) (item : T) (r : Result (Option R) E)
+      → IfOk r (λ a. IfNone a ((slice_get old at ≡ None) × (new ≡ old)))
+      → IfOk r (λ a. IfSome a (ChangesItem g change at old new))
+      → ((before after : T) (a : R) → FnOnceReturnsAtMut g change before a after → after ≡ item)
+      → OnOk r (new ≡ set old at item)
+  written g change old new at item (Ok None) absent changed writes =
+      absent.1 ∙ sym (set_past old at item (past_end old at absent.0))
+  written g change old new at item (Ok (Some a)) absent changed writes =
+      changed.items ∙ ap (set old at) (writes changed.before changed.after a changed.called)
+  written g change old new at item (Err e) absent changed writes = tt

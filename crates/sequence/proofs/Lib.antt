@@ -1,0 +1,15 @@
+pub mod Built
+pub mod Changed
+pub mod Children
+pub mod Copied
+pub mod Halves
+pub mod Joined
+pub mod Pairs
+pub mod Parted
+pub mod Parts
+pub mod Pieces
+pub mod Placed
+pub mod Ranges
+pub mod Spliced
+pub mod Wide
+pub mod Within

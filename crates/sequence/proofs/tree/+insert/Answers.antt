@@ -1,0 +1,104 @@
+-- The tree, its branch and one child of that take the piece in.
+use Rattle.std.proofs.Common.{◌≡◌, ◌+◌, ◌≤◌, ◌<◌, ◌^◌, ap, sym, subst, arith, length, rules, set}
+use Rattle.std.specs.Prelude.{OnOk}
+use Rattle.sequence.specs.Nodes.{items_in}
+use Rattle.sequence.specs.Pieces.{Fits, items_of}
+use Rattle.sequence.specs.Spots.{spliced}
+use Rattle.sequence.proofs.Copied.{made}
+use Rattle.sequence.proofs.Pieces.{counts, fits_under, same_items}
+use Rattle.sequence.proofs.Placed.{child_here, child_within, put_under}
+use Rattle.sequence.proofs.Wide.{height_some}
+use Rattle.sequence.proofs.tree.+insert.Goals as goal
+
+pub Tree::insert-insert_under-requires : goal.Tree::insert-insert_under-requires
+Tree::insert-insert_under-requires g t c κs within =
+    let node = rw c.in-Branch.is at (made c.args.self.now c.self.inside.root c.in_ok-node.node.now c.self.invariant
+    c.self.view_is c.in_ok-node.ensures.value c.requires.copies) in
+    let items = ap (λ t. length t.0) node.same in (
+      omega (arith, c.decreases, ap (λ t. t.1) node.same, height_some c.in-Branch.children.items node.whole),
+      (
+        search rules,
+        (
+          c.requires.copies,
+          (
+            node.whole,
+            (
+              omega (arith, items, c.requires.within),
+              (
+                subst (λ t. Fits c.args.piece c.args.place t) (sym node.same) c.requires.fits,
+                omega (arith, items, c.requires.room),
+              ),
+            ),
+          ),
+        ),
+      ),
+    )
+
+pub insert::insert_under-insert-requires : goal.insert::insert_under-insert-requires
+insert::insert_under-insert-requires g t c κs within =
+    let cs = c.room_under.new.children.items in
+    let spot = c.in_ok-spot.spot in
+    let same = c.in_ok-spot.ensures.same in
+    let leads = c.in_ok-spot.ensures.leads c.args.place (rw c.deref.ensures.value at c.spot_of.ensures) in
+    let d = c.index_mut.result.now in
+    let is = c.index_mut.ensures.value in
+    let more = ap (λ es. length es) (same_items c.args.piece c.in-Ok.piece c.in-Ok.ensures) in (
+      omega (
+        arith,
+        c.decreases,
+        ap (λ child. child.tree.1) is,
+        (same.children.each spot.child d leads.within).level,
+        same.height,
+      ),
+      (
+        search rules,
+        (
+          c.requires.copies,
+          (
+            child_here cs spot.child d same.children leads.within is,
+            (
+              omega (arith, leads.inside d, ap (λ child. length child.tree.0) is),
+              (
+                fits_under c.args.piece c.in-Ok.piece _ cs c.args.place spot d c.in-Ok.ensures c.requires.fits
+                    same.children same.items same.height leads is,
+                omega (
+                  arith,
+                  more,
+                  child_within cs spot.child d same.children leads.within is,
+                  ap (λ es. length es) same.items,
+                  c.requires.room,
+                ),
+              ),
+            ),
+          ),
+        ),
+      ),
+    )
+
+pub insert::insert_under-returns : goal.insert::insert_under-returns
+insert::insert_under-returns g t c =
+    let cs = c.room_under.new.children.items in
+    let old = c.args.children.now.items in
+    let spot = c.in_ok-spot.spot in
+    let leads = c.in_ok-spot.ensures.leads c.args.place (rw c.deref.ensures.value at c.spot_of.ensures) in
+    let d = c.index_mut.result.now in
+    let is = c.index_mut.ensures.value in
+    let new = c.insert.new.self in
+    let of = same_items c.args.piece c.in-Ok.piece c.in-Ok.ensures in
+    let inside : spot.place + 0 ≤ length d.tree.0 =
+    omega (arith, leads.inside d, ap (λ child. length child.tree.0) is) in
+    let room : length (items_in old) + length (items_of c.in-Ok.piece) < 2 ^ 64 + 0 =
+    omega (arith, ap (λ es. length es) of, c.requires.room) in
+    let done = put_under old cs spot.child d new c.in_ok-spot.ensures.same leads.within is c.insert.ensures.child
+    c.args.place spot.place 0 (items_of c.in-Ok.piece) leads.is inside c.insert.result c.insert.ensures.items
+    c.insert.ensures.refused room in
+    record {
+      items = subst (λ es. OnOk c.insert.result
+          (items_in (set cs spot.child new) ≡ spliced c.args.place 0 es (items_in old))) of done.items;
+      height = done.height;
+      children = done.children;
+      refused = done.refused;
+    }
+
+pub Child::insert-len-more-requires : goal.Child::insert-len-more-requires
+Child::insert-len-more-requires g t c = counts c.args.piece c.args.place c.args.self.now.tree c.requires.fits

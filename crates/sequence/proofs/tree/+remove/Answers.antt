@@ -1,0 +1,89 @@
+-- The tree, its branch and one child of that let the item go.
+use Rattle.std.proofs.Common.{◌≡◌, ◌+◌, ◌-◌, ◌≤◌, ◌<◌, ◌^◌, ◌∙◌, [], ap, sym, subst, arith, length, refl, rules, take}
+use Rattle.std.specs.Prelude.{IfOk, Some, slice_get}
+use Rattle.sequence.specs.Nodes.{CanLose, height_in, items_in}
+use Rattle.sequence.proofs.Changed.{item_under}
+use Rattle.sequence.proofs.Copied.{made}
+use Rattle.sequence.proofs.Placed.{child_here, put_under}
+use Rattle.sequence.proofs.Wide.{height_some}
+use Rattle.sequence.proofs.tree.+remove.Goals as goal
+
+pub Tree::remove-remove_under-requires : goal.Tree::remove-remove_under-requires
+Tree::remove-remove_under-requires g t c κs within =
+    let node = rw c.in-Branch.is at (made c.args.self.now c.self.inside.root c.in_ok-node.node.now c.self.invariant
+    c.self.view_is c.in_ok-node.ensures.value c.requires.copies) in (
+      omega (arith, c.decreases, ap (λ t. t.1) node.same, height_some c.in-Branch.children.items node.whole),
+      (
+        search rules,
+        (
+          c.requires.copies,
+          (
+            node.whole,
+            (
+              omega (arith, ap (λ t. length t.0) node.same, c.requires.there),
+              subst (λ t. 2 ^ t.1 ≤ length t.0) (sym node.same) c.requires.wide,
+            ),
+          ),
+        ),
+      ),
+    )
+
+pub remove::remove_under-remove-requires : goal.remove::remove_under-remove-requires
+remove::remove_under-remove-requires g t c κs within =
+    let cs = c.spare_for.new.children.items in
+    let spot = c.in_ok-spot.spot in
+    let same = c.in_ok-spot.ensures.same in
+    let leads = c.in_ok-spot.ensures.leads in
+    let d = c.index_mut.result.now in
+    let is = c.index_mut.ensures.value in (
+      omega (
+        arith,
+        c.decreases,
+        ap (λ child. child.tree.1) is,
+        (same.children.each spot.child d leads.within).level,
+        same.height,
+      ),
+      (
+        search rules,
+        (
+          c.requires.copies,
+          (
+            child_here cs spot.child d same.children leads.within is,
+            (
+              subst (λ child. CanLose child.tree) (sym is) (c.in_ok-spot.ensures.spare d),
+              omega (arith, leads.inside d, leads.inner (omega arith), ap (λ child. length child.tree.0) is),
+            ),
+          ),
+        ),
+      ),
+    )
+
+pub remove::remove_under-returns : goal.remove::remove_under-returns
+remove::remove_under-returns g t c =
+    let cs = c.spare_for.new.children.items in
+    let old = c.args.children.now.items in
+    let at = c.args.index in
+    let spot = c.in_ok-spot.spot in
+    let same = c.in_ok-spot.ensures.same in
+    let leads = c.in_ok-spot.ensures.leads in
+    let d = c.index_mut.result.now in
+    let is = c.index_mut.ensures.value in
+    let inner = leads.inner (omega arith) in
+    let there : spot.place - 1 < length d.tree.0 =
+    omega (arith, leads.inside d, inner, ap (λ child. length child.tree.0) is) in
+    let inside : spot.place - 1 + 1 ≤ length d.tree.0 = omega (arith, there) in
+    let place : at ≡ length (items_in (take spot.child cs)) + (spot.place - 1) = omega (arith, leads.is, inner) in
+    let room : length (items_in old) + 0 < 2 ^ 64 + 1 = omega (arith, c.requires.children.list.room) in
+    let item : slice_get (items_in old) at ≡ slice_get d.tree.0 (spot.place - 1) =
+    ap (λ es. slice_get es at) (sym same.items)
+    ∙ item_under (items_in cs, height_in cs) cs spot.child d same.children refl leads.within is at (spot.place - 1)
+    place there in
+    let done = put_under old cs spot.child d c.remove.new.self same leads.within is c.remove.ensures.child at
+    (spot.place - 1) 1 [] place inside c.remove.result c.remove.ensures.items c.remove.ensures.refused room in
+    record {
+      item = subst (λ o. IfOk c.remove.result (λ item. o ≡ Some item)) (sym item) c.remove.ensures.item;
+      items = done.items;
+      height = done.height;
+      children = done.children;
+      refused = done.refused;
+    }

@@ -1,0 +1,104 @@
+-- The item is changed in the child that has it.
+use Rattle.std.proofs.Common.{◌≡◌, ◌+◌, ◌-◌, ◌<◌, ◌∙◌, ℕ, ap, arith, length, refl, rules, set, sym, take}
+use Rattle.std.specs.Prelude.{IsOk, slice_get}
+use Rattle.std.proofs.lemmas.Option.{slice_get_read}
+use Rattle.sequence.specs.declared.tree.Node.TheVariants.{Branch}
+use Rattle.sequence.specs.Nodes.{items_in}
+use Rattle.sequence.proofs.Changed.{changed_under, item_under}
+use Rattle.sequence.proofs.Copied.{IsMade, made}
+use Rattle.sequence.proofs.tree.Tree.+modify.Given as given
+use Rattle.sequence.proofs.tree.Tree.+modify.Goals as goal
+use Rattle.sequence.proofs.tree.Tree.+modify.Goals.{In-Branch}
+
+-- the branch is whole, and has what the tree has
+branch : (g : given.Over) (t : ℕ) (c : In-Branch g t) → IsMade c.args.self.now (Branch c.in-Branch.children)
+branch g t c =
+    rw c.in-Branch.is at (made c.args.self.now c.self.inside.root c.in_ok-items.field-0.now c.self.invariant
+    c.self.view_is c.in_ok-items.ensures.value c.requires.copies)
+
+pub returns-in-Leaf-clause-changed : goal.returns-in-Leaf-clause-changed
+returns-in-Leaf-clause-changed g t c =
+    let node = rw c.in-Leaf.is at (made c.args.self.now c.self.inside.root c.in_ok-items.field-0.now c.self.invariant
+    c.self.view_is c.in_ok-items.ensures.value c.requires.copies) in
+    let ok : IsOk c.make_mut.result = search rules in
+    let es = c.in-Leaf.items.items in
+    let at = c.args.index in
+    let same = ap (λ t. t.0) node.same in
+    let after = c.change.new.arg2 in
+    rw c.make_mut.follows.holds (record {
+      before = c.index_mut.result.now;
+      after = after;
+      found = ap (λ es. slice_get es at) (sym same)
+          ∙ slice_get_read es (length es) at c.index_mut.result.now refl
+          (omega (arith, ap (λ es. length es) same, c.requires.there)) c.index_mut.ensures.value;
+      called = record { shown = _; shows = refl; left = _; met = c.change.ensures; leaves = refl };
+      items = ap (λ es. set es at after) same;
+    })
+
+pub modify-requires : goal.modify-requires
+modify-requires g t c κs within =
+    let node = branch g t (goal.at.modify-requires g t c).In-Branch in
+    let cs = c.in-Branch.children.items in
+    let spot = c.spot_of-spot.result in
+    let leads = rw c.deref.ensures.value at c.spot_of-spot.ensures in
+    let d = c.index_mut-2.result.now in
+    let is = c.index_mut-2.ensures.value in
+    let inner = leads.inner (omega arith) in
+    let there : spot.place - 1 < length d.tree.0 =
+    omega (arith, leads.inside d, inner, ap (λ child. length child.tree.0) is) in
+    let place : c.args.index ≡ length (items_in (take spot.child cs)) + (spot.place - 1) =
+    omega (arith, leads.is, inner) in
+    let same = item_under c.args.self.now cs spot.child d node.whole node.same leads.within is c.args.index
+    (spot.place - 1) place there in (
+      omega (
+        arith,
+        c.decreases,
+        ap (λ t. t.1) node.same,
+        ap (λ child. child.tree.1) is,
+        (node.whole.each spot.child d leads.within).level,
+      ),
+      (
+        search rules,
+        (
+          search rules,
+          (search rules, (c.requires.copies, (there, λ x e. c.requires.callable x (same ∙ e)))),
+        ),
+      ),
+    )
+
+pub invariant_of-self-2 : goal.invariant_of-self-2
+invariant_of-self-2 g t c =
+    let node = branch g t (goal.at.invariant_of-self-2 g t c).In-Branch in
+    let ok : IsOk c.make_mut.result = search rules in
+    let cs = c.in-Branch.children.items in
+    let spot = c.spot_of-spot.result in
+    let leads = rw c.deref.ensures.value at c.spot_of-spot.ensures in
+    let d = c.index_mut-2.result.now in
+    let is = c.index_mut-2.ensures.value in
+    let inner = leads.inner (omega arith) in
+    let there : spot.place - 1 < length d.tree.0 =
+    omega (arith, leads.inside d, inner, ap (λ child. length child.tree.0) is) in
+    let place : c.args.index ≡ length (items_in (take spot.child cs)) + (spot.place - 1) =
+    omega (arith, leads.is, inner) in
+    rw c.make_mut.follows.holds ((changed_under c.args.self.now cs spot.child d node.whole node.same leads.within is
+    c.args.index (spot.place - 1) place there g.F.FnOnce c.args.change c.modify.new.self c.modify.result
+    c.modify.ensures.changed c.modify.ensures.height c.modify.ensures.refused).whole)
+
+pub returns : goal.returns
+returns g t c =
+    let node = branch g t (goal.at.returns g t c).In-Branch in
+    let ok : IsOk c.make_mut.result = search rules in
+    let cs = c.in-Branch.children.items in
+    let spot = c.spot_of-spot.result in
+    let leads = rw c.deref.ensures.value at c.spot_of-spot.ensures in
+    let d = c.index_mut-2.result.now in
+    let is = c.index_mut-2.ensures.value in
+    let inner = leads.inner (omega arith) in
+    let there : spot.place - 1 < length d.tree.0 =
+    omega (arith, leads.inside d, inner, ap (λ child. length child.tree.0) is) in
+    let place : c.args.index ≡ length (items_in (take spot.child cs)) + (spot.place - 1) =
+    omega (arith, leads.is, inner) in
+    let done = changed_under c.args.self.now cs spot.child d node.whole node.same leads.within is c.args.index
+    (spot.place - 1) place there g.F.FnOnce c.args.change c.modify.new.self c.modify.result c.modify.ensures.changed
+    c.modify.ensures.height c.modify.ensures.refused in
+    rw c.make_mut.follows.holds (record { changed = done.changed; height = done.height; refused = done.refused })

@@ -1,0 +1,14 @@
+use Rattle.std.proofs.Common.{◌≡◌, ◌+◌, ◌<◌}
+use Rattle.sequence.specs.Nodes.{IsNode, seen}
+use Rattle.sequence.proofs.tree.Tree.height.Given as goal
+
+-- the nodes that were passed, and those that are left
+abbrev pub invariant-down : goal.invariant-down
+invariant-down g l = record {
+  whole : IsNode l.node;
+  nodes : l.height + (seen l.node).1 ≡ l.self.1;
+  low : l.self.1 < 65;
+}
+
+abbrev pub decreases-down : goal.decreases-down
+decreases-down g l = (seen l.node).1

@@ -1,0 +1,40 @@
+use Rattle.std.proofs.Common.{◌≡◌, ◌+◌, ◌∙◌, ◌∷◌, ◌++◌, [], ap, arith, length, length-append, reverse, subst, sym}
+use Rattle.sequence.specs.declared.tree.Child.{Child}
+use Rattle.sequence.specs.Nodes.{AreParts, IsChild, seen}
+use Rattle.sequence.proofs.Built.{IsBefore, parts_all, parts_more}
+use Rattle.sequence.proofs.Halves.{child_is}
+use Rattle.sequence.proofs.Wide.{list_node}
+use Rattle.sequence.proofs.tree.build.parts.Goals as goal
+
+pub returns : goal.returns
+returns g c =
+    let tree = seen c.args.node in
+    let here = c.off.invariant in
+    let child : Child g.row.T.Denot = record { len = c.off.len; tree = c.in_ok-tree.tree } in
+    let same : child.tree ≡ seen c.off.node =
+    c.in_ok-tree.ensures ∙ c.fit.ensures.same ∙ rw c.in_default.is at c.in_ok-child.ensures.whole in
+    let level : IsChild (tree.1 + 1) child =
+    subst (λ h. IsChild (h + 1) child) here.height (child_is (seen c.off.node) child same here.len here.wide) in
+    let items : c.reverse.new.self.items ≡ reverse (c.off.children.items ++ child ∷ []) =
+    c.reverse.ensures.items ∙ ap (λ cs. reverse cs) c.in_ok-push-2.ensures.items in
+    subst (AreParts tree) (sym items)
+    (parts_all tree _ (list_node c.args.node c.requires.node)
+    (parts_more _ _ _ [] c.off.children.items child here.before level (ap (λ t. t.0) same)))
+
+pub off-preserved : goal.off-preserved
+off-preserved g c =
+    let tree = seen c.args.node in
+    let before = c.off.invariant in
+    let half = c.in-Some.child in
+    let halves = rw c.in-Some.is at c.in_ok-child.ensures.halves in
+    let level : IsChild (tree.1 + 1) half = subst (λ n. IsChild (n + 1) half) before.height halves.child in
+    let lengths = ap (λ es. length es) halves.items in
+    let more = length-append (seen c.halve.new.self).0 half.tree.0 in
+    record {
+      node = c.in_ok-child.ensures.node;
+      height = halves.height ∙ before.height;
+      wide = omega (arith, halves.spare.0);
+      len = omega (arith, before.len, halves.child.counted, lengths, more);
+      before = subst (IsBefore (tree.1 + 1) tree.0 (seen c.halve.new.self).0) (sym c.in_ok-push.ensures.items)
+          (parts_more _ _ _ _ c.off.children.items half before.before level halves.items);
+    }

@@ -1,0 +1,43 @@
+use Rattle.std.proofs.Common.{◌+◌, ◌∙◌, ap, set, subst, sym}
+use Rattle.std.specs.List.{insert}
+use Rattle.sequence.specs.Nodes.{StandFor}
+use Rattle.sequence.proofs.Joined.{IsJoined, back, joined_is, pair_are, taken}
+use Rattle.sequence.proofs.Placed.{stand_itself}
+use Rattle.sequence.proofs.tree.join.join.Goals as goal
+
+pub join-requires-clause-children : goal.join-requires-clause-children
+join-requires-clause-children g c =
+    let cs = c.args.children.now.items in
+    let at = c.args.at in
+    let two = taken cs _ _ at c.index_mut.result.now c.remove-next.result c.requires.within
+    c.in_ok-reserve.ensures.items c.remove-next.ensures.items c.index_mut.ensures.value c.remove-next.ensures.value in
+    pair_are cs at _ _ c.requires.children c.requires.within two.first two.second
+
+pub returns-in_default : goal.returns-in_default
+returns-in_default g c =
+    let cs = c.args.children.now.items in
+    let at = c.args.at in
+    let d = c.index_mut.result.now in
+    let e = c.remove-next.result in
+    let new = c.join.new.self in
+    let within = c.requires.within in
+    let are = c.requires.children in
+    let one = c.in_default.ensures in
+    let two = taken cs _ _ at d e within c.in_ok-reserve.ensures.items c.remove-next.ensures.items
+    c.index_mut.ensures.value c.remove-next.ensures.value in
+    let done = subst (λ xs. IsJoined cs at d e are within two.first two.second new one.child one.joined (set xs at new))
+    (sym two.left) (joined_is cs at d e are within two.first two.second new one.child one.joined) in
+    record { same = done.same; first = done.first; second = done.second; spare = done.spare }
+
+pub returns-clause-same : goal.returns-clause-same
+returns-clause-same g c =
+    let cs = c.args.children.now.items in
+    let at = c.args.at in
+    let d = c.index_mut.result.now in
+    let e = c.remove-next.result in
+    let two = taken cs _ _ at d e c.requires.within c.in_ok-reserve.ensures.items c.remove-next.ensures.items
+    c.index_mut.ensures.value c.remove-next.ensures.value in
+    let same = c.in-Ok.ensures.items ∙ ap (λ xs. insert (set xs at c.join.new.self) (at + 1) c.in-Err.next) two.left
+    ∙ back cs at d e c.join.new.self c.in-Err.next c.requires.within (c.in-Err.ensures.same ∙ two.first)
+    (c.in-Err.ensures.refused ∙ two.second) in
+    subst (StandFor cs) (sym same) (stand_itself cs c.requires.children)

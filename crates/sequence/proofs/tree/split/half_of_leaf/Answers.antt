@@ -1,0 +1,28 @@
+use Rattle.std.proofs.Common.{◌≡◌, ◌∙◌, ap, arith, drop, length, subst, sym}
+use Rattle.sequence.specs.declared.tree.Child.{Child}
+use Rattle.sequence.specs.Nodes.{AreHalves, IsList, seen}
+use Rattle.sequence.proofs.Halves.{leaves_are, list_drop, list_take}
+use Rattle.sequence.proofs.tree.split.half_of_leaf.Goals as goal
+
+pub invariant_of-result : goal.invariant_of-result
+invariant_of-result g c =
+    let es = c.args.items.now.items in
+    let n = c.args.keep in
+    rw c.shareable.ensures (rw c.write.ensures (subst IsList (sym c.in_ok-tail.ensures.tail)
+    (list_drop es n c.requires.list (omega (arith, c.requires.high)))))
+
+pub returns : goal.returns
+returns g c =
+    let es = c.args.items.now.items in
+    let n = c.args.keep in
+    let tail = c.in_ok-tail.ensures.tail in
+    let len : c.len.result ≡ length (drop n es) = omega (arith, c.len.ensures, ap (λ xs. length xs) tail) in
+    let is = ap (λ node. seen node) (c.shareable.ensures ∙ c.write.ensures) ∙ ap (λ xs. (xs, 0)) tail in
+    let right : Child g.row.T.Denot = record { len = c.len.result; tree = seen c.shareable.result } in
+    record {
+      list = subst IsList (sym c.in_ok-tail.ensures.items)
+          (list_take es n c.requires.list (omega (arith, c.requires.low)) (omega (arith, c.requires.high)));
+      halves = subst (λ xs. AreHalves (es, 0) (xs, 0) right) (sym c.in_ok-tail.ensures.items)
+          (leaves_are es n right c.requires.low c.requires.high len is);
+      refused = tt;
+    }

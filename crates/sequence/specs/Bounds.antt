@@ -1,0 +1,19 @@
+-- Which items of a list lie within two bounds on their numbers.
+use Rattle.std.specs.Prelude.{ℕ, ◌+◌, List, length, slice_range}
+use Rattle.std.specs.declared.ops.Bound.{Bound}
+use Rattle.std.specs.declared.ops.Bound.TheVariants.{Included, Excluded, Unbounded}
+
+-- the first number from the start on
+abbrev pub start_of : Bound ℕ → ℕ
+start_of (Included number) = number
+start_of (Excluded number) = number + 1
+start_of Unbounded = 0
+
+-- the first number past the end, among so many
+abbrev pub end_of : Bound ℕ → ℕ → ℕ
+end_of (Included number) len = number + 1
+end_of (Excluded number) len = number
+end_of Unbounded len = len
+
+abbrev pub items_within : {T : Type 0} → Bound ℕ → Bound ℕ → List T → List T
+items_within start end es = slice_range es (start_of start) (end_of end (length es))

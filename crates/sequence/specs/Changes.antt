@@ -1,0 +1,13 @@
+-- What a closure did to one item of a list.
+use Rattle.std.specs.Prelude.{◌≡◌, ℕ, List, Some, slice_get, slice_set}
+use Rattle.std.specs.Borrow.{MutBor}
+use Rattle.std.specs.Fn.{Once, FnOnceReturnsAtMut}
+
+-- its call on the item of that number gave r, and the list has there what that call left
+pub record ChangesItem {F T R : Type 0} (g : Once F (MutBor T × Unit {0}) (R × (MutBor T × Unit {0}))) (change : F)
+    (at : ℕ) (old new : List T) (r : R) : Type 0 where
+  pub before : T
+  pub after : T
+  pub found : slice_get old at ≡ Some before
+  pub called : FnOnceReturnsAtMut g change before r after
+  pub items : new ≡ slice_set old at after

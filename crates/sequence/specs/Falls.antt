@@ -1,0 +1,15 @@
+-- A tree is higher than those under it.
+use Rattle.std.specs.Prelude.{◌+◌, ◌≤◌}
+use Rattle.std.proofs.Common.{arith}
+use denote.Param.Weighed.{most}
+use Rattle.sequence.specs.declared.tree.Node.{Node}
+use Rattle.sequence.specs.declared.tree.Node.TheVariants.{Leaf, Branch}
+use Rattle.sequence.specs.declared.tree.Tree.TheDeep.{deep-Tree}
+use Rattle.sequence.specs.Nodes.{seen}
+
+pub falls : {T : Type 0} (root : Node T) → deep-Tree T (record { root = root }) ≤ (seen root).1
+falls (Leaf items) = omega arith
+falls {T} (Branch children) =
+    let highest : deep-Tree T (record { root = Branch children }) ≤ most (λ c. c.tree.1 + 1) children.items =
+    grind arith in
+    omega arith

@@ -1,0 +1,21 @@
+-- A place among the items under the children of a branch.
+use Rattle.std.specs.Prelude.{◌≡◌, ℕ, ◌+◌, ◌-◌, ◌<◌, ◌≤◌, List, ◌++◌, cond, length, nat_le, take, drop, slice_index_or}
+use Rattle.sequence.specs.declared.tree.Child.{Child}
+use Rattle.sequence.specs.declared.tree.search.Spot.{Spot}
+use Rattle.sequence.specs.Nodes.{items_in}
+
+-- a list with these items in place of so many from there on
+abbrev pub spliced : {T : Type 0} → ℕ → ℕ → List T → List T → List T
+spliced at gone more es = take at es ++ (more ++ drop (at + gone) es)
+
+-- the place of all the items is that place of that child, and is before all of it only if it is before all items
+pub record Leads {T : Type 0} (cs : List (Child T)) (place : ℕ) (spot : Spot) : Type 0 where
+  pub within : spot.child < length cs
+  pub inside : (d : Child T) → spot.place ≤ length (slice_index_or cs spot.child d).tree.0
+  pub is : place ≡ length (items_in (take spot.child cs)) + spot.place
+  pub inner : 0 < place → 0 < spot.place
+
+-- the same spot once only so many items are left under its child, and the rest under the next
+abbrev pub past : ℕ → Spot → Spot
+past left spot =
+    cond (nat_le spot.place left) spot (record { child = spot.child + 1; place = spot.place - left })

@@ -1,0 +1,81 @@
+//! What a list has by its items: equality, order, a hash, a text and a default.
+ghost use Rattle.std.specs.Prelude.{◌≡◌, []};
+ghost use Rattle.std.specs.Cmp.Lexicographic.{lists_agrees, lists_equiv, lists_per, lists_po, lists_ties, lists_total};
+ghost use Rattle.std.specs.Cmp.Lexicographic.{pointwise, slice_cmp, slice_partial_cmp};
+ghost use Rattle.std.specs.Hash.{items_Alike, slice};
+
+use crate::sequence::Sequence;
+use std::cmp::Ordering;
+use std::fmt;
+use std::fmt::{Debug, Formatter, Write};
+use std::hash::{Hash, Hasher};
+
+/// Asks the items, also if both versions share their nodes.
+impl<T: PartialEq> PartialEq for Sequence<T> {
+    ghost eq = { pointwise T.eq };
+
+    ghost laws = { lists_per T.laws };
+
+    fn eq(&self, other: &Sequence<T>) -> bool {
+        self.len() == other.len() && self.into_iter().eq(other)
+    }
+}
+
+impl<T: Eq> Eq for Sequence<T> {
+    ghost laws = { lists_equiv T.Eq.laws };
+}
+
+/// As a slice of the items: the first two that differ decide, and else the lengths.
+impl<T: PartialOrd> PartialOrd for Sequence<T> {
+    ghost partial_cmp = { slice_partial_cmp T.partial_cmp };
+
+    ghost laws = { lists_po T.PartialOrd.laws };
+
+    fn partial_cmp(&self, other: &Sequence<T>) -> Option<Ordering> {
+        self.into_iter().partial_cmp(other)
+    }
+}
+
+impl<T: Ord> Ord for Sequence<T> {
+    ghost cmp = { slice_cmp T.cmp };
+
+    ghost total = { lists_total T.total };
+
+    ghost matches_partial_cmp = { lists_agrees T.matches_partial_cmp };
+
+    ghost matches_eq = { lists_ties T.cmp T.matches_eq };
+
+    fn cmp(&self, other: &Sequence<T>) -> Ordering {
+        self.into_iter().cmp(other)
+    }
+}
+
+/// As a slice of the items.
+impl<T: Hash> Hash for Sequence<T> {
+    ghost hash_input = { slice T.hash_input };
+
+    ghost respects_eq = { (items_Alike (record { fed = T.respects_eq })).fed };
+
+    fn hash<H: Hasher>(&self, state: &mut H) {
+        state.write_usize(self.len());
+        for item in self {
+            item.hash(state);
+        }
+    }
+}
+
+/// As a list of the items.
+impl<T: Debug> Debug for Sequence<T> {
+    fn fmt<W: Write>(&self, f: &mut Formatter<W>) -> fmt::Result {
+        f.debug_list().entries(self).finish()
+    }
+}
+
+/// The empty list.
+impl<T> Default for Sequence<T> {
+    ghost is_default = { λ list. list ≡ [] };
+
+    fn default() -> Sequence<T> {
+        Sequence::new()
+    }
+}

@@ -1,0 +1,244 @@
+//! A list by number, whose versions share their nodes.
+ghost use Rattle.std.specs.Prelude.{◌≡◌, ◌+◌, ◌-◌, ◌^◌, ◌<◌, ◌≤◌, ◌↔◌, ◌∷◌, [], Err, IfOk, IfSome, IfNone, IsOk};
+ghost use Rattle.std.specs.Prelude.{IsTrue, None, OnErr, OnOk, length, slice_get, slice_set};
+ghost use Rattle.std.specs.Fn.{FnOnceTakesAtMut};
+ghost use Rattle.std.specs.List.{insert, remove};
+ghost use Rattle.std.specs.Option.{ForSome, option_copied};
+ghost use Rattle.servo_arc.specs.Copies.{CopiesAreEqual};
+ghost use Rattle.sequence.specs.Changes.{ChangesItem};
+
+mod ends;
+mod parts;
+mod range;
+
+use crate::error::InsertError;
+use crate::tree::Tree;
+use crate::tree::insert::Piece;
+use std::alloc::{AllocError, Global};
+use std::marker::Model;
+use std::mem;
+
+/// A list by number. Its clones are versions of it, which share all that no change has touched: what is changed in one
+/// of them is seen in no other.
+///
+/// Its drop is as many drops one inside the other as the nodes are deep: at most 65.
+#[derive(Drop)]
+pub struct Sequence<T> {
+    pub(crate) root: Option<Tree<T>>,
+    len: usize,
+}
+
+impl<T> Model for Sequence<T> {
+    ghost use Rattle.std.specs.Prelude.{◌≡◌, List, length};
+
+    ghost Value = { List T };
+
+    ghost use Rattle.sequence.specs.Nodes.{items_under};
+
+    ghost view = { λ s. items_under s.root };
+
+    ghost invariant = { λ s. s.len ≡ length (items_under s.root) };
+}
+
+/// One more version: one raise of a count, with no copy and no memory. It is refused as the `clone` of an `Arc` is.
+impl<T: Drop> Clone for Sequence<T> {
+    ghost is_clone = { λ a b. b ≡ a };
+
+    fn clone(&self) -> Result<Sequence<T>, AllocError> {
+        let root = match &self.root {
+            None => None,
+            Some(tree) => Some(tree.clone()?),
+        };
+        Ok(Sequence {
+            root,
+            len: self.len,
+        })
+    }
+}
+
+impl<T> Sequence<T> {
+    /// The empty list, which takes no memory.
+    pub fn new() -> Sequence<T>
+        ensures { result ≡ [] }
+    {
+        Sequence { root: None, len: 0 }
+    }
+
+    /// The number of items, in O(1).
+    pub fn len(&self) -> usize
+        ensures count { result ≡ length self.now }
+        ensures fits { length self.now < 2 ^ 64 }
+    {
+        self.len
+    }
+
+    /// Whether there are no items.
+    pub fn is_empty(&self) -> bool
+        ensures { IsTrue result ↔ (self.now ≡ []) }
+    {
+        self.len() == 0
+    }
+
+    /// The item of that number, counted from 0, by one way down.
+    pub fn get(&self, index: usize) -> Option<&T>
+        ensures { option_copied result ≡ slice_get self.now index }
+    {
+        match &self.root {
+            Some(tree) if index < self.len => Some(tree.item(index)),
+            _ => None,
+        }
+    }
+
+    /// The first item.
+    pub fn first(&self) -> Option<&T>
+        ensures { option_copied result ≡ slice_get self.now 0 }
+    {
+        self.get(0)
+    }
+
+    /// The last item.
+    pub fn last(&self) -> Option<&T>
+        ensures { option_copied result ≡ slice_get self.now (length self.now - 1) }
+    {
+        self.get(self.len().checked_sub(1)?)
+    }
+
+    /// Whether both have the same first node, as exactly as `Arc::ptr_eq` says it. Empty lists have none.
+    pub fn ptr_eq(this: &Sequence<T>, other: &Sequence<T>) -> bool
+        ensures { IsTrue result → (0 < length this.now) × (0 < length other.now) }
+    {
+        match (&this.root, &other.root) {
+            // Trees of two lengths are two: that takes no step on their counts.
+            (Some(tree), Some(same)) => this.len == other.len && tree.is_at(same),
+            _ => false,
+        }
+    }
+}
+
+impl<T: Drop> Sequence<T> {
+    /// The list of these items, which are moved into full nodes, in O(n).
+    pub fn from_items(alloc: Global, items: Vec<T>) -> Result<Sequence<T>, AllocError>
+        ensures { IfOk result (λ list. list ≡ items.items) }
+    {
+        if items.is_empty() {
+            return Ok(Sequence::new());
+        }
+        let len = items.len();
+        let root = Some(Tree::of_items(alloc, items)?);
+        Ok(Sequence { root, len })
+    }
+}
+
+impl<T: Clone> Sequence<T> {
+    /// Puts the item in before that of the number, or behind all if the number is how many there are.
+    ///
+    /// It writes in place, but copies each node on the way that other versions have. A full node on the way becomes two
+    /// before, by moves. A number above that is refused before all else.
+    pub fn insert(&mut self, alloc: Global, index: usize, item: T) -> Result<(), InsertError>
+        requires copies { CopiesAreEqual T.is_clone }
+        ensures items { OnOk result (self.new ≡ insert self.old index item) }
+        ensures no_place { (result ≡ Err InsertError.NoPlace) ↔ (length self.old < index) }
+        ensures refused { OnErr result (self.new ≡ self.old) }
+    {
+        if index > self.len() {
+            return Err(InsertError::NoPlace);
+        }
+        self.put(alloc, index, item)?;
+        Ok(())
+    }
+
+    // The same of a number that is not above.
+    fn put(&mut self, alloc: Global, index: usize, item: T) -> Result<(), AllocError>
+        requires copies { CopiesAreEqual T.is_clone }
+        requires within { index ≤ length self.old }
+        ensures items { OnOk result (self.new ≡ insert self.old index item) }
+        ensures refused { OnErr result (self.new ≡ self.old) }
+    {
+        if self.len == usize::MAX {
+            return Err(AllocError);
+        }
+        match &mut self.root {
+            None => {
+                self.root = Some(Tree::of_one(alloc, item)?);
+                self.len = 1;
+                Ok(())
+            }
+            Some(tree) => {
+                tree.grow(alloc, self.len)?;
+                tree.insert(alloc, index, Piece::Item(item))?;
+                self.len += 1;
+                Ok(())
+            }
+        }
+    }
+
+    /// Takes the item of that number out and gives it, if there is one.
+    ///
+    /// It writes in place and copies as `insert` does. A node on the way with few items is joined with the one beside
+    /// it before, by moves. It is refused if there is no memory, or if the `clone` of an item or of a handle is. If
+    /// there is no such item, nothing is copied or refused.
+    pub fn remove(&mut self, alloc: Global, index: usize) -> Result<Option<T>, AllocError>
+        requires copies { CopiesAreEqual T.is_clone }
+        ensures item { IfOk result (λ item. item ≡ slice_get self.old index) }
+        ensures items { OnOk result (self.new ≡ remove self.old index) }
+        ensures none { length self.old ≤ index → IsOk result }
+        ensures refused { OnErr result (self.new ≡ self.old) }
+    {
+        if index >= self.len {
+            return Ok(None);
+        }
+        let Some(tree) = &mut self.root else {
+            return Ok(None);
+        };
+        tree.shrink()?;
+        if self.len == 1 {
+            let item = Tree::take_only(&mut self.root, alloc)?;
+            self.len = 0;
+            return Ok(Some(item));
+        }
+        let item = tree.remove(alloc, index)?;
+        self.len -= 1;
+        Ok(Some(item))
+    }
+
+    /// Changes the item of that number, if there is one, and gives what the change answered.
+    ///
+    /// It writes in place, but copies each node on the way that other versions have, and is refused as `remove` is. The
+    /// change is then not called. It is not called either if there is no such item: then nothing is copied or refused.
+    pub fn modify<R, F: FnOnce(&mut T) -> R>(
+        &mut self,
+        alloc: Global,
+        index: usize,
+        change: F,
+    ) -> Result<Option<R>, AllocError>
+        requires copies { CopiesAreEqual T.is_clone }
+        requires callable { ForSome (slice_get self.old index) (FnOnceTakesAtMut F.FnOnce change) }
+        ensures absent { IfOk result (λ answer. IfNone answer
+            ((slice_get self.old index ≡ None) × (self.new ≡ self.old))) }
+        ensures changed { IfOk result (λ answer. IfSome answer
+            (ChangesItem F.FnOnce change index self.old self.new)) }
+        ensures none { length self.old ≤ index → IsOk result }
+        ensures refused { OnErr result (self.new ≡ self.old) }
+    {
+        match &mut self.root {
+            Some(tree) if index < self.len => {
+                let answer = tree.modify(alloc, index, change)?;
+                Ok(Some(answer))
+            }
+            _ => Ok(None),
+        }
+    }
+
+    /// Puts the item in place of that of the number, which it gives, if there is one. Else the item is dropped.
+    ///
+    /// It copies and is refused as `modify` is.
+    pub fn set(&mut self, alloc: Global, index: usize, item: T) -> Result<Option<T>, AllocError>
+        requires copies { CopiesAreEqual T.is_clone }
+        ensures item { IfOk result (λ old. old ≡ slice_get self.old index) }
+        ensures items { OnOk result (self.new ≡ slice_set self.old index item) }
+        ensures none { length self.old ≤ index → IsOk result }
+        ensures refused { OnErr result (self.new ≡ self.old) }
+    {
+        self.modify(alloc, index, |old| mem::replace(old, item))
+    }
+}

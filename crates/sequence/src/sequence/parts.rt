@@ -1,0 +1,131 @@
+//! Two lists out of one, and one out of two.
+ghost use Rattle.std.specs.Prelude.{◌≡◌, ◌++◌, ◌^◌, ◌<◌, ◌≤◌, ◌↔◌, IfOk, IfSome, None, Ok, OnErr, OnOk};
+ghost use Rattle.std.specs.Prelude.{drop, length, take};
+ghost use Rattle.servo_arc.specs.Copies.{CopiesAreEqual};
+ghost use Rattle.sequence.specs.Nodes.{AreLevel, items_in};
+
+use crate::sequence::Sequence;
+use crate::tree::copies::{BRANCH, LEAF, copies};
+use crate::tree::search::{count, spot_of};
+use crate::tree::{Child, Node, Tree};
+use std::alloc::{AllocError, Global};
+
+impl<T: Clone> Sequence<T> {
+    /// Puts the items of the other list behind those of this one.
+    ///
+    /// The lower of the two trees becomes a child of the other. It writes in place, and copies as `insert` does, only
+    /// nodes on the way to where they meet. It is refused as `insert` is, and for more than `usize::MAX` items. The
+    /// other list is then dropped.
+    pub fn append(&mut self, alloc: Global, other: Sequence<T>) -> Result<(), AllocError>
+        requires { CopiesAreEqual T.is_clone }
+        ensures items { OnOk result (self.new ≡ self.old ++ other) }
+        ensures refused { OnErr result (self.new ≡ self.old) }
+    {
+        let Sequence { root, len: more } = other;
+        let Some(tree) = root else {
+            return Ok(());
+        };
+        let Some(mine) = &mut self.root else {
+            self.root = Some(tree);
+            self.len = more;
+            return Ok(());
+        };
+        let len = self.len.checked_add(more).ok_or(AllocError)?;
+        mine.append(alloc, self.len, tree, more)?;
+        self.len = len;
+        Ok(())
+    }
+
+    /// Takes the items from that number on out, into another list. There is none if the number is above that of the
+    /// items; then nothing is copied or refused.
+    ///
+    /// Both lists are made anew along the cut and share all other nodes with this one: of each node there they copy the
+    /// handles of its children, and of one leaf the items.
+    pub fn split_off(&mut self, alloc: Global, at: usize) -> Result<Option<Sequence<T>>, AllocError>
+        requires { CopiesAreEqual T.is_clone }
+        ensures out { IfOk result (λ out. IfSome out (λ out. out ≡ drop at self.old)) }
+        ensures none { (result ≡ Ok None) ↔ (length self.old < at) }
+        ensures rest { OnOk result (self.new ≡ take at self.old) }
+        ensures refused { OnErr result (self.new ≡ self.old) }
+    {
+        if at > self.len() {
+            return Ok(None);
+        }
+        let Some(tree) = &self.root else {
+            return Ok(Some(Sequence::new()));
+        };
+        let back = tree.back(alloc, at)?;
+        let front = tree.front(alloc, at)?;
+        *self = front;
+        Ok(Some(back))
+    }
+
+    // The list of copies of these items, which are few enough for a leaf.
+    fn of_leaf(alloc: Global, items: &[T]) -> Result<Sequence<T>, AllocError>
+        requires { CopiesAreEqual T.is_clone }
+        ensures { IfOk result (λ list. list ≡ items.now) }
+    {
+        let len = items.len();
+        if len == 0 {
+            return Ok(Sequence::new());
+        }
+        let node = Node::Leaf(copies(alloc, items, LEAF)?);
+        let root = Some(Tree::of(alloc, node)?);
+        Ok(Sequence { root, len })
+    }
+
+    // The list of the items under these children.
+    fn of_children(alloc: Global, children: &[Child<T>]) -> Result<Sequence<T>, AllocError>
+        requires level { AreLevel children.now }
+        requires room { length (items_in children.now) < 2 ^ 64 }
+        ensures { IfOk result (λ list. list ≡ items_in children.now) }
+    {
+        let tree = match children.first() {
+            None => return Ok(Sequence::new()),
+            Some(only) if children.len() == 1 => only.tree.clone()?,
+            Some(_) => Tree::of(alloc, Node::Branch(copies(alloc, children, BRANCH)?))?,
+        };
+        let len = count(children);
+        let root = Some(tree);
+        Ok(Sequence { root, len })
+    }
+}
+
+impl<T: Clone> Tree<T> {
+    // The list of so many of the first items.
+    fn front(&self, alloc: Global, at: usize) -> Result<Sequence<T>, AllocError>
+        requires copies { CopiesAreEqual T.is_clone }
+        requires within { at ≤ length self.now.0 }
+        ensures { IfOk result (λ list. list ≡ take at self.now.0) }
+    {
+        match self.node() {
+            Node::Leaf(items) => Sequence::of_leaf(alloc, &items[..at]),
+            Node::Branch(children) => {
+                let spot = spot_of(children, at);
+                let mut front = Sequence::of_children(alloc, &children[..spot.child])?;
+                front.append(alloc, children[spot.child].tree.front(alloc, spot.place)?)?;
+                Ok(front)
+            }
+        }
+    }
+
+    // The list of all items but so many of the first.
+    fn back(&self, alloc: Global, at: usize) -> Result<Sequence<T>, AllocError>
+        requires copies { CopiesAreEqual T.is_clone }
+        requires within { at ≤ length self.now.0 }
+        ensures { IfOk result (λ list. list ≡ drop at self.now.0) }
+    {
+        match self.node() {
+            Node::Leaf(items) => Sequence::of_leaf(alloc, &items[at..]),
+            Node::Branch(children) => {
+                let spot = spot_of(children, at);
+                let mut back = children[spot.child].tree.back(alloc, spot.place)?;
+                back.append(
+                    alloc,
+                    Sequence::of_children(alloc, &children[spot.child + 1..])?,
+                )?;
+                Ok(back)
+            }
+        }
+    }
+}

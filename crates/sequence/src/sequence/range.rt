@@ -1,0 +1,47 @@
+//! The items of a list whose numbers lie within bounds.
+ghost use Rattle.std.specs.Prelude.{◌≡◌, min};
+ghost use Rattle.std.specs.Range.Bound.{bound_map};
+ghost use Rattle.sequence.specs.Bounds.{items_within, end_of, start_of};
+
+use crate::iter::Iter;
+use crate::sequence::Sequence;
+use std::ops::{Bound, RangeBounds};
+
+impl<T> Sequence<T> {
+    /// An iterator over the items whose numbers are in the range, as far as there are such items. There are none if the
+    /// range ends before it starts.
+    #[tactic(auto, using(crate::proofs::Within::within))]
+    pub fn range<R: RangeBounds<usize>>(&self, numbers: R) -> Iter<'_, T>
+        ensures { R.has_bounds numbers
+            → result ≡ items_within (R.start_bound numbers) (R.end_bound numbers) self.now }
+    {
+        let len = self.len();
+        let from = first_within(numbers.start_bound(), len);
+        let to = past_within(numbers.end_bound(), len).max(from);
+        Iter::between(self.root.as_ref(), from, to)
+    }
+}
+
+// The first number from the start on, but no more than that.
+fn first_within(start: Bound<&usize>, len: usize) -> usize
+    ensures { result ≡ min (start_of (bound_map (λ number. number.now) start.entry)) len }
+{
+    match start {
+        Bound::Included(number) => len.min(*number),
+        Bound::Excluded(number) if *number < len => *number + 1,
+        Bound::Excluded(_) => len,
+        Bound::Unbounded => 0,
+    }
+}
+
+// The first number past the end, but no more than that.
+fn past_within(end: Bound<&usize>, len: usize) -> usize
+    ensures { result ≡ min (end_of (bound_map (λ number. number.now) end.entry) len) len }
+{
+    match end {
+        Bound::Included(number) if *number < len => *number + 1,
+        Bound::Included(_) => len,
+        Bound::Excluded(number) => len.min(*number),
+        Bound::Unbounded => len,
+    }
+}

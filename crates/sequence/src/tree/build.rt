@@ -1,0 +1,69 @@
+//! How a tree is made of items: a node with all of them becomes a branch over parts of it, until it has no more than a
+//! node may.
+ghost use Rattle.std.specs.Prelude.{◌≡◌, ◌≤◌, ◌^◌, ◌∷◌, [], IfOk, length};
+ghost use Rattle.sequence.specs.Nodes.{AreParts, IsList, IsNode, seen};
+
+use crate::tree::copies::LEAF;
+use crate::tree::{Child, Node, Tree};
+use std::alloc::{AllocError, Global};
+
+impl<T: Drop> Tree<T> {
+    // A tree of one item.
+    pub(crate) fn of_one(alloc: Global, item: T) -> Result<Tree<T>, AllocError>
+        ensures { IfOk result (λ tree. tree ≡ (item ∷ [], 0)) }
+    {
+        let mut items = Vec::with_capacity(alloc, LEAF)?;
+        items.push(item)?;
+        Tree::of(alloc, Node::Leaf(items))
+    }
+
+    // A tree of these items. All its nodes are full, but for the first two of each height.
+    pub(crate) fn of_items(alloc: Global, items: Vec<T>) -> Result<Tree<T>, AllocError>
+        requires { IsList items.items }
+        ensures { IfOk result (λ tree. tree.0 ≡ items.items) }
+    {
+        let len = items.len();
+        let mut node = Node::Leaf(items);
+        'up: while node.is_full() {
+            node = Node::Branch(parts(alloc, node, len)?);
+        }
+        Tree::of(alloc, node)
+    }
+}
+
+// The children that a node with that many items becomes, none of which is fuller than a node may be.
+fn parts<T: Drop>(
+    alloc: Global,
+    mut node: Node<T>,
+    mut len: usize,
+) -> Result<Vec<Child<T>>, AllocError>
+    requires node { IsNode node }
+    requires len { len ≡ length (seen node).0 }
+    requires wide { 2 ^ (seen node).1 ≤ length (seen node).0 }
+    ensures { IfOk result (λ children. AreParts (seen node) children.items) }
+{
+    let mut children = Vec::new(alloc);
+    'off: while let Some(child) = node.halve(alloc, false)? {
+        len -= child.len;
+        children.push(child)?;
+    }
+    node.fit();
+    let tree = Tree::of(alloc, node)?;
+    children.push(Child { len, tree })?;
+    children.reverse();
+    Ok(children)
+}
+
+impl<T> Node<T> {
+    // Gives back what room it has beyond its items.
+    fn fit(&mut self)
+        requires { IsNode self.old }
+        ensures node { IsNode self.new }
+        ensures same { seen self.new ≡ seen self.old }
+    {
+        match self {
+            Node::Leaf(items) => items.shrink_to_fit(),
+            Node::Branch(children) => children.shrink_to_fit(),
+        }
+    }
+}

@@ -1,0 +1,55 @@
+//! How a node is copied. A copy has room for as many items as a node may have.
+ghost use Rattle.std.specs.Prelude.{◌≡◌, IfOk};
+ghost use Rattle.servo_arc.specs.Copies.{CopiesAreEqual};
+ghost use Rattle.sequence.specs.Nodes.{IsCopy};
+
+use crate::tree::{Child, Node};
+use std::alloc::{AllocError, Global};
+
+/// The most items of a leaf.
+pub(crate) const LEAF: usize = 64;
+/// The most children of a branch.
+pub(crate) const BRANCH: usize = 16;
+
+// Copies of the items, in a vector with that much room.
+pub(crate) fn copies<T: Clone>(
+    alloc: Global,
+    items: &[T],
+    room: usize,
+) -> Result<Vec<T>, AllocError>
+    ensures { IfOk result (λ copy. CopiesAreEqual T.is_clone → copy.items ≡ items.now) }
+{
+    let mut copy = Vec::with_capacity(alloc, room)?;
+    for item in items {
+        copy.push(item.clone()?)?;
+    }
+    Ok(copy)
+}
+
+impl<T: Drop> Clone for Child<T> {
+    ghost is_clone = { λ a b. b ≡ a };
+
+    fn clone(&self) -> Result<Child<T>, AllocError> {
+        Ok(Child {
+            len: self.len,
+            tree: self.tree.clone()?,
+        })
+    }
+}
+
+impl<T: Clone> Clone for Node<T> {
+    ghost is_clone = { λ a b. CopiesAreEqual T.is_clone → IsCopy a b };
+
+    fn clone(&self) -> Result<Node<T>, AllocError> {
+        match self {
+            Node::Leaf(items) => {
+                let alloc = *items.allocator();
+                Ok(Node::Leaf(copies(alloc, items, LEAF)?))
+            }
+            Node::Branch(children) => {
+                let alloc = *children.allocator();
+                Ok(Node::Branch(copies(alloc, children, BRANCH)?))
+            }
+        }
+    }
+}

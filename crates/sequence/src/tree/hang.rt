@@ -1,0 +1,79 @@
+//! How two trees become one: the lower one becomes a child of the higher one, on its own level.
+ghost use Rattle.std.specs.Prelude.{◌≡◌, ◌+◌, ◌<◌, ◌≤◌, ◌^◌, ◌++◌, ◌⊎◌, OnOk, OnErr, length};
+ghost use Rattle.servo_arc.specs.Copies.{CopiesAreEqual};
+ghost use Rattle.sequence.specs.Nodes.{IsChild};
+ghost use Rattle.sequence.specs.Spots.{spliced};
+
+use crate::tree::insert::Piece;
+use crate::tree::{Child, Tree};
+use std::alloc::{AllocError, Global};
+
+impl<T: Clone> Tree<T> {
+    // Puts the items of the other tree behind those of this one. The numbers say how many each has.
+    pub(crate) fn append(
+        &mut self,
+        alloc: Global,
+        len: usize,
+        mut other: Tree<T>,
+        more: usize,
+    ) -> Result<(), AllocError>
+        requires copies { CopiesAreEqual T.is_clone }
+        requires len { len ≡ length self.old.0 }
+        requires more { more ≡ length other.0 }
+        requires room { len + more < 2 ^ 64 }
+        ensures items { OnOk result (self.new.0 ≡ self.old.0 ++ other.0) }
+        ensures refused { OnErr result (self.new.0 ≡ self.old.0) }
+    {
+        self.shrink()?;
+        other.shrink()?;
+        if self.height() >= other.height() {
+            let part = Child {
+                len: more,
+                tree: other,
+            };
+            return self.hang(alloc, len, part, len);
+        }
+        let tree = self.clone()?;
+        other.hang(alloc, more, Child { len, tree }, 0)?;
+        *self = other;
+        Ok(())
+    }
+
+    // Puts the part, which is no higher than the tree, before all items or behind all.
+    fn hang(
+        &mut self,
+        alloc: Global,
+        len: usize,
+        part: Child<T>,
+        place: usize,
+    ) -> Result<(), AllocError>
+        requires copies { CopiesAreEqual T.is_clone }
+        requires len { len ≡ length self.old.0 }
+        requires wide { 2 ^ self.old.1 ≤ length self.old.0 }
+        requires part { IsChild (part.tree.1 + 1) part }
+        requires low { part.tree.1 ≤ self.old.1 }
+        requires edge { (place ≡ 0) ⊎ (place ≡ len) }
+        requires room { len + part.len < 2 ^ 64 }
+        ensures items { OnOk result (self.new.0 ≡ spliced place 0 part.tree.0 self.old.0) }
+        ensures refused { OnErr result (self.new.0 ≡ self.old.0) }
+    {
+        let height = part.tree.height();
+        self.rise(alloc, len, height)?;
+        let below = self.height() - height;
+        self.insert(alloc, place, Piece::Part(part, below))
+    }
+
+    // Makes the tree higher if it is no higher than that, or its first node is full.
+    fn rise(&mut self, alloc: Global, len: usize, height: u8) -> Result<(), AllocError>
+        requires len { len ≡ length self.old.0 }
+        requires wide { 2 ^ self.old.1 ≤ length self.old.0 }
+        requires low { height ≤ self.old.1 }
+        ensures items { self.new.0 ≡ self.old.0 }
+        ensures higher { OnOk result (height < self.new.1) }
+    {
+        if self.height() > height && !self.is_full() {
+            return Ok(());
+        }
+        self.raise(alloc, len)
+    }
+}

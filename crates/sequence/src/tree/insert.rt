@@ -1,0 +1,185 @@
+//! How a tree takes an item or a lower tree in: in place, but for the nodes that others share, which are copied.
+ghost use Rattle.std.specs.Prelude.{◌≡◌, ◌+◌, ◌<◌, ◌≤◌, ◌^◌, ◌⊎◌, OnOk, OnErr, MatchResult, length};
+ghost use Rattle.servo_arc.specs.Copies.{CopiesAreEqual};
+ghost use Rattle.sequence.specs.Nodes.{AreChildren, IsChild, IsList, StandFor, height_in, items_in};
+ghost use Rattle.sequence.specs.Pieces.{Counts, Fits, GoesOn, IsHere, items_of};
+ghost use Rattle.sequence.specs.Spots.{spliced};
+
+use crate::tree::copies::{BRANCH, LEAF};
+use crate::tree::join::join;
+use crate::tree::search::spot_of;
+use crate::tree::split::room_under;
+use crate::tree::{Child, Node, Tree};
+use servo_arc::Arc;
+use std::alloc::{AllocError, Global};
+
+// What a tree takes in: an item, or a tree that is so many levels lower than it, which becomes a child.
+#[derive(Drop)]
+pub(crate) enum Piece<T> {
+    Item(T),
+    Part(Child<T>, u8),
+}
+
+impl<T: Clone> Tree<T> {
+    // Puts the piece in at that place.
+    #[cycle(insert)]
+    pub(crate) fn insert(
+        &mut self,
+        alloc: Global,
+        place: usize,
+        piece: Piece<T>,
+    ) -> Result<(), AllocError>
+        requires copies { CopiesAreEqual T.is_clone }
+        requires within { place ≤ length self.old.0 }
+        requires fits { Fits piece place self.old }
+        requires room { length self.old.0 + length (items_of piece) < 2 ^ 64 }
+        ensures items { OnOk result (self.new.0 ≡ spliced place 0 (items_of piece) self.old.0) }
+        ensures height { self.new.1 ≡ self.old.1 }
+        ensures refused { OnErr result (self.new.0 ≡ self.old.0) }
+    {
+        let node = Arc::make_mut(&mut self.root, alloc)?;
+        match node {
+            Node::Leaf(items) => put(items, place, piece),
+            Node::Branch(children) => insert_under(children, alloc, place, piece),
+        }
+    }
+}
+
+// The same under a branch.
+#[cycle(insert)]
+fn insert_under<T: Clone>(
+    children: &mut Vec<Child<T>>,
+    alloc: Global,
+    place: usize,
+    piece: Piece<T>,
+) -> Result<(), AllocError>
+    requires copies { CopiesAreEqual T.is_clone }
+    requires children { AreChildren children.old.items }
+    requires within { place ≤ length (items_in children.old.items) }
+    requires fits { Fits piece place (items_in children.old.items, height_in children.old.items) }
+    requires room { length (items_in children.old.items) + length (items_of piece) < 2 ^ 64 }
+    ensures items { OnOk result (items_in children.new.items
+        ≡ spliced place 0 (items_of piece) (items_in children.old.items)) }
+    ensures height { height_in children.new.items ≡ height_in children.old.items }
+    ensures children { AreChildren children.new.items }
+    ensures refused { OnErr result (items_in children.new.items ≡ items_in children.old.items) }
+{
+    let piece = match piece.under() {
+        Ok(piece) => piece,
+        Err(child) => return beside(children, alloc, place, child),
+    };
+    let spot = room_under(children, spot_of(children, place), alloc)?;
+    children[spot.child].insert(alloc, spot.place, piece)
+}
+
+impl<T: Clone> Child<T> {
+    // The same under one child.
+    #[cycle(insert)]
+    fn insert(&mut self, alloc: Global, place: usize, piece: Piece<T>) -> Result<(), AllocError>
+        requires copies { CopiesAreEqual T.is_clone }
+        requires child { IsChild (self.old.tree.1 + 1) self.old }
+        requires within { place ≤ length self.old.tree.0 }
+        requires fits { Fits piece place self.old.tree }
+        requires room { length self.old.tree.0 + length (items_of piece) < 2 ^ 64 }
+        ensures items { OnOk result (self.new.tree.0 ≡ spliced place 0 (items_of piece) self.old.tree.0) }
+        ensures child { IsChild (self.old.tree.1 + 1) self.new }
+        ensures refused { OnErr result (self.new.tree.0 ≡ self.old.tree.0) }
+    {
+        let more = piece.len();
+        self.tree.insert(alloc, place, piece)?;
+        self.len += more;
+        Ok(())
+    }
+}
+
+impl<T> Piece<T> {
+    // How many items it has.
+    fn len(&self) -> usize
+        requires { Counts self.now }
+        ensures { result ≡ length (items_of self.now) }
+    {
+        match self {
+            Piece::Item(_) => 1,
+            Piece::Part(child, _) => child.len,
+        }
+    }
+
+    // The piece for one level below, or the child that stands on this one.
+    fn under(self) -> Result<Piece<T>, Child<T>>
+        ensures { MatchResult result (GoesOn self) (IsHere self) }
+    {
+        match self {
+            Piece::Part(child, below) if below <= 1 => Err(child),
+            Piece::Part(child, below) => Ok(Piece::Part(child, below - 1)),
+            item => Ok(item),
+        }
+    }
+}
+
+// Puts the item into a leaf.
+fn put<T: Drop>(items: &mut Vec<T>, place: usize, piece: Piece<T>) -> Result<(), AllocError>
+    requires list { IsList items.old.items }
+    requires within { place ≤ length items.old.items }
+    requires fits { Fits piece place (items.old.items, 0) }
+    requires room { length items.old.items + length (items_of piece) < 2 ^ 64 }
+    ensures items { OnOk result (items.new.items ≡ spliced place 0 (items_of piece) items.old.items) }
+    ensures list { IsList items.new.items }
+    ensures refused { OnErr result (items.new.items ≡ items.old.items) }
+{
+    let Piece::Item(item) = piece else {
+        unreachable!()
+    };
+    items.insert(place, item)?;
+    Ok(())
+}
+
+// Puts the child before all children or behind all. Two small ones that meet there become one.
+fn beside<T: Clone>(
+    children: &mut Vec<Child<T>>,
+    alloc: Global,
+    place: usize,
+    child: Child<T>,
+) -> Result<(), AllocError>
+    requires copies { CopiesAreEqual T.is_clone }
+    requires children { AreChildren children.old.items }
+    requires child { IsChild (height_in children.old.items) child }
+    requires edge { (place ≡ 0) ⊎ (place ≡ length (items_in children.old.items)) }
+    requires room { length (items_in children.old.items) + length child.tree.0 < 2 ^ 64 }
+    ensures items { OnOk result (items_in children.new.items
+        ≡ spliced place 0 child.tree.0 (items_in children.old.items)) }
+    ensures height { height_in children.new.items ≡ height_in children.old.items }
+    ensures children { AreChildren children.new.items }
+    ensures refused { OnErr result (items_in children.new.items ≡ items_in children.old.items) }
+{
+    if place == 0 {
+        children.insert(0, child)?;
+        meet(children, 0, alloc);
+        return Ok(());
+    }
+    let last = children.len() - 1;
+    children.push(child)?;
+    meet(children, last, alloc);
+    Ok(())
+}
+
+// Makes one child of the one of that number and the next, if both are small and it is not refused.
+fn meet<T: Clone>(children: &mut Vec<Child<T>>, at: usize, alloc: Global)
+    requires copies { CopiesAreEqual T.is_clone }
+    requires children { AreChildren children.old.items }
+    requires within { at + 1 < length children.old.items }
+    ensures { StandFor children.old.items children.new.items }
+{
+    if children[at].tree.is_small() && children[at + 1].tree.is_small() {
+        let _ = join(children, at, alloc);
+    }
+}
+
+impl<T> Tree<T> {
+    // Whether the first node has no more than half of what a node may have.
+    fn is_small(&self) -> bool {
+        match self.node() {
+            Node::Leaf(items) => items.len() <= LEAF / 2,
+            Node::Branch(children) => children.len() <= BRANCH / 2,
+        }
+    }
+}

@@ -1,0 +1,37 @@
+//! How a tree changes an item: in place, but for the nodes that others share, which are copied.
+ghost use Rattle.std.specs.Prelude.{◌≡◌, ◌<◌, IfOk, OnErr, length, slice_get};
+ghost use Rattle.std.specs.Fn.{FnOnceTakesAtMut};
+ghost use Rattle.std.specs.Option.{ForSome};
+ghost use Rattle.servo_arc.specs.Copies.{CopiesAreEqual};
+ghost use Rattle.sequence.specs.Changes.{ChangesItem};
+
+use crate::tree::search::spot_of;
+use crate::tree::{Node, Tree};
+use servo_arc::Arc;
+use std::alloc::{AllocError, Global};
+
+impl<T: Clone> Tree<T> {
+    // Changes the item of that number, which is there. The change is called if nothing can be refused any more.
+    pub(crate) fn modify<R, F: FnOnce(&mut T) -> R>(
+        &mut self,
+        alloc: Global,
+        index: usize,
+        change: F,
+    ) -> Result<R, AllocError>
+        requires copies { CopiesAreEqual T.is_clone }
+        requires there { index < length self.old.0 }
+        requires callable { ForSome (slice_get self.old.0 index) (FnOnceTakesAtMut F.FnOnce change) }
+        ensures changed { IfOk result (ChangesItem F.FnOnce change index self.old.0 self.new.0) }
+        ensures height { self.new.1 ≡ self.old.1 }
+        ensures refused { OnErr result (self.new.0 ≡ self.old.0) }
+    {
+        let children = match Arc::make_mut(&mut self.root, alloc)? {
+            Node::Leaf(items) => return Ok(change(&mut items[index])),
+            Node::Branch(children) => children,
+        };
+        let spot = spot_of(children, index + 1);
+        children[spot.child]
+            .tree
+            .modify(alloc, spot.place - 1, change)
+    }
+}

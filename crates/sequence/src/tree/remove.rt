@@ -1,0 +1,157 @@
+//! How a tree lets an item go: in place, but for the nodes that others share, which are copied.
+ghost use Rattle.std.specs.Prelude.{◌≡◌, ℕ, ◌+◌, ◌^◌, ◌<◌, ◌≤◌, ◌⊎◌, [], IfOk, IsTrue, OnOk, OnErr, Some};
+ghost use Rattle.std.specs.Prelude.{length, slice_get, slice_index_or};
+ghost use Rattle.servo_arc.specs.Copies.{CopiesAreEqual};
+ghost use Rattle.sequence.specs.Nodes.{AreChildren, CanLose, IsChild, StandFor, height_in, items_in};
+ghost use Rattle.sequence.specs.Spots.{Leads, spliced};
+
+use crate::tree::copies::{BRANCH, LEAF};
+use crate::tree::join::join;
+use crate::tree::search::{Spot, spot_of};
+use crate::tree::split::room_under;
+use crate::tree::{Child, Node, Tree};
+use servo_arc::Arc;
+use std::alloc::{AllocError, Global};
+
+impl<T: Clone> Tree<T> {
+    // Takes the item of that number out, which is there and not the only one.
+    #[cycle(remove)]
+    pub(crate) fn remove(&mut self, alloc: Global, index: usize) -> Result<T, AllocError>
+        requires copies { CopiesAreEqual T.is_clone }
+        requires there { index < length self.old.0 }
+        requires some { 1 < length self.old.0 }
+        requires wide { 2 ^ self.old.1 ≤ length self.old.0 }
+        ensures item { IfOk result (λ item. slice_get self.old.0 index ≡ Some item) }
+        ensures items { OnOk result (self.new.0 ≡ spliced index 1 [] self.old.0) }
+        ensures height { self.new.1 ≡ self.old.1 }
+        ensures refused { OnErr result (self.new.0 ≡ self.old.0) }
+    {
+        let node = Arc::make_mut(&mut self.root, alloc)?;
+        match node {
+            Node::Leaf(items) => Ok(items.remove(index)),
+            Node::Branch(children) => remove_under(children, alloc, index),
+        }
+    }
+}
+
+// The same under a branch.
+#[cycle(remove)]
+fn remove_under<T: Clone>(
+    children: &mut Vec<Child<T>>,
+    alloc: Global,
+    index: usize,
+) -> Result<T, AllocError>
+    requires copies { CopiesAreEqual T.is_clone }
+    requires children { AreChildren children.old.items }
+    requires there { index < length (items_in children.old.items) }
+    requires wide { 2 ^ height_in children.old.items ≤ length (items_in children.old.items) }
+    ensures item { IfOk result (λ item. slice_get (items_in children.old.items) index ≡ Some item) }
+    ensures items { OnOk result (items_in children.new.items ≡ spliced index 1 [] (items_in children.old.items)) }
+    ensures height { height_in children.new.items ≡ height_in children.old.items }
+    ensures children { AreChildren children.new.items }
+    ensures refused { OnErr result (items_in children.new.items ≡ items_in children.old.items) }
+{
+    let spot = spare_for(children, alloc, index)?;
+    children[spot.child].remove(alloc, spot.place - 1)
+}
+
+impl<T: Clone> Child<T> {
+    // The same under one child.
+    #[cycle(remove)]
+    fn remove(&mut self, alloc: Global, index: usize) -> Result<T, AllocError>
+        requires copies { CopiesAreEqual T.is_clone }
+        requires child { IsChild (self.old.tree.1 + 1) self.old }
+        requires spare { CanLose self.old.tree }
+        requires there { index < length self.old.tree.0 }
+        ensures item { IfOk result (λ item. slice_get self.old.tree.0 index ≡ Some item) }
+        ensures items { OnOk result (self.new.tree.0 ≡ spliced index 1 [] self.old.tree.0) }
+        ensures child { IsChild (self.old.tree.1 + 1) self.new }
+        ensures refused { OnErr result (self.new.tree.0 ≡ self.old.tree.0) }
+    {
+        let item = self.tree.remove(alloc, index)?;
+        self.len -= 1;
+        Ok(item)
+    }
+}
+
+// The spot behind the item of that number, once its child can lose an item: a thin one is joined with its neighbour.
+fn spare_for<T: Clone>(
+    children: &mut Vec<Child<T>>,
+    alloc: Global,
+    index: usize,
+) -> Result<Spot, AllocError>
+    requires copies { CopiesAreEqual T.is_clone }
+    requires children { AreChildren children.old.items }
+    requires there { index < length (items_in children.old.items) }
+    requires wide { 2 ^ height_in children.old.items ≤ length (items_in children.old.items) }
+    ensures same { StandFor children.old.items children.new.items }
+    ensures leads { IfOk result (Leads children.new.items (index + 1)) }
+    ensures spare { IfOk result (λ spot. (d : Child T)
+        → CanLose (slice_index_or children.new.items spot.child d).tree) }
+{
+    let spot = spot_of(children, index + 1);
+    if children.len() == 1 || !children[spot.child].tree.is_thin() {
+        return Ok(spot);
+    }
+    let joined = join_at(children, spot, alloc)?;
+    room_under(children, joined, alloc)
+}
+
+// The spot once its child is joined with the next, or the last one with the one before.
+fn join_at<T: Clone>(
+    children: &mut Vec<Child<T>>,
+    spot: Spot,
+    alloc: Global,
+) -> Result<Spot, AllocError>
+    requires copies { CopiesAreEqual T.is_clone }
+    requires children { AreChildren children.old.items }
+    requires within { spot.child < length children.old.items }
+    requires inside { (d : Child T) → spot.place ≤ length (slice_index_or children.old.items spot.child d).tree.0 }
+    requires two { 1 < length children.old.items }
+    ensures same { StandFor children.old.items children.new.items }
+    ensures leads { IfOk result (λ new. (place : ℕ) → Leads children.old.items place spot
+        → Leads children.new.items place new) }
+    ensures spare { IfOk result (λ new. (d : Child T)
+        → CanLose (slice_index_or children.new.items new.child d).tree) }
+{
+    let Spot { child, place } = spot;
+    if child + 1 < children.len() {
+        join(children, child, alloc)?;
+        return Ok(spot);
+    }
+    let before = children[child - 1].len;
+    join(children, child - 1, alloc)?;
+    Ok(Spot {
+        child: child - 1,
+        place: before + place,
+    })
+}
+
+impl<T> Tree<T> {
+    // Whether the first node has so few items that it is joined with its neighbour before it loses one.
+    #[inline(always)]
+    fn is_thin(&self) -> bool
+        ensures { IsTrue result ⊎ CanLose self.now }
+    {
+        match self.node() {
+            Node::Leaf(items) => items.len() <= LEAF / 4,
+            Node::Branch(children) => children.len() <= BRANCH / 4,
+        }
+    }
+}
+
+impl<T: Drop> Tree<T> {
+    // A first node with one child gives way to it.
+    #[inline(always)]
+    pub(crate) fn shrink(&mut self) -> Result<(), AllocError>
+        ensures same { self.new.0 ≡ self.old.0 }
+        ensures wide { OnOk result (2 ^ self.new.1 ≤ length self.new.0) }
+    {
+        let only = match self.node() {
+            Node::Branch(children) if children.len() == 1 => children[0].tree.clone()?,
+            _ => return Ok(()),
+        };
+        *self = only;
+        Ok(())
+    }
+}

@@ -1,0 +1,235 @@
+//! How a full node becomes two: the last of what it has moves into a block that was taken before.
+ghost use Rattle.std.specs.Prelude.{◌≡◌, ℕ, ◌+◌, ◌<◌, ◌^◌, ◌≤◌, IfNone, IfOk, IfSome, IsTrue, OnErr, OnOk};
+ghost use Rattle.std.specs.Prelude.{length, slice_index_or};
+ghost use Rattle.servo_arc.specs.Copies.{CopiesAreEqual};
+ghost use Rattle.sequence.specs.Nodes.{AreChildren, AreHalves, CanLose, IsChild, IsList, IsNode, StandFor};
+ghost use Rattle.sequence.specs.Nodes.{height_in, items_in, seen};
+ghost use Rattle.sequence.specs.Spots.{Leads, past};
+
+use crate::tree::copies::{BRANCH, LEAF};
+use crate::tree::search::{Spot, count};
+use crate::tree::{Child, Node, Tree};
+use servo_arc::{Arc, UniqueArc};
+use std::alloc::{AllocError, Global};
+
+// How many items the second of two nodes gets if the next item goes behind all.
+const FEW: usize = 4;
+
+impl<T: Drop> Tree<T> {
+    // Makes the tree, which has that many items, one higher if its first node is full: the only child of the new one.
+    #[inline(always)]
+    pub(crate) fn grow(&mut self, alloc: Global, len: usize) -> Result<(), AllocError>
+        requires { len ≡ length self.old.0 }
+        ensures { self.new.0 ≡ self.old.0 }
+    {
+        if self.is_full() {
+            self.raise(alloc, len)?;
+        }
+        Ok(())
+    }
+
+    // The same of any tree that is wide enough.
+    pub(crate) fn raise(&mut self, alloc: Global, len: usize) -> Result<(), AllocError>
+        requires len { len ≡ length self.old.0 }
+        requires wide { 2 ^ self.old.1 ≤ length self.old.0 }
+        ensures items { self.new.0 ≡ self.old.0 }
+        ensures height { OnOk result (self.new.1 ≡ self.old.1 + 1) }
+    {
+        let tree = self.clone()?;
+        let mut children = Vec::with_capacity(alloc, BRANCH)?;
+        children.push(Child { len, tree })?;
+        *self = Tree::of(alloc, Node::Branch(children))?;
+        Ok(())
+    }
+}
+
+impl<T> Tree<T> {
+    // Whether the first node becomes two before another item goes in.
+    #[inline(always)]
+    pub(crate) fn is_full(&self) -> bool
+        ensures { IsTrue result → 2 ^ self.now.1 ≤ length self.now.0 }
+    {
+        self.node().is_full()
+    }
+}
+
+impl<T> Node<T> {
+    // The same of a node.
+    #[inline(always)]
+    pub(crate) fn is_full(&self) -> bool
+        requires { IsNode self.now }
+        ensures { IsTrue result → 2 ^ (seen self.now).1 ≤ length (seen self.now).0 }
+    {
+        match self {
+            Node::Leaf(items) => items.len() >= LEAF,
+            Node::Branch(children) => children.len() >= BRANCH,
+        }
+    }
+}
+
+// The spot once its child has room for one more item or child: a full one becomes two.
+pub(crate) fn room_under<T: Clone>(
+    children: &mut Vec<Child<T>>,
+    spot: Spot,
+    alloc: Global,
+) -> Result<Spot, AllocError>
+    requires copies { CopiesAreEqual T.is_clone }
+    requires children { AreChildren children.old.items }
+    requires within { spot.child < length children.old.items }
+    ensures same { StandFor children.old.items children.new.items }
+    ensures leads { IfOk result (λ new. (place : ℕ) → Leads children.old.items place spot
+        → Leads children.new.items place new) }
+    ensures spare { IfOk result (λ new. ((d : Child T)
+        → CanLose (slice_index_or children.old.items spot.child d).tree)
+        → (d : Child T) → CanLose (slice_index_or children.new.items new.child d).tree) }
+{
+    let Spot { child, place } = spot;
+    if !children[child].tree.is_full() {
+        return Ok(spot);
+    }
+    let ends = place == children[child].len;
+    children.reserve(1)?;
+    let Some(right) = children[child].halve(alloc, ends)? else {
+        return Ok(spot);
+    };
+    let left = children[child].len;
+    let Ok(()) = children.insert(child + 1, right) else {
+        unreachable!()
+    };
+    Ok(spot.past(left))
+}
+
+impl Spot {
+    // The same spot once only so many items are left under its child, and the rest under the next.
+    fn past(self, left: usize) -> Spot
+        requires { self.child + 1 < 2 ^ 64 }
+        ensures { result ≡ past left self }
+    {
+        if self.place <= left {
+            return self;
+        }
+        Spot {
+            child: self.child + 1,
+            place: self.place - left,
+        }
+    }
+}
+
+impl<T: Clone> Child<T> {
+    // The last part of a child whose first node is full, and which keeps the first one.
+    fn halve(&mut self, alloc: Global, ends: bool) -> Result<Option<Child<T>>, AllocError>
+        requires copies { CopiesAreEqual T.is_clone }
+        requires child { IsChild (self.old.tree.1 + 1) self.old }
+        ensures child { IfOk result (λ half. IfSome half (λ _. IsChild (self.old.tree.1 + 1) self.new)) }
+        ensures halves { IfOk result (λ half. IfSome half (AreHalves self.old.tree self.new.tree)) }
+        ensures whole { IfOk result (λ half. IfNone half (self.new ≡ self.old)) }
+        ensures refused { OnErr result (self.new ≡ self.old) }
+    {
+        let Some(right) = self.tree.halve(alloc, ends)? else {
+            return Ok(None);
+        };
+        self.len -= right.len;
+        Ok(Some(right))
+    }
+}
+
+impl<T: Clone> Tree<T> {
+    // The same of a tree.
+    #[inline(never)]
+    fn halve(&mut self, alloc: Global, ends: bool) -> Result<Option<Child<T>>, AllocError>
+        requires copies { CopiesAreEqual T.is_clone }
+        ensures halves { IfOk result (λ half. IfSome half (AreHalves self.old self.new)) }
+        ensures whole { IfOk result (λ half. IfNone half (self.new ≡ self.old)) }
+        ensures refused { OnErr result (self.new ≡ self.old) }
+    {
+        let node = Arc::make_mut(&mut self.root, alloc)?;
+        node.halve(alloc, ends)
+    }
+}
+
+impl<T: Drop> Node<T> {
+    // The same of a node.
+    pub(crate) fn halve(
+        &mut self,
+        alloc: Global,
+        ends: bool,
+    ) -> Result<Option<Child<T>>, AllocError>
+        requires { IsNode self.old }
+        ensures node { IsNode self.new }
+        ensures halves { IfOk result (λ half. IfSome half (AreHalves (seen self.old) (seen self.new))) }
+        ensures whole { IfOk result (λ half. IfNone half (seen self.new ≡ seen self.old)) }
+        ensures refused { OnErr result (seen self.new ≡ seen self.old) }
+    {
+        match self {
+            Node::Leaf(items) if items.len() >= LEAF => {
+                let keep = kept(items.len(), LEAF, ends);
+                Ok(Some(half_of_leaf(items, alloc, keep)?))
+            }
+            Node::Branch(children) if children.len() >= BRANCH => {
+                let keep = kept(children.len(), BRANCH, ends);
+                Ok(Some(half_of_branch(children, alloc, keep)?))
+            }
+            _ => Ok(None),
+        }
+    }
+}
+
+// How many of so many items a node keeps if it becomes two. The other one has few if the next item goes behind all,
+// and else half of them, but no more than its width.
+fn kept(len: usize, width: usize, ends: bool) -> usize
+    requires len { 16 ≤ len }
+    requires width { 16 ≤ width }
+    ensures low { 2 < result }
+    ensures high { result + 2 < len }
+{
+    if ends {
+        len - FEW
+    } else {
+        len - width.min(len / 2)
+    }
+}
+
+fn half_of_leaf<T: Drop>(
+    items: &mut Vec<T>,
+    alloc: Global,
+    keep: usize,
+) -> Result<Child<T>, AllocError>
+    requires list { IsList items.old.items }
+    requires low { 2 < keep }
+    requires high { keep + 2 < length items.old.items }
+    ensures list { IsList items.new.items }
+    ensures halves { IfOk result (AreHalves (items.old.items, 0) (items.new.items, 0)) }
+    ensures refused { OnErr result (items.new.items ≡ items.old.items) }
+{
+    let block = UniqueArc::new_uninit(alloc)?;
+    let tail = items.split_off(keep)?;
+    Ok(Child {
+        len: tail.len(),
+        tree: Tree {
+            root: block.write(Node::Leaf(tail)).shareable(),
+        },
+    })
+}
+
+fn half_of_branch<T: Drop>(
+    children: &mut Vec<Child<T>>,
+    alloc: Global,
+    keep: usize,
+) -> Result<Child<T>, AllocError>
+    requires children { AreChildren children.old.items }
+    requires low { 2 < keep }
+    requires high { keep + 2 < length children.old.items }
+    ensures children { AreChildren children.new.items }
+    ensures halves { IfOk result (AreHalves (items_in children.old.items, height_in children.old.items)
+        (items_in children.new.items, height_in children.new.items)) }
+    ensures refused { OnErr result (children.new.items ≡ children.old.items) }
+{
+    let block = UniqueArc::new_uninit(alloc)?;
+    let tail = children.split_off(keep)?;
+    Ok(Child {
+        len: count(&tail),
+        tree: Tree {
+            root: block.write(Node::Branch(tail)).shareable(),
+        },
+    })
+}

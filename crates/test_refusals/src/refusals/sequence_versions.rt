@@ -1,0 +1,100 @@
+//! What a refused call on versions of a sequence drops. What they then are is said by the clauses.
+use self::Change::*;
+use crate::refusals::reporting::report;
+use sequence::{InsertError, Sequence};
+use std::alloc::{AllocError, Global};
+use std::io::Print;
+use std::process::Abort;
+use testing::counted::{Counted, Tally};
+use testing::{again, ok, same_at};
+
+type Items<'a> = Sequence<Counted<'a>>;
+
+fn counted<'a>(alloc: Global, tally: &'a Tally, len: u8) -> Result<Items<'a>, AllocError> {
+    let mut items = Vec::new(alloc);
+    for value in 0..len {
+        items.push(Counted::new(tally, u64::from(value)))?;
+    }
+    Sequence::from_items(alloc, items)
+}
+
+// Of two leaves, of 32 items and of 16. The second is joined with the first one if it loses an item.
+fn thin<'a>(alloc: Global, tally: &'a Tally) -> Result<Items<'a>, AllocError> {
+    let mut items = counted(alloc, tally, 64)?;
+    for _ in 0..16u8 {
+        drop(items.pop(alloc)?);
+    }
+    Ok(items)
+}
+
+#[derive(Clone, Copy, Debug, PartialEq)]
+enum Change {
+    Insert(usize),
+    Push,
+    Set(usize),
+    Modify(usize),
+    Remove(usize),
+    SplitOff(usize),
+    Append,
+}
+
+const CHANGES: [Change; 11] = [
+    Insert(0),
+    Insert(40),
+    Insert(99),
+    Push,
+    Set(40),
+    Modify(40),
+    Remove(40),
+    Remove(99),
+    SplitOff(40),
+    SplitOff(99),
+    Append,
+];
+
+// Whether no memory was refused.
+fn is_changed<'a>(
+    alloc: Global,
+    items: &mut Items<'a>,
+    change: Change,
+    other: Items<'a>,
+    value: Counted<'a>,
+) -> bool {
+    match change {
+        Insert(at) => items.insert(alloc, at, value) != Err(InsertError::Memory),
+        Push => items.push(alloc, value).is_ok(),
+        Set(at) => items.set(alloc, at, value).is_ok(),
+        Modify(at) => items.modify(alloc, at, |counted| counted.value = 9).is_ok(),
+        Remove(at) => items.remove(alloc, at).is_ok(),
+        SplitOff(at) => items.split_off(alloc, at).is_ok(),
+        Append => items.append(alloc, other).is_ok(),
+    }
+}
+
+fn check_changes<'a>(
+    rt: &(impl Abort + AllocGlobal + Print),
+    tally: &'a Tally,
+    old: &Items<'a>,
+    other: &Items<'a>,
+) {
+    for change in CHANGES {
+        let (before, mut new) = (tally.living(0), again!(rt, old));
+        let value = Counted::new(tally, 9);
+        if !is_changed(rt.alloc(), &mut new, change, again!(rt, other), value) {
+            ok!(rt, println!(rt; "{change:?}"));
+        }
+        drop(new);
+        same_at!(rt, change, tally.living(1), before);
+    }
+}
+
+// A leaf that is full becomes two under a root, and thin ones are joined.
+#[test]
+fn a_refused_change_of_a_sequence_drops_what_it_made(rt: HostRuntime) {
+    let (alloc, tally) = (rt.alloc(), Tally::new());
+    let (Ok(full), Ok(thin)) = (counted(alloc, &tally, 64), thin(alloc, &tally)) else {
+        return report(&rt, "the set-up");
+    };
+    check_changes(&rt, &tally, &full, &thin);
+    check_changes(&rt, &tally, &thin, &full);
+}

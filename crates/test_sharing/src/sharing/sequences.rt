@@ -1,0 +1,89 @@
+//! Which sequences share their first node, how they are printed, how many items a change copies, and how they end.
+use crate::made::check_debug;
+use crate::sharing::lists::end_on_a_small_stack;
+use sequence::Sequence;
+use std::alloc::{AllocError, Global};
+use testing::counted::{Counted, Tally};
+use testing::{again, holds_at, ok, same, same_at};
+
+fn sequence_of(alloc: Global) -> Result<Sequence<u64>, AllocError> {
+    Sequence::from_items(alloc, Vec::from_array(alloc, [1, 2, 3])?)
+}
+
+#[test]
+fn sequences_are_told_apart(rt: HostRuntime) {
+    let sequence = ok!(&rt, sequence_of(rt.alloc()));
+    let mut longer = again!(&rt, &sequence);
+    ok!(&rt, longer.push_front(rt.alloc(), 9));
+    let are_one = [
+        Sequence::ptr_eq(&sequence, &again!(&rt, &sequence)),
+        Sequence::ptr_eq(&sequence, &ok!(&rt, sequence_of(rt.alloc()))),
+        Sequence::ptr_eq(&sequence, &longer),
+    ];
+    same!(&rt, are_one, [true, false, false]);
+    check_debug(&rt, &longer, "[9, 1, 2, 3]");
+}
+
+const ITEMS: u64 = 1_000_000;
+
+// The most items of a leaf.
+const LEAF: u64 = 64;
+
+fn many<'a>(alloc: Global, tally: &'a Tally) -> Result<Sequence<Counted<'a>>, AllocError> {
+    let mut sequence = Sequence::new();
+    for item in 0..ITEMS {
+        sequence.push(alloc, Counted::new(tally, item))?;
+    }
+    Ok(sequence)
+}
+
+// Every change is in place if the version shares nothing, whatever nodes become two or one.
+#[test]
+fn a_lone_sequence_copies_nothing(rt: HostRuntime) {
+    let tally = Tally::new();
+    let mut sequence = ok!(&rt, many(rt.alloc(), &tally));
+    let mut at = 0;
+    for item in 0..ITEMS {
+        at = 618_033usize.wrapping_add(at) % sequence.len().max(1);
+        let (taken, len) = (ok!(&rt, sequence.remove(rt.alloc(), at)), sequence.len());
+        if let Some(taken) = taken {
+            ok!(&rt, sequence.insert(rt.alloc(), len - at.min(len), taken));
+        }
+        if item % 2 == 0 {
+            drop(ok!(&rt, sequence.pop(rt.alloc())));
+        }
+    }
+    let mut back = Sequence::new();
+    ok!(&rt, back.append(rt.alloc(), sequence));
+    let seen = (tally.copies(), back.len() as u64, tally.living(ITEMS));
+    same!(&rt, seen, (0, ITEMS / 2, ITEMS / 2));
+}
+
+// The only items of a path are those of its leaf, and a cut shares all but them.
+#[test]
+fn a_change_copies_its_path_alone(rt: HostRuntime) {
+    let tally = Tally::new();
+    let sequence = ok!(&rt, many(rt.alloc(), &tally));
+    for at in (0..=ITEMS).step_by(9_999) {
+        let before = tally.copies();
+        let mut version = again!(&rt, &sequence);
+        ok!(
+            &rt,
+            version.insert(rt.alloc(), at as usize, Counted::new(&tally, at))
+        );
+        let one = tally.copies().wrapping_sub(before);
+        let mut version = again!(&rt, &sequence);
+        drop(ok!(&rt, version.split_off(rt.alloc(), at as usize)));
+        let both = tally.copies().wrapping_sub(before);
+        holds_at!(&rt, at, one <= LEAF && both <= 4 * LEAF);
+    }
+}
+
+#[test]
+fn a_million_items_end_on_a_small_stack(rt: HostRuntime) {
+    let mut sequence = Sequence::new();
+    for item in 0..ITEMS {
+        ok!(&rt, sequence.push(rt.alloc(), item));
+    }
+    end_on_a_small_stack(&rt, sequence);
+}

@@ -11,6 +11,7 @@ mod maps;
 mod pages;
 mod random;
 mod styles;
+mod symbols;
 mod threads;
 mod union;
 
@@ -22,13 +23,15 @@ use std::env;
 use std::env::Env;
 use std::io::Print;
 use std::process::ExitCode;
+use std::random::RandomSource;
 use std::sync::Wait;
 use std::thread::Threads;
 use std::time::Clock;
+use symbols::Pairs;
 use threads::Turn;
 
 /// What the workload read, unless there is none of that name.
-fn checksum<R: Clock + Print + Threads + Wait + Sync>(
+fn checksum<R: Clock + Print + RandomSource + Threads + Wait + Sync>(
     rt: &R,
     alloc: Global,
     workload: &str,
@@ -53,6 +56,8 @@ fn checksum<R: Clock + Print + Threads + Wait + Sync>(
         "list-walk" => lists::walk(alloc, times),
         "cascade" => styles::cascade(rt, alloc, 1, times),
         "cascade-4" => styles::cascade(rt, alloc, 4, times),
+        "intern-plain" => symbols::intern(rt, alloc, Pairs::Plain, times),
+        "intern-chosen" => symbols::intern(rt, alloc, Pairs::Chosen, times),
         "map-rising" => maps::measure(rt, alloc, Order::Rising, times),
         "map-mixed" => maps::measure(rt, alloc, Order::Mixed, times),
         _ => None,
@@ -60,7 +65,10 @@ fn checksum<R: Clock + Print + Threads + Wait + Sync>(
 }
 
 /// The checksum of the workload that the arguments name, repeated as often as they say.
-fn run<R: Env + Clock + Print + Threads + Wait + Sync>(rt: &R, alloc: Global) -> Option<u64> {
+fn run<R: Env + Clock + Print + RandomSource + Threads + Wait + Sync>(
+    rt: &R,
+    alloc: Global,
+) -> Option<u64> {
     let words: Vec<String> = env::args(&(rt, alloc)).ok()?.collect(alloc).ok()?;
     let [_, workload, times] = words.as_slice() else {
         return None;

@@ -1,11 +1,11 @@
--- Equal nodes of a rule tree are the same.
+-- Equal nodes of a rule tree have the same parent and the same source.
 use Rattle.std.proofs.Common.{◌≡◌, ℕ, Bool, true, false, ◌&&◌, nat_eq, List, [], ◌∷◌, Option, Some, None}
 use Rattle.std.proofs.Common.{refl, ap, ap₂, sym, true≢false, arith, rules}
 use Rattle.std.specs.Cmp.Lexicographic.{pointwise}
 use Rattle.std.specs.Option.{option_eq}
 use Rattle.servo_arc.specs.Unions.{Union, First, Second, union_eq}
-use Rattle.cascade.specs.contracts.cache.RuleNodePartialEq.TheImpl.{eq-value}
-use Rattle.cascade.specs.declared.cache.RuleNode.{RuleNode}
+use Rattle.cascade.specs.contracts.node.RuleNodePartialEq.TheImpl.{eq-value}
+use Rattle.cascade.specs.declared.node.RuleNode.{RuleNode}
 use Rattle.cascade.specs.declared.source.Declaration.{Declaration}
 use Rattle.cascade.specs.declared.source.Rule.{Rule}
 use Rattle.cascade.specs.declared.source.Inline.{Inline}
@@ -59,11 +59,13 @@ module _ (E : Declaration → Declaration → Bool) (exact : (x y : Declaration)
 
 node_true : (N : ℕ → ℕ → Bool) (E : Declaration → Declaration → Bool) (a b : RuleNode)
     → (option_eq N a.parent b.parent && union_eq (rule_eq E) (inline_eq E) a.source b.source) ≡ true
-    → ((m n : ℕ) → N m n ≡ true → m ≡ n) → ((x y : Declaration) → E x y ≡ true → x ≡ y) → a ≡ b
+    → ((m n : ℕ) → N m n ≡ true → m ≡ n) → ((x y : Declaration) → E x y ≡ true → x ≡ y)
+    → (a.parent ≡ b.parent) × (a.source ≡ b.source)
 node_true N E a b is numbers exact =
-    let parts = both (option_eq N a.parent b.parent) (union_eq (rule_eq E) (inline_eq E) a.source b.source) is in
-    ap₂ (λ p s. record { parent = p; source = s }) (option_true N numbers a.parent b.parent parts.0)
-    (union_true (rule_eq E) (inline_eq E) (rule_true E exact) (inline_true E exact) a.source b.source parts.1)
+    let parts = both (option_eq N a.parent b.parent) (union_eq (rule_eq E) (inline_eq E) a.source b.source) is in (
+      option_true N numbers a.parent b.parent parts.0,
+      union_true (rule_eq E) (inline_eq E) (rule_true E exact) (inline_true E exact) a.source b.source parts.1,
+    )
 
-pub same_node : (a b : RuleNode) → eq-value.it a b ≡ true → a ≡ b
+pub same_node : (a b : RuleNode) → eq-value.it a b ≡ true → (a.parent ≡ b.parent) × (a.source ≡ b.source)
 same_node a b is = node_true _ _ a b is (λ m n h. search rules) (λ x y h. search rules)

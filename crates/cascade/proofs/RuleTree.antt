@@ -1,17 +1,21 @@
--- What a node that is found, and one that is added, say of the styles of a rule tree.
+-- What a node that is found, and one that is made, say of the styles of a rule tree.
 use Rattle.std.proofs.Common.{◌≡◌, ℕ, ◌<◌, Bool, true, false, nat_lt, List, [], ◌∷◌, ◌++◌, length, get_or}
-use Rattle.std.proofs.Common.{Option, None, Some}
-use Rattle.std.proofs.Common.{refl, sym, ap, ◌∙◌, subst, arith, length-append, position}
-use Rattle.std.proofs.lemmas.Grind.{common_steps}
+use Rattle.std.proofs.Common.{Option, None, Some, Result, Ok, Err, IfOk, OnErr, position}
+use Rattle.std.proofs.Common.{refl, sym, ap, ap₂, ◌∙◌, subst, arith, length-append, if◌then◌else◌}
 use Rattle.std.proofs.lemmas.List.{get_or_append_left, get_or_push}
 use Rattle.std.proofs.lemmas.List.Quantifiers.{position-Some}
+use Rattle.std.proofs.lemmas.Option.{slice_get-get_or}
 use Rattle.std.specs.Cmp.{IsEquivalence}
-use Rattle.std.specs.List.{list_any, position_or_len}
+use Rattle.std.specs.List.{list_any}
+use Rattle.std.specs.Option.{option_map_or}
+use Rattle.interner.specs.Made.{IsFoundOrMade}
 use Rattle.interner.specs.Symbols.{IsInterned}
-use Rattle.cascade.specs.declared.cache.RuleNode.{RuleNode}
+use Rattle.interner.proofs.Symbols.{any_of_form, found_there}
+use Rattle.cascade.specs.declared.node.Child.{Child}
+use Rattle.cascade.specs.declared.node.RuleNode.{RuleNode}
 use Rattle.cascade.specs.declared.style.Style.{Style}
-use Rattle.cascade.specs.Cascade.{cascaded, initial}
-use Rattle.cascade.specs.RuleTree.{IsBefore, AreComputed, style_at}
+use Rattle.cascade.specs.Cascade.{cascaded}
+use Rattle.cascade.specs.RuleTree.{IsBefore, AreComputed, lent, node_of, style_at}
 
 -- what holds of each item and of one more
 each_of_push : {X : Type 0} (P : ℕ → X → Type 0) (xs : List X) (x : X)
@@ -27,78 +31,125 @@ each_of_push P xs x each last i d low = by (nat_lt i (length xs)) refl
         let at : length xs ≡ i = grind (arith, is, low, length-append xs (x ∷ [])) in
         subst (P i) (sym (get_or_push xs x d i at)) (subst (λ k. P k x) at last)
 
--- what stood before keeps its style
-style_stays : (styles : List Style) (more : Style) (node : Option ℕ) → IsBefore node (length styles)
-    → style_at (styles ++ more ∷ []) node ≡ style_at styles node
-style_stays styles more None there = refl
-style_stays styles more (Some n) there = get_or_append_left styles (more ∷ []) initial n (there n refl)
+module _ (root : Style) where
+  style_of_place : (nodes : List RuleNode) (i : ℕ) (d : RuleNode) → i < length nodes
+      → style_at root nodes (Some i) ≡ (get_or nodes i d).style
+  style_of_place nodes i d low = ap (λ o. option_map_or (λ n. n.style) o root) (slice_get-get_or nodes i d low)
 
-earlier : (node : Option ℕ) (i n : ℕ) → i < n → IsBefore node i → IsBefore node n
-earlier parent i n low there = λ p is. let below = there p is in omega arith
+  -- what stood before keeps its style
+  style_stays : (nodes : List RuleNode) (more : RuleNode) (node : Option ℕ) → IsBefore node (length nodes)
+      → style_at root (nodes ++ more ∷ []) node ≡ style_at root nodes node
+  style_stays nodes more None there = refl
+  style_stays nodes more (Some n) there =
+      let low : n < length nodes = there n refl in
+      let longer : n < length (nodes ++ more ∷ []) = omega (arith, low, length-append nodes (more ∷ [])) in
+      style_of_place (nodes ++ more ∷ []) n more longer
+      ∙ ap (λ node. node.style) (get_or_append_left nodes (more ∷ []) more n low)
+      ∙ sym (style_of_place nodes n more low)
 
-computed_with : (nodes : List RuleNode) (styles : List Style) (node : RuleNode) (style : Style)
-    → AreComputed nodes styles → IsBefore node.parent (length styles)
-    → style ≡ cascaded (style_at styles node.parent) node.source
-    → AreComputed (nodes ++ node ∷ []) (styles ++ style ∷ [])
-computed_with nodes styles node style old there is = record {
-  each = grind (arith, length-append styles (style ∷ []), length-append nodes (node ∷ []), old.each);
-  behind = each_of_push (λ i n. IsBefore n.parent i) nodes node old.behind
-      (subst (IsBefore node.parent) old.each there);
-  style = each_of_push Fits nodes node before last;
-}
-  where
-    Fits : ℕ → RuleNode → Type 0
-    Fits i n = get_or (styles ++ style ∷ []) i initial ≡ cascaded (style_at (styles ++ style ∷ []) n.parent) n.source
+  earlier : (node : Option ℕ) (i n : ℕ) → i < n → IsBefore node i → IsBefore node n
+  earlier parent i n low there = λ p is. let below = there p is in omega arith
 
-    before : (i : ℕ) (d : RuleNode) → i < length nodes → Fits i (get_or nodes i d)
-    before i d low =
-        let below : i < length styles = grind (arith, low, old.each) in
-        let parent = earlier (get_or nodes i d).parent i (length styles) below (old.behind i d low) in
-        get_or_append_left styles (style ∷ []) initial i below
-        ∙ old.style i d low
-        ∙ ap (λ s. cascaded s (get_or nodes i d).source)
-        (sym (style_stays styles style (get_or nodes i d).parent parent))
+  computed_with : (nodes : List RuleNode) (node : RuleNode) → AreComputed root nodes
+      → IsBefore node.parent (length nodes) → node.style ≡ cascaded (style_at root nodes node.parent) node.source
+      → AreComputed root (nodes ++ node ∷ [])
+  computed_with nodes node old there is = record {
+    behind = each_of_push (λ i n. IsBefore n.parent i) nodes node old.behind there;
+    style = each_of_push Fits nodes node before last;
+  }
+    where
+      Fits : ℕ → RuleNode → Type 0
+      Fits i n = n.style ≡ cascaded (style_at root (nodes ++ node ∷ []) n.parent) n.source
 
-    last : Fits (length nodes) node
-    last =
-        get_or_push styles style initial (length nodes) old.each
-        ∙ is
-        ∙ ap (λ s. cascaded s node.source) (sym (style_stays styles style node.parent there))
+      before : (i : ℕ) (d : RuleNode) → i < length nodes → Fits i (get_or nodes i d)
+      before i d low =
+          let parent = earlier (get_or nodes i d).parent i (length nodes) low (old.behind i d low) in
+          old.style i d low
+          ∙ ap (λ s. cascaded s (get_or nodes i d).source)
+          (sym (style_stays nodes node (get_or nodes i d).parent parent))
 
-any_by_place : {T : Type 0} (p : T → Bool) (xs : List T) → list_any p xs ≡ nat_lt (position_or_len p xs) (length xs)
-any_by_place p [] = refl
-any_by_place p (x ∷ xs) = grind (arith, any_by_place p xs)
+      last : Fits (length nodes) node
+      last = is ∙ ap (λ s. cascaded s node.source) (sym (style_stays nodes node node.parent there))
 
-not_there : {T : Type 0} (p : T → Bool) (xs : List T) → position p xs ≡ None → list_any p xs ≡ false
-not_there p xs none = grind (arith, common_steps, any_by_place p xs, none)
+  -- all styles are computed after a child was found or made, and its own is that of its parent with its source
+  pub record IsChild (nodes new : List RuleNode) (child : Child) (s : ℕ) : Type 0 where
+    pub computed : AreComputed root new
+    pub there : s < length new
+    pub style : style_at root new (Some s) ≡ cascaded (style_at root nodes child.parent) (lent child.source)
 
-module _ (E : RuleNode → RuleNode → Bool) (node : RuleNode) (s : ℕ) where
-  -- a node that is found has the style of its parent with what its source declares
-  pub found : (nodes : List RuleNode) (styles : List Style) → position (E node) nodes ≡ Some s
-      → AreComputed nodes styles → ((a b : RuleNode) → E a b ≡ true → a ≡ b)
-      → (s < length styles) × (get_or styles s initial ≡ cascaded (style_at styles node.parent) node.source)
-  found nodes styles at old exact =
-      let place = position-Some (E node) nodes s node at in
-      let same : get_or nodes s node ≡ node = sym (exact node (get_or nodes s node) place.1) in
-      let low : s < length nodes = place.0 in (
-        subst (λ n. s < n) (sym old.each) low,
-        old.style s node low ∙ ap (λ n. cascaded (style_at styles n.parent) n.source) same,
-      )
+  module _ (E : RuleNode → RuleNode → Bool) (laws : IsEquivalence E)
+      (exact : (a b : RuleNode) → E a b ≡ true → (a.parent ≡ b.parent) × (a.source ≡ b.source))
+      (nodes new : List RuleNode) (child : Child) (any : Style) (s : ℕ) (Made : RuleNode → Type 0) where
+    module _ (found : IsFoundOrMade E (E (node_of child any)) Made nodes new s) where
+      reached : AreComputed root new → style_at root new child.parent ≡ style_at root nodes child.parent
+          → IsChild nodes new child s
+      reached computed same =
+          let place = position-Some (E found.value) new s found.value
+          ((found.interned.one found.value).1 (laws.refl found.value)) in
+          let first = exact (node_of child any) found.value found.stands in
+          let second = exact found.value (get_or new s found.value) place.1 in
+          record {
+            computed = computed;
+            there = place.0;
+            style =
+                style_of_place new s found.value place.0
+                ∙ computed.style s found.value place.0
+                ∙ ap₂ cascaded (ap (style_at root new) (sym (first.0 ∙ second.0)) ∙ same) (sym (first.1 ∙ second.1));
+          }
 
-  -- and so has one that is added
-  pub added : (nodes new : List RuleNode) (styles after : List Style) (style : Style)
-      → IsInterned E nodes node new s → position (E node) nodes ≡ None → AreComputed nodes styles
-      → IsBefore node.parent (length styles) → style ≡ cascaded (style_at styles node.parent) node.source
-      → after ≡ styles ++ style ∷ [] → IsEquivalence E → ((a b : RuleNode) → E a b ≡ true → a ≡ b)
-      → AreComputed new after × (s < length after)
-      × (get_or after s initial ≡ cascaded (style_at styles node.parent) node.source)
-  added nodes new styles after style interned none old there is is_after laws exact =
-      let any = not_there (E node) nodes none in
-      let grown : new ≡ nodes ++ node ∷ [] = grind (arith, interned.values, any) in
-      let all : AreComputed new after =
-      subst (λ n. AreComputed n after) (sym grown) (subst (AreComputed (nodes ++ node ∷ [])) (sym is_after)
-      (computed_with nodes styles node style old there is)) in
-      let one = found new after ((interned.one node).1 (laws.refl node)) all exact in
-      let stays : style_at after node.parent ≡ style_at styles node.parent =
-      ap (λ l. style_at l node.parent) is_after ∙ style_stays styles style node.parent there in
-      (all, one.0, one.1 ∙ ap (λ p. cascaded p node.source) stays)
+      pub child_of : AreComputed root nodes → IsBefore child.parent (length nodes)
+          → ((value : RuleNode) → Made value
+          → value ≡ node_of child (cascaded (style_at root nodes child.parent) (lent child.source)))
+          → IsChild nodes new child s
+      child_of old there made = by (list_any (E found.value) nodes) refl
+        where
+          by : (b : Bool) → list_any (E found.value) nodes ≡ b → IsChild nodes new child s
+          by true is =
+              let same : new ≡ nodes
+              = found.interned.values ∙ ap (λ b. if b then nodes else nodes ++ found.value ∷ []) is in
+              reached (subst (AreComputed root) (sym same) old) (ap (λ ns. style_at root ns child.parent) same)
+          by false is =
+              let grown : new ≡ nodes ++ found.value ∷ []
+              = found.interned.values ∙ ap (λ b. if b then nodes else nodes ++ found.value ∷ []) is in
+              let none = any_of_form laws (E (node_of child any)) (laws.congr (node_of child any)) found.value
+              found.stands nodes ∙ is in
+              let value_is = made found.value (found.made none) in
+              let parent : found.value.parent ≡ child.parent = ap (λ n. n.parent) value_is in
+              let source : found.value.source ≡ lent child.source = ap (λ n. n.source) value_is in
+              let style : found.value.style ≡ cascaded (style_at root nodes found.value.parent) found.value.source
+              = ap (λ n. n.style) value_is ∙ ap₂ cascaded (ap (style_at root nodes) (sym parent)) (sym source) in
+              let before = subst (λ p. IsBefore p (length nodes)) (sym parent) there in
+              reached
+              (subst (AreComputed root) (sym grown) (computed_with nodes found.value old before style))
+              (ap (λ ns. style_at root ns child.parent) grown ∙ style_stays nodes found.value child.parent there)
+
+module _ (root : Style) (E : RuleNode → RuleNode → Bool) (laws : IsEquivalence E)
+    (exact : (a b : RuleNode) → E a b ≡ true → (a.parent ≡ b.parent) × (a.source ≡ b.source))
+    (nodes : List RuleNode) (child : Child) (any : Style) (s : ℕ) (old : AreComputed root nodes)
+    (there : IsBefore child.parent (length nodes)) where
+  -- what is made of the child
+  abbrev pub Made : RuleNode → Type 0
+  Made value = value ≡ node_of child (cascaded (style_at root nodes child.parent) (lent child.source))
+
+  pub child_found : position (E (node_of child any)) nodes ≡ Some s → IsChild root nodes nodes child s
+  child_found is = child_of root E laws exact nodes nodes child any s Made
+      (found_there laws (E (node_of child any)) (laws.congr (node_of child any)) nodes s is Made) old there
+      (λ value made. made)
+
+  pub child_added : (new : List RuleNode) (value : RuleNode) → Made value → E (node_of child any) value ≡ true
+      → IsInterned E nodes value new s → IsChild root nodes new child s
+  child_added new value made stands interned = child_of root E laws exact nodes new child any s Made
+      (record { value = value; stands = stands; interned = interned; made = λ none. made }) old there
+      (λ value made. made)
+
+-- the styles stay computed, whether or not the node was refused
+pub computed_after : {X : Type 0} (root : Style) (E : RuleNode → RuleNode → Bool) → IsEquivalence E
+    → ((a b : RuleNode) → E a b ≡ true → (a.parent ≡ b.parent) × (a.source ≡ b.source)) → (nodes new : List RuleNode)
+    → (child : Child) (any : Style) → AreComputed root nodes → IsBefore child.parent (length nodes)
+    → (value : RuleNode) → value ≡ node_of child (cascaded (style_at root nodes child.parent) (lent child.source))
+    → E (node_of child any) value ≡ true → (r : Result ℕ X) → IfOk r (IsInterned E nodes value new)
+    → OnErr r (new ≡ nodes) → AreComputed root new
+computed_after root E laws exact nodes new child any old there value made stands (Ok s) interned refused =
+    (child_added root E laws exact nodes child any s old there new value made stands interned).computed
+computed_after root E laws exact nodes new child any old there value made stands (Err e) interned refused =
+    subst (AreComputed root) (sym refused) old

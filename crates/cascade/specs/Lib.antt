@@ -1,2 +1,3 @@
 pub mod Cascade
+pub mod Children
 pub mod RuleTree

@@ -1,42 +1,50 @@
 //! Styles by number: each path of sources has one node in a tree, and each node one style.
-ghost use Rattle.std.specs.Prelude.{◌≡◌, IfOk, OnErr, length};
+ghost use Rattle.std.specs.Prelude.{◌≡◌, ◌<◌, IfOk, OnErr, Some, length};
 ghost use Rattle.cascade.specs.Cascade.{cascaded, initial, style_of};
-ghost use Rattle.cascade.specs.RuleTree.{IsBefore, AreComputed, style_at};
+ghost use Rattle.cascade.specs.RuleTree.{IsBefore, AreComputed, lent, node_of, style_at};
 
 use crate::element::Element;
 use crate::initial::Initial;
-use crate::source::Source;
+use crate::node::{Child, LentSource, RuleNode};
 use crate::style::Style;
 use interner::{InternError, Interner, Symbol};
-use servo_arc::{Arc, ArcUnion};
+use servo_arc::Arc;
 use std::alloc::{AllocError, Global};
-
-/// A source under its parent, which is a node or the root.
-#[derive(PartialEq, Eq, Hash, Drop)]
-pub struct RuleNode {
-    pub parent: Option<Symbol>,
-    pub source: Source,
-}
+use std::hash::{BuildHasher, BuildHasherDefault, FoldHasher};
 
 /// The rule tree with the style of each node. A node is numbered once, however many elements have its path, and its
 /// style is computed then, from that of its parent. So elements with one path share one style, and elements whose paths
 /// begin alike share what the rest left alone.
+///
+/// `S` makes the hash of a node: take `RandomState` if the rules come from a stranger.
 #[derive(Drop)]
-pub struct StyleCache {
+pub struct StyleCache<S: BuildHasher = BuildHasherDefault<FoldHasher>> {
     root: Arc<Style>,
-    nodes: Interner<RuleNode>,
-    styles: Vec<Arc<Style>>,
+    nodes: Interner<RuleNode, S>,
     ghost initial: { root ≡ initial },
-    ghost computed: { AreComputed nodes styles.items },
+    ghost computed: { AreComputed root nodes },
 }
 
-impl StyleCache {
+impl StyleCache<BuildHasherDefault<FoldHasher>> {
     /// Without a node but the root.
     pub fn new(alloc: Global, initial: Initial) -> Result<StyleCache, AllocError> {
+        StyleCache::with_hasher(alloc, initial, BuildHasherDefault::new())
+    }
+}
+
+impl<S: BuildHasher> StyleCache<S> {
+    /// As `new`, with a hasher of the caller's choice.
+    pub fn with_hasher(
+        alloc: Global,
+        initial: Initial,
+        hasher: S,
+    ) -> Result<StyleCache<S>, AllocError>
+    where
+        S: Drop,
+    {
         Ok(StyleCache {
             root: Arc::try_new(alloc, initial.style())?,
-            nodes: Interner::new(alloc),
-            styles: Vec::new(alloc),
+            nodes: Interner::with_hasher(alloc, hasher),
         })
     }
 
@@ -46,31 +54,21 @@ impl StyleCache {
         ensures { IfOk result (λ style. style ≡ style_of element.now) }
     {
         let node = self.node(alloc, element)?;
-        Ok(self.at(&node).clone()?)
+        Ok(style_of_node(&self.root, self.nodes.values(), node).clone()?)
     }
 
     // The node at which the path of the element ends.
     fn node(&mut self, alloc: Global, element: &Element) -> Result<Option<Symbol>, InternError>
-        ensures { IfOk result (λ node. style_at self.new.styles.items node ≡ style_of element.now) }
+        ensures { IfOk result (λ node. style_at self.new.root self.new.nodes node ≡ style_of element.now) }
     {
         let mut node = None;
         let rules = element.rules.slice();
         for rule in rules {
-            node = self.child(alloc, node, ArcUnion::from_first(rule.clone()?))?;
+            node = Some(self.child(alloc, node, LentSource::OfRule(rule))?);
         }
         match &element.inline {
             None => Ok(node),
-            Some(inline) => self.child(alloc, node, ArcUnion::from_second(inline.clone()?)),
-        }
-    }
-
-    // The style of a node, or of the root.
-    fn at(&self, node: &Option<Symbol>) -> &Arc<Style>
-        ensures { result.now ≡ style_at self.now.styles.items node.now }
-    {
-        match node {
-            None => &self.root,
-            Some(symbol) => self.styles.get(symbol.index()).unwrap_or(&self.root),
+            Some(inline) => Ok(Some(self.child(alloc, node, LentSource::OfInline(inline))?)),
         }
     }
 
@@ -79,23 +77,56 @@ impl StyleCache {
         &mut self,
         alloc: Global,
         parent: Option<Symbol>,
-        source: Source,
-    ) -> Result<Option<Symbol>, InternError>
-        requires { IsBefore parent (length self.old.styles.items) }
-        ensures there { IfOk result (λ node. IsBefore node (length self.new.styles.items)) }
-        ensures style { IfOk result (λ node. style_at self.new.styles.items node
-            ≡ cascaded (style_at self.old.styles.items parent) source) }
+        source: LentSource<'_>,
+    ) -> Result<Symbol, InternError>
+        requires { IsBefore parent (length self.old.nodes) }
+        ensures there { IfOk result (λ node. node < length self.new.nodes) }
+        ensures style { IfOk result (λ node. style_at self.new.root self.new.nodes (Some node)
+            ≡ cascaded (style_at self.old.root self.old.nodes parent) (lent source.entry)) }
         ensures refused { OnErr result (self.new.nodes ≡ self.old.nodes) }
     {
-        let node = RuleNode { parent, source };
-        if let Some(symbol) = self.nodes.find(&node) {
-            return Ok(Some(symbol));
+        let child = Child { parent, source };
+        if let Some(symbol) = self.nodes.find(&child) {
+            return Ok(symbol);
         }
-        let style = self.at(&node.parent).cascade(alloc, &node.source)?;
-        let style = Arc::try_new(alloc, style).map_err(AllocError::from)?;
-        self.styles.reserve(1)?;
+        let node = new_node(alloc, &self.root, self.nodes.values(), &child)?;
         let symbol = self.nodes.intern(alloc, node)?;
-        self.styles.push_reserved(style);
-        Ok(Some(symbol))
+        Ok(symbol)
     }
+}
+
+// The style of a node, or of the root.
+fn style_of_node<'a>(
+    root: &'a Arc<Style>,
+    nodes: &'a [Arc<RuleNode>],
+    node: Option<Symbol>,
+) -> &'a Arc<Style>
+    ensures { result.now ≡ style_at root.now nodes.now node }
+{
+    match node {
+        None => root,
+        Some(symbol) => match nodes.get(symbol.index()) {
+            None => root,
+            Some(node) => &node.style,
+        },
+    }
+}
+
+// A node whose style is that of its parent with what its source declares.
+fn new_node(
+    alloc: Global,
+    root: &Arc<Style>,
+    nodes: &[Arc<RuleNode>],
+    child: &Child<'_>,
+) -> Result<RuleNode, AllocError>
+    ensures { IfOk result (λ node. node ≡ node_of child.now
+        (cascaded (style_at root.now nodes.now child.now.parent) (lent child.now.source))) }
+{
+    let source = child.source.handle()?;
+    let style = style_of_node(root, nodes, child.parent).cascade(alloc, &source)?;
+    Ok(RuleNode {
+        parent: child.parent,
+        source,
+        style: Arc::try_new(alloc, style)?,
+    })
 }

@@ -3,8 +3,10 @@
 #![tactic(auto)]
 
 mod cache;
+mod child;
 mod element;
 mod initial;
+mod node;
 mod source;
 mod style;
 mod threads;

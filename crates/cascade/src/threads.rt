@@ -9,6 +9,7 @@ use crate::style::Style;
 use interner::InternError;
 use servo_arc::Arc;
 use std::alloc::{AllocError, Global};
+use std::hash::BuildHasher;
 use std::sync::{Mutex, Wait};
 use std::thread::{Threads, join};
 
@@ -75,9 +76,9 @@ fn joined(left: Vec<Arc<Style>>, right: Vec<Arc<Style>>) -> Result<Vec<Arc<Style
 }
 
 /// The style of the element, asked of a cache that threads share.
-pub fn shared_style(
+pub fn shared_style<S: BuildHasher>(
     rt: &impl Wait,
-    cache: &Mutex<StyleCache>,
+    cache: &Mutex<StyleCache<S>>,
     alloc: Global,
     element: &Element,
 ) -> Result<Arc<Style>, InternError>

@@ -10,12 +10,17 @@ use Rattle.std.proofs.lemmas.List.{get_or_append_left}
 use Rattle.std.proofs.lemmas.Option.{get_or_from_slice_get, slice_get-get_or, slice_get_within}
 use Rattle.std.specs.Cmp.{IsEquivalence}
 use Rattle.std.specs.List.{list_any, position_or_len}
+use Rattle.interner.specs.Made.{IsFoundOrMade}
 use Rattle.interner.specs.Symbols.{symbol_of, with_value, IsInterned}
 
 module _ {T : Type 0} (p : T → Bool) where
   any_by_place : (xs : List T) → list_any p xs ≡ nat_lt (position_or_len p xs) (length xs)
   any_by_place [] = refl
   any_by_place (x ∷ xs) = grind (arith, any_by_place xs)
+
+  -- one passes exactly if one has a place
+  pub any_by_position : (xs : List T) → list_any p xs ≡ is_some (position p xs)
+  any_by_position xs = grind (arith, any_by_place xs)
 
   module _ (xs : List T) (y : T) where
     -- what is found stays where it is found
@@ -90,9 +95,25 @@ module _ {T : Type 0} {eq : T → T → Bool} (laws : IsEquivalence eq) where
     added new s none is at = interned new s (grind (arith, none, is))
         (grind (arith, none, at, any_by_place (eq value) old, prefix_len-le-length (λ x. not (eq value x)) old))
 
-    -- a value is there exactly if it has a symbol
-    pub has_symbol : is_some (symbol_of eq old value) ≡ list_any (eq value) old
-    has_symbol = grind (arith, any_by_place (eq value) old)
+-- a test that passes what equals one value
+module _ {T : Type 0} {eq : T → T → Bool} (laws : IsEquivalence eq) (pass : T → Bool)
+    (equal : (x y : T) → pass x ≡ true → pass y ≡ eq x y) where
+  pub any_of_form : (x : T) → pass x ≡ true → (xs : List T) → list_any pass xs ≡ list_any (eq x) xs
+  any_of_form x is xs = λ j. list_any (λ y. equal x y is j) xs
+
+  -- the value that passes is there already
+  pub found_there : (old : List T) (s : ℕ) → position pass old ≡ Some s → (Made : T → Type 0)
+      → IsFoundOrMade eq pass Made old old s
+  found_there [] s is Made = absurd (cc)
+  found_there (v ∷ vs) s is Made =
+      let at = (position-Some pass (v ∷ vs) s v is).1 in
+      let x = get_or (v ∷ vs) s v in
+      record {
+        value = x;
+        stands = at;
+        interned = known laws (v ∷ vs) x s ((λ j. position (λ y. sym (equal x y at) j) (v ∷ vs)) ∙ is);
+        made = λ none. absurd (true≢false (sym (any_by_position pass (v ∷ vs) ∙ ap is_some is) ∙ none));
+      }
 
 -- what a caller knows after an `intern`
 module _ {T : Type 0} {eq : T → T → Bool} {old new : List T} {value : T} {s : ℕ}

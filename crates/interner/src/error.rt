@@ -2,7 +2,7 @@
 ghost use Rattle.std.specs.Prelude.{◌≡◌};
 ghost use Rattle.interner.specs.declared.error.InternError.TheVariants.{Memory};
 
-use std::alloc::AllocError;
+use std::alloc::{AllocError, AllocFailed};
 use thiserror::Error;
 
 /// Why `Interner::intern` refused a value. The interner has the values that it had.
@@ -20,6 +20,14 @@ impl From<AllocError> for InternError {
     ghost from_gives = { λ _ refusal. refusal ≡ Memory };
 
     fn from(_error: AllocError) -> InternError {
+        InternError::Memory
+    }
+}
+
+impl<T: Drop> From<AllocFailed<T>> for InternError {
+    ghost from_gives = { λ _ refusal. refusal ≡ Memory };
+
+    fn from(_error: AllocFailed<T>) -> InternError {
         InternError::Memory
     }
 }

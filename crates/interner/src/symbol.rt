@@ -22,6 +22,7 @@ impl Model for Symbol {
 }
 
 impl Symbol {
+    #[inline]
     pub(crate) fn of(number: u32) -> Symbol
         ensures { result ≡ number }
     {

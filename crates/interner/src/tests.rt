@@ -1,10 +1,15 @@
 //! What an interner does with values of an own type and with text.
+mod hashers;
 mod names;
 
 use crate::{InternError, Interner};
+use hashers::OneHash;
 use names::are_equal;
 use servo_arc::Arc;
 use std::alloc::Global;
+use std::cell::Cell;
+use std::fmt::Write;
+use std::hash::{BuildHasher, RandomState};
 use std::test::Fail;
 
 #[derive(Clone, Copy, Debug, PartialEq, Eq, Hash)]
@@ -17,23 +22,23 @@ const RED: Color = Color { red: 255, blue: 0 };
 
 const BLUE: Color = Color { red: 0, blue: 255 };
 
-fn numbers(alloc: Global) -> Result<Vec<usize>, InternError> {
-    let mut colors = Interner::new(alloc);
+fn numbers<S: BuildHasher + Drop>(alloc: Global, hasher: S) -> Result<Vec<usize>, InternError> {
+    let mut colors = Interner::with_hasher(alloc, hasher);
     let mut numbers = Vec::new(alloc);
     for color in [RED, BLUE, RED, BLUE, RED] {
-        let symbol = colors.intern(alloc, color)?;
-        numbers
-            .push(symbol.index())
-            .map_err(|_| InternError::Memory)?;
+        numbers.push(colors.intern(alloc, color)?.index())?;
     }
     Ok(numbers)
 }
 
-// A new color gets the next number, and one that was there has the number that it had.
+// A new color gets the next number, and one that was there has the number that it had: also under random keys, and
+// where all have one hash.
 #[test]
-fn a_color_keeps_its_number(rt: HostRuntime) -> Result<(), Fail> {
-    let numbers = numbers(rt.alloc())?;
-    assert_eq!(rt; numbers.as_slice(), [0, 1, 0, 1, 0].as_slice());
+fn a_color_keeps_its_number_under_each_hasher(rt: HostRuntime) -> Result<(), Fail> {
+    let random = numbers(rt.alloc(), RandomState::new(&rt)?)?;
+    assert_eq!(rt; random.as_slice(), [0, 1, 0, 1, 0].as_slice());
+    let colliding = numbers(rt.alloc(), OneHash)?;
+    assert_eq!(rt; colliding.as_slice(), [0, 1, 0, 1, 0].as_slice());
     Ok(())
 }
 
@@ -64,10 +69,10 @@ fn kept(alloc: Global, texts: &[&str]) -> Result<Vec<bool>, InternError> {
     let mut names = Interner::new(alloc);
     let mut kept = Vec::new(alloc);
     for text in texts {
-        let name = String::from_str(alloc, text)?;
-        let block = Arc::new(alloc, name).map_err(|_| InternError::Memory)?;
-        kept.push(is_kept(&mut names, &block)?)
-            .map_err(|_| InternError::Memory)?;
+        let block = Arc::new(alloc, String::from_str(alloc, text)?).map_err(
+            |_| InternError::Memory,
+        )?;
+        kept.push(is_kept(&mut names, &block)?)?;
     }
     Ok(kept)
 }
@@ -80,5 +85,44 @@ fn equal_texts_have_one_block(rt: HostRuntime) -> Result<(), Fail> {
         kept.as_slice(),
         [true, true, false, false, false].as_slice()
     );
+    Ok(())
+}
+
+fn named(alloc: Global, texts: &[&str], made: &Cell<u32>) -> Result<Interner<String>, InternError> {
+    let mut names = Interner::with_capacity(alloc, 2)?;
+    for text in texts {
+        let text = *text;
+        names.intern_by(alloc, text, |_| {
+            made.set(made.get().wrapping_add(1));
+            String::from_str(alloc, text)
+        })?;
+    }
+    Ok(names)
+}
+
+// A text finds a `String`, and a `String` is made only where none is there.
+#[test]
+fn a_text_that_is_there_is_not_made(rt: HostRuntime) -> Result<(), Fail> {
+    let made = Cell::new(0);
+    let names = named(rt.alloc(), &["first", "other", "first"], &made)?;
+    assert_eq!(rt; made.get(), 2);
+    assert_eq!(rt; names.find("other"), names.symbol(1));
+    assert_eq!(rt; names.symbol(2), None);
+    Ok(())
+}
+
+#[test]
+fn names_are_read_in_the_order_of_their_symbols(rt: HostRuntime) -> Result<(), Fail> {
+    let alloc = rt.alloc();
+    let names = named(alloc, &["first", "other", "first"], &Cell::new(0))?;
+    let turned = named(alloc, &["other", "first"], &Cell::new(0))?;
+    let mut read = String::new(alloc);
+    for (symbol, name) in &names {
+        write!(read, "{} {name}, ", symbol.index())?;
+    }
+    assert_eq!(rt; read.as_str(), "0 first, 1 other, ");
+    let text = format!(in alloc; "{names:?}")?;
+    assert_eq!(rt; text.as_str(), "[\"first\", \"other\"]");
+    assert_eq!(rt; (names == names, names == turned), (true, false));
     Ok(())
 }

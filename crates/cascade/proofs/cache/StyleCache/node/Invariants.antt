@@ -7,8 +7,7 @@ use Rattle.cascade.proofs.cache.StyleCache.node.Given as goal
 
 -- the node is there, and its style is that of the rules so far
 abbrev pub invariant-loop-rule : goal.invariant-loop-rule
-invariant-loop-rule l = record {
-  there : IsBefore l.node (length l.self.styles.items);
-  style : style_at l.self.styles.items l.node
-      ≡ fold cascaded initial (map First (take l.rule-index l.rules));
+invariant-loop-rule g l = record {
+  there : IsBefore l.node (length l.self.nodes);
+  style : style_at l.self.root l.self.nodes l.node ≡ fold cascaded initial (map First (take l.rule-index l.rules));
 }

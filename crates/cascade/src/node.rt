@@ -1,0 +1,56 @@
+//! The nodes of a rule tree, and what one is looked up by.
+ghost use Rattle.std.specs.Prelude.{◌≡◌, IfOk};
+ghost use Rattle.cascade.specs.RuleTree.{lent};
+
+use crate::source::{Inline, Rule, Source};
+use crate::style::Style;
+use interner::Symbol;
+use servo_arc::{Arc, ArcUnion, ArcUnionBorrow};
+use std::alloc::AllocError;
+
+/// A source under its parent, which is a node or the root, with the style that both make. It is told from other nodes
+/// by parent and source alone.
+#[derive(Drop)]
+#[derive_where(PartialEq, Eq, Hash)]
+pub struct RuleNode {
+    pub parent: Option<Symbol>,
+    pub source: Source,
+    #[derive_where(skip(EqHashOrd))]
+    pub style: Arc<Style>,
+}
+
+/// A source as an element lends it: no handle is cloned to look it up.
+#[derive(Clone, Copy, PartialEq, Eq, Hash)]
+pub enum LentSource<'a> {
+    OfRule(&'a Arc<Rule>),
+    OfInline(&'a Arc<Inline>),
+}
+
+/// What a node is looked up by.
+#[derive(Clone, Copy, PartialEq, Eq, Hash)]
+pub struct Child<'a> {
+    pub parent: Option<Symbol>,
+    pub source: LentSource<'a>,
+}
+
+impl LentSource<'_> {
+    // A handle of one's own.
+    pub(crate) fn handle(&self) -> Result<Source, AllocError>
+        ensures { IfOk result (λ source. source ≡ lent self.now) }
+    {
+        match self {
+            LentSource::OfRule(rule) => Ok(ArcUnion::from_first((**rule).clone()?)),
+            LentSource::OfInline(inline) => Ok(ArcUnion::from_second((**inline).clone()?)),
+        }
+    }
+
+    pub(crate) fn equals(&self, source: &Source) -> bool
+        ensures { result ≡ ⟦<Source as PartialEq>⟧.eq (lent self.now) source.now }
+    {
+        match (self, source.borrow()) {
+            (LentSource::OfRule(a), ArcUnionBorrow::First(b)) => ***a == *b.get(),
+            (LentSource::OfInline(a), ArcUnionBorrow::Second(b)) => ***a == *b.get(),
+            _ => false,
+        }
+    }
+}

@@ -1,0 +1,76 @@
+use Rattle.std.proofs.Common.{◌≡◌, true, false, Ok, position, ap, sym, ◌∙◌, subst}
+use Rattle.std.specs.Fn.{FnOnceReturns, FnOnceReturnsAt}
+use Rattle.std.specs.List.{list_any}
+use Rattle.interner.specs.Hashes.{hash}
+use Rattle.interner.specs.Places.{IsPlace}
+use Rattle.interner.specs.Symbols.{IsInterned}
+use Rattle.interner.proofs.Symbols.{any_of_form, found_there}
+use Rattle.interner.proofs.table.Interner.intern_by.Goals as goal
+
+pub push-requires-clause-hash : goal.push-requires-clause-hash
+push-requires-clause-hash g c =
+    let hashed = hash g.S.BuildHasher g.S.Hasher.Hasher c.self.inside.store.hasher in
+    let pass = g.Q.Query.stands_for c.args.query in
+    let place = subst (IsPlace pass (hashed (g.Q.Hash.hash_input c.args.query)) c.self.inside.store.values.items)
+    c.in-Free.is c.in_ok-symbol.ensures.place in
+    let value = c.in_ok-make-in-Free.field-0 in
+    let ran : FnOnceReturnsAt g.F.FnOnce c.args.make c.args.self.now (Ok value)
+    = (
+      c.as_slice.result,
+      subst (FnOnceReturns g.F.FnOnce c.args.make (c.as_slice.result, tt)) c.in_ok-make-in-Free.was c.make.ensures,
+      c.as_slice.ensures.value ∙ c.self.view_is,
+    ) in
+    let stands = c.requires.makes (Ok value) ran in
+    place.0 ∙ ap hashed ((g.met.Q.Query.is_form c.args.query value stands).hashed)
+    ∙ ap (λ v. hashed (g.T.Hash.hash_input v)) (sym c.in_ok-made-in-Free.ensures.made)
+
+pub push-requires-clause-new : goal.push-requires-clause-new
+push-requires-clause-new g c =
+    let hashed = hash g.S.BuildHasher g.S.Hasher.Hasher c.self.inside.store.hasher in
+    let pass = g.Q.Query.stands_for c.args.query in
+    let equal = λ (x y : g.row.T.Denot) (e : pass x ≡ true). (g.met.Q.Query.is_form c.args.query x e).equal y in
+    let values = c.self.inside.store.values.items in
+    let place = subst (IsPlace pass (hashed (g.Q.Hash.hash_input c.args.query)) values) c.in-Free.is
+    c.in_ok-symbol.ensures.place in
+    let value = c.in_ok-make-in-Free.field-0 in
+    let ran : FnOnceReturnsAt g.F.FnOnce c.args.make c.args.self.now (Ok value)
+    = (
+      c.as_slice.result,
+      subst (FnOnceReturns g.F.FnOnce c.args.make (c.as_slice.result, tt)) c.in_ok-make-in-Free.was c.make.ensures,
+      c.as_slice.ensures.value ∙ c.self.view_is,
+    ) in
+    let stands = c.requires.makes (Ok value) ran in
+    subst (λ v. list_any (g.T.PartialEq.eq v) values ≡ false) (sym c.in_ok-made-in-Free.ensures.made)
+    (sym (any_of_form g.met.T.Eq.laws pass equal value stands values) ∙ place.1)
+
+pub returns-in-Taken-clause-interned : goal.returns-in-Taken-clause-interned
+returns-in-Taken-clause-interned g c =
+    let hashed = hash g.S.BuildHasher g.S.Hasher.Hasher c.self.inside.store.hasher in
+    let pass = g.Q.Query.stands_for c.args.query in
+    let equal = λ (x y : g.row.T.Denot) (e : pass x ≡ true). (g.met.Q.Query.is_form c.args.query x e).equal y in
+    let place = subst (IsPlace pass (hashed (g.Q.Hash.hash_input c.args.query)) c.self.inside.store.values.items)
+    c.in-Taken.is c.in_ok-symbol.ensures.place in
+    found_there g.met.T.Eq.laws pass equal c.args.self.now c.in-Taken.symbol
+    (ap (position pass) (sym c.self.view_is) ∙ place.0) _
+
+pub returns-in_ok-push-in-Free-clause-interned : goal.returns-in_ok-push-in-Free-clause-interned
+returns-in_ok-push-in-Free-clause-interned g c =
+    let pass = g.Q.Query.stands_for c.args.query in
+    let made = sym c.in_ok-made-in-Free.ensures.made in
+    let value = c.in_ok-make-in-Free.field-0 in
+    let ran : FnOnceReturnsAt g.F.FnOnce c.args.make c.args.self.now (Ok value)
+    = (
+      c.as_slice.result,
+      subst (FnOnceReturns g.F.FnOnce c.args.make (c.as_slice.result, tt)) c.in_ok-make-in-Free.was c.make.ensures,
+      c.as_slice.ensures.value ∙ c.self.view_is,
+    ) in
+    let stands = c.requires.makes (Ok value) ran in
+    record {
+      value = c.in_ok-made-in-Free.made;
+      stands = subst (λ v. pass v ≡ true) made stands;
+      interned = subst
+          (λ vs. IsInterned g.T.PartialEq.eq vs c.in_ok-made-in-Free.made c.push.new.self.values.items
+          c.in_ok-push-in-Free.field-0)
+          c.self.view_is c.in_ok-push-in-Free.ensures.interned;
+      made = λ _. subst (λ v. FnOnceReturnsAt g.F.FnOnce c.args.make c.args.self.now (Ok v)) made ran;
+    }

@@ -1,0 +1,68 @@
+//! What an interner finds a value by.
+ghost use Rattle.std.specs.Prelude.{◌≡◌, Bool, IsTrue};
+ghost use Rattle.std.proofs.Common.{ap};
+ghost use Rattle.std.specs.Cmp.Lexicographic.{bytes_decides, lists_equiv, nat_list_eq_equiv, pointwise};
+ghost use Rattle.std.specs.Hash as fed;
+ghost use Rattle.std.specs.Hash.{items_Alike};
+ghost use Rattle.std.specs.Str.{bytes_eq};
+ghost use Rattle.std.specs.String.{string_bytes};
+ghost use Rattle.interner.specs.Queries.{IsFormOf};
+
+use std::hash::Hash;
+
+/// A form in which a caller has a value before it is a `T`: a `&T`, a `&str` for a `String`, a `&[T]` for a `Vec<T>`.
+///
+/// Implement it for a type of your own to find values by their borrowed parts. It is hashed and compared in place of
+/// the value, so it has to do both as the value does, and `is_form` asks for the proof.
+pub trait Query<T: Eq + Hash>: Copy + Hash {
+    // The values that it stands for.
+    ghost stands_for: { Self → T → Bool };
+
+    /// Whether it stands for the value.
+    fn stands_for(&self, value: &T) -> bool
+        ensures { result ≡ stands_for self.now value.now };
+
+    // It is a form of each value that it stands for, so it stands for one value at most, up to `==`.
+    ghost is_form: { (query : Self) (value : T) → IsTrue (stands_for query value)
+        → IsFormOf T.eq (stands_for query) (Self.hash_input query) (T.hash_input value) value };
+}
+
+impl<T: Eq + Hash> Query<T> for &T {
+    ghost stands_for = { λ query. T.eq query.now };
+
+    ghost is_form = { λ query value same. record {
+      hashed = T.respects_eq query.now value same;
+      equal = λ other. T.Eq.laws.congr query.now value other same;
+    } };
+
+    #[inline]
+    fn stands_for(&self, value: &T) -> bool {
+        **self == *value
+    }
+}
+
+impl Query<String> for &str {
+    ghost stands_for = { λ query value. bytes_eq query.now (string_bytes value) };
+
+    ghost is_form = { λ query value same. record {
+      hashed = ap fed.str ((bytes_decides query.now (string_bytes value)).0 same);
+      equal = λ other. nat_list_eq_equiv.congr query.now (string_bytes value) (string_bytes other) same;
+    } };
+
+    fn stands_for(&self, value: &String) -> bool {
+        *self == value.as_str()
+    }
+}
+
+impl<T: Eq + Hash> Query<Vec<T>> for &[T] {
+    ghost stands_for = { λ query value. pointwise T.eq query.now value.items };
+
+    ghost is_form = { λ query value same. record {
+      hashed = (items_Alike (record { fed = T.respects_eq })).fed query.now value.items same;
+      equal = λ other. (lists_equiv T.Eq.laws).congr query.now value.items other.items same;
+    } };
+
+    fn stands_for(&self, value: &Vec<T>) -> bool {
+        *self == value.as_slice()
+    }
+}

@@ -9,6 +9,8 @@ mod makers;
 mod map_versions;
 mod reporting;
 mod rose_trees;
+mod sequence_versions;
 mod steps;
 mod styles;
+mod symbols;
 mod table_calls;

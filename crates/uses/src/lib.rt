@@ -2,11 +2,14 @@
 #![tactic(auto)]
 
 pub mod along_a_path;
+pub mod buffer;
 pub mod copies;
 pub mod crossing;
 pub mod documents;
+pub mod dynamic;
 pub mod editions;
 pub mod edits;
+pub mod lines;
 pub mod list_with_undo;
 pub mod published;
 pub mod read_back;

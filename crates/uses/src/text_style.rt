@@ -1,9 +1,10 @@
 //! How code above uses the handles.
-ghost use Rattle.std.specs.Prelude.{◌≡◌, if◌then◌else◌, false, true, IfOk, IfErr};
+ghost use Rattle.std.specs.Prelude.{◌≡◌, if◌then◌else◌, false, true, IfOk, IfErr, unwrap_or};
 ghost use Rattle.servo_arc.specs.Borrowed.{borrowed};
 ghost use Rattle.servo_arc.specs.HeaderSlice.Builders.{Builds};
+ghost use Rattle.servo_arc.specs.Stays.{value_of};
 
-use servo_arc::{Arc, ArcBorrow, BuildError, ThinArc, UniqueArc};
+use servo_arc::{Arc, ArcBorrow, BuildError, StaticArc, ThinArc, UniqueArc};
 use std::alloc::{AllocError, Global};
 
 /// How a run of text looks.
@@ -56,6 +57,19 @@ pub fn size_of(style: ArcBorrow<'_, TextStyle>) -> u32
     ensures { result ≡ (borrowed style.entry).size }
 {
     style.get().size
+}
+
+/// The style, or the default, of which a handle cannot be refused.
+pub fn style_or(
+    style: Option<Arc<TextStyle>>,
+    default: StaticArc<'static, TextStyle>,
+) -> Arc<TextStyle>
+    ensures { result ≡ unwrap_or style (value_of default.entry) }
+{
+    match style {
+        Some(style) => style,
+        None => default.arc(),
+    }
 }
 
 /// Letters under their style. They are refused for want of memory, or if the iterator does not give just `number`.

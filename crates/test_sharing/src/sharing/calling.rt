@@ -1,12 +1,15 @@
 //! The callers of the documentation, called: what they share, and on which threads.
+use cow_table::CowTable;
 use persistent::{List, TreeMap};
-use servo_arc::Arc;
+use servo_arc::{Arc, UniqueArc};
 use testing::{again, holds, ok, same};
 use uses::crossing::{end_elsewhere, is_unique_elsewhere, len_elsewhere, made_elsewhere};
+use uses::dynamic::{Codec, encoded, shared};
 use uses::edits::{Article, two_titles};
+use uses::list_with_undo::set_and_note;
 use uses::text_style::{
     TextStyle, plain_and_bold, plain_style, properties, properties_of, put_under, rule_of, size_of,
-    styled,
+    style_or, styled,
 };
 use uses::two_versions::{before_and_after, two_lists};
 
@@ -16,6 +19,34 @@ fn a_bold_style_leaves_the_plain_one(rt: HostRuntime) {
     same!(&rt, [plain.is_unique(), bold.is_unique()], [true; 2]);
     let style = ok!(&rt, plain_style(rt.alloc(), 12));
     same!(&rt, size_of(style.borrow_arc()), 12);
+    let default = ok!(
+        &rt,
+        UniqueArc::new(
+            rt.alloc(),
+            TextStyle {
+                size: 7,
+                is_bold: false
+            }
+        )
+    );
+    let default = default.into_static();
+    let sizes = [
+        style_or(Some(style), default).size,
+        style_or(None, default).size,
+    ];
+    same!(&rt, sizes, [12, 7]);
+}
+
+#[test]
+fn a_place_is_set_and_noted(rt: HostRuntime) {
+    let items = ok!(&rt, vec![in rt.alloc(); 1, 2]);
+    let mut list = ok!(&rt, CowTable::from_items(rt.alloc(), items, 2));
+    let mut places = Vec::new(rt.alloc());
+    holds!(
+        &rt,
+        set_and_note(&mut list, &mut places, rt.alloc(), 1, 9).is_ok()
+    );
+    same!(&rt, places.len(), 1);
 }
 
 #[test]
@@ -65,4 +96,40 @@ fn callers_make_both_versions(rt: HostRuntime) {
     let mut map = TreeMap::new();
     let read = before_and_after(rt.alloc(), &mut map, 3, 5).is_ok();
     same!(&rt, [two_lists(rt.alloc()).is_ok(), read], [true; 2]);
+}
+
+#[derive(Drop)]
+struct Same;
+
+impl Codec for Same {
+    ghost coded = { λ _ number. number };
+
+    fn encode(&self, number: u8) -> u8 {
+        number
+    }
+}
+
+#[derive(Drop)]
+struct Always(u8);
+
+impl Codec for Always {
+    ghost coded = { λ always _. always.0 };
+
+    fn encode(&self, _number: u8) -> u8 {
+        self.0
+    }
+}
+
+#[test]
+fn values_of_two_types_are_shared(rt: HostRuntime) {
+    let same = ok!(&rt, Box::new(rt.alloc(), Same));
+    let always = ok!(&rt, Box::new(rt.alloc(), Always(7)));
+    let same = ok!(&rt, shared(rt.alloc(), same));
+    let always = ok!(&rt, shared(rt.alloc(), always));
+    let again = again!(&rt, &always);
+    same!(
+        &rt,
+        [encoded(&same, 3), encoded(&always, 3), encoded(&again, 4)],
+        [3, 7, 7]
+    );
 }

@@ -1,5 +1,5 @@
 //! A document whose edits are undone, and how a tree ends.
-use crate::made::arc_of;
+use crate::made::{arc_of, check_debug};
 use crate::sharing::lists::SMALL_STACK;
 use cascade::{Declaration, Element, Initial, Inline, StyleCache};
 use servo_arc::Arc;
@@ -9,6 +9,7 @@ use testing::counted::{Counted, Tally};
 use testing::{ok, same};
 use trees::{Rose, Undo};
 use uses::documents::{Edit, Part, apply, styles};
+use uses::lines::{insert_line, remove_line, set_line};
 
 fn name(rt: &(impl Abort + AllocGlobal), text: &str) -> Arc<String> {
     arc_of(rt, ok!(rt, String::from_str(rt.alloc(), text)))
@@ -46,6 +47,52 @@ fn edits_are_undone_and_done_again(rt: HostRuntime) {
     let mut cache = ok!(&rt, StyleCache::new(alloc, ok!(&rt, Initial::new(alloc))));
     let styles = ok!(&rt, styles(&mut cache, alloc, document.current()));
     same!(&rt, styles.len(), 3);
+}
+
+#[test]
+fn lines_are_edited(rt: HostRuntime) {
+    let alloc = rt.alloc();
+    let mut lines = Undo::new(alloc, ok!(&rt, Rose::leaf(alloc, name(&rt, "notes"))));
+    for text in ["second", "first"] {
+        ok!(&rt, insert_line(&mut lines, alloc, 0, name(&rt, text)));
+    }
+    ok!(&rt, set_line(&mut lines, alloc, 0, name(&rt, "new")));
+    ok!(&rt, remove_line(&mut lines, alloc, 1));
+    let seen = (lines.current().children().len(), lines.before().len());
+    same!(&rt, seen, (1, 4));
+}
+
+// Two versions are left to go back to, and those before them are gone.
+#[test]
+fn the_oldest_versions_are_forgotten(rt: HostRuntime) {
+    let tally = Tally::new();
+    let mut versions = Undo::new(rt.alloc(), Counted::new(&tally, 0));
+    for value in 1..=4 {
+        ok!(&rt, versions.change(Counted::new(&tally, value)));
+        versions.forget(2);
+    }
+    let left = versions.before().iter().map(|version| version.value);
+    same!(&rt, (tally.drops(), left.eq([2, 3].into_iter())), (2, true));
+    same!(
+        &rt,
+        [versions.can_undo(), versions.can_redo()],
+        [true, false]
+    );
+}
+
+#[test]
+fn an_undo_is_compared_and_printed(rt: HostRuntime) {
+    let mut versions = Undo::new(rt.alloc(), 1u8);
+    ok!(&rt, versions.change(2));
+    let mut other = Undo::new(rt.alloc(), 1u8);
+    same!(&rt, versions == other, false);
+    ok!(&rt, other.change(2));
+    same!(&rt, versions == other, true);
+    check_debug(
+        &rt,
+        &versions,
+        "Undo { before: [1], current: 2, undone: [] }",
+    );
 }
 
 #[test]

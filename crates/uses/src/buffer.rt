@@ -1,0 +1,45 @@
+//! An editor's buffer: a list of lines with undo, whose versions share all lines and nearly all nodes.
+ghost use Rattle.std.specs.Prelude.{◌≡◌, ◌∷◌, ◌++◌, [], ◌↔◌, ◌<◌, Err, IfOk, IfSome, OnErr, OnOk, drop, length, take};
+ghost use Rattle.std.specs.List.{insert};
+
+use sequence::{InsertError, Sequence};
+use servo_arc::Arc;
+use std::alloc::{AllocError, Global};
+use trees::Undo;
+
+/// Lines behind handles, so that a copy of one equals it.
+pub type Buffer = Undo<Sequence<Arc<String>>>;
+
+/// Puts a line in, and keeps the version before.
+pub fn insert_line(
+    buffer: &mut Buffer,
+    alloc: Global,
+    number: usize,
+    line: Arc<String>,
+) -> Result<(), InsertError>
+    ensures inserted { OnOk result (buffer.new.current ≡ insert buffer.old.current number line) }
+    ensures kept { OnOk result (buffer.new.before ≡ buffer.old.before ++ buffer.old.current ∷ []) }
+    ensures refused { OnErr result (buffer.new ≡ buffer.old) }
+{
+    let mut next: Sequence<Arc<String>> = buffer.current().clone()?;
+    next.insert(alloc, number, line)?;
+    buffer.change(next)?;
+    Ok(())
+}
+
+/// The lines with those from the number on before the others, if there is such a number.
+pub fn turned(
+    lines: &Sequence<Arc<String>>,
+    alloc: Global,
+    number: usize,
+) -> Result<Option<Sequence<Arc<String>>>, AllocError>
+    ensures { IfOk result (λ turned. IfSome turned
+        (λ all. all ≡ drop number lines.now ++ take number lines.now)) }
+{
+    let mut front: Sequence<Arc<String>> = lines.clone()?;
+    let Some(mut all) = front.split_off(alloc, number)? else {
+        return Ok(None);
+    };
+    all.append(alloc, front)?;
+    Ok(Some(all))
+}

@@ -1,9 +1,13 @@
 #!/usr/bin/env python3
 """Quotes each public call with its contract from the source, in each block of a crates/NAME/CALLING.md that names
 folders of source and then types, as ```text cow_table/src: CowTable Iter. The types come in that order, others after
-them, functions without a type last. Of each type come first its makers, then the calls that read it, clone it, write
-it and use it up. Calls of one kind with the same clauses share them. Laws, which take nothing and promise what their
-names spell, share a line, and so do the calls without a clause at the end.
+them, functions without a type last.
+
+First stand the types that are named or that a call takes or returns: what each derives, its variants or public fields,
+and for each head of an impl the calls and traits that it gives. A trait of these folders counts only if it is named.
+Then come the calls: of each type its makers, then those that read it, clone it, write it and use it up. Calls of one
+kind with the same clauses share them. Laws, which take nothing and promise what their names spell, share a line, and so
+do the calls without a clause at the end; a trait's method is told of only if it has clauses of its own.
 
 With --check it writes nothing, and ends with 1 if a block is not up to date, or does not name what it quotes, or if no
 block quotes a crate that docs/TOUR.md names, as in `trees`, or that such a crate names in crates.txt."""
@@ -16,10 +20,17 @@ from textwrap import wrap
 CRATES = Path(__file__).resolve().parent.parent / "crates"
 BLOCK = re.compile(r"```text ((?:\w+/src ?)+)(:[\w ]+)?\n.*?```", re.S)
 HEAD = re.compile(r"text(?: \w+/src)+(?:: [\w ]+)?|rust \S+")
+IMPL = re.compile(r"^((?:unsafe )?impl\b[^{]*)\{(\}|.*?^\})", re.M | re.S)
+GIVES = re.compile(r"^    ghost (from_gives) = \{ (.*?) \};", re.M | re.S)
+OWN_TRAIT = re.compile(r"^pub trait (\w+)", re.M)
+TYPE = re.compile(
+    r"^((?:#\[[^\n]*\]\n)*)pub ((struct|enum|trait|type) (\w+)[^;{(]*)(?:\{(\}|.*?^\})|[;(])", re.M | re.S
+)
 FUNCTION = re.compile(r"^( *)(pub )?(?:unsafe |const )?fn (.*)$")
 CLAUSE = re.compile(r" (requires|ensures\*?)( \w+)? \{ ?")
 RECEIVER = re.compile(r"\((?:(&?(?:'\w+ )?(?:mut )?)self\b|(?:this|raw): (&?(?:mut )?))")
 COLUMNS = 120
+OWN_TRAITS = {name for path in CRATES.glob("*/src/**/*.rt") for name in OWN_TRAIT.findall(path.read_text())}
 
 
 def functions(source):
@@ -37,6 +48,44 @@ def functions(source):
             while not taken[-1].endswith((" {", " {}")) and taken[-1] not in (head[1] + "{", head[1] + "{}"):
                 taken.append(next(lines))
             yield owner, head[2], [part for part in taken if not part.strip().startswith("//")]
+
+
+def without_comments(text):
+    return re.sub(r"^ *(?://|#\[).*\n", "", text, flags=re.M)
+
+
+def in_one_line(text):
+    """The text without line ends, and without the commas and spaces that they leave at brackets."""
+    text = re.sub(r"\s+", " ", text)
+    return re.sub(r",? ?(?=[)\]>])|(?<=[(<\[]) ", "", text).strip()
+
+
+def declared(attributes, head, kind, inside):
+    """The lines that show a type: what it derives, and its variants or public fields."""
+    derives = ", ".join(re.findall(r"^#\[derive(?:_where)?\((.*)\)\]", attributes, re.M))
+    if derives:
+        yield f"#[derive({derives})]"
+    parts = without_comments(inside or "").removesuffix("}")
+    if kind == "struct":
+        fields = re.findall(r"^    pub (\w.*),$", parts, re.M)
+        rest = [".."] if re.search(r"^    (?!pub )", parts, re.M) else []
+        parts = ", ".join([*fields, *rest]) if fields else ""
+    parts = re.sub(r", (?=\})", " ", in_one_line(parts)).removesuffix(",")
+    line = in_one_line(head)
+    yield from wrap(f"{line} {{ {parts} }}" if parts else line, COLUMNS, subsequent_indent="  ")
+
+
+def split_impl(owner):
+    """Of the head of an impl its parameters, the trait if there is one, and the type with what comes after it."""
+    text = in_one_line(re.sub(r"^unsafe ", "", owner)).removeprefix("impl")
+    depth = end = 0
+    for end, sign in enumerate(text):
+        depth += (sign == "<") - (sign == ">" and text[end - 1] != "-")
+        if depth == 0:
+            break
+    end += text.startswith("<")
+    trait, _, of = text[end:].rpartition(" for ")
+    return text[:end].strip(), trait.strip(), of.strip()
 
 
 def kind_of(owner):
@@ -91,23 +140,74 @@ def as_lines(told):
         yield from ("  " + clause for clause in clauses) if isinstance(clauses, tuple) else ()
 
 
+def given(files, kinds, hidden):
+    """For each type and head of its impls the public calls that stand under it, and the traits but for hidden ones."""
+    found = {}
+    for file in files:
+        calls_of = [(owner, re.match(r"\w+", lines[0])[0]) for owner, public, lines in functions(file) if public]
+        heads = [(in_one_line(head), GIVES.search(body)) for head, body in IMPL.findall(file)]
+        for owner, told in calls_of + heads:
+            parameters, trait, of = split_impl(owner)
+            kind, is_call = kind_of(owner), isinstance(told, str)
+            if kind not in kinds or is_call == bool(trait) or re.match(r"\w*", trait)[0] in hidden:
+                continue
+            under = found.setdefault(kind, {}).setdefault(f"impl{parameters} {of}", ([], []))
+            gives = f" ({told[1]}: {in_one_line(told[2])})" if told and not is_call else ""
+            under[bool(trait)].append(told if is_call else trait + gives)
+    return found
+
+
+def shown_impls(heads):
+    """A line for each head of an impl of a type; traits that a derive would give are told in one line."""
+    derived = []
+    for head, (names, traits) in heads.items():
+        bounds = re.findall(r"\w+: ([\w +]+)", head)
+        if not names and bounds and set(bounds) == set(traits):
+            derived += traits
+    for head, (names, traits) in sorted(heads.items(), key=lambda row: not row[1][0]):
+        if not set(traits) & set(derived):
+            yield f"{head}: {', '.join(dict.fromkeys([*names, *traits]))}"
+    if derived:
+        yield f"as by a derive: {', '.join(derived)}"
+
+
+def types_of(files, order, heads):
+    """The lines that show the types that are named or that one of these calls names, in the order that is asked for."""
+    found = {match[4]: match for file in files for match in TYPE.finditer(file)}
+    used = set(re.findall(r"\w+", " ".join(heads))) - OWN_TRAITS
+    kinds = [name for name in dict.fromkeys([*order, *found]) if name in found and name in used.union(order)]
+    kinds += [name for name, match in found.items() if match[3] == "type" and match[5] is None
+              and set(kinds) & set(re.findall(r"\w+", match[2].partition("=")[2])) and name not in kinds]
+    impls = given(files, kinds, (OWN_TRAITS | {"Model"}).difference(order))
+    for kind in kinds:
+        match = found[kind]
+        if match[3] == "type":
+            yield in_one_line(match[0].partition("pub ")[2]).rstrip(";")
+            continue
+        yield from declared(*match.groups()[:3], match[5])
+        for line in shown_impls(impls.get(kind, {})):
+            yield from wrap(line, COLUMNS, subsequent_indent="  ")
+
+
 def calls(folders, order):
     paths = [sorted((CRATES / folder).rglob("*.rt"), key=lambda path: path.with_suffix("").parts) for folder in folders]
     files = [path.read_text() for path in chain(*paths)]
     types = set(re.findall(r"^pub (?:struct|enum|trait) (\w+)", "\n".join(files), re.M))
-    told, laws, silent = [], {}, {}
+    told, laws, silent, heads = [], {}, {}, []
     for owner, public, lines in (function for file in files for function in functions(file)):
         if not public and not types & set(re.findall(r" for &?(?:'\w+ )?(\w+)", owner)):
             continue
         kind = kind_of(owner)
         head, clauses = quoted(kind, lines)
+        heads += [head] if public or clauses else []
         place = order.index(kind) if kind in order else len(order) + (kind == "")
         if named := law(head, clauses):
             laws.setdefault(f"laws<{named[1]}: Copy>" if named[1] else "laws", []).append(named[0])
         elif clauses:
             told.append((place, use_of(head) if kind else 0, head, clauses))
-        else:
+        elif public:
             silent.setdefault((place, kind), []).append(re.match(r"\w+", lines[0])[0])
+    yield from types_of(files, order, heads)
     yield from as_lines(told)
     for start, names in laws.items():
         yield from wrap(f"{start}: {', '.join(names)}", COLUMNS, subsequent_indent="  ")

@@ -4,7 +4,7 @@ ghost use Rattle.script_text.specs.Written.{WroteBeginning};
 ghost use Rattle.script_text.specs.declared.fault.Fault.TheVariants as Fault;
 
 use crate::output::write_whole;
-use std::alloc::AllocError;
+use std::alloc::{AllocError, AllocFailed};
 use std::io::Write;
 
 /// What ended a run. `Line` is reported as the last line of the output, `Output` nowhere, and the others on standard
@@ -27,6 +27,14 @@ impl From<AllocError> for Fault {
     ghost from_gives = { λ _ fault. fault ≡ Fault.Memory };
 
     fn from(_error: AllocError) -> Fault {
+        Fault::Memory
+    }
+}
+
+impl<T: Drop> From<AllocFailed<T>> for Fault {
+    ghost from_gives = { λ _ fault. fault ≡ Fault.Memory };
+
+    fn from(_refusal: AllocFailed<T>) -> Fault {
         Fault::Memory
     }
 }

@@ -2,7 +2,7 @@
 ghost use Rattle.std.specs.Prelude.{◌≡◌};
 ghost use Rattle.sequence.specs.declared.error.InsertError.TheVariants.{Memory};
 
-use std::alloc::AllocError;
+use std::alloc::{AllocError, AllocFailed};
 use thiserror::Error;
 
 /// Why `Sequence::insert` put nothing in. The item is dropped, and the version reads as before.
@@ -20,6 +20,15 @@ impl From<AllocError> for InsertError {
     ghost from_gives = { λ _ refusal. refusal ≡ Memory };
 
     fn from(_error: AllocError) -> InsertError {
+        InsertError::Memory
+    }
+}
+
+/// So `?` takes the refusal of a `push` or a maker, and drops what that hands back.
+impl<T: Drop> From<AllocFailed<T>> for InsertError {
+    ghost from_gives = { λ _ refusal. refusal ≡ Memory };
+
+    fn from(_refusal: AllocFailed<T>) -> InsertError {
         InsertError::Memory
     }
 }

@@ -6,7 +6,7 @@ ghost use Rattle.handles.specs.declared.header_slice.build.BuildError.TheVariant
 use super::HeaderSlice;
 use super::items::Items;
 use crate::unique::UniqueArc;
-use std::alloc::{AllocError, Global};
+use std::alloc::{AllocError, AllocFailed, Global};
 use thiserror::Error;
 
 /// Why no header slice was built. The items taken until then are dropped in order, then the header; the iterator too.
@@ -27,6 +27,15 @@ impl From<AllocError> for BuildError {
     ghost from_gives = { λ _ refusal. refusal ≡ Memory };
 
     fn from(_error: AllocError) -> BuildError {
+        BuildError::Memory
+    }
+}
+
+/// So `?` takes the refusal of a `push` or a maker, and drops what that hands back.
+impl<T: Drop> From<AllocFailed<T>> for BuildError {
+    ghost from_gives = { λ _ refusal. refusal ≡ Memory };
+
+    fn from(_refusal: AllocFailed<T>) -> BuildError {
         BuildError::Memory
     }
 }

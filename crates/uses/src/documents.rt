@@ -130,7 +130,7 @@ pub fn styles(
     let mut styles = Vec::new(alloc);
     for part in parts {
         let style = cache.style(alloc, &part.element)?;
-        styles.push(style).map_err(AllocError::from)?;
+        styles.push(style)?;
     }
     Ok(styles)
 }

@@ -9,13 +9,14 @@ use Rattle.std.specs.Cmp.{IsEquivalence}
 use Rattle.std.specs.List.{list_any}
 use Rattle.std.specs.Option.{option_map_or}
 use Rattle.interner.specs.Made.{IsFoundOrMade}
-use Rattle.interner.specs.Symbols.{IsInterned}
-use Rattle.interner.proofs.Symbols.{any_of_form, found_there}
-use Rattle.cascade.specs.declared.node.Child.{Child}
+use Rattle.interner.proofs.Symbols.{any_of_form}
+use Rattle.servo_arc.specs.Unions.{Union}
 use Rattle.cascade.specs.declared.node.RuleNode.{RuleNode}
+use Rattle.cascade.specs.declared.source.Inline.{Inline}
+use Rattle.cascade.specs.declared.source.Rule.{Rule}
 use Rattle.cascade.specs.declared.style.Style.{Style}
 use Rattle.cascade.specs.Cascade.{cascaded}
-use Rattle.cascade.specs.RuleTree.{IsBefore, AreComputed, lent, node_of, style_at}
+use Rattle.cascade.specs.RuleTree.{IsBefore, AreComputed, style_at}
 
 -- what holds of each item and of one more
 each_of_push : {X : Type 0} (P : ℕ → X → Type 0) (xs : List X) (x : X)
@@ -71,85 +72,59 @@ module _ (root : Style) where
       last : Fits (length nodes) node
       last = is ∙ ap (λ s. cascaded s node.source) (sym (style_stays nodes node node.parent there))
 
-  -- all styles are computed after a child was found or made, and its own is that of its parent with its source
-  pub record IsChild (nodes new : List RuleNode) (child : Child) (s : ℕ) : Type 0 where
-    pub computed : AreComputed root new
-    pub there : s < length new
-    pub style : style_at root new (Some s) ≡ cascaded (style_at root nodes child.parent) (lent child.source)
+  module _ (nodes new : List RuleNode) (parent : Option ℕ) (source : Union Rule Inline) where
+    -- all styles are computed after a child was found or made, and its own is that of its parent with its source
+    pub record IsChild (s : ℕ) : Type 0 where
+      pub computed : AreComputed root new
+      pub there : s < length new
+      pub style : style_at root new (Some s) ≡ cascaded (style_at root nodes parent) source
 
-  module _ (E : RuleNode → RuleNode → Bool) (laws : IsEquivalence E)
-      (exact : (a b : RuleNode) → E a b ≡ true → (a.parent ≡ b.parent) × (a.source ≡ b.source))
-      (nodes new : List RuleNode) (child : Child) (any : Style) (s : ℕ) (Made : RuleNode → Type 0) where
-    module _ (found : IsFoundOrMade E (E (node_of child any)) Made nodes new s) where
-      reached : AreComputed root new → style_at root new child.parent ≡ style_at root nodes child.parent
-          → IsChild nodes new child s
-      reached computed same =
-          let place = position-Some (E found.value) new s found.value
-          ((found.interned.one found.value).1 (laws.refl found.value)) in
-          let first = exact (node_of child any) found.value found.stands in
-          let second = exact found.value (get_or new s found.value) place.1 in
-          record {
-            computed = computed;
-            there = place.0;
-            style =
-                style_of_place new s found.value place.0
-                ∙ computed.style s found.value place.0
-                ∙ ap₂ cascaded (ap (style_at root new) (sym (first.0 ∙ second.0)) ∙ same) (sym (first.1 ∙ second.1));
-          }
+    module _ (E : RuleNode → RuleNode → Bool) (laws : IsEquivalence E)
+        (exact : (a b : RuleNode) → E a b ≡ true → (a.parent ≡ b.parent) × (a.source ≡ b.source)) (any : Style) where
+      abbrev node : Style → RuleNode
+      node style = record { parent = parent; source = source; style = style }
 
-      pub child_of : AreComputed root nodes → IsBefore child.parent (length nodes)
-          → ((value : RuleNode) → Made value
-          → value ≡ node_of child (cascaded (style_at root nodes child.parent) (lent child.source)))
-          → IsChild nodes new child s
-      child_of old there made = by (list_any (E found.value) nodes) refl
-        where
-          by : (b : Bool) → list_any (E found.value) nodes ≡ b → IsChild nodes new child s
-          by true is =
-              let same : new ≡ nodes
-              = found.interned.values ∙ ap (λ b. if b then nodes else nodes ++ found.value ∷ []) is in
-              reached (subst (AreComputed root) (sym same) old) (ap (λ ns. style_at root ns child.parent) same)
-          by false is =
-              let grown : new ≡ nodes ++ found.value ∷ []
-              = found.interned.values ∙ ap (λ b. if b then nodes else nodes ++ found.value ∷ []) is in
-              let none = any_of_form laws (E (node_of child any)) (laws.congr (node_of child any)) found.value
-              found.stands nodes ∙ is in
-              let value_is = made found.value (found.made none) in
-              let parent : found.value.parent ≡ child.parent = ap (λ n. n.parent) value_is in
-              let source : found.value.source ≡ lent child.source = ap (λ n. n.source) value_is in
-              let style : found.value.style ≡ cascaded (style_at root nodes found.value.parent) found.value.source
-              = ap (λ n. n.style) value_is ∙ ap₂ cascaded (ap (style_at root nodes) (sym parent)) (sym source) in
-              let before = subst (λ p. IsBefore p (length nodes)) (sym parent) there in
-              reached
-              (subst (AreComputed root) (sym grown) (computed_with nodes found.value old before style))
-              (ap (λ ns. style_at root ns child.parent) grown ∙ style_stays nodes found.value child.parent there)
+      abbrev pub IsMet : ℕ → Type 0
+      IsMet = IsFoundOrMade E (E (node any)) (λ n. n ≡ node (cascaded (style_at root nodes parent) source)) nodes new
 
-module _ (root : Style) (E : RuleNode → RuleNode → Bool) (laws : IsEquivalence E)
-    (exact : (a b : RuleNode) → E a b ≡ true → (a.parent ≡ b.parent) × (a.source ≡ b.source))
-    (nodes : List RuleNode) (child : Child) (any : Style) (s : ℕ) (old : AreComputed root nodes)
-    (there : IsBefore child.parent (length nodes)) where
-  -- what is made of the child
-  abbrev pub Made : RuleNode → Type 0
-  Made value = value ≡ node_of child (cascaded (style_at root nodes child.parent) (lent child.source))
+      module _ (old : AreComputed root nodes) (before : IsBefore parent (length nodes)) where
+        module _ (s : ℕ) (met : IsMet s) where
+          reached : AreComputed root new → style_at root new parent ≡ style_at root nodes parent → IsChild s
+          reached computed same =
+              let place = position-Some (E met.value) new s met.value
+              ((met.interned.one met.value).1 (laws.refl met.value)) in
+              let first = exact (node any) met.value met.stands in
+              let second = exact met.value (get_or new s met.value) place.1 in
+              record {
+                computed = computed;
+                there = place.0;
+                style =
+                    style_of_place new s met.value place.0
+                    ∙ computed.style s met.value place.0
+                    ∙ ap₂ cascaded (ap (style_at root new) (sym (first.0 ∙ second.0)) ∙ same)
+                    (sym (first.1 ∙ second.1));
+              }
 
-  pub child_found : position (E (node_of child any)) nodes ≡ Some s → IsChild root nodes nodes child s
-  child_found is = child_of root E laws exact nodes nodes child any s Made
-      (found_there laws (E (node_of child any)) (laws.congr (node_of child any)) nodes s is Made) old there
-      (λ value made. made)
+          pub child_of : IsChild s
+          child_of = by (list_any (E met.value) nodes) refl
+            where
+              by : (b : Bool) → list_any (E met.value) nodes ≡ b → IsChild s
+              by true is =
+                  let same : new ≡ nodes
+                  = met.interned.values ∙ ap (λ b. if b then nodes else nodes ++ met.value ∷ []) is in
+                  reached (subst (AreComputed root) (sym same) old) (ap (λ ns. style_at root ns parent) same)
+              by false is =
+                  let none = any_of_form laws (E (node any)) (laws.congr (node any)) met.value met.stands nodes ∙ is in
+                  let made = met.made none in
+                  let grown : new ≡ nodes ++ node (cascaded (style_at root nodes parent) source) ∷ []
+                  = met.interned.values ∙ ap (λ b. if b then nodes else nodes ++ met.value ∷ []) is
+                  ∙ ap (λ n. nodes ++ n ∷ []) made in
+                  reached
+                  (subst (AreComputed root) (sym grown) (computed_with nodes (node _) old before refl))
+                  (ap (λ ns. style_at root ns parent) grown ∙ style_stays nodes (node _) parent before)
 
-  pub child_added : (new : List RuleNode) (value : RuleNode) → Made value → E (node_of child any) value ≡ true
-      → IsInterned E nodes value new s → IsChild root nodes new child s
-  child_added new value made stands interned = child_of root E laws exact nodes new child any s Made
-      (record { value = value; stands = stands; interned = interned; made = λ none. made }) old there
-      (λ value made. made)
-
--- the styles stay computed, whether or not the node was refused
-pub computed_after : {X : Type 0} (root : Style) (E : RuleNode → RuleNode → Bool) → IsEquivalence E
-    → ((a b : RuleNode) → E a b ≡ true → (a.parent ≡ b.parent) × (a.source ≡ b.source)) → (nodes new : List RuleNode)
-    → (child : Child) (any : Style) → AreComputed root nodes → IsBefore child.parent (length nodes)
-    → (value : RuleNode) → value ≡ node_of child (cascaded (style_at root nodes child.parent) (lent child.source))
-    → E (node_of child any) value ≡ true → (r : Result ℕ X) → IfOk r (IsInterned E nodes value new)
-    → OnErr r (new ≡ nodes) → AreComputed root new
-computed_after root E laws exact nodes new child any old there value made stands (Ok s) interned refused =
-    (child_added root E laws exact nodes child any s old there new value made stands interned).computed
-computed_after root E laws exact nodes new child any old there value made stands (Err e) interned refused =
-    subst (AreComputed root) (sym refused) old
+        -- the styles stay computed, whether or not the node was refused
+        pub computed_after : {X : Type 0} (r : Result ℕ X) → IfOk r IsMet → OnErr r (new ≡ nodes)
+            → AreComputed root new
+        computed_after (Ok s) met refused = (child_of s met).computed
+        computed_after (Err e) met refused = subst (AreComputed root) (sym refused) old

@@ -1,5 +1,5 @@
 -- What finds a node: a child with its parent and its source.
-use Rattle.std.specs.Prelude.{◌≡◌, ℕ, Bool, true, Option}
+use Rattle.std.specs.Prelude.{◌≡◌, Bool, true}
 use Rattle.std.proofs.Common.{refl, ◌∙◌}
 use Rattle.interner.specs.Queries.{IsFormOf}
 use Rattle.cascade.specs.contracts.node.ChildHash.TheImpl.{hash_input-value as child_writes}
@@ -24,14 +24,14 @@ pub is_own_child : (child : Child) (style : Style) → is_child child (node_of c
 is_own_child child style = laws-law.refl (node_of child initial)
 
 -- it writes what its node writes
-same_writes : (parent : Option ℕ) (source : LentSource) → child_writes.it (record { parent = parent; source = source })
-    ≡ node_writes.it (record { parent = parent; source = lent source; style = initial })
-same_writes parent (OfRule rule) = refl
-same_writes parent (OfInline inline) = refl
+same_writes : (child : Child) (source : LentSource) → child_writes.it (record child { source = source })
+    ≡ node_writes.it (node_of (record child { source = source }) initial)
+same_writes child (OfRule rule) = refl
+same_writes child (OfInline inline) = refl
 
 pub is_form : (child : Child) (node : RuleNode) → is_child child node ≡ true
     → IsFormOf eq-value.it (is_child child) (child_writes.it child) (node_writes.it node) node
 is_form child node same = record {
-  hashed = same_writes child.parent child.source ∙ respects_eq-law (node_of child initial) node same;
+  hashed = same_writes child child.source ∙ respects_eq-law (node_of child initial) node same;
   equal = λ other. laws-law.congr (node_of child initial) node other same;
 }

@@ -29,6 +29,10 @@ abbrev pub style_at : Style → List RuleNode → Option ℕ → Style
 style_at root nodes None = root
 style_at root nodes (Some node) = option_map_or (λ n. n.style) (slice_get nodes node) root
 
+-- the node that is made of a child: its style is that of its parent with what its source declares
+abbrev pub made_of : Child → List RuleNode → RuleNode
+made_of child nodes = node_of child (cascaded (style_at child.root.now nodes child.parent) (lent child.source))
+
 -- each node stands behind its parent, and its style is that of its parent with what its source declares
 pub record AreComputed (root : Style) (nodes : List RuleNode) : Type 0 where
   pub behind : (i : ℕ) (d : RuleNode) → i < length nodes → IsBefore (slice_index_or nodes i d).parent i

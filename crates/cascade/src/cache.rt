@@ -1,11 +1,11 @@
 //! Styles by number: each path of sources has one node in a tree, and each node one style.
 ghost use Rattle.std.specs.Prelude.{◌≡◌, ◌<◌, IfOk, OnErr, Some, length};
 ghost use Rattle.cascade.specs.Cascade.{cascaded, initial, style_of};
-ghost use Rattle.cascade.specs.RuleTree.{IsBefore, AreComputed, lent, node_of, style_at};
+ghost use Rattle.cascade.specs.RuleTree.{IsBefore, AreComputed, lent, style_at};
 
 use crate::element::Element;
 use crate::initial::Initial;
-use crate::node::{Child, LentSource, RuleNode};
+use crate::node::{Child, LentSource, RuleNode, style_of_node};
 use crate::style::Style;
 use interner::{InternError, Interner, Symbol};
 use servo_arc::Arc;
@@ -85,48 +85,12 @@ impl<S: BuildHasher> StyleCache<S> {
             ≡ cascaded (style_at self.old.root self.old.nodes parent) (lent source.entry)) }
         ensures refused { OnErr result (self.new.nodes ≡ self.old.nodes) }
     {
-        let child = Child { parent, source };
-        if let Some(symbol) = self.nodes.find(&child) {
-            return Ok(symbol);
-        }
-        let node = new_node(alloc, &self.root, self.nodes.values(), &child)?;
-        let symbol = self.nodes.intern(alloc, node)?;
+        let child = Child {
+            parent,
+            source,
+            root: &self.root,
+        };
+        let symbol = self.nodes.intern_by(alloc, &child)?;
         Ok(symbol)
     }
-}
-
-// The style of a node, or of the root.
-fn style_of_node<'a>(
-    root: &'a Arc<Style>,
-    nodes: &'a [Arc<RuleNode>],
-    node: Option<Symbol>,
-) -> &'a Arc<Style>
-    ensures { result.now ≡ style_at root.now nodes.now node }
-{
-    match node {
-        None => root,
-        Some(symbol) => match nodes.get(symbol.index()) {
-            None => root,
-            Some(node) => &node.style,
-        },
-    }
-}
-
-// A node whose style is that of its parent with what its source declares.
-fn new_node(
-    alloc: Global,
-    root: &Arc<Style>,
-    nodes: &[Arc<RuleNode>],
-    child: &Child<'_>,
-) -> Result<RuleNode, AllocError>
-    ensures { IfOk result (λ node. node ≡ node_of child.now
-        (cascaded (style_at root.now nodes.now child.now.parent) (lent child.now.source))) }
-{
-    let source = child.source.handle()?;
-    let style = style_of_node(root, nodes, child.parent).cascade(alloc, &source)?;
-    Ok(RuleNode {
-        parent: child.parent,
-        source,
-        style: Arc::try_new(alloc, style)?,
-    })
 }

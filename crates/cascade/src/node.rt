@@ -1,6 +1,6 @@
 //! The nodes of a rule tree, and what one is looked up by.
 ghost use Rattle.std.specs.Prelude.{◌≡◌, IfOk};
-ghost use Rattle.cascade.specs.RuleTree.{lent};
+ghost use Rattle.cascade.specs.RuleTree.{lent, style_at};
 
 use crate::source::{Inline, Rule, Source};
 use crate::style::Style;
@@ -26,11 +26,14 @@ pub enum LentSource<'a> {
     OfInline(&'a Arc<Inline>),
 }
 
-/// What a node is looked up by.
-#[derive(Clone, Copy, PartialEq, Eq, Hash)]
+/// What a node is looked up by, and made of. The style of the root plays no part in the look-up.
+#[derive(Clone, Copy)]
+#[derive_where(PartialEq, Eq, Hash)]
 pub struct Child<'a> {
     pub parent: Option<Symbol>,
     pub source: LentSource<'a>,
+    #[derive_where(skip(EqHashOrd))]
+    pub root: &'a Arc<Style>,
 }
 
 impl LentSource<'_> {
@@ -52,5 +55,22 @@ impl LentSource<'_> {
             (LentSource::OfInline(a), ArcUnionBorrow::Second(b)) => ***a == *b.get(),
             _ => false,
         }
+    }
+}
+
+/// The style of a node, or of the root.
+pub(crate) fn style_of_node<'a>(
+    root: &'a Arc<Style>,
+    nodes: &'a [Arc<RuleNode>],
+    node: Option<Symbol>,
+) -> &'a Arc<Style>
+    ensures { result.now ≡ style_at root.now nodes.now node }
+{
+    match node {
+        None => root,
+        Some(symbol) => match nodes.get(symbol.index()) {
+            None => root,
+            Some(node) => &node.style,
+        },
     }
 }

@@ -14,6 +14,6 @@ mod tests;
 
 pub use error::InternError;
 pub use iter::Iter;
-pub use query::Query;
+pub use query::{Make, Query};
 pub use symbol::Symbol;
 pub use table::Interner;

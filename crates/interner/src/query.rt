@@ -1,5 +1,5 @@
 //! What an interner finds a value by.
-ghost use Rattle.std.specs.Prelude.{◌≡◌, Bool, IsTrue};
+ghost use Rattle.std.specs.Prelude.{◌≡◌, Bool, IfOk, IsTrue, List};
 ghost use Rattle.std.proofs.Common.{ap};
 ghost use Rattle.std.specs.Cmp.Lexicographic.{bytes_decides, lists_equiv, nat_list_eq_equiv, pointwise};
 ghost use Rattle.std.specs.Hash as fed;
@@ -8,6 +8,8 @@ ghost use Rattle.std.specs.Str.{bytes_eq};
 ghost use Rattle.std.specs.String.{string_bytes};
 ghost use Rattle.interner.specs.Queries.{IsFormOf};
 
+use servo_arc::Arc;
+use std::alloc::{AllocError, Global};
 use std::hash::Hash;
 
 /// A form in which a caller has a value before it is a `T`: a `&T`, a `&str` for a `String`, a `&[T]` for a `Vec<T>`.
@@ -25,6 +27,17 @@ pub trait Query<T: Eq + Hash>: Copy + Hash {
     // It is a form of each value that it stands for, so it stands for one value at most, up to `==`.
     ghost is_form: { (query : Self) (value : T) → IsTrue (stands_for query value)
         → IsFormOf T.eq (stands_for query) (Self.hash_input query) (T.hash_input value) value };
+}
+
+/// A query that can make a value that it stands for. A field that `make` alone reads is neither hashed nor compared.
+pub trait Make<T: Eq + Hash>: Query<T> {
+    // What it makes where these are the values.
+    ghost makes: { Self → List T → T → Type 0 };
+
+    /// A value that it stands for, where none is there.
+    fn make(self, alloc: Global, values: &[Arc<T>]) -> Result<T, AllocError>
+        ensures stands { IfOk result (λ value. IsTrue (Self.stands_for self value)) }
+        ensures made { IfOk result (makes self values.now) };
 }
 
 impl<T: Eq + Hash> Query<T> for &T {
@@ -54,6 +67,14 @@ impl Query<String> for &str {
     }
 }
 
+impl Make<String> for &str {
+    ghost makes = { λ query _ value. string_bytes value ≡ query.now };
+
+    fn make(self, alloc: Global, _values: &[Arc<String>]) -> Result<String, AllocError> {
+        String::from_str(alloc, self)
+    }
+}
+
 impl<T: Eq + Hash> Query<Vec<T>> for &[T] {
     ghost stands_for = { λ query value. pointwise T.eq query.now value.items };
 
@@ -64,5 +85,13 @@ impl<T: Eq + Hash> Query<Vec<T>> for &[T] {
 
     fn stands_for(&self, value: &Vec<T>) -> bool {
         *self == value.as_slice()
+    }
+}
+
+impl<T: Eq + Hash + Copy> Make<Vec<T>> for &[T] {
+    ghost makes = { λ query _ value. value.items ≡ query.now };
+
+    fn make(self, alloc: Global, _values: &[Arc<Vec<T>>]) -> Result<Vec<T>, AllocError> {
+        Vec::from_slice(alloc, self)
     }
 }

@@ -1,7 +1,6 @@
 //! The interner.
 ghost use Rattle.std.specs.Prelude.{◌≡◌, ◌<◌, ◌≤◌, ◌^◌, ◌↔◌, [], false, length, position, slice_get};
-ghost use Rattle.std.specs.Prelude.{Err, IfOk, IsOk, IsTrue, Ok, OnErr};
-ghost use Rattle.std.specs.Fn.{FnOnceReturnsAt};
+ghost use Rattle.std.specs.Prelude.{Err, IfOk, IsOk, IsTrue, OnErr};
 ghost use Rattle.std.specs.List.{IsDistinct, enumerate_from, list_any};
 ghost use Rattle.std.specs.Option.{SomeIff, option_copied};
 ghost use Rattle.interner.specs.Made.{IsFoundOrMade};
@@ -10,7 +9,7 @@ ghost use Rattle.interner.specs.Symbols.{IsInterned};
 use crate::error::InternError;
 use crate::index::Index;
 use crate::iter::Iter;
-use crate::query::Query;
+use crate::query::{Make, Query};
 use crate::store::{Place, Store};
 use crate::symbol::Symbol;
 use servo_arc::Arc;
@@ -193,21 +192,13 @@ impl<T: Eq + Hash + Drop, S: BuildHasher> Interner<T, S> {
         }
     }
 
-    /// The same, of the value that the query stands for. If none is there, `make` makes it, and is given `values()`:
-    /// `intern_by(alloc, "text", |_| String::from_str(alloc, "text"))`.
+    /// The same, of the value that the query stands for, as `intern_by(alloc, "text")` where the values are `String`s.
+    /// If none is there, the query makes it.
     ///
     /// The query is hashed, once, and no value is. Of a value that is there nothing is made.
-    pub fn intern_by<Q: Query<T>, F: FnOnce(&[Arc<T>]) -> Result<T, AllocError>>(
-        &mut self,
-        alloc: Global,
-        query: Q,
-        make: F,
-    ) -> Result<Symbol, InternError>
-        requires callable { F.IsAlwaysCallable make }
-        requires makes { (made : _) → FnOnceReturnsAt F.FnOnce make self.old made
-            → IfOk made (λ value. IsTrue (Q.stands_for query value)) }
-        ensures interned { IfOk result (IsFoundOrMade T.eq (Q.stands_for query)
-            (λ value. FnOnceReturnsAt F.FnOnce make self.old (Ok value)) self.old self.new) }
+    pub fn intern_by<Q: Make<T>>(&mut self, alloc: Global, query: Q) -> Result<Symbol, InternError>
+        ensures interned { IfOk result (IsFoundOrMade T.eq (Q.stands_for query) (Q.makes query self.old)
+            self.old self.new) }
         ensures there { IsTrue (list_any (Q.stands_for query) self.old) → IsOk result }
         ensures full { (result ≡ Err InternError.Full)
             ↔ (list_any (Q.stands_for query) self.old ≡ false) × (2 ^ 32 ≤ length self.old) }
@@ -216,8 +207,9 @@ impl<T: Eq + Hash + Drop, S: BuildHasher> Interner<T, S> {
         match self.store.place_of(query)? {
             Place::Taken(symbol) => Ok(symbol),
             Place::Free(hash) => {
-                let made = Arc::try_new(alloc, make(self.store.values.as_slice())?)?;
-                Ok(self.store.push(made, hash)?)
+                let value = query.make(alloc, self.store.values.as_slice())?;
+                let block = Arc::try_new(alloc, value)?;
+                Ok(self.store.push(block, hash)?)
             }
         }
     }

@@ -7,7 +7,6 @@ use hashers::OneHash;
 use names::are_equal;
 use servo_arc::Arc;
 use std::alloc::Global;
-use std::cell::Cell;
 use std::fmt::Write;
 use std::hash::{BuildHasher, RandomState};
 use std::test::Fail;
@@ -88,24 +87,18 @@ fn equal_texts_have_one_block(rt: HostRuntime) -> Result<(), Fail> {
     Ok(())
 }
 
-fn named(alloc: Global, texts: &[&str], made: &Cell<u32>) -> Result<Interner<String>, InternError> {
+fn named(alloc: Global, texts: &[&str]) -> Result<Interner<String>, InternError> {
     let mut names = Interner::with_capacity(alloc, 2)?;
     for text in texts {
-        let text = *text;
-        names.intern_by(alloc, text, |_| {
-            made.set(made.get().wrapping_add(1));
-            String::from_str(alloc, text)
-        })?;
+        names.intern_by(alloc, *text)?;
     }
     Ok(names)
 }
 
-// A text finds a `String`, and a `String` is made only where none is there.
+// A text finds a `String`, and has one made where none is there.
 #[test]
-fn a_text_that_is_there_is_not_made(rt: HostRuntime) -> Result<(), Fail> {
-    let made = Cell::new(0);
-    let names = named(rt.alloc(), &["first", "other", "first"], &made)?;
-    assert_eq!(rt; made.get(), 2);
+fn a_text_finds_the_string_that_was_made_of_it(rt: HostRuntime) -> Result<(), Fail> {
+    let names = named(rt.alloc(), &["first", "other", "first"])?;
     assert_eq!(rt; names.find("other"), names.symbol(1));
     assert_eq!(rt; names.symbol(2), None);
     Ok(())
@@ -114,8 +107,8 @@ fn a_text_that_is_there_is_not_made(rt: HostRuntime) -> Result<(), Fail> {
 #[test]
 fn names_are_read_in_the_order_of_their_symbols(rt: HostRuntime) -> Result<(), Fail> {
     let alloc = rt.alloc();
-    let names = named(alloc, &["first", "other", "first"], &Cell::new(0))?;
-    let turned = named(alloc, &["other", "first"], &Cell::new(0))?;
+    let names = named(alloc, &["first", "other", "first"])?;
+    let turned = named(alloc, &["other", "first"])?;
     let mut read = String::new(alloc);
     for (symbol, name) in &names {
         write!(read, "{} {name}, ", symbol.index())?;

@@ -1,7 +1,6 @@
 //! What an interner asks memory for.
 use crate::refusals::reporting::report;
 use interner::Interner;
-use servo_arc::Arc;
 
 // With room for its values it asks for blocks alone, and for nothing if the value is there.
 #[test]
@@ -11,8 +10,7 @@ fn an_interner_with_room_asks_for_blocks_alone(rt: HostRuntime) {
         return report(&rt, "no interner");
     };
     for text in ["one", "two", "one"] {
-        let made = |_: &[Arc<String>]| String::from_str(alloc, text);
-        if names.intern_by(alloc, text, made).is_err() {
+        if names.intern_by(alloc, text).is_err() {
             report(&rt, "a text or its block");
         }
     }

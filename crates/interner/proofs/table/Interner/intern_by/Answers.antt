@@ -1,5 +1,4 @@
-use Rattle.std.proofs.Common.{◌≡◌, true, false, Ok, position, ap, sym, ◌∙◌, subst}
-use Rattle.std.specs.Fn.{FnOnceReturns, FnOnceReturnsAt}
+use Rattle.std.proofs.Common.{◌≡◌, true, false, position, ap, sym, ◌∙◌, subst}
 use Rattle.std.specs.List.{list_any}
 use Rattle.interner.specs.Hashes.{hash}
 use Rattle.interner.specs.Places.{IsPlace}
@@ -13,16 +12,9 @@ push-requires-clause-hash g c =
     let pass = g.Q.Query.stands_for c.args.query in
     let place = subst (IsPlace pass (hashed (g.Q.Hash.hash_input c.args.query)) c.self.inside.store.values.items)
     c.in-Free.is c.in_ok-symbol.ensures.place in
-    let value = c.in_ok-make-in-Free.field-0 in
-    let ran : FnOnceReturnsAt g.F.FnOnce c.args.make c.args.self.now (Ok value)
-    = (
-      c.as_slice.result,
-      subst (FnOnceReturns g.F.FnOnce c.args.make (c.as_slice.result, tt)) c.in_ok-make-in-Free.was c.make.ensures,
-      c.as_slice.ensures.value ∙ c.self.view_is,
-    ) in
-    let stands = c.requires.makes (Ok value) ran in
-    place.0 ∙ ap hashed ((g.met.Q.Query.is_form c.args.query value stands).hashed)
-    ∙ ap (λ v. hashed (g.T.Hash.hash_input v)) (sym c.in_ok-made-in-Free.ensures.made)
+    let stands = c.in_ok-value-in-Free.ensures.stands in
+    place.0 ∙ ap hashed ((g.met.Q.Query.is_form c.args.query c.in_ok-value-in-Free.value stands).hashed)
+    ∙ ap (λ v. hashed (g.T.Hash.hash_input v)) (sym c.in_ok-block-in-Free.ensures.made)
 
 pub push-requires-clause-new : goal.push-requires-clause-new
 push-requires-clause-new g c =
@@ -32,16 +24,9 @@ push-requires-clause-new g c =
     let values = c.self.inside.store.values.items in
     let place = subst (IsPlace pass (hashed (g.Q.Hash.hash_input c.args.query)) values) c.in-Free.is
     c.in_ok-symbol.ensures.place in
-    let value = c.in_ok-make-in-Free.field-0 in
-    let ran : FnOnceReturnsAt g.F.FnOnce c.args.make c.args.self.now (Ok value)
-    = (
-      c.as_slice.result,
-      subst (FnOnceReturns g.F.FnOnce c.args.make (c.as_slice.result, tt)) c.in_ok-make-in-Free.was c.make.ensures,
-      c.as_slice.ensures.value ∙ c.self.view_is,
-    ) in
-    let stands = c.requires.makes (Ok value) ran in
-    subst (λ v. list_any (g.T.PartialEq.eq v) values ≡ false) (sym c.in_ok-made-in-Free.ensures.made)
-    (sym (any_of_form g.met.T.Eq.laws pass equal value stands values) ∙ place.1)
+    let stands = c.in_ok-value-in-Free.ensures.stands in
+    subst (λ v. list_any (g.T.PartialEq.eq v) values ≡ false) (sym c.in_ok-block-in-Free.ensures.made)
+    (sym (any_of_form g.met.T.Eq.laws pass equal c.in_ok-value-in-Free.value stands values) ∙ place.1)
 
 pub returns-in-Taken-clause-interned : goal.returns-in-Taken-clause-interned
 returns-in-Taken-clause-interned g c =
@@ -55,22 +40,15 @@ returns-in-Taken-clause-interned g c =
 
 pub returns-in_ok-push-in-Free-clause-interned : goal.returns-in_ok-push-in-Free-clause-interned
 returns-in_ok-push-in-Free-clause-interned g c =
-    let pass = g.Q.Query.stands_for c.args.query in
-    let made = sym c.in_ok-made-in-Free.ensures.made in
-    let value = c.in_ok-make-in-Free.field-0 in
-    let ran : FnOnceReturnsAt g.F.FnOnce c.args.make c.args.self.now (Ok value)
-    = (
-      c.as_slice.result,
-      subst (FnOnceReturns g.F.FnOnce c.args.make (c.as_slice.result, tt)) c.in_ok-make-in-Free.was c.make.ensures,
-      c.as_slice.ensures.value ∙ c.self.view_is,
-    ) in
-    let stands = c.requires.makes (Ok value) ran in
+    let is = sym c.in_ok-block-in-Free.ensures.made in
     record {
-      value = c.in_ok-made-in-Free.made;
-      stands = subst (λ v. pass v ≡ true) made stands;
+      value = c.in_ok-block-in-Free.block;
+      stands = subst (λ v. g.Q.Query.stands_for c.args.query v ≡ true) is c.in_ok-value-in-Free.ensures.stands;
       interned = subst
-          (λ vs. IsInterned g.T.PartialEq.eq vs c.in_ok-made-in-Free.made c.push.new.self.values.items
+          (λ vs. IsInterned g.T.PartialEq.eq vs c.in_ok-block-in-Free.block c.push.new.self.values.items
           c.in_ok-push-in-Free.field-0)
           c.self.view_is c.in_ok-push-in-Free.ensures.interned;
-      made = λ _. subst (λ v. FnOnceReturnsAt g.F.FnOnce c.args.make c.args.self.now (Ok v)) made ran;
+      made = λ _. subst (g.Q.Make.makes c.args.query c.args.self.now) is (subst
+          (λ vs. g.Q.Make.makes c.args.query vs c.in_ok-value-in-Free.value)
+          (c.as_slice.ensures.value ∙ c.self.view_is) c.in_ok-value-in-Free.ensures.made);
     }

@@ -1,6 +1,6 @@
 -- What a node that is found, and one that is made, say of the styles of a rule tree.
 use Rattle.std.proofs.Common.{◌≡◌, ℕ, ◌<◌, Bool, true, false, nat_lt, List, [], ◌∷◌, ◌++◌, length, get_or}
-use Rattle.std.proofs.Common.{Option, None, Some, Result, Ok, Err, IfOk, OnErr, position}
+use Rattle.std.proofs.Common.{Option, None, Some, Result, Ok, Err, IfOk, OnErr}
 use Rattle.std.proofs.Common.{refl, sym, ap, ap₂, ◌∙◌, subst, arith, length-append, if◌then◌else◌}
 use Rattle.std.proofs.lemmas.List.{get_or_append_left, get_or_push}
 use Rattle.std.proofs.lemmas.List.Quantifiers.{position-Some}

@@ -13,7 +13,7 @@ use Rattle.cascade.specs.declared.node.LentSource.TheVariants.{OfRule, OfInline}
 use Rattle.cascade.specs.declared.node.RuleNode.{RuleNode}
 use Rattle.cascade.specs.declared.style.Style.{Style}
 use Rattle.cascade.specs.Cascade.{initial}
-use Rattle.cascade.specs.RuleTree.{lent, node_of}
+use Rattle.cascade.specs.RuleTree.{node_of}
 
 -- the child stands for the nodes that equal its own, whatever their style
 abbrev pub is_child : Child → RuleNode → Bool

@@ -8,7 +8,7 @@ use crate::initial::Initial;
 use crate::style::Style;
 use interner::InternError;
 use servo_arc::Arc;
-use std::alloc::{AllocError, Global};
+use std::alloc::Global;
 use std::hash::BuildHasher;
 use std::sync::{Mutex, Wait};
 use std::thread::{Threads, join};
@@ -25,7 +25,7 @@ pub fn styles(
     let mut styles = Vec::new(alloc);
     for element in elements {
         let style = cache.style(alloc, element)?;
-        styles.push(style).map_err(AllocError::from)?;
+        styles.push(style)?;
     }
     Ok(styles)
 }

@@ -12,7 +12,6 @@ use crate::index::Index;
 use crate::query::Query;
 use crate::symbol::Symbol;
 use servo_arc::Arc;
-use std::alloc::{AllocError, Global};
 use std::hash::{BuildHasher, Hash};
 
 #[derive(Drop)]
@@ -98,7 +97,7 @@ impl<T: Eq + Hash, S: BuildHasher> Store<T, S> {
     }
 
     /// Adds a value that is not there.
-    pub(crate) fn push(&mut self, value: Arc<T>, hash: u64) -> Result<Symbol, AllocError>
+    pub(crate) fn push(&mut self, value: Arc<T>, hash: u64) -> Result<Symbol, InternError>
     where
         T: Drop,
         requires indexed { IsIndexed T.eq
@@ -112,6 +111,7 @@ impl<T: Eq + Hash, S: BuildHasher> Store<T, S> {
             self.new.values.items self.new.index.hashes }
         ensures interned { IfOk result (IsInterned T.eq self.old.values.items value self.new.values.items) }
         ensures refused { OnErr result (self.new.values.items ≡ self.old.values.items) }
+        ensures memory { IfErr result (λ refusal. refusal ≡ InternError.Memory) }
     {
         self.values.reserve(1)?;
         self.index.reserve()?;

@@ -170,7 +170,7 @@ impl<T: Eq + Hash + Drop, S: BuildHasher> Interner<T, S> {
     {
         match self.store.place_of(&*value)? {
             Place::Taken(symbol) => Ok(symbol),
-            Place::Free(hash) => Ok(self.store.push(value, hash)?),
+            Place::Free(hash) => self.store.push(value, hash),
         }
     }
 
@@ -187,7 +187,7 @@ impl<T: Eq + Hash + Drop, S: BuildHasher> Interner<T, S> {
             Place::Taken(symbol) => Ok(symbol),
             Place::Free(hash) => {
                 let value = Arc::try_new(alloc, value)?;
-                Ok(self.store.push(value, hash)?)
+                self.store.push(value, hash)
             }
         }
     }
@@ -209,7 +209,7 @@ impl<T: Eq + Hash + Drop, S: BuildHasher> Interner<T, S> {
             Place::Free(hash) => {
                 let value = query.make(alloc, self.store.values.as_slice())?;
                 let block = Arc::try_new(alloc, value)?;
-                Ok(self.store.push(block, hash)?)
+                self.store.push(block, hash)
             }
         }
     }

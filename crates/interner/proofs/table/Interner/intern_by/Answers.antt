@@ -1,4 +1,5 @@
 use Rattle.std.proofs.Common.{◌≡◌, true, false, position, ap, sym, ◌∙◌, subst}
+use Rattle.std.proofs.lemmas.Result.{IfOk-weaker}
 use Rattle.std.specs.List.{list_any}
 use Rattle.interner.specs.Hashes.{hash}
 use Rattle.interner.specs.Places.{IsPlace}
@@ -38,17 +39,17 @@ returns-in-Taken-clause-interned g c =
     found_there g.met.T.Eq.laws pass equal c.args.self.now c.in-Taken.symbol
     (ap (position pass) (sym c.self.view_is) ∙ place.0) _
 
-pub returns-in_ok-push-in-Free-clause-interned : goal.returns-in_ok-push-in-Free-clause-interned
-returns-in_ok-push-in-Free-clause-interned g c =
+pub returns-in_ok-block-in-Free-clause-interned : goal.returns-in_ok-block-in-Free-clause-interned
+returns-in_ok-block-in-Free-clause-interned g c =
     let is = sym c.in_ok-block-in-Free.ensures.made in
-    record {
+    IfOk-weaker c.push.result _ _
+    (λ symbol met. record {
       value = c.in_ok-block-in-Free.block;
       stands = subst (λ v. g.Q.Query.stands_for c.args.query v ≡ true) is c.in_ok-value-in-Free.ensures.stands;
       interned = subst
-          (λ vs. IsInterned g.T.PartialEq.eq vs c.in_ok-block-in-Free.block c.push.new.self.values.items
-          c.in_ok-push-in-Free.field-0)
-          c.self.view_is c.in_ok-push-in-Free.ensures.interned;
+          (λ vs. IsInterned g.T.PartialEq.eq vs c.in_ok-block-in-Free.block c.push.new.self.values.items symbol)
+          c.self.view_is met;
       made = λ _. subst (g.Q.Make.makes c.args.query c.args.self.now) is (subst
           (λ vs. g.Q.Make.makes c.args.query vs c.in_ok-value-in-Free.value)
           (c.as_slice.ensures.value ∙ c.self.view_is) c.in_ok-value-in-Free.ensures.made);
-    }
+    }) c.push.ensures.interned

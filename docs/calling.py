@@ -24,7 +24,8 @@ IMPL = re.compile(r"^((?:unsafe )?impl\b[^{]*)\{(\}|.*?^\})", re.M | re.S)
 GIVES = re.compile(r"^    ghost (from_gives) = \{ (.*?) \};", re.M | re.S)
 OWN_TRAIT = re.compile(r"^pub trait (\w+)", re.M)
 TYPE = re.compile(
-    r"^((?:#\[[^\n]*\]\n)*)pub ((struct|enum|trait|type) (\w+)[^;{(]*)(?:\{(\}|.*?^\})|[;(])", re.M | re.S
+    r"^((?:#\[[^\n]*\]\n)*)pub ((struct|enum|trait|type) (\w+)(?:[^;{(]|(?<=[<, ])\()*)(?:\{(\}|.*?^\})|[;(])",
+    re.M | re.S,
 )
 FUNCTION = re.compile(r"^( *)(pub )?(?:unsafe |const )?fn (.*)$")
 CLAUSE = re.compile(r" (requires|ensures\*?)( \w+)? \{ ?")
@@ -45,7 +46,7 @@ def functions(source):
             owner = ""
         elif head := FUNCTION.match(line):
             taken = [head[3]]
-            while not taken[-1].endswith((" {", " {}")) and taken[-1] not in (head[1] + "{", head[1] + "{}"):
+            while not taken[-1].endswith((" {", " {}", ";")) and taken[-1] not in (head[1] + "{", head[1] + "{}"):
                 taken.append(next(lines))
             yield owner, head[2], [part for part in taken if not part.strip().startswith("//")]
 

@@ -1,20 +1,23 @@
 -- A branch after an item was changed under one of its children.
-use Rattle.std.proofs.Common.{◌≡◌, ◌+◌, ◌<◌, ◌≤◌, ◌^◌, ℕ, zero, suc, List, [], ◌∷◌, ◌++◌, length, take, drop, get_or, set, ap, sym, ◌∙◌}
-use Rattle.std.proofs.Common.{subst, arith, length-set}
+use Rattle.std.proofs.Common.{◌≡◌, ◌+◌, ◌<◌, ◌≤◌, ◌^◌, ℕ, zero, suc, List, [], ◌∷◌, ◌++◌, length, take, drop}
+use Rattle.std.proofs.Common.{get_or, set, ap, sym, ◌∙◌}
+use Rattle.std.proofs.Common.{subst, arith, length-set, refl}
 use Rattle.std.specs.Prelude.{Option, None, Some, Result, Ok, Err, IfNone, IfOk, IfSome, OnErr, OnOk, slice_get}
 use Rattle.std.specs.Borrow.{MutBor}
 use Rattle.std.specs.Fn.{FnOnceReturnsAtMut, Once}
 use Rattle.std.proofs.lemmas.List.{set_past}
 use Rattle.std.proofs.lemmas.Option.{none-some}
-use Rattle.sequence.specs.Changes.{ChangesItem}
+use Rattle.sequence.specs.Changes.{ChangesItem, KeepsLabel}
 use Rattle.sequence.specs.declared.tree.Child.{Child}
-use Rattle.sequence.specs.Nodes.{AreChildren, IsChild, height_in, items_in}
+use Rattle.sequence.specs.Nodes.{AreChildren, IsChild, first_label, height_in, items_in}
 use Rattle.sequence.proofs.Children.{items_set, items_split}
+use Rattle.sequence.proofs.Labelled.{first_set, labelled_at, labelled_by}
 use Rattle.sequence.proofs.Placed.{child_here, children_set, height_set, stands_in}
 use Rattle.sequence.proofs.Spliced.{get_between, set_between}
 
-module _ {T : Type 0} (tree : List T × ℕ) (cs : List (Child T)) (i : ℕ) (d : Child T) (are : AreChildren cs)
-    (same : ◌≡◌ {A = List T × ℕ} (items_in cs, height_in cs) tree) (h : i < length cs) (is : d ≡ get_or cs i d)
+module _ {T L : Type 0} {label_of : T → L} (tree : List T × ℕ) (cs : List (Child T L)) (i : ℕ) (d : Child T L)
+    (are : AreChildren label_of cs) (same : ◌≡◌ {A = List T × ℕ} (items_in cs, height_in cs) tree) (h : i < length cs)
+    (is : d ≡ get_or cs i d)
     (at p : ℕ) (place : at ≡ length (items_in (take i cs)) + p) (inside : p < length d.tree.0) where
   -- the item of the whole is that of the child
   pub item_under : slice_get tree.0 at ≡ slice_get d.tree.0 p
@@ -24,13 +27,13 @@ module _ {T : Type 0} (tree : List T × ℕ) (cs : List (Child T)) (i : ℕ) (d 
       let r = items_in (drop (i + 1) cs) in
       ap (λ (t : List T × ℕ). slice_get t.0 at) (sym same)
       ∙ ap (λ (es : List T). slice_get es at) (items_split cs i d h)
-      ∙ get_between l m r at p place (omega (arith, inside, ap (λ (c : Child T). length c.tree.0) is))
-      ∙ ap (λ (c : Child T). slice_get c.tree.0 p) (sym is)
+      ∙ get_between l m r at p place (omega (arith, inside, ap (λ (c : Child T L). length c.tree.0) is))
+      ∙ ap (λ (c : Child T L). slice_get c.tree.0 p) (sym is)
 
   module _ {F R : Type 0} (g : Once F (MutBor T × Unit {0}) (R × (MutBor T × Unit {0}))) (change : F) where
     -- the node after the call on that child, whose answer is r
-    pub record IsChanged {E : Type 0} (new : List (Child T)) (r : Result R E) : Type 0 where
-      pub whole : AreChildren new
+    pub record IsChanged {E : Type 0} (new : List (Child T L)) (r : Result R E) : Type 0 where
+      pub whole : AreChildren label_of new
       pub changed : IfOk r (ChangesItem g change at tree.0 (items_in new))
       pub height : height_in new ≡ tree.1
       pub refused : OnErr r (items_in new ≡ tree.0)
@@ -38,8 +41,10 @@ module _ {T : Type 0} (tree : List T × ℕ) (cs : List (Child T)) (i : ℕ) (d 
     -- the item was changed in the child, or the call was refused
     pub changed_under : {E : Type 0} (new : List T × ℕ) (r : Result R E)
         → IfOk r (ChangesItem g change p d.tree.0 new.0) → new.1 ≡ d.tree.1 → OnErr r (new.0 ≡ d.tree.0)
+        → ((before : T) → slice_get d.tree.0 p ≡ Some before → KeepsLabel g change label_of before)
         → IsChanged (set cs i (record d { tree = new })) r
-    changed_under new (Ok r) changed level refused =
+    changed_under new (Ok r) changed level refused keeps =
+        let kept = keeps changed.before changed.found changed.after r changed.called in
         let c = record d { tree = new } in
         let old = child_here cs i d are h is in
         let many : length new.0 ≡ length d.tree.0 =
@@ -55,10 +60,13 @@ module _ {T : Type 0} (tree : List T × ℕ) (cs : List (Child T)) (i : ℕ) (d 
         let items : items_in (set cs i c) ≡ set (items_in cs) at changed.after =
         items_set cs i c h
         ∙ ap (λ (es : List T). l ++ (es ++ r))
-        (changed.items ∙ ap (λ (c : Child T). set c.tree.0 p changed.after) is)
+        (changed.items ∙ ap (λ (c : Child T L). set c.tree.0 p changed.after) is)
         ∙ sym (set_between l m r at p changed.after place
-        (omega (arith, inside, ap (λ (c : Child T). length c.tree.0) is)))
+        (omega (arith, inside, ap (λ (c : Child T L). length c.tree.0) is)))
         ∙ ap (λ (es : List T). set es at changed.after) (sym (items_split cs i d h)) in
+        let first = ap (λ (es : List T). first_label label_of es) changed.items
+        ∙ first_set label_of d.tree.0 p changed.before changed.after changed.found kept in
+        let label = λ (p : 0 < i). labelled_by d c refl (λ h. first ∙ h) (labelled_at cs i d are p h is) in
         let count : length (items_in (set cs i c)) < 2 ^ 64 = omega (
           arith,
           ap (length {A = T}) items,
@@ -66,7 +74,7 @@ module _ {T : Type 0} (tree : List T × ℕ) (cs : List (Child T)) (i : ℕ) (d 
           are.list.room,
         ) in
         record {
-          whole = children_set cs i d are h is c child count;
+          whole = children_set cs i d are h is c child label count;
           changed = record {
             before = changed.before;
             after = changed.after;
@@ -74,10 +82,10 @@ module _ {T : Type 0} (tree : List T × ℕ) (cs : List (Child T)) (i : ℕ) (d 
             called = changed.called;
             items = items ∙ ap (λ (t : List T × ℕ). set t.0 at changed.after) same;
           };
-          height = height_set cs i d are h is c child ∙ ap (λ (t : List T × ℕ). t.1) same;
+          height = height_set cs i d are h is c child label ∙ ap (λ (t : List T × ℕ). t.1) same;
           refused = tt;
         }
-    changed_under new (Err e) changed level refused =
+    changed_under new (Err e) changed level refused keeps =
         let c = record d { tree = new } in
         let old = child_here cs i d are h is in
         let many : length new.0 ≡ length d.tree.0 = ap (length {A = T}) refused in
@@ -86,7 +94,9 @@ module _ {T : Type 0} (tree : List T × ℕ) (cs : List (Child T)) (i : ℕ) (d 
           level = ap (λ (n : ℕ). n + 1) level;
           wide = subst (λ (n : ℕ). 2 ^ n ≤ length new.0) (sym level) (omega (arith, many, old.wide));
         } in
-        let done = stands_in cs i d are h is c child refused in
+        let label = λ (p : 0 < i). labelled_by d c refl
+        (λ h. ap (λ (es : List T). first_label label_of es) refused ∙ h) (labelled_at cs i d are p h is) in
+        let done = stands_in cs i d are h is c child label refused in
         record {
           whole = done.children;
           changed = tt;

@@ -1,17 +1,22 @@
 -- The parts of what a node has, and nodes that are made of them.
-use Rattle.std.proofs.Common.{◌≡◌, ◌+◌, ◌-◌, ◌<◌, ◌≤◌, ◌^◌, ℕ, List, [], ◌∷◌, ◌++◌, length, take, drop, ap, sym, ◌∙◌}
+use Rattle.std.proofs.Common.{◌≡◌, ◌+◌, ◌-◌, ◌<◌, ◌≤◌, ◌^◌, ℕ, List, [], ◌∷◌, ◌++◌, length, take, drop, get_or}
+use Rattle.std.proofs.Common.{ap, sym, ◌∙◌}
 use Rattle.std.proofs.Common.{subst, arith, take-append-drop, length-append, length-take, length-drop, refl, append-nil}
 use Rattle.std.specs.List.{All}
-use Rattle.std.proofs.lemmas.List.{drop-drop}
+use Rattle.std.specs.Prelude.{Some}
+use Rattle.std.proofs.lemmas.List.{drop-drop, drop_more}
 use Rattle.std.proofs.lemmas.List.Elements.{All-take, All-drop, All-append, All-cons, All-nil}
 use Rattle.sequence.specs.declared.tree.Child.{Child}
-use Rattle.sequence.specs.Nodes.{AreChildren, AreHalves, AreLevel, IsChild, IsList, StandFor, height_in, items_in}
+use Rattle.sequence.specs.Nodes.{AreChildren, AreHalves, AreLevel, IsChild, IsLabelled, IsList, StandFor}
+use Rattle.sequence.specs.Nodes.{first_label, height_in, items_in}
 use Rattle.sequence.proofs.Children.{children_are, height_is, items_append, length-parts, two_parts}
+use Rattle.sequence.proofs.Labelled.{all_behind, at_behind, behind_append, behind_drop, behind_take, first_drop}
+use Rattle.sequence.proofs.Labelled.{first_in}
 use Rattle.sequence.proofs.Wide.{three_children}
 
-module _ {T : Type 0} where
+module _ {T L : Type 0} where
   -- a child with that tree
-  pub child_is : (t : List T × ℕ) (new : Child T) → new.tree ≡ t → new.len ≡ length t.0 → 2 ^ t.1 ≤ length t.0
+  pub child_is : (t : List T × ℕ) (new : Child T L) → new.tree ≡ t → new.len ≡ length t.0 → 2 ^ t.1 ≤ length t.0
       → IsChild (t.1 + 1) new
   child_is t new is len wide = record {
     counted = len ∙ ap (λ (t : List T × ℕ). length t.0) (sym is);
@@ -20,7 +25,8 @@ module _ {T : Type 0} where
   }
 
   -- a child that keeps the first half
-  pub left_is : (old right new : Child T) → IsChild (old.tree.1 + 1) old → AreHalves old.tree new.tree right
+  pub left_is : {label_of : T → L} (old right new : Child T L) → IsChild (old.tree.1 + 1) old
+      → AreHalves label_of old.tree new.tree right
       → new.len ≡ old.len - right.len → IsChild (old.tree.1 + 1) new
   left_is old right new child halves len = record {
     counted = omega (
@@ -35,6 +41,7 @@ module _ {T : Type 0} where
     wide = omega (arith, halves.spare.0);
   }
 
+module _ {T : Type 0} where
   -- the front of a list, and its back
   pub list_take : (es : List T) (n : ℕ) → IsList es → 0 < n → n ≤ length es → IsList (take n es)
   list_take es n list p h = record {
@@ -48,18 +55,21 @@ module _ {T : Type 0} where
     room = omega (arith, list.room, length-drop n es);
   }
 
-  module _ (cs : List (Child T)) (n : ℕ) (are : AreChildren cs) where
+module _ {T L : Type 0} {label_of : T → L} where
+  module _ (cs : List (Child T L)) (n : ℕ) (are : AreChildren label_of cs) where
     -- the front of the children of a node are those of one
-    pub children_take : 0 < n → n ≤ length cs → AreChildren (take n cs)
+    pub children_take : 0 < n → n ≤ length cs → AreChildren label_of (take n cs)
     children_take p h =
         children_are (height_in cs) (take n cs) (All-take (IsChild (height_in cs)) n cs are.each)
         (omega (arith, p, h, length-take n cs)) (omega (arith, are.list.room, length-parts cs n))
+        (behind_take (IsLabelled label_of) n cs are.labels)
 
     -- and so is the back
-    pub children_drop : n < length cs → AreChildren (drop n cs)
+    pub children_drop : n < length cs → AreChildren label_of (drop n cs)
     children_drop h =
         children_are (height_in cs) (drop n cs) (All-drop (IsChild (height_in cs)) n cs are.each)
         (omega (arith, h, length-drop n cs)) (omega (arith, are.list.room, length-parts cs n))
+        (behind_drop (IsLabelled label_of) n cs are.labels)
 
     -- the front is as high
     height_take : 0 < n → n ≤ length cs → height_in (take n cs) ≡ height_in cs
@@ -74,25 +84,40 @@ module _ {T : Type 0} where
         (omega (arith, h, length-drop n cs))
 
     -- both stand on one level
-    pub level_take : AreLevel (take n cs)
-    level_take = record { height = height_in cs; each = All-take (IsChild (height_in cs)) n cs are.each }
+    pub level_take : AreLevel label_of (take n cs)
+    level_take = record {
+      height = height_in cs;
+      each = All-take (IsChild (height_in cs)) n cs are.each;
+      labels = behind_take (IsLabelled label_of) n cs are.labels;
+    }
 
-    pub level_drop : AreLevel (drop n cs)
-    level_drop = record { height = height_in cs; each = All-drop (IsChild (height_in cs)) n cs are.each }
+    pub level_drop : AreLevel label_of (drop n cs)
+    level_drop = record {
+      height = height_in cs;
+      each = All-drop (IsChild (height_in cs)) n cs are.each;
+      labels = behind_drop (IsLabelled label_of) n cs are.labels;
+    }
 
   -- a tree as the only child of another one
-  pub only_is : (h : ℕ) (c : Child T) → IsChild h c → length c.tree.0 < 2 ^ 64 → AreChildren (c ∷ [])
+  pub only_is : (h : ℕ) (c : Child T L) → IsChild h c → length c.tree.0 < 2 ^ 64
+      → AreChildren label_of (c ∷ [])
   only_is h c child room =
       children_are h (c ∷ []) (All-cons (IsChild h) c [] child (All-nil (IsChild h))) (omega arith)
       (subst (λ (es : List T). length es < 2 ^ 64) (sym (append-nil c.tree.0)) room)
+      (All-nil (IsLabelled label_of))
 
   -- the halves of a leaf
-  pub leaves_are : (es : List T) (n : ℕ) (r : Child T) → 2 < n → n + 2 < length es → r.len ≡ length (drop n es)
-      → r.tree ≡ (drop n es, 0) → AreHalves (es, 0) (take n es, 0) r
-  leaves_are es n r p h len is = record {
+  pub leaves_are : (es : List T) (n : ℕ) (d : T) (r : Child T L) → 2 < n → n + 2 < length es
+      → r.len ≡ length (drop n es) → r.tree ≡ (drop n es, 0) → r.label ≡ label_of (get_or es n d)
+      → AreHalves label_of (es, 0) (take n es, 0) r
+  leaves_are es n d r p h len is label = record {
     items = ap (λ (t : List T × ℕ). take n es ++ t.0) is ∙ take-append-drop n es;
     height = refl;
     child = child_is (drop n es, 0) r is len (omega (arith, h, length-drop n es));
+    label = record {
+      first = ap (λ (t : List T × ℕ). first_label label_of t.0) is ∙ first_drop label_of es n d (omega (arith, h))
+          ∙ ap (λ (l : L). Some l) (sym label);
+    };
     spare = (
       omega (arith, p, h, length-take n es),
       subst (λ (t : List T × ℕ). 2 ^ t.1 < length t.0) (sym is) (omega (arith, h, length-drop n es)),
@@ -100,20 +125,29 @@ module _ {T : Type 0} where
   }
 
   -- the halves of a branch
-  pub branches_are : (cs : List (Child T)) (n : ℕ) (r : Child T) → AreChildren cs → 2 < n → n + 2 < length cs
-      → r.len ≡ length (items_in (drop n cs)) → r.tree ≡ (items_in (drop n cs), height_in (drop n cs))
-      → AreHalves (items_in cs, height_in cs) (items_in (take n cs), height_in (take n cs)) r
-  branches_are cs n r are p h len is =
+  pub branches_are : (cs : List (Child T L)) (n : ℕ) (d r : Child T L) → AreChildren label_of cs → 2 < n
+      → n + 2 < length cs → r.len ≡ length (items_in (drop n cs))
+      → r.tree ≡ (items_in (drop n cs), height_in (drop n cs)) → r.label ≡ (get_or cs n d).label
+      → AreHalves label_of (items_in cs, height_in cs) (items_in (take n cs), height_in (take n cs)) r
+  branches_are cs n d r are p h len is label =
       let front = height_take cs n are (omega (arith, p)) (omega (arith, h)) in
       let back = height_drop cs n are (omega (arith, h)) in
       let rest = children_drop cs n are (omega (arith, h)) in
       let each = All-take (IsChild (height_in cs)) n cs are.each in
+      let here = get_or cs n d in
       let wide = three_children (height_in (drop n cs)) (drop n cs) rest.each (omega (arith, h, length-drop n cs)) in
       record {
         items = ap (λ (t : List T × ℕ). items_in (take n cs) ++ t.0) is ∙ sym (two_parts cs n);
         height = front;
         child = subst (λ (h : ℕ). IsChild (h + 1) r) back
             (child_is (items_in (drop n cs), height_in (drop n cs)) r is len (omega (arith, wide)));
+        label = record {
+          first = ap (λ (t : List T × ℕ). first_label label_of t.0) is
+              ∙ ap (λ (xs : List (Child T L)). first_label label_of (items_in xs)) (drop_more cs n d (omega (arith, h)))
+              ∙ first_in label_of here.tree.0 (items_in (drop (n + 1) cs)) here.label
+              (at_behind (IsLabelled label_of) cs n d are.labels (omega (arith, p)) (omega (arith, h))).first
+              ∙ ap (λ (l : L). Some l) (sym label);
+        };
         spare = (
           subst (λ (h : ℕ). 2 ^ h < length (items_in (take n cs))) (sym front)
               (three_children (height_in cs) (take n cs) each (omega (arith, p, h, length-take n cs))),
@@ -122,9 +156,10 @@ module _ {T : Type 0} where
       }
 
   -- children in place of k, with the items of those, stand for all
-  pub replaced : (cs ns : List (Child T)) (i k : ℕ) → AreChildren cs → All (IsChild (height_in cs)) ns
-      → 0 < length ns → items_in ns ≡ items_in (take k (drop i cs)) → StandFor cs (take i cs ++ (ns ++ drop (i + k) cs))
-  replaced cs ns i k are each some is =
+  pub replaced : (cs ns : List (Child T L)) (i k : ℕ) → AreChildren label_of cs → All (IsChild (height_in cs)) ns
+      → 0 < length ns → 0 < k → items_in ns ≡ items_in (take k (drop i cs)) → All (IsLabelled label_of) (drop 1 ns)
+      → (0 < i → All (IsLabelled label_of) ns) → StandFor label_of cs (take i cs ++ (ns ++ drop (i + k) cs))
+  replaced cs ns i k are each some gone is labels first =
       let P = IsChild (height_in cs) in
       let rest = drop k (drop i cs) in
       let new = take i cs ++ (ns ++ rest) in
@@ -137,9 +172,17 @@ module _ {T : Type 0} where
       ∙ ap (λ (x : List T). x ++ items_in rest) is ∙ sym (two_parts (drop i cs) k))
       ∙ sym (two_parts cs i) in
       let wide : 0 < length new = omega (arith, some, length-append (take i cs) (ns ++ rest), length-append ns rest) in
-      subst (λ (xs : List (Child T)). StandFor cs (take i cs ++ (ns ++ xs))) (drop-drop k i cs) record {
+      let Q = IsLabelled label_of in
+      let front : 0 < length (take i cs) → 0 < i = λ some. omega (arith, some, length-take i cs) in
+      let behind : All Q rest = subst (All Q) (sym (drop-drop k i cs))
+      (all_behind Q (i + k) cs (omega (arith, gone)) are.labels) in
+      let right : All Q (drop 1 new) =
+      behind_append Q (take i cs) (ns ++ rest) (behind_take Q i cs are.labels)
+      (behind_append Q ns rest labels (All-drop Q 1 rest behind) (λ _. behind))
+      (λ some. All-append Q ns rest (first (front some)) behind) in
+      subst (λ (xs : List (Child T L)). StandFor label_of cs (take i cs ++ (ns ++ xs))) (drop-drop k i cs) record {
         items = same;
         height = height_is (height_in cs) new all wide;
         children = children_are (height_in cs) new all wide
-            (subst (λ (x : List T). length x < 2 ^ 64) (sym same) are.list.room);
+            (subst (λ (x : List T). length x < 2 ^ 64) (sym same) are.list.room) right;
       }

@@ -5,18 +5,18 @@ use Rattle.std.proofs.Common.{append-nil, add-one, inl, inr, cond}
 use Rattle.std.specs.Prelude.{Bool}
 use Rattle.std.specs.List.{All, insert, remove}
 use Rattle.std.proofs.lemmas.List.{drop_more, get_or_default, set_at, set_split, length-take-le, take_more}
-use Rattle.std.proofs.lemmas.List.Elements.{All-append, All-cons, All-nil}
+use Rattle.std.proofs.lemmas.List.Elements.{All-cons, All-nil}
 use Rattle.std.proofs.lemmas.List.Edits.{get_or-remove_below, insert-append_right}
 use Rattle.std.proofs.lemmas.Bool.Decides.{leb_tells}
 use Rattle.std.proofs.lemmas.Nat.{pow_pos}
 use Rattle.std.proofs.Math.Seq.{get_or_at}
 use Rattle.sequence.specs.declared.tree.Child.{Child}
 use Rattle.sequence.specs.declared.tree.search.Spot.{Spot}
-use Rattle.sequence.specs.Nodes.{AreChildren, AreHalves, CanLose, IsChild, IsList, StandFor, height_in, items_in}
+use Rattle.sequence.specs.Nodes.{AreChildren, AreHalves, CanLose, IsChild, IsLabelled, StandFor, height_in, items_in}
 use Rattle.sequence.specs.Spots.{Leads, past}
-use Rattle.sequence.proofs.Children.{children_are, height_is, items_append, leads_at, length-more, split_at}
+use Rattle.sequence.proofs.Children.{items_append, leads_at, length-more, split_at}
 use Rattle.sequence.proofs.Halves.{child_is, children_drop, children_take, replaced}
-use Rattle.sequence.proofs.Wide.{some_in}
+use Rattle.sequence.proofs.Labelled.{labelled_at, labelled_both, labelled_left}
 
 module _ {X : Type 0} where
   -- a list around two items
@@ -82,25 +82,33 @@ module _ {X : Type 0} where
       ∙ insert_behind xs (drop (suc i) xs) i x y (omega (arith, h))
       ∙ ap (λ (n : ℕ). take i xs ++ x ∷ y ∷ drop n xs) (sym (add-one i))
 
-module _ {T : Type 0} where
-  module _ (cs : List (Child T)) (i : ℕ) (d e : Child T) (are : AreChildren cs) (h : i + 1 < length cs)
+module _ {T L : Type 0} (label_of : T → L) where
+  -- room that was made for a spot
+  pub record IsRoom (old new : List (Child T L)) (spot there : Spot) : Type 0 where
+    pub same : StandFor label_of old new
+    pub leads : (place : ℕ) → Leads old place spot → Leads new place there
+    pub spare : (d : Child T L) → CanLose (get_or new there.child d).tree
+
+module _ {T L : Type 0} {label_of : T → L} where
+  module _ (cs : List (Child T L)) (i : ℕ) (d e : Child T L) (are : AreChildren label_of cs) (h : i + 1 < length cs)
       (is : d ≡ get_or cs i d) (next : e ≡ get_or cs (i + 1) e) where
     -- two children side by side
     two_at : take 2 (drop i cs) ≡ d ∷ e ∷ []
     two_at =
         ap (take 2) (drop_more cs i d (omega (arith, h))
-        ∙ ap (λ (ys : List (Child T)). get_or cs i d ∷ ys) (drop_more cs (i + 1) e h))
-        ∙ ap (λ (c : Child T). c ∷ get_or cs (i + 1) e ∷ []) (sym is)
-        ∙ ap (λ (c : Child T). d ∷ c ∷ []) (sym next)
+        ∙ ap (λ (ys : List (Child T L)). get_or cs i d ∷ ys) (drop_more cs (i + 1) e h))
+        ∙ ap (λ (c : Child T L). c ∷ get_or cs (i + 1) e ∷ []) (sym is)
+        ∙ ap (λ (c : Child T L). d ∷ c ∷ []) (sym next)
 
     -- are those of a node by themselves
-    pub pair_are : AreChildren (d ∷ e ∷ [])
+    pub pair_are : AreChildren label_of (d ∷ e ∷ [])
     pair_are =
-        subst AreChildren two_at
+        subst (AreChildren label_of) two_at
         (children_take (drop i cs) 2 (children_drop cs i are (omega (arith, h))) (omega arith)
         (omega (arith, h, length-drop i cs)))
 
-    module _ (j : Child T) (child : IsChild (d.tree.1 + 1) j) (joined : j.tree.0 ≡ d.tree.0 ++ e.tree.0) where
+    module _ (j : Child T L) (child : IsChild (d.tree.1 + 1) j) (joined : j.tree.0 ≡ d.tree.0 ++ e.tree.0)
+        (kept : j.label ≡ d.label) where
       both : length j.tree.0 ≡ length d.tree.0 + length e.tree.0
       both = omega (arith, ap (length {A = T}) joined, length-append d.tree.0 e.tree.0)
 
@@ -108,30 +116,33 @@ module _ {T : Type 0} where
       before = length-take-le i cs (omega (arith, h))
 
       -- the node with the one child of both
-      pub record IsJoined (new : List (Child T)) : Type 0 where
-        pub same : StandFor cs new
+      pub record IsJoined (new : List (Child T L)) : Type 0 where
+        pub same : StandFor label_of cs new
         pub first : (place k : ℕ) → Leads cs place (record { child = i; place = k })
             → Leads new place (record { child = i; place = k })
-        pub second : (place k : ℕ) (x : Child T) → Leads cs place (record { child = i + 1; place = k })
+        pub second : (place k : ℕ) (x : Child T L) → Leads cs place (record { child = i + 1; place = k })
             → Leads new place (record { child = i; place = (get_or cs i x).len + k })
-        pub spare : (x : Child T) → CanLose (get_or new i x).tree
+        pub spare : (x : Child T L) → CanLose (get_or new i x).tree
 
       joined_at : IsJoined (take i cs ++ j ∷ drop (i + 2) cs)
       joined_at =
-          let P : Child T → Type 0 = IsChild (height_in cs) in
-          let level = ap (λ (c : Child T). c.tree.1 + 1) is ∙ (are.each i d (omega (arith, h))).level in
+          let P : Child T L → Type 0 = IsChild (height_in cs) in
+          let level = ap (λ (c : Child T L). c.tree.1 + 1) is ∙ (are.each i d (omega (arith, h))).level in
           let one = subst P (sym is) (are.each i d (omega (arith, h))) in
           let two = subst P (sym next) (are.each (i + 1) e h) in
           let low : j.tree.1 ≡ d.tree.1 = omega (arith, child.level) in
           let spare : CanLose j.tree = subst (λ (n : ℕ). 2 ^ n < length j.tree.0) (sym low)
           (omega (arith, one.wide, two.wide, pow_pos e.tree.1, both)) in
+          let Q : Child T L → Type 0 = IsLabelled label_of in
+          let label = λ (p : 0 < i). labelled_both d e j joined kept (labelled_at cs i d are p (omega (arith, h)) is) in
           record {
             same = replaced cs (j ∷ []) i 2 are
-                (All-cons P j [] (subst (λ (n : ℕ). IsChild n j) level child) (All-nil P)) (omega arith)
+                (All-cons P j [] (subst (λ (n : ℕ). IsChild n j) level child) (All-nil P)) (omega arith) (omega arith)
                 (append-nil j.tree.0 ∙ joined ∙ ap (λ (es : List T). d.tree.0 ++ es) (sym (append-nil e.tree.0))
-                ∙ ap (λ (cs : List (Child T)). items_in cs) (sym two_at));
+                ∙ ap (λ (cs : List (Child T L)). items_in cs) (sym two_at))
+                (All-nil Q) (λ p. All-cons Q j [] (label p) (All-nil Q));
             first = λ place k leads. leads_at (take i cs) (drop (i + 2) cs) j i place k before leads.is
-                (omega (arith, both, leads.inside d, ap (λ (c : Child T). length c.tree.0) is)) leads.inner;
+                (omega (arith, both, leads.inside d, ap (λ (c : Child T L). length c.tree.0) is)) leads.inner;
             second = λ place k x leads.
                 let len : (get_or cs i x).len ≡ length (get_or cs i x).tree.0 =
                 (are.each i x (omega (arith, h))).counted in
@@ -142,12 +153,12 @@ module _ {T : Type 0} where
                   both,
                   len,
                   leads.inside e,
-                  ap (λ (c : Child T). length c.tree.0) next,
-                  ap (λ (c : Child T). length c.tree.0) is,
-                  ap (λ (c : Child T). length c.tree.0) (get_or_default cs i x d (omega (arith, h))),
+                  ap (λ (c : Child T L). length c.tree.0) next,
+                  ap (λ (c : Child T L). length c.tree.0) is,
+                  ap (λ (c : Child T L). length c.tree.0) (get_or_default cs i x d (omega (arith, h))),
                 ))
                 (λ some. omega (arith, leads.inner some));
-            spare = λ x. subst (λ (c : Child T). CanLose c.tree)
+            spare = λ x. subst (λ (c : Child T L). CanLose c.tree)
                 (sym (get_or_at (take i cs) j (drop (i + 2) cs) x i before)) spare;
           }
 
@@ -156,7 +167,8 @@ module _ {T : Type 0} where
       joined_is = subst IsJoined (sym (one_for_two cs i j h)) joined_at
 
   -- one child of both
-  pub child_of_both : (c next new : Child T) → AreChildren (c ∷ next ∷ []) → new.len ≡ c.len + next.len
+  pub child_of_both : (c next new : Child T L) → AreChildren label_of (c ∷ next ∷ [])
+      → new.len ≡ c.len + next.len
       → new.tree ≡ (c.tree.0 ++ next.tree.0, c.tree.1) → IsChild (c.tree.1 + 1) new
   child_of_both c next new are len is =
       let one = are.each 0 c (omega arith) in
@@ -165,69 +177,43 @@ module _ {T : Type 0} where
       child_is (c.tree.0 ++ next.tree.0, c.tree.1) new is
       (omega (arith, len, one.counted, two.counted, long)) (omega (arith, one.wide, long))
 
-  module _ (cs ds : List (Child T)) (are : AreChildren cs) (more : AreChildren ds)
-      (level : height_in cs ≡ height_in ds) where
-    -- children on one level, in one
-    each_both : All (IsChild (height_in cs)) (cs ++ ds)
-    each_both =
-        All-append (IsChild (height_in cs)) cs ds are.each
-        (subst (λ (n : ℕ). All (IsChild n) ds) (sym level) more.each)
-
-    some_both : 0 < length (cs ++ ds)
-    some_both = omega (arith, some_in cs are, length-append cs ds)
-
-    -- the children of two nodes that are as high, in one
-    pub children_both : IsList (items_in cs ++ items_in ds) → AreChildren (cs ++ ds)
-    children_both list =
-        children_are (height_in cs) (cs ++ ds) each_both some_both
-        (subst (λ (es : List T). length es < 2 ^ 64) (sym (items_append cs ds)) list.room)
-
-    -- a node of both has the items of both, and their height
-    pub seen_both : ◌≡◌ {A = List T × ℕ} (items_in (cs ++ ds), height_in (cs ++ ds))
-        (items_in cs ++ items_in ds, height_in cs)
-    seen_both =
-        ap {B = List T × ℕ} (λ (es : List T). (es, height_in (cs ++ ds))) (items_append cs ds)
-        ∙ ap {B = List T × ℕ} (λ (n : ℕ). (items_in cs ++ items_in ds, n))
-        (height_is (height_in cs) (cs ++ ds) each_both some_both)
-
-  -- room that was made for a spot
-  pub record IsRoom (old new : List (Child T)) (spot there : Spot) : Type 0 where
-    pub same : StandFor old new
-    pub leads : (place : ℕ) → Leads old place spot → Leads new place there
-    pub spare : (d : Child T) → CanLose (get_or new there.child d).tree
-
-  module _ (cs : List (Child T)) (i : ℕ) (d l r : Child T) (are : AreChildren cs) (h : i < length cs)
-      (is : d ≡ get_or cs i d) (child : IsChild (d.tree.1 + 1) l) (halves : AreHalves d.tree l.tree r) where
+  module _ (cs : List (Child T L)) (i : ℕ) (d l r : Child T L) (are : AreChildren label_of cs)
+      (h : i < length cs) (is : d ≡ get_or cs i d) (child : IsChild (d.tree.1 + 1) l)
+      (halves : AreHalves label_of d.tree l.tree r) (same : l.label ≡ d.label) where
     sums : length d.tree.0 ≡ length l.tree.0 + length r.tree.0
     sums = omega (arith, ap (length {A = T}) halves.items, length-append l.tree.0 r.tree.0)
 
-    split_same : StandFor cs (take i cs ++ l ∷ r ∷ drop (i + 1) cs)
+    split_same : StandFor label_of cs (take i cs ++ l ∷ r ∷ drop (i + 1) cs)
     split_same =
-        let P : Child T → Type 0 = IsChild (height_in cs) in
-        let level = ap (λ (c : Child T). c.tree.1 + 1) is ∙ (are.each i d h).level in
+        let P : Child T L → Type 0 = IsChild (height_in cs) in
+        let level = ap (λ (c : Child T L). c.tree.1 + 1) is ∙ (are.each i d h).level in
         let each : All P (l ∷ r ∷ []) =
         All-cons P l (r ∷ []) (subst (λ (n : ℕ). IsChild n l) level child)
         (All-cons P r [] (subst (λ (n : ℕ). IsChild n r) level halves.child) (All-nil P)) in
-        replaced cs (l ∷ r ∷ []) i 1 are each (omega arith)
+        let Q : Child T L → Type 0 = IsLabelled label_of in
+        let second = All-cons Q r [] halves.label (All-nil Q) in
+        let label = λ (p : 0 < i). labelled_left d l r halves same (labelled_at cs i d are p h is) in
+        replaced cs (l ∷ r ∷ []) i 1 are each (omega arith) (omega arith)
         (ap (λ (es : List T). l.tree.0 ++ es) (append-nil r.tree.0) ∙ halves.items
-        ∙ sym (append-nil d.tree.0) ∙ ap (λ (c : Child T). items_in (c ∷ [])) is
-        ∙ ap (λ (xs : List (Child T)). items_in (take 1 xs)) (sym (drop_more cs i d h)))
+        ∙ sym (append-nil d.tree.0) ∙ ap (λ (c : Child T L). items_in (c ∷ [])) is
+        ∙ ap (λ (xs : List (Child T L)). items_in (take 1 xs)) (sym (drop_more cs i d h)))
+        second (λ p. All-cons Q l (r ∷ []) (label p) second)
 
     -- one of both has the place
     split_left : (k : ℕ) → k ≤ length l.tree.0
-        → IsRoom cs (take i cs ++ l ∷ r ∷ drop (i + 1) cs) (record { child = i; place = k })
+        → IsRoom label_of cs (take i cs ++ l ∷ r ∷ drop (i + 1) cs) (record { child = i; place = k })
         (record { child = i; place = k })
     split_left k low =
         let before = length-take-le i cs (omega (arith, h)) in
         record {
           same = split_same;
           leads = λ place leads. leads_at (take i cs) (r ∷ drop (i + 1) cs) l i place k before leads.is low leads.inner;
-          spare = λ x. subst (λ (c : Child T). CanLose c.tree)
+          spare = λ x. subst (λ (c : Child T L). CanLose c.tree)
               (sym (get_or_at (take i cs) l (r ∷ drop (i + 1) cs) x i before)) halves.spare.0;
         }
 
     split_right : (k : ℕ) → length l.tree.0 < k
-        → IsRoom cs (take i cs ++ l ∷ r ∷ drop (i + 1) cs) (record { child = i; place = k })
+        → IsRoom label_of cs (take i cs ++ l ∷ r ∷ drop (i + 1) cs) (record { child = i; place = k })
         (record { child = i + 1; place = k - length l.tree.0 })
     split_right k high =
         let front = take i cs ++ l ∷ [] in
@@ -242,29 +228,30 @@ module _ {T : Type 0} where
               ∙ ap (λ (es : List T). items_in (take i cs) ++ es) (append-nil l.tree.0)),
           length-append (items_in (take i cs)) l.tree.0,
         ) in
-        subst (λ (xs : List (Child T)). IsRoom cs xs (record { child = i; place = k })
+        subst (λ (xs : List (Child T L)). IsRoom label_of cs xs (record { child = i; place = k })
         (record { child = i + 1; place = k - length l.tree.0 })) shape record {
-          same = subst (λ (xs : List (Child T)). StandFor cs xs) (sym shape) split_same;
+          same = subst (λ (xs : List (Child T L)). StandFor label_of cs xs) (sym shape) split_same;
           leads = λ place leads.
               leads_at front (drop (i + 1) cs) r (i + 1) place (k - length l.tree.0) before
               (omega (arith, leads.is, many, high))
-              (omega (arith, leads.inside d, sums, ap (λ (c : Child T). length c.tree.0) is))
+              (omega (arith, leads.inside d, sums, ap (λ (c : Child T L). length c.tree.0) is))
               (λ some. omega (arith, high));
-          spare = λ x. subst (λ (c : Child T). CanLose c.tree)
+          spare = λ x. subst (λ (c : Child T L). CanLose c.tree)
               (sym (get_or_at front r (drop (i + 1) cs) x (i + 1) before)) halves.spare.1;
         }
 
     -- as a write and an insert leave it
-    pub split_is : (k n : ℕ) → n ≡ length l.tree.0 → IsRoom cs (insert (set cs i l) (i + 1) r)
+    pub split_is : (k n : ℕ) → n ≡ length l.tree.0 → IsRoom label_of cs (insert (set cs i l) (i + 1) r)
         (record { child = i; place = k }) (past n (record { child = i; place = k }))
     split_is k n len =
         let new = take i cs ++ l ∷ r ∷ drop (i + 1) cs in
         let spot : Spot = record { child = i; place = k } in
         let next = λ (m : ℕ). let there : Spot = record { child = i + 1; place = k - m } in there in
         let choice = λ (b : Bool). cond b spot (next n) in
-        subst (λ (xs : List (Child T)). IsRoom cs xs spot (past n spot)) (sym (two_for_one cs i l r h))
+        subst (λ (xs : List (Child T L)). IsRoom label_of cs xs spot (past n spot)) (sym (two_for_one cs i l r h))
         (elim (leb_tells k n) [
-          | inl low ↦ subst (IsRoom cs new spot) (sym (ap choice low.0)) (split_left k (omega (arith, low.1, len)))
-          | inr high ↦ subst (IsRoom cs new spot) (sym (ap choice high.0 ∙ ap next len))
+          | inl low ↦ subst (IsRoom label_of cs new spot) (sym (ap choice low.0))
+              (split_left k (omega (arith, low.1, len)))
+          | inr high ↦ subst (IsRoom label_of cs new spot) (sym (ap choice high.0 ∙ ap next len))
               (split_right k (omega (arith, high.1, len)))
         ])

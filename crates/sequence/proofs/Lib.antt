@@ -1,9 +1,16 @@
+pub mod Acted
+pub mod Acts
+pub mod Appended
+pub mod Beside
 pub mod Built
 pub mod Changed
 pub mod Children
 pub mod Copied
+pub mod Cuts
 pub mod Halves
 pub mod Joined
+pub mod Labelled
+pub mod Labels
 pub mod Pairs
 pub mod Parted
 pub mod Parts

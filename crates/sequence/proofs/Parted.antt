@@ -7,7 +7,8 @@ use Rattle.sequence.specs.Nodes.{items_in}
 use Rattle.sequence.specs.Spots.{Leads}
 use Rattle.sequence.proofs.Children.{items_split}
 
-module _ {T : Type 0} (cs : List (Child T)) (place : ℕ) (spot : Spot) (d : Child T) (leads : Leads cs place spot) where
+module _ {T L : Type 0} (cs : List (Child T L)) (place : ℕ) (spot : Spot) (d : Child T L)
+    (leads : Leads cs place spot) where
   -- those of the children before the spot's, and of that child
   pub front_is : items_in (take spot.child cs) ++ take spot.place (get_or cs spot.child d).tree.0
       ≡ take place (items_in cs)

@@ -1,35 +1,37 @@
 -- What a tree takes in, on its way down.
-use Rattle.std.proofs.Common.{◌≡◌, ◌+◌, ◌⊎◌, inl, inr, ℕ, List, length, get_or, ap, sym, subst, arith, refl}
+use Rattle.std.proofs.Common.{◌≡◌, ◌⊎◌, inl, inr, ℕ, List, length, get_or, ap, sym, subst, arith}
 use Rattle.sequence.specs.declared.tree.Child.{Child}
 use Rattle.sequence.specs.declared.tree.insert.Piece.{Piece}
 use Rattle.sequence.specs.declared.tree.insert.Piece.TheVariants.{Item, Part}
 use Rattle.sequence.specs.declared.tree.search.Spot.{Spot}
-use Rattle.sequence.specs.Nodes.{AreChildren, IsChild, height_in, items_in}
-use Rattle.sequence.specs.Pieces.{Counts, Fits, GoesOn, IsHere, items_of}
+use Rattle.sequence.specs.Nodes.{AreChildren, height_in, items_in}
+use Rattle.sequence.specs.Pieces.{Counts, Fits, GoesOn, items_of}
 use Rattle.sequence.specs.Spots.{Leads}
 use Rattle.sequence.proofs.Children.{length-split}
 
-module _ {T : Type 0} where
+module _ {T L : Type 0} where
+  -- one level below it has the same items
+  pub same_items : (piece next : Piece T L) → GoesOn piece next → items_of next ≡ items_of piece
+  same_items (Item item) next on = ap (λ (p : Piece T L). items_of p) on
+  same_items (Part child below) next on = ap (λ (p : Piece T L). items_of p) on.1
+
+module _ {T L : Type 0} (label_of : T → L) where
   -- a piece that fits says how many items it has
-  pub counts : (piece : Piece T) (place : ℕ) (tree : List T × ℕ) → Fits piece place tree → Counts piece
+  pub counts : (piece : Piece T L) (place : ℕ) (tree : List T × ℕ) → Fits label_of piece place tree → Counts piece
   counts (Item item) place tree fits = tt
   counts (Part child below) place tree fits = fits.whole.counted
 
-  -- one level below it has the same items
-  pub same_items : (piece next : Piece T) → GoesOn piece next → items_of next ≡ items_of piece
-  same_items (Item item) next on = ap (λ (p : Piece T). items_of p) on
-  same_items (Part child below) next on = ap (λ (p : Piece T). items_of p) on.1
-
   -- and fits there
-  pub fits_under : (piece next : Piece T) (tree : List T × ℕ) (cs : List (Child T)) (place : ℕ) (spot : Spot)
-      (d : Child T) → GoesOn piece next → Fits piece place tree → AreChildren cs → items_in cs ≡ tree.0
-      → height_in cs ≡ tree.1 → Leads cs place spot → d ≡ get_or cs spot.child d → Fits next spot.place d.tree
+  pub fits_under : (piece next : Piece T L) (tree : List T × ℕ) (cs : List (Child T L)) (place : ℕ) (spot : Spot)
+      (d : Child T L) → GoesOn piece next → Fits label_of piece place tree → AreChildren label_of cs
+      → items_in cs ≡ tree.0 → height_in cs ≡ tree.1
+      → Leads cs place spot → d ≡ get_or cs spot.child d → Fits label_of next spot.place d.tree
   fits_under (Item item) next tree cs place spot d on fits are items high leads is =
-      subst (λ (p : Piece T). Fits p spot.place d.tree) (sym on) tt
+      subst (λ (p : Piece T L). Fits label_of p spot.place d.tree) (sym on) tt
   fits_under (Part child below) next tree cs place spot d on fits are items high leads is =
       let level = (are.each spot.child d leads.within).level in
-      let same = ap (λ (c : Child T). c.tree.1) is in
-      let long = ap (λ (c : Child T). length c.tree.0) is in
+      let same = ap (λ (c : Child T L). c.tree.1) is in
+      let long = ap (λ (c : Child T L). length c.tree.0) is in
       let split = length-split cs spot.child d leads.within in
       let all = ap (length {A = T}) items in
       let inside = leads.inside d in
@@ -37,26 +39,10 @@ module _ {T : Type 0} where
         | inl first ↦ inl (omega (arith, first, leads.is))
         | inr last ↦ inr (omega (arith, last, leads.is, split, all, inside, long))
       ] in
-      subst (λ (p : Piece T). Fits p spot.place d.tree) (sym on.1) record {
+      subst (λ (p : Piece T L). Fits label_of p spot.place d.tree) (sym on.1) record {
         whole = fits.whole;
+        label = fits.label;
         lower = omega (arith, on.0);
         level = omega (arith, on.0, fits.level, level, same, high);
         edge = edge;
-      }
-
-  -- a child that belongs under the node
-  pub record BelongsHere (piece : Piece T) (child : Child T) (place : ℕ) (tree : List T × ℕ) : Type 0 where
-    pub whole : IsChild tree.1 child
-    pub edge : (place ≡ 0) ⊎ (place ≡ length tree.0)
-    pub items : child.tree.0 ≡ items_of piece
-
-  pub here : (piece : Piece T) (child : Child T) (place : ℕ) (tree : List T × ℕ) → IsHere piece child
-      → Fits piece place tree → BelongsHere piece child place tree
-  here (Item item) child place tree is fits = absurd is
-  here (Part part below) child place tree is fits =
-      let level : part.tree.1 + 1 ≡ tree.1 = omega (arith, is.0, fits.lower, fits.level) in
-      subst (λ (c : Child T). BelongsHere (Part part below) c place tree) (sym is.1) record {
-        whole = subst (λ (h : ℕ). IsChild h part) level fits.whole;
-        edge = fits.edge;
-        items = refl;
       }

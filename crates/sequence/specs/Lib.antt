@@ -1,5 +1,7 @@
+pub mod Acts
 pub mod Bounds
 pub mod Changes
+pub mod Cuts
 pub mod Falls
 pub mod Nodes
 pub mod Parts

@@ -9,9 +9,9 @@ abbrev pub spliced : {T : Type 0} → ℕ → ℕ → List T → List T → List
 spliced at gone more es = take at es ++ (more ++ drop (at + gone) es)
 
 -- the place of all the items is that place of that child, and is before all of it only if it is before all items
-pub record Leads {T : Type 0} (cs : List (Child T)) (place : ℕ) (spot : Spot) : Type 0 where
+pub record Leads {T L : Type 0} (cs : List (Child T L)) (place : ℕ) (spot : Spot) : Type 0 where
   pub within : spot.child < length cs
-  pub inside : (d : Child T) → spot.place ≤ length (slice_index_or cs spot.child d).tree.0
+  pub inside : (d : Child T L) → spot.place ≤ length (slice_index_or cs spot.child d).tree.0
   pub is : place ≡ length (items_in (take spot.child cs)) + spot.place
   pub inner : 0 < place → 0 < spot.place
 

@@ -4,6 +4,7 @@ ghost use Rattle.std.specs.Cmp.Lexicographic.{lists_agrees, lists_equiv, lists_p
 ghost use Rattle.std.specs.Cmp.Lexicographic.{pointwise, slice_cmp, slice_partial_cmp};
 ghost use Rattle.std.specs.Hash.{items_Alike, slice};
 
+use crate::label::Label;
 use crate::sequence::Sequence;
 use std::cmp::Ordering;
 use std::fmt;
@@ -11,32 +12,32 @@ use std::fmt::{Debug, Formatter, Write};
 use std::hash::{Hash, Hasher};
 
 /// Asks the items, also if both versions share their nodes.
-impl<T: PartialEq> PartialEq for Sequence<T> {
+impl<T: PartialEq, L: Label<T>> PartialEq for Sequence<T, L> {
     ghost eq = { pointwise T.eq };
 
     ghost laws = { lists_per T.laws };
 
-    fn eq(&self, other: &Sequence<T>) -> bool {
+    fn eq(&self, other: &Sequence<T, L>) -> bool {
         self.len() == other.len() && self.into_iter().eq(other)
     }
 }
 
-impl<T: Eq> Eq for Sequence<T> {
+impl<T: Eq, L: Label<T>> Eq for Sequence<T, L> {
     ghost laws = { lists_equiv T.Eq.laws };
 }
 
 /// As a slice of the items: the first two that differ decide, and else the lengths.
-impl<T: PartialOrd> PartialOrd for Sequence<T> {
+impl<T: PartialOrd, L: Label<T>> PartialOrd for Sequence<T, L> {
     ghost partial_cmp = { slice_partial_cmp T.partial_cmp };
 
     ghost laws = { lists_po T.PartialOrd.laws };
 
-    fn partial_cmp(&self, other: &Sequence<T>) -> Option<Ordering> {
+    fn partial_cmp(&self, other: &Sequence<T, L>) -> Option<Ordering> {
         self.into_iter().partial_cmp(other)
     }
 }
 
-impl<T: Ord> Ord for Sequence<T> {
+impl<T: Ord, L: Label<T>> Ord for Sequence<T, L> {
     ghost cmp = { slice_cmp T.cmp };
 
     ghost total = { lists_total T.total };
@@ -45,13 +46,13 @@ impl<T: Ord> Ord for Sequence<T> {
 
     ghost matches_eq = { lists_ties T.cmp T.matches_eq };
 
-    fn cmp(&self, other: &Sequence<T>) -> Ordering {
+    fn cmp(&self, other: &Sequence<T, L>) -> Ordering {
         self.into_iter().cmp(other)
     }
 }
 
 /// As a slice of the items.
-impl<T: Hash> Hash for Sequence<T> {
+impl<T: Hash, L: Label<T>> Hash for Sequence<T, L> {
     ghost hash_input = { slice T.hash_input };
 
     ghost respects_eq = { (items_Alike (record { fed = T.respects_eq })).fed };
@@ -65,17 +66,17 @@ impl<T: Hash> Hash for Sequence<T> {
 }
 
 /// As a list of the items.
-impl<T: Debug> Debug for Sequence<T> {
+impl<T: Debug, L: Label<T>> Debug for Sequence<T, L> {
     fn fmt<W: Write>(&self, f: &mut Formatter<W>) -> fmt::Result {
         f.debug_list().entries(self).finish()
     }
 }
 
 /// The empty list.
-impl<T> Default for Sequence<T> {
+impl<T, L: Label<T>> Default for Sequence<T, L> {
     ghost is_default = { λ list. list ≡ [] };
 
-    fn default() -> Sequence<T> {
-        Sequence::new()
+    fn default() -> Sequence<T, L> {
+        Sequence::empty()
     }
 }

@@ -6,6 +6,7 @@ ghost use Rattle.std.specs.Iterator.SizeHint.{IsWithinCount};
 ghost use Rattle.sequence.specs.Parts.{IsPart};
 ghost use Rattle.sequence.specs.Nodes.{items_under};
 
+use crate::label::{Label, Unlabelled};
 use crate::sequence::Sequence;
 use crate::tree::Tree;
 use std::alloc::AllocError;
@@ -17,8 +18,8 @@ use std::marker::Model;
 /// It takes no memory. Each end keeps the leaf of the item that it gave last: a step within it is O(1), and one to the
 /// next leaf goes down from the root.
 #[derive(Drop)]
-pub struct Iter<'a, T> {
-    tree: Option<&'a Tree<T>>,
+pub struct Iter<'a, T, L: Label<T> = Unlabelled> {
+    tree: Option<&'a Tree<T, L>>,
     front: (&'a [T], usize),
     back: (&'a [T], usize),
     // The items that are left are those from the one number up to the other.
@@ -26,7 +27,7 @@ pub struct Iter<'a, T> {
     to: usize,
 }
 
-impl<'a, T> Model for Iter<'a, T> {
+impl<'a, T, L: Label<T>> Model for Iter<'a, T, L> {
     ghost use Rattle.std.specs.Prelude.{◌≤◌, List, length, slice_range};
     ghost use Rattle.std.specs.Option.{option_copied};
     ghost use Rattle.sequence.specs.Parts.{IsPart};
@@ -41,8 +42,8 @@ impl<'a, T> Model for Iter<'a, T> {
         × IsPart i.back.0.now i.back.1 (items_under (option_copied i.tree)) };
 }
 
-impl<'a, T> Iter<'a, T> {
-    pub(crate) fn between(tree: Option<&'a Tree<T>>, from: usize, to: usize) -> Iter<'a, T>
+impl<'a, T, L: Label<T>> Iter<'a, T, L> {
+    pub(crate) fn between(tree: Option<&'a Tree<T, L>>, from: usize, to: usize) -> Iter<'a, T, L>
         requires { (from ≤ to) × (to ≤ length (items_under (option_copied tree))) }
         ensures { result ≡ slice_range (items_under (option_copied tree.entry)) from to }
     {
@@ -59,7 +60,7 @@ impl<'a, T> Iter<'a, T> {
     #[inline(always)]
     #[tactic(auto, using(crate::proofs::Parts::parts))]
     fn numbered(
-        tree: Option<&'a Tree<T>>,
+        tree: Option<&'a Tree<T, L>>,
         near: (&'a [T], usize),
         index: usize,
     ) -> (&'a T, (&'a [T], usize))
@@ -78,29 +79,29 @@ impl<'a, T> Iter<'a, T> {
     }
 }
 
-impl<'a, T> IntoIterator for &'a Sequence<T> {
+impl<'a, T, L: Label<T>> IntoIterator for &'a Sequence<T, L> {
     type Item = &'a T;
 
-    type IntoIter = Iter<'a, T>;
+    type IntoIter = Iter<'a, T, L>;
 
     ghost into_iter_gives = { λ list r. r ≡ list.now };
 
     #[tactic(auto, using(crate::proofs::Ranges::ranges))]
-    fn into_iter(self) -> Iter<'a, T> {
+    fn into_iter(self) -> Iter<'a, T, L> {
         Iter::between(self.root.as_ref(), 0, self.len())
     }
 }
 
-impl<T> Sequence<T> {
+impl<T, L: Label<T>> Sequence<T, L> {
     /// An iterator over the items, in their order.
-    pub fn iter(&self) -> Iter<'_, T>
+    pub fn iter(&self) -> Iter<'_, T, L>
         ensures { result ≡ self.now }
     {
         self.into_iter()
     }
 }
 
-impl<'a, T> Iterator for Iter<'a, T> {
+impl<'a, T, L: Label<T>> Iterator for Iter<'a, T, L> {
     type Item = &'a T;
 
     ghost next_gives = { YieldsFirstRef (λ s. s) };
@@ -130,7 +131,7 @@ impl<'a, T> Iterator for Iter<'a, T> {
     }
 }
 
-impl<'a, T> DoubleEndedIterator for Iter<'a, T> {
+impl<'a, T, L: Label<T>> DoubleEndedIterator for Iter<'a, T, L> {
     ghost next_back_gives = { YieldsLastRef (λ s. s) };
 
     #[tactic(auto, using(crate::proofs::Ranges::ranges))]
@@ -145,21 +146,21 @@ impl<'a, T> DoubleEndedIterator for Iter<'a, T> {
     }
 }
 
-impl<'a, T> ExactSizeIterator for Iter<'a, T> {
+impl<'a, T, L: Label<T>> ExactSizeIterator for Iter<'a, T, L> {
     #[tactic(auto, using(crate::proofs::Ranges::ranges))]
     fn len(&self) -> usize {
         self.to - self.from
     }
 }
 
-impl<'a, T> FusedIterator for Iter<'a, T> {}
+impl<'a, T, L: Label<T>> FusedIterator for Iter<'a, T, L> {}
 
-impl<'a, T> Clone for Iter<'a, T> {
+impl<'a, T, L: Label<T>> Clone for Iter<'a, T, L> {
     ghost is_clone = { λ s r. r ≡ s };
 
     ghost is_infallible = { λ _. ⊤ };
 
-    fn clone(&self) -> Result<Iter<'a, T>, AllocError> {
+    fn clone(&self) -> Result<Iter<'a, T, L>, AllocError> {
         Ok(Iter::between(self.tree, self.from, self.to))
     }
 }

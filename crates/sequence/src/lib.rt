@@ -2,11 +2,19 @@
 #![tactic(auto)]
 
 mod compare;
+mod cut;
 mod error;
 mod iter;
+mod label;
+mod put;
 mod sequence;
 mod tree;
 
+pub use cut::{Cut, Seek};
 pub use error::InsertError;
 pub use iter::Iter;
+pub use label::{Label, NewLabel, Unlabelled};
+pub use put::Put;
 pub use sequence::Sequence;
+pub use sequence::act::Blocked;
+pub use tree::Tree;

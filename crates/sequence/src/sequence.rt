@@ -5,13 +5,17 @@ ghost use Rattle.std.specs.Fn.{FnOnceTakesAtMut};
 ghost use Rattle.std.specs.List.{insert, remove};
 ghost use Rattle.std.specs.Option.{ForSome, option_copied};
 ghost use Rattle.servo_arc.specs.Copies.{CopiesAreEqual};
-ghost use Rattle.sequence.specs.Changes.{ChangesItem};
+ghost use Rattle.sequence.specs.Changes.{ChangesItem, KeepsLabel};
+ghost use Rattle.sequence.specs.Nodes.{IsLevel, items_under};
 
+pub(crate) mod act;
+mod cut;
 mod ends;
 mod parts;
 mod range;
 
 use crate::error::InsertError;
+use crate::label::{Label, NewLabel, Unlabelled};
 use crate::tree::Tree;
 use crate::tree::insert::Piece;
 use std::alloc::{AllocError, Global};
@@ -23,12 +27,12 @@ use std::mem;
 ///
 /// Its drop is as many drops one inside the other as the nodes are deep: at most 65.
 #[derive(Drop)]
-pub struct Sequence<T> {
-    pub(crate) root: Option<Tree<T>>,
+pub struct Sequence<T, L: Label<T> = Unlabelled> {
+    pub(crate) root: Option<Tree<T, L>>,
     len: usize,
 }
 
-impl<T> Model for Sequence<T> {
+impl<T, L: Label<T>> Model for Sequence<T, L> {
     ghost use Rattle.std.specs.Prelude.{◌≡◌, List, length};
 
     ghost Value = { List T };
@@ -41,10 +45,10 @@ impl<T> Model for Sequence<T> {
 }
 
 /// One more version: one raise of a count, with no copy and no memory. It is refused as the `clone` of an `Arc` is.
-impl<T: Drop> Clone for Sequence<T> {
+impl<T: Drop, L: Label<T> + Drop> Clone for Sequence<T, L> {
     ghost is_clone = { λ a b. b ≡ a };
 
-    fn clone(&self) -> Result<Sequence<T>, AllocError> {
+    fn clone(&self) -> Result<Sequence<T, L>, AllocError> {
         let root = match &self.root {
             None => None,
             Some(tree) => Some(tree.clone()?),
@@ -61,7 +65,33 @@ impl<T> Sequence<T> {
     pub fn new() -> Sequence<T>
         ensures { result ≡ [] }
     {
+        Sequence::empty()
+    }
+}
+
+impl<T, L: Label<T>> Sequence<T, L> {
+    /// The empty list with labels of that type, which takes no memory.
+    pub fn empty() -> Sequence<T, L>
+        ensures { result ≡ [] }
+    {
         Sequence { root: None, len: 0 }
+    }
+
+    /// The nodes of the list, which has some if it has an item. All leaves of them are equally deep.
+    #[inline(always)]
+    pub fn tree(&self) -> Option<&Tree<T, L>>
+        ensures items { items_under (option_copied result) ≡ self.now }
+        ensures none { (result ≡ None) ↔ (self.now ≡ []) }
+        ensures level { IfSome result (λ tree. IsLevel tree.now) }
+    {
+        match &self.root {
+            None => None,
+            Some(tree) => {
+                // It has an item and is level.
+                let _ = tree.node();
+                Some(tree)
+            }
+        }
     }
 
     /// The number of items, in O(1).
@@ -104,7 +134,7 @@ impl<T> Sequence<T> {
     }
 
     /// Whether both have the same first node, as exactly as `Arc::ptr_eq` says it. Empty lists have none.
-    pub fn ptr_eq(this: &Sequence<T>, other: &Sequence<T>) -> bool
+    pub fn ptr_eq(this: &Sequence<T, L>, other: &Sequence<T, L>) -> bool
         ensures { IsTrue result → (0 < length this.now) × (0 < length other.now) }
     {
         match (&this.root, &other.root) {
@@ -120,8 +150,18 @@ impl<T: Drop> Sequence<T> {
     pub fn from_items(alloc: Global, items: Vec<T>) -> Result<Sequence<T>, AllocError>
         ensures { IfOk result (λ list. list ≡ items.items) }
     {
+        Sequence::of_items(alloc, items)
+    }
+}
+
+impl<T: Drop, L: NewLabel<T>> Sequence<T, L> {
+    /// The same with labels of that type.
+    pub fn of_items(alloc: Global, items: Vec<T>) -> Result<Sequence<T, L>, AllocError>
+        requires { CopiesAreEqual L.is_clone }
+        ensures { IfOk result (λ list. list ≡ items.items) }
+    {
         if items.is_empty() {
-            return Ok(Sequence::new());
+            return Ok(Sequence::empty());
         }
         let len = items.len();
         let root = Some(Tree::of_items(alloc, items)?);
@@ -129,13 +169,14 @@ impl<T: Drop> Sequence<T> {
     }
 }
 
-impl<T: Clone> Sequence<T> {
+impl<T: Clone, L: NewLabel<T>> Sequence<T, L> {
     /// Puts the item in before that of the number, or behind all if the number is how many there are.
     ///
     /// It writes in place, but copies each node on the way that other versions have. A full node on the way becomes two
     /// before, by moves. A number above that is refused before all else.
     pub fn insert(&mut self, alloc: Global, index: usize, item: T) -> Result<(), InsertError>
         requires copies { CopiesAreEqual T.is_clone }
+        requires labels { CopiesAreEqual L.is_clone }
         ensures items { OnOk result (self.new ≡ insert self.old index item) }
         ensures no_place { (result ≡ Err InsertError.NoPlace) ↔ (length self.old < index) }
         ensures refused { OnErr result (self.new ≡ self.old) }
@@ -150,6 +191,7 @@ impl<T: Clone> Sequence<T> {
     // The same of a number that is not above.
     fn put(&mut self, alloc: Global, index: usize, item: T) -> Result<(), AllocError>
         requires copies { CopiesAreEqual T.is_clone }
+        requires labels { CopiesAreEqual L.is_clone }
         requires within { index ≤ length self.old }
         ensures items { OnOk result (self.new ≡ insert self.old index item) }
         ensures refused { OnErr result (self.new ≡ self.old) }
@@ -179,6 +221,7 @@ impl<T: Clone> Sequence<T> {
     /// there is no such item, nothing is copied or refused.
     pub fn remove(&mut self, alloc: Global, index: usize) -> Result<Option<T>, AllocError>
         requires copies { CopiesAreEqual T.is_clone }
+        requires labels { CopiesAreEqual L.is_clone }
         ensures item { IfOk result (λ item. item ≡ slice_get self.old index) }
         ensures items { OnOk result (self.new ≡ remove self.old index) }
         ensures none { length self.old ≤ index → IsOk result }
@@ -212,7 +255,9 @@ impl<T: Clone> Sequence<T> {
         change: F,
     ) -> Result<Option<R>, AllocError>
         requires copies { CopiesAreEqual T.is_clone }
+        requires labels { CopiesAreEqual L.is_clone }
         requires callable { ForSome (slice_get self.old index) (FnOnceTakesAtMut F.FnOnce change) }
+        requires keeps { ForSome (slice_get self.old index) (KeepsLabel F.FnOnce change L.label_of) }
         ensures absent { IfOk result (λ answer. IfNone answer
             ((slice_get self.old index ≡ None) × (self.new ≡ self.old))) }
         ensures changed { IfOk result (λ answer. IfSome answer
@@ -234,6 +279,8 @@ impl<T: Clone> Sequence<T> {
     /// It copies and is refused as `modify` is.
     pub fn set(&mut self, alloc: Global, index: usize, item: T) -> Result<Option<T>, AllocError>
         requires copies { CopiesAreEqual T.is_clone }
+        requires labels { CopiesAreEqual L.is_clone }
+        requires keeps { ForSome (slice_get self.old index) (λ old. L.label_of item ≡ L.label_of old) }
         ensures item { IfOk result (λ old. old ≡ slice_get self.old index) }
         ensures items { OnOk result (self.new ≡ slice_set self.old index item) }
         ensures none { length self.old ≤ index → IsOk result }

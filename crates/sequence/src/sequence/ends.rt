@@ -2,13 +2,15 @@
 ghost use Rattle.std.specs.Prelude.{◌≡◌, ◌-◌, ◌++◌, ◌∷◌, [], IfOk, IsOk, OnErr, OnOk, drop, length, slice_get, take};
 ghost use Rattle.servo_arc.specs.Copies.{CopiesAreEqual};
 
+use crate::label::NewLabel;
 use crate::sequence::Sequence;
 use std::alloc::{AllocError, Global};
 
-impl<T: Clone> Sequence<T> {
+impl<T: Clone, L: NewLabel<T>> Sequence<T, L> {
     /// Puts the item behind all, as `insert` does.
     pub fn push(&mut self, alloc: Global, item: T) -> Result<(), AllocError>
-        requires { CopiesAreEqual T.is_clone }
+        requires copies { CopiesAreEqual T.is_clone }
+        requires labels { CopiesAreEqual L.is_clone }
         ensures items { OnOk result (self.new ≡ self.old ++ item ∷ []) }
         ensures refused { OnErr result (self.new ≡ self.old) }
     {
@@ -17,7 +19,8 @@ impl<T: Clone> Sequence<T> {
 
     /// Puts the item before all, as `insert` does.
     pub fn push_front(&mut self, alloc: Global, item: T) -> Result<(), AllocError>
-        requires { CopiesAreEqual T.is_clone }
+        requires copies { CopiesAreEqual T.is_clone }
+        requires labels { CopiesAreEqual L.is_clone }
         ensures items { OnOk result (self.new ≡ item ∷ self.old) }
         ensures refused { OnErr result (self.new ≡ self.old) }
     {
@@ -26,7 +29,8 @@ impl<T: Clone> Sequence<T> {
 
     /// Takes the last item out and gives it, as `remove` does.
     pub fn pop(&mut self, alloc: Global) -> Result<Option<T>, AllocError>
-        requires { CopiesAreEqual T.is_clone }
+        requires copies { CopiesAreEqual T.is_clone }
+        requires labels { CopiesAreEqual L.is_clone }
         ensures item { IfOk result (λ item. item ≡ slice_get self.old (length self.old - 1)) }
         ensures items { OnOk result (self.new ≡ take (length self.old - 1) self.old) }
         ensures none { self.old ≡ [] → IsOk result }
@@ -37,7 +41,8 @@ impl<T: Clone> Sequence<T> {
 
     /// Takes the first item out and gives it, as `remove` does.
     pub fn pop_front(&mut self, alloc: Global) -> Result<Option<T>, AllocError>
-        requires { CopiesAreEqual T.is_clone }
+        requires copies { CopiesAreEqual T.is_clone }
+        requires labels { CopiesAreEqual L.is_clone }
         ensures item { IfOk result (λ item. item ≡ slice_get self.old 0) }
         ensures items { OnOk result (self.new ≡ drop 1 self.old) }
         ensures none { self.old ≡ [] → IsOk result }

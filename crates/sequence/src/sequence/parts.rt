@@ -4,20 +4,22 @@ ghost use Rattle.std.specs.Prelude.{drop, length, take};
 ghost use Rattle.servo_arc.specs.Copies.{CopiesAreEqual};
 ghost use Rattle.sequence.specs.Nodes.{AreLevel, items_in};
 
+use crate::label::NewLabel;
 use crate::sequence::Sequence;
 use crate::tree::copies::{BRANCH, LEAF, copies};
 use crate::tree::search::{count, spot_of};
 use crate::tree::{Child, Node, Tree};
 use std::alloc::{AllocError, Global};
 
-impl<T: Clone> Sequence<T> {
+impl<T: Clone, L: NewLabel<T>> Sequence<T, L> {
     /// Puts the items of the other list behind those of this one.
     ///
     /// The lower of the two trees becomes a child of the other. It writes in place, and copies as `insert` does, only
     /// nodes on the way to where they meet. It is refused as `insert` is, and for more than `usize::MAX` items. The
     /// other list is then dropped.
-    pub fn append(&mut self, alloc: Global, other: Sequence<T>) -> Result<(), AllocError>
-        requires { CopiesAreEqual T.is_clone }
+    pub fn append(&mut self, alloc: Global, other: Sequence<T, L>) -> Result<(), AllocError>
+        requires copies { CopiesAreEqual T.is_clone }
+        requires labels { CopiesAreEqual L.is_clone }
         ensures items { OnOk result (self.new ≡ self.old ++ other) }
         ensures refused { OnErr result (self.new ≡ self.old) }
     {
@@ -41,8 +43,13 @@ impl<T: Clone> Sequence<T> {
     ///
     /// Both lists are made anew along the cut and share all other nodes with this one: of each node there they copy the
     /// handles of its children, and of one leaf the items.
-    pub fn split_off(&mut self, alloc: Global, at: usize) -> Result<Option<Sequence<T>>, AllocError>
-        requires { CopiesAreEqual T.is_clone }
+    pub fn split_off(
+        &mut self,
+        alloc: Global,
+        at: usize,
+    ) -> Result<Option<Sequence<T, L>>, AllocError>
+        requires copies { CopiesAreEqual T.is_clone }
+        requires labels { CopiesAreEqual L.is_clone }
         ensures out { IfOk result (λ out. IfSome out (λ out. out ≡ drop at self.old)) }
         ensures none { (result ≡ Ok None) ↔ (length self.old < at) }
         ensures rest { OnOk result (self.new ≡ take at self.old) }
@@ -52,7 +59,7 @@ impl<T: Clone> Sequence<T> {
             return Ok(None);
         }
         let Some(tree) = &self.root else {
-            return Ok(Some(Sequence::new()));
+            return Ok(Some(Sequence::empty()));
         };
         let back = tree.back(alloc, at)?;
         let front = tree.front(alloc, at)?;
@@ -61,13 +68,13 @@ impl<T: Clone> Sequence<T> {
     }
 
     // The list of copies of these items, which are few enough for a leaf.
-    fn of_leaf(alloc: Global, items: &[T]) -> Result<Sequence<T>, AllocError>
+    fn of_leaf(alloc: Global, items: &[T]) -> Result<Sequence<T, L>, AllocError>
         requires { CopiesAreEqual T.is_clone }
         ensures { IfOk result (λ list. list ≡ items.now) }
     {
         let len = items.len();
         if len == 0 {
-            return Ok(Sequence::new());
+            return Ok(Sequence::empty());
         }
         let node = Node::Leaf(copies(alloc, items, LEAF)?);
         let root = Some(Tree::of(alloc, node)?);
@@ -75,13 +82,14 @@ impl<T: Clone> Sequence<T> {
     }
 
     // The list of the items under these children.
-    fn of_children(alloc: Global, children: &[Child<T>]) -> Result<Sequence<T>, AllocError>
-        requires level { AreLevel children.now }
+    fn of_children(alloc: Global, children: &[Child<T, L>]) -> Result<Sequence<T, L>, AllocError>
+        requires labels { CopiesAreEqual L.is_clone }
+        requires level { AreLevel L.label_of children.now }
         requires room { length (items_in children.now) < 2 ^ 64 }
         ensures { IfOk result (λ list. list ≡ items_in children.now) }
     {
         let tree = match children.first() {
-            None => return Ok(Sequence::new()),
+            None => return Ok(Sequence::empty()),
             Some(only) if children.len() == 1 => only.tree.clone()?,
             Some(_) => Tree::of(alloc, Node::Branch(copies(alloc, children, BRANCH)?))?,
         };
@@ -91,10 +99,11 @@ impl<T: Clone> Sequence<T> {
     }
 }
 
-impl<T: Clone> Tree<T> {
+impl<T: Clone, L: NewLabel<T>> Tree<T, L> {
     // The list of so many of the first items.
-    fn front(&self, alloc: Global, at: usize) -> Result<Sequence<T>, AllocError>
+    fn front(&self, alloc: Global, at: usize) -> Result<Sequence<T, L>, AllocError>
         requires copies { CopiesAreEqual T.is_clone }
+        requires labels { CopiesAreEqual L.is_clone }
         requires within { at ≤ length self.now.0 }
         ensures { IfOk result (λ list. list ≡ take at self.now.0) }
     {
@@ -110,8 +119,9 @@ impl<T: Clone> Tree<T> {
     }
 
     // The list of all items but so many of the first.
-    fn back(&self, alloc: Global, at: usize) -> Result<Sequence<T>, AllocError>
+    fn back(&self, alloc: Global, at: usize) -> Result<Sequence<T, L>, AllocError>
         requires copies { CopiesAreEqual T.is_clone }
+        requires labels { CopiesAreEqual L.is_clone }
         requires within { at ≤ length self.now.0 }
         ensures { IfOk result (λ list. list ≡ drop at self.now.0) }
     {

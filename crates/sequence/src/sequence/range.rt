@@ -4,14 +4,15 @@ ghost use Rattle.std.specs.Range.Bound.{bound_map};
 ghost use Rattle.sequence.specs.Bounds.{items_within, end_of, start_of};
 
 use crate::iter::Iter;
+use crate::label::Label;
 use crate::sequence::Sequence;
 use std::ops::{Bound, RangeBounds};
 
-impl<T> Sequence<T> {
+impl<T, L: Label<T>> Sequence<T, L> {
     /// An iterator over the items whose numbers are in the range, as far as there are such items. There are none if the
     /// range ends before it starts.
     #[tactic(auto, using(crate::proofs::Within::within))]
-    pub fn range<R: RangeBounds<usize>>(&self, numbers: R) -> Iter<'_, T>
+    pub fn range<R: RangeBounds<usize>>(&self, numbers: R) -> Iter<'_, T, L>
         ensures { R.has_bounds numbers
             → result ≡ items_within (R.start_bound numbers) (R.end_bound numbers) self.now }
     {

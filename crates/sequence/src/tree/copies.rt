@@ -3,6 +3,7 @@ ghost use Rattle.std.specs.Prelude.{◌≡◌, IfOk};
 ghost use Rattle.servo_arc.specs.Copies.{CopiesAreEqual};
 ghost use Rattle.sequence.specs.Nodes.{IsCopy};
 
+use crate::label::Label;
 use crate::tree::{Child, Node};
 use std::alloc::{AllocError, Global};
 
@@ -26,21 +27,22 @@ pub(crate) fn copies<T: Clone>(
     Ok(copy)
 }
 
-impl<T: Drop> Clone for Child<T> {
-    ghost is_clone = { λ a b. b ≡ a };
+impl<T: Drop, L: Label<T> + Clone> Clone for Child<T, L> {
+    ghost is_clone = { λ a b. CopiesAreEqual L.is_clone → b ≡ a };
 
-    fn clone(&self) -> Result<Child<T>, AllocError> {
+    fn clone(&self) -> Result<Child<T, L>, AllocError> {
         Ok(Child {
+            label: self.label.clone()?,
             len: self.len,
             tree: self.tree.clone()?,
         })
     }
 }
 
-impl<T: Clone> Clone for Node<T> {
-    ghost is_clone = { λ a b. CopiesAreEqual T.is_clone → IsCopy a b };
+impl<T: Clone, L: Label<T> + Clone> Clone for Node<T, L> {
+    ghost is_clone = { λ a b. CopiesAreEqual T.is_clone × CopiesAreEqual L.is_clone → IsCopy a b };
 
-    fn clone(&self) -> Result<Node<T>, AllocError> {
+    fn clone(&self) -> Result<Node<T, L>, AllocError> {
         match self {
             Node::Leaf(items) => {
                 let alloc = *items.allocator();

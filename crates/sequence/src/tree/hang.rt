@@ -1,23 +1,25 @@
 //! How two trees become one: the lower one becomes a child of the higher one, on its own level.
 ghost use Rattle.std.specs.Prelude.{◌≡◌, ◌+◌, ◌<◌, ◌≤◌, ◌^◌, ◌++◌, ◌⊎◌, OnOk, OnErr, length};
 ghost use Rattle.servo_arc.specs.Copies.{CopiesAreEqual};
-ghost use Rattle.sequence.specs.Nodes.{IsChild};
+ghost use Rattle.sequence.specs.Nodes.{IsChild, IsLabelled};
 ghost use Rattle.sequence.specs.Spots.{spliced};
 
+use crate::label::NewLabel;
 use crate::tree::insert::Piece;
 use crate::tree::{Child, Tree};
 use std::alloc::{AllocError, Global};
 
-impl<T: Clone> Tree<T> {
+impl<T: Clone, L: NewLabel<T>> Tree<T, L> {
     // Puts the items of the other tree behind those of this one. The numbers say how many each has.
     pub(crate) fn append(
         &mut self,
         alloc: Global,
         len: usize,
-        mut other: Tree<T>,
+        mut other: Tree<T, L>,
         more: usize,
     ) -> Result<(), AllocError>
         requires copies { CopiesAreEqual T.is_clone }
+        requires labels { CopiesAreEqual L.is_clone }
         requires len { len ≡ length self.old.0 }
         requires more { more ≡ length other.0 }
         requires room { len + more < 2 ^ 64 }
@@ -27,14 +29,11 @@ impl<T: Clone> Tree<T> {
         self.shrink()?;
         other.shrink()?;
         if self.height() >= other.height() {
-            let part = Child {
-                len: more,
-                tree: other,
-            };
+            let part = other.into_child(more)?;
             return self.hang(alloc, len, part, len);
         }
-        let tree = self.clone()?;
-        other.hang(alloc, more, Child { len, tree }, 0)?;
+        let part = self.clone()?.into_child(len)?;
+        other.hang(alloc, more, part, 0)?;
         *self = other;
         Ok(())
     }
@@ -44,13 +43,15 @@ impl<T: Clone> Tree<T> {
         &mut self,
         alloc: Global,
         len: usize,
-        part: Child<T>,
+        part: Child<T, L>,
         place: usize,
     ) -> Result<(), AllocError>
         requires copies { CopiesAreEqual T.is_clone }
+        requires labels { CopiesAreEqual L.is_clone }
         requires len { len ≡ length self.old.0 }
         requires wide { 2 ^ self.old.1 ≤ length self.old.0 }
         requires part { IsChild (part.tree.1 + 1) part }
+        requires label { IsLabelled L.label_of part }
         requires low { part.tree.1 ≤ self.old.1 }
         requires edge { (place ≡ 0) ⊎ (place ≡ len) }
         requires room { len + part.len < 2 ^ 64 }
@@ -65,6 +66,7 @@ impl<T: Clone> Tree<T> {
 
     // Makes the tree higher if it is no higher than that, or its first node is full.
     fn rise(&mut self, alloc: Global, len: usize, height: u8) -> Result<(), AllocError>
+        requires labels { CopiesAreEqual L.is_clone }
         requires len { len ≡ length self.old.0 }
         requires wide { 2 ^ self.old.1 ≤ length self.old.0 }
         requires low { height ≤ self.old.1 }

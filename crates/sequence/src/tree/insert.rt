@@ -1,10 +1,11 @@
 //! How a tree takes an item or a lower tree in: in place, but for the nodes that others share, which are copied.
 ghost use Rattle.std.specs.Prelude.{◌≡◌, ◌+◌, ◌<◌, ◌≤◌, ◌^◌, ◌⊎◌, OnOk, OnErr, MatchResult, length};
 ghost use Rattle.servo_arc.specs.Copies.{CopiesAreEqual};
-ghost use Rattle.sequence.specs.Nodes.{AreChildren, IsChild, IsList, StandFor, height_in, items_in};
+ghost use Rattle.sequence.specs.Nodes.{AreChildren, IsChild, IsLabelled, IsList, StandFor, height_in, items_in};
 ghost use Rattle.sequence.specs.Pieces.{Counts, Fits, GoesOn, IsHere, items_of};
 ghost use Rattle.sequence.specs.Spots.{spliced};
 
+use crate::label::{Label, NewLabel};
 use crate::tree::copies::{BRANCH, LEAF};
 use crate::tree::join::join;
 use crate::tree::search::spot_of;
@@ -15,23 +16,24 @@ use std::alloc::{AllocError, Global};
 
 // What a tree takes in: an item, or a tree that is so many levels lower than it, which becomes a child.
 #[derive(Drop)]
-pub(crate) enum Piece<T> {
+pub(crate) enum Piece<T, L: Label<T>> {
     Item(T),
-    Part(Child<T>, u8),
+    Part(Child<T, L>, u8),
 }
 
-impl<T: Clone> Tree<T> {
+impl<T: Clone, L: NewLabel<T>> Tree<T, L> {
     // Puts the piece in at that place.
     #[cycle(insert)]
     pub(crate) fn insert(
         &mut self,
         alloc: Global,
         place: usize,
-        piece: Piece<T>,
+        piece: Piece<T, L>,
     ) -> Result<(), AllocError>
         requires copies { CopiesAreEqual T.is_clone }
+        requires labels { CopiesAreEqual L.is_clone }
         requires within { place ≤ length self.old.0 }
-        requires fits { Fits piece place self.old }
+        requires fits { Fits L.label_of piece place self.old }
         requires room { length self.old.0 + length (items_of piece) < 2 ^ 64 }
         ensures items { OnOk result (self.new.0 ≡ spliced place 0 (items_of piece) self.old.0) }
         ensures height { self.new.1 ≡ self.old.1 }
@@ -47,21 +49,22 @@ impl<T: Clone> Tree<T> {
 
 // The same under a branch.
 #[cycle(insert)]
-fn insert_under<T: Clone>(
-    children: &mut Vec<Child<T>>,
+fn insert_under<T: Clone, L: NewLabel<T>>(
+    children: &mut Vec<Child<T, L>>,
     alloc: Global,
     place: usize,
-    piece: Piece<T>,
+    piece: Piece<T, L>,
 ) -> Result<(), AllocError>
     requires copies { CopiesAreEqual T.is_clone }
-    requires children { AreChildren children.old.items }
+    requires labels { CopiesAreEqual L.is_clone }
+    requires children { AreChildren L.label_of children.old.items }
     requires within { place ≤ length (items_in children.old.items) }
-    requires fits { Fits piece place (items_in children.old.items, height_in children.old.items) }
+    requires fits { Fits L.label_of piece place (items_in children.old.items, height_in children.old.items) }
     requires room { length (items_in children.old.items) + length (items_of piece) < 2 ^ 64 }
     ensures items { OnOk result (items_in children.new.items
         ≡ spliced place 0 (items_of piece) (items_in children.old.items)) }
     ensures height { height_in children.new.items ≡ height_in children.old.items }
-    ensures children { AreChildren children.new.items }
+    ensures children { AreChildren L.label_of children.new.items }
     ensures refused { OnErr result (items_in children.new.items ≡ items_in children.old.items) }
 {
     let piece = match piece.under() {
@@ -72,17 +75,19 @@ fn insert_under<T: Clone>(
     children[spot.child].insert(alloc, spot.place, piece)
 }
 
-impl<T: Clone> Child<T> {
+impl<T: Clone, L: NewLabel<T>> Child<T, L> {
     // The same under one child.
     #[cycle(insert)]
-    fn insert(&mut self, alloc: Global, place: usize, piece: Piece<T>) -> Result<(), AllocError>
+    fn insert(&mut self, alloc: Global, place: usize, piece: Piece<T, L>) -> Result<(), AllocError>
         requires copies { CopiesAreEqual T.is_clone }
+        requires labels { CopiesAreEqual L.is_clone }
         requires child { IsChild (self.old.tree.1 + 1) self.old }
         requires within { place ≤ length self.old.tree.0 }
-        requires fits { Fits piece place self.old.tree }
+        requires fits { Fits L.label_of piece place self.old.tree }
         requires room { length self.old.tree.0 + length (items_of piece) < 2 ^ 64 }
         ensures items { OnOk result (self.new.tree.0 ≡ spliced place 0 (items_of piece) self.old.tree.0) }
         ensures child { IsChild (self.old.tree.1 + 1) self.new }
+        ensures label { self.new.label ≡ self.old.label }
         ensures refused { OnErr result (self.new.tree.0 ≡ self.old.tree.0) }
     {
         let more = piece.len();
@@ -92,7 +97,7 @@ impl<T: Clone> Child<T> {
     }
 }
 
-impl<T> Piece<T> {
+impl<T, L: Label<T>> Piece<T, L> {
     // How many items it has.
     fn len(&self) -> usize
         requires { Counts self.now }
@@ -105,7 +110,7 @@ impl<T> Piece<T> {
     }
 
     // The piece for one level below, or the child that stands on this one.
-    fn under(self) -> Result<Piece<T>, Child<T>>
+    fn under(self) -> Result<Piece<T, L>, Child<T, L>>
         ensures { MatchResult result (GoesOn self) (IsHere self) }
     {
         match self {
@@ -117,10 +122,14 @@ impl<T> Piece<T> {
 }
 
 // Puts the item into a leaf.
-fn put<T: Drop>(items: &mut Vec<T>, place: usize, piece: Piece<T>) -> Result<(), AllocError>
+fn put<T: Drop, L: Label<T> + Drop>(
+    items: &mut Vec<T>,
+    place: usize,
+    piece: Piece<T, L>,
+) -> Result<(), AllocError>
     requires list { IsList items.old.items }
     requires within { place ≤ length items.old.items }
-    requires fits { Fits piece place (items.old.items, 0) }
+    requires fits { Fits L.label_of piece place (items.old.items, 0) }
     requires room { length items.old.items + length (items_of piece) < 2 ^ 64 }
     ensures items { OnOk result (items.new.items ≡ spliced place 0 (items_of piece) items.old.items) }
     ensures list { IsList items.new.items }
@@ -134,24 +143,28 @@ fn put<T: Drop>(items: &mut Vec<T>, place: usize, piece: Piece<T>) -> Result<(),
 }
 
 // Puts the child before all children or behind all. Two small ones that meet there become one.
-fn beside<T: Clone>(
-    children: &mut Vec<Child<T>>,
+fn beside<T: Clone, L: NewLabel<T>>(
+    children: &mut Vec<Child<T, L>>,
     alloc: Global,
     place: usize,
-    child: Child<T>,
+    child: Child<T, L>,
 ) -> Result<(), AllocError>
     requires copies { CopiesAreEqual T.is_clone }
-    requires children { AreChildren children.old.items }
+    requires labels { CopiesAreEqual L.is_clone }
+    requires children { AreChildren L.label_of children.old.items }
     requires child { IsChild (height_in children.old.items) child }
+    requires label { IsLabelled L.label_of child }
     requires edge { (place ≡ 0) ⊎ (place ≡ length (items_in children.old.items)) }
     requires room { length (items_in children.old.items) + length child.tree.0 < 2 ^ 64 }
     ensures items { OnOk result (items_in children.new.items
         ≡ spliced place 0 child.tree.0 (items_in children.old.items)) }
     ensures height { height_in children.new.items ≡ height_in children.old.items }
-    ensures children { AreChildren children.new.items }
+    ensures children { AreChildren L.label_of children.new.items }
     ensures refused { OnErr result (items_in children.new.items ≡ items_in children.old.items) }
 {
     if place == 0 {
+        // The first child becomes one behind another.
+        children[0].label = L::new(children[0].tree.item(0))?;
         children.insert(0, child)?;
         meet(children, 0, alloc);
         return Ok(());
@@ -163,18 +176,19 @@ fn beside<T: Clone>(
 }
 
 // Makes one child of the one of that number and the next, if both are small and it is not refused.
-fn meet<T: Clone>(children: &mut Vec<Child<T>>, at: usize, alloc: Global)
+fn meet<T: Clone, L: NewLabel<T>>(children: &mut Vec<Child<T, L>>, at: usize, alloc: Global)
     requires copies { CopiesAreEqual T.is_clone }
-    requires children { AreChildren children.old.items }
+    requires labels { CopiesAreEqual L.is_clone }
+    requires children { AreChildren L.label_of children.old.items }
     requires within { at + 1 < length children.old.items }
-    ensures { StandFor children.old.items children.new.items }
+    ensures { StandFor L.label_of children.old.items children.new.items }
 {
     if children[at].tree.is_small() && children[at + 1].tree.is_small() {
         let _ = join(children, at, alloc);
     }
 }
 
-impl<T> Tree<T> {
+impl<T, L: Label<T>> Tree<T, L> {
     // Whether the first node has no more than half of what a node may have.
     fn is_small(&self) -> bool {
         match self.node() {

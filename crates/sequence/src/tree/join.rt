@@ -3,30 +3,33 @@ ghost use Rattle.std.specs.Prelude.{◌≡◌, ℕ, ◌+◌, ◌<◌, ◌≤◌,
 ghost use Rattle.std.specs.Prelude.{Some, length, slice_get, slice_index_or};
 ghost use Rattle.servo_arc.specs.Copies.{CopiesAreEqual};
 ghost use Rattle.sequence.specs.Nodes.{AreChildren, CanLose, IsChild, IsList, IsNode, StandFor};
-ghost use Rattle.sequence.specs.Nodes.{items_in, items_under, seen};
+ghost use Rattle.sequence.specs.Nodes.{first_label, items_in, items_under, seen};
 ghost use Rattle.sequence.specs.Spots.{Leads};
 
+use crate::label::{Label, NewLabel};
 use crate::tree::{Child, Node, Tree};
 use servo_arc::{Arc, UniqueArc};
 use std::alloc::{AllocError, Global};
+use std::mem;
 
 // Makes one child of the one of that number and the next.
-pub(crate) fn join<T: Clone>(
-    children: &mut Vec<Child<T>>,
+pub(crate) fn join<T: Clone, L: NewLabel<T>>(
+    children: &mut Vec<Child<T, L>>,
     at: usize,
     alloc: Global,
 ) -> Result<(), AllocError>
     requires copies { CopiesAreEqual T.is_clone }
-    requires children { AreChildren children.old.items }
+    requires labels { CopiesAreEqual L.is_clone }
+    requires children { AreChildren L.label_of children.old.items }
     requires within { at + 1 < length children.old.items }
-    ensures same { StandFor children.old.items children.new.items }
+    ensures same { StandFor L.label_of children.old.items children.new.items }
     ensures first { OnOk result ((place k : ℕ) → Leads children.old.items place (record { child = at; place = k })
         → Leads children.new.items place (record { child = at; place = k })) }
-    ensures second { OnOk result ((place k : ℕ) (d : Child T)
+    ensures second { OnOk result ((place k : ℕ) (d : Child T L)
         → Leads children.old.items place (record { child = at + 1; place = k })
         → Leads children.new.items place
         (record { child = at; place = (slice_index_or children.old.items at d).len + k })) }
-    ensures spare { OnOk result ((d : Child T) → CanLose (slice_index_or children.new.items at d).tree) }
+    ensures spare { OnOk result ((d : Child T L) → CanLose (slice_index_or children.new.items at d).tree) }
 {
     children.reserve(0)?;
     let next = children.remove(at + 1);
@@ -39,40 +42,49 @@ pub(crate) fn join<T: Clone>(
     Err(AllocError)
 }
 
-impl<T: Clone> Child<T> {
+impl<T: Clone, L: NewLabel<T>> Child<T, L> {
     // Takes over what the next child has. A refusal gives that back.
-    fn join(&mut self, alloc: Global, next: Child<T>) -> Result<(), Child<T>>
+    fn join(&mut self, alloc: Global, next: Child<T, L>) -> Result<(), Child<T, L>>
         requires copies { CopiesAreEqual T.is_clone }
-        requires children { AreChildren (self.old ∷ next ∷ []) }
+        requires labels { CopiesAreEqual L.is_clone }
+        requires children { AreChildren L.label_of (self.old ∷ next ∷ []) }
         ensures child { OnOk result (IsChild (self.old.tree.1 + 1) self.new) }
+        ensures label { self.new.label ≡ self.old.label }
         ensures joined { OnOk result (self.new.tree.0 ≡ self.old.tree.0 ++ next.tree.0) }
         ensures same { OnErr result (self.new ≡ self.old) }
         ensures refused { IfErr result (λ child. child ≡ next) }
     {
-        let Child { len, tree } = next;
-        if let Err(tree) = self.tree.join(alloc, tree) {
-            return Err(Child { len, tree });
+        let Child {
+            mut label,
+            len,
+            tree,
+        } = next;
+        if let Err(tree) = self.tree.join(alloc, tree, &mut label) {
+            return Err(Child { label, len, tree });
         }
         self.len += len;
         Ok(())
     }
 }
 
-impl<T: Clone> Tree<T> {
-    // The same for trees that are as high.
-    fn join(&mut self, alloc: Global, next: Tree<T>) -> Result<(), Tree<T>>
+impl<T: Clone, L: NewLabel<T>> Tree<T, L> {
+    // The same for trees that are as high. The first child of the next first node gets the label of that tree.
+    fn join(&mut self, alloc: Global, next: Tree<T, L>, label: &mut L) -> Result<(), Tree<T, L>>
         requires copies { CopiesAreEqual T.is_clone }
+        requires labels { CopiesAreEqual L.is_clone }
         requires list { IsList (self.old.0 ++ next.0) }
         requires level { self.old.1 ≡ next.1 }
+        requires label { first_label L.label_of next.0 ≡ Some label.old }
         ensures joined { OnOk result (self.new ≡ (self.old.0 ++ next.0, self.old.1)) }
         ensures same { OnErr result (self.new ≡ self.old) }
+        ensures label { OnErr result (label.new ≡ label.old) }
         ensures refused { IfErr result (λ tree. tree ≡ next) }
     {
         let Ok(node) = Arc::make_mut(&mut self.root, alloc) else {
             return Err(next);
         };
         let mut other = next.into_own(alloc)?;
-        if let Err(AllocError) = node.append(&mut other) {
+        if let Err(AllocError) = node.append(&mut other, label) {
             return Err(Tree {
                 root: other.shareable(),
             });
@@ -81,10 +93,11 @@ impl<T: Clone> Tree<T> {
     }
 
     // The first node, which no other version has then. A refusal gives the tree back.
-    fn into_own(self, alloc: Global) -> Result<UniqueArc<Node<T>>, Tree<T>>
+    fn into_own(self, alloc: Global) -> Result<UniqueArc<Node<T, L>>, Tree<T, L>>
         requires copies { CopiesAreEqual T.is_clone }
+        requires labels { CopiesAreEqual L.is_clone }
         ensures same { IfOk result (λ node. seen node ≡ self) }
-        ensures whole { IfOk result IsNode }
+        ensures whole { IfOk result (IsNode L.label_of) }
         ensures refused { IfErr result (λ tree. tree ≡ self) }
     {
         let Tree { mut root } = self;
@@ -98,8 +111,9 @@ impl<T: Clone> Tree<T> {
     }
 
     // Takes the only item out.
-    pub(crate) fn take_only(root: &mut Option<Tree<T>>, alloc: Global) -> Result<T, AllocError>
+    pub(crate) fn take_only(root: &mut Option<Tree<T, L>>, alloc: Global) -> Result<T, AllocError>
         requires copies { CopiesAreEqual T.is_clone }
+        requires labels { CopiesAreEqual L.is_clone }
         requires one { length (items_under root.old) ≡ 1 }
         requires wide { IfSome root.old (λ tree. 2 ^ tree.1 ≤ length tree.0) }
         ensures item { IfOk result (λ item. items_under root.old ≡ item ∷ []) }
@@ -126,17 +140,19 @@ impl<T: Clone> Tree<T> {
     }
 }
 
-impl<T: Drop> Node<T> {
-    // Moves what a node of the same kind has behind what this one has.
-    fn append(&mut self, other: &mut Node<T>) -> Result<(), AllocError>
-        requires whole { IsNode self.old × IsNode other.old }
+impl<T: Drop, L: Label<T> + Drop> Node<T, L> {
+    // Moves what a node of the same kind has behind what this one has. Its first child gets the label.
+    fn append(&mut self, other: &mut Node<T, L>, label: &mut L) -> Result<(), AllocError>
+        requires whole { IsNode L.label_of self.old × IsNode L.label_of other.old }
         requires list { IsList ((seen self.old).0 ++ (seen other.old).0) }
         requires level { (seen self.old).1 ≡ (seen other.old).1 }
-        ensures whole { IsNode self.new }
+        requires label { first_label L.label_of (seen other.old).0 ≡ Some label.old }
+        ensures whole { IsNode L.label_of self.new }
         ensures joined { OnOk result (seen self.new ≡ ((seen self.old).0 ++ (seen other.old).0, (seen self.old).1)) }
         ensures same { OnErr result (seen self.new ≡ seen self.old) }
+        ensures label { OnErr result (label.new ≡ label.old) }
         ensures other { OnErr result (seen other.new ≡ seen other.old) }
-        ensures refused { OnErr result (IsNode other.new) }
+        ensures refused { OnErr result (IsNode L.label_of other.new) }
     {
         match (self, other) {
             (Node::Leaf(items), Node::Leaf(more)) => {
@@ -144,7 +160,9 @@ impl<T: Drop> Node<T> {
                 Ok(())
             }
             (Node::Branch(children), Node::Branch(more)) => {
+                let next = children.len();
                 children.append(more)?;
+                mem::swap(&mut children[next].label, label);
                 Ok(())
             }
             _ => unreachable!(),

@@ -3,14 +3,15 @@ ghost use Rattle.std.specs.Prelude.{◌≡◌, ◌<◌, IfOk, OnErr, length, sli
 ghost use Rattle.std.specs.Fn.{FnOnceTakesAtMut};
 ghost use Rattle.std.specs.Option.{ForSome};
 ghost use Rattle.servo_arc.specs.Copies.{CopiesAreEqual};
-ghost use Rattle.sequence.specs.Changes.{ChangesItem};
+ghost use Rattle.sequence.specs.Changes.{ChangesItem, KeepsLabel};
 
+use crate::label::NewLabel;
 use crate::tree::search::spot_of;
 use crate::tree::{Node, Tree};
 use servo_arc::Arc;
 use std::alloc::{AllocError, Global};
 
-impl<T: Clone> Tree<T> {
+impl<T: Clone, L: NewLabel<T>> Tree<T, L> {
     // Changes the item of that number, which is there. The change is called if nothing can be refused any more.
     pub(crate) fn modify<R, F: FnOnce(&mut T) -> R>(
         &mut self,
@@ -19,8 +20,10 @@ impl<T: Clone> Tree<T> {
         change: F,
     ) -> Result<R, AllocError>
         requires copies { CopiesAreEqual T.is_clone }
+        requires labels { CopiesAreEqual L.is_clone }
         requires there { index < length self.old.0 }
         requires callable { ForSome (slice_get self.old.0 index) (FnOnceTakesAtMut F.FnOnce change) }
+        requires keeps { ForSome (slice_get self.old.0 index) (KeepsLabel F.FnOnce change L.label_of) }
         ensures changed { IfOk result (ChangesItem F.FnOnce change index self.old.0 self.new.0) }
         ensures height { self.new.1 ≡ self.old.1 }
         ensures refused { OnErr result (self.new.0 ≡ self.old.0) }

@@ -2,9 +2,10 @@
 ghost use Rattle.std.specs.Prelude.{◌≡◌, ℕ, ◌+◌, ◌^◌, ◌<◌, ◌≤◌, ◌⊎◌, [], IfOk, IsTrue, OnOk, OnErr, Some};
 ghost use Rattle.std.specs.Prelude.{length, slice_get, slice_index_or};
 ghost use Rattle.servo_arc.specs.Copies.{CopiesAreEqual};
-ghost use Rattle.sequence.specs.Nodes.{AreChildren, CanLose, IsChild, StandFor, height_in, items_in};
+ghost use Rattle.sequence.specs.Nodes.{AreChildren, CanLose, IsChild, IsLabelled, StandFor, height_in, items_in};
 ghost use Rattle.sequence.specs.Spots.{Leads, spliced};
 
+use crate::label::{Label, NewLabel};
 use crate::tree::copies::{BRANCH, LEAF};
 use crate::tree::join::join;
 use crate::tree::search::{Spot, spot_of};
@@ -13,11 +14,12 @@ use crate::tree::{Child, Node, Tree};
 use servo_arc::Arc;
 use std::alloc::{AllocError, Global};
 
-impl<T: Clone> Tree<T> {
+impl<T: Clone, L: NewLabel<T>> Tree<T, L> {
     // Takes the item of that number out, which is there and not the only one.
     #[cycle(remove)]
     pub(crate) fn remove(&mut self, alloc: Global, index: usize) -> Result<T, AllocError>
         requires copies { CopiesAreEqual T.is_clone }
+        requires labels { CopiesAreEqual L.is_clone }
         requires there { index < length self.old.0 }
         requires some { 1 < length self.old.0 }
         requires wide { 2 ^ self.old.1 ≤ length self.old.0 }
@@ -36,57 +38,69 @@ impl<T: Clone> Tree<T> {
 
 // The same under a branch.
 #[cycle(remove)]
-fn remove_under<T: Clone>(
-    children: &mut Vec<Child<T>>,
+fn remove_under<T: Clone, L: NewLabel<T>>(
+    children: &mut Vec<Child<T, L>>,
     alloc: Global,
     index: usize,
 ) -> Result<T, AllocError>
     requires copies { CopiesAreEqual T.is_clone }
-    requires children { AreChildren children.old.items }
+    requires labels { CopiesAreEqual L.is_clone }
+    requires children { AreChildren L.label_of children.old.items }
     requires there { index < length (items_in children.old.items) }
     requires wide { 2 ^ height_in children.old.items ≤ length (items_in children.old.items) }
     ensures item { IfOk result (λ item. slice_get (items_in children.old.items) index ≡ Some item) }
     ensures items { OnOk result (items_in children.new.items ≡ spliced index 1 [] (items_in children.old.items)) }
     ensures height { height_in children.new.items ≡ height_in children.old.items }
-    ensures children { AreChildren children.new.items }
+    ensures children { AreChildren L.label_of children.new.items }
     ensures refused { OnErr result (items_in children.new.items ≡ items_in children.old.items) }
 {
     let spot = spare_for(children, alloc, index)?;
-    children[spot.child].remove(alloc, spot.place - 1)
+    children[spot.child].remove(alloc, spot.place - 1, spot.child > 0)
 }
 
-impl<T: Clone> Child<T> {
-    // The same under one child.
+impl<T: Clone, L: NewLabel<T>> Child<T, L> {
+    // The same under one child, whose label stays right if it is to.
     #[cycle(remove)]
-    fn remove(&mut self, alloc: Global, index: usize) -> Result<T, AllocError>
+    fn remove(&mut self, alloc: Global, index: usize, labelled: bool) -> Result<T, AllocError>
         requires copies { CopiesAreEqual T.is_clone }
+        requires labels { CopiesAreEqual L.is_clone }
         requires child { IsChild (self.old.tree.1 + 1) self.old }
         requires spare { CanLose self.old.tree }
         requires there { index < length self.old.tree.0 }
         ensures item { IfOk result (λ item. slice_get self.old.tree.0 index ≡ Some item) }
         ensures items { OnOk result (self.new.tree.0 ≡ spliced index 1 [] self.old.tree.0) }
         ensures child { IsChild (self.old.tree.1 + 1) self.new }
+        ensures label { IsTrue labelled → IsLabelled L.label_of self.old → IsLabelled L.label_of self.new }
         ensures refused { OnErr result (self.new.tree.0 ≡ self.old.tree.0) }
     {
+        let label = if labelled && index == 0 {
+            Some(L::new(self.tree.item(1))?)
+        } else {
+            None
+        };
         let item = self.tree.remove(alloc, index)?;
         self.len -= 1;
+        if let Some(label) = label {
+            self.label = label;
+        }
         Ok(item)
     }
 }
 
 // The spot behind the item of that number, once its child can lose an item: a thin one is joined with its neighbour.
-fn spare_for<T: Clone>(
-    children: &mut Vec<Child<T>>,
+fn spare_for<T: Clone, L: NewLabel<T>>(
+    children: &mut Vec<Child<T, L>>,
     alloc: Global,
     index: usize,
 ) -> Result<Spot, AllocError>
     requires copies { CopiesAreEqual T.is_clone }
-    requires children { AreChildren children.old.items }
+    requires labels { CopiesAreEqual L.is_clone }
+    requires children { AreChildren L.label_of children.old.items }
     requires there { index < length (items_in children.old.items) }
     requires wide { 2 ^ height_in children.old.items ≤ length (items_in children.old.items) }
-    ensures same { StandFor children.old.items children.new.items }
+    ensures same { StandFor L.label_of children.old.items children.new.items }
     ensures leads { IfOk result (Leads children.new.items (index + 1)) }
-    ensures spare { IfOk result (λ spot. (d : Child T)
+    ensures spare { IfOk result (λ spot. (d : Child T L)
         → CanLose (slice_index_or children.new.items spot.child d).tree) }
 {
     let spot = spot_of(children, index + 1);
@@ -98,20 +112,21 @@ fn spare_for<T: Clone>(
 }
 
 // The spot once its child is joined with the next, or the last one with the one before.
-fn join_at<T: Clone>(
-    children: &mut Vec<Child<T>>,
+fn join_at<T: Clone, L: NewLabel<T>>(
+    children: &mut Vec<Child<T, L>>,
     spot: Spot,
     alloc: Global,
 ) -> Result<Spot, AllocError>
     requires copies { CopiesAreEqual T.is_clone }
-    requires children { AreChildren children.old.items }
+    requires labels { CopiesAreEqual L.is_clone }
+    requires children { AreChildren L.label_of children.old.items }
     requires within { spot.child < length children.old.items }
-    requires inside { (d : Child T) → spot.place ≤ length (slice_index_or children.old.items spot.child d).tree.0 }
+    requires inside { (d : Child T L) → spot.place ≤ length (slice_index_or children.old.items spot.child d).tree.0 }
     requires two { 1 < length children.old.items }
-    ensures same { StandFor children.old.items children.new.items }
+    ensures same { StandFor L.label_of children.old.items children.new.items }
     ensures leads { IfOk result (λ new. (place : ℕ) → Leads children.old.items place spot
         → Leads children.new.items place new) }
-    ensures spare { IfOk result (λ new. (d : Child T)
+    ensures spare { IfOk result (λ new. (d : Child T L)
         → CanLose (slice_index_or children.new.items new.child d).tree) }
 {
     let Spot { child, place } = spot;
@@ -127,10 +142,10 @@ fn join_at<T: Clone>(
     })
 }
 
-impl<T> Tree<T> {
+impl<T, L: Label<T>> Tree<T, L> {
     // Whether the first node has so few items that it is joined with its neighbour before it loses one.
     #[inline(always)]
-    fn is_thin(&self) -> bool
+    pub(crate) fn is_thin(&self) -> bool
         ensures { IsTrue result ⊎ CanLose self.now }
     {
         match self.node() {
@@ -140,7 +155,7 @@ impl<T> Tree<T> {
     }
 }
 
-impl<T: Drop> Tree<T> {
+impl<T: Drop, L: Label<T> + Drop> Tree<T, L> {
     // A first node with one child gives way to it.
     #[inline(always)]
     pub(crate) fn shrink(&mut self) -> Result<(), AllocError>

@@ -5,6 +5,7 @@ ghost use Rattle.sequence.specs.Parts.{IsPart};
 ghost use Rattle.sequence.specs.Nodes.{AreChildren, items_in};
 ghost use Rattle.sequence.specs.Spots.{Leads};
 
+use crate::label::Label;
 use crate::tree::{Child, Node, Tree};
 
 // A place under the children of a branch: the number of a child, and the place in it. A place is how many items stand
@@ -16,8 +17,8 @@ pub(crate) struct Spot {
 }
 
 // Where the place is. One between two children is behind the first.
-pub(crate) fn spot_of<T>(children: &[Child<T>], place: usize) -> Spot
-    requires children { AreChildren children.now }
+pub(crate) fn spot_of<T, L: Label<T>>(children: &[Child<T, L>], place: usize) -> Spot
+    requires children { AreChildren L.label_of children.now }
     requires within { place ≤ length (items_in children.now) }
     ensures { Leads children.now place result }
 {
@@ -31,7 +32,7 @@ pub(crate) fn spot_of<T>(children: &[Child<T>], place: usize) -> Spot
 }
 
 // How many items these children have.
-pub(crate) fn count<T>(children: &[Child<T>]) -> usize
+pub(crate) fn count<T, L: Label<T>>(children: &[Child<T, L>]) -> usize
     requires each { All (λ c. c.len ≡ length c.tree.0) children.now }
     requires room { length (items_in children.now) < 2 ^ 64 }
     ensures { result ≡ length (items_in children.now) }
@@ -43,7 +44,7 @@ pub(crate) fn count<T>(children: &[Child<T>]) -> usize
     count
 }
 
-impl<T> Tree<T> {
+impl<T, L: Label<T>> Tree<T, L> {
     // The leaf with the item of that number, and the number of the leaf's first item.
     pub(crate) fn leaf_at(&self, index: usize) -> (&[T], usize)
         requires { index < length self.now.0 }

@@ -6,6 +6,7 @@ ghost use Rattle.sequence.specs.Nodes.{AreChildren, AreHalves, CanLose, IsChild,
 ghost use Rattle.sequence.specs.Nodes.{height_in, items_in, seen};
 ghost use Rattle.sequence.specs.Spots.{Leads, past};
 
+use crate::label::{Label, NewLabel};
 use crate::tree::copies::{BRANCH, LEAF};
 use crate::tree::search::{Spot, count};
 use crate::tree::{Child, Node, Tree};
@@ -15,11 +16,12 @@ use std::alloc::{AllocError, Global};
 // How many items the second of two nodes gets if the next item goes behind all.
 const FEW: usize = 4;
 
-impl<T: Drop> Tree<T> {
+impl<T: Drop, L: NewLabel<T>> Tree<T, L> {
     // Makes the tree, which has that many items, one higher if its first node is full: the only child of the new one.
     #[inline(always)]
     pub(crate) fn grow(&mut self, alloc: Global, len: usize) -> Result<(), AllocError>
-        requires { len ≡ length self.old.0 }
+        requires labels { CopiesAreEqual L.is_clone }
+        requires len { len ≡ length self.old.0 }
         ensures { self.new.0 ≡ self.old.0 }
     {
         if self.is_full() {
@@ -30,20 +32,21 @@ impl<T: Drop> Tree<T> {
 
     // The same of any tree that is wide enough.
     pub(crate) fn raise(&mut self, alloc: Global, len: usize) -> Result<(), AllocError>
+        requires labels { CopiesAreEqual L.is_clone }
         requires len { len ≡ length self.old.0 }
         requires wide { 2 ^ self.old.1 ≤ length self.old.0 }
         ensures items { self.new.0 ≡ self.old.0 }
         ensures height { OnOk result (self.new.1 ≡ self.old.1 + 1) }
     {
-        let tree = self.clone()?;
+        let child = self.clone()?.into_child(len)?;
         let mut children = Vec::with_capacity(alloc, BRANCH)?;
-        children.push(Child { len, tree })?;
+        children.push(child)?;
         *self = Tree::of(alloc, Node::Branch(children))?;
         Ok(())
     }
 }
 
-impl<T> Tree<T> {
+impl<T, L: Label<T>> Tree<T, L> {
     // Whether the first node becomes two before another item goes in.
     #[inline(always)]
     pub(crate) fn is_full(&self) -> bool
@@ -53,11 +56,11 @@ impl<T> Tree<T> {
     }
 }
 
-impl<T> Node<T> {
+impl<T, L: Label<T>> Node<T, L> {
     // The same of a node.
     #[inline(always)]
     pub(crate) fn is_full(&self) -> bool
-        requires { IsNode self.now }
+        requires { IsNode L.label_of self.now }
         ensures { IsTrue result → 2 ^ (seen self.now).1 ≤ length (seen self.now).0 }
     {
         match self {
@@ -68,20 +71,21 @@ impl<T> Node<T> {
 }
 
 // The spot once its child has room for one more item or child: a full one becomes two.
-pub(crate) fn room_under<T: Clone>(
-    children: &mut Vec<Child<T>>,
+pub(crate) fn room_under<T: Clone, L: NewLabel<T>>(
+    children: &mut Vec<Child<T, L>>,
     spot: Spot,
     alloc: Global,
 ) -> Result<Spot, AllocError>
     requires copies { CopiesAreEqual T.is_clone }
-    requires children { AreChildren children.old.items }
+    requires labels { CopiesAreEqual L.is_clone }
+    requires children { AreChildren L.label_of children.old.items }
     requires within { spot.child < length children.old.items }
-    ensures same { StandFor children.old.items children.new.items }
+    ensures same { StandFor L.label_of children.old.items children.new.items }
     ensures leads { IfOk result (λ new. (place : ℕ) → Leads children.old.items place spot
         → Leads children.new.items place new) }
-    ensures spare { IfOk result (λ new. ((d : Child T)
+    ensures spare { IfOk result (λ new. ((d : Child T L)
         → CanLose (slice_index_or children.old.items spot.child d).tree)
-        → (d : Child T) → CanLose (slice_index_or children.new.items new.child d).tree) }
+        → (d : Child T L) → CanLose (slice_index_or children.new.items new.child d).tree) }
 {
     let Spot { child, place } = spot;
     if !children[child].tree.is_full() {
@@ -115,13 +119,15 @@ impl Spot {
     }
 }
 
-impl<T: Clone> Child<T> {
+impl<T: Clone, L: NewLabel<T>> Child<T, L> {
     // The last part of a child whose first node is full, and which keeps the first one.
-    fn halve(&mut self, alloc: Global, ends: bool) -> Result<Option<Child<T>>, AllocError>
+    fn halve(&mut self, alloc: Global, ends: bool) -> Result<Option<Child<T, L>>, AllocError>
         requires copies { CopiesAreEqual T.is_clone }
+        requires labels { CopiesAreEqual L.is_clone }
         requires child { IsChild (self.old.tree.1 + 1) self.old }
         ensures child { IfOk result (λ half. IfSome half (λ _. IsChild (self.old.tree.1 + 1) self.new)) }
-        ensures halves { IfOk result (λ half. IfSome half (AreHalves self.old.tree self.new.tree)) }
+        ensures label { self.new.label ≡ self.old.label }
+        ensures halves { IfOk result (λ half. IfSome half (AreHalves L.label_of self.old.tree self.new.tree)) }
         ensures whole { IfOk result (λ half. IfNone half (self.new ≡ self.old)) }
         ensures refused { OnErr result (self.new ≡ self.old) }
     {
@@ -133,12 +139,13 @@ impl<T: Clone> Child<T> {
     }
 }
 
-impl<T: Clone> Tree<T> {
+impl<T: Clone, L: NewLabel<T>> Tree<T, L> {
     // The same of a tree.
     #[inline(never)]
-    fn halve(&mut self, alloc: Global, ends: bool) -> Result<Option<Child<T>>, AllocError>
+    fn halve(&mut self, alloc: Global, ends: bool) -> Result<Option<Child<T, L>>, AllocError>
         requires copies { CopiesAreEqual T.is_clone }
-        ensures halves { IfOk result (λ half. IfSome half (AreHalves self.old self.new)) }
+        requires labels { CopiesAreEqual L.is_clone }
+        ensures halves { IfOk result (λ half. IfSome half (AreHalves L.label_of self.old self.new)) }
         ensures whole { IfOk result (λ half. IfNone half (self.new ≡ self.old)) }
         ensures refused { OnErr result (self.new ≡ self.old) }
     {
@@ -147,16 +154,17 @@ impl<T: Clone> Tree<T> {
     }
 }
 
-impl<T: Drop> Node<T> {
+impl<T: Drop, L: NewLabel<T>> Node<T, L> {
     // The same of a node.
     pub(crate) fn halve(
         &mut self,
         alloc: Global,
         ends: bool,
-    ) -> Result<Option<Child<T>>, AllocError>
-        requires { IsNode self.old }
-        ensures node { IsNode self.new }
-        ensures halves { IfOk result (λ half. IfSome half (AreHalves (seen self.old) (seen self.new))) }
+    ) -> Result<Option<Child<T, L>>, AllocError>
+        requires labels { CopiesAreEqual L.is_clone }
+        requires node { IsNode L.label_of self.old }
+        ensures node { IsNode L.label_of self.new }
+        ensures halves { IfOk result (λ half. IfSome half (AreHalves L.label_of (seen self.old) (seen self.new))) }
         ensures whole { IfOk result (λ half. IfNone half (seen self.new ≡ seen self.old)) }
         ensures refused { OnErr result (seen self.new ≡ seen self.old) }
     {
@@ -189,21 +197,24 @@ fn kept(len: usize, width: usize, ends: bool) -> usize
     }
 }
 
-fn half_of_leaf<T: Drop>(
+fn half_of_leaf<T: Drop, L: NewLabel<T>>(
     items: &mut Vec<T>,
     alloc: Global,
     keep: usize,
-) -> Result<Child<T>, AllocError>
+) -> Result<Child<T, L>, AllocError>
+    requires labels { CopiesAreEqual L.is_clone }
     requires list { IsList items.old.items }
     requires low { 2 < keep }
     requires high { keep + 2 < length items.old.items }
     ensures list { IsList items.new.items }
-    ensures halves { IfOk result (AreHalves (items.old.items, 0) (items.new.items, 0)) }
+    ensures halves { IfOk result (AreHalves L.label_of (items.old.items, 0) (items.new.items, 0)) }
     ensures refused { OnErr result (items.new.items ≡ items.old.items) }
 {
+    let label = L::new(&items[keep])?;
     let block = UniqueArc::new_uninit(alloc)?;
     let tail = items.split_off(keep)?;
     Ok(Child {
+        label,
         len: tail.len(),
         tree: Tree {
             root: block.write(Node::Leaf(tail)).shareable(),
@@ -211,22 +222,25 @@ fn half_of_leaf<T: Drop>(
     })
 }
 
-fn half_of_branch<T: Drop>(
-    children: &mut Vec<Child<T>>,
+fn half_of_branch<T: Drop, L: NewLabel<T>>(
+    children: &mut Vec<Child<T, L>>,
     alloc: Global,
     keep: usize,
-) -> Result<Child<T>, AllocError>
-    requires children { AreChildren children.old.items }
+) -> Result<Child<T, L>, AllocError>
+    requires labels { CopiesAreEqual L.is_clone }
+    requires children { AreChildren L.label_of children.old.items }
     requires low { 2 < keep }
     requires high { keep + 2 < length children.old.items }
-    ensures children { AreChildren children.new.items }
-    ensures halves { IfOk result (AreHalves (items_in children.old.items, height_in children.old.items)
+    ensures children { AreChildren L.label_of children.new.items }
+    ensures halves { IfOk result (AreHalves L.label_of (items_in children.old.items, height_in children.old.items)
         (items_in children.new.items, height_in children.new.items)) }
     ensures refused { OnErr result (children.new.items ≡ children.old.items) }
 {
+    let label = children[keep].label.clone()?;
     let block = UniqueArc::new_uninit(alloc)?;
     let tail = children.split_off(keep)?;
     Ok(Child {
+        label,
         len: count(&tail),
         tree: Tree {
             root: block.write(Node::Branch(tail)).shareable(),

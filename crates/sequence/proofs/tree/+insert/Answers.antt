@@ -4,7 +4,9 @@ use Rattle.std.specs.Prelude.{OnOk}
 use Rattle.sequence.specs.Nodes.{items_in}
 use Rattle.sequence.specs.Pieces.{Fits, items_of}
 use Rattle.sequence.specs.Spots.{spliced}
+use Rattle.sequence.proofs.Children.{leads_inner}
 use Rattle.sequence.proofs.Copied.{made}
+use Rattle.sequence.proofs.Labelled.{labelled_at, labelled_put}
 use Rattle.sequence.proofs.Pieces.{counts, fits_under, same_items}
 use Rattle.sequence.proofs.Placed.{child_here, child_within, put_under}
 use Rattle.sequence.proofs.Wide.{height_some}
@@ -12,21 +14,27 @@ use Rattle.sequence.proofs.tree.+insert.Goals as goal
 
 pub Tree::insert-insert_under-requires : goal.Tree::insert-insert_under-requires
 Tree::insert-insert_under-requires g t c κs within =
-    let node = rw c.in-Branch.is at (made c.args.self.now c.self.inside.root c.in_ok-node.node.now c.self.invariant
-    c.self.view_is c.in_ok-node.ensures.value c.requires.copies) in
+    let node = rw c.in-Branch.is at (made g.L.Label.label_of c.args.self.now c.self.inside.root c.in_ok-node.node.now
+    c.self.invariant c.self.view_is c.in_ok-node.ensures.value (c.requires.copies, c.requires.labels)) in
     let items = ap (λ t. length t.0) node.same in (
       omega (arith, c.decreases, ap (λ t. t.1) node.same, height_some c.in-Branch.children.items node.whole),
       (
         search rules,
         (
-          c.requires.copies,
+          search rules,
           (
-            node.whole,
+            c.requires.copies,
             (
-              omega (arith, items, c.requires.within),
+              c.requires.labels,
               (
-                subst (λ t. Fits c.args.piece c.args.place t) (sym node.same) c.requires.fits,
-                omega (arith, items, c.requires.room),
+                node.whole,
+                (
+                  omega (arith, items, c.requires.within),
+                  (
+                    subst (λ t. Fits g.L.Label.label_of c.args.piece c.args.place t) (sym node.same) c.requires.fits,
+                    omega (arith, items, c.requires.room),
+                  ),
+                ),
               ),
             ),
           ),
@@ -53,20 +61,26 @@ insert::insert_under-insert-requires g t c κs within =
       (
         search rules,
         (
-          c.requires.copies,
+          search rules,
           (
-            child_here cs spot.child d same.children leads.within is,
+            c.requires.copies,
             (
-              omega (arith, leads.inside d, ap (λ child. length child.tree.0) is),
+              c.requires.labels,
               (
-                fits_under c.args.piece c.in-Ok.piece _ cs c.args.place spot d c.in-Ok.ensures c.requires.fits
-                    same.children same.items same.height leads is,
-                omega (
-                  arith,
-                  more,
-                  child_within cs spot.child d same.children leads.within is,
-                  ap (λ es. length es) same.items,
-                  c.requires.room,
+                child_here cs spot.child d same.children leads.within is,
+                (
+                  omega (arith, leads.inside d, ap (λ child. length child.tree.0) is),
+                  (
+                    fits_under g.L.Label.label_of c.args.piece c.in-Ok.piece _ cs c.args.place spot d c.in-Ok.ensures
+                        c.requires.fits same.children same.items same.height leads is,
+                    omega (
+                      arith,
+                      more,
+                      child_within cs spot.child d same.children leads.within is,
+                      ap (λ es. length es) same.items,
+                      c.requires.room,
+                    ),
+                  ),
                 ),
               ),
             ),
@@ -89,7 +103,11 @@ insert::insert_under-returns g t c =
     omega (arith, leads.inside d, ap (λ child. length child.tree.0) is) in
     let room : length (items_in old) + length (items_of c.in-Ok.piece) < 2 ^ 64 + 0 =
     omega (arith, ap (λ es. length es) of, c.requires.room) in
-    let done = put_under old cs spot.child d new c.in_ok-spot.ensures.same leads.within is c.insert.ensures.child
+    let are = c.in_ok-spot.ensures.same.children in
+    let label = λ (p : 0 < spot.child). labelled_put d new spot.place 0 (items_of c.in-Ok.piece) c.insert.result
+    (leads_inner _ cs c.args.place spot are.each leads p) c.insert.ensures.items c.insert.ensures.refused
+    c.insert.ensures.label (labelled_at cs spot.child d are p leads.within is) in
+    let done = put_under old cs spot.child d new c.in_ok-spot.ensures.same leads.within is c.insert.ensures.child label
     c.args.place spot.place 0 (items_of c.in-Ok.piece) leads.is inside c.insert.result c.insert.ensures.items
     c.insert.ensures.refused room in
     record {
@@ -101,4 +119,5 @@ insert::insert_under-returns g t c =
     }
 
 pub Child::insert-len-more-requires : goal.Child::insert-len-more-requires
-Child::insert-len-more-requires g t c = counts c.args.piece c.args.place c.args.self.now.tree c.requires.fits
+Child::insert-len-more-requires g t c =
+    counts g.L.Label.label_of c.args.piece c.args.place c.args.self.now.tree c.requires.fits

@@ -4,24 +4,31 @@ use Rattle.std.specs.Prelude.{IfOk, Some, slice_get}
 use Rattle.sequence.specs.Nodes.{CanLose, height_in, items_in}
 use Rattle.sequence.proofs.Changed.{item_under}
 use Rattle.sequence.proofs.Copied.{made}
+use Rattle.sequence.proofs.Labelled.{labelled_at}
 use Rattle.sequence.proofs.Placed.{child_here, put_under}
 use Rattle.sequence.proofs.Wide.{height_some}
 use Rattle.sequence.proofs.tree.+remove.Goals as goal
 
 pub Tree::remove-remove_under-requires : goal.Tree::remove-remove_under-requires
 Tree::remove-remove_under-requires g t c κs within =
-    let node = rw c.in-Branch.is at (made c.args.self.now c.self.inside.root c.in_ok-node.node.now c.self.invariant
-    c.self.view_is c.in_ok-node.ensures.value c.requires.copies) in (
+    let node = rw c.in-Branch.is at (made g.L.Label.label_of c.args.self.now c.self.inside.root c.in_ok-node.node.now
+    c.self.invariant c.self.view_is c.in_ok-node.ensures.value (c.requires.copies, c.requires.labels)) in (
       omega (arith, c.decreases, ap (λ t. t.1) node.same, height_some c.in-Branch.children.items node.whole),
       (
         search rules,
         (
-          c.requires.copies,
+          search rules,
           (
-            node.whole,
+            c.requires.copies,
             (
-              omega (arith, ap (λ t. length t.0) node.same, c.requires.there),
-              subst (λ t. 2 ^ t.1 ≤ length t.0) (sym node.same) c.requires.wide,
+              c.requires.labels,
+              (
+                node.whole,
+                (
+                  omega (arith, ap (λ t. length t.0) node.same, c.requires.there),
+                  subst (λ t. 2 ^ t.1 ≤ length t.0) (sym node.same) c.requires.wide,
+                ),
+              ),
             ),
           ),
         ),
@@ -46,12 +53,18 @@ remove::remove_under-remove-requires g t c κs within =
       (
         search rules,
         (
-          c.requires.copies,
+          search rules,
           (
-            child_here cs spot.child d same.children leads.within is,
+            c.requires.copies,
             (
-              subst (λ child. CanLose child.tree) (sym is) (c.in_ok-spot.ensures.spare d),
-              omega (arith, leads.inside d, leads.inner (omega arith), ap (λ child. length child.tree.0) is),
+              c.requires.labels,
+              (
+                child_here cs spot.child d same.children leads.within is,
+                (
+                  subst (λ child. CanLose child.tree) (sym is) (c.in_ok-spot.ensures.spare d),
+                  omega (arith, leads.inside d, leads.inner (omega arith), ap (λ child. length child.tree.0) is),
+                ),
+              ),
             ),
           ),
         ),
@@ -78,7 +91,9 @@ remove::remove_under-returns g t c =
     ap (λ es. slice_get es at) (sym same.items)
     ∙ item_under (items_in cs, height_in cs) cs spot.child d same.children refl leads.within is at (spot.place - 1)
     place there in
-    let done = put_under old cs spot.child d c.remove.new.self same leads.within is c.remove.ensures.child at
+    let label = λ (p : 0 < spot.child). c.remove.ensures.label (search rules)
+    (labelled_at cs spot.child d same.children p leads.within is) in
+    let done = put_under old cs spot.child d c.remove.new.self same leads.within is c.remove.ensures.child label at
     (spot.place - 1) 1 [] place inside c.remove.result c.remove.ensures.items c.remove.ensures.refused room in
     record {
       item = subst (λ o. IfOk c.remove.result (λ item. o ≡ Some item)) (sym item) c.remove.ensures.item;

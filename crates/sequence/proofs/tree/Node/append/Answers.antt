@@ -1,7 +1,8 @@
 -- Two leaves, or two branches that are as high, in one.
-use Rattle.std.proofs.Common.{◌∙◌, ap, arith, subst, sym}
+use Rattle.std.proofs.Common.{◌≡◌, ◌∙◌, ap, arith, get_or, length, set, subst, sym}
+use Rattle.std.specs.Prelude.{Some}
 use Rattle.sequence.specs.Nodes.{AreChildren, IsList, items_in, height_in}
-use Rattle.sequence.proofs.Joined.{children_both, seen_both}
+use Rattle.sequence.proofs.Appended.{both}
 use Rattle.sequence.proofs.Wide.{height_some}
 use Rattle.sequence.proofs.tree.Node.append.Goals as goal
 use Rattle.sequence.proofs.tree.Node.append.Goals.{in-Leaf-Leaf+in_ok-append-in-Leaf-Leaf}
@@ -29,12 +30,22 @@ returns-clause-whole g c =
           let list = rw w.in-Leaf-Leaf.is-1 at (rw w.in-Leaf-Leaf.is-0 at c.requires.list) in
           rw w.self-is (subst IsList (sym w.in_ok-append-in-Leaf-Leaf.ensures.items) list)
       | in-Branch-Branch+in_ok-append-in-Branch-Branch w ↦
+          let cs = w.in-Branch-Branch.children.items in
+          let ds = w.in-Branch-Branch.more.items in
           let list = rw w.in-Branch-Branch.is-1 at (rw w.in-Branch-Branch.is-0 at c.requires.list) in
           let level = rw w.in-Branch-Branch.is-1 at (rw w.in-Branch-Branch.is-0 at c.requires.level) in
           let are = rw w.in-Branch-Branch.is-0 at c.requires.whole.0 in
           let more = rw w.in-Branch-Branch.is-1 at c.requires.whole.1 in
-          rw w.self-is (subst AreChildren (sym w.in_ok-append-in-Branch-Branch.ensures.items)
-          (children_both _ _ are more level list))
+          let items = w.in_ok-append-in-Branch-Branch.ensures.items in
+          let n = w.len-next.result in
+          let x = w.index_mut.result.now in
+          let l = w.swap.new.x in
+          let long : length cs ≡ n = omega (arith, w.len-next.ensures) in
+          let first = rw w.in-Branch-Branch.is-1 at c.requires.label ∙ ap (λ l. Some l) (sym w.swap.ensures.x_after) in
+          let done = both cs ds x l n are more level list long
+          (w.index_mut.ensures.value ∙ ap (λ xs. get_or xs n x) items) first in
+          rw w.self-is (subst (λ xs. AreChildren g.L.Label.label_of (set xs n (record x { label = l }))) (sym items)
+          done.children)
     ]
 
 pub returns-clause-joined : goal.returns-clause-joined
@@ -44,10 +55,21 @@ returns-clause-joined g c =
           let items = w.in_ok-append-in-Leaf-Leaf.ensures.items in
           rw w.result-is (rw w.self-is (rw w.in-Leaf-Leaf.is-0 (rw w.in-Leaf-Leaf.is-1 (ap (λ es. (es, 0)) items))))
       | in-Branch-Branch+in_ok-append-in-Branch-Branch w ↦
+          let cs = w.in-Branch-Branch.children.items in
+          let ds = w.in-Branch-Branch.more.items in
+          let list = rw w.in-Branch-Branch.is-1 at (rw w.in-Branch-Branch.is-0 at c.requires.list) in
           let level = rw w.in-Branch-Branch.is-1 at (rw w.in-Branch-Branch.is-0 at c.requires.level) in
           let are = rw w.in-Branch-Branch.is-0 at c.requires.whole.0 in
           let more = rw w.in-Branch-Branch.is-1 at c.requires.whole.1 in
           let items = w.in_ok-append-in-Branch-Branch.ensures.items in
+          let n = w.len-next.result in
+          let x = w.index_mut.result.now in
+          let l = w.swap.new.x in
+          let long : length cs ≡ n = omega (arith, w.len-next.ensures) in
+          let first = rw w.in-Branch-Branch.is-1 at c.requires.label ∙ ap (λ l. Some l) (sym w.swap.ensures.x_after) in
+          let done = both cs ds x l n are more level list long
+          (w.index_mut.ensures.value ∙ ap (λ xs. get_or xs n x) items) first in
           rw w.result-is (rw w.self-is (rw w.in-Branch-Branch.is-0 (rw w.in-Branch-Branch.is-1
-          (ap (λ xs. (items_in xs, height_in xs)) items ∙ seen_both _ _ are more level))))
+          (ap (λ xs. (items_in (set xs n (record x { label = l })), height_in (set xs n (record x { label = l }))))
+          items ∙ done.same))))
     ]

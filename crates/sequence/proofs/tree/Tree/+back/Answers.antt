@@ -11,7 +11,7 @@ pub of_children-requires-clause-level : goal.of_children-requires-clause-level
 of_children-requires-clause-level g t c =
     let n = c.spot_of-spot.result.child + 1 in
     let are = rw c.in-Branch.is at c.node.ensures.whole in
-    subst (λ xs. AreLevel xs)
+    subst (λ xs. AreLevel g.L.Label.label_of xs)
     (sym (take_rest c.deref-in-Branch-2.result.now n ∙ ap (λ xs. drop n xs) c.deref-in-Branch-2.ensures.value))
     (level_drop c.in-Branch.children.items n are)
 

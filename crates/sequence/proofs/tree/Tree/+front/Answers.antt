@@ -9,7 +9,7 @@ pub of_children-requires-clause-level : goal.of_children-requires-clause-level
 of_children-requires-clause-level g t c =
     let n = c.spot_of-spot.result.child in
     let are = rw c.in-Branch.is at c.node.ensures.whole in
-    subst (λ xs. AreLevel (take n xs)) (sym c.deref-in-Branch-2.ensures.value)
+    subst (λ xs. AreLevel g.L.Label.label_of (take n xs)) (sym c.deref-in-Branch-2.ensures.value)
     (level_take c.in-Branch.children.items n are)
 
 pub returns-in_ok-append-in-Branch : goal.returns-in_ok-append-in-Branch

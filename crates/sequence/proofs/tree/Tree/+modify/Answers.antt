@@ -1,9 +1,9 @@
 -- The item is changed in the child that has it.
-use Rattle.std.proofs.Common.{◌≡◌, ◌+◌, ◌-◌, ◌<◌, ◌∙◌, ℕ, ap, arith, length, refl, rules, set, sym, take}
+use Rattle.std.proofs.Common.{◌≡◌, ◌+◌, ◌-◌, ◌<◌, ◌∙◌, ℕ, ap, arith, length, refl, rules, set, subst, sym, take}
 use Rattle.std.specs.Prelude.{IsOk, slice_get}
 use Rattle.std.proofs.lemmas.Option.{slice_get_read}
 use Rattle.sequence.specs.declared.tree.Node.TheVariants.{Branch}
-use Rattle.sequence.specs.Nodes.{items_in}
+use Rattle.sequence.specs.Nodes.{AreChildren, items_in}
 use Rattle.sequence.proofs.Changed.{changed_under, item_under}
 use Rattle.sequence.proofs.Copied.{IsMade, made}
 use Rattle.sequence.proofs.tree.Tree.+modify.Given as given
@@ -11,15 +11,16 @@ use Rattle.sequence.proofs.tree.Tree.+modify.Goals as goal
 use Rattle.sequence.proofs.tree.Tree.+modify.Goals.{In-Branch}
 
 -- the branch is whole, and has what the tree has
-branch : (g : given.Over) (t : ℕ) (c : In-Branch g t) → IsMade c.args.self.now (Branch c.in-Branch.children)
+branch : (g : given.Over) (t : ℕ) (c : In-Branch g t)
+    → IsMade g.L.Label.label_of c.args.self.now (Branch c.in-Branch.children)
 branch g t c =
-    rw c.in-Branch.is at (made c.args.self.now c.self.inside.root c.in_ok-items.field-0.now c.self.invariant
-    c.self.view_is c.in_ok-items.ensures.value c.requires.copies)
+    rw c.in-Branch.is at (made g.L.Label.label_of c.args.self.now c.self.inside.root c.in_ok-items.field-0.now
+    c.self.invariant c.self.view_is c.in_ok-items.ensures.value (c.requires.copies, c.requires.labels))
 
 pub returns-in-Leaf-clause-changed : goal.returns-in-Leaf-clause-changed
 returns-in-Leaf-clause-changed g t c =
-    let node = rw c.in-Leaf.is at (made c.args.self.now c.self.inside.root c.in_ok-items.field-0.now c.self.invariant
-    c.self.view_is c.in_ok-items.ensures.value c.requires.copies) in
+    let node = rw c.in-Leaf.is at (made g.L.Label.label_of c.args.self.now c.self.inside.root c.in_ok-items.field-0.now
+    c.self.invariant c.self.view_is c.in_ok-items.ensures.value (c.requires.copies, c.requires.labels)) in
     let ok : IsOk c.make_mut.result = search rules in
     let es = c.in-Leaf.items.items in
     let at = c.args.index in
@@ -34,6 +35,11 @@ returns-in-Leaf-clause-changed g t c =
       called = record { shown = _; shows = refl; left = _; met = c.change.ensures; leaves = refl };
       items = ap (λ es. set es at after) same;
     })
+
+pub spot_of-spot-requires-clause-children : goal.spot_of-spot-requires-clause-children
+spot_of-spot-requires-clause-children g t c =
+    let node = branch g t (goal.at.spot_of-spot-requires-clause-children g t c).In-Branch in
+    subst (AreChildren g.L.Label.label_of) (sym c.deref.ensures.value) node.whole
 
 pub modify-requires : goal.modify-requires
 modify-requires g t c κs within =
@@ -61,7 +67,19 @@ modify-requires g t c κs within =
         search rules,
         (
           search rules,
-          (search rules, (c.requires.copies, (there, λ x e. c.requires.callable x (same ∙ e)))),
+          (
+            search rules,
+            (
+              search rules,
+              (
+                c.requires.copies,
+                (
+                  c.requires.labels,
+                  (there, (λ x e. c.requires.callable x (same ∙ e), λ x e. c.requires.keeps x (same ∙ e))),
+                ),
+              ),
+            ),
+          ),
         ),
       ),
     )
@@ -80,9 +98,12 @@ invariant_of-self-2 g t c =
     omega (arith, leads.inside d, inner, ap (λ child. length child.tree.0) is) in
     let place : c.args.index ≡ length (items_in (take spot.child cs)) + (spot.place - 1) =
     omega (arith, leads.is, inner) in
+    let same = item_under c.args.self.now cs spot.child d node.whole node.same leads.within is c.args.index
+    (spot.place - 1) place there in
     rw c.make_mut.follows.holds ((changed_under c.args.self.now cs spot.child d node.whole node.same leads.within is
     c.args.index (spot.place - 1) place there g.F.FnOnce c.args.change c.modify.new.self c.modify.result
-    c.modify.ensures.changed c.modify.ensures.height c.modify.ensures.refused).whole)
+    c.modify.ensures.changed c.modify.ensures.height c.modify.ensures.refused
+    (λ x e. c.requires.keeps x (same ∙ e))).whole)
 
 pub returns : goal.returns
 returns g t c =
@@ -98,7 +119,9 @@ returns g t c =
     omega (arith, leads.inside d, inner, ap (λ child. length child.tree.0) is) in
     let place : c.args.index ≡ length (items_in (take spot.child cs)) + (spot.place - 1) =
     omega (arith, leads.is, inner) in
+    let same = item_under c.args.self.now cs spot.child d node.whole node.same leads.within is c.args.index
+    (spot.place - 1) place there in
     let done = changed_under c.args.self.now cs spot.child d node.whole node.same leads.within is c.args.index
     (spot.place - 1) place there g.F.FnOnce c.args.change c.modify.new.self c.modify.result c.modify.ensures.changed
-    c.modify.ensures.height c.modify.ensures.refused in
+    c.modify.ensures.height c.modify.ensures.refused (λ x e. c.requires.keeps x (same ∙ e)) in
     rw c.make_mut.follows.holds (record { changed = done.changed; height = done.height; refused = done.refused })

@@ -9,7 +9,7 @@ invariant-down g l = record {
   part : IsPart (seen l.node).0 l.start l.self.0;
   from : l.start ≤ l.index;
   to : l.index < l.start + length (seen l.node).0;
-  whole : IsNode l.node;
+  whole : IsNode g.L.Label.label_of l.node;
 }
 
 abbrev pub decreases-down : goal.decreases-down

@@ -5,7 +5,7 @@ use Rattle.sequence.proofs.tree.Tree.of_items.Given as goal
 -- a node with all items
 abbrev pub invariant-up : goal.invariant-up
 invariant-up g l = record {
-  node : IsNode l.node;
+  node : IsNode g.L.Label.label_of l.node;
   items : (seen l.node).0 ≡ l.fn.items.items;
 }
 

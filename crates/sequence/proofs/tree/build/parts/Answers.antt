@@ -1,5 +1,4 @@
 use Rattle.std.proofs.Common.{◌≡◌, ◌+◌, ◌∙◌, ◌∷◌, ◌++◌, [], ap, arith, length, length-append, reverse, subst, sym}
-use Rattle.sequence.specs.declared.tree.Child.{Child}
 use Rattle.sequence.specs.Nodes.{AreParts, IsChild, seen}
 use Rattle.sequence.proofs.Built.{IsBefore, parts_all, parts_more}
 use Rattle.sequence.proofs.Halves.{child_is}
@@ -10,16 +9,19 @@ pub returns : goal.returns
 returns g c =
     let tree = seen c.args.node in
     let here = c.off.invariant in
-    let child : Child g.row.T.Denot = record { len = c.off.len; tree = c.in_ok-tree.tree } in
+    let child = c.in_ok-into_child.field-0 in
     let same : child.tree ≡ seen c.off.node =
-    c.in_ok-tree.ensures ∙ c.fit.ensures.same ∙ rw c.in_default.is at c.in_ok-child.ensures.whole in
+    c.in_ok-into_child.ensures.tree ∙ c.in_ok-tree.ensures ∙ c.fit.ensures.same
+    ∙ rw c.in_default.is at c.in_ok-child.ensures.whole in
     let level : IsChild (tree.1 + 1) child =
-    subst (λ h. IsChild (h + 1) child) here.height (child_is (seen c.off.node) child same here.len here.wide) in
+    subst (λ h. IsChild (h + 1) child) here.height
+    (child_is (seen c.off.node) child same (c.in_ok-into_child.ensures.len ∙ here.len) here.wide) in
     let items : c.reverse.new.self.items ≡ reverse (c.off.children.items ++ child ∷ []) =
     c.reverse.ensures.items ∙ ap (λ cs. reverse cs) c.in_ok-push-2.ensures.items in
-    subst (AreParts tree) (sym items)
-    (parts_all tree _ (list_node c.args.node c.requires.node)
-    (parts_more _ _ _ [] c.off.children.items child here.before level (ap (λ t. t.0) same)))
+    subst (AreParts g.L.Label.label_of tree) (sym items)
+    (parts_all tree _ (list_node g.L.Label.label_of c.args.node c.requires.node)
+    (parts_more _ _ _ [] c.off.children.items child here.before level c.in_ok-into_child.ensures.label
+    (ap (λ t. t.0) same)))
 
 pub off-preserved : goal.off-preserved
 off-preserved g c =
@@ -35,6 +37,7 @@ off-preserved g c =
       height = halves.height ∙ before.height;
       wide = omega (arith, halves.spare.0);
       len = omega (arith, before.len, halves.child.counted, lengths, more);
-      before = subst (IsBefore (tree.1 + 1) tree.0 (seen c.halve.new.self).0) (sym c.in_ok-push.ensures.items)
-          (parts_more _ _ _ _ c.off.children.items half before.before level halves.items);
+      before = subst (IsBefore g.L.Label.label_of (tree.1 + 1) tree.0 (seen c.halve.new.self).0)
+          (sym c.in_ok-push.ensures.items)
+          (parts_more _ _ _ _ c.off.children.items half before.before level halves.label halves.items);
     }

@@ -25,8 +25,9 @@ returns-in_default g c =
     let one = c.in_default.ensures in
     let two = taken cs _ _ at d e within c.in_ok-reserve.ensures.items c.remove-next.ensures.items
     c.index_mut.ensures.value c.remove-next.ensures.value in
-    let done = subst (λ xs. IsJoined cs at d e are within two.first two.second new one.child one.joined (set xs at new))
-    (sym two.left) (joined_is cs at d e are within two.first two.second new one.child one.joined) in
+    let done = subst (λ xs. IsJoined cs at d e are within two.first two.second new one.child one.joined one.label
+    (set xs at new))
+    (sym two.left) (joined_is cs at d e are within two.first two.second new one.child one.joined one.label) in
     record { same = done.same; first = done.first; second = done.second; spare = done.spare }
 
 pub returns-clause-same : goal.returns-clause-same
@@ -40,4 +41,4 @@ returns-clause-same g c =
     let same = c.in-Ok.ensures.items ∙ ap (λ xs. insert (set xs at c.join.new.self) (at + 1) c.in-Err.next) two.left
     ∙ back cs at d e c.join.new.self c.in-Err.next c.requires.within (c.in-Err.ensures.same ∙ two.first)
     (c.in-Err.ensures.refused ∙ two.second) in
-    subst (StandFor cs) (sym same) (stand_itself cs c.requires.children)
+    subst (StandFor g.L.Label.label_of cs) (sym same) (stand_itself cs c.requires.children)

@@ -7,14 +7,15 @@ use Rattle.sequence.proofs.tree.split.half_of_branch.Given as given
 use Rattle.sequence.proofs.tree.split.half_of_branch.Goals.{In_ok-tail}
 
 -- the second half are the children of a node
-tail_are : (g : given.Over) (c : In_ok-tail g) → AreChildren c.in_ok-tail.tail.items
+tail_are : (g : given.Over) (c : In_ok-tail g) → AreChildren g.L.Label.label_of c.in_ok-tail.tail.items
 tail_are g c =
-    subst AreChildren (sym c.in_ok-tail.ensures.tail)
+    subst (AreChildren g.L.Label.label_of) (sym c.in_ok-tail.ensures.tail)
     (children_drop c.args.children.now.items c.args.keep c.requires.children (omega (arith, c.requires.high)))
 
 pub count-requires : goal.count-requires
 count-requires g c =
-    let are = subst AreChildren (sym c.deref.ensures.value) (tail_are g (goal.at.count-requires g c).In_ok-tail) in
+    let are = subst (AreChildren g.L.Label.label_of) (sym c.deref.ensures.value)
+    (tail_are g (goal.at.count-requires g c).In_ok-tail) in
     record { each = λ k d h. (are.each k d h).counted; room = are.list.room }
 
 pub invariant_of-result : goal.invariant_of-result
@@ -30,12 +31,14 @@ returns g c =
     c.count.ensures ∙ ap (λ xs. length (items_in xs)) (c.deref.ensures.value ∙ tail) in
     let is = ap (λ node. seen node) (c.shareable.ensures ∙ c.write.ensures)
     ∙ ap (λ xs. (items_in xs, height_in xs)) tail in
-    let right : Child g.row.T.Denot = record { len = c.count.result; tree = seen c.shareable.result } in
+    let label = c.requires.labels _ _ c.in_ok-label.ensures.cases ∙ ap (λ child. child.label) c.index.ensures in
+    let right : Child g.row.T.Denot g.row.L.Denot =
+    record { label = c.in_ok-label.label; len = c.count.result; tree = seen c.shareable.result } in
     record {
-      children = subst AreChildren (sym c.in_ok-tail.ensures.items)
+      children = subst (AreChildren g.L.Label.label_of) (sym c.in_ok-tail.ensures.items)
           (children_take cs n c.requires.children (omega (arith, c.requires.low)) (omega (arith, c.requires.high)));
-      halves = subst (λ xs. AreHalves (items_in cs, height_in cs) (items_in xs, height_in xs) right)
+      halves = subst (λ xs. AreHalves g.L.Label.label_of (items_in cs, height_in cs) (items_in xs, height_in xs) right)
           (sym c.in_ok-tail.ensures.items)
-          (branches_are cs n right c.requires.children c.requires.low c.requires.high len is);
+          (branches_are cs n c.index.result.now right c.requires.children c.requires.low c.requires.high len is label);
       refused = tt;
     }

@@ -18,11 +18,13 @@ returns g c =
     let tail = c.in_ok-tail.ensures.tail in
     let len : c.len.result ≡ length (drop n es) = omega (arith, c.len.ensures, ap (λ xs. length xs) tail) in
     let is = ap (λ node. seen node) (c.shareable.ensures ∙ c.write.ensures) ∙ ap (λ xs. (xs, 0)) tail in
-    let right : Child g.row.T.Denot = record { len = c.len.result; tree = seen c.shareable.result } in
+    let label = c.in_ok-label.ensures c.requires.labels ∙ ap (λ e. g.L.Label.label_of e) c.index.ensures in
+    let right : Child g.row.T.Denot g.row.L.Denot =
+    record { label = c.in_ok-label.label; len = c.len.result; tree = seen c.shareable.result } in
     record {
       list = subst IsList (sym c.in_ok-tail.ensures.items)
           (list_take es n c.requires.list (omega (arith, c.requires.low)) (omega (arith, c.requires.high)));
-      halves = subst (λ xs. AreHalves (es, 0) (xs, 0) right) (sym c.in_ok-tail.ensures.items)
-          (leaves_are es n right c.requires.low c.requires.high len is);
+      halves = subst (λ xs. AreHalves g.L.Label.label_of (es, 0) (xs, 0) right) (sym c.in_ok-tail.ensures.items)
+          (leaves_are es n c.index.result.now right c.requires.low c.requires.high len is label);
       refused = tt;
     }

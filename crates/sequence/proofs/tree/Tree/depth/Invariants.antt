@@ -1,12 +1,12 @@
 use Rattle.std.proofs.Common.{◌≡◌, ◌+◌, ◌<◌}
 use Rattle.sequence.specs.Nodes.{IsNode, seen}
-use Rattle.sequence.proofs.tree.Tree.height.Given as goal
+use Rattle.sequence.proofs.tree.Tree.depth.Given as goal
 
 -- the nodes that were passed, and those that are left
 abbrev pub invariant-down : goal.invariant-down
 invariant-down g l = record {
-  whole : IsNode l.node;
-  nodes : l.height + (seen l.node).1 ≡ l.self.1;
+  whole : IsNode g.L.Label.label_of l.node;
+  nodes : l.depth + (seen l.node).1 ≡ l.self.1 + 1;
   low : l.self.1 < 65;
 }
 

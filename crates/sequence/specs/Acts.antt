@@ -1,0 +1,75 @@
+-- What is done to a list where a cut is.
+use Rattle.std.specs.Prelude.{◌≡◌, ℕ, zero, suc, ◌+◌, ◌-◌, ◌≤◌, Bool, true, false, None, Some, Option, List, [], ◌∷◌}
+use Rattle.std.specs.Prelude.{length, slice_get, slice_set}
+use Rattle.std.specs.List.{insert, remove}
+use Rattle.std.specs.Int.{from_bool}
+use Rattle.sequence.specs.declared.tree.act.Acted.{Acted}
+use Rattle.sequence.specs.Cuts.{IsCut}
+use Rattle.sequence.specs.Spots.{spliced}
+
+-- the last of so many first items
+abbrev pub last_of : {T : Type 0} → ℕ → List T → Option T
+last_of zero es = None
+last_of (suc at) es = slice_get es at
+
+-- some of the last items before the cut went, and others came, as that act does it at such a last item
+pub record IsActed {T R : Type 0} (test : T → Bool) (does : R → Option T → ℕ → List T → Type 0) (loses : Bool)
+    (old new : List T) (acted : Acted R) : Type 0 where
+  pub at : ℕ
+  pub cut : IsCut test old at
+  pub more : List T
+  pub fits : acted.gone ≤ at
+  pub done : does acted.answer (last_of at old) acted.gone more
+  pub come : acted.come ≡ length more
+  pub most : acted.come ≤ 1
+  pub lost : acted.gone ≤ acted.come + from_bool loses
+  pub items : new ≡ spliced (at - acted.gone) acted.gone more old
+
+module _ {T : Type 0} (sought : T → Bool) where
+  -- the last item before the cut is not the one that is sought
+  abbrev pub IsMissed : Option T → Type 0
+  IsMissed last = (item : T) → last ≡ Some item → sought item ≡ false
+
+  -- the sought item goes, and is the answer
+  abbrev pub takes : Option T → Option T → ℕ → List T → Type 0
+  takes None last gone more = IsMissed last × ((gone ≡ 0) × (more ≡ []))
+  takes (Some item) last gone more = (last ≡ Some item) × ((sought item ≡ true) × ((gone ≡ 1) × (more ≡ [])))
+
+  -- an item comes, or another in place of the sought one
+  abbrev pub puts : {R : Type 0} → T → (T → T) → (T → R) → Option R → Option T → ℕ → List T → Type 0
+  puts made replaced old None last gone more = IsMissed last × ((gone ≡ 0) × (more ≡ made ∷ []))
+  puts made replaced old (Some value) last gone more = (item : T) × ((last ≡ Some item) × ((sought item ≡ true)
+      × ((value ≡ old item) × ((gone ≡ 1) × (more ≡ replaced item ∷ [])))))
+
+  module _ (test : T → Bool) where
+    -- the sought item is not there
+    pub record IsAbsent (es : List T) : Type 0 where
+      pub at : ℕ
+      pub cut : IsCut test es at
+      pub missed : IsMissed (last_of at es)
+
+    -- it was, and was taken out
+    pub record IsTaken (old new : List T) (one : T) : Type 0 where
+      pub at : ℕ
+      pub cut : IsCut test old (at + 1)
+      pub item : slice_get old at ≡ Some one
+      pub found : sought one ≡ true
+      pub items : new ≡ remove old at
+
+    -- it was not there, and this one was put in behind the cut
+    pub record IsAdded (old new : List T) (one : T) : Type 0 where
+      pub at : ℕ
+      pub cut : IsCut test old at
+      pub missed : IsMissed (last_of at old)
+      pub items : new ≡ insert old at one
+
+    -- it was there, and became another
+    pub record IsReplaced {R : Type 0} (replaced : T → T) (put_out : T → R) (old new : List T) (answer : R)
+        : Type 0 where
+      pub at : ℕ
+      pub before : T
+      pub cut : IsCut test old (at + 1)
+      pub item : slice_get old at ≡ Some before
+      pub found : sought before ≡ true
+      pub value : answer ≡ put_out before
+      pub items : new ≡ slice_set old at (replaced before)

@@ -1,0 +1,30 @@
+//! What tells the first items of a list from the others.
+ghost use Rattle.std.specs.Prelude.{◌≡◌, Bool};
+
+use crate::label::Label;
+
+/// Tells the first items of a list from those behind them, by the label of an item alone.
+///
+/// What is asked by a cut requires `HasCut` of the list: that the cut holds of so many first items and of none behind.
+pub trait Cut<T, L: Label<T>>: Copy {
+    // Whether an item of that label is one of the first.
+    ghost is_before: { Self → L → Bool };
+
+    /// Whether the item is before the cut.
+    fn item(&self, item: &T) -> bool
+        ensures { result ≡ is_before self.now (L.label_of item.now) };
+
+    /// Whether an item of that label is before the cut.
+    fn label(&self, label: &L) -> bool
+        ensures { result ≡ is_before self.now label.now };
+}
+
+/// A cut behind an item that is sought: if that is in the list, it is the last one before the cut.
+pub trait Seek<T, L: Label<T>>: Cut<T, L> {
+    // Whether an item of that label is the one.
+    ghost is_sought: { Self → L → Bool };
+
+    /// Whether the item is the one.
+    fn is_sought(&self, item: &T) -> bool
+        ensures { result ≡ is_sought self.now (L.label_of item.now) };
+}

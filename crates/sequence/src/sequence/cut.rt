@@ -1,0 +1,47 @@
+//! Where a cut is.
+ghost use Rattle.std.specs.Prelude.{◌≡◌, ◌+◌, IfNone, IfSome, Some, slice_get};
+ghost use Rattle.sequence.specs.Cuts.{HasCut, IsCut, IsLast};
+
+use crate::cut::Cut;
+use crate::label::Label;
+use crate::sequence::Sequence;
+
+impl<T, L: Label<T>> Sequence<T, L> {
+    /// How many items are before the cut, by one way down.
+    pub fn rank<C: Cut<T, L>>(&self, cut: C) -> usize
+        requires { HasCut (λ e. C.is_before cut (L.label_of e)) self.now }
+        ensures { IsCut (λ e. C.is_before cut (L.label_of e)) self.now result }
+    {
+        // There are fewer than a number can count.
+        let _ = self.len();
+        match self.find(cut) {
+            None => 0,
+            Some((at, _)) => at + 1,
+        }
+    }
+
+    /// The last item before the cut and its number, by one way down.
+    pub fn find<C: Cut<T, L>>(&self, cut: C) -> Option<(usize, &T)>
+        requires { HasCut (λ e. C.is_before cut (L.label_of e)) self.now }
+        ensures none { IfNone result (IsCut (λ e. C.is_before cut (L.label_of e)) self.now 0) }
+        ensures number { IfSome result (λ found. IsCut (λ e. C.is_before cut (L.label_of e)) self.now (found.0 + 1)) }
+        ensures item { IfSome result (λ found. slice_get self.now found.0 ≡ Some found.1.now) }
+    {
+        match &self.root {
+            None => None,
+            Some(tree) => tree.find(cut),
+        }
+    }
+
+    /// The last item before the cut, by one way down that counts no items.
+    pub fn last_before<C: Cut<T, L>>(&self, cut: C) -> Option<&T>
+        requires { HasCut (λ e. C.is_before cut (L.label_of e)) self.now }
+        ensures none { IfNone result (IsCut (λ e. C.is_before cut (L.label_of e)) self.now 0) }
+        ensures some { IfSome result (λ item. IsLast (λ e. C.is_before cut (L.label_of e)) self.now item.now) }
+    {
+        match &self.root {
+            None => None,
+            Some(tree) => tree.last_before(cut),
+        }
+    }
+}

@@ -1,0 +1,84 @@
+//! How what is put in comes into a leaf.
+ghost use Rattle.std.specs.Prelude.{◌≡◌, Bool, IfErr, IfOk, IsTrue, OnErr, false};
+ghost use Rattle.sequence.specs.Acts.{IsActed, IsMissed, last_of, puts};
+ghost use Rattle.sequence.specs.Cuts.{IsCut};
+ghost use Rattle.sequence.specs.Nodes.{first_label};
+
+use crate::label::Label;
+use crate::put::Put;
+use crate::tree::act::{Act, Acted, done};
+use crate::tree::copies::LEAF;
+
+// Puts that in.
+#[derive(Drop)]
+pub(crate) struct PutIn<P>(pub(crate) P);
+
+impl<T: Drop, L: Label<T>, P: Put<T, L>> Act<T, L> for PutIn<P> {
+    type Answer = Option<P::Old>;
+
+    ghost is_before = { λ put. P.is_before put.0 };
+
+    ghost does = { λ put. puts (λ e. P.is_sought put.0 (L.label_of e)) (P.made put.0) (P.replaced put.0) P.put_out };
+
+    ghost LOSES = { false };
+
+    const LOSES: bool = false;
+
+    #[inline(always)]
+    fn item(&self, item: &T) -> bool {
+        self.0.item(item)
+    }
+
+    #[inline(always)]
+    fn label(&self, label: &L) -> bool {
+        self.0.label(label)
+    }
+
+    fn act(
+        self,
+        items: &mut Vec<T>,
+        last: Option<usize>,
+        labelled: bool,
+    ) -> Result<Acted<Option<P::Old>>, PutIn<P>> {
+        let at = match last {
+            Some(at) => at,
+            None => return self.add(items, 0, labelled),
+        };
+        if self.0.is_sought(&items[at]) {
+            let old = self.0.replace(&mut items[at]);
+            return Ok(done(Some(old), 1, 1));
+        }
+        self.add(items, at + 1, labelled)
+    }
+}
+
+impl<P> PutIn<P> {
+    // Puts it in as an item of its own.
+    #[inline(always)]
+    fn add<T: Drop, L: Label<T>>(
+        self,
+        items: &mut Vec<T>,
+        place: usize,
+        labelled: bool,
+    ) -> Result<Acted<Option<P::Old>>, PutIn<P>>
+    where
+        P: Put<T, L>,
+        requires cut { IsCut (λ e. P.is_before self.0 (L.label_of e)) items.old.items place }
+        requires missed { IsMissed (λ e. P.is_sought self.0 (L.label_of e)) (last_of place items.old.items) }
+        ensures done { IfOk result (λ acted. IsActed (λ e. P.is_before self.0 (L.label_of e))
+            (puts (λ e. P.is_sought self.0 (L.label_of e)) (P.made self.0) (P.replaced self.0) P.put_out) false
+            items.old.items items.new.items acted) }
+        ensures first { IsTrue labelled
+            → first_label L.label_of items.new.items ≡ first_label L.label_of items.old.items }
+        ensures blocked { OnErr result (items.new.items ≡ items.old.items) }
+        ensures back { IfErr result (λ put. put ≡ self) }
+    {
+        if items.len() >= LEAF || labelled && place == 0 || items.reserve(1).is_err() {
+            return Err(self);
+        }
+        let Ok(()) = items.insert(place, self.0.into_item()) else {
+            unreachable!()
+        };
+        Ok(done(None, 0, 1))
+    }
+}

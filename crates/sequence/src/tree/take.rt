@@ -1,0 +1,52 @@
+//! How the last item before a cut is taken out of a leaf.
+ghost use Rattle.std.specs.Prelude.{◌≡◌, Bool, true};
+ghost use Rattle.sequence.specs.Acts.{takes};
+
+use crate::cut::Seek;
+use crate::label::Label;
+use crate::tree::act::{Act, Acted, done};
+
+// Takes the item that the cut seeks.
+#[derive(Drop)]
+pub(crate) struct Take<C>(pub(crate) C);
+
+impl<T: Drop, L: Label<T>, C: Seek<T, L> + Drop> Act<T, L> for Take<C> {
+    type Answer = Option<T>;
+
+    ghost is_before = { λ take. C.is_before take.0 };
+
+    ghost does = { λ take. takes (λ e. C.is_sought take.0 (L.label_of e)) };
+
+    ghost LOSES = { true };
+
+    const LOSES: bool = true;
+
+    #[inline(always)]
+    fn item(&self, item: &T) -> bool {
+        self.0.item(item)
+    }
+
+    #[inline(always)]
+    fn label(&self, label: &L) -> bool {
+        self.0.label(label)
+    }
+
+    fn act(
+        self,
+        items: &mut Vec<T>,
+        last: Option<usize>,
+        labelled: bool,
+    ) -> Result<Acted<Option<T>>, Take<C>> {
+        let at = match last {
+            Some(at) => at,
+            None => return Ok(done(None, 0, 0)),
+        };
+        if !self.0.is_sought(&items[at]) {
+            return Ok(done(None, 0, 0));
+        }
+        if labelled && at == 0 {
+            return Err(self);
+        }
+        Ok(done(Some(items.remove(at)), 1, 0))
+    }
+}

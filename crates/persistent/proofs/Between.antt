@@ -1,5 +1,5 @@
 -- What is asked or changed concerns the entries between those below it and those above it.
-use Rattle.std.proofs.Common.{◌≡◌, ◌+◌, ◌≤◌, suc, List, [], ◌∷◌, ◌++◌, length, cond, refl, ap, ◌∙◌, arith}
+use Rattle.std.proofs.Common.{◌≡◌, ◌+◌, suc, List, [], ◌∷◌, ◌++◌, length, cond, refl, ap, ◌∙◌, arith}
 use Rattle.std.specs.Prelude.{None, Some}
 use Rattle.std.specs.declared.cmp.Ordering.{Ordering}
 use Rattle.std.specs.declared.cmp.Ordering.TheVariants.{Less, Equal, Greater}
@@ -68,6 +68,11 @@ module _ {K V : Type 0} (order : K → Ordering) where
   unfolding without_by
   without_same l e r is h = without_between l (e ∷ []) r is ∙ rw h refl
 
+  -- nothing goes from between the two
+  pub without_new : (l r : List (K × V)) → IsBetween order l r → without_by order (l ++ r) ≡ l ++ r
+  unfolding without_by
+  without_new l r is = without_between l [] r is
+
   -- entries below what is asked count
   rank_below : (l m : List (K × V)) → AreBelow order l → rank_by order (l ++ m) ≡ length l + rank_by order m
   unfolding rank_by
@@ -98,17 +103,6 @@ module _ {K V : Type 0} (order : K → Ordering) where
   unfolding rank_by
   rank_same l e r is h =
       let none : rank_by order (e ∷ []) ≡ 0 = rw h refl in omega (arith, rank_between l (e ∷ []) r is, none)
-
-  -- no rank is above the number of entries
-  pub rank_most : (es : List (K × V)) → rank_by order es ≤ length es
-  unfolding rank_by
-  rank_most [] = omega arith
-  rank_most (x ∷ es) =
-      elim (order x.0) as (λ o. match_ordering o 0 0 (suc (rank_by order es)) ≤ suc (length es)) [
-        | Less ↦ omega arith
-        | Equal ↦ omega arith
-        | Greater ↦ omega (arith, rank_most es)
-      ]
 
 module _ {K V : Type 0} (cmp : K → K → Ordering) (q : K) where
   -- a new entry goes behind those below the key
@@ -149,8 +143,3 @@ module _ {K V : Type 0} (cmp : K → K → Ordering) (q : K) where
       → cmp q e.0 ≡ Equal → with_entry cmp q v (l ++ e ∷ r) ≡ l ++ (e.0, v) ∷ r
   unfolding with_entry
   with_same v l e r is h = with_between v l (e ∷ []) r is ∙ rw h refl
-
-  -- the first entry of a map
-  pub with_none : (v : V) → with_entry cmp q v [] ≡ (q, v) ∷ []
-  unfolding with_entry
-  with_none v = refl

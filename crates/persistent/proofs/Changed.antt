@@ -1,104 +1,119 @@
--- A branch after the value under a key was changed in one of its children.
-use Rattle.std.proofs.Common.{◌≡◌, ◌+◌, ◌<◌, ◌≤◌, ◌^◌, ℕ, List, ◌++◌, length, take, drop, get_or, set, ap, sym, ◌∙◌}
-use Rattle.std.proofs.Common.{subst, arith, refl, true}
-use Rattle.std.specs.Prelude.{Some, Result, Ok, Err, IfOk, OnErr, is_some}
+-- A map after the list changed the entry of a number.
+use Rattle.std.proofs.Common.{◌≡◌, ℕ, List, set, ap, sym, ◌∙◌, subst, cond, refl}
+use Rattle.std.specs.Prelude.{Result, Ok, Err, Option, None, Some, IfNone, IfOk, IfSome, IsOk, OnErr, OnOk, slice_get}
 use Rattle.std.specs.Borrow.{MutBor}
-use Rattle.std.specs.Fn.{Once}
-use Rattle.std.specs.declared.cmp.Ordering.{Ordering}
+use Rattle.std.specs.Fn.{FnOnceReturnsAtMut, Once}
+use Rattle.std.specs.Ordering.{is_eq}
 use Rattle.std.specs.Cmp.{IsTotalOrder}
+use Rattle.std.specs.declared.cmp.Ordering.{Ordering}
+use Rattle.std.proofs.lemmas.Option.{none-some, same_Some}
+use Rattle.sequence.specs.Changes.{ChangesItem}
 use Rattle.persistent.specs.Changes.{ChangesValue}
-use Rattle.persistent.specs.declared.tree.Child.{Child}
 use Rattle.persistent.specs.Maps.{IsRising, lookup, with_entry}
-use Rattle.persistent.specs.Nodes.{AreChildren, IsChild, IsMap, IsUnder, entries_in, first_key, height_in}
-use Rattle.persistent.proofs.Children.{entries_split}
-use Rattle.persistent.proofs.Inserted.{child_here, children_set, entries_with, height_set, stands_in}
+use Rattle.persistent.specs.Places.{IsFound}
 use Rattle.persistent.proofs.Lookup.{lookup_with}
-use Rattle.persistent.proofs.Order.{rising_front, rising_back}
-use Rattle.persistent.proofs.Present.{first_changed, length_changed, map_changed}
-use Rattle.persistent.proofs.Under.{lookup_under}
+use Rattle.persistent.proofs.Rising.{rising_with}
+use Rattle.persistent.proofs.Under.{found_there, with_found}
 
-module _ {K V : Type 0} (cmp : K → K → Ordering) (total : IsTotalOrder cmp) (q : K) where
-  -- the entries of one child rise
-  rising_child : (cs : List (Child K V)) (i : ℕ) (d : Child K V) → AreChildren cmp cs → i < length cs
-      → IsRising cmp (get_or cs i d).tree.0
-  rising_child cs i d are h =
-      rising_front cmp (get_or cs i d).tree.0 (entries_in (drop (i + 1) cs))
-      (rising_back cmp (entries_in (take i cs)) ((get_or cs i d).tree.0 ++ entries_in (drop (i + 1) cs))
-      (subst (IsRising cmp) (entries_split cs i d h) are.map.rising))
+module _ {K V : Type 0} (cmp : K → K → Ordering) (q : K) (es new : List (K × V)) where
+  -- what a map answers whose value under the key is replaced by v
+  pub record IsReplaced {E : Type 0} (v : V) (r : Result (Option V) E) : Type 0 where
+    pub rising : IsRising cmp new
+    pub value : IfOk r (λ old. old ≡ lookup cmp q es)
+    pub entries : OnOk r (new ≡ with_entry cmp q v es)
+    pub changes : OnOk r ((k : K) → lookup cmp k new ≡ cond (is_eq (cmp k q)) (Some v) (lookup cmp k es))
 
-  -- the child keeps its key and the number of its entries
-  child_changed : (c new : Child K V) (h : ℕ) (v : V) → IsRising cmp c.tree.0 → is_some (lookup cmp q c.tree.0) ≡ true
-      → IsChild h c → new.key ≡ c.key → new.len ≡ c.len → new.tree.0 ≡ with_entry cmp q v c.tree.0
-      → new.tree.1 ≡ c.tree.1 → IsChild h new
-  child_changed c new h v rising found child key len is level =
-      let same = ap (length {A = K × V}) is ∙ length_changed cmp total q v c.tree.0 rising found in
-      record {
-        first = ap (first_key {K = K} {V = V}) is ∙ first_changed cmp total q v c.tree.0 rising found ∙ child.first
-            ∙ ap (λ (k : K). Some k) (sym key);
-        counted = omega (arith, len, child.counted, same);
-        level = ap (λ (n : ℕ). n + 1) level ∙ child.level;
-        wide = subst (λ (n : ℕ). 2 ^ n ≤ length new.tree.0) (sym level) (omega (arith, child.wide, same));
-      }
+  -- and one in which it is changed by a call
+  pub record IsModified {F A E : Type 0} (g : Once F (MutBor V × Unit {0}) (A × (MutBor V × Unit {0}))) (f : F)
+      (r : Result (Option A) E) : Type 0 where
+    pub rising : IsRising cmp new
+    pub absent : IfOk r (λ answer. IfNone answer ((lookup cmp q es ≡ None) × (new ≡ es)))
+    pub changed : IfOk r (λ answer. IfSome answer (ChangesValue g f cmp q es new))
+    pub none : lookup cmp q es ≡ None → IsOk r
 
-  module _ {F R : Type 0} (g : Once F (MutBor V × Unit {0}) (R × (MutBor V × Unit {0}))) (change : F)
-      (tree : List (K × V) × ℕ) (cs : List (Child K V)) (i : ℕ) (d : Child K V) (are : AreChildren cmp cs)
-      (same : ◌≡◌ {A = List (K × V) × ℕ} (entries_in cs, height_in cs) tree) (under : IsUnder (cmp q) cs i)
-      (is : d ≡ get_or cs i d) where
-    -- what stands under the key stands there in the child
-    pub lookup_tree : lookup cmp q tree.0 ≡ lookup cmp q d.tree.0
-    lookup_tree =
-        ap (λ (t : List (K × V) × ℕ). lookup cmp q t.0) (sym same) ∙ lookup_under (cmp q) cs i d under is
+module _ {K V : Type 0} (cmp : K → K → Ordering) (total : IsTotalOrder cmp) (q : K) (es new : List (K × V)) (i : ℕ)
+    (there : IsFound (cmp q) es i) (rises : IsRising cmp es) where
+  value : lookup cmp q es ≡ Some there.entry.1
+  value = found_there (cmp q) es i there (λ e. e.1)
 
-    -- the node after the call on that child, whose answer is r
-    pub record IsChanged {E : Type 0} (new : List (Child K V)) (r : Result R E) : Type 0 where
-      pub whole : AreChildren cmp new
-      pub changed : IfOk r (ChangesValue g change cmp q tree.0 (entries_in new))
-      pub height : height_in new ≡ tree.1
-      pub refused : OnErr r (entries_in new ≡ tree.0)
+  -- the entry is there
+  not_none : slice_get es i ≡ None → ⊥
+  not_none none = none-some there.entry (sym none ∙ there.is)
 
-    -- the value was changed in the child, or the call was refused
-    pub changed_under : {E : Type 0} (new : List (K × V) × ℕ) (r : Result R E)
-        → IfOk r (ChangesValue g change cmp q d.tree.0 new.0) → new.1 ≡ d.tree.1 → OnErr r (new.0 ≡ d.tree.0)
-        → IsChanged (set cs i (record d { tree = new })) r
-    changed_under new (Ok r) changed level refused =
-        let c = record d { tree = new } in
-        let here = child_here cmp cs i d are under.within is in
-        let rising = subst (λ (c : Child K V). IsRising cmp c.tree.0) (sym is) (rising_child cs i d are under.within) in
-        let child = child_changed d c (d.tree.1 + 1) changed.after rising (ap is_some changed.found) here refl refl
-        changed.entries level in
-        let put : entries_in (set cs i c) ≡ with_entry cmp q changed.after (entries_in cs) =
-        entries_with cmp q changed.after cs i d c under
-        (changed.entries ∙ ap (λ (c : Child K V). with_entry cmp q changed.after c.tree.0) is) in
-        let found = lookup_under (cmp q) cs i d under is ∙ changed.found in
-        let map = map_changed cmp total q changed.after (entries_in cs) are.map (ap is_some found) in
-        let entries = put ∙ ap (λ (t : List (K × V) × ℕ). with_entry cmp q changed.after t.0) same in
+  -- what each key has after the value under one was written
+  changes_with : (v : V) → new ≡ with_entry cmp q v es → (k : K)
+      → lookup cmp k new ≡ cond (is_eq (cmp k q)) (Some v) (lookup cmp k es)
+  changes_with v entries k = ap (lookup cmp k) entries ∙ lookup_with cmp total k q v es
+
+  module _ {F A : Type 0} (g : Once F (MutBor (K × V) × Unit {0}) (A × (MutBor (K × V) × Unit {0}))) (f : F) (a : A)
+      (changed : ChangesItem g f i es new a) where
+    same : there.entry ≡ changed.before
+    same = same_Some there.entry changed.before (sym there.is ∙ changed.found)
+
+    -- the value before was that of the key
+    value_was : lookup cmp q es ≡ Some changed.before.1
+    value_was = value ∙ ap (λ (e : K × V). Some e.1) same
+
+    -- if the key of the entry stays, the value is written under it
+    value_is : changed.after.0 ≡ changed.before.0 → new ≡ with_entry cmp q changed.after.1 es
+    value_is stays =
+        changed.items
+        ∙ ap (λ (k : K). set es i (k, changed.after.1)) (stays ∙ ap (λ (e : K × V). e.0) (sym same))
+        ∙ sym (with_found cmp q es i there changed.after.1)
+
+  module _ {F E : Type 0} (g : Once F (MutBor (K × V) × Unit {0}) (V × (MutBor (K × V) × Unit {0}))) (f : F) (v : V)
+      (writes : (before after : K × V) (a : V) → FnOnceReturnsAtMut g f before a after
+      → (a ≡ before.1) × (after ≡ (before.0, v))) where
+    -- a call that puts v in the place of a value
+    pub replaced : (r : Result (Option V) E) → IfOk r (λ a. IfNone a ((slice_get es i ≡ None) × (new ≡ es)))
+        → IfOk r (λ a. IfSome a (ChangesItem g f i es new)) → OnErr r (new ≡ es) → IsReplaced cmp q es new v r
+    replaced (Ok None) absent changed refused = absurd (not_none absent.0)
+    replaced (Ok (Some a)) absent changed refused =
+        let done = writes changed.before changed.after a changed.called in
+        let entries : new ≡ with_entry cmp q v es =
+        value_is g f a changed (ap (λ (e : K × V). e.0) done.1)
+        ∙ ap (λ (e : K × V). with_entry cmp q e.1 es) done.1 in
         record {
-          whole = children_set cmp cs i d are under.within is c child (subst (IsMap cmp) (sym put) map);
+          rising = subst (IsRising cmp) (sym entries) (rising_with cmp total q v es rises);
+          value = ap (λ (v : V). Some v) done.0 ∙ sym (value_was g f a changed);
+          entries = entries;
+          changes = changes_with v entries;
+        }
+    replaced (Err e) absent changed refused = record {
+      rising = subst (IsRising cmp) (sym refused) rises;
+      value = tt;
+      entries = tt;
+      changes = tt;
+    }
+
+  module _ {F H A E : Type 0} (g : Once F (MutBor (K × V) × Unit {0}) (A × (MutBor (K × V) × Unit {0}))) (f : F)
+      (h : Once H (MutBor V × Unit {0}) (A × (MutBor V × Unit {0}))) (change : H)
+      (keeps : (before after : K × V) (a : A) → FnOnceReturnsAtMut g f before a after
+      → (after.0 ≡ before.0) × FnOnceReturnsAtMut h change before.1 a after.1) where
+    -- a call that changes the value alone
+    pub modified : (r : Result (Option A) E) → IfOk r (λ a. IfNone a ((slice_get es i ≡ None) × (new ≡ es)))
+        → IfOk r (λ a. IfSome a (ChangesItem g f i es new)) → OnErr r (new ≡ es)
+        → IsModified cmp q es new h change r
+    modified (Ok None) absent changed refused = absurd (not_none absent.0)
+    modified (Ok (Some a)) absent changed refused =
+        let done = keeps changed.before changed.after a changed.called in
+        let entries = value_is g f a changed done.0 in
+        record {
+          rising = subst (IsRising cmp) (sym entries) (rising_with cmp total q changed.after.1 es rises);
+          absent = tt;
           changed = record {
-            before = changed.before;
-            after = changed.after;
-            found = lookup_tree ∙ changed.found;
-            called = changed.called;
+            before = changed.before.1;
+            after = changed.after.1;
+            found = value_was g f a changed;
+            called = done.1;
             entries = entries;
-            changes = λ k. ap (lookup cmp k) entries ∙ lookup_with cmp total k q changed.after tree.0;
+            changes = changes_with changed.after.1 entries;
           };
-          height = height_set cmp cs i d are under.within is c child ∙ ap (λ (t : List (K × V) × ℕ). t.1) same;
-          refused = tt;
+          none = λ none. refl;
         }
-    changed_under new (Err e) changed level refused =
-        let c = record d { tree = new } in
-        let here = child_here cmp cs i d are under.within is in
-        let child : IsChild (d.tree.1 + 1) c = record {
-          first = ap (first_key {K = K} {V = V}) refused ∙ here.first;
-          counted = here.counted ∙ ap (length {A = K × V}) (sym refused);
-          level = ap (λ (n : ℕ). n + 1) level;
-          wide = subst (λ (n : ℕ). 2 ^ n ≤ length new.0) (sym level)
-              (omega (arith, here.wide, ap (length {A = K × V}) refused));
-        } in
-        let done = stands_in cmp cs i d are under.within is c child refused in
-        record {
-          whole = done.children;
-          changed = tt;
-          height = done.height ∙ ap (λ (t : List (K × V) × ℕ). t.1) same;
-          refused = done.entries ∙ ap (λ (t : List (K × V) × ℕ). t.0) same;
-        }
+    modified (Err e) absent changed refused = record {
+      rising = subst (IsRising cmp) (sym refused) rises;
+      absent = tt;
+      changed = tt;
+      none = λ none. absurd (none-some there.entry.1 (sym none ∙ value));
+    }

@@ -121,10 +121,6 @@ module _ {K V : Type 0} (cmp : K → K → Ordering) where
   pub rising_back : (l m : List (K × V)) → IsRising cmp (l ++ m) → IsRising cmp m
   rising_back l m s = from m (rises_back l m (to (l ++ m) s))
 
-  -- one entry rises
-  pub rising_one : (e : K × V) → IsRising cmp (e ∷ [])
-  rising_one e = from (e ∷ []) (tt, tt)
-
   module _ (order : K → Ordering) (form : IsForm cmp order) where
     -- what is below a lower bound is below all
     pub above_more : (k : K) (es : List (K × V)) → order k ≡ Less → AreAbove (cmp k) es → AreAbove order es
@@ -140,11 +136,6 @@ module _ {K V : Type 0} (cmp : K → K → Ordering) where
     pub above_equal : (k : K) (es : List (K × V)) → order k ≡ Equal → AreAbove order es → AreAbove (cmp k) es
     above_equal k [] h a = tt
     above_equal k (e ∷ es) h a = (sym (form.equal k e.0 h) ∙ a.0, above_equal k es h a.1)
-
-    -- what is below the first of entries that rise is below all of them
-    pub above_first : (l : List (K × V)) (e : K × V) (r : List (K × V)) → order e.0 ≡ Less
-        → IsRising cmp (l ++ e ∷ r) → AreAbove order (e ∷ r)
-    above_first l e r h s = (h, above_more e.0 r h (rises_back l (e ∷ r) (to (l ++ e ∷ r) s)).0)
 
     module _ (total : IsTotalOrder cmp) where
       -- the same, of entries whose keys rise

@@ -1,5 +1,5 @@
 -- What a change of a map, or a question about each of its entries, did.
-use Rattle.std.specs.Prelude.{◌≡◌, ℕ, Bool, List, Option, None, Some, cond}
+use Rattle.std.specs.Prelude.{◌≡◌, Bool, List, Option, Some, cond}
 use Rattle.std.specs.Borrow.{Bor, MutBor}
 use Rattle.std.specs.Fn.{Called, Mut, Once, FnOnceReturnsAtMut}
 use Rattle.std.specs.declared.cmp.Ordering.{Ordering}
@@ -15,11 +15,6 @@ module _ {F K V R : Type 0} (g : Once F (MutBor V × Unit {0}) (R × (MutBor V �
     pub called : FnOnceReturnsAtMut g change before r after
     pub entries : new ≡ with_entry cmp key after old
     pub changes : (k : K) → lookup cmp k new ≡ cond (is_eq (cmp k key)) (Some after) (lookup cmp k old)
-
--- how many entries an insertion adds whose key had this
-abbrev pub added : {V : Type 0} → Option V → ℕ
-added None = 1
-added (Some old) = 0
 
 -- a call on what the key had gave an answer, which is what it has now
 pub record Alters {K V : Type 0} (calls : Option V → Option V → Type 0) (cmp : K → K → Ordering) (key : K)

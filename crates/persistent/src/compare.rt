@@ -82,7 +82,7 @@ impl<K: Ord, V: PartialEq> PartialEq for TreeMap<K, V> {
     ghost laws = { lists_per (and_per (on_per (λ e. e.0) K.PartialEq.laws) (on_per (λ e. e.1) V.laws)) };
 
     fn eq(&self, other: &TreeMap<K, V>) -> bool {
-        self.len() == other.len() && self.into_iter().eq(other)
+        self.entries == other.entries
     }
 }
 
@@ -99,7 +99,7 @@ impl<K: Ord, V: PartialOrd> PartialOrd for TreeMap<K, V> {
     ghost laws = { lists_po (then_po (on_po (λ e. e.0) K.PartialOrd.laws) (on_po (λ e. e.1) V.PartialOrd.laws)) };
 
     fn partial_cmp(&self, other: &TreeMap<K, V>) -> Option<Ordering> {
-        self.into_iter().partial_cmp(other)
+        self.entries.partial_cmp(&other.entries)
     }
 }
 
@@ -117,7 +117,7 @@ impl<K: Ord, V: Ord> Ord for TreeMap<K, V> {
         (K.matches_eq e.0 f.0) (V.matches_eq e.1 f.1)) };
 
     fn cmp(&self, other: &TreeMap<K, V>) -> Ordering {
-        self.into_iter().cmp(other)
+        self.entries.cmp(&other.entries)
     }
 }
 
@@ -129,10 +129,7 @@ impl<K: Ord + Hash, V: Hash> Hash for TreeMap<K, V> {
         (on_Alike (λ e. e.1) (record { fed = V.respects_eq })))).fed };
 
     fn hash<H: Hasher>(&self, state: &mut H) {
-        state.write_usize(self.len());
-        for entry in self {
-            entry.hash(state);
-        }
+        self.entries.hash(state);
     }
 }
 

@@ -3,19 +3,21 @@
 #![tactic(auto)]
 
 mod compare;
+mod cut;
+mod entry;
+mod key;
 mod links;
 mod list;
 mod list_iter;
 mod map;
 mod query;
-mod tree;
 
+pub use key::Key;
 pub use list::List;
 pub use list_iter::ListIter;
-pub use map::TreeMap;
 pub use map::diff::Change;
 pub use map::iter::Iter;
 pub use map::keys::Keys;
 pub use map::values::Values;
+pub use map::{Tree, TreeMap};
 pub use query::Query;
-pub use tree::Tree;

@@ -1,16 +1,18 @@
 //! A map in the order of its keys, whose versions share their nodes.
-ghost use Rattle.std.specs.Prelude.{◌≡◌, ◌+◌, ◌^◌, ◌<◌, ◌≤◌, ◌↔◌, [], IsTrue};
+ghost use Rattle.std.specs.Prelude.{◌≡◌, ◌+◌, ◌*◌, ◌^◌, ◌<◌, ◌≤◌, ◌↔◌, [], IsTrue};
 ghost use Rattle.std.specs.Prelude.{◌-◌, None, Some, IfOk, IsOk, OnOk, OnErr, IfNone, IfSome};
 ghost use Rattle.std.specs.Prelude.{cond, is_some, length, option_map, slice_get};
-ghost use Rattle.std.specs.Fn.{FnOnceTakesAtMut};
+ghost use Rattle.std.specs.Fn.{FnOnceReturnsAtMut, FnOnceTakesAtMut};
 ghost use Rattle.std.specs.Option.{ForSome, option_copied};
 ghost use Rattle.std.specs.Ordering.{is_eq};
+ghost use Rattle.sequence.specs.Nodes.{IsLevel, items_under};
 ghost use Rattle.servo_arc.specs.Copies.{CopiesAreEqual};
 ghost use Rattle.persistent.specs.Changes.{ChangesValue};
 ghost use Rattle.persistent.specs.Maps.{IsRising, entry_by, lookup, lookup_by, rank_by, with_entry, without_by};
-ghost use Rattle.persistent.specs.Nodes.{IsDeep, IsLevel, entries_under};
+ghost use Rattle.persistent.specs.Nodes.{IsDeep};
 
 mod alter;
+mod by_number;
 pub(crate) mod diff;
 mod empty;
 mod from_items;
@@ -25,10 +27,16 @@ mod range;
 mod split;
 pub(crate) mod values;
 
+use crate::cut::{Below, UpTo};
+use crate::entry::Entry;
+use crate::key::Key;
 use crate::query::Query;
-use crate::tree::Tree;
+use sequence::Sequence;
 use std::alloc::{AllocError, Global};
 use std::marker::Model;
+
+/// The nodes of a map that is not empty, as `TreeMap::tree` gives them.
+pub type Tree<K, V> = sequence::Tree<(K, V), Key<K>>;
 
 /// A map in the order of its keys. Its clones are versions of it, which share all that no change has touched: what
 /// is changed in one of them is seen in no other.
@@ -36,20 +44,19 @@ use std::marker::Model;
 /// Its drop is as many drops one inside the other as the map is deep.
 #[derive(Drop)]
 pub struct TreeMap<K: Ord, V> {
-    pub(crate) root: Option<Tree<K, V>>,
-    len: usize,
+    pub(crate) entries: Sequence<(K, V), Key<K>>,
 }
 
 impl<K: Ord, V> Model for TreeMap<K, V> {
-    ghost use Rattle.std.specs.Prelude.{◌≡◌, List, length};
+    ghost use Rattle.std.specs.Prelude.{List};
 
     ghost Value = { List (K × V) };
 
-    ghost use Rattle.persistent.specs.Nodes.{entries_under};
+    ghost view = { λ m. m.entries };
 
-    ghost view = { λ m. entries_under m.root };
+    ghost use Rattle.persistent.specs.Maps.{IsRising};
 
-    ghost invariant = { λ m. m.len ≡ length (entries_under m.root) };
+    ghost invariant = { λ m. IsRising K.cmp m.entries };
 }
 
 /// One more version: one raise of a count, with no copy and no memory. It is refused as the `clone` of an `Arc` is.
@@ -57,13 +64,8 @@ impl<K: Ord + Drop, V: Drop> Clone for TreeMap<K, V> {
     ghost is_clone = { λ a b. b ≡ a };
 
     fn clone(&self) -> Result<TreeMap<K, V>, AllocError> {
-        let root = match &self.root {
-            None => None,
-            Some(tree) => Some(tree.clone()?),
-        };
         Ok(TreeMap {
-            root,
-            len: self.len,
+            entries: self.entries.clone()?,
         })
     }
 }
@@ -74,32 +76,25 @@ impl<K: Ord, V> TreeMap<K, V> {
         ensures count { result ≡ length self.now }
         ensures fits { length self.now < 2 ^ 64 }
     {
-        self.len
+        self.entries.len()
     }
 
     /// Whether there are no entries.
     pub fn is_empty(&self) -> bool
         ensures { IsTrue result ↔ (self.now ≡ []) }
     {
-        self.len() == 0
+        self.entries.is_empty()
     }
 
     /// The nodes of the map, which has some if it has an entry. All leaves of them are equally deep.
     #[inline(always)]
     pub fn tree(&self) -> Option<&Tree<K, V>>
-        ensures entries { entries_under (option_copied result) ≡ self.now }
+        ensures entries { items_under (option_copied result) ≡ self.now }
         ensures none { (result ≡ None) ↔ (self.now ≡ []) }
         ensures level { IfSome result (λ tree. IsLevel tree.now) }
         ensures rising { IsRising K.cmp self.now }
     {
-        match &self.root {
-            None => None,
-            Some(tree) => {
-                // It has an entry and is level, and its keys rise.
-                let _ = tree.node();
-                Some(tree)
-            }
-        }
+        self.entries.tree()
     }
 
     /// How many nodes stand on each way down: at most twice the logarithm of one more than there are entries, to the
@@ -108,7 +103,7 @@ impl<K: Ord, V> TreeMap<K, V> {
         ensures nodes { 0 < length self.now → IsDeep K.cmp self.now result }
         ensures at_most { 2 ^ result ≤ (length self.now + 1) ^ 2 }
     {
-        match &self.root {
+        match self.tree() {
             None => 0,
             Some(tree) => tree.depth(),
         }
@@ -129,7 +124,12 @@ impl<K: Ord, V> TreeMap<K, V> {
         ensures value { option_map (λ e. e.1) (option_copied result) ≡ lookup_by (Q.order key) self.now }
         ensures rising { IsRising K.cmp self.now }
     {
-        self.tree()?.get(key)
+        let entry = self.entries.last_before(UpTo { query: key })?;
+        if key.order(&entry.0).is_eq() {
+            Some(entry)
+        } else {
+            None
+        }
     }
 
     /// Whether there is a value under the key.
@@ -140,15 +140,11 @@ impl<K: Ord, V> TreeMap<K, V> {
     }
 
     /// How many keys are below this one: the number of its entry, if there is one.
-    #[tactic(auto, using(crate::proofs::Between::rank_most), unfolding(crate::specs::Maps::rank_by))]
     pub fn rank<Q: Query<K>>(&self, key: Q) -> usize
         ensures rank { result ≡ rank_by (Q.order key) self.now }
         ensures within { result ≤ length self.now }
     {
-        match self.tree() {
-            None => 0,
-            Some(tree) => tree.rank(key),
-        }
+        self.entries.rank(Below { query: key })
     }
 
     /// The entry of that number, counted from 0 in the order of the keys, by one way down.
@@ -156,10 +152,7 @@ impl<K: Ord, V> TreeMap<K, V> {
         ensures entry { option_copied result ≡ slice_get self.now index }
         ensures rising { IsRising K.cmp self.now }
     {
-        match self.tree() {
-            Some(tree) if index < self.len => Some(tree.entry(index)),
-            _ => None,
-        }
+        self.entries.get(index)
     }
 
     /// The entry of the least key.
@@ -173,7 +166,7 @@ impl<K: Ord, V> TreeMap<K, V> {
     pub fn last(&self) -> Option<&(K, V)>
         ensures { option_copied result ≡ slice_get self.now (length self.now - 1) }
     {
-        self.nth(self.len().checked_sub(1)?)
+        self.entries.last()
     }
 }
 
@@ -193,21 +186,9 @@ impl<K: Ord + Clone, V: Clone> TreeMap<K, V> {
             ≡ cond (is_eq (K.cmp k key)) (Some value) (lookup K.cmp k self.old)) }
         ensures refused { OnErr result (self.new ≡ self.old) }
     {
-        if self.len == usize::MAX {
-            return Err(AllocError);
-        }
-        match &mut self.root {
-            None => {
-                self.root = Some(Tree::of(alloc, key, value)?);
-                self.len = 1;
-                Ok(None)
-            }
-            Some(tree) => {
-                tree.grow(alloc, self.len)?;
-                let old = tree.insert(alloc, key, value)?;
-                self.len += usize::from(old.is_none());
-                Ok(old)
-            }
+        match self.entries.put_in(alloc, Entry { key, value }) {
+            Ok(old) => Ok(old),
+            Err(Entry { key, value }) => self.insert_by_number(alloc, key, value),
         }
     }
 
@@ -226,21 +207,13 @@ impl<K: Ord + Clone, V: Clone> TreeMap<K, V> {
         ensures none { lookup_by (Q.order key) self.old ≡ None → IsOk result }
         ensures refused { OnErr result (self.new ≡ self.old) }
     {
-        let Some(tree) = &mut self.root else {
-            return Ok(None);
+        let Ok(taken) = self.entries.take_out(alloc, UpTo { query: key }) else {
+            return self.remove_by_number(alloc, key);
         };
-        let Some(_) = tree.get(key) else {
-            return Ok(None);
-        };
-        tree.shrink()?;
-        if self.len == 1 {
-            let value = Tree::take_only(&mut self.root, alloc, key)?;
-            self.len = 0;
-            return Ok(Some(value));
+        match taken {
+            None => Ok(None),
+            Some((_, value)) => Ok(Some(value)),
         }
-        let value = tree.remove(alloc, key)?;
-        self.len -= 1;
-        Ok(Some(value))
     }
 
     /// Changes the value under the key, if there is one, and gives what the change answered.
@@ -264,14 +237,18 @@ impl<K: Ord + Clone, V: Clone> TreeMap<K, V> {
         ensures none { lookup K.cmp key.now self.old ≡ None → IsOk result }
         ensures refused { OnErr result (self.new ≡ self.old) }
     {
-        let Some(tree) = &mut self.root else {
-            return Ok(None);
-        };
-        if tree.get(key).is_none() {
-            return Ok(None);
+        match self.place(key) {
+            Err(_) => Ok(None),
+            Ok(at) => self.entries.modify(
+                alloc,
+                at,
+                |entry: &mut (K, V)|
+                    requires { FnOnceTakesAtMut F.FnOnce change entry.old.1 }
+                    ensures key { entry.new.0 ≡ entry.old.0 }
+                    ensures value { FnOnceReturnsAtMut F.FnOnce change entry.old.1 result entry.new.1 }
+                { change(&mut entry.1) },
+            ),
         }
-        let answer = tree.modify(alloc, key, change)?;
-        Ok(Some(answer))
     }
 }
 
@@ -280,10 +257,6 @@ impl<K: Ord, V> TreeMap<K, V> {
     pub fn ptr_eq(this: &TreeMap<K, V>, other: &TreeMap<K, V>) -> bool
         ensures { IsTrue result → (0 < length this.now) × (0 < length other.now) }
     {
-        match (&this.root, &other.root) {
-            // Trees of two lengths are two: that takes no step on their counts.
-            (Some(tree), Some(same)) => this.len == other.len && tree.is_at(same),
-            _ => false,
-        }
+        Sequence::ptr_eq(&this.entries, &other.entries)
     }
 }

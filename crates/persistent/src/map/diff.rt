@@ -67,7 +67,7 @@ impl<'a, K: Ord, V> Left<'a, K, V> {
         ensures entries { result ≡ map.now }
         ensures rising { IsRising K.cmp map.now }
     {
-        let mut behind = Iter::between(map.tree(), 0, map.len());
+        let mut behind = map.entries.iter();
         let first = behind.next();
         Left { first, behind }
     }

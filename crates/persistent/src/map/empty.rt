@@ -2,13 +2,16 @@
 ghost use Rattle.std.specs.Prelude.{◌≡◌, []};
 
 use crate::map::TreeMap;
+use sequence::Sequence;
 
 impl<K: Ord, V> TreeMap<K, V> {
     /// The empty map, which takes no memory.
     pub fn new() -> TreeMap<K, V>
         ensures { result ≡ [] }
     {
-        TreeMap { root: None, len: 0 }
+        TreeMap {
+            entries: Sequence::empty(),
+        }
     }
 }
 

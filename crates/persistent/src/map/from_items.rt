@@ -4,7 +4,7 @@ ghost use Rattle.servo_arc.specs.Copies.{CopiesAreEqual};
 ghost use Rattle.persistent.specs.Maps.{IsRising, with_entries};
 
 use crate::map::TreeMap;
-use crate::tree::Tree;
+use sequence::Sequence;
 use std::alloc::{AllocError, Global};
 
 impl<K: Ord + Clone, V: Clone> TreeMap<K, V> {
@@ -33,12 +33,9 @@ impl<K: Ord + Clone, V: Clone> TreeMap<K, V> {
         requires rising { IsRising K.cmp items.items }
         ensures { IfOk result (λ map. map ≡ items.items) }
     {
-        if items.is_empty() {
-            return Ok(TreeMap::new());
-        }
-        let len = items.len();
-        let root = Some(Tree::of_rising(alloc, items)?);
-        Ok(TreeMap { root, len })
+        Ok(TreeMap {
+            entries: Sequence::of_items(alloc, items)?,
+        })
     }
 }
 

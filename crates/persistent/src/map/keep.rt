@@ -6,7 +6,6 @@ ghost use Rattle.persistent.specs.Changes.{AskedOf};
 ghost use Rattle.persistent.specs.Maps.{lookup};
 
 use crate::map::TreeMap;
-use crate::map::iter::Iter;
 use std::alloc::{AllocError, Global};
 
 impl<K: Ord + Clone, V: Clone> TreeMap<K, V> {
@@ -73,7 +72,7 @@ impl<K: Ord + Clone, V: Clone> TreeMap<K, V> {
         ensures { IfOk result (IsFiltered (AskedOf F.FnMut) keep self.now) }
     {
         let mut items = Vec::with_capacity(alloc, self.len())?;
-        for entry in Iter::between(self.tree(), 0, self.len()) {
+        for entry in &self.entries {
             if keep(&entry.0, &entry.1) {
                 items.push(entry.clone()?)?;
             }

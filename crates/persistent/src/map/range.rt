@@ -3,6 +3,7 @@ ghost use Rattle.std.specs.Prelude.{◌≡◌, ◌≤◌, length};
 ghost use Rattle.std.specs.Range.Bound.{bound_map};
 ghost use Rattle.persistent.specs.Bounds.{before_start, entries_between, entries_within, rank_with_by, up_to_end};
 
+use crate::cut::UpTo;
 use crate::map::TreeMap;
 use crate::map::iter::Iter;
 use crate::query::Query;
@@ -13,7 +14,7 @@ impl<K: Ord, V> TreeMap<K, V> {
     /// range ends before it starts.
     ///
     /// It takes a range of keys or of references to keys, as `a..b`, `..=&b` or a pair of `Bound`s. It searches once
-    /// for an end, and twice for `Included` at the end or `Excluded` at the start.
+    /// for each end.
     pub fn range<R: RangeBounds<K>>(&self, keys: R) -> Iter<'_, K, V>
         ensures { R.has_bounds keys
             → result ≡ entries_within K.cmp (R.start_bound keys) (R.end_bound keys) self.now }
@@ -22,13 +23,12 @@ impl<K: Ord, V> TreeMap<K, V> {
     }
 
     /// The same within bounds that stand for keys, as `Bound::Included("text")` for an `Arc<String>`.
-    #[tactic(auto, using(crate::proofs::Ranges::ranges))]
     pub fn range_by<Q: Query<K>>(&self, start: Bound<Q>, end: Bound<Q>) -> Iter<'_, K, V>
         ensures { result ≡ entries_between (bound_map Q.order start) (bound_map Q.order end) self.now }
     {
         let from = self.before_start(start);
-        let to = self.up_to_end(end).max(from);
-        Iter::between(self.root.as_ref(), from, to)
+        let to = self.up_to_end(end);
+        self.entries.range(from..to)
     }
 
     // How many keys are before the start.
@@ -56,18 +56,10 @@ impl<K: Ord, V> TreeMap<K, V> {
     }
 
     // How many keys are at or below this one.
-    #[tactic(auto, using(crate::proofs::Ranges::rank_present))]
     pub(super) fn rank_with<Q: Query<K>>(&self, key: Q) -> usize
         ensures rank { result ≡ rank_with_by (Q.order key) self.now }
         ensures within { result ≤ length self.now }
     {
-        let below = self.rank(key);
-        // The keys are fewer than 2 ^ 64.
-        let _ = self.len();
-        if self.contains_key(key) {
-            below + 1
-        } else {
-            below
-        }
+        self.entries.rank(UpTo { query: key })
     }
 }

@@ -48,7 +48,7 @@ fn evens<'a>(alloc: Global, tally: &'a Tally, len: u8) -> Result<Map<'a>, AllocE
     Ok(map)
 }
 
-// Of two leaves, of 16 entries and of 33. The first is joined with the second one if it loses an entry.
+// Of two leaves, of 44 entries and of 5. The second is joined with the first one if it loses an entry.
 fn thin<'a>(alloc: Global, tally: &'a Tally) -> Result<Map<'a>, AllocError> {
     let mut map = evens(alloc, tally, 65)?;
     for half in 0..16u64 {

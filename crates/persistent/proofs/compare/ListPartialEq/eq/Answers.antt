@@ -1,4 +1,4 @@
-use Rattle.persistent.proofs.Pairs.{pointwise_from_eq}
+use Rattle.sequence.proofs.Pairs.{pointwise_from_eq}
 use Rattle.persistent.proofs.compare.ListPartialEq.eq.Goals as goal
 
 pub returns-then-len : goal.returns-then-len

@@ -1,4 +1,4 @@
-use Rattle.persistent.proofs.Pairs.{slice_from_partial_cmp}
+use Rattle.sequence.proofs.Pairs.{slice_from_partial_cmp}
 use Rattle.persistent.proofs.compare.ListPartialOrd.partial_cmp.Goals as goal
 
 pub returns : goal.returns

@@ -1,13 +1,12 @@
 -- What was kept so far, and at the end.
 use Rattle.std.proofs.Common.{◌≡◌, ◌++◌, ◌∙◌, ◌∷◌, [], List, ap, of_calls, refl, subst, sym, true, false}
-use Rattle.std.specs.Prelude.{slice_range}
 use Rattle.std.specs.List.Retain.{IsFiltered}
 use Rattle.std.proofs.lemmas.Fn.{called}
 use Rattle.std.proofs.lemmas.Result.{IfOk-weaker, MatchResult-weaker}
 use Rattle.persistent.specs.Changes.{AskedOf}
+use Rattle.persistent.specs.Maps.{IsRising}
 use Rattle.persistent.proofs.Copied.{pairs_equal}
 use Rattle.persistent.proofs.Kept.{filtered_all, kept_all, kept_no, kept_yes, rising_kept}
-use Rattle.persistent.proofs.Ranges.{range_all}
 use Rattle.persistent.proofs.map.TreeMap.kept.Given as given
 use Rattle.persistent.proofs.map.TreeMap.kept.Goals as goal
 use Rattle.persistent.proofs.map.TreeMap.kept.Goals.{In-None}
@@ -16,9 +15,7 @@ pub loop-entry-init : goal.loop-entry-init
 loop-entry-init g c =
     let Entries : Type 0 = List (g.row.K.Denot × g.row.V.Denot) in
     let all : c.into_iter-entry-iterator.result ≡ c.args.self.now =
-    c.into_iter-entry-iterator.ensures.into_iter_gives ∙ c.between-entry-items.ensures
-    ∙ ap (λ (es : Entries). slice_range es 0 c.len-2.result) c.tree.ensures.entries
-    ∙ range_all c.args.self.now c.len-2.result c.len-2.ensures.count in (
+    c.into_iter-entry-iterator.ensures.into_iter_gives ∙ c.self.view_is in (
       c.requires.callable,
       λ ys is. subst (λ (kept : Entries). IsFiltered (AskedOf g.F.FnMut) c.args.keep c.args.self.now (kept ++ ys))
           (sym c.in_ok-items.ensures.items)
@@ -64,14 +61,15 @@ returns-then-len g c =
     let items = c.loop-entry.items in
     let kept = stay g (goal.at.returns-then-len g c).In-None in
     let all : items.items ≡ self = filtered_all R c.args.keep self items.items kept
-    (sym items.ok.0 ∙ sym c.len-3.ensures ∙ c.if-len.true ∙ c.len-4.ensures.count) in
+    (sym items.ok.0 ∙ sym c.len-2.ensures ∙ c.if-len.true ∙ c.len-3.ensures.count) in
     MatchResult-weaker c.clone-then-len.result c.clone-then-len.ensures.cases
     (λ map is. subst (IsFiltered R c.args.keep self) (all ∙ sym is) kept) (λ e none. tt)
 
 pub of_rising-requires-clause-rising : goal.of_rising-requires-clause-rising
 of_rising-requires-clause-rising g c =
     rising_kept g.K.Ord.cmp (AskedOf g.F.FnMut) c.args.keep c.args.self.now c.loop-entry.items.items
-    (stay g (goal.at.of_rising-requires-clause-rising g c).In-None) c.tree.ensures.rising
+    (stay g (goal.at.of_rising-requires-clause-rising g c).In-None)
+    (subst (IsRising g.K.Ord.cmp) c.self.view_is c.self.invariant)
 
 pub returns : goal.returns
 returns g c =

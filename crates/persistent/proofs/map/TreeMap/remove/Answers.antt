@@ -1,55 +1,86 @@
--- What the tree lets go, the map does.
-use Rattle.std.proofs.Common.{◌≡◌, ◌∙◌, [], ap, sym, subst, length, option_map, true}
-use Rattle.std.specs.Prelude.{None, is_some}
-use Rattle.std.specs.Option.{option_copied}
+-- What the list took out where the key is sought.
+use Rattle.std.proofs.Common.{◌≡◌, ◌∙◌, ap, option_map, refl, subst, sym}
+use Rattle.std.specs.Prelude.{not}
+use Rattle.std.specs.Ordering.{is_lt}
+use Rattle.std.proofs.lemmas.Result.{on_ok_weaker}
 use Rattle.persistent.specs.Maps.{IsRising, lookup, lookup_by, without_by}
-use Rattle.persistent.specs.Nodes.{entries_under}
+use Rattle.persistent.proofs.Cuts.{has_cut}
 use Rattle.persistent.proofs.Lookup.{lookup_without}
-use Rattle.persistent.proofs.Present.{without_absent, without_only}
+use Rattle.persistent.proofs.Rising.{rising_without}
+use Rattle.persistent.proofs.Sought.{taken}
+use Rattle.persistent.proofs.map.TreeMap.remove.Given as given
 use Rattle.persistent.proofs.map.TreeMap.remove.Goals as goal
+use Rattle.persistent.proofs.map.TreeMap.remove.Goals.{In-Ok}
 
-pub returns-in_default-clause-entries : goal.returns-in_default-clause-entries
-returns-in_default-clause-entries g c =
-    let order = g.Q.Query.order c.args.key in
-    let none : [] ≡ c.args.self.now = sym (ap (λ root. entries_under root) c.in_default.is) ∙ c.self.view_is in
-    c.self.view_is ∙ sym (without_absent order c.args.self.now (ap (lookup_by order) (sym none)))
+pub take_out-requires-clause-cut : goal.take_out-requires-clause-cut
+take_out-requires-clause-cut g c =
+    has_cut g.K.Ord.cmp (g.Q.Query.order c.args.key) (g.met.Q.Query.is_form c.args.key) (λ o. not (is_lt o)) refl
+    refl c.self.inside.entries c.self.invariant
 
-pub returns-in_default-get-clause-entries : goal.returns-in_default-get-clause-entries
-returns-in_default-get-clause-entries g c =
-    let order = g.Q.Query.order c.args.key in
-    let old = sym (ap (λ root. entries_under root) c.in-Some.is) ∙ c.self.view_is in
-    let none : lookup_by order c.in-Some.tree.0 ≡ None =
-    sym c.get.ensures.value ∙ ap (λ r. option_map (λ e. e.1) (option_copied r)) c.in_default-get.is in
-    old ∙ sym (without_absent order c.args.self.now (ap (lookup_by order) (sym old) ∙ none))
+done : (g : given.Over) (c : In-Ok g)
+    → (option_map (λ e. e.1) c.in-Ok.taken ≡ lookup_by (g.Q.Query.order c.args.key) c.self.inside.entries)
+    × (c.take_out.new.self ≡ without_by (g.Q.Query.order c.args.key) c.self.inside.entries)
+done g c =
+    taken g.K.Ord.cmp g.met.K.Ord.total c.self.inside.entries c.take_out.new.self c.self.invariant
+    (g.Q.Query.order c.args.key) (g.met.Q.Query.is_form c.args.key) c.in-Ok.taken c.in-Ok.ensures.taken
+    c.in-Ok.ensures.absent
 
-pub returns-then-self-eq1-clause-entries : goal.returns-then-self-eq1-clause-entries
-returns-then-self-eq1-clause-entries g c =
+-- what is left is the map without the entry
+left : (g : given.Over) (c : In-Ok g)
+    → c.take_out.new.self ≡ without_by (g.Q.Query.order c.args.key) c.args.self.now
+left g c = (done g c).1 ∙ ap (without_by (g.Q.Query.order c.args.key)) c.self.view_is
+
+-- whose keys rose
+rose : (g : given.Over) (c : In-Ok g) → IsRising g.K.Ord.cmp c.args.self.now
+rose g c = subst (IsRising g.K.Ord.cmp) c.self.view_is c.self.invariant
+
+pub invariant_of-self : goal.invariant_of-self
+invariant_of-self g c =
+    let cmp = g.K.Ord.cmp in
+    let at = (goal.at.invariant_of-self g c).In-Ok in
+    subst (IsRising cmp) (sym (left g at))
+    (rising_without cmp (g.Q.Query.order c.args.key) c.args.self.now (rose g at))
+
+pub returns-in_default-clause-changes : goal.returns-in_default-clause-changes
+returns-in_default-clause-changes g c =
     let cmp = g.K.Ord.cmp in
     let order = g.Q.Query.order c.args.key in
-    let old = sym (ap (λ root. entries_under root) c.in-Some.is) ∙ c.self.view_is in
-    let found : is_some (lookup_by order c.args.self.now) ≡ true =
-    ap (λ es. is_some (lookup_by order es)) (sym old)
-    ∙ ap (λ v. is_some v)
-    (sym c.get.ensures.value ∙ ap (λ r. option_map (λ e. e.1) (option_copied r)) c.in-Some-get.is) in
-    let one : length c.args.self.now ≡ 1 =
-    sym (ap (λ es. length es) c.self.view_is) ∙ sym c.self.invariant ∙ c.if-self-eq1.true in
-    ap (λ root. entries_under root) c.in_ok-value.ensures.none
-    ∙ without_only cmp order (g.met.Q.Query.is_form c.args.key) c.args.self.now
-    (subst (IsRising cmp) old c.get.ensures.rising) found one
+    let call = c.remove_by_number in
+    let same = ap (without_by order) (c.in_default.ensures.blocked ∙ c.self.view_is) in
+    on_ok_weaker call.result (λ entries k. ap (lookup cmp k) (entries ∙ same)
+    ∙ lookup_without cmp g.met.K.Ord.total order (g.met.Q.Query.is_form c.args.key) k c.args.self.now
+    (subst (IsRising cmp) c.self.view_is c.self.invariant)) call.ensures.entries
 
-pub returns-then-self-eq1-clause-changes : goal.returns-then-self-eq1-clause-changes
-returns-then-self-eq1-clause-changes g c k =
+pub returns-in-None-clause-value : goal.returns-in-None-clause-value
+returns-in-None-clause-value g c =
+    let at = (goal.at.returns-in-None-clause-value g c).In-Ok in
+    ap (option_map (λ e. e.1)) (sym c.in-None.is) ∙ (done g at).0
+    ∙ ap (lookup_by (g.Q.Query.order c.args.key)) c.self.view_is
+
+pub returns-in-None-clause-entries : goal.returns-in-None-clause-entries
+returns-in-None-clause-entries g c = left g (goal.at.returns-in-None-clause-entries g c).In-Ok
+
+pub returns-in-None-clause-changes : goal.returns-in-None-clause-changes
+returns-in-None-clause-changes g c k =
     let cmp = g.K.Ord.cmp in
-    let old = sym (ap (λ root. entries_under root) c.in-Some.is) ∙ c.self.view_is in
-    ap (lookup cmp k) (returns-then-self-eq1-clause-entries g c)
+    let at = (goal.at.returns-in-None-clause-changes g c).In-Ok in
+    ap (lookup cmp k) (left g at)
     ∙ lookup_without cmp g.met.K.Ord.total (g.Q.Query.order c.args.key) (g.met.Q.Query.is_form c.args.key) k
-    c.args.self.now (subst (IsRising cmp) old c.get.ensures.rising)
+    c.args.self.now (rose g at)
+
+pub returns-clause-value : goal.returns-clause-value
+returns-clause-value g c =
+    let at = (goal.at.returns-clause-value g c).In-Ok in
+    ap (option_map (λ e. e.1)) (sym c.in-Some.is) ∙ (done g at).0
+    ∙ ap (lookup_by (g.Q.Query.order c.args.key)) c.self.view_is
+
+pub returns-clause-entries : goal.returns-clause-entries
+returns-clause-entries g c = left g (goal.at.returns-clause-entries g c).In-Ok
 
 pub returns-clause-changes : goal.returns-clause-changes
 returns-clause-changes g c k =
     let cmp = g.K.Ord.cmp in
-    let order = g.Q.Query.order c.args.key in
-    let old = sym (ap (λ root. entries_under root) c.in-Some.is) ∙ c.self.view_is in
-    ap (lookup cmp k) (c.in_ok-value-2.ensures.entries ∙ ap (without_by order) (c.in_ok-shrink.ensures.same ∙ old))
-    ∙ lookup_without cmp g.met.K.Ord.total order (g.met.Q.Query.is_form c.args.key) k c.args.self.now
-    (subst (IsRising cmp) old c.get.ensures.rising)
+    let at = (goal.at.returns-clause-changes g c).In-Ok in
+    ap (lookup cmp k) (left g at)
+    ∙ lookup_without cmp g.met.K.Ord.total (g.Q.Query.order c.args.key) (g.met.Q.Query.is_form c.args.key) k
+    c.args.self.now (rose g at)

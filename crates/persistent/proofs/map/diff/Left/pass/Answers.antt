@@ -1,5 +1,5 @@
 use Rattle.std.proofs.Common.{◌∙◌, ap, cond, drop, sym}
-use Rattle.persistent.proofs.Pairs.{left_passed}
+use Rattle.persistent.proofs.Passed.{left_passed}
 use Rattle.persistent.proofs.map.diff.Left.pass.Goals as goal
 
 pub returns-then-goes : goal.returns-then-goes

@@ -1,0 +1,50 @@
+-- What the list did to the entry that is sought, and what the map did by that.
+use Rattle.std.proofs.Common.{◌≡◌, List, set, ap, sym, ◌∙◌, option_map}
+use Rattle.std.specs.Prelude.{Option, None, Some, IfNone, IfSome}
+use Rattle.std.specs.Cmp.{IsTotalOrder}
+use Rattle.std.specs.declared.cmp.Ordering.{Ordering}
+use Rattle.std.proofs.lemmas.Option.{same_Some}
+use Rattle.sequence.specs.Acts.{IsAbsent, IsAdded, IsReplaced, IsTaken}
+use Rattle.persistent.specs.Maps.{IsRising, lookup, lookup_by, with_entry, without_by}
+use Rattle.persistent.specs.Queries.{IsForm, key_form}
+use Rattle.persistent.proofs.Cuts.{cut_found, cut_missed, sought, up_to}
+use Rattle.persistent.proofs.Under.{found_missing, found_there, with_found, with_missing}
+use Rattle.persistent.proofs.Under.{without_found, without_missing}
+
+module _ {K V : Type 0} (cmp : K → K → Ordering) (total : IsTotalOrder cmp) (es new : List (K × V))
+    (s : IsRising cmp es) where
+  module _ (order : K → Ordering) (form : IsForm cmp order) where
+    -- it was taken out, or was not there
+    pub taken : (answer : Option (K × V)) → IfSome answer (IsTaken (sought order) (up_to order) es new)
+        → IfNone answer ((new ≡ es) × IsAbsent (sought order) (up_to order) es)
+        → (option_map (λ e. e.1) answer ≡ lookup_by order es) × (new ≡ without_by order es)
+    taken None went was =
+        let missing = cut_missed cmp order form total es s was.1.at was.1.cut was.1.missed in (
+          sym (found_missing order es was.1.at missing (λ e. e.1)),
+          was.0 ∙ sym (without_missing order es was.1.at missing),
+        )
+    taken (Some e) went was =
+        let there = cut_found cmp order form total es s went.at e went.cut went.item went.found in
+        let same = same_Some e there.entry (sym went.item ∙ there.is) in (
+          ap (λ (x : K × V). Some x.1) same ∙ sym (found_there order es went.at there (λ e. e.1)),
+          went.items ∙ sym (without_found order es went.at there),
+        )
+
+  module _ (q : K) (v : V) where
+    -- its value was replaced, or a new one was put in
+    pub put : (answer : Option V)
+        → IfSome answer (IsReplaced (sought (cmp q)) (up_to (cmp q)) (λ e. (e.0, v)) (λ e. e.1) es new)
+        → IfNone answer (IsAdded (sought (cmp q)) (up_to (cmp q)) es new (q, v))
+        → (answer ≡ lookup cmp q es) × (new ≡ with_entry cmp q v es)
+    put None was came =
+        let missing = cut_missed cmp (cmp q) (key_form total q) total es s came.at came.cut came.missed in (
+          sym (found_missing (cmp q) es came.at missing (λ e. e.1)),
+          came.items ∙ sym (with_missing cmp q es came.at missing v),
+        )
+    put (Some old) was came =
+        let there = cut_found cmp (cmp q) (key_form total q) total es s was.at was.before was.cut was.item was.found in
+        let same = same_Some was.before there.entry (sym was.item ∙ there.is) in (
+          ap (λ (v : V). Some v) was.value ∙ ap (λ (e : K × V). Some e.1) same
+              ∙ sym (found_there (cmp q) es was.at there (λ e. e.1)),
+          was.items ∙ ap (λ (e : K × V). set es was.at (e.0, v)) same ∙ sym (with_found cmp q es was.at there v),
+        )

@@ -1,8 +1,0 @@
-use Rattle.std.proofs.Common.{refl}
-use Rattle.persistent.proofs.Halves.{left_is}
-use Rattle.persistent.proofs.tree.Child.halve.Goals as goal
-
-pub returns-clause-child : goal.returns-clause-child
-returns-clause-child g c =
-    left_is c.args.self.now c.in-Some.right _ c.requires.child (rw c.in-Some.is at c.in_ok-right.ensures.halves) refl
-    refl

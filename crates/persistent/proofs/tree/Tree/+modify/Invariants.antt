@@ -1,4 +1,0 @@
-use Rattle.persistent.proofs.tree.Tree.+modify.Given as goal
-
-abbrev pub decreases-modify : goal.decreases-modify
-decreases-modify g l = l.self.now.1

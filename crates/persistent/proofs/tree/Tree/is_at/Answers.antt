@@ -1,9 +1,0 @@
-use Rattle.std.proofs.Common.{◌<◌, subst, length}
-use Rattle.persistent.proofs.Wide.{map_node}
-use Rattle.persistent.proofs.tree.Tree.is_at.Goals as goal
-
-pub returns-clause-some : goal.returns-clause-some
-returns-clause-some g c = subst (λ t. 0 < length t.0) c.self.view_is (map_node g.K.Ord.cmp _ c.self.invariant).some
-
-pub returns-clause-other : goal.returns-clause-other
-returns-clause-other g c = subst (λ t. 0 < length t.0) c.other.view_is (map_node g.K.Ord.cmp _ c.other.invariant).some

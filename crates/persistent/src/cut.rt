@@ -1,0 +1,56 @@
+//! Where what is asked parts the entries of a map.
+ghost use Rattle.std.specs.Prelude.{not};
+ghost use Rattle.std.specs.Ordering.{is_eq, is_gt, is_lt};
+
+use crate::key::Key;
+use crate::query::Query;
+use sequence::{Cut, Seek};
+
+/// Before it are the entries whose keys are not above what is asked.
+#[derive(Clone, Copy)]
+pub(crate) struct UpTo<Q> {
+    pub(crate) query: Q,
+}
+
+/// Before it are those whose keys are below.
+#[derive(Clone, Copy)]
+pub(crate) struct Below<Q> {
+    pub(crate) query: Q,
+}
+
+impl<K: Ord, V, Q: Query<K>> Cut<(K, V), Key<K>> for UpTo<Q> {
+    ghost is_before = { λ cut label. not (is_lt (Q.order cut.query label.key)) };
+
+    #[inline(always)]
+    fn item(&self, entry: &(K, V)) -> bool {
+        !self.query.order(&entry.0).is_lt()
+    }
+
+    #[inline(always)]
+    fn label(&self, label: &Key<K>) -> bool {
+        !self.query.order(&label.key).is_lt()
+    }
+}
+
+impl<K: Ord, V, Q: Query<K>> Seek<(K, V), Key<K>> for UpTo<Q> {
+    ghost is_sought = { λ cut label. is_eq (Q.order cut.query label.key) };
+
+    #[inline(always)]
+    fn is_sought(&self, entry: &(K, V)) -> bool {
+        self.query.order(&entry.0).is_eq()
+    }
+}
+
+impl<K: Ord, V, Q: Query<K>> Cut<(K, V), Key<K>> for Below<Q> {
+    ghost is_before = { λ cut label. is_gt (Q.order cut.query label.key) };
+
+    #[inline(always)]
+    fn item(&self, entry: &(K, V)) -> bool {
+        self.query.order(&entry.0).is_gt()
+    }
+
+    #[inline(always)]
+    fn label(&self, label: &Key<K>) -> bool {
+        self.query.order(&label.key).is_gt()
+    }
+}

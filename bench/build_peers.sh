@@ -1,9 +1,9 @@
 #!/bin/sh
 # build_peers.sh OUT SOURCE
 #
-# Builds the programs that the port is measured beside, OUT/bench, OUT/bench.moved, OUT/script and OUT/maps, with rustc
-# alone. SOURCE is the source file of the crate that was ported, its lib.rs under any name; it is compiled where it lies.
-# OUT/maps has the map of im-rc if Debian's librust-im-rc-dev is installed. Only OUT is written to.
+# Builds the programs that the port is measured beside, OUT/bench, OUT/bench.moved, OUT/script and OUT/collections, with
+# rustc alone. SOURCE is the source file of the crate that was ported, its lib.rs under any name; it is compiled where it
+# lies. OUT/collections has those of im-rc if Debian's librust-im-rc-dev is installed. Only OUT is written to.
 set -eu
 if [ $# -ne 2 ]; then
     echo "usage: build_peers.sh OUT SOURCE" >&2
@@ -55,4 +55,4 @@ if ls -d "$debian"/im-rc-* >/dev/null 2>&1; then
     set -- "$@" --cfg im
     edition=2021
 fi
-program maps maps "$@"
+program collections collections "$@"

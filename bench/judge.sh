@@ -2,9 +2,9 @@
 # judge.sh SOURCE [OPTION..]
 #
 # Builds all that is measured, and measures it: each workload and both scripts, beside each pointer, with a verdict by
-# goals.tsv, and maps beside those in Rust. It writes the figures to measured.tsv and maps.tsv. SOURCE is the source file
-# of the crate that was ported. The options go to compare.py, as --most 61. It takes some 9 minutes once the crates are
-# proved; BENCH_OUT is where it builds, bench/out if it is not set.
+# goals.tsv, and maps and sequences beside those in Rust. It writes the figures to measured.tsv, maps.tsv and
+# sequences.tsv. SOURCE is the source file of the crate that was ported. The options go to compare.py, as --most 61. It
+# takes some 12 minutes once the crates are proved; BENCH_OUT is where it builds, bench/out if it is not set.
 #
 # The status is 1 if a goal was missed, 0 if all were met, and 2 or 3 as compare.py says.
 set -eu
@@ -34,5 +34,7 @@ status=0
     --table "$here/measured.tsv" \
     --script core 8 "$out/core.txt" "$out/script" "$arcbench" \
     --script table 1000 "$out/table.txt" "$out/script" "$arcbench" "$@" || status=$?
-"$here/maps.py" "$out/maps" "$out/arcspeed" --table "$here/maps.tsv" || status=$?
+for kind in maps sequences; do
+    "$here/collections.py" "$kind" "$out/collections" "$out/arcspeed" --table "$here/$kind.tsv" || status=$?
+done
 exit "$status"

@@ -1,9 +1,12 @@
-//! The port's search tree, over `std::sync::Arc`.
+//! The port's tree of a map, over `std::sync::Arc`.
 
+mod change;
 mod nodes;
+mod quick;
 mod search;
 
-use nodes::{Child, Leaf, Node, Tree, BRANCH, LEAF};
+use nodes::{Entry, Leaf, Node, Tree, LEAF};
+use std::mem;
 
 #[derive(Clone, Default)]
 pub struct Map {
@@ -13,33 +16,58 @@ pub struct Map {
 
 impl Map {
     pub fn get(&self, key: u64) -> Option<&u64> {
-        self.root.as_ref()?.get(key)
+        let entry = self.root.as_ref()?.last_before(key)?;
+        (entry.0 == key).then_some(&entry.1)
     }
 
-    pub fn insert(&mut self, key: u64, value: u64) {
+    pub fn insert(&mut self, key: u64, value: u64) -> Option<u64> {
         let Some(tree) = &mut self.root else {
             let mut entries = Vec::with_capacity(LEAF);
             entries.push((key, value));
             self.root = Some(Tree::of(Node::Leaf(entries)));
             self.len = 1;
-            return;
+            return None;
         };
-        if tree.is_full() {
-            let key = tree.leaf_at(0).0[0].0;
-            let mut children = Vec::with_capacity(BRANCH);
-            children.push(Child {
-                key,
-                len: self.len,
-                tree: tree.clone(),
-            });
-            *tree = Tree::of(Node::Branch(children));
+        if let Ok(old) = tree.put((key, value)) {
+            self.len += usize::from(old.is_none());
+            return old;
         }
-        self.len += tree.insert(key, value);
+        let place = match tree.find(key) {
+            Some((at, entry)) if entry.0 == key => {
+                return Some(tree.modify(at, |entry| mem::replace(&mut entry.1, value)));
+            }
+            found => found.map_or(0, |(at, _)| at + 1),
+        };
+        tree.grow(self.len);
+        tree.insert(place, (key, value));
+        self.len += 1;
+        None
+    }
+
+    pub fn remove(&mut self, key: u64) -> Option<u64> {
+        let tree = self.root.as_mut()?;
+        if self.len > 1 {
+            if let Ok(entry) = tree.take(key, false) {
+                self.len -= usize::from(entry.is_some());
+                return entry.map(|entry| entry.1);
+            }
+        }
+        let (at, _) = tree.find(key).filter(|(_, entry)| entry.0 == key)?;
+        tree.shrink();
+        self.len -= 1;
+        if self.len == 0 {
+            return Some(self.root.take()?.into_only().1);
+        }
+        Some(tree.remove(at).1)
+    }
+
+    pub fn len(&self) -> usize {
+        self.len
     }
 
     /// The entry of that number, and its leaf: the one that is passed, if the entry is there.
     #[inline(always)]
-    fn numbered<'a>(&'a self, near: Leaf<'a>, index: usize) -> Option<(&'a (u64, u64), Leaf<'a>)> {
+    fn numbered<'a>(&'a self, near: Leaf<'a>, index: usize) -> Option<(&'a Entry, Leaf<'a>)> {
         let (leaf, start) = match index.checked_sub(near.1) {
             Some(offset) if offset < near.0.len() => near,
             _ => self.root.as_ref()?.leaf_at(index),
@@ -47,31 +75,7 @@ impl Map {
         Some((&leaf[index - start], (leaf, start)))
     }
 
-    pub fn remove(&mut self, key: u64) -> Option<u64> {
-        let tree = self.root.as_mut()?;
-        let value = *tree.get(key)?;
-        if self.len == 1 {
-            self.root = None;
-            self.len = 0;
-            return Some(value);
-        }
-        let only = match &*tree.root {
-            Node::Branch(children) if children.len() == 1 => Some(children[0].tree.clone()),
-            _ => None,
-        };
-        if let Some(only) = only {
-            *tree = only;
-        }
-        let value = tree.remove(key);
-        self.len -= 1;
-        Some(value)
-    }
-
-    pub fn len(&self) -> usize {
-        self.len
-    }
-
-    pub fn iter(&self) -> impl Iterator<Item = &(u64, u64)> {
+    pub fn iter(&self) -> impl Iterator<Item = &Entry> {
         let mut front: Leaf = (&[], 0);
         (0..self.len).map_while(move |index| {
             let (entry, near) = self.numbered(front, index)?;

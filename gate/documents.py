@@ -6,7 +6,8 @@
   none is of docs/DECISIONS.md, and the checker refuses it: gate/elsewhere.sh;
 - what a command prints on an example, as after `# prints:`, is what the example's expected lines say; a drawing of an
   example, as ```text examples/core/first, has its steps and answers, each in the column of its owner;
-- docs/SPEED.md shows the figures of bench/maps.tsv and bench/measured.tsv, but for scripts that meet their goals;
+- docs/SPEED.md shows the figures of bench/measured.tsv, maps.tsv and sequences.tsv, but for scripts that meet their
+  goals;
 - bench/measured.tsv has each goal of bench/goals.tsv and no other, with the verdict that follows from its figures.
 """
 import csv
@@ -92,11 +93,13 @@ def speed_line(row):
     return f"{row['workload']:<16}" + "".join(f"{figure:>9}" for figure in [*figures, f"{float(row['ratio']):.2f}"])
 
 
-def map_line(rows):
-    """The line for a call of a map in one order: the figures of each number of keys."""
-    cells = [(nanoseconds(row["program"]), row["/std"], row["/im"]) for row in rows]
+def call_line(rows):
+    """The line for a call of a collection, in one order: the figure and the ratios of each number of items."""
+    cells = [(nanoseconds(row["program"]), *(row[name] for name in row if name.startswith("/"))) for row in rows]
     shown = ("".join(f"{part:>6}" for part in cell) for cell in cells)
-    return f"{rows[0]['order']:<7}{rows[0]['call']:<8}" + "  ".join(shown)
+    order = rows[0]["workload"].partition("-")[2]
+    name = f"{order:<7}{rows[0]['call']}" if order else rows[0]["call"]
+    return f"{name:<15}" + "  ".join(shown)
 
 
 def table(name):
@@ -113,9 +116,9 @@ def wrong_speed():
     wanted = {speed_line(row) for row in told}
     yield from wanted ^ {line for line in shown if line.partition(" ")[0] in names}
     calls = {}
-    for row in table("maps.tsv"):
-        calls.setdefault((row["order"], row["call"]), []).append(row)
-    yield from (line for line in map(map_line, calls.values()) if line not in shown)
+    for row in table("maps.tsv") + table("sequences.tsv"):
+        calls.setdefault((row["workload"], row["call"]), []).append(row)
+    yield from (line for line in map(call_line, calls.values()) if line not in shown)
 
 
 def wrong_verdicts():

@@ -10,6 +10,7 @@ mod lists;
 mod maps;
 mod pages;
 mod random;
+mod sequences;
 mod styles;
 mod symbols;
 mod threads;
@@ -60,6 +61,7 @@ fn checksum<R: Clock + Print + RandomSource + Threads + Wait + Sync>(
         "intern-chosen" => symbols::intern(rt, alloc, Pairs::Chosen, times),
         "map-rising" => maps::measure(rt, alloc, Order::Rising, times),
         "map-mixed" => maps::measure(rt, alloc, Order::Mixed, times),
+        "sequence" => sequences::measure(rt, alloc, times),
         _ => None,
     }
 }

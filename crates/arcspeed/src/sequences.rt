@@ -1,0 +1,161 @@
+//! A list of numbers through its calls, each of them timed. The list is `sequence`'s, whose versions share.
+ghost use Rattle.std.specs.Prelude.{◌<◌, length};
+
+use crate::random::shuffle;
+use sequence::Sequence;
+use std::alloc::Global;
+use std::io::Print;
+use std::time::{Clock, Instant};
+
+/// So many items are put in and read, whatever the number of items of a list.
+const ITEMS: usize = 1_000_000;
+
+const VERSIONS: usize = 100_000;
+
+/// So many calls change a list in the middle.
+const CHANGES: usize = 1_000;
+
+type List = Sequence<u64>;
+
+const CALLS: [&str; 8] = [
+    "push", "get", "step", "version", "insert", "remove", "cut", "drop",
+];
+
+/// All calls on lists of that many items, one after another, at places in mixed order. It prints the nanoseconds that
+/// each took; those of `cut` are those of `split_off` and `append` together.
+pub fn measure<R: Clock + Print>(rt: &R, alloc: Global, len: u64) -> Option<u64> {
+    let mut places: Vec<u64> = (0..len).collect(alloc).ok()?;
+    shuffle(&mut places);
+    let mut lists = Vec::new(alloc);
+    let mut sum = 0u64;
+    for call in &CALLS {
+        let start = Instant::now(rt).ok()?;
+        sum = sum.wrapping_add(called(rt, call, &mut lists, alloc, &places)?);
+        let taken = start.elapsed(rt).ok()?.as_nanos();
+        println!(rt; "{call} {taken}").ok()?;
+    }
+    Some(sum)
+}
+
+/// Makes a call: on the last of the lists, unless it is one that makes or ends them.
+fn called<R: Clock + Print>(
+    rt: &R,
+    call: &str,
+    lists: &mut Vec<List>,
+    alloc: Global,
+    places: &[u64],
+) -> Option<u64> {
+    let rounds = ITEMS.checked_div(places.len())?;
+    let Some(list) = lists.last_mut() else {
+        return push(lists, alloc, places.len() as u64, rounds.max(2));
+    };
+    match call {
+        "get" => Some(get(list, places, rounds)),
+        "step" => Some(step(list, rounds)),
+        "version" => version(list, alloc, places),
+        "insert" => insert(list, alloc, places),
+        "remove" => remove(list, alloc, places),
+        "cut" => cut(rt, list, alloc, places),
+        _ => {
+            // The vector ends too, as in the twin: only then does the allocator give memory back.
+            *lists = Vec::new(alloc);
+            Some(0)
+        }
+    }
+}
+
+#[inline(never)]
+fn push(lists: &mut Vec<List>, alloc: Global, len: u64, count: usize) -> Option<u64> {
+    for _ in 0..count {
+        let mut list = Sequence::new();
+        for item in 0..len {
+            list.push(alloc, item).ok()?;
+        }
+        lists.push(list).ok()?;
+    }
+    Some(0)
+}
+
+#[inline(never)]
+fn get(list: &List, places: &[u64], rounds: usize) -> u64 {
+    let mut sum = 0u64;
+    for _ in 0..rounds {
+        for place in places {
+            sum = sum.wrapping_add(list.get(*place as usize).copied().unwrap_or(0));
+        }
+    }
+    sum
+}
+
+#[inline(never)]
+fn step(list: &List, rounds: usize) -> u64 {
+    let mut sum = 0u64;
+    for _ in 0..rounds {
+        for item in list {
+            sum = sum.rotate_left(1).wrapping_add(*item);
+        }
+    }
+    sum
+}
+
+/// The place of a call of that number.
+fn place(places: &[u64], at: usize) -> usize
+    requires { 0 < length places.now }
+{
+    places[at % places.len()] as usize
+}
+
+/// Each version has another item at one place, and ends the version before it.
+#[inline(never)]
+fn version(list: &mut List, alloc: Global, places: &[u64]) -> Option<u64>
+    requires { 0 < length places.now }
+{
+    for at in 0..VERSIONS {
+        let old = list.clone().ok()?;
+        list.set(alloc, place(places, at), at as u64).ok()?;
+        drop(old);
+    }
+    Some(0)
+}
+
+#[inline(never)]
+fn insert(list: &mut List, alloc: Global, places: &[u64]) -> Option<u64>
+    requires { 0 < length places.now }
+{
+    for at in 0..CHANGES {
+        list.insert(alloc, place(places, at), at as u64).ok()?;
+    }
+    Some(0)
+}
+
+#[inline(never)]
+fn remove(list: &mut List, alloc: Global, places: &[u64]) -> Option<u64>
+    requires { 0 < length places.now }
+{
+    let mut sum = 0u64;
+    for at in 0..CHANGES {
+        let item = list.remove(alloc, place(places, at)).ok()?.unwrap_or(0);
+        sum = sum.rotate_left(1).wrapping_add(item);
+    }
+    Some(sum)
+}
+
+/// Makes two lists of it and one again, each time at another place. It prints the nanoseconds of either call.
+#[inline(never)]
+fn cut<R: Clock + Print>(rt: &R, list: &mut List, alloc: Global, places: &[u64]) -> Option<u64>
+    requires { 0 < length places.now }
+{
+    let mut split = 0u128;
+    let mut append = 0u128;
+    for at in 0..CHANGES {
+        let start = Instant::now(rt).ok()?;
+        let rest = list.split_off(alloc, place(places, at)).ok()??;
+        split = split.wrapping_add(start.elapsed(rt).ok()?.as_nanos());
+        let start = Instant::now(rt).ok()?;
+        list.append(alloc, rest).ok()?;
+        append = append.wrapping_add(start.elapsed(rt).ok()?.as_nanos());
+    }
+    println!(rt; "split_off {split}").ok()?;
+    println!(rt; "append {append}").ok()?;
+    Some(0)
+}

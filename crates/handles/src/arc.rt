@@ -46,7 +46,7 @@ impl<T: Drop> Arc<T> {
         ensures made { IfOk result (λ a. a ≡ value) }
         ensures refused { IfErr result (λ x. x ≡ value) }
     {
-        Ok(UniqueArc::new(alloc, value)?.shareable())
+        UniqueArc::new(alloc, value).map(UniqueArc::shareable)
     }
 
     /// As `new`, with the error of the language's own makers, which `?` turns into an `AllocError`. The value is in it.
@@ -64,7 +64,7 @@ impl<T: Drop> Arc<T> {
         ensures made { IfOk result (λ a. a ≡ value) }
         ensures refused { IfErr result (λ x. x ≡ value) }
     {
-        Ok(UniqueArc::with_limit(alloc, value, Limit::of(limit))?.shareable())
+        UniqueArc::with_limit(alloc, value, Limit::of(limit)).map(UniqueArc::shareable)
     }
 
     /// A handle of a marked block, which is never freed and whose value is never dropped.

@@ -20,7 +20,7 @@ impl<H: Drop, T: Copy> Arc<HeaderSlice<H, T>> {
     ) -> Result<Arc<HeaderSlice<H, T>>, AllocError>
         ensures { IfOk result (λ slice. slice ≡ record { header = header; items = items.now }) }
     {
-        Ok(UniqueArc::from_header_and_slice(alloc, header, items)?.shareable())
+        UniqueArc::from_header_and_slice(alloc, header, items).map(UniqueArc::shareable)
     }
 }
 
@@ -39,7 +39,7 @@ impl<H: Drop, T: Clone> Arc<HeaderSlice<H, T>> {
         ensures if_clones_equal { IfOk result (λ slice. CopiesAreEqual T.is_clone
             → slice ≡ record { header = header; items = items.now }) }
     {
-        Ok(UniqueArc::from_header_and_clones(alloc, header, items)?.shareable())
+        UniqueArc::from_header_and_clones(alloc, header, items).map(UniqueArc::shareable)
     }
 }
 
@@ -55,7 +55,7 @@ impl<H: Drop, T: Drop> Arc<HeaderSlice<H, T>> {
     ) -> Result<Arc<HeaderSlice<H, T>>, AllocError>
         ensures { IfOk result (λ slice. slice ≡ record { header = header; items = items.items }) }
     {
-        Ok(UniqueArc::from_header_and_vec(alloc, header, items)?.shareable())
+        UniqueArc::from_header_and_vec(alloc, header, items).map(UniqueArc::shareable)
     }
 }
 
@@ -69,7 +69,8 @@ impl<H: Drop, T: Copy> UniqueArc<HeaderSlice<H, T>> {
         ensures { IfOk result (λ slice. slice ≡ record { header = header; items = items.now }) }
     {
         // The iterator gives as many items as it says, so that only memory is refused.
-        Ok(UniqueArc::from_header_and_iter(alloc, header, items.iter().copied())?)
+        let slice = UniqueArc::from_header_and_iter(alloc, header, items.iter().copied());
+        slice.map_err(AllocError::from)
     }
 }
 
@@ -117,6 +118,6 @@ impl<H: Drop, T: Drop> UniqueArc<HeaderSlice<H, T>> {
     ) -> Result<UniqueArc<HeaderSlice<H, T>>, AllocError>
         ensures { IfOk result (λ slice. slice ≡ record { header = header; items = items.items }) }
     {
-        Ok(UniqueArc::from_header_and_iter(alloc, header, items.into_iter())?)
+        UniqueArc::from_header_and_iter(alloc, header, items.into_iter()).map_err(AllocError::from)
     }
 }

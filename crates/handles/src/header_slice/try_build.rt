@@ -21,10 +21,7 @@ impl<H: Drop, T: Drop> Arc<HeaderSlice<H, T>> {
         requires { I.can_next items }
         ensures { BuildsGood I.next_gives items (size (I.remaining items)) E.from_gives header result }
     {
-        match UniqueArc::try_from_header_and_iter(alloc, header, items) {
-            Ok(slice) => Ok(slice.shareable()),
-            Err(error) => Err(error),
-        }
+        UniqueArc::try_from_header_and_iter(alloc, header, items).map(UniqueArc::shareable)
     }
 }
 

@@ -4,7 +4,6 @@ ghost use Rattle.std.specs.List.{AllZip};
 ghost use Rattle.handles.specs.Copies.{CopiesAreEqual};
 
 use super::HeaderSlice;
-use super::items::Items;
 use crate::arc::Arc;
 use crate::unique::UniqueArc;
 use std::alloc::{AllocError, Global};
@@ -86,26 +85,7 @@ impl<H: Drop, T: Clone> UniqueArc<HeaderSlice<H, T>> {
         ensures if_clones_equal { IfOk result (λ slice. CopiesAreEqual T.is_clone
             → slice ≡ record { header = header; items = items.now }) }
     {
-        let mut clones = Items::with_room(alloc, items.len())?;
-        let block = UniqueArc::new_uninit(alloc)?;
-        clones.push_clones(items)?;
-        Ok(block.write(HeaderSlice {
-            header,
-            items: clones,
-        }))
-    }
-}
-
-impl<T: Clone> Items<T> {
-    fn push_clones(&mut self, items: &[T]) -> Result<(), AllocError>
-        requires empty { self.old.items ≡ [] }
-        requires room { self.old.room ≡ length items.now }
-        ensures { OnOk result (AllZip T.is_clone items.now self.new.items) }
-    {
-        for item in items {
-            self.push(item.clone()?);
-        }
-        Ok(())
+        UniqueArc::try_from_header_and_iter(alloc, header, items.iter().map(T::clone))
     }
 }
 

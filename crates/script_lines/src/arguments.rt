@@ -4,11 +4,42 @@ ghost use Rattle.script_lines.specs.Arguments.{AskLimit};
 
 use counting_word::MAX_REFCOUNT;
 use script_text::number::parse_number;
+use std::alloc::{AllocError, Global};
 use std::convert::AsStr;
+use std::env::{Env, FillError};
+
+/// Longer than any right argument.
+const ARGUMENT_ROOM: usize = 64;
 
 const MOST_OWNERS: usize = 1000;
 
 const MOST_SLOTS: usize = 1000;
+
+/// The words after the program's own name.
+pub fn argument_words(rt: &impl Env, alloc: Global) -> Result<Vec<String>, AllocError> {
+    let mut words = Vec::new(alloc);
+    for index in 1..usize::MAX {
+        let Some(word) = argument_word(rt, alloc, index)? else {
+            break;
+        };
+        words.push(word)?;
+    }
+    Ok(words)
+}
+
+// One of the words, or nothing past the last. A word that is not UTF-8, or too long to be right, is
+// handed on as the empty text.
+fn argument_word(rt: &impl Env, alloc: Global, index: usize) -> Result<Option<String>, AllocError> {
+    let mut buffer = [0u8; ARGUMENT_ROOM];
+    match rt.arg(index, &mut buffer) {
+        Ok(length) => match str::from_utf8(&buffer[..length]) {
+            Ok(text) => Ok(Some(String::from_str(alloc, text)?)),
+            Err(_) => Ok(Some(String::new(alloc))),
+        },
+        Err(FillError::TooLong) => Ok(Some(String::new(alloc))),
+        Err(FillError::NotPresent) => Ok(None),
+    }
+}
 
 /// A program that the arguments ask for.
 #[derive(Clone, Copy)]

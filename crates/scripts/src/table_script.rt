@@ -9,6 +9,7 @@ ghost use Rattle.script_lines.specs.TableAnswer.{IsAnsweredBy, printed_slot};
 ghost use Rattle.script_lines.specs.TableLine.{table_line};
 ghost use Rattle.script_lines.specs.TableScript.{PrintsModelTable, TableAnswers};
 
+use script_lines::program::TableScripts;
 use script_lines::table_answer::append_reply;
 use script_lines::table_line::{TableLine, read_table_line};
 use script_text::fault::Fault;
@@ -17,23 +18,19 @@ use std::alloc::{AllocError, Global};
 use std::io::Write;
 use tables::table::{Reply, Table};
 
-/// Runs the script on a new table of so many empty slots. Writes the answer to each line, up to the first line that
-/// asks nothing of a table, and in place of its answer the fault.
-///
-/// Ends with `Line` at that line, with `Output` if a write fails, and with `Memory` if the table or the room for
-/// the answers is refused. A command that is refused memory is answered so, and the run goes on.
-pub fn run_table_script<W: Write>(
-    alloc: Global,
-    slots: usize,
-    script: &[u8],
-    output: &mut W,
-) -> Result<(), Fault>
-    ensures fault { IfErr result IsFaultOfRun }
-    ensures wrote { Wrote (PrintsModelTable slots script.now result)
-        (W.contents output.old) (W.contents output.new) }
-{
-    let table = Table::new(alloc, slots)?;
-    answer_lines(alloc, script, &mut TableRunner { alloc, table }, output)
+/// Runs scripts on tables of handles.
+pub(crate) struct Tables;
+
+impl TableScripts for Tables {
+    fn run<W: Write>(
+        alloc: Global,
+        slots: usize,
+        script: &[u8],
+        output: &mut W,
+    ) -> Result<(), Fault> {
+        let table = Table::new(alloc, slots)?;
+        answer_lines(alloc, script, &mut TableRunner { alloc, table }, output)
+    }
 }
 
 /// A table, and where its commands take their memory.

@@ -5,7 +5,7 @@ use Rattle.script_text.specs.declared.fault.Fault.TheVariants.{Input, Memory}
 use Rattle.script_text.proofs.Runs.{IsStopped, stopped_by}
 use Rattle.script_lines.specs.declared.arguments.Request.{Request}
 use Rattle.script_lines.proofs.Showing.{did_nothing}
-use Rattle.scripts.proofs.program.do_as_asked.Goals as goal
+use Rattle.script_lines.proofs.program.do_as_asked.Goals as goal
 
 -- what is known of the request that was found
 of_found : (P : Request → Type 0) (found : Option Request) (request : Request) (fault : Fault)

@@ -1,5 +1,5 @@
-//! What the program `arcbench` reads and prints, with no handle: what its arguments ask for, the two languages of lines,
-//! the texts of their answers, the runs of a core, and the program over what runs the scripts of tables.
+//! What the program `arcbench` reads and prints, with no handle: what its arguments ask for, the two languages of
+//! lines, the texts of their answers, the runs of a core, and the program over what runs the scripts of tables.
 #![tactic(auto)]
 
 pub mod arguments;

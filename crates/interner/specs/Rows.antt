@@ -1,11 +1,11 @@
 -- How an index finds the numbers that have a hash: each stands in the row of its hash, a chain with the last one first.
-use Rattle.std.specs.Prelude.{◌≡◌, ℕ, zero, suc, ◌-◌, ◌<◌, ◌≤◌, Bool, List, length, Option, None, Some}
+use Rattle.std.specs.Prelude.{◌≡◌, ℕ, zero, suc, ◌-◌, ◌*◌, ◌<◌, ◌≤◌, Bool, List, length, Option, None, Some}
 use Rattle.std.specs.Prelude.{nat_eq, slice_index, slice_index_or, bit_and, if◌then◌else◌}
 
--- what an index shows: the hash of each number, and how many numbers it has room for
+-- what an index shows: the hash of each number, and how many rows it has
 pub record Hashed : Type 0 where
   pub hashes : List ℕ
-  pub room : ℕ
+  pub rows : ℕ
 
 -- the row of a hash, where there are so many
 unfoldable pub row_of : ℕ → ℕ → ℕ
@@ -28,9 +28,9 @@ pub record IsChained (rows links : List (Option ℕ)) (hashes : List ℕ) : Type
   pub earlier : (i : ℕ) (d : Option ℕ) → i < length hashes
       → slice_index_or links i d ≡ last_in hashes (length rows) (row_of (length rows) (slice_index hashes i)) i
 
--- it is chained, and has as much room in each list as it has rows
+-- it is chained, and has room in each list for half as many numbers as it has rows
 pub record IsIndex (rows links : List (Option ℕ)) (hashes : List ℕ) (link_room hash_room : ℕ) : Type 0 where
   pub chained : IsChained rows links hashes
-  pub fits : length hashes ≤ length rows
-  pub links_fit : length rows ≤ link_room
-  pub hashes_fit : length rows ≤ hash_room
+  pub fits : 2 * length hashes ≤ length rows
+  pub links_fit : length rows ≤ 2 * link_room
+  pub hashes_fit : length rows ≤ 2 * hash_room

@@ -1,5 +1,5 @@
-//! Which numbers have a hash: to a contract the hashes in the order of their numbers, and the room for them.
-ghost use Rattle.std.specs.Prelude.{◌≡◌, ◌↔◌, ◌<◌, ◌≤◌, ◌^◌, [], ◌∷◌, ◌++◌, length, slice_index};
+//! Which numbers have a hash: to a contract the hashes in the order of their numbers, and how many rows there are.
+ghost use Rattle.std.specs.Prelude.{◌≡◌, ◌↔◌, ◌+◌, ◌*◌, ◌<◌, ◌≤◌, ◌^◌, [], ◌∷◌, ◌++◌, length, slice_index};
 ghost use Rattle.std.specs.Prelude.{IfOk, IsTrue, OnOk};
 ghost use Rattle.interner.specs.Rows.{last_in, row_of};
 
@@ -9,7 +9,8 @@ use std::marker::Model;
 // The least room, so that the first values do not make it grow at each.
 const LEAST: usize = 8;
 
-/// Numbers in rows by their hash. A row is a chain, from its last number to the first.
+/// Numbers in rows by their hash. A row is a chain, from its last number to the first. There are twice as many rows as
+/// numbers that there is room for, so few rows have two: each step along a chain costs a jump that is hard to foretell.
 #[derive(Drop)]
 pub(crate) struct Index {
     // The last number of each row.
@@ -27,7 +28,7 @@ impl Model for Index {
 
     ghost Value = { Hashed };
 
-    ghost view = { λ i. record { hashes = i.hashes.items; room = length i.rows.items } };
+    ghost view = { λ i. record { hashes = i.hashes.items; rows = length i.rows.items } };
 
     ghost invariant = { λ i. IsIndex i.rows.items i.earlier.items i.hashes.items
         (vec_capacity i.earlier) (vec_capacity i.hashes) };
@@ -47,25 +48,25 @@ impl Index {
 
     /// Without a number, with room for so many at least.
     pub(crate) fn with_room(alloc: Global, room: usize) -> Result<Index, AllocError>
-        requires { room ≤ 2 ^ 63 }
+        requires { room ≤ 2 ^ 62 }
         ensures hashes { IfOk result (λ index. index.hashes ≡ []) }
-        ensures room { IfOk result (λ index. room ≤ index.room) }
+        ensures rows { IfOk result (λ index. 2 * room ≤ index.rows) }
     {
         let room = room.next_power_of_two();
         Ok(Index {
-            rows: vec![in alloc; None; room]?,
+            rows: vec![in alloc; None; 2 * room]?,
             earlier: Vec::with_capacity(alloc, room)?,
             hashes: Vec::with_capacity(alloc, room)?,
         })
     }
 
-    /// Makes room for one more number. It takes memory if all rows have one each, and then for as many more.
+    /// Makes room for one more number. It takes memory if there is none, and then for as many numbers more.
     pub(crate) fn reserve(&mut self) -> Result<(), AllocError>
         requires { length self.old.hashes < 2 ^ 32 }
         ensures hashes { self.new.hashes ≡ self.old.hashes }
-        ensures room { OnOk result (length self.new.hashes < self.new.room) }
+        ensures rows { OnOk result (2 * (length self.new.hashes + 1) ≤ self.new.rows) }
     {
-        if self.hashes.len() == self.rows.len() {
+        if self.rows.len() < 2 * (self.hashes.len() + 1) {
             *self = self.grown()?;
         }
         Ok(())
@@ -75,7 +76,7 @@ impl Index {
     fn grown(&self) -> Result<Index, AllocError>
         requires { length self.now.hashes < 2 ^ 32 }
         ensures hashes { IfOk result (λ index. index.hashes ≡ self.now.hashes) }
-        ensures room { IfOk result (λ index. length index.hashes < index.room) }
+        ensures rows { IfOk result (λ index. 2 * (length index.hashes + 1) ≤ index.rows) }
     {
         let room = (2 * self.hashes.len()).max(LEAST);
         let mut grown = Index::with_room(*self.rows.allocator(), room)?;
@@ -88,9 +89,9 @@ impl Index {
     /// Adds a number that has the hash.
     pub(crate) fn push(&mut self, hash: u64)
         requires few { length self.old.hashes < 2 ^ 32 }
-        requires room { length self.old.hashes < self.old.room }
+        requires rows { 2 * (length self.old.hashes + 1) ≤ self.old.rows }
         ensures hashes { self.new.hashes ≡ self.old.hashes ++ hash ∷ [] }
-        ensures room { self.new.room ≡ self.old.room }
+        ensures rows { self.new.rows ≡ self.old.rows }
     {
         let row = row_of(self.rows.len(), hash);
         let number = self.hashes.len() as u32;
@@ -103,7 +104,7 @@ impl Index {
     /// The last number in the row of the hash.
     #[inline]
     pub(crate) fn last(&self, hash: u64) -> Option<u32>
-        ensures { result ≡ last_in self.now.hashes self.now.room (row_of self.now.room hash)
+        ensures { result ≡ last_in self.now.hashes self.now.rows (row_of self.now.rows hash)
             (length self.now.hashes) }
     {
         if self.rows.is_empty() {
@@ -116,8 +117,8 @@ impl Index {
     #[inline]
     pub(crate) fn before(&self, number: u32) -> Option<u32>
         requires { number < length self.now.hashes }
-        ensures { result ≡ last_in self.now.hashes self.now.room
-            (row_of self.now.room (slice_index self.now.hashes number)) number }
+        ensures { result ≡ last_in self.now.hashes self.now.rows
+            (row_of self.now.rows (slice_index self.now.hashes number)) number }
     {
         self.earlier[number as usize]
     }

@@ -1,4 +1,4 @@
-use Rattle.std.proofs.Common.{◌≡◌, ◌<◌, None, Some, [], ◌∷◌, ◌++◌, length, get_or, set}
+use Rattle.std.proofs.Common.{◌≡◌, ◌+◌, ◌*◌, ◌<◌, ◌≤◌, None, Some, [], ◌∷◌, ◌++◌, length, get_or, set}
 use Rattle.std.proofs.Common.{ap, ap₂, sym, ◌∙◌, subst, arith}
 use Rattle.std.proofs.lemmas.Grind.{common_steps}
 use Rattle.std.proofs.lemmas.List.{get_or_default, length-append, length-set}
@@ -22,7 +22,7 @@ invariant_of-self c =
     ∙ get_or_default rows (row_of (length rows) c.args.hash) c.index-earlier.result.now None within in
     let set_rows = set rows c.row_of-row.result (Some c.len-number.result) in
     let same_rows = length-set rows c.row_of-row.result (Some c.len-number.result) in
-    let room = subst (λ v. length v.hashes < v.room) (sym c.self.view_is) c.requires.room in
+    let room = subst (λ v. 2 * (length v.hashes + 1) ≤ v.rows) (sym c.self.view_is) c.requires.rows in
     record {
       chained = longer rows links hashes c.args.hash c.self.invariant.chained within set_rows
           c.push_reserved.new.self.items c.push_reserved-2.new.self.items

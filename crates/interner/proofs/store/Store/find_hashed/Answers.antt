@@ -10,7 +10,7 @@ row-init g c =
     let pass = g.Q.Query.stands_for c.args.query in
     let alike = λ (x : g.row.T.Denot) (e : pass x ≡ true).
     c.requires.hash ∙ ap hashed (g.met.Q.Query.is_form c.args.query x e).hashed in
-    starts pass c.args.hash c.args.self.now.index.room of alike c.args.self.now.values.items
+    starts pass c.args.hash c.args.self.now.index.rows of alike c.args.self.now.values.items
     c.args.self.now.index.hashes c.requires.indexed.hashed c.last-number.result c.last-number.ensures
 
 pub row-smaller : goal.row-smaller
@@ -22,8 +22,8 @@ row-smaller g c =
     c.requires.hash ∙ ap hashed (g.met.Q.Query.is_form c.args.query x e).hashed in
     let index = c.args.self.now.index in
     let values = c.args.self.now.values.items in
-    let walk = subst (IsWalked pass c.args.hash index.room index.hashes values) c.in-Some.is c.row.invariant in
-    let next = goes_on pass c.args.hash index.room of alike values index.hashes c.requires.indexed.hashed c.in-Some.at
+    let walk = subst (IsWalked pass c.args.hash index.rows index.hashes values) c.in-Some.is c.row.invariant in
+    let next = goes_on pass c.args.hash index.rows of alike values index.hashes c.requires.indexed.hashed c.in-Some.at
     walk c.before-number.result (λ d. sym (c.stands_at.ensures d) ∙ c.if-stands_at.false) c.before-number.ensures in
     rw c.in-Some.is next.1
 
@@ -36,8 +36,8 @@ row-preserved g c =
     c.requires.hash ∙ ap hashed (g.met.Q.Query.is_form c.args.query x e).hashed in
     let index = c.args.self.now.index in
     let values = c.args.self.now.values.items in
-    let walk = subst (IsWalked pass c.args.hash index.room index.hashes values) c.in-Some.is c.row.invariant in
-    let next = goes_on pass c.args.hash index.room of alike values index.hashes c.requires.indexed.hashed c.in-Some.at
+    let walk = subst (IsWalked pass c.args.hash index.rows index.hashes values) c.in-Some.is c.row.invariant in
+    let next = goes_on pass c.args.hash index.rows of alike values index.hashes c.requires.indexed.hashed c.in-Some.at
     walk c.before-number.result (λ d. sym (c.stands_at.ensures d) ∙ c.if-stands_at.false) c.before-number.ensures in
     next.0
 
@@ -50,9 +50,9 @@ returns-then-stands_at g c =
     c.requires.hash ∙ ap hashed (g.met.Q.Query.is_form c.args.query x e).hashed in
     let index = c.args.self.now.index in
     let values = c.args.self.now.values.items in
-    let walk = subst (IsWalked pass c.args.hash index.room index.hashes values) c.in-Some.is c.row.invariant in
+    let walk = subst (IsWalked pass c.args.hash index.rows index.hashes values) c.in-Some.is c.row.invariant in
     let matches = λ (x y : g.row.T.Denot) (e : pass x ≡ true). (g.met.Q.Query.is_form c.args.query x e).equal y in
-    let place = found pass c.args.hash index.room of alike values index.hashes c.requires.indexed.hashed c.in-Some.at
+    let place = found pass c.args.hash index.rows of alike values index.hashes c.requires.indexed.hashed c.in-Some.at
     walk g.met.T.Eq.laws matches c.requires.indexed.distinct
     (λ d. sym (c.stands_at.ensures d) ∙ c.if-stands_at.true) in
     ap (λ (s : ℕ). Some s) c.of.ensures ∙ sym place
@@ -62,5 +62,5 @@ returns g c =
     let pass = g.Q.Query.stands_for c.args.query in
     let index = c.args.self.now.index in
     let values = c.args.self.now.values.items in
-    let walk = subst (IsWalked pass c.args.hash index.room index.hashes values) c.in_default.is c.row.invariant in
-    sym (missing pass c.args.hash index.room index.hashes values walk)
+    let walk = subst (IsWalked pass c.args.hash index.rows index.hashes values) c.in_default.is c.row.invariant in
+    sym (missing pass c.args.hash index.rows index.hashes values walk)

@@ -1,13 +1,14 @@
 -- A branch with one more child, before all children or behind all.
-use Rattle.std.proofs.Common.{◌≡◌, ◌+◌, ◌<◌, ◌^◌, ℕ, List, [], ◌∷◌, ◌++◌, length, drop, get_or, set, ap, refl}
+use Rattle.std.proofs.Common.{◌≡◌, ◌+◌, ◌<◌, ◌^◌, ℕ, List, [], ◌∷◌, ◌++◌, length, drop, get_or, set, ap, refl, sym, ◌∙◌}
 use Rattle.std.proofs.Common.{subst, arith, append-nil, length-append}
-use Rattle.std.specs.Prelude.{Some}
+use Rattle.std.specs.Prelude.{Some, slice_get}
 use Rattle.std.specs.List.{All}
+use Rattle.std.proofs.lemmas.List.{get_or_default}
 use Rattle.std.proofs.lemmas.List.Elements.{All-append, All-cons, All-nil}
 use Rattle.sequence.specs.declared.tree.Child.{Child}
 use Rattle.sequence.specs.Nodes.{AreChildren, IsChild, IsLabelled, StandFor, first_label, height_in, items_in}
 use Rattle.sequence.proofs.Children.{children_are, height_is, items_append}
-use Rattle.sequence.proofs.Labelled.{behind_append}
+use Rattle.sequence.proofs.Labelled.{behind_append, first_get}
 use Rattle.sequence.proofs.Placed.{child_here, stands_in}
 use Rattle.sequence.proofs.Wide.{some_in}
 
@@ -30,7 +31,7 @@ module _ {T L : Type 0} {label_of : T → L} where
   all_first (d ∷ cs) c a q = All-cons (IsLabelled label_of) c cs q a
 
   -- the first child gets that label
-  pub labelled_first : (cs : List (Child T L)) (d : Child T L) (label : L) → AreChildren label_of cs
+  labelled_first : (cs : List (Child T L)) (d : Child T L) (label : L) → AreChildren label_of cs
       → d ≡ get_or cs 0 d → first_label label_of d.tree.0 ≡ Some label
       → AreLabelled label_of cs (set cs 0 (record d { label = label }))
   labelled_first cs d label are is first =
@@ -46,6 +47,16 @@ module _ {T L : Type 0} {label_of : T → L} where
         same = stands_in cs 0 d are some is c child (λ p. absurd (omega (arith, p))) refl;
         labels = all_first cs c are.labels (record { first = first });
       }
+
+  -- that of its first item, which was read
+  pub labelled_by_first : (cs : List (Child T L)) (d e : Child T L) (item : T) (label : L) → AreChildren label_of cs
+      → d ≡ get_or cs 0 d → e ≡ get_or cs 0 e → slice_get e.tree.0 0 ≡ Some item → label ≡ label_of item
+      → AreLabelled label_of cs (set cs 0 (record d { label = label }))
+  labelled_by_first cs d e item label are is read there first =
+      let same : d ≡ e = is ∙ get_or_default cs 0 d e (some_in cs are) ∙ sym read in
+      labelled_first cs d label are is
+      (ap (λ (child : Child T L). first_label label_of child.tree.0) same ∙ first_get label_of e.tree.0 item there
+      ∙ ap (λ (l : L). Some l) (sym first))
 
   module _ (cs : List (Child T L)) (child : Child T L) (are : AreChildren label_of cs)
       (whole : IsChild (height_in cs) child) (room : length (items_in cs) + length child.tree.0 < 2 ^ 64) where

@@ -1,5 +1,5 @@
 -- A branch after an item was changed under one of its children.
-use Rattle.std.proofs.Common.{◌≡◌, ◌+◌, ◌<◌, ◌≤◌, ◌^◌, ℕ, zero, suc, List, [], ◌∷◌, ◌++◌, length, take, drop}
+use Rattle.std.proofs.Common.{◌≡◌, ◌+◌, ◌-◌, ◌<◌, ◌≤◌, ◌^◌, ℕ, zero, suc, List, [], ◌∷◌, ◌++◌, length, take, drop}
 use Rattle.std.proofs.Common.{get_or, set, ap, sym, ◌∙◌}
 use Rattle.std.proofs.Common.{subst, arith, length-set, refl}
 use Rattle.std.specs.Prelude.{Option, None, Some, Result, Ok, Err, IfNone, IfOk, IfSome, OnErr, OnOk, slice_get}
@@ -8,12 +8,23 @@ use Rattle.std.specs.Fn.{FnOnceReturnsAtMut, Once}
 use Rattle.std.proofs.lemmas.List.{set_past}
 use Rattle.std.proofs.lemmas.Option.{none-some}
 use Rattle.sequence.specs.Changes.{ChangesItem, KeepsLabel}
+use Rattle.sequence.specs.declared.tree.search.Spot.{Spot}
+use Rattle.sequence.specs.Spots.{Leads}
 use Rattle.sequence.specs.declared.tree.Child.{Child}
 use Rattle.sequence.specs.Nodes.{AreChildren, IsChild, first_label, height_in, items_in}
 use Rattle.sequence.proofs.Children.{items_set, items_split}
 use Rattle.sequence.proofs.Labelled.{first_set, labelled_at, labelled_by}
 use Rattle.sequence.proofs.Placed.{child_here, children_set, height_set, stands_in}
 use Rattle.sequence.proofs.Spliced.{get_between, set_between}
+
+-- the node after the call on a child, whose answer is r
+pub record IsChanged {T L F R E : Type 0} (label_of : T → L) (tree : List T × ℕ) (at : ℕ)
+    (g : Once F (MutBor T × Unit {0}) (R × (MutBor T × Unit {0}))) (change : F) (new : List (Child T L))
+    (r : Result R E) : Type 0 where
+  pub whole : AreChildren label_of new
+  pub changed : IfOk r (ChangesItem g change at tree.0 (items_in new))
+  pub height : height_in new ≡ tree.1
+  pub refused : OnErr r (items_in new ≡ tree.0)
 
 module _ {T L : Type 0} {label_of : T → L} (tree : List T × ℕ) (cs : List (Child T L)) (i : ℕ) (d : Child T L)
     (are : AreChildren label_of cs) (same : ◌≡◌ {A = List T × ℕ} (items_in cs, height_in cs) tree) (h : i < length cs)
@@ -31,18 +42,11 @@ module _ {T L : Type 0} {label_of : T → L} (tree : List T × ℕ) (cs : List (
       ∙ ap (λ (c : Child T L). slice_get c.tree.0 p) (sym is)
 
   module _ {F R : Type 0} (g : Once F (MutBor T × Unit {0}) (R × (MutBor T × Unit {0}))) (change : F) where
-    -- the node after the call on that child, whose answer is r
-    pub record IsChanged {E : Type 0} (new : List (Child T L)) (r : Result R E) : Type 0 where
-      pub whole : AreChildren label_of new
-      pub changed : IfOk r (ChangesItem g change at tree.0 (items_in new))
-      pub height : height_in new ≡ tree.1
-      pub refused : OnErr r (items_in new ≡ tree.0)
-
     -- the item was changed in the child, or the call was refused
     pub changed_under : {E : Type 0} (new : List T × ℕ) (r : Result R E)
         → IfOk r (ChangesItem g change p d.tree.0 new.0) → new.1 ≡ d.tree.1 → OnErr r (new.0 ≡ d.tree.0)
         → ((before : T) → slice_get d.tree.0 p ≡ Some before → KeepsLabel g change label_of before)
-        → IsChanged (set cs i (record d { tree = new })) r
+        → IsChanged label_of tree at g change (set cs i (record d { tree = new })) r
     changed_under new (Ok r) changed level refused keeps =
         let kept = keeps changed.before changed.found changed.after r changed.called in
         let c = record d { tree = new } in
@@ -103,6 +107,30 @@ module _ {T L : Type 0} {label_of : T → L} (tree : List T × ℕ) (cs : List (
           height = done.height ∙ ap (λ (t : List T × ℕ). t.1) same;
           refused = done.items ∙ ap (λ (t : List T × ℕ). t.0) same;
         }
+
+-- a spot behind an item leads to that item's child
+module _ {T L : Type 0} {label_of : T → L} (tree : List T × ℕ) (cs : List (Child T L)) (spot : Spot) (d : Child T L)
+    (are : AreChildren label_of cs) (same : ◌≡◌ {A = List T × ℕ} (items_in cs, height_in cs) tree) (at : ℕ)
+    (leads : Leads cs (at + 1) spot) (is : d ≡ get_or cs spot.child d) where
+  pub spot_inside : spot.place - 1 < length d.tree.0
+  spot_inside =
+      let inner = leads.inner (omega arith) in
+      omega (arith, leads.inside d, inner, ap (λ (c : Child T L). length c.tree.0) is)
+
+  pub spot_place : at ≡ length (items_in (take spot.child cs)) + (spot.place - 1)
+  spot_place = let inner = leads.inner (omega arith) in omega (arith, leads.is, inner)
+
+  pub item_at : slice_get tree.0 at ≡ slice_get d.tree.0 (spot.place - 1)
+  item_at = item_under tree cs spot.child d are same leads.within is at (spot.place - 1) spot_place spot_inside
+
+  pub changed_at : {F R E : Type 0} (g : Once F (MutBor T × Unit {0}) (R × (MutBor T × Unit {0}))) (change : F)
+      (new : List T × ℕ) (r : Result R E) → IfOk r (ChangesItem g change (spot.place - 1) d.tree.0 new.0)
+      → new.1 ≡ d.tree.1 → OnErr r (new.0 ≡ d.tree.0)
+      → ((before : T) → slice_get tree.0 at ≡ Some before → KeepsLabel g change label_of before)
+      → IsChanged label_of tree at g change (set cs spot.child (record d { tree = new })) r
+  changed_at g change new r changed level refused keeps =
+      changed_under tree cs spot.child d are same leads.within is at (spot.place - 1) spot_place spot_inside g change
+      new r changed level refused (λ before here. keeps before (item_at ∙ here))
 
 module _ {T : Type 0} where
   -- a number without an item is past the end

@@ -4,7 +4,7 @@ use Rattle.std.proofs.Common.{get_or, set, ap, sym, ◌∙◌, subst, arith, len
 use Rattle.std.proofs.Common.{append-nil, add-one, inl, inr, cond}
 use Rattle.std.specs.Prelude.{Bool}
 use Rattle.std.specs.List.{All, insert, remove}
-use Rattle.std.proofs.lemmas.List.{drop_more, get_or_default, set_at, set_split, length-take-le, take_more}
+use Rattle.std.proofs.lemmas.List.{drop_more, get_or_default, set-get_or, set_at, set_split, length-take-le, take_more}
 use Rattle.std.proofs.lemmas.List.Elements.{All-cons, All-nil}
 use Rattle.std.proofs.lemmas.List.Edits.{get_or-remove_below, insert-append_right}
 use Rattle.std.proofs.lemmas.Bool.Decides.{leb_tells}
@@ -73,6 +73,12 @@ module _ {X : Type 0} where
             ∙ get_or-remove_below xs (i + 1) d i (omega arith) h;
         second = second ∙ ap (λ (ys : List X). get_or ys (i + 1) e) same;
       }
+
+  -- an item that was read goes back
+  pub written_back : (xs room : List X) (i : ℕ) (d new : X) → d ≡ get_or room i d → new ≡ d → room ≡ xs
+      → set room i new ≡ xs
+  written_back xs room i d new is kept same =
+      ap (λ (x : X). set room i x) (kept ∙ is) ∙ set-get_or room i d ∙ same
 
   -- two items in place of one
   two_for_one : (xs : List X) (i : ℕ) (x y : X) → i < length xs

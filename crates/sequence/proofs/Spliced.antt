@@ -1,7 +1,7 @@
 -- Items in place of others, within a longer list.
 use Rattle.std.proofs.Common.{◌≡◌, ℕ, ◌+◌, ◌-◌, ◌<◌, ◌≤◌, zero, suc, List, [], ◌∷◌, ◌++◌, length, take, drop, set}
 use Rattle.std.proofs.Common.{refl, ap, sym, ◌∙◌}
-use Rattle.std.proofs.Common.{arith, append_assoc, length-append, length-take}
+use Rattle.std.proofs.Common.{arith, append-nil, append_assoc, length-append, length-take}
 use Rattle.std.proofs.Common.{length-drop}
 use Rattle.std.specs.Prelude.{slice_get}
 use Rattle.std.proofs.lemmas.List.{set-append_left, set-append_right}
@@ -34,6 +34,14 @@ module _ {T : Type 0} where
   splice_between l m r at p gone more place h =
       ap (λ (n : ℕ). spliced n gone more (l ++ (m ++ r))) place
       ∙ splice_back l (m ++ r) p gone more ∙ ap (λ (xs : List T). l ++ xs) (splice_front m r p gone more h)
+
+  -- behind all
+  pub splice_end : (es more : List T) → spliced (length es) 0 more es ≡ es ++ more
+  splice_end [] more = append-nil more
+  splice_end (e ∷ es) more =
+      let next : suc (length es) + 0 ≡ suc (length es + 0) = omega arith in
+      ap (λ (n : ℕ). e ∷ (take (length es) es ++ (more ++ drop n (e ∷ es)))) next
+      ∙ ap (λ (xs : List T). e ∷ xs) (splice_end es more)
 
   -- how many there are then
   pub length-spliced : (at gone : ℕ) (more es : List T) → at + gone ≤ length es

@@ -1,5 +1,6 @@
 -- How many items a node of a height has at least.
-use Rattle.std.proofs.Common.{◌+◌, ◌*◌, ◌<◌, ◌≤◌, ◌^◌, inl, inr, ℕ, List, [], ◌∷◌, length, subst, arith, length-append}
+use Rattle.std.proofs.Common.{◌≡◌, ◌+◌, ◌*◌, ◌<◌, ◌≤◌, ◌^◌, inl, inr, ℕ, zero, suc, List, [], ◌∷◌, length, get_or}
+use Rattle.std.proofs.Common.{subst, arith, length-append}
 use Rattle.std.specs.List.{All}
 use Rattle.std.proofs.lemmas.Bool.{cases_lt}
 use Rattle.std.proofs.lemmas.Grind.{pow_more}
@@ -9,7 +10,7 @@ use Rattle.std.proofs.Math.Nat.{pow-le-pow_right}
 use Rattle.sequence.specs.declared.tree.Child.{Child}
 use Rattle.sequence.specs.declared.tree.Node.{Node}
 use Rattle.sequence.specs.declared.tree.Node.TheVariants.{Leaf, Branch}
-use Rattle.sequence.specs.Nodes.{AreChildren, IsChild, IsList, IsNode, seen, items_in, height_in}
+use Rattle.sequence.specs.Nodes.{AreChildren, CanLose, IsChild, IsList, IsNode, seen, items_in, height_in}
 
 module _ {T L : Type 0} where
   -- a child under a node of height h has half of 2 ^ h items at least
@@ -45,6 +46,17 @@ module _ {T L : Type 0} where
       let rest = two_children h cs (All-tail (IsChild h) c cs a) (omega (arith, p)) in
       let more : 2 * 2 ^ h ≤ 2 * length (items_in cs) = omega (arith, rest) in
       omega (arith, wide_more h c cs (2 * 2 ^ h) (a 0 c (omega arith)) more, pow_pos h)
+
+  -- an only child has more than it has at least, if the node has as many items as a child of its height
+  pub only_spare : (cs : List (Child T L)) (i : ℕ) (d : Child T L) → length cs ≡ 1 → i < length cs
+      → 2 ^ height_in cs ≤ length (items_in cs) → CanLose (get_or cs i d).tree
+  only_spare [] i d one h wide = absurd (omega (arith, one))
+  only_spare (c ∷ []) zero d one h wide =
+      let level : height_in (c ∷ []) ≡ c.tree.1 + 1 = omega arith in
+      let most = subst (λ (n : ℕ). 2 ^ n ≤ length (items_in (c ∷ []))) level wide in
+      omega (arith, most, pow_more 2 c.tree.1, pow_pos c.tree.1, length-append c.tree.0 [])
+  only_spare (c ∷ []) (suc i) d one h wide = absurd (omega (arith, h))
+  only_spare (c ∷ e ∷ cs) i d one h wide = absurd (omega (arith, one))
 
 module _ {T L : Type 0} {label_of : T → L} where
   -- a branch has a child

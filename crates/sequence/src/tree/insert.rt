@@ -164,8 +164,9 @@ fn beside<T: Clone, L: NewLabel<T>>(
 {
     if place == 0 {
         // The first child becomes one behind another.
-        children[0].label = L::new(children[0].tree.item(0))?;
+        let label = L::new(children[0].tree.item(0))?;
         children.insert(0, child)?;
+        children[1].label = label;
         meet(children, 0, alloc);
         return Ok(());
     }

@@ -55,13 +55,13 @@ Tree::act-act_under-requires g t c κs within =
     let has = subst (λ tree. HasCut test tree.0) (sym node.same) c.requires.cut in (
       omega (arith, c.decreases, ap (λ t. t.1) node.same, height_some c.in-Branch.children.items node.whole),
       (
-        search rules,
+        within.0,
         (
-          search rules,
+          within.1.0,
           (
-            search rules,
+            within.1.1.0,
             (
-              search rules,
+              within.1.1.1,
               (
                 c.requires.copies,
                 (
@@ -103,13 +103,13 @@ Tree::act_under-act-requires g t c κs within =
         (are.each at d under.within).level,
       ),
       (
-        search rules,
+        within.0,
         (
-          search rules,
+          within.1.0,
           (
-            search rules,
+            within.1.1.0,
             (
-              search rules,
+              within.1.1.1,
               (
                 c.requires.copies,
                 (

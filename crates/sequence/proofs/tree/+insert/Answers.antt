@@ -1,5 +1,5 @@
 -- The tree, its branch and one child of that take the piece in.
-use Rattle.std.proofs.Common.{◌≡◌, ◌+◌, ◌≤◌, ◌<◌, ◌^◌, ap, sym, subst, arith, length, rules, set}
+use Rattle.std.proofs.Common.{◌≡◌, ◌+◌, ◌≤◌, ◌<◌, ◌^◌, ap, sym, subst, arith, length, set}
 use Rattle.std.specs.Prelude.{OnOk}
 use Rattle.sequence.specs.Nodes.{items_in}
 use Rattle.sequence.specs.Pieces.{Fits, items_of}
@@ -19,9 +19,9 @@ Tree::insert-insert_under-requires g t c κs within =
     let items = ap (λ t. length t.0) node.same in (
       omega (arith, c.decreases, ap (λ t. t.1) node.same, height_some c.in-Branch.children.items node.whole),
       (
-        search rules,
+        within.0,
         (
-          search rules,
+          within.1,
           (
             c.requires.copies,
             (
@@ -59,9 +59,9 @@ insert::insert_under-insert-requires g t c κs within =
         same.height,
       ),
       (
-        search rules,
+        within.0,
         (
-          search rules,
+          within.1,
           (
             c.requires.copies,
             (

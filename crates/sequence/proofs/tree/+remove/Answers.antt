@@ -1,8 +1,8 @@
 -- The tree, its branch and one child of that let the item go.
-use Rattle.std.proofs.Common.{◌≡◌, ◌+◌, ◌-◌, ◌≤◌, ◌<◌, ◌^◌, ◌∙◌, [], ap, sym, subst, arith, length, refl, rules, take}
+use Rattle.std.proofs.Common.{◌≡◌, ◌+◌, ◌-◌, ◌≤◌, ◌<◌, ◌^◌, ◌∙◌, [], ap, sym, subst, arith, length, refl, rules}
 use Rattle.std.specs.Prelude.{IfOk, Some, slice_get}
 use Rattle.sequence.specs.Nodes.{CanLose, height_in, items_in}
-use Rattle.sequence.proofs.Changed.{item_under}
+use Rattle.sequence.proofs.Changed.{item_at, spot_inside, spot_place}
 use Rattle.sequence.proofs.Copied.{made}
 use Rattle.sequence.proofs.Labelled.{labelled_at}
 use Rattle.sequence.proofs.Placed.{child_here, put_under}
@@ -15,9 +15,9 @@ Tree::remove-remove_under-requires g t c κs within =
     c.self.invariant c.self.view_is c.in_ok-node.ensures.value (c.requires.copies, c.requires.labels)) in (
       omega (arith, c.decreases, ap (λ t. t.1) node.same, height_some c.in-Branch.children.items node.whole),
       (
-        search rules,
+        within.0,
         (
-          search rules,
+          within.1,
           (
             c.requires.copies,
             (
@@ -51,9 +51,9 @@ remove::remove_under-remove-requires g t c κs within =
         same.height,
       ),
       (
-        search rules,
+        within.0,
         (
-          search rules,
+          within.1,
           (
             c.requires.copies,
             (
@@ -81,16 +81,13 @@ remove::remove_under-returns g t c =
     let leads = c.in_ok-spot.ensures.leads in
     let d = c.index_mut.result.now in
     let is = c.index_mut.ensures.value in
-    let inner = leads.inner (omega arith) in
-    let there : spot.place - 1 < length d.tree.0 =
-    omega (arith, leads.inside d, inner, ap (λ child. length child.tree.0) is) in
+    let there = spot_inside (items_in cs, height_in cs) cs spot d same.children refl at leads is in
     let inside : spot.place - 1 + 1 ≤ length d.tree.0 = omega (arith, there) in
-    let place : at ≡ length (items_in (take spot.child cs)) + (spot.place - 1) = omega (arith, leads.is, inner) in
+    let place = spot_place (items_in cs, height_in cs) cs spot d same.children refl at leads is in
     let room : length (items_in old) + 0 < 2 ^ 64 + 1 = omega (arith, c.requires.children.list.room) in
     let item : slice_get (items_in old) at ≡ slice_get d.tree.0 (spot.place - 1) =
     ap (λ es. slice_get es at) (sym same.items)
-    ∙ item_under (items_in cs, height_in cs) cs spot.child d same.children refl leads.within is at (spot.place - 1)
-    place there in
+    ∙ item_at (items_in cs, height_in cs) cs spot d same.children refl at leads is in
     let label = λ (p : 0 < spot.child). c.remove.ensures.label (search rules)
     (labelled_at cs spot.child d same.children p leads.within is) in
     let done = put_under old cs spot.child d c.remove.new.self same leads.within is c.remove.ensures.child label at

@@ -1,10 +1,10 @@
 -- The item is changed in the child that has it.
-use Rattle.std.proofs.Common.{◌≡◌, ◌+◌, ◌-◌, ◌<◌, ◌∙◌, ℕ, ap, arith, length, refl, rules, set, subst, sym, take}
+use Rattle.std.proofs.Common.{◌∙◌, ℕ, ap, arith, length, refl, rules, set, subst, sym}
 use Rattle.std.specs.Prelude.{IsOk, slice_get}
 use Rattle.std.proofs.lemmas.Option.{slice_get_read}
 use Rattle.sequence.specs.declared.tree.Node.TheVariants.{Branch}
-use Rattle.sequence.specs.Nodes.{AreChildren, items_in}
-use Rattle.sequence.proofs.Changed.{changed_under, item_under}
+use Rattle.sequence.specs.Nodes.{AreChildren}
+use Rattle.sequence.proofs.Changed.{changed_at, item_at, spot_inside}
 use Rattle.sequence.proofs.Copied.{IsMade, made}
 use Rattle.sequence.proofs.tree.Tree.+modify.Given as given
 use Rattle.sequence.proofs.tree.Tree.+modify.Goals as goal
@@ -49,13 +49,7 @@ modify-requires g t c κs within =
     let leads = rw c.deref.ensures.value at c.spot_of-spot.ensures in
     let d = c.index_mut-2.result.now in
     let is = c.index_mut-2.ensures.value in
-    let inner = leads.inner (omega arith) in
-    let there : spot.place - 1 < length d.tree.0 =
-    omega (arith, leads.inside d, inner, ap (λ child. length child.tree.0) is) in
-    let place : c.args.index ≡ length (items_in (take spot.child cs)) + (spot.place - 1) =
-    omega (arith, leads.is, inner) in
-    let same = item_under c.args.self.now cs spot.child d node.whole node.same leads.within is c.args.index
-    (spot.place - 1) place there in (
+    let same = item_at c.args.self.now cs spot d node.whole node.same c.args.index leads is in (
       omega (
         arith,
         c.decreases,
@@ -64,18 +58,21 @@ modify-requires g t c κs within =
         (node.whole.each spot.child d leads.within).level,
       ),
       (
-        search rules,
+        within.0,
         (
-          search rules,
+          within.1.0,
           (
-            search rules,
+            within.1.1.0,
             (
-              search rules,
+              within.1.1.1,
               (
                 c.requires.copies,
                 (
                   c.requires.labels,
-                  (there, (λ x e. c.requires.callable x (same ∙ e), λ x e. c.requires.keeps x (same ∙ e))),
+                  (
+                    spot_inside c.args.self.now cs spot d node.whole node.same c.args.index leads is,
+                    (λ x e. c.requires.callable x (same ∙ e), λ x e. c.requires.keeps x (same ∙ e)),
+                  ),
                 ),
               ),
             ),
@@ -88,40 +85,17 @@ pub invariant_of-self-2 : goal.invariant_of-self-2
 invariant_of-self-2 g t c =
     let node = branch g t (goal.at.invariant_of-self-2 g t c).In-Branch in
     let ok : IsOk c.make_mut.result = search rules in
-    let cs = c.in-Branch.children.items in
-    let spot = c.spot_of-spot.result in
-    let leads = rw c.deref.ensures.value at c.spot_of-spot.ensures in
-    let d = c.index_mut-2.result.now in
-    let is = c.index_mut-2.ensures.value in
-    let inner = leads.inner (omega arith) in
-    let there : spot.place - 1 < length d.tree.0 =
-    omega (arith, leads.inside d, inner, ap (λ child. length child.tree.0) is) in
-    let place : c.args.index ≡ length (items_in (take spot.child cs)) + (spot.place - 1) =
-    omega (arith, leads.is, inner) in
-    let same = item_under c.args.self.now cs spot.child d node.whole node.same leads.within is c.args.index
-    (spot.place - 1) place there in
-    rw c.make_mut.follows.holds ((changed_under c.args.self.now cs spot.child d node.whole node.same leads.within is
-    c.args.index (spot.place - 1) place there g.F.FnOnce c.args.change c.modify.new.self c.modify.result
-    c.modify.ensures.changed c.modify.ensures.height c.modify.ensures.refused
-    (λ x e. c.requires.keeps x (same ∙ e))).whole)
+    rw c.make_mut.follows.holds ((changed_at c.args.self.now c.in-Branch.children.items c.spot_of-spot.result
+    c.index_mut-2.result.now node.whole node.same c.args.index (rw c.deref.ensures.value at c.spot_of-spot.ensures)
+    c.index_mut-2.ensures.value g.F.FnOnce c.args.change c.modify.new.self c.modify.result c.modify.ensures.changed
+    c.modify.ensures.height c.modify.ensures.refused c.requires.keeps).whole)
 
 pub returns : goal.returns
 returns g t c =
     let node = branch g t (goal.at.returns g t c).In-Branch in
     let ok : IsOk c.make_mut.result = search rules in
-    let cs = c.in-Branch.children.items in
-    let spot = c.spot_of-spot.result in
-    let leads = rw c.deref.ensures.value at c.spot_of-spot.ensures in
-    let d = c.index_mut-2.result.now in
-    let is = c.index_mut-2.ensures.value in
-    let inner = leads.inner (omega arith) in
-    let there : spot.place - 1 < length d.tree.0 =
-    omega (arith, leads.inside d, inner, ap (λ child. length child.tree.0) is) in
-    let place : c.args.index ≡ length (items_in (take spot.child cs)) + (spot.place - 1) =
-    omega (arith, leads.is, inner) in
-    let same = item_under c.args.self.now cs spot.child d node.whole node.same leads.within is c.args.index
-    (spot.place - 1) place there in
-    let done = changed_under c.args.self.now cs spot.child d node.whole node.same leads.within is c.args.index
-    (spot.place - 1) place there g.F.FnOnce c.args.change c.modify.new.self c.modify.result c.modify.ensures.changed
-    c.modify.ensures.height c.modify.ensures.refused (λ x e. c.requires.keeps x (same ∙ e)) in
+    let done = changed_at c.args.self.now c.in-Branch.children.items c.spot_of-spot.result c.index_mut-2.result.now
+    node.whole node.same c.args.index (rw c.deref.ensures.value at c.spot_of-spot.ensures) c.index_mut-2.ensures.value
+    g.F.FnOnce c.args.change c.modify.new.self c.modify.result c.modify.ensures.changed c.modify.ensures.height
+    c.modify.ensures.refused c.requires.keeps in
     rw c.make_mut.follows.holds (record { changed = done.changed; height = done.height; refused = done.refused })

@@ -1,34 +1,66 @@
 -- The branch has one more child, which `meet` may join with the one beside it.
-use Rattle.std.proofs.Common.{◌≡◌, ◌∙◌, ap, subst, sym}
-use Rattle.std.specs.Prelude.{Some}
-use Rattle.std.proofs.lemmas.List.{get_or_default}
-use Rattle.sequence.specs.Nodes.{AreChildren, first_label, height_in}
-use Rattle.sequence.proofs.Beside.{labelled_first, more_before, more_behind}
-use Rattle.sequence.proofs.Labelled.{first_get}
-use Rattle.sequence.proofs.Wide.{some_in}
+use Rattle.std.proofs.Common.{◌≡◌, ◌++◌, ◌∷◌, ◌∙◌, [], ap, append-nil, arith, get_or, inl, inr, length, set, subst, sym}
+use Rattle.sequence.specs.Nodes.{AreChildren, height_in, items_in}
+use Rattle.sequence.specs.Spots.{spliced}
+use Rattle.sequence.proofs.Beside.{labelled_by_first, more_before, more_behind}
+use Rattle.sequence.proofs.Children.{items_append}
+use Rattle.sequence.proofs.Spliced.{splice_end}
 use Rattle.sequence.proofs.tree.insert.beside.Goals as goal
 
 pub meet-requires-clause-children : goal.meet-requires-clause-children
 meet-requires-clause-children g c =
-    let label_of = g.L.Label.label_of in
     let cs = c.args.children.now.items in
     let are = c.requires.children in
     let d = c.index_mut.result.now in
-    let e = c.index.result.now in
-    let same : d ≡ e =
-    c.index_mut.ensures.value ∙ get_or_default cs 0 d e (some_in cs are) ∙ sym c.index.ensures in
-    let first = ap (λ child. first_label label_of child.tree.0) same
-    ∙ first_get label_of e.tree.0 c.item.result.now c.item.ensures
-    ∙ ap (λ l. Some l) (sym (c.in_ok-children.ensures c.requires.labels)) in
-    subst (AreChildren label_of) (sym c.in_ok-insert.ensures.items)
+    let put = c.in_ok-insert.ensures.items in
+    subst (λ xs. AreChildren g.L.Label.label_of (set xs 1 (record d { label = c.in_ok-label.label }))) (sym put)
     (more_before cs c.args.child are c.requires.child c.requires.room _
-    (labelled_first cs d c.in_ok-children.field-0 are c.index_mut.ensures.value first)).children
+    (labelled_by_first cs d c.index.result.now c.item.result.now c.in_ok-label.label are
+    (c.index_mut.ensures.value ∙ ap (λ xs. get_or xs 1 d) put) c.index.ensures c.item.ensures
+    (c.in_ok-label.ensures c.requires.labels))).children
+
+pub returns-then-place-eq0-clause-items : goal.returns-then-place-eq0-clause-items
+returns-then-place-eq0-clause-items g c =
+    let cs = c.args.children.now.items in
+    let d = c.index_mut.result.now in
+    let put = c.in_ok-insert.ensures.items in
+    let labelled = labelled_by_first cs d c.index.result.now c.item.result.now c.in_ok-label.label c.requires.children
+    (c.index_mut.ensures.value ∙ ap (λ xs. get_or xs 1 d) put) c.index.ensures c.item.ensures
+    (c.in_ok-label.ensures c.requires.labels) in
+    subst (λ n. items_in c.meet.new.children.items ≡ spliced n 0 c.args.child.tree.0 (items_in cs))
+    (sym c.if-place-eq0.true)
+    (c.meet.ensures.items ∙ ap (λ xs. items_in (set xs 1 (record d { label = c.in_ok-label.label }))) put
+    ∙ ap (λ es. c.args.child.tree.0 ++ es) labelled.same.items)
+
+pub returns-then-place-eq0-clause-height : goal.returns-then-place-eq0-clause-height
+returns-then-place-eq0-clause-height g c =
+    let cs = c.args.children.now.items in
+    let are = c.requires.children in
+    let d = c.index_mut.result.now in
+    let put = c.in_ok-insert.ensures.items in
+    c.meet.ensures.height ∙ ap (λ xs. height_in (set xs 1 (record d { label = c.in_ok-label.label }))) put
+    ∙ (more_before cs c.args.child are c.requires.child c.requires.room _
+    (labelled_by_first cs d c.index.result.now c.item.result.now c.in_ok-label.label are
+    (c.index_mut.ensures.value ∙ ap (λ xs. get_or xs 1 d) put) c.index.ensures c.item.ensures
+    (c.in_ok-label.ensures c.requires.labels))).height
 
 pub meet-requires-2-clause-children : goal.meet-requires-2-clause-children
 meet-requires-2-clause-children g c =
     subst (AreChildren g.L.Label.label_of) (sym c.in_ok-push.ensures.items)
     (more_behind c.args.children.now.items c.args.child c.requires.children c.requires.child c.requires.room
     c.requires.label).children
+
+pub returns-clause-items : goal.returns-clause-items
+returns-clause-items g c =
+    let cs = c.args.children.now.items in
+    let child = c.args.child in
+    let last : c.args.place ≡ length (items_in cs) = elim c.requires.edge [
+      | inl first ↦ absurd (omega (arith, first))
+      | inr last ↦ last
+    ] in
+    subst (λ n. items_in c.meet-2.new.children.items ≡ spliced n 0 child.tree.0 (items_in cs)) (sym last)
+    (c.meet-2.ensures.items ∙ ap (λ cs. items_in cs) c.in_ok-push.ensures.items ∙ items_append cs (child ∷ [])
+    ∙ ap (λ es. items_in cs ++ es) (append-nil child.tree.0) ∙ sym (splice_end (items_in cs) child.tree.0))
 
 pub returns-clause-height : goal.returns-clause-height
 returns-clause-height g c =

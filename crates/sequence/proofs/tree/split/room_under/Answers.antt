@@ -1,6 +1,9 @@
 use Rattle.std.proofs.Common.{◌≡◌, ◌+◌, ◌∙◌, ap, arith, get_or, get_or-set_same, length, set, subst, sym}
 use Rattle.std.specs.List.{insert}
-use Rattle.sequence.proofs.Joined.{IsRoom, split_is}
+use Rattle.sequence.specs.Nodes.{CanLose, StandFor}
+use Rattle.sequence.specs.Spots.{Leads}
+use Rattle.sequence.proofs.Joined.{IsRoom, split_is, written_back}
+use Rattle.sequence.proofs.Placed.{child_here, stand_itself}
 use Rattle.sequence.proofs.tree.split.room_under.Goals as goal
 
 pub returns : goal.returns
@@ -26,3 +29,44 @@ returns g c =
     (sym c.past.ensures)
     done) in
     record { same = all.same; leads = all.leads; spare = λ _. all.spare }
+
+pub halve-requires-clause-child : goal.halve-requires-clause-child
+halve-requires-clause-child g c =
+    let at = c.args.spot.child in
+    let d = c.index_mut.result.now in
+    child_here c.args.children.now.items at d c.requires.children c.requires.within
+    (c.index_mut.ensures.value ∙ ap (λ cs. get_or cs at d) c.in_ok-reserve.ensures.items)
+
+pub returns-in_err-right-clause-same : goal.returns-in_err-right-clause-same
+returns-in_err-right-clause-same g c =
+    let cs = c.args.children.now.items in
+    subst (StandFor g.L.Label.label_of cs)
+    (sym (written_back cs c.reserve.new.self.items c.args.spot.child c.index_mut.result.now c.halve.new.self
+    c.index_mut.ensures.value c.in_err-right.ensures.refused c.in_ok-reserve.ensures.items))
+    (stand_itself cs c.requires.children)
+
+pub returns-in_default-clause-same : goal.returns-in_default-clause-same
+returns-in_default-clause-same g c =
+    let cs = c.args.children.now.items in
+    let whole = rw c.in_default.is at c.in_ok-right.ensures.whole in
+    subst (StandFor g.L.Label.label_of cs)
+    (sym (written_back cs c.reserve.new.self.items c.args.spot.child c.index_mut.result.now c.halve.new.self
+    c.index_mut.ensures.value whole c.in_ok-reserve.ensures.items))
+    (stand_itself cs c.requires.children)
+
+pub returns-in_default-clause-leads : goal.returns-in_default-clause-leads
+returns-in_default-clause-leads g c place leads =
+    let whole = rw c.in_default.is at c.in_ok-right.ensures.whole in
+    subst (λ xs. Leads xs place c.args.spot)
+    (sym (written_back c.args.children.now.items c.reserve.new.self.items c.args.spot.child c.index_mut.result.now
+    c.halve.new.self c.index_mut.ensures.value whole c.in_ok-reserve.ensures.items))
+    leads
+
+pub returns-in_default-clause-spare : goal.returns-in_default-clause-spare
+returns-in_default-clause-spare g c can d =
+    let at = c.args.spot.child in
+    let whole = rw c.in_default.is at c.in_ok-right.ensures.whole in
+    subst (λ xs. CanLose (get_or xs at d).tree)
+    (sym (written_back c.args.children.now.items c.reserve.new.self.items at c.index_mut.result.now c.halve.new.self
+    c.index_mut.ensures.value whole c.in_ok-reserve.ensures.items))
+    (can d)

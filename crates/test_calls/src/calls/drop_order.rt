@@ -64,7 +64,7 @@ const OVER: Option<BuildError> = Some(BuildError::OverReported);
 
 const UNDER: Option<BuildError> = Some(BuildError::UnderReported);
 
-const ROWS: [Row; 11] = [
+static ROWS: &[Row; 11] = &[
     (3, 3, None),
     (3, 2, OVER),
     (1, 2, UNDER),
@@ -89,8 +89,8 @@ fn check<T: Drop>(rt: &impl Abort, row: Row, log: &Log, built: Result<T, BuildEr
     same_at!(rt, row, log.read(), (all, 0));
 }
 
-fn check_row(rt: &(impl Abort + AllocGlobal), row: Row, is_unique: bool) {
-    let (num_items, number, refusal) = row;
+fn check_row(rt: &(impl Abort + AllocGlobal), row: &Row, is_unique: bool) {
+    let (num_items, number, refusal) = *row;
     let turn = number.min((num_items as u64).saturating_add(1));
     let (log, rest) = (Log::new(), Log::new());
     let items = ok!(rt, source_of(rt.alloc(), (number, turn), &log, &rest));

@@ -1,6 +1,7 @@
 //! What header slices read, and how they are written before they are shared.
 ghost use Rattle.std.specs.Prelude.{◌≡◌, length};
 
+use crate::calls::texts::check_debug;
 use servo_arc::{Arc, HeaderSlice, ThinArc, UniqueArc};
 use std::collections::HashMap;
 use std::mem;
@@ -128,10 +129,9 @@ fn slices_are_sorted(rt: HostRuntime) {
     ];
     let mut slices = ok!(&rt, slices);
     ok!(&rt, slices.sort());
-    let text = ok!(&rt, format!(in rt.alloc(); "{slices:?}"));
-    same!(
+    check_debug(
         &rt,
-        text.as_str(),
+        &slices,
         "[HeaderSlice { header: 1, slice: [5, 6] }, HeaderSlice { header: 1, slice: [5, 7] }, \
          HeaderSlice { header: 2, slice: [0, 0] }]",
     );

@@ -60,22 +60,22 @@ fn check_built<T: Debug + PartialEq + Drop>(
 }
 
 // The row through both makers.
-fn check<T: Copy + Debug + PartialEq + Drop>(rt: &(impl Abort + AllocGlobal), row: Row<'_, T>) {
-    let (num_items, answers, _, _) = row;
+fn check<T: Copy + Debug + PartialEq + Drop>(rt: &(impl Abort + AllocGlobal), row: &Row<'_, T>) {
+    let (num_items, answers, ..) = *row;
     let asked = AtomicU64::new(0);
     let source = ok!(rt, source_of(rt.alloc(), answers, &asked));
     let built = Arc::from_header_and_iter_with_size(rt.alloc(), 7u8, source, num_items);
-    check_built(rt, &row, built, &asked);
+    check_built(rt, row, built, &asked);
     let source = ok!(rt, source_of(rt.alloc(), answers, &asked));
     let built = UniqueArc::from_header_and_iter_with_size(rt.alloc(), 7u8, source, num_items);
-    check_built(rt, &row, shared(built), &asked);
+    check_built(rt, row, shared(built), &asked);
 }
 
 const OVER: BuildError = BuildError::OverReported;
 
 const UNDER: BuildError = BuildError::UnderReported;
 
-const ROWS: [Row<'static, u64>; 12] = [
+static ROWS: &[Row<'static, u64>; 12] = &[
     (3, &[Some(1), Some(2)], Err(OVER), 3),
     (2, &[Some(1), Some(2), Some(3)], Err(UNDER), 3),
     (0, &[Some(1)], Err(UNDER), 1),
@@ -97,7 +97,7 @@ fn asks_once_more_and_never_after_none(rt: HostRuntime) {
     }
 }
 
-const WITHOUT_SIZE: [Row<'static, ()>; 2] = [
+static WITHOUT_SIZE: &[Row<'static, ()>; 2] = &[
     (3, &[Some(()), Some(()), Some(())], Ok(&[(), (), ()]), 4),
     (usize::MAX, &[Some(()), Some(())], Err(OVER), 3),
 ];
@@ -153,19 +153,19 @@ fn boaster(claimed: usize, asked: &AtomicU64) -> Boasting<'_> {
     }
 }
 
-const BOASTS: [Row<'static, u8>; 2] = [(3, &[], Ok(&[2, 1, 0]), 1), (4, &[], Err(OVER), 1)];
+static BOASTS: &[Row<'static, u8>; 2] = &[(3, &[], Ok(&[2, 1, 0]), 1), (4, &[], Err(OVER), 1)];
 
 #[test]
 fn asks_the_iterator_for_the_number_once(rt: HostRuntime) {
     for row in BOASTS {
         let asked = AtomicU64::new(0);
         let built = Arc::from_header_and_iter(rt.alloc(), 1u8, boaster(row.0, &asked));
-        check_built(&rt, &row, built, &asked);
+        check_built(&rt, row, built, &asked);
         let built = UniqueArc::from_header_and_iter(rt.alloc(), 1u8, boaster(row.0, &asked));
-        check_built(&rt, &row, shared(built), &asked);
+        check_built(&rt, row, shared(built), &asked);
         let results = boaster(row.0, &asked).map(Ok);
         let built = Arc::try_from_header_and_iter(rt.alloc(), 1u8, results);
-        check_built(&rt, &row, built, &asked);
+        check_built(&rt, row, built, &asked);
     }
 }
 

@@ -13,7 +13,7 @@ fn check_display<T: Display>(rt: &(impl Abort + AllocGlobal), value: &T, text: &
     same!(rt, ok!(rt, found).as_str(), text);
 }
 
-fn check_debug<T: Debug>(rt: &(impl Abort + AllocGlobal), value: &T, text: &str) {
+pub fn check_debug<T: Debug>(rt: &(impl Abort + AllocGlobal), value: &T, text: &str) {
     let found = format!(in rt.alloc(); "{value:?}");
     same!(rt, ok!(rt, found).as_str(), text);
 }

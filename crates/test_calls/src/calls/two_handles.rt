@@ -131,7 +131,7 @@ fn check<'a>(
     rt: &(impl Abort + AllocGlobal),
     tally: &'a Tally,
     handle: Arc<Counted<'a>>,
-    (name, rows): Rows,
+    (name, rows): &Rows,
 ) {
     let mut b = Some(again!(rt, &handle));
     let mut a = Some(handle);
@@ -149,7 +149,7 @@ fn check<'a>(
 /// A name, and what is called on two handles of one block.
 type Rows = (&'static str, &'static [Row]);
 
-const ROWS: [Rows; 10] = [
+static ROWS: &[Rows; 10] = &[
     turns!["the last handle drops the value";
         A Read => Value(5), [0, 0]; B Read => Value(5), [0, 0]; A End => Done, [0, 0]; B Read => Value(5), [0, 0];
         B End => Done, [0, 1]],
@@ -183,12 +183,12 @@ const ROWS: [Rows; 10] = [
         B UnwrapOrClone => Value(5), [1, 1]],
 ];
 
-const LEAKED: Rows = turns!["a marked block is left as it is";
+static LEAKED: &Rows = &turns!["a marked block is left as it is";
     A IsStatic => Is(true), [0, 0]; A IsUnique => Is(false), [0, 0]; A GetMut(4) => Is(false), [0, 0];
     A MakeMut(4) => Value(3), [1, 0]; A Read => Value(4), [1, 0]; A IsStatic => Is(false), [1, 0];
     B Read => Value(3), [1, 0]; B IsStatic => Is(true), [1, 0]; B End => Done, [1, 0]; A End => Done, [1, 1]];
 
-const STATIC: Rows = turns!["the only handle of a marked block is not alone";
+static STATIC: &Rows = &turns!["the only handle of a marked block is not alone";
     B End => Done, [0, 0]; A Read => Value(3), [0, 0]; A IsStatic => Is(true), [0, 0]; A IsUnique => Is(false), [0, 0];
     A GetMut(4) => Is(false), [0, 0]];
 

@@ -7,7 +7,7 @@ use std::process::Abort;
 use testing::{ok, same, same_at};
 
 /// What runs a script, the script and its answers.
-const SHORT: [(&str, &str, &str); 2] = [
+static SHORT: &[(&str, &str, &str); 2] = &[
     ("core", "unique 0 0\nload 0 0\n", "is true\nvalue 5\n"),
     ("table", "new 0 5\nget 0\n", "done\nvalue 5\n"),
 ];
@@ -17,7 +17,7 @@ const READS: usize = 3;
 
 #[test]
 fn reports_input_that_cannot_be_read(rt: HostRuntime) {
-    for (kind, script, _) in SHORT {
+    for &(kind, script, _) in SHORT {
         let (bytes, half) = (script.as_bytes(), script.len() / 2);
         for reads_before in 0..READS {
             let mut input = FailingReader::new(bytes, half, reads_before);
@@ -59,7 +59,7 @@ fn check_failures(rt: &(impl Abort + AllocGlobal), row: Failures<'_>) {
 
 #[test]
 fn ends_at_a_failed_write_or_flush(rt: HostRuntime) {
-    for (kind, script, answers) in SHORT {
+    for &(kind, script, answers) in SHORT {
         check_failures(&rt, (kind, script, answers, 0, 1));
         check_failures(&rt, (kind, "faulty\n", "fault: line 1\n", 2, 1));
     }

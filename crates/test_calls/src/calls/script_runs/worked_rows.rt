@@ -5,7 +5,7 @@ use testing::{ok, same};
 
 /// An empty line separates the rows. A row begins with a name and the words of the program. Its other lines have steps:
 /// lines of the script, each with its answer after ` = `.
-const ROWS: &str = "\
+static ROWS: &str = "\
 a drop in flight bars all but its lower: core 1
 drop 0 0 = pending / unique 0 0 = barred / lower 0 = given up 5 / lower 0 = barred
 
@@ -164,7 +164,7 @@ fn answers_each_line(rt: HostRuntime) {
 }
 
 /// Input that is not all good lines, what it prints, and the status.
-const BYTES: [(&[u8], &[u8], u8); 10] = [
+static BYTES: &[(&[u8], &[u8], u8); 10] = &[
     (b"", b"", 0),
     (b"unique 0 0", b"is true\n", 0),
     (b"unique 0 0\n\n", b"is true\nfault: line 2\n", 2),
@@ -177,7 +177,7 @@ const BYTES: [(&[u8], &[u8], u8); 10] = [
     (b"Load 0 0\n", b"fault: line 1\n", 2),
 ];
 
-const WRONG_WORDS: [&[&str]; 6] = [
+static WRONG_WORDS: &[&[&str]; 6] = &[
     &["core", "0"],
     &["core", "1001"],
     &["core", "01"],
@@ -190,10 +190,10 @@ const WRONG_WORDS: [&[&str]; 6] = [
 fn takes_bytes_and_refuses_words(rt: HostRuntime) {
     for (input, output, status) in BYTES {
         let ran = run_from(rt.alloc(), &["core", "1"], &mut &input[..]);
-        ran.check(&rt, input, output, b"", status);
+        ran.check(&rt, *input, output, b"", *status);
     }
     for words in WRONG_WORDS {
         let ran = run_from(rt.alloc(), words, &mut b"unique 0 0".as_slice());
-        ran.check(&rt, words, b"", b"fault: arguments\n", 1);
+        ran.check(&rt, *words, b"", b"fault: arguments\n", 1);
     }
 }

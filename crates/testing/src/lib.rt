@@ -84,12 +84,11 @@ macro_rules! again {
 /// Commands, and the replies that they should get.
 #[macro_export]
 macro_rules! served {
-    ($rt:expr; $($command:expr => $reply:expr),* $(,)?) => {
-        (
-            crate::ending::given($rt, vec![in $rt.alloc(); $($command),*], "commands"),
-            crate::ending::given($rt, vec![in $rt.alloc(); $($reply),*], "replies"),
-        )
-    };
+    ($rt:expr; $($command:expr => $reply:expr),* $(,)?) => {{
+        let replies: &[servo_arc::table::Reply] = &[$($reply),*];
+        let commands = vec![in $rt.alloc(); $($command),*];
+        (crate::ending::given($rt, commands, "commands"), replies)
+    }};
 }
 
 /// A name, and calls in turn: whose, the call, and what holds then if that is said.

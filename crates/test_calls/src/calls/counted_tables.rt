@@ -22,14 +22,14 @@ fn a_table_drops_what_it_does_not_keep(rt: HostRuntime) {
         Plain::PtrEq(0, 1) => Is(true), Plain::Same(0, 1) => Is(true),
         Plain::GetMut(0, five(&tally)) => Shared, Plain::IntoUnique(1, five(&tally)) => Shared);
     let found = ok!(&rt, table.run_plain(rt.alloc(), commands));
-    same!(&rt, (found, tally.read()), (replies, (0, 10)));
+    same!(&rt, (found.as_slice(), tally.read()), (replies, (0, 10)));
     // Eleven values were made. One is left, in both slots.
     let (commands, replies) = served!(&rt;
         Command::MakeMut(0, five(&tally)) => Done, Command::MakeMut(0, five(&tally)) => Done,
         Command::MakeMut(2, five(&tally)) => NoSlot, Command::Clone(0, 1) => Done, Command::Own(1) => Done,
         Command::PtrEq(0, 1) => Is(false), Command::Drop(1) => Done, Command::MakeMut(1, five(&tally)) => Empty);
     let found = ok!(&rt, table.run(rt.alloc(), commands));
-    same!(&rt, (found, tally.read()), (replies, (2, 16)));
+    same!(&rt, (found.as_slice(), tally.read()), (replies, (2, 16)));
     drop(table);
     same!(&rt, tally.living(15), 0);
 }
@@ -49,7 +49,7 @@ fn a_table_of_unions_drops_what_it_does_not_keep(rt: HostRuntime) {
         Union::Same(1, 1) => Is(true), Union::Clone(0, 1) => Done, Union::Second(0, five(&tally)) => Done);
     let found = ok!(&rt, table.run(rt.alloc(), commands));
     // Twelve values were made, and two are left.
-    same!(&rt, (found, tally.read()), (replies, (0, 10)));
+    same!(&rt, (found.as_slice(), tally.read()), (replies, (0, 10)));
     drop(table);
     same!(&rt, tally.living(12), 0);
 }

@@ -26,7 +26,7 @@ fn put_and_shared(rt: &(impl Abort + AllocGlobal)) -> Slices {
         PlainCommand::Clone(0, 1) => Done, PlainCommand::Same(0, 1) => Is(true),
         PlainCommand::PtrEq(0, 1) => Is(true), PlainCommand::Mark(0) => Done, PlainCommand::Drop(0) => Done);
     let found = ok!(rt, table.run_plain(rt.alloc(), commands));
-    same!(rt, found, replies);
+    same!(rt, found.as_slice(), replies);
     table
 }
 

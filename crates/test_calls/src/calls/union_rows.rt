@@ -11,11 +11,11 @@ use testing::{again, ok, same, served};
 fn check(
     rt: &(impl Abort + AllocGlobal),
     slots: usize,
-    (commands, replies): (Vec<Command<u32, u32>>, Vec<Reply>),
+    (commands, replies): (Vec<Command<u32, u32>>, &[Reply]),
 ) {
     let mut table = ok!(rt, UnionTable::new(rt.alloc(), slots));
     let found = ok!(rt, table.run(rt.alloc(), commands));
-    same!(rt, found, replies);
+    same!(rt, found.as_slice(), replies);
 }
 
 #[test]

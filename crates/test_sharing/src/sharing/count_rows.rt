@@ -73,7 +73,7 @@ enum Who {
 /// Who calls, and the call.
 type Row = (Who, Call);
 
-fn check(rt: &impl Abort, mut p: Caller<'_>, mut q: Caller<'_>, (name, rows): Rows) {
+fn check(rt: &impl Abort, mut p: Caller<'_>, mut q: Caller<'_>, (name, rows): &Rows) {
     for (number, (who, call)) in rows.iter().enumerate() {
         let found = match who {
             P => p.answered(*call),
@@ -87,7 +87,7 @@ fn check(rt: &impl Abort, mut p: Caller<'_>, mut q: Caller<'_>, (name, rows): Ro
 type Rows = (&'static str, &'static [Row]);
 
 /// Calls of the two passes of one count.
-const TOGETHER: [Rows; 2] = [
+static TOGETHER: &[Rows; 2] = &[
     turns!["two passes see each other in the replies";
         P Unique(false); Q ENDED; P Unique(true); P BORN; P Unique(false); P Mark; P Static(true); P ENDED; P ENDED],
     // A clone that raised from the word of `is_unique` would be overtaken here.
@@ -95,15 +95,15 @@ const TOGETHER: [Rows; 2] = [
 ];
 
 /// Calls of two passes, each the only one of its count.
-const APART: [Rows; 3] = [
+const APART: &[Rows; 3] = &[
     turns!["a pass alone is unique and ends last";
         P Owned(1); P BORN; P Owned(2); P ENDED; P Unique(true); P LAST; P Owned(0)],
     turns!["a pass alone ends last"; P LAST],
     turns!["two counts know nothing of each other"; P Mark; Q Unique(true); Q LAST; P Static(true); P ENDED],
 ];
 
-const MET: Rows =
-    turns!["a marked count never ends last"; P Static(true); Q ENDED; Q ENDED; P ENDED];
+static MET: &Rows =
+    &turns!["a marked count never ends last"; P Static(true); Q ENDED; Q ENDED; P ENDED];
 
 #[test]
 fn passes_are_answered_in_turn(rt: HostRuntime) {

@@ -11,7 +11,7 @@ printf '%s\n' '#![tactic(auto)]' 'fn main(rt: HostRuntime) -> std::io::Result<()
     '    println!(rt; "{}{}", low::number(), side::number())' '}' >crates/small/src/main.rt
 cat >commands/rt <<'END'
 #!/bin/sh
-eval "$meanwhile"; grep -rq wrong src && exit 1; mkdir -p out; [ $# = 1 ] || exec touch "$top/begun"
+eval "$meanwhile"; grep -rq wrong src && exit 1; mkdir -p out; case $PWD in */copies/*) exec touch "$top/begun";; esac
 [ $1 = lib ] && exec timeout 60 sh -c "until [ ${PWD##*/} = low ] || [ -e $top/begun ]; do sleep .1; done"
 echo echo $(cat ../low/*/* src/*; wc -l <../../crates.txt) '
 [ $# = 0 ] && exit; echo $# "$@"; cat; echo told >&2; exit 7' >out/small; chmod +x out/small; exit 3

@@ -3,9 +3,16 @@
 #![tactic(auto)]
 
 use std::process::ExitCode;
+use tables::table::Table;
 
 fn main(rt: HostRuntime) -> ExitCode {
     let (mut input, mut output, mut errors) = (rt.stdin(), rt.stdout(), rt.stderr());
-    let status = scripts::start(&rt, rt.alloc(), &mut input, &mut output, &mut errors);
+    let status = scripts::start::<Table<u32>, _, _, _, _>(
+        &rt,
+        rt.alloc(),
+        &mut input,
+        &mut output,
+        &mut errors,
+    );
     ExitCode::from(status)
 }

@@ -2,6 +2,9 @@
 #![tactic(auto)]
 
 pub mod laws;
+mod number_table;
+
+pub use number_table::NumberTable;
 
 /// A command on the slots of a table, which are numbered from 0.
 #[derive(Debug, PartialEq, Drop)]

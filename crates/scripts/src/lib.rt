@@ -14,10 +14,23 @@
 //! - 4: the output cannot be written. That is reported nowhere else.
 //! - 5: memory is refused that the run itself needs. Standard error gets `fault: memory`. Whole answers may have
 //!   been printed before. Memory that one line needs is no fault: the line is answered `memory` or `refused`.
+//!
+//! It runs on tables of any type: no handle is needed to prove it.
 #![tactic(auto)]
 
+mod arguments;
+mod core_script;
+mod fault;
+pub mod laws;
+mod line;
+mod number;
+mod output;
 mod program;
+mod script;
+mod split;
+mod step_line;
+mod table_answer;
+mod table_line;
 mod table_script;
 
 pub use program::{bench, start};
-pub use script_lines::laws;

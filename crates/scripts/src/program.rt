@@ -1,23 +1,26 @@
 //! The program, from its arguments to its exit status.
-ghost use Rattle.std.specs.Prelude.{◌≡◌, ◌≢◌, ◌≤◌, ◌↔◌, ◌⊎◌, ℕ, List, map};
+ghost use Rattle.std.specs.Prelude.{◌≡◌, ◌≢◌, ◌≤◌, ◌↔◌, ◌⊎◌, ℕ, IsErrOf, List, map};
 ghost use Rattle.std.specs.Io.KnownBytes.{IsAtEnd};
-ghost use Rattle.script_text.specs.Fault.{note_of, status_of};
-ghost use Rattle.script_text.specs.Written.{WroteBeginning};
-ghost use Rattle.script_text.specs.declared.fault.Fault.{Fault as EndedBy};
-ghost use Rattle.script_lines.specs.Arguments.{AreWrong};
-ghost use Rattle.script_lines.specs.Program.{DidByStatus};
+ghost use Rattle.scripts.specs.Arguments.{AreWrong};
+ghost use Rattle.scripts.specs.Fault.{note_of, status_of};
+ghost use Rattle.scripts.specs.Program.{DidAsAsked, DidByStatus};
+ghost use Rattle.scripts.specs.Written.{WroteBeginning};
+ghost use Rattle.scripts.specs.declared.fault.Fault.{Fault as EndedBy};
+ghost use Rattle.scripts.specs.declared.fault.Fault.TheVariants as Fault;
 
-use crate::table_script::Tables;
-use script_lines::arguments::argument_words;
-use script_lines::program::do_as_asked;
-use script_text::fault::Fault;
+use crate::arguments::{Request, argument_words};
+use crate::core_script::run_core_script;
+use crate::fault::Fault;
+use crate::script;
+use crate::table_script::run_table_script;
+use commands::NumberTable;
 use std::alloc::{AllocError, Global};
 use std::convert::AsStr;
 use std::env::Env;
 use std::io::{Read, Write};
 
-/// Runs the program on the arguments of its environment, and answers its exit status.
-pub fn start<V: Env, R: Read, W: Write, E: Write>(
+/// Runs the program on the arguments of its environment, with tables of that type, and answers its exit status.
+pub fn start<T: NumberTable, V: Env, R: Read, W: Write, E: Write>(
     environment: &V,
     alloc: Global,
     input: &mut R,
@@ -36,13 +39,13 @@ pub fn start<V: Env, R: Read, W: Write, E: Write>(
         → WroteBeginning (note_of fault) (E.contents errors.old) (E.contents errors.new) }
 {
     match argument_words(environment, alloc) {
-        Ok(words) => bench(alloc, &words, input, output, errors),
+        Ok(words) => bench::<T, _, _, _, _>(alloc, &words, input, output, errors),
         Err(AllocError) => Fault::Memory.report(errors),
     }
 }
 
-/// Runs the program on its argument words, without its own name, and answers its exit status.
-pub fn bench<S: AsStr, R: Read, W: Write, E: Write>(
+/// The same on the argument words, without the name of the program.
+pub fn bench<T: NumberTable, S: AsStr, R: Read, W: Write, E: Write>(
     alloc: Global,
     words: &[S],
     input: &mut R,
@@ -60,8 +63,34 @@ pub fn bench<S: AsStr, R: Read, W: Write, E: Write>(
     ensures reported { (fault : EndedBy) → result ≡ status_of fault
         → WroteBeginning (note_of fault) (E.contents errors.old) (E.contents errors.new) }
 {
-    match do_as_asked::<Tables, S, R, W>(alloc, words, input, output) {
+    match do_as_asked::<T, S, R, W>(alloc, words, input, output) {
         Ok(()) => 0,
         Err(fault) => fault.report(errors),
+    }
+}
+
+/// Reads the arguments, then the script, and runs it.
+fn do_as_asked<T: NumberTable, S: AsStr, R: Read, W: Write>(
+    alloc: Global,
+    words: &[S],
+    input: &mut R,
+    output: &mut W,
+) -> Result<(), Fault>
+    ensures arguments { IsErrOf result Fault.Arguments ↔ AreWrong (map S.text words.now) }
+    ensures unread { IsErrOf result Fault.Arguments → input.new ≡ input.old }
+    ensures read { IsErrOf result Fault.Arguments ⊎ IsErrOf result Fault.Input
+        ⊎ IsErrOf result Fault.Memory
+        ⊎ IsAtEnd (R.remaining input.new) }
+    ensures unwritten { IsErrOf result Fault.Arguments ⊎ IsErrOf result Fault.Input
+        → output.new ≡ output.old }
+    ensures wrote { IsErrOf result Fault.Arguments
+        ⊎ DidAsAsked (map S.text words.now) (R.remaining input.old) result
+        (W.contents output.old) (W.contents output.new) }
+{
+    let request = Request::from_words(words).ok_or(Fault::Arguments)?;
+    let script = script::read(alloc, input)?;
+    match request {
+        Request::Core { owners, limit } => run_core_script(alloc, owners, limit, &script, output),
+        Request::Table { slots } => run_table_script::<T, W>(alloc, slots, &script, output),
     }
 }

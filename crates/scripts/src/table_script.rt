@@ -1,47 +1,49 @@
 //! Scripts of `table`: their lines are commands on a table of handles, and what its slots read.
-ghost use Rattle.std.specs.Prelude.{◌≡◌, ◌++◌, ℕ, List, Option, IfErr, IfOk, OnOk, None, replicate, slice_get};
-ghost use Rattle.script_text.specs.Fault.{IsFaultOfRun};
-ghost use Rattle.script_text.specs.Line.{IsInvalid};
-ghost use Rattle.script_text.specs.Script.{answer_text};
-ghost use Rattle.script_text.specs.Written.{Wrote};
-ghost use Rattle.script_text.specs.declared.fault.Fault.TheVariants as Fault;
-ghost use Rattle.script_lines.specs.TableAnswer.{IsAnsweredBy, printed_slot};
-ghost use Rattle.script_lines.specs.TableLine.{table_line};
-ghost use Rattle.script_lines.specs.TableScript.{PrintsModelTable, TableAnswers};
+ghost use Rattle.std.specs.Prelude.{◌≡◌, ◌++◌, ℕ, List, Option, IfErr, OnOk, slice_get};
+ghost use Rattle.scripts.specs.Fault.{IsFaultOfRun};
+ghost use Rattle.scripts.specs.Line.{IsInvalid};
+ghost use Rattle.scripts.specs.Script.{answer_text};
+ghost use Rattle.scripts.specs.Written.{Wrote};
+ghost use Rattle.scripts.specs.TableAnswer.{IsAnsweredBy, printed_slot};
+ghost use Rattle.scripts.specs.TableLine.{table_line};
+ghost use Rattle.scripts.specs.TableScript.{PrintsModelTable, TableAnswers};
 
-use script_lines::program::TableScripts;
-use script_lines::table_answer::append_reply;
-use script_lines::table_line::{TableLine, read_table_line};
-use script_text::fault::Fault;
-use script_text::script::{Interpreter, answer_lines, append_with_number};
+use crate::fault::Fault;
+use crate::script::{Interpreter, answer_lines, append_with_number};
+use crate::table_answer::append_reply;
+use crate::table_line::{TableLine, read_table_line};
+use commands::NumberTable;
 use std::alloc::{AllocError, Global};
 use std::io::Write;
-use tables::table::{Reply, Table};
 
-/// Runs scripts on tables of handles.
-pub(crate) struct Tables;
-
-impl TableScripts for Tables {
-    fn run<W: Write>(
-        alloc: Global,
-        slots: usize,
-        script: &[u8],
-        output: &mut W,
-    ) -> Result<(), Fault> {
-        let table = Table::new(alloc, slots)?;
-        answer_lines(alloc, script, &mut TableRunner { alloc, table }, output)
-    }
+/// Runs the script on a new table of so many empty slots. Writes the answer to each line, up to the first line that
+/// asks nothing of a table, and in place of its answer the fault.
+///
+/// Ends with `Line` at that line, with `Output` if a write fails, and with `Memory` if the table or the room for the
+/// answers is refused. A command that is refused memory is answered so, and the run goes on.
+pub(crate) fn run_table_script<T: NumberTable, W: Write>(
+    alloc: Global,
+    slots: usize,
+    script: &[u8],
+    output: &mut W,
+) -> Result<(), Fault>
+    ensures fault { IfErr result IsFaultOfRun }
+    ensures wrote { Wrote (PrintsModelTable slots script.now result)
+        (W.contents output.old) (W.contents output.new) }
+{
+    let table = T::empty(alloc, slots)?;
+    answer_lines(alloc, script, &mut TableRunner { alloc, table }, output)
 }
 
 /// A table, and where its commands take their memory.
 #[derive(Drop)]
-struct TableRunner {
+struct TableRunner<T> {
     alloc: Global,
-    table: Table<u32>,
+    table: T,
 }
 
-impl Interpreter for TableRunner {
-    ghost answers = { λ old line text new. TableAnswers old.table line text new.table };
+impl<T: NumberTable> Interpreter for TableRunner<T> {
+    ghost answers = { λ old line text new. TableAnswers (T.slots_of old.table) line text (T.slots_of new.table) };
 
     ghost is_faulty = { IsInvalid table_line };
 
@@ -51,28 +53,31 @@ impl Interpreter for TableRunner {
     }
 }
 
-impl TableRunner {
+impl<T: NumberTable> TableRunner<T> {
     fn answer(&mut self, asked: TableLine, gathered: &mut Vec<u8>) -> Result<(), AllocError>
         ensures { (printed : List ℕ × Option ℕ)
-            × IsAnsweredBy asked self.old.table printed self.new.table
+            × IsAnsweredBy asked (T.slots_of self.old.table) printed (T.slots_of self.new.table)
             × OnOk result (gathered.new.items ≡ gathered.old.items ++ answer_text printed) }
     {
         match asked {
             TableLine::Serve(command) => {
-                append_reply(gathered, self.table.serve(self.alloc, command))
+                append_reply(gathered, self.table.serve_command(self.alloc, command))
             }
             TableLine::Get(slot) => append_reading(gathered, &self.table, slot),
         }
     }
 }
 
-fn append_reading(gathered: &mut Vec<u8>, table: &Table<u32>, slot: usize) -> Result<(), AllocError>
+fn append_reading<T: NumberTable>(
+    gathered: &mut Vec<u8>,
+    table: &T,
+    slot: usize,
+) -> Result<(), AllocError>
     ensures { OnOk result (gathered.new.items
-        ≡ gathered.old.items ++ answer_text (printed_slot (slice_get table.now slot))) }
+        ≡ gathered.old.items ++ answer_text (printed_slot (slice_get (T.slots_of table.now) slot))) }
 {
-    match table.get(slot) {
-        Some(value) => append_with_number(gathered, b"value ", u64::from(*value)),
-        None if slot < table.slots() => append_reply(gathered, Reply::Empty),
-        None => append_reply(gathered, Reply::NoSlot),
+    match table.number(slot) {
+        Ok(number) => append_with_number(gathered, b"value ", u64::from(number)),
+        Err(missing) => append_reply(gathered, missing),
     }
 }

@@ -8,6 +8,7 @@ ghost use Rattle.commands.specs.Runs.{IsAmong, Run};
 
 use crate::serve::{Serve, serve_all};
 use crate::slots::Slots;
+use commands::NumberTable;
 pub use commands::{Command, PlainCommand, Reply, laws};
 use handles::arc::Arc;
 use std::alloc::{AllocError, Global};
@@ -117,5 +118,24 @@ impl<T: Clone + PartialEq> Slots<Arc<T>> {
         ensures empty { commands.items ≡ [] → IsOk result }
     {
         serve_all(self, alloc, commands)
+    }
+}
+
+impl NumberTable for Slots<Arc<u32>> {
+    ghost slots_of = { λ table. table };
+
+    fn empty(alloc: Global, slots: usize) -> Result<Slots<Arc<u32>>, AllocError> {
+        Slots::new(alloc, slots)
+    }
+
+    #[inline]
+    fn serve_command(&mut self, alloc: Global, command: Command<u32>) -> Reply {
+        self.serve(alloc, command)
+    }
+
+    #[inline]
+    fn number(&self, slot: usize) -> Result<u32, Reply> {
+        let handle = self.handle(slot)?;
+        Ok(**handle)
     }
 }

@@ -1,7 +1,7 @@
 use Rattle.std.proofs.Common.{sym, ap, subst, ◌∙◌}
-use Rattle.script_text.specs.Fault.{status_after}
-use Rattle.script_text.specs.Written.{WroteBeginning}
-use Rattle.script_lines.proofs.Statuses.{arguments, unread, read, unwritten, wrote, quiet, same_note, no_fault_of_zero}
+use Rattle.scripts.specs.Fault.{status_after}
+use Rattle.scripts.specs.Written.{WroteBeginning}
+use Rattle.scripts.proofs.Statuses.{arguments, unread, read, unwritten, wrote, quiet, same_note, no_fault_of_zero}
 use Rattle.scripts.proofs.program.bench.Goals as goal
 
 pub returns-in-Ok-clause-arguments : goal.returns-in-Ok-clause-arguments

@@ -1,8 +1,8 @@
 use Rattle.std.proofs.Common.{◌∷◌, [], Err, inr, refl, codes, decimal, arith}
 use Rattle.counting_word.specs.CountingWord.{greatest_count}
-use Rattle.script_text.specs.declared.fault.Fault.TheVariants.{Memory}
-use Rattle.script_lines.specs.declared.arguments.Request.TheVariants.{Core}
-use Rattle.script_lines.proofs.Showing.{did_nothing}
+use Rattle.scripts.specs.declared.fault.Fault.TheVariants.{Memory}
+use Rattle.scripts.specs.declared.arguments.Request.TheVariants.{Core}
+use Rattle.scripts.proofs.Showing.{did_nothing}
 use Rattle.scripts.proofs.program.start.Goals as goal
 
 -- if memory for the arguments is refused, nothing that they may have asked for was done

@@ -2,6 +2,7 @@
 use super::fakes::{FailingReader, FailingWriter};
 use super::runs::run_from;
 use scripts::bench;
+use servo_arc::table::Table;
 use std::alloc::Global;
 use std::process::Abort;
 use testing::{ok, same, same_at};
@@ -39,7 +40,7 @@ fn check_failures(rt: &(impl Abort + AllocGlobal), row: Failures<'_>) {
             Vec::new(rt.alloc()),
         );
         let mut input = script.as_bytes();
-        let ended = bench(
+        let ended = bench::<Table<u32>, _, _, _, _>(
             rt.alloc(),
             &[kind, "1"],
             &mut input,
@@ -73,7 +74,13 @@ fn ends_at_a_failed_write_or_flush(rt: HostRuntime) {
 fn run_unheard(alloc: Global, words: &[&str]) -> (u8, bool, usize) {
     let mut input = FailingReader::new(b"", 1, 0);
     let (mut output, mut errors) = (Vec::new(alloc), FailingWriter::new(alloc, 0));
-    let status = bench(alloc, words, &mut input, &mut output, &mut errors);
+    let status = bench::<Table<u32>, _, _, _, _>(
+        alloc,
+        words,
+        &mut input,
+        &mut output,
+        &mut errors,
+    );
     (status, errors.has_failed, output.len())
 }
 

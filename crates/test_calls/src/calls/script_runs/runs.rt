@@ -1,5 +1,6 @@
 //! Runs of the program.
 use scripts::bench;
+use servo_arc::table::Table;
 use std::alloc::Global;
 use std::fmt::Debug;
 use std::io::Read;
@@ -31,7 +32,7 @@ impl Ran {
 
 pub fn run_from(alloc: Global, words: &[&str], input: &mut impl Read) -> Ran {
     let (mut output, mut errors) = (Vec::new(alloc), Vec::new(alloc));
-    let status = bench(alloc, words, input, &mut output, &mut errors);
+    let status = bench::<Table<u32>, _, _, _, _>(alloc, words, input, &mut output, &mut errors);
     Ran {
         output,
         errors,

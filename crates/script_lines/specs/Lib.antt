@@ -1,9 +1,0 @@
-pub mod Arguments
-pub mod CoreScript
-pub mod Laws
-pub mod Program
-pub mod StepAnswer
-pub mod StepLine
-pub mod TableAnswer
-pub mod TableLine
-pub mod TableScript

@@ -1,4 +1,0 @@
-pub mod Lines
-pub mod Numerals
-pub mod Runs
-pub mod ScriptLines

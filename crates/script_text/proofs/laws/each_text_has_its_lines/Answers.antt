@@ -1,5 +1,0 @@
-use Rattle.script_text.proofs.ScriptLines.{each_text_has_its_lines as law}
-use Rattle.script_text.proofs.laws.each_text_has_its_lines.Goals as goal
-
-pub returns : goal.returns
-returns c = law

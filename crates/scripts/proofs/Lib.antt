@@ -1,0 +1,6 @@
+pub mod Lines
+pub mod Numerals
+pub mod Runs
+pub mod ScriptLines
+pub mod Showing
+pub mod Statuses

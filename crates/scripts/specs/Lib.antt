@@ -1,0 +1,15 @@
+pub mod Arguments
+pub mod CoreScript
+pub mod Fault
+pub mod Laws
+pub mod Line
+pub mod Number
+pub mod Program
+pub mod Script
+pub mod Split
+pub mod StepAnswer
+pub mod StepLine
+pub mod TableAnswer
+pub mod TableLine
+pub mod TableScript
+pub mod Written

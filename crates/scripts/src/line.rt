@@ -1,0 +1,71 @@
+//! The word of a line, and the numbers after it.
+ghost use Rattle.std.specs.Prelude.{◌≡◌, ◌↔◌, ◌<◌, ◌^◌, ℕ, List, Option, length, decimal, IfSome, IfNone, IsTrue};
+ghost use Rattle.std.specs.Option.{option_copied};
+ghost use Rattle.scripts.specs.Line.{IsLine, fields, fields_if_any, numbers_in, space};
+ghost use Rattle.scripts.specs.Split.{with_rest};
+
+use crate::number::split_number;
+use crate::split::split_once;
+
+/// A line that is a word and at most three numbers, each after one space.
+#[derive(Clone, Copy)]
+pub struct Line<'a> {
+    pub word: &'a [u8],
+    pub count: usize,
+    /// The numbers, and 0 in place of each that is not there.
+    pub numbers: [u32; 3],
+}
+
+/// The line that the text is, or nothing if it is none.
+pub fn read_line(text: &[u8]) -> Option<Line<'_>>
+    ensures line { IfSome result (λ line. IsLine text.now line.word.now (numbers_in line.count line.numbers)) }
+    ensures count { IfSome result (λ line. length (numbers_in line.count line.numbers) ≡ line.count) }
+    ensures none { IfNone result ((word numbers : List ℕ) → ¬ (IsLine text.now word numbers)) }
+{
+    let (word, mut rest) = split_once(text, b' ');
+    let mut numbers = [0; 3];
+    let mut count = 0;
+    while let Some(text) = rest {
+        if count == numbers.len() {
+            return None;
+        }
+        let (number, after) = split_field(text)?;
+        numbers[count] = number;
+        count += 1;
+        rest = after;
+    }
+    Some(Line {
+        word,
+        count,
+        numbers,
+    })
+}
+
+/// The number that the first field of a text is, and what comes after the space behind it, if there is one.
+fn split_field(text: &[u8]) -> Option<(u32, Option<&[u8]>)>
+    ensures number { IfSome result (λ field.
+        text.now ≡ with_rest space (decimal field.0) (option_copied field.1)) }
+    ensures in_range { IfSome result (λ field. field.0 < 2 ^ 32) }
+    ensures none { IfNone result ((number : ℕ) (rest : Option (List ℕ))
+        → text.now ≡ with_rest space (decimal number) rest → ¬ (number < 2 ^ 32)) }
+{
+    let (number, after) = split_number(text)?;
+    let Some((next, rest)) = after.split_first() else {
+        return Some((number, None));
+    };
+    if *next != b' ' {
+        return None;
+    }
+    Some((number, Some(rest)))
+}
+
+/// Whether the text is this word. An array has a constant length, so its bytes are compared without a loop.
+#[inline(always)]
+pub fn is_word<const N: usize>(text: &[u8], word: &[u8; N]) -> bool
+    ensures { IsTrue result ↔ (text.now ≡ word.now) }
+{
+    match <&[u8; N]>::try_from(text) {
+        Ok(text) => text == word,
+        Err(_) => false,
+    }
+}

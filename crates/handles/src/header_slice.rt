@@ -11,7 +11,6 @@ mod makers;
 mod order;
 mod places;
 mod reads;
-mod try_build;
 
 use crate::arc::Arc;
 pub use build::BuildError;

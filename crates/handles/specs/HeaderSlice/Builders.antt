@@ -1,7 +1,7 @@
 -- What a builder that wants n items answers, by what it heard.
 use Rattle.std.specs.Prelude.{◌≡◌, ⊤, ℕ, ◌+◌, ◌<◌, Option, Result, IfOk, IfErr}
 use Rattle.std.specs.Iterator.Runs.{SomeRun, WholeRun}
-use Rattle.handles.specs.HeaderSlice.{HeaderAndItems, ItemsInRoom}
+use Rattle.handles.specs.HeaderSlice.{HeaderAndItems}
 use Rattle.handles.specs.HeaderSlice.Pulls.{GivesRight, GivesFewer, GivesMore}
 use Rattle.handles.specs.declared.header_slice.build.BuildError.{BuildError}
 use Rattle.handles.specs.declared.header_slice.build.BuildError.TheVariants.{Memory, OverReported, UnderReported}
@@ -10,10 +10,6 @@ module _ {S A : Type 0} (steps : S → Option A → S → Type 0) (source : S) (
   -- the header with just the items that came, and the iterator as it is then
   abbrev pub IsBuiltUpTo : {H : Type 0} → S → H → HeaderAndItems H A → Type 0
   IsBuiltUpTo after header slice = (slice.header ≡ header) × GivesRight steps source n after slice.items
-
-  -- just the items that came
-  abbrev pub TakesUpTo : S → ItemsInRoom A → Type 0
-  TakesUpTo after taken = GivesRight steps source n after taken.items
 
   -- what the iterator has become when a refusal comes: by `Memory` it was not asked at all
   abbrev pub RefusesUpTo : S → BuildError → Type 0

@@ -1,6 +1,6 @@
 //! How a header slice takes its items from an iterator.
 ghost use Rattle.std.specs.Prelude.{◌≡◌, [], IfOk, IfErr};
-ghost use Rattle.handles.specs.HeaderSlice.Builders.{IsBuiltUpTo, TakesUpTo, RefusesUpTo};
+ghost use Rattle.handles.specs.HeaderSlice.TryBuilders.{IsBuiltGoodUpTo, TakesGoodUpTo, FailsUpTo};
 ghost use Rattle.handles.specs.declared.header_slice.build.BuildError.TheVariants.{Memory};
 
 use super::HeaderSlice;
@@ -48,41 +48,46 @@ impl From<BuildError> for AllocError {
     }
 }
 
-// All memory is requested before the source is asked for its first item. A refusal drops what was taken, then the
-// header.
-pub(super) fn build<H: Drop, T: Drop, I: Iterator<Item = T>>(
+// All memory is requested before the source is asked for its first item. An error or a refusal drops what was taken,
+// then the header.
+pub(super) fn build<H: Drop, T: Drop, E: From<BuildError> + Drop, I: Iterator<Item = Result<T, E>>>(
     alloc: Global,
     header: H,
     source: &mut I,
     number: usize,
-) -> Result<UniqueArc<HeaderSlice<H, T>>, BuildError>
+) -> Result<UniqueArc<HeaderSlice<H, T>>, E>
     requires { I.can_next source.old }
-    ensures built { IfOk result (IsBuiltUpTo I.next_gives source.old number source.new header) }
-    ensures refused { IfErr result (RefusesUpTo I.next_gives source.old number source.new) }
+    ensures built { IfOk result (IsBuiltGoodUpTo I.next_gives source.old number source.new header) }
+    ensures failed { IfErr result (FailsUpTo I.next_gives source.old number E.from_gives source.new) }
 {
-    let items = Items::with_room(alloc, number)?;
-    let block = UniqueArc::new_uninit(alloc)?;
+    let Ok(items) = Items::with_room(alloc, number) else {
+        return Err(E::from(BuildError::Memory));
+    };
+    let Ok(block) = UniqueArc::new_uninit(alloc) else {
+        return Err(E::from(BuildError::Memory));
+    };
     let items = items.take_all(source, number)?;
     Ok(block.write(HeaderSlice { header, items }))
 }
 
 impl<T: Drop> Items<T> {
-    // Asks until every place is filled and then once more, or until `None`.
-    fn take_all<I: Iterator<Item = T>>(
+    // Asks until every place is filled and then once more, or until `None` or an error.
+    fn take_all<E: From<BuildError> + Drop, I: Iterator<Item = Result<T, E>>>(
         mut self,
         source: &mut I,
         number: usize,
-    ) -> Result<Items<T>, BuildError>
+    ) -> Result<Items<T>, E>
         requires can_next { I.can_next source.old }
         requires empty { self.items ≡ [] }
         requires room { self.room ≡ number }
-        ensures taken { IfOk result (TakesUpTo I.next_gives source.old number source.new) }
-        ensures refused { IfErr result (RefusesUpTo I.next_gives source.old number source.new) }
+        ensures taken { IfOk result (TakesGoodUpTo I.next_gives source.old number source.new) }
+        ensures failed { IfErr result (FailsUpTo I.next_gives source.old number E.from_gives source.new) }
     {
         while self.len() < number {
             match source.next() {
-                Some(item) => self.push(item),
-                None => return Err(BuildError::OverReported),
+                Some(Ok(item)) => self.push(item),
+                Some(Err(error)) => return Err(error),
+                None => return Err(E::from(BuildError::OverReported)),
             }
         }
         let Some(extra) = source.next() else {
@@ -90,6 +95,6 @@ impl<T: Drop> Items<T> {
         };
         drop(self);
         drop(extra);
-        Err(BuildError::UnderReported)
+        Err(E::from(BuildError::UnderReported))
     }
 }

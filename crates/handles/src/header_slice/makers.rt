@@ -3,6 +3,7 @@ ghost use Rattle.std.specs.Prelude.{◌≡◌};
 ghost use Rattle.std.specs.Iterator.{size};
 ghost use Rattle.std.specs.Borrow.{sem};
 ghost use Rattle.handles.specs.HeaderSlice.Builders.{Builds};
+ghost use Rattle.handles.specs.HeaderSlice.TryBuilders.{BuildsGood};
 
 use super::HeaderSlice;
 use super::build::{BuildError, build};
@@ -56,6 +57,19 @@ impl<H: Drop, T: Drop> Arc<HeaderSlice<H, T>> {
         let slice = UniqueArc::from_header_and_iter_with_size(alloc, header, items, num_items);
         Ok(slice?.into_arc(is_static))
     }
+
+    /// As `from_header_and_iter`, of items that may be errors. The first error is the answer, and the iterator is not
+    /// asked on: what was taken by then and the header are dropped. A refusal becomes an error of that type; one item
+    /// too many is a refusal, be it an error or not.
+    pub fn try_from_header_and_iter<
+        E: From<BuildError> + Drop,
+        I: Iterator<Item = Result<T, E>> + ExactSizeIterator,
+    >(alloc: Global, header: H, items: I) -> Result<Arc<HeaderSlice<H, T>>, E>
+        requires { I.can_next items }
+        ensures { BuildsGood I.next_gives items (size (I.remaining items)) E.from_gives header result }
+    {
+        UniqueArc::try_from_header_and_iter(alloc, header, items).map(UniqueArc::shareable)
+    }
 }
 
 impl<H: Drop, T: Drop> UniqueArc<HeaderSlice<H, T>> {
@@ -76,12 +90,25 @@ impl<H: Drop, T: Drop> UniqueArc<HeaderSlice<H, T>> {
     pub fn from_header_and_iter_with_size<I: Iterator<Item = T>>(
         alloc: Global,
         header: H,
-        mut items: I,
+        items: I,
         num_items: usize,
     ) -> Result<UniqueArc<HeaderSlice<H, T>>, BuildError>
         requires { I.can_next items }
         ensures { Builds I.next_gives items num_items header result }
     {
+        let mut results = items.map(Ok::<T, BuildError>);
+        build(alloc, header, &mut results, num_items)
+    }
+
+    /// As `Arc::try_from_header_and_iter`.
+    pub fn try_from_header_and_iter<
+        E: From<BuildError> + Drop,
+        I: Iterator<Item = Result<T, E>> + ExactSizeIterator,
+    >(alloc: Global, header: H, mut items: I) -> Result<UniqueArc<HeaderSlice<H, T>>, E>
+        requires { I.can_next items }
+        ensures { BuildsGood I.next_gives items (size (I.remaining items)) E.from_gives header result }
+    {
+        let num_items = items.len();
         build(alloc, header, &mut items, num_items)
     }
 }

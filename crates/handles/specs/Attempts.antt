@@ -1,6 +1,5 @@
 -- What a try to make one more handle came to.
-use Rattle.std.specs.Prelude.{◌≡◌, ℕ, ◌+◌, ◌⊎◌, Bool, List, [], Option, false}
-use Rattle.std.specs.Iterator.{Drains}
+use Rattle.std.specs.Prelude.{◌≡◌, ℕ, ◌+◌, ◌⊎◌, Bool, List, [], Option, None, false}
 use Rattle.counting_word.specs.CountingWord.{IsWithin, is_marked_word}
 use Rattle.counting_word.specs.Plans.{clone_plan}
 use Rattle.counting_word.specs.Rights.{right_by_read}
@@ -31,10 +30,12 @@ IsMadeOf of h = (h.held ≡ of.held) × (h.sole ≡ false) × (h.id ≡ of.id)
 abbrev pub IsFullOf : {X : Type 0} → Handle X → Logged → Type 0
 IsFullOf of logged = (logged.id ≡ of.id) × FoundFull of.held.limit.count logged.log
 
--- or its last raise was lost
+-- a raise through the handle was lost
+abbrev pub IsLostOf : {X : Type 0} → Handle X → Logged → Type 0
+IsLostOf of logged = (logged.id ≡ of.id) × LostRaise of.held.limit.count of.number logged.log
+
 abbrev pub IsRefusedOf : {X : Type 0} → Handle X → Logged → Type 0
-IsRefusedOf of logged =
-    (logged.id ≡ of.id) × (FoundFull of.held.limit.count logged.log ⊎ LostRaise of.held.limit.count of.number logged.log)
+IsRefusedOf of logged = IsFullOf of logged ⊎ IsLostOf of logged
 
 -- This step of the handle found a word of which the test says this.
 abbrev pub IsAnswerOf : {X : Type 0} → Handle X → WordStep → (ℕ → Bool) → Bool → Logged → Type 0
@@ -59,6 +60,6 @@ IsPlanned word limit (Made h) =
 IsPlanned word limit (Full logged) = clone_plan word limit ≡ FullPlan
 IsPlanned word limit (Lost found permit) = clone_plan word limit ≡ Raise (word + 1)
 
--- the turns came to an end
-abbrev pub Stops : {S A : Type 0} → (S → Option A → S → Type 0) → S → Type 0
-Stops {A = A} steps turns = (xs : List A) × Drains steps turns xs
+-- turns of this kind come to an end
+abbrev pub Stops : {S A : Type 0} → (S → Option A → S → Type 0) → Type 0
+Stops {S = S} steps = (turns : S) × (after : S) × steps turns None after

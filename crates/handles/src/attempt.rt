@@ -2,7 +2,8 @@
 ghost use Rattle.std.specs.Prelude.{◌≡◌, ◌⊎◌, IfOk, IfErr, false};
 ghost use Rattle.std.specs.Iterator.{IsFinite};
 ghost use Rattle.handles.specs.Founds.{LostRaise};
-ghost use Rattle.handles.specs.Attempts.{IsSeen, IsMadeOf, IsAttempt, IsPlanned, Stops, IsFullOf, IsRefusedOf};
+ghost use Rattle.handles.specs.Attempts.{IsSeen, IsMadeOf, IsAttempt, IsPlanned, Stops};
+ghost use Rattle.handles.specs.Attempts.{IsFullOf, IsLostOf, IsRefusedOf};
 
 use crate::arc::Full;
 use crate::block::{Handle, Held, Logged, Permit};
@@ -126,11 +127,11 @@ impl<T: Drop> Handle<T> {
         requires lost { LostRaise self.now.held.limit.count self.now.number permit.log }
         requires turns { I.can_next turns.old × IsFinite (I.remaining turns.old) }
         ensures made { IfOk result (IsMadeOf self.now) }
-        ensures refused { IfErr result (IsRefusedOf self.now) }
-        ensures stops { IfErr result (λ logged. IsFullOf self.now logged ⊎ Stops I.next_gives turns.old) }
+        ensures refused { IfErr result (λ logged.
+            IsFullOf self.now logged ⊎ (IsLostOf self.now logged × Stops I.next_gives)) }
     {
         let held = self.held();
-        for _ in turns {
+        while turns.next().is_some() {
             match self.next_attempt(held, word, permit) {
                 Attempt::Made(handle) => {
                     let_others_raise();

@@ -60,14 +60,13 @@ pub(super) fn build<H: Drop, T: Drop, E: From<BuildError> + Drop, I: Iterator<It
     ensures built { IfOk result (IsBuiltGoodUpTo I.next_gives source.old number source.new header) }
     ensures failed { IfErr result (FailsUpTo I.next_gives source.old number E.from_gives source.new) }
 {
-    let Ok(items) = Items::with_room(alloc, number) else {
-        return Err(E::from(BuildError::Memory));
-    };
-    let Ok(block) = UniqueArc::new_uninit(alloc) else {
-        return Err(E::from(BuildError::Memory));
-    };
-    let items = items.take_all(source, number)?;
-    Ok(block.write(HeaderSlice { header, items }))
+    if let Ok(items) = Items::with_room(alloc, number)
+        && let Ok(block) = UniqueArc::new_uninit(alloc)
+    {
+        let items = items.take_all(source, number)?;
+        return Ok(block.write(HeaderSlice { header, items }));
+    }
+    Err(E::from(BuildError::Memory))
 }
 
 impl<T: Drop> Items<T> {

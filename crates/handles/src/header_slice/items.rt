@@ -29,8 +29,10 @@ impl<T> Items<T> {
     {
         let places = if room == 0 || has_no_size::<T>() {
             Places::without_bytes(room)
-        } else if may_hold::<T>(room) {
-            Places::reserve(&alloc, room)?
+        } else if may_hold::<T>(room)
+            && let Ok(places) = Places::reserve(&alloc, room)
+        {
+            places
         } else {
             return Err(AllocError);
         };

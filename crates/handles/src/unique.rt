@@ -170,8 +170,9 @@ impl<T: Drop> UninitArc<T> {
         ensures { result ≡ value }
     {
         let UninitArc { room, alloc } = self;
+        let block = Block::first(alloc, value, Limit::GREATEST);
         UniqueArc {
-            block: Block::written(room, alloc, value),
+            block: RawBox::fill(room, block).into_box(),
         }
     }
 }

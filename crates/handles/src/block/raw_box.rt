@@ -34,7 +34,8 @@ impl<T: Drop> RawBox<T> {
 }
 
 impl<T> RawBox<T> {
-    pub(super) fn fill(room: Vacant<T, Global>, value: T) -> RawBox<T>
+    // In the room that was taken for it.
+    pub(crate) fn fill(room: Vacant<T, Global>, value: T) -> RawBox<T>
         ensures { result.value ≡ value }
     {
         let Vacant { ptr, alloc } = room;

@@ -54,7 +54,7 @@ impl<T: Drop> Arc<T> {
         ensures made { IfOk result (λ a. a ≡ value) }
         ensures refused { IfErr result (λ failed. failed.value ≡ value) }
     {
-        Arc::new(alloc, value).map_err(|value| AllocFailed { value })
+        UniqueArc::try_new(alloc, value).map(UniqueArc::shareable)
     }
 
     /// As `new`, of a block that has at most `limit` handles until it is marked. All handles of the block, however they

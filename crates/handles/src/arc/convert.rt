@@ -33,8 +33,10 @@ impl<T: Drop> Arc<T> {
     pub fn into_inner(this: Arc<T>) -> Option<T>
         ensures { IfSome result (λ value. value ≡ this) }
     {
-        let block = this.handle.end().ok()?;
-        Some(Box::into_inner(block).into_value())
+        match this.handle.end() {
+            Ok(block) => Some(Box::into_inner(block).into_value()),
+            Err(_) => None,
+        }
     }
 
     /// The value, if this is the only handle of an unmarked block; else the handle comes back as it was.
@@ -58,7 +60,10 @@ impl<T: Drop> Arc<T> {
         ensures value { IfOk result (SameOrCopy T.is_clone this) }
         ensures given { T.is_infallible this → IsOk result }
     {
-        Arc::try_unwrap(this).or_else(|shared| (*shared).clone())
+        match Arc::try_unwrap(this) {
+            Ok(value) => Ok(value),
+            Err(shared) => (*shared).clone(),
+        }
     }
 }
 

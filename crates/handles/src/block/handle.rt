@@ -12,7 +12,6 @@ ghost use Rattle.handles.specs.Founds.{DropOver, HasFound};
 ghost use Rattle.handles.specs.declared.block.Held.{Held};
 
 use super::{Block, Held, Logged, Permit, RawBox};
-use crate::limit::Limit;
 use atomic_table::exchange;
 use counting_word::{DropPlan, MARK, is_alone, is_last, is_marked, plan_drop};
 use std::marker::{Brand, Model};
@@ -64,13 +63,6 @@ impl<T> Handle<T> {
         ensures { result.now ≡ self.now.held.value }
     {
         &self.held().value
-    }
-
-    #[inline]
-    pub(crate) fn limit(&self) -> Limit
-        ensures { result ≡ self.now.held.limit }
-    {
-        self.held().limit
     }
 
     // What the word is. It may change at once.

@@ -66,12 +66,10 @@ impl<T> Handle<T> {
             return Ok(());
         }
         let copy = self.value().clone()?;
-        match Block::boxed(alloc, copy, self.limit()) {
-            Ok(block) => {
-                *self = Handle::first(RawBox::of(block));
-                Ok(())
-            }
-            Err(_) => Err(AllocError),
-        }
+        let Ok(block) = Block::boxed(alloc, copy, self.held().limit) else {
+            return Err(AllocError);
+        };
+        *self = Handle::first(RawBox::of(block));
+        Ok(())
     }
 }

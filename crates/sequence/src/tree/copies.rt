@@ -21,9 +21,7 @@ pub(crate) fn copies<T: Clone>(
     ensures { IfOk result (λ copy. CopiesAreEqual T.is_clone → copy.items ≡ items.now) }
 {
     let mut copy = Vec::with_capacity(alloc, room)?;
-    for item in items {
-        copy.push(item.clone()?)?;
-    }
+    copy.extend_with_clones(items)?;
     Ok(copy)
 }
 

@@ -64,7 +64,8 @@ fn parts<T: Drop, L: NewLabel<T>>(
     ensures { IfOk result (λ children. AreParts L.label_of (seen node) children.items) }
 {
     let mut children = Vec::new(alloc);
-    'off: while let Some(child) = node.halve(alloc, false)? {
+    'off: while node.is_full() {
+        let child = node.halve(alloc, false)?;
         len -= child.len;
         children.push(child)?;
     }

@@ -1,5 +1,5 @@
 //! How a full node becomes two: the last of what it has moves into a block that was taken before.
-ghost use Rattle.std.specs.Prelude.{◌≡◌, ℕ, ◌+◌, ◌<◌, ◌^◌, ◌≤◌, IfNone, IfOk, IfSome, IsTrue, OnErr, OnOk};
+ghost use Rattle.std.specs.Prelude.{◌≡◌, ℕ, ◌+◌, ◌<◌, ◌^◌, ◌≤◌, IfOk, IsTrue, OnErr, OnOk};
 ghost use Rattle.std.specs.Prelude.{length, slice_index_or};
 ghost use Rattle.servo_arc.specs.Copies.{CopiesAreEqual};
 ghost use Rattle.sequence.specs.Nodes.{AreChildren, AreHalves, CanLose, IsChild, IsList, IsNode, StandFor};
@@ -93,9 +93,7 @@ pub(crate) fn room_under<T: Clone, L: NewLabel<T>>(
     }
     let ends = place == children[child].len;
     children.reserve(1)?;
-    let Some(right) = children[child].halve(alloc, ends)? else {
-        return Ok(spot);
-    };
+    let right = children[child].halve(alloc, ends)?;
     let left = children[child].len;
     let Ok(()) = children.insert(child + 1, right) else {
         unreachable!()
@@ -120,33 +118,30 @@ impl Spot {
 }
 
 impl<T: Clone, L: NewLabel<T>> Child<T, L> {
-    // The last part of a child whose first node is full, and which keeps the first one.
-    fn halve(&mut self, alloc: Global, ends: bool) -> Result<Option<Child<T, L>>, AllocError>
+    // The last part of a child whose first node is full, and which keeps the first one. Another child is refused, which
+    // nobody asks for.
+    fn halve(&mut self, alloc: Global, ends: bool) -> Result<Child<T, L>, AllocError>
         requires copies { CopiesAreEqual T.is_clone }
         requires labels { CopiesAreEqual L.is_clone }
         requires child { IsChild (self.old.tree.1 + 1) self.old }
-        ensures child { IfOk result (λ half. IfSome half (λ _. IsChild (self.old.tree.1 + 1) self.new)) }
+        ensures child { OnOk result (IsChild (self.old.tree.1 + 1) self.new) }
         ensures label { self.new.label ≡ self.old.label }
-        ensures halves { IfOk result (λ half. IfSome half (AreHalves L.label_of self.old.tree self.new.tree)) }
-        ensures whole { IfOk result (λ half. IfNone half (self.new ≡ self.old)) }
+        ensures halves { IfOk result (AreHalves L.label_of self.old.tree self.new.tree) }
         ensures refused { OnErr result (self.new ≡ self.old) }
     {
-        let Some(right) = self.tree.halve(alloc, ends)? else {
-            return Ok(None);
-        };
+        let right = self.tree.halve(alloc, ends)?;
         self.len -= right.len;
-        Ok(Some(right))
+        Ok(right)
     }
 }
 
 impl<T: Clone, L: NewLabel<T>> Tree<T, L> {
     // The same of a tree.
     #[inline(never)]
-    fn halve(&mut self, alloc: Global, ends: bool) -> Result<Option<Child<T, L>>, AllocError>
+    fn halve(&mut self, alloc: Global, ends: bool) -> Result<Child<T, L>, AllocError>
         requires copies { CopiesAreEqual T.is_clone }
         requires labels { CopiesAreEqual L.is_clone }
-        ensures halves { IfOk result (λ half. IfSome half (AreHalves L.label_of self.old self.new)) }
-        ensures whole { IfOk result (λ half. IfNone half (self.new ≡ self.old)) }
+        ensures halves { IfOk result (AreHalves L.label_of self.old self.new) }
         ensures refused { OnErr result (self.new ≡ self.old) }
     {
         let node = Arc::make_mut(&mut self.root, alloc)?;
@@ -156,28 +151,23 @@ impl<T: Clone, L: NewLabel<T>> Tree<T, L> {
 
 impl<T: Drop, L: NewLabel<T>> Node<T, L> {
     // The same of a node.
-    pub(crate) fn halve(
-        &mut self,
-        alloc: Global,
-        ends: bool,
-    ) -> Result<Option<Child<T, L>>, AllocError>
+    pub(crate) fn halve(&mut self, alloc: Global, ends: bool) -> Result<Child<T, L>, AllocError>
         requires labels { CopiesAreEqual L.is_clone }
         requires node { IsNode L.label_of self.old }
         ensures node { IsNode L.label_of self.new }
-        ensures halves { IfOk result (λ half. IfSome half (AreHalves L.label_of (seen self.old) (seen self.new))) }
-        ensures whole { IfOk result (λ half. IfNone half (seen self.new ≡ seen self.old)) }
+        ensures halves { IfOk result (AreHalves L.label_of (seen self.old) (seen self.new)) }
         ensures refused { OnErr result (seen self.new ≡ seen self.old) }
     {
         match self {
             Node::Leaf(items) if items.len() >= LEAF => {
                 let keep = kept(items.len(), LEAF, ends);
-                Ok(Some(half_of_leaf(items, alloc, keep)?))
+                half_of_leaf(items, alloc, keep)
             }
             Node::Branch(children) if children.len() >= BRANCH => {
                 let keep = kept(children.len(), BRANCH, ends);
-                Ok(Some(half_of_branch(children, alloc, keep)?))
+                half_of_branch(children, alloc, keep)
             }
-            _ => Ok(None),
+            _ => Err(AllocError),
         }
     }
 }

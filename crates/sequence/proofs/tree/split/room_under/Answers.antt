@@ -1,7 +1,6 @@
 use Rattle.std.proofs.Common.{◌≡◌, ◌+◌, ◌∙◌, ap, arith, get_or, get_or-set_same, length, set, subst, sym}
 use Rattle.std.specs.List.{insert}
-use Rattle.sequence.specs.Nodes.{CanLose, StandFor}
-use Rattle.sequence.specs.Spots.{Leads}
+use Rattle.sequence.specs.Nodes.{StandFor}
 use Rattle.sequence.proofs.Joined.{IsRoom, split_is, written_back}
 use Rattle.sequence.proofs.Placed.{child_here, stand_itself}
 use Rattle.sequence.proofs.tree.split.room_under.Goals as goal
@@ -12,16 +11,15 @@ returns g c =
     let spot = c.args.spot in
     let d = c.index_mut.result.now in
     let l = c.halve.new.self in
-    let r = c.in-Some.right in
+    let r = c.in_ok-right.right in
     let room = c.in_ok-reserve.ensures.items in
     let is = c.index_mut.ensures.value ∙ ap (λ cs. get_or cs spot.child d) room in
-    let child = rw c.in-Some.is at c.in_ok-right.ensures.child in
-    let halves = rw c.in-Some.is at c.in_ok-right.ensures.halves in
+    let child = c.in_ok-right.ensures.child in
     let left : c.index-3.result.now ≡ l = c.index-3.ensures
     ∙ get_or-set_same c.reserve.new.self.items spot.child l c.index-3.result.now
     (omega (arith, ap (λ cs. length cs) room, c.requires.within)) in
-    let done = split_is cs spot.child d l r c.requires.children c.requires.within is child halves
-    c.in_ok-right.ensures.label spot.place c.index-3.result.now.len (ap (λ child. child.len) left ∙ child.counted) in
+    let done = split_is cs spot.child d l r c.requires.children c.requires.within is child
+    c.in_ok-right.ensures.halves c.in_ok-right.ensures.label spot.place c.index-3.result.now.len (ap (λ child. child.len) left ∙ child.counted) in
     let items : c.insert.new.self.items ≡ insert (set cs spot.child l) (spot.child + 1) r =
     c.in-Ok.ensures.items ∙ ap (λ xs. insert (set xs spot.child l) (spot.child + 1) r) room in
     let all = subst (λ xs. IsRoom g.L.Label.label_of cs xs spot c.past.result) (sym items)
@@ -44,29 +42,3 @@ returns-in_err-right-clause-same g c =
     (sym (written_back cs c.reserve.new.self.items c.args.spot.child c.index_mut.result.now c.halve.new.self
     c.index_mut.ensures.value c.in_err-right.ensures.refused c.in_ok-reserve.ensures.items))
     (stand_itself cs c.requires.children)
-
-pub returns-in_default-clause-same : goal.returns-in_default-clause-same
-returns-in_default-clause-same g c =
-    let cs = c.args.children.now.items in
-    let whole = rw c.in_default.is at c.in_ok-right.ensures.whole in
-    subst (StandFor g.L.Label.label_of cs)
-    (sym (written_back cs c.reserve.new.self.items c.args.spot.child c.index_mut.result.now c.halve.new.self
-    c.index_mut.ensures.value whole c.in_ok-reserve.ensures.items))
-    (stand_itself cs c.requires.children)
-
-pub returns-in_default-clause-leads : goal.returns-in_default-clause-leads
-returns-in_default-clause-leads g c place leads =
-    let whole = rw c.in_default.is at c.in_ok-right.ensures.whole in
-    subst (λ xs. Leads xs place c.args.spot)
-    (sym (written_back c.args.children.now.items c.reserve.new.self.items c.args.spot.child c.index_mut.result.now
-    c.halve.new.self c.index_mut.ensures.value whole c.in_ok-reserve.ensures.items))
-    leads
-
-pub returns-in_default-clause-spare : goal.returns-in_default-clause-spare
-returns-in_default-clause-spare g c can d =
-    let at = c.args.spot.child in
-    let whole = rw c.in_default.is at c.in_ok-right.ensures.whole in
-    subst (λ xs. CanLose (get_or xs at d).tree)
-    (sym (written_back c.args.children.now.items c.reserve.new.self.items at c.index_mut.result.now c.halve.new.self
-    c.index_mut.ensures.value whole c.in_ok-reserve.ensures.items))
-    (can d)

@@ -1,17 +1,18 @@
 -- A branch under one child of which something was done where a cut is.
 use Rattle.std.proofs.Common.{◌≡◌, ◌+◌, ◌-◌, ◌<◌, ◌≤◌, ◌^◌, ℕ, zero, suc, Bool, List, [], ◌∷◌, ◌++◌, length, take, drop}
-use Rattle.std.proofs.Common.{get_or, set, refl, ap, sym, ◌∙◌, subst, arith}
-use Rattle.std.specs.Prelude.{IfNone, IfOk, IfSome, OnErr, None, Option, Some, Result, Ok, Err}
+use Rattle.std.proofs.Common.{get_or, set, refl, ap, sym, ◌∙◌, subst, arith, inl, inr, true, true≢false, false, ◌⊎◌}
+use Rattle.std.specs.Int.{from_bool}
+use Rattle.std.specs.Prelude.{IfNone, IfSome, IsTrue, None, Option, Some, Ok, is_some, not}
 use Rattle.std.proofs.lemmas.Option.{none-some}
-use Rattle.sequence.specs.declared.tree.act.Acted.{Acted}
 use Rattle.sequence.specs.declared.tree.Child.{Child}
-use Rattle.sequence.specs.Acts.{IsActed, last_of}
+use Rattle.sequence.specs.Acts.{IsActed, gone, last_of}
 use Rattle.sequence.specs.Cuts.{HasCut, IsAmong, IsCut, first}
-use Rattle.sequence.specs.Nodes.{AreChildren, IsChild, IsLabelled, first_label, height_in, items_in}
+use Rattle.sequence.specs.Nodes.{AreChildren, CanLose, IsChild, IsLabelled, first_label, height_in, items_in}
 use Rattle.sequence.proofs.Children.{items_set, items_split}
 use Rattle.sequence.proofs.Cuts.{Holds, first_cut, first_is, first_part, holds_all, none_front}
 use Rattle.sequence.proofs.Labels.{holds_child}
-use Rattle.sequence.proofs.Placed.{put_under, stand_itself}
+use Rattle.sequence.proofs.Placed.{child_here, put_under, stand_itself}
+use Rattle.sequence.proofs.Spliced.{length-spliced}
 
 module _ {T : Type 0} (test : T → Bool) (part all : List T) (start : ℕ) (has : HasCut test all)
     (holds : Holds test part start all) where
@@ -30,6 +31,25 @@ module _ {T : Type 0} (test : T → Bool) (part all : List T) (start : ℕ) (has
       let place : first test all ≡ start + at =
       omega (arith, first_part test part all start has holds, first_is test part at is) in
       subst (IsCut test all) place (first_cut test all has)
+
+-- a bit is no more than one
+pub bit : (b : Bool) → from_bool b ≤ 1
+bit true = omega arith
+bit false = omega arith
+
+-- a tree that is not thin can lose an item
+pub not_thin : {T : Type 0} (thin : Bool) (tree : List T × ℕ) → (IsTrue thin ⊎ CanLose tree) → thin ≡ false
+    → CanLose tree
+not_thin thin tree either not = elim either [
+  | inl is ↦ absurd (true≢false (sym is ∙ not))
+  | inr can ↦ can
+]
+
+-- an item less leaves enough if there was one to spare
+wide_after : (loses : Bool) (least old new more out : ℕ) → least ≤ old → new + out ≡ old + more
+    → more ≡ from_bool (not loses) → out ≤ 1 → (loses ≡ true → least < old) → least ≤ new
+wide_after true least old new more out wide count come few spare = omega (arith, count, few, spare refl)
+wide_after false least old new more out wide count come few spare = omega (arith, wide, count, come, few)
 
 module _ {T : Type 0} (test : T → Bool) (es : List T) (has : HasCut test es) where
   -- what was counted is the cut
@@ -73,32 +93,42 @@ module _ {T L : Type 0} (label_of : T → L) where
         subst (λ (c : Child T L). Holds test c.tree.0 before (items_in cs)) (sym is)
         (holds_child test cs i d 0 before (items_in cs) h has (holds_all test (items_in cs)) under place)
 
-    module _ {R : Type 0} (test : T → Bool) (does : R → Option T → ℕ → List T → Type 0) (loses : Bool)
+    module _ {R : Type 0} (test : T → Bool) (does : Option R → Option T → List T → Type 0) (loses : Bool)
         (are : AreChildren label_of cs) (has : HasCut test (items_in cs))
         (under : IsAmong (length (items_in (take i cs))) (length (items_in (take (i + 1) cs)))
         (first test (items_in cs)))
-        (child : IsChild (d.tree.1 + 1) new) (label : 0 < i → IsLabelled label_of new)
-        (room : length (items_in cs) + 1 < 2 ^ 64) where
-      -- the branch after the act on that child, whose answer is r
-      pub record IsDone {E : Type 0} (r : Result (Acted R) E) : Type 0 where
-        pub done : IfOk r (IsActed test does loses (items_in cs) (items_in (set cs i new)))
+        (label : 0 < i → IsLabelled label_of new) (room : length (items_in cs) + 1 < 2 ^ 64) where
+      -- the branch after the act on that child
+      pub record IsDone (answer : Option R) : Type 0 where
+        pub done : IsActed test does loses (items_in cs) (items_in (set cs i new)) answer
         pub height : height_in (set cs i new) ≡ height_in cs
         pub children : AreChildren label_of (set cs i new)
-        pub blocked : OnErr r (items_in (set cs i new) ≡ items_in cs)
 
-      pub acted_under : {E : Type 0} (r : Result (Acted R) E) → IfOk r (IsActed test does loses d.tree.0 new.tree.0)
-          → OnErr r (new.tree.0 ≡ d.tree.0) → IsDone r
-      acted_under {E} (Ok a) did blocked =
+      pub acted_under : (answer : Option R) → IsActed test does loses d.tree.0 new.tree.0 answer
+          → new.tree.1 ≡ d.tree.1 → new.len ≡ d.len - gone answer + from_bool (not loses)
+          → (loses ≡ true → CanLose d.tree) → IsDone answer
+      acted_under answer did level len spare =
           let all = items_in cs in
           let start = length (items_in (take i cs)) in
           let at = did.at in
+          let out = gone answer in
           let holds = child_holds test has under in
           let cut = cut_there test d.tree.0 all start has holds at did.cut in
-          let place : start + at - a.gone ≡ start + (at - a.gone) = omega (arith, did.fits) in
-          let inside : at - a.gone + a.gone ≤ length d.tree.0 = omega (arith, did.fits, did.cut.within) in
-          let few : length all + length did.more < 2 ^ 64 + a.gone = omega (arith, room, did.come, did.most) in
+          let place : start + at - out ≡ start + (at - out) = omega (arith, did.fits) in
+          let inside : at - out + out ≤ length d.tree.0 = omega (arith, did.fits, did.cut.within) in
+          let few : length all + length did.more < 2 ^ 64 + out = omega (arith, room, did.come, bit (not loses)) in
+          let old = child_here cs i d are h is in
+          let count : length new.tree.0 + out ≡ length d.tree.0 + length did.more =
+          omega (arith, ap (length {A = T}) did.items, length-spliced (at - out) out did.more d.tree.0 inside) in
+          let child : IsChild (d.tree.1 + 1) new = record {
+            counted = omega (arith, len, count, did.fits, did.cut.within, did.come, old.counted);
+            level = ap (λ (n : ℕ). n + 1) level;
+            wide = subst (λ (n : ℕ). 2 ^ n ≤ length new.tree.0) (sym level)
+                (wide_after loses (2 ^ d.tree.1) (length d.tree.0) (length new.tree.0) (length did.more) out old.wide
+                count did.come (bit (is_some answer)) spare);
+          } in
           let put = put_under {label_of = label_of} cs cs i d new (stand_itself cs are) h is child label
-          (start + at - a.gone) (at - a.gone) a.gone did.more place inside {A = Acted R} {E = E} (Ok a) did.items tt
+          (start + at - out) (at - out) out did.more place inside {A = Option R} {E = Unit {0}} (Ok answer) did.items tt
           few in
           let last = last_there test d.tree.0 all start has holds at did.cut in
           record {
@@ -107,21 +137,10 @@ module _ {T L : Type 0} (label_of : T → L) where
               cut = cut;
               more = did.more;
               fits = omega (arith, did.fits);
-              done = subst (λ o. does a.answer o a.gone did.more) (sym last) did.done;
+              done = subst (λ o. does answer o did.more) (sym last) did.done;
               come = did.come;
-              most = did.most;
-              lost = did.lost;
               items = put.items;
             };
             height = put.height;
             children = put.children;
-            blocked = tt;
           }
-      acted_under {E} (Err e) did blocked =
-          let start = length (items_in (take i cs)) in
-          let place : start ≡ start + 0 = omega arith in
-          let inside : 0 + 0 ≤ length d.tree.0 = omega arith in
-          let few : length (items_in cs) + 0 < 2 ^ 64 + 0 = omega (arith, room) in
-          let put = put_under {label_of = label_of} cs cs i d new (stand_itself cs are) h is child label start 0 0 []
-          place inside {A = Acted R} {E = E} (Err e) tt blocked few in
-          record { done = tt; height = put.height; children = put.children; blocked = put.refused }

@@ -1,7 +1,6 @@
 -- What is done to a list at the last item before a cut.
 use Rattle.std.proofs.Common.{◌≡◌, ◌+◌, ◌-◌, ◌≤◌, ℕ, zero, suc, Bool, true, false, List, [], ◌∷◌, ◌++◌, length, take, drop}
 use Rattle.std.proofs.Common.{get_or, set, refl, ap, sym, ◌∙◌, subst, add-one, arith, take-append-drop}
-use Rattle.std.specs.Int.{from_bool}
 use Rattle.std.specs.List.{insert, remove}
 use Rattle.std.specs.Prelude.{IfNone, IfSome, None, Option, Some, slice_get}
 use Rattle.std.proofs.lemmas.List.{get_or_default, set_split}
@@ -25,11 +24,9 @@ come_in more es at =
     ap (λ (n : ℕ). take at es ++ (more ++ drop n es)) after
     ∙ ap (λ (n : ℕ). take n es ++ (more ++ drop (at - 0 + 0) es)) place
 
-module _ {T R : Type 0} (test : T → Bool) (does : R → Option T → ℕ → List T → Type 0) (loses : Bool) (es : List T)
-    (answer : R) (at : ℕ) where
+module _ {T R : Type 0} (test : T → Bool) (does : Option R → Option T → List T → Type 0) (es : List T) (at : ℕ) where
   -- nothing was changed
-  pub acted_none : IsCut test es at → does answer (last_of at es) 0 []
-      → IsActed test does loses es es (record { answer = answer; gone = 0; come = 0 })
+  pub acted_none : IsCut test es at → does None (last_of at es) [] → IsActed test does true es es None
   acted_none cut done = record {
     at = at;
     cut = cut;
@@ -37,14 +34,12 @@ module _ {T R : Type 0} (test : T → Bool) (does : R → Option T → ℕ → L
     fits = omega arith;
     done = done;
     come = refl;
-    most = omega arith;
-    lost = omega arith;
     items = sym (take-append-drop at es) ∙ come_in [] es at;
   }
 
   -- an item came behind the cut
-  pub acted_come : (one : T) → IsCut test es at → does answer (last_of at es) 0 (one ∷ [])
-      → IsActed test does loses es (insert es at one) (record { answer = answer; gone = 0; come = 1 })
+  pub acted_come : (one : T) → IsCut test es at → does None (last_of at es) (one ∷ [])
+      → IsActed test does false es (insert es at one) None
   acted_come one cut done = record {
     at = at;
     cut = cut;
@@ -52,8 +47,6 @@ module _ {T R : Type 0} (test : T → Bool) (does : R → Option T → ℕ → L
     fits = omega arith;
     done = done;
     come = refl;
-    most = omega arith;
-    lost = omega arith;
     items = come_in (one ∷ []) es at;
   }
 
@@ -61,36 +54,32 @@ module _ {T R : Type 0} (test : T → Bool) (does : R → Option T → ℕ → L
   last_is : last_of (at + 1) es ≡ slice_get es at
   last_is = ap (λ (n : ℕ). last_of n es) (add-one at)
 
-  -- it became another
-  pub acted_set : (one : T) → IsCut test es (at + 1) → does answer (slice_get es at) 1 (one ∷ [])
-      → IsActed test does loses es (set es at one) (record { answer = answer; gone = 1; come = 1 })
-  acted_set one cut done = record {
-    at = at + 1;
-    cut = cut;
-    more = one ∷ [];
-    fits = omega arith;
-    done = subst (λ (o : Option T). does answer o 1 (one ∷ [])) (sym last_is) done;
-    come = refl;
-    most = omega arith;
-    lost = omega arith;
-    items = set_split es at one (omega (arith, cut.within))
-        ∙ rest (one ∷ []) es at (at + 1 - 1) (omega arith);
-  }
+  module _ (answer : R) (cut : IsCut test es (at + 1)) where
+    -- it became another
+    pub acted_set : (one : T) → does (Some answer) (slice_get es at) (one ∷ [])
+        → IsActed test does false es (set es at one) (Some answer)
+    acted_set one done = record {
+      at = at + 1;
+      cut = cut;
+      more = one ∷ [];
+      fits = omega arith;
+      done = subst (λ (o : Option T). does (Some answer) o (one ∷ [])) (sym last_is) done;
+      come = refl;
+      items = set_split es at one (omega (arith, cut.within))
+          ∙ rest (one ∷ []) es at (at + 1 - 1) (omega arith);
+    }
 
-  -- it went
-  pub acted_gone : loses ≡ true → IsCut test es (at + 1) → does answer (slice_get es at) 1 []
-      → IsActed test does loses es (remove es at) (record { answer = answer; gone = 1; come = 0 })
-  acted_gone may cut done = record {
-    at = at + 1;
-    cut = cut;
-    more = [];
-    fits = omega arith;
-    done = subst (λ (o : Option T). does answer o 1 []) (sym last_is) done;
-    come = refl;
-    most = omega arith;
-    lost = subst (λ (b : Bool). 1 ≤ 0 + from_bool b) (sym may) (omega arith);
-    items = rest [] es at (at + 1 - 1) (omega arith);
-  }
+    -- it went
+    pub acted_gone : does (Some answer) (slice_get es at) [] → IsActed test does true es (remove es at) (Some answer)
+    acted_gone done = record {
+      at = at + 1;
+      cut = cut;
+      more = [];
+      fits = omega arith;
+      done = subst (λ (o : Option T). does (Some answer) o []) (sym last_is) done;
+      come = refl;
+      items = rest [] es at (at + 1 - 1) (omega arith);
+    }
 
 module _ {T : Type 0} (es : List T) (at : ℕ) (e : T) (within : at + 1 ≤ length es) (is : e ≡ get_or es at e) where
   -- an item that was read
@@ -107,85 +96,71 @@ module _ {T : Type 0} (es : List T) (at : ℕ) (e : T) (within : at + 1 ≤ leng
   read_again d was = was ∙ get_or_default es at d e (omega (arith, within)) ∙ sym is
 
 module _ {T : Type 0} (sought test : T → Bool) (old new : List T) where
-  module _ (gone : ℕ) (more : List T) where
-    taken_at : (at : ℕ) (item : T) → IsCut test old at → new ≡ spliced (at - gone) gone more old
-        → last_of at old ≡ Some item → sought item ≡ true → gone ≡ 1 → more ≡ [] → IsTaken sought test old new item
-    taken_at zero item cut is last found one none = absurd (none-some item last)
-    taken_at (suc at) item cut is last found one none = record {
+  module _ (more : List T) where
+    taken_at : (at : ℕ) (item : T) → IsCut test old at → new ≡ spliced (at - 1) 1 more old → last_of at old ≡ Some item
+        → sought item ≡ true → more ≡ [] → IsTaken sought test old new item
+    taken_at zero item cut is last found none = absurd (none-some item last)
+    taken_at (suc at) item cut is last found none = record {
       at = at;
       cut = subst (IsCut test old) (sym (add-one at)) cut;
       item = last;
       found = found;
-      items = is ∙ ap (λ (n : ℕ). spliced (suc at - n) n more old) one
-          ∙ ap (λ (xs : List T). spliced (suc at - 1) 1 xs old) none ∙ sym (rest [] old at (suc at - 1) (omega arith));
+      items = is ∙ ap (λ (xs : List T). spliced (suc at - 1) 1 xs old) none
+          ∙ sym (rest [] old at (suc at - 1) (omega arith));
     }
 
     replaced_at : {R : Type 0} (replaced : T → T) (put_out : T → R) (value : R) (at : ℕ) (item : T) → IsCut test old at
-        → new ≡ spliced (at - gone) gone more old → last_of at old ≡ Some item → sought item ≡ true
-        → value ≡ put_out item → gone ≡ 1 → more ≡ replaced item ∷ []
-        → IsReplaced sought test replaced put_out old new value
-    replaced_at replaced put_out value zero item cut is last found out one by = absurd (none-some item last)
-    replaced_at replaced put_out value (suc at) item cut is last found out one by = record {
+        → new ≡ spliced (at - 1) 1 more old → last_of at old ≡ Some item → sought item ≡ true → value ≡ put_out item
+        → more ≡ replaced item ∷ [] → IsReplaced sought test replaced put_out old new value
+    replaced_at replaced put_out value zero item cut is last found out by = absurd (none-some item last)
+    replaced_at replaced put_out value (suc at) item cut is last found out by = record {
       at = at;
       before = item;
       cut = subst (IsCut test old) (sym (add-one at)) cut;
       item = last;
       found = found;
       value = out;
-      items = is ∙ ap (λ (n : ℕ). spliced (suc at - n) n more old) one
-          ∙ ap (λ (xs : List T). spliced (suc at - 1) 1 xs old) by
+      items = is ∙ ap (λ (xs : List T). spliced (suc at - 1) 1 xs old) by
           ∙ sym (set_split old at (replaced item) (omega (arith, cut.within))
           ∙ rest (replaced item ∷ []) old at (suc at - 1) (omega arith));
     }
 
     -- nothing went
-    come_at : (xs : List T) (at : ℕ) → new ≡ spliced (at - gone) gone more old → gone ≡ 0 → more ≡ xs
+    come_at : (xs : List T) (at : ℕ) → new ≡ spliced (at - 0) 0 more old → more ≡ xs
         → new ≡ take at old ++ (xs ++ drop at old)
-    come_at xs at is none by =
-        is ∙ ap (λ (n : ℕ). spliced (at - n) n more old) none
-        ∙ ap (λ (ys : List T). spliced (at - 0) 0 ys old) by ∙ sym (come_in xs old at)
+    come_at xs at is by = is ∙ ap (λ (ys : List T). spliced (at - 0) 0 ys old) by ∙ sym (come_in xs old at)
 
   -- what a taking says of the whole list
-  pub says_taken : (loses : Bool) (answer : Option T) (gone come : ℕ)
-      → IsActed test (takes sought) loses old new (record { answer = answer; gone = gone; come = come })
+  pub says_taken : (loses : Bool) (answer : Option T) → IsActed test (takes sought) loses old new answer
       → IfSome answer (IsTaken sought test old new)
-  says_taken loses None gone come did = tt
-  says_taken loses (Some item) gone come did =
-      let done = did.done in
-      taken_at gone did.more did.at item did.cut did.items done.0 done.1.0 done.1.1.0 done.1.1.1
+  says_taken loses None did = tt
+  says_taken loses (Some item) did =
+      let done = did.done in taken_at did.more did.at item did.cut did.items done.0 done.1.0 done.1.1
 
-  pub says_absent : (loses : Bool) (answer : Option T) (gone come : ℕ)
-      → IsActed test (takes sought) loses old new (record { answer = answer; gone = gone; come = come })
+  pub says_absent : (loses : Bool) (answer : Option T) → IsActed test (takes sought) loses old new answer
       → IfNone answer ((new ≡ old) × IsAbsent sought test old)
-  says_absent loses (Some item) gone come did = tt
-  says_absent loses None gone come did =
-      let done = did.done in (
-        come_at gone did.more [] did.at did.items done.1.0 done.1.1 ∙ take-append-drop did.at old,
-        record { at = did.at; cut = did.cut; missed = done.0 },
-      )
+  says_absent loses (Some item) did = tt
+  says_absent loses None did = (
+    come_at did.more [] did.at did.items did.done.1 ∙ take-append-drop did.at old,
+    record { at = did.at; cut = did.cut; missed = did.done.0 },
+  )
 
   module _ {R : Type 0} (made : T) (replaced : T → T) (put_out : T → R) (loses : Bool) where
     -- and what a putting in says
-    pub says_replaced : (answer : Option R) (gone come : ℕ)
-        → IsActed test (puts sought made replaced put_out) loses old new
-        (record { answer = answer; gone = gone; come = come })
+    pub says_replaced : (answer : Option R) → IsActed test (puts sought made replaced put_out) loses old new answer
         → IfSome answer (IsReplaced sought test replaced put_out old new)
-    says_replaced None gone come did = tt
-    says_replaced (Some value) gone come did =
+    says_replaced None did = tt
+    says_replaced (Some value) did =
         let done = did.done in
-        replaced_at gone did.more replaced put_out value did.at done.0 did.cut did.items done.1.0 done.1.1.0
-        done.1.1.1.0 done.1.1.1.1.0 done.1.1.1.1.1
+        replaced_at did.more replaced put_out value did.at done.0 did.cut did.items done.1.0 done.1.1.0 done.1.1.1.0
+        done.1.1.1.1
 
-    pub says_added : (answer : Option R) (gone come : ℕ)
-        → IsActed test (puts sought made replaced put_out) loses old new
-        (record { answer = answer; gone = gone; come = come })
+    pub says_added : (answer : Option R) → IsActed test (puts sought made replaced put_out) loses old new answer
         → IfNone answer (IsAdded sought test old new made)
-    says_added (Some value) gone come did = tt
-    says_added None gone come did =
-        let done = did.done in
-        record {
-          at = did.at;
-          cut = did.cut;
-          missed = done.0;
-          items = come_at gone did.more (made ∷ []) did.at did.items done.1.0 done.1.1;
-        }
+    says_added (Some value) did = tt
+    says_added None did = record {
+      at = did.at;
+      cut = did.cut;
+      missed = did.done.0;
+      items = come_at did.more (made ∷ []) did.at did.items did.done.1;
+    }

@@ -14,7 +14,7 @@ use Rattle.sequence.specs.declared.tree.Child.{Child}
 use Rattle.sequence.specs.Nodes.{AreChildren, IsChild, first_label, height_in, items_in}
 use Rattle.sequence.proofs.Children.{items_set, items_split}
 use Rattle.sequence.proofs.Labelled.{first_set, labelled_at, labelled_by}
-use Rattle.sequence.proofs.Placed.{child_here, children_set, height_set, stands_in}
+use Rattle.sequence.proofs.Placed.{child_here, children_set, height_set, left_in}
 use Rattle.sequence.proofs.Spliced.{get_between, set_between}
 
 -- the node after the call on a child, whose answer is r
@@ -90,17 +90,7 @@ module _ {T L : Type 0} {label_of : T → L} (tree : List T × ℕ) (cs : List (
           refused = tt;
         }
     changed_under new (Err e) changed level refused keeps =
-        let c = record d { tree = new } in
-        let old = child_here cs i d are h is in
-        let many : length new.0 ≡ length d.tree.0 = ap (length {A = T}) refused in
-        let child : IsChild (d.tree.1 + 1) c = record {
-          counted = omega (arith, many, old.counted);
-          level = ap (λ (n : ℕ). n + 1) level;
-          wide = subst (λ (n : ℕ). 2 ^ n ≤ length new.0) (sym level) (omega (arith, many, old.wide));
-        } in
-        let label = λ (p : 0 < i). labelled_by d c refl
-        (λ h. ap (λ (es : List T). first_label label_of es) refused ∙ h) (labelled_at cs i d are p h is) in
-        let done = stands_in cs i d are h is c child label refused in
+        let done = left_in cs i d are h is new refused level in
         record {
           whole = done.children;
           changed = tt;

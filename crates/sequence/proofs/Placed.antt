@@ -3,6 +3,7 @@ use Rattle.std.proofs.Common.{◌≡◌, ◌+◌, ◌<◌, ◌≤◌, ◌^◌, �
 use Rattle.std.proofs.Common.{set, refl, ap, sym, ◌∙◌, subst, arith, length-set}
 use Rattle.std.specs.Prelude.{Result, Ok, Err, OnOk, OnErr}
 use Rattle.std.specs.List.{All}
+use Rattle.std.proofs.lemmas.List.{set-get_or}
 use Rattle.std.proofs.lemmas.List.Elements.{All-set}
 use Rattle.sequence.specs.declared.tree.Child.{Child}
 use Rattle.sequence.specs.Nodes.{AreChildren, IsChild, IsLabelled, StandFor, height_in, items_in}
@@ -34,6 +35,15 @@ module _ {T L : Type 0} {label_of : T → L} where
     -- its items are no more than all
     pub child_within : length d.tree.0 ≤ length (items_in cs)
     child_within = omega (arith, length-split cs i d h, ap (λ (c : Child T L). length c.tree.0) is)
+
+    -- a child that a call left as it was stands where it stood
+    pub left_in : (new : List T × ℕ) → new.0 ≡ d.tree.0 → new.1 ≡ d.tree.1
+        → StandFor label_of cs (set cs i (record d { tree = new }))
+    left_in new items level =
+        let same : new ≡ d.tree = λ j. (items j, level j) in
+        subst (λ (t : List T × ℕ). StandFor label_of cs (set cs i (record d { tree = t }))) (sym same)
+        (subst (StandFor label_of cs) (sym (ap (λ (c : Child T L). set cs i c) is ∙ set-get_or cs i d))
+        (stand_itself cs are))
 
     module _ (new : Child T L) (child : IsChild (d.tree.1 + 1) new) (label : 0 < i → IsLabelled label_of new) where
       -- with another of its level in its place, all are on one level

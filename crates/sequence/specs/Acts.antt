@@ -1,9 +1,8 @@
 -- What is done to a list where a cut is.
 use Rattle.std.specs.Prelude.{◌≡◌, ℕ, zero, suc, ◌+◌, ◌-◌, ◌≤◌, Bool, true, false, None, Some, Option, List, [], ◌∷◌}
-use Rattle.std.specs.Prelude.{length, slice_get, slice_set}
+use Rattle.std.specs.Prelude.{is_some, length, not, slice_get, slice_set}
 use Rattle.std.specs.List.{insert, remove}
 use Rattle.std.specs.Int.{from_bool}
-use Rattle.sequence.specs.declared.tree.act.Acted.{Acted}
 use Rattle.sequence.specs.Cuts.{IsCut}
 use Rattle.sequence.specs.Spots.{spliced}
 
@@ -12,18 +11,20 @@ abbrev pub last_of : {T : Type 0} → ℕ → List T → Option T
 last_of zero es = None
 last_of (suc at) es = slice_get es at
 
--- some of the last items before the cut went, and others came, as that act does it at such a last item
-pub record IsActed {T R : Type 0} (test : T → Bool) (does : R → Option T → ℕ → List T → Type 0) (loses : Bool)
-    (old new : List T) (acted : Acted R) : Type 0 where
+-- how many items went, if that is the answer
+abbrev pub gone : {R : Type 0} → Option R → ℕ
+gone answer = from_bool (is_some answer)
+
+-- the last item before the cut went if there is an answer, and others came, as that act does it at such a last item
+pub record IsActed {T R : Type 0} (test : T → Bool) (does : Option R → Option T → List T → Type 0) (loses : Bool)
+    (old new : List T) (answer : Option R) : Type 0 where
   pub at : ℕ
   pub cut : IsCut test old at
   pub more : List T
-  pub fits : acted.gone ≤ at
-  pub done : does acted.answer (last_of at old) acted.gone more
-  pub come : acted.come ≡ length more
-  pub most : acted.come ≤ 1
-  pub lost : acted.gone ≤ acted.come + from_bool loses
-  pub items : new ≡ spliced (at - acted.gone) acted.gone more old
+  pub fits : gone answer ≤ at
+  pub done : does answer (last_of at old) more
+  pub come : length more ≡ from_bool (not loses)
+  pub items : new ≡ spliced (at - gone answer) (gone answer) more old
 
 module _ {T : Type 0} (sought : T → Bool) where
   -- the last item before the cut is not the one that is sought
@@ -31,15 +32,15 @@ module _ {T : Type 0} (sought : T → Bool) where
   IsMissed last = (item : T) → last ≡ Some item → sought item ≡ false
 
   -- the sought item goes, and is the answer
-  abbrev pub takes : Option T → Option T → ℕ → List T → Type 0
-  takes None last gone more = IsMissed last × ((gone ≡ 0) × (more ≡ []))
-  takes (Some item) last gone more = (last ≡ Some item) × ((sought item ≡ true) × ((gone ≡ 1) × (more ≡ [])))
+  abbrev pub takes : Option T → Option T → List T → Type 0
+  takes None last more = IsMissed last × (more ≡ [])
+  takes (Some item) last more = (last ≡ Some item) × ((sought item ≡ true) × (more ≡ []))
 
   -- an item comes, or another in place of the sought one
-  abbrev pub puts : {R : Type 0} → T → (T → T) → (T → R) → Option R → Option T → ℕ → List T → Type 0
-  puts made replaced old None last gone more = IsMissed last × ((gone ≡ 0) × (more ≡ made ∷ []))
-  puts made replaced old (Some value) last gone more = (item : T) × ((last ≡ Some item) × ((sought item ≡ true)
-      × ((value ≡ old item) × ((gone ≡ 1) × (more ≡ replaced item ∷ [])))))
+  abbrev pub puts : {R : Type 0} → T → (T → T) → (T → R) → Option R → Option T → List T → Type 0
+  puts made replaced old None last more = IsMissed last × (more ≡ made ∷ [])
+  puts made replaced old (Some value) last more = (item : T) × ((last ≡ Some item) × ((sought item ≡ true)
+      × ((value ≡ old item) × (more ≡ replaced item ∷ []))))
 
   module _ (test : T → Bool) where
     -- the sought item is not there

@@ -44,11 +44,11 @@ impl<T: Clone, L: Label<T> + Clone> Sequence<T, L> {
         if len <= 1 || len == usize::MAX {
             return Err(Blocked);
         }
-        let Ok(acted) = tree.act(alloc, Take(cut), false) else {
+        let Ok(found) = tree.act(alloc, Take(cut), false) else {
             return Err(Blocked);
         };
-        self.len = len - acted.gone + acted.come;
-        Ok(acted.answer)
+        self.len = len - usize::from(found.is_some());
+        Ok(found)
     }
 
     /// Puts in what there is to put in, behind its cut, or into the item that it seeks, if that is the last one before
@@ -76,9 +76,9 @@ impl<T: Clone, L: Label<T> + Clone> Sequence<T, L> {
             return Err(new);
         }
         match tree.act(alloc, PutIn(new), false) {
-            Ok(acted) => {
-                self.len = len - acted.gone + acted.come;
-                Ok(acted.answer)
+            Ok(old) => {
+                self.len = len + usize::from(old.is_none());
+                Ok(old)
             }
             Err(PutIn(new)) => Err(new),
         }

@@ -1,11 +1,11 @@
 //! What is done to a tree where a cut is, by one way down along nodes that keep their form. If that cannot be, the
 //! items stay, and what was to be done is given back.
-ghost use Rattle.std.specs.Prelude.{◌≡◌, ℕ, ◌+◌, ◌<◌, ◌^◌, ◌⊎◌, Bool, IfErr, IfNone, IfOk, IfSome, IsTrue, List, OnErr};
+ghost use Rattle.std.specs.Prelude.{◌≡◌, ◌+◌, ◌<◌, ◌^◌, ◌⊎◌, Bool, IfErr, IfNone, IfOk, IfSome, IsTrue, List, OnErr};
 ghost use Rattle.std.specs.Prelude.{Option, length};
 ghost use Rattle.servo_arc.specs.Copies.{CopiesAreEqual};
 ghost use Rattle.sequence.specs.Acts.{IsActed};
 ghost use Rattle.sequence.specs.Cuts.{HasCut, IsCut};
-ghost use Rattle.sequence.specs.Nodes.{AreChildren, CanLose, IsChild, IsList, first_label, height_in, items_in};
+ghost use Rattle.sequence.specs.Nodes.{AreChildren, CanLose, IsList, first_label, height_in, items_in};
 
 use crate::cut::Cut;
 use crate::label::Label;
@@ -16,15 +16,16 @@ use std::alloc::Global;
 
 // What is done to the items of a leaf.
 pub(crate) trait Act<T, L: Label<T>>: Drop {
-    type Answer: Drop;
+    // What it answers of the item that goes.
+    type Gone: Drop;
 
     // Its cut.
     ghost is_before: { Self → L → Bool };
 
-    // What it answers at such a last item before the cut, if so many of the last go and these come.
-    ghost does: { Self → Self.Answer → Option T → ℕ → List T → Type 0 };
+    // What it answers at such a last item before the cut, which goes if there is an answer, if these come.
+    ghost does: { Self → Option Self.Gone → Option T → List T → Type 0 };
 
-    // Whether there may be an item less.
+    // Whether no item comes, so that there may be one less. Else one comes.
     ghost LOSES: { Bool };
 
     const LOSES: bool;
@@ -41,32 +42,16 @@ pub(crate) trait Act<T, L: Label<T>>: Drop {
         items: &mut Vec<T>,
         last: Option<usize>,
         labelled: bool,
-    ) -> Result<Acted<Self::Answer>, Self>
+    ) -> Result<Option<Self::Gone>, Self>
         requires none { IfNone last (IsCut (λ e. is_before self (L.label_of e)) items.old.items 0) }
         requires some { IfSome last (λ at. IsCut (λ e. is_before self (L.label_of e)) items.old.items (at + 1)) }
         requires room { length items.old.items + 1 < 2 ^ 64 }
-        ensures done { IfOk result (λ acted.
-            IsActed (λ e. is_before self (L.label_of e)) (does self) LOSES items.old.items items.new.items acted) }
+        ensures done { IfOk result
+            (IsActed (λ e. is_before self (L.label_of e)) (does self) LOSES items.old.items items.new.items) }
         ensures first { IsTrue labelled
             → first_label L.label_of items.new.items ≡ first_label L.label_of items.old.items }
         ensures blocked { OnErr result (items.new.items ≡ items.old.items) }
         ensures back { IfErr result (λ act. act ≡ self) };
-}
-
-// What was done: the answer, and how many items went and came.
-#[derive(Drop)]
-pub(crate) struct Acted<R> {
-    pub(crate) answer: R,
-    pub(crate) gone: usize,
-    pub(crate) come: usize,
-}
-
-// The same of these parts.
-#[inline(always)]
-pub(crate) fn done<R>(answer: R, gone: usize, come: usize) -> Acted<R>
-    ensures { result ≡ record { answer = answer; gone = gone; come = come } }
-{
-    Acted { answer, gone, come }
 }
 
 // The search by what is to be done.
@@ -92,14 +77,14 @@ impl<T: Clone, L: Label<T> + Clone> Tree<T, L> {
         alloc: Global,
         act: A,
         labelled: bool,
-    ) -> Result<Acted<A::Answer>, A>
+    ) -> Result<Option<A::Gone>, A>
         requires copies { CopiesAreEqual T.is_clone }
         requires labels { CopiesAreEqual L.is_clone }
         requires cut { HasCut (λ e. A.is_before act (L.label_of e)) self.old.0 }
         requires spare { IsTrue A.LOSES → 1 < length self.old.0 }
         requires room { length self.old.0 + 1 < 2 ^ 64 }
-        ensures done { IfOk result (λ acted.
-            IsActed (λ e. A.is_before act (L.label_of e)) (A.does act) A.LOSES self.old.0 self.new.0 acted) }
+        ensures done { IfOk result
+            (IsActed (λ e. A.is_before act (L.label_of e)) (A.does act) A.LOSES self.old.0 self.new.0) }
         ensures height { self.new.1 ≡ self.old.1 }
         ensures first { IsTrue labelled → first_label L.label_of self.new.0 ≡ first_label L.label_of self.old.0 }
         ensures blocked { OnErr result (self.new.0 ≡ self.old.0) }
@@ -129,14 +114,14 @@ impl<T: Clone, L: Label<T> + Clone> Tree<T, L> {
         alloc: Global,
         act: A,
         labelled: bool,
-    ) -> Result<Acted<A::Answer>, A>
+    ) -> Result<Option<A::Gone>, A>
         requires copies { CopiesAreEqual T.is_clone }
         requires labels { CopiesAreEqual L.is_clone }
         requires children { AreChildren L.label_of children.old.items }
         requires cut { HasCut (λ e. A.is_before act (L.label_of e)) (items_in children.old.items) }
         requires room { length (items_in children.old.items) + 1 < 2 ^ 64 }
-        ensures done { IfOk result (λ acted. IsActed (λ e. A.is_before act (L.label_of e)) (A.does act) A.LOSES
-            (items_in children.old.items) (items_in children.new.items) acted) }
+        ensures done { IfOk result (IsActed (λ e. A.is_before act (L.label_of e)) (A.does act) A.LOSES
+            (items_in children.old.items) (items_in children.new.items)) }
         ensures height { height_in children.new.items ≡ height_in children.old.items }
         ensures children { AreChildren L.label_of children.new.items }
         ensures first { IsTrue labelled → first_label L.label_of (items_in children.new.items)
@@ -145,38 +130,12 @@ impl<T: Clone, L: Label<T> + Clone> Tree<T, L> {
         ensures back { IfErr result (λ back. back ≡ act) }
     {
         let at = child_of(children, &act);
-        children[at].act(alloc, act, labelled | (at > 0))
-    }
-}
-
-impl<T: Clone, L: Label<T> + Clone> Child<T, L> {
-    // The same under one child.
-    #[cycle(act)]
-    fn act<A: Act<T, L>>(
-        &mut self,
-        alloc: Global,
-        act: A,
-        labelled: bool,
-    ) -> Result<Acted<A::Answer>, A>
-        requires copies { CopiesAreEqual T.is_clone }
-        requires labels { CopiesAreEqual L.is_clone }
-        requires child { IsChild (self.old.tree.1 + 1) self.old }
-        requires cut { HasCut (λ e. A.is_before act (L.label_of e)) self.old.tree.0 }
-        requires room { length self.old.tree.0 + 1 < 2 ^ 64 }
-        ensures done { IfOk result (λ acted. IsActed (λ e. A.is_before act (L.label_of e)) (A.does act) A.LOSES
-            self.old.tree.0 self.new.tree.0 acted) }
-        ensures child { IsChild (self.old.tree.1 + 1) self.new }
-        ensures label { self.new.label ≡ self.old.label }
-        ensures first { IsTrue labelled
-            → first_label L.label_of self.new.tree.0 ≡ first_label L.label_of self.old.tree.0 }
-        ensures blocked { OnErr result (self.new.tree.0 ≡ self.old.tree.0) }
-        ensures back { IfErr result (λ back. back ≡ act) }
-    {
-        if A::LOSES && self.tree.is_thin() {
+        if A::LOSES && children[at].tree.is_thin() {
             return Err(act);
         }
-        let acted = self.tree.act(alloc, act, labelled)?;
-        self.len = self.len - acted.gone + acted.come;
-        Ok(acted)
+        let child = &mut children[at];
+        let gone = child.tree.act(alloc, act, labelled | (at > 0))?;
+        child.len = child.len - usize::from(gone.is_some()) + usize::from(!A::LOSES);
+        Ok(gone)
     }
 }

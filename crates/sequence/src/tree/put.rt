@@ -6,7 +6,7 @@ ghost use Rattle.sequence.specs.Nodes.{first_label};
 
 use crate::label::Label;
 use crate::put::Put;
-use crate::tree::act::{Act, Acted, done};
+use crate::tree::act::Act;
 use crate::tree::copies::LEAF;
 
 // Puts that in.
@@ -14,7 +14,7 @@ use crate::tree::copies::LEAF;
 pub(crate) struct PutIn<P>(pub(crate) P);
 
 impl<T: Drop, L: Label<T>, P: Put<T, L>> Act<T, L> for PutIn<P> {
-    type Answer = Option<P::Old>;
+    type Gone = P::Old;
 
     ghost is_before = { λ put. P.is_before put.0 };
 
@@ -39,14 +39,13 @@ impl<T: Drop, L: Label<T>, P: Put<T, L>> Act<T, L> for PutIn<P> {
         items: &mut Vec<T>,
         last: Option<usize>,
         labelled: bool,
-    ) -> Result<Acted<Option<P::Old>>, PutIn<P>> {
+    ) -> Result<Option<P::Old>, PutIn<P>> {
         let at = match last {
             Some(at) => at,
             None => return self.add(items, 0, labelled),
         };
         if self.0.is_sought(&items[at]) {
-            let old = self.0.replace(&mut items[at]);
-            return Ok(done(Some(old), 1, 1));
+            return Ok(Some(self.0.replace(&mut items[at])));
         }
         self.add(items, at + 1, labelled)
     }
@@ -60,14 +59,14 @@ impl<P> PutIn<P> {
         items: &mut Vec<T>,
         place: usize,
         labelled: bool,
-    ) -> Result<Acted<Option<P::Old>>, PutIn<P>>
+    ) -> Result<Option<P::Old>, PutIn<P>>
     where
         P: Put<T, L>,
         requires cut { IsCut (λ e. P.is_before self.0 (L.label_of e)) items.old.items place }
         requires missed { IsMissed (λ e. P.is_sought self.0 (L.label_of e)) (last_of place items.old.items) }
-        ensures done { IfOk result (λ acted. IsActed (λ e. P.is_before self.0 (L.label_of e))
+        ensures done { IfOk result (IsActed (λ e. P.is_before self.0 (L.label_of e))
             (puts (λ e. P.is_sought self.0 (L.label_of e)) (P.made self.0) (P.replaced self.0) P.put_out) false
-            items.old.items items.new.items acted) }
+            items.old.items items.new.items) }
         ensures first { IsTrue labelled
             → first_label L.label_of items.new.items ≡ first_label L.label_of items.old.items }
         ensures blocked { OnErr result (items.new.items ≡ items.old.items) }
@@ -79,6 +78,6 @@ impl<P> PutIn<P> {
         let Ok(()) = items.insert(place, self.0.into_item()) else {
             unreachable!()
         };
-        Ok(done(None, 0, 1))
+        Ok(None)
     }
 }

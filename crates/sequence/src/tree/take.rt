@@ -4,14 +4,14 @@ ghost use Rattle.sequence.specs.Acts.{takes};
 
 use crate::cut::Seek;
 use crate::label::Label;
-use crate::tree::act::{Act, Acted, done};
+use crate::tree::act::Act;
 
 // Takes the item that the cut seeks.
 #[derive(Drop)]
 pub(crate) struct Take<C>(pub(crate) C);
 
 impl<T: Drop, L: Label<T>, C: Seek<T, L> + Drop> Act<T, L> for Take<C> {
-    type Answer = Option<T>;
+    type Gone = T;
 
     ghost is_before = { λ take. C.is_before take.0 };
 
@@ -36,17 +36,17 @@ impl<T: Drop, L: Label<T>, C: Seek<T, L> + Drop> Act<T, L> for Take<C> {
         items: &mut Vec<T>,
         last: Option<usize>,
         labelled: bool,
-    ) -> Result<Acted<Option<T>>, Take<C>> {
+    ) -> Result<Option<T>, Take<C>> {
         let at = match last {
             Some(at) => at,
-            None => return Ok(done(None, 0, 0)),
+            None => return Ok(None),
         };
         if !self.0.is_sought(&items[at]) {
-            return Ok(done(None, 0, 0));
+            return Ok(None);
         }
         if labelled && at == 0 {
             return Err(self);
         }
-        Ok(done(Some(items.remove(at)), 1, 0))
+        Ok(Some(items.remove(at)))
     }
 }

@@ -13,10 +13,8 @@ returns-in-Ok-clause-replaced g c =
     let does = puts sought made replaced g.P.Put.put_out in
     let same = rw c.in-Some.is at c.self.view_is in
     let new = c.act.new.self.0 in
-    let acted = c.in-Ok.acted in
-    let did = subst (λ es. IsActed test does false es new acted) same c.in-Ok.ensures.done in
-    says_replaced sought test c.args.self.now new made replaced g.P.Put.put_out false acted.answer acted.gone acted.come
-    did
+    let did = subst (λ es. IsActed test does false es new c.in-Ok.old) same c.in-Ok.ensures.done in
+    says_replaced sought test c.args.self.now new made replaced g.P.Put.put_out false c.in-Ok.old did
 
 pub returns-in-Ok-clause-added : goal.returns-in-Ok-clause-added
 returns-in-Ok-clause-added g c =
@@ -27,7 +25,5 @@ returns-in-Ok-clause-added g c =
     let does = puts sought made replaced g.P.Put.put_out in
     let same = rw c.in-Some.is at c.self.view_is in
     let new = c.act.new.self.0 in
-    let acted = c.in-Ok.acted in
-    let did = subst (λ es. IsActed test does false es new acted) same c.in-Ok.ensures.done in
-    says_added sought test c.args.self.now new made replaced g.P.Put.put_out false acted.answer acted.gone acted.come
-    did
+    let did = subst (λ es. IsActed test does false es new c.in-Ok.old) same c.in-Ok.ensures.done in
+    says_added sought test c.args.self.now new made replaced g.P.Put.put_out false c.in-Ok.old did

@@ -10,9 +10,8 @@ returns-clause-taken g c =
     let sought = λ (e : g.row.T.Denot). g.C.Seek.is_sought c.args.cut (g.L.Label.label_of e) in
     let same = rw c.in-Some.is at c.self.view_is in
     let new = c.act.new.self.0 in
-    let acted = c.in-Ok.acted in
-    let did = subst (λ es. IsActed test (takes sought) true es new acted) same c.in-Ok.ensures.done in
-    says_taken sought test c.args.self.now new true acted.answer acted.gone acted.come did
+    let did = subst (λ es. IsActed test (takes sought) true es new c.in-Ok.found) same c.in-Ok.ensures.done in
+    says_taken sought test c.args.self.now new true c.in-Ok.found did
 
 pub returns-clause-absent : goal.returns-clause-absent
 returns-clause-absent g c =
@@ -20,6 +19,5 @@ returns-clause-absent g c =
     let sought = λ (e : g.row.T.Denot). g.C.Seek.is_sought c.args.cut (g.L.Label.label_of e) in
     let same = rw c.in-Some.is at c.self.view_is in
     let new = c.act.new.self.0 in
-    let acted = c.in-Ok.acted in
-    let did = subst (λ es. IsActed test (takes sought) true es new acted) same c.in-Ok.ensures.done in
-    says_absent sought test c.args.self.now new true acted.answer acted.gone acted.come did
+    let did = subst (λ es. IsActed test (takes sought) true es new c.in-Ok.found) same c.in-Ok.ensures.done in
+    says_absent sought test c.args.self.now new true c.in-Ok.found did

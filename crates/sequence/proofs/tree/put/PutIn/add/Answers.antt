@@ -1,6 +1,5 @@
 use Rattle.std.proofs.Common.{◌∙◌, ap, refl}
 use Rattle.std.specs.List.{insert}
-use Rattle.std.specs.Prelude.{None, false}
 use Rattle.sequence.specs.Acts.{puts}
 use Rattle.sequence.proofs.Acts.{acted_come}
 use Rattle.sequence.proofs.tree.put.PutIn.add.Goals as goal
@@ -13,8 +12,7 @@ returns-clause-done g c =
     let made = g.P.Put.made c.args.self.0 in
     let does = puts sought made (g.P.Put.replaced c.args.self.0) g.P.Put.put_out in
     let at = c.args.place in
-    let done = acted_come test does false es None at made c.requires.cut (c.requires.missed, (refl, refl)) in
     let items =
     c.in-Ok.ensures.items ∙ ap (λ es. insert es at c.into_item.result) c.reserve.ensures.items
     ∙ ap (λ e. insert es at e) c.into_item.ensures in
-    rw c.done.ensures (rw items done)
+    rw items (acted_come test does es at made c.requires.cut (c.requires.missed, refl))

@@ -1,5 +1,4 @@
-use Rattle.std.proofs.Common.{◌∙◌, [], ◌∷◌, ap, refl, sym}
-use Rattle.std.specs.Prelude.{Some, false}
+use Rattle.std.proofs.Common.{◌∙◌, [], ◌∷◌, ap, sym}
 use Rattle.sequence.specs.Acts.{puts}
 use Rattle.sequence.proofs.Acts.{acted_set, missed, read_again, read_is}
 use Rattle.sequence.proofs.tree.put.PutInAct.act.Goals as goal
@@ -16,9 +15,8 @@ returns-then-is_sought-clause-done g c =
     let same = read_again es at c.index.result.now cut.within c.index.ensures old c.index_mut.ensures.value in
     let found = ap sought same ∙ sym c.if-is_sought.ensures in
     let is = read_is es at old cut.within c.index_mut.ensures.value in
-    rw c.done.ensures
-    (acted_set test does false es (Some c.replace-old.result) at c.replace-old.new.item cut
-    (old, (is, (found, (c.replace-old.ensures.old, (refl, ap (λ e. e ∷ []) c.replace-old.ensures.item))))))
+    acted_set test does es at c.replace.result cut c.replace.new.item
+    (old, (is, (found, (c.replace.ensures.old, ap (λ e. e ∷ []) c.replace.ensures.item))))
 
 pub add-requires-2-clause-missed : goal.add-requires-2-clause-missed
 add-requires-2-clause-missed g c =

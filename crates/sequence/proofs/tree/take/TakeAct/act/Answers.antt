@@ -1,5 +1,4 @@
 use Rattle.std.proofs.Common.{◌+◌, ◌∙◌, ap, refl, sym}
-use Rattle.std.specs.Prelude.{None, Some, true}
 use Rattle.std.proofs.lemmas.Option.{none-some}
 use Rattle.sequence.specs.Acts.{takes}
 use Rattle.sequence.proofs.Acts.{acted_gone, acted_none, missed, read_again, read_is}
@@ -11,8 +10,7 @@ returns-in-None-clause-done g c =
     let sought = λ (e : g.row.T.Denot). g.C.Seek.is_sought c.args.self.0 (g.L.Label.label_of e) in
     let cut = rw c.in-None.is at c.requires.none in
     let es = c.args.items.now.items in
-    rw c.done.ensures
-    (acted_none test (takes sought) true es None 0 cut (λ item h. absurd (none-some item h), (refl, refl)))
+    acted_none test (takes sought) es 0 cut (λ item h. absurd (none-some item h), refl)
 
 pub returns-then-not-is_sought-clause-done : goal.returns-then-not-is_sought-clause-done
 returns-then-not-is_sought-clause-done g c =
@@ -23,7 +21,7 @@ returns-then-not-is_sought-clause-done g c =
     let at = c.in-Some.at in
     let not = sym c.is_sought.ensures ∙ c.if-not-is_sought.true in
     let missed = missed es at c.index.result.now cut.within c.index.ensures sought not in
-    rw c.done-then-not-is_sought.ensures (acted_none test (takes sought) true es None (at + 1) cut (missed, (refl, refl)))
+    acted_none test (takes sought) es (at + 1) cut (missed, refl)
 
 pub returns-clause-done : goal.returns-clause-done
 returns-clause-done g c =
@@ -35,6 +33,5 @@ returns-clause-done g c =
     let item = c.remove.result in
     let same = read_again es at c.index.result.now cut.within c.index.ensures item c.remove.ensures.value in
     let found = ap sought same ∙ sym c.if-not-is_sought.ensures in
-    let done = acted_gone test (takes sought) true es (Some item) at refl cut
-    (read_is es at item cut.within c.remove.ensures.value, (found, (refl, refl))) in
-    rw c.done-2.ensures (rw c.remove.ensures.items done)
+    rw c.remove.ensures.items (acted_gone test (takes sought) es at item cut
+    (read_is es at item cut.within c.remove.ensures.value, (found, refl)))

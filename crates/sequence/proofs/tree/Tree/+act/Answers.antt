@@ -1,28 +1,34 @@
 -- The leaf is changed, its branches and the children on the way.
-use Rattle.std.proofs.Common.{◌<◌, ◌∙◌, ap, arith, rules, length, subst, sym, take}
+use Rattle.std.proofs.Common.{◌≡◌, ◌+◌, ◌-◌, ◌<◌, ◌∙◌, ap, arith, rules, length, refl, subst, sym, take, true}
+use Rattle.std.proofs.Common.{true≢false}
+use Rattle.std.specs.Int.{from_bool}
+use Rattle.std.proofs.lemmas.Nat.{pow_pos}
 use Rattle.std.proofs.lemmas.Bool.{lt-ltb, or_left, or_right}
-use Rattle.std.specs.Prelude.{IfOk, IsOk}
-use Rattle.sequence.specs.Acts.{IsActed}
+use Rattle.std.specs.Prelude.{IfOk, IsOk, not}
+use Rattle.sequence.specs.Acts.{IsActed, gone}
 use Rattle.sequence.specs.Cuts.{HasCut}
-use Rattle.sequence.specs.Nodes.{items_in}
-use Rattle.sequence.proofs.Acted.{acted_under, child_holds, first_set_in, none_cut, some_cut}
+use Rattle.sequence.specs.Nodes.{CanLose, first_label, items_in}
+use Rattle.sequence.proofs.Acted.{acted_under, bit, child_holds, first_set_in, none_cut, not_thin, some_cut}
+use Rattle.sequence.proofs.Acts.{read_again}
 use Rattle.sequence.proofs.Copied.{made}
 use Rattle.sequence.proofs.Cuts.{has_part}
 use Rattle.sequence.proofs.Wide.{height_some}
 use Rattle.sequence.proofs.Labelled.{labelled_at, labelled_by}
-use Rattle.sequence.proofs.Placed.{child_here, child_within}
-use Rattle.sequence.proofs.tree.+act.Goals as goal
+use Rattle.sequence.proofs.Placed.{child_here, child_within, left_in}
+use Rattle.sequence.proofs.tree.Tree.+act.Goals as goal
+use Rattle.sequence.proofs.tree.Tree.+act.Goals.{act_under-else-LOSES-via-else-LOSES}
+use Rattle.sequence.proofs.tree.Tree.+act.Goals.{act_under-else-LOSES-via-then-LOSES+else-is_thin}
 
-pub Tree::act-last_in-last-requires : goal.Tree::act-last_in-last-requires
-Tree::act-last_in-last-requires g t c =
+pub act-last_in-last-requires : goal.act-last_in-last-requires
+act-last_in-last-requires g t c =
     let test = λ (e : g.row.T.Denot). g.A.Act.is_before c.args.act (g.L.Label.label_of e) in
     let node = rw c.in-Leaf.is at (made g.L.Label.label_of c.args.self.now c.self.inside.root c.in-Ok.node.now
     c.self.invariant c.self.view_is c.in-Ok.ensures.value (c.requires.copies, c.requires.labels)) in
     let has = subst (λ tree. HasCut test tree.0) (sym node.same) c.requires.cut in
     rw c.deref.ensures.value (record { cut = has; some = node.whole.some })
 
-pub Tree::act-act-requires : goal.Tree::act-act-requires
-Tree::act-act-requires g t c =
+pub act-act-requires : goal.act-act-requires
+act-act-requires g t c =
     let test = λ (e : g.row.T.Denot). g.A.Act.is_before c.args.act (g.L.Label.label_of e) in
     let node = rw c.in-Leaf.is at (made g.L.Label.label_of c.args.self.now c.self.inside.root c.in-Ok.node.now
     c.self.invariant c.self.view_is c.in-Ok.ensures.value (c.requires.copies, c.requires.labels)) in
@@ -36,8 +42,8 @@ Tree::act-act-requires g t c =
       room = omega (arith, c.requires.room, ap (λ t. length t.0) node.same);
     }
 
-pub Tree::act-returns-in-Leaf-clause-done : goal.Tree::act-returns-in-Leaf-clause-done
-Tree::act-returns-in-Leaf-clause-done g t c =
+pub act-returns-in-Leaf-clause-done : goal.act-returns-in-Leaf-clause-done
+act-returns-in-Leaf-clause-done g t c =
     let test = λ (e : g.row.T.Denot). g.A.Act.is_before c.args.act (g.L.Label.label_of e) in
     let ok : IsOk c.make_mut.result = search rules in
     let node = rw c.in-Leaf.is at (made g.L.Label.label_of c.args.self.now c.self.inside.root c.in-Ok.node.now
@@ -47,8 +53,8 @@ Tree::act-returns-in-Leaf-clause-done g t c =
     (subst (λ tree. IfOk c.act.result (IsActed test (g.A.Act.does c.args.act) g.A.Act.LOSES tree.0 new)) node.same
     c.act.ensures.done)
 
-pub Tree::act-act_under-requires : goal.Tree::act-act_under-requires
-Tree::act-act_under-requires g t c κs within =
+pub act-act_under-requires : goal.act-act_under-requires
+act-act_under-requires g t c κs within =
     let test = λ (e : g.row.T.Denot). g.A.Act.is_before c.args.act (g.L.Label.label_of e) in
     let node = rw c.in-Branch.is at (made g.L.Label.label_of c.args.self.now c.self.inside.root c.in-Ok.node.now
     c.self.invariant c.self.view_is c.in-Ok.ensures.value (c.requires.copies, c.requires.labels)) in
@@ -75,8 +81,8 @@ Tree::act-act_under-requires g t c κs within =
       ),
     )
 
-pub Tree::act-returns-clause-done : goal.Tree::act-returns-clause-done
-Tree::act-returns-clause-done g t c =
+pub act-returns-clause-done : goal.act-returns-clause-done
+act-returns-clause-done g t c =
     let test = λ (e : g.row.T.Denot). g.A.Act.is_before c.args.act (g.L.Label.label_of e) in
     let ok : IsOk c.make_mut.result = search rules in
     let node = rw c.in-Branch.is at (made g.L.Label.label_of c.args.self.now c.self.inside.root c.in-Ok.node.now
@@ -86,16 +92,24 @@ Tree::act-returns-clause-done g t c =
     (subst (λ tree. IfOk c.act_under.result (IsActed test (g.A.Act.does c.args.act) g.A.Act.LOSES tree.0 new)) node.same
     c.act_under.ensures.done)
 
-pub Tree::act_under-act-requires : goal.Tree::act_under-act-requires
-Tree::act_under-act-requires g t c κs within =
+pub act_under-act-requires : goal.act_under-act-requires
+act_under-act-requires g t c κs within =
     let test = λ (e : g.row.T.Denot). g.A.Act.is_before c.args.act (g.L.Label.label_of e) in
     let cs = c.args.children.now.items in
     let at = c.child_of-at.result in
-    let d = c.index_mut.result.now in
-    let is = c.index_mut.ensures.value in
+    let d = c.index_mut-child.result.now in
+    let is = c.index_mut-child.ensures.value in
     let are = c.requires.children in
     let under = rw c.deref.ensures.value at c.child_of-at.ensures in
-    let holds = child_holds g.L.Label.label_of cs at d d under.within is test c.requires.cut under.among in (
+    let holds = child_holds g.L.Label.label_of cs at d d under.within is test c.requires.cut under.among in
+    let can : g.A.Act.LOSES ≡ true → CanLose d.tree = elim c.else-LOSES.branch [
+      | act_under-else-LOSES-via-then-LOSES+else-is_thin w ↦ λ loses.
+          let same = read_again cs at w.index.result.now (omega (arith, under.within)) w.index.ensures d is in
+          subst (λ child. CanLose child.tree) (sym same)
+          (not_thin w.is_thin.result w.index.result.now.tree w.is_thin.ensures w.if-is_thin.false)
+      | act_under-else-LOSES-via-else-LOSES w ↦ λ loses.
+          absurd (true≢false (sym loses ∙ sym c.LOSES.ensures ∙ w.if-LOSES.false))
+    ] in (
       omega (
         arith,
         c.decreases,
@@ -115,9 +129,9 @@ Tree::act_under-act-requires g t c κs within =
                 (
                   c.requires.labels,
                   (
-                    child_here cs at d are under.within is,
+                    has_part test d.tree.0 (items_in cs) (length (items_in (take at cs))) c.requires.cut holds,
                     (
-                      has_part test d.tree.0 (items_in cs) (length (items_in (take at cs))) c.requires.cut holds,
+                      λ loses. omega (arith, can loses, pow_pos d.tree.1),
                       omega (arith, child_within cs at d are under.within is, c.requires.room),
                     ),
                   ),
@@ -129,27 +143,68 @@ Tree::act_under-act-requires g t c κs within =
       ),
     )
 
-pub Tree::act_under-returns : goal.Tree::act_under-returns
-Tree::act_under-returns g t c =
+pub act_under-returns-in_err-gone : goal.act_under-returns-in_err-gone
+act_under-returns-in_err-gone g t c =
+    let under = rw c.deref.ensures.value at c.child_of-at.ensures in
+    let left = left_in c.args.children.now.items c.child_of-at.result c.index_mut-child.result.now c.requires.children
+    under.within c.index_mut-child.ensures.value c.act.new.self c.in_err-gone.ensures.blocked c.act.ensures.height in
+    record {
+      done = search rules;
+      height = left.height;
+      children = left.children;
+      first = λ l. ap (λ es. first_label g.L.Label.label_of es) left.items;
+      blocked = search rules;
+      back = search rules;
+    }
+
+pub act_under-overflow_add-child : goal.act_under-overflow_add-child
+act_under-overflow_add-child g t c =
+    let cs = c.args.children.now.items in
+    let at = c.child_of-at.result in
+    let d = c.index_mut-child.result.now in
+    let is = c.index_mut-child.ensures.value in
+    let within = (rw c.deref.ensures.value at c.child_of-at.ensures).within in
+    omega (
+      arith,
+      (child_here cs at d c.requires.children within is).counted,
+      child_within cs at d c.requires.children within is,
+      c.requires.room,
+      c.from-2.ensures,
+      bit (not c.LOSES-2.result),
+    )
+
+pub act_under-returns : goal.act_under-returns
+act_under-returns g t c =
     let test = λ (e : g.row.T.Denot). g.A.Act.is_before c.args.act (g.L.Label.label_of e) in
     let cs = c.args.children.now.items in
     let at = c.child_of-at.result in
-    let d = c.index_mut.result.now in
-    let new = c.act.new.self in
-    let is = c.index_mut.ensures.value in
+    let d = c.index_mut-child.result.now in
+    let is = c.index_mut-child.ensures.value in
     let are = c.requires.children in
     let under = rw c.deref.ensures.value at c.child_of-at.ensures in
     let first = c.act.ensures.first in
-    let label = λ (p : 0 < at). labelled_by d new c.act.ensures.label
+    let answer = c.in_ok-gone.gone in
+    let new = record d { len = d.len - c.from.result + c.from-2.result; tree = c.act.new.self } in
+    let out : c.from.result ≡ gone answer = c.from.ensures ∙ ap (λ b. from_bool b) c.is_some.ensures in
+    let come = c.from-2.ensures ∙ ap (λ b. from_bool (not b)) c.LOSES-2.ensures in
+    let len = ap (λ n. d.len - n + c.from-2.result) out ∙ ap (λ n. d.len - gone answer + n) come in
+    let label = λ (p : 0 < at). labelled_by d new refl
     (λ h. first (or_right c.args.labelled _ (lt-ltb 0 at p)) ∙ h) (labelled_at cs at d are p under.within is) in
+    let can : g.A.Act.LOSES ≡ true → CanLose d.tree = elim c.else-LOSES.branch [
+      | act_under-else-LOSES-via-then-LOSES+else-is_thin w ↦ λ loses.
+          let same = read_again cs at w.index.result.now (omega (arith, under.within)) w.index.ensures d is in
+          subst (λ child. CanLose child.tree) (sym same)
+          (not_thin w.is_thin.result w.index.result.now.tree w.is_thin.ensures w.if-is_thin.false)
+      | act_under-else-LOSES-via-else-LOSES w ↦ λ loses.
+          absurd (true≢false (sym loses ∙ sym c.LOSES.ensures ∙ w.if-LOSES.false))
+    ] in
     let done = acted_under g.L.Label.label_of cs at d new under.within is test (g.A.Act.does c.args.act) g.A.Act.LOSES
-    are c.requires.cut under.among c.act.ensures.child label c.requires.room c.act.result c.act.ensures.done
-    c.act.ensures.blocked in
+    are c.requires.cut under.among label c.requires.room answer c.in_ok-gone.ensures.done c.act.ensures.height len can in
     record {
       done = done.done;
       height = done.height;
       children = done.children;
       first = λ l. first_set_in g.L.Label.label_of cs at d new under.within is (first (or_left c.args.labelled _ l));
-      blocked = done.blocked;
-      back = c.act.ensures.back;
+      blocked = tt;
+      back = tt;
     }

@@ -27,13 +27,13 @@ impl<T: Clone, L: NewLabel<T>> Sequence<T, L> {
         let Some(tree) = root else {
             return Ok(());
         };
-        let Some(mine) = &mut self.root else {
-            self.root = Some(tree);
-            self.len = more;
-            return Ok(());
+        let Some(len) = self.len.checked_add(more) else {
+            return Err(AllocError);
         };
-        let len = self.len.checked_add(more).ok_or(AllocError)?;
-        mine.append(alloc, self.len, tree, more)?;
+        match &mut self.root {
+            None => self.root = Some(tree),
+            Some(mine) => mine.append(alloc, self.len, tree, more)?,
+        }
         self.len = len;
         Ok(())
     }

@@ -1,12 +1,11 @@
 //! How two trees become one: the lower one becomes a child of the higher one, on its own level.
 ghost use Rattle.std.specs.Prelude.{◌≡◌, ◌+◌, ◌<◌, ◌≤◌, ◌^◌, ◌++◌, ◌⊎◌, OnOk, OnErr, length};
 ghost use Rattle.servo_arc.specs.Copies.{CopiesAreEqual};
-ghost use Rattle.sequence.specs.Nodes.{IsChild, IsLabelled};
 ghost use Rattle.sequence.specs.Spots.{spliced};
 
 use crate::label::NewLabel;
+use crate::tree::Tree;
 use crate::tree::insert::Piece;
-use crate::tree::{Child, Tree};
 use std::alloc::{AllocError, Global};
 
 impl<T: Clone, L: NewLabel<T>> Tree<T, L> {
@@ -29,35 +28,35 @@ impl<T: Clone, L: NewLabel<T>> Tree<T, L> {
         self.shrink()?;
         other.shrink()?;
         if self.height() >= other.height() {
-            let part = other.into_child(more)?;
-            return self.hang(alloc, len, part, len);
+            return self.hang(alloc, len, other, more, len);
         }
-        let part = self.clone()?.into_child(len)?;
-        other.hang(alloc, more, part, 0)?;
+        let lower = self.clone()?;
+        other.hang(alloc, more, lower, len, 0)?;
         *self = other;
         Ok(())
     }
 
-    // Puts the part, which is no higher than the tree, before all items or behind all.
+    // Puts the items of the other tree, which is no higher, before all items or behind all.
     fn hang(
         &mut self,
         alloc: Global,
         len: usize,
-        part: Child<T, L>,
+        other: Tree<T, L>,
+        more: usize,
         place: usize,
     ) -> Result<(), AllocError>
         requires copies { CopiesAreEqual T.is_clone }
         requires labels { CopiesAreEqual L.is_clone }
         requires len { len ≡ length self.old.0 }
-        requires wide { 2 ^ self.old.1 ≤ length self.old.0 }
-        requires part { IsChild (part.tree.1 + 1) part }
-        requires label { IsLabelled L.label_of part }
-        requires low { part.tree.1 ≤ self.old.1 }
+        requires more { more ≡ length other.0 }
+        requires wide { (2 ^ self.old.1 ≤ length self.old.0) × (2 ^ other.1 ≤ length other.0) }
+        requires low { other.1 ≤ self.old.1 }
         requires edge { (place ≡ 0) ⊎ (place ≡ len) }
-        requires room { len + part.len < 2 ^ 64 }
-        ensures items { OnOk result (self.new.0 ≡ spliced place 0 part.tree.0 self.old.0) }
+        requires room { len + more < 2 ^ 64 }
+        ensures items { OnOk result (self.new.0 ≡ spliced place 0 other.0 self.old.0) }
         ensures refused { OnErr result (self.new.0 ≡ self.old.0) }
     {
+        let part = other.into_child(more)?;
         let height = part.tree.height();
         self.rise(alloc, len, height)?;
         let below = self.height() - height;

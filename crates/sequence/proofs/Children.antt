@@ -3,7 +3,7 @@ use Rattle.std.proofs.Common.{◌≡◌, ◌+◌, ◌<◌, ◌≤◌, ◌^◌, �
 use Rattle.std.proofs.Common.{ap, sym, ◌∙◌, subst, arith, add-one, append-nil, length-append}
 use Rattle.std.proofs.Common.{length-take, take-append-drop}
 use Rattle.std.proofs.Common.{Bool, true, eq-eqb, refl}
-use Rattle.std.specs.Prelude.{Some, cond, nat_eq, slice_get}
+use Rattle.std.specs.Prelude.{cond, nat_eq, slice_get}
 use Rattle.std.specs.List.{All, list_all}
 use denote.Param.Weighed.{most}
 use Rattle.std.proofs.lemmas.List.{drop_more, set_split, take_more}
@@ -136,11 +136,9 @@ module _ {T L : Type 0} where
   }
 
   -- the items under an only child
-  pub items_only : (cs : List (Child T L)) (c : Child T L) → slice_get cs 0 ≡ Some c → length cs ≡ 1
-      → c.tree.0 ≡ items_in cs
+  pub items_only : (cs : List (Child T L)) (c : Child T L) → c ≡ get_or cs 0 c → length cs ≡ 1 → c.tree.0 ≡ items_in cs
   items_only [] c h is = absurd (omega (arith, is))
-  items_only (d ∷ []) c h is =
-      let same : c ≡ d = cc in ap (λ (c : Child T L). c.tree.0) same ∙ sym (append-nil d.tree.0)
+  items_only (d ∷ []) c h is = ap (λ (c : Child T L). c.tree.0) h ∙ sym (append-nil d.tree.0)
   items_only (d ∷ e ∷ cs) c h is = absurd (omega (arith, is))
 
   -- a place that leads to a child behind the first is behind the first item of that child

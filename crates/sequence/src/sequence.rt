@@ -130,7 +130,7 @@ impl<T, L: Label<T>> Sequence<T, L> {
     pub fn last(&self) -> Option<&T>
         ensures { option_copied result ≡ slice_get self.now (length self.now - 1) }
     {
-        self.get(self.len().checked_sub(1)?)
+        self.get(self.len().saturating_sub(1))
     }
 
     /// Whether both have the same first node, as exactly as `Arc::ptr_eq` says it. Empty lists have none.
@@ -160,10 +160,10 @@ impl<T: Drop, L: NewLabel<T>> Sequence<T, L> {
         requires { CopiesAreEqual L.is_clone }
         ensures { IfOk result (λ list. list ≡ items.items) }
     {
-        if items.is_empty() {
+        let len = items.len();
+        if len == 0 {
             return Ok(Sequence::empty());
         }
-        let len = items.len();
         let root = Some(Tree::of_items(alloc, items)?);
         Ok(Sequence { root, len })
     }

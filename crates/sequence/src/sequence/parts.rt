@@ -88,10 +88,10 @@ impl<T: Clone, L: NewLabel<T>> Sequence<T, L> {
         requires room { length (items_in children.now) < 2 ^ 64 }
         ensures { IfOk result (λ list. list ≡ items_in children.now) }
     {
-        let tree = match children.first() {
-            None => return Ok(Sequence::empty()),
-            Some(only) if children.len() == 1 => only.tree.clone()?,
-            Some(_) => Tree::of(alloc, Node::Branch(copies(alloc, children, BRANCH)?))?,
+        let tree = match children {
+            [] => return Ok(Sequence::empty()),
+            [only] => only.tree.clone()?,
+            _ => Tree::of(alloc, Node::Branch(copies(alloc, children, BRANCH)?))?,
         };
         let len = count(children);
         let root = Some(tree);

@@ -131,10 +131,7 @@ impl<T: Clone, L: NewLabel<T>> Tree<T, L> {
             }
         };
         match node.into_inner() {
-            Node::Leaf(mut items) => match items.pop() {
-                Some(item) => Ok(item),
-                None => unreachable!(),
-            },
+            Node::Leaf(mut items) => Ok(items.remove(0)),
             Node::Branch(_) => unreachable!(),
         }
     }

@@ -1,28 +1,27 @@
-use Rattle.std.proofs.Common.{◌∙◌, ap, length, sym, subst}
-use Rattle.std.proofs.lemmas.Option.{slice_get_within}
+use Rattle.std.proofs.Common.{◌∙◌, ap, arith, length, sym, subst}
 use Rattle.sequence.specs.Nodes.{AreChildren, items_in}
 use Rattle.sequence.proofs.Children.{children_are, items_only}
 use Rattle.sequence.proofs.sequence.Sequence.of_children.Goals as goal
-use Rattle.sequence.proofs.sequence.Sequence.of_children.Goals.{then-children-eq1+in_ok-tree-in-Some}
-use Rattle.sequence.proofs.sequence.Sequence.of_children.Goals.{in-Some-2+in_ok-copies-in-Some-2+in_ok-tree-in-Some-2}
+use Rattle.sequence.proofs.sequence.Sequence.of_children.Goals.{in-len1+in_ok-tree-in-len1}
+use Rattle.sequence.proofs.sequence.Sequence.of_children.Goals.{in_default+in_ok-copies-in_default+in_ok-tree-in_default}
 
 pub of-requires : goal.of-requires
 of-requires g c =
     let cs = c.args.children.now in
-    subst (AreChildren g.L.Label.label_of) (sym (c.in_ok-copies-in-Some-2.ensures (λ a b h. h c.requires.labels)))
-    (children_are c.requires.level.height cs c.requires.level.each
-    (slice_get_within cs 0 _ (sym c.in-Some-2.ensures.value)) c.requires.room c.requires.level.labels)
+    subst (AreChildren g.L.Label.label_of) (sym (c.in_ok-copies-in_default.ensures (λ a b h. h c.requires.labels)))
+    (children_are c.requires.level.height cs c.requires.level.each (omega (arith, c.in_default.len_at_least))
+    c.requires.room c.requires.level.labels)
 
 pub returns : goal.returns
 returns g c =
     let cs = c.args.children.now in
-    elim c.if-children-eq1.branch [
-      | then-children-eq1+in_ok-tree-in-Some w ↦
-          ap (λ t. t.0) (w.tree-is ∙ w.in_ok-tree-in-Some.ensures.cases)
-          ∙ items_only cs c.in-Some.only.now (sym c.in-Some.ensures.value) w.if-children-eq1.true
-      | in-Some-2+in_ok-copies-in-Some-2+in_ok-tree-in-Some-2 w ↦
-          ap (λ t. t.0) (w.tree-is ∙ w.in_ok-tree-in-Some-2.ensures)
-          ∙ ap (λ cs. items_in cs) (w.in_ok-copies-in-Some-2.ensures (λ a b h. h c.requires.labels))
+    elim c.if-children-lt2.branch [
+      | in-len1+in_ok-tree-in-len1 w ↦
+          ap (λ t. t.0) (w.tree-is ∙ w.in_ok-tree-in-len1.ensures.cases)
+          ∙ items_only cs w.only-item.result w.only-item.is (omega arith)
+      | in_default+in_ok-copies-in_default+in_ok-tree-in_default w ↦
+          ap (λ t. t.0) (w.tree-is ∙ w.in_ok-tree-in_default.ensures)
+          ∙ ap (λ cs. items_in cs) (w.in_ok-copies-in_default.ensures (λ a b h. h c.requires.labels))
     ]
 
 pub invariant_of-result : goal.invariant_of-result

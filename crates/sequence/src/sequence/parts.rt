@@ -61,8 +61,7 @@ impl<T: Clone, L: NewLabel<T>> Sequence<T, L> {
         let Some(tree) = &self.root else {
             return Ok(Some(Sequence::empty()));
         };
-        let back = tree.back(alloc, at)?;
-        let front = tree.front(alloc, at)?;
+        let (front, back) = tree.split(alloc, at)?;
         *self = front;
         Ok(Some(back))
     }
@@ -100,41 +99,32 @@ impl<T: Clone, L: NewLabel<T>> Sequence<T, L> {
 }
 
 impl<T: Clone, L: NewLabel<T>> Tree<T, L> {
-    // The list of so many of the first items.
-    fn front(&self, alloc: Global, at: usize) -> Result<Sequence<T, L>, AllocError>
+    // The list of so many of the first items, and that of the others.
+    fn split(
+        &self,
+        alloc: Global,
+        at: usize,
+    ) -> Result<(Sequence<T, L>, Sequence<T, L>), AllocError>
         requires copies { CopiesAreEqual T.is_clone }
         requires labels { CopiesAreEqual L.is_clone }
         requires within { at ≤ length self.now.0 }
-        ensures { IfOk result (λ list. list ≡ take at self.now.0) }
+        ensures front { IfOk result (λ parts. parts.0 ≡ take at self.now.0) }
+        ensures back { IfOk result (λ parts. parts.1 ≡ drop at self.now.0) }
     {
         match self.node() {
-            Node::Leaf(items) => Sequence::of_leaf(alloc, &items[..at]),
+            Node::Leaf(items) => {
+                let front = Sequence::of_leaf(alloc, &items[..at])?;
+                let back = Sequence::of_leaf(alloc, &items[at..])?;
+                Ok((front, back))
+            }
             Node::Branch(children) => {
                 let spot = spot_of(children, at);
                 let mut front = Sequence::of_children(alloc, &children[..spot.child])?;
-                front.append(alloc, children[spot.child].tree.front(alloc, spot.place)?)?;
-                Ok(front)
-            }
-        }
-    }
-
-    // The list of all items but so many of the first.
-    fn back(&self, alloc: Global, at: usize) -> Result<Sequence<T, L>, AllocError>
-        requires copies { CopiesAreEqual T.is_clone }
-        requires labels { CopiesAreEqual L.is_clone }
-        requires within { at ≤ length self.now.0 }
-        ensures { IfOk result (λ list. list ≡ drop at self.now.0) }
-    {
-        match self.node() {
-            Node::Leaf(items) => Sequence::of_leaf(alloc, &items[at..]),
-            Node::Branch(children) => {
-                let spot = spot_of(children, at);
-                let mut back = children[spot.child].tree.back(alloc, spot.place)?;
-                back.append(
-                    alloc,
-                    Sequence::of_children(alloc, &children[spot.child + 1..])?,
-                )?;
-                Ok(back)
+                let behind = Sequence::of_children(alloc, &children[spot.child + 1..])?;
+                let (part, mut back) = children[spot.child].tree.split(alloc, spot.place)?;
+                front.append(alloc, part)?;
+                back.append(alloc, behind)?;
+                Ok((front, back))
             }
         }
     }

@@ -1,20 +1,66 @@
 //! What goes in and out at the two ends of a list.
-ghost use Rattle.std.specs.Prelude.{◌≡◌, ◌-◌, ◌++◌, ◌∷◌, [], IfOk, IsOk, OnErr, OnOk, drop, length, slice_get, take};
+ghost use Rattle.std.specs.Prelude.{◌≡◌, ◌-◌, ◌++◌, ◌∷◌, [], IfOk, IsOk, OnErr, OnOk, drop, false, length, slice_get};
+ghost use Rattle.std.specs.Prelude.{take, true};
 ghost use Rattle.servo_arc.specs.Copies.{CopiesAreEqual};
 
-use crate::label::NewLabel;
+use crate::label::{Label, NewLabel};
+use crate::put::Put;
 use crate::sequence::Sequence;
 use std::alloc::{AllocError, Global};
 
+// An item that goes in behind all.
+#[derive(Drop)]
+struct Last<T>(T);
+
+impl<T: Drop, L: Label<T>> Put<T, L> for Last<T> {
+    type Old = ();
+
+    ghost is_before = { λ _ _. true };
+
+    ghost is_sought = { λ _ _. false };
+
+    ghost made = { λ last. last.0 };
+
+    ghost replaced = { λ _ item. item };
+
+    ghost put_out = { λ _. record {} };
+
+    #[inline(always)]
+    fn item(&self, _item: &T) -> bool {
+        true
+    }
+
+    #[inline(always)]
+    fn label(&self, _label: &L) -> bool {
+        true
+    }
+
+    #[inline(always)]
+    fn is_sought(&self, _item: &T) -> bool {
+        false
+    }
+
+    #[inline(always)]
+    fn into_item(self) -> T {
+        self.0
+    }
+
+    #[inline(always)]
+    fn replace(self, _item: &mut T) {}
+}
+
 impl<T: Clone, L: NewLabel<T>> Sequence<T, L> {
-    /// Puts the item behind all, as `insert` does.
+    /// Puts the item behind all, as `insert` does, but by one way down unless the last leaf is full.
     pub fn push(&mut self, alloc: Global, item: T) -> Result<(), AllocError>
         requires copies { CopiesAreEqual T.is_clone }
         requires labels { CopiesAreEqual L.is_clone }
         ensures items { OnOk result (self.new ≡ self.old ++ item ∷ []) }
         ensures refused { OnErr result (self.new ≡ self.old) }
     {
-        self.put(alloc, self.len(), item)
+        match self.put_in(alloc, Last(item)) {
+            Ok(_) => Ok(()),
+            Err(Last(item)) => self.put(alloc, self.len(), item),
+        }
     }
 
     /// Puts the item before all, as `insert` does.

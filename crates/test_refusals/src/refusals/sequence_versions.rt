@@ -18,6 +18,15 @@ fn counted<'a>(alloc: Global, tally: &'a Tally, len: u8) -> Result<Items<'a>, Al
     Sequence::from_items(alloc, items)
 }
 
+// Of two leaves, of 32 items and of 64. The second becomes two if an item goes in.
+fn full<'a>(alloc: Global, tally: &'a Tally) -> Result<Items<'a>, AllocError> {
+    let mut items = counted(alloc, tally, 64)?;
+    for value in 64..96u8 {
+        items.push(alloc, Counted::new(tally, u64::from(value)))?;
+    }
+    Ok(items)
+}
+
 // Of two leaves, of 32 items and of 16. The second is joined with the first one if it loses an item.
 fn thin<'a>(alloc: Global, tally: &'a Tally) -> Result<Items<'a>, AllocError> {
     let mut items = counted(alloc, tally, 64)?;
@@ -92,7 +101,7 @@ fn check_changes<'a>(
 #[test]
 fn a_refused_change_of_a_sequence_drops_what_it_made(rt: HostRuntime) {
     let (alloc, tally) = (rt.alloc(), Tally::new());
-    let (Ok(full), Ok(thin)) = (counted(alloc, &tally, 64), thin(alloc, &tally)) else {
+    let (Ok(full), Ok(thin)) = (full(alloc, &tally), thin(alloc, &tally)) else {
         return report(&rt, "the set-up");
     };
     check_changes(&rt, &tally, &full, &thin);

@@ -1,8 +1,8 @@
 #!/bin/sh
 # build_peers.sh OUT SOURCE
 #
-# Builds the programs that the port is measured beside, OUT/bench, OUT/bench.moved, OUT/script and OUT/collections, with
-# rustc alone. SOURCE is the source file of the crate that was ported, its lib.rs under any name; it is compiled where it
+# Builds the programs that the port is measured beside, OUT/bench, OUT/bench.moved, OUT/script and OUT/collections,
+# with rustc alone. SOURCE is the source file of the crate that was ported, its lib.rs under any name; it is compiled where it
 # lies. OUT/collections has those of im-rc if Debian's librust-im-rc-dev is installed. Only OUT is written to.
 set -eu
 if [ $# -ne 2 ]; then

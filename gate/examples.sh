@@ -8,7 +8,12 @@ program=../crates/arcbench/out/arcbench
 folder=$(mktemp -d)
 trap 'rm -rf "$folder"' EXIT
 cc -O2 -shared -fPIC -o "$folder/memory.so" ../gate/refuse_request.c || exit 1
-command -v valgrind >/dev/null || echo "examples: reads of freed memory are not looked for, since valgrind is not installed"
+checked=()
+if command -v valgrind >/dev/null; then
+    checked=(valgrind -q --error-exitcode=99)
+else
+    echo "examples: reads of freed memory are not looked for, since valgrind is not installed"
+fi
 
 wrong() {
     echo "$script $*" >&2
@@ -31,7 +36,7 @@ for script in core/* table/*; do
     LD_PRELOAD=$folder/memory.so "$program" "${words[@]}" <"$script" >"$folder/output" 2>"$folder/memory"
     cmp -s "$folder/output" "$script.stdout" || wrong "prints something else"
     [[ $(<"$folder/memory") = "memory: granted, $marked kept" ]] || wrong "marks $marked blocks: $(<"$folder/memory")"
-    ! command -v valgrind >/dev/null || valgrind -q --error-exitcode=99 "$program" "${words[@]}" <"$script" >"$folder/output" ||
+    [[ ${checked[0]-} ]] && ! "${checked[@]}" "$program" "${words[@]}" <"$script" >"$folder/output" &&
         wrong "reads freed memory"
 done
 echo "examples: $count, $failed times something else"

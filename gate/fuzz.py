@@ -148,7 +148,9 @@ class Core:
         if kind == "o":
             return chance.randrange(self.owners + (chance.random() < 0.05))
         if kind == "h":
-            return chance.choice(list(self.handles) or [0]) if chance.random() < 0.9 else chance.randrange(self.births + 1)
+            if chance.random() < 0.9:
+                return chance.choice(list(self.handles) or [0])
+            return chance.randrange(self.births + 1)
         return chance.choice([0, 1, 7, GREATEST_NUMBER, chance.randrange(GREATEST_NUMBER)])
 
 
@@ -230,9 +232,10 @@ def broken(line, chance):
     """A line that is none of the language, by one fault."""
     word, *numbers = line.split(b" ")
     return chance.choice([
-        b"", b" " + line, line + b" ", line.replace(b" ", b"  ", 1), line + b"\r", line + b" 0 0 0", word, line.upper(),
-        b"x" + line, line.replace(numbers[0], b"0" + numbers[0], 1), word + b" 4294967296", line.replace(b" ", b"\t", 1),
-        b"\0", b"\xff" + line, word + b" -1" + b" 0" * (len(numbers) - 1), word + b" " + b"9" * 30,
+        b"", b" " + line, line + b" ", line.replace(b" ", b"  ", 1), line + b"\r", line + b" 0 0 0", word,
+        line.upper(), b"x" + line, line.replace(numbers[0], b"0" + numbers[0], 1), word + b" 4294967296",
+        line.replace(b" ", b"\t", 1), b"\0", b"\xff" + line, word + b" -1" + b" 0" * (len(numbers) - 1),
+        word + b" " + b"9" * 30,
     ])
 
 

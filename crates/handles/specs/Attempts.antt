@@ -34,6 +34,7 @@ IsFullOf of logged = (logged.id ≡ of.id) × FoundFull of.held.limit.count logg
 abbrev pub IsLostOf : {X : Type 0} → Handle X → Logged → Type 0
 IsLostOf of logged = (logged.id ≡ of.id) × LostRaise of.held.limit.count of.number logged.log
 
+-- either of the two
 abbrev pub IsRefusedOf : {X : Type 0} → Handle X → Logged → Type 0
 IsRefusedOf of logged = IsFullOf of logged ⊎ IsLostOf of logged
 

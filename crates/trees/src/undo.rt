@@ -100,8 +100,8 @@ impl<T: Drop> Undo<T> {
         Ok(())
     }
 
-    /// Drops the oldest versions, so that at most `kept` are left to go back to. Call it after each change for a history
-    /// of that length at most. It requests no memory, and moves the versions that stay.
+    /// Drops the oldest versions, so that at most `kept` are left to go back to. Call it after each change for a
+    /// history of that length at most. It requests no memory, and moves the versions that stay.
     #[tactic(auto, using(crate::proofs::Forgotten::forgetting))]
     pub fn forget(&mut self, kept: usize)
         ensures before { self.new.before ≡ drop (length self.old.before - kept) self.old.before }

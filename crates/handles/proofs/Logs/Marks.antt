@@ -28,5 +28,6 @@ pub asks_shown : (limit : ℕ) → IsLimit limit → (n found : ℕ) (log : List
     → Adds limit [] (made n asks) found log
     → is_marked_word found ≡ true → HasMark log
 asks_shown limit in_range n found log a is =
-    let same : left_by log ≡ found = ap left_by a.ends ∙ left_from-more 1 ([] ++ a.others) (made n asks) ∙ a.found_word in
+    let same : left_by log ≡ found = ap left_by a.ends ∙ left_from-more 1 ([] ++ a.others) (made n asks)
+    ∙ a.found_word in
     sym (runs_are_counted limit log in_range a.runs).0.same_mark ∙ ap is_marked_word same ∙ is

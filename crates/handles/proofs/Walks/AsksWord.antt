@@ -1,5 +1,5 @@
--- The code of one atomic step on the word of a block, which five functions share but for the step, for what they know of
--- the block, and for the second part of their result. Assumes `Logic`.
+-- The code of one atomic step on the word of a block, which five functions share but for the step, for what they know
+-- of the block, and for the second part of their result. Assumes `Logic`.
 use Rattle.std.proofs.Common.{◌≡◌, ℕ, ◌+◌, ◌-◌, ◌^◌, ◌<◌, List, [], ◌∷◌, ◌++◌, refl, sym, ap, ◌∙◌, subst, lit<, w64}
 use seplogic.Ra.Ura.{Ura}
 use lib.Dec.{T}

@@ -113,31 +113,30 @@ module _ {T L : Type 0} (label_of : T → L) where
           let at = did.at in
           let out = gone answer in
           let holds = child_holds test has under in
-          let cut = cut_there test d.tree.0 all start has holds at did.cut in
-          let place : start + at - out ≡ start + (at - out) = omega (arith, did.fits) in
-          let inside : at - out + out ≤ length d.tree.0 = omega (arith, did.fits, did.cut.within) in
+          let cut = cut_there test d.tree.0 all start has holds (at + out) did.cut in
+          let last = last_there test d.tree.0 all start has holds (at + out) did.cut in
+          let place : start + (at + out) ≡ start + at + out = omega arith in
+          let inside = did.cut.within in
           let few : length all + length did.more < 2 ^ 64 + out = omega (arith, room, did.come, bit (not loses)) in
           let old = child_here cs i d are h is in
           let count : length new.tree.0 + out ≡ length d.tree.0 + length did.more =
-          omega (arith, ap (length {A = T}) did.items, length-spliced (at - out) out did.more d.tree.0 inside) in
+          omega (arith, ap (length {A = T}) did.items, length-spliced at out did.more d.tree.0 inside) in
           let child : IsChild (d.tree.1 + 1) new = record {
-            counted = omega (arith, len, count, did.fits, did.cut.within, did.come, old.counted);
+            counted = omega (arith, len, count, inside, did.come, old.counted);
             level = ap (λ (n : ℕ). n + 1) level;
             wide = subst (λ (n : ℕ). 2 ^ n ≤ length new.tree.0) (sym level)
                 (wide_after loses (2 ^ d.tree.1) (length d.tree.0) (length new.tree.0) (length did.more) out old.wide
                 count did.come (bit (is_some answer)) spare);
           } in
-          let put = put_under {label_of = label_of} cs cs i d new (stand_itself cs are) h is child label
-          (start + at - out) (at - out) out did.more place inside {A = Option R} {E = Unit {0}} (Ok answer) did.items tt
-          few in
-          let last = last_there test d.tree.0 all start has holds at did.cut in
+          let put = put_under {label_of = label_of} cs cs i d new (stand_itself cs are) h is child label (start + at) at
+          out did.more refl inside {A = Option R} {E = Unit {0}} (Ok answer) did.items tt few in
           record {
             done = record {
               at = start + at;
-              cut = cut;
+              cut = subst (IsCut test all) place cut;
               more = did.more;
-              fits = omega (arith, did.fits);
-              done = subst (λ o. does answer o did.more) (sym last) did.done;
+              done = subst (λ (n : ℕ). does answer (last_of n all) did.more) place
+                  (subst (λ o. does answer o did.more) (sym last) did.done);
               come = did.come;
               items = put.items;
             };

@@ -1,5 +1,5 @@
 -- A branch after an item was changed under one of its children.
-use Rattle.std.proofs.Common.{◌≡◌, ◌+◌, ◌-◌, ◌<◌, ◌≤◌, ◌^◌, ℕ, zero, suc, List, [], ◌∷◌, ◌++◌, length, take, drop}
+use Rattle.std.proofs.Common.{◌≡◌, ◌+◌, ◌-◌, ◌<◌, ◌≤◌, ◌^◌, ℕ, zero, suc, List, [], ◌∷◌, length, take, drop}
 use Rattle.std.proofs.Common.{get_or, set, ap, sym, ◌∙◌}
 use Rattle.std.proofs.Common.{subst, arith, length-set, refl}
 use Rattle.std.specs.Prelude.{Option, None, Some, Result, Ok, Err, IfNone, IfOk, IfSome, OnErr, OnOk, slice_get}
@@ -12,10 +12,10 @@ use Rattle.sequence.specs.declared.tree.search.Spot.{Spot}
 use Rattle.sequence.specs.Spots.{Leads}
 use Rattle.sequence.specs.declared.tree.Child.{Child}
 use Rattle.sequence.specs.Nodes.{AreChildren, IsChild, first_label, height_in, items_in}
-use Rattle.sequence.proofs.Children.{items_set, items_split}
+use Rattle.sequence.proofs.Children.{items_split, length-split}
 use Rattle.sequence.proofs.Labelled.{first_set, labelled_at, labelled_by}
-use Rattle.sequence.proofs.Placed.{child_here, children_set, height_set, left_in}
-use Rattle.sequence.proofs.Spliced.{get_between, set_between}
+use Rattle.sequence.proofs.Placed.{child_here, left_in, put_under, stand_itself}
+use Rattle.sequence.proofs.Spliced.{get_between, set_spliced}
 
 -- the node after the call on a child, whose answer is r
 pub record IsChanged {T L F R E : Type 0} (label_of : T → L) (tree : List T × ℕ) (at : ℕ)
@@ -58,35 +58,27 @@ module _ {T L : Type 0} {label_of : T → L} (tree : List T × ℕ) (cs : List (
           level = ap (λ (n : ℕ). n + 1) level;
           wide = subst (λ (n : ℕ). 2 ^ n ≤ length new.0) (sym level) (omega (arith, many, old.wide));
         } in
-        let l = items_in (take i cs) in
-        let m = (get_or cs i d).tree.0 in
-        let r = items_in (drop (i + 1) cs) in
-        let items : items_in (set cs i c) ≡ set (items_in cs) at changed.after =
-        items_set cs i c h
-        ∙ ap (λ (es : List T). l ++ (es ++ r))
-        (changed.items ∙ ap (λ (c : Child T L). set c.tree.0 p changed.after) is)
-        ∙ sym (set_between l m r at p changed.after place
-        (omega (arith, inside, ap (λ (c : Child T L). length c.tree.0) is)))
-        ∙ ap (λ (es : List T). set es at changed.after) (sym (items_split cs i d h)) in
+        let one = changed.after ∷ [] in
         let first = ap (λ (es : List T). first_label label_of es) changed.items
         ∙ first_set label_of d.tree.0 p changed.before changed.after changed.found kept in
         let label = λ (p : 0 < i). labelled_by d c refl (λ h. first ∙ h) (labelled_at cs i d are p h is) in
-        let count : length (items_in (set cs i c)) < 2 ^ 64 = omega (
-          arith,
-          ap (length {A = T}) items,
-          length-set (items_in cs) at changed.after,
-          are.list.room,
-        ) in
+        let within : p + 1 ≤ length d.tree.0 = omega (arith, inside) in
+        let put = put_under cs cs i d c (stand_itself cs are) h is child label at p 1 one place within {A = R}
+        {E = Unit {0}} (Ok r) (changed.items ∙ set_spliced d.tree.0 p changed.after inside) tt
+        (omega (arith, are.list.room)) in
+        let long = ap (λ (c : Child T L). length c.tree.0) is in
+        let there : at < length (items_in cs) = omega (arith, place, inside, long, length-split cs i d h) in
         record {
-          whole = children_set cs i d are h is c child label count;
+          whole = put.children;
           changed = record {
             before = changed.before;
             after = changed.after;
             found = item_under ∙ changed.found;
             called = changed.called;
-            items = items ∙ ap (λ (t : List T × ℕ). set t.0 at changed.after) same;
+            items = put.items ∙ sym (set_spliced (items_in cs) at changed.after there)
+                ∙ ap (λ (t : List T × ℕ). set t.0 at changed.after) same;
           };
-          height = height_set cs i d are h is c child label ∙ ap (λ (t : List T × ℕ). t.1) same;
+          height = put.height ∙ ap (λ (t : List T × ℕ). t.1) same;
           refused = tt;
         }
     changed_under new (Err e) changed level refused keeps =

@@ -1,10 +1,11 @@
 -- Items in place of others, within a longer list.
-use Rattle.std.proofs.Common.{◌≡◌, ℕ, ◌+◌, ◌-◌, ◌<◌, ◌≤◌, zero, suc, List, [], ◌∷◌, ◌++◌, length, take, drop, set}
+use Rattle.std.proofs.Common.{◌≡◌, ℕ, ◌+◌, ◌<◌, ◌≤◌, zero, suc, List, [], ◌∷◌, ◌++◌, length, take, drop, set}
 use Rattle.std.proofs.Common.{refl, ap, sym, ◌∙◌}
-use Rattle.std.proofs.Common.{arith, append-nil, append_assoc, length-append, length-take}
+use Rattle.std.proofs.Common.{add-one, arith, append-nil, append_assoc, length-append, length-take}
 use Rattle.std.proofs.Common.{length-drop}
 use Rattle.std.specs.Prelude.{slice_get}
-use Rattle.std.proofs.lemmas.List.{set-append_left, set-append_right}
+use Rattle.std.specs.List.{remove}
+use Rattle.std.proofs.lemmas.List.{set_split}
 use Rattle.std.proofs.Math.Seq.{take-append-add, take-append-le, drop-append-add, drop-append-le}
 use Rattle.sequence.specs.Spots.{spliced}
 
@@ -72,11 +73,15 @@ module _ {T : Type 0} where
       → slice_get (l ++ (m ++ r)) n ≡ slice_get m k
   get_between l m r n k is h = get_back l (m ++ r) n k is ∙ get_front m r k h
 
-  -- a write in the middle
-  pub set_between : (l m r : List T) (n k : ℕ) (x : T) → n ≡ length l + k → k < length m
-      → set (l ++ (m ++ r)) n x ≡ l ++ (set m k x ++ r)
-  set_between l m r n k x is h =
-      let rest : n - length l ≡ k = omega (arith, is) in
-      set-append_right l (m ++ r) (length l) n x refl (omega (arith, is))
-      ∙ ap (λ (j : ℕ). l ++ set (m ++ r) j x) rest
-      ∙ ap (λ (xs : List T). l ++ xs) (set-append_left m r k x h)
+  -- items that come in
+  pub come_in : (more es : List T) (at : ℕ) → take at es ++ (more ++ drop at es) ≡ spliced at 0 more es
+  come_in more es at =
+      let same : at ≡ at + 0 = omega arith in ap (λ (n : ℕ). take at es ++ (more ++ drop n es)) same
+
+  -- a removal
+  pub remove_spliced : (es : List T) (at : ℕ) → remove es at ≡ spliced at 1 [] es
+  remove_spliced es at = ap (λ (n : ℕ). take at es ++ drop n es) (sym (add-one at))
+
+  -- a write puts one in place of one
+  pub set_spliced : (es : List T) (at : ℕ) (x : T) → at < length es → set es at x ≡ spliced at 1 (x ∷ []) es
+  set_spliced es at x h = set_split es at x h ∙ ap (λ (n : ℕ). take at es ++ x ∷ drop n es) (sym (add-one at))

@@ -1,5 +1,5 @@
 -- What is done to a list where a cut is.
-use Rattle.std.specs.Prelude.{◌≡◌, ℕ, zero, suc, ◌+◌, ◌-◌, ◌≤◌, Bool, true, false, None, Some, Option, List, [], ◌∷◌}
+use Rattle.std.specs.Prelude.{◌≡◌, ℕ, zero, suc, ◌+◌, Bool, true, false, None, Some, Option, List, [], ◌∷◌}
 use Rattle.std.specs.Prelude.{is_some, length, not, slice_get, slice_set}
 use Rattle.std.specs.List.{insert, remove}
 use Rattle.std.specs.Int.{from_bool}
@@ -19,12 +19,11 @@ gone answer = from_bool (is_some answer)
 pub record IsActed {T R : Type 0} (test : T → Bool) (does : Option R → Option T → List T → Type 0) (loses : Bool)
     (old new : List T) (answer : Option R) : Type 0 where
   pub at : ℕ
-  pub cut : IsCut test old at
+  pub cut : IsCut test old (at + gone answer)
   pub more : List T
-  pub fits : gone answer ≤ at
-  pub done : does answer (last_of at old) more
+  pub done : does answer (last_of (at + gone answer) old) more
   pub come : length more ≡ from_bool (not loses)
-  pub items : new ≡ spliced (at - gone answer) (gone answer) more old
+  pub items : new ≡ spliced at (gone answer) more old
 
 module _ {T : Type 0} (sought : T → Bool) where
   -- the last item before the cut is not the one that is sought

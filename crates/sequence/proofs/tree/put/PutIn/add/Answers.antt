@@ -15,4 +15,4 @@ returns-clause-done g c =
     let items =
     c.in-Ok.ensures.items ∙ ap (λ es. insert es at c.into_item.result) c.reserve.ensures.items
     ∙ ap (λ e. insert es at e) c.into_item.ensures in
-    rw items (acted_come test does es at made c.requires.cut (c.requires.missed, refl))
+    rw items (acted_come test does es at c.requires.cut made (c.requires.missed, refl))

@@ -3,6 +3,7 @@ pub mod Acts
 pub mod Appended
 pub mod Beside
 pub mod Built
+pub mod Calls
 pub mod Changed
 pub mod Children
 pub mod Copied

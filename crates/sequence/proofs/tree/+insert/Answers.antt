@@ -4,6 +4,7 @@ use Rattle.std.specs.Prelude.{OnOk}
 use Rattle.sequence.specs.Nodes.{items_in}
 use Rattle.sequence.specs.Pieces.{Fits, items_of}
 use Rattle.sequence.specs.Spots.{spliced}
+use Rattle.sequence.proofs.Calls.{both, of_two}
 use Rattle.sequence.proofs.Children.{leads_inner}
 use Rattle.sequence.proofs.Copied.{made}
 use Rattle.sequence.proofs.Labelled.{labelled_at, labelled_put}
@@ -16,31 +17,12 @@ pub Tree::insert-insert_under-requires : goal.Tree::insert-insert_under-requires
 Tree::insert-insert_under-requires g t c κs within =
     let node = rw c.in-Branch.is at (made g.L.Label.label_of c.args.self.now c.self.inside.root c.in_ok-node.node.now
     c.self.invariant c.self.view_is c.in_ok-node.ensures.value (c.requires.copies, c.requires.labels)) in
-    let items = ap (λ t. length t.0) node.same in (
-      omega (arith, c.decreases, ap (λ t. t.1) node.same, height_some c.in-Branch.children.items node.whole),
-      (
-        within.0,
-        (
-          within.1,
-          (
-            c.requires.copies,
-            (
-              c.requires.labels,
-              (
-                node.whole,
-                (
-                  omega (arith, items, c.requires.within),
-                  (
-                    subst (λ t. Fits g.L.Label.label_of c.args.piece c.args.place t) (sym node.same) c.requires.fits,
-                    omega (arith, items, c.requires.room),
-                  ),
-                ),
-              ),
-            ),
-          ),
-        ),
-      ),
-    )
+    let items = ap (λ t. length t.0) node.same in
+    let some = height_some c.in-Branch.children.items node.whole in
+    let fits = subst (λ t. Fits g.L.Label.label_of c.args.piece c.args.place t) (sym node.same) c.requires.fits in
+    of_two (omega (arith, c.decreases, ap (λ t. t.1) node.same, some)) within
+    (both c.requires.copies (both c.requires.labels (both node.whole (both (omega (arith, items, c.requires.within))
+    (both fits (omega (arith, items, c.requires.room)))))))
 
 pub insert::insert_under-insert-requires : goal.insert::insert_under-insert-requires
 insert::insert_under-insert-requires g t c κs within =
@@ -50,44 +32,18 @@ insert::insert_under-insert-requires g t c κs within =
     let leads = c.in_ok-spot.ensures.leads c.args.place (rw c.deref.ensures.value at c.spot_of.ensures) in
     let d = c.index_mut.result.now in
     let is = c.index_mut.ensures.value in
-    let more = ap (λ es. length es) (same_items c.args.piece c.in-Ok.piece c.in-Ok.ensures) in (
-      omega (
-        arith,
-        c.decreases,
-        ap (λ child. child.tree.1) is,
-        (same.children.each spot.child d leads.within).level,
-        same.height,
-      ),
-      (
-        within.0,
-        (
-          within.1,
-          (
-            c.requires.copies,
-            (
-              c.requires.labels,
-              (
-                child_here cs spot.child d same.children leads.within is,
-                (
-                  omega (arith, leads.inside d, ap (λ child. length child.tree.0) is),
-                  (
-                    fits_under g.L.Label.label_of c.args.piece c.in-Ok.piece _ cs c.args.place spot d c.in-Ok.ensures
-                        c.requires.fits same.children same.items same.height leads is,
-                    omega (
-                      arith,
-                      more,
-                      child_within cs spot.child d same.children leads.within is,
-                      ap (λ es. length es) same.items,
-                      c.requires.room,
-                    ),
-                  ),
-                ),
-              ),
-            ),
-          ),
-        ),
-      ),
-    )
+    let more = ap (λ es. length es) (same_items c.args.piece c.in-Ok.piece c.in-Ok.ensures) in
+    let high = ap (λ child. child.tree.1) is in
+    let long = ap (λ child. length child.tree.0) is in
+    let all = ap (λ es. length es) same.items in
+    let level = (same.children.each spot.child d leads.within).level in
+    let fits = fits_under g.L.Label.label_of c.args.piece c.in-Ok.piece _ cs c.args.place spot d c.in-Ok.ensures
+    c.requires.fits same.children same.items same.height leads is in
+    let fewer = child_within cs spot.child d same.children leads.within is in
+    of_two (omega (arith, c.decreases, high, level, same.height)) within
+    (both c.requires.copies (both c.requires.labels
+    (both (child_here cs spot.child d same.children leads.within is) (both (omega (arith, leads.inside d, long))
+    (both fits (omega (arith, more, fewer, all, c.requires.room)))))))
 
 pub insert::insert_under-returns : goal.insert::insert_under-returns
 insert::insert_under-returns g t c =

@@ -2,6 +2,7 @@
 use Rattle.std.proofs.Common.{◌≡◌, ◌+◌, ◌-◌, ◌≤◌, ◌<◌, ◌^◌, ◌∙◌, [], ap, sym, subst, arith, length, refl, rules}
 use Rattle.std.specs.Prelude.{IfOk, Some, slice_get}
 use Rattle.sequence.specs.Nodes.{CanLose, height_in, items_in}
+use Rattle.sequence.proofs.Calls.{both, of_two}
 use Rattle.sequence.proofs.Changed.{item_at, spot_inside, spot_place}
 use Rattle.sequence.proofs.Copied.{made}
 use Rattle.sequence.proofs.Labelled.{labelled_at}
@@ -12,28 +13,12 @@ use Rattle.sequence.proofs.tree.+remove.Goals as goal
 pub Tree::remove-remove_under-requires : goal.Tree::remove-remove_under-requires
 Tree::remove-remove_under-requires g t c κs within =
     let node = rw c.in-Branch.is at (made g.L.Label.label_of c.args.self.now c.self.inside.root c.in_ok-node.node.now
-    c.self.invariant c.self.view_is c.in_ok-node.ensures.value (c.requires.copies, c.requires.labels)) in (
-      omega (arith, c.decreases, ap (λ t. t.1) node.same, height_some c.in-Branch.children.items node.whole),
-      (
-        within.0,
-        (
-          within.1,
-          (
-            c.requires.copies,
-            (
-              c.requires.labels,
-              (
-                node.whole,
-                (
-                  omega (arith, ap (λ t. length t.0) node.same, c.requires.there),
-                  subst (λ t. 2 ^ t.1 ≤ length t.0) (sym node.same) c.requires.wide,
-                ),
-              ),
-            ),
-          ),
-        ),
-      ),
-    )
+    c.self.invariant c.self.view_is c.in_ok-node.ensures.value (c.requires.copies, c.requires.labels)) in
+    let some = height_some c.in-Branch.children.items node.whole in
+    let wide = subst (λ t. 2 ^ t.1 ≤ length t.0) (sym node.same) c.requires.wide in
+    of_two (omega (arith, c.decreases, ap (λ t. t.1) node.same, some)) within
+    (both c.requires.copies (both c.requires.labels (both node.whole
+    (both (omega (arith, ap (λ t. length t.0) node.same, c.requires.there)) wide))))
 
 pub remove::remove_under-remove-requires : goal.remove::remove_under-remove-requires
 remove::remove_under-remove-requires g t c κs within =
@@ -42,34 +27,15 @@ remove::remove_under-remove-requires g t c κs within =
     let same = c.in_ok-spot.ensures.same in
     let leads = c.in_ok-spot.ensures.leads in
     let d = c.index_mut.result.now in
-    let is = c.index_mut.ensures.value in (
-      omega (
-        arith,
-        c.decreases,
-        ap (λ child. child.tree.1) is,
-        (same.children.each spot.child d leads.within).level,
-        same.height,
-      ),
-      (
-        within.0,
-        (
-          within.1,
-          (
-            c.requires.copies,
-            (
-              c.requires.labels,
-              (
-                child_here cs spot.child d same.children leads.within is,
-                (
-                  subst (λ child. CanLose child.tree) (sym is) (c.in_ok-spot.ensures.spare d),
-                  omega (arith, leads.inside d, leads.inner (omega arith), ap (λ child. length child.tree.0) is),
-                ),
-              ),
-            ),
-          ),
-        ),
-      ),
-    )
+    let is = c.index_mut.ensures.value in
+    let high = ap (λ child. child.tree.1) is in
+    let long = ap (λ child. length child.tree.0) is in
+    let level = (same.children.each spot.child d leads.within).level in
+    let spare = subst (λ child. CanLose child.tree) (sym is) (c.in_ok-spot.ensures.spare d) in
+    of_two (omega (arith, c.decreases, high, level, same.height)) within
+    (both c.requires.copies (both c.requires.labels
+    (both (child_here cs spot.child d same.children leads.within is)
+    (both spare (omega (arith, leads.inside d, leads.inner (omega arith), long))))))
 
 pub remove::remove_under-returns : goal.remove::remove_under-returns
 remove::remove_under-returns g t c =

@@ -23,37 +23,20 @@ unreachable-requires g c =
           omega (arith, level, high)
     ]
 
-pub returns-clause-whole : goal.returns-clause-whole
-returns-clause-whole g c =
-    elim c.match-self.branch [
-      | in-Leaf-Leaf+in_ok-append-in-Leaf-Leaf w ↦
-          let list = rw w.in-Leaf-Leaf.is-1 at (rw w.in-Leaf-Leaf.is-0 at c.requires.list) in
-          rw w.self-is (subst IsList (sym w.in_ok-append-in-Leaf-Leaf.ensures.items) list)
-      | in-Branch-Branch+in_ok-append-in-Branch-Branch w ↦
-          let cs = w.in-Branch-Branch.children.items in
-          let ds = w.in-Branch-Branch.more.items in
-          let list = rw w.in-Branch-Branch.is-1 at (rw w.in-Branch-Branch.is-0 at c.requires.list) in
-          let level = rw w.in-Branch-Branch.is-1 at (rw w.in-Branch-Branch.is-0 at c.requires.level) in
-          let are = rw w.in-Branch-Branch.is-0 at c.requires.whole.0 in
-          let more = rw w.in-Branch-Branch.is-1 at c.requires.whole.1 in
-          let items = w.in_ok-append-in-Branch-Branch.ensures.items in
-          let n = w.len-next.result in
-          let x = w.index_mut.result.now in
-          let l = w.swap.new.x in
-          let long : length cs ≡ n = omega (arith, w.len-next.ensures) in
-          let first = rw w.in-Branch-Branch.is-1 at c.requires.label ∙ ap (λ l. Some l) (sym w.swap.ensures.x_after) in
-          let done = both cs ds x l n are more level list long
-          (w.index_mut.ensures.value ∙ ap (λ xs. get_or xs n x) items) first in
-          rw w.self-is (subst (λ xs. AreChildren g.L.Label.label_of (set xs n (record x { label = l }))) (sym items)
-          done.children)
-    ]
-
-pub returns-clause-joined : goal.returns-clause-joined
-returns-clause-joined g c =
+pub returns : goal.returns
+returns g c =
     elim c.match-self.branch [
       | in-Leaf-Leaf+in_ok-append-in-Leaf-Leaf w ↦
           let items = w.in_ok-append-in-Leaf-Leaf.ensures.items in
-          rw w.result-is (rw w.self-is (rw w.in-Leaf-Leaf.is-0 (rw w.in-Leaf-Leaf.is-1 (ap (λ es. (es, 0)) items))))
+          let list = rw w.in-Leaf-Leaf.is-1 at (rw w.in-Leaf-Leaf.is-0 at c.requires.list) in
+          rw w.result-is (rw w.self-is record {
+            whole = subst IsList (sym items) list;
+            joined = rw w.in-Leaf-Leaf.is-0 (rw w.in-Leaf-Leaf.is-1 (ap (λ es. (es, 0)) items));
+            same = tt;
+            label = tt;
+            other = tt;
+            refused = tt;
+          })
       | in-Branch-Branch+in_ok-append-in-Branch-Branch w ↦
           let cs = w.in-Branch-Branch.children.items in
           let ds = w.in-Branch-Branch.more.items in
@@ -69,7 +52,15 @@ returns-clause-joined g c =
           let first = rw w.in-Branch-Branch.is-1 at c.requires.label ∙ ap (λ l. Some l) (sym w.swap.ensures.x_after) in
           let done = both cs ds x l n are more level list long
           (w.index_mut.ensures.value ∙ ap (λ xs. get_or xs n x) items) first in
-          rw w.result-is (rw w.self-is (rw w.in-Branch-Branch.is-0 (rw w.in-Branch-Branch.is-1
-          (ap (λ xs. (items_in (set xs n (record x { label = l })), height_in (set xs n (record x { label = l }))))
-          items ∙ done.same))))
+          rw w.result-is (rw w.self-is record {
+            whole = subst (λ xs. AreChildren g.L.Label.label_of (set xs n (record x { label = l }))) (sym items)
+                done.children;
+            joined = rw w.in-Branch-Branch.is-0 (rw w.in-Branch-Branch.is-1
+                (ap (λ xs. let ys = set xs n (record x { label = l }) in (items_in ys, height_in ys)) items
+                ∙ done.same));
+            same = tt;
+            label = tt;
+            other = tt;
+            refused = tt;
+          })
     ]

@@ -10,6 +10,7 @@ use Rattle.sequence.specs.Cuts.{HasCut}
 use Rattle.sequence.specs.Nodes.{CanLose, first_label, items_in}
 use Rattle.sequence.proofs.Acted.{acted_under, bit, child_holds, first_set_in, none_cut, not_thin, some_cut}
 use Rattle.sequence.proofs.Acts.{read_again}
+use Rattle.sequence.proofs.Calls.{both, of_four}
 use Rattle.sequence.proofs.Copied.{made}
 use Rattle.sequence.proofs.Cuts.{has_part}
 use Rattle.sequence.proofs.Wide.{height_some}
@@ -58,28 +59,11 @@ act-act_under-requires g t c κs within =
     let test = λ (e : g.row.T.Denot). g.A.Act.is_before c.args.act (g.L.Label.label_of e) in
     let node = rw c.in-Branch.is at (made g.L.Label.label_of c.args.self.now c.self.inside.root c.in-Ok.node.now
     c.self.invariant c.self.view_is c.in-Ok.ensures.value (c.requires.copies, c.requires.labels)) in
-    let has = subst (λ tree. HasCut test tree.0) (sym node.same) c.requires.cut in (
-      omega (arith, c.decreases, ap (λ t. t.1) node.same, height_some c.in-Branch.children.items node.whole),
-      (
-        within.0,
-        (
-          within.1.0,
-          (
-            within.1.1.0,
-            (
-              within.1.1.1,
-              (
-                c.requires.copies,
-                (
-                  c.requires.labels,
-                  (node.whole, (has, omega (arith, c.requires.room, ap (λ t. length t.0) node.same))),
-                ),
-              ),
-            ),
-          ),
-        ),
-      ),
-    )
+    let has = subst (λ tree. HasCut test tree.0) (sym node.same) c.requires.cut in
+    let some = height_some c.in-Branch.children.items node.whole in
+    of_four (omega (arith, c.decreases, ap (λ t. t.1) node.same, some)) within
+    (both c.requires.copies (both c.requires.labels (both node.whole
+    (both has (omega (arith, c.requires.room, ap (λ t. length t.0) node.same))))))
 
 pub act-returns-clause-done : goal.act-returns-clause-done
 act-returns-clause-done g t c =
@@ -109,39 +93,12 @@ act_under-act-requires g t c κs within =
           (not_thin w.is_thin.result w.index.result.now.tree w.is_thin.ensures w.if-is_thin.false)
       | act_under-else-LOSES-via-else-LOSES w ↦ λ loses.
           absurd (true≢false (sym loses ∙ sym c.LOSES.ensures ∙ w.if-LOSES.false))
-    ] in (
-      omega (
-        arith,
-        c.decreases,
-        ap (λ child. child.tree.1) is,
-        (are.each at d under.within).level,
-      ),
-      (
-        within.0,
-        (
-          within.1.0,
-          (
-            within.1.1.0,
-            (
-              within.1.1.1,
-              (
-                c.requires.copies,
-                (
-                  c.requires.labels,
-                  (
-                    has_part test d.tree.0 (items_in cs) (length (items_in (take at cs))) c.requires.cut holds,
-                    (
-                      λ loses. omega (arith, can loses, pow_pos d.tree.1),
-                      omega (arith, child_within cs at d are under.within is, c.requires.room),
-                    ),
-                  ),
-                ),
-              ),
-            ),
-          ),
-        ),
-      ),
-    )
+    ] in
+    let part = has_part test d.tree.0 (items_in cs) (length (items_in (take at cs))) c.requires.cut holds in
+    of_four (omega (arith, c.decreases, ap (λ child. child.tree.1) is, (are.each at d under.within).level)) within
+    (both c.requires.copies (both c.requires.labels (both part
+    (both (λ loses. omega (arith, can loses, pow_pos d.tree.1))
+    (omega (arith, child_within cs at d are under.within is, c.requires.room))))))
 
 pub act_under-returns-in_err-gone : goal.act_under-returns-in_err-gone
 act_under-returns-in_err-gone g t c =
@@ -199,7 +156,8 @@ act_under-returns g t c =
           absurd (true≢false (sym loses ∙ sym c.LOSES.ensures ∙ w.if-LOSES.false))
     ] in
     let done = acted_under g.L.Label.label_of cs at d new under.within is test (g.A.Act.does c.args.act) g.A.Act.LOSES
-    are c.requires.cut under.among label c.requires.room answer c.in_ok-gone.ensures.done c.act.ensures.height len can in
+    are c.requires.cut under.among label c.requires.room answer c.in_ok-gone.ensures.done c.act.ensures.height len
+    can in
     record {
       done = done.done;
       height = done.height;

@@ -4,6 +4,7 @@ use Rattle.std.specs.Prelude.{IsOk, slice_get}
 use Rattle.std.proofs.lemmas.Option.{slice_get_read}
 use Rattle.sequence.specs.declared.tree.Node.TheVariants.{Branch}
 use Rattle.sequence.specs.Nodes.{AreChildren}
+use Rattle.sequence.proofs.Calls.{both, of_four}
 use Rattle.sequence.proofs.Changed.{changed_at, item_at, spot_inside}
 use Rattle.sequence.proofs.Copied.{IsMade, made}
 use Rattle.sequence.proofs.tree.Tree.+modify.Given as given
@@ -49,37 +50,13 @@ modify-requires g t c κs within =
     let leads = rw c.deref.ensures.value at c.spot_of-spot.ensures in
     let d = c.index_mut-2.result.now in
     let is = c.index_mut-2.ensures.value in
-    let same = item_at c.args.self.now cs spot d node.whole node.same c.args.index leads is in (
-      omega (
-        arith,
-        c.decreases,
-        ap (λ t. t.1) node.same,
-        ap (λ child. child.tree.1) is,
-        (node.whole.each spot.child d leads.within).level,
-      ),
-      (
-        within.0,
-        (
-          within.1.0,
-          (
-            within.1.1.0,
-            (
-              within.1.1.1,
-              (
-                c.requires.copies,
-                (
-                  c.requires.labels,
-                  (
-                    spot_inside c.args.self.now cs spot d node.whole node.same c.args.index leads is,
-                    (λ x e. c.requires.callable x (same ∙ e), λ x e. c.requires.keeps x (same ∙ e)),
-                  ),
-                ),
-              ),
-            ),
-          ),
-        ),
-      ),
-    )
+    let same = item_at c.args.self.now cs spot d node.whole node.same c.args.index leads is in
+    let high = ap (λ child. child.tree.1) is in
+    let level = (node.whole.each spot.child d leads.within).level in
+    let there = spot_inside c.args.self.now cs spot d node.whole node.same c.args.index leads is in
+    of_four (omega (arith, c.decreases, ap (λ t. t.1) node.same, high, level)) within
+    (both c.requires.copies (both c.requires.labels (both there
+    (both (λ x e. c.requires.callable x (same ∙ e)) (λ x e. c.requires.keeps x (same ∙ e))))))
 
 pub invariant_of-self-2 : goal.invariant_of-self-2
 invariant_of-self-2 g t c =

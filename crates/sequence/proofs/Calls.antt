@@ -1,0 +1,10 @@
+-- What a call within a cycle asks for: that its measure falls, what its types ask for, and what its clauses do.
+pub both : {A B : Type 0} → A → B → A × B
+both a b = (a, b)
+
+module _ {M C : Type 0} where
+  pub of_two : {A B : Type 0} → M → A × B → C → M × (A × (B × C))
+  of_two falls types clauses = (falls, (types.0, (types.1, clauses)))
+
+  pub of_four : {A B D E : Type 0} → M → A × (B × (D × E)) → C → M × (A × (B × (D × (E × C))))
+  of_four falls types clauses = (falls, (types.0, (types.1.0, (types.1.1.0, (types.1.1.1, clauses)))))

@@ -9,6 +9,7 @@ use Rattle.std.specs.List.{AllZip}
 use Rattle.std.specs.Ordering.{partial_ordering_then}
 use Rattle.std.specs.declared.cmp.Ordering.{Ordering}
 use Rattle.std.specs.declared.cmp.Ordering.TheVariants.{Less, Equal, Greater}
+use Rattle.sequence.specs.Parts.{left}
 
 -- what is not equal decides
 decided : (c rest : Option Ordering) → (c ≡ Some Equal → ⊥) → c ≡ partial_ordering_then c rest
@@ -17,17 +18,12 @@ decided (Some Less) rest h = refl
 decided (Some Equal) rest h = absurd (h refl)
 decided (Some Greater) rest h = refl
 
--- a front item and those behind it
-abbrev left : {X : Type 0} → Option (Bor X) → List X → List X
-left None rest = []
-left (Some first) rest = first.now ∷ rest
-
 module _ {X : Type 0} where
-  abbrev steps : List X → Option (Bor X) → List X → Type 0
+  abbrev pub steps : List X → Option (Bor X) → List X → Type 0
   steps = YieldsFirstRef (λ s. s)
 
   -- what a call gave, and what it left
-  left_next : (first : Option (Bor X)) (all rest : List X) → steps all first rest → left first rest ≡ all
+  pub left_next : (first : Option (Bor X)) (all rest : List X) → steps all first rest → left first rest ≡ all
   left_next None all rest h = sym h.0
   left_next (Some first) all rest h = sym h
 

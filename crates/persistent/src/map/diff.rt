@@ -53,7 +53,7 @@ struct Left<'a, K: Ord, V> {
 
 impl<'a, K: Ord, V> Model for Left<'a, K, V> {
     ghost use Rattle.std.specs.Prelude.{◌≡◌, [], IfNone, List};
-    ghost use Rattle.persistent.specs.Lists.{left};
+    ghost use Rattle.sequence.specs.Parts.{left};
 
     ghost Value = { List (K × V) };
 

@@ -210,10 +210,7 @@ impl<K: Ord + Clone, V: Clone> TreeMap<K, V> {
         let Ok(taken) = self.entries.take_out(alloc, UpTo { query: key }) else {
             return self.remove_by_number(alloc, key);
         };
-        match taken {
-            None => Ok(None),
-            Some((_, value)) => Ok(Some(value)),
-        }
+        Ok(taken.map(|(_, value)| value))
     }
 
     /// Changes the value under the key, if there is one, and gives what the change answered.

@@ -1,5 +1,5 @@
 -- What the list took out where the key is sought.
-use Rattle.std.proofs.Common.{◌≡◌, ◌∙◌, ap, option_map, refl, subst, sym}
+use Rattle.std.proofs.Common.{◌≡◌, ◌∙◌, ap, option_map, refl, rules, subst, sym}
 use Rattle.std.specs.Prelude.{not}
 use Rattle.std.specs.Ordering.{is_lt}
 use Rattle.std.proofs.lemmas.Result.{on_ok_weaker}
@@ -7,7 +7,7 @@ use Rattle.persistent.specs.Maps.{IsRising, lookup, lookup_by, without_by}
 use Rattle.persistent.proofs.Cuts.{has_cut}
 use Rattle.persistent.proofs.Lookup.{lookup_without}
 use Rattle.persistent.proofs.Rising.{rising_without}
-use Rattle.persistent.proofs.Sought.{taken}
+use Rattle.persistent.proofs.Sought.{taken, values}
 use Rattle.persistent.proofs.map.TreeMap.remove.Given as given
 use Rattle.persistent.proofs.map.TreeMap.remove.Goals as goal
 use Rattle.persistent.proofs.map.TreeMap.remove.Goals.{In-Ok}
@@ -51,27 +51,10 @@ returns-in_default-clause-changes g c =
     ∙ lookup_without cmp g.met.K.Ord.total order (g.met.Q.Query.is_form c.args.key) k c.args.self.now
     (subst (IsRising cmp) c.self.view_is c.self.invariant)) call.ensures.entries
 
-pub returns-in-None-clause-value : goal.returns-in-None-clause-value
-returns-in-None-clause-value g c =
-    let at = (goal.at.returns-in-None-clause-value g c).In-Ok in
-    ap (option_map (λ e. e.1)) (sym c.in-None.is) ∙ (done g at).0
-    ∙ ap (lookup_by (g.Q.Query.order c.args.key)) c.self.view_is
-
-pub returns-in-None-clause-entries : goal.returns-in-None-clause-entries
-returns-in-None-clause-entries g c = left g (goal.at.returns-in-None-clause-entries g c).In-Ok
-
-pub returns-in-None-clause-changes : goal.returns-in-None-clause-changes
-returns-in-None-clause-changes g c k =
-    let cmp = g.K.Ord.cmp in
-    let at = (goal.at.returns-in-None-clause-changes g c).In-Ok in
-    ap (lookup cmp k) (left g at)
-    ∙ lookup_without cmp g.met.K.Ord.total (g.Q.Query.order c.args.key) (g.met.Q.Query.is_form c.args.key) k
-    c.args.self.now (rose g at)
-
 pub returns-clause-value : goal.returns-clause-value
 returns-clause-value g c =
     let at = (goal.at.returns-clause-value g c).In-Ok in
-    ap (option_map (λ e. e.1)) (sym c.in-Some.is) ∙ (done g at).0
+    values _ (λ e v called. search rules) c.in-Ok.taken c.map.result c.map.ensures.cases ∙ (done g at).0
     ∙ ap (lookup_by (g.Q.Query.order c.args.key)) c.self.view_is
 
 pub returns-clause-entries : goal.returns-clause-entries

@@ -21,6 +21,7 @@ impl<T, L: Label<T>> Sequence<T, L> {
     }
 
     /// The last item before the cut and its number, by one way down.
+    #[inline(always)]
     pub fn find<C: Cut<T, L>>(&self, cut: C) -> Option<(usize, &T)>
         requires { HasCut (λ e. C.is_before cut (L.label_of e)) self.now }
         ensures none { IfNone result (IsCut (λ e. C.is_before cut (L.label_of e)) self.now 0) }
@@ -33,15 +34,13 @@ impl<T, L: Label<T>> Sequence<T, L> {
         }
     }
 
-    /// The last item before the cut, by one way down that counts no items.
+    /// The last item before the cut, by one way down.
     pub fn last_before<C: Cut<T, L>>(&self, cut: C) -> Option<&T>
         requires { HasCut (λ e. C.is_before cut (L.label_of e)) self.now }
         ensures none { IfNone result (IsCut (λ e. C.is_before cut (L.label_of e)) self.now 0) }
         ensures some { IfSome result (λ item. IsLast (λ e. C.is_before cut (L.label_of e)) self.now item.now) }
     {
-        match &self.root {
-            None => None,
-            Some(tree) => tree.last_before(cut),
-        }
+        let (_, item) = self.find(cut)?;
+        Some(item)
     }
 }

@@ -1,6 +1,6 @@
 //! Where a cut is.
 ghost use Rattle.std.specs.Prelude.{◌≡◌, ◌+◌, ◌*◌, ◌<◌, ◌≤◌, IfNone, IfSome, Some, length, nat_lt, slice_get, take};
-ghost use Rattle.sequence.specs.Cuts.{IsAmong, IsCut, IsLast, HasCut, first};
+ghost use Rattle.sequence.specs.Cuts.{IsAmong, IsCut, HasCut, first};
 ghost use Rattle.sequence.specs.Nodes.{AreChildren, items_in};
 
 use crate::cut::Cut;
@@ -109,7 +109,8 @@ pub(crate) fn child_of<T, L: Label<T>, C: Cut<T, L>>(children: &[Child<T, L>], c
 }
 
 impl<T, L: Label<T>> Tree<T, L> {
-    // The last item before the cut, and its number.
+    // The last item before the cut, and its number. Inline, so that nothing is counted where no number is read.
+    #[inline(always)]
     pub(crate) fn find<C: Cut<T, L>>(&self, cut: C) -> Option<(usize, &T)>
         requires { HasCut (λ e. C.is_before cut (L.label_of e)) self.now.0 }
         ensures none { IfNone result (IsCut (λ e. C.is_before cut (L.label_of e)) self.now.0 0) }
@@ -132,26 +133,6 @@ impl<T, L: Label<T>> Tree<T, L> {
                     start += count(&children[..at]);
                     node = children[at].tree.node();
                 }
-            }
-        }
-    }
-
-    // The same without a count of the items on the way.
-    pub(crate) fn last_before<C: Cut<T, L>>(&self, cut: C) -> Option<&T>
-        requires { HasCut (λ e. C.is_before cut (L.label_of e)) self.now.0 }
-        ensures none { IfNone result (IsCut (λ e. C.is_before cut (L.label_of e)) self.now.0 0) }
-        ensures some { IfSome result (λ item. IsLast (λ e. C.is_before cut (L.label_of e)) self.now.0 item.now) }
-    {
-        let mut node = self.node();
-        'down: loop {
-            match node {
-                Node::Leaf(items) => {
-                    return match last_in(items, cut) {
-                        None => None,
-                        Some(at) => Some(&items[at]),
-                    };
-                }
-                Node::Branch(children) => node = children[child_of(children, cut)].tree.node(),
             }
         }
     }

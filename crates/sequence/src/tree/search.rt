@@ -32,6 +32,7 @@ pub(crate) fn spot_of<T, L: Label<T>>(children: &[Child<T, L>], place: usize) ->
 }
 
 // How many items these children have.
+#[inline(always)]
 pub(crate) fn count<T, L: Label<T>>(children: &[Child<T, L>]) -> usize
     requires each { All (λ c. c.len ≡ length c.tree.0) children.now }
     requires room { length (items_in children.now) < 2 ^ 64 }

@@ -7,7 +7,7 @@ use Rattle.std.specs.declared.vec.Vec.{Vec}
 use Rattle.std.specs.contracts.alloc.Global.{the_row as heap_row}
 use Rattle.std.specs.contracts.impls.GlobalAllocator.TheImpl.{ghosts}
 use Rattle.std.specs.contracts.vec.Vec.{the_row as vec_row}
-use Rattle.servo_arc.specs.contracts.Arc.{the_row as arc_row}
+use Rattle.handles.specs.contracts.arc.Arc.{the_row as arc_row}
 
 abbrev vector : RattleType → RattleType
 vector T = vec_row T heap_row ghosts

@@ -4,7 +4,7 @@ ghost use Rattle.std.specs.Iterator.{UpTo, YieldsFirstRef, YieldsLastRef, item_c
 ghost use Rattle.std.specs.Iterator.SizeHint.{IsWithinCount};
 
 use crate::table::CowTable;
-use servo_arc::Arc;
+use handles::arc::Arc;
 use std::alloc::AllocError;
 use std::iter::FusedIterator;
 use std::marker::Model;

@@ -1,10 +1,10 @@
 //! What a list gains and loses at its end, where one page changes.
 ghost use Rattle.std.specs.Prelude.{◌≡◌, ◌+◌, ◌++◌, ◌∷◌, [], IfOk, OnErr, OnOk};
-ghost use Rattle.servo_arc.specs.Copies.{CopiesAreEqual};
+ghost use Rattle.handles.specs.Copies.{CopiesAreEqual};
 ghost use Rattle.cow_table.specs.Pages.{items_of, ArePages, IsPaged};
 
 use crate::page_length::PageLength;
-use servo_arc::Arc;
+use handles::arc::Arc;
 use std::alloc::{AllocError, Global};
 
 // One more item: in the last page, or in a page of its own if that one is full.

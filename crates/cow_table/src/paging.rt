@@ -3,7 +3,7 @@ ghost use Rattle.std.specs.Prelude.{◌≡◌, ◌<◌, ◌++◌, IfOk, min, vec
 ghost use Rattle.std.specs.Vec.Iter.{into_iter_items, into_iter_len};
 ghost use Rattle.cow_table.specs.Pages.{items_of, IsPaged};
 
-use servo_arc::Arc;
+use handles::arc::Arc;
 use std::alloc::{AllocError, Global};
 use std::vec::IntoIter;
 

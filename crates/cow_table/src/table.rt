@@ -4,14 +4,14 @@ ghost use Rattle.std.specs.Prelude.{OnErr, OnOk, length, slice_get, slice_index_
 ghost use Rattle.std.specs.Option.{option_copied};
 ghost use Rattle.std.specs.Vec.{vec_items};
 ghost use types.Logic.{sem};
-ghost use Rattle.servo_arc.specs.Copies.{CopiesAreEqual};
+ghost use Rattle.handles.specs.Copies.{CopiesAreEqual};
 ghost use Rattle.cow_table.specs.Lending.{LendsPage};
 
 use crate::error::SetError;
 use crate::last_page::{pop_last, push_last};
 use crate::page_length::PageLength;
 use crate::paging::in_pages;
-use servo_arc::Arc;
+use handles::arc::Arc;
 use std::alloc::{AllocError, Global};
 use std::marker::Model;
 use std::ops::Index;

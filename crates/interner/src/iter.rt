@@ -6,7 +6,7 @@ ghost use Rattle.std.specs.List.{enumerate_from};
 
 use crate::symbol::Symbol;
 use crate::table::Interner;
-use servo_arc::Arc;
+use handles::arc::Arc;
 use std::alloc::AllocError;
 use std::hash::{BuildHasher, Hash};
 use std::iter::FusedIterator;

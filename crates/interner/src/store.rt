@@ -11,7 +11,7 @@ use crate::error::InternError;
 use crate::index::Index;
 use crate::query::Query;
 use crate::symbol::Symbol;
-use servo_arc::Arc;
+use handles::arc::Arc;
 use std::hash::{BuildHasher, Hash};
 
 #[derive(Drop)]

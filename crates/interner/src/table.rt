@@ -12,7 +12,7 @@ use crate::iter::Iter;
 use crate::query::{Make, Query};
 use crate::store::{Place, Store};
 use crate::symbol::Symbol;
-use servo_arc::Arc;
+use handles::arc::Arc;
 use std::alloc::{AllocError, Global};
 use std::hash::{BuildHasher, BuildHasherDefault, FoldHasher, Hash};
 use std::marker::Model;

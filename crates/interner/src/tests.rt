@@ -5,7 +5,7 @@ mod names;
 use crate::{InternError, Interner};
 use hashers::OneHash;
 use names::are_equal;
-use servo_arc::Arc;
+use handles::arc::Arc;
 use std::alloc::Global;
 use std::fmt::Write;
 use std::hash::{BuildHasher, RandomState};

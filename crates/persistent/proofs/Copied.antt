@@ -1,6 +1,6 @@
 -- Copies of the entries of a map.
 use Rattle.std.proofs.Common.{◌≡◌, ap, ◌∙◌}
-use Rattle.servo_arc.specs.Copies.{CopiesAreEqual}
+use Rattle.handles.specs.Copies.{CopiesAreEqual}
 
 -- a copy of an entry is the entry
 pub pairs_equal : {K V : Type 0} (R : K → K → Type 0) (S : V → V → Type 0) → CopiesAreEqual R → CopiesAreEqual S

@@ -1,7 +1,7 @@
 //! The nodes of a list.
 ghost use Rattle.std.specs.Prelude.{◌≡◌, ◌∷◌, [], ◌↔◌, IfSome, None, length};
 
-use servo_arc::Arc;
+use handles::arc::Arc;
 use std::alloc::AllocError;
 use std::marker::Model;
 

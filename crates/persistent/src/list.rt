@@ -2,10 +2,11 @@
 ghost use Rattle.std.specs.Prelude.{◌≡◌, ◌-◌, ◌<◌, ◌∷◌, [], ◌↔◌, IsTrue, IfOk, OnOk};
 ghost use Rattle.std.specs.Prelude.{drop, length, reverse, slice_get};
 ghost use Rattle.std.specs.Option.{option_copied};
-ghost use Rattle.servo_arc.specs.Copies.{CopiesAreEqual};
+ghost use Rattle.handles.specs.Copies.{CopiesAreEqual};
 
 use crate::links::{Links, Node};
-use servo_arc::{Arc, UniqueArc};
+use handles::arc::Arc;
+use handles::unique::UniqueArc;
 use std::alloc::{AllocError, Global};
 use std::marker::Model;
 use std::mem;

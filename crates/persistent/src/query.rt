@@ -6,7 +6,7 @@ ghost use Rattle.std.specs.Ordering.{nat_cmp};
 ghost use Rattle.std.specs.String.{string_bytes};
 ghost use Rattle.persistent.specs.Queries.{IsForm, key_form, part_form};
 
-use servo_arc::Arc;
+use handles::arc::Arc;
 use std::cmp::Ordering;
 
 /// A form in which a caller has a key before it is a `K`: a `&K`, or a `&str` for an `Arc<String>`.

@@ -1,6 +1,6 @@
 //! What a branch keeps of its items, so that they can be searched.
 ghost use Rattle.std.specs.Prelude.{◌≡◌, IfOk};
-ghost use Rattle.servo_arc.specs.Copies.{CopiesAreEqual};
+ghost use Rattle.handles.specs.Copies.{CopiesAreEqual};
 
 use std::alloc::AllocError;
 

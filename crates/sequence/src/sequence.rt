@@ -4,7 +4,7 @@ ghost use Rattle.std.specs.Prelude.{IsTrue, None, OnErr, OnOk, length, slice_get
 ghost use Rattle.std.specs.Fn.{FnOnceTakesAtMut};
 ghost use Rattle.std.specs.List.{insert, remove};
 ghost use Rattle.std.specs.Option.{ForSome, option_copied};
-ghost use Rattle.servo_arc.specs.Copies.{CopiesAreEqual};
+ghost use Rattle.handles.specs.Copies.{CopiesAreEqual};
 ghost use Rattle.sequence.specs.Changes.{ChangesItem, KeepsLabel};
 ghost use Rattle.sequence.specs.Nodes.{IsLevel, items_under};
 

@@ -17,7 +17,7 @@ mod split;
 pub(crate) mod take;
 
 use crate::label::Label;
-use servo_arc::Arc;
+use handles::arc::Arc;
 use std::alloc::{AllocError, Global};
 use std::marker::Model;
 

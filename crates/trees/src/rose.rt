@@ -6,7 +6,8 @@ ghost use Rattle.trees.specs.Roses.{at, branch, children, root};
 mod change;
 mod walk;
 
-use servo_arc::{Arc, ThinArc};
+use handles::arc::Arc;
+use handles::header_slice::ThinArc;
 use std::alloc::{AllocError, AllocFailed, Global};
 use thiserror::Error;
 

@@ -1,6 +1,6 @@
 //! How one call changes, puts in or takes out what stands under a key.
 ghost use Rattle.std.specs.Prelude.{◌≡◌, IfOk, OnErr, OnOk};
-ghost use Rattle.servo_arc.specs.Copies.{CopiesAreEqual};
+ghost use Rattle.handles.specs.Copies.{CopiesAreEqual};
 ghost use Rattle.persistent.specs.Changes.{Alters};
 ghost use Rattle.persistent.specs.Maps.{lookup};
 

@@ -1,7 +1,7 @@
 //! What is done to an entry once its number is known: where a node on the way is another version's too, or changes its
 //! form.
 ghost use Rattle.std.specs.Prelude.{◌≡◌, IfOk, IsOk, MatchResult, None, OnErr, OnOk};
-ghost use Rattle.servo_arc.specs.Copies.{CopiesAreEqual};
+ghost use Rattle.handles.specs.Copies.{CopiesAreEqual};
 ghost use Rattle.persistent.specs.Maps.{IsRising, lookup, lookup_by, with_entry, without_by};
 ghost use Rattle.persistent.specs.Places.{IsFound, IsMissing};
 

@@ -1,6 +1,6 @@
 //! How a map is made of a vector of entries.
 ghost use Rattle.std.specs.Prelude.{◌≡◌, [], IfOk, IsTrue};
-ghost use Rattle.servo_arc.specs.Copies.{CopiesAreEqual};
+ghost use Rattle.handles.specs.Copies.{CopiesAreEqual};
 ghost use Rattle.persistent.specs.Maps.{IsRising, with_entries};
 
 use crate::map::TreeMap;

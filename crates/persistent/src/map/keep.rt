@@ -1,7 +1,7 @@
 //! Maps of the entries that a test keeps.
 ghost use Rattle.std.specs.Prelude.{◌≡◌, IfOk, OnErr, OnOk, filter, is_none, is_some};
 ghost use Rattle.std.specs.List.Retain.{IsFiltered};
-ghost use Rattle.servo_arc.specs.Copies.{CopiesAreEqual};
+ghost use Rattle.handles.specs.Copies.{CopiesAreEqual};
 ghost use Rattle.persistent.specs.Changes.{AskedOf};
 ghost use Rattle.persistent.specs.Maps.{lookup};
 

@@ -1,6 +1,6 @@
 //! How a map gives its first or its last entry away.
 ghost use Rattle.std.specs.Prelude.{◌≡◌, ◌-◌, [], IfOk, IsOk, OnErr, OnOk, drop, length, slice_get, take};
-ghost use Rattle.servo_arc.specs.Copies.{CopiesAreEqual};
+ghost use Rattle.handles.specs.Copies.{CopiesAreEqual};
 
 use crate::map::TreeMap;
 use std::alloc::{AllocError, Global};

@@ -1,6 +1,6 @@
 //! Two maps out of one.
 ghost use Rattle.std.specs.Prelude.{◌≡◌, IfOk, OnErr, OnOk, drop, take};
-ghost use Rattle.servo_arc.specs.Copies.{CopiesAreEqual};
+ghost use Rattle.handles.specs.Copies.{CopiesAreEqual};
 ghost use Rattle.persistent.specs.Maps.{rank_by};
 
 use crate::map::TreeMap;

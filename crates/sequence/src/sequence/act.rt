@@ -1,6 +1,6 @@
 //! Changes where a cut is, by one way down along nodes that keep their form.
 ghost use Rattle.std.specs.Prelude.{◌≡◌, IfErr, IfNone, IfOk, IfSome, OnErr};
-ghost use Rattle.servo_arc.specs.Copies.{CopiesAreEqual};
+ghost use Rattle.handles.specs.Copies.{CopiesAreEqual};
 ghost use Rattle.sequence.specs.Acts.{IsAbsent, IsAdded, IsReplaced, IsTaken};
 ghost use Rattle.sequence.specs.Cuts.{HasCut};
 

@@ -1,7 +1,7 @@
 //! What goes in and out at the two ends of a list.
 ghost use Rattle.std.specs.Prelude.{◌≡◌, ◌-◌, ◌++◌, ◌∷◌, [], IfOk, IsOk, OnErr, OnOk, drop, false, length, slice_get};
 ghost use Rattle.std.specs.Prelude.{take, true};
-ghost use Rattle.servo_arc.specs.Copies.{CopiesAreEqual};
+ghost use Rattle.handles.specs.Copies.{CopiesAreEqual};
 
 use crate::label::{Label, NewLabel};
 use crate::put::Put;

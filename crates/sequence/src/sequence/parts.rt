@@ -1,7 +1,7 @@
 //! Two lists out of one, and one out of two.
 ghost use Rattle.std.specs.Prelude.{◌≡◌, ◌++◌, ◌^◌, ◌<◌, ◌≤◌, ◌↔◌, IfOk, IfSome, None, Ok, OnErr, OnOk};
 ghost use Rattle.std.specs.Prelude.{drop, length, take};
-ghost use Rattle.servo_arc.specs.Copies.{CopiesAreEqual};
+ghost use Rattle.handles.specs.Copies.{CopiesAreEqual};
 ghost use Rattle.sequence.specs.Nodes.{AreLevel, items_in};
 
 use crate::label::NewLabel;

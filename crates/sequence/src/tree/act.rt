@@ -2,7 +2,7 @@
 //! items stay, and what was to be done is given back.
 ghost use Rattle.std.specs.Prelude.{◌≡◌, ◌+◌, ◌<◌, ◌^◌, ◌⊎◌, Bool, IfErr, IfNone, IfOk, IfSome, IsTrue, List, OnErr};
 ghost use Rattle.std.specs.Prelude.{Option, length};
-ghost use Rattle.servo_arc.specs.Copies.{CopiesAreEqual};
+ghost use Rattle.handles.specs.Copies.{CopiesAreEqual};
 ghost use Rattle.sequence.specs.Acts.{IsActed};
 ghost use Rattle.sequence.specs.Cuts.{HasCut, IsCut};
 ghost use Rattle.sequence.specs.Nodes.{AreChildren, CanLose, IsList, first_label, height_in, items_in};
@@ -11,7 +11,7 @@ use crate::cut::Cut;
 use crate::label::Label;
 use crate::tree::cut::{child_of, last_in};
 use crate::tree::{Child, Node, Tree};
-use servo_arc::Arc;
+use handles::arc::Arc;
 use std::alloc::Global;
 
 // What is done to the items of a leaf.

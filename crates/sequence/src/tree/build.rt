@@ -1,7 +1,7 @@
 //! How a tree is made of items: a node with all of them becomes a branch over parts of it, until it has no more than a
 //! node may.
 ghost use Rattle.std.specs.Prelude.{◌≡◌, ◌≤◌, ◌^◌, ◌∷◌, [], IfOk, length};
-ghost use Rattle.servo_arc.specs.Copies.{CopiesAreEqual};
+ghost use Rattle.handles.specs.Copies.{CopiesAreEqual};
 ghost use Rattle.sequence.specs.Nodes.{AreParts, IsLabelled, IsList, IsNode, seen};
 
 use crate::label::{Label, NewLabel};

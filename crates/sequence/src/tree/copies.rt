@@ -1,6 +1,6 @@
 //! How a node is copied. A copy has room for as many items as a node may have.
 ghost use Rattle.std.specs.Prelude.{◌≡◌, IfOk};
-ghost use Rattle.servo_arc.specs.Copies.{CopiesAreEqual};
+ghost use Rattle.handles.specs.Copies.{CopiesAreEqual};
 ghost use Rattle.sequence.specs.Nodes.{IsCopy};
 
 use crate::label::Label;

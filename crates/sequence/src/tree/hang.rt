@@ -1,6 +1,6 @@
 //! How two trees become one: the lower one becomes a child of the higher one, on its own level.
 ghost use Rattle.std.specs.Prelude.{◌≡◌, ◌+◌, ◌<◌, ◌≤◌, ◌^◌, ◌++◌, ◌⊎◌, OnOk, OnErr, length};
-ghost use Rattle.servo_arc.specs.Copies.{CopiesAreEqual};
+ghost use Rattle.handles.specs.Copies.{CopiesAreEqual};
 ghost use Rattle.sequence.specs.Spots.{spliced};
 
 use crate::label::NewLabel;

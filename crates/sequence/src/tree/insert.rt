@@ -1,6 +1,6 @@
 //! How a tree takes an item or a lower tree in: in place, but for the nodes that others share, which are copied.
 ghost use Rattle.std.specs.Prelude.{◌≡◌, ◌+◌, ◌<◌, ◌≤◌, ◌^◌, ◌⊎◌, OnOk, OnErr, MatchResult, length};
-ghost use Rattle.servo_arc.specs.Copies.{CopiesAreEqual};
+ghost use Rattle.handles.specs.Copies.{CopiesAreEqual};
 ghost use Rattle.sequence.specs.Nodes.{AreChildren, IsChild, IsLabelled, IsList, StandFor, height_in, items_in};
 ghost use Rattle.sequence.specs.Pieces.{Counts, Fits, GoesOn, IsHere, items_of};
 ghost use Rattle.sequence.specs.Spots.{spliced};
@@ -11,7 +11,7 @@ use crate::tree::join::join;
 use crate::tree::search::spot_of;
 use crate::tree::split::room_under;
 use crate::tree::{Child, Node, Tree};
-use servo_arc::Arc;
+use handles::arc::Arc;
 use std::alloc::{AllocError, Global};
 
 // What a tree takes in: an item, or a tree that is so many levels lower than it, which becomes a child.

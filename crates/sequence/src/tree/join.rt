@@ -1,14 +1,15 @@
 //! How two nodes become one: what the second one has moves behind what the first one has.
 ghost use Rattle.std.specs.Prelude.{◌≡◌, ℕ, ◌+◌, ◌<◌, ◌≤◌, ◌^◌, ◌++◌, ◌∷◌, [], IfErr, IfOk, IfSome, None, OnErr, OnOk};
 ghost use Rattle.std.specs.Prelude.{Some, length, slice_get, slice_index_or};
-ghost use Rattle.servo_arc.specs.Copies.{CopiesAreEqual};
+ghost use Rattle.handles.specs.Copies.{CopiesAreEqual};
 ghost use Rattle.sequence.specs.Nodes.{AreChildren, CanLose, IsChild, IsList, IsNode, StandFor};
 ghost use Rattle.sequence.specs.Nodes.{first_label, items_in, items_under, seen};
 ghost use Rattle.sequence.specs.Spots.{Leads};
 
 use crate::label::{Label, NewLabel};
 use crate::tree::{Child, Node, Tree};
-use servo_arc::{Arc, UniqueArc};
+use handles::arc::Arc;
+use handles::unique::UniqueArc;
 use std::alloc::{AllocError, Global};
 use std::mem;
 

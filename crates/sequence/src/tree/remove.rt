@@ -1,7 +1,7 @@
 //! How a tree lets an item go: in place, but for the nodes that others share, which are copied.
 ghost use Rattle.std.specs.Prelude.{◌≡◌, ℕ, ◌+◌, ◌^◌, ◌<◌, ◌≤◌, ◌⊎◌, [], IfOk, IsTrue, OnOk, OnErr, Some};
 ghost use Rattle.std.specs.Prelude.{length, slice_get, slice_index_or};
-ghost use Rattle.servo_arc.specs.Copies.{CopiesAreEqual};
+ghost use Rattle.handles.specs.Copies.{CopiesAreEqual};
 ghost use Rattle.sequence.specs.Nodes.{AreChildren, CanLose, IsChild, IsLabelled, StandFor, height_in, items_in};
 ghost use Rattle.sequence.specs.Spots.{Leads, spliced};
 
@@ -11,7 +11,7 @@ use crate::tree::join::join;
 use crate::tree::search::{Spot, spot_of};
 use crate::tree::split::room_under;
 use crate::tree::{Child, Node, Tree};
-use servo_arc::Arc;
+use handles::arc::Arc;
 use std::alloc::{AllocError, Global};
 
 impl<T: Clone, L: NewLabel<T>> Tree<T, L> {

@@ -1,7 +1,7 @@
 //! How a full node becomes two: the last of what it has moves into a block that was taken before.
 ghost use Rattle.std.specs.Prelude.{◌≡◌, ℕ, ◌+◌, ◌<◌, ◌^◌, ◌≤◌, IfOk, IsTrue, OnErr, OnOk};
 ghost use Rattle.std.specs.Prelude.{length, slice_index_or};
-ghost use Rattle.servo_arc.specs.Copies.{CopiesAreEqual};
+ghost use Rattle.handles.specs.Copies.{CopiesAreEqual};
 ghost use Rattle.sequence.specs.Nodes.{AreChildren, AreHalves, CanLose, IsChild, IsList, IsNode, StandFor};
 ghost use Rattle.sequence.specs.Nodes.{height_in, items_in, seen};
 ghost use Rattle.sequence.specs.Spots.{Leads, past};
@@ -10,7 +10,8 @@ use crate::label::{Label, NewLabel};
 use crate::tree::copies::{BRANCH, LEAF};
 use crate::tree::search::{Spot, count};
 use crate::tree::{Child, Node, Tree};
-use servo_arc::{Arc, UniqueArc};
+use handles::arc::Arc;
+use handles::unique::UniqueArc;
 use std::alloc::{AllocError, Global};
 
 // How many items the second of two nodes gets if the next item goes behind all.

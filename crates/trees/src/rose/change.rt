@@ -1,6 +1,6 @@
 //! Changes of a tree, each of which makes another.
 ghost use Rattle.std.specs.Prelude.{◌≡◌, ◌↔◌, Err, None, Some, IfOk, ◌<◌, length};
-ghost use Rattle.servo_arc.specs.Copies.{CopiesAreEqual};
+ghost use Rattle.handles.specs.Copies.{CopiesAreEqual};
 ghost use Rattle.trees.specs.Changes.{made};
 ghost use Rattle.trees.specs.Roses.{changed_at, children, inserted, removed};
 ghost use Rattle.trees.specs.Roses.{with_child, with_inserted, with_tree, with_value, without};

@@ -3,7 +3,7 @@ ghost use Rattle.std.specs.Prelude.{◌≡◌, IfOk, map};
 ghost use Rattle.trees.specs.Roses.{preorder};
 
 use super::Rose;
-use servo_arc::Arc;
+use handles::arc::Arc;
 use std::alloc::{AllocError, Global};
 
 impl<V> Rose<V> {

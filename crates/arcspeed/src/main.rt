@@ -5,6 +5,7 @@
 #![tactic(auto)]
 
 mod arcs;
+mod freed;
 mod header;
 mod lists;
 mod maps;
@@ -62,6 +63,9 @@ fn checksum<R: Clock + Print + RandomSource + Threads + Wait + Sync>(
         "map-rising" => maps::measure(rt, alloc, Order::Rising, times),
         "map-mixed" => maps::measure(rt, alloc, Order::Mixed, times),
         "sequence" => sequences::measure(rt, alloc, times),
+        "freed-blocks" => freed::blocks(alloc, times),
+        "freed-unwritten" => freed::unwritten(alloc, times),
+        "freed-slices" => freed::slices(alloc, times),
         _ => None,
     }
 }

@@ -1,4 +1,4 @@
-//! What no contract says of calls in one thread.
+//! What no contract says of handles, tables and counts, in one thread and in several.
 #![tactic(auto)]
 
 #[cfg(test)]
@@ -7,3 +7,5 @@ mod calls;
 mod ending;
 #[cfg(test)]
 mod made;
+#[cfg(test)]
+mod threads;

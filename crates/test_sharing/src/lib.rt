@@ -1,4 +1,4 @@
-//! What no contract says of what is shared.
+//! What no contract says of collections.
 #![tactic(auto)]
 
 #[cfg(test)]

@@ -1,6 +1,5 @@
 //! Calls of tokens, unique handles, unwritten blocks and two makers, and what handles have by their values, each once.
-use crate::calls::texts::check_debug;
-use crate::made::arc_of;
+use crate::made::{arc_of, check_debug};
 use servo_arc::{Arc, UniqueArc};
 use std::alloc::AllocError;
 use std::collections::HashMap;

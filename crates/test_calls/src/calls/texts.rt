@@ -1,5 +1,5 @@
 //! The printed texts.
-use crate::made::arc_of;
+use crate::made::{arc_of, check_debug};
 use servo_arc::{Arc, ArcUnion, BuildError, StaticArc, UniqueArc};
 use std::alloc::AllocError;
 use std::fmt::{Debug, Display};
@@ -10,11 +10,6 @@ type Numbers = ArcUnion<u32, u32>;
 
 fn check_display<T: Display>(rt: &(impl Abort + AllocGlobal), value: &T, text: &str) {
     let found = format!(in rt.alloc(); "{value} {value:04}");
-    same!(rt, ok!(rt, found).as_str(), text);
-}
-
-pub fn check_debug<T: Debug>(rt: &(impl Abort + AllocGlobal), value: &T, text: &str) {
-    let found = format!(in rt.alloc(); "{value:?}");
     same!(rt, ok!(rt, found).as_str(), text);
 }
 

@@ -4,7 +4,7 @@ use std::mem::{replace, swap};
 use std::process::Abort;
 use testing::{again, holds_at, ok, same_at};
 
-const SEEDS: u64 = 100;
+const SEEDS: u64 = 10;
 
 const STEPS: u64 = 10_000;
 

@@ -24,7 +24,7 @@ fn sequences_are_told_apart(rt: HostRuntime) {
     check_debug(&rt, &longer, "[9, 1, 2, 3]");
 }
 
-const ITEMS: u64 = 1_000_000;
+const ITEMS: u64 = 100_000;
 
 // The most items of a leaf.
 const LEAF: u64 = 64;
@@ -64,7 +64,7 @@ fn a_lone_sequence_copies_nothing(rt: HostRuntime) {
 fn a_change_copies_its_path_alone(rt: HostRuntime) {
     let tally = Tally::new();
     let sequence = ok!(&rt, many(rt.alloc(), &tally));
-    for at in (0..=ITEMS).step_by(9_999) {
+    for at in (0..=ITEMS).step_by(999) {
         let before = tally.copies();
         let mut version = again!(&rt, &sequence);
         ok!(
@@ -80,7 +80,7 @@ fn a_change_copies_its_path_alone(rt: HostRuntime) {
 }
 
 #[test]
-fn a_million_items_end_on_a_small_stack(rt: HostRuntime) {
+fn a_hundred_thousand_items_end_on_a_small_stack(rt: HostRuntime) {
     let mut sequence = Sequence::new();
     for item in 0..ITEMS {
         ok!(&rt, sequence.push(rt.alloc(), item));

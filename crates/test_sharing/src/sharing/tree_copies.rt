@@ -5,7 +5,7 @@ use std::alloc::{AllocError, Global};
 use testing::counted::{Counted, Tally};
 use testing::{again, holds, ok, same, same_at};
 
-const KEYS: u64 = 1_000_000;
+const KEYS: u64 = 100_000;
 
 type Map<'a> = TreeMap<u64, Counted<'a>>;
 

@@ -1,6 +1,5 @@
 //! A document whose edits are undone, and how a tree ends.
 use crate::made::{arc_of, check_debug};
-use crate::sharing::lists::SMALL_STACK;
 use cascade::{Declaration, Element, Initial, Inline, StyleCache};
 use servo_arc::Arc;
 use std::process::Abort;
@@ -10,6 +9,9 @@ use testing::{ok, same};
 use trees::{Rose, Undo};
 use uses::documents::{Edit, Part, apply, styles};
 use uses::lines::{insert_line, remove_line, set_line};
+
+// In bytes, enough for some thousands of nodes.
+const SMALL_STACK: usize = 0x4_0000;
 
 fn name(rt: &(impl Abort + AllocGlobal), text: &str) -> Arc<String> {
     arc_of(rt, ok!(rt, String::from_str(rt.alloc(), text)))

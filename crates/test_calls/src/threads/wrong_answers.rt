@@ -7,7 +7,7 @@ use servo_arc::Arc;
 use std::thread::{Threads, join};
 use testing::{again, holds, ok, same};
 
-const CALLS: u64 = 250_000;
+const CALLS: u64 = 25_000;
 
 // Whether two threads keep in step differs from round to round, and the worst one is printed.
 const ROUNDS: u64 = 20;

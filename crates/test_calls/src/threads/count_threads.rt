@@ -2,7 +2,7 @@
 ghost use Rattle.std.specs.Prelude.{◌≡◌, ◌+◌, ◌<◌};
 ghost use Rattle.servo_arc.specs.Passes.{handles};
 
-use crate::sharing::waiting::arrive;
+use crate::threads::waiting::arrive;
 use servo_arc::shared_count::{CountPass, EndReply, SharedCount, TryClone};
 use std::process::Abort;
 use std::sync::atomic::AtomicU64;

@@ -1,7 +1,7 @@
 //! Threads that share one block. Each is joined. If two should act at the same moment, each looks for the other before.
 use crate::made::{arc_of, both, two_of};
-use crate::sharing::many_threads::clone_and_drop;
-use crate::sharing::waiting::arrive;
+use crate::threads::many_threads::clone_and_drop;
+use crate::threads::waiting::arrive;
 use servo_arc::{Arc, ArcUnion};
 use std::process::Abort;
 use std::sync::Wait;

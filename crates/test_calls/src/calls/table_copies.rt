@@ -1,7 +1,7 @@
 //! How many items are copied and dropped, alone and shared.
 ghost use Rattle.std.specs.Prelude.{◌<◌};
 
-use crate::sharing::page_rows::shared_pages;
+use crate::calls::page_rows::shared_pages;
 use cow_table::CowTable;
 use std::process::Abort;
 use testing::counted::{Counted, Tally, counted_items};

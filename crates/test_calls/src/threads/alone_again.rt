@@ -1,7 +1,7 @@
 //! A handle asks whether it is alone while another thread drops the other handle of its block. It is not before, and is
 //! once the other is gone. Between these both answers are possible.
 use crate::made::arc_of;
-use crate::sharing::waiting::{MOST_TURNS, have_come, wait_for};
+use crate::threads::waiting::{MOST_TURNS, have_come, wait_for};
 use servo_arc::{Arc, UniqueArc};
 use std::process::Abort;
 use std::sync::atomic::AtomicU64;

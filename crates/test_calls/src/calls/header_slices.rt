@@ -1,7 +1,7 @@
 //! What header slices read, and how they are written before they are shared.
 ghost use Rattle.std.specs.Prelude.{◌≡◌, length};
 
-use crate::calls::texts::check_debug;
+use crate::made::check_debug;
 use servo_arc::{Arc, HeaderSlice, ThinArc, UniqueArc};
 use std::collections::HashMap;
 use std::mem;

@@ -12,7 +12,7 @@ impl<T: PartialEq> PartialEq for CowTable<T> {
     ghost laws = { lists_per T.laws };
 
     fn eq(&self, other: &CowTable<T>) -> bool {
-        self.len == other.len && self.into_iter().zip(other).all(|(x, y)| x == y)
+        self.len() == other.len() && self.into_iter().eq(other)
     }
 }
 

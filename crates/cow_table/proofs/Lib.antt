@@ -1,5 +1,4 @@
 pub mod Filled
-pub mod LastPage
 pub mod Lent
 pub mod Paged
 pub mod Places

@@ -49,7 +49,7 @@ module _ {T A : Type 0} where
             ∙ sym (set-append_right (vec_items page) (items_of pages) n (n + i) x long (omega arith));
       }
 
-  pub length-from : (page : Vec T A) (pages : List (Vec T A))
+  length-from : (page : Vec T A) (pages : List (Vec T A))
       → length (items_of (page ∷ pages)) ≡ vec_len page + length (items_of pages)
   length-from page pages =
       length-append (vec_items page) (items_of pages) ∙ ap (λ n. n + length (items_of pages)) (sym page.ok.0)

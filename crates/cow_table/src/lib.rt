@@ -4,7 +4,6 @@
 mod compare;
 mod error;
 pub mod iter;
-mod last_page;
 mod page_length;
 mod paging;
 mod table;

@@ -1,6 +1,6 @@
 //! A list in shared pages.
-ghost use Rattle.std.specs.Prelude.{◌≡◌, ◌-◌, ◌<◌, ◌≤◌, ◌↔◌, ◌∷◌, ◌++◌, [], Err, IfOk, IsOk, IsSome, IsTrue};
-ghost use Rattle.std.specs.Prelude.{OnErr, OnOk, length, slice_get, slice_index_or, slice_set, take, vec_len};
+ghost use Rattle.std.specs.Prelude.{◌≡◌, ◌-◌, ◌<◌, ◌≤◌, ◌↔◌, [], Err, IfOk, IsSome, IsTrue};
+ghost use Rattle.std.specs.Prelude.{OnErr, OnOk, length, slice_get, slice_index_or, slice_set, vec_len};
 ghost use Rattle.std.specs.Option.{option_copied};
 ghost use Rattle.std.specs.Vec.{vec_items};
 ghost use types.Logic.{sem};
@@ -8,7 +8,6 @@ ghost use Rattle.handles.specs.Copies.{CopiesAreEqual};
 ghost use Rattle.cow_table.specs.Lending.{LendsPage};
 
 use crate::error::SetError;
-use crate::last_page::{pop_last, push_last};
 use crate::page_length::PageLength;
 use crate::paging::in_pages;
 use handles::arc::Arc;
@@ -18,7 +17,8 @@ use std::ops::Index;
 
 /// A list in pages, for many versions of a long list: `table.set(alloc, i, value)?` copies one page.
 ///
-/// A clone is a version, and costs one count. What is set in one version is seen in no other.
+/// A clone is a version, and costs one count. What is set in one version is seen in no other. The length stays the
+/// same: a list that grows is a `Sequence`, of the crate `sequence`.
 ///
 /// The items hold no cell, no lock and no atomic. What these hold can be written through a shared handle: every version
 /// that shares the item then reads the change, and no clause speaks of it.
@@ -41,14 +41,6 @@ impl<T> Model for CowTable<T> {
 }
 
 impl<T: Drop> CowTable<T> {
-    /// No items yet, of which a page is to have `page_len`. It requests memory for the block of the list of pages.
-    pub fn new(alloc: Global, page_len: usize) -> Result<CowTable<T>, AllocError>
-        requires { 0 < page_len }
-        ensures { IfOk result (λ table. table ≡ []) }
-    {
-        CowTable::from_items(alloc, Vec::new(alloc), page_len)
-    }
-
     /// The items in pages of `page_len`; the last page may be shorter.
     ///
     /// It moves the items. It requests memory for the items and the block of each page, and for the list of pages and
@@ -165,47 +157,6 @@ impl<T> CowTable<T> {
         let items = own_page(&mut self.pages, alloc, page)?;
         items[place] = value;
         Ok(())
-    }
-
-    /// One more item at the end of this version alone.
-    ///
-    /// It copies the list of pages and the last page where `set` would, and the page grows now and then. A full last
-    /// page stays as it is: the item gets a page of its own by two requests, and the list of pages grows now and then.
-    /// It is refused as `set` is, and at `usize::MAX` items. Then the item is dropped.
-    pub fn push(&mut self, alloc: Global, item: T) -> Result<(), AllocError>
-    where
-        T: Clone,
-        requires copies { CopiesAreEqual T.is_clone }
-        ensures pushed { OnOk result (self.new ≡ self.old ++ item ∷ []) }
-        ensures refused { OnErr result (self.new ≡ self.old) }
-    {
-        let len = self.len.checked_add(1).ok_or(AllocError)?;
-        let page_length = self.page_length;
-        let pages = Arc::make_mut(&mut self.pages, alloc)?;
-        push_last(pages, alloc, page_length, self.len, item)?;
-        self.len = len;
-        Ok(())
-    }
-
-    /// Takes the last item out of this version alone. It copies where `set` would, and is refused as `set` is, but
-    /// never if there are no items.
-    pub fn pop(&mut self, alloc: Global) -> Result<Option<T>, AllocError>
-    where
-        T: Clone,
-        requires copies { CopiesAreEqual T.is_clone }
-        ensures item { IfOk result (λ item. item ≡ slice_get self.old (length self.old - 1)) }
-        ensures rest { OnOk result (self.new ≡ take (length self.old - 1) self.old) }
-        ensures none { self.old ≡ [] → IsOk result }
-        ensures refused { OnErr result (self.new ≡ self.old) }
-    {
-        let Some(last) = self.len.checked_sub(1) else {
-            return Ok(None);
-        };
-        let page_length = self.page_length;
-        let pages = Arc::make_mut(&mut self.pages, alloc)?;
-        let item = pop_last(pages, alloc, page_length, last)?;
-        self.len = last;
-        Ok(Some(item))
     }
 
     /// Whether both versions have page `p`, counted from 0, and share it.

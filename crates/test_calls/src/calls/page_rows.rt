@@ -4,8 +4,6 @@ ghost use Rattle.std.specs.Prelude.{◌<◌};
 use crate::made::{check_debug, check_display};
 use cow_table::{CowTable, SetError};
 use std::alloc::{AllocError, Global};
-use std::cmp::Ordering;
-use std::hash::{DefaultHasher, Hash, Hasher};
 use testing::{again, ok, same, same_at};
 
 fn table_of(alloc: Global, items: &[u32], page_len: usize) -> Result<CowTable<u32>, AllocError>
@@ -94,80 +92,14 @@ fn a_version_changes_alone(rt: HostRuntime) {
     }
 }
 
-// Items in pages of two, of which a version gains one or loses the last: what it loses, what it then has, and which
-// pages it shares with the version before.
-type End = (
-    &'static [u32],
-    Option<u32>,
-    Option<u32>,
-    &'static [u32],
-    [bool; 4],
-);
-
-const ENDS: [End; 7] = [
-    (
-        &[1, 2, 3],
-        Some(4),
-        None,
-        &[1, 2, 3, 4],
-        [true, false, false, false],
-    ),
-    (
-        &[1, 2],
-        Some(3),
-        None,
-        &[1, 2, 3],
-        [true, false, false, false],
-    ),
-    (&[], Some(1), None, &[1], [false; 4]),
-    (
-        &[1, 2, 3, 4],
-        None,
-        Some(4),
-        &[1, 2, 3],
-        [true, false, false, false],
-    ),
-    (
-        &[1, 2, 3],
-        None,
-        Some(3),
-        &[1, 2],
-        [true, false, false, false],
-    ),
-    (&[1], None, Some(1), &[], [false; 4]),
-    (&[], None, None, &[], [false; 4]),
-];
-
-#[test]
-fn an_end_changes_alone(rt: HostRuntime) {
-    for (number, (items, pushed, lost, new_items, shared)) in ENDS.iter().enumerate() {
-        let old = ok!(&rt, table_of(rt.alloc(), items, 2));
-        let mut new = again!(&rt, &old);
-        let found = match pushed {
-            Some(item) => new.push(rt.alloc(), *item).map(|()| None),
-            None => new.pop(rt.alloc()),
-        };
-        let are_read = [reads(&old, items), reads(&new, new_items)];
-        let found = (found, are_read, shared_pages(&old, &new));
-        same_at!(&rt, number, found, (Ok(*lost), [true; 2], *shared));
-    }
-}
-
-fn hash_of<T: Hash>(x: &T) -> u64 {
-    let mut hasher = DefaultHasher::new();
-    x.hash(&mut hasher);
-    hasher.finish()
-}
-
 // The length of pages plays no part.
 #[test]
-fn tables_are_compared_and_hashed_by_their_items(rt: HostRuntime) {
+fn tables_are_compared_by_their_items(rt: HostRuntime) {
     let table = |items: &[u32], page_len: usize| {
         ok!(&rt, table_of(rt.alloc(), items, page_len.max(1)))
     };
     let (low, same, high) = (table(&[1, 2], 2), table(&[1, 2], 1), table(&[1, 3], 2));
-    same!(&rt, (low.cmp(&high), low < high), (Ordering::Less, true));
-    same!(&rt, (low == same, hash_of(&low)), (true, hash_of(&same)));
+    same!(&rt, [low == same, low == high], [true, false]);
 }
 
 #[test]

@@ -70,24 +70,3 @@ fn a_long_page_is_copied_whole(rt: HostRuntime) {
     same!(&rt, tally.copies(), 64);
     same!(&rt, shared_pages(&a, &b), [true, false, true, true]);
 }
-
-// A lone version moves its items, and a shared one copies its last page, if that changes.
-#[test]
-fn an_end_copies_the_last_page_alone(rt: HostRuntime) {
-    let (alloc, tally) = (rt.alloc(), Tally::new());
-    let mut table = counted_table(&rt, &tally, 5, 2);
-    for value in 5..7 {
-        ok!(&rt, table.push(alloc, Counted::new(&tally, value)));
-    }
-    drop([ok!(&rt, table.pop(alloc)), ok!(&rt, table.pop(alloc))]);
-    same!(&rt, tally.read(), (0, 2));
-    let other = again!(&rt, &table);
-    for copies in [1, 3] {
-        drop(ok!(&rt, table.pop(alloc)));
-        same!(&rt, tally.copies(), copies);
-    }
-    ok!(&rt, table.push(alloc, Counted::new(&tally, 9)));
-    same!(&rt, tally.copies(), 3);
-    drop((table, other));
-    same!(&rt, tally.living(8), 0);
-}

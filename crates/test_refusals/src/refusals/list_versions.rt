@@ -56,40 +56,6 @@ fn a_refused_set_leaves_both_versions(rt: HostRuntime) {
     holds!(&rt, a.iter().eq(&[1, 2, 3, 4, 5]));
 }
 
-// Items in pages of two, and those with one more or without the last.
-type End = (&'static str, &'static [u32], Option<u32>, &'static [u32]);
-
-const ENDS: [End; 4] = [
-    (
-        "an item in the last page",
-        &[1, 2, 3],
-        Some(4),
-        &[1, 2, 3, 4],
-    ),
-    ("an item in a page of its own", &[1, 2], Some(3), &[1, 2, 3]),
-    ("an item less in the last page", &[1, 2], None, &[1]),
-    ("a page less", &[1, 2, 3], None, &[1, 2]),
-];
-
-#[test]
-fn a_refused_push_or_pop_leaves_both_versions(rt: HostRuntime) {
-    for (name, items, pushed, new_items) in ENDS {
-        let given = items.to_vec(rt.alloc()).ok();
-        let Some((a, mut b)) = versions(rt.alloc(), given) else {
-            return report(&rt, "the set-up");
-        };
-        let is_done = match pushed {
-            Some(item) => b.push(rt.alloc(), item).is_ok(),
-            None => b.pop(rt.alloc()).is_ok(),
-        };
-        let left = if is_done { new_items } else { items };
-        holds!(&rt, a.iter().eq(items) && b.iter().eq(left));
-        if !is_done {
-            return report(&rt, name);
-        }
-    }
-}
-
 // A value whose copy is always refused.
 #[derive(PartialEq, Drop)]
 struct Original(u32);

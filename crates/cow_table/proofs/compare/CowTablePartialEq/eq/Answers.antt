@@ -1,33 +1,42 @@
--- `all` over the pairs of two lists that are as long.
-use Rattle.std.proofs.Common.{◌≡◌, ◌∙◌, ap, refl, rules, tests, arith, length, List, [], ◌∷◌, Bool, ◌&&◌}
-use Rattle.std.proofs.lemmas.Iterator.{YieldsList-from_zip}
-use Rattle.std.proofs.lemmas.Iterator.Consumers.{YieldsList-from_first}
-use Rattle.std.proofs.lemmas.Iterator.Search.{all_from_yields_List}
+-- What `eq` of two iterators over references says of their lists.
+use Rattle.std.proofs.Common.{◌≡◌, ◌∙◌, ◌&&◌, Bool, true, false, List, [], ◌∷◌, ap, ap₂, sym}
+use Rattle.std.specs.Prelude.{Option, None, Some, IfSome, MatchOption}
+use Rattle.std.specs.Borrow.{Bor}
 use Rattle.std.specs.Cmp.Lexicographic.{pointwise}
-use Rattle.std.specs.List.{list_all, zip}
+use Rattle.std.specs.Iterator.{YieldsFirstRef, YieldsThen}
+use Rattle.std.specs.List.{AllZip}
 use Rattle.cow_table.proofs.compare.CowTablePartialEq.eq.Goals as goal
 
-list_all-zip : {X : Type 0} (E : X → X → Bool) (xs ys : List X) → length xs ≡ length ys
-    → list_all (λ p. E p.0 p.1) (zip xs ys) ≡ pointwise E xs ys
-list_all-zip E [] [] same = refl
-list_all-zip E [] (y ∷ ys) same = absurd (omega arith)
-list_all-zip E (x ∷ xs) [] same = absurd (omega arith)
-list_all-zip E (x ∷ xs) (y ∷ ys) same = ap (λ b. E x y && b) (list_all-zip E xs ys (omega arith))
+module _ {X : Type 0} (E : X → X → Bool) (r : Bool) where
+  abbrev steps : List X → Option (Bor X) → List X → Type 0
+  steps = YieldsFirstRef (λ s. s)
 
-pub returns-then-self-other : goal.returns-then-self-other
-returns-then-self-other g c =
-    let E = g.T.PartialEq.eq in
-    let as_long : length c.args.self.now ≡ length c.args.other.now =
-    omega (
-      arith,
-      ap length c.self.view_is,
-      ap length c.other.view_is,
-      c.self.invariant.count,
-      c.other.invariant.count,
-    ) in
-    let mine = YieldsList-from_first (λ x. x.now) (λ s. s)
-    c.args.self.now (c.zip.ensures.first ∙ c.into_iter.ensures.into_iter_gives) in
-    let theirs = YieldsList-from_first (λ x. x.now) (λ s. s) c.args.other.now c.zip.ensures.second in
-    all_from_yields_List (λ p. E p.0 p.1) _ _ _ c.all.ensures.ran (YieldsList-from_zip mine theirs)
-    (λ x b q k. search (rules, tests))
-    ∙ list_all-zip E c.args.self.now c.args.other.now as_long
+  -- the answer that the next items of both give
+  abbrev Answers : Option (Bor X) → Option (Bor X) → Type 0
+  Answers o p = MatchOption o (MatchOption p (r ≡ true) (λ _. r ≡ false))
+      (λ x. (r ≡ false) × IfSome p (λ y. E x.now y.now ≡ false))
+
+  at_last : (o p : Option (Bor X)) (xs ys u w : List X) → steps xs o u → steps ys p w → Answers o p
+      → r ≡ pointwise E xs ys
+  at_last None None xs ys u w a b is = is ∙ sym (ap₂ (pointwise E) a.0 b.0)
+  at_last None (Some y) xs ys u w a b is = is ∙ sym (ap₂ (pointwise E) a.0 b)
+  at_last (Some x) None xs ys u w a b is = is.0 ∙ sym (ap₂ (pointwise E) a b.0)
+  at_last (Some x) (Some y) xs ys u w a b is =
+      is.0 ∙ sym (ap₂ (pointwise E) a b ∙ ap (λ e. e && pointwise E u w) is.1)
+
+  along : (cs ds : List (Bor X)) (o p : Option (Bor X)) (xs ys u w : List X) → YieldsThen steps xs cs o u
+      → YieldsThen steps ys ds p w → AllZip (λ x y. E x.now y.now ≡ true) cs ds → Answers o p
+      → r ≡ pointwise E xs ys
+  along [] [] o p xs ys u w a b equal is =
+      at_last o p a.0 b.0 u w a.2 b.2 is ∙ sym (ap₂ (pointwise E) a.1 b.1)
+  along [] (y ∷ ds) o p xs ys u w a b equal is = absurd equal
+  along (x ∷ cs) [] o p xs ys u w a b equal is = absurd equal
+  along (x ∷ cs) (y ∷ ds) o p xs ys u w a b equal is =
+      along cs ds o p a.1.0 b.1.0 u w (a.0, a.1.2, a.2) (b.0, b.1.2, b.2) equal.1 is
+      ∙ sym (ap₂ (pointwise E) a.1.1 b.1.1 ∙ ap (λ e. e && pointwise E a.1.0 b.1.0) equal.0)
+
+pub returns-then-len : goal.returns-then-len
+returns-then-len g c =
+    let d = c.eq.ensures.ran in
+    along g.T.PartialEq.eq c.eq.result d.1 d.2 d.3 d.4 _ d.0 d.5 d.6 d.8 d.9 d.10 d.11
+    ∙ ap₂ (pointwise g.T.PartialEq.eq) c.into_iter.ensures.into_iter_gives d.7

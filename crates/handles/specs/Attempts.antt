@@ -61,6 +61,6 @@ IsPlanned word limit (Made h) =
 IsPlanned word limit (Full logged) = clone_plan word limit ≡ FullPlan
 IsPlanned word limit (Lost found permit) = clone_plan word limit ≡ Raise (word + 1)
 
--- turns of this kind come to an end
+-- In some state such turns are at an end. It does not say that any were taken to that state.
 abbrev pub Stops : {S A : Type 0} → (S → Option A → S → Type 0) → Type 0
 Stops {S = S} steps = (turns : S) × (after : S) × steps turns None after

@@ -34,6 +34,8 @@ module _ {S T E : Type 0} (steps : S → Option (Result T E) → S → Type 0) (
   abbrev pub IsBuiltGood : {H : Type 0} → H → HeaderAndItems H T → Type 0
   IsBuiltGood header slice = (after : S) × IsBuiltGoodUpTo after header slice
 
+  -- A public builder keeps no iterator that its caller could ask about. So what `from` makes of `Memory` is allowed
+  -- whatever the iterator gave.
   abbrev pub Fails : (BuildError → E → Type 0) → E → Type 0
   Fails from e = (after : S) × FailsUpTo from after e
 

@@ -30,7 +30,7 @@ impl<T> Model for Permit<T> {
     ghost also_owns = { λ p. permit_owns T.row p.block p.held p.id p.number p.right p.log };
 }
 
-// That a step is in the log of the block with this id, and what the log is up to that step. It takes no bytes.
+// That the log of the block with this id began with these entries. It names no step, and takes no bytes.
 #[derive(Drop)]
 pub(crate) struct Logged {
     pub(crate) ghost id: { BlockId } by { coded_id },

@@ -5,7 +5,7 @@ use Rattle.sequence.specs.declared.tree.insert.Piece.{Piece}
 use Rattle.sequence.specs.declared.tree.insert.Piece.TheVariants.{Item, Part}
 use Rattle.sequence.specs.declared.tree.search.Spot.{Spot}
 use Rattle.sequence.specs.Nodes.{AreChildren, height_in, items_in}
-use Rattle.sequence.specs.Pieces.{Counts, Fits, GoesOn, items_of}
+use Rattle.sequence.specs.Pieces.{Counts, Fits, GoesOn, items_of, part_of}
 use Rattle.sequence.specs.Spots.{Leads}
 use Rattle.sequence.proofs.Children.{length-split}
 
@@ -14,6 +14,11 @@ module _ {T L : Type 0} where
   pub same_items : (piece next : Piece T L) → GoesOn piece next → items_of next ≡ items_of piece
   same_items (Item item) next on = ap (λ (p : Piece T L). items_of p) on
   same_items (Part child below) next on = ap (λ (p : Piece T L). items_of p) on.1
+
+  -- and is the same child, if it is one
+  pub same_part : (piece next : Piece T L) → GoesOn piece next → part_of next ≡ part_of piece
+  same_part (Item item) next on = ap (λ (p : Piece T L). part_of p) on
+  same_part (Part child below) next on = ap (λ (p : Piece T L). part_of p) on.1
 
 module _ {T L : Type 0} (label_of : T → L) where
   -- a piece that fits says how many items it has

@@ -42,7 +42,7 @@ module _ {T : Type 0} (sought : T → Bool) where
       × ((value ≡ old item) × (more ≡ replaced item ∷ []))))
 
   module _ (test : T → Bool) where
-    -- the sought item is not there
+    -- the last item before the cut, if there is one, is not the sought one
     pub record IsAbsent (es : List T) : Type 0 where
       pub at : ℕ
       pub cut : IsCut test es at
@@ -56,14 +56,14 @@ module _ {T : Type 0} (sought : T → Bool) where
       pub found : sought one ≡ true
       pub items : new ≡ remove old at
 
-    -- it was not there, and this one was put in behind the cut
+    -- it was not, and this one was put in behind the cut
     pub record IsAdded (old new : List T) (one : T) : Type 0 where
       pub at : ℕ
       pub cut : IsCut test old at
       pub missed : IsMissed (last_of at old)
       pub items : new ≡ insert old at one
 
-    -- it was there, and became another
+    -- it was, and became another
     pub record IsReplaced {R : Type 0} (replaced : T → T) (put_out : T → R) (old new : List T) (answer : R)
         : Type 0 where
       pub at : ℕ

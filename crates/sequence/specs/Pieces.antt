@@ -1,5 +1,5 @@
 -- What a tree takes in.
-use Rattle.std.specs.Prelude.{◌≡◌, ℕ, ◌+◌, ◌-◌, ◌<◌, ◌≤◌, ◌⊎◌, List, [], ◌∷◌, length}
+use Rattle.std.specs.Prelude.{◌≡◌, ℕ, ◌+◌, ◌-◌, ◌<◌, ◌≤◌, ◌⊎◌, List, [], ◌∷◌, Option, None, Some, length}
 use Rattle.sequence.specs.declared.tree.Child.{Child}
 use Rattle.sequence.specs.declared.tree.insert.Piece.{Piece}
 use Rattle.sequence.specs.declared.tree.insert.Piece.TheVariants.{Item, Part}
@@ -9,6 +9,10 @@ module _ {T L : Type 0} where
   abbrev pub items_of : Piece T L → List T
   items_of (Item item) = item ∷ []
   items_of (Part child below) = child.tree.0
+
+  abbrev pub part_of : Piece T L → Option (Child T L)
+  part_of (Item item) = None
+  part_of (Part child below) = Some child
 
   -- a tree that is so much lower can be put before all items or behind all
   pub record IsPart (label_of : T → L) (part : Child T L) (below place : ℕ) (tree : List T × ℕ) : Type 0 where

@@ -19,7 +19,7 @@ pub trait Cut<T, L: Label<T>>: Copy {
         ensures { result ≡ is_before self.now label.now };
 }
 
-/// A cut behind an item that is sought: if that is in the list, it is the last one before the cut.
+/// A cut, and an item that is sought: only the last item before the cut is compared with it.
 pub trait Seek<T, L: Label<T>>: Cut<T, L> {
     // Whether an item of that label is the one.
     ghost is_sought: { Self → L → Bool };

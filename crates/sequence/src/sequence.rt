@@ -87,7 +87,7 @@ impl<T, L: Label<T>> Sequence<T, L> {
         match &self.root {
             None => None,
             Some(tree) => {
-                // It has an item and is level.
+                // For the proof: its clauses say that the tree has an item and is level.
                 let _ = tree.node();
                 Some(tree)
             }
@@ -207,7 +207,9 @@ impl<T: Clone, L: NewLabel<T>> Sequence<T, L> {
             }
             Some(tree) => {
                 tree.grow(alloc, self.len)?;
-                tree.insert(alloc, index, Piece::Item(item))?;
+                let Ok(()) = tree.insert(alloc, index, Piece::Item(item)) else {
+                    return Err(AllocError);
+                };
                 self.len += 1;
                 Ok(())
             }

@@ -21,7 +21,7 @@ impl<K: Ord, V> TreeMap<K, V> {
             None => Err(0),
             Some((at, entry)) if key.order(&entry.0).is_eq() => Ok(at),
             Some((at, _)) => {
-                // The entries are fewer than 2 ^ 64.
+                // For the proof: its clause says that the entries are fewer than 2 ^ 64.
                 let _ = self.entries.len();
                 Err(at + 1)
             }

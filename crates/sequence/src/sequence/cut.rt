@@ -12,7 +12,7 @@ impl<T, L: Label<T>> Sequence<T, L> {
         requires { HasCut (λ e. C.is_before cut (L.label_of e)) self.now }
         ensures { IsCut (λ e. C.is_before cut (L.label_of e)) self.now result }
     {
-        // There are fewer than a number can count.
+        // For the proof: its clause says that there are fewer than a number can count.
         let _ = self.len();
         match self.find(cut) {
             None => 0,

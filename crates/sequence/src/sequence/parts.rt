@@ -30,10 +30,16 @@ impl<T: Clone, L: NewLabel<T>> Sequence<T, L> {
         let Some(len) = self.len.checked_add(more) else {
             return Err(AllocError);
         };
-        match &mut self.root {
-            None => self.root = Some(tree),
-            Some(mine) => mine.append(alloc, self.len, tree, more)?,
-        }
+        self.root = match self.root.take() {
+            None => Some(tree),
+            Some(mine) => match mine.append(alloc, self.len, tree, more) {
+                Ok(both) => Some(both),
+                Err(mine) => {
+                    self.root = Some(mine);
+                    return Err(AllocError);
+                }
+            },
+        };
         self.len = len;
         Ok(())
     }
@@ -42,7 +48,8 @@ impl<T: Clone, L: NewLabel<T>> Sequence<T, L> {
     /// items; then nothing is copied or refused.
     ///
     /// Both lists are made anew along the cut and share all other nodes with this one: of each node there they copy the
-    /// handles of its children, and of one leaf the items.
+    /// handles of its children, and of one leaf the items. Then their parts are appended to one another, which also
+    /// copies leaves of few items beside the cut, to join them.
     pub fn split_off(
         &mut self,
         alloc: Global,

@@ -1,42 +1,45 @@
 //! How two trees become one: the lower one becomes a child of the higher one, on its own level.
-ghost use Rattle.std.specs.Prelude.{◌≡◌, ◌+◌, ◌<◌, ◌≤◌, ◌^◌, ◌++◌, ◌⊎◌, OnOk, OnErr, length};
+ghost use Rattle.std.specs.Prelude.{◌≡◌, ◌+◌, ◌<◌, ◌≤◌, ◌^◌, ◌++◌, ◌⊎◌, IfErr, IfOk, OnOk, OnErr, length};
 ghost use Rattle.handles.specs.Copies.{CopiesAreEqual};
 ghost use Rattle.sequence.specs.Spots.{spliced};
 
 use crate::label::NewLabel;
-use crate::tree::Tree;
 use crate::tree::insert::Piece;
+use crate::tree::{Child, Tree};
 use std::alloc::{AllocError, Global};
 
 impl<T: Clone, L: NewLabel<T>> Tree<T, L> {
-    // Puts the items of the other tree behind those of this one. The numbers say how many each has.
+    // The tree of the items of this one and those of the other behind them. The numbers say how many each has. A
+    // refusal gives this one back.
     pub(crate) fn append(
-        &mut self,
+        mut self,
         alloc: Global,
         len: usize,
         mut other: Tree<T, L>,
         more: usize,
-    ) -> Result<(), AllocError>
+    ) -> Result<Tree<T, L>, Tree<T, L>>
         requires copies { CopiesAreEqual T.is_clone }
         requires labels { CopiesAreEqual L.is_clone }
-        requires len { len ≡ length self.old.0 }
+        requires len { len ≡ length self.0 }
         requires more { more ≡ length other.0 }
         requires room { len + more < 2 ^ 64 }
-        ensures items { OnOk result (self.new.0 ≡ self.old.0 ++ other.0) }
-        ensures refused { OnErr result (self.new.0 ≡ self.old.0) }
+        ensures items { IfOk result (λ tree. tree.0 ≡ self.0 ++ other.0) }
+        ensures refused { IfErr result (λ tree. tree.0 ≡ self.0) }
     {
-        self.shrink()?;
-        other.shrink()?;
-        if self.height() >= other.height() {
-            return self.hang(alloc, len, other, more, len);
+        if self.shrink().is_err() || other.shrink().is_err() {
+            return Err(self);
         }
-        let lower = self.clone()?;
-        other.hang(alloc, more, lower, len, 0)?;
-        *self = other;
-        Ok(())
+        if self.height() < other.height() {
+            other.hang(alloc, more, self, len, 0)?;
+            return Ok(other);
+        }
+        match self.hang(alloc, len, other, more, len) {
+            Ok(()) => Ok(self),
+            Err(_) => Err(self),
+        }
     }
 
-    // Puts the items of the other tree, which is no higher, before all items or behind all.
+    // Puts the items of the other tree, which is no higher, before all items or behind all. A refusal gives it back.
     fn hang(
         &mut self,
         alloc: Global,
@@ -44,7 +47,7 @@ impl<T: Clone, L: NewLabel<T>> Tree<T, L> {
         other: Tree<T, L>,
         more: usize,
         place: usize,
-    ) -> Result<(), AllocError>
+    ) -> Result<(), Tree<T, L>>
         requires copies { CopiesAreEqual T.is_clone }
         requires labels { CopiesAreEqual L.is_clone }
         requires len { len ≡ length self.old.0 }
@@ -55,12 +58,26 @@ impl<T: Clone, L: NewLabel<T>> Tree<T, L> {
         requires room { len + more < 2 ^ 64 }
         ensures items { OnOk result (self.new.0 ≡ spliced place 0 other.0 self.old.0) }
         ensures refused { OnErr result (self.new.0 ≡ self.old.0) }
+        ensures back { IfErr result (λ back. back ≡ other) }
     {
-        let part = other.into_child(more)?;
-        let height = part.tree.height();
-        self.rise(alloc, len, height)?;
+        let Ok(label) = L::new(other.item(0)) else {
+            return Err(other);
+        };
+        let height = other.height();
+        let Ok(()) = self.rise(alloc, len, height) else {
+            return Err(other);
+        };
         let below = self.height() - height;
-        self.insert(alloc, place, Piece::Part(part, below))
+        let part = Child {
+            label,
+            len: more,
+            tree: other,
+        };
+        match self.insert(alloc, place, Piece::Part(part, below)) {
+            Ok(()) => Ok(()),
+            Err(Some(part)) => Err(part.tree),
+            Err(None) => unreachable!(),
+        }
     }
 
     // Makes the tree higher if it is no higher than that, or its first node is full.

@@ -1,8 +1,8 @@
 //! How a tree takes an item or a lower tree in: in place, but for the nodes that others share, which are copied.
-ghost use Rattle.std.specs.Prelude.{◌≡◌, ◌+◌, ◌<◌, ◌≤◌, ◌^◌, ◌⊎◌, OnOk, OnErr, MatchResult, length};
+ghost use Rattle.std.specs.Prelude.{◌≡◌, ◌+◌, ◌<◌, ◌≤◌, ◌^◌, ◌⊎◌, IfErr, None, OnOk, OnErr, MatchResult, Some, length};
 ghost use Rattle.handles.specs.Copies.{CopiesAreEqual};
 ghost use Rattle.sequence.specs.Nodes.{AreChildren, IsChild, IsLabelled, IsList, StandFor, height_in, items_in};
-ghost use Rattle.sequence.specs.Pieces.{Counts, Fits, GoesOn, IsHere, items_of};
+ghost use Rattle.sequence.specs.Pieces.{Counts, Fits, GoesOn, IsHere, items_of, part_of};
 ghost use Rattle.sequence.specs.Spots.{spliced};
 
 use crate::label::{Label, NewLabel};
@@ -22,14 +22,14 @@ pub(crate) enum Piece<T, L: Label<T>> {
 }
 
 impl<T: Clone, L: NewLabel<T>> Tree<T, L> {
-    // Puts the piece in at that place.
+    // Puts the piece in at that place. A refusal gives a part back.
     #[cycle(insert)]
     pub(crate) fn insert(
         &mut self,
         alloc: Global,
         place: usize,
         piece: Piece<T, L>,
-    ) -> Result<(), AllocError>
+    ) -> Result<(), Option<Child<T, L>>>
         requires copies { CopiesAreEqual T.is_clone }
         requires labels { CopiesAreEqual L.is_clone }
         requires within { place ≤ length self.old.0 }
@@ -38,8 +38,11 @@ impl<T: Clone, L: NewLabel<T>> Tree<T, L> {
         ensures items { OnOk result (self.new.0 ≡ spliced place 0 (items_of piece) self.old.0) }
         ensures height { self.new.1 ≡ self.old.1 }
         ensures refused { OnErr result (self.new.0 ≡ self.old.0) }
+        ensures back { IfErr result (λ back. back ≡ part_of piece) }
     {
-        let node = Arc::make_mut(&mut self.root, alloc)?;
+        let Ok(node) = Arc::make_mut(&mut self.root, alloc) else {
+            return Err(piece.into_part());
+        };
         match node {
             Node::Leaf(items) => put(items, place, piece),
             Node::Branch(children) => insert_under(children, alloc, place, piece),
@@ -54,7 +57,7 @@ fn insert_under<T: Clone, L: NewLabel<T>>(
     alloc: Global,
     place: usize,
     piece: Piece<T, L>,
-) -> Result<(), AllocError>
+) -> Result<(), Option<Child<T, L>>>
     requires copies { CopiesAreEqual T.is_clone }
     requires labels { CopiesAreEqual L.is_clone }
     requires children { AreChildren L.label_of children.old.items }
@@ -66,19 +69,27 @@ fn insert_under<T: Clone, L: NewLabel<T>>(
     ensures height { height_in children.new.items ≡ height_in children.old.items }
     ensures children { AreChildren L.label_of children.new.items }
     ensures refused { OnErr result (items_in children.new.items ≡ items_in children.old.items) }
+    ensures back { IfErr result (λ back. back ≡ part_of piece) }
 {
     let piece = match piece.under() {
         Ok(piece) => piece,
         Err(child) => return beside(children, alloc, place, child),
     };
-    let spot = room_under(children, spot_of(children, place), alloc)?;
+    let Ok(spot) = room_under(children, spot_of(children, place), alloc) else {
+        return Err(piece.into_part());
+    };
     children[spot.child].insert(alloc, spot.place, piece)
 }
 
 impl<T: Clone, L: NewLabel<T>> Child<T, L> {
     // The same under one child.
     #[cycle(insert)]
-    fn insert(&mut self, alloc: Global, place: usize, piece: Piece<T, L>) -> Result<(), AllocError>
+    fn insert(
+        &mut self,
+        alloc: Global,
+        place: usize,
+        piece: Piece<T, L>,
+    ) -> Result<(), Option<Child<T, L>>>
         requires copies { CopiesAreEqual T.is_clone }
         requires labels { CopiesAreEqual L.is_clone }
         requires child { IsChild (self.old.tree.1 + 1) self.old }
@@ -89,6 +100,7 @@ impl<T: Clone, L: NewLabel<T>> Child<T, L> {
         ensures child { IsChild (self.old.tree.1 + 1) self.new }
         ensures label { self.new.label ≡ self.old.label }
         ensures refused { OnErr result (self.new.tree.0 ≡ self.old.tree.0) }
+        ensures back { IfErr result (λ back. back ≡ part_of piece) }
     {
         let more = piece.len();
         self.tree.insert(alloc, place, piece)?;
@@ -121,12 +133,24 @@ impl<T, L: Label<T>> Piece<T, L> {
     }
 }
 
+impl<T: Drop, L: Label<T>> Piece<T, L> {
+    // The child, if it is one.
+    fn into_part(self) -> Option<Child<T, L>>
+        ensures { result ≡ part_of self }
+    {
+        match self {
+            Piece::Item(_) => None,
+            Piece::Part(child, _) => Some(child),
+        }
+    }
+}
+
 // Puts the item into a leaf.
 fn put<T: Drop, L: Label<T> + Drop>(
     items: &mut Vec<T>,
     place: usize,
     piece: Piece<T, L>,
-) -> Result<(), AllocError>
+) -> Result<(), Option<Child<T, L>>>
     requires list { IsList items.old.items }
     requires within { place ≤ length items.old.items }
     requires fits { Fits L.label_of piece place (items.old.items, 0) }
@@ -134,21 +158,24 @@ fn put<T: Drop, L: Label<T> + Drop>(
     ensures items { OnOk result (items.new.items ≡ spliced place 0 (items_of piece) items.old.items) }
     ensures list { IsList items.new.items }
     ensures refused { OnErr result (items.new.items ≡ items.old.items) }
+    ensures back { IfErr result (λ back. back ≡ part_of piece) }
 {
     let Piece::Item(item) = piece else {
         unreachable!()
     };
-    items.insert(place, item)?;
-    Ok(())
+    match items.insert(place, item) {
+        Ok(()) => Ok(()),
+        Err(_) => Err(None),
+    }
 }
 
-// Puts the child before all children or behind all. Two small ones that meet there become one.
+// Puts the child before all children or behind all. Two small ones that meet there become one. A refusal gives it back.
 fn beside<T: Clone, L: NewLabel<T>>(
     children: &mut Vec<Child<T, L>>,
     alloc: Global,
     place: usize,
     child: Child<T, L>,
-) -> Result<(), AllocError>
+) -> Result<(), Option<Child<T, L>>>
     requires copies { CopiesAreEqual T.is_clone }
     requires labels { CopiesAreEqual L.is_clone }
     requires children { AreChildren L.label_of children.old.items }
@@ -161,17 +188,24 @@ fn beside<T: Clone, L: NewLabel<T>>(
     ensures height { height_in children.new.items ≡ height_in children.old.items }
     ensures children { AreChildren L.label_of children.new.items }
     ensures refused { OnErr result (items_in children.new.items ≡ items_in children.old.items) }
+    ensures back { IfErr result (λ back. back ≡ Some child) }
 {
     if place == 0 {
         // The first child becomes one behind another.
-        let label = L::new(children[0].tree.item(0))?;
-        children.insert(0, child)?;
+        let Ok(label) = L::new(children[0].tree.item(0)) else {
+            return Err(Some(child));
+        };
+        if let Err(refused) = children.insert(0, child) {
+            return Err(Some(refused.value));
+        }
         children[1].label = label;
         meet(children, 0, alloc);
         return Ok(());
     }
     let last = children.len() - 1;
-    children.push(child)?;
+    if let Err(refused) = children.push(child) {
+        return Err(Some(refused.value));
+    }
     meet(children, last, alloc);
     Ok(())
 }

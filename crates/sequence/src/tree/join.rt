@@ -32,6 +32,7 @@ pub(crate) fn join<T: Clone, L: NewLabel<T>>(
         (record { child = at; place = (slice_index_or children.old.items at d).len + k })) }
     ensures spare { OnOk result ((d : Child T L) → CanLose (slice_index_or children.new.items at d).tree) }
 {
+    // For the proof: its clause says that there is room for what is taken out here, if it has to go back.
     children.reserve(0)?;
     let next = children.remove(at + 1);
     let Err(next) = children[at].join(alloc, next) else {

@@ -37,6 +37,18 @@ fn many<'a>(alloc: Global, tally: &'a Tally) -> Result<Sequence<Counted<'a>>, Al
     Ok(sequence)
 }
 
+fn of_counted<'a>(
+    alloc: Global,
+    tally: &'a Tally,
+    count: u64,
+) -> Result<Sequence<Counted<'a>>, AllocError> {
+    let mut items = Vec::new(alloc);
+    for item in 0..count {
+        items.push(Counted::new(tally, item))?;
+    }
+    Sequence::from_items(alloc, items)
+}
+
 // Every change is in place if the version shares nothing, whatever nodes become two or one.
 #[test]
 fn a_lone_sequence_copies_nothing(rt: HostRuntime) {
@@ -57,6 +69,18 @@ fn a_lone_sequence_copies_nothing(rt: HostRuntime) {
     ok!(&rt, back.append(rt.alloc(), sequence));
     let seen = (tally.copies(), back.len() as u64, tally.living(ITEMS));
     same!(&rt, seen, (0, ITEMS / 2, ITEMS / 2));
+}
+
+// Of 64 items a tree has two leaves, so that of 10 is joined with one of them.
+#[test]
+fn lone_sequences_are_joined_without_a_copy(rt: HostRuntime) {
+    let tally = Tally::new();
+    for (front, back) in [(10, 64), (64, 10)] {
+        let mut both = ok!(&rt, of_counted(rt.alloc(), &tally, front));
+        let other = ok!(&rt, of_counted(rt.alloc(), &tally, back));
+        ok!(&rt, both.append(rt.alloc(), other));
+    }
+    same!(&rt, (tally.copies(), tally.drops()), (0, 148));
 }
 
 // The only items of a path are those of its leaf, and a cut shares all but them.

@@ -32,8 +32,10 @@ fn a_change_copies_what_others_have(rt: HostRuntime) {
     let lone = ok!(&rt, map.modify(alloc, &0, add_ten));
     let old = again!(&rt, &map);
     let absent = ok!(&rt, map.modify(alloc, &9, add_ten));
-    let seen = (lone, absent, TreeMap::ptr_eq(&old, &map), tally.copies());
-    same!(&rt, seen, (Some(10), None, true, 0));
+    let is_absent = ok!(&rt, map.remove(alloc, &9)).is_none();
+    let is_same = TreeMap::ptr_eq(&old, &map);
+    let seen = (lone, absent, is_absent, is_same, tally.copies());
+    same!(&rt, seen, (Some(10), None, true, true, 0));
     let shared = ok!(&rt, map.modify(alloc, &0, add_ten));
     let copies = tally.copies();
     let mut less = again!(&rt, &map);

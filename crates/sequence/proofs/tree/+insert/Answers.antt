@@ -1,6 +1,6 @@
 -- The tree, its branch and one child of that take the piece in.
 use Rattle.std.proofs.Common.{◌≡◌, ◌+◌, ◌≤◌, ◌<◌, ◌^◌, ap, sym, subst, arith, length, set}
-use Rattle.std.specs.Prelude.{OnOk}
+use Rattle.std.specs.Prelude.{IfErr, OnOk}
 use Rattle.sequence.specs.Nodes.{items_in}
 use Rattle.sequence.specs.Pieces.{Fits, items_of}
 use Rattle.sequence.specs.Spots.{spliced}
@@ -8,15 +8,15 @@ use Rattle.sequence.proofs.Calls.{both, of_two}
 use Rattle.sequence.proofs.Children.{leads_inner}
 use Rattle.sequence.proofs.Copied.{made}
 use Rattle.sequence.proofs.Labelled.{labelled_at, labelled_put}
-use Rattle.sequence.proofs.Pieces.{counts, fits_under, same_items}
+use Rattle.sequence.proofs.Pieces.{counts, fits_under, same_items, same_part}
 use Rattle.sequence.proofs.Placed.{child_here, child_within, put_under}
 use Rattle.sequence.proofs.Wide.{height_some}
 use Rattle.sequence.proofs.tree.+insert.Goals as goal
 
 pub Tree::insert-insert_under-requires : goal.Tree::insert-insert_under-requires
 Tree::insert-insert_under-requires g t c κs within =
-    let node = rw c.in-Branch.is at (made g.L.Label.label_of c.args.self.now c.self.inside.root c.in_ok-node.node.now
-    c.self.invariant c.self.view_is c.in_ok-node.ensures.value (c.requires.copies, c.requires.labels)) in
+    let node = rw c.in-Branch.is at (made g.L.Label.label_of c.args.self.now c.self.inside.root c.in-Ok.node.now
+    c.self.invariant c.self.view_is c.in-Ok.ensures.value (c.requires.copies, c.requires.labels)) in
     let items = ap (λ t. length t.0) node.same in
     let some = height_some c.in-Branch.children.items node.whole in
     let fits = subst (λ t. Fits g.L.Label.label_of c.args.piece c.args.place t) (sym node.same) c.requires.fits in
@@ -27,9 +27,9 @@ Tree::insert-insert_under-requires g t c κs within =
 pub insert::insert_under-insert-requires : goal.insert::insert_under-insert-requires
 insert::insert_under-insert-requires g t c κs within =
     let cs = c.room_under.new.children.items in
-    let spot = c.in_ok-spot.spot in
-    let same = c.in_ok-spot.ensures.same in
-    let leads = c.in_ok-spot.ensures.leads c.args.place (rw c.deref.ensures.value at c.spot_of.ensures) in
+    let spot = c.in-Ok-room_under.spot in
+    let same = c.in-Ok-room_under.ensures.same in
+    let leads = c.in-Ok-room_under.ensures.leads c.args.place (rw c.deref.ensures.value at c.spot_of.ensures) in
     let d = c.index_mut.result.now in
     let is = c.index_mut.ensures.value in
     let more = ap (λ es. length es) (same_items c.args.piece c.in-Ok.piece c.in-Ok.ensures) in
@@ -49,8 +49,8 @@ pub insert::insert_under-returns : goal.insert::insert_under-returns
 insert::insert_under-returns g t c =
     let cs = c.room_under.new.children.items in
     let old = c.args.children.now.items in
-    let spot = c.in_ok-spot.spot in
-    let leads = c.in_ok-spot.ensures.leads c.args.place (rw c.deref.ensures.value at c.spot_of.ensures) in
+    let spot = c.in-Ok-room_under.spot in
+    let leads = c.in-Ok-room_under.ensures.leads c.args.place (rw c.deref.ensures.value at c.spot_of.ensures) in
     let d = c.index_mut.result.now in
     let is = c.index_mut.ensures.value in
     let new = c.insert.new.self in
@@ -59,11 +59,12 @@ insert::insert_under-returns g t c =
     omega (arith, leads.inside d, ap (λ child. length child.tree.0) is) in
     let room : length (items_in old) + length (items_of c.in-Ok.piece) < 2 ^ 64 + 0 =
     omega (arith, ap (λ es. length es) of, c.requires.room) in
-    let are = c.in_ok-spot.ensures.same.children in
+    let same = c.in-Ok-room_under.ensures.same in
+    let are = same.children in
     let label = λ (p : 0 < spot.child). labelled_put d new spot.place 0 (items_of c.in-Ok.piece) c.insert.result
     (leads_inner _ cs c.args.place spot are.each leads p) c.insert.ensures.items c.insert.ensures.refused
     c.insert.ensures.label (labelled_at cs spot.child d are p leads.within is) in
-    let done = put_under old cs spot.child d new c.in_ok-spot.ensures.same leads.within is c.insert.ensures.child label
+    let done = put_under old cs spot.child d new same leads.within is c.insert.ensures.child label
     c.args.place spot.place 0 (items_of c.in-Ok.piece) leads.is inside c.insert.result c.insert.ensures.items
     c.insert.ensures.refused room in
     record {
@@ -72,6 +73,8 @@ insert::insert_under-returns g t c =
       height = done.height;
       children = done.children;
       refused = done.refused;
+      back = subst (λ part. IfErr c.insert.result (λ back. back ≡ part))
+          (same_part c.args.piece c.in-Ok.piece c.in-Ok.ensures) c.insert.ensures.back;
     }
 
 pub Child::insert-len-more-requires : goal.Child::insert-len-more-requires

@@ -12,24 +12,24 @@ meet-requires-clause-children g c =
     let cs = c.args.children.now.items in
     let are = c.requires.children in
     let d = c.index_mut.result.now in
-    let put = c.in_ok-insert.ensures.items in
-    subst (λ xs. AreChildren g.L.Label.label_of (set xs 1 (record d { label = c.in_ok-label.label }))) (sym put)
+    let put = c.in_default-insert.ensures.items in
+    subst (λ xs. AreChildren g.L.Label.label_of (set xs 1 (record d { label = c.in-Ok.label }))) (sym put)
     (more_before cs c.args.child are c.requires.child c.requires.room _
-    (labelled_by_first cs d c.index.result.now c.item.result.now c.in_ok-label.label are
+    (labelled_by_first cs d c.index.result.now c.item.result.now c.in-Ok.label are
     (c.index_mut.ensures.value ∙ ap (λ xs. get_or xs 1 d) put) c.index.ensures c.item.ensures
-    (c.in_ok-label.ensures c.requires.labels))).children
+    (c.in-Ok.ensures c.requires.labels))).children
 
 pub returns-then-place-eq0-clause-items : goal.returns-then-place-eq0-clause-items
 returns-then-place-eq0-clause-items g c =
     let cs = c.args.children.now.items in
     let d = c.index_mut.result.now in
-    let put = c.in_ok-insert.ensures.items in
-    let labelled = labelled_by_first cs d c.index.result.now c.item.result.now c.in_ok-label.label c.requires.children
+    let put = c.in_default-insert.ensures.items in
+    let labelled = labelled_by_first cs d c.index.result.now c.item.result.now c.in-Ok.label c.requires.children
     (c.index_mut.ensures.value ∙ ap (λ xs. get_or xs 1 d) put) c.index.ensures c.item.ensures
-    (c.in_ok-label.ensures c.requires.labels) in
+    (c.in-Ok.ensures c.requires.labels) in
     subst (λ n. items_in c.meet.new.children.items ≡ spliced n 0 c.args.child.tree.0 (items_in cs))
     (sym c.if-place-eq0.true)
-    (c.meet.ensures.items ∙ ap (λ xs. items_in (set xs 1 (record d { label = c.in_ok-label.label }))) put
+    (c.meet.ensures.items ∙ ap (λ xs. items_in (set xs 1 (record d { label = c.in-Ok.label }))) put
     ∙ ap (λ es. c.args.child.tree.0 ++ es) labelled.same.items)
 
 pub returns-then-place-eq0-clause-height : goal.returns-then-place-eq0-clause-height
@@ -37,16 +37,16 @@ returns-then-place-eq0-clause-height g c =
     let cs = c.args.children.now.items in
     let are = c.requires.children in
     let d = c.index_mut.result.now in
-    let put = c.in_ok-insert.ensures.items in
-    c.meet.ensures.height ∙ ap (λ xs. height_in (set xs 1 (record d { label = c.in_ok-label.label }))) put
+    let put = c.in_default-insert.ensures.items in
+    c.meet.ensures.height ∙ ap (λ xs. height_in (set xs 1 (record d { label = c.in-Ok.label }))) put
     ∙ (more_before cs c.args.child are c.requires.child c.requires.room _
-    (labelled_by_first cs d c.index.result.now c.item.result.now c.in_ok-label.label are
+    (labelled_by_first cs d c.index.result.now c.item.result.now c.in-Ok.label are
     (c.index_mut.ensures.value ∙ ap (λ xs. get_or xs 1 d) put) c.index.ensures c.item.ensures
-    (c.in_ok-label.ensures c.requires.labels))).height
+    (c.in-Ok.ensures c.requires.labels))).height
 
 pub meet-requires-2-clause-children : goal.meet-requires-2-clause-children
 meet-requires-2-clause-children g c =
-    subst (AreChildren g.L.Label.label_of) (sym c.in_ok-push.ensures.items)
+    subst (AreChildren g.L.Label.label_of) (sym c.in_default-push.ensures.items)
     (more_behind c.args.children.now.items c.args.child c.requires.children c.requires.child c.requires.room
     c.requires.label).children
 
@@ -59,11 +59,11 @@ returns-clause-items g c =
       | inr last ↦ last
     ] in
     subst (λ n. items_in c.meet-2.new.children.items ≡ spliced n 0 child.tree.0 (items_in cs)) (sym last)
-    (c.meet-2.ensures.items ∙ ap (λ cs. items_in cs) c.in_ok-push.ensures.items ∙ items_append cs (child ∷ [])
+    (c.meet-2.ensures.items ∙ ap (λ cs. items_in cs) c.in_default-push.ensures.items ∙ items_append cs (child ∷ [])
     ∙ ap (λ es. items_in cs ++ es) (append-nil child.tree.0) ∙ sym (splice_end (items_in cs) child.tree.0))
 
 pub returns-clause-height : goal.returns-clause-height
 returns-clause-height g c =
-    c.meet-2.ensures.height ∙ ap (λ cs. height_in cs) c.in_ok-push.ensures.items
+    c.meet-2.ensures.height ∙ ap (λ cs. height_in cs) c.in_default-push.ensures.items
     ∙ (more_behind c.args.children.now.items c.args.child c.requires.children c.requires.child c.requires.room
     c.requires.label).height

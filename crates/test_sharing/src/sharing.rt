@@ -1,5 +1,7 @@
 //! Tests of versions of lists, maps and trees, of symbols and of styles.
 
+mod changes;
+mod forgotten;
 mod lists;
 mod maps;
 mod random_maps;

@@ -54,10 +54,18 @@ fn drops_the_header_once(rt: HostRuntime) {
     let (header, items) = (Counted::new(&tally, 9), [5u64, 6].into_iter());
     let shared = ok!(&rt, Arc::from_header_and_iter(rt.alloc(), header, items));
     drop(again!(&rt, &shared));
-    let is_itself = *shared == *shared;
+    let is_itself = shared == shared;
     let before = tally.drops();
     drop(shared);
     same!(&rt, (is_itself, before, tally.read()), (true, 0, (0, 1)));
+}
+
+#[test]
+fn each_item_is_cloned_once(rt: HostRuntime) {
+    let tally = Tally::new();
+    let items = [Counted::new(&tally, 5), Counted::new(&tally, 6)];
+    drop(ok!(&rt, Arc::from_header_and_clones(rt.alloc(), 1u8, &items)));
+    same!(&rt, tally.read(), (2, 2));
 }
 
 #[test]
@@ -101,6 +109,8 @@ fn swaps_header_and_items(rt: HostRuntime) {
     swap(&mut x, &mut y);
     same!(&rt, (x.header, x.slice(), x.len()), (2, &[6, 7][..], 2));
     same!(&rt, (y.header, y.slice(), y.len()), (1, &[5][..], 1));
+    x.slice_mut().swap(0, 1);
+    same!(&rt, x.slice(), &[7, 6][..]);
 }
 
 #[test]

@@ -169,7 +169,7 @@ fn asks_the_iterator_for_the_number_once(rt: HostRuntime) {
     }
 }
 
-// If the iterator ends early or gives an error, what was taken is dropped, and then the header.
+// If the iterator ends early or gives an error, what was taken is dropped, then the header, and the iterator too.
 #[test]
 fn drops_what_was_taken_of_results(rt: HostRuntime) {
     let (asked, headers, items) = (AtomicU64::new(0), Tally::new(), Tally::new());
@@ -186,4 +186,9 @@ fn drops_what_was_taken_of_results(rt: HostRuntime) {
     let built = Arc::try_from_header_and_iter(rt.alloc(), header, results);
     let seen = (built.err(), headers.drops(), items.drops());
     same!(&rt, seen, (Some(UNDER), 2, 5));
+    let item = || Some(Counted::new(&items, 7));
+    let left = ok!(&rt, vec![in rt.alloc(); item(), None, item()]).into_iter();
+    let asked = &asked;
+    let built = Arc::from_header_and_iter_with_size(rt.alloc(), 7u8, Answers { left, asked }, 2);
+    same!(&rt, (built.err(), items.drops()), (Some(OVER), 7));
 }

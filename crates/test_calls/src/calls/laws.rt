@@ -29,5 +29,5 @@ fn the_laws_hold_at_types() {
     union_laws::only_done_changes::<u32, u8>();
     call_each!(history_laws: beginnings_are_legal handles_are_owned calls_are_of_passes marked_exactly_if_called
         last_is_told_once one_end_is_last);
-    call_each!(script_laws: each_line_is_one_step each_line_asks_one_thing_of_a_table);
+    call_each!(script_laws: each_text_has_its_lines each_line_is_one_step each_line_asks_one_thing_of_a_table);
 }

@@ -68,5 +68,7 @@ fn a_long_page_is_copied_whole(rt: HostRuntime) {
     let mut b = again!(&rt, &a);
     ok!(&rt, b.set(rt.alloc(), 70, Counted::new(&tally, 9)));
     same!(&rt, tally.copies(), 64);
+    let has_place = b.set(rt.alloc(), 200, Counted::new(&tally, 9)).is_ok();
+    same!(&rt, (has_place, tally.living(202)), (false, 264));
     same!(&rt, shared_pages(&a, &b), [true, false, true, true]);
 }

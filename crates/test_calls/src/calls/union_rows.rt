@@ -35,8 +35,12 @@ fn a_shared_first_gives_way_to_a_second_and_a_union_to_itself(rt: HostRuntime) {
 fn a_union_is_put(rt: HostRuntime) {
     let mut table: UnionTable<u32, u32> = ok!(&rt, UnionTable::new(rt.alloc(), 1));
     let union = ArcUnion::from_first(arc_of(&rt, 7));
+    let block = arc_of(&rt, 8);
+    let first = ArcUnion::from_first(again!(&rt, &block));
+    let was_put = table.put(0, first).is_ok();
     let there = table.put(0, again!(&rt, &union)).is_ok();
     let past_the_last = table.put(1, union).is_ok();
     let seen = (there, past_the_last, table.get(0).is_some());
     same!(&rt, seen, (true, false, true));
+    same!(&rt, [was_put, block.is_unique()], [true; 2]);
 }

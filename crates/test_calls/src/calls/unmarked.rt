@@ -2,12 +2,13 @@
 //! no handle of it is ever alone.
 use crate::calls::by_bound::hash_of;
 use crate::made::arc_of;
-use servo_arc::{Arc, ArcUnion};
+use cow_table::CowTable;
+use servo_arc::{Arc, ArcBorrow, ArcUnion};
 use std::cmp::Ordering::Equal;
 use std::fmt::Debug;
 use std::hash::Hash;
 use std::process::Abort;
-use testing::{ok, same, same_at};
+use testing::{again, ok, same, same_at};
 
 // Compares, hashes and prints the value.
 fn ask<T: Ord + Hash + Debug>(rt: &(impl Abort + AllocGlobal), x: &T) {
@@ -21,10 +22,13 @@ fn ask<T: Ord + Hash + Debug>(rt: &(impl Abort + AllocGlobal), x: &T) {
 fn a_handle_is_asked(rt: HostRuntime) {
     let a = arc_of(&rt, 7u32);
     ask(&rt, &a);
-    ask(&rt, &a.borrow_arc());
+    let borrow = a.borrow_arc();
+    ask(&rt, &borrow);
+    let read: &u32 = a.as_ref();
     let text = ok!(&rt, format!(in rt.alloc(); "{a}"));
-    let seen = (text.as_str(), Arc::ptr_eq(&a, &a), a.is_unique());
-    same!(&rt, seen, ("7", true, true));
+    let is_itself = [Arc::ptr_eq(&a, &a), ArcBorrow::ptr_eq(&borrow, &borrow)];
+    let seen = (text.as_str(), *read, *borrow, is_itself, a.is_unique());
+    same!(&rt, seen, ("7", 7, 7, [true; 2], true));
 }
 
 type Numbers = ArcUnion<u32, u32>;
@@ -56,4 +60,18 @@ fn a_union_is_asked(rt: HostRuntime) {
             ((is_first, !is_first), true, Some(true))
         );
     }
+}
+
+// A page that was marked would stay, with its handle of the value.
+#[test]
+fn a_table_is_asked(rt: HostRuntime) {
+    let a = arc_of(&rt, 7u32);
+    let items = ok!(&rt, vec![in rt.alloc(); again!(&rt, &a)]);
+    let table = ok!(&rt, CowTable::from_items(rt.alloc(), items, 1));
+    drop(ok!(&rt, format!(in rt.alloc(); "{table:?}")));
+    let are_equal = [table == table, CowTable::page_ptr_eq(&table, &table, 0)];
+    let reads = (table.iter().count(), table.get(0) == Some(&table[0]));
+    drop(table);
+    let seen = (are_equal, reads, a.is_unique());
+    same!(&rt, seen, ([true; 2], (1, true), true));
 }

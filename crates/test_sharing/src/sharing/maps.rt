@@ -22,38 +22,10 @@ fn maps_are_told_apart(rt: HostRuntime) {
         TreeMap::ptr_eq(&map, &new),
     ];
     same!(&rt, are_one, [true, false, false]);
-    check_debug(&rt, &map, "{('a', 9): 3, ('b', 1): 8, ('b', 2): 5}");
-}
-
-#[test]
-fn entries_leave_a_map(rt: HostRuntime) {
-    let alloc = rt.alloc();
-    let mut map = ok!(&rt, map_of(alloc));
-    let old = ok!(&rt, map.insert(alloc, ('b', 1), 7));
-    let first = ok!(&rt, map.pop_first(alloc));
-    let last = ok!(&rt, map.pop_last(alloc));
-    let expected = (Some(8), Some((('a', 9), 3)), Some((('b', 2), 5)));
-    same!(&rt, (old, first, last), expected);
-    ok!(
-        &rt,
-        map.retain(alloc, |key, value| key.1 == 1 && *value == 7)
-    );
-    let left = map.len();
-    map.clear();
-    same!(&rt, (left, map), (1, TreeMap::default()));
-}
-
-#[test]
-fn a_map_is_read_beside_another(rt: HostRuntime) {
-    let alloc = rt.alloc();
-    let map = ok!(&rt, map_of(alloc));
-    let mut less = again!(&rt, &map);
-    drop(ok!(&rt, less.remove(alloc, &('b', 1))));
-    let both = ok!(&rt, map.intersection(alloc, &less));
-    let rest = ok!(&rt, map.difference(alloc, &less));
-    same!(&rt, (both == less, rest.len()), (true, 1));
-    let near = (map.get_prev(&('b', 0)), map.get_next(&('b', 0)));
-    same!(&rt, near, (map.nth(0), rest.first()));
+    let text =
+        "{('a',  9):  3, ('b',  1):  8, ('b',  2):  5} {\n    (\n        'a',\n        9,\n    ): 3,\n    (\n        \
+        'b',\n        1,\n    ): 8,\n    (\n        'b',\n        2,\n    ): 5,\n}";
+    check_debug(&rt, &map, text);
 }
 
 fn by_name(alloc: Global) -> Result<TreeMap<Arc<String>, u32>, AllocError> {
@@ -96,5 +68,6 @@ fn lists_are_told_apart(rt: HostRuntime) {
     same!(&rt, are_one, [true, true, false, false]);
     same!(&rt, (list.last(), list < longer), (Some(&3), true));
     same!(&rt, List::<u64>::default().len(), 0);
-    check_debug(&rt, &longer, "[9, 1, 2, 3]");
+    let text = "[ 9,  1,  2,  3] [\n    9,\n    1,\n    2,\n    3,\n]";
+    check_debug(&rt, &longer, text);
 }

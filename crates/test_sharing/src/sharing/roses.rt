@@ -1,10 +1,11 @@
 //! What rose trees share and drop.
 use crate::made::{check_debug, check_display};
 use interner::InternError;
+use sequence::InsertError;
 use std::process::Abort;
 use testing::counted::{Counted, Tally};
 use testing::{ok, same, same_at};
-use trees::{Rose, RoseError};
+use trees::{Rose, RoseError, Undo};
 
 type Tree<'a> = Rose<Counted<'a>>;
 
@@ -94,11 +95,14 @@ fn each_change_copies_its_path_once(rt: HostRuntime) {
 #[test]
 fn trees_and_errors_have_their_texts(rt: HostRuntime) {
     let leaf = ok!(&rt, Rose::leaf(rt.alloc(), 7u8));
-    check_debug(
-        &rt,
-        &leaf,
-        "Rose { node: HeaderSlice { header: 7, slice: [] } }",
-    );
+    let text = "Rose { node: HeaderSlice { header:  7, slice: [] } } \
+        Rose {\n    node: HeaderSlice {\n        header: 7,\n        slice: [],\n    },\n}";
+    check_debug(&rt, &leaf, text);
+    let text = "Undo { before: [], current:  7, undone: [] } \
+        Undo {\n    before: [],\n    current: 7,\n    undone: [],\n}";
+    check_debug(&rt, &Undo::new(rt.alloc(), 7u8), text);
+    check_display(&rt, &InsertError::NoPlace, "no such place");
+    check_display(&rt, &InsertError::Memory, "out of memory");
     check_display(&rt, &RoseError::NoSuchPlace, "no such place");
     check_display(&rt, &RoseError::Memory, "out of memory");
     check_display(&rt, &InternError::Full, "no symbol is left");

@@ -21,7 +21,8 @@ fn sequences_are_told_apart(rt: HostRuntime) {
         Sequence::ptr_eq(&sequence, &longer),
     ];
     same!(&rt, are_one, [true, false, false]);
-    check_debug(&rt, &longer, "[9, 1, 2, 3]");
+    let text = "[ 9,  1,  2,  3] [\n    9,\n    1,\n    2,\n    3,\n]";
+    check_debug(&rt, &longer, text);
 }
 
 const ITEMS: u64 = 100_000;

@@ -12,7 +12,7 @@ fn add_ten(counted: &mut Counted<'_>) -> u64 {
     counted.value
 }
 
-fn map_of<'a>(
+pub fn map_of<'a>(
     rt: &(impl Abort + AllocGlobal),
     tally: &'a Tally,
     keys: &[u64],

@@ -7,6 +7,7 @@ use std::thread::Builder;
 use testing::counted::{Counted, Tally};
 use testing::{ok, same};
 use trees::{Rose, Undo};
+use uses::buffer;
 use uses::documents::{Edit, Part, apply, styles};
 use uses::lines::{insert_line, remove_line, set_line};
 
@@ -62,6 +63,11 @@ fn lines_are_edited(rt: HostRuntime) {
     ok!(&rt, remove_line(&mut lines, alloc, 1));
     let seen = (lines.current().children().len(), lines.before().len());
     same!(&rt, seen, (1, 4));
+    let mut buffer = Undo::new(alloc, Default::default());
+    let first = name(&rt, "first");
+    ok!(&rt, buffer::insert_line(&mut buffer, alloc, 0, first));
+    let turned = ok!(&rt, buffer::turned(buffer.current(), alloc, 1));
+    same!(&rt, turned.is_some(), true);
 }
 
 // Two versions are left to go back to, and those before them are gone.

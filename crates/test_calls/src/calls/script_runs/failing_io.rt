@@ -49,12 +49,13 @@ fn check_failures(rt: &(impl Abort + AllocGlobal), row: Failures<'_>) {
         );
         let seen = (
             answers.as_bytes().starts_with(&output.held),
-            output.has_failed,
+            (output.has_failed, output.is_flushed),
             (ended, errors.len()),
         );
         let has_failed = before <= writes;
         let status = if has_failed { 4 } else { status };
-        same_at!(rt, (kind, before), seen, (true, has_failed, (status, 0)));
+        let expected = (true, (has_failed, !has_failed), (status, 0));
+        same_at!(rt, (kind, before), seen, expected);
     }
 }
 

@@ -44,11 +44,12 @@ impl Read for FailingReader<'_> {
     }
 }
 
-/// Holds what is written, and fails at one write or flush.
+/// Holds what is written, and whether it is flushed. It fails at one write or flush.
 #[derive(Drop)]
 pub struct FailingWriter {
     pub held: Vec<u8>,
     pub has_failed: bool,
+    pub is_flushed: bool,
     calls_before: usize,
 }
 
@@ -57,6 +58,7 @@ impl FailingWriter {
         FailingWriter {
             held: Vec::new(alloc),
             has_failed: false,
+            is_flushed: false,
             calls_before,
         }
     }
@@ -75,11 +77,14 @@ impl Write for FailingWriter {
     fn write(&mut self, buf: &[u8]) -> io::Result<usize>
         ensures { WritesAtMost result buf.now }
     {
+        self.is_flushed = false;
         self.fail_in_turn()?;
         self.held.write(buf)
     }
 
     fn flush(&mut self) -> io::Result<()> {
-        self.fail_in_turn()
+        self.fail_in_turn()?;
+        self.is_flushed = true;
+        Ok(())
     }
 }

@@ -4,32 +4,93 @@
 # what README says of this toolchain, and the checker lets no handle and no list of a cell, which threads may not share,
 # be lent, moved or sent to a thread. In a third repository it refuses the code of docs/DECISIONS.md.
 set -uo pipefail
-cd "$(dirname "$0")/.."
-here=$PWD tree=$(mktemp -d) && new=$tree/new old=$tree/old
+cd "$(dirname "$0")/.." || exit
+root=$PWD tree=$(mktemp -d) passed=0 failed=0
 trap 'rm -rf "$tree"' EXIT
-fail() { echo "elsewhere: $*" >&2 && exit 1; }
-mkdir -p "$new/.git" && ./copy_crates "$new" first_example uses || fail "no copy"
-for crate in "$new"/crates/*/; do diff -r -x must-fail -x out "crates/${crate##*/crates/}" "$crate" || exit; done
-diff HANDLES "$new/HANDLES" && diff LICENSE "$new/crates/LICENSE" || exit
-diff <(grep -E "^($(cd "$new/crates" && echo * | tr ' ' '|'))\b" crates.txt) "$new/crates.txt" || exit
-! compgen -G "$new/crates/*/must-fail" || fail "mutants are copied"
-! ./copy_crates "$new" nothing 2>/dev/null || fail "a crate that is not here is copied"
+home=$tree/home wanted=$tree/wanted new=$tree/new old=$tree/old
+# holds WHAT COMMAND.. : counts it.
+holds() { "${@:2}" && ((++passed)) || { ((++failed)) && echo "elsewhere: another than wanted: $1" >&2; }; }
+same() { diff <(echo "$1") <(echo "$2") >&2; }
+crates_of() { (cd "$1/crates" && echo */ | tr -d /); }
 
-cp -r "$new" "$old" && echo own | tee "$old/HANDLES" >"$old/crates/LICENSE"
-touch "$old"/crates/uses/{src,specs,proofs}/gone && sed -i '1i own: uses
-    s/^uses.*/uses: gone/' "$old/crates.txt"
-./copy_crates "$old" first_example uses && diff <(echo own: uses && cat "$new/crates.txt") "$old/crates.txt" || exit
-diff -r "$new/crates" "$old/crates" -x LICENSE || exit
-[[ $(cat "$old/HANDLES" "$old/crates/LICENSE") = $'own\nown' ]] || fail "what the user had of his own is lost"
+# How the crates of a copy differ from what is wanted, but for whole crates that are not there.
+differences() { diff -r "$wanted/crates" "$1/crates" | grep -vx "Only in $wanted/crates: \w*" | LC_ALL=C sort; }
 
-told=$(sed -n 's/.*first_example && rt try *# prints `\([^`]*\)`.*/\1/p' README.md)
-printed=$(cd "$new/crates/first_example" && rt try 2>&1 | head -1)
-[[ -n $told && $printed = "$told" ]] && grep -qF "\`$(rt version)\`" README.md || fail "$printed, by $(rt version)"
-cd "$new" && sed -i -E '/^pub fn \w+_elsewhere/s/\bu32\b/std::cell::Cell<u32>/g' crates/uses/src/crossing.rt
-refused=$(timeout 100 rt all check --jobs 1 2>&1 | grep -c 'the trait bound `UnsafeCell<u32>: Sync` is not satisfied')
-mkdir -p "$tree"/third/{.git,crates/bounds/src} && cd "$tree/third" && cp "$new/HANDLES" . && echo 'bounds:' >crates.txt
-cd crates/bounds && sed -n '/^```rust$/,/^```$/{/^```/d;p}' "$here/docs/DECISIONS.md" >src/lib.rt
-sed -i '1i #![tactic(auto)]' src/lib.rt && bounds=$(rt check --jobs 1 2>&1 |
-    grep -c '^fn .*what it sends to a thread rests on a bound that is assumed of this thread alone')
-echo "elsewhere: the first example prints $printed, $refused places of 4 are refused, $bounds of 1 by its bound"
-((refused == 4 && bounds == 1))
+into_a_new_repository() {
+    local said names
+    mkdir -p "$home" "$wanted" "$new/.git"
+    tar -c --exclude=out crates crates.txt copy_crates LICENSE HANDLES | tar -x -C "$home"
+    tar -c --exclude=out --exclude=must-fail crates | tar -x -C "$wanted"
+    mkdir "$home/crates/uses/out" && touch "$home/crates/uses/out/built" && cp -r "$home" "$tree/before"
+    said=$("$home/copy_crates" "$new" first_example uses) && names=$(crates_of "$new")
+    holds "what it says that it copied" same "$(tr ' ' '\n' <<<"${said##*: }" | sort | xargs)" "$names"
+    holds "what it copied" same "$(differences "$new")" "Only in $new/crates: LICENSE"
+    holds "lines of crates.txt" same "$(<"$new/crates.txt")" "$(grep -E "^(${names// /|})\b" "$home/crates.txt")"
+    holds "LICENSE" cmp "$home/LICENSE" "$new/crates/LICENSE"
+    holds "HANDLES" cmp "$home/HANDLES" "$new/HANDLES"
+    "$home/copy_crates" "$tree/low" persistent >/dev/null
+    holds "what is below" same "$(crates_of "$tree/low")" "counting_word handles persistent sequence"
+    "$home/copy_crates" "$tree/first" >/dev/null
+    holds "a copy of servo_arc, if none is named" test -e "$tree/first/crates/servo_arc/src/lib.rt"
+}
+
+over_an_older_copy() {
+    local lines=$new/crates.txt
+    lines=$'# own\n\nuses_own: uses\n'$(grep -v '^first_example' "$lines" && grep '^first_example' "$lines")
+    cp -r "$new" "$old" && echo own | tee "$old/HANDLES" >"$old/crates/LICENSE"
+    mkdir -p "$old"/crates/{own,uses/out} && touch "$old"/crates/uses/{own,out/own,{src,specs,proofs}/gone}
+    sed -i -e '1i # own\n\nuses_own: uses' -e 's/^uses.*/uses: gone/' -e '/^first_example/d' "$old/crates.txt"
+    "$home/copy_crates" "$old" first_example uses >/dev/null
+    holds "lines of an older crates.txt" same "$(<"$old/crates.txt")" "$lines"
+    holds "what is left of an older copy" same "$(differences "$old")" "$(printf 'Only in %s\n' \
+        "$old/crates/uses: out" "$old/crates/uses: own" "$old/crates: LICENSE" "$old/crates: own")"
+    holds "what was built of an older copy" same "$(ls "$old/crates/uses/out")" own
+    holds "one's own LICENSE and HANDLES" same "$(cat "$old/HANDLES" "$old/crates/LICENSE")" $'own\nown'
+}
+
+# refused ERRORS WORDS.. : says so, and copies and deletes nothing. The errors are a pattern.
+refused() {
+    (cd "$home" && ./copy_crates "${@:2}" 2>"$tree/errors")
+    [[ $? = 1 && $(<"$tree/errors") = $1 && ! -e $tree/none ]] && diff -r "$tree/before" "$home" >&2
+}
+
+what_is_refused() {
+    ln -s "$home" "$tree/link"
+    holds "no folder" refused 'copy_crates FOLDER *'
+    holds "a word with a dash for the folder" refused 'copy_crates FOLDER *' --help
+    holds "a word with a dash for a crate" refused 'copy_crates FOLDER *' "$tree/none" uses -x
+    holds "crates that are not here" refused 'no crate no, other; there are: * servo_arc *' "$tree/none" no uses other
+    holds "a copy onto itself" refused '.: the crates there are *: uses servo_arc *' . uses
+    holds "a copy onto itself by a link" refused '*: the crates there are *: uses servo_arc *' "$tree/link" uses
+}
+
+in_the_copy() {
+    local told printed refused
+    told=$(sed -n 's/.*first_example && rt try *# prints `\([^`]*\)`.*/\1/p' README.md)
+    printed=$(cd "$new/crates/first_example" && rt try 2>&1 | head -1)
+    holds "what the first example prints" same "$printed" "${told:-what README says}"
+    holds "the toolchain that README names, by $(rt version)" grep -qF "\`$(rt version)\`" README.md
+    cd "$new" && sed -i -E '/^pub fn \w+_elsewhere/s/\bu32\b/std::cell::Cell<u32>/g' crates/uses/src/crossing.rt
+    refused=$(timeout 100 rt all check --jobs 1 2>&1 |
+        grep -c 'the trait bound `UnsafeCell<u32>: Sync` is not satisfied')
+    holds "the 4 places where a cell is refused" same "$refused" 4
+}
+
+# The code of docs/DECISIONS.md is refused by the bound that it rests on.
+in_a_third_repository() {
+    local refused
+    mkdir -p "$tree"/third/{.git,crates/bounds/src} && cd "$tree/third" && cp "$new/HANDLES" .
+    echo 'bounds:' >crates.txt
+    cd crates/bounds && sed -n '/^```rust$/,/^```$/{/^```/d;p}' "$root/docs/DECISIONS.md" >src/lib.rt
+    sed -i '1i #![tactic(auto)]' src/lib.rt && refused=$(rt check --jobs 1 2>&1 |
+        grep -c '^fn .*what it sends to a thread rests on a bound that is assumed of this thread alone')
+    holds "the place where a bound is refused" same "$refused" 1
+}
+
+into_a_new_repository
+over_an_older_copy
+what_is_refused
+in_the_copy
+in_a_third_repository
+echo "elsewhere: $passed of 21 as wanted, $failed not"
+((passed == 21 && failed == 0))

@@ -8,19 +8,19 @@ program=../crates/arcbench/out/arcbench
 folder=$(mktemp -d)
 trap 'rm -rf "$folder"' EXIT
 cc -O2 -shared -fPIC -o "$folder/memory.so" ../gate/refuse_request.c || exit 1
-checked=()
+checked=() wanted=38
 if command -v valgrind >/dev/null; then
-    checked=(valgrind -q --error-exitcode=99)
+    checked=(valgrind -q --error-exitcode=99) wanted=57
 else
     echo "examples: reads of freed memory are not looked for, since valgrind is not installed"
 fi
 
+passed=0 failed=0 count=0
 wrong() {
     echo "$script $*" >&2
-    failed=$((failed + 1))
+    ((++failed))
+    false
 }
-
-failed=0 count=0
 for script in core/* table/*; do
     case $script in
     *.stdout | *.args)
@@ -34,10 +34,11 @@ for script in core/* table/*; do
     marked=0
     [[ $script = table/* ]] && marked=$(grep -c '^mark ' "$script")
     LD_PRELOAD=$folder/memory.so "$program" "${words[@]}" <"$script" >"$folder/output" 2>"$folder/memory"
-    cmp -s "$folder/output" "$script.stdout" || wrong "prints something else"
-    [[ $(<"$folder/memory") = "memory: granted, $marked kept" ]] || wrong "marks $marked blocks: $(<"$folder/memory")"
-    [[ ${checked[0]-} ]] && ! "${checked[@]}" "$program" "${words[@]}" <"$script" >"$folder/output" &&
-        wrong "reads freed memory"
+    cmp -s "$folder/output" "$script.stdout" || wrong "prints something else" && ((++passed))
+    [[ $(<"$folder/memory") = "memory: granted, $marked kept" ]] ||
+        wrong "marks $marked blocks: $(<"$folder/memory")" && ((++passed))
+    [[ ${checked[0]-} ]] || continue
+    "${checked[@]}" "$program" "${words[@]}" <"$script" >"$folder/output" || wrong "reads freed memory" && ((++passed))
 done
-echo "examples: $count, $failed times something else"
-((failed == 0))
+echo "examples: $count of 19, $passed of $wanted times as wanted, $failed not"
+((count == 19 && passed == wanted && failed == 0))

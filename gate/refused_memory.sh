@@ -1,10 +1,11 @@
 #!/usr/bin/env bash
 # Refuses each single request for memory in turn: each test of `refusals`, and `arcbench` on two scripts, runs with its
 # first request refused, then with its second, until a run meets no refusal. What a run reports, and how many blocks it
-# keeps to its end, is its outcome. Those of all runs have to be just those of crates/test_refusals/outcomes.txt.
+# keeps to its end, is its outcome. Those of all runs have to be just those of crates/test_refusals/outcomes.txt, each as
+# often as there, so no call makes a request more or less. With --write it writes the outcomes there, for you to judge.
 set -u
 cd "$(dirname "$0")/.."
-program=crates/test_refusals/out/test_refusals_tests
+program=crates/test_refusals/out/test_refusals_tests outcomes=crates/test_refusals/outcomes.txt
 folder=$(mktemp -d)
 trap 'rm -rf "$folder"' EXIT
 
@@ -39,21 +40,22 @@ printf '%s\n' 'new 0 5' 'clone 0 1' 'makemut 0 9' 'own 1' 'get 0' 'get 1' >"$fol
     outcomes_of 'arcbench core' "$folder/steps" crates/arcbench/out/arcbench core 2
     outcomes_of 'arcbench table' "$folder/commands" crates/arcbench/out/arcbench table 2
 } >"$folder/runs"
-LC_ALL=C sort -u "$folder/runs" >"$folder/came"
-grep -v '^#' crates/test_refusals/outcomes.txt | LC_ALL=C sort -u >"$folder/expected"
+LC_ALL=C sort "$folder/runs" | uniq -c >"$folder/came"
+awk '/^#/ { next } /^ +[0-9]+ times$/ { times = $1; next } { tell(); outcome = $0; times = 1 } END { tell() }
+    function tell() { if (times) printf "%7d %s\n", times, outcome }' "$outcomes" |
+    LC_ALL=C sort -k 2 >"$folder/expected"
 
 diff "$folder/expected" "$folder/came" >"$folder/differ"
-# As many requests may come to an outcome as CALLING says. `make_mut` copies 16 vectors, each with its block.
-LC_ALL=C sort "$folder/runs" | uniq -c | awk '
-    / refusals::builders::.*: refused/ && $1 > (/ of 0 items|: no block/ ? 1 : 2)
-    / refusals::makers::.*kept: [A-Za-z_]+: / && $1 > (/: make_mut: / ? 32 : 1)
-    / refusals::counts::.*: refused/ && $1 > 3
-    / refusals::steps::.*: refused/ && $1 > (/ owners: |: the set-up/ ? 2 : 1)
-    / refusals::symbols::an_interner_with_room.*: refused/ && $1 > 4
-    / refusals::list_versions::.*: (a page|the list of pages),/ && $1 > (/: a page,/ ? 8 : 4)
-    / arcbench .*: refused/ && !/: fault: memory/ && $1 > 1' >"$folder/more"
+# A builder asks for its block, and for room for its items if it does not know how many come.
+awk '/ refusals::builders::.*: refused/ && $1 > (/ of 0 items|: no block/ ? 1 : 2)' "$folder/came" >"$folder/more"
+sed -n 's/^< */did not come: /p; s/^> */not expected: /p' "$folder/differ" >&2
+sed 's/^ */too many requests: /' "$folder/more" >&2
 refused=$(grep -c ': refused, ' "$folder/runs")
 echo "refused memory: $refused runs were refused a request, and came to $(wc -l <"$folder/came") outcomes"
-sed -n 's/^< /did not come: /p; s/^> /not expected: /p' "$folder/differ" >&2
-sed 's/^/too many requests: /' "$folder/more" >&2
+if [[ ${1-} = --write ]]; then
+    grep '^#' "$outcomes" >"$folder/written"
+    awk '{ times = $1; sub(/^ *[0-9]+ /, ""); print } times > 1 { print "    " times " times" }' "$folder/came" \
+        >>"$folder/written"
+    cp "$folder/written" "$outcomes" && : >"$folder/differ"
+fi
 ((refused > 0)) && [[ ! -s $folder/differ && ! -s $folder/more ]]

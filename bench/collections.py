@@ -52,17 +52,22 @@ def run(command, kind, workload, items):
     return found | {"bytes": (usage.ru_maxrss * 1024 - LIST) / (2 * SIZES[-1])}, checksum
 
 
+def is_compared(peer, call):
+    return peer not in WITHOUT_VERSIONS or call not in ("clone", "version")
+
+
+def goal_of(kind, items, call, peer):
+    """The most of this peer's time that the call may take, or None."""
+    has_goal = is_compared(peer, call) and (kind, items) != ("sequences", SIZES[0])
+    return GOALS[kind][peer].get(call) if has_goal else None
+
+
 def judged(kind, items, call, ratios):
     """The ratio to each peer, with its verdict."""
     for peer, ratio in ratios.items():
-        goal = GOALS[kind][peer].get(call)
-        shown = f"{ratio:.{2 if ratio >= 0.1 else 3}f}"
-        if peer in WITHOUT_VERSIONS and call in ("clone", "version"):
-            yield from ("-", "-")
-        elif goal is None or (kind, items) == ("sequences", SIZES[0]):
-            yield from (shown, "-")
-        else:
-            yield from (shown, "met" if ratio <= goal else "missed")
+        goal = goal_of(kind, items, call, peer)
+        yield f"{ratio:.{2 if ratio >= 0.1 else 3}f}" if is_compared(peer, call) else "-"
+        yield "-" if goal is None else "met" if ratio <= goal else "missed"
 
 
 def measured(commands, kind, workload, items, count):
@@ -109,4 +114,5 @@ def main():
     sys.exit(missed)
 
 
-main()
+if __name__ == "__main__":
+    main()

@@ -6,25 +6,36 @@
   none is of docs/DECISIONS.md, and the checker refuses it: gate/elsewhere.sh;
 - what a command prints on an example, as after `# prints:`, is what the example's expected lines say; a drawing of an
   example, as ```text examples/core/first, has its steps and answers, each in the column of its owner;
-- docs/SPEED.md shows the figures of bench/measured.tsv, maps.tsv and sequences.tsv, but for scripts that meet their
-  goals;
-- bench/measured.tsv has each goal of bench/goals.tsv and no other, with the verdict that follows from its figures.
+- CONTRIBUTING.md names no file that is not there;
+- the tables of docs/SPEED.md are the figures of bench/measured.tsv, maps.tsv and sequences.tsv and nothing else, but
+  for scripts that meet their goals;
+- bench/measured.tsv has each goal of bench/goals.tsv once and no other, with the verdict that follows from its figures,
+  and so have the calls of maps and sequences;
+- each public function is called, but for those that gate/called.py lists.
 """
 import csv
 import re
+import runpy
 import subprocess
 import sys
+from collections import Counter
+from itertools import chain, zip_longest
 from pathlib import Path
 
 ROOT = Path(__file__).resolve().parent.parent
 sys.path.append(str(ROOT / "bench"))
+from called import UNCALLED, uncalled
 from compare import read_goals, verdict
+goal_of = runpy.run_path(str(ROOT / "bench" / "collections.py"))["goal_of"]
+DOCUMENTS = 35
 LINK = re.compile(r"\[((?:[^\]\[]|\[[^\]]*\])+)\]\(([^)\s]+)\)")
 REFERENCE = re.compile(r"\]\[|^ *\[[^\]]+\]:", re.M)
 PRINTS = re.compile(r"< examples/(\w+/\w+) +# prints: (.*)")
 DRAWN = re.compile(r"```text examples/(core/\w+)\n(.*?)```", re.S)
 STEP = re.compile(r"([a-z]+)((?: \d+)*): (\S+(?: \S+)*)")
 QUOTE = re.compile(r"```rust ?(\S*)\n(.*?)```", re.S)
+FENCE = re.compile(r"^ *```(.*)", re.M)
+FILE = re.compile(r"\b[\w/]+\.(?:rt|antt|edit|md|py|rs|sh|tsv|txt)\b")
 
 
 def headings(text):
@@ -57,9 +68,16 @@ def drawn_steps(drawing):
     return [steps, [step[3] for step in found]]
 
 
-def wrong_in(document):
+def wrong_in(document, files):
     text = document.read_text()
     prose = re.sub(r"```.*?```", "", text, flags=re.S)
+    for kind in FENCE.findall(text)[::2]:
+        if not re.fullmatch(r"(rust|text)( \S+)*", kind):
+            yield f"a fence of another kind than rust or text: {kind}"
+    unlinked = LINK.sub("", text) if document.name == "CONTRIBUTING.md" else ""
+    for name in FILE.findall(unlinked):
+        if not any(f"/{file}".endswith(f"/{name}") for file in files):
+            yield f"no such file: {name}"
     if REFERENCE.search(re.sub(r"`[^`]*`", "", prose)):
         yield "a link has its target elsewhere, where nothing checks it"
     for label, target in LINK.findall(prose):
@@ -87,10 +105,14 @@ def nanoseconds(figure):
     return f"{float(figure):.{digits}f}"
 
 
-def speed_line(row):
-    """The line of docs/SPEED.md for a workload."""
+def speed_line(name, figures):
+    return f"{name:<16}" + "".join(f"{figure:>9}" for figure in figures)
+
+
+def figures_of(row):
+    """What docs/SPEED.md shows of a workload."""
     figures = [nanoseconds(row[peer + "_ns"]) for peer in ("program", "servo", "std", "twin")]
-    return f"{row['workload']:<16}" + "".join(f"{figure:>9}" for figure in [*figures, f"{float(row['ratio']):.2f}"])
+    return [*figures, f"{float(row['ratio']):.2f}"]
 
 
 def call_line(rows):
@@ -107,39 +129,70 @@ def table(name):
         return list(csv.DictReader(file, delimiter="\t"))
 
 
-def wrong_speed():
-    """The lines of docs/SPEED.md on a workload that say something else, and the lines that it lacks."""
-    rows = table("measured.tsv")
-    names = {row["workload"] for row in rows}
-    shown = set((ROOT / "docs" / "SPEED.md").read_text().splitlines())
-    told = (row for row in rows if row["verdict"] == "missed" or not row["workload"].startswith("script-"))
-    wanted = {speed_line(row) for row in told}
-    yield from wanted ^ {line for line in shown if line.partition(" ")[0] in names}
-    calls = {}
-    for row in table("maps.tsv") + table("sequences.tsv"):
+def workload_lines():
+    yield speed_line("", ["here", "original", "std", "twin", "ratio"])
+    for row in table("measured.tsv"):
+        if row["verdict"] == "missed" or not row["workload"].startswith("script-"):
+            yield speed_line(row["workload"], figures_of(row))
+
+
+def call_lines(name):
+    calls, sizes = {}, []
+    for row in table(name):
         calls.setdefault((row["workload"], row["call"]), []).append(row)
-    yield from (line for line in map(call_line, calls.values()) if line not in shown)
+        sizes.append(f"{int(row['items']):,}")
+    return [" ".join(dict.fromkeys(sizes)), *map(call_line, calls.values())]
+
+
+def wrong_speed():
+    """The lines of the tables of docs/SPEED.md that are others than those wanted, and the latter."""
+    blocks = re.findall(r"```text\n(.*?)\n```", (ROOT / "docs" / "SPEED.md").read_text(), re.S)
+    wanted = [list(workload_lines()), call_lines("maps.tsv"), call_lines("sequences.tsv")]
+    shown = [block.splitlines() for block in blocks]
+    for lines in shown[1:]:
+        lines[0] = " ".join(lines[0].split())
+    for lines, others in zip_longest(map(Counter, shown), map(Counter, wanted), fillvalue=Counter()):
+        yield from (lines - others) + (others - lines)
+
+
+def wrong_goals(kind):
+    """The calls of a collection with a verdict that is not that of the ratio. One shown as its goal may have either."""
+    with open(ROOT / "bench" / f"{kind}.tsv", encoding="utf-8") as file:
+        head, *rows = csv.reader(file, delimiter="\t")
+    for row in rows:
+        workload, items, call = row[:3]
+        for place in range(head.index("goal"), len(head), 2):
+            goal = goal_of(kind, int(items), call, head[place - 1][1:])
+            verdicts = ["-"]
+            if goal is not None:
+                verdicts = ["met"] * (float(row[place - 1]) <= goal) + ["missed"] * (float(row[place - 1]) >= goal)
+            if row[place] not in verdicts:
+                yield f"{kind}.tsv: {workload} {items} {call} {head[place - 1]}"
 
 
 def wrong_verdicts():
     """The workloads whose goal is not in bench/goals.tsv or whose verdict is another, and the goals of no workload."""
     goals = read_goals(ROOT / "bench" / "goals.tsv")
+    names = re.findall(r"^[^\t\n]+", (ROOT / "bench" / "goals.tsv").read_text(), re.M)
+    yield from (f"goals.tsv: two goals of {name}" for name in goals if names.count(name) > 1)
     for row in table("measured.tsv"):
         _, most, goal = goals.pop(row["workload"], (None, None, None))
         judged = {name: float(row[name]) for name in ("control_from", "control_to", "judged_from", "judged_to")}
         if goal != row["goal"] or verdict(judged, most) != row["verdict"]:
-            yield f"the goal or the verdict of {row['workload']}"
-    yield from (f"the goal of {name}" for name in goals)
+            yield f"measured.tsv: the goal or the verdict of {row['workload']}"
+    yield from (f"goals.tsv: {name} is not measured" for name in goals)
 
 
 def main():
-    listed = subprocess.run(["git", "ls-files", "*.md"], cwd=ROOT, capture_output=True, text=True, check=True)
-    documents = [ROOT / name for name in listed.stdout.split()]
-    wrong = [f"{document.relative_to(ROOT)}: {line}" for document in documents for line in wrong_in(document)]
-    wrong += [f"docs/SPEED.md: not as measured: {name}" for name in wrong_speed()]
-    wrong += [f"bench/measured.tsv: {name}" for name in wrong_verdicts()]
-    print("\n".join([*wrong, f"documents: {len(documents)}, {len(wrong)} wrong"]))
-    return 1 if wrong else 0
+    listed = subprocess.run(["git", "ls-files"], cwd=ROOT, capture_output=True, text=True, check=True)
+    files = listed.stdout.split()
+    documents = [name for name in files if name.endswith(".md")]
+    wrong = [f"{name}: {line}" for name in documents for line in wrong_in(ROOT / name, files)]
+    wrong += [f"docs/SPEED.md: not as measured: {line}" for line in wrong_speed()]
+    wrong += [f"bench/{name}" for name in chain(wrong_verdicts(), wrong_goals("maps"), wrong_goals("sequences"))]
+    wrong += [f"not called, or called and listed as not: {name}" for name in UNCALLED.symmetric_difference(uncalled())]
+    print("\n".join([*wrong, f"documents: {len(documents)} of {DOCUMENTS}, {len(wrong)} wrong"]))
+    return 1 if wrong or len(documents) != DOCUMENTS else 0
 
 
 if __name__ == "__main__":

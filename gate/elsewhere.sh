@@ -71,7 +71,7 @@ in_the_copy() {
     holds "what the first example prints" same "$printed" "${told:-what README says}"
     holds "the toolchain that README names, by $(rt version)" grep -qF "\`$(rt version)\`" README.md
     cd "$new" && sed -i -E '/^pub fn \w+_elsewhere/s/\bu32\b/std::cell::Cell<u32>/g' crates/uses/src/crossing.rt
-    refused=$(timeout 100 rt all check --jobs 1 2>&1 |
+    refused=$(timeout 600 rt all check --jobs 1 2>&1 |
         grep -c 'the trait bound `UnsafeCell<u32>: Sync` is not satisfied')
     holds "the 4 places where a cell is refused" same "$refused" 4
 }

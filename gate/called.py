@@ -13,15 +13,12 @@ MODULE = re.compile(r"^(pub )?mod (\w+);", re.M)
 
 # These wait for a test.
 UNCALLED = {
-    "handles: HeaderSlice::slice_mut",
     "handles: UniqueArc::leak",
     "persistent: TreeMap::keys",
     "interner: Interner::with_capacity_and_hasher",
     "cascade: declared_by",
     "cascade: Style::declare",
     "cascade: styles_in_two",
-    "scripts: each_text_has_its_lines",
-    "uses: turned",
     "uses: labels_again",
     "uses: numbers_again",
     "uses: all_handles_cross_threads",

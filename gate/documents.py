@@ -141,7 +141,9 @@ def call_lines(name):
     for row in table(name):
         calls.setdefault((row["workload"], row["call"]), []).append(row)
         sizes.append(f"{int(row['items']):,}")
-    return [" ".join(dict.fromkeys(sizes)), *map(call_line, calls.values())]
+    columns = ["ns", *(column for column in row if column.startswith("/"))]
+    head = "  ".join(["".join(f"{column:>6}" for column in columns)] * len(set(sizes)))
+    return [" ".join(dict.fromkeys(sizes)), f"{'':<15}{head}", *map(call_line, calls.values())]
 
 
 def wrong_speed():

@@ -66,7 +66,7 @@ what_is_refused() {
 
 in_the_copy() {
     local told printed refused
-    told=$(sed -n 's/.*first_example && rt try *# prints `\([^`]*\)`.*/\1/p' README.md)
+    told=$(sed -n 's/.*first_example && rt try)* *# prints `\([^`]*\)`.*/\1/p' README.md)
     printed=$(cd "$new/crates/first_example" && rt try 2>&1 | head -1)
     holds "what the first example prints" same "$printed" "${told:-what README says}"
     holds "the toolchain that README names, by $(rt version)" grep -qF "\`$(rt version)\`" README.md

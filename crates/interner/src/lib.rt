@@ -1,12 +1,11 @@
 //! Interning: an `Interner` keeps equal values in one block, and numbers them.
 #![tactic(auto)]
 
+mod asked;
 mod compare;
 mod error;
-mod index;
 mod iter;
 mod query;
-mod store;
 mod symbol;
 mod table;
 #[cfg(test)]

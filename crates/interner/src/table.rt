@@ -187,8 +187,7 @@ impl<T: Eq + Hash + Drop, S: BuildHasher> Interner<T, S> {
         match self.place_of(query)? {
             Some(symbol) => Ok(symbol),
             None => {
-                let value = query.make(alloc, self.blocks.as_slice())?;
-                let block = Arc::try_new(alloc, value)?;
+                let block = made(query, alloc, self.values())?;
                 self.add(block)
             }
         }
@@ -220,4 +219,17 @@ impl<T: Eq + Hash + Drop, S: BuildHasher> Interner<T, S> {
         let (index, _) = self.blocks.insert_full(value)?;
         Ok(Symbol::of(index as u32))
     }
+}
+
+// The block of a value that the query makes.
+fn made<T: Eq + Hash + Drop, Q: Make<T>>(
+    query: Q,
+    alloc: Global,
+    values: &[Arc<T>],
+) -> Result<Arc<T>, InternError>
+    ensures stands { IfOk result (λ value. IsTrue (Q.stands_for query value)) }
+    ensures made { IfOk result (Q.makes query values.now) }
+    ensures memory { IfErr result (λ refusal. refusal ≡ InternError.Memory) }
+{
+    Ok(Arc::try_new(alloc, query.make(alloc, values)?)?)
 }

@@ -1,7 +1,4 @@
-use Rattle.std.proofs.Common.{◌≡◌, true, false, is_some, ap, sym, ◌∙◌, subst}
-use Rattle.std.proofs.lemmas.Result.{IfOk-weaker}
-use Rattle.std.specs.List.{list_any}
-use Rattle.interner.specs.Symbols.{IsInterned}
+use Rattle.std.proofs.Common.{◌≡◌, true, is_some, ap, sym, ◌∙◌}
 use Rattle.interner.proofs.Symbols.{any_of_form, found_there}
 use Rattle.interner.proofs.table.Interner.intern_by.Goals as goal
 
@@ -9,10 +6,9 @@ pub add-requires-clause-new : goal.add-requires-clause-new
 add-requires-clause-new g c =
     let pass = g.Q.Query.stands_for c.args.query in
     let equal = λ (x y : g.row.T.Denot) (e : pass x ≡ true). (g.met.Q.Query.is_form c.args.query x e).equal y in
-    let values = c.args.self.now in
-    subst (λ v. list_any (g.T.PartialEq.eq v) values ≡ false) (sym c.in_ok-block-in-None.ensures.made)
-    (sym (any_of_form g.met.T.Eq.laws pass equal c.in_ok-value-in-None.value c.in_ok-value-in-None.ensures.stands values)
-    ∙ c.in_ok-symbol.ensures.any ∙ ap is_some c.in-None.is)
+    let made = c.in_ok-block-in-None in
+    sym (any_of_form g.met.T.Eq.laws pass equal made.block made.ensures.stands c.args.self.now)
+    ∙ c.in_ok-symbol.ensures.any ∙ ap is_some c.in-None.is
 
 pub returns-in-Some-clause-interned : goal.returns-in-Some-clause-interned
 returns-in-Some-clause-interned g c =

@@ -1,7 +1,7 @@
 //! A query for a value, as a query for its block.
 use crate::query::Query;
-use indexmap::Equivalent;
 use handles::arc::Arc;
+use indexmap::Equivalent;
 use std::hash::Hash;
 
 #[derive(Clone, Copy, PartialEq, Eq, Hash)]

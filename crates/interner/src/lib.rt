@@ -8,8 +8,6 @@ mod iter;
 mod query;
 mod symbol;
 mod table;
-#[cfg(test)]
-mod tests;
 
 pub use error::InternError;
 pub use iter::Iter;

@@ -7,5 +7,6 @@ mod random_sequences;
 mod roses;
 mod sequences;
 mod styles;
+mod symbols;
 mod tree_changes;
 mod tree_copies;

@@ -175,7 +175,7 @@ impl<T: Eq + Hash + Drop, S: BuildHasher> Interner<T, S> {
     /// The same, of the value that the query stands for, as `intern_by(alloc, "text")` where the values are `String`s.
     /// If none is there, the query makes it.
     ///
-    /// The query is hashed, once, and no value is. Of a value that is there nothing is made.
+    /// The query is hashed, and a new value once more. Of a value that is there nothing is made.
     pub fn intern_by<Q: Make<T>>(&mut self, alloc: Global, query: Q) -> Result<Symbol, InternError>
         ensures interned { IfOk result (IsFoundOrMade T.eq (Q.stands_for query) (Q.makes query self.old)
             self.old self.new) }

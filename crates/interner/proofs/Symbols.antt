@@ -89,12 +89,6 @@ module _ {T : Type 0} {eq : T → T → Bool} (laws : IsEquivalence eq) where
     pub known : (s : ℕ) → symbol_of eq old value ≡ Some s → IsInterned eq old value old s
     known s is = interned old s (grind (arith, is, any_by_place (eq value) old)) (grind (arith, is))
 
-    -- a new value gets the next symbol
-    pub added : (new : List T) (s : ℕ) → list_any (eq value) old ≡ false → new ≡ old ++ value ∷ [] → s ≡ length old
-        → IsInterned eq old value new s
-    added new s none is at = interned new s (grind (arith, none, is))
-        (grind (arith, none, at, any_by_place (eq value) old, prefix_len-le-length (λ x. not (eq value x)) old))
-
 -- a test that passes what equals one value
 module _ {T : Type 0} {eq : T → T → Bool} (laws : IsEquivalence eq) (pass : T → Bool)
     (equal : (x y : T) → pass x ≡ true → pass y ≡ eq x y) where

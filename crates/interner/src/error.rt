@@ -11,7 +11,7 @@ pub enum InternError {
     /// There are 2^32 values, and no more symbols.
     #[error("no symbol is left")]
     Full,
-    /// Memory for the block of the value or for its entry was refused.
+    /// Memory for the block of the value or for its entry was refused, or the table has 9 · 2^28 entries, its most.
     #[error("out of memory")]
     Memory,
 }

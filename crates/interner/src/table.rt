@@ -1,24 +1,21 @@
 //! The interner.
 ghost use Rattle.std.specs.Prelude.{◌≡◌, ◌<◌, ◌≤◌, ◌^◌, ◌↔◌, [], false, length, position, slice_get};
-ghost use Rattle.std.specs.Prelude.{Err, IfOk, IsOk, IsTrue, OnErr};
+ghost use Rattle.std.specs.Prelude.{Err, IfErr, IfNone, IfOk, IsOk, IsTrue, OnErr, is_some};
 ghost use Rattle.std.specs.List.{IsDistinct, enumerate_from, list_any};
 ghost use Rattle.std.specs.Option.{SomeIff, option_copied};
 ghost use Rattle.interner.specs.Made.{IsFoundOrMade};
 ghost use Rattle.interner.specs.Symbols.{IsInterned};
 
+use crate::asked::Asked;
 use crate::error::InternError;
-use crate::index::Index;
 use crate::iter::Iter;
 use crate::query::{Make, Query};
-use crate::store::{Place, Store};
 use crate::symbol::Symbol;
 use handles::arc::Arc;
+use indexmap::IndexSet;
 use std::alloc::{AllocError, Global};
 use std::hash::{BuildHasher, BuildHasherDefault, FoldHasher, Hash};
 use std::marker::Model;
-
-// As many values as there are symbols.
-const MOST: usize = 1 << 32;
 
 /// Values of which no two are equal, each in one block under its symbol.
 ///
@@ -29,21 +26,17 @@ const MOST: usize = 1 << 32;
 /// `RandomState` for those of a stranger. What the interner answers does not depend on it.
 #[derive(Drop)]
 pub struct Interner<T: Eq + Hash, S: BuildHasher = BuildHasherDefault<FoldHasher>> {
-    store: Store<T, S>,
+    blocks: IndexSet<Arc<T>, S>,
 }
 
 impl<T: Eq + Hash, S: BuildHasher> Model for Interner<T, S> {
-    ghost use Rattle.std.specs.Prelude.{List};
-    ghost use Rattle.interner.specs.Hashes.{hash};
-    ghost use Rattle.interner.specs.Indexed.{IsIndexed};
+    ghost use Rattle.std.specs.Prelude.{◌≤◌, ◌^◌, List, length};
 
     ghost Value = { List T };
 
-    ghost view = { λ i. i.store.values.items };
+    ghost view = { λ i. i.blocks.keys };
 
-    ghost invariant = { λ i. IsIndexed T.eq
-        (λ v. hash S.BuildHasher S.Hasher.Hasher i.store.hasher (T.hash_input v))
-        i.store.values.items i.store.index.hashes };
+    ghost invariant = { λ i. length i.blocks.keys ≤ 2 ^ 32 };
 }
 
 impl<T: Eq + Hash> Interner<T, BuildHasherDefault<FoldHasher>> {
@@ -68,11 +61,7 @@ impl<T: Eq + Hash, S: BuildHasher> Interner<T, S> {
         ensures { result ≡ [] }
     {
         Interner {
-            store: Store {
-                values: Vec::new(alloc),
-                index: Index::new(alloc),
-                hasher,
-            },
+            blocks: IndexSet::with_hasher(alloc, hasher),
         }
     }
 
@@ -86,15 +75,8 @@ impl<T: Eq + Hash, S: BuildHasher> Interner<T, S> {
         S: Drop,
         ensures { IfOk result (λ interner. interner ≡ []) }
     {
-        let capacity = capacity.min(MOST);
-        let index = Index::with_room(alloc, capacity)?;
-        let values = Vec::with_capacity(alloc, capacity)?;
         Ok(Interner {
-            store: Store {
-                values,
-                index,
-                hasher,
-            },
+            blocks: IndexSet::with_capacity_and_hasher(alloc, capacity, hasher)?,
         })
     }
 
@@ -103,14 +85,14 @@ impl<T: Eq + Hash, S: BuildHasher> Interner<T, S> {
         ensures len { result ≡ length self.now }
         ensures distinct { IsDistinct T.eq self.now }
     {
-        self.store.values.len()
+        self.blocks.len()
     }
 
     /// Whether there are no values.
     pub fn is_empty(&self) -> bool
         ensures { IsTrue result ↔ (self.now ≡ []) }
     {
-        self.store.values.is_empty()
+        self.blocks.is_empty()
     }
 
     /// The symbol of the value that the query stands for, as `find(&value)`, or `find("text")` where the values are
@@ -118,7 +100,8 @@ impl<T: Eq + Hash, S: BuildHasher> Interner<T, S> {
     pub fn find<Q: Query<T>>(&self, query: Q) -> Option<Symbol>
         ensures { result ≡ position (Q.stands_for query) self.now }
     {
-        self.store.find(query)
+        let index = self.blocks.get_index_of(Asked(query))?;
+        Some(Symbol::of(index as u32))
     }
 
     /// The value of the symbol, in its block. There is none if the symbol is of another interner that has more values.
@@ -126,14 +109,14 @@ impl<T: Eq + Hash, S: BuildHasher> Interner<T, S> {
     pub fn get(&self, symbol: Symbol) -> Option<&Arc<T>>
         ensures { option_copied result ≡ slice_get self.now symbol }
     {
-        self.store.values.get(symbol.index())
+        self.blocks.get_index(symbol.index())
     }
 
     /// The symbol of that number, as `Symbol::index` gives it.
     pub fn symbol(&self, number: usize) -> Option<Symbol>
         ensures { SomeIff result (number < length self.now) number }
     {
-        if number < self.store.values.len() {
+        if number < self.blocks.len() {
             Some(Symbol::of(number as u32))
         } else {
             None
@@ -144,14 +127,14 @@ impl<T: Eq + Hash, S: BuildHasher> Interner<T, S> {
     pub fn values(&self) -> &[Arc<T>]
         ensures { result.now ≡ self.now }
     {
-        self.store.values.as_slice()
+        self.blocks.as_slice()
     }
 
     /// An iterator over the values with their symbols, in the order of these.
     pub fn iter(&self) -> Iter<'_, T>
         ensures { result ≡ enumerate_from 0 self.now }
     {
-        Iter::over(self.store.values.as_slice())
+        Iter::over(self.blocks.as_slice())
     }
 }
 
@@ -168,9 +151,9 @@ impl<T: Eq + Hash + Drop, S: BuildHasher> Interner<T, S> {
             ↔ (list_any (T.eq value) self.old ≡ false) × (2 ^ 32 ≤ length self.old) }
         ensures refused { OnErr result (self.new ≡ self.old) }
     {
-        match self.store.place_of(&*value)? {
-            Place::Taken(symbol) => Ok(symbol),
-            Place::Free(hash) => self.store.push(value, hash),
+        match self.place_of(&*value)? {
+            Some(symbol) => Ok(symbol),
+            None => self.add(value),
         }
     }
 
@@ -183,19 +166,16 @@ impl<T: Eq + Hash + Drop, S: BuildHasher> Interner<T, S> {
             ↔ (list_any (T.eq value) self.old ≡ false) × (2 ^ 32 ≤ length self.old) }
         ensures refused { OnErr result (self.new ≡ self.old) }
     {
-        match self.store.place_of(&value)? {
-            Place::Taken(symbol) => Ok(symbol),
-            Place::Free(hash) => {
-                let value = Arc::try_new(alloc, value)?;
-                self.store.push(value, hash)
-            }
+        match self.place_of(&value)? {
+            Some(symbol) => Ok(symbol),
+            None => self.add(Arc::try_new(alloc, value)?),
         }
     }
 
     /// The same, of the value that the query stands for, as `intern_by(alloc, "text")` where the values are `String`s.
     /// If none is there, the query makes it.
     ///
-    /// The query is hashed, once, and no value is. Of a value that is there nothing is made.
+    /// The query is hashed, and a new value once more. Of a value that is there nothing is made.
     pub fn intern_by<Q: Make<T>>(&mut self, alloc: Global, query: Q) -> Result<Symbol, InternError>
         ensures interned { IfOk result (IsFoundOrMade T.eq (Q.stands_for query) (Q.makes query self.old)
             self.old self.new) }
@@ -204,13 +184,52 @@ impl<T: Eq + Hash + Drop, S: BuildHasher> Interner<T, S> {
             ↔ (list_any (Q.stands_for query) self.old ≡ false) × (2 ^ 32 ≤ length self.old) }
         ensures refused { OnErr result (self.new ≡ self.old) }
     {
-        match self.store.place_of(query)? {
-            Place::Taken(symbol) => Ok(symbol),
-            Place::Free(hash) => {
-                let value = query.make(alloc, self.store.values.as_slice())?;
-                let block = Arc::try_new(alloc, value)?;
-                self.store.push(block, hash)
+        match self.place_of(query)? {
+            Some(symbol) => Ok(symbol),
+            None => {
+                let block = made(query, alloc, self.values())?;
+                self.add(block)
             }
         }
     }
+
+    // The symbol of the query's value, if that is there. If it is not, there is a symbol left for it.
+    #[tactic(auto, using(crate::proofs::Symbols::any_by_position))]
+    fn place_of<Q: Query<T>>(&self, query: Q) -> Result<Option<Symbol>, InternError>
+        ensures place { IfOk result (λ place. place ≡ position (Q.stands_for query) self.now) }
+        ensures any { IfOk result (λ place. list_any (Q.stands_for query) self.now ≡ is_some place) }
+        ensures few { IfOk result (λ place. IfNone place (length self.now < 2 ^ 32)) }
+        ensures full { IfErr result (λ refusal. (refusal ≡ InternError.Full)
+            × (list_any (Q.stands_for query) self.now ≡ false) × (2 ^ 32 ≤ length self.now)) }
+    {
+        match self.find(query) {
+            None if self.blocks.len() > u32::MAX as usize => Err(InternError::Full),
+            place => Ok(place),
+        }
+    }
+
+    // Adds a value that is not there.
+    fn add(&mut self, value: Arc<T>) -> Result<Symbol, InternError>
+        requires new { list_any (T.eq value) self.old ≡ false }
+        requires few { length self.old < 2 ^ 32 }
+        ensures interned { IfOk result (IsInterned T.eq self.old value self.new) }
+        ensures refused { OnErr result (self.new ≡ self.old) }
+        ensures memory { IfErr result (λ refusal. refusal ≡ InternError.Memory) }
+    {
+        let (index, _) = self.blocks.insert_full(value)?;
+        Ok(Symbol::of(index as u32))
+    }
+}
+
+// The block of a value that the query makes.
+fn made<T: Eq + Hash + Drop, Q: Make<T>>(
+    query: Q,
+    alloc: Global,
+    values: &[Arc<T>],
+) -> Result<Arc<T>, InternError>
+    ensures stands { IfOk result (λ value. IsTrue (Q.stands_for query value)) }
+    ensures made { IfOk result (Q.makes query values.now) }
+    ensures memory { IfErr result (λ refusal. refusal ≡ InternError.Memory) }
+{
+    Ok(Arc::try_new(alloc, query.make(alloc, values)?)?)
 }

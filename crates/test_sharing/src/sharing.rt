@@ -9,5 +9,6 @@ mod random_sequences;
 mod roses;
 mod sequences;
 mod styles;
+mod symbols;
 mod tree_changes;
 mod tree_copies;

@@ -14,6 +14,7 @@ pub mod list_with_undo;
 pub mod published;
 pub mod read_back;
 pub mod recursive;
+pub mod symbols;
 pub mod text_style;
 pub mod two_threads;
 pub mod two_versions;

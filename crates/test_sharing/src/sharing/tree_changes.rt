@@ -1,6 +1,4 @@
 //! What a change of a version copies and keeps.
-use crate::made::arc_of;
-use interner::Interner;
 use persistent::TreeMap;
 use std::process::Abort;
 use testing::counted::{Counted, Tally};
@@ -77,17 +75,4 @@ fn what_was_undone_ends_with_the_next_change(rt: HostRuntime) {
     let changed = tally.read();
     drop(versions);
     same!(&rt, (changed, tally.read()), ((0, 1), (0, 3)));
-}
-
-// The second value is equal, and is dropped. An interner has the only handle of each of its blocks.
-#[test]
-fn an_interner_keeps_one_of_equal_values(rt: HostRuntime) {
-    let value = arc_of(&rt, 7u64);
-    let mut interner = Interner::new(rt.alloc());
-    for _ in 0..2 {
-        ok!(&rt, interner.intern(rt.alloc(), again!(&rt, &value)));
-    }
-    let is_alone = interner.values().iter().all(|kept| kept.is_unique());
-    drop(interner);
-    same!(&rt, [is_alone, value.is_unique()], [true; 2]);
 }

@@ -1,5 +1,6 @@
 //! The callers of the documentation, called: what they share, and on which threads.
 use cow_table::CowTable;
+use interner::Interner;
 use persistent::{List, TreeMap};
 use servo_arc::{Arc, UniqueArc};
 use testing::{again, holds, ok, same};
@@ -7,6 +8,7 @@ use uses::crossing::{end_elsewhere, is_unique_elsewhere, len_elsewhere, made_els
 use uses::dynamic::{Codec, encoded, shared};
 use uses::edits::{Article, two_titles};
 use uses::list_with_undo::set_and_note;
+use uses::symbols::are_equal;
 use uses::text_style::{
     TextStyle, plain_and_bold, plain_style, properties, properties_of, put_under, rule_of, size_of,
     style_or, styled,
@@ -96,6 +98,14 @@ fn callers_make_both_versions(rt: HostRuntime) {
     let mut map = TreeMap::new();
     let read = before_and_after(rt.alloc(), &mut map, 3, 5).is_ok();
     same!(&rt, [two_lists(rt.alloc()).is_ok(), read], [true; 2]);
+}
+
+#[test]
+fn numbers_are_compared_by_their_symbols(rt: HostRuntime) {
+    let mut numbers = Interner::new(rt.alloc());
+    let equal = ok!(&rt, are_equal(&mut numbers, rt.alloc(), 7u64, 7));
+    let other = ok!(&rt, are_equal(&mut numbers, rt.alloc(), 7, 9));
+    same!(&rt, [equal, other], [true, false]);
 }
 
 #[derive(Drop)]

@@ -1,13 +1,13 @@
 //! A caller that compares values by their symbols.
 ghost use Rattle.std.specs.Prelude.{◌≡◌, IfOk};
 
-use crate::{InternError, Interner};
+use interner::{InternError, Interner};
 use std::alloc::Global;
 use std::hash::Hash;
 
 /// Whether two values are equal, asked of their symbols.
-#[tactic(auto, using(crate::proofs::Symbols::equal_symbols))]
-pub(super) fn are_equal<T: Eq + Hash + Drop>(
+#[tactic(auto, using(interner::proofs::Symbols::equal_symbols))]
+pub fn are_equal<T: Eq + Hash + Drop>(
     interner: &mut Interner<T>,
     alloc: Global,
     a: T,

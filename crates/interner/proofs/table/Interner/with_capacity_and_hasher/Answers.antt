@@ -1,5 +1,0 @@
-use Rattle.interner.proofs.Indexes.{without_values}
-use Rattle.interner.proofs.table.Interner.with_capacity_and_hasher.Goals as goal
-
-pub invariant_of-result : goal.invariant_of-result
-invariant_of-result g c = without_values _ _ _ _ c.in_ok-values.ensures.items c.in_ok-index.ensures.hashes

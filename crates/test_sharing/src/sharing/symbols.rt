@@ -1,0 +1,136 @@
+//! What an interner keeps and ends, and its texts.
+ghost use Rattle.std.specs.Prelude.{◌≡◌};
+
+use crate::made::arc_of;
+use interner::Interner;
+use servo_arc::Arc;
+use std::fmt::Write;
+use std::hash::{BuildHasher, BuildHasherDefault, Hasher, RandomState};
+use std::process::Abort;
+use testing::{again, holds, ok, same, same_at};
+
+#[derive(Clone, Copy, Debug, PartialEq, Eq, Hash)]
+struct Color {
+    red: u8,
+    blue: u8,
+}
+
+const RED: Color = Color { red: 255, blue: 0 };
+
+const BLUE: Color = Color { red: 0, blue: 255 };
+
+/// The worst of hashers: it gives all values one hash.
+#[derive(Clone, Copy, Default)]
+struct OneHash;
+
+impl Hasher for OneHash {
+    ghost write = { λ s _. s };
+
+    ghost finish = { λ _. 7 };
+
+    fn finish(&self) -> u64 {
+        7
+    }
+
+    fn write(&mut self, _bytes: &[u8]) {}
+}
+
+fn check_numbers<S: BuildHasher + Drop>(rt: &(impl Abort + AllocGlobal), hasher: S) {
+    let mut colors = Interner::with_hasher(rt.alloc(), hasher);
+    for (color, number) in [(RED, 0), (BLUE, 1), (RED, 0), (BLUE, 1), (RED, 0)] {
+        let symbol = ok!(rt, colors.intern(rt.alloc(), color));
+        same!(rt, symbol.index(), number);
+    }
+}
+
+// A new color gets the next number, and one that was there has the number that it had: also under random keys, and
+// where all have one hash.
+#[test]
+fn a_color_keeps_its_number_under_each_hasher(rt: HostRuntime) {
+    check_numbers(&rt, ok!(&rt, RandomState::new(&rt)));
+    check_numbers(&rt, BuildHasherDefault::<OneHash>::new());
+}
+
+// Of each of its blocks an interner has the only handle, and can give others.
+#[test]
+fn a_block_of_an_interner_is_cloned(rt: HostRuntime) {
+    let alloc = rt.alloc();
+    let (mut colors, mut lists) = (Interner::new(alloc), Interner::<Vec<u8>>::new(alloc));
+    let red = ok!(&rt, colors.intern(alloc, RED));
+    let list = ok!(&rt, lists.intern_by(alloc, &[1u8, 2][..]));
+    same!(&rt, colors.find(&RED), Some(red));
+    same!(&rt, lists.find(&[1u8, 2][..]), Some(list));
+    holds!(&rt, colors.values().iter().all(|kept| kept.is_unique()));
+    holds!(&rt, lists.values().iter().all(|kept| kept.is_unique()));
+    let red = ok!(&rt, colors.get(red).cloned());
+    let list = ok!(&rt, lists.get(list).cloned());
+    drop((colors, lists));
+    holds!(&rt, red.is_some_and(|color| *color == RED));
+    holds!(
+        &rt,
+        list.is_some_and(|list| list.as_slice() == [1u8, 2].as_slice())
+    );
+}
+
+// The second value is equal, and ends.
+#[test]
+fn an_interner_keeps_one_of_equal_values(rt: HostRuntime) {
+    let value = arc_of(&rt, 7u64);
+    let mut interner = Interner::new(rt.alloc());
+    for _ in 0..2 {
+        ok!(&rt, interner.intern(rt.alloc(), again!(&rt, &value)));
+    }
+    drop(interner);
+    holds!(&rt, value.is_unique());
+}
+
+// Of blocks with equal texts the first is kept, and the given handle of another one ends.
+#[test]
+fn equal_texts_have_one_block(rt: HostRuntime) {
+    let mut names = Interner::new(rt.alloc());
+    for (text, is_new) in [
+        ("first", true),
+        ("other", true),
+        ("first", false),
+        ("first", false),
+        ("other", false),
+    ] {
+        let given = arc_of(&rt, ok!(&rt, String::from_str(rt.alloc(), text)));
+        let symbol = ok!(&rt, names.intern_arc(again!(&rt, &given)));
+        let is_kept = names
+            .get(symbol)
+            .is_some_and(|kept| Arc::ptr_eq(kept, &given));
+        same_at!(&rt, text, [is_kept, given.is_unique()], [is_new, !is_new]);
+    }
+}
+
+fn named(rt: &(impl Abort + AllocGlobal), texts: &[&str]) -> Interner<String> {
+    let mut names = ok!(rt, Interner::with_capacity(rt.alloc(), 2));
+    for text in texts {
+        ok!(rt, names.intern_by(rt.alloc(), *text));
+    }
+    names
+}
+
+// A text finds a `String`, and has one made where none is there.
+#[test]
+fn a_text_finds_the_string_that_was_made_of_it(rt: HostRuntime) {
+    let names = named(&rt, &["first", "other", "first"]);
+    same!(&rt, names.find("other"), names.symbol(1));
+    same!(&rt, names.symbol(2), None);
+}
+
+#[test]
+fn names_are_read_in_the_order_of_their_symbols(rt: HostRuntime) {
+    let names = named(&rt, &["first", "other", "first"]);
+    let turned = named(&rt, &["other", "first"]);
+    let mut read = String::new(rt.alloc());
+    for (symbol, name) in &names {
+        ok!(&rt, write!(read, "{} {name}, ", symbol.index()));
+    }
+    same!(&rt, read.as_str(), "0 first, 1 other, ");
+    let text = ok!(&rt, format!(in rt.alloc(); "{names:?} {names:#?}"));
+    let expected = "[\"first\", \"other\"] [\n    \"first\",\n    \"other\",\n]";
+    same!(&rt, text.as_str(), expected);
+    same!(&rt, [names == names, names == turned], [true, false]);
+}

@@ -49,7 +49,7 @@ LC_ALL=C sort "$folder/runs" | uniq -c | awk '
     / refusals::makers::.*kept: [A-Za-z_]+: / && $1 > (/: make_mut: / ? 32 : 1)
     / refusals::counts::.*: refused/ && $1 > 3
     / refusals::steps::.*: refused/ && $1 > (/ owners: |: the set-up/ ? 2 : 1)
-    / refusals::symbols::an_interner_with_room.*: refused/ && $1 > (/: no interner/ ? 3 : 4)
+    / refusals::symbols::an_interner_with_room.*: refused/ && $1 > 4
     / refusals::list_versions::.*: (a page|the list of pages),/ && $1 > (/: a page,/ ? 8 : 4)
     / arcbench .*: refused/ && !/: fault: memory/ && $1 > 1' >"$folder/more"
 refused=$(grep -c ': refused, ' "$folder/runs")

@@ -1,5 +1,5 @@
 //! Pages of memory that are asked for and let go. They measure nothing: in a limited address space the workload ends
-//! without its count if they are kept. A page is 4 KiB of values, so that no two of them lie in one page of the machine.
+//! without its count if they are kept. A page is 4 KiB of values, so that no two of them lie in one page of a machine.
 use servo_arc::{Arc, UniqueArc};
 use std::alloc::Global;
 use std::hint::black_box;

@@ -8,7 +8,7 @@ cd "$(dirname "$0")/.."
 said=$(mktemp)
 trap 'rm -f "$said"' EXIT
 processors=$(nproc) free=$(awk '/^MemAvailable/ { print int($2 / 1000000) }' /proc/meminfo)
-if ((free < 6 * processors)); then
+if ((free < 4 * processors)); then
     export RT_JOBS=$((free / 3 < 1 ? 1 : free / 3 < processors ? free / 3 : processors))
 fi
 echo "proofs: ${RT_JOBS:-as many as rt chooses} at once, on $processors processors with $free GB of free memory"

@@ -2,8 +2,23 @@
 use crate::sharing::tree_changes::map_of;
 use persistent::{List, TreeMap};
 use sequence::Sequence;
+use std::process::Abort;
 use testing::counted::{Counted, Tally, counted_items};
 use testing::{again, ok, same, same_at};
+
+type Numbers<'a> = Sequence<Counted<'a>>;
+
+fn version<'a>(
+    rt: &(impl Abort + AllocGlobal),
+    list: &Numbers<'a>,
+    is_kept: bool,
+) -> Option<Numbers<'a>> {
+    if is_kept {
+        Some(again!(rt, list))
+    } else {
+        None
+    }
+}
 
 // A version is kept before each change, or none. An item that finds no place ends, and a reversed list has copies.
 #[test]
@@ -13,11 +28,11 @@ fn a_list_copies_what_others_have(rt: HostRuntime) {
         let tally = Tally::new();
         let items = counted_items(alloc, &tally, 3).expect(&rt, "three items");
         let mut list = ok!(&rt, Sequence::from_items(alloc, items));
-        let first = is_shared.then(|| again!(&rt, &list));
+        let first = version(&rt, &list, is_shared);
         ok!(&rt, list.push_front(alloc, Counted::new(&tally, 3)));
-        let second = is_shared.then(|| again!(&rt, &list));
+        let second = version(&rt, &list, is_shared);
         drop(ok!(&rt, list.set(alloc, 3, Counted::new(&tally, 4))));
-        let third = is_shared.then(|| again!(&rt, &list));
+        let third = version(&rt, &list, is_shared);
         drop(ok!(&rt, list.set(alloc, 4, Counted::new(&tally, 5))));
         drop(ok!(&rt, list.pop_front(alloc)));
         let items = counted_items(alloc, &tally, 3).expect(&rt, "three items");

@@ -20,7 +20,7 @@ into_a_new_repository() {
     local said names
     mkdir -p "$home" "$wanted" "$new/.git"
     tar -c --exclude=out crates crates.txt copy_crates LICENSE HANDLES | tar -x -C "$home"
-    tar -c --exclude=out --exclude=must-fail crates | tar -x -C "$wanted"
+    tar -c --exclude={out,must-fail} crates | tar -x -C "$wanted"
     mkdir "$home/crates/uses/out" && touch "$home/crates/uses/out/built" && cp -r "$home" "$tree/before"
     said=$("$home/copy_crates" "$new" first_example uses) && names=$(crates_of "$new")
     holds "what it says that it copied" same "$(tr ' ' '\n' <<<"${said##*: }" | sort | xargs)" "$names"

@@ -1,5 +1,5 @@
 -- What a try to make one more handle came to.
-use Rattle.std.specs.Prelude.{◌≡◌, ℕ, ◌+◌, ◌⊎◌, Bool, List, [], Option, None, false}
+use Rattle.std.specs.Prelude.{◌≡◌, ℕ, ◌+◌, ◌⊎◌, Bool, [], Option, None, false}
 use Rattle.counting_word.specs.CountingWord.{IsWithin, is_marked_word}
 use Rattle.counting_word.specs.Plans.{clone_plan}
 use Rattle.counting_word.specs.Rights.{right_by_read}

@@ -7,5 +7,6 @@ mod block;
 pub mod borrow;
 pub mod header_slice;
 mod limit;
+pub mod place;
 pub mod static_arc;
 pub mod unique;

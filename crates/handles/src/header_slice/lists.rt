@@ -5,7 +5,6 @@ ghost use Rattle.handles.specs.Copies.{CopiesAreEqual};
 
 use super::HeaderSlice;
 use crate::arc::Arc;
-use crate::unique::UniqueArc;
 use std::alloc::{AllocError, Global};
 
 impl<H: Drop, T: Copy> Arc<HeaderSlice<H, T>> {
@@ -19,7 +18,9 @@ impl<H: Drop, T: Copy> Arc<HeaderSlice<H, T>> {
     ) -> Result<Arc<HeaderSlice<H, T>>, AllocError>
         ensures { IfOk result (λ slice. slice ≡ record { header = header; items = items.now }) }
     {
-        UniqueArc::from_header_and_slice(alloc, header, items).map(UniqueArc::shareable)
+        // The iterator gives as many items as it says, so that only memory is refused.
+        let slice = Arc::from_header_and_iter(alloc, header, items.iter().copied());
+        slice.map_err(AllocError::from)
     }
 }
 
@@ -38,7 +39,7 @@ impl<H: Drop, T: Clone> Arc<HeaderSlice<H, T>> {
         ensures if_clones_equal { IfOk result (λ slice. CopiesAreEqual T.is_clone
             → slice ≡ record { header = header; items = items.now }) }
     {
-        UniqueArc::from_header_and_clones(alloc, header, items).map(UniqueArc::shareable)
+        Arc::try_from_header_and_iter(alloc, header, items.iter().map(T::clone))
     }
 }
 
@@ -54,50 +55,6 @@ impl<H: Drop, T: Drop> Arc<HeaderSlice<H, T>> {
     ) -> Result<Arc<HeaderSlice<H, T>>, AllocError>
         ensures { IfOk result (λ slice. slice ≡ record { header = header; items = items.items }) }
     {
-        UniqueArc::from_header_and_vec(alloc, header, items).map(UniqueArc::shareable)
-    }
-}
-
-impl<H: Drop, T: Copy> UniqueArc<HeaderSlice<H, T>> {
-    /// As `Arc::from_header_and_slice`.
-    pub fn from_header_and_slice(
-        alloc: Global,
-        header: H,
-        items: &[T],
-    ) -> Result<UniqueArc<HeaderSlice<H, T>>, AllocError>
-        ensures { IfOk result (λ slice. slice ≡ record { header = header; items = items.now }) }
-    {
-        // The iterator gives as many items as it says, so that only memory is refused.
-        let slice = UniqueArc::from_header_and_iter(alloc, header, items.iter().copied());
-        slice.map_err(AllocError::from)
-    }
-}
-
-impl<H: Drop, T: Clone> UniqueArc<HeaderSlice<H, T>> {
-    /// As `Arc::from_header_and_clones`.
-    pub fn from_header_and_clones(
-        alloc: Global,
-        header: H,
-        items: &[T],
-    ) -> Result<UniqueArc<HeaderSlice<H, T>>, AllocError>
-        ensures header { IfOk result (λ slice. slice.header ≡ header) }
-        ensures clones { IfOk result (λ slice. AllZip T.is_clone items.now slice.items) }
-        ensures if_clones_equal { IfOk result (λ slice. CopiesAreEqual T.is_clone
-            → slice ≡ record { header = header; items = items.now }) }
-    {
-        UniqueArc::try_from_header_and_iter(alloc, header, items.iter().map(T::clone))
-    }
-}
-
-impl<H: Drop, T: Drop> UniqueArc<HeaderSlice<H, T>> {
-    /// As `Arc::from_header_and_vec`.
-    pub fn from_header_and_vec(
-        alloc: Global,
-        header: H,
-        items: Vec<T>,
-    ) -> Result<UniqueArc<HeaderSlice<H, T>>, AllocError>
-        ensures { IfOk result (λ slice. slice ≡ record { header = header; items = items.items }) }
-    {
-        UniqueArc::from_header_and_iter(alloc, header, items.into_iter()).map_err(AllocError::from)
+        Arc::from_header_and_iter(alloc, header, items.into_iter()).map_err(AllocError::from)
     }
 }

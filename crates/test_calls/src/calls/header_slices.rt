@@ -99,7 +99,7 @@ fn swap<H, T>(x: &mut UniqueArc<HeaderSlice<H, T>>, y: &mut UniqueArc<HeaderSlic
 type Unique = UniqueArc<HeaderSlice<u8, u64>>;
 
 fn unique_of(rt: &(impl Abort + AllocGlobal), header: u8, items: &[u64]) -> Unique {
-    let built = UniqueArc::from_header_and_slice(rt.alloc(), header, items);
+    let built = UniqueArc::from_header_and_iter(rt.alloc(), header, items.iter().copied());
     ok!(rt, built)
 }
 

@@ -157,19 +157,17 @@ fn a_refused_builder_asks_for_nothing(rt: HostRuntime) {
     }
 }
 
-// Whether a header slice is made of a slice or a vector, for an `Arc` or for a `UniqueArc`.
+// Whether a header slice is made of a slice or a vector.
 fn is_made<'a>(list: &str, alloc: Global, header: Counted<'a>, items: Vec<Counted<'a>>) -> bool {
     match list {
         "Slice" => Arc::from_header_and_slice(alloc, header, &[7u64; 3]).is_ok(),
-        "SliceUnique" => UniqueArc::from_header_and_slice(alloc, header, &[7u64; 3]).is_ok(),
-        "Vector" => Arc::from_header_and_vec(alloc, header, items).is_ok(),
-        _ => UniqueArc::from_header_and_vec(alloc, header, items).is_ok(),
+        _ => Arc::from_header_and_vec(alloc, header, items).is_ok(),
     }
 }
 
 #[test]
 fn a_refused_list_is_dropped_with_its_header(rt: HostRuntime) {
-    for list in ["Slice", "SliceUnique", "Vector", "VectorUnique"] {
+    for list in ["Slice", "Vector"] {
         let tally = Tally::new();
         let Some(items) = counted_items(rt.alloc(), &tally, 3) else {
             return ok!(&rt, println!(rt; "{list}: no vector"));

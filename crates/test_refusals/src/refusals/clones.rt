@@ -1,6 +1,6 @@
 //! What a header slice of clones leaves, when one of the clones is refused too.
 use crate::refusals::reporting::report;
-use servo_arc::{Arc, UniqueArc};
+use servo_arc::Arc;
 use testing::counted::{Counted, Tally};
 use testing::{ok, same};
 
@@ -12,10 +12,7 @@ fn a_refused_clone_drops_those_before_it(rt: HostRuntime) {
         return report(&rt, "the set-up");
     };
     let lists = [five, six];
-    let are_made = [
-        Arc::from_header_and_clones(alloc, Counted::new(&tally, 9), &lists).is_ok(),
-        UniqueArc::from_header_and_clones(alloc, Counted::new(&tally, 9), &lists).is_ok(),
-    ];
-    ok!(&rt, println!(rt; "{are_made:?}"));
-    same!(&rt, tally.drops(), 2);
+    let is_made = Arc::from_header_and_clones(alloc, Counted::new(&tally, 9), &lists).is_ok();
+    ok!(&rt, println!(rt; "{is_made}"));
+    same!(&rt, tally.drops(), 1);
 }

@@ -1,6 +1,6 @@
 use Rattle.std.proofs.Common.{rules}
 use Rattle.handles.proofs.Builders.Clones.{built_of_clones, built_of_equal}
-use Rattle.handles.proofs.header_slice.lists.UniqueArc+HeaderSlice+H+T.from_header_and_clones.Goals as goal
+use Rattle.handles.proofs.header_slice.lists.Arc+HeaderSlice+H+T.from_header_and_clones.Goals as goal
 
 pub returns-clause-clones : goal.returns-clause-clones
 returns-clause-clones g c =

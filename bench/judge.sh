@@ -1,7 +1,7 @@
 #!/bin/sh
 # judge.sh SOURCE [OPTION..]
 #
-# Builds all that is measured, and measures it: each workload and both scripts, beside each pointer, with a verdict by
+# Builds all that is measured, and measures it: each workload and a script, beside each pointer, with a verdict by
 # goals.tsv, and maps and sequences beside those in Rust. It writes the figures to measured.tsv, maps.tsv and
 # sequences.tsv. SOURCE is the source file of the crate that was ported. The options go to compare.py, as --most 61. It
 # takes some 12 minutes once the crates are proved; BENCH_OUT is where it builds, bench/out if it is not set.
@@ -24,15 +24,12 @@ kit=$(dirname "$(rt doc)")
 echo '.section .text, "axR"; .skip 16' | cc -x assembler -c - -o "$out/skip.o"
 "$kit/bin/rattle-link" --target x86_64-unknown-linux-gnu --toolchain "$kit/toolchain" -o "$out/arcspeed.moved" \
     "$out/skip.o" "$here/../crates/arcspeed/out/arcspeed.o" "$kit/c/libos_c.a" "$kit/c/liblibc_c.a"
-"$here/../arcbench" core 1 </dev/null
-for kind in core table; do
-    "$here/make_script.py" "$kind" 1000000 >"$out/$kind.txt"
-done
+"$here/../arcbench" table 1 </dev/null
+"$here/make_script.py" 1000000 >"$out/table.txt"
 arcbench=$here/../crates/arcbench/out/arcbench
 status=0
 "$here/compare.py" "$out/bench" "$out/arcspeed" --goals "$here/goals.tsv" \
     --table "$here/measured.tsv" \
-    --script core 8 "$out/core.txt" "$out/script" "$arcbench" \
     --script table 1000 "$out/table.txt" "$out/script" "$arcbench" "$@" || status=$?
 for kind in maps sequences; do
     "$here/collections.py" "$kind" "$out/collections" "$out/arcspeed" --table "$here/$kind.tsv" || status=$?

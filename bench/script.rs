@@ -1,36 +1,23 @@
 //! A runner of scripts, to compare the speed of `arcbench` with:
 //!
-//!     script core OWNERS < SCRIPT
 //!     script table SLOTS < SCRIPT
 //!
-//! The core is a plain machine of a word, and the table runs on the pointer of the crate that was ported. It reads the
-//! same lines and prints the same answers as `arcbench`, and goes no further than a comparison needs.
+//! The table runs on the pointer of the crate that was ported. It reads the same lines and prints the same answers as
+//! `arcbench`, and goes no further than a comparison needs.
 
-#[path = "script/machine.rs"]
-mod machine;
 #[path = "script/table.rs"]
 mod table;
 
-use machine::Core;
 use std::env;
 use std::io::{self, Read, Write};
 use std::process::exit;
 use table::Table;
 
 pub enum Answer {
-    Alone,
-    Barred,
-    Born(usize),
     Done,
     Empty,
-    Ended,
-    Full,
-    GivenUp(u32),
     Is(bool),
-    Marked,
     NoSlot,
-    Pending,
-    Quit,
     Shared,
     Value(u32),
 }
@@ -39,20 +26,11 @@ impl Answer {
     #[inline(always)]
     fn print(&self, out: &mut Vec<u8>) {
         match *self {
-            Answer::Alone => print(out, "alone", None),
-            Answer::Barred => print(out, "barred", None),
-            Answer::Born(handle) => print(out, "born ", Some(handle as u64)),
             Answer::Done => print(out, "done", None),
             Answer::Empty => print(out, "empty", None),
-            Answer::Ended => print(out, "ended", None),
-            Answer::Full => print(out, "full", None),
-            Answer::GivenUp(value) => print(out, "given up ", Some(u64::from(value))),
             Answer::Is(true) => print(out, "is true", None),
             Answer::Is(false) => print(out, "is false", None),
-            Answer::Marked => print(out, "marked", None),
             Answer::NoSlot => print(out, "no slot", None),
-            Answer::Pending => print(out, "pending", None),
-            Answer::Quit => print(out, "quit", None),
             Answer::Shared => print(out, "shared", None),
             Answer::Value(value) => print(out, "value ", Some(u64::from(value))),
         }
@@ -62,7 +40,7 @@ impl Answer {
 /// A line's word, its numbers, and how many of them there are.
 pub struct Line<'a> {
     pub word: &'a [u8],
-    pub numbers: [u32; 3],
+    pub numbers: [u32; 2],
     pub count: usize,
 }
 
@@ -73,7 +51,7 @@ impl Line<'_> {
         let word = words.next()?;
         let mut line = Line {
             word,
-            numbers: [0; 3],
+            numbers: [0; 2],
             count: 0,
         };
         for word in words {
@@ -120,18 +98,14 @@ fn push_number(out: &mut Vec<u8>, mut n: u64) {
     out.extend_from_slice(&digits[at..]);
 }
 
-/// Runs the lines, each by `step`; the status.
-fn each_line(
-    input: &[u8],
-    out: &mut Vec<u8>,
-    mut step: impl FnMut(&Line) -> Option<Answer>,
-) -> i32 {
+/// Runs the lines on the table; the status.
+fn each_line(input: &[u8], out: &mut Vec<u8>, table: &mut Table) -> i32 {
     if input.is_empty() {
         return 0;
     }
     let input = input.strip_suffix(b"\n").unwrap_or(input);
     for (k, line) in input.split(|c| *c == b'\n').enumerate() {
-        let Some(answer) = Line::read(line).and_then(|line| step(&line)) else {
+        let Some(answer) = Line::read(line).and_then(|line| table.run(&line)) else {
             print(out, "fault: line ", Some(k as u64 + 1));
             return 2;
         };
@@ -140,30 +114,18 @@ fn each_line(
     0
 }
 
-enum Machine {
-    Core(Core),
-    Table(Table),
-}
-
 fn main() {
     let words: Vec<String> = env::args().skip(1).collect();
     let mut input = Vec::new();
     let mut out = Vec::new();
     let words: Vec<&str> = words.iter().map(|word| word.as_str()).collect();
     let size = words.last().and_then(|word| number(word.as_bytes()));
-    let machine = match (words.as_slice(), size) {
-        (["core", _], Some(owners @ 1..=1000)) => Machine::Core(Core::new(5, owners as usize)),
-        (["table", _], Some(slots @ 0..=1000)) => Machine::Table(Table::new(slots as usize)),
-        _ => {
-            eprintln!("fault: arguments");
-            exit(1);
-        }
+    let (["table", _], Some(slots @ 0..=1000)) = (words.as_slice(), size) else {
+        eprintln!("fault: arguments");
+        exit(1);
     };
     io::stdin().read_to_end(&mut input).unwrap();
-    let status = match machine {
-        Machine::Core(mut core) => each_line(&input, &mut out, |line| core.run(line)),
-        Machine::Table(mut table) => each_line(&input, &mut out, |line| table.run(line)),
-    };
+    let status = each_line(&input, &mut out, &mut Table::new(slots as usize));
     io::stdout().write_all(&out).unwrap();
     exit(status)
 }

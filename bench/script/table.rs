@@ -16,7 +16,7 @@ impl Table {
 
     /// The answer to a line that is valid.
     pub fn run(&mut self, line: &Line) -> Option<Answer> {
-        let [slot, second, _] = line.numbers;
+        let [slot, second] = line.numbers;
         let (i, j) = (slot as usize, second as usize);
         let greatest = match (line.word, line.count) {
             (b"clone" | b"ptreq" | b"same", 2) => i.max(j),

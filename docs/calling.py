@@ -6,8 +6,8 @@ them, functions without a type last.
 First stand the types that are named or that a call takes or returns: what each derives, its variants or public fields,
 and for each head of an impl the calls and traits that it gives. A trait of these folders counts only if it is named.
 Then come the calls: of each type its makers, then those that read it, clone it, write it and use it up. Calls of one
-kind with the same clauses share them. Laws, which take nothing and promise what their names spell, share a line, and so
-do the calls without a clause at the end; a trait's method is told of only if it has clauses of its own.
+kind with the same clauses share them. Laws, which take nothing and promise what their names spell, share a line. The
+calls without a clause stand at the end; a trait's method is told of only if it has clauses of its own.
 
 With --check it writes nothing, and ends with 1 if a block is not up to date, or does not name what it quotes, or if no
 block quotes a crate that docs/TOUR.md names, as in `trees`, or that such a crate names in crates.txt."""
@@ -194,7 +194,7 @@ def calls(folders, order):
     paths = [sorted((CRATES / folder).rglob("*.rt"), key=lambda path: path.with_suffix("").parts) for folder in folders]
     files = [path.read_text() for path in chain(*paths)]
     types = set(re.findall(r"^pub (?:struct|enum|trait) (\w+)", "\n".join(files), re.M))
-    told, laws, silent, heads = [], {}, {}, []
+    told, laws, silent, heads = [], {}, [], []
     for owner, public, lines in (function for file in files for function in functions(file)):
         if not public and not types & set(re.findall(r" for &?(?:'\w+ )?(\w+)", owner)):
             continue
@@ -207,13 +207,13 @@ def calls(folders, order):
         elif clauses:
             told.append((place, use_of(head) if kind else 0, head, clauses))
         elif public:
-            silent.setdefault((place, kind), []).append(re.match(r"\w+", lines[0])[0])
+            silent.append((place, use_of(head) if kind else 0, head))
     yield from types_of(files, order, heads)
     yield from as_lines(told)
     for start, names in laws.items():
         yield from wrap(f"{start}: {', '.join(names)}", COLUMNS, subsequent_indent="  ")
-    rows = (f"{kind}: {', '.join(dict.fromkeys(names))}" for (_, kind), names in sorted(silent.items()))
-    yield from wrap("without a clause: " + "; ".join(rows), COLUMNS, subsequent_indent="  ") if silent else ()
+    yield from ["without a clause:"] * bool(silent)
+    yield from (f"  {head}" for *_, head in sorted(silent, key=lambda call: call[:2]))
 
 
 def toured():

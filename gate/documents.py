@@ -118,7 +118,7 @@ def figures_of(row):
 def call_line(rows):
     """The line for a call of a collection, in one order: the figure and the ratios of each number of items."""
     cells = [(nanoseconds(row["program"]), *(row[name] for name in row if name.startswith("/"))) for row in rows]
-    shown = ("".join(f"{part:>6}" for part in cell) for cell in cells)
+    shown = ("".join(f"{part:>7}" for part in cell) for cell in cells)
     order = rows[0]["workload"].partition("-")[2]
     name = f"{order:<7}{rows[0]['call']}" if order else rows[0]["call"]
     return f"{name:<15}" + "  ".join(shown)
@@ -142,7 +142,7 @@ def call_lines(name):
         calls.setdefault((row["workload"], row["call"]), []).append(row)
         sizes.append(f"{int(row['items']):,}")
     columns = ["ns", *(column for column in row if column.startswith("/"))]
-    head = "  ".join(["".join(f"{column:>6}" for column in columns)] * len(set(sizes)))
+    head = "  ".join(["".join(f"{column:>7}" for column in columns)] * len(set(sizes)))
     return [" ".join(dict.fromkeys(sizes)), f"{'':<15}{head}", *map(call_line, calls.values())]
 
 

@@ -134,7 +134,7 @@ fn remove(list: &mut List, alloc: Global, places: &[u64]) -> Option<u64>
 {
     let mut sum = 0u64;
     for at in 0..CHANGES {
-        let item = list.remove(alloc, place(places, at)).ok()?.unwrap_or(0);
+        let item = list.remove(alloc, place(places, at)).ok()?;
         sum = sum.rotate_left(1).wrapping_add(item);
     }
     Some(sum)
@@ -149,7 +149,7 @@ fn cut<R: Clock + Print>(rt: &R, list: &mut List, alloc: Global, places: &[u64])
     let mut append = 0u128;
     for at in 0..CHANGES {
         let start = Instant::now(rt).ok()?;
-        let rest = list.split_off(alloc, place(places, at)).ok()??;
+        let rest = list.split_off(alloc, place(places, at)).ok()?;
         split = split.wrapping_add(start.elapsed(rt).ok()?.as_nanos());
         let start = Instant::now(rt).ok()?;
         list.append(alloc, rest).ok()?;

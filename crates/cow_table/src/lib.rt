@@ -2,12 +2,14 @@
 #![tactic(auto)]
 
 mod compare;
-mod error;
 pub mod iter;
 mod page_length;
 mod paging;
 mod table;
 
-pub use error::SetError;
+pub use handles::place::PlaceError;
 pub use iter::Iter;
 pub use table::CowTable;
+
+/// What `CowTable::set` is refused with.
+pub type SetError = PlaceError;

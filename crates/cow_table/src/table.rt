@@ -7,10 +7,10 @@ ghost use types.Logic.{sem};
 ghost use Rattle.handles.specs.Copies.{CopiesAreEqual};
 ghost use Rattle.cow_table.specs.Lending.{LendsPage};
 
-use crate::error::SetError;
 use crate::page_length::PageLength;
 use crate::paging::in_pages;
 use handles::arc::Arc;
+use handles::place::PlaceError;
 use std::alloc::{AllocError, Global};
 use std::marker::Model;
 use std::ops::Index;
@@ -142,16 +142,16 @@ impl<T> CowTable<T> {
     /// It is only for types whose copies are the same value, and so not for `String` or `Vec`, whose copy has another
     /// buffer.
     #[tactic(auto, using(crate::proofs::Places::writing))]
-    pub fn set(&mut self, alloc: Global, i: usize, value: T) -> Result<(), SetError>
+    pub fn set(&mut self, alloc: Global, i: usize, value: T) -> Result<(), PlaceError>
     where
         T: Clone,
         requires copies { CopiesAreEqual T.is_clone }
         ensures ok { OnOk result (self.new ≡ slice_set self.old i value) }
-        ensures no_place { (result ≡ Err SetError.NoPlace) ↔ (length self.old ≤ i) }
+        ensures no_place { (result ≡ Err PlaceError.NoPlace) ↔ (length self.old ≤ i) }
         ensures err { OnErr result (self.new ≡ self.old) }
     {
         if i >= self.len {
-            return Err(SetError::NoPlace);
+            return Err(PlaceError::NoPlace);
         }
         let (page, place) = self.page_length.locate(i);
         let items = own_page(&mut self.pages, alloc, page)?;

@@ -1,6 +1,6 @@
 -- A map after the list changed the entry of a number.
-use Rattle.std.proofs.Common.{◌≡◌, ℕ, List, set, ap, sym, ◌∙◌, subst, cond, refl}
-use Rattle.std.specs.Prelude.{Result, Ok, Err, Option, None, Some, IfNone, IfOk, IfSome, IsOk, OnErr, OnOk, slice_get}
+use Rattle.std.proofs.Common.{◌≡◌, ℕ, List, set, ap, sym, ◌∙◌, subst, cond}
+use Rattle.std.specs.Prelude.{Result, Ok, Err, None, Some, IfOk, OnErr, OnOk}
 use Rattle.std.specs.Borrow.{MutBor}
 use Rattle.std.specs.Fn.{FnOnceReturnsAtMut, Once}
 use Rattle.std.specs.Ordering.{is_eq}
@@ -17,28 +17,26 @@ use Rattle.persistent.proofs.Under.{found_there, with_found}
 
 module _ {K V : Type 0} (cmp : K → K → Ordering) (q : K) (es new : List (K × V)) where
   -- what a map answers whose value under the key is replaced by v
-  pub record IsReplaced {E : Type 0} (v : V) (r : Result (Option V) E) : Type 0 where
+  pub record IsReplaced {E : Type 0} (v : V) (r : Result V E) : Type 0 where
     pub rising : IsRising cmp new
-    pub value : IfOk r (λ old. old ≡ lookup cmp q es)
+    pub value : IfOk r (λ old. Some old ≡ lookup cmp q es)
     pub entries : OnOk r (new ≡ with_entry cmp q v es)
     pub changes : OnOk r ((k : K) → lookup cmp k new ≡ cond (is_eq (cmp k q)) (Some v) (lookup cmp k es))
 
   -- and one in which it is changed by a call
   pub record IsModified {F A E : Type 0} (g : Once F (MutBor V × Unit {0}) (A × (MutBor V × Unit {0}))) (f : F)
-      (r : Result (Option A) E) : Type 0 where
+      (r : Result A E) : Type 0 where
     pub rising : IsRising cmp new
-    pub absent : IfOk r (λ answer. IfNone answer ((lookup cmp q es ≡ None) × (new ≡ es)))
-    pub changed : IfOk r (λ answer. IfSome answer (ChangesValue g f cmp q es new))
-    pub none : lookup cmp q es ≡ None → IsOk r
+    pub changed : IfOk r (ChangesValue g f cmp q es new)
+    pub there : lookup cmp q es ≡ None → ⊥
 
 module _ {K V : Type 0} (cmp : K → K → Ordering) (total : IsTotalOrder cmp) (q : K) (es new : List (K × V)) (i : ℕ)
     (there : IsFound (cmp q) es i) (rises : IsRising cmp es) where
   value : lookup cmp q es ≡ Some there.entry.1
   value = found_there (cmp q) es i there (λ e. e.1)
 
-  -- the entry is there
-  not_none : slice_get es i ≡ None → ⊥
-  not_none none = none-some there.entry (sym none ∙ there.is)
+  there_is : lookup cmp q es ≡ None → ⊥
+  there_is none = none-some there.entry.1 (sym none ∙ value)
 
   -- what each key has after the value under one was written
   changes_with : (v : V) → new ≡ with_entry cmp q v es → (k : K)
@@ -65,10 +63,9 @@ module _ {K V : Type 0} (cmp : K → K → Ordering) (total : IsTotalOrder cmp) 
       (writes : (before after : K × V) (a : V) → FnOnceReturnsAtMut g f before a after
       → (a ≡ before.1) × (after ≡ (before.0, v))) where
     -- a call that puts v in the place of a value
-    pub replaced : (r : Result (Option V) E) → IfOk r (λ a. IfNone a ((slice_get es i ≡ None) × (new ≡ es)))
-        → IfOk r (λ a. IfSome a (ChangesItem g f i es new)) → OnErr r (new ≡ es) → IsReplaced cmp q es new v r
-    replaced (Ok None) absent changed refused = absurd (not_none absent.0)
-    replaced (Ok (Some a)) absent changed refused =
+    pub replaced : (r : Result V E) → IfOk r (ChangesItem g f i es new) → OnErr r (new ≡ es)
+        → IsReplaced cmp q es new v r
+    replaced (Ok a) changed refused =
         let done = writes changed.before changed.after a changed.called in
         let entries : new ≡ with_entry cmp q v es =
         value_is g f a changed (ap (λ (e : K × V). e.0) done.1)
@@ -79,7 +76,7 @@ module _ {K V : Type 0} (cmp : K → K → Ordering) (total : IsTotalOrder cmp) 
           entries = entries;
           changes = changes_with v entries;
         }
-    replaced (Err e) absent changed refused = record {
+    replaced (Err e) changed refused = record {
       rising = subst (IsRising cmp) (sym refused) rises;
       value = tt;
       entries = tt;
@@ -91,16 +88,13 @@ module _ {K V : Type 0} (cmp : K → K → Ordering) (total : IsTotalOrder cmp) 
       (keeps : (before after : K × V) (a : A) → FnOnceReturnsAtMut g f before a after
       → (after.0 ≡ before.0) × FnOnceReturnsAtMut h change before.1 a after.1) where
     -- a call that changes the value alone
-    pub modified : (r : Result (Option A) E) → IfOk r (λ a. IfNone a ((slice_get es i ≡ None) × (new ≡ es)))
-        → IfOk r (λ a. IfSome a (ChangesItem g f i es new)) → OnErr r (new ≡ es)
+    pub modified : (r : Result A E) → IfOk r (ChangesItem g f i es new) → OnErr r (new ≡ es)
         → IsModified cmp q es new h change r
-    modified (Ok None) absent changed refused = absurd (not_none absent.0)
-    modified (Ok (Some a)) absent changed refused =
+    modified (Ok a) changed refused =
         let done = keeps changed.before changed.after a changed.called in
         let entries = value_is g f a changed done.0 in
         record {
           rising = subst (IsRising cmp) (sym entries) (rising_with cmp total q changed.after.1 es rises);
-          absent = tt;
           changed = record {
             before = changed.before.1;
             after = changed.after.1;
@@ -109,11 +103,10 @@ module _ {K V : Type 0} (cmp : K → K → Ordering) (total : IsTotalOrder cmp) 
             entries = entries;
             changes = changes_with changed.after.1 entries;
           };
-          none = λ none. refl;
+          there = there_is;
         }
-    modified (Err e) absent changed refused = record {
+    modified (Err e) changed refused = record {
       rising = subst (IsRising cmp) (sym refused) rises;
-      absent = tt;
       changed = tt;
-      none = λ none. absurd (none-some there.entry.1 (sym none ∙ value));
+      there = there_is;
     }

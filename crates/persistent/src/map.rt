@@ -236,15 +236,21 @@ impl<K: Ord + Clone, V: Clone> TreeMap<K, V> {
     {
         match self.place(key) {
             Err(_) => Ok(None),
-            Ok(at) => self.entries.modify(
-                alloc,
-                at,
-                |entry: &mut (K, V)|
-                    requires { FnOnceTakesAtMut F.FnOnce change entry.old.1 }
-                    ensures key { entry.new.0 ≡ entry.old.0 }
-                    ensures value { FnOnceReturnsAtMut F.FnOnce change entry.old.1 result entry.new.1 }
-                { change(&mut entry.1) },
-            ),
+            Ok(at) => {
+                let changed = self.entries.modify(
+                    alloc,
+                    at,
+                    |entry: &mut (K, V)|
+                        requires { FnOnceTakesAtMut F.FnOnce change entry.old.1 }
+                        ensures key { entry.new.0 ≡ entry.old.0 }
+                        ensures value { FnOnceReturnsAtMut F.FnOnce change entry.old.1 result entry.new.1 }
+                    { change(&mut entry.1) },
+                );
+                let Ok(answer) = changed else {
+                    return Err(AllocError);
+                };
+                Ok(Some(answer))
+            }
         }
     }
 }

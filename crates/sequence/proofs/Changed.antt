@@ -1,12 +1,10 @@
 -- A branch after an item was changed under one of its children.
-use Rattle.std.proofs.Common.{◌≡◌, ◌+◌, ◌-◌, ◌<◌, ◌≤◌, ◌^◌, ℕ, zero, suc, List, [], ◌∷◌, length, take, drop}
+use Rattle.std.proofs.Common.{◌≡◌, ◌+◌, ◌-◌, ◌<◌, ◌≤◌, ◌^◌, ℕ, List, [], ◌∷◌, length, take, drop}
 use Rattle.std.proofs.Common.{get_or, set, ap, sym, ◌∙◌}
 use Rattle.std.proofs.Common.{subst, arith, length-set, refl}
-use Rattle.std.specs.Prelude.{Option, None, Some, Result, Ok, Err, IfNone, IfOk, IfSome, OnErr, OnOk, slice_get}
+use Rattle.std.specs.Prelude.{Some, Result, Ok, Err, IfOk, OnErr, slice_get}
 use Rattle.std.specs.Borrow.{MutBor}
-use Rattle.std.specs.Fn.{FnOnceReturnsAtMut, Once}
-use Rattle.std.proofs.lemmas.List.{set_past}
-use Rattle.std.proofs.lemmas.Option.{none-some}
+use Rattle.std.specs.Fn.{Once}
 use Rattle.sequence.specs.Changes.{ChangesItem, KeepsLabel}
 use Rattle.sequence.specs.declared.tree.search.Spot.{Spot}
 use Rattle.sequence.specs.Spots.{Leads}
@@ -113,23 +111,3 @@ module _ {T L : Type 0} {label_of : T → L} (tree : List T × ℕ) (cs : List (
   changed_at g change new r changed level refused keeps =
       changed_under tree cs spot.child d are same leads.within is at (spot.place - 1) spot_place spot_inside g change
       new r changed level refused (λ before here. keeps before (item_at ∙ here))
-
-module _ {T : Type 0} where
-  -- a number without an item is past the end
-  past_end : (xs : List T) (i : ℕ) → slice_get xs i ≡ None → length xs ≤ i
-  past_end [] i h = omega arith
-  past_end (x ∷ xs) zero h = absurd (none-some x (sym h))
-  past_end (x ∷ xs) (suc i) h = omega (arith, past_end xs i h)
-
-  -- a change that always leaves that item writes it, if there is such a number
-  pub written : {F R E : Type 0} (g : Once F (MutBor T × Unit {0}) (R × (MutBor T × Unit {0}))) (change : F)
-      (old new : List T) (at : ℕ) (item : T) (r : Result (Option R) E)
-      → IfOk r (λ a. IfNone a ((slice_get old at ≡ None) × (new ≡ old)))
-      → IfOk r (λ a. IfSome a (ChangesItem g change at old new))
-      → ((before after : T) (a : R) → FnOnceReturnsAtMut g change before a after → after ≡ item)
-      → OnOk r (new ≡ set old at item)
-  written g change old new at item (Ok None) absent changed writes =
-      absent.1 ∙ sym (set_past old at item (past_end old at absent.0))
-  written g change old new at item (Ok (Some a)) absent changed writes =
-      changed.items ∙ ap (set old at) (writes changed.before changed.after a changed.called)
-  written g change old new at item (Err e) absent changed writes = tt

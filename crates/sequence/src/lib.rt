@@ -3,7 +3,6 @@
 
 mod compare;
 mod cut;
-mod error;
 mod iter;
 mod label;
 mod put;
@@ -11,7 +10,7 @@ mod sequence;
 mod tree;
 
 pub use cut::{Cut, Seek};
-pub use error::InsertError;
+pub use handles::place::PlaceError;
 pub use iter::Iter;
 pub use label::{Label, NewLabel, Unlabelled};
 pub use put::Put;

@@ -1,6 +1,6 @@
 //! A list by number, whose versions share their nodes.
-ghost use Rattle.std.specs.Prelude.{◌≡◌, ◌+◌, ◌-◌, ◌^◌, ◌<◌, ◌≤◌, ◌↔◌, ◌∷◌, [], Err, IfOk, IfSome, IfNone, IsOk};
-ghost use Rattle.std.specs.Prelude.{IsTrue, None, OnErr, OnOk, length, slice_get, slice_set};
+ghost use Rattle.std.specs.Prelude.{◌≡◌, ◌+◌, ◌-◌, ◌^◌, ◌<◌, ◌≤◌, ◌↔◌, ◌∷◌, [], Err, IfOk, IfSome, IsOk};
+ghost use Rattle.std.specs.Prelude.{IsTrue, None, Some, OnErr, OnOk, length, slice_get, slice_set};
 ghost use Rattle.std.specs.Fn.{FnOnceTakesAtMut};
 ghost use Rattle.std.specs.List.{insert, remove};
 ghost use Rattle.std.specs.Option.{ForSome, option_copied};
@@ -14,10 +14,10 @@ mod ends;
 mod parts;
 mod range;
 
-use crate::error::InsertError;
 use crate::label::{Label, NewLabel, Unlabelled};
 use crate::tree::Tree;
 use crate::tree::insert::Piece;
+use handles::place::PlaceError;
 use std::alloc::{AllocError, Global};
 use std::marker::Model;
 use std::mem;
@@ -174,15 +174,15 @@ impl<T: Clone, L: NewLabel<T>> Sequence<T, L> {
     ///
     /// It writes in place, but copies each node on the way that other versions have. A full node on the way becomes two
     /// before, by moves. A number above that is refused before all else.
-    pub fn insert(&mut self, alloc: Global, index: usize, item: T) -> Result<(), InsertError>
+    pub fn insert(&mut self, alloc: Global, index: usize, item: T) -> Result<(), PlaceError>
         requires copies { CopiesAreEqual T.is_clone }
         requires labels { CopiesAreEqual L.is_clone }
         ensures items { OnOk result (self.new ≡ insert self.old index item) }
-        ensures no_place { (result ≡ Err InsertError.NoPlace) ↔ (length self.old < index) }
+        ensures no_place { (result ≡ Err PlaceError.NoPlace) ↔ (length self.old < index) }
         ensures refused { OnErr result (self.new ≡ self.old) }
     {
         if index > self.len() {
-            return Err(InsertError::NoPlace);
+            return Err(PlaceError::NoPlace);
         }
         self.put(alloc, index, item)?;
         Ok(())
@@ -216,76 +216,83 @@ impl<T: Clone, L: NewLabel<T>> Sequence<T, L> {
         }
     }
 
-    /// Takes the item of that number out and gives it, if there is one.
+    /// Takes the item of that number out and gives it.
     ///
     /// It writes in place and copies as `insert` does. A node on the way with few items is joined with the one beside
-    /// it before, by moves. It is refused if there is no memory, or if the `clone` of an item or of a handle is. If
-    /// there is no such item, nothing is copied or refused.
-    pub fn remove(&mut self, alloc: Global, index: usize) -> Result<Option<T>, AllocError>
+    /// it before, by moves. It is refused if there is no memory, or if the `clone` of an item or of a handle is. A
+    /// number without an item is refused before all else.
+    pub fn remove(&mut self, alloc: Global, index: usize) -> Result<T, PlaceError>
         requires copies { CopiesAreEqual T.is_clone }
         requires labels { CopiesAreEqual L.is_clone }
-        ensures item { IfOk result (λ item. item ≡ slice_get self.old index) }
+        ensures item { IfOk result (λ item. slice_get self.old index ≡ Some item) }
         ensures items { OnOk result (self.new ≡ remove self.old index) }
-        ensures none { length self.old ≤ index → IsOk result }
+        ensures no_place { (result ≡ Err PlaceError.NoPlace) ↔ (length self.old ≤ index) }
         ensures refused { OnErr result (self.new ≡ self.old) }
     {
-        if index >= self.len {
-            return Ok(None);
+        if index >= self.len() {
+            return Err(PlaceError::NoPlace);
         }
+        let item = self.take(alloc, index)?;
+        Ok(item)
+    }
+
+    // The same of a number that has an item.
+    fn take(&mut self, alloc: Global, index: usize) -> Result<T, AllocError>
+        requires copies { CopiesAreEqual T.is_clone }
+        requires labels { CopiesAreEqual L.is_clone }
+        requires there { index < length self.old }
+        ensures item { IfOk result (λ item. slice_get self.old index ≡ Some item) }
+        ensures items { OnOk result (self.new ≡ remove self.old index) }
+        ensures refused { OnErr result (self.new ≡ self.old) }
+    {
         let Some(tree) = &mut self.root else {
-            return Ok(None);
+            unreachable!()
         };
         tree.shrink()?;
         if self.len == 1 {
             let item = Tree::take_only(&mut self.root, alloc)?;
             self.len = 0;
-            return Ok(Some(item));
+            return Ok(item);
         }
         let item = tree.remove(alloc, index)?;
         self.len -= 1;
-        Ok(Some(item))
+        Ok(item)
     }
 
-    /// Changes the item of that number, if there is one, and gives what the change answered.
+    /// Changes the item of that number, and gives what the change answered.
     ///
     /// It writes in place, but copies each node on the way that other versions have, and is refused as `remove` is. The
-    /// change is then not called. It is not called either if there is no such item: then nothing is copied or refused.
+    /// change is then not called.
     pub fn modify<R, F: FnOnce(&mut T) -> R>(
         &mut self,
         alloc: Global,
         index: usize,
         change: F,
-    ) -> Result<Option<R>, AllocError>
+    ) -> Result<R, PlaceError>
         requires copies { CopiesAreEqual T.is_clone }
         requires labels { CopiesAreEqual L.is_clone }
         requires callable { ForSome (slice_get self.old index) (FnOnceTakesAtMut F.FnOnce change) }
         requires keeps { ForSome (slice_get self.old index) (KeepsLabel F.FnOnce change L.label_of) }
-        ensures absent { IfOk result (λ answer. IfNone answer
-            ((slice_get self.old index ≡ None) × (self.new ≡ self.old))) }
-        ensures changed { IfOk result (λ answer. IfSome answer
-            (ChangesItem F.FnOnce change index self.old self.new)) }
-        ensures none { length self.old ≤ index → IsOk result }
+        ensures changed { IfOk result (ChangesItem F.FnOnce change index self.old self.new) }
+        ensures no_place { (result ≡ Err PlaceError.NoPlace) ↔ (length self.old ≤ index) }
         ensures refused { OnErr result (self.new ≡ self.old) }
     {
         match &mut self.root {
-            Some(tree) if index < self.len => {
-                let answer = tree.modify(alloc, index, change)?;
-                Ok(Some(answer))
-            }
-            _ => Ok(None),
+            Some(tree) if index < self.len => Ok(tree.modify(alloc, index, change)?),
+            _ => Err(PlaceError::NoPlace),
         }
     }
 
-    /// Puts the item in place of that of the number, which it gives, if there is one. Else the item is dropped.
+    /// Puts the item in place of that of the number, which it gives. If it is refused, the item is dropped.
     ///
     /// It copies and is refused as `modify` is.
-    pub fn set(&mut self, alloc: Global, index: usize, item: T) -> Result<Option<T>, AllocError>
+    pub fn set(&mut self, alloc: Global, index: usize, item: T) -> Result<T, PlaceError>
         requires copies { CopiesAreEqual T.is_clone }
         requires labels { CopiesAreEqual L.is_clone }
         requires keeps { ForSome (slice_get self.old index) (λ old. L.label_of item ≡ L.label_of old) }
-        ensures item { IfOk result (λ old. old ≡ slice_get self.old index) }
+        ensures item { IfOk result (λ old. slice_get self.old index ≡ Some old) }
         ensures items { OnOk result (self.new ≡ slice_set self.old index item) }
-        ensures none { length self.old ≤ index → IsOk result }
+        ensures no_place { (result ≡ Err PlaceError.NoPlace) ↔ (length self.old ≤ index) }
         ensures refused { OnErr result (self.new ≡ self.old) }
     {
         self.modify(alloc, index, |old| mem::replace(old, item))

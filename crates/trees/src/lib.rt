@@ -4,5 +4,6 @@
 mod rose;
 mod undo;
 
-pub use rose::{Rose, RoseError};
+pub use handles::place::PlaceError;
+pub use rose::Rose;
 pub use undo::Undo;

@@ -8,8 +8,7 @@ mod walk;
 
 use handles::arc::Arc;
 use handles::header_slice::ThinArc;
-use std::alloc::{AllocError, AllocFailed, Global};
-use thiserror::Error;
+use std::alloc::{AllocError, Global};
 
 /// A value with the trees below it, in one block. A tree is changed by making another, which shares all branches that
 /// the change left alone. A change and the plain drop go down by a recursion, for which a very deep tree needs much
@@ -20,38 +19,6 @@ use thiserror::Error;
 #[derive(Drop, Debug, PartialEq, Eq)]
 pub struct Rose<V> {
     node: ThinArc<V, Rose<V>>,
-}
-
-/// Why no version was made. The tree stays as it was.
-#[derive(Clone, Copy, Debug, PartialEq, Eq, Error)]
-pub enum RoseError {
-    /// The path leads out of the tree, or the number of the child is too great. No want of memory can hide it.
-    #[error("no such place")]
-    NoSuchPlace,
-    /// There was no memory, or a `clone` was refused.
-    #[error("out of memory")]
-    Memory,
-}
-
-impl From<AllocError> for RoseError {
-    ghost use Rattle.trees.specs.declared.rose.RoseError.TheVariants.{Memory};
-
-    ghost from_gives = { λ _ error. error ≡ Memory };
-
-    fn from(_error: AllocError) -> RoseError {
-        RoseError::Memory
-    }
-}
-
-/// So `?` takes the refusal of a `push` or a maker, and drops what that hands back.
-impl<T: Drop> From<AllocFailed<T>> for RoseError {
-    ghost use Rattle.trees.specs.declared.rose.RoseError.TheVariants.{Memory};
-
-    ghost from_gives = { λ _ error. error ≡ Memory };
-
-    fn from(_refusal: AllocFailed<T>) -> RoseError {
-        RoseError::Memory
-    }
 }
 
 /// One more handle of the same tree: one raise of a count, with no copy and no memory. It is refused as the

@@ -1,10 +1,10 @@
 //! An editor's buffer: a list of lines with undo, whose versions share all lines and nearly all nodes.
-ghost use Rattle.std.specs.Prelude.{◌≡◌, ◌∷◌, ◌++◌, [], ◌↔◌, ◌<◌, Err, IfOk, IfSome, OnErr, OnOk, drop, length, take};
+ghost use Rattle.std.specs.Prelude.{◌≡◌, ◌∷◌, ◌++◌, [], IfOk, OnErr, OnOk, drop, take};
 ghost use Rattle.std.specs.List.{insert};
 
-use sequence::{InsertError, Sequence};
+use sequence::{PlaceError, Sequence};
 use servo_arc::Arc;
-use std::alloc::{AllocError, Global};
+use std::alloc::Global;
 use trees::Undo;
 
 /// Lines behind handles, so that a copy of one equals it.
@@ -16,7 +16,7 @@ pub fn insert_line(
     alloc: Global,
     number: usize,
     line: Arc<String>,
-) -> Result<(), InsertError>
+) -> Result<(), PlaceError>
     ensures inserted { OnOk result (buffer.new.current ≡ insert buffer.old.current number line) }
     ensures kept { OnOk result (buffer.new.before ≡ buffer.old.before ++ buffer.old.current ∷ []) }
     ensures refused { OnErr result (buffer.new ≡ buffer.old) }
@@ -27,19 +27,16 @@ pub fn insert_line(
     Ok(())
 }
 
-/// The lines with those from the number on before the others, if there is such a number.
+/// The lines with those from the number on before the others.
 pub fn turned(
     lines: &Sequence<Arc<String>>,
     alloc: Global,
     number: usize,
-) -> Result<Option<Sequence<Arc<String>>>, AllocError>
-    ensures { IfOk result (λ turned. IfSome turned
-        (λ all. all ≡ drop number lines.now ++ take number lines.now)) }
+) -> Result<Sequence<Arc<String>>, PlaceError>
+    ensures { IfOk result (λ all. all ≡ drop number lines.now ++ take number lines.now) }
 {
     let mut front: Sequence<Arc<String>> = lines.clone()?;
-    let Some(mut all) = front.split_off(alloc, number)? else {
-        return Ok(None);
-    };
+    let mut all = front.split_off(alloc, number)?;
     all.append(alloc, front)?;
-    Ok(Some(all))
+    Ok(all)
 }

@@ -1,15 +1,15 @@
 //! A document with undo: a tree of named parts. A change makes a version, which shares all parts that it left alone.
-ghost use Rattle.std.specs.Prelude.{◌≡◌, ◌↔◌, ◌∷◌, ◌++◌, [], Err, None, Some, IfOk, OnErr, OnOk, map};
+ghost use Rattle.std.specs.Prelude.{◌≡◌, ◌↔◌, ◌∷◌, ◌++◌, [], Err, None, Some, IfOk, OnErr, OnOk, insert, map};
 ghost use Rattle.cascade.specs.Cascade.{style_of};
 ghost use Rattle.uses.specs.Documents.{edited, renamed, restyled};
-ghost use Rattle.trees.specs.Roses.{preorder};
-ghost use Rattle.trees.specs.declared.rose.RoseError.TheVariants.{NoSuchPlace};
+ghost use Rattle.trees.specs.Roses.{preorder, values_below};
+ghost use Rattle.handles.specs.declared.place.PlaceError.TheVariants.{NoPlace};
 
 use cascade::{Element, Inline, Style, StyleCache};
 use interner::InternError;
 use servo_arc::Arc;
 use std::alloc::{AllocError, Global};
-use trees::{Rose, RoseError, Undo};
+use trees::{PlaceError, Rose, Undo};
 
 /// What stands at a place of a document. The name is text behind an `Arc`: a copy has the same text, by contract, and
 /// takes no memory.
@@ -52,14 +52,14 @@ pub fn apply(
     alloc: Global,
     path: &[usize],
     edit: Edit,
-) -> Result<(), RoseError>
+) -> Result<(), PlaceError>
     ensures edited { OnOk result (
         Some document.new.current ≡ edited edit path.now document.old.current) }
     ensures kept { OnOk result (
         document.new.before ≡ document.old.before ++ document.old.current ∷ []) }
     ensures none_undone { OnOk result (document.new.undone ≡ []) }
     ensures refused { OnErr result (document.new ≡ document.old) }
-    ensures nowhere { (result ≡ Err NoSuchPlace)
+    ensures no_place { (result ≡ Err NoPlace)
         ↔ (edited edit path.now document.old.current ≡ None) }
 {
     let next = edited(alloc, document.current(), path, edit)?;
@@ -72,9 +72,9 @@ fn edited(
     tree: &Rose<Part>,
     path: &[usize],
     edit: Edit,
-) -> Result<Rose<Part>, RoseError>
+) -> Result<Rose<Part>, PlaceError>
     ensures made { IfOk result (λ new. Some new ≡ edited edit path.now tree.now) }
-    ensures nowhere { (result ≡ Err NoSuchPlace) ↔ (edited edit path.now tree.now ≡ None) }
+    ensures no_place { (result ≡ Err NoPlace) ↔ (edited edit path.now tree.now ≡ None) }
 {
     match edit {
         Edit::Rename(name) => renamed(alloc, tree, path, name),
@@ -90,11 +90,11 @@ fn renamed(
     tree: &Rose<Part>,
     path: &[usize],
     name: Arc<String>,
-) -> Result<Rose<Part>, RoseError>
+) -> Result<Rose<Part>, PlaceError>
     ensures made { IfOk result (λ new. Some new ≡ renamed name path.now tree.now) }
-    ensures nowhere { (result ≡ Err NoSuchPlace) ↔ (renamed name path.now tree.now ≡ None) }
+    ensures no_place { (result ≡ Err NoPlace) ↔ (renamed name path.now tree.now ≡ None) }
 {
-    let place = tree.at(path).ok_or(RoseError::NoSuchPlace)?;
+    let place = tree.at(path).ok_or(PlaceError::NoPlace)?;
     let element = place.value().element.clone()?;
     tree.with_value(alloc, path, Part { name, element })
 }
@@ -105,15 +105,29 @@ fn restyled(
     tree: &Rose<Part>,
     path: &[usize],
     inline: Arc<Inline>,
-) -> Result<Rose<Part>, RoseError>
+) -> Result<Rose<Part>, PlaceError>
     ensures made { IfOk result (λ new. Some new ≡ restyled inline path.now tree.now) }
-    ensures nowhere { (result ≡ Err NoSuchPlace) ↔ (restyled inline path.now tree.now ≡ None) }
+    ensures no_place { (result ≡ Err NoPlace) ↔ (restyled inline path.now tree.now ≡ None) }
 {
-    let place = tree.at(path).ok_or(RoseError::NoSuchPlace)?;
+    let place = tree.at(path).ok_or(PlaceError::NoPlace)?;
     let part = place.value();
     let name = part.name.clone()?;
     let element = part.element.with_inline(inline)?;
     tree.with_value(alloc, path, Part { name, element })
+}
+
+/// The document with one more part right below its root, which gets that number. The parts from there on get the next.
+#[tactic(auto, using(trees::proofs::Branches::below))]
+pub fn with_part(
+    tree: &Rose<Part>,
+    alloc: Global,
+    number: usize,
+    part: Part,
+) -> Result<Rose<Part>, PlaceError>
+    ensures parts { IfOk result (λ new. values_below new ≡ insert (values_below tree.now) number part) }
+{
+    let part = Rose::leaf(alloc, part)?;
+    tree.with_inserted(alloc, &[], number, part)
 }
 
 /// The styles of the parts, each before those below it. What an edit left alone keeps the style that it had.

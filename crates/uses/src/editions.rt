@@ -3,7 +3,7 @@ ghost use Rattle.std.specs.Prelude.{◌≡◌, IsTrue, Some, slice_get};
 ghost use Rattle.std.specs.Ordering.{nat_cmp};
 ghost use Rattle.persistent.specs.Maps.{lookup};
 
-use cow_table::{CowTable, SetError};
+use cow_table::{CowTable, PlaceError};
 use crossbeam_channel::{Receiver, Sender};
 use persistent::TreeMap;
 use std::alloc::Global;
@@ -58,7 +58,7 @@ pub fn publish(
     mut items: CowTable<u64>,
     editions: u64,
     readers: &[Sender<Edition, Global>],
-) -> Result<(), SetError> {
+) -> Result<(), PlaceError> {
     let mut map = TreeMap::new();
     for number in 1..=editions {
         items.set(alloc, (number % WRITTEN) as usize, number)?;
@@ -76,7 +76,7 @@ fn numbered(
     map: &TreeMap<u64, u64>,
     alloc: Global,
     number: u64,
-) -> Result<Edition, SetError> {
+) -> Result<Edition, PlaceError> {
     items.set(alloc, 0, number)?;
     let items: CowTable<u64> = items.clone()?;
     let mut map: TreeMap<u64, u64> = map.clone()?;

@@ -44,9 +44,13 @@ impl<K: Ord + Clone, V: Clone> TreeMap<K, V> {
         ensures refused { OnErr result (self.new ≡ self.old) }
     {
         match self.place(&key) {
-            Ok(at) => self
-                .entries
-                .modify(alloc, at, |entry| mem::replace(&mut entry.1, value)),
+            Ok(at) => {
+                let change = |entry: &mut (K, V)| mem::replace(&mut entry.1, value);
+                let Ok(old) = self.entries.modify(alloc, at, change) else {
+                    return Err(AllocError);
+                };
+                Ok(Some(old))
+            }
             Err(at) => {
                 let Ok(()) = self.entries.insert(alloc, at, (key, value)) else {
                     return Err(AllocError);
@@ -72,8 +76,8 @@ impl<K: Ord + Clone, V: Clone> TreeMap<K, V> {
         let Ok(at) = self.place(key) else {
             return Ok(None);
         };
-        let Some((_, value)) = self.entries.remove(alloc, at)? else {
-            unreachable!()
+        let Ok((_, value)) = self.entries.remove(alloc, at) else {
+            return Err(AllocError);
         };
         Ok(Some(value))
     }

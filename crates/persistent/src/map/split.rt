@@ -25,8 +25,8 @@ impl<K: Ord + Clone, V: Clone> TreeMap<K, V> {
         ensures refused { OnErr result (self.new ≡ self.old) }
     {
         let at = self.rank(key);
-        let Some(entries) = self.entries.split_off(alloc, at)? else {
-            unreachable!()
+        let Ok(entries) = self.entries.split_off(alloc, at) else {
+            return Err(AllocError);
         };
         Ok(TreeMap { entries })
     }

@@ -82,7 +82,11 @@ impl<T: Clone, L: NewLabel<T>> Sequence<T, L> {
         ensures none { self.old ≡ [] → IsOk result }
         ensures refused { OnErr result (self.new ≡ self.old) }
     {
-        self.remove(alloc, self.len().saturating_sub(1))
+        let Some(last) = self.len().checked_sub(1) else {
+            return Ok(None);
+        };
+        let item = self.take(alloc, last)?;
+        Ok(Some(item))
     }
 
     /// Takes the first item out and gives it, as `remove` does.
@@ -94,6 +98,10 @@ impl<T: Clone, L: NewLabel<T>> Sequence<T, L> {
         ensures none { self.old ≡ [] → IsOk result }
         ensures refused { OnErr result (self.new ≡ self.old) }
     {
-        self.remove(alloc, 0)
+        if self.is_empty() {
+            return Ok(None);
+        }
+        let item = self.take(alloc, 0)?;
+        Ok(Some(item))
     }
 }

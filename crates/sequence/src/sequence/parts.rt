@@ -1,5 +1,5 @@
 //! Two lists out of one, and one out of two.
-ghost use Rattle.std.specs.Prelude.{◌≡◌, ◌++◌, ◌^◌, ◌<◌, ◌≤◌, ◌↔◌, IfOk, IfSome, None, Ok, OnErr, OnOk};
+ghost use Rattle.std.specs.Prelude.{◌≡◌, ◌++◌, ◌^◌, ◌<◌, ◌≤◌, ◌↔◌, Err, IfOk, OnErr, OnOk};
 ghost use Rattle.std.specs.Prelude.{drop, length, take};
 ghost use Rattle.handles.specs.Copies.{CopiesAreEqual};
 ghost use Rattle.sequence.specs.Nodes.{AreLevel, items_in};
@@ -9,6 +9,7 @@ use crate::sequence::Sequence;
 use crate::tree::copies::{BRANCH, LEAF, copies};
 use crate::tree::search::{count, spot_of};
 use crate::tree::{Child, Node, Tree};
+use handles::place::PlaceError;
 use std::alloc::{AllocError, Global};
 
 impl<T: Clone, L: NewLabel<T>> Sequence<T, L> {
@@ -44,33 +45,29 @@ impl<T: Clone, L: NewLabel<T>> Sequence<T, L> {
         Ok(())
     }
 
-    /// Takes the items from that number on out, into another list. There is none if the number is above that of the
-    /// items; then nothing is copied or refused.
+    /// Takes the items from that number on out, into another list. A number above that of the items is refused before
+    /// all else.
     ///
     /// Both lists are made anew along the cut and share all other nodes with this one: of each node there they copy the
     /// handles of its children, and of one leaf the items. Then their parts are appended to one another, which also
     /// copies leaves of few items beside the cut, to join them.
-    pub fn split_off(
-        &mut self,
-        alloc: Global,
-        at: usize,
-    ) -> Result<Option<Sequence<T, L>>, AllocError>
+    pub fn split_off(&mut self, alloc: Global, at: usize) -> Result<Sequence<T, L>, PlaceError>
         requires copies { CopiesAreEqual T.is_clone }
         requires labels { CopiesAreEqual L.is_clone }
-        ensures out { IfOk result (λ out. IfSome out (λ out. out ≡ drop at self.old)) }
-        ensures none { (result ≡ Ok None) ↔ (length self.old < at) }
+        ensures out { IfOk result (λ out. out ≡ drop at self.old) }
+        ensures no_place { (result ≡ Err PlaceError.NoPlace) ↔ (length self.old < at) }
         ensures rest { OnOk result (self.new ≡ take at self.old) }
         ensures refused { OnErr result (self.new ≡ self.old) }
     {
         if at > self.len() {
-            return Ok(None);
+            return Err(PlaceError::NoPlace);
         }
         let Some(tree) = &self.root else {
-            return Ok(Some(Sequence::empty()));
+            return Ok(Sequence::empty());
         };
         let (front, back) = tree.split(alloc, at)?;
         *self = front;
-        Ok(Some(back))
+        Ok(back)
     }
 
     // The list of copies of these items, which are few enough for a leaf.

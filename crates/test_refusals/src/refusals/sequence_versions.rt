@@ -1,7 +1,7 @@
 //! What a refused call on versions of a sequence drops. What they then are is said by the clauses.
 use self::Change::*;
 use crate::refusals::reporting::report;
-use sequence::{InsertError, Sequence};
+use sequence::{PlaceError, Sequence};
 use std::alloc::{AllocError, Global};
 use std::io::Print;
 use std::process::Abort;
@@ -61,23 +61,23 @@ const CHANGES: [Change; 11] = [
     Append,
 ];
 
-// Whether no memory was refused.
-fn is_changed<'a>(
+fn changed<'a>(
     alloc: Global,
     items: &mut Items<'a>,
     change: Change,
     other: Items<'a>,
     value: Counted<'a>,
-) -> bool {
+) -> Result<(), PlaceError> {
     match change {
-        Insert(at) => items.insert(alloc, at, value) != Err(InsertError::Memory),
-        Push => items.push(alloc, value).is_ok(),
-        Set(at) => items.set(alloc, at, value).is_ok(),
-        Modify(at) => items.modify(alloc, at, |counted| counted.value = 9).is_ok(),
-        Remove(at) => items.remove(alloc, at).is_ok(),
-        SplitOff(at) => items.split_off(alloc, at).is_ok(),
-        Append => items.append(alloc, other).is_ok(),
+        Insert(at) => items.insert(alloc, at, value)?,
+        Push => items.push(alloc, value)?,
+        Set(at) => drop(items.set(alloc, at, value)?),
+        Modify(at) => items.modify(alloc, at, |counted| counted.value = 9)?,
+        Remove(at) => drop(items.remove(alloc, at)?),
+        SplitOff(at) => drop(items.split_off(alloc, at)?),
+        Append => items.append(alloc, other)?,
     }
+    Ok(())
 }
 
 fn check_changes<'a>(
@@ -89,7 +89,8 @@ fn check_changes<'a>(
     for change in CHANGES {
         let (before, mut new) = (tally.living(0), again!(rt, old));
         let value = Counted::new(tally, 9);
-        if !is_changed(rt.alloc(), &mut new, change, again!(rt, other), value) {
+        let changed = changed(rt.alloc(), &mut new, change, again!(rt, other), value);
+        if changed == Err(PlaceError::Memory) {
             ok!(rt, println!(rt; "{change:?}"));
         }
         drop(new);

@@ -33,7 +33,8 @@ fn a_list_copies_what_others_have(rt: HostRuntime) {
         let second = version(&rt, &list, is_shared);
         drop(ok!(&rt, list.set(alloc, 3, Counted::new(&tally, 4))));
         let third = version(&rt, &list, is_shared);
-        drop(ok!(&rt, list.set(alloc, 4, Counted::new(&tally, 5))));
+        let beyond = list.set(alloc, 4, Counted::new(&tally, 5));
+        same_at!(&rt, is_shared, beyond.is_err(), true);
         drop(ok!(&rt, list.pop_front(alloc)));
         let items = counted_items(alloc, &tally, 3).expect(&rt, "three items");
         let other = ok!(&rt, List::from_items(alloc, items));

@@ -1,5 +1,6 @@
 //! Random changes of sequences, beside the same changes of plain lists. Versions are kept, and changed later on.
-use sequence::{InsertError, Sequence};
+use sequence::{PlaceError, Sequence};
+use std::alloc::Global;
 use std::mem::{replace, swap};
 use std::process::Abort;
 use testing::{again, holds_at, ok, same_at};
@@ -38,60 +39,56 @@ fn call_of(bits: u64, is_growing: bool) -> Call {
     }
 }
 
-// What stood there, or stands there once it is flipped. `Err` says that there is no such place.
+// What stood there, or stands there once it is flipped.
 fn in_sequence(
-    rt: &(impl Abort + AllocGlobal),
+    alloc: Global,
     sequence: &mut Sequence<u64>,
     call: Call,
     at: usize,
-) -> Result<Option<u64>, ()> {
-    let alloc = rt.alloc();
-    match call {
-        Call::Insert(item) => match sequence.insert(alloc, at, item) {
-            Err(InsertError::NoPlace) => Err(()),
-            inserted => {
-                ok!(rt, inserted);
-                Ok(None)
-            }
-        },
-        Call::Push(item) => {
-            ok!(rt, sequence.push(alloc, item));
-            Ok(None)
+) -> Result<Option<u64>, PlaceError> {
+    Ok(match call {
+        Call::Insert(item) => {
+            sequence.insert(alloc, at, item)?;
+            None
         }
-        Call::Set(item) => Ok(ok!(rt, sequence.set(alloc, at, item))),
+        Call::Push(item) => {
+            sequence.push(alloc, item)?;
+            None
+        }
+        Call::Set(item) => Some(sequence.set(alloc, at, item)?),
         Call::Flip(bits) => {
             let flipped = sequence.modify(alloc, at, |item| {
                 *item ^= bits;
                 *item
             });
-            Ok(ok!(rt, flipped))
+            Some(flipped?)
         }
-        Call::Remove => Ok(ok!(rt, sequence.remove(alloc, at))),
-        Call::PopFront => Ok(ok!(rt, sequence.pop_front(alloc))),
-    }
+        Call::Remove => Some(sequence.remove(alloc, at)?),
+        Call::PopFront => sequence.pop_front(alloc)?,
+    })
 }
 
-fn in_list(rt: &impl Abort, list: &mut Vec<u64>, call: Call, at: usize) -> Result<Option<u64>, ()> {
+fn in_list(list: &mut Vec<u64>, call: Call, at: usize) -> Result<Option<u64>, PlaceError> {
     let is_there = at < list.len();
-    match call {
-        Call::Insert(_) if at > list.len() => Err(()),
-        Call::Insert(item) => {
-            ok!(rt, list.insert(at, item));
-            Ok(None)
+    Ok(match call {
+        Call::Insert(item) if at <= list.len() => {
+            list.insert(at, item)?;
+            None
         }
         Call::Push(item) => {
-            ok!(rt, list.push(item));
-            Ok(None)
+            list.push(item)?;
+            None
         }
-        Call::Set(item) if is_there => Ok(Some(replace(&mut list[at], item))),
+        Call::Set(item) if is_there => Some(replace(&mut list[at], item)),
         Call::Flip(bits) if is_there => {
             list[at] ^= bits;
-            Ok(Some(list[at]))
+            Some(list[at])
         }
-        Call::Remove if is_there => Ok(Some(list.remove(at))),
-        Call::PopFront if !list.is_empty() => Ok(Some(list.remove(0))),
-        _ => Ok(None),
-    }
+        Call::Remove if is_there => Some(list.remove(at)),
+        Call::PopFront if list.is_empty() => None,
+        Call::PopFront => Some(list.remove(0)),
+        _ => return Err(PlaceError::NoPlace),
+    })
 }
 
 // By each of the ways to read.
@@ -122,9 +119,7 @@ fn by_whole_calls(
     let alloc = rt.alloc();
     let (first, rest) = list.split_at(at.min(list.len()));
     let mut joined = again!(rt, sequence);
-    let Some(back) = ok!(rt, joined.split_off(alloc, first.len())) else {
-        return [false; 4];
-    };
+    let back = ok!(rt, joined.split_off(alloc, first.len()));
     let are_cut = joined.iter().eq(first) && back.iter().eq(rest);
     let mut turned = again!(rt, &back);
     ok!(rt, turned.append(alloc, again!(rt, &joined)));
@@ -153,8 +148,8 @@ fn run(rt: &(impl Abort + AllocGlobal), seed: u64) {
         let call = call_of(bits, step / TURN % 2 == 0);
         // One number above those of the items is asked for too.
         let at = (bits / 16) as usize % (now.1.len() + 2);
-        let found = in_sequence(rt, &mut now.0, call, at);
-        let expected = in_list(rt, &mut now.1, call, at);
+        let found = in_sequence(rt.alloc(), &mut now.0, call, at);
+        let expected = in_list(&mut now.1, call, at);
         same_at!(rt, (seed, step, at), found, expected);
         if step % KEPT == 0 {
             ok!(rt, kept.push((again!(rt, &now.0), again!(rt, &now.1))));

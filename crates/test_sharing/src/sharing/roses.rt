@@ -1,11 +1,10 @@
 //! What rose trees share and drop.
 use crate::made::{check_debug, check_display};
 use interner::InternError;
-use sequence::InsertError;
 use std::process::Abort;
 use testing::counted::{Counted, Tally};
 use testing::{ok, same, same_at};
-use trees::{Rose, RoseError, Undo};
+use trees::{PlaceError, Rose, Undo};
 
 type Tree<'a> = Rose<Counted<'a>>;
 
@@ -101,10 +100,8 @@ fn trees_and_errors_have_their_texts(rt: HostRuntime) {
     let text = "Undo { before: [], current:  7, undone: [] } \
         Undo {\n    before: [],\n    current: 7,\n    undone: [],\n}";
     check_debug(&rt, &Undo::new(rt.alloc(), 7u8), text);
-    check_display(&rt, &InsertError::NoPlace, "no such place");
-    check_display(&rt, &InsertError::Memory, "out of memory");
-    check_display(&rt, &RoseError::NoSuchPlace, "no such place");
-    check_display(&rt, &RoseError::Memory, "out of memory");
+    check_display(&rt, &PlaceError::NoPlace, "no such place");
+    check_display(&rt, &PlaceError::Memory, "out of memory");
     check_display(&rt, &InternError::Full, "no symbol is left");
     check_display(&rt, &InternError::Memory, "out of memory");
 }

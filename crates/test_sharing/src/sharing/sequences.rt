@@ -59,9 +59,7 @@ fn a_lone_sequence_copies_nothing(rt: HostRuntime) {
     for item in 0..ITEMS {
         at = 618_033usize.wrapping_add(at) % sequence.len().max(1);
         let (taken, len) = (ok!(&rt, sequence.remove(rt.alloc(), at)), sequence.len());
-        if let Some(taken) = taken {
-            ok!(&rt, sequence.insert(rt.alloc(), len - at.min(len), taken));
-        }
+        ok!(&rt, sequence.insert(rt.alloc(), len - at.min(len), taken));
         if item % 2 == 0 {
             drop(ok!(&rt, sequence.pop(rt.alloc())));
         }

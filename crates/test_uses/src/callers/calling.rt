@@ -7,7 +7,7 @@ use testing::{again, holds, ok, same};
 use uses::crossing::{end_elsewhere, is_unique_elsewhere, len_elsewhere, made_elsewhere};
 use uses::dynamic::{Codec, encoded, shared};
 use uses::edits::{Article, two_titles};
-use uses::list_with_undo::set_and_note;
+use uses::noted::set_and_note;
 use uses::symbols::are_equal;
 use uses::text_style::{
     TextStyle, plain_and_bold, plain_style, properties, properties_of, put_under, rule_of, size_of,

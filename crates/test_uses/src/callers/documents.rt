@@ -8,8 +8,7 @@ use testing::counted::{Counted, Tally};
 use testing::{ok, same};
 use trees::{Rose, Undo};
 use uses::buffer;
-use uses::documents::{Edit, Part, apply, styles};
-use uses::lines::{insert_line, remove_line, set_line};
+use uses::documents::{Edit, Part, apply, styles, with_part};
 
 // In bytes, enough for some thousands of nodes.
 const SMALL_STACK: usize = 0x4_0000;
@@ -18,10 +17,14 @@ fn name(rt: &(impl Abort + AllocGlobal), text: &str) -> Arc<String> {
     arc_of(rt, ok!(rt, String::from_str(rt.alloc(), text)))
 }
 
-fn leaf(rt: &(impl Abort + AllocGlobal), text: &str) -> Rose<Part> {
+fn part(rt: &(impl Abort + AllocGlobal), text: &str) -> Part {
     let element = ok!(rt, Element::of_rules(rt.alloc(), Vec::new(rt.alloc())));
     let name = name(rt, text);
-    ok!(rt, Rose::leaf(rt.alloc(), Part { name, element }))
+    Part { name, element }
+}
+
+fn leaf(rt: &(impl Abort + AllocGlobal), text: &str) -> Rose<Part> {
+    ok!(rt, Rose::leaf(rt.alloc(), part(rt, text)))
 }
 
 fn large(rt: &(impl Abort + AllocGlobal)) -> Edit {
@@ -53,21 +56,18 @@ fn edits_are_undone_and_done_again(rt: HostRuntime) {
 }
 
 #[test]
-fn lines_are_edited(rt: HostRuntime) {
+fn parts_and_lines_go_in(rt: HostRuntime) {
     let alloc = rt.alloc();
-    let mut lines = Undo::new(alloc, ok!(&rt, Rose::leaf(alloc, name(&rt, "notes"))));
-    for text in ["second", "first"] {
-        ok!(&rt, insert_line(&mut lines, alloc, 0, name(&rt, text)));
-    }
-    ok!(&rt, set_line(&mut lines, alloc, 0, name(&rt, "new")));
-    ok!(&rt, remove_line(&mut lines, alloc, 1));
-    let seen = (lines.current().children().len(), lines.before().len());
-    same!(&rt, seen, (1, 4));
+    let page = ok!(
+        &rt,
+        with_part(&leaf(&rt, "page"), alloc, 0, part(&rt, "title"))
+    );
+    same!(&rt, page.children().len(), 1);
     let mut buffer = Undo::new(alloc, Default::default());
     let first = name(&rt, "first");
     ok!(&rt, buffer::insert_line(&mut buffer, alloc, 0, first));
     let turned = ok!(&rt, buffer::turned(buffer.current(), alloc, 1));
-    same!(&rt, turned.is_some(), true);
+    same!(&rt, turned.len(), 1);
 }
 
 // Two versions are left to go back to, and those before them are gone.

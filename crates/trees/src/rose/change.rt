@@ -4,9 +4,10 @@ ghost use Rattle.handles.specs.Copies.{CopiesAreEqual};
 ghost use Rattle.trees.specs.Changes.{made};
 ghost use Rattle.trees.specs.Roses.{changed_at, children, inserted, removed};
 ghost use Rattle.trees.specs.Roses.{with_child, with_inserted, with_tree, with_value, without};
-ghost use Rattle.trees.specs.declared.rose.RoseError.TheVariants.{NoSuchPlace};
+ghost use Rattle.handles.specs.declared.place.PlaceError.TheVariants.{NoPlace};
 
-use super::{Rose, RoseError};
+use super::Rose;
+use handles::place::PlaceError;
 use std::alloc::{AllocError, Global};
 
 // What is done at the end of a path.
@@ -23,10 +24,10 @@ impl<V: Clone> Rose<V> {
     ///
     /// It makes a node for each on the path, of a copy of its value and of handles of its children, and shares all
     /// other trees. If it is refused, the value is dropped.
-    pub fn with_value(&self, alloc: Global, path: &[usize], value: V) -> Result<Rose<V>, RoseError>
+    pub fn with_value(&self, alloc: Global, path: &[usize], value: V) -> Result<Rose<V>, PlaceError>
         requires copies { CopiesAreEqual V.is_clone }
         ensures made { IfOk result (λ tree. Some tree ≡ with_value path.now value self.now) }
-        ensures nowhere { (result ≡ Err NoSuchPlace) ↔ (with_value path.now value self.now ≡ None) }
+        ensures no_place { (result ≡ Err NoPlace) ↔ (with_value path.now value self.now ≡ None) }
     {
         self.changed_at(alloc, path, Change::Value(value))
     }
@@ -37,10 +38,10 @@ impl<V: Clone> Rose<V> {
         alloc: Global,
         path: &[usize],
         tree: Rose<V>,
-    ) -> Result<Rose<V>, RoseError>
+    ) -> Result<Rose<V>, PlaceError>
         requires copies { CopiesAreEqual V.is_clone }
         ensures made { IfOk result (λ new. Some new ≡ with_tree path.now tree self.now) }
-        ensures nowhere { (result ≡ Err NoSuchPlace) ↔ (with_tree path.now tree self.now ≡ None) }
+        ensures no_place { (result ≡ Err NoPlace) ↔ (with_tree path.now tree self.now ≡ None) }
     {
         self.changed_at(alloc, path, Change::Tree(tree))
     }
@@ -53,10 +54,10 @@ impl<V: Clone> Rose<V> {
         path: &[usize],
         index: usize,
         child: Rose<V>,
-    ) -> Result<Rose<V>, RoseError>
+    ) -> Result<Rose<V>, PlaceError>
         requires copies { CopiesAreEqual V.is_clone }
         ensures made { IfOk result (λ tree. Some tree ≡ with_inserted path.now index child self.now) }
-        ensures nowhere { (result ≡ Err NoSuchPlace)
+        ensures no_place { (result ≡ Err NoPlace)
             ↔ (with_inserted path.now index child self.now ≡ None) }
     {
         self.changed_at(alloc, path, Change::Insert(index, child))
@@ -64,10 +65,15 @@ impl<V: Clone> Rose<V> {
 
     /// The tree without the child of that number at the end of the path. It is refused as `with_value` is, and if there
     /// is no such child.
-    pub fn without(&self, alloc: Global, path: &[usize], index: usize) -> Result<Rose<V>, RoseError>
+    pub fn without(
+        &self,
+        alloc: Global,
+        path: &[usize],
+        index: usize,
+    ) -> Result<Rose<V>, PlaceError>
         requires copies { CopiesAreEqual V.is_clone }
         ensures made { IfOk result (λ tree. Some tree ≡ without path.now index self.now) }
-        ensures nowhere { (result ≡ Err NoSuchPlace) ↔ (without path.now index self.now ≡ None) }
+        ensures no_place { (result ≡ Err NoPlace) ↔ (without path.now index self.now ≡ None) }
     {
         self.changed_at(alloc, path, Change::Remove(index))
     }
@@ -77,24 +83,24 @@ impl<V: Clone> Rose<V> {
         alloc: Global,
         path: &[usize],
         change: Change<V>,
-    ) -> Result<Rose<V>, RoseError>
+    ) -> Result<Rose<V>, PlaceError>
         requires copies { CopiesAreEqual V.is_clone }
         ensures made { IfOk result (λ tree. Some tree ≡ changed_at (made change) path.now self.now) }
-        ensures nowhere { (result ≡ Err NoSuchPlace)
+        ensures no_place { (result ≡ Err NoPlace)
             ↔ (changed_at (made change) path.now self.now ≡ None) }
     {
         let Some((index, rest)) = path.split_first() else {
             return self.changed(alloc, change);
         };
-        let child = self.child(*index).ok_or(RoseError::NoSuchPlace)?;
+        let child = self.child(*index).ok_or(PlaceError::NoPlace)?;
         let child = child.changed_at(alloc, rest, change)?;
         Ok(self.with_child(alloc, *index, child)?)
     }
 
-    fn changed(&self, alloc: Global, change: Change<V>) -> Result<Rose<V>, RoseError>
+    fn changed(&self, alloc: Global, change: Change<V>) -> Result<Rose<V>, PlaceError>
         requires copies { CopiesAreEqual V.is_clone }
         ensures made { IfOk result (λ tree. Some tree ≡ made change self.now) }
-        ensures nowhere { (result ≡ Err NoSuchPlace) ↔ (made change self.now ≡ None) }
+        ensures no_place { (result ≡ Err NoPlace) ↔ (made change self.now ≡ None) }
     {
         match change {
             Change::Value(value) => {
@@ -107,26 +113,26 @@ impl<V: Clone> Rose<V> {
         }
     }
 
-    fn inserted(&self, alloc: Global, index: usize, child: Rose<V>) -> Result<Rose<V>, RoseError>
+    fn inserted(&self, alloc: Global, index: usize, child: Rose<V>) -> Result<Rose<V>, PlaceError>
         requires copies { CopiesAreEqual V.is_clone }
         ensures made { IfOk result (λ tree. Some tree ≡ inserted index child self.now) }
-        ensures nowhere { (result ≡ Err NoSuchPlace) ↔ (inserted index child self.now ≡ None) }
+        ensures no_place { (result ≡ Err NoPlace) ↔ (inserted index child self.now ≡ None) }
     {
         if self.children().len() < index {
-            return Err(RoseError::NoSuchPlace);
+            return Err(PlaceError::NoPlace);
         }
         let mut children = self.children().to_vec(alloc)?;
         children.insert(index, child)?;
         Ok(Rose::with_children(alloc, self.value().clone()?, children)?)
     }
 
-    fn removed(&self, alloc: Global, index: usize) -> Result<Rose<V>, RoseError>
+    fn removed(&self, alloc: Global, index: usize) -> Result<Rose<V>, PlaceError>
         requires copies { CopiesAreEqual V.is_clone }
         ensures made { IfOk result (λ tree. Some tree ≡ removed index self.now) }
-        ensures nowhere { (result ≡ Err NoSuchPlace) ↔ (removed index self.now ≡ None) }
+        ensures no_place { (result ≡ Err NoPlace) ↔ (removed index self.now ≡ None) }
     {
         if self.children().len() <= index {
-            return Err(RoseError::NoSuchPlace);
+            return Err(PlaceError::NoPlace);
         }
         let mut children = self.children().to_vec(alloc)?;
         children.remove(index);

@@ -7,11 +7,11 @@ use Rattle.persistent.proofs.Changed.{IsReplaced, replaced}
 use Rattle.persistent.proofs.Rising.{rising_with}
 use Rattle.persistent.proofs.Under.{found_missing, with_missing}
 use Rattle.persistent.proofs.map.TreeMap.insert_by_number.Goals as goal
-use Rattle.persistent.proofs.map.TreeMap.insert_by_number.Goals.{After-drop-key, In-Ok-insert}
+use Rattle.persistent.proofs.map.TreeMap.insert_by_number.Goals.{After-modify, In-Ok-insert}
 use Rattle.persistent.proofs.map.TreeMap.insert_by_number.Given as given
 
 -- what the list made of the value
-done : (g : given.Over) (c : After-drop-key g)
+done : (g : given.Over) (c : After-modify g)
     → IsReplaced g.K.Ord.cmp c.args.key c.args.self.now c.modify.new.self c.args.value c.modify.result
 done g c =
     let cmp = g.K.Ord.cmp in
@@ -20,16 +20,18 @@ done g c =
     let modify = c.modify.ensures in
     subst (λ es. IsReplaced cmp c.args.key es c.modify.new.self c.args.value c.modify.result) c.self.view_is
     (replaced cmp g.met.K.Ord.total c.args.key es c.modify.new.self c.in-Ok.at there c.self.invariant _ _ c.args.value
-    (λ before after a called. search rules) c.modify.result modify.absent modify.changed modify.refused)
+    (λ before after a called. search rules) c.modify.result modify.changed modify.refused)
 
-pub invariant_of-self : goal.invariant_of-self
-invariant_of-self g c = (done g (goal.at.invariant_of-self g c).After-drop-key).rising
+pub invariant_of-self-in-Ok-1 : goal.invariant_of-self-in-Ok-1
+invariant_of-self-in-Ok-1 g c = (done g (goal.at.invariant_of-self-in-Ok-1 g c).After-modify).rising
 
-pub returns-in-Ok-clause-value : goal.returns-in-Ok-clause-value
-returns-in-Ok-clause-value g c = (done g (goal.at.returns-in-Ok-clause-value g c).After-drop-key).value
+pub returns-in-Ok-modify-clause-value : goal.returns-in-Ok-modify-clause-value
+returns-in-Ok-modify-clause-value g c =
+    rw c.in-Ok-modify.is at (done g (goal.at.returns-in-Ok-modify-clause-value g c).After-modify).value
 
-pub returns-in-Ok-clause-entries : goal.returns-in-Ok-clause-entries
-returns-in-Ok-clause-entries g c = (done g (goal.at.returns-in-Ok-clause-entries g c).After-drop-key).entries
+pub returns-in-Ok-modify-clause-entries : goal.returns-in-Ok-modify-clause-entries
+returns-in-Ok-modify-clause-entries g c =
+    rw c.in-Ok-modify.is at (done g (goal.at.returns-in-Ok-modify-clause-entries g c).After-modify).entries
 
 -- what the list made of the new entry
 put : (g : given.Over) (c : In-Ok-insert g)

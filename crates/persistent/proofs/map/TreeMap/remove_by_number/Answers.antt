@@ -8,7 +8,7 @@ use Rattle.persistent.proofs.Rising.{rising_without}
 use Rattle.persistent.proofs.Under.{found_missing, found_there, without_found, without_missing}
 use Rattle.persistent.proofs.map.TreeMap.remove_by_number.Given as given
 use Rattle.persistent.proofs.map.TreeMap.remove_by_number.Goals as goal
-use Rattle.persistent.proofs.map.TreeMap.remove_by_number.Goals.{In_ok-value}
+use Rattle.persistent.proofs.map.TreeMap.remove_by_number.Goals.{In-Ok-remove}
 
 pub returns-in_default-clause-value : goal.returns-in_default-clause-value
 returns-in_default-clause-value g c =
@@ -20,40 +20,36 @@ returns-in_default-clause-entries g c =
     sym (without_missing (g.Q.Query.order c.args.key) c.args.self.now c.in_default.field-0
     c.in_default.ensures.place)
 
-pub returns-in_err-value-clause-none : goal.returns-in_err-value-clause-none
-returns-in_err-value-clause-none g c none =
+pub returns-in_default-remove-clause-none : goal.returns-in_default-remove-clause-none
+returns-in_default-remove-clause-none g c none =
     let there = c.in-Ok.ensures.place in
     absurd (none-some there.entry.1
     (sym none ∙ found_there (g.Q.Query.order c.args.key) c.args.self.now c.in-Ok.at there (λ e. e.1)))
 
 -- what the list gave is the entry of the key
-there : (g : given.Over) (c : In_ok-value g)
-    → c.in_ok-value.field-0 ≡ Some c.in-Ok.ensures.place.entry
+there : (g : given.Over) (c : In-Ok-remove g)
+    → Some (c.in-Ok-remove.field-0-0, c.in-Ok-remove.value) ≡ Some c.in-Ok.ensures.place.entry
 there g c =
-    c.in_ok-value.ensures.item ∙ ap (λ es. slice_get es c.in-Ok.at) c.self.view_is ∙ c.in-Ok.ensures.place.is
-
-pub unreachable-requires : goal.unreachable-requires
-unreachable-requires g c =
-    none-some c.in-Ok.ensures.place.entry
-    (sym c.in_default-2.is ∙ there g (goal.at.unreachable-requires g c).In_ok-value)
+    sym c.in-Ok-remove.ensures.item ∙ ap (λ es. slice_get es c.in-Ok.at) c.self.view_is
+    ∙ c.in-Ok.ensures.place.is
 
 -- what the list has left is the map without it
-left : (g : given.Over) (c : In_ok-value g)
+left : (g : given.Over) (c : In-Ok-remove g)
     → c.remove.new.self ≡ without_by (g.Q.Query.order c.args.key) c.args.self.now
 left g c =
-    c.in_ok-value.ensures.items ∙ ap (λ es. remove es c.in-Ok.at) c.self.view_is
+    c.in-Ok-remove.ensures.items ∙ ap (λ es. remove es c.in-Ok.at) c.self.view_is
     ∙ sym (without_found (g.Q.Query.order c.args.key) c.args.self.now c.in-Ok.at c.in-Ok.ensures.place)
 
 pub invariant_of-self-2 : goal.invariant_of-self-2
 invariant_of-self-2 g c =
     let cmp = g.K.Ord.cmp in
-    subst (IsRising cmp) (sym (left g (goal.at.invariant_of-self-2 g c).In_ok-value))
+    subst (IsRising cmp) (sym (left g (goal.at.invariant_of-self-2 g c).In-Ok-remove))
     (rising_without cmp (g.Q.Query.order c.args.key) c.args.self.now c.in-Ok.ensures.rising)
 
 pub returns-clause-value : goal.returns-clause-value
 returns-clause-value g c =
-    ap (option_map (λ e. e.1)) (sym c.in-Some.is ∙ there g (goal.at.returns-clause-value g c).In_ok-value)
+    ap (option_map (λ e. e.1)) (there g (goal.at.returns-clause-value g c).In-Ok-remove)
     ∙ sym (found_there (g.Q.Query.order c.args.key) c.args.self.now c.in-Ok.at c.in-Ok.ensures.place (λ e. e.1))
 
 pub returns-clause-entries : goal.returns-clause-entries
-returns-clause-entries g c = left g (goal.at.returns-clause-entries g c).In_ok-value
+returns-clause-entries g c = left g (goal.at.returns-clause-entries g c).In-Ok-remove

@@ -7,11 +7,10 @@ pub invariant_of-result : goal.invariant_of-result
 invariant_of-result g c =
     let cmp = g.K.Ord.cmp in
     let at = c.rank-at.result in
-    let out = rw c.in-Some.is at c.in_ok-entries.ensures.out in
-    subst (IsRising cmp) (sym out) (rising_drop cmp at c.self.inside.entries c.self.invariant)
+    subst (IsRising cmp) (sym c.in-Ok.ensures.out) (rising_drop cmp at c.self.inside.entries c.self.invariant)
 
 pub invariant_of-self-2 : goal.invariant_of-self-2
 invariant_of-self-2 g c =
     let cmp = g.K.Ord.cmp in
     let at = c.rank-at.result in
-    subst (IsRising cmp) (sym c.in_ok-entries.ensures.rest) (rising_take cmp at c.self.inside.entries c.self.invariant)
+    subst (IsRising cmp) (sym c.in-Ok.ensures.rest) (rising_take cmp at c.self.inside.entries c.self.invariant)

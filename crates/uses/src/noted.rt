@@ -1,0 +1,23 @@
+//! A list and a vector that are changed together, with one error for both.
+ghost use Rattle.std.specs.Prelude.{◌≡◌, ◌≤◌, ◌↔◌, ◌∷◌, ◌++◌, [], Err, OnOk, length, slice_set};
+ghost use Rattle.handles.specs.declared.place.PlaceError.TheVariants.{NoPlace};
+
+use cow_table::{CowTable, PlaceError};
+use std::alloc::Global;
+
+/// Sets an item, and notes its place. A refused `push` becomes the error by `?`, and the clause knows which.
+pub fn set_and_note(
+    list: &mut CowTable<u32>,
+    places: &mut Vec<usize>,
+    alloc: Global,
+    i: usize,
+    value: u32,
+) -> Result<(), PlaceError>
+    ensures set { OnOk result (list.new ≡ slice_set list.old i value) }
+    ensures noted { OnOk result (places.new.items ≡ places.old.items ++ i ∷ []) }
+    ensures no_place { (result ≡ Err NoPlace) ↔ (length list.old ≤ i) }
+{
+    list.set(alloc, i, value)?;
+    places.push(i)?;
+    Ok(())
+}

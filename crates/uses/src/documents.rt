@@ -3,7 +3,6 @@ ghost use Rattle.std.specs.Prelude.{◌≡◌, ◌↔◌, ◌∷◌, ◌++◌, [
 ghost use Rattle.cascade.specs.Cascade.{style_of};
 ghost use Rattle.uses.specs.Documents.{edited, renamed, restyled};
 ghost use Rattle.trees.specs.Roses.{preorder, values_below};
-ghost use Rattle.handles.specs.declared.place.PlaceError.TheVariants.{NoPlace};
 
 use cascade::{Element, Inline, Style, StyleCache};
 use interner::InternError;
@@ -59,7 +58,7 @@ pub fn apply(
         document.new.before ≡ document.old.before ++ document.old.current ∷ []) }
     ensures none_undone { OnOk result (document.new.undone ≡ []) }
     ensures refused { OnErr result (document.new ≡ document.old) }
-    ensures no_place { (result ≡ Err NoPlace)
+    ensures no_place { (result ≡ Err PlaceError.NoPlace)
         ↔ (edited edit path.now document.old.current ≡ None) }
 {
     let next = edited(alloc, document.current(), path, edit)?;
@@ -74,7 +73,7 @@ fn edited(
     edit: Edit,
 ) -> Result<Rose<Part>, PlaceError>
     ensures made { IfOk result (λ new. Some new ≡ edited edit path.now tree.now) }
-    ensures no_place { (result ≡ Err NoPlace) ↔ (edited edit path.now tree.now ≡ None) }
+    ensures no_place { (result ≡ Err PlaceError.NoPlace) ↔ (edited edit path.now tree.now ≡ None) }
 {
     match edit {
         Edit::Rename(name) => renamed(alloc, tree, path, name),
@@ -92,7 +91,7 @@ fn renamed(
     name: Arc<String>,
 ) -> Result<Rose<Part>, PlaceError>
     ensures made { IfOk result (λ new. Some new ≡ renamed name path.now tree.now) }
-    ensures no_place { (result ≡ Err NoPlace) ↔ (renamed name path.now tree.now ≡ None) }
+    ensures no_place { (result ≡ Err PlaceError.NoPlace) ↔ (renamed name path.now tree.now ≡ None) }
 {
     let place = tree.at(path).ok_or(PlaceError::NoPlace)?;
     let element = place.value().element.clone()?;
@@ -107,7 +106,7 @@ fn restyled(
     inline: Arc<Inline>,
 ) -> Result<Rose<Part>, PlaceError>
     ensures made { IfOk result (λ new. Some new ≡ restyled inline path.now tree.now) }
-    ensures no_place { (result ≡ Err NoPlace) ↔ (restyled inline path.now tree.now ≡ None) }
+    ensures no_place { (result ≡ Err PlaceError.NoPlace) ↔ (restyled inline path.now tree.now ≡ None) }
 {
     let place = tree.at(path).ok_or(PlaceError::NoPlace)?;
     let part = place.value();

@@ -1,6 +1,5 @@
 //! A list and a vector that are changed together, with one error for both.
 ghost use Rattle.std.specs.Prelude.{◌≡◌, ◌≤◌, ◌↔◌, ◌∷◌, ◌++◌, [], Err, OnOk, length, slice_set};
-ghost use Rattle.handles.specs.declared.place.PlaceError.TheVariants.{NoPlace};
 
 use cow_table::{CowTable, PlaceError};
 use std::alloc::Global;
@@ -15,7 +14,7 @@ pub fn set_and_note(
 ) -> Result<(), PlaceError>
     ensures set { OnOk result (list.new ≡ slice_set list.old i value) }
     ensures noted { OnOk result (places.new.items ≡ places.old.items ++ i ∷ []) }
-    ensures no_place { (result ≡ Err NoPlace) ↔ (length list.old ≤ i) }
+    ensures no_place { (result ≡ Err PlaceError.NoPlace) ↔ (length list.old ≤ i) }
 {
     list.set(alloc, i, value)?;
     places.push(i)?;

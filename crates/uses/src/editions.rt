@@ -4,10 +4,12 @@ ghost use Rattle.std.specs.Ordering.{nat_cmp};
 ghost use Rattle.persistent.specs.Maps.{lookup};
 
 use cow_table::{CowTable, PlaceError};
-use crossbeam_channel::{Receiver, Sender};
+use crossbeam_channel::{Receiver, Sender, unbounded};
 use persistent::TreeMap;
-use std::alloc::Global;
+use std::alloc::{AllocError, Global};
 use std::sync::Wait;
+use std::thread;
+use std::thread::Threads;
 
 /// The places of the list, and the keys of the map, that are written in turn.
 const WRITTEN: u64 = 8;
@@ -94,4 +96,17 @@ pub fn read_all(rt: &impl Wait, editions: Receiver<Edition, Global>) -> Option<u
         read = read.wrapping_add(1);
     }
     Some(read)
+}
+
+/// Publishes to one reader, on a thread of its own. The sender ends with the call of `publish`, so the reader ends too.
+pub fn publish_to_a_thread<R: Threads + Wait + Copy + Send + 'static>(
+    rt: R,
+    alloc: Global,
+    items: CowTable<u64>,
+    editions: u64,
+) -> Result<Option<u64>, PlaceError> {
+    let (to_reader, reader) = unbounded(alloc)?;
+    let read = thread::spawn(&rt, move || read_all(&rt, reader)).map_err(AllocError::from)?;
+    publish(&rt, alloc, items, editions, &[to_reader])?;
+    Ok(read.join(&rt))
 }

@@ -3,7 +3,7 @@ use cow_table::CowTable;
 use crossbeam_channel::unbounded;
 use std::thread;
 use testing::{ok, same};
-use uses::editions::{publish, read_all};
+use uses::editions::{publish, publish_to_a_thread, read_all};
 
 const EDITIONS: u64 = 1000;
 
@@ -26,4 +26,15 @@ fn four_threads_read_what_one_publishes(rt: HostRuntime) {
     );
     same!(rt, published, Ok(()));
     same!(rt, ok!(rt, read).as_slice(), &[Some(EDITIONS); 4][..]);
+}
+
+#[test]
+fn a_spawned_thread_reads_what_is_published(rt: HostRuntime) {
+    let zeros = ok!(&rt, vec![in rt.alloc(); 0u64; 8]);
+    let items = ok!(&rt, CowTable::from_items(rt.alloc(), zeros, 3));
+    same!(
+        &rt,
+        publish_to_a_thread(rt, rt.alloc(), items, EDITIONS),
+        Ok(Some(EDITIONS))
+    );
 }

@@ -9,6 +9,7 @@ ghost use Rattle.sequence.specs.Changes.{ChangesItem, KeepsLabel};
 ghost use Rattle.sequence.specs.Nodes.{IsLevel, items_under};
 
 pub(crate) mod act;
+mod as_vec;
 mod cut;
 mod ends;
 mod parts;

@@ -1,5 +1,5 @@
 //! Two lists out of one, and one out of two.
-ghost use Rattle.std.specs.Prelude.{◌≡◌, ◌++◌, ◌^◌, ◌<◌, ◌≤◌, ◌↔◌, Err, IfOk, OnErr, OnOk};
+ghost use Rattle.std.specs.Prelude.{◌≡◌, ◌++◌, ◌^◌, ◌<◌, ◌≤◌, ◌↔◌, ◌⊎◌, Err, IfOk, IsOk, OnErr, OnOk};
 ghost use Rattle.std.specs.Prelude.{drop, length, take};
 ghost use Rattle.handles.specs.Copies.{CopiesAreEqual};
 ghost use Rattle.sequence.specs.Nodes.{AreLevel, items_in};
@@ -11,6 +11,7 @@ use crate::tree::search::{count, spot_of};
 use crate::tree::{Child, Node, Tree};
 use handles::place::PlaceError;
 use std::alloc::{AllocError, Global};
+use std::ops::Range;
 
 impl<T: Clone, L: NewLabel<T>> Sequence<T, L> {
     /// Puts the items of the other list behind those of this one.
@@ -62,12 +63,73 @@ impl<T: Clone, L: NewLabel<T>> Sequence<T, L> {
         if at > self.len() {
             return Err(PlaceError::NoPlace);
         }
+        let back = self.cut_off(alloc, at)?;
+        Ok(back)
+    }
+
+    // The same of a number that is not above.
+    fn cut_off(&mut self, alloc: Global, at: usize) -> Result<Sequence<T, L>, AllocError>
+        requires copies { CopiesAreEqual T.is_clone }
+        requires labels { CopiesAreEqual L.is_clone }
+        requires within { at ≤ length self.old }
+        ensures out { IfOk result (λ out. out ≡ drop at self.old) }
+        ensures rest { OnOk result (self.new ≡ take at self.old) }
+        ensures refused { OnErr result (self.new ≡ self.old) }
+    {
         let Some(tree) = &self.root else {
             return Ok(Sequence::empty());
         };
         let (front, back) = tree.split(alloc, at)?;
         *self = front;
         Ok(back)
+    }
+
+    /// Lets the items from that number on go. If there are none, it does nothing.
+    ///
+    /// It makes new nodes along the cut, as `split_off` does.
+    pub fn truncate(&mut self, alloc: Global, len: usize) -> Result<(), AllocError>
+        requires copies { CopiesAreEqual T.is_clone }
+        requires labels { CopiesAreEqual L.is_clone }
+        ensures items { OnOk result (self.new ≡ take len self.old) }
+        ensures none { length self.old ≤ len → IsOk result }
+        ensures refused { OnErr result (self.new ≡ self.old) }
+    {
+        if len < self.len() {
+            self.cut_off(alloc, len)?;
+        }
+        Ok(())
+    }
+
+    /// Puts the other list in place of the items of these numbers, and gives them.
+    ///
+    /// It cuts a version of the list twice, as `split_off` does, and appends the parts that stay and the other list. A
+    /// range that ends behind the last item, or before it starts, is refused before all else.
+    pub fn replace(
+        &mut self,
+        alloc: Global,
+        numbers: Range<usize>,
+        other: Sequence<T, L>,
+    ) -> Result<Sequence<T, L>, PlaceError>
+        requires copies { CopiesAreEqual T.is_clone }
+        requires labels { CopiesAreEqual L.is_clone }
+        ensures out { IfOk result (λ out. out ≡ drop numbers.start (take numbers.end self.old)) }
+        ensures items { OnOk result (self.new
+            ≡ take numbers.start self.old ++ other ++ drop numbers.end self.old) }
+        ensures no_place { (result ≡ Err PlaceError.NoPlace)
+            ↔ ((length self.old < numbers.end) ⊎ (numbers.end < numbers.start)) }
+        ensures refused { OnErr result (self.new ≡ self.old) }
+    {
+        let Range { start, end } = numbers;
+        if end > self.len() || end < start {
+            return Err(PlaceError::NoPlace);
+        }
+        let mut list: Sequence<T, L> = self.clone()?;
+        let back = list.cut_off(alloc, end)?;
+        let out = list.cut_off(alloc, start)?;
+        list.append(alloc, other)?;
+        list.append(alloc, back)?;
+        *self = list;
+        Ok(out)
     }
 
     // The list of copies of these items, which are few enough for a leaf.

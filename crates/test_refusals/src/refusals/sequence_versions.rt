@@ -45,9 +45,14 @@ enum Change {
     Remove(usize),
     SplitOff(usize),
     Append,
+    Truncate(usize),
+    Replace(usize, usize),
+    Extend,
+    Retain,
+    Swap(usize, usize),
 }
 
-const CHANGES: [Change; 11] = [
+const CHANGES: [Change; 18] = [
     Insert(0),
     Insert(40),
     Insert(99),
@@ -59,6 +64,13 @@ const CHANGES: [Change; 11] = [
     SplitOff(40),
     SplitOff(99),
     Append,
+    Truncate(40),
+    Truncate(99),
+    Replace(20, 40),
+    Replace(40, 99),
+    Extend,
+    Retain,
+    Swap(3, 40),
 ];
 
 fn changed<'a>(
@@ -76,6 +88,11 @@ fn changed<'a>(
         Remove(at) => drop(items.remove(alloc, at)?),
         SplitOff(at) => drop(items.split_off(alloc, at)?),
         Append => items.append(alloc, other)?,
+        Truncate(len) => items.truncate(alloc, len)?,
+        Replace(start, end) => drop(items.replace(alloc, start..end, other)?),
+        Extend => items.extend(alloc, vec![in alloc; value]?)?,
+        Retain => items.retain(alloc, |counted| counted.value % 2 == 0)?,
+        Swap(i, j) => items.swap(alloc, i, j)?,
     }
     Ok(())
 }

@@ -25,6 +25,29 @@ fn sequences_are_told_apart(rt: HostRuntime) {
     check_debug(&rt, &longer, text);
 }
 
+// What each of them makes is said by its clauses, and that it succeeds is not.
+#[test]
+fn a_sequence_is_changed_as_a_vector_is(rt: HostRuntime) {
+    let alloc = rt.alloc();
+    let mut list = ok!(&rt, sequence_of(alloc));
+    let more = ok!(&rt, Vec::from_array(alloc, [4, 5, 6]));
+    ok!(&rt, list.extend(alloc, more));
+    let other = ok!(&rt, sequence_of(alloc));
+    let out = ok!(&rt, list.replace(alloc, 1..4, other));
+    same!(&rt, out.iter().eq(&[2, 3, 4]), true);
+    ok!(&rt, list.swap(alloc, 0, 5));
+    ok!(&rt, list.retain(alloc, |item| *item != 2));
+    ok!(&rt, list.truncate(alloc, 4));
+    same!(&rt, list.iter().eq(&[6, 1, 3, 5]), true);
+    same!(
+        &rt,
+        (list[3], list.contains(&3), list.contains(&2)),
+        (5, true, false)
+    );
+    list.clear();
+    same!(&rt, list.len(), 0);
+}
+
 const ITEMS: u64 = 100_000;
 
 // The most items of a leaf.

@@ -75,7 +75,7 @@ fn insert_under<T: Clone, L: NewLabel<T>>(
         Ok(piece) => piece,
         Err(child) => return beside(children, alloc, place, child),
     };
-    let Ok(spot) = room_under(children, spot_of(children, place), alloc) else {
+    let Ok(spot) = room_under(children, spot_of(children, place), alloc, true) else {
         return Err(piece.into_part());
     };
     children[spot.child].insert(alloc, spot.place, piece)

@@ -108,7 +108,8 @@ fn spare_for<T: Clone, L: NewLabel<T>>(
         return Ok(spot);
     }
     let joined = join_at(children, spot, alloc)?;
-    room_under(children, joined, alloc)
+    // A small last part would be thin again, and be joined at the next removal.
+    room_under(children, joined, alloc, false)
 }
 
 // The spot once its child is joined with the next, or the last one with the one before.

@@ -71,11 +71,13 @@ impl<T, L: Label<T>> Node<T, L> {
     }
 }
 
-// The spot once its child has room for one more item or child: a full one becomes two.
+// The spot once its child has room for one more item or child: a full one becomes two. Its last part is small if the
+// list grows at the end of that child, so that nodes which only ever grow there are full.
 pub(crate) fn room_under<T: Clone, L: NewLabel<T>>(
     children: &mut Vec<Child<T, L>>,
     spot: Spot,
     alloc: Global,
+    grows: bool,
 ) -> Result<Spot, AllocError>
     requires copies { CopiesAreEqual T.is_clone }
     requires labels { CopiesAreEqual L.is_clone }
@@ -92,7 +94,7 @@ pub(crate) fn room_under<T: Clone, L: NewLabel<T>>(
     if !children[child].tree.is_full() {
         return Ok(spot);
     }
-    let ends = place == children[child].len;
+    let ends = grows & (place == children[child].len);
     children.reserve(1)?;
     let right = children[child].halve(alloc, ends)?;
     let left = children[child].len;

@@ -1,56 +1,53 @@
--- A map after the list changed the entry of a number.
-use Rattle.std.proofs.Common.{◌≡◌, ℕ, List, set, ap, sym, ◌∙◌, subst, cond}
-use Rattle.std.specs.Prelude.{Result, Ok, Err, None, Some, IfOk, OnErr, OnOk}
+-- A map after the list changed the entry that is sought.
+use Rattle.std.proofs.Common.{◌≡◌, ℕ, List, set, ap, sym, ◌∙◌, subst, refl}
+use Rattle.std.specs.Prelude.{Result, Ok, Err, Option, None, Some, IfNone, IfOk, IfSome, IsOk, OnErr}
 use Rattle.std.specs.Borrow.{MutBor}
 use Rattle.std.specs.Fn.{FnOnceReturnsAtMut, Once}
-use Rattle.std.specs.Ordering.{is_eq}
 use Rattle.std.specs.Cmp.{IsTotalOrder}
 use Rattle.std.specs.declared.cmp.Ordering.{Ordering}
 use Rattle.std.proofs.lemmas.Option.{none-some, same_Some}
+use Rattle.sequence.specs.Acts.{IsAbsent, IsChanged, IsThere}
+use Rattle.sequence.specs.Acts.{IsFound as IsSought}
 use Rattle.sequence.specs.Changes.{ChangesItem}
 use Rattle.persistent.specs.Changes.{ChangesValue}
 use Rattle.persistent.specs.Maps.{IsRising, lookup, with_entry}
 use Rattle.persistent.specs.Places.{IsFound}
+use Rattle.persistent.specs.Queries.{key_form}
+use Rattle.persistent.proofs.Cuts.{cut_found, cut_missed, sought, up_to}
 use Rattle.persistent.proofs.Lookup.{lookup_with}
 use Rattle.persistent.proofs.Rising.{rising_with}
-use Rattle.persistent.proofs.Under.{found_there, with_found}
+use Rattle.persistent.proofs.Under.{found_missing, found_there, with_found}
 
-module _ {K V : Type 0} (cmp : K → K → Ordering) (q : K) (es new : List (K × V)) where
-  -- what a map answers whose value under the key is replaced by v
-  pub record IsReplaced {E : Type 0} (v : V) (r : Result V E) : Type 0 where
-    pub rising : IsRising cmp new
-    pub value : IfOk r (λ old. Some old ≡ lookup cmp q es)
-    pub entries : OnOk r (new ≡ with_entry cmp q v es)
-    pub changes : OnOk r ((k : K) → lookup cmp k new ≡ cond (is_eq (cmp k q)) (Some v) (lookup cmp k es))
+-- what a map answers whose value under the key is changed by a call
+pub record IsModified {K V F A E : Type 0} (cmp : K → K → Ordering) (q : K) (es new : List (K × V))
+    (g : Once F (MutBor V × Unit {0}) (A × (MutBor V × Unit {0}))) (f : F) (r : Result (Option A) E) : Type 0 where
+  pub rising : IsRising cmp new
+  pub absent : IfOk r (λ answer. IfNone answer ((lookup cmp q es ≡ None) × (new ≡ es)))
+  pub changed : IfOk r (λ answer. IfSome answer (ChangesValue g f cmp q es new))
+  pub none : lookup cmp q es ≡ None → IsOk r
 
-  -- and one in which it is changed by a call
-  pub record IsModified {F A E : Type 0} (g : Once F (MutBor V × Unit {0}) (A × (MutBor V × Unit {0}))) (f : F)
-      (r : Result A E) : Type 0 where
-    pub rising : IsRising cmp new
-    pub changed : IfOk r (ChangesValue g f cmp q es new)
-    pub there : lookup cmp q es ≡ None → ⊥
+module _ {K V : Type 0} (cmp : K → K → Ordering) (total : IsTotalOrder cmp) (q : K) (es new : List (K × V))
+    (rises : IsRising cmp es) where
+  -- the entry that is sought has the key
+  key_found : (i : ℕ) → IsSought (sought (cmp q)) (up_to (cmp q)) es i → IsFound (cmp q) es i
+  key_found i there =
+      cut_found cmp (cmp q) (key_form total q) total es rises i there.item there.cut there.is there.found
 
-module _ {K V : Type 0} (cmp : K → K → Ordering) (total : IsTotalOrder cmp) (q : K) (es new : List (K × V)) (i : ℕ)
-    (there : IsFound (cmp q) es i) (rises : IsRising cmp es) where
-  value : lookup cmp q es ≡ Some there.entry.1
-  value = found_there (cmp q) es i there (λ e. e.1)
-
-  there_is : lookup cmp q es ≡ None → ⊥
-  there_is none = none-some there.entry.1 (sym none ∙ value)
-
-  -- what each key has after the value under one was written
-  changes_with : (v : V) → new ≡ with_entry cmp q v es → (k : K)
-      → lookup cmp k new ≡ cond (is_eq (cmp k q)) (Some v) (lookup cmp k es)
-  changes_with v entries k = ap (lookup cmp k) entries ∙ lookup_with cmp total k q v es
+  pub value_found : (i : ℕ) (there : IsSought (sought (cmp q)) (up_to (cmp q)) es i)
+      → lookup cmp q es ≡ Some there.item.1
+  value_found i there =
+      let found = key_found i there in
+      found_there (cmp q) es i found (λ e. e.1)
+      ∙ ap (λ (e : K × V). Some e.1) (same_Some found.entry there.item (sym found.is ∙ there.is))
 
   module _ {F A : Type 0} (g : Once F (MutBor (K × V) × Unit {0}) (A × (MutBor (K × V) × Unit {0}))) (f : F) (a : A)
-      (changed : ChangesItem g f i es new a) where
+      (i : ℕ) (there : IsFound (cmp q) es i) (changed : ChangesItem g f i es new a) where
     same : there.entry ≡ changed.before
     same = same_Some there.entry changed.before (sym there.is ∙ changed.found)
 
     -- the value before was that of the key
     value_was : lookup cmp q es ≡ Some changed.before.1
-    value_was = value ∙ ap (λ (e : K × V). Some e.1) same
+    value_was = found_there (cmp q) es i there (λ e. e.1) ∙ ap (λ (e : K × V). Some e.1) same
 
     -- if the key of the entry stays, the value is written under it
     value_is : changed.after.0 ≡ changed.before.0 → new ≡ with_entry cmp q changed.after.1 es
@@ -59,54 +56,49 @@ module _ {K V : Type 0} (cmp : K → K → Ordering) (total : IsTotalOrder cmp) 
         ∙ ap (λ (k : K). set es i (k, changed.after.1)) (stays ∙ ap (λ (e : K × V). e.0) (sym same))
         ∙ sym (with_found cmp q es i there changed.after.1)
 
-  module _ {F E : Type 0} (g : Once F (MutBor (K × V) × Unit {0}) (V × (MutBor (K × V) × Unit {0}))) (f : F) (v : V)
-      (writes : (before after : K × V) (a : V) → FnOnceReturnsAtMut g f before a after
-      → (a ≡ before.1) × (after ≡ (before.0, v))) where
-    -- a call that puts v in the place of a value
-    pub replaced : (r : Result V E) → IfOk r (ChangesItem g f i es new) → OnErr r (new ≡ es)
-        → IsReplaced cmp q es new v r
-    replaced (Ok a) changed refused =
-        let done = writes changed.before changed.after a changed.called in
-        let entries : new ≡ with_entry cmp q v es =
-        value_is g f a changed (ap (λ (e : K × V). e.0) done.1)
-        ∙ ap (λ (e : K × V). with_entry cmp q e.1 es) done.1 in
-        record {
-          rising = subst (IsRising cmp) (sym entries) (rising_with cmp total q v es rises);
-          value = ap (λ (v : V). Some v) done.0 ∙ sym (value_was g f a changed);
-          entries = entries;
-          changes = changes_with v entries;
-        }
-    replaced (Err e) changed refused = record {
-      rising = subst (IsRising cmp) (sym refused) rises;
-      value = tt;
-      entries = tt;
-      changes = tt;
-    }
-
   module _ {F H A E : Type 0} (g : Once F (MutBor (K × V) × Unit {0}) (A × (MutBor (K × V) × Unit {0}))) (f : F)
       (h : Once H (MutBor V × Unit {0}) (A × (MutBor V × Unit {0}))) (change : H)
       (keeps : (before after : K × V) (a : A) → FnOnceReturnsAtMut g f before a after
       → (after.0 ≡ before.0) × FnOnceReturnsAtMut h change before.1 a after.1) where
     -- a call that changes the value alone
-    pub modified : (r : Result A E) → IfOk r (ChangesItem g f i es new) → OnErr r (new ≡ es)
+    pub modified : (r : Result (Option A) E)
+        → IfOk r (λ a. IfNone a ((new ≡ es) × IsAbsent (sought (cmp q)) (up_to (cmp q)) es))
+        → IfOk r (λ a. IfSome a (IsChanged (sought (cmp q)) (up_to (cmp q)) g f es new))
+        → OnErr r (IsThere (sought (cmp q)) (up_to (cmp q)) es) → OnErr r (new ≡ es)
         → IsModified cmp q es new h change r
-    modified (Ok a) changed refused =
-        let done = keeps changed.before changed.after a changed.called in
-        let entries = value_is g f a changed done.0 in
+    modified (Ok None) absent changed there refused =
+        let at = absent.1.at in
+        let missing = cut_missed cmp (cmp q) (key_form total q) total es rises at absent.1.cut absent.1.missed in
         record {
-          rising = subst (IsRising cmp) (sym entries) (rising_with cmp total q changed.after.1 es rises);
+          rising = subst (IsRising cmp) (sym absent.0) rises;
+          absent = (found_missing (cmp q) es at missing (λ e. e.1), absent.0);
+          changed = tt;
+          none = λ none. refl;
+        }
+    modified (Ok (Some a)) absent changed there refused =
+        let did = changed.did in
+        let found = key_found changed.at changed.there in
+        let done = keeps did.before did.after a did.called in
+        let entries = value_is g f a changed.at found did done.0 in
+        record {
+          rising = subst (IsRising cmp) (sym entries) (rising_with cmp total q did.after.1 es rises);
+          absent = tt;
           changed = record {
-            before = changed.before.1;
-            after = changed.after.1;
-            found = value_was g f a changed;
+            before = did.before.1;
+            after = did.after.1;
+            found = value_was g f a changed.at found did;
             called = done.1;
             entries = entries;
-            changes = changes_with changed.after.1 entries;
+            changes = λ k. ap (lookup cmp k) entries ∙ lookup_with cmp total k q did.after.1 es;
           };
-          there = there_is;
+          none = λ none. refl;
         }
-    modified (Err e) changed refused = record {
-      rising = subst (IsRising cmp) (sym refused) rises;
-      changed = tt;
-      there = there_is;
-    }
+    modified (Err e) absent changed there refused =
+        let found = key_found there.at there.is in
+        record {
+          rising = subst (IsRising cmp) (sym refused) rises;
+          absent = tt;
+          changed = tt;
+          none = λ none. absurd (none-some found.entry.1
+              (sym none ∙ found_there (cmp q) es there.at found (λ e. e.1)));
+        }

@@ -12,7 +12,6 @@ ghost use Rattle.persistent.specs.Maps.{IsRising, entry_by, lookup, lookup_by, r
 ghost use Rattle.persistent.specs.Nodes.{IsDeep};
 
 mod alter;
-mod by_number;
 pub(crate) mod diff;
 mod empty;
 mod from_items;
@@ -186,10 +185,7 @@ impl<K: Ord + Clone, V: Clone> TreeMap<K, V> {
             ≡ cond (is_eq (K.cmp k key)) (Some value) (lookup K.cmp k self.old)) }
         ensures refused { OnErr result (self.new ≡ self.old) }
     {
-        match self.entries.put_in(alloc, Entry { key, value }) {
-            Ok(old) => Ok(old),
-            Err(Entry { key, value }) => self.insert_by_number(alloc, key, value),
-        }
+        self.entries.put_in(alloc, Entry { key, value })
     }
 
     /// Takes the entry of the key out, and gives its value, if there is one.
@@ -207,9 +203,7 @@ impl<K: Ord + Clone, V: Clone> TreeMap<K, V> {
         ensures none { lookup_by (Q.order key) self.old ≡ None → IsOk result }
         ensures refused { OnErr result (self.new ≡ self.old) }
     {
-        let Ok(taken) = self.entries.take_out(alloc, UpTo { query: key }) else {
-            return self.remove_by_number(alloc, key);
-        };
+        let taken = self.entries.take_out(alloc, UpTo { query: key })?;
         Ok(taken.map(|(_, value)| value))
     }
 
@@ -234,24 +228,15 @@ impl<K: Ord + Clone, V: Clone> TreeMap<K, V> {
         ensures none { lookup K.cmp key.now self.old ≡ None → IsOk result }
         ensures refused { OnErr result (self.new ≡ self.old) }
     {
-        match self.place(key) {
-            Err(_) => Ok(None),
-            Ok(at) => {
-                let changed = self.entries.modify(
-                    alloc,
-                    at,
-                    |entry: &mut (K, V)|
-                        requires { FnOnceTakesAtMut F.FnOnce change entry.old.1 }
-                        ensures key { entry.new.0 ≡ entry.old.0 }
-                        ensures value { FnOnceReturnsAtMut F.FnOnce change entry.old.1 result entry.new.1 }
-                    { change(&mut entry.1) },
-                );
-                let Ok(answer) = changed else {
-                    return Err(AllocError);
-                };
-                Ok(Some(answer))
-            }
-        }
+        self.entries.change(
+            alloc,
+            UpTo { query: key },
+            |entry: &mut (K, V)|
+                requires { FnOnceTakesAtMut F.FnOnce change entry.old.1 }
+                ensures key { entry.new.0 ≡ entry.old.0 }
+                ensures value { FnOnceReturnsAtMut F.FnOnce change entry.old.1 result entry.new.1 }
+            { change(&mut entry.1) },
+        )
     }
 }
 

@@ -80,6 +80,12 @@ module _ {T : Type 0} (es : List T) (at : ℕ) (e : T) (within : at + 1 ≤ leng
   pub read_again : (d : T) → d ≡ get_or es at d → d ≡ e
   read_again d was = was ∙ get_or_default es at d e (omega (arith, within)) ∙ sym is
 
+-- the last item before a place is not the sought one, if the item of that number is not
+pub missed_at : {T : Type 0} (sought : T → Bool) (es : List T) (at : ℕ) (one : T) → slice_get es at ≡ Some one
+    → sought one ≡ false → IsMissed sought (last_of (at + 1) es)
+missed_at sought es at one is not =
+    λ item h. ap sought (sym (same_Some one item (sym is ∙ sym (last_is es at) ∙ h))) ∙ not
+
 module _ {T : Type 0} (sought test : T → Bool) (old new : List T) where
   -- none went, and these came
   come : (more xs : List T) (at : ℕ) → new ≡ spliced at 0 more old → more ≡ xs

@@ -17,6 +17,7 @@ pub mod Parted
 pub mod Parts
 pub mod Pieces
 pub mod Placed
+pub mod Popped
 pub mod Ranges
 pub mod Spliced
 pub mod Wide

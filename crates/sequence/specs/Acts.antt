@@ -3,6 +3,9 @@ use Rattle.std.specs.Prelude.{◌≡◌, ℕ, zero, suc, ◌+◌, Bool, true, fa
 use Rattle.std.specs.Prelude.{is_some, length, not, slice_get, slice_set}
 use Rattle.std.specs.List.{insert, remove}
 use Rattle.std.specs.Int.{from_bool}
+use Rattle.std.specs.Borrow.{MutBor}
+use Rattle.std.specs.Fn.{Once}
+use Rattle.sequence.specs.Changes.{ChangesItem}
 use Rattle.sequence.specs.Cuts.{IsCut}
 use Rattle.sequence.specs.Spots.{spliced}
 
@@ -47,6 +50,34 @@ module _ {T : Type 0} (sought : T → Bool) where
       pub at : ℕ
       pub cut : IsCut test es at
       pub missed : IsMissed (last_of at es)
+
+    -- the last item before the cut is the one of that number, and the sought one
+    pub record IsFound (es : List T) (at : ℕ) : Type 0 where
+      pub item : T
+      pub cut : IsCut test es (at + 1)
+      pub is : slice_get es at ≡ Some item
+      pub found : sought item ≡ true
+
+    -- so many are before the cut, and the last of them, if there is one, is not the sought one
+    pub record IsMissing (es : List T) (at : ℕ) : Type 0 where
+      pub cut : IsCut test es at
+      pub missed : IsMissed (last_of at es)
+
+    -- the last item before the cut is the sought one
+    pub record IsThere (es : List T) : Type 0 where
+      pub at : ℕ
+      pub is : IsFound es at
+
+    -- that holds of the sought item, if it is there
+    abbrev pub OfSought : (T → Type 0) → List T → Type 0
+    OfSought holds es = (at : ℕ) (there : IsFound es at) → holds there.item
+
+    -- it was, and a call on it gave r and left what the list has there
+    pub record IsChanged {F R : Type 0} (g : Once F (MutBor T × Unit {0}) (R × (MutBor T × Unit {0}))) (change : F)
+        (old new : List T) (r : R) : Type 0 where
+      pub at : ℕ
+      pub there : IsFound old at
+      pub did : ChangesItem g change at old new r
 
     -- it was, and was taken out
     pub record IsTaken (old new : List T) (one : T) : Type 0 where

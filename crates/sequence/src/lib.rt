@@ -15,5 +15,4 @@ pub use iter::Iter;
 pub use label::{Label, NewLabel, Unlabelled};
 pub use put::Put;
 pub use sequence::Sequence;
-pub use sequence::act::Blocked;
 pub use tree::Tree;

@@ -8,7 +8,7 @@ ghost use Rattle.handles.specs.Copies.{CopiesAreEqual};
 ghost use Rattle.sequence.specs.Changes.{ChangesItem, KeepsLabel};
 ghost use Rattle.sequence.specs.Nodes.{IsLevel, items_under};
 
-pub(crate) mod act;
+mod act;
 mod as_vec;
 mod cut;
 mod ends;

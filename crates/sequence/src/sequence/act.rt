@@ -1,33 +1,30 @@
-//! Changes where a cut is, by one way down along nodes that keep their form.
-ghost use Rattle.std.specs.Prelude.{◌≡◌, IfErr, IfNone, IfOk, IfSome, OnErr};
+//! Changes where a cut is: by one way down if the nodes on it keep their form, else by the number of the place.
+ghost use Rattle.std.specs.Prelude.{◌≡◌, IfErr, IfNone, IfOk, IfSome, MatchResult, OnErr};
 ghost use Rattle.handles.specs.Copies.{CopiesAreEqual};
-ghost use Rattle.sequence.specs.Acts.{IsAbsent, IsAdded, IsReplaced, IsTaken};
+ghost use Rattle.std.specs.Fn.{FnOnceTakesAtMut};
+ghost use Rattle.sequence.specs.Acts.{IsAbsent, IsActed, IsAdded, IsChanged, IsFound, IsMissing, IsReplaced, IsTaken};
+ghost use Rattle.sequence.specs.Acts.{IsThere, OfSought};
+ghost use Rattle.sequence.specs.Changes.{KeepsLabel};
 ghost use Rattle.sequence.specs.Cuts.{HasCut};
 
 use crate::cut::Seek;
-use crate::label::Label;
+use crate::label::{Label, NewLabel};
 use crate::put::Put;
 use crate::sequence::Sequence;
+use crate::tree::act::Act;
 use crate::tree::put::PutIn;
 use crate::tree::take::Take;
-use std::alloc::Global;
+use std::alloc::{AllocError, Global};
 
-/// What `Sequence::take_out` answers if one way down cannot take an item out.
-#[derive(Clone, Copy)]
-pub struct Blocked;
-
-impl<T: Clone, L: Label<T> + Clone> Sequence<T, L> {
+impl<T: Clone, L: NewLabel<T>> Sequence<T, L> {
     /// Takes the item out that the cut seeks, and gives it, if it is the last item before the cut.
     ///
-    /// It goes down once, where `find` and `remove` go down twice, but it joins no nodes, makes no label and copies
-    /// nothing. If it would have to, since a node on the way has few items, is another version's too, or begins with
-    /// the item, nothing is changed and it is `Blocked`: then `find` says whether the item is there, and `remove` takes
-    /// it.
+    /// It copies and is refused as `remove` is. If there is no such item, nothing is copied or refused.
     pub fn take_out<C: Seek<T, L> + Drop>(
         &mut self,
         alloc: Global,
         cut: C,
-    ) -> Result<Option<T>, Blocked>
+    ) -> Result<Option<T>, AllocError>
         requires copies { CopiesAreEqual T.is_clone }
         requires labels { CopiesAreEqual L.is_clone }
         requires cut { HasCut (λ e. C.is_before cut (L.label_of e)) self.old }
@@ -35,29 +32,68 @@ impl<T: Clone, L: Label<T> + Clone> Sequence<T, L> {
             (λ e. C.is_before cut (L.label_of e)) self.old self.new)) }
         ensures absent { IfOk result (λ found. IfNone found ((self.new ≡ self.old)
             × IsAbsent (λ e. C.is_sought cut (L.label_of e)) (λ e. C.is_before cut (L.label_of e)) self.old)) }
-        ensures blocked { OnErr result (self.new ≡ self.old) }
+        ensures there { OnErr result (IsThere (λ e. C.is_sought cut (L.label_of e))
+            (λ e. C.is_before cut (L.label_of e)) self.old) }
+        ensures refused { OnErr result (self.new ≡ self.old) }
     {
-        let len = self.len;
-        let Some(tree) = &mut self.root else {
-            return Err(Blocked);
-        };
-        if len <= 1 || len == usize::MAX {
-            return Err(Blocked);
+        match self.act(alloc, Take(cut)) {
+            Ok(found) => Ok(found),
+            Err(_) => match self.place(cut) {
+                Err(_) => Ok(None),
+                Ok(at) => {
+                    let item = self.take(alloc, at)?;
+                    Ok(Some(item))
+                }
+            },
         }
-        let Ok(found) = tree.act(alloc, Take(cut), false) else {
-            return Err(Blocked);
-        };
-        self.len = len - usize::from(found.is_some());
-        Ok(found)
+    }
+
+    /// Changes the item that the cut seeks, if it is the last item before the cut, and gives what the change answered.
+    ///
+    /// It copies and is refused as `modify` is, and the change is then not called. It is not called either if there is
+    /// no such item: then nothing is copied or refused.
+    pub fn change<C: Seek<T, L>, R, F: FnOnce(&mut T) -> R>(
+        &mut self,
+        alloc: Global,
+        cut: C,
+        change: F,
+    ) -> Result<Option<R>, AllocError>
+        requires copies { CopiesAreEqual T.is_clone }
+        requires labels { CopiesAreEqual L.is_clone }
+        requires cut { HasCut (λ e. C.is_before cut (L.label_of e)) self.old }
+        requires callable { OfSought (λ e. C.is_sought cut (L.label_of e)) (λ e. C.is_before cut (L.label_of e))
+            (FnOnceTakesAtMut F.FnOnce change) self.old }
+        requires keeps { OfSought (λ e. C.is_sought cut (L.label_of e)) (λ e. C.is_before cut (L.label_of e))
+            (KeepsLabel F.FnOnce change L.label_of) self.old }
+        ensures changed { IfOk result (λ answer. IfSome answer (IsChanged (λ e. C.is_sought cut (L.label_of e))
+            (λ e. C.is_before cut (L.label_of e)) F.FnOnce change self.old self.new)) }
+        ensures absent { IfOk result (λ answer. IfNone answer ((self.new ≡ self.old)
+            × IsAbsent (λ e. C.is_sought cut (L.label_of e)) (λ e. C.is_before cut (L.label_of e)) self.old)) }
+        ensures there { OnErr result (IsThere (λ e. C.is_sought cut (L.label_of e))
+            (λ e. C.is_before cut (L.label_of e)) self.old) }
+        ensures refused { OnErr result (self.new ≡ self.old) }
+    {
+        match self.place(cut) {
+            Err(_) => Ok(None),
+            Ok(at) => {
+                let Some(tree) = &mut self.root else {
+                    unreachable!()
+                };
+                let answer = tree.modify(alloc, at, change)?;
+                Ok(Some(answer))
+            }
+        }
     }
 
     /// Puts in what there is to put in, behind its cut, or into the item that it seeks, if that is the last one before
     /// the cut: then it gives what that puts out.
     ///
-    /// It goes down once, where `find` and `insert` go down twice, and copies each node on the way that other versions
-    /// have. But no full node becomes two: if the leaf is full, or if there is no memory, the list stays as it was and
-    /// what was to be put in comes back. Then `find` says where it belongs, and `insert` or `modify` puts it there.
-    pub fn put_in<P: Put<T, L>>(&mut self, alloc: Global, new: P) -> Result<Option<P::Old>, P>
+    /// It copies and is refused as `insert` is, and what was to be put in is then dropped.
+    pub fn put_in<P: Put<T, L>>(
+        &mut self,
+        alloc: Global,
+        new: P,
+    ) -> Result<Option<P::Old>, AllocError>
         requires copies { CopiesAreEqual T.is_clone }
         requires labels { CopiesAreEqual L.is_clone }
         requires cut { HasCut (λ e. P.is_before new (L.label_of e)) self.old }
@@ -65,22 +101,86 @@ impl<T: Clone, L: Label<T> + Clone> Sequence<T, L> {
             (λ e. P.is_before new (L.label_of e)) (P.replaced new) P.put_out self.old self.new)) }
         ensures added { IfOk result (λ old. IfNone old (IsAdded (λ e. P.is_sought new (L.label_of e))
             (λ e. P.is_before new (L.label_of e)) self.old self.new (P.made new))) }
+        ensures refused { OnErr result (self.new ≡ self.old) }
+    {
+        match self.act(alloc, PutIn(new)) {
+            Ok(old) => Ok(old),
+            Err(act) => self.put_by_number(alloc, act),
+        }
+    }
+
+    // The same by two ways down. On the second one a full node becomes two.
+    fn put_by_number<P: Put<T, L>>(
+        &mut self,
+        alloc: Global,
+        act: PutIn<P>,
+    ) -> Result<Option<P::Old>, AllocError>
+        requires copies { CopiesAreEqual T.is_clone }
+        requires labels { CopiesAreEqual L.is_clone }
+        requires cut { HasCut (λ e. P.is_before act.0 (L.label_of e)) self.old }
+        ensures replaced { IfOk result (λ old. IfSome old (IsReplaced (λ e. P.is_sought act.0 (L.label_of e))
+            (λ e. P.is_before act.0 (L.label_of e)) (P.replaced act.0) P.put_out self.old self.new)) }
+        ensures added { IfOk result (λ old. IfNone old (IsAdded (λ e. P.is_sought act.0 (L.label_of e))
+            (λ e. P.is_before act.0 (L.label_of e)) self.old self.new (P.made act.0))) }
+        ensures refused { OnErr result (self.new ≡ self.old) }
+    {
+        match self.place(&act) {
+            Err(at) => {
+                self.put(alloc, at, act.0.into_item())?;
+                Ok(None)
+            }
+            Ok(at) => {
+                let Some(tree) = &mut self.root else {
+                    unreachable!()
+                };
+                let new = act.0;
+                let old = tree.modify(alloc, at, |item| new.replace(item))?;
+                Ok(Some(old))
+            }
+        }
+    }
+}
+
+impl<T: Clone, L: Label<T> + Clone> Sequence<T, L> {
+    // Does it by one way down. It comes back if a node on the way would get another form, or if there is no memory.
+    fn act<A: Act<T, L>>(&mut self, alloc: Global, act: A) -> Result<Option<A::Gone>, A>
+        requires copies { CopiesAreEqual T.is_clone }
+        requires labels { CopiesAreEqual L.is_clone }
+        requires cut { HasCut (λ e. A.is_before act (L.label_of e)) self.old }
+        ensures done { IfOk result
+            (IsActed (λ e. A.is_before act (L.label_of e)) (A.does act) A.LOSES self.old self.new) }
         ensures blocked { OnErr result (self.new ≡ self.old) }
-        ensures back { IfErr result (λ back. back ≡ new) }
+        ensures back { IfErr result (λ back. back ≡ act) }
     {
         let len = self.len;
         let Some(tree) = &mut self.root else {
-            return Err(new);
+            return Err(act);
         };
-        if len == usize::MAX {
-            return Err(new);
+        if len <= 1 || len == usize::MAX {
+            return Err(act);
         }
-        match tree.act(alloc, PutIn(new), false) {
-            Ok(old) => {
-                self.len = len + usize::from(old.is_none());
-                Ok(old)
+        let gone = tree.act(alloc, act, false)?;
+        self.len = len - usize::from(gone.is_some()) + usize::from(!A::LOSES);
+        Ok(gone)
+    }
+}
+
+impl<T, L: Label<T>> Sequence<T, L> {
+    // The number of the last item before the cut, if it is the one that is sought. `Err` has the place behind it.
+    fn place<C: Seek<T, L>>(&self, cut: C) -> Result<usize, usize>
+        requires cut { HasCut (λ e. C.is_before cut (L.label_of e)) self.now }
+        ensures { MatchResult result
+            (IsFound (λ e. C.is_sought cut (L.label_of e)) (λ e. C.is_before cut (L.label_of e)) self.now)
+            (IsMissing (λ e. C.is_sought cut (L.label_of e)) (λ e. C.is_before cut (L.label_of e)) self.now) }
+    {
+        match self.find(cut) {
+            None => Err(0),
+            Some((at, item)) if cut.is_sought(item) => Ok(at),
+            Some((at, _)) => {
+                // For the proof: its clause says that there are fewer than a number can count.
+                let _ = self.len();
+                Err(at + 1)
             }
-            Err(PutIn(new)) => Err(new),
         }
     }
 }

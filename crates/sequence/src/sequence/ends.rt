@@ -3,6 +3,7 @@ ghost use Rattle.std.specs.Prelude.{◌≡◌, ◌-◌, ◌++◌, ◌∷◌, [],
 ghost use Rattle.std.specs.Prelude.{take, true};
 ghost use Rattle.handles.specs.Copies.{CopiesAreEqual};
 
+use crate::cut::{Cut, Seek};
 use crate::label::{Label, NewLabel};
 use crate::put::Put;
 use crate::sequence::Sequence;
@@ -49,6 +50,33 @@ impl<T: Drop, L: Label<T>> Put<T, L> for Last<T> {
     fn replace(self, _item: &mut T) {}
 }
 
+// All items are before it, and it seeks the last one.
+#[derive(Clone, Copy)]
+struct All;
+
+impl<T, L: Label<T>> Cut<T, L> for All {
+    ghost is_before = { λ _ _. true };
+
+    #[inline(always)]
+    fn item(&self, _item: &T) -> bool {
+        true
+    }
+
+    #[inline(always)]
+    fn label(&self, _label: &L) -> bool {
+        true
+    }
+}
+
+impl<T, L: Label<T>> Seek<T, L> for All {
+    ghost is_sought = { λ _ _. true };
+
+    #[inline(always)]
+    fn is_sought(&self, _item: &T) -> bool {
+        true
+    }
+}
+
 impl<T: Clone, L: NewLabel<T>> Sequence<T, L> {
     /// Puts the item behind all, as `insert` does, but by one way down unless the last leaf is full.
     pub fn push(&mut self, alloc: Global, item: T) -> Result<(), AllocError>
@@ -57,10 +85,8 @@ impl<T: Clone, L: NewLabel<T>> Sequence<T, L> {
         ensures items { OnOk result (self.new ≡ self.old ++ item ∷ []) }
         ensures refused { OnErr result (self.new ≡ self.old) }
     {
-        match self.put_in(alloc, Last(item)) {
-            Ok(_) => Ok(()),
-            Err(Last(item)) => self.put(alloc, self.len(), item),
-        }
+        self.put_in(alloc, Last(item))?;
+        Ok(())
     }
 
     /// Puts the item before all, as `insert` does.
@@ -82,11 +108,7 @@ impl<T: Clone, L: NewLabel<T>> Sequence<T, L> {
         ensures none { self.old ≡ [] → IsOk result }
         ensures refused { OnErr result (self.new ≡ self.old) }
     {
-        let Some(last) = self.len().checked_sub(1) else {
-            return Ok(None);
-        };
-        let item = self.take(alloc, last)?;
-        Ok(Some(item))
+        self.take_out(alloc, All)
     }
 
     /// Takes the first item out and gives it, as `remove` does.

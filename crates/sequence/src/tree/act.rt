@@ -7,7 +7,7 @@ ghost use Rattle.sequence.specs.Acts.{IsActed};
 ghost use Rattle.sequence.specs.Cuts.{HasCut, IsCut};
 ghost use Rattle.sequence.specs.Nodes.{AreChildren, CanLose, IsList, first_label, height_in, items_in};
 
-use crate::cut::Cut;
+use crate::cut::{Cut, Seek};
 use crate::label::Label;
 use crate::tree::cut::{child_of, last_in};
 use crate::tree::{Child, Node, Tree};
@@ -19,8 +19,10 @@ pub(crate) trait Act<T, L: Label<T>>: Drop {
     // What it answers of the item that goes.
     type Gone: Drop;
 
-    // Its cut.
+    // Its cut, and the item that it seeks.
     ghost is_before: { Self → L → Bool };
+
+    ghost is_sought: { Self → L → Bool };
 
     // What it answers at such a last item before the cut, which goes if there is an answer, if these come.
     ghost does: { Self → Option Self.Gone → Option T → List T → Type 0 };
@@ -35,6 +37,9 @@ pub(crate) trait Act<T, L: Label<T>>: Drop {
 
     fn label(&self, label: &L) -> bool
         ensures { result ≡ is_before self.now label.now };
+
+    fn is_sought(&self, item: &T) -> bool
+        ensures { result ≡ is_sought self.now (L.label_of item.now) };
 
     // Does it at the number of the last item before the cut. If it is told to, it leaves the first label as it is.
     fn act(
@@ -66,6 +71,15 @@ impl<'a, T, L: Label<T>, A: Act<T, L>> Cut<T, L> for &'a A {
     #[inline(always)]
     fn label(&self, label: &L) -> bool {
         (*self).label(label)
+    }
+}
+
+impl<'a, T, L: Label<T>, A: Act<T, L>> Seek<T, L> for &'a A {
+    ghost is_sought = { λ act. A.is_sought act.now };
+
+    #[inline(always)]
+    fn is_sought(&self, item: &T) -> bool {
+        (*self).is_sought(item)
     }
 }
 

@@ -18,6 +18,8 @@ impl<T: Drop, L: Label<T>, P: Put<T, L>> Act<T, L> for PutIn<P> {
 
     ghost is_before = { λ put. P.is_before put.0 };
 
+    ghost is_sought = { λ put. P.is_sought put.0 };
+
     ghost does = { λ put. puts (λ e. P.is_sought put.0 (L.label_of e)) (P.made put.0) (P.replaced put.0) P.put_out };
 
     ghost LOSES = { false };
@@ -32,6 +34,11 @@ impl<T: Drop, L: Label<T>, P: Put<T, L>> Act<T, L> for PutIn<P> {
     #[inline(always)]
     fn label(&self, label: &L) -> bool {
         self.0.label(label)
+    }
+
+    #[inline(always)]
+    fn is_sought(&self, item: &T) -> bool {
+        self.0.is_sought(item)
     }
 
     fn act(

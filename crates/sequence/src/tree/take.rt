@@ -15,6 +15,8 @@ impl<T: Drop, L: Label<T>, C: Seek<T, L> + Drop> Act<T, L> for Take<C> {
 
     ghost is_before = { λ take. C.is_before take.0 };
 
+    ghost is_sought = { λ take. C.is_sought take.0 };
+
     ghost does = { λ take. takes (λ e. C.is_sought take.0 (L.label_of e)) };
 
     ghost LOSES = { true };
@@ -29,6 +31,11 @@ impl<T: Drop, L: Label<T>, C: Seek<T, L> + Drop> Act<T, L> for Take<C> {
     #[inline(always)]
     fn label(&self, label: &L) -> bool {
         self.0.label(label)
+    }
+
+    #[inline(always)]
+    fn is_sought(&self, item: &T) -> bool {
+        self.0.is_sought(item)
     }
 
     fn act(

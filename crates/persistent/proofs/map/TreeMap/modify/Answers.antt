@@ -1,52 +1,51 @@
--- The list changes an entry that is there by a call on its value.
+-- The list changes the entry that is sought by a call on its value.
 use Rattle.std.proofs.Common.{◌∙◌, ap, refl, rules, subst, sym}
-use Rattle.std.specs.Prelude.{slice_get}
-use Rattle.std.proofs.lemmas.Option.{same_Some}
-use Rattle.persistent.specs.Places.{IsFound}
-use Rattle.persistent.proofs.Changed.{IsModified, modified}
-use Rattle.persistent.proofs.Under.{found_missing, found_there}
+use Rattle.std.specs.Prelude.{not}
+use Rattle.std.specs.Ordering.{is_lt}
+use Rattle.persistent.specs.Maps.{lookup}
+use Rattle.persistent.specs.Queries.{key_form}
+use Rattle.persistent.proofs.Changed.{IsModified, modified, value_found}
+use Rattle.persistent.proofs.Cuts.{has_cut}
 use Rattle.persistent.proofs.map.TreeMap.modify.Goals as goal
-use Rattle.persistent.proofs.map.TreeMap.modify.Goals.{After-modify-changed}
+use Rattle.persistent.proofs.map.TreeMap.modify.Goals.{After-change}
 use Rattle.persistent.proofs.map.TreeMap.modify.Given as given
 
-pub returns-in-Err-clause-absent : goal.returns-in-Err-clause-absent
-returns-in-Err-clause-absent g c = (
-  found_missing (g.K.Ord.cmp c.args.key.now) c.args.self.now c.in-Err.field-0 c.in-Err.ensures.place
-      (λ e. e.1),
-  refl,
-)
+pub change-requires-clause-cut : goal.change-requires-clause-cut
+change-requires-clause-cut g c =
+    let cmp = g.K.Ord.cmp in
+    has_cut cmp (cmp c.args.key.now) (key_form g.met.K.Ord.total c.args.key.now) (λ o. not (is_lt o)) refl refl
+    c.self.inside.entries c.self.invariant
 
-pub modify-changed-requires-clause-callable : goal.modify-changed-requires-clause-callable
-modify-changed-requires-clause-callable g c x is p now q value =
-    let there = c.in-Ok.ensures.place in
-    let same = same_Some there.entry x
-    (sym there.is ∙ ap (λ es. slice_get es c.in-Ok.at) (sym c.self.view_is) ∙ is) in
-    c.requires.callable there.entry.1
-    (found_there (g.K.Ord.cmp c.args.key.now) c.args.self.now c.in-Ok.at there (λ e. e.1)) q
-    (value ∙ ap (λ e. e.1) (now ∙ sym same))
+pub change-requires-clause-callable : goal.change-requires-clause-callable
+change-requires-clause-callable g c at there p now q value =
+    let cmp = g.K.Ord.cmp in
+    let es = c.self.inside.entries in
+    let key = c.args.key.now in
+    c.requires.callable there.item.1
+    (ap (lookup cmp key) (sym c.self.view_is)
+    ∙ value_found cmp g.met.K.Ord.total key es es c.self.invariant at there) q
+    (value ∙ ap (λ e. e.1) now)
 
 -- what the list made of the value
-done : (g : given.Over) (c : After-modify-changed g)
-    → IsModified g.K.Ord.cmp c.args.key.now c.args.self.now c.modify-changed.new.self g.F.FnOnce c.args.change
-    c.modify-changed.result
+done : (g : given.Over) (c : After-change g)
+    → IsModified g.K.Ord.cmp c.args.key.now c.args.self.now c.change.new.self g.F.FnOnce c.args.change c.change.result
 done g c =
     let cmp = g.K.Ord.cmp in
     let es = c.self.inside.entries in
-    let q = c.args.key.now in
-    let there = subst (λ es. IsFound (cmp q) es c.in-Ok.at) (sym c.self.view_is) c.in-Ok.ensures.place in
-    let modify = c.modify-changed.ensures in
-    subst (λ es. IsModified cmp q es c.modify-changed.new.self g.F.FnOnce c.args.change c.modify-changed.result)
-    c.self.view_is
-    (modified cmp g.met.K.Ord.total q es c.modify-changed.new.self c.in-Ok.at there c.self.invariant _ _ g.F.FnOnce
-    c.args.change (λ before after a called. search rules) c.modify-changed.result modify.changed modify.refused)
+    let key = c.args.key.now in
+    let change = c.change.ensures in
+    subst (λ es. IsModified cmp key es c.change.new.self g.F.FnOnce c.args.change c.change.result) c.self.view_is
+    (modified cmp g.met.K.Ord.total key es c.change.new.self c.self.invariant _ _ g.F.FnOnce c.args.change
+    (λ before after a called. search rules) c.change.result change.absent change.changed change.there change.refused)
 
-pub invariant_of-self-in-Ok : goal.invariant_of-self-in-Ok
-invariant_of-self-in-Ok g c = (done g (goal.at.invariant_of-self-in-Ok g c).After-modify-changed).rising
+pub invariant_of-self : goal.invariant_of-self
+invariant_of-self g c = (done g c).rising
 
-pub returns-in-Ok-changed-clause-changed : goal.returns-in-Ok-changed-clause-changed
-returns-in-Ok-changed-clause-changed g c =
-    rw c.in-Ok-changed.is at (done g (goal.at.returns-in-Ok-changed-clause-changed g c).After-modify-changed).changed
+pub returns-clause-absent : goal.returns-clause-absent
+returns-clause-absent g c = (done g c).absent
 
-pub returns-in_default-clause-none : goal.returns-in_default-clause-none
-returns-in_default-clause-none g c none =
-    absurd ((done g (goal.at.returns-in_default-clause-none g c).After-modify-changed).there none)
+pub returns-clause-changed : goal.returns-clause-changed
+returns-clause-changed g c = (done g c).changed
+
+pub returns-clause-none : goal.returns-clause-none
+returns-clause-none g c = (done g c).none

@@ -1,6 +1,6 @@
 -- The symbols of a list of values.
 use Rattle.std.proofs.Common.{◌≡◌, ℕ, ◌↔◌, Bool, true, false, not, List, [], ◌∷◌, ◌++◌, length, get_or, slice_get}
-use Rattle.std.proofs.Common.{Option, Some, None, IsSome, is_some, nat_eq, nat_lt, position, if◌then◌else◌}
+use Rattle.std.proofs.Common.{◌<◌, Option, Some, None, IsSome, is_some, nat_eq, nat_lt, position, if◌then◌else◌}
 use Rattle.std.proofs.Common.{refl, sym, ap, ◌∙◌, true≢false, arith}
 use Rattle.std.proofs.lemmas.List.Folds.{position_or_len_push}
 use Rattle.std.proofs.lemmas.List.Sums.{prefix_len-le-length}
@@ -117,6 +117,10 @@ module _ {T : Type 0} {eq : T → T → Bool} {old new : List T} {value : T} {s 
   stands_at self same =
       let at = position-Some (eq value) new s value ((met.one value).1 self) in
       slice_get-get_or new s value at.0 ∙ ap Some (sym (same (get_or new s value) at.1))
+
+  -- its symbol is less than the number of the values
+  pub symbol_within : eq value value ≡ true → s < length new
+  symbol_within self = (position-Some (eq value) new s value ((met.one value).1 self)).0
 
   -- a value that was there stays under its symbol
   pub stays_at : (k : ℕ) (v : T) → slice_get old k ≡ Some v → slice_get new k ≡ Some v

@@ -3,6 +3,7 @@ pub mod Changed
 pub mod Copied
 pub mod Cuts
 pub mod Differences
+pub mod Inserted
 pub mod Kept
 pub mod Lookup
 pub mod Order

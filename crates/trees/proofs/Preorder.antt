@@ -1,7 +1,7 @@
 -- The values of a tree, one step down, and those that a walk has still to see.
-use Rattle.std.proofs.Common.{◌≡◌, ℕ, ◌+◌, ◌*◌, ◌<◌, ◌≤◌, List, [], ◌∷◌, ◌++◌, length, map, ap, sym, ◌∙◌, arith}
+use Rattle.std.proofs.Common.{◌≡◌, ℕ, ◌+◌, ◌*◌, ◌<◌, ◌≤◌, List, [], ◌∷◌, ◌++◌, length, map, ap, sym, refl, ◌∙◌, arith}
 use Rattle.std.proofs.Common.{append_assoc, append-nil, length-append, Bor}
-use Rattle.std.proofs.lemmas.List.{length_push, map_push, nil_from_length}
+use Rattle.std.proofs.lemmas.List.{length_push, map_push}
 use Rattle.std.specs.Prelude.{Result, Ok, Err, OnOk, OnErr}
 use Rattle.std.specs.List.{flat_map, AppendsClones, each_same}
 use Rattle.std.proofs.lemmas.List.Folds.{flat_map-map}
@@ -15,61 +15,13 @@ module _ {V : Type 0} where
       fold_out-Rose V (List V) (λ r. r.node.header ∷ flat_map (λ values. values) r.node.items) tree
       ∙ ap (λ values. root tree ∷ values) (flat_map-map (λ values. values) preorder (children tree))
 
-  -- what a walk has still to see, if it goes on with the last of the lists of trees
-  abbrev pub to_see : List (Bor (List (Rose V))) → List V
-  to_see [] = []
-  to_see (trees ∷ more) = to_see more ++ flat_map preorder trees.now
+  -- what a walk has to see of a list of trees
+  abbrev pub values_in : Bor (List (Rose V)) → List V
+  values_in trees = flat_map preorder trees.now
 
-  to_see-push : (more : List (Bor (List (Rose V)))) (trees : Bor (List (Rose V)))
-      → to_see (more ++ trees ∷ []) ≡ flat_map preorder trees.now ++ to_see more
-  to_see-push [] trees = sym (append-nil (flat_map preorder trees.now))
-  to_see-push (t ∷ more) trees =
-      ap (λ values. values ++ flat_map preorder t.now) (to_see-push more trees)
-      ∙ append_assoc (flat_map preorder trees.now) (to_see more) (flat_map preorder t.now)
-
-  -- a turn that finds no tree in its list
-  module _ (left more : List (Bor (List (Rose V)))) (trees : Bor (List (Rose V)))
-      (popped : left ≡ more ++ trees ∷ []) (none : length trees.now ≡ 0) where
-    pub to_see-same : to_see left ≡ to_see more
-    to_see-same =
-        ap to_see popped ∙ to_see-push more trees
-        ∙ ap (λ ts. flat_map preorder ts ++ to_see more) (nil_from_length trees.now none)
-
-    pub fewer_lists : 2 * length (to_see more) + length more < 2 * length (to_see left) + length left
-    fewer_lists = omega (arith, ap length to_see-same, ap length popped, length_push more trees)
-
-  -- a turn that sees a tree's root, and then has those below it before the rest of its list
-  module _ (left more pushed next : List (Bor (List (Rose V)))) (trees rest below : Bor (List (Rose V)))
-      (first : Rose V) (popped : left ≡ more ++ trees ∷ []) (one : pushed ≡ more ++ rest ∷ [])
-      (two : next ≡ pushed ++ below ∷ []) (parts : trees.now ≡ first ∷ rest.now)
-      (under : below.now ≡ children first) where
-    pub to_see-root : to_see left ≡ root first ∷ to_see next
-    to_see-root =
-        rw (
-          popped,
-          two,
-          to_see-push more trees,
-          to_see-push pushed below,
-          one,
-          to_see-push more rest,
-          parts,
-          under,
-          preorder_out first,
-        ) (ap (λ values. root first ∷ values) (append_assoc (flat_map preorder (children first))
-        (flat_map preorder rest.now) (to_see more)))
-
-    pub fewer_values : 2 * length (to_see next) + length next < 2 * length (to_see left) + length left
-    fewer_values =
-        omega (
-          arith,
-          ap length to_see-root,
-          ap length popped,
-          length_push more trees,
-          ap length one,
-          length_push more rest,
-          ap length two,
-          length_push pushed below,
-        )
+  pub see_first : (trees rest below : Bor (List (Rose V))) (first : Rose V) → trees.now ≡ first ∷ rest.now
+      → below.now ≡ children first → values_in trees ≡ root first ∷ (values_in below ++ values_in rest)
+  see_first trees rest below first parts under = rw (parts, under, preorder_out first) refl
 
   -- the number of the values in these trees
   abbrev pub count : List (Rose V) → ℕ
@@ -94,11 +46,52 @@ module _ {V : Type 0} where
       omega (arith, ap count is, count-append old more)
   count-extended B (Err e) old new more clones same = omega (arith, ap count same.0)
 
--- what was seen and what is still to be seen stay all values, if one more is seen
-pub seen-more : {V : Type 0} (values seen : List (Bor V)) (value : Bor V) (v : V) (before after all : List V)
-    → seen ≡ values ++ value ∷ [] → value.now ≡ v → before ≡ v ∷ after
-    → map (λ x. x.now) values ++ before ≡ all → map (λ x. x.now) seen ++ after ≡ all
-seen-more values seen value v before after all more is parts whole =
-    ap (λ vs. map (λ x. x.now) vs ++ after) more ∙ ap (λ vs. vs ++ after) (map_push (λ x. x.now) values value)
-    ∙ append_assoc (map (λ x. x.now) values) (value.now ∷ []) after
-    ∙ ap (λ x. map (λ y. y.now) values ++ x ∷ after) is ∙ ap (λ vs. map (λ x. x.now) values ++ vs) (sym parts) ∙ whole
+-- what a walk has still to see, if it goes on with the last of what is left
+module _ {E X : Type 0} (see : E → List X) where
+  abbrev pub to_see : List E → List X
+  to_see [] = []
+  to_see (e ∷ more) = to_see more ++ see e
+
+  to_see-push : (more : List E) (e : E) → to_see (more ++ e ∷ []) ≡ see e ++ to_see more
+  to_see-push [] e = sym (append-nil (see e))
+  to_see-push (first ∷ more) e =
+      ap (λ xs. xs ++ see first) (to_see-push more e) ∙ append_assoc (see e) (to_see more) (see first)
+
+  -- a turn that finds nothing to see
+  module _ (left more : List E) (e : E) (popped : left ≡ more ++ e ∷ []) (none : see e ≡ []) where
+    pub to_see-same : to_see left ≡ to_see more
+    to_see-same = ap to_see popped ∙ to_see-push more e ∙ ap (λ xs. xs ++ to_see more) none
+
+    pub fewer_left : 2 * length (to_see more) + length more < 2 * length (to_see left) + length left
+    fewer_left = omega (arith, ap length to_see-same, ap length popped, length_push more e)
+
+  -- a turn that sees one, and then has what is below it before the rest
+  module _ (left more pushed next : List E) (e rest below : E) (x : X) (popped : left ≡ more ++ e ∷ [])
+      (one : pushed ≡ more ++ rest ∷ []) (two : next ≡ pushed ++ below ∷ [])
+      (parts : see e ≡ x ∷ (see below ++ see rest)) where
+    pub to_see-one : to_see left ≡ x ∷ to_see next
+    to_see-one =
+        rw (popped, two, to_see-push more e, to_see-push pushed below, one, to_see-push more rest, parts)
+        (ap (λ xs. x ∷ xs) (append_assoc (see below) (see rest) (to_see more)))
+
+    pub fewer_to_see : 2 * length (to_see next) + length next < 2 * length (to_see left) + length left
+    fewer_to_see =
+        omega (
+          arith,
+          ap length to_see-one,
+          ap length popped,
+          length_push more e,
+          ap length one,
+          length_push more rest,
+          ap length two,
+          length_push pushed below,
+        )
+
+-- what was seen and what is still to be seen stay all, if one more is seen
+pub seen-more : {X Y : Type 0} (view : Y → X) (seen now : List Y) (y : Y) (x : X) (before after all : List X)
+    → now ≡ seen ++ y ∷ [] → view y ≡ x → before ≡ x ∷ after → map view seen ++ before ≡ all
+    → map view now ++ after ≡ all
+seen-more view seen now y x before after all more is parts whole =
+    ap (λ ys. map view ys ++ after) more ∙ ap (λ xs. xs ++ after) (map_push view seen y)
+    ∙ append_assoc (map view seen) (view y ∷ []) after
+    ∙ ap (λ v. map view seen ++ v ∷ after) is ∙ ap (λ xs. map view seen ++ xs) (sym parts) ∙ whole

@@ -1,3 +1,4 @@
 pub mod Changes
+pub mod Modified
 pub mod Roses
 pub mod Versions

@@ -1,6 +1,6 @@
 -- A rose tree is its value and its children. A path has the number of a child for each step down.
-use Rattle.std.specs.Prelude.{ℕ, List, [], ◌∷◌, Option, None, Some, if◌then◌else◌, insert, length, nat_le, nat_lt}
-use Rattle.std.specs.Prelude.{map, remove, set, slice_get}
+use Rattle.std.specs.Prelude.{ℕ, suc, List, [], ◌∷◌, ◌++◌, Option, None, Some, if◌then◌else◌, insert, length, nat_le}
+use Rattle.std.specs.Prelude.{map, nat_lt, remove, set, slice_get}
 use Rattle.std.specs.List.{flat_map}
 use Rattle.std.specs.Option.{option_map, option_and_then}
 use Rattle.trees.specs.declared.rose.Rose.{Rose, fold-Rose, out-Rose, roll-Rose}
@@ -63,3 +63,13 @@ without path i = changed_at (removed i) path
 -- the values from a tree down, each before those below it
 abbrev pub preorder : {V : Type 0} → Rose V → List V
 preorder {V} tree = fold-Rose V (List V) (λ r. r.node.header ∷ flat_map (λ values. values) r.node.items) tree
+
+-- the values from these trees down with the paths to them, where the first tree has that number below the path
+abbrev pub paths_below : {V : Type 0} → List ℕ → ℕ → List (List ℕ → List (List ℕ × V)) → List (List ℕ × V)
+paths_below path i [] = []
+paths_below path i (from ∷ more) = from (path ++ i ∷ []) ++ paths_below path (suc i) more
+
+-- the values from a tree down with the paths to them, where that path leads to the tree; each before those below it
+abbrev pub paths_from : {V : Type 0} → Rose V → List ℕ → List (List ℕ × V)
+paths_from {V} tree =
+    fold-Rose V (List ℕ → List (List ℕ × V)) (λ r path. (path, r.node.header) ∷ paths_below path 0 r.node.items) tree

@@ -4,6 +4,7 @@ ghost use Rattle.std.specs.Option.{option_copied};
 ghost use Rattle.trees.specs.Roses.{at, branch, children, root};
 
 mod change;
+mod modify;
 mod walk;
 
 use handles::arc::Arc;

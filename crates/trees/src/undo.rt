@@ -69,6 +69,13 @@ impl<T> Undo<T> {
         &self.before
     }
 
+    /// What the value was before each undo since the last change, the last undo last.
+    pub fn undone(&self) -> &[T]
+        ensures { result.now ≡ self.now.undone }
+    {
+        &self.undone
+    }
+
     /// Whether there is a version to go back to.
     pub fn can_undo(&self) -> bool
         ensures { IsTrue result ↔ (0 < length self.now.before) }

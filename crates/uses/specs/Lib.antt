@@ -1,3 +1,4 @@
+pub mod Bank
 pub mod Chains
 pub mod Documents
 pub mod Walks

@@ -2,6 +2,7 @@
 #![tactic(auto)]
 
 pub mod along_a_path;
+pub mod bank;
 pub mod buffer;
 pub mod copies;
 pub mod crossing;

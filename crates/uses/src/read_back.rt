@@ -1,4 +1,4 @@
-//! A caller that reads behind a clause which says the whole map, and so cites a lemma of what is read there.
+//! A caller that reads behind a clause which says the whole map, and so names the lemmas of what is read there.
 ghost use Rattle.std.specs.Prelude.{◌≡◌, Some, IfOk, OnOk};
 ghost use Rattle.std.specs.Ordering.{nat_cmp};
 ghost use Rattle.persistent.specs.Maps.{with_entry};
@@ -20,7 +20,7 @@ pub fn set(
 }
 
 /// What is read after that.
-#[tactic(auto, using(crate::proofs::ReadBack::read_back))]
+#[tactic(auto, using(persistent::proofs::Inserted::numbers))]
 pub fn set_and_read(
     map: &mut TreeMap<u64, u64>,
     alloc: Global,

@@ -32,6 +32,31 @@ fn a_refused_change_drops_what_it_made(rt: HostRuntime) {
     same!(&rt, tally.living(4), 0);
 }
 
+// The two nodes on the path are copied, since another version has them. If one is not, the tree is as it was.
+#[test]
+fn a_refused_change_in_place_changes_nothing(rt: HostRuntime) {
+    let (alloc, tally) = (rt.alloc(), Tally::new());
+    let Ok(mut tree) = three(alloc, &tally) else {
+        return report(&rt, "the set-up");
+    };
+    let old = again!(&rt, &tree);
+    let changed = tree.modify(alloc, &[1], |counted: &mut Counted<'_>| counted.value = 9);
+    let is_same = Rose::ptr_eq(&old, &tree);
+    ok!(&rt, println!(rt; "{:?}", (changed.is_ok(), is_same)));
+    drop((old, tree));
+    same!(&rt, tally.living(3), 0);
+}
+
+#[test]
+fn a_refused_list_of_paths_is_dropped(rt: HostRuntime) {
+    let (alloc, tally) = (rt.alloc(), Tally::new());
+    let Ok(tree) = three(alloc, &tally) else {
+        return report(&rt, "the set-up");
+    };
+    let number = tree.paths(alloc).map(|paths| paths.len());
+    ok!(&rt, println!(rt; "{number:?}"));
+}
+
 #[test]
 fn a_refused_undo_drops_each_version_once(rt: HostRuntime) {
     let tally = Tally::new();

@@ -1,9 +1,10 @@
 //! What rose trees share and drop.
 use crate::made::{check_debug, check_display};
 use interner::InternError;
+use std::mem;
 use std::process::Abort;
 use testing::counted::{Counted, Tally};
-use testing::{ok, same, same_at};
+use testing::{again, ok, same, same_at};
 use trees::{PlaceError, Rose, Undo};
 
 type Tree<'a> = Rose<Counted<'a>>;
@@ -89,6 +90,52 @@ fn each_change_copies_its_path_once(rt: HostRuntime) {
     same!(&rt, tally.read(), (6, 1));
     drop((old, trees));
     same!(&rt, tally.living(9), 0);
+}
+
+fn set_nine(counted: &mut Counted<'_>) -> u64 {
+    mem::replace(&mut counted.value, 9)
+}
+
+// Nothing is copied of a tree that nobody shares. Of one that a version shares the two nodes on the path are.
+#[test]
+fn a_change_in_place_copies_what_others_have(rt: HostRuntime) {
+    let (alloc, tally) = (rt.alloc(), Tally::new());
+    let mut tree = six(&rt, &tally);
+    let alone = ok!(&rt, tree.modify(alloc, &[1, 0], set_nine));
+    same!(&rt, (alone, tally.read()), (5, (0, 0)));
+    let old = again!(&rt, &tree);
+    let nowhere = tree.modify(alloc, &[1, 2], set_nine);
+    same!(
+        &rt,
+        (nowhere, Rose::ptr_eq(&old, &tree)),
+        (Err(PlaceError::NoPlace), true)
+    );
+    let shared = ok!(&rt, tree.modify(alloc, &[1], set_nine));
+    same!(&rt, (shared, tally.copies()), (3, 2));
+    let read = [&old, &tree].map(|tree| [value_at(tree, &[1]), value_at(tree, &[1, 0])]);
+    same!(&rt, read, [[Some(3), Some(9)], [Some(9); 2]]);
+    same!(&rt, is_shared(&old, &tree, &[1, 0]), true);
+    drop((old, tree));
+    same!(&rt, tally.living(6), 0);
+}
+
+#[test]
+fn each_value_has_its_path(rt: HostRuntime) {
+    let tally = Tally::new();
+    let tree = six(&rt, &tally);
+    let paths = ok!(&rt, tree.paths(rt.alloc()));
+    let found = paths
+        .iter()
+        .map(|(path, counted)| (path.as_slice(), counted.value));
+    let expected: [(&[usize], u64); 6] = [
+        (&[], 1),
+        (&[0], 2),
+        (&[1], 3),
+        (&[1, 0], 5),
+        (&[1, 1], 6),
+        (&[2], 4),
+    ];
+    same!(&rt, found.eq(expected.into_iter()), true);
 }
 
 #[test]

@@ -4,6 +4,7 @@ use interner::Interner;
 use persistent::{List, TreeMap};
 use servo_arc::{Arc, UniqueArc};
 use testing::{again, holds, ok, same};
+use uses::bank::transfer;
 use uses::crossing::{end_elsewhere, is_unique_elsewhere, len_elsewhere, made_elsewhere};
 use uses::dynamic::{Codec, encoded, shared};
 use uses::edits::{Article, two_titles};
@@ -142,4 +143,21 @@ fn values_of_two_types_are_shared(rt: HostRuntime) {
         [encoded(&same, 3), encoded(&always, 3), encoded(&again, 4)],
         [3, 7, 7]
     );
+}
+
+// Account 2 is opened, which nobody has before. The first has only 1 left, and account 3 has no room for one more.
+#[test]
+fn a_transfer_needs_the_amount_and_room(rt: HostRuntime) {
+    let alloc = rt.alloc();
+    let balances = ok!(&rt, vec![in alloc; (1, 5), (3, u64::MAX)]);
+    let mut bank = ok!(&rt, TreeMap::from_items(alloc, balances));
+    let moved = [
+        ok!(&rt, transfer(&mut bank, alloc, 1, 2, 4)),
+        ok!(&rt, transfer(&mut bank, alloc, 1, 2, 2)),
+        ok!(&rt, transfer(&mut bank, alloc, 2, 3, 1)),
+        ok!(&rt, transfer(&mut bank, alloc, 2, 2, 4)),
+    ];
+    same!(&rt, moved, [true, false, false, true]);
+    let balances = [1, 2, 3].map(|account| bank.get(&account).copied());
+    same!(&rt, balances, [Some(1), Some(4), Some(u64::MAX)]);
 }

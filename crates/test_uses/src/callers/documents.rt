@@ -50,6 +50,8 @@ fn edits_are_undone_and_done_again(rt: HostRuntime) {
     }
     let moved = [document.undo(), document.undo(), document.redo()];
     same!(&rt, moved.map(Result::ok), [Some(true); 3]);
+    let versions = [document.before().len(), document.undone().len()];
+    same!(&rt, versions, [4, 1]);
     let mut cache = ok!(&rt, StyleCache::new(alloc, ok!(&rt, Initial::new(alloc))));
     let styles = ok!(&rt, styles(&mut cache, alloc, document.current()));
     same!(&rt, styles.len(), 3);

@@ -1,6 +1,6 @@
 //! All values of a tree, and its end, by loops over what is left to be seen.
-ghost use Rattle.std.specs.Prelude.{◌≡◌, IfOk, map};
-ghost use Rattle.trees.specs.Roses.{preorder};
+ghost use Rattle.std.specs.Prelude.{◌≡◌, [], IfOk, map};
+ghost use Rattle.trees.specs.Roses.{paths_from, preorder};
 
 use super::Rose;
 use handles::arc::Arc;
@@ -25,6 +25,47 @@ impl<V> Rose<V> {
         }
         Ok(values)
     }
+
+    /// All values with the paths that lead to them, in the order of `values`. It requests memory for them, and for a
+    /// path to each tree on the way down.
+    pub fn paths(&self, alloc: Global) -> Result<Vec<(Vec<usize>, &V)>, AllocError>
+        ensures { IfOk result (λ paths. map (λ p. (p.0.items, p.1.now)) paths.items ≡ paths_from self.now []) }
+    {
+        let mut paths = vec![in alloc; (Vec::new(alloc), self.value())]?;
+        let mut left = Vec::new(alloc);
+        left.push(Left {
+            path: Vec::new(alloc),
+            tree: self,
+            child: 0,
+        })?;
+        while let Some(Left { path, tree, child }) = left.pop() {
+            let Some(below) = tree.children().get(child) else {
+                continue;
+            };
+            let mut path_below = path.to_vec(alloc)?;
+            path_below.push(child)?;
+            paths.push((path_below.to_vec(alloc)?, below.value()))?;
+            left.push(Left {
+                path,
+                tree,
+                child: child + 1,
+            })?;
+            left.push(Left {
+                path: path_below,
+                tree: below,
+                child: 0,
+            })?;
+        }
+        Ok(paths)
+    }
+}
+
+// A tree that was seen, with its path, and the number of its first child that was not.
+#[derive(Drop)]
+struct Left<'a, V> {
+    path: Vec<usize>,
+    tree: &'a Rose<V>,
+    child: usize,
 }
 
 impl<V: Drop> Rose<V> {

@@ -1,12 +1,12 @@
 -- What was seen and what is still to be seen are all values; each turn sees one or ends a list.
 use Rattle.std.proofs.Common.{◌≡◌, ◌++◌, ◌+◌, ◌*◌, length, map}
 use Rattle.trees.specs.Roses.{preorder}
-use Rattle.trees.proofs.Preorder.{to_see}
+use Rattle.trees.proofs.Preorder.{to_see, values_in}
 use Rattle.trees.proofs.rose.Rose.values.Given as goal
 
 abbrev pub invariant-loop-trees : goal.invariant-loop-trees
 invariant-loop-trees g l =
-    map (λ v. v.now) l.values.items ++ to_see l.left.items ≡ preorder l.self
+    map (λ v. v.now) l.values.items ++ to_see values_in l.left.items ≡ preorder l.self
 
 abbrev pub decreases-loop-trees : goal.decreases-loop-trees
-decreases-loop-trees g l = 2 * length (to_see l.left.items) + length l.left.items
+decreases-loop-trees g l = 2 * length (to_see values_in l.left.items) + length l.left.items

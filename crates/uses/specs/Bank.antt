@@ -1,0 +1,11 @@
+-- A bank is the list of its accounts with their balances. An account that is not there has nothing.
+use Rattle.std.specs.Prelude.{ℕ, List, sum_by}
+use Rattle.std.specs.Option.{unwrap_or}
+use Rattle.std.specs.Ordering.{nat_cmp}
+use Rattle.persistent.specs.Maps.{lookup}
+
+abbrev pub balance : ℕ → List (ℕ × ℕ) → ℕ
+balance account bank = unwrap_or (lookup nat_cmp account bank) 0
+
+abbrev pub total : List (ℕ × ℕ) → ℕ
+total bank = sum_by (λ e. e.1) bank

@@ -1,0 +1,44 @@
+//! A bank, whose contract says that a transfer keeps the sum of all balances.
+ghost use Rattle.std.specs.Prelude.{◌≡◌, ◌+◌, ◌^◌, ◌<◌, ◌≤◌, ◌⊎◌, ℕ, false, true, IfOk, OnErr};
+ghost use Rattle.std.specs.Ordering.{is_eq, nat_cmp};
+ghost use Rattle.persistent.specs.Maps.{lookup};
+ghost use Rattle.uses.specs.Bank.{balance, total};
+
+use persistent::TreeMap;
+use std::alloc::{AllocError, Global};
+
+/// Moves an amount from one account to another, and says whether the first has it and the second has room for it.
+///
+/// It works on a version, so that the bank stays as it was if the second account cannot be written.
+#[tactic(auto, using(persistent::proofs::Inserted::numbers))]
+pub fn transfer(
+    bank: &mut TreeMap<u64, u64>,
+    alloc: Global,
+    from: u64,
+    to: u64,
+    amount: u64,
+) -> Result<bool, AllocError>
+    ensures total { total bank.new ≡ total bank.old }
+    ensures sent { IfOk result (λ moved. moved ≡ true → is_eq (nat_cmp from to) ≡ false
+        → balance from bank.new + amount ≡ balance from bank.old) }
+    ensures got { IfOk result (λ moved. moved ≡ true → is_eq (nat_cmp to from) ≡ false
+        → balance to bank.new ≡ balance to bank.old + amount) }
+    ensures others { (k : ℕ) → is_eq (nat_cmp k from) ≡ false → is_eq (nat_cmp k to) ≡ false
+        → lookup nat_cmp k bank.new ≡ lookup nat_cmp k bank.old }
+    ensures unmoved { IfOk result (λ moved. moved ≡ false → bank.new ≡ bank.old) }
+    ensures why { IfOk result (λ moved. moved ≡ false
+        → (balance from bank.old < amount) ⊎ (2 ^ 64 ≤ balance to bank.old + amount)) }
+    ensures refused { OnErr result (bank.new ≡ bank.old) }
+{
+    let mut next = bank.clone()?;
+    let Some(left) = next.get(&from).copied().unwrap_or(0).checked_sub(amount) else {
+        return Ok(false);
+    };
+    next.insert(alloc, from, left)?;
+    let Some(more) = next.get(&to).copied().unwrap_or(0).checked_add(amount) else {
+        return Ok(false);
+    };
+    next.insert(alloc, to, more)?;
+    *bank = next;
+    Ok(true)
+}

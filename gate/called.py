@@ -11,23 +11,6 @@ WORD = re.compile(r"\w+")
 EXPORT = re.compile(r"^ *pub use ([^;]*);", re.M)
 MODULE = re.compile(r"^(pub )?mod (\w+);", re.M)
 
-# These wait for a test.
-UNCALLED = {
-    "handles: UniqueArc::leak",
-    "persistent: TreeMap::keys",
-    "interner: Interner::with_capacity_and_hasher",
-    "cascade: declared_by",
-    "cascade: Style::declare",
-    "cascade: styles_in_two",
-    "uses: labels_again",
-    "uses: numbers_again",
-    "uses: all_handles_cross_threads",
-    "uses: all_recursive_types_cross_threads",
-    "uses: set_and_read",
-    "uses: in_front",
-    "uses: look_in_two_threads",
-}
-
 
 def source(path):
     return re.sub(r"^\s*//.*", "", path.read_text(), flags=re.M)

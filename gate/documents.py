@@ -11,7 +11,7 @@
   for scripts that meet their goals;
 - bench/measured.tsv has each goal of bench/goals.tsv once and no other, with the verdict that follows from its figures,
   and so have the calls of maps and sequences;
-- each public function is called, but for those that gate/called.py lists.
+- each public function is called, as gate/called.py finds.
 """
 import csv
 import re
@@ -24,7 +24,7 @@ from pathlib import Path
 
 ROOT = Path(__file__).resolve().parent.parent
 sys.path.append(str(ROOT / "bench"))
-from called import UNCALLED, uncalled
+from called import uncalled
 from compare import read_goals, verdict
 goal_of = runpy.run_path(str(ROOT / "bench" / "collections.py"))["goal_of"]
 DOCUMENTS = 25
@@ -192,7 +192,7 @@ def main():
     wrong = [f"{name}: {line}" for name in documents for line in wrong_in(ROOT / name, files)]
     wrong += [f"docs/SPEED.md: not as measured: {line}" for line in wrong_speed()]
     wrong += [f"bench/{name}" for name in chain(wrong_verdicts(), wrong_goals("maps"), wrong_goals("sequences"))]
-    wrong += [f"not called, or called and listed as not: {name}" for name in UNCALLED.symmetric_difference(uncalled())]
+    wrong += [f"no test, program or use calls {name}" for name in uncalled()]
     print("\n".join([*wrong, f"documents: {len(documents)} of {DOCUMENTS}, {len(wrong)} wrong"]))
     return 1 if wrong or len(documents) != DOCUMENTS else 0
 

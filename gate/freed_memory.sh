@@ -13,4 +13,4 @@ freed freed-blocks 8388608
 freed freed-unwritten 8388608
 freed freed-slices 4194304
 echo "freed memory: $count of 3 workloads had each page that they asked for"
-((count == 3))
+[[ $count = 3 && $(ulimit -v) = 1000000 ]]

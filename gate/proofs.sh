@@ -12,4 +12,4 @@ if ((free < 4 * processors)); then
     export RT_JOBS=$((free / 3 < 1 ? 1 : free / 3 < processors ? free / 3 : processors))
 fi
 echo "proofs: ${RT_JOBS:-as many as rt chooses} at once, on $processors processors with $free GB of free memory"
-rt ci 2>&1 | tee "$said" && ! grep 'BAD EDIT' "$said" >&2
+rt ci 2>&1 | tee "$said" && ! grep 'BAD EDIT' "$said" >&2 && grep -Eqx '[1-9][0-9]* passed, 0 failed' "$said"

@@ -30,6 +30,14 @@ fn a_unique_handle_is_written_and_then_shared(rt: HostRuntime) {
 }
 
 #[test]
+fn a_leaked_value_is_written_for_good(rt: HostRuntime) {
+    let tally = Tally::new();
+    let leaked = ok!(&rt, UniqueArc::new(rt.alloc(), Counted::new(&tally, 5))).leak();
+    leaked.value = 7;
+    same!(&rt, (leaked.value, tally.read()), (7, (0, 0)));
+}
+
+#[test]
 fn an_unwritten_block_drops_no_value(rt: HostRuntime) {
     let tally = Tally::new();
     drop(ok!(&rt, UniqueArc::<Counted<'_>>::new_uninit(rt.alloc())));

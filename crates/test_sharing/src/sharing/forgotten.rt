@@ -46,8 +46,9 @@ fn items_end_with_their_list(rt: HostRuntime) {
 fn read(rt: &(impl Abort + AllocGlobal), map: &TreeMap<Arc<u64>, Arc<u64>>) {
     ask(rt, map);
     let (low, high) = (arc_of(rt, 7), arc_of(rt, 8));
-    let seen = (map.get(&low), map.range(&low..&high).len(), map.depth());
-    same!(rt, seen, (Some(&low), 1, 2));
+    let range = map.range(&low..&high);
+    let seen = (map.get(&low), range.len(), map.keys().len(), map.depth());
+    same!(rt, seen, (Some(&low), 1, 200, 2));
     let near = [map.get_prev(&high), map.get_next(&low)];
     same!(rt, near, [map.nth(8), map.nth(7)]);
     let newer = ok!(rt, vec![in rt.alloc(); (again!(rt, &low), high)]);

@@ -1,12 +1,12 @@
 //! What styles share that `cascade` computed, for elements of four kinds in turn.
 use cascade::{
-    Declaration, Element, Initial, Inline, Rule, Style, StyleCache, shared_style, styles,
-    styles_in_four,
+    Declaration, Element, Initial, Inline, Rule, Source, Style, StyleCache, declared_by,
+    shared_style, styles, styles_in_four, styles_in_two,
 };
 use servo_arc::Arc;
 use std::alloc::{AllocError, Global};
 use std::sync::Mutex;
-use testing::{ok, same};
+use testing::{again, ok, same};
 
 const ELEMENTS: usize = 1_000;
 
@@ -77,20 +77,39 @@ fn have_groups_of_others(styles: &[Arc<Style>]) -> [bool; 4] {
     }
 }
 
-// One cache computes each style once. Each of four threads has a cache of its own, and all have the initial groups.
+// One cache computes each style once. Each of two or four threads has a cache of its own, and all have the initial
+// groups.
 #[test]
 fn elements_of_one_kind_share_their_style(rt: HostRuntime) {
     let alloc = rt.alloc();
     let elements = ok!(&rt, elements(alloc));
     let initial = ok!(&rt, Initial::new(alloc));
     let one = ok!(&rt, styles(alloc, initial, &elements));
+    let two = ok!(&rt, styles_in_two(&rt, alloc, initial, &elements));
     let four = ok!(&rt, styles_in_four(&rt, alloc, initial, &elements));
-    same!(&rt, one == four, true);
+    same!(&rt, [one == two, one == four], [true; 2]);
     same!(&rt, shared(&one), (1000, 1000, 1000));
+    same!(&rt, shared(&two), (500, 625, 750));
     same!(&rt, shared(&four), (250, 437, 624));
     same!(&rt, have_groups_of_others(&one), [true; 4]);
     let cache = Mutex::new(ok!(&rt, StyleCache::new(alloc, initial)));
     for element in elements.iter().take(4) {
         ok!(&rt, shared_style(&rt, &cache, alloc, element));
     }
+}
+
+// A declaration leaves the style that the group is shared with.
+#[test]
+fn a_declared_property_is_written_alone(rt: HostRuntime) {
+    let alloc = rt.alloc();
+    let large = Declaration::FontSize(40);
+    let source = Source::from_first(ok!(&rt, rule(alloc, 1, &[large])));
+    let initial = ok!(&rt, Initial::new(alloc)).style();
+    let mut style = again!(&rt, &initial);
+    for declaration in declared_by(&source) {
+        ok!(&rt, style.declare(alloc, *declaration));
+    }
+    let sizes = [initial.font.size, style.font.size];
+    let is_shared = Arc::ptr_eq(&initial.border, &style.border);
+    same!(&rt, (sizes, is_shared), ([16, 40], true));
 }

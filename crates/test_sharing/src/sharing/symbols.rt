@@ -35,8 +35,10 @@ impl Hasher for OneHash {
     fn write(&mut self, _bytes: &[u8]) {}
 }
 
-fn check_numbers<S: BuildHasher + Drop>(rt: &(impl Abort + AllocGlobal), hasher: S) {
-    let mut colors = Interner::with_hasher(rt.alloc(), hasher);
+fn check_numbers<S: BuildHasher + Drop>(
+    rt: &(impl Abort + AllocGlobal),
+    mut colors: Interner<Color, S>,
+) {
     for (color, number) in [(RED, 0), (BLUE, 1), (RED, 0), (BLUE, 1), (RED, 0)] {
         let symbol = ok!(rt, colors.intern(rt.alloc(), color));
         same!(rt, symbol.index(), number);
@@ -47,8 +49,11 @@ fn check_numbers<S: BuildHasher + Drop>(rt: &(impl Abort + AllocGlobal), hasher:
 // where all have one hash.
 #[test]
 fn a_color_keeps_its_number_under_each_hasher(rt: HostRuntime) {
-    check_numbers(&rt, ok!(&rt, RandomState::new(&rt)));
-    check_numbers(&rt, BuildHasherDefault::<OneHash>::new());
+    let hasher = ok!(&rt, RandomState::new(&rt));
+    check_numbers(&rt, Interner::with_hasher(rt.alloc(), hasher));
+    let hasher = BuildHasherDefault::<OneHash>::new();
+    let colors = Interner::with_capacity_and_hasher(rt.alloc(), 1, hasher);
+    check_numbers(&rt, ok!(&rt, colors));
 }
 
 // Of each of its blocks an interner has the only handle, and can give others.
@@ -61,11 +66,14 @@ fn a_block_of_an_interner_is_cloned(rt: HostRuntime) {
     same!(&rt, colors.find(&RED), Some(red));
     same!(&rt, lists.find(&[1u8, 2][..]), Some(list));
     holds!(&rt, colors.values().iter().all(|kept| kept.is_unique()));
-    holds!(&rt, lists.values().iter().all(|kept| kept.is_unique()));
+    holds!(&rt, lists.iter().all(|(_, kept)| kept.is_unique()));
     let red = ok!(&rt, colors.get(red).cloned());
     let list = ok!(&rt, lists.get(list).cloned());
     drop((colors, lists));
-    holds!(&rt, red.is_some_and(|color| *color == RED));
+    holds!(
+        &rt,
+        red.is_some_and(|color| color.is_unique() && *color == RED)
+    );
     holds!(
         &rt,
         list.is_some_and(|list| list.as_slice() == [1u8, 2].as_slice())

@@ -1,19 +1,31 @@
 //! The callers of the documentation, called: what they share, and on which threads.
+use crate::made::arc_of;
 use cow_table::CowTable;
 use interner::Interner;
 use persistent::{List, TreeMap};
 use servo_arc::{Arc, UniqueArc};
+use std::sync::RwLock;
 use testing::{again, holds, ok, same};
 use uses::bank::transfer;
-use uses::crossing::{end_elsewhere, is_unique_elsewhere, len_elsewhere, made_elsewhere};
+use uses::copies::{Labels, labels_again, numbers_again};
+use uses::crossing::{
+    all_handles_cross_threads, all_recursive_types_cross_threads, end_elsewhere,
+    is_unique_elsewhere, len_elsewhere, made_elsewhere,
+};
 use uses::dynamic::{Codec, encoded, shared};
 use uses::edits::{Article, two_titles};
 use uses::noted::set_and_note;
+use uses::published::{Limits, latest, replace};
+use uses::read_back::set_and_read;
+use uses::recursive::by_arc::Node;
+use uses::recursive::by_static::in_front;
+use uses::recursive::walks::push;
 use uses::symbols::are_equal;
 use uses::text_style::{
     TextStyle, plain_and_bold, plain_style, properties, properties_of, put_under, rule_of, size_of,
     style_or, styled,
 };
+use uses::two_threads::look_in_two_threads;
 use uses::two_versions::{before_and_after, two_lists};
 
 #[test]
@@ -50,6 +62,17 @@ fn a_place_is_set_and_noted(rt: HostRuntime) {
         set_and_note(&mut list, &mut places, rt.alloc(), 1, 9).is_ok()
     );
     same!(&rt, places.len(), 1);
+}
+
+// A reader keeps the version that it took.
+#[test]
+fn limits_are_replaced(rt: HostRuntime) {
+    let limits = RwLock::new(arc_of(&rt, Limits { low: 1, high: 2 }));
+    let old = ok!(&rt, latest(&rt, &limits));
+    replace(&rt, &limits, arc_of(&rt, Limits { low: 3, high: 4 }));
+    let new = ok!(&rt, latest(&rt, &limits));
+    let seen = (old.low, new.low, old.is_unique());
+    same!(&rt, seen, (1, 3, true));
 }
 
 #[test]
@@ -91,6 +114,40 @@ fn a_handle_crosses_threads(rt: HostRuntime) {
     same!(&rt, (shared, alone), ((7, false, false), (true, true)));
     let list = ok!(&rt, List::new().push(rt.alloc(), 7));
     same!(&rt, len_elsewhere(&rt, &list), 1);
+    all_handles_cross_threads();
+    all_recursive_types_cross_threads();
+    let was_last = ok!(&rt, look_in_two_threads(&rt, rt.alloc(), &[0, 1]));
+    same!(&rt, was_last.0, !was_last.1);
+}
+
+// A handle is copied with its block, and a list with its items. A node in front of another reads it.
+#[test]
+fn copies_and_nodes_read_what_was_there(rt: HostRuntime) {
+    let alloc = rt.alloc();
+    let labels = Labels {
+        text: arc_of(&rt, String::new(alloc)),
+        numbers: ok!(&rt, Arc::from_header_and_slice(alloc, 7, &[1])),
+    };
+    let copy = ok!(&rt, labels_again(&labels));
+    let is_shared = [
+        Arc::ptr_eq(&labels.text, &copy.text),
+        Arc::ptr_eq(&labels.numbers, &copy.numbers),
+    ];
+    let numbers = ok!(&rt, vec![in alloc; 4, 5]);
+    let numbers = ok!(&rt, numbers_again(&numbers));
+    let last = ok!(&rt, in_front(alloc, 7, None));
+    let front = ok!(&rt, in_front(alloc, 8, Some(last)));
+    let nodes = (front.value, front.next.map(|next| next.value));
+    let node = arc_of(
+        &rt,
+        Node {
+            value: 7,
+            next: None,
+        },
+    );
+    let pushed = ok!(&rt, push(alloc, 8, &node));
+    let seen = (is_shared, numbers.as_slice(), nodes, pushed.value);
+    same!(&rt, seen, ([true; 2], &[4, 5][..], (8, Some(7)), 8));
 }
 
 // What they then read is said by their clauses.
@@ -99,6 +156,8 @@ fn callers_make_both_versions(rt: HostRuntime) {
     let mut map = TreeMap::new();
     let read = before_and_after(rt.alloc(), &mut map, 3, 5).is_ok();
     same!(&rt, [two_lists(rt.alloc()).is_ok(), read], [true; 2]);
+    let read = set_and_read(&mut map, rt.alloc(), 7, 9);
+    same!(&rt, read, Ok(Some(9)));
 }
 
 #[test]

@@ -1,8 +1,9 @@
 #!/usr/bin/env bash
-# Refuses each single request for memory in turn: each test of `refusals`, and `arcbench` on two scripts, runs with its
-# first request refused, then with its second, until a run meets no refusal. What a run reports, and how many blocks it
-# keeps to its end, is its outcome. Those of all runs have to be just those of crates/test_refusals/outcomes.txt, and
-# each as often as there, so no call makes a request more or less. With --write it writes that file, for you to judge.
+# Refuses each single request for memory in turn: each test of `refusals`, `arcbench` on two scripts, and `collections`
+# on four, runs with its first request refused, then with its second, until a run meets no refusal. What a run reports,
+# and how many blocks it keeps to its end, is its outcome. Those of all runs have to be just those of
+# crates/test_refusals/outcomes.txt, and each as often as there, so no call makes a request more or less. With --write it
+# writes that file, for you to judge.
 set -u
 cd "$(dirname "$0")/.."
 program=crates/test_refusals/out/test_refusals_tests outcomes=crates/test_refusals/outcomes.txt
@@ -39,6 +40,7 @@ printf '%s\n' 'new 0 5' 'clone 0 1' 'makemut 0 9' 'own 1' 'get 0' 'get 1' >"$fol
     for name in $tests; do outcomes_of "$name" /dev/null "$program" "$name"; done
     outcomes_of 'arcbench core' "$folder/steps" crates/arcbench/out/arcbench core 2
     outcomes_of 'arcbench table' "$folder/commands" crates/arcbench/out/arcbench table 2
+    gate/versions.py --refused
 } >"$folder/runs"
 LC_ALL=C sort "$folder/runs" | uniq -c >"$folder/came"
 awk '/^#/ { next } /^ +[0-9]+ times$/ { times = $1; next } { tell(); outcome = $0; times = 1 } END { tell() }

@@ -2,6 +2,8 @@
 ghost use Rattle.std.specs.Prelude.{◌≡◌};
 
 use std::alloc::{AllocError, Global};
+use std::fmt;
+use std::fmt::{Debug, Formatter};
 use std::sync::atomic::AtomicU64;
 use std::sync::atomic::Ordering::SeqCst;
 
@@ -69,6 +71,13 @@ impl Clone for Counted<'_> {
             value: self.value,
             tally: self.tally,
         })
+    }
+}
+
+/// As its value.
+impl Debug for Counted<'_> {
+    fn fmt<W: fmt::Write>(&self, f: &mut Formatter<W>) -> fmt::Result {
+        self.value.fmt(f)
     }
 }
 

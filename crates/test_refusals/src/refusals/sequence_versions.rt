@@ -1,4 +1,5 @@
-//! What a refused call on versions of a sequence drops. What they then are is said by the clauses.
+//! What a refused call on versions of a sequence drops, of the calls that no script has. What they then are is said by
+//! the clauses.
 use self::Change::*;
 use crate::refusals::reporting::report;
 use sequence::{PlaceError, Sequence};
@@ -38,13 +39,6 @@ fn thin<'a>(alloc: Global, tally: &'a Tally) -> Result<Items<'a>, AllocError> {
 
 #[derive(Clone, Copy, Debug, PartialEq)]
 enum Change {
-    Insert(usize),
-    Push,
-    Set(usize),
-    Modify(usize),
-    Remove(usize),
-    SplitOff(usize),
-    Append,
     Truncate(usize),
     Replace(usize, usize),
     Extend,
@@ -52,18 +46,7 @@ enum Change {
     Swap(usize, usize),
 }
 
-const CHANGES: [Change; 18] = [
-    Insert(0),
-    Insert(40),
-    Insert(99),
-    Push,
-    Set(40),
-    Modify(40),
-    Remove(40),
-    Remove(99),
-    SplitOff(40),
-    SplitOff(99),
-    Append,
+const CHANGES: [Change; 7] = [
     Truncate(40),
     Truncate(99),
     Replace(20, 40),
@@ -81,13 +64,6 @@ fn changed<'a>(
     value: Counted<'a>,
 ) -> Result<(), PlaceError> {
     match change {
-        Insert(at) => items.insert(alloc, at, value)?,
-        Push => items.push(alloc, value)?,
-        Set(at) => drop(items.set(alloc, at, value)?),
-        Modify(at) => items.modify(alloc, at, |counted| counted.value = 9)?,
-        Remove(at) => drop(items.remove(alloc, at)?),
-        SplitOff(at) => drop(items.split_off(alloc, at)?),
-        Append => items.append(alloc, other)?,
         Truncate(len) => items.truncate(alloc, len)?,
         Replace(start, end) => drop(items.replace(alloc, start..end, other)?),
         Extend => items.extend(alloc, vec![in alloc; value]?)?,

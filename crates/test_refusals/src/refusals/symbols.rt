@@ -15,14 +15,3 @@ fn an_interner_with_room_asks_for_blocks_alone(rt: HostRuntime) {
         }
     }
 }
-
-// Without room it asks for that too, the first time and again for the tenth value.
-#[test]
-fn an_interner_that_may_not_grow_keeps_no_block(rt: HostRuntime) {
-    let mut numbers = Interner::new(rt.alloc());
-    for number in 0..10u64 {
-        if numbers.intern(rt.alloc(), number).is_err() {
-            report(&rt, "a block or room");
-        }
-    }
-}

@@ -1,20 +1,39 @@
-//! The end of a long list. A drop of each node inside the one before would run out of stack.
+//! Which lists share their first node, and how they are printed; the end of a long one. A drop of each node inside the
+//! one before would run out of stack.
+use crate::made::check_debug;
 use persistent::List;
+use std::alloc::{AllocError, Global};
 use std::process::Abort;
 use std::sync::atomic::AtomicU64;
 use std::sync::atomic::Ordering::SeqCst;
 use std::thread;
-use std::thread::{Builder, Threads};
+use std::thread::Builder;
 use testing::counted::{Counted, Tally};
 use testing::{again, ok, same};
 
+fn list_of(alloc: Global) -> Result<List<u64>, AllocError> {
+    List::from_items(alloc, Vec::from_array(alloc, [1, 2, 3])?)
+}
+
+#[test]
+fn lists_are_told_apart(rt: HostRuntime) {
+    let list = ok!(&rt, list_of(rt.alloc()));
+    let longer = ok!(&rt, list.push(rt.alloc(), 9));
+    let are_one = [
+        List::ptr_eq(&list, &again!(&rt, &list)),
+        List::ptr_eq(&list, &ok!(&rt, longer.rest())),
+        List::ptr_eq(&list, &ok!(&rt, list_of(rt.alloc()))),
+        List::ptr_eq(&list, &longer),
+    ];
+    same!(&rt, are_one, [true, true, false, false]);
+    same!(&rt, (list.last(), list < longer), (Some(&3), true));
+    same!(&rt, List::<u64>::default().len(), 0);
+    let text = "[ 9,  1,  2,  3] [\n    9,\n    1,\n    2,\n    3,\n]";
+    check_debug(&rt, &longer, text);
+}
+
 // In bytes, enough for some thousands of nodes.
 const SMALL_STACK: usize = 0x4_0000;
-
-pub fn end_on_a_small_stack<T: Drop + Send + 'static>(rt: &(impl Abort + Threads), value: T) {
-    let small = Builder::new().stack_size(SMALL_STACK);
-    ok!(rt, small.spawn(rt, move || drop(value))).join(rt);
-}
 
 const MANY: u64 = 1_000_000;
 
@@ -24,7 +43,8 @@ fn a_million_nodes_end_on_a_small_stack(rt: HostRuntime) {
     for value in 0..MANY {
         list = ok!(&rt, list.push(rt.alloc(), value));
     }
-    end_on_a_small_stack(&rt, list);
+    let small = Builder::new().stack_size(SMALL_STACK);
+    ok!(&rt, small.spawn(&rt, move || drop(list))).join(&rt);
 }
 
 const ROUNDS: u32 = 20;

@@ -1,31 +1,56 @@
-//! Which maps and lists share their first node, and how they are printed.
-use crate::made::check_debug;
-use persistent::{List, TreeMap};
+//! Maps whose keys are handles: which of two equal keys is given, that each ends, and that text finds them.
+use crate::made::arc_of;
+use persistent::TreeMap;
 use servo_arc::Arc;
 use std::alloc::{AllocError, Global};
 use std::ops::Bound;
-use testing::{again, ok, same};
+use std::process::Abort;
+use testing::{again, holds, ok, same};
 
-fn map_of(alloc: Global) -> Result<TreeMap<(char, u8), u32>, AllocError> {
-    let items = [(('b', 2), 5), (('a', 9), 3), (('b', 1), 8)];
-    TreeMap::from_items(alloc, Vec::from_array(alloc, items)?)
+// More than a leaf has room for.
+fn handles(rt: &(impl Abort + AllocGlobal)) -> Vec<Arc<u64>> {
+    let mut handles = Vec::new(rt.alloc());
+    for value in 0..200 {
+        ok!(rt, handles.push(arc_of(rt, value)));
+    }
+    handles
 }
 
+// A key of both maps is given as the older one has it.
+fn compare(rt: &(impl Abort + AllocGlobal), map: &TreeMap<Arc<u64>, Arc<u64>>) {
+    let key = arc_of(rt, 7);
+    let newer = ok!(rt, vec![in rt.alloc(); (again!(rt, &key), arc_of(rt, 8))]);
+    let newer = ok!(rt, TreeMap::from_items(rt.alloc(), newer));
+    let changes = ok!(rt, map.diff(rt.alloc(), &newer));
+    let is_old = changes.iter().all(|change| !Arc::ptr_eq(change.0, &key));
+    same!(rt, (changes.len(), map.keys().len(), is_old), (200, 200, true));
+}
+
+// In the end the handles of the test are the only ones.
 #[test]
-fn maps_are_told_apart(rt: HostRuntime) {
-    let map = ok!(&rt, map_of(rt.alloc()));
-    let mut new = again!(&rt, &map);
-    same!(&rt, ok!(&rt, new.remove(rt.alloc(), &('b', 1))), Some(8));
-    let are_one = [
-        TreeMap::ptr_eq(&map, &again!(&rt, &map)),
-        TreeMap::ptr_eq(&map, &ok!(&rt, map_of(rt.alloc()))),
-        TreeMap::ptr_eq(&map, &new),
-    ];
-    same!(&rt, are_one, [true, false, false]);
-    let text =
-        "{('a',  9):  3, ('b',  1):  8, ('b',  2):  5} {\n    (\n        'a',\n        9,\n    ): 3,\n    (\n        \
-        'b',\n        1,\n    ): 8,\n    (\n        'b',\n        2,\n    ): 5,\n}";
-    check_debug(&rt, &map, text);
+fn keys_and_values_end_with_their_map(rt: HostRuntime) {
+    let (alloc, handles) = (rt.alloc(), handles(&rt));
+    let mut entries = Vec::new(alloc);
+    for handle in handles.iter().chain(&handles) {
+        let entry = (again!(&rt, handle), again!(&rt, handle));
+        ok!(&rt, entries.push(entry));
+    }
+    let mut map = ok!(&rt, TreeMap::from_items(alloc, entries));
+    let other = again!(&rt, &map);
+    ok!(&rt, map.append(alloc, &other));
+    compare(&rt, &map);
+    for (number, key) in handles.iter().enumerate() {
+        drop(ok!(&rt, map.insert(alloc, again!(&rt, key), again!(&rt, key))));
+        match number % 4 {
+            0 => ok!(&rt, map.alter(alloc, again!(&rt, key), |_| None)),
+            1 => {}
+            _ => drop(ok!(&rt, map.remove(alloc, key))),
+        }
+    }
+    ok!(&rt, map.retain(alloc, |key, _| **key < 100));
+    map.clear();
+    drop((map, other));
+    holds!(&rt, handles.iter().all(|handle| handle.is_unique()));
 }
 
 fn by_name(alloc: Global) -> Result<TreeMap<Arc<String>, u32>, AllocError> {
@@ -49,25 +74,4 @@ fn text_is_asked_as_it_is(rt: HostRuntime) {
         (2, map.last())
     );
     same!(&rt, ok!(&rt, map.remove(rt.alloc(), "elm")), Some(2));
-}
-
-fn list_of(alloc: Global) -> Result<List<u64>, AllocError> {
-    List::from_items(alloc, Vec::from_array(alloc, [1, 2, 3])?)
-}
-
-#[test]
-fn lists_are_told_apart(rt: HostRuntime) {
-    let list = ok!(&rt, list_of(rt.alloc()));
-    let longer = ok!(&rt, list.push(rt.alloc(), 9));
-    let are_one = [
-        List::ptr_eq(&list, &again!(&rt, &list)),
-        List::ptr_eq(&list, &ok!(&rt, longer.rest())),
-        List::ptr_eq(&list, &ok!(&rt, list_of(rt.alloc()))),
-        List::ptr_eq(&list, &longer),
-    ];
-    same!(&rt, are_one, [true, true, false, false]);
-    same!(&rt, (list.last(), list < longer), (Some(&3), true));
-    same!(&rt, List::<u64>::default().len(), 0);
-    let text = "[ 9,  1,  2,  3] [\n    9,\n    1,\n    2,\n    3,\n]";
-    check_debug(&rt, &longer, text);
 }

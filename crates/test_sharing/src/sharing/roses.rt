@@ -1,10 +1,10 @@
-//! What rose trees share and drop.
+//! What a change of a rose tree in place copies, the paths of one, and how trees and errors are printed.
 use crate::made::{check_debug, check_display};
 use interner::InternError;
 use std::mem;
 use std::process::Abort;
 use testing::counted::{Counted, Tally};
-use testing::{again, ok, same, same_at};
+use testing::{again, ok, same};
 use trees::{PlaceError, Rose, Undo};
 
 type Tree<'a> = Rose<Counted<'a>>;
@@ -33,63 +33,11 @@ fn value_at(tree: &Rose<Counted<'_>>, path: &[usize]) -> Option<u64> {
     Some(tree.at(path)?.value().value)
 }
 
-pub fn is_shared<V>(a: &Rose<V>, b: &Rose<V>, path: &[usize]) -> bool {
+fn is_shared<V>(a: &Rose<V>, b: &Rose<V>, path: &[usize]) -> bool {
     match (a.at(path), b.at(path)) {
         (Some(x), Some(y)) => Rose::ptr_eq(x, y),
         _ => false,
     }
-}
-
-// A path, the values there before and after a change at [1, 0], and whether both trees share the node.
-// docs/pictures/versions_share_nodes.svg shows them.
-type Row = (&'static [usize], Option<u64>, Option<u64>, bool);
-
-const ROWS: [Row; 7] = [
-    (&[], Some(1), Some(1), false),
-    (&[0], Some(2), Some(2), true),
-    (&[1], Some(3), Some(3), false),
-    (&[2], Some(4), Some(4), true),
-    (&[3], None, None, false),
-    (&[1, 0], Some(5), Some(9), false),
-    (&[1, 1], Some(6), Some(6), true),
-];
-
-// The two nodes above the place are made of copies, and the place is given its value. Each value ends with its last
-// tree.
-#[test]
-fn a_change_makes_its_path_alone(rt: HostRuntime) {
-    let tally = Tally::new();
-    let old = six(&rt, &tally);
-    let changed = old.with_value(rt.alloc(), &[1, 0], Counted::new(&tally, 9));
-    let new = ok!(&rt, changed);
-    same!(&rt, tally.read(), (2, 0));
-    for (path, before, after, shared) in ROWS {
-        let found = (value_at(&old, path), value_at(&new, path));
-        same_at!(&rt, path, found, (before, after));
-        same_at!(&rt, path, is_shared(&old, &new, path), shared);
-    }
-    drop(old);
-    same!(&rt, tally.drops(), 3);
-    drop(new);
-    same!(&rt, tally.drops(), 9);
-}
-
-// Two nodes stand on the path. Each value ends with its last tree, or at once if there is no such place.
-#[test]
-fn each_change_copies_its_path_once(rt: HostRuntime) {
-    let (alloc, tally) = (rt.alloc(), Tally::new());
-    let old = six(&rt, &tally);
-    let nowhere = old.with_value(alloc, &[1, 2], Counted::new(&tally, 9));
-    same!(&rt, (nowhere.is_ok(), tally.read()), (false, (0, 1)));
-    let leaf = || tree(&rt, &tally, 9, Vec::new(alloc));
-    let trees = [
-        ok!(&rt, old.with_tree(alloc, &[1, 0], leaf())),
-        ok!(&rt, old.with_inserted(alloc, &[1], 2, leaf())),
-        ok!(&rt, old.without(alloc, &[1], 0)),
-    ];
-    same!(&rt, tally.read(), (6, 1));
-    drop((old, trees));
-    same!(&rt, tally.living(9), 0);
 }
 
 fn set_nine(counted: &mut Counted<'_>) -> u64 {

@@ -120,14 +120,6 @@ fn named(rt: &(impl Abort + AllocGlobal), texts: &[&str]) -> Interner<String> {
     names
 }
 
-// A text finds a `String`, and has one made where none is there.
-#[test]
-fn a_text_finds_the_string_that_was_made_of_it(rt: HostRuntime) {
-    let names = named(&rt, &["first", "other", "first"]);
-    same!(&rt, names.find("other"), names.symbol(1));
-    same!(&rt, names.symbol(2), None);
-}
-
 #[test]
 fn names_are_read_in_the_order_of_their_symbols(rt: HostRuntime) {
     let names = named(&rt, &["first", "other", "first"]);

@@ -1,0 +1,29 @@
+//! Calls of an `Interner` of texts.
+use crate::call::{Call, Collection, tell};
+use interner::{InternError, Interner, Symbol};
+use std::alloc::Global;
+use std::io;
+use std::io::Print;
+
+impl<'a> Collection<'a> for Interner<String> {
+    fn answer<R: Print + AllocGlobal>(&mut self, rt: &R, call: &Call<'a>) -> io::Result<()> {
+        let alloc = rt.alloc();
+        match call.word {
+            "intern" => tell(rt, self.intern_by(alloc, call.text).map(Symbol::index)),
+            "give" => tell(rt, give(alloc, self, call.text).map(Symbol::index)),
+            "find" => tell(rt, self.find(call.text).map(Symbol::index)),
+            "get" => tell(
+                rt,
+                self.symbol(call.numbers[0])
+                    .and_then(|symbol| self.get(symbol)),
+            ),
+            _ => tell(rt, "no such call"),
+        }
+    }
+}
+
+// Interns a text that is made before.
+fn give(alloc: Global, names: &mut Interner<String>, text: &str) -> Result<Symbol, InternError> {
+    let text = String::from_str(alloc, text)?;
+    names.intern(alloc, text)
+}

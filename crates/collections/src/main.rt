@@ -1,0 +1,60 @@
+//! Answers a script of calls on a collection, which stands on standard input. Its first line names the collection; each
+//! later one is a call, with numbers or a text, and is answered by what the call returns. The last line says how many
+//! items were dropped in all, less the copies: as many as the script made. examples/README.md has the calls.
+#![tactic(auto)]
+
+mod call;
+mod interners;
+mod maps;
+mod roses;
+mod sequences;
+mod versions;
+
+use crate::call::{Call, Collection, tell};
+use crate::versions::Versions;
+use interner::Interner;
+use persistent::TreeMap;
+use sequence::Sequence;
+use std::io;
+use std::io::Print;
+use testing::counted::{Counted, Tally};
+use trees::{Rose, Undo};
+
+fn main(rt: HostRuntime) -> io::Result<()> {
+    let script = io::read_to_string(rt.alloc(), rt.stdin())?;
+    run(&rt, script.as_str(), &Tally::new())
+}
+
+fn run<'a>(rt: &(impl Print + AllocGlobal), script: &'a str, tally: &'a Tally) -> io::Result<()> {
+    let alloc = rt.alloc();
+    let (name, calls) = script.split_once('\n').unwrap_or((script, ""));
+    match name {
+        "sequence" => answer(rt, tally, calls, Versions::<Sequence<_>>::new(alloc)),
+        "map" => answer(rt, tally, calls, Versions::<TreeMap<_, _>>::new(alloc)),
+        "tree" => {
+            let root = Rose::leaf(alloc, Counted::new(tally, 0))?;
+            answer(rt, tally, calls, Undo::new(alloc, root))
+        }
+        "interner" => answer(rt, tally, calls, Interner::new(alloc)),
+        _ => println!(rt; "no such collection"),
+    }
+}
+
+fn answer<'a, C: Collection<'a>>(
+    rt: &(impl Print + AllocGlobal),
+    tally: &'a Tally,
+    calls: &'a str,
+    mut collection: C,
+) -> io::Result<()> {
+    for line in calls.lines() {
+        let call = Call::read(line, tally);
+        match call.word {
+            "print" => tell(rt, &collection)?,
+            "pretty" => println!(rt; "{collection:2?} {collection:#?}")?,
+            "tally" => tell(rt, tally.read())?,
+            _ => collection.answer(rt, &call)?,
+        }
+    }
+    drop(collection);
+    tell(rt, tally.drops().wrapping_sub(tally.copies()))
+}

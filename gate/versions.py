@@ -1,0 +1,177 @@
+#!/usr/bin/env python3
+"""Runs `collections` on the scripts of examples/collections, and beside models of its collections on random scripts, on
+long ones that show how many items a call copies, and on a small stack. All items have to end, and no block may be kept.
+It ends at the first script that differs.
+
+With --refused it refuses each request for memory of a few scripts in turn, and prints which call met it. A call that is
+refused has to leave each version as it was.
+"""
+import os
+import random
+import re
+import resource
+import subprocess
+import sys
+import tempfile
+from pathlib import Path
+
+from models import REFUSED, Map, Sequence
+from tree_models import Interner, Tree
+
+ROOT = Path(__file__).resolve().parent.parent
+PROGRAM = ROOT / "crates" / "collections" / "out" / "collections"
+SEEDS, STEPS, KEPT = 10, 10_000, 500
+MODELS = {"sequence": Sequence, "map": Map, "tree": Tree, "interner": Interner}
+
+
+class Differs(Exception):
+    """A run that is not as it should be."""
+
+
+def ran(library, lines, request=0, stack=None):
+    """The answers, what was told of memory, and the status."""
+    environment = {**os.environ, "LD_PRELOAD": library, "REFUSED_REQUEST": str(request)}
+    limit = (lambda: resource.setrlimit(resource.RLIMIT_STACK, (stack, stack))) if stack else None
+    run = subprocess.run([PROGRAM], input="\n".join(lines), capture_output=True, text=True, env=environment,
+                         preexec_fn=limit, check=False)
+    return run.stdout.splitlines(), run.stderr, run.returncode
+
+
+def compare(model, lines, answers):
+    """Ends at the first call that is not answered as by the model. Returns the call that was refused, if one was."""
+    refused = None
+    for number, (line, answer) in enumerate(zip(lines, answers), 1):
+        refused = line if answer in REFUSED else refused
+        if (wanted := model.answer(line, answer)) != answer:
+            raise Differs(f"line {number}, {line}: {answer[:300]}, and not {wanted[:300]}")
+    if len(answers) != len(lines) + 1 or answers[-1:] != [str(model.made)]:
+        raise Differs(f"{answers[-1:]} of {model.made} items ended")
+    return refused
+
+
+def settled(library, lines, request=0, stack=None):
+    """The answers of a run that keeps no block, and whether a request was refused."""
+    answers, told, status = ran(library, lines, request, stack)
+    is_refused = "memory: refused" in told
+    if not told.endswith("d, 0 kept\n") or status and not (is_refused and not answers):
+        raise Differs(f"{told.strip()}; status {status}")
+    return answers, is_refused
+
+
+def checked(library, kind, lines, request=0, stack=None):
+    """The call that was refused, and whether there was one."""
+    answers, is_refused = settled(library, [kind, *lines], request, stack)
+    if is_refused and not answers:
+        return "the set-up", True
+    return compare(MODELS[kind](), lines, answers), is_refused
+
+
+def check_examples(library):
+    """Each script prints the lines that stand beside it. How many scripts there are."""
+    wanted = sorted((ROOT / "examples" / "collections").glob("*.stdout"))
+    for path in wanted:
+        answers, _ = settled(library, path.with_suffix("").read_text().splitlines())
+        if answers != path.read_text().splitlines():
+            raise Differs(f"{path.stem}: {answers}")
+    return len(wanted)
+
+
+def draw(kind, seed):
+    """A random script."""
+    chance, model, lines = random.Random(seed), MODELS[kind](), []
+    for step in range(STEPS):
+        lines.append(model.draw(chance, step))
+        model.answer(lines[-1], None)
+        if kind not in SCRIPTS and step % KEPT == 0:
+            lines += ["keep", f"back {chance.randrange(len(model.kept) + 1)}"]
+            model.answer(lines[-2], None), model.answer(lines[-1], None)
+    places = [chance.randrange(2_000) for _ in range(STEPS // KEPT)]
+    return lines + [line.format(at=at, version=version) for version, at in enumerate(places) for line in model.WHOLE]
+
+
+def copies_of(library, lines):
+    """How many items were copied between the first `tally` of the script and the second, and so on."""
+    answers, _ = settled(library, lines)
+    copies = [int(re.findall(r"\d+", answer)[0]) for line, answer in zip(lines[1:], answers) if line == "tally"]
+    return [after - before for before, after in zip(copies[::2], copies[1::2])]
+
+
+def check_copies(library, kind):
+    """A lone version copies nothing. Another one copies a leaf of 64 items for a change, and each leaf once in all."""
+    spread = [place * 618_033 % 100_000 for place in range(100_000)]
+    places = [2 * key if kind == "map" else key % (at + 1) for at, key in enumerate(spread)]
+    made = [kind, *(f"insert {place} 7" for place in places)]
+    removed = ["tally", *(f"remove {place}" for place in reversed(places)), "tally"]
+    changes = {"insert": 64} if kind == "map" else {"insert": 64, "split": 192}
+    changed = [line for at in range(0, 100_000, 999) for change in changes
+               for line in ("back 0", "tally", f"{change} {at}", "tally")]
+    found = copies_of(library, [*made, *removed]) + copies_of(library, [*made, "keep", *changed, "back 0", *removed])
+    most = [0, *[*changes.values()] * 101, 100_000]
+    if len(found) != len(most) or any(count > limit for count, limit in zip(found, most)):
+        raise Differs(f"{kind}: {found} copies")
+
+
+# For each collection the scripts that make two versions of it, and calls on each of them beside the other one.
+CHANGES = {
+    "sequence": (
+        # Of two leaves, of 32 items and of 64. The second becomes two if an item goes in.
+        ["fill 64", *(f"push {item}" for item in range(64, 96))],
+        # Of two leaves, of 32 items and of 16. The second is joined with the first one if it loses an item.
+        ["fill 64", *["pop"] * 16],
+        ["insert 0 9", "insert 40 9", "insert 99 9", "push 9", "push_front 9", "set 40 9", "add 40 9", "remove 40",
+         "remove 99", "pop", "pop_front", "split 40", "split 99", "append"]),
+    "map": (
+        # Of one leaf, which is full.
+        [f"insert {2 * half} {half}" for half in range(64)],
+        # Of two leaves, of 44 entries and of 5. The second is joined with the first one if it loses an entry.
+        [*(f"insert {2 * half} {half}" for half in range(65)), *(f"remove {2 * half}" for half in range(16))],
+        ["insert 1 9", "insert 63 9", "insert 127 9", "remove 32", "remove 62", "remove 64", "remove 128", "add 32 9",
+         "add 128 9", "alter 32 9", "alter 33 9", "split 64", "pop_first", "pop_last", "retain 64", "append", "union",
+         "both", "rest", "changes"]),
+}
+SCRIPTS = {
+    "tree": ["insert 1 0", "insert 2 1", "set 9 1", "put 1", "insert 3 2 1", "remove 0", "undo", "redo", "values"],
+    "interner": [*(f"intern {number}" for number in range(10)), "intern 0", "give 0", "give 10", "print"],
+}
+
+
+def refusal_script(kind):
+    if kind in SCRIPTS:
+        return SCRIPTS[kind]
+    first, second, calls = CHANGES[kind]
+    turns = [[f"back {1 - own}", "swap", f"back {own}", call, "print", "swap", "print"]
+             for own in (0, 1) for call in calls]
+    return [*first, "keep", "drop", *second, "keep", *sum(turns, []), "back 0", "print", "back 1", "print"]
+
+
+def check_refusals(library, kind):
+    """Runs the script with each request refused, and prints which call met it. Some calls do without."""
+    for request in range(1, 10_000):
+        refused, is_refused = checked(library, kind, refusal_script(kind), request)
+        if not is_refused:
+            return
+        print(f"collections {kind}: refused, 0 kept" + (f": {refused}" if refused else ""))
+
+
+def main():
+    with tempfile.TemporaryDirectory() as folder:
+        library = f"{folder}/memory.so"
+        subprocess.run(["cc", "-O2", "-shared", "-fPIC", "-o", library, ROOT / "gate" / "refuse_request.c"], check=True)
+        if sys.argv[1:] == ["--refused"]:
+            for kind in MODELS:
+                check_refusals(library, kind)
+            return 0
+        for kind in MODELS:
+            for seed in range(SEEDS):
+                checked(library, kind, draw(kind, seed))
+        for kind in ("sequence", "map"):
+            check_copies(library, kind)
+        checked(library, "sequence", ["fill 1000000", "ends"], stack=0x40000)
+        examples = check_examples(library)
+    print(f"versions: {examples} of 11 examples, {SEEDS * len(MODELS)} random scripts of {STEPS} calls, copies of 2"
+          " collections and a small stack as told")
+    return examples != 11
+
+
+if __name__ == "__main__":
+    sys.exit(main())

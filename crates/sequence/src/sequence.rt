@@ -1,5 +1,5 @@
 //! A list by number, whose versions share their nodes.
-ghost use Rattle.std.specs.Prelude.{◌≡◌, ◌+◌, ◌-◌, ◌^◌, ◌<◌, ◌≤◌, ◌↔◌, ◌∷◌, [], Err, IfOk, IfSome, IsOk};
+ghost use Rattle.std.specs.Prelude.{◌≡◌, ◌+◌, ◌-◌, ◌^◌, ◌<◌, ◌≤◌, ◌↔◌, [], Err, IfOk, IfSome};
 ghost use Rattle.std.specs.Prelude.{IsTrue, None, Some, OnErr, OnOk, length, slice_get, slice_set};
 ghost use Rattle.std.specs.Fn.{FnOnceTakesAtMut};
 ghost use Rattle.std.specs.List.{insert, remove};
@@ -185,8 +185,7 @@ impl<T: Clone, L: NewLabel<T>> Sequence<T, L> {
         if index > self.len() {
             return Err(PlaceError::NoPlace);
         }
-        self.put(alloc, index, item)?;
-        Ok(())
+        Ok(self.put(alloc, index, item)?)
     }
 
     // The same of a number that is not above.
@@ -220,8 +219,8 @@ impl<T: Clone, L: NewLabel<T>> Sequence<T, L> {
     /// Takes the item of that number out and gives it.
     ///
     /// It writes in place and copies as `insert` does. A node on the way with few items is joined with the one beside
-    /// it before, by moves. It is refused if there is no memory, or if the `clone` of an item or of a handle is. A
-    /// number without an item is refused before all else.
+    /// it before, by moves. It is refused if there is no memory, if the `clone` of an item or of a handle is, and before
+    /// all else if there is no such item.
     pub fn remove(&mut self, alloc: Global, index: usize) -> Result<T, PlaceError>
         requires copies { CopiesAreEqual T.is_clone }
         requires labels { CopiesAreEqual L.is_clone }
@@ -284,9 +283,8 @@ impl<T: Clone, L: NewLabel<T>> Sequence<T, L> {
         }
     }
 
-    /// Puts the item in place of that of the number, which it gives. If it is refused, the item is dropped.
-    ///
-    /// It copies and is refused as `modify` is.
+    /// Puts the item in place of that of the number, which it gives. It copies and is refused as `modify` is; the item
+    /// is then dropped.
     pub fn set(&mut self, alloc: Global, index: usize, item: T) -> Result<T, PlaceError>
         requires copies { CopiesAreEqual T.is_clone }
         requires labels { CopiesAreEqual L.is_clone }

@@ -76,6 +76,7 @@ fn place_of<T, L: Label<T>, C: Cut<T, L>>(items: &[T], cut: C) -> usize
 }
 
 // The number of the last item before the cut.
+#[inline(always)]
 pub(crate) fn last_in<T, L: Label<T>, C: Cut<T, L>>(items: &[T], cut: C) -> Option<usize>
     requires cut { HasCut (λ e. C.is_before cut (L.label_of e)) items.now }
     requires some { 0 < length items.now }

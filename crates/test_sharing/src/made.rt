@@ -1,8 +1,9 @@
 //! What a test begins with.
 use servo_arc::Arc;
 use std::fmt::{Debug, Display};
+use std::hash::{DefaultHasher, Hash, Hasher};
 use std::process::Abort;
-use testing::{ok, same};
+use testing::{holds, ok, same};
 
 pub fn arc_of<T: Drop>(rt: &(impl Abort + AllocGlobal), value: T) -> Arc<T> {
     ok!(rt, Arc::new(rt.alloc(), value))
@@ -17,4 +18,11 @@ pub fn check_debug<T: Debug>(rt: &(impl Abort + AllocGlobal), value: &T, text: &
 pub fn check_display<T: Display>(rt: &(impl Abort + AllocGlobal), value: &T, text: &str) {
     let found = format!(in rt.alloc(); "{value}");
     same!(rt, ok!(rt, found).as_str(), text);
+}
+
+/// Compares, hashes and prints it.
+pub fn ask<T: PartialEq + Hash + Debug>(rt: &(impl Abort + AllocGlobal), x: &T) {
+    x.hash(&mut DefaultHasher::new());
+    drop(ok!(rt, format!(in rt.alloc(); "{x:?}")));
+    holds!(rt, x == x);
 }

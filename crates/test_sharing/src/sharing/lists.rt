@@ -1,7 +1,8 @@
-//! Which lists share their first node, and how they are printed; the end of a long one. A drop of each node inside the
-//! one before would run out of stack.
-use crate::made::check_debug;
+//! Which lists share their first node, that their items end, and how they are printed; the end of a long one. A drop of
+//! each node inside the one before would run out of stack.
+use crate::made::{arc_of, ask, check_debug};
 use persistent::List;
+use sequence::Sequence;
 use std::alloc::{AllocError, Global};
 use std::process::Abort;
 use std::sync::atomic::AtomicU64;
@@ -9,7 +10,7 @@ use std::sync::atomic::Ordering::SeqCst;
 use std::thread;
 use std::thread::Builder;
 use testing::counted::{Counted, Tally};
-use testing::{again, ok, same};
+use testing::{again, holds, ok, same};
 
 fn list_of(alloc: Global) -> Result<List<u64>, AllocError> {
     List::from_items(alloc, Vec::from_array(alloc, [1, 2, 3])?)
@@ -30,6 +31,24 @@ fn lists_are_told_apart(rt: HostRuntime) {
     same!(&rt, List::<u64>::default().len(), 0);
     let text = "[ 9,  1,  2,  3] [\n    9,\n    1,\n    2,\n    3,\n]";
     check_debug(&rt, &longer, text);
+}
+
+// A node that is marked when it is read would never end.
+#[test]
+fn items_end_with_their_list(rt: HostRuntime) {
+    let (alloc, handle) = (rt.alloc(), arc_of(&rt, 7u64));
+    let handles = ok!(
+        &rt,
+        vec![in alloc; again!(&rt, &handle), again!(&rt, &handle)]
+    );
+    let tree = ok!(&rt, Sequence::from_items(alloc, again!(&rt, &handles)));
+    ask(&rt, &tree);
+    let list = ok!(&rt, List::from_items(alloc, handles));
+    ask(&rt, &list);
+    let rest = ok!(&rt, list.rest());
+    same!(&rt, list.first(), Some(&handle));
+    drop((tree, list, rest));
+    holds!(&rt, handle.is_unique());
 }
 
 // In bytes, enough for some thousands of nodes.

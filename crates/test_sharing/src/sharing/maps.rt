@@ -1,5 +1,5 @@
 //! Maps whose keys are handles: which of two equal keys is given, that each ends, and that text finds them.
-use crate::made::arc_of;
+use crate::made::{arc_of, ask};
 use persistent::TreeMap;
 use servo_arc::Arc;
 use std::alloc::{AllocError, Global};
@@ -23,7 +23,11 @@ fn compare(rt: &(impl Abort + AllocGlobal), map: &TreeMap<Arc<u64>, Arc<u64>>) {
     let newer = ok!(rt, TreeMap::from_items(rt.alloc(), newer));
     let changes = ok!(rt, map.diff(rt.alloc(), &newer));
     let is_old = changes.iter().all(|change| !Arc::ptr_eq(change.0, &key));
-    same!(rt, (changes.len(), map.keys().len(), is_old), (200, 200, true));
+    same!(
+        rt,
+        (changes.len(), map.keys().len(), is_old),
+        (200, 200, true)
+    );
 }
 
 // In the end the handles of the test are the only ones.
@@ -39,6 +43,7 @@ fn keys_and_values_end_with_their_map(rt: HostRuntime) {
     let other = again!(&rt, &map);
     ok!(&rt, map.append(alloc, &other));
     compare(&rt, &map);
+    ask(&rt, &map);
     for (number, key) in handles.iter().enumerate() {
         drop(ok!(&rt, map.insert(alloc, again!(&rt, key), again!(&rt, key))));
         match number % 4 {

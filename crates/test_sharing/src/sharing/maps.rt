@@ -52,7 +52,12 @@ fn keys_and_values_end_with_their_map(rt: HostRuntime) {
             _ => drop(ok!(&rt, map.remove(alloc, key))),
         }
     }
-    ok!(&rt, map.retain(alloc, |key, _| **key < 100));
+    let mut asked = 0u64;
+    let retained = map.retain(alloc, |key, _| {
+        asked = asked.wrapping_add(1);
+        **key < 100
+    });
+    same!(&rt, (retained, asked), (Ok(()), 50));
     map.clear();
     drop((map, other));
     holds!(&rt, handles.iter().all(|handle| handle.is_unique()));

@@ -60,8 +60,10 @@ fn a_change_in_place_copies_what_others_have(rt: HostRuntime) {
     );
     let shared = ok!(&rt, tree.modify(alloc, &[1], set_nine));
     same!(&rt, (shared, tally.copies()), (3, 2));
-    let read = [&old, &tree].map(|tree| [value_at(tree, &[1]), value_at(tree, &[1, 0])]);
-    same!(&rt, read, [[Some(3), Some(9)], [Some(9); 2]]);
+    let kept = (value_at(&old, &[1]), value_at(&old, &[1, 0]));
+    same!(&rt, kept, (Some(3), Some(9)));
+    let new = (value_at(&tree, &[1]), value_at(&tree, &[1, 0]));
+    same!(&rt, new, (Some(9), Some(9)));
     same!(&rt, is_shared(&old, &tree, &[1, 0]), true);
     drop((old, tree));
     same!(&rt, tally.living(6), 0);

@@ -2,10 +2,9 @@
 """Compares the calls of a program's maps, or of its sequences, with those of collections in Rust.
 
 `COLLECTIONS PEER WORKLOAD ITEMS` and `PROGRAM WORKLOAD ITEMS` are run in turn, held to one processor; each prints the
-nanoseconds of each call, and a checksum. `std` is the same tree over std's `Arc`, `btree` and `vec` are std's
-`BTreeMap` and `Vec`, and `im` the `OrdMap` or the `Vector` of im-rc with atomic counts, if COLLECTIONS has them. It
-prints the nanoseconds of one call, or of one item that is dropped, the least of the rounds, and its ratio to that of
-each peer, with a verdict if there is a goal.
+nanoseconds of each call, and a checksum. `btree` and `vec` are std's `BTreeMap` and `Vec`, and `im` the `OrdMap` or
+the `Vector` of im-rc with atomic counts, if COLLECTIONS has them. It prints the nanoseconds of one call, or of one
+item that is dropped, the least of the rounds, and its ratio to that of each peer, with a verdict if there is a goal.
 
 The bytes an item are the most memory that the process had for 2,000,000 of them, without the list of their keys.
 The status is 2 if a checksum differs, else 1 if a goal was missed, else 0.
@@ -26,8 +25,7 @@ LIST = 8 * SIZES[-1]  # bytes
 WITHOUT_VERSIONS = ["btree", "vec"]
 ALL = CALLS["maps"] + ["bytes"]
 # The most of a peer's time that a call may take. Other calls are only told, and all of sequences of 1,000 items.
-GOALS = {"maps": {"std": dict.fromkeys(ALL, 1.10) | {"insert": 1.05},
-                  "im": dict.fromkeys(set(ALL) - {"clone"}, 1.00),
+GOALS = {"maps": {"im": dict.fromkeys(set(ALL) - {"clone"}, 1.00),
                   "btree": {"remove": 2.00}},
          "sequences": {"im": dict.fromkeys(["insert", "remove", "split_off", "append"], 1.00), "vec": {}}}
 

@@ -3,16 +3,14 @@
 //!     collections PEER WORKLOAD ITEMS     prints the nanoseconds of each call, and a checksum
 //!     collections list                    prints the peers of maps, and those of sequences
 //!
-//! `std` is the port's own tree over `std::sync::Arc`, `btree` and `vec` are the `BTreeMap` and the `Vec` of std, and
-//! `im` is the `OrdMap` or the `Vector` of im-rc with atomic counts, which are there if this was compiled with
-//! `--cfg im`.
+//! `btree` and `vec` are the `BTreeMap` and the `Vec` of std, and `im` is the `OrdMap` or the `Vector` of im-rc with
+//! atomic counts, which are there if this was compiled with `--cfg im`.
 
 #[path = "collections/maps.rs"]
 mod maps;
 mod random;
 #[path = "collections/sequences.rs"]
 mod sequences;
-mod trees;
 
 use std::collections::BTreeMap;
 use std::time::Instant;
@@ -41,7 +39,6 @@ fn checksum(peer: &str, workload: &str, len: usize) -> Option<u64> {
         random::shuffle(&mut keys);
     }
     match (workload, peer) {
-        ("map-rising" | "map-mixed", "std") => Some(maps::measure::<trees::Map>(&keys)),
         ("map-rising" | "map-mixed", "btree") => Some(maps::measure::<BTreeMap<u64, u64>>(&keys)),
         ("sequence", "vec") => Some(sequences::measure::<Vec<u64>>(&keys)),
         #[cfg(im)]
@@ -57,7 +54,7 @@ fn main() {
     let words: Vec<&str> = words.iter().map(|word| word.as_str()).collect();
     let im = if cfg!(im) { " im" } else { "" };
     let sum = match words.as_slice() {
-        ["list"] => return println!("maps std{im} btree\nsequences{im} vec"),
+        ["list"] => return println!("maps{im} btree\nsequences{im} vec"),
         [peer, workload, len] => len
             .parse()
             .ok()

@@ -1,6 +1,6 @@
 //! A map through its calls.
 
-use crate::{sum_of, timed, trees, ITEMS, VERSIONS};
+use crate::{sum_of, timed, ITEMS, VERSIONS};
 use std::collections::BTreeMap;
 
 /// What is measured.
@@ -15,28 +15,6 @@ pub trait Map: Clone + Default {
     fn remove(&mut self, key: u64) -> Option<u64>;
     fn values(&self) -> impl Iterator<Item = u64>;
     fn len(&self) -> usize;
-}
-
-impl Map for trees::Map {
-    fn insert(&mut self, key: u64, value: u64) {
-        self.insert(key, value);
-    }
-
-    fn get(&self, key: u64) -> Option<u64> {
-        self.get(key).copied()
-    }
-
-    fn remove(&mut self, key: u64) -> Option<u64> {
-        self.remove(key)
-    }
-
-    fn values(&self) -> impl Iterator<Item = u64> {
-        self.iter().map(|entry| entry.1)
-    }
-
-    fn len(&self) -> usize {
-        self.len()
-    }
 }
 
 impl Map for BTreeMap<u64, u64> {

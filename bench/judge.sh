@@ -3,8 +3,8 @@
 #
 # Builds all that is measured, and measures it: each workload and a script, beside each pointer, with a verdict by
 # goals.tsv, and maps and sequences beside those in Rust. It writes the figures to measured.tsv, maps.tsv and
-# sequences.tsv. SOURCE is the source file of the crate that was ported. The options go to compare.py, as --most 61. It
-# takes some 12 minutes once the crates are proved; BENCH_OUT is where it builds, bench/out if it is not set.
+# sequences.tsv. SOURCE is the source file of the crate that was ported. The options go to compare.py, as --most 61.
+# BENCH_OUT is where it builds, bench/out if it is not set.
 #
 # The status is 1 if a goal was missed, 0 if all were met, and 2 or 3 as compare.py says.
 set -eu

@@ -27,7 +27,7 @@ sys.path.append(str(ROOT / "bench"))
 from called import uncalled
 from compare import read_goals, verdict
 goal_of = runpy.run_path(str(ROOT / "bench" / "collections.py"))["goal_of"]
-DOCUMENTS = 25
+DOCUMENTS = 24
 LINK = re.compile(r"\[((?:[^\]\[]|\[[^\]]*\])+)\]\(([^)\s]+)\)")
 REFERENCE = re.compile(r"\]\[|^ *\[[^\]]+\]:", re.M)
 PRINTS = re.compile(r"< examples/(\w+/\w+) +# prints: (.*)")

@@ -1,4 +1,6 @@
-//! Calls of an `Interner` of texts.
+//! Calls of an `Interner` of texts:
+//!
+//!     intern TEXT; give TEXT; find TEXT; get I      `give` makes a `String` of the text first
 use crate::call::{Call, Collection, tell};
 use interner::{InternError, Interner, Symbol};
 use std::alloc::Global;

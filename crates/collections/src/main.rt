@@ -1,6 +1,10 @@
-//! Answers a script of calls on a collection, which stands on standard input. Its first line names the collection; each
-//! later one is a call, with numbers or a text, and is answered by what the call returns. The last line says how many
-//! items were dropped in all, less the copies: as many as the script made. examples/README.md has the calls.
+//! Answers a script of calls on a collection, which stands on standard input. Its first line is `sequence`, `map`,
+//! `tree` or `interner`; each later one is a call, with numbers or a text, and is answered by what the call returns, as
+//! `{:?}` prints it. The last line says how many items were dropped in all, less the copies: as many as the script
+//! made. The module of each collection has its calls; all have these:
+//!
+//!     print; pretty     all items; as `{:2?}` and `{:#?}` print them
+//!     tally             how many items were copied, and how many have ended
 #![tactic(auto)]
 
 mod call;

@@ -1,4 +1,11 @@
-//! Calls of a `TreeMap`. The map that a call makes takes the place of the one beside it.
+//! Calls of a `TreeMap`, beside those of all versions. The map that a call makes takes the place of the one beside it.
+//!
+//!     alter I V         takes the entry out, or puts one in
+//!     pop_first; pop_last; retain I; clear      `retain` keeps the keys from I on
+//!     split I; append   the rest becomes the other one; takes the other one's entries, which stay there too
+//!     union; both; rest of all entries; of those whose key the other one has too; or has not
+//!     changes           what differs in the other one
+//!     nth I; near I     an entry; how many keys are below, and the entries up to it and from it on
 use crate::call::{Call, tell};
 use crate::sequences::add;
 use crate::versions::{Version, put};

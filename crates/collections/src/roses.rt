@@ -1,4 +1,9 @@
-//! Calls of an `Undo` of a `Rose`. A change makes the next version. A path is the last numbers of a line.
+//! Calls of an `Undo` of a `Rose`, at first of the value 0. A change makes the next version. A PATH, the last numbers
+//! of a line, has the number of a child for each step down:
+//!
+//!     set V PATH; insert V I PATH; remove I PATH; put PATH      `put` puts the tree itself there
+//!     undo; redo; forget N; values
+//!     at PATH; shared PATH      the value there; does the version before have the same node there?
 use crate::call::{Call, Collection, tell};
 use std::alloc::Global;
 use std::io;

@@ -1,4 +1,7 @@
-//! Calls of a `Sequence`.
+//! Calls of a `Sequence`, beside those of all versions:
+//!
+//!     set I V; pop; pop_front; push V; push_front V
+//!     split I; append   the rest becomes the other one; takes the other one
 use crate::call::{Call, tell};
 use crate::versions::{Version, put};
 use sequence::Sequence;

@@ -1,4 +1,13 @@
-//! Versions of a collection, each of which a script can change.
+//! Versions of a sequence or a map, each of which a script can change. One is called, another one stands beside it,
+//! both empty at first, and those that are kept are numbered from 0. I and J are places or keys, V is a value:
+//!
+//!     fill N            of the items 0, 1 and so on, N of them; in a map under the same keys
+//!     keep; back K      keeps the version; goes back to that one
+//!     swap; drop        calls the other one from now on; ends the version
+//!     same; shared      is the other one equal? does it have the same first node?
+//!     ends; get I       how many items there are, the first and the last; an item
+//!     depth; range I J  of the tree; the number of items from I to before J, the first and the last other one
+//!     insert I V; remove I; add I V             `add` adds to an item
 use crate::call::{Call, Collection, tell};
 use std::alloc::{AllocError, Global};
 use std::fmt::{Debug, Formatter};

@@ -9,7 +9,7 @@ use Rattle.std.proofs.lemmas.List.Sums.{prefix_len-le-length, prefix_len_passes}
 use Rattle.std.proofs.lemmas.Option.{get_or_from_slice_get, slice_get-get_or, slice_get_within}
 use Rattle.sequence.specs.Cuts.{HasCut, IsAmong, IsCut, first}
 use Rattle.sequence.specs.Parts.{IsPart}
-use Rattle.sequence.proofs.Parts.{part_all}
+use Rattle.sequence.proofs.Lists.Parts.{part_all}
 
 -- a number is below another as those are that are so much more
 below_later : (i more n : ℕ) → more ≤ n → nat_lt (more + i) n ≡ nat_lt i (n - more)

@@ -7,7 +7,7 @@ use Rattle.sequence.specs.declared.tree.search.Spot.{Spot}
 use Rattle.sequence.specs.Nodes.{AreChildren, height_in, items_in}
 use Rattle.sequence.specs.Pieces.{Counts, Fits, GoesOn, items_of, part_of}
 use Rattle.sequence.specs.Spots.{Leads}
-use Rattle.sequence.proofs.Children.{length-split}
+use Rattle.sequence.proofs.Nodes.Children.{length-split}
 
 module _ {T L : Type 0} where
   -- one level below it has the same items

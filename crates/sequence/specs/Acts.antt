@@ -1,10 +1,10 @@
 -- What is done to a list where a cut is.
 use Rattle.std.specs.Prelude.{◌≡◌, ℕ, zero, suc, ◌+◌, Bool, true, false, None, Some, Option, List, [], ◌∷◌}
-use Rattle.std.specs.Prelude.{is_some, length, not, slice_get, slice_set}
+use Rattle.std.specs.Prelude.{cond, is_some, length, not, slice_get, slice_set}
 use Rattle.std.specs.List.{insert, remove}
 use Rattle.std.specs.Int.{from_bool}
 use Rattle.std.specs.Borrow.{MutBor}
-use Rattle.std.specs.Fn.{Once}
+use Rattle.std.specs.Fn.{Once, FnOnceReturnsAtMut}
 use Rattle.sequence.specs.Changes.{ChangesItem}
 use Rattle.sequence.specs.Cuts.{IsCut}
 use Rattle.sequence.specs.Spots.{spliced}
@@ -18,14 +18,19 @@ last_of (suc at) es = slice_get es at
 abbrev pub gone : {R : Type 0} → Option R → ℕ
 gone answer = from_bool (is_some answer)
 
+-- how many items come with that answer: an act that grows puts one in if none went, and one that loses puts none in the
+-- place of one that did
+abbrev pub comes : {R : Type 0} → Bool → Bool → Option R → ℕ
+comes grows loses answer = from_bool (cond (is_some answer) (not loses) grows)
+
 -- the last item before the cut went if there is an answer, and others came, as that act does it at such a last item
-pub record IsActed {T R : Type 0} (test : T → Bool) (does : Option R → Option T → List T → Type 0) (loses : Bool)
-    (old new : List T) (answer : Option R) : Type 0 where
+pub record IsActed {T R : Type 0} (test : T → Bool) (does : Option R → Option T → List T → Type 0)
+    (grows loses : Bool) (old new : List T) (answer : Option R) : Type 0 where
   pub at : ℕ
   pub cut : IsCut test old (at + gone answer)
   pub more : List T
   pub done : does answer (last_of (at + gone answer) old) more
-  pub come : length more ≡ from_bool (not loses)
+  pub come : length more ≡ comes grows loses answer
   pub items : new ≡ spliced at (gone answer) more old
 
 module _ {T : Type 0} (sought : T → Bool) where
@@ -43,6 +48,13 @@ module _ {T : Type 0} (sought : T → Bool) where
   puts made replaced old None last more = IsMissed last × (more ≡ made ∷ [])
   puts made replaced old (Some value) last more = (item : T) × ((last ≡ Some item) × ((sought item ≡ true)
       × ((value ≡ old item) × (more ≡ replaced item ∷ []))))
+
+  -- a call on the sought item gave the answer, and the item becomes what that call left
+  abbrev pub changes : {F R : Type 0} → Once F (MutBor T × Unit {0}) (R × (MutBor T × Unit {0})) → F
+      → Option R → Option T → List T → Type 0
+  changes g change None last more = IsMissed last × (more ≡ [])
+  changes g change (Some r) last more = (item : T) × ((after : T) × ((last ≡ Some item) × ((sought item ≡ true)
+      × (FnOnceReturnsAtMut g change item r after × (more ≡ after ∷ [])))))
 
   module _ (test : T → Bool) where
     -- the last item before the cut, if there is one, is not the sought one

@@ -58,7 +58,7 @@ impl<'a, T, L: Label<T>> Iter<'a, T, L> {
 
     // The item of that number, and its leaf: the one that is passed, if the item is there.
     #[inline(always)]
-    #[tactic(auto, using(crate::proofs::Parts::parts))]
+    #[tactic(auto, using(crate::proofs::Lists::Parts::parts))]
     fn numbered(
         tree: Option<&'a Tree<T, L>>,
         near: (&'a [T], usize),
@@ -86,7 +86,7 @@ impl<'a, T, L: Label<T>> IntoIterator for &'a Sequence<T, L> {
 
     ghost into_iter_gives = { λ list r. r ≡ list.now };
 
-    #[tactic(auto, using(crate::proofs::Ranges::ranges))]
+    #[tactic(auto, using(crate::proofs::Lists::Ranges::ranges))]
     fn into_iter(self) -> Iter<'a, T, L> {
         Iter::between(self.root.as_ref(), 0, self.len())
     }
@@ -109,7 +109,7 @@ impl<'a, T, L: Label<T>> Iterator for Iter<'a, T, L> {
     ghost remaining = { item_count (λ s. s) };
 
     #[inline]
-    #[tactic(auto, using(crate::proofs::Ranges::ranges))]
+    #[tactic(auto, using(crate::proofs::Lists::Ranges::ranges))]
     fn next(&mut self) -> Option<&'a T> {
         if self.from == self.to {
             return None;
@@ -120,7 +120,7 @@ impl<'a, T, L: Label<T>> Iterator for Iter<'a, T, L> {
         Some(item)
     }
 
-    #[tactic(auto, using(crate::proofs::Ranges::ranges))]
+    #[tactic(auto, using(crate::proofs::Lists::Ranges::ranges))]
     fn size_hint(&self) -> (usize, Option<usize>)
         ensures lower { IsWithinCount result.0 (item_count (λ s. s) self.now) }
         ensures upper { IfSome result.1 (UpTo (item_count (λ s. s) self.now)) }
@@ -134,7 +134,7 @@ impl<'a, T, L: Label<T>> Iterator for Iter<'a, T, L> {
 impl<'a, T, L: Label<T>> DoubleEndedIterator for Iter<'a, T, L> {
     ghost next_back_gives = { YieldsLastRef (λ s. s) };
 
-    #[tactic(auto, using(crate::proofs::Ranges::ranges))]
+    #[tactic(auto, using(crate::proofs::Lists::Ranges::ranges))]
     fn next_back(&mut self) -> Option<&'a T> {
         if self.from == self.to {
             return None;
@@ -147,7 +147,7 @@ impl<'a, T, L: Label<T>> DoubleEndedIterator for Iter<'a, T, L> {
 }
 
 impl<'a, T, L: Label<T>> ExactSizeIterator for Iter<'a, T, L> {
-    #[tactic(auto, using(crate::proofs::Ranges::ranges))]
+    #[tactic(auto, using(crate::proofs::Lists::Ranges::ranges))]
     fn len(&self) -> usize {
         self.to - self.from
     }

@@ -185,11 +185,11 @@ impl<T: Clone, L: NewLabel<T>> Sequence<T, L> {
         if index > self.len() {
             return Err(PlaceError::NoPlace);
         }
-        Ok(self.put(alloc, index, item)?)
+        Ok(self.insert_at(alloc, index, item)?)
     }
 
     // The same of a number that is not above.
-    fn put(&mut self, alloc: Global, index: usize, item: T) -> Result<(), AllocError>
+    fn insert_at(&mut self, alloc: Global, index: usize, item: T) -> Result<(), AllocError>
         requires copies { CopiesAreEqual T.is_clone }
         requires labels { CopiesAreEqual L.is_clone }
         requires within { index ≤ length self.old }
@@ -219,8 +219,8 @@ impl<T: Clone, L: NewLabel<T>> Sequence<T, L> {
     /// Takes the item of that number out and gives it.
     ///
     /// It writes in place and copies as `insert` does. A node on the way with few items is joined with the one beside
-    /// it before, by moves. It is refused if there is no memory, if the `clone` of an item or of a handle is, and before
-    /// all else if there is no such item.
+    /// it before, by moves. It is refused if there is no memory or a `clone` of an item or of a handle is refused, and
+    /// before all else if there is no such item.
     pub fn remove(&mut self, alloc: Global, index: usize) -> Result<T, PlaceError>
         requires copies { CopiesAreEqual T.is_clone }
         requires labels { CopiesAreEqual L.is_clone }
@@ -232,12 +232,12 @@ impl<T: Clone, L: NewLabel<T>> Sequence<T, L> {
         if index >= self.len() {
             return Err(PlaceError::NoPlace);
         }
-        let item = self.take(alloc, index)?;
+        let item = self.remove_at(alloc, index)?;
         Ok(item)
     }
 
     // The same of a number that has an item.
-    fn take(&mut self, alloc: Global, index: usize) -> Result<T, AllocError>
+    fn remove_at(&mut self, alloc: Global, index: usize) -> Result<T, AllocError>
         requires copies { CopiesAreEqual T.is_clone }
         requires labels { CopiesAreEqual L.is_clone }
         requires there { index < length self.old }

@@ -4,6 +4,7 @@ ghost use Rattle.sequence.specs.Nodes.{IsDeep, IsNode, seen};
 
 pub(crate) mod act;
 pub(crate) mod build;
+pub(crate) mod change;
 pub(crate) mod copies;
 mod cut;
 mod hang;

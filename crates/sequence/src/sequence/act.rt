@@ -11,7 +11,8 @@ use crate::cut::Seek;
 use crate::label::{Label, NewLabel};
 use crate::put::Put;
 use crate::sequence::Sequence;
-use crate::tree::act::Act;
+use crate::tree::act::{Act, len_after};
+use crate::tree::change::Change;
 use crate::tree::put::PutIn;
 use crate::tree::take::Take;
 use std::alloc::{AllocError, Global};
@@ -41,7 +42,7 @@ impl<T: Clone, L: NewLabel<T>> Sequence<T, L> {
             Err(_) => match self.place(cut) {
                 Err(_) => Ok(None),
                 Ok(at) => {
-                    let item = self.take(alloc, at)?;
+                    let item = self.remove_at(alloc, at)?;
                     Ok(Some(item))
                 }
             },
@@ -73,6 +74,10 @@ impl<T: Clone, L: NewLabel<T>> Sequence<T, L> {
             (λ e. C.is_before cut (L.label_of e)) self.old) }
         ensures refused { OnErr result (self.new ≡ self.old) }
     {
+        let change = match self.act(alloc, Change { cut, change }) {
+            Ok(answer) => return Ok(answer),
+            Err(act) => act.change,
+        };
         match self.place(cut) {
             Err(_) => Ok(None),
             Ok(at) => {
@@ -126,7 +131,7 @@ impl<T: Clone, L: NewLabel<T>> Sequence<T, L> {
     {
         match self.place(&act) {
             Err(at) => {
-                self.put(alloc, at, act.0.into_item())?;
+                self.insert_at(alloc, at, act.0.into_item())?;
                 Ok(None)
             }
             Ok(at) => {
@@ -147,8 +152,10 @@ impl<T: Clone, L: Label<T> + Clone> Sequence<T, L> {
         requires copies { CopiesAreEqual T.is_clone }
         requires labels { CopiesAreEqual L.is_clone }
         requires cut { HasCut (λ e. A.is_before act (L.label_of e)) self.old }
+        requires needs { OfSought (λ e. A.is_sought act (L.label_of e)) (λ e. A.is_before act (L.label_of e))
+            (A.needs act) self.old }
         ensures done { IfOk result
-            (IsActed (λ e. A.is_before act (L.label_of e)) (A.does act) A.LOSES self.old self.new) }
+            (IsActed (λ e. A.is_before act (L.label_of e)) (A.does act) A.GROWS A.LOSES self.old self.new) }
         ensures blocked { OnErr result (self.new ≡ self.old) }
         ensures back { IfErr result (λ back. back ≡ act) }
     {
@@ -160,7 +167,7 @@ impl<T: Clone, L: Label<T> + Clone> Sequence<T, L> {
             return Err(act);
         }
         let gone = tree.act(alloc, act, false)?;
-        self.len = len - usize::from(gone.is_some()) + usize::from(!A::LOSES);
+        self.len = len_after::<T, L, A>(len, &gone);
         Ok(gone)
     }
 }

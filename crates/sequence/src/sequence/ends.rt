@@ -11,16 +11,16 @@ use std::alloc::{AllocError, Global};
 
 // An item that goes in behind all.
 #[derive(Drop)]
-struct Last<T>(T);
+struct AtEnd<T>(T);
 
-impl<T: Drop, L: Label<T>> Put<T, L> for Last<T> {
+impl<T: Drop, L: Label<T>> Put<T, L> for AtEnd<T> {
     type Old = ();
 
     ghost is_before = { λ _ _. true };
 
     ghost is_sought = { λ _ _. false };
 
-    ghost made = { λ last. last.0 };
+    ghost made = { λ new. new.0 };
 
     ghost replaced = { λ _ item. item };
 
@@ -85,7 +85,7 @@ impl<T: Clone, L: NewLabel<T>> Sequence<T, L> {
         ensures items { OnOk result (self.new ≡ self.old ++ item ∷ []) }
         ensures refused { OnErr result (self.new ≡ self.old) }
     {
-        self.put_in(alloc, Last(item))?;
+        self.put_in(alloc, AtEnd(item))?;
         Ok(())
     }
 
@@ -96,7 +96,7 @@ impl<T: Clone, L: NewLabel<T>> Sequence<T, L> {
         ensures items { OnOk result (self.new ≡ item ∷ self.old) }
         ensures refused { OnErr result (self.new ≡ self.old) }
     {
-        self.put(alloc, 0, item)
+        self.insert_at(alloc, 0, item)
     }
 
     /// Takes the last item out and gives it, as `remove` does.
@@ -123,7 +123,7 @@ impl<T: Clone, L: NewLabel<T>> Sequence<T, L> {
         if self.is_empty() {
             return Ok(None);
         }
-        let item = self.take(alloc, 0)?;
+        let item = self.remove_at(alloc, 0)?;
         Ok(Some(item))
     }
 }

@@ -156,7 +156,10 @@ impl<T: Clone, L: NewLabel<T>> Sequence<T, L> {
         let tree = match children {
             [] => return Ok(Sequence::empty()),
             [only] => only.tree.clone()?,
-            _ => Tree::of(alloc, Node::Branch(copies(alloc, children, BRANCH)?))?,
+            _ => {
+                let own = copies(alloc, children, BRANCH)?;
+                Tree::of(alloc, Node::Branch(own))?
+            }
         };
         let len = count(children);
         let root = Some(tree);

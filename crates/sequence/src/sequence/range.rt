@@ -11,7 +11,7 @@ use std::ops::{Bound, RangeBounds};
 impl<T, L: Label<T>> Sequence<T, L> {
     /// An iterator over the items whose numbers are in the range, as far as there are such items. There are none if the
     /// range ends before it starts.
-    #[tactic(auto, using(crate::proofs::Within::within))]
+    #[tactic(auto, using(crate::proofs::Lists::Within::within))]
     pub fn range<R: RangeBounds<usize>>(&self, numbers: R) -> Iter<'_, T, L>
         ensures { R.has_bounds numbers
             → result ≡ items_within (R.start_bound numbers) (R.end_bound numbers) self.now }

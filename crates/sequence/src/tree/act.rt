@@ -3,7 +3,7 @@
 ghost use Rattle.std.specs.Prelude.{◌≡◌, ◌+◌, ◌<◌, ◌^◌, ◌⊎◌, Bool, IfErr, IfNone, IfOk, IfSome, IsTrue, List, OnErr};
 ghost use Rattle.std.specs.Prelude.{Option, length};
 ghost use Rattle.handles.specs.Copies.{CopiesAreEqual};
-ghost use Rattle.sequence.specs.Acts.{IsActed};
+ghost use Rattle.sequence.specs.Acts.{IsActed, OfSought, comes, gone};
 ghost use Rattle.sequence.specs.Cuts.{HasCut, IsCut};
 ghost use Rattle.sequence.specs.Nodes.{AreChildren, CanLose, IsList, first_label, height_in, items_in};
 
@@ -15,19 +15,27 @@ use handles::arc::Arc;
 use std::alloc::Global;
 
 // What is done to the items of a leaf.
-pub(crate) trait Act<T, L: Label<T>>: Drop {
+pub(crate) trait Act<T, L: Label<T>> {
     // What it answers of the item that goes.
-    type Gone: Drop;
+    type Gone;
 
     // Its cut, and the item that it seeks.
     ghost is_before: { Self → L → Bool };
 
     ghost is_sought: { Self → L → Bool };
 
+    // What it asks for of the item that it seeks.
+    ghost needs: { Self → T → Type 0 };
+
     // What it answers at such a last item before the cut, which goes if there is an answer, if these come.
     ghost does: { Self → Option Self.Gone → Option T → List T → Type 0 };
 
-    // Whether no item comes, so that there may be one less. Else one comes.
+    // Whether an item comes if none goes, so that there is one more.
+    ghost GROWS: { Bool };
+
+    const GROWS: bool;
+
+    // Whether none comes in the place of one that goes, so that there is one less.
     ghost LOSES: { Bool };
 
     const LOSES: bool;
@@ -50,9 +58,11 @@ pub(crate) trait Act<T, L: Label<T>>: Drop {
     ) -> Result<Option<Self::Gone>, Self>
         requires none { IfNone last (IsCut (λ e. is_before self (L.label_of e)) items.old.items 0) }
         requires some { IfSome last (λ at. IsCut (λ e. is_before self (L.label_of e)) items.old.items (at + 1)) }
+        requires needs { OfSought (λ e. is_sought self (L.label_of e)) (λ e. is_before self (L.label_of e)) (needs self)
+            items.old.items }
         requires room { length items.old.items + 1 < 2 ^ 64 }
         ensures done { IfOk result
-            (IsActed (λ e. is_before self (L.label_of e)) (does self) LOSES items.old.items items.new.items) }
+            (IsActed (λ e. is_before self (L.label_of e)) (does self) GROWS LOSES items.old.items items.new.items) }
         ensures first { IsTrue labelled
             → first_label L.label_of items.new.items ≡ first_label L.label_of items.old.items }
         ensures blocked { OnErr result (items.new.items ≡ items.old.items) }
@@ -95,17 +105,19 @@ impl<T: Clone, L: Label<T> + Clone> Tree<T, L> {
         requires copies { CopiesAreEqual T.is_clone }
         requires labels { CopiesAreEqual L.is_clone }
         requires cut { HasCut (λ e. A.is_before act (L.label_of e)) self.old.0 }
+        requires needs { OfSought (λ e. A.is_sought act (L.label_of e)) (λ e. A.is_before act (L.label_of e))
+            (A.needs act) self.old.0 }
         requires spare { IsTrue A.LOSES → 1 < length self.old.0 }
         requires room { length self.old.0 + 1 < 2 ^ 64 }
         ensures done { IfOk result
-            (IsActed (λ e. A.is_before act (L.label_of e)) (A.does act) A.LOSES self.old.0 self.new.0) }
+            (IsActed (λ e. A.is_before act (L.label_of e)) (A.does act) A.GROWS A.LOSES self.old.0 self.new.0) }
         ensures height { self.new.1 ≡ self.old.1 }
         ensures first { IsTrue labelled → first_label L.label_of self.new.0 ≡ first_label L.label_of self.old.0 }
         ensures blocked { OnErr result (self.new.0 ≡ self.old.0) }
         ensures back { IfErr result (λ back. back ≡ act) }
     {
-        // Where there may be nothing to take, nothing is copied.
-        if A::LOSES && !self.root.is_unique() {
+        // Where there may be nothing to do, nothing is copied.
+        if !A::GROWS && !self.root.is_unique() {
             return Err(act);
         }
         let Ok(node) = Arc::make_mut(&mut self.root, alloc) else {
@@ -133,8 +145,10 @@ impl<T: Clone, L: Label<T> + Clone> Tree<T, L> {
         requires labels { CopiesAreEqual L.is_clone }
         requires children { AreChildren L.label_of children.old.items }
         requires cut { HasCut (λ e. A.is_before act (L.label_of e)) (items_in children.old.items) }
+        requires needs { OfSought (λ e. A.is_sought act (L.label_of e)) (λ e. A.is_before act (L.label_of e))
+            (A.needs act) (items_in children.old.items) }
         requires room { length (items_in children.old.items) + 1 < 2 ^ 64 }
-        ensures done { IfOk result (IsActed (λ e. A.is_before act (L.label_of e)) (A.does act) A.LOSES
+        ensures done { IfOk result (IsActed (λ e. A.is_before act (L.label_of e)) (A.does act) A.GROWS A.LOSES
             (items_in children.old.items) (items_in children.new.items)) }
         ensures height { height_in children.new.items ≡ height_in children.old.items }
         ensures children { AreChildren L.label_of children.new.items }
@@ -149,7 +163,21 @@ impl<T: Clone, L: Label<T> + Clone> Tree<T, L> {
         }
         let child = &mut children[at];
         let gone = child.tree.act(alloc, act, labelled | (at > 0))?;
-        child.len = child.len - usize::from(gone.is_some()) + usize::from(!A::LOSES);
+        child.len = len_after::<T, L, A>(child.len, &gone);
         Ok(gone)
+    }
+}
+
+// How many there are after it, if there were so many before.
+#[inline(always)]
+pub(crate) fn len_after<T, L: Label<T>, A: Act<T, L>>(len: usize, answer: &Option<A::Gone>) -> usize
+    requires some { 0 < len }
+    requires room { len + 1 < 2 ^ 64 }
+    ensures { result + gone answer.now ≡ len + comes A.GROWS A.LOSES answer.now }
+{
+    if answer.is_some() {
+        len - usize::from(A::LOSES)
+    } else {
+        len + usize::from(A::GROWS)
     }
 }

@@ -7,7 +7,7 @@ ghost use Rattle.sequence.specs.Spots.{spliced};
 
 use crate::label::{Label, NewLabel};
 use crate::tree::copies::{BRANCH, LEAF};
-use crate::tree::join::join;
+use crate::tree::join::join_children;
 use crate::tree::search::spot_of;
 use crate::tree::split::room_under;
 use crate::tree::{Child, Node, Tree};
@@ -44,7 +44,7 @@ impl<T: Clone, L: NewLabel<T>> Tree<T, L> {
             return Err(piece.into_part());
         };
         match node {
-            Node::Leaf(items) => put(items, place, piece),
+            Node::Leaf(items) => insert_in_leaf(items, place, piece),
             Node::Branch(children) => insert_under(children, alloc, place, piece),
         }
     }
@@ -146,7 +146,7 @@ impl<T: Drop, L: Label<T>> Piece<T, L> {
 }
 
 // Puts the item into a leaf.
-fn put<T: Drop, L: Label<T> + Drop>(
+fn insert_in_leaf<T: Drop, L: Label<T> + Drop>(
     items: &mut Vec<T>,
     place: usize,
     piece: Piece<T, L>,
@@ -219,7 +219,7 @@ fn meet<T: Clone, L: NewLabel<T>>(children: &mut Vec<Child<T, L>>, at: usize, al
     ensures { StandFor L.label_of children.old.items children.new.items }
 {
     if children[at].tree.is_small() && children[at + 1].tree.is_small() {
-        let _ = join(children, at, alloc);
+        let _ = join_children(children, at, alloc);
     }
 }
 

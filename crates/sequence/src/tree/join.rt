@@ -14,7 +14,7 @@ use std::alloc::{AllocError, Global};
 use std::mem;
 
 // Makes one child of the one of that number and the next.
-pub(crate) fn join<T: Clone, L: NewLabel<T>>(
+pub(crate) fn join_children<T: Clone, L: NewLabel<T>>(
     children: &mut Vec<Child<T, L>>,
     at: usize,
     alloc: Global,
@@ -35,7 +35,7 @@ pub(crate) fn join<T: Clone, L: NewLabel<T>>(
     // For the proof: its clause says that there is room for what is taken out here, if it has to go back.
     children.reserve(0)?;
     let next = children.remove(at + 1);
-    let Err(next) = children[at].join(alloc, next) else {
+    let Err(next) = children[at].take_over(alloc, next) else {
         return Ok(());
     };
     let Ok(()) = children.insert(at + 1, next) else {
@@ -46,7 +46,7 @@ pub(crate) fn join<T: Clone, L: NewLabel<T>>(
 
 impl<T: Clone, L: NewLabel<T>> Child<T, L> {
     // Takes over what the next child has. A refusal gives that back.
-    fn join(&mut self, alloc: Global, next: Child<T, L>) -> Result<(), Child<T, L>>
+    fn take_over(&mut self, alloc: Global, next: Child<T, L>) -> Result<(), Child<T, L>>
         requires copies { CopiesAreEqual T.is_clone }
         requires labels { CopiesAreEqual L.is_clone }
         requires children { AreChildren L.label_of (self.old ∷ next ∷ []) }
@@ -61,7 +61,7 @@ impl<T: Clone, L: NewLabel<T>> Child<T, L> {
             len,
             tree,
         } = next;
-        if let Err(tree) = self.tree.join(alloc, tree, &mut label) {
+        if let Err(tree) = self.tree.take_over(alloc, tree, &mut label) {
             return Err(Child { label, len, tree });
         }
         self.len += len;
@@ -71,7 +71,12 @@ impl<T: Clone, L: NewLabel<T>> Child<T, L> {
 
 impl<T: Clone, L: NewLabel<T>> Tree<T, L> {
     // The same for trees that are as high. The first child of the next first node gets the label of that tree.
-    fn join(&mut self, alloc: Global, next: Tree<T, L>, label: &mut L) -> Result<(), Tree<T, L>>
+    fn take_over(
+        &mut self,
+        alloc: Global,
+        next: Tree<T, L>,
+        label: &mut L,
+    ) -> Result<(), Tree<T, L>>
         requires copies { CopiesAreEqual T.is_clone }
         requires labels { CopiesAreEqual L.is_clone }
         requires list { IsList (self.old.0 ++ next.0) }

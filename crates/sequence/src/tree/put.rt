@@ -1,5 +1,5 @@
 //! How what is put in comes into a leaf.
-ghost use Rattle.std.specs.Prelude.{◌≡◌, Bool, IfErr, IfOk, IsTrue, OnErr, false};
+ghost use Rattle.std.specs.Prelude.{◌≡◌, Bool, IfErr, IfOk, IsTrue, OnErr, false, true};
 ghost use Rattle.sequence.specs.Acts.{IsActed, IsMissed, last_of, puts};
 ghost use Rattle.sequence.specs.Cuts.{IsCut};
 ghost use Rattle.sequence.specs.Nodes.{first_label};
@@ -20,7 +20,13 @@ impl<T: Drop, L: Label<T>, P: Put<T, L>> Act<T, L> for PutIn<P> {
 
     ghost is_sought = { λ put. P.is_sought put.0 };
 
+    ghost needs = { λ _ _. Unit {0} };
+
     ghost does = { λ put. puts (λ e. P.is_sought put.0 (L.label_of e)) (P.made put.0) (P.replaced put.0) P.put_out };
+
+    ghost GROWS = { true };
+
+    const GROWS: bool = true;
 
     ghost LOSES = { false };
 
@@ -72,7 +78,7 @@ impl<P> PutIn<P> {
         requires cut { IsCut (λ e. P.is_before self.0 (L.label_of e)) items.old.items place }
         requires missed { IsMissed (λ e. P.is_sought self.0 (L.label_of e)) (last_of place items.old.items) }
         ensures done { IfOk result (IsActed (λ e. P.is_before self.0 (L.label_of e))
-            (puts (λ e. P.is_sought self.0 (L.label_of e)) (P.made self.0) (P.replaced self.0) P.put_out) false
+            (puts (λ e. P.is_sought self.0 (L.label_of e)) (P.made self.0) (P.replaced self.0) P.put_out) true false
             items.old.items items.new.items) }
         ensures first { IsTrue labelled
             → first_label L.label_of items.new.items ≡ first_label L.label_of items.old.items }

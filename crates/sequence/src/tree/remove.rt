@@ -7,7 +7,7 @@ ghost use Rattle.sequence.specs.Spots.{Leads, spliced};
 
 use crate::label::{Label, NewLabel};
 use crate::tree::copies::{BRANCH, LEAF};
-use crate::tree::join::join;
+use crate::tree::join::join_children;
 use crate::tree::search::{Spot, spot_of};
 use crate::tree::split::room_under;
 use crate::tree::{Child, Node, Tree};
@@ -132,11 +132,11 @@ fn join_at<T: Clone, L: NewLabel<T>>(
 {
     let Spot { child, place } = spot;
     if child + 1 < children.len() {
-        join(children, child, alloc)?;
+        join_children(children, child, alloc)?;
         return Ok(spot);
     }
     let before = children[child - 1].len;
-    join(children, child - 1, alloc)?;
+    join_children(children, child - 1, alloc)?;
     Ok(Spot {
         child: child - 1,
         place: before + place,

@@ -69,7 +69,7 @@ impl<T, L: Label<T>> Tree<T, L> {
     }
 
     // The item of that number.
-    #[tactic(auto, using(crate::proofs::Parts::parts))]
+    #[tactic(auto, using(crate::proofs::Lists::Parts::parts))]
     pub(crate) fn item(&self, index: usize) -> &T
         requires { index < length self.now.0 }
         ensures { slice_get self.now.0 index ≡ Some result.now }

@@ -1,5 +1,5 @@
 //! How the last item before a cut is taken out of a leaf.
-ghost use Rattle.std.specs.Prelude.{◌≡◌, Bool, true};
+ghost use Rattle.std.specs.Prelude.{◌≡◌, Bool, false, true};
 ghost use Rattle.sequence.specs.Acts.{takes};
 
 use crate::cut::Seek;
@@ -17,7 +17,13 @@ impl<T: Drop, L: Label<T>, C: Seek<T, L> + Drop> Act<T, L> for Take<C> {
 
     ghost is_sought = { λ take. C.is_sought take.0 };
 
+    ghost needs = { λ _ _. Unit {0} };
+
     ghost does = { λ take. takes (λ e. C.is_sought take.0 (L.label_of e)) };
+
+    ghost GROWS = { false };
+
+    const GROWS: bool = false;
 
     ghost LOSES = { true };
 

@@ -5,12 +5,12 @@ use Rattle.sequence.specs.Nodes.{items_in}
 use Rattle.sequence.specs.Pieces.{Fits, items_of}
 use Rattle.sequence.specs.Spots.{spliced}
 use Rattle.sequence.proofs.Calls.{both, of_two}
-use Rattle.sequence.proofs.Children.{leads_inner}
-use Rattle.sequence.proofs.Copied.{made}
-use Rattle.sequence.proofs.Labelled.{labelled_at, labelled_put}
+use Rattle.sequence.proofs.Nodes.Children.{leads_inner}
+use Rattle.sequence.proofs.Nodes.Copied.{made}
+use Rattle.sequence.proofs.Nodes.Labelled.{labelled_at, labelled_put}
 use Rattle.sequence.proofs.Pieces.{counts, fits_under, same_items, same_part}
-use Rattle.sequence.proofs.Placed.{child_here, child_within, put_under}
-use Rattle.sequence.proofs.Wide.{height_some}
+use Rattle.sequence.proofs.Nodes.Placed.{child_here, child_within, put_under}
+use Rattle.sequence.proofs.Nodes.Wide.{height_some}
 use Rattle.sequence.proofs.tree.+insert.Goals as goal
 
 pub Tree::insert-insert_under-requires : goal.Tree::insert-insert_under-requires

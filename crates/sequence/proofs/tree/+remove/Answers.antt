@@ -3,11 +3,11 @@ use Rattle.std.proofs.Common.{◌≡◌, ◌+◌, ◌-◌, ◌≤◌, ◌<◌, �
 use Rattle.std.specs.Prelude.{IfOk, Some, slice_get}
 use Rattle.sequence.specs.Nodes.{CanLose, height_in, items_in}
 use Rattle.sequence.proofs.Calls.{both, of_two}
-use Rattle.sequence.proofs.Changed.{item_at, spot_inside, spot_place}
-use Rattle.sequence.proofs.Copied.{made}
-use Rattle.sequence.proofs.Labelled.{labelled_at}
-use Rattle.sequence.proofs.Placed.{child_here, put_under}
-use Rattle.sequence.proofs.Wide.{height_some}
+use Rattle.sequence.proofs.Nodes.Changed.{item_at, spot_inside, spot_place}
+use Rattle.sequence.proofs.Nodes.Copied.{made}
+use Rattle.sequence.proofs.Nodes.Labelled.{labelled_at}
+use Rattle.sequence.proofs.Nodes.Placed.{child_here, put_under}
+use Rattle.sequence.proofs.Nodes.Wide.{height_some}
 use Rattle.sequence.proofs.tree.+remove.Goals as goal
 
 pub Tree::remove-remove_under-requires : goal.Tree::remove-remove_under-requires

@@ -1,5 +1,5 @@
 use Rattle.std.proofs.Common.{◌∙◌, ◌<◌, arith, sym}
-use Rattle.sequence.proofs.Ranges.{range_first}
+use Rattle.sequence.proofs.Lists.Ranges.{range_first}
 use Rattle.sequence.proofs.iter.IterIterator.next.Goals as goal
 
 pub returns-clause-steps : goal.returns-clause-steps

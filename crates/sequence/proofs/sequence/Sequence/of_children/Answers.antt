@@ -1,14 +1,14 @@
 use Rattle.std.proofs.Common.{◌∙◌, ap, arith, length, sym, subst}
 use Rattle.sequence.specs.Nodes.{AreChildren, items_in}
-use Rattle.sequence.proofs.Children.{children_are, items_only}
+use Rattle.sequence.proofs.Nodes.Children.{children_are, items_only}
 use Rattle.sequence.proofs.sequence.Sequence.of_children.Goals as goal
 use Rattle.sequence.proofs.sequence.Sequence.of_children.Goals.{in-len1+in_ok-tree-in-len1}
-use Rattle.sequence.proofs.sequence.Sequence.of_children.Goals.{in_default+in_ok-copies-in_default+in_ok-tree-in_default}
+use Rattle.sequence.proofs.sequence.Sequence.of_children.Goals.{in_default+in_ok-own-in_default+in_ok-tree-in_default}
 
 pub of-requires : goal.of-requires
 of-requires g c =
     let cs = c.args.children.now in
-    subst (AreChildren g.L.Label.label_of) (sym (c.in_ok-copies-in_default.ensures (λ a b h. h c.requires.labels)))
+    subst (AreChildren g.L.Label.label_of) (sym (c.in_ok-own-in_default.ensures (λ a b h. h c.requires.labels)))
     (children_are c.requires.level.height cs c.requires.level.each (omega (arith, c.in_default.len_at_least))
     c.requires.room c.requires.level.labels)
 
@@ -19,9 +19,9 @@ returns g c =
       | in-len1+in_ok-tree-in-len1 w ↦
           ap (λ t. t.0) (w.tree-is ∙ w.in_ok-tree-in-len1.ensures.cases)
           ∙ items_only cs w.only-item.result w.only-item.is (omega arith)
-      | in_default+in_ok-copies-in_default+in_ok-tree-in_default w ↦
+      | in_default+in_ok-own-in_default+in_ok-tree-in_default w ↦
           ap (λ t. t.0) (w.tree-is ∙ w.in_ok-tree-in_default.ensures)
-          ∙ ap (λ cs. items_in cs) (w.in_ok-copies-in_default.ensures (λ a b h. h c.requires.labels))
+          ∙ ap (λ cs. items_in cs) (w.in_ok-own-in_default.ensures (λ a b h. h c.requires.labels))
     ]
 
 pub invariant_of-result : goal.invariant_of-result

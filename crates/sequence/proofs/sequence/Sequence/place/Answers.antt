@@ -1,6 +1,6 @@
 use Rattle.std.proofs.Common.{◌∙◌, arith, sym}
 use Rattle.std.proofs.lemmas.Option.{none-some}
-use Rattle.sequence.proofs.Acts.{missed_at}
+use Rattle.sequence.proofs.Cutting.Acts.{missed_at}
 use Rattle.sequence.proofs.sequence.Sequence.place.Goals as goal
 
 pub returns-in-None : goal.returns-in-None

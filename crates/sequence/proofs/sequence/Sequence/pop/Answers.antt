@@ -1,4 +1,4 @@
-use Rattle.sequence.proofs.Popped.{last_gone}
+use Rattle.sequence.proofs.Cutting.Popped.{last_gone}
 use Rattle.sequence.proofs.sequence.Sequence.pop.Goals as goal
 
 pub returns-clause-item : goal.returns-clause-item

@@ -1,5 +1,5 @@
-use Rattle.std.proofs.Common.{false}
-use Rattle.sequence.proofs.Acts.{says_added, says_replaced}
+use Rattle.std.proofs.Common.{false, true}
+use Rattle.sequence.proofs.Cutting.Acts.{says_added, says_replaced}
 use Rattle.sequence.proofs.sequence.Sequence.put_in.Goals as goal
 
 pub returns-in-Ok-clause-replaced : goal.returns-in-Ok-clause-replaced
@@ -7,11 +7,11 @@ returns-in-Ok-clause-replaced g c =
     let test = λ (e : g.row.T.Denot). g.P.Put.is_before c.args.new (g.L.Label.label_of e) in
     let sought = λ (e : g.row.T.Denot). g.P.Put.is_sought c.args.new (g.L.Label.label_of e) in
     says_replaced sought test c.args.self.now c.act.new.self (g.P.Put.made c.args.new) (g.P.Put.replaced c.args.new)
-    g.P.Put.put_out false c.in-Ok.old c.in-Ok.ensures.done
+    g.P.Put.put_out true false c.in-Ok.old c.in-Ok.ensures.done
 
 pub returns-in-Ok-clause-added : goal.returns-in-Ok-clause-added
 returns-in-Ok-clause-added g c =
     let test = λ (e : g.row.T.Denot). g.P.Put.is_before c.args.new (g.L.Label.label_of e) in
     let sought = λ (e : g.row.T.Denot). g.P.Put.is_sought c.args.new (g.L.Label.label_of e) in
     says_added sought test c.args.self.now c.act.new.self (g.P.Put.made c.args.new) (g.P.Put.replaced c.args.new)
-    g.P.Put.put_out false c.in-Ok.old c.in-Ok.ensures.done
+    g.P.Put.put_out true false c.in-Ok.old c.in-Ok.ensures.done

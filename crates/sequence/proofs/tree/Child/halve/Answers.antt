@@ -1,5 +1,5 @@
 use Rattle.std.proofs.Common.{refl}
-use Rattle.sequence.proofs.Halves.{left_is}
+use Rattle.sequence.proofs.Shapes.Halves.{left_is}
 use Rattle.sequence.proofs.tree.Child.halve.Goals as goal
 
 pub returns-clause-child : goal.returns-clause-child

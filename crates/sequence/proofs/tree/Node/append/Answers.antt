@@ -2,8 +2,8 @@
 use Rattle.std.proofs.Common.{◌≡◌, ◌∙◌, ap, arith, get_or, length, set, subst, sym}
 use Rattle.std.specs.Prelude.{Some}
 use Rattle.sequence.specs.Nodes.{AreChildren, IsList, items_in, height_in}
-use Rattle.sequence.proofs.Appended.{both}
-use Rattle.sequence.proofs.Wide.{height_some}
+use Rattle.sequence.proofs.Shapes.Appended.{both}
+use Rattle.sequence.proofs.Nodes.Wide.{height_some}
 use Rattle.sequence.proofs.tree.Node.append.Goals as goal
 use Rattle.sequence.proofs.tree.Node.append.Goals.{in-Leaf-Leaf+in_ok-append-in-Leaf-Leaf}
 use Rattle.sequence.proofs.tree.Node.append.Goals.{in-Branch-Branch+in_ok-append-in-Branch-Branch}

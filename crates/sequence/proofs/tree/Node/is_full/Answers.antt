@@ -1,7 +1,7 @@
 use Rattle.std.proofs.Common.{◌∙◌, inl, inr, arith, sym, true≢false}
 use Rattle.std.proofs.lemmas.Bool.Decides.{leb_tells}
 use Rattle.sequence.specs.Nodes.{height_in}
-use Rattle.sequence.proofs.Wide.{two_children}
+use Rattle.sequence.proofs.Nodes.Wide.{two_children}
 use Rattle.sequence.proofs.tree.Node.is_full.Goals as goal
 
 pub returns-in-Branch : goal.returns-in-Branch

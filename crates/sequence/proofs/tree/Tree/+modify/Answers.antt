@@ -5,8 +5,8 @@ use Rattle.std.proofs.lemmas.Option.{slice_get_read}
 use Rattle.sequence.specs.declared.tree.Node.TheVariants.{Branch}
 use Rattle.sequence.specs.Nodes.{AreChildren}
 use Rattle.sequence.proofs.Calls.{both, of_four}
-use Rattle.sequence.proofs.Changed.{changed_at, item_at, spot_inside}
-use Rattle.sequence.proofs.Copied.{IsMade, made}
+use Rattle.sequence.proofs.Nodes.Changed.{changed_at, item_at, spot_inside}
+use Rattle.sequence.proofs.Nodes.Copied.{IsMade, made}
 use Rattle.sequence.proofs.tree.Tree.+modify.Given as given
 use Rattle.sequence.proofs.tree.Tree.+modify.Goals as goal
 use Rattle.sequence.proofs.tree.Tree.+modify.Goals.{In-Branch}

@@ -2,9 +2,9 @@
 use Rattle.std.proofs.Common.{◌+◌, ◌++◌, ◌∙◌, ◌^◌, ◌<◌, ap, arith, drop, get_or, length, subst, sym, take}
 use Rattle.std.proofs.lemmas.List.{take_rest}
 use Rattle.sequence.specs.Nodes.{AreLevel, items_in}
-use Rattle.sequence.proofs.Children.{length-parts}
-use Rattle.sequence.proofs.Halves.{level_drop, level_take}
-use Rattle.sequence.proofs.Parted.{back_is, front_is}
+use Rattle.sequence.proofs.Nodes.Children.{length-parts}
+use Rattle.sequence.proofs.Shapes.Halves.{level_drop, level_take}
+use Rattle.sequence.proofs.Shapes.Parted.{back_is, front_is}
 use Rattle.sequence.proofs.tree.Tree.+split.Goals as goal
 
 pub of_children-requires-clause-level : goal.of_children-requires-clause-level

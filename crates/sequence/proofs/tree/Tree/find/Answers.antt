@@ -3,9 +3,9 @@ use Rattle.std.proofs.Common.{◌+◌, ◌<◌, ◌^◌, ◌∙◌, ap, arith, l
 use Rattle.std.proofs.lemmas.List.Sums.{prefix_len-le-length}
 use Rattle.sequence.specs.Nodes.{items_in}
 use Rattle.sequence.proofs.Cuts.{Holds, has_part, holds_all, last_cut, last_item, none_before}
-use Rattle.sequence.proofs.Labels.{holds_child}
-use Rattle.sequence.proofs.Children.{length-parts, length-split}
-use Rattle.sequence.proofs.Wide.{list_node}
+use Rattle.sequence.proofs.Cutting.Labels.{holds_child}
+use Rattle.sequence.proofs.Nodes.Children.{length-parts, length-split}
+use Rattle.sequence.proofs.Nodes.Wide.{list_node}
 use Rattle.sequence.proofs.tree.Tree.find.Goals as goal
 
 pub down-init : goal.down-init

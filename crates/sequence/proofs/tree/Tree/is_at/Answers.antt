@@ -1,5 +1,5 @@
 use Rattle.std.proofs.Common.{◌<◌, subst, length}
-use Rattle.sequence.proofs.Wide.{list_node}
+use Rattle.sequence.proofs.Nodes.Wide.{list_node}
 use Rattle.sequence.proofs.tree.Tree.is_at.Goals as goal
 
 pub returns-clause-some : goal.returns-clause-some

@@ -1,7 +1,7 @@
 use Rattle.std.proofs.Common.{inl, inr, arith, subst}
 use Rattle.std.proofs.lemmas.Bool.Decides.{leb_tells}
 use Rattle.sequence.specs.Nodes.{CanLose, height_in}
-use Rattle.sequence.proofs.Wide.{three_children}
+use Rattle.sequence.proofs.Nodes.Wide.{three_children}
 use Rattle.sequence.proofs.tree.Tree.is_thin.Goals as goal
 
 pub returns-in-Branch : goal.returns-in-Branch

@@ -1,6 +1,6 @@
 use Rattle.std.proofs.Common.{◌+◌, ◌-◌, ◌∙◌, ap, arith, length, subst, sym}
 use Rattle.sequence.specs.Parts.{IsPart}
-use Rattle.sequence.proofs.Children.{part_child}
+use Rattle.sequence.proofs.Nodes.Children.{part_child}
 use Rattle.sequence.proofs.tree.Tree.leaf_at.Goals as goal
 
 pub down-preserved : goal.down-preserved

@@ -1,7 +1,7 @@
 -- What the invariant of a tree says of its items and its height.
 use Rattle.std.proofs.Common.{◌*◌, ◌≤◌, ◌^◌, length, rules, subst}
 use Rattle.sequence.specs.Nodes.{IsList}
-use Rattle.sequence.proofs.Wide.{list_node, low, wide_node}
+use Rattle.sequence.proofs.Nodes.Wide.{list_node, low, wide_node}
 use Rattle.sequence.proofs.tree.Tree.node.Goals as goal
 
 pub returns : goal.returns

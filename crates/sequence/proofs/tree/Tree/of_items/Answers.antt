@@ -1,6 +1,6 @@
 use Rattle.std.proofs.Common.{◌<◌, arith}
 use Rattle.sequence.specs.Nodes.{seen}
-use Rattle.sequence.proofs.Wide.{list_node, low, wide_node}
+use Rattle.sequence.proofs.Nodes.Wide.{list_node, low, wide_node}
 use Rattle.sequence.proofs.tree.Tree.of_items.Goals as goal
 
 pub up-smaller : goal.up-smaller

@@ -1,6 +1,6 @@
 use Rattle.std.proofs.Common.{◌≡◌, ◌∙◌, ◌∷◌, ◌++◌, [], ap, arith, length, subst, sym}
 use Rattle.sequence.specs.Nodes.{AreChildren}
-use Rattle.sequence.proofs.Halves.{child_is, only_is}
+use Rattle.sequence.proofs.Shapes.Halves.{child_is, only_is}
 use Rattle.sequence.proofs.tree.Tree.raise.Goals as goal
 
 pub of-requires : goal.of-requires

@@ -1,6 +1,6 @@
 use Rattle.std.proofs.Common.{◌≤◌, ◌^◌, arith, length, subst}
 use Rattle.sequence.specs.Nodes.{height_in}
-use Rattle.sequence.proofs.Wide.{some_in, two_children}
+use Rattle.sequence.proofs.Nodes.Wide.{some_in, two_children}
 use Rattle.sequence.proofs.tree.Tree.shrink.Goals as goal
 
 pub returns-in_default-clause-wide : goal.returns-in_default-clause-wide

@@ -1,7 +1,7 @@
 use Rattle.std.proofs.Common.{◌≡◌, ◌≤◌, ◌∙◌, ap, arith, sym}
 use Rattle.std.proofs.Math.Nat.{pow-le-pow_right}
 use Rattle.std.specs.Prelude.{Some}
-use Rattle.sequence.proofs.Wide.{height_some}
+use Rattle.sequence.proofs.Nodes.Wide.{height_some}
 use Rattle.sequence.proofs.tree.Tree.take_only.Goals as goal
 
 pub unreachable-requires-in-Branch : goal.unreachable-requires-in-Branch

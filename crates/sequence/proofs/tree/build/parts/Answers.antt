@@ -1,8 +1,8 @@
 use Rattle.std.proofs.Common.{◌≡◌, ◌+◌, ◌∙◌, ◌∷◌, ◌++◌, [], ap, arith, length, length-append, reverse, subst, sym}
 use Rattle.sequence.specs.Nodes.{AreParts, IsChild, seen}
-use Rattle.sequence.proofs.Built.{IsBefore, parts_all, parts_more}
-use Rattle.sequence.proofs.Halves.{child_is}
-use Rattle.sequence.proofs.Wide.{list_node}
+use Rattle.sequence.proofs.Shapes.Built.{IsBefore, parts_all, parts_more}
+use Rattle.sequence.proofs.Shapes.Halves.{child_is}
+use Rattle.sequence.proofs.Nodes.Wide.{list_node}
 use Rattle.sequence.proofs.tree.build.parts.Goals as goal
 
 pub returns : goal.returns

@@ -1,6 +1,6 @@
 use Rattle.std.proofs.Common.{◌≡◌, ◌+◌, ◌≤◌, ◌^◌, length}
 use Rattle.sequence.specs.Nodes.{IsNode, seen}
-use Rattle.sequence.proofs.Built.{IsBefore}
+use Rattle.sequence.proofs.Shapes.Built.{IsBefore}
 use Rattle.sequence.proofs.tree.build.parts.Given as goal
 
 -- the node has the items in front of those that were split off

@@ -6,7 +6,7 @@ use Rattle.std.proofs.lemmas.List.Sums.{prefix_len-le-length}
 use Rattle.sequence.specs.declared.tree.Child.{Child}
 use Rattle.sequence.specs.Cuts.{first}
 use Rattle.sequence.specs.Nodes.{items_in}
-use Rattle.sequence.proofs.Labels.{label_read, length-sooner}
+use Rattle.sequence.proofs.Cutting.Labels.{label_read, length-sooner}
 use Rattle.sequence.proofs.tree.cut.child_of.Goals as goal
 
 -- one more child is counted if its first item is before the cut, and is then the next of those that are

@@ -2,9 +2,9 @@
 use Rattle.std.proofs.Common.{◌≡◌, ◌++◌, ◌∷◌, ◌∙◌, [], ap, append-nil, arith, get_or, inl, inr, length, set, subst, sym}
 use Rattle.sequence.specs.Nodes.{AreChildren, height_in, items_in}
 use Rattle.sequence.specs.Spots.{spliced}
-use Rattle.sequence.proofs.Beside.{labelled_by_first, more_before, more_behind}
-use Rattle.sequence.proofs.Children.{items_append}
-use Rattle.sequence.proofs.Spliced.{splice_end}
+use Rattle.sequence.proofs.Shapes.Beside.{labelled_by_first, more_before, more_behind}
+use Rattle.sequence.proofs.Nodes.Children.{items_append}
+use Rattle.sequence.proofs.Lists.Spliced.{splice_end}
 use Rattle.sequence.proofs.tree.insert.beside.Goals as goal
 
 pub meet-requires-clause-children : goal.meet-requires-clause-children

@@ -1,11 +1,11 @@
 use Rattle.std.proofs.Common.{◌≡◌, ◌+◌, ◌-◌, ◌<◌, ap, arith, length, subst, sym, take}
 use Rattle.sequence.specs.Nodes.{items_in}
 use Rattle.sequence.specs.Spots.{Leads}
-use Rattle.sequence.proofs.Children.{length-more, length-parts}
+use Rattle.sequence.proofs.Nodes.Children.{length-more, length-parts}
 use Rattle.sequence.proofs.tree.remove.join_at.Goals as goal
 
 pub returns-then-child-len-clause-leads : goal.returns-then-child-len-clause-leads
-returns-then-child-len-clause-leads g c place leads = c.in_ok-join.ensures.first place c.args.spot.place leads
+returns-then-child-len-clause-leads g c place leads = c.in_ok-join_children.ensures.first place c.args.spot.place leads
 
 pub overflow_add-result : goal.overflow_add-result
 overflow_add-result g c =
@@ -33,7 +33,8 @@ returns-clause-leads g c place leads =
     let d = c.index.result.now in
     let next : spot.child ≡ spot.child - 1 + 1 =
     omega (arith, c.if-child-len.false, c.len.ensures, c.requires.two) in
-    let there = c.in_ok-join-2.ensures.second place spot.place d
+    let there = c.in_ok-join_children-2.ensures.second place spot.place d
     (subst (λ n. Leads cs place (record { child = n; place = spot.place })) next leads) in
-    subst (λ n. Leads c.join-2.new.children.items place (record { child = spot.child - 1; place = n + spot.place }))
+    let new = c.join_children-2.new.children.items in
+    subst (λ n. Leads new place (record { child = spot.child - 1; place = n + spot.place }))
     (sym (ap (λ child. child.len) c.index.ensures)) there

@@ -3,8 +3,8 @@ use Rattle.std.proofs.Common.{◌≡◌, ◌+◌, ◌∙◌, ap, arith, inl, inr
 use Rattle.std.proofs.lemmas.List.{get_or_default}
 use Rattle.std.proofs.lemmas.Result.{IfOk-weaker}
 use Rattle.sequence.specs.Nodes.{CanLose}
-use Rattle.sequence.proofs.Placed.{stand_on}
-use Rattle.sequence.proofs.Wide.{only_spare}
+use Rattle.sequence.proofs.Nodes.Placed.{stand_on}
+use Rattle.sequence.proofs.Nodes.Wide.{only_spare}
 use Rattle.sequence.proofs.tree.remove.spare_for.Goals as goal
 use Rattle.sequence.proofs.tree.remove.spare_for.Goals.{then-len-eq1-via-then-len-eq1}
 use Rattle.sequence.proofs.tree.remove.spare_for.Goals.{then-len-eq1-via-else-len-eq1+then-not-is_thin}

@@ -1,5 +1,5 @@
 use Rattle.std.proofs.Common.{◌+◌, ap, arith}
-use Rattle.sequence.proofs.Children.{length-more, length-parts}
+use Rattle.sequence.proofs.Nodes.Children.{length-more, length-parts}
 use Rattle.sequence.proofs.tree.search.count.Goals as goal
 
 pub overflow_add-count : goal.overflow_add-count

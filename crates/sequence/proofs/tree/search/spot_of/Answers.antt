@@ -3,7 +3,7 @@ use Rattle.std.proofs.Common.{◌+◌, ◌<◌, inl, inr, ap, arith, length}
 use Rattle.std.proofs.lemmas.Bool.{cases_lt}
 use Rattle.std.proofs.lemmas.List.{get_or_default, take_all}
 use Rattle.sequence.specs.Nodes.{items_in}
-use Rattle.sequence.proofs.Children.{length-more}
+use Rattle.sequence.proofs.Nodes.Children.{length-more}
 use Rattle.sequence.proofs.tree.search.spot_of.Goals as goal
 
 pub along-preserved : goal.along-preserved

@@ -1,7 +1,7 @@
 use Rattle.std.proofs.Common.{◌≡◌, ◌∙◌, ap, arith, drop, length, subst, sym}
 use Rattle.sequence.specs.declared.tree.Child.{Child}
 use Rattle.sequence.specs.Nodes.{AreChildren, AreHalves, items_in, height_in, seen}
-use Rattle.sequence.proofs.Halves.{branches_are, children_drop, children_take}
+use Rattle.sequence.proofs.Shapes.Halves.{branches_are, children_drop, children_take}
 use Rattle.sequence.proofs.tree.split.half_of_branch.Goals as goal
 use Rattle.sequence.proofs.tree.split.half_of_branch.Given as given
 use Rattle.sequence.proofs.tree.split.half_of_branch.Goals.{In_ok-tail}

@@ -1,7 +1,7 @@
 use Rattle.std.proofs.Common.{◌≡◌, ◌∙◌, ap, arith, drop, length, subst, sym}
 use Rattle.sequence.specs.declared.tree.Child.{Child}
 use Rattle.sequence.specs.Nodes.{AreHalves, IsList, seen}
-use Rattle.sequence.proofs.Halves.{leaves_are, list_drop, list_take}
+use Rattle.sequence.proofs.Shapes.Halves.{leaves_are, list_drop, list_take}
 use Rattle.sequence.proofs.tree.split.half_of_leaf.Goals as goal
 
 pub invariant_of-result : goal.invariant_of-result

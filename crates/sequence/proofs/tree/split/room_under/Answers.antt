@@ -1,8 +1,8 @@
 use Rattle.std.proofs.Common.{◌≡◌, ◌+◌, ◌∙◌, ap, arith, get_or, get_or-set_same, length, set, subst, sym}
 use Rattle.std.specs.List.{insert}
 use Rattle.sequence.specs.Nodes.{StandFor}
-use Rattle.sequence.proofs.Joined.{IsRoom, split_is, written_back}
-use Rattle.sequence.proofs.Placed.{child_here, stand_itself}
+use Rattle.sequence.proofs.Shapes.Joined.{IsRoom, split_is, written_back}
+use Rattle.sequence.proofs.Nodes.Placed.{child_here, stand_itself}
 use Rattle.sequence.proofs.tree.split.room_under.Goals as goal
 
 pub returns : goal.returns

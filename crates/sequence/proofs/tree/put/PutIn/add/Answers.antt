@@ -1,7 +1,7 @@
 use Rattle.std.proofs.Common.{◌∙◌, ap, refl}
 use Rattle.std.specs.List.{insert}
 use Rattle.sequence.specs.Acts.{puts}
-use Rattle.sequence.proofs.Acts.{acted_come}
+use Rattle.sequence.proofs.Cutting.Acts.{acted_come}
 use Rattle.sequence.proofs.tree.put.PutIn.add.Goals as goal
 
 pub returns-clause-done : goal.returns-clause-done

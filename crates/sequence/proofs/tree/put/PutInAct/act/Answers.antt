@@ -1,6 +1,6 @@
-use Rattle.std.proofs.Common.{◌∙◌, [], ◌∷◌, ap, sym}
+use Rattle.std.proofs.Common.{◌∙◌, [], ◌∷◌, ap, sym, true}
 use Rattle.sequence.specs.Acts.{puts}
-use Rattle.sequence.proofs.Acts.{acted_set, missed, read_again, read_is}
+use Rattle.sequence.proofs.Cutting.Acts.{acted_set, missed, read_again, read_is}
 use Rattle.sequence.proofs.tree.put.PutInAct.act.Goals as goal
 
 pub returns-then-is_sought-clause-done : goal.returns-then-is_sought-clause-done
@@ -15,7 +15,7 @@ returns-then-is_sought-clause-done g c =
     let same = read_again es at c.index.result.now cut.within c.index.ensures old c.index_mut.ensures.value in
     let found = ap sought same ∙ sym c.if-is_sought.ensures in
     let is = read_is es at old cut.within c.index_mut.ensures.value in
-    acted_set test does es at c.replace.result cut c.replace.new.item
+    acted_set test does es at c.replace.result cut true c.replace.new.item
     (old, (is, (found, (c.replace.ensures.old, ap (λ e. e ∷ []) c.replace.ensures.item))))
 
 pub add-requires-2-clause-missed : goal.add-requires-2-clause-missed

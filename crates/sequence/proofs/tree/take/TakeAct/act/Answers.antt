@@ -1,7 +1,7 @@
-use Rattle.std.proofs.Common.{◌+◌, ◌∙◌, ap, refl, sym}
+use Rattle.std.proofs.Common.{◌+◌, ◌∙◌, ap, refl, sym, true}
 use Rattle.std.proofs.lemmas.Option.{none-some}
 use Rattle.sequence.specs.Acts.{takes}
-use Rattle.sequence.proofs.Acts.{acted_gone, acted_none, missed, read_again, read_is}
+use Rattle.sequence.proofs.Cutting.Acts.{acted_gone, acted_none, missed, read_again, read_is}
 use Rattle.sequence.proofs.tree.take.TakeAct.act.Goals as goal
 
 pub returns-in-None-clause-done : goal.returns-in-None-clause-done
@@ -10,7 +10,7 @@ returns-in-None-clause-done g c =
     let sought = λ (e : g.row.T.Denot). g.C.Seek.is_sought c.args.self.0 (g.L.Label.label_of e) in
     let cut = rw c.in-None.is at c.requires.none in
     let es = c.args.items.now.items in
-    acted_none test (takes sought) es 0 cut (λ item h. absurd (none-some item h), refl)
+    acted_none test (takes sought) es 0 cut true (λ item h. absurd (none-some item h), refl)
 
 pub returns-then-not-is_sought-clause-done : goal.returns-then-not-is_sought-clause-done
 returns-then-not-is_sought-clause-done g c =
@@ -21,7 +21,7 @@ returns-then-not-is_sought-clause-done g c =
     let at = c.in-Some.at in
     let not = sym c.is_sought.ensures ∙ c.if-not-is_sought.true in
     let missed = missed es at c.index.result.now cut.within c.index.ensures sought not in
-    acted_none test (takes sought) es (at + 1) cut (missed, refl)
+    acted_none test (takes sought) es (at + 1) cut true (missed, refl)
 
 pub returns-clause-done : goal.returns-clause-done
 returns-clause-done g c =

@@ -8,8 +8,8 @@ use Rattle.std.proofs.lemmas.Option.{none-some, same_Some}
 use Rattle.sequence.specs.declared.tree.Child.{Child}
 use Rattle.sequence.specs.Cuts.{IsAmong, HasCut, first}
 use Rattle.sequence.specs.Nodes.{AreChildren, IsLabelled, first_label, items_in}
-use Rattle.sequence.proofs.Children.{items_split, length-more, part_child}
-use Rattle.sequence.proofs.Labelled.{at_behind}
+use Rattle.sequence.proofs.Nodes.Children.{items_split, length-more, part_child}
+use Rattle.sequence.proofs.Nodes.Labelled.{at_behind}
 use Rattle.sequence.proofs.Cuts.{Holds, first_part, test_read}
 
 module _ {T L : Type 0} (label_of : T → L) where

@@ -9,10 +9,10 @@ use Rattle.std.proofs.lemmas.List.Elements.{All-take, All-drop, All-append, All-
 use Rattle.sequence.specs.declared.tree.Child.{Child}
 use Rattle.sequence.specs.Nodes.{AreChildren, AreHalves, AreLevel, IsChild, IsLabelled, IsList, StandFor}
 use Rattle.sequence.specs.Nodes.{first_label, height_in, items_in}
-use Rattle.sequence.proofs.Children.{children_are, height_is, items_append, length-parts, two_parts}
-use Rattle.sequence.proofs.Labelled.{all_behind, at_behind, behind_append, behind_drop, behind_take, first_drop}
-use Rattle.sequence.proofs.Labelled.{first_in}
-use Rattle.sequence.proofs.Wide.{three_children}
+use Rattle.sequence.proofs.Nodes.Children.{children_are, height_is, items_append, length-parts, two_parts}
+use Rattle.sequence.proofs.Nodes.Labelled.{all_behind, at_behind, behind_append, behind_drop, behind_take, first_drop}
+use Rattle.sequence.proofs.Nodes.Labelled.{first_in}
+use Rattle.sequence.proofs.Nodes.Wide.{three_children}
 
 module _ {T L : Type 0} where
   -- a child with that tree

@@ -10,10 +10,10 @@ use Rattle.sequence.specs.declared.tree.search.Spot.{Spot}
 use Rattle.sequence.specs.Spots.{Leads}
 use Rattle.sequence.specs.declared.tree.Child.{Child}
 use Rattle.sequence.specs.Nodes.{AreChildren, IsChild, first_label, height_in, items_in}
-use Rattle.sequence.proofs.Children.{items_split, length-split}
-use Rattle.sequence.proofs.Labelled.{first_set, labelled_at, labelled_by}
-use Rattle.sequence.proofs.Placed.{child_here, left_in, put_under, stand_itself}
-use Rattle.sequence.proofs.Spliced.{get_between, set_spliced}
+use Rattle.sequence.proofs.Nodes.Children.{items_split, length-split}
+use Rattle.sequence.proofs.Nodes.Labelled.{first_set, labelled_at, labelled_by}
+use Rattle.sequence.proofs.Nodes.Placed.{child_here, left_in, put_under, stand_itself}
+use Rattle.sequence.proofs.Lists.Spliced.{get_between, set_spliced}
 
 -- the node after the call on a child, whose answer is r
 pub record IsChanged {T L F R E : Type 0} (label_of : T → L) (tree : List T × ℕ) (at : ℕ)

@@ -6,7 +6,7 @@ use Rattle.std.proofs.lemmas.List.Elements.{All-cons, All-drop}
 use Rattle.std.specs.List.{All}
 use Rattle.sequence.specs.declared.tree.Child.{Child}
 use Rattle.sequence.specs.Nodes.{AreParts, IsChild, IsLabelled, IsList, items_in}
-use Rattle.sequence.proofs.Children.{children_are, height_is}
+use Rattle.sequence.proofs.Nodes.Children.{children_are, height_is}
 
 module _ {T L : Type 0} where
   -- the items are those in front and those under the children, the last of which stands first

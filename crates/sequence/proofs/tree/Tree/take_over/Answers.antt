@@ -1,7 +1,7 @@
 use Rattle.std.proofs.Common.{◌++◌, ◌∙◌, ap, subst, sym}
 use Rattle.sequence.specs.Nodes.{IsList, seen}
-use Rattle.sequence.proofs.Copied.{made}
-use Rattle.sequence.proofs.tree.Tree.join.Goals as goal
+use Rattle.sequence.proofs.Nodes.Copied.{made}
+use Rattle.sequence.proofs.tree.Tree.take_over.Goals as goal
 
 pub append-requires-clause-list : goal.append-requires-clause-list
 append-requires-clause-list g c =

@@ -1,12 +1,12 @@
 use Rattle.std.proofs.Common.{◌+◌, ◌∙◌, ap, set, subst, sym}
 use Rattle.std.specs.List.{insert}
 use Rattle.sequence.specs.Nodes.{StandFor}
-use Rattle.sequence.proofs.Joined.{IsJoined, back, joined_is, pair_are, taken}
-use Rattle.sequence.proofs.Placed.{stand_itself}
-use Rattle.sequence.proofs.tree.join.join.Goals as goal
+use Rattle.sequence.proofs.Shapes.Joined.{IsJoined, back, joined_is, pair_are, taken}
+use Rattle.sequence.proofs.Nodes.Placed.{stand_itself}
+use Rattle.sequence.proofs.tree.join.join_children.Goals as goal
 
-pub join-requires-clause-children : goal.join-requires-clause-children
-join-requires-clause-children g c =
+pub take_over-requires-clause-children : goal.take_over-requires-clause-children
+take_over-requires-clause-children g c =
     let cs = c.args.children.now.items in
     let at = c.args.at in
     let two = taken cs _ _ at c.index_mut.result.now c.remove-next.result c.requires.within
@@ -19,7 +19,7 @@ returns-in_default g c =
     let at = c.args.at in
     let d = c.index_mut.result.now in
     let e = c.remove-next.result in
-    let new = c.join.new.self in
+    let new = c.take_over.new.self in
     let within = c.requires.within in
     let are = c.requires.children in
     let one = c.in_default.ensures in
@@ -38,7 +38,8 @@ returns-clause-same g c =
     let e = c.remove-next.result in
     let two = taken cs _ _ at d e c.requires.within c.in_ok-reserve.ensures.items c.remove-next.ensures.items
     c.index_mut.ensures.value c.remove-next.ensures.value in
-    let same = c.in-Ok.ensures.items ∙ ap (λ xs. insert (set xs at c.join.new.self) (at + 1) c.in-Err.next) two.left
-    ∙ back cs at d e c.join.new.self c.in-Err.next c.requires.within (c.in-Err.ensures.same ∙ two.first)
+    let same = c.in-Ok.ensures.items
+    ∙ ap (λ xs. insert (set xs at c.take_over.new.self) (at + 1) c.in-Err.next) two.left
+    ∙ back cs at d e c.take_over.new.self c.in-Err.next c.requires.within (c.in-Err.ensures.same ∙ two.first)
     (c.in-Err.ensures.refused ∙ two.second) in
     subst (StandFor g.L.Label.label_of cs) (sym same) (stand_itself cs c.requires.children)

@@ -14,9 +14,9 @@ use Rattle.sequence.specs.declared.tree.Child.{Child}
 use Rattle.sequence.specs.declared.tree.search.Spot.{Spot}
 use Rattle.sequence.specs.Nodes.{AreChildren, AreHalves, CanLose, IsChild, IsLabelled, StandFor, height_in, items_in}
 use Rattle.sequence.specs.Spots.{Leads, past}
-use Rattle.sequence.proofs.Children.{items_append, leads_at, length-more, split_at}
-use Rattle.sequence.proofs.Halves.{child_is, children_drop, children_take, replaced}
-use Rattle.sequence.proofs.Labelled.{labelled_at, labelled_both, labelled_left}
+use Rattle.sequence.proofs.Nodes.Children.{items_append, leads_at, length-more, split_at}
+use Rattle.sequence.proofs.Shapes.Halves.{child_is, children_drop, children_take, replaced}
+use Rattle.sequence.proofs.Nodes.Labelled.{labelled_at, labelled_both, labelled_left}
 
 module _ {X : Type 0} where
   -- a list around two items

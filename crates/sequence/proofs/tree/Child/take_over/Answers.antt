@@ -1,6 +1,6 @@
 use Rattle.std.proofs.Common.{refl}
-use Rattle.sequence.proofs.Joined.{child_of_both}
-use Rattle.sequence.proofs.tree.Child.join.Goals as goal
+use Rattle.sequence.proofs.Shapes.Joined.{child_of_both}
+use Rattle.sequence.proofs.tree.Child.take_over.Goals as goal
 
 pub returns-clause-child : goal.returns-clause-child
 returns-clause-child g c =

@@ -9,9 +9,9 @@ use Rattle.std.proofs.lemmas.Nat.{pow_pos}
 use Rattle.std.proofs.Math.Seq.{get_or_at}
 use Rattle.sequence.specs.declared.tree.Child.{Child}
 use Rattle.sequence.specs.Nodes.{AreChildren, IsChild, IsLabelled, IsList, first_label, height_in, items_in}
-use Rattle.sequence.proofs.Children.{children_are, height_is, items_append}
-use Rattle.sequence.proofs.Labelled.{behind_append, first_front}
-use Rattle.sequence.proofs.Wide.{some_in}
+use Rattle.sequence.proofs.Nodes.Children.{children_are, height_is, items_append}
+use Rattle.sequence.proofs.Nodes.Labelled.{behind_append, first_front}
+use Rattle.sequence.proofs.Nodes.Wide.{some_in}
 
 module _ {T L : Type 0} (label_of : T → L) where
   -- the children of a node with the items of both, which is as high

@@ -5,7 +5,7 @@ use Rattle.std.specs.Prelude.{slice_range}
 use Rattle.std.proofs.lemmas.Bool.{cases_lt}
 use Rattle.std.proofs.lemmas.List.{take_all, drop_all}
 use Rattle.std.proofs.Math.Seq.{take-nil}
-use Rattle.sequence.proofs.Ranges.{range_most}
+use Rattle.sequence.proofs.Lists.Ranges.{range_most}
 
 module _ {T : Type 0} where
   -- one that starts at the end or behind it

@@ -1,18 +1,18 @@
 -- A branch under one child of which something was done where a cut is.
-use Rattle.std.proofs.Common.{◌≡◌, ◌+◌, ◌-◌, ◌<◌, ◌≤◌, ◌^◌, ℕ, zero, suc, Bool, List, [], ◌∷◌, ◌++◌, length, take, drop}
+use Rattle.std.proofs.Common.{◌≡◌, ◌+◌, ◌<◌, ◌≤◌, ◌^◌, ℕ, zero, suc, Bool, List, [], ◌∷◌, ◌++◌, length, take, drop}
 use Rattle.std.proofs.Common.{get_or, set, refl, ap, sym, ◌∙◌, subst, arith, inl, inr, true, true≢false, false, ◌⊎◌}
 use Rattle.std.specs.Int.{from_bool}
-use Rattle.std.specs.Prelude.{IfNone, IfSome, IsTrue, None, Option, Some, Ok, is_some, not}
+use Rattle.std.specs.Prelude.{IfNone, IfSome, IsTrue, None, Option, Some, Ok, cond, is_some, not}
 use Rattle.std.proofs.lemmas.Option.{none-some}
 use Rattle.sequence.specs.declared.tree.Child.{Child}
-use Rattle.sequence.specs.Acts.{IsActed, gone, last_of}
+use Rattle.sequence.specs.Acts.{IsActed, OfSought, comes, gone, last_of}
 use Rattle.sequence.specs.Cuts.{HasCut, IsAmong, IsCut, first}
 use Rattle.sequence.specs.Nodes.{AreChildren, CanLose, IsChild, IsLabelled, first_label, height_in, items_in}
-use Rattle.sequence.proofs.Children.{items_set, items_split}
+use Rattle.sequence.proofs.Nodes.Children.{items_set, items_split}
 use Rattle.sequence.proofs.Cuts.{Holds, first_cut, first_is, first_part, holds_all, none_front}
-use Rattle.sequence.proofs.Labels.{holds_child}
-use Rattle.sequence.proofs.Placed.{child_here, put_under, stand_itself}
-use Rattle.sequence.proofs.Spliced.{length-spliced}
+use Rattle.sequence.proofs.Cutting.Labels.{holds_child}
+use Rattle.sequence.proofs.Nodes.Placed.{child_here, put_under, stand_itself}
+use Rattle.sequence.proofs.Lists.Spliced.{length-spliced}
 
 module _ {T : Type 0} (test : T → Bool) (part all : List T) (start : ℕ) (has : HasCut test all)
     (holds : Holds test part start all) where
@@ -32,6 +32,18 @@ module _ {T : Type 0} (test : T → Bool) (part all : List T) (start : ℕ) (has
       omega (arith, first_part test part all start has holds, first_is test part at is) in
       subst (IsCut test all) place (first_cut test all has)
 
+  -- what holds of the sought item of all holds of that of the part
+  pub sought_there : (sought : T → Bool) (needs : T → Type 0) → OfSought sought test needs all
+      → OfSought sought test needs part
+  sought_there sought needs given at there =
+      let place : start + (at + 1) ≡ start + at + 1 = omega arith in
+      given (start + at) (record {
+        item = there.item;
+        cut = subst (IsCut test all) place (cut_there (at + 1) there.cut);
+        is = sym (holds.part.at at (omega (arith, there.cut.within))) ∙ there.is;
+        found = there.found;
+      })
+
 -- a bit is no more than one
 pub bit : (b : Bool) → from_bool b ≤ 1
 bit true = omega arith
@@ -46,10 +58,16 @@ not_thin thin tree either not = elim either [
 ]
 
 -- an item less leaves enough if there was one to spare
-wide_after : (loses : Bool) (least old new more out : ℕ) → least ≤ old → new + out ≡ old + more
-    → more ≡ from_bool (not loses) → out ≤ 1 → (loses ≡ true → least < old) → least ≤ new
-wide_after true least old new more out wide count come few spare = omega (arith, count, few, spare refl)
-wide_after false least old new more out wide count come few spare = omega (arith, wide, count, come, few)
+wide_after : {R : Type 0} (grows loses : Bool) (answer : Option R) (least old new more : ℕ) → least ≤ old
+    → new + gone answer ≡ old + more → more ≡ comes grows loses answer → (loses ≡ true → least < old) → least ≤ new
+wide_after grows loses None least old new more wide count come spare =
+    let same : new + 0 ≡ old + more = count in omega (arith, wide, same)
+wide_after grows true (Some r) least old new more wide count come spare =
+    let same : new + 1 ≡ old + more = count in omega (arith, same, spare refl)
+wide_after grows false (Some r) least old new more wide count come spare =
+    let same : new + 1 ≡ old + more = count in
+    let one : more ≡ 1 = come in
+    omega (arith, wide, same, one)
 
 module _ {T : Type 0} (test : T → Bool) (es : List T) (has : HasCut test es) where
   -- what was counted is the cut
@@ -93,19 +111,19 @@ module _ {T L : Type 0} (label_of : T → L) where
         subst (λ (c : Child T L). Holds test c.tree.0 before (items_in cs)) (sym is)
         (holds_child test cs i d 0 before (items_in cs) h has (holds_all test (items_in cs)) under place)
 
-    module _ {R : Type 0} (test : T → Bool) (does : Option R → Option T → List T → Type 0) (loses : Bool)
-        (are : AreChildren label_of cs) (has : HasCut test (items_in cs))
+    module _ {R : Type 0} (test : T → Bool) (does : Option R → Option T → List T → Type 0)
+        (grows loses : Bool) (are : AreChildren label_of cs) (has : HasCut test (items_in cs))
         (under : IsAmong (length (items_in (take i cs))) (length (items_in (take (i + 1) cs)))
         (first test (items_in cs)))
         (label : 0 < i → IsLabelled label_of new) (room : length (items_in cs) + 1 < 2 ^ 64) where
       -- the branch after the act on that child
       pub record IsDone (answer : Option R) : Type 0 where
-        pub done : IsActed test does loses (items_in cs) (items_in (set cs i new)) answer
+        pub done : IsActed test does grows loses (items_in cs) (items_in (set cs i new)) answer
         pub height : height_in (set cs i new) ≡ height_in cs
         pub children : AreChildren label_of (set cs i new)
 
-      pub acted_under : (answer : Option R) → IsActed test does loses d.tree.0 new.tree.0 answer
-          → new.tree.1 ≡ d.tree.1 → new.len ≡ d.len - gone answer + from_bool (not loses)
+      pub acted_under : (answer : Option R) → IsActed test does grows loses d.tree.0 new.tree.0 answer
+          → new.tree.1 ≡ d.tree.1 → new.len + gone answer ≡ d.len + comes grows loses answer
           → (loses ≡ true → CanLose d.tree) → IsDone answer
       acted_under answer did level len spare =
           let all = items_in cs in
@@ -117,7 +135,8 @@ module _ {T L : Type 0} (label_of : T → L) where
           let last = last_there test d.tree.0 all start has holds (at + out) did.cut in
           let place : start + (at + out) ≡ start + at + out = omega arith in
           let inside = did.cut.within in
-          let few : length all + length did.more < 2 ^ 64 + out = omega (arith, room, did.come, bit (not loses)) in
+          let one = bit (cond (is_some answer) (not loses) grows) in
+          let few : length all + length did.more < 2 ^ 64 + out = omega (arith, room, did.come, one) in
           let old = child_here cs i d are h is in
           let count : length new.tree.0 + out ≡ length d.tree.0 + length did.more =
           omega (arith, ap (length {A = T}) did.items, length-spliced at out did.more d.tree.0 inside) in
@@ -125,8 +144,8 @@ module _ {T L : Type 0} (label_of : T → L) where
             counted = omega (arith, len, count, inside, did.come, old.counted);
             level = ap (λ (n : ℕ). n + 1) level;
             wide = subst (λ (n : ℕ). 2 ^ n ≤ length new.tree.0) (sym level)
-                (wide_after loses (2 ^ d.tree.1) (length d.tree.0) (length new.tree.0) (length did.more) out old.wide
-                count did.come (bit (is_some answer)) spare);
+                (wide_after grows loses answer (2 ^ d.tree.1) (length d.tree.0) (length new.tree.0) (length did.more)
+                old.wide count did.come spare);
           } in
           let put = put_under {label_of = label_of} cs cs i d new (stand_itself cs are) h is child label (start + at) at
           out did.more refl inside {A = Option R} {E = Unit {0}} (Ok answer) did.items tt few in

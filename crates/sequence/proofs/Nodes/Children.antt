@@ -16,7 +16,7 @@ use Rattle.sequence.specs.declared.tree.Child.{Child}
 use Rattle.sequence.specs.Nodes.{AreChildren, IsChild, IsLabelled, height_in, items_in}
 use Rattle.sequence.specs.declared.tree.search.Spot.{Spot}
 use Rattle.sequence.specs.Spots.{Leads}
-use Rattle.sequence.proofs.Spliced.{get_between}
+use Rattle.sequence.proofs.Lists.Spliced.{get_between}
 
 -- a list around one item
 pub split_at : {X : Type 0} (xs : List X) (i : ℕ) (d : X) → i < length xs

@@ -8,9 +8,9 @@ use Rattle.std.proofs.lemmas.List.Elements.{All-set}
 use Rattle.sequence.specs.declared.tree.Child.{Child}
 use Rattle.sequence.specs.Nodes.{AreChildren, IsChild, IsLabelled, StandFor, height_in, items_in}
 use Rattle.sequence.specs.Spots.{spliced}
-use Rattle.sequence.proofs.Children.{children_are, height_is, items_set, items_split, length-split}
-use Rattle.sequence.proofs.Labelled.{behind_set}
-use Rattle.sequence.proofs.Spliced.{length-spliced, splice_between}
+use Rattle.sequence.proofs.Nodes.Children.{children_are, height_is, items_set, items_split, length-split}
+use Rattle.sequence.proofs.Nodes.Labelled.{behind_set}
+use Rattle.sequence.proofs.Lists.Spliced.{length-spliced, splice_between}
 
 module _ {T L : Type 0} {label_of : T → L} where
   -- what stands for children that stand for others stands for those

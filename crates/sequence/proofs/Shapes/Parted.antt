@@ -5,7 +5,7 @@ use Rattle.sequence.specs.declared.tree.Child.{Child}
 use Rattle.sequence.specs.declared.tree.search.Spot.{Spot}
 use Rattle.sequence.specs.Nodes.{items_in}
 use Rattle.sequence.specs.Spots.{Leads}
-use Rattle.sequence.proofs.Children.{items_split}
+use Rattle.sequence.proofs.Nodes.Children.{items_split}
 
 module _ {T L : Type 0} (cs : List (Child T L)) (place : ℕ) (spot : Spot) (d : Child T L)
     (leads : Leads cs place spot) where

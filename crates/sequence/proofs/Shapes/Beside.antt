@@ -7,10 +7,10 @@ use Rattle.std.proofs.lemmas.List.{get_or_default}
 use Rattle.std.proofs.lemmas.List.Elements.{All-append, All-cons, All-nil}
 use Rattle.sequence.specs.declared.tree.Child.{Child}
 use Rattle.sequence.specs.Nodes.{AreChildren, IsChild, IsLabelled, StandFor, first_label, height_in, items_in}
-use Rattle.sequence.proofs.Children.{children_are, height_is, items_append}
-use Rattle.sequence.proofs.Labelled.{behind_append, first_get}
-use Rattle.sequence.proofs.Placed.{child_here, stands_in}
-use Rattle.sequence.proofs.Wide.{some_in}
+use Rattle.sequence.proofs.Nodes.Children.{children_are, height_is, items_append}
+use Rattle.sequence.proofs.Nodes.Labelled.{behind_append, first_get}
+use Rattle.sequence.proofs.Nodes.Placed.{child_here, stands_in}
+use Rattle.sequence.proofs.Nodes.Wide.{some_in}
 
 module _ {T L : Type 0} (label_of : T → L) (cs : List (Child T L)) where
   -- the same children, of which the first has the label of its first item too

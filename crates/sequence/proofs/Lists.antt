@@ -1,0 +1,5 @@
+-- Items in place of others in a list, and the parts of a list.
+pub mod Spliced
+pub mod Parts
+pub mod Ranges
+pub mod Within

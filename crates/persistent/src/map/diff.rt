@@ -33,8 +33,8 @@ impl<K: Ord, V: PartialEq> TreeMap<K, V> {
         ensures rising { IfOk result (λ changes. IsRising K.cmp (listed changes.items)) }
     {
         let mut changes = Vec::new(alloc);
-        let mut olds = Left::of(self);
-        let mut news = Left::of(newer);
+        let mut olds = Remaining::of(self);
+        let mut news = Remaining::of(newer);
         while let Some((order, change)) = olds.first_change(&news) {
             olds.pass(order.is_le());
             news.pass(order.is_ge());
@@ -46,12 +46,12 @@ impl<K: Ord, V: PartialEq> TreeMap<K, V> {
 
 // What is left of a map: its first entry, and those behind it.
 #[derive(Drop)]
-struct Left<'a, K: Ord, V> {
+struct Remaining<'a, K: Ord, V> {
     first: Option<&'a (K, V)>,
     behind: Iter<'a, K, V>,
 }
 
-impl<'a, K: Ord, V> Model for Left<'a, K, V> {
+impl<'a, K: Ord, V> Model for Remaining<'a, K, V> {
     ghost use Rattle.std.specs.Prelude.{◌≡◌, [], IfNone, List};
     ghost use Rattle.sequence.specs.Parts.{left};
 
@@ -62,14 +62,14 @@ impl<'a, K: Ord, V> Model for Left<'a, K, V> {
     ghost invariant = { λ l. IfNone l.first (l.behind ≡ []) };
 }
 
-impl<'a, K: Ord, V> Left<'a, K, V> {
-    fn of(map: &'a TreeMap<K, V>) -> Left<'a, K, V>
+impl<'a, K: Ord, V> Remaining<'a, K, V> {
+    fn of(map: &'a TreeMap<K, V>) -> Remaining<'a, K, V>
         ensures entries { result ≡ map.now }
         ensures rising { IsRising K.cmp map.now }
     {
         let mut behind = map.entries.iter();
         let first = behind.next();
-        Left { first, behind }
+        Remaining { first, behind }
     }
 
     // Takes the first entry out, if that is asked.
@@ -83,12 +83,12 @@ impl<'a, K: Ord, V> Left<'a, K, V> {
     }
 }
 
-impl<'a, K: Ord, V: PartialEq> Left<'a, K, V> {
+impl<'a, K: Ord, V: PartialEq> Remaining<'a, K, V> {
     // How the first key stands to the first one of the newer map, and what differs under the lower one.
     #[inline(always)]
     fn first_change(
         &self,
-        news: &Left<'a, K, V>,
+        news: &Remaining<'a, K, V>,
     ) -> Option<(Ordering, Option<(&'a K, Change<'a, V>)>)>
         ensures { option_map (λ r. (r.0, option_map as_entry r.1)) result ≡ first_change K.cmp V.eq self.now news.now }
     {

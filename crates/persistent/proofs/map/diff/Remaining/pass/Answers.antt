@@ -1,6 +1,6 @@
 use Rattle.std.proofs.Common.{◌∙◌, ap, cond, drop, sym}
 use Rattle.persistent.proofs.Passed.{left_passed}
-use Rattle.persistent.proofs.map.diff.Left.pass.Goals as goal
+use Rattle.persistent.proofs.map.diff.Remaining.pass.Goals as goal
 
 pub returns-then-goes : goal.returns-then-goes
 returns-then-goes g c =

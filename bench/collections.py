@@ -6,7 +6,7 @@ nanoseconds of each call, and a checksum. `btree` and `vec` are std's `BTreeMap`
 the `Vector` of im-rc with atomic counts, if COLLECTIONS has them. It prints the nanoseconds of one call, or of one
 item that is dropped, the least of the rounds, and its ratio to that of each peer, with a verdict if there is a goal.
 
-The bytes an item are the most memory that the process had for 2,000,000 of them, without the list of their keys.
+The bytes an item are the most memory that the process had for all of them, without the list of their keys.
 The status is 2 if a checksum differs, else 1 if a goal was missed, else 0.
 """
 import argparse
@@ -15,11 +15,12 @@ import subprocess
 import sys
 
 WORKLOADS = {"maps": ["map-rising", "map-mixed"], "sequences": ["sequence"]}
-CALLS = {"maps": ["insert", "get", "step", "clone", "version", "remove", "drop"],
+CALLS = {"maps": ["insert", "get", "step", "modify", "clone", "version", "remove", "pop_first", "pop_last", "drop"],
          "sequences": ["push", "get", "step", "version", "insert", "remove", "split_off", "append", "drop"]}
 SIZES = [1_000, 100_000, 1_000_000]
 ITEMS = 1_000_000  # that are put in, at least, as in collections.rs
 VERSIONS = 100_000
+MAPS = 4  # that are made, at least, of which three calls take a part each
 CHANGES = 1_000  # in the middle of a sequence
 LIST = 8 * SIZES[-1]  # bytes
 WITHOUT_VERSIONS = ["btree", "vec"]
@@ -32,12 +33,14 @@ GOALS = {"maps": {"im": dict.fromkeys(set(ALL) - {"clone"}, 1.00),
 
 def counts(kind, items):
     """How often a run makes each call."""
-    made = max(ITEMS // items, 2)
     if kind == "sequences":
+        made = max(ITEMS // items, 2)
         return dict.fromkeys(CALLS[kind], CHANGES) | {"get": ITEMS, "step": ITEMS, "version": VERSIONS,
                                                       "push": made * items, "drop": made * items}
-    return dict.fromkeys(CALLS[kind], ITEMS) | {"insert": made * items, "version": VERSIONS,
-                                                "remove": (made - made // 2) * items, "drop": made // 2 * items}
+    made = max(ITEMS // items, MAPS)
+    part = made // MAPS * items
+    return dict.fromkeys(CALLS[kind], part) | dict.fromkeys(["get", "step", "modify", "clone"], ITEMS) | {
+        "insert": made * items, "version": VERSIONS, "drop": made * items - 3 * part}
 
 
 def run(command, kind, workload, items):
@@ -47,7 +50,7 @@ def run(command, kind, workload, items):
         _, _, usage = os.wait4(process.pid, 0)
     taken = {call: int(nanoseconds) for call, nanoseconds in (line.split() for line in lines)}
     found = {call: taken[call] / count for call, count in counts(kind, items).items()}
-    return found | {"bytes": (usage.ru_maxrss * 1024 - LIST) / (2 * SIZES[-1])}, checksum
+    return found | {"bytes": (usage.ru_maxrss * 1024 - LIST) / ((MAPS if kind == "maps" else 2) * SIZES[-1])}, checksum
 
 
 def is_compared(peer, call):

@@ -20,6 +20,9 @@ use std::{env, process};
 const ITEMS: usize = 1_000_000;
 const VERSIONS: usize = 100_000;
 
+/// At least so many maps are made: three calls take a part of them each, and the others are dropped.
+const MAPS: usize = 4;
+
 /// Prints how long the work took.
 fn timed<T>(call: &str, work: impl FnOnce() -> T) -> T {
     let start = Instant::now();

@@ -1,6 +1,6 @@
 //! A map through its calls.
 
-use crate::{sum_of, timed, ITEMS, VERSIONS};
+use crate::{sum_of, timed, ITEMS, MAPS, VERSIONS};
 use std::collections::BTreeMap;
 
 /// What is measured.
@@ -12,9 +12,19 @@ pub trait Map: Clone + Default {
 
     fn insert(&mut self, key: u64, value: u64);
     fn get(&self, key: u64) -> Option<u64>;
+    /// The value under the key, one more than before.
+    fn modify(&mut self, key: u64) -> Option<u64>;
     fn remove(&mut self, key: u64) -> Option<u64>;
+    fn pop_first(&mut self) -> Option<u64>;
+    fn pop_last(&mut self) -> Option<u64>;
     fn values(&self) -> impl Iterator<Item = u64>;
     fn len(&self) -> usize;
+}
+
+fn changed(value: Option<&mut u64>) -> Option<u64> {
+    let value = value?;
+    *value = value.wrapping_add(1);
+    Some(*value)
 }
 
 impl Map for BTreeMap<u64, u64> {
@@ -30,8 +40,20 @@ impl Map for BTreeMap<u64, u64> {
         self.get(&key).copied()
     }
 
+    fn modify(&mut self, key: u64) -> Option<u64> {
+        changed(self.get_mut(&key))
+    }
+
     fn remove(&mut self, key: u64) -> Option<u64> {
         self.remove(&key)
+    }
+
+    fn pop_first(&mut self) -> Option<u64> {
+        self.pop_first().map(|entry| entry.1)
+    }
+
+    fn pop_last(&mut self) -> Option<u64> {
+        self.pop_last().map(|entry| entry.1)
     }
 
     fn values(&self) -> impl Iterator<Item = u64> {
@@ -53,7 +75,21 @@ impl Map for im_rc::OrdMap<u64, u64> {
         self.get(&key).copied()
     }
 
+    fn modify(&mut self, key: u64) -> Option<u64> {
+        changed(self.get_mut(&key))
+    }
+
     fn remove(&mut self, key: u64) -> Option<u64> {
+        self.remove(&key)
+    }
+
+    fn pop_first(&mut self) -> Option<u64> {
+        let key = self.get_min()?.0;
+        self.remove(&key)
+    }
+
+    fn pop_last(&mut self) -> Option<u64> {
+        let key = self.get_max()?.0;
         self.remove(&key)
     }
 
@@ -111,11 +147,22 @@ fn version(map: &mut impl Map, keys: &[u64]) {
     }
 }
 
-fn remove<M: Map>(maps: Vec<M>, keys: &[u64]) -> u64 {
+fn modify(map: &mut impl Map, keys: &[u64], rounds: usize) -> u64 {
+    let mut sum = 0u64;
+    for _ in 0..rounds {
+        for &key in keys {
+            sum = sum.wrapping_add(map.modify(key).unwrap_or(0));
+        }
+    }
+    sum
+}
+
+/// Empties the maps by that call, once for each key.
+fn emptied<M: Map>(maps: Vec<M>, keys: &[u64], call: impl Fn(&mut M, u64) -> Option<u64>) -> u64 {
     let mut sum = 0u64;
     for mut map in maps {
         for &key in keys {
-            sum = sum.wrapping_add(map.remove(key).unwrap_or(0));
+            sum = sum.wrapping_add(call(&mut map, key).unwrap_or(0));
         }
     }
     sum
@@ -124,15 +171,20 @@ fn remove<M: Map>(maps: Vec<M>, keys: &[u64]) -> u64 {
 /// All calls on maps of these keys, one after another.
 pub fn measure<M: Map>(keys: &[u64]) -> u64 {
     let rounds = ITEMS / keys.len();
-    let mut maps: Vec<M> = timed("insert", || insert(keys, rounds.max(2)));
+    let mut maps: Vec<M> = timed("insert", || insert(keys, rounds.max(MAPS)));
     let mut map = maps.pop().unwrap();
     let mut sum = timed("get", || get(&map, keys, rounds));
     sum = sum.wrapping_add(timed("step", || step(&map, rounds)));
+    sum = sum.wrapping_add(timed("modify", || modify(&mut map, keys, rounds)));
     sum = sum.wrapping_add(timed("clone", || clone(&map)));
     timed("version", || version(&mut map, keys));
     maps.push(map);
-    let rest = maps.split_off(maps.len() / 2);
-    sum = sum.wrapping_add(timed("remove", || remove(rest, keys)));
+    let quarter = maps.len() / MAPS;
+    let mut last = || maps.split_off(maps.len() - quarter);
+    let (removed, firsts, lasts) = (last(), last(), last());
+    sum = sum.wrapping_add(timed("remove", || emptied(removed, keys, |map, key| map.remove(key))));
+    sum = sum.wrapping_add(timed("pop_first", || emptied(firsts, keys, |map, _| map.pop_first())));
+    sum = sum.wrapping_add(timed("pop_last", || emptied(lasts, keys, |map, _| map.pop_last())));
     timed("drop", || drop(maps));
     sum
 }

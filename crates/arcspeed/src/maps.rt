@@ -21,8 +21,20 @@ pub enum Order {
     Mixed,
 }
 
-const CALLS: [&str; 7] = [
-    "insert", "get", "step", "clone", "version", "remove", "drop",
+/// At least so many maps are made: three calls take a part of them each, and the others are dropped.
+const MAPS: usize = 4;
+
+const CALLS: [&str; 10] = [
+    "insert",
+    "get",
+    "step",
+    "modify",
+    "clone",
+    "version",
+    "remove",
+    "pop_first",
+    "pop_last",
+    "drop",
 ];
 
 /// All calls on maps of that many keys, one after another. It prints the nanoseconds that each took.
@@ -46,23 +58,29 @@ pub fn measure<R: Clock + Print>(rt: &R, alloc: Global, order: Order, len: u64) 
 fn called(call: &str, maps: &mut Vec<Map>, alloc: Global, keys: &[u64]) -> Option<u64> {
     let rounds = ENTRIES.checked_div(keys.len())?;
     let Some(map) = maps.last_mut() else {
-        return insert(maps, alloc, keys, rounds.max(2));
+        return insert(maps, alloc, keys, rounds.max(MAPS));
     };
     match call {
         "get" => Some(get(map, keys, rounds)),
         "step" => Some(step(map, rounds)),
+        "modify" => modify(map, alloc, keys, rounds),
         "clone" => clone(map),
         "version" => version(map, alloc, keys),
-        "remove" => {
-            let half = maps.len() / 2;
-            remove(&mut maps.split_off(half).ok()?, alloc, keys)
-        }
+        "remove" => remove(&mut part_of(maps, rounds)?, alloc, keys),
+        "pop_first" => pop_first(&mut part_of(maps, rounds)?, alloc, keys),
+        "pop_last" => pop_last(&mut part_of(maps, rounds)?, alloc, keys),
         _ => {
             // The list ends too, as in the twin: only then does the allocator give memory back.
             *maps = Vec::new(alloc);
             Some(0)
         }
     }
+}
+
+/// The last of the maps, as many as one call takes.
+fn part_of(maps: &mut Vec<Map>, rounds: usize) -> Option<Vec<Map>> {
+    let rest = maps.len().checked_sub(rounds.max(MAPS) / MAPS)?;
+    maps.split_off(rest).ok()
 }
 
 #[inline(never)]
@@ -100,6 +118,21 @@ fn step(map: &Map, rounds: usize) -> u64 {
 }
 
 #[inline(never)]
+fn modify(map: &mut Map, alloc: Global, keys: &[u64], rounds: usize) -> Option<u64> {
+    let mut sum = 0u64;
+    for _ in 0..rounds {
+        for key in keys {
+            let value = map.modify(alloc, key, |value: &mut u64| -> u64 {
+                *value = value.wrapping_add(1);
+                *value
+            });
+            sum = sum.wrapping_add(value.ok()?.unwrap_or(0));
+        }
+    }
+    Some(sum)
+}
+
+#[inline(never)]
 fn clone(map: &Map) -> Option<u64> {
     let mut sum = 0u64;
     for _ in 0..ENTRIES {
@@ -129,6 +162,29 @@ fn remove(maps: &mut [Map], alloc: Global, keys: &[u64]) -> Option<u64> {
     for map in maps {
         for key in keys {
             sum = sum.wrapping_add(map.remove(alloc, key).ok()?.unwrap_or(0));
+        }
+    }
+    Some(sum)
+}
+
+/// Takes an entry out of each of the maps as often as there are keys.
+#[inline(never)]
+fn pop_first(maps: &mut [Map], alloc: Global, keys: &[u64]) -> Option<u64> {
+    let mut sum = 0u64;
+    for map in maps {
+        for _ in keys {
+            sum = sum.wrapping_add(map.pop_first(alloc).ok()?.map_or(0, |entry| entry.1));
+        }
+    }
+    Some(sum)
+}
+
+#[inline(never)]
+fn pop_last(maps: &mut [Map], alloc: Global, keys: &[u64]) -> Option<u64> {
+    let mut sum = 0u64;
+    for map in maps {
+        for _ in keys {
+            sum = sum.wrapping_add(map.pop_last(alloc).ok()?.map_or(0, |entry| entry.1));
         }
     }
     Some(sum)

@@ -19,6 +19,7 @@ pub fn transfer(
     amount: u64,
 ) -> Result<bool, AllocError>
     ensures total { total bank.new ≡ total bank.old }
+    ensures has { IfOk result (λ moved. moved ≡ true → amount ≤ balance from bank.old) }
     ensures sent { IfOk result (λ moved. moved ≡ true → is_eq (nat_cmp from to) ≡ false
         → balance from bank.new + amount ≡ balance from bank.old) }
     ensures got { IfOk result (λ moved. moved ≡ true → is_eq (nat_cmp to from) ≡ false

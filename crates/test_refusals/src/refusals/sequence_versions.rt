@@ -46,14 +46,15 @@ enum Change {
     Swap(usize, usize),
 }
 
-const CHANGES: [Change; 7] = [
+const CHANGES: [Change; 8] = [
     Truncate(40),
-    Truncate(99),
+    Truncate(96),
     Replace(20, 40),
     Replace(40, 99),
     Extend,
     Retain,
     Swap(3, 40),
+    Swap(3, 99),
 ];
 
 fn changed<'a>(

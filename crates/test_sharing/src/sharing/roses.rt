@@ -65,6 +65,8 @@ fn a_change_in_place_copies_what_others_have(rt: HostRuntime) {
     let new = (value_at(&tree, &[1]), value_at(&tree, &[1, 0]));
     same!(&rt, new, (Some(9), Some(9)));
     same!(&rt, is_shared(&old, &tree, &[1, 0]), true);
+    let root = ok!(&rt, tree.modify(alloc, &[], set_nine));
+    same!(&rt, (root, tally.copies()), (1, 2));
     drop((old, tree));
     same!(&rt, tally.living(6), 0);
 }

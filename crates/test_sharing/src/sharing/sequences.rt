@@ -1,31 +1,42 @@
 //! A sequence is changed as a vector is.
 use sequence::Sequence;
 use std::alloc::{AllocError, Global};
+use testing::counted::{Counted, Tally, counted_items};
 use testing::{ok, same};
 
-fn sequence_of(alloc: Global) -> Result<Sequence<u64>, AllocError> {
-    Sequence::from_items(alloc, Vec::from_array(alloc, [1, 2, 3])?)
+fn sequence_of<'a>(
+    alloc: Global,
+    tally: &'a Tally,
+    len: u64,
+) -> Result<Sequence<Counted<'a>>, AllocError> {
+    Sequence::from_items(alloc, counted_items(alloc, tally, len).ok_or(AllocError)?)
 }
 
-// What each of them makes is said by its clauses, and that it succeeds is not.
+// What each of them makes is said by its clauses, and that it succeeds is not, nor what it copies: `replace` the leaf
+// of six and then one of four, `swap` the leaf and an item, `retain` each item, and `truncate` the leaf of five.
 #[test]
 fn a_sequence_is_changed_as_a_vector_is(rt: HostRuntime) {
-    let alloc = rt.alloc();
-    let mut list = ok!(&rt, sequence_of(alloc));
-    let more = ok!(&rt, Vec::from_array(alloc, [4, 5, 6]));
+    let (alloc, tally) = (rt.alloc(), Tally::new());
+    let mut list = ok!(&rt, sequence_of(alloc, &tally, 5));
+    let more = ok!(&rt, vec![in alloc; Counted::new(&tally, 9)]);
     ok!(&rt, list.extend(alloc, more));
-    let other = ok!(&rt, sequence_of(alloc));
+    let other = ok!(&rt, sequence_of(alloc, &tally, 3));
     let out = ok!(&rt, list.replace(alloc, 1..4, other));
-    same!(&rt, out.iter().eq(&[2, 3, 4]), true);
     ok!(&rt, list.swap(alloc, 0, 5));
-    ok!(&rt, list.retain(alloc, |item| *item != 2));
+    let mut asked = 0u64;
+    let retained = list.retain(alloc, |counted| {
+        asked = asked.wrapping_add(1);
+        counted.value != 2
+    });
+    same!(&rt, (retained, asked), (Ok(()), 6));
     ok!(&rt, list.truncate(alloc, 4));
-    same!(&rt, list.iter().eq(&[6, 1, 3, 5]), true);
-    same!(
-        &rt,
-        (list[3], list.contains(&3), list.contains(&2)),
-        (5, true, false)
-    );
+    same!(&rt, out.len(), 3);
+    same!(&rt, list.len(), 4);
+    let values = [list[0].value, list[1].value, list[2].value, list[3].value];
+    same!(&rt, values, [9, 0, 1, 4]);
+    let found = [list.contains(&out[0]), list.contains(&out[1])];
+    same!(&rt, found, [true, false]);
     list.clear();
-    same!(&rt, list.len(), 0);
+    let left = (list.len(), tally.copies(), tally.living(9));
+    same!(&rt, left, (0, 28, 3));
 }

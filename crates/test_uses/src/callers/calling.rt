@@ -215,8 +215,9 @@ fn a_transfer_needs_the_amount_and_room(rt: HostRuntime) {
         ok!(&rt, transfer(&mut bank, alloc, 1, 2, 2)),
         ok!(&rt, transfer(&mut bank, alloc, 2, 3, 1)),
         ok!(&rt, transfer(&mut bank, alloc, 2, 2, 4)),
+        ok!(&rt, transfer(&mut bank, alloc, 2, 2, 5)),
     ];
-    same!(&rt, moved, [true, false, false, true]);
+    same!(&rt, moved, [true, false, false, true, false]);
     let balances = [1, 2, 3].map(|account| bank.get(&account).copied());
     same!(&rt, balances, [Some(1), Some(4), Some(u64::MAX)]);
 }

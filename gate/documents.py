@@ -29,7 +29,7 @@ from compare import read_goals, verdict
 goal_of = runpy.run_path(str(ROOT / "bench" / "collections.py"))["goal_of"]
 DOCUMENTS = 24
 LINK = re.compile(r"\[((?:[^\]\[]|\[[^\]]*\])+)\]\(([^)\s]+)\)")
-REFERENCE = re.compile(r"\]\[|^ *\[[^\]]+\]:", re.M)
+UNREAD = re.compile(r"\]\[|^ *\[[^\]]+\]:|\]\([^)]*\s|<a\b", re.M)
 PRINTS = re.compile(r"< examples/(\w+/\w+) +# prints: (.*)")
 DRAWN = re.compile(r"```text examples/(core/\w+)\n(.*?)```", re.S)
 STEP = re.compile(r"([a-z]+)((?: \d+)*): (\S+(?: \S+)*)")
@@ -78,8 +78,8 @@ def wrong_in(document, files):
     for name in FILE.findall(unlinked):
         if not any(f"/{file}".endswith(f"/{name}") for file in files):
             yield f"no such file: {name}"
-    if REFERENCE.search(re.sub(r"`[^`]*`", "", prose)):
-        yield "a link has its target elsewhere, where nothing checks it"
+    if UNREAD.search(re.sub(r"`[^`]*`", "", prose)):
+        yield "a link has its target elsewhere, a title or a tag, so nothing checks it"
     for label, target in LINK.findall(prose):
         if not re.match(r"[a-z]+:", target) and (wrong := wrong_link(document, label, target)):
             yield f"[{label}]({target}): {wrong}"

@@ -43,6 +43,7 @@ fn items_end_with_their_list(rt: HostRuntime) {
     );
     let tree = ok!(&rt, Sequence::from_items(alloc, again!(&rt, &handles)));
     ask(&rt, &tree);
+    holds!(&rt, tree.len() == 2 && tree.contains(&tree[1]));
     let list = ok!(&rt, List::from_items(alloc, handles));
     ask(&rt, &list);
     let rest = ok!(&rt, list.rest());

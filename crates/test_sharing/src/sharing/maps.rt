@@ -28,6 +28,7 @@ fn compare(rt: &(impl Abort + AllocGlobal), map: &TreeMap<Arc<u64>, Arc<u64>>) {
         (changes.len(), map.keys().len(), is_old),
         (200, 200, true)
     );
+    holds!(rt, map.keys().eq(map.values()));
 }
 
 // In the end the handles of the test are the only ones.

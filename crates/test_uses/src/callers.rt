@@ -1,5 +1,6 @@
 //! Tests of the callers in `uses`, and of a document as they write it.
 
+mod agenda;
 mod calling;
 mod documents;
 mod editions;

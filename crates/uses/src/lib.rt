@@ -1,6 +1,7 @@
 //! Code above the crates, as their users write it, with contracts of its own: it shows what callers can prove.
 #![tactic(auto)]
 
+pub mod agenda;
 pub mod along_a_path;
 pub mod bank;
 pub mod buffer;

@@ -5,6 +5,7 @@
 
 mod call;
 mod interners;
+mod lists;
 mod maps;
 mod roses;
 mod sequences;
@@ -13,7 +14,7 @@ mod versions;
 use crate::call::{Call, Collection, tell};
 use crate::versions::Versions;
 use interner::Interner;
-use persistent::TreeMap;
+use persistent::{List, TreeMap};
 use sequence::Sequence;
 use std::io;
 use std::io::Print;
@@ -27,15 +28,20 @@ fn main(rt: HostRuntime) -> io::Result<()> {
 
 fn run<'a>(rt: &(impl Print + AllocGlobal), script: &'a str, tally: &'a Tally) -> io::Result<()> {
     let alloc = rt.alloc();
-    let (name, calls) = script.split_once('\n').unwrap_or((script, ""));
-    match name {
+    let (line, calls) = script.split_once('\n').unwrap_or((script, ""));
+    let call = Call::read(line, tally);
+    match call.word {
         "sequence" => answer(rt, tally, calls, Versions::<Sequence<_>>::new(alloc)),
+        "list" => answer(rt, tally, calls, Versions::<List<_>>::new(alloc)),
         "map" => answer(rt, tally, calls, Versions::<TreeMap<_, _>>::new(alloc)),
         "tree" => {
             let root = Rose::leaf(alloc, Counted::new(tally, 0))?;
             answer(rt, tally, calls, Undo::new(alloc, root))
         }
-        "interner" => answer(rt, tally, calls, Interner::new(alloc)),
+        "interner" => {
+            let names = Interner::with_capacity(alloc, call.numbers[0])?;
+            answer(rt, tally, calls, names)
+        }
         _ => println!(rt; "no such collection"),
     }
 }

@@ -8,7 +8,9 @@ use std::io::Print;
 use std::mem::take;
 use testing::counted::Counted;
 
-impl<'a> Version<'a> for Sequence<Counted<'a>> {
+type Items<'a> = Sequence<Counted<'a>>;
+
+impl<'a> Version<'a> for Items<'a> {
     fn of_items(alloc: Global, items: Vec<Counted<'a>>) -> Result<Self, AllocError> {
         Sequence::from_items(alloc, items)
     }
@@ -32,16 +34,43 @@ impl<'a> Version<'a> for Sequence<Counted<'a>> {
             "pop_front" => tell(rt, self.pop_front(alloc)),
             "append" => tell(rt, self.append(alloc, take(other))),
             "split" => tell(rt, put(other, self.split_off(alloc, at))),
-            "get" => tell(rt, self.get(at)),
-            "ends" => tell(rt, (self.len(), self.first(), self.last())),
-            "depth" => tell(rt, self.tree().map(|tree| tree.depth())),
-            "shared" => tell(rt, Sequence::ptr_eq(self, other)),
-            "range" => {
-                let mut range = self.range(at..value);
-                tell(rt, (range.len(), range.next(), range.next_back()))
+            "replace" => {
+                let made = self.replace(alloc, at..value, take(other));
+                tell(rt, put(other, made))
             }
-            _ => tell(rt, "no such call"),
+            "truncate" => tell(rt, self.truncate(alloc, at)),
+            "retain" => tell(rt, self.retain(alloc, |item| item.value >= at as u64)),
+            "exchange" => tell(rt, self.swap(alloc, at, value)),
+            "extend" => match call.items(alloc) {
+                Some(items) => tell(rt, self.extend(alloc, items)),
+                None => tell(rt, "no items"),
+            },
+            "clear" => tell(rt, self.clear()),
+            _ => read(rt, self, call, other),
         }
+    }
+}
+
+// What changes no sequence.
+fn read<'a, R: Print>(
+    rt: &R,
+    items: &Items<'a>,
+    call: &Call<'a>,
+    other: &Items<'a>,
+) -> io::Result<()> {
+    let [at, end, ..] = call.numbers;
+    match call.word {
+        "get" => tell(rt, items.get(at)),
+        "item" if at < items.len() => tell(rt, &items[at]),
+        "contains" => tell(rt, items.contains(&call.item(at))),
+        "ends" => tell(rt, (items.len(), items.first(), items.last())),
+        "depth" => tell(rt, items.tree().map(|tree| tree.depth())),
+        "shared" => tell(rt, Sequence::ptr_eq(items, other)),
+        "range" => {
+            let mut range = items.range(at..end);
+            tell(rt, (range.len(), range.next(), range.next_back()))
+        }
+        _ => tell(rt, "no such call"),
     }
 }
 

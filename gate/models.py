@@ -192,7 +192,7 @@ class Sequence(Versions):
     # Cuts the list and joins it again, in its order and the other way round. Then puts another one into it, takes a
     # part out, and makes it longer and shorter.
     WHOLE = ["swap", "back {version}", "same", "split {at}", "ends", "append", "ends", "split {at}", "swap", "append",
-             "swap", "same", "swap", "print", "back {version}", "replace {at} {at}", "print", "exchange 0 {at}",
+             "swap", "same", "swap", "print", "swap", "back {version}", "replace {at} {at}", "print", "exchange 0 {at}",
              "replace 7 {at}", "print", "swap", "ends", "swap", "extend {at}", "print", "retain {version}", "print",
              "truncate {at}", "ends", "back {version}", "print", "clear", "ends"]
 

@@ -5,7 +5,7 @@ from bisect import bisect_left, bisect_right
 # A random script puts in more than it takes out for so many calls, and then the other way round.
 TURN = 2_500
 NO_ITEMS = '"no items"'
-REFUSED = {"Err(AllocError)", "Err(Memory)", "AllocError", NO_ITEMS}
+REFUSED = {"Err(AllocError)", "Err(Memory)", NO_ITEMS}
 NO_CALL = '"no such call"'
 NO_PLACE = "Err(NoPlace)"
 

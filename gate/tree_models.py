@@ -71,7 +71,7 @@ class Tree(Versions):
     def do_values(self):
         def values(tree):
             return [tree[0], *(value for low in tree[1] for value in values(low))]
-        return str(values(self.now))
+        return f"Ok({values(self.now)})"
 
     def do_paths(self):
         def paths(tree, path):

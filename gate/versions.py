@@ -140,7 +140,7 @@ SCRIPTS = {
     "interner": [*(f"intern {number}" for number in range(10)), "intern 0", "give 0", "give 10", "block 0", "block 11",
                  "print"],
     # With room for its texts it requests memory for these and their blocks alone, and for none that is there.
-    "interner 9": ["intern one", "intern two", "intern one"],
+    "interner 12": [*(f"intern {number}" for number in range(12)), "intern 0"],
 }
 
 

@@ -1,11 +1,12 @@
-"""Models of the sequences and maps that `collections` runs scripts of, written from the heads of its modules: plain
-lists and dicts. A model says what a line is answered, and draws lines for random scripts."""
+"""Models of the sequences, lists and maps that `collections` runs scripts of, written from the heads of its modules:
+plain lists and dicts. A model says what a line is answered, and draws lines for random scripts."""
 from bisect import bisect_left, bisect_right
 
 # A random script puts in more than it takes out for so many calls, and then the other way round.
 TURN = 2_500
 NO_ITEMS = '"no items"'
-REFUSED = {"Err(AllocError)", "Err(Memory)", "AllocError", NO_ITEMS}
+REFUSED = {"Err(AllocError)", "Err(Memory)", NO_ITEMS}
+NO_CALL = '"no such call"'
 NO_PLACE = "Err(NoPlace)"
 
 
@@ -25,29 +26,34 @@ def read_both_ways(items):
 class Versions:
     """A version, the one beside it, and those that were kept. None of them is changed in place."""
 
-    # What a call makes one item for, and what no model knows.
-    MAKES = {"insert", "set", "push", "push_front", "alter"}
+    # What a call makes one item for, what it makes many for, and what no model knows.
+    MAKES = {"insert", "set", "push", "push_front", "alter", "contains"}
+    MAKES_MANY = {"fill", "extend"}
     UNKNOWN = {"tally", "shared", "depth", "pretty"}
 
     def __init__(self):
         self.now, self.other, self.kept, self.made = self.EMPTY, self.EMPTY, [], 0
 
     def answer(self, line, answered):
-        """What the line is answered: `Ok(())` if the call says nothing, and what the program said if it is a refusal or
-        not known."""
+        """What the line is answered: `Ok(())` if the call says nothing, and what the program said if that is not known,
+        or is a refusal. A call without a place or an entry to change is never refused."""
         word, *words = line.split(" ")
         numbers = [int(number) for number in words if number.isdigit()]
-        made = numbers[0] if word == "fill" else word in self.MAKES
+        made = numbers[0] if word in self.MAKES_MANY else word in self.MAKES
         self.made += made if answered != NO_ITEMS else 0
-        if answered in REFUSED:
-            self.refuse(word)
-            return answered
         if word in self.UNKNOWN:
             return answered
-        return getattr(self, f"do_{word}")(*numbers) or "Ok(())"
+        before = vars(self).copy()
+        wanted = getattr(self, f"do_{word}")(*numbers) or "Ok(())"
+        is_never_refused = wanted == NO_PLACE or wanted == "Ok(None)" and self.now is before["now"]
+        if answered not in REFUSED or is_never_refused:
+            return wanted
+        vars(self).update(before)
+        self.refuse(word)
+        return answered
 
     def refuse(self, word):
-        """A refused call changes nothing, but `append` was given the other list."""
+        """A refused call changes nothing, but what it was given is gone."""
 
     def draw(self, chance, step):
         """A line of a random script."""
@@ -71,7 +77,7 @@ class Versions:
         return "()"
 
     def do_keep(self):
-        self.kept.append(self.now)
+        self.kept = [*self.kept, self.now]
 
     def do_back(self, number):
         if number >= len(self.kept):
@@ -133,15 +139,46 @@ class Sequence(Versions):
         self.now, self.other = self.now + self.other, []
 
     def refuse(self, word):
-        self.other = [] if word == "append" else self.other
+        self.other = [] if word in ("append", "replace") else self.other
 
     def do_split(self, at):
         if at > len(self.now):
             return NO_PLACE
         self.now, self.other = self.now[:at], self.now[at:]
 
+    def do_replace(self, start, end):
+        other, self.other = self.other, []
+        if not start <= end <= len(self.now):
+            return NO_PLACE
+        self.now, self.other = self.now[:start] + other + self.now[end:], self.now[start:end]
+
+    def do_truncate(self, count):
+        self.now = self.now[:count]
+
+    def do_extend(self, count):
+        self.now = self.now + list(range(count))
+
+    def do_retain(self, least):
+        self.now = [item for item in self.now if item >= least]
+
+    def do_exchange(self, one, two):
+        if max(one, two) >= len(self.now):
+            return NO_PLACE
+        items = self.now.copy()
+        items[one], items[two] = items[two], items[one]
+        self.now = items
+
+    def do_clear(self):
+        return self.do_drop()
+
     def do_get(self, at):
         return some(self.now[at] if at < len(self.now) else None)
+
+    def do_item(self, at):
+        return str(self.now[at]) if at < len(self.now) else NO_CALL
+
+    def do_contains(self, item):
+        return str(item in self.now).lower()
 
     def do_ends(self):
         return ends(self.now)
@@ -149,12 +186,29 @@ class Sequence(Versions):
     def do_range(self, start, end):
         return read_both_ways(self.now[start:end])
 
-    PUTS, TAKES, RARE = "insert {at} {item}", "remove {at}", []
+    PUTS, TAKES, RARE = "insert {at} {item}", "remove {at}", ["contains {item}", "exchange {at} 3"]
     LINES = ["set {at} {item}", "add {at} {item}", "push {item}", "push_front {item}", "pop", "pop_front", "get {at}",
-             "range {at} {key}"]
-    # Cuts the list and joins it again, in its order and the other way round.
+             "item {at}", "range {at} {key}"]
+    # Cuts the list and joins it again, in its order and the other way round. Then puts another one into it, takes a
+    # part out, and makes it longer and shorter.
     WHOLE = ["swap", "back {version}", "same", "split {at}", "ends", "append", "ends", "split {at}", "swap", "append",
-             "swap", "same", "swap", "print"]
+             "swap", "same", "swap", "print", "swap", "back {version}", "replace {at} {at}", "print", "exchange 0 {at}",
+             "replace 7 {at}", "print", "swap", "ends", "swap", "extend {at}", "print", "retain {version}", "print",
+             "truncate {at}", "ends", "back {version}", "print", "clear", "ends"]
+
+
+class List(Sequence):
+    do_push = Sequence.do_push_front
+
+    def do_rest(self):
+        self.now = self.now[1:]
+
+    def do_reverse(self):
+        self.now = self.now[::-1]
+
+    PUTS, TAKES, RARE = "push {item}", "rest", ["reverse"]
+    LINES = ["get {at}", "ends"]
+    WHOLE = ["swap", "back {version}", "same", "ends", "reverse", "ends", "swap", "print", "same"]
 
 
 class Map(Versions):

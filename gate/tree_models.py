@@ -1,4 +1,6 @@
-"""Models of the trees and interners that `collections` runs scripts of, as models.py has those of sequences and maps."""
+"""Models of the trees and interners that `collections` runs scripts of, as models.py has those of others."""
+from itertools import chain
+
 from models import REFUSED, Versions, some
 
 
@@ -31,6 +33,9 @@ class Tree(Versions):
     def do_insert(self, value, at, *path):
         return self.change(path, lambda tree: None if at > len(tree[1]) else
                            (tree[0], tree[1][:at] + ((value, ()),) + tree[1][at:]))
+
+    def do_add(self, value, *path):
+        return self.change(path, lambda tree: (tree[0] + 2 * value, tree[1]))
 
     def do_put(self, *path):
         return self.change(path, lambda _: self.now)
@@ -66,11 +71,21 @@ class Tree(Versions):
     def do_values(self):
         def values(tree):
             return [tree[0], *(value for low in tree[1] for value in values(low))]
-        return str(values(self.now))
+        return f"Ok({values(self.now)})"
 
-    PUTS, TAKES, RARE = "insert {item} 0{path}", "remove 0{path}", ["forget 9", "put{path}", "values"]
-    LINES = ["set {item}{path}", "at{path}", "undo", "redo"]
-    WHOLE = ["values"]
+    def do_paths(self):
+        def paths(tree, path):
+            below = (paths(low, [*path, at]) for at, low in enumerate(tree[1]))
+            return [f"({path}, {tree[0]})", *chain.from_iterable(below)]
+        return f"Ok([{', '.join(paths(self.now, []))}])"
+
+    def do_versions(self):
+        back, on = len(self.before), len(self.undone)
+        return f"(({back}, {back > 0}), ({on}, {on > 0}))".lower()
+
+    PUTS, TAKES, RARE = "insert {item} 0{path}", "remove 0{path}", ["forget 9", "put{path}", "values", "paths"]
+    LINES = ["set {item}{path}", "add {item}{path}", "at{path}", "undo", "redo", "versions"]
+    WHOLE = ["values", "paths"]
 
 
 class Interner(Versions):
@@ -83,15 +98,23 @@ class Interner(Versions):
 
     def answer(self, line, answered):
         word, _, text = line.partition(" ")
-        return answered if answered in REFUSED else getattr(self, f"do_{word}")(text)
+        is_never_refused = word == "intern" and text in self.now
+        return answered if answered in REFUSED and not is_never_refused else getattr(self, f"do_{word}")(text)
 
     def do_print(self, _text):
         return "[" + ", ".join(f'"{text}"' for text in self.now) + "]"
 
+    def number(self, text):
+        return self.now.setdefault(text, len(self.now))
+
     def do_intern(self, text):
-        return f"Ok({self.now.setdefault(text, len(self.now))})"
+        return f"Ok({self.number(text)})"
 
     do_give = do_intern
+
+    def do_block(self, text):
+        is_new = str(text not in self.now).lower()
+        return f"Ok(({self.number(text)}, {is_new}))"
 
     def do_find(self, text):
         return some(self.now.get(text))
@@ -99,5 +122,5 @@ class Interner(Versions):
     def do_get(self, number):
         return some(f'"{list(self.now)[int(number)]}"' if int(number) < len(self.now) else None)
 
-    PUTS, TAKES, LINES, RARE = "intern {key}", "find {key}", ["get {at}", "give {key}"], ["print"]
+    PUTS, TAKES, LINES, RARE = "intern {key}", "find {key}", ["get {at}", "give {key}", "block {key}"], ["print"]
     WHOLE = ["print"]

@@ -15,13 +15,13 @@ import sys
 import tempfile
 from pathlib import Path
 
-from models import REFUSED, Map, Sequence
+from models import REFUSED, List, Map, Sequence
 from tree_models import Interner, Tree
 
 ROOT = Path(__file__).resolve().parent.parent
 PROGRAM = ROOT / "crates" / "collections" / "out" / "collections"
 SEEDS, STEPS, KEPT = 10, 10_000, 500
-MODELS = {"sequence": Sequence, "map": Map, "tree": Tree, "interner": Interner}
+MODELS = {"sequence": Sequence, "list": List, "map": Map, "tree": Tree, "interner": Interner}
 
 
 class Differs(Exception):
@@ -38,10 +38,10 @@ def ran(library, lines, request=0, stack=None):
 
 
 def compare(model, lines, answers):
-    """Ends at the first call that is not answered as by the model. Returns the call that was refused, if one was."""
-    refused = None
+    """Ends at the first call that is not answered as by the model. Returns the calls that were refused."""
+    refused = []
     for number, (line, answer) in enumerate(zip(lines, answers), 1):
-        refused = line if answer in REFUSED else refused
+        refused += [line] * (answer in REFUSED)
         if (wanted := model.answer(line, answer)) != answer:
             raise Differs(f"line {number}, {line}: {answer[:300]}, and not {wanted[:300]}")
     if len(answers) != len(lines) + 1 or answers[-1:] != [str(model.made)]:
@@ -59,11 +59,14 @@ def settled(library, lines, request=0, stack=None):
 
 
 def checked(library, kind, lines, request=0, stack=None):
-    """The call that was refused, and whether there was one."""
+    """The call that was refused, if one was, and whether a request was."""
     answers, is_refused = settled(library, [kind, *lines], request, stack)
     if is_refused and not answers:
         return "the set-up", True
-    return compare(MODELS[kind](), lines, answers), is_refused
+    refused = compare(MODELS[kind.split(" ")[0]](), lines, answers)
+    if len(refused) > is_refused:
+        raise Differs(f"refused without a reason: {refused}")
+    return "".join(refused), is_refused
 
 
 def check_examples(library):
@@ -102,7 +105,7 @@ def check_copies(library, kind):
     places = [2 * key if kind == "map" else key % (at + 1) for at, key in enumerate(spread)]
     made = [kind, *(f"insert {place} 7" for place in places)]
     removed = ["tally", *(f"remove {place}" for place in reversed(places)), "tally"]
-    changes = {"insert": 64} if kind == "map" else {"insert": 64, "split": 192}
+    changes = {"insert": 64} if kind == "map" else {"insert": 64, "split": 192, "truncate": 192}
     changed = [line for at in range(0, 100_000, 999) for change in changes
                for line in ("back 0", "tally", f"{change} {at}", "tally")]
     found = copies_of(library, [*made, *removed]) + copies_of(library, [*made, "keep", *changed, "back 0", *removed])
@@ -119,19 +122,25 @@ CHANGES = {
         # Of two leaves, of 32 items and of 16. The second is joined with the first one if it loses an item.
         ["fill 64", *["pop"] * 16],
         ["insert 0 9", "insert 40 9", "insert 99 9", "push 9", "push_front 9", "set 40 9", "add 40 9", "remove 40",
-         "remove 99", "pop", "pop_front", "split 40", "split 99", "append"]),
+         "remove 99", "pop", "pop_front", "split 40", "split 99", "append", "replace 20 40", "replace 40 99",
+         "truncate 40", "truncate 99", "retain 40", "extend 100", "exchange 3 40", "exchange 3 99"]),
+    "list": (["fill 3"], ["push 1", "push 2"], ["push 9", "rest", "reverse"]),
     "map": (
         # Of one leaf, which is full.
         [f"insert {2 * half} {half}" for half in range(64)],
         # Of two leaves, of 44 entries and of 5. The second is joined with the first one if it loses an entry.
-        [*(f"insert {2 * half} {half}" for half in range(65)), *(f"remove {2 * half}" for half in range(16))],
+        [*(f"insert {2 * half} {100 + half}" for half in range(65)), *(f"remove {2 * half}" for half in range(16))],
         ["insert 1 9", "insert 63 9", "insert 127 9", "remove 32", "remove 62", "remove 64", "remove 128", "add 32 9",
          "add 128 9", "alter 32 9", "alter 33 9", "split 64", "pop_first", "pop_last", "retain 64", "append", "union",
          "both", "rest", "changes"]),
 }
 SCRIPTS = {
-    "tree": ["insert 1 0", "insert 2 1", "set 9 1", "put 1", "insert 3 2 1", "remove 0", "undo", "redo", "values"],
-    "interner": [*(f"intern {number}" for number in range(10)), "intern 0", "give 0", "give 10", "print"],
+    "tree": ["insert 1 0", "insert 2 1", "set 9 1", "put 1", "insert 3 2 1", "remove 0", "add 5 0 1", "add 5 0 3",
+             "values", "paths", "undo", "values", "redo", "versions", "values"],
+    "interner": [*(f"intern {number}" for number in range(10)), "intern 0", "give 0", "give 10", "block 0", "block 11",
+                 "print"],
+    # With room for its texts it requests memory for these and their blocks alone, and for none that is there.
+    "interner 12": [*(f"intern {number}" for number in range(12)), "intern 0"],
 }
 
 
@@ -158,7 +167,7 @@ def main():
         library = f"{folder}/memory.so"
         subprocess.run(["cc", "-O2", "-shared", "-fPIC", "-o", library, ROOT / "gate" / "refuse_request.c"], check=True)
         if sys.argv[1:] == ["--refused"]:
-            for kind in MODELS:
+            for kind in [*CHANGES, *SCRIPTS]:
                 check_refusals(library, kind)
             return 0
         for kind in MODELS:
@@ -166,11 +175,12 @@ def main():
                 checked(library, kind, draw(kind, seed))
         for kind in ("sequence", "map"):
             check_copies(library, kind)
-        checked(library, "sequence", ["fill 1000000", "ends"], stack=0x40000)
+        for kind in ("sequence", "list"):
+            checked(library, kind, ["fill 1000000", "ends"], stack=0x40000)
         examples = check_examples(library)
-    print(f"versions: {examples} of 11 examples, {SEEDS * len(MODELS)} random scripts of {STEPS} calls, copies of 2"
+    print(f"versions: {examples} of 16 examples, {SEEDS * len(MODELS)} random scripts of {STEPS} calls, copies of 2"
           " collections and a small stack as told")
-    return examples != 11
+    return examples != 16
 
 
 if __name__ == "__main__":

@@ -1,7 +1,8 @@
-//! Answers a script of calls on a collection, which stands on standard input. Its first line is `sequence`, `map`,
-//! `tree` or `interner`; each later one is a call, with numbers or a text, and is answered by what the call returns, as
-//! `{:?}` prints it. The last line says how many items were dropped in all, less the copies: as many as the script
-//! made. The module of each collection has its calls; all have these:
+//! Answers a script of calls on a collection, which stands on standard input. Its first line is `sequence`, `list`,
+//! `map`, `tree`, or `interner N`, which has room for N values; each later one is a call, with numbers or a text, and is
+//! answered by what the call returns, as `{:?}` prints it. A number that a line lacks is 0. The last line says how many
+//! items were dropped in all, less the copies: as many as the script made. The module of each collection has its calls;
+//! all have these:
 //!
 //!     print; pretty     all items; as `{:2?}` and `{:#?}` print them
 //!     tally             how many items were copied, and how many have ended
@@ -9,6 +10,7 @@
 
 mod call;
 mod interners;
+mod lists;
 mod maps;
 mod roses;
 mod sequences;
@@ -17,7 +19,7 @@ mod versions;
 use crate::call::{Call, Collection, tell};
 use crate::versions::Versions;
 use interner::Interner;
-use persistent::TreeMap;
+use persistent::{List, TreeMap};
 use sequence::Sequence;
 use std::io;
 use std::io::Print;
@@ -31,15 +33,20 @@ fn main(rt: HostRuntime) -> io::Result<()> {
 
 fn run<'a>(rt: &(impl Print + AllocGlobal), script: &'a str, tally: &'a Tally) -> io::Result<()> {
     let alloc = rt.alloc();
-    let (name, calls) = script.split_once('\n').unwrap_or((script, ""));
-    match name {
+    let (line, calls) = script.split_once('\n').unwrap_or((script, ""));
+    let call = Call::read(line, tally);
+    match call.word {
         "sequence" => answer(rt, tally, calls, Versions::<Sequence<_>>::new(alloc)),
+        "list" => answer(rt, tally, calls, Versions::<List<_>>::new(alloc)),
         "map" => answer(rt, tally, calls, Versions::<TreeMap<_, _>>::new(alloc)),
         "tree" => {
             let root = Rose::leaf(alloc, Counted::new(tally, 0))?;
             answer(rt, tally, calls, Undo::new(alloc, root))
         }
-        "interner" => answer(rt, tally, calls, Interner::new(alloc)),
+        "interner" => {
+            let names = Interner::with_capacity(alloc, call.numbers[0])?;
+            answer(rt, tally, calls, names)
+        }
         _ => println!(rt; "no such collection"),
     }
 }

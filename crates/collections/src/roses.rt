@@ -2,9 +2,12 @@
 //! of a line, has the number of a child for each step down:
 //!
 //!     set V PATH; insert V I PATH; remove I PATH; put PATH      `put` puts the tree itself there
-//!     undo; redo; forget N; values
+//!     add V PATH                adds to the value there twice, in one new version
+//!     undo; redo; forget N; versions                how many can be undone, and done again
+//!     values; paths
 //!     at PATH; shared PATH      the value there; does the version before have the same node there?
 use crate::call::{Call, Collection, tell};
+use crate::sequences::add;
 use std::alloc::Global;
 use std::io;
 use std::io::Print;
@@ -19,11 +22,13 @@ impl<'a> Collection<'a> for Undo<Tree<'a>> {
             "undo" => tell(rt, self.undo()),
             "redo" => tell(rt, self.redo()),
             "forget" => tell(rt, self.forget(call.numbers[0])),
+            "versions" => {
+                let back = (self.before().len(), self.can_undo());
+                tell(rt, (back, (self.undone().len(), self.can_redo())))
+            }
             "at" => tell(rt, self.current().at(call.path(0)).map(Rose::value)),
-            "values" => match self.current().values(rt.alloc()) {
-                Ok(values) => tell(rt, values.as_slice()),
-                Err(refused) => tell(rt, refused),
-            },
+            "values" => tell(rt, self.current().values(rt.alloc())),
+            "paths" => tell(rt, self.current().paths(rt.alloc())),
             "shared" => tell(rt, is_shared(self, call.path(0))),
             _ => match changed(rt.alloc(), self.current(), call) {
                 Some(made) => tell(rt, change(self, made)),
@@ -52,6 +57,7 @@ fn changed<'a>(
         "insert" => with_leaf(alloc, tree, call),
         "put" => with_itself(alloc, tree, call.path(0)),
         "remove" => tree.without(alloc, call.path(1), value),
+        "add" => with_added(alloc, tree, call),
         _ => return None,
     })
 }
@@ -63,6 +69,21 @@ fn with_leaf<'a>(alloc: Global, tree: &Tree<'a>, call: &Call<'a>) -> Result<Tree
 
 fn with_itself<'a>(alloc: Global, tree: &Tree<'a>, path: &[usize]) -> Result<Tree<'a>, PlaceError> {
     tree.with_tree(alloc, path, tree.clone()?)
+}
+
+// The value there is added to twice: only the first time copies what the tree shares. If that is refused, it still
+// shares all.
+fn with_added<'a>(alloc: Global, tree: &Tree<'a>, call: &Call<'a>) -> Result<Tree<'a>, PlaceError> {
+    let mut made = tree.clone()?;
+    for _ in 0..2u8 {
+        let added = made.modify(alloc, call.path(1), |item| add(item, call.numbers[0]));
+        if let Err(refusal) = added
+            && Rose::ptr_eq(&made, tree)
+        {
+            return Err(refusal);
+        }
+    }
+    Ok(made)
 }
 
 // Whether the version before has the same node there.

@@ -2,6 +2,11 @@
 //!
 //!     set I V; pop; pop_front; push V; push_front V
 //!     split I; append   the rest becomes the other one; takes the other one
+//!     replace I J       the items from I to before J become the other one, which takes their place
+//!     truncate N; extend N      to the first N items; by items as `fill` makes them
+//!     retain V; clear   keeps the items that are at least V; ends all items
+//!     exchange I J      swaps two items
+//!     item I; contains V        an item by its index, if it is there; is one of them equal to that?
 use crate::call::{Call, tell};
 use crate::versions::{Version, put};
 use sequence::Sequence;
@@ -11,7 +16,9 @@ use std::io::Print;
 use std::mem::take;
 use testing::counted::Counted;
 
-impl<'a> Version<'a> for Sequence<Counted<'a>> {
+type Items<'a> = Sequence<Counted<'a>>;
+
+impl<'a> Version<'a> for Items<'a> {
     fn of_items(alloc: Global, items: Vec<Counted<'a>>) -> Result<Self, AllocError> {
         Sequence::from_items(alloc, items)
     }
@@ -35,16 +42,43 @@ impl<'a> Version<'a> for Sequence<Counted<'a>> {
             "pop_front" => tell(rt, self.pop_front(alloc)),
             "append" => tell(rt, self.append(alloc, take(other))),
             "split" => tell(rt, put(other, self.split_off(alloc, at))),
-            "get" => tell(rt, self.get(at)),
-            "ends" => tell(rt, (self.len(), self.first(), self.last())),
-            "depth" => tell(rt, self.tree().map(|tree| tree.depth())),
-            "shared" => tell(rt, Sequence::ptr_eq(self, other)),
-            "range" => {
-                let mut range = self.range(at..value);
-                tell(rt, (range.len(), range.next(), range.next_back()))
+            "replace" => {
+                let made = self.replace(alloc, at..value, take(other));
+                tell(rt, put(other, made))
             }
-            _ => tell(rt, "no such call"),
+            "truncate" => tell(rt, self.truncate(alloc, at)),
+            "retain" => tell(rt, self.retain(alloc, |item| item.value >= at as u64)),
+            "exchange" => tell(rt, self.swap(alloc, at, value)),
+            "extend" => match call.items(alloc) {
+                Some(items) => tell(rt, self.extend(alloc, items)),
+                None => tell(rt, "no items"),
+            },
+            "clear" => tell(rt, self.clear()),
+            _ => read(rt, self, call, other),
         }
+    }
+}
+
+// What changes no sequence.
+fn read<'a, R: Print>(
+    rt: &R,
+    items: &Items<'a>,
+    call: &Call<'a>,
+    other: &Items<'a>,
+) -> io::Result<()> {
+    let [at, end, ..] = call.numbers;
+    match call.word {
+        "get" => tell(rt, items.get(at)),
+        "item" if at < items.len() => tell(rt, &items[at]),
+        "contains" => tell(rt, items.contains(&call.item(at))),
+        "ends" => tell(rt, (items.len(), items.first(), items.last())),
+        "depth" => tell(rt, items.tree().map(|tree| tree.depth())),
+        "shared" => tell(rt, Sequence::ptr_eq(items, other)),
+        "range" => {
+            let mut range = items.range(at..end);
+            tell(rt, (range.len(), range.next(), range.next_back()))
+        }
+        _ => tell(rt, "no such call"),
     }
 }
 

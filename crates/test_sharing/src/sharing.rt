@@ -1,8 +1,7 @@
-//! Tests of versions of lists, maps and trees, of symbols and of styles.
+//! Tests of lists and sequences, of keys and symbols, and of styles.
 
 mod lists;
 mod maps;
-mod roses;
 mod sequences;
 mod styles;
 mod symbols;

@@ -1,14 +1,8 @@
 //! What a test begins with.
 use servo_arc::Arc;
-use std::fmt::Debug;
 use std::process::Abort;
-use testing::{ok, same};
+use testing::ok;
 
 pub fn arc_of<T: Drop>(rt: &(impl Abort + AllocGlobal), value: T) -> Arc<T> {
     ok!(rt, Arc::new(rt.alloc(), value))
-}
-
-pub fn check_debug<T: Debug>(rt: &(impl Abort + AllocGlobal), value: &T, text: &str) {
-    let found = format!(in rt.alloc(); "{value:?}");
-    same!(rt, ok!(rt, found).as_str(), text);
 }

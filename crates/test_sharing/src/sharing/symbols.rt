@@ -1,13 +1,13 @@
 //! What an interner keeps and ends, and its texts.
 ghost use Rattle.std.specs.Prelude.{◌≡◌};
 
-use crate::made::arc_of;
-use interner::Interner;
-use servo_arc::Arc;
+use crate::made::check_display;
+use interner::{InternError, Interner};
+use sequence::PlaceError;
 use std::fmt::Write;
 use std::hash::{BuildHasher, BuildHasherDefault, Hasher, RandomState};
 use std::process::Abort;
-use testing::{again, holds, ok, same, same_at};
+use testing::{holds, ok, same};
 
 #[derive(Clone, Copy, Debug, PartialEq, Eq, Hash)]
 struct Color {
@@ -82,38 +82,6 @@ fn a_block_of_an_interner_is_cloned(rt: HostRuntime) {
     );
 }
 
-// The second value is equal, and ends.
-#[test]
-fn an_interner_keeps_one_of_equal_values(rt: HostRuntime) {
-    let value = arc_of(&rt, 7u64);
-    let mut interner = Interner::new(rt.alloc());
-    for _ in 0..2 {
-        ok!(&rt, interner.intern(rt.alloc(), again!(&rt, &value)));
-    }
-    drop(interner);
-    holds!(&rt, value.is_unique());
-}
-
-// Of blocks with equal texts the first is kept, and the given handle of another one ends.
-#[test]
-fn equal_texts_have_one_block(rt: HostRuntime) {
-    let mut names = Interner::new(rt.alloc());
-    for (text, is_new) in [
-        ("first", true),
-        ("other", true),
-        ("first", false),
-        ("first", false),
-        ("other", false),
-    ] {
-        let given = arc_of(&rt, ok!(&rt, String::from_str(rt.alloc(), text)));
-        let symbol = ok!(&rt, names.intern_arc(again!(&rt, &given)));
-        let is_kept = names
-            .get(symbol)
-            .is_some_and(|kept| Arc::ptr_eq(kept, &given));
-        same_at!(&rt, text, [is_kept, given.is_unique()], [is_new, !is_new]);
-    }
-}
-
 fn named(rt: &(impl Abort + AllocGlobal), texts: &[&str]) -> Interner<String> {
     let mut names = ok!(rt, Interner::with_capacity(rt.alloc(), 2));
     for text in texts {
@@ -131,8 +99,13 @@ fn names_are_read_in_the_order_of_their_symbols(rt: HostRuntime) {
         ok!(&rt, write!(read, "{} {name}, ", symbol.index()));
     }
     same!(&rt, read.as_str(), "0 first, 1 other, ");
-    let text = ok!(&rt, format!(in rt.alloc(); "{names:?} {names:#?}"));
-    let expected = "[\"first\", \"other\"] [\n    \"first\",\n    \"other\",\n]";
-    same!(&rt, text.as_str(), expected);
     same!(&rt, [names == names, names == turned], [true, false]);
+}
+
+#[test]
+fn errors_have_their_texts(rt: HostRuntime) {
+    check_display(&rt, &PlaceError::NoPlace, "no such place");
+    check_display(&rt, &PlaceError::Memory, "out of memory");
+    check_display(&rt, &InternError::Full, "no symbol is left");
+    check_display(&rt, &InternError::Memory, "out of memory");
 }

@@ -1,8 +1,8 @@
 //! Answers a script of calls on a collection, which stands on standard input. Its first line is `sequence`, `list`,
-//! `map`, `tree`, or `interner N`, which has room for N values; each later one is a call, with numbers or a text, and is
-//! answered by what the call returns, as `{:?}` prints it. A number that a line lacks is 0. The last line says how many
-//! items were dropped in all, less the copies: as many as the script made. The module of each collection has its calls;
-//! all have these:
+//! `map`, `tree`, or `interner N`, which has room for N values. Each later one is a call, with numbers or a text, and
+//! is answered by what the call returns, as `{:?}` prints it. A number that a line lacks is 0. The last line says how
+//! many items were dropped in all, less the copies: as many as the script made. The module of each collection has its
+//! calls; all have these:
 //!
 //!     print; pretty     all items; as `{:2?}` and `{:#?}` print them
 //!     tally             how many items were copied, and how many have ended

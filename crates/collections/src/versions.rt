@@ -1,5 +1,6 @@
-//! Versions of a sequence, a list or a map, each of which a script can change. One is called, another one stands beside it,
-//! both empty at first, and those that are kept are numbered from 0. I and J are places or keys, V is a value:
+//! Versions of a sequence, a list or a map, each of which a script can change. One is called, another one stands
+//! beside it, both empty at first, and those that are kept are numbered from 0. I and J are places or keys, V is a
+//! value:
 //!
 //!     fill N            of the items 0, 1 and so on, N of them; in a map under the same keys
 //!     keep; back K      keeps the version; goes back to that one

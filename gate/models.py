@@ -1,11 +1,11 @@
-"""Models of the sequences, lists and maps that `collections` runs scripts of, written from the heads of its modules:
-plain lists and dicts. A model says what a line is answered, and draws lines for random scripts."""
+"""Models of the sequences and maps that `collections` runs scripts of, written from the heads of its modules: plain
+lists and dicts. A model says what a line is answered, and draws lines for random scripts."""
 from bisect import bisect_left, bisect_right
 
 # A random script puts in more than it takes out for so many calls, and then the other way round.
 TURN = 2_500
 NO_ITEMS = '"no items"'
-REFUSED = {"Err(AllocError)", "Err(Memory)", NO_ITEMS}
+REFUSED = {"Err(AllocError)", "Err(Memory)", "AllocError", NO_ITEMS}
 NO_CALL = '"no such call"'
 NO_PLACE = "Err(NoPlace)"
 
@@ -195,20 +195,6 @@ class Sequence(Versions):
              "swap", "same", "swap", "print", "swap", "back {version}", "replace {at} {at}", "print", "exchange 0 {at}",
              "replace 7 {at}", "print", "swap", "ends", "swap", "extend {at}", "print", "retain {version}", "print",
              "truncate {at}", "ends", "back {version}", "print", "clear", "ends"]
-
-
-class List(Sequence):
-    do_push = Sequence.do_push_front
-
-    def do_rest(self):
-        self.now = self.now[1:]
-
-    def do_reverse(self):
-        self.now = self.now[::-1]
-
-    PUTS, TAKES, RARE = "push {item}", "rest", ["reverse"]
-    LINES = ["get {at}", "ends"]
-    WHOLE = ["swap", "back {version}", "same", "ends", "reverse", "ends", "swap", "print", "same"]
 
 
 class Map(Versions):

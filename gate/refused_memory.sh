@@ -1,6 +1,6 @@
 #!/usr/bin/env bash
 # Refuses each single request for memory in turn: each test of `refusals`, `arcbench` on two scripts, and `collections`
-# on six, runs with its first request refused, then with its second, until a run meets no refusal. What a run reports,
+# on five, runs with its first request refused, then with its second, until a run meets no refusal. What a run reports,
 # and how many blocks it keeps to its end, is its outcome. Those of all runs have to be just those of
 # crates/test_refusals/outcomes.txt, and each as often as there, so no call makes a request more or less. With --write it
 # writes that file, for you to judge.

@@ -71,13 +71,13 @@ class Tree(Versions):
     def do_values(self):
         def values(tree):
             return [tree[0], *(value for low in tree[1] for value in values(low))]
-        return f"Ok({values(self.now)})"
+        return str(values(self.now))
 
     def do_paths(self):
         def paths(tree, path):
             below = (paths(low, [*path, at]) for at, low in enumerate(tree[1]))
             return [f"({path}, {tree[0]})", *chain.from_iterable(below)]
-        return f"Ok([{', '.join(paths(self.now, []))}])"
+        return f"[{', '.join(paths(self.now, []))}]"
 
     def do_versions(self):
         back, on = len(self.before), len(self.undone)

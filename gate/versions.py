@@ -15,13 +15,13 @@ import sys
 import tempfile
 from pathlib import Path
 
-from models import REFUSED, List, Map, Sequence
+from models import REFUSED, Map, Sequence
 from tree_models import Interner, Tree
 
 ROOT = Path(__file__).resolve().parent.parent
 PROGRAM = ROOT / "crates" / "collections" / "out" / "collections"
 SEEDS, STEPS, KEPT = 10, 10_000, 500
-MODELS = {"sequence": Sequence, "list": List, "map": Map, "tree": Tree, "interner": Interner}
+MODELS = {"sequence": Sequence, "map": Map, "tree": Tree, "interner": Interner}
 
 
 class Differs(Exception):
@@ -124,7 +124,6 @@ CHANGES = {
         ["insert 0 9", "insert 40 9", "insert 99 9", "push 9", "push_front 9", "set 40 9", "add 40 9", "remove 40",
          "remove 99", "pop", "pop_front", "split 40", "split 99", "append", "replace 20 40", "replace 40 99",
          "truncate 40", "truncate 99", "retain 40", "extend 100", "exchange 3 40", "exchange 3 99"]),
-    "list": (["fill 3"], ["push 1", "push 2"], ["push 9", "rest", "reverse"]),
     "map": (
         # Of one leaf, which is full.
         [f"insert {2 * half} {half}" for half in range(64)],
@@ -175,12 +174,11 @@ def main():
                 checked(library, kind, draw(kind, seed))
         for kind in ("sequence", "map"):
             check_copies(library, kind)
-        for kind in ("sequence", "list"):
-            checked(library, kind, ["fill 1000000", "ends"], stack=0x40000)
+        checked(library, "sequence", ["fill 1000000", "ends"], stack=0x40000)
         examples = check_examples(library)
-    print(f"versions: {examples} of 16 examples, {SEEDS * len(MODELS)} random scripts of {STEPS} calls, copies of 2"
+    print(f"versions: {examples} of 15 examples, {SEEDS * len(MODELS)} random scripts of {STEPS} calls, copies of 2"
           " collections and a small stack as told")
-    return examples != 16
+    return examples != 15
 
 
 if __name__ == "__main__":

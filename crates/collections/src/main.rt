@@ -1,6 +1,6 @@
-//! Answers a script of calls on a collection, which stands on standard input. Its first line is `sequence`, `list`,
-//! `map`, `tree`, or `interner N`, which has room for N values. Each later one is a call, with numbers or a text, and
-//! is answered by what the call returns, as `{:?}` prints it. A number that a line lacks is 0. The last line says how
+//! Answers a script of calls on a collection, which stands on standard input. Its first line is `sequence`, `map`,
+//! `tree`, or `interner N`, which has room for N values. Each later one is a call, with numbers or a text, and is
+//! answered by what the call returns, as `{:?}` prints it. A number that a line lacks is 0. The last line says how
 //! many items were dropped in all, less the copies: as many as the script made. The module of each collection has its
 //! calls; all have these:
 //!
@@ -10,7 +10,6 @@
 
 mod call;
 mod interners;
-mod lists;
 mod maps;
 mod roses;
 mod sequences;
@@ -19,7 +18,7 @@ mod versions;
 use crate::call::{Call, Collection, tell};
 use crate::versions::Versions;
 use interner::Interner;
-use persistent::{List, TreeMap};
+use persistent::TreeMap;
 use sequence::Sequence;
 use std::io;
 use std::io::Print;
@@ -37,7 +36,6 @@ fn run<'a>(rt: &(impl Print + AllocGlobal), script: &'a str, tally: &'a Tally) -
     let call = Call::read(line, tally);
     match call.word {
         "sequence" => answer(rt, tally, calls, Versions::<Sequence<_>>::new(alloc)),
-        "list" => answer(rt, tally, calls, Versions::<List<_>>::new(alloc)),
         "map" => answer(rt, tally, calls, Versions::<TreeMap<_, _>>::new(alloc)),
         "tree" => {
             let root = Rose::leaf(alloc, Counted::new(tally, 0))?;

@@ -27,8 +27,14 @@ impl<'a> Collection<'a> for Undo<Tree<'a>> {
                 tell(rt, (back, (self.undone().len(), self.can_redo())))
             }
             "at" => tell(rt, self.current().at(call.path(0)).map(Rose::value)),
-            "values" => tell(rt, self.current().values(rt.alloc())),
-            "paths" => tell(rt, self.current().paths(rt.alloc())),
+            "values" => match self.current().values(rt.alloc()) {
+                Ok(values) => tell(rt, values.as_slice()),
+                Err(refused) => tell(rt, refused),
+            },
+            "paths" => match self.current().paths(rt.alloc()) {
+                Ok(paths) => tell(rt, paths.as_slice()),
+                Err(refused) => tell(rt, refused),
+            },
             "shared" => tell(rt, is_shared(self, call.path(0))),
             _ => match changed(rt.alloc(), self.current(), call) {
                 Some(made) => tell(rt, change(self, made)),

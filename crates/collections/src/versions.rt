@@ -1,6 +1,5 @@
-//! Versions of a sequence, a list or a map, each of which a script can change. One is called, another one stands
-//! beside it, both empty at first, and those that are kept are numbered from 0. I and J are places or keys, V is a
-//! value:
+//! Versions of a sequence or a map, each of which a script can change. One is called, another one stands beside it,
+//! both empty at first, and those that are kept are numbered from 0. I and J are places or keys, V is a value:
 //!
 //!     fill N            of the items 0, 1 and so on, N of them; in a map under the same keys
 //!     keep; back K      keeps the version; goes back to that one
@@ -9,8 +8,6 @@
 //!     ends; get I       how many items there are, the first and the last; an item
 //!     depth; range I J  of the tree; the number of items from I to before J, the first and the last other one
 //!     insert I V; remove I; add I V             `add` adds to an item
-//!
-//! A list has none of the last two lines.
 use crate::call::{Call, Collection, tell};
 use std::alloc::{AllocError, Global};
 use std::fmt::{Debug, Formatter};

@@ -5,6 +5,7 @@ mod builders;
 mod clones;
 mod counts;
 mod list_versions;
+mod lists;
 mod makers;
 mod reporting;
 mod steps;

@@ -9,6 +9,12 @@ pub fn arc_of<T: Drop>(rt: &(impl Abort + AllocGlobal), value: T) -> Arc<T> {
     ok!(rt, Arc::new(rt.alloc(), value))
 }
 
+/// With a width of two, and on several lines.
+pub fn check_debug<T: Debug>(rt: &(impl Abort + AllocGlobal), value: &T, text: &str) {
+    let found = format!(in rt.alloc(); "{value:2?} {value:#?}");
+    same!(rt, ok!(rt, found).as_str(), text);
+}
+
 pub fn check_display<T: Display>(rt: &(impl Abort + AllocGlobal), value: &T, text: &str) {
     let found = format!(in rt.alloc(); "{value}");
     same!(rt, ok!(rt, found).as_str(), text);

@@ -1,13 +1,37 @@
-//! That the items of lists end, of a long one also by several threads.
-use crate::made::{arc_of, ask};
+//! Which lists share their first node, that their items end, and how they are printed; the end of a long one. A drop of
+//! each node inside the one before would run out of stack.
+use crate::made::{arc_of, ask, check_debug};
 use persistent::List;
 use sequence::Sequence;
+use std::alloc::{AllocError, Global};
 use std::process::Abort;
 use std::sync::atomic::AtomicU64;
 use std::sync::atomic::Ordering::SeqCst;
 use std::thread;
+use std::thread::Builder;
 use testing::counted::{Counted, Tally};
 use testing::{again, holds, ok, same};
+
+fn list_of(alloc: Global) -> Result<List<u64>, AllocError> {
+    List::from_items(alloc, Vec::from_array(alloc, [1, 2, 3])?)
+}
+
+#[test]
+fn lists_are_told_apart(rt: HostRuntime) {
+    let list = ok!(&rt, list_of(rt.alloc()));
+    let longer = ok!(&rt, list.push(rt.alloc(), 9));
+    let are_one = [
+        List::ptr_eq(&list, &again!(&rt, &list)),
+        List::ptr_eq(&list, &ok!(&rt, longer.rest())),
+        List::ptr_eq(&list, &ok!(&rt, list_of(rt.alloc()))),
+        List::ptr_eq(&list, &longer),
+    ];
+    same!(&rt, are_one, [true, true, false, false]);
+    same!(&rt, (list.last(), list < longer), (Some(&3), true));
+    same!(&rt, List::<u64>::default().len(), 0);
+    let text = "[ 9,  1,  2,  3] [\n    9,\n    1,\n    2,\n    3,\n]";
+    check_debug(&rt, &longer, text);
+}
 
 // A node that is marked when it is read would never end.
 #[test]
@@ -23,9 +47,24 @@ fn items_end_with_their_list(rt: HostRuntime) {
     let list = ok!(&rt, List::from_items(alloc, handles));
     ask(&rt, &list);
     let rest = ok!(&rt, list.rest());
-    same!(&rt, (list.first(), rest < list), (Some(&handle), true));
+    same!(&rt, list.first(), Some(&handle));
     drop((tree, list, rest));
     holds!(&rt, handle.is_unique());
+}
+
+// In bytes, enough for some thousands of nodes.
+const SMALL_STACK: usize = 0x4_0000;
+
+const MANY: u64 = 1_000_000;
+
+#[test]
+fn a_million_nodes_end_on_a_small_stack(rt: HostRuntime) {
+    let mut list = List::new();
+    for value in 0..MANY {
+        list = ok!(&rt, list.push(rt.alloc(), value));
+    }
+    let small = Builder::new().stack_size(SMALL_STACK);
+    ok!(&rt, small.spawn(&rt, move || drop(list))).join(&rt);
 }
 
 const ROUNDS: u32 = 20;

@@ -25,6 +25,7 @@ impl<T> Arc<T> {
     ///
     /// Refused if there is no memory for the block, or if the value's own `clone` is refused. The handle is then
     /// as it was.
+    #[inline(always)]
     pub fn make_mut(this: &mut Arc<T>, alloc: Global) -> Result<&mut T, AllocError>
     where
         T: Clone + Drop,

@@ -52,8 +52,8 @@ impl<T> Handle<T> {
         Ok(self.into_permit().into_raw_box().into_box())
     }
 
-    // Gets a block of its own, unless it is the only handle of its block. The value is copied before anything else
-    // changes.
+    // Gets a block of its own, unless it is the only handle of its block.
+    #[inline(always)]
     pub(crate) fn make_sole(&mut self, alloc: Global) -> Result<(), AllocError>
     where
         T: Clone + Drop,
@@ -65,6 +65,20 @@ impl<T> Handle<T> {
         if self.is_sole().0 {
             return Ok(());
         }
+        self.move_to_copy(alloc)
+    }
+
+    // Gets a block of its own. The value is copied before anything else changes. A call, so that what comes before it
+    // is short enough to stand where it is asked.
+    #[inline(never)]
+    fn move_to_copy(&mut self, alloc: Global) -> Result<(), AllocError>
+    where
+        T: Clone + Drop,
+        ensures sole { OnOk result (self.new.sole ≡ true) }
+        ensures copy { OnOk result (T.is_clone self.old.held.value self.new.held.value) }
+        ensures limit { self.new.held.limit ≡ self.old.held.limit }
+        ensures refused { OnErr result (self.new ≡ self.old) }
+    {
         let copy = self.value().clone()?;
         let Ok(block) = Block::boxed(alloc, copy, self.held().limit) else {
             return Err(AllocError);

@@ -2,4 +2,3 @@
 pub mod Labels
 pub mod Acts
 pub mod Acted
-pub mod Popped

@@ -5,3 +5,4 @@ pub mod Copied
 pub mod Labelled
 pub mod Placed
 pub mod Changed
+pub mod Ended

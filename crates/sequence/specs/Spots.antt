@@ -1,12 +1,19 @@
 -- A place among the items under the children of a branch.
 use Rattle.std.specs.Prelude.{◌≡◌, ℕ, ◌+◌, ◌-◌, ◌<◌, ◌≤◌, List, ◌++◌, cond, length, nat_le, take, drop, slice_index_or}
 use Rattle.sequence.specs.declared.tree.Child.{Child}
+use Rattle.sequence.specs.declared.tree.ends.End.{End}
+use Rattle.sequence.specs.declared.tree.ends.End.TheVariants.{First, Last}
 use Rattle.sequence.specs.declared.tree.search.Spot.{Spot}
 use Rattle.sequence.specs.Nodes.{items_in}
 
 -- a list with these items in place of so many from there on
 abbrev pub spliced : {T : Type 0} → ℕ → ℕ → List T → List T → List T
 spliced at gone more es = take at es ++ (more ++ drop (at + gone) es)
+
+-- the number of the one of so many that stands at an end of them
+abbrev pub place_at : End → ℕ → ℕ
+place_at First len = 0
+place_at Last len = len - 1
 
 -- the place of all the items is that place of that child, and is before all of it only if it is before all items
 pub record Leads {T L : Type 0} (cs : List (Child T L)) (place : ℕ) (spot : Spot) : Type 0 where

@@ -1,81 +1,13 @@
 //! What goes in and out at the two ends of a list.
-ghost use Rattle.std.specs.Prelude.{◌≡◌, ◌-◌, ◌++◌, ◌∷◌, [], IfOk, IsOk, OnErr, OnOk, drop, false, length, slice_get};
-ghost use Rattle.std.specs.Prelude.{take, true};
+ghost use Rattle.std.specs.Prelude.{◌≡◌, ◌-◌, ◌++◌, ◌∷◌, [], IfOk, IsOk, OnErr, OnOk, drop, length, slice_get, take};
+ghost use Rattle.std.specs.List.{remove};
 ghost use Rattle.handles.specs.Copies.{CopiesAreEqual};
+ghost use Rattle.sequence.specs.Spots.{place_at};
 
-use crate::cut::{Cut, Seek};
-use crate::label::{Label, NewLabel};
-use crate::put::Put;
+use crate::label::NewLabel;
 use crate::sequence::Sequence;
+use crate::tree::ends::End;
 use std::alloc::{AllocError, Global};
-
-// An item that goes in behind all.
-#[derive(Drop)]
-struct AtEnd<T>(T);
-
-impl<T: Drop, L: Label<T>> Put<T, L> for AtEnd<T> {
-    type Old = ();
-
-    ghost is_before = { λ _ _. true };
-
-    ghost is_sought = { λ _ _. false };
-
-    ghost made = { λ new. new.0 };
-
-    ghost replaced = { λ _ item. item };
-
-    ghost put_out = { λ _. record {} };
-
-    #[inline(always)]
-    fn item(&self, _item: &T) -> bool {
-        true
-    }
-
-    #[inline(always)]
-    fn label(&self, _label: &L) -> bool {
-        true
-    }
-
-    #[inline(always)]
-    fn is_sought(&self, _item: &T) -> bool {
-        false
-    }
-
-    #[inline(always)]
-    fn into_item(self) -> T {
-        self.0
-    }
-
-    #[inline(always)]
-    fn replace(self, _item: &mut T) {}
-}
-
-// All items are before it, and it seeks the last one.
-#[derive(Clone, Copy)]
-struct All;
-
-impl<T, L: Label<T>> Cut<T, L> for All {
-    ghost is_before = { λ _ _. true };
-
-    #[inline(always)]
-    fn item(&self, _item: &T) -> bool {
-        true
-    }
-
-    #[inline(always)]
-    fn label(&self, _label: &L) -> bool {
-        true
-    }
-}
-
-impl<T, L: Label<T>> Seek<T, L> for All {
-    ghost is_sought = { λ _ _. true };
-
-    #[inline(always)]
-    fn is_sought(&self, _item: &T) -> bool {
-        true
-    }
-}
 
 impl<T: Clone, L: NewLabel<T>> Sequence<T, L> {
     /// Puts the item behind all, as `insert` does, but by one way down unless the last leaf is full.
@@ -85,8 +17,18 @@ impl<T: Clone, L: NewLabel<T>> Sequence<T, L> {
         ensures items { OnOk result (self.new ≡ self.old ++ item ∷ []) }
         ensures refused { OnErr result (self.new ≡ self.old) }
     {
-        self.put_in(alloc, AtEnd(item))?;
-        Ok(())
+        let len = self.len;
+        let item = match &mut self.root {
+            Some(tree) if len < usize::MAX => match tree.push(alloc, item) {
+                Ok(()) => {
+                    self.len = len + 1;
+                    return Ok(());
+                }
+                Err(item) => item,
+            },
+            _ => item,
+        };
+        self.insert_at(alloc, len, item)
     }
 
     /// Puts the item before all, as `insert` does.
@@ -108,7 +50,7 @@ impl<T: Clone, L: NewLabel<T>> Sequence<T, L> {
         ensures none { self.old ≡ [] → IsOk result }
         ensures refused { OnErr result (self.new ≡ self.old) }
     {
-        self.take_out(alloc, All)
+        self.pop_at(alloc, End::Last)
     }
 
     /// Takes the first item out and gives it, as `remove` does.
@@ -120,10 +62,30 @@ impl<T: Clone, L: NewLabel<T>> Sequence<T, L> {
         ensures none { self.old ≡ [] → IsOk result }
         ensures refused { OnErr result (self.new ≡ self.old) }
     {
-        if self.is_empty() {
+        self.pop_at(alloc, End::First)
+    }
+
+    // Takes the item at that end out, and gives it.
+    fn pop_at(&mut self, alloc: Global, end: End) -> Result<Option<T>, AllocError>
+        requires copies { CopiesAreEqual T.is_clone }
+        requires labels { CopiesAreEqual L.is_clone }
+        ensures item { IfOk result (λ item. item ≡ slice_get self.old (place_at end (length self.old))) }
+        ensures items { OnOk result (self.new ≡ remove self.old (place_at end (length self.old))) }
+        ensures none { self.old ≡ [] → IsOk result }
+        ensures refused { OnErr result (self.new ≡ self.old) }
+    {
+        let len = self.len;
+        if len == 0 {
             return Ok(None);
         }
-        let item = self.remove_at(alloc, 0)?;
+        if len > 1
+            && let Some(tree) = &mut self.root
+            && let Ok(item) = tree.pop(alloc, end)
+        {
+            self.len = len - 1;
+            return Ok(Some(item));
+        }
+        let item = self.remove_at(alloc, end.place(len))?;
         Ok(Some(item))
     }
 }

@@ -1,0 +1,105 @@
+-- A branch after items went in place of others in a child of it, and the place of an end of it.
+use Rattle.std.proofs.Common.{◌≡◌, ◌+◌, ◌<◌, ◌≤◌, ◌^◌, ℕ, List, length, take, drop, get_or, set}
+use Rattle.std.proofs.Common.{ap, refl, sym, ◌∙◌, subst, arith}
+use Rattle.std.specs.Prelude.{Result, Ok, Err, OnErr, OnOk}
+use Rattle.std.proofs.Math.Seq.{drop-length}
+use Rattle.std.proofs.lemmas.Nat.{pow_pos}
+use Rattle.sequence.specs.declared.tree.Child.{Child}
+use Rattle.sequence.specs.declared.tree.ends.End.{End}
+use Rattle.sequence.specs.declared.tree.ends.End.TheVariants.{First, Last}
+use Rattle.sequence.specs.Nodes.{AreChildren, CanLose, IsChild, height_in, items_in}
+use Rattle.sequence.specs.Spots.{place_at, spliced}
+use Rattle.sequence.proofs.Lists.Spliced.{length-spliced}
+use Rattle.sequence.proofs.Nodes.Children.{length-more, length-parts}
+use Rattle.sequence.proofs.Nodes.Labelled.{labelled_at, labelled_put}
+use Rattle.sequence.proofs.Nodes.Placed.{child_here, put_under, stand_itself}
+
+-- the children after the call, whose answer is r
+pub record IsEnded {T L A E : Type 0} (label_of : T → L) (tree : List T × ℕ) (at gone : ℕ) (more : List T)
+    (new : List (Child T L)) (r : Result A E) : Type 0 where
+  pub whole : AreChildren label_of new
+  pub items : OnOk r (items_in new ≡ spliced at gone more tree.0)
+  pub height : height_in new ≡ tree.1
+  pub refused : OnErr r (items_in new ≡ tree.0)
+
+module _ {T L : Type 0} {label_of : T → L} (tree : List T × ℕ) (cs : List (Child T L)) (i : ℕ) (d : Child T L)
+    (are : AreChildren label_of cs) (same : ◌≡◌ {A = List T × ℕ} (items_in cs, height_in cs) tree) (h : i < length cs)
+    (is : d ≡ get_or cs i d) where
+  -- no items stand behind the last child
+  pub place_last : i + 1 ≡ length cs → length tree.0 ≡ length (items_in (take i cs)) + length d.tree.0
+  place_last last =
+      let none : length (items_in (drop (i + 1) cs)) ≡ 0 =
+      ap (λ (n : ℕ). length (items_in (drop n cs))) last
+      ∙ ap (λ (ds : List (Child T L)). length (items_in ds)) (drop-length cs) in
+      omega (
+        arith,
+        none,
+        length-parts cs (i + 1),
+        length-more cs i d h,
+        ap (λ (c : Child T L). length c.tree.0) is,
+        ap (λ (t : List T × ℕ). length t.0) same,
+      )
+
+  -- the item at an end is that of the child at that end
+  pub place_end : (end : End) → i ≡ place_at end (length cs) → 0 < length d.tree.0
+      → place_at end (length tree.0) ≡ length (items_in (take i cs)) + place_at end (length d.tree.0)
+  place_end First first some =
+      sym (ap (λ (n : ℕ). length (items_in (take n cs)) + 0) first)
+  place_end Last last some = omega (arith, place_last (omega (arith, last, h)), some)
+
+  -- which is not its first one, if there are children before it and it has another
+  pub behind_first : (end : End) → i ≡ place_at end (length cs) → CanLose d.tree → 0 < i
+      → 0 < place_at end (length d.tree.0)
+  behind_first First first spare p = absurd (omega (arith, first, p))
+  behind_first Last last spare p = omega (arith, spare, pow_pos d.tree.1)
+
+  -- the child with another tree of its height, unless the call was refused
+  child_put : (p gone : ℕ) (more : List T) {A E : Type 0} (new : List T × ℕ) (len : ℕ) (r : Result A E)
+      → p + gone ≤ length d.tree.0 → 2 ^ d.tree.1 + gone ≤ length d.tree.0 + length more → new.1 ≡ d.tree.1
+      → OnOk r (new.0 ≡ spliced p gone more d.tree.0) → OnErr r (new.0 ≡ d.tree.0)
+      → OnOk r (len + gone ≡ d.len + length more) → OnErr r (len ≡ d.len)
+      → IsChild (d.tree.1 + 1) (record d { len = len; tree = new })
+  child_put p gone more new len (Ok a) inside wide level put refused counts keeps =
+      let old = child_here cs i d are h is in
+      let long = ap (length {A = T}) put in
+      let many = length-spliced p gone more d.tree.0 inside in
+      record {
+        counted = omega (arith, long, many, old.counted, counts);
+        level = ap (λ (n : ℕ). n + 1) level;
+        wide = subst (λ (n : ℕ). 2 ^ n ≤ length new.0) (sym level) (omega (arith, long, many, wide));
+      }
+  child_put p gone more new len (Err e) inside wide level put refused counts keeps =
+      let old = child_here cs i d are h is in
+      let long = ap (length {A = T}) refused in
+      record {
+        counted = omega (arith, long, old.counted, keeps);
+        level = ap (λ (n : ℕ). n + 1) level;
+        wide = subst (λ (n : ℕ). 2 ^ n ≤ length new.0) (sym level) (omega (arith, long, old.wide));
+      }
+
+  -- the node with that child
+  pub ended : (at p gone : ℕ) (more : List T) → at ≡ length (items_in (take i cs)) + p
+      → p + gone ≤ length d.tree.0 → (0 < i → 0 < p) → 2 ^ d.tree.1 + gone ≤ length d.tree.0 + length more
+      → length tree.0 + length more < 2 ^ 64 + gone → {A E : Type 0} (new : List T × ℕ) (len : ℕ) (r : Result A E)
+      → OnOk r (new.0 ≡ spliced p gone more d.tree.0) → OnErr r (new.0 ≡ d.tree.0) → new.1 ≡ d.tree.1
+      → OnOk r (len + gone ≡ d.len + length more) → OnErr r (len ≡ d.len)
+      → IsEnded label_of tree at gone more (set cs i (record d { len = len; tree = new })) r
+  ended at p gone more place inside behind wide room new len r put refused level counts keeps =
+      let c = record d { len = len; tree = new } in
+      let child = child_put p gone more new len r inside wide level put refused counts keeps in
+      let label = λ (q : 0 < i). labelled_put d c p gone more r (behind q) put refused refl
+      (labelled_at cs i d are q h is) in
+      let all = ap (λ (t : List T × ℕ). length t.0) same in
+      let done = put_under cs cs i d c (stand_itself cs are) h is child label at p gone more place inside r put refused
+      (omega (arith, room, all)) in
+      record {
+        whole = done.children;
+        items = subst (λ (t : List T × ℕ). OnOk r (items_in (set cs i c) ≡ spliced at gone more t.0)) same done.items;
+        height = done.height ∙ ap (λ (t : List T × ℕ). t.1) same;
+        refused = subst (λ (t : List T × ℕ). OnErr r (items_in (set cs i c) ≡ t.0)) same done.refused;
+      }
+
+-- an end is within
+pub end_within : (end : End) (n : ℕ) → 0 < n → place_at end n < n
+end_within First n some = some
+end_within Last n some = omega (arith, some)

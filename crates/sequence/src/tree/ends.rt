@@ -1,0 +1,102 @@
+//! What goes in behind all items of a tree and out at its two ends, by one way down along nodes that keep their form.
+ghost use Rattle.std.specs.Prelude.{◌≡◌, ◌+◌, ◌<◌, ◌^◌, ◌++◌, ◌∷◌, [], IfErr, IfOk, OnErr, OnOk, Some, length, slice_get};
+ghost use Rattle.handles.specs.Copies.{CopiesAreEqual};
+ghost use Rattle.sequence.specs.Spots.{place_at, spliced};
+
+use crate::label::Label;
+use crate::tree::copies::LEAF;
+use crate::tree::{Node, Tree};
+use handles::arc::Arc;
+use std::alloc::{AllocError, Global};
+
+// An end of a list.
+#[derive(Clone, Copy)]
+pub(crate) enum End {
+    First,
+    Last,
+}
+
+impl<T: Clone, L: Label<T> + Clone> Tree<T, L> {
+    // Puts the item in behind all. It comes back if the last leaf is full, or if there is no memory.
+    pub(crate) fn push(&mut self, alloc: Global, item: T) -> Result<(), T>
+        requires copies { CopiesAreEqual T.is_clone }
+        requires labels { CopiesAreEqual L.is_clone }
+        requires room { length self.old.0 + 1 < 2 ^ 64 }
+        ensures items { OnOk result (self.new.0 ≡ spliced (length self.old.0) 0 (item ∷ []) self.old.0) }
+        ensures height { self.new.1 ≡ self.old.1 }
+        ensures blocked { OnErr result (self.new.0 ≡ self.old.0) }
+        ensures back { IfErr result (λ back. back ≡ item) }
+    {
+        let Ok(node) = Arc::make_mut(&mut self.root, alloc) else {
+            return Err(item);
+        };
+        let children = match node {
+            Node::Leaf(items) => return push_in_leaf(items, item),
+            Node::Branch(children) => children,
+        };
+        let last = children.len() - 1;
+        let child = &mut children[last];
+        let pushed = child.tree.push(alloc, item);
+        child.len += usize::from(pushed.is_ok());
+        pushed
+    }
+
+    // Takes the item at that end out, which is not the only one. It is refused if there is no memory, or if a node on
+    // the way has so few items that it is joined with its neighbour first.
+    pub(crate) fn pop(&mut self, alloc: Global, end: End) -> Result<T, AllocError>
+        requires copies { CopiesAreEqual T.is_clone }
+        requires labels { CopiesAreEqual L.is_clone }
+        requires some { 1 < length self.old.0 }
+        ensures item { IfOk result (λ item. slice_get self.old.0 (place_at end (length self.old.0)) ≡ Some item) }
+        ensures items { OnOk result (self.new.0 ≡ spliced (place_at end (length self.old.0)) 1 [] self.old.0) }
+        ensures height { self.new.1 ≡ self.old.1 }
+        ensures refused { OnErr result (self.new.0 ≡ self.old.0) }
+    {
+        let children = match Arc::make_mut(&mut self.root, alloc)? {
+            Node::Leaf(items) => {
+                let at = end.place(items.len());
+                return Ok(items.remove(at));
+            }
+            Node::Branch(children) => children,
+        };
+        let at = end.place(children.len());
+        if children[at].tree.is_thin() {
+            return Err(AllocError);
+        }
+        let child = &mut children[at];
+        let popped = child.tree.pop(alloc, end);
+        child.len -= usize::from(popped.is_ok());
+        popped
+    }
+}
+
+impl End {
+    // The number of the one of so many that stands there.
+    #[inline(always)]
+    pub(crate) fn place(self, len: usize) -> usize
+        requires { 0 < len }
+        ensures place { result ≡ place_at self len }
+        ensures within { result < len }
+    {
+        match self {
+            End::First => 0,
+            End::Last => len - 1,
+        }
+    }
+}
+
+// Puts the item behind those of a leaf, unless it is full.
+#[inline(always)]
+fn push_in_leaf<T: Drop>(items: &mut Vec<T>, item: T) -> Result<(), T>
+    ensures items { OnOk result (items.new.items ≡ items.old.items ++ item ∷ []) }
+    ensures blocked { OnErr result (items.new.items ≡ items.old.items) }
+    ensures back { IfErr result (λ back. back ≡ item) }
+{
+    if items.len() >= LEAF {
+        return Err(item);
+    }
+    match items.push(item) {
+        Ok(()) => Ok(()),
+        Err(refused) => Err(refused.value),
+    }
+}

@@ -1,14 +1,33 @@
 //! How a node is copied. A copy has room for as many items as a node may have.
-ghost use Rattle.std.specs.Prelude.{◌≡◌, IfOk};
+ghost use Rattle.std.specs.Prelude.{◌≡◌, ◌≤◌, IfOk};
 ghost use Rattle.handles.specs.Copies.{CopiesAreEqual};
 ghost use Rattle.sequence.specs.Nodes.{IsCopy};
 
 use crate::label::Label;
 use crate::tree::{Child, Node};
 use std::alloc::{AllocError, Global};
+use std::mem::size_of_val;
 
-/// The most items of a leaf.
+// The most items of a leaf that has these: twice as many if they are no longer than a word. That is half of the blocks,
+// and no more bytes to move.
+#[inline(always)]
+pub(crate) fn leaf_width<T>(items: &Vec<T>) -> usize
+    ensures { 64 ≤ result }
+{
+    // The bytes of all of them, since the borrow checker covers no `size_of::<T>()`.
+    if size_of_val(items.as_slice()) / WORD <= items.len() {
+        2 * LEAF
+    } else {
+        LEAF
+    }
+}
+
+// The most items of a leaf if they are longer. A first leaf has room for so many.
 pub(crate) const LEAF: usize = 64;
+
+// The bytes of a word.
+const WORD: usize = 8;
+
 /// The most children of a branch.
 pub(crate) const BRANCH: usize = 16;
 
@@ -44,7 +63,7 @@ impl<T: Clone, L: Label<T> + Clone> Clone for Node<T, L> {
         match self {
             Node::Leaf(items) => {
                 let alloc = *items.allocator();
-                Ok(Node::Leaf(copies(alloc, items, LEAF)?))
+                Ok(Node::Leaf(copies(alloc, items, leaf_width(items))?))
             }
             Node::Branch(children) => {
                 let alloc = *children.allocator();

@@ -4,7 +4,7 @@ ghost use Rattle.handles.specs.Copies.{CopiesAreEqual};
 ghost use Rattle.sequence.specs.Spots.{place_at, spliced};
 
 use crate::label::Label;
-use crate::tree::copies::LEAF;
+use crate::tree::copies::leaf_width;
 use crate::tree::{Node, Tree};
 use handles::arc::Arc;
 use std::alloc::{AllocError, Global};
@@ -92,7 +92,7 @@ fn push_in_leaf<T: Drop>(items: &mut Vec<T>, item: T) -> Result<(), T>
     ensures blocked { OnErr result (items.new.items ≡ items.old.items) }
     ensures back { IfErr result (λ back. back ≡ item) }
 {
-    if items.len() >= LEAF {
+    if items.len() >= leaf_width(items) {
         return Err(item);
     }
     match items.push(item) {

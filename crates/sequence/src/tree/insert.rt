@@ -6,7 +6,7 @@ ghost use Rattle.sequence.specs.Pieces.{Counts, Fits, GoesOn, IsHere, items_of, 
 ghost use Rattle.sequence.specs.Spots.{spliced};
 
 use crate::label::{Label, NewLabel};
-use crate::tree::copies::{BRANCH, LEAF};
+use crate::tree::copies::{BRANCH, leaf_width};
 use crate::tree::join::join_children;
 use crate::tree::search::spot_of;
 use crate::tree::split::room_under;
@@ -227,7 +227,7 @@ impl<T, L: Label<T>> Tree<T, L> {
     // Whether the first node has no more than half of what a node may have.
     fn is_small(&self) -> bool {
         match self.node() {
-            Node::Leaf(items) => items.len() <= LEAF / 2,
+            Node::Leaf(items) => items.len() <= leaf_width(items) / 2,
             Node::Branch(children) => children.len() <= BRANCH / 2,
         }
     }

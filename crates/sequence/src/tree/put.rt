@@ -7,7 +7,7 @@ ghost use Rattle.sequence.specs.Nodes.{first_label};
 use crate::label::Label;
 use crate::put::Put;
 use crate::tree::act::Act;
-use crate::tree::copies::LEAF;
+use crate::tree::copies::leaf_width;
 
 // Puts that in.
 #[derive(Drop)]
@@ -85,7 +85,7 @@ impl<P> PutIn<P> {
         ensures blocked { OnErr result (items.new.items ≡ items.old.items) }
         ensures back { IfErr result (λ put. put ≡ self) }
     {
-        if items.len() >= LEAF || labelled && place == 0 || items.reserve(1).is_err() {
+        if items.len() >= leaf_width(items) || labelled && place == 0 || items.reserve(1).is_err() {
             return Err(self);
         }
         let Ok(()) = items.insert(place, self.0.into_item()) else {

@@ -7,7 +7,7 @@ ghost use Rattle.sequence.specs.Nodes.{height_in, items_in, seen};
 ghost use Rattle.sequence.specs.Spots.{Leads, past};
 
 use crate::label::{Label, NewLabel};
-use crate::tree::copies::{BRANCH, LEAF};
+use crate::tree::copies::{BRANCH, leaf_width};
 use crate::tree::search::{Spot, count};
 use crate::tree::{Child, Node, Tree};
 use handles::arc::Arc;
@@ -65,7 +65,7 @@ impl<T, L: Label<T>> Node<T, L> {
         ensures { IsTrue result → 2 ^ (seen self.now).1 ≤ length (seen self.now).0 }
     {
         match self {
-            Node::Leaf(items) => items.len() >= LEAF,
+            Node::Leaf(items) => items.len() >= leaf_width(items),
             Node::Branch(children) => children.len() >= BRANCH,
         }
     }
@@ -162,8 +162,8 @@ impl<T: Drop, L: NewLabel<T>> Node<T, L> {
         ensures refused { OnErr result (seen self.new ≡ seen self.old) }
     {
         match self {
-            Node::Leaf(items) if items.len() >= LEAF => {
-                let keep = kept(items.len(), LEAF, ends);
+            Node::Leaf(items) if items.len() >= leaf_width(items) => {
+                let keep = kept(items.len(), leaf_width(items), ends);
                 half_of_leaf(items, alloc, keep)
             }
             Node::Branch(children) if children.len() >= BRANCH => {

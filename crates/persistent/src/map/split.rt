@@ -10,9 +10,8 @@ use std::alloc::{AllocError, Global};
 impl<K: Ord + Clone, V: Clone> TreeMap<K, V> {
     /// Takes the entries from the key on out, into another map.
     ///
-    /// Both maps are made anew along the cut and share all other nodes with this one: of each node there they copy the
-    /// keys and the handles of its children, and of one leaf the entries. Then their parts are put together, which also
-    /// copies leaves of few entries beside the cut, to join them. A refusal leaves the map as it was.
+    /// It cuts the entries as a `Sequence` cuts its items, and copies a key for each new node. A refusal leaves the map
+    /// as it was.
     pub fn split_off<Q: Query<K>>(
         &mut self,
         alloc: Global,

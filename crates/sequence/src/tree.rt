@@ -14,6 +14,7 @@ mod modify;
 pub(crate) mod put;
 mod remove;
 pub(crate) mod search;
+mod sever;
 mod split;
 pub(crate) mod take;
 

@@ -11,6 +11,7 @@ use crate::tree::search::{count, spot_of};
 use crate::tree::{Child, Node, Tree};
 use handles::place::PlaceError;
 use std::alloc::{AllocError, Global};
+use std::mem;
 use std::ops::Range;
 
 impl<T: Clone, L: NewLabel<T>> Sequence<T, L> {
@@ -76,12 +77,55 @@ impl<T: Clone, L: NewLabel<T>> Sequence<T, L> {
         ensures rest { OnOk result (self.new ≡ take at self.old) }
         ensures refused { OnErr result (self.new ≡ self.old) }
     {
-        let Some(tree) = &self.root else {
+        if at == 0 {
+            return Ok(mem::replace(self, Sequence::empty()));
+        }
+        if at == self.len() {
             return Ok(Sequence::empty());
+        }
+        if let Ok(back) = self.sever(alloc, at) {
+            return Ok(back);
+        }
+        let Some(tree) = &self.root else {
+            unreachable!()
         };
         let (front, back) = tree.split(alloc, at)?;
         *self = front;
         Ok(back)
+    }
+
+    // The same in place, if each part then has enough items for its height.
+    fn sever(&mut self, alloc: Global, at: usize) -> Result<Sequence<T, L>, AllocError>
+        requires copies { CopiesAreEqual T.is_clone }
+        requires labels { CopiesAreEqual L.is_clone }
+        requires within { at ≤ length self.old }
+        ensures out { IfOk result (λ out. out ≡ drop at self.old) }
+        ensures rest { OnOk result (self.new ≡ take at self.old) }
+        ensures refused { OnErr result (self.new ≡ self.old) }
+    {
+        let Some(tree) = &mut self.root else {
+            return Err(AllocError);
+        };
+        tree.shrink()?;
+        let Some(least) = 2usize.checked_pow(u32::from(tree.height())) else {
+            return Err(AllocError);
+        };
+        if at < least || self.len - at < least {
+            return Err(AllocError);
+        }
+        let Child {
+            label: _,
+            len,
+            tree: mut back,
+        } = tree.sever(alloc, at, least)?;
+        self.len = at;
+        // Trees that are higher than need be are as good.
+        let _ = tree.shrink();
+        let _ = back.shrink();
+        Ok(Sequence {
+            root: Some(back),
+            len,
+        })
     }
 
     /// Lets the items from that number on go. If there are none, it does nothing.

@@ -157,17 +157,34 @@ impl<T, L: Label<T>> Tree<T, L> {
 }
 
 impl<T: Drop, L: Label<T> + Drop> Tree<T, L> {
-    // A first node with one child gives way to it.
+    // A first node with one child gives way to the first one below that has more, or is a leaf.
     #[inline(always)]
     pub(crate) fn shrink(&mut self) -> Result<(), AllocError>
         ensures same { self.new.0 ≡ self.old.0 }
         ensures wide { OnOk result (2 ^ self.new.1 ≤ length self.new.0) }
     {
         let only = match self.node() {
-            Node::Branch(children) if children.len() == 1 => children[0].tree.clone()?,
+            Node::Branch(children) if children.len() == 1 => children[0].tree.under().clone()?,
             _ => return Ok(()),
         };
         *self = only;
         Ok(())
+    }
+}
+
+impl<T, L: Label<T>> Tree<T, L> {
+    // The tree itself, or the first one below its first nodes that has more than one child or is a leaf.
+    fn under(&self) -> &Tree<T, L>
+        ensures same { result.now.0 ≡ self.now.0 }
+        ensures wide { 2 ^ result.now.1 ≤ length result.now.0 }
+    {
+        let mut tree = self;
+        'down: while let Node::Branch(children) = tree.node() {
+            if children.len() > 1 {
+                break;
+            }
+            tree = &children[0].tree;
+        }
+        tree
     }
 }

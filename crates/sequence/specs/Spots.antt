@@ -15,12 +15,6 @@ pub record Leads {T L : Type 0} (cs : List (Child T L)) (place : ℕ) (spot : Sp
   pub is : place ≡ length (items_in (take spot.child cs)) + spot.place
   pub inner : 0 < place → 0 < spot.place
 
--- so many items are under the children before that one, which is none of them
-pub record IsEdge {T L : Type 0} (cs : List (Child T L)) (place at : ℕ) : Type 0 where
-  pub some : 0 < at
-  pub within : at < length cs
-  pub is : place ≡ length (items_in (take at cs))
-
 -- the same spot once only so many items are left under its child, and the rest under the next
 abbrev pub past : ℕ → Spot → Spot
 past left spot =

@@ -123,11 +123,12 @@ module _ {T L : Type 0} {label_of : T → L} where
 
   module _ (cs : List (Child T L)) (n : ℕ) (are : AreChildren label_of cs) (p : 0 < n) (h : n < length cs) where
     -- the halves of a branch
-    pub branches_are : (d r : Child T L) → 2 ^ height_in cs ≤ length (items_in (take n cs))
-        → 2 ^ height_in cs ≤ length (items_in (drop n cs)) → r.len ≡ length (items_in (drop n cs))
+    pub branches_are : (d r : Child T L)
+        → (2 ^ height_in cs ≤ length (items_in (take n cs))) × (2 ^ height_in cs ≤ length (items_in (drop n cs)))
+        → r.len ≡ length (items_in (drop n cs))
         → r.tree ≡ (items_in (drop n cs), height_in (drop n cs)) → r.label ≡ (get_or cs n d).label
         → AreHalves label_of (items_in cs, height_in cs) (items_in (take n cs), height_in (take n cs)) r
-    branches_are d r front back len is label =
+    branches_are d r sides len is label =
         let low = height_take cs n are p (omega (arith, h)) in
         let high = height_drop cs n are h in
         let here = get_or cs n d in
@@ -136,7 +137,7 @@ module _ {T L : Type 0} {label_of : T → L} where
           height = low;
           child = subst (λ (h : ℕ). IsChild (h + 1) r) high
               (child_is (items_in (drop n cs), height_in (drop n cs)) r is len
-              (subst (λ (h : ℕ). 2 ^ h ≤ length (items_in (drop n cs))) (sym high) back));
+              (subst (λ (h : ℕ). 2 ^ h ≤ length (items_in (drop n cs))) (sym high) sides.1));
           label = record {
             first = ap (λ (t : List T × ℕ). first_label label_of t.0) is
                 ∙ ap (λ (xs : List (Child T L)). first_label label_of (items_in xs)) (drop_more cs n d h)
@@ -144,20 +145,17 @@ module _ {T L : Type 0} {label_of : T → L} where
                 (at_behind (IsLabelled label_of) cs n d are.labels p h).first
                 ∙ ap (λ (l : L). Some l) (sym label);
           };
-          wide = subst (λ (h : ℕ). 2 ^ h ≤ length (items_in (take n cs))) (sym low) front;
+          wide = subst (λ (h : ℕ). 2 ^ h ≤ length (items_in (take n cs))) (sym low) sides.0;
         }
 
-  module _ (cs : List (Child T L)) (n : ℕ) (are : AreChildren label_of cs) (p : 2 < n) (h : n + 2 < length cs) where
+  module _ (cs : List (Child T L)) (n : ℕ) (are : AreChildren label_of cs) (p : 2 < n) (q : n + 2 < length cs) where
     -- three children on either side have more items than a child of that height has at least
-    pub front_spare : 2 ^ height_in cs < length (items_in (take n cs))
-    front_spare =
-        three_children (height_in cs) (take n cs) (All-take (IsChild (height_in cs)) n cs are.each)
-        (omega (arith, p, h, length-take n cs))
-
-    pub back_spare : 2 ^ height_in cs < length (items_in (drop n cs))
-    back_spare =
-        three_children (height_in cs) (drop n cs) (All-drop (IsChild (height_in cs)) n cs are.each)
-        (omega (arith, h, length-drop n cs))
+    pub sides : (2 ^ height_in cs < length (items_in (take n cs))) × (2 ^ height_in cs < length (items_in (drop n cs)))
+    sides =
+        let h = height_in cs in (
+          three_children h (take n cs) (All-take (IsChild h) n cs are.each) (omega (arith, length-take n cs)),
+          three_children h (drop n cs) (All-drop (IsChild h) n cs are.each) (omega (arith, length-drop n cs)),
+        )
 
     -- so both halves can lose an item
     pub both_spare : {E : Type 0} (new : List (Child T L)) (r : Result (Child T L) E) → OnOk r (new ≡ take n cs)
@@ -167,9 +165,9 @@ module _ {T L : Type 0} {label_of : T → L} where
         let front = ap (λ (xs : List (Child T L)). length (items_in xs)) kept in
         let high : right.tree.1 ≡ height_in cs = omega (arith, halves.child.level) in
         let sum = ap (length {A = T}) halves.items in (
-          subst (λ (h : ℕ). 2 ^ h < length (items_in new)) (sym halves.height) (omega (arith, front_spare, front)),
+          subst (λ (h : ℕ). 2 ^ h < length (items_in new)) (sym halves.height) (omega (arith, sides.0, front)),
           subst (λ (h : ℕ). 2 ^ h < length right.tree.0) (sym high)
-              (omega (arith, back_spare, front, sum, length-append (items_in new) right.tree.0, length-parts cs n)),
+              (omega (arith, sides.1, front, sum, length-append (items_in new) right.tree.0, length-parts cs n)),
         )
     both_spare new (Err e) kept halves = tt
 

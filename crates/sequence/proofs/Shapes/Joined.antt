@@ -13,9 +13,8 @@ use Rattle.std.proofs.Math.Seq.{get_or_at, take_at}
 use Rattle.sequence.specs.declared.tree.Child.{Child}
 use Rattle.sequence.specs.declared.tree.search.Spot.{Spot}
 use Rattle.sequence.specs.Nodes.{AreChildren, AreHalves, CanLose, IsChild, IsLabelled, StandFor, height_in, items_in}
-use Rattle.sequence.specs.Spots.{IsEdge, Leads, past}
-use Rattle.sequence.proofs.Nodes.Children.{items_append, leads_at, length-more, length-parts, split_at}
-use Rattle.sequence.proofs.Shapes.Built.{some_first}
+use Rattle.sequence.specs.Spots.{Leads, past}
+use Rattle.sequence.proofs.Nodes.Children.{items_append, leads_at, length-more, split_at}
 use Rattle.sequence.proofs.Shapes.Halves.{child_is, children_drop, children_take, replaced}
 use Rattle.sequence.proofs.Nodes.Labelled.{labelled_at, labelled_both, labelled_left}
 
@@ -88,18 +87,6 @@ module _ {X : Type 0} where
       ap (λ (ys : List X). insert ys (i + 1) y) (set_split xs i x h)
       ∙ insert_behind xs (drop (suc i) xs) i x y (omega (arith, h))
       ∙ ap (λ (n : ℕ). take i xs ++ x ∷ y ∷ drop n xs) (sym (add-one i))
-
-module _ {T L : Type 0} where
-  -- a place behind the last item of a child is between two children
-  pub edge_behind : (cs : List (Child T L)) (place : ℕ) (spot : Spot) → Leads cs place spot
-      → ((d : Child T L) → length (get_or cs spot.child d).tree.0 ≤ spot.place) → Child T L
-      → place < length (items_in cs) → IsEdge cs place (spot.child + 1)
-  edge_behind cs place spot leads last d within =
-      let next = spot.child + 1 in
-      let is : place ≡ length (items_in (take next cs)) =
-      omega (arith, leads.is, leads.inside d, last d, length-more cs spot.child d leads.within) in
-      let rest = some_first (drop next cs) (omega (arith, is, within, length-parts cs next)) in
-      record { some = omega arith; within = omega (arith, rest, length-drop next cs); is = is }
 
 module _ {T L : Type 0} (label_of : T → L) where
   -- room that was made for a spot
@@ -278,19 +265,6 @@ module _ {T L : Type 0} {label_of : T → L} where
               (split_right k spare.1 (omega (arith, high.1, len)))
         ])
 
-    -- the same of the whole node
+    -- the node of both
     pub split_stands : StandFor label_of cs (insert (set cs i l) (i + 1) r)
     split_stands = subst (λ (xs : List (Child T L)). StandFor label_of cs xs) (sym (two_for_one cs i l r h)) split_same
-
-    -- a place between both
-    pub split_edge : (place k : ℕ) → Leads cs place (record { child = i; place = k }) → length l.tree.0 ≡ k
-        → place < length (items_in cs) → IsEdge (insert (set cs i l) (i + 1) r) place (i + 1)
-    split_edge place k leads kept within =
-        let rest = r ∷ drop (i + 1) cs in
-        let before = length-take-le i cs (omega (arith, h)) in
-        subst (λ (xs : List (Child T L)). IsEdge xs place (i + 1)) (sym (two_for_one cs i l r h))
-        (edge_behind (take i cs ++ l ∷ rest) place (record { child = i; place = k })
-        (leads_at (take i cs) rest l i place k before leads.is (omega (arith, kept)) leads.inner)
-        (λ x. subst (λ (c : Child T L). length c.tree.0 ≤ k) (sym (get_or_at (take i cs) l rest x i before))
-        (omega (arith, kept)))
-        l (omega (arith, ap (length {A = T}) split_same.items, within)))

@@ -50,9 +50,9 @@ impl<T: Clone, L: NewLabel<T>> Sequence<T, L> {
     /// Takes the items from that number on out, into another list. A number above that of the items is refused before
     /// all else.
     ///
-    /// Both lists are made anew along the cut and share all other nodes with this one: of each node there they copy the
-    /// handles of its children, and of one leaf the items. Then their parts are appended to one another, which also
-    /// copies leaves of few items beside the cut, to join them.
+    /// It writes in place, but copies each node on the way that other versions have, and makes one new node on each
+    /// level. Small nodes beside the cut are joined with their neighbours. Where a part would have too few items for its
+    /// height, both lists are made anew along the cut instead, and share all other nodes with this one.
     pub fn split_off(&mut self, alloc: Global, at: usize) -> Result<Sequence<T, L>, PlaceError>
         requires copies { CopiesAreEqual T.is_clone }
         requires labels { CopiesAreEqual L.is_clone }
@@ -107,30 +107,26 @@ impl<T: Clone, L: NewLabel<T>> Sequence<T, L> {
             return Err(AllocError);
         };
         tree.shrink()?;
-        let Some(least) = 2usize.checked_pow(u32::from(tree.height())) else {
-            return Err(AllocError);
-        };
+        let least = 2usize
+            .checked_pow(u32::from(tree.height()))
+            .ok_or(AllocError)?;
         if at < least || self.len - at < least {
             return Err(AllocError);
         }
-        let Child {
-            label: _,
-            len,
-            tree: mut back,
-        } = tree.sever(alloc, at, least)?;
+        let mut back = tree.sever(alloc, at, least)?;
         self.len = at;
         // Trees that are higher than need be are as good.
         let _ = tree.shrink();
-        let _ = back.shrink();
+        let _ = back.tree.shrink();
         Ok(Sequence {
-            root: Some(back),
-            len,
+            root: Some(back.tree),
+            len: back.len,
         })
     }
 
     /// Lets the items from that number on go. If there are none, it does nothing.
     ///
-    /// It makes new nodes along the cut, as `split_off` does.
+    /// It cuts the list as `split_off` does.
     pub fn truncate(&mut self, alloc: Global, len: usize) -> Result<(), AllocError>
         requires copies { CopiesAreEqual T.is_clone }
         requires labels { CopiesAreEqual L.is_clone }

@@ -163,28 +163,17 @@ impl<T: Drop, L: Label<T> + Drop> Tree<T, L> {
         ensures same { self.new.0 ≡ self.old.0 }
         ensures wide { OnOk result (2 ^ self.new.1 ≤ length self.new.0) }
     {
-        let only = match self.node() {
-            Node::Branch(children) if children.len() == 1 => children[0].tree.under().clone()?,
+        let mut only = match self.node() {
+            Node::Branch(children) if children.len() == 1 => &children[0].tree,
             _ => return Ok(()),
         };
-        *self = only;
-        Ok(())
-    }
-}
-
-impl<T, L: Label<T>> Tree<T, L> {
-    // The tree itself, or the first one below its first nodes that has more than one child or is a leaf.
-    fn under(&self) -> &Tree<T, L>
-        ensures same { result.now.0 ≡ self.now.0 }
-        ensures wide { 2 ^ result.now.1 ≤ length result.now.0 }
-    {
-        let mut tree = self;
-        'down: while let Node::Branch(children) = tree.node() {
+        'down: while let Node::Branch(children) = only.node() {
             if children.len() > 1 {
                 break;
             }
-            tree = &children[0].tree;
+            only = &children[0].tree;
         }
-        tree
+        *self = only.clone()?;
+        Ok(())
     }
 }

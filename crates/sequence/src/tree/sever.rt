@@ -1,8 +1,7 @@
 //! How a tree becomes two at a place: in place, but for the nodes that others share, which are copied.
-ghost use Rattle.std.specs.Prelude.{◌≡◌, ◌+◌, ◌<◌, ◌≤◌, ◌^◌, IfOk, OnErr, OnOk, length};
+ghost use Rattle.std.specs.Prelude.{◌≡◌, ◌+◌, ◌<◌, ◌≤◌, ◌^◌, IfOk, OnErr, OnOk, length, take};
 ghost use Rattle.handles.specs.Copies.{CopiesAreEqual};
-ghost use Rattle.sequence.specs.Nodes.{AreChildren, AreHalves, IsChild, StandFor, height_in, items_in};
-ghost use Rattle.sequence.specs.Spots.{IsEdge};
+ghost use Rattle.sequence.specs.Nodes.{AreChildren, AreHalves, StandFor, height_in, items_in};
 
 use crate::label::NewLabel;
 use crate::tree::insert::meet;
@@ -29,8 +28,7 @@ impl<T: Clone, L: NewLabel<T>> Tree<T, L> {
         requires back { place + least ≤ length self.old.0 }
         ensures halves { IfOk result (AreHalves L.label_of self.old self.new) }
         ensures kept { OnOk result (length self.new.0 ≡ place) }
-        ensures height { self.new.1 ≡ self.old.1 }
-        ensures refused { OnErr result (self.new.0 ≡ self.old.0) }
+        ensures refused { OnErr result (self.new ≡ self.old) }
     {
         let node = Arc::make_mut(&mut self.root, alloc)?;
         match node {
@@ -58,8 +56,7 @@ fn sever_under<T: Clone, L: NewLabel<T>>(
     ensures halves { IfOk result (AreHalves L.label_of (items_in children.old.items, height_in children.old.items)
         (items_in children.new.items, height_in children.new.items)) }
     ensures kept { OnOk result (length (items_in children.new.items) ≡ place) }
-    ensures height { height_in children.new.items ≡ height_in children.old.items }
-    ensures refused { OnErr result (items_in children.new.items ≡ items_in children.old.items) }
+    ensures refused { OnErr result (StandFor L.label_of children.old.items children.new.items) }
 {
     let at = edge_at(children, alloc, place, least)?;
     if at + 1 < children.len() {
@@ -87,47 +84,24 @@ fn edge_at<T: Clone, L: NewLabel<T>>(
     requires some { 0 < place }
     requires within { place < length (items_in children.old.items) }
     ensures same { StandFor L.label_of children.old.items children.new.items }
-    ensures edge { IfOk result (IsEdge children.new.items place) }
+    ensures edge { IfOk result (λ at. place ≡ length (items_in (take at children.new.items))) }
+    ensures inside { IfOk result (λ at. (0 < at) × (at < length children.new.items)) }
 {
     let Spot { child, place } = spot_of(children, place);
     let len = children[child].len;
-    if place < len {
-        // A part of the child may have too few items for its height.
-        if place < least / 2 || len - place < least / 2 {
-            return Err(AllocError);
-        }
-        children.reserve(1)?;
-        let right = children[child].sever(alloc, place, least / 2)?;
-        let Ok(()) = children.insert(child + 1, right) else {
-            unreachable!()
-        };
+    if place >= len {
+        return Ok(child + 1);
     }
+    // A part of the child may have too few items for its height.
+    if place < least / 2 || len - place < least / 2 {
+        return Err(AllocError);
+    }
+    children.reserve(1)?;
+    let left = &mut children[child];
+    let right = left.tree.sever(alloc, place, least / 2)?;
+    left.len = place;
+    let Ok(()) = children.insert(child + 1, right) else {
+        unreachable!()
+    };
     Ok(child + 1)
-}
-
-impl<T: Clone, L: NewLabel<T>> Child<T, L> {
-    // The same of a child.
-    #[cycle(sever)]
-    fn sever(
-        &mut self,
-        alloc: Global,
-        place: usize,
-        least: usize,
-    ) -> Result<Child<T, L>, AllocError>
-        requires copies { CopiesAreEqual T.is_clone }
-        requires labels { CopiesAreEqual L.is_clone }
-        requires child { IsChild (self.old.tree.1 + 1) self.old }
-        requires least { least ≡ 2 ^ self.old.tree.1 }
-        requires front { least ≤ place }
-        requires back { place + least ≤ length self.old.tree.0 }
-        ensures child { IsChild (self.old.tree.1 + 1) self.new }
-        ensures label { self.new.label ≡ self.old.label }
-        ensures halves { IfOk result (AreHalves L.label_of self.old.tree self.new.tree) }
-        ensures kept { OnOk result (length self.new.tree.0 ≡ place) }
-        ensures refused { OnErr result (self.new.tree.0 ≡ self.old.tree.0) }
-    {
-        let right = self.tree.sever(alloc, place, least)?;
-        self.len -= right.len;
-        Ok(right)
-    }
 }

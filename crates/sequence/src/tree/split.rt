@@ -230,8 +230,8 @@ pub(crate) fn half_of_branch<T: Drop, L: NewLabel<T>>(
     requires children { AreChildren L.label_of children.old.items }
     requires some { 0 < keep }
     requires within { keep < length children.old.items }
-    requires front { 2 ^ height_in children.old.items ≤ length (items_in (take keep children.old.items)) }
-    requires back { 2 ^ height_in children.old.items ≤ length (items_in (drop keep children.old.items)) }
+    requires sides { (2 ^ height_in children.old.items ≤ length (items_in (take keep children.old.items)))
+        × (2 ^ height_in children.old.items ≤ length (items_in (drop keep children.old.items))) }
     ensures children { AreChildren L.label_of children.new.items }
     ensures halves { IfOk result (AreHalves L.label_of (items_in children.old.items, height_in children.old.items)
         (items_in children.new.items, height_in children.new.items)) }

@@ -40,7 +40,7 @@ returns g c =
       halves = subst (λ xs. AreHalves g.L.Label.label_of (items_in cs, height_in cs) (items_in xs, height_in xs) right)
           (sym c.in_ok-tail.ensures.items)
           (branches_are cs n c.requires.children c.requires.some c.requires.within c.index.result.now right
-          c.requires.front c.requires.back len is label);
+          c.requires.sides len is label);
       kept = c.in_ok-tail.ensures.items;
       refused = tt;
     }

@@ -69,7 +69,7 @@ fn sever_under<T: Clone, L: NewLabel<T>>(
     Ok(right)
 }
 
-// The number of the first child from the place on, once the child around it is two.
+// The number of the first child behind the place, once the child around it is two.
 #[cycle(sever)]
 fn edge_at<T: Clone, L: NewLabel<T>>(
     children: &mut Vec<Child<T, L>>,
@@ -87,13 +87,14 @@ fn edge_at<T: Clone, L: NewLabel<T>>(
     ensures edge { IfOk result (λ at. place ≡ length (items_in (take at children.new.items))) }
     ensures inside { IfOk result (λ at. (0 < at) × (at < length children.new.items)) }
 {
-    let Spot { child, place } = spot_of(children, place);
-    let len = children[child].len;
-    if place >= len {
-        return Ok(child + 1);
+    // The item behind the place is in that child, the last of so many there.
+    let Spot { child, place: up } = spot_of(children, place + 1);
+    let place = up - 1;
+    if place == 0 {
+        return Ok(child);
     }
     // A part of the child may have too few items for its height.
-    if place < least / 2 || len - place < least / 2 {
+    if place < least / 2 || children[child].len - place < least / 2 {
         return Err(AllocError);
     }
     children.reserve(1)?;

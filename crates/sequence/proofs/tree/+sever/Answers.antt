@@ -1,32 +1,11 @@
 -- The child around the place is two, and each part of the branch has enough items.
-use Rattle.std.proofs.Common.{◌+◌, ◌<◌, ◌∙◌, ap, arith, drop, get_or, length, length-drop, refl, set, subst, sym}
+use Rattle.std.proofs.Common.{◌+◌, ◌-◌, ◌∙◌, ap, arith, get_or, refl, set, subst, sym}
 use Rattle.std.specs.List.{insert}
 use Rattle.sequence.specs.declared.tree.Child.{Child}
-use Rattle.sequence.specs.Nodes.{IsChild, StandFor, items_in}
-use Rattle.sequence.proofs.Nodes.Children.{length-more, length-parts}
-use Rattle.sequence.proofs.Shapes.Built.{some_first}
+use Rattle.sequence.specs.Nodes.{IsChild, StandFor}
+use Rattle.sequence.proofs.Nodes.Children.{length-parts}
 use Rattle.sequence.proofs.Shapes.Joined.{split_stands}
 use Rattle.sequence.proofs.tree.+sever.Goals as goal
-
-pub sever::edge_at-returns-then-place-len-clause-inside : goal.sever::edge_at-returns-then-place-len-clause-inside
-sever::edge_at-returns-then-place-len-clause-inside g t c =
-    let cs = c.args.children.now.items in
-    let spot = c.spot_of-child.result in
-    let next = spot.child + 1 in
-    let d = c.index.result.now in
-    let leads = rw c.deref.ensures.value at c.spot_of-child.ensures in
-    let more = length-more cs spot.child d leads.within in
-    let rest : 0 < length (items_in (drop next cs)) =
-    omega (
-      arith,
-      ap (λ child. child.len) c.index.ensures,
-      (c.requires.children.each spot.child d leads.within).counted,
-      leads.is,
-      more,
-      length-parts cs next,
-      c.requires.within,
-    ) in
-    (omega arith, omega (arith, some_first (drop next cs) rest, length-drop next cs))
 
 pub sever::edge_at-returns-clause-same : goal.sever::edge_at-returns-clause-same
 sever::edge_at-returns-clause-same g t c =
@@ -39,7 +18,7 @@ sever::edge_at-returns-clause-same g t c =
     let done = c.in_ok-right.ensures in
     let r = c.in_ok-right.right in
     let l : Child g.row.T.Denot g.row.L.Denot =
-    record { label = d.label; len = c.spot_of-child.result.place; tree = c.sever.new.self } in
+    record { label = d.label; len = c.spot_of-child.result.place - 1; tree = c.sever.new.self } in
     let items = c.in-Ok.ensures.items ∙ ap (λ xs. insert (set xs i l) (i + 1) r) room in
     let child : IsChild (d.tree.1 + 1) l =
     record { counted = sym done.kept; level = ap (λ n. n + 1) done.halves.height; wide = done.halves.wide } in

@@ -10,9 +10,9 @@ use std::alloc::{AllocError, Global};
 impl<K: Ord + Clone, V: Clone> TreeMap<K, V> {
     /// Takes the entries from the key on out, into another map.
     ///
-    /// Both maps are made anew along the cut and share all other nodes with this one: of each node there they copy the
-    /// keys and the handles of its children, and of one leaf the entries. Then their parts are put together, which also
-    /// copies leaves of few entries beside the cut, to join them. A refusal leaves the map as it was.
+    /// It writes in place, but copies each node on the way that other versions have, and makes one new node on each
+    /// level. Small nodes beside the cut are joined with their neighbours. Where a part would have too few entries for
+    /// its height, both maps are made anew along the cut instead. A refusal leaves the map as it was.
     pub fn split_off<Q: Query<K>>(
         &mut self,
         alloc: Global,

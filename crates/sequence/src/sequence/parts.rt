@@ -51,8 +51,8 @@ impl<T: Clone, L: NewLabel<T>> Sequence<T, L> {
     /// all else.
     ///
     /// It writes in place, but copies each node on the way that other versions have, and makes one new node on each
-    /// level. Small nodes beside the cut are joined with their neighbours. Where a part would have too few items for its
-    /// height, both lists are made anew along the cut instead, and share all other nodes with this one.
+    /// level. Small nodes beside the cut are joined with their neighbours. Where a part would have too few items for
+    /// its height, both lists are made anew along the cut instead, and share all other nodes with this one.
     pub fn split_off(&mut self, alloc: Global, at: usize) -> Result<Sequence<T, L>, PlaceError>
         requires copies { CopiesAreEqual T.is_clone }
         requires labels { CopiesAreEqual L.is_clone }

@@ -1,5 +1,6 @@
 //! How a tree takes an item or a lower tree in: in place, but for the nodes that others share, which are copied.
-ghost use Rattle.std.specs.Prelude.{◌≡◌, ◌+◌, ◌<◌, ◌≤◌, ◌^◌, ◌⊎◌, IfErr, None, OnOk, OnErr, MatchResult, Some, length, take};
+ghost use Rattle.std.specs.Prelude.{◌≡◌, ◌+◌, ◌<◌, ◌≤◌, ◌^◌, ◌⊎◌, IfErr, None, OnOk, OnErr, MatchResult, Some};
+ghost use Rattle.std.specs.Prelude.{length, take};
 ghost use Rattle.handles.specs.Copies.{CopiesAreEqual};
 ghost use Rattle.sequence.specs.Nodes.{AreChildren, IsChild, IsLabelled, IsList, StandFor, height_in, items_in};
 ghost use Rattle.sequence.specs.Pieces.{Counts, Fits, GoesOn, IsHere, items_of, part_of};

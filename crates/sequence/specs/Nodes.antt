@@ -82,13 +82,13 @@ module _ {T L : Type 0} (label_of : T → L) where
   IsNode (Leaf items) = IsList items.items
   IsNode (Branch children) = AreChildren children.items
 
-  -- the tree in two, of which each could lose an item: what its first node keeps, and a child with the rest
+  -- the tree in two: what its first node keeps, which is still wide enough for a child, and a child with the rest
   pub record AreHalves (tree left : List T × ℕ) (right : Child T L) : Type 0 where
     pub items : left.0 ++ right.tree.0 ≡ tree.0
     pub height : left.1 ≡ tree.1
     pub child : IsChild (tree.1 + 1) right
     pub label : IsLabelled right
-    pub spare : CanLose left × CanLose right.tree
+    pub wide : 2 ^ left.1 ≤ length left.0
 
   -- the children that are made of a whole tree: the level above it
   pub record AreParts (tree : List T × ℕ) (cs : List (Child T L)) : Type 0 where

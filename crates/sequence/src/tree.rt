@@ -15,6 +15,7 @@ mod modify;
 pub(crate) mod put;
 mod remove;
 pub(crate) mod search;
+mod sever;
 mod split;
 pub(crate) mod take;
 

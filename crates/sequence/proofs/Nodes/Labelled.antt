@@ -6,6 +6,7 @@ use Rattle.std.specs.Prelude.{Some, Result, Ok, Err, OnErr, OnOk, slice_get}
 use Rattle.std.specs.List.{All}
 use Rattle.std.proofs.lemmas.List.{drop_more}
 use Rattle.std.proofs.lemmas.List.Elements.{All-append, All-drop, All-nil, All-set, All-take}
+use Rattle.std.proofs.lemmas.Nat.{pow_pos}
 use Rattle.std.proofs.lemmas.Option.{none-some}
 use Rattle.sequence.specs.declared.tree.Child.{Child}
 use Rattle.sequence.specs.Nodes.{AreChildren, AreHalves, IsLabelled, first_label}
@@ -109,7 +110,7 @@ module _ {T L : Type 0} {label_of : T → L} where
       → left.label ≡ old.label → IsLabelled label_of old → IsLabelled label_of left
   labelled_left old left right halves same is =
       labelled_by old left same
-      (λ h. first_front label_of left.tree.0 right.tree.0 (omega (arith, halves.spare.0))
+      (λ h. first_front label_of left.tree.0 right.tree.0 (omega (arith, halves.wide, pow_pos left.tree.1))
       ∙ ap (λ (es : List T). first_label label_of es) halves.items ∙ h)
       is
 

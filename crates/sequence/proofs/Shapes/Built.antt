@@ -16,7 +16,7 @@ module _ {T L : Type 0} where
     pub items : front ++ items_in (reverse cs) ≡ all
 
   -- items under some children are under a first one
-  some_first : (cs : List (Child T L)) → 0 < length (items_in cs) → 0 < length cs
+  pub some_first : (cs : List (Child T L)) → 0 < length (items_in cs) → 0 < length cs
   some_first [] p = p
   some_first (c ∷ cs) p = omega arith
 

@@ -3,11 +3,11 @@ use Rattle.std.proofs.Common.{◌≡◌, ◌+◌, ◌-◌, ◌<◌, ◌≤◌, �
 use Rattle.std.proofs.Common.{ap, sym, ◌∙◌}
 use Rattle.std.proofs.Common.{subst, arith, take-append-drop, length-append, length-take, length-drop, refl, append-nil}
 use Rattle.std.specs.List.{All}
-use Rattle.std.specs.Prelude.{Some}
+use Rattle.std.specs.Prelude.{Some, Result, Ok, Err, IfOk, OnOk}
 use Rattle.std.proofs.lemmas.List.{drop-drop, drop_more}
 use Rattle.std.proofs.lemmas.List.Elements.{All-take, All-drop, All-append, All-cons, All-nil}
 use Rattle.sequence.specs.declared.tree.Child.{Child}
-use Rattle.sequence.specs.Nodes.{AreChildren, AreHalves, AreLevel, IsChild, IsLabelled, IsList, StandFor}
+use Rattle.sequence.specs.Nodes.{AreChildren, AreHalves, AreLevel, CanLose, IsChild, IsLabelled, IsList, StandFor}
 use Rattle.sequence.specs.Nodes.{first_label, height_in, items_in}
 use Rattle.sequence.proofs.Nodes.Children.{children_are, height_is, items_append, length-parts, two_parts}
 use Rattle.sequence.proofs.Nodes.Labelled.{all_behind, at_behind, behind_append, behind_drop, behind_take, first_drop}
@@ -38,7 +38,7 @@ module _ {T L : Type 0} where
       length-append new.tree.0 right.tree.0,
     );
     level = ap (λ (n : ℕ). n + 1) halves.height;
-    wide = omega (arith, halves.spare.0);
+    wide = halves.wide;
   }
 
 module _ {T : Type 0} where
@@ -107,7 +107,7 @@ module _ {T L : Type 0} {label_of : T → L} where
       (All-nil (IsLabelled label_of))
 
   -- the halves of a leaf
-  pub leaves_are : (es : List T) (n : ℕ) (d : T) (r : Child T L) → 2 < n → n + 2 < length es
+  pub leaves_are : (es : List T) (n : ℕ) (d : T) (r : Child T L) → 0 < n → n < length es
       → r.len ≡ length (drop n es) → r.tree ≡ (drop n es, 0) → r.label ≡ label_of (get_or es n d)
       → AreHalves label_of (es, 0) (take n es, 0) r
   leaves_are es n d r p h len is label = record {
@@ -118,42 +118,58 @@ module _ {T L : Type 0} {label_of : T → L} where
       first = ap (λ (t : List T × ℕ). first_label label_of t.0) is ∙ first_drop label_of es n d (omega (arith, h))
           ∙ ap (λ (l : L). Some l) (sym label);
     };
-    spare = (
-      omega (arith, p, h, length-take n es),
-      subst (λ (t : List T × ℕ). 2 ^ t.1 < length t.0) (sym is) (omega (arith, h, length-drop n es)),
-    );
+    wide = omega (arith, p, h, length-take n es);
   }
 
-  -- the halves of a branch
-  pub branches_are : (cs : List (Child T L)) (n : ℕ) (d r : Child T L) → AreChildren label_of cs → 2 < n
-      → n + 2 < length cs → r.len ≡ length (items_in (drop n cs))
-      → r.tree ≡ (items_in (drop n cs), height_in (drop n cs)) → r.label ≡ (get_or cs n d).label
-      → AreHalves label_of (items_in cs, height_in cs) (items_in (take n cs), height_in (take n cs)) r
-  branches_are cs n d r are p h len is label =
-      let front = height_take cs n are (omega (arith, p)) (omega (arith, h)) in
-      let back = height_drop cs n are (omega (arith, h)) in
-      let rest = children_drop cs n are (omega (arith, h)) in
-      let each = All-take (IsChild (height_in cs)) n cs are.each in
-      let here = get_or cs n d in
-      let wide = three_children (height_in (drop n cs)) (drop n cs) rest.each (omega (arith, h, length-drop n cs)) in
-      record {
-        items = ap (λ (t : List T × ℕ). items_in (take n cs) ++ t.0) is ∙ sym (two_parts cs n);
-        height = front;
-        child = subst (λ (h : ℕ). IsChild (h + 1) r) back
-            (child_is (items_in (drop n cs), height_in (drop n cs)) r is len (omega (arith, wide)));
-        label = record {
-          first = ap (λ (t : List T × ℕ). first_label label_of t.0) is
-              ∙ ap (λ (xs : List (Child T L)). first_label label_of (items_in xs)) (drop_more cs n d (omega (arith, h)))
-              ∙ first_in label_of here.tree.0 (items_in (drop (n + 1) cs)) here.label
-              (at_behind (IsLabelled label_of) cs n d are.labels (omega (arith, p)) (omega (arith, h))).first
-              ∙ ap (λ (l : L). Some l) (sym label);
-        };
-        spare = (
-          subst (λ (h : ℕ). 2 ^ h < length (items_in (take n cs))) (sym front)
-              (three_children (height_in cs) (take n cs) each (omega (arith, p, h, length-take n cs))),
-          subst (λ (t : List T × ℕ). 2 ^ t.1 < length t.0) (sym is) wide,
-        );
-      }
+  module _ (cs : List (Child T L)) (n : ℕ) (are : AreChildren label_of cs) (p : 0 < n) (h : n < length cs) where
+    -- the halves of a branch
+    pub branches_are : (d r : Child T L)
+        → (2 ^ height_in cs ≤ length (items_in (take n cs))) × (2 ^ height_in cs ≤ length (items_in (drop n cs)))
+        → r.len ≡ length (items_in (drop n cs))
+        → r.tree ≡ (items_in (drop n cs), height_in (drop n cs)) → r.label ≡ (get_or cs n d).label
+        → AreHalves label_of (items_in cs, height_in cs) (items_in (take n cs), height_in (take n cs)) r
+    branches_are d r sides len is label =
+        let low = height_take cs n are p (omega (arith, h)) in
+        let high = height_drop cs n are h in
+        let here = get_or cs n d in
+        record {
+          items = ap (λ (t : List T × ℕ). items_in (take n cs) ++ t.0) is ∙ sym (two_parts cs n);
+          height = low;
+          child = subst (λ (h : ℕ). IsChild (h + 1) r) high
+              (child_is (items_in (drop n cs), height_in (drop n cs)) r is len
+              (subst (λ (h : ℕ). 2 ^ h ≤ length (items_in (drop n cs))) (sym high) sides.1));
+          label = record {
+            first = ap (λ (t : List T × ℕ). first_label label_of t.0) is
+                ∙ ap (λ (xs : List (Child T L)). first_label label_of (items_in xs)) (drop_more cs n d h)
+                ∙ first_in label_of here.tree.0 (items_in (drop (n + 1) cs)) here.label
+                (at_behind (IsLabelled label_of) cs n d are.labels p h).first
+                ∙ ap (λ (l : L). Some l) (sym label);
+          };
+          wide = subst (λ (h : ℕ). 2 ^ h ≤ length (items_in (take n cs))) (sym low) sides.0;
+        }
+
+  module _ (cs : List (Child T L)) (n : ℕ) (are : AreChildren label_of cs) (p : 2 < n) (q : n + 2 < length cs) where
+    -- three children on either side have more items than a child of that height has at least
+    pub sides : (2 ^ height_in cs < length (items_in (take n cs))) × (2 ^ height_in cs < length (items_in (drop n cs)))
+    sides =
+        let h = height_in cs in (
+          three_children h (take n cs) (All-take (IsChild h) n cs are.each) (omega (arith, length-take n cs)),
+          three_children h (drop n cs) (All-drop (IsChild h) n cs are.each) (omega (arith, length-drop n cs)),
+        )
+
+    -- so both halves can lose an item
+    pub both_spare : {E : Type 0} (new : List (Child T L)) (r : Result (Child T L) E) → OnOk r (new ≡ take n cs)
+        → IfOk r (AreHalves label_of (items_in cs, height_in cs) (items_in new, height_in new))
+        → IfOk r (λ right. CanLose {T = T} (items_in new, height_in new) × CanLose right.tree)
+    both_spare new (Ok right) kept halves =
+        let front = ap (λ (xs : List (Child T L)). length (items_in xs)) kept in
+        let high : right.tree.1 ≡ height_in cs = omega (arith, halves.child.level) in
+        let sum = ap (length {A = T}) halves.items in (
+          subst (λ (h : ℕ). 2 ^ h < length (items_in new)) (sym halves.height) (omega (arith, sides.0, front)),
+          subst (λ (h : ℕ). 2 ^ h < length right.tree.0) (sym high)
+              (omega (arith, sides.1, front, sum, length-append (items_in new) right.tree.0, length-parts cs n)),
+        )
+    both_spare new (Err e) kept halves = tt
 
   -- children in place of k, with the items of those, stand for all
   pub replaced : (cs ns : List (Child T L)) (i k : ℕ) → AreChildren label_of cs → All (IsChild (height_in cs)) ns

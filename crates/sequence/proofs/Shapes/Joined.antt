@@ -9,7 +9,7 @@ use Rattle.std.proofs.lemmas.List.Elements.{All-cons, All-nil}
 use Rattle.std.proofs.lemmas.List.Edits.{get_or-remove_below, insert-append_right}
 use Rattle.std.proofs.lemmas.Bool.Decides.{leb_tells}
 use Rattle.std.proofs.lemmas.Nat.{pow_pos}
-use Rattle.std.proofs.Math.Seq.{get_or_at}
+use Rattle.std.proofs.Math.Seq.{get_or_at, take_at}
 use Rattle.sequence.specs.declared.tree.Child.{Child}
 use Rattle.sequence.specs.declared.tree.search.Spot.{Spot}
 use Rattle.sequence.specs.Nodes.{AreChildren, AreHalves, CanLose, IsChild, IsLabelled, StandFor, height_in, items_in}
@@ -124,6 +124,7 @@ module _ {T L : Type 0} {label_of : T → L} where
       -- the node with the one child of both
       pub record IsJoined (new : List (Child T L)) : Type 0 where
         pub same : StandFor label_of cs new
+        pub front : take i new ≡ take i cs
         pub first : (place k : ℕ) → Leads cs place (record { child = i; place = k })
             → Leads new place (record { child = i; place = k })
         pub second : (place k : ℕ) (x : Child T L) → Leads cs place (record { child = i + 1; place = k })
@@ -147,6 +148,7 @@ module _ {T L : Type 0} {label_of : T → L} where
                 (append-nil j.tree.0 ∙ joined ∙ ap (λ (es : List T). d.tree.0 ++ es) (sym (append-nil e.tree.0))
                 ∙ ap (λ (cs : List (Child T L)). items_in cs) (sym two_at))
                 (All-nil Q) (λ p. All-cons Q j [] (label p) (All-nil Q));
+            front = take_at (take i cs) (j ∷ drop (i + 2) cs) i before;
             first = λ place k leads. leads_at (take i cs) (drop (i + 2) cs) j i place k before leads.is
                 (omega (arith, both, leads.inside d, ap (λ (c : Child T L). length c.tree.0) is)) leads.inner;
             second = λ place k x leads.
@@ -206,22 +208,22 @@ module _ {T L : Type 0} {label_of : T → L} where
         second (λ p. All-cons Q l (r ∷ []) (label p) second)
 
     -- one of both has the place
-    split_left : (k : ℕ) → k ≤ length l.tree.0
+    split_left : (k : ℕ) → CanLose l.tree → k ≤ length l.tree.0
         → IsRoom label_of cs (take i cs ++ l ∷ r ∷ drop (i + 1) cs) (record { child = i; place = k })
         (record { child = i; place = k })
-    split_left k low =
+    split_left k spare low =
         let before = length-take-le i cs (omega (arith, h)) in
         record {
           same = split_same;
           leads = λ place leads. leads_at (take i cs) (r ∷ drop (i + 1) cs) l i place k before leads.is low leads.inner;
           spare = λ x. subst (λ (c : Child T L). CanLose c.tree)
-              (sym (get_or_at (take i cs) l (r ∷ drop (i + 1) cs) x i before)) halves.spare.0;
+              (sym (get_or_at (take i cs) l (r ∷ drop (i + 1) cs) x i before)) spare;
         }
 
-    split_right : (k : ℕ) → length l.tree.0 < k
+    split_right : (k : ℕ) → CanLose r.tree → length l.tree.0 < k
         → IsRoom label_of cs (take i cs ++ l ∷ r ∷ drop (i + 1) cs) (record { child = i; place = k })
         (record { child = i + 1; place = k - length l.tree.0 })
-    split_right k high =
+    split_right k spare high =
         let front = take i cs ++ l ∷ [] in
         let before : length front ≡ i + 1 =
         omega (arith, length-append (take i cs) (l ∷ []), length-take-le i cs (omega (arith, h))) in
@@ -243,13 +245,14 @@ module _ {T L : Type 0} {label_of : T → L} where
               (omega (arith, leads.inside d, sums, ap (λ (c : Child T L). length c.tree.0) is))
               (λ some. omega (arith, high));
           spare = λ x. subst (λ (c : Child T L). CanLose c.tree)
-              (sym (get_or_at front r (drop (i + 1) cs) x (i + 1) before)) halves.spare.1;
+              (sym (get_or_at front r (drop (i + 1) cs) x (i + 1) before)) spare;
         }
 
     -- as a write and an insert leave it
-    pub split_is : (k n : ℕ) → n ≡ length l.tree.0 → IsRoom label_of cs (insert (set cs i l) (i + 1) r)
+    pub split_is : (k n : ℕ) → CanLose l.tree × CanLose r.tree → n ≡ length l.tree.0
+        → IsRoom label_of cs (insert (set cs i l) (i + 1) r)
         (record { child = i; place = k }) (past n (record { child = i; place = k }))
-    split_is k n len =
+    split_is k n spare len =
         let new = take i cs ++ l ∷ r ∷ drop (i + 1) cs in
         let spot : Spot = record { child = i; place = k } in
         let next = λ (m : ℕ). let there : Spot = record { child = i + 1; place = k - m } in there in
@@ -257,7 +260,11 @@ module _ {T L : Type 0} {label_of : T → L} where
         subst (λ (xs : List (Child T L)). IsRoom label_of cs xs spot (past n spot)) (sym (two_for_one cs i l r h))
         (elim (leb_tells k n) [
           | inl low ↦ subst (IsRoom label_of cs new spot) (sym (ap choice low.0))
-              (split_left k (omega (arith, low.1, len)))
+              (split_left k spare.0 (omega (arith, low.1, len)))
           | inr high ↦ subst (IsRoom label_of cs new spot) (sym (ap choice high.0 ∙ ap next len))
-              (split_right k (omega (arith, high.1, len)))
+              (split_right k spare.1 (omega (arith, high.1, len)))
         ])
+
+    -- the node of both
+    pub split_stands : StandFor label_of cs (insert (set cs i l) (i + 1) r)
+    split_stands = subst (λ (xs : List (Child T L)). StandFor label_of cs xs) (sym (two_for_one cs i l r h)) split_same

@@ -11,6 +11,7 @@ use crate::tree::search::{count, spot_of};
 use crate::tree::{Child, Node, Tree};
 use handles::place::PlaceError;
 use std::alloc::{AllocError, Global};
+use std::mem;
 use std::ops::Range;
 
 impl<T: Clone, L: NewLabel<T>> Sequence<T, L> {
@@ -49,9 +50,9 @@ impl<T: Clone, L: NewLabel<T>> Sequence<T, L> {
     /// Takes the items from that number on out, into another list. A number above that of the items is refused before
     /// all else.
     ///
-    /// Both lists are made anew along the cut and share all other nodes with this one: of each node there they copy the
-    /// handles of its children, and of one leaf the items. Then their parts are appended to one another, which also
-    /// copies leaves of few items beside the cut, to join them.
+    /// It writes in place, but copies each node on the way that other versions have, and makes one new node on each
+    /// level. Small nodes beside the cut are joined with their neighbours. Where a part would have too few items for
+    /// its height, both lists are made anew along the cut instead, and share all other nodes with this one.
     pub fn split_off(&mut self, alloc: Global, at: usize) -> Result<Sequence<T, L>, PlaceError>
         requires copies { CopiesAreEqual T.is_clone }
         requires labels { CopiesAreEqual L.is_clone }
@@ -76,17 +77,56 @@ impl<T: Clone, L: NewLabel<T>> Sequence<T, L> {
         ensures rest { OnOk result (self.new ≡ take at self.old) }
         ensures refused { OnErr result (self.new ≡ self.old) }
     {
-        let Some(tree) = &self.root else {
+        if at == 0 {
+            return Ok(mem::replace(self, Sequence::empty()));
+        }
+        if at == self.len() {
             return Ok(Sequence::empty());
+        }
+        if let Ok(back) = self.sever(alloc, at) {
+            return Ok(back);
+        }
+        let Some(tree) = &self.root else {
+            unreachable!()
         };
         let (front, back) = tree.split(alloc, at)?;
         *self = front;
         Ok(back)
     }
 
+    // The same in place, if each part then has enough items for its height.
+    fn sever(&mut self, alloc: Global, at: usize) -> Result<Sequence<T, L>, AllocError>
+        requires copies { CopiesAreEqual T.is_clone }
+        requires labels { CopiesAreEqual L.is_clone }
+        requires within { at ≤ length self.old }
+        ensures out { IfOk result (λ out. out ≡ drop at self.old) }
+        ensures rest { OnOk result (self.new ≡ take at self.old) }
+        ensures refused { OnErr result (self.new ≡ self.old) }
+    {
+        let Some(tree) = &mut self.root else {
+            return Err(AllocError);
+        };
+        tree.shrink()?;
+        let least = 2usize
+            .checked_pow(u32::from(tree.height()))
+            .ok_or(AllocError)?;
+        if at < least || self.len - at < least {
+            return Err(AllocError);
+        }
+        let mut back = tree.sever(alloc, at, least)?;
+        self.len = at;
+        // Trees that are higher than need be are as good.
+        let _ = tree.shrink();
+        let _ = back.tree.shrink();
+        Ok(Sequence {
+            root: Some(back.tree),
+            len: back.len,
+        })
+    }
+
     /// Lets the items from that number on go. If there are none, it does nothing.
     ///
-    /// It makes new nodes along the cut, as `split_off` does.
+    /// It cuts the list as `split_off` does.
     pub fn truncate(&mut self, alloc: Global, len: usize) -> Result<(), AllocError>
         requires copies { CopiesAreEqual T.is_clone }
         requires labels { CopiesAreEqual L.is_clone }

@@ -1,5 +1,6 @@
 //! How a tree takes an item or a lower tree in: in place, but for the nodes that others share, which are copied.
-ghost use Rattle.std.specs.Prelude.{◌≡◌, ◌+◌, ◌<◌, ◌≤◌, ◌^◌, ◌⊎◌, IfErr, None, OnOk, OnErr, MatchResult, Some, length};
+ghost use Rattle.std.specs.Prelude.{◌≡◌, ◌+◌, ◌<◌, ◌≤◌, ◌^◌, ◌⊎◌, IfErr, None, OnOk, OnErr, MatchResult, Some};
+ghost use Rattle.std.specs.Prelude.{length, take};
 ghost use Rattle.handles.specs.Copies.{CopiesAreEqual};
 ghost use Rattle.sequence.specs.Nodes.{AreChildren, IsChild, IsLabelled, IsList, StandFor, height_in, items_in};
 ghost use Rattle.sequence.specs.Pieces.{Counts, Fits, GoesOn, IsHere, items_of, part_of};
@@ -211,12 +212,17 @@ fn beside<T: Clone, L: NewLabel<T>>(
 }
 
 // Makes one child of the one of that number and the next, if both are small and it is not refused.
-fn meet<T: Clone, L: NewLabel<T>>(children: &mut Vec<Child<T, L>>, at: usize, alloc: Global)
+pub(crate) fn meet<T: Clone, L: NewLabel<T>>(
+    children: &mut Vec<Child<T, L>>,
+    at: usize,
+    alloc: Global,
+)
     requires copies { CopiesAreEqual T.is_clone }
     requires labels { CopiesAreEqual L.is_clone }
     requires children { AreChildren L.label_of children.old.items }
     requires within { at + 1 < length children.old.items }
-    ensures { StandFor L.label_of children.old.items children.new.items }
+    ensures same { StandFor L.label_of children.old.items children.new.items }
+    ensures before { take at children.new.items ≡ take at children.old.items }
 {
     if children[at].tree.is_small() && children[at + 1].tree.is_small() {
         let _ = join_children(children, at, alloc);

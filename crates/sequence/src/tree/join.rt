@@ -1,6 +1,6 @@
 //! How two nodes become one: what the second one has moves behind what the first one has.
 ghost use Rattle.std.specs.Prelude.{◌≡◌, ℕ, ◌+◌, ◌<◌, ◌≤◌, ◌^◌, ◌++◌, ◌∷◌, [], IfErr, IfOk, IfSome, None, OnErr, OnOk};
-ghost use Rattle.std.specs.Prelude.{Some, length, slice_get, slice_index_or};
+ghost use Rattle.std.specs.Prelude.{Some, length, slice_get, slice_index_or, take};
 ghost use Rattle.handles.specs.Copies.{CopiesAreEqual};
 ghost use Rattle.sequence.specs.Nodes.{AreChildren, CanLose, IsChild, IsList, IsNode, StandFor};
 ghost use Rattle.sequence.specs.Nodes.{first_label, items_in, items_under, seen};
@@ -24,6 +24,7 @@ pub(crate) fn join_children<T: Clone, L: NewLabel<T>>(
     requires children { AreChildren L.label_of children.old.items }
     requires within { at + 1 < length children.old.items }
     ensures same { StandFor L.label_of children.old.items children.new.items }
+    ensures before { take at children.new.items ≡ take at children.old.items }
     ensures first { OnOk result ((place k : ℕ) → Leads children.old.items place (record { child = at; place = k })
         → Leads children.new.items place (record { child = at; place = k })) }
     ensures second { OnOk result ((place k : ℕ) (d : Child T L)

@@ -157,17 +157,23 @@ impl<T, L: Label<T>> Tree<T, L> {
 }
 
 impl<T: Drop, L: Label<T> + Drop> Tree<T, L> {
-    // A first node with one child gives way to it.
+    // A first node with one child gives way to the first one below that has more, or is a leaf.
     #[inline(always)]
     pub(crate) fn shrink(&mut self) -> Result<(), AllocError>
         ensures same { self.new.0 ≡ self.old.0 }
         ensures wide { OnOk result (2 ^ self.new.1 ≤ length self.new.0) }
     {
-        let only = match self.node() {
-            Node::Branch(children) if children.len() == 1 => children[0].tree.clone()?,
+        let mut only = match self.node() {
+            Node::Branch(children) if children.len() == 1 => &children[0].tree,
             _ => return Ok(()),
         };
-        *self = only;
+        'down: while let Node::Branch(children) = only.node() {
+            if children.len() > 1 {
+                break;
+            }
+            only = &children[0].tree;
+        }
+        *self = only.clone()?;
         Ok(())
     }
 }

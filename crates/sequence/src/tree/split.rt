@@ -1,6 +1,6 @@
 //! How a full node becomes two: the last of what it has moves into a block that was taken before.
 ghost use Rattle.std.specs.Prelude.{◌≡◌, ℕ, ◌+◌, ◌<◌, ◌^◌, ◌≤◌, IfOk, IsTrue, OnErr, OnOk};
-ghost use Rattle.std.specs.Prelude.{length, slice_index_or};
+ghost use Rattle.std.specs.Prelude.{drop, length, slice_index_or, take};
 ghost use Rattle.handles.specs.Copies.{CopiesAreEqual};
 ghost use Rattle.sequence.specs.Nodes.{AreChildren, AreHalves, CanLose, IsChild, IsList, IsNode, StandFor};
 ghost use Rattle.sequence.specs.Nodes.{height_in, items_in, seen};
@@ -130,6 +130,7 @@ impl<T: Clone, L: NewLabel<T>> Child<T, L> {
         ensures child { OnOk result (IsChild (self.old.tree.1 + 1) self.new) }
         ensures label { self.new.label ≡ self.old.label }
         ensures halves { IfOk result (AreHalves L.label_of self.old.tree self.new.tree) }
+        ensures spare { IfOk result (λ right. CanLose self.new.tree × CanLose right.tree) }
         ensures refused { OnErr result (self.new ≡ self.old) }
     {
         let right = self.tree.halve(alloc, ends)?;
@@ -145,6 +146,7 @@ impl<T: Clone, L: NewLabel<T>> Tree<T, L> {
         requires copies { CopiesAreEqual T.is_clone }
         requires labels { CopiesAreEqual L.is_clone }
         ensures halves { IfOk result (AreHalves L.label_of self.old self.new) }
+        ensures spare { IfOk result (λ right. CanLose self.new × CanLose right.tree) }
         ensures refused { OnErr result (self.new ≡ self.old) }
     {
         let node = Arc::make_mut(&mut self.root, alloc)?;
@@ -159,6 +161,7 @@ impl<T: Drop, L: NewLabel<T>> Node<T, L> {
         requires node { IsNode L.label_of self.old }
         ensures node { IsNode L.label_of self.new }
         ensures halves { IfOk result (AreHalves L.label_of (seen self.old) (seen self.new)) }
+        ensures spare { IfOk result (λ right. CanLose (seen self.new) × CanLose right.tree) }
         ensures refused { OnErr result (seen self.new ≡ seen self.old) }
     {
         match self {
@@ -190,17 +193,19 @@ fn kept(len: usize, width: usize, ends: bool) -> usize
     }
 }
 
-fn half_of_leaf<T: Drop, L: NewLabel<T>>(
+// What stands from that number on.
+pub(crate) fn half_of_leaf<T: Drop, L: NewLabel<T>>(
     items: &mut Vec<T>,
     alloc: Global,
     keep: usize,
 ) -> Result<Child<T, L>, AllocError>
     requires labels { CopiesAreEqual L.is_clone }
     requires list { IsList items.old.items }
-    requires low { 2 < keep }
-    requires high { keep + 2 < length items.old.items }
+    requires some { 0 < keep }
+    requires within { keep < length items.old.items }
     ensures list { IsList items.new.items }
     ensures halves { IfOk result (AreHalves L.label_of (items.old.items, 0) (items.new.items, 0)) }
+    ensures kept { OnOk result (length items.new.items ≡ keep) }
     ensures refused { OnErr result (items.new.items ≡ items.old.items) }
 {
     let label = L::new(&items[keep])?;
@@ -215,18 +220,22 @@ fn half_of_leaf<T: Drop, L: NewLabel<T>>(
     })
 }
 
-fn half_of_branch<T: Drop, L: NewLabel<T>>(
+// The same of a branch, of which each part has enough items.
+pub(crate) fn half_of_branch<T: Drop, L: NewLabel<T>>(
     children: &mut Vec<Child<T, L>>,
     alloc: Global,
     keep: usize,
 ) -> Result<Child<T, L>, AllocError>
     requires labels { CopiesAreEqual L.is_clone }
     requires children { AreChildren L.label_of children.old.items }
-    requires low { 2 < keep }
-    requires high { keep + 2 < length children.old.items }
+    requires some { 0 < keep }
+    requires within { keep < length children.old.items }
+    requires sides { (2 ^ height_in children.old.items ≤ length (items_in (take keep children.old.items)))
+        × (2 ^ height_in children.old.items ≤ length (items_in (drop keep children.old.items))) }
     ensures children { AreChildren L.label_of children.new.items }
     ensures halves { IfOk result (AreHalves L.label_of (items_in children.old.items, height_in children.old.items)
         (items_in children.new.items, height_in children.new.items)) }
+    ensures kept { OnOk result (children.new.items ≡ take keep children.old.items) }
     ensures refused { OnErr result (children.new.items ≡ children.old.items) }
 {
     let label = children[keep].label.clone()?;

@@ -13,7 +13,7 @@ fn sequence_of<'a>(
 }
 
 // What each of them makes is said by its clauses, and that it succeeds is not, nor what it copies: `replace` the leaf
-// of six and then one of four, `swap` the leaf and an item, `retain` each item, and `truncate` the leaf of five.
+// of six, `swap` the leaf and an item, `retain` each item, and `truncate` none.
 #[test]
 fn a_sequence_is_changed_as_a_vector_is(rt: HostRuntime) {
     let (alloc, tally) = (rt.alloc(), Tally::new());
@@ -38,5 +38,5 @@ fn a_sequence_is_changed_as_a_vector_is(rt: HostRuntime) {
     same!(&rt, found, [true, false]);
     list.clear();
     let left = (list.len(), tally.copies(), tally.living(9));
-    same!(&rt, left, (0, 28, 3));
+    same!(&rt, left, (0, 19, 3));
 }

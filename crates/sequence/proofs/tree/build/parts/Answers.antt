@@ -34,7 +34,7 @@ off-preserved g c =
     record {
       node = c.in_ok-child.ensures.node;
       height = halves.height ∙ before.height;
-      wide = omega (arith, halves.spare.0);
+      wide = halves.wide;
       len = omega (arith, before.len, halves.child.counted, lengths, more);
       before = subst (IsBefore g.L.Label.label_of (tree.1 + 1) tree.0 (seen c.halve.new.self).0)
           (sym c.in_ok-push.ensures.items)

@@ -29,7 +29,7 @@ returns-then-place-eq0-clause-items g c =
     (c.in-Ok.ensures c.requires.labels) in
     subst (λ n. items_in c.meet.new.children.items ≡ spliced n 0 c.args.child.tree.0 (items_in cs))
     (sym c.if-place-eq0.true)
-    (c.meet.ensures.items ∙ ap (λ xs. items_in (set xs 1 (record d { label = c.in-Ok.label }))) put
+    (c.meet.ensures.same.items ∙ ap (λ xs. items_in (set xs 1 (record d { label = c.in-Ok.label }))) put
     ∙ ap (λ es. c.args.child.tree.0 ++ es) labelled.same.items)
 
 pub returns-then-place-eq0-clause-height : goal.returns-then-place-eq0-clause-height
@@ -38,7 +38,7 @@ returns-then-place-eq0-clause-height g c =
     let are = c.requires.children in
     let d = c.index_mut.result.now in
     let put = c.in_default-insert.ensures.items in
-    c.meet.ensures.height ∙ ap (λ xs. height_in (set xs 1 (record d { label = c.in-Ok.label }))) put
+    c.meet.ensures.same.height ∙ ap (λ xs. height_in (set xs 1 (record d { label = c.in-Ok.label }))) put
     ∙ (more_before cs c.args.child are c.requires.child c.requires.room _
     (labelled_by_first cs d c.index.result.now c.item.result.now c.in-Ok.label are
     (c.index_mut.ensures.value ∙ ap (λ xs. get_or xs 1 d) put) c.index.ensures c.item.ensures
@@ -59,11 +59,11 @@ returns-clause-items g c =
       | inr last ↦ last
     ] in
     subst (λ n. items_in c.meet-2.new.children.items ≡ spliced n 0 child.tree.0 (items_in cs)) (sym last)
-    (c.meet-2.ensures.items ∙ ap (λ cs. items_in cs) c.in_default-push.ensures.items ∙ items_append cs (child ∷ [])
+    (c.meet-2.ensures.same.items ∙ ap (λ cs. items_in cs) c.in_default-push.ensures.items ∙ items_append cs (child ∷ [])
     ∙ ap (λ es. items_in cs ++ es) (append-nil child.tree.0) ∙ sym (splice_end (items_in cs) child.tree.0))
 
 pub returns-clause-height : goal.returns-clause-height
 returns-clause-height g c =
-    c.meet-2.ensures.height ∙ ap (λ cs. height_in cs) c.in_default-push.ensures.items
+    c.meet-2.ensures.same.height ∙ ap (λ cs. height_in cs) c.in_default-push.ensures.items
     ∙ (more_behind c.args.children.now.items c.args.child c.requires.children c.requires.child c.requires.room
     c.requires.label).height

@@ -1,4 +1,4 @@
-use Rattle.std.proofs.Common.{◌+◌, ◌∙◌, ap, set, subst, sym}
+use Rattle.std.proofs.Common.{◌+◌, ◌∙◌, ap, set, subst, sym, take}
 use Rattle.std.specs.List.{insert}
 use Rattle.sequence.specs.Nodes.{StandFor}
 use Rattle.sequence.proofs.Shapes.Joined.{IsJoined, back, joined_is, pair_are, taken}
@@ -28,10 +28,10 @@ returns-in_default g c =
     let done = subst (λ xs. IsJoined cs at d e are within two.first two.second new one.child one.joined one.label
     (set xs at new))
     (sym two.left) (joined_is cs at d e are within two.first two.second new one.child one.joined one.label) in
-    record { same = done.same; first = done.first; second = done.second; spare = done.spare }
+    record { same = done.same; before = done.front; first = done.first; second = done.second; spare = done.spare }
 
-pub returns-clause-same : goal.returns-clause-same
-returns-clause-same g c =
+pub returns : goal.returns
+returns g c =
     let cs = c.args.children.now.items in
     let at = c.args.at in
     let d = c.index_mut.result.now in
@@ -42,4 +42,10 @@ returns-clause-same g c =
     ∙ ap (λ xs. insert (set xs at c.take_over.new.self) (at + 1) c.in-Err.next) two.left
     ∙ back cs at d e c.take_over.new.self c.in-Err.next c.requires.within (c.in-Err.ensures.same ∙ two.first)
     (c.in-Err.ensures.refused ∙ two.second) in
-    subst (StandFor g.L.Label.label_of cs) (sym same) (stand_itself cs c.requires.children)
+    record {
+      same = subst (StandFor g.L.Label.label_of cs) (sym same) (stand_itself cs c.requires.children);
+      before = ap (λ xs. take at xs) same;
+      first = tt;
+      second = tt;
+      spare = tt;
+    }

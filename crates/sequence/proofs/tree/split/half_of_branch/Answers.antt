@@ -10,7 +10,7 @@ use Rattle.sequence.proofs.tree.split.half_of_branch.Goals.{In_ok-tail}
 tail_are : (g : given.Over) (c : In_ok-tail g) → AreChildren g.L.Label.label_of c.in_ok-tail.tail.items
 tail_are g c =
     subst (AreChildren g.L.Label.label_of) (sym c.in_ok-tail.ensures.tail)
-    (children_drop c.args.children.now.items c.args.keep c.requires.children (omega (arith, c.requires.high)))
+    (children_drop c.args.children.now.items c.args.keep c.requires.children c.requires.within)
 
 pub count-requires : goal.count-requires
 count-requires g c =
@@ -36,9 +36,11 @@ returns g c =
     record { label = c.in_ok-label.label; len = c.count.result; tree = seen c.shareable.result } in
     record {
       children = subst (AreChildren g.L.Label.label_of) (sym c.in_ok-tail.ensures.items)
-          (children_take cs n c.requires.children (omega (arith, c.requires.low)) (omega (arith, c.requires.high)));
+          (children_take cs n c.requires.children c.requires.some (omega (arith, c.requires.within)));
       halves = subst (λ xs. AreHalves g.L.Label.label_of (items_in cs, height_in cs) (items_in xs, height_in xs) right)
           (sym c.in_ok-tail.ensures.items)
-          (branches_are cs n c.index.result.now right c.requires.children c.requires.low c.requires.high len is label);
+          (branches_are cs n c.requires.children c.requires.some c.requires.within c.index.result.now right
+          c.requires.sides len is label);
+      kept = c.in_ok-tail.ensures.items;
       refused = tt;
     }

@@ -1,4 +1,4 @@
-use Rattle.std.proofs.Common.{◌≡◌, ◌∙◌, ap, arith, drop, length, subst, sym}
+use Rattle.std.proofs.Common.{◌≡◌, ◌∙◌, ap, arith, drop, length, length-take, subst, sym}
 use Rattle.sequence.specs.declared.tree.Child.{Child}
 use Rattle.sequence.specs.Nodes.{AreHalves, IsList, seen}
 use Rattle.sequence.proofs.Shapes.Halves.{leaves_are, list_drop, list_take}
@@ -9,7 +9,7 @@ invariant_of-result g c =
     let es = c.args.items.now.items in
     let n = c.args.keep in
     rw c.shareable.ensures (rw c.write.ensures (subst IsList (sym c.in_ok-tail.ensures.tail)
-    (list_drop es n c.requires.list (omega (arith, c.requires.high)))))
+    (list_drop es n c.requires.list c.requires.within)))
 
 pub returns : goal.returns
 returns g c =
@@ -23,8 +23,9 @@ returns g c =
     record { label = c.in_ok-label.label; len = c.len.result; tree = seen c.shareable.result } in
     record {
       list = subst IsList (sym c.in_ok-tail.ensures.items)
-          (list_take es n c.requires.list (omega (arith, c.requires.low)) (omega (arith, c.requires.high)));
+          (list_take es n c.requires.list c.requires.some (omega (arith, c.requires.within)));
       halves = subst (λ xs. AreHalves g.L.Label.label_of (es, 0) (xs, 0) right) (sym c.in_ok-tail.ensures.items)
-          (leaves_are es n c.index.result.now right c.requires.low c.requires.high len is label);
+          (leaves_are es n c.index.result.now right c.requires.some c.requires.within len is label);
+      kept = omega (arith, ap (λ xs. length xs) c.in_ok-tail.ensures.items, length-take n es, c.requires.within);
       refused = tt;
     }

@@ -20,6 +20,7 @@ returns g c =
     (omega (arith, ap (λ cs. length cs) room, c.requires.within)) in
     let done = split_is cs spot.child d l r c.requires.children c.requires.within is child
     c.in_ok-right.ensures.halves c.in_ok-right.ensures.label spot.place c.index-3.result.now.len
+    c.in_ok-right.ensures.spare
     (ap (λ child. child.len) left ∙ child.counted) in
     let items : c.insert.new.self.items ≡ insert (set cs spot.child l) (spot.child + 1) r =
     c.in-Ok.ensures.items ∙ ap (λ xs. insert (set xs spot.child l) (spot.child + 1) r) room in

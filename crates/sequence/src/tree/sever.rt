@@ -1,0 +1,108 @@
+//! How a tree becomes two at a place: in place, but for the nodes that others share, which are copied.
+ghost use Rattle.std.specs.Prelude.{◌≡◌, ◌+◌, ◌<◌, ◌≤◌, ◌^◌, IfOk, OnErr, OnOk, length, take};
+ghost use Rattle.handles.specs.Copies.{CopiesAreEqual};
+ghost use Rattle.sequence.specs.Nodes.{AreChildren, AreHalves, StandFor, height_in, items_in};
+
+use crate::label::NewLabel;
+use crate::tree::insert::meet;
+use crate::tree::search::{Spot, spot_of};
+use crate::tree::split::{half_of_branch, half_of_leaf};
+use crate::tree::{Child, Node, Tree};
+use handles::arc::Arc;
+use std::alloc::{AllocError, Global};
+
+impl<T: Clone, L: NewLabel<T>> Tree<T, L> {
+    // Takes the items from that place on out, into a child. `least` is how many items a child of this height has at
+    // least. A refusal leaves the items, but maybe in more nodes.
+    #[cycle(sever)]
+    pub(crate) fn sever(
+        &mut self,
+        alloc: Global,
+        place: usize,
+        least: usize,
+    ) -> Result<Child<T, L>, AllocError>
+        requires copies { CopiesAreEqual T.is_clone }
+        requires labels { CopiesAreEqual L.is_clone }
+        requires least { least ≡ 2 ^ self.old.1 }
+        requires front { least ≤ place }
+        requires back { place + least ≤ length self.old.0 }
+        ensures halves { IfOk result (AreHalves L.label_of self.old self.new) }
+        ensures kept { OnOk result (length self.new.0 ≡ place) }
+        ensures refused { OnErr result (self.new ≡ self.old) }
+    {
+        let node = Arc::make_mut(&mut self.root, alloc)?;
+        match node {
+            Node::Leaf(items) => half_of_leaf(items, alloc, place),
+            Node::Branch(children) => sever_under(children, alloc, place, least),
+        }
+    }
+}
+
+// The same under a branch. Small children that then stand beside the cut are joined with their neighbours.
+#[cycle(sever)]
+fn sever_under<T: Clone, L: NewLabel<T>>(
+    children: &mut Vec<Child<T, L>>,
+    alloc: Global,
+    place: usize,
+    least: usize,
+) -> Result<Child<T, L>, AllocError>
+    requires copies { CopiesAreEqual T.is_clone }
+    requires labels { CopiesAreEqual L.is_clone }
+    requires children { AreChildren L.label_of children.old.items }
+    requires least { least ≡ 2 ^ height_in children.old.items }
+    requires front { least ≤ place }
+    requires back { place + least ≤ length (items_in children.old.items) }
+    ensures children { AreChildren L.label_of children.new.items }
+    ensures halves { IfOk result (AreHalves L.label_of (items_in children.old.items, height_in children.old.items)
+        (items_in children.new.items, height_in children.new.items)) }
+    ensures kept { OnOk result (length (items_in children.new.items) ≡ place) }
+    ensures refused { OnErr result (StandFor L.label_of children.old.items children.new.items) }
+{
+    let at = edge_at(children, alloc, place, least)?;
+    if at + 1 < children.len() {
+        meet(children, at, alloc);
+    }
+    let right = half_of_branch(children, alloc, at)?;
+    if at > 1 {
+        meet(children, at - 2, alloc);
+    }
+    Ok(right)
+}
+
+// The number of the first child behind the place, once the child around it is two.
+#[cycle(sever)]
+fn edge_at<T: Clone, L: NewLabel<T>>(
+    children: &mut Vec<Child<T, L>>,
+    alloc: Global,
+    place: usize,
+    least: usize,
+) -> Result<usize, AllocError>
+    requires copies { CopiesAreEqual T.is_clone }
+    requires labels { CopiesAreEqual L.is_clone }
+    requires children { AreChildren L.label_of children.old.items }
+    requires least { least ≡ 2 ^ height_in children.old.items }
+    requires some { 0 < place }
+    requires within { place < length (items_in children.old.items) }
+    ensures same { StandFor L.label_of children.old.items children.new.items }
+    ensures edge { IfOk result (λ at. place ≡ length (items_in (take at children.new.items))) }
+    ensures inside { IfOk result (λ at. (0 < at) × (at < length children.new.items)) }
+{
+    // The item behind the place is in that child, the last of so many there.
+    let Spot { child, place: up } = spot_of(children, place + 1);
+    let place = up - 1;
+    if place == 0 {
+        return Ok(child);
+    }
+    // A part of the child may have too few items for its height.
+    if place < least / 2 || children[child].len - place < least / 2 {
+        return Err(AllocError);
+    }
+    children.reserve(1)?;
+    let left = &mut children[child];
+    let right = left.tree.sever(alloc, place, least / 2)?;
+    left.len = place;
+    let Ok(()) = children.insert(child + 1, right) else {
+        unreachable!()
+    };
+    Ok(child + 1)
+}

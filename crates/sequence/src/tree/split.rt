@@ -210,7 +210,7 @@ pub(crate) fn half_of_leaf<T: Drop, L: NewLabel<T>>(
 {
     let label = L::new(&items[keep])?;
     let block = UniqueArc::new_uninit(alloc)?;
-    let tail = items.split_off(keep)?;
+    let tail = with_room(items.split_off(keep)?);
     Ok(Child {
         label,
         len: tail.len(),
@@ -218,6 +218,17 @@ pub(crate) fn half_of_leaf<T: Drop, L: NewLabel<T>>(
             root: block.write(Node::Leaf(tail)).shareable(),
         },
     })
+}
+
+// These items with room for a leaf of them, if they are so few that the list may grow there.
+fn with_room<T>(mut items: Vec<T>) -> Vec<T>
+    ensures { result.items ≡ items.items }
+{
+    if items.len() <= FEW {
+        // A push asks again if this is refused.
+        let _ = items.reserve_exact(leaf_width(&items) - FEW);
+    }
+    items
 }
 
 // The same of a branch, of which each part has enough items.

@@ -1,7 +1,6 @@
 -- The item goes out of the child at that end.
 use Rattle.std.proofs.Common.{◌≡◌, ◌+◌, ◌-◌, ◌<◌, ◌∙◌, ℕ, [], ap, arith, length, rules, set, subst, sym}
 use Rattle.std.specs.Prelude.{IfOk, IsOk, OnErr, OnOk, Some, slice_get}
-use Rattle.std.proofs.lemmas.Nat.{pow_pos}
 use Rattle.sequence.specs.Nodes.{CanLose}
 use Rattle.sequence.specs.Spots.{place_at}
 use Rattle.sequence.proofs.Cutting.Acted.{not_thin}

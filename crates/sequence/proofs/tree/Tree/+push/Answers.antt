@@ -1,5 +1,5 @@
 -- The item goes in behind those of the last child.
-use Rattle.std.proofs.Common.{◌≡◌, ◌+◌, ◌-◌, ◌<◌, ℕ, [], ◌∷◌, ap, arith, length, rules, set, subst, sym}
+use Rattle.std.proofs.Common.{◌≡◌, ◌+◌, ◌-◌, ◌<◌, ℕ, [], ◌∷◌, arith, length, rules, set}
 use Rattle.std.specs.Prelude.{IsOk, OnErr, OnOk}
 use Rattle.std.proofs.lemmas.Nat.{pow_pos}
 use Rattle.sequence.proofs.Nodes.Copied.{made}

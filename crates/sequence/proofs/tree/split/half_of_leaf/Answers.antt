@@ -8,7 +8,8 @@ pub invariant_of-result : goal.invariant_of-result
 invariant_of-result g c =
     let es = c.args.items.now.items in
     let n = c.args.keep in
-    rw c.shareable.ensures (rw c.write.ensures (subst IsList (sym (c.with_room-tail.ensures ∙ c.in_ok-split_off.ensures.tail))
+    let tail = c.with_room-tail.ensures ∙ c.in_ok-split_off.ensures.tail in
+    rw c.shareable.ensures (rw c.write.ensures (subst IsList (sym tail)
     (list_drop es n c.requires.list c.requires.within)))
 
 pub returns : goal.returns

@@ -16,7 +16,7 @@ import sys
 
 WORKLOADS = {"maps": ["map-rising", "map-mixed"], "sequences": ["sequence"]}
 CALLS = {"maps": ["insert", "get", "step", "modify", "clone", "version", "remove", "pop_first", "pop_last", "drop"],
-         "sequences": ["push", "get", "step", "version", "insert", "remove", "split_off", "append", "drop"]}
+         "sequences": ["push", "get", "step", "version", "insert", "remove", "split_off", "append", "pop", "drop"]}
 SIZES = [1_000, 100_000, 1_000_000]
 ITEMS = 1_000_000  # that are put in, at least, as in collections.rs
 VERSIONS = 100_000
@@ -35,8 +35,9 @@ def counts(kind, items):
     """How often a run makes each call."""
     if kind == "sequences":
         made = max(ITEMS // items, 2)
-        return dict.fromkeys(CALLS[kind], CHANGES) | {"get": ITEMS, "step": ITEMS, "version": VERSIONS,
-                                                      "push": made * items, "drop": made * items}
+        half = made // 2 * items
+        return dict.fromkeys(CALLS[kind], CHANGES) | {"get": ITEMS, "step": ITEMS, "version": VERSIONS, "pop": half,
+                                                      "push": made * items, "drop": made * items - half}
     made = max(ITEMS // items, MAPS)
     part = made // MAPS * items
     return dict.fromkeys(CALLS[kind], part) | dict.fromkeys(["get", "step", "modify", "clone"], ITEMS) | {

@@ -14,6 +14,7 @@ pub trait List: Clone + Default {
     }
 
     fn push(&mut self, item: u64);
+    fn pop(&mut self) -> Option<u64>;
     fn get(&self, at: usize) -> Option<u64>;
     fn set(&mut self, at: usize, item: u64);
     fn insert(&mut self, at: usize, item: u64);
@@ -30,6 +31,10 @@ impl List for Vec<u64> {
 
     fn push(&mut self, item: u64) {
         self.push(item);
+    }
+
+    fn pop(&mut self) -> Option<u64> {
+        self.pop()
     }
 
     fn get(&self, at: usize) -> Option<u64> {
@@ -65,6 +70,10 @@ impl List for Vec<u64> {
 impl List for im_rc::Vector<u64> {
     fn push(&mut self, item: u64) {
         self.push_back(item);
+    }
+
+    fn pop(&mut self) -> Option<u64> {
+        self.pop_back()
     }
 
     fn get(&self, at: usize) -> Option<u64> {
@@ -161,6 +170,17 @@ fn cut<L: List>(list: &mut L, places: &[u64]) {
     println!("append {}", append.as_nanos());
 }
 
+/// Takes an item out of each of the lists as often as there are places.
+fn pop<L: List>(lists: Vec<L>, places: &[u64]) -> u64 {
+    let mut sum = 0u64;
+    for mut list in lists {
+        for _ in places {
+            sum = sum.wrapping_add(list.pop().unwrap_or(0));
+        }
+    }
+    sum
+}
+
 /// All calls on lists of as many items, one after another, at these places.
 pub fn measure<L: List>(places: &[u64]) -> u64 {
     let rounds = ITEMS / places.len();
@@ -172,6 +192,9 @@ pub fn measure<L: List>(places: &[u64]) -> u64 {
     timed("insert", || insert(list, places));
     sum = sum.wrapping_add(timed("remove", || remove(list, places)));
     cut(list, places);
+    let others = lists.split_off(lists.len() / 2);
+    let popped = std::mem::replace(&mut lists, others);
+    sum = sum.wrapping_add(timed("pop", || pop(popped, places)));
     timed("drop", || drop(lists));
     sum
 }

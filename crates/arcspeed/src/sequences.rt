@@ -5,6 +5,7 @@ use crate::random::shuffle;
 use sequence::Sequence;
 use std::alloc::Global;
 use std::io::Print;
+use std::mem;
 use std::time::{Clock, Instant};
 
 /// So many items are put in and read, whatever the number of items of a list.
@@ -17,8 +18,8 @@ const CHANGES: usize = 1_000;
 
 type List = Sequence<u64>;
 
-const CALLS: [&str; 8] = [
-    "push", "get", "step", "version", "insert", "remove", "cut", "drop",
+const CALLS: [&str; 9] = [
+    "push", "get", "step", "version", "insert", "remove", "cut", "pop", "drop",
 ];
 
 /// All calls on lists of that many items, one after another, at places in mixed order. It prints the nanoseconds that
@@ -56,12 +57,19 @@ fn called<R: Clock + Print>(
         "insert" => insert(list, alloc, places),
         "remove" => remove(list, alloc, places),
         "cut" => cut(rt, list, alloc, places),
+        "pop" => pop(&mut half_of(lists)?, alloc, places),
         _ => {
             // The vector ends too, as in the twin: only then does the allocator give memory back.
             *lists = Vec::new(alloc);
             Some(0)
         }
     }
+}
+
+/// The first half of the lists. The others stay.
+fn half_of(lists: &mut Vec<List>) -> Option<Vec<List>> {
+    let rest = lists.split_off(lists.len() / 2).ok()?;
+    Some(mem::replace(lists, rest))
 }
 
 #[inline(never)]
@@ -158,4 +166,16 @@ fn cut<R: Clock + Print>(rt: &R, list: &mut List, alloc: Global, places: &[u64])
     println!(rt; "split_off {split}").ok()?;
     println!(rt; "append {append}").ok()?;
     Some(0)
+}
+
+/// Takes an item out of each of the lists as often as there are places.
+#[inline(never)]
+fn pop(lists: &mut [List], alloc: Global, places: &[u64]) -> Option<u64> {
+    let mut sum = 0u64;
+    for list in lists {
+        for _ in places {
+            sum = sum.wrapping_add(list.pop(alloc).ok()?.unwrap_or(0));
+        }
+    }
+    Some(sum)
 }

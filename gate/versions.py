@@ -117,21 +117,22 @@ def check_copies(library, kind):
 # For each collection the scripts that make two versions of it, and calls on each of them beside the other one.
 CHANGES = {
     "sequence": (
-        # Of two leaves, of 32 items and of 64. The second becomes two if an item goes in.
-        ["fill 64", *(f"push {item}" for item in range(64, 96))],
+        # Of two leaves, of 16 items and of 64. The first is joined with the second if it loses an item, and the second
+        # becomes two if one goes in.
+        ["fill 64", *(f"push {item}" for item in range(64, 96)), *["pop_front"] * 16],
         # Of two leaves, of 32 items and of 16. The second is joined with the first one if it loses an item.
         ["fill 64", *["pop"] * 16],
         ["insert 0 9", "insert 40 9", "insert 99 9", "push 9", "push_front 9", "set 40 9", "add 40 9", "remove 40",
-         "remove 99", "pop", "pop_front", "split 40", "split 99", "append", "replace 20 40", "replace 40 99",
-         "truncate 40", "truncate 99", "retain 40", "extend 100", "exchange 3 40", "exchange 3 99"]),
+         "remove 99", "pop", "pop_front", "split 1", "split 40", "split 99", "append", "replace 20 40", "replace 40 99",
+         "truncate 1", "truncate 40", "truncate 99", "retain 40", "extend 100", "exchange 3 40", "exchange 3 99"]),
     "map": (
         # Of one leaf, which is full.
         [f"insert {2 * half} {half}" for half in range(64)],
         # Of two leaves, of 44 entries and of 5. The second is joined with the first one if it loses an entry.
         [*(f"insert {2 * half} {100 + half}" for half in range(65)), *(f"remove {2 * half}" for half in range(16))],
         ["insert 1 9", "insert 63 9", "insert 127 9", "remove 32", "remove 62", "remove 64", "remove 128", "add 32 9",
-         "add 128 9", "alter 32 9", "alter 33 9", "split 64", "pop_first", "pop_last", "retain 64", "append", "union",
-         "both", "rest", "changes"]),
+         "add 128 9", "alter 32 9", "alter 33 9", "split 33", "split 64", "pop_first", "pop_last", "retain 64",
+         "append", "union", "both", "rest", "changes"]),
 }
 SCRIPTS = {
     "tree": ["insert 1 0", "insert 2 1", "set 9 1", "put 1", "insert 3 2 1", "remove 0", "add 5 0 1", "add 5 0 3",

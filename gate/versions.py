@@ -100,12 +100,13 @@ def copies_of(library, lines):
 
 
 def check_copies(library, kind):
-    """A lone version copies nothing. Another one copies a leaf of 64 items for a change, and each leaf once in all."""
+    """A lone version copies nothing. Another one copies a leaf of 64 items for a change, and each leaf once in all. A
+    cut may join each part of its leaf with a neighbour of up to 32 items, which it copies too."""
     spread = [place * 618_033 % 100_000 for place in range(100_000)]
     places = [2 * key if kind == "map" else key % (at + 1) for at, key in enumerate(spread)]
     made = [kind, *(f"insert {place} 7" for place in places)]
     removed = ["tally", *(f"remove {place}" for place in reversed(places)), "tally"]
-    changes = {"insert": 64} if kind == "map" else {"insert": 64, "split": 192, "truncate": 192}
+    changes = {"insert": 64} if kind == "map" else {"insert": 64, "split": 128, "truncate": 128}
     changed = [line for at in range(0, 100_000, 999) for change in changes
                for line in ("back 0", "tally", f"{change} {at}", "tally")]
     found = copies_of(library, [*made, *removed]) + copies_of(library, [*made, "keep", *changed, "back 0", *removed])

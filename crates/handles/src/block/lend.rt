@@ -68,9 +68,8 @@ impl<T> Handle<T> {
         self.move_to_copy(alloc)
     }
 
-    // Gets a block of its own. The value is copied before anything else changes. A call, so that what comes before it
-    // is short enough to stand where it is asked.
-    #[inline(never)]
+    // Gets a block of its own. The value is copied before anything else changes. A function of its own, so that what
+    // comes before it is short enough to stand where it is asked.
     fn move_to_copy(&mut self, alloc: Global) -> Result<(), AllocError>
     where
         T: Clone + Drop,

@@ -1,7 +1,10 @@
 -- A branch after items went in place of others in a child of it, and the place of an end of it.
-use Rattle.std.proofs.Common.{◌≡◌, ◌+◌, ◌<◌, ◌≤◌, ◌^◌, ℕ, List, length, take, drop, get_or, set}
-use Rattle.std.proofs.Common.{ap, refl, sym, ◌∙◌, subst, arith}
-use Rattle.std.specs.Prelude.{Result, Ok, Err, OnErr, OnOk}
+use Rattle.std.proofs.Common.{◌≡◌, ◌+◌, ◌-◌, ◌<◌, ◌≤◌, ◌^◌, ℕ, suc, List, [], ◌∷◌, ◌++◌, length, take, drop}
+use Rattle.std.proofs.Common.{get_or, set, inl, inr}
+use Rattle.std.proofs.Common.{add-one, ap, append-nil, refl, sym, ◌∙◌, subst, arith}
+use Rattle.std.specs.List.{remove}
+use Rattle.std.specs.Prelude.{Result, Ok, Err, IfOk, OnErr, OnOk, Some, slice_get}
+use Rattle.std.proofs.lemmas.Bool.{cases_lt}
 use Rattle.std.proofs.Math.Seq.{drop-length}
 use Rattle.std.proofs.lemmas.Nat.{pow_pos}
 use Rattle.sequence.specs.declared.tree.Child.{Child}
@@ -9,10 +12,12 @@ use Rattle.sequence.specs.declared.tree.ends.End.{End}
 use Rattle.sequence.specs.declared.tree.ends.End.TheVariants.{First, Last}
 use Rattle.sequence.specs.Nodes.{AreChildren, CanLose, IsChild, height_in, items_in}
 use Rattle.sequence.specs.Spots.{place_at, spliced}
-use Rattle.sequence.proofs.Lists.Spliced.{length-spliced}
-use Rattle.sequence.proofs.Nodes.Children.{length-more, length-parts}
+use Rattle.sequence.proofs.Lists.Spliced.{length-spliced, splice_between}
+use Rattle.sequence.proofs.Nodes.Changed.{item_under}
+use Rattle.sequence.proofs.Nodes.Children.{items_append, items_only, items_split, length-more, length-parts}
 use Rattle.sequence.proofs.Nodes.Labelled.{labelled_at, labelled_put}
 use Rattle.sequence.proofs.Nodes.Placed.{child_here, put_under, stand_itself}
+use Rattle.sequence.proofs.Shapes.Halves.{children_drop, children_take, height_drop, height_take}
 
 -- the children after the call, whose answer is r
 pub record IsEnded {T L A E : Type 0} (label_of : T → L) (tree : List T × ℕ) (at gone : ℕ) (more : List T)
@@ -103,3 +108,89 @@ module _ {T L : Type 0} {label_of : T → L} (tree : List T × ℕ) (cs : List (
 pub end_within : (end : End) (n : ℕ) → 0 < n → place_at end n < n
 end_within First n some = some
 end_within Last n some = omega (arith, some)
+
+-- the only item is at both ends
+only_place : (end : End) → place_at end 1 ≡ 0
+only_place First = refl
+only_place Last = refl
+
+module _ {T L : Type 0} {label_of : T → L} (tree : List T × ℕ) (cs : List (Child T L)) (i : ℕ) (d : Child T L)
+    (are : AreChildren label_of cs) (same : ◌≡◌ {A = List T × ℕ} (items_in cs, height_in cs) tree) (h : i < length cs)
+    (is : d ≡ get_or cs i d) where
+  -- an item of one child is not all items, if there is another
+  more_children : length d.tree.0 ≡ 1 → 1 < length tree.0 → 1 < length cs
+  more_children one more = elim (cases_lt 1 (length cs)) [
+    | inl many ↦ many
+    | inr few ↦
+        let first : i ≡ 0 = omega (arith, h, few) in
+        let all = items_only cs d (subst (λ (n : ℕ). d ≡ get_or cs n d) first is) (omega (arith, h, few)) in
+        absurd (omega (
+          arith,
+          one,
+          more,
+          ap (length {A = T}) all,
+          ap (λ (t : List T × ℕ). length t.0) same,
+        ))
+  ]
+
+  -- the children without the one at an end
+  without_end : (end : End) → i ≡ place_at end (length cs) → 1 < length cs
+      → AreChildren label_of (remove cs i) × (height_in (remove cs i) ≡ height_in cs)
+  without_end First first two =
+      subst (λ (n : ℕ). AreChildren label_of (remove cs n) × (height_in (remove cs n) ≡ height_in cs)) (sym first)
+      (children_drop cs 1 are two, height_drop cs 1 are two)
+  without_end Last last two =
+      let n = length cs - 1 in
+      let all : suc n ≡ length cs = omega (arith, h) in
+      let front : remove cs i ≡ take n cs =
+      ap (remove cs) last
+      ∙ ap (λ (m : ℕ). take n cs ++ drop m cs) all
+      ∙ ap (λ (ds : List (Child T L)). take n cs ++ ds) (drop-length cs)
+      ∙ append-nil (take n cs) in
+      subst (λ (ds : List (Child T L)). AreChildren label_of ds × (height_in ds ≡ height_in cs)) (sym front)
+      (children_take cs n are (omega (arith, two)) (omega arith), height_take cs n are (omega (arith, two)) (omega arith))
+
+  -- the node without the child at an end that has one item, unless the call was refused
+  pub leaf_gone : (end : End) → i ≡ place_at end (length cs) → 1 < length tree.0 → {E : Type 0}
+      (new : List (Child T L)) (r : Result T E)
+      → IfOk r (λ item. (d : Child T L) → (get_or cs i d).tree.0 ≡ item ∷ [])
+      → OnOk r (new ≡ remove cs i) → OnErr r (new ≡ cs)
+      → IfOk r (λ item. slice_get tree.0 (place_at end (length tree.0)) ≡ Some item)
+      × IsEnded label_of tree (place_at end (length tree.0)) 1 [] new r
+  leaf_gone end first more new (Ok item) only gone kept =
+      let at = place_at end (length tree.0) in
+      let l = items_in (take i cs) in
+      let r = items_in (drop (i + 1) cs) in
+      let its = ap (λ (c : Child T L). c.tree.0) is ∙ only d in
+      let one : length d.tree.0 ≡ 1 = ap (length {A = T}) its in
+      let place : at ≡ length l + 0 =
+      place_end tree cs i d are same h is end first (omega (arith, one))
+      ∙ ap (λ (n : ℕ). length l + n) (ap (place_at end) one ∙ only_place end) in
+      let found = item_under tree cs i d are same h is at 0 place (omega (arith, one))
+      ∙ ap (λ (es : List T). slice_get es 0) its in
+      let items : items_in (remove cs i) ≡ spliced at 1 [] tree.0 =
+      items_append (take i cs) (drop (suc i) cs)
+      ∙ ap (λ (n : ℕ). l ++ items_in (drop n cs)) (sym (add-one i))
+      ∙ sym (splice_between l (item ∷ []) r at 0 1 [] place (omega arith))
+      ∙ ap (λ (es : List T). spliced at 1 [] (l ++ (es ++ r))) (sym (only d))
+      ∙ ap (spliced at 1 []) (sym (items_split cs i d h))
+      ∙ ap (λ (t : List T × ℕ). spliced at 1 [] t.0) same in
+      let without = without_end end first (more_children one more) in (
+        found,
+        record {
+          whole = subst (AreChildren label_of) (sym gone) without.0;
+          items = ap (λ (ds : List (Child T L)). items_in ds) gone ∙ items;
+          height = ap (λ (ds : List (Child T L)). height_in ds) gone ∙ without.1
+              ∙ ap (λ (t : List T × ℕ). t.1) same;
+          refused = tt;
+        },
+      )
+  leaf_gone end first more new (Err e) only gone kept = (
+    tt,
+    record {
+      whole = subst (AreChildren label_of) (sym kept) are;
+      items = tt;
+      height = ap (λ (ds : List (Child T L)). height_in ds) kept ∙ ap (λ (t : List T × ℕ). t.1) same;
+      refused = ap (λ (ds : List (Child T L)). items_in ds) kept ∙ ap (λ (t : List T × ℕ). t.0) same;
+    },
+  )

@@ -72,13 +72,13 @@ module _ {T L : Type 0} {label_of : T → L} where
         (behind_drop (IsLabelled label_of) n cs are.labels)
 
     -- the front is as high
-    height_take : 0 < n → n ≤ length cs → height_in (take n cs) ≡ height_in cs
+    pub height_take : 0 < n → n ≤ length cs → height_in (take n cs) ≡ height_in cs
     height_take p h =
         height_is (height_in cs) (take n cs) (All-take (IsChild (height_in cs)) n cs are.each)
         (omega (arith, p, h, length-take n cs))
 
     -- and so is the back
-    height_drop : n < length cs → height_in (drop n cs) ≡ height_in cs
+    pub height_drop : n < length cs → height_in (drop n cs) ≡ height_in cs
     height_drop h =
         height_is (height_in cs) (drop n cs) (All-drop (IsChild (height_in cs)) n cs are.each)
         (omega (arith, h, length-drop n cs))

@@ -1,12 +1,14 @@
 //! What goes in behind all items of a tree and out at its two ends, by one way down along nodes that keep their form.
-ghost use Rattle.std.specs.Prelude.{◌≡◌, ◌+◌, ◌<◌, ◌^◌, ◌++◌, ◌∷◌, [], IfErr, IfOk, OnErr, OnOk, Some, length};
-ghost use Rattle.std.specs.Prelude.{slice_get};
+ghost use Rattle.std.specs.Prelude.{◌≡◌, ◌+◌, ◌<◌, ◌^◌, ◌++◌, ◌∷◌, ◌⊎◌, [], IfErr, IfOk, IsTrue, OnErr, OnOk, Some};
+ghost use Rattle.std.specs.Prelude.{length, slice_get, slice_index_or};
+ghost use Rattle.std.specs.List.{All, remove};
 ghost use Rattle.handles.specs.Copies.{CopiesAreEqual};
+ghost use Rattle.sequence.specs.Nodes.{CanLose, IsChild, height_in};
 ghost use Rattle.sequence.specs.Spots.{place_at, spliced};
 
 use crate::label::Label;
-use crate::tree::copies::leaf_width;
-use crate::tree::{Node, Tree};
+use crate::tree::copies::{BRANCH, leaf_width};
+use crate::tree::{Child, Node, Tree};
 use handles::arc::Arc;
 use std::alloc::{AllocError, Global};
 
@@ -42,8 +44,8 @@ impl<T: Clone, L: Label<T> + Clone> Tree<T, L> {
         pushed
     }
 
-    // Takes the item at that end out, which is not the only one. It is refused if there is no memory, or if a node on
-    // the way has so few items that it is joined with its neighbour first.
+    // Takes the item at that end out, which is not the only one. It is refused if there is no memory, or if a branch on
+    // the way has so few children that it is joined with its neighbour first.
     pub(crate) fn pop(&mut self, alloc: Global, end: End) -> Result<T, AllocError>
         requires copies { CopiesAreEqual T.is_clone }
         requires labels { CopiesAreEqual L.is_clone }
@@ -61,7 +63,10 @@ impl<T: Clone, L: Label<T> + Clone> Tree<T, L> {
             Node::Branch(children) => children,
         };
         let at = end.place(children.len());
-        if children[at].tree.is_thin() {
+        if children[at].len == 1 {
+            return pop_leaf(children, alloc, at);
+        }
+        if children[at].tree.is_thin_branch() {
             return Err(AllocError);
         }
         let child = &mut children[at];
@@ -69,6 +74,46 @@ impl<T: Clone, L: Label<T> + Clone> Tree<T, L> {
         child.len -= usize::from(popped.is_ok());
         popped
     }
+
+    // Whether the first node is a branch with so few children that it is joined with its neighbour before it loses one.
+    #[inline(always)]
+    fn is_thin_branch(&self) -> bool
+        ensures { IsTrue result ⊎ (1 < length self.now.0 → CanLose self.now) }
+    {
+        match self.node() {
+            Node::Leaf(_) => false,
+            Node::Branch(children) => children.len() <= BRANCH / 4,
+        }
+    }
+}
+
+// Takes the leaf of that number out, and its only item out of it.
+fn pop_leaf<T: Clone, L: Label<T> + Clone>(
+    children: &mut Vec<Child<T, L>>,
+    alloc: Global,
+    at: usize,
+) -> Result<T, AllocError>
+    requires copies { CopiesAreEqual T.is_clone }
+    requires labels { CopiesAreEqual L.is_clone }
+    requires within { at < length children.old.items }
+    requires child { All (IsChild (height_in children.old.items)) children.old.items }
+    requires one { (d : Child T L) → length (slice_index_or children.old.items at d).tree.0 ≡ 1 }
+    ensures item { IfOk result (λ item. (d : Child T L)
+        → (slice_index_or children.old.items at d).tree.0 ≡ item ∷ []) }
+    ensures gone { OnOk result (children.new.items ≡ remove children.old.items at) }
+    ensures refused { OnErr result (children.new.items ≡ children.old.items) }
+{
+    // For the proof: its clause says that there is room for the leaf, if it has to go back.
+    children.reserve(0)?;
+    let Child { label, len, tree } = children.remove(at);
+    let tree = match tree.into_only(alloc) {
+        Ok(item) => return Ok(item),
+        Err(tree) => tree,
+    };
+    let Ok(()) = children.insert(at, Child { label, len, tree }) else {
+        unreachable!()
+    };
+    Err(AllocError)
 }
 
 impl End {

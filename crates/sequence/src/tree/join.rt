@@ -99,7 +99,9 @@ impl<T: Clone, L: NewLabel<T>> Tree<T, L> {
         }
         Ok(())
     }
+}
 
+impl<T: Clone, L: Label<T> + Clone> Tree<T, L> {
     // The first node, which no other version has then. A refusal gives the tree back.
     fn into_own(self, alloc: Global) -> Result<UniqueArc<Node<T, L>>, Tree<T, L>>
         requires copies { CopiesAreEqual T.is_clone }
@@ -118,6 +120,21 @@ impl<T: Clone, L: NewLabel<T>> Tree<T, L> {
         }
     }
 
+    // The only item. A refusal gives the tree back.
+    pub(crate) fn into_only(self, alloc: Global) -> Result<T, Tree<T, L>>
+        requires copies { CopiesAreEqual T.is_clone }
+        requires labels { CopiesAreEqual L.is_clone }
+        requires one { length self.0 ≡ 1 }
+        requires wide { 2 ^ self.1 ≤ length self.0 }
+        ensures item { IfOk result (λ item. self.0 ≡ item ∷ []) }
+        ensures refused { IfErr result (λ tree. tree ≡ self) }
+    {
+        match self.into_own(alloc)?.into_inner() {
+            Node::Leaf(mut items) => Ok(items.remove(0)),
+            Node::Branch(_) => unreachable!(),
+        }
+    }
+
     // Takes the only item out.
     pub(crate) fn take_only(root: &mut Option<Tree<T, L>>, alloc: Global) -> Result<T, AllocError>
         requires copies { CopiesAreEqual T.is_clone }
@@ -131,16 +148,12 @@ impl<T: Clone, L: NewLabel<T>> Tree<T, L> {
         let Some(tree) = root.take() else {
             unreachable!()
         };
-        let node = match tree.into_own(alloc) {
-            Ok(node) => node,
+        match tree.into_only(alloc) {
+            Ok(item) => Ok(item),
             Err(tree) => {
                 *root = Some(tree);
-                return Err(AllocError);
+                Err(AllocError)
             }
-        };
-        match node.into_inner() {
-            Node::Leaf(mut items) => Ok(items.remove(0)),
-            Node::Branch(_) => unreachable!(),
         }
     }
 }

@@ -1,16 +1,18 @@
 -- The item goes out of the child at that end.
-use Rattle.std.proofs.Common.{◌≡◌, ◌+◌, ◌-◌, ◌<◌, ◌∙◌, ℕ, [], ap, arith, length, rules, set, subst, sym}
+use Rattle.std.proofs.Common.{◌≡◌, ◌+◌, ◌-◌, ◌<◌, ◌∙◌, ℕ, [], ap, arith, inl, inr, length, rules, set, subst, sym}
+use Rattle.std.proofs.Common.{true≢false}
+use Rattle.std.proofs.lemmas.Nat.{pow_pos}
 use Rattle.std.specs.Prelude.{IfOk, IsOk, OnErr, OnOk, Some, slice_get}
 use Rattle.sequence.specs.Nodes.{CanLose}
 use Rattle.sequence.specs.Spots.{place_at}
-use Rattle.sequence.proofs.Cutting.Acted.{not_thin}
 use Rattle.sequence.proofs.Cutting.Acts.{read_again}
 use Rattle.sequence.proofs.Nodes.Changed.{item_under}
 use Rattle.sequence.proofs.Nodes.Copied.{made}
-use Rattle.sequence.proofs.Nodes.Ended.{IsEnded, behind_first, end_within, ended, place_end}
+use Rattle.sequence.proofs.Nodes.Ended.{IsEnded, behind_first, end_within, ended, leaf_gone, place_end}
+use Rattle.sequence.proofs.Nodes.Placed.{child_here}
 use Rattle.sequence.proofs.tree.Tree.+pop.Given as given
 use Rattle.sequence.proofs.tree.Tree.+pop.Goals as goal
-use Rattle.sequence.proofs.tree.Tree.+pop.Goals.{After-from}
+use Rattle.sequence.proofs.tree.Tree.+pop.Goals.{After-from, After-pop_leaf}
 
 -- the item, and the children then
 done : (g : given.Over) (t : ℕ) (c : After-from g t)
@@ -33,9 +35,15 @@ done g t c =
     let count : c.len-2.result ≡ length cs = omega (arith, c.len-2.ensures) in
     let first : i ≡ place_at end (length cs) = c.place-at-2.ensures.place ∙ ap (λ n. place_at end n) count in
     let h : i < length cs = omega (arith, c.place-at-2.ensures.within, count) in
-    let again = read_again cs i c.index.result.now (omega (arith, h)) c.index.ensures d is in
-    let spare = subst (λ child. CanLose child.tree) (sym again)
-    (not_thin c.is_thin.result c.index.result.now.tree c.is_thin.ensures c.if-is_thin.false) in
+    let seen = read_again cs i c.index.result.now (omega (arith, h)) c.index.ensures d is in
+    let again = read_again cs i c.index-2.result.now (omega (arith, h)) c.index-2.ensures d is in
+    let child = child_here cs i d node.whole h is in
+    let more : 1 < length d.tree.0 =
+    omega (arith, child.counted, child.wide, pow_pos d.tree.1, c.if-index-eq1.false, ap (λ c. c.len) seen) in
+    let spare : CanLose d.tree = elim c.is_thin_branch.ensures [
+      | inl thin ↦ absurd (true≢false (sym thin ∙ c.if-is_thin_branch.false))
+      | inr can ↦ subst (λ c. CanLose c.tree) (sym again) (can (subst (λ c. 1 < length c.tree.0) again more))
+    ] in
     let some : 0 < length d.tree.0 = omega (arith, spare) in
     let place = place_end tree cs i d node.whole node.same h is end first some in
     let p = place_at end (length d.tree.0) in
@@ -50,6 +58,40 @@ done g t c =
           (omega (arith, ap (λ t. length t.0) node.same, node.whole.list.room)) c.pop-popped.new.self
           (d.len - c.from.result) c.pop-popped.result popped.items popped.refused popped.height fewer same,
     )
+
+-- the same where a leaf goes with its only item
+gone : (g : given.Over) (t : ℕ) (c : After-pop_leaf g t)
+    → let at = place_at c.args.end (length c.args.self.now.0) in
+    IfOk c.pop_leaf.result (λ item. slice_get c.args.self.now.0 at ≡ Some item)
+    × IsEnded g.L.Label.label_of c.args.self.now at 1 [] c.pop_leaf.new.children.items c.pop_leaf.result
+gone g t c =
+    let node = rw c.in-Branch.is at (made g.L.Label.label_of c.args.self.now c.self.inside.root
+    c.in_ok-items.field-0.now c.self.invariant c.self.view_is c.in_ok-items.ensures.value
+    (c.requires.copies, c.requires.labels)) in
+    let cs = c.in-Branch.children.items in
+    let i = c.place-at-2.result in
+    let count : c.len-2.result ≡ length cs = omega (arith, c.len-2.ensures) in
+    let first = c.place-at-2.ensures.place ∙ ap (λ n. place_at c.args.end n) count in
+    let h : i < length cs = omega (arith, c.place-at-2.ensures.within, count) in
+    let done = c.pop_leaf.ensures in
+    leaf_gone c.args.self.now cs i c.index.result.now node.whole node.same h c.index.ensures c.args.end first
+    c.requires.some c.pop_leaf.new.children.items c.pop_leaf.result done.item done.gone done.refused
+
+pub invariant_of-self-then-index-eq1 : goal.invariant_of-self-then-index-eq1
+invariant_of-self-then-index-eq1 g t c =
+    let ok : IsOk c.make_mut.result = search rules in
+    rw c.make_mut.follows.holds ((gone g t (goal.at.invariant_of-self-then-index-eq1 g t c).After-pop_leaf).1.whole)
+
+pub returns-then-index-eq1 : goal.returns-then-index-eq1
+returns-then-index-eq1 g t c =
+    let ok : IsOk c.make_mut.result = search rules in
+    let done = gone g t (goal.at.returns-then-index-eq1 g t c).After-pop_leaf in
+    rw c.make_mut.follows.holds (record {
+      item = done.0;
+      items = done.1.items;
+      height = done.1.height;
+      refused = done.1.refused;
+    })
 
 pub invariant_of-self-2 : goal.invariant_of-self-2
 invariant_of-self-2 g t c =

@@ -118,13 +118,13 @@ def check_copies(library, kind):
 # For each collection the scripts that make two versions of it, and calls on each of them beside the other one.
 CHANGES = {
     "sequence": (
-        # Of two leaves, of 16 items and of 64. The first is joined with the second if it loses an item, and the second
-        # becomes two if one goes in.
-        ["fill 64", *(f"push {item}" for item in range(64, 96)), *["pop_front"] * 16],
+        # Of two leaves, of one item and of 64. The first goes out whole with its item, or is joined with the second
+        # before, and the second becomes two if an item goes in.
+        ["fill 64", *(f"push {item}" for item in range(64, 96)), *["pop_front"] * 31],
         # Of two leaves, of 32 items and of 16. The second is joined with the first one if it loses an item.
         ["fill 64", *["pop"] * 16],
-        ["insert 0 9", "insert 40 9", "insert 99 9", "push 9", "push_front 9", "set 40 9", "add 40 9", "remove 40",
-         "remove 99", "pop", "pop_front", "split 1", "split 40", "split 99", "append", "replace 20 40", "replace 40 99",
+        ["insert 0 9", "insert 40 9", "insert 99 9", "push 9", "push_front 9", "set 40 9", "add 40 9", "remove 0",
+         "remove 40", "remove 99", "pop", "pop_front", "split 1", "split 40", "split 99", "append", "replace 20 40", "replace 40 99",
          "truncate 1", "truncate 40", "truncate 99", "retain 40", "extend 100", "exchange 3 40", "exchange 3 99"]),
     "map": (
         # Of one leaf, which is full.

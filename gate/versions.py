@@ -124,8 +124,9 @@ CHANGES = {
         # Of two leaves, of 32 items and of 16. The second is joined with the first one if it loses an item.
         ["fill 64", *["pop"] * 16],
         ["insert 0 9", "insert 40 9", "insert 99 9", "push 9", "push_front 9", "set 40 9", "add 40 9", "remove 0",
-         "remove 40", "remove 99", "pop", "pop_front", "split 1", "split 40", "split 99", "append", "replace 20 40", "replace 40 99",
-         "truncate 1", "truncate 40", "truncate 99", "retain 40", "extend 100", "exchange 3 40", "exchange 3 99"]),
+         "remove 40", "remove 99", "pop", "pop_front", "split 1", "split 40", "split 99", "append", "replace 20 40",
+         "replace 40 99", "truncate 1", "truncate 40", "truncate 99", "retain 40", "extend 100", "exchange 3 40",
+         "exchange 3 99"]),
     "map": (
         # Of one leaf, which is full.
         [f"insert {2 * half} {half}" for half in range(64)],

@@ -5,7 +5,6 @@ use crate::random::shuffle;
 use sequence::Sequence;
 use std::alloc::Global;
 use std::io::Print;
-use std::mem;
 use std::time::{Clock, Instant};
 
 /// So many items are put in and read, whatever the number of items of a list.
@@ -19,7 +18,7 @@ const CHANGES: usize = 1_000;
 type List = Sequence<u64>;
 
 const CALLS: [&str; 9] = [
-    "push", "get", "step", "version", "insert", "remove", "cut", "pop", "drop",
+    "push", "get", "step", "version", "insert", "remove", "cut", "drop", "pop",
 ];
 
 /// All calls on lists of that many items, one after another, at places in mixed order. It prints the nanoseconds that
@@ -57,19 +56,13 @@ fn called<R: Clock + Print>(
         "insert" => insert(list, alloc, places),
         "remove" => remove(list, alloc, places),
         "cut" => cut(rt, list, alloc, places),
-        "pop" => pop(&mut half_of(lists)?, alloc, places),
-        _ => {
-            // The vector ends too, as in the twin: only then does the allocator give memory back.
-            *lists = Vec::new(alloc);
+        // First, since the allocator takes up what a pop gives back only at a later call.
+        "drop" => {
+            drop(lists.split_off(lists.len() / 2).ok()?);
             Some(0)
         }
+        _ => pop(lists, alloc, places),
     }
-}
-
-/// The first half of the lists. The others stay.
-fn half_of(lists: &mut Vec<List>) -> Option<Vec<List>> {
-    let rest = lists.split_off(lists.len() / 2).ok()?;
-    Some(mem::replace(lists, rest))
 }
 
 #[inline(never)]

@@ -6,7 +6,6 @@ use Rattle.std.specs.List.{remove}
 use Rattle.std.specs.Prelude.{Result, Ok, Err, IfOk, OnErr, OnOk, Some, slice_get}
 use Rattle.std.proofs.lemmas.Bool.{cases_lt}
 use Rattle.std.proofs.Math.Seq.{drop-length}
-use Rattle.std.proofs.lemmas.Nat.{pow_pos}
 use Rattle.sequence.specs.declared.tree.Child.{Child}
 use Rattle.sequence.specs.declared.tree.ends.End.{End}
 use Rattle.sequence.specs.declared.tree.ends.End.TheVariants.{First, Last}
@@ -17,6 +16,7 @@ use Rattle.sequence.proofs.Nodes.Changed.{item_under}
 use Rattle.sequence.proofs.Nodes.Children.{items_append, items_only, items_split, length-more, length-parts}
 use Rattle.sequence.proofs.Nodes.Labelled.{labelled_at, labelled_put}
 use Rattle.sequence.proofs.Nodes.Placed.{child_here, put_under, stand_itself}
+use Rattle.sequence.proofs.Nodes.Wide.{three_children}
 use Rattle.sequence.proofs.Shapes.Halves.{children_drop, children_take, height_drop, height_take}
 
 -- the children after the call, whose answer is r
@@ -53,14 +53,18 @@ module _ {T L : Type 0} {label_of : T → L} (tree : List T × ℕ) (cs : List (
   place_end Last last some = omega (arith, place_last (omega (arith, last, h)), some)
 
   -- which is not its first one, if there are children before it and it has another
-  pub behind_first : (end : End) → i ≡ place_at end (length cs) → CanLose d.tree → 0 < i
+  pub behind_first : (end : End) → i ≡ place_at end (length cs) → 1 < length d.tree.0 → 0 < i
       → 0 < place_at end (length d.tree.0)
-  behind_first First first spare p = absurd (omega (arith, first, p))
-  behind_first Last last spare p = omega (arith, spare, pow_pos d.tree.1)
+  behind_first First first more p = absurd (omega (arith, first, p))
+  behind_first Last last more p = omega (arith, more)
+
+  -- a branch with three children or more has an item to spare
+  pub can_lose : 2 < length cs → CanLose tree
+  can_lose many = subst CanLose same (three_children (height_in cs) cs are.each many)
 
   -- the child with another tree of its height, unless the call was refused
   child_put : (p gone : ℕ) (more : List T) {A E : Type 0} (new : List T × ℕ) (len : ℕ) (r : Result A E)
-      → p + gone ≤ length d.tree.0 → 2 ^ d.tree.1 + gone ≤ length d.tree.0 + length more → new.1 ≡ d.tree.1
+      → p + gone ≤ length d.tree.0 → OnOk r (2 ^ d.tree.1 + gone ≤ length d.tree.0 + length more) → new.1 ≡ d.tree.1
       → OnOk r (new.0 ≡ spliced p gone more d.tree.0) → OnErr r (new.0 ≡ d.tree.0)
       → OnOk r (len + gone ≡ d.len + length more) → OnErr r (len ≡ d.len)
       → IsChild (d.tree.1 + 1) (record d { len = len; tree = new })
@@ -84,12 +88,13 @@ module _ {T L : Type 0} {label_of : T → L} (tree : List T × ℕ) (cs : List (
 
   -- the node with that child
   pub ended : (at p gone : ℕ) (more : List T) → at ≡ length (items_in (take i cs)) + p
-      → p + gone ≤ length d.tree.0 → (0 < i → 0 < p) → 2 ^ d.tree.1 + gone ≤ length d.tree.0 + length more
-      → length tree.0 + length more < 2 ^ 64 + gone → {A E : Type 0} (new : List T × ℕ) (len : ℕ) (r : Result A E)
+      → p + gone ≤ length d.tree.0 → (0 < i → 0 < p) → length tree.0 + length more < 2 ^ 64 + gone
+      → {A E : Type 0} (new : List T × ℕ) (len : ℕ) (r : Result A E)
+      → OnOk r (2 ^ d.tree.1 + gone ≤ length d.tree.0 + length more)
       → OnOk r (new.0 ≡ spliced p gone more d.tree.0) → OnErr r (new.0 ≡ d.tree.0) → new.1 ≡ d.tree.1
       → OnOk r (len + gone ≡ d.len + length more) → OnErr r (len ≡ d.len)
       → IsEnded label_of tree at gone more (set cs i (record d { len = len; tree = new })) r
-  ended at p gone more place inside behind wide room new len r put refused level counts keeps =
+  ended at p gone more place inside behind room new len r wide put refused level counts keeps =
       let c = record d { len = len; tree = new } in
       let child = child_put p gone more new len r inside wide level put refused counts keeps in
       let label = λ (q : 0 < i). labelled_put d c p gone more r (behind q) put refused refl
@@ -103,6 +108,11 @@ module _ {T L : Type 0} {label_of : T → L} (tree : List T × ℕ) (cs : List (
         height = done.height ∙ ap (λ (t : List T × ℕ). t.1) same;
         refused = subst (λ (t : List T × ℕ). OnErr r (items_in (set cs i c) ≡ t.0)) same done.refused;
       }
+
+-- what follows from what an answer tells
+pub on_ok : {A E P Q : Type 0} (r : Result A E) → (P → Q) → OnOk r P → OnOk r Q
+on_ok (Ok a) f p = f p
+on_ok (Err e) f p = tt
 
 -- an end is within
 pub end_within : (end : End) (n : ℕ) → 0 < n → place_at end n < n
@@ -147,8 +157,9 @@ module _ {T L : Type 0} {label_of : T → L} (tree : List T × ℕ) (cs : List (
       ∙ ap (λ (m : ℕ). take n cs ++ drop m cs) all
       ∙ ap (λ (ds : List (Child T L)). take n cs ++ ds) (drop-length cs)
       ∙ append-nil (take n cs) in
+      let some : 0 < n = omega (arith, two) in
       subst (λ (ds : List (Child T L)). AreChildren label_of ds × (height_in ds ≡ height_in cs)) (sym front)
-      (children_take cs n are (omega (arith, two)) (omega arith), height_take cs n are (omega (arith, two)) (omega arith))
+      (children_take cs n are some (omega arith), height_take cs n are some (omega arith))
 
   -- the node without the child at an end that has one item, unless the call was refused
   pub leaf_gone : (end : End) → i ≡ place_at end (length cs) → 1 < length tree.0 → {E : Type 0}

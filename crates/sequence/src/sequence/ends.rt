@@ -80,7 +80,7 @@ impl<T: Clone, L: NewLabel<T>> Sequence<T, L> {
         }
         if len > 1
             && let Some(tree) = &mut self.root
-            && let Ok(item) = tree.pop(alloc, end)
+            && let Ok(item) = tree.pop(alloc, end, 0)
         {
             self.len = len - 1;
             return Ok(Some(item));

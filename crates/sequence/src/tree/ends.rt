@@ -1,5 +1,5 @@
 //! What goes in behind all items of a tree and out at its two ends, by one way down along nodes that keep their form.
-ghost use Rattle.std.specs.Prelude.{◌≡◌, ◌+◌, ◌<◌, ◌^◌, ◌++◌, ◌∷◌, ◌⊎◌, [], IfErr, IfOk, IsTrue, OnErr, OnOk, Some};
+ghost use Rattle.std.specs.Prelude.{◌≡◌, ◌+◌, ◌<◌, ◌^◌, ◌++◌, ◌∷◌, [], IfErr, IfOk, OnErr, OnOk, Some};
 ghost use Rattle.std.specs.Prelude.{length, slice_get, slice_index_or};
 ghost use Rattle.std.specs.List.{All, remove};
 ghost use Rattle.handles.specs.Copies.{CopiesAreEqual};
@@ -44,50 +44,40 @@ impl<T: Clone, L: Label<T> + Clone> Tree<T, L> {
         pushed
     }
 
-    // Takes the item at that end out, which is not the only one. It is refused if there is no memory, or if a branch on
-    // the way has so few children that it is joined with its neighbour first.
-    pub(crate) fn pop(&mut self, alloc: Global, end: End) -> Result<T, AllocError>
+    // Takes the item at that end out, which is not the only one. It is refused if there is no memory, or if the first
+    // node is a branch with no more children than `least`, or one below has so few that it is joined with its neighbour
+    // first.
+    pub(crate) fn pop(&mut self, alloc: Global, end: End, least: usize) -> Result<T, AllocError>
         requires copies { CopiesAreEqual T.is_clone }
         requires labels { CopiesAreEqual L.is_clone }
         requires some { 1 < length self.old.0 }
         ensures item { IfOk result (λ item. slice_get self.old.0 (place_at end (length self.old.0)) ≡ Some item) }
         ensures items { OnOk result (self.new.0 ≡ spliced (place_at end (length self.old.0)) 1 [] self.old.0) }
         ensures height { self.new.1 ≡ self.old.1 }
+        ensures spare { OnOk result (1 < least → CanLose self.old) }
         ensures refused { OnErr result (self.new.0 ≡ self.old.0) }
     {
         let children = match Arc::make_mut(&mut self.root, alloc)? {
-            Node::Leaf(items) => {
-                let at = end.place(items.len());
-                return Ok(items.remove(at));
-            }
+            Node::Leaf(items) => return Ok(pop_in_leaf(items, end)),
             Node::Branch(children) => children,
         };
+        if children.len() <= least {
+            return Err(AllocError);
+        }
         let at = end.place(children.len());
         if children[at].len == 1 {
             return pop_leaf(children, alloc, at);
         }
-        if children[at].tree.is_thin_branch() {
-            return Err(AllocError);
-        }
         let child = &mut children[at];
-        let popped = child.tree.pop(alloc, end);
+        let popped = child.tree.pop(alloc, end, BRANCH / 4);
         child.len -= usize::from(popped.is_ok());
         popped
     }
-
-    // Whether the first node is a branch with so few children that it is joined with its neighbour before it loses one.
-    #[inline(always)]
-    fn is_thin_branch(&self) -> bool
-        ensures { IsTrue result ⊎ (1 < length self.now.0 → CanLose self.now) }
-    {
-        match self.node() {
-            Node::Leaf(_) => false,
-            Node::Branch(children) => children.len() <= BRANCH / 4,
-        }
-    }
 }
 
-// Takes the leaf of that number out, and its only item out of it.
+// Takes the leaf of that number out, and its only item out of it. A call, since it is seldom made, so that `pop` saves
+// few registers.
+#[inline(never)]
 fn pop_leaf<T: Clone, L: Label<T> + Clone>(
     children: &mut Vec<Child<T, L>>,
     alloc: Global,
@@ -144,5 +134,21 @@ fn push_in_leaf<T: Drop>(items: &mut Vec<T>, item: T) -> Result<(), T>
     match items.push(item) {
         Ok(()) => Ok(()),
         Err(refused) => Err(refused.value),
+    }
+}
+
+// Takes the item at that end out of a leaf.
+#[inline(always)]
+fn pop_in_leaf<T: Drop>(items: &mut Vec<T>, end: End) -> T
+    requires { 0 < length items.old.items }
+    ensures item { slice_get items.old.items (place_at end (length items.old.items)) ≡ Some result }
+    ensures items { items.new.items ≡ spliced (place_at end (length items.old.items)) 1 [] items.old.items }
+{
+    match end {
+        End::First => items.remove(0),
+        End::Last => match items.pop() {
+            Some(item) => item,
+            None => unreachable!(),
+        },
     }
 }

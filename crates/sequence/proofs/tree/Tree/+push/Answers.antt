@@ -3,7 +3,7 @@ use Rattle.std.proofs.Common.{◌≡◌, ◌+◌, ◌-◌, ◌<◌, ℕ, [], ◌
 use Rattle.std.specs.Prelude.{IsOk, OnErr, OnOk}
 use Rattle.std.proofs.lemmas.Nat.{pow_pos}
 use Rattle.sequence.proofs.Nodes.Copied.{made}
-use Rattle.sequence.proofs.Nodes.Ended.{IsEnded, ended, place_last}
+use Rattle.sequence.proofs.Nodes.Ended.{IsEnded, ended, on_ok, place_last}
 use Rattle.sequence.proofs.Nodes.Placed.{child_here}
 use Rattle.sequence.proofs.Nodes.Wide.{some_in}
 use Rattle.sequence.proofs.tree.Tree.+push.Given as given
@@ -32,9 +32,10 @@ done g t c =
     let same : OnErr c.push-pushed.result (d.len + c.from.result ≡ d.len) = search rules in
     ended c.args.self.now cs i d node.whole node.same h is (length c.args.self.now.0) (length d.tree.0) 0
     (c.args.item ∷ []) (place_last c.args.self.now cs i d node.whole node.same h is last) (omega arith)
-    (λ p. omega (arith, child.wide, pow_pos d.tree.1)) (omega (arith, child.wide)) (omega (arith, c.requires.room))
-    c.push-pushed.new.self (d.len + c.from.result) c.push-pushed.result pushed.items pushed.blocked pushed.height more
-    same
+    (λ p. omega (arith, child.wide, pow_pos d.tree.1)) (omega (arith, c.requires.room))
+    c.push-pushed.new.self (d.len + c.from.result) c.push-pushed.result
+    (on_ok c.push-pushed.result (λ _. omega (arith, child.wide)) more) pushed.items pushed.blocked pushed.height
+    more same
 
 pub invariant_of-self-2 : goal.invariant_of-self-2
 invariant_of-self-2 g t c =

@@ -115,7 +115,15 @@ def check_copies(library, kind):
         raise Differs(f"{kind}: {found} copies")
 
 
-# For each collection the scripts that make two versions of it, and calls on each of them beside the other one.
+def thin_branches(last, first):
+    """Takes an item out at either end of a tree of two branches, of nine leaves and of four. The one with four is at
+    that end, and is joined with the other before."""
+    return ["fill 1088", "split 768", "keep", last, "print", "back 2", "print",
+            "fill 1088", "split 256", "swap", "keep", first, "print", "back 3", "print"]
+
+
+# For each collection the scripts that make two versions of it, calls on each of them beside the other one, and what
+# comes then.
 CHANGES = {
     "sequence": (
         # Of two leaves, of one item and of 64. The first goes out whole with its item, or is joined with the second
@@ -126,7 +134,8 @@ CHANGES = {
         ["insert 0 9", "insert 40 9", "insert 99 9", "push 9", "push_front 9", "set 40 9", "add 40 9", "remove 0",
          "remove 40", "remove 99", "pop", "pop_front", "split 1", "split 40", "split 99", "append", "replace 20 40",
          "replace 40 99", "truncate 1", "truncate 40", "truncate 99", "retain 40", "extend 100", "exchange 3 40",
-         "exchange 3 99"]),
+         "exchange 3 99"],
+        thin_branches("pop", "pop_front")),
     "map": (
         # Of one leaf, which is full.
         [f"insert {2 * half} {half}" for half in range(64)],
@@ -134,7 +143,8 @@ CHANGES = {
         [*(f"insert {2 * half} {100 + half}" for half in range(65)), *(f"remove {2 * half}" for half in range(16))],
         ["insert 1 9", "insert 63 9", "insert 127 9", "remove 32", "remove 62", "remove 64", "remove 128", "add 32 9",
          "add 128 9", "alter 32 9", "alter 33 9", "split 33", "split 64", "pop_first", "pop_last", "retain 64",
-         "append", "union", "both", "rest", "changes"]),
+         "append", "union", "both", "rest", "changes"],
+        thin_branches("pop_last", "pop_first")),
 }
 SCRIPTS = {
     "tree": ["insert 1 0", "insert 2 1", "set 9 1", "put 1", "insert 3 2 1", "remove 0", "add 5 0 1", "add 5 0 3",
@@ -149,10 +159,10 @@ SCRIPTS = {
 def refusal_script(kind):
     if kind in SCRIPTS:
         return SCRIPTS[kind]
-    first, second, calls = CHANGES[kind]
+    first, second, calls, then = CHANGES[kind]
     turns = [[f"back {1 - own}", "swap", f"back {own}", call, "print", "swap", "print"]
              for own in (0, 1) for call in calls]
-    return [*first, "keep", "drop", *second, "keep", *sum(turns, []), "back 0", "print", "back 1", "print"]
+    return [*first, "keep", "drop", *second, "keep", *sum(turns, []), *then, "back 0", "print", "back 1", "print"]
 
 
 def check_refusals(library, kind):

@@ -72,17 +72,25 @@ def judged(kind, items, call, ratios):
         yield "-" if goal is None else "met" if ratio <= goal else "missed"
 
 
-def measured(commands, kind, workload, items, count):
-    """A row for each call: the least of each program, and how it compares with each peer."""
-    rounds, sums = {who: [] for who in commands}, set()
+def measured(commands, kind, cases, count):
+    """What each program took in each of the rounds. A round has all cases, so that a time in which the machine is slow
+    meets each of them alike."""
+    rounds, sums = {}, {}
     for turn in range(count):
-        for who in sorted(commands, reverse=turn % 2):
-            found, checksum = run(commands[who], kind, workload, items)
-            rounds[who].append(found)
-            sums.add(checksum)
-    if len(sums) > 1:
-        print(f"{workload} {items}: the checksums differ", file=sys.stderr)
-        sys.exit(2)
+        for case in cases:
+            for who in sorted(commands, reverse=turn % 2):
+                found, checksum = run(commands[who], kind, *case)
+                rounds.setdefault(case, {}).setdefault(who, []).append(found)
+                sums.setdefault(case, set()).add(checksum)
+    for case in cases:
+        if len(sums[case]) > 1:
+            print(*case, "the checksums differ", file=sys.stderr)
+            sys.exit(2)
+    return rounds
+
+
+def rows_of(commands, kind, workload, items, rounds):
+    """A row for each call: the least of each program, and how it compares with each peer."""
     for call in CALLS[kind] + (["bytes"] if items == SIZES[-1] else []):
         least = {who: min(found[call] for found in rounds[who]) for who in commands}
         ratios = {who: least["program"] / least[who] for who in commands if who != "program"}
@@ -107,12 +115,12 @@ def main():
     with open(asked.table, "w", encoding="utf-8") as table:
         print("workload", "items", "call", *commands, *(word for peer in peers for word in ("/" + peer, "goal")),
               sep="\t", file=table)
-        for items in SIZES:
-            for workload in WORKLOADS[asked.kind]:
-                for row in measured(commands, asked.kind, workload, items, asked.rounds):
-                    print(*row, sep="\t", file=table)
-                    print(*(f"{word:>11}" for word in row), flush=True)
-                    missed |= "missed" in row
+        cases = [(workload, items) for items in SIZES for workload in WORKLOADS[asked.kind]]
+        for case, rounds in measured(commands, asked.kind, cases, asked.rounds).items():
+            for row in rows_of(commands, asked.kind, *case, rounds):
+                print(*row, sep="\t", file=table)
+                print(*(f"{word:>11}" for word in row))
+                missed |= "missed" in row
     sys.exit(missed)
 
 

@@ -106,22 +106,26 @@ def nanoseconds(figure):
 
 
 def speed_line(name, figures):
-    return f"{name:<16}" + "".join(f"{figure:>9}" for figure in figures)
+    return f"{name:<16}" + "".join(f"{figure:>10}" for figure in figures)
 
 
 def figures_of(row):
     """What docs/SPEED.md shows of a workload."""
-    figures = [nanoseconds(row[peer + "_ns"]) for peer in ("program", "servo", "std", "twin")]
-    return [*figures, f"{float(row['ratio']):.2f}"]
+    figures = [nanoseconds(row[peer + "_ns"]) for peer in ("program", "servo", "std")]
+    return [*figures, *(f"{float(row[ratio]):.2f}" if row[ratio] else "-" for ratio in ("ratio", "std_ratio"))]
+
+
+def span(figures, shown):
+    """The least and the greatest of the figures, or the one that there is."""
+    found = sorted({float(figure) for figure in figures if figure and figure != "-"})
+    return " to ".join(dict.fromkeys(map(shown, (found[0], found[-1])))) if found else "-"
 
 
 def call_line(rows):
-    """The line for a call of a collection, in one order: the figure and the ratios of each number of items."""
-    cells = [(nanoseconds(row["program"]), *(row[name] for name in row if name.startswith("/"))) for row in rows]
-    shown = ("".join(f"{part:>7}" for part in cell) for cell in cells)
-    order = rows[0]["workload"].partition("-")[2]
-    name = f"{order:<7}{rows[0]['call']}" if order else rows[0]["call"]
-    return f"{name:<15}" + "  ".join(shown)
+    """The line for a call of a collection, in any order and of any number of items: its times and its ratios."""
+    cells = [span((row["program"] for row in rows), nanoseconds)]
+    cells += [span((row[name] for row in rows), "{:.3g}".format) for name in rows[0] if name.startswith("/")]
+    return f"{rows[0]['call']:<12}" + "".join(f"{cell:>18}" for cell in cells)
 
 
 def table(name):
@@ -130,20 +134,18 @@ def table(name):
 
 
 def workload_lines():
-    yield speed_line("", ["here", "original", "std", "twin", "ratio"])
+    yield speed_line("", ["here", "original", "std", "/original", "/std"])
     for row in table("measured.tsv"):
         if row["verdict"] == "missed" or not row["workload"].startswith("script-"):
             yield speed_line(row["workload"], figures_of(row))
 
 
 def call_lines(name):
-    calls, sizes = {}, []
+    calls = {}
     for row in table(name):
-        calls.setdefault((row["workload"], row["call"]), []).append(row)
-        sizes.append(f"{int(row['items']):,}")
+        calls.setdefault(row["call"], []).append(row)
     columns = ["ns", *(column for column in row if column.startswith("/"))]
-    head = "  ".join(["".join(f"{column:>7}" for column in columns)] * len(set(sizes)))
-    return [" ".join(dict.fromkeys(sizes)), f"{'':<15}{head}", *map(call_line, calls.values())]
+    return [f"{'':<12}" + "".join(f"{column:>18}" for column in columns), *map(call_line, calls.values())]
 
 
 def wrong_speed():
@@ -151,8 +153,6 @@ def wrong_speed():
     blocks = re.findall(r"```text\n(.*?)\n```", (ROOT / "docs" / "SPEED.md").read_text(), re.S)
     wanted = [list(workload_lines()), call_lines("maps.tsv"), call_lines("sequences.tsv")]
     shown = [block.splitlines() for block in blocks]
-    for lines in shown[1:]:
-        lines[0] = " ".join(lines[0].split())
     for lines, others in zip_longest(map(Counter, shown), map(Counter, wanted), fillvalue=Counter()):
         yield from (lines - others) + (others - lines)
 

@@ -8,7 +8,7 @@
 #
 # The status is 1 if a goal was missed, 0 if all were met, and 2 or 3 as compare.py says.
 set -eu
-if [ $# -lt 1 ]; then
+if [ ! -f "${1-}" ]; then
     echo "usage: judge.sh SOURCE [OPTION..]" >&2
     exit 2
 fi

@@ -243,4 +243,6 @@ def main():
     sys.exit("\n".join(old) or None)
 
 
+if sys.argv[1:] not in ([], ["--check"]):
+    sys.exit(__doc__)
 main()

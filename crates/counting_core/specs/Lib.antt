@@ -1,5 +1,4 @@
 pub mod State
-pub mod Actions
 pub mod Permitted
 pub mod Trace
 pub mod ReferenceModel

@@ -1,15 +1,12 @@
 //! The machine in a core: its fields, and what each step makes of them.
 ghost use Rattle.std.specs.Prelude.{◌≡◌, ◌<◌, length, true, false};
 ghost use Rattle.counting_word.specs.CountingWord.{is_one_handle};
-ghost use Rattle.counting_core.specs.Actions.{step_on};
 ghost use Rattle.counting_core.specs.Machines.{core_of, with_access};
 ghost use Rattle.counting_core.specs.Represents.{IsReached};
 ghost use Rattle.counting_core.specs.ByWord.{IsPermitted, FollowsWord};
 
-use crate::action::HandleAction;
 use crate::activity::Activity;
 use crate::handle_entry::{Access, HandleEntry, push_newborn};
-use crate::protocol::Core;
 use crate::step::{Answer, Step};
 use counting_word::{
     ClonePlan, DropPlan, is_alone, is_last, is_marked, plan_clone, plan_drop, with_mark,
@@ -26,74 +23,43 @@ pub(crate) struct Machine<V> {
     pub(crate) owners: Vec<Activity>,
 }
 
-impl<V: Copy> Core<V> {
-    // A raise, a quit and a lower go on with what their owner has in flight. The others are on a handle.
-    pub(crate) fn step_by_word(&mut self, step: Step<V>) -> Answer<V>
-        ensures reached { IsReached self.old }
-        ensures word { FollowsWord self.old step result self.new }
-    {
-        let (owner, handle, action) = match step {
-            Step::Raise { owner } => return self.machine.raise(owner),
-            Step::Quit { owner } => return self.machine.quit(owner),
-            Step::Lower { owner } => return self.machine.lower(owner),
-            Step::Clone { owner, handle } => (owner, handle, HandleAction::Clone),
-            Step::Drop { owner, handle } => (owner, handle, HandleAction::Drop),
-            Step::Mark { owner, handle } => (owner, handle, HandleAction::Mark),
-            Step::Unique { owner, handle } => (owner, handle, HandleAction::Unique),
-            Step::Static { owner, handle } => (owner, handle, HandleAction::Static),
-            Step::GetMut { owner, handle } => (owner, handle, HandleAction::GetMut),
-            Step::Write {
-                owner,
-                handle,
-                value,
-            } => (owner, handle, HandleAction::Write(value)),
-            Step::EndWrite { owner, handle } => (owner, handle, HandleAction::EndWrite),
-            Step::IntoUnique { owner, handle } => (owner, handle, HandleAction::IntoUnique),
-            Step::Share { owner, handle } => (owner, handle, HandleAction::Share),
-            Step::Load { owner, handle } => (owner, handle, HandleAction::Load),
-            Step::Lend { owner, handle, to } => (owner, handle, HandleAction::Lend(to)),
-            Step::Return { owner, handle } => (owner, handle, HandleAction::Return),
-            Step::Give { owner, handle, to } => (owner, handle, HandleAction::Give(to)),
-        };
-        self.machine.step_on(owner, handle, action)
-    }
-}
-
 impl<V: Copy> Machine<V> {
-    fn step_on(&mut self, owner: usize, handle: usize, action: HandleAction<V>) -> Answer<V>
+    // A raise, a quit and a lower go on with what their owner has in flight. The others are on a handle.
+    pub(crate) fn step(&mut self, step: Step<V>) -> Answer<V>
         requires { IsReached (core_of self.old) }
-        ensures { FollowsWord (core_of self.old) (step_on owner handle action) result (core_of self.new) }
+        ensures { FollowsWord (core_of self.old) step result (core_of self.new) }
     {
-        if !self.permits(owner, handle, &action) {
-            return Answer::Barred;
-        }
-        match action {
-            HandleAction::Clone => self.clone_handle(owner, handle),
-            HandleAction::Drop => self.drop_handle(owner, handle),
-            HandleAction::Mark => {
+        match step {
+            Step::Raise { owner } => self.raise(owner),
+            Step::Quit { owner } => self.quit(owner),
+            Step::Lower { owner } => self.lower(owner),
+            _ if !self.permits(&step) => Answer::Barred,
+            Step::Clone { owner, handle } => self.clone_handle(owner, handle),
+            Step::Drop { owner, handle } => self.drop_handle(owner, handle),
+            Step::Mark { .. } => {
                 self.word = with_mark(self.word);
                 Answer::Marked
             }
-            HandleAction::Unique => Answer::Is(is_alone(self.word)),
-            HandleAction::Static => Answer::Is(is_marked(self.word)),
-            HandleAction::GetMut if self.take(handle, Access::Written) => Answer::Alone,
-            HandleAction::IntoUnique if self.take(handle, Access::Sole) => Answer::Sole,
-            HandleAction::GetMut | HandleAction::IntoUnique => Answer::Shared,
-            HandleAction::Load => Answer::Value(self.value),
-            HandleAction::Write(value) => {
+            Step::Unique { .. } => Answer::Is(is_alone(self.word)),
+            Step::Static { .. } => Answer::Is(is_marked(self.word)),
+            Step::GetMut { handle, .. } if self.take(handle, Access::Written) => Answer::Alone,
+            Step::IntoUnique { handle, .. } if self.take(handle, Access::Sole) => Answer::Sole,
+            Step::GetMut { .. } | Step::IntoUnique { .. } => Answer::Shared,
+            Step::Load { .. } => Answer::Value(self.value),
+            Step::Write { value, .. } => {
                 self.value = value;
                 Answer::Done
             }
-            HandleAction::EndWrite | HandleAction::Share => {
+            Step::EndWrite { handle, .. } | Step::Share { handle, .. } => {
                 self.handles[handle].use_as(Access::Shared);
                 Answer::Done
             }
-            HandleAction::Lend(to) => self.lend(owner, handle, to),
-            HandleAction::Return => {
+            Step::Lend { owner, handle, to } => self.lend(owner, handle, to),
+            Step::Return { owner, handle } => {
                 self.handles[handle].take_back_from(owner);
                 Answer::Done
             }
-            HandleAction::Give(to) => {
+            Step::Give { handle, to, .. } => {
                 self.handles[handle].give_to(to);
                 Answer::Done
             }

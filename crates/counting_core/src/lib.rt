@@ -8,7 +8,6 @@
 #![tactic(auto)]
 
 mod acting;
-mod action;
 mod activity;
 mod handle_entry;
 pub mod laws;

@@ -74,7 +74,7 @@ impl<V: Copy> Core<V> {
             → self.new ≡ self.old }
         ensures word { FollowsWord self.old step result self.new }
     {
-        self.step_by_word(step)
+        self.machine.step(step)
     }
 
     /// The answers of the steps, in order. Their room is reserved first, so an `Err` did nothing.

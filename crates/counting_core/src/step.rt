@@ -1,5 +1,6 @@
 //! The steps of the owners of a block, and what they are answered.
-ghost use Rattle.std.specs.Prelude.{◌≡◌, ⊤};
+ghost use Rattle.std.specs.Prelude.{◌≡◌, ⊤, option_map};
+ghost use Rattle.counting_core.specs.Permitted.{handle_of, owner_of};
 
 use std::alloc::AllocError;
 
@@ -137,5 +138,30 @@ impl<V: Copy> Clone for Step<V> {
 
     fn clone(&self) -> Result<Self, AllocError> {
         Ok(*self)
+    }
+}
+
+impl<V: Copy> Step<V> {
+    // The owner and the handle of a step on a handle.
+    pub(crate) fn on_handle(&self) -> Option<(usize, usize)>
+        ensures { result ≡ option_map (λ handle. (owner_of self.now, handle)) (handle_of self.now) }
+    {
+        match *self {
+            Step::Raise { .. } | Step::Quit { .. } | Step::Lower { .. } => None,
+            Step::Clone { owner, handle }
+            | Step::Drop { owner, handle }
+            | Step::Mark { owner, handle }
+            | Step::Unique { owner, handle }
+            | Step::Static { owner, handle }
+            | Step::GetMut { owner, handle }
+            | Step::Write { owner, handle, .. }
+            | Step::EndWrite { owner, handle }
+            | Step::IntoUnique { owner, handle }
+            | Step::Share { owner, handle }
+            | Step::Load { owner, handle }
+            | Step::Lend { owner, handle, .. }
+            | Step::Return { owner, handle }
+            | Step::Give { owner, handle, .. } => Some((owner, handle)),
+        }
     }
 }

@@ -1,13 +1,13 @@
 -- A line can be read in one way alone.
-use Rattle.std.proofs.Common.{◌≡◌, ◌≢◌, ℕ, ◌==◌, ◌<◌, ◌^◌, ◌+◌, List, [], ◌∷◌, ◌++◌, length, map, Option}
+use Rattle.std.proofs.Common.{◌≡◌, ◌≢◌, ℕ, ◌==◌, ◌<◌, ◌^◌, List, [], ◌∷◌, ◌++◌, length, map, Option}
 use Rattle.std.proofs.Common.{Some, None, IfNone}
-use Rattle.std.proofs.Common.{refl, sym, ap, ◌∙◌, ⊎_elim, arith, decimal, get_or, take, set, append_assoc, append-nil}
+use Rattle.std.proofs.Common.{refl, sym, ap, ◌∙◌, ⊎_elim, arith, decimal, get_or, append_assoc, append-nil}
 use Rattle.std.proofs.Common.{length-append}
 use Rattle.std.specs.List.{All}
 use Rattle.std.proofs.lemmas.Bool.{ne_eqb}
 use Rattle.std.proofs.lemmas.Bool.Decides.{eqb_tells}
 use Rattle.std.proofs.lemmas.Fmt.{decimal_injective, digits_decimal}
-use Rattle.std.proofs.lemmas.List.{get_or_default, map-append, take_more_set, length-map}
+use Rattle.std.proofs.lemmas.List.{get_or_default, map-append, length-map}
 use Rattle.std.proofs.lemmas.List.Elements.{All-cons, All-head, All-nil, All-tail}
 use Rattle.std.proofs.lemmas.List.Splits.{slice_split_at, slice_split_none}
 use Rattle.scripts.specs.Line.{IsLine, Encodes, IsInvalid, AsksForOneThing, fields, fields_if_any, space}
@@ -134,15 +134,13 @@ module _ (text first after : List ℕ) (numbers : List ℕ)
       too_long text first field numbers (fields_if_any rest) three (rw (first_field after field rest apart parts) at is)
 
 -- one more number is read
-pub one_more : (text first field : List ℕ) (numbers : List ℕ) (count number : ℕ) (others : List (List ℕ))
-    → count < length numbers → field ≡ decimal number
-    → fields text ≡ first ∷ (map decimal (take count numbers) ++ field ∷ others)
-    → fields text ≡ first ∷ (map decimal (take (count + 1) (set numbers count number)) ++ others)
-one_more text first field numbers count number others small is e =
-    let grown : map decimal (take (count + 1) (set numbers count number)) ++ others
-    ≡ map decimal (take count numbers) ++ decimal number ∷ others
-    = rw (take_more_set numbers count number small) (rw (map-append decimal (take count numbers) (number ∷ []))
-    (append_assoc (map decimal (take count numbers)) (decimal number ∷ []) others)) in
+pub one_more : (text first field : List ℕ) (numbers : List ℕ) (number : ℕ) (others : List (List ℕ))
+    → field ≡ decimal number → fields text ≡ first ∷ (map decimal numbers ++ field ∷ others)
+    → fields text ≡ first ∷ (map decimal (numbers ++ number ∷ []) ++ others)
+one_more text first field numbers number others is e =
+    let grown : map decimal (numbers ++ number ∷ []) ++ others ≡ map decimal numbers ++ decimal number ∷ others
+    = rw (map-append decimal numbers (number ∷ []))
+    (append_assoc (map decimal numbers) (decimal number ∷ []) others) in
     rw grown (rw is at e)
 
 numbers_same : (m n : List ℕ) → All (λ number. number < 2 ^ 32) m → All (λ number. number < 2 ^ 32) n

@@ -1,6 +1,6 @@
 -- How the lines of scripts are written: a word, and at most three numbers.
-use Rattle.std.specs.Prelude.{◌≡◌, ℕ, ◌==◌, ◌^◌, ◌<◌, ◌≤◌, List, [], ◌∷◌, length, take, All, map, decimal}
-use Rattle.std.specs.Prelude.{slice_index, Option, Some, None}
+use Rattle.std.specs.Prelude.{◌≡◌, ℕ, ◌==◌, ◌^◌, ◌<◌, ◌≤◌, List, [], ◌∷◌, length, All, map, decimal}
+use Rattle.std.specs.Prelude.{Option, Some, None}
 use Rattle.std.specs.List.{slice_split}
 
 -- the byte of a space
@@ -15,11 +15,6 @@ fields line = slice_split (λ byte. byte == space) line
 abbrev pub fields_if_any : Option (List ℕ) → List (List ℕ)
 fields_if_any None = []
 fields_if_any (Some line) = fields line
-
--- so many numbers, of three places
-abbrev pub numbers_in : ℕ → List ℕ → List ℕ
-numbers_in count places =
-    take count (slice_index places 0 ∷ slice_index places 1 ∷ slice_index places 2 ∷ [])
 
 -- the line is a word and these numbers, with one space between two of them, and each number is at most 4294967295
 pub record IsLine (line word : List ℕ) (numbers : List ℕ) : Type 0 where

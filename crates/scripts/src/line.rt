@@ -1,44 +1,36 @@
 //! The word of a line, and the numbers after it.
-ghost use Rattle.std.specs.Prelude.{◌≡◌, ◌↔◌, ◌<◌, ◌^◌, ℕ, List, Option, length, decimal, IfSome, IfNone, IsTrue};
+ghost use Rattle.std.specs.Prelude.{◌≡◌, ◌↔◌, ◌<◌, ◌^◌, ℕ, List, Option, decimal, IfSome, IfNone, IsTrue};
 ghost use Rattle.std.specs.Option.{option_copied};
-ghost use Rattle.scripts.specs.Line.{IsLine, fields, fields_if_any, numbers_in, space};
+ghost use Rattle.scripts.specs.Line.{IsLine, fields, fields_if_any, space};
 ghost use Rattle.scripts.specs.Split.{with_rest};
 
 use crate::number::split_number;
 use crate::split::split_once;
+use arrayvec::ArrayVec;
 
 /// A line that is a word and at most three numbers, each after one space.
-#[derive(Clone, Copy)]
+#[derive(Drop)]
 pub struct Line<'a> {
     pub word: &'a [u8],
-    pub count: usize,
-    /// The numbers, and 0 in place of each that is not there.
-    pub numbers: [u32; 3],
+    pub numbers: ArrayVec<u32, 3>,
 }
 
 /// The line that the text is, or nothing if it is none.
 pub fn read_line(text: &[u8]) -> Option<Line<'_>>
-    ensures line { IfSome result (λ line. IsLine text.now line.word.now (numbers_in line.count line.numbers)) }
-    ensures count { IfSome result (λ line. length (numbers_in line.count line.numbers) ≡ line.count) }
+    ensures line { IfSome result (λ line. IsLine text.now line.word.now line.numbers.items) }
     ensures none { IfNone result ((word numbers : List ℕ) → ¬ (IsLine text.now word numbers)) }
 {
     let (word, mut rest) = split_once(text, b' ');
-    let mut numbers = [0; 3];
-    let mut count = 0;
+    let mut numbers = ArrayVec::new();
     while let Some(text) = rest {
-        if count == numbers.len() {
+        if numbers.is_full() {
             return None;
         }
         let (number, after) = split_field(text)?;
-        numbers[count] = number;
-        count += 1;
+        numbers.push(number);
         rest = after;
     }
-    Some(Line {
-        word,
-        count,
-        numbers,
-    })
+    Some(Line { word, numbers })
 }
 
 /// The number that the first field of a text is, and what comes after the space behind it, if there is one.

@@ -44,7 +44,7 @@ pub fn start<T: NumberTable, V: Env, R: Read, W: Write, E: Write>(
     }
 }
 
-/// The same on the argument words, without the name of the program.
+/// Runs the program on these argument words, without its own name, and answers its exit status.
 pub fn bench<T: NumberTable, S: AsStr, R: Read, W: Write, E: Write>(
     alloc: Global,
     words: &[S],

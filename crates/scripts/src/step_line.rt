@@ -1,7 +1,7 @@
 //! The lines of a core's script: each is a step.
-ghost use Rattle.std.specs.Prelude.{◌≡◌, ℕ, [], ◌∷◌, length, IfSome, IfNone};
+ghost use Rattle.std.specs.Prelude.{◌≡◌, ℕ, [], ◌∷◌, IfSome, IfNone};
 ghost use Rattle.counting_core.specs.declared.step.Step.{Step as CoreStep};
-ghost use Rattle.scripts.specs.Line.{Encodes, IsInvalid, Parses, numbers_in};
+ghost use Rattle.scripts.specs.Line.{Encodes, IsInvalid, Parses};
 ghost use Rattle.scripts.specs.StepLine.{step_line};
 
 use crate::line::{Line, is_word, read_line};
@@ -17,18 +17,15 @@ pub fn read_step(text: &[u8]) -> Option<Step<u32>>
 
 // By the number of operands, and then by the word.
 fn step_of(line: Line<'_>) -> Option<Step<u32>>
-    requires { length (numbers_in line.count line.numbers) ≡ line.count }
-    ensures step { IfSome result (Encodes step_line line.entry.word.now
-        (numbers_in line.entry.count line.entry.numbers)) }
-    ensures none { IfNone result ((step : CoreStep ℕ) → ¬ (Encodes step_line line.entry.word.now
-        (numbers_in line.entry.count line.entry.numbers) step)) }
+    ensures step { IfSome result (Encodes step_line line.entry.word.now line.entry.numbers.items) }
+    ensures none { IfNone result ((step : CoreStep ℕ)
+        → ¬ (Encodes step_line line.entry.word.now line.entry.numbers.items step)) }
 {
-    let [owner, handle, value] = line.numbers;
-    let (word, owner, handle) = (line.word, owner as usize, handle as usize);
-    match line.count {
-        1 => step_of_owner(word, owner),
-        2 => step_on_handle(word, owner, handle),
-        3 => step_with_value(word, owner, handle, value),
+    let word = line.word;
+    match *line.numbers.as_slice() {
+        [owner] => step_of_owner(word, owner as usize),
+        [owner, handle] => step_on_handle(word, owner as usize, handle as usize),
+        [owner, handle, value] => step_with_value(word, owner as usize, handle as usize, value),
         _ => None,
     }
 }

@@ -1,6 +1,6 @@
 //! The lines of a table's script: each is a command, or asks what a slot reads.
-ghost use Rattle.std.specs.Prelude.{◌≡◌, ℕ, [], ◌∷◌, length, IfSome, IfNone};
-ghost use Rattle.scripts.specs.Line.{Encodes, IsInvalid, Parses, numbers_in};
+ghost use Rattle.std.specs.Prelude.{◌≡◌, ℕ, [], ◌∷◌, IfSome, IfNone};
+ghost use Rattle.scripts.specs.Line.{Encodes, IsInvalid, Parses};
 ghost use Rattle.scripts.specs.declared.table_line.TableLine.{TableLine as Asked};
 ghost use Rattle.scripts.specs.TableLine.{table_line};
 
@@ -24,16 +24,13 @@ pub fn read_table_line(text: &[u8]) -> Option<TableLine>
 
 // By the number of operands, and then by the word.
 fn asked_by(line: Line<'_>) -> Option<TableLine>
-    requires { length (numbers_in line.count line.numbers) ≡ line.count }
-    ensures line { IfSome result (Encodes table_line line.entry.word.now
-        (numbers_in line.entry.count line.entry.numbers)) }
-    ensures none { IfNone result ((asked : Asked) → ¬ (Encodes table_line line.entry.word.now
-        (numbers_in line.entry.count line.entry.numbers) asked)) }
+    ensures line { IfSome result (Encodes table_line line.entry.word.now line.entry.numbers.items) }
+    ensures none { IfNone result ((asked : Asked)
+        → ¬ (Encodes table_line line.entry.word.now line.entry.numbers.items asked)) }
 {
-    let [slot, value, _] = line.numbers;
-    match line.count {
-        1 => asked_of_slot(line.word, slot as usize),
-        2 => asked_with_value(line.word, slot as usize, value),
+    match *line.numbers.as_slice() {
+        [slot] => asked_of_slot(line.word, slot as usize),
+        [slot, value] => asked_with_value(line.word, slot as usize, value),
         _ => None,
     }
 }

@@ -11,12 +11,14 @@ mod makers;
 mod order;
 mod places;
 mod reads;
+mod text;
 
 use crate::arc::Arc;
 pub use build::BuildError;
 use items::Items;
 use std::fmt;
 use std::marker::Model;
+pub use text::ThinStr;
 
 /// A shared header slice, in one word: `Arc::from_header_and_slice(alloc, header, &items)?`.
 pub type ThinArc<H, T> = Arc<HeaderSlice<H, T>>;

@@ -1,5 +1,5 @@
 -- A list in pages: what the pages hold together, and how long each of them is.
-use Rattle.std.specs.Prelude.{◌≡◌, ℕ, ◌<◌, ◌≤◌, List, [], ◌∷◌, ◌++◌, length, vec_len}
+use Rattle.std.specs.Prelude.{◌≡◌, ℕ, ◌<◌, ◌≤◌, List, [], ◌∷◌, length, vec_len}
 use Rattle.std.specs.List.{flat_map}
 use Rattle.std.specs.Vec.{vec_items}
 use Rattle.std.specs.declared.vec.Vec.{Vec}
@@ -14,21 +14,7 @@ IsPaged page_len [] = Unit {0}
 IsPaged page_len (last ∷ []) = (0 < vec_len last) × (vec_len last ≤ page_len)
 IsPaged page_len (page ∷ next ∷ pages) = (vec_len page ≡ page_len) × IsPaged page_len (next ∷ pages)
 
--- no page is empty
-abbrev pub AreFilled : {T A : Type 0} → List (Vec T A) → Type 0
-AreFilled [] = Unit {0}
-AreFilled (page ∷ pages) = (0 < vec_len page) × AreFilled pages
-
 -- the pages of a list of `len` items
 pub record ArePages {T A : Type 0} (page_len len : ℕ) (pages : List (Vec T A)) : Type 0 where
   pub count : len ≡ length (items_of pages)
   pub cut : IsPaged page_len pages
-
--- pages that are read from both ends: what is left of a page at either end, and the pages between them
-abbrev pub joined : {T A : Type 0} → List T → List (Vec T A) → List T → List T
-joined front pages back = front ++ items_of pages ++ back
-
-pub record AreBetween {T A : Type 0} (front : List T) (pages : List (Vec T A)) (back : List T)
-    (len : ℕ) : Type 0 where
-  pub count : len ≡ length (joined front pages back)
-  pub filled : AreFilled pages

@@ -12,7 +12,15 @@ impl<T: PartialEq> PartialEq for CowTable<T> {
     ghost laws = { lists_per T.laws };
 
     fn eq(&self, other: &CowTable<T>) -> bool {
-        self.len() == other.len() && self.into_iter().eq(other)
+        if self.len() != other.len() {
+            return false;
+        }
+        for i in 0..self.len() {
+            if self[i] != other[i] {
+                return false;
+            }
+        }
+        true
     }
 }
 
@@ -23,6 +31,10 @@ impl<T: Eq> Eq for CowTable<T> {
 /// As a list of the items.
 impl<T: Debug> Debug for CowTable<T> {
     fn fmt<W: Write>(&self, f: &mut Formatter<W>) -> fmt::Result {
-        f.debug_list().entries(self).finish()
+        let mut list = f.debug_list();
+        for i in 0..self.len() {
+            list.entry(&self[i]);
+        }
+        list.finish()
     }
 }

@@ -2,13 +2,11 @@
 #![tactic(auto)]
 
 mod compare;
-pub mod iter;
 mod page_length;
 mod paging;
 mod table;
 
 pub use handles::place::PlaceError;
-pub use iter::Iter;
 pub use table::CowTable;
 
 /// What `CowTable::set` is refused with.

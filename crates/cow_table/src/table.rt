@@ -18,7 +18,8 @@ use std::ops::Index;
 /// A list in pages, for many versions of a long list: `table.set(alloc, i, value)?` copies one page.
 ///
 /// A clone is a version, and costs one count. What is set in one version is seen in no other. The length stays the
-/// same: a list that grows is a `Sequence`, of the crate `sequence`.
+/// same: a list that grows is a `Sequence`, of the crate `sequence`. To go over the items, read `table[i]` for each
+/// `i` below `table.len()`.
 ///
 /// The items hold no cell, no lock and no atomic. What these hold can be written through a shared handle: every version
 /// that shares the item then reads the change, and no clause speaks of it.

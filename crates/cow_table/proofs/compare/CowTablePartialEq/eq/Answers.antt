@@ -1,42 +1,59 @@
--- What `eq` of two iterators over references says of their lists.
-use Rattle.std.proofs.Common.{◌≡◌, ◌∙◌, ◌&&◌, Bool, true, false, List, [], ◌∷◌, ap, ap₂, sym}
-use Rattle.std.specs.Prelude.{Option, None, Some, IfSome, MatchOption}
-use Rattle.std.specs.Borrow.{Bor}
+-- Two items at one place, and then those after them, decide.
+use Rattle.std.proofs.Common.{◌≡◌, ℕ, suc, ◌+◌, ◌<◌, ◌≤◌, ◌&&◌, Bool, true, false, not, List, ◌∷◌, length, drop, get_or}
+use Rattle.std.proofs.Common.{refl, sym, ◌∙◌, ap, ap₂, subst, arith, drop-cons}
+use Rattle.std.proofs.Math.ListN.{drop_of_length-le}
 use Rattle.std.specs.Cmp.Lexicographic.{pointwise}
-use Rattle.std.specs.Iterator.{YieldsFirstRef, YieldsThen}
-use Rattle.std.specs.List.{AllZip}
 use Rattle.cow_table.proofs.compare.CowTablePartialEq.eq.Goals as goal
 
-module _ {X : Type 0} (E : X → X → Bool) (r : Bool) where
-  abbrev steps : List X → Option (Bor X) → List X → Type 0
-  steps = YieldsFirstRef (λ s. s)
+module _ {X : Type 0} (E : X → X → Bool) (xs ys : List X) (i : ℕ) (x y : X) where
+  here : i < length xs → i < length ys → x ≡ get_or xs i x → y ≡ get_or ys i y
+      → pointwise E (drop i xs) (drop i ys) ≡ pointwise E (x ∷ drop (suc i) xs) (y ∷ drop (suc i) ys)
+  here in_xs in_ys is_x is_y =
+      ap₂ (pointwise E) (drop-cons xs i x in_xs ∙ ap (λ z. z ∷ drop (suc i) xs) (sym is_x))
+      (drop-cons ys i y in_ys ∙ ap (λ z. z ∷ drop (suc i) ys) (sym is_y))
 
-  -- the answer that the next items of both give
-  abbrev Answers : Option (Bor X) → Option (Bor X) → Type 0
-  Answers o p = MatchOption o (MatchOption p (r ≡ true) (λ _. r ≡ false))
-      (λ x. (r ≡ false) × IfSome p (λ y. E x.now y.now ≡ false))
+differ : (b : Bool) → true ≡ not b → b ≡ false
+differ true e = cc
+differ false e = refl
 
-  at_last : (o p : Option (Bor X)) (xs ys u w : List X) → steps xs o u → steps ys p w → Answers o p
-      → r ≡ pointwise E xs ys
-  at_last None None xs ys u w a b is = is ∙ sym (ap₂ (pointwise E) a.0 b.0)
-  at_last None (Some y) xs ys u w a b is = is ∙ sym (ap₂ (pointwise E) a.0 b)
-  at_last (Some x) None xs ys u w a b is = is.0 ∙ sym (ap₂ (pointwise E) a b.0)
-  at_last (Some x) (Some y) xs ys u w a b is =
-      is.0 ∙ sym (ap₂ (pointwise E) a b ∙ ap (λ e. e && pointwise E u w) is.1)
+agree : (b : Bool) → false ≡ not b → b ≡ true
+agree true e = refl
+agree false e = cc
 
-  along : (cs ds : List (Bor X)) (o p : Option (Bor X)) (xs ys u w : List X) → YieldsThen steps xs cs o u
-      → YieldsThen steps ys ds p w → AllZip (λ x y. E x.now y.now ≡ true) cs ds → Answers o p
-      → r ≡ pointwise E xs ys
-  along [] [] o p xs ys u w a b equal is =
-      at_last o p a.0 b.0 u w a.2 b.2 is ∙ sym (ap₂ (pointwise E) a.1 b.1)
-  along [] (y ∷ ds) o p xs ys u w a b equal is = absurd equal
-  along (x ∷ cs) [] o p xs ys u w a b equal is = absurd equal
-  along (x ∷ cs) (y ∷ ds) o p xs ys u w a b equal is =
-      along cs ds o p a.1.0 b.1.0 u w (a.0, a.1.2, a.2) (b.0, b.1.2, b.2) equal.1 is
-      ∙ sym (ap₂ (pointwise E) a.1.1 b.1.1 ∙ ap (λ e. e && pointwise E a.1.0 b.1.0) equal.0)
+pub loop-i-init : goal.loop-i-init
+loop-i-init g c = record {
+  decides = refl;
+  same_length = sym c.len.ensures ∙ c.if-len.false ∙ c.len-2.ensures;
+}
 
-pub returns-then-len : goal.returns-then-len
-returns-then-len g c =
-    let d = c.eq.ensures.ran in
-    along g.T.PartialEq.eq c.eq.result d.1 d.2 d.3 d.4 _ d.0 d.5 d.6 d.8 d.9 d.10 d.11
-    ∙ ap₂ (pointwise g.T.PartialEq.eq) c.into_iter.ensures.into_iter_gives d.7
+pub returns-then-ne : goal.returns-then-ne
+returns-then-ne g c =
+    let E = g.T.PartialEq.eq in
+    let both = here E c.args.self.now c.args.other.now c.loop-i.i c.index.result.now c.index-in-loop-i.result.now
+    (omega arith) (omega arith) c.index.ensures c.index-in-loop-i.ensures in
+    let unlike = differ _ (sym c.if-ne.true ∙ c.ne.ensures) in
+    sym (sym c.loop-i.invariant.decides ∙ both ∙ ap (λ b. b && pointwise E (drop (suc c.loop-i.i) c.args.self.now)
+    (drop (suc c.loop-i.i) c.args.other.now)) unlike)
+
+pub loop-i-preserved : goal.loop-i-preserved
+loop-i-preserved g c =
+    let E = g.T.PartialEq.eq in
+    let both = here E c.args.self.now c.args.other.now c.loop-i.i c.index.result.now c.index-in-loop-i.result.now
+    (omega arith) (omega arith) c.index.ensures c.index-in-loop-i.ensures in
+    let like = agree _ (sym c.if-ne.false ∙ c.ne.ensures) in
+    let next : suc c.loop-i.i ≡ c.loop-i.i + 1 = omega arith in
+    record {
+      decides = subst (λ n. pointwise E (drop n c.args.self.now) (drop n c.args.other.now)
+          ≡ pointwise E c.args.self.now c.args.other.now) next
+          (sym (ap (λ b. b && pointwise E (drop (suc c.loop-i.i) c.args.self.now)
+          (drop (suc c.loop-i.i) c.args.other.now)) like) ∙ sym both ∙ c.loop-i.invariant.decides);
+      same_length = c.loop-i.invariant.same_length;
+    }
+
+pub returns : goal.returns
+returns g c =
+    let E = g.T.PartialEq.eq in
+    let past : length c.args.self.now ≤ c.loop-i.i = omega arith in
+    let past_other : length c.args.other.now ≤ c.loop-i.i = omega arith in
+    sym (sym c.loop-i.invariant.decides ∙ ap₂ (pointwise E) (drop_of_length-le c.args.self.now past)
+    (drop_of_length-le c.args.other.now past_other))

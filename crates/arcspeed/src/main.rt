@@ -7,18 +7,17 @@
 mod arcs;
 mod freed;
 mod header;
-mod lists;
-mod maps;
 mod pages;
 mod random;
 mod sequences;
+mod stacks;
 mod styles;
 mod symbols;
 mod threads;
+mod tree_maps;
 mod union;
 
 use arcs::VALUE;
-use maps::Order;
 use servo_arc::Arc;
 use std::alloc::Global;
 use std::env;
@@ -31,6 +30,7 @@ use std::thread::Threads;
 use std::time::Clock;
 use symbols::Pairs;
 use threads::Turn;
+use tree_maps::Order;
 
 /// What the workload read, unless there is none of that name.
 fn checksum<R: Clock + Print + RandomSource + Threads + Wait + Sync>(
@@ -55,13 +55,13 @@ fn checksum<R: Clock + Print + RandomSource + Threads + Wait + Sync>(
         "static-clone" => arcs::clone_static(alloc, times),
         "union-clone" => union::clone_often(alloc, times),
         "cow-set" => pages::set_often(alloc, times),
-        "list-walk" => lists::walk(alloc, times),
+        "list-walk" => stacks::walk(alloc, times),
         "cascade" => styles::cascade(rt, alloc, 1, times),
         "cascade-4" => styles::cascade(rt, alloc, 4, times),
         "intern-plain" => symbols::intern(rt, alloc, Pairs::Plain, times),
         "intern-chosen" => symbols::intern(rt, alloc, Pairs::Chosen, times),
-        "map-rising" => maps::measure(rt, alloc, Order::Rising, times),
-        "map-mixed" => maps::measure(rt, alloc, Order::Mixed, times),
+        "map-rising" => tree_maps::measure(rt, alloc, Order::Rising, times),
+        "map-mixed" => tree_maps::measure(rt, alloc, Order::Mixed, times),
         "sequence" => sequences::measure(rt, alloc, times),
         "freed-blocks" => freed::blocks(alloc, times),
         "freed-unwritten" => freed::unwritten(alloc, times),

@@ -1,0 +1,15 @@
+pub mod Between
+pub mod Changed
+pub mod Copied
+pub mod Cuts
+pub mod Differences
+pub mod Inserted
+pub mod Kept
+pub mod Lookup
+pub mod Order
+pub mod Passed
+pub mod Ranges
+pub mod Removed
+pub mod Rising
+pub mod Sought
+pub mod Under

@@ -1,0 +1,9 @@
+pub mod Bounds
+pub mod Changes
+pub mod Differences
+pub mod Maps
+pub mod Nodes
+pub mod Places
+pub mod Queries
+pub mod StackFalls
+pub mod Stacks

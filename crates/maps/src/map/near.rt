@@ -1,0 +1,26 @@
+//! The entries nearest to a key.
+ghost use Rattle.std.specs.Prelude.{◌≡◌, ◌-◌, slice_get, take};
+ghost use Rattle.std.specs.Option.{option_copied};
+ghost use Rattle.maps.specs.Bounds.{rank_with_by};
+ghost use Rattle.maps.specs.Maps.{rank_by};
+
+use crate::map::TreeMap;
+use crate::query::Query;
+
+impl<K: Ord, V> TreeMap<K, V> {
+    /// The entry of the least key that is not below this one.
+    pub fn get_next<Q: Query<K>>(&self, key: Q) -> Option<&(K, V)>
+        ensures { option_copied result ≡ slice_get self.now (rank_by (Q.order key) self.now) }
+    {
+        self.nth(self.rank(key))
+    }
+
+    /// The entry of the greatest key that is not above this one.
+    #[tactic(auto, using(crate::proofs::Ranges::get_front))]
+    pub fn get_prev<Q: Query<K>>(&self, key: Q) -> Option<&(K, V)>
+        ensures { let count = rank_with_by (Q.order key) self.now in
+            option_copied result ≡ slice_get (take count self.now) (count - 1) }
+    {
+        self.nth(self.rank_with(key).checked_sub(1)?)
+    }
+}

@@ -1,9 +1,0 @@
-use Rattle.std.proofs.Common.{◌≡◌, ◌++◌, length}
-use Rattle.persistent.proofs.list.List.from_items.Given as goal
-
--- what is left stands before the list
-abbrev pub invariant-loop-item : goal.invariant-loop-item
-invariant-loop-item g l = l.items.items ++ l.list ≡ l.fn.items.items
-
-abbrev pub decreases-loop-item : goal.decreases-loop-item
-decreases-loop-item g l = length l.items.items

@@ -1,6 +1,0 @@
-use Rattle.std.proofs.Common.{◌≡◌, ◌++◌, reverse}
-use Rattle.persistent.proofs.list.List.reverse.Given as goal
-
--- what is left is put in front, one after another
-abbrev pub invariant-loop-item : goal.invariant-loop-item
-invariant-loop-item g l = reverse l.item-iterator ++ l.reversed ≡ reverse l.self

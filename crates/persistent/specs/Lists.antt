@@ -1,7 +1,0 @@
--- What a list's first handle is seen as.
-use Rattle.std.specs.Prelude.{List, [], ◌∷◌, Option, None, Some}
-use Rattle.persistent.specs.declared.links.Node.{Node}
-
-abbrev pub items : {T : Type 0} → Option (Node T) → List T
-items None = []
-items (Some node) = node.value ∷ node.rest

@@ -1,0 +1,4 @@
+pub mod Edits
+pub mod Modified
+pub mod Roses
+pub mod Versions

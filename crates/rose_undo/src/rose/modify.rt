@@ -1,0 +1,95 @@
+//! A change in place, but for the nodes that other versions have, which are copied.
+ghost use Rattle.std.specs.Prelude.{◌≡◌, ◌↔◌, Err, None, IfOk, IsSome, OnErr};
+ghost use Rattle.std.specs.Fn.{FnOnceTakesAtMut};
+ghost use Rattle.std.specs.Option.{ForSome, option_map};
+ghost use Rattle.handles.specs.Copies.{CopiesAreEqual};
+ghost use Rattle.handles.specs.declared.place.PlaceError.TheVariants.{NoPlace};
+ghost use Rattle.rose_undo.specs.Modified.{ChangesValue};
+ghost use Rattle.rose_undo.specs.Roses.{at, branch, children, root};
+
+use super::Rose;
+use handles::arc::Arc;
+use handles::header_slice::HeaderSlice;
+use handles::place::PlaceError;
+use handles::unique::UniqueArc;
+use std::alloc::{AllocError, Global};
+
+impl<V: Clone> Rose<V> {
+    /// Changes the value at the end of the path, and gives what the change answered.
+    ///
+    /// It writes in place, but copies each node on the path that other versions have, and is refused as `with_value`
+    /// is. The change is then not called, and the tree reads as it did.
+    pub fn modify<R, F: FnOnce(&mut V) -> R>(
+        &mut self,
+        alloc: Global,
+        path: &[usize],
+        change: F,
+    ) -> Result<R, PlaceError>
+        requires copies { CopiesAreEqual V.is_clone }
+        requires callable { ForSome (option_map root (at path.now self.old)) (FnOnceTakesAtMut F.FnOnce change) }
+        ensures changed { IfOk result (ChangesValue F.FnOnce change path.now self.old self.new) }
+        ensures no_place { (result ≡ Err NoPlace) ↔ (at path.now self.old ≡ None) }
+        ensures refused { OnErr result (self.new ≡ self.old) }
+    {
+        if self.at(path).is_none() {
+            return Err(PlaceError::NoPlace);
+        }
+        Ok(self.modify_there(alloc, path, change)?)
+    }
+
+    #[cycle(modify)]
+    fn modify_there<R, F: FnOnce(&mut V) -> R>(
+        &mut self,
+        alloc: Global,
+        path: &[usize],
+        change: F,
+    ) -> Result<R, AllocError>
+        requires copies { CopiesAreEqual V.is_clone }
+        requires there { IsSome (at path.now self.old) }
+        requires callable { ForSome (option_map root (at path.now self.old)) (FnOnceTakesAtMut F.FnOnce change) }
+        ensures changed { IfOk result (ChangesValue F.FnOnce change path.now self.old self.new) }
+        ensures refused { OnErr result (self.new ≡ self.old) }
+    {
+        if let Some(node) = Arc::get_mut(&mut self.node) {
+            return Rose::write(node, alloc, path, change);
+        }
+        let mut copy = self.copy(alloc)?;
+        let answer = Rose::write(&mut copy, alloc, path, change)?;
+        self.node = copy.shareable();
+        Ok(answer)
+    }
+
+    // A node like the root, which nobody shares.
+    fn copy(&self, alloc: Global) -> Result<UniqueArc<HeaderSlice<V, Rose<V>>>, AllocError>
+        requires copies { CopiesAreEqual V.is_clone }
+        ensures { IfOk result (λ node. node ≡ record { header = root self.now; items = children self.now }) }
+    {
+        let children = self.children().to_vec(alloc)?;
+        let value = self.value().clone()?;
+        UniqueArc::from_header_and_iter(alloc, value, children.into_iter()).map_err(
+            AllocError::from,
+        )
+    }
+
+    // The node is one that nobody shares.
+    #[cycle(modify)]
+    fn write<R, F: FnOnce(&mut V) -> R>(
+        node: &mut HeaderSlice<V, Rose<V>>,
+        alloc: Global,
+        path: &[usize],
+        change: F,
+    ) -> Result<R, AllocError>
+        requires copies { CopiesAreEqual V.is_clone }
+        requires there { IsSome (at path.now (branch node.old.header node.old.items)) }
+        requires callable { ForSome (option_map root (at path.now (branch node.old.header node.old.items)))
+            (FnOnceTakesAtMut F.FnOnce change) }
+        ensures changed { IfOk result (ChangesValue F.FnOnce change path.now
+            (branch node.old.header node.old.items) (branch node.new.header node.new.items)) }
+        ensures refused { OnErr result (node.new ≡ node.old) }
+    {
+        match path.split_first() {
+            None => Ok(change(&mut node.header)),
+            Some((index, rest)) => node.slice_mut()[*index].modify_there(alloc, rest, change),
+        }
+    }
+}

@@ -1,4 +1,0 @@
-pub mod Changes
-pub mod Modified
-pub mod Roses
-pub mod Versions

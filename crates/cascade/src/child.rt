@@ -22,13 +22,14 @@ impl Query<RuleNode> for &Child<'_> {
 impl Make<RuleNode> for &Child<'_> {
     ghost makes = { λ child nodes node. node ≡ made_of child.now nodes };
 
-    fn make(self, alloc: Global, nodes: &[Arc<RuleNode>]) -> Result<RuleNode, AllocError> {
+    fn make(self, alloc: Global, nodes: &[Arc<RuleNode>]) -> Result<Arc<RuleNode>, AllocError> {
         let source = self.source.handle()?;
         let style = style_of_node(self.root, nodes, self.parent).cascade(alloc, &source)?;
-        Ok(RuleNode {
+        let node = RuleNode {
             parent: self.parent,
             source,
             style: Arc::try_new(alloc, style)?,
-        })
+        };
+        Ok(Arc::try_new(alloc, node)?)
     }
 }

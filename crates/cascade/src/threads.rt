@@ -30,7 +30,7 @@ pub fn styles(
     Ok(styles)
 }
 
-/// The same, each half by a thread.
+/// The styles of the elements, each at the place of its element. Two threads make a half each, by caches of their own.
 pub fn styles_in_two<R: Threads + Sync>(
     rt: &R,
     alloc: Global,
@@ -48,7 +48,8 @@ pub fn styles_in_two<R: Threads + Sync>(
     joined(left?, right?)
 }
 
-/// The same, each quarter by a thread.
+/// The styles of the elements, each at the place of its element. Four threads make a quarter each, by caches of their
+/// own.
 pub fn styles_in_four<R: Threads + Sync>(
     rt: &R,
     alloc: Global,

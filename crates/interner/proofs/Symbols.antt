@@ -1,15 +1,19 @@
 -- The symbols of a list of values.
 use Rattle.std.proofs.Common.{◌≡◌, ℕ, ◌↔◌, Bool, true, false, not, List, [], ◌∷◌, ◌++◌, length, get_or, slice_get}
-use Rattle.std.proofs.Common.{◌<◌, Option, Some, None, IsSome, is_some, nat_eq, nat_lt, position, if◌then◌else◌}
-use Rattle.std.proofs.Common.{refl, sym, ap, ◌∙◌, true≢false, arith}
+use Rattle.std.proofs.Common.{◌<◌, map as values_of, Option, Some, None, IsSome, is_some, nat_eq, nat_lt, position}
+use Rattle.std.proofs.Common.{if◌then◌else◌}
+use Rattle.std.proofs.Common.{refl, sym, ap, ◌∙◌, subst, true≢false, arith}
 use Rattle.std.proofs.lemmas.List.Folds.{position_or_len_push}
 use Rattle.std.proofs.lemmas.List.Sums.{prefix_len-le-length}
 use Rattle.std.proofs.lemmas.List.Quantifiers.{position-Some}
 use Rattle.std.proofs.lemmas.Grind.{common_steps}
 use Rattle.std.proofs.lemmas.List.{get_or_append_left}
-use Rattle.std.proofs.lemmas.Option.{get_or_from_slice_get, slice_get-get_or, slice_get_within}
+use Rattle.std.proofs.lemmas.Option.{get_or_from_slice_get, same_Some, slice_get-get_or, slice_get-map}
+use Rattle.std.proofs.lemmas.Option.{slice_get_within}
+use Rattle.std.specs.Option.{option_map}
 use Rattle.std.specs.Cmp.{IsEquivalence}
 use Rattle.std.specs.List.{list_any, position_or_len}
+use Rattle.interner.specs.InternMaps.{IsUnder, KeysAndValues}
 use Rattle.interner.specs.Made.{IsFoundOrMade}
 use Rattle.interner.specs.Symbols.{symbol_of, with_value, IsInterned}
 
@@ -45,7 +49,7 @@ module _ {T : Type 0} {eq : T → T → Bool} (laws : IsEquivalence eq) where
       )
 
   module _ (old : List T) (value : T) where
-    symbol_of_new : symbol_of eq (with_value eq old value) value ≡ Some (position_or_len (eq value) old)
+    pub symbol_of_new : symbol_of eq (with_value eq old value) value ≡ Some (position_or_len (eq value) old)
     symbol_of_new = by (list_any (eq value) old) refl
       where
         by : (b : Bool) → list_any (eq value) old ≡ b
@@ -138,6 +142,47 @@ module _ {T : Type 0} {eq : T → T → Bool} {old new : List T} {value : T} {s 
             get_or_append_left old (value ∷ []) v k within,
             get_or_from_slice_get old k v v is,
           )
+
+  -- the value was there already exactly if its symbol was one
+  pub was_there : IsEquivalence eq → list_any (eq value) old ≡ nat_lt s (length old)
+  was_there laws =
+      let place = ap (λ vs. symbol_of eq vs value) met.values ∙ symbol_of_new laws old value in
+      let at : s ≡ position_or_len (eq value) old =
+      same_Some s (position_or_len (eq value) old) (sym ((met.one value).1 (laws.refl value)) ∙ place) in
+      any_by_place (eq value) old ∙ ap (λ i. nat_lt i (length old)) (sym at)
+
+-- what a caller knows after a `find`
+module _ {T : Type 0} (pass : T → Bool) (values : List T) (value : T) where
+  -- the value that is found stands under its symbol, where no other one passes
+  pub found_at : (s : ℕ) → position pass values ≡ Some s → ((v : T) → pass v ≡ true → value ≡ v)
+      → slice_get values s ≡ Some value
+  found_at s is alone =
+      let at = position-Some pass values s value is in
+      slice_get-get_or values s value at.0 ∙ ap Some (sym (alone (get_or values s value) at.1))
+
+  -- a value that is not found goes behind the others
+  pub absent_new : {eq : T → T → Bool} {new : List T} {s : ℕ} → IsInterned eq values value new s
+      → position pass values ≡ None → ((v : T) → pass v ≡ eq value v) → new ≡ values ++ value ∷ []
+  absent_new {eq} met none equal =
+      let absent : list_any (eq value) values ≡ false =
+      (λ j. list_any (λ v. sym (equal v) j) values) ∙ any_by_position pass values ∙ ap is_some none in
+      met.values ∙ ap (λ there. if there then values else values ++ value ∷ []) absent
+
+-- what a caller knows of a value that was found under a key, where each value is that of a function
+pub value_at : {K V : Type 0} {pass : K → Bool} {map : KeysAndValues K V} {value : V} (met : IsUnder pass map value)
+    (of : K → V) (key : K) → map.values ≡ values_of of map.keys → ((k : K) → pass k ≡ true → key ≡ k) → value ≡ of key
+value_at {pass = pass} {map = map} {value = value} met of key each alone =
+    let there = ap (option_map of) (found_at pass map.keys key met.symbol met.found alone) in
+    let own = sym met.at ∙ ap (λ vs. slice_get vs met.symbol) each ∙ slice_get-map of map.keys met.symbol in
+    same_Some value (of key) (own ∙ there)
+
+-- what a caller knows after an `intern_by`: the value stands under its symbol, where no other one passes
+pub made_at : {T : Type 0} {eq : T → T → Bool} {pass : T → Bool} {Made : T → Type 0} {old new : List T} {s : ℕ}
+    (met : IsFoundOrMade eq pass Made old new s) (value : T) → ((v : T) → pass v ≡ true → value ≡ v)
+    → eq value value ≡ true → ((v : T) → eq value v ≡ true → value ≡ v) → slice_get new s ≡ Some value
+made_at {eq} {pass} {Made} {old} {new} {s} met value alone self same =
+    let is : value ≡ met.value = alone met.value met.stands in
+    stands_at (subst (λ v. IsInterned eq old v new s) (sym is) met.interned) self same
 
 -- two symbols are equal exactly if the values are that were interned for them
 module _ {T : Type 0} (eq : T → T → Bool) (old mid new : List T) (a b : T) (s t : ℕ)

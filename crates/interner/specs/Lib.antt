@@ -1,3 +1,5 @@
+pub mod InternMaps
 pub mod Made
+pub mod Parts
 pub mod Queries
 pub mod Symbols

@@ -5,12 +5,15 @@ mod asked;
 mod compare;
 mod error;
 mod iter;
+mod map;
+mod parts;
 mod query;
 mod symbol;
 mod table;
 
 pub use error::InternError;
 pub use iter::Iter;
+pub use map::InternMap;
 pub use query::{Make, Query};
 pub use symbol::Symbol;
 pub use table::Interner;

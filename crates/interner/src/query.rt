@@ -12,10 +12,12 @@ use handles::arc::Arc;
 use std::alloc::{AllocError, Global};
 use std::hash::Hash;
 
-/// A form in which a caller has a value before it is a `T`: a `&T`, a `&str` for a `String`, a `&[T]` for a `Vec<T>`.
+/// A form in which a caller has a value before it is a `T`: a `&T`, a `&str` for a `String`, a `&[T]` for a `Vec<T>`, a
+/// `(&H, &[T])` for a `HeaderSlice<H, T>`.
 ///
 /// Implement it for a type of your own to find values by their borrowed parts. It is hashed and compared in place of
-/// the value, so it has to do both as the value does, and `is_form` asks for the proof.
+/// the value, so it has to do both as the value does, and `is_form` asks for the proof. The `Query` of `maps` is
+/// another trait, by which a key is found in an order, with no hash.
 pub trait Query<T: Eq + Hash>: Copy + Hash {
     // The values that it stands for.
     ghost stands_for: { Self → T → Bool };
@@ -34,8 +36,8 @@ pub trait Make<T: Eq + Hash>: Query<T> {
     // What it makes where these are the values.
     ghost makes: { Self → List T → T → Type 0 };
 
-    /// A value that it stands for, where none is there.
-    fn make(self, alloc: Global, values: &[Arc<T>]) -> Result<T, AllocError>
+    /// The block of a value that it stands for, where none is there. The interner keeps that block.
+    fn make(self, alloc: Global, values: &[Arc<T>]) -> Result<Arc<T>, AllocError>
         ensures stands { IfOk result (λ value. IsTrue (Self.stands_for self value)) }
         ensures made { IfOk result (makes self values.now) };
 }
@@ -70,8 +72,8 @@ impl Query<String> for &str {
 impl Make<String> for &str {
     ghost makes = { λ query _ value. string_bytes value ≡ query.now };
 
-    fn make(self, alloc: Global, _values: &[Arc<String>]) -> Result<String, AllocError> {
-        String::from_str(alloc, self)
+    fn make(self, alloc: Global, _values: &[Arc<String>]) -> Result<Arc<String>, AllocError> {
+        Ok(Arc::try_new(alloc, String::from_str(alloc, self)?)?)
     }
 }
 
@@ -91,7 +93,7 @@ impl<T: Eq + Hash> Query<Vec<T>> for &[T] {
 impl<T: Eq + Hash + Copy> Make<Vec<T>> for &[T] {
     ghost makes = { λ query _ value. value.items ≡ query.now };
 
-    fn make(self, alloc: Global, _values: &[Arc<Vec<T>>]) -> Result<Vec<T>, AllocError> {
-        Vec::from_slice(alloc, self)
+    fn make(self, alloc: Global, _values: &[Arc<Vec<T>>]) -> Result<Arc<Vec<T>>, AllocError> {
+        Ok(Arc::try_new(alloc, Vec::from_slice(alloc, self)?)?)
     }
 }

@@ -143,7 +143,7 @@ impl<T: Eq + Hash + Drop, S: BuildHasher> Interner<T, S> {
     ///
     /// A value that is there is never refused: no want of memory can hide it. A new one takes none but for the table,
     /// now and then. It takes O(1) steps on average.
-    #[tactic(auto, using(crate::proofs::Symbols::known))]
+    #[tactic(auto, using(crate::proofs::Symbols::known, crate::proofs::Symbols::any_by_position))]
     pub fn intern_arc(&mut self, value: Arc<T>) -> Result<Symbol, InternError>
         ensures interned { IfOk result (IsInterned T.eq self.old value self.new) }
         ensures there { IsTrue (list_any (T.eq value) self.old) → IsOk result }
@@ -151,13 +151,15 @@ impl<T: Eq + Hash + Drop, S: BuildHasher> Interner<T, S> {
             ↔ (list_any (T.eq value) self.old ≡ false) × (2 ^ 32 ≤ length self.old) }
         ensures refused { OnErr result (self.new ≡ self.old) }
     {
-        match self.place_of(&*value)? {
-            Some(symbol) => Ok(symbol),
-            None => self.add(value),
+        if self.blocks.len() > u32::MAX as usize {
+            return self.find(&*value).ok_or(InternError::Full);
         }
+        self.add(value)
     }
 
-    /// The same, of a value that has no block yet. A new one takes memory for its block too.
+    /// The symbol of the value, which gets a block if no equal one is there, and is dropped otherwise.
+    ///
+    /// It is refused as `intern_arc` is, and if there is no memory for the block of a new value.
     #[tactic(auto, using(crate::proofs::Symbols::known))]
     pub fn intern(&mut self, alloc: Global, value: T) -> Result<Symbol, InternError>
         ensures interned { IfOk result (IsInterned T.eq self.old value self.new) }
@@ -172,10 +174,11 @@ impl<T: Eq + Hash + Drop, S: BuildHasher> Interner<T, S> {
         }
     }
 
-    /// The same, of the value that the query stands for, as `intern_by(alloc, "text")` where the values are `String`s.
-    /// If none is there, the query makes it.
+    /// The symbol of the value that the query stands for, as of `intern_by(alloc, "text")` where the values are
+    /// `String`s. If no such value is there, the query makes it.
     ///
-    /// The query is hashed, and a new value once more. Of a value that is there nothing is made.
+    /// It is refused as `intern` is, and if the query makes no value. The query is hashed, and a new value once more.
+    /// Of a value that is there nothing is made.
     pub fn intern_by<Q: Make<T>>(&mut self, alloc: Global, query: Q) -> Result<Symbol, InternError>
         ensures interned { IfOk result (IsFoundOrMade T.eq (Q.stands_for query) (Q.makes query self.old)
             self.old self.new) }
@@ -187,7 +190,7 @@ impl<T: Eq + Hash + Drop, S: BuildHasher> Interner<T, S> {
         match self.place_of(query)? {
             Some(symbol) => Ok(symbol),
             None => {
-                let block = made(query, alloc, self.values())?;
+                let block = query.make(alloc, self.values())?;
                 self.add(block)
             }
         }
@@ -208,28 +211,15 @@ impl<T: Eq + Hash + Drop, S: BuildHasher> Interner<T, S> {
         }
     }
 
-    // Adds a value that is not there.
+    // As `intern_arc`, with a symbol left.
     fn add(&mut self, value: Arc<T>) -> Result<Symbol, InternError>
-        requires new { list_any (T.eq value) self.old ≡ false }
-        requires few { length self.old < 2 ^ 32 }
+        requires { length self.old < 2 ^ 32 }
         ensures interned { IfOk result (IsInterned T.eq self.old value self.new) }
+        ensures absent { OnErr result (list_any (T.eq value) self.old ≡ false) }
         ensures refused { OnErr result (self.new ≡ self.old) }
         ensures memory { IfErr result (λ refusal. refusal ≡ InternError.Memory) }
     {
         let (index, _) = self.blocks.insert_full(value)?;
         Ok(Symbol::of(index as u32))
     }
-}
-
-// The block of a value that the query makes.
-fn made<T: Eq + Hash + Drop, Q: Make<T>>(
-    query: Q,
-    alloc: Global,
-    values: &[Arc<T>],
-) -> Result<Arc<T>, InternError>
-    ensures stands { IfOk result (λ value. IsTrue (Q.stands_for query value)) }
-    ensures made { IfOk result (Q.makes query values.now) }
-    ensures memory { IfErr result (λ refusal. refusal ≡ InternError.Memory) }
-{
-    Ok(Arc::try_new(alloc, query.make(alloc, values)?)?)
 }

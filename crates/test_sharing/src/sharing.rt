@@ -1,7 +1,7 @@
-//! Tests of lists and sequences, of keys and symbols, and of styles.
+//! Tests of stacks, maps and sequences, of keys and symbols, and of styles.
 
-mod lists;
-mod maps;
 mod sequences;
+mod stacks;
 mod styles;
 mod symbols;
+mod tree_maps;

@@ -4,3 +4,5 @@ mod agenda;
 mod calling;
 mod documents;
 mod editions;
+mod recursive;
+mod shared_json;

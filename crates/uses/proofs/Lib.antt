@@ -1,2 +1,5 @@
 pub mod InOrder
+pub mod JsonChanged
+pub mod JsonSeen
+pub mod SameNode
 pub mod TwoPasses

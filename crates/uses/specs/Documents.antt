@@ -5,9 +5,9 @@ use Rattle.std.specs.declared.alloc.Global.{Global}
 use Rattle.uses.specs.declared.documents.Edit.{Edit}
 use Rattle.uses.specs.declared.documents.Edit.TheVariants.{Rename, Restyle, Insert, Remove}
 use Rattle.uses.specs.declared.documents.Part.{Part}
-use Rattle.trees.specs.declared.rose.Rose.{Rose}
+use Rattle.rose_undo.specs.declared.rose.Rose.{Rose}
 use Rattle.cascade.specs.declared.source.Inline.{Inline}
-use Rattle.trees.specs.Roses.{at, root, with_inserted, with_value, without}
+use Rattle.rose_undo.specs.Roses.{at, root, with_inserted, with_value, without}
 
 -- the tree with the change made of a part
 abbrev pub with_part : (Part → Part) → List ℕ → Rose Part → Option (Rose Part)

@@ -1,16 +1,17 @@
 //! A bank, whose contract says that a transfer keeps the sum of all balances.
-ghost use Rattle.std.specs.Prelude.{◌≡◌, ◌+◌, ◌^◌, ◌<◌, ◌≤◌, ◌⊎◌, ℕ, false, true, IfOk, OnErr};
+ghost use Rattle.std.specs.Prelude.{◌≡◌, ◌+◌, ◌^◌, ◌<◌, ◌≤◌, ◌⊎◌, ℕ, false, true, IfOk, IsSome, OnErr};
 ghost use Rattle.std.specs.Ordering.{is_eq, nat_cmp};
-ghost use Rattle.persistent.specs.Maps.{lookup};
+ghost use Rattle.maps.specs.Maps.{lookup};
 ghost use Rattle.uses.specs.Bank.{balance, total};
 
-use persistent::TreeMap;
+use maps::TreeMap;
 use std::alloc::{AllocError, Global};
 
-/// Moves an amount from one account to another, and says whether the first has it and the second has room for it.
+/// Moves an amount from one account to another, and says whether the first has it and the second has room for it. It
+/// closes no account: one that has nothing left stays.
 ///
 /// It works on a version, so that the bank stays as it was if the second account cannot be written.
-#[tactic(auto, using(persistent::proofs::Inserted::numbers))]
+#[tactic(auto, using(maps::proofs::Inserted::numbers))]
 pub fn transfer(
     bank: &mut TreeMap<u64, u64>,
     alloc: Global,
@@ -26,6 +27,7 @@ pub fn transfer(
         → balance to bank.new ≡ balance to bank.old + amount) }
     ensures others { (k : ℕ) → is_eq (nat_cmp k from) ≡ false → is_eq (nat_cmp k to) ≡ false
         → lookup nat_cmp k bank.new ≡ lookup nat_cmp k bank.old }
+    ensures stays { (k : ℕ) → IsSome (lookup nat_cmp k bank.old) → IsSome (lookup nat_cmp k bank.new) }
     ensures unmoved { IfOk result (λ moved. moved ≡ false → bank.new ≡ bank.old) }
     ensures why { IfOk result (λ moved. moved ≡ false
         → (balance from bank.old < amount) ⊎ (2 ^ 64 ≤ balance to bank.old + amount)) }

@@ -2,10 +2,10 @@
 ghost use Rattle.std.specs.Prelude.{◌≡◌, ◌∷◌, ◌++◌, [], IfOk, OnErr, OnOk, drop, take};
 ghost use Rattle.std.specs.List.{insert};
 
+use rose_undo::Undo;
 use sequence::{PlaceError, Sequence};
 use servo_arc::Arc;
 use std::alloc::Global;
-use trees::Undo;
 
 /// Lines behind handles, so that a copy of one equals it.
 pub type Buffer = Undo<Sequence<Arc<String>>>;

@@ -4,7 +4,7 @@ ghost use Rattle.std.specs.Prelude.{◌≡◌, IfOk, IfErr, length};
 use crate::recursive::by_arc::Node;
 use crate::recursive::by_other_handles::{Borrowing, FirstOfUnion, HeaderTree, Token, Unique};
 use crate::recursive::by_static::Linked;
-use persistent::List;
+use maps::Stack;
 use servo_arc::{Arc, ArcBorrow, HeaderSlice, RawArc, StaticArc, ThinArc, ThinArcUnion, UniqueArc};
 use std::alloc::Global;
 use std::thread::{Threads, join};
@@ -51,9 +51,9 @@ pub fn made_elsewhere(rt: &impl Threads, alloc: Global, value: u32) -> Result<Ar
     join(rt, move || Arc::new(alloc, value), || ()).0
 }
 
-/// The number of items of a list, counted by a thread that it is lent to.
-pub fn len_elsewhere(rt: &impl Threads, list: &List<u32>) -> usize
-    ensures { result ≡ length list.now }
+/// The number of items of a stack, counted by a thread that it is lent to.
+pub fn len_elsewhere(rt: &impl Threads, stack: &Stack<u32>) -> usize
+    ensures { result ≡ length stack.now }
 {
-    join(rt, || list.len(), || ()).0
+    join(rt, || stack.len(), || ()).0
 }

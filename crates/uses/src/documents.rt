@@ -2,13 +2,13 @@
 ghost use Rattle.std.specs.Prelude.{◌≡◌, ◌↔◌, ◌∷◌, ◌++◌, [], Err, None, Some, IfOk, OnErr, OnOk, insert, map};
 ghost use Rattle.cascade.specs.Cascade.{style_of};
 ghost use Rattle.uses.specs.Documents.{edited, renamed, restyled};
-ghost use Rattle.trees.specs.Roses.{preorder, values_below};
+ghost use Rattle.rose_undo.specs.Roses.{branch, children, preorder, root, values_below};
 
 use cascade::{Element, Inline, Style, StyleCache};
 use interner::InternError;
+use rose_undo::{PlaceError, Rose, Undo};
 use servo_arc::Arc;
 use std::alloc::{AllocError, Global};
-use trees::{PlaceError, Rose, Undo};
 
 /// What stands at a place of a document. The name is text behind an `Arc`: a copy has the same text, by contract, and
 /// takes no memory.
@@ -83,7 +83,7 @@ fn edited(
     }
 }
 
-#[tactic(auto, using(trees::proofs::Roses::setting))]
+#[tactic(auto, using(rose_undo::proofs::Roses::setting))]
 fn renamed(
     alloc: Global,
     tree: &Rose<Part>,
@@ -98,7 +98,7 @@ fn renamed(
     tree.with_value(alloc, path, Part { name, element })
 }
 
-#[tactic(auto, using(trees::proofs::Roses::setting))]
+#[tactic(auto, using(rose_undo::proofs::Roses::setting))]
 fn restyled(
     alloc: Global,
     tree: &Rose<Part>,
@@ -116,7 +116,7 @@ fn restyled(
 }
 
 /// The document with one more part right below its root, which gets that number. The parts from there on get the next.
-#[tactic(auto, using(trees::proofs::Branches::below))]
+#[tactic(auto, using(rose_undo::proofs::Branches::below))]
 pub fn with_part(
     tree: &Rose<Part>,
     alloc: Global,
@@ -124,6 +124,8 @@ pub fn with_part(
     part: Part,
 ) -> Result<Rose<Part>, PlaceError>
     ensures parts { IfOk result (λ new. values_below new ≡ insert (values_below tree.now) number part) }
+    ensures stays { IfOk result (λ new. root new ≡ root tree.now) }
+    ensures below { IfOk result (λ new. children new ≡ insert (children tree.now) number (branch part [])) }
 {
     let part = Rose::leaf(alloc, part)?;
     tree.with_inserted(alloc, &[], number, part)

@@ -1,11 +1,11 @@
 //! Snapshots: one thread makes versions of a list and of a map, and others read each of them.
 ghost use Rattle.std.specs.Prelude.{◌≡◌, IsTrue, Some, slice_get};
 ghost use Rattle.std.specs.Ordering.{nat_cmp};
-ghost use Rattle.persistent.specs.Maps.{lookup};
+ghost use Rattle.maps.specs.Maps.{lookup};
 
 use cow_table::{CowTable, PlaceError};
 use crossbeam_channel::{Receiver, Sender, unbounded};
-use persistent::TreeMap;
+use maps::TreeMap;
 use std::alloc::{AllocError, Global};
 use std::sync::Wait;
 use std::thread;
@@ -35,10 +35,12 @@ impl Edition {
 
     /// Whether the other items and keys have what `publish` had written by then.
     pub fn is_as_published(&self) -> bool {
-        let items = self.items.iter().copied().skip(1);
-        let written = (1..WRITTEN).map(|place| latest(self.number, place).unwrap_or(0));
-        items.eq(written)
-            && (1..WRITTEN).all(|key| self.map.get(&key).copied() == latest(self.number, key))
+        let is_written = |place: u64| {
+            let written = latest(self.number, place);
+            let item = self.items.get(place as usize).copied();
+            item == Some(written.unwrap_or(0)) && self.map.get(&place).copied() == written
+        };
+        self.items.len() as u64 == WRITTEN && (1..WRITTEN).all(is_written)
     }
 }
 

@@ -1,6 +1,7 @@
 //! Code above the crates, as their users write it, with contracts of its own: it shows what callers can prove.
 #![tactic(auto)]
 
+pub mod accounts;
 pub mod agenda;
 pub mod along_a_path;
 pub mod bank;
@@ -11,11 +12,15 @@ pub mod documents;
 pub mod dynamic;
 pub mod editions;
 pub mod edits;
+pub mod names;
+pub mod nodes;
 pub mod noted;
 pub mod published;
 pub mod read_back;
 pub mod recursive;
+pub mod shared_json;
 pub mod symbols;
 pub mod text_style;
+pub mod tree_total;
 pub mod two_threads;
 pub mod two_versions;

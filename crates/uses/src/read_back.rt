@@ -1,9 +1,9 @@
 //! A caller that reads behind a clause which says the whole map, and so names the lemmas of what is read there.
 ghost use Rattle.std.specs.Prelude.{◌≡◌, Some, IfOk, OnOk};
 ghost use Rattle.std.specs.Ordering.{nat_cmp};
-ghost use Rattle.persistent.specs.Maps.{with_entry};
+ghost use Rattle.maps.specs.Maps.{with_entry};
 
-use persistent::TreeMap;
+use maps::TreeMap;
 use std::alloc::{AllocError, Global};
 
 /// Sets a value under a key.
@@ -20,7 +20,7 @@ pub fn set(
 }
 
 /// What is read after that.
-#[tactic(auto, using(persistent::proofs::Inserted::numbers))]
+#[tactic(auto, using(maps::proofs::Inserted::numbers))]
 pub fn set_and_read(
     map: &mut TreeMap<u64, u64>,
     alloc: Global,

@@ -9,6 +9,7 @@
 //! recursions over them.
 
 pub mod by_arc;
+pub mod by_collections;
 pub mod by_other_handles;
 pub mod by_static;
 pub mod walks;

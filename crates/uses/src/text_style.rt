@@ -96,7 +96,7 @@ pub fn properties(
     Arc::from_header_and_slice(alloc, rule, numbers)
 }
 
-/// The same of a vector, which is used up.
+/// The numbers of a vector, which is used up, under their rule.
 pub fn properties_of(
     alloc: Global,
     rule: u32,

@@ -1,9 +1,9 @@
 //! Callers that make two versions and read both: the old one stays as it was, by contract.
 ghost use Rattle.std.specs.Prelude.{◌≡◌, ◌∷◌, [], Some, IfOk};
 ghost use Rattle.std.specs.Ordering.{nat_cmp};
-ghost use Rattle.persistent.specs.Maps.{lookup};
+ghost use Rattle.maps.specs.Maps.{lookup};
 
-use persistent::{List, TreeMap};
+use maps::{Stack, TreeMap};
 use std::alloc::{AllocError, Global};
 
 /// What the key had, and what it has once it was set. Both versions are read after the change.
@@ -21,11 +21,11 @@ pub fn before_and_after(
     Ok((old.get(&key).copied(), map.get(&key).copied()))
 }
 
-/// A list, and the list with one more item.
-pub fn two_lists(alloc: Global) -> Result<(List<u64>, List<u64>), AllocError>
-    ensures { IfOk result (λ lists. (lists.0 ≡ 1 ∷ []) × (lists.1 ≡ 2 ∷ 1 ∷ [])) }
+/// A stack, and the stack with one more item.
+pub fn two_stacks(alloc: Global) -> Result<(Stack<u64>, Stack<u64>), AllocError>
+    ensures { IfOk result (λ stacks. (stacks.0 ≡ 1 ∷ []) × (stacks.1 ≡ 2 ∷ 1 ∷ [])) }
 {
-    let old = List::new().push(alloc, 1)?;
+    let old = Stack::new().push(alloc, 1)?;
     let new = old.push(alloc, 2)?;
     Ok((old, new))
 }

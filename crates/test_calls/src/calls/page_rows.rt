@@ -20,10 +20,9 @@ fn reads(table: &CowTable<u32>, items: &[u32]) -> bool {
         table.get(items.len()).is_none(),
         table.len() == items.len(),
         table.is_empty() == items.is_empty(),
-        table.into_iter().eq(items),
-        table.iter().rev().eq(items.iter().rev()),
+        (0..items.len()).all(|i| table.get(i) == items.get(i)),
     ];
-    are_right == [true; 7]
+    are_right == [true; 6]
 }
 
 pub fn shared_pages<T>(a: &CowTable<T>, b: &CowTable<T>) -> [bool; 4] {
@@ -90,16 +89,6 @@ fn a_version_changes_alone(rt: HostRuntime) {
         let expected = ([row.set, no_place, no_place], [true; 2], row.shared);
         same_at!(&rt, number, (sets, are_read, shared), expected);
     }
-}
-
-// The length of pages plays no part.
-#[test]
-fn tables_are_compared_by_their_items(rt: HostRuntime) {
-    let table = |items: &[u32], page_len: usize| {
-        ok!(&rt, table_of(rt.alloc(), items, page_len.max(1)))
-    };
-    let (low, same, high) = (table(&[1, 2], 2), table(&[1, 2], 1), table(&[1, 3], 2));
-    same!(&rt, [low == same, low == high], [true, false]);
 }
 
 #[test]

@@ -1,7 +1,7 @@
 //! The printed texts.
 use crate::made::{arc_of, check_debug};
 use cow_table::CowTable;
-use servo_arc::{Arc, ArcUnion, BuildError, StaticArc, UniqueArc};
+use servo_arc::{Arc, ArcUnion, BuildError, StaticArc, ThinStr, UniqueArc};
 use std::alloc::AllocError;
 use std::fmt::{Debug, Display};
 use std::process::Abort;
@@ -36,6 +36,13 @@ fn handles_have_their_texts(rt: HostRuntime) {
     let text = "HeaderSlice { header:   100, slice: [    5,     6] } \
         HeaderSlice {\n    header: 100,\n    slice: [\n        5,\n        6,\n    ],\n}";
     check_flags(&rt, &*pair, text);
+    let name = ok!(&rt, ThinStr::from_header_and_str(rt.alloc(), 7u8, "ab"));
+    check_debug(&rt, &name, "ThinStr { header: 7, text: \"ab\" }");
+    same!(
+        &rt,
+        ok!(&rt, format!(in rt.alloc(); "{name}{name:>4}")).as_str(),
+        "ab  ab"
+    );
     let kept = ok!(&rt, StaticArc::new(rt.alloc(), 9u32));
     check_display(&rt, &kept, "9 0009");
 }

@@ -28,7 +28,7 @@ enum Call {
     IntoUnique(u64),
     // The value, which is then dropped.
     IntoInner,
-    // The same, but the handle stays if it does not give the value.
+    // The value, which is then dropped; the handle stays if it does not give it.
     TryUnwrap,
     // The value or a copy of it, which is then dropped.
     UnwrapOrClone,

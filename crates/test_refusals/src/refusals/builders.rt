@@ -1,6 +1,6 @@
 //! What a builder of header slices leaves.
 use crate::refusals::reporting::report;
-use servo_arc::{Arc, BuildError, HeaderSlice, UniqueArc};
+use servo_arc::{Arc, BuildError, HeaderSlice, ThinStr, UniqueArc};
 use std::alloc::Global;
 use std::io::Print;
 use std::process::Abort;
@@ -157,17 +157,18 @@ fn a_refused_builder_asks_for_nothing(rt: HostRuntime) {
     }
 }
 
-// Whether a header slice is made of a slice or a vector.
+// Whether a header slice is made of a slice, a text or a vector.
 fn is_made<'a>(list: &str, alloc: Global, header: Counted<'a>, items: Vec<Counted<'a>>) -> bool {
     match list {
         "Slice" => Arc::from_header_and_slice(alloc, header, &[7u64; 3]).is_ok(),
+        "Text" => ThinStr::from_header_and_str(alloc, header, "text").is_ok(),
         _ => Arc::from_header_and_vec(alloc, header, items).is_ok(),
     }
 }
 
 #[test]
 fn a_refused_list_is_dropped_with_its_header(rt: HostRuntime) {
-    for list in ["Slice", "Vector"] {
+    for list in ["Slice", "Text", "Vector"] {
         let tally = Tally::new();
         let Some(items) = counted_items(rt.alloc(), &tally, 3) else {
             return ok!(&rt, println!(rt; "{list}: no vector"));

@@ -28,6 +28,10 @@ fn versions<T: Drop>(alloc: Global, items: Option<Vec<T>>) -> Option<(CowTable<T
     Some((a, b))
 }
 
+fn reads<T: PartialEq>(table: &CowTable<T>, items: &[T]) -> bool {
+    table.len() == items.len() && (0..items.len()).all(|i| table.get(i) == items.get(i))
+}
+
 // What the version reads that was set, and which pages both share.
 fn check_set(
     rt: &impl Abort,
@@ -36,7 +40,7 @@ fn check_set(
     shared: [bool; 3],
 ) {
     let found = [0, 1, 2].map(|p: usize| CowTable::page_ptr_eq(a, b, p));
-    same!(rt, (b.iter().eq(items), found), (true, shared));
+    same!(rt, (reads(b, items), found), (true, shared));
 }
 
 #[test]
@@ -53,7 +57,7 @@ fn a_refused_set_leaves_both_versions(rt: HostRuntime) {
             report(&rt, "the list of pages, the page or a block");
         }
     }
-    holds!(&rt, a.iter().eq(&[1, 2, 3, 4, 5]));
+    holds!(&rt, reads(&a, &[1, 2, 3, 4, 5]));
 }
 
 // A value whose copy is always refused.
@@ -81,5 +85,5 @@ fn a_refused_copy_leaves_both_versions(rt: HostRuntime) {
     holds!(&rt, a == b && CowTable::page_ptr_eq(&a, &b, 0));
     drop(a);
     same!(&rt, b.set(rt.alloc(), 1, Original(9)), Ok(()));
-    holds!(&rt, b.iter().eq(&[Original(1), Original(9)]));
+    holds!(&rt, reads(&b, &[Original(1), Original(9)]));
 }

@@ -2,8 +2,9 @@
 ghost use Rattle.std.specs.Prelude.{◌≡◌};
 
 use crate::made::check_display;
-use interner::{InternError, Interner};
+use interner::{InternError, InternMap, Interner};
 use sequence::PlaceError;
+use servo_arc::{Arc, HeaderSlice};
 use std::fmt::Write;
 use std::hash::{BuildHasher, BuildHasherDefault, Hasher, RandomState};
 use std::process::Abort;
@@ -80,6 +81,55 @@ fn a_block_of_an_interner_is_cloned(rt: HostRuntime) {
         &rt,
         list.is_some_and(|list| list.as_slice() == [1u8, 2].as_slice())
     );
+}
+
+// The block that the parts make is kept: no other handle of it is left.
+#[test]
+fn a_header_slice_is_found_by_its_parts(rt: HostRuntime) {
+    let mut slices = Interner::<HeaderSlice<Color, u8>>::new(rt.alloc());
+    for (color, text, number) in [
+        (RED, "ab", 0),
+        (BLUE, "ab", 1),
+        (RED, "a", 2),
+        (RED, "ab", 0),
+    ] {
+        let parts = (&color, text.as_bytes());
+        let symbol = ok!(&rt, slices.intern_by(rt.alloc(), parts));
+        same!(
+            &rt,
+            (symbol.index(), slices.find(parts)),
+            (number, Some(symbol))
+        );
+    }
+    same!(&rt, slices.find((&BLUE, b"a".as_slice())), None);
+    holds!(&rt, slices.values().iter().all(|kept| kept.is_unique()));
+}
+
+// Of equal keys the first is kept with its value, in a map with either hasher.
+fn check_map<S: BuildHasher + Drop>(
+    rt: &(impl Abort + AllocGlobal),
+    mut days: InternMap<Color, u64, S>,
+) {
+    for (color, day, number) in [(RED, 5, 0), (BLUE, 6, 1), (RED, 7, 0)] {
+        let key = ok!(rt, Arc::try_new(rt.alloc(), color));
+        let symbol = ok!(rt, days.get_or_insert(key, day));
+        same!(
+            rt,
+            (symbol.index(), days.keys().find(&color)),
+            (number, Some(symbol))
+        );
+        same!(rt, days.get(symbol), days.find_value(&color));
+    }
+    same!(rt, days.values(), &[5, 6][..]);
+    same!(rt, days.find_value(&Color { red: 1, blue: 1 }), None);
+    holds!(rt, days.keys().values().iter().all(|key| key.is_unique()));
+}
+
+#[test]
+fn a_key_keeps_its_first_value(rt: HostRuntime) {
+    check_map(&rt, InternMap::new(rt.alloc()));
+    let hasher = BuildHasherDefault::<OneHash>::new();
+    check_map(&rt, InternMap::with_hasher(rt.alloc(), hasher));
 }
 
 fn named(rt: &(impl Abort + AllocGlobal), texts: &[&str]) -> Interner<String> {

@@ -2,10 +2,12 @@
 use crate::made::arc_of;
 use cow_table::CowTable;
 use interner::Interner;
-use persistent::{List, TreeMap};
+use maps::{Stack, TreeMap};
+use rose_undo::Rose;
 use servo_arc::{Arc, UniqueArc};
 use std::sync::RwLock;
 use testing::{again, holds, ok, same};
+use uses::accounts::{close_first, close_last, total_between, withdraw};
 use uses::bank::transfer;
 use uses::copies::{Labels, labels_again, numbers_again};
 use uses::crossing::{
@@ -14,6 +16,8 @@ use uses::crossing::{
 };
 use uses::dynamic::{Codec, encoded, shared};
 use uses::edits::{Article, two_titles};
+use uses::names::{is_named, shared_name};
+use uses::nodes::{Child, Kind, LineCounts, node};
 use uses::noted::set_and_note;
 use uses::published::{Limits, latest, replace};
 use uses::read_back::set_and_read;
@@ -25,8 +29,9 @@ use uses::text_style::{
     TextStyle, plain_and_bold, plain_style, properties, properties_of, put_under, rule_of, size_of,
     style_or, styled,
 };
+use uses::tree_total::total;
 use uses::two_threads::look_in_two_threads;
-use uses::two_versions::{before_and_after, two_lists};
+use uses::two_versions::{before_and_after, two_stacks};
 
 #[test]
 fn a_bold_style_leaves_the_plain_one(rt: HostRuntime) {
@@ -104,7 +109,7 @@ fn a_new_title_leaves_the_old_document(rt: HostRuntime) {
     same!(&rt, (old.title, new.title, is_shared), (1, 2, true));
 }
 
-// A handle that another thread makes, is lent and is given, and a list that is lent.
+// A handle that another thread makes, is lent and is given, and a stack that is lent.
 #[test]
 fn a_handle_crosses_threads(rt: HostRuntime) {
     let a = ok!(&rt, made_elsewhere(&rt, rt.alloc(), 7));
@@ -112,8 +117,8 @@ fn a_handle_crosses_threads(rt: HostRuntime) {
     let shared = (*a, is_unique_elsewhere(&rt, &a), end_elsewhere(&rt, b));
     let alone = (is_unique_elsewhere(&rt, &a), end_elsewhere(&rt, a));
     same!(&rt, (shared, alone), ((7, false, false), (true, true)));
-    let list = ok!(&rt, List::new().push(rt.alloc(), 7));
-    same!(&rt, len_elsewhere(&rt, &list), 1);
+    let stack = ok!(&rt, Stack::new().push(rt.alloc(), 7));
+    same!(&rt, len_elsewhere(&rt, &stack), 1);
     all_handles_cross_threads();
     all_recursive_types_cross_threads();
     let was_last = ok!(&rt, look_in_two_threads(&rt, rt.alloc(), &[0, 1]));
@@ -155,7 +160,7 @@ fn copies_and_nodes_read_what_was_there(rt: HostRuntime) {
 fn callers_make_both_versions(rt: HostRuntime) {
     let mut map = TreeMap::new();
     let read = before_and_after(rt.alloc(), &mut map, 3, 5).is_ok();
-    same!(&rt, [two_lists(rt.alloc()).is_ok(), read], [true; 2]);
+    same!(&rt, [two_stacks(rt.alloc()).is_ok(), read], [true; 2]);
     let read = set_and_read(&mut map, rt.alloc(), 7, 9);
     same!(&rt, read, Ok(Some(9)));
 }
@@ -220,4 +225,49 @@ fn a_transfer_needs_the_amount_and_room(rt: HostRuntime) {
     same!(&rt, moved, [true, false, false, true, false]);
     let balances = [1, 2, 3].map(|account| bank.get(&account).copied());
     same!(&rt, balances, [Some(1), Some(4), Some(u64::MAX)]);
+}
+
+#[test]
+fn an_empty_account_goes(rt: HostRuntime) {
+    let alloc = rt.alloc();
+    let balances = ok!(&rt, vec![in alloc; (1, 5), (2, 6), (3, 7), (4, u64::MAX)]);
+    let mut bank = ok!(&rt, TreeMap::from_items(alloc, balances));
+    let sums = [total_between(&bank, 1, 4), total_between(&bank, 3, 5)];
+    same!(&rt, sums, [Some(18), None]);
+    let taken = [(1, 6), (1, 1), (2, 6)].map(|(account, amount)| withdraw(
+        &mut bank, alloc, account, amount,
+    ).ok());
+    same!(&rt, taken, [Some(false), Some(true), Some(true)]);
+    same!(&rt, (bank.len(), bank.get(&1).copied()), (3, Some(4)));
+    let paid = [close_first(&mut bank, alloc), close_last(&mut bank, alloc)];
+    same!(&rt, paid, [Ok(4), Ok(u64::MAX)]);
+    same!(&rt, bank.first().copied(), Some((3, 7)));
+}
+
+#[test]
+fn nodes_and_counts_are_found_again(rt: HostRuntime) {
+    let (alloc, mut nodes) = (rt.alloc(), Interner::new(rt.alloc()));
+    let leaf = ok!(&rt, node(&mut nodes, alloc, Kind::Sum, &[]));
+    let children = [Child::Node(leaf), Child::Name(leaf)];
+    let call = ok!(&rt, node(&mut nodes, alloc, Kind::Call, &children));
+    let again = ok!(&rt, node(&mut nodes, alloc, Kind::Call, &children));
+    same!(&rt, (leaf.index(), call.index(), again), (0, 1, call));
+    let mut counts = LineCounts::new(alloc);
+    for (text, count) in [("a\nb\n", 2), ("", 0), ("a\nb\n", 2)] {
+        same!(&rt, counts.count(alloc, text), Ok(count));
+    }
+}
+
+#[test]
+fn a_name_is_read_and_a_tree_summed(rt: HostRuntime) {
+    let (first, second) = ok!(&rt, shared_name(rt.alloc(), 7, "größe"));
+    let named = [is_named(&first, "größe"), is_named(&second, "größ")];
+    same!(&rt, (*second.header(), named), (7, [true, false]));
+    let leaves = [2, 3].map(|value| Rose::leaf(rt.alloc(), value));
+    let mut below = Vec::new(rt.alloc());
+    for leaf in leaves {
+        ok!(&rt, below.push(ok!(&rt, leaf)));
+    }
+    let tree = ok!(&rt, Rose::with_children(rt.alloc(), 1u64, below));
+    same!(&rt, total(&tree), 6);
 }

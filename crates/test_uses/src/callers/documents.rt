@@ -1,12 +1,12 @@
 //! A document whose edits are undone, and how a tree ends.
 use crate::made::arc_of;
 use cascade::{Declaration, Element, Initial, Inline, StyleCache};
+use rose_undo::{Rose, Undo};
 use servo_arc::Arc;
 use std::process::Abort;
 use std::thread::Builder;
 use testing::counted::{Counted, Tally};
 use testing::{ok, same};
-use trees::{Rose, Undo};
 use uses::buffer;
 use uses::documents::{Edit, Part, apply, styles, with_part};
 

@@ -2,8 +2,8 @@
 use servo_arc::{Arc, ThinArc};
 use std::collections::BTreeMap;
 
-/// As of each chain here, the derived drop is a recursion, for which a long one needs much stack. The `List` of
-/// `persistent` ends its nodes by a loop.
+/// As of each chain here, the derived drop is a recursion, for which a long one needs much stack. The `Stack` of
+/// `maps` ends its nodes by a loop.
 #[derive(Drop, Debug, Clone, PartialEq, Eq, PartialOrd, Ord, Hash)]
 pub struct Node {
     pub value: u32,

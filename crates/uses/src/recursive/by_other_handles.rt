@@ -26,7 +26,7 @@ pub struct FirstOfUnion {
     pub next: ArcUnion<FirstOfUnion, u32>,
 }
 
-#[derive(Drop, Debug, Clone, PartialEq, Eq)]
+#[derive(Drop, Debug, Clone, PartialEq, Eq, PartialOrd, Ord, Hash)]
 pub struct HeaderTree {
     pub kids: ThinArc<u32, HeaderTree>,
 }

@@ -18,13 +18,16 @@ const READS: usize = 3;
 
 #[test]
 fn reports_input_that_cannot_be_read(rt: HostRuntime) {
-    for &(kind, script, _) in SHORT {
+    for &(kind, script, answers) in SHORT {
         let (bytes, half) = (script.as_bytes(), script.len() / 2);
         for reads_before in 0..READS {
             let mut input = FailingReader::new(bytes, half, reads_before);
             let ran = run_from(rt.alloc(), &[kind, "1"], &mut input);
             ran.check(&rt, (kind, reads_before), b"", b"fault: input\n", 3);
         }
+        let mut input = FailingReader::new(bytes, half, READS);
+        let ran = run_from(rt.alloc(), &[kind, "1"], &mut input);
+        ran.check(&rt, (kind, READS), answers.as_bytes(), b"", 0);
     }
 }
 

@@ -1,6 +1,6 @@
 //! Maps whose keys are handles: which of two equal keys is given, that each ends, and that text finds them.
 use crate::made::{arc_of, ask};
-use persistent::TreeMap;
+use maps::TreeMap;
 use servo_arc::Arc;
 use std::alloc::{AllocError, Global};
 use std::ops::Bound;

@@ -1,0 +1,39 @@
+//! Types that hold themselves: what they derive, and their versions.
+use crate::made::arc_of;
+use servo_arc::Arc;
+use std::cmp::Ordering;
+use std::collections::{BTreeMap, HashSet};
+use std::process::Abort;
+use testing::{again, ok, same};
+use uses::recursive::by_collections::{Value, insert};
+use uses::recursive::by_other_handles::HeaderTree;
+
+fn tree(rt: &(impl Abort + AllocGlobal), header: u32, below: Vec<HeaderTree>) -> HeaderTree {
+    let kids = ok!(rt, Arc::from_header_and_vec(rt.alloc(), header, below));
+    HeaderTree { kids }
+}
+
+fn above(rt: &(impl Abort + AllocGlobal), low: u32) -> HeaderTree {
+    let low = tree(rt, low, Vec::new(rt.alloc()));
+    tree(rt, 1, ok!(rt, vec![in rt.alloc(); low]))
+}
+
+#[test]
+fn trees_of_slices_are_ordered_and_hashed(rt: HostRuntime) {
+    let [two, three] = [2, 3].map(|low| above(&rt, low));
+    same!(&rt, two.cmp(&three), Ordering::Less);
+    same!(&rt, two.partial_cmp(&above(&rt, 2)), Some(Ordering::Equal));
+    let mut trees = HashSet::new(rt.alloc());
+    ok!(&rt, trees.insert(two));
+    let found = [2, 3].map(|low| trees.contains(&above(&rt, low)));
+    same!(&rt, found, [true, false]);
+}
+
+#[test]
+fn an_insert_leaves_other_versions(rt: HostRuntime) {
+    let mut map = arc_of(&rt, BTreeMap::new(rt.alloc()));
+    let old = again!(&rt, map);
+    ok!(&rt, insert(&mut map, rt.alloc(), 1, Value::Number(2)));
+    same!(&rt, [old.len(), map.len()], [0, 1]);
+    same!(&rt, [old.is_unique(), map.is_unique()], [true; 2]);
+}

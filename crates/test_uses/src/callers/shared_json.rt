@@ -1,0 +1,98 @@
+//! JSON values: what no clause says of them.
+use crate::made::arc_of;
+use servo_arc::Arc;
+use std::process::Abort;
+use testing::{again, ok, same, same_at};
+use uses::shared_json::Value;
+use uses::shared_json::path::Step;
+use uses::shared_json::text::ParseError;
+
+fn parsed(rt: &(impl Abort + AllocGlobal), text: &str) -> Value {
+    ok!(rt, Value::parse(rt.alloc(), text, 127))
+}
+
+fn member(rt: &(impl Abort + AllocGlobal), name: &str) -> Step {
+    Step::Member(arc_of(rt, ok!(rt, String::from_str(rt.alloc(), name))))
+}
+
+static DIFFERENT: [&str; 4] = [
+    "{\"a\": {\"c\": null, \"d\": \"A\"}, \"b\": [1, -2, 0.5]}",
+    "{\"a\": {\"d\": \"A\"}, \"b\": [1, -2, 0.5, true]}",
+    "{\"a\": {\"c\": null, \"d\": \"A\"}, \"b\": [1, -2, 0.5, false]}",
+    "{\"a\": {\"c\": null, \"d\": \"A\"}, \"b\": [1.0, -2, 0.5, true]}",
+];
+
+#[test]
+fn values_are_compared(rt: HostRuntime) {
+    let one = parsed(
+        &rt,
+        "{\"b\": [1, -2, 0.5, true], \"a\": {\"c\": null, \"d\": \"\\u0041\"}}",
+    );
+    let other = "{\"a\":{\"d\":\"A\",\"c\":null},\"b\":[1,-2,5e-1,true]}";
+    same!(&rt, one == parsed(&rt, other), true);
+    let text = ok!(&rt, one.to_text(rt.alloc()));
+    same!(&rt, parsed(&rt, text.as_str()) == one, true);
+    for text in &DIFFERENT {
+        same_at!(&rt, *text, one == parsed(&rt, text), false);
+    }
+}
+
+// A text, the levels that are allowed, and what is refused: nothing, the levels or the syntax.
+static READ: [(&str, usize, u8); 12] = [
+    ("[[1]]", 2, 0),
+    ("[[1]]", 1, 1),
+    ("{\"a\": {\"b\": [0]}}", 3, 0),
+    ("{\"a\": {\"b\": [0]}}", 2, 1),
+    ("[[], [], {}]", 2, 0),
+    ("\"[[[\"", 0, 0),
+    ("7", 0, 0),
+    ("", 5, 2),
+    ("[1,]", 5, 2),
+    ("[1] 2", 5, 2),
+    ("1e999", 5, 2),
+    ("\"\\ud800\"", 5, 2),
+];
+
+fn refusal(rt: &(impl Abort + AllocGlobal), text: &str, levels: usize) -> u8 {
+    match Value::parse(rt.alloc(), text, levels) {
+        Ok(_) => 0,
+        Err(ParseError::TooDeep) => 1,
+        Err(ParseError::Syntax(_)) => 2,
+        Err(ParseError::Memory(_)) => 3,
+    }
+}
+
+#[test]
+fn texts_are_refused_by_name(rt: HostRuntime) {
+    for (text, levels, expected) in &READ {
+        same_at!(&rt, *text, refusal(&rt, text, *levels), *expected);
+    }
+    let deep = ok!(&rt, "[".repeat(rt.alloc(), 200));
+    same!(&rt, refusal(&rt, deep.as_str(), 199), 1);
+    same!(&rt, refusal(&rt, deep.as_str(), 200), 2);
+}
+
+// Whether the path leads to one list in both.
+fn shares(old: &Value, new: &Value, path: &[Step]) -> bool {
+    match (old.at(path), new.at(path)) {
+        (Some(Value::List(old)), Some(Value::List(new))) => Arc::ptr_eq(old, new),
+        _ => false,
+    }
+}
+
+#[test]
+fn an_edit_shares_all_else(rt: HostRuntime) {
+    let old = parsed(&rt, "{\"a\": [[1], [2]], \"b\": [3]}");
+    let mut new = again!(&rt, old);
+    let path = [member(&rt, "a"), Step::Item(1)];
+    ok!(&rt, new.set(rt.alloc(), &path, Value::Null));
+    let expected = parsed(&rt, "{\"a\": [[1], null], \"b\": [3]}");
+    same!(&rt, again!(&rt, new), expected);
+    same!(&rt, shares(&old, &new, &path[..1]), false);
+    same!(
+        &rt,
+        shares(&old, &new, &[member(&rt, "a"), Step::Item(0)]),
+        true
+    );
+    same!(&rt, shares(&old, &new, &[member(&rt, "b")]), true);
+}

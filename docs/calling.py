@@ -1,6 +1,6 @@
 #!/usr/bin/env python3
 """Quotes each public call with its contract from the source, in each block of a crates/NAME/CALLING.md that names
-folders of source and then types, as ```text cow_table/src: CowTable Iter. The types come in that order, others after
+folders of source and then types, as ```text sequence/src: Sequence Iter. The types come in that order, others after
 them, functions without a type last.
 
 First stand the types that are named or that a call takes or returns: what each derives, its variants or public fields,
@@ -10,7 +10,7 @@ kind with the same clauses share them. Laws, which take nothing and promise what
 calls without a clause stand at the end; a trait's method is told of only if it has clauses of its own.
 
 With --check it writes nothing, and ends with 1 if a block is not up to date, or does not name what it quotes, or if no
-block quotes a crate that docs/TOUR.md names, as in `trees`, or that such a crate names in crates.txt."""
+block quotes a crate that docs/TOUR.md names, as in `rose_undo`, or that such a crate names in crates.txt."""
 import re
 import sys
 from itertools import chain, groupby
@@ -240,6 +240,7 @@ def main():
         quoted.update(chain.from_iterable(block[1].split() for block in BLOCK.finditer(text)))
     if "--check" in sys.argv:
         old += [f"{folder}: no CALLING.md quotes its calls" for folder in toured() if folder not in quoted]
+        print(f"contracts: {len(old)} blocks not as the source has them", flush=True)
     sys.exit("\n".join(old) or None)
 
 

@@ -27,7 +27,6 @@ sys.path.append(str(ROOT / "bench"))
 from called import uncalled
 from compare import read_goals, verdict
 goal_of = runpy.run_path(str(ROOT / "bench" / "collections.py"))["goal_of"]
-DOCUMENTS = 24
 LINK = re.compile(r"\[((?:[^\]\[]|\[[^\]]*\])+)\]\(([^)\s]+)\)")
 UNREAD = re.compile(r"\]\[|^ *\[[^\]]+\]:|\]\([^)]*\s|<a\b", re.M)
 PRINTS = re.compile(r"< examples/(\w+/\w+) +# prints: (.*)")
@@ -193,8 +192,8 @@ def main():
     wrong += [f"docs/SPEED.md: not as measured: {line}" for line in wrong_speed()]
     wrong += [f"bench/{name}" for name in chain(wrong_verdicts(), wrong_goals("maps"), wrong_goals("sequences"))]
     wrong += [f"no test, program or use calls {name}" for name in uncalled()]
-    print("\n".join([*wrong, f"documents: {len(documents)} of {DOCUMENTS}, {len(wrong)} wrong"]))
-    return 1 if wrong or len(documents) != DOCUMENTS else 0
+    print("\n".join([*wrong, f"documents: {len(wrong)} wrong"]))
+    return 1 if wrong else 0
 
 
 if __name__ == "__main__":

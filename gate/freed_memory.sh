@@ -1,7 +1,7 @@
 #!/usr/bin/env bash
 # Asks for 32 GiB or more, a page at a time, in an address space of one, and lets each page go before the next.
 set -uo pipefail
-cd "$(dirname "$0")/.."
+cd "$(dirname "$(readlink -f -- "$0")")/.." || exit
 ulimit -v 1000000
 count=0
 # freed WORKLOAD TIMES : whether each of so many requests was granted.

@@ -275,6 +275,7 @@ def main():
     asked = arguments()
     chance = random.Random(asked.seed)
     programs = [PROGRAM, asked.beside] if asked.beside else [PROGRAM]
+    print(f"fuzz: seed {asked.seed}")
     for number in range(asked.scripts):
         words, machine = draw(chance, asked.beside)
         script, answers, status = play(machine, chance)
@@ -287,7 +288,7 @@ def main():
                 print(f"-- script\n{script!r}\n-- wanted\n{wanted!r}\n-- got\n{got!r}")
                 return 1
     beside = f" and by {asked.beside}" if asked.beside else ""
-    print(f"fuzz: {asked.scripts} scripts of seed {asked.seed} are answered as by the reference models{beside}")
+    print(f"fuzz: {asked.scripts} scripts are answered as by the reference models{beside}")
     return 0
 
 

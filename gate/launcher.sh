@@ -5,8 +5,8 @@
 set -u
 root=$(mktemp -d)
 trap 'rm -rf "$root"' EXIT
-export top="$root/a b" meanwhile=
-mkdir "$top" && cd "$(dirname "$0")/.." || exit
+export top="$root/a b" meanwhile= copied=0
+mkdir "$top" && cd "$(dirname "$(readlink -f -- "$0")")/.." || exit
 cp arcbench "$top/small" && cp copy_crates LICENSE "$top" && cd "$top" || exit
 ln -s small near && ln -s near link
 mkdir -p .git commands copies crates/{low,side,small,other}/src
@@ -16,12 +16,12 @@ printf '%s\n' '#![tactic(auto)]' 'pub fn number() -> u32 {' '    7' '}' | tee cr
 printf '%s\n' '#![tactic(auto)]' 'fn main(rt: HostRuntime) -> std::io::Result<()> {' \
     '    println!(rt; "{}{}", low::number(), side::number())' '}' >crates/small/src/main.rt
 
-# The stand-in takes all input that it gets. What is proved ahead, in a copy, only tells that it has begun, and `side`
-# waits for that. A log is written after a source has changed.
+# The stand-in takes all input that it gets. What is proved ahead, in a copy, only tells that it has begun, and goes on
+# for `copied` seconds; `side` waits for that. A log is written after a source has changed.
 cat >commands/rt <<'END_OF_RT'
 #!/bin/sh
 cat >/dev/null
-case $PWD in */copies/*) exec touch "$top/begun" ;; esac
+case $PWD in */copies/*) touch "$top/begun" && exec sleep "$copied" ;; esac
 eval "$meanwhile"
 sleep .02
 echo built
@@ -53,9 +53,9 @@ refused() { eval "$1" && want "$1" 125 '' "${3-}small: $2" ./small; }
 by_the_toolchain() {
     after 'rm -rf crates/*/out' 77
     want "current" 0 77 '' ./small
-    after 'touch crates.txt' 77
-    want "current, by a link from elsewhere" 0 77 '' sh -c 'cd / && PATH=/usr/bin:/bin "$0"' "$PWD/link"
-    want "current, from the folder above" 0 77 '' sh -c 'cd .. && CDPATH=$PWD "$0/small"' "${PWD##*/}"
+    after 'sed -i s/7/8/ crates/low/src/lib.rt; touch -d yesterday crates/low/src/lib.rt' 87
+    want "current, by a link from elsewhere" 0 87 '' sh -c 'cd / && PATH=/usr/bin:/bin "$0"' "$PWD/link"
+    want "current, from the folder above" 0 87 '' sh -c 'cd .. && CDPATH=$PWD "$0/small"' "${PWD##*/}"
     refused 'echo two >crates/small/src/main.rt; PATH=/usr/bin:/bin' "the toolchain's command rt is not there"
 }
 
@@ -66,8 +66,11 @@ what_changes() {
     after 'echo proof >crates/low/proofs/new' 'proof spec one two 4'
     after 'echo other >crates/low/specs/new' 'proof other one two 4'
     after 'rm crates/low/proofs/new' 'other one two 4'
+    after 'echo ten >crates/low/src/lib.rt; touch -d yesterday crates/low/src/lib.rt' 'other ten two 4'
+    after 'mv crates/low/src/lib.rt crates/low/src/new.rt' 'other ten two 4'
+    after 'mv crates/low/src/new.rt crates/low/src/lib.rt; echo one >crates/low/src/lib.rt' 'other one two 4'
     after 'rm -r crates/low/specs' 'one two 4'
-    meanwhile='touch ../low/src/lib.rt' after 'touch crates/low/src' 'one two 4'
+    meanwhile='touch ../low/src/lib.rt' after 'touch crates/low/src/lib.rt' 'one two 4'
     after ': a source changed while it was built' 'one two 4'
     want "a change elsewhere" 0 'one two 4' '' sh -c 'echo >crates/other/src/lib.rt; ./small'
     refused 'mv crates/low gone' "low $why"
@@ -94,7 +97,10 @@ what_is_printed() {
 what_cannot_be_built() {
     sed -i 1d crates/small/src/main.rt
     refused 'echo wrong >crates/side/src/lib.rt' "side $why" $'[1/3] low\n'
+    copied=60 want "a failed build ends what is proved ahead" 125 '' $'[1/3] low\n'"small: side $why" timeout 20 ./small
     refused 'echo wrong >crates/low/src/lib.rt' "low $why"
+    meanwhile='sleep 9' want "an interrupted build" 125 '' '' timeout --preserve-status -s INT 2 ./small
+    refused "printf '#!/bin/sh\nexit 1' >copy_crates" "cannot copy crates to $PWD/copies"
     refused 'rm -r crates/small/out && touch crates/small/out' "cannot write to $PWD/crates/small/out"
     want "no copy is left" 0 '' '' rmdir copies
 }
@@ -104,5 +110,5 @@ export PATH=$PWD/commands:$PATH TMPDIR=$PWD/copies
 what_changes
 what_is_printed
 what_cannot_be_built
-echo "launcher: $passed runs of 29 as told, $failed not"
-((passed == 29 && failed == 0))
+echo "launcher: $passed runs as told, $failed not"
+((failed == 0))

@@ -2,7 +2,7 @@
 # Runs the built program as a user does: each exit status, what is printed where, each size, and arguments that are hard
 # to read. How lines and words are read is proved, so here are a few of each, by which the program is seen to do so.
 set -uo pipefail
-cd "$(dirname "$0")/.."
+cd "$(dirname "$(readlink -f -- "$0")")/.." || exit
 program=crates/arcbench/out/arcbench folder=$(mktemp -d) passed=0 failed=0
 trap 'rm -rf "$folder"' EXIT
 # holds WHAT COMMAND.. : counts it.
@@ -76,5 +76,5 @@ limited() {
 }
 for limit in {1..300} 1000 1024 65536 123456; do holds "a limit of $limit" limited $limit $((limit - 1)) full; done
 for limit in 1234567 98765432 123456789 4294967295; do holds "a limit of $limit" limited $limit 9999 pending; done
-echo "program: $passed runs of 1667 as told, $failed not"
-((passed == 1667)) && ((failed == 0))
+echo "program: $passed runs as told, $failed not"
+((failed == 0))

@@ -1,11 +1,11 @@
 #!/usr/bin/env bash
-# Refuses each single request for memory in turn: each test of `refusals`, `arcbench` on two scripts, and `collections`
-# on five, runs with its first request refused, then with its second, until a run meets no refusal. What a run reports,
-# and how many blocks it keeps to its end, is its outcome. Those of all runs have to be just those of
-# crates/test_refusals/outcomes.txt, and each as often as there, so no call makes a request more or less. With --write it
-# writes that file, for you to judge.
+# Refuses each single request for memory in turn: each test of `refusals`, `arcbench` on two scripts, and
+# `collection_scripts` on five, runs with its first request refused, then with its second, until a run meets no refusal.
+# What a run reports, and how many blocks it keeps to its end, is its outcome. Those of all runs have to be just those
+# of crates/test_refusals/outcomes.txt, and each as often as there, so no call makes a request more or less. With
+# --write it writes that file, for you to judge.
 set -u
-cd "$(dirname "$0")/.."
+cd "$(dirname "$(readlink -f -- "$0")")/.." || exit
 program=crates/test_refusals/out/test_refusals_tests outcomes=crates/test_refusals/outcomes.txt
 folder=$(mktemp -d)
 trap 'rm -rf "$folder"' EXIT
@@ -60,4 +60,4 @@ if [[ ${1-} = --write ]]; then
         >>"$folder/written"
     cp "$folder/written" "$outcomes" && : >"$folder/differ"
 fi
-((refused > 0)) && [[ ! -s $folder/differ && ! -s $folder/more ]]
+((refused > 0)) && [[ ! -s $folder/differ && ! -s $folder/more ]] && echo "refused memory: each run as wanted"

@@ -1,4 +1,4 @@
-"""Models of the trees and interners that `collections` runs scripts of, as models.py has those of others."""
+"""Models of the trees and interners that `collection_scripts` runs scripts of, as models.py has those of others."""
 from itertools import chain
 
 from models import REFUSED, Versions, some

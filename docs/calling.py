@@ -96,7 +96,7 @@ def kind_of(owner):
 
 
 def use_of(head):
-    """0 for a maker, then 1 to 4 for calls that read, clone, write and use up what they are called on."""
+    """0 for a constructor, then 1 to 4 for calls that read, clone, write and consume the value."""
     receiver = RECEIVER.search(head)
     if not receiver:
         return 0
@@ -122,7 +122,7 @@ def quoted(kind, lines):
     return head, tuple(told)
 
 
-def law(head, clauses):
+def lemma(head, clauses):
     """The name and the type parameter of a function that takes nothing and whose clause is what its name spells."""
     taken = re.fullmatch(r"fn (\w+)(?:<(\w+): Copy>)?\(\)", head)
     spelt = taken and f"{taken[1].title().replace('_', '')} {taken[2] or ''}".strip()
@@ -139,6 +139,12 @@ def as_lines(told):
     for clauses, alike in groupby(groups.items(), key=lambda group: group[0][2]):
         yield from chain.from_iterable(heads for _, heads in alike)
         yield from ("  " + clause for clause in clauses) if isinstance(clauses, tuple) else ()
+
+
+def wrapped(line):
+    """The line, cut where it is too long."""
+    indent = " " * (len(line) - len(line.lstrip()) + 4)
+    return wrap(line, COLUMNS, subsequent_indent=indent, break_long_words=False, break_on_hyphens=False)
 
 
 def given(files, kinds, hidden):
@@ -194,7 +200,7 @@ def calls(folders, order):
     paths = [sorted((CRATES / folder).rglob("*.rt"), key=lambda path: path.with_suffix("").parts) for folder in folders]
     files = [path.read_text() for path in chain(*paths)]
     types = set(re.findall(r"^pub (?:struct|enum|trait) (\w+)", "\n".join(files), re.M))
-    told, laws, silent, heads = [], {}, [], []
+    told, lemmas, silent, heads = [], {}, [], []
     for owner, public, lines in (function for file in files for function in functions(file)):
         if not public and not types & set(re.findall(r" for &?(?:'\w+ )?(\w+)", owner)):
             continue
@@ -202,18 +208,19 @@ def calls(folders, order):
         head, clauses = quoted(kind, lines)
         heads += [head] if public or clauses else []
         place = order.index(kind) if kind in order else len(order) + (kind == "")
-        if named := law(head, clauses):
-            laws.setdefault(f"laws<{named[1]}: Copy>" if named[1] else "laws", []).append(named[0])
+        if named := lemma(head, clauses):
+            lemmas.setdefault(f"lemmas<{named[1]}: Copy>" if named[1] else "lemmas", []).append(named[0])
         elif clauses:
             told.append((place, use_of(head) if kind else 0, head, clauses))
         elif public:
             silent.append((place, use_of(head) if kind else 0, head))
     yield from types_of(files, order, heads)
-    yield from as_lines(told)
-    for start, names in laws.items():
+    yield from chain.from_iterable(map(wrapped, as_lines(told)))
+    for start, names in lemmas.items():
         yield from wrap(f"{start}: {', '.join(names)}", COLUMNS, subsequent_indent="  ")
     yield from ["without a clause:"] * bool(silent)
-    yield from (f"  {head}" for *_, head in sorted(silent, key=lambda call: call[:2]))
+    for *_, head in sorted(silent, key=lambda call: call[:2]):
+        yield from wrapped(f"  {head}")
 
 
 def toured():

@@ -18,9 +18,12 @@ use crate::tree::take::Take;
 use std::alloc::{AllocError, Global};
 
 impl<T: Clone, L: NewLabel<T>> Sequence<T, L> {
-    /// Takes the item out that the cut seeks, and gives it, if it is the last item before the cut.
+    /// Removes the item that `cut` seeks and returns it, or `None` if the last item before the cut is another one.
+    /// O(log n).
     ///
-    /// It copies and is refused as `remove` is. If there is no such item, nothing is copied or refused.
+    /// # Errors
+    ///
+    /// `AllocError` when `remove` lacks memory. If there is no such item, nothing is copied.
     pub fn take_out<C: Seek<T, L> + Drop>(
         &mut self,
         alloc: Global,
@@ -49,10 +52,13 @@ impl<T: Clone, L: NewLabel<T>> Sequence<T, L> {
         }
     }
 
-    /// Changes the item that the cut seeks, if it is the last item before the cut, and gives what the change answered.
+    /// Calls `change` on the item that `cut` seeks and returns its result, or `None` if the last item before the cut is
+    /// another one. O(log n).
     ///
-    /// It copies and is refused as `modify` is, and the change is then not called. It is not called either if there is
-    /// no such item: then nothing is copied or refused.
+    /// # Errors
+    ///
+    /// `AllocError` when `modify` lacks memory: `change` is then not called. If there is no such item, nothing is
+    /// copied.
     pub fn change<C: Seek<T, L>, R, F: FnOnce(&mut T) -> R>(
         &mut self,
         alloc: Global,
@@ -90,10 +96,12 @@ impl<T: Clone, L: NewLabel<T>> Sequence<T, L> {
         }
     }
 
-    /// Puts in what there is to put in, behind its cut, or into the item that it seeks, if that is the last one before
-    /// the cut: then it gives what that puts out.
+    /// Inserts `new` behind its cut. If the last item before the cut is the one that `new` seeks, replaces that item
+    /// instead and returns what the replacement puts out. O(log n).
     ///
-    /// It copies and is refused as `insert` is, and what was to be put in is then dropped.
+    /// # Errors
+    ///
+    /// `AllocError` when `insert` lacks memory. `new` is then dropped.
     pub fn put_in<P: Put<T, L>>(
         &mut self,
         alloc: Global,

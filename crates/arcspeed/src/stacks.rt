@@ -2,7 +2,7 @@
 use maps::Stack;
 use std::alloc::Global;
 
-/// So many that the nodes are more than a cache has room for.
+/// Enough items that the nodes do not fit into a cache.
 const ITEMS: u64 = 1_000_000;
 
 fn sum_of(stack: &Stack<u64>) -> u64 {

@@ -22,6 +22,7 @@ pub fn shared(alloc: Global, codec: Box<dyn Codec + Send + Sync>) -> Result<Shar
     Ok(Arc::try_new(alloc, codec)?)
 }
 
+/// Encodes a number by a shared codec.
 pub fn encoded(codec: &SharedCodec, number: u8) -> u8
     ensures { result ≡ coded codec.now number }
 {

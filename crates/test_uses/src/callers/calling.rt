@@ -1,4 +1,4 @@
-//! The callers of the documentation, called: what they share, and on which threads.
+//! The callers of the documentation, called: what they share, and on which threads they run.
 use crate::made::arc_of;
 use cow_table::CowTable;
 use interner::Interner;

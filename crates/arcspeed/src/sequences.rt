@@ -106,7 +106,7 @@ fn place(places: &[u64], at: usize) -> usize
     places[at % places.len()] as usize
 }
 
-/// Writes each version at one index, and drops the version before it.
+/// Writes each version (snapshot) at one index, and drops the version before it.
 #[inline(never)]
 fn version(list: &mut List, alloc: Global, places: &[u64]) -> Option<u64>
     requires { 0 < length places.now }

@@ -1,4 +1,4 @@
-//! A long stack whose versions share their nodes.
+//! A long stack whose versions (snapshots) share their nodes.
 use maps::Stack;
 use std::alloc::Global;
 

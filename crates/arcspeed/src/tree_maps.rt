@@ -142,7 +142,7 @@ fn clone(map: &Map) -> Option<u64> {
     Some(sum)
 }
 
-/// Writes each version under one key, and drops the version before it.
+/// Writes each version (snapshot) under one key, and drops the version before it.
 #[inline(never)]
 fn version(map: &mut Map, alloc: Global, keys: &[u64]) -> Option<u64>
     requires { 0 < length keys.now }

@@ -1,5 +1,5 @@
-//! Calls of an `Undo` of a `Rose`, which starts as a tree of the value 0. A change makes the next version. A PATH, the
-//! last numbers of a line, has the index of a child for each step down:
+//! Calls of an `Undo` of a `Rose`, which starts as a tree of the value 0. A change makes the next version (snapshot). A
+//! PATH, the last numbers of a line, has the index of a child for each step down:
 //!
 //!     set V PATH                replaces the value at the path
 //!     insert V I PATH           inserts a leaf with that value at the index I

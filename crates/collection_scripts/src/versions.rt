@@ -1,6 +1,6 @@
-//! Versions of a sequence or a map, each of which a script can change. A call acts on the current version. There is
-//! also the other one, and both are empty at first. Kept versions have the indices 0, 1 and so on. I and J are indices
-//! or keys, and V is a value:
+//! Versions (snapshots) of a sequence or a map, each of which a script can change. A call acts on the current version.
+//! There is also the other one, and both are empty at first. Kept versions have the indices 0, 1 and so on. I and J are
+//! indices or keys, and V is a value:
 //!
 //!     fill N                    makes the items 0, 1 and so on, N of them; in a map under the same keys
 //!     keep; back K              keeps a clone; makes the kept version K the current one

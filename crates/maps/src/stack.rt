@@ -1,4 +1,4 @@
-//! A stack whose versions share their last items.
+//! A stack whose versions (snapshots) share their last items.
 ghost use Rattle.std.specs.Prelude.{◌≡◌, ◌-◌, ◌<◌, ◌∷◌, [], ◌↔◌, IsTrue, IfOk, OnOk};
 ghost use Rattle.std.specs.Prelude.{drop, length, reverse, slice_get};
 ghost use Rattle.std.specs.Option.{option_copied};

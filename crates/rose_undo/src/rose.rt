@@ -1,4 +1,4 @@
-//! A rose tree (any number of children at each node), whose versions share their branches.
+//! A rose tree (any number of children at each node), whose versions (snapshots) share their branches.
 ghost use Rattle.std.specs.Prelude.{◌≡◌, [], Some, IfOk, slice_get};
 ghost use Rattle.std.specs.Option.{option_copied};
 ghost use Rattle.rose_undo.specs.Roses.{at, branch, children, root};

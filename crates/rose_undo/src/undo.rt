@@ -1,4 +1,4 @@
-//! Undo and redo of any value, by keeping each version.
+//! Undo and redo of any value, by keeping each version (snapshot).
 ghost use Rattle.std.specs.Prelude.{◌≡◌, ◌↔◌, ◌<◌, ◌-◌, ◌∷◌, ◌++◌, ◌&&◌, [], IfOk, IsTrue, OnErr, OnOk, drop, length};
 ghost use Rattle.std.specs.Cmp.{and_equiv, and_per, on_equiv, on_per};
 ghost use Rattle.std.specs.Cmp.Lexicographic.{lists_equiv, lists_per, pointwise};

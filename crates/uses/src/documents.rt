@@ -1,5 +1,5 @@
-//! A document with undo: a tree of named parts. An edit makes a version, which shares all parts that the edit left
-//! alone.
+//! A document with undo: a tree of named parts. An edit makes a version (snapshot), which shares all parts that the
+//! edit left alone.
 ghost use Rattle.std.specs.Prelude.{◌≡◌, ◌↔◌, ◌∷◌, ◌++◌, [], Err, None, Some, IfOk, OnErr, OnOk, insert, map};
 ghost use Rattle.cascade.specs.Cascade.{style_of};
 ghost use Rattle.uses.specs.Documents.{edited, renamed, restyled};

@@ -1,5 +1,5 @@
-//! A JSON value whose versions share: lists, objects and texts are behind an `Arc`, so a clone takes O(1), and an edit
-//! copies only what is on its path. Its meaning is that of `serde_json`, whose names its contracts use.
+//! A JSON value whose versions (snapshots) share: lists, objects and texts are behind an `Arc`, so a clone takes O(1),
+//! and an edit copies only what is on its path. Its meaning is that of `serde_json`, whose names its contracts use.
 ghost use Rattle.std.specs.Prelude.{◌≡◌};
 
 pub mod ending;

@@ -25,7 +25,8 @@ impl<K: Ord, V> Default for TreeMap<K, V> {
 }
 
 impl<K: Ord + Drop, V: Drop> TreeMap<K, V> {
-    /// Removes all entries, with no allocation: `map.clear()`. O(n), or O(1) if another version shares the root.
+    /// Removes all entries, with no allocation: `map.clear()`. O(n), or O(1) if another version (snapshot) shares the
+    /// root.
     pub fn clear(&mut self)
         ensures { self.new ≡ [] }
     {

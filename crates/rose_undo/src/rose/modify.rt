@@ -1,4 +1,4 @@
-//! Changes in place. Nodes that another version shares are copied.
+//! Changes in place. Nodes that another version (snapshot) shares are copied.
 ghost use Rattle.std.specs.Prelude.{◌≡◌, ◌↔◌, Err, None, IfOk, IsSome, OnErr};
 ghost use Rattle.std.specs.Fn.{FnOnceTakesAtMut};
 ghost use Rattle.std.specs.Option.{ForSome, option_map};

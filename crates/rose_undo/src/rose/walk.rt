@@ -78,9 +78,9 @@ struct Left<'a, V> {
 impl<V: Drop> Rose<V> {
     /// Drops the tree node by node in a loop, so that a deep tree needs no deep call stack: `tree.end(alloc)`. O(n).
     ///
-    /// Nodes that another version shares stay. For each node below the root, its count is incremented once, and the
-    /// work list needs memory. Where either fails, the trees below that node are dropped by the recursive `drop`
-    /// instead.
+    /// Nodes that another version (snapshot) shares stay. For each node below the root, its count is incremented once,
+    /// and the work list needs memory. Where either fails, the trees below that node are dropped by the recursive
+    /// `drop` instead.
     pub fn end(self, alloc: Global) {
         let mut left = Vec::new(alloc);
         let _ = left.push(self);

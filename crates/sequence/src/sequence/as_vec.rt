@@ -37,7 +37,8 @@ impl<T, L: Label<T>> Sequence<T, L> {
 }
 
 impl<T: Drop, L: Label<T> + Drop> Sequence<T, L> {
-    /// Removes all items, with no allocation: `list.clear()`. O(n), or O(1) if another version shares the root.
+    /// Removes all items, with no allocation: `list.clear()`. O(n), or O(1) if another version (snapshot) shares the
+    /// root.
     pub fn clear(&mut self)
         ensures { self.new ≡ [] }
     {

@@ -18,7 +18,7 @@ impl<T: Clone, L: NewLabel<T>> Sequence<T, L> {
     /// Appends the items of `other`: `list.append(alloc, rest)?`. O(log n) for the longer of the two lists.
     ///
     /// The lower of the two trees becomes a child of the other one. Nodes on the path to that place are copied if
-    /// another version shares them, and written in place otherwise.
+    /// another version (snapshot) shares them, and written in place otherwise.
     ///
     /// # Errors
     ///

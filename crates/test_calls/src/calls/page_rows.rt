@@ -1,4 +1,4 @@
-//! The items that versions of a `CowTable` read, the pages that they share, and their texts.
+//! The items that versions (snapshots) of a `CowTable` read, the pages that they share, and their texts.
 ghost use Rattle.std.specs.Prelude.{◌<◌};
 
 use crate::made::{check_debug, check_display};

@@ -1,4 +1,4 @@
-//! How many items of a `CowTable` are copied and dropped, with and without a second version.
+//! How many items of a `CowTable` are copied and dropped, with and without a second version (snapshot).
 ghost use Rattle.std.specs.Prelude.{◌<◌};
 
 use crate::calls::page_rows::shared_pages;

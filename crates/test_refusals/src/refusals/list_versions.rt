@@ -1,4 +1,4 @@
-//! What a failed call on versions of a `CowTable` leaves.
+//! What a failed call on versions (snapshots) of a `CowTable` leaves.
 use crate::refusals::reporting::report;
 use cow_table::{CowTable, SetError};
 use std::alloc::{AllocError, Global};

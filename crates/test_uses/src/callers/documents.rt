@@ -94,7 +94,7 @@ fn a_deep_tree_ends_on_a_small_stack(rt: HostRuntime) {
     ok!(&rt, small.spawn(&rt, move || tree.end(alloc))).join(&rt);
 }
 
-// Nodes that another version shares stay, and each value is dropped with its last tree.
+// Nodes that another version (snapshot) shares stay, and each value is dropped with its last tree.
 #[test]
 fn an_end_leaves_what_others_share(rt: HostRuntime) {
     let tally = Tally::new();

@@ -5,7 +5,7 @@ use std::alloc::Global;
 
 impl Value {
     /// Drops the value in a loop, level by level, so that a deep value needs no deeper call stack than a flat one.
-    /// Lists and objects that another version shares stay.
+    /// Lists and objects that another version (snapshot) shares stay.
     ///
     /// The work list needs memory. If there is none, the values that were to be listed are dropped by recursion, as any
     /// value is. A `drop` written by hand could loop too, but then no `match` could move a part out of a value.

@@ -155,7 +155,7 @@ impl<T, L: Label<T>> Sequence<T, L> {
         ensures { IsTrue result → (0 < length this.now) × (0 < length other.now) }
     {
         match (&this.root, &other.root) {
-            // Trees of two lengths are two: that takes no step on their counts.
+            // Trees of different lengths are different, and to compare lengths takes no atomic operation.
             (Some(tree), Some(same)) => this.len == other.len && tree.is_at(same),
             _ => false,
         }
@@ -302,7 +302,7 @@ impl<T: Clone, L: NewLabel<T>> Sequence<T, L> {
     ///
     /// # Errors
     ///
-    /// As `remove`. `change` is then not called.
+    /// The same errors as `remove`. `change` is then not called.
     pub fn modify<R, F: FnOnce(&mut T) -> R>(
         &mut self,
         alloc: Global,
@@ -328,7 +328,7 @@ impl<T: Clone, L: NewLabel<T>> Sequence<T, L> {
     ///
     /// # Errors
     ///
-    /// As `remove`. `item` is then dropped.
+    /// The same errors as `remove`. `item` is then dropped.
     pub fn set(&mut self, alloc: Global, index: usize, item: T) -> Result<T, PlaceError>
         requires copies { CopiesAreEqual T.is_clone }
         requires labels { CopiesAreEqual L.is_clone }

@@ -39,7 +39,7 @@ impl<K: Ord + Clone, V: Clone> TreeMap<K, V> {
     ///
     /// # Errors
     ///
-    /// `AllocError` when `retain` fails.
+    /// `AllocError` under the same conditions as `retain`.
     pub fn intersection<W>(
         &self,
         alloc: Global,
@@ -59,7 +59,7 @@ impl<K: Ord + Clone, V: Clone> TreeMap<K, V> {
     ///
     /// # Errors
     ///
-    /// `AllocError` when `retain` fails.
+    /// `AllocError` under the same conditions as `retain`.
     pub fn difference<W>(
         &self,
         alloc: Global,

@@ -34,7 +34,7 @@ impl<K: Ord + Clone, V: Clone> TreeMap<K, V> {
     ///
     /// # Errors
     ///
-    /// `AllocError` when `append` fails.
+    /// `AllocError` under the same conditions as `append`.
     pub fn union(&self, alloc: Global, other: &TreeMap<K, V>) -> Result<TreeMap<K, V>, AllocError>
         requires copies_of_keys { CopiesAreEqual K.is_clone }
         requires copies_of_values { CopiesAreEqual V.is_clone }

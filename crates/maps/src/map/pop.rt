@@ -11,7 +11,7 @@ impl<K: Ord + Clone, V: Clone> TreeMap<K, V> {
     ///
     /// # Errors
     ///
-    /// `AllocError` when `remove` fails. The entries stay as they were.
+    /// `AllocError` under the same conditions as `remove`. The entries stay as they were.
     pub fn pop_first(&mut self, alloc: Global) -> Result<Option<(K, V)>, AllocError>
         requires copies_of_keys { CopiesAreEqual K.is_clone }
         requires copies_of_values { CopiesAreEqual V.is_clone }
@@ -28,7 +28,7 @@ impl<K: Ord + Clone, V: Clone> TreeMap<K, V> {
     ///
     /// # Errors
     ///
-    /// `AllocError` when `remove` fails. The entries stay as they were.
+    /// `AllocError` under the same conditions as `remove`. The entries stay as they were.
     pub fn pop_last(&mut self, alloc: Global) -> Result<Option<(K, V)>, AllocError>
         requires copies_of_keys { CopiesAreEqual K.is_clone }
         requires copies_of_values { CopiesAreEqual V.is_clone }

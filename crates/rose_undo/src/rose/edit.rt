@@ -43,7 +43,7 @@ impl<V: Clone> Rose<V> {
     ///
     /// # Errors
     ///
-    /// As `with_value`. `tree` is then dropped.
+    /// The same errors as `with_value`. `tree` is then dropped.
     pub fn with_tree(
         &self,
         alloc: Global,
@@ -62,7 +62,8 @@ impl<V: Clone> Rose<V> {
     ///
     /// # Errors
     ///
-    /// As `with_value`, and `NoPlace` if `index` is greater than the number of children there. `child` is then dropped.
+    /// The same errors as `with_value`, and `NoPlace` if `index` is greater than the number of children there. `child`
+    /// is then dropped.
     pub fn with_inserted(
         &self,
         alloc: Global,
@@ -83,7 +84,7 @@ impl<V: Clone> Rose<V> {
     ///
     /// # Errors
     ///
-    /// As `with_value`, and `NoPlace` if there is no child at `index`.
+    /// The same errors as `with_value`, and `NoPlace` if there is no child at `index`.
     pub fn without(
         &self,
         alloc: Global,

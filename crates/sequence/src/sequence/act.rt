@@ -23,7 +23,7 @@ impl<T: Clone, L: NewLabel<T>> Sequence<T, L> {
     ///
     /// # Errors
     ///
-    /// `AllocError` when `remove` lacks memory. If there is no such item, nothing is copied.
+    /// `AllocError` if `remove` would return `Memory`. If there is no such item, nothing is copied.
     pub fn take_out<C: Seek<T, L> + Drop>(
         &mut self,
         alloc: Global,
@@ -57,8 +57,8 @@ impl<T: Clone, L: NewLabel<T>> Sequence<T, L> {
     ///
     /// # Errors
     ///
-    /// `AllocError` when `modify` lacks memory: `change` is then not called. If there is no such item, nothing is
-    /// copied.
+    /// `AllocError` if `modify` would return `Memory`: `change` is then not called. If there is no such item, nothing
+    /// is copied.
     pub fn change<C: Seek<T, L>, R, F: FnOnce(&mut T) -> R>(
         &mut self,
         alloc: Global,
@@ -101,7 +101,7 @@ impl<T: Clone, L: NewLabel<T>> Sequence<T, L> {
     ///
     /// # Errors
     ///
-    /// `AllocError` when `insert` lacks memory. `new` is then dropped.
+    /// `AllocError` if `insert` would return `Memory`. `new` is then dropped.
     pub fn put_in<P: Put<T, L>>(
         &mut self,
         alloc: Global,

@@ -17,7 +17,7 @@ impl<T: Clone, L: NewLabel<T>> Sequence<T, L> {
     ///
     /// # Errors
     ///
-    /// `AllocError` when `insert` lacks memory. The items stay as they were; `item` is dropped.
+    /// `AllocError` if `insert` would return `Memory`. The items stay as they were; `item` is dropped.
     pub fn push(&mut self, alloc: Global, item: T) -> Result<(), AllocError>
         requires copies { CopiesAreEqual T.is_clone }
         requires labels { CopiesAreEqual L.is_clone }
@@ -42,7 +42,7 @@ impl<T: Clone, L: NewLabel<T>> Sequence<T, L> {
     ///
     /// # Errors
     ///
-    /// `AllocError` when `insert` lacks memory. The items stay as they were; `item` is dropped.
+    /// `AllocError` if `insert` would return `Memory`. The items stay as they were; `item` is dropped.
     pub fn push_front(&mut self, alloc: Global, item: T) -> Result<(), AllocError>
         requires copies { CopiesAreEqual T.is_clone }
         requires labels { CopiesAreEqual L.is_clone }
@@ -56,7 +56,7 @@ impl<T: Clone, L: NewLabel<T>> Sequence<T, L> {
     ///
     /// # Errors
     ///
-    /// `AllocError` when `remove` lacks memory. The items stay as they were.
+    /// `AllocError` if `remove` would return `Memory`. The items stay as they were.
     pub fn pop(&mut self, alloc: Global) -> Result<Option<T>, AllocError>
         requires copies { CopiesAreEqual T.is_clone }
         requires labels { CopiesAreEqual L.is_clone }
@@ -72,7 +72,7 @@ impl<T: Clone, L: NewLabel<T>> Sequence<T, L> {
     ///
     /// # Errors
     ///
-    /// `AllocError` when `remove` lacks memory. The items stay as they were.
+    /// `AllocError` if `remove` would return `Memory`. The items stay as they were.
     pub fn pop_front(&mut self, alloc: Global) -> Result<Option<T>, AllocError>
         requires copies { CopiesAreEqual T.is_clone }
         requires labels { CopiesAreEqual L.is_clone }

@@ -22,8 +22,8 @@ impl<T: Clone, L: NewLabel<T>> Sequence<T, L> {
     ///
     /// # Errors
     ///
-    /// `AllocError` when `insert` lacks memory, or for more than `usize::MAX` items. The list keeps its items; `other`
-    /// is dropped.
+    /// `AllocError` if `insert` would return `Memory`, or for more than `usize::MAX` items. The list keeps its items;
+    /// `other` is dropped.
     pub fn append(&mut self, alloc: Global, other: Sequence<T, L>) -> Result<(), AllocError>
         requires copies { CopiesAreEqual T.is_clone }
         requires labels { CopiesAreEqual L.is_clone }
@@ -137,7 +137,7 @@ impl<T: Clone, L: NewLabel<T>> Sequence<T, L> {
     ///
     /// # Errors
     ///
-    /// `AllocError` when `split_off` lacks memory. The items stay as they were.
+    /// `AllocError` if `split_off` would return `Memory`. The items stay as they were.
     pub fn truncate(&mut self, alloc: Global, len: usize) -> Result<(), AllocError>
         requires copies { CopiesAreEqual T.is_clone }
         requires labels { CopiesAreEqual L.is_clone }

@@ -83,7 +83,7 @@ impl<K: Ord + Drop, V: Drop> Clone for TreeMap<K, V> {
 }
 
 impl<K: Ord, V> TreeMap<K, V> {
-    /// Returns the number of entries. O(1).
+    /// Returns the number of entries: `map.len()`. O(1).
     pub fn len(&self) -> usize
         ensures count { result ≡ length self.now }
         ensures fits { length self.now < 2 ^ 64 }
@@ -130,7 +130,7 @@ impl<K: Ord, V> TreeMap<K, V> {
         Some(value)
     }
 
-    /// Returns the entry of `key`, with the key that is stored in the map. O(log n).
+    /// Returns the entry of `key`, with the key that is stored in the map: `map.get_key_value(&key)`. O(log n).
     pub fn get_key_value<Q: Query<K>>(&self, key: Q) -> Option<&(K, V)>
         ensures found { option_copied result ≡ entry_by (Q.order key) self.now }
         ensures value { option_map (λ e. e.1) (option_copied result) ≡ lookup_by (Q.order key) self.now }
@@ -144,14 +144,15 @@ impl<K: Ord, V> TreeMap<K, V> {
         }
     }
 
-    /// Returns `true` if the map has `key`. O(log n).
+    /// Returns `true` if the map has `key`: `map.contains_key("oak")`. O(log n).
     pub fn contains_key<Q: Query<K>>(&self, key: Q) -> bool
         ensures { result ≡ is_some (lookup_by (Q.order key) self.now) }
     {
         self.get(key).is_some()
     }
 
-    /// Returns the number of keys less than `key`, which is the index of its entry if the map has `key`. O(log n).
+    /// Returns the number of keys less than `key`, which is the index of its entry if the map has `key`:
+    /// `map.rank(&key)`. O(log n).
     pub fn rank<Q: Query<K>>(&self, key: Q) -> usize
         ensures rank { result ≡ rank_by (Q.order key) self.now }
         ensures within { result ≤ length self.now }
@@ -159,8 +160,8 @@ impl<K: Ord, V> TreeMap<K, V> {
         self.entries.rank(Below { query: key })
     }
 
-    /// Returns the entry at `index`, counted from 0 in ascending order of the keys, or `None`. O(log n), and compares
-    /// no keys.
+    /// Returns the entry at `index`, counted from 0 in ascending order of the keys, or `None`: `map.nth(3)`. O(log n),
+    /// and compares no keys.
     pub fn nth(&self, index: usize) -> Option<&(K, V)>
         ensures entry { option_copied result ≡ slice_get self.now index }
         ensures rising { IsRising K.cmp self.now }
@@ -168,14 +169,14 @@ impl<K: Ord, V> TreeMap<K, V> {
         self.entries.get(index)
     }
 
-    /// Returns the entry with the least key, or `None` if the map is empty. O(log n).
+    /// Returns the entry with the least key, or `None` if the map is empty: `map.first()`. O(log n).
     pub fn first(&self) -> Option<&(K, V)>
         ensures { option_copied result ≡ slice_get self.now 0 }
     {
         self.nth(0)
     }
 
-    /// Returns the entry with the greatest key, or `None` if the map is empty. O(log n).
+    /// Returns the entry with the greatest key, or `None` if the map is empty: `map.last()`. O(log n).
     pub fn last(&self) -> Option<&(K, V)>
         ensures { option_copied result ≡ slice_get self.now (length self.now - 1) }
     {
@@ -267,7 +268,8 @@ impl<K: Ord + Clone, V: Clone> TreeMap<K, V> {
 }
 
 impl<K: Ord, V> TreeMap<K, V> {
-    /// Returns `true` if both maps have the same root node, as exactly as `Arc::ptr_eq` does. Empty maps have none.
+    /// Returns `true` if both maps have the same root node: `TreeMap::ptr_eq(&map, &other)`. The answer is as exact as
+    /// that of `Arc::ptr_eq`, and `false` for empty maps.
     pub fn ptr_eq(this: &TreeMap<K, V>, other: &TreeMap<K, V>) -> bool
         ensures { IsTrue result → (0 < length this.now) × (0 < length other.now) }
     {

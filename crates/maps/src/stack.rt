@@ -72,7 +72,7 @@ impl<T> Stack<T> {
         }
     }
 
-    /// Returns the number of items. O(1).
+    /// Returns the number of items: `stack.len()`. O(1).
     pub fn len(&self) -> usize
         ensures { result ≡ length self.now }
     {
@@ -108,7 +108,7 @@ impl<T> Stack<T> {
         Some(item)
     }
 
-    /// Returns the item that was pushed first, or `None` if the stack is empty. O(n).
+    /// Returns the item that was pushed first, or `None` if the stack is empty: `stack.last()`. O(n).
     pub fn last(&self) -> Option<&T>
         ensures { option_copied result ≡ slice_get self.now (length self.now - 1) }
     {
@@ -189,8 +189,8 @@ impl<T: Drop> Stack<T> {
         }
     }
 
-    /// Returns `true` if both stacks have the same first node, as exactly as `Arc::ptr_eq` does. Empty stacks have
-    /// none.
+    /// Returns `true` if both stacks have the same first node: `Stack::ptr_eq(&stack, &other)`. The answer is as exact
+    /// as that of `Arc::ptr_eq`, and `false` for empty stacks.
     pub fn ptr_eq(this: &Stack<T>, other: &Stack<T>) -> bool
         ensures { IsTrue result → (0 < length this.now) × (0 < length other.now) }
     {

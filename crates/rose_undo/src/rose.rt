@@ -78,7 +78,8 @@ impl<V> Rose<V> {
         self.child(*index)?.at(rest)
     }
 
-    /// Returns `true` if both trees have the same root node, as exactly as `Arc::ptr_eq` does.
+    /// Returns `true` if both trees have the same root node: `Rose::ptr_eq(&tree, &other)`. The answer is as exact as
+    /// that of `Arc::ptr_eq`.
     pub fn ptr_eq(this: &Rose<V>, other: &Rose<V>) -> bool {
         Arc::ptr_eq(&this.node, &other.node)
     }

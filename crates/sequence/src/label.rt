@@ -4,14 +4,15 @@ ghost use Rattle.handles.specs.Copies.{CopiesAreEqual};
 
 use std::alloc::AllocError;
 
-/// The separator key that a branch keeps of the first item under each child, as `Key<K>` in `Sequence<(K, V), Key<K>>`.
+/// The separator key that a branch keeps of the first item under each child, as `Key<K>` in `Sequence<(K, V), Key<K>>`:
+/// `impl Label<Appointment> for Time { .. }`.
 ///
 /// `Label` is only a bound of the list and of its nodes, and has no method. `NewLabel` makes the separator keys.
 pub trait Label<T> {
     ghost label_of: { T → Self };
 }
 
-/// A separator key that can be made from an item.
+/// A separator key that can be made from an item: `impl NewLabel<Appointment> for Time { .. }`.
 pub trait NewLabel<T>: Label<T> + Clone {
     /// Returns the separator key of `item`.
     fn new(item: &T) -> Result<Self, AllocError>

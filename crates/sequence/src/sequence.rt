@@ -111,7 +111,7 @@ impl<T, L: Label<T>> Sequence<T, L> {
         }
     }
 
-    /// Returns the number of items. O(1).
+    /// Returns the number of items: `list.len()`. O(1).
     pub fn len(&self) -> usize
         ensures count { result ≡ length self.now }
         ensures fits { length self.now < 2 ^ 64 }
@@ -136,21 +136,22 @@ impl<T, L: Label<T>> Sequence<T, L> {
         }
     }
 
-    /// Returns the first item, or `None` if the list is empty. O(log n).
+    /// Returns the first item, or `None` if the list is empty: `list.first()`. O(log n).
     pub fn first(&self) -> Option<&T>
         ensures { option_copied result ≡ slice_get self.now 0 }
     {
         self.get(0)
     }
 
-    /// Returns the last item, or `None` if the list is empty. O(log n).
+    /// Returns the last item, or `None` if the list is empty: `list.last()`. O(log n).
     pub fn last(&self) -> Option<&T>
         ensures { option_copied result ≡ slice_get self.now (length self.now - 1) }
     {
         self.get(self.len().saturating_sub(1))
     }
 
-    /// Returns `true` if both lists have the same root node, as exactly as `Arc::ptr_eq` does. Empty lists have none.
+    /// Returns `true` if both lists have the same root node: `Sequence::ptr_eq(&list, &other)`. The answer is as exact
+    /// as that of `Arc::ptr_eq`, and `false` for empty lists.
     pub fn ptr_eq(this: &Sequence<T, L>, other: &Sequence<T, L>) -> bool
         ensures { IsTrue result → (0 < length this.now) × (0 < length other.now) }
     {

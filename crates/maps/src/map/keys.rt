@@ -26,7 +26,8 @@ impl<'a, K: Ord, V> Model for Keys<'a, K, V> {
 }
 
 impl<K: Ord, V> TreeMap<K, V> {
-    /// Returns an iterator over the keys in ascending order, whose steps cost the same as those of `iter`.
+    /// Returns an iterator over the keys in ascending order, whose steps cost the same as those of `iter`:
+    /// `map.keys()`.
     pub fn keys(&self) -> Keys<'_, K, V>
         ensures { result ≡ keys_of self.now }
     {

@@ -27,7 +27,7 @@ impl<'a, K: Ord, V> Model for Values<'a, K, V> {
 
 impl<K: Ord, V> TreeMap<K, V> {
     /// Returns an iterator over the values in ascending order of the keys, whose steps cost the same as those of
-    /// `iter`.
+    /// `iter`: `map.values()`.
     pub fn values(&self) -> Values<'_, K, V>
         ensures { result ≡ values_of self.now }
     {

@@ -18,8 +18,8 @@ use crate::tree::take::Take;
 use std::alloc::{AllocError, Global};
 
 impl<T: Clone, L: NewLabel<T>> Sequence<T, L> {
-    /// Removes the item that `cut` seeks and returns it, or `None` if the last item before the cut is another one.
-    /// O(log n).
+    /// Removes the item that `cut` seeks and returns it, or `None` if the last item before the cut is another one:
+    /// `entries.take_out(alloc, cut)?`. O(log n).
     ///
     /// # Errors
     ///
@@ -53,7 +53,7 @@ impl<T: Clone, L: NewLabel<T>> Sequence<T, L> {
     }
 
     /// Calls `change` on the item that `cut` seeks and returns its result, or `None` if the last item before the cut is
-    /// another one. O(log n).
+    /// another one: `entries.change(alloc, cut, |old| mem::replace(old, item))?`. O(log n).
     ///
     /// # Errors
     ///
@@ -96,8 +96,8 @@ impl<T: Clone, L: NewLabel<T>> Sequence<T, L> {
         }
     }
 
-    /// Inserts `new` behind its cut. If the last item before the cut is the one that `new` seeks, replaces that item
-    /// instead and returns what the replacement puts out. O(log n).
+    /// Inserts `new` behind its cut: `appointments.put_in(alloc, appointment)?`. If the last item before the cut is the
+    /// one that `new` seeks, replaces that item instead and returns what the replacement puts out. O(log n).
     ///
     /// # Errors
     ///

@@ -20,8 +20,8 @@ impl<T, L: Label<T>> Sequence<T, L> {
         }
     }
 
-    /// Returns the index of the last item before the cut, and that item, or `None` if the first item is behind the cut.
-    /// O(log n).
+    /// Returns the index of the last item before the cut, and that item, or `None` if the first item is behind the cut:
+    /// `entries.find(cut)`. O(log n).
     #[inline(always)]
     pub fn find<C: Cut<T, L>>(&self, cut: C) -> Option<(usize, &T)>
         requires { HasCut (λ e. C.is_before cut (L.label_of e)) self.now }
@@ -35,7 +35,8 @@ impl<T, L: Label<T>> Sequence<T, L> {
         }
     }
 
-    /// Returns the last item before the cut, or `None` if the first item is behind the cut. O(log n).
+    /// Returns the last item before the cut, or `None` if the first item is behind the cut: `entries.last_before(cut)`.
+    /// O(log n).
     pub fn last_before<C: Cut<T, L>>(&self, cut: C) -> Option<&T>
         requires { HasCut (λ e. C.is_before cut (L.label_of e)) self.now }
         ensures none { IfNone result (IsCut (λ e. C.is_before cut (L.label_of e)) self.now 0) }

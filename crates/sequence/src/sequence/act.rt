@@ -55,10 +55,8 @@ impl<T: Clone, L: NewLabel<T>> Sequence<T, L> {
     /// Calls `change` on the item that `cut` seeks and returns its result, or `None` if the last item before the cut is
     /// another one: `entries.change(alloc, cut, |old| mem::replace(old, item))?`. O(log n).
     ///
-    /// # Errors
-    ///
-    /// `AllocError` if `modify` would return `Memory`: `change` is then not called. If there is no such item, nothing
-    /// is copied.
+    /// It copies and is refused as `modify` is, and the change is then not called. It is not called either if there is
+    /// no such item: then nothing is copied or refused.
     pub fn change<C: Seek<T, L>, R, F: FnOnce(&mut T) -> R>(
         &mut self,
         alloc: Global,

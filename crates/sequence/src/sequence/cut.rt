@@ -7,7 +7,7 @@ use crate::label::Label;
 use crate::sequence::Sequence;
 
 impl<T, L: Label<T>> Sequence<T, L> {
-    /// Returns the number of items before the cut, its partition point: `entries.rank(cut)`. O(log n).
+    /// How many items are before the cut, by one way down.
     pub fn rank<C: Cut<T, L>>(&self, cut: C) -> usize
         requires { HasCut (λ e. C.is_before cut (L.label_of e)) self.now }
         ensures { IsCut (λ e. C.is_before cut (L.label_of e)) self.now result }
@@ -20,8 +20,7 @@ impl<T, L: Label<T>> Sequence<T, L> {
         }
     }
 
-    /// Returns the index of the last item before the cut, and that item, or `None` if the first item is behind the cut:
-    /// `entries.find(cut)`. O(log n).
+    /// The last item before the cut and its number, by one way down.
     #[inline(always)]
     pub fn find<C: Cut<T, L>>(&self, cut: C) -> Option<(usize, &T)>
         requires { HasCut (λ e. C.is_before cut (L.label_of e)) self.now }
@@ -35,8 +34,7 @@ impl<T, L: Label<T>> Sequence<T, L> {
         }
     }
 
-    /// Returns the last item before the cut, or `None` if the first item is behind the cut: `entries.last_before(cut)`.
-    /// O(log n).
+    /// The last item before the cut, by one way down.
     pub fn last_before<C: Cut<T, L>>(&self, cut: C) -> Option<&T>
         requires { HasCut (λ e. C.is_before cut (L.label_of e)) self.now }
         ensures none { IfNone result (IsCut (λ e. C.is_before cut (L.label_of e)) self.now 0) }

@@ -4,8 +4,8 @@ use Rattle.std.specs.Cmp.{IsTotalOrder}
 use Rattle.std.specs.declared.cmp.Ordering.{Ordering}
 use Rattle.std.specs.declared.cmp.Ordering.TheVariants.{Less, Equal}
 
--- compares with the keys as a key could: like any key that it equals, and if less than a key, also less than all greater
--- keys
+-- compares with the keys as a key could: like any key that it equals, and if less than a key, also less than all that
+-- are greater
 pub record IsForm {K : Type 0} (cmp : K → K → Ordering) (order : K → Ordering) : Type 0 where
   pub equal : (x y : K) → order x ≡ Equal → order y ≡ cmp x y
   pub below : (x y : K) → order x ≡ Less → cmp x y ≡ Less → order y ≡ Less

@@ -7,7 +7,7 @@ use std::hint::black_box;
 /// The value of a block that has one handle or more.
 pub const VALUE: u64 = 7;
 
-/// So many that they and their blocks are more than a cache has room for.
+/// Enough handles that they and their blocks do not fit into a cache.
 const HANDLES: u64 = 1_000_000;
 
 #[inline(never)]
@@ -22,7 +22,7 @@ pub fn new_drop(alloc: Global, times: u64) -> Option<u64> {
     Some(sum)
 }
 
-/// Clones of a handle, if there was memory for that, one after the other.
+/// Clones and drops a handle, if there was memory for it.
 #[inline(never)]
 pub fn clone_often(made: Result<Arc<u64>, u64>, times: u64) -> Option<u64> {
     let handle = made.ok()?;
@@ -34,7 +34,7 @@ pub fn clone_often(made: Result<Arc<u64>, u64>, times: u64) -> Option<u64> {
     Some(sum)
 }
 
-/// Counted handles of a static one, which is never refused one.
+/// Makes and drops counted handles of a static block, which cannot fail.
 #[inline(never)]
 pub fn clone_static(alloc: Global, times: u64) -> Option<u64> {
     let kept: StaticArc<'static, u64> = StaticArc::new(alloc, VALUE).ok()?;
@@ -103,7 +103,7 @@ pub fn make_mut_shared(alloc: Global, times: u64) -> Option<u64> {
     Some(sum)
 }
 
-/// Returns how many comparisons were made, whatever they were answered.
+/// Compares two handles, and returns the number of comparisons, whatever their results.
 pub fn compare_often(first: &Arc<u64>, second: &Arc<u64>, times: u64) -> u64 {
     let mut compared = 0u64;
     for _ in 0..times {

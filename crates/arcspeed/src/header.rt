@@ -2,10 +2,10 @@
 use servo_arc::{Arc, ThinArc};
 use std::alloc::Global;
 
-/// The items of each slice.
+/// The number of items of a slice.
 const ITEMS: u32 = 16;
 
-/// The slices that `get` reads.
+/// The number of slices that `get` reads.
 const SLICES: usize = 1024;
 
 fn make(alloc: Global, number: u64) -> Option<ThinArc<u64, u32>> {
@@ -25,7 +25,7 @@ pub fn build(alloc: Global, times: u64) -> Option<u64> {
     Some(sum)
 }
 
-/// One item of a slice after the other.
+/// Reads one item of a slice after another.
 #[inline(never)]
 pub fn get(alloc: Global, times: u64) -> Option<u64> {
     let mut slices = Vec::new(alloc);

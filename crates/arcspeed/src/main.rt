@@ -1,7 +1,7 @@
-//! `arcspeed WORKLOAD ITERATIONS` repeats one workload on the handles of `servo_arc`, and prints a checksum of what it
-//! read. With 0 iterations it only prepares, so that the preparation can be taken off what was measured.
+//! `arcspeed WORKLOAD ITERATIONS` repeats one workload on the handles of `servo_arc`, and prints a checksum of the
+//! values that it read. With 0 iterations it only prepares, so that the time of the preparation can be subtracted.
 //!
-//! A workload ends without a checksum if memory, a clone or the clock is refused.
+//! A workload ends without a checksum if an allocation, a clone or the clock fails.
 #![tactic(auto)]
 
 mod arcs;
@@ -32,7 +32,7 @@ use symbols::Pairs;
 use threads::Turn;
 use tree_maps::Order;
 
-/// What the workload read, unless there is none of that name.
+/// Returns the checksum of a workload, or `None` if it fails or there is none of that name.
 fn checksum<R: Clock + Print + RandomSource + Threads + Wait + Sync>(
     rt: &R,
     alloc: Global,
@@ -70,7 +70,7 @@ fn checksum<R: Clock + Print + RandomSource + Threads + Wait + Sync>(
     }
 }
 
-/// The checksum of the workload that the arguments name, repeated as often as they say.
+/// Runs the workload that the arguments name, with as many iterations as they say.
 fn run<R: Env + Clock + Print + RandomSource + Threads + Wait + Sync>(
     rt: &R,
     alloc: Global,

@@ -1,4 +1,4 @@
-//! A list in pages, of which a version shares those that it does not write.
+//! A list in pages. A version (snapshot) shares the pages that it does not write.
 use crate::random::Random;
 use cow_table::CowTable;
 use std::alloc::Global;
@@ -11,7 +11,7 @@ fn read(table: &CowTable<u64>, i: usize) -> u64 {
     table.get(i).copied().unwrap_or(0)
 }
 
-/// A call of its own, as in the twin.
+/// A function of its own, as in the Rust program beside which this one is timed.
 #[inline(never)]
 fn write(table: &mut CowTable<u64>, alloc: Global, i: usize, item: u64) -> Option<()> {
     table.set(alloc, i, item).ok()

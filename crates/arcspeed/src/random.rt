@@ -1,18 +1,19 @@
-//! Numbers that look random, the same in each run and for each pointer that is measured.
+//! Pseudorandom numbers, the same in each run and for each pointer that is measured.
 ghost use Rattle.std.specs.Prelude.{◌<◌};
 
-/// A linear congruential sequence. Its upper half is the better one.
+/// A linear congruential generator. The upper half of its state is the better one.
 #[derive(Clone, Copy)]
 pub struct Random {
     pub state: u64,
 }
 
 impl Random {
+    /// Creates a generator with a fixed seed.
     pub fn new() -> Random {
         Random { state: 1 }
     }
 
-    /// The next state.
+    /// Moves to the next state and returns it.
     pub fn next(&mut self) -> u64 {
         self.state = self
             .state
@@ -21,7 +22,7 @@ impl Random {
         self.state
     }
 
-    /// A number below the bound, by this state.
+    /// Returns a number below `bound`, from the current state.
     pub fn pick(&self, bound: usize) -> usize
         requires { 0 < bound }
         ensures { result < bound }
@@ -29,7 +30,7 @@ impl Random {
         (self.state >> 33) as usize % bound
     }
 
-    /// A number below the bound, by the next state.
+    /// Returns a number below `bound`, from the next state.
     pub fn below(&mut self, bound: usize) -> usize
         requires { 0 < bound }
         ensures { result < bound }
@@ -39,7 +40,7 @@ impl Random {
     }
 }
 
-/// Puts the items in another order.
+/// Shuffles the items, always in the same way.
 pub fn shuffle<T: Drop>(items: &mut [T]) {
     let mut random = Random::new();
     for i in 1..items.len() {

@@ -1,4 +1,4 @@
-//! A list of numbers through its calls, each of them timed. The list is `sequence`'s, whose versions share.
+//! Times the calls of a `Sequence` of numbers.
 ghost use Rattle.std.specs.Prelude.{◌<◌, length};
 
 use crate::random::shuffle;
@@ -7,12 +7,12 @@ use std::alloc::Global;
 use std::io::Print;
 use std::time::{Clock, Instant};
 
-/// So many items are put in and read, whatever the number of items of a list.
+/// The number of items that are inserted and read, whatever the length of a list.
 const ITEMS: usize = 1_000_000;
 
 const VERSIONS: usize = 100_000;
 
-/// So many calls change a list in the middle.
+/// The number of calls that change a list in the middle.
 const CHANGES: usize = 1_000;
 
 type List = Sequence<u64>;
@@ -21,8 +21,8 @@ const CALLS: [&str; 9] = [
     "push", "get", "step", "version", "insert", "remove", "cut", "drop", "pop",
 ];
 
-/// All calls on lists of that many items, one after another, at places in mixed order. It prints the nanoseconds that
-/// each took; those of `cut` are those of `split_off` and `append` together.
+/// Runs all calls on lists of `len` items, at indices in random order, and prints the nanoseconds that each call took.
+/// Those of `cut` are those of `split_off` and `append` together.
 pub fn measure<R: Clock + Print>(rt: &R, alloc: Global, len: u64) -> Option<u64> {
     let mut places: Vec<u64> = (0..len).collect(alloc).ok()?;
     shuffle(&mut places);
@@ -37,7 +37,7 @@ pub fn measure<R: Clock + Print>(rt: &R, alloc: Global, len: u64) -> Option<u64>
     Some(sum)
 }
 
-/// Makes a call: on the last of the lists, unless it is one that makes or ends them.
+/// Makes a call on the last of the lists, or on all of them if the call makes or drops lists.
 fn called<R: Clock + Print>(
     rt: &R,
     call: &str,
@@ -56,7 +56,7 @@ fn called<R: Clock + Print>(
         "insert" => insert(list, alloc, places),
         "remove" => remove(list, alloc, places),
         "cut" => cut(rt, list, alloc, places),
-        // First, since the allocator takes up what a pop gives back only at a later call.
+        // Comes before `pop`, since the allocator reuses the memory that a pop frees only at a later call.
         "drop" => {
             drop(lists.split_off(lists.len() / 2).ok()?);
             Some(0)
@@ -99,14 +99,14 @@ fn step(list: &List, rounds: usize) -> u64 {
     sum
 }
 
-/// The place of a call of that number.
+/// The index for the call number `at`.
 fn place(places: &[u64], at: usize) -> usize
     requires { 0 < length places.now }
 {
     places[at % places.len()] as usize
 }
 
-/// Each version has another item at one place, and ends the version before it.
+/// Writes each version (snapshot) at one index, and drops the version before it.
 #[inline(never)]
 fn version(list: &mut List, alloc: Global, places: &[u64]) -> Option<u64>
     requires { 0 < length places.now }
@@ -141,7 +141,7 @@ fn remove(list: &mut List, alloc: Global, places: &[u64]) -> Option<u64>
     Some(sum)
 }
 
-/// Makes two lists of it and one again, each time at another place. It prints the nanoseconds of either call.
+/// Splits a list and joins both parts again, each time at another index, and prints the nanoseconds of both calls.
 #[inline(never)]
 fn cut<R: Clock + Print>(rt: &R, list: &mut List, alloc: Global, places: &[u64]) -> Option<u64>
     requires { 0 < length places.now }
@@ -161,7 +161,7 @@ fn cut<R: Clock + Print>(rt: &R, list: &mut List, alloc: Global, places: &[u64])
     Some(0)
 }
 
-/// Takes an item out of each of the lists as often as there are places.
+/// Pops as many items from each list as there are indices.
 #[inline(never)]
 fn pop(lists: &mut [List], alloc: Global, places: &[u64]) -> Option<u64> {
     let mut sum = 0u64;

@@ -1,8 +1,8 @@
-//! A long stack whose versions share their nodes.
+//! A long stack whose versions (snapshots) share their nodes.
 use maps::Stack;
 use std::alloc::Global;
 
-/// So many that the nodes are more than a cache has room for.
+/// Enough items that the nodes do not fit into a cache.
 const ITEMS: u64 = 1_000_000;
 
 fn sum_of(stack: &Stack<u64>) -> u64 {

@@ -27,7 +27,7 @@ fn rule(alloc: Global, number: u32) -> Option<Arc<Rule>> {
     Arc::new(alloc, rule).ok()
 }
 
-/// The rules that say of six classes whether they match.
+/// The rules whose six classes match, by the bits of `random`.
 fn matching(alloc: Global, rules: &[Arc<Rule>], random: u64) -> Option<Vec<Arc<Rule>>> {
     let mut matched = Vec::new(alloc);
     for (i, rule) in rules.iter().enumerate() {
@@ -44,7 +44,7 @@ fn inline(alloc: Global, random: u64) -> Option<Arc<Inline>> {
     Arc::new(alloc, Inline { declarations }).ok()
 }
 
-/// An element of one of 64 kinds. One of eight has a block of its own.
+/// Creates an element of one of 64 kinds. One element in eight has a block of declarations of its own.
 fn element(alloc: Global, rules: &[Arc<Rule>], random: u64) -> Option<Element> {
     let mut element = Element::of_rules(alloc, matching(alloc, rules, random)?).ok()?;
     if (random >> 6) % 8 == 0 {
@@ -78,7 +78,7 @@ fn sum_of(styles: &[Arc<Style>]) -> u64 {
     sum
 }
 
-/// By one thread, or by four.
+/// Computes the styles on one thread, or on four.
 #[inline(never)]
 pub fn cascade<R: Threads + Sync>(rt: &R, alloc: Global, threads: u32, times: u64) -> Option<u64> {
     let elements = elements(alloc)?;

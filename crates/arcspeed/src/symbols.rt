@@ -6,16 +6,16 @@ use std::random::RandomSource;
 
 const PAIRS: u64 = 20_000;
 
-/// Which pairs.
+/// The choice of pairs.
 #[derive(Clone, Copy)]
 pub enum Pairs {
     Plain,
-    /// As somebody picks them who knows the seed of `Interner::new`: under it all have one hash.
+    /// The pairs of an attacker who knows the seed of `Interner::new`: with that seed all have one hash.
     Chosen,
 }
 
 impl Pairs {
-    // The second number, if it is what the hasher has made of the first, takes all of it back.
+    // For `Chosen` the second number is the state of the hasher after the first one, which sets the state back.
     fn pair(self, first: u64) -> (u64, u64) {
         match self {
             Pairs::Plain => (first, first),

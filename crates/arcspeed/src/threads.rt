@@ -6,7 +6,7 @@ use std::sync::Wait;
 use std::thread;
 use std::thread::Threads;
 
-/// What each thread repeats.
+/// The operation that each thread repeats.
 #[derive(Clone, Copy)]
 pub enum Turn {
     Clone,
@@ -43,7 +43,7 @@ fn total(sums: &[Option<u64>]) -> Option<u64> {
     Some(total)
 }
 
-/// Waits until it has each of the clones.
+/// Clones by the call that retries until it has each clone.
 fn clone_waiting(handle: &Arc<u64>, rt: &impl Wait, times: u64) -> Option<u64> {
     let mut sum = 0u64;
     for _ in 0..times {

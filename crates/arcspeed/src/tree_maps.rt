@@ -1,4 +1,4 @@
-//! A map of numbers through its calls, each of them timed. The map is `maps`'s, whose versions share.
+//! Times the calls of a `TreeMap` of numbers.
 ghost use Rattle.std.specs.Prelude.{◌<◌, length};
 
 use crate::random::shuffle;
@@ -7,21 +7,21 @@ use std::alloc::Global;
 use std::io::Print;
 use std::time::{Clock, Instant};
 
-/// So many entries are put in and read, whatever the number of keys of a map.
+/// The number of entries that are inserted and read, whatever the number of keys of a map.
 const ENTRIES: usize = 1_000_000;
 
 const VERSIONS: usize = 100_000;
 
 type Map = TreeMap<u64, u64>;
 
-/// In which order a map gets its keys, and is asked for them.
+/// The order in which keys are inserted and searched.
 #[derive(Clone, Copy)]
 pub enum Order {
     Rising,
     Mixed,
 }
 
-/// At least so many maps are made: three calls take a part of them each, and the others are dropped.
+/// The least number of maps: three calls take a part of the maps each, and the others are dropped.
 const MAPS: usize = 4;
 
 const CALLS: [&str; 10] = [
@@ -37,7 +37,7 @@ const CALLS: [&str; 10] = [
     "drop",
 ];
 
-/// All calls on maps of that many keys, one after another. It prints the nanoseconds that each took.
+/// Runs all calls on maps of `len` keys, and prints the nanoseconds that each call took.
 pub fn measure<R: Clock + Print>(rt: &R, alloc: Global, order: Order, len: u64) -> Option<u64> {
     let mut keys: Vec<u64> = (0..len).collect(alloc).ok()?;
     if let Order::Mixed = order {
@@ -54,7 +54,7 @@ pub fn measure<R: Clock + Print>(rt: &R, alloc: Global, order: Order, len: u64) 
     Some(sum)
 }
 
-/// Makes a call: on the last of the maps, unless it is one that makes or ends them.
+/// Makes a call on the last of the maps, or on all of them if the call makes or drops maps.
 fn called(call: &str, maps: &mut Vec<Map>, alloc: Global, keys: &[u64]) -> Option<u64> {
     let rounds = ENTRIES.checked_div(keys.len())?;
     let Some(map) = maps.last_mut() else {
@@ -70,14 +70,14 @@ fn called(call: &str, maps: &mut Vec<Map>, alloc: Global, keys: &[u64]) -> Optio
         "pop_first" => pop_first(&mut part_of(maps, rounds)?, alloc, keys),
         "pop_last" => pop_last(&mut part_of(maps, rounds)?, alloc, keys),
         _ => {
-            // The list ends too, as in the twin: only then does the allocator give memory back.
+            // The vector is freed too, as in the Rust program: only then does the allocator return memory.
             *maps = Vec::new(alloc);
             Some(0)
         }
     }
 }
 
-/// The last of the maps, as many as one call takes.
+/// The last maps, as many as one call takes.
 fn part_of(maps: &mut Vec<Map>, rounds: usize) -> Option<Vec<Map>> {
     let rest = maps.len().checked_sub(rounds.max(MAPS) / MAPS)?;
     maps.split_off(rest).ok()
@@ -142,7 +142,7 @@ fn clone(map: &Map) -> Option<u64> {
     Some(sum)
 }
 
-/// Each version has another value under one key, and ends the version before it.
+/// Writes each version (snapshot) under one key, and drops the version before it.
 #[inline(never)]
 fn version(map: &mut Map, alloc: Global, keys: &[u64]) -> Option<u64>
     requires { 0 < length keys.now }
@@ -167,7 +167,7 @@ fn remove(maps: &mut [Map], alloc: Global, keys: &[u64]) -> Option<u64> {
     Some(sum)
 }
 
-/// Takes an entry out of each of the maps as often as there are keys.
+/// Pops as many entries from each map as there are keys.
 #[inline(never)]
 fn pop_first(maps: &mut [Map], alloc: Global, keys: &[u64]) -> Option<u64> {
     let mut sum = 0u64;

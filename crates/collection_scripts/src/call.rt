@@ -5,7 +5,7 @@ use std::io;
 use std::io::Print;
 use testing::counted::{Counted, Tally, counted_items};
 
-/// What a line asks for. Each number that it lacks is 0.
+/// A line of a script as a call. Each number that the line lacks is 0.
 #[derive(Drop)]
 pub struct Call<'a> {
     pub word: &'a str,
@@ -16,6 +16,7 @@ pub struct Call<'a> {
 }
 
 impl<'a> Call<'a> {
+    /// Reads a line: a word, and then numbers or a text.
     pub fn read(line: &'a str, tally: &'a Tally) -> Call<'a> {
         let (word, text) = line.split_once(' ').unwrap_or((line, ""));
         let mut numbers = [0; 5];
@@ -37,27 +38,29 @@ impl<'a> Call<'a> {
         }
     }
 
-    /// An item of that value.
+    /// Creates an item of that value.
     pub fn item(&self, value: usize) -> Counted<'a> {
         Counted::new(self.tally, value as u64)
     }
 
-    /// The items 0, 1 and so on, as many as the first number says.
+    /// Creates the items 0, 1 and so on, as many as the first number says.
     pub fn items(&self, alloc: Global) -> Option<Vec<Counted<'a>>> {
         counted_items(alloc, self.tally, self.numbers[0] as u64)
     }
 
-    /// The numbers from that one on.
+    /// Returns the numbers of the line from the index `from` on.
     pub fn path(&self, from: usize) -> &[usize] {
         self.numbers.get(from..self.count).unwrap_or(&[])
     }
 }
 
-/// What scripts call.
+/// A collection that a script calls.
 pub trait Collection<'a>: Debug + Drop {
+    /// Makes the call, and prints the value that it returns.
     fn answer<R: Print + AllocGlobal>(&mut self, rt: &R, call: &Call<'a>) -> io::Result<()>;
 }
 
+/// Prints a returned value as a line, in the form of `{:?}`.
 pub fn tell(rt: &impl Print, answer: impl Debug + Drop) -> io::Result<()> {
     println!(rt; "{answer:?}")
 }

@@ -1,7 +1,9 @@
 //! Calls of an `Interner` of texts:
 //!
-//!     intern TEXT; find TEXT; get I
-//!     give TEXT; block TEXT     makes a `String` of the text first; its block too, and says whether that is kept
+//!     intern TEXT; find TEXT    the index of the symbol of the text, which `intern` adds if it is new
+//!     get I                     the text with that index
+//!     give TEXT                 as `intern`, of a `String` made first
+//!     block TEXT                as `give`, of a `String` in a block of its own; also: was that block kept?
 use crate::call::{Call, Collection, tell};
 use interner::{InternError, Interner, Symbol};
 use servo_arc::Arc;
@@ -27,13 +29,13 @@ impl<'a> Collection<'a> for Interner<String> {
     }
 }
 
-// Interns a text that is made before.
+// Interns a text by value: the `String` is made first.
 fn give(alloc: Global, names: &mut Interner<String>, text: &str) -> Result<Symbol, InternError> {
     let text = String::from_str(alloc, text)?;
     names.intern(alloc, text)
 }
 
-// The number of a text that is given in its block, and whether that block is kept.
+// Returns the index of a text that is given in a block of its own, and whether that block is kept.
 fn give_block(
     alloc: Global,
     names: &mut Interner<String>,

@@ -1,11 +1,11 @@
-//! Answers a script of calls on a collection, which stands on standard input. Its first line is `sequence`, `map`,
-//! `tree`, or `interner N`, which has room for N values. Each later one is a call, with numbers or a text, and is
-//! answered by what the call returns, as `{:?}` prints it. A number that a line lacks is 0. The last line says how
-//! many items were dropped in all, less the copies: as many as the script made. The module of each collection has its
-//! calls; all have these:
+//! Runs a script of calls on a collection, which is read from standard input. The first line is `sequence`, `map`,
+//! `tree`, or `interner N` with room for N values. Each other line is a call, with numbers or a text, and prints the
+//! value that the call returns, in the form of `{:?}`. A number that a line lacks is 0. The last line of the output is
+//! the number of items that were dropped, less the number of copies: the number of items that the script made. The
+//! module of each collection lists its calls. All collections have these:
 //!
-//!     print; pretty     all items; as `{:2?}` and `{:#?}` print them
-//!     tally             how many items were copied, and how many have ended
+//!     print; pretty     prints all items; prints them by `{:2?}` and `{:#?}`
+//!     tally             prints how many items were copied, and how many were dropped
 #![tactic(auto)]
 
 mod call;

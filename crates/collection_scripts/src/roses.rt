@@ -1,11 +1,16 @@
-//! Calls of an `Undo` of a `Rose`, at first of the value 0. A change makes the next version. A PATH, the last numbers
-//! of a line, has the number of a child for each step down:
+//! Calls of an `Undo` of a `Rose`, which starts as a tree of the value 0. A change makes the next version (snapshot). A
+//! PATH, the last numbers of a line, has the index of a child for each step down:
 //!
-//!     set V PATH; insert V I PATH; remove I PATH; put PATH      `put` puts the tree itself there
-//!     add V PATH                adds to the value there twice, in one new version
-//!     undo; redo; forget N; versions                how many can be undone, and done again
-//!     values; paths
-//!     at PATH; shared PATH      the value there; does the version before have the same node there?
+//!     set V PATH                replaces the value at the path
+//!     insert V I PATH           inserts a leaf with that value at the index I
+//!     remove I PATH             removes the child at the index I
+//!     put PATH                  replaces the tree at the path by a clone of the whole tree
+//!     add V PATH                adds to the value at the path twice, in one new version
+//!     undo; redo; forget N      the calls of `Undo`
+//!     versions                  how many can be undone, and how many can be redone
+//!     values; paths             all values; all paths with their values
+//!     at PATH                   the value at the path
+//!     shared PATH               is the node at the path the same one as in the version before?
 use crate::call::{Call, Collection, tell};
 use crate::sequences::add;
 use rose_undo::{PlaceError, Rose, Undo};
@@ -51,7 +56,7 @@ fn change<'a>(
     Ok(versions.change(made?)?)
 }
 
-// The tree that a call makes.
+// The tree that a call makes, or `None` for an unknown call.
 fn changed<'a>(
     alloc: Global,
     tree: &Tree<'a>,
@@ -77,8 +82,8 @@ fn with_itself<'a>(alloc: Global, tree: &Tree<'a>, path: &[usize]) -> Result<Tre
     tree.with_tree(alloc, path, tree.clone()?)
 }
 
-// The value there is added to twice: only the first time copies what the tree shares. If that is refused, it still
-// shares all.
+// Adds twice in place: only the first time copies the nodes that the version before shares. If the first time fails,
+// the clone still shares its root with that version, and the error is returned.
 fn with_added<'a>(alloc: Global, tree: &Tree<'a>, call: &Call<'a>) -> Result<Tree<'a>, PlaceError> {
     let mut made = tree.clone()?;
     for _ in 0..2u8 {
@@ -92,7 +97,7 @@ fn with_added<'a>(alloc: Global, tree: &Tree<'a>, call: &Call<'a>) -> Result<Tre
     Ok(made)
 }
 
-// Whether the version before has the same node there.
+// Whether the version before has the same node at the path.
 fn is_shared(versions: &Undo<Tree<'_>>, path: &[usize]) -> Option<bool> {
     let before = versions.before().last()?;
     Some(Rose::ptr_eq(before.at(path)?, versions.current().at(path)?))

@@ -1,12 +1,16 @@
 //! Calls of a `Sequence`, beside those of all versions:
 //!
-//!     set I V; pop; pop_front; push V; push_front V
-//!     split I; append   the rest becomes the other one; takes the other one
-//!     replace I J       the items from I to before J become the other one, which takes their place
-//!     truncate N; extend N      to the first N items; by items as `fill` makes them
-//!     retain V; clear   keeps the items that are at least V; ends all items
-//!     exchange I J      swaps two items
-//!     item I; contains V        an item by its index, if it is there; is one of them equal to that?
+//!     set I V                   replaces the item at the index I
+//!     push V; push_front V      inserts an item at the end; at the front
+//!     pop; pop_front            removes the last item; the first one
+//!     split I                   splits the sequence at I; the rest becomes the other one
+//!     append                    appends the items of the other one, which is then empty
+//!     replace I J               replaces the items from I to before J by the other one, which becomes the old items
+//!     truncate N; extend N      keeps the first N items; appends N items as `fill` makes them
+//!     retain V; clear           keeps the items that are at least V; drops all items
+//!     exchange I J              swaps two items
+//!     item I                    the item at the index I, if there is one
+//!     contains V                is an item equal to V?
 use crate::call::{Call, tell};
 use crate::versions::{Version, put};
 use sequence::Sequence;
@@ -59,7 +63,7 @@ impl<'a> Version<'a> for Items<'a> {
     }
 }
 
-// What changes no sequence.
+// Calls that change no sequence.
 fn read<'a, R: Print>(
     rt: &R,
     items: &Items<'a>,
@@ -82,7 +86,7 @@ fn read<'a, R: Print>(
     }
 }
 
-/// Adds to an item.
+/// Adds to an item, and returns its new value.
 pub fn add(item: &mut Counted<'_>, value: usize) -> u64 {
     item.value = item.value.wrapping_add(value as u64);
     item.value

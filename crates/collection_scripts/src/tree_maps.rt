@@ -1,11 +1,14 @@
-//! Calls of a `TreeMap`, beside those of all versions. The map that a call makes takes the place of the one beside it.
+//! Calls of a `TreeMap`, beside those of all versions. A map that a call returns becomes the other one.
 //!
-//!     alter I V         takes the entry out, or puts one in
-//!     pop_first; pop_last; retain I; clear      `retain` keeps the keys from I on
-//!     split I; append   the rest becomes the other one; takes the other one's entries, which stay there too
-//!     union; both; rest of all entries; of those whose key the other one has too; or has not
-//!     changes           what differs in the other one
-//!     nth I; near I     an entry; how many keys are below, and the entries up to it and from it on
+//!     alter I V                 removes the key I, or inserts it with the value V if it is missing
+//!     pop_first; pop_last       removes the entry with the least key; with the greatest
+//!     retain I; clear           keeps the keys from I on; removes all entries
+//!     split I                   splits the map at the key I; the rest becomes the other one
+//!     append                    inserts the entries of the other one, which keeps them
+//!     union; both; rest         all entries of both; those whose key the other one has too; those whose key it lacks
+//!     changes                   the differences from this map to the other one
+//!     nth I                     the entry at the index I
+//!     near I                    how many keys are below I, the entry at or below I, and the one at or above I
 use crate::call::{Call, tell};
 use crate::sequences::add;
 use crate::versions::{Version, put};
@@ -61,11 +64,12 @@ impl<'a> Version<'a> for Map<'a> {
     }
 }
 
+// The change of `alter`: removes a value that is there, and inserts one that is not.
 fn turned<'a>(old: Option<Counted<'a>>, new: Counted<'a>) -> Option<Counted<'a>> {
     if old.is_some() { None } else { Some(new) }
 }
 
-// What changes no map.
+// Calls that change no map.
 fn read<'a, R: Print + AllocGlobal>(
     rt: &R,
     map: &Map<'a>,

@@ -1,13 +1,16 @@
-//! Versions of a sequence or a map, each of which a script can change. One is called, another one stands beside it,
-//! both empty at first, and those that are kept are numbered from 0. I and J are places or keys, V is a value:
+//! Versions (snapshots) of a sequence or a map, each of which a script can change. A call acts on the current version.
+//! There is also the other one, and both are empty at first. Kept versions have the indices 0, 1 and so on. I and J are
+//! indices or keys, and V is a value:
 //!
-//!     fill N            of the items 0, 1 and so on, N of them; in a map under the same keys
-//!     keep; back K      keeps the version; goes back to that one
-//!     swap; drop        calls the other one from now on; ends the version
-//!     same; shared      is the other one equal? does it have the same first node?
-//!     ends; get I       how many items there are, the first and the last; an item
-//!     depth; range I J  of the tree; the number of items from I to before J, the first and the last other one
-//!     insert I V; remove I; add I V             `add` adds to an item
+//!     fill N                    makes the items 0, 1 and so on, N of them; in a map under the same keys
+//!     keep; back K              keeps a clone; makes the kept version K the current one
+//!     swap; drop                swaps the current version and the other one; drops the current one
+//!     same; shared              are the two equal? do they have the same root node?
+//!     ends; get I               the number of items, the first and the last; the item at I
+//!     depth                     the depth of the tree
+//!     range I J                 the number of items from I to before J, the first of them, and the last of the others
+//!     insert I V; remove I      inserts an item; removes one
+//!     add I V                   adds V to the item at I
 use crate::call::{Call, Collection, tell};
 use std::alloc::{AllocError, Global};
 use std::fmt::{Debug, Formatter};
@@ -16,11 +19,12 @@ use std::mem::{replace, swap};
 use std::{fmt, io};
 use testing::counted::Counted;
 
-/// A version that is changed, with another one beside it.
+/// A collection with versions: the current one is changed, and there is another one.
 pub trait Version<'a>: Default + Clone + PartialEq + Debug + Drop {
-    /// Of a map the keys are 0, 1 and so on.
+    /// Creates a version of these items. In a map their keys are 0, 1 and so on.
     fn of_items(alloc: Global, items: Vec<Counted<'a>>) -> Result<Self, AllocError>;
 
+    /// Makes the call on this version, with the other one at hand, and prints the value that the call returns.
     fn answer<R: Print + AllocGlobal>(
         &mut self,
         rt: &R,
@@ -29,7 +33,7 @@ pub trait Version<'a>: Default + Clone + PartialEq + Debug + Drop {
     ) -> io::Result<()>;
 }
 
-/// The version that is changed, the one beside it, and those that were kept.
+/// The current version, the other one, and those that were kept.
 #[derive(Drop)]
 pub struct Versions<V> {
     now: V,
@@ -38,6 +42,7 @@ pub struct Versions<V> {
 }
 
 impl<V: Default> Versions<V> {
+    /// Creates two empty versions.
     pub fn new(alloc: Global) -> Versions<V> {
         Versions {
             now: V::default(),
@@ -70,7 +75,7 @@ impl<'a, V: Version<'a>> Collection<'a> for Versions<V> {
     }
 }
 
-/// Puts what was made in the place of something.
+/// Replaces `place` by a value that a call made, or returns its error.
 pub fn put<T: Drop, E>(place: &mut T, made: Result<T, E>) -> Result<(), E> {
     *place = made?;
     Ok(())
@@ -81,7 +86,7 @@ impl<V: Clone + Drop> Versions<V> {
         Ok(self.kept.push(self.now.clone()?)?)
     }
 
-    /// Goes back to that one of the kept versions.
+    // Makes a kept version the current one.
     fn back(&mut self, number: usize) -> Result<Option<()>, AllocError> {
         let Some(version) = self.kept.get(number) else {
             return Ok(None);

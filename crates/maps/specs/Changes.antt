@@ -1,4 +1,4 @@
--- What a change of a map, or a question about each of its entries, did.
+-- The effect of a closure that `modify`, `alter` or `retain` calls on a map.
 use Rattle.std.specs.Prelude.{◌≡◌, Bool, List, Option, Some, cond}
 use Rattle.std.specs.Borrow.{Bor, MutBor}
 use Rattle.std.specs.Fn.{Called, Mut, Once, FnOnceReturnsAtMut}
@@ -7,7 +7,7 @@ use Rattle.std.specs.Ordering.{is_eq}
 use Rattle.maps.specs.Maps.{lookup, with_answer, with_entry}
 
 module _ {F K V R : Type 0} (g : Once F (MutBor V × Unit {0}) (R × (MutBor V × Unit {0}))) (change : F) where
-  -- its call on the value under the key gave r, and the map has there what that call left
+  -- its call on the value under the key returned r, and the map has there the value that the call left
   pub record ChangesValue (cmp : K → K → Ordering) (key : K) (old new : List (K × V)) (r : R) : Type 0 where
     pub before : V
     pub after : V
@@ -16,7 +16,7 @@ module _ {F K V R : Type 0} (g : Once F (MutBor V × Unit {0}) (R × (MutBor V �
     pub entries : new ≡ with_entry cmp key after old
     pub changes : (k : K) → lookup cmp k new ≡ cond (is_eq (cmp k key)) (Some after) (lookup cmp k old)
 
--- a call on what the key had gave an answer, which is what it has now
+-- a call on the old value, or on None, returned the new value, or None
 pub record Alters {K V : Type 0} (calls : Option V → Option V → Type 0) (cmp : K → K → Ordering) (key : K)
     (old new : List (K × V)) : Type 0 where
   pub answer : Option V

@@ -1,4 +1,4 @@
--- What a stack's first handle is seen as.
+-- The items of a stack, from the handle of its first node.
 use Rattle.std.specs.Prelude.{List, [], ◌∷◌, Option, None, Some}
 use Rattle.maps.specs.declared.links.Node.{Node}
 

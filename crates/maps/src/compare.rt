@@ -1,4 +1,4 @@
-//! What a stack has by its items, and a map by its entries: equality, order, a hash and a text.
+//! Equality, order, hash and `Debug` of stacks and maps, each as that of the list of items or entries.
 ghost use Rattle.std.specs.Prelude.{◌&&◌, ◌++◌};
 ghost use Rattle.std.specs.Cmp.{and_equiv, and_per, both_tied, on_equiv, on_per, on_po, on_total};
 ghost use Rattle.std.specs.Cmp.{then_agrees, then_po, then_total};
@@ -14,7 +14,7 @@ use std::fmt;
 use std::fmt::{Debug, Formatter, Write};
 use std::hash::{Hash, Hasher};
 
-/// Asks the items, also if both stacks share their nodes.
+/// Compares the items, even if both stacks share their nodes. O(n).
 impl<T: PartialEq> PartialEq for Stack<T> {
     ghost eq = { pointwise T.eq };
 
@@ -29,7 +29,7 @@ impl<T: Eq> Eq for Stack<T> {
     ghost laws = { lists_equiv T.Eq.laws };
 }
 
-/// As a slice of the items: the first two that differ decide.
+/// Compares as slices of the items do: lexicographically.
 impl<T: PartialOrd> PartialOrd for Stack<T> {
     ghost partial_cmp = { slice_partial_cmp T.partial_cmp };
 
@@ -54,7 +54,7 @@ impl<T: Ord> Ord for Stack<T> {
     }
 }
 
-/// As a slice of the items.
+/// Hashes as a slice of the items does.
 impl<T: Hash> Hash for Stack<T> {
     ghost hash_input = { slice T.hash_input };
 
@@ -68,14 +68,14 @@ impl<T: Hash> Hash for Stack<T> {
     }
 }
 
-/// As a list of the items.
+/// Formats as a list of the items.
 impl<T: Debug> Debug for Stack<T> {
     fn fmt<W: Write>(&self, f: &mut Formatter<W>) -> fmt::Result {
         f.debug_list().entries(self).finish()
     }
 }
 
-/// Asks the entries, also if both versions share their branches.
+/// Compares the entries, even if both maps share their nodes. O(n).
 impl<K: Ord, V: PartialEq> PartialEq for TreeMap<K, V> {
     ghost eq = { pointwise (λ e f. K.eq e.0 f.0 && V.eq e.1 f.1) };
 
@@ -91,7 +91,7 @@ impl<K: Ord, V: Eq> Eq for TreeMap<K, V> {
         (on_equiv (λ e. e.1) V.Eq.laws)) };
 }
 
-/// As a list of the entries: the first two that differ decide, and of those the keys before the values.
+/// Compares as slices of the entries do: lexicographically, and each entry by its key and then by its value.
 impl<K: Ord, V: PartialOrd> PartialOrd for TreeMap<K, V> {
     ghost partial_cmp = { slice_partial_cmp (λ e f. partial_ordering_then (K.partial_cmp e.0 f.0)
         (V.partial_cmp e.1 f.1)) };
@@ -121,7 +121,7 @@ impl<K: Ord, V: Ord> Ord for TreeMap<K, V> {
     }
 }
 
-/// As a slice of the entries.
+/// Hashes as a slice of the entries does.
 impl<K: Ord + Hash, V: Hash> Hash for TreeMap<K, V> {
     ghost hash_input = { slice (λ e. K.hash_input e.0 ++ V.hash_input e.1) };
 
@@ -133,7 +133,7 @@ impl<K: Ord + Hash, V: Hash> Hash for TreeMap<K, V> {
     }
 }
 
-/// As a map of the entries.
+/// Formats as a map of the entries.
 impl<K: Ord + Debug, V: Debug> Debug for TreeMap<K, V> {
     fn fmt<W: Write>(&self, f: &mut Formatter<W>) -> fmt::Result {
         let mut out = f.debug_map();

@@ -1,10 +1,11 @@
-//! What the branches of a map keep of its entries.
+//! The separator keys in the branches of a map.
 ghost use Rattle.maps.specs.Nodes.{key_of};
 
 use sequence::{Label, NewLabel};
 use std::alloc::AllocError;
 
-/// The key of an entry, as a branch keeps it.
+/// The separator key that a branch keeps of the first entry under each child. It is a parameter of `Tree` and `Iter`:
+/// `sequence::Iter<'a, (K, V), Key<K>>`.
 #[derive(Clone, Drop)]
 pub struct Key<K> {
     pub(crate) key: K,

@@ -1,5 +1,5 @@
-//! Sorted maps and stacks whose versions share what they have in common: a change makes a new version, and the old one
-//! stays.
+//! Sorted maps and stacks. A clone is an O(1) version (snapshot), and versions share the nodes that did not change
+//! (structural sharing).
 #![tactic(auto)]
 
 mod compare;

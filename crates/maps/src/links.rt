@@ -5,8 +5,7 @@ use handles::arc::Arc;
 use std::alloc::AllocError;
 use std::marker::Model;
 
-/// A stack's first node, if it has one. Its own drop ends the nodes by a recursion, so the drop of a `Stack` takes them
-/// apart in a loop.
+/// The nodes of a stack. Their own drop recurses from node to node, so a `Stack` drops them in a loop.
 #[cycle(links)]
 #[derive(Drop)]
 pub(crate) struct Links<T> {

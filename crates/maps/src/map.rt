@@ -1,4 +1,4 @@
-//! A map in the order of its keys, whose versions share their nodes.
+//! A sorted map whose versions (snapshots) share their nodes.
 ghost use Rattle.std.specs.Prelude.{◌≡◌, ◌+◌, ◌*◌, ◌^◌, ◌<◌, ◌≤◌, ◌↔◌, [], IsTrue};
 ghost use Rattle.std.specs.Prelude.{◌-◌, None, Some, IfOk, IsOk, OnOk, OnErr, IfNone, IfSome};
 ghost use Rattle.std.specs.Prelude.{cond, is_some, length, option_map, slice_get};
@@ -34,13 +34,20 @@ use sequence::Sequence;
 use std::alloc::{AllocError, Global};
 use std::marker::Model;
 
-/// The nodes of a map that is not empty, as `TreeMap::tree` gives them.
+/// The nodes of a map that is not empty, as `TreeMap::tree` returns them: `map.tree().map(|tree| tree.depth())`.
 pub type Tree<K, V> = sequence::Tree<(K, V), Key<K>>;
 
-/// A map in the order of its keys. Its clones are versions of it, which share all that no change has touched: what
-/// is changed in one of them is seen in no other.
+/// A sorted map (a B+ tree). A clone is a version: a snapshot that shares all nodes with the original.
 ///
-/// Its drop is as many drops one inside the other as the map is deep.
+/// A change of one version is seen in no other. `clone` takes O(1), and `get`, `insert` and `remove` take O(log n).
+///
+/// ```
+/// let old = map.clone()?;
+/// map.insert(alloc, key, value)?;
+/// let values = (old.get(&key).copied(), map.get(&key).copied());
+/// ```
+///
+/// Dropping a map recurses to the depth of the tree, which is at most 2 log2(n + 1).
 #[derive(Drop)]
 pub struct TreeMap<K: Ord, V> {
     pub(crate) entries: Sequence<(K, V), Key<K>>,
@@ -58,7 +65,13 @@ impl<K: Ord, V> Model for TreeMap<K, V> {
     ghost invariant = { λ m. IsRising K.cmp m.entries };
 }
 
-/// One more version: one raise of a count, with no copy and no memory. It is refused as the `clone` of an `Arc` is.
+/// Makes a version (snapshot) by one increment of a count, with no copy and no allocation: `let old = map.clone()?;`.
+/// O(1).
+///
+/// # Errors
+///
+/// `AllocError` when the `clone` of an `Arc` fails: the count is at its limit, or too many attempts lost to other
+/// threads. A lack of memory is no reason.
 impl<K: Ord + Drop, V: Drop> Clone for TreeMap<K, V> {
     ghost is_clone = { λ a b. b ≡ a };
 
@@ -70,7 +83,7 @@ impl<K: Ord + Drop, V: Drop> Clone for TreeMap<K, V> {
 }
 
 impl<K: Ord, V> TreeMap<K, V> {
-    /// The number of entries, in O(1).
+    /// Returns the number of entries: `map.len()`. O(1).
     pub fn len(&self) -> usize
         ensures count { result ≡ length self.now }
         ensures fits { length self.now < 2 ^ 64 }
@@ -78,14 +91,14 @@ impl<K: Ord, V> TreeMap<K, V> {
         self.entries.len()
     }
 
-    /// Whether there are no entries.
+    /// Returns `true` if there are no entries.
     pub fn is_empty(&self) -> bool
         ensures { IsTrue result ↔ (self.now ≡ []) }
     {
         self.entries.is_empty()
     }
 
-    /// The nodes of the map, which has some if it has an entry. All leaves of them are equally deep.
+    /// Returns the nodes of the map, or `None` if the map is empty. All leaves are equally deep. O(1).
     #[inline(always)]
     pub fn tree(&self) -> Option<&Tree<K, V>>
         ensures entries { items_under (option_copied result) ≡ self.now }
@@ -96,8 +109,7 @@ impl<K: Ord, V> TreeMap<K, V> {
         self.entries.tree()
     }
 
-    /// How many nodes stand on each way down: at most twice the logarithm of one more than there are entries, to the
-    /// base 2. It takes as many steps.
+    /// Returns the number of nodes on a path from the root to a leaf: at most 2 log2(n + 1). O(log n).
     pub fn depth(&self) -> u8
         ensures nodes { 0 < length self.now → IsDeep K.cmp self.now result }
         ensures at_most { 2 ^ result ≤ (length self.now + 1) ^ 2 }
@@ -108,7 +120,8 @@ impl<K: Ord, V> TreeMap<K, V> {
         }
     }
 
-    /// The value under the key, by one search in each node on the way down. Each key is above those before it.
+    /// Returns the value under `key`, or `None`: `map.get(&key)`, or `map.get("elm")` if the keys are `Arc<String>`.
+    /// O(log n).
     pub fn get<Q: Query<K>>(&self, key: Q) -> Option<&V>
         ensures found { option_copied result ≡ lookup_by (Q.order key) self.now }
         ensures rising { IsRising K.cmp self.now }
@@ -117,7 +130,7 @@ impl<K: Ord, V> TreeMap<K, V> {
         Some(value)
     }
 
-    /// The entry of the key, with the key that the map has.
+    /// Returns the entry of `key`, with the key that is stored in the map: `map.get_key_value(&key)`. O(log n).
     pub fn get_key_value<Q: Query<K>>(&self, key: Q) -> Option<&(K, V)>
         ensures found { option_copied result ≡ entry_by (Q.order key) self.now }
         ensures value { option_map (λ e. e.1) (option_copied result) ≡ lookup_by (Q.order key) self.now }
@@ -131,14 +144,15 @@ impl<K: Ord, V> TreeMap<K, V> {
         }
     }
 
-    /// Whether there is a value under the key.
+    /// Returns `true` if the map has `key`: `map.contains_key("oak")`. O(log n).
     pub fn contains_key<Q: Query<K>>(&self, key: Q) -> bool
         ensures { result ≡ is_some (lookup_by (Q.order key) self.now) }
     {
         self.get(key).is_some()
     }
 
-    /// How many keys are below this one: the number of its entry, if there is one.
+    /// Returns the number of keys less than `key`, which is the index of its entry if the map has `key`:
+    /// `map.rank(&key)`. O(log n).
     pub fn rank<Q: Query<K>>(&self, key: Q) -> usize
         ensures rank { result ≡ rank_by (Q.order key) self.now }
         ensures within { result ≤ length self.now }
@@ -146,7 +160,8 @@ impl<K: Ord, V> TreeMap<K, V> {
         self.entries.rank(Below { query: key })
     }
 
-    /// The entry of that number, counted from 0 in the order of the keys, by one way down.
+    /// Returns the entry at `index`, counted from 0 in ascending order of the keys, or `None`: `map.nth(3)`. O(log n),
+    /// and compares no keys.
     pub fn nth(&self, index: usize) -> Option<&(K, V)>
         ensures entry { option_copied result ≡ slice_get self.now index }
         ensures rising { IsRising K.cmp self.now }
@@ -154,14 +169,14 @@ impl<K: Ord, V> TreeMap<K, V> {
         self.entries.get(index)
     }
 
-    /// The entry of the least key.
+    /// Returns the entry with the least key, or `None` if the map is empty: `map.first()`. O(log n).
     pub fn first(&self) -> Option<&(K, V)>
         ensures { option_copied result ≡ slice_get self.now 0 }
     {
         self.nth(0)
     }
 
-    /// The entry of the greatest key.
+    /// Returns the entry with the greatest key, or `None` if the map is empty: `map.last()`. O(log n).
     pub fn last(&self) -> Option<&(K, V)>
         ensures { option_copied result ≡ slice_get self.now (length self.now - 1) }
     {
@@ -170,12 +185,16 @@ impl<K: Ord, V> TreeMap<K, V> {
 }
 
 impl<K: Ord + Clone, V: Clone> TreeMap<K, V> {
-    /// Puts the value under the key, and gives the one that it had. An equal key stays, and the new one is dropped.
+    /// Inserts `value` under `key` and returns the value that the key had: `let old = map.insert(alloc, key, value)?;`.
+    /// O(log n).
     ///
-    /// It writes in place, but copies each node on the way to the key that other versions have. A full node on the way
-    /// becomes two before, by moves. It is refused if there is no memory, if the `clone` of a key, a value or a handle
-    /// is, and for any key at `usize::MAX` entries. The map then reads as it did, and the key and the value are
-    /// dropped.
+    /// If the map has an equal key, that key stays and `key` is dropped. Nodes on the path that another version shares
+    /// are copied, and the others are written in place. A full node on the path is split.
+    ///
+    /// # Errors
+    ///
+    /// `AllocError` if there is no memory, if the `clone` of a key, a value or a handle fails, or for any key if the
+    /// map has `usize::MAX` entries. The entries stay as they were; `key` and `value` are dropped.
     pub fn insert(&mut self, alloc: Global, key: K, value: V) -> Result<Option<V>, AllocError>
         requires copies_of_keys { CopiesAreEqual K.is_clone }
         requires copies_of_values { CopiesAreEqual V.is_clone }
@@ -188,11 +207,15 @@ impl<K: Ord + Clone, V: Clone> TreeMap<K, V> {
         self.entries.put_in(alloc, Entry { key, value })
     }
 
-    /// Takes the entry of the key out, and gives its value, if there is one.
+    /// Removes `key` and returns its value, or `None`: `map.remove(alloc, "elm")?`. O(log n).
     ///
-    /// It writes in place and copies as `insert` does. A node on the way with few items is joined with the one beside
-    /// it before, by moves. It is refused if there is no memory, or if the `clone` of a key, a value or a handle is.
-    /// The map then reads as it did. If there is no value, nothing is copied or refused.
+    /// Nodes on the path that another version shares are copied, and the others are written in place. An underfull node
+    /// on the path is joined with its neighbour. If the map has no such key, nothing is copied.
+    ///
+    /// # Errors
+    ///
+    /// `AllocError` if there is no memory, or if the `clone` of a key, a value or a handle fails. The entries stay as
+    /// they were.
     pub fn remove<Q: Query<K>>(&mut self, alloc: Global, key: Q) -> Result<Option<V>, AllocError>
         requires copies_of_keys { CopiesAreEqual K.is_clone }
         requires copies_of_values { CopiesAreEqual V.is_clone }
@@ -207,11 +230,15 @@ impl<K: Ord + Clone, V: Clone> TreeMap<K, V> {
         Ok(taken.map(|(_, value)| value))
     }
 
-    /// Changes the value under the key, if there is one, and gives what the change answered.
+    /// Calls `change` on the value under `key` and returns its result, or returns `None` if the map has no such key:
+    /// `map.modify(alloc, &key, |value| mem::replace(value, new))?`. O(log n).
     ///
-    /// It writes in place, but copies each node on the way to the key that other versions have, and is refused as
-    /// `insert` is. The change is then not called, and the map reads as it did. It is not called either if there is no
-    /// value: then nothing is copied or refused.
+    /// Nodes on the path that another version shares are copied. If the map has no such key, nothing is copied.
+    ///
+    /// # Errors
+    ///
+    /// `AllocError` if there is no memory, or if the `clone` of a key, a value or a handle fails. `change` is then not
+    /// called.
     pub fn modify<R, F: FnOnce(&mut V) -> R>(
         &mut self,
         alloc: Global,
@@ -241,7 +268,8 @@ impl<K: Ord + Clone, V: Clone> TreeMap<K, V> {
 }
 
 impl<K: Ord, V> TreeMap<K, V> {
-    /// Whether both have the same root, as exactly as `Arc::ptr_eq` says it. Empty maps have none.
+    /// Returns `true` if both maps have the same root node: `TreeMap::ptr_eq(&map, &other)`. The answer is as exact as
+    /// that of `Arc::ptr_eq`, and `false` for empty maps.
     pub fn ptr_eq(this: &TreeMap<K, V>, other: &TreeMap<K, V>) -> bool
         ensures { IsTrue result → (0 < length this.now) × (0 < length other.now) }
     {

@@ -1,4 +1,4 @@
-//! What a map is asked by.
+//! Forms of a key by which a map is searched.
 ghost use Rattle.std.specs.Prelude.{◌≡◌};
 ghost use Rattle.std.specs.Cmp.Lexicographic.{nat_list_cmp_total, slice_cmp};
 ghost use Rattle.std.specs.declared.cmp.Ordering.{Ordering};
@@ -9,20 +9,21 @@ ghost use Rattle.maps.specs.Queries.{IsForm, key_form, part_form};
 use handles::arc::Arc;
 use std::cmp::Ordering;
 
-/// A form in which a caller has a key before it is a `K`: a `&K`, or a `&str` for an `Arc<String>`.
+/// A form in which a caller has a key before it is a `K`: a `&K`, or a `&str` for an `Arc<String>`, as in
+/// `map.get("elm")`.
 ///
-/// Implement it for a type of your own to ask by a part of the keys. It is compared in place of a key, so it has to
-/// stand to the other keys as that does, and `is_form` asks for the proof. The `Query` of `interner` is another trait,
-/// since a value there is found by a hash and `==`: one trait would ask for an order of each, and for a hash.
+/// Implement `Query` for a type of your own to search by a part of the keys. A query is compared in place of a key, so
+/// it must compare with the keys as some key would, and `is_form` is the proof of that. The `Query` of `interner` is
+/// another trait: a value there is found by a hash and `==`, and here by an order.
 pub trait Query<K: Ord>: Copy {
-    // How it stands to each key.
+    // How the query compares with each key.
     ghost order: { Self → K → Ordering };
 
-    /// How it stands to the key.
+    /// Compares the query with `key`.
     fn order(&self, key: &K) -> Ordering
         ensures { result ≡ order self.now key.now };
 
-    // It stands to the keys as a key could.
+    // The query compares with the keys as a key could.
     ghost is_form: { (query : Self) → IsForm K.cmp (order query) };
 }
 
@@ -48,7 +49,7 @@ impl Query<Arc<String>> for &str {
     }
 }
 
-// `cmp` is proved only for two texts of one lifetime.
+// Has one lifetime for both texts: `cmp` is proved only for two texts of one lifetime.
 #[inline]
 fn compared<'a>(text: &'a str, other: &'a str) -> Ordering
     ensures { result ≡ slice_cmp nat_cmp text.now other.now }

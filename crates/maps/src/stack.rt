@@ -1,4 +1,4 @@
-//! A stack that shares its rest.
+//! A stack whose versions (snapshots) share their last items.
 ghost use Rattle.std.specs.Prelude.{◌≡◌, ◌-◌, ◌<◌, ◌∷◌, [], ◌↔◌, IsTrue, IfOk, OnOk};
 ghost use Rattle.std.specs.Prelude.{drop, length, reverse, slice_get};
 ghost use Rattle.std.specs.Option.{option_copied};
@@ -11,7 +11,14 @@ use std::alloc::{AllocError, Global};
 use std::marker::Model;
 use std::mem;
 
-/// A stack whose versions share their last items: to push an item in front makes a stack, and the old one stays.
+/// A persistent stack (a linked list). `push` and `rest` return a new stack, which shares its nodes with the old one.
+///
+/// ```
+/// let old = Stack::new().push(alloc, 1)?;
+/// let new = old.push(alloc, 2)?;
+/// ```
+///
+/// `old` is then `[1]` and `new` is `[2, 1]`.
 pub struct Stack<T> {
     pub(crate) links: Links<T>,
 }
@@ -24,8 +31,12 @@ impl<T> Model for Stack<T> {
     ghost view = { λ l. l.links };
 }
 
-/// One more handle of the same stack: one raise of a count, with no copy and no memory. It is refused as the
-/// `clone` of an `Arc` is.
+/// Makes a version (snapshot) by one increment of a count, with no copy and no allocation: `let old = stack.clone()?;`.
+/// O(1).
+///
+/// # Errors
+///
+/// `AllocError` when the `clone` of an `Arc` fails, which is never for lack of memory.
 impl<T: Drop> Clone for Stack<T> {
     ghost is_clone = { λ a b. b ≡ a };
 
@@ -37,8 +48,8 @@ impl<T: Drop> Clone for Stack<T> {
 }
 
 impl<T: Drop> Drop for Stack<T> {
-    /// Ends node by node in a loop, as far as no other version has them. So the drop of a long stack takes no more of
-    /// its thread's stack than that of a short one, also if threads drop versions of it at once.
+    /// Drops node by node in a loop, up to the first node that another version shares. So dropping a long stack needs
+    /// no deep call stack, even if several threads drop versions of it at once.
     fn drop(self) {
         let Stack { links } = self;
         let mut first = links.first;
@@ -52,7 +63,7 @@ impl<T: Drop> Drop for Stack<T> {
 }
 
 impl<T> Stack<T> {
-    /// The empty stack, which takes no memory.
+    /// Creates an empty stack, with no allocation: `Stack::new().push(alloc, 1)?`.
     pub fn new() -> Stack<T>
         ensures { result ≡ [] }
     {
@@ -61,21 +72,21 @@ impl<T> Stack<T> {
         }
     }
 
-    /// The number of items, in O(1).
+    /// Returns the number of items: `stack.len()`. O(1).
     pub fn len(&self) -> usize
         ensures { result ≡ length self.now }
     {
         self.links.len()
     }
 
-    /// Whether there are no items.
+    /// Returns `true` if there are no items.
     pub fn is_empty(&self) -> bool
         ensures { IsTrue result ↔ (self.now ≡ []) }
     {
         self.len() == 0
     }
 
-    /// The item that was pushed last.
+    /// Returns the item that was pushed last, or `None` if the stack is empty: `stack.first()`. O(1).
     pub fn first(&self) -> Option<&T>
         ensures { option_copied result ≡ slice_get self.now 0 }
     {
@@ -83,7 +94,7 @@ impl<T> Stack<T> {
         Some(item)
     }
 
-    /// The item of that number, counted from 0, in as many steps.
+    /// Returns the item at `index`, counted from the one that was pushed last, or `None`: `stack.get(0)`. O(index).
     pub fn get(&self, index: usize) -> Option<&T>
         ensures { option_copied result ≡ slice_get self.now index }
     {
@@ -97,7 +108,7 @@ impl<T> Stack<T> {
         Some(item)
     }
 
-    /// The item that was pushed first, in as many steps as there are items.
+    /// Returns the item that was pushed first, or `None` if the stack is empty: `stack.last()`. O(n).
     pub fn last(&self) -> Option<&T>
         ensures { option_copied result ≡ slice_get self.now (length self.now - 1) }
     {
@@ -105,7 +116,7 @@ impl<T> Stack<T> {
     }
 }
 
-/// The empty stack.
+/// Creates an empty stack, as `Stack::new` does.
 impl<T> Default for Stack<T> {
     ghost is_default = { λ stack. stack ≡ [] };
 
@@ -115,10 +126,13 @@ impl<T> Default for Stack<T> {
 }
 
 impl<T: Drop> Stack<T> {
-    /// The stack with one more item in front. The stack itself stays.
+    /// Returns a stack with `value` in front of this one's items: `let new = old.push(alloc, 2)?;`. O(1), with one
+    /// allocation and one increment of a count.
     ///
-    /// It requests memory for one node and raises one count. It is refused if there is no memory, as the `clone` of an
-    /// `Arc` is, and at `usize::MAX` items. Then the item is dropped.
+    /// # Errors
+    ///
+    /// `AllocError` if there is no memory, when the `clone` of an `Arc` fails, or at `usize::MAX` items. `value` is
+    /// then dropped.
     pub fn push(&self, alloc: Global, value: T) -> Result<Stack<T>, AllocError>
         ensures { IfOk result (λ stack. stack ≡ value ∷ self.now) }
     {
@@ -127,7 +141,7 @@ impl<T: Drop> Stack<T> {
         Ok(stack)
     }
 
-    // One more item in front of this stack.
+    // Adds one item in front, in place.
     fn put_first(&mut self, alloc: Global, value: T) -> Result<(), AllocError>
         ensures { OnOk result (self.new ≡ value ∷ self.old) }
     {
@@ -142,7 +156,12 @@ impl<T: Drop> Stack<T> {
         Ok(())
     }
 
-    /// The stack of these items, in their order. It requests memory for one node for each of them.
+    /// Creates a stack of `items`, the first of them in front: `Stack::from_items(alloc, items)?`. O(n), with one
+    /// allocation for each item.
+    ///
+    /// # Errors
+    ///
+    /// `AllocError` if there is no memory. The items are then dropped.
     pub fn from_items(alloc: Global, mut items: Vec<T>) -> Result<Stack<T>, AllocError>
         ensures { IfOk result (λ stack. stack ≡ items.items) }
     {
@@ -153,8 +172,12 @@ impl<T: Drop> Stack<T> {
         Ok(stack)
     }
 
-    /// What comes after the first item, by one raise of a count. Nothing comes after the empty stack. It is refused as
-    /// the `clone` of an `Arc` is.
+    /// Returns the stack without its first item, which is empty for an empty stack: `let rest = stack.rest()?;`. O(1),
+    /// by one increment of a count.
+    ///
+    /// # Errors
+    ///
+    /// `AllocError` when the `clone` of an `Arc` fails, which is never for lack of memory.
     pub fn rest(&self) -> Result<Stack<T>, AllocError>
         ensures { IfOk result (λ stack. stack ≡ drop 1 self.now) }
     {
@@ -166,7 +189,8 @@ impl<T: Drop> Stack<T> {
         }
     }
 
-    /// Whether both have the same first node, as exactly as `Arc::ptr_eq` says it. Empty stacks have none.
+    /// Returns `true` if both stacks have the same first node: `Stack::ptr_eq(&stack, &other)`. The answer is as exact
+    /// as that of `Arc::ptr_eq`, and `false` for empty stacks.
     pub fn ptr_eq(this: &Stack<T>, other: &Stack<T>) -> bool
         ensures { IsTrue result → (0 < length this.now) × (0 < length other.now) }
     {
@@ -178,7 +202,12 @@ impl<T: Drop> Stack<T> {
 }
 
 impl<T: Clone> Stack<T> {
-    /// The items in the opposite order. It requests memory for one node for each item, and copies the item.
+    /// Returns a stack of clones of the items in reverse order: `stack.reverse(alloc)?`. O(n), with one allocation for
+    /// each item.
+    ///
+    /// # Errors
+    ///
+    /// `AllocError` if there is no memory, or if the `clone` of an item fails.
     pub fn reverse(&self, alloc: Global) -> Result<Stack<T>, AllocError>
         requires { CopiesAreEqual T.is_clone }
         ensures { IfOk result (λ stack. stack ≡ reverse self.now) }

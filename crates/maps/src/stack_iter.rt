@@ -1,4 +1,4 @@
-//! The items of a stack, one after another.
+//! Iteration over the items of a stack.
 ghost use Rattle.std.specs.Prelude.{◌≡◌, IfSome, Some, length, ⊤};
 ghost use Rattle.std.specs.Iterator.{UpTo, YieldsFirstRef, item_count};
 ghost use Rattle.std.specs.Iterator.SizeHint.{IsWithinCount};
@@ -9,7 +9,7 @@ use std::alloc::AllocError;
 use std::iter::FusedIterator;
 use std::marker::Model;
 
-/// An iterator over the items of a `Stack`, from the one that was pushed last.
+/// An iterator over the items of a `Stack`, from the one that was pushed last: `for item in &stack { .. }`.
 #[derive(Drop)]
 pub struct StackIter<'a, T> {
     links: &'a Links<T>,
@@ -36,7 +36,7 @@ impl<'a, T> IntoIterator for &'a Stack<T> {
 }
 
 impl<T> Stack<T> {
-    /// An iterator over the items, from the one that was pushed last.
+    /// Returns an iterator over the items, from the one that was pushed last: `stack.iter()`. A step takes O(1).
     pub fn iter(&self) -> StackIter<'_, T>
         ensures { result ≡ self.now }
     {

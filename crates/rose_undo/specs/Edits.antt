@@ -1,4 +1,4 @@
--- What an edit makes of the tree at the end of its path.
+-- The tree that an edit makes of the one at the end of its path.
 use Rattle.std.specs.Prelude.{Option, Some}
 use Rattle.rose_undo.specs.declared.rose.Rose.{Rose}
 use Rattle.rose_undo.specs.declared.rose.edit.Edit.{Edit}

@@ -1,4 +1,4 @@
--- What a closure did to the value at one place of a tree.
+-- The effect of a closure on the value at the end of a path.
 use Rattle.std.specs.Prelude.{◌≡◌, ℕ, List, Some}
 use Rattle.std.specs.Borrow.{MutBor}
 use Rattle.std.specs.Fn.{Once, FnOnceReturnsAtMut}
@@ -7,7 +7,7 @@ use Rattle.rose_undo.specs.declared.rose.Rose.{Rose}
 use Rattle.rose_undo.specs.Roses.{at, root, with_value}
 
 module _ {F V R : Type 0} (g : Once F (MutBor V × Unit {0}) (R × (MutBor V × Unit {0}))) (change : F) where
-  -- its call on the value at the end of the path gave r, and the tree has there what that call left
+  -- its call on the value at the end of the path returned r, and the tree has there the value that the call left
   pub record ChangesValue (path : List ℕ) (old new : Rose V) (r : R) : Type 0 where
     pub before : V
     pub after : V

@@ -1,4 +1,4 @@
--- A rose tree is its value and its children. A path has the number of a child for each step down.
+-- A rose tree is its value and its children. A path has the index of a child for each step down.
 use Rattle.std.specs.Prelude.{ℕ, suc, List, [], ◌∷◌, ◌++◌, Option, None, Some, if◌then◌else◌, insert, length, nat_le}
 use Rattle.std.specs.Prelude.{map, nat_lt, remove, set, slice_get}
 use Rattle.std.specs.List.{flat_map}
@@ -14,7 +14,7 @@ children {V} tree = (out-Rose V tree).node.items
 abbrev pub branch : {V : Type 0} → V → List (Rose V) → Rose V
 branch {V} v trees = roll-Rose V (record { node = record { header = v; items = trees } })
 
--- the values of the trees right below, as the lines of a text under its name
+-- the values of the children, as the lines of a text under its name
 abbrev pub values_below : {V : Type 0} → Rose V → List V
 values_below tree = map root (children tree)
 
@@ -23,11 +23,11 @@ abbrev pub at : {V : Type 0} → List ℕ → Rose V → Option (Rose V)
 at [] tree = Some tree
 at (i ∷ path) tree = option_and_then (at path) (slice_get (children tree) i)
 
--- the tree with another child in that place
+-- the tree with another child at that index
 abbrev pub with_child : {V : Type 0} → ℕ → Rose V → Rose V → Rose V
 with_child i child tree = branch (root tree) (set (children tree) i child)
 
--- the tree with the change made at the end of a path, if it can be made there
+-- the tree with a change at the end of a path, if the change is possible there
 abbrev pub changed_at : {V : Type 0} → (Rose V → Option (Rose V)) → List ℕ → Rose V → Option (Rose V)
 changed_at change [] tree = change tree
 changed_at change (i ∷ path) tree =
@@ -38,12 +38,12 @@ changed_at change (i ∷ path) tree =
 abbrev pub valued : {V : Type 0} → V → Rose V → Option (Rose V)
 valued v tree = Some (branch v (children tree))
 
--- a tree with one more child, which gets that number
+-- a tree with a child inserted at that index
 abbrev pub inserted : {V : Type 0} → ℕ → Rose V → Rose V → Option (Rose V)
 inserted i child tree =
     if nat_le i (length (children tree)) then Some (branch (root tree) (insert (children tree) i child)) else None
 
--- a tree without the child of that number
+-- a tree without the child at that index
 abbrev pub removed : {V : Type 0} → ℕ → Rose V → Option (Rose V)
 removed i tree =
     if nat_lt i (length (children tree)) then Some (branch (root tree) (remove (children tree) i)) else None
@@ -60,16 +60,16 @@ with_inserted path i child = changed_at (inserted i child) path
 abbrev pub without : {V : Type 0} → List ℕ → ℕ → Rose V → Option (Rose V)
 without path i = changed_at (removed i) path
 
--- the values from a tree down, each before those below it
+-- the values of a tree in preorder
 abbrev pub preorder : {V : Type 0} → Rose V → List V
 preorder {V} tree = fold-Rose V (List V) (λ r. r.node.header ∷ flat_map (λ values. values) r.node.items) tree
 
--- the values from these trees down with the paths to them, where the first tree has that number below the path
+-- the values of these trees in preorder with the paths to them, where the first tree has that index below the path
 abbrev pub paths_below : {V : Type 0} → List ℕ → ℕ → List (List ℕ → List (List ℕ × V)) → List (List ℕ × V)
 paths_below path i [] = []
 paths_below path i (from ∷ more) = from (path ++ i ∷ []) ++ paths_below path (suc i) more
 
--- the values from a tree down with the paths to them, where that path leads to the tree; each before those below it
+-- the values of a tree in preorder with the paths to them, where that path leads to the tree
 abbrev pub paths_from : {V : Type 0} → Rose V → List ℕ → List (List ℕ × V)
 paths_from {V} tree =
     fold-Rose V (List ℕ → List (List ℕ × V)) (λ r path. (path, r.node.header) ∷ paths_below path 0 r.node.items) tree

@@ -1,4 +1,4 @@
-//! Trees whose versions share what a change left alone, and the undo of any value.
+//! Rose trees whose versions (snapshots) share the branches that a change left alone, and undo and redo of any value.
 #![tactic(auto)]
 
 mod rose;

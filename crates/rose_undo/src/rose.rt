@@ -1,4 +1,4 @@
-//! A tree of any number of children, whose versions share their branches.
+//! A rose tree (any number of children at each node), whose versions (snapshots) share their branches.
 ghost use Rattle.std.specs.Prelude.{◌≡◌, [], Some, IfOk, slice_get};
 ghost use Rattle.std.specs.Option.{option_copied};
 ghost use Rattle.rose_undo.specs.Roses.{at, branch, children, root};
@@ -11,19 +11,30 @@ use handles::arc::Arc;
 use handles::header_slice::ThinArc;
 use std::alloc::{AllocError, Global};
 
-/// A value with the trees below it, in one block. A tree is changed by making another, which shares all branches that
-/// the change left alone. A change and the plain drop go down by a recursion, for which a very deep tree needs much
-/// stack; `end` ends it by a loop.
+/// A rose tree: a value with any number of trees below it, in one block. A clone is a version (snapshot).
 ///
-/// The values hold no cell, no lock and no atomic: what these hold is written through a shared handle, so that every
-/// version that shares the value reads the change, and no clause speaks of it.
+/// An edit returns a new tree, which shares all branches that the edit left alone:
+///
+/// ```
+/// let new = tree.with_value(alloc, path, value)?;
+/// ```
+///
+/// Edits and `drop` recurse along the depth of the tree, so they need a deep call stack for a very deep tree; `end`
+/// drops such a tree in a loop.
+///
+/// Contracts assume that the values hold no cell, lock or atomic: a write through one of these is seen by every version
+/// that shares the value, and no clause speaks of it.
 #[derive(Drop, Debug, PartialEq, Eq)]
 pub struct Rose<V> {
     node: ThinArc<V, Rose<V>>,
 }
 
-/// One more handle of the same tree: one raise of a count, with no copy and no memory. It is refused as the
-/// `clone` of an `Arc` is.
+/// Makes a version (snapshot) by one increment of a count, with no copy and no allocation: `let old = tree.clone()?;`.
+/// O(1).
+///
+/// # Errors
+///
+/// `AllocError` when the `clone` of an `Arc` fails, which is never for lack of memory.
 impl<V: Drop> Clone for Rose<V> {
     ghost is_clone = { λ a b. b ≡ a };
 
@@ -35,28 +46,29 @@ impl<V: Drop> Clone for Rose<V> {
 }
 
 impl<V> Rose<V> {
-    /// The value at the root.
+    /// Returns the value at the root: `tree.value()`. O(1).
     pub fn value(&self) -> &V
         ensures { result.now ≡ root self.now }
     {
         &self.node.header
     }
 
-    /// The trees below the root.
+    /// Returns the trees below the root: `tree.children()`. O(1).
     pub fn children(&self) -> &[Rose<V>]
         ensures { result.now ≡ children self.now }
     {
         self.node.slice()
     }
 
-    /// The child of that number, counted from 0.
+    /// Returns the child at `index`, or `None`: `tree.child(0)`. O(1).
     pub fn child(&self, index: usize) -> Option<&Rose<V>>
         ensures { option_copied result ≡ slice_get (children self.now) index }
     {
         self.children().get(index)
     }
 
-    /// The tree at the end of the path, which has the number of a child for each step down.
+    /// Returns the tree at the end of `path`, or `None`: `tree.at(path)`. A path has the index of a child for each step
+    /// down. O(path).
     pub fn at(&self, path: &[usize]) -> Option<&Rose<V>>
         ensures { option_copied result ≡ at path.now self.now }
     {
@@ -66,22 +78,31 @@ impl<V> Rose<V> {
         self.child(*index)?.at(rest)
     }
 
-    /// Whether both have the same root, as exactly as `Arc::ptr_eq` says it.
+    /// Returns `true` if both trees have the same root node: `Rose::ptr_eq(&tree, &other)`. The answer is as exact as
+    /// that of `Arc::ptr_eq`.
     pub fn ptr_eq(this: &Rose<V>, other: &Rose<V>) -> bool {
         Arc::ptr_eq(&this.node, &other.node)
     }
 }
 
 impl<V: Drop> Rose<V> {
-    /// A tree of that value alone. It is refused if there is no memory, and the value is then dropped.
+    /// Creates a tree of one value: `Rose::leaf(alloc, value)?`.
+    ///
+    /// # Errors
+    ///
+    /// `AllocError` if there is no memory. `value` is then dropped.
     pub fn leaf(alloc: Global, value: V) -> Result<Rose<V>, AllocError>
         ensures { IfOk result (λ tree. tree ≡ branch value []) }
     {
         Rose::with_children(alloc, value, Vec::new(alloc))
     }
 
-    /// The value with these trees below it. It is refused if there is no memory, and all that it was given is then
-    /// dropped.
+    /// Creates a tree of `value` with `trees` below it, in one block: `Rose::with_children(alloc, value, trees)?`.
+    /// O(children).
+    ///
+    /// # Errors
+    ///
+    /// `AllocError` if there is no memory. `value` and `trees` are then dropped.
     pub fn with_children(
         alloc: Global,
         value: V,

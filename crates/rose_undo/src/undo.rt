@@ -1,4 +1,4 @@
-//! Undo and redo of any value, whose versions are kept as they were.
+//! Undo and redo of any value, by keeping each version (snapshot).
 ghost use Rattle.std.specs.Prelude.{◌≡◌, ◌↔◌, ◌<◌, ◌-◌, ◌∷◌, ◌++◌, ◌&&◌, [], IfOk, IsTrue, OnErr, OnOk, drop, length};
 ghost use Rattle.std.specs.Cmp.{and_equiv, and_per, on_equiv, on_per};
 ghost use Rattle.std.specs.Cmp.Lexicographic.{lists_equiv, lists_per, pointwise};
@@ -9,7 +9,16 @@ use std::alloc::{AllocError, Global};
 use std::marker::Model;
 use std::mem;
 
-/// A value, what it was before each change, and what it was before each undo.
+/// A value with the versions before it and the undone versions, for undo and redo.
+///
+/// ```
+/// let mut next: Sequence<Arc<String>> = buffer.current().clone()?;
+/// next.insert(alloc, number, line)?;
+/// buffer.change(next)?;
+/// ```
+///
+/// Here `buffer` is an `Undo<Sequence<Arc<String>>>`. A version costs little if `T` shares its parts, as a `Sequence`,
+/// a `TreeMap` or a `Rose` does.
 #[derive(Drop, Debug)]
 pub struct Undo<T> {
     before: Vec<T>,
@@ -25,7 +34,7 @@ impl<T> Model for Undo<T> {
     ghost view = { λ u. record { before = u.before.items; current = u.current; undone = u.undone.items } };
 }
 
-/// Compares the versions on both sides too.
+/// Compares the earlier and the undone versions too. O(versions).
 impl<T: PartialEq> PartialEq for Undo<T> {
     ghost eq = { λ u v. pointwise T.eq u.before v.before && T.eq u.current v.current
         && pointwise T.eq u.undone v.undone };
@@ -44,7 +53,7 @@ impl<T: Eq> Eq for Undo<T> {
 }
 
 impl<T> Undo<T> {
-    /// The value before any change.
+    /// Creates a value without earlier versions, with no allocation: `Undo::new(alloc, value)`.
     pub fn new(alloc: Global, current: T) -> Undo<T>
         ensures { result ≡ record { before = []; current = current; undone = [] } }
     {
@@ -55,35 +64,35 @@ impl<T> Undo<T> {
         }
     }
 
-    /// The value as it is.
+    /// Returns the current value: `undo.current()`.
     pub fn current(&self) -> &T
         ensures { result.now ≡ self.now.current }
     {
         &self.current
     }
 
-    /// What the value was before each change that was not undone, the first version first.
+    /// Returns the versions that `undo` can go back to, the oldest first: `undo.before().len()`.
     pub fn before(&self) -> &[T]
         ensures { result.now ≡ self.now.before }
     {
         &self.before
     }
 
-    /// What the value was before each undo since the last change, the last undo last.
+    /// Returns the versions that `redo` can go forward to, the next one last.
     pub fn undone(&self) -> &[T]
         ensures { result.now ≡ self.now.undone }
     {
         &self.undone
     }
 
-    /// Whether there is a version to go back to.
+    /// Returns `true` if there is a version to go back to.
     pub fn can_undo(&self) -> bool
         ensures { IsTrue result ↔ (0 < length self.now.before) }
     {
         !self.before.is_empty()
     }
 
-    /// Whether there was an undo since the last change.
+    /// Returns `true` if there is a version to go forward to.
     pub fn can_redo(&self) -> bool
         ensures { IsTrue result ↔ (0 < length self.now.undone) }
     {
@@ -92,9 +101,12 @@ impl<T> Undo<T> {
 }
 
 impl<T: Drop> Undo<T> {
-    /// Goes on to the next value, and keeps the one that it was. What was undone is dropped.
+    /// Makes `next` the current value and keeps the old one: `buffer.change(next)?`. The undone versions are dropped.
+    /// O(1) amortized, beside these drops.
     ///
-    /// It is refused if there is no memory, and the next value is then dropped.
+    /// # Errors
+    ///
+    /// `AllocError` if there is no memory for one more version. Nothing changes; `next` is dropped.
     pub fn change(&mut self, next: T) -> Result<(), AllocError>
         ensures changed { OnOk result (self.new
             ≡ record { before = self.old.before ++ self.old.current ∷ []; current = next; undone = [] }) }
@@ -107,8 +119,10 @@ impl<T: Drop> Undo<T> {
         Ok(())
     }
 
-    /// Drops the oldest versions, so that at most `kept` are left to go back to. Call it after each change for a
-    /// history of that length at most. It requests no memory, and moves the versions that stay.
+    /// Drops the oldest versions, so that `undo` can go back at most `kept` times: `undo.forget(100)`. O(versions),
+    /// with no allocation.
+    ///
+    /// For a bounded history call `forget` after each `change`.
     #[tactic(auto, using(crate::proofs::Forgotten::forgetting))]
     pub fn forget(&mut self, kept: usize)
         ensures before { self.new.before ≡ drop (length self.old.before - kept) self.old.before }
@@ -121,7 +135,12 @@ impl<T: Drop> Undo<T> {
         self.before.truncate(kept);
     }
 
-    /// Goes back to what the value was before the last change, if there was one. It is refused if there is no memory.
+    /// Goes back to the version before the last change: `undo.undo()?` returns `false` if there is none. O(1)
+    /// amortized.
+    ///
+    /// # Errors
+    ///
+    /// `AllocError` if there is no memory. Nothing changes.
     pub fn undo(&mut self) -> Result<bool, AllocError>
         ensures there { IfOk result (λ moved. IsTrue moved ↔ (0 < length self.old.before)) }
         ensures back { IfOk result (λ moved. OnTrue moved (IsUndone self.old self.new)) }
@@ -137,7 +156,11 @@ impl<T: Drop> Undo<T> {
         Ok(true)
     }
 
-    /// Takes the last undo back, if there was one since the last change. It is refused if there is no memory.
+    /// Reverts the last `undo`: `undo.redo()?` returns `false` if there was none since the last change. O(1) amortized.
+    ///
+    /// # Errors
+    ///
+    /// `AllocError` if there is no memory. Nothing changes.
     pub fn redo(&mut self) -> Result<bool, AllocError>
         ensures there { IfOk result (λ moved. IsTrue moved ↔ (0 < length self.old.undone)) }
         ensures back { IfOk result (λ moved. OnTrue moved (IsUndone self.new self.old)) }

@@ -1,4 +1,4 @@
--- What is done to a list where a cut is.
+-- Changes of a list at a cut.
 use Rattle.std.specs.Prelude.{◌≡◌, ℕ, zero, suc, ◌+◌, Bool, true, false, None, Some, Option, List, [], ◌∷◌}
 use Rattle.std.specs.Prelude.{cond, is_some, length, not, slice_get, slice_set}
 use Rattle.std.specs.List.{insert, remove}

@@ -1,15 +1,15 @@
--- Which items of a list lie within two bounds on their numbers.
+-- The items of a list whose indices are within two bounds.
 use Rattle.std.specs.Prelude.{ℕ, ◌+◌, List, length, slice_range}
 use Rattle.std.specs.declared.ops.Bound.{Bound}
 use Rattle.std.specs.declared.ops.Bound.TheVariants.{Included, Excluded, Unbounded}
 
--- the first number from the start on
+-- the first index within the start
 abbrev pub start_of : Bound ℕ → ℕ
 start_of (Included number) = number
 start_of (Excluded number) = number + 1
 start_of Unbounded = 0
 
--- the first number past the end, among so many
+-- the first index past the end, for a list of that length
 abbrev pub end_of : Bound ℕ → ℕ → ℕ
 end_of (Included number) len = number + 1
 end_of (Excluded number) len = number

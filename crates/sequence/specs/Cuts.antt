@@ -1,4 +1,4 @@
--- A cut of a list: a test that holds of so many first items and of none behind them.
+-- A cut of a list: a predicate that is true for a number of first items and false for all others (a partition point).
 use Rattle.std.specs.Prelude.{◌≡◌, ℕ, ◌+◌, ◌<◌, ◌≤◌, Bool, true, false, Some, List, length, take, drop, slice_get}
 use Rattle.std.specs.List.{All, prefix_len}
 

@@ -1,4 +1,4 @@
--- What a tree is seen as by its first node, and what holds of that node.
+-- The items and the height of a tree, from its root node, and the invariants of that node.
 use Rattle.std.specs.Prelude.{◌≡◌, ℕ, ◌+◌, ◌<◌, ◌≤◌, ◌^◌, Bool, true, cond, nat_eq, List, [], ◌∷◌, ◌++◌, drop, length}
 use Rattle.std.specs.Prelude.{Option, None, Some}
 use Rattle.std.specs.List.{All, flat_map, list_all}

@@ -1,4 +1,4 @@
--- A part of a list by its first number, and an item with those behind it.
+-- A part of a list, by its first index, and an item with those behind it.
 use Rattle.std.specs.Prelude.{◌≡◌, ℕ, ◌+◌, ◌<◌, List, [], ◌∷◌, Option, None, Some, length, slice_get}
 use Rattle.std.specs.Borrow.{Bor}
 

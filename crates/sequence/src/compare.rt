@@ -1,4 +1,4 @@
-//! What a list has by its items: equality, order, a hash, a text and a default.
+//! Equality, order, hash and `Debug` of a list, each as that of a slice of its items, and the empty list by default.
 ghost use Rattle.std.specs.Prelude.{◌≡◌, []};
 ghost use Rattle.std.specs.Cmp.Lexicographic.{lists_agrees, lists_equiv, lists_per, lists_po, lists_ties, lists_total};
 ghost use Rattle.std.specs.Cmp.Lexicographic.{pointwise, slice_cmp, slice_partial_cmp};
@@ -11,7 +11,7 @@ use std::fmt;
 use std::fmt::{Debug, Formatter, Write};
 use std::hash::{Hash, Hasher};
 
-/// Asks the items, also if both versions share their nodes.
+/// Compares the items, even if both lists share their nodes. O(n).
 impl<T: PartialEq, L: Label<T>> PartialEq for Sequence<T, L> {
     ghost eq = { pointwise T.eq };
 
@@ -26,7 +26,7 @@ impl<T: Eq, L: Label<T>> Eq for Sequence<T, L> {
     ghost laws = { lists_equiv T.Eq.laws };
 }
 
-/// As a slice of the items: the first two that differ decide, and else the lengths.
+/// Compares as slices of the items do: lexicographically.
 impl<T: PartialOrd, L: Label<T>> PartialOrd for Sequence<T, L> {
     ghost partial_cmp = { slice_partial_cmp T.partial_cmp };
 
@@ -51,7 +51,7 @@ impl<T: Ord, L: Label<T>> Ord for Sequence<T, L> {
     }
 }
 
-/// As a slice of the items.
+/// Hashes as a slice of the items does.
 impl<T: Hash, L: Label<T>> Hash for Sequence<T, L> {
     ghost hash_input = { slice T.hash_input };
 
@@ -65,14 +65,14 @@ impl<T: Hash, L: Label<T>> Hash for Sequence<T, L> {
     }
 }
 
-/// As a list of the items.
+/// Formats as a list of the items.
 impl<T: Debug, L: Label<T>> Debug for Sequence<T, L> {
     fn fmt<W: Write>(&self, f: &mut Formatter<W>) -> fmt::Result {
         f.debug_list().entries(self).finish()
     }
 }
 
-/// The empty list.
+/// Creates an empty list, as `Sequence::empty` does.
 impl<T, L: Label<T>> Default for Sequence<T, L> {
     ghost is_default = { λ list. list ≡ [] };
 

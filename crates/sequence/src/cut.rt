@@ -19,7 +19,7 @@ pub trait Cut<T, L: Label<T>>: Copy {
         ensures { result ≡ is_before self.now label.now };
 }
 
-/// A cut, and an item that is sought: only the last item before the cut is compared with it.
+/// A cut with an item to find: only the last item before the cut is compared with the one that is sought.
 pub trait Seek<T, L: Label<T>>: Cut<T, L> {
     // Whether an item of that label is the one.
     ghost is_sought: { Self → L → Bool };

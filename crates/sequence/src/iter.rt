@@ -1,4 +1,4 @@
-//! The items of a list, one after another.
+//! Iteration over the items of a list.
 ghost use Rattle.std.specs.Prelude.{◌≡◌, ◌<◌, ◌≤◌, IfSome, Some, length, slice_get, slice_range, ⊤};
 ghost use Rattle.std.specs.Option.{option_copied};
 ghost use Rattle.std.specs.Iterator.{UpTo, YieldsFirstRef, YieldsLastRef, item_count};
@@ -13,16 +13,16 @@ use std::alloc::AllocError;
 use std::iter::FusedIterator;
 use std::marker::Model;
 
-/// An iterator over the items of a `Sequence`, in their order.
+/// An iterator over the items of a `Sequence`, in order: `for item in &list { .. }`.
 ///
-/// It takes no memory. Each end keeps the leaf of the item that it gave last: a step within it is O(1), and one to the
-/// next leaf goes down from the root.
+/// It allocates nothing. Each end keeps the leaf of its last item: a step within the leaf takes O(1), and a step to the
+/// next leaf O(log n), since it descends from the root.
 #[derive(Drop)]
 pub struct Iter<'a, T, L: Label<T> = Unlabelled> {
     tree: Option<&'a Tree<T, L>>,
     front: (&'a [T], usize),
     back: (&'a [T], usize),
-    // The items that are left are those from the one number up to the other.
+    // The items that are left have the indices `from..to`.
     from: usize,
     to: usize,
 }
@@ -56,7 +56,7 @@ impl<'a, T, L: Label<T>> Iter<'a, T, L> {
         }
     }
 
-    // The item of that number, and its leaf: the one that is passed, if the item is there.
+    // The item at `index`, and its leaf. The leaf of the last step is tried first, which saves the descent.
     #[inline(always)]
     #[tactic(auto, using(crate::proofs::Lists::Parts::parts))]
     fn numbered(
@@ -93,7 +93,7 @@ impl<'a, T, L: Label<T>> IntoIterator for &'a Sequence<T, L> {
 }
 
 impl<T, L: Label<T>> Sequence<T, L> {
-    /// An iterator over the items, in their order.
+    /// Returns an iterator over the items, in order: `list.iter()`. O(1).
     pub fn iter(&self) -> Iter<'_, T, L>
         ensures { result ≡ self.now }
     {

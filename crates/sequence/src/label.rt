@@ -1,24 +1,26 @@
-//! What a branch keeps of its items, so that they can be searched.
+//! The separator keys that a branch keeps of its items, by which a list is searched.
 ghost use Rattle.std.specs.Prelude.{◌≡◌, IfOk};
 ghost use Rattle.handles.specs.Copies.{CopiesAreEqual};
 
 use std::alloc::AllocError;
 
-/// What a branch keeps of the first item under each child, so that a list can be searched.
+/// The separator key that a branch keeps of the first item under each child, as `Key<K>` in `Sequence<(K, V), Key<K>>`:
+/// `impl Label<Appointment> for Time { .. }`.
 ///
-/// It is a bound of the list and of its nodes alone, and nothing at run time: what makes one is `NewLabel`.
+/// `Label` is only a bound of the list and of its nodes, and has no method. `NewLabel` makes the separator keys.
 pub trait Label<T> {
     ghost label_of: { T → Self };
 }
 
-/// A label that can be made.
+/// A separator key that can be made from an item: `impl NewLabel<Appointment> for Time { .. }`.
 pub trait NewLabel<T>: Label<T> + Clone {
-    /// The label of that item.
+    /// Returns the separator key of `item`.
     fn new(item: &T) -> Result<Self, AllocError>
         ensures { CopiesAreEqual Self.is_clone → IfOk result (λ label. label ≡ Self.label_of item.now) };
 }
 
-/// No label: what a list keeps that is read by number alone. It takes no room.
+/// No separator key, for a list that is read by index alone: `Sequence<T>` is `Sequence<T, Unlabelled>`. It takes no
+/// room.
 #[derive(Clone, Copy)]
 pub struct Unlabelled;
 

@@ -1,4 +1,4 @@
-//! A list by number whose versions share what they have in common: what is changed in one of them is seen in no other.
+//! A list with access by index. A clone is an O(1) version (snapshot), and a change of one version is seen in no other.
 #![tactic(auto)]
 
 mod compare;

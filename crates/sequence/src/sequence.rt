@@ -1,4 +1,4 @@
-//! A list by number, whose versions share their nodes.
+//! A list with access by index, whose versions (snapshots) share their nodes.
 ghost use Rattle.std.specs.Prelude.{◌≡◌, ◌+◌, ◌-◌, ◌^◌, ◌<◌, ◌≤◌, ◌↔◌, [], Err, IfOk, IfSome};
 ghost use Rattle.std.specs.Prelude.{IsTrue, None, Some, OnErr, OnOk, length, slice_get, slice_set};
 ghost use Rattle.std.specs.Fn.{FnOnceTakesAtMut};
@@ -23,10 +23,19 @@ use std::alloc::{AllocError, Global};
 use std::marker::Model;
 use std::mem;
 
-/// A list by number. Its clones are versions of it, which share all that no change has touched: what is changed in one
-/// of them is seen in no other.
+/// A list with access by index (a balanced tree). A clone is a version: a snapshot that shares all nodes with the
+/// original.
 ///
-/// Its drop is as many drops one inside the other as the nodes are deep: at most 65.
+/// A change of one version is seen in no other. `clone` takes O(1); `get`, `insert`, `remove`, `split_off` and `append`
+/// take O(log n).
+///
+/// ```
+/// let mut front: Sequence<Arc<String>> = lines.clone()?;
+/// let mut all = front.split_off(alloc, number)?;
+/// all.append(alloc, front)?;
+/// ```
+///
+/// Dropping a list recurses to the depth of the tree, which is at most 65.
 #[derive(Drop)]
 pub struct Sequence<T, L: Label<T> = Unlabelled> {
     pub(crate) root: Option<Tree<T, L>>,
@@ -45,7 +54,13 @@ impl<T, L: Label<T>> Model for Sequence<T, L> {
     ghost invariant = { λ s. s.len ≡ length (items_under s.root) };
 }
 
-/// One more version: one raise of a count, with no copy and no memory. It is refused as the `clone` of an `Arc` is.
+/// Makes a version (snapshot) by one increment of a count, with no copy and no allocation:
+/// `let old: Sequence<u64> = list.clone()?;`. O(1).
+///
+/// # Errors
+///
+/// `AllocError` when the `clone` of an `Arc` fails: the count is at its limit, or too many attempts lost to other
+/// threads. A lack of memory is no reason.
 impl<T: Drop, L: Label<T> + Drop> Clone for Sequence<T, L> {
     ghost is_clone = { λ a b. b ≡ a };
 
@@ -62,7 +77,7 @@ impl<T: Drop, L: Label<T> + Drop> Clone for Sequence<T, L> {
 }
 
 impl<T> Sequence<T> {
-    /// The empty list, which takes no memory.
+    /// Creates an empty list, with no allocation: `let mut list = Sequence::new();`.
     pub fn new() -> Sequence<T>
         ensures { result ≡ [] }
     {
@@ -71,14 +86,15 @@ impl<T> Sequence<T> {
 }
 
 impl<T, L: Label<T>> Sequence<T, L> {
-    /// The empty list with labels of that type, which takes no memory.
+    /// Creates an empty list whose branches keep separator keys of type `L`, with no allocation: `Sequence::empty()`.
     pub fn empty() -> Sequence<T, L>
         ensures { result ≡ [] }
     {
         Sequence { root: None, len: 0 }
     }
 
-    /// The nodes of the list, which has some if it has an item. All leaves of them are equally deep.
+    /// Returns the nodes of the list, or `None` if the list is empty: `list.tree().map(|tree| tree.depth())`. All
+    /// leaves are equally deep. O(1).
     #[inline(always)]
     pub fn tree(&self) -> Option<&Tree<T, L>>
         ensures items { items_under (option_copied result) ≡ self.now }
@@ -95,7 +111,7 @@ impl<T, L: Label<T>> Sequence<T, L> {
         }
     }
 
-    /// The number of items, in O(1).
+    /// Returns the number of items: `list.len()`. O(1).
     pub fn len(&self) -> usize
         ensures count { result ≡ length self.now }
         ensures fits { length self.now < 2 ^ 64 }
@@ -103,14 +119,14 @@ impl<T, L: Label<T>> Sequence<T, L> {
         self.len
     }
 
-    /// Whether there are no items.
+    /// Returns `true` if there are no items.
     pub fn is_empty(&self) -> bool
         ensures { IsTrue result ↔ (self.now ≡ []) }
     {
         self.len() == 0
     }
 
-    /// The item of that number, counted from 0, by one way down.
+    /// Returns the item at `index`, or `None`: `list.get(3)`. O(log n).
     pub fn get(&self, index: usize) -> Option<&T>
         ensures { option_copied result ≡ slice_get self.now index }
     {
@@ -120,26 +136,27 @@ impl<T, L: Label<T>> Sequence<T, L> {
         }
     }
 
-    /// The first item.
+    /// Returns the first item, or `None` if the list is empty: `list.first()`. O(log n).
     pub fn first(&self) -> Option<&T>
         ensures { option_copied result ≡ slice_get self.now 0 }
     {
         self.get(0)
     }
 
-    /// The last item.
+    /// Returns the last item, or `None` if the list is empty: `list.last()`. O(log n).
     pub fn last(&self) -> Option<&T>
         ensures { option_copied result ≡ slice_get self.now (length self.now - 1) }
     {
         self.get(self.len().saturating_sub(1))
     }
 
-    /// Whether both have the same first node, as exactly as `Arc::ptr_eq` says it. Empty lists have none.
+    /// Returns `true` if both lists have the same root node: `Sequence::ptr_eq(&list, &other)`. The answer is as exact
+    /// as that of `Arc::ptr_eq`, and `false` for empty lists.
     pub fn ptr_eq(this: &Sequence<T, L>, other: &Sequence<T, L>) -> bool
         ensures { IsTrue result → (0 < length this.now) × (0 < length other.now) }
     {
         match (&this.root, &other.root) {
-            // Trees of two lengths are two: that takes no step on their counts.
+            // Trees of different lengths are different, and to compare lengths takes no atomic operation.
             (Some(tree), Some(same)) => this.len == other.len && tree.is_at(same),
             _ => false,
         }
@@ -147,7 +164,11 @@ impl<T, L: Label<T>> Sequence<T, L> {
 }
 
 impl<T: Drop> Sequence<T> {
-    /// The list of these items, which are moved into full nodes, in O(n).
+    /// Creates a list of `items`, which are moved into full nodes: `Sequence::from_items(alloc, items)?`. O(n).
+    ///
+    /// # Errors
+    ///
+    /// `AllocError` if there is no memory. The items are then dropped.
     pub fn from_items(alloc: Global, items: Vec<T>) -> Result<Sequence<T>, AllocError>
         ensures { IfOk result (λ list. list ≡ items.items) }
     {
@@ -156,7 +177,12 @@ impl<T: Drop> Sequence<T> {
 }
 
 impl<T: Drop, L: NewLabel<T>> Sequence<T, L> {
-    /// The same with labels of that type.
+    /// Creates a list of `items` as `from_items` does, with a separator key of type `L` for each child of a branch.
+    /// O(n).
+    ///
+    /// # Errors
+    ///
+    /// `AllocError` if there is no memory, or if a separator key cannot be made. The items are then dropped.
     pub fn of_items(alloc: Global, items: Vec<T>) -> Result<Sequence<T, L>, AllocError>
         requires { CopiesAreEqual L.is_clone }
         ensures { IfOk result (λ list. list ≡ items.items) }
@@ -171,10 +197,17 @@ impl<T: Drop, L: NewLabel<T>> Sequence<T, L> {
 }
 
 impl<T: Clone, L: NewLabel<T>> Sequence<T, L> {
-    /// Puts the item in before that of the number, or behind all if the number is how many there are.
+    /// Inserts `item` before the item at `index`, or behind all if `index` is the length:
+    /// `list.insert(alloc, index, item)?`. O(log n).
     ///
-    /// It writes in place, but copies each node on the way that other versions have. A full node on the way becomes two
-    /// before, by moves. A number above that is refused before all else.
+    /// Nodes on the path that another version shares are copied, and the others are written in place. A full node on
+    /// the path is split.
+    ///
+    /// # Errors
+    ///
+    /// `NoPlace` if `index` is greater than the length, whether or not there is memory. `Memory` if there is no memory,
+    /// if the `clone` of an item or a handle fails, or at `usize::MAX` items. The items stay as they were; `item` is
+    /// dropped.
     pub fn insert(&mut self, alloc: Global, index: usize, item: T) -> Result<(), PlaceError>
         requires copies { CopiesAreEqual T.is_clone }
         requires labels { CopiesAreEqual L.is_clone }
@@ -188,7 +221,7 @@ impl<T: Clone, L: NewLabel<T>> Sequence<T, L> {
         Ok(self.insert_at(alloc, index, item)?)
     }
 
-    // The same of a number that is not above.
+    // Inserts at an index that is known to be at most the length, so that only memory can be lacking.
     fn insert_at(&mut self, alloc: Global, index: usize, item: T) -> Result<(), AllocError>
         requires copies { CopiesAreEqual T.is_clone }
         requires labels { CopiesAreEqual L.is_clone }
@@ -216,11 +249,15 @@ impl<T: Clone, L: NewLabel<T>> Sequence<T, L> {
         }
     }
 
-    /// Takes the item of that number out and gives it.
+    /// Removes the item at `index` and returns it: `let item = list.remove(alloc, index)?;`. O(log n).
     ///
-    /// It writes in place and copies as `insert` does. A node on the way with few items is joined with the one beside
-    /// it before, by moves. It is refused if there is no memory or a `clone` of an item or of a handle is refused, and
-    /// before all else if there is no such item.
+    /// Nodes on the path that another version shares are copied, and the others are written in place. An underfull node
+    /// on the path is joined with its neighbour.
+    ///
+    /// # Errors
+    ///
+    /// `NoPlace` if `index` is not less than the length, whether or not there is memory. `Memory` if there is no
+    /// memory, or if the `clone` of an item or a handle fails. The items stay as they were.
     pub fn remove(&mut self, alloc: Global, index: usize) -> Result<T, PlaceError>
         requires copies { CopiesAreEqual T.is_clone }
         requires labels { CopiesAreEqual L.is_clone }
@@ -236,7 +273,7 @@ impl<T: Clone, L: NewLabel<T>> Sequence<T, L> {
         Ok(item)
     }
 
-    // The same of a number that has an item.
+    // Removes at an index that is known to have an item, so that only memory can be lacking.
     fn remove_at(&mut self, alloc: Global, index: usize) -> Result<T, AllocError>
         requires copies { CopiesAreEqual T.is_clone }
         requires labels { CopiesAreEqual L.is_clone }
@@ -259,10 +296,14 @@ impl<T: Clone, L: NewLabel<T>> Sequence<T, L> {
         Ok(item)
     }
 
-    /// Changes the item of that number, and gives what the change answered.
+    /// Calls `change` on the item at `index` and returns its result:
+    /// `list.modify(alloc, index, |old| mem::replace(old, item))?`. O(log n).
     ///
-    /// It writes in place, but copies each node on the way that other versions have, and is refused as `remove` is. The
-    /// change is then not called.
+    /// Nodes on the path that another version shares are copied.
+    ///
+    /// # Errors
+    ///
+    /// The same errors as `remove`. `change` is then not called.
     pub fn modify<R, F: FnOnce(&mut T) -> R>(
         &mut self,
         alloc: Global,
@@ -283,8 +324,12 @@ impl<T: Clone, L: NewLabel<T>> Sequence<T, L> {
         }
     }
 
-    /// Puts the item in place of that of the number, which it gives. It copies and is refused as `modify` is; the item
-    /// is then dropped.
+    /// Replaces the item at `index` by `item` and returns the old item: `let old = list.set(alloc, index, item)?;`.
+    /// O(log n).
+    ///
+    /// # Errors
+    ///
+    /// The same errors as `remove`. `item` is then dropped.
     pub fn set(&mut self, alloc: Global, index: usize, item: T) -> Result<T, PlaceError>
         requires copies { CopiesAreEqual T.is_clone }
         requires labels { CopiesAreEqual L.is_clone }

@@ -24,12 +24,12 @@ use handles::arc::Arc;
 use std::alloc::{AllocError, Global};
 use std::marker::Model;
 
-/// The nodes of a list that is not empty, as `Sequence::tree` gives them.
+/// The nodes of a list that is not empty, as `Sequence::tree` returns them: `list.tree().map(|tree| tree.depth())`.
 ///
-/// A contract sees it as a pair: the items, in their order, and the height, which is how many branches stand above each
-/// leaf. The height is read off the nodes themselves: it is 0 at a leaf, and at a branch one more than that of its
+/// In a contract a tree is a pair: the items, in their order, and the height, which is the number of branches above
+/// each leaf. The height is read off the nodes themselves: it is 0 at a leaf, and at a branch one more than that of its
 /// highest child, and 2^64 more where two children differ. So the clauses of `Sequence::tree` and of `depth` speak of
-/// the nodes that stand there, and not of another tree with the same items.
+/// these nodes, and not of another tree with the same items.
 #[cycle(tree)]
 #[derive(Drop)]
 pub struct Tree<T, L: Label<T>> {
@@ -106,7 +106,7 @@ impl<T, L: Label<T>> Tree<T, L> {
         &self.root
     }
 
-    /// How many nodes stand on each way down: the branches, and the leaf. It takes as many steps.
+    /// Returns the number of nodes on a path from the root to a leaf: `list.tree().map(|tree| tree.depth())`. O(log n).
     pub fn depth(&self) -> u8
         ensures height { result ≡ self.now.1 + 1 }
         ensures nodes { IsDeep L.label_of self.now.0 result }

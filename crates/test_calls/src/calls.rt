@@ -1,4 +1,4 @@
-//! Tests in one thread, of handles and of what stands on them, and of the scripts of `arcbench`.
+//! Tests on one thread: of handles, of what is built on them, and of the scripts of `arcbench`.
 
 mod borrows;
 mod by_bound;

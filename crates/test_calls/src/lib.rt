@@ -1,4 +1,4 @@
-//! What no contract says of handles, tables and counts, in one thread and in several.
+//! Tests of handles, tables and counts, on one thread and on several: of all that no contract says.
 #![tactic(auto)]
 
 #[cfg(test)]

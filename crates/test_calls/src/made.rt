@@ -1,4 +1,4 @@
-//! What a test begins with.
+//! Values that tests begin with.
 use servo_arc::Arc;
 use std::fmt::{Debug, Display};
 use std::process::Abort;
@@ -8,7 +8,7 @@ pub fn arc_of<T: Drop>(rt: &(impl Abort + AllocGlobal), value: T) -> Arc<T> {
     ok!(rt, Arc::new(rt.alloc(), value))
 }
 
-/// A job for each of two threads.
+/// Returns a vector of two jobs, one for each thread.
 pub fn both<T: Drop>(rt: &(impl Abort + AllocGlobal), one: T, other: T) -> Vec<T> {
     let mut jobs = Vec::new(rt.alloc());
     ok!(rt, jobs.push(one));
@@ -16,7 +16,7 @@ pub fn both<T: Drop>(rt: &(impl Abort + AllocGlobal), one: T, other: T) -> Vec<T
     jobs
 }
 
-/// Two handles of one block.
+/// Returns two handles of one block.
 pub fn two_of<T: Drop>(rt: &(impl Abort + AllocGlobal), value: T) -> Vec<Arc<T>> {
     let handle = arc_of(rt, value);
     let other = again!(rt, &handle);

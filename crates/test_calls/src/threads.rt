@@ -1,4 +1,5 @@
-//! Tests of threads that clone, drop, mark and write one block or one count, and of what a count says to its passes.
+//! Tests in which threads clone, drop, write or make static one block or one count, and of what capabilities of a count
+//! know.
 
 mod alone_again;
 mod count_rows;

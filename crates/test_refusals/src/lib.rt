@@ -1,5 +1,5 @@
-//! What no contract says of refused memory. Each test runs once more for each request for memory that may be refused,
-//! by `gate/refused_memory.sh`.
+//! Tests of what remains after an allocation has failed, which no contract says. `gate/refused_memory.sh` runs each
+//! test once for each allocation, which then fails.
 #![tactic(auto)]
 
 #[cfg(test)]

@@ -1,5 +1,5 @@
-//! Tests in which one request for memory is refused: `gate/refused_memory.sh` refuses each of a test in turn. A test
-//! holds whichever it is, and reports what it came to. `outcomes.txt` has what all of them may come to, and have to.
+//! Tests in which one allocation fails: `gate/refused_memory.sh` lets each allocation of a test fail in turn. A test
+//! passes whichever it is, and reports its outcome. `outcomes.txt` lists the outcomes, each of which has to occur.
 
 mod builders;
 mod clones;

@@ -1,4 +1,4 @@
-//! What no contract says of collections.
+//! Tests of collections: of all that no contract says.
 #![tactic(auto)]
 
 #[cfg(test)]

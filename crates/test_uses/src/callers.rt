@@ -1,4 +1,4 @@
-//! Tests of the callers in `uses`, and of a document as they write it.
+//! Tests of the callers in `uses`, and of a document that is edited by them.
 
 mod agenda;
 mod calling;

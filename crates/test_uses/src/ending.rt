@@ -1,4 +1,4 @@
-//! How the macros end the process.
+//! How the macros of `testing` end the process.
 ghost use Rattle.std.specs.Prelude.{◌≡◌, IsTrue, Ok};
 
 use std::fmt::Debug;

@@ -1,4 +1,4 @@
-//! What no contract says of the callers in `uses`.
+//! Tests of the callers in `uses`: of all that no contract says.
 #![tactic(auto)]
 
 #[cfg(test)]

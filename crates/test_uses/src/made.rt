@@ -1,4 +1,4 @@
-//! What a test begins with.
+//! Values that tests begin with.
 use servo_arc::Arc;
 use std::process::Abort;
 use testing::ok;

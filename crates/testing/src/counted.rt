@@ -1,4 +1,4 @@
-//! Values that count their drops and copies.
+//! Values that count how often they are dropped and copied.
 ghost use Rattle.std.specs.Prelude.{◌≡◌};
 
 use std::alloc::{AllocError, Global};
@@ -7,7 +7,7 @@ use std::fmt::{Debug, Formatter};
 use std::sync::atomic::AtomicU64;
 use std::sync::atomic::Ordering::SeqCst;
 
-/// How often values were dropped and copied.
+/// The number of drops and of copies of the `Counted` values that borrow this tally.
 #[derive(Drop)]
 pub struct Tally {
     drops: AtomicU64,
@@ -15,6 +15,7 @@ pub struct Tally {
 }
 
 impl Tally {
+    /// Creates a tally with both numbers at 0.
     pub fn new() -> Tally {
         Tally {
             drops: AtomicU64::new(0),
@@ -22,32 +23,35 @@ impl Tally {
         }
     }
 
+    /// Returns the number of drops.
     pub fn drops(&self) -> u64 {
         self.drops.load(SeqCst)
     }
 
+    /// Returns the number of copies.
     pub fn copies(&self) -> u64 {
         self.copies.load(SeqCst)
     }
 
-    /// The copies and the drops.
+    /// Returns the number of copies and the number of drops.
     pub fn read(&self) -> (u64, u64) {
         (self.copies(), self.drops())
     }
 
-    /// How many values there are, if so many were made by no copy.
+    /// Returns the number of values that are not dropped, if `made` of them were not made by a copy.
     pub fn living(&self, made: u64) -> u64 {
         made.wrapping_add(self.copies()).wrapping_sub(self.drops())
     }
 }
 
-/// Its drops and copies are counted in a tally, which takes no memory.
+/// A value whose drops and copies are counted in a tally. It allocates nothing.
 pub struct Counted<'a> {
     pub value: u64,
     tally: &'a Tally,
 }
 
 impl<'a> Counted<'a> {
+    /// Creates a value that is counted in `tally`.
     pub fn new(tally: &'a Tally, value: u64) -> Counted<'a>
         ensures { result.value ≡ value }
     {
@@ -74,14 +78,14 @@ impl Clone for Counted<'_> {
     }
 }
 
-/// As its value.
+/// Formats as the value does.
 impl Debug for Counted<'_> {
     fn fmt<W: fmt::Write>(&self, f: &mut Formatter<W>) -> fmt::Result {
         self.value.fmt(f)
     }
 }
 
-/// By their values.
+/// Compares the values.
 impl PartialEq for Counted<'_> {
     ghost use Rattle.std.specs.Prelude.{◌==◌};
     ghost use Rattle.std.specs.Cmp.{on_per, partial_equiv_from_equiv};
@@ -96,7 +100,7 @@ impl PartialEq for Counted<'_> {
     }
 }
 
-/// Items 0, 1 and so on, by one request for memory.
+/// Creates the items 0, 1 and so on, with one allocation.
 pub fn counted_items<'a>(alloc: Global, tally: &'a Tally, len: u64) -> Option<Vec<Counted<'a>>> {
     let mut items = Vec::with_capacity(alloc, len as usize).ok()?;
     for value in 0..len {

@@ -1,6 +1,6 @@
-//! What tests begin with. `assert!` and `?` may end a test early, with all that it has by then, and each such end makes
-//! its proof longer. The macros here end the process inside one call, and report the expression. No library may end the
-//! process, so that call is in the module `ending` of the crate that names them.
+//! Macros and values for tests. `assert!` and `?` may end a test early, with all its variables, and each such end makes
+//! the proof of the test longer. The macros here end the process inside one call instead, and print the expression. No
+//! library may end the process, so that call is in the module `ending` of the crate that uses the macros.
 #![tactic(auto)]
 
 pub mod counted;
@@ -11,13 +11,14 @@ ghost use Rattle.std.specs.Prelude.{IsOk, IsTrue};
 use servo_arc::{Arc, UniqueArc};
 use std::fmt::Debug;
 
-/// Two values that should be the same.
+/// Two values that should be equal.
 #[derive(Debug, Drop)]
 pub struct Differ<T> {
     found: T,
     expected: T,
 }
 
+/// Returns an error with both values if `found` does not equal `expected`.
 pub fn compared<T: PartialEq + Debug + Drop>(found: T, expected: T) -> Result<(), Differ<T>>
     ensures { IsOk result → IsTrue (T.eq found expected) }
 {
@@ -28,6 +29,7 @@ pub fn compared<T: PartialEq + Debug + Drop>(found: T, expected: T) -> Result<()
     }
 }
 
+/// Shares a new unique handle, or returns the error.
 pub fn shared<T: Drop, E>(made: Result<UniqueArc<T>, E>) -> Result<Arc<T>, E> {
     match made {
         Ok(unique) => Ok(unique.shareable()),
@@ -35,6 +37,7 @@ pub fn shared<T: Drop, E>(made: Result<UniqueArc<T>, E>) -> Result<Arc<T>, E> {
     }
 }
 
+/// Ends the process unless the fact is true: `holds!(&rt, handle.is_unique())`.
 #[macro_export]
 macro_rules! holds {
     ($rt:expr, $fact:expr $(,)?) => {
@@ -42,7 +45,7 @@ macro_rules! holds {
     };
 }
 
-/// As `holds`, in a row of a table.
+/// Does the same as `holds`, and prints the row of a table too.
 #[macro_export]
 macro_rules! holds_at {
     ($rt:expr, $row:expr, $fact:expr $(,)?) => {
@@ -50,6 +53,7 @@ macro_rules! holds_at {
     };
 }
 
+/// Ends the process unless both values are equal: `same!(&rt, found, expected)`.
 #[macro_export]
 macro_rules! same {
     ($rt:expr, $found:expr, $expected:expr $(,)?) => {
@@ -57,7 +61,7 @@ macro_rules! same {
     };
 }
 
-/// As `same`, in a row of a table.
+/// Does the same as `same`, and prints the row of a table too.
 #[macro_export]
 macro_rules! same_at {
     ($rt:expr, $row:expr, $found:expr, $expected:expr $(,)?) => {
@@ -65,7 +69,7 @@ macro_rules! same_at {
     };
 }
 
-/// What a call gave that has to succeed.
+/// Returns the value of a call that has to succeed: `let stack = ok!(&rt, stack.push(alloc, 9));`.
 #[macro_export]
 macro_rules! ok {
     ($rt:expr, $given:expr $(,)?) => {
@@ -73,7 +77,7 @@ macro_rules! ok {
     };
 }
 
-/// A copy. There has to be room for it.
+/// Returns a clone, which has to succeed: `again!(&rt, key)`.
 #[macro_export]
 macro_rules! again {
     ($rt:expr, $value:expr $(,)?) => {
@@ -81,7 +85,7 @@ macro_rules! again {
     };
 }
 
-/// Commands, and the replies that they should get.
+/// Builds a vector of commands, and the replies that they should get.
 #[macro_export]
 macro_rules! served {
     ($rt:expr; $($command:expr => $reply:expr),* $(,)?) => {{
@@ -91,7 +95,7 @@ macro_rules! served {
     }};
 }
 
-/// A name, and calls in turn: whose, the call, and what holds then if that is said.
+/// Builds a row of a table: a name, and calls in turn, each with its caller and perhaps with what holds after it.
 #[macro_export]
 macro_rules! turns {
     ($name:literal; $($who:ident $call:expr $(=> $($after:expr),+)?);* $(;)?) => {

@@ -1,4 +1,4 @@
--- What a chain holds.
+-- The values of a chain.
 use Rattle.std.specs.Prelude.{ℕ, List, [], ◌∷◌, unwrap_or}
 use Rattle.uses.specs.declared.along_a_path.Chain.{Chain, fold-Chain}
 

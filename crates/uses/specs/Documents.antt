@@ -1,4 +1,4 @@
--- What an edit makes of a document. A path leads to the part that it is for.
+-- The document that an edit makes. A path leads to the part that is edited.
 use Rattle.std.specs.Prelude.{ℕ, List, Option, Some, String}
 use Rattle.std.specs.Option.{option_and_then}
 use Rattle.std.specs.declared.alloc.Global.{Global}

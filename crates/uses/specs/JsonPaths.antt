@@ -1,4 +1,4 @@
--- What a path leads to in data, and the data with something else there.
+-- The data at the end of a path, and the data with other data there.
 use Rattle.std.specs.Prelude.{ℕ, zero, suc, List, [], ◌∷◌, Option, Some, string_bytes, option_map, option_and_then}
 use Rattle.std.specs.Ordering.{match_ordering, nat_cmp}
 use Rattle.std.specs.Cmp.Lexicographic.{slice_cmp}
@@ -7,12 +7,12 @@ use Rattle.serde_json.specs.Find as find
 use Rattle.uses.specs.declared.shared_json.path.Step.{Step}
 use Rattle.uses.specs.declared.shared_json.path.Step.TheVariants.{Item, Member}
 
--- what a step leads to
+-- the data at the end of a step
 abbrev pub child : Step → Data → Option Data
 child (Item index) d = find.at index d
 child (Member name) d = find.get (string_bytes name) d
 
--- what a path leads to
+-- the data at the end of a path
 abbrev pub at : List Step → Data → Option Data
 at [] d = Some d
 at (step ∷ path) d = option_and_then (at path) (child step d)
@@ -36,12 +36,12 @@ abbrev with_member : List ℕ → Data → Data → Data
 with_member name new (object ms) = object (set_member name new ms)
 with_member name new d = d
 
--- the data with something else where a step leads to
+-- the data with other data at the end of a step
 abbrev pub with_child : Step → Data → Data → Data
 with_child (Item index) new d = with_item index new d
 with_child (Member name) new d = with_member (string_bytes name) new d
 
--- the data with something else where a path leads to
+-- the data with other data at the end of a path
 abbrev pub with_at : List Step → Data → Data → Option Data
 with_at [] new d = Some new
 with_at (step ∷ path) new d =

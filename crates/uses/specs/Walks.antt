@@ -1,4 +1,4 @@
--- What is said of recursive types that have no model: folds, whose step sees what each child gave.
+-- Contracts about recursive types without a model: folds, whose step sees the result for each child.
 use Rattle.std.specs.Prelude.{ℕ, Bool, false, ◌||◌, nat_eq, List, [], ◌∷◌, unwrap_or, slice_get}
 use Rattle.std.specs.Option.{option_map}
 use Rattle.servo_arc.specs.Borrowed.{borrowed}
@@ -15,7 +15,7 @@ use Rattle.uses.specs.declared.recursive.by_other_handles.Unique.{Unique, fold-U
 abbrev pub values : Node → List ℕ
 values node = fold-Node (List ℕ) (λ n. n.value ∷ unwrap_or n.next []) node
 
--- whether a key is in a tree, wherever
+-- whether a key is anywhere in a tree
 abbrev pub holds : ℕ → Tree → Bool
 holds key tree =
     fold-Tree Bool (λ t. nat_eq t.key key || (unwrap_or t.left false || unwrap_or t.right false)) tree
@@ -32,7 +32,7 @@ with_last value (x ∷ y ∷ rest) = x ∷ with_last value (y ∷ rest)
 abbrev pub token_values : Token → List ℕ
 token_values token = fold-Token (List ℕ) (λ t. t.value ∷ unwrap_or t.next []) token
 
--- the headers from a tree down, by the first kid of each
+-- the headers from a tree down, by the first child of each
 abbrev pub first_headers : HeaderTree → List ℕ
 first_headers tree = fold-HeaderTree (List ℕ) (λ t. t.kids.header ∷ unwrap_or (slice_get t.kids.items 0) []) tree
 
@@ -40,7 +40,7 @@ abbrev pub behind : Union (List ℕ) ℕ → List ℕ
 behind (First values) = values
 behind (Second number) = number ∷ []
 
--- the values on the way, and the number that it ends with
+-- the values on the path, and the number at its end
 abbrev pub union_values : FirstOfUnion → List ℕ
 union_values union = fold-FirstOfUnion (List ℕ) (λ u. u.value ∷ behind u.next) union
 

@@ -1,4 +1,4 @@
-//! Accounts that go when nothing is left in them, and sums over a part of a bank.
+//! Accounts that are closed when their balance is 0, and sums over a range of accounts.
 ghost use Rattle.std.specs.Prelude.{◌≡◌, ◌+◌, ◌^◌, ◌≤◌, true, false, IfNone, IfOk, IfSome, None, OnErr};
 ghost use Rattle.std.specs.Ordering.{nat_cmp};
 ghost use Rattle.maps.specs.Maps.{lookup};
@@ -34,7 +34,7 @@ pub fn withdraw(
     Ok(true)
 }
 
-/// Closes the account of the least number, and returns what was in it.
+/// Closes the account with the least number, and returns its balance.
 #[tactic(auto, using(maps::proofs::Removed::numbers))]
 pub fn close_first(bank: &mut TreeMap<u64, u64>, alloc: Global) -> Result<u64, AllocError>
     ensures { IfOk result (λ paid. total bank.new + paid ≡ total bank.old) }
@@ -45,7 +45,7 @@ pub fn close_first(bank: &mut TreeMap<u64, u64>, alloc: Global) -> Result<u64, A
     }
 }
 
-/// Closes the account of the greatest number, and returns what was in it.
+/// Closes the account with the greatest number, and returns its balance.
 #[tactic(auto, using(maps::proofs::Removed::numbers))]
 pub fn close_last(bank: &mut TreeMap<u64, u64>, alloc: Global) -> Result<u64, AllocError>
     ensures { IfOk result (λ paid. total bank.new + paid ≡ total bank.old) }

@@ -1,4 +1,4 @@
-//! A searched collection of one's own: a list of appointments in the order of their times.
+//! A searched collection of your own: a list of appointments in the order of their times.
 ghost use Rattle.std.specs.Prelude.{◌≡◌, [], OnErr, OnOk, count_by, false, nat_le};
 ghost use Rattle.std.specs.List.{insert};
 ghost use Rattle.std.specs.List.Sorted.{IsNonDecreasingBy};
@@ -8,13 +8,13 @@ use servo_arc::Arc;
 use std::alloc::{AllocError, Global};
 use std::marker::Model;
 
-/// A time, which is the label of an appointment, and a cut: before it are the appointments that are not later.
+/// The separator key of an appointment, and a cut: the appointments up to this time are before the cut.
 #[derive(Clone, Copy)]
 pub struct Time {
     pub minute: u32,
 }
 
-/// Its title stands behind a handle, so that a copy of it equals it.
+/// An appointment. The title is behind a handle, so that a clone equals the original.
 #[derive(Clone, Drop)]
 pub struct Appointment {
     pub time: Time,
@@ -76,7 +76,7 @@ impl Put<Appointment, Time> for Appointment {
     fn replace(self, _appointment: &mut Appointment) {}
 }
 
-/// Appointments in the order of their times. Those of one time stay in the order in which they were added.
+/// Appointments in ascending order of their times. Those at the same time keep the order in which they were added.
 #[derive(Drop)]
 pub struct Agenda {
     appointments: Sequence<Appointment, Time>,
@@ -96,7 +96,7 @@ impl Model for Agenda {
 }
 
 impl Agenda {
-    /// No appointments.
+    /// Creates an empty agenda, with no allocation.
     pub fn new() -> Agenda
         ensures { result ≡ [] }
     {
@@ -105,7 +105,11 @@ impl Agenda {
         }
     }
 
-    /// Puts it in behind all that are not later.
+    /// Inserts the appointment behind all that are not later. O(log n).
+    ///
+    /// # Errors
+    ///
+    /// `AllocError` if there is no memory. The appointment is then dropped.
     pub fn add(&mut self, alloc: Global, appointment: Appointment) -> Result<(), AllocError>
         ensures added { OnOk result (self.new ≡ insert self.old
             (count_by (λ a. nat_le a.time.minute appointment.time.minute) self.old) appointment) }
@@ -115,14 +119,14 @@ impl Agenda {
         Ok(())
     }
 
-    /// How many appointments are not later than the time, by one way down.
+    /// Returns the number of appointments that are not later than `time`. O(log n).
     pub fn count_until(&self, time: Time) -> usize
         ensures { result ≡ count_by (λ a. nat_le a.time.minute time.minute) self.now }
     {
         self.appointments.rank(time)
     }
 
-    /// All of them, in the order of their times.
+    /// Returns an iterator over the appointments, in ascending order of their times.
     pub fn iter(&self) -> Iter<'_, Appointment, Time>
         ensures items { result ≡ self.now }
         ensures in_order { IsNonDecreasingBy (λ a. a.time.minute) self.now }

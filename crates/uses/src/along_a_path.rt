@@ -1,19 +1,19 @@
-//! A change along a path, in place as far as nobody else shares the nodes: a recursion through `make_mut`. It needs no
-//! measure of its own, since the checker sees it go down the chain.
+//! A change along a path, by a recursion through `make_mut`: nodes that nobody else shares are written in place. The
+//! recursion needs no measure of its own, since the checker sees that it descends the chain.
 ghost use Rattle.std.specs.Prelude.{◌≡◌, ◌<◌, OnErr, OnOk, length, slice_set};
 ghost use Rattle.uses.specs.Chains.{values};
 
 use servo_arc::Arc;
 use std::alloc::{AllocError, Global};
 
-/// A number over those that come after it.
+/// A linked list of numbers.
 #[derive(Drop)]
 pub struct Chain {
     pub value: u32,
     pub next: Option<Arc<Chain>>,
 }
 
-/// Written by hand, so that its clause says that a copy is the value, which `set` needs.
+/// Written by hand, so that the contract of `clone` says that the clone equals the original, as `set` needs.
 impl Clone for Chain {
     ghost is_clone = { λ a b. b ≡ a };
 
@@ -29,9 +29,11 @@ impl Clone for Chain {
     }
 }
 
-/// Writes the value of that number. Nodes on the way that others share are copied, and what comes after stays shared.
+/// Sets the value at `index`. Shared nodes on the path are copied, and all nodes behind `index` stay shared. O(index).
 ///
-/// It is refused if there is no memory for a copy, or as the `clone` of an `Arc` is. The chain then reads as it was.
+/// # Errors
+///
+/// `AllocError` if there is no memory for a copy, or if the `clone` of an `Arc` fails. The chain reads as before.
 pub fn set(
     chain: &mut Arc<Chain>,
     alloc: Global,

@@ -1,4 +1,4 @@
-//! A bank, whose contract says that a transfer keeps the sum of all balances.
+//! A bank. The contract of a transfer says that the sum of all balances stays the same.
 ghost use Rattle.std.specs.Prelude.{◌≡◌, ◌+◌, ◌^◌, ◌<◌, ◌≤◌, ◌⊎◌, ℕ, false, true, IfOk, IsSome, OnErr};
 ghost use Rattle.std.specs.Ordering.{is_eq, nat_cmp};
 ghost use Rattle.maps.specs.Maps.{lookup};
@@ -7,10 +7,13 @@ ghost use Rattle.uses.specs.Bank.{balance, total};
 use maps::TreeMap;
 use std::alloc::{AllocError, Global};
 
-/// Moves an amount from one account to another, and says whether the first has it and the second has room for it. It
-/// closes no account: one that has nothing left stays.
+/// Moves `amount` from one account to another. Returns `false` if the first has too little or the second would
+/// overflow. An account with a balance of 0 stays open.
 ///
-/// It works on a version, so that the bank stays as it was if the second account cannot be written.
+/// # Errors
+///
+/// `AllocError` if there is no memory. The bank stays as it was, also if only the second account cannot be written,
+/// since both are written in a clone that then replaces the bank.
 #[tactic(auto, using(maps::proofs::Inserted::numbers))]
 pub fn transfer(
     bank: &mut TreeMap<u64, u64>,

@@ -1,4 +1,4 @@
-//! An editor's buffer: a list of lines with undo, whose versions share all lines and nearly all nodes.
+//! An editor's buffer: a list of lines with undo. Its versions (snapshots) share all lines and nearly all nodes.
 ghost use Rattle.std.specs.Prelude.{◌≡◌, ◌∷◌, ◌++◌, [], IfOk, OnErr, OnOk, drop, take};
 ghost use Rattle.std.specs.List.{insert};
 
@@ -7,7 +7,7 @@ use sequence::{PlaceError, Sequence};
 use servo_arc::Arc;
 use std::alloc::Global;
 
-/// Lines behind handles, so that a copy of one equals it.
+/// Lines with their earlier versions. A line is behind a handle, so that a clone equals the original.
 pub type Buffer = Undo<Sequence<Arc<String>>>;
 
 /// Puts a line in, and keeps the version before.
@@ -27,7 +27,11 @@ pub fn insert_line(
     Ok(())
 }
 
-/// The lines with those from the number on before the others.
+/// Returns the lines with those from `number` on moved to the front. `lines` stays as it is.
+///
+/// # Errors
+///
+/// `NoPlace` if there are fewer than `number` lines, and `Memory`.
 pub fn turned(
     lines: &Sequence<Arc<String>>,
     alloc: Global,

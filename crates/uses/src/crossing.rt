@@ -1,4 +1,4 @@
-//! Handles that cross threads: each kind may be sent and lent, if its values may be both.
+//! Handles that cross threads. A handle of any kind is `Send` and `Sync` if its values are both.
 ghost use Rattle.std.specs.Prelude.{◌≡◌, IfOk, IfErr, length};
 
 use crate::recursive::by_arc::Node;
@@ -11,6 +11,7 @@ use std::thread::{Threads, join};
 
 fn crosses_threads<T: Send + Sync>() {}
 
+/// Compiles only if each kind of handle is `Send` and `Sync`.
 pub fn all_handles_cross_threads() {
     crosses_threads::<Arc<u64>>();
     crosses_threads::<RawArc<u64>>();
@@ -22,7 +23,7 @@ pub fn all_handles_cross_threads() {
     crosses_threads::<StaticArc<'_, u64>>();
 }
 
-/// So may a type that leads back to itself, one for each kind of handle.
+/// Compiles only if a type that holds itself is `Send` and `Sync`, one type for each kind of handle.
 pub fn all_recursive_types_cross_threads() {
     crosses_threads::<Node>();
     crosses_threads::<Unique>();
@@ -33,17 +34,17 @@ pub fn all_recursive_types_cross_threads() {
     crosses_threads::<Linked>();
 }
 
-/// Whether the handle is the only one, asked by a thread that it is lent to.
+/// Asks in another thread, which borrows the handle, whether it is the only one.
 pub fn is_unique_elsewhere(rt: &impl Threads, handle: &Arc<u32>) -> bool {
     join(rt, || handle.is_unique(), || ()).0
 }
 
-/// Ends the handle in another thread, which it moves to. True if it was the last.
+/// Drops the handle in another thread, to which it moves. Returns `true` if it was the last.
 pub fn end_elsewhere(rt: &impl Threads, handle: Arc<u32>) -> bool {
     join(rt, move || Arc::into_inner(handle).is_some(), || ()).0
 }
 
-/// A handle that another thread makes and sends back.
+/// Returns a handle that another thread creates and sends back.
 pub fn made_elsewhere(rt: &impl Threads, alloc: Global, value: u32) -> Result<Arc<u32>, u32>
     ensures made { IfOk result (λ a. a ≡ value) }
     ensures refused { IfErr result (λ x. x ≡ value) }
@@ -51,7 +52,7 @@ pub fn made_elsewhere(rt: &impl Threads, alloc: Global, value: u32) -> Result<Ar
     join(rt, move || Arc::new(alloc, value), || ()).0
 }
 
-/// The number of items of a stack, counted by a thread that it is lent to.
+/// Returns the number of items of a stack, counted by another thread, which borrows the stack.
 pub fn len_elsewhere(rt: &impl Threads, stack: &Stack<u32>) -> usize
     ensures { result ≡ length stack.now }
 {

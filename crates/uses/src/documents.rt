@@ -1,4 +1,5 @@
-//! A document with undo: a tree of named parts. A change makes a version, which shares all parts that it left alone.
+//! A document with undo: a tree of named parts. An edit makes a version (snapshot), which shares all parts that the
+//! edit left alone.
 ghost use Rattle.std.specs.Prelude.{◌≡◌, ◌↔◌, ◌∷◌, ◌++◌, [], Err, None, Some, IfOk, OnErr, OnOk, insert, map};
 ghost use Rattle.cascade.specs.Cascade.{style_of};
 ghost use Rattle.uses.specs.Documents.{edited, renamed, restyled};
@@ -10,15 +11,15 @@ use rose_undo::{PlaceError, Rose, Undo};
 use servo_arc::Arc;
 use std::alloc::{AllocError, Global};
 
-/// What stands at a place of a document. The name is text behind an `Arc`: a copy has the same text, by contract, and
-/// takes no memory.
+/// A node of a document. The name is text behind an `Arc`: a clone has the same text, by contract, and allocates
+/// nothing.
 #[derive(Drop)]
 pub struct Part {
     pub name: Arc<String>,
     pub element: Element,
 }
 
-/// One more handle of the name and of what declares the style. It is refused as the `clone` of an `Arc` is.
+/// Clones the handles of the name and of what declares the style. Fails when the `clone` of an `Arc` does.
 impl Clone for Part {
     ghost is_clone = { λ a b. b ≡ a };
 
@@ -30,22 +31,26 @@ impl Clone for Part {
     }
 }
 
-/// A document with its earlier versions.
+/// A document with its earlier versions, for undo.
 pub type Document = Undo<Rose<Part>>;
 
-/// What is done at the end of a path.
+/// An edit of the part at the end of a path.
 #[derive(Drop)]
 pub enum Edit {
     Rename(Arc<String>),
-    /// Another block stands at the element itself.
+    /// Replaces the block of declarations that the part itself has.
     Restyle(Arc<Inline>),
-    /// One more part below, which gets that number.
+    /// Inserts a part with all below it, at that index among the children.
     Insert(usize, Rose<Part>),
-    /// The part below of that number goes, with all below it.
+    /// Removes the child at that index, with all below it.
     Remove(usize),
 }
 
-/// Edits the document at the end of the path, and keeps the version before. If it is refused, nothing has changed.
+/// Edits the document at the end of the path, and keeps the version before for undo.
+///
+/// # Errors
+///
+/// `NoPlace` if the path or the index leaves the tree, and `Memory`. The document is unchanged.
 pub fn apply(
     document: &mut Document,
     alloc: Global,
@@ -131,7 +136,7 @@ pub fn with_part(
     tree.with_inserted(alloc, &[], number, part)
 }
 
-/// The styles of the parts, each before those below it. What an edit left alone keeps the style that it had.
+/// Returns the styles of all parts in preorder. A part that no edit has touched keeps its style, from the cache.
 pub fn styles(
     cache: &mut StyleCache,
     alloc: Global,

@@ -1,10 +1,10 @@
-//! Values of several types behind one kind of handle, in place of an `Arc<dyn Codec>`: the box is what is shared.
+//! Values of several types behind one kind of handle, in place of an `Arc<dyn Codec>`: the handle shares a box.
 ghost use Rattle.std.specs.Prelude.{◌≡◌, ℕ, IfOk};
 
 use servo_arc::Arc;
 use std::alloc::{AllocError, Global};
 
-/// What writes a number as a byte.
+/// A codec, which writes a number as a byte.
 pub trait Codec: Drop {
     ghost coded: { Self → ℕ → ℕ };
 
@@ -12,16 +12,17 @@ pub trait Codec: Drop {
         ensures { result ≡ coded self.now number };
 }
 
-/// May be sent to other threads and lent to them, as its values may.
+/// A shared codec, which is `Send` and `Sync` as its values are.
 pub type SharedCodec = Arc<Box<dyn Codec + Send + Sync>>;
 
-/// The caller makes the box: a function that makes a `dyn` value and hands it out is refused.
+/// Shares a codec. The caller makes the box: the checker rejects a function that makes a `dyn` value and returns it.
 pub fn shared(alloc: Global, codec: Box<dyn Codec + Send + Sync>) -> Result<SharedCodec, AllocError>
     ensures { IfOk result (λ shared. shared ≡ codec) }
 {
     Ok(Arc::try_new(alloc, codec)?)
 }
 
+/// Encodes a number by a shared codec.
 pub fn encoded(codec: &SharedCodec, number: u8) -> u8
     ensures { result ≡ coded codec.now number }
 {

@@ -1,4 +1,4 @@
-//! Snapshots: one thread makes versions of a list and of a map, and others read each of them.
+//! Snapshots for readers: one thread makes versions of a list and of a map, and other threads read each of them.
 ghost use Rattle.std.specs.Prelude.{◌≡◌, IsTrue, Some, slice_get};
 ghost use Rattle.std.specs.Ordering.{nat_cmp};
 ghost use Rattle.maps.specs.Maps.{lookup};
@@ -11,10 +11,10 @@ use std::sync::Wait;
 use std::thread;
 use std::thread::Threads;
 
-/// The places of the list, and the keys of the map, that are written in turn.
+/// The number of items of the list, and of keys of the map, that are written in turn.
 const WRITTEN: u64 = 8;
 
-/// Versions with their number, which is also the first item of the list, and stands under key 0 of the map.
+/// A version of both with its number, which is also the first item of the list and the value under key 0 of the map.
 #[derive(Drop)]
 pub struct Edition {
     pub number: u64,
@@ -25,7 +25,7 @@ pub struct Edition {
 }
 
 impl Edition {
-    /// Known by the type, on whichever thread it is read.
+    /// Returns `true`, on whichever thread the edition is read: the type says that both have the number.
     pub fn has_its_number(&self) -> bool
         ensures { IsTrue result }
     {
@@ -33,7 +33,7 @@ impl Edition {
         self.items.get(0).copied() == number && self.map.get(&0).copied() == number
     }
 
-    /// Whether the other items and keys have what `publish` had written by then.
+    /// Returns `true` if the other items and keys have what `publish` had written by then.
     pub fn is_as_published(&self) -> bool {
         let is_written = |place: u64| {
             let written = latest(self.number, place);
@@ -44,7 +44,7 @@ impl Edition {
     }
 }
 
-// The last number, up to this one, that was written to the place. Numbers are counted from 1.
+// The last number up to `number` that was written to `place`. Numbers are counted from 1.
 fn latest(number: u64, place: u64) -> Option<u64> {
     let since = (number % WRITTEN + WRITTEN - place % WRITTEN) % WRITTEN;
     if since < number {
@@ -54,8 +54,8 @@ fn latest(number: u64, place: u64) -> Option<u64> {
     }
 }
 
-/// Makes that many editions of a list of `WRITTEN` items, and of a map, each out of the one before, and sends each to
-/// all readers.
+/// Makes `editions` versions of a list of `WRITTEN` items and of a map, each from the one before, and sends each of
+/// them to all readers.
 pub fn publish(
     rt: &impl Wait,
     alloc: Global,
@@ -88,7 +88,7 @@ fn numbered(
     Ok(Edition { number, items, map })
 }
 
-/// Reads editions until no more come. Returns how many came, if each was as it was published.
+/// Reads editions until the channel is closed. Returns their number, or `None` if one is not as it was published.
 pub fn read_all(rt: &impl Wait, editions: Receiver<Edition, Global>) -> Option<u64> {
     let mut read = 0u64;
     for edition in editions.iter(rt) {
@@ -100,7 +100,7 @@ pub fn read_all(rt: &impl Wait, editions: Receiver<Edition, Global>) -> Option<u
     Some(read)
 }
 
-/// Publishes to one reader, on a thread of its own. The sender ends with the call of `publish`, so the reader ends too.
+/// Publishes to one reader, on a thread of its own. `publish` drops the sender when it returns, which ends the reader.
 pub fn publish_to_a_thread<R: Threads + Wait + Copy + Send + 'static>(
     rt: R,
     alloc: Global,

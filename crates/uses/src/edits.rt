@@ -1,17 +1,17 @@
-//! A change of a shared article through a trait of the caller's own.
+//! A trait of your own for changing a shared value.
 ghost use Rattle.std.specs.Prelude.{◌≡◌, ℕ, IfOk, IfErr};
 
 use servo_arc::Arc;
 use std::alloc::{AllocError, Global};
 
-/// A body under its title. The body is shared by the copies that an edit makes.
+/// A title and a body. Clones share the body.
 #[derive(Drop)]
 pub struct Article<T> {
     pub title: u64,
     pub body: Arc<T>,
 }
 
-/// One more handle of the body. It is refused as the `clone` of an `Arc` is.
+/// Clones the handle of the body. Fails when the `clone` of an `Arc` does.
 impl<T: Drop> Clone for Article<T> {
     ghost is_clone = { λ a b. b ≡ a };
 
@@ -23,11 +23,15 @@ impl<T: Drop> Clone for Article<T> {
     }
 }
 
-/// What has a title that can be changed.
+/// A value with a title that can be changed.
 pub trait Retitle {
     ghost titled: { ℕ → Self → Self };
 
-    /// Writes the title. Nothing has changed if it is refused.
+    /// Sets the title.
+    ///
+    /// # Errors
+    ///
+    /// `AllocError` if there is no memory. Nothing has changed then.
     fn set_title(&mut self, alloc: Global, title: u64) -> Result<(), AllocError>
         ensures written { IfOk result (λ _. self.new ≡ titled title self.old) }
         ensures refused { IfErr result (λ _. self.new ≡ self.old) };

@@ -1,4 +1,4 @@
-//! Code above the crates, as their users write it, with contracts of its own: it shows what callers can prove.
+//! Examples: code as users of the crates write it, with contracts of its own, which show what callers can prove.
 #![tactic(auto)]
 
 pub mod accounts;

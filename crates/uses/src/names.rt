@@ -1,4 +1,4 @@
-//! A name behind one pointer: a header with a text.
+//! A name behind one pointer: a `ThinStr` is a header and a text.
 ghost use Rattle.std.specs.Prelude.{◌≡◌, IfOk};
 ghost use Rattle.std.specs.Str.{bytes_eq};
 ghost use Rattle.servo_arc.specs.HeaderSlice.{HeaderAndItems};
@@ -6,7 +6,7 @@ ghost use Rattle.servo_arc.specs.HeaderSlice.{HeaderAndItems};
 use servo_arc::ThinStr;
 use std::alloc::{AllocError, Global};
 
-/// A name of a kind, with one more handle of it.
+/// Creates a name with a kind, and returns two handles of it.
 pub fn shared_name(
     alloc: Global,
     kind: u8,
@@ -20,7 +20,7 @@ pub fn shared_name(
     Ok((first, second))
 }
 
-/// Whether the name is that text.
+/// Returns `true` if the text of the name equals `text`.
 pub fn is_named(name: &ThinStr<u8>, text: &str) -> bool
     ensures { result ≡ bytes_eq name.now.items text.now }
 {

@@ -1,4 +1,4 @@
-//! Header slices by number, found by their parts, and a value for each.
+//! Interned header slices, found by their parts, and a value for each of them.
 ghost use Rattle.std.specs.Prelude.{◌≡◌, ◌++◌, ◌∷◌, ◌⊎◌, [], IfOk, Some, map, slice_get};
 ghost use Rattle.servo_arc.specs.HeaderSlice.{HeaderAndItems};
 ghost use Rattle.uses.specs.Nodes.{line_count};
@@ -7,14 +7,14 @@ use interner::{InternError, InternMap, Interner, Symbol};
 use servo_arc::{Arc, HeaderSlice};
 use std::alloc::Global;
 
-/// What a node of a syntax tree is.
+/// The kind of a node of a syntax tree.
 #[derive(Clone, Copy, Debug, PartialEq, Eq, Hash)]
 pub enum Kind {
     Sum,
     Call,
 }
 
-/// A child of a node, by its symbol.
+/// A child of a node, as its symbol.
 #[derive(Clone, Copy, Debug, PartialEq, Eq, Hash)]
 pub enum Child {
     Node(Symbol),
@@ -41,7 +41,7 @@ pub fn node(
     Ok(symbol)
 }
 
-/// The number of lines of each text that was asked for, counted once.
+/// The number of lines of each text, computed once for equal texts.
 #[derive(Drop)]
 pub struct LineCounts {
     counts: InternMap<HeaderSlice<(), u8>, usize>,
@@ -49,7 +49,7 @@ pub struct LineCounts {
 }
 
 impl LineCounts {
-    /// Of no text yet.
+    /// Creates an empty cache.
     pub fn new(alloc: Global) -> LineCounts {
         LineCounts {
             counts: InternMap::new(alloc),

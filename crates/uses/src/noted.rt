@@ -1,4 +1,4 @@
-//! A list and a vector that are changed together, with one error for both.
+//! A list and a vector that change together, with one error type for both.
 ghost use Rattle.std.specs.Prelude.{◌≡◌, ◌≤◌, ◌↔◌, ◌∷◌, ◌++◌, [], Err, OnErr, OnOk, length, slice_set};
 
 use cow_table::{CowTable, PlaceError};

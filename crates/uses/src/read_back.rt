@@ -1,4 +1,4 @@
-//! A caller that reads behind a clause which says the whole map, and so names the lemmas of what is read there.
+//! A caller that reads a map after a call whose contract states the whole map. It names the lemmas for what it reads.
 ghost use Rattle.std.specs.Prelude.{◌≡◌, Some, IfOk, OnOk};
 ghost use Rattle.std.specs.Ordering.{nat_cmp};
 ghost use Rattle.maps.specs.Maps.{with_entry};
@@ -6,7 +6,7 @@ ghost use Rattle.maps.specs.Maps.{with_entry};
 use maps::TreeMap;
 use std::alloc::{AllocError, Global};
 
-/// Sets a value under a key.
+/// Sets the value under a key.
 pub fn set(
     map: &mut TreeMap<u64, u64>,
     alloc: Global,
@@ -19,7 +19,7 @@ pub fn set(
     Ok(())
 }
 
-/// What is read after that.
+/// Sets the value under a key, and returns what is read after that.
 #[tactic(auto, using(maps::proofs::Inserted::numbers))]
 pub fn set_and_read(
     map: &mut TreeMap<u64, u64>,

@@ -1,5 +1,5 @@
-//! A JSON value whose versions share: lists, objects and texts lie behind an `Arc`, so a clone is one more handle, and
-//! an edit copies what is on its path alone. Its meaning is that of `serde_json`, whose words its contracts use.
+//! A JSON value whose versions (snapshots) share: lists, objects and texts are behind an `Arc`, so a clone takes O(1),
+//! and an edit copies only what is on its path. Its meaning is that of `serde_json`, whose names its contracts use.
 ghost use Rattle.std.specs.Prelude.{◌≡◌};
 
 pub mod ending;
@@ -12,7 +12,7 @@ use servo_arc::Arc;
 use std::alloc::AllocError;
 use std::collections::BTreeMap;
 
-/// A JSON value.
+/// A JSON value, which shares its lists, objects and texts with its clones.
 #[derive(Drop, Debug, PartialEq)]
 pub enum Value {
     Null,
@@ -23,7 +23,7 @@ pub enum Value {
     Map(Arc<BTreeMap<Arc<String>, Value>>),
 }
 
-/// One more handle, in O(1). It is written by hand, so that its clause says that a copy is the value.
+/// Clones a handle, in O(1). Written by hand, so that its contract says that the clone equals the original.
 impl Clone for Value {
     ghost is_clone = { λ a b. b ≡ a };
 

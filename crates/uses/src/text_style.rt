@@ -1,4 +1,4 @@
-//! How code above uses the handles.
+//! A caller of each kind of handle.
 ghost use Rattle.std.specs.Prelude.{◌≡◌, if◌then◌else◌, false, true, IfOk, IfErr, unwrap_or};
 ghost use Rattle.servo_arc.specs.Borrowed.{borrowed};
 ghost use Rattle.servo_arc.specs.HeaderSlice.Builders.{Builds};
@@ -7,14 +7,18 @@ ghost use Rattle.servo_arc.specs.Stays.{value_of};
 use servo_arc::{Arc, ArcBorrow, BuildError, StaticArc, ThinArc, UniqueArc};
 use std::alloc::{AllocError, Global};
 
-/// How a run of text looks.
+/// The style of a run of text.
 #[derive(Clone, Debug, Drop)]
 pub struct TextStyle {
     pub size: u32,
     pub is_bold: bool,
 }
 
-/// A style that is written first and then shared. If there is no memory for it, the empty style comes back.
+/// Creates a style, fills it in, and then shares it.
+///
+/// # Errors
+///
+/// The empty style, if there is no memory for it.
 pub fn plain_style(alloc: Global, size: u32) -> Result<Arc<TextStyle>, TextStyle>
     ensures made { IfOk result (λ style. style ≡ record { size = size; is_bold = false }) }
     ensures refused { IfErr result (λ style. style ≡ record { size = 0; is_bold = false }) }
@@ -28,7 +32,7 @@ pub fn plain_style(alloc: Global, size: u32) -> Result<Arc<TextStyle>, TextStyle
     Ok(style.shareable())
 }
 
-/// The bold form of a style, in a block of its own. Who shares the given style still sees it as it was.
+/// Returns the bold form of a style, in a block of its own. Other handles of the given style read it as before.
 pub fn with_bold(alloc: Global, style: &Arc<TextStyle>) -> Result<Arc<TextStyle>, AllocError>
     ensures { IfOk result (λ bold. bold ≡ record style.now { is_bold = true }) }
 {
@@ -37,7 +41,7 @@ pub fn with_bold(alloc: Global, style: &Arc<TextStyle>) -> Result<Arc<TextStyle>
     Ok(bold)
 }
 
-/// A style beside its bold form.
+/// Returns a style and its bold form.
 pub fn plain_and_bold(
     alloc: Global,
     size: u32,
@@ -52,14 +56,14 @@ pub fn plain_and_bold(
     Ok((plain, bold))
 }
 
-/// The size of a style that is borrowed.
+/// Returns the size of a borrowed style.
 pub fn size_of(style: ArcBorrow<'_, TextStyle>) -> u32
     ensures { result ≡ (borrowed style.entry).size }
 {
     style.get().size
 }
 
-/// The style, or the default, of which a handle cannot be refused.
+/// Returns the style or the default. A handle of a static block is made without an error.
 pub fn style_or(
     style: Option<Arc<TextStyle>>,
     default: StaticArc<'static, TextStyle>,
@@ -72,7 +76,11 @@ pub fn style_or(
     }
 }
 
-/// Letters under their style. They are refused for want of memory, or if the iterator does not give just `number`.
+/// Creates a slice of letters with their style as header.
+///
+/// # Errors
+///
+/// `BuildError` if there is no memory, or if the iterator does not yield exactly `number` letters.
 pub fn styled<I: Iterator<Item = char>>(
     alloc: Global,
     style: TextStyle,
@@ -85,7 +93,7 @@ pub fn styled<I: Iterator<Item = char>>(
     Arc::from_header_and_iter_with_size(alloc, style, letters, number)
 }
 
-/// The numbers of a slice under their rule.
+/// Creates a slice with copies of `numbers`, and with `rule` as header.
 pub fn properties(
     alloc: Global,
     rule: u32,
@@ -96,7 +104,7 @@ pub fn properties(
     Arc::from_header_and_slice(alloc, rule, numbers)
 }
 
-/// The numbers of a vector, which is used up, under their rule.
+/// Creates a slice with the items of a vector, which are moved, and with `rule` as header.
 pub fn properties_of(
     alloc: Global,
     rule: u32,
@@ -107,14 +115,14 @@ pub fn properties_of(
     Arc::from_header_and_vec(alloc, rule, numbers)
 }
 
-/// The rule that the properties stand under.
+/// Returns the rule, which is the header.
 pub fn rule_of(list: &ThinArc<u32, u32>) -> u32
     ensures { result ≡ list.now.header }
 {
     list.header
 }
 
-/// Puts the properties under another rule, if nobody else shares them.
+/// Sets the rule if nobody else shares the slice. Returns `false` otherwise.
 pub fn put_under(list: &mut ThinArc<u32, u32>, rule: u32) -> bool
     ensures { list.new ≡ (if result then record list.old { header = rule } else list.old) }
 {

@@ -1,4 +1,4 @@
-//! A recursion over a tree, with a loop over the children of each node.
+//! A recursive function over a tree, with a loop over the children of each node.
 ghost use Rattle.std.specs.Prelude.{◌≡◌, ◌<◌, ◌^◌, sum};
 ghost use Rattle.rose_undo.specs.Roses.{preorder};
 

@@ -1,4 +1,4 @@
-//! Two threads that share a count by passes, and what is known of them by contract.
+//! Two threads that share a count by capabilities (`CountPass`), and what their contracts say.
 ghost use Rattle.std.specs.Prelude.{◌≡◌, ◌+◌, [], IfOk, if◌then◌else◌};
 ghost use Rattle.servo_arc.specs.HistoryLaws.{count_calls, is_last, is_mark};
 ghost use Rattle.servo_arc.specs.Passes.{handles, own_calls};
@@ -7,8 +7,8 @@ use servo_arc::shared_count::{CountPass, EndReply, SharedCount, laws};
 use std::alloc::{AllocError, Global};
 use std::thread::{Threads, join};
 
-/// Counts the zeros among the numbers, and then ends the pass's only handle. True if that was the last handle of all,
-/// so that the thread has to tidy up.
+/// Counts the zeros among the numbers, and then ends the only handle of the capability. Returns `true` for the last
+/// handle of all, after which the thread has to clean up.
 fn look(count: &SharedCount, pass: CountPass, numbers: &[u32]) -> (CountPass, usize, bool)
     requires here { pass.count ≡ count.now }
     requires one { handles pass ≡ 1 }
@@ -26,8 +26,8 @@ fn look(count: &SharedCount, pass: CountPass, numbers: &[u32]) -> (CountPass, us
     }
 }
 
-/// The two passes of a count meet. If neither owns a handle any more, and neither marked the count, exactly one of
-/// their ends was the last.
+/// Joins the knowledge of two capabilities of a count. If neither owns a handle any more and neither made the count
+/// static, exactly one of their ends was the last.
 fn settle(count: &SharedCount, first: CountPass, second: CountPass)
     requires two { count.now.passes ≡ 2 }
     requires first { (first.count ≡ count.now) × (first.name ≡ 0) }

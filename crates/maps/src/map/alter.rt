@@ -1,4 +1,4 @@
-//! How one call changes, puts in or takes out what stands under a key.
+//! One call that changes, inserts or removes the value under a key.
 ghost use Rattle.std.specs.Prelude.{◌≡◌, IfOk, OnErr, OnOk};
 ghost use Rattle.handles.specs.Copies.{CopiesAreEqual};
 ghost use Rattle.maps.specs.Changes.{Alters};
@@ -8,11 +8,15 @@ use crate::map::TreeMap;
 use std::alloc::{AllocError, Global};
 
 impl<K: Ord + Clone, V: Clone> TreeMap<K, V> {
-    /// Calls the change on a copy of the value under the key, or on `None` if there is none: the key then has the value
-    /// that it answers, or none.
+    /// Calls `change` on a clone of the value under `key`, or on `None`, and stores its result:
+    /// `map.alter(alloc, key, |_| None)?` removes the key. O(log n).
     ///
-    /// It searches twice, as `get` and then `insert` or `remove` do, and is refused as they are. The map then reads as
-    /// it did, though the change may have been called. `modify` changes a value without a copy of it.
+    /// It searches twice, as `get` and then `insert` or `remove` do. `modify` needs no clone of the value.
+    ///
+    /// # Errors
+    ///
+    /// `AllocError` when the `clone` of the value, `insert` or `remove` fails. The entries stay as they were, although
+    /// `change` may have been called.
     pub fn alter<F: FnOnce(Option<V>) -> Option<V>>(
         &mut self,
         alloc: Global,
@@ -38,7 +42,7 @@ impl<K: Ord + Clone, V: Clone> TreeMap<K, V> {
         }
     }
 
-    // A copy of the value under the key.
+    // A clone of the value, for `change` to consume.
     fn copy_of(&self, key: &K) -> Result<Option<V>, AllocError>
         requires { CopiesAreEqual V.is_clone }
         ensures { IfOk result (λ value. value ≡ lookup K.cmp key.now self.now) }

@@ -1,4 +1,4 @@
-//! What differs between two maps.
+//! The differences between two maps.
 ghost use Rattle.std.specs.Prelude.{◌≡◌, ◌++◌, IfOk, OnOk, cond, drop, option_map, option_to_list};
 ghost use Rattle.maps.specs.Differences.{as_entry, change_of, difference, first_change, listed};
 ghost use Rattle.maps.specs.Maps.{IsRising, lookup};
@@ -9,20 +9,28 @@ use std::alloc::{AllocError, Global};
 use std::cmp::Ordering;
 use std::marker::Model;
 
-/// What differs under a key: a value that only the newer map has, one that only the older one has, or the older and the
-/// newer one.
+/// A difference under one key, as `TreeMap::diff` lists it: `for (key, change) in map.diff(alloc, &newer)? { .. }`.
 #[derive(Clone, Copy, Debug, PartialEq, Drop)]
 pub enum DiffItem<'a, V> {
+    /// The value that only the newer map has.
     Added(&'a V),
+    /// The value that only the older map has.
     Removed(&'a V),
+    /// The older value and the newer one.
     Changed(&'a V, &'a V),
 }
 
 impl<K: Ord, V: PartialEq> TreeMap<K, V> {
-    /// What differs in the newer map, in the order of the keys. Two values differ if `==` says so. A key that both maps
-    /// have is that of the older one; the clauses fix it only up to `cmp`.
+    /// Returns the keys that only one of the maps has or whose values differ by `==`, with the differences, in
+    /// ascending order of the keys: `old.diff(alloc, &new)?`. O(n + m) for maps of n and m entries, even if they share
+    /// their nodes.
     ///
-    /// It goes through both maps once, also if they share their nodes. It is refused if there is no memory.
+    /// A key that both maps have is returned as a reference to the older map's key. The clauses fix it only up to
+    /// `cmp`.
+    ///
+    /// # Errors
+    ///
+    /// `AllocError` if there is no memory for the `Vec`.
     pub fn diff<'a>(
         &'a self,
         alloc: Global,
@@ -44,7 +52,8 @@ impl<K: Ord, V: PartialEq> TreeMap<K, V> {
     }
 }
 
-// What is left of a map: its first entry, and those behind it.
+// The entries of a map that are not compared yet. The first one is taken off the iterator, since it may be compared
+// with several entries of the other map.
 #[derive(Drop)]
 struct Remaining<'a, K: Ord, V> {
     first: Option<&'a (K, V)>,
@@ -72,7 +81,7 @@ impl<'a, K: Ord, V> Remaining<'a, K, V> {
         Remaining { first, behind }
     }
 
-    // Takes the first entry out, if that is asked.
+    // Moves to the next entry if `goes`: the first one is then accounted for.
     #[inline(always)]
     fn pass(&mut self, goes: bool)
         ensures { self.new ≡ cond goes (drop 1 self.old) self.old }
@@ -84,7 +93,7 @@ impl<'a, K: Ord, V> Remaining<'a, K, V> {
 }
 
 impl<'a, K: Ord, V: PartialEq> Remaining<'a, K, V> {
-    // How the first key stands to the first one of the newer map, and what differs under the lower one.
+    // Compares the first keys of the two maps, and returns their order with the difference under the lesser key.
     #[inline(always)]
     fn first_change(
         &self,
@@ -107,7 +116,7 @@ impl<'a, K: Ord, V: PartialEq> Remaining<'a, K, V> {
     }
 }
 
-// How the key of an entry stands to that of one in the newer map, and what differs under the lower one.
+// Compares the keys of an older and a newer entry, and returns their order with the difference under the lesser key.
 #[inline(always)]
 fn change_of<'a, K: Ord, V: PartialEq>(
     old: &'a (K, V),
@@ -126,7 +135,7 @@ fn change_of<'a, K: Ord, V: PartialEq>(
     (order, change)
 }
 
-// Puts the item behind the others, if there is one.
+// Appends the item if there is one: equal values give no difference.
 #[inline(always)]
 fn push_any<T: Drop>(items: &mut Vec<T>, item: Option<T>) -> Result<(), AllocError>
     ensures { OnOk result (items.new.items ≡ items.old.items ++ option_to_list item) }

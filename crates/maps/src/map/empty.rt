@@ -1,11 +1,11 @@
-//! A map without entries.
+//! The empty map.
 ghost use Rattle.std.specs.Prelude.{◌≡◌, []};
 
 use crate::map::TreeMap;
 use sequence::Sequence;
 
 impl<K: Ord, V> TreeMap<K, V> {
-    /// The empty map, which takes no memory.
+    /// Creates an empty map, with no allocation: `let mut map = TreeMap::new();`.
     pub fn new() -> TreeMap<K, V>
         ensures { result ≡ [] }
     {
@@ -15,7 +15,7 @@ impl<K: Ord, V> TreeMap<K, V> {
     }
 }
 
-/// The empty map.
+/// Creates an empty map, as `TreeMap::new` does.
 impl<K: Ord, V> Default for TreeMap<K, V> {
     ghost is_default = { λ map. map ≡ [] };
 
@@ -25,7 +25,8 @@ impl<K: Ord, V> Default for TreeMap<K, V> {
 }
 
 impl<K: Ord + Drop, V: Drop> TreeMap<K, V> {
-    /// Lets all entries go. It takes no memory, and is never refused.
+    /// Removes all entries, with no allocation: `map.clear()`. O(n), or O(1) if another version (snapshot) shares the
+    /// root.
     pub fn clear(&mut self)
         ensures { self.new ≡ [] }
     {

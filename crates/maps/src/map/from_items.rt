@@ -1,4 +1,4 @@
-//! How a map is made of a vector of entries.
+//! A map from a vector of entries.
 ghost use Rattle.std.specs.Prelude.{◌≡◌, [], IfOk, IsTrue};
 ghost use Rattle.handles.specs.Copies.{CopiesAreEqual};
 ghost use Rattle.maps.specs.Maps.{IsRising, with_entries};
@@ -8,10 +8,14 @@ use sequence::Sequence;
 use std::alloc::{AllocError, Global};
 
 impl<K: Ord + Clone, V: Clone> TreeMap<K, V> {
-    /// The map of these entries, which are put in one after another, as by `insert`: of those with an equal key the
-    /// first gives the key, and the last the value.
+    /// Creates a map from `items` as if by `insert`, one after another: `TreeMap::from_items(alloc, items)?`. Of equal
+    /// keys the first key and the last value are kept.
     ///
-    /// If each key is above the one before it, the entries are moved into full nodes, in O(n).
+    /// O(n) if the keys are strictly ascending, since the entries are then moved into full nodes; else O(n log n).
+    ///
+    /// # Errors
+    ///
+    /// `AllocError` if there is no memory, or if the `clone` of a key fails. The items are then dropped.
     pub fn from_items(alloc: Global, items: Vec<(K, V)>) -> Result<TreeMap<K, V>, AllocError>
         requires copies_of_keys { CopiesAreEqual K.is_clone }
         requires copies_of_values { CopiesAreEqual V.is_clone }
@@ -27,7 +31,7 @@ impl<K: Ord + Clone, V: Clone> TreeMap<K, V> {
         Ok(map)
     }
 
-    // The map of entries whose keys rise.
+    // The map of entries whose keys are strictly ascending, which needs no search.
     pub(super) fn of_rising(alloc: Global, items: Vec<(K, V)>) -> Result<TreeMap<K, V>, AllocError>
         requires copies_of_keys { CopiesAreEqual K.is_clone }
         requires rising { IsRising K.cmp items.items }
@@ -39,7 +43,7 @@ impl<K: Ord + Clone, V: Clone> TreeMap<K, V> {
     }
 }
 
-// Whether each key is above the one before it.
+// Returns `true` if the keys are strictly ascending.
 fn rises<K: Ord, V>(items: &[(K, V)]) -> bool
     ensures { IsTrue result → IsRising K.cmp items.now }
 {

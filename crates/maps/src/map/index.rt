@@ -6,7 +6,7 @@ ghost use Rattle.maps.specs.Maps.{lookup};
 use crate::map::TreeMap;
 use std::ops::Index;
 
-/// The value under a key that has one.
+/// Returns the value under `key`, which has to be in the map: `map[&key]`. O(log n).
 impl<K: Ord, V> Index<&K> for TreeMap<K, V> {
     type Output = V;
 

@@ -1,10 +1,10 @@
-//! The entries of a map, one after another.
+//! Iteration over the entries of a map.
 ghost use Rattle.std.specs.Prelude.{◌≡◌};
 
 use crate::key::Key;
 use crate::map::TreeMap;
 
-/// An iterator over the entries of a `TreeMap`, in the order of their keys.
+/// An iterator over the entries of a `TreeMap` in ascending order of the keys: `for (key, value) in &map { .. }`.
 pub type Iter<'a, K, V> = sequence::Iter<'a, (K, V), Key<K>>;
 
 impl<'a, K: Ord, V> IntoIterator for &'a TreeMap<K, V> {
@@ -20,7 +20,8 @@ impl<'a, K: Ord, V> IntoIterator for &'a TreeMap<K, V> {
 }
 
 impl<K: Ord, V> TreeMap<K, V> {
-    /// An iterator over the entries, in the order of their keys.
+    /// Returns an iterator over the entries in ascending order of the keys: `map.iter()`. A step takes O(1) within a
+    /// leaf, and O(log n) to the next leaf.
     pub fn iter(&self) -> Iter<'_, K, V>
         ensures { result ≡ self.now }
     {

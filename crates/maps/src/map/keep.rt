@@ -1,4 +1,4 @@
-//! Maps of the entries that a test keeps.
+//! Maps of the entries that a predicate keeps.
 ghost use Rattle.std.specs.Prelude.{◌≡◌, IfOk, OnErr, OnOk, filter, is_none, is_some};
 ghost use Rattle.std.specs.List.Retain.{IsFiltered};
 ghost use Rattle.handles.specs.Copies.{CopiesAreEqual};
@@ -9,11 +9,16 @@ use crate::map::TreeMap;
 use std::alloc::{AllocError, Global};
 
 impl<K: Ord + Clone, V: Clone> TreeMap<K, V> {
-    /// Keeps the entries of which the test says `true`, and lets the others go. It asks once for each entry, in the
-    /// order of the keys.
+    /// Keeps the entries for which `keep` returns `true`, and drops the others:
+    /// `map.retain(alloc, |key, _| *key >= 7)?`. O(n).
     ///
-    /// It makes a map of copies of what it keeps, in O(n), unless it keeps all: the map then shares its nodes as
-    /// before. A refusal leaves the map as it was.
+    /// `keep` is called once for each entry, in ascending order of the keys. The entries that stay are cloned into new
+    /// nodes, unless all stay: then the map keeps its nodes.
+    ///
+    /// # Errors
+    ///
+    /// `AllocError` if there is no memory, or if the `clone` of a key, a value or a handle fails. The entries stay as
+    /// they were.
     pub fn retain<F: FnMut(&K, &V) -> bool>(
         &mut self,
         alloc: Global,
@@ -29,9 +34,12 @@ impl<K: Ord + Clone, V: Clone> TreeMap<K, V> {
         Ok(())
     }
 
-    /// The entries of this map whose keys the other one has too.
+    /// Returns the entries of this map whose keys are also in `other`: `map.intersection(alloc, &other)?`. O(n log m)
+    /// for maps of n and m entries.
     ///
-    /// It takes a `get` for each entry of this map, and makes a map as `retain` does.
+    /// # Errors
+    ///
+    /// `AllocError` under the same conditions as `retain`.
     pub fn intersection<W>(
         &self,
         alloc: Global,
@@ -44,10 +52,14 @@ impl<K: Ord + Clone, V: Clone> TreeMap<K, V> {
         self.kept(alloc, |key, _| other.contains_key(key))
     }
 
-    /// The entries of this map whose keys the other one has not, as in a set of `std`: the `relative_complement` of
-    /// `im`, whose `difference` has those of the other map too.
+    /// Returns the entries of this map whose keys are not in `other`: `map.difference(alloc, &other)?`. O(n log m) for
+    /// maps of n and m entries.
     ///
-    /// It costs what `intersection` does.
+    /// `im` calls this `relative_complement`; its `difference` also has the entries that only the other map has.
+    ///
+    /// # Errors
+    ///
+    /// `AllocError` under the same conditions as `retain`.
     pub fn difference<W>(
         &self,
         alloc: Global,
@@ -60,7 +72,7 @@ impl<K: Ord + Clone, V: Clone> TreeMap<K, V> {
         self.kept(alloc, |key, _| !other.contains_key(key))
     }
 
-    // The map of the entries that stay: a version of this one if all do.
+    // The map of the entries that stay. If all stay, a clone shares all nodes.
     fn kept<F: FnMut(&K, &V) -> bool>(
         &self,
         alloc: Global,

@@ -1,4 +1,4 @@
-//! The keys of a map, one after another.
+//! Iteration over the keys of a map.
 ghost use Rattle.std.specs.Prelude.{◌≡◌, IfSome, Some, length, ⊤};
 ghost use Rattle.std.specs.Iterator.{UpTo, YieldsFirstRef, YieldsLastRef, item_count};
 ghost use Rattle.std.specs.Iterator.SizeHint.{IsWithinCount};
@@ -10,7 +10,7 @@ use std::alloc::AllocError;
 use std::iter::FusedIterator;
 use std::marker::Model;
 
-/// An iterator over the keys of a `TreeMap`, in their order, which steps as `Iter` does.
+/// An iterator over the keys of a `TreeMap` in ascending order: `for key in map.keys() { .. }`.
 #[derive(Drop)]
 pub struct Keys<'a, K: Ord, V> {
     entries: Iter<'a, K, V>,
@@ -26,7 +26,8 @@ impl<'a, K: Ord, V> Model for Keys<'a, K, V> {
 }
 
 impl<K: Ord, V> TreeMap<K, V> {
-    /// An iterator over the keys, in their order.
+    /// Returns an iterator over the keys in ascending order, whose steps cost the same as those of `iter`:
+    /// `map.keys()`.
     pub fn keys(&self) -> Keys<'_, K, V>
         ensures { result ≡ keys_of self.now }
     {

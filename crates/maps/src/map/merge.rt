@@ -1,4 +1,4 @@
-//! One map out of two.
+//! The union of two maps.
 ghost use Rattle.std.specs.Prelude.{◌≡◌, IfOk, OnErr, OnOk};
 ghost use Rattle.handles.specs.Copies.{CopiesAreEqual};
 ghost use Rattle.maps.specs.Maps.{with_entries};
@@ -7,11 +7,14 @@ use crate::map::TreeMap;
 use std::alloc::{AllocError, Global};
 
 impl<K: Ord + Clone, V: Clone> TreeMap<K, V> {
-    /// Puts copies of the entries of the other map in, one after another, as by `insert`: under a key of both the value
-    /// of the other one stands. The other map stays as it is, while that of `std` moves its entries out of it.
+    /// Inserts clones of all entries of `other`, whose values replace those of equal keys:
+    /// `map.append(alloc, &other)?`. O(m log(n + m)) for m entries of `other`. `other` keeps its entries, unlike in
+    /// `std`.
     ///
-    /// It takes an `insert` for each entry of the other map, into a version of this one, which takes its place at the
-    /// end. So a refusal leaves the map as it was.
+    /// # Errors
+    ///
+    /// `AllocError` when `insert`, or the `clone` of a key, a value or a handle, fails. The entries stay as they were,
+    /// since all are inserted into a clone that then replaces this map.
     pub fn append(&mut self, alloc: Global, other: &TreeMap<K, V>) -> Result<(), AllocError>
         requires copies_of_keys { CopiesAreEqual K.is_clone }
         requires copies_of_values { CopiesAreEqual V.is_clone }
@@ -26,9 +29,12 @@ impl<K: Ord + Clone, V: Clone> TreeMap<K, V> {
         Ok(())
     }
 
-    /// The map with the entries of both: under a key of both the value of this one stands.
+    /// Returns a map with the entries of both maps, and with this map's value under a key of both:
+    /// `map.union(alloc, &other)?`. O(n log(n + m)) for n entries of this map.
     ///
-    /// It takes an `insert` for each entry of this map.
+    /// # Errors
+    ///
+    /// `AllocError` under the same conditions as `append`.
     pub fn union(&self, alloc: Global, other: &TreeMap<K, V>) -> Result<TreeMap<K, V>, AllocError>
         requires copies_of_keys { CopiesAreEqual K.is_clone }
         requires copies_of_values { CopiesAreEqual V.is_clone }

@@ -1,4 +1,4 @@
-//! The entries nearest to a key.
+//! The entries that are nearest to a key.
 ghost use Rattle.std.specs.Prelude.{◌≡◌, ◌-◌, slice_get, take};
 ghost use Rattle.std.specs.Option.{option_copied};
 ghost use Rattle.maps.specs.Bounds.{rank_with_by};
@@ -8,14 +8,14 @@ use crate::map::TreeMap;
 use crate::query::Query;
 
 impl<K: Ord, V> TreeMap<K, V> {
-    /// The entry of the least key that is not below this one.
+    /// Returns the entry with the least key at or above `key`, or `None`: `map.get_next(&key)`. O(log n).
     pub fn get_next<Q: Query<K>>(&self, key: Q) -> Option<&(K, V)>
         ensures { option_copied result ≡ slice_get self.now (rank_by (Q.order key) self.now) }
     {
         self.nth(self.rank(key))
     }
 
-    /// The entry of the greatest key that is not above this one.
+    /// Returns the entry with the greatest key at or below `key`, or `None`: `map.get_prev(&key)`. O(log n).
     #[tactic(auto, using(crate::proofs::Ranges::get_front))]
     pub fn get_prev<Q: Query<K>>(&self, key: Q) -> Option<&(K, V)>
         ensures { let count = rank_with_by (Q.order key) self.now in

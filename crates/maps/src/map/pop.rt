@@ -1,4 +1,4 @@
-//! How a map gives its first or its last entry away.
+//! Removal of the first and of the last entry.
 ghost use Rattle.std.specs.Prelude.{◌≡◌, ◌-◌, [], IfOk, IsOk, OnErr, OnOk, drop, length, slice_get, take};
 ghost use Rattle.handles.specs.Copies.{CopiesAreEqual};
 
@@ -6,10 +6,12 @@ use crate::map::TreeMap;
 use std::alloc::{AllocError, Global};
 
 impl<K: Ord + Clone, V: Clone> TreeMap<K, V> {
-    /// Takes the entry of the least key out, and gives it, if there is one.
+    /// Removes the entry with the least key and returns it, or `None` if the map is empty: `map.pop_first(alloc)?`.
+    /// O(log n), and compares no keys.
     ///
-    /// It compares no keys, copies and is refused as `remove` is, and the map then reads as it did. An empty map is
-    /// never refused.
+    /// # Errors
+    ///
+    /// `AllocError` under the same conditions as `remove`. The entries stay as they were.
     pub fn pop_first(&mut self, alloc: Global) -> Result<Option<(K, V)>, AllocError>
         requires copies_of_keys { CopiesAreEqual K.is_clone }
         requires copies_of_values { CopiesAreEqual V.is_clone }
@@ -21,8 +23,12 @@ impl<K: Ord + Clone, V: Clone> TreeMap<K, V> {
         self.entries.pop_front(alloc)
     }
 
-    /// Takes the entry of the greatest key out, and gives it, if there is one. It compares, copies and is refused as
-    /// `pop_first`.
+    /// Removes the entry with the greatest key and returns it, or `None` if the map is empty: `map.pop_last(alloc)?`.
+    /// O(log n), and compares no keys.
+    ///
+    /// # Errors
+    ///
+    /// `AllocError` under the same conditions as `remove`. The entries stay as they were.
     pub fn pop_last(&mut self, alloc: Global) -> Result<Option<(K, V)>, AllocError>
         requires copies_of_keys { CopiesAreEqual K.is_clone }
         requires copies_of_values { CopiesAreEqual V.is_clone }

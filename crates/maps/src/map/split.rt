@@ -1,4 +1,4 @@
-//! Two maps out of one.
+//! Two maps from one.
 ghost use Rattle.std.specs.Prelude.{◌≡◌, IfOk, OnErr, OnOk, drop, take};
 ghost use Rattle.handles.specs.Copies.{CopiesAreEqual};
 ghost use Rattle.maps.specs.Maps.{rank_by};
@@ -8,10 +8,13 @@ use crate::query::Query;
 use std::alloc::{AllocError, Global};
 
 impl<K: Ord + Clone, V: Clone> TreeMap<K, V> {
-    /// Takes the entries from the key on out, into another map.
+    /// Splits the map at `key` and returns the entries from `key` on: `let rest = map.split_off(alloc, &key)?;`. O(log
+    /// n), and one clone of a key for each node along the cut.
     ///
-    /// It cuts the entries as a `Sequence` cuts its items, and copies a key for each new node. A refusal leaves the map
-    /// as it was.
+    /// # Errors
+    ///
+    /// `AllocError` if there is no memory, or if the `clone` of a key, a value or a handle fails. The entries stay as
+    /// they were.
     pub fn split_off<Q: Query<K>>(
         &mut self,
         alloc: Global,

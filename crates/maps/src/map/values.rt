@@ -1,4 +1,4 @@
-//! The values of a map, one after another.
+//! Iteration over the values of a map.
 ghost use Rattle.std.specs.Prelude.{◌≡◌, IfSome, Some, length, ⊤};
 ghost use Rattle.std.specs.Iterator.{UpTo, YieldsFirstRef, YieldsLastRef, item_count};
 ghost use Rattle.std.specs.Iterator.SizeHint.{IsWithinCount};
@@ -10,7 +10,7 @@ use std::alloc::AllocError;
 use std::iter::FusedIterator;
 use std::marker::Model;
 
-/// An iterator over the values of a `TreeMap`, in the order of their keys, which steps as `Iter` does.
+/// An iterator over the values of a `TreeMap` in ascending order of the keys: `for value in map.values() { .. }`.
 #[derive(Drop)]
 pub struct Values<'a, K: Ord, V> {
     entries: Iter<'a, K, V>,
@@ -26,7 +26,8 @@ impl<'a, K: Ord, V> Model for Values<'a, K, V> {
 }
 
 impl<K: Ord, V> TreeMap<K, V> {
-    /// An iterator over the values, in the order of their keys.
+    /// Returns an iterator over the values in ascending order of the keys, whose steps cost the same as those of
+    /// `iter`: `map.values()`.
     pub fn values(&self) -> Values<'_, K, V>
         ensures { result ≡ values_of self.now }
     {

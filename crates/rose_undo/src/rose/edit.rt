@@ -1,4 +1,4 @@
-//! Edits of a tree, each of which makes another.
+//! Edits at the end of a path, each of which returns a new tree and leaves the old one.
 ghost use Rattle.std.specs.Prelude.{◌≡◌, ◌↔◌, Err, None, Some, IfOk, ◌<◌, length};
 ghost use Rattle.handles.specs.Copies.{CopiesAreEqual};
 ghost use Rattle.rose_undo.specs.Edits.{made};
@@ -10,7 +10,7 @@ use super::Rose;
 use handles::place::PlaceError;
 use std::alloc::{AllocError, Global};
 
-// What is done at the end of a path.
+// What to do at the end of a path. One recursion does all four.
 #[derive(Drop)]
 enum Edit<V> {
     Value(V),
@@ -20,10 +20,16 @@ enum Edit<V> {
 }
 
 impl<V: Clone> Rose<V> {
-    /// The tree with that value at the end of the path. The tree itself stays, as at each of these edits.
+    /// Returns the tree with `value` at the end of `path`: `tree.with_value(alloc, &[1, 0], value)?`. O(nodes on the
+    /// path and their children).
     ///
-    /// It makes a node for each on the path, of a copy of its value and of handles of its children, and shares all
-    /// other trees. If it is refused, the value is dropped.
+    /// Each node on the path is made anew, of a clone of its value and of handles of its children. All other nodes are
+    /// shared with this tree.
+    ///
+    /// # Errors
+    ///
+    /// `NoPlace` if the path leaves the tree, whether or not there is memory. `Memory` if there is no memory, or if the
+    /// `clone` of a value or a handle fails. `value` is then dropped.
     pub fn with_value(&self, alloc: Global, path: &[usize], value: V) -> Result<Rose<V>, PlaceError>
         requires copies { CopiesAreEqual V.is_clone }
         ensures made { IfOk result (λ tree. Some tree ≡ with_value path.now value self.now) }
@@ -32,7 +38,12 @@ impl<V: Clone> Rose<V> {
         self.edited_at(alloc, path, Edit::Value(value))
     }
 
-    /// The tree with the other in place of what stands at the end of the path. It is refused as `with_value` is.
+    /// Returns the tree with `tree` in place of the one at the end of `path`, at the cost of `with_value`:
+    /// `old.with_tree(alloc, path, tree)?`.
+    ///
+    /// # Errors
+    ///
+    /// The same errors as `with_value`. `tree` is then dropped.
     pub fn with_tree(
         &self,
         alloc: Global,
@@ -46,8 +57,13 @@ impl<V: Clone> Rose<V> {
         self.edited_at(alloc, path, Edit::Tree(tree))
     }
 
-    /// The tree with one more child at the end of the path, which gets that number. The children from there on get the
-    /// next. It is refused as `with_value` is, and if there are fewer children than the number.
+    /// Returns the tree with `child` inserted at `index` among the children at the end of `path`, at the cost of
+    /// `with_value`: `tree.with_inserted(alloc, &[], index, child)?`.
+    ///
+    /// # Errors
+    ///
+    /// The same errors as `with_value`, and `NoPlace` if `index` is greater than the number of children there. `child`
+    /// is then dropped.
     pub fn with_inserted(
         &self,
         alloc: Global,
@@ -63,8 +79,12 @@ impl<V: Clone> Rose<V> {
         self.edited_at(alloc, path, Edit::Insert(index, child))
     }
 
-    /// The tree without the child of that number at the end of the path. It is refused as `with_value` is, and if there
-    /// is no such child.
+    /// Returns the tree without the child at `index` at the end of `path`, at the cost of `with_value`:
+    /// `tree.without(alloc, path, index)?`.
+    ///
+    /// # Errors
+    ///
+    /// The same errors as `with_value`, and `NoPlace` if there is no child at `index`.
     pub fn without(
         &self,
         alloc: Global,
@@ -134,7 +154,7 @@ impl<V: Clone> Rose<V> {
         Ok(Rose::with_children(alloc, self.value().clone()?, children)?)
     }
 
-    // The tree with that child in place of the one that it has there.
+    // The tree with `child` in place of its child at `index`, for a node on the path.
     fn with_child(&self, alloc: Global, index: usize, child: Rose<V>) -> Result<Rose<V>, AllocError>
         requires copies { CopiesAreEqual V.is_clone }
         requires place { index < length (children self.now) }

@@ -1,4 +1,4 @@
-//! A change in place, but for the nodes that other versions have, which are copied.
+//! Changes in place. Nodes that another version (snapshot) shares are copied.
 ghost use Rattle.std.specs.Prelude.{◌≡◌, ◌↔◌, Err, None, IfOk, IsSome, OnErr};
 ghost use Rattle.std.specs.Fn.{FnOnceTakesAtMut};
 ghost use Rattle.std.specs.Option.{ForSome, option_map};
@@ -15,10 +15,16 @@ use handles::unique::UniqueArc;
 use std::alloc::{AllocError, Global};
 
 impl<V: Clone> Rose<V> {
-    /// Changes the value at the end of the path, and gives what the change answered.
+    /// Calls `change` on the value at the end of `path` and returns its result:
+    /// `tree.modify(alloc, path, |value| mem::replace(value, new))?`. O(path), and O(children) for each node that is
+    /// copied.
     ///
-    /// It writes in place, but copies each node on the path that other versions have, and is refused as `with_value`
-    /// is. The change is then not called, and the tree reads as it did.
+    /// Nodes on the path that another version shares are copied, and the others are written in place.
+    ///
+    /// # Errors
+    ///
+    /// `NoPlace` if the path leaves the tree, whether or not there is memory. `Memory` if there is no memory, or if the
+    /// `clone` of a value or a handle fails. `change` is then not called, and the tree reads as before.
     pub fn modify<R, F: FnOnce(&mut V) -> R>(
         &mut self,
         alloc: Global,
@@ -59,7 +65,7 @@ impl<V: Clone> Rose<V> {
         Ok(answer)
     }
 
-    // A node like the root, which nobody shares.
+    // A copy of the root node that nobody shares yet, so that it can be written.
     fn copy(&self, alloc: Global) -> Result<UniqueArc<HeaderSlice<V, Rose<V>>>, AllocError>
         requires copies { CopiesAreEqual V.is_clone }
         ensures { IfOk result (λ node. node ≡ record { header = root self.now; items = children self.now }) }
@@ -71,7 +77,7 @@ impl<V: Clone> Rose<V> {
         )
     }
 
-    // The node is one that nobody shares.
+    // Writes to a node that nobody shares.
     #[cycle(modify)]
     fn write<R, F: FnOnce(&mut V) -> R>(
         node: &mut HeaderSlice<V, Rose<V>>,

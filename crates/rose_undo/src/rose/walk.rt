@@ -1,4 +1,4 @@
-//! All values of a tree, and its end, by loops over what is left to be seen.
+//! All values of a tree, and the drop of a deep tree, by loops instead of recursions.
 ghost use Rattle.std.specs.Prelude.{◌≡◌, [], IfOk, map};
 ghost use Rattle.rose_undo.specs.Roses.{paths_from, preorder};
 
@@ -7,8 +7,12 @@ use handles::arc::Arc;
 use std::alloc::{AllocError, Global};
 
 impl<V> Rose<V> {
-    /// All values, each before those below it, and from the first child to the last. It requests memory for them, and
-    /// for a list that is at most as long as the tree is deep.
+    /// Returns all values in preorder (a node before its children): `tree.values(alloc)?`. O(n). The work list is at
+    /// most as long as the tree is deep.
+    ///
+    /// # Errors
+    ///
+    /// `AllocError` if there is no memory.
     #[tactic(auto, using(crate::proofs::Preorder::preorder_out))]
     pub fn values(&self, alloc: Global) -> Result<Vec<&V>, AllocError>
         ensures { IfOk result (λ values. map (λ v. v.now) values.items ≡ preorder self.now) }
@@ -26,8 +30,11 @@ impl<V> Rose<V> {
         Ok(values)
     }
 
-    /// All values with the paths that lead to them, in the order of `values`. It requests memory for them, and for a
-    /// path to each tree on the way down.
+    /// Returns all values in preorder, each with its path: `tree.paths(alloc)?`. O(n) times the depth of the tree.
+    ///
+    /// # Errors
+    ///
+    /// `AllocError` if there is no memory.
     pub fn paths(&self, alloc: Global) -> Result<Vec<(Vec<usize>, &V)>, AllocError>
         ensures { IfOk result (λ paths. map (λ p. (p.0.items, p.1.now)) paths.items ≡ paths_from self.now []) }
     {
@@ -60,7 +67,7 @@ impl<V> Rose<V> {
     }
 }
 
-// A tree that was seen, with its path, and the number of its first child that was not.
+// A tree whose value is listed, with its path, and the index of its first child that is not.
 #[derive(Drop)]
 struct Left<'a, V> {
     path: Vec<usize>,
@@ -69,11 +76,11 @@ struct Left<'a, V> {
 }
 
 impl<V: Drop> Rose<V> {
-    /// Ends the tree node by node in a loop, as far as no other version has them. So the end of a deep tree takes no
-    /// more stack than that of a shallow one.
+    /// Drops the tree node by node in a loop, so that a deep tree needs no deep call stack: `tree.end(alloc)`. O(n).
     ///
-    /// It raises the count of each node below once, and requests memory for a list of those that are left. Where one of
-    /// these is refused, the trees below that node end by the plain drop.
+    /// Nodes that another version (snapshot) shares stay. For each node below the root, its count is incremented once,
+    /// and the work list needs memory. Where either fails, the trees below that node are dropped by the recursive
+    /// `drop` instead.
     pub fn end(self, alloc: Global) {
         let mut left = Vec::new(alloc);
         let _ = left.push(self);

@@ -18,9 +18,12 @@ use crate::tree::take::Take;
 use std::alloc::{AllocError, Global};
 
 impl<T: Clone, L: NewLabel<T>> Sequence<T, L> {
-    /// Takes the item out that the cut seeks, and gives it, if it is the last item before the cut.
+    /// Removes the item that `cut` seeks and returns it, or `None` if the last item before the cut is another one:
+    /// `entries.take_out(alloc, cut)?`. O(log n).
     ///
-    /// It copies and is refused as `remove` is. If there is no such item, nothing is copied or refused.
+    /// # Errors
+    ///
+    /// `AllocError` if `remove` would return `Memory`. If there is no such item, nothing is copied.
     pub fn take_out<C: Seek<T, L> + Drop>(
         &mut self,
         alloc: Global,
@@ -49,7 +52,8 @@ impl<T: Clone, L: NewLabel<T>> Sequence<T, L> {
         }
     }
 
-    /// Changes the item that the cut seeks, if it is the last item before the cut, and gives what the change answered.
+    /// Calls `change` on the item that `cut` seeks and returns its result, or `None` if the last item before the cut is
+    /// another one: `entries.change(alloc, cut, |old| mem::replace(old, item))?`. O(log n).
     ///
     /// It copies and is refused as `modify` is, and the change is then not called. It is not called either if there is
     /// no such item: then nothing is copied or refused.
@@ -90,10 +94,12 @@ impl<T: Clone, L: NewLabel<T>> Sequence<T, L> {
         }
     }
 
-    /// Puts in what there is to put in, behind its cut, or into the item that it seeks, if that is the last one before
-    /// the cut: then it gives what that puts out.
+    /// Inserts `new` behind its cut: `appointments.put_in(alloc, appointment)?`. If the last item before the cut is the
+    /// one that `new` seeks, replaces that item instead and returns what the replacement puts out. O(log n).
     ///
-    /// It copies and is refused as `insert` is, and what was to be put in is then dropped.
+    /// # Errors
+    ///
+    /// `AllocError` if `insert` would return `Memory`. `new` is then dropped.
     pub fn put_in<P: Put<T, L>>(
         &mut self,
         alloc: Global,

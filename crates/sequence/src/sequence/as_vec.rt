@@ -1,4 +1,4 @@
-//! More of what a `Vec` can do, each call made of the others.
+//! More methods of `Vec`, each made of the other calls.
 ghost use Rattle.std.specs.Prelude.{◌≡◌, ◌++◌, ◌<◌, ◌≤◌, ◌↔◌, ◌⊎◌, [], Err, OnErr, OnOk, Some};
 ghost use Rattle.std.specs.Prelude.{length, slice_get, swap};
 ghost use Rattle.std.specs.Fn.{CalledAt};
@@ -12,7 +12,7 @@ use handles::place::PlaceError;
 use std::alloc::{AllocError, Global};
 use std::ops::Index;
 
-/// The item of a number that has one.
+/// Returns the item at `index`, which has to be less than the length: `list[index]`. O(log n).
 impl<T, L: Label<T>> Index<usize> for Sequence<T, L> {
     type Output = T;
 
@@ -26,7 +26,7 @@ impl<T, L: Label<T>> Index<usize> for Sequence<T, L> {
 }
 
 impl<T, L: Label<T>> Sequence<T, L> {
-    /// Whether one of the items is equal to that one.
+    /// Returns `true` if one of the items equals `item`: `list.contains(&item)`. O(n).
     pub fn contains(&self, item: &T) -> bool
     where
         T: PartialEq,
@@ -37,7 +37,8 @@ impl<T, L: Label<T>> Sequence<T, L> {
 }
 
 impl<T: Drop, L: Label<T> + Drop> Sequence<T, L> {
-    /// Lets all items go.
+    /// Removes all items, with no allocation: `list.clear()`. O(n), or O(1) if another version (snapshot) shares the
+    /// root.
     pub fn clear(&mut self)
         ensures { self.new ≡ [] }
     {
@@ -46,7 +47,12 @@ impl<T: Drop, L: Label<T> + Drop> Sequence<T, L> {
 }
 
 impl<T: Clone, L: NewLabel<T>> Sequence<T, L> {
-    /// Puts the items of the vector behind those of this list. It moves them into a list, and appends that.
+    /// Appends the items of a vector, which are moved into new nodes: `list.extend(alloc, more)?`. O(m + log n) for m
+    /// new items.
+    ///
+    /// # Errors
+    ///
+    /// `AllocError` when `of_items` or `append` fails. The list keeps its items; the new ones are dropped.
     pub fn extend(&mut self, alloc: Global, items: Vec<T>) -> Result<(), AllocError>
         requires copies { CopiesAreEqual T.is_clone }
         requires labels { CopiesAreEqual L.is_clone }
@@ -57,9 +63,15 @@ impl<T: Clone, L: NewLabel<T>> Sequence<T, L> {
         self.append(alloc, more)
     }
 
-    /// Keeps the items of which the test says `true`, and lets the others go. It asks once for each item, in order.
+    /// Keeps the items for which `keep` returns `true`, and drops the others:
+    /// `list.retain(alloc, |item| *item >= least)?`. O(n).
     ///
-    /// It makes a list of copies of what it keeps, in O(n).
+    /// `keep` is called once for each item, in order. All items are cloned first, so the list then shares no node.
+    ///
+    /// # Errors
+    ///
+    /// `AllocError` if there is no memory, or if the `clone` of an item fails, also of one that would be dropped. The
+    /// items stay as they were.
     pub fn retain<F: FnMut(&T) -> bool>(&mut self, alloc: Global, keep: F) -> Result<(), AllocError>
         requires copies { CopiesAreEqual T.is_clone }
         requires labels { CopiesAreEqual L.is_clone }
@@ -78,10 +90,14 @@ impl<T: Clone, L: NewLabel<T>> Sequence<T, L> {
 }
 
 impl<T: Clone> Sequence<T> {
-    /// Exchanges the items of the two numbers.
+    /// Swaps the items at `i` and `j`: `list.swap(alloc, 0, 1)?`. O(log n).
     ///
-    /// It changes a version of the list, by `set` twice, so it copies the nodes on the way to both items, and one of
-    /// them, also if no other version has them.
+    /// The nodes on the paths to both items are always copied: two `set`s change a clone, which then replaces the list.
+    ///
+    /// # Errors
+    ///
+    /// `NoPlace` if `i` or `j` is not less than the length, whether or not there is memory. `Memory` when the `clone`
+    /// of the list or of an item, or a `set`, fails. The items stay as they were.
     pub fn swap(&mut self, alloc: Global, i: usize, j: usize) -> Result<(), PlaceError>
         requires copies { CopiesAreEqual T.is_clone }
         ensures items { OnOk result (self.new ≡ swap self.old i j) }

@@ -1,4 +1,4 @@
-//! What goes in and out at the two ends of a list.
+//! Insertion and removal at the two ends of a list.
 ghost use Rattle.std.specs.Prelude.{◌≡◌, ◌-◌, ◌++◌, ◌∷◌, [], IfOk, IsOk, OnErr, OnOk, drop, length, slice_get, take};
 ghost use Rattle.std.specs.List.{remove};
 ghost use Rattle.handles.specs.Copies.{CopiesAreEqual};
@@ -10,7 +10,14 @@ use crate::tree::ends::End;
 use std::alloc::{AllocError, Global};
 
 impl<T: Clone, L: NewLabel<T>> Sequence<T, L> {
-    /// Puts the item behind all, as `insert` does, but by one way down unless the last leaf is full.
+    /// Appends `item`: `list.push(alloc, item)?`. O(log n).
+    ///
+    /// The last leaf is found without a search and written in one pass. A full leaf takes a second pass, as in
+    /// `insert`.
+    ///
+    /// # Errors
+    ///
+    /// `AllocError` if `insert` would return `Memory`. The items stay as they were; `item` is dropped.
     pub fn push(&mut self, alloc: Global, item: T) -> Result<(), AllocError>
         requires copies { CopiesAreEqual T.is_clone }
         requires labels { CopiesAreEqual L.is_clone }
@@ -31,7 +38,11 @@ impl<T: Clone, L: NewLabel<T>> Sequence<T, L> {
         self.insert_at(alloc, len, item)
     }
 
-    /// Puts the item before all, as `insert` does.
+    /// Inserts `item` before all others: `list.push_front(alloc, item)?`. O(log n).
+    ///
+    /// # Errors
+    ///
+    /// `AllocError` if `insert` would return `Memory`. The items stay as they were; `item` is dropped.
     pub fn push_front(&mut self, alloc: Global, item: T) -> Result<(), AllocError>
         requires copies { CopiesAreEqual T.is_clone }
         requires labels { CopiesAreEqual L.is_clone }
@@ -41,7 +52,11 @@ impl<T: Clone, L: NewLabel<T>> Sequence<T, L> {
         self.insert_at(alloc, 0, item)
     }
 
-    /// Takes the last item out and gives it, as `remove` does.
+    /// Removes the last item and returns it, or `None` if the list is empty: `list.pop(alloc)?`. O(log n).
+    ///
+    /// # Errors
+    ///
+    /// `AllocError` if `remove` would return `Memory`. The items stay as they were.
     pub fn pop(&mut self, alloc: Global) -> Result<Option<T>, AllocError>
         requires copies { CopiesAreEqual T.is_clone }
         requires labels { CopiesAreEqual L.is_clone }
@@ -53,7 +68,11 @@ impl<T: Clone, L: NewLabel<T>> Sequence<T, L> {
         self.pop_at(alloc, End::Last)
     }
 
-    /// Takes the first item out and gives it, as `remove` does.
+    /// Removes the first item and returns it, or `None` if the list is empty: `list.pop_front(alloc)?`. O(log n).
+    ///
+    /// # Errors
+    ///
+    /// `AllocError` if `remove` would return `Memory`. The items stay as they were.
     pub fn pop_front(&mut self, alloc: Global) -> Result<Option<T>, AllocError>
         requires copies { CopiesAreEqual T.is_clone }
         requires labels { CopiesAreEqual L.is_clone }
@@ -65,7 +84,7 @@ impl<T: Clone, L: NewLabel<T>> Sequence<T, L> {
         self.pop_at(alloc, End::First)
     }
 
-    // Takes the item at that end out, and gives it.
+    // Removes in one pass if no node on the path gets underfull, and else as `remove` does.
     fn pop_at(&mut self, alloc: Global, end: End) -> Result<Option<T>, AllocError>
         requires copies { CopiesAreEqual T.is_clone }
         requires labels { CopiesAreEqual L.is_clone }

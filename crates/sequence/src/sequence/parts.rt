@@ -1,4 +1,4 @@
-//! Two lists out of one, and one out of two.
+//! Splitting a list in two, and joining two lists.
 ghost use Rattle.std.specs.Prelude.{◌≡◌, ◌++◌, ◌^◌, ◌<◌, ◌≤◌, ◌↔◌, ◌⊎◌, Err, IfOk, IsOk, OnErr, OnOk};
 ghost use Rattle.std.specs.Prelude.{drop, length, take};
 ghost use Rattle.handles.specs.Copies.{CopiesAreEqual};
@@ -15,11 +15,15 @@ use std::mem;
 use std::ops::Range;
 
 impl<T: Clone, L: NewLabel<T>> Sequence<T, L> {
-    /// Puts the items of the other list behind those of this one.
+    /// Appends the items of `other`: `list.append(alloc, rest)?`. O(log n) for the longer of the two lists.
     ///
-    /// The lower of the two trees becomes a child of the other. It writes in place, and copies as `insert` does, only
-    /// nodes on the way to where they meet. It is refused as `insert` is, and for more than `usize::MAX` items. The
-    /// other list is then dropped.
+    /// The lower of the two trees becomes a child of the other one. Nodes on the path to that place are copied if
+    /// another version (snapshot) shares them, and written in place otherwise.
+    ///
+    /// # Errors
+    ///
+    /// `AllocError` if `insert` would return `Memory`, or for more than `usize::MAX` items. The list keeps its items;
+    /// `other` is dropped.
     pub fn append(&mut self, alloc: Global, other: Sequence<T, L>) -> Result<(), AllocError>
         requires copies { CopiesAreEqual T.is_clone }
         requires labels { CopiesAreEqual L.is_clone }
@@ -47,12 +51,16 @@ impl<T: Clone, L: NewLabel<T>> Sequence<T, L> {
         Ok(())
     }
 
-    /// Takes the items from that number on out, into another list. A number above that of the items is refused before
-    /// all else.
+    /// Splits the list at `at` and returns the items from `at` on: `let rest = list.split_off(alloc, at)?;`. O(log n).
     ///
-    /// It writes in place, but copies each node on the way that other versions have, and makes one new node on each
-    /// level. Small nodes beside the cut are joined with their neighbours. Where a part would have too few items for
-    /// its height, both lists are made anew along the cut instead, and share all other nodes with this one.
+    /// Nodes along the cut that another version shares are copied, the others are written in place, and each level gets
+    /// one new node. Where a part would have too few items for its height, both lists are built anew along the cut in
+    /// O((log n)^2), and share all other nodes with the old list.
+    ///
+    /// # Errors
+    ///
+    /// `NoPlace` if `at` is greater than the length, whether or not there is memory. `Memory` if there is no memory, or
+    /// if the `clone` of an item or a handle fails. The items stay as they were.
     pub fn split_off(&mut self, alloc: Global, at: usize) -> Result<Sequence<T, L>, PlaceError>
         requires copies { CopiesAreEqual T.is_clone }
         requires labels { CopiesAreEqual L.is_clone }
@@ -68,7 +76,7 @@ impl<T: Clone, L: NewLabel<T>> Sequence<T, L> {
         Ok(back)
     }
 
-    // The same of a number that is not above.
+    // Splits at an index that is known to be at most the length, so that only memory can be lacking.
     fn cut_off(&mut self, alloc: Global, at: usize) -> Result<Sequence<T, L>, AllocError>
         requires copies { CopiesAreEqual T.is_clone }
         requires labels { CopiesAreEqual L.is_clone }
@@ -94,7 +102,7 @@ impl<T: Clone, L: NewLabel<T>> Sequence<T, L> {
         Ok(back)
     }
 
-    // The same in place, if each part then has enough items for its height.
+    // Splits in place. It fails if a part would have too few items for its height, and changes nothing then.
     fn sever(&mut self, alloc: Global, at: usize) -> Result<Sequence<T, L>, AllocError>
         requires copies { CopiesAreEqual T.is_clone }
         requires labels { CopiesAreEqual L.is_clone }
@@ -124,9 +132,12 @@ impl<T: Clone, L: NewLabel<T>> Sequence<T, L> {
         })
     }
 
-    /// Lets the items from that number on go. If there are none, it does nothing.
+    /// Drops the items from `len` on, and does nothing if there are none: `list.truncate(alloc, len)?`. It splits the
+    /// list as `split_off` does.
     ///
-    /// It cuts the list as `split_off` does.
+    /// # Errors
+    ///
+    /// `AllocError` if `split_off` would return `Memory`. The items stay as they were.
     pub fn truncate(&mut self, alloc: Global, len: usize) -> Result<(), AllocError>
         requires copies { CopiesAreEqual T.is_clone }
         requires labels { CopiesAreEqual L.is_clone }
@@ -140,10 +151,13 @@ impl<T: Clone, L: NewLabel<T>> Sequence<T, L> {
         Ok(())
     }
 
-    /// Puts the other list in place of the items of these numbers, and gives them.
+    /// Replaces the items at the indices `numbers` by those of `other`, and returns the old ones:
+    /// `let old = list.replace(alloc, 1..4, other)?;`. It takes two `split_off`s and two `append`s, on a clone.
     ///
-    /// It cuts a version of the list twice, as `split_off` does, and appends the parts that stay and the other list. A
-    /// range that ends behind the last item, or before it starts, is refused before all else.
+    /// # Errors
+    ///
+    /// `NoPlace` if the range ends behind the last item or before it starts, whether or not there is memory. `Memory`
+    /// when `clone`, `split_off` or `append` fails. The items stay as they were; `other` is dropped.
     pub fn replace(
         &mut self,
         alloc: Global,
@@ -172,7 +186,7 @@ impl<T: Clone, L: NewLabel<T>> Sequence<T, L> {
         Ok(out)
     }
 
-    // The list of copies of these items, which are few enough for a leaf.
+    // A list of clones of `items`, which fit into one leaf.
     fn of_leaf(alloc: Global, items: &[T]) -> Result<Sequence<T, L>, AllocError>
         requires { CopiesAreEqual T.is_clone }
         ensures { IfOk result (λ list. list ≡ items.now) }
@@ -186,7 +200,7 @@ impl<T: Clone, L: NewLabel<T>> Sequence<T, L> {
         Ok(Sequence { root, len })
     }
 
-    // The list of the items under these children.
+    // A list of the items under `children`, which stay shared.
     fn of_children(alloc: Global, children: &[Child<T, L>]) -> Result<Sequence<T, L>, AllocError>
         requires labels { CopiesAreEqual L.is_clone }
         requires level { AreLevel L.label_of children.now }
@@ -208,7 +222,7 @@ impl<T: Clone, L: NewLabel<T>> Sequence<T, L> {
 }
 
 impl<T: Clone, L: NewLabel<T>> Tree<T, L> {
-    // The list of so many of the first items, and that of the others.
+    // Both parts as new lists: the first `at` items, and the others.
     fn split(
         &self,
         alloc: Global,

@@ -1,4 +1,4 @@
-//! The items of a list whose numbers lie within bounds.
+//! The items whose indices are within bounds.
 ghost use Rattle.std.specs.Prelude.{◌≡◌, min};
 ghost use Rattle.std.specs.Range.Bound.{bound_map};
 ghost use Rattle.sequence.specs.Bounds.{items_within, end_of, start_of};
@@ -9,8 +9,9 @@ use crate::sequence::Sequence;
 use std::ops::{Bound, RangeBounds};
 
 impl<T, L: Label<T>> Sequence<T, L> {
-    /// An iterator over the items whose numbers are in the range, as far as there are such items. There are none if the
-    /// range ends before it starts.
+    /// Returns an iterator over the items whose indices are within `numbers`: `list.range(at..end)`. A range that ends
+    /// behind the last item has fewer items, and one that ends before it starts has none. O(1), and O(log n) for the
+    /// first step at each end.
     #[tactic(auto, using(crate::proofs::Lists::Within::within))]
     pub fn range<R: RangeBounds<usize>>(&self, numbers: R) -> Iter<'_, T, L>
         ensures { R.has_bounds numbers
@@ -23,7 +24,7 @@ impl<T, L: Label<T>> Sequence<T, L> {
     }
 }
 
-// The first number from the start on, but no more than that.
+// The first index within the bound, but at most `len`.
 fn first_within(start: Bound<&usize>, len: usize) -> usize
     ensures { result ≡ min (start_of (bound_map (λ number. number.now) start.entry)) len }
 {
@@ -35,7 +36,7 @@ fn first_within(start: Bound<&usize>, len: usize) -> usize
     }
 }
 
-// The first number past the end, but no more than that.
+// The first index past the bound, but at most `len`.
 fn past_within(end: Bound<&usize>, len: usize) -> usize
     ensures { result ≡ min (end_of (bound_map (λ number. number.now) end.entry) len) len }
 {

@@ -6,7 +6,7 @@ use testing::{ok, same};
 
 type Numbers = ArcUnion<u32, u32>;
 
-// It outlives the borrow that it came by.
+// The reference outlives the `ArcBorrow` that it is taken from.
 fn value_of<'a>(handle: &'a Arc<u32>) -> &'a u32 {
     let borrow = handle.borrow_arc();
     borrow.get()

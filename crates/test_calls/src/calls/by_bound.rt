@@ -1,4 +1,4 @@
-//! What a type is asked by a bound alone.
+//! Calls of a type's traits by a bound alone.
 use std::hash::{DefaultHasher, Hash, Hasher};
 
 pub fn are_equal<T: Eq>(x: &T, y: &T) -> bool {

@@ -1,5 +1,5 @@
-//! A command drops the value that it does not keep, and the value that it replaces. Only `Mark` marks a block, whose
-//! value would never be dropped.
+//! A command drops the value that it does not keep, and the value that it replaces. Only `Mark` makes a block static,
+//! whose value would never be dropped.
 use servo_arc::table::Reply::{Done, Empty, Is, NoSlot, Shared};
 use servo_arc::table::{Command, PlainCommand as Plain, Table, UnionCommand as Union, UnionTable};
 use testing::counted::{Counted, Tally};

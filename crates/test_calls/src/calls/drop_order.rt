@@ -1,4 +1,4 @@
-//! In which order the values of a header slice are dropped.
+//! The order in which the values of a header slice are dropped.
 use servo_arc::{Arc, BuildError, UniqueArc};
 use std::alloc::{AllocError, Global};
 use std::process::Abort;
@@ -7,7 +7,7 @@ use std::sync::atomic::Ordering::SeqCst;
 use std::vec::IntoIter;
 use testing::{ok, same_at};
 
-/// How many values were dropped, and how many of them out of their turn.
+/// The number of drops, and of those out of their turn.
 #[derive(Drop)]
 struct Log {
     drops: AtomicU64,
@@ -27,7 +27,7 @@ impl Log {
     }
 }
 
-/// A value whose turn comes after so many drops.
+/// A value that has to be dropped after `turn` others.
 struct Placed<'a> {
     turn: u64,
     log: &'a Log,
@@ -42,7 +42,7 @@ impl Drop for Placed<'_> {
     }
 }
 
-// That many values, of which the builder takes the first ones. The rest is dropped with the iterator, at any time.
+// A number of values, of which the builder takes the first ones. The others are dropped with the iterator, at any time.
 fn source_of<'a>(
     alloc: Global,
     (number, taken): (u64, u64),
@@ -57,7 +57,7 @@ fn source_of<'a>(
     Ok(made.into_iter())
 }
 
-/// How many items are asked for, how many there are or are taken, and the refusal.
+/// The requested number of items, the number that there is, and the error.
 type Row = (usize, u64, Option<BuildError>);
 
 const OVER: Option<BuildError> = Some(BuildError::OverReported);
@@ -78,7 +78,7 @@ static ROWS: &[Row; 11] = &[
     (5000, 5000, None),
 ];
 
-// All that was taken and then the header is dropped, each in its turn, and nothing before the slice is.
+// All items that were taken are dropped in turn, and then the header. Nothing is dropped before the slice.
 fn check<T: Drop>(rt: &impl Abort, row: Row, log: &Log, built: Result<T, BuildError>) {
     let (_, items, refusal) = row;
     let all = items.wrapping_add(1);

@@ -1,4 +1,4 @@
-//! What header slices read, and how they are written before they are shared.
+//! Reading header slices, and writing them before they are shared.
 ghost use Rattle.std.specs.Prelude.{◌≡◌, length};
 
 use crate::calls::by_bound::hash_of;
@@ -26,7 +26,7 @@ fn with_padding(i: u64) -> Padded {
     }
 }
 
-// The header, the length and what the two items have.
+// The header, the length and the fields of the two items.
 fn read(slice: &HeaderSlice<u8, Padded>) -> Option<(u8, usize, u64, u64)> {
     match slice.slice() {
         [first, second] => Some((slice.header, slice.len(), first.i, second.i)),

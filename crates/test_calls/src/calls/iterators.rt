@@ -1,4 +1,4 @@
-//! How often an iterator is asked, and what is built of what it answers.
+//! How often a builder calls the iterator, and what it builds of the items.
 ghost use Rattle.std.specs.Prelude.{◌≤◌};
 
 use servo_arc::{Arc, BuildError, ThinArc, UniqueArc};
@@ -11,8 +11,7 @@ use std::vec::IntoIter;
 use testing::counted::{Counted, Tally};
 use testing::{ok, same, same_at, shared};
 
-// Gives these answers in turn and then only `None`, so that it may go on after a `None`, and counts how often it was
-// asked.
+// Returns these answers in turn and then only `None`, so it can return an item after a `None`. Counts the calls.
 #[derive(Drop)]
 struct Answers<'a, T> {
     left: IntoIter<Option<T>>,
@@ -28,7 +27,7 @@ impl<T: Drop> Iterator for Answers<'_, T> {
     }
 }
 
-/// A number of items, what the iterator answers in turn, what is built, and how often something is asked.
+/// A number of items, the answers of the iterator in turn, the slice or error that is built, and the number of calls.
 type Row<'a, T> = (usize, &'a [Option<T>], Result<&'a [T], BuildError>, u64);
 
 fn source_of<'a, T: Copy>(
@@ -44,7 +43,7 @@ fn source_of<'a, T: Copy>(
 
 type Built<T> = Result<ThinArc<u8, T>, BuildError>;
 
-// How often something was asked begins anew.
+// Resets the number of calls, for the next builder.
 fn check_built<T: Debug + PartialEq + Drop>(
     rt: &impl Abort,
     row: &Row<'_, T>,
@@ -59,7 +58,7 @@ fn check_built<T: Debug + PartialEq + Drop>(
     same_at!(rt, *num_items, asked.swap(0, SeqCst), *asks);
 }
 
-// The row through both makers.
+// Checks a row by both constructors.
 fn check<T: Copy + Debug + PartialEq + Drop>(rt: &(impl Abort + AllocGlobal), row: &Row<'_, T>) {
     let (num_items, answers, ..) = *row;
     let asked = AtomicU64::new(0);
@@ -109,7 +108,7 @@ fn takes_items_without_size(rt: HostRuntime) {
     }
 }
 
-// Gives fewer items than it says that it has, and counts how often it was asked for their number.
+// Claims more items than it yields, and counts the calls of `len`.
 #[derive(Drop)]
 struct Boasting<'a> {
     claimed: usize,
@@ -169,7 +168,8 @@ fn asks_the_iterator_for_the_number_once(rt: HostRuntime) {
     }
 }
 
-// If the iterator ends early or gives an error, what was taken is dropped, then the header, and the iterator too.
+// If the iterator ends early or yields an error, the items that were taken are dropped, then the header, and the
+// iterator too.
 #[test]
 fn drops_what_was_taken_of_results(rt: HostRuntime) {
     let (asked, headers, items) = (AtomicU64::new(0), Tally::new(), Tally::new());

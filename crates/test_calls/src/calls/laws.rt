@@ -1,4 +1,4 @@
-//! The laws, each called once at concrete types.
+//! The lemmas as functions, each called once at concrete types.
 use scripts::laws as script_laws;
 use servo_arc::counting_core::laws as core_laws;
 use servo_arc::shared_count::laws as history_laws;

@@ -1,5 +1,5 @@
-//! Blocks with a limit of their own: each way to make one more handle stops there, and each way that a handle goes
-//! keeps it.
+//! Blocks with a limit of their own: each way to make a handle fails at the limit, and each way to end one keeps the
+//! limit.
 use servo_arc::word::MAX_REFCOUNT;
 use servo_arc::{Arc, BuildError, ThinArc, UniqueArc};
 use std::alloc::{AllocError, Global};
@@ -57,12 +57,12 @@ fn tokens_count_to_the_limit(rt: HostRuntime) {
     same!(&rt, seen, (5, true, 5));
 }
 
-// More than sixteen bits can count, as the greatest of the limits is.
+// More than 16 bits can count, as is the greatest of the limits.
 const MANY: usize = 70_000;
 
 const LIMITS: [u64; 4] = [1, 2, 3, 65_537];
 
-/// How many handles there are when one more is refused, if they are fewer than `MANY`.
+/// Returns the number of handles at which the next `clone` fails, or `MANY`.
 fn counted<H: Clone + Drop>(alloc: Global, first: &H) -> Result<usize, AllocError> {
     let mut others = Vec::with_capacity(alloc, MANY)?;
     for handles in 1..MANY {
@@ -84,7 +84,7 @@ fn limited(rt: &(impl Abort + AllocGlobal), limit: u64) -> Arc<u64> {
     ok!(rt, Arc::new_with_limit(rt.alloc(), 5, limit))
 }
 
-// The other handle has the block. At a limit of 1 there is none, and the block is written in place.
+// The other handle keeps the block. At a limit of 1 there is no other handle, and the block is written in place.
 fn copied(alloc: Global, made: Result<Arc<u64>, u64>) -> Option<Arc<u64>> {
     let handle = made.ok()?;
     let _other = handle.clone().ok();
@@ -99,7 +99,7 @@ fn check_made<T: Drop>(rt: &(impl Abort + AllocGlobal), made: Vec<Option<Arc<T>>
     }
 }
 
-/// The only handle of a block, once something was done with it.
+/// Returns the only handle of a block, once for each call that keeps the limit.
 fn by_each_way(rt: &(impl Abort + AllocGlobal), limit: u64) -> Vec<Option<Arc<u64>>> {
     let alloc = rt.alloc();
     let unique = Arc::into_unique(limited(rt, limit));
@@ -164,7 +164,7 @@ fn built_otherwise(alloc: Global) -> Result<Vec<Option<ThinArc<u64, u64>>>, Allo
     ]?)
 }
 
-// So far as handles can be counted in a test, no other maker has a limit.
+// As far as a test can count handles, no other constructor sets a limit.
 #[test]
 fn other_makers_have_the_greatest_limit(rt: HostRuntime) {
     check_made(&rt, ok!(&rt, made_otherwise(rt.alloc())), MANY);

@@ -1,4 +1,5 @@
-//! Calls of tokens, unique handles, unwritten blocks and two makers, and what handles have by their values, each once.
+//! Calls of raw handles, unique handles, unwritten blocks and two constructors, and the traits that handles forward to
+//! their values, each once.
 use crate::made::{arc_of, check_debug};
 use servo_arc::{Arc, UniqueArc};
 use std::alloc::AllocError;
@@ -50,7 +51,7 @@ fn an_unwritten_block_drops_no_value(rt: HostRuntime) {
     same!(&rt, (unwritten, written, tally.drops()), (0, (2, 0), 1));
 }
 
-// Whether two handles of one block are equal, and whether a unique one equals itself.
+// Whether two handles of one block are equal, and whether a unique handle equals itself.
 fn equals_itself<T: PartialEq + Drop>(rt: &(impl Abort + AllocGlobal), value: T) -> [bool; 2] {
     let a = arc_of(rt, value);
     let b = again!(rt, &a);

@@ -1,4 +1,4 @@
-//! What versions read, which pages they share, and the texts.
+//! The items that versions (snapshots) of a `CowTable` read, the pages that they share, and their texts.
 ghost use Rattle.std.specs.Prelude.{◌<◌};
 
 use crate::made::{check_debug, check_display};
@@ -12,7 +12,7 @@ fn table_of(alloc: Global, items: &[u32], page_len: usize) -> Result<CowTable<u3
     CowTable::from_items(alloc, items.to_vec(alloc)?, page_len)
 }
 
-// By each of the ways to read.
+// Compares all ways to read with the items.
 fn reads(table: &CowTable<u32>, items: &[u32]) -> bool {
     let are_right = [
         table.first() == items.first(),
@@ -29,7 +29,7 @@ pub fn shared_pages<T>(a: &CowTable<T>, b: &CowTable<T>) -> [bool; 4] {
     [0, 1, 2, 3].map(|p: usize| CowTable::page_ptr_eq(a, b, p))
 }
 
-// What a version sets, beside another one of the same items.
+// One `set` on a version, beside another version of the same items.
 struct Row {
     items: &'static [u32],
     page_len: usize,
@@ -37,7 +37,7 @@ struct Row {
     value: u32,
     set: Result<(), SetError>,
     new_items: &'static [u32],
-    // Before and after.
+    // The pages that both share, before and after.
     shared: [[bool; 4]; 2],
 }
 
@@ -71,7 +71,7 @@ const ROWS: [Row; 3] = [
     },
 ];
 
-// Neither version has a place past its items.
+// Neither version has an item at its length.
 #[test]
 fn a_version_changes_alone(rt: HostRuntime) {
     let no_place = Err(SetError::NoPlace);

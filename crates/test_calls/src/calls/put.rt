@@ -1,4 +1,4 @@
-//! Handles that are made outside and put into a table.
+//! Handles that are made outside of a table and then put into it.
 use servo_arc::table::Reply::{Done, Is};
 use servo_arc::table::{PlainCommand, Table};
 use servo_arc::{Arc, HeaderSlice, ThinArc};

@@ -1,4 +1,4 @@
-//! Equal values in different blocks are told apart, and handles of one block are not.
+//! `ptr_eq` distinguishes equal values in different blocks, and not handles of one block.
 use crate::made::arc_of;
 use servo_arc::{Arc, ArcUnion};
 use std::process::Abort;

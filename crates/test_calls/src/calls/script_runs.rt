@@ -1,5 +1,5 @@
-//! Scripts of `arcbench`: rows of them, and readers and writers that fail. What a line may be, and large scripts, are
-//! asked of the built program by `gate/program.sh`.
+//! Scripts of `arcbench`: rows of them, and readers and writers that fail. `gate/program.sh` tests the built program
+//! for the form of lines and for large scripts.
 
 mod failing_io;
 mod fakes;

@@ -1,4 +1,4 @@
-//! How many items are copied and dropped, alone and shared.
+//! How many items of a `CowTable` are copied and dropped, with and without a second version (snapshot).
 ghost use Rattle.std.specs.Prelude.{◌<◌};
 
 use crate::calls::page_rows::shared_pages;
@@ -7,7 +7,7 @@ use std::process::Abort;
 use testing::counted::{Counted, Tally, counted_items};
 use testing::{again, ok, same, same_at};
 
-/// Items 0, 1 and so on, in pages of that length.
+/// Creates a table of the items 0, 1 and so on, with pages of that length.
 fn counted_table<'a>(
     rt: &(impl Abort + AllocGlobal),
     tally: &'a Tally,
@@ -20,7 +20,7 @@ fn counted_table<'a>(
     ok!(rt, CowTable::from_items(rt.alloc(), items, page_len))
 }
 
-// Sets an item at each place in turn. The number beside each place is the number of copies made by then.
+// Sets an item at each index in turn. The number beside an index is the number of copies by then.
 fn check_sets<'a>(
     rt: &(impl Abort + AllocGlobal),
     tally: &'a Tally,
@@ -33,7 +33,7 @@ fn check_sets<'a>(
     }
 }
 
-// A version that is gone shares nothing.
+// A version that was dropped shares nothing.
 #[test]
 fn a_lone_version_copies_nothing(rt: HostRuntime) {
     let tally = Tally::new();
@@ -60,7 +60,7 @@ fn a_shared_version_copies_a_page_once(rt: HostRuntime) {
     same!(&rt, (tally.copies(), tally.drops()), (5, 5 + 5 + 7));
 }
 
-// Pages are as long as was asked for, and only the one that is written is copied.
+// Pages have the requested length, and only the page that is written is copied.
 #[test]
 fn a_long_page_is_copied_whole(rt: HostRuntime) {
     let tally = Tally::new();

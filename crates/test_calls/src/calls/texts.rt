@@ -1,4 +1,4 @@
-//! The printed texts.
+//! The texts of `Debug` and `Display`.
 use crate::made::{arc_of, check_debug};
 use cow_table::CowTable;
 use servo_arc::{Arc, ArcUnion, BuildError, StaticArc, ThinStr, UniqueArc};
@@ -14,7 +14,7 @@ fn check_display<T: Display>(rt: &(impl Abort + AllocGlobal), value: &T, text: &
     same!(rt, ok!(rt, found).as_str(), text);
 }
 
-// The value is printed with the width and on the lines that are asked for.
+// The width and the line breaks of a format reach the value.
 fn check_flags<T: Debug>(rt: &(impl Abort + AllocGlobal), value: &T, text: &str) {
     let found = format!(in rt.alloc(); "{value:5?} {value:#?}");
     same!(rt, ok!(rt, found).as_str(), text);

@@ -17,22 +17,22 @@ enum Call {
     Read,
     IsUnique,
     IsStatic,
-    // Whether both handles are of one block.
+    // Whether both handles have one block.
     PtrEq,
     Mark,
-    // Whether it lends the value. If so, that number is written.
+    // Whether the value is lent. If so, the number is written.
     GetMut(u64),
-    // The number that the value has. Then that one is written.
+    // The old value. Then the number is written.
     MakeMut(u64),
-    // Whether it gives a unique handle. If so, that number is written, and the handle is shared again.
+    // Whether the handle becomes unique. If so, the number is written, and the handle is shared again.
     IntoUnique(u64),
     // The value, which is then dropped.
     IntoInner,
-    // The value, which is then dropped; the handle stays if it does not give it.
+    // The value, which is then dropped. The handle stays if it is not the only one.
     TryUnwrap,
     // The value or a copy of it, which is then dropped.
     UnwrapOrClone,
-    // Whether `find_static` finds the mark.
+    // Whether `find_static` finds the block static.
     FindStatic,
     // The value of the handle, which then is static.
     IntoStatic,

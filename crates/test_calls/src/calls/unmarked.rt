@@ -1,5 +1,5 @@
-//! A call that only asks, compares or prints does not mark the block. The value of a marked block is never dropped, and
-//! no handle of it is ever alone.
+//! A call that only reads, compares or prints does not make the block static. The value of a static block is never
+//! dropped, and no handle of it is ever unique.
 use crate::calls::by_bound::hash_of;
 use crate::made::arc_of;
 use cow_table::CowTable;
@@ -33,7 +33,7 @@ fn a_handle_is_asked(rt: HostRuntime) {
 
 type Numbers = ArcUnion<u32, u32>;
 
-// The handle of a union, which is first asked for a handle of the other type and comes back.
+// Takes the handle out of a union, after a call for the other type has returned the union.
 fn taken_out(union: Numbers) -> Option<Arc<u32>> {
     match union.is_first() {
         true => union.into_second().err()?.into_first().ok(),
@@ -62,7 +62,7 @@ fn a_union_is_asked(rt: HostRuntime) {
     }
 }
 
-// A page that was marked would stay, with its handle of the value.
+// A page that a call made static would never be freed, nor would its handle of the value.
 #[test]
 fn a_table_is_asked(rt: HostRuntime) {
     let a = arc_of(&rt, 7u32);

@@ -1,4 +1,4 @@
-//! The plan of a clone, at the words on both sides of its rule.
+//! The decision of a clone, at the words on both sides of each rule.
 use servo_arc::word::{ClonePlan, MARK, MAX_REFCOUNT, plan_clone};
 use testing::same;
 

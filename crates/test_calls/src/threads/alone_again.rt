@@ -1,5 +1,5 @@
-//! A handle asks whether it is alone while another thread drops the other handle of its block. It is not before, and is
-//! once the other is gone. Between these both answers are possible.
+//! A handle asks whether it is unique while another thread drops the other handle of its block. It is not unique before
+//! the drop, and is afterwards. In between both answers are possible.
 use crate::made::arc_of;
 use crate::threads::waiting::{MOST_TURNS, have_come, wait_for};
 use servo_arc::{Arc, UniqueArc};
@@ -11,7 +11,7 @@ use testing::{again, holds_at};
 
 const ROUNDS: u64 = 1000;
 
-// Steps, one after the other, of the thread that asks and of the one that drops.
+// The two threads take turns: one has asked, and the other has dropped its handle.
 const ASKED: u64 = 1;
 
 const GONE: u64 = 2;
@@ -65,7 +65,7 @@ fn write_once_unique(rt: &impl Abort, steps: &AtomicU64, handle: Arc<u64>) -> bo
     }
 }
 
-// By either way in turn.
+// The rounds use `get_mut` and `into_unique` in turn.
 #[test]
 fn a_handle_writes_once_the_other_is_gone(rt: HostRuntime) {
     for round in 0..2 * ROUNDS {

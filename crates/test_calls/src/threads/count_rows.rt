@@ -1,4 +1,4 @@
-//! The worked rows of the shared count, in one thread.
+//! The worked rows of the shared count, on one thread.
 ghost use Rattle.std.specs.Prelude.{◌≡◌};
 
 use self::Call::{Mark, Owned, Static, Unique};
@@ -25,7 +25,7 @@ const ENDED: Call = Call::End(EndReply::Ended);
 
 const LAST: Call = Call::End(EndReply::Last);
 
-/// A pass, and the count that it is of.
+/// A capability, with the count that it belongs to.
 #[derive(Drop)]
 struct Caller<'a> {
     count: &'a SharedCount,
@@ -40,7 +40,7 @@ impl<'a> Caller<'a> {
         Caller { count, pass }
     }
 
-    /// The call with the answer that it gets, or none if the pass owns no handle.
+    /// Returns the call with the answer that it gets, or `None` if the capability owns no handle.
     fn answered(&mut self, call: Call) -> Option<Call> {
         let owned = self.pass.owned();
         if owned == 0 || owned == u64::MAX {
@@ -86,15 +86,15 @@ fn check(rt: &impl Abort, mut p: Caller<'_>, mut q: Caller<'_>, (name, rows): &R
 /// A name, and calls of two passes.
 type Rows = (&'static str, &'static [Row]);
 
-/// Calls of the two passes of one count.
+/// Calls of the two capabilities of one count.
 static TOGETHER: &[Rows; 2] = &[
     turns!["two passes see each other in the replies";
         P Unique(false); Q ENDED; P Unique(true); P BORN; P Unique(false); P Mark; P Static(true); P ENDED; P ENDED],
-    // A clone that raised from the word of `is_unique` would be overtaken here.
+    // A clone that used the count which `is_unique` had read would be `Overtaken` here.
     turns!["a clone reads the word anew"; P Unique(false); Q ENDED; P BORN; P Owned(2); P ENDED; P LAST],
 ];
 
-/// Calls of two passes, each the only one of its count.
+/// Calls of two capabilities, each the only one of its count.
 const APART: &[Rows; 3] = &[
     turns!["a pass alone is unique and ends last";
         P Owned(1); P BORN; P Owned(2); P ENDED; P Unique(true); P LAST; P Owned(0)],

@@ -11,7 +11,7 @@ use testing::{ok, same};
 
 const TURNS: u32 = 10_000;
 
-// What a thread was answered.
+// The numbers of replies of each kind that a thread got.
 #[derive(Clone, Copy)]
 struct Replies {
     born: u64,
@@ -29,7 +29,7 @@ fn end_one(count: &SharedCount, pass: &mut CountPass, replies: &mut Replies)
     }
 }
 
-// Clones and ends, often, and at last ends the pass's own handle.
+// Clones and ends many times, and at last ends the capability's own handle.
 fn churn(
     rt: &impl Abort,
     count: &SharedCount,

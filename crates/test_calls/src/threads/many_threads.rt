@@ -7,7 +7,7 @@ use testing::{again, holds, ok, same};
 
 const TRIES: u64 = 250_000;
 
-// How many clones of the trait are refused, as they may be while others clone, or none if one reads another value.
+// The number of `clone`s that fail, as they may while others clone, or `None` if a clone reads another value.
 fn count_refused(handle: &Arc<u64>) -> Option<u64> {
     let mut refused = 0u64;
     for _ in 0..TRIES {
@@ -20,8 +20,8 @@ fn count_refused(handle: &Arc<u64>) -> Option<u64> {
     Some(refused)
 }
 
-// A clone is refused after 64 lost raises, which four threads that only clone hardly ever bring about. After 4 of them
-// more than one in a hundred would be refused if the threads run at once.
+// A `clone` fails after 64 failed compare-exchanges in a row, which four threads that only clone hardly ever cause.
+// With 4 in place of 64, more than one in a hundred would fail if the threads run at once.
 #[test]
 fn four_threads_are_seldom_refused(rt: HostRuntime) {
     let a = arc_of(&rt, 7u64);
@@ -69,7 +69,7 @@ fn a_header_slice_of_two_threads_is_dropped_once(rt: HostRuntime) {
     same!(&rt, drops, (1, 1, 1));
 }
 
-// A token that may be moved to a thread: a closure holds only what may be dropped.
+// A raw handle that can be moved to a thread: a closure holds only values that may be dropped.
 struct Parcel<'a> {
     raw: RawArc<Counted<'a>>,
 }
@@ -108,7 +108,7 @@ fn a_token_is_spent_on_another_thread(rt: HostRuntime) {
 
 const HANDLES: u64 = 100_000;
 
-// Makes and drops counted handles. Each of them has to read right.
+// Makes and drops counted handles, each of which has to read the value.
 fn make_and_drop(kept: StaticArc<'_, Counted<'_>>) -> bool {
     (0..HANDLES).all(|_: u64| kept.arc().value == 5)
 }

@@ -1,4 +1,4 @@
-//! Threads that share one block. Each is joined. If two should act at the same moment, each looks for the other before.
+//! Threads that share one block. Each is joined. Threads that should act at the same moment wait for each other first.
 use crate::made::{arc_of, both, two_of};
 use crate::threads::many_threads::clone_and_drop;
 use crate::threads::waiting::arrive;

@@ -1,7 +1,7 @@
-//! How often `ptr_eq` errs while other threads ask the same of these blocks, as it may. Each figure is printed. That
-//! two blocks are taken for one has a bound: with one sign in place of two, a fifth to a half of all answers was wrong.
-//! One block may be taken for two in most calls, if the threads keep in step, so that has none. Once the other threads
-//! are gone the answers are right again.
+//! How often `ptr_eq` is wrong while other threads compare the same blocks, as its contract allows. Each figure is
+//! printed. The number of times that two blocks are taken for one has a bound: with one stamp in place of two, a fifth
+//! to a half of all answers was wrong. One block may be taken for two in most calls if the threads keep in step, so
+//! that number has no bound. Once the other threads have ended the answers are right again.
 use crate::made::arc_of;
 use servo_arc::Arc;
 use std::thread::{Threads, join};
@@ -9,7 +9,7 @@ use testing::{again, holds, ok, same};
 
 const CALLS: u64 = 25_000;
 
-// Whether two threads keep in step differs from round to round, and the worst one is printed.
+// Whether two threads keep in step differs from round to round, so the worst round is printed.
 const ROUNDS: u64 = 20;
 
 type Pair<'a> = (&'a Arc<u64>, &'a Arc<u64>);
@@ -24,7 +24,7 @@ fn count(answer: bool, pair: Pair<'_>) -> u64 {
     answers
 }
 
-// How often two threads at once get that answer.
+// The greatest number of such answers that two threads get at once in a round.
 fn count_most<R: Threads + Sync>(rt: &R, answer: bool, one: Pair<'_>, other: Pair<'_>) -> u64 {
     let mut most = 0u64;
     for _ in 0..ROUNDS {

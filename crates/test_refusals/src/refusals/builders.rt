@@ -1,4 +1,4 @@
-//! What a builder of header slices leaves.
+//! What a failed builder of header slices leaves.
 use crate::refusals::reporting::report;
 use servo_arc::{Arc, BuildError, HeaderSlice, ThinStr, UniqueArc};
 use std::alloc::Global;
@@ -9,7 +9,7 @@ use std::sync::atomic::Ordering::SeqCst;
 use testing::counted::{Counted, Tally, counted_items};
 use testing::{ok, same, same_at, shared};
 
-// What was asked of an iterator, and what was dropped.
+// The number of calls of an iterator, and the numbers of drops.
 #[derive(Drop)]
 struct Ledger {
     asks: AtomicU64,
@@ -40,7 +40,7 @@ impl Ledger {
         }
     }
 
-    // How often the iterator was asked, and how many headers and items were dropped.
+    // The number of calls of the iterator, and the number of dropped headers and items.
     fn asks_and_drops(&self) -> [u64; 3] {
         let asks = self.asks.load(SeqCst);
         [asks, self.headers.drops(), self.items.drops()]
@@ -122,7 +122,7 @@ fn build<'a>(builder: Builder, alloc: Global, ledger: &'a Ledger, len: usize) ->
     }
 }
 
-// A header and the items of a marked slice are never dropped.
+// The header and the items of a static slice are never dropped.
 fn check_builder(rt: &(impl Abort + Print + AllocGlobal), builder: Builder, len: usize) {
     let ledger = Ledger::new();
     let number = len as u64;
@@ -157,7 +157,7 @@ fn a_refused_builder_asks_for_nothing(rt: HostRuntime) {
     }
 }
 
-// Whether a header slice is made of a slice, a text or a vector.
+// Whether a slice, a text or a vector becomes a header slice.
 fn is_made<'a>(list: &str, alloc: Global, header: Counted<'a>, items: Vec<Counted<'a>>) -> bool {
     match list {
         "Slice" => Arc::from_header_and_slice(alloc, header, &[7u64; 3]).is_ok(),

@@ -1,10 +1,10 @@
-//! What a header slice of clones leaves, when one of the clones is refused too.
+//! What a failed header slice of clones leaves: any of the clones may fail.
 use crate::refusals::reporting::report;
 use servo_arc::Arc;
 use testing::counted::{Counted, Tally};
 use testing::{ok, same};
 
-// Each clone takes memory, which is freed again.
+// Each clone allocates, and is freed again.
 #[test]
 fn a_refused_clone_drops_those_before_it(rt: HostRuntime) {
     let (alloc, tally) = (rt.alloc(), Tally::new());

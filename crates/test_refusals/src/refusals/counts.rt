@@ -1,4 +1,4 @@
-//! What a shared count that could not be opened leaves.
+//! What a shared count leaves that failed to open.
 use crate::refusals::reporting::report;
 use servo_arc::shared_count::{EndReply, TryClone};
 use testing::holds;

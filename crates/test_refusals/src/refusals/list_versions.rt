@@ -1,4 +1,4 @@
-//! What a call on versions of a list leaves.
+//! What a failed call on versions (snapshots) of a `CowTable` leaves.
 use crate::refusals::reporting::report;
 use cow_table::{CowTable, SetError};
 use std::alloc::{AllocError, Global};
@@ -32,7 +32,7 @@ fn reads<T: PartialEq>(table: &CowTable<T>, items: &[T]) -> bool {
     table.len() == items.len() && (0..items.len()).all(|i| table.get(i) == items.get(i))
 }
 
-// What the version reads that was set, and which pages both share.
+// The items of the version that was set, and the pages that both versions share.
 fn check_set(
     rt: &impl Abort,
     (a, b): (&CowTable<u32>, &CowTable<u32>),
@@ -60,7 +60,7 @@ fn a_refused_set_leaves_both_versions(rt: HostRuntime) {
     holds!(&rt, reads(&a, &[1, 2, 3, 4, 5]));
 }
 
-// A value whose copy is always refused.
+// A value whose `clone` always fails.
 #[derive(PartialEq, Drop)]
 struct Original(u32);
 

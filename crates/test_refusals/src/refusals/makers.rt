@@ -1,4 +1,4 @@
-//! What a call that makes a handle or copies its value leaves.
+//! What a failed constructor of a handle, or a failed copy of its value, leaves.
 use self::Maker::*;
 use crate::refusals::reporting::report;
 use servo_arc::word::MAX_REFCOUNT;

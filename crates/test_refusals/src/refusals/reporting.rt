@@ -1,4 +1,4 @@
-//! What a run came to. `gate/refused_memory.sh` gathers what all runs report.
+//! Reports the outcome of a run. `gate/refused_memory.sh` gathers the reports of all runs.
 use std::io::Print;
 use std::process::Abort;
 use testing::ok;

@@ -1,4 +1,4 @@
-//! What a call on a stack drops.
+//! The items that a failed call on a stack drops.
 use crate::refusals::reporting::report;
 use maps::Stack;
 use std::io::Print;
@@ -6,7 +6,7 @@ use std::process::Abort;
 use testing::counted::{Counted, Tally};
 use testing::same;
 
-// Makes, turns and lengthens a stack of these items.
+// Creates, reverses and lengthens a stack of these items.
 fn make_stacks<'a>(
     rt: &(impl Abort + AllocGlobal + Print),
     items: Vec<Counted<'a>>,

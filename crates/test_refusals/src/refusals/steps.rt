@@ -1,4 +1,4 @@
-//! What a call on the core leaves, and a run of steps.
+//! What a failed call on the core, or a failed run of steps, leaves.
 use crate::refusals::reporting::report;
 use servo_arc::counting_core::{Answer, Core, Step};
 use servo_arc::word::MAX_REFCOUNT;
@@ -35,7 +35,7 @@ const STEPS: [Step<u32>; 5] = [
     Step::Quit { owner: 1 },
 ];
 
-// After a run that was refused the room of its answers nothing has happened, so all of it still can.
+// If there is no memory for the answers, no step is made, so that all of them still can be.
 #[test]
 fn one_refusal_in_a_run(rt: HostRuntime) {
     let Ok(mut core) = Core::new(rt.alloc(), 5u32, 2, MAX_REFCOUNT) else {

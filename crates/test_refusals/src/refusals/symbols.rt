@@ -1,11 +1,11 @@
-//! What an interner of header slices and a map of interned keys leave.
+//! What a failed call on an interner of header slices, or on a map of interned keys, leaves.
 use crate::refusals::reporting::report;
 use interner::{InternError, InternMap, Interner};
 use servo_arc::{Arc, HeaderSlice};
 use testing::counted::{Counted, Tally};
 use testing::{ok, same};
 
-// After a refusal nothing is there, and the same call ends well.
+// After the error the slice is not interned, and the same call succeeds.
 #[test]
 fn a_refused_slice_can_be_interned_again(rt: HostRuntime) {
     let mut slices = Interner::<HeaderSlice<u8, u8>>::new(rt.alloc());
@@ -18,7 +18,7 @@ fn a_refused_slice_can_be_interned_again(rt: HostRuntime) {
     same!(&rt, (symbol.index(), slices.len()), (0, 1));
 }
 
-// A refused value is dropped, and so is one whose key is there already.
+// After the error the value is dropped, as is one whose key is interned already.
 #[test]
 fn a_refused_key_is_not_there(rt: HostRuntime) {
     let (tally, mut map) = (Tally::new(), InternMap::new(rt.alloc()));

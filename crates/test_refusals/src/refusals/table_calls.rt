@@ -1,4 +1,4 @@
-//! What a call on a table of handles, or on one of unions, leaves.
+//! What a failed call on a table of handles, or on one of unions, leaves.
 use crate::refusals::reporting::report;
 use servo_arc::ArcUnionBorrow;
 use servo_arc::table::{Command, PlainCommand, Reply, Table};
@@ -74,7 +74,7 @@ fn one_refusal_in_a_plain_run(rt: HostRuntime) {
     ok!(&rt, println!(rt; "{:?}", slots_of(&table)));
 }
 
-// Whether the slot's handle is a first, and its value.
+// Whether the slot has a first handle, and its value.
 fn union_of(table: &UnionTable<u32, u32>, i: usize) -> Option<(bool, u32)> {
     match table.get(i)? {
         ArcUnionBorrow::First(a) => Some((true, *a)),
@@ -97,7 +97,7 @@ fn one_refusal_on_unions(rt: HostRuntime) {
     ok!(&rt, println!(rt; "{slots:?}"));
 }
 
-// Each value ends, also that of a command that was refused.
+// Each value is dropped, also that of a command that failed.
 #[test]
 fn a_refused_command_drops_its_value(rt: HostRuntime) {
     let (alloc, tally) = (rt.alloc(), Tally::new());

@@ -1,4 +1,4 @@
-//! A sequence is changed as a vector is.
+//! A sequence changes as a vector does.
 use sequence::Sequence;
 use std::alloc::{AllocError, Global};
 use testing::counted::{Counted, Tally, counted_items};
@@ -12,8 +12,8 @@ fn sequence_of<'a>(
     Sequence::from_items(alloc, counted_items(alloc, tally, len).ok_or(AllocError)?)
 }
 
-// What each of them makes is said by its clauses, and that it succeeds is not, nor what it copies: `replace` the leaf
-// of six, `swap` the leaf and an item, `retain` each item, and `truncate` none.
+// The contracts say what each call makes, but not that it succeeds, nor what it copies: `replace` the leaf of six,
+// `swap` the leaf and an item, `retain` each item, and `truncate` none.
 #[test]
 fn a_sequence_is_changed_as_a_vector_is(rt: HostRuntime) {
     let (alloc, tally) = (rt.alloc(), Tally::new());

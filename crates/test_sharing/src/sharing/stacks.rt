@@ -1,5 +1,5 @@
-//! Which stacks share their first node, that their items end, and how they are printed; the end of a long one. A drop
-//! of each node inside the one before would overflow the stack of its thread.
+//! Which stacks share their first node, that their items are dropped, how stacks are printed, and the drop of a long
+//! stack: a recursive drop would overflow the call stack.
 use crate::made::{arc_of, ask, check_debug};
 use maps::Stack;
 use sequence::Sequence;
@@ -33,7 +33,7 @@ fn stacks_are_told_apart(rt: HostRuntime) {
     check_debug(&rt, &longer, text);
 }
 
-// A node that is marked when it is read would never end.
+// A node that a read made static would never be dropped.
 #[test]
 fn items_end_with_their_stack(rt: HostRuntime) {
     let (alloc, handle) = (rt.alloc(), arc_of(&rt, 7u64));
@@ -81,7 +81,7 @@ fn long_stack<'a>(rt: &(impl Abort + AllocGlobal), tally: &'a Tally) -> Stack<Co
 
 const MOST_TURNS: u64 = 100_000_000;
 
-// Ends the version once all four have come.
+// Drops the version once all four threads have arrived.
 fn end(rt: &impl Abort, here: &AtomicU64, stack: Stack<Counted<'_>>) {
     here.fetch_add(1, SeqCst);
     for turn in 0..=MOST_TURNS {
@@ -93,7 +93,7 @@ fn end(rt: &impl Abort, here: &AtomicU64, stack: Stack<Counted<'_>>) {
     drop(stack);
 }
 
-// Whichever thread ends its version last has to end the nodes, and none knows that before.
+// The thread that drops its version last has to drop the nodes, and no thread knows that before.
 #[test]
 fn four_threads_end_one_long_stack(rt: HostRuntime) {
     for _ in 0..ROUNDS {

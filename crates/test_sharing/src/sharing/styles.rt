@@ -1,4 +1,4 @@
-//! What styles share that `cascade` computed, for elements of four kinds in turn.
+//! The parts that styles computed by `cascade` share, for elements of four kinds in turn.
 use cascade::{
     Declaration, Element, Initial, Inline, Rule, Source, Style, StyleCache, declared_by,
     shared_style, styles, styles_in_four, styles_in_two,
@@ -51,7 +51,7 @@ fn with_one(number: usize, is_one: bool) -> usize {
     number.wrapping_add(usize::from(is_one))
 }
 
-/// How many styles, fonts and borders are in the blocks of the first of their kind.
+/// Returns the numbers of styles, fonts and borders that are in the block of the first one of their kind.
 fn shared(styles: &[Arc<Style>]) -> (usize, usize, usize) {
     let (mut whole, mut fonts, mut borders) = (0, 0, 0);
     for (i, style) in styles.iter().enumerate() {

@@ -1,4 +1,4 @@
-//! What an interner keeps and ends, and its texts.
+//! The blocks that an interner keeps and drops, and its texts.
 ghost use Rattle.std.specs.Prelude.{◌≡◌};
 
 use crate::made::check_display;
@@ -46,8 +46,8 @@ fn check_numbers<S: BuildHasher + Drop>(
     }
 }
 
-// A new color gets the next number, and one that was there has the number that it had: also under random keys, and
-// where all have one hash.
+// A new color gets the next index, and a color that was interned before has its old index, also under random keys, and
+// if all colors have one hash.
 #[test]
 fn a_color_keeps_its_number_under_each_hasher(rt: HostRuntime) {
     let hasher = ok!(&rt, RandomState::new(&rt));

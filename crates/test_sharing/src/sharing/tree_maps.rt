@@ -1,4 +1,4 @@
-//! Maps whose keys are handles: which of two equal keys is given, that each ends, and that text finds them.
+//! Maps whose keys are handles: which of two equal keys is kept, that each is dropped, and that text finds them.
 use crate::made::{arc_of, ask};
 use maps::TreeMap;
 use servo_arc::Arc;
@@ -7,7 +7,7 @@ use std::ops::Bound;
 use std::process::Abort;
 use testing::{again, holds, ok, same};
 
-// More than a leaf has room for.
+// More keys than a leaf has room for.
 fn handles(rt: &(impl Abort + AllocGlobal)) -> Vec<Arc<u64>> {
     let mut handles = Vec::new(rt.alloc());
     for value in 0..200 {
@@ -16,7 +16,7 @@ fn handles(rt: &(impl Abort + AllocGlobal)) -> Vec<Arc<u64>> {
     handles
 }
 
-// A key of both maps is given as the older one has it.
+// `diff` returns a key of both maps as the older map has it.
 fn compare(rt: &(impl Abort + AllocGlobal), map: &TreeMap<Arc<u64>, Arc<u64>>) {
     let key = arc_of(rt, 7);
     let newer = ok!(rt, vec![in rt.alloc(); (again!(rt, &key), arc_of(rt, 8))]);

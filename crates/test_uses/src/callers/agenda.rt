@@ -1,4 +1,4 @@
-//! An agenda, whose appointments come in any order.
+//! An agenda, to which appointments are added in any order.
 use crate::made::arc_of;
 use std::process::Abort;
 use testing::{ok, same};

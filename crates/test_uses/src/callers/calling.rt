@@ -1,4 +1,4 @@
-//! The callers of the documentation, called: what they share, and on which threads.
+//! The callers of the documentation, called: what they share, and on which threads they run.
 use crate::made::arc_of;
 use cow_table::CowTable;
 use interner::Interner;
@@ -69,7 +69,7 @@ fn a_place_is_set_and_noted(rt: HostRuntime) {
     same!(&rt, places.len(), 1);
 }
 
-// A reader keeps the version that it took.
+// A reader keeps the version (snapshot) that it took.
 #[test]
 fn limits_are_replaced(rt: HostRuntime) {
     let limits = RwLock::new(arc_of(&rt, Limits { low: 1, high: 2 }));

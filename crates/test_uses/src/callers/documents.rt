@@ -1,4 +1,4 @@
-//! A document whose edits are undone, and how a tree ends.
+//! A document whose edits are undone, and the drop of a deep tree.
 use crate::made::arc_of;
 use cascade::{Declaration, Element, Initial, Inline, StyleCache};
 use rose_undo::{Rose, Undo};
@@ -33,7 +33,7 @@ fn large(rt: &(impl Abort + AllocGlobal)) -> Edit {
     Edit::Restyle(arc_of(rt, Inline { declarations }))
 }
 
-// What each of them comes to is said by its clauses, and that it succeeds if memory is ample is not.
+// The contracts say what each edit returns, but not that it succeeds while there is memory.
 #[test]
 fn edits_are_undone_and_done_again(rt: HostRuntime) {
     let alloc = rt.alloc();
@@ -94,7 +94,7 @@ fn a_deep_tree_ends_on_a_small_stack(rt: HostRuntime) {
     ok!(&rt, small.spawn(&rt, move || tree.end(alloc))).join(&rt);
 }
 
-// What another version has stays, and each value ends with its last tree.
+// Nodes that another version (snapshot) shares stay, and each value is dropped with its last tree.
 #[test]
 fn an_end_leaves_what_others_share(rt: HostRuntime) {
     let tally = Tally::new();

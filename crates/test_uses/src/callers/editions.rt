@@ -1,4 +1,4 @@
-//! Editions that a thread publishes and others read, each of which is joined.
+//! Editions that one thread publishes and others read. Each thread is joined.
 use cow_table::CowTable;
 use crossbeam_channel::unbounded;
 use std::thread;

@@ -1,4 +1,4 @@
-//! Types that hold themselves: what they derive, and their versions.
+//! Types that hold themselves: what they derive, and their versions (snapshots).
 use crate::made::arc_of;
 use servo_arc::Arc;
 use std::cmp::Ordering;

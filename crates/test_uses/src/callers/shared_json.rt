@@ -1,4 +1,4 @@
-//! JSON values: what no clause says of them.
+//! JSON values: what no contract says of them.
 use crate::made::arc_of;
 use servo_arc::Arc;
 use std::process::Abort;
@@ -37,7 +37,7 @@ fn values_are_compared(rt: HostRuntime) {
     }
 }
 
-// A text, the levels that are allowed, and what is refused: nothing, the levels or the syntax.
+// A text, the number of levels that are allowed, and the reason of an error: none, the levels or the syntax.
 static READ: [(&str, usize, u8); 12] = [
     ("[[1]]", 2, 0),
     ("[[1]]", 1, 1),
@@ -72,7 +72,7 @@ fn texts_are_refused_by_name(rt: HostRuntime) {
     same!(&rt, refusal(&rt, deep.as_str(), 200), 2);
 }
 
-// Whether the path leads to one list in both.
+// Whether the path leads to one list in both values.
 fn shares(old: &Value, new: &Value, path: &[Step]) -> bool {
     match (old.at(path), new.at(path)) {
         (Some(Value::List(old)), Some(Value::List(new))) => Arc::ptr_eq(old, new),

@@ -1,9 +1,9 @@
-//! Ways back through an `Arc`.
+//! Types that hold themselves through an `Arc`.
 use servo_arc::{Arc, ThinArc};
 use std::collections::BTreeMap;
 
-/// As of each chain here, the derived drop is a recursion, for which a long one needs much stack. The `Stack` of
-/// `maps` ends its nodes by a loop.
+/// A linked list. As for each chain here, the derived `drop` is a recursion, so a long one needs a deep call stack. The
+/// `Stack` of `maps` drops its nodes in a loop.
 #[derive(Drop, Debug, Clone, PartialEq, Eq, PartialOrd, Ord, Hash)]
 pub struct Node {
     pub value: u32,
@@ -86,14 +86,14 @@ pub struct Second {
     pub first: Option<Arc<First>>,
 }
 
-/// In place of a union that leads back by both of its types.
+/// Stands in for a union that holds itself by both of its types.
 #[derive(Drop)]
 pub enum EitherWay {
     Left(u32, Option<Arc<EitherWay>>),
     Right(Option<Arc<EitherWay>>),
 }
 
-/// In place of a header that leads back.
+/// Stands in for a header that holds the slice itself.
 #[derive(Drop)]
 pub struct BesideHeader {
     pub above: Option<Arc<BesideHeader>>,

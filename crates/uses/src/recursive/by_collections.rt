@@ -1,4 +1,4 @@
-//! Ways back through collections: the toolchain's behind an `Arc`, a `ThinArc` and a `CowTable`.
+//! Types that hold themselves through collections: the toolchain's behind an `Arc`, a `ThinArc` and a `CowTable`.
 ghost use Rattle.std.specs.Prelude.{◌≡◌, OnOk, Some};
 ghost use Rattle.std.specs.BTreeMap.{get};
 ghost use Rattle.std.specs.Ordering.{nat_cmp};
@@ -8,7 +8,7 @@ use servo_arc::{Arc, ThinArc};
 use std::alloc::{AllocError, Global};
 use std::collections::BTreeMap;
 
-/// A value that may hold values, whose versions share its lists and maps.
+/// A value that may hold values. Its versions (snapshots) share their lists and maps.
 #[derive(Drop, Debug, Clone, PartialEq, Eq, PartialOrd, Ord, Hash)]
 pub enum Value {
     Null,
@@ -17,7 +17,7 @@ pub enum Value {
     Map(Arc<BTreeMap<u64, Value>>),
 }
 
-/// Puts an item under a key, in place if no other version has the map. Other versions keep theirs.
+/// Inserts an item under a key, in place if no other version shares the map. Other versions keep theirs.
 pub fn insert(
     map: &mut Arc<BTreeMap<u64, Value>>,
     alloc: Global,

@@ -1,7 +1,7 @@
-//! Ways back through the other handles.
+//! Types that hold themselves through the other handles.
 use servo_arc::{Arc, ArcBorrow, ArcUnion, RawArc, ThinArc, UniqueArc};
 
-/// As of each chain here, the derived drop is a recursion, for which a long one needs much stack.
+/// A linked list. As for each chain here, the derived `drop` is a recursion, so a long one needs a deep call stack.
 #[derive(Drop, Debug, PartialEq, Eq)]
 pub struct Unique {
     pub value: u32,
@@ -14,7 +14,7 @@ pub struct ArcInUnique {
     pub next: Option<UniqueArc<Arc<ArcInUnique>>>,
 }
 
-/// A token ends by `Arc::from_raw` alone, so this type cannot be dropped.
+/// A chain of raw handles. Only `Arc::from_raw` consumes a raw handle, so this type cannot be dropped.
 pub struct Token {
     pub value: u32,
     pub next: Option<RawArc<Token>>,

@@ -1,5 +1,5 @@
-//! Ways back through a `StaticArc`, which stands as a reference does: for good, for a lifetime, in a generic type,
-//! through a list, and in a circle of two types.
+//! Types that hold themselves through a `StaticArc`, as through a reference: for `'static`, for a lifetime, in a
+//! generic type, through a list, and in a cycle of two types.
 ghost use Rattle.std.specs.Prelude.{◌≡◌, IfOk, Some};
 ghost use Rattle.servo_arc.specs.Stays.{value_of};
 ghost use Rattle.uses.specs.declared.recursive.by_static.Linked.{out-Linked};
@@ -19,7 +19,7 @@ pub struct Named<'a> {
     pub next: Option<StaticArc<'a, Named<'a>>>,
 }
 
-/// The toolchain proves no derived `Debug` or `==` of this one, as it does where an `Arc` leads back.
+/// Has no derived `Debug` or `==`: the toolchain proves these for a type that holds itself by an `Arc`, and not here.
 #[derive(Drop)]
 pub struct StaticGeneric<'a, T> {
     pub value: T,
@@ -46,7 +46,7 @@ pub struct StaticSecond {
     pub first: Option<StaticArc<'static, StaticFirst>>,
 }
 
-/// One more node in front.
+/// Creates a node in front of another one.
 pub fn in_front(
     alloc: Global,
     value: u32,

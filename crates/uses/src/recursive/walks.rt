@@ -1,5 +1,5 @@
-//! Walks over recursive types that have no model. A clause reads one level of such a value by `out-Node`, and the whole
-//! by a fold.
+//! Recursive functions over types without a model. A contract reads one level of such a value by `out-Node`, and the
+//! whole value by a fold.
 ghost use Rattle.std.specs.Prelude.{◌≡◌, ◌∷◌, [], ◌<◌, ◌^◌, length, Some, IfOk};
 ghost use Rattle.uses.specs.Walks.{borrowed_values, first_headers, holds, token_values, union_values};
 ghost use Rattle.uses.specs.Walks.{unique_values, values, with_last};
@@ -10,7 +10,7 @@ use super::by_other_handles::{Borrowing, FirstOfUnion, HeaderTree, Token, Unique
 use servo_arc::{Arc, ArcUnionBorrow};
 use std::alloc::{AllocError, Global};
 
-/// A node in front of another, which is shared.
+/// Creates a node in front of `next`, which stays shared.
 pub fn push(alloc: Global, value: u32, next: &Arc<Node>) -> Result<Arc<Node>, AllocError>
     ensures level { IfOk result (λ node. (out-Node node).next ≡ Some next.now) }
     ensures whole { IfOk result (λ node. values node ≡ value ∷ values next.now) }
@@ -19,7 +19,7 @@ pub fn push(alloc: Global, value: u32, next: &Arc<Node>) -> Result<Arc<Node>, Al
     Ok(Arc::try_new(alloc, Node { value, next })?)
 }
 
-/// The number of values from this node on.
+/// Returns the number of nodes from this one on.
 pub fn len(node: &Node) -> usize
     requires { length (values node.now) < 2 ^ 64 }
     ensures { result ≡ length (values node.now) }
@@ -30,7 +30,7 @@ pub fn len(node: &Node) -> usize
     }
 }
 
-/// Whether the key is in the tree, wherever.
+/// Returns `true` if the key is anywhere in the tree.
 pub fn contains(tree: &Tree, key: u32) -> bool
     ensures { result ≡ holds key tree.now }
 {
@@ -48,7 +48,7 @@ pub fn contains(tree: &Tree, key: u32) -> bool
     }
 }
 
-/// Writes the last value.
+/// Sets the last value.
 pub fn set_last(unique: &mut Unique, value: u32)
     ensures { unique_values unique.new ≡ with_last value (unique_values unique.old) }
 {
@@ -58,7 +58,7 @@ pub fn set_last(unique: &mut Unique, value: u32)
     }
 }
 
-/// The number of headers from this tree down, by the first kid of each.
+/// Returns the number of headers from this tree down, by the first child of each.
 pub fn first_depth(tree: &HeaderTree) -> usize
     requires { length (first_headers tree.now) < 2 ^ 64 }
     ensures { result ≡ length (first_headers tree.now) }
@@ -69,7 +69,7 @@ pub fn first_depth(tree: &HeaderTree) -> usize
     }
 }
 
-/// The number of values from this token on.
+/// Returns the number of values from this raw handle on.
 pub fn token_len(token: &Token) -> usize
     requires { length (token_values token.now) < 2 ^ 64 }
     ensures { result ≡ length (token_values token.now) }
@@ -80,7 +80,7 @@ pub fn token_len(token: &Token) -> usize
     }
 }
 
-/// The number of values on the way, with the number that it ends with.
+/// Returns the number of values on the path, with the number at its end.
 pub fn union_len(union: &FirstOfUnion) -> usize
     requires { length (union_values union.now) < 2 ^ 64 }
     ensures { result ≡ length (union_values union.now) }
@@ -91,7 +91,7 @@ pub fn union_len(union: &FirstOfUnion) -> usize
     }
 }
 
-/// The number of values on the way through borrows.
+/// Returns the number of values on the path through borrows.
 pub fn borrowed_len(borrowing: &Borrowing<'_>) -> usize
     requires { length (borrowed_values borrowing.now) < 2 ^ 64 }
     ensures { result ≡ length (borrowed_values borrowing.now) }

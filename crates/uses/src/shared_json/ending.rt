@@ -1,15 +1,14 @@
-//! The end of a deep value.
+//! Dropping a deep value.
 use super::Value;
 use servo_arc::Arc;
 use std::alloc::Global;
 
 impl Value {
-    /// Drops the value in a loop, level by level, so that a deep value takes no more stack than a flat one. Lists and
-    /// objects that other versions have stay.
+    /// Drops the value in a loop, level by level, so that a deep value needs no deeper call stack than a flat one.
+    /// Lists and objects that another version (snapshot) shares stay.
     ///
-    /// It requests memory for a list of what is left. If that is refused, what was to be put there is dropped as any
-    /// value is, by a recursion. A `drop` written by hand could do so too, but then no `match` could move a part of a
-    /// value out.
+    /// The work list needs memory. If there is none, the values that were to be listed are dropped by recursion, as any
+    /// value is. A `drop` written by hand could loop too, but then no `match` could move a part out of a value.
     pub fn end(self, alloc: Global) {
         let mut left = Vec::new(alloc);
         let _ = left.push(self);
@@ -19,7 +18,7 @@ impl Value {
         }
     }
 
-    // Takes the value apart, and puts what was in it alone to what is left.
+    // Takes the value apart, and lists the parts that nothing else shares.
     fn end_one(self, left: &mut Vec<Value>) {
         match self {
             Value::List(items) => {

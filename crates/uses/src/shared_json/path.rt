@@ -1,4 +1,4 @@
-//! What a path leads to, read and written.
+//! Reading and writing the value at the end of a path.
 ghost use Rattle.std.specs.Prelude.{◌≡◌, ◌↔◌, Err, IsSome, None, OnErr, OnOk, Some, option_map, option_and_then};
 ghost use Rattle.serde_json.specs.Find.{get_item, get_member};
 ghost use Rattle.serde_json.specs.Data.{array, object};
@@ -15,14 +15,14 @@ use std::collections::BTreeMap;
 /// A step down a path.
 #[derive(Drop, Debug, PartialEq, Eq)]
 pub enum Step {
-    /// To the item of that number.
+    /// To the item at that index.
     Item(usize),
-    /// To the member of that name.
+    /// To the member with that name.
     Member(Arc<String>),
 }
 
 impl Value {
-    /// What the path leads to, in O(log n) for each object of n members on it.
+    /// Returns the value at the end of the path, or `None`. O(log n) for each object of n members on the path.
     pub fn at(&self, path: &[Step]) -> Option<&Value>
         ensures { option_map (λ v. view v.now) result ≡ at path.now (view self.now) }
     {
@@ -47,7 +47,11 @@ impl Value {
         }
     }
 
-    /// Puts another value in place of what the path leads to.
+    /// Replaces the value at the end of the path.
+    ///
+    /// # Errors
+    ///
+    /// `NoPlace` if there is none, and `Memory`. The value reads as before.
     pub fn set(&mut self, alloc: Global, path: &[Step], value: Value) -> Result<(), PlaceError>
         ensures set { OnOk result
             (Some (view self.new) ≡ with_at path.now (view value) (view self.old)) }

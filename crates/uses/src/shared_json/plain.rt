@@ -1,4 +1,4 @@
-//! Between a shared value and one of `serde_json`.
+//! Conversion from and to the values of `serde_json`.
 ghost use Rattle.std.specs.Prelude.{◌≡◌, IfOk};
 ghost use Rattle.serde_json.specs.View as plain;
 ghost use Rattle.uses.specs.Json.{items_view, members_view, view};
@@ -10,9 +10,12 @@ use std::alloc::{AllocError, Global};
 use std::collections::BTreeMap;
 
 impl Value {
-    /// The value with each list, object and text behind a handle, in O(n log n). The texts are moved.
+    /// Converts a value of `serde_json`, and puts each list, object and text behind a handle. O(n log n); texts are
+    /// moved.
     ///
-    /// It fails if there is no memory, and the value is then dropped.
+    /// # Errors
+    ///
+    /// `AllocError` if there is no memory. The value is then dropped.
     #[cycle(from_plain)]
     pub fn from_plain(alloc: Global, value: Plain) -> Result<Value, AllocError>
         ensures { IfOk result (λ v. view v ≡ plain.view value) }
@@ -33,9 +36,11 @@ impl Value {
         }
     }
 
-    /// The value as `serde_json` has it, in O(n log n), with a copy of each text.
+    /// Converts the value to one of `serde_json`, with a copy of each text. O(n log n).
     ///
-    /// It fails if there is no memory.
+    /// # Errors
+    ///
+    /// `AllocError` if there is no memory.
     #[cycle(to_plain)]
     pub fn to_plain(&self, alloc: Global) -> Result<Plain, AllocError>
         ensures { IfOk result (λ v. plain.view v ≡ view self.now) }

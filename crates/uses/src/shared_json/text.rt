@@ -1,4 +1,4 @@
-//! From text and to text.
+//! Reading from text and writing to text.
 ghost use Rattle.std.specs.Prelude.{◌≡◌, ◌≤◌, ◌↔◌, IfErr, IfOk, IsTrue, OnOk, Some, false, string_bytes};
 ghost use Rattle.json.specs.Lex.{tokens};
 ghost use Rattle.serde_json.specs.Data.{depth};
@@ -13,7 +13,7 @@ use serde_json::{Category, Error as Fault, Value as Plain};
 use std::alloc::{AllocError, Global};
 use thiserror::Error;
 
-/// Why a text was not read.
+/// The reason why a text was not read.
 #[derive(Debug, Drop, Error)]
 pub enum ParseError {
     #[error("more lists and objects inside one another than allowed")]
@@ -25,11 +25,13 @@ pub enum ParseError {
 }
 
 impl Value {
-    /// The value that the text is, in O(n log n) for n bytes. The text is read twice, and its value is first that of
-    /// `serde_json`, whose lists and objects are freed as the shared ones are made.
+    /// Parses a text. O(n log n) for n bytes: the text is read twice, first to a value of `serde_json`, whose lists and
+    /// objects are freed as the shared ones are made.
     ///
-    /// It fails with `TooDeep` if more than `levels` lists and objects stand inside one another, and with `Syntax` if
-    /// the text is no JSON or nests more than 127 levels, which `serde_json` does not read.
+    /// # Errors
+    ///
+    /// `TooDeep` if more than `levels` lists and objects are nested. `Syntax` if the text is no JSON, or nests more
+    /// than 127 levels, which `serde_json` does not read.
     pub fn parse(alloc: Global, text: &str, levels: usize) -> Result<Value, ParseError>
         ensures parsed { IfOk result (λ v. read text.now ≡ Some (view v)) }
         ensures within { OnOk result (most_open 0 (tokens text.now) ≤ levels) }
@@ -47,7 +49,7 @@ impl Value {
         }
     }
 
-    /// The text of the value, with no space, in O(n). A copy of the value with all its texts is made first.
+    /// Returns the value as text without spaces. O(n), by a copy of the value with all its texts.
     pub fn to_text(&self, alloc: Global) -> Result<String, AllocError>
         ensures text { IfOk result (λ s. has_float (view self.now) ≡ false
             → string_bytes s ≡ compact_text (view self.now)) }
@@ -58,7 +60,7 @@ impl Value {
     }
 }
 
-// Whether at most so many lists and objects of the text are open at once.
+// Returns `true` if at most `levels` lists and objects of the text are open at once.
 fn is_within(alloc: Global, text: &str, levels: usize) -> Result<bool, AllocError>
     ensures { IfOk result (λ is. IsTrue is ↔ (most_open 0 (tokens text.now) ≤ levels)) }
 {

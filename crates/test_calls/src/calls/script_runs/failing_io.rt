@@ -7,7 +7,7 @@ use std::alloc::Global;
 use std::process::Abort;
 use testing::{ok, same, same_at};
 
-/// What runs a script, the script and its answers.
+/// A program, a script of it and the answers.
 static SHORT: &[(&str, &str, &str); 2] = &[
     ("core", "unique 0 0\nload 0 0\n", "is true\nvalue 5\n"),
     ("table", "new 0 5\nget 0\n", "done\nvalue 5\n"),
@@ -31,8 +31,8 @@ fn reports_input_that_cannot_be_read(rt: HostRuntime) {
     }
 }
 
-/// A script, what it prints, the status, and how many writes that takes. Each write and then a flush fails in turn, and
-/// then none does.
+/// The program, a script, its answers, the status, and the number of writes. Each write and then a flush fails in turn,
+/// and then none does.
 type Failures<'a> = (&'a str, &'a str, &'a str, u8, usize);
 
 fn check_failures(rt: &(impl Abort + AllocGlobal), row: Failures<'_>) {

@@ -1,4 +1,4 @@
-//! Readers and writers that fail.
+//! Readers and writers that fail at a chosen call.
 ghost use Rattle.std.specs.Prelude.{None};
 ghost use Rattle.std.specs.Io.{ReadsAtMost, WritesAtMost};
 ghost use Rattle.std.specs.Io.KnownBytes.{ReadConsumes};

@@ -1,4 +1,4 @@
-//! Worked scripts of steps and of commands, each line with its answer, and input and words that are refused.
+//! Worked scripts of steps and of commands, each line with its answer, and input and arguments that are rejected.
 use super::runs::run_from;
 use std::process::Abort;
 use testing::{ok, same};
@@ -129,7 +129,7 @@ fn push_line(rt: &impl Abort, text: &mut String, line: &str) {
     ok!(rt, text.push('\n'));
 }
 
-/// The lines of a script and those of its answers, of steps that are separated by ` / `.
+/// Splits steps at ` / ` into the lines of a script and the lines of its answers.
 fn parted(rt: &(impl Abort + AllocGlobal), steps: &str) -> (String, String) {
     let (mut script, mut answers) = (String::new(rt.alloc()), String::new(rt.alloc()));
     for steps in steps.lines() {
@@ -163,7 +163,7 @@ fn answers_each_line(rt: HostRuntime) {
     same!(&rt, ROWS.split("\n\n").count(), 35);
 }
 
-/// Input that is not all good lines, what it prints, and the status.
+/// Input with a bad line, its output, and the status.
 static BYTES: &[(&[u8], &[u8], u8); 10] = &[
     (b"", b"", 0),
     (b"unique 0 0", b"is true\n", 0),

@@ -6,7 +6,7 @@
 # --write it writes that file, for you to judge.
 set -u
 cd "$(dirname "$(readlink -f -- "$0")")/.." || exit
-program=crates/test_refusals/out/test_refusals_tests outcomes=crates/test_refusals/outcomes.txt
+outcomes=crates/test_refusals/outcomes.txt
 folder=$(mktemp -d)
 trap 'rm -rf "$folder"' EXIT
 
@@ -33,11 +33,19 @@ outcomes_of() {
     echo "$name: the requests did not end"
 }
 
-tests=$("$program" --list | sed -n 's/^\(refusals::.*\): test$/\1/p')
+# The tests of `refusals` that a crate has.
+outcomes_of_tests() {
+    local name program=crates/$1/out/$1_tests
+    for name in $("$program" --list | sed -n 's/^\(refusals::.*\): test$/\1/p'); do
+        outcomes_of "$name" /dev/null "$program" "$name"
+    done
+}
+
 printf '%s\n' 'lend 0 0 1' 'clone 1 0' 'raise 1' 'raise 1' 'quit 1' >"$folder/steps"
 printf '%s\n' 'new 0 5' 'clone 0 1' 'makemut 0 9' 'own 1' 'get 0' 'get 1' >"$folder/commands"
 {
-    for name in $tests; do outcomes_of "$name" /dev/null "$program" "$name"; done
+    outcomes_of_tests test_refusals
+    outcomes_of_tests test_uses
     outcomes_of 'arcbench core' "$folder/steps" crates/arcbench/out/arcbench core 2
     outcomes_of 'arcbench table' "$folder/commands" crates/arcbench/out/arcbench table 2
     gate/versions.py --refused

@@ -2,7 +2,7 @@
 use sequence::Sequence;
 use std::alloc::{AllocError, Global};
 use testing::counted::{Counted, Tally, counted_items};
-use testing::{ok, same};
+use testing::{ok, same, same_at};
 
 fn sequence_of<'a>(
     alloc: Global,
@@ -39,4 +39,18 @@ fn a_sequence_is_changed_as_a_vector_is(rt: HostRuntime) {
     list.clear();
     let left = (list.len(), tally.copies(), tally.living(9));
     same!(&rt, left, (0, 19, 3));
+}
+
+// A leaf has room for 128 numbers of 8 bytes, and one more begins a second leaf under a branch.
+static DEPTHS: [(usize, Option<u8>); 4] = [(0, None), (1, Some(1)), (128, Some(1)), (129, Some(2))];
+
+#[test]
+fn a_leaf_of_numbers_is_wide(rt: HostRuntime) {
+    for (len, expected) in &DEPTHS {
+        let mut list = Sequence::new();
+        for number in 0..*len {
+            ok!(&rt, list.push(rt.alloc(), number));
+        }
+        same_at!(&rt, *len, list.tree().map(|tree| tree.depth()), *expected);
+    }
 }

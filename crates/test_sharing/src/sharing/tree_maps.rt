@@ -64,6 +64,37 @@ fn keys_and_values_end_with_their_map(rt: HostRuntime) {
     holds!(&rt, handles.iter().all(|handle| handle.is_unique()));
 }
 
+type Handles = TreeMap<Arc<u64>, Arc<u64>>;
+
+fn map_of(rt: &(impl Abort + AllocGlobal), handles: &[Arc<u64>]) -> Handles {
+    let mut map = TreeMap::new();
+    for handle in handles {
+        let (key, value) = (again!(rt, handle), again!(rt, handle));
+        drop(ok!(rt, map.insert(rt.alloc(), key, value)));
+    }
+    map
+}
+
+// What a pop, a cut or a join of maps takes out, leaves and drops ends once.
+#[test]
+fn keys_end_by_pops_and_cuts(rt: HostRuntime) {
+    let (alloc, handles) = (rt.alloc(), handles(&rt));
+    let mut map = map_of(&rt, &handles);
+    let old = again!(&rt, &map);
+    for _ in 0..70 {
+        drop(ok!(&rt, map.pop_first(alloc)));
+        drop(ok!(&rt, map.pop_last(alloc)));
+    }
+    let high = ok!(&rt, map.split_off(alloc, &handles[100]));
+    let both = ok!(&rt, old.intersection(alloc, &high));
+    let rest = ok!(&rt, old.difference(alloc, &high));
+    let joined = ok!(&rt, high.union(alloc, &map));
+    let lens = [map.len(), high.len(), both.len(), rest.len(), joined.len()];
+    same!(&rt, lens, [30, 30, 30, 170, 60]);
+    drop((map, old, high, both, rest, joined));
+    holds!(&rt, handles.iter().all(|handle| handle.is_unique()));
+}
+
 fn by_name(alloc: Global) -> Result<TreeMap<Arc<String>, u32>, AllocError> {
     let mut map = TreeMap::new();
     for (name, value) in [("ash", 1), ("elm", 2), ("oak", 3)] {

@@ -6,7 +6,7 @@ use servo_arc::Arc;
 use std::process::Abort;
 use std::thread::Builder;
 use testing::counted::{Counted, Tally};
-use testing::{ok, same};
+use testing::{again, ok, same};
 use uses::buffer;
 use uses::documents::{Edit, Part, apply, styles, with_part};
 
@@ -55,6 +55,37 @@ fn edits_are_undone_and_done_again(rt: HostRuntime) {
     let mut cache = ok!(&rt, StyleCache::new(alloc, ok!(&rt, Initial::new(alloc))));
     let styles = ok!(&rt, styles(&mut cache, alloc, document.current()));
     same!(&rt, styles.len(), 3);
+}
+
+// Each name ends with the last version that has it.
+#[test]
+fn names_end_with_their_document(rt: HostRuntime) {
+    let (alloc, names) = (
+        rt.alloc(),
+        ["page", "body", "head"].map(|text| name(&rt, text)),
+    );
+    let [page, body, head] = &names;
+    let element = ok!(&rt, Element::of_rules(alloc, Vec::new(alloc)));
+    let name = again!(&rt, page);
+    let root = ok!(&rt, Rose::leaf(alloc, Part { name, element }));
+    let mut document = Undo::new(alloc, root);
+    ok!(
+        &rt,
+        apply(&mut document, alloc, &[], Edit::Rename(again!(&rt, body)))
+    );
+    ok!(
+        &rt,
+        apply(&mut document, alloc, &[], Edit::Rename(again!(&rt, head)))
+    );
+    ok!(&rt, document.undo().map_err(|_| ()));
+    let kept = [page.is_unique(), body.is_unique(), head.is_unique()];
+    drop(document);
+    same!(&rt, kept, [false; 3]);
+    same!(
+        &rt,
+        [page.is_unique(), body.is_unique(), head.is_unique()],
+        [true; 3]
+    );
 }
 
 #[test]

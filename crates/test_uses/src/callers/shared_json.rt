@@ -1,11 +1,16 @@
 //! JSON values: what no contract says of them.
 use crate::made::arc_of;
 use servo_arc::Arc;
+use std::collections::BTreeMap;
 use std::process::Abort;
+use std::thread::Builder;
 use testing::{again, ok, same, same_at};
 use uses::shared_json::Value;
 use uses::shared_json::path::Step;
 use uses::shared_json::text::ParseError;
+
+// In bytes.
+const SMALL_STACK: usize = 0x4_0000;
 
 fn parsed(rt: &(impl Abort + AllocGlobal), text: &str) -> Value {
     ok!(rt, Value::parse(rt.alloc(), text, 127))
@@ -95,4 +100,78 @@ fn an_edit_shares_all_else(rt: HostRuntime) {
         true
     );
     same!(&rt, shares(&old, &new, &[member(&rt, "b")]), true);
+}
+
+static SCALARS: [&str; 8] = [
+    "null",
+    "true",
+    "-70",
+    "1.5e3",
+    "\"\"",
+    "\"a\\u00e9\\n\\\"\"",
+    "[]",
+    "{}",
+];
+
+static NAMES: [&str; 4] = ["", "a", "b", "\\\u{1}"];
+
+// Puts a scalar, or a list or an object of the last values, behind the values.
+fn grow(rt: &(impl Abort + AllocGlobal), values: &mut Vec<Value>, random: usize) {
+    let scalar = parsed(rt, SCALARS[random % 8]);
+    let value = match random / 8 % 3 {
+        0 => scalar,
+        1 => {
+            let mut items = ok!(rt, vec![in rt.alloc(); scalar]);
+            if let Some(last) = values.pop() {
+                ok!(rt, items.push(last));
+            }
+            Value::List(arc_of(rt, items))
+        }
+        _ => object(rt, values, random / 24 % 4),
+    };
+    ok!(rt, values.push(value));
+}
+
+fn object(rt: &(impl Abort + AllocGlobal), values: &mut Vec<Value>, len: usize) -> Value {
+    let mut members = BTreeMap::new(rt.alloc());
+    for name in &NAMES[..len] {
+        let name = arc_of(rt, ok!(rt, String::from_str(rt.alloc(), name)));
+        let value = values.pop().unwrap_or(Value::Null);
+        drop(ok!(rt, members.insert(name, value)));
+    }
+    Value::Map(arc_of(rt, members))
+}
+
+// The next number of a linear congruential generator.
+fn next(number: u64) -> u64 {
+    number
+        .wrapping_mul(6_364_136_223_846_793_005)
+        .wrapping_add(1_442_695_040_888_963_407)
+}
+
+#[test]
+fn random_values_are_read_back(rt: HostRuntime) {
+    let mut random = 1u64;
+    for _ in 0..1_000 {
+        let mut values = Vec::new(rt.alloc());
+        for _ in 0..12 {
+            random = next(random);
+            grow(&rt, &mut values, (random >> 40) as usize);
+        }
+        let value = Value::List(arc_of(&rt, values));
+        let text = ok!(&rt, value.to_text(rt.alloc()));
+        same!(&rt, parsed(&rt, text.as_str()), value);
+    }
+}
+
+#[test]
+fn a_deep_value_ends_on_a_small_stack(rt: HostRuntime) {
+    let alloc = rt.alloc();
+    let mut value = Value::Null;
+    for _ in 0..100_000 {
+        let items = ok!(&rt, vec![in alloc; value]);
+        value = Value::List(arc_of(&rt, items));
+    }
+    let small = Builder::new().stack_size(SMALL_STACK);
+    ok!(&rt, small.spawn(&rt, move || value.end(alloc))).join(&rt);
 }

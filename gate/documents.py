@@ -3,7 +3,7 @@
 
 - each file and heading that a link leads to is there, and if the link's text is code, the file has each of its names;
 - a block of Rust names a file, as ```rust crates/first_example/src/main.rt, in which it stands as it is. One that names
-  none is of docs/DECISIONS.md, and the checker refuses it: gate/elsewhere.sh;
+  none is in docs/LIMITS.md, and gate/elsewhere.sh shows that the checker rejects it;
 - what a command prints on an example, as after `# prints:`, is what the example's expected lines say; a drawing of an
   example, as ```text examples/core/first, has its steps and answers, each in the column of its owner;
 - CONTRIBUTING.md names no file that is not there;
@@ -83,7 +83,7 @@ def wrong_in(document, files):
         if not re.match(r"[a-z]+:", target) and (wrong := wrong_link(document, label, target)):
             yield f"[{label}]({target}): {wrong}"
     for file, quoted in QUOTE.findall(text):
-        source = ROOT / file if file or document.name != "DECISIONS.md" else document
+        source = ROOT / file if file or document.name != "LIMITS.md" else document
         if not source.is_file() or quoted not in source.read_text():
             yield f"not in {file or 'a file that is named'}: {quoted.splitlines()[0]}"
     for name, printed in PRINTS.findall(text):

@@ -2,7 +2,7 @@
 # copy_crates copies crates into another repository as they are here, so what is proved here is proved there. Over an
 # older copy it leaves nothing of that, and all that is the user's own. In the copy the first example prints, unproved,
 # what README says of this toolchain, and the checker lets no handle and no list of a cell, which threads may not share,
-# be lent, moved or sent to a thread. In a third repository it refuses the code of docs/DECISIONS.md.
+# be lent, moved or sent to a thread. In a third repository it rejects the code of docs/LIMITS.md.
 set -uo pipefail
 cd "$(dirname "$(readlink -f -- "$0")")/.." || exit
 root=$PWD tree=$(mktemp -d) passed=0 failed=0
@@ -74,18 +74,18 @@ in_the_copy() {
     cells=$(timeout 600 rt all check --jobs 1 2>&1 | grep -c 'the trait bound `UnsafeCell<u32>: Sync` is not satisfied')
 }
 
-# Each block of code of docs/DECISIONS.md is refused in the words that stand below it there.
+# The checker rejects each block of code of docs/LIMITS.md with the message that is quoted below the block.
 in_a_third_repository() {
     local n refused words=(
-        'what it sends to a thread rests on a bound that is assumed of this thread alone'
         'is another type that refers back to itself, which a way back cannot pass yet'
         'leads back through a type parameter whose bound has ghost members'
+        'what it sends to a thread rests on a bound that is assumed of this thread alone'
     )
     mkdir -p "$tree"/third/{.git,crates/block{1,2,3}/src} && cd "$tree/third" && cp "$new/HANDLES" .
     printf 'block%s:\n' 1 2 3 >crates.txt
     for n in 1 2 3; do
         awk -v n=$n '/^```rust$/ {++block; on = 1; next} /^```$/ {on = 0} on && block == n' \
-            "$root/docs/DECISIONS.md" | sed '1i #![tactic(auto)]' >crates/block$n/src/lib.rt
+            "$root/docs/LIMITS.md" | sed '1i #![tactic(auto)]' >crates/block$n/src/lib.rt
         refused=$(cd crates/block$n && rt check --jobs 1 2>&1 | grep -cE "^(fn|type) .*${words[n - 1]}")
         holds "the place where block $n of the code is refused" same "$refused" 1
     done

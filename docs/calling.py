@@ -10,7 +10,12 @@ kind with the same clauses share them. Laws, which take nothing and promise what
 calls without a clause stand at the end; a trait's method is told of only if it has clauses of its own.
 
 With --check it writes nothing, and ends with 1 if a block is not up to date, or does not name what it quotes, or if no
-block quotes a crate that docs/TOUR.md names, as in `rose_undo`, or that such a crate names in crates.txt."""
+block quotes a crate that docs/TOUR.md names, as in `rose_undo`, or that such a crate names in crates.txt.
+
+    docs/calling.py            # after a change of a contract
+    docs/calling.py --check    # as ./check does
+"""
+import argparse
 import re
 import sys
 from itertools import chain, groupby
@@ -227,23 +232,25 @@ def toured():
 
 
 def main():
+    parser = argparse.ArgumentParser(description=__doc__, formatter_class=argparse.RawDescriptionHelpFormatter)
+    parser.add_argument("--check", action="store_true", help="write nothing, and compare")
+    checks = parser.parse_args().check
     old, quoted = [], set()
     for page in sorted(CRATES.glob("*/CALLING.md")):
         text = page.read_text()
         new = BLOCK.sub(lambda block: "\n".join([
             f"```text {block[1]}{block[2] or ''}", *calls(block[1].split(), (block[2] or ":")[1:].split()), "```"
         ]), text)
-        if "--check" not in sys.argv:
+        if not checks:
             page.write_text(new)
         elif new != text or not all(map(HEAD.fullmatch, re.findall("^```(.*)", text, re.M)[::2])):
             old.append(f"{page.parent.name}/CALLING.md: a block is not that of the source")
         quoted.update(chain.from_iterable(block[1].split() for block in BLOCK.finditer(text)))
-    if "--check" in sys.argv:
+    if checks:
         old += [f"{folder}: no CALLING.md quotes its calls" for folder in toured() if folder not in quoted]
         print(f"contracts: {len(old)} blocks not as the source has them", flush=True)
     sys.exit("\n".join(old) or None)
 
 
-if sys.argv[1:] not in ([], ["--check"]):
-    sys.exit(__doc__)
-main()
+if __name__ == "__main__":
+    main()

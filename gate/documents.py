@@ -12,7 +12,10 @@
 - bench/measured.tsv has each goal of bench/goals.tsv once and no other, with the verdict that follows from its figures,
   and so have the calls of maps and sequences;
 - each public function is called, as gate/called.py finds.
+
+    gate/documents.py
 """
+import argparse
 import csv
 import re
 import runpy
@@ -189,6 +192,7 @@ def wrong_verdicts():
 
 
 def main():
+    argparse.ArgumentParser(description=__doc__, formatter_class=argparse.RawDescriptionHelpFormatter).parse_args()
     listed = subprocess.run(["git", "ls-files"], cwd=ROOT, capture_output=True, text=True, check=True)
     files = listed.stdout.split()
     documents = [name for name in files if name.endswith(".md")]

@@ -1,9 +1,10 @@
 #!/usr/bin/env bash
-# copy_crates copies crates into another repository as they are here, so what is proved here is proved there. Over an
-# older copy it leaves nothing of that, and all that is the user's own. In the copy the first example prints, unproved,
-# what README says of this toolchain, and the checker lets no handle and no list of a cell, which threads may not share,
-# be lent, moved or sent to a thread. In a third repository it rejects the code of docs/LIMITS.md.
+# Copies crates into other repositories by copy_crates, and checks that it copies them unchanged, replaces an older
+# copy completely, and keeps the user's own files. In a copy the first example prints, unproved, what README says.
+# There the checker rejects each place that lends, moves or sends a handle or a list of a `Cell`, which threads may not
+# share. In a third repository it still rejects the code that docs/LIMITS.md quotes.
 set -uo pipefail
+. "$(dirname "$(readlink -f -- "$0")")/help.sh"
 cd "$(dirname "$(readlink -f -- "$0")")/.." || exit
 root=$PWD tree=$(mktemp -d) passed=0 failed=0
 trap 'rm -rf "$tree"' EXIT
@@ -57,7 +58,8 @@ refused() {
 what_is_refused() {
     ln -s "$home" "$tree/link"
     holds "no folder" refused 'copy_crates FOLDER *'
-    holds "a word with a dash for the folder" refused 'copy_crates FOLDER *' --help
+    holds "--help" same "$("$home/copy_crates" --help | sed -n '$s/:.* servo_arc .*/:/p')" "The crates are:"
+    holds "a word with a dash for the folder" refused 'copy_crates FOLDER *' --other
     holds "a word with a dash for a crate" refused 'copy_crates FOLDER *' "$tree/none" uses -x
     holds "crates that are not here" refused 'no crate no, other; there are: * servo_arc *' "$tree/none" no uses other
     holds "a copy onto itself" refused '.: the crates there are *: uses servo_arc *' . uses

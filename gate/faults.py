@@ -1,10 +1,13 @@
 #!/usr/bin/env python3
-"""faults.py FOLDER [CRATE..]: which wrong bodies no script of a collection tells, and no test of these crates.
+"""faults.py FOLDER [CRATE..]: prints which wrong bodies no script of a collection detects, and no test of these crates.
 
-FOLDER/CRATE/NAME.edit is a fault, written as a mutant is, with one pair of texts. The old text is an expression or ends
-with a semicolon. In a copy of the repository each becomes `if faults::is(N) { new } else { old }`, so that one build
-without proofs has all faults, and a run chooses one. A fault is told if a script prints, ends, or requests memory
-otherwise than without it, or if the address checker stops it; and if a test fails."""
+FOLDER/CRATE/NAME.edit is a fault. It is written as a mutant, with one pair of texts. The old text is an expression or
+ends with a semicolon. In a copy of the repository each fault becomes `if faults::is(N) { new } else { old }`, so that
+one build without proofs has all faults, and a run chooses one. A fault is detected if a script prints, ends, or
+requests memory otherwise than without the fault, if the address checker stops the script, or if a test fails.
+
+    gate/faults.py /tmp/faults test_sharing
+"""
 import os
 import re
 import subprocess
@@ -129,4 +132,7 @@ def main():
 
 
 if __name__ == "__main__":
-    sys.exit(main() if sys.argv[1:] else __doc__)
+    if sys.argv[1:] in (["-h"], ["--help"]):
+        print(__doc__)
+        sys.exit()
+    sys.exit(main() if sys.argv[1:] and not sys.argv[1].startswith("-") else __doc__)

@@ -1,6 +1,8 @@
 #!/usr/bin/env bash
-# Asks for 32 GiB or more, a page at a time, in an address space of one, and lets each page go before the next.
+# Allocates and frees 32 GiB or more, one page at a time, in an address space of 1 GB. A page that is not reused after
+# it was freed makes an allocation fail.
 set -uo pipefail
+. "$(dirname "$(readlink -f -- "$0")")/help.sh"
 cd "$(dirname "$(readlink -f -- "$0")")/.." || exit
 ulimit -v 1000000
 count=0

@@ -1,5 +1,5 @@
 """Models of the sequences and maps that `collection_scripts` runs scripts of, written from the heads of its modules:
-plain lists and dicts. A model says what a line is answered, and draws lines for random scripts."""
+plain lists and dicts. A model computes the answer to a line, and draws lines for random scripts."""
 from bisect import bisect_left, bisect_right
 
 # A random script puts in more than it takes out for so many calls, and then the other way round.

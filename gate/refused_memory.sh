@@ -1,10 +1,11 @@
 #!/usr/bin/env bash
-# Refuses each single request for memory in turn: each test of `refusals`, `arcbench` on two scripts, and
-# `collection_scripts` on five, runs with its first request refused, then with its second, until a run meets no refusal.
-# What a run reports, and how many blocks it keeps to its end, is its outcome. Those of all runs have to be just those
-# of crates/test_refusals/outcomes.txt, and each as often as there, so no call makes a request more or less. With
-# --write it writes that file, for you to judge.
+# Makes each single allocation fail in turn. Each test of `refusals`, `arcbench` on two scripts, and
+# `collection_scripts` on five scripts runs with its first allocation refused, then with its second, until no allocation
+# of a run is refused. The outcome of a run is what it prints and how many blocks it leaks. The outcomes of all runs
+# have to be exactly those of crates/test_refusals/outcomes.txt, so an allocation too many or too few is seen. With
+# --write the script writes that file. Review it then.
 set -u
+. "$(dirname "$(readlink -f -- "$0")")/help.sh"
 cd "$(dirname "$(readlink -f -- "$0")")/.." || exit
 program=crates/test_refusals/out/test_refusals_tests outcomes=crates/test_refusals/outcomes.txt
 folder=$(mktemp -d)

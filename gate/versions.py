@@ -1,11 +1,15 @@
 #!/usr/bin/env python3
-"""Runs `collection_scripts` on the scripts of examples/collections, and beside models of its collections on random
-scripts, on long ones that show how many items a call copies, and on a small stack. All items have to end, and no block
-may be kept. It ends at the first script that differs.
+"""Runs `collection_scripts` on the scripts of examples/collections, and compares it with models of its collections on
+random scripts, on long scripts that show how many items a call clones, and on a small stack. All items have to be
+dropped, and no block may leak. It ends at the first script that differs.
 
-With --refused it refuses each request for memory of a few scripts in turn, and prints which call met it. A call that is
-refused has to leave each version as it was.
+With --refused it makes each allocation of a few scripts fail in turn, and prints the call that failed. Such a call has
+to leave each version unchanged.
+
+    gate/versions.py
+    gate/versions.py --refused
 """
+import argparse
 import os
 import random
 import re
@@ -175,10 +179,15 @@ def check_refusals(library, kind):
 
 
 def main():
+    parser = argparse.ArgumentParser(description=__doc__, formatter_class=argparse.RawDescriptionHelpFormatter)
+    parser.add_argument("--refused", action="store_true", help="make each allocation fail in turn")
+    refuses = parser.parse_args().refused
+    if not PROGRAM.exists():
+        sys.exit("versions: run `rt run` in crates/collection_scripts first")
     with tempfile.TemporaryDirectory() as folder:
         library = f"{folder}/memory.so"
         subprocess.run(["cc", "-O2", "-shared", "-fPIC", "-o", library, ROOT / "gate" / "refuse_request.c"], check=True)
-        if sys.argv[1:] == ["--refused"]:
+        if refuses:
             for kind in [*CHANGES, *SCRIPTS]:
                 check_refusals(library, kind)
             return 0

@@ -1,16 +1,17 @@
 #!/usr/bin/env python3
-"""Quotes each public call with its contract from the source, in each block of a crates/NAME/CALLING.md that names
-folders of source and then types, as ```text sequence/src: Sequence Iter. The types come in that order, others after
-them, functions without a type last.
+"""Quotes each public call with its contract from the source, in the blocks of the crates/NAME/CALLING.md. A block
+names folders of source and then types, as ```text sequence/src: Sequence Iter. The types come in that order. Other
+types come after them, and functions without a type come last.
 
-First stand the types that are named or that a call takes or returns: what each derives, its variants or public fields,
-and for each head of an impl the calls and traits that it gives. A trait of these folders counts only if it is named.
-Then come the calls: of each type its makers, then those that read it, clone it, write it and use it up. Calls of one
-kind with the same clauses share them. Laws, which take nothing and promise what their names spell, share a line. The
-calls without a clause stand at the end; a trait's method is told of only if it has clauses of its own.
+A block begins with the types that are named or that a call takes or returns. Of each type it has the derived traits,
+the variants or public fields, and for each head of an impl the calls and traits of that impl. A trait of these folders
+counts only if it is named. Then come the calls of each type: constructors, then calls that read the type, clone it,
+change it and consume it. Calls of one kind with the same clauses share these. Lemmas, which take nothing and whose
+names spell what they promise, share a line, `laws`. Calls without a clause come last. A method of a trait is listed
+only if it has clauses of its own.
 
-With --check it writes nothing, and ends with 1 if a block is not up to date, or does not name what it quotes, or if no
-block quotes a crate that docs/TOUR.md names, as in `rose_undo`, or that such a crate names in crates.txt.
+With --check the script writes nothing. It ends with 1 if a block is not up to date or does not name its source, or if
+no block quotes a crate that docs/TOUR.md names, as in `rose_undo`, or that such a crate names in crates.txt.
 
     docs/calling.py            # after a change of a contract
     docs/calling.py --check    # as ./check does

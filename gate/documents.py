@@ -1,12 +1,12 @@
 #!/usr/bin/env python3
-"""Checks what the documents rest on, and ends with 1 if something is wrong:
+"""Checks the documents against the tree, and ends with 1 if one of these is wrong:
 
-- each file and heading that a link leads to is there, and if the link's text is code, the file has each of its names;
-- a block of Rust names a file, as ```rust crates/first_example/src/main.rt, in which it stands as it is. One that names
-  none is in docs/LIMITS.md, and gate/elsewhere.sh shows that the checker rejects it;
-- what a command prints on an example, as after `# prints:`, is what the example's expected lines say; a drawing of an
+- each link leads to a file and a heading that exist, and if the link's text is code, the file has each of its names;
+- a block of Rust names a file that contains the block, as ```rust crates/first_example/src/main.rt. A block without a
+  name is in docs/LIMITS.md, and gate/elsewhere.sh shows that the checker rejects it;
+- the output of a command on an example, as after `# prints:`, is the expected output of the example; a drawing of an
   example, as ```text examples/core/first, has its steps and answers, each in the column of its owner;
-- CONTRIBUTING.md names no file that is not there;
+- CONTRIBUTING.md names only files that exist;
 - the tables of docs/SPEED.md show each operation of bench/measured.tsv, maps.tsv and sequences.tsv once, with the least
   and the greatest of its figures, except for scripts that meet their goals, and its text has no other ratio;
 - bench/measured.tsv has each goal of bench/goals.tsv once and no other, with the verdict that follows from its figures,

@@ -102,7 +102,7 @@ def kind_of(owner):
 
 
 def use_of(head):
-    """0 for a maker, then 1 to 4 for calls that read, clone, write and use up what they are called on."""
+    """0 for a constructor, then 1 to 4 for calls that read, clone, change and consume their receiver."""
     receiver = RECEIVER.search(head)
     if not receiver:
         return 0
@@ -148,7 +148,7 @@ def as_lines(told):
 
 
 def given(files, kinds, hidden):
-    """For each type and head of its impls the public calls that stand under it, and the traits but for hidden ones."""
+    """For each type and head of its impls the public calls in it, and the traits except the hidden ones."""
     found = {}
     for file in files:
         calls_of = [(owner, re.match(r"\w+", lines[0])[0]) for owner, public, lines in functions(file) if public]
@@ -165,7 +165,7 @@ def given(files, kinds, hidden):
 
 
 def shown_impls(heads):
-    """A line for each head of an impl of a type; traits that a derive would give are told in one line."""
+    """A line for each head of an impl of a type. Traits that a derive would give share one line."""
     derived = []
     for head, (names, traits) in heads.items():
         bounds = re.findall(r"\w+: ([\w +]+)", head)
@@ -223,7 +223,7 @@ def calls(folders, order):
 
 
 def toured():
-    """The source of each crate with public calls that the tour names, and of those that it stands on."""
+    """The source of each crate with public calls that the tour names, and of their dependencies."""
     used = dict(re.findall(r"^(\w+).*?:(.*)", (CRATES.parent / "crates.txt").read_text(), re.M))
     named = set(re.findall(r"\bin `(\w+)`", (CRATES.parent / "docs" / "TOUR.md").read_text())) & used.keys()
     for name in sorted(named.union(*(used[name].split() for name in named)) & used.keys()):

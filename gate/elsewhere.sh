@@ -49,7 +49,7 @@ over_an_older_copy() {
     holds "one's own LICENSE and HANDLES" same "$(cat "$old/HANDLES" "$old/crates/LICENSE")" $'own\nown'
 }
 
-# refused ERRORS WORDS.. : says so, and copies and deletes nothing. The errors are a pattern.
+# refused ERRORS WORDS.. : the copy fails with these errors, a pattern, and copies and deletes nothing.
 refused() {
     (cd "$home" && ./copy_crates "${@:2}" 2>"$tree/errors")
     [[ $? = 1 && $(<"$tree/errors") = $1 && ! -e $tree/none ]] && diff -r "$tree/before" "$home" >&2

@@ -39,12 +39,12 @@ def read_fault(path):
 
 
 def plant(copy, faults):
-    """Puts each fault beside the text that it replaces. Faults of one text stand one in the other's `else`."""
+    """Puts each fault beside the text that it replaces. A second fault of one text is in the `else` of the first."""
     bodies = {}
     for number, path in enumerate(faults, 1):
         file, old, new = read_fault(path)
         if (ROOT / file).read_text().count(old) != 1:
-            sys.exit(f"faults: {path}: the old text does not stand once in {file}")
+            sys.exit(f"faults: {path}: the old text is not exactly once in {file}")
         body = bodies.get((file, old), old)
         bodies[file, old] = f"if faults::is({number}) {{ {new} }} else {{ {body} }}"
     for file in {file for file, _ in bodies}:
@@ -80,7 +80,7 @@ def build(copy, crate, *words):
 
 
 def ran(words, fault, script=None):
-    """How a run ends: its status, and of a script what it prints and what it says of memory."""
+    """How a run ends: its status, and of a script what it prints and what it reports of memory."""
     environment = {"FAULT": str(fault), "PATH": os.environ["PATH"]}
     try:
         run = subprocess.run(words, input=(script or "").encode(), capture_output=True, env=environment,
@@ -91,7 +91,7 @@ def ran(words, fault, script=None):
 
 
 def scripts():
-    """The examples of collections, the scripts whose requests are refused, and random ones."""
+    """The examples of collections, the scripts whose allocations fail in turn, and random scripts."""
     for path in sorted((ROOT / "examples" / "collections").glob("*.stdout")):
         yield path.stem, path.with_suffix("").read_text()
     for kind in (*versions.CHANGES, *versions.SCRIPTS):
@@ -110,7 +110,7 @@ def tests(program):
 
 
 def told_by(program, wanted, tried, fault):
-    """The scripts that tell the fault, or the first test."""
+    """The scripts that detect the fault, or else the first test that does."""
     names = [name for name, (script, run) in wanted.items() if ran([program], fault, script) != run]
     return names or [words[1] for words in tried if ran(words, fault) != 0][:1]
 
@@ -127,8 +127,8 @@ def main():
         untold = 0
         for path, names in zip(faults, told):
             untold += not names
-            print(f"{path.parent.name} {path.stem}: {', '.join(names) or 'told by nothing'}", flush=True)
-    print(f"faults: {untold} of {len(faults)} told by nothing")
+            print(f"{path.parent.name} {path.stem}: {', '.join(names) or 'detected by nothing'}", flush=True)
+    print(f"faults: {untold} of {len(faults)} detected by nothing")
 
 
 if __name__ == "__main__":

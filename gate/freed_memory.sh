@@ -6,10 +6,10 @@ set -uo pipefail
 cd "$(dirname "$(readlink -f -- "$0")")/.." || exit
 ulimit -v 1000000
 count=0
-# freed WORKLOAD TIMES : whether each of so many requests was granted.
+# freed WORKLOAD TIMES : whether each of that many allocations succeeded.
 freed() {
     [[ $(crates/arcspeed/out/arcspeed "$1" "$2") = "$2" ]] && ((++count)) && return
-    echo "freed memory: $1: a page was refused" >&2
+    echo "freed memory: $1: an allocation failed" >&2
 }
 freed freed-blocks 8388608
 freed freed-unwritten 8388608

@@ -17,8 +17,8 @@ printf '%s\n' '#![tactic(auto)]' 'pub fn number() -> u32 {' '    7' '}' | tee cr
 printf '%s\n' '#![tactic(auto)]' 'fn main(rt: HostRuntime) -> std::io::Result<()> {' \
     '    println!(rt; "{}{}", low::number(), side::number())' '}' >crates/small/src/main.rt
 
-# The stand-in takes all input that it gets. What is proved ahead, in a copy, only tells that it has begun, and goes on
-# for `copied` seconds; `side` waits for that. A log is written after a source has changed.
+# The stand-in reads all its input. In a copy, where the launcher proves ahead, it only records that it has begun, and
+# runs for `copied` seconds. `side` waits for that record. A log is written after a source has changed.
 cat >commands/rt <<'END_OF_RT'
 #!/bin/sh
 cat >/dev/null
@@ -48,7 +48,7 @@ want() {
 }
 # after CHANGE OUTPUT : the program is built anew, and prints this.
 after() { eval "$1" && want "$1" 0 "$2" "$all" ./small; }
-# refused CHANGE REASON [ERRORS] : it is not built, for this reason, after these lines.
+# refused CHANGE REASON [ERRORS] : after the change the build fails for this reason, after these lines.
 refused() { eval "$1" && want "$1" 125 '' "${3-}small: $2" ./small; }
 
 by_the_toolchain() {

@@ -16,7 +16,7 @@ cc -O2 -shared -fPIC -o "$folder/refuse_request.so" gate/refuse_request.c || exi
 # The lines of a file as one.
 joined() { paste -s -d '~' | sed 's, *~ *, / ,g'; }
 
-# outcomes_of NAME INPUT COMMAND.. : what each run of it comes to. None makes a thousand requests.
+# outcomes_of NAME INPUT COMMAND.. : prints the outcome of each run. No run makes a thousand requests.
 outcomes_of() {
     local name=$1 input=$2 request memory errors output status
     shift 2
@@ -49,7 +49,7 @@ awk '/^#/ { next } /^ +[0-9]+ times$/ { times = $1; next } { tell(); outcome = $
     LC_ALL=C sort -k 2 >"$folder/expected"
 
 diff "$folder/expected" "$folder/came" >"$folder/differ"
-# A builder asks for its block, and for room for its items if it does not know how many come.
+# A builder requests its block, and room for its items if it does not know their number.
 awk '/ refusals::builders::.*: refused/ && $1 > (/ of 0 items|: no block/ ? 1 : 2)' "$folder/came" >"$folder/more"
 sed -n 's/^< */did not come: /p; s/^> */not expected: /p' "$folder/differ" >&2
 sed 's/^ */too many requests: /' "$folder/more" >&2

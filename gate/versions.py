@@ -33,7 +33,7 @@ class Differs(Exception):
 
 
 def ran(library, lines, request=0, stack=None):
-    """The answers, what was told of memory, and the status."""
+    """The answers, the report on memory, and the status."""
     environment = {**os.environ, "LD_PRELOAD": library, "REFUSED_REQUEST": str(request)}
     limit = (lambda: resource.setrlimit(resource.RLIMIT_STACK, (stack, stack))) if stack else None
     run = subprocess.run([PROGRAM], input="\n".join(lines), capture_output=True, text=True, env=environment,
@@ -42,7 +42,7 @@ def ran(library, lines, request=0, stack=None):
 
 
 def compare(model, lines, answers):
-    """Ends at the first call that is not answered as by the model. Returns the calls that were refused."""
+    """Ends at the first call that the model answers otherwise. Returns the calls that failed."""
     refused = []
     for number, (line, answer) in enumerate(zip(lines, answers), 1):
         refused += [line] * (answer in REFUSED)
@@ -54,7 +54,7 @@ def compare(model, lines, answers):
 
 
 def settled(library, lines, request=0, stack=None):
-    """The answers of a run that keeps no block, and whether a request was refused."""
+    """The answers of a run that leaks no block, and whether an allocation failed."""
     answers, told, status = ran(library, lines, request, stack)
     is_refused = "memory: refused" in told
     if not told.endswith("d, 0 kept\n") or status and not (is_refused and not answers):
@@ -63,7 +63,7 @@ def settled(library, lines, request=0, stack=None):
 
 
 def checked(library, kind, lines, request=0, stack=None):
-    """The call that was refused, if one was, and whether a request was."""
+    """The call that failed, if one did, and whether an allocation failed."""
     answers, is_refused = settled(library, [kind, *lines], request, stack)
     if is_refused and not answers:
         return "the set-up", True
@@ -74,7 +74,7 @@ def checked(library, kind, lines, request=0, stack=None):
 
 
 def check_examples(library):
-    """Each script prints the lines that stand beside it."""
+    """Each script prints its expected lines."""
     for path in (ROOT / "examples" / "collections").iterdir():
         if not path.suffix:
             answers, _ = settled(library, path.read_text().splitlines())
@@ -170,7 +170,7 @@ def refusal_script(kind):
 
 
 def check_refusals(library, kind):
-    """Runs the script with each request refused, and prints which call met it. Some calls do without."""
+    """Makes each allocation of the script fail in turn, and prints the call that failed. Some calls succeed anyway."""
     for request in range(1, 10_000):
         refused, is_refused = checked(library, kind, refusal_script(kind), request)
         if not is_refused:
@@ -198,8 +198,8 @@ def main():
             check_copies(library, kind)
         checked(library, "sequence", ["fill 1000000", "ends"], stack=0x40000)
         check_examples(library)
-    print(f"versions: each example, {SEEDS * len(MODELS)} random scripts of {STEPS} calls, copies of 2 collections and a"
-          " small stack as told")
+    print(f"versions: each example, {SEEDS * len(MODELS)} random scripts of {STEPS} calls, copies of 2 collections and"
+          " a small stack as told")
     return 0
 
 

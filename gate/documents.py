@@ -10,7 +10,7 @@
 - the tables of docs/SPEED.md show each operation of bench/measured.tsv, maps.tsv and sequences.tsv once, with the least
   and the greatest of its figures, except for scripts that meet their goals, and its text has no other ratio;
 - bench/measured.tsv has each goal of bench/goals.tsv once and no other, with the verdict that follows from its figures,
-  and so have the calls of maps and sequences;
+  and so have the calls of maps and sequences; bench/README.md names the workloads whose goal is missed;
 - each public function is called, as gate/called.py finds.
 
     gate/documents.py
@@ -189,6 +189,10 @@ def wrong_verdicts():
         if goal != row["goal"] or verdict(judged, most) != row["verdict"]:
             yield f"measured.tsv: the goal or the verdict of {row['workload']}"
     yield from (f"goals.tsv: {name} is not measured" for name in goals)
+    named = re.search(r"\*\*Missed goals\*\*:([^.]*)", (ROOT / "bench" / "README.md").read_text())
+    missed = {row["workload"] for row in table("measured.tsv") if row["verdict"] == "missed"}
+    if set(re.findall(r"`([\w-]+)`", named[1] if named else "")) != missed:
+        yield f"README.md: the missed goals are {', '.join(sorted(missed))}"
 
 
 def main():

@@ -1,12 +1,15 @@
 #!/bin/sh
 # build_peers.sh OUT SOURCE
 #
-# Builds the programs that the port is measured beside, OUT/bench, OUT/bench.moved, OUT/script and OUT/collections,
-# with rustc alone. SOURCE is the source file of the crate that was ported, its lib.rs under any name; it is compiled where it
-# lies. OUT/collections has those of im-rc if Debian's librust-im-rc-dev is installed. Only OUT is written to.
+#     bench/build_peers.sh /tmp/peers ~/servo_arc/lib.rs
+#
+# Builds the programs that the port is measured beside, with rustc alone: OUT/bench, OUT/bench.moved, OUT/script and
+# OUT/collections. SOURCE is the source file of the crate that was ported, its lib.rs under any name. OUT/collections
+# has the collections of im-rc if Debian's librust-im-rc-dev is installed. Only OUT is written to.
 set -eu
+case "$*" in -h | --help) sed -n '2,/^set/ { /^set/d; s/^# \{0,1\}//p; }' "$0" && exit ;; esac
 if [ $# -ne 2 ]; then
-    echo "usage: build_peers.sh OUT SOURCE" >&2
+    echo "usage: build_peers.sh OUT SOURCE; --help says more" >&2
     exit 2
 fi
 here=$(cd "$(dirname "$0")" && pwd)

@@ -1,15 +1,18 @@
 #!/bin/sh
 # judge.sh SOURCE [OPTION..]
 #
-# Builds all that is measured, and measures it: each workload and a script, beside each pointer, with a verdict by
-# goals.tsv, and maps and sequences beside those in Rust. It writes the figures to measured.tsv, maps.tsv and
-# sequences.tsv. SOURCE is the source file of the crate that was ported. The options go to compare.py, as --most 61.
-# BENCH_OUT is where it builds, bench/out if it is not set.
+#     bench/judge.sh ~/servo_arc/lib.rs --most 61
+#
+# Builds and measures each workload and a script with each pointer, and maps and sequences beside those in Rust. Each
+# workload gets a verdict by goals.tsv. The figures are written to measured.tsv, maps.tsv and sequences.tsv. SOURCE is
+# the source file of the crate that was ported. The options are those of compare.py. BENCH_OUT is the folder for what is
+# built, bench/out if it is not set.
 #
 # The status is 1 if a goal was missed, 0 if all were met, and 2 or 3 as compare.py says.
 set -eu
+case "$*" in -h | --help) sed -n '2,/^set/ { /^set/d; s/^# \{0,1\}//p; }' "$0" && exit ;; esac
 if [ ! -f "${1-}" ]; then
-    echo "usage: judge.sh SOURCE [OPTION..]" >&2
+    echo "usage: judge.sh SOURCE [OPTION..]; --help says more" >&2
     exit 2
 fi
 here=$(cd "$(dirname "$0")" && pwd)

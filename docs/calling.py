@@ -1,16 +1,22 @@
 #!/usr/bin/env python3
-"""Quotes each public call with its contract from the source, in each block of a crates/NAME/CALLING.md that names
-folders of source and then types, as ```text sequence/src: Sequence Iter. The types come in that order, others after
-them, functions without a type last.
+"""Quotes each public call with its contract from the source, in the blocks of the crates/NAME/CALLING.md. A block
+names folders of source and then types, as ```text sequence/src: Sequence Iter. The types come in that order. Other
+types come after them, and functions without a type come last.
 
-First stand the types that are named or that a call takes or returns: what each derives, its variants or public fields,
-and for each head of an impl the calls and traits that it gives. A trait of these folders counts only if it is named.
-Then come the calls: of each type its makers, then those that read it, clone it, write it and use it up. Calls of one
-kind with the same clauses share them. Laws, which take nothing and promise what their names spell, share a line. The
-calls without a clause stand at the end; a trait's method is told of only if it has clauses of its own.
+A block begins with the types that are named or that a call takes or returns. Of each type it has the derived traits,
+the variants or public fields, and for each head of an impl the calls and traits of that impl. A trait of these folders
+counts only if it is named. Then come the calls of each type: constructors, then calls that read the type, clone it,
+change it and consume it. Calls of one kind with the same clauses share these. Lemmas, which take nothing and whose
+names spell what they promise, share a line, `laws`. Calls without a clause come last. A method of a trait is listed
+only if it has clauses of its own.
 
-With --check it writes nothing, and ends with 1 if a block is not up to date, or does not name what it quotes, or if no
-block quotes a crate that docs/TOUR.md names, as in `rose_undo`, or that such a crate names in crates.txt."""
+With --check the script writes nothing. It ends with 1 if a block is not up to date or does not name its source, or if
+no block quotes a crate that docs/TOUR.md names, as in `rose_undo`, or that such a crate names in crates.txt.
+
+    docs/calling.py            # after a change of a contract
+    docs/calling.py --check    # as ./check does
+"""
+import argparse
 import re
 import sys
 from itertools import chain, groupby
@@ -148,7 +154,7 @@ def wrapped(line):
 
 
 def given(files, kinds, hidden):
-    """For each type and head of its impls the public calls that stand under it, and the traits but for hidden ones."""
+    """For each type and head of its impls the public calls in it, and the traits except the hidden ones."""
     found = {}
     for file in files:
         calls_of = [(owner, re.match(r"\w+", lines[0])[0]) for owner, public, lines in functions(file) if public]
@@ -165,7 +171,7 @@ def given(files, kinds, hidden):
 
 
 def shown_impls(heads):
-    """A line for each head of an impl of a type; traits that a derive would give are told in one line."""
+    """A line for each head of an impl of a type. Traits that a derive would give share one line."""
     derived = []
     for head, (names, traits) in heads.items():
         bounds = re.findall(r"\w+: ([\w +]+)", head)
@@ -224,7 +230,7 @@ def calls(folders, order):
 
 
 def toured():
-    """The source of each crate with public calls that the tour names, and of those that it stands on."""
+    """The source of each crate with public calls that the tour names, and of their dependencies."""
     used = dict(re.findall(r"^(\w+).*?:(.*)", (CRATES.parent / "crates.txt").read_text(), re.M))
     named = set(re.findall(r"\bin `(\w+)`", (CRATES.parent / "docs" / "TOUR.md").read_text())) & used.keys()
     for name in sorted(named.union(*(used[name].split() for name in named)) & used.keys()):
@@ -234,23 +240,25 @@ def toured():
 
 
 def main():
+    parser = argparse.ArgumentParser(description=__doc__, formatter_class=argparse.RawDescriptionHelpFormatter)
+    parser.add_argument("--check", action="store_true", help="write nothing, and compare")
+    checks = parser.parse_args().check
     old, quoted = [], set()
     for page in sorted(CRATES.glob("*/CALLING.md")):
         text = page.read_text()
         new = BLOCK.sub(lambda block: "\n".join([
             f"```text {block[1]}{block[2] or ''}", *calls(block[1].split(), (block[2] or ":")[1:].split()), "```"
         ]), text)
-        if "--check" not in sys.argv:
+        if not checks:
             page.write_text(new)
         elif new != text or not all(map(HEAD.fullmatch, re.findall("^```(.*)", text, re.M)[::2])):
             old.append(f"{page.parent.name}/CALLING.md: a block is not that of the source")
         quoted.update(chain.from_iterable(block[1].split() for block in BLOCK.finditer(text)))
-    if "--check" in sys.argv:
+    if checks:
         old += [f"{folder}: no CALLING.md quotes its calls" for folder in toured() if folder not in quoted]
         print(f"contracts: {len(old)} blocks not as the source has them", flush=True)
     sys.exit("\n".join(old) or None)
 
 
-if sys.argv[1:] not in ([], ["--check"]):
-    sys.exit(__doc__)
-main()
+if __name__ == "__main__":
+    main()

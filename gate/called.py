@@ -1,5 +1,5 @@
-"""Which public functions nobody calls: of each library and of `uses`, those that no test, program, use or other library
-calls by that name. One may hide behind a function of another type that has its name."""
+"""Lists the public functions of each library and of `uses` that no test, program, use or other library calls by name. A
+function without a call goes unnoticed if a function of the same name of another type is called."""
 import re
 from pathlib import Path
 

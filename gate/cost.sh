@@ -1,8 +1,10 @@
 #!/usr/bin/env bash
-# Counts the instructions and requests for memory of the built program: a step costs the same
-# with 10 handles of 2 owners and with 100,000 of 1000, a birth the same on the average of 50,000 and of 100,000,
-# lending no more than the logarithm of the borrowers, and a command the same on 10 slots and on 1000.
+# Counts the instructions and the allocations of the built program, and fails if they grow with the size of a script's
+# machine. A step costs the same with 10 handles of 2 owners and with 100,000 handles of 1000 owners. A new handle
+# costs the same on average in 50,000 and in 100,000 of them. To lend a handle costs at most the logarithm of the
+# number of its borrowers. A command costs the same on 10 slots and on 1000.
 set -u
+. "$(dirname "$(readlink -f -- "$0")")/help.sh"
 cd "$(dirname "$(readlink -f -- "$0")")/.." || exit
 program=crates/arcbench/out/arcbench
 

@@ -1,25 +1,28 @@
 #!/usr/bin/env python3
-"""Checks what the documents rest on, and ends with 1 if something is wrong:
+"""Checks the documents against the tree, and ends with 1 if one of these is wrong:
 
-- each file and heading that a link leads to is there, and if the link's text is code, the file has each of its names;
-- a block of Rust names a file, as ```rust crates/first_example/src/main.rt, in which it stands as it is. One that names
-  none is of docs/DECISIONS.md, and the checker refuses it: gate/elsewhere.sh;
-- what a command prints on an example, as after `# prints:`, is what the example's expected lines say; a drawing of an
+- each link leads to a file and a heading that exist, and if the link's text is code, the file has each of its names;
+- a block of Rust names a file that contains the block, as ```rust crates/first_example/src/main.rt. A block without a
+  name is in docs/LIMITS.md, and gate/elsewhere.sh shows that the checker rejects it;
+- the output of a command on an example, as after `# prints:`, is the expected output of the example; a drawing of an
   example, as ```text examples/core/first, has its steps and answers, each in the column of its owner;
-- CONTRIBUTING.md names no file that is not there;
-- the tables of docs/SPEED.md are the figures of bench/measured.tsv, maps.tsv and sequences.tsv and nothing else, but
-  for scripts that meet their goals;
+- CONTRIBUTING.md names only files that exist;
+- the tables of docs/SPEED.md show each operation of bench/measured.tsv, maps.tsv and sequences.tsv once, with the least
+  and the greatest of its figures, except for scripts that meet their goals, and its text has no other ratio;
 - bench/measured.tsv has each goal of bench/goals.tsv once and no other, with the verdict that follows from its figures,
-  and so have the calls of maps and sequences;
+  and so have the calls of maps and sequences; bench/README.md names the workloads whose goal is missed;
 - each public function is called, as gate/called.py finds.
+
+    gate/documents.py
 """
+import argparse
 import csv
 import re
 import runpy
 import subprocess
 import sys
 from collections import Counter
-from itertools import chain, zip_longest
+from itertools import chain
 from pathlib import Path
 
 ROOT = Path(__file__).resolve().parent.parent
@@ -34,6 +37,8 @@ DRAWN = re.compile(r"```text examples/(core/\w+)\n(.*?)```", re.S)
 STEP = re.compile(r"([a-z]+)((?: \d+)*): (\S+(?: \S+)*)")
 QUOTE = re.compile(r"```rust ?(\S*)\n(.*?)```", re.S)
 FENCE = re.compile(r"^ *```(.*)", re.M)
+OPERATION = re.compile(r"`([\w-]+)`(?: of a `(\w+)`)?")
+RATIO = re.compile(r"(?<![\d.])\d\.\d\d(?![\d.]*\d)")
 FILE = re.compile(r"\b[\w/]+\.(?:rt|antt|edit|md|py|rs|sh|tsv|txt)\b")
 
 
@@ -83,7 +88,7 @@ def wrong_in(document, files):
         if not re.match(r"[a-z]+:", target) and (wrong := wrong_link(document, label, target)):
             yield f"[{label}]({target}): {wrong}"
     for file, quoted in QUOTE.findall(text):
-        source = ROOT / file if file or document.name != "DECISIONS.md" else document
+        source = ROOT / file if file or document.name != "LIMITS.md" else document
         if not source.is_file() or quoted not in source.read_text():
             yield f"not in {file or 'a file that is named'}: {quoted.splitlines()[0]}"
     for name, printed in PRINTS.findall(text):
@@ -97,34 +102,29 @@ def wrong_in(document, files):
 
 
 def nanoseconds(figure):
-    """As docs/SPEED.md shows it: with one digit behind the point, and with two below 1."""
-    if not figure:
-        return "-"
-    digits = 0 if float(figure) >= 100 else 1 if float(figure) >= 1 else 2
-    return f"{float(figure):.{digits}f}"
+    digits = 0 if figure >= 100 else 1 if figure >= 1 else 2
+    return f"{figure:.{digits}f}"
 
 
-def speed_line(name, figures):
-    return f"{name:<16}" + "".join(f"{figure:>10}" for figure in figures)
+def ratio(figure):
+    if figure < 0.001:
+        return "<0.001"
+    return f"{figure:.1g}" if figure < 0.1 else f"{figure:.2f}" if figure < 10 else f"{figure:.3g}"
 
 
-def figures_of(row):
-    """What docs/SPEED.md shows of a workload."""
-    figures = [nanoseconds(row[peer + "_ns"]) for peer in ("program", "servo", "std")]
-    return [*figures, *(f"{float(row[ratio]):.2f}" if row[ratio] else "-" for ratio in ("ratio", "std_ratio"))]
+# What a column of docs/SPEED.md shows: columns of the tables of bench/.
+COLUMNS = {
+    "ns": (("program_ns", "program"), nanoseconds),
+    "÷ std": (("std_ratio", "/btree", "/vec"), ratio),
+    "÷ original": (("ratio",), ratio),
+    "÷ im": (("/im",), ratio),
+}
 
 
-def span(figures, shown):
-    """The least and the greatest of the figures, or the one that there is."""
-    found = sorted({float(figure) for figure in figures if figure and figure != "-"})
-    return " to ".join(dict.fromkeys(map(shown, (found[0], found[-1])))) if found else "-"
-
-
-def call_line(rows):
-    """The line for a call of a collection, in any order and of any number of items: its times and its ratios."""
-    cells = [span((row["program"] for row in rows), nanoseconds)]
-    cells += [span((row[name] for row in rows), "{:.3g}".format) for name in rows[0] if name.startswith("/")]
-    return f"{rows[0]['call']:<12}" + "".join(f"{cell:>18}" for cell in cells)
+def span(rows, names, shown):
+    """The least and the greatest figure of the rows in these columns of bench/, or the one that there is."""
+    found = [float(row[name]) for row in rows for name in names if row.get(name) not in (None, "", "-")]
+    return " to ".join(dict.fromkeys(map(shown, (min(found), max(found))))) if found else "-"
 
 
 def table(name):
@@ -132,28 +132,35 @@ def table(name):
         return list(csv.DictReader(file, delimiter="\t"))
 
 
-def workload_lines():
-    yield speed_line("", ["here", "original", "std", "/original", "/std"])
+def measured_rows():
+    """The rows of each operation, by its name and the collection that has it."""
+    rows = {}
     for row in table("measured.tsv"):
         if row["verdict"] == "missed" or not row["workload"].startswith("script-"):
-            yield speed_line(row["workload"], figures_of(row))
-
-
-def call_lines(name):
-    calls = {}
-    for row in table(name):
-        calls.setdefault(row["call"], []).append(row)
-    columns = ["ns", *(column for column in row if column.startswith("/"))]
-    return [f"{'':<12}" + "".join(f"{column:>18}" for column in columns), *map(call_line, calls.values())]
+            rows[row["workload"], ""] = [row]
+    for collection, name in ("TreeMap", "maps.tsv"), ("Sequence", "sequences.tsv"):
+        for row in table(name):
+            rows.setdefault((row["call"], collection), []).append(row)
+    return rows
 
 
 def wrong_speed():
-    """The lines of the tables of docs/SPEED.md that are others than those wanted, and the latter."""
-    blocks = re.findall(r"```text\n(.*?)\n```", (ROOT / "docs" / "SPEED.md").read_text(), re.S)
-    wanted = [list(workload_lines()), call_lines("maps.tsv"), call_lines("sequences.tsv")]
-    shown = [block.splitlines() for block in blocks]
-    for lines, others in zip_longest(map(Counter, shown), map(Counter, wanted), fillvalue=Counter()):
-        yield from (lines - others) + (others - lines)
+    """The lines of the tables of docs/SPEED.md that bench/ has otherwise, the operations that no table or two tables
+    show, and the ratios in the text that no table shows."""
+    text = (ROOT / "docs" / "SPEED.md").read_text()
+    rows, shown, heads = measured_rows(), Counter(), []
+    for line in re.findall(r"^\|.*", text, re.M):
+        first, *cells = [cell.strip(" *") for cell in line.strip("|").split("|")]
+        if operation := OPERATION.match(first):
+            shown[operation[1], operation[2] or ""] += 1
+            found = rows.get((operation[1], operation[2] or ""), [])
+            if cells != [span(found, *COLUMNS[head]) for head in heads]:
+                yield line
+        elif not first.startswith("-"):
+            heads = cells
+    yield from (" of a ".join(filter(None, name)) for name in rows if shown[name] != 1)
+    cells = " ".join(re.findall(r"^\|.*", text, re.M))
+    yield from {figure for figure in RATIO.findall(text) if figure not in RATIO.findall(cells)}
 
 
 def wrong_goals(kind):
@@ -182,9 +189,14 @@ def wrong_verdicts():
         if goal != row["goal"] or verdict(judged, most) != row["verdict"]:
             yield f"measured.tsv: the goal or the verdict of {row['workload']}"
     yield from (f"goals.tsv: {name} is not measured" for name in goals)
+    named = re.search(r"\*\*Missed goals\*\*:([^.]*)", (ROOT / "bench" / "README.md").read_text())
+    missed = {row["workload"] for row in table("measured.tsv") if row["verdict"] == "missed"}
+    if set(re.findall(r"`([\w-]+)`", named[1] if named else "")) != missed:
+        yield f"README.md: the missed goals are {', '.join(sorted(missed))}"
 
 
 def main():
+    argparse.ArgumentParser(description=__doc__, formatter_class=argparse.RawDescriptionHelpFormatter).parse_args()
     listed = subprocess.run(["git", "ls-files"], cwd=ROOT, capture_output=True, text=True, check=True)
     files = listed.stdout.split()
     documents = [name for name in files if name.endswith(".md")]

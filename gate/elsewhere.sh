@@ -1,9 +1,10 @@
 #!/usr/bin/env bash
-# copy_crates copies crates into another repository as they are here, so what is proved here is proved there. Over an
-# older copy it leaves nothing of that, and all that is the user's own. In the copy the first example prints, unproved,
-# what README says of this toolchain, and the checker lets no handle and no list of a cell, which threads may not share,
-# be lent, moved or sent to a thread. In a third repository it refuses the code of docs/DECISIONS.md.
+# Copies crates into other repositories by copy_crates, and checks that it copies them unchanged, replaces an older
+# copy completely, and keeps the user's own files. In a copy the first example prints, unproved, what README says.
+# There the checker rejects each place that lends, moves or sends a handle or a list of a `Cell`, which threads may not
+# share. In a third repository it still rejects the code that docs/LIMITS.md quotes.
 set -uo pipefail
+. "$(dirname "$(readlink -f -- "$0")")/help.sh"
 cd "$(dirname "$(readlink -f -- "$0")")/.." || exit
 root=$PWD tree=$(mktemp -d) passed=0 failed=0
 trap 'rm -rf "$tree"' EXIT
@@ -48,7 +49,7 @@ over_an_older_copy() {
     holds "one's own LICENSE and HANDLES" same "$(cat "$old/HANDLES" "$old/crates/LICENSE")" $'own\nown'
 }
 
-# refused ERRORS WORDS.. : says so, and copies and deletes nothing. The errors are a pattern.
+# refused ERRORS WORDS.. : the copy fails with these errors, a pattern, and copies and deletes nothing.
 refused() {
     (cd "$home" && ./copy_crates "${@:2}" 2>"$tree/errors")
     [[ $? = 1 && $(<"$tree/errors") = $1 && ! -e $tree/none ]] && diff -r "$tree/before" "$home" >&2
@@ -57,7 +58,8 @@ refused() {
 what_is_refused() {
     ln -s "$home" "$tree/link"
     holds "no folder" refused 'copy_crates FOLDER *'
-    holds "a word with a dash for the folder" refused 'copy_crates FOLDER *' --help
+    holds "--help" same "$("$home/copy_crates" --help | sed -n '$s/:.* servo_arc .*/:/p')" "The crates are:"
+    holds "a word with a dash for the folder" refused 'copy_crates FOLDER *' --other
     holds "a word with a dash for a crate" refused 'copy_crates FOLDER *' "$tree/none" uses -x
     holds "crates that are not here" refused 'no crate no, other; there are: * servo_arc *' "$tree/none" no uses other
     holds "a copy onto itself" refused '.: the crates there are *: uses servo_arc *' . uses
@@ -74,18 +76,18 @@ in_the_copy() {
     cells=$(timeout 600 rt all check --jobs 1 2>&1 | grep -c 'the trait bound `UnsafeCell<u32>: Sync` is not satisfied')
 }
 
-# Each block of code of docs/DECISIONS.md is refused in the words that stand below it there.
+# The checker rejects each block of code of docs/LIMITS.md with the message that is quoted below the block.
 in_a_third_repository() {
     local n refused words=(
-        'what it sends to a thread rests on a bound that is assumed of this thread alone'
         'is another type that refers back to itself, which a way back cannot pass yet'
         'leads back through a type parameter whose bound has ghost members'
+        'what it sends to a thread rests on a bound that is assumed of this thread alone'
     )
     mkdir -p "$tree"/third/{.git,crates/block{1,2,3}/src} && cd "$tree/third" && cp "$new/HANDLES" .
     printf 'block%s:\n' 1 2 3 >crates.txt
     for n in 1 2 3; do
         awk -v n=$n '/^```rust$/ {++block; on = 1; next} /^```$/ {on = 0} on && block == n' \
-            "$root/docs/DECISIONS.md" | sed '1i #![tactic(auto)]' >crates/block$n/src/lib.rt
+            "$root/docs/LIMITS.md" | sed '1i #![tactic(auto)]' >crates/block$n/src/lib.rt
         refused=$(cd crates/block$n && rt check --jobs 1 2>&1 | grep -cE "^(fn|type) .*${words[n - 1]}")
         holds "the place where block $n of the code is refused" same "$refused" 1
     done

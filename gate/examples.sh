@@ -1,8 +1,9 @@
 #!/usr/bin/env bash
-# Runs each script of examples/, NAME in the folder of its machine, with the arguments of NAME.args: it prints
-# NAME.stdout, just the blocks that it marks are never freed, and under valgrind no freed memory is read. No printed
-# lines and no arguments stand there without a script.
+# Runs each script of examples/, NAME in the folder of its machine, with the arguments of NAME.args. The output has to
+# be NAME.stdout. Exactly the blocks that the script makes static may leak. valgrind must see no read of freed memory.
+# A .stdout or .args file without a script is an error too.
 set -u
+. "$(dirname "$(readlink -f -- "$0")")/help.sh"
 cd "$(dirname "$(readlink -f -- "$0")")/../examples" || exit
 program=../crates/arcbench/out/arcbench
 folder=$(mktemp -d)

@@ -1,10 +1,13 @@
 #!/usr/bin/env python3
-"""faults.py FOLDER [CRATE..]: which wrong bodies no script of a collection tells, and no test of these crates.
+"""faults.py FOLDER [CRATE..]: prints which wrong bodies no script of a collection detects, and no test of these crates.
 
-FOLDER/CRATE/NAME.edit is a fault, written as a mutant is, with one pair of texts. The old text is an expression or ends
-with a semicolon. In a copy of the repository each becomes `if faults::is(N) { new } else { old }`, so that one build
-without proofs has all faults, and a run chooses one. A fault is told if a script prints, ends, or requests memory
-otherwise than without it, or if the address checker stops it; and if a test fails."""
+FOLDER/CRATE/NAME.edit is a fault. It is written as a mutant, with one pair of texts. The old text is an expression or
+ends with a semicolon. In a copy of the repository each fault becomes `if faults::is(N) { new } else { old }`, so that
+one build without proofs has all faults, and a run chooses one. A fault is detected if a script prints, ends, or
+requests memory otherwise than without the fault, if the address checker stops the script, or if a test fails.
+
+    gate/faults.py /tmp/faults test_sharing
+"""
 import os
 import re
 import subprocess
@@ -36,12 +39,12 @@ def read_fault(path):
 
 
 def plant(copy, faults):
-    """Puts each fault beside the text that it replaces. Faults of one text stand one in the other's `else`."""
+    """Puts each fault beside the text that it replaces. A second fault of one text is in the `else` of the first."""
     bodies = {}
     for number, path in enumerate(faults, 1):
         file, old, new = read_fault(path)
         if (ROOT / file).read_text().count(old) != 1:
-            sys.exit(f"faults: {path}: the old text does not stand once in {file}")
+            sys.exit(f"faults: {path}: the old text is not exactly once in {file}")
         body = bodies.get((file, old), old)
         bodies[file, old] = f"if faults::is({number}) {{ {new} }} else {{ {body} }}"
     for file in {file for file, _ in bodies}:
@@ -77,7 +80,7 @@ def build(copy, crate, *words):
 
 
 def ran(words, fault, script=None):
-    """How a run ends: its status, and of a script what it prints and what it says of memory."""
+    """How a run ends: its status, and of a script what it prints and what it reports of memory."""
     environment = {"FAULT": str(fault), "PATH": os.environ["PATH"]}
     try:
         run = subprocess.run(words, input=(script or "").encode(), capture_output=True, env=environment,
@@ -88,7 +91,7 @@ def ran(words, fault, script=None):
 
 
 def scripts():
-    """The examples of collections, the scripts whose requests are refused, and random ones."""
+    """The examples of collections, the scripts whose allocations fail in turn, and random scripts."""
     for path in sorted((ROOT / "examples" / "collections").glob("*.stdout")):
         yield path.stem, path.with_suffix("").read_text()
     for kind in (*versions.CHANGES, *versions.SCRIPTS):
@@ -107,7 +110,7 @@ def tests(program):
 
 
 def told_by(program, wanted, tried, fault):
-    """The scripts that tell the fault, or the first test."""
+    """The scripts that detect the fault, or else the first test that does."""
     names = [name for name, (script, run) in wanted.items() if ran([program], fault, script) != run]
     return names or [words[1] for words in tried if ran(words, fault) != 0][:1]
 
@@ -124,9 +127,12 @@ def main():
         untold = 0
         for path, names in zip(faults, told):
             untold += not names
-            print(f"{path.parent.name} {path.stem}: {', '.join(names) or 'told by nothing'}", flush=True)
-    print(f"faults: {untold} of {len(faults)} told by nothing")
+            print(f"{path.parent.name} {path.stem}: {', '.join(names) or 'detected by nothing'}", flush=True)
+    print(f"faults: {untold} of {len(faults)} detected by nothing")
 
 
 if __name__ == "__main__":
-    sys.exit(main() if sys.argv[1:] else __doc__)
+    if sys.argv[1:] in (["-h"], ["--help"]):
+        print(__doc__)
+        sys.exit()
+    sys.exit(main() if sys.argv[1:] and not sys.argv[1].startswith("-") else __doc__)

@@ -1,13 +1,15 @@
 #!/usr/bin/env bash
-# Asks for 32 GiB or more, a page at a time, in an address space of one, and lets each page go before the next.
+# Allocates and frees 32 GiB or more, one page at a time, in an address space of 1 GB. A page that is not reused after
+# it was freed makes an allocation fail.
 set -uo pipefail
+. "$(dirname "$(readlink -f -- "$0")")/help.sh"
 cd "$(dirname "$(readlink -f -- "$0")")/.." || exit
 ulimit -v 1000000
 count=0
-# freed WORKLOAD TIMES : whether each of so many requests was granted.
+# freed WORKLOAD TIMES : whether each of that many allocations succeeded.
 freed() {
     [[ $(crates/arcspeed/out/arcspeed "$1" "$2") = "$2" ]] && ((++count)) && return
-    echo "freed memory: $1: a page was refused" >&2
+    echo "freed memory: $1: an allocation failed" >&2
 }
 freed freed-blocks 8388608
 freed freed-unwritten 8388608

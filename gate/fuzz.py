@@ -1,7 +1,9 @@
 #!/usr/bin/env python3
-"""Runs `arcbench` on random scripts, right and broken ones. It compares what is printed with reference models that are
-written here from examples/README.md: a core that knows live handles and no word, and a table whose slots share blocks.
+"""Runs `arcbench` on random scripts, valid and invalid ones. It compares the output with reference models that are
+written here from examples/README.md: a core that has live handles and no count, and a table whose slots share blocks.
 It ends at the first script that differs.
+
+    gate/fuzz.py 20000 64    # 20,000 scripts, the same for the same seed 64
 """
 import argparse
 import random

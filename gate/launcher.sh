@@ -1,8 +1,9 @@
 #!/usr/bin/env bash
-# Tries the launcher on a program of three small crates: by the toolchain from nothing, and then by a stand-in for `rt`,
-# whose program prints its sources without comments, how many lines crates.txt has, and, if it has arguments, these and
-# its input.
+# Tests the launcher on a program of three small crates: first with the real toolchain, from nothing, and then with a
+# stand-in for `rt`. The stand-in's program prints its sources without comments and the number of lines of crates.txt.
+# With arguments it prints these and its input too.
 set -u
+. "$(dirname "$(readlink -f -- "$0")")/help.sh"
 root=$(mktemp -d)
 trap 'rm -rf "$root"' EXIT
 export top="$root/a b" meanwhile= copied=0
@@ -16,8 +17,8 @@ printf '%s\n' '#![tactic(auto)]' 'pub fn number() -> u32 {' '    7' '}' | tee cr
 printf '%s\n' '#![tactic(auto)]' 'fn main(rt: HostRuntime) -> std::io::Result<()> {' \
     '    println!(rt; "{}{}", low::number(), side::number())' '}' >crates/small/src/main.rt
 
-# The stand-in takes all input that it gets. What is proved ahead, in a copy, only tells that it has begun, and goes on
-# for `copied` seconds; `side` waits for that. A log is written after a source has changed.
+# The stand-in reads all its input. In a copy, where the launcher proves ahead, it only records that it has begun, and
+# runs for `copied` seconds. `side` waits for that record. A log is written after a source has changed.
 cat >commands/rt <<'END_OF_RT'
 #!/bin/sh
 cat >/dev/null
@@ -47,7 +48,7 @@ want() {
 }
 # after CHANGE OUTPUT : the program is built anew, and prints this.
 after() { eval "$1" && want "$1" 0 "$2" "$all" ./small; }
-# refused CHANGE REASON [ERRORS] : it is not built, for this reason, after these lines.
+# refused CHANGE REASON [ERRORS] : after the change the build fails for this reason, after these lines.
 refused() { eval "$1" && want "$1" 125 '' "${3-}small: $2" ./small; }
 
 by_the_toolchain() {
@@ -84,14 +85,27 @@ on_a_terminal() {
         grep -c $'^\[1/3\] low: [0-9]* s\r\[1/3\] low: [0-9]* s\r$'
 }
 
+# hinted : what a terminal shows of a program that rejects its words.
+hinted() {
+    local status='import os, pty; os._exit(os.waitstatus_to_exitcode(pty.spawn(["./small", "x"])))'
+    timeout 60 python3 -c "$status" </dev/null | tr -d '\r'
+    return "${PIPESTATUS[0]}"
+}
+
 what_is_printed() {
     want "two at once" 0 'one two 5' "$all" sh -c 'echo x: >>crates.txt; ./small >/dev/null & ./small && wait $!'
     want "what the program gets and gives" 7 $'one two 5\n2 a  b c\ninput' told ./small 'a  b' c
     want "a terminal" 0 1 '' on_a_terminal
     sed -i '1i //! Prints words: `small WORD..`.' crates/small/src/main.rt
-    for words in '' -h --help; do want "usage: $words" 1 '' 'Prints words: `small WORD..`.' ./small $words; done
+    want "no word" 1 '' 'Prints words: `small WORD..`.' ./small
+    echo '    ./small a b    # prints: 2 a b' >README.md
+    local help=$'Prints words: `small WORD..`.\nFor example: ./small a b    # prints: 2 a b'
+    for word in -h --help; do want "help: $word" 0 "$help" '' ./small $word; done
     want "an empty word, with which it is built" 7 $'one two 5\n1 \ninput' "$all"$'\ntold' ./small ''
     want "two words" 7 $'one two 5\n2 -h x\ninput' told ./small -h x
+    printf '#!/bin/sh\necho rejected >&2; exit 1\n' >crates/small/out/small
+    want "rejected words" 1 '' rejected ./small x
+    want "rejected words, on a terminal" 1 $'rejected\nsmall: ./small --help prints the words that it takes' '' hinted
 }
 
 what_cannot_be_built() {

@@ -1,5 +1,5 @@
 """Models of the sequences and maps that `collection_scripts` runs scripts of, written from the heads of its modules:
-plain lists and dicts. A model says what a line is answered, and draws lines for random scripts."""
+plain lists and dicts. A model computes the answer to a line, and draws lines for random scripts."""
 from bisect import bisect_left, bisect_right
 
 # A random script puts in more than it takes out for so many calls, and then the other way round.
@@ -35,8 +35,8 @@ class Versions:
         self.now, self.other, self.kept, self.made = self.EMPTY, self.EMPTY, [], 0
 
     def answer(self, line, answered):
-        """What the line is answered: `Ok(())` if the call says nothing, and what the program said if that is not known,
-        or is a refusal. A call without a place or an entry to change is never refused."""
+        """The answer to a line: `Ok(())` if the call returns nothing. The answer of the program counts if it cannot be
+        known, or if the call failed. A call without a place or an entry to change never fails."""
         word, *words = line.split(" ")
         numbers = [int(number) for number in words if number.isdigit()]
         made = numbers[0] if word in self.MAKES_MANY else word in self.MAKES
@@ -53,7 +53,7 @@ class Versions:
         return answered
 
     def refuse(self, word):
-        """A refused call changes nothing, but what it was given is gone."""
+        """A call that fails changes nothing, but its arguments are dropped."""
 
     def draw(self, chance, step):
         """A line of a random script."""

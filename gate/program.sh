@@ -1,7 +1,8 @@
 #!/usr/bin/env bash
-# Runs the built program as a user does: each exit status, what is printed where, each size, and arguments that are hard
-# to read. How lines and words are read is proved, so here are a few of each, by which the program is seen to do so.
+# Runs the built program as a user does: each exit status, both outputs, each size, and arguments that are hard to read.
+# The reading of lines and words is proved, so here are only a few of each, which show that the program reads them so.
 set -uo pipefail
+. "$(dirname "$(readlink -f -- "$0")")/help.sh"
 cd "$(dirname "$(readlink -f -- "$0")")/.." || exit
 program=crates/arcbench/out/arcbench folder=$(mktemp -d) passed=0 failed=0
 trap 'rm -rf "$folder"' EXIT

@@ -1,10 +1,11 @@
 #!/usr/bin/env bash
-# `rt ci`, which has to pass each crate and each mutant of the tree. It may name a mutant that cannot be applied, since
-# its old text is gone, and still end with 0.
+# Runs `rt ci`, which has to prove each crate and to reject each mutant of the tree. `rt ci` names a mutant whose old
+# text is gone, and still ends with 0. Here such a mutant is an error.
 #
-# `rt ci` reckons with more memory than a proof takes, and where little is free it proves one crate after the other.
-# There it is told how many to prove at once: 3 GB are enough for each.
+# `rt ci` assumes that a proof takes more memory than it does, and proves one crate after the other where little memory
+# is free. There RT_JOBS says how many crates are proved at once: 3 GB are enough for each.
 set -uo pipefail
+. "$(dirname "$(readlink -f -- "$0")")/help.sh"
 cd "$(dirname "$(readlink -f -- "$0")")/.." || exit
 said=$(mktemp)
 trap 'rm -f "$said"' EXIT

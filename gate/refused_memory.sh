@@ -1,10 +1,11 @@
 #!/usr/bin/env bash
-# Refuses each single request for memory in turn: each test of `refusals`, `arcbench` on two scripts, and
-# `collection_scripts` on five, runs with its first request refused, then with its second, until a run meets no refusal.
-# What a run reports, and how many blocks it keeps to its end, is its outcome. Those of all runs have to be just those
-# of crates/test_refusals/outcomes.txt, and each as often as there, so no call makes a request more or less. With
-# --write it writes that file, for you to judge.
+# Makes each single allocation fail in turn. Each test of `refusals`, `arcbench` on two scripts, and
+# `collection_scripts` on five scripts runs with its first allocation refused, then with its second, until no allocation
+# of a run is refused. The outcome of a run is what it prints and how many blocks it leaks. The outcomes of all runs
+# have to be exactly those of crates/test_refusals/outcomes.txt, so an allocation too many or too few is seen. With
+# --write the script writes that file. Review it then.
 set -u
+. "$(dirname "$(readlink -f -- "$0")")/help.sh"
 cd "$(dirname "$(readlink -f -- "$0")")/.." || exit
 outcomes=crates/test_refusals/outcomes.txt
 folder=$(mktemp -d)
@@ -15,7 +16,7 @@ cc -O2 -shared -fPIC -o "$folder/refuse_request.so" gate/refuse_request.c || exi
 # The lines of a file as one.
 joined() { paste -s -d '~' | sed 's, *~ *, / ,g'; }
 
-# outcomes_of NAME INPUT COMMAND.. : what each run of it comes to. None makes a thousand requests.
+# outcomes_of NAME INPUT COMMAND.. : prints the outcome of each run. No run makes a thousand requests.
 outcomes_of() {
     local name=$1 input=$2 request memory errors output status
     shift 2
@@ -33,12 +34,11 @@ outcomes_of() {
     echo "$name: the requests did not end"
 }
 
-# The tests of `refusals` that a crate has.
+# outcomes_of_tests CRATE : those of its tests in `refusals`.
 outcomes_of_tests() {
-    local name program=crates/$1/out/$1_tests
-    for name in $("$program" --list | sed -n 's/^\(refusals::.*\): test$/\1/p'); do
-        outcomes_of "$name" /dev/null "$program" "$name"
-    done
+    local name tests program=crates/$1/out/$1_tests
+    tests=$("$program" --list | sed -n 's/^\(refusals::.*\): test$/\1/p')
+    for name in $tests; do outcomes_of "$name" /dev/null "$program" "$name"; done
 }
 
 printf '%s\n' 'lend 0 0 1' 'clone 1 0' 'raise 1' 'raise 1' 'quit 1' >"$folder/steps"
@@ -56,7 +56,7 @@ awk '/^#/ { next } /^ +[0-9]+ times$/ { times = $1; next } { tell(); outcome = $
     LC_ALL=C sort -k 2 >"$folder/expected"
 
 diff "$folder/expected" "$folder/came" >"$folder/differ"
-# A builder asks for its block, and for room for its items if it does not know how many come.
+# A builder requests its block, and room for its items if it does not know their number.
 awk '/ refusals::builders::.*: refused/ && $1 > (/ of 0 items|: no block/ ? 1 : 2)' "$folder/came" >"$folder/more"
 sed -n 's/^< */did not come: /p; s/^> */not expected: /p' "$folder/differ" >&2
 sed 's/^ */too many requests: /' "$folder/more" >&2

@@ -1,7 +1,8 @@
 #!/usr/bin/env bash
-# Counts what the tree has, which ./check compares with gate/wanted.tsv, so that nothing goes unseen. With --write it
-# writes the count there, for you to judge.
+# Counts the crates, mutants, tests, examples and documents of the tree. ./check compares the counts with
+# gate/wanted.tsv, so that none is lost unseen. With --write the script writes the counts there. Review them then.
 set -uo pipefail
+. "$(dirname "$(readlink -f -- "$0")")/help.sh"
 cd "$(dirname "$(readlink -f -- "$0")")/.." || exit
 crates=$(grep -c '^[a-z].*:' crates.txt)
 mutants=$(find crates/*/must-fail -name '*.edit' | wc -l)

@@ -1,11 +1,15 @@
 #!/usr/bin/env python3
-"""Runs `collection_scripts` on the scripts of examples/collections, and beside models of its collections on random
-scripts, on long ones that show how many items a call copies, and on a small stack. All items have to end, and no block
-may be kept. It ends at the first script that differs.
+"""Runs `collection_scripts` on the scripts of examples/collections, and compares it with models of its collections on
+random scripts, on long scripts that show how many items a call clones, and on a small stack. All items have to be
+dropped, and no block may leak. It ends at the first script that differs.
 
-With --refused it refuses each request for memory of a few scripts in turn, and prints which call met it. A call that is
-refused has to leave each version as it was.
+With --refused it makes each allocation of a few scripts fail in turn, and prints the call that failed. Such a call has
+to leave each version unchanged.
+
+    gate/versions.py
+    gate/versions.py --refused
 """
+import argparse
 import os
 import random
 import re
@@ -29,7 +33,7 @@ class Differs(Exception):
 
 
 def ran(library, lines, request=0, stack=None):
-    """The answers, what was told of memory, and the status."""
+    """The answers, the report on memory, and the status."""
     environment = {**os.environ, "LD_PRELOAD": library, "REFUSED_REQUEST": str(request)}
     limit = (lambda: resource.setrlimit(resource.RLIMIT_STACK, (stack, stack))) if stack else None
     run = subprocess.run([PROGRAM], input="\n".join(lines), capture_output=True, text=True, env=environment,
@@ -38,7 +42,7 @@ def ran(library, lines, request=0, stack=None):
 
 
 def compare(model, lines, answers):
-    """Ends at the first call that is not answered as by the model. Returns the calls that were refused."""
+    """Ends at the first call that the model answers otherwise. Returns the calls that failed."""
     refused = []
     for number, (line, answer) in enumerate(zip(lines, answers), 1):
         refused += [line] * (answer in REFUSED)
@@ -50,7 +54,7 @@ def compare(model, lines, answers):
 
 
 def settled(library, lines, request=0, stack=None):
-    """The answers of a run that keeps no block, and whether a request was refused."""
+    """The answers of a run that leaks no block, and whether an allocation failed."""
     answers, told, status = ran(library, lines, request, stack)
     is_refused = "memory: refused" in told
     if not told.endswith("d, 0 kept\n") or status and not (is_refused and not answers):
@@ -59,7 +63,7 @@ def settled(library, lines, request=0, stack=None):
 
 
 def checked(library, kind, lines, request=0, stack=None):
-    """The call that was refused, if one was, and whether a request was."""
+    """The call that failed, if one did, and whether an allocation failed."""
     answers, is_refused = settled(library, [kind, *lines], request, stack)
     if is_refused and not answers:
         return "the set-up", True
@@ -70,7 +74,7 @@ def checked(library, kind, lines, request=0, stack=None):
 
 
 def check_examples(library):
-    """Each script prints the lines that stand beside it."""
+    """Each script prints its expected lines."""
     for path in (ROOT / "examples" / "collections").iterdir():
         if not path.suffix:
             answers, _ = settled(library, path.read_text().splitlines())
@@ -166,7 +170,7 @@ def refusal_script(kind):
 
 
 def check_refusals(library, kind):
-    """Runs the script with each request refused, and prints which call met it. Some calls do without."""
+    """Makes each allocation of the script fail in turn, and prints the call that failed. Some calls succeed anyway."""
     for request in range(1, 10_000):
         refused, is_refused = checked(library, kind, refusal_script(kind), request)
         if not is_refused:
@@ -175,10 +179,15 @@ def check_refusals(library, kind):
 
 
 def main():
+    parser = argparse.ArgumentParser(description=__doc__, formatter_class=argparse.RawDescriptionHelpFormatter)
+    parser.add_argument("--refused", action="store_true", help="make each allocation fail in turn")
+    refuses = parser.parse_args().refused
+    if not PROGRAM.exists():
+        sys.exit("versions: run `rt run` in crates/collection_scripts first")
     with tempfile.TemporaryDirectory() as folder:
         library = f"{folder}/memory.so"
         subprocess.run(["cc", "-O2", "-shared", "-fPIC", "-o", library, ROOT / "gate" / "refuse_request.c"], check=True)
-        if sys.argv[1:] == ["--refused"]:
+        if refuses:
             for kind in [*CHANGES, *SCRIPTS]:
                 check_refusals(library, kind)
             return 0
@@ -189,8 +198,8 @@ def main():
             check_copies(library, kind)
         checked(library, "sequence", ["fill 1000000", "ends"], stack=0x40000)
         check_examples(library)
-    print(f"versions: each example, {SEEDS * len(MODELS)} random scripts of {STEPS} calls, copies of 2 collections and a"
-          " small stack as told")
+    print(f"versions: each example, {SEEDS * len(MODELS)} random scripts of {STEPS} calls, copies of 2 collections and"
+          " a small stack as told")
     return 0
 
 

@@ -1,13 +1,13 @@
 //! The commands of tables of unions.
 
-/// A command on the slots of a table of unions, which are numbered from 0.
+/// A command on the slots of a table of unions, which are numbered from 0: `UnionCommand::First(0, 5)`.
 #[derive(Debug, PartialEq, Drop)]
 pub enum UnionCommand<A, B> {
-    /// Puts a new handle of the first type in the slot; a handle that stood there ends.
+    /// Puts a new handle of the first type into the slot; the handle that was there ends.
     First(usize, A),
-    /// Puts a new handle of the second type in the slot; a handle that stood there ends.
+    /// Puts a new handle of the second type into the slot; the handle that was there ends.
     Second(usize, B),
-    /// Puts a clone of the first slot's handle in the second slot.
+    /// Puts a clone of the first slot's handle into the second slot.
     Clone(usize, usize),
     /// Ends the slot's handle.
     Drop(usize),

@@ -11,7 +11,9 @@ use std::alloc::{AllocError, Global};
 /// each rule. `Element::of_rules(alloc, rules)?` makes one. Its type says that the rules are sorted.
 #[derive(Drop)]
 pub struct Element {
+    /// The rules that match, by ascending specificity: the last is the strongest.
     pub rules: ThinArc<(), Arc<Rule>>,
+    /// The declarations of the element itself, if there are any.
     pub inline: Option<Arc<Inline>>,
     pub ghost sorted: { IsNonDecreasingBy (λ rule. rule.specificity) rules.items },
 }

@@ -9,6 +9,7 @@ use std::alloc::{AllocError, Global};
 /// The properties of text: `Font { size: 16, weight: 400 }`. The size is in pixels.
 #[derive(Clone, Copy, PartialEq)]
 pub struct Font {
+    /// In pixels.
     pub size: u32,
     pub weight: u32,
 }
@@ -16,6 +17,7 @@ pub struct Font {
 /// The properties of an edge: `Border { width: 0, color: 0 }`. The width is in pixels.
 #[derive(Clone, Copy, PartialEq)]
 pub struct Border {
+    /// In pixels.
     pub width: u32,
     pub color: u32,
 }

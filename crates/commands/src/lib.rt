@@ -53,6 +53,7 @@ pub enum PlainCommand<T> {
 /// command with another reply is dropped.
 #[derive(Clone, Copy, Debug, PartialEq, Eq)]
 pub enum Reply {
+    /// The command was carried out.
     Done,
     /// The answer to `PtrEq` or `Same`.
     Is(bool),

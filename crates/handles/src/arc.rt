@@ -114,8 +114,7 @@ impl<T: Drop> Arc<T> {
         Arc::new_leaked(alloc, value)
     }
 
-    /// Clones the handle that the token keeps: `Arc::from_raw_addrefed(&raw, &rt)?`. The cost is that of
-    /// `Arc::clone`.
+    /// Clones the handle that the token keeps: `Arc::from_raw_addrefed(&raw, &rt)`. The cost is that of `Arc::clone`.
     ///
     /// # Errors
     ///

@@ -28,6 +28,7 @@ pub type ThinArc<H, T> = Arc<HeaderSlice<H, T>>;
 /// Items are neither added nor removed. Only the builders of `Arc` and `UniqueArc` make a header slice. The items are
 /// in an allocation of their own, beside that of the block.
 pub struct HeaderSlice<H, T> {
+    /// The header, which can be written through a `&mut` to the slice.
     pub header: H,
     items: Items<T>,
 }

@@ -49,7 +49,9 @@ fn argument_word(rt: &impl Env, alloc: Global, index: usize) -> Result<Option<St
 /// `Request::Core { owners, limit }`.
 #[derive(Clone, Copy)]
 pub enum Request {
+    /// Run a script on a counting core.
     Core { owners: usize, limit: u64 },
+    /// Run a script on a table of handles.
     Table { slots: usize },
 }
 

@@ -11,7 +11,9 @@ use arrayvec::ArrayVec;
 /// A line of a word and at most three numbers, each after one space: `read_line(text)`.
 #[derive(Drop)]
 pub struct Line<'a> {
+    /// The bytes before the first space.
     pub word: &'a [u8],
+    /// The numbers after the word, in their order.
     pub numbers: ArrayVec<u32, 3>,
 }
 

@@ -10,7 +10,9 @@ use commands::Command;
 /// A line of a table's script: a command, or in `TableLine::Get(0)` the question which number a slot has.
 #[derive(Drop)]
 pub enum TableLine {
+    /// Serve the command.
     Serve(Command<u32>),
+    /// Answer with the number in the slot at this index.
     Get(usize),
 }
 

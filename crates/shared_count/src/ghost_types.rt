@@ -14,6 +14,7 @@ pub enum Call {
 
 /// An entry of a history: a call by the pass with the name `caller`.
 pub struct Event {
+    /// The name of the pass.
     pub caller: u64,
     pub call: Call,
 }
@@ -21,8 +22,10 @@ pub struct Event {
 /// What is known of a pass: the number of passes that its count was opened with, its name, and the history that it
 /// has seen.
 pub struct Known {
+    /// The number of passes that the count was opened with.
     pub passes: u64,
     pub name: u64,
+    /// The history that the pass has seen, the earliest call first.
     pub seen: LinkedList<Event>,
 }
 

@@ -43,7 +43,9 @@ impl<A, B> Model for ArcUnion<A, B> {
 #[derive(Debug)]
 #[derive_where(Clone, Copy)]
 pub enum ArcUnionBorrow<'a, A, B> {
+    /// The handle is of the first type.
     First(ArcBorrow<'a, A>),
+    /// The handle is of the second type.
     Second(ArcBorrow<'a, B>),
 }
 

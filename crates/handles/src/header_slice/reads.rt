@@ -35,8 +35,8 @@ impl<H, T> HeaderSlice<H, T> {
     }
 }
 
-/// Iterates over the items from first to last: `for x in &slice`. In a crate that names `servo_arc` in crates.txt and
-/// not `handles`, write `slice.iter()`.
+/// Iterates over the items from first to last: `for x in &*slice`. In a crate that names `servo_arc` in crates.txt
+/// and not `handles`, write `slice.iter()`.
 impl<'a, H, T> IntoIterator for &'a HeaderSlice<H, T> {
     type Item = &'a T;
 

@@ -8,7 +8,7 @@ use servo_arc::{StaticArc, UniqueArc};
 use std::alloc::{AllocError, Global};
 
 /// The static groups of the initial style, which is copied as two pointers are, also to other threads:
-/// `Initial::new(alloc)?`. To make a style of these groups cannot fail.
+/// `Initial::new(alloc)?`. Making a style of these groups cannot fail.
 #[derive(Clone, Copy)]
 pub struct Initial {
     font: StaticArc<'static, Font>,

@@ -32,7 +32,7 @@ pub struct Style {
 
 impl Style {
     /// Sets the property of the declaration: `style.declare(alloc, Declaration::FontSize(20))?`. A group that another
-    /// style shares is copied first.
+    /// style shares, or that is static, is copied first.
     ///
     /// # Errors
     ///

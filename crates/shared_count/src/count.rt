@@ -103,7 +103,7 @@ impl SharedCount {
         reply
     }
 
-    /// Makes the count static, by one or: from then on no `end` is the last: `count.mark(&mut pass)`. A second call
+    /// Makes the count static, by one or: `count.mark(&mut pass)`. From then on no `end` is the last. A second call
     /// changes nothing.
     pub fn mark(&self, pass: &mut CountPass)
         requires count { pass.old.count ≡ self.now }
@@ -140,7 +140,7 @@ impl SharedCount {
     }
 
     /// Lets both passes see one history, which has all calls of both: `count.meet(&mut first, &mut second)`. The
-    /// passes need not own a handle. It makes five loads.
+    /// passes need not own a handle. The call makes five loads.
     pub fn meet(&self, first: &mut CountPass, second: &mut CountPass)
         requires first { first.old.count ≡ self.now }
         requires second { second.old.count ≡ self.now }

@@ -14,7 +14,8 @@ use std::marker::Model;
 /// A handle of one of two types, such as the source of a style, a rule or the element itself:
 /// `ArcUnion::from_first(rule)`.
 ///
-/// `match` on what `borrow` returns. The two kinds stay apart even if their types are the same. It takes two words.
+/// Use `match union.borrow()` to read it. A union is the first or the second variant, also if both types are the
+/// same. It takes two words.
 #[derive(Drop)]
 pub struct ArcUnion<A, B> {
     handle: EitherArc<A, B>,
@@ -43,16 +44,16 @@ impl<A, B> Model for ArcUnion<A, B> {
 #[derive(Debug)]
 #[derive_where(Clone, Copy)]
 pub enum ArcUnionBorrow<'a, A, B> {
-    /// The handle is of the first type.
+    /// The union is the first variant.
     First(ArcBorrow<'a, A>),
-    /// The handle is of the second type.
+    /// The union is the second variant.
     Second(ArcBorrow<'a, B>),
 }
 
 impl<A, B> ArcUnion<A, B> {
     ghost use Rattle.unions.specs.UnionHandles.{borrowed_union};
 
-    /// Wraps a handle of the first type: `ArcUnion::from_first(rule)`. The count stays as it is.
+    /// Wraps a handle as the first variant: `ArcUnion::from_first(rule)`. The count stays as it is.
     pub fn from_first(handle: Arc<A>) -> ArcUnion<A, B>
         ensures { result ≡ First handle }
     {
@@ -61,7 +62,7 @@ impl<A, B> ArcUnion<A, B> {
         }
     }
 
-    /// Wraps a handle of the second type: `ArcUnion::from_second(inline)`. The count stays as it is.
+    /// Wraps a handle as the second variant: `ArcUnion::from_second(inline)`. The count stays as it is.
     pub fn from_second(handle: Arc<B>) -> ArcUnion<A, B>
         ensures { result ≡ Second handle }
     {
@@ -70,21 +71,21 @@ impl<A, B> ArcUnion<A, B> {
         }
     }
 
-    /// Returns `true` if the handle is of the first type: `union.is_first()`.
+    /// Returns `true` if the union is the first variant: `union.is_first()`.
     pub fn is_first(&self) -> bool
         ensures { result ≡ is_first self.now }
     {
         matches!(self.handle, EitherArc::First(_))
     }
 
-    /// Returns `true` if the handle is of the second type: `union.is_second()`.
+    /// Returns `true` if the union is the second variant: `union.is_second()`.
     pub fn is_second(&self) -> bool
         ensures { result ≡ is_second self.now }
     {
         matches!(self.handle, EitherArc::Second(_))
     }
 
-    /// Borrows the handle, if it is of the first type: `union.as_first()`.
+    /// Borrows the handle, if the union is the first variant: `union.as_first()`.
     pub fn as_first(&self) -> Option<ArcBorrow<'_, A>>
         ensures { option_map borrowed result ≡ first self.now }
     {
@@ -94,7 +95,7 @@ impl<A, B> ArcUnion<A, B> {
         }
     }
 
-    /// Borrows the handle, if it is of the second type: `union.as_second()`.
+    /// Borrows the handle, if the union is the second variant: `union.as_second()`.
     pub fn as_second(&self) -> Option<ArcBorrow<'_, B>>
         ensures { option_map borrowed result ≡ second self.now }
     {
@@ -104,7 +105,7 @@ impl<A, B> ArcUnion<A, B> {
         }
     }
 
-    /// Borrows the handle, whichever its type is: `match union.borrow()`. The count stays as it is.
+    /// Borrows the handle of either variant: `match union.borrow()`. The count stays as it is.
     pub fn borrow(&self) -> ArcUnionBorrow<'_, A, B>
         ensures { borrowed_union result ≡ self.now }
     {
@@ -114,11 +115,11 @@ impl<A, B> ArcUnion<A, B> {
         }
     }
 
-    /// Unwraps the handle, if it is of the first type: `union.into_first()`. The count stays as it is.
+    /// Unwraps the handle, if the union is the first variant: `union.into_first()`. The count stays as it is.
     ///
     /// # Errors
     ///
-    /// Returns the union if the handle is of the second type.
+    /// Returns the union if it is the second variant.
     pub fn into_first(self) -> Result<Arc<A>, ArcUnion<A, B>>
         ensures first { IfOk result (λ a. self ≡ First a) }
         ensures second { IfErr result (λ u. (u ≡ self) × IsTrue (is_second self)) }
@@ -129,11 +130,11 @@ impl<A, B> ArcUnion<A, B> {
         }
     }
 
-    /// Unwraps the handle, if it is of the second type: `union.into_second()`. The count stays as it is.
+    /// Unwraps the handle, if the union is the second variant: `union.into_second()`. The count stays as it is.
     ///
     /// # Errors
     ///
-    /// Returns the union if the handle is of the first type.
+    /// Returns the union if it is the first variant.
     pub fn into_second(self) -> Result<Arc<B>, ArcUnion<A, B>>
         ensures second { IfOk result (λ b. self ≡ Second b) }
         ensures first { IfErr result (λ u. (u ≡ self) × IsTrue (is_first self)) }
@@ -144,7 +145,7 @@ impl<A, B> ArcUnion<A, B> {
         }
     }
 
-    /// Returns `true` if both handles are of one type and of one block: `ArcUnion::ptr_eq(&a, &b)`. The answer is as
+    /// Returns `true` if both are the same variant and have one block: `ArcUnion::ptr_eq(&a, &b)`. The answer is as
     /// exact as that of `Arc::ptr_eq`.
     pub fn ptr_eq(this: &Self, other: &Self) -> bool
         ensures one_kind { IsTrue result → is_first this.now ≡ is_first other.now }

@@ -11,16 +11,16 @@ pub enum UnionCommand<A, B> {
     Clone(usize, usize),
     /// Ends the slot's handle.
     Drop(usize),
-    /// Asks whether the slot's handle is of the first type.
+    /// Asks whether the slot's union is the first variant.
     IsFirst(usize),
-    /// Asks whether the slot's handle is of the second type.
+    /// Asks whether the slot's union is the second variant.
     IsSecond(usize),
-    /// Asks whether the slot's handle is of the first type, with a value equal to this one.
+    /// Asks whether the slot's union is the first variant, with a value equal to this one.
     ReadFirst(usize, A),
-    /// Asks whether the slot's handle is of the second type, with a value equal to this one.
+    /// Asks whether the slot's union is the second variant, with a value equal to this one.
     ReadSecond(usize, B),
     /// Asks whether two slots have handles of one block.
     PtrEq(usize, usize),
-    /// Asks whether two slots have handles of one type with equal values.
+    /// Asks whether two slots have the same variant with equal values.
     Same(usize, usize),
 }

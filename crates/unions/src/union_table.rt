@@ -109,7 +109,7 @@ impl<A: PartialEq + Drop, B: PartialEq + Drop> Serve<UnionCommand<A, B>> for Uni
 }
 
 impl<A: PartialEq + Drop, B: PartialEq + Drop> UnionTable<A, B> {
-    /// Replies whether two slots have handles of one type with equal values: `table.same(0, 1)`.
+    /// Replies whether two slots have the same variant with equal values: `table.same(0, 1)`.
     #[inline]
     pub fn same(&self, i: usize, j: usize) -> Reply
         ensures { IsAmong (compares (union_eq A.eq B.eq) i j self.now) result self.now }

@@ -16,7 +16,7 @@ use commands::NumberTable;
 use std::alloc::{AllocError, Global};
 use std::io::Write;
 
-/// Runs the script on a new table of so many empty slots. Writes the answer to each line, up to the first line that
+/// Runs the script on a new table of `slots` empty slots. Writes the answer to each line, up to the first line that
 /// is invalid, and in place of its answer the fault.
 ///
 /// Returns `Line` at that line, `Output` if a write fails, and `Memory` if the table or the room for the answers

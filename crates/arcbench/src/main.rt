@@ -1,6 +1,6 @@
-//! Runs a script from standard input, on a counting core or on a table of handles: `arcbench core OWNERS`,
-//! `arcbench core OWNERS LIMIT` or `arcbench table SLOTS`. examples/README.md has the lines of a script, what each
-//! prints, and the exit statuses.
+//! Runs a script from standard input, on a counting core (the protocol of the count as a machine) or on a table of
+//! handles: `arcbench core OWNERS`, `arcbench core OWNERS LIMIT` or `arcbench table SLOTS`. examples/README.md has
+//! the lines of a script, what each prints, and the exit statuses.
 #![tactic(auto)]
 
 use std::process::ExitCode;

@@ -1,4 +1,4 @@
--- What finds a node: a child with its parent and its source.
+-- The query that finds a node: a child with its parent and its source.
 use Rattle.std.specs.Prelude.{◌≡◌, Bool, true}
 use Rattle.std.proofs.Common.{refl, ◌∙◌}
 use Rattle.interner.specs.Queries.{IsFormOf}

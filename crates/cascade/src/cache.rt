@@ -1,4 +1,4 @@
-//! Styles by number: each path of sources has one node in a tree, and each node one style.
+//! `StyleCache`: each path of sources has one node in a rule tree, and each node has one style.
 ghost use Rattle.std.specs.Prelude.{◌≡◌, ◌<◌, IfOk, OnErr, Some, length};
 ghost use Rattle.cascade.specs.Cascade.{cascaded, initial, style_of};
 ghost use Rattle.cascade.specs.RuleTree.{IsBefore, AreComputed, lent, style_at};
@@ -12,11 +12,13 @@ use servo_arc::Arc;
 use std::alloc::{AllocError, Global};
 use std::hash::{BuildHasher, BuildHasherDefault, FoldHasher};
 
-/// The rule tree with the style of each node. A node is numbered once, however many elements have its path, and its
-/// style is computed then, from that of its parent. So elements with one path share one style, and elements whose paths
-/// begin alike share what the rest left alone.
+/// A rule tree with the style of each node: `cache.style(alloc, &element)?`.
 ///
-/// `S` makes the hash of a node: take `RandomState` if the rules come from a stranger.
+/// Elements with one path of sources share one node and one style. The style of a node is computed once, from the
+/// style of its parent, when the node is added. So elements whose paths begin alike share the groups of properties
+/// that the rest of their paths does not declare.
+///
+/// `S` makes the hash of a node: use `RandomState` if the rules come from a stranger.
 #[derive(Drop)]
 pub struct StyleCache<S: BuildHasher = BuildHasherDefault<FoldHasher>> {
     root: Arc<Style>,
@@ -26,14 +28,23 @@ pub struct StyleCache<S: BuildHasher = BuildHasherDefault<FoldHasher>> {
 }
 
 impl StyleCache<BuildHasherDefault<FoldHasher>> {
-    /// Without a node but the root.
+    /// Creates a cache that has only the root: `StyleCache::new(alloc, initial)?`.
+    ///
+    /// # Errors
+    ///
+    /// Returns `AllocError` if the style of the root cannot be allocated.
     pub fn new(alloc: Global, initial: Initial) -> Result<StyleCache, AllocError> {
         StyleCache::with_hasher(alloc, initial, BuildHasherDefault::new())
     }
 }
 
 impl<S: BuildHasher> StyleCache<S> {
-    /// As `new`, with a hasher of the caller's choice.
+    /// Creates a cache that has only the root, with a hasher of your choice:
+    /// `StyleCache::with_hasher(alloc, initial, hasher)?`.
+    ///
+    /// # Errors
+    ///
+    /// Returns `AllocError` if the style of the root cannot be allocated.
     pub fn with_hasher(
         alloc: Global,
         initial: Initial,
@@ -48,7 +59,12 @@ impl<S: BuildHasher> StyleCache<S> {
         })
     }
 
-    /// The style of the element, which it shares with all elements of its path. If it is refused, the nodes that were
+    /// Returns the style of the element, which all elements of its path share: `cache.style(alloc, &element)?`. O(n)
+    /// on average in the length of the path.
+    ///
+    /// # Errors
+    ///
+    /// Returns the errors of `Interner::intern_by`, or `Memory` if a handle cannot be cloned. The nodes that were
     /// added stay.
     pub fn style(&mut self, alloc: Global, element: &Element) -> Result<Arc<Style>, InternError>
         ensures { IfOk result (λ style. style ≡ style_of element.now) }
@@ -57,7 +73,7 @@ impl<S: BuildHasher> StyleCache<S> {
         Ok(style_of_node(&self.root, self.nodes.values(), node).clone()?)
     }
 
-    // The node at which the path of the element ends.
+    // Returns the node at which the path of the element ends.
     fn node(&mut self, alloc: Global, element: &Element) -> Result<Option<Symbol>, InternError>
         ensures { IfOk result (λ node. style_at self.new.root self.new.nodes node ≡ style_of element.now) }
     {
@@ -72,7 +88,7 @@ impl<S: BuildHasher> StyleCache<S> {
         }
     }
 
-    // The node of the source under that parent. It is added if it is not there.
+    // Returns the node of the source under that parent, and adds the node if it is not there.
     fn child(
         &mut self,
         alloc: Global,

@@ -1,4 +1,4 @@
-//! How an interner finds a node by its parent and a source that is lent, and makes one.
+//! How an interner finds a node by its parent and a borrowed source, and makes a node.
 ghost use Rattle.std.specs.Prelude.{◌≡◌};
 ghost use Rattle.cascade.specs.Children.{is_child, is_form};
 ghost use Rattle.cascade.specs.RuleTree.{made_of};

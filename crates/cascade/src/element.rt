@@ -1,4 +1,4 @@
-//! What declares the style of an element.
+//! The sources that declare the style of an element.
 ghost use Rattle.std.specs.Prelude.{◌≡◌, IfOk, None, Some, IsPermutation};
 ghost use Rattle.std.specs.List.Sorted.{IsNonDecreasingBy, IsStableByKey};
 ghost use Rattle.std.specs.Ordering.{nat_cmp};
@@ -7,16 +7,18 @@ use crate::source::{Inline, Rule};
 use servo_arc::{Arc, ThinArc};
 use std::alloc::{AllocError, Global};
 
-/// The rules that match an element, the weakest first, as its type says, and what stands at the element itself, which
-/// is stronger than each rule.
+/// An element: the rules that match it, by ascending specificity, and its own declarations, which are stronger than
+/// each rule. `Element::of_rules(alloc, rules)?` makes one. Its type says that the rules are sorted.
 #[derive(Drop)]
 pub struct Element {
+    /// The rules that match, by ascending specificity: the last is the strongest.
     pub rules: ThinArc<(), Arc<Rule>>,
+    /// The declarations of the element itself, if there are any.
     pub inline: Option<Arc<Inline>>,
     pub ghost sorted: { IsNonDecreasingBy (λ rule. rule.specificity) rules.items },
 }
 
-/// One more handle of each part. It is refused as the `clone` of an `Arc` is.
+/// Clones the handles of both parts, and fails as the `clone` of an `Arc` does.
 impl Clone for Element {
     ghost is_clone = { λ a b. b ≡ a };
 
@@ -29,8 +31,12 @@ impl Clone for Element {
 }
 
 impl Element {
-    /// An element that the rules match. They come in the order of their sheet, and stand by specificity here; of two
-    /// that have the same the later is the stronger.
+    /// Creates an element that the rules match: `Element::of_rules(alloc, rules)?`. The rules come in the order of
+    /// their sheet, and are sorted by specificity. Of two rules with one specificity the later is the stronger.
+    ///
+    /// # Errors
+    ///
+    /// Returns `AllocError` if an allocation fails, and drops the rules.
     pub fn of_rules(alloc: Global, rules: Vec<Arc<Rule>>) -> Result<Element, AllocError>
         ensures rules { IfOk result (λ element. IsPermutation rules.items element.rules.items) }
         ensures stable { IfOk result (λ element.
@@ -45,7 +51,11 @@ impl Element {
         })
     }
 
-    /// The element with another block of its own, over the same rules. It is refused as the `clone` of an `Arc` is.
+    /// Creates an element with other declarations of its own, over the same rules: `element.with_inline(inline)?`.
+    ///
+    /// # Errors
+    ///
+    /// Returns `AllocError` as the `clone` of an `Arc` does, and drops `inline`.
     pub fn with_inline(&self, inline: Arc<Inline>) -> Result<Element, AllocError>
         ensures { IfOk result (λ element. element ≡ record self.now { inline = Some inline }) }
     {

@@ -1,4 +1,4 @@
-//! The style of which nothing is declared, whose groups all styles share.
+//! The initial style, in which nothing is declared. All styles share its groups of properties.
 ghost use Rattle.std.specs.Prelude.{◌≡◌};
 ghost use Rattle.servo_arc.specs.Stays.{value_of};
 ghost use Rattle.cascade.specs.Cascade.{initial};
@@ -7,8 +7,8 @@ use crate::style::{Border, Font, Style};
 use servo_arc::{StaticArc, UniqueArc};
 use std::alloc::{AllocError, Global};
 
-/// Handles that know their blocks to be marked, so no style that is made of them is refused. They are copied as two
-/// pointers are, also to other threads.
+/// The static groups of the initial style, which is copied as two pointers are, also to other threads:
+/// `Initial::new(alloc)?`. Making a style of these groups cannot fail.
 #[derive(Clone, Copy)]
 pub struct Initial {
     font: StaticArc<'static, Font>,
@@ -18,7 +18,11 @@ pub struct Initial {
 }
 
 impl Initial {
-    /// Two requests for memory, which is never freed once both are met. To be asked for once.
+    /// Creates the two groups, in two allocations that are never freed: `Initial::new(alloc)?`. Call it once.
+    ///
+    /// # Errors
+    ///
+    /// Returns `AllocError` if an allocation fails, and frees the other.
     pub fn new(alloc: Global) -> Result<Initial, AllocError> {
         let font = Font {
             size: 16,
@@ -27,14 +31,14 @@ impl Initial {
         let border = Border { width: 0, color: 0 };
         let font = UniqueArc::try_new(alloc, font)?;
         let border = UniqueArc::try_new(alloc, border)?;
-        // Not before both are there, so that nothing is lost if one is refused.
+        // Made static only when both exist, so that nothing leaks if one allocation fails.
         Ok(Initial {
             font: font.into_static(),
             border: border.into_static(),
         })
     }
 
-    /// The initial style. It takes no memory and no step on a count.
+    /// Returns the initial style, without an allocation or an atomic step: `initial.style()`.
     pub fn style(&self) -> Style
         ensures { result ≡ initial }
     {

@@ -1,5 +1,6 @@
-//! A small style engine: rules and inline blocks, a tree that numbers the paths of rules, and styles that are computed
-//! once for each path and share what their declarations left alone.
+//! A small style engine, a cascade as in CSS: rules, the declarations of elements, and a tree of the paths of rules.
+//! Each path has one style, which is computed once and shares the groups of properties that the path does not
+//! declare.
 #![tactic(auto)]
 
 mod cache;

@@ -1,4 +1,4 @@
-//! The nodes of a rule tree, and what one is looked up by.
+//! The nodes of a rule tree, and the queries that find them.
 ghost use Rattle.std.specs.Prelude.{◌≡◌, IfOk};
 ghost use Rattle.cascade.specs.RuleTree.{lent, style_at};
 
@@ -8,8 +8,8 @@ use interner::Symbol;
 use servo_arc::{Arc, ArcUnion, ArcUnionBorrow};
 use std::alloc::AllocError;
 
-/// A source under its parent, which is a node or the root, with the style that both make. It is told from other nodes
-/// by parent and source alone.
+/// A node of the rule tree: a source under its parent, which is a node or the root, with the style that both make.
+/// Nodes are compared by parent and source alone.
 #[derive(Drop)]
 #[derive_where(PartialEq, Eq, Hash)]
 pub struct RuleNode {
@@ -19,14 +19,15 @@ pub struct RuleNode {
     pub style: Arc<Style>,
 }
 
-/// A source as an element lends it: no handle is cloned to look it up.
+/// A borrowed source, as `LentSource::OfRule(rule)`: to look a node up, no handle is cloned.
 #[derive(Clone, Copy, PartialEq, Eq, Hash)]
 pub enum LentSource<'a> {
     OfRule(&'a Arc<Rule>),
     OfInline(&'a Arc<Inline>),
 }
 
-/// What a node is looked up by, and made of. The style of the root plays no part in the look-up.
+/// The query for a node, of which an interner also makes the node: `Child { parent, source, root: &self.root }`. The
+/// style of the root is neither hashed nor compared.
 #[derive(Clone, Copy)]
 #[derive_where(PartialEq, Eq, Hash)]
 pub struct Child<'a> {
@@ -37,7 +38,7 @@ pub struct Child<'a> {
 }
 
 impl LentSource<'_> {
-    // A handle of one's own.
+    // Clones the handle of the source.
     pub(crate) fn handle(&self) -> Result<Source, AllocError>
         ensures { IfOk result (λ source. source ≡ lent self.now) }
     {
@@ -58,7 +59,7 @@ impl LentSource<'_> {
     }
 }
 
-/// The style of a node, or of the root.
+/// Returns the style of a node, or of the root.
 pub(crate) fn style_of_node<'a>(
     root: &'a Arc<Style>,
     nodes: &'a [Arc<RuleNode>],

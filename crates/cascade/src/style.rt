@@ -1,4 +1,4 @@
-//! Styles of elements, which share the groups of properties that a declaration left alone.
+//! The styles of elements, which share the groups of properties that no declaration changed.
 ghost use Rattle.std.specs.Prelude.{◌≡◌, IfOk, OnErr, OnOk};
 ghost use Rattle.cascade.specs.Cascade.{cascaded, declared};
 
@@ -6,21 +6,24 @@ use crate::source::{Declaration, Source, declared_by};
 use servo_arc::Arc;
 use std::alloc::{AllocError, Global};
 
-/// The properties of text.
+/// The properties of text: `Font { size: 16, weight: 400 }`. The size is in pixels.
 #[derive(Clone, Copy, PartialEq)]
 pub struct Font {
+    /// In pixels.
     pub size: u32,
     pub weight: u32,
 }
 
-/// The properties of an edge.
+/// The properties of an edge: `Border { width: 0, color: 0 }`. The width is in pixels.
 #[derive(Clone, Copy, PartialEq)]
 pub struct Border {
+    /// In pixels.
     pub width: u32,
     pub color: u32,
 }
 
-/// How an element looks. Each group of properties is in a block of its own, which styles share.
+/// The style of an element: `*style.font`, `*style.border`. Each group of properties is in a block of its own, which
+/// styles share.
 #[derive(Clone, PartialEq, Drop)]
 pub struct Style {
     pub font: Arc<Font>,
@@ -28,9 +31,12 @@ pub struct Style {
 }
 
 impl Style {
-    /// Takes the declaration. It writes a group that no other style shares in place, and a copy of any other.
+    /// Sets the property of the declaration: `style.declare(alloc, Declaration::FontSize(20))?`. A group that another
+    /// style shares, or that is static, is copied first.
     ///
-    /// It is refused if there is no memory for a copy.
+    /// # Errors
+    ///
+    /// Returns `AllocError` if the copy cannot be allocated. The style is unchanged.
     pub fn declare(&mut self, alloc: Global, declaration: Declaration) -> Result<(), AllocError>
         ensures took { OnOk result (self.new ≡ declared self.old declaration) }
         ensures refused { OnErr result (self.new ≡ self.old) }
@@ -49,9 +55,12 @@ impl Style {
         Ok(())
     }
 
-    /// The style with what the source declares. It shares the groups of which nothing is declared.
+    /// Returns the style with the declarations of the source: `style.cascade(alloc, &source)?`. The new style shares
+    /// the groups of which nothing is declared.
     ///
-    /// It is refused if there is no memory, or as the `clone` of an `Arc` is.
+    /// # Errors
+    ///
+    /// Returns `AllocError` if a copy cannot be allocated, or as the `clone` of an `Arc` does.
     pub fn cascade(&self, alloc: Global, source: &Source) -> Result<Style, AllocError>
         ensures { IfOk result (λ style. style ≡ cascaded self.now source.now) }
     {

@@ -1,4 +1,4 @@
-//! The styles of many elements, in one thread or in four, and of one that threads ask for under a lock.
+//! The styles of many elements, on one thread, two or four, and of one element from a cache that threads share.
 ghost use Rattle.std.specs.Prelude.{◌≡◌, IfOk, map, ◌++◌};
 ghost use Rattle.cascade.specs.Cascade.{style_of};
 
@@ -13,7 +13,11 @@ use std::hash::BuildHasher;
 use std::sync::{Mutex, Wait};
 use std::thread::{Threads, join};
 
-/// The styles of the elements, each at the place of its element, by a cache of their own.
+/// Returns the styles of the elements, in their order, by a new cache: `styles(alloc, initial, &elements)?`.
+///
+/// # Errors
+///
+/// Returns the errors of `StyleCache::style`.
 pub fn styles(
     alloc: Global,
     initial: Initial,
@@ -30,7 +34,12 @@ pub fn styles(
     Ok(styles)
 }
 
-/// The styles of the elements, each at the place of its element. Two threads make a half each, by caches of their own.
+/// Returns the styles of the elements, in their order, by two threads:
+/// `styles_in_two(&rt, alloc, initial, &elements)?`. Each thread has a half and a cache of its own.
+///
+/// # Errors
+///
+/// Returns the errors of `StyleCache::style`.
 pub fn styles_in_two<R: Threads + Sync>(
     rt: &R,
     alloc: Global,
@@ -48,8 +57,12 @@ pub fn styles_in_two<R: Threads + Sync>(
     joined(left?, right?)
 }
 
-/// The styles of the elements, each at the place of its element. Four threads make a quarter each, by caches of their
-/// own.
+/// Returns the styles of the elements, in their order, by four threads:
+/// `styles_in_four(&rt, alloc, initial, &elements)?`. Each thread has a quarter and a cache of its own.
+///
+/// # Errors
+///
+/// Returns the errors of `StyleCache::style`.
 pub fn styles_in_four<R: Threads + Sync>(
     rt: &R,
     alloc: Global,
@@ -76,7 +89,12 @@ fn joined(left: Vec<Arc<Style>>, right: Vec<Arc<Style>>) -> Result<Vec<Arc<Style
     Ok(styles)
 }
 
-/// The style of the element, asked of a cache that threads share.
+/// Returns the style of the element, from a cache that threads share: `shared_style(&rt, &cache, alloc, &element)?`.
+/// The call waits for the lock.
+///
+/// # Errors
+///
+/// Returns the errors of `StyleCache::style`.
 pub fn shared_style<S: BuildHasher>(
     rt: &impl Wait,
     cache: &Mutex<StyleCache<S>>,

@@ -1,4 +1,4 @@
--- What commands never do to slots, whatever they mean.
+-- The statements of the lemmas about commands on slots, whatever the commands mean.
 use Rattle.std.specs.Prelude.{◌≡◌, ◌≢◌, ℕ, List, Option, Some, None, length, slice_get}
 use Rattle.commands.specs.declared.Command.{Command}
 use Rattle.commands.specs.declared.Command.TheVariants.{New, Clone, Drop, GetMut, IntoUnique, MakeMut}

@@ -6,27 +6,28 @@ mod number_table;
 
 pub use number_table::NumberTable;
 
-/// A command on the slots of a table, which are numbered from 0.
+/// A command on the slots of a table, which are numbered from 0: `Command::New(0, 5)`.
 #[derive(Debug, PartialEq, Drop)]
 pub enum Command<T> {
-    /// Puts a new handle of the value in the slot; a handle that stood there ends.
+    /// Puts a new handle of the value into the slot; the handle that was there ends.
     New(usize, T),
-    /// Puts a clone of the first slot's handle in the second slot.
+    /// Puts a clone of the first slot's handle into the second slot.
     Clone(usize, usize),
     /// Ends the slot's handle.
     Drop(usize),
-    /// Writes the value in place, if the slot's handle is the only one of an unmarked block.
+    /// Writes the value in place, if the slot's handle is the only one and its block is not static.
     GetMut(usize, T),
-    /// As `GetMut`, with the slot's handle as a `UniqueArc` meanwhile.
+    /// Writes the value as `GetMut` does, through the slot's handle as a `UniqueArc`.
     IntoUnique(usize, T),
     /// Writes the value, in a block of the slot's own.
     MakeMut(usize, T),
-    /// Gives the slot's handle a block of its own, with a copy of the value if it had to be made. Only for types whose
-    /// copies are the same value, and so not for `String` or `Vec`, whose copy has another buffer.
+    /// Moves the slot's handle to a block of its own, with a clone of the value if the block has other handles or is
+    /// static. Only for types whose clones equal the value, and so not for `String` or `Vec`, whose clone has another
+    /// buffer.
     Own(usize),
-    /// Marks the slot's block, which is never freed from then on.
+    /// Makes the slot's block static, which is never freed from then on.
     Mark(usize),
-    /// Turns the slot's handle into a token and back.
+    /// Turns the slot's handle into a token (`RawArc`) and back.
     Raw(usize),
     /// Asks whether two slots have handles of one block.
     PtrEq(usize, usize),
@@ -34,7 +35,7 @@ pub enum Command<T> {
     Same(usize, usize),
 }
 
-/// The commands that ask for no copy of a value, each as in [`Command`].
+/// The commands that clone no value, each as in [`Command`]: `PlainCommand::New(0, 5)`.
 #[derive(Debug, PartialEq, Drop)]
 pub enum PlainCommand<T> {
     New(usize, T),
@@ -48,18 +49,20 @@ pub enum PlainCommand<T> {
     Same(usize, usize),
 }
 
-/// The reply to a command. Only `Done` may go with a change. The value of a command with another reply is dropped.
+/// The reply to a command: `Reply::Done`. Only a command with the reply `Done` may change the table. The value of a
+/// command with another reply is dropped.
 #[derive(Clone, Copy, Debug, PartialEq, Eq)]
 pub enum Reply {
+    /// The command was carried out.
     Done,
-    /// The answer to a question.
+    /// The answer to `PtrEq` or `Same`.
     Is(bool),
-    /// The block has other handles, or is marked.
+    /// The block has other handles, or is static.
     Shared,
     /// A slot that the command reads has no handle.
     Empty,
-    /// The table has no slot of that number.
+    /// The table has no slot at that index.
     NoSlot,
-    /// There was no memory, or the handle could not be cloned.
+    /// An allocation failed, or the handle could not be cloned.
     Refused,
 }

@@ -1,4 +1,4 @@
--- What every legal trace keeps, and every core that represents one.
+-- The statements of the lemmas about every legal trace, and about every core that represents one.
 use Rattle.std.specs.Prelude.{◌≡◌, ℕ, ◌≤◌, Bool, true, false, not, ◌&&◌, ◌||◌, ◌⊎◌, ◌↔◌, nat_eq, if◌then◌else◌, List}
 use Rattle.std.specs.Prelude.{[], ◌∷◌, length, count_by}
 use Rattle.counting_word.specs.CountingWord.{is_marked_word, count_of}

@@ -1,4 +1,4 @@
--- How many raises lose.
+-- The number of failed compare-exchanges (lost raises).
 use Rattle.std.specs.Prelude.{ℕ, ◌+◌, ◌-◌, ◌*◌, ◌≤◌, Bool, true, false, if◌then◌else◌}
 use Rattle.counting_core.specs.declared.step.Answer.{Answer}
 use Rattle.counting_core.specs.declared.step.Answer.TheVariants.{Born, Pending, Ended, GivenUp}

@@ -1,4 +1,4 @@
--- Whose step it is, and which step is permitted to whom.
+-- The owner of a step, and which steps each owner is permitted.
 use Rattle.std.specs.List.{list_any}
 use Rattle.std.specs.Prelude.{ℕ, Bool, true, false, not, ◌&&◌, ◌||◌, nat_eq, nat_lt, Option, None, Some, length}
 use Rattle.counting_core.specs.declared.activity.Activity.{Activity}

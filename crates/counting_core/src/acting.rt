@@ -24,7 +24,7 @@ pub(crate) struct Machine<V> {
 }
 
 impl<V: Copy> Machine<V> {
-    // A raise, a quit and a lower go on with what their owner has in flight. The others are on a handle.
+    // The first three steps continue what their owner has in flight. The other steps are on a handle.
     pub(crate) fn step(&mut self, step: Step<V>) -> Answer<V>
         requires { IsReached (core_of self.old) }
         ensures { FollowsWord (core_of self.old) step result (core_of self.new) }
@@ -66,7 +66,7 @@ impl<V: Copy> Machine<V> {
         }
     }
 
-    // Whether the handle is the only one. If it is, its holder has it so from now on.
+    // Returns whether the handle is the only one. If so, its holder has the access from now on.
     fn take(&mut self, handle: usize, access: Access) -> bool
         requires { handle < length self.old.handles.items }
         ensures only { result ≡ is_one_handle self.old.word }
@@ -99,7 +99,7 @@ impl<V: Copy> Machine<V> {
         }
     }
 
-    // A compare-exchange from the word that the owner saw last. One that fails has read the word anew.
+    // Makes a compare-exchange from the word that the owner saw last. If it fails, the owner has seen the word anew.
     fn raise(&mut self, owner: usize) -> Answer<V>
         requires { IsReached (core_of self.old) }
         ensures { FollowsWord (core_of self.old) (Step.Raise owner) result (core_of self.new) }

@@ -1,4 +1,4 @@
-//! What is known of a handle that was born.
+//! What a core keeps for each handle that was born.
 ghost use Rattle.std.specs.Prelude.{◌≡◌, ◌++◌, ◌∷◌, [], length, false, true};
 ghost use Rattle.std.specs.Prelude.{IfSome, IfNone, OnOk, OnErr};
 ghost use Rattle.counting_core.specs.State.{newborn, lent_to, returned_by};
@@ -8,14 +8,14 @@ use std::alloc::{AllocError, Global};
 use std::collections::BTreeSet;
 use std::marker::Model;
 
-/// What a handle is used for, which says who may use it.
+/// How a handle is used, which decides who may use it.
 #[derive(Clone, Copy)]
 pub(crate) enum Access {
-    /// As any handle, by its holder and its borrowers.
+    /// Its holder and its borrowers may use it as any handle.
     Shared,
     /// Its holder is writing the value.
     Written,
-    /// Its holder has it as the sole handle of its block.
+    /// Its holder has it as the only handle of its block, and may write the value at will.
     Sole,
 }
 
@@ -76,28 +76,28 @@ impl HandleEntry {
         self.borrowers.contains(&owner)
     }
 
-    /// By its holder or a borrower, while it is shared.
+    /// Returns whether the owner holds or borrows the handle, while it is shared.
     pub(crate) fn may_be_used_by(&self, owner: usize) -> bool
         ensures { result ≡ may_use self.now owner }
     {
         self.lives && (self.holder == owner || self.borrowers.contains(&owner)) && self.is_shared()
     }
 
-    /// By its holder, while it is shared and lent to nobody.
+    /// Returns whether the owner holds the handle, while it is shared and lent to nobody.
     pub(crate) fn may_be_taken_by(&self, owner: usize) -> bool
         ensures { result ≡ may_take self.now owner }
     {
         self.is_held_by(owner) && self.borrowers.is_empty() && self.is_shared()
     }
 
-    /// Whether the owner holds it, and is writing the value.
+    /// Returns whether the owner holds the handle and is writing the value.
     pub(crate) fn is_written_by(&self, owner: usize) -> bool
         ensures { result ≡ is_writing self.now owner }
     {
         self.is_held_by(owner) && matches!(self.access, Access::Written)
     }
 
-    /// Whether the owner holds it, and it is sole.
+    /// Returns whether the owner holds the handle, and it is sole.
     pub(crate) fn is_sole_of(&self, owner: usize) -> bool
         ensures { result ≡ has_sole self.now owner }
     {
@@ -122,7 +122,7 @@ impl HandleEntry {
         self.holder = owner;
     }
 
-    /// An `Err` lent nothing.
+    /// Adds the owner to the borrowers. If that fails, nothing was lent.
     pub(crate) fn lend_to(&mut self, owner: usize) -> Result<(), AllocError>
         ensures lent { OnOk result (self.new ≡ lent_to self.old owner) }
         ensures refused { OnErr result (self.new ≡ self.old) }
@@ -138,7 +138,7 @@ impl HandleEntry {
     }
 }
 
-/// The number of a new handle, or nothing if memory is refused.
+/// Adds an entry for a new handle and returns its number, or `None` if an allocation fails.
 pub(crate) fn push_newborn(
     handles: &mut Vec<HandleEntry>,
     alloc: Global,

@@ -1,10 +1,9 @@
-//! The protocol of a counted block as a machine: any number of owners, one step at a time.
+//! The protocol of a counted block as an abstract machine, the core: any number of owners, one step at a time.
 //!
-//! A clone and a drop are two steps each, a read of the word and then a raise or a lower of it, and
-//! the steps of other owners may come between them in any order. So a list of steps is one
-//! interleaving of the calls of as many threads as there are owners, and what [`Core::step`] answers
-//! is proved for each of them: it is what a reference model of live handles answers, which knows no
-//! word.
+//! A clone and a drop are two steps each: a read of the count, and then an increment (`Raise`) or a decrement
+//! (`Lower`). The steps of other owners may come between the two in any order. So a list of steps is one interleaving
+//! of the calls of as many threads as there are owners. For each of them it is proved what [`Core::step`] answers:
+//! what a reference model answers, which has a list of live handles and no count.
 #![tactic(auto)]
 
 mod acting;

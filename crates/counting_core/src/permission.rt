@@ -1,4 +1,4 @@
-//! Which step on a handle is permitted.
+//! Which steps on a handle are permitted.
 ghost use Rattle.std.specs.Prelude.{◌≡◌, ◌<◌, IfSome, IsSome, length, true};
 ghost use Rattle.counting_core.specs.Machines.{core_of};
 ghost use Rattle.counting_core.specs.Permitted.{handle_of, is_another, permitted};
@@ -15,7 +15,7 @@ impl<V: Copy> Machine<V> {
         to < self.owners.len() && to != owner
     }
 
-    /// Whether the owner of a step on a handle may make it now. With something in flight it may not.
+    /// Returns whether the owner of a step on a handle may make it now. An owner with a call in flight may not.
     pub(crate) fn permits(&self, step: &Step<V>) -> bool
         ensures permitted { IsSome (handle_of step.now) → result ≡ permitted (state_of (core_of self.now)) step.now }
         ensures born { result ≡ true → IfSome (handle_of step.now) (λ h. h < length self.now.handles.items) }

@@ -1,4 +1,4 @@
-//! The core: a machine that some trace of steps has led to.
+//! The core: an abstract machine in a state to which some trace of steps leads.
 use crate::acting::Machine;
 use crate::activity::Activity;
 use crate::handle_entry::push_newborn;
@@ -6,12 +6,12 @@ use crate::step::{Answer, Step};
 use std::alloc::{AllocError, Global};
 use std::marker::Model;
 
-/// One block of a value, with a fixed number of owners and a fixed limit of handles.
+/// One block of a value, with a fixed number of owners and a limit of handles:
+/// `Core::new(alloc, 5, 2, MAX_REFCOUNT)`.
 ///
-/// It keeps an entry for each handle ever born, so a trace of a billion births takes that much room.
-/// `Core::new` takes O(n) in the number of owners. Each step takes O(1), a birth on average over
-/// the births, but a lending or a return of a handle, and the use of a lent one, take O(log n) in
-/// the number of its borrowers.
+/// `Core::new` takes O(n) in the number of owners. Each step takes O(1), and one that makes a handle amortized O(1).
+/// To lend or return a handle, or to use a lent one, takes O(log n) in the number of its borrowers. A core keeps an
+/// entry for each handle that was ever born, so its memory grows with each birth.
 #[derive(Drop)]
 pub struct Core<V> {
     pub(crate) machine: Machine<V>,
@@ -35,15 +35,19 @@ impl<V: Copy> Core<V> {
     ghost use Rattle.counting_core.specs.Represents.{Represents, Continues, ContinuesAll};
     ghost use Rattle.counting_core.specs.ByWord.{FollowsWord};
 
-    /// A block of one handle, number 0, that owner 0 holds, and that never has more handles than its limit while it
-    /// has no mark. If memory is refused the value comes back.
+    /// Creates a block with one handle, number 0, which owner 0 holds: `Core::new(alloc, 5, 2, MAX_REFCOUNT)`. The
+    /// block never has more handles than `limit` until it is static.
+    ///
+    /// # Errors
+    ///
+    /// Returns the value if one of the two allocations fails.
     pub fn new(alloc: Global, value: V, owners: usize, limit: u64) -> Result<Self, V>
         requires owners { 0 < owners }
         requires limit { IsLimit limit }
         ensures opened { IfOk result (λ core. Represents core (Open value owners limit)) }
         ensures refused { IfErr result (λ back. back ≡ value) }
     {
-        // Room for the first alone: the first birth already asks for memory, and may be refused.
+        // Room for the first handle alone: the first birth already requests memory, and may be answered `Memory`.
         let Ok(mut handles) = Vec::with_capacity(alloc, 1) else {
             return Err(value);
         };
@@ -65,8 +69,10 @@ impl<V: Copy> Core<V> {
         })
     }
 
-    /// Makes one step. Memory is asked for by a birth and by a lending alone. An owner with a clone or a drop in
-    /// flight may only go on with it.
+    /// Makes one step and returns its answer: `core.step(Step::Load { owner: 0, handle: 0 })`. An owner with a clone
+    /// or a drop in flight may only continue it.
+    ///
+    /// Only births and loans request memory. `Memory` and `Barred` change nothing.
     pub fn step(&mut self, step: Step<V>) -> Answer<V>
         ensures reached { (trace : Trace V) × Represents self.old trace }
         ensures continues { Continues self.old step result self.new }
@@ -77,7 +83,11 @@ impl<V: Copy> Core<V> {
         self.machine.step(step)
     }
 
-    /// The answers of the steps, in order. Their room is reserved first, so an `Err` did nothing.
+    /// Makes the steps in order and returns their answers: `core.run(&steps)?`.
+    ///
+    /// # Errors
+    ///
+    /// Returns `AllocError` if the room for the answers cannot be allocated. No step was made then.
     pub fn run(&mut self, steps: &[Step<V>]) -> Result<Vec<Answer<V>>, AllocError>
         ensures reached { (trace : Trace V) × Represents self.old trace }
         ensures ran { IfOk result (λ answers.

@@ -1,19 +1,19 @@
-//! The steps of the owners of a block, and what they are answered.
+//! The steps of the owners of a block, and their answers.
 ghost use Rattle.std.specs.Prelude.{◌≡◌, ⊤, option_map};
 ghost use Rattle.counting_core.specs.Permitted.{handle_of, owner_of};
 
 use std::alloc::AllocError;
 
-/// A step of `owner`, mostly on `handle`. Owners and handles are numbers from 0 on; a handle has the
-/// number of its birth.
+/// A step of `owner`, mostly on `handle`: `Step::Clone { owner: 0, handle: 0 }`. Owners and handles are numbered from
+/// 0; handles in the order of their births.
 #[derive(Copy, Debug, PartialEq)]
 pub enum Step<V> {
-    /// Reads the word, to make another handle of the block.
+    /// Reads the count, to make another handle of the block.
     Clone {
         owner: usize,
         handle: usize,
     },
-    /// Raises the word, if it still is the one that this owner's clone in flight saw last.
+    /// Increments the count by a compare-exchange, from the count that this owner's clone in flight saw last.
     Raise {
         owner: usize,
     },
@@ -21,31 +21,31 @@ pub enum Step<V> {
     Quit {
         owner: usize,
     },
-    /// Reads the word, to end the handle.
+    /// Reads the count, to end the handle.
     Drop {
         owner: usize,
         handle: usize,
     },
-    /// Lowers the word, which finishes the drop in flight.
+    /// Decrements the count, which finishes the drop in flight.
     Lower {
         owner: usize,
     },
-    /// Marks the block: from then on its value is never given up.
+    /// Makes the block static: from then on its value is never given up.
     Mark {
         owner: usize,
         handle: usize,
     },
-    /// Asks whether the handle is the only one of an unmarked block.
+    /// Asks whether the handle is the only one and the block is not static.
     Unique {
         owner: usize,
         handle: usize,
     },
-    /// Asks whether the block is marked.
+    /// Asks whether the block is static.
     Static {
         owner: usize,
         handle: usize,
     },
-    /// Reads the word, to write the value through the only handle.
+    /// Reads the count, to write the value through the only handle.
     GetMut {
         owner: usize,
         handle: usize,
@@ -61,13 +61,13 @@ pub enum Step<V> {
         owner: usize,
         handle: usize,
     },
-    /// Reads the word, to have the only handle to itself: its holder then writes the value at will, and nobody
+    /// Reads the count, to have the only handle exclusively: its holder then writes the value at will, and nobody
     /// else may use the handle.
     IntoUnique {
         owner: usize,
         handle: usize,
     },
-    /// Lets a handle that was taken so be used as any other again.
+    /// Ends the exclusive use that `IntoUnique` began: the handle may be used as any other again.
     Share {
         owner: usize,
         handle: usize,
@@ -96,41 +96,42 @@ pub enum Step<V> {
     },
 }
 
-/// What a step is answered.
+/// The answer to a step: `Answer::Born(1)`.
 #[derive(Clone, Copy, Debug, PartialEq)]
 pub enum Answer<V> {
-    /// A handle was born, with this number. The owner whose step it was holds it.
+    /// A handle was made (born) with this number. The owner of the step holds it.
     Born(usize),
-    /// The block has as many handles as it may have.
+    /// The block has as many handles as its limit allows.
     Full,
-    /// The clone or the drop is in flight: another step of this owner goes on with it.
+    /// The clone or the drop is in flight: another step of this owner continues it.
     Pending,
     /// The clone in flight was given up.
     Quit,
     /// The handle ended.
     Ended,
-    /// The last handle ended, and with it the value.
+    /// The last handle ended, and the value is given up, which means released.
     GivenUp(V),
-    /// The block is marked.
+    /// The block is static.
     Marked,
-    /// The answer to a question.
+    /// The answer to `Unique` or `Static`.
     Is(bool),
-    /// The handle is the only one, and is being written from now on.
+    /// The handle is the only one, and its holder writes the value from now on, until `EndWrite`.
     Alone,
-    /// The handle is the only one, and its holder has it alone until it is shared again.
+    /// The handle is the only one, and its holder has it exclusively until `Share`.
     Sole,
-    /// There may be other handles, so that nothing may be written.
+    /// There may be other handles, or the block is static, so the value may not be written.
     Shared,
     /// The step was made.
     Done,
-    /// The value.
+    /// The value that was read.
     Value(V),
-    /// Memory was refused. Nothing changed.
+    /// An allocation failed. Nothing changed.
     Memory,
-    /// The step is not permitted to this owner now. Nothing changed.
+    /// The step is rejected: this owner may not make it now. Nothing changed.
     Barred,
 }
 
+/// Copies the step and never fails. The type is `Copy`: this impl is for code that is generic over `Clone`.
 impl<V: Copy> Clone for Step<V> {
     ghost is_clone = { λ step copy. copy ≡ step };
 
@@ -142,7 +143,7 @@ impl<V: Copy> Clone for Step<V> {
 }
 
 impl<V: Copy> Step<V> {
-    // The owner and the handle of a step on a handle.
+    // Returns the owner and the handle of a step on a handle.
     pub(crate) fn on_handle(&self) -> Option<(usize, usize)>
         ensures { result ≡ option_map (λ handle. (owner_of self.now, handle)) (handle_of self.now) }
     {

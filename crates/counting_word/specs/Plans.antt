@@ -1,4 +1,5 @@
--- What a clone and a drop do after a read of the word, a clone by the limit of its block.
+-- The next step of a clone and of a drop that have read the word. The step of a clone depends on the limit of its
+-- block.
 use Rattle.std.specs.Prelude.{ℕ, ◌+◌, nat_eq, if◌then◌else◌}
 use Rattle.counting_word.specs.declared.ClonePlan.{ClonePlan}
 use Rattle.counting_word.specs.declared.ClonePlan.TheVariants.{Static, Full, Raise}

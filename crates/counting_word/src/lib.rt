@@ -1,7 +1,7 @@
-//! The counting word of a block: bit 63 is the mark, bits 0 to 62 are the count of its handles.
+//! The counting word of a block, a `u64`: bit 63 is the mark of a static block, bits 0 to 62 count the handles.
 //!
-//! Nothing here touches memory. Each function says what a word that was read or replaced means for
-//! the call that read it, so that all who share a word decide by the same rules.
+//! Nothing here touches memory. Each function says what a word that was read or replaced means for the call that read
+//! it, as `plan_clone(word, limit)`, so that all who share a word decide by the same rules.
 #![tactic(auto)]
 
 ghost use Rattle.std.specs.Prelude.{◌≡◌, ◌+◌, IfSome, IfNone, false};
@@ -10,34 +10,34 @@ ghost use Rattle.counting_word.specs.Plans.{clone_plan, drop_plan};
 
 pub mod laws;
 
-/// Bit 63. It is set for a block that is never freed, and it is never cleared.
+/// Bit 63, the mark. It is set in the word of a static block, which is never freed, and it is never cleared.
 pub const MARK: u64 = 1 << 63;
 
-/// The greatest count: the most handles that a block without the mark can have. A block may have a
-/// limit of its own from 1 to this one.
+/// The greatest count, 2^63 - 1: the most handles that a block can have before it is static. A block may have a lower
+/// limit of its own, from 1 on.
 pub const MAX_REFCOUNT: u64 = MARK - 1;
 
-/// What a clone does after it read the word.
+/// What a clone does after it has read the word: `plan_clone(1, MAX_REFCOUNT)` is `Raise(2)`.
 #[derive(Clone, Copy, Debug, PartialEq, Eq)]
 pub enum ClonePlan {
-    /// The block is marked: the new handle exists with no further step.
+    /// The block is static: the new handle exists without another step.
     Static,
-    /// The count is at its limit: the clone is refused.
+    /// The count is at its limit: the clone fails.
     Full,
-    /// A compare-exchange from the word that was read to this one makes the handle.
+    /// A compare-exchange from the word that was read to this word makes the handle.
     Raise(u64),
 }
 
-/// What a drop does after it read the word.
+/// What a drop does after it has read the word: `plan_drop(1)` is `Lower`.
 #[derive(Clone, Copy, Debug, PartialEq, Eq)]
 pub enum DropPlan {
-    /// The block is marked: the handle ends with no further step.
+    /// The block is static: the handle ends without another step.
     Static,
-    /// The word is lowered by one.
+    /// A subtraction of one from the word ends the handle.
     Lower,
 }
 
-/// Whether the block is never freed.
+/// Returns `true` if the word has the mark, so that the block is static: `is_marked(word)`.
 #[inline]
 pub fn is_marked(word: u64) -> bool
     ensures { result ≡ is_marked_word word }
@@ -45,7 +45,8 @@ pub fn is_marked(word: u64) -> bool
     word >= MARK
 }
 
-/// Whether the word, read through a handle, shows that it is the only one.
+/// Returns `true` if the word, read through a handle, shows that this is the only handle and the block is not static:
+/// `is_alone(word)`.
 #[inline]
 pub fn is_alone(word: u64) -> bool
     ensures { result ≡ is_one_handle word }
@@ -53,7 +54,8 @@ pub fn is_alone(word: u64) -> bool
     word == 1
 }
 
-/// Whether a lower that met this word ended the last handle, so that the value has to be dropped.
+/// Returns `true` if a subtraction that found this word ended the last handle, so that the value has to be dropped:
+/// `is_last(old)`.
 #[inline]
 pub fn is_last(old: u64) -> bool
     ensures { result ≡ is_one_handle old }
@@ -61,7 +63,7 @@ pub fn is_last(old: u64) -> bool
     old == 1
 }
 
-/// What a clone that read this word does next, of a block with this limit.
+/// Returns what a clone does next that read this word, of a block with this limit: `plan_clone(1, 2)`.
 #[inline]
 pub fn plan_clone(word: u64, limit: u64) -> ClonePlan
     requires limit { IsLimit limit }
@@ -77,7 +79,8 @@ pub fn plan_clone(word: u64, limit: u64) -> ClonePlan
     }
 }
 
-/// The word to which a clone raises this one, which has no mark, or nothing if its count is at its limit.
+/// Returns the word with one handle more, or `None` if the count is at its limit: `raised(word, limit)`. The word
+/// must not have the mark.
 #[inline]
 pub fn raised(word: u64, limit: u64) -> Option<u64>
     requires limit { IsLimit limit }
@@ -89,7 +92,7 @@ pub fn raised(word: u64, limit: u64) -> Option<u64>
     if word == limit { None } else { Some(word + 1) }
 }
 
-/// What a drop that read this word does next.
+/// Returns what a drop does next that read this word: `plan_drop(word)`.
 #[inline]
 pub fn plan_drop(word: u64) -> DropPlan
     ensures { result ≡ drop_plan word }
@@ -101,7 +104,7 @@ pub fn plan_drop(word: u64) -> DropPlan
     }
 }
 
-/// The word of the same block once it is marked. Marking twice changes nothing.
+/// Returns the word with the mark: `with_mark(word)`. A word that has the mark stays the same.
 #[inline]
 #[tactic(auto, using(crate::proofs::Words::marks))]
 pub fn with_mark(word: u64) -> u64

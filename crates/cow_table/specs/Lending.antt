@@ -1,4 +1,4 @@
--- What the pages are once a `&mut` to one of them has ended.
+-- The pages after a `&mut` to one of them has ended.
 use Rattle.std.specs.Prelude.{◌≡◌, ℕ, slice_set}
 use Rattle.std.specs.Borrow.{Fml, MutBor, RattleType, LendsSoOk}
 use Rattle.std.specs.declared.alloc.Global.{Global}

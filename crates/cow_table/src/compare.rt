@@ -1,11 +1,11 @@
-//! What a table has by its items: equality and a text.
+//! The traits that a table has by its items: equality and a text.
 ghost use Rattle.std.specs.Cmp.Lexicographic.{lists_equiv, lists_per, pointwise};
 
 use crate::table::CowTable;
 use std::fmt;
 use std::fmt::{Debug, Formatter, Write};
 
-/// Compares the items, also where both tables share their pages.
+/// Compares the items, in O(n), even if both tables share their pages.
 impl<T: PartialEq> PartialEq for CowTable<T> {
     ghost eq = { pointwise T.eq };
 
@@ -28,7 +28,7 @@ impl<T: Eq> Eq for CowTable<T> {
     ghost laws = { lists_equiv T.Eq.laws };
 }
 
-/// As a list of the items.
+/// Writes the items as a list.
 impl<T: Debug> Debug for CowTable<T> {
     fn fmt<W: Write>(&self, f: &mut Formatter<W>) -> fmt::Result {
         let mut list = f.debug_list();

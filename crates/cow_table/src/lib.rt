@@ -1,4 +1,5 @@
-//! Versions of a list: a `CowTable` keeps its items in pages, which its clones share until one of them is written.
+//! A list of a fixed length with O(1) clones: a `CowTable` keeps its items in pages, which its clones share until one
+//! of them is written (copy on write).
 #![tactic(auto)]
 
 mod compare;
@@ -9,5 +10,5 @@ mod table;
 pub use handles::place::PlaceError;
 pub use table::CowTable;
 
-/// What `CowTable::set` is refused with.
+/// The error of `CowTable::set`.
 pub type SetError = PlaceError;

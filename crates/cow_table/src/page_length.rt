@@ -2,11 +2,11 @@
 ghost use Rattle.std.specs.Prelude.{◌≡◌, ◌<◌, ◌^◌, ◌/◌, ◌%◌};
 ghost use Rattle.std.specs.Option.{ForSome};
 
-/// How many items a page has. If that is a power of two, an item is found without a division.
+/// The number of items in a page. If it is a power of two, an item is found without a division.
 #[derive(Clone, Copy)]
 pub(crate) struct PageLength {
     pub(crate) items: usize,
-    // The length as a power of two, if it is one.
+    // The exponent, if the length is a power of two.
     shift: Option<u32>,
     ghost positive: { 0 < items },
     ghost power: { ForSome shift (λ k. (k < 64) × (items ≡ 2 ^ k)) },
@@ -22,7 +22,7 @@ impl PageLength {
         PageLength { items, shift }
     }
 
-    // The page of an item, and its place there.
+    // Returns the page of the item at the index, and the place of the item in that page.
     #[inline]
     pub(crate) fn locate(self, i: usize) -> (usize, usize)
         ensures page { result.0 ≡ i / self.items }

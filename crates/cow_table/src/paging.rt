@@ -1,4 +1,4 @@
-//! How a list is cut into pages.
+//! Cutting a list into pages.
 ghost use Rattle.std.specs.Prelude.{◌≡◌, ◌<◌, ◌++◌, IfOk, min, vec_len};
 ghost use Rattle.std.specs.Vec.Iter.{into_iter_items, into_iter_len};
 ghost use Rattle.cow_table.specs.Pages.{items_of, IsPaged};
@@ -7,7 +7,7 @@ use handles::arc::Arc;
 use std::alloc::{AllocError, Global};
 use std::vec::IntoIter;
 
-// The items in pages of this length; the last may be shorter.
+// Moves the items into pages of this length. The last page may be shorter.
 pub(crate) fn in_pages<T: Drop>(
     alloc: Global,
     items: Vec<T>,
@@ -26,7 +26,7 @@ pub(crate) fn in_pages<T: Drop>(
     Ok(pages)
 }
 
-// The next `page_len` items, or all that are left.
+// Returns the next `page_len` items, or all that are left.
 fn next_page<T: Drop>(
     alloc: Global,
     rest: &mut IntoIter<T>,

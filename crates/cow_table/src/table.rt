@@ -1,4 +1,4 @@
-//! A list in shared pages.
+//! `CowTable`, a list in shared pages.
 ghost use Rattle.std.specs.Prelude.{◌≡◌, ◌-◌, ◌<◌, ◌≤◌, ◌↔◌, [], Err, IfOk, IsSome, IsTrue};
 ghost use Rattle.std.specs.Prelude.{OnErr, OnOk, length, slice_get, slice_index_or, slice_set, vec_len};
 ghost use Rattle.std.specs.Option.{option_copied};
@@ -15,14 +15,15 @@ use std::alloc::{AllocError, Global};
 use std::marker::Model;
 use std::ops::Index;
 
-/// A list in pages, for many versions of a long list: `table.set(alloc, i, value)?` copies one page.
+/// A list of a fixed length in pages, for many versions (snapshots) of a long list:
+/// `CowTable::from_items(alloc, items, 64)?`.
 ///
-/// A clone is a version, and costs one count. What is set in one version is seen in no other. The length stays the
-/// same: a list that grows is a `Sequence`, of the crate `sequence`. To go over the items, read `table[i]` for each
-/// `i` below `table.len()`.
+/// A clone takes O(1) and shares all pages. `table.set(alloc, i, value)?` copies one page, and no other version sees
+/// the change. A list that grows is a `Sequence`, of the crate `sequence`. To iterate, read `table[i]` for each `i`
+/// below `table.len()`.
 ///
-/// The items hold no cell, no lock and no atomic. What these hold can be written through a shared handle: every version
-/// that shares the item then reads the change, and no clause speaks of it.
+/// The items must not have interior mutability. What a cell, a lock or an atomic holds can be written through a
+/// shared handle: every version that shares the item then reads the change, and no contract speaks of it.
 #[derive(Drop)]
 pub struct CowTable<T> {
     pub(crate) pages: Arc<Vec<Arc<Vec<T>>>>,
@@ -42,10 +43,13 @@ impl<T> Model for CowTable<T> {
 }
 
 impl<T: Drop> CowTable<T> {
-    /// The items in pages of `page_len`; the last page may be shorter.
+    /// Creates a table of the items, in pages of `page_len` items: `CowTable::from_items(alloc, items, 64)?`. The
+    /// last page may be shorter. The items are moved, in O(n). Each page takes two allocations, and so does the list
+    /// of pages.
     ///
-    /// It moves the items. It requests memory for the items and the block of each page, and for the list of pages and
-    /// its block. If one of these requests is refused, the items are dropped.
+    /// # Errors
+    ///
+    /// Returns `AllocError` if an allocation fails, and drops the items.
     pub fn from_items(
         alloc: Global,
         items: Vec<T>,
@@ -64,8 +68,13 @@ impl<T: Drop> CowTable<T> {
     }
 }
 
-/// Makes a version by one raise of a count. It copies nothing and allocates nothing. It fails as the `clone` of an
-/// `Arc` does: at the limit of the count, or after 64 raises that lost to other threads.
+/// Creates a version (snapshot) of the table, by one increment of a count: `table.clone()?`. Nothing is copied or
+/// allocated.
+///
+/// # Errors
+///
+/// Returns `AllocError` as the `clone` of an `Arc` does: at the limit of the count, or if 64 compare-exchanges in a
+/// row lost to other threads.
 impl<T: Drop> Clone for CowTable<T> {
     ghost is_clone = { λ a b. b ≡ a };
 
@@ -78,7 +87,7 @@ impl<T: Drop> Clone for CowTable<T> {
     }
 }
 
-/// The item of that number, which must exist.
+/// Returns the item at the index, which must be below `len()`, in O(1): `table[i]`.
 impl<T> Index<usize> for CowTable<T> {
     type Output = T;
 
@@ -95,7 +104,7 @@ impl<T> Index<usize> for CowTable<T> {
 }
 
 impl<T> CowTable<T> {
-    /// The number of items.
+    /// Returns the number of items: `table.len()`.
     #[inline]
     pub fn len(&self) -> usize
         ensures { result ≡ length self.now }
@@ -103,7 +112,7 @@ impl<T> CowTable<T> {
         self.len
     }
 
-    /// Whether there are no items.
+    /// Returns `true` if there are no items: `table.is_empty()`.
     #[inline]
     pub fn is_empty(&self) -> bool
         ensures { IsTrue result ↔ (self.now ≡ []) }
@@ -111,7 +120,7 @@ impl<T> CowTable<T> {
         self.len == 0
     }
 
-    /// The item of that number, counted from 0, in O(1).
+    /// Returns the item at the index, or `None`: `table.get(i)`. O(1).
     #[inline]
     pub fn get(&self, i: usize) -> Option<&T>
         ensures { option_copied result ≡ slice_get self.now i }
@@ -119,29 +128,33 @@ impl<T> CowTable<T> {
         if i < self.len { Some(&self[i]) } else { None }
     }
 
-    /// The first item, if there is one.
+    /// Returns the first item, or `None`: `table.first()`. O(1).
     pub fn first(&self) -> Option<&T>
         ensures { option_copied result ≡ slice_get self.now 0 }
     {
         self.get(0)
     }
 
-    /// The last item, if there is one.
+    /// Returns the last item, or `None`: `table.last()`. O(1).
     pub fn last(&self) -> Option<&T>
         ensures { option_copied result ≡ slice_get self.now (length self.now - 1) }
     {
         self.get(self.len.checked_sub(1)?)
     }
 
-    /// Sets the item of that number in this version alone.
+    /// Sets the item at the index, in this version alone: `table.set(alloc, i, value)?`.
     ///
-    /// If other versions share the list of pages, it is copied first, with one more handle of each page; if they share
-    /// the page of this item, that is copied, with a clone of each of its items. Each of the two copies takes two
-    /// requests for memory, beside those of the clones. A version that shares nothing copies and requests nothing. If
-    /// the item is not set, the given value is dropped.
+    /// A version that shares nothing writes in place, in O(1). If other versions share the list of pages, the list is
+    /// copied first, with a clone of the handle of each page. If they share the page of the item, that page is
+    /// copied, with a clone of each item. Each of the two copies takes two allocations, beside those of the clones.
     ///
-    /// It is only for types whose copies are the same value, and so not for `String` or `Vec`, whose copy has another
-    /// buffer.
+    /// The call requires that a clone of an item equals the item, and so is not for `String` or `Vec`, whose clone
+    /// has another buffer.
+    ///
+    /// # Errors
+    ///
+    /// Returns `NoPlace` if the index is out of range, and `Memory` if an allocation or a clone fails. The table is
+    /// unchanged, and `value` is dropped.
     #[tactic(auto, using(crate::proofs::Places::writing))]
     pub fn set(&mut self, alloc: Global, i: usize, value: T) -> Result<(), PlaceError>
     where
@@ -160,9 +173,8 @@ impl<T> CowTable<T> {
         Ok(())
     }
 
-    /// Whether both versions have page `p`, counted from 0, and share it.
-    ///
-    /// The answer is as exact as that of `Arc::ptr_eq`, during which no other thread may ask about these blocks.
+    /// Returns `true` if both versions have a page `p`, counted from 0, and share it:
+    /// `CowTable::page_ptr_eq(&table, &other, 0)`. The answer is as exact as that of `Arc::ptr_eq`.
     pub fn page_ptr_eq(this: &CowTable<T>, other: &CowTable<T>, p: usize) -> bool
         ensures there { IsTrue result → (p < length this.now) × (p < length other.now) }
     {
@@ -172,7 +184,7 @@ impl<T> CowTable<T> {
         }
     }
 
-    // No page is empty, so there are no more pages than items.
+    // Returns the page. No page is empty, so there are no more pages than items.
     fn page(&self, p: usize) -> Option<&Arc<Vec<T>>>
         ensures { IsSome result → p < length self.now }
     {
@@ -180,7 +192,7 @@ impl<T> CowTable<T> {
     }
 }
 
-// A page to write to, in a block that no other version shares.
+// Returns a page to write to, in a block that no other version shares.
 #[tactic(auto, using(crate::proofs::Lent::lent_items))]
 fn own_page<T: Clone>(
     pages: &mut Arc<Vec<Arc<Vec<T>>>>,

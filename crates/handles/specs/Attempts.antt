@@ -1,4 +1,4 @@
--- What a try to make one more handle came to.
+-- The outcomes of an attempt to clone a handle.
 use Rattle.std.specs.Prelude.{◌≡◌, ℕ, ◌+◌, ◌⊎◌, Bool, [], Option, None, false}
 use Rattle.counting_word.specs.CountingWord.{IsWithin, is_marked_word}
 use Rattle.counting_word.specs.Plans.{clone_plan}

@@ -1,4 +1,4 @@
--- What a borrowed handle is of.
+-- The value of a borrowed handle.
 use Rattle.handles.specs.declared.borrow.ArcBorrow.{ArcBorrow}
 
 -- the handle that is borrowed

@@ -1,4 +1,4 @@
--- What a call that copies a value leaves, and what it may rest on.
+-- The result of a call that clones a value, and what may be required of clones.
 use Rattle.std.specs.Prelude.{◌≡◌, ◌⊎◌}
 
 -- a copy is the same value, and not only one that `==` accepts

@@ -1,4 +1,5 @@
--- What the last entry of a log found. Each says that the log is a run, which ends with that entry.
+-- Facts about the word that the last entry of a log found. Each says that the log is a run, which ends with that
+-- entry.
 use Rattle.std.specs.Prelude.{◌≡◌, ◌≢◌, ◌⊎◌, ℕ, Bool, true, false, List, [], Contains}
 use Rattle.counting_word.specs.CountingWord.{is_marked_word, is_one_handle}
 use Rattle.counting_word.specs.Plans.{clone_plan}

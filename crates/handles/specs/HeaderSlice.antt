@@ -1,4 +1,4 @@
--- What a header slice is to its holder.
+-- The value of a header slice in contracts.
 pub mod Builders
 pub mod Laws
 pub mod Lending

@@ -1,4 +1,4 @@
--- What contracts inside the crate cite, and no public one.
+-- Definitions that only contracts inside the crate cite.
 pub mod Rows
 pub mod BlockWriteBack
 pub mod Blocks

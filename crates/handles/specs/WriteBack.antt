@@ -1,4 +1,4 @@
--- What a handle shows once a `&mut` that it lent has ended: what was last written through it.
+-- The value of a handle after a `&mut` that it lent has ended: what was last written through the `&mut`.
 use Rattle.std.specs.Prelude.{◌≡◌}
 use Rattle.std.specs.Borrow.{Fml, MutBor, RattleType, Lends, LendsIf, LendsSoOk}
 use Rattle.std.specs.declared.option.Option.{Option}

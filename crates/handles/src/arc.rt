@@ -1,4 +1,4 @@
-//! Counted handles of a shared value.
+//! `Arc`, whose handles share a value, and `RawArc`, a handle that is kept as a token.
 ghost use Rattle.std.specs.Prelude.{◌≡◌, IfOk, IfErr, false};
 ghost use Rattle.counting_word.specs.CountingWord.{IsLimit};
 
@@ -17,14 +17,22 @@ use std::marker::Model;
 use std::ops::Deref;
 use std::sync::Wait;
 
-/// How often the trait's `clone` raises the word before it gives up.
+/// How many compare-exchanges the trait's `clone` makes before it gives up.
 const MOST_RAISES: u8 = 64;
 
-/// An atomically reference-counted pointer: its clones share one value, in one thread or in many.
+/// An atomically reference-counted pointer, for one thread or many: `Arc::try_new(alloc, 5)?`.
 ///
-/// It reads as a `&T`. To write a number through it: `*Arc::make_mut(&mut a, alloc)? = 9`, which copies the value if
-/// somebody else shares it. When the last handle ends, the value is dropped and the block is freed, unless the block is
-/// marked.
+/// The handles of a value share one block, an allocation with the value and the count of its handles. A handle
+/// dereferences to `T`. To write a value that may be shared, call `make_mut`, which copies it on write:
+///
+/// ```
+/// let first = Arc::try_new(alloc, 5)?;
+/// let mut second = first.clone()?;
+/// *Arc::make_mut(&mut second, alloc)? = 9;
+/// ```
+///
+/// Then `*first` is still 5. The drop of the last handle drops the value and frees the block. A static block is never
+/// freed: see `StaticArc`.
 #[derive(Drop)]
 pub struct Arc<T> {
     pub(crate) handle: Handle<T>,
@@ -41,7 +49,11 @@ impl<T> Model for Arc<T> {
 }
 
 impl<T: Drop> Arc<T> {
-    /// The value comes back if there is no memory for the block.
+    /// Creates a block for the value and returns its first handle: `Arc::new(alloc, 5)`.
+    ///
+    /// # Errors
+    ///
+    /// Returns the value if the allocation fails.
     pub fn new(alloc: Global, value: T) -> Result<Arc<T>, T>
         ensures made { IfOk result (λ a. a ≡ value) }
         ensures refused { IfErr result (λ x. x ≡ value) }
@@ -49,7 +61,11 @@ impl<T: Drop> Arc<T> {
         UniqueArc::new(alloc, value).map(UniqueArc::shareable)
     }
 
-    /// As `new`, with the error of the language's own makers, which `?` turns into an `AllocError`. The value is in it.
+    /// Creates a block for the value, as `new` does, but with an error that `?` converts: `Arc::try_new(alloc, 5)?`.
+    ///
+    /// # Errors
+    ///
+    /// Returns `AllocFailed`, with the value in it, if the allocation fails. `?` converts it to an `AllocError`.
     pub fn try_new(alloc: Global, value: T) -> Result<Arc<T>, AllocFailed<T>>
         ensures made { IfOk result (λ a. a ≡ value) }
         ensures refused { IfErr result (λ failed. failed.value ≡ value) }
@@ -57,8 +73,14 @@ impl<T: Drop> Arc<T> {
         UniqueArc::try_new(alloc, value).map(UniqueArc::shareable)
     }
 
-    /// As `new`, of a block that has at most `limit` handles until it is marked. All handles of the block, however they
-    /// are made, count to this limit; every other maker's blocks count to `MAX_REFCOUNT`.
+    /// Creates a block that allows at most `limit` handles: `Arc::new_with_limit(alloc, 7, 1)`.
+    ///
+    /// All handles of the block count, however they are made. A static block has no limit. The blocks of the other
+    /// constructors have the limit `MAX_REFCOUNT`, 2^63 - 1.
+    ///
+    /// # Errors
+    ///
+    /// Returns the value if the allocation fails.
     pub fn new_with_limit(alloc: Global, value: T, limit: u64) -> Result<Arc<T>, T>
         requires { IsLimit limit }
         ensures made { IfOk result (λ a. a ≡ value) }
@@ -67,7 +89,11 @@ impl<T: Drop> Arc<T> {
         UniqueArc::with_limit(alloc, value, Limit::of(limit)).map(UniqueArc::shareable)
     }
 
-    /// A handle of a marked block, which is never freed and whose value is never dropped.
+    /// Creates a static block, which is never freed: `Arc::new_leaked(alloc, 5)`. The value is never dropped.
+    ///
+    /// # Errors
+    ///
+    /// Returns the value if the allocation fails.
     pub fn new_leaked(alloc: Global, value: T) -> Result<Arc<T>, T>
         ensures made { IfOk result (λ a. a ≡ value) }
         ensures refused { IfErr result (λ x. x ≡ value) }
@@ -75,7 +101,12 @@ impl<T: Drop> Arc<T> {
         Ok(StaticArc::new(alloc, value)?.arc())
     }
 
-    /// The same as `new_leaked`, under the original's name.
+    /// Creates a static block, as `new_leaked` does: `Arc::new_static(alloc, 5)`. `servo_arc` of Rust has the call
+    /// under this name.
+    ///
+    /// # Errors
+    ///
+    /// Returns the value if the allocation fails.
     pub fn new_static(alloc: Global, value: T) -> Result<Arc<T>, T>
         ensures made { IfOk result (λ a. a ≡ value) }
         ensures refused { IfErr result (λ x. x ≡ value) }
@@ -83,15 +114,27 @@ impl<T: Drop> Arc<T> {
         Arc::new_leaked(alloc, value)
     }
 
-    /// One more handle of the token's block. It tries as often as `Arc::clone(this, rt)`.
+    /// Clones the handle that the token keeps: `Arc::from_raw_addrefed(&raw, &rt)`. The cost is that of `Arc::clone`.
+    ///
+    /// # Errors
+    ///
+    /// Returns `Full` if the block is at its limit.
     pub fn from_raw_addrefed(raw: &RawArc<T>, rt: &impl Wait) -> Result<Arc<T>, Full>
         ensures { IfOk result (λ a. a ≡ raw.now) }
     {
         Arc::clone(&raw.arc, rt)
     }
 
-    /// Tries until the handle is made or the block is full, however often other threads change the count meanwhile.
-    /// After a lost raise it pauses, once it has the handle, for about a microsecond, which lets the others raise.
+    /// Clones the handle, and retries until it succeeds or the block is full: `Arc::clone(&first, &rt)?`. Takes no
+    /// memory.
+    ///
+    /// A clone makes a load and a compare-exchange, and of a static block the load alone. Each change of the count by
+    /// another thread in between costs one more compare-exchange, without a bound. A clone that had to retry spins
+    /// for about a microsecond before it returns, which lets the other threads continue.
+    ///
+    /// # Errors
+    ///
+    /// Returns `Full` if the block is at its limit.
     #[inline]
     pub fn clone(this: &Arc<T>, rt: &impl Wait) -> Result<Arc<T>, Full>
         ensures { IfOk result (λ a. a ≡ this.now) }
@@ -109,44 +152,48 @@ impl<T> Arc<T> {
         Arc { handle }
     }
 
-    /// Whether both are handles of one block.
+    /// Returns `true` if both are handles of one block: `Arc::ptr_eq(&a, &b)`.
     ///
-    /// The answer is exact if no other `ptr_eq` runs on either block meanwhile. If one does, it may be wrong
+    /// The answer is exact if no other `ptr_eq` runs on either block meanwhile. If one does, the answer may be wrong
     /// either way: two threads that compare two blocks from opposite ends at once may both get `true`.
     ///
-    /// It reads no count and does not wait. It adds to a word of the block that nothing else uses: at most
-    /// 64 rounds of three atomic steps, 2 rounds for one block that nobody else asks about, 1 for two.
+    /// The call reads no count and does not wait. It adds to a word of the block that nothing else uses, by 3 atomic
+    /// steps for two blocks and 6 for one block. If other threads compare these blocks too, there are at most 192
+    /// steps.
     pub fn ptr_eq(this: &Arc<T>, other: &Arc<T>) -> bool {
         this.handle.has_block_of(&other.handle)
     }
 
-    /// Whether this is the only handle of an unmarked block. Another thread's drop may make it so at any moment, and a
-    /// thread that borrows this handle may end that by a clone. To write, ask `get_mut`.
+    /// Returns `true` if this is the only handle and the block is not static, by one load: `a.is_unique()`.
+    ///
+    /// The answer may be stale at once: another thread may drop its handle, or clone this handle through a borrow. To
+    /// write, call `get_mut`.
     #[inline]
     pub fn is_unique(&self) -> bool {
         self.handle.is_only().0
     }
 
-    /// Whether the block is marked, which it then stays.
+    /// Returns `true` if the block is static, by one load: `a.is_static()`. A static block stays static.
     #[inline]
     pub fn is_static(&self) -> bool {
         self.handle.is_marked().0
     }
 
-    /// Marks the block: from then on it is never freed, and its value is never dropped. Marking again is harmless.
+    /// Makes the block static, by one atomic or: `a.mark_as_intentionally_leaked()`. The block is then never freed,
+    /// and its value is never dropped. A second call changes nothing.
     #[inline]
     pub fn mark_as_intentionally_leaked(&self) {
         self.handle.mark();
     }
 
-    /// The handle as a token, which `from_raw` turns back.
+    /// Turns the handle into a token that keeps it alive: `Arc::into_raw(a)`. `from_raw` turns the token back.
     pub fn into_raw(this: Arc<T>) -> RawArc<T>
         ensures { result ≡ this }
     {
         RawArc { arc: this }
     }
 
-    /// The handle that the token kept.
+    /// Turns the token back into the handle that it kept: `Arc::from_raw(raw)`.
     pub fn from_raw(raw: RawArc<T>) -> Arc<T>
         ensures { result ≡ raw }
     {
@@ -168,9 +215,12 @@ impl<T> Deref for Arc<T> {
     }
 }
 
-/// Makes one more handle, by at most 64 raises of the count. It takes no memory: `AllocError` means here that the block
-/// is at its limit, or that 64 raises in a row lost to other threads. The handle stays as it was. `Arc::clone(this,
-/// rt)` does not give up.
+/// Clones the handle, as `a.clone()?`, by a load and at most 64 compare-exchanges. Takes no memory.
+///
+/// # Errors
+///
+/// Returns `AllocError` if the block is at its limit, or if 64 compare-exchanges in a row lost to other threads. The
+/// error never means a lack of memory. `Arc::clone(&a, &rt)` does not give up.
 impl<T: Drop> Clone for Arc<T> {
     ghost is_clone = { λ a b. b ≡ a };
 
@@ -183,9 +233,9 @@ impl<T: Drop> Clone for Arc<T> {
     }
 }
 
-/// A handle kept as a token, for code that hands it out as a plain value and takes it back later: `Arc::into_raw(a)`.
+/// A handle kept as a token: `Arc::into_raw(a)`. Code can hand the token out as a plain value and take it back later.
 ///
-/// It counts as a live handle. It cannot be dropped: only `Arc::from_raw` ends it.
+/// The token counts as a handle. It cannot be dropped: only `Arc::from_raw(raw)` ends it.
 pub struct RawArc<T> {
     arc: Arc<T>,
 }
@@ -197,7 +247,7 @@ impl<T> Model for RawArc<T> {
 }
 
 impl<T> RawArc<T> {
-    /// The value, for as long as the token is borrowed.
+    /// Returns the value, for as long as the token is borrowed: `raw.value()`.
     pub fn value(&self) -> &T
         ensures { result.now ≡ self.now }
     {

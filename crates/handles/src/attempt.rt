@@ -1,4 +1,4 @@
-//! A try to make one more handle of a block.
+//! Attempts to clone a handle.
 ghost use Rattle.std.specs.Prelude.{◌≡◌, ◌⊎◌, IfOk, IfErr, false};
 ghost use Rattle.std.specs.Iterator.{IsFinite};
 ghost use Rattle.handles.specs.Founds.{LostRaise};
@@ -11,31 +11,31 @@ use counting_word::{is_marked, raised};
 use std::hint;
 use std::sync::Wait;
 
-// How often a clone that lost a raise pauses, once it has its handle.
+// How often a clone spins after it got its handle, if a compare-exchange of it failed before.
 const PAUSES: u16 = 256;
 
 pub(crate) enum Attempt<T> {
     Made(Handle<T>),
-    // The word that was read says so, which is in the log.
+    // The word that was read is at the limit, and the log says so.
     Full(Logged),
-    // A raise that found this word, and not the one that it started from.
+    // The compare-exchange failed: it found this word, and not the word that it started from.
     Lost(u64, Permit<T>),
 }
 
 impl<T> Handle<T> {
-    // One read, and one raise if the word that was read allows it.
+    // Clones by one load, and one compare-exchange if the word that was read allows it.
     #[inline]
     pub(crate) fn first_attempt(&self) -> Attempt<T>
         requires { self.now.sole ≡ false }
         ensures { IsAttempt self.now result }
     {
-        // Before the word is read, since what a handle points to would be read again after that.
+        // Borrowed before the word is read: after that load the compiler would read the pointer again.
         let held = self.held();
         let (word, permit) = self.read();
         self.next_attempt(held, word, permit)
     }
 
-    // One raise, if the word that was seen allows it.
+    // Clones by one compare-exchange, if the word that was seen last allows it.
     #[inline]
     #[tactic(auto, using(crate::proofs::Logs::Founds::found_full))]
     pub(crate) fn next_attempt(&self, held: &Held<T>, word: u64, permit: Permit<T>) -> Attempt<T>
@@ -60,9 +60,10 @@ impl<T> Handle<T> {
     }
 }
 
-// The first attempt stands outside the loop: most clones need no more, and a loop would carry its state through it.
+// The first attempt is outside the loop: most clones need no more, and a loop would carry its state through the first
+// attempt.
 impl<T: Drop> Handle<T> {
-    // By one read and at most so many raises, but at least one.
+    // Clones by one load and at most `raises` compare-exchanges, but at least one.
     #[inline]
     pub(crate) fn try_clone(&self, raises: u8) -> Result<Handle<T>, Logged>
         requires { self.now.sole ≡ false }
@@ -72,12 +73,12 @@ impl<T: Drop> Handle<T> {
         match self.first_attempt() {
             Attempt::Made(handle) => Ok(handle),
             Attempt::Full(logged) => Err(logged),
-            // The first attempt made one.
+            // The range begins at 1, since the first attempt made one compare-exchange.
             Attempt::Lost(word, permit) => self.raise_again(word, permit, &mut (1..raises)),
         }
     }
 
-    // Until it has a handle or the block is full, of which the `Full` is the evidence.
+    // Clones until there is a handle or the block is full. The `Full` is the evidence that the block is.
     #[inline]
     pub(crate) fn clone_or_full(&self, rt: &impl Wait) -> Result<Handle<T>, Full>
         requires { self.now.sole ≡ false }
@@ -87,7 +88,7 @@ impl<T: Drop> Handle<T> {
         match self.first_attempt() {
             Attempt::Made(handle) => Ok(handle),
             Attempt::Full(logged) => Err(self.full_by(logged)),
-            // Only a clone that lost a raise makes the call that may wait.
+            // Only a clone whose compare-exchange failed makes the call that may wait.
             Attempt::Lost(word, permit) => match self.raise_unless_full(word, permit, rt) {
                 Ok(handle) => Ok(handle),
                 Err(logged) => Err(self.full_by(logged)),
@@ -95,7 +96,8 @@ impl<T: Drop> Handle<T> {
         }
     }
 
-    // After a lost raise, until it has a handle or the block is full. Kept out of line, since only this path may wait.
+    // Repeats a failed compare-exchange until there is a handle or the block is full. Kept out of line, since only
+    // this path may wait.
     #[cold]
     #[inline(never)]
     pub(crate) fn raise_unless_full(
@@ -113,7 +115,7 @@ impl<T: Drop> Handle<T> {
         self.raise_again(word, permit, &mut rt.forever())
     }
 
-    // After a lost raise, as often as there are turns.
+    // Repeats a failed compare-exchange once for each turn.
     fn raise_again<I: Iterator>(
         &self,
         mut word: u64,
@@ -144,7 +146,7 @@ impl<T: Drop> Handle<T> {
                 }
             }
         }
-        // A raise that was lost to the mark has its handle too.
+        // A compare-exchange that failed because the block became static leaves a handle too.
         if is_marked(word) {
             Ok(permit.into_handle())
         } else {
@@ -153,8 +155,9 @@ impl<T: Drop> Handle<T> {
     }
 }
 
-// Threads that clone at once make each other lose. So a clone that lost a raise backs off, once it has its handle. A
-// pause before the next raise would start it from an old word, which loses again.
+// Threads that clone at once make each other's compare-exchange fail. So a clone that failed backs off, once it has
+// its handle. A pause before the next compare-exchange would start that one from an old word, and it would fail
+// again.
 fn let_others_raise() {
     for _ in 0..PAUSES {
         hint::spin_loop();

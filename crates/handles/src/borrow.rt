@@ -6,9 +6,10 @@ use crate::arc::{Arc, Full};
 use std::ops::Deref;
 use std::sync::Wait;
 
-/// A borrowed handle: `a.borrow_arc()`. It reads as a `&T`, is not counted, and is copied like a reference.
+/// A borrowed handle, which is not counted and is copied like a reference: `a.borrow_arc()`. A borrowed handle
+/// dereferences to `T`.
 ///
-/// Take it as a parameter where the callee may want a handle of its own, which `clone_arc` makes.
+/// Take it as a parameter where the callee may need a handle of its own, which `clone_arc` makes.
 #[derive(Debug, PartialEq, Eq, PartialOrd, Ord, Hash)]
 #[derive_where(Clone, Copy)]
 pub struct ArcBorrow<'a, T>(pub(crate) &'a Arc<T>);
@@ -16,7 +17,7 @@ pub struct ArcBorrow<'a, T>(pub(crate) &'a Arc<T>);
 impl<T> Arc<T> {
     ghost use Rattle.handles.specs.Borrowed.{borrowed};
 
-    /// The handle, borrowed. The count stays as it is.
+    /// Borrows the handle: `a.borrow_arc()`. The count stays as it is.
     pub fn borrow_arc(&self) -> ArcBorrow<'_, T>
         ensures { borrowed result ≡ self.now }
     {
@@ -27,14 +28,18 @@ impl<T> Arc<T> {
 impl<'a, T> ArcBorrow<'a, T> {
     ghost use Rattle.handles.specs.Borrowed.{borrowed};
 
-    /// The value, for as long as the handle is borrowed.
+    /// Returns the value, for as long as the handle is borrowed: `b.get()`.
     pub fn get(&self) -> &'a T
         ensures { result.now ≡ borrowed self.now }
     {
         self.0
     }
 
-    /// One more handle. It waits as `Arc::clone` does.
+    /// Clones the handle, at the cost of `Arc::clone`: `b.clone_arc(&rt)?`.
+    ///
+    /// # Errors
+    ///
+    /// Returns `Full` if the block is at its limit.
     pub fn clone_arc(&self, rt: &impl Wait) -> Result<Arc<T>, Full>
     where
         T: Drop,
@@ -43,12 +48,14 @@ impl<'a, T> ArcBorrow<'a, T> {
         Arc::clone(self.0, rt)
     }
 
-    /// Whether both are of one block. The answer is as exact as that of `Arc::ptr_eq`.
+    /// Returns `true` if both are of one block: `ArcBorrow::ptr_eq(&b, &c)`. The answer is as exact as that of
+    /// `Arc::ptr_eq`.
     pub fn ptr_eq(this: &Self, other: &Self) -> bool {
         Arc::ptr_eq(this.0, other.0)
     }
 
-    /// What `f` answers on the handle. The count stays as it is, unless `f` changes it.
+    /// Calls `f` with the handle and returns its result: `b.with_arc(|handle: &Arc<u32>| handle.is_unique())`. The
+    /// count stays as it is, unless `f` changes it.
     pub fn with_arc<F: FnOnce(&Arc<T>) -> U, U>(&self, f: F) -> U
         requires { FnOnceTakesAt F.FnOnce f (borrowed self.now) }
         ensures { FnOnceReturnsAt F.FnOnce f (borrowed self.now) result }

@@ -1,4 +1,4 @@
-//! A header and a list of items, which a builder takes from an iterator.
+//! Header slices: a header and a list of items, which a builder takes from an iterator.
 ghost use Rattle.std.specs.Prelude.{◌≡◌, ◌==◌, ◌&&◌, length};
 ghost use Rattle.std.specs.Borrow.{sem};
 ghost use Rattle.std.specs.Cmp.Lexicographic.{pointwise};
@@ -20,14 +20,15 @@ use std::fmt;
 use std::marker::Model;
 pub use text::ThinStr;
 
-/// A shared header slice, in one word: `Arc::from_header_and_slice(alloc, header, &items)?`.
+/// A shared header slice behind one pointer: `Arc::from_header_and_slice(alloc, 100, &[5, 6])?`.
 pub type ThinArc<H, T> = Arc<HeaderSlice<H, T>>;
 
-/// A header and a fixed number of items, such as a rule and its declarations.
+/// A header and a fixed number of items, such as a rule and its declarations: `slice.header`, `slice.slice()`.
 ///
-/// Read `header`, `slice()` and `iter()`. Items are neither added nor removed. Only the builders of `Arc` and
-/// `UniqueArc` make one.
+/// Items are neither added nor removed. Only the builders of `Arc` and `UniqueArc` make a header slice. The items are
+/// in an allocation of their own, beside that of the block.
 pub struct HeaderSlice<H, T> {
+    /// The header, which can be written through a `&mut` to the slice.
     pub header: H,
     items: Items<T>,
 }
@@ -43,7 +44,7 @@ impl<H, T> Model for HeaderSlice<H, T> {
 impl<H, T> HeaderSlice<H, T> {
     ghost use Rattle.handles.specs.HeaderSlice.Lending.{LendsItems};
 
-    /// The items in the order in which they were taken.
+    /// Returns the items, in the order in which the builder took them: `slice.slice()`.
     #[inline]
     pub fn slice(&self) -> &[T]
         ensures { result.now ≡ self.now.items }
@@ -51,7 +52,7 @@ impl<H, T> HeaderSlice<H, T> {
         self.items.slice()
     }
 
-    /// The items for writing. Their number stays.
+    /// Returns the items to write to: `slice.slice_mut()`. Their number stays.
     #[inline]
     pub fn slice_mut(&mut self) -> &mut [T]
         ensures* writes_back { sem 𝓛 (LendsItems H.row T.row self.entry result) }
@@ -60,7 +61,7 @@ impl<H, T> HeaderSlice<H, T> {
         self.items.slice_mut()
     }
 
-    /// The number of items.
+    /// Returns the number of items: `slice.len()`.
     #[inline]
     pub fn len(&self) -> usize
         ensures { result ≡ length self.now.items }
@@ -68,7 +69,7 @@ impl<H, T> HeaderSlice<H, T> {
         self.slice().len()
     }
 
-    /// Whether there are no items.
+    /// Returns `true` if there are no items: `slice.is_empty()`.
     #[inline]
     pub fn is_empty(&self) -> bool
         ensures { result ≡ (length self.now.items == 0) }
@@ -77,7 +78,7 @@ impl<H, T> HeaderSlice<H, T> {
     }
 }
 
-/// The items from first to last, and then the header.
+/// Drops the items from first to last, and then the header.
 impl<H: Drop, T: Drop> Drop for HeaderSlice<H, T> {
     fn drop(self) {
         let HeaderSlice { header, items } = self;

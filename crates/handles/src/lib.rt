@@ -1,4 +1,5 @@
-//! Handles of counted blocks: `Arc` shares a value, `UniqueArc` writes one before it is shared.
+//! Reference-counted handles of a shared block: `Arc` shares a value, `UniqueArc` fills it in before it is shared,
+//! `StaticArc` has one that is never freed, and `ThinArc` has a header and a slice.
 #![tactic(auto)]
 
 pub mod arc;

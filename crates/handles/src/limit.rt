@@ -1,10 +1,10 @@
-//! How many handles a block may have.
+//! The limit of a block: how many handles it may have.
 ghost use Rattle.std.specs.Prelude.{◌≡◌};
 ghost use Rattle.counting_word.specs.CountingWord.{greatest_count, IsLimit};
 
 use counting_word::MAX_REFCOUNT;
 
-// The most handles that a block without the mark may have.
+// The most handles that a block may have until it is static.
 #[derive(Clone, Copy)]
 pub(crate) struct Limit {
     pub(crate) count: u64,
@@ -12,7 +12,7 @@ pub(crate) struct Limit {
 }
 
 impl Limit {
-    // The most that the word of a block can count.
+    // The greatest number that the word of a block can count.
     pub(crate) const GREATEST: Limit = Limit {
         count: MAX_REFCOUNT,
     };

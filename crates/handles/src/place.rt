@@ -1,18 +1,19 @@
-//! The error of a collection's call that changes it at a place.
+//! The error of a call that changes a collection at an index or a path.
 ghost use Rattle.std.specs.Prelude.{◌≡◌};
 ghost use Rattle.handles.specs.declared.place.PlaceError.TheVariants.{Memory};
 
 use std::alloc::{AllocError, AllocFailed};
 use thiserror::Error;
 
-/// Why a change at a place of a collection was not made. The collection reads as before.
+/// The error of a call that changes a collection at an index or a path, as `table.set(alloc, i, value)?` of a
+/// `CowTable`. The collection has the same items as before.
 #[derive(Clone, Copy, Debug, PartialEq, Eq, Error)]
 pub enum PlaceError {
-    /// There is no such place. No want of memory can hide it.
+    /// The index or the path is out of range. A call returns this error whether or not there is memory.
     #[error("no such place")]
     NoPlace,
-    /// There was no memory, the `clone` of an item or of a handle was refused, or the collection has all the items
-    /// that it can have.
+    /// An allocation failed, the `clone` of an item or of a handle failed, or the collection has the most items that
+    /// it can have.
     #[error("out of memory")]
     Memory,
 }
@@ -25,7 +26,7 @@ impl From<AllocError> for PlaceError {
     }
 }
 
-/// So `?` takes the refusal of a `push` or a maker, and drops what that hands back.
+/// Converts the error of a `push` or of a constructor to `Memory`, for `?`. The value in that error is dropped.
 impl<T: Drop> From<AllocFailed<T>> for PlaceError {
     ghost from_gives = { λ _ refusal. refusal ≡ Memory };
 

@@ -1,4 +1,4 @@
-//! Handles of values that stay for good.
+//! Handles of values that are never dropped.
 ghost use Rattle.std.specs.Prelude.{◌≡◌, IfOk, IfErr, IfSome, true, ⊤};
 
 mod compare;
@@ -9,12 +9,15 @@ use crate::unique::UniqueArc;
 use std::alloc::{AllocError, Global};
 use std::ops::Deref;
 
-/// A handle of a block that is never freed, for defaults that live as long as the program: `StaticArc::new(alloc, x)?`.
+/// A handle of a static block, which is never freed: `StaticArc::new(alloc, x)?`. Use it for defaults that live as
+/// long as the program.
 ///
-/// It is one pointer and is copied like a reference; no copy is counted. `arc` makes an `Arc` of it, which cannot fail.
+/// A `StaticArc` is one pointer, and is copied like a reference. Copies are not counted. A `StaticArc` dereferences
+/// to `T`, and its `arc` makes an `Arc`.
 pub struct StaticArc<'a, T>(&'a Marked<T>);
 
-/// Never refused. The type is `Copy`; this is for code that is generic over `Clone`.
+/// Copies the handle and never fails: `kept.clone()?`. The type is `Copy`: this impl is for code that is generic over
+/// `Clone`.
 impl<T> Clone for StaticArc<'_, T> {
     ghost is_clone = { λ x y. y ≡ x };
 
@@ -30,7 +33,11 @@ impl<T> Copy for StaticArc<'_, T> {}
 impl<'a, T: Drop> StaticArc<'a, T> {
     ghost use Rattle.handles.specs.Stays.{value_of};
 
-    /// One request for memory, which is never freed. The value comes back if it is refused.
+    /// Creates a static block: `StaticArc::new(alloc, 9)?`. Its one allocation is never freed.
+    ///
+    /// # Errors
+    ///
+    /// Returns the value if the allocation fails.
     pub fn new(alloc: Global, value: T) -> Result<StaticArc<'a, T>, T>
         ensures made { IfOk result (λ s. value_of s ≡ value) }
         ensures refused { IfErr result (λ x. x ≡ value) }
@@ -42,14 +49,14 @@ impl<'a, T: Drop> StaticArc<'a, T> {
 impl<'a, T> StaticArc<'a, T> {
     ghost use Rattle.handles.specs.Stays.{value_of};
 
-    // Of a block that is marked, as the type of the reference says.
+    // Makes the handle from the reference, whose type says that the block is marked.
     pub(crate) fn of(marked: &'a Marked<T>) -> StaticArc<'a, T>
         ensures { value_of result ≡ marked.now.held.value }
     {
         StaticArc(marked)
     }
 
-    /// The value, for good.
+    /// Returns the value, for the whole of `'a`: `kept.get()`.
     #[inline]
     pub fn get(&self) -> &'a T
         ensures { result.now ≡ value_of self.now }
@@ -57,8 +64,8 @@ impl<'a, T> StaticArc<'a, T> {
         self.0.value()
     }
 
-    /// One more counted handle. It is never refused, and takes no step on the count: neither an atomic one nor a load.
-    /// Its end takes one load.
+    /// Creates an `Arc` of the block, with no atomic step: `kept.arc()`. The call cannot fail. The drop of that `Arc`
+    /// makes one load.
     #[inline]
     pub fn arc(&self) -> Arc<T>
         ensures { result ≡ value_of self.now }
@@ -66,7 +73,7 @@ impl<'a, T> StaticArc<'a, T> {
         Arc::of(self.0.handle())
     }
 
-    /// Always `true`, with no look at the block.
+    /// Returns `true`, without a look at the block: `kept.is_static()`.
     #[inline]
     pub fn is_static(&self) -> bool
         ensures { result ≡ true }
@@ -78,7 +85,7 @@ impl<'a, T> StaticArc<'a, T> {
 impl<T> Arc<T> {
     ghost use Rattle.handles.specs.Stays.{value_of};
 
-    /// A handle that knows the mark, if one load of the word finds it. It leaves an unmarked block unmarked.
+    /// Returns a `StaticArc` of the block if the block is static, by one load: `a.find_static()`.
     pub fn find_static<'a>(&self) -> Option<StaticArc<'a, T>>
     where
         T: 'a,
@@ -94,7 +101,8 @@ impl<T> Arc<T> {
 impl<T: Drop> Arc<T> {
     ghost use Rattle.handles.specs.Stays.{value_of};
 
-    /// Marks the block by an or, and ends the handle by a load. Other handles of the block stay as they are.
+    /// Makes the block static and turns this handle into a `StaticArc`: `a.into_static()`. The cost is an or and a
+    /// load. Other handles of the block stay as they are.
     pub fn into_static<'a>(self) -> StaticArc<'a, T>
     where
         T: 'a,

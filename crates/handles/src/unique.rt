@@ -1,4 +1,4 @@
-//! A handle that is the only one of its block, so that it may write the value.
+//! `UniqueArc`, the only handle of its block, through which the value can be written.
 ghost use Rattle.std.specs.Prelude.{◌≡◌, IfOk, IfErr};
 ghost use types.Logic.{sem};
 
@@ -14,9 +14,10 @@ use std::marker::Model;
 use std::ops::{Deref, DerefMut};
 use std_alloc::room::Vacant;
 
-/// The only handle to a block that nobody shares yet, so it can be written: `UniqueArc::try_new(alloc, x)?`.
+/// The only handle of a block, through which the value can be written: `UniqueArc::try_new(alloc, 5)?`.
 ///
-/// Fill it in, then turn it into an `Arc` by `shareable`, without a second allocation.
+/// A `UniqueArc` dereferences to `T`, also to write. Fill the value in, then turn the handle into an `Arc` by
+/// `shareable`, without a second allocation.
 #[derive(Drop)]
 pub struct UniqueArc<T> {
     block: Box<Block<T>>,
@@ -35,7 +36,11 @@ impl<T> Model for UniqueArc<T> {
 impl<T: Drop> UniqueArc<T> {
     ghost use Rattle.handles.specs.Stays.{value_of};
 
-    /// The only handle of a new block. One request for memory; the value comes back if it is refused.
+    /// Creates a block for the value and returns its only handle: `UniqueArc::new(alloc, 8)`.
+    ///
+    /// # Errors
+    ///
+    /// Returns the value if the allocation fails.
     pub fn new(alloc: Global, value: T) -> Result<UniqueArc<T>, T>
         ensures made { IfOk result (λ u. u ≡ value) }
         ensures refused { IfErr result (λ x. x ≡ value) }
@@ -43,7 +48,12 @@ impl<T: Drop> UniqueArc<T> {
         UniqueArc::with_limit(alloc, value, Limit::GREATEST)
     }
 
-    /// As `new`, with the error of the language's own makers, which `?` turns into an `AllocError`. The value is in it.
+    /// Creates a block for the value, as `new` does, but with an error that `?` converts:
+    /// `UniqueArc::try_new(alloc, 5)?`.
+    ///
+    /// # Errors
+    ///
+    /// Returns `AllocFailed`, with the value in it, if the allocation fails. `?` converts it to an `AllocError`.
     pub fn try_new(alloc: Global, value: T) -> Result<UniqueArc<T>, AllocFailed<T>>
         ensures made { IfOk result (λ u. u ≡ value) }
         ensures refused { IfErr result (λ failed. failed.value ≡ value) }
@@ -60,7 +70,8 @@ impl<T: Drop> UniqueArc<T> {
         })
     }
 
-    /// The handle, to share. Takes no memory: the block stays where it is.
+    /// Turns the handle into an `Arc`, which can be cloned: `unique.shareable()`. Takes no memory, and the block is
+    /// not moved.
     pub fn shareable(self) -> Arc<T>
         ensures { result ≡ self }
     {
@@ -68,7 +79,8 @@ impl<T: Drop> UniqueArc<T> {
         Arc::of(Handle::first(RawBox::of(block)).into_shared())
     }
 
-    /// The value. The block is freed, and the value is neither copied nor dropped.
+    /// Returns the value and frees the block: `unique.into_inner()`. The value is moved, and neither cloned nor
+    /// dropped.
     pub fn into_inner(self) -> T
         ensures { result ≡ self }
     {
@@ -76,7 +88,8 @@ impl<T: Drop> UniqueArc<T> {
         Box::into_inner(block).into_value()
     }
 
-    /// The value, to write to for good. It is never dropped, and its block is never freed.
+    /// Leaks the value and returns a reference to write to: `UniqueArc::try_new(alloc, 5)?.leak()`. The block is
+    /// never freed, and the value is never dropped.
     pub fn leak<'a>(self) -> &'a mut T
     where
         T: 'a,
@@ -86,7 +99,7 @@ impl<T: Drop> UniqueArc<T> {
         Box::leak(block).value_mut()
     }
 
-    /// Marks the block with no atomic step, since nobody shares it yet.
+    /// Makes the block static, with no atomic step, since nobody shares it yet: `unique.into_static()`.
     pub fn into_static<'a>(self) -> StaticArc<'a, T>
     where
         T: 'a,
@@ -109,9 +122,12 @@ impl<T: Drop> UniqueArc<T> {
 }
 
 impl<T: Drop> Arc<T> {
-    /// The handle, to write to, if it is the only one of an unmarked block; else it comes back as it was.
+    /// Returns a handle to write to, if this is the only handle and the block is not static: `Arc::into_unique(a)`.
+    /// The call makes one load and takes no memory, and the block is not moved.
     ///
-    /// It asks as `get_mut` does, by one read of the count. Takes no memory: the block stays where it is.
+    /// # Errors
+    ///
+    /// Returns the handle if the block has other handles or is static.
     pub fn into_unique(this: Arc<T>) -> Result<UniqueArc<T>, Arc<T>>
         ensures alone { IfOk result (λ u. u ≡ this) }
         ensures shared { IfErr result (λ a. a ≡ this) }
@@ -148,14 +164,19 @@ impl<T> DerefMut for UniqueArc<T> {
     }
 }
 
-/// A block whose value is still to be written. When it is dropped it frees the block, and drops no value.
+/// A block whose value is still to be written: `UniqueArc::new_uninit(alloc)?`. Its drop frees the block, and drops
+/// no value.
 pub struct UninitArc<T> {
     room: Vacant<Block<T>, Global>,
     alloc: Global,
 }
 
 impl<T> UniqueArc<T> {
-    /// A block whose value is still to be written. One request for memory.
+    /// Allocates a block whose value is still to be written: `UniqueArc::new_uninit(alloc)?.write(5)`.
+    ///
+    /// # Errors
+    ///
+    /// Returns `AllocError` if the allocation fails.
     pub fn new_uninit(alloc: Global) -> Result<UninitArc<T>, AllocError> {
         match Vacant::take(alloc) {
             Ok(room) => Ok(UninitArc { room, alloc }),
@@ -165,7 +186,7 @@ impl<T> UniqueArc<T> {
 }
 
 impl<T: Drop> UninitArc<T> {
-    /// Writes the value to the block. Takes no memory.
+    /// Writes the value to the block and returns its only handle, without an allocation: `block.write(5)`.
     pub fn write(self, value: T) -> UniqueArc<T>
         ensures { result ≡ value }
     {

@@ -1,4 +1,4 @@
--- What an interner does with a query: it finds the value, or has it made.
+-- The result of `intern_by`: the value of the query is found, or the query makes it.
 use Rattle.std.specs.Prelude.{◌≡◌, ℕ, Bool, true, false, List}
 use Rattle.std.specs.List.{list_any}
 use Rattle.interner.specs.Symbols.{IsInterned}

@@ -1,4 +1,4 @@
--- What a query is of a value that it stands for.
+-- A query is hashed and compared as each value for which it stands.
 use Rattle.std.specs.Prelude.{◌≡◌, ℕ, Bool, List}
 
 -- it is hashed as the value, and stands for what equals the value

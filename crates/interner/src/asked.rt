@@ -1,4 +1,4 @@
-//! A query for a value, as a query for its block.
+//! A query for a value, as a query for the block of that value.
 use crate::query::Query;
 use handles::arc::Arc;
 use indexmap::Equivalent;

@@ -1,4 +1,4 @@
-//! What an interner has by its values: equality and a text.
+//! The traits that an interner has by its values: equality and a text.
 ghost use Rattle.std.specs.Cmp.Lexicographic.{lists_equiv, lists_per, pointwise};
 
 use crate::table::Interner;
@@ -6,7 +6,7 @@ use std::fmt;
 use std::fmt::{Debug, Formatter, Write};
 use std::hash::{BuildHasher, Hash};
 
-/// Asks the values, in the order of their symbols. The hashers may differ.
+/// Compares the values, in the order of their symbols. The hashers may differ.
 impl<T: Eq + Hash, S: BuildHasher> PartialEq for Interner<T, S> {
     ghost eq = { pointwise T.eq };
 
@@ -21,7 +21,7 @@ impl<T: Eq + Hash, S: BuildHasher> Eq for Interner<T, S> {
     ghost laws = { lists_equiv T.Eq.laws };
 }
 
-/// As a list of the values, in the order of their symbols.
+/// Writes the values as a list, in the order of their symbols.
 impl<T: Eq + Hash + Debug, S: BuildHasher> Debug for Interner<T, S> {
     fn fmt<W: Write>(&self, f: &mut Formatter<W>) -> fmt::Result {
         f.debug_list().entries(self.values()).finish()

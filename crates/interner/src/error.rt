@@ -1,17 +1,18 @@
-//! The error of `Interner::intern`.
+//! The error of the calls that intern a value.
 ghost use Rattle.std.specs.Prelude.{◌≡◌};
 ghost use Rattle.interner.specs.declared.error.InternError.TheVariants.{Memory};
 
 use std::alloc::{AllocError, AllocFailed};
 use thiserror::Error;
 
-/// Why `Interner::intern` refused a value. The interner has the values that it had.
+/// The error of a call that interns a value: `interner.intern(alloc, value)?`. The interner has the values that it
+/// had.
 #[derive(Clone, Copy, Debug, PartialEq, Eq, Error)]
 pub enum InternError {
-    /// There are 2^32 values, and no more symbols.
+    /// The interner has 2^32 values, and no more symbols.
     #[error("no symbol is left")]
     Full,
-    /// Memory for the block of the value or for its entry was refused, or the table has 9 · 2^28 entries, its most.
+    /// The block of the value or its entry cannot be allocated, or the hash table has 9 · 2^28 entries, its most.
     #[error("out of memory")]
     Memory,
 }

@@ -1,4 +1,4 @@
-//! The values of an interner with their symbols, one after another.
+//! The iterator over the values of an interner with their symbols.
 ghost use Rattle.std.specs.Prelude.{◌≡◌, ◌≤◌, ◌^◌, IfSome, Some, length, ⊤};
 ghost use Rattle.std.specs.Iterator.{UpTo, YieldsFirstBy, item_count};
 ghost use Rattle.std.specs.Iterator.SizeHint.{IsWithinCount};
@@ -12,7 +12,7 @@ use std::hash::{BuildHasher, Hash};
 use std::iter::FusedIterator;
 use std::marker::Model;
 
-/// An iterator over the values of an `Interner` with their symbols, in the order of these.
+/// An iterator over the values of an `Interner` with their symbols, in the order of the symbols: `interner.iter()`.
 #[derive(Drop)]
 pub struct Iter<'a, T> {
     values: &'a [Arc<T>],
@@ -89,6 +89,7 @@ impl<'a, T> ExactSizeIterator for Iter<'a, T> {
 
 impl<'a, T> FusedIterator for Iter<'a, T> {}
 
+/// Clones the iterator and never fails. Both then yield what is left.
 impl<'a, T> Clone for Iter<'a, T> {
     ghost is_clone = { λ s r. r ≡ s };
 

@@ -1,4 +1,4 @@
-//! Interning: an `Interner` keeps equal values in one block, and numbers them.
+//! Interning: an `Interner` keeps equal values in one block, and gives each a number, its `Symbol`.
 #![tactic(auto)]
 
 mod asked;

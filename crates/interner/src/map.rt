@@ -1,4 +1,4 @@
-//! A value for each key, under the symbol of the key.
+//! `InternMap`, which keeps a value for each interned key.
 ghost use Rattle.std.specs.Prelude.{◌≡◌, ◌++◌, ◌∷◌, [], ◌≤◌, ◌^◌, false, length, position, slice_get};
 ghost use Rattle.std.specs.Prelude.{Err, IfNone, IfOk, IfSome, IsOk, IsTrue, OnErr, OnOk, if◌then◌else◌};
 ghost use Rattle.std.specs.List.{list_any};
@@ -15,7 +15,9 @@ use std::alloc::Global;
 use std::hash::{BuildHasher, BuildHasherDefault, FoldHasher, Hash};
 use std::marker::Model;
 
-/// An interner of keys that keeps a value for each. No key and no value is ever taken out or replaced.
+/// An interner of keys that keeps a value for each: `map.get_or_insert(key, value)?`. Use it as a cache of results.
+///
+/// No key and no value is ever removed or replaced.
 #[derive(Drop)]
 pub struct InternMap<K: Eq + Hash, V, S: BuildHasher = BuildHasherDefault<FoldHasher>> {
     keys: Interner<K, S>,
@@ -34,7 +36,7 @@ impl<K: Eq + Hash, V, S: BuildHasher> Model for InternMap<K, V, S> {
 }
 
 impl<K: Eq + Hash, V> InternMap<K, V, BuildHasherDefault<FoldHasher>> {
-    /// Without a key.
+    /// Creates an empty map, without an allocation: `InternMap::new(alloc)`.
     pub fn new(alloc: Global) -> InternMap<K, V>
         ensures { result ≡ record { keys = []; values = [] } }
     {
@@ -43,7 +45,7 @@ impl<K: Eq + Hash, V> InternMap<K, V, BuildHasherDefault<FoldHasher>> {
 }
 
 impl<K: Eq + Hash, V, S: BuildHasher> InternMap<K, V, S> {
-    /// As `new`, with a hasher of the caller's choice.
+    /// Creates an empty map with a hasher of your choice: `InternMap::with_hasher(alloc, RandomState::new(&rt)?)`.
     pub fn with_hasher(alloc: Global, hasher: S) -> InternMap<K, V, S>
         ensures { result ≡ record { keys = []; values = [] } }
     {
@@ -53,7 +55,7 @@ impl<K: Eq + Hash, V, S: BuildHasher> InternMap<K, V, S> {
         }
     }
 
-    /// The interner of the keys, which finds the symbol of a key.
+    /// Returns the interner of the keys, which finds the symbol of a key: `map.keys().find(query)`.
     pub fn keys(&self) -> &Interner<K, S>
         ensures keys { result.now ≡ self.now.keys }
         ensures values { length self.now.values ≡ length self.now.keys }
@@ -61,14 +63,14 @@ impl<K: Eq + Hash, V, S: BuildHasher> InternMap<K, V, S> {
         &self.keys
     }
 
-    /// The values, in the order of the symbols of their keys.
+    /// Returns the values, in the order of the symbols of their keys: `map.values()`.
     pub fn values(&self) -> &[V]
         ensures { result.now ≡ self.now.values }
     {
         &self.values
     }
 
-    /// The value of the key that the query stands for. It takes O(1) steps on average.
+    /// Returns the value of the key that the query stands for, or `None`: `map.find_value(query)`. O(1) on average.
     pub fn find_value<Q: Query<K>>(&self, query: Q) -> Option<&V>
         ensures found { IfSome result (λ value. IsUnder (Q.stands_for query) self.now value.now) }
         ensures none { IfNone result (position (Q.stands_for query) self.now.keys ≡ None) }
@@ -77,7 +79,8 @@ impl<K: Eq + Hash, V, S: BuildHasher> InternMap<K, V, S> {
         self.get(symbol)
     }
 
-    /// The value of the key of that symbol.
+    /// Returns the value of the key with the symbol, or `None` if the symbol is of an interner with more keys:
+    /// `map.get(symbol)`. O(1).
     pub fn get(&self, symbol: Symbol) -> Option<&V>
         ensures { option_copied result ≡ slice_get self.now.values symbol }
     {
@@ -86,10 +89,14 @@ impl<K: Eq + Hash, V, S: BuildHasher> InternMap<K, V, S> {
 }
 
 impl<K: Eq + Hash + Drop, V: Drop, S: BuildHasher> InternMap<K, V, S> {
-    /// The symbol of the key. If no equal key is there, the key is added with the value; otherwise both are dropped.
+    /// Returns the symbol of the key, and adds the key with the value if no equal key is there:
+    /// `map.get_or_insert(key, 5)?`. If an equal key is there, `key` and `value` are dropped. O(1) on average, and
+    /// the key is hashed once.
     ///
-    /// It takes O(1) steps on average, and hashes the key once. It fails for a new key alone: with `Full` if no symbol
-    /// is left, and with `Memory` if a table cannot grow. Then the map is unchanged, and key and value are dropped.
+    /// # Errors
+    ///
+    /// Returns `Full` for a new key if no symbol is left, and `Memory` for a new key if a table cannot grow. The map
+    /// is unchanged; `key` and `value` are dropped. A key that is there causes no error.
     #[tactic(auto, using(crate::proofs::Symbols::known, crate::proofs::Symbols::any_by_position))]
     pub fn get_or_insert(&mut self, key: Arc<K>, value: V) -> Result<Symbol, InternError>
         ensures interned { IfOk result (IsInterned K.eq self.old.keys key self.new.keys) }

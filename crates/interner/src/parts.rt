@@ -1,4 +1,4 @@
-//! A header slice, found by its header and its items.
+//! Queries for a header slice by its header and its items.
 ghost use Rattle.std.specs.Prelude.{◌≡◌, ◌&&◌};
 ghost use Rattle.std.specs.Cmp.Lexicographic.{pointwise};
 ghost use Rattle.interner.specs.Parts.{is_form_of_parts};

@@ -1,4 +1,4 @@
-//! What an interner finds a value by.
+//! Queries, by which an interner finds a value.
 ghost use Rattle.std.specs.Prelude.{◌≡◌, Bool, IfOk, IsTrue, List};
 ghost use Rattle.std.proofs.Common.{ap};
 ghost use Rattle.std.specs.Cmp.Lexicographic.{bytes_decides, lists_equiv, nat_list_eq_equiv, pointwise};
@@ -12,31 +12,33 @@ use handles::arc::Arc;
 use std::alloc::{AllocError, Global};
 use std::hash::Hash;
 
-/// A form in which a caller has a value before it is a `T`: a `&T`, a `&str` for a `String`, a `&[T]` for a `Vec<T>`, a
-/// `(&H, &[T])` for a `HeaderSlice<H, T>`.
+/// A borrowed form of a value, by which the value is found: a `&T`, a `&str` for a `String`, a `&[T]` for a `Vec<T>`,
+/// a `(&H, &[T])` for a `HeaderSlice<H, T>`, as `interner.find("text")`.
 ///
-/// Implement it for a type of your own to find values by their borrowed parts. It is hashed and compared in place of
-/// the value, so it has to do both as the value does, and `is_form` asks for the proof. The `Query` of `maps` is
-/// another trait, by which a key is found in an order, with no hash.
+/// Implement it for a type of your own to find values by their borrowed parts. The query is hashed and compared in
+/// place of the value, so it must do both as the value does: `is_form` requires the proof. The `Query` of the crate
+/// `maps` is another trait, by which a key is found in an order, without a hash.
 pub trait Query<T: Eq + Hash>: Copy + Hash {
-    // The values that it stands for.
+    // The values for which the query stands.
     ghost stands_for: { Self → T → Bool };
 
-    /// Whether it stands for the value.
+    /// Returns `true` if the query stands for the value: `query.stands_for(&value)`.
     fn stands_for(&self, value: &T) -> bool
         ensures { result ≡ stands_for self.now value.now };
 
-    // It is a form of each value that it stands for, so it stands for one value at most, up to `==`.
+    // The query is a form of each value for which it stands, so all these values are equal by `==`.
     ghost is_form: { (query : Self) (value : T) → IsTrue (stands_for query value)
         → IsFormOf T.eq (stands_for query) (Self.hash_input query) (T.hash_input value) value };
 }
 
-/// A query that can make a value that it stands for. A field that `make` alone reads is neither hashed nor compared.
+/// A query that can make a value for which it stands: `interner.intern_by(alloc, "text")?`. A field that only `make`
+/// reads need not be hashed or compared.
 pub trait Make<T: Eq + Hash>: Query<T> {
-    // What it makes where these are the values.
+    // The value that the query makes where these are the values.
     ghost makes: { Self → List T → T → Type 0 };
 
-    /// The block of a value that it stands for, where none is there. The interner keeps that block.
+    /// Makes the block of a value for which the query stands, when the interner has none:
+    /// `query.make(alloc, values)?`. The interner keeps that block.
     fn make(self, alloc: Global, values: &[Arc<T>]) -> Result<Arc<T>, AllocError>
         ensures stands { IfOk result (λ value. IsTrue (Self.stands_for self value)) }
         ensures made { IfOk result (makes self values.now) };

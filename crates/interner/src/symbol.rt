@@ -1,11 +1,12 @@
-//! What stands for a value.
+//! `Symbol`, the number of an interned value.
 ghost use Rattle.std.specs.Prelude.{◌≡◌};
 
 use std::marker::Model;
 
-/// Stands for a value of one interner: the number of the value, counted from 0 in the order of the first `intern`.
+/// The number of a value in its interner, from 0 in the order of the first `intern`. Compare symbols in place of
+/// values: `first == second`.
 ///
-/// Its type does not say of which interner. Another one has another value under the number, or none.
+/// The type does not say of which interner the symbol is. Another interner has another value at that number, or none.
 #[derive(Clone, Copy, Debug, PartialEq, Eq, PartialOrd, Ord, Hash)]
 pub struct Symbol {
     number: u32,
@@ -29,7 +30,7 @@ impl Symbol {
         Symbol { number }
     }
 
-    /// The number of the value, as the index of a list beside the interner.
+    /// Returns the number of the value, as the index into a list beside the interner: `symbol.index()`.
     #[inline]
     pub fn index(self) -> usize
         ensures { result ≡ self }

@@ -1,4 +1,4 @@
-//! The interner.
+//! `Interner`, which keeps equal values in one block.
 ghost use Rattle.std.specs.Prelude.{◌≡◌, ◌<◌, ◌≤◌, ◌^◌, ◌↔◌, [], false, length, position, slice_get};
 ghost use Rattle.std.specs.Prelude.{Err, IfErr, IfNone, IfOk, IsOk, IsTrue, OnErr, is_some};
 ghost use Rattle.std.specs.List.{IsDistinct, enumerate_from, list_any};
@@ -17,13 +17,20 @@ use std::alloc::{AllocError, Global};
 use std::hash::{BuildHasher, BuildHasherDefault, FoldHasher, Hash};
 use std::marker::Model;
 
-/// Values of which no two are equal, each in one block under its symbol.
+/// A set of values, each in one block under its symbol: `interner.intern(alloc, value)?`.
 ///
-/// Two symbols of an interner are equal exactly if their values are. Values go by their `Eq` and `Hash`: of equal ones
-/// the first is kept. No value is ever taken out, so a symbol stands for its value as long as the interner lives.
+/// ```
+/// let first = interner.intern(alloc, a)?;
+/// let second = interner.intern(alloc, b)?;
+/// Ok(first == second)
+/// ```
 ///
-/// `S` makes the hash of a value. That of `new` has a fixed seed, so whoever picks the values can make it slow; take
-/// `RandomState` for those of a stranger. What the interner answers does not depend on it.
+/// Two symbols of an interner are equal exactly if their values are. Values are compared by their `Eq` and `Hash`,
+/// and the first of equal values is kept. No value is ever removed, so a symbol stays valid as long as the interner
+/// lives.
+///
+/// `S` makes the hash of a value. The hasher of `new` has a fixed seed, so whoever picks the values can make the
+/// calls take O(n): use `RandomState` for the values of a stranger. The results do not depend on the hasher.
 #[derive(Drop)]
 pub struct Interner<T: Eq + Hash, S: BuildHasher = BuildHasherDefault<FoldHasher>> {
     blocks: IndexSet<Arc<T>, S>,
@@ -40,14 +47,19 @@ impl<T: Eq + Hash, S: BuildHasher> Model for Interner<T, S> {
 }
 
 impl<T: Eq + Hash> Interner<T, BuildHasherDefault<FoldHasher>> {
-    /// Without a value. It takes no memory yet.
+    /// Creates an empty interner, without an allocation: `Interner::new(alloc)`.
     pub fn new(alloc: Global) -> Interner<T>
         ensures { result ≡ [] }
     {
         Interner::with_hasher(alloc, BuildHasherDefault::new())
     }
 
-    /// Without a value, and with room for so many: up to there a new one takes no memory but for its block.
+    /// Creates an empty interner with room for `capacity` values: `Interner::with_capacity(alloc, 100)?`. Up to there
+    /// an `intern` allocates only the block of the value.
+    ///
+    /// # Errors
+    ///
+    /// Returns `AllocError` if the room cannot be allocated.
     pub fn with_capacity(alloc: Global, capacity: usize) -> Result<Interner<T>, AllocError>
         ensures { IfOk result (λ interner. interner ≡ []) }
     {
@@ -56,7 +68,8 @@ impl<T: Eq + Hash> Interner<T, BuildHasherDefault<FoldHasher>> {
 }
 
 impl<T: Eq + Hash, S: BuildHasher> Interner<T, S> {
-    /// As `new`, with a hasher of the caller's choice, as `RandomState::new(&rt)?`.
+    /// Creates an empty interner with a hasher of your choice:
+    /// `Interner::with_hasher(alloc, RandomState::new(&rt)?)`.
     pub fn with_hasher(alloc: Global, hasher: S) -> Interner<T, S>
         ensures { result ≡ [] }
     {
@@ -65,7 +78,12 @@ impl<T: Eq + Hash, S: BuildHasher> Interner<T, S> {
         }
     }
 
-    /// As `with_capacity`, with a hasher of the caller's choice.
+    /// Creates an empty interner with room for `capacity` values and a hasher of your choice:
+    /// `Interner::with_capacity_and_hasher(alloc, 100, hasher)?`.
+    ///
+    /// # Errors
+    ///
+    /// Returns `AllocError` if the room cannot be allocated.
     pub fn with_capacity_and_hasher(
         alloc: Global,
         capacity: usize,
@@ -80,7 +98,7 @@ impl<T: Eq + Hash, S: BuildHasher> Interner<T, S> {
         })
     }
 
-    /// The number of values.
+    /// Returns the number of values: `interner.len()`.
     pub fn len(&self) -> usize
         ensures len { result ≡ length self.now }
         ensures distinct { IsDistinct T.eq self.now }
@@ -88,15 +106,15 @@ impl<T: Eq + Hash, S: BuildHasher> Interner<T, S> {
         self.blocks.len()
     }
 
-    /// Whether there are no values.
+    /// Returns `true` if there are no values: `interner.is_empty()`.
     pub fn is_empty(&self) -> bool
         ensures { IsTrue result ↔ (self.now ≡ []) }
     {
         self.blocks.is_empty()
     }
 
-    /// The symbol of the value that the query stands for, as `find(&value)`, or `find("text")` where the values are
-    /// `String`s. It takes no memory, and O(1) steps on average.
+    /// Returns the symbol of the value that the query stands for, or `None`: `interner.find(&value)`, or
+    /// `interner.find("text")` of an interner of `String`s. O(1) on average.
     pub fn find<Q: Query<T>>(&self, query: Q) -> Option<Symbol>
         ensures { result ≡ position (Q.stands_for query) self.now }
     {
@@ -104,7 +122,8 @@ impl<T: Eq + Hash, S: BuildHasher> Interner<T, S> {
         Some(Symbol::of(index as u32))
     }
 
-    /// The value of the symbol, in its block. There is none if the symbol is of another interner that has more values.
+    /// Returns the block of the value with the symbol, or `None` if the symbol is of an interner with more values:
+    /// `interner.get(symbol)`. O(1).
     #[inline]
     pub fn get(&self, symbol: Symbol) -> Option<&Arc<T>>
         ensures { option_copied result ≡ slice_get self.now symbol }
@@ -112,7 +131,8 @@ impl<T: Eq + Hash, S: BuildHasher> Interner<T, S> {
         self.blocks.get_index(symbol.index())
     }
 
-    /// The symbol of that number, as `Symbol::index` gives it.
+    /// Returns the symbol at the index, or `None` if the index is out of range: `interner.symbol(0)`. The inverse of
+    /// `Symbol::index`.
     pub fn symbol(&self, number: usize) -> Option<Symbol>
         ensures { SomeIff result (number < length self.now) number }
     {
@@ -123,14 +143,14 @@ impl<T: Eq + Hash, S: BuildHasher> Interner<T, S> {
         }
     }
 
-    /// The values, in the order of their symbols.
+    /// Returns the values, in the order of their symbols: `interner.values()`.
     pub fn values(&self) -> &[Arc<T>]
         ensures { result.now ≡ self.now }
     {
         self.blocks.as_slice()
     }
 
-    /// An iterator over the values with their symbols, in the order of these.
+    /// Returns an iterator over the values with their symbols, in the order of the symbols: `interner.iter()`.
     pub fn iter(&self) -> Iter<'_, T>
         ensures { result ≡ enumerate_from 0 self.now }
     {
@@ -139,10 +159,13 @@ impl<T: Eq + Hash, S: BuildHasher> Interner<T, S> {
 }
 
 impl<T: Eq + Hash + Drop, S: BuildHasher> Interner<T, S> {
-    /// The symbol of the value, whose block is kept if no equal one is there, and dropped otherwise.
+    /// Returns the symbol of the value, and keeps its block if no equal value is there: `interner.intern_arc(node)?`.
+    /// If an equal value is there, `value` is dropped. O(1) on average, and the value is hashed once.
     ///
-    /// A value that is there is never refused: no want of memory can hide it. A new one takes none but for the table,
-    /// now and then. It takes O(1) steps on average.
+    /// # Errors
+    ///
+    /// Returns `Full` for a new value if no symbol is left, and `Memory` for a new value if the table cannot grow.
+    /// The interner is unchanged. A value that is there causes no error.
     #[tactic(auto, using(crate::proofs::Symbols::known, crate::proofs::Symbols::any_by_position))]
     pub fn intern_arc(&mut self, value: Arc<T>) -> Result<Symbol, InternError>
         ensures interned { IfOk result (IsInterned T.eq self.old value self.new) }
@@ -157,9 +180,13 @@ impl<T: Eq + Hash + Drop, S: BuildHasher> Interner<T, S> {
         self.add(value)
     }
 
-    /// The symbol of the value, which gets a block if no equal one is there, and is dropped otherwise.
+    /// Returns the symbol of the value, and puts the value into a block if no equal value is there:
+    /// `interner.intern(alloc, a)?`. If an equal value is there, `value` is dropped. O(1) on average; a new value is
+    /// hashed twice.
     ///
-    /// It is refused as `intern_arc` is, and if there is no memory for the block of a new value.
+    /// # Errors
+    ///
+    /// Returns the errors of `intern_arc`, and `Memory` if the block of a new value cannot be allocated.
     #[tactic(auto, using(crate::proofs::Symbols::known))]
     pub fn intern(&mut self, alloc: Global, value: T) -> Result<Symbol, InternError>
         ensures interned { IfOk result (IsInterned T.eq self.old value self.new) }
@@ -174,11 +201,13 @@ impl<T: Eq + Hash + Drop, S: BuildHasher> Interner<T, S> {
         }
     }
 
-    /// The symbol of the value that the query stands for, as of `intern_by(alloc, "text")` where the values are
-    /// `String`s. If no such value is there, the query makes it.
+    /// Returns the symbol of the value that the query stands for, and lets the query make the value if none is there:
+    /// `interner.intern_by(alloc, "text")?` of an interner of `String`s. O(1) on average; the query is hashed, and a
+    /// new value too.
     ///
-    /// It is refused as `intern` is, and if the query makes no value. The query is hashed, and a new value once more.
-    /// Of a value that is there nothing is made.
+    /// # Errors
+    ///
+    /// Returns the errors of `intern`, and `Memory` if the query cannot make the value.
     pub fn intern_by<Q: Make<T>>(&mut self, alloc: Global, query: Q) -> Result<Symbol, InternError>
         ensures interned { IfOk result (IsFoundOrMade T.eq (Q.stands_for query) (Q.makes query self.old)
             self.old self.new) }
@@ -196,7 +225,7 @@ impl<T: Eq + Hash + Drop, S: BuildHasher> Interner<T, S> {
         }
     }
 
-    // The symbol of the query's value, if that is there. If it is not, there is a symbol left for it.
+    // Returns the symbol of the query's value, if that is there. If not, there is a symbol left for it.
     #[tactic(auto, using(crate::proofs::Symbols::any_by_position))]
     fn place_of<Q: Query<T>>(&self, query: Q) -> Result<Option<Symbol>, InternError>
         ensures place { IfOk result (λ place. place ≡ position (Q.stands_for query) self.now) }
@@ -211,7 +240,7 @@ impl<T: Eq + Hash + Drop, S: BuildHasher> Interner<T, S> {
         }
     }
 
-    // As `intern_arc`, with a symbol left.
+    // Interns the value as `intern_arc` does, where a symbol is left.
     fn add(&mut self, value: Arc<T>) -> Result<Symbol, InternError>
         requires { length self.old < 2 ^ 32 }
         ensures interned { IfOk result (IsInterned T.eq self.old value self.new) }

@@ -1,4 +1,4 @@
--- What argument words ask for.
+-- The requests that arguments encode.
 use Rattle.std.specs.Prelude.{◌≡◌, ℕ, ◌≤◌, List, [], ◌∷◌, codes, decimal}
 use Rattle.counting_word.specs.CountingWord.{greatest_count}
 use Rattle.scripts.specs.Number.{IsNumber}

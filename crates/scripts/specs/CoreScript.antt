@@ -1,4 +1,4 @@
--- What a script of a core comes to.
+-- The runs of a script of a core.
 use Rattle.std.specs.Prelude.{◌≡◌, ℕ, List}
 use Rattle.counting_core.specs.declared.step.Answer.{Answer}
 use Rattle.counting_core.specs.Legal.{IsLegal}

@@ -1,4 +1,4 @@
--- What is true of every text and of every line of a script.
+-- The statements of the lemmas about every text and every line of a script.
 use Rattle.std.specs.Prelude.{◌≡◌, ◌≢◌, ℕ, List, [], ◌∷◌, ◌++◌, All}
 use Rattle.std.specs.List.{flat_map}
 use Rattle.scripts.specs.Script.{line_feed, lines_of}

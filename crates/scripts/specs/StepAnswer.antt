@@ -1,4 +1,4 @@
--- What the lines of a core's script are answered: words, and the number after them, if there is one.
+-- The answers to the lines of a core's script: words, and a number after them, if there is one.
 use Rattle.std.specs.Prelude.{ℕ, true, false, List, Option, Some, None, codes}
 use Rattle.counting_core.specs.declared.step.Answer.{Answer}
 use Rattle.counting_core.specs.declared.step.Answer.TheVariants.{Born, Full, Pending, Quit, Ended, GivenUp, Marked, Is}

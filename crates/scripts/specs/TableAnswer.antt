@@ -1,4 +1,4 @@
--- What the lines of a table's script are answered.
+-- The answers to the lines of a table's script.
 use Rattle.std.specs.Prelude.{◌≡◌, ℕ, ◌==◌, true, false, List, Option, Some, None, slice_get, codes}
 use Rattle.commands.specs.TableModel.{Slots, outcomes_of}
 use Rattle.commands.specs.declared.Reply.{Reply}

@@ -1,4 +1,4 @@
--- What a script of a table comes to.
+-- The runs of a script of a table.
 use Rattle.std.specs.Prelude.{◌≡◌, ℕ, List, Option, None, replicate}
 use Rattle.commands.specs.TableModel.{Slots}
 use Rattle.scripts.specs.Fault.{Outcome, PrintsUpTo}

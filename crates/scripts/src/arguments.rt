@@ -1,4 +1,4 @@
-//! What the argument words ask for.
+//! The arguments of the program, and the request that they encode.
 ghost use Rattle.std.specs.Prelude.{ℕ, IfSome, IfNone, map};
 ghost use Rattle.scripts.specs.Arguments.{AskLimit};
 
@@ -15,7 +15,11 @@ const MOST_OWNERS: usize = 1000;
 
 const MOST_SLOTS: usize = 1000;
 
-/// The words after the program's own name.
+/// Returns the arguments after the program's own name: `argument_words(rt, alloc)?`.
+///
+/// # Errors
+///
+/// Returns `AllocError` if the texts cannot be allocated.
 pub fn argument_words(rt: &impl Env, alloc: Global) -> Result<Vec<String>, AllocError> {
     let mut words = Vec::new(alloc);
     for index in 1..usize::MAX {
@@ -27,8 +31,8 @@ pub fn argument_words(rt: &impl Env, alloc: Global) -> Result<Vec<String>, Alloc
     Ok(words)
 }
 
-// One of the words, or nothing past the last. A word that is not UTF-8, or too long to be right, is
-// handed on as the empty text.
+// Returns one argument, or `None` past the last. An argument that is not UTF-8, or too long to be right, becomes the
+// empty text, which no request has.
 fn argument_word(rt: &impl Env, alloc: Global, index: usize) -> Result<Option<String>, AllocError> {
     let mut buffer = [0u8; ARGUMENT_ROOM];
     match rt.arg(index, &mut buffer) {
@@ -41,17 +45,20 @@ fn argument_word(rt: &impl Env, alloc: Global, index: usize) -> Result<Option<St
     }
 }
 
-/// A program that the arguments ask for.
+/// A request that the arguments `core OWNERS`, `core OWNERS LIMIT` or `table SLOTS` encode:
+/// `Request::Core { owners, limit }`.
 #[derive(Clone, Copy)]
 pub enum Request {
+    /// Run a script on a counting core.
     Core { owners: usize, limit: u64 },
+    /// Run a script on a table of handles.
     Table { slots: usize },
 }
 
 impl Request {
     ghost use Rattle.scripts.specs.Arguments.{AreWrong, Asks};
 
-    /// What the words ask for, or nothing if they are wrong.
+    /// Returns the request that the arguments encode, or `None` if they are wrong: `Request::from_words(&words)`.
     pub fn from_words<S: AsStr>(words: &[S]) -> Option<Request>
         ensures asked { IfSome result (Asks (map S.text words.now)) }
         ensures wrong { IfNone result (AreWrong (map S.text words.now)) }
@@ -73,7 +80,7 @@ impl Request {
     }
 }
 
-/// The limit that the words after the number of owners ask for, or nothing if they are wrong.
+/// Returns the limit in the arguments after the number of owners, or `None` if they are wrong.
 fn limit_from_words<S: AsStr>(words: &[S]) -> Option<u64>
     ensures asked { IfSome result (AskLimit (map S.text words.now)) }
     ensures wrong { IfNone result ((limit : ℕ) → ¬ (AskLimit (map S.text words.now) limit)) }

@@ -1,4 +1,4 @@
-//! Scripts of `core`: their lines are steps of a counting core.
+//! Scripts of `core`: their lines are steps of a counting core, the protocol of a counted block as a machine.
 ghost use Rattle.std.specs.Prelude.{◌≡◌, ◌<◌, ◌++◌, IfErr, IfOk, OnOk};
 ghost use Rattle.counting_word.specs.CountingWord.{IsLimit};
 ghost use Rattle.counting_core.specs.Represents.{Represents};
@@ -22,11 +22,14 @@ use std::io::Write;
 /// The value of each block that a script opens.
 const VALUE: u32 = 5;
 
-/// Runs the script on a new core, in which owner 0 holds the only handle, of a block of `VALUE` and this limit. Writes
-/// the answer to each line, up to the first line that is no step, and in place of its answer the fault.
+/// Runs the script on a new core: `run_core_script(alloc, owners, limit, &script, output)?`. Owner 0 holds the only
+/// handle, of a block of `VALUE` and this limit. Writes the answer to each line, up to the first line that is no
+/// step, and in place of its answer the fault.
 ///
-/// Ends with `Line` at that line, with `Output` if a write fails, and with `Memory` if the core or the room for
-/// the answers is refused. A step that is refused memory is answered so, and the run goes on.
+/// # Errors
+///
+/// Returns `Line` at the first line that is no step, `Output` if a write fails, and `Memory` if the core or the room
+/// for the answers cannot be allocated. A step that finds no memory is answered `memory`, and the run continues.
 pub fn run_core_script<W: Write>(
     alloc: Global,
     owners: usize,
@@ -63,7 +66,7 @@ impl Interpreter for CoreRunner {
     }
 }
 
-// Each answer by itself, so that its bytes are copied without a loop.
+// Appends each text in an arm of its own, so that its bytes are copied without a loop.
 fn append_answer(gathered: &mut Vec<u8>, answer: Answer<u32>) -> Result<(), AllocError>
     ensures { OnOk result (gathered.new.items
         ≡ gathered.old.items ++ answer_text (printed_answer answer)) }

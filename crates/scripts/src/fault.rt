@@ -1,4 +1,4 @@
-//! What ends a run before the end of its script.
+//! The faults that end a run before the end of its script.
 ghost use Rattle.std.specs.Prelude.{◌≡◌, []};
 ghost use Rattle.scripts.specs.Written.{WroteBeginning};
 ghost use Rattle.scripts.specs.declared.fault.Fault.TheVariants as Fault;
@@ -7,19 +7,19 @@ use crate::output::write_whole;
 use std::alloc::{AllocError, AllocFailed};
 use std::io::Write;
 
-/// What ended a run. `Line` is reported as the last line of the output, `Output` nowhere, and the others on standard
-/// error.
+/// A fault that ended a run: `Fault::Line(2)`. `Line` is reported as the last line of the output, `Output` is not
+/// reported, and the others are reported on standard error.
 #[derive(Clone, Copy, Debug, PartialEq, Eq)]
 pub enum Fault {
-    /// The argument words are wrong.
+    /// The arguments are wrong.
     Arguments,
-    /// The line of this number is faulty. The first is line 1.
+    /// The line with this number is faulty. The first line is line 1.
     Line(u64),
     /// The script cannot be read.
     Input,
     /// The output cannot be written.
     Output,
-    /// Memory is refused outside the answer to a line.
+    /// Memory that the run itself needs cannot be allocated. Memory that one line needs is no fault.
     Memory,
 }
 
@@ -42,7 +42,7 @@ impl<T: Drop> From<AllocFailed<T>> for Fault {
 impl Fault {
     ghost use Rattle.scripts.specs.Fault.{note_of, status_of};
 
-    /// The exit status that reports the fault.
+    /// Returns the exit status that reports the fault.
     fn status(self) -> u8
         ensures { result ≡ status_of self }
     {
@@ -55,7 +55,7 @@ impl Fault {
         }
     }
 
-    /// The line that standard error gets, or nothing.
+    /// Returns the line for standard error, which is empty if there is none.
     fn note(self) -> &'static str
         ensures { result.now ≡ note_of self }
     {
@@ -67,8 +67,8 @@ impl Fault {
         }
     }
 
-    /// Reports the fault on standard error, if it belongs there, and answers its status, even if that cannot be
-    /// written.
+    /// Writes the fault to standard error, if it is reported there, and returns its exit status:
+    /// `fault.report(errors)`. A failed write does not change the status.
     pub fn report<E: Write>(self, errors: &mut E) -> u8
         ensures status { result ≡ status_of self }
         ensures quiet { note_of self ≡ [] → errors.new ≡ errors.old }

@@ -1,4 +1,4 @@
-//! The word of a line, and the numbers after it.
+//! The fields of a line: a word, and the numbers after it.
 ghost use Rattle.std.specs.Prelude.{◌≡◌, ◌↔◌, ◌<◌, ◌^◌, ℕ, List, Option, decimal, IfSome, IfNone, IsTrue};
 ghost use Rattle.std.specs.Option.{option_copied};
 ghost use Rattle.scripts.specs.Line.{IsLine, fields, fields_if_any, space};
@@ -8,14 +8,16 @@ use crate::number::split_number;
 use crate::split::split_once;
 use arrayvec::ArrayVec;
 
-/// A line that is a word and at most three numbers, each after one space.
+/// A line of a word and at most three numbers, each after one space: `read_line(text)`.
 #[derive(Drop)]
 pub struct Line<'a> {
+    /// The bytes before the first space.
     pub word: &'a [u8],
+    /// The numbers after the word, in their order.
     pub numbers: ArrayVec<u32, 3>,
 }
 
-/// The line that the text is, or nothing if it is none.
+/// Splits the text into a word and its numbers, or returns `None` if it has another form: `read_line(b"lend 0 1")`.
 pub fn read_line(text: &[u8]) -> Option<Line<'_>>
     ensures line { IfSome result (λ line. IsLine text.now line.word.now line.numbers.items) }
     ensures none { IfNone result ((word numbers : List ℕ) → ¬ (IsLine text.now word numbers)) }
@@ -33,7 +35,7 @@ pub fn read_line(text: &[u8]) -> Option<Line<'_>>
     Some(Line { word, numbers })
 }
 
-/// The number that the first field of a text is, and what comes after the space behind it, if there is one.
+/// Returns the number that is the first field of a text, and the text after the space behind it, if there is a space.
 fn split_field(text: &[u8]) -> Option<(u32, Option<&[u8]>)>
     ensures number { IfSome result (λ field.
         text.now ≡ with_rest space (decimal field.0) (option_copied field.1)) }
@@ -51,7 +53,8 @@ fn split_field(text: &[u8]) -> Option<(u32, Option<&[u8]>)>
     Some((number, Some(rest)))
 }
 
-/// Whether the text is this word. An array has a constant length, so its bytes are compared without a loop.
+/// Returns `true` if the text is this word: `is_word(word, b"clone")`. The word is an array, so that its bytes are
+/// compared without a loop.
 #[inline(always)]
 pub fn is_word<const N: usize>(text: &[u8], word: &[u8; N]) -> bool
     ensures { IsTrue result ↔ (text.now ≡ word.now) }

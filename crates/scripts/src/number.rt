@@ -2,7 +2,8 @@
 ghost use Rattle.std.specs.Prelude.{ℕ, List, IfSome, IfNone};
 ghost use Rattle.scripts.specs.Number.{BeginsWith, IsNumber};
 
-/// A number up to 4294967295 as scripts write it: digits, and no zero before others.
+/// Parses a number from 0 to 4294967295 as scripts write it, or returns `None`: `parse_number(b"42")`. A number is
+/// digits, with no zero before other digits.
 pub fn parse_number(word: &[u8]) -> Option<u32>
     ensures number { IfSome result (IsNumber word.now) }
     ensures none { IfNone result ((number : ℕ) → ¬ (IsNumber word.now number)) }
@@ -13,7 +14,7 @@ pub fn parse_number(word: &[u8]) -> Option<u32>
     }
 }
 
-/// The number that a text begins with, and what comes after its digits. Each byte is looked at once.
+/// Returns the number that a text begins with, and the text after its digits. Each byte is read once.
 pub(crate) fn split_number(text: &[u8]) -> Option<(u32, &[u8])>
     ensures number { IfSome result (λ split. BeginsWith text.now split.0 split.1.now) }
     ensures none { IfNone result ((number : ℕ) (rest : List ℕ) → ¬ (BeginsWith text.now number rest)) }

@@ -1,4 +1,4 @@
-//! Writing of which it is known how far it came.
+//! Writing of which a contract says how much was written.
 ghost use Rattle.std.specs.Prelude.{◌≡◌, [], IfErr, OnOk};
 ghost use Rattle.std.specs.Io.KnownBytes.{Appends};
 ghost use Rattle.scripts.specs.Written.{WroteBeginning};
@@ -7,8 +7,12 @@ ghost use Rattle.scripts.specs.declared.fault.Fault.TheVariants as Fault;
 use crate::fault::Fault;
 use std::io::{ErrorKind, Write};
 
-/// Writes all the bytes, in as many writes as it takes. `write_all` of the library would leave unproved what is written
-/// when a write fails.
+/// Writes all the bytes, in as many writes as it takes: `write_whole(bytes, output)?`. `write_all` of the library
+/// would leave unproved what is written when a write fails.
+///
+/// # Errors
+///
+/// Returns `Output` if a write fails. A beginning of the bytes is written then.
 pub fn write_whole<W: Write>(bytes: &[u8], output: &mut W) -> Result<(), Fault>
     ensures whole { OnOk result (Appends
         (W.contents output.old) (W.contents output.new) bytes.now) }

@@ -19,7 +19,8 @@ use std::convert::AsStr;
 use std::env::Env;
 use std::io::{Read, Write};
 
-/// Runs the program on the arguments of its environment, with tables of that type, and answers its exit status.
+/// Runs the program on the arguments of its environment, with tables of type `T`, and returns its exit status:
+/// `start::<Table<u32>, _, _, _, _>(&rt, rt.alloc(), &mut input, &mut output, &mut errors)`.
 pub fn start<T: NumberTable, V: Env, R: Read, W: Write, E: Write>(
     environment: &V,
     alloc: Global,
@@ -44,7 +45,8 @@ pub fn start<T: NumberTable, V: Env, R: Read, W: Write, E: Write>(
     }
 }
 
-/// Runs the program on these argument words, without its own name, and answers its exit status.
+/// Runs the program on these arguments, without its own name, and returns its exit status:
+/// `bench::<Table<u32>, _, _, _, _>(alloc, words, input, &mut output, &mut errors)`.
 pub fn bench<T: NumberTable, S: AsStr, R: Read, W: Write, E: Write>(
     alloc: Global,
     words: &[S],
@@ -69,7 +71,7 @@ pub fn bench<T: NumberTable, S: AsStr, R: Read, W: Write, E: Write>(
     }
 }
 
-/// Reads the arguments, then the script, and runs it.
+/// Reads the arguments, then the script, and runs the script.
 fn do_as_asked<T: NumberTable, S: AsStr, R: Read, W: Write>(
     alloc: Global,
     words: &[S],

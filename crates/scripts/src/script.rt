@@ -16,14 +16,14 @@ use std::alloc::{AllocError, Global};
 use std::io;
 use std::io::{ErrorKind, Read, Write};
 
-/// Answers are gathered until they are so many bytes, and then written as one part. A `BufWriter` in
-/// place of the `Vec` would leave unproved that they reach this output.
+/// Answers are gathered up to this many bytes, and then written as one part. A `BufWriter` in place of the `Vec`
+/// would leave unproved that the answers reach this output.
 const PART_SIZE: usize = 1 << 16;
 
-/// A part's last answer may go past its size by less than this.
+/// The last answer of a part may exceed the size of the part by less than this many bytes.
 const ANSWER_ROOM: usize = 64;
 
-/// What runs the lines of a script, one after the other.
+/// Runs the lines of a script, one after the other: `answer_lines(alloc, script, &mut interpreter, output)?`.
 pub trait Interpreter {
     // The line may be answered by this text, which leaves the second state.
     ghost answers: { Self → List ℕ → List ℕ → Self → Type 0 };
@@ -31,8 +31,10 @@ pub trait Interpreter {
     // The line asks for nothing.
     ghost is_faulty: { List ℕ → Type 0 };
 
-    /// Appends the answer to a line to what is gathered. It is `None` if the line is faulty, which changes nothing.
-    /// A line whose answer finds no memory has run all the same.
+    /// Runs a line and appends its answer to `gathered`: `interpreter.answer_to(line, &mut part)`. Returns `None` if
+    /// the line is faulty, which changes nothing.
+    ///
+    /// A line whose answer finds no memory in `gathered` has run all the same.
     fn answer_to(&mut self, line: &[u8], gathered: &mut Vec<u8>) -> Option<Result<(), AllocError>>
         ensures answered { IfSome result (λ appended. (text : List ℕ)
             × answers self.old line.now text self.new
@@ -42,7 +44,11 @@ pub trait Interpreter {
         ensures kept { IfNone result (gathered.new.items ≡ gathered.old.items) };
 }
 
-/// The whole script.
+/// Reads the whole script: `read(alloc, input)?`.
+///
+/// # Errors
+///
+/// Returns `Memory` if the text cannot be allocated, and `Input` if a read fails for another reason.
 pub fn read<R: Read>(alloc: Global, input: &mut R) -> Result<Vec<u8>, Fault>
     ensures whole { IfOk result (λ script. IfSome (R.remaining input.old) (λ bytes.
         script.items ≡ bytes)) }
@@ -56,7 +62,7 @@ pub fn read<R: Read>(alloc: Global, input: &mut R) -> Result<Vec<u8>, Fault>
     }
 }
 
-/// The fault of a read that failed, or that found no memory for what it read.
+/// Returns the fault of a read that failed, or that found no memory for the text.
 fn read_fault(error: &io::Error) -> Fault
     ensures memory { error_kind error.now ≡ ErrorKind.OutOfMemory → result ≡ Fault.Memory }
     ensures input { error_kind error.now ≢ ErrorKind.OutOfMemory → result ≡ Fault.Input }
@@ -67,7 +73,12 @@ fn read_fault(error: &io::Error) -> Fault
     }
 }
 
-/// Runs the lines up to the first faulty one, and writes their answers and that fault.
+/// Runs the lines up to the first faulty one, and writes their answers, then the fault:
+/// `answer_lines(alloc, script, &mut runner, output)?`.
+///
+/// # Errors
+///
+/// Returns `Line` at the first faulty line, `Output` if a write fails, and `Memory` if the answers find no memory.
 pub fn answer_lines<I: Interpreter, W: Write>(
     alloc: Global,
     script: &[u8],
@@ -98,7 +109,7 @@ pub fn answer_lines<I: Interpreter, W: Write>(
     write_last(&part, output)
 }
 
-/// The first line of a text, without its line feed, and what comes after it.
+/// Returns the first line of a text, without its line feed, and the text after it.
 fn split_line(text: &[u8]) -> Option<(&[u8], &[u8])>
     ensures first { IfSome result (λ split. lines_of text.now ≡ split.0.now ∷ lines_of split.1.now) }
     ensures shorter { IfSome result (λ split. length split.1.now < length text.now) }
@@ -113,7 +124,8 @@ fn split_line(text: &[u8]) -> Option<(&[u8], &[u8])>
     }
 }
 
-/// Appends an answer of words and a number. One of words alone is appended as it stands, with its line feed.
+/// Appends an answer of words and a number, with a line feed:
+/// `append_with_number(&mut part, b"fault: line ", number)?`. An answer without a number is appended by itself.
 pub fn append_with_number(
     gathered: &mut Vec<u8>,
     words: &[u8],
@@ -127,7 +139,7 @@ pub fn append_with_number(
     gathered.extend_from_slice(b"\n")
 }
 
-/// Passes the gathered answers on.
+/// Writes the gathered answers, and clears them.
 fn write_part<W: Write>(part: &mut Vec<u8>, output: &mut W) -> Result<(), Fault>
     ensures written { OnOk result (Appends
         (W.contents output.old) (W.contents output.new) part.old.items) }

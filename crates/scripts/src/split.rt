@@ -1,10 +1,11 @@
-//! Parts of a text.
+//! Splitting a text at a byte.
 ghost use Rattle.std.specs.Prelude.{◌≡◌, ◌≢◌, All};
 ghost use Rattle.std.specs.Option.{option_copied};
 ghost use Rattle.scripts.specs.Split.{with_rest};
 
-/// The part before the first such byte, and the part after it, if there is one.
-// Within `read_line` the compiler would count more at each byte.
+/// Splits the text at the first such byte, as `split_once(text, b' ')`: the part before it, and the part after it, if
+/// the byte occurs.
+// Not inlined: within `read_line` the compiler would add more work to each byte.
 #[inline(never)]
 pub fn split_once(text: &[u8], separator: u8) -> (&[u8], Option<&[u8]>)
     ensures first { All (λ byte. byte ≢ separator) result.0.now }

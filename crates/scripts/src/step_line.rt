@@ -7,7 +7,7 @@ ghost use Rattle.scripts.specs.StepLine.{step_line};
 use crate::line::{Line, is_word, read_line};
 use counting_core::Step;
 
-/// The step that the line encodes, or nothing if it is invalid.
+/// Parses a line of a core's script as a step, or returns `None` if the line is invalid: `read_step(line)`.
 pub fn read_step(text: &[u8]) -> Option<Step<u32>>
     ensures step { IfSome result (Parses step_line text.now) }
     ensures none { IfNone result (IsInvalid step_line text.now) }
@@ -15,7 +15,7 @@ pub fn read_step(text: &[u8]) -> Option<Step<u32>>
     step_of(read_line(text)?)
 }
 
-// By the number of operands, and then by the word.
+// Decides by the number of operands, and then by the word.
 fn step_of(line: Line<'_>) -> Option<Step<u32>>
     ensures step { IfSome result (Encodes step_line line.entry.word.now line.entry.numbers.items) }
     ensures none { IfNone result ((step : CoreStep ℕ)

@@ -6,7 +6,8 @@ ghost use Rattle.scripts.specs.TableAnswer.{printed_reply};
 use commands::Reply;
 use std::alloc::AllocError;
 
-/// Appends the text of a reply. Each is appended by itself, so that its bytes are copied without a loop.
+/// Appends the text of a reply: `append_reply(gathered, reply)?`. Each text has an arm of its own, so that its bytes
+/// are copied without a loop.
 pub fn append_reply(gathered: &mut Vec<u8>, reply: Reply) -> Result<(), AllocError>
     ensures { OnOk result (gathered.new.items
         ≡ gathered.old.items ++ answer_text (printed_reply reply)) }

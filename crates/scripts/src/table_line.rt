@@ -1,4 +1,4 @@
-//! The lines of a table's script: each is a command, or asks what a slot reads.
+//! The lines of a table's script: each is a command, or asks for the number in a slot.
 ghost use Rattle.std.specs.Prelude.{◌≡◌, ℕ, [], ◌∷◌, IfSome, IfNone};
 ghost use Rattle.scripts.specs.Line.{Encodes, IsInvalid, Parses};
 ghost use Rattle.scripts.specs.declared.table_line.TableLine.{TableLine as Asked};
@@ -7,14 +7,16 @@ ghost use Rattle.scripts.specs.TableLine.{table_line};
 use crate::line::{Line, is_word, read_line};
 use commands::Command;
 
-/// What a line asks of a table.
+/// A line of a table's script: a command, or in `TableLine::Get(0)` the question which number a slot has.
 #[derive(Drop)]
 pub enum TableLine {
+    /// Serve the command.
     Serve(Command<u32>),
+    /// Answer with the number in the slot at this index.
     Get(usize),
 }
 
-/// What the line asks, or nothing if it is invalid.
+/// Parses a line of a table's script, or returns `None` if the line is invalid: `read_table_line(line)`.
 pub fn read_table_line(text: &[u8]) -> Option<TableLine>
     ensures line { IfSome result (Parses table_line text.now) }
     ensures none { IfNone result (IsInvalid table_line text.now) }
@@ -22,7 +24,7 @@ pub fn read_table_line(text: &[u8]) -> Option<TableLine>
     asked_by(read_line(text)?)
 }
 
-// By the number of operands, and then by the word.
+// Decides by the number of operands, and then by the word.
 fn asked_by(line: Line<'_>) -> Option<TableLine>
     ensures line { IfSome result (Encodes table_line line.entry.word.now line.entry.numbers.items) }
     ensures none { IfNone result ((asked : Asked)

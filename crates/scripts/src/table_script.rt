@@ -1,4 +1,4 @@
-//! Scripts of `table`: their lines are commands on a table of handles, and what its slots read.
+//! Scripts of `table`: their lines are commands on a table of handles, or ask for the number in a slot.
 ghost use Rattle.std.specs.Prelude.{◌≡◌, ◌++◌, ℕ, List, Option, IfErr, OnOk, slice_get};
 ghost use Rattle.scripts.specs.Fault.{IsFaultOfRun};
 ghost use Rattle.scripts.specs.Line.{IsInvalid};
@@ -16,11 +16,11 @@ use commands::NumberTable;
 use std::alloc::{AllocError, Global};
 use std::io::Write;
 
-/// Runs the script on a new table of so many empty slots. Writes the answer to each line, up to the first line that
-/// asks nothing of a table, and in place of its answer the fault.
+/// Runs the script on a new table of `slots` empty slots. Writes the answer to each line, up to the first line that
+/// is invalid, and in place of its answer the fault.
 ///
-/// Ends with `Line` at that line, with `Output` if a write fails, and with `Memory` if the table or the room for the
-/// answers is refused. A command that is refused memory is answered so, and the run goes on.
+/// Returns `Line` at that line, `Output` if a write fails, and `Memory` if the table or the room for the answers
+/// cannot be allocated. A command that finds no memory is answered `refused`, and the run continues.
 pub(crate) fn run_table_script<T: NumberTable, W: Write>(
     alloc: Global,
     slots: usize,
@@ -35,7 +35,7 @@ pub(crate) fn run_table_script<T: NumberTable, W: Write>(
     answer_lines(alloc, script, &mut TableRunner { alloc, table }, output)
 }
 
-/// A table, and where its commands take their memory.
+/// A table, and the allocator of its commands.
 #[derive(Drop)]
 struct TableRunner<T> {
     alloc: Global,

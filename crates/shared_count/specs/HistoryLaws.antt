@@ -1,4 +1,4 @@
--- The laws of legal histories.
+-- The statements of the lemmas about legal histories.
 use Rattle.std.specs.Prelude.{◌≡◌, ℕ, ◌<◌, Bool, true, false, nat_lt, if◌then◌else◌, List, ◌++◌, length, count_by}
 use Rattle.std.specs.Prelude.{sum_by}
 use Rattle.std.specs.List.{range_with_len}

@@ -1,4 +1,5 @@
--- What only this crate speaks of: what a seat knows, the rule of the word, and what each step tells its seat.
+-- Definitions that only this crate uses: what a seat knows, the rule of the word, and what each step adds to the
+-- knowledge of its seat.
 pub mod Rule
 pub mod Seats
 pub mod Shares

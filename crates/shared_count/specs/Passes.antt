@@ -1,4 +1,4 @@
--- What a count and a pass are to a contract, and what a call changes in its pass.
+-- The values of a count and of a pass in contracts, and the change of a pass by a call.
 use Rattle.std.specs.Prelude.{◌≡◌, ℕ, true, List, [], ◌∷◌, ◌++◌}
 use Rattle.atomic_table.specs.Seated.{TableId}
 use Rattle.shared_count.specs.History.{TryClone, Born, Call, Event, IsLegal, left_by, owned_by, calls_of}

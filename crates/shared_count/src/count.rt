@@ -1,4 +1,4 @@
-//! The count, and the calls of its passes.
+//! `SharedCount`, and the calls by which its passes use it.
 ghost use Rattle.std.specs.Prelude.{◌≡◌, ◌≢◌, ◌+◌, ◌<◌, map, All, IfOk};
 ghost use Rattle.std.specs.List.{range_with_len};
 ghost use Rattle.shared_count.specs.Passes.{first_pass, handles, born_count};
@@ -21,11 +21,16 @@ use std::marker::Model;
 
 /// A count of handles without a value, for threads that must agree who was the last: `count.end(&mut pass)`.
 ///
-/// It is one word, changed by single atomic steps, whose replies form one legal history.
+/// The count is one word, changed by single atomic steps and without a lock. The replies to all calls form one legal
+/// history. Each call requires a pass of this count, and all but `meet` require that the pass owns a handle:
 ///
-/// Each call requires a pass of this count, and all but `meet` require that the pass owns a handle.
+/// ```
+/// let (count, mut passes) = SharedCount::open(alloc, 2)?;
+/// let mut pass = passes.pop().unwrap();
+/// let reply = count.end(&mut pass);
+/// ```
 ///
-/// To a contract a count is which one it is, and how many `passes` it was opened with.
+/// In a contract a count is its identity and the number of `passes` that it was opened with.
 #[derive(Drop)]
 pub struct SharedCount {
     table: Table<(), View, usize, CountRule, Global>,
@@ -43,10 +48,13 @@ impl Model for SharedCount {
 }
 
 impl SharedCount {
-    /// A count of n handles, one for each of its n passes.
+    /// Creates a count of `n` handles, one for each of its `n` passes: `SharedCount::open(alloc, 2)?`. It makes `n`
+    /// loads.
     ///
-    /// It makes three requests for memory, one for the passes and two for the table of the word, and answers
-    /// `AllocError` if one is refused. It loads the word n times. No other call takes memory.
+    /// # Errors
+    ///
+    /// Returns `AllocError` if one of three allocations fails, one for the passes and two for the table of the word.
+    /// No other call takes memory.
     pub fn open(alloc: Global, n: usize) -> Result<(SharedCount, Vec<CountPass>), AllocError>
         requires { 0 < n }
         ensures opened { IfOk result (λ r. r.0.passes ≡ n) }
@@ -63,10 +71,10 @@ impl SharedCount {
         Ok((SharedCount { table }, passes))
     }
 
-    /// One more handle for the pass: a load, and at most one compare-exchange.
+    /// Adds a handle to the pass, by a load and at most one compare-exchange: `count.try_clone(&mut pass)`.
     ///
-    /// It never retries. If another pass changes the count in between, the exchange fails, and the reply is `Overtaken`
-    /// unless the count is then marked or full.
+    /// The call never retries. If another pass changes the count after the load, the compare-exchange fails. The
+    /// reply is then `Overtaken`, unless the count is static or full by that time.
     pub fn try_clone(&self, pass: &mut CountPass) -> TryClone
         requires count { pass.old.count ≡ self.now }
         requires owns { 0 < handles pass.old }
@@ -82,7 +90,7 @@ impl SharedCount {
         reply
     }
 
-    /// Ends one handle of the pass: a load, and at most one subtraction.
+    /// Ends one handle of the pass, by a load and at most one subtraction: `count.end(&mut pass)`.
     pub fn end(&self, pass: &mut CountPass) -> EndReply
         requires count { pass.old.count ≡ self.now }
         requires owns { 0 < handles pass.old }
@@ -95,7 +103,8 @@ impl SharedCount {
         reply
     }
 
-    /// Marks the count for good, by one or: from then on no end is the last. Marking twice changes nothing.
+    /// Makes the count static, by one or: `count.mark(&mut pass)`. From then on no `end` is the last. A second call
+    /// changes nothing.
     pub fn mark(&self, pass: &mut CountPass)
         requires count { pass.old.count ≡ self.now }
         requires owns { 0 < handles pass.old }
@@ -107,7 +116,8 @@ impl SharedCount {
         shared.fetch_or::<SetMark>(&mut pass.seat, 0, MARK);
     }
 
-    /// Whether the count is unmarked and has one handle, which is then that of this pass. It is one load.
+    /// Returns `true` if the count is not static and has one handle, which is that of this pass, by one load:
+    /// `count.is_unique(&mut pass)`.
     pub fn is_unique(&self, pass: &mut CountPass) -> bool
         requires count { pass.old.count ≡ self.now }
         requires owns { 0 < handles pass.old }
@@ -118,7 +128,7 @@ impl SharedCount {
         is_alone(self.table.shared.load::<AskUnique>(&mut pass.seat, 0))
     }
 
-    /// Whether the count is marked. It is one load.
+    /// Returns `true` if the count is static, by one load: `count.is_static(&mut pass)`.
     pub fn is_static(&self, pass: &mut CountPass) -> bool
         requires count { pass.old.count ≡ self.now }
         requires owns { 0 < handles pass.old }
@@ -129,9 +139,8 @@ impl SharedCount {
         is_marked(self.table.shared.load::<AskStatic>(&mut pass.seat, 0))
     }
 
-    /// Lets both passes see one history, in which all calls of both stand. They need not own a handle.
-    ///
-    /// It costs five loads.
+    /// Lets both passes see one history, which has all calls of both: `count.meet(&mut first, &mut second)`. The
+    /// passes need not own a handle. The call makes five loads.
     pub fn meet(&self, first: &mut CountPass, second: &mut CountPass)
         requires first { first.old.count ≡ self.now }
         requires second { second.old.count ≡ self.now }
@@ -148,7 +157,8 @@ impl SharedCount {
         ensures first_owned { handles first.new ≡ handles first.old }
         ensures second_owned { handles second.new ≡ handles second.old }
     {
-        // The second pass writes a note, the first reads the count with it, and the second takes it back.
+        // The second pass writes a note, the first reads the count with that note, and the second takes the note
+        // back.
         let shared = &self.table.shared;
         let note = shared.split_seat::<WriteNote>(&mut second.seat);
         shared.join_seat::<TakeNote>(&mut first.seat, note);

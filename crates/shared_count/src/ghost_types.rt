@@ -1,9 +1,9 @@
-//! The types that contracts and proofs alone speak of. No value of them is made.
+//! The types of which only contracts and proofs speak. No value of them is made.
 use crate::replies::{EndReply, TryClone};
 use atomic_table::{Join, Play, Split, TableRule};
 use std::collections::LinkedList;
 
-/// A call with its reply, as it stands in a history.
+/// A call with its reply, as an entry of a history has it.
 pub enum Call {
     Clone(TryClone),
     End(EndReply),
@@ -12,39 +12,43 @@ pub enum Call {
     Static(bool),
 }
 
-/// A call by the pass of this name, as it stands in a history.
+/// An entry of a history: a call by the pass with the name `caller`.
 pub struct Event {
+    /// The name of the pass.
     pub caller: u64,
     pub call: Call,
 }
 
-/// What is known of a pass: how many passes its count was opened with, its name, and the history that it has seen.
+/// What is known of a pass: the number of passes that its count was opened with, its name, and the history that it
+/// has seen.
 pub struct Known {
+    /// The number of passes that the count was opened with.
     pub passes: u64,
     pub name: u64,
+    /// The history that the pass has seen, the earliest call first.
     pub seen: LinkedList<Event>,
 }
 
 /// How much of a pass a seat has.
 pub enum Part {
-    /// One of two halves. The pass can make no call while the other half lies elsewhere.
+    /// One of two halves. The pass can make no call while the other half is elsewhere.
     Half,
     /// Both halves. The pass can make any call.
     Whole,
-    /// Both halves, and the pass has begun an end but not yet lowered the word.
+    /// Both halves, and the pass has begun an end but not yet decremented the count.
     InDrop,
 }
 
-/// A pass, or a part of it, as a seat has it.
+/// A pass, or a part of one, in a seat. A seat is a participant of the table of the word (`atomic_table`).
 pub struct Share {
     pub known: Known,
     pub part: Part,
 }
 
-/// What a seat knows. The seat of a pass has one share; the seat that `open` deals from has one for each pass to come.
+/// What a seat knows. The seat of a pass has one share; the seat that `open` splits has one for each pass to come.
 pub type View = LinkedList<Share>;
 
-/// The word stands for a legal history, and each seat knows a beginning of it.
+/// The rule of the table: the word stands for a legal history, and each seat knows a beginning of that history.
 pub struct CountRule;
 
 impl TableRule<(), View, usize> for CountRule {
@@ -74,7 +78,7 @@ impl Play<(), View> for AskStatic {
     ghost then = { TellsStatic };
 }
 
-/// The load of a clone, which answers it or leaves it half done.
+/// The load of a clone, which replies or leaves the clone in flight.
 pub struct BeginClone;
 
 impl Play<(), View> for BeginClone {
@@ -83,7 +87,7 @@ impl Play<(), View> for BeginClone {
     ghost then = { TellsClone };
 }
 
-/// The compare-exchange of a clone, which wins or loses.
+/// The compare-exchange of a clone, which succeeds or fails.
 pub struct Raise;
 
 impl Play<(), View> for Raise {
@@ -92,7 +96,7 @@ impl Play<(), View> for Raise {
     ghost then = { TellsRaise };
 }
 
-/// The load of an end, which answers it or leaves it half done.
+/// The load of an end, which replies or leaves the end in flight.
 pub struct BeginEnd;
 
 impl Play<(), View> for BeginEnd {
@@ -128,7 +132,7 @@ impl Play<(), View> for Meet {
     ghost then = { TellsMeet };
 }
 
-/// The first share of a seat moves to a new one.
+/// Moves the first share of a seat to a new seat.
 pub struct Deal;
 
 impl Split<View> for Deal {
@@ -139,7 +143,7 @@ impl Split<View> for Deal {
     ghost right = { first_alone };
 }
 
-/// A pass writes a note: a seat with one half of the pass, and a copy of what it has seen.
+/// Writes a note of a pass: a seat with one half of the pass, and a copy of the history that it has seen.
 pub struct WriteNote;
 
 impl Split<View> for WriteNote {
@@ -150,7 +154,7 @@ impl Split<View> for WriteNote {
     ghost right = { as_halves };
 }
 
-/// The seat of another pass takes a note in.
+/// Moves a note into the seat of another pass.
 pub struct TakeNote;
 
 impl Join<View> for TakeNote {
@@ -162,7 +166,7 @@ impl Join<View> for TakeNote {
     ghost spent = { [] };
 }
 
-/// A pass takes its own note back. It is whole again, and has seen what the note has.
+/// Moves a pass's own note back into its seat. The pass is whole again, and has seen what the note has.
 pub struct ReadNote;
 
 impl Join<View> for ReadNote {

@@ -1,4 +1,4 @@
-//! The right to use a count.
+//! `CountPass`, the right to use a count.
 ghost use Rattle.std.specs.Prelude.{◌≡◌};
 ghost use Rattle.shared_count.specs.History.{IsLegal};
 ghost use Rattle.shared_count.specs.Passes.{handles};
@@ -7,11 +7,10 @@ use crate::ghost_types::View;
 use atomic_table::Seat;
 use std::marker::Model;
 
-/// The right to use a count, in one thread at a time. It owns some of the count's handles. If it is dropped, they stay
-/// counted for good.
+/// The right to use a count, in one thread at a time: `count.end(&mut pass)`. `SharedCount::open` makes the passes.
 ///
-/// To a contract it is its `count`, its `name`, which no other pass of that count has, and the history that it has
-/// `seen`.
+/// A pass owns some of the count's handles. If the pass is dropped, they stay counted forever. In a contract a pass
+/// is its `count`, its `name`, which no other pass of that count has, and the history that it has `seen`.
 #[derive(Drop)]
 pub struct CountPass {
     pub(crate) seat: Seat<(), View>,
@@ -31,7 +30,8 @@ impl Model for CountPass {
 }
 
 impl CountPass {
-    /// How many handles the pass owns. It does not read the word. A call shows that the history seen is legal.
+    /// Returns the number of handles that the pass owns, without a load: `pass.owned()`. Its contract also says that
+    /// the history that the pass has seen is legal.
     pub fn owned(&self) -> u64
         ensures handles { result ≡ handles self.now }
         ensures legal { IsLegal self.now.count.passes self.now.seen }

@@ -6,30 +6,31 @@ ghost use Rattle.counting_word.specs.CountingWord.{is_one_handle};
 
 use counting_word::is_last;
 
-/// The reply to a clone.
+/// The reply to `count.try_clone(&mut pass)`.
 #[must_use]
 #[derive(Clone, Copy, Debug, PartialEq, Eq)]
 pub enum TryClone {
     /// The pass owns one more handle.
     Born,
-    /// The count is unmarked and has `MAX_REFCOUNT` handles. Nothing was changed.
+    /// The count is not static and has `MAX_REFCOUNT` handles. Nothing changed.
     Full,
-    /// Another pass changed the count between the load and the raise. Nothing was changed.
+    /// Another pass changed the count between the load and the compare-exchange. Nothing changed; a caller may try
+    /// again.
     Overtaken,
 }
 
-/// The reply to an end.
+/// The reply to `count.end(&mut pass)`.
 #[must_use]
 #[derive(Clone, Copy, Debug, PartialEq, Eq)]
 pub enum EndReply {
-    /// Handles are left, or the count is marked.
+    /// Other handles are left, or the count is static.
     Ended,
-    /// It was the last handle of an unmarked count.
+    /// The handle was the last, and the count is not static.
     Last,
 }
 
 impl TryClone {
-    /// How many handles a clone with this reply adds.
+    /// Returns the number of handles that a clone with this reply adds.
     pub(crate) fn born(self) -> u64
         ensures { result ≡ born_count self }
     {
@@ -41,7 +42,7 @@ impl TryClone {
 }
 
 impl EndReply {
-    /// The reply to an end whose subtraction found this word.
+    /// Returns the reply to an end whose subtraction found this word.
     pub(crate) fn of_lower(found: u64) -> EndReply
         ensures { result ≡ end_reply (is_one_handle found) }
     {

@@ -1,4 +1,4 @@
-//! Tables of handles, on which commands run as on tables of the values alone.
+//! Tables of handles, on which commands run as on a table of plain values.
 #![tactic(auto)]
 
 mod arc_slots;

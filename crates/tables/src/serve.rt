@@ -5,22 +5,25 @@ ghost use Rattle.commands.specs.Runs.{IsAmong, Means, Run};
 use commands::Reply;
 use std::alloc::{AllocError, Global};
 
-/// A table that serves commands of this type.
+/// A table that serves commands of this type: `serve_all(&mut table, alloc, commands)?`.
 pub trait Serve<C> {
     // What a command means, and which commands may be served.
     ghost meaning: { C → Means Self };
 
     ghost can_serve: { C → Type 0 } = { λ _. ⊤ };
 
-    /// Serves one command. The reply takes no memory.
+    /// Serves one command and returns its reply, which takes no memory: `table.serve_one(alloc, command)`.
     fn serve_one(&mut self, alloc: Global, command: C) -> Reply
         requires { can_serve command }
         ensures { IsAmong (meaning command self.old) result self.new };
 }
 
-/// Serves commands in order and gives a reply to each.
+/// Serves the commands in order and returns a reply to each: `serve_all(&mut table, alloc, commands)?`.
 ///
-/// The room for the replies is reserved first: if it is refused, no command was served, and all are dropped.
+/// # Errors
+///
+/// Returns `AllocError` if the room for the replies cannot be allocated. No command was served then, and all are
+/// dropped.
 pub fn serve_all<S: Serve<C>, C: Drop>(
     table: &mut S,
     alloc: Global,

@@ -10,7 +10,8 @@ use commands::Reply;
 use std::alloc::{AllocError, Global};
 use std::marker::Model;
 
-/// Slots, each empty or with a handle. Handles may share a block; the values that the slots read never show it.
+/// Slots, each empty or with a handle: `Slots::new(alloc, 2)?`. Handles may share a block, which the values that the
+/// slots read never show.
 #[derive(Drop)]
 pub struct Slots<H> {
     pub(crate) handles: Vec<Option<H>>,
@@ -25,7 +26,7 @@ impl<H> Model for Slots<H> {
 }
 
 impl<H> Slots<H> {
-    /// How many slots there are, empty ones too.
+    /// Returns the number of slots, empty ones too: `table.slots()`.
     #[inline]
     pub fn slots(&self) -> usize
         ensures { result ≡ length self.now }
@@ -33,7 +34,11 @@ impl<H> Slots<H> {
         self.handles.len()
     }
 
-    /// The handle in a slot, or else the reply of each command that reads the slot.
+    /// Returns the handle in a slot: `table.handle(0)`.
+    ///
+    /// # Errors
+    ///
+    /// Returns the reply of each command that reads the slot: `Empty`, or `NoSlot` if the index is out of range.
     #[inline]
     pub fn handle(&self, i: usize) -> Result<&H, Reply>
         ensures found { IfOk result (λ handle. slice_get self.now i ≡ Some (Some handle.now)) }
@@ -47,7 +52,11 @@ impl<H> Slots<H> {
         }
     }
 
-    /// The handles in two slots, or else the reply of each command that reads both.
+    /// Returns the handles in two slots: `table.two_handles(0, 1)`.
+    ///
+    /// # Errors
+    ///
+    /// Returns the reply of each command that reads both: `NoSlot` if an index is out of range, and else `Empty`.
     #[inline]
     pub fn two_handles(&self, i: usize, j: usize) -> Result<(&H, &H), Reply>
         ensures first { IfOk result (λ found. slice_get self.now i ≡ Some (Some found.0.now)) }
@@ -65,7 +74,11 @@ impl<H> Slots<H> {
 }
 
 impl<H: Drop> Slots<H> {
-    /// A table with that many slots, all of them empty.
+    /// Creates a table with that many slots, all of them empty: `Table::new(alloc, 2)?`.
+    ///
+    /// # Errors
+    ///
+    /// Returns `AllocError` if the slots cannot be allocated.
     pub fn new(alloc: Global, slots: usize) -> Result<Slots<H>, AllocError>
         ensures { IfOk result (λ table. table ≡ replicate slots None) }
     {
@@ -76,7 +89,7 @@ impl<H: Drop> Slots<H> {
         Ok(Slots { handles })
     }
 
-    /// Puts the handle in a slot that is there. The slot's old handle ends.
+    /// Puts the handle into a slot that exists: `table.fill(0, handle)`. The slot's old handle ends.
     #[inline]
     pub fn fill(&mut self, i: usize, handle: H)
         requires { i < length self.old }
@@ -85,7 +98,11 @@ impl<H: Drop> Slots<H> {
         self.handles[i] = Some(handle);
     }
 
-    /// Puts the handle in a slot, whose old handle ends. If there is no such slot the handle comes back.
+    /// Puts the handle into a slot, whose old handle ends: `table.put(0, handle)`.
+    ///
+    /// # Errors
+    ///
+    /// Returns the handle if the index is out of range.
     #[inline]
     pub fn put(&mut self, i: usize, handle: H) -> Result<(), H>
         ensures there { IsOk result ↔ (i < length self.old) }
@@ -100,7 +117,7 @@ impl<H: Drop> Slots<H> {
         Ok(())
     }
 
-    /// Ends the slot's handle.
+    /// Drops the slot's handle, if there is one, and leaves the slot empty: `table.end(0)`.
     #[inline]
     #[tactic(auto, using(crate::proofs::SlotLemmas::slots))]
     pub fn end(&mut self, i: usize) -> Reply
@@ -117,7 +134,8 @@ impl<H: Drop> Slots<H> {
 }
 
 impl<H: Clone> Slots<H> {
-    /// Puts a clone of the first slot's handle in the second slot. A clone that is refused changes nothing.
+    /// Puts a clone of the first slot's handle into the second slot: `table.clone_handle(0, 1)`. A clone that fails
+    /// changes nothing.
     #[inline]
     pub fn clone_handle(&mut self, i: usize, j: usize) -> Reply
         requires { CopiesAreEqual H.is_clone }
@@ -140,7 +158,7 @@ impl<H: Clone> Slots<H> {
 }
 
 impl<H: PartialEq> Slots<H> {
-    /// Asks whether two slots have handles of equal values.
+    /// Replies whether two slots have handles of equal values: `table.same(0, 1)`.
     #[inline]
     pub fn same(&self, i: usize, j: usize) -> Reply
         ensures { IsAmong (compares H.eq i j self.now) result self.now }

@@ -17,7 +17,7 @@ use std::alloc::{AllocError, Global};
 pub type Table<T> = Slots<Arc<T>>;
 
 impl<T: Drop> Slots<Arc<T>> {
-    /// The value of a slot: none if the slot is empty or not there.
+    /// Returns the value of a slot, or `None` if the slot is empty or the index is out of range: `table.get(0)`.
     #[inline]
     pub fn get(&self, i: usize) -> Option<&T>
         ensures { option_copied result ≡ option_flatten (slice_get self.now i) }
@@ -49,7 +49,11 @@ impl<T: PartialEq + Drop> Serve<PlainCommand<T>> for Slots<Arc<T>> {
 }
 
 impl<T: PartialEq + Drop> Slots<Arc<T>> {
-    /// As [`Table::run`], without the commands that ask for a copy.
+    /// Runs commands that clone no value, as [`Table::run`] does: `table.run_plain(alloc, commands)?`.
+    ///
+    /// # Errors
+    ///
+    /// Returns `AllocError` as [`Table::run`] does.
     pub fn run_plain(
         &mut self,
         alloc: Global,
@@ -76,9 +80,9 @@ impl<T: Clone + PartialEq> Serve<Command<T>> for Slots<Arc<T>> {
 }
 
 impl<T: Clone + PartialEq> Slots<Arc<T>> {
-    /// Serves one command. The reply takes no memory.
+    /// Serves one command and returns its reply, which takes no memory: `table.serve(alloc, command)`.
     ///
-    /// [`Command::Own`] is only for types whose copies are the same value.
+    /// [`Command::Own`] is only for types whose clones equal the value.
     #[inline]
     pub fn serve(&mut self, alloc: Global, command: Command<T>) -> Reply
         requires copies { IsTrue (is_own command) → CopiesAreEqual T.is_clone }
@@ -99,13 +103,16 @@ impl<T: Clone + PartialEq> Slots<Arc<T>> {
         }
     }
 
-    /// Runs commands in order and gives a reply to each, as [`Table::serve`] does.
+    /// Runs the commands in order and returns a reply to each: `table.run(alloc, commands)?`.
     ///
-    /// The room for the replies is reserved first: if it is refused, no command was served, and all are dropped.
+    /// [`Command::Own`] is only for types whose clones equal the value. The values of a table have no interior
+    /// mutability: what a cell, a lock or an atomic holds is written through a shared handle, so that every slot of
+    /// that block reads the change, and no clause speaks of it.
     ///
-    /// [`Command::Own`] is only for types whose copies are the same value. The values of a table hold no cell, no lock
-    /// and no atomic: what these hold is written through a shared handle, so that every slot of that block reads the
-    /// change, and no clause speaks of it.
+    /// # Errors
+    ///
+    /// Returns `AllocError` if the room for the replies cannot be allocated. No command was served then, and all are
+    /// dropped.
     pub fn run(
         &mut self,
         alloc: Global,

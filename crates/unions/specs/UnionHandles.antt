@@ -1,4 +1,4 @@
--- What union handles and their borrows show.
+-- The values of union handles and of their borrows.
 use Rattle.handles.specs.Borrowed.{borrowed}
 use Rattle.unions.specs.Unions.{Union, First, Second}
 use Rattle.unions.specs.declared.arc_union.EitherArc.{EitherArc}

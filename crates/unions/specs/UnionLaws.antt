@@ -1,4 +1,4 @@
--- The equality, the orders and the hash of unions keep the laws that those of the values keep.
+-- The equality, the orders and the hash of unions satisfy the laws that those of the values satisfy.
 use Rattle.std.specs.Prelude.{◌≡◌, Bool, true, false, Option, Some, IsTrue, refl, pos, ◌++◌}
 use Rattle.std.proofs.Common.{true≢false, sym, ap}
 use Rattle.std.specs.Bool.{Decides}

@@ -1,4 +1,4 @@
--- What a union of handles is to its holder: a value of one of two types, by kind.
+-- The value of a union in contracts: a value of one of two types, by variant.
 use Rattle.std.specs.Prelude.{Bool, true, false, Option, Some, None, pos, ◌++◌}
 use Rattle.std.specs.declared.cmp.Ordering.{Ordering}
 use Rattle.std.specs.declared.cmp.Ordering.TheVariants.{Less, Greater}

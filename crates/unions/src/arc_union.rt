@@ -1,4 +1,4 @@
-//! A handle of one of two types.
+//! `ArcUnion`, a handle of one of two types.
 ghost use Rattle.std.specs.Prelude.{◌≡◌, IfOk, IfErr, IsTrue, option_map};
 ghost use Rattle.handles.specs.Borrowed.{borrowed};
 ghost use Rattle.unions.specs.Unions.{First, Second, is_first, is_second, first, second};
@@ -11,16 +11,17 @@ use handles::header_slice::HeaderSlice;
 use std::alloc::AllocError;
 use std::marker::Model;
 
-/// One of two handles, such as where a style comes from: a rule, or the element itself.
+/// A handle of one of two types, such as the source of a style, a rule or the element itself:
+/// `ArcUnion::from_first(rule)`.
 ///
-/// Make it by `ArcUnion::from_first(rule)` or `from_second(inline)`, and match on what `borrow` returns. The two kinds
-/// stay apart even if their types are the same.
+/// Use `match union.borrow()` to read it. A union is the first or the second variant, also if both types are the
+/// same. It takes two words.
 #[derive(Drop)]
 pub struct ArcUnion<A, B> {
     handle: EitherArc<A, B>,
 }
 
-/// A handle of one of two types of header slices.
+/// A handle of one of two types of header slices: `ThinArcUnion<u8, u32, u32, u64>`.
 pub type ThinArcUnion<H1, T1, H2, T2> = ArcUnion<HeaderSlice<H1, T1>, HeaderSlice<H2, T2>>;
 
 #[derive(Drop)]
@@ -39,18 +40,20 @@ impl<A, B> Model for ArcUnion<A, B> {
     ghost view = { λ u. shown_union u.handle };
 }
 
-/// What `ArcUnion::borrow` returns: the handle of a union, borrowed.
+/// The handle of a union, borrowed: `match union.borrow()`.
 #[derive(Debug)]
 #[derive_where(Clone, Copy)]
 pub enum ArcUnionBorrow<'a, A, B> {
+    /// The union is the first variant.
     First(ArcBorrow<'a, A>),
+    /// The union is the second variant.
     Second(ArcBorrow<'a, B>),
 }
 
 impl<A, B> ArcUnion<A, B> {
     ghost use Rattle.unions.specs.UnionHandles.{borrowed_union};
 
-    /// The handle as one of the first kind. The count stays as it is.
+    /// Wraps a handle as the first variant: `ArcUnion::from_first(rule)`. The count stays as it is.
     pub fn from_first(handle: Arc<A>) -> ArcUnion<A, B>
         ensures { result ≡ First handle }
     {
@@ -59,7 +62,7 @@ impl<A, B> ArcUnion<A, B> {
         }
     }
 
-    /// The handle as one of the second kind. The count stays as it is.
+    /// Wraps a handle as the second variant: `ArcUnion::from_second(inline)`. The count stays as it is.
     pub fn from_second(handle: Arc<B>) -> ArcUnion<A, B>
         ensures { result ≡ Second handle }
     {
@@ -68,21 +71,21 @@ impl<A, B> ArcUnion<A, B> {
         }
     }
 
-    /// Whether the handle is of the first kind.
+    /// Returns `true` if the union is the first variant: `union.is_first()`.
     pub fn is_first(&self) -> bool
         ensures { result ≡ is_first self.now }
     {
         matches!(self.handle, EitherArc::First(_))
     }
 
-    /// Whether the handle is of the second kind.
+    /// Returns `true` if the union is the second variant: `union.is_second()`.
     pub fn is_second(&self) -> bool
         ensures { result ≡ is_second self.now }
     {
         matches!(self.handle, EitherArc::Second(_))
     }
 
-    /// The handle, if it is of the first type.
+    /// Borrows the handle, if the union is the first variant: `union.as_first()`.
     pub fn as_first(&self) -> Option<ArcBorrow<'_, A>>
         ensures { option_map borrowed result ≡ first self.now }
     {
@@ -92,7 +95,7 @@ impl<A, B> ArcUnion<A, B> {
         }
     }
 
-    /// The handle, if it is of the second type.
+    /// Borrows the handle, if the union is the second variant: `union.as_second()`.
     pub fn as_second(&self) -> Option<ArcBorrow<'_, B>>
         ensures { option_map borrowed result ≡ second self.now }
     {
@@ -102,7 +105,7 @@ impl<A, B> ArcUnion<A, B> {
         }
     }
 
-    /// The handle of whichever kind, borrowed. The count stays as it is.
+    /// Borrows the handle of either variant: `match union.borrow()`. The count stays as it is.
     pub fn borrow(&self) -> ArcUnionBorrow<'_, A, B>
         ensures { borrowed_union result ≡ self.now }
     {
@@ -112,7 +115,11 @@ impl<A, B> ArcUnion<A, B> {
         }
     }
 
-    /// The handle, if it is of the first type; else the union comes back as it was. The count stays as it is.
+    /// Unwraps the handle, if the union is the first variant: `union.into_first()`. The count stays as it is.
+    ///
+    /// # Errors
+    ///
+    /// Returns the union if it is the second variant.
     pub fn into_first(self) -> Result<Arc<A>, ArcUnion<A, B>>
         ensures first { IfOk result (λ a. self ≡ First a) }
         ensures second { IfErr result (λ u. (u ≡ self) × IsTrue (is_second self)) }
@@ -123,7 +130,11 @@ impl<A, B> ArcUnion<A, B> {
         }
     }
 
-    /// The handle, if it is of the second type; else the union comes back as it was. The count stays as it is.
+    /// Unwraps the handle, if the union is the second variant: `union.into_second()`. The count stays as it is.
+    ///
+    /// # Errors
+    ///
+    /// Returns the union if it is the first variant.
     pub fn into_second(self) -> Result<Arc<B>, ArcUnion<A, B>>
         ensures second { IfOk result (λ b. self ≡ Second b) }
         ensures first { IfErr result (λ u. (u ≡ self) × IsTrue (is_first self)) }
@@ -134,7 +145,8 @@ impl<A, B> ArcUnion<A, B> {
         }
     }
 
-    /// Whether both are of one kind and of one block. The answer is as exact as that of `Arc::ptr_eq`.
+    /// Returns `true` if both are the same variant and have one block: `ArcUnion::ptr_eq(&a, &b)`. The answer is as
+    /// exact as that of `Arc::ptr_eq`.
     pub fn ptr_eq(this: &Self, other: &Self) -> bool
         ensures one_kind { IsTrue result → is_first this.now ≡ is_first other.now }
     {
@@ -146,7 +158,7 @@ impl<A, B> ArcUnion<A, B> {
     }
 }
 
-/// Refused if the trait's `clone` of the handle is.
+/// Clones the handle, and fails as the `clone` of an `Arc` does: `union.clone()?`.
 impl<A: Drop, B: Drop> Clone for ArcUnion<A, B> {
     ghost is_clone = { λ u v. v ≡ u };
 

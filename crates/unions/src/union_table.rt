@@ -35,7 +35,11 @@ impl<A, B> Model for UnionTable<A, B> {
 }
 
 impl<A: Drop, B: Drop> UnionTable<A, B> {
-    /// A table with that many slots, all of them empty.
+    /// Creates a table with that many slots, all of them empty: `UnionTable::new(alloc, 2)?`.
+    ///
+    /// # Errors
+    ///
+    /// Returns `AllocError` if the slots cannot be allocated.
     pub fn new(alloc: Global, slots: usize) -> Result<UnionTable<A, B>, AllocError>
         ensures { IfOk result (λ table. table ≡ replicate slots None) }
     {
@@ -43,7 +47,7 @@ impl<A: Drop, B: Drop> UnionTable<A, B> {
         Ok(UnionTable { handles })
     }
 
-    /// How many slots there are, empty ones too.
+    /// Returns the number of slots, empty ones too: `table.slots()`.
     #[inline]
     pub fn slots(&self) -> usize
         ensures { result ≡ length self.now }
@@ -51,7 +55,7 @@ impl<A: Drop, B: Drop> UnionTable<A, B> {
         self.handles.slots()
     }
 
-    /// The handle of a slot: none if the slot is empty or not there.
+    /// Returns the handle of a slot, or `None` if the slot is empty or the index is out of range: `table.get(0)`.
     #[inline]
     pub fn get(&self, i: usize) -> Option<ArcUnionBorrow<'_, A, B>>
         ensures { option_map borrowed_union result ≡ option_flatten (slice_get self.now i) }
@@ -62,7 +66,11 @@ impl<A: Drop, B: Drop> UnionTable<A, B> {
         }
     }
 
-    /// Puts the handle in a slot, whose old handle ends. If there is no such slot the handle comes back.
+    /// Puts the handle into a slot, whose old handle ends: `table.put(0, union)`.
+    ///
+    /// # Errors
+    ///
+    /// Returns the handle if the index is out of range.
     #[inline]
     pub fn put(&mut self, i: usize, handle: ArcUnion<A, B>) -> Result<(), ArcUnion<A, B>>
         ensures there { IsOk result ↔ (i < length self.old) }
@@ -73,7 +81,7 @@ impl<A: Drop, B: Drop> UnionTable<A, B> {
         self.handles.put(i, handle)
     }
 
-    /// Ends the slot's handle.
+    /// Drops the slot's handle, if there is one, and leaves the slot empty: `table.end(0)`.
     #[inline]
     pub fn end(&mut self, i: usize) -> Reply
         ensures { IsAmong (ends i self.old) result self.new }
@@ -81,7 +89,8 @@ impl<A: Drop, B: Drop> UnionTable<A, B> {
         self.handles.end(i)
     }
 
-    /// Puts a clone of the first slot's handle in the second slot. A clone that is refused changes nothing.
+    /// Puts a clone of the first slot's handle into the second slot: `table.clone_handle(0, 1)`. A clone that fails
+    /// changes nothing.
     #[inline]
     pub fn clone_handle(&mut self, i: usize, j: usize) -> Reply
         ensures { IsAmong (clones i j self.old) result self.new }
@@ -100,7 +109,7 @@ impl<A: PartialEq + Drop, B: PartialEq + Drop> Serve<UnionCommand<A, B>> for Uni
 }
 
 impl<A: PartialEq + Drop, B: PartialEq + Drop> UnionTable<A, B> {
-    /// Asks whether two slots have handles of one type with equal values.
+    /// Replies whether two slots have the same variant with equal values: `table.same(0, 1)`.
     #[inline]
     pub fn same(&self, i: usize, j: usize) -> Reply
         ensures { IsAmong (compares (union_eq A.eq B.eq) i j self.now) result self.now }
@@ -108,7 +117,7 @@ impl<A: PartialEq + Drop, B: PartialEq + Drop> UnionTable<A, B> {
         self.handles.same(i, j)
     }
 
-    /// Serves one command. The reply takes no memory.
+    /// Serves one command and returns its reply, which takes no memory: `table.serve(alloc, command)`.
     #[inline]
     pub fn serve(&mut self, alloc: Global, command: UnionCommand<A, B>) -> Reply
         ensures { IsAmong (union_outcomes_of A.eq B.eq command self.old) result self.new }
@@ -127,7 +136,12 @@ impl<A: PartialEq + Drop, B: PartialEq + Drop> UnionTable<A, B> {
         }
     }
 
-    /// Runs commands in order, as [`Table::run`](tables::table::Table::run) does.
+    /// Runs the commands in order and returns a reply to each: `table.run(alloc, commands)?`.
+    ///
+    /// # Errors
+    ///
+    /// Returns `AllocError` if the room for the replies cannot be allocated. No command was served then, and all are
+    /// dropped.
     pub fn run(
         &mut self,
         alloc: Global,

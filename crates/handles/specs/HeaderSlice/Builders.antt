@@ -1,4 +1,4 @@
--- What a builder that wants n items answers, by what it heard.
+-- The result of a builder of n items, by what the iterator yielded.
 use Rattle.std.specs.Prelude.{◌≡◌, ⊤, ℕ, ◌+◌, ◌<◌, Option, Result, IfOk, IfErr}
 use Rattle.std.specs.Iterator.Runs.{SomeRun, WholeRun}
 use Rattle.handles.specs.HeaderSlice.{HeaderAndItems}

@@ -1,4 +1,4 @@
--- The equality of header slices keeps the laws that those of the header and of the items keep.
+-- The equality of header slices satisfies the laws that the equalities of the header and of the items satisfy.
 use Rattle.std.specs.Prelude.{◌&&◌, Bool}
 use Rattle.std.specs.Cmp.{IsPartialEquivalence, IsEquivalence, on_per, on_equiv, and_per, and_equiv}
 use Rattle.std.specs.Cmp.Lexicographic.{pointwise, lists_per, lists_equiv}

@@ -1,4 +1,5 @@
--- What a header slice holds once a `&mut` into it has ended: what was last written through it, and the rest as before.
+-- The value of a header slice after a `&mut` into it has ended: what was last written through the `&mut`, and the
+-- rest as before.
 use Rattle.std.specs.Prelude.{List}
 use Rattle.std.specs.Borrow.{Fml, MutBor, RattleType, Array, Lends}
 use Rattle.handles.specs.HeaderSlice.{HeaderAndItems, rewritten}

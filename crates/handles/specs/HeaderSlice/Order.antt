@@ -1,4 +1,4 @@
--- The order and the hash of header slices keep the laws that those of the header and of the items keep.
+-- The order and the hash of header slices satisfy the laws that those of the header and of the items satisfy.
 use Rattle.std.specs.Prelude.{◌≡◌, ◌++◌, Bool, Option}
 use Rattle.std.specs.declared.cmp.Ordering.{Ordering}
 use Rattle.std.specs.Cmp.{IsPartialOrder, IsTotalOrder, Agrees, on_po, on_total, then_po, then_total, then_agrees}

@@ -1,4 +1,5 @@
--- What a builder that wants n items hears: it asks an iterator until n items came and then once more, or until `None`.
+-- What an iterator yields to a builder of n items, which calls `next` until n items came and then once more, or
+-- until `None`.
 use Rattle.std.specs.Prelude.{◌≡◌, ℕ, ◌<◌, List, length, Option, None, Some}
 use Rattle.std.specs.Iterator.{YieldsThen}
 

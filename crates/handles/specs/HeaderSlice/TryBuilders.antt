@@ -1,4 +1,4 @@
--- What a builder that wants n items answers, by what it heard of an iterator whose items may be errors.
+-- The result of a builder of n items, by what the iterator yielded, whose items may be errors.
 use Rattle.std.specs.Prelude.{◌≡◌, ℕ, ◌<◌, ◌⊎◌, List, map, length, Option, None, Some, Result, Ok, Err, IfOk, IfErr}
 use Rattle.std.specs.Iterator.{YieldsThen}
 use Rattle.std.specs.Iterator.Runs.{WholeRun}

@@ -1,4 +1,4 @@
--- What the only handle of a header slice shows once a `&mut` into it has ended.
+-- The value of the only handle of a header slice after a `&mut` into it has ended.
 use Rattle.std.specs.Prelude.{List}
 use Rattle.std.specs.Borrow.{Fml, MutBor, RattleType, Array, Lends}
 use Rattle.handles.specs.HeaderSlice.{HeaderAndItems, rewritten}

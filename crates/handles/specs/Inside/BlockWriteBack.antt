@@ -1,5 +1,5 @@
--- What a block's handle holds once a `&mut` to its value has ended: what was last written through it. Others may come
--- then.
+-- The value of a block's handle after a `&mut` to that value has ended: what was last written through the `&mut`.
+-- From then on there may be other handles.
 use Rattle.std.specs.Prelude.{false, []}
 use Rattle.std.specs.Borrow.{Fml, MutBor, RattleType, Lends, LendsIfOk}
 use Rattle.std.specs.declared.result.Result.{Result}

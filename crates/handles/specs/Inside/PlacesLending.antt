@@ -1,4 +1,4 @@
--- What the places hold once a `&mut` to their items has ended: what was last written through it.
+-- The items of the places after a `&mut` to the items has ended: what was last written through the `&mut`.
 use Rattle.std.specs.Prelude.{List, length}
 use Rattle.std.specs.Borrow.{Fml, MutBor, RattleType, Array, Lends}
 use Rattle.core.specs.List.{length_refill}

@@ -1,4 +1,4 @@
-//! What a handle has by its value: equality, order, hash and texts.
+//! The traits that a handle has by its value: equality, order, hash and texts.
 use super::Arc;
 use std::cmp::Ordering;
 use std::fmt;
@@ -6,7 +6,7 @@ use std::fmt::{Debug, Display, Formatter, Write};
 use std::hash::{Hash, Hasher};
 use std::ops::Deref;
 
-/// Asks the values, also if both are handles of one block.
+/// Compares the values, even if both handles have one block.
 impl<T: PartialEq> PartialEq for Arc<T> {
     ghost eq = { T.eq };
 

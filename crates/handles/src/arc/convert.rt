@@ -1,4 +1,4 @@
-//! From a value to a handle, in place of `Default` and `From`, which take no allocator; and back, also by reference.
+//! Conversions from a value to a handle, in place of `Default` and `From`, whose methods take no allocator; and back.
 ghost use Rattle.std.specs.Prelude.{◌≡◌, IfOk, IfErr, IfSome, IsOk};
 ghost use Rattle.handles.specs.Copies.{SameOrCopy};
 
@@ -7,7 +7,11 @@ use std::alloc::{AllocError, Global};
 use std::convert::AsRef;
 
 impl<T: Drop> Arc<T> {
-    /// A handle of a default. The one that was made comes back if there is no memory for the block.
+    /// Creates a block for a default value: `Arc::try_default(alloc)`.
+    ///
+    /// # Errors
+    ///
+    /// Returns the default value that was made if the allocation fails.
     pub fn try_default(alloc: Global) -> Result<Arc<T>, T>
     where
         T: Default,
@@ -17,7 +21,11 @@ impl<T: Drop> Arc<T> {
         Arc::new(alloc, T::default())
     }
 
-    /// The same as `new`.
+    /// Creates a block for the value, as `new` does: `Arc::from_value(alloc, 9)`. The call takes the place of `From`.
+    ///
+    /// # Errors
+    ///
+    /// Returns the value if the allocation fails.
     pub fn from_value(alloc: Global, value: T) -> Result<Arc<T>, T>
         ensures made { IfOk result (λ a. a ≡ value) }
         ensures refused { IfErr result (λ x. x ≡ value) }
@@ -25,11 +33,12 @@ impl<T: Drop> Arc<T> {
         Arc::new(alloc, value)
     }
 
-    /// Ends the handle as a drop does, and gives the value if it was the last handle of an unmarked block.
+    /// Drops the handle, and returns the value if it was the last handle and the block is not static:
+    /// `Arc::into_inner(a)`.
     ///
-    /// If all handles of an unmarked block end by this call, exactly one of the calls gives the value, however many
-    /// threads make them. So what is built of handles can be taken apart by a loop; a drop would end each inside the
-    /// one before.
+    /// If all handles of such a block end by this call, exactly one of the calls returns the value, however many
+    /// threads make them. So a loop can take a long chain of handles apart, where a drop would recurse along the
+    /// chain. The call makes a load and a subtraction.
     pub fn into_inner(this: Arc<T>) -> Option<T>
         ensures { IfSome result (λ value. value ≡ this) }
     {
@@ -39,10 +48,13 @@ impl<T: Drop> Arc<T> {
         }
     }
 
-    /// The value, if this is the only handle of an unmarked block; else the handle comes back as it was.
+    /// Returns the value if this is the only handle and the block is not static: `Arc::try_unwrap(a)`.
     ///
-    /// It asks as `get_mut` does, by one read of the count. Two threads that ask so of the last two handles may both
-    /// get theirs back; of two calls of `into_inner` one gives the value.
+    /// # Errors
+    ///
+    /// Returns the handle if the block has other handles or is static. One load decides, as in `get_mut`. Two threads
+    /// that call it for the last two handles may both get their handle back, while of two calls of `into_inner` one
+    /// returns the value.
     pub fn try_unwrap(this: Arc<T>) -> Result<T, Arc<T>>
         ensures alone { IfOk result (λ value. value ≡ this) }
         ensures shared { IfErr result (λ a. a ≡ this) }
@@ -50,10 +62,12 @@ impl<T: Drop> Arc<T> {
         Ok(Arc::into_unique(this)?.into_inner())
     }
 
-    /// The value itself, if this is the only handle of an unmarked block; else a copy of it. The handle ends, as by a
-    /// drop.
+    /// Returns the value if this is the only handle and the block is not static, and a clone of it otherwise:
+    /// `Arc::unwrap_or_clone(a)?`. The handle is dropped.
     ///
-    /// Refused only if the value's own `clone` is. The handle has ended then too.
+    /// # Errors
+    ///
+    /// Returns `AllocError` if `T::clone` does. The handle is dropped then too.
     pub fn unwrap_or_clone(this: Arc<T>) -> Result<T, AllocError>
     where
         T: Clone,

@@ -1,4 +1,4 @@
-//! Writing through a handle that others may share.
+//! Writing through a handle whose block may have other handles.
 ghost use Rattle.std.specs.Prelude.{◌≡◌, ◌⊎◌, IfSome, IfOk};
 ghost use types.Logic.{sem};
 
@@ -8,7 +8,8 @@ use std::alloc::{AllocError, Global};
 impl<T> Arc<T> {
     ghost use Rattle.handles.specs.WriteBack.{LendsIfAlone, LendsOwn};
 
-    /// The value, to write to, if this is the only handle of an unmarked block.
+    /// Returns the value to write to, if this is the only handle and the block is not static: `Arc::get_mut(&mut a)`.
+    /// The call makes one load.
     #[inline]
     pub fn get_mut(this: &mut Arc<T>) -> Option<&mut T>
         ensures* writes_back { sem 𝓛 (LendsIfAlone T.row this.entry result) }
@@ -20,11 +21,15 @@ impl<T> Arc<T> {
         }
     }
 
-    /// The value, to write to. If the block has other handles or is marked, it is copied into a new block first, and
-    /// this handle is then the only one of that block.
+    /// Returns the value to write to, and clones it into a new block first if the block has other handles or is
+    /// static: `*Arc::make_mut(&mut a, alloc)? = 9`.
     ///
-    /// Refused if there is no memory for the block, or if the value's own `clone` is refused. The handle is then
-    /// as it was.
+    /// If this is the only handle, the call makes one load. Otherwise it also makes one allocation, beside those of
+    /// `T::clone`, and drops the old handle.
+    ///
+    /// # Errors
+    ///
+    /// Returns `AllocError` if the allocation fails or `T::clone` does. The handle is unchanged.
     #[inline(always)]
     pub fn make_mut(this: &mut Arc<T>, alloc: Global) -> Result<&mut T, AllocError>
     where

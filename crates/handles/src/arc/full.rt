@@ -1,4 +1,4 @@
-//! What a clone at the limit is refused with.
+//! The error of a clone at the limit.
 ghost use Rattle.std.specs.Prelude.{◌≡◌, ℕ, List};
 ghost use base.Fml.{fsep};
 ghost use Rattle.counting_word.specs.Logs.{Entry};
@@ -11,7 +11,7 @@ use crate::block::{Handle, Logged};
 use std::marker::Model;
 use thiserror::Error;
 
-/// The block has as many handles as its limit allows. It takes no bytes.
+/// The error of `Arc::clone(&a, &rt)`: the block has as many handles as its limit allows. A `Full` takes no bytes.
 #[derive(Debug, PartialEq, Eq, Error, Drop)]
 #[error("the handle limit is reached")]
 pub struct Full {
@@ -30,7 +30,7 @@ unsafe impl Send for Full {}
 unsafe impl Sync for Full {}
 
 impl<T> Handle<T> {
-    // By a step that found the block of this handle to be full.
+    // Makes the error from a step that found the block of this handle to be full.
     #[inline]
     pub(crate) fn full_by(&self, logged: Logged) -> Full
         requires { IsFullOf self.now logged }

@@ -21,7 +21,7 @@ use std::sync::atomic::raw;
 pub(crate) struct Handle<T> {
     pub(super) block: *const Block<T>,
     pub(crate) ghost held: { Held T },
-    // Known to be the only handle of its block.
+    // Whether the handle is known to be the only one of its block.
     pub(crate) ghost sole: { Bool },
     // Which block it is of: the names of its log and of its passes.
     pub(crate) ghost id: { BlockId } by { coded_id },
@@ -38,7 +38,7 @@ impl<T> Model for Handle<T> {
 }
 
 impl<T> Handle<T> {
-    // The only handle of a new block.
+    // Makes the only handle of a new block.
     pub(crate) fn first(block: RawBox<Block<T>>) -> Handle<T>
         requires { block.value.word ≡ 1 }
         ensures held { result.held ≡ block.value.held }
@@ -65,7 +65,7 @@ impl<T> Handle<T> {
         &self.held().value
     }
 
-    // What the word is. It may change at once.
+    // Loads the word, which other threads may change at once.
     #[inline]
     pub(crate) fn word(&self) -> (u64, Logged)
         requires { self.now.sole ≡ false }
@@ -77,7 +77,7 @@ impl<T> Handle<T> {
         (asked, Logged {})
     }
 
-    // Reads the word, by which the handle knows whether it is the only one.
+    // Loads the word, by which the handle knows whether it is the only one.
     #[inline]
     pub(super) fn read_for_unique(&mut self) -> (u64, Logged)
         ensures sole { self.new ≡ record self.old {
@@ -108,7 +108,7 @@ impl<T> Handle<T> {
         (word, Permit { block })
     }
 
-    // By the pointer of the permit, which is at hand.
+    // Makes the compare-exchange of a clone, by the pointer of the permit, which is at hand.
     #[inline]
     pub(crate) fn raise(&self, seen: u64, next: u64, permit: Permit<T>) -> (u64, Permit<T>)
         requires shared { self.now.sole ≡ false }
@@ -150,7 +150,7 @@ impl<T> Handle<T> {
         unsafe { raw::load::<Brand>(&raw const (*block).stamp, SeqCst) }
     }
 
-    // Adds to the stamp, which wraps, and returns what it was.
+    // Adds to the stamp, which wraps, and returns the old stamp.
     pub(crate) fn add_to_stamp(&self, amount: u64) -> u64
         requires { self.now.sole ≡ false }
     {
@@ -158,7 +158,7 @@ impl<T> Handle<T> {
         unsafe { raw::fetch_add::<Brand>(&raw const (*block).stamp, amount, SeqCst) }
     }
 
-    // From now on others may come.
+    // Forgets that the handle is the only one, so that it can be cloned and lent.
     pub(crate) fn into_shared(self) -> Handle<T>
         ensures held { result.held ≡ self.held }
         ensures sole { result.sole ≡ false }
@@ -169,7 +169,7 @@ impl<T> Handle<T> {
         Handle { block }
     }
 
-    // The block of the only handle.
+    // Turns the only handle into the right to the whole block.
     #[inline]
     pub(super) fn into_permit(self) -> Permit<T>
         requires { self.sole ≡ true }
@@ -199,7 +199,7 @@ impl<T> Handle<T> {
 impl<T> Handle<T> {
     ghost use Rattle.handles.specs.Attempts.{IsAnswerOf};
 
-    // Whether this is the only handle of an unmarked block, by one load.
+    // Returns whether this is the only handle of an unmarked block, by one load.
     #[inline]
     pub(crate) fn is_only(&self) -> (bool, Logged)
         requires { self.now.sole ≡ false }
@@ -209,7 +209,7 @@ impl<T> Handle<T> {
         (is_alone(word), logged)
     }
 
-    // Whether the block is marked, by one load.
+    // Returns whether the block is marked, by one load.
     #[inline]
     pub(crate) fn is_marked(&self) -> (bool, Logged)
         requires { self.now.sole ≡ false }
@@ -223,7 +223,7 @@ impl<T> Handle<T> {
 impl<T> Handle<T> {
     ghost use Rattle.handles.specs.Inside.BlockWriteBack.{LendsSole};
 
-    // The limit is not lent, since the log of the block goes by it.
+    // Lends the value and not the limit, since the log of the block depends on the limit.
     #[inline]
     pub(crate) fn value_mut(&mut self) -> &mut T
         requires { self.old.sole ≡ true }
@@ -236,7 +236,7 @@ impl<T> Handle<T> {
 }
 
 impl<T: Drop> Handle<T> {
-    // Ends the handle, and gives the block if that was its last one. Inlined, so that a drop builds no `Result`.
+    // Ends the handle, and returns the block if that was its last handle. Inlined, so that a drop builds no `Result`.
     #[inline(always)]
     pub(crate) fn end(self) -> Result<Box<Block<T>>, Logged>
         ensures last { IfOk result (λ block. block.value.held ≡ self.held) }

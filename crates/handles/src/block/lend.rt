@@ -22,7 +22,7 @@ impl<T> Handle<T> {
         (is_alone(word), logged)
     }
 
-    // The value, if this is the only handle of the block.
+    // Lends the value, if this is the only handle of the block.
     #[inline]
     pub(crate) fn get_mut(&mut self) -> Result<&mut T, Logged>
         ensures* writes_back { sem 𝓛 (LendsIfAlone T.row self.entry result) }
@@ -37,7 +37,7 @@ impl<T> Handle<T> {
         }
     }
 
-    // The block, if this is its only handle, or else the handle as it was.
+    // Returns the block, if this is its only handle, and the unchanged handle otherwise.
     pub(crate) fn into_block(mut self) -> Result<Box<Block<T>>, (Handle<T>, Logged)>
     where
         T: Drop,
@@ -52,7 +52,7 @@ impl<T> Handle<T> {
         Ok(self.into_permit().into_raw_box().into_box())
     }
 
-    // Gets a block of its own, unless it is the only handle of its block.
+    // Moves the handle to a block of its own, unless it is the only handle of its block.
     #[inline(always)]
     pub(crate) fn make_sole(&mut self, alloc: Global) -> Result<(), AllocError>
     where
@@ -68,8 +68,8 @@ impl<T> Handle<T> {
         self.move_to_copy(alloc)
     }
 
-    // Gets a block of its own. The value is copied before anything else changes. A function of its own, so that what
-    // comes before it is short enough to stand where it is asked.
+    // Moves the handle to a new block with a clone of the value. The value is cloned before anything else changes.
+    // This is a function of its own, so that `make_sole` is short enough to be inlined.
     fn move_to_copy(&mut self, alloc: Global) -> Result<(), AllocError>
     where
         T: Clone + Drop,

@@ -1,4 +1,4 @@
-//! A block that is marked for good, and what may be had of it again and again.
+//! A block that is marked for good, and the handles that it gives without a count.
 ghost use Rattle.std.specs.Prelude.{◌≡◌, IfOk, IfErr, true, false};
 ghost use base.Fml.{ffalse};
 ghost use Rattle.counting_word.specs.CountingWord.{is_marked_word, marked_word};
@@ -9,9 +9,9 @@ ghost use Rattle.handles.specs.Inside.Marked.{HasMark, IsKnownBy, Staying, born_
 use super::{Block, Handle, Held, Logged, RawBox};
 use std::marker::{Move, Owns};
 
-// No `Marked` is ever owned. A `&` to one says that the block there is marked, so that it is never freed. To the
-// log it is a handle that never ends. Its field is not read: the block itself would be a value `T`, through which no
-// type leads back to itself.
+// No `Marked` is ever owned. A `&` to one says that the block there is marked, so that the block is never freed. To
+// the log that reference is a handle that never ends. The field is not read. It is a pointer, since a block would be
+// a value `T`, through which no type leads back to itself.
 pub(crate) struct Marked<T> {
     _block: *const Block<T>,
 }
@@ -29,7 +29,7 @@ impl<T> Move for Marked<T> {
 unsafe impl<T: Send + Sync> Sync for Marked<T> {}
 
 impl<T> Marked<T> {
-    // Of a new block, marked before it is shared.
+    // Makes the reference to a new block, which is marked before it is shared.
     pub(crate) fn of<'a>(block: RawBox<Block<T>>) -> &'a Marked<T>
     where
         T: 'a,
@@ -55,7 +55,7 @@ impl<T> Marked<T> {
         &self.held().value
     }
 
-    // One handle more, with no step on the word. The log has it as the read that it is spared.
+    // Makes another handle with no step on the word. In the log stands the load that the handle is spared.
     #[inline]
     pub(crate) fn handle(&self) -> Handle<T>
         ensures held { result.held ≡ self.now.held }
@@ -68,7 +68,7 @@ impl<T> Marked<T> {
 }
 
 impl<T> Handle<T> {
-    // By a step of any handle of the block that met the mark. It makes no step itself.
+    // Makes the reference from a step of any handle of the block that found the mark. It makes no step itself.
     pub(crate) fn marked_by<'a>(&self, known: Logged) -> &'a Marked<T>
     where
         T: 'a,
@@ -92,7 +92,7 @@ impl<T> Handle<T> {
         self.marked_by(self.mark().1)
     }
 
-    // By one load of the word, which both answers name.
+    // Makes the reference if one load of the word finds the mark. Both answers name that load.
     pub(crate) fn find_marked<'a>(&self) -> Result<&'a Marked<T>, Logged>
     where
         T: 'a,

@@ -1,4 +1,4 @@
-//! What a step on the word of a block leaves its caller with.
+//! The rights that a step on the word of a block leaves to its caller.
 ghost use Rattle.std.specs.Prelude.{◌≡◌, ℕ, List, false};
 ghost use Rattle.counting_word.specs.WordSteps.{lowers};
 ghost use Rattle.counting_word.specs.Logs.{Entry, made};
@@ -14,7 +14,7 @@ use std::marker::{Brand, Model};
 use std::sync::atomic::Ordering::SeqCst;
 use std::sync::atomic::raw;
 
-// The right that a step left its caller with. It has to be used: by one of the calls below, or by a raise.
+// The right that a step left to its caller. It cannot be dropped: one of the calls below has to use it, or a raise.
 pub(crate) struct Permit<T> {
     pub(super) block: *const Block<T>,
     pub(crate) ghost held: { Held T },
@@ -30,7 +30,7 @@ impl<T> Model for Permit<T> {
     ghost also_owns = { λ p. permit_owns T.row p.block p.held p.id p.number p.right p.log };
 }
 
-// That the log of the block with this id began with these entries. It names no step, and takes no bytes.
+// Evidence that the log of the block with this id began with these entries. It names no step, and takes no bytes.
 #[derive(Drop)]
 pub(crate) struct Logged {
     pub(crate) ghost id: { BlockId } by { coded_id },
@@ -42,7 +42,7 @@ impl Model for Logged {
 }
 
 impl<T> Permit<T> {
-    // Of a step that left no right.
+    // Keeps the log of a step that left no right.
     #[inline]
     pub(crate) fn into_logged(self) -> Logged
         requires { self.right ≡ nothing }

@@ -1,4 +1,4 @@
-//! A box as its pointer.
+//! A box, taken apart into its pointer and its allocator.
 ghost use Rattle.std.specs.Prelude.{◌≡◌};
 ghost use Rattle.std.specs.contracts.impls.GlobalAllocator.TheImpl.{ghosts};
 ghost use Rattle.std_alloc.specs.Box.Ownership.{box_owns};
@@ -34,7 +34,7 @@ impl<T: Drop> RawBox<T> {
 }
 
 impl<T> RawBox<T> {
-    // In the room that was taken for it.
+    // Writes the value into the room that was allocated for it.
     pub(crate) fn fill(room: Vacant<T, Global>, value: T) -> RawBox<T>
         ensures { result.value ≡ value }
     {

@@ -1,4 +1,4 @@
-//! How a header slice takes its items from an iterator.
+//! How a header slice takes its items from an iterator, and the error of its builders.
 ghost use Rattle.std.specs.Prelude.{◌≡◌, [], IfOk, IfErr};
 ghost use Rattle.handles.specs.HeaderSlice.TryBuilders.{IsBuiltGoodUpTo, TakesGoodUpTo, FailsUpTo};
 ghost use Rattle.handles.specs.declared.header_slice.build.BuildError.TheVariants.{Memory};
@@ -9,16 +9,18 @@ use crate::unique::UniqueArc;
 use std::alloc::{AllocError, AllocFailed, Global};
 use thiserror::Error;
 
-/// Why no header slice was built. The items taken until then are dropped in order, then the header; the iterator too.
+/// The error of the builders of header slices, as `Arc::from_header_and_iter(alloc, 5, items)?`.
+///
+/// The items that were taken are dropped in order, then the header. The iterator is dropped too.
 #[derive(Clone, Copy, Debug, PartialEq, Eq, Error)]
 pub enum BuildError {
-    /// There was no memory, or so many items fit in none. The iterator was not asked for any.
+    /// An allocation failed, or the items would take more bytes than one allocation can have. `next` was not called.
     #[error("out of memory")]
     Memory,
-    /// The iterator gave fewer items than it was said to.
+    /// The iterator yielded fewer items than its length, or than `num_items`.
     #[error("ExactSizeIterator over-reported length")]
     OverReported,
-    /// The iterator gave more items than it was said to.
+    /// The iterator yielded more items than its length, or than `num_items`.
     #[error("ExactSizeIterator under-reported length")]
     UnderReported,
 }
@@ -31,7 +33,7 @@ impl From<AllocError> for BuildError {
     }
 }
 
-/// So `?` takes the refusal of a `push` or a maker, and drops what that hands back.
+/// Converts the error of a `push` or of a constructor to `Memory`, for `?`. The value in that error is dropped.
 impl<T: Drop> From<AllocFailed<T>> for BuildError {
     ghost from_gives = { λ _ refusal. refusal ≡ Memory };
 
@@ -40,16 +42,15 @@ impl<T: Drop> From<AllocFailed<T>> for BuildError {
     }
 }
 
-/// By `?` a refusal becomes the error of a caller that fails by memory alone. It then says less: where an iterator may
-/// err about its length, keep the `BuildError`.
+/// Converts each of the errors to `AllocError`, for a caller that can only fail for memory. Where an iterator may be
+/// wrong about its length, keep the `BuildError`, which says more.
 impl From<BuildError> for AllocError {
     fn from(_refusal: BuildError) -> AllocError {
         AllocError
     }
 }
 
-// All memory is requested before the source is asked for its first item. An error or a refusal drops what was taken,
-// then the header.
+// Makes all requests for memory before it calls the source. An error of either drops what was taken, then the header.
 pub(super) fn build<H: Drop, T: Drop, E: From<BuildError> + Drop, I: Iterator<Item = Result<T, E>>>(
     alloc: Global,
     header: H,
@@ -70,7 +71,7 @@ pub(super) fn build<H: Drop, T: Drop, E: From<BuildError> + Drop, I: Iterator<It
 }
 
 impl<T: Drop> Items<T> {
-    // Asks until every place is filled and then once more, or until `None` or an error.
+    // Calls `next` until every place is filled and then once more, or until `None` or an error.
     fn take_all<E: From<BuildError> + Drop, I: Iterator<Item = Result<T, E>>>(
         mut self,
         source: &mut I,

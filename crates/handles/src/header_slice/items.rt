@@ -1,4 +1,4 @@
-//! Items in one block whose room is known before the first of them comes.
+//! Items in one allocation, whose room is known before the first item comes.
 ghost use Rattle.std.specs.Prelude.{◌≡◌, ◌<◌, [], ◌∷◌, ◌++◌, length, IfOk};
 ghost use Rattle.std.specs.Borrow.{sem};
 
@@ -23,7 +23,7 @@ impl<T> Model for Items<T> {
 impl<T> Items<T> {
     ghost use Rattle.handles.specs.Inside.ItemsLending.{LendsItemsInRoom};
 
-    // Asks for no memory if there is no room or the items have no size.
+    // Makes no request for memory if there is no room or the items have no size.
     pub(super) fn with_room(alloc: Global, room: usize) -> Result<Items<T>, AllocError>
         ensures { IfOk result (λ i. (i.items ≡ []) × (i.room ≡ room)) }
     {
@@ -69,7 +69,7 @@ impl<T> Items<T> {
     }
 }
 
-// The items from first to last, and then their block.
+// Drops the items from first to last, and then frees their allocation.
 impl<T: Drop> Drop for Items<T> {
     fn drop(self) {
         let Items { places, alloc } = self;

@@ -1,4 +1,4 @@
-//! Makers that take a slice or a vector.
+//! The builders that take a slice or a vector.
 ghost use Rattle.std.specs.Prelude.{◌≡◌, [], IfOk, OnOk, length};
 ghost use Rattle.std.specs.List.{AllZip};
 ghost use Rattle.handles.specs.Copies.{CopiesAreEqual};
@@ -8,9 +8,12 @@ use crate::arc::Arc;
 use std::alloc::{AllocError, Global};
 
 impl<H: Drop, T: Copy> Arc<HeaderSlice<H, T>> {
-    /// The header beside a copy of the items. If these are not `Copy`, call `from_header_and_clones`.
+    /// Builds a header slice from a copy of the items, in O(n): `Arc::from_header_and_slice(alloc, 100, &[5, 6])?`.
+    /// For items that are not `Copy`, call `from_header_and_clones`.
     ///
-    /// Memory is requested as by `from_header_and_iter`. If it is refused, the header is dropped.
+    /// # Errors
+    ///
+    /// Returns `AllocError` if an allocation fails, and drops the header. At most two allocations are made.
     pub fn from_header_and_slice(
         alloc: Global,
         header: H,
@@ -18,17 +21,20 @@ impl<H: Drop, T: Copy> Arc<HeaderSlice<H, T>> {
     ) -> Result<Arc<HeaderSlice<H, T>>, AllocError>
         ensures { IfOk result (λ slice. slice ≡ record { header = header; items = items.now }) }
     {
-        // The iterator gives as many items as it says, so that only memory is refused.
+        // This iterator yields as many items as it says, so only an allocation can fail.
         let slice = Arc::from_header_and_iter(alloc, header, items.iter().copied());
         slice.map_err(AllocError::from)
     }
 }
 
 impl<H: Drop, T: Clone> Arc<HeaderSlice<H, T>> {
-    /// The header beside a clone of each item, in their order.
+    /// Builds a header slice from a clone of each item, in O(n): `Arc::from_header_and_clones(alloc, 5, &items)?`.
+    /// The items are cloned in order.
     ///
-    /// Memory is requested as by `from_header_and_iter`, before the first clone. If it or a clone is refused, the
-    /// clones made so far are dropped, then the header.
+    /// # Errors
+    ///
+    /// Returns `AllocError` if an allocation fails, before the first clone, or if a clone fails. The clones made so
+    /// far are dropped, then the header. At most two allocations are made, beside those of the clones.
     pub fn from_header_and_clones(
         alloc: Global,
         header: H,
@@ -44,10 +50,13 @@ impl<H: Drop, T: Clone> Arc<HeaderSlice<H, T>> {
 }
 
 impl<H: Drop, T: Drop> Arc<HeaderSlice<H, T>> {
-    /// The header beside the items of a vector, which are moved, not cloned.
+    /// Builds a header slice from the items of a vector, in O(n): `Arc::from_header_and_vec(alloc, 5, items)?`. The
+    /// items are moved, and the vector's own memory is freed.
     ///
-    /// Memory is requested as by `from_header_and_iter`. If it is refused, the header and the items are dropped.
-    /// The vector's own memory is freed either way.
+    /// # Errors
+    ///
+    /// Returns `AllocError` if an allocation fails, and drops the header and the items. At most two allocations are
+    /// made.
     pub fn from_header_and_vec(
         alloc: Global,
         header: H,

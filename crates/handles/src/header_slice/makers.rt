@@ -1,4 +1,4 @@
-//! The public builders, and writing to what they built before it is shared.
+//! The builders that take an iterator, and writing to a header slice before it is shared.
 ghost use Rattle.std.specs.Prelude.{◌≡◌};
 ghost use Rattle.std.specs.Iterator.{size};
 ghost use Rattle.std.specs.Borrow.{sem};
@@ -13,7 +13,12 @@ use std::alloc::Global;
 use std::ops::DerefMut;
 
 impl<H: Drop, T: Drop> Arc<HeaderSlice<H, T>> {
-    /// As `from_header_and_iter_with_size`, with the number that `items.len()` says, asked once.
+    /// Builds a header slice from as many items as `items.len()` says, in O(n):
+    /// `Arc::from_header_and_iter(alloc, 5, items.into_iter())?`. `len` is called once.
+    ///
+    /// # Errors
+    ///
+    /// Returns the errors of `from_header_and_iter_with_size`.
     pub fn from_header_and_iter<I: Iterator<Item = T> + ExactSizeIterator>(
         alloc: Global,
         header: H,
@@ -26,10 +31,16 @@ impl<H: Drop, T: Drop> Arc<HeaderSlice<H, T>> {
         Arc::from_header_and_iter_with_size(alloc, header, items, num_items)
     }
 
-    /// Asks the iterator until `num_items` items were taken and then once more, but never after a `None`.
+    /// Builds a header slice from `num_items` items, in O(n):
+    /// `Arc::from_header_and_iter_with_size(alloc, 5, items.into_iter(), 1)?`.
     ///
-    /// Before the first item is asked for, memory is requested: at most once for the items, not at all for no items or
-    /// for items without size, and once for the block.
+    /// All requests for memory are made before `next` is called: one for the block, and one for the items unless they
+    /// take no bytes. `next` is called at most `num_items + 1` times, and not after a `None`.
+    ///
+    /// # Errors
+    ///
+    /// Returns `Memory` if an allocation fails, `OverReported` if the iterator yields fewer than `num_items` items,
+    /// and `UnderReported` if it yields more.
     pub fn from_header_and_iter_with_size<I: Iterator<Item = T>>(
         alloc: Global,
         header: H,
@@ -42,8 +53,13 @@ impl<H: Drop, T: Drop> Arc<HeaderSlice<H, T>> {
         Arc::from_header_and_iter_alloc(alloc, header, items, num_items, false)
     }
 
-    /// As `from_header_and_iter_with_size`. With `is_static` the block is marked: it is never freed, and its value
-    /// is never dropped.
+    /// Builds a header slice as `from_header_and_iter_with_size` does, in a static block if `is_static`:
+    /// `Arc::from_header_and_iter_alloc(alloc, 5, items.into_iter(), 1, true)?`. A static block is never freed, and
+    /// its value is never dropped.
+    ///
+    /// # Errors
+    ///
+    /// Returns the errors of `from_header_and_iter_with_size`.
     pub fn from_header_and_iter_alloc<I: Iterator<Item = T>>(
         alloc: Global,
         header: H,
@@ -58,9 +74,14 @@ impl<H: Drop, T: Drop> Arc<HeaderSlice<H, T>> {
         Ok(slice?.into_arc(is_static))
     }
 
-    /// As `from_header_and_iter`, of items that may be errors. The first error is the answer, and the iterator is not
-    /// asked on: what was taken by then and the header are dropped. A refusal becomes an error of that type; one item
-    /// too many is a refusal, be it an error or not.
+    /// Builds a header slice from as many results as `items.len()` says, or returns the first error among them:
+    /// `Arc::try_from_header_and_iter(alloc, 1, results)?`.
+    ///
+    /// # Errors
+    ///
+    /// Returns the first error that the iterator yields, and calls `next` no more: the items taken so far and the
+    /// header are dropped. Returns a `BuildError`, converted to that type, as `from_header_and_iter_with_size` does;
+    /// one result too many is `UnderReported`, be it an error or not.
     pub fn try_from_header_and_iter<
         E: From<BuildError> + Drop,
         I: Iterator<Item = Result<T, E>> + ExactSizeIterator,
@@ -73,7 +94,12 @@ impl<H: Drop, T: Drop> Arc<HeaderSlice<H, T>> {
 }
 
 impl<H: Drop, T: Drop> UniqueArc<HeaderSlice<H, T>> {
-    /// As `from_header_and_iter_with_size`, with the number that `items.len()` says, asked once.
+    /// Builds a header slice to write to, as `Arc::from_header_and_iter` does:
+    /// `UniqueArc::from_header_and_iter(alloc, 5, items.into_iter())?`.
+    ///
+    /// # Errors
+    ///
+    /// Returns the errors of `Arc::from_header_and_iter_with_size`.
     pub fn from_header_and_iter<I: Iterator<Item = T> + ExactSizeIterator>(
         alloc: Global,
         header: H,
@@ -86,7 +112,11 @@ impl<H: Drop, T: Drop> UniqueArc<HeaderSlice<H, T>> {
         UniqueArc::from_header_and_iter_with_size(alloc, header, items, num_items)
     }
 
-    /// As `Arc::from_header_and_iter_with_size`.
+    /// Builds a header slice to write to, as `Arc::from_header_and_iter_with_size` does.
+    ///
+    /// # Errors
+    ///
+    /// Returns the errors of `Arc::from_header_and_iter_with_size`.
     pub fn from_header_and_iter_with_size<I: Iterator<Item = T>>(
         alloc: Global,
         header: H,
@@ -100,7 +130,11 @@ impl<H: Drop, T: Drop> UniqueArc<HeaderSlice<H, T>> {
         build(alloc, header, &mut results, num_items)
     }
 
-    /// As `Arc::try_from_header_and_iter`.
+    /// Builds a header slice to write to, as `Arc::try_from_header_and_iter` does.
+    ///
+    /// # Errors
+    ///
+    /// Returns the errors of `Arc::try_from_header_and_iter`.
     pub fn try_from_header_and_iter<
         E: From<BuildError> + Drop,
         I: Iterator<Item = Result<T, E>> + ExactSizeIterator,
@@ -116,7 +150,7 @@ impl<H: Drop, T: Drop> UniqueArc<HeaderSlice<H, T>> {
 impl<H, T> UniqueArc<HeaderSlice<H, T>> {
     ghost use Rattle.handles.specs.HeaderSlice.UniqueLending.{LendsUniqueHeader, LendsUniqueItems};
 
-    /// The header, for writing.
+    /// Returns the header to write to: `*unique.header_mut() = 3`.
     #[inline]
     pub fn header_mut(&mut self) -> &mut H
         ensures* writes_back { sem 𝓛 (LendsUniqueHeader H.row T.row self.entry result) }
@@ -126,7 +160,7 @@ impl<H, T> UniqueArc<HeaderSlice<H, T>> {
         &mut slice.header
     }
 
-    /// The items, for writing. Their number stays.
+    /// Returns the items to write to: `unique.data_mut().get_mut(1)`. Their number stays.
     #[inline]
     pub fn data_mut(&mut self) -> &mut [T]
         ensures* writes_back { sem 𝓛 (LendsUniqueItems H.row T.row self.entry result) }

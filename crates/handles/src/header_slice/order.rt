@@ -1,4 +1,4 @@
-//! The order and the hash of header slices: the header first, then the items, as a derive does of two fields.
+//! The order and the hash of header slices: the header first, then the items, as a derive has them for two fields.
 ghost use Rattle.handles.specs.HeaderSlice.Order.{slice_order, slice_partial_order, slice_hash_input};
 ghost use Rattle.handles.specs.HeaderSlice.Order.{slices_po, slices_total, slices_agree, slices_tie, slices_hash_alike};
 
@@ -6,7 +6,7 @@ use super::HeaderSlice;
 use std::cmp::Ordering;
 use std::hash::{Hash, Hasher};
 
-/// By the headers, and where these are equal, by the items in lexicographic order.
+/// Compares the headers, and if these are equal the items in lexicographic order.
 impl<H: PartialOrd, T: PartialOrd> PartialOrd for HeaderSlice<H, T> {
     ghost partial_cmp = { slice_partial_order H.partial_cmp T.partial_cmp };
 
@@ -17,7 +17,7 @@ impl<H: PartialOrd, T: PartialOrd> PartialOrd for HeaderSlice<H, T> {
     }
 }
 
-/// By the headers, and where these are equal, by the items in lexicographic order.
+/// Compares the headers, and if these are equal the items in lexicographic order.
 impl<H: Ord, T: Ord> Ord for HeaderSlice<H, T> {
     ghost cmp = { slice_order H.cmp T.cmp };
 
@@ -32,7 +32,7 @@ impl<H: Ord, T: Ord> Ord for HeaderSlice<H, T> {
     }
 }
 
-/// The header is hashed, then the items as a slice is.
+/// Hashes the header, then the items as a slice is hashed.
 impl<H: Hash, T: Hash> Hash for HeaderSlice<H, T> {
     ghost hash_input = { slice_hash_input H.hash_input T.hash_input };
 

@@ -1,4 +1,4 @@
-//! One raw block of places for items, and each step that is made on it through its pointer.
+//! The raw allocation of the items, and each step that is made on it through its pointer.
 ghost use Rattle.std.specs.Prelude.{◌≡◌, ◌≢◌, ◌*◌, ◌<◌, ◌≤◌, ◌+◌, ◌↔◌, List, [], ◌∷◌, ◌++◌, length, IfOk, IsTrue};
 ghost use Rattle.std.specs.Borrow.{sem};
 ghost use Rattle.std.specs.Mem.{type_size};
@@ -10,7 +10,7 @@ use std::marker::Model;
 use std::mem::{align_of, size_of};
 use std::slice;
 
-// The first `filled` of `room` places hold items. Places that take no bytes have no block.
+// The first `filled` of `room` places hold items. Places that take no bytes have no allocation.
 pub(super) struct Places<T> {
     first: *const T,
     pub(super) filled: usize,
@@ -29,7 +29,7 @@ unsafe impl<T: Send> Send for Places<T> {}
 
 unsafe impl<T: Sync> Sync for Places<T> {}
 
-// Places whose items leave them, first to last. Those before `taken` have left.
+// Places whose items are taken out, from first to last. Those before `taken` are out.
 pub(super) struct Leaving<T> {
     first: *const T,
     taken: usize,
@@ -43,7 +43,7 @@ impl<T> Model for Leaving<T> {
     ghost also_owns = { λ p. leaving_own T.row p.first p.taken p.filled p.room p.items };
 }
 
-// Whether values of the type take no bytes.
+// Returns whether values of the type take no bytes.
 pub(super) fn has_no_size<T>() -> bool
     ensures { IsTrue result ↔ (type_size T.row ≡ 0) }
 {
@@ -51,7 +51,7 @@ pub(super) fn has_no_size<T>() -> bool
 }
 
 impl<T> Places<T> {
-    // Asks for no memory, since the places take none.
+    // Makes places without an allocation, since they take no bytes.
     pub(super) fn without_bytes(room: usize) -> Places<T>
         requires { room * type_size T.row ≡ 0 }
         ensures items { result.items ≡ [] }

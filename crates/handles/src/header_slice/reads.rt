@@ -1,4 +1,4 @@
-//! The items one by one.
+//! Reading the items of a header slice one by one.
 ghost use Rattle.std.specs.Prelude.{◌≡◌, ◌<◌, ◌^◌, length, slice_index_or};
 ghost use Rattle.std.specs.Iterator.Adapters.{IterYieldsInOrder, IterYieldsInReverse};
 ghost use Rattle.std.specs.Slice.Iter.{iter_rest};
@@ -7,7 +7,7 @@ use super::HeaderSlice;
 use std::ops::Index;
 use std::slice::Iter;
 
-/// The item of that number, counted from 0, which has to be there.
+/// Returns the item at the index, which must be below `len()`: `slice[0]`. O(1).
 impl<H, T> Index<usize> for HeaderSlice<H, T> {
     type Output = T;
 
@@ -22,7 +22,7 @@ impl<H, T> Index<usize> for HeaderSlice<H, T> {
 }
 
 impl<H, T> HeaderSlice<H, T> {
-    /// The items from first to last, or from the back.
+    /// Returns an iterator over the items, from the front or the back: `slice.iter()`.
     #[inline]
     pub fn iter(&self) -> Iter<'_, T>
         ensures rest { iter_rest result ≡ self.now.items }
@@ -35,7 +35,8 @@ impl<H, T> HeaderSlice<H, T> {
     }
 }
 
-/// The items from first to last. A crate that has the type through `servo_arc` lists `handles` too, or calls `iter`.
+/// Iterates over the items from first to last: `for x in &*slice`. In a crate that names `servo_arc` in crates.txt
+/// and not `handles`, write `slice.iter()`.
 impl<'a, H, T> IntoIterator for &'a HeaderSlice<H, T> {
     type Item = &'a T;
 

@@ -1,4 +1,4 @@
-//! A header and a text behind one pointer.
+//! `ThinStr`, a header and a text behind one pointer.
 ghost use Rattle.std.specs.Prelude.{◌≡◌, IfOk};
 
 use super::ThinArc;
@@ -7,9 +7,10 @@ use std::alloc::{AllocError, Global};
 use std::fmt;
 use std::marker::Model;
 
-/// A shared header with a text, in one word. With `()` as the header it stands for an `Arc<str>`.
+/// A shared header and a text behind one pointer: `ThinStr::from_header_and_str(alloc, 7, "ab")?`. With `()` as the
+/// header it takes the place of an `Arc<str>`.
 ///
-/// In a clause it is a header slice, whose items are the bytes of the text.
+/// In a contract a `ThinStr` is a header slice, whose items are the bytes of the text.
 #[derive(Drop, PartialEq, Eq, PartialOrd, Ord, Hash)]
 pub struct ThinStr<H> {
     block: ThinArc<H, u8>,
@@ -30,7 +31,7 @@ impl<H> Model for ThinStr<H> {
 }
 
 impl<H> ThinStr<H> {
-    /// The header.
+    /// Returns the header: `name.header()`.
     #[inline]
     pub fn header(&self) -> &H
         ensures { result.now ≡ self.now.header }
@@ -38,7 +39,7 @@ impl<H> ThinStr<H> {
         &self.block.header
     }
 
-    /// The text.
+    /// Returns the text: `name.as_str()`.
     #[inline]
     pub fn as_str(&self) -> &str
         ensures { result.now ≡ self.now.items }
@@ -47,7 +48,7 @@ impl<H> ThinStr<H> {
         unsafe { str::from_utf8_unchecked(self.block.slice()) }
     }
 
-    /// The handle of the header and the bytes, as an interner keeps it.
+    /// Returns the handle of the header and the bytes, as an interner keeps it: `name.as_thin_arc()`.
     #[inline]
     pub fn as_thin_arc(&self) -> &ThinArc<H, u8>
         ensures { result.now ≡ self.now }
@@ -57,9 +58,11 @@ impl<H> ThinStr<H> {
 }
 
 impl<H: Drop> ThinStr<H> {
-    /// The header beside a copy of the text.
+    /// Builds a header and a copy of the text, in O(n): `ThinStr::from_header_and_str(alloc, 7, "ab")?`.
     ///
-    /// Memory is requested as by `Arc::from_header_and_slice`. If it is refused, the header is dropped.
+    /// # Errors
+    ///
+    /// Returns `AllocError` if an allocation fails, and drops the header. At most two allocations are made.
     pub fn from_header_and_str(
         alloc: Global,
         header: H,
@@ -72,7 +75,7 @@ impl<H: Drop> ThinStr<H> {
     }
 }
 
-/// One more handle of the same block. It is refused as the `clone` of an `Arc` is.
+/// Clones the handle, and fails as the `clone` of an `Arc` does: `name.clone()?`.
 impl<H: Drop> Clone for ThinStr<H> {
     ghost is_clone = { λ a b. b ≡ a };
 
@@ -83,7 +86,7 @@ impl<H: Drop> Clone for ThinStr<H> {
     }
 }
 
-/// The text alone.
+/// Writes the text alone.
 impl<H> fmt::Display for ThinStr<H> {
     fn fmt<W: fmt::Write>(&self, f: &mut fmt::Formatter<W>) -> fmt::Result {
         f.pad(self.as_str())

@@ -1,4 +1,4 @@
-//! What a handle has by its value: equality, order, hash and texts.
+//! The traits that a handle has by its value: equality, order, hash and texts.
 use super::StaticArc;
 use std::cmp::Ordering;
 use std::fmt;
@@ -6,7 +6,7 @@ use std::fmt::{Debug, Display, Formatter, Write};
 use std::hash::{Hash, Hasher};
 use std::ops::Deref;
 
-/// Asks the values, also if both are of one block.
+/// Compares the values, even if both handles have one block.
 impl<T: PartialEq> PartialEq for StaticArc<'_, T> {
     ghost use Rattle.std.specs.Cmp.{on_per};
     ghost use Rattle.handles.specs.Stays.{value_of};

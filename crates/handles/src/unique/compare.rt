@@ -1,10 +1,10 @@
-//! What a handle has by its value: equality and texts.
+//! The traits that a handle has by its value: equality and texts.
 use super::UniqueArc;
 use std::fmt;
 use std::fmt::{Debug, Display, Formatter, Write};
 use std::ops::Deref;
 
-/// Asks the values.
+/// Compares the values.
 impl<T: PartialEq> PartialEq for UniqueArc<T> {
     ghost eq = { T.eq };
 

@@ -1,4 +1,4 @@
--- The pass that a seat stands for, and what the steps of a call require and ensure.
+-- The pass of a seat, and what the steps of a call require and ensure.
 use Rattle.std.specs.Prelude.{◌≡◌, ℕ, ◌<◌, List, [], ◌∷◌}
 use Rattle.atomic_table.specs.Seated.{TableId}
 use Rattle.shared_count.specs.History.{Clone, TryClone, Born, Full, Overtaken, Event, CountState, IsLegal, left_by}

@@ -1,4 +1,4 @@
--- What each step on the word tells the seat that makes it.
+-- What each step on the word adds to the knowledge of the seat that makes it.
 use Rattle.std.specs.Prelude.{◌≡◌, ◌≢◌, ℕ, ◌<◌, false, List, [], ◌∷◌, length}
 use Rattle.atomic_table.specs.Table.{Me, Step}
 use Rattle.counting_word.specs.CountingWord.{greatest_count, is_marked_word, is_one_handle}

@@ -13,7 +13,7 @@ use atomic_table::Seat;
 use counting_word::{ClonePlan, MAX_REFCOUNT, plan_clone};
 
 impl SharedCount {
-    // Loads the word, and raises it if its plan is to.
+    // Loads the word, and makes the compare-exchange if the plan is `Raise`.
     pub(super) fn clone_with(&self, seat: &mut Seat<(), View>) -> TryClone
         requires table { seat.old.table_id ≡ self.now.table }
         requires pass { CanCall self.now.passes seat.old.me }
@@ -28,7 +28,7 @@ impl SharedCount {
         }
     }
 
-    // Raises the word from what was read. If that fails, the word that is found gives the reply.
+    // Makes the compare-exchange from the word that was read. If it fails, the word that it finds decides the reply.
     fn raise_with(&self, seat: &mut Seat<(), View>, word: u64, raised: u64) -> TryClone
         requires table { seat.old.table_id ≡ self.now.table }
         requires pass { CanCall self.now.passes seat.old.me }
@@ -50,7 +50,7 @@ impl SharedCount {
     }
 }
 
-// The plan at the limit of this count, which is `MAX_REFCOUNT`.
+// Returns the plan at the limit of this count, `MAX_REFCOUNT`.
 fn plan_of(word: u64) -> ClonePlan
     ensures { result ≡ clone_plan word greatest_count }
 {

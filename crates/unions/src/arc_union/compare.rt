@@ -1,4 +1,4 @@
-//! What a handle of one of two types has by its kind and its value: equality, order, hash and texts.
+//! The traits that a union has by its variant and its value: equality, order, hash and texts.
 ghost use Rattle.unions.specs.Unions.{union_eq, union_partial_cmp, union_cmp, union_hash_input};
 ghost use Rattle.unions.specs.UnionLaws.{union_eq_per, union_eq_equiv, union_po, union_agrees, union_total};
 ghost use Rattle.unions.specs.UnionLaws.{union_ties, union_respects_eq};
@@ -9,7 +9,7 @@ use std::fmt;
 use std::fmt::{Debug, Formatter, Write};
 use std::hash::{Hash, Hasher};
 
-/// Asks the values of two of one kind. Two of different kinds are not equal.
+/// Compares the values, if both are the same variant. Different variants are not equal.
 impl<A: PartialEq, B: PartialEq> PartialEq for ArcUnion<A, B> {
     ghost eq = { union_eq A.eq B.eq };
 
@@ -28,7 +28,7 @@ impl<A: Eq, B: Eq> Eq for ArcUnion<A, B> {
     ghost laws = { union_eq_equiv A.Eq.laws B.Eq.laws };
 }
 
-/// Each handle of the first kind is less than each of the second. Two of one kind go by their values.
+/// Compares the values, if both are the same variant. The first variant is less than the second.
 impl<A: PartialOrd, B: PartialOrd> PartialOrd for ArcUnion<A, B> {
     ghost partial_cmp = { union_partial_cmp A.partial_cmp B.partial_cmp };
 
@@ -63,7 +63,7 @@ impl<A: Ord, B: Ord> Ord for ArcUnion<A, B> {
     }
 }
 
-/// The number of the kind, as a derived hash of an enum begins, and then the value.
+/// Hashes the number of the variant, as a derived hash of an enum begins, and then the value.
 impl<A: Hash, B: Hash> Hash for ArcUnion<A, B> {
     ghost hash_input = { union_hash_input A.hash_input B.hash_input };
 

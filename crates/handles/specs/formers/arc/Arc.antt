@@ -1,4 +1,4 @@
--- `Arc` as a type that may hold the type that holds it.
+-- `Arc` in recursive types: a type may hold an `Arc` of itself.
 use Rattle.std.specs.Prelude.{List, [], ◌∷◌}
 use mathlib.Core.Bool.{Bool-set}
 use mathlib.Core.Path.{◌≡◌, refl}

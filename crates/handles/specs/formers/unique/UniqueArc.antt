@@ -1,4 +1,4 @@
--- `UniqueArc` as a type that may hold the type that holds it.
+-- `UniqueArc` in recursive types: a type may hold a `UniqueArc` of itself.
 use Rattle.std.specs.Prelude.{ℕ, List, [], ◌∷◌}
 use mathlib.Core.Path.{◌≡◌, refl}
 use mathlib.Core.Former.{Former, none_left, one_more, this, const, pair, via, children}

@@ -1,4 +1,4 @@
--- `Handle` as a type that may hold the type that holds it.
+-- `Handle` in recursive types: a type may hold a `Handle` of itself.
 use Rattle.std.specs.Prelude.{Bool, ℕ, List}
 use mathlib.Core.Path.{refl}
 use mathlib.Core.Former.{Former, this, const, pair, via}

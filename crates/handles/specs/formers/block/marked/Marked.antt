@@ -1,4 +1,4 @@
--- `Marked` as a type that may hold the type that holds it.
+-- `Marked` in recursive types: a type may hold a `Marked` of itself.
 use mathlib.Core.Path.{refl}
 use mathlib.Core.Former.{Former, this, const, pair, via}
 use base.Stored.{gnil}

@@ -1,4 +1,4 @@
--- `Places` as a type that may hold the type that holds it: by its items, one by one.
+-- `Places` in recursive types: a type may hold `Places` for items of itself, one by one.
 use Rattle.std.specs.Prelude.{suc, ◌≤◌, ◌-◌, ◌*◌, ◌^◌, ◌==◌, List, [], ◌∷◌, map, length, not}
 use mathlib.Core.Path.{◌≡◌, PathP, refl, sym, ap, ◌∙◌}
 use mathlib.Core.HLevel.{is_prop→PathP}

@@ -11,3 +11,5 @@ mod limit;
 pub mod place;
 pub mod static_arc;
 pub mod unique;
+
+pub use block::RawBox;

@@ -1,5 +1,6 @@
 pub mod Acts
 pub mod Bounds
+pub mod Boxes
 pub mod Changes
 pub mod Cuts
 pub mod Falls
@@ -7,3 +8,4 @@ pub mod Nodes
 pub mod Parts
 pub mod Pieces
 pub mod Spots
+pub mod formers

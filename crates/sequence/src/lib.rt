@@ -1,6 +1,7 @@
 //! A list with access by index. A clone is an O(1) version (snapshot), and a change of one version is seen in no other.
 #![tactic(auto)]
 
+mod boxed;
 mod compare;
 mod cut;
 mod iter;
@@ -9,6 +10,7 @@ mod put;
 mod sequence;
 mod tree;
 
+pub use boxed::BoxedSequence;
 pub use cut::{Cut, Seek};
 pub use handles::place::PlaceError;
 pub use iter::Iter;

@@ -1,0 +1,5 @@
+pub mod BoxedLending
+pub mod Lending
+pub mod Owned
+pub mod Rows
+pub mod Values

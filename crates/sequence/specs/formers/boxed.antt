@@ -1,0 +1,2 @@
+pub mod BoxedSequence
+pub mod hidden

@@ -59,8 +59,13 @@ impl<T: Clone, L: NewLabel<T>> Sequence<T, L> {
 
     /// Keeps the items of which the test says `true`, and lets the others go. It asks once for each item, in order.
     ///
-    /// It makes a list of copies of what it keeps, in O(n).
-    pub fn retain<F: FnMut(&T) -> bool>(&mut self, alloc: Global, keep: F) -> Result<(), AllocError>
+    /// It makes a list of copies of what it keeps, in O(n), unless it keeps all: the list then shares its nodes as
+    /// before. A refusal leaves the list as it was.
+    pub fn retain<F: FnMut(&T) -> bool>(
+        &mut self,
+        alloc: Global,
+        mut keep: F,
+    ) -> Result<(), AllocError>
         requires copies { CopiesAreEqual T.is_clone }
         requires labels { CopiesAreEqual L.is_clone }
         requires callable { F.IsAlwaysCallable keep }
@@ -69,9 +74,13 @@ impl<T: Clone, L: NewLabel<T>> Sequence<T, L> {
     {
         let mut items = Vec::with_capacity(alloc, self.len())?;
         for item in &*self {
-            items.push(item.clone()?)?;
+            if keep(item) {
+                items.push(item.clone()?)?;
+            }
         }
-        items.retain(keep);
+        if items.len() == self.len() {
+            return Ok(());
+        }
         *self = Sequence::of_items(alloc, items)?;
         Ok(())
     }

@@ -19,7 +19,7 @@ pub(crate) struct Below<Q> {
 }
 
 impl<K: Ord, V, Q: Query<K>> Cut<(K, V), Key<K>> for UpTo<Q> {
-    ghost is_before = { λ cut label. not (is_lt (Q.order cut.query label.key)) };
+    ghost is_before = { λ cut entry. not (is_lt (Q.order cut.query entry.0)) };
 
     #[inline(always)]
     fn item(&self, entry: &(K, V)) -> bool {
@@ -33,7 +33,7 @@ impl<K: Ord, V, Q: Query<K>> Cut<(K, V), Key<K>> for UpTo<Q> {
 }
 
 impl<K: Ord, V, Q: Query<K>> Seek<(K, V), Key<K>> for UpTo<Q> {
-    ghost is_sought = { λ cut label. is_eq (Q.order cut.query label.key) };
+    ghost is_sought = { λ cut entry. is_eq (Q.order cut.query entry.0) };
 
     #[inline(always)]
     fn is_sought(&self, entry: &(K, V)) -> bool {
@@ -42,7 +42,7 @@ impl<K: Ord, V, Q: Query<K>> Seek<(K, V), Key<K>> for UpTo<Q> {
 }
 
 impl<K: Ord, V, Q: Query<K>> Cut<(K, V), Key<K>> for Below<Q> {
-    ghost is_before = { λ cut label. is_gt (Q.order cut.query label.key) };
+    ghost is_before = { λ cut entry. is_gt (Q.order cut.query entry.0) };
 
     #[inline(always)]
     fn item(&self, entry: &(K, V)) -> bool {

@@ -3,7 +3,7 @@ ghost use Rattle.std.specs.Prelude.{not};
 ghost use Rattle.std.specs.Ordering.{is_eq, is_lt};
 
 use crate::key::Key;
-use sequence::Put;
+use sequence::{Cut, Put, Seek};
 use std::mem;
 
 /// It goes in behind the entries whose keys are not above its own. An entry of an equal key takes its value.
@@ -13,18 +13,8 @@ pub(crate) struct Entry<K, V> {
     pub(crate) value: V,
 }
 
-impl<K: Ord + Drop, V: Drop> Put<(K, V), Key<K>> for Entry<K, V> {
-    type Old = V;
-
-    ghost is_before = { λ new label. not (is_lt (K.cmp new.key label.key)) };
-
-    ghost is_sought = { λ new label. is_eq (K.cmp new.key label.key) };
-
-    ghost made = { λ new. (new.key, new.value) };
-
-    ghost replaced = { λ new entry. (entry.0, new.value) };
-
-    ghost put_out = { λ entry. entry.1 };
+impl<K: Ord, V> Cut<(K, V), Key<K>> for Entry<K, V> {
+    ghost is_before = { λ new entry. not (is_lt (K.cmp new.key entry.0)) };
 
     #[inline(always)]
     fn item(&self, entry: &(K, V)) -> bool {
@@ -35,11 +25,25 @@ impl<K: Ord + Drop, V: Drop> Put<(K, V), Key<K>> for Entry<K, V> {
     fn label(&self, label: &Key<K>) -> bool {
         !self.key.cmp(&label.key).is_lt()
     }
+}
+
+impl<K: Ord, V> Seek<(K, V), Key<K>> for Entry<K, V> {
+    ghost is_sought = { λ new entry. is_eq (K.cmp new.key entry.0) };
 
     #[inline(always)]
     fn is_sought(&self, entry: &(K, V)) -> bool {
         self.key.cmp(&entry.0).is_eq()
     }
+}
+
+impl<K: Ord + Drop, V: Drop> Put<(K, V), Key<K>> for Entry<K, V> {
+    type Old = V;
+
+    ghost made = { λ new. (new.key, new.value) };
+
+    ghost replaced = { λ new entry. (entry.0, new.value) };
+
+    ghost put_out = { λ entry. entry.1 };
 
     #[inline(always)]
     fn into_item(self) -> (K, V) {

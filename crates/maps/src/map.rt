@@ -136,7 +136,7 @@ impl<K: Ord, V> TreeMap<K, V> {
         ensures value { option_map (λ e. e.1) (option_copied result) ≡ lookup_by (Q.order key) self.now }
         ensures rising { IsRising K.cmp self.now }
     {
-        let entry = self.entries.last_before(UpTo { query: key })?;
+        let entry = self.entries.last_before(&UpTo { query: key })?;
         if key.order(&entry.0).is_eq() {
             Some(entry)
         } else {
@@ -157,7 +157,7 @@ impl<K: Ord, V> TreeMap<K, V> {
         ensures rank { result ≡ rank_by (Q.order key) self.now }
         ensures within { result ≤ length self.now }
     {
-        self.entries.rank(Below { query: key })
+        self.entries.rank(&Below { query: key })
     }
 
     /// Returns the entry at `index`, counted from 0 in ascending order of the keys, or `None`: `map.nth(3)`. O(log n),

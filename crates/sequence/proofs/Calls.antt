@@ -8,3 +8,7 @@ module _ {M C : Type 0} where
 
   pub of_four : {A B D E : Type 0} → M → A × (B × (D × E)) → C → M × (A × (B × (D × (E × C))))
   of_four falls types clauses = (falls, (types.0, (types.1.0, (types.1.1.0, (types.1.1.1, clauses)))))
+
+  pub of_five : {A B D E F : Type 0} → M → A × (B × (D × (E × F))) → C → M × (A × (B × (D × (E × (F × C)))))
+  of_five falls types clauses =
+      (falls, (types.0, (types.1.0, (types.1.1.0, (types.1.1.1.0, (types.1.1.1.1, clauses))))))

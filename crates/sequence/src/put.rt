@@ -1,17 +1,13 @@
 //! What is put into a list where its cut is.
-ghost use Rattle.std.specs.Prelude.{◌≡◌, Bool};
+ghost use Rattle.std.specs.Prelude.{◌≡◌};
 
+use crate::cut::Seek;
 use crate::label::Label;
 
 /// What is put into a list behind its cut, or into the item there if that is the one that it seeks.
-pub trait Put<T, L: Label<T>>: Drop {
+pub trait Put<T, L: Label<T>>: Seek<T, L> + Drop {
     /// What it puts out of an item.
     type Old: Drop;
-
-    // Its cut, and the item that it seeks, as of `Seek`.
-    ghost is_before: { Self → L → Bool };
-
-    ghost is_sought: { Self → L → Bool };
 
     // The item that it becomes, what it makes of an item, and what it puts out of it.
     ghost made: { Self → T };
@@ -19,18 +15,6 @@ pub trait Put<T, L: Label<T>>: Drop {
     ghost replaced: { Self → T → T };
 
     ghost put_out: { T → Self.Old };
-
-    /// Whether the item is before the cut.
-    fn item(&self, item: &T) -> bool
-        ensures { result ≡ is_before self.now (L.label_of item.now) };
-
-    /// Whether an item of that label is before the cut.
-    fn label(&self, label: &L) -> bool
-        ensures { result ≡ is_before self.now label.now };
-
-    /// Whether the item is the one that it seeks.
-    fn is_sought(&self, item: &T) -> bool
-        ensures { result ≡ is_sought self.now (L.label_of item.now) };
 
     /// The item that goes in behind the cut.
     fn into_item(self) -> T

@@ -1,5 +1,5 @@
 //! A tree of items in the order of a list, seen as its items and its height. All its leaves are as deep.
-ghost use Rattle.std.specs.Prelude.{◌≡◌, ◌+◌, ◌*◌, ◌^◌, ◌<◌, ◌≤◌, IfOk, length};
+ghost use Rattle.std.specs.Prelude.{◌≡◌, ◌+◌, ◌*◌, ◌^◌, ◌<◌, ◌≤◌, IfOk, length, ⊤};
 ghost use Rattle.sequence.specs.Nodes.{IsDeep, IsNode, seen};
 
 pub(crate) mod act;
@@ -51,6 +51,19 @@ pub(crate) struct Child<T, L: Label<T>> {
     pub(crate) label: L,
     pub(crate) len: usize,
     pub(crate) tree: Tree<T, L>,
+}
+
+// A quick way through a tree that does not go: nodes on it would get another form, or memory was refused. The tree
+// reads as before. The slower way is taken then, which alone tells a refusal to the caller.
+#[derive(Clone, Copy)]
+pub(crate) struct Blocked;
+
+impl From<AllocError> for Blocked {
+    ghost from_gives = { λ _ _. ⊤ };
+
+    fn from(_error: AllocError) -> Blocked {
+        Blocked
+    }
 }
 
 impl<T, L: Label<T>> Model for Tree<T, L> {

@@ -3,7 +3,7 @@ ghost use Rattle.std.specs.Prelude.{◌≡◌, [], OnErr, OnOk, count_by, false,
 ghost use Rattle.std.specs.List.{insert};
 ghost use Rattle.std.specs.List.Sorted.{IsNonDecreasingBy};
 
-use sequence::{Cut, Iter, Label, NewLabel, Put, Sequence};
+use sequence::{Cut, Iter, Label, NewLabel, Put, Seek, Sequence};
 use servo_arc::Arc;
 use std::alloc::{AllocError, Global};
 use std::marker::Model;
@@ -32,7 +32,7 @@ impl NewLabel<Appointment> for Time {
 }
 
 impl Cut<Appointment, Time> for Time {
-    ghost is_before = { λ until time. nat_le time.minute until.minute };
+    ghost is_before = { λ until appointment. nat_le appointment.time.minute until.minute };
 
     fn item(&self, appointment: &Appointment) -> bool {
         appointment.time.minute <= self.minute
@@ -44,18 +44,8 @@ impl Cut<Appointment, Time> for Time {
 }
 
 /// It goes in behind those that are not later, and takes the place of none.
-impl Put<Appointment, Time> for Appointment {
-    type Old = ();
-
-    ghost is_before = { λ new time. nat_le time.minute new.time.minute };
-
-    ghost is_sought = { λ _ _. false };
-
-    ghost made = { λ new. new };
-
-    ghost replaced = { λ _ old. old };
-
-    ghost put_out = { λ _. tt };
+impl Cut<Appointment, Time> for Appointment {
+    ghost is_before = { λ new appointment. nat_le appointment.time.minute new.time.minute };
 
     fn item(&self, appointment: &Appointment) -> bool {
         appointment.time.minute <= self.time.minute
@@ -64,10 +54,24 @@ impl Put<Appointment, Time> for Appointment {
     fn label(&self, time: &Time) -> bool {
         time.minute <= self.time.minute
     }
+}
+
+impl Seek<Appointment, Time> for Appointment {
+    ghost is_sought = { λ _ _. false };
 
     fn is_sought(&self, _appointment: &Appointment) -> bool {
         false
     }
+}
+
+impl Put<Appointment, Time> for Appointment {
+    type Old = ();
+
+    ghost made = { λ new. new };
+
+    ghost replaced = { λ _ old. old };
+
+    ghost put_out = { λ _. tt };
 
     fn into_item(self) -> Appointment {
         self
@@ -123,7 +127,7 @@ impl Agenda {
     pub fn count_until(&self, time: Time) -> usize
         ensures { result ≡ count_by (λ a. nat_le a.time.minute time.minute) self.now }
     {
-        self.appointments.rank(time)
+        self.appointments.rank(&time)
     }
 
     /// Returns an iterator over the appointments, in ascending order of their times.

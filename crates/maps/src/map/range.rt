@@ -61,6 +61,6 @@ impl<K: Ord, V> TreeMap<K, V> {
         ensures rank { result ≡ rank_with_by (Q.order key) self.now }
         ensures within { result ≤ length self.now }
     {
-        self.entries.rank(UpTo { query: key })
+        self.entries.rank(&UpTo { query: key })
     }
 }

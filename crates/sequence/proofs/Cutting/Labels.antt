@@ -12,28 +12,27 @@ use Rattle.sequence.proofs.Nodes.Children.{items_split, length-more, part_child}
 use Rattle.sequence.proofs.Nodes.Labelled.{at_behind}
 use Rattle.sequence.proofs.Cuts.{Holds, first_part, test_read}
 
-module _ {T L : Type 0} (label_of : T → L) where
-  module _ (is_before : L → Bool) where
-    -- the label of items within a list
-    label_within : (l es r all : List T) (label : L) → first_label label_of es ≡ Some label → all ≡ l ++ (es ++ r)
-        → HasCut (λ e. is_before (label_of e)) all
-        → is_before label ≡ nat_lt (length l) (first (λ e. is_before (label_of e)) all)
-    label_within l [] r all label is parts has = absurd (none-some label is)
-    label_within l (e ∷ es) r all label is parts has =
-        ap is_before (sym (same_Some (label_of e) label is))
-        ∙ test_read (λ (e : T). is_before (label_of e)) all has (length l) e
-        (omega (arith, ap (length {A = T}) parts, length-append l (e ∷ (es ++ r))))
-        (sym (ap (λ (xs : List T). get_or xs (length l) e) parts ∙ get_or_at l e (es ++ r) e (length l) refl))
+module _ {T L : Type 0} (label_of : T → L) (test : T → Bool) where
+  -- what is told by the label of items within a list
+  label_within : (l es r all : List T) (label : L) (told : Bool)
+      → ((e : T) → label_of e ≡ label → told ≡ test e) → first_label label_of es ≡ Some label
+      → all ≡ l ++ (es ++ r) → HasCut test all → told ≡ nat_lt (length l) (first test all)
+  label_within l [] r all label told tells is parts has = absurd (none-some label is)
+  label_within l (e ∷ es) r all label told tells is parts has =
+      tells e (same_Some (label_of e) label is)
+      ∙ test_read test all has (length l) e
+      (omega (arith, ap (length {A = T}) parts, length-append l (e ∷ (es ++ r))))
+      (sym (ap (λ (xs : List T). get_or xs (length l) e) parts ∙ get_or_at l e (es ++ r) e (length l) refl))
 
-    -- the label of a child
-    pub label_read : (cs : List (Child T L)) → AreChildren label_of cs
-        → HasCut (λ e. is_before (label_of e)) (items_in cs) → (i : ℕ) (d : Child T L) → 0 < i → i < length cs
-        → is_before (get_or cs i d).label
-        ≡ nat_lt (length (items_in (take i cs))) (first (λ e. is_before (label_of e)) (items_in cs))
-    label_read cs are has i d some within =
-        label_within (items_in (take i cs)) (get_or cs i d).tree.0 (items_in (drop (i + 1) cs)) (items_in cs)
-        (get_or cs i d).label (at_behind (IsLabelled label_of) cs i d are.labels some within).first
-        (items_split cs i d within) has
+  -- and by that of a child
+  pub label_read : (cs : List (Child T L)) → AreChildren label_of cs → HasCut test (items_in cs)
+      → (i : ℕ) (d : Child T L) → 0 < i → i < length cs → (told : Bool)
+      → ((e : T) → label_of e ≡ (get_or cs i d).label → told ≡ test e)
+      → told ≡ nat_lt (length (items_in (take i cs))) (first test (items_in cs))
+  label_read cs are has i d some within told tells =
+      label_within (items_in (take i cs)) (get_or cs i d).tree.0 (items_in (drop (i + 1) cs)) (items_in cs)
+      (get_or cs i d).label told tells (at_behind (IsLabelled label_of) cs i d are.labels some within).first
+      (items_split cs i d within) has
 
 module _ {T L : Type 0} where
   -- fewer children have no more items

@@ -3,7 +3,7 @@ use Rattle.std.proofs.Common.{◌≡◌, ◌+◌, ◌-◌, ◌<◌, ◌≤◌, �
 use Rattle.std.proofs.Common.{ap, sym, ◌∙◌}
 use Rattle.std.proofs.Common.{subst, arith, take-append-drop, length-append, length-take, length-drop, refl, append-nil}
 use Rattle.std.specs.List.{All}
-use Rattle.std.specs.Prelude.{Some, Result, Ok, Err, IfOk, OnOk}
+use Rattle.std.specs.Prelude.{Some}
 use Rattle.std.proofs.lemmas.List.{drop-drop, drop_more}
 use Rattle.std.proofs.lemmas.List.Elements.{All-take, All-drop, All-append, All-cons, All-nil}
 use Rattle.sequence.specs.declared.tree.Child.{Child}
@@ -158,10 +158,10 @@ module _ {T L : Type 0} {label_of : T → L} where
         )
 
     -- so both halves can lose an item
-    pub both_spare : {E : Type 0} (new : List (Child T L)) (r : Result (Child T L) E) → OnOk r (new ≡ take n cs)
-        → IfOk r (AreHalves label_of (items_in cs, height_in cs) (items_in new, height_in new))
-        → IfOk r (λ right. CanLose {T = T} (items_in new, height_in new) × CanLose right.tree)
-    both_spare new (Ok right) kept halves =
+    pub both_spare : (new : List (Child T L)) (right : Child T L) → new ≡ take n cs
+        → AreHalves label_of (items_in cs, height_in cs) (items_in new, height_in new) right
+        → CanLose {T = T} (items_in new, height_in new) × CanLose right.tree
+    both_spare new right kept halves =
         let front = ap (λ (xs : List (Child T L)). length (items_in xs)) kept in
         let high : right.tree.1 ≡ height_in cs = omega (arith, halves.child.level) in
         let sum = ap (length {A = T}) halves.items in (
@@ -169,7 +169,6 @@ module _ {T L : Type 0} {label_of : T → L} where
           subst (λ (h : ℕ). 2 ^ h < length right.tree.0) (sym high)
               (omega (arith, sides.1, front, sum, length-append (items_in new) right.tree.0, length-parts cs n)),
         )
-    both_spare new (Err e) kept halves = tt
 
   -- children in place of k, with the items of those, stand for all
   pub replaced : (cs ns : List (Child T L)) (i k : ℕ) → AreChildren label_of cs → All (IsChild (height_in cs)) ns

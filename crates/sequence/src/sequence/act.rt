@@ -31,18 +31,17 @@ impl<T: Clone, L: NewLabel<T>> Sequence<T, L> {
     ) -> Result<Option<T>, AllocError>
         requires copies { CopiesAreEqual T.is_clone }
         requires labels { CopiesAreEqual L.is_clone }
-        requires cut { HasCut (λ e. C.is_before cut (L.label_of e)) self.old }
-        ensures taken { IfOk result (λ found. IfSome found (IsTaken (λ e. C.is_sought cut (L.label_of e))
-            (λ e. C.is_before cut (L.label_of e)) self.old self.new)) }
+        requires cut { HasCut (C.is_before cut) self.old }
+        ensures taken { IfOk result (λ found. IfSome found (IsTaken (C.is_sought cut)
+            (C.is_before cut) self.old self.new)) }
         ensures absent { IfOk result (λ found. IfNone found ((self.new ≡ self.old)
-            × IsAbsent (λ e. C.is_sought cut (L.label_of e)) (λ e. C.is_before cut (L.label_of e)) self.old)) }
-        ensures there { OnErr result (IsThere (λ e. C.is_sought cut (L.label_of e))
-            (λ e. C.is_before cut (L.label_of e)) self.old) }
+            × IsAbsent (C.is_sought cut) (C.is_before cut) self.old)) }
+        ensures there { OnErr result (IsThere (C.is_sought cut) (C.is_before cut) self.old) }
         ensures refused { OnErr result (self.new ≡ self.old) }
     {
         match self.act(alloc, Take(cut)) {
             Ok(found) => Ok(found),
-            Err(_) => match self.place(cut) {
+            Err(Take(cut)) => match self.place(&cut) {
                 Err(_) => Ok(None),
                 Ok(at) => {
                     let item = self.remove_at(alloc, at)?;
@@ -57,7 +56,7 @@ impl<T: Clone, L: NewLabel<T>> Sequence<T, L> {
     ///
     /// It copies and is refused as `modify` is, and the change is then not called. It is not called either if there is
     /// no such item: then nothing is copied or refused.
-    pub fn change<C: Seek<T, L>, R, F: FnOnce(&mut T) -> R>(
+    pub fn change<C: Seek<T, L> + Drop, R, F: FnOnce(&mut T) -> R>(
         &mut self,
         alloc: Global,
         cut: C,
@@ -65,24 +64,21 @@ impl<T: Clone, L: NewLabel<T>> Sequence<T, L> {
     ) -> Result<Option<R>, AllocError>
         requires copies { CopiesAreEqual T.is_clone }
         requires labels { CopiesAreEqual L.is_clone }
-        requires cut { HasCut (λ e. C.is_before cut (L.label_of e)) self.old }
-        requires callable { OfSought (λ e. C.is_sought cut (L.label_of e)) (λ e. C.is_before cut (L.label_of e))
-            (FnOnceTakesAtMut F.FnOnce change) self.old }
-        requires keeps { OfSought (λ e. C.is_sought cut (L.label_of e)) (λ e. C.is_before cut (L.label_of e))
-            (KeepsLabel F.FnOnce change L.label_of) self.old }
-        ensures changed { IfOk result (λ answer. IfSome answer (IsChanged (λ e. C.is_sought cut (L.label_of e))
-            (λ e. C.is_before cut (L.label_of e)) F.FnOnce change self.old self.new)) }
+        requires cut { HasCut (C.is_before cut) self.old }
+        requires callable { OfSought (C.is_sought cut) (C.is_before cut) (FnOnceTakesAtMut F.FnOnce change) self.old }
+        requires keeps { OfSought (C.is_sought cut) (C.is_before cut) (KeepsLabel F.FnOnce change L.label_of) self.old }
+        ensures changed { IfOk result (λ answer. IfSome answer (IsChanged (C.is_sought cut)
+            (C.is_before cut) F.FnOnce change self.old self.new)) }
         ensures absent { IfOk result (λ answer. IfNone answer ((self.new ≡ self.old)
-            × IsAbsent (λ e. C.is_sought cut (L.label_of e)) (λ e. C.is_before cut (L.label_of e)) self.old)) }
-        ensures there { OnErr result (IsThere (λ e. C.is_sought cut (L.label_of e))
-            (λ e. C.is_before cut (L.label_of e)) self.old) }
+            × IsAbsent (C.is_sought cut) (C.is_before cut) self.old)) }
+        ensures there { OnErr result (IsThere (C.is_sought cut) (C.is_before cut) self.old) }
         ensures refused { OnErr result (self.new ≡ self.old) }
     {
-        let change = match self.act(alloc, Change { cut, change }) {
+        let Change { cut, change } = match self.act(alloc, Change { cut, change }) {
             Ok(answer) => return Ok(answer),
-            Err(act) => act.change,
+            Err(act) => act,
         };
-        match self.place(cut) {
+        match self.place(&cut) {
             Err(_) => Ok(None),
             Ok(at) => {
                 let Some(tree) = &mut self.root else {
@@ -107,11 +103,11 @@ impl<T: Clone, L: NewLabel<T>> Sequence<T, L> {
     ) -> Result<Option<P::Old>, AllocError>
         requires copies { CopiesAreEqual T.is_clone }
         requires labels { CopiesAreEqual L.is_clone }
-        requires cut { HasCut (λ e. P.is_before new (L.label_of e)) self.old }
-        ensures replaced { IfOk result (λ old. IfSome old (IsReplaced (λ e. P.is_sought new (L.label_of e))
-            (λ e. P.is_before new (L.label_of e)) (P.replaced new) P.put_out self.old self.new)) }
-        ensures added { IfOk result (λ old. IfNone old (IsAdded (λ e. P.is_sought new (L.label_of e))
-            (λ e. P.is_before new (L.label_of e)) self.old self.new (P.made new))) }
+        requires cut { HasCut (P.is_before new) self.old }
+        ensures replaced { IfOk result (λ old. IfSome old (IsReplaced (P.is_sought new)
+            (P.is_before new) (P.replaced new) P.put_out self.old self.new)) }
+        ensures added { IfOk result (λ old. IfNone old (IsAdded (P.is_sought new)
+            (P.is_before new) self.old self.new (P.made new))) }
         ensures refused { OnErr result (self.new ≡ self.old) }
     {
         match self.act(alloc, PutIn(new)) {
@@ -128,14 +124,14 @@ impl<T: Clone, L: NewLabel<T>> Sequence<T, L> {
     ) -> Result<Option<P::Old>, AllocError>
         requires copies { CopiesAreEqual T.is_clone }
         requires labels { CopiesAreEqual L.is_clone }
-        requires cut { HasCut (λ e. P.is_before act.0 (L.label_of e)) self.old }
-        ensures replaced { IfOk result (λ old. IfSome old (IsReplaced (λ e. P.is_sought act.0 (L.label_of e))
-            (λ e. P.is_before act.0 (L.label_of e)) (P.replaced act.0) P.put_out self.old self.new)) }
-        ensures added { IfOk result (λ old. IfNone old (IsAdded (λ e. P.is_sought act.0 (L.label_of e))
-            (λ e. P.is_before act.0 (L.label_of e)) self.old self.new (P.made act.0))) }
+        requires cut { HasCut (P.is_before act.0) self.old }
+        ensures replaced { IfOk result (λ old. IfSome old (IsReplaced (P.is_sought act.0)
+            (P.is_before act.0) (P.replaced act.0) P.put_out self.old self.new)) }
+        ensures added { IfOk result (λ old. IfNone old (IsAdded (P.is_sought act.0)
+            (P.is_before act.0) self.old self.new (P.made act.0))) }
         ensures refused { OnErr result (self.new ≡ self.old) }
     {
-        match self.place(&act) {
+        match self.place(&act.0) {
             Err(at) => {
                 self.insert_at(alloc, at, act.0.into_item())?;
                 Ok(None)
@@ -157,11 +153,10 @@ impl<T: Clone, L: Label<T> + Clone> Sequence<T, L> {
     fn act<A: Act<T, L>>(&mut self, alloc: Global, act: A) -> Result<Option<A::Gone>, A>
         requires copies { CopiesAreEqual T.is_clone }
         requires labels { CopiesAreEqual L.is_clone }
-        requires cut { HasCut (λ e. A.is_before act (L.label_of e)) self.old }
-        requires needs { OfSought (λ e. A.is_sought act (L.label_of e)) (λ e. A.is_before act (L.label_of e))
-            (A.needs act) self.old }
+        requires cut { HasCut (A.Way.is_before (A.way act)) self.old }
+        requires needs { OfSought (A.Way.is_sought (A.way act)) (A.Way.is_before (A.way act)) (A.needs act) self.old }
         ensures done { IfOk result
-            (IsActed (λ e. A.is_before act (L.label_of e)) (A.does act) A.GROWS A.LOSES self.old self.new) }
+            (IsActed (A.Way.is_before (A.way act)) (A.does act) A.GROWS A.LOSES self.old self.new) }
         ensures blocked { OnErr result (self.new ≡ self.old) }
         ensures back { IfErr result (λ back. back ≡ act) }
     {
@@ -180,11 +175,10 @@ impl<T: Clone, L: Label<T> + Clone> Sequence<T, L> {
 
 impl<T, L: Label<T>> Sequence<T, L> {
     // The number of the last item before the cut, if it is the one that is sought. `Err` has the place behind it.
-    fn place<C: Seek<T, L>>(&self, cut: C) -> Result<usize, usize>
-        requires cut { HasCut (λ e. C.is_before cut (L.label_of e)) self.now }
-        ensures { MatchResult result
-            (IsFound (λ e. C.is_sought cut (L.label_of e)) (λ e. C.is_before cut (L.label_of e)) self.now)
-            (IsMissing (λ e. C.is_sought cut (L.label_of e)) (λ e. C.is_before cut (L.label_of e)) self.now) }
+    fn place<C: Seek<T, L>>(&self, cut: &C) -> Result<usize, usize>
+        requires cut { HasCut (C.is_before cut.now) self.now }
+        ensures { MatchResult result (IsFound (C.is_sought cut.now) (C.is_before cut.now) self.now)
+            (IsMissing (C.is_sought cut.now) (C.is_before cut.now) self.now) }
     {
         match self.find(cut) {
             None => Err(0),

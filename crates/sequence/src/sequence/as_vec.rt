@@ -66,13 +66,17 @@ impl<T: Clone, L: NewLabel<T>> Sequence<T, L> {
     /// Keeps the items for which `keep` returns `true`, and drops the others:
     /// `list.retain(alloc, |item| *item >= least)?`. O(n).
     ///
-    /// `keep` is called once for each item, in order. All items are cloned first, so the list then shares no node.
+    /// `keep` is called once for each item, in order, before the item is cloned. If all items stay, the list shares its
+    /// nodes as before. Otherwise the list is built anew from clones of the items that stay.
     ///
     /// # Errors
     ///
-    /// `AllocError` if there is no memory, or if the `clone` of an item fails, also of one that would be dropped. The
-    /// items stay as they were.
-    pub fn retain<F: FnMut(&T) -> bool>(&mut self, alloc: Global, keep: F) -> Result<(), AllocError>
+    /// `AllocError` if there is no memory, or if the `clone` of an item that stays fails. The items stay as they were.
+    pub fn retain<F: FnMut(&T) -> bool>(
+        &mut self,
+        alloc: Global,
+        mut keep: F,
+    ) -> Result<(), AllocError>
         requires copies { CopiesAreEqual T.is_clone }
         requires labels { CopiesAreEqual L.is_clone }
         requires callable { F.IsAlwaysCallable keep }
@@ -81,9 +85,13 @@ impl<T: Clone, L: NewLabel<T>> Sequence<T, L> {
     {
         let mut items = Vec::with_capacity(alloc, self.len())?;
         for item in &*self {
-            items.push(item.clone()?)?;
+            if keep(item) {
+                items.push(item.clone()?)?;
+            }
         }
-        items.retain(keep);
+        if items.len() == self.len() {
+            return Ok(());
+        }
         *self = Sequence::of_items(alloc, items)?;
         Ok(())
     }

@@ -8,9 +8,9 @@ use crate::sequence::Sequence;
 
 impl<T, L: Label<T>> Sequence<T, L> {
     /// How many items are before the cut, by one way down.
-    pub fn rank<C: Cut<T, L>>(&self, cut: C) -> usize
-        requires { HasCut (λ e. C.is_before cut (L.label_of e)) self.now }
-        ensures { IsCut (λ e. C.is_before cut (L.label_of e)) self.now result }
+    pub fn rank<C: Cut<T, L>>(&self, cut: &C) -> usize
+        requires { HasCut (C.is_before cut.now) self.now }
+        ensures { IsCut (C.is_before cut.now) self.now result }
     {
         // For the proof: its clause says that there are fewer than a number can count.
         let _ = self.len();
@@ -22,10 +22,10 @@ impl<T, L: Label<T>> Sequence<T, L> {
 
     /// The last item before the cut and its number, by one way down.
     #[inline(always)]
-    pub fn find<C: Cut<T, L>>(&self, cut: C) -> Option<(usize, &T)>
-        requires { HasCut (λ e. C.is_before cut (L.label_of e)) self.now }
-        ensures none { IfNone result (IsCut (λ e. C.is_before cut (L.label_of e)) self.now 0) }
-        ensures number { IfSome result (λ found. IsCut (λ e. C.is_before cut (L.label_of e)) self.now (found.0 + 1)) }
+    pub fn find<C: Cut<T, L>>(&self, cut: &C) -> Option<(usize, &T)>
+        requires { HasCut (C.is_before cut.now) self.now }
+        ensures none { IfNone result (IsCut (C.is_before cut.now) self.now 0) }
+        ensures number { IfSome result (λ found. IsCut (C.is_before cut.now) self.now (found.0 + 1)) }
         ensures item { IfSome result (λ found. slice_get self.now found.0 ≡ Some found.1.now) }
     {
         match &self.root {
@@ -35,10 +35,10 @@ impl<T, L: Label<T>> Sequence<T, L> {
     }
 
     /// The last item before the cut, by one way down.
-    pub fn last_before<C: Cut<T, L>>(&self, cut: C) -> Option<&T>
-        requires { HasCut (λ e. C.is_before cut (L.label_of e)) self.now }
-        ensures none { IfNone result (IsCut (λ e. C.is_before cut (L.label_of e)) self.now 0) }
-        ensures some { IfSome result (λ item. IsLast (λ e. C.is_before cut (L.label_of e)) self.now item.now) }
+    pub fn last_before<C: Cut<T, L>>(&self, cut: &C) -> Option<&T>
+        requires { HasCut (C.is_before cut.now) self.now }
+        ensures none { IfNone result (IsCut (C.is_before cut.now) self.now 0) }
+        ensures some { IfSome result (λ item. IsLast (C.is_before cut.now) self.now item.now) }
     {
         let (_, item) = self.find(cut)?;
         Some(item)

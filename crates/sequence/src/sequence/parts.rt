@@ -8,7 +8,7 @@ use crate::label::NewLabel;
 use crate::sequence::Sequence;
 use crate::tree::copies::{BRANCH, LEAF, copies};
 use crate::tree::search::{count, spot_of};
-use crate::tree::{Child, Node, Tree};
+use crate::tree::{Blocked, Child, Node, Tree};
 use handles::place::PlaceError;
 use std::alloc::{AllocError, Global};
 use std::mem;
@@ -102,24 +102,22 @@ impl<T: Clone, L: NewLabel<T>> Sequence<T, L> {
         Ok(back)
     }
 
-    // Splits in place. It fails if a part would have too few items for its height, and changes nothing then.
-    fn sever(&mut self, alloc: Global, at: usize) -> Result<Sequence<T, L>, AllocError>
+    // Splits in place. It is blocked if a part would have too few items for its height, and changes nothing then.
+    fn sever(&mut self, alloc: Global, at: usize) -> Result<Sequence<T, L>, Blocked>
         requires copies { CopiesAreEqual T.is_clone }
         requires labels { CopiesAreEqual L.is_clone }
         requires within { at ≤ length self.old }
         ensures out { IfOk result (λ out. out ≡ drop at self.old) }
         ensures rest { OnOk result (self.new ≡ take at self.old) }
-        ensures refused { OnErr result (self.new ≡ self.old) }
+        ensures blocked { OnErr result (self.new ≡ self.old) }
     {
         let Some(tree) = &mut self.root else {
-            return Err(AllocError);
+            return Err(Blocked);
         };
         tree.shrink()?;
-        let least = 2usize
-            .checked_pow(u32::from(tree.height()))
-            .ok_or(AllocError)?;
+        let least = 2usize.checked_pow(u32::from(tree.height())).ok_or(Blocked)?;
         if at < least || self.len - at < least {
-            return Err(AllocError);
+            return Err(Blocked);
         }
         let mut back = tree.sever(alloc, at, least)?;
         self.len = at;

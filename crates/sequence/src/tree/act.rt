@@ -1,13 +1,13 @@
 //! What is done to a tree where a cut is, by one way down along nodes that keep their form. If that cannot be, the
 //! items stay, and what was to be done is given back.
-ghost use Rattle.std.specs.Prelude.{◌≡◌, ◌+◌, ◌<◌, ◌^◌, ◌⊎◌, Bool, IfErr, IfNone, IfOk, IfSome, IsTrue, List, OnErr};
+ghost use Rattle.std.specs.Prelude.{◌≡◌, ◌+◌, ◌<◌, ◌^◌, Bool, IfErr, IfNone, IfOk, IfSome, IsTrue, List, OnErr};
 ghost use Rattle.std.specs.Prelude.{Option, length};
 ghost use Rattle.handles.specs.Copies.{CopiesAreEqual};
 ghost use Rattle.sequence.specs.Acts.{IsActed, OfSought, comes, gone};
 ghost use Rattle.sequence.specs.Cuts.{HasCut, IsCut};
 ghost use Rattle.sequence.specs.Nodes.{AreChildren, CanLose, IsList, first_label, height_in, items_in};
 
-use crate::cut::{Cut, Seek};
+use crate::cut::Seek;
 use crate::label::Label;
 use crate::tree::cut::{child_of, last_in};
 use crate::tree::{Child, Node, Tree};
@@ -20,9 +20,9 @@ pub(crate) trait Act<T, L: Label<T>> {
     type Gone;
 
     // Its cut, and the item that it seeks.
-    ghost is_before: { Self → L → Bool };
+    type Way: Seek<T, L>;
 
-    ghost is_sought: { Self → L → Bool };
+    ghost way: { Self → Self.Way };
 
     // What it asks for of the item that it seeks.
     ghost needs: { Self → T → Type 0 };
@@ -40,14 +40,8 @@ pub(crate) trait Act<T, L: Label<T>> {
 
     const LOSES: bool;
 
-    fn item(&self, item: &T) -> bool
-        ensures { result ≡ is_before self.now (L.label_of item.now) };
-
-    fn label(&self, label: &L) -> bool
-        ensures { result ≡ is_before self.now label.now };
-
-    fn is_sought(&self, item: &T) -> bool
-        ensures { result ≡ is_sought self.now (L.label_of item.now) };
+    fn way(&self) -> &Self::Way
+        ensures { result.now ≡ way self.now };
 
     // Does it at the number of the last item before the cut. If it is told to, it leaves the first label as it is.
     fn act(
@@ -56,41 +50,17 @@ pub(crate) trait Act<T, L: Label<T>> {
         last: Option<usize>,
         labelled: bool,
     ) -> Result<Option<Self::Gone>, Self>
-        requires none { IfNone last (IsCut (λ e. is_before self (L.label_of e)) items.old.items 0) }
-        requires some { IfSome last (λ at. IsCut (λ e. is_before self (L.label_of e)) items.old.items (at + 1)) }
-        requires needs { OfSought (λ e. is_sought self (L.label_of e)) (λ e. is_before self (L.label_of e)) (needs self)
+        requires none { IfNone last (IsCut (Self.Way.is_before (way self)) items.old.items 0) }
+        requires some { IfSome last (λ at. IsCut (Self.Way.is_before (way self)) items.old.items (at + 1)) }
+        requires needs { OfSought (Self.Way.is_sought (way self)) (Self.Way.is_before (way self)) (needs self)
             items.old.items }
         requires room { length items.old.items + 1 < 2 ^ 64 }
         ensures done { IfOk result
-            (IsActed (λ e. is_before self (L.label_of e)) (does self) GROWS LOSES items.old.items items.new.items) }
+            (IsActed (Self.Way.is_before (way self)) (does self) GROWS LOSES items.old.items items.new.items) }
         ensures first { IsTrue labelled
             → first_label L.label_of items.new.items ≡ first_label L.label_of items.old.items }
         ensures blocked { OnErr result (items.new.items ≡ items.old.items) }
         ensures back { IfErr result (λ act. act ≡ self) };
-}
-
-// The search by what is to be done.
-impl<'a, T, L: Label<T>, A: Act<T, L>> Cut<T, L> for &'a A {
-    ghost is_before = { λ act. A.is_before act.now };
-
-    #[inline(always)]
-    fn item(&self, item: &T) -> bool {
-        (*self).item(item)
-    }
-
-    #[inline(always)]
-    fn label(&self, label: &L) -> bool {
-        (*self).label(label)
-    }
-}
-
-impl<'a, T, L: Label<T>, A: Act<T, L>> Seek<T, L> for &'a A {
-    ghost is_sought = { λ act. A.is_sought act.now };
-
-    #[inline(always)]
-    fn is_sought(&self, item: &T) -> bool {
-        (*self).is_sought(item)
-    }
 }
 
 impl<T: Clone, L: Label<T> + Clone> Tree<T, L> {
@@ -104,13 +74,12 @@ impl<T: Clone, L: Label<T> + Clone> Tree<T, L> {
     ) -> Result<Option<A::Gone>, A>
         requires copies { CopiesAreEqual T.is_clone }
         requires labels { CopiesAreEqual L.is_clone }
-        requires cut { HasCut (λ e. A.is_before act (L.label_of e)) self.old.0 }
-        requires needs { OfSought (λ e. A.is_sought act (L.label_of e)) (λ e. A.is_before act (L.label_of e))
-            (A.needs act) self.old.0 }
+        requires cut { HasCut (A.Way.is_before (A.way act)) self.old.0 }
+        requires needs { OfSought (A.Way.is_sought (A.way act)) (A.Way.is_before (A.way act)) (A.needs act) self.old.0 }
         requires spare { IsTrue A.LOSES → 1 < length self.old.0 }
         requires room { length self.old.0 + 1 < 2 ^ 64 }
         ensures done { IfOk result
-            (IsActed (λ e. A.is_before act (L.label_of e)) (A.does act) A.GROWS A.LOSES self.old.0 self.new.0) }
+            (IsActed (A.Way.is_before (A.way act)) (A.does act) A.GROWS A.LOSES self.old.0 self.new.0) }
         ensures height { self.new.1 ≡ self.old.1 }
         ensures first { IsTrue labelled → first_label L.label_of self.new.0 ≡ first_label L.label_of self.old.0 }
         ensures blocked { OnErr result (self.new.0 ≡ self.old.0) }
@@ -125,7 +94,7 @@ impl<T: Clone, L: Label<T> + Clone> Tree<T, L> {
         };
         let children = match node {
             Node::Leaf(items) => {
-                let last = last_in(items, &act);
+                let last = last_in(items, act.way());
                 return act.act(items, last, labelled);
             }
             Node::Branch(children) => children,
@@ -144,11 +113,11 @@ impl<T: Clone, L: Label<T> + Clone> Tree<T, L> {
         requires copies { CopiesAreEqual T.is_clone }
         requires labels { CopiesAreEqual L.is_clone }
         requires children { AreChildren L.label_of children.old.items }
-        requires cut { HasCut (λ e. A.is_before act (L.label_of e)) (items_in children.old.items) }
-        requires needs { OfSought (λ e. A.is_sought act (L.label_of e)) (λ e. A.is_before act (L.label_of e))
+        requires cut { HasCut (A.Way.is_before (A.way act)) (items_in children.old.items) }
+        requires needs { OfSought (A.Way.is_sought (A.way act)) (A.Way.is_before (A.way act))
             (A.needs act) (items_in children.old.items) }
         requires room { length (items_in children.old.items) + 1 < 2 ^ 64 }
-        ensures done { IfOk result (IsActed (λ e. A.is_before act (L.label_of e)) (A.does act) A.GROWS A.LOSES
+        ensures done { IfOk result (IsActed (A.Way.is_before (A.way act)) (A.does act) A.GROWS A.LOSES
             (items_in children.old.items) (items_in children.new.items)) }
         ensures height { height_in children.new.items ≡ height_in children.old.items }
         ensures children { AreChildren L.label_of children.new.items }
@@ -157,7 +126,7 @@ impl<T: Clone, L: Label<T> + Clone> Tree<T, L> {
         ensures blocked { OnErr result (items_in children.new.items ≡ items_in children.old.items) }
         ensures back { IfErr result (λ back. back ≡ act) }
     {
-        let at = child_of(children, &act);
+        let at = child_of(children, act.way());
         if A::LOSES && children[at].tree.is_thin() {
             return Err(act);
         }

@@ -15,17 +15,17 @@ pub(crate) struct Change<C, F> {
     pub(crate) change: F,
 }
 
-impl<T, L: Label<T>, C: Seek<T, L>, R, F: FnOnce(&mut T) -> R> Act<T, L> for Change<C, F> {
+impl<T, L: Label<T>, C: Seek<T, L> + Drop, R, F: FnOnce(&mut T) -> R> Act<T, L> for Change<C, F> {
     type Gone = R;
 
-    ghost is_before = { λ act. C.is_before act.cut };
+    type Way = C;
 
-    ghost is_sought = { λ act. C.is_sought act.cut };
+    ghost way = { λ act. act.cut };
 
     ghost needs = { λ act item. FnOnceTakesAtMut F.FnOnce act.change item
         × KeepsLabel F.FnOnce act.change L.label_of item };
 
-    ghost does = { λ act. changes (λ e. C.is_sought act.cut (L.label_of e)) F.FnOnce act.change };
+    ghost does = { λ act. changes (C.is_sought act.cut) F.FnOnce act.change };
 
     ghost GROWS = { false };
 
@@ -36,18 +36,8 @@ impl<T, L: Label<T>, C: Seek<T, L>, R, F: FnOnce(&mut T) -> R> Act<T, L> for Cha
     const LOSES: bool = false;
 
     #[inline(always)]
-    fn item(&self, item: &T) -> bool {
-        self.cut.item(item)
-    }
-
-    #[inline(always)]
-    fn label(&self, label: &L) -> bool {
-        self.cut.label(label)
-    }
-
-    #[inline(always)]
-    fn is_sought(&self, item: &T) -> bool {
-        self.cut.is_sought(item)
+    fn way(&self) -> &C {
+        &self.cut
     }
 
     fn act(

@@ -16,10 +16,10 @@ const QUARTER: usize = 4;
 
 // Whether the item of that number is before the cut.
 #[inline(always)]
-fn is_before<T, L: Label<T>, C: Cut<T, L>>(items: &[T], cut: C, at: usize) -> bool
-    requires cut { HasCut (λ e. C.is_before cut (L.label_of e)) items.now }
+fn is_before<T, L: Label<T>, C: Cut<T, L>>(items: &[T], cut: &C, at: usize) -> bool
+    requires cut { HasCut (C.is_before cut.now) items.now }
     requires within { at < length items.now }
-    ensures { result ≡ nat_lt at (first (λ e. C.is_before cut (L.label_of e)) items.now) }
+    ensures { result ≡ nat_lt at (first (C.is_before cut.now) items.now) }
 {
     cut.item(&items[at])
 }
@@ -27,12 +27,12 @@ fn is_before<T, L: Label<T>, C: Cut<T, L>>(items: &[T], cut: C, at: usize) -> bo
 // Where the part begins that has the last item before the cut, or the first part, of parts of that many items. It
 // counts all that begin before, since a jump would be guessed wrong half of the times.
 #[inline(always)]
-fn part_of<T, L: Label<T>, C: Cut<T, L>>(items: &[T], cut: C, part: usize) -> usize
-    requires cut { HasCut (λ e. C.is_before cut (L.label_of e)) items.now }
+fn part_of<T, L: Label<T>, C: Cut<T, L>>(items: &[T], cut: &C, part: usize) -> usize
+    requires cut { HasCut (C.is_before cut.now) items.now }
     requires some { 0 < length items.now }
     requires parts { 0 < part }
     ensures within { result < length items.now }
-    ensures among { IsAmong result (result + part) (first (λ e. C.is_before cut (L.label_of e)) items.now) }
+    ensures among { IsAmong result (result + part) (first (C.is_before cut.now) items.now) }
 {
     let mut at = 0;
     let mut seen = 0;
@@ -45,13 +45,18 @@ fn part_of<T, L: Label<T>, C: Cut<T, L>>(items: &[T], cut: C, part: usize) -> us
 
 // The same of the quarters of four that begin there and have that many items each.
 #[inline(always)]
-fn quarter_of<T, L: Label<T>, C: Cut<T, L>>(items: &[T], cut: C, at: usize, quarter: usize) -> usize
-    requires cut { HasCut (λ e. C.is_before cut (L.label_of e)) items.now }
+fn quarter_of<T, L: Label<T>, C: Cut<T, L>>(
+    items: &[T],
+    cut: &C,
+    at: usize,
+    quarter: usize,
+) -> usize
+    requires cut { HasCut (C.is_before cut.now) items.now }
     requires some { 0 < quarter }
     requires within { at + 4 * quarter ≤ length items.now }
-    requires among { IsAmong at (at + 4 * quarter) (first (λ e. C.is_before cut (L.label_of e)) items.now) }
+    requires among { IsAmong at (at + 4 * quarter) (first (C.is_before cut.now) items.now) }
     ensures within { result + quarter ≤ length items.now }
-    ensures among { IsAmong result (result + quarter) (first (λ e. C.is_before cut (L.label_of e)) items.now) }
+    ensures among { IsAmong result (result + quarter) (first (C.is_before cut.now) items.now) }
 {
     let first = usize::from(is_before(items, cut, at + quarter));
     let second = usize::from(is_before(items, cut, at + 2 * quarter));
@@ -61,11 +66,11 @@ fn quarter_of<T, L: Label<T>, C: Cut<T, L>>(items: &[T], cut: C, at: usize, quar
 
 // The number of the last item before the cut, or of the first.
 #[inline(always)]
-fn place_of<T, L: Label<T>, C: Cut<T, L>>(items: &[T], cut: C) -> usize
-    requires cut { HasCut (λ e. C.is_before cut (L.label_of e)) items.now }
+fn place_of<T, L: Label<T>, C: Cut<T, L>>(items: &[T], cut: &C) -> usize
+    requires cut { HasCut (C.is_before cut.now) items.now }
     requires some { 0 < length items.now }
     ensures within { result < length items.now }
-    ensures among { IsAmong result (result + 1) (first (λ e. C.is_before cut (L.label_of e)) items.now) }
+    ensures among { IsAmong result (result + 1) (first (C.is_before cut.now) items.now) }
 {
     if items.len() < PART {
         return part_of(items, cut, 1);
@@ -77,11 +82,11 @@ fn place_of<T, L: Label<T>, C: Cut<T, L>>(items: &[T], cut: C) -> usize
 
 // The number of the last item before the cut.
 #[inline(always)]
-pub(crate) fn last_in<T, L: Label<T>, C: Cut<T, L>>(items: &[T], cut: C) -> Option<usize>
-    requires cut { HasCut (λ e. C.is_before cut (L.label_of e)) items.now }
+pub(crate) fn last_in<T, L: Label<T>, C: Cut<T, L>>(items: &[T], cut: &C) -> Option<usize>
+    requires cut { HasCut (C.is_before cut.now) items.now }
     requires some { 0 < length items.now }
-    ensures none { IfNone result (first (λ e. C.is_before cut (L.label_of e)) items.now ≡ 0) }
-    ensures some { IfSome result (λ at. at + 1 ≡ first (λ e. C.is_before cut (L.label_of e)) items.now) }
+    ensures none { IfNone result (first (C.is_before cut.now) items.now ≡ 0) }
+    ensures some { IfSome result (λ at. at + 1 ≡ first (C.is_before cut.now) items.now) }
 {
     let at = place_of(items, cut);
     // All others were compared.
@@ -92,13 +97,12 @@ pub(crate) fn last_in<T, L: Label<T>, C: Cut<T, L>>(items: &[T], cut: C) -> Opti
 }
 
 // The number of the last child whose first item is before the cut, or of the first child. It counts as `part_of` does.
-pub(crate) fn child_of<T, L: Label<T>, C: Cut<T, L>>(children: &[Child<T, L>], cut: C) -> usize
+pub(crate) fn child_of<T, L: Label<T>, C: Cut<T, L>>(children: &[Child<T, L>], cut: &C) -> usize
     requires children { AreChildren L.label_of children.now }
-    requires cut { HasCut (λ e. C.is_before cut (L.label_of e)) (items_in children.now) }
+    requires cut { HasCut (C.is_before cut.now) (items_in children.now) }
     ensures within { result < length children.now }
     ensures among { IsAmong (length (items_in (take result children.now)))
-        (length (items_in (take (result + 1) children.now)))
-        (first (λ e. C.is_before cut (L.label_of e)) (items_in children.now)) }
+        (length (items_in (take (result + 1) children.now))) (first (C.is_before cut.now) (items_in children.now)) }
 {
     let mut at = 0;
     let mut seen = 0;
@@ -112,11 +116,10 @@ pub(crate) fn child_of<T, L: Label<T>, C: Cut<T, L>>(children: &[Child<T, L>], c
 impl<T, L: Label<T>> Tree<T, L> {
     // The last item before the cut, and its number. Inline, so that nothing is counted where no number is read.
     #[inline(always)]
-    pub(crate) fn find<C: Cut<T, L>>(&self, cut: C) -> Option<(usize, &T)>
-        requires { HasCut (λ e. C.is_before cut (L.label_of e)) self.now.0 }
-        ensures none { IfNone result (IsCut (λ e. C.is_before cut (L.label_of e)) self.now.0 0) }
-        ensures number { IfSome result (λ found.
-            IsCut (λ e. C.is_before cut (L.label_of e)) self.now.0 (found.0 + 1)) }
+    pub(crate) fn find<C: Cut<T, L>>(&self, cut: &C) -> Option<(usize, &T)>
+        requires { HasCut (C.is_before cut.now) self.now.0 }
+        ensures none { IfNone result (IsCut (C.is_before cut.now) self.now.0 0) }
+        ensures number { IfSome result (λ found. IsCut (C.is_before cut.now) self.now.0 (found.0 + 1)) }
         ensures item { IfSome result (λ found. slice_get self.now.0 found.0 ≡ Some found.1.now) }
     {
         let mut node = self.node();

@@ -8,9 +8,9 @@ ghost use Rattle.sequence.specs.Spots.{place_at, spliced};
 
 use crate::label::Label;
 use crate::tree::copies::{BRANCH, leaf_width};
-use crate::tree::{Child, Node, Tree};
+use crate::tree::{Blocked, Child, Node, Tree};
 use handles::arc::Arc;
-use std::alloc::{AllocError, Global};
+use std::alloc::Global;
 
 // An end of a list.
 #[derive(Clone, Copy)]
@@ -44,10 +44,10 @@ impl<T: Clone, L: Label<T> + Clone> Tree<T, L> {
         pushed
     }
 
-    // Takes the item at that end out, which is not the only one. It is refused if there is no memory, or if the first
+    // Takes the item at that end out, which is not the only one. It is blocked if there is no memory, or if the first
     // node is a branch with no more children than `least`, or one below has so few that it is joined with its neighbour
     // first.
-    pub(crate) fn pop(&mut self, alloc: Global, end: End, least: usize) -> Result<T, AllocError>
+    pub(crate) fn pop(&mut self, alloc: Global, end: End, least: usize) -> Result<T, Blocked>
         requires copies { CopiesAreEqual T.is_clone }
         requires labels { CopiesAreEqual L.is_clone }
         requires some { 1 < length self.old.0 }
@@ -55,14 +55,14 @@ impl<T: Clone, L: Label<T> + Clone> Tree<T, L> {
         ensures items { OnOk result (self.new.0 ≡ spliced (place_at end (length self.old.0)) 1 [] self.old.0) }
         ensures height { self.new.1 ≡ self.old.1 }
         ensures spare { OnOk result (1 < least → CanLose self.old) }
-        ensures refused { OnErr result (self.new.0 ≡ self.old.0) }
+        ensures blocked { OnErr result (self.new.0 ≡ self.old.0) }
     {
         let children = match Arc::make_mut(&mut self.root, alloc)? {
             Node::Leaf(items) => return Ok(pop_in_leaf(items, end)),
             Node::Branch(children) => children,
         };
         if children.len() <= least {
-            return Err(AllocError);
+            return Err(Blocked);
         }
         let at = end.place(children.len());
         if children[at].len == 1 {
@@ -82,7 +82,7 @@ fn pop_leaf<T: Clone, L: Label<T> + Clone>(
     children: &mut Vec<Child<T, L>>,
     alloc: Global,
     at: usize,
-) -> Result<T, AllocError>
+) -> Result<T, Blocked>
     requires copies { CopiesAreEqual T.is_clone }
     requires labels { CopiesAreEqual L.is_clone }
     requires within { at < length children.old.items }
@@ -91,7 +91,7 @@ fn pop_leaf<T: Clone, L: Label<T> + Clone>(
     ensures item { IfOk result (λ item. (d : Child T L)
         → (slice_index_or children.old.items at d).tree.0 ≡ item ∷ []) }
     ensures gone { OnOk result (children.new.items ≡ remove children.old.items at) }
-    ensures refused { OnErr result (children.new.items ≡ children.old.items) }
+    ensures blocked { OnErr result (children.new.items ≡ children.old.items) }
 {
     // For the proof: its clause says that there is room for the leaf, if it has to go back.
     children.reserve(0)?;
@@ -103,7 +103,7 @@ fn pop_leaf<T: Clone, L: Label<T> + Clone>(
     let Ok(()) = children.insert(at, Child { label, len, tree }) else {
         unreachable!()
     };
-    Err(AllocError)
+    Err(Blocked)
 }
 
 impl End {

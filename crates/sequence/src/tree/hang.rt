@@ -29,17 +29,20 @@ impl<T: Clone, L: NewLabel<T>> Tree<T, L> {
         if self.shrink().is_err() || other.shrink().is_err() {
             return Err(self);
         }
-        if self.height() < other.height() {
-            other.hang(alloc, more, self, len, 0)?;
+        let height = self.height();
+        let others = other.height();
+        if height < others {
+            other.hang(alloc, more, self, len, 0, others - height)?;
             return Ok(other);
         }
-        match self.hang(alloc, len, other, more, len) {
+        match self.hang(alloc, len, other, more, len, height - others) {
             Ok(()) => Ok(self),
             Err(_) => Err(self),
         }
     }
 
-    // Puts the items of the other tree, which is no higher, before all items or behind all. A refusal gives it back.
+    // Puts the items of the other tree, which is so many levels lower, before all items or behind all. A refusal gives
+    // it back.
     fn hang(
         &mut self,
         alloc: Global,
@@ -47,13 +50,14 @@ impl<T: Clone, L: NewLabel<T>> Tree<T, L> {
         other: Tree<T, L>,
         more: usize,
         place: usize,
+        below: u8,
     ) -> Result<(), Tree<T, L>>
         requires copies { CopiesAreEqual T.is_clone }
         requires labels { CopiesAreEqual L.is_clone }
         requires len { len ≡ length self.old.0 }
         requires more { more ≡ length other.0 }
         requires wide { (2 ^ self.old.1 ≤ length self.old.0) × (2 ^ other.1 ≤ length other.0) }
-        requires low { other.1 ≤ self.old.1 }
+        requires low { other.1 + below ≡ self.old.1 }
         requires edge { (place ≡ 0) ⊎ (place ≡ len) }
         requires room { len + more < 2 ^ 64 }
         ensures items { OnOk result (self.new.0 ≡ spliced place 0 other.0 self.old.0) }
@@ -63,11 +67,9 @@ impl<T: Clone, L: NewLabel<T>> Tree<T, L> {
         let Ok(label) = L::new(other.item(0)) else {
             return Err(other);
         };
-        let height = other.height();
-        let Ok(()) = self.rise(alloc, len, height) else {
+        let Ok(below) = self.rise(alloc, len, below) else {
             return Err(other);
         };
-        let below = self.height() - height;
         let part = Child {
             label,
             len: more,
@@ -80,18 +82,21 @@ impl<T: Clone, L: NewLabel<T>> Tree<T, L> {
         }
     }
 
-    // Makes the tree higher if it is no higher than that, or its first node is full.
-    fn rise(&mut self, alloc: Global, len: usize, height: u8) -> Result<(), AllocError>
+    // Makes the tree one level higher if another is no lower, or its first node is full. It is told how many levels
+    // lower the other is, and says how many those are then.
+    fn rise(&mut self, alloc: Global, len: usize, below: u8) -> Result<u8, AllocError>
         requires labels { CopiesAreEqual L.is_clone }
         requires len { len ≡ length self.old.0 }
         requires wide { 2 ^ self.old.1 ≤ length self.old.0 }
-        requires low { height ≤ self.old.1 }
+        requires within { below ≤ self.old.1 }
         ensures items { self.new.0 ≡ self.old.0 }
-        ensures higher { OnOk result (height < self.new.1) }
+        ensures lower { IfOk result (λ levels. 0 < levels) }
+        ensures level { IfOk result (λ levels. self.new.1 + below ≡ self.old.1 + levels) }
     {
-        if self.height() > height && !self.is_full() {
-            return Ok(());
+        if below > 0 && !self.is_full() {
+            return Ok(below);
         }
-        self.raise(alloc, len)
+        self.raise(alloc, len)?;
+        Ok(below + 1)
     }
 }

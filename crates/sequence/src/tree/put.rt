@@ -16,13 +16,13 @@ pub(crate) struct PutIn<P>(pub(crate) P);
 impl<T: Drop, L: Label<T>, P: Put<T, L>> Act<T, L> for PutIn<P> {
     type Gone = P::Old;
 
-    ghost is_before = { λ put. P.is_before put.0 };
+    type Way = P;
 
-    ghost is_sought = { λ put. P.is_sought put.0 };
+    ghost way = { λ put. put.0 };
 
     ghost needs = { λ _ _. Unit {0} };
 
-    ghost does = { λ put. puts (λ e. P.is_sought put.0 (L.label_of e)) (P.made put.0) (P.replaced put.0) P.put_out };
+    ghost does = { λ put. puts (P.is_sought put.0) (P.made put.0) (P.replaced put.0) P.put_out };
 
     ghost GROWS = { true };
 
@@ -33,18 +33,8 @@ impl<T: Drop, L: Label<T>, P: Put<T, L>> Act<T, L> for PutIn<P> {
     const LOSES: bool = false;
 
     #[inline(always)]
-    fn item(&self, item: &T) -> bool {
-        self.0.item(item)
-    }
-
-    #[inline(always)]
-    fn label(&self, label: &L) -> bool {
-        self.0.label(label)
-    }
-
-    #[inline(always)]
-    fn is_sought(&self, item: &T) -> bool {
-        self.0.is_sought(item)
+    fn way(&self) -> &P {
+        &self.0
     }
 
     fn act(
@@ -75,10 +65,10 @@ impl<P> PutIn<P> {
     ) -> Result<Option<P::Old>, PutIn<P>>
     where
         P: Put<T, L>,
-        requires cut { IsCut (λ e. P.is_before self.0 (L.label_of e)) items.old.items place }
-        requires missed { IsMissed (λ e. P.is_sought self.0 (L.label_of e)) (last_of place items.old.items) }
-        ensures done { IfOk result (IsActed (λ e. P.is_before self.0 (L.label_of e))
-            (puts (λ e. P.is_sought self.0 (L.label_of e)) (P.made self.0) (P.replaced self.0) P.put_out) true false
+        requires cut { IsCut (P.is_before self.0) items.old.items place }
+        requires missed { IsMissed (P.is_sought self.0) (last_of place items.old.items) }
+        ensures done { IfOk result (IsActed (P.is_before self.0)
+            (puts (P.is_sought self.0) (P.made self.0) (P.replaced self.0) P.put_out) true false
             items.old.items items.new.items) }
         ensures first { IsTrue labelled
             → first_label L.label_of items.new.items ≡ first_label L.label_of items.old.items }

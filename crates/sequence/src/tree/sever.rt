@@ -7,20 +7,20 @@ use crate::label::NewLabel;
 use crate::tree::insert::meet;
 use crate::tree::search::{Spot, spot_of};
 use crate::tree::split::{half_of_branch, half_of_leaf};
-use crate::tree::{Child, Node, Tree};
+use crate::tree::{Blocked, Child, Node, Tree};
 use handles::arc::Arc;
-use std::alloc::{AllocError, Global};
+use std::alloc::Global;
 
 impl<T: Clone, L: NewLabel<T>> Tree<T, L> {
     // Takes the items from that place on out, into a child. `least` is how many items a child of this height has at
-    // least. A refusal leaves the items, but maybe in more nodes.
+    // least. If it is blocked, the items stay, but maybe in more nodes.
     #[cycle(sever)]
     pub(crate) fn sever(
         &mut self,
         alloc: Global,
         place: usize,
         least: usize,
-    ) -> Result<Child<T, L>, AllocError>
+    ) -> Result<Child<T, L>, Blocked>
         requires copies { CopiesAreEqual T.is_clone }
         requires labels { CopiesAreEqual L.is_clone }
         requires least { least ≡ 2 ^ self.old.1 }
@@ -28,11 +28,11 @@ impl<T: Clone, L: NewLabel<T>> Tree<T, L> {
         requires back { place + least ≤ length self.old.0 }
         ensures halves { IfOk result (AreHalves L.label_of self.old self.new) }
         ensures kept { OnOk result (length self.new.0 ≡ place) }
-        ensures refused { OnErr result (self.new ≡ self.old) }
+        ensures blocked { OnErr result (self.new ≡ self.old) }
     {
         let node = Arc::make_mut(&mut self.root, alloc)?;
         match node {
-            Node::Leaf(items) => half_of_leaf(items, alloc, place),
+            Node::Leaf(items) => Ok(half_of_leaf(items, alloc, place)?),
             Node::Branch(children) => sever_under(children, alloc, place, least),
         }
     }
@@ -45,7 +45,7 @@ fn sever_under<T: Clone, L: NewLabel<T>>(
     alloc: Global,
     place: usize,
     least: usize,
-) -> Result<Child<T, L>, AllocError>
+) -> Result<Child<T, L>, Blocked>
     requires copies { CopiesAreEqual T.is_clone }
     requires labels { CopiesAreEqual L.is_clone }
     requires children { AreChildren L.label_of children.old.items }
@@ -56,7 +56,7 @@ fn sever_under<T: Clone, L: NewLabel<T>>(
     ensures halves { IfOk result (AreHalves L.label_of (items_in children.old.items, height_in children.old.items)
         (items_in children.new.items, height_in children.new.items)) }
     ensures kept { OnOk result (length (items_in children.new.items) ≡ place) }
-    ensures refused { OnErr result (StandFor L.label_of children.old.items children.new.items) }
+    ensures blocked { OnErr result (StandFor L.label_of children.old.items children.new.items) }
 {
     let at = edge_at(children, alloc, place, least)?;
     if at + 1 < children.len() {
@@ -76,7 +76,7 @@ fn edge_at<T: Clone, L: NewLabel<T>>(
     alloc: Global,
     place: usize,
     least: usize,
-) -> Result<usize, AllocError>
+) -> Result<usize, Blocked>
     requires copies { CopiesAreEqual T.is_clone }
     requires labels { CopiesAreEqual L.is_clone }
     requires children { AreChildren L.label_of children.old.items }
@@ -95,7 +95,7 @@ fn edge_at<T: Clone, L: NewLabel<T>>(
     }
     // A part of the child may have too few items for its height.
     if place < least / 2 || children[child].len - place < least / 2 {
-        return Err(AllocError);
+        return Err(Blocked);
     }
     children.reserve(1)?;
     let left = &mut children[child];

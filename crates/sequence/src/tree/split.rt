@@ -1,5 +1,5 @@
 //! How a full node becomes two: the last of what it has moves into a block that was taken before.
-ghost use Rattle.std.specs.Prelude.{◌≡◌, ℕ, ◌+◌, ◌<◌, ◌^◌, ◌≤◌, IfOk, IsTrue, OnErr, OnOk};
+ghost use Rattle.std.specs.Prelude.{◌≡◌, ℕ, ◌+◌, ◌<◌, ◌^◌, ◌≤◌, IfNone, IfOk, IfSome, IsTrue, OnErr, OnOk};
 ghost use Rattle.std.specs.Prelude.{drop, length, slice_index_or, take};
 ghost use Rattle.handles.specs.Copies.{CopiesAreEqual};
 ghost use Rattle.sequence.specs.Nodes.{AreChildren, AreHalves, CanLose, IsChild, IsList, IsNode, StandFor};
@@ -96,7 +96,9 @@ pub(crate) fn room_under<T: Clone, L: NewLabel<T>>(
     }
     let ends = grows & (place == children[child].len);
     children.reserve(1)?;
-    let right = children[child].halve(alloc, ends)?;
+    let Some(right) = children[child].halve(alloc, ends)? else {
+        return Ok(spot);
+    };
     let left = children[child].len;
     let Ok(()) = children.insert(child + 1, right) else {
         unreachable!()
@@ -121,32 +123,35 @@ impl Spot {
 }
 
 impl<T: Clone, L: NewLabel<T>> Child<T, L> {
-    // The last part of a child whose first node is full, and which keeps the first one. Another child is refused, which
-    // nobody asks for.
-    fn halve(&mut self, alloc: Global, ends: bool) -> Result<Child<T, L>, AllocError>
+    // The last part of a child whose first node is full, and which keeps the first part.
+    fn halve(&mut self, alloc: Global, ends: bool) -> Result<Option<Child<T, L>>, AllocError>
         requires copies { CopiesAreEqual T.is_clone }
         requires labels { CopiesAreEqual L.is_clone }
         requires child { IsChild (self.old.tree.1 + 1) self.old }
         ensures child { OnOk result (IsChild (self.old.tree.1 + 1) self.new) }
         ensures label { self.new.label ≡ self.old.label }
-        ensures halves { IfOk result (AreHalves L.label_of self.old.tree self.new.tree) }
-        ensures spare { IfOk result (λ right. CanLose self.new.tree × CanLose right.tree) }
+        ensures halves { IfOk result (λ half. IfSome half (AreHalves L.label_of self.old.tree self.new.tree)) }
+        ensures spare { IfOk result (λ half. IfSome half (λ right. CanLose self.new.tree × CanLose right.tree)) }
+        ensures whole { IfOk result (λ half. IfNone half (self.new ≡ self.old)) }
         ensures refused { OnErr result (self.new ≡ self.old) }
     {
-        let right = self.tree.halve(alloc, ends)?;
+        let Some(right) = self.tree.halve(alloc, ends)? else {
+            return Ok(None);
+        };
         self.len -= right.len;
-        Ok(right)
+        Ok(Some(right))
     }
 }
 
 impl<T: Clone, L: NewLabel<T>> Tree<T, L> {
     // The same of a tree.
     #[inline(never)]
-    fn halve(&mut self, alloc: Global, ends: bool) -> Result<Child<T, L>, AllocError>
+    fn halve(&mut self, alloc: Global, ends: bool) -> Result<Option<Child<T, L>>, AllocError>
         requires copies { CopiesAreEqual T.is_clone }
         requires labels { CopiesAreEqual L.is_clone }
-        ensures halves { IfOk result (AreHalves L.label_of self.old self.new) }
-        ensures spare { IfOk result (λ right. CanLose self.new × CanLose right.tree) }
+        ensures halves { IfOk result (λ half. IfSome half (AreHalves L.label_of self.old self.new)) }
+        ensures spare { IfOk result (λ half. IfSome half (λ right. CanLose self.new × CanLose right.tree)) }
+        ensures whole { IfOk result (λ half. IfNone half (self.new ≡ self.old)) }
         ensures refused { OnErr result (self.new ≡ self.old) }
     {
         let node = Arc::make_mut(&mut self.root, alloc)?;
@@ -156,24 +161,29 @@ impl<T: Clone, L: NewLabel<T>> Tree<T, L> {
 
 impl<T: Drop, L: NewLabel<T>> Node<T, L> {
     // The same of a node.
-    pub(crate) fn halve(&mut self, alloc: Global, ends: bool) -> Result<Child<T, L>, AllocError>
+    pub(crate) fn halve(
+        &mut self,
+        alloc: Global,
+        ends: bool,
+    ) -> Result<Option<Child<T, L>>, AllocError>
         requires labels { CopiesAreEqual L.is_clone }
         requires node { IsNode L.label_of self.old }
         ensures node { IsNode L.label_of self.new }
-        ensures halves { IfOk result (AreHalves L.label_of (seen self.old) (seen self.new)) }
-        ensures spare { IfOk result (λ right. CanLose (seen self.new) × CanLose right.tree) }
+        ensures halves { IfOk result (λ half. IfSome half (AreHalves L.label_of (seen self.old) (seen self.new))) }
+        ensures spare { IfOk result (λ half. IfSome half (λ right. CanLose (seen self.new) × CanLose right.tree)) }
+        ensures whole { IfOk result (λ half. IfNone half (seen self.new ≡ seen self.old)) }
         ensures refused { OnErr result (seen self.new ≡ seen self.old) }
     {
         match self {
             Node::Leaf(items) if items.len() >= leaf_width(items) => {
                 let keep = kept(items.len(), leaf_width(items), ends);
-                half_of_leaf(items, alloc, keep)
+                Ok(Some(half_of_leaf(items, alloc, keep)?))
             }
             Node::Branch(children) if children.len() >= BRANCH => {
                 let keep = kept(children.len(), BRANCH, ends);
-                half_of_branch(children, alloc, keep)
+                Ok(Some(half_of_branch(children, alloc, keep)?))
             }
-            _ => Err(AllocError),
+            _ => Ok(None),
         }
     }
 }

@@ -13,13 +13,13 @@ pub(crate) struct Take<C>(pub(crate) C);
 impl<T: Drop, L: Label<T>, C: Seek<T, L> + Drop> Act<T, L> for Take<C> {
     type Gone = T;
 
-    ghost is_before = { λ take. C.is_before take.0 };
+    type Way = C;
 
-    ghost is_sought = { λ take. C.is_sought take.0 };
+    ghost way = { λ take. take.0 };
 
     ghost needs = { λ _ _. Unit {0} };
 
-    ghost does = { λ take. takes (λ e. C.is_sought take.0 (L.label_of e)) };
+    ghost does = { λ take. takes (C.is_sought take.0) };
 
     ghost GROWS = { false };
 
@@ -30,18 +30,8 @@ impl<T: Drop, L: Label<T>, C: Seek<T, L> + Drop> Act<T, L> for Take<C> {
     const LOSES: bool = true;
 
     #[inline(always)]
-    fn item(&self, item: &T) -> bool {
-        self.0.item(item)
-    }
-
-    #[inline(always)]
-    fn label(&self, label: &L) -> bool {
-        self.0.label(label)
-    }
-
-    #[inline(always)]
-    fn is_sought(&self, item: &T) -> bool {
-        self.0.is_sought(item)
+    fn way(&self) -> &C {
+        &self.0
     }
 
     fn act(

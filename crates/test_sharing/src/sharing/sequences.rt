@@ -2,7 +2,7 @@
 use sequence::Sequence;
 use std::alloc::{AllocError, Global};
 use testing::counted::{Counted, Tally, counted_items};
-use testing::{ok, same, same_at};
+use testing::{again, holds, ok, same, same_at};
 
 fn sequence_of<'a>(
     alloc: Global,
@@ -13,7 +13,7 @@ fn sequence_of<'a>(
 }
 
 // The contracts say what each call makes, but not that it succeeds, nor what it copies: `replace` the leaf of six,
-// `swap` the leaf and an item, `retain` each item, and `truncate` none.
+// `swap` the leaf and an item, `retain` what it keeps, and `truncate` none. A `retain` of all changes no node.
 #[test]
 fn a_sequence_is_changed_as_a_vector_is(rt: HostRuntime) {
     let (alloc, tally) = (rt.alloc(), Tally::new());
@@ -29,6 +29,10 @@ fn a_sequence_is_changed_as_a_vector_is(rt: HostRuntime) {
         counted.value != 2
     });
     same!(&rt, (retained, asked), (Ok(()), 6));
+    let before = again!(&rt, &list);
+    ok!(&rt, list.retain(alloc, |_| true));
+    holds!(&rt, Sequence::ptr_eq(&list, &before));
+    drop(before);
     ok!(&rt, list.truncate(alloc, 4));
     same!(&rt, out.len(), 3);
     same!(&rt, list.len(), 4);
@@ -38,7 +42,7 @@ fn a_sequence_is_changed_as_a_vector_is(rt: HostRuntime) {
     same!(&rt, found, [true, false]);
     list.clear();
     let left = (list.len(), tally.copies(), tally.living(9));
-    same!(&rt, left, (0, 19, 3));
+    same!(&rt, left, (0, 23, 3));
 }
 
 // A leaf has room for 128 numbers of 8 bytes, and one more begins a second leaf under a branch.

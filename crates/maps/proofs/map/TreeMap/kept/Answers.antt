@@ -6,7 +6,8 @@ use Rattle.std.proofs.lemmas.Result.{IfOk-weaker, MatchResult-weaker}
 use Rattle.maps.specs.Changes.{AskedOf}
 use Rattle.maps.specs.Maps.{IsRising}
 use Rattle.maps.proofs.Copied.{pairs_equal}
-use Rattle.maps.proofs.Kept.{filtered_all, kept_all, kept_no, kept_yes, rising_kept}
+use Rattle.sequence.proofs.Lists.Kept.{filtered_all, kept_all, kept_no, kept_yes}
+use Rattle.maps.proofs.Kept.{rising_kept}
 use Rattle.maps.proofs.map.TreeMap.kept.Given as given
 use Rattle.maps.proofs.map.TreeMap.kept.Goals as goal
 use Rattle.maps.proofs.map.TreeMap.kept.Goals.{In-None}

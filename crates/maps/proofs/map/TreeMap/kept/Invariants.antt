@@ -1,5 +1,5 @@
 use Rattle.maps.specs.Changes.{AskedOf}
-use Rattle.maps.proofs.Kept.{AreKept}
+use Rattle.sequence.proofs.Lists.Kept.{AreKept}
 use Rattle.maps.proofs.map.TreeMap.kept.Given as goal
 
 -- the copies so far, and what is kept of the rest, are what is kept of all

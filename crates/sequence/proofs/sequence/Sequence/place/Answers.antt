@@ -21,7 +21,7 @@ overflow_add-result g c = omega (arith, c.in-Some.ensures.number.within, c.len.e
 
 pub returns-in-Some-2 : goal.returns-in-Some-2
 returns-in-Some-2 g c =
-    let sought = λ (e : g.row.T.Denot). g.C.Seek.is_sought c.args.cut (g.L.Label.label_of e) in
+    let sought = g.C.Seek.is_sought c.args.cut.now in
     let found = c.in-Some in
     record {
       cut = found.ensures.number;

@@ -4,14 +4,14 @@ use Rattle.sequence.proofs.sequence.Sequence.put_in.Goals as goal
 
 pub returns-in-Ok-clause-replaced : goal.returns-in-Ok-clause-replaced
 returns-in-Ok-clause-replaced g c =
-    let test = λ (e : g.row.T.Denot). g.P.Put.is_before c.args.new (g.L.Label.label_of e) in
-    let sought = λ (e : g.row.T.Denot). g.P.Put.is_sought c.args.new (g.L.Label.label_of e) in
+    let test = g.P.Cut.is_before c.args.new in
+    let sought = g.P.Seek.is_sought c.args.new in
     says_replaced sought test c.args.self.now c.act.new.self (g.P.Put.made c.args.new) (g.P.Put.replaced c.args.new)
     g.P.Put.put_out true false c.in-Ok.old c.in-Ok.ensures.done
 
 pub returns-in-Ok-clause-added : goal.returns-in-Ok-clause-added
 returns-in-Ok-clause-added g c =
-    let test = λ (e : g.row.T.Denot). g.P.Put.is_before c.args.new (g.L.Label.label_of e) in
-    let sought = λ (e : g.row.T.Denot). g.P.Put.is_sought c.args.new (g.L.Label.label_of e) in
+    let test = g.P.Cut.is_before c.args.new in
+    let sought = g.P.Seek.is_sought c.args.new in
     says_added sought test c.args.self.now c.act.new.self (g.P.Put.made c.args.new) (g.P.Put.replaced c.args.new)
     g.P.Put.put_out true false c.in-Ok.old c.in-Ok.ensures.done

@@ -10,9 +10,9 @@ half_of_branch-requires-clause-sides g c =
     let more = sides _ keep.result (rw c.in-Branch.is at c.requires.node) keep.ensures.low high in
     (omega (arith, more.0), omega (arith, more.1))
 
-pub returns-in-Branch-clause-spare : goal.returns-in-Branch-clause-spare
-returns-in-Branch-clause-spare g c =
+pub returns-in_ok-half_of_branch-in-Branch-clause-spare : goal.returns-in_ok-half_of_branch-in-Branch-clause-spare
+returns-in_ok-half_of_branch-in-Branch-clause-spare g c =
     let keep = c.kept-keep-in-Branch in
     let high : keep.result + 2 < length c.in-Branch.children.items = omega arith in
-    both_spare _ keep.result (rw c.in-Branch.is at c.requires.node) keep.ensures.low high _ c.half_of_branch.result
-    c.half_of_branch.ensures.kept c.half_of_branch.ensures.halves
+    both_spare _ keep.result (rw c.in-Branch.is at c.requires.node) keep.ensures.low high _ _
+    c.in_ok-half_of_branch-in-Branch.ensures.kept c.in_ok-half_of_branch-in-Branch.ensures.halves

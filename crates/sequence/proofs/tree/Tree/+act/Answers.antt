@@ -10,7 +10,7 @@ use Rattle.sequence.specs.Nodes.{CanLose, first_label, items_in}
 use Rattle.sequence.proofs.Cutting.Acted.{acted_under, child_holds, first_set_in, none_cut, not_thin, some_cut}
 use Rattle.sequence.proofs.Cutting.Acted.{sought_there}
 use Rattle.sequence.proofs.Cutting.Acts.{read_again}
-use Rattle.sequence.proofs.Calls.{both, of_four}
+use Rattle.sequence.proofs.Calls.{both, of_five}
 use Rattle.sequence.proofs.Nodes.Copied.{made}
 use Rattle.sequence.proofs.Cuts.{has_part}
 use Rattle.sequence.proofs.Nodes.Wide.{height_some}
@@ -22,22 +22,22 @@ use Rattle.sequence.proofs.tree.Tree.+act.Goals.{act_under-else-LOSES-via-then-L
 
 pub act-last_in-last-requires : goal.act-last_in-last-requires
 act-last_in-last-requires g t c =
-    let test = λ (e : g.row.T.Denot). g.A.Act.is_before c.args.act (g.L.Label.label_of e) in
+    let test = g.A.Way.Cut.is_before (g.A.Act.way c.args.act) in
     let node = rw c.in-Leaf.is at (made g.L.Label.label_of c.args.self.now c.self.inside.root c.in-Ok.node.now
     c.self.invariant c.self.view_is c.in-Ok.ensures.value (c.requires.copies, c.requires.labels)) in
     let has = subst (λ tree. HasCut test tree.0) (sym node.same) c.requires.cut in
-    rw c.deref.ensures.value (record { cut = has; some = node.whole.some })
+    rw c.way.ensures (rw c.deref.ensures.value (record { cut = has; some = node.whole.some }))
 
 pub act-act-requires : goal.act-act-requires
 act-act-requires g t c =
-    let test = λ (e : g.row.T.Denot). g.A.Act.is_before c.args.act (g.L.Label.label_of e) in
-    let sought = λ (e : g.row.T.Denot). g.A.Act.is_sought c.args.act (g.L.Label.label_of e) in
+    let test = g.A.Way.Cut.is_before (g.A.Act.way c.args.act) in
+    let sought = g.A.Way.Seek.is_sought (g.A.Act.way c.args.act) in
     let node = rw c.in-Leaf.is at (made g.L.Label.label_of c.args.self.now c.self.inside.root c.in-Ok.node.now
     c.self.invariant c.self.view_is c.in-Ok.ensures.value (c.requires.copies, c.requires.labels)) in
     let es = c.in-Leaf.items.items in
     let has = subst (λ tree. HasCut test tree.0) (sym node.same) c.requires.cut in
-    let none = rw c.deref.ensures.value at c.last_in-last.ensures.none in
-    let some = rw c.deref.ensures.value at c.last_in-last.ensures.some in
+    let none = rw c.way.ensures at (rw c.deref.ensures.value at c.last_in-last.ensures.none) in
+    let some = rw c.way.ensures at (rw c.deref.ensures.value at c.last_in-last.ensures.some) in
     record {
       none = none_cut test es has c.last_in-last.result none;
       some = some_cut test es has c.last_in-last.result some;
@@ -47,7 +47,7 @@ act-act-requires g t c =
 
 pub act-returns-in-Leaf-clause-done : goal.act-returns-in-Leaf-clause-done
 act-returns-in-Leaf-clause-done g t c =
-    let test = λ (e : g.row.T.Denot). g.A.Act.is_before c.args.act (g.L.Label.label_of e) in
+    let test = g.A.Way.Cut.is_before (g.A.Act.way c.args.act) in
     let ok : IsOk c.make_mut.result = search rules in
     let node = rw c.in-Leaf.is at (made g.L.Label.label_of c.args.self.now c.self.inside.root c.in-Ok.node.now
     c.self.invariant c.self.view_is c.in-Ok.ensures.value (c.requires.copies, c.requires.labels)) in
@@ -59,21 +59,21 @@ act-returns-in-Leaf-clause-done g t c =
 
 pub act-act_under-requires : goal.act-act_under-requires
 act-act_under-requires g t c κs within =
-    let test = λ (e : g.row.T.Denot). g.A.Act.is_before c.args.act (g.L.Label.label_of e) in
-    let sought = λ (e : g.row.T.Denot). g.A.Act.is_sought c.args.act (g.L.Label.label_of e) in
+    let test = g.A.Way.Cut.is_before (g.A.Act.way c.args.act) in
+    let sought = g.A.Way.Seek.is_sought (g.A.Act.way c.args.act) in
     let node = rw c.in-Branch.is at (made g.L.Label.label_of c.args.self.now c.self.inside.root c.in-Ok.node.now
     c.self.invariant c.self.view_is c.in-Ok.ensures.value (c.requires.copies, c.requires.labels)) in
     let has = subst (λ tree. HasCut test tree.0) (sym node.same) c.requires.cut in
     let some = height_some c.in-Branch.children.items node.whole in
     let asks = g.A.Act.needs c.args.act in
     let needs = subst (λ tree. OfSought sought test asks tree.0) (sym node.same) c.requires.needs in
-    of_four (omega (arith, c.decreases, ap (λ t. t.1) node.same, some)) within
+    of_five (omega (arith, c.decreases, ap (λ t. t.1) node.same, some)) within
     (both c.requires.copies (both c.requires.labels (both node.whole
     (both has (both needs (omega (arith, c.requires.room, ap (λ t. length t.0) node.same)))))))
 
 pub act-returns-clause-done : goal.act-returns-clause-done
 act-returns-clause-done g t c =
-    let test = λ (e : g.row.T.Denot). g.A.Act.is_before c.args.act (g.L.Label.label_of e) in
+    let test = g.A.Way.Cut.is_before (g.A.Act.way c.args.act) in
     let ok : IsOk c.make_mut.result = search rules in
     let node = rw c.in-Branch.is at (made g.L.Label.label_of c.args.self.now c.self.inside.root c.in-Ok.node.now
     c.self.invariant c.self.view_is c.in-Ok.ensures.value (c.requires.copies, c.requires.labels)) in
@@ -85,14 +85,14 @@ act-returns-clause-done g t c =
 
 pub act_under-act-requires : goal.act_under-act-requires
 act_under-act-requires g t c κs within =
-    let test = λ (e : g.row.T.Denot). g.A.Act.is_before c.args.act (g.L.Label.label_of e) in
-    let sought = λ (e : g.row.T.Denot). g.A.Act.is_sought c.args.act (g.L.Label.label_of e) in
+    let test = g.A.Way.Cut.is_before (g.A.Act.way c.args.act) in
+    let sought = g.A.Way.Seek.is_sought (g.A.Act.way c.args.act) in
     let cs = c.args.children.now.items in
     let at = c.child_of-at.result in
     let d = c.index_mut-child.result.now in
     let is = c.index_mut-child.ensures.value in
     let are = c.requires.children in
-    let under = rw c.deref.ensures.value at c.child_of-at.ensures in
+    let under = rw c.way.ensures at (rw c.deref.ensures.value at c.child_of-at.ensures) in
     let holds = child_holds g.L.Label.label_of cs at d d under.within is test c.requires.cut under.among in
     let can : g.A.Act.LOSES ≡ true → CanLose d.tree = elim c.else-LOSES.branch [
       | act_under-else-LOSES-via-then-LOSES+else-is_thin w ↦ λ loses.
@@ -106,7 +106,7 @@ act_under-act-requires g t c κs within =
     let part = has_part test d.tree.0 (items_in cs) start c.requires.cut holds in
     let needs = sought_there test d.tree.0 (items_in cs) start c.requires.cut holds sought (g.A.Act.needs c.args.act)
     c.requires.needs in
-    of_four (omega (arith, c.decreases, ap (λ child. child.tree.1) is, (are.each at d under.within).level)) within
+    of_five (omega (arith, c.decreases, ap (λ child. child.tree.1) is, (are.each at d under.within).level)) within
     (both c.requires.copies (both c.requires.labels (both part (both needs
     (both (λ loses. omega (arith, can loses, pow_pos d.tree.1))
     (omega (arith, child_within cs at d are under.within is, c.requires.room)))))))
@@ -140,13 +140,13 @@ act_under-len_after-child-requires g t c =
 
 pub act_under-returns : goal.act_under-returns
 act_under-returns g t c =
-    let test = λ (e : g.row.T.Denot). g.A.Act.is_before c.args.act (g.L.Label.label_of e) in
+    let test = g.A.Way.Cut.is_before (g.A.Act.way c.args.act) in
     let cs = c.args.children.now.items in
     let at = c.child_of-at.result in
     let d = c.index_mut-child.result.now in
     let is = c.index_mut-child.ensures.value in
     let are = c.requires.children in
-    let under = rw c.deref.ensures.value at c.child_of-at.ensures in
+    let under = rw c.way.ensures at (rw c.deref.ensures.value at c.child_of-at.ensures) in
     let first = c.act.ensures.first in
     let answer = c.in_ok-gone.gone in
     let new = record d { len = c.len_after-child.result; tree = c.act.new.self } in

@@ -54,7 +54,7 @@ done g t c =
           (omega (arith, ap (λ t. length t.0) node.same, node.whole.list.room)) c.pop-popped.new.self
           (d.len - c.from.result) c.pop-popped.result
           (on_ok c.pop-popped.result (λ can. let spare = can (omega arith) in omega (arith, spare)) popped.spare)
-          popped.items popped.refused popped.height fewer same,
+          popped.items popped.blocked popped.height fewer same,
     )
 
 -- the same where a leaf goes with its only item
@@ -75,7 +75,7 @@ gone g t c =
     let d = c.index.result.now in
     let done = c.pop_leaf.ensures in
     let all = leaf_gone c.args.self.now cs i d node.whole node.same h c.index.ensures c.args.end first c.requires.some
-    c.pop_leaf.new.children.items c.pop_leaf.result done.item done.gone done.refused in (
+    c.pop_leaf.new.children.items c.pop_leaf.result done.item done.gone done.blocked in (
       all.0,
       λ low. can_lose c.args.self.now cs i d node.whole node.same h c.index.ensures
           (omega (arith, low, c.if-len-least.false, c.len.ensures)),
@@ -96,7 +96,7 @@ returns-then-index-eq1 g t c =
       items = done.2.items;
       height = done.2.height;
       spare = on_ok c.pop_leaf.result (λ _. done.1) done.2.items;
-      refused = done.2.refused;
+      blocked = done.2.refused;
     })
 
 pub invariant_of-self-2 : goal.invariant_of-self-2
@@ -113,5 +113,5 @@ returns g t c =
       items = done.2.items;
       height = done.2.height;
       spare = on_ok c.pop-popped.result (λ _. done.1) done.2.items;
-      refused = done.2.refused;
+      blocked = done.2.refused;
     })

@@ -10,7 +10,7 @@ use Rattle.sequence.proofs.tree.Tree.find.Goals as goal
 
 pub down-init : goal.down-init
 down-init g c =
-    let test = λ (e : g.row.T.Denot). g.C.Cut.is_before c.args.cut (g.L.Label.label_of e) in
+    let test = g.C.Cut.is_before c.args.cut.now in
     let node = c.node-node.ensures in
     let all = c.args.self.now.0 in
     record {
@@ -21,40 +21,40 @@ down-init g c =
 
 pub last_in-requires-clause-cut : goal.last_in-requires-clause-cut
 last_in-requires-clause-cut g c =
-    let test = λ (e : g.row.T.Denot). g.C.Cut.is_before c.args.cut (g.L.Label.label_of e) in
+    let test = g.C.Cut.is_before c.args.cut.now in
     let holds = rw c.in-Leaf.is at c.down.invariant.holds in
     rw c.deref.ensures.value (has_part test c.in-Leaf.items.items c.args.self.now.0 c.down.start c.requires holds)
 
 pub returns-in-None-clause-none : goal.returns-in-None-clause-none
 returns-in-None-clause-none g c =
-    let test = λ (e : g.row.T.Denot). g.C.Cut.is_before c.args.cut (g.L.Label.label_of e) in
+    let test = g.C.Cut.is_before c.args.cut.now in
     let holds = rw c.in-Leaf.is at c.down.invariant.holds in
     let none = rw c.deref.ensures.value at c.in-None.ensures.none in
     none_before test c.in-Leaf.items.items c.args.self.now.0 c.down.start c.requires holds none
 
 pub overflow_add-result : goal.overflow_add-result
 overflow_add-result g c =
-    let test = λ (e : g.row.T.Denot). g.C.Cut.is_before c.args.cut (g.L.Label.label_of e) in
+    let test = g.C.Cut.is_before c.args.cut.now in
     let room = rw c.in-Leaf.is at c.down.invariant.room in
     let some = rw c.deref.ensures.value at c.in-Some.ensures.some in
     omega (arith, room, some, prefix_len-le-length test c.in-Leaf.items.items)
 
 pub index-requires : goal.index-requires
 index-requires g c =
-    let test = λ (e : g.row.T.Denot). g.C.Cut.is_before c.args.cut (g.L.Label.label_of e) in
+    let test = g.C.Cut.is_before c.args.cut.now in
     let some = rw c.deref.ensures.value at c.in-Some.ensures.some in
     omega (arith, c.in-Leaf.items.ok.0, some, prefix_len-le-length test c.in-Leaf.items.items)
 
 pub returns-in-Some-clause-number : goal.returns-in-Some-clause-number
 returns-in-Some-clause-number g c =
-    let test = λ (e : g.row.T.Denot). g.C.Cut.is_before c.args.cut (g.L.Label.label_of e) in
+    let test = g.C.Cut.is_before c.args.cut.now in
     let holds = rw c.in-Leaf.is at c.down.invariant.holds in
     let some = rw c.deref.ensures.value at c.in-Some.ensures.some in
     last_cut test c.in-Leaf.items.items c.args.self.now.0 c.down.start c.requires holds c.in-Some.at some
 
 pub returns-in-Some-clause-item : goal.returns-in-Some-clause-item
 returns-in-Some-clause-item g c =
-    let test = λ (e : g.row.T.Denot). g.C.Cut.is_before c.args.cut (g.L.Label.label_of e) in
+    let test = g.C.Cut.is_before c.args.cut.now in
     let holds = rw c.in-Leaf.is at c.down.invariant.holds in
     let some = rw c.deref.ensures.value at c.in-Some.ensures.some in
     last_item test c.in-Leaf.items.items c.args.self.now.0 c.down.start c.requires holds c.in-Some.at _ some
@@ -62,7 +62,7 @@ returns-in-Some-clause-item g c =
 
 pub child_of-at-requires-clause-cut : goal.child_of-at-requires-clause-cut
 child_of-at-requires-clause-cut g c =
-    let test = λ (e : g.row.T.Denot). g.C.Cut.is_before c.args.cut (g.L.Label.label_of e) in
+    let test = g.C.Cut.is_before c.args.cut.now in
     let holds = rw c.in-Branch.is at c.down.invariant.holds in
     rw c.deref-in-Branch.ensures.value
     (has_part test (items_in c.in-Branch.children.items) c.args.self.now.0 c.down.start c.requires holds)
@@ -83,7 +83,7 @@ overflow_add-start g c =
 
 pub down-preserved : goal.down-preserved
 down-preserved g c =
-    let test = λ (e : g.row.T.Denot). g.C.Cut.is_before c.args.cut (g.L.Label.label_of e) in
+    let test = g.C.Cut.is_before c.args.cut.now in
     let all = c.args.self.now.0 in
     let cs = c.in-Branch.children.items in
     let at = c.child_of-at.result in

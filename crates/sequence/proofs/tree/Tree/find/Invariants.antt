@@ -6,7 +6,7 @@ use Rattle.sequence.proofs.tree.Tree.find.Given as goal
 -- the node has the cut, or it is before all
 abbrev pub invariant-down : goal.invariant-down
 invariant-down g l = record {
-  holds : Holds (λ e. g.C.Cut.is_before l.cut (g.L.Label.label_of e)) (seen l.node).0 l.start l.self.0;
+  holds : Holds (g.C.Cut.is_before l.cut) (seen l.node).0 l.start l.self.0;
   room : l.start + length (seen l.node).0 < 2 ^ 64;
   whole : IsNode g.L.Label.label_of l.node;
 }

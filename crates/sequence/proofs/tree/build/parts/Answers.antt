@@ -11,7 +11,8 @@ returns g c =
     let here = c.off.invariant in
     let child = c.in_ok-into_child.field-0 in
     let same : child.tree ≡ seen c.off.node =
-    c.in_ok-into_child.ensures.tree ∙ c.in_ok-tree.ensures ∙ c.fit.ensures.same in
+    c.in_ok-into_child.ensures.tree ∙ c.in_ok-tree.ensures ∙ c.fit.ensures.same
+    ∙ rw c.in_default.is at c.in_ok-child.ensures.whole in
     let level : IsChild (tree.1 + 1) child =
     subst (λ h. IsChild (h + 1) child) here.height
     (child_is (seen c.off.node) child same (c.in_ok-into_child.ensures.len ∙ here.len) here.wide) in
@@ -26,8 +27,8 @@ pub off-preserved : goal.off-preserved
 off-preserved g c =
     let tree = seen c.args.node in
     let before = c.off.invariant in
-    let half = c.in_ok-child.child in
-    let halves = c.in_ok-child.ensures.halves in
+    let half = c.in-Some.child in
+    let halves = rw c.in-Some.is at c.in_ok-child.ensures.halves in
     let level : IsChild (tree.1 + 1) half = subst (λ n. IsChild (n + 1) half) before.height halves.child in
     let lengths = ap (λ es. length es) halves.items in
     let more = length-append (seen c.halve.new.self).0 half.tree.0 in

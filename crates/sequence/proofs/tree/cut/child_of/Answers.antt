@@ -62,11 +62,10 @@ along-preserved g c =
     let was = c.along.invariant in
     let within : seen + 1 < length cs = omega (arith, c.along-test.true, was.within) in
     let read =
-    c.label.ensures
-    ∙ label_read g.L.Label.label_of (g.C.Cut.is_before c.args.cut) cs c.requires.children c.requires.cut (seen + 1)
-    c.index-children-seen.result (omega arith) within in
+    label_read g.L.Label.label_of (g.C.Cut.is_before c.args.cut.now) cs c.requires.children c.requires.cut (seen + 1)
+    c.index-children-seen.result (omega arith) within c.label.result c.label.ensures in
     let more = counted (λ (i : ℕ). length (items_in (take i cs)))
-    (first (λ e. g.C.Cut.is_before c.args.cut (g.L.Label.label_of e)) (items_in cs)) at seen _ was.behind was.before
+    (first (g.C.Cut.is_before c.args.cut.now) (items_in cs)) at seen _ was.behind was.before
     was.to (λ less. length-sooner cs (at + 1) (seen + 1) (omega (arith, less)))
     (ap (λ n. at + n) (c.from-at.ensures ∙ ap from_bool read)) in
     record { within = within; behind = more.behind; before = more.before; to = more.to }
@@ -76,7 +75,7 @@ returns-clause-among g c =
     let cs = c.args.children.now in
     let at = c.along.at in
     let seen = c.along.invariant in
-    let test = λ (e : g.row.T.Denot). g.C.Cut.is_before c.args.cut (g.L.Label.label_of e) in
+    let test = g.C.Cut.is_before c.args.cut.now in
     record {
       behind = seen.before;
       up = elim (cases_lt at c.along.seen) [

@@ -6,7 +6,7 @@ use Rattle.sequence.proofs.tree.cut.child_of.Given as goal
 -- the children whose first item is before the cut are counted, of those that were seen
 abbrev pub invariant-along : goal.invariant-along
 invariant-along g l =
-    let cut = first (λ e. g.C.Cut.is_before l.cut (g.L.Label.label_of e)) (items_in l.children) in
+    let cut = first (g.C.Cut.is_before l.cut) (items_in l.children) in
     record {
       within : l.seen < length l.children;
       behind : l.at ≤ l.seen;

@@ -5,5 +5,5 @@ use Rattle.sequence.proofs.tree.cut.is_before.Goals as goal
 pub returns : goal.returns
 returns g c =
     c.item.ensures
-    ∙ test_read (λ e. g.C.Cut.is_before c.args.cut (g.L.Label.label_of e)) c.args.items.now c.requires.cut c.args.at
+    ∙ test_read (g.C.Cut.is_before c.args.cut.now) c.args.items.now c.requires.cut c.args.at
     c.index-items-at.result c.requires.within c.index-items-at.is

@@ -14,7 +14,7 @@ returns-clause-among g c =
           arith,
           all,
           c.along-test.false,
-          prefix_len-le-length (λ e. g.C.Cut.is_before c.args.cut (g.L.Label.label_of e)) c.args.items.now,
+          prefix_len-le-length (g.C.Cut.is_before c.args.cut.now) c.args.items.now,
         )
       ];
     }

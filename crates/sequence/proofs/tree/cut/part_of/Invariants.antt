@@ -5,7 +5,7 @@ use Rattle.sequence.proofs.tree.cut.part_of.Given as goal
 -- the parts that begin before the cut are counted, of those that were seen
 abbrev pub invariant-along : goal.invariant-along
 invariant-along g l =
-    let cut = first (λ e. g.C.Cut.is_before l.cut (g.L.Label.label_of e)) l.items in
+    let cut = first (g.C.Cut.is_before l.cut) l.items in
     record {
       within : l.seen < length l.items;
       behind : l.at ≤ l.seen;

@@ -7,7 +7,7 @@ pub quarter_of-at-requires-clause-among : goal.quarter_of-at-requires-clause-amo
 quarter_of-at-requires-clause-among g c =
     let part = c.part_of-2.ensures.among in
     let least = c.min-at.ensures in
-    let within = prefix_len-le-length (λ e. g.C.Cut.is_before c.args.cut (g.L.Label.label_of e)) c.args.items.now in
+    let within = prefix_len-le-length (g.C.Cut.is_before c.args.cut.now) c.args.items.now in
     record {
       behind = λ some. omega (arith, part.behind (omega (arith, some, least)), least);
       up = omega (arith, part.up, least, within, c.if-items-lt-PART.false);

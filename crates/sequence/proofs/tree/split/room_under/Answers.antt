@@ -11,16 +11,17 @@ returns g c =
     let spot = c.args.spot in
     let d = c.index_mut.result.now in
     let l = c.halve.new.self in
-    let r = c.in_ok-right.right in
+    let r = c.in-Some.right in
     let room = c.in_ok-reserve.ensures.items in
     let is = c.index_mut.ensures.value ∙ ap (λ cs. get_or cs spot.child d) room in
     let child = c.in_ok-right.ensures.child in
+    let halves = rw c.in-Some.is at c.in_ok-right.ensures.halves in
+    let spare = rw c.in-Some.is at c.in_ok-right.ensures.spare in
     let left : c.index-3.result.now ≡ l = c.index-3.ensures
     ∙ get_or-set_same c.reserve.new.self.items spot.child l c.index-3.result.now
     (omega (arith, ap (λ cs. length cs) room, c.requires.within)) in
     let done = split_is cs spot.child d l r c.requires.children c.requires.within is child
-    c.in_ok-right.ensures.halves c.in_ok-right.ensures.label spot.place c.index-3.result.now.len
-    c.in_ok-right.ensures.spare
+    halves c.in_ok-right.ensures.label spot.place c.index-3.result.now.len spare
     (ap (λ child. child.len) left ∙ child.counted) in
     let items : c.insert.new.self.items ≡ insert (set cs spot.child l) (spot.child + 1) r =
     c.in-Ok.ensures.items ∙ ap (λ xs. insert (set xs spot.child l) (spot.child + 1) r) room in

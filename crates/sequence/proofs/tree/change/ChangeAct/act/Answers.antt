@@ -8,16 +8,16 @@ use Rattle.sequence.proofs.tree.change.ChangeAct.act.Goals as goal
 
 pub returns-in-None-clause-done : goal.returns-in-None-clause-done
 returns-in-None-clause-done g c =
-    let test = λ (e : g.row.T.Denot). g.C.Cut.is_before c.args.self.cut (g.L.Label.label_of e) in
-    let sought = λ (e : g.row.T.Denot). g.C.Seek.is_sought c.args.self.cut (g.L.Label.label_of e) in
+    let test = g.C.Cut.is_before c.args.self.cut in
+    let sought = g.C.Seek.is_sought c.args.self.cut in
     let does = changes sought g.F.FnOnce c.args.self.change in
     let cut = rw c.in-None.is at c.requires.none in
     acted_none test does c.args.items.now.items 0 cut false (λ item h. absurd (none-some item h), refl)
 
 pub returns-then-not-is_sought-clause-done : goal.returns-then-not-is_sought-clause-done
 returns-then-not-is_sought-clause-done g c =
-    let test = λ (e : g.row.T.Denot). g.C.Cut.is_before c.args.self.cut (g.L.Label.label_of e) in
-    let sought = λ (e : g.row.T.Denot). g.C.Seek.is_sought c.args.self.cut (g.L.Label.label_of e) in
+    let test = g.C.Cut.is_before c.args.self.cut in
+    let sought = g.C.Seek.is_sought c.args.self.cut in
     let does = changes sought g.F.FnOnce c.args.self.change in
     let es = c.args.items.now.items in
     let cut = rw c.in-Some.is at c.requires.some in
@@ -28,8 +28,8 @@ returns-then-not-is_sought-clause-done g c =
 
 pub change-requires : goal.change-requires
 change-requires g c =
-    let test = λ (e : g.row.T.Denot). g.C.Cut.is_before c.args.self.cut (g.L.Label.label_of e) in
-    let sought = λ (e : g.row.T.Denot). g.C.Seek.is_sought c.args.self.cut (g.L.Label.label_of e) in
+    let test = g.C.Cut.is_before c.args.self.cut in
+    let sought = g.C.Seek.is_sought c.args.self.cut in
     let es = c.args.items.now.items in
     let cut = rw c.in-Some.is at c.requires.some in
     let at = c.in-Some.at in
@@ -41,8 +41,8 @@ change-requires g c =
 
 pub returns-clause-done : goal.returns-clause-done
 returns-clause-done g c =
-    let test = λ (e : g.row.T.Denot). g.C.Cut.is_before c.args.self.cut (g.L.Label.label_of e) in
-    let sought = λ (e : g.row.T.Denot). g.C.Seek.is_sought c.args.self.cut (g.L.Label.label_of e) in
+    let test = g.C.Cut.is_before c.args.self.cut in
+    let sought = g.C.Seek.is_sought c.args.self.cut in
     let does = changes sought g.F.FnOnce c.args.self.change in
     let es = c.args.items.now.items in
     let cut = rw c.in-Some.is at c.requires.some in
@@ -59,8 +59,8 @@ returns-clause-done g c =
 
 pub returns-clause-first : goal.returns-clause-first
 returns-clause-first g c =
-    let test = λ (e : g.row.T.Denot). g.C.Cut.is_before c.args.self.cut (g.L.Label.label_of e) in
-    let sought = λ (e : g.row.T.Denot). g.C.Seek.is_sought c.args.self.cut (g.L.Label.label_of e) in
+    let test = g.C.Cut.is_before c.args.self.cut in
+    let sought = g.C.Seek.is_sought c.args.self.cut in
     let es = c.args.items.now.items in
     let cut = rw c.in-Some.is at c.requires.some in
     let at = c.in-Some.at in

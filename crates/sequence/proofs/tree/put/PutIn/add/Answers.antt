@@ -7,8 +7,8 @@ use Rattle.sequence.proofs.tree.put.PutIn.add.Goals as goal
 pub returns-clause-done : goal.returns-clause-done
 returns-clause-done g c =
     let es = c.args.items.now.items in
-    let test = λ (e : g.row.T.Denot). g.P.Put.is_before c.args.self.0 (g.L.Label.label_of e) in
-    let sought = λ (e : g.row.T.Denot). g.P.Put.is_sought c.args.self.0 (g.L.Label.label_of e) in
+    let test = g.P.Cut.is_before c.args.self.0 in
+    let sought = g.P.Seek.is_sought c.args.self.0 in
     let made = g.P.Put.made c.args.self.0 in
     let does = puts sought made (g.P.Put.replaced c.args.self.0) g.P.Put.put_out in
     let at = c.args.place in

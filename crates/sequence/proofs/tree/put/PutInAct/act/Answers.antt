@@ -5,8 +5,8 @@ use Rattle.sequence.proofs.tree.put.PutInAct.act.Goals as goal
 
 pub returns-then-is_sought-clause-done : goal.returns-then-is_sought-clause-done
 returns-then-is_sought-clause-done g c =
-    let test = λ (e : g.row.T.Denot). g.P.Put.is_before c.args.self.0 (g.L.Label.label_of e) in
-    let sought = λ (e : g.row.T.Denot). g.P.Put.is_sought c.args.self.0 (g.L.Label.label_of e) in
+    let test = g.P.Cut.is_before c.args.self.0 in
+    let sought = g.P.Seek.is_sought c.args.self.0 in
     let does = puts sought (g.P.Put.made c.args.self.0) (g.P.Put.replaced c.args.self.0) g.P.Put.put_out in
     let es = c.args.items.now.items in
     let cut = rw c.in-Some.is at c.requires.some in
@@ -20,7 +20,7 @@ returns-then-is_sought-clause-done g c =
 
 pub add-requires-2-clause-missed : goal.add-requires-2-clause-missed
 add-requires-2-clause-missed g c =
-    let sought = λ (e : g.row.T.Denot). g.P.Put.is_sought c.args.self.0 (g.L.Label.label_of e) in
+    let sought = g.P.Seek.is_sought c.args.self.0 in
     let cut = rw c.in-Some.is at c.requires.some in
     missed c.args.items.now.items c.in-Some.at c.index.result.now cut.within c.index.ensures sought
     (sym c.is_sought.ensures ∙ c.if-is_sought.false)

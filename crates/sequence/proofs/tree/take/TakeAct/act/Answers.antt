@@ -6,16 +6,16 @@ use Rattle.sequence.proofs.tree.take.TakeAct.act.Goals as goal
 
 pub returns-in-None-clause-done : goal.returns-in-None-clause-done
 returns-in-None-clause-done g c =
-    let test = λ (e : g.row.T.Denot). g.C.Cut.is_before c.args.self.0 (g.L.Label.label_of e) in
-    let sought = λ (e : g.row.T.Denot). g.C.Seek.is_sought c.args.self.0 (g.L.Label.label_of e) in
+    let test = g.C.Cut.is_before c.args.self.0 in
+    let sought = g.C.Seek.is_sought c.args.self.0 in
     let cut = rw c.in-None.is at c.requires.none in
     let es = c.args.items.now.items in
     acted_none test (takes sought) es 0 cut true (λ item h. absurd (none-some item h), refl)
 
 pub returns-then-not-is_sought-clause-done : goal.returns-then-not-is_sought-clause-done
 returns-then-not-is_sought-clause-done g c =
-    let test = λ (e : g.row.T.Denot). g.C.Cut.is_before c.args.self.0 (g.L.Label.label_of e) in
-    let sought = λ (e : g.row.T.Denot). g.C.Seek.is_sought c.args.self.0 (g.L.Label.label_of e) in
+    let test = g.C.Cut.is_before c.args.self.0 in
+    let sought = g.C.Seek.is_sought c.args.self.0 in
     let es = c.args.items.now.items in
     let cut = rw c.in-Some.is at c.requires.some in
     let at = c.in-Some.at in
@@ -25,8 +25,8 @@ returns-then-not-is_sought-clause-done g c =
 
 pub returns-clause-done : goal.returns-clause-done
 returns-clause-done g c =
-    let test = λ (e : g.row.T.Denot). g.C.Cut.is_before c.args.self.0 (g.L.Label.label_of e) in
-    let sought = λ (e : g.row.T.Denot). g.C.Seek.is_sought c.args.self.0 (g.L.Label.label_of e) in
+    let test = g.C.Cut.is_before c.args.self.0 in
+    let sought = g.C.Seek.is_sought c.args.self.0 in
     let es = c.args.items.now.items in
     let cut = rw c.in-Some.is at c.requires.some in
     let at = c.in-Some.at in

@@ -1,4 +1,4 @@
-//! Where what is asked parts the entries of a map.
+//! The partition points of a query among the entries of a map.
 ghost use Rattle.std.specs.Prelude.{not};
 ghost use Rattle.std.specs.Ordering.{is_eq, is_gt, is_lt};
 
@@ -6,13 +6,13 @@ use crate::key::Key;
 use crate::query::Query;
 use sequence::{Cut, Seek};
 
-/// Before it are the entries whose keys are not above what is asked.
+/// The entries whose keys are at or below the query are before this cut.
 #[derive(Clone, Copy)]
 pub(crate) struct UpTo<Q> {
     pub(crate) query: Q,
 }
 
-/// Before it are those whose keys are below.
+/// The entries whose keys are below the query are before this cut.
 #[derive(Clone, Copy)]
 pub(crate) struct Below<Q> {
     pub(crate) query: Q,

@@ -1,4 +1,4 @@
-//! A key and a value that a map takes in.
+//! An entry that is inserted into a map.
 ghost use Rattle.std.specs.Prelude.{not};
 ghost use Rattle.std.specs.Ordering.{is_eq, is_lt};
 
@@ -6,7 +6,7 @@ use crate::key::Key;
 use sequence::{Cut, Put, Seek};
 use std::mem;
 
-/// It goes in behind the entries whose keys are not above its own. An entry of an equal key takes its value.
+/// A new entry. It is inserted behind the entries with lesser keys, or its value replaces that of an equal key.
 #[derive(Drop)]
 pub(crate) struct Entry<K, V> {
     pub(crate) key: K,

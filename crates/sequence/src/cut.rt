@@ -1,20 +1,20 @@
-//! What tells the first items of a list from the others.
+//! Cuts of a list: its partition points.
 ghost use Rattle.std.specs.Prelude.{◌≡◌, Bool};
 
 use crate::label::Label;
 
-/// Tells the first items of a list from those behind them, by the label of an item alone.
-///
-/// What is asked by a cut requires `HasCut` of the list: that the cut holds of so many first items and of none behind.
+/// A monotone predicate on the items of a list (as for `partition_point`): true for a number of first items and false
+/// for all others, as `HasCut` says, which each call with a cut requires.
+/// `impl Cut<Appointment, Time> for Time { .. }`.
 pub trait Cut<T, L: Label<T>> {
     // Whether the item is one of the first.
     ghost is_before: { Self → T → Bool };
 
-    /// Whether the item is before the cut.
+    /// Returns `true` if the item is before the cut.
     fn item(&self, item: &T) -> bool
         ensures { result ≡ is_before self.now item.now };
 
-    /// Whether an item of that label is before the cut, which the label decides.
+    /// Returns `true` if the items with this separator key are before the cut.
     fn label(&self, label: &L) -> bool
         ensures { (item : T) → L.label_of item ≡ label.now → result ≡ is_before self.now item };
 }
@@ -24,7 +24,7 @@ pub trait Seek<T, L: Label<T>>: Cut<T, L> {
     // Whether the item is the one.
     ghost is_sought: { Self → T → Bool };
 
-    /// Whether the item is the one.
+    /// Returns `true` if the item is the one that is sought.
     fn is_sought(&self, item: &T) -> bool
         ensures { result ≡ is_sought self.now item.now };
 }

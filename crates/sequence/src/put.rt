@@ -1,12 +1,13 @@
-//! What is put into a list where its cut is.
+//! Insertion or replacement at a cut.
 ghost use Rattle.std.specs.Prelude.{◌≡◌};
 
 use crate::cut::Seek;
 use crate::label::Label;
 
-/// What is put into a list behind its cut, or into the item there if that is the one that it seeks.
+/// A value to insert behind its cut, or to put into the item there if that is the one that it seeks:
+/// `impl Put<Appointment, Time> for Appointment { .. }`.
 pub trait Put<T, L: Label<T>>: Seek<T, L> + Drop {
-    /// What it puts out of an item.
+    /// The part of an item that a replacement puts out.
     type Old: Drop;
 
     // The item that it becomes, what it makes of an item, and what it puts out of it.
@@ -16,11 +17,11 @@ pub trait Put<T, L: Label<T>>: Seek<T, L> + Drop {
 
     ghost put_out: { T → Self.Old };
 
-    /// The item that goes in behind the cut.
+    /// Returns the item to insert behind the cut.
     fn into_item(self) -> T
         ensures { result ≡ made self };
 
-    /// Puts it into the item that it seeks, whose label stays.
+    /// Puts the value into the item that it seeks, whose separator key stays, and returns the old part.
     fn replace(self, item: &mut T) -> Self::Old
         ensures old { result ≡ put_out item.old }
         ensures item { item.new ≡ replaced self item.old }

@@ -1,4 +1,4 @@
-//! Changes where a cut is: by one way down if the nodes on it keep their form, else by the number of the place.
+//! Changes at a cut: in one pass if the nodes on the path keep their form, else in a second pass by the index.
 ghost use Rattle.std.specs.Prelude.{◌≡◌, IfErr, IfNone, IfOk, IfSome, MatchResult, OnErr};
 ghost use Rattle.handles.specs.Copies.{CopiesAreEqual};
 ghost use Rattle.std.specs.Fn.{FnOnceTakesAtMut};
@@ -54,8 +54,10 @@ impl<T: Clone, L: NewLabel<T>> Sequence<T, L> {
     /// Calls `change` on the item that `cut` seeks and returns its result, or `None` if the last item before the cut is
     /// another one: `entries.change(alloc, cut, |old| mem::replace(old, item))?`. O(log n).
     ///
-    /// It copies and is refused as `modify` is, and the change is then not called. It is not called either if there is
-    /// no such item: then nothing is copied or refused.
+    /// # Errors
+    ///
+    /// `AllocError` if `modify` would return `Memory`: `change` is then not called. If there is no such item, nothing
+    /// is copied.
     pub fn change<C: Seek<T, L> + Drop, R, F: FnOnce(&mut T) -> R>(
         &mut self,
         alloc: Global,
@@ -116,7 +118,7 @@ impl<T: Clone, L: NewLabel<T>> Sequence<T, L> {
         }
     }
 
-    // The same by two ways down. On the second one a full node becomes two.
+    // Puts in by a search for the index, and a second pass in which a full node is split.
     fn put_by_number<P: Put<T, L>>(
         &mut self,
         alloc: Global,
@@ -149,7 +151,8 @@ impl<T: Clone, L: NewLabel<T>> Sequence<T, L> {
 }
 
 impl<T: Clone, L: Label<T> + Clone> Sequence<T, L> {
-    // Does it by one way down. It comes back if a node on the way would get another form, or if there is no memory.
+    // Changes the list in one pass. Returns `act` if a node on the path would get another form, or if there is no
+    // memory.
     fn act<A: Act<T, L>>(&mut self, alloc: Global, act: A) -> Result<Option<A::Gone>, A>
         requires copies { CopiesAreEqual T.is_clone }
         requires labels { CopiesAreEqual L.is_clone }
@@ -174,7 +177,7 @@ impl<T: Clone, L: Label<T> + Clone> Sequence<T, L> {
 }
 
 impl<T, L: Label<T>> Sequence<T, L> {
-    // The number of the last item before the cut, if it is the one that is sought. `Err` has the place behind it.
+    // The index of the last item before the cut, if that item is the one that is sought. `Err` has the index behind it.
     fn place<C: Seek<T, L>>(&self, cut: &C) -> Result<usize, usize>
         requires cut { HasCut (C.is_before cut.now) self.now }
         ensures { MatchResult result (IsFound (C.is_sought cut.now) (C.is_before cut.now) self.now)

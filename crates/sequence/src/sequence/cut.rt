@@ -1,4 +1,4 @@
-//! Where a cut is.
+//! The place of a cut in a list.
 ghost use Rattle.std.specs.Prelude.{◌≡◌, ◌+◌, IfNone, IfSome, Some, slice_get};
 ghost use Rattle.sequence.specs.Cuts.{HasCut, IsCut, IsLast};
 
@@ -7,7 +7,7 @@ use crate::label::Label;
 use crate::sequence::Sequence;
 
 impl<T, L: Label<T>> Sequence<T, L> {
-    /// How many items are before the cut, by one way down.
+    /// Returns the number of items before the cut, its partition point: `entries.rank(&cut)`. O(log n).
     pub fn rank<C: Cut<T, L>>(&self, cut: &C) -> usize
         requires { HasCut (C.is_before cut.now) self.now }
         ensures { IsCut (C.is_before cut.now) self.now result }
@@ -20,7 +20,8 @@ impl<T, L: Label<T>> Sequence<T, L> {
         }
     }
 
-    /// The last item before the cut and its number, by one way down.
+    /// Returns the index of the last item before the cut, and that item, or `None` if the first item is behind the cut:
+    /// `entries.find(&cut)`. O(log n).
     #[inline(always)]
     pub fn find<C: Cut<T, L>>(&self, cut: &C) -> Option<(usize, &T)>
         requires { HasCut (C.is_before cut.now) self.now }
@@ -34,7 +35,8 @@ impl<T, L: Label<T>> Sequence<T, L> {
         }
     }
 
-    /// The last item before the cut, by one way down.
+    /// Returns the last item before the cut, or `None` if the first item is behind the cut:
+    /// `entries.last_before(&cut)`. O(log n).
     pub fn last_before<C: Cut<T, L>>(&self, cut: &C) -> Option<&T>
         requires { HasCut (C.is_before cut.now) self.now }
         ensures none { IfNone result (IsCut (C.is_before cut.now) self.now 0) }

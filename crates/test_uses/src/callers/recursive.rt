@@ -20,13 +20,13 @@ fn above(rt: &(impl Abort + AllocGlobal), low: u32) -> HeaderTree {
 
 #[test]
 fn trees_of_slices_are_ordered_and_hashed(rt: HostRuntime) {
-    let [two, three] = [2, 3].map(|low| above(&rt, low));
+    let (two, three) = (above(&rt, 2), above(&rt, 3));
     same!(&rt, two.cmp(&three), Ordering::Less);
     same!(&rt, two.partial_cmp(&above(&rt, 2)), Some(Ordering::Equal));
     let mut trees = HashSet::new(rt.alloc());
     ok!(&rt, trees.insert(two));
-    let found = [2, 3].map(|low| trees.contains(&above(&rt, low)));
-    same!(&rt, found, [true, false]);
+    let found = (trees.contains(&above(&rt, 2)), trees.contains(&above(&rt, 3)));
+    same!(&rt, found, (true, false));
 }
 
 #[test]

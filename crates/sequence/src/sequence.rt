@@ -156,7 +156,7 @@ impl<T: Drop> Sequence<T> {
 }
 
 impl<T: Drop, L: NewLabel<T>> Sequence<T, L> {
-    /// The same with labels of that type.
+    /// The list of these items with labels of that type. The items are moved into full nodes, in O(n).
     pub fn of_items(alloc: Global, items: Vec<T>) -> Result<Sequence<T, L>, AllocError>
         requires { CopiesAreEqual L.is_clone }
         ensures { IfOk result (λ list. list ≡ items.items) }
@@ -188,7 +188,7 @@ impl<T: Clone, L: NewLabel<T>> Sequence<T, L> {
         Ok(self.insert_at(alloc, index, item)?)
     }
 
-    // The same of a number that is not above.
+    // Puts the item in before that of the number, or behind all. The number is no greater than how many there are.
     fn insert_at(&mut self, alloc: Global, index: usize, item: T) -> Result<(), AllocError>
         requires copies { CopiesAreEqual T.is_clone }
         requires labels { CopiesAreEqual L.is_clone }
@@ -206,7 +206,7 @@ impl<T: Clone, L: NewLabel<T>> Sequence<T, L> {
                 Ok(())
             }
             Some(tree) => {
-                tree.grow(alloc, self.len)?;
+                tree.add_level_if_full(alloc, self.len)?;
                 let Ok(()) = tree.insert(alloc, index, Piece::Item(item)) else {
                     return Err(AllocError);
                 };
@@ -236,7 +236,7 @@ impl<T: Clone, L: NewLabel<T>> Sequence<T, L> {
         Ok(item)
     }
 
-    // The same of a number that has an item.
+    // Takes the item of that number out, which is there, and gives it.
     fn remove_at(&mut self, alloc: Global, index: usize) -> Result<T, AllocError>
         requires copies { CopiesAreEqual T.is_clone }
         requires labels { CopiesAreEqual L.is_clone }

@@ -110,7 +110,7 @@ impl<T: Clone, L: NewLabel<T>> Sequence<T, L> {
         }
     }
 
-    // The same by two ways down. On the second one a full node becomes two.
+    // Puts it in by two ways down: the first finds the index, and on the second a full node becomes two.
     fn put_by_number<P: Put<T, L>>(
         &mut self,
         alloc: Global,

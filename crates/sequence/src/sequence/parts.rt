@@ -64,12 +64,12 @@ impl<T: Clone, L: NewLabel<T>> Sequence<T, L> {
         if at > self.len() {
             return Err(PlaceError::NoPlace);
         }
-        let back = self.cut_off(alloc, at)?;
+        let back = self.split_off_at(alloc, at)?;
         Ok(back)
     }
 
-    // The same of a number that is not above.
-    fn cut_off(&mut self, alloc: Global, at: usize) -> Result<Sequence<T, L>, AllocError>
+    // Takes the items from that number on out, into another list. The number is no greater than that of the items.
+    fn split_off_at(&mut self, alloc: Global, at: usize) -> Result<Sequence<T, L>, AllocError>
         requires copies { CopiesAreEqual T.is_clone }
         requires labels { CopiesAreEqual L.is_clone }
         requires within { at ≤ length self.old }
@@ -83,19 +83,19 @@ impl<T: Clone, L: NewLabel<T>> Sequence<T, L> {
         if at == self.len() {
             return Ok(Sequence::empty());
         }
-        if let Ok(back) = self.sever(alloc, at) {
+        if let Ok(back) = self.split_in_place(alloc, at) {
             return Ok(back);
         }
         let Some(tree) = &self.root else {
             unreachable!()
         };
-        let (front, back) = tree.split(alloc, at)?;
+        let (front, back) = tree.split_at(alloc, at)?;
         *self = front;
         Ok(back)
     }
 
-    // The same in place, if each part then has enough items for its height.
-    fn sever(&mut self, alloc: Global, at: usize) -> Result<Sequence<T, L>, Blocked>
+    // Takes the items from that number on out in place, if each part then has enough items for its height.
+    fn split_in_place(&mut self, alloc: Global, at: usize) -> Result<Sequence<T, L>, Blocked>
         requires copies { CopiesAreEqual T.is_clone }
         requires labels { CopiesAreEqual L.is_clone }
         requires within { at ≤ length self.old }
@@ -111,7 +111,7 @@ impl<T: Clone, L: NewLabel<T>> Sequence<T, L> {
         if at < least || self.len - at < least {
             return Err(Blocked);
         }
-        let mut back = tree.sever(alloc, at, least)?;
+        let mut back = tree.split_in_place(alloc, at, least)?;
         self.len = at;
         // Trees that are higher than need be are as good.
         let _ = tree.shrink();
@@ -133,7 +133,7 @@ impl<T: Clone, L: NewLabel<T>> Sequence<T, L> {
         ensures refused { OnErr result (self.new ≡ self.old) }
     {
         if len < self.len() {
-            self.cut_off(alloc, len)?;
+            self.split_off_at(alloc, len)?;
         }
         Ok(())
     }
@@ -162,8 +162,8 @@ impl<T: Clone, L: NewLabel<T>> Sequence<T, L> {
             return Err(PlaceError::NoPlace);
         }
         let mut list: Sequence<T, L> = self.clone()?;
-        let back = list.cut_off(alloc, end)?;
-        let out = list.cut_off(alloc, start)?;
+        let back = list.split_off_at(alloc, end)?;
+        let out = list.split_off_at(alloc, start)?;
         list.append(alloc, other)?;
         list.append(alloc, back)?;
         *self = list;
@@ -207,7 +207,7 @@ impl<T: Clone, L: NewLabel<T>> Sequence<T, L> {
 
 impl<T: Clone, L: NewLabel<T>> Tree<T, L> {
     // The list of so many of the first items, and that of the others.
-    fn split(
+    fn split_at(
         &self,
         alloc: Global,
         at: usize,
@@ -228,7 +228,7 @@ impl<T: Clone, L: NewLabel<T>> Tree<T, L> {
                 let spot = spot_of(children, at);
                 let mut front = Sequence::of_children(alloc, &children[..spot.child])?;
                 let behind = Sequence::of_children(alloc, &children[spot.child + 1..])?;
-                let (part, mut back) = children[spot.child].tree.split(alloc, spot.place)?;
+                let (part, mut back) = children[spot.child].tree.split_at(alloc, spot.place)?;
                 front.append(alloc, part)?;
                 back.append(alloc, behind)?;
                 Ok((front, back))

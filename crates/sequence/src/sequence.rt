@@ -239,7 +239,7 @@ impl<T: Clone, L: NewLabel<T>> Sequence<T, L> {
                 Ok(())
             }
             Some(tree) => {
-                tree.grow(alloc, self.len)?;
+                tree.add_level_if_full(alloc, self.len)?;
                 let Ok(()) = tree.insert(alloc, index, Piece::Item(item)) else {
                     return Err(AllocError);
                 };

@@ -15,8 +15,8 @@ mod modify;
 pub(crate) mod put;
 mod remove;
 pub(crate) mod search;
-mod sever;
 mod split;
+mod split_in_place;
 pub(crate) mod take;
 
 use crate::label::Label;

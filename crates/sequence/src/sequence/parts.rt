@@ -72,12 +72,12 @@ impl<T: Clone, L: NewLabel<T>> Sequence<T, L> {
         if at > self.len() {
             return Err(PlaceError::NoPlace);
         }
-        let back = self.cut_off(alloc, at)?;
+        let back = self.split_off_at(alloc, at)?;
         Ok(back)
     }
 
     // Splits at an index that is known to be at most the length, so that only memory can be lacking.
-    fn cut_off(&mut self, alloc: Global, at: usize) -> Result<Sequence<T, L>, AllocError>
+    fn split_off_at(&mut self, alloc: Global, at: usize) -> Result<Sequence<T, L>, AllocError>
         requires copies { CopiesAreEqual T.is_clone }
         requires labels { CopiesAreEqual L.is_clone }
         requires within { at ≤ length self.old }
@@ -91,19 +91,19 @@ impl<T: Clone, L: NewLabel<T>> Sequence<T, L> {
         if at == self.len() {
             return Ok(Sequence::empty());
         }
-        if let Ok(back) = self.sever(alloc, at) {
+        if let Ok(back) = self.split_in_place(alloc, at) {
             return Ok(back);
         }
         let Some(tree) = &self.root else {
             unreachable!()
         };
-        let (front, back) = tree.split(alloc, at)?;
+        let (front, back) = tree.split_at(alloc, at)?;
         *self = front;
         Ok(back)
     }
 
     // Splits in place. It is blocked if a part would have too few items for its height, and changes nothing then.
-    fn sever(&mut self, alloc: Global, at: usize) -> Result<Sequence<T, L>, Blocked>
+    fn split_in_place(&mut self, alloc: Global, at: usize) -> Result<Sequence<T, L>, Blocked>
         requires copies { CopiesAreEqual T.is_clone }
         requires labels { CopiesAreEqual L.is_clone }
         requires within { at ≤ length self.old }
@@ -119,7 +119,7 @@ impl<T: Clone, L: NewLabel<T>> Sequence<T, L> {
         if at < least || self.len - at < least {
             return Err(Blocked);
         }
-        let mut back = tree.sever(alloc, at, least)?;
+        let mut back = tree.split_in_place(alloc, at, least)?;
         self.len = at;
         // Trees that are higher than need be are as good.
         let _ = tree.shrink();
@@ -144,7 +144,7 @@ impl<T: Clone, L: NewLabel<T>> Sequence<T, L> {
         ensures refused { OnErr result (self.new ≡ self.old) }
     {
         if len < self.len() {
-            self.cut_off(alloc, len)?;
+            self.split_off_at(alloc, len)?;
         }
         Ok(())
     }
@@ -176,8 +176,8 @@ impl<T: Clone, L: NewLabel<T>> Sequence<T, L> {
             return Err(PlaceError::NoPlace);
         }
         let mut list: Sequence<T, L> = self.clone()?;
-        let back = list.cut_off(alloc, end)?;
-        let out = list.cut_off(alloc, start)?;
+        let back = list.split_off_at(alloc, end)?;
+        let out = list.split_off_at(alloc, start)?;
         list.append(alloc, other)?;
         list.append(alloc, back)?;
         *self = list;
@@ -221,7 +221,7 @@ impl<T: Clone, L: NewLabel<T>> Sequence<T, L> {
 
 impl<T: Clone, L: NewLabel<T>> Tree<T, L> {
     // Both parts as new lists: the first `at` items, and the others.
-    fn split(
+    fn split_at(
         &self,
         alloc: Global,
         at: usize,
@@ -242,7 +242,7 @@ impl<T: Clone, L: NewLabel<T>> Tree<T, L> {
                 let spot = spot_of(children, at);
                 let mut front = Sequence::of_children(alloc, &children[..spot.child])?;
                 let behind = Sequence::of_children(alloc, &children[spot.child + 1..])?;
-                let (part, mut back) = children[spot.child].tree.split(alloc, spot.place)?;
+                let (part, mut back) = children[spot.child].tree.split_at(alloc, spot.place)?;
                 front.append(alloc, part)?;
                 back.append(alloc, behind)?;
                 Ok((front, back))

@@ -102,7 +102,7 @@ impl<T: Clone, L: Label<T> + Clone> Tree<T, L> {
         Tree::act_under(children, alloc, act, labelled)
     }
 
-    // The same under a branch.
+    // Does it under the last child whose first item is before the cut, or under the first child.
     #[cycle(act)]
     fn act_under<A: Act<T, L>>(
         children: &mut Vec<Child<T, L>>,

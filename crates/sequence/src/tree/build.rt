@@ -64,7 +64,7 @@ fn parts<T: Drop, L: NewLabel<T>>(
     ensures { IfOk result (λ children. AreParts L.label_of (seen node) children.items) }
 {
     let mut children = Vec::new(alloc);
-    'off: while let Some(child) = node.halve(alloc, false)? {
+    'off: while let Some(child) = node.split_node(alloc, false)? {
         len -= child.len;
         children.push(child)?;
     }

@@ -43,7 +43,8 @@ fn part_of<T, L: Label<T>, C: Cut<T, L>>(items: &[T], cut: &C, part: usize) -> u
     at
 }
 
-// The same of the quarters of four that begin there and have that many items each.
+// Where the quarter begins that has the last item before the cut, or the first quarter, of four that begin there and
+// have that many items each.
 #[inline(always)]
 fn quarter_of<T, L: Label<T>, C: Cut<T, L>>(
     items: &[T],

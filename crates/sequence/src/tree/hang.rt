@@ -67,7 +67,7 @@ impl<T: Clone, L: NewLabel<T>> Tree<T, L> {
         let Ok(label) = L::new(other.item(0)) else {
             return Err(other);
         };
-        let Ok(below) = self.rise(alloc, len, below) else {
+        let Ok(below) = self.make_higher(alloc, len, below) else {
             return Err(other);
         };
         let part = Child {
@@ -84,7 +84,7 @@ impl<T: Clone, L: NewLabel<T>> Tree<T, L> {
 
     // Makes the tree one level higher if another is no lower, or its first node is full. It is told how many levels
     // lower the other is, and says how many those are then.
-    fn rise(&mut self, alloc: Global, len: usize, below: u8) -> Result<u8, AllocError>
+    fn make_higher(&mut self, alloc: Global, len: usize, below: u8) -> Result<u8, AllocError>
         requires labels { CopiesAreEqual L.is_clone }
         requires len { len ≡ length self.old.0 }
         requires wide { 2 ^ self.old.1 ≤ length self.old.0 }
@@ -96,7 +96,7 @@ impl<T: Clone, L: NewLabel<T>> Tree<T, L> {
         if below > 0 && !self.is_full() {
             return Ok(below);
         }
-        self.raise(alloc, len)?;
+        self.add_level(alloc, len)?;
         Ok(below + 1)
     }
 }

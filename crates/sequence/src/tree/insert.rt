@@ -51,7 +51,7 @@ impl<T: Clone, L: NewLabel<T>> Tree<T, L> {
     }
 }
 
-// The same under a branch.
+// Puts the piece in under a branch.
 #[cycle(insert)]
 fn insert_under<T: Clone, L: NewLabel<T>>(
     children: &mut Vec<Child<T, L>>,
@@ -83,7 +83,7 @@ fn insert_under<T: Clone, L: NewLabel<T>>(
 }
 
 impl<T: Clone, L: NewLabel<T>> Child<T, L> {
-    // The same under one child.
+    // Puts the piece in under one child, and counts its items there.
     #[cycle(insert)]
     fn insert(
         &mut self,
@@ -200,19 +200,19 @@ fn beside<T: Clone, L: NewLabel<T>>(
             return Err(Some(refused.value));
         }
         children[1].label = label;
-        meet(children, 0, alloc);
+        join_if_small(children, 0, alloc);
         return Ok(());
     }
     let last = children.len() - 1;
     if let Err(refused) = children.push(child) {
         return Err(Some(refused.value));
     }
-    meet(children, last, alloc);
+    join_if_small(children, last, alloc);
     Ok(())
 }
 
 // Makes one child of the one of that number and the next, if both are small and it is not refused.
-pub(crate) fn meet<T: Clone, L: NewLabel<T>>(
+pub(crate) fn join_if_small<T: Clone, L: NewLabel<T>>(
     children: &mut Vec<Child<T, L>>,
     at: usize,
     alloc: Global,

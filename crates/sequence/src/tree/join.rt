@@ -71,7 +71,8 @@ impl<T: Clone, L: NewLabel<T>> Child<T, L> {
 }
 
 impl<T: Clone, L: NewLabel<T>> Tree<T, L> {
-    // The same for trees that are as high. The first child of the next first node gets the label of that tree.
+    // Takes over what the first node of the next tree has, which is as high. If that is a branch, its first child gets
+    // the label of that tree.
     fn take_over(
         &mut self,
         alloc: Global,

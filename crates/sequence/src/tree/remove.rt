@@ -36,7 +36,7 @@ impl<T: Clone, L: NewLabel<T>> Tree<T, L> {
     }
 }
 
-// The same under a branch.
+// Takes the item of that number out from under a branch.
 #[cycle(remove)]
 fn remove_under<T: Clone, L: NewLabel<T>>(
     children: &mut Vec<Child<T, L>>,
@@ -59,7 +59,7 @@ fn remove_under<T: Clone, L: NewLabel<T>>(
 }
 
 impl<T: Clone, L: NewLabel<T>> Child<T, L> {
-    // The same under one child, whose label stays right if it is to.
+    // Takes the item of that number out from under one child, whose label stays right if it is to.
     #[cycle(remove)]
     fn remove(&mut self, alloc: Global, index: usize, labelled: bool) -> Result<T, AllocError>
         requires copies { CopiesAreEqual T.is_clone }

@@ -18,21 +18,21 @@ use std::alloc::{AllocError, Global};
 const FEW: usize = 4;
 
 impl<T: Drop, L: NewLabel<T>> Tree<T, L> {
-    // Makes the tree, which has that many items, one higher if its first node is full: the only child of the new one.
+    // Makes the tree, which has that many items, one level higher if its first node is full.
     #[inline(always)]
-    pub(crate) fn grow(&mut self, alloc: Global, len: usize) -> Result<(), AllocError>
+    pub(crate) fn add_level_if_full(&mut self, alloc: Global, len: usize) -> Result<(), AllocError>
         requires labels { CopiesAreEqual L.is_clone }
         requires len { len ≡ length self.old.0 }
         ensures { self.new.0 ≡ self.old.0 }
     {
         if self.is_full() {
-            self.raise(alloc, len)?;
+            self.add_level(alloc, len)?;
         }
         Ok(())
     }
 
-    // The same of any tree that is wide enough.
-    pub(crate) fn raise(&mut self, alloc: Global, len: usize) -> Result<(), AllocError>
+    // Puts a branch above the first node, which becomes its only child. The tree has that many items.
+    pub(crate) fn add_level(&mut self, alloc: Global, len: usize) -> Result<(), AllocError>
         requires labels { CopiesAreEqual L.is_clone }
         requires len { len ≡ length self.old.0 }
         requires wide { 2 ^ self.old.1 ≤ length self.old.0 }
@@ -58,7 +58,7 @@ impl<T, L: Label<T>> Tree<T, L> {
 }
 
 impl<T, L: Label<T>> Node<T, L> {
-    // The same of a node.
+    // Whether the node becomes two before another item or child goes in.
     #[inline(always)]
     pub(crate) fn is_full(&self) -> bool
         requires { IsNode L.label_of self.now }
@@ -96,7 +96,7 @@ pub(crate) fn room_under<T: Clone, L: NewLabel<T>>(
     }
     let ends = grows & (place == children[child].len);
     children.reserve(1)?;
-    let Some(right) = children[child].halve(alloc, ends)? else {
+    let Some(right) = children[child].split_node(alloc, ends)? else {
         return Ok(spot);
     };
     let left = children[child].len;
@@ -107,7 +107,7 @@ pub(crate) fn room_under<T: Clone, L: NewLabel<T>>(
 }
 
 impl Spot {
-    // The same spot once only so many items are left under its child, and the rest under the next.
+    // Where the place is once only so many items are left under its child, and the rest under the next.
     fn past(self, left: usize) -> Spot
         requires { self.child + 1 < 2 ^ 64 }
         ensures { result ≡ past left self }
@@ -123,8 +123,8 @@ impl Spot {
 }
 
 impl<T: Clone, L: NewLabel<T>> Child<T, L> {
-    // The last part of a child whose first node is full, and which keeps the first part.
-    fn halve(&mut self, alloc: Global, ends: bool) -> Result<Option<Child<T, L>>, AllocError>
+    // Makes two of the child if its first node is full: it keeps the first part, and gives the last one.
+    fn split_node(&mut self, alloc: Global, ends: bool) -> Result<Option<Child<T, L>>, AllocError>
         requires copies { CopiesAreEqual T.is_clone }
         requires labels { CopiesAreEqual L.is_clone }
         requires child { IsChild (self.old.tree.1 + 1) self.old }
@@ -135,7 +135,7 @@ impl<T: Clone, L: NewLabel<T>> Child<T, L> {
         ensures whole { IfOk result (λ half. IfNone half (self.new ≡ self.old)) }
         ensures refused { OnErr result (self.new ≡ self.old) }
     {
-        let Some(right) = self.tree.halve(alloc, ends)? else {
+        let Some(right) = self.tree.split_node(alloc, ends)? else {
             return Ok(None);
         };
         self.len -= right.len;
@@ -144,9 +144,9 @@ impl<T: Clone, L: NewLabel<T>> Child<T, L> {
 }
 
 impl<T: Clone, L: NewLabel<T>> Tree<T, L> {
-    // The same of a tree.
+    // Makes two of the tree if its first node is full, and gives the last part.
     #[inline(never)]
-    fn halve(&mut self, alloc: Global, ends: bool) -> Result<Option<Child<T, L>>, AllocError>
+    fn split_node(&mut self, alloc: Global, ends: bool) -> Result<Option<Child<T, L>>, AllocError>
         requires copies { CopiesAreEqual T.is_clone }
         requires labels { CopiesAreEqual L.is_clone }
         ensures halves { IfOk result (λ half. IfSome half (AreHalves L.label_of self.old self.new)) }
@@ -155,13 +155,13 @@ impl<T: Clone, L: NewLabel<T>> Tree<T, L> {
         ensures refused { OnErr result (self.new ≡ self.old) }
     {
         let node = Arc::make_mut(&mut self.root, alloc)?;
-        node.halve(alloc, ends)
+        node.split_node(alloc, ends)
     }
 }
 
 impl<T: Drop, L: NewLabel<T>> Node<T, L> {
-    // The same of a node.
-    pub(crate) fn halve(
+    // Makes two of the node if it is full, and gives the last part as a child.
+    pub(crate) fn split_node(
         &mut self,
         alloc: Global,
         ends: bool,
@@ -177,11 +177,11 @@ impl<T: Drop, L: NewLabel<T>> Node<T, L> {
         match self {
             Node::Leaf(items) if items.len() >= leaf_width(items) => {
                 let keep = kept(items.len(), leaf_width(items), ends);
-                Ok(Some(half_of_leaf(items, alloc, keep)?))
+                Ok(Some(split_leaf(items, alloc, keep)?))
             }
             Node::Branch(children) if children.len() >= BRANCH => {
                 let keep = kept(children.len(), BRANCH, ends);
-                Ok(Some(half_of_branch(children, alloc, keep)?))
+                Ok(Some(split_branch(children, alloc, keep)?))
             }
             _ => Ok(None),
         }
@@ -203,8 +203,8 @@ fn kept(len: usize, width: usize, ends: bool) -> usize
     }
 }
 
-// What stands from that number on.
-pub(crate) fn half_of_leaf<T: Drop, L: NewLabel<T>>(
+// Takes the items from that number on out of a leaf, into a child.
+pub(crate) fn split_leaf<T: Drop, L: NewLabel<T>>(
     items: &mut Vec<T>,
     alloc: Global,
     keep: usize,
@@ -241,8 +241,8 @@ fn with_room<T>(mut items: Vec<T>) -> Vec<T>
     items
 }
 
-// The same of a branch, of which each part has enough items.
-pub(crate) fn half_of_branch<T: Drop, L: NewLabel<T>>(
+// Takes the children from that number on out of a branch, into a child. Each part has enough items for its height.
+pub(crate) fn split_branch<T: Drop, L: NewLabel<T>>(
     children: &mut Vec<Child<T, L>>,
     alloc: Global,
     keep: usize,

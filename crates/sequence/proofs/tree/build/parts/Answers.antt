@@ -31,13 +31,13 @@ off-preserved g c =
     let halves = rw c.in-Some.is at c.in_ok-child.ensures.halves in
     let level : IsChild (tree.1 + 1) half = subst (λ n. IsChild (n + 1) half) before.height halves.child in
     let lengths = ap (λ es. length es) halves.items in
-    let more = length-append (seen c.halve.new.self).0 half.tree.0 in
+    let more = length-append (seen c.split_node.new.self).0 half.tree.0 in
     record {
       node = c.in_ok-child.ensures.node;
       height = halves.height ∙ before.height;
       wide = halves.wide;
       len = omega (arith, before.len, halves.child.counted, lengths, more);
-      before = subst (IsBefore g.L.Label.label_of (tree.1 + 1) tree.0 (seen c.halve.new.self).0)
+      before = subst (IsBefore g.L.Label.label_of (tree.1 + 1) tree.0 (seen c.split_node.new.self).0)
           (sym c.in_ok-push.ensures.items)
           (parts_more _ _ _ _ c.off.children.items half before.before level halves.label halves.items);
     }

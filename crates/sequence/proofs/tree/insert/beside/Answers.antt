@@ -1,4 +1,4 @@
--- The branch has one more child, which `meet` may join with the one beside it.
+-- The branch has one more child, which `join_if_small` may join with the one beside it.
 use Rattle.std.proofs.Common.{◌≡◌, ◌++◌, ◌∷◌, ◌∙◌, [], ap, append-nil, arith, get_or, inl, inr, length, set, subst, sym}
 use Rattle.sequence.specs.Nodes.{AreChildren, height_in, items_in}
 use Rattle.sequence.specs.Spots.{spliced}
@@ -7,8 +7,8 @@ use Rattle.sequence.proofs.Nodes.Children.{items_append}
 use Rattle.sequence.proofs.Lists.Spliced.{splice_end}
 use Rattle.sequence.proofs.tree.insert.beside.Goals as goal
 
-pub meet-requires-clause-children : goal.meet-requires-clause-children
-meet-requires-clause-children g c =
+pub join_if_small-requires-clause-children : goal.join_if_small-requires-clause-children
+join_if_small-requires-clause-children g c =
     let cs = c.args.children.now.items in
     let are = c.requires.children in
     let d = c.index_mut.result.now in
@@ -27,9 +27,9 @@ returns-then-place-eq0-clause-items g c =
     let labelled = labelled_by_first cs d c.index.result.now c.item.result.now c.in-Ok.label c.requires.children
     (c.index_mut.ensures.value ∙ ap (λ xs. get_or xs 1 d) put) c.index.ensures c.item.ensures
     (c.in-Ok.ensures c.requires.labels) in
-    subst (λ n. items_in c.meet.new.children.items ≡ spliced n 0 c.args.child.tree.0 (items_in cs))
+    subst (λ n. items_in c.join_if_small.new.children.items ≡ spliced n 0 c.args.child.tree.0 (items_in cs))
     (sym c.if-place-eq0.true)
-    (c.meet.ensures.same.items ∙ ap (λ xs. items_in (set xs 1 (record d { label = c.in-Ok.label }))) put
+    (c.join_if_small.ensures.same.items ∙ ap (λ xs. items_in (set xs 1 (record d { label = c.in-Ok.label }))) put
     ∙ ap (λ es. c.args.child.tree.0 ++ es) labelled.same.items)
 
 pub returns-then-place-eq0-clause-height : goal.returns-then-place-eq0-clause-height
@@ -38,14 +38,14 @@ returns-then-place-eq0-clause-height g c =
     let are = c.requires.children in
     let d = c.index_mut.result.now in
     let put = c.in_default-insert.ensures.items in
-    c.meet.ensures.same.height ∙ ap (λ xs. height_in (set xs 1 (record d { label = c.in-Ok.label }))) put
+    c.join_if_small.ensures.same.height ∙ ap (λ xs. height_in (set xs 1 (record d { label = c.in-Ok.label }))) put
     ∙ (more_before cs c.args.child are c.requires.child c.requires.room _
     (labelled_by_first cs d c.index.result.now c.item.result.now c.in-Ok.label are
     (c.index_mut.ensures.value ∙ ap (λ xs. get_or xs 1 d) put) c.index.ensures c.item.ensures
     (c.in-Ok.ensures c.requires.labels))).height
 
-pub meet-requires-2-clause-children : goal.meet-requires-2-clause-children
-meet-requires-2-clause-children g c =
+pub join_if_small-requires-2-clause-children : goal.join_if_small-requires-2-clause-children
+join_if_small-requires-2-clause-children g c =
     subst (AreChildren g.L.Label.label_of) (sym c.in_default-push.ensures.items)
     (more_behind c.args.children.now.items c.args.child c.requires.children c.requires.child c.requires.room
     c.requires.label).children
@@ -58,12 +58,12 @@ returns-clause-items g c =
       | inl first ↦ absurd (omega (arith, first))
       | inr last ↦ last
     ] in
-    subst (λ n. items_in c.meet-2.new.children.items ≡ spliced n 0 child.tree.0 (items_in cs)) (sym last)
-    (c.meet-2.ensures.same.items ∙ ap (λ cs. items_in cs) c.in_default-push.ensures.items ∙ items_append cs (child ∷ [])
-    ∙ ap (λ es. items_in cs ++ es) (append-nil child.tree.0) ∙ sym (splice_end (items_in cs) child.tree.0))
+    subst (λ n. items_in c.join_if_small-2.new.children.items ≡ spliced n 0 child.tree.0 (items_in cs)) (sym last)
+    (c.join_if_small-2.ensures.same.items ∙ ap (λ cs. items_in cs) c.in_default-push.ensures.items
+    ∙ items_append cs (child ∷ []) ∙ ap (λ es. items_in cs ++ es) (append-nil child.tree.0) ∙ sym (splice_end (items_in cs) child.tree.0))
 
 pub returns-clause-height : goal.returns-clause-height
 returns-clause-height g c =
-    c.meet-2.ensures.same.height ∙ ap (λ cs. height_in cs) c.in_default-push.ensures.items
+    c.join_if_small-2.ensures.same.height ∙ ap (λ cs. height_in cs) c.in_default-push.ensures.items
     ∙ (more_behind c.args.children.now.items c.args.child c.requires.children c.requires.child c.requires.room
     c.requires.label).height

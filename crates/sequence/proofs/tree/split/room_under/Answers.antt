@@ -10,7 +10,7 @@ returns g c =
     let cs = c.args.children.now.items in
     let spot = c.args.spot in
     let d = c.index_mut.result.now in
-    let l = c.halve.new.self in
+    let l = c.split_node.new.self in
     let r = c.in-Some.right in
     let room = c.in_ok-reserve.ensures.items in
     let is = c.index_mut.ensures.value ∙ ap (λ cs. get_or cs spot.child d) room in
@@ -31,8 +31,8 @@ returns g c =
     done) in
     record { same = all.same; leads = all.leads; spare = λ _. all.spare }
 
-pub halve-requires-clause-child : goal.halve-requires-clause-child
-halve-requires-clause-child g c =
+pub split_node-requires-clause-child : goal.split_node-requires-clause-child
+split_node-requires-clause-child g c =
     let at = c.args.spot.child in
     let d = c.index_mut.result.now in
     child_here c.args.children.now.items at d c.requires.children c.requires.within
@@ -42,6 +42,6 @@ pub returns-in_err-right-clause-same : goal.returns-in_err-right-clause-same
 returns-in_err-right-clause-same g c =
     let cs = c.args.children.now.items in
     subst (StandFor g.L.Label.label_of cs)
-    (sym (written_back cs c.reserve.new.self.items c.args.spot.child c.index_mut.result.now c.halve.new.self
+    (sym (written_back cs c.reserve.new.self.items c.args.spot.child c.index_mut.result.now c.split_node.new.self
     c.index_mut.ensures.value c.in_err-right.ensures.refused c.in_ok-reserve.ensures.items))
     (stand_itself cs c.requires.children)

@@ -1,18 +1,18 @@
 -- Three children on either side of the cut are enough.
 use Rattle.std.proofs.Common.{◌+◌, ◌<◌, arith, length}
 use Rattle.sequence.proofs.Shapes.Halves.{both_spare, sides}
-use Rattle.sequence.proofs.tree.Node.halve.Goals as goal
+use Rattle.sequence.proofs.tree.Node.split_node.Goals as goal
 
-pub half_of_branch-requires-clause-sides : goal.half_of_branch-requires-clause-sides
-half_of_branch-requires-clause-sides g c =
+pub split_branch-requires-clause-sides : goal.split_branch-requires-clause-sides
+split_branch-requires-clause-sides g c =
     let keep = c.kept-keep-in-Branch in
     let high : keep.result + 2 < length c.in-Branch.children.items = omega arith in
     let more = sides _ keep.result (rw c.in-Branch.is at c.requires.node) keep.ensures.low high in
     (omega (arith, more.0), omega (arith, more.1))
 
-pub returns-in_ok-half_of_branch-in-Branch-clause-spare : goal.returns-in_ok-half_of_branch-in-Branch-clause-spare
-returns-in_ok-half_of_branch-in-Branch-clause-spare g c =
+pub returns-in_ok-split_branch-in-Branch-clause-spare : goal.returns-in_ok-split_branch-in-Branch-clause-spare
+returns-in_ok-split_branch-in-Branch-clause-spare g c =
     let keep = c.kept-keep-in-Branch in
     let high : keep.result + 2 < length c.in-Branch.children.items = omega arith in
     both_spare _ keep.result (rw c.in-Branch.is at c.requires.node) keep.ensures.low high _ _
-    c.in_ok-half_of_branch-in-Branch.ensures.kept c.in_ok-half_of_branch-in-Branch.ensures.halves
+    c.in_ok-split_branch-in-Branch.ensures.kept c.in_ok-split_branch-in-Branch.ensures.halves

@@ -5,10 +5,10 @@ use Rattle.sequence.specs.declared.tree.Child.{Child}
 use Rattle.sequence.specs.Nodes.{IsChild, StandFor}
 use Rattle.sequence.proofs.Nodes.Children.{length-parts}
 use Rattle.sequence.proofs.Shapes.Joined.{split_stands}
-use Rattle.sequence.proofs.tree.+sever.Goals as goal
+use Rattle.sequence.proofs.tree.+split_in_place.Goals as goal
 
-pub sever::edge_at-returns-clause-same : goal.sever::edge_at-returns-clause-same
-sever::edge_at-returns-clause-same g t c =
+pub split_in_place::edge_at-returns-clause-same : goal.split_in_place::edge_at-returns-clause-same
+split_in_place::edge_at-returns-clause-same g t c =
     let cs = c.args.children.now.items in
     let i = c.spot_of-child.result.child in
     let within = (rw c.deref.ensures.value at c.spot_of-child.ensures).within in
@@ -18,14 +18,14 @@ sever::edge_at-returns-clause-same g t c =
     let done = c.in_ok-right.ensures in
     let r = c.in_ok-right.right in
     let l : Child g.row.T.Denot g.row.L.Denot =
-    record { label = d.label; len = c.spot_of-child.result.place - 1; tree = c.sever.new.self } in
+    record { label = d.label; len = c.spot_of-child.result.place - 1; tree = c.split_in_place.new.self } in
     let items = c.in-Ok.ensures.items ∙ ap (λ xs. insert (set xs i l) (i + 1) r) room in
     let child : IsChild (d.tree.1 + 1) l =
     record { counted = sym done.kept; level = ap (λ n. n + 1) done.halves.height; wide = done.halves.wide } in
     subst (λ xs. StandFor g.L.Label.label_of cs xs) (sym items)
     (split_stands cs i d l r c.requires.children within is child done.halves refl)
 
-pub sever::sever_under-half_of_branch-requires-clause-sides :
-    goal.sever::sever_under-half_of_branch-requires-clause-sides
-sever::sever_under-half_of_branch-requires-clause-sides g t c =
+pub split_in_place::split_branch_in_place-split_branch-requires-clause-sides :
+    goal.split_in_place::split_branch_in_place-split_branch-requires-clause-sides
+split_in_place::split_branch_in_place-split_branch-requires-clause-sides g t c =
     (grind arith, grind (arith, length-parts c.if-at-len.children.items c.in_ok-at.at))

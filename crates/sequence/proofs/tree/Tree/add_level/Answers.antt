@@ -1,7 +1,7 @@
 use Rattle.std.proofs.Common.{◌≡◌, ◌∙◌, ◌∷◌, ◌++◌, [], ap, arith, length, subst, sym}
 use Rattle.sequence.specs.Nodes.{AreChildren}
 use Rattle.sequence.proofs.Shapes.Halves.{child_is, only_is}
-use Rattle.sequence.proofs.tree.Tree.raise.Goals as goal
+use Rattle.sequence.proofs.tree.Tree.add_level.Goals as goal
 
 pub of-requires : goal.of-requires
 of-requires g c =

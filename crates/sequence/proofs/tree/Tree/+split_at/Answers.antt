@@ -5,7 +5,7 @@ use Rattle.sequence.specs.Nodes.{AreLevel, items_in}
 use Rattle.sequence.proofs.Nodes.Children.{length-parts}
 use Rattle.sequence.proofs.Shapes.Halves.{level_drop, level_take}
 use Rattle.sequence.proofs.Shapes.Parted.{back_is, front_is}
-use Rattle.sequence.proofs.tree.Tree.+split.Goals as goal
+use Rattle.sequence.proofs.tree.Tree.+split_at.Goals as goal
 
 pub of_children-requires-clause-level : goal.of_children-requires-clause-level
 of_children-requires-clause-level g t c =

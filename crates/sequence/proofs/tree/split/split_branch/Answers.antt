@@ -2,9 +2,9 @@ use Rattle.std.proofs.Common.{◌≡◌, ◌∙◌, ap, arith, drop, length, sub
 use Rattle.sequence.specs.declared.tree.Child.{Child}
 use Rattle.sequence.specs.Nodes.{AreChildren, AreHalves, items_in, height_in, seen}
 use Rattle.sequence.proofs.Shapes.Halves.{branches_are, children_drop, children_take}
-use Rattle.sequence.proofs.tree.split.half_of_branch.Goals as goal
-use Rattle.sequence.proofs.tree.split.half_of_branch.Given as given
-use Rattle.sequence.proofs.tree.split.half_of_branch.Goals.{In_ok-tail}
+use Rattle.sequence.proofs.tree.split.split_branch.Goals as goal
+use Rattle.sequence.proofs.tree.split.split_branch.Given as given
+use Rattle.sequence.proofs.tree.split.split_branch.Goals.{In_ok-tail}
 
 -- the second half are the children of a node
 tail_are : (g : given.Over) (c : In_ok-tail g) → AreChildren g.L.Label.label_of c.in_ok-tail.tail.items

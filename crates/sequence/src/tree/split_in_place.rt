@@ -4,9 +4,9 @@ ghost use Rattle.handles.specs.Copies.{CopiesAreEqual};
 ghost use Rattle.sequence.specs.Nodes.{AreChildren, AreHalves, StandFor, height_in, items_in};
 
 use crate::label::NewLabel;
-use crate::tree::insert::meet;
+use crate::tree::insert::join_if_small;
 use crate::tree::search::{Spot, spot_of};
-use crate::tree::split::{half_of_branch, half_of_leaf};
+use crate::tree::split::{split_branch, split_leaf};
 use crate::tree::{Blocked, Child, Node, Tree};
 use handles::arc::Arc;
 use std::alloc::Global;
@@ -14,8 +14,8 @@ use std::alloc::Global;
 impl<T: Clone, L: NewLabel<T>> Tree<T, L> {
     // Takes the items from that place on out, into a child. `least` is how many items a child of this height has at
     // least. If it is blocked, the items stay, but maybe in more nodes.
-    #[cycle(sever)]
-    pub(crate) fn sever(
+    #[cycle(split_in_place)]
+    pub(crate) fn split_in_place(
         &mut self,
         alloc: Global,
         place: usize,
@@ -32,15 +32,16 @@ impl<T: Clone, L: NewLabel<T>> Tree<T, L> {
     {
         let node = Arc::make_mut(&mut self.root, alloc)?;
         match node {
-            Node::Leaf(items) => Ok(half_of_leaf(items, alloc, place)?),
-            Node::Branch(children) => sever_under(children, alloc, place, least),
+            Node::Leaf(items) => Ok(split_leaf(items, alloc, place)?),
+            Node::Branch(children) => split_branch_in_place(children, alloc, place, least),
         }
     }
 }
 
-// The same under a branch. Small children that then stand beside the cut are joined with their neighbours.
-#[cycle(sever)]
-fn sever_under<T: Clone, L: NewLabel<T>>(
+// Takes the items from that place on out of a branch, into a child. Small children that then stand beside the cut are
+// joined with their neighbours.
+#[cycle(split_in_place)]
+fn split_branch_in_place<T: Clone, L: NewLabel<T>>(
     children: &mut Vec<Child<T, L>>,
     alloc: Global,
     place: usize,
@@ -60,17 +61,17 @@ fn sever_under<T: Clone, L: NewLabel<T>>(
 {
     let at = edge_at(children, alloc, place, least)?;
     if at + 1 < children.len() {
-        meet(children, at, alloc);
+        join_if_small(children, at, alloc);
     }
-    let right = half_of_branch(children, alloc, at)?;
+    let right = split_branch(children, alloc, at)?;
     if at > 1 {
-        meet(children, at - 2, alloc);
+        join_if_small(children, at - 2, alloc);
     }
     Ok(right)
 }
 
 // The number of the first child behind the place, once the child around it is two.
-#[cycle(sever)]
+#[cycle(split_in_place)]
 fn edge_at<T: Clone, L: NewLabel<T>>(
     children: &mut Vec<Child<T, L>>,
     alloc: Global,
@@ -99,7 +100,7 @@ fn edge_at<T: Clone, L: NewLabel<T>>(
     }
     children.reserve(1)?;
     let left = &mut children[child];
-    let right = left.tree.sever(alloc, place, least / 2)?;
+    let right = left.tree.split_in_place(alloc, place, least / 2)?;
     left.len = place;
     let Ok(()) = children.insert(child + 1, right) else {
         unreachable!()

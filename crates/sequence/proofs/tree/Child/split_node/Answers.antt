@@ -1,6 +1,6 @@
 use Rattle.std.proofs.Common.{refl}
 use Rattle.sequence.proofs.Shapes.Halves.{left_is}
-use Rattle.sequence.proofs.tree.Child.halve.Goals as goal
+use Rattle.sequence.proofs.tree.Child.split_node.Goals as goal
 
 pub returns-clause-child : goal.returns-clause-child
 returns-clause-child g c =

@@ -1,7 +1,7 @@
 -- A tree is lower than a byte can say.
 use Rattle.std.proofs.Common.{arith}
 use Rattle.sequence.proofs.Nodes.Wide.{low}
-use Rattle.sequence.proofs.tree.Tree.rise.Goals as goal
+use Rattle.sequence.proofs.tree.Tree.make_higher.Goals as goal
 
 pub overflow_add-result : goal.overflow_add-result
 overflow_add-result g c =

@@ -2,7 +2,7 @@ use Rattle.std.proofs.Common.{◌≡◌, ◌∙◌, ap, arith, drop, length, len
 use Rattle.sequence.specs.declared.tree.Child.{Child}
 use Rattle.sequence.specs.Nodes.{AreHalves, IsList, seen}
 use Rattle.sequence.proofs.Shapes.Halves.{leaves_are, list_drop, list_take}
-use Rattle.sequence.proofs.tree.split.half_of_leaf.Goals as goal
+use Rattle.sequence.proofs.tree.split.split_leaf.Goals as goal
 
 pub invariant_of-result : goal.invariant_of-result
 invariant_of-result g c =

@@ -5,8 +5,10 @@
 --     Cuts, Cutting/..       how a search finds the last item before a cut, and what is done there
 --     Pieces, Pairs, Calls   what goes down a tree, comparisons, and calls within a cycle
 --     Boxes                  a list behind a pointer, taken apart and put together
+--     BoxesCrossing          the same list, sent to a thread or lent to one
 --     tree/.., sequence/..   the proof of each function, at the path of its code
 pub mod Boxes
+pub mod BoxesCrossing
 pub mod Calls
 pub mod Cuts
 pub mod Cutting

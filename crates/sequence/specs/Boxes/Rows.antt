@@ -56,9 +56,9 @@ use Rattle.sequence.specs.contracts.sequence.Sequence.TheInside as inside
 use Rattle.sequence.specs.Boxes.Owned.{list_row}
 use Rattle.sequence.specs.declared.boxed.hidden.HiddenSequence.{HiddenSequence}
 use Rattle.sequence.specs.contracts.boxed.hidden.HiddenSequence as C
-
 use Rattle.sequence.specs.Boxes.Values.{Kid, Nodes, sight, layer, keeps, node_prop, sight_over, kid_over, node_over}
 use Rattle.sequence.specs.Boxes.Values.{natural, node_to, node_from}
+
 abbrev pub U : RattleType
 U = unlabelled.the_row
 
@@ -106,9 +106,9 @@ module _ (R S : RattleType) (h : R.Denot → S.Denot) where
     pub kid_places : Alike (at_kid p) (at_kid' q) over_kid
     kid_places =
         let s = struct_places (knot.type-Child R U (label.ghosts R) (rest_row p)) (knot.type-Child S U (label.ghosts S) (rest_row' q))
-            ((λ l. l), ((λ n. n), (over_sight, tt)))
-            (λ v. (v.0, (v.1.0, (over_sight v.1.1.0, tt)))) (λ d. refl) refl
-            ((refl, (λ n. refl, λ n. refl)), ((refl, (λ n. refl, λ n. refl)), (laid _ _ _ rest_places, tt))) in
+        ((λ l. l), ((λ n. n), (over_sight, tt)))
+        (λ v. (v.0, (v.1.0, (over_sight v.1.1.0, tt)))) (λ d. refl) refl
+        ((refl, (λ n. refl, λ n. refl)), ((refl, (λ n. refl, λ n. refl)), (laid _ _ _ rest_places, tt))) in
         record {
           mir_same = s.mir_same;
           own_same = λ d. s.own_same (split-Child R.Denot U.Denot (label.ghosts R) d);
@@ -144,7 +144,7 @@ module _ (R S : RattleType) (h : R.Denot → S.Denot) where
     pub layer_places : Alike (knot.at-Tree R U (label.ghosts R) p) (knot.at-Tree S U (label.ghosts S) q) ((layer).map R.Denot S.Denot h)
     layer_places =
         let s = struct_places (knot.type-Tree R U (label.ghosts R) (at_node p)) (knot.type-Tree S U (label.ghosts S) (at_node' q)) (over_node, tt)
-            (λ v. (over_node v.0, tt)) (λ d. refl) refl (laid _ _ _ (arc.the_places (at_node p) (at_node' q) over_node node_places), tt) in
+        (λ v. (over_node v.0, tt)) (λ d. refl) refl (laid _ _ _ (arc.the_places (at_node p) (at_node' q) over_node node_places), tt) in
         record {
           mir_same = s.mir_same;
           own_same = λ d. s.own_same (split-Tree R.Denot U.Denot (label.ghosts R) d);
@@ -178,4 +178,3 @@ module _ (R S : RattleType) (h : R.Denot → S.Denot) where
 
     pub tree_places : Alike (tree.the_row R U (label.ghosts R)) (tree.the_row S U (label.ghosts S)) over_sight
     tree_places = record { mir_same = refl; own_same = λ y i. (tied_same y i).0; shr_same = λ y i. (tied_same y i).1 }
-

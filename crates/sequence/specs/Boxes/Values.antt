@@ -235,7 +235,8 @@ module _ (X Y : Type 0) (h : X → Y) where
   node_from (Branch v) p = record {
     list = list_from _ (subst IsList (items_same v.items) p.list);
     each = λ k d lt. child_from _ _ (height_same v.items) _ (all_from (IsChild (height_in (map kid_over v.items))) v.items p.each k d lt);
-    labels = λ k d lt. record { first = sym (label_same (slice_index_or (drop 1 v.items) k d).tree.0)
-        ∙ (all_from (IsLabelled (no_label Y)) (drop 1 v.items) (subst (All (IsLabelled (no_label Y))) (drop_map v.items) p.labels) k d lt).first };
+    labels = λ k d lt. record {
+      first = sym (label_same (slice_index_or (drop 1 v.items) k d).tree.0)
+          ∙ (all_from (IsLabelled (no_label Y)) (drop 1 v.items) (subst (All (IsLabelled (no_label Y))) (drop_map v.items) p.labels) k d lt).first;
+    };
   }
-

@@ -56,9 +56,9 @@ use Rattle.sequence.specs.contracts.sequence.Sequence.TheInside as inside
 use Rattle.sequence.specs.Boxes.Owned.{list_row}
 use Rattle.sequence.specs.declared.boxed.hidden.HiddenSequence.{HiddenSequence}
 use Rattle.sequence.specs.contracts.boxed.hidden.HiddenSequence as C
-
 use Rattle.sequence.specs.Boxes.Values.{sight, split, join, sight_over}
 use Rattle.sequence.specs.Boxes.Rows.{U, tree_places}
+
 abbrev pub the_former : Former {0} → Former {0}
 the_former g = via (pair (const (Ptr × Global)) (list g)) (λ X. HiddenSequence (g.Of X)) (λ X h. ((h.at, h.alloc), h.items))
     (λ X v. record { at = v.0.0; alloc = v.0.1; items = v.1 }) (λ X h. refl) (λ X v. refl)

@@ -1,5 +1,5 @@
 -- `get` shows the list.
-use Rattle.handles.proofs.Walks.{by_ref, so, ℕ, ◌+◌, List, [], ◌∷◌, refl, Val, vptr, id⊢, Lft, fhide, ‵, raw, ◌⊛◌, ◌$◌, !}
+use Rattle.handles.proofs.Walks.{by_ref, so, ℕ, ◌+◌, List, [], ◌∷◌, refl, Val, vptr, id⊢, Lft, fhide, ‵, raw, ◌⊛◌, ◌$◌, ! }
 use Rattle.handles.proofs.Walks.{by, move, keep, drop, split, fsplit, fjoin, use1, feq_i, stop, fld, load, look, addr}
 use Rattle.handles.proofs.Walks.{of_opd, first, blocks, returns, alloc_all, pass_all, free_all, look_at, get, through}
 use Rattle.handles.proofs.Walks.{sets, sets_last, RattleType, Ptr, InBlock, block_of, offset_of, param, fact, fact_i}

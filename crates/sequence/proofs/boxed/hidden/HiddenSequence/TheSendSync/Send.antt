@@ -1,0 +1,1 @@
+pub use Rattle.sequence.proofs.BoxesCrossing.{hidden-Send as send}

@@ -1,0 +1,1 @@
+pub use Rattle.sequence.proofs.BoxesCrossing.{hidden-Sync as sync}

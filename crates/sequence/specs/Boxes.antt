@@ -1,5 +1,4 @@
 pub mod BoxedLending
 pub mod Lending
 pub mod Owned
-pub mod Rows
-pub mod Values
+pub mod Places

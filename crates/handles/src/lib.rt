@@ -11,5 +11,3 @@ mod limit;
 pub mod place;
 pub mod static_arc;
 pub mod unique;
-
-pub use block::RawBox;

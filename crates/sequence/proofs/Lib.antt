@@ -4,14 +4,13 @@
 --     Shapes/..              nodes that become two or one, and what is hung beside them
 --     Cuts, Cutting/..       how a search finds the last item before a cut, and what is done there
 --     Pieces, Pairs, Calls   what goes down a tree, comparisons, and calls within a cycle
---     Boxes                  a list behind a pointer, taken apart and put together
---     BoxesCrossing          the same list, sent to a thread or lent to one
+--     Laid, LaidCrossing     a list that is laid out as a `Sequence`, and which threads it may go to
 --     tree/.., sequence/..   the proof of each function, at the path of its code
-pub mod Boxes
-pub mod BoxesCrossing
 pub mod Calls
 pub mod Cuts
 pub mod Cutting
+pub mod Laid
+pub mod LaidCrossing
 pub mod Lists
 pub mod Nodes
 pub mod Pairs

@@ -1,11 +1,12 @@
 pub mod Acts
 pub mod Bounds
-pub mod Boxes
 pub mod Changes
 pub mod Cuts
 pub mod Falls
+pub mod Laid
 pub mod Nodes
 pub mod Parts
 pub mod Pieces
+pub mod Places
 pub mod Spots
 pub mod formers

@@ -1,1 +1,1 @@
-pub mod boxed
+pub mod recursive

@@ -1,20 +1,20 @@
 //! A list with access by index. A clone is an O(1) version (snapshot), and a change of one version is seen in no other.
 #![tactic(auto)]
 
-mod boxed;
 mod compare;
 mod cut;
 mod iter;
 mod label;
 mod put;
+mod recursive;
 mod sequence;
 mod tree;
 
-pub use boxed::BoxedSequence;
 pub use cut::{Cut, Seek};
 pub use handles::place::PlaceError;
 pub use iter::Iter;
 pub use label::{Label, NewLabel, Unlabelled};
 pub use put::Put;
+pub use recursive::RecursiveSequence;
 pub use sequence::Sequence;
 pub use tree::Tree;

@@ -7,12 +7,10 @@ use std::alloc::Global;
 use std::marker::Model;
 use std_alloc::room::Vacant;
 
-/// A box, taken apart into its pointer and its allocator, for types that own a block through a raw pointer:
-/// `RawBox::of(boxed)`. It has no drop. Make it a box again with `into_box`.
-pub struct RawBox<T> {
-    pub at: *mut T,
-    pub alloc: Global,
-    pub ghost value: { T },
+pub(crate) struct RawBox<T> {
+    pub(super) at: *mut T,
+    pub(super) alloc: Global,
+    pub(crate) ghost value: { T },
 }
 
 impl<T> Model for RawBox<T> {
@@ -20,16 +18,14 @@ impl<T> Model for RawBox<T> {
 }
 
 impl<T: Drop> RawBox<T> {
-    /// Takes the box apart, in O(1).
-    pub fn of(boxed: Box<T>) -> RawBox<T>
+    pub(crate) fn of(boxed: Box<T>) -> RawBox<T>
         ensures { result.value ≡ boxed.value }
     {
         let (at, alloc) = Box::into_raw_with_allocator(boxed);
         RawBox { at, alloc }
     }
 
-    /// Returns the box, in O(1).
-    pub fn into_box(self) -> Box<T>
+    pub(crate) fn into_box(self) -> Box<T>
         ensures { result.value ≡ self.value }
     {
         let RawBox { at, alloc } = self;

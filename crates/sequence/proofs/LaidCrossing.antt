@@ -1,19 +1,12 @@
 -- A hidden list may go to a thread, and be seen by one, if its items may go to any thread and be seen by any.
-use mir.Raw.{raw}
 use denote.RattleType.{RattleType}
-use denote.Memory.{lone}
 use denote.Hole.{as_row}
-use denote.Param.Send.{IsSend, IsSync, AllSend, AllSync, owning_send, struct_send, struct_sync, sendable}
+use denote.Param.Send.{IsSend, IsSync, sendable}
 use denote.Param.Send.{view_send, view_sync}
 use denote.Param.SendFields.{as_row_send, as_row_sync, declared_send, declared_sync}
 use denote.Struct.Field.{row_field, usize-field}
-use denote.Struct.Owning.{Owning, shape, fields, to}
-use denote.Struct.Struct.{exits_of}
 use Rattle.std.proofs.Crossing as crossing
-use Rattle.std_alloc.proofs.SendSync.{quiet, lies, seen}
-use Rattle.std_heap.proofs.Handle.{handle}
 use Rattle.std.proofs.option.Option.TheSendSync as option
-use Rattle.std_heap.proofs.Global.TheSendSync as heap
 use Rattle.handles.proofs.arc.Arc.TheSendSync as arc
 use Rattle.sequence.proofs.label.Unlabelled.TheSendSync as unlabelled
 use Rattle.sequence.proofs.tree.Tree.TheLaws.TheKnot as knot
@@ -25,8 +18,8 @@ use Rattle.sequence.specs.contracts.label.Unlabelled as unlabels
 use Rattle.sequence.specs.contracts.label.UnlabelledLabel.TheImpl as label
 use Rattle.sequence.specs.contracts.tree.Tree as tree
 use Rattle.sequence.specs.contracts.sequence.Sequence.TheInside as inside
-use Rattle.sequence.specs.Boxes.Owned.{list_row}
-use Rattle.sequence.specs.contracts.boxed.hidden.HiddenSequence as hidden
+use Rattle.sequence.specs.Laid.Owned.{list_row}
+use Rattle.sequence.specs.contracts.recursive.RecursiveSequence.{the_row}
 
 abbrev U : RattleType
 U = unlabels.the_row
@@ -75,24 +68,8 @@ module _ (R : RattleType) (s : IsSend R) (y : IsSync R) where
   list-Sync = view_sync (inside.the_row R U G) _ _ _ _
       (declared_sync (inside.the_type R U G) (option.the_sync _ tree-Sync, (length-Sync, tt)))
 
-  abbrev O : Owning
-  O = hidden.the_type R
+  pub items_list-Send : IsSend (the_row R)
+  items_list-Send = record { owned = λ x vs. ((λ _. tt), list-Send.owned x vs); leaving = λ k x w. tt }
 
-  fields-Send : AllSend (fields O)
-  fields-Send = (search sendable, (heap.the_field_send, tt))
-
-  fields-Sync : AllSync (fields O)
-  fields-Sync = (search sendable, (heap.the_field_sync, tt))
-
-  pub hidden-Send : IsSend (hidden.the_row R)
-  hidden-Send = owning_send O fields-Send
-      (λ d. (lies (list_row R) list-Send d.at d.items, crossing.frees.frees handle (raw (lone (list_row R).mir)) d.at))
-      (λ k. quiet (to O) (exits_of k (fields O)) ((struct_send (shape O) fields-Send).leaving k))
-
-  pub hidden-Sync : IsSync (hidden.the_row R)
-  hidden-Sync = record {
-    shared = λ d b o κ. (
-      (struct_sync (shape O) fields-Sync).shared (to O d) b o κ,
-      seen (list_row R) list-Sync d.at d.items κ,
-    );
-  }
+  pub items_list-Sync : IsSync (the_row R)
+  items_list-Sync = record { shared = λ x b o κ. list-Sync.shared x b o κ }

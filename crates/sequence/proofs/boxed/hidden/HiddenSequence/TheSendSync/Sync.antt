@@ -1,1 +1,0 @@
-pub use Rattle.sequence.proofs.BoxesCrossing.{hidden-Sync as sync}

@@ -1,0 +1,1 @@
+pub use Rattle.sequence.proofs.LaidCrossing.{items_list-Sync as sync}

@@ -1,4 +1,0 @@
-pub mod BoxedLending
-pub mod Lending
-pub mod Owned
-pub mod Places

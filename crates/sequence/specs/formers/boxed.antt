@@ -1,2 +1,0 @@
-pub mod BoxedSequence
-pub mod hidden

@@ -263,11 +263,8 @@ fn a_name_is_read_and_a_tree_summed(rt: HostRuntime) {
     let (first, second) = ok!(&rt, shared_name(rt.alloc(), 7, "größe"));
     let named = [is_named(&first, "größe"), is_named(&second, "größ")];
     same!(&rt, (*second.header(), named), (7, [true, false]));
-    let leaves = [2, 3].map(|value| Rose::leaf(rt.alloc(), value));
-    let mut below = Vec::new(rt.alloc());
-    for leaf in leaves {
-        ok!(&rt, below.push(ok!(&rt, leaf)));
-    }
+    let leaf = ok!(&rt, Rose::leaf(rt.alloc(), 2u64));
+    let below = ok!(&rt, vec![in rt.alloc(); leaf]);
     let tree = ok!(&rt, Rose::with_children(rt.alloc(), 1u64, below));
-    same!(&rt, total(&tree), 6);
+    same!(&rt, total(&tree), 3);
 }

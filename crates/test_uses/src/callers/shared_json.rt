@@ -127,14 +127,14 @@ fn grow(rt: &(impl Abort + AllocGlobal), values: &mut Vec<Value>, random: usize)
             }
             Value::List(arc_of(rt, items))
         }
-        _ => object(rt, values, random / 24 % 4),
+        _ => object(rt, values, random / 24),
     };
     ok!(rt, values.push(value));
 }
 
-fn object(rt: &(impl Abort + AllocGlobal), values: &mut Vec<Value>, len: usize) -> Value {
+fn object(rt: &(impl Abort + AllocGlobal), values: &mut Vec<Value>, random: usize) -> Value {
     let mut members = BTreeMap::new(rt.alloc());
-    for name in &NAMES[..len] {
+    for name in &NAMES[..random % 4] {
         let name = arc_of(rt, ok!(rt, String::from_str(rt.alloc(), name)));
         let value = values.pop().unwrap_or(Value::Null);
         drop(ok!(rt, members.insert(name, value)));

@@ -2,14 +2,14 @@
 use Rattle.std.proofs.Common.{◌≡◌, ◌+◌, ◌-◌, ◌<◌, ◌≤◌, ◌^◌, ℕ, List, [], ◌∷◌, length, take, drop}
 use Rattle.std.proofs.Common.{get_or, set, ap, sym, ◌∙◌}
 use Rattle.std.proofs.Common.{subst, arith, length-set, refl}
-use Rattle.std.specs.Prelude.{Some, Result, Ok, Err, IfOk, OnErr, slice_get}
+use Rattle.std.specs.Prelude.{Some, Result, Ok, Err, IfOk, OnErr, OnOk, slice_get}
 use Rattle.std.specs.Borrow.{MutBor}
 use Rattle.std.specs.Fn.{Once}
 use Rattle.sequence.specs.Changes.{ChangesItem, KeepsLabel}
 use Rattle.sequence.specs.declared.tree.search.Spot.{Spot}
-use Rattle.sequence.specs.Spots.{Leads}
+use Rattle.sequence.specs.Spots.{Leads, spliced}
 use Rattle.sequence.specs.declared.tree.Child.{Child}
-use Rattle.sequence.specs.Nodes.{AreChildren, IsChild, first_label, height_in, items_in}
+use Rattle.sequence.specs.Nodes.{AreChildren, IsChild, IsLabelled, first_label, height_in, items_in}
 use Rattle.sequence.proofs.Nodes.Children.{items_split, length-split}
 use Rattle.sequence.proofs.Nodes.Labelled.{first_set, labelled_at, labelled_by}
 use Rattle.sequence.proofs.Nodes.Placed.{child_here, left_in, put_under, stand_itself}
@@ -88,6 +88,15 @@ module _ {T L : Type 0} {label_of : T → L} (tree : List T × ℕ) (cs : List (
           refused = done.items ∙ ap (λ (t : List T × ℕ). t.0) same;
         }
 
+-- the node after an item was taken out of a child, whose answer is r
+pub record IsRemoved {T L E : Type 0} (label_of : T → L) (tree : List T × ℕ) (at : ℕ) (new : List (Child T L))
+    (r : Result T E) : Type 0 where
+  pub whole : AreChildren label_of new
+  pub item : IfOk r (λ item. slice_get tree.0 at ≡ Some item)
+  pub items : OnOk r (items_in new ≡ spliced at 1 [] tree.0)
+  pub height : height_in new ≡ tree.1
+  pub refused : OnErr r (items_in new ≡ tree.0)
+
 -- a spot behind an item leads to that item's child
 module _ {T L : Type 0} {label_of : T → L} (tree : List T × ℕ) (cs : List (Child T L)) (spot : Spot) (d : Child T L)
     (are : AreChildren label_of cs) (same : ◌≡◌ {A = List T × ℕ} (items_in cs, height_in cs) tree) (at : ℕ)
@@ -102,6 +111,25 @@ module _ {T L : Type 0} {label_of : T → L} (tree : List T × ℕ) (cs : List (
 
   pub item_at : slice_get tree.0 at ≡ slice_get d.tree.0 (spot.place - 1)
   item_at = item_under tree cs spot.child d are same leads.within is at (spot.place - 1) spot_place spot_inside
+
+  pub removed_at : {E : Type 0} (new : Child T L) (r : Result T E) → IsChild (d.tree.1 + 1) new
+      → (0 < spot.child → IsLabelled label_of new)
+      → IfOk r (λ item. slice_get d.tree.0 (spot.place - 1) ≡ Some item)
+      → OnOk r (new.tree.0 ≡ spliced (spot.place - 1) 1 [] d.tree.0) → OnErr r (new.tree.0 ≡ d.tree.0)
+      → IsRemoved label_of tree at (set cs spot.child new) r
+  removed_at new r child label item items refused =
+      let within : spot.place - 1 + 1 ≤ length d.tree.0 = omega (arith, spot_inside) in
+      let room : length (items_in cs) + 0 < 2 ^ 64 + 1 = omega (arith, are.list.room) in
+      let put = put_under cs cs spot.child d new (stand_itself cs are) leads.within is child label at (spot.place - 1)
+      1 [] spot_place within r items refused room in
+      let all = ap (λ (t : List T × ℕ). t.0) same in
+      record {
+        whole = put.children;
+        item = subst (λ o. IfOk r (λ item. o ≡ Some item)) (sym item_at) item;
+        items = subst (λ (es : List T). OnOk r (items_in (set cs spot.child new) ≡ spliced at 1 [] es)) all put.items;
+        height = put.height ∙ ap (λ (t : List T × ℕ). t.1) same;
+        refused = subst (λ (es : List T). OnErr r (items_in (set cs spot.child new) ≡ es)) all put.refused;
+      }
 
   pub changed_at : {F R E : Type 0} (g : Once F (MutBor T × Unit {0}) (R × (MutBor T × Unit {0}))) (change : F)
       (new : List T × ℕ) (r : Result R E) → IfOk r (ChangesItem g change (spot.place - 1) d.tree.0 new.0)

@@ -28,34 +28,13 @@ impl<T: Clone, L: NewLabel<T>> Tree<T, L> {
         ensures height { self.new.1 ≡ self.old.1 }
         ensures refused { OnErr result (self.new.0 ≡ self.old.0) }
     {
-        let node = Arc::make_mut(&mut self.root, alloc)?;
-        match node {
-            Node::Leaf(items) => Ok(items.remove(index)),
-            Node::Branch(children) => remove_under(children, alloc, index),
-        }
+        let children = match Arc::make_mut(&mut self.root, alloc)? {
+            Node::Leaf(items) => return Ok(items.remove(index)),
+            Node::Branch(children) => children,
+        };
+        let spot = spare_for(children, alloc, index)?;
+        children[spot.child].remove(alloc, spot.place - 1, spot.child > 0)
     }
-}
-
-// Takes the item of that number out from under a branch.
-#[cycle(remove)]
-fn remove_under<T: Clone, L: NewLabel<T>>(
-    children: &mut Vec<Child<T, L>>,
-    alloc: Global,
-    index: usize,
-) -> Result<T, AllocError>
-    requires copies { CopiesAreEqual T.is_clone }
-    requires labels { CopiesAreEqual L.is_clone }
-    requires children { AreChildren L.label_of children.old.items }
-    requires there { index < length (items_in children.old.items) }
-    requires wide { 2 ^ height_in children.old.items ≤ length (items_in children.old.items) }
-    ensures item { IfOk result (λ item. slice_get (items_in children.old.items) index ≡ Some item) }
-    ensures items { OnOk result (items_in children.new.items ≡ spliced index 1 [] (items_in children.old.items)) }
-    ensures height { height_in children.new.items ≡ height_in children.old.items }
-    ensures children { AreChildren L.label_of children.new.items }
-    ensures refused { OnErr result (items_in children.new.items ≡ items_in children.old.items) }
-{
-    let spot = spare_for(children, alloc, index)?;
-    children[spot.child].remove(alloc, spot.place - 1, spot.child > 0)
 }
 
 impl<T: Clone, L: NewLabel<T>> Child<T, L> {

@@ -60,7 +60,8 @@ returns-clause-items g c =
     ] in
     subst (λ n. items_in c.join_if_small-2.new.children.items ≡ spliced n 0 child.tree.0 (items_in cs)) (sym last)
     (c.join_if_small-2.ensures.same.items ∙ ap (λ cs. items_in cs) c.in_default-push.ensures.items
-    ∙ items_append cs (child ∷ []) ∙ ap (λ es. items_in cs ++ es) (append-nil child.tree.0) ∙ sym (splice_end (items_in cs) child.tree.0))
+    ∙ items_append cs (child ∷ []) ∙ ap (λ es. items_in cs ++ es) (append-nil child.tree.0)
+    ∙ sym (splice_end (items_in cs) child.tree.0))
 
 pub returns-clause-height : goal.returns-clause-height
 returns-clause-height g c =

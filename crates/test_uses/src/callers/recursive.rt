@@ -26,7 +26,10 @@ fn trees_of_slices_are_ordered_and_hashed(rt: HostRuntime) {
     same!(&rt, two.partial_cmp(&above(&rt, 2)), Some(Ordering::Equal));
     let mut trees = HashSet::new(rt.alloc());
     ok!(&rt, trees.insert(two));
-    let found = (trees.contains(&above(&rt, 2)), trees.contains(&above(&rt, 3)));
+    let found = (
+        trees.contains(&above(&rt, 2)),
+        trees.contains(&above(&rt, 3)),
+    );
     same!(&rt, found, (true, false));
 }
 

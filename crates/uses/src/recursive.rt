@@ -11,4 +11,5 @@ pub mod by_arc;
 pub mod by_collections;
 pub mod by_other_handles;
 pub mod by_static;
+pub mod by_versions;
 pub mod walks;

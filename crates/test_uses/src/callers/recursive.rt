@@ -7,6 +7,7 @@ use std::process::Abort;
 use testing::{again, ok, same};
 use uses::recursive::by_collections::{Value, insert};
 use uses::recursive::by_other_handles::HeaderTree;
+use uses::recursive::by_versions;
 
 fn tree(rt: &(impl Abort + AllocGlobal), header: u32, below: Vec<HeaderTree>) -> HeaderTree {
     let kids = ok!(rt, Arc::from_header_and_vec(rt.alloc(), header, below));
@@ -25,7 +26,10 @@ fn trees_of_slices_are_ordered_and_hashed(rt: HostRuntime) {
     same!(&rt, two.partial_cmp(&above(&rt, 2)), Some(Ordering::Equal));
     let mut trees = HashSet::new(rt.alloc());
     ok!(&rt, trees.insert(two));
-    let found = (trees.contains(&above(&rt, 2)), trees.contains(&above(&rt, 3)));
+    let found = (
+        trees.contains(&above(&rt, 2)),
+        trees.contains(&above(&rt, 3)),
+    );
     same!(&rt, found, (true, false));
 }
 
@@ -36,4 +40,21 @@ fn an_insert_leaves_other_versions(rt: HostRuntime) {
     ok!(&rt, insert(&mut map, rt.alloc(), 1, Value::Number(2)));
     same!(&rt, [old.len(), map.len()], [0, 1]);
     same!(&rt, [old.is_unique(), map.is_unique()], [true; 2]);
+}
+
+// A list in a map in a list: what is added to one version is in no other.
+#[test]
+fn versions_of_nested_lists_stay(rt: HostRuntime) {
+    let (alloc, mut list) = (rt.alloc(), Default::default());
+    let one = by_versions::Value::Number(1);
+    ok!(&rt, by_versions::append_item(&mut list, alloc, one));
+    let old = again!(&rt, list);
+    let inner = by_versions::Value::List(again!(&rt, list));
+    let mut map = Default::default();
+    ok!(&rt, by_versions::insert_item(&mut map, alloc, 7, inner));
+    let map = by_versions::Value::Map(map);
+    ok!(&rt, by_versions::append_item(&mut list, alloc, map));
+    same!(&rt, [old.len(), list.len()], [1, 2]);
+    let first = by_versions::first_number(&list[1]);
+    same!(&rt, (first, old == list), (Some(1), false));
 }

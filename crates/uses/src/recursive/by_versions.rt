@@ -1,0 +1,68 @@
+//! A type that holds itself in lists and maps whose versions share their nodes.
+ghost use Rattle.std.specs.Prelude.{◌≡◌, ◌++◌, ◌∷◌, [], OnErr, OnOk};
+ghost use Rattle.std.specs.Ordering.{nat_cmp};
+ghost use Rattle.maps.specs.Maps.{with_entry};
+
+use maps::RecursiveTreeMap;
+use sequence::RecursiveSequence;
+use std::alloc::{AllocError, Global};
+
+/// A value that may hold values.
+#[derive(Drop, Debug, PartialEq, Eq, PartialOrd, Ord, Hash)]
+pub enum Value {
+    Null,
+    Number(u64),
+    List(RecursiveSequence<Value>),
+    Map(RecursiveTreeMap<u64, Value>),
+}
+
+/// Makes a version (snapshot) in O(1). It is written by hand, because the calls of lists and maps require a contract
+/// which says that a clone equals the original.
+impl Clone for Value {
+    ghost is_clone = { λ a b. b ≡ a };
+
+    fn clone(&self) -> Result<Value, AllocError> {
+        match self {
+            Value::Null => Ok(Value::Null),
+            Value::Number(number) => Ok(Value::Number(*number)),
+            Value::List(items) => Ok(Value::List(items.clone()?)),
+            Value::Map(entries) => Ok(Value::Map(entries.clone()?)),
+        }
+    }
+}
+
+/// Appends an item to the list. Other versions keep theirs.
+pub fn append_item(
+    list: &mut RecursiveSequence<Value>,
+    alloc: Global,
+    item: Value,
+) -> Result<(), AllocError>
+    ensures added { OnOk result (list.new ≡ list.old ++ item ∷ []) }
+    ensures refused { OnErr result (list.new ≡ list.old) }
+{
+    list.push(alloc, item)
+}
+
+/// Inserts an item under a key of the map. Other versions keep theirs.
+pub fn insert_item(
+    map: &mut RecursiveTreeMap<u64, Value>,
+    alloc: Global,
+    key: u64,
+    item: Value,
+) -> Result<(), AllocError>
+    ensures inserted { OnOk result (map.new ≡ with_entry nat_cmp key item map.old) }
+    ensures refused { OnErr result (map.new ≡ map.old) }
+{
+    map.insert(alloc, key, item)?;
+    Ok(())
+}
+
+/// Returns the first number that the value holds in first places.
+pub fn first_number(value: &Value) -> Option<u64> {
+    match value {
+        Value::Null => None,
+        Value::Number(number) => Some(*number),
+        Value::List(items) => first_number(items.get(0)?),
+        Value::Map(entries) => first_number(&entries.first()?.1),
+    }
+}

@@ -5,6 +5,8 @@ pub mod Cuts
 pub mod Differences
 pub mod Inserted
 pub mod Kept
+pub mod Laid
+pub mod LaidCrossing
 pub mod Lookup
 pub mod Order
 pub mod Passed

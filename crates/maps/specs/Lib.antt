@@ -1,9 +1,11 @@
 pub mod Bounds
 pub mod Changes
 pub mod Differences
+pub mod Laid
 pub mod Maps
 pub mod Nodes
 pub mod Places
 pub mod Queries
 pub mod StackFalls
 pub mod Stacks
+pub mod formers

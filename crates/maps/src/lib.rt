@@ -9,6 +9,7 @@ mod key;
 mod links;
 mod map;
 mod query;
+mod recursive;
 mod stack;
 mod stack_iter;
 
@@ -19,5 +20,6 @@ pub use map::keys::Keys;
 pub use map::values::Values;
 pub use map::{Tree, TreeMap};
 pub use query::Query;
+pub use recursive::RecursiveTreeMap;
 pub use stack::Stack;
 pub use stack_iter::StackIter;

@@ -1,0 +1,1 @@
+pub use Rattle.maps.proofs.LaidCrossing.{entries-Send as send}

@@ -38,23 +38,29 @@ module _ (T' : RattleType) (L : Laws T') where
   list_laws : Laws ListRow
   list_laws = sequence_laws R unlabelled.the_row (label.ghosts R) (param_laws 0 T' L) unlabelled_laws
 
-  typed : {M : Type 1} {𝓤 : Ura M} (𝓛 : Logic 𝓤) (x : ListRow.Denot) (vs : List Val) → Is ListRow x vs → Typed Self.mir vs
+  typed : {M : Type 1} {𝓤 : Ura M} (𝓛 : Logic 𝓤) (x : ListRow.Denot) (vs : List Val) → Is ListRow x vs → Typed
+      Self.mir vs
   typed 𝓛 x vs is = arg_typed (lone Self.mir) ListRow list_laws.one refl vs ((list_laws.lawful 𝓛).typed x vs is)
 
   module _ {M : Type 1} {𝓤 : Ura M} (𝓛 : Logic 𝓤) (b o : ℕ) where
-    pub forth : (x : ListRow.Denot) (vs : List Val) → ent 𝓤 (sep 𝓤 (sem 𝓛 (cell_at full_share Self.mir vs b o)) (sem 𝓛 (Self.own_val x vs)))
+    pub forth : (x : ListRow.Denot) (vs : List Val) → ent 𝓤 (sep 𝓤 (sem 𝓛 (cell_at full_share Self.mir vs b o)) (sem 𝓛
+        (Self.own_val x vs)))
         (sem 𝓛 ((mem ListRow).own_at x b o))
     unfolding part_of
-    forth x vs = qed 𝓛 (‵ (cell_at full_share Self.mir vs b o) ∷ ‵ (Self.own_val x vs) ∷ []) ∵ move ! (1 ∷ []) $ fsplit ! $ drop ! $
+    forth x vs = qed 𝓛 (‵ (cell_at full_share Self.mir vs b o) ∷ ‵ (Self.own_val x vs) ∷ []) ∵ move ! (1 ∷ []) $
+        fsplit ! $ drop ! $
         move ! (1 ∷ 0 ∷ []) $ fjoin ! $
         fpack ! (List Val) (λ us. fsep (cell_at full_share ListRow.mir us b o) (ListRow.own_val x us)) vs $ done !
 
-    pub back : (w : ListRow.Denot) → ent 𝓤 (sep 𝓤 (sem 𝓛 ((mem ListRow).own_at w b o)) (sem 𝓛 ftrue)) (sem 𝓛 ((mem Self).own_at w b o))
+    pub back : (w : ListRow.Denot) → ent 𝓤 (sep 𝓤 (sem 𝓛 ((mem ListRow).own_at w b o)) (sem 𝓛 ftrue)) (sem 𝓛 ((mem
+        Self).own_at w b o))
     unfolding part_of
     back w = qed 𝓛 (‵ (part_at ListRow full_share w b o) ∷ ‵ ftrue ∷ []) ∵ fpick ! (λ vs. fsplit ! $ move ! (1 ∷ []) $
         peeks ! ListRow (Is ListRow) (shows 𝓛 ListRow) w vs (λ is.
-        nothing_more ! $ fpack ! (Typed Self.mir vs) (λ _. ftrue) (typed 𝓛 w vs is) $ fjoin ! $ move ! (1 ∷ 0 ∷ []) $ fjoin ! $
-        fpack ! (List Val) (λ us. fsep (cell_at full_share Self.mir us b o) (Self.own_val w us)) vs $ keep ! (0 ∷ []) $ done !))
+        nothing_more ! $ fpack ! (Typed Self.mir vs) (λ _. ftrue) (typed 𝓛 w vs is) $ fjoin ! $ move ! (1 ∷ 0 ∷ []) $
+            fjoin ! $
+        fpack ! (List Val) (λ us. fsep (cell_at full_share Self.mir us b o) (Self.own_val w us)) vs $ keep ! (0 ∷ [])
+            $ done !))
 
 -- ---- the list with no items
 abbrev none : Val
@@ -74,7 +80,8 @@ module _ (R : RattleType) where
   parts = record { root = None; len = 0 }
 
   fields_owned : {M : Type 1} {𝓤 : Ura M} (𝓛 : Logic 𝓤) → ent 𝓤 (emp 𝓤) (sem 𝓛 (Fields.own_val parts (empty ∷ [])))
-  fields_owned 𝓛 = makes_shadow 𝓛 (Fields.own_val parts (empty ∷ [])) (λ vss. (tt, ((λ qs. (tt, λ u. (tt, tt))), ((tt, tt), tt))))
+  fields_owned 𝓛 = makes_shadow 𝓛 (Fields.own_val parts (empty ∷ [])) (λ vss. (tt, ((λ qs. (tt, λ u. (tt, tt))), ((tt,
+      tt), tt))))
       ((none ∷ [], (vint w64 0 ∷ [], tt)), (refl, (([], (refl, (tt, (refl, tt)))), ((refl, lit< tt), tt))))
 
   pub empty_good : T (has_ty (lone (the_row R).mir) empty) × WT empty

@@ -1,5 +1,6 @@
 -- A `Sequence` of items that go along h, with labels that h keeps, only places what its items own and share.
-use Rattle.std.specs.Prelude.{ℕ, zero, suc, ◌+◌, ◌≤◌, ◌<◌, ◌^◌, ◌&&◌, cond, nat_eq, List, [], ◌∷◌, ◌++◌, map, length, drop, slice_index_or, Option, None, Some}
+use Rattle.std.specs.Prelude.{ℕ, zero, suc, ◌+◌, ◌≤◌, ◌<◌, ◌^◌, ◌&&◌, cond, nat_eq, List, [], ◌∷◌, ◌++◌, map, length}
+use Rattle.std.specs.Prelude.{drop, slice_index_or, Option, None, Some}
 use Rattle.std.specs.List.{All, list_all}
 use mathlib.Core.Path.{◌≡◌, refl, sym, ap, subst, ◌∙◌}
 use native.Mathlib.Omega.{arith}
@@ -26,7 +27,8 @@ use Rattle.std.specs.declared.vec.Vec.{Vec}
 use Rattle.std.specs.contracts.vec.Vec as vec_row
 use Rattle.std_alloc.specs.formers.vec.Vec as vecs
 use Rattle.handles.specs.formers.arc.Arc as arc
-use Rattle.sequence.specs.Nodes.{items_in, are_level, height_in, seen, items_under, first_label, IsChild, IsList, IsLabelled, IsNode}
+use Rattle.sequence.specs.Nodes.{items_in, are_level, height_in, seen, items_under, first_label, IsChild, IsList}
+use Rattle.sequence.specs.Nodes.{IsLabelled, IsNode}
 use Rattle.sequence.specs.declared.label.Label as label
 use Rattle.sequence.specs.declared.tree.Node.{Node}
 use Rattle.sequence.specs.declared.tree.Node.TheVariants.{Leaf, Branch}
@@ -84,7 +86,8 @@ module _ (U : RattleType) where
   nodes = via (or (vec this) (vec kid)) Nodes (λ X. split) (λ X. join) (λ X. join-split) (λ X. split-join)
 
   abbrev layer : Former {0}
-  layer = via nodes (λ X. within.Inside X U.Denot) (λ X a. a.root) (λ X v. record { root = v }) (λ X a. refl) (λ X v. refl)
+  layer = via nodes (λ X. within.Inside X U.Denot) (λ X a. a.root) (λ X v. record { root = v }) (λ X a. refl) (λ X v.
+      refl)
 
   -- ---- the items of the children, one after another, in the order of the fields
   module _ (X : Type 0) where
@@ -100,7 +103,8 @@ module _ (U : RattleType) where
 
     flattened : (cs : List (Kid X)) (p : Held X) → spread (items_in cs) p ≡ nested cs p
     flattened [] p = refl
-    flattened (c ∷ cs) p = appended c.tree.0 (items_in cs) p ∙ ap {B = Held X} (λ (r : Held X). spread c.tree.0 r) (flattened cs p)
+    flattened (c ∷ cs) p = appended c.tree.0 (items_in cs) p ∙ ap {B = Held X} (λ (r : Held X). spread c.tree.0 r)
+        (flattened cs p)
 
     keeps : (n : Nodes X) → held sight X (seen n) ≡ held layer X (record { root = n })
     keeps (Leaf v) = refl
@@ -112,7 +116,8 @@ module _ (U : RattleType) where
     list_prop es p q i = record { some = le_prop p.some q.some i; room = le_prop p.room q.room i }
 
     child_prop : (height : ℕ) (c : Kid X) → IsProp (IsChild height c)
-    child_prop height c p q i = record { counted = ℕ_set _ _ p.counted q.counted i; level = ℕ_set _ _ p.level q.level i; wide = le_prop p.wide q.wide i }
+    child_prop height c p q i = record { counted = ℕ_set _ _ p.counted q.counted i; level = ℕ_set _ _ p.level q.level
+        i; wide = le_prop p.wide q.wide i }
 
     label_prop : (c : Kid X) → IsProp (IsLabelled lab c)
     label_prop c p q i = record { first = Coded-set (option.the_row U).coded _ _ p.first q.first i }
@@ -143,11 +148,13 @@ module _ (U : RattleType) where
     items_same [] = refl
     items_same (c ∷ cs) = ap (λ r. map h c.tree.0 ++ r) (items_same cs) ∙ sym (map_append c.tree.0 (items_in cs))
 
-    most_same : (cs : List (Kid X)) → most (λ (c : Kid Y). c.tree.1 + 1) (map kid_over cs) ≡ most (λ (c : Kid X). c.tree.1 + 1) cs
+    most_same : (cs : List (Kid X)) → most (λ (c : Kid Y). c.tree.1 + 1) (map kid_over cs) ≡ most (λ (c : Kid X).
+        c.tree.1 + 1) cs
     most_same [] = refl
     most_same (c ∷ cs) = ap (max (c.tree.1 + 1)) (most_same cs)
 
-    all_same : (n : ℕ) (cs : List (Kid X)) → list_all (λ (d : Kid Y). nat_eq d.tree.1 n) (map kid_over cs) ≡ list_all (λ (d : Kid X). nat_eq d.tree.1 n) cs
+    all_same : (n : ℕ) (cs : List (Kid X)) → list_all (λ (d : Kid Y). nat_eq d.tree.1 n) (map kid_over cs) ≡ list_all
+        (λ (d : Kid X). nat_eq d.tree.1 n) cs
     all_same n [] = refl
     all_same n (c ∷ cs) = ap (λ b. nat_eq c.tree.1 n && b) (all_same n cs)
 
@@ -165,10 +172,12 @@ module _ (U : RattleType) where
     -- ---- what holds of a node goes along h, both ways
 
     list_to : (es : List X) → IsList es → IsList (map h es)
-    list_to es p = record { some = subst (λ n. 0 < n) (sym (length-map es h)) p.some; room = subst (λ n. n < 2 ^ 64) (sym (length-map es h)) p.room }
+    list_to es p = record { some = subst (λ n. 0 < n) (sym (length-map es h)) p.some; room = subst (λ n. n < 2 ^ 64)
+        (sym (length-map es h)) p.room }
 
     list_from : (es : List X) → IsList (map h es) → IsList es
-    list_from es p = record { some = subst (λ n. 0 < n) (length-map es h) p.some; room = subst (λ n. n < 2 ^ 64) (length-map es h) p.room }
+    list_from es p = record { some = subst (λ n. 0 < n) (length-map es h) p.some; room = subst (λ n. n < 2 ^ 64)
+        (length-map es h) p.room }
 
     child_to : (m n : ℕ) → n ≡ m → (c : Kid X) → IsChild m c → IsChild n (kid_over c)
     child_to m n e c p = record {
@@ -184,7 +193,8 @@ module _ (U : RattleType) where
       wide = subst (λ k. 2 ^ c.tree.1 ≤ k) (length-map c.tree.0 h) p.wide;
     }
 
-    at_map : (cs : List (Kid X)) (k : ℕ) (d : Kid X) → slice_index_or (map kid_over cs) k (kid_over d) ≡ kid_over (slice_index_or cs k d)
+    at_map : (cs : List (Kid X)) (k : ℕ) (d : Kid X) → slice_index_or (map kid_over cs) k (kid_over d) ≡ kid_over
+        (slice_index_or cs k d)
     at_map [] k d = refl
     at_map (c ∷ cs) zero d = refl
     at_map (c ∷ cs) (suc k) d = at_map cs k d
@@ -194,7 +204,8 @@ module _ (U : RattleType) where
     drop_map (c ∷ cs) = refl
 
     all_from : (P : Kid Y → Type 0) (cs : List (Kid X)) → All P (map kid_over cs) → All (λ c. P (kid_over c)) cs
-    all_from P cs p k d lt = subst P (at_map cs k d) (p k (kid_over d) (subst (λ n. k < n) (sym (length-map cs kid_over)) lt))
+    all_from P cs p k d lt = subst P (at_map cs k d) (p k (kid_over d) (subst (λ n. k < n) (sym (length-map cs
+        kid_over)) lt))
 
     all_to : (P : Kid Y → Type 0) (cs : List (Kid X)) → All (λ c. P (kid_over c)) cs → All P (map kid_over cs)
     all_to P [] p k d lt = absurd (omega (arith, lt))
@@ -213,26 +224,31 @@ module _ (U : RattleType) where
     node_to (Leaf v) p = list_to X Y h v.items p
     node_to (Branch v) p = record {
       list = subst IsList (sym (items_same X Y h v.items)) (list_to X Y h _ p.list);
-      each = all_to X Y h (IsChild (height_in (map kids v.items))) v.items (λ k d lt. child_to X Y h _ _ (height_same X Y h v.items) _ (p.each k d lt));
+      each = all_to X Y h (IsChild (height_in (map kids v.items))) v.items (λ k d lt. child_to X Y h _ _ (height_same
+          X Y h v.items) _ (p.each k d lt));
       labels = subst (All (IsLabelled lY)) (sym (drop_map X Y h v.items)) (all_to X Y h (IsLabelled lY) (drop 1 v.items)
-          (λ k d lt. record { first = label_same (slice_index_or (drop 1 v.items) k d).tree.0 ∙ (p.labels k d lt).first }));
+          (λ k d lt. record { first = label_same (slice_index_or (drop 1 v.items) k d).tree.0 ∙ (p.labels k d
+              lt).first }));
     }
 
     node_from : (n : Nodes X) → IsNode lY (node_over X Y h n) → IsNode lX n
     node_from (Leaf v) p = list_from X Y h v.items p
     node_from (Branch v) p = record {
       list = list_from X Y h _ (subst IsList (items_same X Y h v.items) p.list);
-      each = λ k d lt. child_from X Y h _ _ (height_same X Y h v.items) _ (all_from X Y h (IsChild (height_in (map kids v.items))) v.items p.each k d lt);
+      each = λ k d lt. child_from X Y h _ _ (height_same X Y h v.items) _ (all_from X Y h (IsChild (height_in (map
+          kids v.items))) v.items p.each k d lt);
       labels = λ k d lt. record {
         first = sym (label_same (slice_index_or (drop 1 v.items) k d).tree.0)
-            ∙ (all_from X Y h (IsLabelled lY) (drop 1 v.items) (subst (All (IsLabelled lY)) (drop_map X Y h v.items) p.labels) k d lt).first;
+            ∙ (all_from X Y h (IsLabelled lY) (drop 1 v.items) (subst (All (IsLabelled lY)) (drop_map X Y h v.items)
+                p.labels) k d lt).first;
       };
     }
 
   abbrev of_vec : RattleType → RattleType
   of_vec R = vec_row.the_row R heap.the_row ghosts
 
-  module _ (R S : RattleType) (h : R.Denot → S.Denot) (gR : label.Ghosts U.Denot R.Denot) (gS : label.Ghosts U.Denot S.Denot) (nat : (x : R.Denot) → gS.label_of (h x) ≡ gR.label_of x) where
+  module _ (R S : RattleType) (h : R.Denot → S.Denot) (gR : label.Ghosts U.Denot R.Denot) (gS : label.Ghosts U.Denot
+      S.Denot) (nat : (x : R.Denot) → gS.label_of (h x) ≡ gR.label_of x) where
     abbrev over_sight : List R.Denot × ℕ → List S.Denot × ℕ
     over_sight = sight_over R.Denot S.Denot h
 
@@ -266,7 +282,8 @@ module _ (U : RattleType) where
     abbrev at_node' : PartsS → RattleType
     at_node' q = knot.at-Node S U gS q
 
-    module _ (p : PartsR) (q : PartsS) (a : Alike R S h) (e : (y : List R.Denot × ℕ) → q member-Tree (over_sight y) ≡ p member-Tree y) where
+    module _ (p : PartsR) (q : PartsS) (a : Alike R S h) (e : (y : List R.Denot × ℕ) → q member-Tree (over_sight y) ≡
+        p member-Tree y) where
       rest_places : Alike (rest_row p) (rest_row' q) over_sight
       rest_places = record { mir_same = refl; own_same = λ y i. (e y i).0; shr_same = λ y i. (e y i).1 }
 
@@ -311,7 +328,8 @@ module _ (U : RattleType) where
       layer_places : Alike (knot.at-Tree R U gR p) (knot.at-Tree S U gS q) ((layer).map R.Denot S.Denot h)
       layer_places =
           let s = struct_places (knot.type-Tree R U gR (at_node p)) (knot.type-Tree S U gS (at_node' q)) (over_node, tt)
-          (λ v. (over_node v.0, tt)) (λ d. refl) refl (laid _ _ _ (arc.the_places (at_node p) (at_node' q) over_node node_places), tt) in
+          (λ v. (over_node v.0, tt)) (λ d. refl) refl (laid _ _ _ (arc.the_places (at_node p) (at_node' q) over_node
+              node_places), tt) in
           record {
             mir_same = s.mir_same;
             own_same = λ d. s.own_same (split-Tree R.Denot U.Denot gR d);
@@ -319,14 +337,17 @@ module _ (U : RattleType) where
           }
 
       seen_places : Alike (knot.view-Tree R U gR p) (knot.view-Tree S U gS q) over_sight
-      seen_places = view_places layer sight (λ X u. seen u.root) (λ X Y k u. natural X Y k u.root) (λ X u. keeps X u.root)
+      seen_places = view_places layer sight (λ X u. seen u.root) (λ X Y k u. natural X Y k u.root) (λ X u. keeps X
+          u.root)
           R.Denot S.Denot h (knot.view-Tree R U gR p).coded (knot.view-Tree S U gS q).coded
           (looks.invariant R.Denot U.Denot gR) (looks.invariant S.Denot U.Denot gS)
           (λ u. node_prop R.Denot gR.label_of u.root) (λ u. node_prop S.Denot gS.label_of u.root)
-          (λ u. node_to R.Denot S.Denot h gR.label_of gS.label_of nat u.root) (λ u. node_from R.Denot S.Denot h gR.label_of gS.label_of nat u.root)
+          (λ u. node_to R.Denot S.Denot h gR.label_of gS.label_of nat u.root) (λ u. node_from R.Denot S.Denot h
+              gR.label_of gS.label_of nat u.root)
           (over (knot.at-Tree R U gR p)) (over (knot.at-Tree S U gS q)) layer_places
 
-      step_same : (y : List R.Denot × ℕ) → knot.step S U gS q member-Tree (over_sight y) ≡ knot.step R U gR p member-Tree y
+      step_same : (y : List R.Denot × ℕ) → knot.step S U gS q member-Tree (over_sight y) ≡ knot.step R U gR p
+          member-Tree y
       step_same y i = (seen_places.own_same y i, seen_places.shr_same y i)
 
     abbrev stage_R : ℕ → PartsR
@@ -365,14 +386,17 @@ module _ (U : RattleType) where
     root_split-join (inr t) = refl
 
   abbrev root : Former {0}
-  root = via (or (const (Unit {0})) sight) (λ X. Option (List X × ℕ)) (λ X. split_root) (λ X. join_root) (λ X. root_join-split)
+  root = via (or (const (Unit {0})) sight) (λ X. Option (List X × ℕ)) (λ X. split_root) (λ X. join_root) (λ X.
+      root_join-split)
       (λ X. root_split-join)
 
   abbrev fields : Former {0}
-  fields = via (pair root (const ℕ)) (λ X. whole.Inside X U.Denot) (λ X a. (a.root, a.len)) (λ X v. record { root = v.0; len = v.1 })
+  fields = via (pair root (const ℕ)) (λ X. whole.Inside X U.Denot) (λ X a. (a.root, a.len)) (λ X v. record { root =
+      v.0; len = v.1 })
       (λ X a. refl) (λ X v. refl)
 
-  root_keeps : (X : Type 0) (o : Option (List X × ℕ)) (n : ℕ) → held (list this) X (items_under o) ≡ held fields X (record { root = o; len = n })
+  root_keeps : (X : Type 0) (o : Option (List X × ℕ)) (n : ℕ) → held (list this) X (items_under o) ≡ held fields X
+      (record { root = o; len = n })
   root_keeps X None n = refl
   root_keeps X (Some t) n = refl
 
@@ -387,7 +411,8 @@ module _ (U : RattleType) where
     root_length : (o : Option (List X × ℕ)) → length (items_under (root_over o)) ≡ length (items_under o)
     root_length o = ap length (root_natural o) ∙ length-map (items_under o) h
 
-  module _ (R S : RattleType) (h : R.Denot → S.Denot) (gR : label.Ghosts U.Denot R.Denot) (gS : label.Ghosts U.Denot S.Denot) (nat : (x : R.Denot) → gS.label_of (h x) ≡ gR.label_of x) where
+  module _ (R S : RattleType) (h : R.Denot → S.Denot) (gR : label.Ghosts U.Denot R.Denot) (gS : label.Ghosts U.Denot
+      S.Denot) (nat : (x : R.Denot) → gS.label_of (h x) ≡ gR.label_of x) where
     abbrev tree_R : RattleType
     tree_R = tree.the_row R U gR
 
@@ -395,7 +420,8 @@ module _ (U : RattleType) where
     tree_S = tree.the_row S U gS
 
     variant : (o : Option (List R.Denot × ℕ)) → (option.enum tree_S).as_values (root_over R.Denot S.Denot h o)
-        ≡ eachs (option.enum tree_R).parts (option.enum tree_S).parts (tt, ((sight_over R.Denot S.Denot h, tt), tt)) ((option.enum tree_R).as_values o)
+        ≡ eachs (option.enum tree_R).parts (option.enum tree_S).parts (tt, ((sight_over R.Denot S.Denot h, tt), tt))
+            ((option.enum tree_R).as_values o)
     variant None = refl
     variant (Some t) = refl
 
@@ -405,11 +431,13 @@ module _ (U : RattleType) where
           (root_over R.Denot S.Denot h) variant refl (tt, ((laid _ _ _ (tree_places R S h gR gS nat a), tt), tt))
 
       pub list_places : Alike (sequence.the_row R U gR) (sequence.the_row S U gS) (map h)
-      list_places = view_places fields (list this) (λ X u. items_under u.root) (λ X Y k u. root_natural X Y k u.root) (λ X u. root_keeps X u.root u.len)
+      list_places = view_places fields (list this) (λ X u. items_under u.root) (λ X Y k u. root_natural X Y k u.root)
+          (λ X u. root_keeps X u.root u.len)
           R.Denot S.Denot h (sequence.the_row R U gR).coded (sequence.the_row S U gS).coded
           (shows.invariant R.Denot U.Denot gR) (shows.invariant S.Denot U.Denot gS)
           (λ u. ℕ_set _ _) (λ u. ℕ_set _ _)
           (λ u e. e ∙ sym (root_length R.Denot S.Denot h u.root)) (λ u e. e ∙ root_length R.Denot S.Denot h u.root)
           (over (inside.the_row R U gR)) (over (inside.the_row S U gS))
-          (struct_places (inside.the_type R U gR) (inside.the_type S U gS) (root_over R.Denot S.Denot h, ((λ n. n), tt)) _ (λ d. refl)
+          (struct_places (inside.the_type R U gR) (inside.the_type S U gS) (root_over R.Denot S.Denot h, ((λ n. n),
+              tt)) _ (λ d. refl)
           refl (laid _ _ _ root_places, ((refl, (λ n. refl, λ n. refl)), tt)))

@@ -1,7 +1,7 @@
 -- `as_map` shows the map.
 use Rattle.handles.proofs.Walks.{so, ℕ, List, [], ◌∷◌, refl, named, vptr, Val, id⊢, Lft, ‵, raw, ◌⊛◌, ◌$◌, !, by}
-use Rattle.handles.proofs.Walks.{move, keep, split, join, fsplit, fjoin, use1, feq_i, stop, addr, of_opd, first, blocks}
-use Rattle.handles.proofs.Walks.{returns, alloc_all, pass_all, free_all, look_at, get, through, sets, sets_last}
+use Rattle.handles.proofs.Walks.{move, keep, split, join, fsplit, fjoin, use1, feq_i, stop, addr, of_opd, first}
+use Rattle.handles.proofs.Walks.{blocks, returns, alloc_all, pass_all, free_all, look_at, get, through, sets, sets_last}
 use Rattle.handles.proofs.Walks.{RattleType, param, fact_i, hidden_shr, yes, flft, shr_vals, shr_Tells, Goes-dropped}
 use Rattle.handles.proofs.Walks.AtType.{dropped}
 use Rattle.handles.proofs.Walks.OneParam.{a_ref}

@@ -3,8 +3,8 @@ use Rattle.handles.proofs.Walks.{walks, ◌≡◌, ℕ, [], ◌∷◌, refl, nam
 use Rattle.handles.proofs.Walks.{some, later, ◌$◌, ◌∵◌, !, qed, by, move, keep, drop, split, split3, join, fsplit}
 use Rattle.handles.proofs.Walks.{fsplit3, fjoin, pick, use1, use2, await, stop, addr, of_opd, first, blocks, returns}
 use Rattle.handles.proofs.Walks.{alloc_all, pass_all, free_all, look_at, get, through, sets, sets_last, no, RattleType}
-use Rattle.handles.proofs.Walks.{param, owns, types_at, plain, nothing_more, Stays, stay_dropped, walk_of, known, GName}
-use Rattle.handles.proofs.Walks.{MutRef, MutBor, mut_vals, mut_Tells, opens, group, Goes-spent_ref}
+use Rattle.handles.proofs.Walks.{param, owns, types_at, plain, nothing_more, Stays, stay_dropped, walk_of, known}
+use Rattle.handles.proofs.Walks.{GName, MutRef, MutBor, mut_vals, mut_Tells, opens, group, Goes-spent_ref}
 use denote.Memory.{mem}
 use denote.Param.Laws.{param_laws}
 use denote.Signature.{mut_ref_to}

@@ -1,6 +1,7 @@
 -- `as_mut_sequence` lends the list.
 use Rattle.handles.proofs.Walks.{walks, at_type, ◌≡◌, ℕ, [], ◌∷◌, refl, named, vptr, Lft}
-use Rattle.handles.proofs.Walks.{Share, ftrue, flft, sem, ‵, raw, ◌⊛◌, some, later, ◌$◌, ◌∵◌, !, qed, by, move, keep, drop}
+use Rattle.handles.proofs.Walks.{Share, ftrue, flft, sem, ‵, raw, ◌⊛◌, some, later, ◌$◌, ◌∵◌, !, qed, by, move, keep}
+use Rattle.handles.proofs.Walks.{drop}
 use Rattle.handles.proofs.Walks.{split, split3, join, fsplit, fsplit3, fjoin, pick, use1, use2, await, stop, addr}
 use Rattle.handles.proofs.Walks.{of_opd, first, blocks, returns, alloc_all, pass_all, free_all, look_at, get, through}
 use Rattle.handles.proofs.Walks.{sets, sets_last, no, RattleType, owns, types_at, plain, nothing_more}

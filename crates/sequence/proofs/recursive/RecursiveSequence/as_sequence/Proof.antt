@@ -1,6 +1,8 @@
 -- `as_sequence` shows the list.
-use Rattle.handles.proofs.Walks.{by_ref, so, ℕ, List, [], ◌∷◌, refl, Val, vptr, id⊢, Lft, ‵, ◌$◌, !, by, keep, fjoin, use1, feq_i}
-use Rattle.handles.proofs.Walks.{stop, addr, of_opd, first, blocks, returns, alloc_all, pass_all, free_all, look_at, get}
+use Rattle.handles.proofs.Walks.{by_ref, so, ℕ, List, [], ◌∷◌, refl, Val, vptr, id⊢, Lft, ‵, ◌$◌, !, by, keep, fjoin}
+use Rattle.handles.proofs.Walks.{use1, feq_i}
+use Rattle.handles.proofs.Walks.{stop, addr, of_opd, first, blocks, returns, alloc_all, pass_all, free_all, look_at}
+use Rattle.handles.proofs.Walks.{get}
 use Rattle.handles.proofs.Walks.{through, sets, sets_last, RattleType, param, fact_i, hidden_shr}
 use Rattle.sequence.specs.Laid.Owned.{list_row}
 use Rattle.sequence.specs.contracts.recursive.RecursiveSequence.{the_row}

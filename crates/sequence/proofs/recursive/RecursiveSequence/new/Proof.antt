@@ -1,6 +1,8 @@
 -- `new` makes a list with no items.
-use Rattle.handles.proofs.Walks.{dropped_at, at_type, so, [], ◌∷◌, refl, ‵, ◌$◌, !, by, keep, use0, lit<, lit, no_more, and_then}
-use Rattle.handles.proofs.Walks.{returns, alloc_all, pass_all, free_all, look_at, get, sets, agg, RattleType, param, fact_i}
+use Rattle.handles.proofs.Walks.{dropped_at, at_type, so, [], ◌∷◌, refl, ‵, ◌$◌, !, by, keep, use0, lit<, lit}
+use Rattle.handles.proofs.Walks.{no_more, and_then}
+use Rattle.handles.proofs.Walks.{returns, alloc_all, pass_all, free_all, look_at, get, sets, agg, RattleType, param}
+use Rattle.handles.proofs.Walks.{fact_i}
 use Rattle.sequence.proofs.Laid.{empty, empty_good, empty_owned}
 use Rattle.sequence.specs.contracts.recursive.RecursiveSequence.{the_row}
 use Rattle.sequence.specs.contracts.recursive.RecursiveSequence.new.{ended, clauses}

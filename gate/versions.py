@@ -139,7 +139,9 @@ CHANGES = {
          "replace 40 99", "truncate 1", "truncate 40", "truncate 99", "retain 40", "extend 100", "exchange 3 40",
          "exchange 3 99"],
         # A pop of no items requests no memory.
-        [*thin_branches("pop", "pop_front"), "clear", "pop", "pop_front"]),
+        [*thin_branches("pop", "pop_front"), "clear", "pop", "pop_front",
+         # The leaf that the first of them begins has room for the others.
+         "fill 64", *["push 9"] * 9, "clear"]),
     "map": (
         # Of one leaf, which is full.
         [f"insert {2 * half} {half}" for half in range(64)],

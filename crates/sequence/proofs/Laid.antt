@@ -58,9 +58,9 @@ module _ (T' : RattleType) (L : Laws T') where
     back w = qed 𝓛 (‵ (part_at ListRow full_share w b o) ∷ ‵ ftrue ∷ []) ∵ fpick ! (λ vs. fsplit ! $ move ! (1 ∷ []) $
         peeks ! ListRow (Is ListRow) (shows 𝓛 ListRow) w vs (λ is.
         nothing_more ! $ fpack ! (Typed Self.mir vs) (λ _. ftrue) (typed 𝓛 w vs is) $ fjoin ! $ move ! (1 ∷ 0 ∷ []) $
-            fjoin ! $
+        fjoin ! $
         fpack ! (List Val) (λ us. fsep (cell_at full_share Self.mir us b o) (Self.own_val w us)) vs $ keep ! (0 ∷ [])
-            $ done !))
+        $ done !))
 
 -- ---- the list with no items
 abbrev none : Val
@@ -80,8 +80,19 @@ module _ (R : RattleType) where
   parts = record { root = None; len = 0 }
 
   fields_owned : {M : Type 1} {𝓤 : Ura M} (𝓛 : Logic 𝓤) → ent 𝓤 (emp 𝓤) (sem 𝓛 (Fields.own_val parts (empty ∷ [])))
-  fields_owned 𝓛 = makes_shadow 𝓛 (Fields.own_val parts (empty ∷ [])) (λ vss. (tt, ((λ qs. (tt, λ u. (tt, tt))), ((tt,
-      tt), tt))))
+  fields_owned 𝓛 = makes_shadow 𝓛 (Fields.own_val parts (empty ∷ [])) (λ vss. (
+    tt,
+    (
+      (λ qs. (tt, λ u. (tt, tt))),
+      (
+        (
+          tt,
+          tt,
+        ),
+        tt,
+      ),
+    ),
+  ))
       ((none ∷ [], (vint w64 0 ∷ [], tt)), (refl, (([], (refl, (tt, (refl, tt)))), ((refl, lit< tt), tt))))
 
   pub empty_good : T (has_ty (lone (the_row R).mir) empty) × WT empty

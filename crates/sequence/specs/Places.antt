@@ -116,8 +116,12 @@ module _ (U : RattleType) where
     list_prop es p q i = record { some = le_prop p.some q.some i; room = le_prop p.room q.room i }
 
     child_prop : (height : ℕ) (c : Kid X) → IsProp (IsChild height c)
-    child_prop height c p q i = record { counted = ℕ_set _ _ p.counted q.counted i; level = ℕ_set _ _ p.level q.level
-        i; wide = le_prop p.wide q.wide i }
+    child_prop height c p q i = record {
+      counted = ℕ_set _ _ p.counted q.counted i;
+      level = ℕ_set _ _ p.level q.level
+          i;
+      wide = le_prop p.wide q.wide i;
+    }
 
     label_prop : (c : Kid X) → IsProp (IsLabelled lab c)
     label_prop c p q i = record { first = Coded-set (option.the_row U).coded _ _ p.first q.first i }
@@ -172,12 +176,18 @@ module _ (U : RattleType) where
     -- ---- what holds of a node goes along h, both ways
 
     list_to : (es : List X) → IsList es → IsList (map h es)
-    list_to es p = record { some = subst (λ n. 0 < n) (sym (length-map es h)) p.some; room = subst (λ n. n < 2 ^ 64)
-        (sym (length-map es h)) p.room }
+    list_to es p = record {
+      some = subst (λ n. 0 < n) (sym (length-map es h)) p.some;
+      room = subst (λ n. n < 2 ^ 64)
+          (sym (length-map es h)) p.room;
+    }
 
     list_from : (es : List X) → IsList (map h es) → IsList es
-    list_from es p = record { some = subst (λ n. 0 < n) (length-map es h) p.some; room = subst (λ n. n < 2 ^ 64)
-        (length-map es h) p.room }
+    list_from es p = record {
+      some = subst (λ n. 0 < n) (length-map es h) p.some;
+      room = subst (λ n. n < 2 ^ 64)
+          (length-map es h) p.room;
+    }
 
     child_to : (m n : ℕ) → n ≡ m → (c : Kid X) → IsChild m c → IsChild n (kid_over c)
     child_to m n e c p = record {
@@ -227,8 +237,10 @@ module _ (U : RattleType) where
       each = all_to X Y h (IsChild (height_in (map kids v.items))) v.items (λ k d lt. child_to X Y h _ _ (height_same
           X Y h v.items) _ (p.each k d lt));
       labels = subst (All (IsLabelled lY)) (sym (drop_map X Y h v.items)) (all_to X Y h (IsLabelled lY) (drop 1 v.items)
-          (λ k d lt. record { first = label_same (slice_index_or (drop 1 v.items) k d).tree.0 ∙ (p.labels k d
-              lt).first }));
+          (λ k d lt. record {
+            first = label_same (slice_index_or (drop 1 v.items) k d).tree.0 ∙ (p.labels k d
+                lt).first;
+          }));
     }
 
     node_from : (n : Nodes X) → IsNode lY (node_over X Y h n) → IsNode lX n
@@ -240,7 +252,7 @@ module _ (U : RattleType) where
       labels = λ k d lt. record {
         first = sym (label_same (slice_index_or (drop 1 v.items) k d).tree.0)
             ∙ (all_from X Y h (IsLabelled lY) (drop 1 v.items) (subst (All (IsLabelled lY)) (drop_map X Y h v.items)
-                p.labels) k d lt).first;
+            p.labels) k d lt).first;
       };
     }
 
@@ -328,8 +340,11 @@ module _ (U : RattleType) where
       layer_places : Alike (knot.at-Tree R U gR p) (knot.at-Tree S U gS q) ((layer).map R.Denot S.Denot h)
       layer_places =
           let s = struct_places (knot.type-Tree R U gR (at_node p)) (knot.type-Tree S U gS (at_node' q)) (over_node, tt)
-          (λ v. (over_node v.0, tt)) (λ d. refl) refl (laid _ _ _ (arc.the_places (at_node p) (at_node' q) over_node
-              node_places), tt) in
+          (λ v. (over_node v.0, tt)) (λ d. refl) refl (
+            laid _ _ _ (arc.the_places (at_node p) (at_node' q) over_node
+                node_places),
+            tt,
+          ) in
           record {
             mir_same = s.mir_same;
             own_same = λ d. s.own_same (split-Tree R.Denot U.Denot gR d);
@@ -343,7 +358,7 @@ module _ (U : RattleType) where
           (looks.invariant R.Denot U.Denot gR) (looks.invariant S.Denot U.Denot gS)
           (λ u. node_prop R.Denot gR.label_of u.root) (λ u. node_prop S.Denot gS.label_of u.root)
           (λ u. node_to R.Denot S.Denot h gR.label_of gS.label_of nat u.root) (λ u. node_from R.Denot S.Denot h
-              gR.label_of gS.label_of nat u.root)
+          gR.label_of gS.label_of nat u.root)
           (over (knot.at-Tree R U gR p)) (over (knot.at-Tree S U gS q)) layer_places
 
       step_same : (y : List R.Denot × ℕ) → knot.step S U gS q member-Tree (over_sight y) ≡ knot.step R U gR p
@@ -391,8 +406,11 @@ module _ (U : RattleType) where
       (λ X. root_split-join)
 
   abbrev fields : Former {0}
-  fields = via (pair root (const ℕ)) (λ X. whole.Inside X U.Denot) (λ X a. (a.root, a.len)) (λ X v. record { root =
-      v.0; len = v.1 })
+  fields = via (pair root (const ℕ)) (λ X. whole.Inside X U.Denot) (λ X a. (a.root, a.len)) (λ X v. record {
+    root =
+        v.0;
+    len = v.1;
+  })
       (λ X a. refl) (λ X v. refl)
 
   root_keeps : (X : Type 0) (o : Option (List X × ℕ)) (n : ℕ) → held (list this) X (items_under o) ≡ held fields X
@@ -421,7 +439,7 @@ module _ (U : RattleType) where
 
     variant : (o : Option (List R.Denot × ℕ)) → (option.enum tree_S).as_values (root_over R.Denot S.Denot h o)
         ≡ eachs (option.enum tree_R).parts (option.enum tree_S).parts (tt, ((sight_over R.Denot S.Denot h, tt), tt))
-            ((option.enum tree_R).as_values o)
+        ((option.enum tree_R).as_values o)
     variant None = refl
     variant (Some t) = refl
 
@@ -438,6 +456,11 @@ module _ (U : RattleType) where
           (λ u. ℕ_set _ _) (λ u. ℕ_set _ _)
           (λ u e. e ∙ sym (root_length R.Denot S.Denot h u.root)) (λ u e. e ∙ root_length R.Denot S.Denot h u.root)
           (over (inside.the_row R U gR)) (over (inside.the_row S U gS))
-          (struct_places (inside.the_type R U gR) (inside.the_type S U gS) (root_over R.Denot S.Denot h, ((λ n. n),
-              tt)) _ (λ d. refl)
+          (struct_places (inside.the_type R U gR) (inside.the_type S U gS) (
+            root_over R.Denot S.Denot h,
+            (
+              (λ n. n),
+              tt,
+            ),
+          ) _ (λ d. refl)
           refl (laid _ _ _ root_places, ((refl, (λ n. refl, λ n. refl)), tt)))

@@ -34,10 +34,10 @@ module _ (R S : RattleType) (h : R.Denot → S.Denot) where
   pub the_places : Alike R S h → Alike (C.the_row R) (C.the_row S) ((the_former this).map R.Denot S.Denot h)
   the_places a = let p = places.list_places unlabelled.the_row R S h (label.ghosts R) (label.ghosts S) (λ x. refl) a
       in record {
-    mir_same = refl;
-    own_same = λ d i vs. fsep (fex (Typed (C.the_row R).mir vs) (λ _. ftrue)) (p.own_same d i vs);
-    shr_same = λ d. p.shr_same d;
-  }
+        mir_same = refl;
+        own_same = λ d i vs. fsep (fex (Typed (C.the_row R).mir vs) (λ _. ftrue)) (p.own_same d i vs);
+        shr_same = λ d. p.shr_same d;
+      }
 
   pub the_codes_placed : Recodes R S h → Recodes (C.the_row R) (C.the_row S) ((the_former this).map R.Denot S.Denot h)
   the_codes_placed e d = sym (code_map R.coded.code S.coded.code h (λ x. sym (e x)) d)

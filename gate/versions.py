@@ -140,7 +140,7 @@ CHANGES = {
          "exchange 3 99"],
         # A pop of no items requests no memory.
         [*thin_branches("pop", "pop_front"), "clear", "pop", "pop_front",
-         # The leaf that the first of them begins has room for the others.
+         # The last leaf, of 32 items, gets room for all of them at once.
          "fill 64", *["push 9"] * 9, "clear"]),
     "map": (
         # Of one leaf, which is full.

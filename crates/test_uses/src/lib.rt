@@ -7,5 +7,3 @@ mod callers;
 mod ending;
 #[cfg(test)]
 mod made;
-#[cfg(test)]
-mod refusals;

@@ -139,9 +139,7 @@ CHANGES = {
          "replace 40 99", "truncate 1", "truncate 40", "truncate 99", "retain 40", "extend 100", "exchange 3 40",
          "exchange 3 99"],
         # A pop of no items requests no memory.
-        [*thin_branches("pop", "pop_front"), "clear", "pop", "pop_front",
-         # The last leaf, of 32 items, gets room for all of them at once.
-         "fill 64", *["push 9"] * 9, "clear"]),
+        [*thin_branches("pop", "pop_front"), "clear", "pop", "pop_front"]),
     "map": (
         # Of one leaf, which is full.
         [f"insert {2 * half} {half}" for half in range(64)],

@@ -85,7 +85,7 @@ fn keys_end_by_pops_and_cuts(rt: HostRuntime) {
         drop(ok!(&rt, map.pop_first(alloc)));
         drop(ok!(&rt, map.pop_last(alloc)));
     }
-    let high = ok!(&rt, map.split_off(alloc, &handles[100]));
+    let high = ok!(&rt, map.split_off(alloc, &arc_of(&rt, 100)));
     let both = ok!(&rt, old.intersection(alloc, &high));
     let rest = ok!(&rt, old.difference(alloc, &high));
     let joined = ok!(&rt, high.union(alloc, &map));
@@ -124,14 +124,12 @@ fn a_recursive_map_leaves_its_versions(rt: HostRuntime) {
     let (alloc, handles) = (rt.alloc(), handles(&rt));
     let mut map = RecursiveTreeMap::of(map_of(&rt, &handles));
     let old = again!(&rt, map);
-    drop(ok!(&rt, map.remove(alloc, &handles[7])));
+    let key = arc_of(&rt, 7);
+    drop(ok!(&rt, map.remove(alloc, &key)));
     same!(&rt, [old.len(), map.len()], [200, 199]);
     let map = map.into_map();
-    same!(
-        &rt,
-        [old.contains_key(&handles[7]), map.contains_key(&handles[7])],
-        [true, false]
-    );
+    let found = [old.contains_key(&key), map.contains_key(&key)];
+    same!(&rt, found, [true, false]);
     drop((map, old));
     holds!(&rt, handles.iter().all(|handle| handle.is_unique()));
 }

@@ -57,12 +57,11 @@ pub fn insert_item(
     Ok(())
 }
 
-/// Returns the first number that the value holds in first places.
+/// Returns the number that stands first in a list, in a list that stands first in it, and so on.
 pub fn first_number(value: &Value) -> Option<u64> {
     match value {
-        Value::Null => None,
         Value::Number(number) => Some(*number),
         Value::List(items) => first_number(items.get(0)?),
-        Value::Map(entries) => first_number(&entries.first()?.1),
+        Value::Null | Value::Map(_) => None,
     }
 }

@@ -9,7 +9,7 @@ use Rattle.std.specs.Cmp.{IsTotalOrder}
 use Rattle.std.specs.Ordering.{is_eq, is_ge, is_le}
 use Rattle.std.proofs.lemmas.Cmp.{alike_right}
 use Rattle.std.proofs.lemmas.List.{map-append}
-use Rattle.maps.specs.declared.map.diff.DiffItem.{DiffItem}
+use Rattle.maps.specs.declared.entries.diff.DiffItem.{DiffItem}
 use Rattle.maps.specs.Differences.{as_entry, change_of, difference, first_change, listed, sides}
 use Rattle.maps.specs.Maps.{IsRising, lookup}
 use Rattle.maps.specs.Places.{AreAbove}

@@ -23,17 +23,17 @@ use Rattle.std.specs.declared.cmp.Ord as ord
 use Rattle.std.specs.declared.cmp.PartialEq as eq
 use Rattle.std.specs.declared.cmp.PartialOrd as partial
 use Rattle.sequence.specs.Nodes.{items_under}
-use Rattle.sequence.specs.contracts.sequence.Sequence as sequence
-use Rattle.sequence.specs.declared.sequence.Sequence.TheInside as list_declared
-use Rattle.sequence.specs.contracts.sequence.Sequence.TheInside as list_inside
+use Rattle.sequence.specs.contracts.labelled.LabelledSequence as sequence
+use Rattle.sequence.specs.declared.labelled.LabelledSequence.TheInside as list_declared
+use Rattle.sequence.specs.contracts.labelled.LabelledSequence.TheInside as list_inside
 use Rattle.maps.specs.Maps.{IsRising, is_rising}
 use Rattle.maps.specs.Laid.Owned.{map_row}
 use Rattle.maps.specs.contracts.key.Key as key
 use Rattle.maps.specs.contracts.key.KeyLabelTuple2.TheImpl as label
-use Rattle.maps.specs.declared.map.TreeMap.TheInside as declared
-use Rattle.maps.specs.contracts.map.TreeMap.TheInside as inside
-use Rattle.maps.specs.contracts.recursive.RecursiveTreeMap.{the_row}
-use Rattle.maps.proofs.map.TreeMap.TheLaws.{the_row_laws as map_laws}
+use Rattle.maps.specs.declared.entries.Entries.TheInside as declared
+use Rattle.maps.specs.contracts.entries.Entries.TheInside as inside
+use Rattle.maps.specs.contracts.map.TreeMap.{the_row}
+use Rattle.maps.proofs.entries.Entries.TheLaws.{the_row_laws as map_laws}
 
 -- the type arguments of a function of a map, whose keys have an order
 abbrev pub at_entry : RattleType → RattleType → Dict → Dict → Dict → Dict → Args

@@ -19,13 +19,13 @@ use Rattle.std.specs.declared.cmp.PartialEq as eq
 use Rattle.std.specs.declared.cmp.PartialOrd as partial
 use Rattle.sequence.specs.declared.label.Label as label_trait
 use Rattle.sequence.specs.contracts.tree.Tree as tree
-use Rattle.sequence.specs.contracts.sequence.Sequence as sequence
-use Rattle.sequence.specs.contracts.sequence.Sequence.TheInside as list_inside
+use Rattle.sequence.specs.contracts.labelled.LabelledSequence as sequence
+use Rattle.sequence.specs.contracts.labelled.LabelledSequence.TheInside as list_inside
 use Rattle.maps.specs.contracts.key.Key as key
 use Rattle.maps.specs.contracts.key.KeyLabelTuple2.TheImpl as label
-use Rattle.maps.specs.contracts.map.TreeMap.TheInside as inside
+use Rattle.maps.specs.contracts.entries.Entries.TheInside as inside
 use Rattle.maps.specs.Laid.Owned.{map_row}
-use Rattle.maps.specs.contracts.recursive.RecursiveTreeMap.{the_row}
+use Rattle.maps.specs.contracts.map.TreeMap.{the_row}
 use Rattle.maps.proofs.key.Key.TheSendSync as keys
 
 length-Send : IsSend (as_row usize-field)

@@ -3,8 +3,8 @@ use Rattle.std.specs.Prelude.{List, [], ◌∷◌, Option, None, Some, Bool, con
 use Rattle.std.specs.Borrow.{Bor}
 use Rattle.std.specs.declared.cmp.Ordering.{Ordering}
 use Rattle.std.specs.declared.cmp.Ordering.TheVariants.{Less, Equal, Greater}
-use Rattle.maps.specs.declared.map.diff.DiffItem.{DiffItem}
-use Rattle.maps.specs.declared.map.diff.DiffItem.TheVariants.{Added, Removed, Changed}
+use Rattle.maps.specs.declared.entries.diff.DiffItem.{DiffItem}
+use Rattle.maps.specs.declared.entries.diff.DiffItem.TheVariants.{Added, Removed, Changed}
 
 -- the old and the new value under a key, if they differ
 abbrev pub difference : {V : Type 0} → (V → V → Bool) → Option V → Option V → Option (Option V × Option V)

@@ -7,7 +7,7 @@ ghost use Rattle.std.specs.Cmp.Lexicographic.{pointwise, slice_cmp, slice_partia
 ghost use Rattle.std.specs.Hash.{and-Alike, items_Alike, on_Alike, slice};
 ghost use Rattle.std.specs.Ordering.{ordering_then, partial_ordering_then};
 
-use crate::map::TreeMap;
+use crate::entries::Entries;
 use crate::stack::Stack;
 use std::cmp::Ordering;
 use std::fmt;
@@ -76,34 +76,34 @@ impl<T: Debug> Debug for Stack<T> {
 }
 
 /// Compares the entries, even if both maps share their nodes. O(n).
-impl<K: Ord, V: PartialEq> PartialEq for TreeMap<K, V> {
+impl<K: Ord, V: PartialEq> PartialEq for Entries<K, V> {
     ghost eq = { pointwise (λ e f. K.eq e.0 f.0 && V.eq e.1 f.1) };
 
     ghost laws = { lists_per (and_per (on_per (λ e. e.0) K.PartialEq.laws) (on_per (λ e. e.1) V.laws)) };
 
-    fn eq(&self, other: &TreeMap<K, V>) -> bool {
+    fn eq(&self, other: &Entries<K, V>) -> bool {
         self.entries == other.entries
     }
 }
 
-impl<K: Ord, V: Eq> Eq for TreeMap<K, V> {
+impl<K: Ord, V: Eq> Eq for Entries<K, V> {
     ghost laws = { lists_equiv (and_equiv (on_equiv (λ e. e.0) K.Eq.laws)
         (on_equiv (λ e. e.1) V.Eq.laws)) };
 }
 
 /// Compares as slices of the entries do: lexicographically, and each entry by its key and then by its value.
-impl<K: Ord, V: PartialOrd> PartialOrd for TreeMap<K, V> {
+impl<K: Ord, V: PartialOrd> PartialOrd for Entries<K, V> {
     ghost partial_cmp = { slice_partial_cmp (λ e f. partial_ordering_then (K.partial_cmp e.0 f.0)
         (V.partial_cmp e.1 f.1)) };
 
     ghost laws = { lists_po (then_po (on_po (λ e. e.0) K.PartialOrd.laws) (on_po (λ e. e.1) V.PartialOrd.laws)) };
 
-    fn partial_cmp(&self, other: &TreeMap<K, V>) -> Option<Ordering> {
+    fn partial_cmp(&self, other: &Entries<K, V>) -> Option<Ordering> {
         self.entries.partial_cmp(&other.entries)
     }
 }
 
-impl<K: Ord, V: Ord> Ord for TreeMap<K, V> {
+impl<K: Ord, V: Ord> Ord for Entries<K, V> {
     ghost cmp = { slice_cmp (λ e f. ordering_then (K.cmp e.0 f.0) (V.cmp e.1 f.1)) };
 
     ghost total = { lists_total (then_total (on_total (λ e. e.0) K.total) (on_total (λ e. e.1) V.total)) };
@@ -116,13 +116,13 @@ impl<K: Ord, V: Ord> Ord for TreeMap<K, V> {
         lists_ties (λ e f. ordering_then (K' e.0 f.0) (V' e.1 f.1)) (λ e f. both_tied _ _ (K' e.0 f.0) (V' e.1 f.1)
         (K.matches_eq e.0 f.0) (V.matches_eq e.1 f.1)) };
 
-    fn cmp(&self, other: &TreeMap<K, V>) -> Ordering {
+    fn cmp(&self, other: &Entries<K, V>) -> Ordering {
         self.entries.cmp(&other.entries)
     }
 }
 
 /// Hashes as a slice of the entries does.
-impl<K: Ord + Hash, V: Hash> Hash for TreeMap<K, V> {
+impl<K: Ord + Hash, V: Hash> Hash for Entries<K, V> {
     ghost hash_input = { slice (λ e. K.hash_input e.0 ++ V.hash_input e.1) };
 
     ghost respects_eq = { (items_Alike (and-Alike (on_Alike (λ e. e.0) (record { fed = K.respects_eq }))
@@ -134,7 +134,7 @@ impl<K: Ord + Hash, V: Hash> Hash for TreeMap<K, V> {
 }
 
 /// Formats as a map of the entries.
-impl<K: Ord + Debug, V: Debug> Debug for TreeMap<K, V> {
+impl<K: Ord + Debug, V: Debug> Debug for Entries<K, V> {
     fn fmt<W: Write>(&self, f: &mut Formatter<W>) -> fmt::Result {
         let mut out = f.debug_map();
         for (key, value) in self {

@@ -4,22 +4,22 @@
 
 mod compare;
 mod cut;
+mod entries;
 mod entry;
 mod key;
 mod links;
 mod map;
 mod query;
-mod recursive;
 mod stack;
 mod stack_iter;
 
+pub use entries::diff::DiffItem;
+pub use entries::iter::Iter;
+pub use entries::keys::Keys;
+pub use entries::values::Values;
+pub use entries::{Entries, Tree};
 pub use key::Key;
-pub use map::diff::DiffItem;
-pub use map::iter::Iter;
-pub use map::keys::Keys;
-pub use map::values::Values;
-pub use map::{Tree, TreeMap};
+pub use map::TreeMap;
 pub use query::Query;
-pub use recursive::RecursiveTreeMap;
 pub use stack::Stack;
 pub use stack_iter::StackIter;

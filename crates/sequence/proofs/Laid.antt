@@ -16,14 +16,14 @@ use denote.Steps.{nothing as nothing_more, peeks}
 use denote.Param.{param}
 use denote.Param.Laws.{Laws, param_laws, arg_typed}
 use Rattle.sequence.specs.Laid.Owned.{list_row}
-use Rattle.sequence.specs.contracts.recursive.RecursiveSequence.{the_row}
+use Rattle.sequence.specs.contracts.sequence.Sequence.{the_row}
 use Rattle.sequence.specs.contracts.label.Unlabelled as unlabelled
 use Rattle.sequence.proofs.label.Unlabelled.TheLaws.{the_row_laws as unlabelled_laws}
 use Rattle.sequence.specs.contracts.label.UnlabelledLabel.TheImpl as label
 use Rattle.sequence.specs.Nodes.{items_under}
-use Rattle.sequence.specs.declared.sequence.Sequence.TheInside as declared
-use Rattle.sequence.specs.contracts.sequence.Sequence.TheInside as inside
-use Rattle.sequence.proofs.sequence.Sequence.TheLaws.{the_row_laws as sequence_laws}
+use Rattle.sequence.specs.declared.labelled.LabelledSequence.TheInside as declared
+use Rattle.sequence.specs.contracts.labelled.LabelledSequence.TheInside as inside
+use Rattle.sequence.proofs.labelled.LabelledSequence.TheLaws.{the_row_laws as sequence_laws}
 
 module _ (T' : RattleType) (L : Laws T') where
   abbrev pub R : RattleType

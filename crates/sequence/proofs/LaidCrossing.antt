@@ -17,9 +17,9 @@ use Rattle.sequence.specs.declared.label.Label as label_trait
 use Rattle.sequence.specs.contracts.label.Unlabelled as unlabels
 use Rattle.sequence.specs.contracts.label.UnlabelledLabel.TheImpl as label
 use Rattle.sequence.specs.contracts.tree.Tree as tree
-use Rattle.sequence.specs.contracts.sequence.Sequence.TheInside as inside
+use Rattle.sequence.specs.contracts.labelled.LabelledSequence.TheInside as inside
 use Rattle.sequence.specs.Laid.Owned.{list_row}
-use Rattle.sequence.specs.contracts.recursive.RecursiveSequence.{the_row}
+use Rattle.sequence.specs.contracts.sequence.Sequence.{the_row}
 
 abbrev U : RattleType
 U = unlabels.the_row

@@ -4,7 +4,7 @@
 --     Shapes/..              nodes that become two or one, and what is hung beside them
 --     Cuts, Cutting/..       how a search finds the last item before a cut, and what is done there
 --     Pieces, Pairs, Calls   what goes down a tree, comparisons, and calls within a cycle
---     Laid, LaidCrossing     a list that is laid out as a `Sequence`, and which threads it may go to
+--     Laid, LaidCrossing     a list that is laid out as a `LabelledSequence`, and which threads it may go to
 --     tree/.., sequence/..   the proof of each function, at the path of its code
 pub mod Calls
 pub mod Cuts

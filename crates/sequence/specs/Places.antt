@@ -1,4 +1,4 @@
--- A `Sequence` of items that go along h, with labels that h keeps, only places what its items own and share.
+-- A `LabelledSequence` of items that go along h, with labels that h keeps, only places what its items own and share.
 use Rattle.std.specs.Prelude.{ℕ, zero, suc, ◌+◌, ◌≤◌, ◌<◌, ◌^◌, ◌&&◌, cond, nat_eq, List, [], ◌∷◌, ◌++◌, map, length}
 use Rattle.std.specs.Prelude.{drop, slice_index_or, Option, None, Some}
 use Rattle.std.specs.List.{All, list_all}
@@ -38,10 +38,10 @@ use Rattle.sequence.specs.declared.tree.Tree.TheView as looks
 use Rattle.sequence.specs.declared.tree.Tree.TheDeep.{member-Tree, split-Child, split-Tree}
 use Rattle.sequence.specs.contracts.tree.Tree as tree
 use Rattle.sequence.specs.contracts.tree.Tree.TheKnot as knot
-use Rattle.sequence.specs.declared.sequence.Sequence.TheInside as whole
-use Rattle.sequence.specs.declared.sequence.Sequence.TheView as shows
-use Rattle.sequence.specs.contracts.sequence.Sequence as sequence
-use Rattle.sequence.specs.contracts.sequence.Sequence.TheInside as inside
+use Rattle.sequence.specs.declared.labelled.LabelledSequence.TheInside as whole
+use Rattle.sequence.specs.declared.labelled.LabelledSequence.TheView as shows
+use Rattle.sequence.specs.contracts.labelled.LabelledSequence as sequence
+use Rattle.sequence.specs.contracts.labelled.LabelledSequence.TheInside as inside
 
 module _ (U : RattleType) where
   -- ---- the fields of one layer of the nodes

@@ -1,1 +1,1 @@
-pub mod recursive
+pub mod sequence

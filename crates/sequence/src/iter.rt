@@ -7,13 +7,13 @@ ghost use Rattle.sequence.specs.Parts.{IsPart};
 ghost use Rattle.sequence.specs.Nodes.{items_under};
 
 use crate::label::{Label, Unlabelled};
-use crate::sequence::Sequence;
+use crate::labelled::LabelledSequence;
 use crate::tree::Tree;
 use std::alloc::AllocError;
 use std::iter::FusedIterator;
 use std::marker::Model;
 
-/// An iterator over the items of a `Sequence`, in order: `for item in &list { .. }`.
+/// An iterator over the items of a list, in order: `for item in &list { .. }`.
 ///
 /// It allocates nothing. Each end keeps the leaf of its last item: a step within the leaf takes O(1), and a step to the
 /// next leaf O(log n), since it descends from the root.
@@ -79,7 +79,7 @@ impl<'a, T, L: Label<T>> Iter<'a, T, L> {
     }
 }
 
-impl<'a, T, L: Label<T>> IntoIterator for &'a Sequence<T, L> {
+impl<'a, T, L: Label<T>> IntoIterator for &'a LabelledSequence<T, L> {
     type Item = &'a T;
 
     type IntoIter = Iter<'a, T, L>;
@@ -92,7 +92,7 @@ impl<'a, T, L: Label<T>> IntoIterator for &'a Sequence<T, L> {
     }
 }
 
-impl<T, L: Label<T>> Sequence<T, L> {
+impl<T, L: Label<T>> LabelledSequence<T, L> {
     /// Returns an iterator over the items, in order: `list.iter()`. O(1).
     pub fn iter(&self) -> Iter<'_, T, L>
         ensures { result ≡ self.now }

@@ -4,8 +4,8 @@ ghost use Rattle.handles.specs.Copies.{CopiesAreEqual};
 
 use std::alloc::AllocError;
 
-/// The separator key that a branch keeps of the first item under each child, as `Key<K>` in `Sequence<(K, V), Key<K>>`:
-/// `impl Label<Appointment> for Time { .. }`.
+/// The separator key that a branch keeps of the first item under each child: `impl Label<Appointment> for Time { .. }`
+/// for a `LabelledSequence<Appointment, Time>`.
 ///
 /// `Label` is only a bound of the list and of its nodes, and has no method. `NewLabel` makes the separator keys.
 pub trait Label<T> {
@@ -19,8 +19,8 @@ pub trait NewLabel<T>: Label<T> + Clone {
         ensures { CopiesAreEqual Self.is_clone → IfOk result (λ label. label ≡ Self.label_of item.now) };
 }
 
-/// No separator key, for a list that is read by index alone: `Sequence<T>` is `Sequence<T, Unlabelled>`. It takes no
-/// room.
+/// No separator key, for a list that is read by index alone: a `Sequence<T>` dereferences to a
+/// `LabelledSequence<T, Unlabelled>`. It takes no room.
 #[derive(Clone, Copy)]
 pub struct Unlabelled;
 

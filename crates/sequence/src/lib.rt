@@ -5,8 +5,8 @@ mod compare;
 mod cut;
 mod iter;
 mod label;
+mod labelled;
 mod put;
-mod recursive;
 mod sequence;
 mod tree;
 
@@ -14,7 +14,7 @@ pub use cut::{Cut, Seek};
 pub use handles::place::PlaceError;
 pub use iter::Iter;
 pub use label::{Label, NewLabel, Unlabelled};
+pub use labelled::LabelledSequence;
 pub use put::Put;
-pub use recursive::RecursiveSequence;
 pub use sequence::Sequence;
 pub use tree::Tree;

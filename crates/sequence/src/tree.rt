@@ -24,12 +24,12 @@ use handles::arc::Arc;
 use std::alloc::{AllocError, Global};
 use std::marker::Model;
 
-/// The nodes of a list that is not empty, as `Sequence::tree` returns them: `list.tree().map(|tree| tree.depth())`.
+/// The nodes of a list that is not empty, as `tree` returns them: `list.tree().map(|tree| tree.depth())`.
 ///
 /// In a contract a tree is a pair: the items, in their order, and the height, which is the number of branches above
 /// each leaf. The height is read off the nodes themselves: it is 0 at a leaf, and at a branch one more than that of its
-/// highest child, and 2^64 more where two children differ. So the clauses of `Sequence::tree` and of `depth` speak of
-/// these nodes, and not of another tree with the same items.
+/// highest child, and 2^64 more where two children differ. So the clauses of `LabelledSequence::tree` and of `depth`
+/// speak of these nodes, and not of another tree with the same items.
 #[cycle(tree)]
 #[derive(Drop)]
 pub struct Tree<T, L: Label<T>> {

@@ -3,7 +3,7 @@ ghost use Rattle.std.specs.Prelude.{◌≡◌, [], OnErr, OnOk, count_by, false,
 ghost use Rattle.std.specs.List.{insert};
 ghost use Rattle.std.specs.List.Sorted.{IsNonDecreasingBy};
 
-use sequence::{Cut, Iter, Label, NewLabel, Put, Seek, Sequence};
+use sequence::{Cut, Iter, Label, LabelledSequence, NewLabel, Put, Seek};
 use servo_arc::Arc;
 use std::alloc::{AllocError, Global};
 use std::marker::Model;
@@ -83,7 +83,7 @@ impl Put<Appointment, Time> for Appointment {
 /// Appointments in ascending order of their times. Those at the same time keep the order in which they were added.
 #[derive(Drop)]
 pub struct Agenda {
-    appointments: Sequence<Appointment, Time>,
+    appointments: LabelledSequence<Appointment, Time>,
 }
 
 impl Model for Agenda {
@@ -105,7 +105,7 @@ impl Agenda {
         ensures { result ≡ [] }
     {
         Agenda {
-            appointments: Sequence::empty(),
+            appointments: LabelledSequence::empty(),
         }
     }
 

@@ -3,7 +3,7 @@ use Rattle.std.specs.Prelude.{Bool, List, Option}
 use Rattle.std.specs.Borrow.{Fml, MutBor, RattleType, Lends}
 use Rattle.std.specs.declared.cmp.Ordering.{Ordering}
 use Rattle.maps.specs.Laid.Owned.{map_row}
-use Rattle.maps.specs.contracts.recursive.RecursiveTreeMap.{the_row}
+use Rattle.maps.specs.contracts.map.TreeMap.{the_row}
 
 abbrev pub LendsMap : (K V : RattleType) → (K.Denot → K.Denot → Ordering) → (K.Denot → K.Denot → Bool)
     → (K.Denot → K.Denot → Option Ordering) → MutBor (List (K.Denot × V.Denot))

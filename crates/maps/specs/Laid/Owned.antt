@@ -1,4 +1,4 @@
--- The map as a `TreeMap`.
+-- The map as a `Entries`.
 use Rattle.std.specs.Prelude.{List}
 use base.Fml.{Fml, Lft, ffalse}
 use denote.RattleType.{RattleType}
@@ -6,7 +6,7 @@ use denote.RawPtr.{Ptr, block_ptr, null_ptr}
 use Rattle.std.specs.declared.cmp.Ord as ord
 use Rattle.std.specs.declared.cmp.PartialEq as eq
 use Rattle.std.specs.declared.cmp.PartialOrd as partial
-use Rattle.maps.specs.contracts.map.TreeMap as map
+use Rattle.maps.specs.contracts.entries.Entries as map
 
 module _ (K V : RattleType) (g : ord.Ghosts K.Denot) (g' : eq.Ghosts K.Denot) (g'' : partial.Ghosts K.Denot) where
   abbrev pub map_row : RattleType

@@ -1,11 +1,11 @@
--- The list as a `Sequence`.
+-- The list as a `LabelledSequence`.
 use Rattle.std.specs.Prelude.{List}
 use base.Fml.{Fml, Lft, ffalse}
 use denote.RattleType.{RattleType}
 use denote.RawPtr.{Ptr, block_ptr, null_ptr}
 use Rattle.sequence.specs.contracts.label.Unlabelled as unlabelled
 use Rattle.sequence.specs.contracts.label.UnlabelledLabel.TheImpl as label
-use Rattle.sequence.specs.contracts.sequence.Sequence as sequence
+use Rattle.sequence.specs.contracts.labelled.LabelledSequence as sequence
 
 abbrev pub list_row : RattleType → RattleType
 list_row R = sequence.the_row R unlabelled.the_row (label.ghosts R)

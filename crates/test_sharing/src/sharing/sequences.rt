@@ -1,5 +1,5 @@
 //! A sequence changes as a vector does.
-use sequence::{RecursiveSequence, Sequence};
+use sequence::Sequence;
 use std::alloc::{AllocError, Global};
 use testing::counted::{Counted, Tally, counted_items};
 use testing::{again, holds, ok, same, same_at};
@@ -57,19 +57,4 @@ fn a_leaf_of_numbers_is_wide(rt: HostRuntime) {
         }
         same_at!(&rt, *len, list.tree().map(|tree| tree.depth()), *expected);
     }
-}
-
-// It copies and drops what a `Sequence` in its place would: at most the leaf that the new item is in.
-#[test]
-fn a_recursive_list_shares_its_nodes(rt: HostRuntime) {
-    let (alloc, tally) = (rt.alloc(), Tally::new());
-    let mut list = RecursiveSequence::of(ok!(&rt, sequence_of(alloc, &tally, 200)));
-    let old = again!(&rt, list);
-    ok!(&rt, list.push(alloc, Counted::new(&tally, 9)));
-    same!(&rt, [old.len(), list.len()], [200, 201]);
-    holds!(&rt, tally.copies() <= 64);
-    let list = list.into_sequence();
-    same!(&rt, list[200].value, 9);
-    drop((old, list));
-    same!(&rt, tally.living(201), 0);
 }

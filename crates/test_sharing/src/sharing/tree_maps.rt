@@ -1,6 +1,6 @@
 //! Maps whose keys are handles: which of two equal keys is kept, that each is dropped, and that text finds them.
 use crate::made::{arc_of, ask};
-use maps::{RecursiveTreeMap, TreeMap};
+use maps::TreeMap;
 use servo_arc::Arc;
 use std::alloc::{AllocError, Global};
 use std::ops::Bound;
@@ -116,20 +116,4 @@ fn text_is_asked_as_it_is(rt: HostRuntime) {
         (2, map.last())
     );
     same!(&rt, ok!(&rt, map.remove(rt.alloc(), "elm")), Some(2));
-}
-
-// It drops what a `TreeMap` in its place would, and leaves its versions alone.
-#[test]
-fn a_recursive_map_leaves_its_versions(rt: HostRuntime) {
-    let (alloc, handles) = (rt.alloc(), handles(&rt));
-    let mut map = RecursiveTreeMap::of(map_of(&rt, &handles));
-    let old = again!(&rt, map);
-    let key = arc_of(&rt, 7);
-    drop(ok!(&rt, map.remove(alloc, &key)));
-    same!(&rt, [old.len(), map.len()], [200, 199]);
-    let map = map.into_map();
-    let found = [old.contains_key(&key), map.contains_key(&key)];
-    same!(&rt, found, [true, false]);
-    drop((map, old));
-    holds!(&rt, handles.iter().all(|handle| handle.is_unique()));
 }

@@ -3,8 +3,8 @@ ghost use Rattle.std.specs.Prelude.{◌≡◌, ◌++◌, ◌∷◌, [], OnErr, O
 ghost use Rattle.std.specs.Ordering.{nat_cmp};
 ghost use Rattle.maps.specs.Maps.{with_entry};
 
-use maps::RecursiveTreeMap;
-use sequence::RecursiveSequence;
+use maps::TreeMap;
+use sequence::Sequence;
 use std::alloc::{AllocError, Global};
 
 /// A value that may hold values.
@@ -12,8 +12,8 @@ use std::alloc::{AllocError, Global};
 pub enum Value {
     Null,
     Number(u64),
-    List(RecursiveSequence<Value>),
-    Map(RecursiveTreeMap<u64, Value>),
+    List(Sequence<Value>),
+    Map(TreeMap<u64, Value>),
 }
 
 /// Makes a version (snapshot) in O(1). It is written by hand, because the calls of lists and maps require a contract
@@ -33,7 +33,7 @@ impl Clone for Value {
 
 /// Appends an item to the list. Other versions keep theirs.
 pub fn append_item(
-    list: &mut RecursiveSequence<Value>,
+    list: &mut Sequence<Value>,
     alloc: Global,
     item: Value,
 ) -> Result<(), AllocError>
@@ -45,7 +45,7 @@ pub fn append_item(
 
 /// Inserts an item under a key of the map. Other versions keep theirs.
 pub fn insert_item(
-    map: &mut RecursiveTreeMap<u64, Value>,
+    map: &mut TreeMap<u64, Value>,
     alloc: Global,
     key: u64,
     item: Value,

@@ -1,0 +1,46 @@
+//! The union of two maps.
+ghost use Rattle.std.specs.Prelude.{◌≡◌, IfOk, OnErr, OnOk};
+ghost use Rattle.handles.specs.Copies.{CopiesAreEqual};
+ghost use Rattle.maps.specs.Maps.{with_entries};
+
+use crate::entries::Entries;
+use std::alloc::{AllocError, Global};
+
+impl<K: Ord + Clone, V: Clone> Entries<K, V> {
+    /// Inserts clones of all entries of `other`, whose values replace those of equal keys:
+    /// `map.append(alloc, &other)?`. O(m log(n + m)) for m entries of `other`. `other` keeps its entries, unlike in
+    /// `std`.
+    ///
+    /// # Errors
+    ///
+    /// `AllocError` when `insert`, or the `clone` of a key, a value or a handle, fails. The entries stay as they were,
+    /// since all are inserted into a clone that then replaces this map.
+    pub fn append(&mut self, alloc: Global, other: &Entries<K, V>) -> Result<(), AllocError>
+        requires copies_of_keys { CopiesAreEqual K.is_clone }
+        requires copies_of_values { CopiesAreEqual V.is_clone }
+        ensures entries { OnOk result (self.new ≡ with_entries K.cmp other.now self.old) }
+        ensures refused { OnErr result (self.new ≡ self.old) }
+    {
+        let mut both = self.clone()?;
+        for (key, value) in other {
+            both.insert(alloc, key.clone()?, value.clone()?)?;
+        }
+        *self = both;
+        Ok(())
+    }
+
+    // As `TreeMap::union`.
+    pub(crate) fn union(
+        &self,
+        alloc: Global,
+        other: &Entries<K, V>,
+    ) -> Result<Entries<K, V>, AllocError>
+        requires copies_of_keys { CopiesAreEqual K.is_clone }
+        requires copies_of_values { CopiesAreEqual V.is_clone }
+        ensures { IfOk result (λ both. both ≡ with_entries K.cmp self.now other.now) }
+    {
+        let mut both = other.clone()?;
+        both.append(alloc, self)?;
+        Ok(both)
+    }
+}

@@ -1,0 +1,267 @@
+//! Splitting a list in two, and joining two lists.
+ghost use Rattle.std.specs.Prelude.{◌≡◌, ◌++◌, ◌^◌, ◌<◌, ◌≤◌, ◌↔◌, ◌⊎◌, Err, IfOk, IsOk, OnErr, OnOk};
+ghost use Rattle.std.specs.Prelude.{drop, length, take};
+ghost use Rattle.handles.specs.Copies.{CopiesAreEqual};
+ghost use Rattle.sequence.specs.Nodes.{AreLevel, items_in};
+
+use crate::label::NewLabel;
+use crate::labelled::LabelledSequence;
+use crate::tree::copies::{BRANCH, LEAF, copies};
+use crate::tree::search::{count, spot_of};
+use crate::tree::{Blocked, Child, Node, Tree};
+use handles::place::PlaceError;
+use std::alloc::{AllocError, Global};
+use std::mem;
+use std::ops::Range;
+
+impl<T: Clone, L: NewLabel<T>> LabelledSequence<T, L> {
+    /// Appends the items of `other`: `list.append(alloc, rest)?`. O(log n) for the longer of the two lists.
+    ///
+    /// The lower of the two trees becomes a child of the other one. Nodes on the path to that place are copied if
+    /// another version (snapshot) shares them, and written in place otherwise.
+    ///
+    /// # Errors
+    ///
+    /// `AllocError` if `insert` would return `Memory`, or for more than `usize::MAX` items. The list keeps its items;
+    /// `other` is dropped.
+    pub fn append(&mut self, alloc: Global, other: LabelledSequence<T, L>) -> Result<(), AllocError>
+        requires copies { CopiesAreEqual T.is_clone }
+        requires labels { CopiesAreEqual L.is_clone }
+        ensures items { OnOk result (self.new ≡ self.old ++ other) }
+        ensures refused { OnErr result (self.new ≡ self.old) }
+    {
+        let LabelledSequence { root, len: more } = other;
+        let Some(tree) = root else {
+            return Ok(());
+        };
+        let Some(len) = self.len.checked_add(more) else {
+            return Err(AllocError);
+        };
+        self.root = match self.root.take() {
+            None => Some(tree),
+            Some(mine) => match mine.append(alloc, self.len, tree, more) {
+                Ok(both) => Some(both),
+                Err(mine) => {
+                    self.root = Some(mine);
+                    return Err(AllocError);
+                }
+            },
+        };
+        self.len = len;
+        Ok(())
+    }
+
+    /// Splits the list at `at` and returns the items from `at` on: `let rest = list.split_off(alloc, at)?;`. O(log n).
+    ///
+    /// Nodes along the cut that another version shares are copied, the others are written in place, and each level gets
+    /// one new node. Where a part would have too few items for its height, both lists are built anew along the cut in
+    /// O((log n)^2), and share all other nodes with the old list.
+    ///
+    /// # Errors
+    ///
+    /// `NoPlace` if `at` is greater than the length, whether or not there is memory. `Memory` if there is no memory, or
+    /// if the `clone` of an item or a handle fails. The items stay as they were.
+    pub fn split_off(
+        &mut self,
+        alloc: Global,
+        at: usize,
+    ) -> Result<LabelledSequence<T, L>, PlaceError>
+        requires copies { CopiesAreEqual T.is_clone }
+        requires labels { CopiesAreEqual L.is_clone }
+        ensures out { IfOk result (λ out. out ≡ drop at self.old) }
+        ensures no_place { (result ≡ Err PlaceError.NoPlace) ↔ (length self.old < at) }
+        ensures rest { OnOk result (self.new ≡ take at self.old) }
+        ensures refused { OnErr result (self.new ≡ self.old) }
+    {
+        if at > self.len() {
+            return Err(PlaceError::NoPlace);
+        }
+        let back = self.split_off_at(alloc, at)?;
+        Ok(back)
+    }
+
+    // Splits at an index that is known to be at most the length, so that only memory can be lacking.
+    fn split_off_at(
+        &mut self,
+        alloc: Global,
+        at: usize,
+    ) -> Result<LabelledSequence<T, L>, AllocError>
+        requires copies { CopiesAreEqual T.is_clone }
+        requires labels { CopiesAreEqual L.is_clone }
+        requires within { at ≤ length self.old }
+        ensures out { IfOk result (λ out. out ≡ drop at self.old) }
+        ensures rest { OnOk result (self.new ≡ take at self.old) }
+        ensures refused { OnErr result (self.new ≡ self.old) }
+    {
+        if at == 0 {
+            return Ok(mem::replace(self, LabelledSequence::empty()));
+        }
+        if at == self.len() {
+            return Ok(LabelledSequence::empty());
+        }
+        if let Ok(back) = self.split_in_place(alloc, at) {
+            return Ok(back);
+        }
+        let Some(tree) = &self.root else {
+            unreachable!()
+        };
+        let (front, back) = tree.split_at(alloc, at)?;
+        *self = front;
+        Ok(back)
+    }
+
+    // Splits in place. It is blocked if a part would have too few items for its height, and changes nothing then.
+    fn split_in_place(
+        &mut self,
+        alloc: Global,
+        at: usize,
+    ) -> Result<LabelledSequence<T, L>, Blocked>
+        requires copies { CopiesAreEqual T.is_clone }
+        requires labels { CopiesAreEqual L.is_clone }
+        requires within { at ≤ length self.old }
+        ensures out { IfOk result (λ out. out ≡ drop at self.old) }
+        ensures rest { OnOk result (self.new ≡ take at self.old) }
+        ensures blocked { OnErr result (self.new ≡ self.old) }
+    {
+        let Some(tree) = &mut self.root else {
+            return Err(Blocked);
+        };
+        tree.shrink()?;
+        let least = 2usize.checked_pow(u32::from(tree.height())).ok_or(Blocked)?;
+        if at < least || self.len - at < least {
+            return Err(Blocked);
+        }
+        let mut back = tree.split_in_place(alloc, at, least)?;
+        self.len = at;
+        // Trees that are higher than need be are as good.
+        let _ = tree.shrink();
+        let _ = back.tree.shrink();
+        Ok(LabelledSequence {
+            root: Some(back.tree),
+            len: back.len,
+        })
+    }
+
+    /// Drops the items from `len` on, and does nothing if there are none: `list.truncate(alloc, len)?`. It splits the
+    /// list as `split_off` does.
+    ///
+    /// # Errors
+    ///
+    /// `AllocError` if `split_off` would return `Memory`. The items stay as they were.
+    pub fn truncate(&mut self, alloc: Global, len: usize) -> Result<(), AllocError>
+        requires copies { CopiesAreEqual T.is_clone }
+        requires labels { CopiesAreEqual L.is_clone }
+        ensures items { OnOk result (self.new ≡ take len self.old) }
+        ensures none { length self.old ≤ len → IsOk result }
+        ensures refused { OnErr result (self.new ≡ self.old) }
+    {
+        if len < self.len() {
+            self.split_off_at(alloc, len)?;
+        }
+        Ok(())
+    }
+
+    /// Replaces the items at the indices `numbers` by those of `other`, and returns the old ones:
+    /// `let old = list.replace(alloc, 1..4, other)?;`. It takes two `split_off`s and two `append`s, on a clone.
+    ///
+    /// # Errors
+    ///
+    /// `NoPlace` if the range ends behind the last item or before it starts, whether or not there is memory. `Memory`
+    /// when `clone`, `split_off` or `append` fails. The items stay as they were; `other` is dropped.
+    pub fn replace(
+        &mut self,
+        alloc: Global,
+        numbers: Range<usize>,
+        other: LabelledSequence<T, L>,
+    ) -> Result<LabelledSequence<T, L>, PlaceError>
+        requires copies { CopiesAreEqual T.is_clone }
+        requires labels { CopiesAreEqual L.is_clone }
+        ensures out { IfOk result (λ out. out ≡ drop numbers.start (take numbers.end self.old)) }
+        ensures items { OnOk result (self.new
+            ≡ take numbers.start self.old ++ other ++ drop numbers.end self.old) }
+        ensures no_place { (result ≡ Err PlaceError.NoPlace)
+            ↔ ((length self.old < numbers.end) ⊎ (numbers.end < numbers.start)) }
+        ensures refused { OnErr result (self.new ≡ self.old) }
+    {
+        let Range { start, end } = numbers;
+        if end > self.len() || end < start {
+            return Err(PlaceError::NoPlace);
+        }
+        let mut list: LabelledSequence<T, L> = self.clone()?;
+        let back = list.split_off_at(alloc, end)?;
+        let out = list.split_off_at(alloc, start)?;
+        list.append(alloc, other)?;
+        list.append(alloc, back)?;
+        *self = list;
+        Ok(out)
+    }
+
+    // A list of clones of `items`, which fit into one leaf.
+    fn of_leaf(alloc: Global, items: &[T]) -> Result<LabelledSequence<T, L>, AllocError>
+        requires { CopiesAreEqual T.is_clone }
+        ensures { IfOk result (λ list. list ≡ items.now) }
+    {
+        let len = items.len();
+        if len == 0 {
+            return Ok(LabelledSequence::empty());
+        }
+        let node = Node::Leaf(copies(alloc, items, LEAF)?);
+        let root = Some(Tree::of(alloc, node)?);
+        Ok(LabelledSequence { root, len })
+    }
+
+    // A list of the items under `children`, which stay shared.
+    fn of_children(
+        alloc: Global,
+        children: &[Child<T, L>],
+    ) -> Result<LabelledSequence<T, L>, AllocError>
+        requires labels { CopiesAreEqual L.is_clone }
+        requires level { AreLevel L.label_of children.now }
+        requires room { length (items_in children.now) < 2 ^ 64 }
+        ensures { IfOk result (λ list. list ≡ items_in children.now) }
+    {
+        let tree = match children {
+            [] => return Ok(LabelledSequence::empty()),
+            [only] => only.tree.clone()?,
+            _ => {
+                let own = copies(alloc, children, BRANCH)?;
+                Tree::of(alloc, Node::Branch(own))?
+            }
+        };
+        let len = count(children);
+        let root = Some(tree);
+        Ok(LabelledSequence { root, len })
+    }
+}
+
+impl<T: Clone, L: NewLabel<T>> Tree<T, L> {
+    // Both parts as new lists: the first `at` items, and the others.
+    fn split_at(
+        &self,
+        alloc: Global,
+        at: usize,
+    ) -> Result<(LabelledSequence<T, L>, LabelledSequence<T, L>), AllocError>
+        requires copies { CopiesAreEqual T.is_clone }
+        requires labels { CopiesAreEqual L.is_clone }
+        requires within { at ≤ length self.now.0 }
+        ensures front { IfOk result (λ parts. parts.0 ≡ take at self.now.0) }
+        ensures back { IfOk result (λ parts. parts.1 ≡ drop at self.now.0) }
+    {
+        match self.node() {
+            Node::Leaf(items) => {
+                let front = LabelledSequence::of_leaf(alloc, &items[..at])?;
+                let back = LabelledSequence::of_leaf(alloc, &items[at..])?;
+                Ok((front, back))
+            }
+            Node::Branch(children) => {
+                let spot = spot_of(children, at);
+                let mut front = LabelledSequence::of_children(alloc, &children[..spot.child])?;
+                let behind = LabelledSequence::of_children(alloc, &children[spot.child + 1..])?;
+                let (part, mut back) = children[spot.child].tree.split_at(alloc, spot.place)?;
+                front.append(alloc, part)?;
+                back.append(alloc, behind)?;
+                Ok((front, back))
+            }
+        }
+    }
+}

@@ -35,6 +35,9 @@ module _ {T : Type 0} (test : T → Bool) where
     pub first_cut : IsCut test es (first test es)
     first_cut = subst (IsCut test es) (sym (first_is es has.at has.is)) has.is
 
+    pub cut_at : (at : ℕ) → at ≡ first test es → IsCut test es at
+    cut_at at is = subst (IsCut test es) (sym is) first_cut
+
     pub test_at : (i : ℕ) (d : T) → i < length es → test (get_or es i d) ≡ nat_lt i (first test es)
     test_at i d within = elim (cases_lt i (first test es)) [
       | inl less ↦ prefix_len_passes test es i d less ∙ sym (lt-ltb i (first test es) less)
@@ -103,19 +106,19 @@ module _ {T : Type 0} (test : T → Bool) where
       | inr front ↦ omega (arith, front)
     ]
 
-    pub none_before : first test part ≡ 0 → IsCut test all 0
-    none_before none =
-        let at : first test all ≡ 0 = omega (arith, none_front none, first_part, none) in
-        subst (IsCut test all) at (first_cut all has)
+    -- so many of all are before the cut
+    pub cut_there : (at : ℕ) → IsCut test part at → IsCut test all (start + at)
+    cut_there at is = cut_at all has (start + at) (omega (arith, first_part, first_is part at is))
+
+    pub none_before : IsCut test part 0 → IsCut test all 0
+    none_before none = cut_at all has 0 (omega (arith, none_front (first_is part 0 none), first_part, first_is part 0 none))
 
     -- and else the last of them is the last of all
-    pub last_cut : (at : ℕ) → at + 1 ≡ first test part → IsCut test all (start + at + 1)
-    last_cut at is =
-        let place : first test all ≡ start + at + 1 = omega (arith, first_part, is) in
-        subst (IsCut test all) place (first_cut all has)
+    pub last_cut : (at : ℕ) → IsCut test part (at + 1) → IsCut test all (start + at + 1)
+    last_cut at is = cut_at all has (start + at + 1) (omega (arith, first_part, first_is part (at + 1) is))
 
-    pub last_item : (at : ℕ) (e : T) → at + 1 ≡ first test part → e ≡ get_or part at e
+    pub last_item : (at : ℕ) (e : T) → at + 1 ≤ length part → e ≡ get_or part at e
         → slice_get all (start + at) ≡ Some e
-    last_item at e is item =
-        let within : at < length part = omega (arith, is, prefix_len-le-length test part) in
-        sym (holds.part.at at within) ∙ slice_get-get_or part at e within ∙ ap (λ (e : T). Some e) (sym item)
+    last_item at e within item =
+        let inside : at < length part = omega (arith, within) in
+        sym (holds.part.at at inside) ∙ slice_get-get_or part at e inside ∙ ap (λ (e : T). Some e) (sym item)

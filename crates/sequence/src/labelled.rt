@@ -23,7 +23,7 @@ use std::alloc::{AllocError, Global};
 use std::marker::Model;
 use std::mem;
 
-/// A list with access by index that can be searched: a branch keeps a separator key of type `L` for each child.
+/// A list with access by index that can also be searched: a branch keeps a separator key of type `L` for each child.
 ///
 /// A [`Sequence<T>`](crate::Sequence) dereferences to a `LabelledSequence<T>`, which has no separator keys. So this type
 /// has all calls of a `Sequence` that neither take a list by value nor return one. Name it for a list that you search
@@ -155,8 +155,8 @@ impl<T, L: Label<T>> LabelledSequence<T, L> {
 }
 
 impl<T: Drop, L: NewLabel<T>> LabelledSequence<T, L> {
-    /// Creates a list of `items` as `Sequence::from_items` does, with a separator key of type `L` for each child of a
-    /// branch. O(n).
+    /// Creates a list of `items` as `Sequence::from_items` does, with a separator key of type `L` for each child of a branch.
+    /// O(n).
     ///
     /// # Errors
     ///
@@ -201,8 +201,7 @@ impl<T: Clone, L: NewLabel<T>> LabelledSequence<T, L> {
 
     // Inserts at an index that is known to be at most the length, so that only memory can be lacking.
     fn insert_at(&mut self, alloc: Global, index: usize, item: T) -> Result<(), AllocError>
-        requires copies { CopiesAreEqual T.is_clone }
-        requires labels { CopiesAreEqual L.is_clone }
+        requires copies { CopiesAreEqual T.is_clone × CopiesAreEqual L.is_clone }
         requires within { index ≤ length self.old }
         ensures items { OnOk result (self.new ≡ insert self.old index item) }
         ensures refused { OnErr result (self.new ≡ self.old) }
@@ -253,8 +252,7 @@ impl<T: Clone, L: NewLabel<T>> LabelledSequence<T, L> {
 
     // Removes at an index that is known to have an item, so that only memory can be lacking.
     fn remove_at(&mut self, alloc: Global, index: usize) -> Result<T, AllocError>
-        requires copies { CopiesAreEqual T.is_clone }
-        requires labels { CopiesAreEqual L.is_clone }
+        requires copies { CopiesAreEqual T.is_clone × CopiesAreEqual L.is_clone }
         requires there { index < length self.old }
         ensures item { IfOk result (λ item. slice_get self.old index ≡ Some item) }
         ensures items { OnOk result (self.new ≡ remove self.old index) }

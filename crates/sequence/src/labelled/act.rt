@@ -124,8 +124,7 @@ impl<T: Clone, L: NewLabel<T>> LabelledSequence<T, L> {
         alloc: Global,
         act: PutIn<P>,
     ) -> Result<Option<P::Old>, AllocError>
-        requires copies { CopiesAreEqual T.is_clone }
-        requires labels { CopiesAreEqual L.is_clone }
+        requires copies { CopiesAreEqual T.is_clone × CopiesAreEqual L.is_clone }
         requires cut { HasCut (P.is_before act.0) self.old }
         ensures replaced { IfOk result (λ old. IfSome old (IsReplaced (P.is_sought act.0)
             (P.is_before act.0) (P.replaced act.0) P.put_out self.old self.new)) }
@@ -154,8 +153,7 @@ impl<T: Clone, L: Label<T> + Clone> LabelledSequence<T, L> {
     // Changes the list in one pass. Returns `act` if a node on the path would get another form, or if there is no
     // memory.
     fn act<A: Act<T, L>>(&mut self, alloc: Global, act: A) -> Result<Option<A::Gone>, A>
-        requires copies { CopiesAreEqual T.is_clone }
-        requires labels { CopiesAreEqual L.is_clone }
+        requires copies { CopiesAreEqual T.is_clone × CopiesAreEqual L.is_clone }
         requires cut { HasCut (A.Way.is_before (A.way act)) self.old }
         requires needs { OfSought (A.Way.is_sought (A.way act)) (A.Way.is_before (A.way act)) (A.needs act) self.old }
         ensures done { IfOk result
@@ -170,9 +168,9 @@ impl<T: Clone, L: Label<T> + Clone> LabelledSequence<T, L> {
         if len <= 1 || len == usize::MAX {
             return Err(act);
         }
-        let gone = tree.act(alloc, act, false)?;
-        self.len = len_after::<T, L, A>(len, &gone);
-        Ok(gone)
+        let answer = tree.act(alloc, act, false);
+        self.len = len_after::<T, L, A>(len, &answer);
+        answer
     }
 }
 

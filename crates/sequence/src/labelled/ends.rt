@@ -86,8 +86,7 @@ impl<T: Clone, L: NewLabel<T>> LabelledSequence<T, L> {
 
     // Removes in one pass if no node on the path gets underfull, and else as `remove` does.
     fn pop_at(&mut self, alloc: Global, end: End) -> Result<Option<T>, AllocError>
-        requires copies { CopiesAreEqual T.is_clone }
-        requires labels { CopiesAreEqual L.is_clone }
+        requires copies { CopiesAreEqual T.is_clone × CopiesAreEqual L.is_clone }
         ensures item { IfOk result (λ item. item ≡ slice_get self.old (place_at end (length self.old))) }
         ensures items { OnOk result (self.new ≡ remove self.old (place_at end (length self.old))) }
         ensures none { self.old ≡ [] → IsOk result }

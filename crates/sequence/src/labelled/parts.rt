@@ -86,8 +86,7 @@ impl<T: Clone, L: NewLabel<T>> LabelledSequence<T, L> {
         alloc: Global,
         at: usize,
     ) -> Result<LabelledSequence<T, L>, AllocError>
-        requires copies { CopiesAreEqual T.is_clone }
-        requires labels { CopiesAreEqual L.is_clone }
+        requires copies { CopiesAreEqual T.is_clone × CopiesAreEqual L.is_clone }
         requires within { at ≤ length self.old }
         ensures out { IfOk result (λ out. out ≡ drop at self.old) }
         ensures rest { OnOk result (self.new ≡ take at self.old) }
@@ -116,8 +115,7 @@ impl<T: Clone, L: NewLabel<T>> LabelledSequence<T, L> {
         alloc: Global,
         at: usize,
     ) -> Result<LabelledSequence<T, L>, Blocked>
-        requires copies { CopiesAreEqual T.is_clone }
-        requires labels { CopiesAreEqual L.is_clone }
+        requires copies { CopiesAreEqual T.is_clone × CopiesAreEqual L.is_clone }
         requires within { at ≤ length self.old }
         ensures out { IfOk result (λ out. out ≡ drop at self.old) }
         ensures rest { OnOk result (self.new ≡ take at self.old) }
@@ -241,8 +239,7 @@ impl<T: Clone, L: NewLabel<T>> Tree<T, L> {
         alloc: Global,
         at: usize,
     ) -> Result<(LabelledSequence<T, L>, LabelledSequence<T, L>), AllocError>
-        requires copies { CopiesAreEqual T.is_clone }
-        requires labels { CopiesAreEqual L.is_clone }
+        requires copies { CopiesAreEqual T.is_clone × CopiesAreEqual L.is_clone }
         requires within { at ≤ length self.now.0 }
         ensures front { IfOk result (λ parts. parts.0 ≡ take at self.now.0) }
         ensures back { IfOk result (λ parts. parts.1 ≡ drop at self.now.0) }

@@ -5,7 +5,7 @@ ghost use Rattle.std.specs.Prelude.{Option, length};
 ghost use Rattle.handles.specs.Copies.{CopiesAreEqual};
 ghost use Rattle.sequence.specs.Acts.{IsActed, OfSought, comes, gone};
 ghost use Rattle.sequence.specs.Cuts.{HasCut, IsCut};
-ghost use Rattle.sequence.specs.Nodes.{AreChildren, CanLose, IsList, first_label, height_in, items_in};
+ghost use Rattle.sequence.specs.Nodes.{CanLose, IsList, first_label};
 
 use crate::cut::Seek;
 use crate::label::Label;
@@ -65,15 +65,13 @@ pub(crate) trait Act<T, L: Label<T>> {
 
 impl<T: Clone, L: Label<T> + Clone> Tree<T, L> {
     // Does it. If it is told to, it leaves the first label as it is.
-    #[cycle(act)]
     pub(crate) fn act<A: Act<T, L>>(
         &mut self,
         alloc: Global,
         act: A,
         labelled: bool,
     ) -> Result<Option<A::Gone>, A>
-        requires copies { CopiesAreEqual T.is_clone }
-        requires labels { CopiesAreEqual L.is_clone }
+        requires copies { CopiesAreEqual T.is_clone × CopiesAreEqual L.is_clone }
         requires cut { HasCut (A.Way.is_before (A.way act)) self.old.0 }
         requires needs { OfSought (A.Way.is_sought (A.way act)) (A.Way.is_before (A.way act)) (A.needs act) self.old.0 }
         requires spare { IsTrue A.LOSES → 1 < length self.old.0 }
@@ -99,54 +97,31 @@ impl<T: Clone, L: Label<T> + Clone> Tree<T, L> {
             }
             Node::Branch(children) => children,
         };
-        Tree::act_under(children, alloc, act, labelled)
-    }
-
-    // Does it under the last child whose first item is before the cut, or under the first child.
-    #[cycle(act)]
-    fn act_under<A: Act<T, L>>(
-        children: &mut Vec<Child<T, L>>,
-        alloc: Global,
-        act: A,
-        labelled: bool,
-    ) -> Result<Option<A::Gone>, A>
-        requires copies { CopiesAreEqual T.is_clone }
-        requires labels { CopiesAreEqual L.is_clone }
-        requires children { AreChildren L.label_of children.old.items }
-        requires cut { HasCut (A.Way.is_before (A.way act)) (items_in children.old.items) }
-        requires needs { OfSought (A.Way.is_sought (A.way act)) (A.Way.is_before (A.way act))
-            (A.needs act) (items_in children.old.items) }
-        requires room { length (items_in children.old.items) + 1 < 2 ^ 64 }
-        ensures done { IfOk result (IsActed (A.Way.is_before (A.way act)) (A.does act) A.GROWS A.LOSES
-            (items_in children.old.items) (items_in children.new.items)) }
-        ensures height { height_in children.new.items ≡ height_in children.old.items }
-        ensures children { AreChildren L.label_of children.new.items }
-        ensures first { IsTrue labelled → first_label L.label_of (items_in children.new.items)
-            ≡ first_label L.label_of (items_in children.old.items) }
-        ensures blocked { OnErr result (items_in children.new.items ≡ items_in children.old.items) }
-        ensures back { IfErr result (λ back. back ≡ act) }
-    {
         let at = child_of(children, act.way());
         if A::LOSES && children[at].tree.is_thin() {
             return Err(act);
         }
         let child = &mut children[at];
-        let gone = child.tree.act(alloc, act, labelled | (at > 0))?;
-        child.len = len_after::<T, L, A>(child.len, &gone);
-        Ok(gone)
+        let answer = child.tree.act(alloc, act, labelled | (at > 0));
+        child.len = len_after::<T, L, A>(child.len, &answer);
+        answer
     }
 }
 
 // How many there are after it, if there were so many before.
 #[inline(always)]
-pub(crate) fn len_after<T, L: Label<T>, A: Act<T, L>>(len: usize, answer: &Option<A::Gone>) -> usize
+pub(crate) fn len_after<T, L: Label<T>, A: Act<T, L>>(
+    len: usize,
+    answer: &Result<Option<A::Gone>, A>,
+) -> usize
     requires some { 0 < len }
     requires room { len + 1 < 2 ^ 64 }
-    ensures { result + gone answer.now ≡ len + comes A.GROWS A.LOSES answer.now }
+    ensures done { IfOk answer.now (λ answer. result + gone answer ≡ len + comes A.GROWS A.LOSES answer) }
+    ensures blocked { OnErr answer.now (result ≡ len) }
 {
-    if answer.is_some() {
-        len - usize::from(A::LOSES)
-    } else {
-        len + usize::from(A::GROWS)
+    match answer {
+        Ok(Some(_)) => len - usize::from(A::LOSES),
+        Ok(None) => len + usize::from(A::GROWS),
+        Err(_) => len,
     }
 }

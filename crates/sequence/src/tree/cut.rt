@@ -83,11 +83,12 @@ fn place_of<T, L: Label<T>, C: Cut<T, L>>(items: &[T], cut: &C) -> usize
 
 // The number of the last item before the cut.
 #[inline(always)]
+#[tactic(auto, using(crate::proofs::Cuts::cut_at))]
 pub(crate) fn last_in<T, L: Label<T>, C: Cut<T, L>>(items: &[T], cut: &C) -> Option<usize>
     requires cut { HasCut (C.is_before cut.now) items.now }
     requires some { 0 < length items.now }
-    ensures none { IfNone result (first (C.is_before cut.now) items.now ≡ 0) }
-    ensures some { IfSome result (λ at. at + 1 ≡ first (C.is_before cut.now) items.now) }
+    ensures none { IfNone result (IsCut (C.is_before cut.now) items.now 0) }
+    ensures some { IfSome result (λ at. IsCut (C.is_before cut.now) items.now (at + 1)) }
 {
     let at = place_of(items, cut);
     // All others were compared.

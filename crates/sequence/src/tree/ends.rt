@@ -22,8 +22,7 @@ pub(crate) enum End {
 impl<T: Clone, L: Label<T> + Clone> Tree<T, L> {
     // Puts the item in behind all. It comes back if the last leaf is full, or if there is no memory.
     pub(crate) fn push(&mut self, alloc: Global, item: T) -> Result<(), T>
-        requires copies { CopiesAreEqual T.is_clone }
-        requires labels { CopiesAreEqual L.is_clone }
+        requires copies { CopiesAreEqual T.is_clone × CopiesAreEqual L.is_clone }
         requires room { length self.old.0 + 1 < 2 ^ 64 }
         ensures items { OnOk result (self.new.0 ≡ spliced (length self.old.0) 0 (item ∷ []) self.old.0) }
         ensures height { self.new.1 ≡ self.old.1 }
@@ -48,8 +47,7 @@ impl<T: Clone, L: Label<T> + Clone> Tree<T, L> {
     // node is a branch with no more children than `least`, or one below has so few that it is joined with its neighbour
     // first.
     pub(crate) fn pop(&mut self, alloc: Global, end: End, least: usize) -> Result<T, Blocked>
-        requires copies { CopiesAreEqual T.is_clone }
-        requires labels { CopiesAreEqual L.is_clone }
+        requires copies { CopiesAreEqual T.is_clone × CopiesAreEqual L.is_clone }
         requires some { 1 < length self.old.0 }
         ensures item { IfOk result (λ item. slice_get self.old.0 (place_at end (length self.old.0)) ≡ Some item) }
         ensures items { OnOk result (self.new.0 ≡ spliced (place_at end (length self.old.0)) 1 [] self.old.0) }
@@ -83,8 +81,7 @@ fn pop_leaf<T: Clone, L: Label<T> + Clone>(
     alloc: Global,
     at: usize,
 ) -> Result<T, Blocked>
-    requires copies { CopiesAreEqual T.is_clone }
-    requires labels { CopiesAreEqual L.is_clone }
+    requires copies { CopiesAreEqual T.is_clone × CopiesAreEqual L.is_clone }
     requires within { at < length children.old.items }
     requires child { All (IsChild (height_in children.old.items)) children.old.items }
     requires one { (d : Child T L) → length (slice_index_or children.old.items at d).tree.0 ≡ 1 }

@@ -18,8 +18,7 @@ impl<T: Clone, L: NewLabel<T>> Tree<T, L> {
         mut other: Tree<T, L>,
         more: usize,
     ) -> Result<Tree<T, L>, Tree<T, L>>
-        requires copies { CopiesAreEqual T.is_clone }
-        requires labels { CopiesAreEqual L.is_clone }
+        requires copies { CopiesAreEqual T.is_clone × CopiesAreEqual L.is_clone }
         requires len { len ≡ length self.0 }
         requires more { more ≡ length other.0 }
         requires room { len + more < 2 ^ 64 }
@@ -52,8 +51,7 @@ impl<T: Clone, L: NewLabel<T>> Tree<T, L> {
         place: usize,
         below: u8,
     ) -> Result<(), Tree<T, L>>
-        requires copies { CopiesAreEqual T.is_clone }
-        requires labels { CopiesAreEqual L.is_clone }
+        requires copies { CopiesAreEqual T.is_clone × CopiesAreEqual L.is_clone }
         requires len { len ≡ length self.old.0 }
         requires more { more ≡ length other.0 }
         requires wide { (2 ^ self.old.1 ≤ length self.old.0) × (2 ^ other.1 ≤ length other.0) }

@@ -24,15 +24,13 @@ pub(crate) enum Piece<T, L: Label<T>> {
 
 impl<T: Clone, L: NewLabel<T>> Tree<T, L> {
     // Puts the piece in at that place. A refusal gives a part back.
-    #[cycle(insert)]
     pub(crate) fn insert(
         &mut self,
         alloc: Global,
         place: usize,
         piece: Piece<T, L>,
     ) -> Result<(), Option<Child<T, L>>>
-        requires copies { CopiesAreEqual T.is_clone }
-        requires labels { CopiesAreEqual L.is_clone }
+        requires copies { CopiesAreEqual T.is_clone × CopiesAreEqual L.is_clone }
         requires within { place ≤ length self.old.0 }
         requires fits { Fits L.label_of piece place self.old }
         requires room { length self.old.0 + length (items_of piece) < 2 ^ 64 }
@@ -44,69 +42,22 @@ impl<T: Clone, L: NewLabel<T>> Tree<T, L> {
         let Ok(node) = Arc::make_mut(&mut self.root, alloc) else {
             return Err(piece.into_part());
         };
-        match node {
-            Node::Leaf(items) => insert_in_leaf(items, place, piece),
-            Node::Branch(children) => insert_under(children, alloc, place, piece),
-        }
-    }
-}
-
-// Puts the piece in under a branch.
-#[cycle(insert)]
-fn insert_under<T: Clone, L: NewLabel<T>>(
-    children: &mut Vec<Child<T, L>>,
-    alloc: Global,
-    place: usize,
-    piece: Piece<T, L>,
-) -> Result<(), Option<Child<T, L>>>
-    requires copies { CopiesAreEqual T.is_clone }
-    requires labels { CopiesAreEqual L.is_clone }
-    requires children { AreChildren L.label_of children.old.items }
-    requires within { place ≤ length (items_in children.old.items) }
-    requires fits { Fits L.label_of piece place (items_in children.old.items, height_in children.old.items) }
-    requires room { length (items_in children.old.items) + length (items_of piece) < 2 ^ 64 }
-    ensures items { OnOk result (items_in children.new.items
-        ≡ spliced place 0 (items_of piece) (items_in children.old.items)) }
-    ensures height { height_in children.new.items ≡ height_in children.old.items }
-    ensures children { AreChildren L.label_of children.new.items }
-    ensures refused { OnErr result (items_in children.new.items ≡ items_in children.old.items) }
-    ensures back { IfErr result (λ back. back ≡ part_of piece) }
-{
-    let piece = match piece.under() {
-        Ok(piece) => piece,
-        Err(child) => return beside(children, alloc, place, child),
-    };
-    let Ok(spot) = room_under(children, spot_of(children, place), alloc, true) else {
-        return Err(piece.into_part());
-    };
-    children[spot.child].insert(alloc, spot.place, piece)
-}
-
-impl<T: Clone, L: NewLabel<T>> Child<T, L> {
-    // Puts the piece in under one child, and counts its items there.
-    #[cycle(insert)]
-    fn insert(
-        &mut self,
-        alloc: Global,
-        place: usize,
-        piece: Piece<T, L>,
-    ) -> Result<(), Option<Child<T, L>>>
-        requires copies { CopiesAreEqual T.is_clone }
-        requires labels { CopiesAreEqual L.is_clone }
-        requires child { IsChild (self.old.tree.1 + 1) self.old }
-        requires within { place ≤ length self.old.tree.0 }
-        requires fits { Fits L.label_of piece place self.old.tree }
-        requires room { length self.old.tree.0 + length (items_of piece) < 2 ^ 64 }
-        ensures items { OnOk result (self.new.tree.0 ≡ spliced place 0 (items_of piece) self.old.tree.0) }
-        ensures child { IsChild (self.old.tree.1 + 1) self.new }
-        ensures label { self.new.label ≡ self.old.label }
-        ensures refused { OnErr result (self.new.tree.0 ≡ self.old.tree.0) }
-        ensures back { IfErr result (λ back. back ≡ part_of piece) }
-    {
+        let children = match node {
+            Node::Leaf(items) => return insert_in_leaf(items, place, piece),
+            Node::Branch(children) => children,
+        };
         let more = piece.len();
-        self.tree.insert(alloc, place, piece)?;
-        self.len += more;
-        Ok(())
+        let piece = match piece.under() {
+            Ok(piece) => piece,
+            Err(child) => return beside(children, alloc, place, child),
+        };
+        let Ok(spot) = room_under(children, spot_of(children, place), alloc, true) else {
+            return Err(piece.into_part());
+        };
+        let child = &mut children[spot.child];
+        let inserted = child.tree.insert(alloc, spot.place, piece);
+        child.len += if inserted.is_ok() { more } else { 0 };
+        inserted
     }
 }
 
@@ -177,8 +128,7 @@ fn beside<T: Clone, L: NewLabel<T>>(
     place: usize,
     child: Child<T, L>,
 ) -> Result<(), Option<Child<T, L>>>
-    requires copies { CopiesAreEqual T.is_clone }
-    requires labels { CopiesAreEqual L.is_clone }
+    requires copies { CopiesAreEqual T.is_clone × CopiesAreEqual L.is_clone }
     requires children { AreChildren L.label_of children.old.items }
     requires child { IsChild (height_in children.old.items) child }
     requires label { IsLabelled L.label_of child }
@@ -217,8 +167,7 @@ pub(crate) fn join_if_small<T: Clone, L: NewLabel<T>>(
     at: usize,
     alloc: Global,
 )
-    requires copies { CopiesAreEqual T.is_clone }
-    requires labels { CopiesAreEqual L.is_clone }
+    requires copies { CopiesAreEqual T.is_clone × CopiesAreEqual L.is_clone }
     requires children { AreChildren L.label_of children.old.items }
     requires within { at + 1 < length children.old.items }
     ensures same { StandFor L.label_of children.old.items children.new.items }

@@ -19,8 +19,7 @@ pub(crate) fn join_children<T: Clone, L: NewLabel<T>>(
     at: usize,
     alloc: Global,
 ) -> Result<(), AllocError>
-    requires copies { CopiesAreEqual T.is_clone }
-    requires labels { CopiesAreEqual L.is_clone }
+    requires copies { CopiesAreEqual T.is_clone × CopiesAreEqual L.is_clone }
     requires children { AreChildren L.label_of children.old.items }
     requires within { at + 1 < length children.old.items }
     ensures same { StandFor L.label_of children.old.items children.new.items }
@@ -48,8 +47,7 @@ pub(crate) fn join_children<T: Clone, L: NewLabel<T>>(
 impl<T: Clone, L: NewLabel<T>> Child<T, L> {
     // Takes over what the next child has. A refusal gives that back.
     fn take_over(&mut self, alloc: Global, next: Child<T, L>) -> Result<(), Child<T, L>>
-        requires copies { CopiesAreEqual T.is_clone }
-        requires labels { CopiesAreEqual L.is_clone }
+        requires copies { CopiesAreEqual T.is_clone × CopiesAreEqual L.is_clone }
         requires children { AreChildren L.label_of (self.old ∷ next ∷ []) }
         ensures child { OnOk result (IsChild (self.old.tree.1 + 1) self.new) }
         ensures label { self.new.label ≡ self.old.label }
@@ -79,8 +77,7 @@ impl<T: Clone, L: NewLabel<T>> Tree<T, L> {
         next: Tree<T, L>,
         label: &mut L,
     ) -> Result<(), Tree<T, L>>
-        requires copies { CopiesAreEqual T.is_clone }
-        requires labels { CopiesAreEqual L.is_clone }
+        requires copies { CopiesAreEqual T.is_clone × CopiesAreEqual L.is_clone }
         requires list { IsList (self.old.0 ++ next.0) }
         requires level { self.old.1 ≡ next.1 }
         requires label { first_label L.label_of next.0 ≡ Some label.old }
@@ -105,8 +102,7 @@ impl<T: Clone, L: NewLabel<T>> Tree<T, L> {
 impl<T: Clone, L: Label<T> + Clone> Tree<T, L> {
     // The first node, which no other version has then. A refusal gives the tree back.
     fn into_own(self, alloc: Global) -> Result<UniqueArc<Node<T, L>>, Tree<T, L>>
-        requires copies { CopiesAreEqual T.is_clone }
-        requires labels { CopiesAreEqual L.is_clone }
+        requires copies { CopiesAreEqual T.is_clone × CopiesAreEqual L.is_clone }
         ensures same { IfOk result (λ node. seen node ≡ self) }
         ensures whole { IfOk result (IsNode L.label_of) }
         ensures refused { IfErr result (λ tree. tree ≡ self) }
@@ -123,8 +119,7 @@ impl<T: Clone, L: Label<T> + Clone> Tree<T, L> {
 
     // The only item. A refusal gives the tree back.
     pub(crate) fn into_only(self, alloc: Global) -> Result<T, Tree<T, L>>
-        requires copies { CopiesAreEqual T.is_clone }
-        requires labels { CopiesAreEqual L.is_clone }
+        requires copies { CopiesAreEqual T.is_clone × CopiesAreEqual L.is_clone }
         requires one { length self.0 ≡ 1 }
         requires wide { 2 ^ self.1 ≤ length self.0 }
         ensures item { IfOk result (λ item. self.0 ≡ item ∷ []) }
@@ -138,8 +133,7 @@ impl<T: Clone, L: Label<T> + Clone> Tree<T, L> {
 
     // Takes the only item out.
     pub(crate) fn take_only(root: &mut Option<Tree<T, L>>, alloc: Global) -> Result<T, AllocError>
-        requires copies { CopiesAreEqual T.is_clone }
-        requires labels { CopiesAreEqual L.is_clone }
+        requires copies { CopiesAreEqual T.is_clone × CopiesAreEqual L.is_clone }
         requires one { length (items_under root.old) ≡ 1 }
         requires wide { IfSome root.old (λ tree. 2 ^ tree.1 ≤ length tree.0) }
         ensures item { IfOk result (λ item. items_under root.old ≡ item ∷ []) }

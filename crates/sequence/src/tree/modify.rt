@@ -19,8 +19,7 @@ impl<T: Clone, L: NewLabel<T>> Tree<T, L> {
         index: usize,
         change: F,
     ) -> Result<R, AllocError>
-        requires copies { CopiesAreEqual T.is_clone }
-        requires labels { CopiesAreEqual L.is_clone }
+        requires copies { CopiesAreEqual T.is_clone × CopiesAreEqual L.is_clone }
         requires there { index < length self.old.0 }
         requires callable { ForSome (slice_get self.old.0 index) (FnOnceTakesAtMut F.FnOnce change) }
         requires keeps { ForSome (slice_get self.old.0 index) (KeepsLabel F.FnOnce change L.label_of) }

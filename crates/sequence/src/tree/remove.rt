@@ -18,8 +18,7 @@ impl<T: Clone, L: NewLabel<T>> Tree<T, L> {
     // Takes the item of that number out, which is there and not the only one.
     #[cycle(remove)]
     pub(crate) fn remove(&mut self, alloc: Global, index: usize) -> Result<T, AllocError>
-        requires copies { CopiesAreEqual T.is_clone }
-        requires labels { CopiesAreEqual L.is_clone }
+        requires copies { CopiesAreEqual T.is_clone × CopiesAreEqual L.is_clone }
         requires there { index < length self.old.0 }
         requires some { 1 < length self.old.0 }
         requires wide { 2 ^ self.old.1 ≤ length self.old.0 }
@@ -41,8 +40,7 @@ impl<T: Clone, L: NewLabel<T>> Child<T, L> {
     // Takes the item of that number out from under one child, whose label stays right if it is to.
     #[cycle(remove)]
     fn remove(&mut self, alloc: Global, index: usize, labelled: bool) -> Result<T, AllocError>
-        requires copies { CopiesAreEqual T.is_clone }
-        requires labels { CopiesAreEqual L.is_clone }
+        requires copies { CopiesAreEqual T.is_clone × CopiesAreEqual L.is_clone }
         requires child { IsChild (self.old.tree.1 + 1) self.old }
         requires spare { CanLose self.old.tree }
         requires there { index < length self.old.tree.0 }
@@ -72,8 +70,7 @@ fn spare_for<T: Clone, L: NewLabel<T>>(
     alloc: Global,
     index: usize,
 ) -> Result<Spot, AllocError>
-    requires copies { CopiesAreEqual T.is_clone }
-    requires labels { CopiesAreEqual L.is_clone }
+    requires copies { CopiesAreEqual T.is_clone × CopiesAreEqual L.is_clone }
     requires children { AreChildren L.label_of children.old.items }
     requires there { index < length (items_in children.old.items) }
     requires wide { 2 ^ height_in children.old.items ≤ length (items_in children.old.items) }
@@ -97,8 +94,7 @@ fn join_at<T: Clone, L: NewLabel<T>>(
     spot: Spot,
     alloc: Global,
 ) -> Result<Spot, AllocError>
-    requires copies { CopiesAreEqual T.is_clone }
-    requires labels { CopiesAreEqual L.is_clone }
+    requires copies { CopiesAreEqual T.is_clone × CopiesAreEqual L.is_clone }
     requires children { AreChildren L.label_of children.old.items }
     requires within { spot.child < length children.old.items }
     requires inside { (d : Child T L) → spot.place ≤ length (slice_index_or children.old.items spot.child d).tree.0 }

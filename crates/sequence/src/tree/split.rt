@@ -79,8 +79,7 @@ pub(crate) fn room_under<T: Clone, L: NewLabel<T>>(
     alloc: Global,
     grows: bool,
 ) -> Result<Spot, AllocError>
-    requires copies { CopiesAreEqual T.is_clone }
-    requires labels { CopiesAreEqual L.is_clone }
+    requires copies { CopiesAreEqual T.is_clone × CopiesAreEqual L.is_clone }
     requires children { AreChildren L.label_of children.old.items }
     requires within { spot.child < length children.old.items }
     ensures same { StandFor L.label_of children.old.items children.new.items }
@@ -125,8 +124,7 @@ impl Spot {
 impl<T: Clone, L: NewLabel<T>> Child<T, L> {
     // Makes two of the child if its first node is full: it keeps the first part, and gives the last one.
     fn split_node(&mut self, alloc: Global, ends: bool) -> Result<Option<Child<T, L>>, AllocError>
-        requires copies { CopiesAreEqual T.is_clone }
-        requires labels { CopiesAreEqual L.is_clone }
+        requires copies { CopiesAreEqual T.is_clone × CopiesAreEqual L.is_clone }
         requires child { IsChild (self.old.tree.1 + 1) self.old }
         ensures child { OnOk result (IsChild (self.old.tree.1 + 1) self.new) }
         ensures label { self.new.label ≡ self.old.label }
@@ -147,8 +145,7 @@ impl<T: Clone, L: NewLabel<T>> Tree<T, L> {
     // Makes two of the tree if its first node is full, and gives the last part.
     #[inline(never)]
     fn split_node(&mut self, alloc: Global, ends: bool) -> Result<Option<Child<T, L>>, AllocError>
-        requires copies { CopiesAreEqual T.is_clone }
-        requires labels { CopiesAreEqual L.is_clone }
+        requires copies { CopiesAreEqual T.is_clone × CopiesAreEqual L.is_clone }
         ensures halves { IfOk result (λ half. IfSome half (AreHalves L.label_of self.old self.new)) }
         ensures spare { IfOk result (λ half. IfSome half (λ right. CanLose self.new × CanLose right.tree)) }
         ensures whole { IfOk result (λ half. IfNone half (self.new ≡ self.old)) }

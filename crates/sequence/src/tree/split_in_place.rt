@@ -21,8 +21,7 @@ impl<T: Clone, L: NewLabel<T>> Tree<T, L> {
         place: usize,
         least: usize,
     ) -> Result<Child<T, L>, Blocked>
-        requires copies { CopiesAreEqual T.is_clone }
-        requires labels { CopiesAreEqual L.is_clone }
+        requires copies { CopiesAreEqual T.is_clone × CopiesAreEqual L.is_clone }
         requires least { least ≡ 2 ^ self.old.1 }
         requires front { least ≤ place }
         requires back { place + least ≤ length self.old.0 }
@@ -30,44 +29,21 @@ impl<T: Clone, L: NewLabel<T>> Tree<T, L> {
         ensures kept { OnOk result (length self.new.0 ≡ place) }
         ensures blocked { OnErr result (self.new ≡ self.old) }
     {
-        let node = Arc::make_mut(&mut self.root, alloc)?;
-        match node {
-            Node::Leaf(items) => Ok(split_leaf(items, alloc, place)?),
-            Node::Branch(children) => split_branch_in_place(children, alloc, place, least),
+        let children = match Arc::make_mut(&mut self.root, alloc)? {
+            Node::Leaf(items) => return Ok(split_leaf(items, alloc, place)?),
+            Node::Branch(children) => children,
+        };
+        let at = edge_at(children, alloc, place, least)?;
+        // Small children that then stand beside the cut are joined with their neighbours.
+        if at + 1 < children.len() {
+            join_if_small(children, at, alloc);
         }
+        let right = split_branch(children, alloc, at)?;
+        if at > 1 {
+            join_if_small(children, at - 2, alloc);
+        }
+        Ok(right)
     }
-}
-
-// Takes the items from that place on out of a branch, into a child. Small children that then stand beside the cut are
-// joined with their neighbours.
-#[cycle(split_in_place)]
-fn split_branch_in_place<T: Clone, L: NewLabel<T>>(
-    children: &mut Vec<Child<T, L>>,
-    alloc: Global,
-    place: usize,
-    least: usize,
-) -> Result<Child<T, L>, Blocked>
-    requires copies { CopiesAreEqual T.is_clone }
-    requires labels { CopiesAreEqual L.is_clone }
-    requires children { AreChildren L.label_of children.old.items }
-    requires least { least ≡ 2 ^ height_in children.old.items }
-    requires front { least ≤ place }
-    requires back { place + least ≤ length (items_in children.old.items) }
-    ensures children { AreChildren L.label_of children.new.items }
-    ensures halves { IfOk result (AreHalves L.label_of (items_in children.old.items, height_in children.old.items)
-        (items_in children.new.items, height_in children.new.items)) }
-    ensures kept { OnOk result (length (items_in children.new.items) ≡ place) }
-    ensures blocked { OnErr result (StandFor L.label_of children.old.items children.new.items) }
-{
-    let at = edge_at(children, alloc, place, least)?;
-    if at + 1 < children.len() {
-        join_if_small(children, at, alloc);
-    }
-    let right = split_branch(children, alloc, at)?;
-    if at > 1 {
-        join_if_small(children, at - 2, alloc);
-    }
-    Ok(right)
 }
 
 // The number of the first child behind the place, once the child around it is two.
@@ -78,8 +54,7 @@ fn edge_at<T: Clone, L: NewLabel<T>>(
     place: usize,
     least: usize,
 ) -> Result<usize, Blocked>
-    requires copies { CopiesAreEqual T.is_clone }
-    requires labels { CopiesAreEqual L.is_clone }
+    requires copies { CopiesAreEqual T.is_clone × CopiesAreEqual L.is_clone }
     requires children { AreChildren L.label_of children.old.items }
     requires least { least ≡ 2 ^ height_in children.old.items }
     requires some { 0 < place }

@@ -15,7 +15,7 @@ pub Tree::remove-remove-requires-2 : goal.Tree::remove-remove-requires-2
 Tree::remove-remove-requires-2 g t c κs within =
     let node = rw c.in-Branch.is at (made g.L.Label.label_of c.args.self.now c.self.inside.root
     c.in_ok-items.field-0.now c.self.invariant c.self.view_is c.in_ok-items.ensures.value
-    (c.requires.copies, c.requires.labels)) in
+    c.requires.copies) in
     let cs = c.spare_for.new.children.items in
     let spot = c.in_ok-spot.spot in
     let same = c.in_ok-spot.ensures.same in
@@ -27,9 +27,8 @@ Tree::remove-remove-requires-2 g t c κs within =
     let level = (same.children.each spot.child d leads.within).level in
     let spare = subst (λ child. CanLose child.tree) (sym is) (c.in_ok-spot.ensures.spare d) in
     of_two (omega (arith, c.decreases, ap (λ t. t.1) node.same, high, level, same.height)) within
-    (both c.requires.copies (both c.requires.labels
-    (both (child_here cs spot.child d same.children leads.within is)
-    (both spare (omega (arith, leads.inside d, leads.inner (omega arith), long))))))
+    (both c.requires.copies (both (child_here cs spot.child d same.children leads.within is)
+    (both spare (omega (arith, leads.inside d, leads.inner (omega arith), long)))))
 
 -- the branch then
 done : (g : given.Over) (t : ℕ) (c : Tree::remove-After-remove-2 g t)
@@ -38,7 +37,7 @@ done : (g : given.Over) (t : ℕ) (c : Tree::remove-After-remove-2 g t)
 done g t c =
     let node = rw c.in-Branch.is at (made g.L.Label.label_of c.args.self.now c.self.inside.root
     c.in_ok-items.field-0.now c.self.invariant c.self.view_is c.in_ok-items.ensures.value
-    (c.requires.copies, c.requires.labels)) in
+    c.requires.copies) in
     let cs = c.spare_for.new.children.items in
     let spot = c.in_ok-spot.spot in
     let same = c.in_ok-spot.ensures.same in

@@ -1,8 +1,9 @@
 -- The child around the place is two, and each part of the branch has enough items.
-use Rattle.std.proofs.Common.{◌+◌, ◌-◌, ◌∙◌, ap, arith, get_or, refl, set, subst, sym}
+use Rattle.std.proofs.Common.{◌≡◌, ◌+◌, ◌-◌, ◌∙◌, ap, arith, get_or, length, refl, rules, set, subst, sym}
 use Rattle.std.specs.List.{insert}
 use Rattle.sequence.specs.declared.tree.Child.{Child}
-use Rattle.sequence.specs.Nodes.{IsChild, StandFor}
+use Rattle.sequence.specs.declared.tree.Node.TheVariants.{Branch}
+use Rattle.sequence.specs.Nodes.{AreHalves, IsChild, StandFor, height_in, items_in, seen}
 use Rattle.sequence.proofs.Nodes.Children.{length-parts}
 use Rattle.sequence.proofs.Shapes.Joined.{split_stands}
 use Rattle.sequence.proofs.tree.+split_in_place.Goals as goal
@@ -25,7 +26,18 @@ split_in_place::edge_at-returns-clause-same g t c =
     subst (λ xs. StandFor g.L.Label.label_of cs xs) (sym items)
     (split_stands cs i d l r c.requires.children within is child done.halves refl)
 
-pub split_in_place::split_branch_in_place-split_branch-requires-clause-sides :
-    goal.split_in_place::split_branch_in_place-split_branch-requires-clause-sides
-split_in_place::split_branch_in_place-split_branch-requires-clause-sides g t c =
-    (grind arith, grind (arith, length-parts c.if-at-len.children.items c.in_ok-at.at))
+pub Tree::split_in_place-split_branch-requires-clause-sides :
+    goal.Tree::split_in_place-split_branch-requires-clause-sides
+Tree::split_in_place-split_branch-requires-clause-sides g t c =
+    let items : items_in c.if-at-len.children.items ≡ c.args.self.now.0 = search rules in
+    let height : height_in c.if-at-len.children.items ≡ c.args.self.now.1 = search rules in
+    let long = ap (λ es. length es) items in
+    (grind (arith, long, height), grind (arith, long, height, length-parts c.if-at-len.children.items c.in_ok-at.at))
+
+pub Tree::split_in_place-returns-clause-halves : goal.Tree::split_in_place-returns-clause-halves
+Tree::split_in_place-returns-clause-halves g t c =
+    let items : items_in c.if-at-len.children.items ≡ c.args.self.now.0 = search rules in
+    let height : height_in c.if-at-len.children.items ≡ c.args.self.now.1 = search rules in
+    let halves = subst (λ tree. AreHalves g.L.Label.label_of tree (seen (Branch c.split_branch.new.children))
+    c.in_ok-right.right) (λ i. (items i, height i)) c.in_ok-right.ensures.halves in
+    search rules

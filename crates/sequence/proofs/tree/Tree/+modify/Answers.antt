@@ -16,12 +16,12 @@ branch : (g : given.Over) (t : ℕ) (c : In-Branch g t)
     → IsMade g.L.Label.label_of c.args.self.now (Branch c.in-Branch.children)
 branch g t c =
     rw c.in-Branch.is at (made g.L.Label.label_of c.args.self.now c.self.inside.root c.in_ok-items.field-0.now
-    c.self.invariant c.self.view_is c.in_ok-items.ensures.value (c.requires.copies, c.requires.labels))
+    c.self.invariant c.self.view_is c.in_ok-items.ensures.value c.requires.copies)
 
 pub returns-in-Leaf-clause-changed : goal.returns-in-Leaf-clause-changed
 returns-in-Leaf-clause-changed g t c =
     let node = rw c.in-Leaf.is at (made g.L.Label.label_of c.args.self.now c.self.inside.root c.in_ok-items.field-0.now
-    c.self.invariant c.self.view_is c.in_ok-items.ensures.value (c.requires.copies, c.requires.labels)) in
+    c.self.invariant c.self.view_is c.in_ok-items.ensures.value c.requires.copies) in
     let ok : IsOk c.make_mut.result = search rules in
     let es = c.in-Leaf.items.items in
     let at = c.args.index in
@@ -55,8 +55,8 @@ modify-requires g t c κs within =
     let level = (node.whole.each spot.child d leads.within).level in
     let there = spot_inside c.args.self.now cs spot d node.whole node.same c.args.index leads is in
     of_four (omega (arith, c.decreases, ap (λ t. t.1) node.same, high, level)) within
-    (both c.requires.copies (both c.requires.labels (both there
-    (both (λ x e. c.requires.callable x (same ∙ e)) (λ x e. c.requires.keeps x (same ∙ e))))))
+    (both c.requires.copies (both there
+    (both (λ x e. c.requires.callable x (same ∙ e)) (λ x e. c.requires.keeps x (same ∙ e)))))
 
 pub invariant_of-self-2 : goal.invariant_of-self-2
 invariant_of-self-2 g t c =

@@ -26,7 +26,7 @@ done : (g : given.Over) (t : ℕ) (c : After-from g t)
 done g t c =
     let node = rw c.in-Branch.is at (made g.L.Label.label_of c.args.self.now c.self.inside.root
     c.in_ok-items.field-0.now c.self.invariant c.self.view_is c.in_ok-items.ensures.value
-    (c.requires.copies, c.requires.labels)) in
+    c.requires.copies) in
     let tree = c.args.self.now in
     let end = c.args.end in
     let cs = c.in-Branch.children.items in
@@ -66,7 +66,7 @@ gone : (g : given.Over) (t : ℕ) (c : After-pop_leaf g t)
 gone g t c =
     let node = rw c.in-Branch.is at (made g.L.Label.label_of c.args.self.now c.self.inside.root
     c.in_ok-items.field-0.now c.self.invariant c.self.view_is c.in_ok-items.ensures.value
-    (c.requires.copies, c.requires.labels)) in
+    c.requires.copies) in
     let cs = c.in-Branch.children.items in
     let i = c.place-at.result in
     let count : c.len-2.result ≡ length cs = omega (arith, c.len-2.ensures) in

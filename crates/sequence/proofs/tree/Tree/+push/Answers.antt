@@ -18,7 +18,7 @@ done : (g : given.Over) (t : ℕ) (c : After-from g t)
     (set c.in-Branch.children.items (c.len-last.result - 1) new) c.push-pushed.result
 done g t c =
     let node = rw c.in-Branch.is at (made g.L.Label.label_of c.args.self.now c.self.inside.root c.in-Ok.node.now
-    c.self.invariant c.self.view_is c.in-Ok.ensures.value (c.requires.copies, c.requires.labels)) in
+    c.self.invariant c.self.view_is c.in-Ok.ensures.value c.requires.copies) in
     let cs = c.in-Branch.children.items in
     let i = c.len-last.result - 1 in
     let d = c.index_mut-child.result.now in

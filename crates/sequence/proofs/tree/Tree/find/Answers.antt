@@ -1,6 +1,5 @@
 -- The leaf has the cut that the tree has, and so has the child that is gone on with, or it is before all.
 use Rattle.std.proofs.Common.{◌+◌, ◌<◌, ◌^◌, ◌∙◌, ap, arith, length, subst, sym, take}
-use Rattle.std.proofs.lemmas.List.Sums.{prefix_len-le-length}
 use Rattle.sequence.specs.Nodes.{items_in}
 use Rattle.sequence.proofs.Cuts.{Holds, has_part, holds_all, last_cut, last_item, none_before}
 use Rattle.sequence.proofs.Cutting.Labels.{holds_child}
@@ -32,19 +31,6 @@ returns-in-None-clause-none g c =
     let none = rw c.deref.ensures.value at c.in-None.ensures.none in
     none_before test c.in-Leaf.items.items c.args.self.now.0 c.down.start c.requires holds none
 
-pub overflow_add-result : goal.overflow_add-result
-overflow_add-result g c =
-    let test = g.C.Cut.is_before c.args.cut.now in
-    let room = rw c.in-Leaf.is at c.down.invariant.room in
-    let some = rw c.deref.ensures.value at c.in-Some.ensures.some in
-    omega (arith, room, some, prefix_len-le-length test c.in-Leaf.items.items)
-
-pub index-requires : goal.index-requires
-index-requires g c =
-    let test = g.C.Cut.is_before c.args.cut.now in
-    let some = rw c.deref.ensures.value at c.in-Some.ensures.some in
-    omega (arith, c.in-Leaf.items.ok.0, some, prefix_len-le-length test c.in-Leaf.items.items)
-
 pub returns-in-Some-clause-number : goal.returns-in-Some-clause-number
 returns-in-Some-clause-number g c =
     let test = g.C.Cut.is_before c.args.cut.now in
@@ -57,7 +43,7 @@ returns-in-Some-clause-item g c =
     let test = g.C.Cut.is_before c.args.cut.now in
     let holds = rw c.in-Leaf.is at c.down.invariant.holds in
     let some = rw c.deref.ensures.value at c.in-Some.ensures.some in
-    last_item test c.in-Leaf.items.items c.args.self.now.0 c.down.start c.requires holds c.in-Some.at _ some
+    last_item test c.in-Leaf.items.items c.args.self.now.0 c.down.start c.requires holds c.in-Some.at _ some.within
     c.index.ensures
 
 pub child_of-at-requires-clause-cut : goal.child_of-at-requires-clause-cut

@@ -17,7 +17,7 @@ join_if_small-requires-clause-children g c =
     (more_before cs c.args.child are c.requires.child c.requires.room _
     (labelled_by_first cs d c.index.result.now c.item.result.now c.in-Ok.label are
     (c.index_mut.ensures.value ∙ ap (λ xs. get_or xs 1 d) put) c.index.ensures c.item.ensures
-    (c.in-Ok.ensures c.requires.labels))).children
+    (c.in-Ok.ensures c.requires.copies.1))).children
 
 pub returns-then-place-eq0-clause-items : goal.returns-then-place-eq0-clause-items
 returns-then-place-eq0-clause-items g c =
@@ -26,7 +26,7 @@ returns-then-place-eq0-clause-items g c =
     let put = c.in_default-insert.ensures.items in
     let labelled = labelled_by_first cs d c.index.result.now c.item.result.now c.in-Ok.label c.requires.children
     (c.index_mut.ensures.value ∙ ap (λ xs. get_or xs 1 d) put) c.index.ensures c.item.ensures
-    (c.in-Ok.ensures c.requires.labels) in
+    (c.in-Ok.ensures c.requires.copies.1) in
     subst (λ n. items_in c.join_if_small.new.children.items ≡ spliced n 0 c.args.child.tree.0 (items_in cs))
     (sym c.if-place-eq0.true)
     (c.join_if_small.ensures.same.items ∙ ap (λ xs. items_in (set xs 1 (record d { label = c.in-Ok.label }))) put
@@ -42,7 +42,7 @@ returns-then-place-eq0-clause-height g c =
     ∙ (more_before cs c.args.child are c.requires.child c.requires.room _
     (labelled_by_first cs d c.index.result.now c.item.result.now c.in-Ok.label are
     (c.index_mut.ensures.value ∙ ap (λ xs. get_or xs 1 d) put) c.index.ensures c.item.ensures
-    (c.in-Ok.ensures c.requires.labels))).height
+    (c.in-Ok.ensures c.requires.copies.1))).height
 
 pub join_if_small-requires-2-clause-children : goal.join_if_small-requires-2-clause-children
 join_if_small-requires-2-clause-children g c =

@@ -1,0 +1,121 @@
+-- The branch takes the piece in under one child.
+use Rattle.std.proofs.Common.{◌≡◌, ◌+◌, ◌≤◌, ◌∙◌, ℕ, List, ap, ap₂, arith, length, rules, set, subst, sym}
+use Rattle.std.specs.Prelude.{IfErr, IsOk, OnErr, OnOk}
+use Rattle.sequence.specs.declared.tree.Node.TheVariants.{Branch}
+use Rattle.sequence.specs.Nodes.{AreChildren, height_in, items_in}
+use Rattle.sequence.specs.Pieces.{items_of}
+use Rattle.sequence.specs.Spots.{spliced}
+use Rattle.sequence.proofs.Calls.{both, of_two}
+use Rattle.sequence.proofs.Nodes.Children.{leads_inner}
+use Rattle.sequence.proofs.Nodes.Copied.{IsMade, made}
+use Rattle.sequence.proofs.Nodes.Ended.{IsEnded, ended, on_ok}
+use Rattle.sequence.proofs.Pieces.{fits_under, same_items, same_part}
+use Rattle.sequence.proofs.Nodes.Placed.{child_here, child_within}
+use Rattle.sequence.proofs.tree.Tree.+insert.Given as given
+use Rattle.sequence.proofs.tree.Tree.+insert.Goals as goal
+use Rattle.sequence.proofs.tree.Tree.+insert.Goals.{After-self-2-1, In-Branch}
+
+-- the branch is whole, and has what the tree has
+branch : (g : given.Over) (t : ℕ) (c : In-Branch g t)
+    → IsMade g.L.Label.label_of c.args.self.now (Branch c.in-Branch.children)
+branch g t c =
+    rw c.in-Branch.is at (made g.L.Label.label_of c.args.self.now c.self.inside.root c.in-Ok.node.now c.self.invariant
+    c.self.view_is c.in-Ok.ensures.value c.requires.copies)
+
+pub spot_of-requires-clause-children : goal.spot_of-requires-clause-children
+spot_of-requires-clause-children g t c =
+    let node = branch g t (goal.at.spot_of-requires-clause-children g t c).In-Branch in
+    subst (AreChildren g.L.Label.label_of) (sym c.deref.ensures.value) node.whole
+
+pub room_under-requires-clause-children : goal.room_under-requires-clause-children
+room_under-requires-clause-children g t c =
+    (branch g t (goal.at.room_under-requires-clause-children g t c).In-Branch).whole
+
+pub index_mut-child-requires : goal.index_mut-child-requires
+index_mut-child-requires g t c =
+    let leads = c.in-Ok-room_under.ensures.leads c.args.place (rw c.deref.ensures.value at c.spot_of.ensures) in
+    omega (arith, leads.within)
+
+pub insert-inserted-requires : goal.insert-inserted-requires
+insert-inserted-requires g t c κs within =
+    let node = branch g t (goal.at.insert-inserted-requires g t c).In-Branch in
+    let cs = c.room_under.new.children.items in
+    let spot = c.in-Ok-room_under.spot in
+    let same = c.in-Ok-room_under.ensures.same in
+    let leads = c.in-Ok-room_under.ensures.leads c.args.place (rw c.deref.ensures.value at c.spot_of.ensures) in
+    let d = c.index_mut-child.result.now in
+    let is = c.index_mut-child.ensures.value in
+    let more = ap (λ es. length es) (same_items c.args.piece c.in-Ok-under.piece c.in-Ok-under.ensures) in
+    let items = same.items ∙ ap (λ t. t.0) node.same in
+    let height = same.height ∙ ap (λ t. t.1) node.same in
+    let fits = fits_under g.L.Label.label_of c.args.piece c.in-Ok-under.piece c.args.self.now cs c.args.place spot d
+    c.in-Ok-under.ensures c.requires.fits same.children items height leads is in
+    let level = (same.children.each spot.child d leads.within).level in
+    let fewer = child_within cs spot.child d same.children leads.within is in
+    of_two (omega (arith, c.decreases, height, ap (λ child. child.tree.1) is, level)) within
+    (both c.requires.copies (both (omega (arith, leads.inside d, ap (λ child. length child.tree.0) is))
+    (both fits (omega (arith, more, fewer, ap (λ es. length es) items, c.requires.room)))))
+
+pub overflow_add-child : goal.overflow_add-child
+overflow_add-child g t c =
+    let node = branch g t (goal.at.overflow_add-child g t c).In-Branch in
+    let cs = c.room_under.new.children.items in
+    let at = c.in-Ok-room_under.spot.child in
+    let same = c.in-Ok-room_under.ensures.same in
+    let leads = c.in-Ok-room_under.ensures.leads c.args.place (rw c.deref.ensures.value at c.spot_of.ensures) in
+    let d = c.index_mut-child.result.now in
+    let is = c.index_mut-child.ensures.value in
+    let child = child_here cs at d same.children leads.within is in
+    let fewer = child_within cs at d same.children leads.within is in
+    let most : c.if-is_ok.child ≤ c.len-more.result = search rules in
+    let items = same.items ∙ ap (λ t. t.0) node.same in
+    omega (arith, child.counted, fewer, most, c.len-more.ensures, ap (λ es. length es) items, c.requires.room)
+
+-- the branch then
+done : (g : given.Over) (t : ℕ) (c : After-self-2-1 g t)
+    → IsMade g.L.Label.label_of c.args.self.now (Branch c.in-Branch.children)
+    → let d = c.index_mut-child.result.now in
+    let new = record d { len = d.len + c.if-is_ok.child; tree = c.insert-inserted.new.self } in
+    IsEnded g.L.Label.label_of c.args.self.now c.args.place 0 (items_of c.args.piece)
+    (set c.room_under.new.children.items c.in-Ok-room_under.spot.child new) c.insert-inserted.result
+done g t c node =
+    let cs = c.room_under.new.children.items in
+    let spot = c.in-Ok-room_under.spot in
+    let same = c.in-Ok-room_under.ensures.same in
+    let leads = c.in-Ok-room_under.ensures.leads c.args.place (rw c.deref.ensures.value at c.spot_of.ensures) in
+    let d = c.index_mut-child.result.now in
+    let is = c.index_mut-child.ensures.value in
+    let tree : ◌≡◌ {A = List g.row.T.Denot × ℕ} (items_in cs, height_in cs) c.args.self.now =
+    ap₂ (λ (es : List g.row.T.Denot) (h : ℕ). (es, h)) same.items same.height ∙ node.same in
+    let child = child_here cs spot.child d same.children leads.within is in
+    let r = c.insert-inserted.result in
+    let new = c.insert-inserted.new.self in
+    let len = d.len + c.if-is_ok.child in
+    let inserted = c.insert-inserted.ensures in
+    let more : OnOk r (len + 0 ≡ d.len + length (items_of c.args.piece)) = search rules in
+    let kept : OnErr r (len ≡ d.len) = search rules in
+    let items = subst (λ es. OnOk r (new.0 ≡ spliced spot.place 0 es d.tree.0))
+    (same_items c.args.piece c.in-Ok-under.piece c.in-Ok-under.ensures) inserted.items in
+    ended c.args.self.now cs spot.child d same.children tree leads.within is c.args.place spot.place 0
+    (items_of c.args.piece) leads.is (omega (arith, leads.inside d, ap (λ child. length child.tree.0) is))
+    (λ p. leads_inner _ cs c.args.place spot same.children.each leads p) (omega (arith, c.requires.room)) new len r
+    (on_ok r (λ _. omega (arith, child.wide)) more) items inserted.refused inserted.height more kept
+
+pub invariant_of-self-2 : goal.invariant_of-self-2
+invariant_of-self-2 g t c =
+    let ok : IsOk c.make_mut.result = search rules in
+    let at = goal.at.invariant_of-self-2 g t c in
+    rw c.make_mut.follows.holds ((done g t at.After-self-2-1 (branch g t at.In-Branch)).whole)
+
+pub returns : goal.returns
+returns g t c =
+    let ok : IsOk c.make_mut.result = search rules in
+    let at = goal.at.returns g t c in
+    let done = done g t at.After-self-2-1 (branch g t at.In-Branch) in
+    rw c.make_mut.follows.holds (record {
+      items = done.items;
+      height = done.height;
+      refused = done.refused;
+      back = subst (λ part. IfErr c.insert-inserted.result (λ back. back ≡ part))
+          (same_part c.args.piece c.in-Ok-under.piece c.in-Ok-under.ensures) c.insert-inserted.ensures.back;
+    })

@@ -8,6 +8,7 @@ pub mod Kept
 pub mod Laid
 pub mod LaidCrossing
 pub mod Lookup
+pub mod Members
 pub mod Order
 pub mod Passed
 pub mod Ranges

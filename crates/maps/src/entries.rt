@@ -3,6 +3,8 @@ ghost use Rattle.std.specs.Prelude.{◌≡◌, ◌+◌, ◌*◌, ◌^◌, ◌<�
 ghost use Rattle.std.specs.Prelude.{◌-◌, None, Some, IfOk, IsOk, OnOk, OnErr, IfNone, IfSome};
 ghost use Rattle.std.specs.Prelude.{cond, is_some, length, option_map, slice_get};
 ghost use Rattle.std.specs.Fn.{FnOnceReturnsAtMut, FnOnceTakesAtMut};
+ghost use Rattle.std.specs.List.{IsAmong};
+ghost use Rattle.std.specs.Map.{values_of};
 ghost use Rattle.std.specs.Option.{ForSome, option_copied};
 ghost use Rattle.std.specs.Ordering.{is_eq};
 ghost use Rattle.sequence.specs.Nodes.{IsLevel, items_under};
@@ -37,10 +39,11 @@ use std::marker::Model;
 /// The nodes of a map that is not empty, as `tree` returns them: `map.tree().map(|tree| tree.depth())`.
 pub type Tree<K, V> = sequence::Tree<(K, V), Key<K>>;
 
-/// The entries of a [`TreeMap`](crate::TreeMap), in ascending order of their keys: `let entries: &Entries<_, _> = &map;`.
+/// The entries of a [`TreeMap`](crate::TreeMap), in ascending order of their keys:
+/// `let entries: &Entries<_, _> = &map;`.
 ///
-/// A `TreeMap` dereferences to this type, as a `Vec` does to a slice. So `Entries` has all calls of a map that return no
-/// map. A type cannot hold itself in `Entries`.
+/// A `TreeMap` dereferences to this type, as a `Vec` does to a slice. So `Entries` has all calls of a map that return
+/// no map. A type cannot hold itself in `Entries`.
 #[derive(Drop)]
 pub struct Entries<K: Ord, V> {
     pub(crate) entries: LabelledSequence<(K, V), Key<K>>,
@@ -111,6 +114,7 @@ impl<K: Ord, V> Entries<K, V> {
     /// O(log n).
     pub fn get<Q: Query<K>>(&self, key: Q) -> Option<&V>
         ensures found { option_copied result ≡ lookup_by (Q.order key) self.now }
+        ensures member { IfSome result (λ value. IsAmong (values_of self.now) value.now) }
         ensures rising { IsRising K.cmp self.now }
     {
         let (_, value) = self.get_key_value(key)?;
@@ -121,6 +125,7 @@ impl<K: Ord, V> Entries<K, V> {
     pub fn get_key_value<Q: Query<K>>(&self, key: Q) -> Option<&(K, V)>
         ensures found { option_copied result ≡ entry_by (Q.order key) self.now }
         ensures value { option_map (λ e. e.1) (option_copied result) ≡ lookup_by (Q.order key) self.now }
+        ensures member { IfSome result (λ e. IsAmong (values_of self.now) e.now.1) }
         ensures rising { IsRising K.cmp self.now }
     {
         let entry = self.entries.last_before(&UpTo { query: key })?;
@@ -151,6 +156,7 @@ impl<K: Ord, V> Entries<K, V> {
     /// and compares no keys.
     pub fn nth(&self, index: usize) -> Option<&(K, V)>
         ensures entry { option_copied result ≡ slice_get self.now index }
+        ensures member { IfSome result (λ e. IsAmong (values_of self.now) e.now.1) }
         ensures rising { IsRising K.cmp self.now }
     {
         self.entries.get(index)
@@ -158,14 +164,16 @@ impl<K: Ord, V> Entries<K, V> {
 
     /// Returns the entry with the least key, or `None` if the map is empty: `map.first()`. O(log n).
     pub fn first(&self) -> Option<&(K, V)>
-        ensures { option_copied result ≡ slice_get self.now 0 }
+        ensures entry { option_copied result ≡ slice_get self.now 0 }
+        ensures member { IfSome result (λ e. IsAmong (values_of self.now) e.now.1) }
     {
         self.nth(0)
     }
 
     /// Returns the entry with the greatest key, or `None` if the map is empty: `map.last()`. O(log n).
     pub fn last(&self) -> Option<&(K, V)>
-        ensures { option_copied result ≡ slice_get self.now (length self.now - 1) }
+        ensures entry { option_copied result ≡ slice_get self.now (length self.now - 1) }
+        ensures member { IfSome result (λ e. IsAmong (values_of self.now) e.now.1) }
     {
         self.entries.last()
     }

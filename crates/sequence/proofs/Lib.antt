@@ -5,7 +5,8 @@
 --     Cuts, Cutting/..       how a search finds the last item before a cut, and what is done there
 --     Pieces, Pairs, Calls   what goes down a tree, comparisons, and calls within a cycle
 --     Laid, LaidCrossing     a list that is laid out as a `LabelledSequence`, and which threads it may go to
---     tree/.., sequence/..   the proof of each function, at the path of its code
+--     tree/.., labelled/.., sequence/..
+--                            the proof of each function, at the path of its code
 pub mod Calls
 pub mod Cuts
 pub mod Cutting

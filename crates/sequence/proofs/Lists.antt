@@ -3,4 +3,5 @@ pub mod Spliced
 pub mod Kept
 pub mod Parts
 pub mod Ranges
+pub mod Runs
 pub mod Within

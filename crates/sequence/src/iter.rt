@@ -3,6 +3,7 @@ ghost use Rattle.std.specs.Prelude.{◌≡◌, ◌<◌, ◌≤◌, IfSome, Some,
 ghost use Rattle.std.specs.Option.{option_copied};
 ghost use Rattle.std.specs.Iterator.{UpTo, YieldsFirstRef, YieldsLastRef, item_count};
 ghost use Rattle.std.specs.Iterator.SizeHint.{IsWithinCount};
+ghost use Rattle.std.specs.Map.Iter.{ShowsInOrder, deref};
 ghost use Rattle.sequence.specs.Parts.{IsPart};
 ghost use Rattle.sequence.specs.Nodes.{items_under};
 
@@ -95,7 +96,8 @@ impl<'a, T, L: Label<T>> IntoIterator for &'a LabelledSequence<T, L> {
 impl<T, L: Label<T>> LabelledSequence<T, L> {
     /// Returns an iterator over the items, in order: `list.iter()`. O(1).
     pub fn iter(&self) -> Iter<'_, T, L>
-        ensures { result ≡ self.now }
+        ensures items { result ≡ self.now }
+        ensures runs { ShowsInOrder (deref {X = T}) }
     {
         self.into_iter()
     }

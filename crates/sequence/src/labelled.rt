@@ -23,11 +23,11 @@ use std::alloc::{AllocError, Global};
 use std::marker::Model;
 use std::mem;
 
-/// A list with access by index that can also be searched: a branch keeps a separator key of type `L` for each child.
+/// A list with access by index that can be searched: a branch keeps a separator key of type `L` for each child.
 ///
-/// A [`Sequence<T>`](crate::Sequence) dereferences to a `LabelledSequence<T>`, which has no separator keys. So this type
-/// has all calls of a `Sequence` that neither take a list by value nor return one. Name it for a list that you search
-/// by a [`Cut`](crate::Cut), as `maps` does. A type cannot hold itself in it.
+/// A [`Sequence<T>`](crate::Sequence) dereferences to a `LabelledSequence<T>`, which has no separator keys. So this
+/// type has all calls of a `Sequence` that neither take a list by value nor return one. Name it for a list that you
+/// search by a [`Cut`](crate::Cut), as `maps` does. A type cannot hold itself in it.
 ///
 /// ```
 /// let mut appointments: LabelledSequence<Appointment, Time> = LabelledSequence::empty();
@@ -155,8 +155,8 @@ impl<T, L: Label<T>> LabelledSequence<T, L> {
 }
 
 impl<T: Drop, L: NewLabel<T>> LabelledSequence<T, L> {
-    /// Creates a list of `items` as `Sequence::from_items` does, with a separator key of type `L` for each child of a branch.
-    /// O(n).
+    /// Creates a list of `items` as `Sequence::from_items` does, with a separator key of type `L` for each child of a
+    /// branch: `LabelledSequence::of_items(alloc, items)?`. O(n).
     ///
     /// # Errors
     ///

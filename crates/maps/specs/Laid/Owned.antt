@@ -1,4 +1,4 @@
--- The map as a `Entries`.
+-- The map as its `Entries`.
 use Rattle.std.specs.Prelude.{List}
 use base.Fml.{Fml, Lft, ffalse}
 use denote.RattleType.{RattleType}

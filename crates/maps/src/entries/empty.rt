@@ -15,7 +15,7 @@ impl<K: Ord, V> Entries<K, V> {
     }
 }
 
-/// Creates an empty map, as `TreeMap::new` does.
+/// Creates the entries of an empty map, with no allocation.
 impl<K: Ord, V> Default for Entries<K, V> {
     ghost is_default = { λ map. map ≡ [] };
 

@@ -1,5 +1,7 @@
 //! `map[&key]`.
 ghost use Rattle.std.specs.Prelude.{◌≡◌, Some};
+ghost use Rattle.std.specs.List.{IsAmong};
+ghost use Rattle.std.specs.Map.{values_of};
 ghost use Rattle.std.specs.Option.{IsSome};
 ghost use Rattle.maps.specs.Maps.{lookup};
 
@@ -12,7 +14,7 @@ impl<K: Ord, V> Index<&K> for Entries<K, V> {
 
     ghost can_index = { λ map key. IsSome (lookup K.cmp key.now map) };
 
-    ghost index_gives = { λ map key value. lookup K.cmp key.now map ≡ Some value };
+    ghost index_gives = { λ map key value. (lookup K.cmp key.now map ≡ Some value) × IsAmong (values_of map) value };
 
     fn index(&self, key: &K) -> &V {
         self.get(key).unwrap()

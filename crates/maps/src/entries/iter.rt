@@ -1,5 +1,6 @@
 //! Iteration over the entries of a map.
 ghost use Rattle.std.specs.Prelude.{◌≡◌};
+ghost use Rattle.std.specs.Map.Iter.{ShowsInOrder, ShowsValuesInOrder, deref};
 
 use crate::entries::Entries;
 use crate::key::Key;
@@ -23,7 +24,9 @@ impl<K: Ord, V> Entries<K, V> {
     /// Returns an iterator over the entries in ascending order of the keys: `map.iter()`. A step takes O(1) within a
     /// leaf, and O(log n) to the next leaf.
     pub fn iter(&self) -> Iter<'_, K, V>
-        ensures { result ≡ self.now }
+        ensures entries { result ≡ self.now }
+        ensures runs { ShowsInOrder (deref {X = K × V}) }
+        ensures runs_of_values { ShowsValuesInOrder (deref {X = K × V}) }
     {
         self.into_iter()
     }

@@ -1,5 +1,6 @@
 //! The entries whose keys are within bounds.
 ghost use Rattle.std.specs.Prelude.{◌≡◌, ◌≤◌, length};
+ghost use Rattle.std.specs.Map.Iter.{ShowsInOrder, ShowsValuesInOrder, deref};
 ghost use Rattle.std.specs.Range.Bound.{bound_map};
 ghost use Rattle.maps.specs.Bounds.{before_start, entries_between, entries_within, rank_with_by, up_to_end};
 
@@ -16,8 +17,10 @@ impl<K: Ord, V> Entries<K, V> {
     /// The range is of keys or of references to keys: `a..b`, `..=&b` or a pair of `Bound`s. A range that ends before
     /// it starts is empty.
     pub fn range<R: RangeBounds<K>>(&self, keys: R) -> Iter<'_, K, V>
-        ensures { R.has_bounds keys
+        ensures entries { R.has_bounds keys
             → result ≡ entries_within K.cmp (R.start_bound keys) (R.end_bound keys) self.now }
+        ensures runs { ShowsInOrder (deref {X = K × V}) }
+        ensures runs_of_values { ShowsValuesInOrder (deref {X = K × V}) }
     {
         self.range_by(keys.start_bound(), keys.end_bound())
     }
@@ -25,7 +28,9 @@ impl<K: Ord, V> Entries<K, V> {
     /// Returns an iterator over the entries within two bounds, each a `Query`. With keys of type `Arc<String>`:
     /// `map.range_by(Bound::Excluded("ash"), Bound::Unbounded)`. O(log n).
     pub fn range_by<Q: Query<K>>(&self, start: Bound<Q>, end: Bound<Q>) -> Iter<'_, K, V>
-        ensures { result ≡ entries_between (bound_map Q.order start) (bound_map Q.order end) self.now }
+        ensures entries { result ≡ entries_between (bound_map Q.order start) (bound_map Q.order end) self.now }
+        ensures runs { ShowsInOrder (deref {X = K × V}) }
+        ensures runs_of_values { ShowsValuesInOrder (deref {X = K × V}) }
     {
         let from = self.before_start(start);
         let to = self.up_to_end(end);

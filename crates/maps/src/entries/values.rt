@@ -3,6 +3,7 @@ ghost use Rattle.std.specs.Prelude.{◌≡◌, IfSome, Some, length, ⊤};
 ghost use Rattle.std.specs.Iterator.{UpTo, YieldsFirstRef, YieldsLastRef, item_count};
 ghost use Rattle.std.specs.Iterator.SizeHint.{IsWithinCount};
 ghost use Rattle.std.specs.Map.{values_of};
+ghost use Rattle.std.specs.Map.Iter.{ShowsInOrder, deref};
 
 use crate::entries::Entries;
 use crate::entries::iter::Iter;
@@ -29,7 +30,8 @@ impl<K: Ord, V> Entries<K, V> {
     /// Returns an iterator over the values in ascending order of the keys, whose steps cost the same as those of
     /// `iter`: `map.values()`.
     pub fn values(&self) -> Values<'_, K, V>
-        ensures { result ≡ values_of self.now }
+        ensures values { result ≡ values_of self.now }
+        ensures runs { ShowsInOrder (deref {X = V}) }
     {
         Values {
             entries: self.iter(),

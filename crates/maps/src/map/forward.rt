@@ -1,6 +1,7 @@
 //! The calls of a `TreeMap` that return a map, each as that of its entries; and `for`.
 ghost use Rattle.std.specs.Prelude.{◌≡◌, ◌<◌, [], IfOk, IsTrue, OnErr, OnOk, drop, filter, is_none, is_some};
 ghost use Rattle.std.specs.Prelude.{length, take};
+ghost use Rattle.std.specs.Map.Iter.{ShowsInOrder, ShowsValuesInOrder, deref};
 ghost use Rattle.handles.specs.Copies.{CopiesAreEqual};
 ghost use Rattle.maps.specs.Maps.{lookup, rank_by, with_entries};
 
@@ -117,7 +118,8 @@ impl<'a, K: Ord, V> IntoIterator for &'a TreeMap<K, V> {
 
     type IntoIter = Iter<'a, K, V>;
 
-    ghost into_iter_gives = { λ map r. r ≡ map.now };
+    ghost into_iter_gives = { λ map r. (r ≡ map.now) × ShowsInOrder (deref {X = K × V})
+        × ShowsValuesInOrder (deref {X = K × V}) };
 
     fn into_iter(self) -> Iter<'a, K, V> {
         self.as_entries().iter()

@@ -15,10 +15,8 @@ use std::mem;
 use std::ops::Range;
 
 impl<T: Clone, L: NewLabel<T>> LabelledSequence<T, L> {
-    /// Appends the items of `other`: `list.append(alloc, rest)?`. O(log n) for the longer of the two lists.
-    ///
-    /// The lower of the two trees becomes a child of the other one. Nodes on the path to that place are copied if
-    /// another version (snapshot) shares them, and written in place otherwise.
+    /// Appends the items of `other`, as `Sequence::append` does: `list.append(alloc, rest)?`. O(log n) for the longer of
+    /// the two lists.
     ///
     /// # Errors
     ///
@@ -51,11 +49,9 @@ impl<T: Clone, L: NewLabel<T>> LabelledSequence<T, L> {
         Ok(())
     }
 
-    /// Splits the list at `at` and returns the items from `at` on: `let rest = list.split_off(alloc, at)?;`. O(log n).
-    ///
-    /// Nodes along the cut that another version shares are copied, the others are written in place, and each level gets
-    /// one new node. Where a part would have too few items for its height, both lists are built anew along the cut in
-    /// O((log n)^2), and share all other nodes with the old list.
+    /// Splits the list at `at` and returns the items from `at` on, as `Sequence::split_off` does:
+    /// `let rest = list.split_off(alloc, at)?;`. O(log n), or O((log n)^2) if a part would have too few items for its
+    /// height.
     ///
     /// # Errors
     ///
@@ -159,8 +155,8 @@ impl<T: Clone, L: NewLabel<T>> LabelledSequence<T, L> {
         Ok(())
     }
 
-    /// Replaces the items at the indices `numbers` by those of `other`, and returns the old ones:
-    /// `let old = list.replace(alloc, 1..4, other)?;`. It takes two `split_off`s and two `append`s, on a clone.
+    /// Replaces the items at the indices `numbers` by those of `other`, and returns the old ones, as `Sequence::replace`
+    /// does: `let old = list.replace(alloc, 1..4, other)?;`. It takes two `split_off`s and two `append`s, on a clone.
     ///
     /// # Errors
     ///

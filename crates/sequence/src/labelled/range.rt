@@ -1,5 +1,6 @@
 //! The items whose indices are within bounds.
 ghost use Rattle.std.specs.Prelude.{◌≡◌, min};
+ghost use Rattle.std.specs.Map.Iter.{ShowsInOrder, deref};
 ghost use Rattle.std.specs.Range.Bound.{bound_map};
 ghost use Rattle.sequence.specs.Bounds.{items_within, end_of, start_of};
 
@@ -14,8 +15,9 @@ impl<T, L: Label<T>> LabelledSequence<T, L> {
     /// first step at each end.
     #[tactic(auto, using(crate::proofs::Lists::Within::within))]
     pub fn range<R: RangeBounds<usize>>(&self, numbers: R) -> Iter<'_, T, L>
-        ensures { R.has_bounds numbers
+        ensures items { R.has_bounds numbers
             → result ≡ items_within (R.start_bound numbers) (R.end_bound numbers) self.now }
+        ensures runs { ShowsInOrder (deref {X = T}) }
     {
         let len = self.len();
         let from = first_within(numbers.start_bound(), len);

@@ -1,5 +1,6 @@
 //! The calls of a `Sequence` that take a list by value or return one, each as that of a `LabelledSequence`; and `for`.
 ghost use Rattle.std.specs.Prelude.{◌≡◌, ◌++◌, ◌<◌, ◌↔◌, ◌⊎◌, Err, IfOk, IsTrue, OnErr, OnOk, drop, length, take};
+ghost use Rattle.std.specs.Map.Iter.{ShowsInOrder, deref};
 ghost use Rattle.handles.specs.Copies.{CopiesAreEqual};
 
 use super::Sequence;
@@ -103,7 +104,7 @@ impl<'a, T> IntoIterator for &'a Sequence<T> {
 
     type IntoIter = Iter<'a, T>;
 
-    ghost into_iter_gives = { λ list r. r ≡ list.now };
+    ghost into_iter_gives = { λ list r. (r ≡ list.now) × ShowsInOrder (deref {X = T}) };
 
     fn into_iter(self) -> Iter<'a, T> {
         self.as_labelled().iter()

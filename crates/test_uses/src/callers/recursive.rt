@@ -1,13 +1,15 @@
 //! Types that hold themselves: what they derive, and their versions (snapshots).
 use crate::made::arc_of;
+use rose_undo::PlaceError;
 use servo_arc::Arc;
 use std::cmp::Ordering;
 use std::collections::{BTreeMap, HashSet};
 use std::process::Abort;
-use testing::{again, ok, same};
+use testing::{again, holds, ok, same};
 use uses::recursive::by_collections::{Value, insert};
 use uses::recursive::by_other_handles::HeaderTree;
 use uses::recursive::by_versions;
+use uses::recursive::by_versions::Step;
 
 fn tree(rt: &(impl Abort + AllocGlobal), header: u32, below: Vec<HeaderTree>) -> HeaderTree {
     let kids = ok!(rt, Arc::from_header_and_vec(rt.alloc(), header, below));
@@ -56,5 +58,13 @@ fn versions_of_nested_lists_stay(rt: HostRuntime) {
     ok!(&rt, by_versions::append_item(&mut list, alloc, map));
     same!(&rt, [old.len(), list.len()], [1, 2]);
     let list = by_versions::Value::List(list);
-    same!(&rt, by_versions::first_number(&list), Some(1));
+    same!(&rt, by_versions::count(&list), 5);
+    let path = [Step::Index(1), Step::Key(7), Step::Index(0)];
+    let new = by_versions::Value::Number(2);
+    let newer = ok!(&rt, by_versions::with(&list, alloc, &path, new));
+    same!(&rt, by_versions::count(&newer), 5);
+    let path = [Step::Index(1), Step::Index(0)];
+    let none = by_versions::with(&list, alloc, &path, by_versions::Value::Null);
+    same!(&rt, none, Err(PlaceError::NoPlace));
+    holds!(&rt, newer != list);
 }

@@ -4,7 +4,7 @@ ghost use Rattle.std.specs.Ordering.{nat_cmp};
 ghost use Rattle.maps.specs.Maps.{with_entry};
 
 use maps::TreeMap;
-use sequence::Sequence;
+use sequence::{PlaceError, Sequence};
 use std::alloc::{AllocError, Global};
 
 /// A value that may hold values.
@@ -32,11 +32,7 @@ impl Clone for Value {
 }
 
 /// Appends an item to the list. Other versions keep theirs.
-pub fn append_item(
-    list: &mut Sequence<Value>,
-    alloc: Global,
-    item: Value,
-) -> Result<(), AllocError>
+pub fn append_item(list: &mut Sequence<Value>, alloc: Global, item: Value) -> Result<(), AllocError>
     ensures added { OnOk result (list.new ≡ list.old ++ item ∷ []) }
     ensures refused { OnErr result (list.new ≡ list.old) }
 {
@@ -57,11 +53,51 @@ pub fn insert_item(
     Ok(())
 }
 
-/// Returns the number that stands first in a list, in a list that stands first in it, and so on.
-pub fn first_number(value: &Value) -> Option<u64> {
+/// Returns the number of values, with this one and all that it holds, but at most `u64::MAX`.
+pub fn count(value: &Value) -> u64 {
+    let mut number = 1u64;
     match value {
-        Value::Number(number) => Some(*number),
-        Value::List(items) => first_number(items.get(0)?),
-        Value::Null | Value::Map(_) => None,
+        Value::Null | Value::Number(_) => {}
+        Value::List(items) => {
+            for item in items {
+                number = number.saturating_add(count(item));
+            }
+        }
+        Value::Map(entries) => {
+            for (_, item) in entries {
+                number = number.saturating_add(count(item));
+            }
+        }
+    }
+    number
+}
+
+/// A step down from a list or a map to one of its values.
+#[derive(Clone, Copy, Drop)]
+pub enum Step {
+    Index(usize),
+    Key(u64),
+}
+
+/// Returns a version with `new` in place of the value at the end of the path, which has to be there. All that is not on
+/// the path is shared with the old version.
+pub fn with(value: &Value, alloc: Global, path: &[Step], new: Value) -> Result<Value, PlaceError> {
+    match (path, value) {
+        ([], _) => Ok(new),
+        ([Step::Index(index), rest @ ..], Value::List(items)) => {
+            let old = items.get(*index).ok_or(PlaceError::NoPlace)?;
+            let item = with(old, alloc, rest, new)?;
+            let mut items: Sequence<Value> = items.clone()?;
+            items.set(alloc, *index, item)?;
+            Ok(Value::List(items))
+        }
+        ([Step::Key(key), rest @ ..], Value::Map(entries)) => {
+            let old = entries.get(key).ok_or(PlaceError::NoPlace)?;
+            let item = with(old, alloc, rest, new)?;
+            let mut entries: TreeMap<u64, Value> = entries.clone()?;
+            entries.insert(alloc, *key, item)?;
+            Ok(Value::Map(entries))
+        }
+        _ => Err(PlaceError::NoPlace),
     }
 }

@@ -1,9 +1,12 @@
-use Rattle.std.proofs.Common.{◌+◌, ◌∙◌, ap, option_map, refl, sym}
+use Rattle.std.proofs.Common.{◌+◌, ◌∙◌, ap, option_map, refl, subst, sym}
+use Rattle.std.specs.List.{IsAmong}
+use Rattle.std.specs.Map.{values_of}
 use Rattle.std.specs.Prelude.{not}
 use Rattle.std.specs.Option.{option_copied}
 use Rattle.std.specs.Ordering.{is_eq, is_lt}
 use Rattle.maps.specs.Maps.{entry_by}
 use Rattle.maps.proofs.Cuts.{cut_found, cut_missing, cut_none, has_cut}
+use Rattle.maps.proofs.Members.{among_values}
 use Rattle.maps.proofs.Under.{found_missing, found_there, value_is}
 use Rattle.maps.proofs.entries.Entries.get_key_value.Goals as goal
 
@@ -54,3 +57,9 @@ pub returns-else-is_eq-clause-value : goal.returns-else-is_eq-clause-value
 returns-else-is_eq-clause-value g c =
     ap (option_map (λ e. e.1)) (returns-else-is_eq-clause-found g c)
     ∙ sym (value_is (g.Q.Query.order c.args.key) c.args.self.now)
+
+pub returns-then-is_eq-clause-member : goal.returns-then-is_eq-clause-member
+returns-then-is_eq-clause-member g c =
+    let last = c.in_ok-entry.ensures.some in
+    subst (λ es. IsAmong (values_of es) c.in_ok-entry.entry.now.1) c.self.view_is
+    (among_values c.self.inside.entries last.at c.in_ok-entry.entry.now last.item)

@@ -1,0 +1,9 @@
+use Rattle.std.specs.Map.Iter.{deref}
+use Rattle.std_collections.proofs.IterRuns.{shows_in_order, shows_values_in_order}
+use Rattle.maps.proofs.entries.Entries.iter.Goals as goal
+
+pub returns-clause-runs : goal.returns-clause-runs
+returns-clause-runs g c = shows_in_order deref
+
+pub returns-clause-runs_of_values : goal.returns-clause-runs_of_values
+returns-clause-runs_of_values g c = shows_values_in_order deref

@@ -20,7 +20,7 @@ use std::{fmt, io};
 use testing::counted::Counted;
 
 /// A collection with versions: the current one is changed, and there is another one.
-pub trait Version<'a>: Default + Clone + PartialEq + Debug + Drop {
+pub trait Version<'a>: Default + PartialEq + Debug + Drop {
     /// Creates a version of these items. In a map their keys are 0, 1 and so on.
     fn of_items(alloc: Global, items: Vec<Counted<'a>>) -> Result<Self, AllocError>;
 
@@ -58,7 +58,7 @@ impl<V: Debug> Debug for Versions<V> {
     }
 }
 
-impl<'a, V: Version<'a>> Collection<'a> for Versions<V> {
+impl<'a, V: Version<'a> + Clone> Collection<'a> for Versions<V> {
     fn answer<R: Print + AllocGlobal>(&mut self, rt: &R, call: &Call<'a>) -> io::Result<()> {
         match call.word {
             "fill" => match call.items(rt.alloc()) {

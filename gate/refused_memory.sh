@@ -1,13 +1,13 @@
 #!/usr/bin/env bash
 # Makes each single allocation fail in turn. Each test of `refusals`, `arcbench` on two scripts, and
-# `collection_scripts` on five scripts runs with its first allocation refused, then with its second, until no allocation
+# `collection_scripts` on six scripts runs with its first allocation refused, then with its second, until no allocation
 # of a run is refused. The outcome of a run is what it prints and how many blocks it leaks. The outcomes of all runs
 # have to be exactly those of crates/test_refusals/outcomes.txt, so an allocation too many or too few is seen. With
 # --write the script writes that file. Review it then.
 set -u
 . "$(dirname "$(readlink -f -- "$0")")/help.sh"
 cd "$(dirname "$(readlink -f -- "$0")")/.." || exit
-program=crates/test_refusals/out/test_refusals_tests outcomes=crates/test_refusals/outcomes.txt
+outcomes=crates/test_refusals/outcomes.txt
 folder=$(mktemp -d)
 trap 'rm -rf "$folder"' EXIT
 
@@ -34,11 +34,18 @@ outcomes_of() {
     echo "$name: the requests did not end"
 }
 
-tests=$("$program" --list | sed -n 's/^\(refusals::.*\): test$/\1/p')
+# outcomes_of_tests CRATE : those of its tests in `refusals`.
+outcomes_of_tests() {
+    local name tests program=crates/$1/out/$1_tests
+    tests=$("$program" --list | sed -n 's/^\(refusals::.*\): test$/\1/p')
+    for name in $tests; do outcomes_of "$name" /dev/null "$program" "$name"; done
+}
+
 printf '%s\n' 'lend 0 0 1' 'clone 1 0' 'raise 1' 'raise 1' 'quit 1' >"$folder/steps"
 printf '%s\n' 'new 0 5' 'clone 0 1' 'makemut 0 9' 'own 1' 'get 0' 'get 1' >"$folder/commands"
 {
-    for name in $tests; do outcomes_of "$name" /dev/null "$program" "$name"; done
+    outcomes_of_tests test_refusals
+    outcomes_of_tests test_uses
     outcomes_of 'arcbench core' "$folder/steps" crates/arcbench/out/arcbench core 2
     outcomes_of 'arcbench table' "$folder/commands" crates/arcbench/out/arcbench table 2
     gate/versions.py --refused

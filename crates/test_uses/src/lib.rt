@@ -7,3 +7,5 @@ mod callers;
 mod ending;
 #[cfg(test)]
 mod made;
+#[cfg(test)]
+mod refusals;

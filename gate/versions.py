@@ -151,6 +151,10 @@ CHANGES = {
         [*thin_branches("pop_last", "pop_first"), "clear", "pop_first", "pop_last"]),
 }
 SCRIPTS = {
+    # Of two leaves, of 32 items each. The first push gets room for 64 items in the last leaf, which the next ones fill.
+    # The one after these begins a leaf with room for 64 items, so that the others request no memory. The second word
+    # of the first line names the run alone.
+    "sequence pushed": ["fill 64", *["push 9"] * (32 + 1 + 9)],
     "tree": ["insert 1 0", "insert 2 1", "set 9 1", "put 1", "insert 3 2 1", "remove 0", "add 5 0 1", "add 5 0 3",
              "values", "paths", "undo", "values", "redo", "versions", "values"],
     "interner": [*(f"intern {number}" for number in range(10)), "intern 0", "give 0", "give 10", "block 0", "block 11",

@@ -4,7 +4,7 @@ use cow_table::{CowTable, SetError};
 use std::alloc::{AllocError, Global};
 use std::process::Abort;
 use testing::counted::{Tally, counted_items};
-use testing::{holds, same};
+use testing::{again, holds, same};
 
 #[test]
 fn items_that_get_no_pages_are_dropped(rt: HostRuntime) {
@@ -49,6 +49,10 @@ fn a_refused_set_leaves_both_versions(rt: HostRuntime) {
     let Some((a, mut b)) = versions(rt.alloc(), items) else {
         return report(&rt, "the set-up");
     };
+    // A set without a place requests no memory.
+    let mut other = again!(&rt, &b);
+    same!(&rt, other.set(rt.alloc(), 5, 9), Err(SetError::NoPlace));
+    drop(other);
     match b.set(rt.alloc(), 2, 9) {
         Ok(()) => check_set(&rt, (&a, &b), &[1, 2, 9, 4, 5], [true, false, true]),
         Err(error) => {

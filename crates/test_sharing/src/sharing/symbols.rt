@@ -1,14 +1,15 @@
 //! The blocks that an interner keeps and drops, and its texts.
 ghost use Rattle.std.specs.Prelude.{◌≡◌};
 
-use crate::made::check_display;
+use crate::made::{arc_of, check_display};
 use interner::{InternError, InternMap, Interner};
 use sequence::PlaceError;
 use servo_arc::{Arc, HeaderSlice};
 use std::fmt::Write;
 use std::hash::{BuildHasher, BuildHasherDefault, Hasher, RandomState};
 use std::process::Abort;
-use testing::{holds, ok, same};
+use testing::counted::{Counted, Tally};
+use testing::{again, holds, ok, same};
 
 #[derive(Clone, Copy, Debug, PartialEq, Eq, Hash)]
 struct Color {
@@ -130,6 +131,20 @@ fn a_key_keeps_its_first_value(rt: HostRuntime) {
     check_map(&rt, InternMap::new(rt.alloc()));
     let hasher = BuildHasherDefault::<OneHash>::new();
     check_map(&rt, InternMap::with_hasher(rt.alloc(), hasher));
+}
+
+// A key that comes again is dropped with its value. In the end the handle of the test is the only one.
+#[test]
+fn a_second_value_ends_at_once(rt: HostRuntime) {
+    let (tally, key) = (Tally::new(), arc_of(&rt, RED));
+    let mut days = InternMap::new(rt.alloc());
+    for day in [5, 7] {
+        let value = Counted::new(&tally, day);
+        ok!(&rt, days.get_or_insert(again!(&rt, &key), value));
+    }
+    same!(&rt, (days.values().len(), tally.living(2)), (1, 1));
+    drop(days);
+    same!(&rt, (tally.living(2), key.is_unique()), (0, true));
 }
 
 fn named(rt: &(impl Abort + AllocGlobal), texts: &[&str]) -> Interner<String> {

@@ -5,6 +5,7 @@ use servo_arc::Arc;
 use std::alloc::{AllocError, Global};
 use std::ops::Bound;
 use std::process::Abort;
+use testing::counted::{Counted, Tally};
 use testing::{again, holds, ok, same};
 
 // More keys than a leaf has room for.
@@ -93,6 +94,29 @@ fn keys_end_by_pops_and_cuts(rt: HostRuntime) {
     same!(&rt, lens, [30, 30, 30, 170, 60]);
     drop((map, old, high, both, rest, joined));
     holds!(&rt, handles.iter().all(|handle| handle.is_unique()));
+}
+
+// The rest of the first leaf is joined with the other leaves, whose first one then gets another separator key.
+#[test]
+fn keys_end_by_a_cut_behind_the_first(rt: HostRuntime) {
+    let handles = handles(&rt);
+    let mut map = map_of(&rt, &handles);
+    let rest = ok!(&rt, map.split_off(rt.alloc(), &arc_of(&rt, 1)));
+    same!(&rt, [map.len(), rest.len()], [1, 199]);
+    drop((map, rest));
+    holds!(&rt, handles.iter().all(|handle| handle.is_unique()));
+}
+
+// `alter` gives the change a clone of the value, and drops the value itself when the change returns another one.
+#[test]
+fn an_altered_value_ends(rt: HostRuntime) {
+    let (alloc, tally) = (rt.alloc(), Tally::new());
+    let mut map = TreeMap::new();
+    drop(ok!(&rt, map.insert(alloc, 1u64, Counted::new(&tally, 5))));
+    let next = Counted::new(&tally, 6);
+    ok!(&rt, map.alter(alloc, 1, |_| Some(next)));
+    let value = map.get(&1).map(|counted| counted.value);
+    same!(&rt, (value, tally.read()), (Some(6), (1, 2)));
 }
 
 fn by_name(alloc: Global) -> Result<TreeMap<Arc<String>, u32>, AllocError> {

@@ -138,6 +138,8 @@ fn copies_and_nodes_read_what_was_there(rt: HostRuntime) {
         Arc::ptr_eq(&labels.text, &copy.text),
         Arc::ptr_eq(&labels.numbers, &copy.numbers),
     ];
+    drop(copy);
+    same!(&rt, labels.text.is_unique(), true);
     let numbers = ok!(&rt, vec![in alloc; 4, 5]);
     let numbers = ok!(&rt, numbers_again(&numbers));
     let last = ok!(&rt, in_front(alloc, 7, None));

@@ -6,7 +6,7 @@ use servo_arc::Arc;
 use std::process::Abort;
 use std::thread::Builder;
 use testing::counted::{Counted, Tally};
-use testing::{again, ok, same};
+use testing::{again, holds, ok, same};
 use uses::buffer;
 use uses::documents::{Edit, Part, apply, styles, with_part};
 
@@ -27,10 +27,10 @@ fn leaf(rt: &(impl Abort + AllocGlobal), text: &str) -> Rose<Part> {
     ok!(rt, Rose::leaf(rt.alloc(), part(rt, text)))
 }
 
-fn large(rt: &(impl Abort + AllocGlobal)) -> Edit {
+fn large(rt: &(impl Abort + AllocGlobal)) -> Arc<Inline> {
     let declarations = Arc::from_header_and_slice(rt.alloc(), (), &[Declaration::FontSize(40)]);
     let declarations = ok!(rt, declarations);
-    Edit::Restyle(arc_of(rt, Inline { declarations }))
+    arc_of(rt, Inline { declarations })
 }
 
 // The contracts say what each edit returns, but not that it succeeds while there is memory.
@@ -42,7 +42,7 @@ fn edits_are_undone_and_done_again(rt: HostRuntime) {
         (&[][..], Edit::Insert(0, leaf(&rt, "title"))),
         (&[][..], Edit::Insert(1, leaf(&rt, "text"))),
         (&[1][..], Edit::Rename(name(&rt, "body"))),
-        (&[1][..], large(&rt)),
+        (&[1][..], Edit::Restyle(large(&rt))),
         (&[][..], Edit::Remove(0)),
     ];
     for (path, edit) in ok!(&rt, edits) {
@@ -57,7 +57,7 @@ fn edits_are_undone_and_done_again(rt: HostRuntime) {
     same!(&rt, styles.len(), 3);
 }
 
-// Each name ends with the last version that has it.
+// Each name and each style ends with the last version that has it.
 #[test]
 fn names_end_with_their_document(rt: HostRuntime) {
     let (alloc, names) = (
@@ -69,6 +69,16 @@ fn names_end_with_their_document(rt: HostRuntime) {
     let name = again!(&rt, page);
     let root = ok!(&rt, Rose::leaf(alloc, Part { name, element }));
     let mut document = Undo::new(alloc, root);
+    let large = large(&rt);
+    ok!(
+        &rt,
+        apply(
+            &mut document,
+            alloc,
+            &[],
+            Edit::Restyle(again!(&rt, &large))
+        )
+    );
     ok!(
         &rt,
         apply(&mut document, alloc, &[], Edit::Rename(again!(&rt, body)))
@@ -86,6 +96,7 @@ fn names_end_with_their_document(rt: HostRuntime) {
         [page.is_unique(), body.is_unique(), head.is_unique()],
         [true; 3]
     );
+    holds!(&rt, large.is_unique());
 }
 
 #[test]
@@ -101,6 +112,27 @@ fn parts_and_lines_go_in(rt: HostRuntime) {
     ok!(&rt, buffer::insert_line(&mut buffer, alloc, 0, first));
     let turned = ok!(&rt, buffer::turned(buffer.current(), alloc, 1));
     same!(&rt, turned.len(), 1);
+}
+
+// In the end the handles of the test are the only ones.
+#[test]
+fn lines_and_names_end_with_what_has_them(rt: HostRuntime) {
+    let (alloc, line, title) = (rt.alloc(), name(&rt, "line"), name(&rt, "title"));
+    let mut buffer = Undo::new(alloc, Default::default());
+    ok!(
+        &rt,
+        buffer::insert_line(&mut buffer, alloc, 0, again!(&rt, &line))
+    );
+    let turned = ok!(&rt, buffer::turned(buffer.current(), alloc, 1));
+    let element = ok!(&rt, Element::of_rules(alloc, Vec::new(alloc)));
+    let name = again!(&rt, &title);
+    let page = ok!(
+        &rt,
+        with_part(&leaf(&rt, "page"), alloc, 0, Part { name, element })
+    );
+    same!(&rt, [line.is_unique(), title.is_unique()], [false; 2]);
+    drop((buffer, turned, page));
+    same!(&rt, [line.is_unique(), title.is_unique()], [true; 2]);
 }
 
 #[test]

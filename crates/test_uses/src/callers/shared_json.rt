@@ -164,6 +164,30 @@ fn random_values_are_read_back(rt: HostRuntime) {
     }
 }
 
+// An edit drops what it replaces, and `end` drops all parts. In the end the handle of the test is the only one.
+#[test]
+fn texts_end_with_their_values(rt: HostRuntime) {
+    let (alloc, text) = (rt.alloc(), arc_of(&rt, String::new(rt.alloc())));
+    let mut members = BTreeMap::new(alloc);
+    let member = Value::Text(again!(&rt, &text));
+    drop(ok!(&rt, members.insert(again!(&rt, &text), member)));
+    let (first, second) = (again!(&rt, &text), again!(&rt, &text));
+    let items = ok!(
+        &rt,
+        vec![in alloc;
+            Value::Text(first),
+            Value::Text(second),
+            Value::Map(arc_of(&rt, members))
+        ]
+    );
+    let old = Value::List(arc_of(&rt, items));
+    let mut new = again!(&rt, &old);
+    ok!(&rt, new.set(alloc, &[Step::Item(0)], Value::Null));
+    new.end(alloc);
+    old.end(alloc);
+    same!(&rt, text.is_unique(), true);
+}
+
 #[test]
 fn a_deep_value_ends_on_a_small_stack(rt: HostRuntime) {
     let alloc = rt.alloc();

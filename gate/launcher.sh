@@ -94,6 +94,11 @@ hinted() {
 
 what_is_printed() {
     want "two at once" 0 'one two 5' "$all" sh -c 'echo x: >>crates.txt; ./small >/dev/null & ./small && wait $!'
+    # The first takes a second to list the sources. Meanwhile the other begins a build.
+    printf '%s\n' '#!/bin/sh' '/usr/bin/find "$@" && sleep "${listing:-0}"' >commands/find && chmod +x commands/find
+    want "a build while another lists the sources" 0 'one two 5' '' sh -c 'echo //y >>crates/low/src/lib.rt
+        listing=1 ./small & sleep .3; meanwhile="sleep 1" ./small >/dev/null 2>&1; wait $!'
+    rm commands/find
     want "what the program gets and gives" 7 $'one two 5\n2 a  b c\ninput' told ./small 'a  b' c
     want "a terminal" 0 1 '' on_a_terminal
     sed -i '1i //! Prints words: `small WORD..`.' crates/small/src/main.rt

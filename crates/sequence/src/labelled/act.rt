@@ -168,9 +168,9 @@ impl<T: Clone, L: Label<T> + Clone> LabelledSequence<T, L> {
         if len <= 1 || len == usize::MAX {
             return Err(act);
         }
-        let answer = tree.act(alloc, act, false);
-        self.len = len_after::<T, L, A>(len, &answer);
-        answer
+        let gone = tree.act(alloc, act, false)?;
+        self.len = len_after::<T, L, A>(len, &gone);
+        Ok(gone)
     }
 }
 

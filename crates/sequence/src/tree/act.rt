@@ -102,26 +102,21 @@ impl<T: Clone, L: Label<T> + Clone> Tree<T, L> {
             return Err(act);
         }
         let child = &mut children[at];
-        let answer = child.tree.act(alloc, act, labelled | (at > 0));
-        child.len = len_after::<T, L, A>(child.len, &answer);
-        answer
+        let gone = child.tree.act(alloc, act, labelled | (at > 0))?;
+        child.len = len_after::<T, L, A>(child.len, &gone);
+        Ok(gone)
     }
 }
 
 // How many there are after it, if there were so many before.
 #[inline(always)]
-pub(crate) fn len_after<T, L: Label<T>, A: Act<T, L>>(
-    len: usize,
-    answer: &Result<Option<A::Gone>, A>,
-) -> usize
+pub(crate) fn len_after<T, L: Label<T>, A: Act<T, L>>(len: usize, answer: &Option<A::Gone>) -> usize
     requires some { 0 < len }
     requires room { len + 1 < 2 ^ 64 }
-    ensures done { IfOk answer.now (λ answer. result + gone answer ≡ len + comes A.GROWS A.LOSES answer) }
-    ensures blocked { OnErr answer.now (result ≡ len) }
+    ensures { result + gone answer.now ≡ len + comes A.GROWS A.LOSES answer.now }
 {
     match answer {
-        Ok(Some(_)) => len - usize::from(A::LOSES),
-        Ok(None) => len + usize::from(A::GROWS),
-        Err(_) => len,
+        Some(_) => len - usize::from(A::LOSES),
+        None => len + usize::from(A::GROWS),
     }
 }

@@ -55,9 +55,9 @@ impl<T: Clone, L: NewLabel<T>> Tree<T, L> {
             return Err(piece.into_part());
         };
         let child = &mut children[spot.child];
-        let inserted = child.tree.insert(alloc, spot.place, piece);
-        child.len += if inserted.is_ok() { more } else { 0 };
-        inserted
+        child.tree.insert(alloc, spot.place, piece)?;
+        child.len += more;
+        Ok(())
     }
 }
 

@@ -1,5 +1,4 @@
 use Rattle.std.proofs.Common.{subst, sym}
-use Rattle.std.specs.Prelude.{IfOk}
 use Rattle.sequence.specs.Acts.{IsActed, OfSought}
 use Rattle.sequence.proofs.labelled.LabelledSequence.act.Goals as goal
 
@@ -8,12 +7,11 @@ returns-clause-done g c =
     let test = g.A.Way.Cut.is_before (g.A.Act.way c.args.act) in
     let does = g.A.Act.does c.args.act in
     let same = rw c.in-Some.is at c.self.view_is in
-    let new = c.act-answer.new.self.0 in
-    subst (λ es. IfOk c.act-answer.result (IsActed test does g.A.Act.GROWS g.A.Act.LOSES es new)) same
-    c.act-answer.ensures.done
+    subst (λ es. IsActed test does g.A.Act.GROWS g.A.Act.LOSES es c.act.new.self.0 c.in_ok-gone.gone) same
+    c.in_ok-gone.ensures.done
 
-pub act-answer-requires-clause-needs : goal.act-answer-requires-clause-needs
-act-answer-requires-clause-needs g c =
+pub act-requires-clause-needs : goal.act-requires-clause-needs
+act-requires-clause-needs g c =
     let test = g.A.Way.Cut.is_before (g.A.Act.way c.args.act) in
     let sought = g.A.Way.Seek.is_sought (g.A.Act.way c.args.act) in
     let same = rw c.in-Some.is at c.self.view_is in

@@ -1,10 +1,10 @@
 -- The leaf is changed, or the child of the branch where the cut is.
-use Rattle.std.proofs.Common.{◌≡◌, ◌∙◌, ℕ, ap, arith, rules, length, set, subst, sym, take, true≢false}
+use Rattle.std.proofs.Common.{◌≡◌, ◌∙◌, ◌+◌, ℕ, ap, arith, rules, length, refl, set, subst, sym, take, true≢false}
 use Rattle.std.proofs.lemmas.Nat.{pow_pos}
 use Rattle.std.proofs.lemmas.Bool.{lt-ltb, or_left, or_right}
-use Rattle.std.specs.Prelude.{IsOk}
+use Rattle.std.specs.Prelude.{Err, IfOk, IsOk, Ok, OnErr, Option, Result}
 use Rattle.sequence.specs.declared.tree.Node.TheVariants.{Branch}
-use Rattle.sequence.specs.Acts.{OfSought}
+use Rattle.sequence.specs.Acts.{IsActed, OfSought, comes, gone}
 use Rattle.sequence.specs.Cuts.{HasCut}
 use Rattle.sequence.specs.Nodes.{CanLose, items_in}
 use Rattle.sequence.proofs.Cutting.Acted.{IsDone, IsUnder, acted_under, child_holds, not_thin, sought_there}
@@ -15,7 +15,7 @@ use Rattle.sequence.proofs.Cuts.{has_part}
 use Rattle.sequence.proofs.Nodes.Placed.{child_here, child_within}
 use Rattle.sequence.proofs.tree.Tree.+act.Given as given
 use Rattle.sequence.proofs.tree.Tree.+act.Goals as goal
-use Rattle.sequence.proofs.tree.Tree.+act.Goals.{After-act-arg-1, After-self-2-1, In-Branch}
+use Rattle.sequence.proofs.tree.Tree.+act.Goals.{After-act-2, After-act-arg-1, In-Branch}
 use Rattle.sequence.proofs.tree.Tree.+act.Goals.{else-LOSES-via-else-LOSES}
 use Rattle.sequence.proofs.tree.Tree.+act.Goals.{else-LOSES-via-then-LOSES+else-is_thin}
 
@@ -73,9 +73,9 @@ invariant_of-self-then-is_thin g t c =
     let ok : IsOk c.make_mut.result = search rules in
     rw c.make_mut.follows.holds ((branch g t (goal.at.invariant_of-self-then-is_thin g t c).In-Branch).whole)
 
-pub act-answer-requires : goal.act-answer-requires
-act-answer-requires g t c κs within =
-    let at = goal.at.act-answer-requires g t c in
+pub act-requires-2 : goal.act-requires-2
+act-requires-2 g t c κs within =
+    let at = goal.at.act-requires-2 g t c in
     let u = under g t at.After-act-arg-1 (branch g t at.In-Branch) in
     let test = g.A.Way.Cut.is_before (g.A.Act.way c.args.act) in
     let sought = g.A.Way.Seek.is_sought (g.A.Act.way c.args.act) in
@@ -108,40 +108,72 @@ len_after-child-requires g t c =
       room = omega (arith, child.counted, child_within cs i d u.are u.within u.is, all, c.requires.room);
     }
 
--- the branch then
-done : (g : given.Over) (t : ℕ) (c : After-self-2-1 g t)
+-- the branch after the act on the child
+after : (g : given.Over) (t : ℕ) (c : After-act-2 g t)
     → let d = c.index_mut-child.result.now in
     let test = g.A.Way.Cut.is_before (g.A.Act.way c.args.act) in
+    let does = g.A.Act.does c.args.act in
+    let new = c.act-2.new.self in
     IsUnder g.L.Label.label_of test g.A.Act.LOSES c.args.self.now c.in-Branch.children.items c.child_of-at.result d
-    → IsDone g.L.Label.label_of test (g.A.Act.does c.args.act) g.A.Act.GROWS g.A.Act.LOSES c.args.labelled
-    c.args.self.now (set c.in-Branch.children.items c.child_of-at.result
-    (record d { len = c.len_after-child.result; tree = c.act-answer.new.self })) c.act-answer.result
-done g t c under =
-    let acted = c.act-answer.ensures in
+    → (len : ℕ) (r : Result (Option g.row.A-Gone.Denot) (Unit {0}))
+    → IfOk r (IsActed test does g.A.Act.GROWS g.A.Act.LOSES d.tree.0 new.0) → OnErr r (new.0 ≡ d.tree.0)
+    → IfOk r (λ answer. len + gone answer ≡ d.len + comes g.A.Act.GROWS g.A.Act.LOSES answer) → OnErr r (len ≡ d.len)
+    → IsDone g.L.Label.label_of test does g.A.Act.GROWS g.A.Act.LOSES c.args.labelled c.args.self.now
+    (set c.in-Branch.children.items c.child_of-at.result (record d { len = len; tree = new })) r
+after g t c under len r did blocked counts kept =
+    let acted = c.act-2.ensures in
     let labelled = c.args.labelled in
     acted_under g.L.Label.label_of (g.A.Way.Cut.is_before (g.A.Act.way c.args.act)) (g.A.Act.does c.args.act)
     g.A.Act.GROWS g.A.Act.LOSES labelled c.args.self.now c.in-Branch.children.items c.child_of-at.result
-    c.index_mut-child.result.now under c.len_after-child.result c.act-answer.new.self c.act-answer.result
-    c.requires.room acted.done acted.blocked acted.height c.len_after-child.ensures.done
-    c.len_after-child.ensures.blocked (λ l. acted.first (or_left labelled _ l))
+    c.index_mut-child.result.now under len c.act-2.new.self r c.requires.room did blocked acted.height counts kept
+    (λ l. acted.first (or_left labelled _ l))
     (λ p. acted.first (or_right labelled _ (lt-ltb 0 c.child_of-at.result p)))
+
+pub invariant_of-self-in_err-gone : goal.invariant_of-self-in_err-gone
+invariant_of-self-in_err-gone g t c =
+    let ok : IsOk c.make_mut.result = search rules in
+    let at = goal.at.invariant_of-self-in_err-gone g t c in
+    let u = under g t at.After-act-arg-1 (branch g t at.In-Branch) in
+    let d = c.index_mut-child.result.now in
+    let left = after g t at.After-act-2 u d.len (Err tt) tt c.in_err-gone.ensures.blocked tt refl in
+    rw c.make_mut.follows.holds left.whole
+
+pub returns-in_err-gone : goal.returns-in_err-gone
+returns-in_err-gone g t c =
+    let ok : IsOk c.make_mut.result = search rules in
+    let at = goal.at.returns-in_err-gone g t c in
+    let u = under g t at.After-act-arg-1 (branch g t at.In-Branch) in
+    let d = c.index_mut-child.result.now in
+    let left = after g t at.After-act-2 u d.len (Err tt) tt c.in_err-gone.ensures.blocked tt refl in
+    let same = left.blocked in
+    rw c.make_mut.follows.holds (record {
+      done = search rules;
+      height = left.height;
+      first = left.first;
+      blocked = search rules;
+      back = search rules;
+    })
 
 pub invariant_of-self-2 : goal.invariant_of-self-2
 invariant_of-self-2 g t c =
     let ok : IsOk c.make_mut.result = search rules in
     let at = goal.at.invariant_of-self-2 g t c in
     let u = under g t at.After-act-arg-1 (branch g t at.In-Branch) in
-    rw c.make_mut.follows.holds ((done g t at.After-self-2-1 u).whole)
+    let done = after g t at.After-act-2 u c.len_after-child.result (Ok c.in_ok-gone.gone) c.in_ok-gone.ensures.done tt
+    c.len_after-child.ensures tt in
+    rw c.make_mut.follows.holds done.whole
 
 pub returns : goal.returns
 returns g t c =
     let ok : IsOk c.make_mut.result = search rules in
     let at = goal.at.returns g t c in
-    let done = done g t at.After-self-2-1 (under g t at.After-act-arg-1 (branch g t at.In-Branch)) in
+    let u = under g t at.After-act-arg-1 (branch g t at.In-Branch) in
+    let done = after g t at.After-act-2 u c.len_after-child.result (Ok c.in_ok-gone.gone) c.in_ok-gone.ensures.done tt
+    c.len_after-child.ensures tt in
     rw c.make_mut.follows.holds (record {
       done = done.done;
       height = done.height;
       first = done.first;
-      blocked = done.blocked;
-      back = c.act-answer.ensures.back;
+      blocked = tt;
+      back = tt;
     })

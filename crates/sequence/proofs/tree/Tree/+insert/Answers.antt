@@ -1,6 +1,6 @@
 -- The branch takes the piece in under one child.
-use Rattle.std.proofs.Common.{◌≡◌, ◌+◌, ◌≤◌, ◌∙◌, ℕ, List, ap, ap₂, arith, length, rules, set, subst, sym}
-use Rattle.std.specs.Prelude.{IfErr, IsOk, OnErr, OnOk}
+use Rattle.std.proofs.Common.{◌≡◌, ◌+◌, ◌∙◌, ℕ, List, ap, ap₂, arith, length, refl, rules, set, subst, sym}
+use Rattle.std.specs.Prelude.{Err, IsOk, Ok, OnErr, OnOk, Result}
 use Rattle.sequence.specs.declared.tree.Node.TheVariants.{Branch}
 use Rattle.sequence.specs.Nodes.{AreChildren, height_in, items_in}
 use Rattle.sequence.specs.Pieces.{items_of}
@@ -13,7 +13,7 @@ use Rattle.sequence.proofs.Pieces.{fits_under, same_items, same_part}
 use Rattle.sequence.proofs.Nodes.Placed.{child_here, child_within}
 use Rattle.sequence.proofs.tree.Tree.+insert.Given as given
 use Rattle.sequence.proofs.tree.Tree.+insert.Goals as goal
-use Rattle.sequence.proofs.tree.Tree.+insert.Goals.{After-self-2-1, In-Branch}
+use Rattle.sequence.proofs.tree.Tree.+insert.Goals.{After-insert, In-Branch}
 
 -- the branch is whole, and has what the tree has
 branch : (g : given.Over) (t : ℕ) (c : In-Branch g t)
@@ -36,9 +36,9 @@ index_mut-child-requires g t c =
     let leads = c.in-Ok-room_under.ensures.leads c.args.place (rw c.deref.ensures.value at c.spot_of.ensures) in
     omega (arith, leads.within)
 
-pub insert-inserted-requires : goal.insert-inserted-requires
-insert-inserted-requires g t c κs within =
-    let node = branch g t (goal.at.insert-inserted-requires g t c).In-Branch in
+pub insert-requires : goal.insert-requires
+insert-requires g t c κs within =
+    let node = branch g t (goal.at.insert-requires g t c).In-Branch in
     let cs = c.room_under.new.children.items in
     let spot = c.in-Ok-room_under.spot in
     let same = c.in-Ok-room_under.ensures.same in
@@ -67,18 +67,21 @@ overflow_add-child g t c =
     let is = c.index_mut-child.ensures.value in
     let child = child_here cs at d same.children leads.within is in
     let fewer = child_within cs at d same.children leads.within is in
-    let most : c.if-is_ok.child ≤ c.len-more.result = search rules in
     let items = same.items ∙ ap (λ t. t.0) node.same in
-    omega (arith, child.counted, fewer, most, c.len-more.ensures, ap (λ es. length es) items, c.requires.room)
+    omega (arith, child.counted, fewer, c.len-more.ensures, ap (λ es. length es) items, c.requires.room)
 
--- the branch then
-done : (g : given.Over) (t : ℕ) (c : After-self-2-1 g t)
+-- the branch after the piece went in under the child, or did not
+after : (g : given.Over) (t : ℕ) (c : After-insert g t)
     → IsMade g.L.Label.label_of c.args.self.now (Branch c.in-Branch.children)
     → let d = c.index_mut-child.result.now in
-    let new = record d { len = d.len + c.if-is_ok.child; tree = c.insert-inserted.new.self } in
-    IsEnded g.L.Label.label_of c.args.self.now c.args.place 0 (items_of c.args.piece)
-    (set c.room_under.new.children.items c.in-Ok-room_under.spot.child new) c.insert-inserted.result
-done g t c node =
+    let new = c.insert.new.self in
+    let more = items_of c.args.piece in
+    (len : ℕ) (r : Result (Unit {0}) (Unit {0})) → OnOk r (new.0 ≡ spliced c.in-Ok-room_under.spot.place 0
+    (items_of c.in-Ok-under.piece) d.tree.0) → OnErr r (new.0 ≡ d.tree.0)
+    → OnOk r (len + 0 ≡ d.len + length more) → OnErr r (len ≡ d.len)
+    → IsEnded g.L.Label.label_of c.args.self.now c.args.place 0 more
+    (set c.room_under.new.children.items c.in-Ok-room_under.spot.child (record d { len = len; tree = new })) r
+after g t c node len r inserted refused more kept =
     let cs = c.room_under.new.children.items in
     let spot = c.in-Ok-room_under.spot in
     let same = c.in-Ok-room_under.ensures.same in
@@ -88,34 +91,57 @@ done g t c node =
     let tree : ◌≡◌ {A = List g.row.T.Denot × ℕ} (items_in cs, height_in cs) c.args.self.now =
     ap₂ (λ (es : List g.row.T.Denot) (h : ℕ). (es, h)) same.items same.height ∙ node.same in
     let child = child_here cs spot.child d same.children leads.within is in
-    let r = c.insert-inserted.result in
-    let new = c.insert-inserted.new.self in
-    let len = d.len + c.if-is_ok.child in
-    let inserted = c.insert-inserted.ensures in
-    let more : OnOk r (len + 0 ≡ d.len + length (items_of c.args.piece)) = search rules in
-    let kept : OnErr r (len ≡ d.len) = search rules in
+    let new = c.insert.new.self in
     let items = subst (λ es. OnOk r (new.0 ≡ spliced spot.place 0 es d.tree.0))
-    (same_items c.args.piece c.in-Ok-under.piece c.in-Ok-under.ensures) inserted.items in
+    (same_items c.args.piece c.in-Ok-under.piece c.in-Ok-under.ensures) inserted in
     ended c.args.self.now cs spot.child d same.children tree leads.within is c.args.place spot.place 0
     (items_of c.args.piece) leads.is (omega (arith, leads.inside d, ap (λ child. length child.tree.0) is))
     (λ p. leads_inner _ cs c.args.place spot same.children.each leads p) (omega (arith, c.requires.room)) new len r
-    (on_ok r (λ _. omega (arith, child.wide)) more) items inserted.refused inserted.height more kept
+    (on_ok r (λ _. omega (arith, child.wide)) more) items refused c.insert.ensures.height more kept
+
+pub invariant_of-self-in_err-insert : goal.invariant_of-self-in_err-insert
+invariant_of-self-in_err-insert g t c =
+    let ok : IsOk c.make_mut.result = search rules in
+    let at = goal.at.invariant_of-self-in_err-insert g t c in
+    let left = after g t at.After-insert (branch g t at.In-Branch) c.index_mut-child.result.now.len (Err tt) tt
+    c.in_err-insert.ensures.refused tt refl in
+    rw c.make_mut.follows.holds left.whole
+
+pub returns-in_err-insert : goal.returns-in_err-insert
+returns-in_err-insert g t c =
+    let ok : IsOk c.make_mut.result = search rules in
+    let at = goal.at.returns-in_err-insert g t c in
+    let left = after g t at.After-insert (branch g t at.In-Branch) c.index_mut-child.result.now.len (Err tt) tt
+    c.in_err-insert.ensures.refused tt refl in
+    let same = left.refused in
+    let part = same_part c.args.piece c.in-Ok-under.piece c.in-Ok-under.ensures in
+    let back = c.in_err-insert.ensures.back in
+    rw c.make_mut.follows.holds (record {
+      items = search rules;
+      height = left.height;
+      refused = search rules;
+      back = search rules;
+    })
 
 pub invariant_of-self-2 : goal.invariant_of-self-2
 invariant_of-self-2 g t c =
     let ok : IsOk c.make_mut.result = search rules in
     let at = goal.at.invariant_of-self-2 g t c in
-    rw c.make_mut.follows.holds ((done g t at.After-self-2-1 (branch g t at.In-Branch)).whole)
+    let done = after g t at.After-insert (branch g t at.In-Branch)
+    (c.index_mut-child.result.now.len + c.len-more.result) (Ok tt) c.in_ok-insert.ensures.items tt
+    (omega (arith, c.len-more.ensures)) tt in
+    rw c.make_mut.follows.holds done.whole
 
 pub returns : goal.returns
 returns g t c =
     let ok : IsOk c.make_mut.result = search rules in
     let at = goal.at.returns g t c in
-    let done = done g t at.After-self-2-1 (branch g t at.In-Branch) in
+    let done = after g t at.After-insert (branch g t at.In-Branch)
+    (c.index_mut-child.result.now.len + c.len-more.result) (Ok tt) c.in_ok-insert.ensures.items tt
+    (omega (arith, c.len-more.ensures)) tt in
     rw c.make_mut.follows.holds (record {
       items = done.items;
       height = done.height;
-      refused = done.refused;
-      back = subst (λ part. IfErr c.insert-inserted.result (λ back. back ≡ part))
-          (same_part c.args.piece c.in-Ok-under.piece c.in-Ok-under.ensures) c.insert-inserted.ensures.back;
+      refused = tt;
+      back = tt;
     })

@@ -47,8 +47,8 @@ struct Sequence<T> {
 /// let values = (old.get(&key).copied(), map.get(&key).copied());
 /// ```
 ///
-/// A `TreeMap` dereferences to its [`Entries`], as a `Vec` does to a slice. They have most of its calls: all that
-/// return no map.
+/// A `TreeMap` dereferences to its [`Entries`], as a `Vec` does to a slice. They have most of its calls: all but
+/// `ptr_eq` and those that return a map.
 ///
 /// Dropping a map recurses to the depth of the tree, which is at most 2 log2(n + 1).
 pub struct TreeMap<K: Ord, V> {

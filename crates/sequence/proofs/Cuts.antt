@@ -111,7 +111,9 @@ module _ {T : Type 0} (test : T → Bool) where
     cut_there at is = cut_at all has (start + at) (omega (arith, first_part, first_is part at is))
 
     pub none_before : IsCut test part 0 → IsCut test all 0
-    none_before none = cut_at all has 0 (omega (arith, none_front (first_is part 0 none), first_part, first_is part 0 none))
+    none_before none =
+        let first = first_is part 0 none in
+        cut_at all has 0 (omega (arith, none_front first, first_part, first))
 
     -- and else the last of them is the last of all
     pub last_cut : (at : ℕ) → IsCut test part (at + 1) → IsCut test all (start + at + 1)

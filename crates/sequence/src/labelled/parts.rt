@@ -15,8 +15,8 @@ use std::mem;
 use std::ops::Range;
 
 impl<T: Clone, L: NewLabel<T>> LabelledSequence<T, L> {
-    /// Appends the items of `other`, as `Sequence::append` does: `list.append(alloc, rest)?`. O(log n) for the longer of
-    /// the two lists.
+    /// Appends the items of `other`, as `Sequence::append` does: `list.append(alloc, rest)?`. O(log n) for the longer
+    /// of the two lists.
     ///
     /// # Errors
     ///
@@ -155,8 +155,9 @@ impl<T: Clone, L: NewLabel<T>> LabelledSequence<T, L> {
         Ok(())
     }
 
-    /// Replaces the items at the indices `numbers` by those of `other`, and returns the old ones, as `Sequence::replace`
-    /// does: `let old = list.replace(alloc, 1..4, other)?;`. It takes two `split_off`s and two `append`s, on a clone.
+    /// Replaces the items at the indices `numbers` by those of `other`, and returns the old ones, as
+    /// `Sequence::replace` does: `let old = list.replace(alloc, 1..4, other)?;`. It takes two `split_off`s and two
+    /// `append`s, on a clone.
     ///
     /// # Errors
     ///

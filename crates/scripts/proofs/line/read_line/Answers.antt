@@ -6,7 +6,8 @@ use Rattle.scripts.proofs.line.read_line.Goals as goal
 
 pub loop-rest-init : goal.loop-rest-init
 loop-rest-init c = record {
-  read = rw c.new-numbers.ensures (first_field c.args.text.now _ _ c.split_once.ensures.first c.split_once.ensures.parts);
+  read = rw c.new-numbers.ensures
+      (first_field c.args.text.now _ _ c.split_once.ensures.first c.split_once.ensures.parts);
   in_range = rw c.new-numbers.ensures (All-nil (λ number. number < 2 ^ 32));
   few = rw c.new-numbers.ensures (omega arith);
 }

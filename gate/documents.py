@@ -9,6 +9,7 @@
 - CONTRIBUTING.md names only files that exist;
 - the tables of docs/SPEED.md show each operation of bench/measured.tsv, maps.tsv and sequences.tsv once, with the least
   and the greatest of its figures, except for scripts that meet their goals, and its text has no other ratio;
+- the table of speeds in README.md has ratios of these tables;
 - bench/measured.tsv has each goal of bench/goals.tsv once and no other, with the verdict that follows from its figures,
   and so have the calls of maps and sequences; bench/README.md names the workloads whose goal is missed;
 - each public function is called, as gate/called.py finds.
@@ -127,6 +128,14 @@ def span(rows, names, shown):
     return " to ".join(dict.fromkeys(map(shown, (min(found), max(found))))) if found else "-"
 
 
+# The rows of README's table of speeds: a table of bench/ and its column, and the workloads that the rows write out.
+PEERS = {"std::sync::Arc": ("measured.tsv", "std_ratio"), "im::OrdMap": ("maps.tsv", "/im"),
+         "im::Vector": ("sequences.tsv", "/im"), "BTreeMap": ("maps.tsv", "/btree"), "Vec": ("sequences.tsv", "/vec")}
+WORKLOADS = {"new and drop": "new-drop", "make_mut in place": "make-mut-unique",
+             "make_mut with a copy": "make-mut-shared", "clone and drop": "clone-drop",
+             "clone and drop on four threads": "contend-4", "ptr_eq": "ptr-eq-same"}
+
+
 def table(name):
     with open(ROOT / "bench" / name, encoding="utf-8", newline="") as file:
         return list(csv.DictReader(file, delimiter="\t"))
@@ -178,6 +187,18 @@ def wrong_goals(kind):
                 yield f"{kind}.tsv: {workload} {items} {call} {head[place - 1]}"
 
 
+def wrong_readme():
+    """The ratios of README that bench/ has otherwise, and the rows that README lacks."""
+    rows = dict(re.findall(r"^\| `([\w:]+)` \| ([^|\n]*\d\**) \|$", (ROOT / "README.md").read_text(), re.M))
+    for peer, (name, column) in PEERS.items():
+        said = re.findall(r"([\w ,]+) (\d[\d.]*(?: to [\d.]+)?)(?:;|$)", re.sub("[*`]", "", rows.get(peer, "")))
+        for calls, figures in said or [("nothing", "")]:
+            named = [WORKLOADS.get(call, call) for call in calls.strip().split(", ")]
+            found = [row for row in table(name) if row.get("call", row["workload"]) in named]
+            if span(found, [column], ratio) != figures:
+                yield f"{peer}: {calls.strip()} {figures}"
+
+
 def wrong_verdicts():
     """The workloads whose goal is not in bench/goals.tsv or whose verdict is another, and the goals of no workload."""
     goals = read_goals(ROOT / "bench" / "goals.tsv")
@@ -202,6 +223,7 @@ def main():
     documents = [name for name in files if name.endswith(".md")]
     wrong = [f"{name}: {line}" for name in documents for line in wrong_in(ROOT / name, files)]
     wrong += [f"docs/SPEED.md: not as measured: {line}" for line in wrong_speed()]
+    wrong += [f"README.md: not as measured: {line}" for line in wrong_readme()]
     wrong += [f"bench/{name}" for name in chain(wrong_verdicts(), wrong_goals("maps"), wrong_goals("sequences"))]
     wrong += [f"no test, program or use calls {name}" for name in uncalled()]
     print("\n".join([*wrong, f"documents: {len(wrong)} wrong"]))

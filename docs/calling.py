@@ -78,7 +78,7 @@ def declared(attributes, head, kind, inside):
         rest = [".."] if re.search(r"^    (?!pub )", parts, re.M) else []
         parts = ", ".join([*fields, *rest]) if fields else ""
     parts = re.sub(r", (?=\})", " ", in_one_line(parts)).removesuffix(",")
-    line = in_one_line(head)
+    line = in_one_line(head).rstrip(",")
     yield from wrap(f"{line} {{ {parts} }}" if parts else line, COLUMNS, subsequent_indent="  ")
 
 

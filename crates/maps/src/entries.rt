@@ -16,17 +16,16 @@ ghost use Rattle.maps.specs.Nodes.{IsDeep};
 mod alter;
 pub(crate) mod diff;
 mod empty;
+pub(crate) mod fields;
 mod from_items;
 mod index;
 pub(crate) mod iter;
 mod keep;
-pub(crate) mod keys;
 mod merge;
 mod near;
 mod pop;
 mod range;
 mod split;
-pub(crate) mod values;
 
 use crate::cut::{Below, UpTo};
 use crate::entry::Entry;

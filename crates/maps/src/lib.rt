@@ -14,9 +14,8 @@ mod stack;
 mod stack_iter;
 
 pub use entries::diff::DiffItem;
+pub use entries::fields::{Field, Fields, Keys, Values};
 pub use entries::iter::Iter;
-pub use entries::keys::Keys;
-pub use entries::values::Values;
 pub use entries::{Entries, Tree};
 pub use key::Key;
 pub use map::TreeMap;

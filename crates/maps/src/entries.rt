@@ -17,7 +17,7 @@ mod alter;
 pub(crate) mod diff;
 mod empty;
 pub(crate) mod fields;
-mod from_items;
+pub(crate) mod from_items;
 mod index;
 pub(crate) mod iter;
 mod keep;
@@ -41,8 +41,8 @@ pub type Tree<K, V> = sequence::Tree<(K, V), Key<K>>;
 /// The entries of a [`TreeMap`](crate::TreeMap), in ascending order of their keys:
 /// `let entries: &Entries<_, _> = &map;`.
 ///
-/// A `TreeMap` dereferences to this type, as a `Vec` does to a slice. So `Entries` has all calls of a map but `ptr_eq`
-/// and those that return a map. A type cannot hold itself in `Entries`.
+/// A `TreeMap` dereferences to this type, as a `Vec` does to a slice. So `Entries` has all calls of a map but those that
+/// return a map (`clone` and `union`, say) or compare two maps. A type cannot hold itself in `Entries`.
 #[derive(Drop)]
 pub struct Entries<K: Ord, V> {
     pub(crate) entries: LabelledSequence<(K, V), Key<K>>,
@@ -58,17 +58,6 @@ impl<K: Ord, V> Model for Entries<K, V> {
     ghost use Rattle.maps.specs.Maps.{IsRising};
 
     ghost invariant = { λ m. IsRising K.cmp m.entries };
-}
-
-/// Makes a version (snapshot), as the `clone` of a `TreeMap` does.
-impl<K: Ord + Drop, V: Drop> Clone for Entries<K, V> {
-    ghost is_clone = { λ a b. b ≡ a };
-
-    fn clone(&self) -> Result<Entries<K, V>, AllocError> {
-        Ok(Entries {
-            entries: self.entries.clone()?,
-        })
-    }
 }
 
 impl<K: Ord, V> Entries<K, V> {
@@ -261,11 +250,13 @@ impl<K: Ord + Clone, V: Clone> Entries<K, V> {
     }
 }
 
-impl<K: Ord, V> Entries<K, V> {
-    // As `TreeMap::ptr_eq`.
-    pub(crate) fn ptr_eq(this: &Entries<K, V>, other: &Entries<K, V>) -> bool
-        ensures { IsTrue result → (0 < length this.now) × (0 < length other.now) }
+impl<K: Ord + Drop, V: Drop> Entries<K, V> {
+    // As the `clone` of a `TreeMap`. It is no `clone`, so that no caller gets `Entries` who wants a map.
+    pub(crate) fn version(&self) -> Result<Entries<K, V>, AllocError>
+        ensures { IfOk result (λ version. version ≡ self.now) }
     {
-        LabelledSequence::ptr_eq(&this.entries, &other.entries)
+        Ok(Entries {
+            entries: self.entries.clone()?,
+        })
     }
 }

@@ -157,7 +157,7 @@ impl<K: Ord + Drop, V: Drop> Clone for TreeMap<K, V> {
     ghost is_clone = { λ a b. b ≡ a };
 
     fn clone(&self) -> Result<TreeMap<K, V>, AllocError> {
-        Ok(TreeMap::of(self.as_entries().clone()?))
+        Ok(TreeMap::of(self.as_entries().version()?))
     }
 }
 

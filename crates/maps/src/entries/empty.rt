@@ -15,15 +15,6 @@ impl<K: Ord, V> Entries<K, V> {
     }
 }
 
-/// Creates the entries of an empty map, with no allocation.
-impl<K: Ord, V> Default for Entries<K, V> {
-    ghost is_default = { λ map. map ≡ [] };
-
-    fn default() -> Entries<K, V> {
-        Entries::new()
-    }
-}
-
 impl<K: Ord + Drop, V: Drop> Entries<K, V> {
     /// Removes all entries, with no allocation: `map.clear()`. O(n), or O(1) if another version (snapshot) shares the
     /// root.

@@ -1,9 +1,8 @@
 //! Maps of the entries that a predicate keeps.
-ghost use Rattle.std.specs.Prelude.{◌≡◌, IfOk, OnErr, OnOk, filter, is_none, is_some};
+ghost use Rattle.std.specs.Prelude.{◌≡◌, IfOk, OnErr, OnOk};
 ghost use Rattle.std.specs.List.Retain.{IsFiltered};
 ghost use Rattle.handles.specs.Copies.{CopiesAreEqual};
 ghost use Rattle.maps.specs.Changes.{AskedOf};
-ghost use Rattle.maps.specs.Maps.{lookup};
 
 use crate::entries::Entries;
 use std::alloc::{AllocError, Global};
@@ -34,34 +33,8 @@ impl<K: Ord + Clone, V: Clone> Entries<K, V> {
         Ok(())
     }
 
-    // As `TreeMap::intersection`.
-    pub(crate) fn intersection<W>(
-        &self,
-        alloc: Global,
-        other: &Entries<K, W>,
-    ) -> Result<Entries<K, V>, AllocError>
-        requires copies_of_keys { CopiesAreEqual K.is_clone }
-        requires copies_of_values { CopiesAreEqual V.is_clone }
-        ensures { IfOk result (λ both. both ≡ filter (λ e. is_some (lookup K.cmp e.0 other.now)) self.now) }
-    {
-        self.kept(alloc, |key, _| other.contains_key(key))
-    }
-
-    // As `TreeMap::difference`.
-    pub(crate) fn difference<W>(
-        &self,
-        alloc: Global,
-        other: &Entries<K, W>,
-    ) -> Result<Entries<K, V>, AllocError>
-        requires copies_of_keys { CopiesAreEqual K.is_clone }
-        requires copies_of_values { CopiesAreEqual V.is_clone }
-        ensures { IfOk result (λ rest. rest ≡ filter (λ e. is_none (lookup K.cmp e.0 other.now)) self.now) }
-    {
-        self.kept(alloc, |key, _| !other.contains_key(key))
-    }
-
-    // The map of the entries that stay. If all stay, a clone shares all nodes.
-    fn kept<F: FnMut(&K, &V) -> bool>(
+    // The map of the entries that stay. If all stay, a version shares all nodes.
+    pub(crate) fn kept<F: FnMut(&K, &V) -> bool>(
         &self,
         alloc: Global,
         mut keep: F,
@@ -78,7 +51,7 @@ impl<K: Ord + Clone, V: Clone> Entries<K, V> {
             }
         }
         if items.len() == self.len() {
-            return self.clone();
+            return self.version();
         }
         Entries::of_rising(alloc, items)
     }

@@ -1,5 +1,5 @@
-//! The union of two maps.
-ghost use Rattle.std.specs.Prelude.{◌≡◌, IfOk, OnErr, OnOk};
+//! All entries of another map.
+ghost use Rattle.std.specs.Prelude.{◌≡◌, OnErr, OnOk};
 ghost use Rattle.handles.specs.Copies.{CopiesAreEqual};
 ghost use Rattle.maps.specs.Maps.{with_entries};
 
@@ -21,26 +21,11 @@ impl<K: Ord + Clone, V: Clone> Entries<K, V> {
         ensures entries { OnOk result (self.new ≡ with_entries K.cmp other.now self.old) }
         ensures refused { OnErr result (self.new ≡ self.old) }
     {
-        let mut both = self.clone()?;
+        let mut both = self.version()?;
         for (key, value) in other {
             both.insert(alloc, key.clone()?, value.clone()?)?;
         }
         *self = both;
         Ok(())
-    }
-
-    // As `TreeMap::union`.
-    pub(crate) fn union(
-        &self,
-        alloc: Global,
-        other: &Entries<K, V>,
-    ) -> Result<Entries<K, V>, AllocError>
-        requires copies_of_keys { CopiesAreEqual K.is_clone }
-        requires copies_of_values { CopiesAreEqual V.is_clone }
-        ensures { IfOk result (λ both. both ≡ with_entries K.cmp self.now other.now) }
-    {
-        let mut both = other.clone()?;
-        both.append(alloc, self)?;
-        Ok(both)
     }
 }

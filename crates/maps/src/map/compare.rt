@@ -13,13 +13,14 @@ use std::fmt;
 use std::fmt::{Debug, Formatter, Write};
 use std::hash::{Hash, Hasher};
 
+/// Compares the entries, even if both maps share their nodes. O(n).
 impl<K: Ord, V: PartialEq> PartialEq for TreeMap<K, V> {
     ghost eq = { pointwise (λ e f. K.eq e.0 f.0 && V.eq e.1 f.1) };
 
     ghost laws = { lists_per (and_per (on_per (λ e. e.0) K.PartialEq.laws) (on_per (λ e. e.1) V.laws)) };
 
     fn eq(&self, other: &TreeMap<K, V>) -> bool {
-        self.as_entries() == other.as_entries()
+        self.as_entries().entries == other.as_entries().entries
     }
 }
 
@@ -28,6 +29,7 @@ impl<K: Ord, V: Eq> Eq for TreeMap<K, V> {
         (on_equiv (λ e. e.1) V.Eq.laws)) };
 }
 
+/// Compares as slices of the entries do: lexicographically, and each entry by its key and then by its value.
 impl<K: Ord, V: PartialOrd> PartialOrd for TreeMap<K, V> {
     ghost partial_cmp = { slice_partial_cmp (λ e f. partial_ordering_then (K.partial_cmp e.0 f.0)
         (V.partial_cmp e.1 f.1)) };
@@ -35,7 +37,9 @@ impl<K: Ord, V: PartialOrd> PartialOrd for TreeMap<K, V> {
     ghost laws = { lists_po (then_po (on_po (λ e. e.0) K.PartialOrd.laws) (on_po (λ e. e.1) V.PartialOrd.laws)) };
 
     fn partial_cmp(&self, other: &TreeMap<K, V>) -> Option<Ordering> {
-        self.as_entries().partial_cmp(other.as_entries())
+        self.as_entries()
+            .entries
+            .partial_cmp(&other.as_entries().entries)
     }
 }
 
@@ -53,10 +57,11 @@ impl<K: Ord, V: Ord> Ord for TreeMap<K, V> {
         (K.matches_eq e.0 f.0) (V.matches_eq e.1 f.1)) };
 
     fn cmp(&self, other: &TreeMap<K, V>) -> Ordering {
-        self.as_entries().cmp(other.as_entries())
+        self.as_entries().entries.cmp(&other.as_entries().entries)
     }
 }
 
+/// Hashes as a slice of the entries does.
 impl<K: Ord + Hash, V: Hash> Hash for TreeMap<K, V> {
     ghost hash_input = { slice (λ e. K.hash_input e.0 ++ V.hash_input e.1) };
 
@@ -64,12 +69,17 @@ impl<K: Ord + Hash, V: Hash> Hash for TreeMap<K, V> {
         (on_Alike (λ e. e.1) (record { fed = V.respects_eq })))).fed };
 
     fn hash<H: Hasher>(&self, state: &mut H) {
-        self.as_entries().hash(state)
+        self.as_entries().entries.hash(state);
     }
 }
 
+/// Formats as a map of the entries.
 impl<K: Ord + Debug, V: Debug> Debug for TreeMap<K, V> {
     fn fmt<W: Write>(&self, f: &mut Formatter<W>) -> fmt::Result {
-        self.as_entries().fmt(f)
+        let mut out = f.debug_map();
+        for (key, value) in self {
+            out.entry(key, value);
+        }
+        out.finish()
     }
 }

@@ -1,4 +1,4 @@
-//! The calls of a `TreeMap` that return a map, each as that of its entries; and `for`.
+//! The calls of a `TreeMap` that take or return a whole map; and `for`.
 ghost use Rattle.std.specs.Prelude.{◌≡◌, ◌<◌, [], IfOk, IsTrue, OnErr, OnOk, drop, filter, is_none, is_some};
 ghost use Rattle.std.specs.Prelude.{length, take};
 ghost use Rattle.std.specs.Map.Iter.{ShowsInOrder, ShowsValuesInOrder, deref};
@@ -7,8 +7,10 @@ ghost use Rattle.maps.specs.Maps.{lookup, rank_by, with_entries};
 
 use super::TreeMap;
 use crate::entries::Entries;
+use crate::entries::from_items::rises;
 use crate::entries::iter::Iter;
 use crate::query::Query;
+use sequence::LabelledSequence;
 use std::alloc::{AllocError, Global};
 
 impl<K: Ord, V> TreeMap<K, V> {
@@ -17,7 +19,7 @@ impl<K: Ord, V> TreeMap<K, V> {
     pub fn ptr_eq(this: &TreeMap<K, V>, other: &TreeMap<K, V>) -> bool
         ensures { IsTrue result → (0 < length this.now) × (0 < length other.now) }
     {
-        Entries::ptr_eq(this, other)
+        LabelledSequence::ptr_eq(&this.as_entries().entries, &other.as_entries().entries)
     }
 }
 
@@ -35,7 +37,14 @@ impl<K: Ord + Clone, V: Clone> TreeMap<K, V> {
         requires copies_of_values { CopiesAreEqual V.is_clone }
         ensures { IfOk result (λ map. map ≡ with_entries K.cmp items.items []) }
     {
-        Ok(TreeMap::of(Entries::from_items(alloc, items)?))
+        if rises(&items) {
+            return Ok(TreeMap::of(Entries::of_rising(alloc, items)?));
+        }
+        let mut map = Entries::new();
+        for (key, value) in items {
+            map.insert(alloc, key, value)?;
+        }
+        Ok(TreeMap::of(map))
     }
 
     /// Splits the map at `key` and returns the entries from `key` on: `let rest = map.split_off(alloc, &key)?;`. O(log
@@ -71,7 +80,9 @@ impl<K: Ord + Clone, V: Clone> TreeMap<K, V> {
         requires copies_of_values { CopiesAreEqual V.is_clone }
         ensures { IfOk result (λ both. both ≡ with_entries K.cmp self.now other.now) }
     {
-        Ok(TreeMap::of(self.as_entries().union(alloc, other)?))
+        let mut both = other.as_entries().version()?;
+        both.append(alloc, self)?;
+        Ok(TreeMap::of(both))
     }
 
     /// Returns the entries of this map whose keys are also in `other`: `map.intersection(alloc, &other)?`. O(n log m)
@@ -89,7 +100,10 @@ impl<K: Ord + Clone, V: Clone> TreeMap<K, V> {
         requires copies_of_values { CopiesAreEqual V.is_clone }
         ensures { IfOk result (λ both. both ≡ filter (λ e. is_some (lookup K.cmp e.0 other.now)) self.now) }
     {
-        Ok(TreeMap::of(self.as_entries().intersection(alloc, other)?))
+        let both = self
+            .as_entries()
+            .kept(alloc, |key, _| other.contains_key(key))?;
+        Ok(TreeMap::of(both))
     }
 
     /// Returns the entries of this map whose keys are not in `other`: `map.difference(alloc, &other)?`. O(n log m) for
@@ -109,7 +123,10 @@ impl<K: Ord + Clone, V: Clone> TreeMap<K, V> {
         requires copies_of_values { CopiesAreEqual V.is_clone }
         ensures { IfOk result (λ rest. rest ≡ filter (λ e. is_none (lookup K.cmp e.0 other.now)) self.now) }
     {
-        Ok(TreeMap::of(self.as_entries().difference(alloc, other)?))
+        let rest = self
+            .as_entries()
+            .kept(alloc, |key, _| !other.contains_key(key))?;
+        Ok(TreeMap::of(rest))
     }
 }
 

@@ -63,7 +63,7 @@ returns-then-len g c =
     let kept = stay g (goal.at.returns-then-len g c).In-None in
     let all : items.items ≡ self = filtered_all R c.args.keep self items.items kept
     (sym items.ok.0 ∙ sym c.len-2.ensures ∙ c.if-len.true ∙ c.len-3.ensures.count) in
-    MatchResult-weaker c.clone-then-len.result c.clone-then-len.ensures.cases
+    MatchResult-weaker c.version.result c.version.ensures
     (λ map is. subst (IsFiltered R c.args.keep self) (all ∙ sym is) kept) (λ e none. tt)
 
 pub of_rising-requires-clause-rising : goal.of_rising-requires-clause-rising

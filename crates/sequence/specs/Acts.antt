@@ -1,12 +1,13 @@
 -- Changes of a list at a cut.
 use Rattle.std.specs.Prelude.{◌≡◌, ℕ, zero, suc, ◌+◌, Bool, true, false, None, Some, Option, List, [], ◌∷◌}
-use Rattle.std.specs.Prelude.{cond, is_some, length, not, slice_get, slice_set}
+use Rattle.std.specs.Prelude.{IsTrue, cond, is_some, length, not, slice_get, slice_set}
 use Rattle.std.specs.List.{insert, remove}
 use Rattle.std.specs.Int.{from_bool}
 use Rattle.std.specs.Borrow.{MutBor}
 use Rattle.std.specs.Fn.{Once, FnOnceReturnsAtMut}
 use Rattle.sequence.specs.Changes.{ChangesItem}
 use Rattle.sequence.specs.Cuts.{IsCut}
+use Rattle.sequence.specs.Nodes.{first_label}
 use Rattle.sequence.specs.Spots.{spliced}
 
 -- the last of so many first items
@@ -32,6 +33,14 @@ pub record IsActed {T R : Type 0} (test : T → Bool) (does : Option R → Optio
   pub done : does answer (last_of (at + gone answer) old) more
   pub come : length more ≡ comes grows loses answer
   pub items : new ≡ spliced at (gone answer) more old
+
+-- so it is in a tree, whose height stays, and whose first label stays if it is told to
+pub record IsActedIn {T L R : Type 0} (label_of : T → L) (labelled : Bool) (test : T → Bool)
+    (does : Option R → Option T → List T → Type 0) (grows loses : Bool) (old new : List T × ℕ) (answer : Option R)
+    : Type 0 where
+  pub acted : IsActed test does grows loses old.0 new.0 answer
+  pub height : new.1 ≡ old.1
+  pub first : IsTrue labelled → first_label label_of new.0 ≡ first_label label_of old.0
 
 module _ {T : Type 0} (sought : T → Bool) where
   -- the last item before the cut is not the one that is sought

@@ -1,6 +1,6 @@
 //! A list with access by index, in whose branches separator keys may stand. Versions (snapshots) share their nodes.
 ghost use Rattle.std.specs.Prelude.{◌≡◌, ◌+◌, ◌-◌, ◌^◌, ◌<◌, ◌≤◌, ◌↔◌, [], Err, IfOk, IfSome};
-ghost use Rattle.std.specs.Prelude.{IsTrue, None, Some, OnErr, OnOk, length, slice_get, slice_set};
+ghost use Rattle.std.specs.Prelude.{IsTrue, MatchResult, None, Some, OnErr, OnOk, length, slice_get, slice_set};
 ghost use Rattle.std.specs.Fn.{FnOnceTakesAtMut};
 ghost use Rattle.std.specs.List.{insert, remove};
 ghost use Rattle.std.specs.Option.{ForSome, option_copied};
@@ -203,8 +203,7 @@ impl<T: Clone, L: NewLabel<T>> LabelledSequence<T, L> {
     fn insert_at(&mut self, alloc: Global, index: usize, item: T) -> Result<(), AllocError>
         requires copies { CopiesAreEqual T.is_clone × CopiesAreEqual L.is_clone }
         requires within { index ≤ length self.old }
-        ensures items { OnOk result (self.new ≡ insert self.old index item) }
-        ensures refused { OnErr result (self.new ≡ self.old) }
+        ensures { MatchResult result (λ _. self.new ≡ insert self.old index item) (λ _. self.new ≡ self.old) }
     {
         if self.len == usize::MAX {
             return Err(AllocError);
@@ -254,9 +253,9 @@ impl<T: Clone, L: NewLabel<T>> LabelledSequence<T, L> {
     fn remove_at(&mut self, alloc: Global, index: usize) -> Result<T, AllocError>
         requires copies { CopiesAreEqual T.is_clone × CopiesAreEqual L.is_clone }
         requires there { index < length self.old }
-        ensures item { IfOk result (λ item. slice_get self.old index ≡ Some item) }
-        ensures items { OnOk result (self.new ≡ remove self.old index) }
-        ensures refused { OnErr result (self.new ≡ self.old) }
+        ensures { MatchResult result
+            (λ item. (slice_get self.old index ≡ Some item) × (self.new ≡ remove self.old index))
+            (λ _. self.new ≡ self.old) }
     {
         let Some(tree) = &mut self.root else {
             unreachable!()

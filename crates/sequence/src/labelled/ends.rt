@@ -1,5 +1,5 @@
 //! Insertion and removal at the two ends of a list.
-ghost use Rattle.std.specs.Prelude.{◌≡◌, ◌-◌, ◌++◌, ◌∷◌, [], IfOk, IsOk, OnErr, OnOk, drop, length, slice_get, take};
+ghost use Rattle.std.specs.Prelude.{◌≡◌, ◌-◌, ◌++◌, ◌∷◌, [], IfOk, IsOk, MatchResult, OnErr, OnOk, drop, length, slice_get, take};
 ghost use Rattle.std.specs.List.{remove};
 ghost use Rattle.handles.specs.Copies.{CopiesAreEqual};
 ghost use Rattle.sequence.specs.Spots.{place_at};
@@ -87,10 +87,11 @@ impl<T: Clone, L: NewLabel<T>> LabelledSequence<T, L> {
     // Removes in one pass if no node on the path gets underfull, and else as `remove` does.
     fn pop_at(&mut self, alloc: Global, end: End) -> Result<Option<T>, AllocError>
         requires copies { CopiesAreEqual T.is_clone × CopiesAreEqual L.is_clone }
-        ensures item { IfOk result (λ item. item ≡ slice_get self.old (place_at end (length self.old))) }
-        ensures items { OnOk result (self.new ≡ remove self.old (place_at end (length self.old))) }
+        ensures popped { MatchResult result
+            (λ item. (item ≡ slice_get self.old (place_at end (length self.old)))
+            × (self.new ≡ remove self.old (place_at end (length self.old))))
+            (λ _. self.new ≡ self.old) }
         ensures none { self.old ≡ [] → IsOk result }
-        ensures refused { OnErr result (self.new ≡ self.old) }
     {
         let len = self.len;
         if len == 0 {

@@ -1,6 +1,6 @@
 //! Splitting a list in two, and joining two lists.
 ghost use Rattle.std.specs.Prelude.{◌≡◌, ◌++◌, ◌^◌, ◌<◌, ◌≤◌, ◌↔◌, ◌⊎◌, Err, IfOk, IsOk, OnErr, OnOk};
-ghost use Rattle.std.specs.Prelude.{drop, length, take};
+ghost use Rattle.std.specs.Prelude.{MatchResult, drop, length, take};
 ghost use Rattle.handles.specs.Copies.{CopiesAreEqual};
 ghost use Rattle.sequence.specs.Nodes.{AreLevel, items_in};
 
@@ -84,9 +84,8 @@ impl<T: Clone, L: NewLabel<T>> LabelledSequence<T, L> {
     ) -> Result<LabelledSequence<T, L>, AllocError>
         requires copies { CopiesAreEqual T.is_clone × CopiesAreEqual L.is_clone }
         requires within { at ≤ length self.old }
-        ensures out { IfOk result (λ out. out ≡ drop at self.old) }
-        ensures rest { OnOk result (self.new ≡ take at self.old) }
-        ensures refused { OnErr result (self.new ≡ self.old) }
+        ensures { MatchResult result (λ out. (out ≡ drop at self.old) × (self.new ≡ take at self.old))
+            (λ _. self.new ≡ self.old) }
     {
         if at == 0 {
             return Ok(mem::replace(self, LabelledSequence::empty()));
@@ -113,9 +112,8 @@ impl<T: Clone, L: NewLabel<T>> LabelledSequence<T, L> {
     ) -> Result<LabelledSequence<T, L>, Blocked>
         requires copies { CopiesAreEqual T.is_clone × CopiesAreEqual L.is_clone }
         requires within { at ≤ length self.old }
-        ensures out { IfOk result (λ out. out ≡ drop at self.old) }
-        ensures rest { OnOk result (self.new ≡ take at self.old) }
-        ensures blocked { OnErr result (self.new ≡ self.old) }
+        ensures { MatchResult result (λ out. (out ≡ drop at self.old) × (self.new ≡ take at self.old))
+            (λ _. self.new ≡ self.old) }
     {
         let Some(tree) = &mut self.root else {
             return Err(Blocked);

@@ -1,9 +1,9 @@
 //! What is done to a tree where a cut is, by one way down along nodes that keep their form. If that cannot be, the
 //! items stay, and what was to be done is given back.
-ghost use Rattle.std.specs.Prelude.{◌≡◌, ◌+◌, ◌<◌, ◌^◌, Bool, IfErr, IfNone, IfOk, IfSome, IsTrue, List, OnErr};
+ghost use Rattle.std.specs.Prelude.{◌≡◌, ◌+◌, ◌<◌, ◌^◌, Bool, IfErr, IfNone, IfOk, IfSome, IsTrue, List, MatchResult, OnErr};
 ghost use Rattle.std.specs.Prelude.{Option, length};
 ghost use Rattle.handles.specs.Copies.{CopiesAreEqual};
-ghost use Rattle.sequence.specs.Acts.{IsActed, OfSought, comes, gone};
+ghost use Rattle.sequence.specs.Acts.{IsActed, IsActedIn, OfSought, comes, gone};
 ghost use Rattle.sequence.specs.Cuts.{HasCut, IsCut};
 ghost use Rattle.sequence.specs.Nodes.{CanLose, IsList, first_label};
 
@@ -76,12 +76,9 @@ impl<T: Clone, L: Label<T> + Clone> Tree<T, L> {
         requires needs { OfSought (A.Way.is_sought (A.way act)) (A.Way.is_before (A.way act)) (A.needs act) self.old.0 }
         requires spare { IsTrue A.LOSES → 1 < length self.old.0 }
         requires room { length self.old.0 + 1 < 2 ^ 64 }
-        ensures done { IfOk result
-            (IsActed (A.Way.is_before (A.way act)) (A.does act) A.GROWS A.LOSES self.old.0 self.new.0) }
-        ensures height { self.new.1 ≡ self.old.1 }
-        ensures first { IsTrue labelled → first_label L.label_of self.new.0 ≡ first_label L.label_of self.old.0 }
-        ensures blocked { OnErr result (self.new.0 ≡ self.old.0) }
-        ensures back { IfErr result (λ back. back ≡ act) }
+        ensures { MatchResult result
+            (IsActedIn L.label_of labelled (A.Way.is_before (A.way act)) (A.does act) A.GROWS A.LOSES self.old self.new)
+            (λ back. (self.new ≡ self.old) × (back ≡ act)) }
     {
         // Where there may be nothing to do, nothing is copied.
         if !A::GROWS && !self.root.is_unique() {

@@ -34,10 +34,9 @@ impl<T: Clone, L: NewLabel<T>> Tree<T, L> {
         requires within { place ≤ length self.old.0 }
         requires fits { Fits L.label_of piece place self.old }
         requires room { length self.old.0 + length (items_of piece) < 2 ^ 64 }
-        ensures items { OnOk result (self.new.0 ≡ spliced place 0 (items_of piece) self.old.0) }
-        ensures height { self.new.1 ≡ self.old.1 }
-        ensures refused { OnErr result (self.new.0 ≡ self.old.0) }
-        ensures back { IfErr result (λ back. back ≡ part_of piece) }
+        ensures { MatchResult result
+            (λ _. self.new ≡ (spliced place 0 (items_of piece) self.old.0, self.old.1))
+            (λ back. (self.new ≡ self.old) × (back ≡ part_of piece)) }
     {
         let Ok(node) = Arc::make_mut(&mut self.root, alloc) else {
             return Err(piece.into_part());

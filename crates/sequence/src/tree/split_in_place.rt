@@ -1,5 +1,5 @@
 //! How a tree becomes two at a place: in place, but for the nodes that others share, which are copied.
-ghost use Rattle.std.specs.Prelude.{◌≡◌, ◌+◌, ◌<◌, ◌≤◌, ◌^◌, IfOk, OnErr, OnOk, length, take};
+ghost use Rattle.std.specs.Prelude.{◌≡◌, ◌+◌, ◌<◌, ◌≤◌, ◌^◌, IfOk, MatchResult, length, take};
 ghost use Rattle.handles.specs.Copies.{CopiesAreEqual};
 ghost use Rattle.sequence.specs.Nodes.{AreChildren, AreHalves, StandFor, height_in, items_in};
 
@@ -25,9 +25,9 @@ impl<T: Clone, L: NewLabel<T>> Tree<T, L> {
         requires least { least ≡ 2 ^ self.old.1 }
         requires front { least ≤ place }
         requires back { place + least ≤ length self.old.0 }
-        ensures halves { IfOk result (AreHalves L.label_of self.old self.new) }
-        ensures kept { OnOk result (length self.new.0 ≡ place) }
-        ensures blocked { OnErr result (self.new ≡ self.old) }
+        ensures { MatchResult result
+            (λ right. AreHalves L.label_of self.old self.new right × (length self.new.0 ≡ place))
+            (λ _. self.new ≡ self.old) }
     {
         let children = match Arc::make_mut(&mut self.root, alloc)? {
             Node::Leaf(items) => return Ok(split_leaf(items, alloc, place)?),
@@ -60,8 +60,8 @@ fn edge_at<T: Clone, L: NewLabel<T>>(
     requires some { 0 < place }
     requires within { place < length (items_in children.old.items) }
     ensures same { StandFor L.label_of children.old.items children.new.items }
-    ensures edge { IfOk result (λ at. place ≡ length (items_in (take at children.new.items))) }
-    ensures inside { IfOk result (λ at. (0 < at) × (at < length children.new.items)) }
+    ensures edge { IfOk result (λ at. (place ≡ length (items_in (take at children.new.items)))
+        × (0 < at) × (at < length children.new.items)) }
 {
     // The item behind the place is in that child, the last of so many there.
     let Spot { child, place: up } = spot_of(children, place + 1);

@@ -22,9 +22,9 @@ split_in_place::edge_at-returns-clause-same g t c =
     record { label = d.label; len = c.spot_of-child.result.place - 1; tree = c.split_in_place.new.self } in
     let items = c.in-Ok.ensures.items ∙ ap (λ xs. insert (set xs i l) (i + 1) r) room in
     let child : IsChild (d.tree.1 + 1) l =
-    record { counted = sym done.kept; level = ap (λ n. n + 1) done.halves.height; wide = done.halves.wide } in
+    record { counted = sym done.1; level = ap (λ n. n + 1) done.0.height; wide = done.0.wide } in
     subst (λ xs. StandFor g.L.Label.label_of cs xs) (sym items)
-    (split_stands cs i d l r c.requires.children within is child done.halves refl)
+    (split_stands cs i d l r c.requires.children within is child done.0 refl)
 
 pub Tree::split_in_place-split_branch-requires-clause-sides :
     goal.Tree::split_in_place-split_branch-requires-clause-sides
@@ -34,8 +34,8 @@ Tree::split_in_place-split_branch-requires-clause-sides g t c =
     let long = ap (λ es. length es) items in
     (grind (arith, long, height), grind (arith, long, height, length-parts c.if-at-len.children.items c.in_ok-at.at))
 
-pub Tree::split_in_place-returns-clause-halves : goal.Tree::split_in_place-returns-clause-halves
-Tree::split_in_place-returns-clause-halves g t c =
+pub Tree::split_in_place-returns : goal.Tree::split_in_place-returns
+Tree::split_in_place-returns g t c =
     let items : items_in c.if-at-len.children.items ≡ c.args.self.now.0 = search rules in
     let height : height_in c.if-at-len.children.items ≡ c.args.self.now.1 = search rules in
     let halves = subst (λ tree. AreHalves g.L.Label.label_of tree (seen (Branch c.split_branch.new.children))

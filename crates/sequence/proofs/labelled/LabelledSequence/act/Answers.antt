@@ -8,7 +8,7 @@ returns-clause-done g c =
     let does = g.A.Act.does c.args.act in
     let same = rw c.in-Some.is at c.self.view_is in
     subst (λ es. IsActed test does g.A.Act.GROWS g.A.Act.LOSES es c.act.new.self.0 c.in_ok-gone.gone) same
-    c.in_ok-gone.ensures.done
+    c.in_ok-gone.ensures.acted
 
 pub act-requires-clause-needs : goal.act-requires-clause-needs
 act-requires-clause-needs g c =

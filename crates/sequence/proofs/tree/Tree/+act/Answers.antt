@@ -2,11 +2,11 @@
 use Rattle.std.proofs.Common.{◌≡◌, ◌∙◌, ◌+◌, ℕ, ap, arith, rules, length, refl, set, subst, sym, take, true≢false}
 use Rattle.std.proofs.lemmas.Nat.{pow_pos}
 use Rattle.std.proofs.lemmas.Bool.{lt-ltb, or_left, or_right}
-use Rattle.std.specs.Prelude.{Err, IfOk, IsOk, Ok, OnErr, Option, Result}
+use Rattle.std.specs.Prelude.{Err, IfOk, List, IsOk, IsTrue, Ok, OnErr, Option, Result, nat_lt, ◌||◌}
 use Rattle.sequence.specs.declared.tree.Node.TheVariants.{Branch}
 use Rattle.sequence.specs.Acts.{IsActed, OfSought, comes, gone}
 use Rattle.sequence.specs.Cuts.{HasCut}
-use Rattle.sequence.specs.Nodes.{CanLose, items_in}
+use Rattle.sequence.specs.Nodes.{CanLose, first_label, items_in}
 use Rattle.sequence.proofs.Cutting.Acted.{IsDone, IsUnder, acted_under, child_holds, not_thin, sought_there}
 use Rattle.sequence.proofs.Cutting.Acts.{read_again}
 use Rattle.sequence.proofs.Calls.{both, of_five}
@@ -108,7 +108,7 @@ len_after-child-requires g t c =
       room = omega (arith, child.counted, child_within cs i d u.are u.within u.is, all, c.requires.room);
     }
 
--- the branch after the act on the child
+-- the branch after the act on the child, by what it answers
 after : (g : given.Over) (t : ℕ) (c : After-act-2 g t)
     → let d = c.index_mut-child.result.now in
     let test = g.A.Way.Cut.is_before (g.A.Act.way c.args.act) in
@@ -118,49 +118,57 @@ after : (g : given.Over) (t : ℕ) (c : After-act-2 g t)
     → (len : ℕ) (r : Result (Option g.row.A-Gone.Denot) (Unit {0}))
     → IfOk r (IsActed test does g.A.Act.GROWS g.A.Act.LOSES d.tree.0 new.0) → OnErr r (new.0 ≡ d.tree.0)
     → IfOk r (λ answer. len + gone answer ≡ d.len + comes g.A.Act.GROWS g.A.Act.LOSES answer) → OnErr r (len ≡ d.len)
+    → new.1 ≡ d.tree.1
+    → (IsTrue (c.args.labelled || nat_lt 0 c.child_of-at.result)
+    → first_label g.L.Label.label_of new.0 ≡ first_label g.L.Label.label_of d.tree.0)
     → IsDone g.L.Label.label_of test does g.A.Act.GROWS g.A.Act.LOSES c.args.labelled c.args.self.now
     (set c.in-Branch.children.items c.child_of-at.result (record d { len = len; tree = new })) r
-after g t c under len r did blocked counts kept =
-    let acted = c.act-2.ensures in
+after g t c under len r did blocked counts kept height first =
     let labelled = c.args.labelled in
     acted_under g.L.Label.label_of (g.A.Way.Cut.is_before (g.A.Act.way c.args.act)) (g.A.Act.does c.args.act)
     g.A.Act.GROWS g.A.Act.LOSES labelled c.args.self.now c.in-Branch.children.items c.child_of-at.result
-    c.index_mut-child.result.now under len c.act-2.new.self r c.requires.room did blocked acted.height counts kept
-    (λ l. acted.first (or_left labelled _ l))
-    (λ p. acted.first (or_right labelled _ (lt-ltb 0 c.child_of-at.result p)))
+    c.index_mut-child.result.now under len c.act-2.new.self r c.requires.room did blocked height counts kept
+    (λ l. first (or_left labelled _ l)) (λ p. first (or_right labelled _ (lt-ltb 0 c.child_of-at.result p)))
+
+-- the branch if the child stays
+left : (g : given.Over) (t : ℕ) (c : After-act-2 g t)
+    → let d = c.index_mut-child.result.now in
+    let test = g.A.Way.Cut.is_before (g.A.Act.way c.args.act) in
+    let refused : Result (Option g.row.A-Gone.Denot) (Unit {0}) = Err tt in
+    IsUnder g.L.Label.label_of test g.A.Act.LOSES c.args.self.now c.in-Branch.children.items c.child_of-at.result d
+    → c.act-2.new.self ≡ d.tree
+    → IsDone g.L.Label.label_of test (g.A.Act.does c.args.act) g.A.Act.GROWS g.A.Act.LOSES c.args.labelled
+    c.args.self.now (set c.in-Branch.children.items c.child_of-at.result (record d { tree = c.act-2.new.self }))
+    refused
+left g t c under same =
+    after g t c under c.index_mut-child.result.now.len (Err tt) tt (ap (λ t. t.0) same) tt refl (ap (λ t. t.1) same)
+    (λ _. ap (λ t. first_label g.L.Label.label_of t.0) same)
 
 pub invariant_of-self-in_err-gone : goal.invariant_of-self-in_err-gone
 invariant_of-self-in_err-gone g t c =
     let ok : IsOk c.make_mut.result = search rules in
     let at = goal.at.invariant_of-self-in_err-gone g t c in
     let u = under g t at.After-act-arg-1 (branch g t at.In-Branch) in
-    let d = c.index_mut-child.result.now in
-    let left = after g t at.After-act-2 u d.len (Err tt) tt c.in_err-gone.ensures.blocked tt refl in
-    rw c.make_mut.follows.holds left.whole
+    rw c.make_mut.follows.holds (left g t at.After-act-2 u c.in_err-gone.ensures.0).whole
 
 pub returns-in_err-gone : goal.returns-in_err-gone
 returns-in_err-gone g t c =
     let ok : IsOk c.make_mut.result = search rules in
     let at = goal.at.returns-in_err-gone g t c in
     let u = under g t at.After-act-arg-1 (branch g t at.In-Branch) in
-    let d = c.index_mut-child.result.now in
-    let left = after g t at.After-act-2 u d.len (Err tt) tt c.in_err-gone.ensures.blocked tt refl in
-    let same = left.blocked in
-    rw c.make_mut.follows.holds (record {
-      done = search rules;
-      height = left.height;
-      first = left.first;
-      blocked = search rules;
-      back = search rules;
-    })
+    let stays = left g t at.After-act-2 u c.in_err-gone.ensures.0 in
+    let same : c.act-2.new.self ≡ c.index_mut-child.result.now.tree = c.in_err-gone.ensures.0 in
+    let whole : ◌≡◌ {A = List g.row.T.Denot × ℕ} _ c.args.self.now = λ i. (stays.blocked i, stays.height i) in
+    rw c.make_mut.follows.holds (search (rules, whole))
 
 pub invariant_of-self-2 : goal.invariant_of-self-2
 invariant_of-self-2 g t c =
     let ok : IsOk c.make_mut.result = search rules in
     let at = goal.at.invariant_of-self-2 g t c in
     let u = under g t at.After-act-arg-1 (branch g t at.In-Branch) in
-    let done = after g t at.After-act-2 u c.len_after-child.result (Ok c.in_ok-gone.gone) c.in_ok-gone.ensures.done tt
-    c.len_after-child.ensures tt in
+    let did = c.in_ok-gone.ensures in
+    let done = after g t at.After-act-2 u c.len_after-child.result (Ok c.in_ok-gone.gone) did.acted tt
+    c.len_after-child.ensures tt did.height did.first in
     rw c.make_mut.follows.holds done.whole
 
 pub returns : goal.returns
@@ -168,12 +176,7 @@ returns g t c =
     let ok : IsOk c.make_mut.result = search rules in
     let at = goal.at.returns g t c in
     let u = under g t at.After-act-arg-1 (branch g t at.In-Branch) in
-    let done = after g t at.After-act-2 u c.len_after-child.result (Ok c.in_ok-gone.gone) c.in_ok-gone.ensures.done tt
-    c.len_after-child.ensures tt in
-    rw c.make_mut.follows.holds (record {
-      done = done.done;
-      height = done.height;
-      first = done.first;
-      blocked = tt;
-      back = tt;
-    })
+    let did = c.in_ok-gone.ensures in
+    let done = after g t at.After-act-2 u c.len_after-child.result (Ok c.in_ok-gone.gone) did.acted tt
+    c.len_after-child.ensures tt did.height did.first in
+    rw c.make_mut.follows.holds (record { acted = done.done; height = done.height; first = done.first })

@@ -78,10 +78,10 @@ after : (g : given.Over) (t : ℕ) (c : After-insert g t)
     let more = items_of c.args.piece in
     (len : ℕ) (r : Result (Unit {0}) (Unit {0})) → OnOk r (new.0 ≡ spliced c.in-Ok-room_under.spot.place 0
     (items_of c.in-Ok-under.piece) d.tree.0) → OnErr r (new.0 ≡ d.tree.0)
-    → OnOk r (len + 0 ≡ d.len + length more) → OnErr r (len ≡ d.len)
+    → OnOk r (len + 0 ≡ d.len + length more) → OnErr r (len ≡ d.len) → new.1 ≡ d.tree.1
     → IsEnded g.L.Label.label_of c.args.self.now c.args.place 0 more
     (set c.room_under.new.children.items c.in-Ok-room_under.spot.child (record d { len = len; tree = new })) r
-after g t c node len r inserted refused more kept =
+after g t c node len r inserted refused more kept height =
     let cs = c.room_under.new.children.items in
     let spot = c.in-Ok-room_under.spot in
     let same = c.in-Ok-room_under.ensures.same in
@@ -97,51 +97,58 @@ after g t c node len r inserted refused more kept =
     ended c.args.self.now cs spot.child d same.children tree leads.within is c.args.place spot.place 0
     (items_of c.args.piece) leads.is (omega (arith, leads.inside d, ap (λ child. length child.tree.0) is))
     (λ p. leads_inner _ cs c.args.place spot same.children.each leads p) (omega (arith, c.requires.room)) new len r
-    (on_ok r (λ _. omega (arith, child.wide)) more) items refused c.insert.ensures.height more kept
+    (on_ok r (λ _. omega (arith, child.wide)) more) items refused height more kept
+
+-- the branch if the child stays
+left : (g : given.Over) (t : ℕ) (c : After-insert g t) → c.insert.new.self ≡ c.index_mut-child.result.now.tree
+    → IsMade g.L.Label.label_of c.args.self.now (Branch c.in-Branch.children)
+    → let refused : Result (Unit {0}) (Unit {0}) = Err tt in
+    IsEnded g.L.Label.label_of c.args.self.now c.args.place 0 (items_of c.args.piece)
+    (set c.room_under.new.children.items c.in-Ok-room_under.spot.child
+    (record c.index_mut-child.result.now { tree = c.insert.new.self })) refused
+left g t c same node =
+    after g t c node c.index_mut-child.result.now.len (Err tt) tt (ap (λ t. t.0) same) tt refl (ap (λ t. t.1) same)
+
+-- the branch with the piece under the child
+done : (g : given.Over) (t : ℕ) (c : After-insert g t)
+    → IsMade g.L.Label.label_of c.args.self.now (Branch c.in-Branch.children)
+    → let d = c.index_mut-child.result.now in
+    let went : Result (Unit {0}) (Unit {0}) = Ok tt in
+    c.insert.new.self ≡ (spliced c.in-Ok-room_under.spot.place 0 (items_of c.in-Ok-under.piece) d.tree.0, d.tree.1)
+    → (len : ℕ) → len ≡ d.len + length (items_of c.args.piece)
+    → IsEnded g.L.Label.label_of c.args.self.now c.args.place 0 (items_of c.args.piece)
+    (set c.room_under.new.children.items c.in-Ok-room_under.spot.child
+    (record d { len = len; tree = c.insert.new.self })) went
+done g t c node is len more =
+    after g t c node len (Ok tt) (ap (λ t. t.0) is) tt (omega (arith, more)) tt (ap (λ t. t.1) is)
 
 pub invariant_of-self-in_err-insert : goal.invariant_of-self-in_err-insert
 invariant_of-self-in_err-insert g t c =
     let ok : IsOk c.make_mut.result = search rules in
     let at = goal.at.invariant_of-self-in_err-insert g t c in
-    let left = after g t at.After-insert (branch g t at.In-Branch) c.index_mut-child.result.now.len (Err tt) tt
-    c.in_err-insert.ensures.refused tt refl in
-    rw c.make_mut.follows.holds left.whole
+    rw c.make_mut.follows.holds
+    (left g t at.After-insert c.in_err-insert.ensures.0 (branch g t at.In-Branch)).whole
 
 pub returns-in_err-insert : goal.returns-in_err-insert
 returns-in_err-insert g t c =
     let ok : IsOk c.make_mut.result = search rules in
     let at = goal.at.returns-in_err-insert g t c in
-    let left = after g t at.After-insert (branch g t at.In-Branch) c.index_mut-child.result.now.len (Err tt) tt
-    c.in_err-insert.ensures.refused tt refl in
-    let same = left.refused in
-    let part = same_part c.args.piece c.in-Ok-under.piece c.in-Ok-under.ensures in
-    let back = c.in_err-insert.ensures.back in
-    rw c.make_mut.follows.holds (record {
-      items = search rules;
-      height = left.height;
-      refused = search rules;
-      back = search rules;
-    })
+    let stays = left g t at.After-insert c.in_err-insert.ensures.0 (branch g t at.In-Branch) in
+    let whole : ◌≡◌ {A = List g.row.T.Denot × ℕ} _ c.args.self.now = λ i. (stays.refused i, stays.height i) in
+    let back = c.in_err-insert.ensures.1 ∙ same_part c.args.piece c.in-Ok-under.piece c.in-Ok-under.ensures in
+    rw c.make_mut.follows.holds (search (rules, whole, back))
 
 pub invariant_of-self-2 : goal.invariant_of-self-2
 invariant_of-self-2 g t c =
     let ok : IsOk c.make_mut.result = search rules in
     let at = goal.at.invariant_of-self-2 g t c in
-    let done = after g t at.After-insert (branch g t at.In-Branch)
-    (c.index_mut-child.result.now.len + c.len-more.result) (Ok tt) c.in_ok-insert.ensures.items tt
-    (omega (arith, c.len-more.ensures)) tt in
-    rw c.make_mut.follows.holds done.whole
+    rw c.make_mut.follows.holds (done g t at.After-insert (branch g t at.In-Branch) c.in_ok-insert.ensures
+    (c.index_mut-child.result.now.len + c.len-more.result) (omega (arith, c.len-more.ensures))).whole
 
 pub returns : goal.returns
 returns g t c =
     let ok : IsOk c.make_mut.result = search rules in
     let at = goal.at.returns g t c in
-    let done = after g t at.After-insert (branch g t at.In-Branch)
-    (c.index_mut-child.result.now.len + c.len-more.result) (Ok tt) c.in_ok-insert.ensures.items tt
-    (omega (arith, c.len-more.ensures)) tt in
-    rw c.make_mut.follows.holds (record {
-      items = done.items;
-      height = done.height;
-      refused = tt;
-      back = tt;
-    })
+    let done = done g t at.After-insert (branch g t at.In-Branch) c.in_ok-insert.ensures
+    (c.index_mut-child.result.now.len + c.len-more.result) (omega (arith, c.len-more.ensures)) in
+    rw c.make_mut.follows.holds (λ i. (done.items i, done.height i))

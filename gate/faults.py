@@ -72,6 +72,8 @@ def build(copy, crate, *words):
     """The program of the crate, or of its tests."""
     environment = {**os.environ, "RT_ALLOW_C": "1"}
     command = ["rt", "try", *words, "--seconds", str(SECONDS)]
+    # A list of the tests before has copied their program again.
+    (copy / "program").unlink(missing_ok=True)
     said = subprocess.run(command, cwd=copy / "crates" / crate, input="", text=True, stdout=subprocess.PIPE,
                           stderr=subprocess.STDOUT, env=environment, check=False).stdout
     if not (copy / "program").exists():

@@ -47,16 +47,12 @@ impl<'a> Version<'a> for Map<'a> {
             "clear" => tell(rt, self.clear()),
             "append" => tell(rt, self.append(alloc, other)),
             "split" => tell(rt, put(other, self.split_off(alloc, &key))),
-            "union" => {
-                let made = self.union(alloc, other);
-                tell(rt, put(other, made))
-            }
-            "both" => {
-                let made = self.intersection(alloc, other);
-                tell(rt, put(other, made))
-            }
-            "rest" => {
-                let made = self.difference(alloc, other);
+            "union" | "both" | "rest" => {
+                let made = match call.word {
+                    "union" => self.union(alloc, other),
+                    "both" => self.intersection(alloc, other),
+                    _ => self.difference(alloc, other),
+                };
                 tell(rt, put(other, made))
             }
             _ => read(rt, self, call, other),

@@ -1,7 +1,6 @@
 //! Tests on one thread: of handles, of what is built on them, and of the scripts of `arcbench`.
 
 mod borrows;
-mod by_bound;
 mod counted_tables;
 mod drop_order;
 mod header_slices;

@@ -8,7 +8,7 @@ use std::sync::atomic::AtomicU64;
 use std::sync::atomic::Ordering::SeqCst;
 
 /// The number of drops and of copies of the `Counted` values that borrow this tally.
-#[derive(Drop)]
+#[derive(Default, Drop)]
 pub struct Tally {
     drops: AtomicU64,
     copies: AtomicU64,
@@ -17,10 +17,7 @@ pub struct Tally {
 impl Tally {
     /// Creates a tally with both numbers at 0.
     pub fn new() -> Tally {
-        Tally {
-            drops: AtomicU64::new(0),
-            copies: AtomicU64::new(0),
-        }
+        Tally::default()
     }
 
     /// Returns the number of drops.

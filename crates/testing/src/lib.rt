@@ -11,6 +11,9 @@ ghost use Rattle.std.specs.Prelude.{IsOk, IsTrue};
 use servo_arc::{Arc, UniqueArc};
 use std::fmt::Debug;
 
+/// The bytes of a call stack that is enough for a recursion into some thousands of nodes, and not into more.
+pub const SMALL_STACK: usize = 0x4_0000;
+
 /// Two values that should be equal.
 #[derive(Debug, Drop)]
 pub struct Differ<T> {
@@ -42,14 +45,6 @@ pub fn shared<T: Drop, E>(made: Result<UniqueArc<T>, E>) -> Result<Arc<T>, E> {
 macro_rules! holds {
     ($rt:expr, $fact:expr $(,)?) => {
         crate::ending::hold($rt, $fact, stringify!($fact))
-    };
-}
-
-/// Does the same as `holds`, and prints the row of a table too.
-#[macro_export]
-macro_rules! holds_at {
-    ($rt:expr, $row:expr, $fact:expr $(,)?) => {
-        crate::ending::same($rt, ($row, $fact), ($row, true), stringify!($fact))
     };
 }
 

@@ -8,20 +8,13 @@ use std::vec::IntoIter;
 use testing::{ok, same_at};
 
 /// The number of drops, and of those out of their turn.
-#[derive(Drop)]
+#[derive(Default, Drop)]
 struct Log {
     drops: AtomicU64,
     misplaced: AtomicU64,
 }
 
 impl Log {
-    fn new() -> Log {
-        Log {
-            drops: AtomicU64::new(0),
-            misplaced: AtomicU64::new(0),
-        }
-    }
-
     fn read(&self) -> (u64, u64) {
         (self.drops.load(SeqCst), self.misplaced.load(SeqCst))
     }
@@ -92,7 +85,7 @@ fn check<T: Drop>(rt: &impl Abort, row: Row, log: &Log, built: Result<T, BuildEr
 fn check_row(rt: &(impl Abort + AllocGlobal), row: &Row, is_unique: bool) {
     let (num_items, number, refusal) = *row;
     let turn = number.min((num_items as u64).saturating_add(1));
-    let (log, rest) = (Log::new(), Log::new());
+    let (log, rest) = (Log::default(), Log::default());
     let items = ok!(rt, source_of(rt.alloc(), (number, turn), &log, &rest));
     let header = Placed { turn, log: &log };
     let taken = (num_items, turn, refusal);

@@ -1,34 +1,34 @@
 //! A call that only reads, compares or prints does not make the block static. The value of a static block is never
 //! dropped, and no handle of it is ever unique.
-use crate::calls::by_bound::hash_of;
 use crate::made::arc_of;
 use cow_table::CowTable;
-use servo_arc::{Arc, ArcBorrow, ArcUnion};
-use std::cmp::Ordering::Equal;
+use servo_arc::{Arc, ArcBorrow, ArcUnion, ThinStr};
 use std::fmt::Debug;
-use std::hash::Hash;
+use std::hash::{DefaultHasher, Hash};
 use std::process::Abort;
-use testing::{again, ok, same, same_at};
+use testing::{again, holds, ok, same, same_at};
 
 // Compares, hashes and prints the value.
 fn ask<T: Ord + Hash + Debug>(rt: &(impl Abort + AllocGlobal), x: &T) {
-    let asked = (x == x, x.partial_cmp(x), x.cmp(x));
-    same!(rt, asked, (true, Some(Equal), Equal));
-    same!(rt, hash_of(x), hash_of(x));
+    let _asked = (x == x, x.partial_cmp(x), x.cmp(x));
+    x.hash(&mut DefaultHasher::new());
     ok!(rt, format!(in rt.alloc(); "{x:?}"));
 }
 
 #[test]
 fn a_handle_is_asked(rt: HostRuntime) {
     let a = arc_of(&rt, 7u32);
-    ask(&rt, &a);
     let borrow = a.borrow_arc();
+    ask(&rt, &a);
     ask(&rt, &borrow);
+    ok!(&rt, format!(in rt.alloc(); "{a}"));
     let read: &u32 = a.as_ref();
-    let text = ok!(&rt, format!(in rt.alloc(); "{a}"));
     let is_itself = [Arc::ptr_eq(&a, &a), ArcBorrow::ptr_eq(&borrow, &borrow)];
-    let seen = (text.as_str(), *read, *borrow, is_itself, a.is_unique());
-    same!(&rt, seen, ("7", 7, 7, [true; 2], true));
+    let seen = (*read, *borrow, is_itself, a.is_unique());
+    same!(&rt, seen, (7, 7, [true; 2], true));
+    let name = ok!(&rt, ThinStr::from_header_and_str(rt.alloc(), 7u8, "ab"));
+    ask(&rt, &name);
+    holds!(&rt, name.as_thin_arc().is_unique());
 }
 
 type Numbers = ArcUnion<u32, u32>;
@@ -48,17 +48,11 @@ fn a_union_is_asked(rt: HostRuntime) {
         Numbers::from_second(arc_of(&rt, 7)),
     ] {
         ask(&rt, &union);
-        let is_first = union.is_first();
-        let is_there = (union.as_first().is_some(), union.as_second().is_some());
+        let is_first = union.as_first().is_some();
+        same_at!(&rt, is_first, union.as_second().is_none(), is_first);
         let is_itself = Numbers::ptr_eq(&union, &union);
         let is_alone = taken_out(union).map(|handle| handle.is_unique());
-        let seen = (is_there, is_itself, is_alone);
-        same_at!(
-            &rt,
-            is_first,
-            seen,
-            ((is_first, !is_first), true, Some(true))
-        );
+        same_at!(&rt, is_first, (is_itself, is_alone), (true, Some(true)));
     }
 }
 
@@ -69,9 +63,8 @@ fn a_table_is_asked(rt: HostRuntime) {
     let items = ok!(&rt, vec![in rt.alloc(); again!(&rt, &a)]);
     let table = ok!(&rt, CowTable::from_items(rt.alloc(), items, 1));
     drop(ok!(&rt, format!(in rt.alloc(); "{table:?}")));
-    let are_equal = [table == table, CowTable::page_ptr_eq(&table, &table, 0)];
-    let reads = (table.len(), table.get(0) == Some(&table[0]));
+    let is_equal = table == table && table.get(0) == Some(&table[0]);
+    let is_itself = CowTable::page_ptr_eq(&table, &table, 0);
     drop(table);
-    let seen = (are_equal, reads, a.is_unique());
-    same!(&rt, seen, ([true; 2], (1, true), true));
+    same!(&rt, [is_equal, is_itself, a.is_unique()], [true; 3]);
 }

@@ -7,7 +7,7 @@ use std::process::Abort;
 use std::sync::atomic::AtomicU64;
 use std::sync::atomic::Ordering::SeqCst;
 use std::thread;
-use testing::{again, holds_at};
+use testing::{again, same_at};
 
 const ROUNDS: u64 = 1000;
 
@@ -80,6 +80,6 @@ fn a_handle_writes_once_the_other_is_gone(rt: HostRuntime) {
             },
             || drop_once_asked(&rt, &steps, b),
         );
-        holds_at!(&rt, round, is_written);
+        same_at!(&rt, round, is_written, true);
     }
 }

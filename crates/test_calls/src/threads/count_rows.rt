@@ -44,11 +44,7 @@ impl<'a> Caller<'a> {
     fn answered(&mut self, call: Call) -> Option<Call> {
         let owned = self.pass.owned();
         if owned == 0 || owned == u64::MAX {
-            return if call == Owned(owned) {
-                Some(call)
-            } else {
-                None
-            };
+            return (call == Owned(owned)).then_some(call);
         }
         match call {
             Call::Clone(_) => Some(Call::Clone(self.count.try_clone(&mut self.pass))),

@@ -12,7 +12,7 @@ use testing::{ok, same};
 const TURNS: u32 = 10_000;
 
 // The numbers of replies of each kind that a thread got.
-#[derive(Clone, Copy)]
+#[derive(Clone, Copy, Default)]
 struct Replies {
     born: u64,
     ended: u64,
@@ -39,12 +39,7 @@ fn churn(
     requires { (pass.count ≡ count.now) × (handles pass ≡ 1) }
     ensures { result.0.count ≡ count.now }
 {
-    let mut pass = pass;
-    let mut replies = Replies {
-        born: 0,
-        ended: 0,
-        last: 0,
-    };
+    let (mut pass, mut replies) = (pass, Replies::default());
     arrive(rt, here, 3);
     for _ in 0..TURNS {
         if pass.owned() == 1 && count.try_clone(&mut pass) == TryClone::Born {

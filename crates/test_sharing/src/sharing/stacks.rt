@@ -1,6 +1,6 @@
 //! Which stacks share their first node, that their items are dropped, how stacks are printed, and the drop of a long
 //! stack: a recursive drop would overflow the call stack.
-use crate::made::{arc_of, ask, check_debug};
+use crate::made::{arc_of, ask};
 use maps::Stack;
 use sequence::Sequence;
 use std::alloc::{AllocError, Global};
@@ -10,7 +10,7 @@ use std::sync::atomic::Ordering::SeqCst;
 use std::thread;
 use std::thread::Builder;
 use testing::counted::{Counted, Tally};
-use testing::{again, holds, ok, same};
+use testing::{SMALL_STACK, again, holds, ok, same};
 
 fn stack_of(alloc: Global) -> Result<Stack<u64>, AllocError> {
     Stack::from_items(alloc, Vec::from_array(alloc, [1, 2, 3])?)
@@ -27,33 +27,28 @@ fn stacks_are_told_apart(rt: HostRuntime) {
         Stack::ptr_eq(&stack, &longer),
     ];
     same!(&rt, are_one, [true, true, false, false]);
-    same!(&rt, (stack.last(), stack < longer), (Some(&3), true));
-    same!(&rt, Stack::<u64>::default().len(), 0);
+    holds!(&rt, stack.last() == Some(&3) && Stack::default() < stack);
+    let found = ok!(&rt, format!(in rt.alloc(); "{longer:2?} {longer:#?}"));
     let text = "[ 9,  1,  2,  3] [\n    9,\n    1,\n    2,\n    3,\n]";
-    check_debug(&rt, &longer, text);
+    same!(&rt, found.as_str(), text);
 }
 
 // A node that a read made static would never be dropped.
 #[test]
 fn items_end_with_their_stack(rt: HostRuntime) {
     let (alloc, handle) = (rt.alloc(), arc_of(&rt, 7u64));
-    let handles = ok!(
-        &rt,
-        vec![in alloc; again!(&rt, &handle), again!(&rt, &handle)]
-    );
+    let handles = vec![in alloc; again!(&rt, &handle), again!(&rt, &handle)];
+    let handles = ok!(&rt, handles);
     let tree = ok!(&rt, Sequence::from_items(alloc, again!(&rt, &handles)));
     ask(&rt, &tree);
-    holds!(&rt, tree.len() == 2 && tree.contains(&tree[1]));
     let stack = ok!(&rt, Stack::from_items(alloc, handles));
     ask(&rt, &stack);
+    holds!(&rt, tree.contains(&tree[1]));
+    holds!(&rt, stack.first() == tree.first());
     let rest = ok!(&rt, stack.rest());
-    same!(&rt, stack.first(), Some(&handle));
     drop((tree, stack, rest));
     holds!(&rt, handle.is_unique());
 }
-
-// In bytes, enough for some thousands of nodes.
-const SMALL_STACK: usize = 0x4_0000;
 
 const MANY: u64 = 1_000_000;
 
@@ -98,13 +93,10 @@ fn end(rt: &impl Abort, here: &AtomicU64, stack: Stack<Counted<'_>>) {
 fn four_threads_end_one_long_stack(rt: HostRuntime) {
     for _ in 0..ROUNDS {
         let (tally, here) = (Tally::new(), AtomicU64::new(0));
-        let stack = long_stack(&rt, &tally);
-        let others = [
-            again!(&rt, &stack),
-            again!(&rt, &stack),
-            again!(&rt, &stack),
-        ];
-        let mut versions = ok!(&rt, Vec::from_array(rt.alloc(), others));
+        let (stack, mut versions) = (long_stack(&rt, &tally), Vec::new(rt.alloc()));
+        for _ in 0..3 {
+            ok!(&rt, versions.push(again!(&rt, &stack)));
+        }
         ok!(&rt, versions.push(stack));
         let ended = thread::map_vec(&rt, versions, &|stack| end(&rt, &here, stack));
         ok!(&rt, ended);

@@ -1,12 +1,9 @@
 //! The blocks that an interner keeps and drops, and its texts.
-ghost use Rattle.std.specs.Prelude.{◌≡◌};
-
-use crate::made::{arc_of, check_display};
+use crate::made::arc_of;
 use interner::{InternError, InternMap, Interner};
 use sequence::PlaceError;
 use servo_arc::{Arc, HeaderSlice};
-use std::fmt::Write;
-use std::hash::{BuildHasher, BuildHasherDefault, Hasher, RandomState};
+use std::hash::{BuildHasher, BuildHasherDefault, FoldHasher, RandomState};
 use std::process::Abort;
 use testing::counted::{Counted, Tally};
 use testing::{again, holds, ok, same};
@@ -21,116 +18,56 @@ const RED: Color = Color { red: 255, blue: 0 };
 
 const BLUE: Color = Color { red: 0, blue: 255 };
 
-/// The worst of hashers: it gives all values one hash.
-#[derive(Clone, Copy, Default)]
-struct OneHash;
-
-impl Hasher for OneHash {
-    ghost write = { λ s _. s };
-
-    ghost finish = { λ _. 7 };
-
-    fn finish(&self) -> u64 {
-        7
-    }
-
-    fn write(&mut self, _bytes: &[u8]) {}
-}
-
-fn check_numbers<S: BuildHasher + Drop>(
+// Interns colors and a color that is there, by itself and as a key. Of each of its blocks an interner has the only
+// handle: the contracts say which value each symbol has, under each hasher, but not which handles are left.
+fn check_blocks<S: BuildHasher + Drop>(
     rt: &(impl Abort + AllocGlobal),
     mut colors: Interner<Color, S>,
+    mut days: InternMap<Color, u64, S>,
 ) {
-    for (color, number) in [(RED, 0), (BLUE, 1), (RED, 0), (BLUE, 1), (RED, 0)] {
-        let symbol = ok!(rt, colors.intern(rt.alloc(), color));
-        same!(rt, symbol.index(), number);
+    for color in [RED, BLUE, RED] {
+        ok!(rt, colors.intern(rt.alloc(), color));
+        let symbol = ok!(rt, days.get_or_insert(arc_of(rt, color), 5));
+        same!(rt, days.get(symbol), days.find_value(&color));
     }
+    holds!(rt, colors.values().iter().all(|kept| kept.is_unique()));
+    holds!(rt, days.keys().values().iter().all(|key| key.is_unique()));
 }
 
-// A new color gets the next index, and a color that was interned before has its old index, also under random keys, and
-// if all colors have one hash.
+// Under random keys, and under those of a fixed seed.
 #[test]
-fn a_color_keeps_its_number_under_each_hasher(rt: HostRuntime) {
-    let hasher = ok!(&rt, RandomState::new(&rt));
-    check_numbers(&rt, Interner::with_hasher(rt.alloc(), hasher));
-    let hasher = BuildHasherDefault::<OneHash>::new();
-    let colors = Interner::with_capacity_and_hasher(rt.alloc(), 1, hasher);
-    check_numbers(&rt, ok!(&rt, colors));
-}
-
-// Of each of its blocks an interner has the only handle, and can give others.
-#[test]
-fn a_block_of_an_interner_is_cloned(rt: HostRuntime) {
+fn a_block_has_one_handle_under_each_hasher(rt: HostRuntime) {
     let alloc = rt.alloc();
-    let (mut colors, mut lists) = (Interner::new(alloc), Interner::<Vec<u8>>::new(alloc));
-    let red = ok!(&rt, colors.intern(alloc, RED));
+    let hasher = ok!(&rt, RandomState::new(&rt));
+    let colors = Interner::with_hasher(alloc, hasher);
+    check_blocks(&rt, colors, InternMap::with_hasher(alloc, hasher));
+    let hasher = BuildHasherDefault::<FoldHasher>::new();
+    let colors = Interner::with_capacity_and_hasher(alloc, 1, hasher);
+    check_blocks(&rt, ok!(&rt, colors), InternMap::new(alloc));
+}
+
+// An interner can give handles of its blocks.
+#[test]
+fn a_block_outlives_its_interner(rt: HostRuntime) {
+    let (alloc, mut lists) = (rt.alloc(), Interner::<Vec<u8>>::new(rt.alloc()));
     let list = ok!(&rt, lists.intern_by(alloc, &[1u8, 2][..]));
-    same!(&rt, colors.find(&RED), Some(red));
-    same!(&rt, lists.find(&[1u8, 2][..]), Some(list));
-    holds!(&rt, colors.values().iter().all(|kept| kept.is_unique()));
-    for (_, kept) in lists.iter() {
-        holds!(&rt, kept.is_unique());
+    for (_, kept) in &lists {
+        holds!(&rt, kept.is_unique() && lists == lists);
     }
-    let red = ok!(&rt, colors.get(red).cloned());
-    let list = ok!(&rt, lists.get(list).cloned());
-    drop((colors, lists));
-    holds!(
-        &rt,
-        red.is_some_and(|color| color.is_unique() && *color == RED)
-    );
-    holds!(
-        &rt,
-        list.is_some_and(|list| list.as_slice() == [1u8, 2].as_slice())
-    );
+    let kept = ok!(&rt, lists.get(list).cloned());
+    drop(lists);
+    holds!(&rt, kept.is_some_and(|list| list.is_unique()));
 }
 
 // The block that the parts make is kept: no other handle of it is left.
 #[test]
-fn a_header_slice_is_found_by_its_parts(rt: HostRuntime) {
+fn a_header_slice_is_made_by_its_parts(rt: HostRuntime) {
     let mut slices = Interner::<HeaderSlice<Color, u8>>::new(rt.alloc());
-    for (color, text, number) in [
-        (RED, "ab", 0),
-        (BLUE, "ab", 1),
-        (RED, "a", 2),
-        (RED, "ab", 0),
-    ] {
-        let parts = (&color, text.as_bytes());
-        let symbol = ok!(&rt, slices.intern_by(rt.alloc(), parts));
-        same!(
-            &rt,
-            (symbol.index(), slices.find(parts)),
-            (number, Some(symbol))
-        );
+    for color in [RED, BLUE, RED] {
+        let parts = (&color, b"ab".as_slice());
+        ok!(&rt, slices.intern_by(rt.alloc(), parts));
     }
-    same!(&rt, slices.find((&BLUE, b"a".as_slice())), None);
     holds!(&rt, slices.values().iter().all(|kept| kept.is_unique()));
-}
-
-// Of equal keys the first is kept with its value, in a map with either hasher.
-fn check_map<S: BuildHasher + Drop>(
-    rt: &(impl Abort + AllocGlobal),
-    mut days: InternMap<Color, u64, S>,
-) {
-    for (color, day, number) in [(RED, 5, 0), (BLUE, 6, 1), (RED, 7, 0)] {
-        let key = ok!(rt, Arc::try_new(rt.alloc(), color));
-        let symbol = ok!(rt, days.get_or_insert(key, day));
-        same!(
-            rt,
-            (symbol.index(), days.keys().find(&color)),
-            (number, Some(symbol))
-        );
-        same!(rt, days.get(symbol), days.find_value(&color));
-    }
-    same!(rt, days.values(), &[5, 6][..]);
-    same!(rt, days.find_value(&Color { red: 1, blue: 1 }), None);
-    holds!(rt, days.keys().values().iter().all(|key| key.is_unique()));
-}
-
-#[test]
-fn a_key_keeps_its_first_value(rt: HostRuntime) {
-    check_map(&rt, InternMap::new(rt.alloc()));
-    let hasher = BuildHasherDefault::<OneHash>::new();
-    check_map(&rt, InternMap::with_hasher(rt.alloc(), hasher));
 }
 
 // A key that comes again is dropped with its value. In the end the handle of the test is the only one.
@@ -147,30 +84,11 @@ fn a_second_value_ends_at_once(rt: HostRuntime) {
     same!(&rt, (tally.living(2), key.is_unique()), (0, true));
 }
 
-fn named(rt: &(impl Abort + AllocGlobal), texts: &[&str]) -> Interner<String> {
-    let mut names = ok!(rt, Interner::with_capacity(rt.alloc(), 2));
-    for text in texts {
-        ok!(rt, names.intern_by(rt.alloc(), *text));
-    }
-    names
-}
-
-#[test]
-fn names_are_read_in_the_order_of_their_symbols(rt: HostRuntime) {
-    let names = named(&rt, &["first", "other", "first"]);
-    let turned = named(&rt, &["other", "first"]);
-    let mut read = String::new(rt.alloc());
-    for (symbol, name) in &names {
-        ok!(&rt, write!(read, "{} {name}, ", symbol.index()));
-    }
-    same!(&rt, read.as_str(), "0 first, 1 other, ");
-    same!(&rt, [names == names, names == turned], [true, false]);
-}
-
 #[test]
 fn errors_have_their_texts(rt: HostRuntime) {
-    check_display(&rt, &PlaceError::NoPlace, "no such place");
-    check_display(&rt, &PlaceError::Memory, "out of memory");
-    check_display(&rt, &InternError::Full, "no symbol is left");
-    check_display(&rt, &InternError::Memory, "out of memory");
+    let (place, memory) = (PlaceError::NoPlace, PlaceError::Memory);
+    let (full, refused) = (InternError::Full, InternError::Memory);
+    let text = format!(in rt.alloc(); "{place}, {memory}, {full}, {refused}");
+    let expected = "no such place, out of memory, no symbol is left, out of memory";
+    same!(&rt, ok!(&rt, text).as_str(), expected);
 }

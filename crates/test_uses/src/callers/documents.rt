@@ -1,30 +1,24 @@
-//! A document whose edits are undone, and the drop of a deep tree.
-use crate::made::arc_of;
+//! A document and a buffer whose edits are undone, and trees that end. The contracts say what each edit returns, but
+//! not that it succeeds while there is memory, nor that the handles in it are dropped.
+use crate::made::{arc_of, text_of};
 use cascade::{Declaration, Element, Initial, Inline, StyleCache};
 use rose_undo::{Rose, Undo};
 use servo_arc::Arc;
 use std::process::Abort;
 use std::thread::Builder;
 use testing::counted::{Counted, Tally};
-use testing::{again, holds, ok, same};
-use uses::buffer;
+use testing::{SMALL_STACK, again, holds, ok, same};
+use uses::buffer::{insert_line, turned};
 use uses::documents::{Edit, Part, apply, styles, with_part};
 
-// In bytes, enough for some thousands of nodes.
-const SMALL_STACK: usize = 0x4_0000;
-
-fn name(rt: &(impl Abort + AllocGlobal), text: &str) -> Arc<String> {
-    arc_of(rt, ok!(rt, String::from_str(rt.alloc(), text)))
-}
-
-fn part(rt: &(impl Abort + AllocGlobal), text: &str) -> Part {
+fn part(rt: &(impl Abort + AllocGlobal), name: &Arc<String>) -> Part {
     let element = ok!(rt, Element::of_rules(rt.alloc(), Vec::new(rt.alloc())));
-    let name = name(rt, text);
+    let name = again!(rt, name);
     Part { name, element }
 }
 
-fn leaf(rt: &(impl Abort + AllocGlobal), text: &str) -> Rose<Part> {
-    ok!(rt, Rose::leaf(rt.alloc(), part(rt, text)))
+fn leaf(rt: &(impl Abort + AllocGlobal), name: &Arc<String>) -> Rose<Part> {
+    ok!(rt, Rose::leaf(rt.alloc(), part(rt, name)))
 }
 
 fn large(rt: &(impl Abort + AllocGlobal)) -> Arc<Inline> {
@@ -33,16 +27,18 @@ fn large(rt: &(impl Abort + AllocGlobal)) -> Arc<Inline> {
     arc_of(rt, Inline { declarations })
 }
 
-// The contracts say what each edit returns, but not that it succeeds while there is memory.
+// Each name and each style ends with the last version that has it, and with the cache.
 #[test]
 fn edits_are_undone_and_done_again(rt: HostRuntime) {
-    let alloc = rt.alloc();
-    let mut document = Undo::new(alloc, leaf(&rt, "page"));
+    let (alloc, large) = (rt.alloc(), large(&rt));
+    let names = ["page", "title", "text", "body"].map(|text| text_of(&rt, text));
+    let [page, title, text, body] = &names;
+    let mut document = Undo::new(alloc, leaf(&rt, page));
     let edits = vec![in alloc;
-        (&[][..], Edit::Insert(0, leaf(&rt, "title"))),
-        (&[][..], Edit::Insert(1, leaf(&rt, "text"))),
-        (&[1][..], Edit::Rename(name(&rt, "body"))),
-        (&[1][..], Edit::Restyle(large(&rt))),
+        (&[][..], Edit::Insert(0, leaf(&rt, title))),
+        (&[][..], Edit::Insert(1, leaf(&rt, text))),
+        (&[1][..], Edit::Rename(again!(&rt, body))),
+        (&[1][..], Edit::Restyle(again!(&rt, &large))),
         (&[][..], Edit::Remove(0)),
     ];
     for (path, edit) in ok!(&rt, edits) {
@@ -50,99 +46,25 @@ fn edits_are_undone_and_done_again(rt: HostRuntime) {
     }
     let moved = [document.undo(), document.undo(), document.redo()];
     same!(&rt, moved.map(Result::ok), [Some(true); 3]);
-    let versions = [document.before().len(), document.undone().len()];
-    same!(&rt, versions, [4, 1]);
     let mut cache = ok!(&rt, StyleCache::new(alloc, ok!(&rt, Initial::new(alloc))));
-    let styles = ok!(&rt, styles(&mut cache, alloc, document.current()));
-    same!(&rt, styles.len(), 3);
-}
-
-// Each name and each style ends with the last version that has it.
-#[test]
-fn names_end_with_their_document(rt: HostRuntime) {
-    let (alloc, names) = (
-        rt.alloc(),
-        ["page", "body", "head"].map(|text| name(&rt, text)),
-    );
-    let [page, body, head] = &names;
-    let element = ok!(&rt, Element::of_rules(alloc, Vec::new(alloc)));
-    let name = again!(&rt, page);
-    let root = ok!(&rt, Rose::leaf(alloc, Part { name, element }));
-    let mut document = Undo::new(alloc, root);
-    let large = large(&rt);
-    ok!(
-        &rt,
-        apply(
-            &mut document,
-            alloc,
-            &[],
-            Edit::Restyle(again!(&rt, &large))
-        )
-    );
-    ok!(
-        &rt,
-        apply(&mut document, alloc, &[], Edit::Rename(again!(&rt, body)))
-    );
-    ok!(
-        &rt,
-        apply(&mut document, alloc, &[], Edit::Rename(again!(&rt, head)))
-    );
-    ok!(&rt, document.undo().map_err(|_| ()));
-    let kept = [page.is_unique(), body.is_unique(), head.is_unique()];
-    drop(document);
-    same!(&rt, kept, [false; 3]);
-    same!(
-        &rt,
-        [page.is_unique(), body.is_unique(), head.is_unique()],
-        [true; 3]
-    );
+    ok!(&rt, styles(&mut cache, alloc, document.current()));
+    holds!(&rt, !names.iter().any(|name| name.is_unique()));
+    drop((document, cache));
+    holds!(&rt, names.iter().all(|name| name.is_unique()));
     holds!(&rt, large.is_unique());
 }
 
 #[test]
-fn parts_and_lines_go_in(rt: HostRuntime) {
-    let alloc = rt.alloc();
-    let page = ok!(
-        &rt,
-        with_part(&leaf(&rt, "page"), alloc, 0, part(&rt, "title"))
-    );
-    same!(&rt, page.children().len(), 1);
+fn lines_and_parts_end_with_what_has_them(rt: HostRuntime) {
+    let (alloc, name) = (rt.alloc(), text_of(&rt, "name"));
     let mut buffer = Undo::new(alloc, Default::default());
-    let first = name(&rt, "first");
-    ok!(&rt, buffer::insert_line(&mut buffer, alloc, 0, first));
-    let turned = ok!(&rt, buffer::turned(buffer.current(), alloc, 1));
-    same!(&rt, turned.len(), 1);
-}
-
-// In the end the handles of the test are the only ones.
-#[test]
-fn lines_and_names_end_with_what_has_them(rt: HostRuntime) {
-    let (alloc, line, title) = (rt.alloc(), name(&rt, "line"), name(&rt, "title"));
-    let mut buffer = Undo::new(alloc, Default::default());
-    ok!(
-        &rt,
-        buffer::insert_line(&mut buffer, alloc, 0, again!(&rt, &line))
-    );
-    let turned = ok!(&rt, buffer::turned(buffer.current(), alloc, 1));
-    let element = ok!(&rt, Element::of_rules(alloc, Vec::new(alloc)));
-    let name = again!(&rt, &title);
-    let page = ok!(
-        &rt,
-        with_part(&leaf(&rt, "page"), alloc, 0, Part { name, element })
-    );
-    same!(&rt, [line.is_unique(), title.is_unique()], [false; 2]);
-    drop((buffer, turned, page));
-    same!(&rt, [line.is_unique(), title.is_unique()], [true; 2]);
-}
-
-#[test]
-fn an_undo_is_compared(rt: HostRuntime) {
-    let mut versions = Undo::new(rt.alloc(), 1u8);
-    ok!(&rt, versions.change(2));
-    let mut other = Undo::new(rt.alloc(), 1u8);
-    same!(&rt, versions == other, false);
-    ok!(&rt, other.change(2));
-    same!(&rt, versions == other, true);
+    ok!(&rt, insert_line(&mut buffer, alloc, 0, again!(&rt, &name)));
+    let turned = ok!(&rt, turned(buffer.current(), alloc, 1));
+    let (page, part) = (leaf(&rt, &name), part(&rt, &name));
+    let longer = ok!(&rt, with_part(&page, alloc, 0, part));
+    holds!(&rt, buffer == buffer && !name.is_unique());
+    drop((buffer, turned, page, longer));
+    holds!(&rt, name.is_unique());
 }
 
 #[test]

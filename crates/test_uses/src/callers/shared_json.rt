@@ -1,24 +1,22 @@
 //! JSON values: what no contract says of them.
-use crate::made::arc_of;
+use crate::made::{arc_of, text_of};
 use servo_arc::Arc;
 use std::collections::BTreeMap;
 use std::process::Abort;
 use std::thread::Builder;
-use testing::{again, ok, same, same_at};
+use testing::{SMALL_STACK, again, holds, ok, same, same_at};
 use uses::shared_json::Value;
 use uses::shared_json::path::Step;
 use uses::shared_json::text::ParseError;
-
-// In bytes.
-const SMALL_STACK: usize = 0x4_0000;
 
 fn parsed(rt: &(impl Abort + AllocGlobal), text: &str) -> Value {
     ok!(rt, Value::parse(rt.alloc(), text, 127))
 }
 
-fn member(rt: &(impl Abort + AllocGlobal), name: &str) -> Step {
-    Step::Member(arc_of(rt, ok!(rt, String::from_str(rt.alloc(), name))))
-}
+static EQUAL: [&str; 2] = [
+    "{\"b\": [1, -2, 0.5, true], \"a\": {\"c\": null, \"d\": \"\\u0041\"}}",
+    "{\"a\":{\"d\":\"A\",\"c\":null},\"b\":[1,-2,5e-1,true]}",
+];
 
 static DIFFERENT: [&str; 4] = [
     "{\"a\": {\"c\": null, \"d\": \"A\"}, \"b\": [1, -2, 0.5]}",
@@ -29,20 +27,16 @@ static DIFFERENT: [&str; 4] = [
 
 #[test]
 fn values_are_compared(rt: HostRuntime) {
-    let one = parsed(
-        &rt,
-        "{\"b\": [1, -2, 0.5, true], \"a\": {\"c\": null, \"d\": \"\\u0041\"}}",
-    );
-    let other = "{\"a\":{\"d\":\"A\",\"c\":null},\"b\":[1,-2,5e-1,true]}";
-    same!(&rt, one == parsed(&rt, other), true);
-    let text = ok!(&rt, one.to_text(rt.alloc()));
-    same!(&rt, parsed(&rt, text.as_str()) == one, true);
+    let one = parsed(&rt, EQUAL[0]);
+    holds!(&rt, one == parsed(&rt, EQUAL[1]));
     for text in &DIFFERENT {
         same_at!(&rt, *text, one == parsed(&rt, text), false);
     }
+    ok!(&rt, one.to_text(rt.alloc()));
 }
 
-// A text, the number of levels that are allowed, and the reason of an error: none, the levels or the syntax.
+// A text, the number of levels that are allowed, and the reason of an error: none, the levels or the syntax. Contracts
+// let each error be that of memory.
 static READ: [(&str, usize, u8); 12] = [
     ("[[1]]", 2, 0),
     ("[[1]]", 1, 1),
@@ -58,23 +52,17 @@ static READ: [(&str, usize, u8); 12] = [
     ("\"\\ud800\"", 5, 2),
 ];
 
-fn refusal(rt: &(impl Abort + AllocGlobal), text: &str, levels: usize) -> u8 {
-    match Value::parse(rt.alloc(), text, levels) {
-        Ok(_) => 0,
-        Err(ParseError::TooDeep) => 1,
-        Err(ParseError::Syntax(_)) => 2,
-        Err(ParseError::Memory(_)) => 3,
-    }
-}
-
 #[test]
 fn texts_are_refused_by_name(rt: HostRuntime) {
     for (text, levels, expected) in &READ {
-        same_at!(&rt, *text, refusal(&rt, text, *levels), *expected);
+        let reason = match Value::parse(rt.alloc(), text, *levels) {
+            Ok(_) => 0,
+            Err(ParseError::TooDeep) => 1,
+            Err(ParseError::Syntax(_)) => 2,
+            Err(ParseError::Memory(_)) => 3,
+        };
+        same_at!(&rt, *text, reason, *expected);
     }
-    let deep = ok!(&rt, "[".repeat(rt.alloc(), 200));
-    same!(&rt, refusal(&rt, deep.as_str(), 199), 1);
-    same!(&rt, refusal(&rt, deep.as_str(), 200), 2);
 }
 
 // Whether the path leads to one list in both values.
@@ -89,17 +77,15 @@ fn shares(old: &Value, new: &Value, path: &[Step]) -> bool {
 fn an_edit_shares_all_else(rt: HostRuntime) {
     let old = parsed(&rt, "{\"a\": [[1], [2]], \"b\": [3]}");
     let mut new = again!(&rt, old);
-    let path = [member(&rt, "a"), Step::Item(1)];
+    let [a, b] = ["a", "b"].map(|name| Step::Member(text_of(&rt, name)));
+    let path = [a, Step::Item(1)];
     ok!(&rt, new.set(rt.alloc(), &path, Value::Null));
-    let expected = parsed(&rt, "{\"a\": [[1], null], \"b\": [3]}");
-    same!(&rt, again!(&rt, new), expected);
-    same!(&rt, shares(&old, &new, &path[..1]), false);
-    same!(
+    holds!(
         &rt,
-        shares(&old, &new, &[member(&rt, "a"), Step::Item(0)]),
-        true
+        shares(&old, &new, &[b]) && !shares(&old, &new, &path[..1])
     );
-    same!(&rt, shares(&old, &new, &[member(&rt, "b")]), true);
+    let [a, _] = path;
+    holds!(&rt, shares(&old, &new, &[a, Step::Item(0)]));
 }
 
 static SCALARS: [&str; 8] = [
@@ -135,7 +121,7 @@ fn grow(rt: &(impl Abort + AllocGlobal), values: &mut Vec<Value>, random: usize)
 fn object(rt: &(impl Abort + AllocGlobal), values: &mut Vec<Value>, random: usize) -> Value {
     let mut members = BTreeMap::new(rt.alloc());
     for name in &NAMES[..random % 4] {
-        let name = arc_of(rt, ok!(rt, String::from_str(rt.alloc(), name)));
+        let name = text_of(rt, name);
         let value = values.pop().unwrap_or(Value::Null);
         drop(ok!(rt, members.insert(name, value)));
     }
@@ -167,25 +153,17 @@ fn random_values_are_read_back(rt: HostRuntime) {
 // An edit drops what it replaces, and `end` drops all parts. In the end the handle of the test is the only one.
 #[test]
 fn texts_end_with_their_values(rt: HostRuntime) {
-    let (alloc, text) = (rt.alloc(), arc_of(&rt, String::new(rt.alloc())));
+    let (alloc, text) = (rt.alloc(), text_of(&rt, ""));
+    let member = || Value::Text(again!(&rt, &text));
     let mut members = BTreeMap::new(alloc);
-    let member = Value::Text(again!(&rt, &text));
-    drop(ok!(&rt, members.insert(again!(&rt, &text), member)));
-    let (first, second) = (again!(&rt, &text), again!(&rt, &text));
-    let items = ok!(
-        &rt,
-        vec![in alloc;
-            Value::Text(first),
-            Value::Text(second),
-            Value::Map(arc_of(&rt, members))
-        ]
-    );
-    let old = Value::List(arc_of(&rt, items));
+    drop(ok!(&rt, members.insert(again!(&rt, &text), member())));
+    let items = vec![in alloc; member(), member(), Value::Map(arc_of(&rt, members))];
+    let old = Value::List(arc_of(&rt, ok!(&rt, items)));
     let mut new = again!(&rt, &old);
     ok!(&rt, new.set(alloc, &[Step::Item(0)], Value::Null));
     new.end(alloc);
     old.end(alloc);
-    same!(&rt, text.is_unique(), true);
+    holds!(&rt, text.is_unique());
 }
 
 #[test]

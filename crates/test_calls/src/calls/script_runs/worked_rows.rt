@@ -1,4 +1,4 @@
-//! Worked scripts of steps and of commands, each line with its answer, and input and arguments that are rejected.
+//! Worked scripts of steps and of commands, each line with its answer.
 use super::runs::run_from;
 use std::process::Abort;
 use testing::{ok, same};
@@ -161,39 +161,4 @@ fn answers_each_line(rt: HostRuntime) {
         check_row(&rt, row);
     }
     same!(&rt, ROWS.split("\n\n").count(), 35);
-}
-
-/// Input with a bad line, its output, and the status.
-static BYTES: &[(&[u8], &[u8], u8); 10] = &[
-    (b"", b"", 0),
-    (b"unique 0 0", b"is true\n", 0),
-    (b"unique 0 0\n\n", b"is true\nfault: line 2\n", 2),
-    (b"\n", b"fault: line 1\n", 2),
-    (b"unique 0 0\r\n", b"fault: line 1\n", 2),
-    (b"load 0 0\nunique  0 0\n", b"value 5\nfault: line 2\n", 2),
-    (b"lend 0 0\n", b"fault: line 1\n", 2),
-    (b"\0", b"fault: line 1\n", 2),
-    (b"\xff", b"fault: line 1\n", 2),
-    (b"Load 0 0\n", b"fault: line 1\n", 2),
-];
-
-static WRONG_WORDS: &[&[&str]; 6] = &[
-    &["core", "0"],
-    &["core", "1001"],
-    &["core", "01"],
-    &["table", "1001"],
-    &["core"],
-    &[],
-];
-
-#[test]
-fn takes_bytes_and_refuses_words(rt: HostRuntime) {
-    for (input, output, status) in BYTES {
-        let ran = run_from(rt.alloc(), &["core", "1"], &mut &input[..]);
-        ran.check(&rt, *input, output, b"", *status);
-    }
-    for words in WRONG_WORDS {
-        let ran = run_from(rt.alloc(), words, &mut b"unique 0 0".as_slice());
-        ran.check(&rt, *words, b"", b"fault: arguments\n", 1);
-    }
 }

@@ -5,4 +5,5 @@ pub mod Json
 pub mod JsonLevels
 pub mod JsonPaths
 pub mod Nodes
+pub mod Versions
 pub mod Walks

@@ -1,7 +1,10 @@
 //! A type that holds itself in lists and maps whose versions share their nodes.
-ghost use Rattle.std.specs.Prelude.{◌≡◌, ◌++◌, ◌∷◌, [], OnErr, OnOk};
+ghost use Rattle.std.specs.Prelude.{◌≡◌, ◌≤◌, ◌^◌, ◌++◌, ◌∷◌, [], None, Some, Err};
+ghost use Rattle.std.specs.Prelude.{IfNone, IfSome, IfOk, OnErr, OnOk};
+ghost use Rattle.std.specs.Option.{option_copied};
 ghost use Rattle.std.specs.Ordering.{nat_cmp};
 ghost use Rattle.maps.specs.Maps.{with_entry};
+ghost use Rattle.uses.specs.Versions.{at, values_in, with_at};
 
 use maps::TreeMap;
 use sequence::{PlaceError, Sequence};
@@ -53,23 +56,26 @@ pub fn insert_item(
     Ok(())
 }
 
-/// Returns the number of values, with this one and all that it holds, but at most `u64::MAX`.
-pub fn count(value: &Value) -> u64 {
+/// Returns the number of values, with this one and all that it holds, or `None` if a `u64` cannot hold the number.
+pub fn count(value: &Value) -> Option<u64>
+    ensures counted { IfSome result (λ number. number ≡ values_in value.now) }
+    ensures too_many { IfNone result (2 ^ 64 ≤ values_in value.now) }
+{
     let mut number = 1u64;
     match value {
         Value::Null | Value::Number(_) => {}
         Value::List(items) => {
             for item in items {
-                number = number.saturating_add(count(item));
+                number = number.checked_add(count(item)?)?;
             }
         }
         Value::Map(entries) => {
-            for (_, item) in entries {
-                number = number.saturating_add(count(item));
+            for (_, child) in entries {
+                number = number.checked_add(count(child)?)?;
             }
         }
     }
-    number
+    Some(number)
 }
 
 /// A step down from a list or a map to one of its values.
@@ -79,9 +85,24 @@ pub enum Step {
     Key(u64),
 }
 
+/// Returns the value at the end of the path, if it is there.
+pub fn get<'a>(value: &'a Value, path: &[Step]) -> Option<&'a Value>
+    ensures { option_copied result ≡ at path.now value.now }
+{
+    match (path, value) {
+        ([], _) => Some(value),
+        ([Step::Index(index), rest @ ..], Value::List(items)) => get(items.get(*index)?, rest),
+        ([Step::Key(key), rest @ ..], Value::Map(entries)) => get(entries.get(key)?, rest),
+        _ => None,
+    }
+}
+
 /// Returns a version with `new` in place of the value at the end of the path, which has to be there. All that is not on
 /// the path is shared with the old version.
-pub fn with(value: &Value, alloc: Global, path: &[Step], new: Value) -> Result<Value, PlaceError> {
+pub fn with(value: &Value, alloc: Global, path: &[Step], new: Value) -> Result<Value, PlaceError>
+    ensures made { IfOk result (λ made. Some made ≡ with_at path.now new value.now) }
+    ensures no_place { result ≡ Err PlaceError.NoPlace → with_at path.now new value.now ≡ None }
+{
     match (path, value) {
         ([], _) => Ok(new),
         ([Step::Index(index), rest @ ..], Value::List(items)) => {

@@ -42,11 +42,18 @@ impl<'a> Collection<'a> for Undo<Tree<'a>> {
             },
             "shared" => tell(rt, is_shared(self, call.path(0))),
             _ => match changed(rt.alloc(), self.current(), call) {
-                Some(made) => tell(rt, made.and_then(|tree| Ok(self.change(tree)?))),
+                Some(made) => tell(rt, change(self, made)),
                 None => tell(rt, "no such call"),
             }
         }
     }
+}
+
+fn change<'a>(
+    versions: &mut Undo<Tree<'a>>,
+    made: Result<Tree<'a>, PlaceError>,
+) -> Result<(), PlaceError> {
+    Ok(versions.change(made?)?)
 }
 
 // The tree that a call makes, or `None` for an unknown call.

@@ -36,7 +36,6 @@ use std::mem;
 /// ```
 ///
 /// Dropping a list recurses to the depth of the tree, which is at most 65.
-#[derive(Drop)]
 pub struct LabelledSequence<T, L: Label<T> = Unlabelled> {
     pub(crate) root: Option<Tree<T, L>>,
     len: usize,
@@ -52,6 +51,15 @@ impl<T, L: Label<T>> Model for LabelledSequence<T, L> {
     ghost view = { λ s. items_under s.root };
 
     ghost invariant = { λ s. s.len ≡ length (items_under s.root) };
+}
+
+// By hand, since the checker then sees a call where a list is dropped, and not the drop of each of its parts.
+impl<T: Drop, L: Label<T> + Drop> Drop for LabelledSequence<T, L> {
+    #[inline(always)]
+    fn drop(self) {
+        let LabelledSequence { root, len: _ } = self;
+        drop(root);
+    }
 }
 
 /// Makes a version (snapshot) by one increment of a count, with no copy and no allocation:

@@ -5,3 +5,4 @@ pub mod Beside
 pub mod Appended
 pub mod Built
 pub mod Parted
+pub mod Edges

@@ -108,3 +108,8 @@ module _ {T L : Type 0} (label_of : T → L) where
     pub whole : IsNode root
     pub items : (seen root).0 ≡ es
     pub nodes : (seen root).1 + 1 ≡ depth
+
+  -- the children of a branch in two at a place among the items
+  pub record AreCut (place : ℕ) (old new : List (Child T L)) (right : Child T L) : Type 0 where
+    pub halves : AreHalves (items_in old, height_in old) (items_in new, height_in new) right
+    pub kept : length (items_in new) ≡ place

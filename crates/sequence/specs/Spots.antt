@@ -1,5 +1,5 @@
 -- An index among the items under the children of a branch: the child, and the index within the child.
-use Rattle.std.specs.Prelude.{◌≡◌, ℕ, ◌+◌, ◌-◌, ◌<◌, ◌≤◌, List, ◌++◌, cond, length, nat_le, take, drop, slice_index_or}
+use Rattle.std.specs.Prelude.{◌≡◌, ℕ, ◌+◌, ◌-◌, ◌^◌, ◌<◌, ◌≤◌, List, ◌++◌, cond, length, nat_le, take, drop, slice_index_or}
 use Rattle.sequence.specs.declared.tree.Child.{Child}
 use Rattle.sequence.specs.declared.tree.ends.End.{End}
 use Rattle.sequence.specs.declared.tree.ends.End.TheVariants.{First, Last}
@@ -26,3 +26,16 @@ pub record Leads {T L : Type 0} (cs : List (Child T L)) (place : ℕ) (spot : Sp
 abbrev pub past : ℕ → Spot → Spot
 past left spot =
     cond (nat_le spot.place left) spot (record { child = spot.child + 1; place = spot.place - left })
+
+-- the place is between that child and the one before it
+pub record IsEdge {T L : Type 0} (cs : List (Child T L)) (place at : ℕ) : Type 0 where
+  pub some : 0 < at
+  pub is : place ≡ length (items_in (take at cs))
+
+-- the place is before all of that child, or each part of it has so many items, which is enough for its height
+pub record Parts {T L : Type 0} (cs : List (Child T L)) (place few : ℕ) (spot : Spot) : Type 0 where
+  pub within : spot.child < length cs
+  pub is : place ≡ length (items_in (take spot.child cs)) + spot.place
+  pub least : (d : Child T L) → few ≡ 2 ^ (slice_index_or cs spot.child d).tree.1
+  pub front : 0 < spot.place → few ≤ spot.place
+  pub back : 0 < spot.place → (d : Child T L) → spot.place + few ≤ length (slice_index_or cs spot.child d).tree.0

@@ -1,9 +1,10 @@
 //! How a tree becomes two at a place: in place, but for the nodes that others share, which are copied.
-ghost use Rattle.std.specs.Prelude.{◌≡◌, ◌+◌, ◌<◌, ◌≤◌, ◌^◌, IfOk, MatchResult, length, take};
+ghost use Rattle.std.specs.Prelude.{◌≡◌, ◌+◌, ◌-◌, ◌/◌, ◌<◌, ◌≤◌, ◌^◌, IfOk, MatchResult, drop, length, take};
 ghost use Rattle.handles.specs.Copies.{CopiesAreEqual};
-ghost use Rattle.sequence.specs.Nodes.{AreChildren, AreHalves, StandFor, height_in, items_in};
+ghost use Rattle.sequence.specs.Nodes.{AreChildren, AreCut, AreHalves, StandFor, height_in, items_in};
+ghost use Rattle.sequence.specs.Spots.{IsEdge, Parts};
 
-use crate::label::NewLabel;
+use crate::label::{Label, NewLabel};
 use crate::tree::insert::join_if_small;
 use crate::tree::search::{Spot, spot_of};
 use crate::tree::split::{split_branch, split_leaf};
@@ -29,21 +30,34 @@ impl<T: Clone, L: NewLabel<T>> Tree<T, L> {
             (λ right. AreHalves L.label_of self.old self.new right × (length self.new.0 ≡ place))
             (λ _. self.new ≡ self.old) }
     {
-        let children = match Arc::make_mut(&mut self.root, alloc)? {
-            Node::Leaf(items) => return Ok(split_leaf(items, alloc, place)?),
-            Node::Branch(children) => children,
-        };
-        let at = edge_at(children, alloc, place, least)?;
-        // Small children that then stand beside the cut are joined with their neighbours.
-        if at + 1 < children.len() {
-            join_if_small(children, at, alloc);
+        match Arc::make_mut(&mut self.root, alloc)? {
+            Node::Leaf(items) => Ok(split_leaf(items, alloc, place)?),
+            Node::Branch(children) => split_children(children, alloc, place, least),
         }
-        let right = split_branch(children, alloc, at)?;
-        if at > 1 {
-            join_if_small(children, at - 2, alloc);
-        }
-        Ok(right)
     }
+}
+
+// The same for the children of a branch.
+#[cycle(split_in_place)]
+fn split_children<T: Clone, L: NewLabel<T>>(
+    children: &mut Vec<Child<T, L>>,
+    alloc: Global,
+    place: usize,
+    least: usize,
+) -> Result<Child<T, L>, Blocked>
+    requires copies { CopiesAreEqual T.is_clone × CopiesAreEqual L.is_clone }
+    requires children { AreChildren L.label_of children.old.items }
+    requires least { least ≡ 2 ^ height_in children.old.items }
+    requires front { least ≤ place }
+    requires back { place + least ≤ length (items_in children.old.items) }
+    ensures children { AreChildren L.label_of children.new.items }
+    ensures cut { MatchResult result (AreCut L.label_of place children.old.items children.new.items)
+        (λ _. StandFor L.label_of children.old.items children.new.items) }
+{
+    let Ok(at) = edge_at(children, alloc, place, least) else {
+        return Err(Blocked);
+    };
+    split_between(children, alloc, at)
 }
 
 // The number of the first child behind the place, once the child around it is two.
@@ -59,26 +73,86 @@ fn edge_at<T: Clone, L: NewLabel<T>>(
     requires least { least ≡ 2 ^ height_in children.old.items }
     requires some { 0 < place }
     requires within { place < length (items_in children.old.items) }
-    ensures same { StandFor L.label_of children.old.items children.new.items }
-    ensures edge { IfOk result (λ at. (place ≡ length (items_in (take at children.new.items)))
-        × (0 < at) × (at < length children.new.items)) }
+    ensures { MatchResult result
+        (λ at. StandFor L.label_of children.old.items children.new.items × IsEdge children.new.items place at)
+        (λ _. StandFor L.label_of children.old.items children.new.items) }
 {
-    // The item behind the place is in that child, the last of so many there.
-    let Spot { child, place: up } = spot_of(children, place + 1);
-    let place = up - 1;
+    let Ok(Spot { child, place }) = spot_around(children, place, least) else {
+        return Err(Blocked);
+    };
     if place == 0 {
         return Ok(child);
     }
-    // A part of the child may have too few items for its height.
-    if place < least / 2 || children[child].len - place < least / 2 {
+    let Ok(()) = children.reserve(1) else {
         return Err(Blocked);
-    }
-    children.reserve(1)?;
+    };
     let left = &mut children[child];
-    let right = left.tree.split_in_place(alloc, place, least / 2)?;
+    let Ok(right) = left.tree.split_in_place(alloc, place, least / 2) else {
+        return Err(Blocked);
+    };
     left.len = place;
     let Ok(()) = children.insert(child + 1, right) else {
         unreachable!()
     };
     Ok(child + 1)
+}
+
+// Where the place is. If it is in a child, each part of the child has enough items for its height, or this is blocked.
+fn spot_around<T, L: Label<T>>(
+    children: &[Child<T, L>],
+    place: usize,
+    least: usize,
+) -> Result<Spot, Blocked>
+    requires children { AreChildren L.label_of children.now }
+    requires least { least ≡ 2 ^ height_in children.now }
+    requires within { place < length (items_in children.now) }
+    ensures { IfOk result (Parts children.now place (least / 2)) }
+{
+    // The item behind the place is in that child, the last of so many there.
+    let Spot { child, place: up } = spot_of(children, place + 1);
+    let place = up - 1;
+    if place == 0 {
+        return Ok(Spot { child, place });
+    }
+    if place < least / 2 || children[child].len - place < least / 2 {
+        return Err(Blocked);
+    }
+    Ok(Spot { child, place })
+}
+
+// Takes the children from that number on out of a branch, into a child. Small children that then stand beside the cut
+// are joined with their neighbours.
+fn split_between<T: Clone, L: NewLabel<T>>(
+    children: &mut Vec<Child<T, L>>,
+    alloc: Global,
+    at: usize,
+) -> Result<Child<T, L>, Blocked>
+    requires copies { CopiesAreEqual T.is_clone × CopiesAreEqual L.is_clone }
+    requires children { AreChildren L.label_of children.old.items }
+    requires some { 0 < at }
+    requires sides { (2 ^ height_in children.old.items ≤ length (items_in (take at children.old.items)))
+        × (2 ^ height_in children.old.items ≤ length (items_in (drop at children.old.items))) }
+    ensures children { AreChildren L.label_of children.new.items }
+    ensures cut { MatchResult result (AreCut L.label_of (length (items_in (take at children.old.items)))
+        children.old.items children.new.items) (λ _. StandFor L.label_of children.old.items children.new.items) }
+{
+    join_before(children, at + 1, alloc);
+    let Ok(right) = split_branch(children, alloc, at) else {
+        return Err(Blocked);
+    };
+    join_before(children, at - 1, alloc);
+    Ok(right)
+}
+
+// Makes one child of the one of that number and the one before it, if there are both, both are small and it is not
+// refused.
+fn join_before<T: Clone, L: NewLabel<T>>(children: &mut Vec<Child<T, L>>, at: usize, alloc: Global)
+    requires copies { CopiesAreEqual T.is_clone × CopiesAreEqual L.is_clone }
+    requires children { AreChildren L.label_of children.old.items }
+    ensures same { StandFor L.label_of children.old.items children.new.items }
+    ensures before { take (at - 1) children.new.items ≡ take (at - 1) children.old.items }
+{
+    if 0 < at && at < children.len() {
+        join_if_small(children, at - 1, alloc);
+    }
 }

@@ -1,43 +1,67 @@
 -- The child around the place is two, and each part of the branch has enough items.
-use Rattle.std.proofs.Common.{◌≡◌, ◌+◌, ◌-◌, ◌∙◌, ap, arith, get_or, length, refl, rules, set, subst, sym}
+use Rattle.std.proofs.Common.{◌≡◌, ◌+◌, ◌/◌, ◌∙◌, ◌^◌, ◌<◌, ℕ, ap, arith, get_or, length, refl, set, subst, sym}
 use Rattle.std.specs.List.{insert}
 use Rattle.sequence.specs.declared.tree.Child.{Child}
-use Rattle.sequence.specs.declared.tree.Node.TheVariants.{Branch}
-use Rattle.sequence.specs.Nodes.{AreHalves, IsChild, StandFor, height_in, items_in, seen}
-use Rattle.sequence.proofs.Nodes.Children.{length-parts}
-use Rattle.sequence.proofs.Shapes.Joined.{split_stands}
+use Rattle.sequence.specs.Nodes.{IsChild, StandFor}
+use Rattle.sequence.specs.Spots.{IsEdge, Parts}
+use Rattle.sequence.proofs.Calls.{both, of_two}
+use Rattle.sequence.proofs.Nodes.Placed.{stand_itself}
+use Rattle.sequence.proofs.Shapes.Edges.{cut_from, edge_between, edge_here, part_asks, wide_at}
 use Rattle.sequence.proofs.tree.+split_in_place.Goals as goal
+use Rattle.sequence.proofs.tree.+split_in_place.Given as given
+use Rattle.sequence.proofs.tree.+split_in_place.Goals.{split_in_place::edge_at-In-Ok}
 
-pub split_in_place::edge_at-returns-clause-same : goal.split_in_place::edge_at-returns-clause-same
-split_in_place::edge_at-returns-clause-same g t c =
+-- where the place is among the children
+parts_in : (g : given.Over) (t : ℕ) (c : split_in_place::edge_at-In-Ok g t)
+    → Parts c.args.children.now.items c.args.place (c.args.least / 2) c.in-Ok.field-0
+parts_in g t c =
+    subst (λ xs. Parts xs c.args.place (c.args.least / 2) c.in-Ok.field-0) c.deref.ensures.value c.in-Ok.ensures
+
+pub split_in_place::edge_at-split_in_place-requires : goal.split_in_place::edge_at-split_in_place-requires
+split_in_place::edge_at-split_in_place-requires g t c κs within =
+    let at = goal.at.split_in_place::edge_at-split_in_place-requires g t c in
     let cs = c.args.children.now.items in
-    let i = c.spot_of-child.result.child in
-    let within = (rw c.deref.ensures.value at c.spot_of-child.ensures).within in
+    let spot = c.in-Ok.field-0 in
+    let here = parts_in g t at.In-Ok in
     let d = c.index_mut-left.result.now in
-    let room = c.in_ok-reserve.ensures.items in
-    let is = c.index_mut-left.ensures.value ∙ ap (λ cs. get_or cs i d) room in
-    let done = c.in_ok-right.ensures in
-    let r = c.in_ok-right.right in
+    let is = c.index_mut-left.ensures.value ∙ ap (λ cs. get_or cs spot.child d) c.in-Ok-reserve.ensures.items in
+    let level = (c.requires.children.each spot.child d here.within).level in
+    let some : 0 < spot.place = omega (arith, c.if-place-eq0.false) in
+    of_two (omega (arith, c.decreases, ap (λ child. child.tree.1) is, level)) within
+    (both c.requires.copies (part_asks cs c.args.place (c.args.least / 2) spot d here is some))
+
+pub split_in_place::edge_at-returns : goal.split_in_place::edge_at-returns
+split_in_place::edge_at-returns g t c =
+    let cs = c.args.children.now.items in
+    let spot = c.in-Ok.field-0 in
+    let here = parts_in g t (goal.at.split_in_place::edge_at-returns g t c).In-Ok in
+    let d = c.index_mut-left.result.now in
+    let room = c.in-Ok-reserve.ensures.items in
+    let is = c.index_mut-left.ensures.value ∙ ap (λ cs. get_or cs spot.child d) room in
+    let done = c.in-Ok-split_in_place.ensures in
+    let r = c.in-Ok-split_in_place.right in
     let l : Child g.row.T.Denot g.row.L.Denot =
-    record { label = d.label; len = c.spot_of-child.result.place - 1; tree = c.split_in_place.new.self } in
-    let items = c.in-Ok.ensures.items ∙ ap (λ xs. insert (set xs i l) (i + 1) r) room in
+    record { label = d.label; len = spot.place; tree = c.split_in_place.new.self } in
+    let items = c.in-Ok-insert.ensures.items ∙ ap (λ xs. insert (set xs spot.child l) (spot.child + 1) r) room in
     let child : IsChild (d.tree.1 + 1) l =
     record { counted = sym done.1; level = ap (λ n. n + 1) done.0.height; wide = done.0.wide } in
-    subst (λ xs. StandFor g.L.Label.label_of cs xs) (sym items)
-    (split_stands cs i d l r c.requires.children within is child done.0 refl)
+    subst (λ xs. StandFor g.L.Label.label_of cs xs × IsEdge xs c.args.place (spot.child + 1)) (sym items)
+    (edge_between cs spot.child d l r c.requires.children here.within is child done.0 refl c.args.place
+    (omega (arith, here.is, done.1)))
 
-pub Tree::split_in_place-split_branch-requires-clause-sides :
-    goal.Tree::split_in_place-split_branch-requires-clause-sides
-Tree::split_in_place-split_branch-requires-clause-sides g t c =
-    let items : items_in c.if-at-len.children.items ≡ c.args.self.now.0 = search rules in
-    let height : height_in c.if-at-len.children.items ≡ c.args.self.now.1 = search rules in
-    let long = ap (λ es. length es) items in
-    (grind (arith, long, height), grind (arith, long, height, length-parts c.if-at-len.children.items c.in_ok-at.at))
+pub split_in_place::edge_at-returns-then-place-eq0 : goal.split_in_place::edge_at-returns-then-place-eq0
+split_in_place::edge_at-returns-then-place-eq0 g t c =
+    let cs = c.args.children.now.items in
+    let at = goal.at.split_in_place::edge_at-returns-then-place-eq0 g t c in
+    let here = parts_in g t at.In-Ok in (
+      stand_itself cs c.requires.children,
+      edge_here cs c.args.place c.in-Ok.field-0.child c.requires.some (omega (arith, here.is, c.if-place-eq0.true)),
+    )
 
-pub Tree::split_in_place-returns : goal.Tree::split_in_place-returns
-Tree::split_in_place-returns g t c =
-    let items : items_in c.if-at-len.children.items ≡ c.args.self.now.0 = search rules in
-    let height : height_in c.if-at-len.children.items ≡ c.args.self.now.1 = search rules in
-    let halves = subst (λ tree. AreHalves g.L.Label.label_of tree (seen (Branch c.split_branch.new.children))
-    c.in_ok-right.right) (λ i. (items i, height i)) c.in_ok-right.ensures.halves in
-    search rules
+pub split_in_place::split_children-split_between-requires-clause-sides :
+    goal.split_in_place::split_children-split_between-requires-clause-sides
+split_in_place::split_children-split_between-requires-clause-sides g t c =
+    let same = c.in-Ok.ensures.0 in
+    wide_at c.edge_at.new.children.items c.in-Ok.at c.args.place c.args.least c.in-Ok.ensures.1
+    (c.requires.least ∙ ap (λ n. 2 ^ n) (sym same.height)) c.requires.front
+    (omega (arith, c.requires.back, ap (λ es. length es) same.items))

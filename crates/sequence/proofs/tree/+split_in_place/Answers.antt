@@ -5,7 +5,7 @@ use Rattle.sequence.specs.declared.tree.Child.{Child}
 use Rattle.sequence.specs.Nodes.{IsChild, StandFor}
 use Rattle.sequence.specs.Spots.{IsEdge, Parts}
 use Rattle.sequence.proofs.Calls.{both, of_two}
-use Rattle.sequence.proofs.Nodes.Placed.{stand_itself}
+use Rattle.sequence.proofs.Nodes.Placed.{left_in, stand_itself}
 use Rattle.sequence.proofs.Shapes.Edges.{cut_from, edge_between, edge_here, part_asks, wide_at}
 use Rattle.sequence.proofs.tree.+split_in_place.Goals as goal
 use Rattle.sequence.proofs.tree.+split_in_place.Given as given
@@ -57,6 +57,29 @@ split_in_place::edge_at-returns-then-place-eq0 g t c =
       stand_itself cs c.requires.children,
       edge_here cs c.args.place c.in-Ok.field-0.child c.requires.some (omega (arith, here.is, c.if-place-eq0.true)),
     )
+
+pub split_in_place::edge_at-returns-in_default : goal.split_in_place::edge_at-returns-in_default
+split_in_place::edge_at-returns-in_default g t c = stand_itself c.args.children.now.items c.requires.children
+
+pub split_in_place::edge_at-returns-in_default-reserve : goal.split_in_place::edge_at-returns-in_default-reserve
+split_in_place::edge_at-returns-in_default-reserve g t c =
+    let cs = c.args.children.now.items in
+    subst (StandFor g.L.Label.label_of cs) (sym c.reserve.ensures.items) (stand_itself cs c.requires.children)
+
+pub split_in_place::edge_at-returns-in_default-split_in_place :
+    goal.split_in_place::edge_at-returns-in_default-split_in_place
+split_in_place::edge_at-returns-in_default-split_in_place g t c =
+    let cs = c.args.children.now.items in
+    let i = c.in-Ok.field-0.child in
+    let here =
+    parts_in g t (goal.at.split_in_place::edge_at-returns-in_default-split_in_place g t c).In-Ok in
+    let d = c.index_mut-left.result.now in
+    let new = c.split_in_place.new.self in
+    let room = c.in-Ok-reserve.ensures.items in
+    let same = c.in_default-split_in_place.ensures in
+    subst (λ xs. StandFor g.L.Label.label_of cs (set xs i (record d { tree = new }))) (sym room)
+    (left_in cs i d c.requires.children here.within
+    (c.index_mut-left.ensures.value ∙ ap (λ xs. get_or xs i d) room) new (ap (λ t. t.0) same) (ap (λ t. t.1) same))
 
 pub split_in_place::split_children-split_between-requires-clause-sides :
     goal.split_in_place::split_children-split_between-requires-clause-sides

@@ -1,8 +1,8 @@
 //! Splitting a list in two, and joining two lists.
-ghost use Rattle.std.specs.Prelude.{◌≡◌, ◌++◌, ◌^◌, ◌<◌, ◌≤◌, ◌↔◌, ◌⊎◌, Err, IfOk, IsOk, OnErr, OnOk};
+ghost use Rattle.std.specs.Prelude.{◌≡◌, ◌+◌, ◌++◌, ◌^◌, ◌<◌, ◌≤◌, ◌↔◌, ◌⊎◌, Err, IfOk, IsOk, OnErr, OnOk};
 ghost use Rattle.std.specs.Prelude.{MatchResult, drop, length, take};
 ghost use Rattle.handles.specs.Copies.{CopiesAreEqual};
-ghost use Rattle.sequence.specs.Nodes.{AreLevel, items_in};
+ghost use Rattle.sequence.specs.Nodes.{AreChildren, AreLevel, items_in};
 
 use crate::label::NewLabel;
 use crate::labelled::LabelledSequence;
@@ -236,24 +236,63 @@ impl<T: Clone, L: NewLabel<T>> Tree<T, L> {
     ) -> Result<(LabelledSequence<T, L>, LabelledSequence<T, L>), AllocError>
         requires copies { CopiesAreEqual T.is_clone × CopiesAreEqual L.is_clone }
         requires within { at ≤ length self.now.0 }
-        ensures front { IfOk result (λ parts. parts.0 ≡ take at self.now.0) }
-        ensures back { IfOk result (λ parts. parts.1 ≡ drop at self.now.0) }
+        ensures { IfOk result (λ lists. (lists.0 ≡ take at self.now.0) × (lists.1 ≡ drop at self.now.0)) }
     {
-        match self.node() {
-            Node::Leaf(items) => {
-                let front = LabelledSequence::of_leaf(alloc, &items[..at])?;
-                let back = LabelledSequence::of_leaf(alloc, &items[at..])?;
-                Ok((front, back))
-            }
-            Node::Branch(children) => {
-                let spot = spot_of(children, at);
-                let mut front = LabelledSequence::of_children(alloc, &children[..spot.child])?;
-                let behind = LabelledSequence::of_children(alloc, &children[spot.child + 1..])?;
-                let (part, mut back) = children[spot.child].tree.split_at(alloc, spot.place)?;
-                front.append(alloc, part)?;
-                back.append(alloc, behind)?;
-                Ok((front, back))
-            }
-        }
+        let children = match self.node() {
+            Node::Leaf(items) => return lists_of(alloc, items, at),
+            Node::Branch(children) => children,
+        };
+        let spot = spot_of(children, at);
+        let around = lists_around(alloc, children, spot.child)?;
+        let within = children[spot.child].tree.split_at(alloc, spot.place)?;
+        append_parts(alloc, around, within)
     }
+}
+
+// The first `at` items of a leaf, and the others.
+fn lists_of<T: Clone, L: NewLabel<T>>(
+    alloc: Global,
+    items: &[T],
+    at: usize,
+) -> Result<(LabelledSequence<T, L>, LabelledSequence<T, L>), AllocError>
+    requires copies { CopiesAreEqual T.is_clone }
+    requires within { at ≤ length items.now }
+    ensures { IfOk result (λ lists. (lists.0 ≡ take at items.now) × (lists.1 ≡ drop at items.now)) }
+{
+    let front = LabelledSequence::of_leaf(alloc, &items[..at])?;
+    let back = LabelledSequence::of_leaf(alloc, &items[at..])?;
+    Ok((front, back))
+}
+
+// The items before the child of that number, and those behind it.
+fn lists_around<T: Clone, L: NewLabel<T>>(
+    alloc: Global,
+    children: &[Child<T, L>],
+    child: usize,
+) -> Result<(LabelledSequence<T, L>, LabelledSequence<T, L>), AllocError>
+    requires labels { CopiesAreEqual L.is_clone }
+    requires children { AreChildren L.label_of children.now }
+    requires within { child < length children.now }
+    ensures { IfOk result (λ lists. (lists.0 ≡ items_in (take child children.now))
+        × (lists.1 ≡ items_in (drop (child + 1) children.now))) }
+{
+    let front = LabelledSequence::of_children(alloc, &children[..child])?;
+    let behind = LabelledSequence::of_children(alloc, &children[child + 1..])?;
+    Ok((front, behind))
+}
+
+// The items of all four lists in two: the inner ones are those between the outer ones.
+fn append_parts<T: Clone, L: NewLabel<T>>(
+    alloc: Global,
+    outer: (LabelledSequence<T, L>, LabelledSequence<T, L>),
+    inner: (LabelledSequence<T, L>, LabelledSequence<T, L>),
+) -> Result<(LabelledSequence<T, L>, LabelledSequence<T, L>), AllocError>
+    requires copies { CopiesAreEqual T.is_clone × CopiesAreEqual L.is_clone }
+    ensures { IfOk result (λ lists. (lists.0 ≡ outer.0 ++ inner.0) × (lists.1 ≡ inner.1 ++ outer.1)) }
+{
+    let (mut front, behind) = outer;
+    let (part, mut back) = inner;
+    front.append(alloc, part)?;
+    back.append(alloc, behind)?;
+    Ok((front, back))
 }

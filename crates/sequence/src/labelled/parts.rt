@@ -118,16 +118,10 @@ impl<T: Clone, L: NewLabel<T>> LabelledSequence<T, L> {
         let Some(tree) = &mut self.root else {
             return Err(Blocked);
         };
-        tree.shrink()?;
-        let least = 2usize.checked_pow(u32::from(tree.height())).ok_or(Blocked)?;
-        if at < least || self.len - at < least {
+        let Ok(back) = tree.split_if_wide(alloc, at, self.len) else {
             return Err(Blocked);
-        }
-        let mut back = tree.split_in_place(alloc, at, least)?;
+        };
         self.len = at;
-        // Trees that are higher than need be are as good.
-        let _ = tree.shrink();
-        let _ = back.tree.shrink();
         Ok(LabelledSequence {
             root: Some(back.tree),
             len: back.len,
@@ -228,6 +222,38 @@ impl<T: Clone, L: NewLabel<T>> LabelledSequence<T, L> {
 }
 
 impl<T: Clone, L: NewLabel<T>> Tree<T, L> {
+    // Splits the tree, which has that many items, in place, and gives the last part. It is blocked if a part would have
+    // too few items for its height.
+    fn split_if_wide(
+        &mut self,
+        alloc: Global,
+        at: usize,
+        len: usize,
+    ) -> Result<Child<T, L>, Blocked>
+        requires copies { CopiesAreEqual T.is_clone × CopiesAreEqual L.is_clone }
+        requires len { len ≡ length self.old.0 }
+        requires within { at ≤ len }
+        ensures { MatchResult result (λ back. (self.new.0 ≡ take at self.old.0)
+            × (back.tree.0 ≡ drop at self.old.0) × (back.len ≡ length back.tree.0)) (λ _. self.new.0 ≡ self.old.0) }
+    {
+        let Ok(()) = self.shrink() else {
+            return Err(Blocked);
+        };
+        let Some(least) = 2usize.checked_pow(u32::from(self.height())) else {
+            return Err(Blocked);
+        };
+        if at < least || len - at < least {
+            return Err(Blocked);
+        }
+        let Ok(mut back) = self.split_in_place(alloc, at, least) else {
+            return Err(Blocked);
+        };
+        // Trees that are higher than need be are as good.
+        let _ = self.shrink();
+        let _ = back.tree.shrink();
+        Ok(back)
+    }
+
     // Both parts as new lists: the first `at` items, and the others.
     fn split_at(
         &self,

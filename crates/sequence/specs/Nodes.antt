@@ -113,3 +113,8 @@ module _ {T L : Type 0} (label_of : T → L) where
   pub record AreCut (place : ℕ) (old new : List (Child T L)) (right : Child T L) : Type 0 where
     pub halves : AreHalves (items_in old, height_in old) (items_in new, height_in new) right
     pub kept : length (items_in new) ≡ place
+
+  -- a full tree in two, each of which can lose an item, or a tree as it was
+  abbrev pub Splits : List T × ℕ → List T × ℕ → Option (Child T L) → Type 0
+  Splits old new None = new ≡ old
+  Splits old new (Some right) = AreHalves old new right × (CanLose new × CanLose right.tree)

@@ -1,8 +1,8 @@
 //! How a full node becomes two: the last of what it has moves into a block that was taken before.
-ghost use Rattle.std.specs.Prelude.{◌≡◌, ℕ, ◌+◌, ◌<◌, ◌^◌, ◌≤◌, IfNone, IfOk, IfSome, IsTrue, OnErr, OnOk};
+ghost use Rattle.std.specs.Prelude.{◌≡◌, ℕ, ◌+◌, ◌<◌, ◌^◌, ◌≤◌, IfNone, IfOk, IsTrue, MatchResult, OnErr, OnOk};
 ghost use Rattle.std.specs.Prelude.{drop, length, slice_index_or, take};
 ghost use Rattle.handles.specs.Copies.{CopiesAreEqual};
-ghost use Rattle.sequence.specs.Nodes.{AreChildren, AreHalves, CanLose, IsChild, IsList, IsNode, StandFor};
+ghost use Rattle.sequence.specs.Nodes.{AreChildren, AreHalves, CanLose, IsChild, IsList, IsNode, Splits, StandFor};
 ghost use Rattle.sequence.specs.Nodes.{height_in, items_in, seen};
 ghost use Rattle.sequence.specs.Spots.{Leads, past};
 
@@ -128,10 +128,8 @@ impl<T: Clone, L: NewLabel<T>> Child<T, L> {
         requires child { IsChild (self.old.tree.1 + 1) self.old }
         ensures child { OnOk result (IsChild (self.old.tree.1 + 1) self.new) }
         ensures label { self.new.label ≡ self.old.label }
-        ensures halves { IfOk result (λ half. IfSome half (AreHalves L.label_of self.old.tree self.new.tree)) }
-        ensures spare { IfOk result (λ half. IfSome half (λ right. CanLose self.new.tree × CanLose right.tree)) }
+        ensures split { MatchResult result (Splits L.label_of self.old.tree self.new.tree) (λ _. self.new ≡ self.old) }
         ensures whole { IfOk result (λ half. IfNone half (self.new ≡ self.old)) }
-        ensures refused { OnErr result (self.new ≡ self.old) }
     {
         let Some(right) = self.tree.split_node(alloc, ends)? else {
             return Ok(None);
@@ -146,10 +144,7 @@ impl<T: Clone, L: NewLabel<T>> Tree<T, L> {
     #[inline(never)]
     fn split_node(&mut self, alloc: Global, ends: bool) -> Result<Option<Child<T, L>>, AllocError>
         requires copies { CopiesAreEqual T.is_clone × CopiesAreEqual L.is_clone }
-        ensures halves { IfOk result (λ half. IfSome half (AreHalves L.label_of self.old self.new)) }
-        ensures spare { IfOk result (λ half. IfSome half (λ right. CanLose self.new × CanLose right.tree)) }
-        ensures whole { IfOk result (λ half. IfNone half (self.new ≡ self.old)) }
-        ensures refused { OnErr result (self.new ≡ self.old) }
+        ensures { MatchResult result (Splits L.label_of self.old self.new) (λ _. self.new ≡ self.old) }
     {
         let node = Arc::make_mut(&mut self.root, alloc)?;
         node.split_node(alloc, ends)
@@ -166,10 +161,8 @@ impl<T: Drop, L: NewLabel<T>> Node<T, L> {
         requires labels { CopiesAreEqual L.is_clone }
         requires node { IsNode L.label_of self.old }
         ensures node { IsNode L.label_of self.new }
-        ensures halves { IfOk result (λ half. IfSome half (AreHalves L.label_of (seen self.old) (seen self.new))) }
-        ensures spare { IfOk result (λ half. IfSome half (λ right. CanLose (seen self.new) × CanLose right.tree)) }
-        ensures whole { IfOk result (λ half. IfNone half (seen self.new ≡ seen self.old)) }
-        ensures refused { OnErr result (seen self.new ≡ seen self.old) }
+        ensures split { MatchResult result (Splits L.label_of (seen self.old) (seen self.new))
+            (λ _. seen self.new ≡ seen self.old) }
     {
         match self {
             Node::Leaf(items) if items.len() >= leaf_width(items) => {

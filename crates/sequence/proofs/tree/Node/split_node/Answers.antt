@@ -10,9 +10,11 @@ split_branch-requires-clause-sides g c =
     let more = sides _ keep.result (rw c.in-Branch.is at c.requires.node) keep.ensures.low high in
     (omega (arith, more.0), omega (arith, more.1))
 
-pub returns-in_ok-split_branch-in-Branch-clause-spare : goal.returns-in_ok-split_branch-in-Branch-clause-spare
-returns-in_ok-split_branch-in-Branch-clause-spare g c =
+pub returns-in_ok-split_branch-in-Branch-clause-split : goal.returns-in_ok-split_branch-in-Branch-clause-split
+returns-in_ok-split_branch-in-Branch-clause-split g c =
     let keep = c.kept-keep-in-Branch in
     let high : keep.result + 2 < length c.in-Branch.children.items = omega arith in
-    both_spare _ keep.result (rw c.in-Branch.is at c.requires.node) keep.ensures.low high _ _
-    c.in_ok-split_branch-in-Branch.ensures.kept c.in_ok-split_branch-in-Branch.ensures.halves
+    let done = c.in_ok-split_branch-in-Branch.ensures in (
+      rw c.in-Branch.is done.halves,
+      both_spare _ keep.result (rw c.in-Branch.is at c.requires.node) keep.ensures.low high _ _ done.kept done.halves,
+    )

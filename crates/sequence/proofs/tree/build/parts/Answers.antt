@@ -12,7 +12,7 @@ returns g c =
     let child = c.in_ok-into_child.field-0 in
     let same : child.tree ≡ seen c.off.node =
     c.in_ok-into_child.ensures.tree ∙ c.in_ok-tree.ensures ∙ c.fit.ensures.same
-    ∙ rw c.in_default.is at c.in_ok-child.ensures.whole in
+    ∙ rw c.in_default.is at c.in_ok-child.ensures.split in
     let level : IsChild (tree.1 + 1) child =
     subst (λ h. IsChild (h + 1) child) here.height
     (child_is (seen c.off.node) child same (c.in_ok-into_child.ensures.len ∙ here.len) here.wide) in
@@ -28,7 +28,7 @@ off-preserved g c =
     let tree = seen c.args.node in
     let before = c.off.invariant in
     let half = c.in-Some.child in
-    let halves = rw c.in-Some.is at c.in_ok-child.ensures.halves in
+    let halves = (rw c.in-Some.is at c.in_ok-child.ensures.split).0 in
     let level : IsChild (tree.1 + 1) half = subst (λ n. IsChild (n + 1) half) before.height halves.child in
     let lengths = ap (λ es. length es) halves.items in
     let more = length-append (seen c.split_node.new.self).0 half.tree.0 in

@@ -15,13 +15,12 @@ returns g c =
     let room = c.in_ok-reserve.ensures.items in
     let is = c.index_mut.ensures.value ∙ ap (λ cs. get_or cs spot.child d) room in
     let child = c.in_ok-right.ensures.child in
-    let halves = rw c.in-Some.is at c.in_ok-right.ensures.halves in
-    let spare = rw c.in-Some.is at c.in_ok-right.ensures.spare in
+    let halves = rw c.in-Some.is at c.in_ok-right.ensures.split in
     let left : c.index-3.result.now ≡ l = c.index-3.ensures
     ∙ get_or-set_same c.reserve.new.self.items spot.child l c.index-3.result.now
     (omega (arith, ap (λ cs. length cs) room, c.requires.within)) in
     let done = split_is cs spot.child d l r c.requires.children c.requires.within is child
-    halves c.in_ok-right.ensures.label spot.place c.index-3.result.now.len spare
+    halves.0 c.in_ok-right.ensures.label spot.place c.index-3.result.now.len halves.1
     (ap (λ child. child.len) left ∙ child.counted) in
     let items : c.insert.new.self.items ≡ insert (set cs spot.child l) (spot.child + 1) r =
     c.in-Ok.ensures.items ∙ ap (λ xs. insert (set xs spot.child l) (spot.child + 1) r) room in
@@ -43,5 +42,5 @@ returns-in_err-right-clause-same g c =
     let cs = c.args.children.now.items in
     subst (StandFor g.L.Label.label_of cs)
     (sym (written_back cs c.reserve.new.self.items c.args.spot.child c.index_mut.result.now c.split_node.new.self
-    c.index_mut.ensures.value c.in_err-right.ensures.refused c.in_ok-reserve.ensures.items))
+    c.index_mut.ensures.value c.in_err-right.ensures.split c.in_ok-reserve.ensures.items))
     (stand_itself cs c.requires.children)

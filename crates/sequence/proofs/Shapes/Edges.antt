@@ -1,7 +1,8 @@
 -- A place between two children, where a branch becomes two.
-use Rattle.std.proofs.Common.{◌≡◌, ◌+◌, ◌-◌, ◌/◌, ◌<◌, ◌≤◌, ◌^◌, ℕ, List, [], ◌∷◌, ◌++◌, length, take, drop, get_or, set}
-use Rattle.std.proofs.Common.{ap, sym, ◌∙◌, subst, arith, append-nil, inl, inr, length-append, length-set}
+use Rattle.std.proofs.Common.{◌≡◌, ◌+◌, ◌-◌, ◌/◌, ◌<◌, ◌≤◌, ◌^◌, ℕ, List, [], ◌∷◌, ◌++◌, length, take, drop, get_or}
+use Rattle.std.proofs.Common.{set, ap, sym, ◌∙◌, subst, arith, append-nil, inl, inr, length-append, length-set}
 use Rattle.std.specs.List.{insert}
+use Rattle.std.specs.Prelude.{Err, MatchResult, Ok, Result}
 use Rattle.std.proofs.lemmas.Bool.{cases_lt}
 use Rattle.std.proofs.lemmas.Grind.{pow_more}
 use Rattle.std.proofs.lemmas.List.{drop_all, length-take-le, take_more_set}
@@ -12,6 +13,7 @@ use Rattle.sequence.specs.declared.tree.search.Spot.{Spot}
 use Rattle.sequence.specs.Nodes.{AreChildren, AreCut, AreHalves, IsChild, StandFor, height_in, items_in}
 use Rattle.sequence.specs.Spots.{IsEdge, Leads, Parts}
 use Rattle.sequence.proofs.Nodes.Children.{items_append, length-parts}
+use Rattle.sequence.proofs.Nodes.Placed.{stand_on}
 use Rattle.sequence.proofs.Shapes.Joined.{split_stands}
 
 -- half of what a child one level higher has at least
@@ -19,9 +21,10 @@ pub half_is : (n h least : ℕ) → n + 1 ≡ h → least ≡ 2 ^ h → least / 
 half_is n h least up is = omega (arith, pow_more 2 n, is ∙ ap (λ (k : ℕ). 2 ^ k) (sym up))
 
 module _ {T L : Type 0} where
-  -- each side of a child has enough items for the height of these
+  -- each side of a place has enough items for the height of these
   abbrev pub AreWide : ℕ → List (Child T L) → Type 0
-  AreWide at cs = (2 ^ height_in cs ≤ length (items_in (take at cs))) × (2 ^ height_in cs ≤ length (items_in (drop at cs)))
+  AreWide at cs =
+      (2 ^ height_in cs ≤ length (items_in (take at cs))) × (2 ^ height_in cs ≤ length (items_in (drop at cs)))
 
   module _ (cs : List (Child T L)) (at : ℕ) where
     pub wide_at : (place least : ℕ) → IsEdge cs place at → least ≡ 2 ^ height_in cs → least ≤ place
@@ -82,15 +85,17 @@ module _ {T L : Type 0} {label_of : T → L} where
         ),
       )
 
-  -- a branch in two at the place of that child, if others stood for its children
-  pub cut_from : (cs there new : List (Child T L)) (r : Child T L) (place at : ℕ) → StandFor label_of cs there
-      → IsEdge there place at → AreCut label_of (length (items_in (take at there))) there new r
-      → AreCut label_of place cs new r
-  cut_from cs there new r place at same edge cut = record {
+  -- a branch in two at the place of that child or as it was, if others stood for its children
+  pub cut_through : {E : Type 0} (cs there new : List (Child T L)) (place at : ℕ) → StandFor label_of cs there
+      → IsEdge there place at → (r : Result (Child T L) E)
+      → MatchResult r (AreCut label_of (length (items_in (take at there))) there new) (λ _. StandFor label_of there new)
+      → MatchResult r (AreCut label_of place cs new) (λ _. StandFor label_of cs new)
+  cut_through cs there new place at same edge (Ok r) cut = record {
     halves = subst (λ (t : List T × ℕ). AreHalves label_of t (items_in new, height_in new) r)
         (λ i. (same.items i, same.height i)) cut.halves;
     kept = cut.kept ∙ sym edge.is;
   }
+  cut_through cs there new place at same edge (Err _) stands = stand_on cs there new same stands
 
   -- a branch in two, if others stood for its children, and others stand for those that it keeps
   pub cut_stands : (cs there left new : List (Child T L)) (r : Child T L) (at : ℕ) → StandFor label_of cs there
@@ -139,7 +144,8 @@ module _ {T L : Type 0} {label_of : T → L} where
   parts_are cs place least spot are is leads front back = record {
     within = leads.within;
     is = omega (arith, leads.is, leads.inner (omega arith));
-    least = λ d. half_is (get_or cs spot.child d).tree.1 (height_in cs) least (are.each spot.child d leads.within).level is;
+    least = λ d. half_is (get_or cs spot.child d).tree.1 (height_in cs) least
+        (are.each spot.child d leads.within).level is;
     front = front;
     back = back;
   }

@@ -1,12 +1,12 @@
 -- The child around the place is two, and each part of the branch has enough items.
-use Rattle.std.proofs.Common.{◌≡◌, ◌+◌, ◌/◌, ◌∙◌, ◌^◌, ◌<◌, ℕ, ap, arith, get_or, length, refl, set, subst, sym}
+use Rattle.std.proofs.Common.{◌+◌, ◌/◌, ◌∙◌, ◌^◌, ◌<◌, ℕ, ap, arith, get_or, length, refl, set, subst, sym}
 use Rattle.std.specs.List.{insert}
 use Rattle.sequence.specs.declared.tree.Child.{Child}
 use Rattle.sequence.specs.Nodes.{IsChild, StandFor}
 use Rattle.sequence.specs.Spots.{IsEdge, Parts}
 use Rattle.sequence.proofs.Calls.{both, of_two}
 use Rattle.sequence.proofs.Nodes.Placed.{left_in, stand_itself}
-use Rattle.sequence.proofs.Shapes.Edges.{cut_from, edge_between, edge_here, part_asks, wide_at}
+use Rattle.sequence.proofs.Shapes.Edges.{cut_through, edge_between, edge_here, part_asks, wide_at}
 use Rattle.sequence.proofs.tree.+split_in_place.Goals as goal
 use Rattle.sequence.proofs.tree.+split_in_place.Given as given
 use Rattle.sequence.proofs.tree.+split_in_place.Goals.{split_in_place::edge_at-In-Ok}
@@ -88,3 +88,10 @@ split_in_place::split_children-split_between-requires-clause-sides g t c =
     wide_at c.edge_at.new.children.items c.in-Ok.at c.args.place c.args.least c.in-Ok.ensures.1
     (c.requires.least ∙ ap (λ n. 2 ^ n) (sym same.height)) c.requires.front
     (omega (arith, c.requires.back, ap (λ es. length es) same.items))
+
+pub split_in_place::split_children-returns : goal.split_in_place::split_children-returns
+split_in_place::split_children-returns g t c = record {
+  children = c.split_between.ensures.children;
+  cut = cut_through c.args.children.now.items c.edge_at.new.children.items c.split_between.new.children.items
+      c.args.place c.in-Ok.at c.in-Ok.ensures.0 c.in-Ok.ensures.1 c.split_between.result c.split_between.ensures.cut;
+}

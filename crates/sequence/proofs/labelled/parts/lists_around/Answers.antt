@@ -1,4 +1,4 @@
-use Rattle.std.proofs.Common.{◌+◌, ◌^◌, ◌<◌, arith, drop, length, subst, sym}
+use Rattle.std.proofs.Common.{◌+◌, ◌^◌, ◌<◌, arith, length, subst, sym}
 use Rattle.std.proofs.lemmas.List.{take_rest}
 use Rattle.sequence.specs.Nodes.{AreLevel, items_in}
 use Rattle.sequence.proofs.Nodes.Children.{length-parts}

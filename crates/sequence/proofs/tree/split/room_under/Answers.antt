@@ -1,6 +1,8 @@
 use Rattle.std.proofs.Common.{◌≡◌, ◌+◌, ◌∙◌, ap, arith, get_or, get_or-set_same, length, set, subst, sym}
 use Rattle.std.specs.List.{insert}
-use Rattle.sequence.specs.Nodes.{StandFor}
+use Rattle.sequence.specs.declared.tree.Child.{Child}
+use Rattle.sequence.specs.Nodes.{CanLose, StandFor}
+use Rattle.sequence.specs.Spots.{Leads}
 use Rattle.sequence.proofs.Shapes.Joined.{IsRoom, split_is, written_back}
 use Rattle.sequence.proofs.Nodes.Placed.{child_here, stand_itself}
 use Rattle.sequence.proofs.tree.split.room_under.Goals as goal
@@ -44,3 +46,29 @@ returns-in_err-right-clause-same g c =
     (sym (written_back cs c.reserve.new.self.items c.args.spot.child c.index_mut.result.now c.split_node.new.self
     c.index_mut.ensures.value c.in_err-right.ensures.split c.in_ok-reserve.ensures.items))
     (stand_itself cs c.requires.children)
+
+pub returns-then-not-is_full : goal.returns-then-not-is_full
+returns-then-not-is_full g c = record {
+  same = stand_itself c.args.children.now.items c.requires.children;
+  leads = λ place leads. leads;
+  spare = λ spare. spare;
+}
+
+pub returns-in_default : goal.returns-in_default
+returns-in_default g c =
+    let cs = c.args.children.now.items in
+    let spot = c.args.spot in
+    let new = c.split_node.new.self in
+    let back = written_back cs c.reserve.new.self.items spot.child c.index_mut.result.now new c.index_mut.ensures.value
+    (rw c.in_default.is at c.in_ok-right.ensures.whole) c.in_ok-reserve.ensures.items in
+    record {
+      same = subst (StandFor g.L.Label.label_of cs) (sym back) (stand_itself cs c.requires.children);
+      leads = λ place leads. subst (λ xs. Leads xs place spot) (sym back) leads;
+      spare = λ spare. subst (λ xs. (d : Child g.row.T.Denot g.row.L.Denot) → CanLose (get_or xs spot.child d).tree)
+          (sym back) spare;
+    }
+
+pub returns-in_err-reserve-clause-same : goal.returns-in_err-reserve-clause-same
+returns-in_err-reserve-clause-same g c =
+    let cs = c.args.children.now.items in
+    subst (StandFor g.L.Label.label_of cs) (sym c.reserve.ensures.items) (stand_itself cs c.requires.children)

@@ -1,4 +1,4 @@
-use Rattle.std.proofs.Common.{◌∙◌, ap, arith, length}
+use Rattle.std.proofs.Common.{ap, arith}
 use Rattle.std.proofs.lemmas.List.{get_or_default}
 use Rattle.sequence.proofs.Shapes.Edges.{parts_are}
 use Rattle.sequence.proofs.tree.split_in_place.spot_around.Goals as goal

@@ -2,17 +2,20 @@
 use Rattle.std.proofs.Common.{◌≡◌, ◌+◌, ◌<◌, ◌≤◌, ◌^◌, ℕ, zero, suc, Bool, List, [], ◌∷◌, ◌++◌, length, take, drop}
 use Rattle.std.proofs.Common.{get_or, set, refl, ap, sym, ◌∙◌, subst, arith, inl, inr, true, true≢false, false, ◌⊎◌}
 use Rattle.std.specs.Int.{from_bool}
-use Rattle.std.specs.Prelude.{IfOk, IsTrue, None, OnErr, Option, Some, Ok, Err, Result, cond, is_some, not}
+use Rattle.std.specs.Prelude.{IfErr, IfOk, IsErrAnd, IsTrue, MatchResult, None, OnErr, Option, Some, Ok, Err, Result, cond}
+use Rattle.std.specs.Prelude.{is_some, not}
+use Rattle.std.proofs.lemmas.Nat.{pow_pos}
 use Rattle.std.proofs.lemmas.Option.{none-some}
 use Rattle.sequence.specs.declared.tree.Child.{Child}
-use Rattle.sequence.specs.Acts.{IsActed, OfSought, comes, gone, last_of}
+use Rattle.sequence.specs.Acts.{IsActed, IsActedIn, OfSought, comes, gone, last_of}
 use Rattle.sequence.specs.Cuts.{HasCut, IsAmong, IsCut, first}
-use Rattle.sequence.specs.Nodes.{AreChildren, CanLose, IsChild, StandFor, first_label, height_in, items_in}
+use Rattle.sequence.specs.Nodes.{AreChildren, CanLose, IsChild, IsList, StandFor, first_label, height_in, items_in}
 use Rattle.sequence.proofs.Nodes.Children.{items_set, items_split}
-use Rattle.sequence.proofs.Cuts.{Holds, cut_there, first_is, holds_all, none_front}
+use Rattle.sequence.proofs.Cuts.{Holds, cut_there, first_is, has_part, holds_all, none_front}
+use Rattle.sequence.proofs.Cutting.Acts.{read_again}
 use Rattle.sequence.proofs.Cutting.Labels.{holds_child}
 use Rattle.sequence.proofs.Nodes.Labelled.{labelled_at, labelled_by}
-use Rattle.sequence.proofs.Nodes.Placed.{child_here, left_in, put_under, stand_itself}
+use Rattle.sequence.proofs.Nodes.Placed.{child_here, child_within, left_in, put_under, stand_itself}
 use Rattle.sequence.proofs.Lists.Spliced.{length-spliced}
 
 module _ {T : Type 0} (test : T → Bool) (part all : List T) (start : ℕ) (has : HasCut test all)
@@ -93,6 +96,30 @@ module _ {T L : Type 0} (label_of : T → L) where
         let place : before ≡ 0 + before = omega arith in
         subst (λ (c : Child T L). Holds test c.tree.0 before (items_in cs)) (sym is)
         (holds_child test cs i d 0 before (items_in cs) h has (holds_all test (items_in cs)) under place)
+
+-- what is read through references
+module _ {T L : Type 0} (cs : List (Child T L)) (i : ℕ) (read : List (Child T L)) (same : read ≡ cs) where
+  pub within_read : i < length read → i < length cs
+  within_read = subst (λ (cs : List (Child T L)). i < length cs) same
+
+  pub read_twice : (e d : Child T L) → i < length read → e ≡ get_or cs i e → d ≡ get_or cs i d → d ≡ e
+  read_twice e d h is was = read_again cs i e (omega (arith, within_read h)) is d was
+
+  pub among_read : {W : Type 0} (is_before : W → T → Bool) (way now : W) → now ≡ way
+      → IsAmong (length (items_in (take i read))) (length (items_in (take (i + 1) read)))
+      (first (is_before now) (items_in read))
+      → IsAmong (length (items_in (take i cs))) (length (items_in (take (i + 1) cs)))
+      (first (is_before way) (items_in cs))
+  among_read is_before way now to among =
+      subst (λ (cs : List (Child T L)). IsAmong (length (items_in (take i cs))) (length (items_in (take (i + 1) cs)))
+      (first (is_before way) (items_in cs))) same
+      (subst (λ w. IsAmong (length (items_in (take i read))) (length (items_in (take (i + 1) read)))
+      (first (is_before w) (items_in read))) to among)
+
+pub cut_read : {W T : Type 0} (is_before : W → T → Bool) (way now : W) → now ≡ way → (es read : List T) → read ≡ es
+    → (tree : List T × ℕ) → es ≡ tree.0 → HasCut (is_before way) tree.0 → HasCut (is_before now) read
+cut_read is_before way now to es read same tree all cut =
+    subst (λ w. HasCut (is_before w) read) (sym to) (subst (HasCut (is_before way)) (sym (same ∙ all)) cut)
 
 -- the child of that number, where the cut of the tree of that branch is, with an item to spare if it may lose one
 pub record IsUnder {T L : Type 0} (label_of : T → L) (test : T → Bool) (loses : Bool) (tree : List T × ℕ)
@@ -183,3 +210,100 @@ module _ {T L R : Type 0} (label_of : T → L) (test : T → Bool) (does : Optio
         first = λ l. ap (λ (es : List T). first_label label_of es) items;
         blocked = items;
       }
+
+module _ {T L : Type 0} (label_of : T → L) (test : T → Bool) (loses : Bool) (tree : List T × ℕ) (cs : List (Child T L))
+    (i : ℕ) (d : Child T L) (under : IsUnder label_of test loses tree cs i d) where
+  -- the child is lower than the branch
+  pub lower_under : (t : ℕ) → tree.1 ≡ t → d.tree.1 < t
+  lower_under t is =
+      let level = (under.are.each i d under.within).level in
+      omega (arith, is, ap (λ (t : List T × ℕ). t.1) under.same, ap (λ (c : Child T L). c.tree.1) under.is, level)
+
+  -- it has the cut
+  holds_under : Holds test d.tree.0 (length (items_in (take i cs))) (items_in cs)
+  holds_under = child_holds label_of cs i d d under.within under.is test under.has under.among
+
+  pub cut_under : HasCut test d.tree.0
+  cut_under = has_part test d.tree.0 (items_in cs) (length (items_in (take i cs))) under.has holds_under
+
+  -- and what is asked for of the sought item
+  pub needs_under : (sought : T → Bool) (needs : T → Type 0) → OfSought sought test needs tree.0
+      → OfSought sought test needs d.tree.0
+  needs_under sought needs asked =
+      sought_there test d.tree.0 (items_in cs) (length (items_in (take i cs))) under.has holds_under sought needs
+      (subst (λ (t : List T × ℕ). OfSought sought test needs t.0) (sym under.same) asked)
+
+  pub spare_under : loses ≡ true → 1 < length d.tree.0
+  spare_under so = omega (arith, under.spare so, pow_pos d.tree.1)
+
+  pub room_under : length tree.0 + 1 < 2 ^ 64 → length d.tree.0 + 1 < 2 ^ 64
+  room_under room =
+      let all = ap (λ (t : List T × ℕ). length t.0) under.same in
+      omega (arith, child_within cs i d under.are under.within under.is, all, room)
+
+  -- it counts its items
+  pub some_under : 0 < d.len
+  some_under =
+      let child = child_here cs i d under.are under.within under.is in
+      omega (arith, child.counted, child.wide, pow_pos d.tree.1)
+
+  pub count_under : length tree.0 + 1 < 2 ^ 64 → d.len + 1 < 2 ^ 64
+  count_under room =
+      omega (arith, (child_here cs i d under.are under.within under.is).counted, room_under room)
+
+module _ {T R E : Type 0} (test : T → Bool) (does : Option R → Option T → List T → Type 0) (grows loses : Bool) where
+  -- a leaf is a list after the act on it too
+  pub list_acted : (old new : List T) (r : Result (Option R) E) → IfOk r (IsActed test does grows loses old new)
+      → OnErr r (new ≡ old) → IsList old → (loses ≡ true → 1 < length old) → length old + 1 < 2 ^ 64 → IsList new
+  list_acted old new (Ok answer) did blocked list spare room =
+      let one = bit (cond (is_some answer) (not loses) grows) in
+      let long : length new + gone answer ≡ length old + length did.more =
+      omega (
+        arith,
+        ap (length {A = T}) did.items,
+        length-spliced did.at (gone answer) did.more old did.cut.within,
+      ) in
+      record {
+        some = wide_after grows loses answer 1 (length old) (length new) (length did.more) list.some long did.come spare;
+        room = omega (arith, long, did.come, one, room);
+      }
+  list_acted old new (Err e) did blocked list spare room = subst IsList (sym blocked) list
+
+  module _ {L : Type 0} (label_of : T → L) (labelled : Bool) (tree now : List T × ℕ) where
+    -- so has a tree whose only node is that leaf
+    pub leaf_acted : (act : E) (old new : List T) (r : Result (Option R) E) → (old, 0) ≡ tree → now ≡ (new, 0)
+        → IfOk r (IsActed test does grows loses old new)
+        → (IsTrue labelled → first_label label_of new ≡ first_label label_of old) → OnErr r (new ≡ old)
+        → IfErr r (λ back. back ≡ act)
+        → MatchResult r (IsActedIn label_of labelled test does grows loses tree now)
+        (λ back. (now ≡ tree) × (back ≡ act))
+    leaf_acted act old new (Ok answer) same is did first blocked back =
+        record {
+          acted = subst (λ (t : List T × ℕ). IsActed test does grows loses tree.0 t.0 answer) (sym is)
+              (subst (λ (t : List T × ℕ). IsActed test does grows loses t.0 new answer) same did);
+          height = ap (λ (t : List T × ℕ). t.1) is ∙ ap (λ (t : List T × ℕ). t.1) same;
+          first = λ l. ap (λ (t : List T × ℕ). first_label label_of t.0) is ∙ first l
+              ∙ ap (λ (t : List T × ℕ). first_label label_of t.0) same;
+        }
+    leaf_acted act old new (Err e) same is did first blocked back =
+        (is ∙ ap (λ (es : List T). (es, 0)) blocked ∙ same, back)
+
+    -- and a tree whose first node is that branch
+    pub branch_acted : (new : List (Child T L)) (answer : Option R) → now ≡ (items_in new, height_in new)
+        → IsDone {E = E} label_of test does grows loses labelled tree new (Ok answer)
+        → IsActedIn label_of labelled test does grows loses tree now answer
+    branch_acted new answer is done = record {
+      acted = subst (λ (t : List T × ℕ). IsActed test does grows loses tree.0 t.0 answer) (sym is) done.done;
+      height = ap (λ (t : List T × ℕ). t.1) is ∙ done.height;
+      first = λ l. ap (λ (t : List T × ℕ). first_label label_of t.0) is ∙ done.first l;
+    }
+
+    pub branch_left : (act : E) (r : Result (Option R) E) (e : E) (new : List (Child T L))
+        → now ≡ (items_in new, height_in new)
+        → IsDone {R = R} {E = Unit {0}} label_of test does grows loses labelled tree new (Err tt)
+        → IsErrAnd r (λ back. back ≡ e) → e ≡ act
+        → MatchResult r (IsActedIn label_of labelled test does grows loses tree now)
+        (λ back. (now ≡ tree) × (back ≡ act))
+    branch_left act (Ok answer) e new is left refused back = absurd refused
+    branch_left act (Err again) e new is left refused back =
+        (is ∙ (λ i. (left.blocked i, left.height i)), refused ∙ back)

@@ -1,21 +1,20 @@
 -- The leaf is changed, or the child of the branch where the cut is.
-use Rattle.std.proofs.Common.{◌≡◌, ◌∙◌, ◌+◌, ℕ, ap, arith, rules, length, refl, set, subst, sym, take, true≢false}
-use Rattle.std.proofs.lemmas.Nat.{pow_pos}
+use Rattle.std.proofs.Common.{◌≡◌, ◌∙◌, ◌+◌, ◌<◌, ◌^◌, ℕ, ap, length, refl, set, subst, sym, true≢false}
 use Rattle.std.proofs.lemmas.Bool.{lt-ltb, or_left, or_right}
-use Rattle.std.specs.Prelude.{Err, IfOk, List, IsOk, IsTrue, Ok, OnErr, Option, Result, nat_lt, ◌||◌}
-use Rattle.sequence.specs.declared.tree.Node.TheVariants.{Branch}
+use Rattle.std.specs.Prelude.{Err, IfNone, IfOk, IfSome, IsTrue, Ok, OnErr, Option, Result, is_ok, nat_lt, ◌||◌}
+use Rattle.sequence.specs.declared.tree.Node.TheVariants.{Branch, Leaf}
 use Rattle.sequence.specs.Acts.{IsActed, OfSought, comes, gone}
-use Rattle.sequence.specs.Cuts.{HasCut}
-use Rattle.sequence.specs.Nodes.{CanLose, first_label, items_in}
-use Rattle.sequence.proofs.Cutting.Acted.{IsDone, IsUnder, acted_under, child_holds, not_thin, sought_there}
-use Rattle.sequence.proofs.Cutting.Acts.{read_again}
-use Rattle.sequence.proofs.Calls.{both, of_five}
+use Rattle.sequence.specs.Cuts.{HasCut, IsCut}
+use Rattle.sequence.specs.Nodes.{AreChildren, CanLose, IsNode, first_label, items_in, seen}
+use Rattle.sequence.proofs.Cutting.Acted.{IsDone, IsUnder, acted_under, among_read, branch_acted, branch_left}
+use Rattle.sequence.proofs.Cutting.Acted.{count_under}
+use Rattle.sequence.proofs.Cutting.Acted.{cut_read, cut_under, leaf_acted, list_acted, lower_under, needs_under}
+use Rattle.sequence.proofs.Cutting.Acted.{not_thin, read_twice, room_under, some_under, spare_under, within_read}
+use Rattle.sequence.proofs.Calls.{both, kept_at, of_five}
 use Rattle.sequence.proofs.Nodes.Copied.{IsMade, made}
-use Rattle.sequence.proofs.Cuts.{has_part}
-use Rattle.sequence.proofs.Nodes.Placed.{child_here, child_within}
 use Rattle.sequence.proofs.tree.Tree.+act.Given as given
 use Rattle.sequence.proofs.tree.Tree.+act.Goals as goal
-use Rattle.sequence.proofs.tree.Tree.+act.Goals.{After-act-2, After-act-arg-1, In-Branch}
+use Rattle.sequence.proofs.tree.Tree.+act.Goals.{After-act-2, After-act-arg-1, In-Branch, In-Leaf}
 use Rattle.sequence.proofs.tree.Tree.+act.Goals.{else-LOSES-via-else-LOSES}
 use Rattle.sequence.proofs.tree.Tree.+act.Goals.{else-LOSES-via-then-LOSES+else-is_thin}
 
@@ -23,8 +22,8 @@ use Rattle.sequence.proofs.tree.Tree.+act.Goals.{else-LOSES-via-then-LOSES+else-
 branch : (g : given.Over) (t : ℕ) (c : In-Branch g t)
     → IsMade g.L.Label.label_of c.args.self.now (Branch c.in-Branch.children)
 branch g t c =
-    rw c.in-Branch.is at (made g.L.Label.label_of c.args.self.now c.self.inside.root c.in-Ok.node.now c.self.invariant
-    c.self.view_is c.in-Ok.ensures.value c.requires.copies)
+    subst (IsMade g.L.Label.label_of c.args.self.now) c.in-Branch.is (made g.L.Label.label_of c.args.self.now
+    c.self.inside.root c.in-Ok.node.now c.self.invariant c.self.view_is c.in-Ok.ensures.value c.requires.copies)
 
 -- the child where the cut is
 under : (g : given.Over) (t : ℕ) (c : After-act-arg-1 g t)
@@ -36,18 +35,18 @@ under g t c node =
     let cs = c.in-Branch.children.items in
     let at = c.child_of-at.result in
     let d = c.index_mut-child.result.now in
-    let found = rw c.way-2.ensures at (rw c.deref-2.ensures.value at c.child_of-at.ensures) in
     record {
       are = node.whole;
       same = node.same;
       has = subst (λ tree. HasCut test tree.0) (sym node.same) c.requires.cut;
-      within = found.within;
+      within = within_read cs at c.deref-2.result.now c.deref-2.ensures.value c.child_of-at.ensures.within;
       is = c.index_mut-child.ensures.value;
-      among = found.among;
+      among = among_read cs at c.deref-2.result.now c.deref-2.ensures.value g.A.Way.Cut.is_before
+          (g.A.Act.way c.args.act) c.way-2.result.now c.way-2.ensures c.child_of-at.ensures.among;
       spare = elim c.else-LOSES.branch [
         | else-LOSES-via-then-LOSES+else-is_thin w ↦ λ loses.
-            let same = read_again cs at w.index.result.now (omega (arith, found.within)) w.index.ensures d
-            c.index_mut-child.ensures.value in
+            let same = read_twice cs at c.deref-2.result.now c.deref-2.ensures.value w.index.result.now d
+            c.child_of-at.ensures.within w.index.ensures c.index_mut-child.ensures.value in
             subst (λ child. CanLose child.tree) (sym same)
             (not_thin w.is_thin.result w.index.result.now.tree w.is_thin.ensures w.if-is_thin.false)
         | else-LOSES-via-else-LOSES w ↦ λ loses.
@@ -55,57 +54,137 @@ under g t c node =
       ];
     }
 
+-- the leaf too
+leaf : (g : given.Over) (t : ℕ) (c : In-Leaf g t) → IsMade g.L.Label.label_of c.args.self.now (Leaf c.in-Leaf.items)
+leaf g t c =
+    subst (IsMade g.L.Label.label_of c.args.self.now) c.in-Leaf.is (made g.L.Label.label_of c.args.self.now
+    c.self.inside.root c.in-Ok.node.now c.self.invariant c.self.view_is c.in-Ok.ensures.value c.requires.copies)
+
+pub returns-then-not-is_unique : goal.returns-then-not-is_unique
+returns-then-not-is_unique g t c = (refl, refl)
+
+pub invariant_of-self : goal.invariant_of-self
+invariant_of-self g t c =
+    subst (IsNode g.L.Label.label_of) (sym (kept_at c.make_mut.result c.in_default.field-0 c.in_default.is
+    c.make_mut.follows.holds-at-none)) c.self.invariant
+
+pub returns-in_default : goal.returns-in_default
+returns-in_default g t c = (
+  ap (λ node. seen node) (kept_at c.make_mut.result c.in_default.field-0 c.in_default.is
+      c.make_mut.follows.holds-at-none) ∙ c.self.view_is,
+  refl,
+)
+
+pub last_in-last-requires-clause-cut : goal.last_in-last-requires-clause-cut
+last_in-last-requires-clause-cut g t c =
+    let leaf = leaf g t (goal.at.last_in-last-requires-clause-cut g t c).In-Leaf in
+    cut_read g.A.Way.Cut.is_before (g.A.Act.way c.args.act) c.way.result.now c.way.ensures c.in-Leaf.items.items
+    c.deref.result.now c.deref.ensures.value c.args.self.now (ap (λ t. t.0) leaf.same) c.requires.cut
+
+pub last_in-last-requires-clause-some : goal.last_in-last-requires-clause-some
+last_in-last-requires-clause-some g t c =
+    let leaf = leaf g t (goal.at.last_in-last-requires-clause-some g t c).In-Leaf in
+    subst (λ es. 0 < length es) (sym c.deref.ensures.value) leaf.whole.some
+
+pub act-requires-clause-none : goal.act-requires-clause-none
+act-requires-clause-none g t c =
+    let last = c.last_in-last.result in
+    subst (λ es. IfNone last (IsCut (g.A.Way.Cut.is_before (g.A.Act.way c.args.act)) es 0)) c.deref.ensures.value
+    (subst (λ way. IfNone last (IsCut (g.A.Way.Cut.is_before way) c.deref.result.now 0)) c.way.ensures
+    c.last_in-last.ensures.none)
+
+pub act-requires-clause-some : goal.act-requires-clause-some
+act-requires-clause-some g t c =
+    let last = c.last_in-last.result in
+    subst (λ es. IfSome last (λ at. IsCut (g.A.Way.Cut.is_before (g.A.Act.way c.args.act)) es (at + 1)))
+    c.deref.ensures.value (subst (λ way. IfSome last (λ at. IsCut (g.A.Way.Cut.is_before way) c.deref.result.now
+    (at + 1))) c.way.ensures c.last_in-last.ensures.some)
+
 pub act-requires-clause-needs : goal.act-requires-clause-needs
 act-requires-clause-needs g t c =
-    let items : c.in-Leaf.items.items ≡ c.args.self.now.0 = search rules in
-    subst (λ es. OfSought (g.A.Way.Seek.is_sought (g.A.Act.way c.args.act))
-    (g.A.Way.Cut.is_before (g.A.Act.way c.args.act)) (g.A.Act.needs c.args.act) es) (sym items) c.requires.needs
+    let leaf = leaf g t (goal.at.act-requires-clause-needs g t c).In-Leaf in
+    let way = g.A.Act.way c.args.act in
+    subst (λ t. OfSought (g.A.Way.Seek.is_sought way) (g.A.Way.Cut.is_before way) (g.A.Act.needs c.args.act) t.0)
+    (sym leaf.same) c.requires.needs
 
-pub child_of-at-requires : goal.child_of-at-requires
-child_of-at-requires g t c =
-    let test = g.A.Way.Cut.is_before (g.A.Act.way c.args.act) in
-    let node = branch g t (goal.at.child_of-at-requires g t c).In-Branch in
-    let has = subst (λ tree. HasCut test tree.0) (sym node.same) c.requires.cut in
-    rw c.way-2.ensures (rw c.deref-2.ensures.value (record { children = node.whole; cut = has }))
+pub act-requires-clause-room : goal.act-requires-clause-room
+act-requires-clause-room g t c =
+    let leaf = leaf g t (goal.at.act-requires-clause-room g t c).In-Leaf in
+    subst (λ t. length t.0 + 1 < 2 ^ 64) (sym leaf.same) c.requires.room
+
+pub invariant_of-self-in-Leaf : goal.invariant_of-self-in-Leaf
+invariant_of-self-in-Leaf g t c =
+    let leaf = leaf g t (goal.at.invariant_of-self-in-Leaf g t c).In-Leaf in
+    let way = g.A.Act.way c.args.act in
+    subst (IsNode g.L.Label.label_of) (sym (c.make_mut.follows.holds (Leaf c.act.new.items)
+    (ap (λ r. is_ok r) c.in-Ok.is)))
+    (list_acted (g.A.Way.Cut.is_before way) (g.A.Act.does c.args.act) g.A.Act.GROWS g.A.Act.LOSES c.in-Leaf.items.items
+    c.act.new.items.items c.act.result c.act.ensures.done c.act.ensures.blocked leaf.whole
+    (subst (λ t. IsTrue g.A.Act.LOSES → 1 < length t.0) (sym leaf.same) c.requires.spare)
+    (subst (λ t. length t.0 + 1 < 2 ^ 64) (sym leaf.same) c.requires.room))
+
+pub returns-in-Leaf : goal.returns-in-Leaf
+returns-in-Leaf g t c =
+    let leaf = leaf g t (goal.at.returns-in-Leaf g t c).In-Leaf in
+    leaf_acted (g.A.Way.Cut.is_before (g.A.Act.way c.args.act)) (g.A.Act.does c.args.act) g.A.Act.GROWS
+    g.A.Act.LOSES g.L.Label.label_of c.args.labelled c.args.self.now _ c.args.act c.in-Leaf.items.items
+    c.act.new.items.items c.act.result leaf.same (ap (λ node. seen node)
+    (c.make_mut.follows.holds (Leaf c.act.new.items) (ap (λ r. is_ok r) c.in-Ok.is)))
+    c.act.ensures.done c.act.ensures.first c.act.ensures.blocked c.act.ensures.back
+
+pub child_of-at-requires-clause-children : goal.child_of-at-requires-clause-children
+child_of-at-requires-clause-children g t c =
+    let node = branch g t (goal.at.child_of-at-requires-clause-children g t c).In-Branch in
+    subst (AreChildren g.L.Label.label_of) (sym c.deref-2.ensures.value) node.whole
+
+pub child_of-at-requires-clause-cut : goal.child_of-at-requires-clause-cut
+child_of-at-requires-clause-cut g t c =
+    let node = branch g t (goal.at.child_of-at-requires-clause-cut g t c).In-Branch in
+    cut_read g.A.Way.Cut.is_before (g.A.Act.way c.args.act) c.way-2.result.now c.way-2.ensures
+    (items_in c.in-Branch.children.items) (items_in c.deref-2.result.now)
+    (ap (λ cs. items_in cs) c.deref-2.ensures.value) c.args.self.now (ap (λ t. t.0) node.same) c.requires.cut
 
 pub invariant_of-self-then-is_thin : goal.invariant_of-self-then-is_thin
 invariant_of-self-then-is_thin g t c =
-    let ok : IsOk c.make_mut.result = search rules in
-    rw c.make_mut.follows.holds ((branch g t (goal.at.invariant_of-self-then-is_thin g t c).In-Branch).whole)
+    subst (IsNode g.L.Label.label_of) (sym (c.make_mut.follows.holds (Branch c.in-Branch.children)
+    (ap (λ r. is_ok r) c.in-Ok.is)))
+    (branch g t (goal.at.invariant_of-self-then-is_thin g t c).In-Branch).whole
+
+pub returns-then-is_thin : goal.returns-then-is_thin
+returns-then-is_thin g t c = (
+  ap (λ node. seen node) (c.make_mut.follows.holds (Branch c.in-Branch.children) (ap (λ r. is_ok r) c.in-Ok.is))
+      ∙ (branch g t (goal.at.returns-then-is_thin g t c).In-Branch).same,
+  refl,
+)
 
 pub act-requires-2 : goal.act-requires-2
 act-requires-2 g t c κs within =
     let at = goal.at.act-requires-2 g t c in
     let u = under g t at.After-act-arg-1 (branch g t at.In-Branch) in
     let test = g.A.Way.Cut.is_before (g.A.Act.way c.args.act) in
-    let sought = g.A.Way.Seek.is_sought (g.A.Act.way c.args.act) in
     let cs = c.in-Branch.children.items in
     let i = c.child_of-at.result in
     let d = c.index_mut-child.result.now in
-    let all = items_in cs in
-    let holds = child_holds g.L.Label.label_of cs i d d u.within u.is test u.has u.among in
-    let start = length (items_in (take i cs)) in
-    let asks = g.A.Act.needs c.args.act in
-    let needs = subst (λ tree. OfSought sought test asks tree.0) (sym u.same) c.requires.needs in
-    let level = (u.are.each i d u.within).level in
-    of_five (omega (arith, c.decreases, ap (λ t. t.1) u.same, ap (λ child. child.tree.1) u.is, level)) within
-    (both c.requires.copies (both (has_part test d.tree.0 all start u.has holds)
-    (both (sought_there test d.tree.0 all start u.has holds sought asks needs)
-    (both (λ loses. omega (arith, u.spare loses, pow_pos d.tree.1))
-    (omega (arith, child_within cs i d u.are u.within u.is, ap (λ t. length t.0) u.same, c.requires.room))))))
+    let label = g.L.Label.label_of in
+    let loses = g.A.Act.LOSES in
+    let tree = c.args.self.now in
+    of_five (lower_under label test loses tree cs i d u t c.decreases) within (both c.requires.copies
+    (both (cut_under label test loses tree cs i d u) (both (needs_under label test loses tree cs i d u
+    (g.A.Way.Seek.is_sought (g.A.Act.way c.args.act)) (g.A.Act.needs c.args.act) c.requires.needs)
+    (both (spare_under label test loses tree cs i d u) (room_under label test loses tree cs i d u c.requires.room)))))
 
 pub len_after-child-requires : goal.len_after-child-requires
 len_after-child-requires g t c =
     let at = goal.at.len_after-child-requires g t c in
     let u = under g t at.After-act-arg-1 (branch g t at.In-Branch) in
+    let test = g.A.Way.Cut.is_before (g.A.Act.way c.args.act) in
+    let label = g.L.Label.label_of in
     let cs = c.in-Branch.children.items in
     let i = c.child_of-at.result in
     let d = c.index_mut-child.result.now in
-    let child = child_here cs i d u.are u.within u.is in
-    let all = ap (λ t. length t.0) u.same in
     record {
-      some = omega (arith, child.counted, child.wide, pow_pos d.tree.1);
-      room = omega (arith, child.counted, child_within cs i d u.are u.within u.is, all, c.requires.room);
+      some = some_under label test g.A.Act.LOSES c.args.self.now cs i d u;
+      room = count_under label test g.A.Act.LOSES c.args.self.now cs i d u c.requires.room;
     }
 
 -- the branch after the act on the child, by what it answers
@@ -146,37 +225,36 @@ left g t c under same =
 
 pub invariant_of-self-in_err-gone : goal.invariant_of-self-in_err-gone
 invariant_of-self-in_err-gone g t c =
-    let ok : IsOk c.make_mut.result = search rules in
     let at = goal.at.invariant_of-self-in_err-gone g t c in
     let u = under g t at.After-act-arg-1 (branch g t at.In-Branch) in
-    rw c.make_mut.follows.holds (left g t at.After-act-2 u c.in_err-gone.ensures.0).whole
+    subst (IsNode g.L.Label.label_of) (sym (c.make_mut.follows.holds _ (ap (λ r. is_ok r) c.in-Ok.is)))
+    (left g t at.After-act-2 u c.in_err-gone.ensures.0).whole
 
 pub returns-in_err-gone : goal.returns-in_err-gone
 returns-in_err-gone g t c =
-    let ok : IsOk c.make_mut.result = search rules in
     let at = goal.at.returns-in_err-gone g t c in
     let u = under g t at.After-act-arg-1 (branch g t at.In-Branch) in
-    let stays = left g t at.After-act-2 u c.in_err-gone.ensures.0 in
-    let same : c.act-2.new.self ≡ c.index_mut-child.result.now.tree = c.in_err-gone.ensures.0 in
-    let whole : ◌≡◌ {A = List g.row.T.Denot × ℕ} _ c.args.self.now = λ i. (stays.blocked i, stays.height i) in
-    rw c.make_mut.follows.holds (search (rules, whole))
+    branch_left (g.A.Way.Cut.is_before (g.A.Act.way c.args.act)) (g.A.Act.does c.args.act) g.A.Act.GROWS
+    g.A.Act.LOSES g.L.Label.label_of c.args.labelled c.args.self.now _ c.args.act c.from_residual.result
+    c.in_err-gone.field-0.0 _ (ap (λ node. seen node) (c.make_mut.follows.holds _ (ap (λ r. is_ok r) c.in-Ok.is)))
+    (left g t at.After-act-2 u c.in_err-gone.ensures.0) c.from_residual.ensures.1 c.in_err-gone.ensures.1
 
 pub invariant_of-self-2 : goal.invariant_of-self-2
 invariant_of-self-2 g t c =
-    let ok : IsOk c.make_mut.result = search rules in
     let at = goal.at.invariant_of-self-2 g t c in
     let u = under g t at.After-act-arg-1 (branch g t at.In-Branch) in
     let did = c.in_ok-gone.ensures in
     let done = after g t at.After-act-2 u c.len_after-child.result (Ok c.in_ok-gone.gone) did.acted tt
     c.len_after-child.ensures tt did.height did.first in
-    rw c.make_mut.follows.holds done.whole
+    subst (IsNode g.L.Label.label_of) (sym (c.make_mut.follows.holds _ (ap (λ r. is_ok r) c.in-Ok.is))) done.whole
 
 pub returns : goal.returns
 returns g t c =
-    let ok : IsOk c.make_mut.result = search rules in
     let at = goal.at.returns g t c in
     let u = under g t at.After-act-arg-1 (branch g t at.In-Branch) in
     let did = c.in_ok-gone.ensures in
     let done = after g t at.After-act-2 u c.len_after-child.result (Ok c.in_ok-gone.gone) did.acted tt
     c.len_after-child.ensures tt did.height did.first in
-    rw c.make_mut.follows.holds (record { acted = done.done; height = done.height; first = done.first })
+    branch_acted (g.A.Way.Cut.is_before (g.A.Act.way c.args.act)) (g.A.Act.does c.args.act) g.A.Act.GROWS
+    g.A.Act.LOSES g.L.Label.label_of c.args.labelled c.args.self.now _ _ c.in_ok-gone.gone (ap (λ node. seen node)
+    (c.make_mut.follows.holds _ (ap (λ r. is_ok r) c.in-Ok.is))) done

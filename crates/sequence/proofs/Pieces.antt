@@ -1,13 +1,17 @@
 -- What a tree takes in, on its way down.
-use Rattle.std.proofs.Common.{◌≡◌, ◌⊎◌, inl, inr, ℕ, List, length, get_or, ap, sym, subst, arith}
+use Rattle.std.proofs.Common.{◌≡◌, ◌∙◌, ◌+◌, ◌<◌, ◌≤◌, ◌^◌, ◌⊎◌, inl, inr, ℕ, List, length, get_or, set, ap, sym}
+use Rattle.std.proofs.Common.{subst, arith, w64, Fits as FitsWidth}
+use Rattle.std.specs.Prelude.{Err, IfErr, IsErrAnd, MatchResult, Ok, OnErr, OnOk, Result, Some}
 use Rattle.sequence.specs.declared.tree.Child.{Child}
 use Rattle.sequence.specs.declared.tree.insert.Piece.{Piece}
 use Rattle.sequence.specs.declared.tree.insert.Piece.TheVariants.{Item, Part}
 use Rattle.sequence.specs.declared.tree.search.Spot.{Spot}
 use Rattle.sequence.specs.Nodes.{AreChildren, height_in, items_in}
-use Rattle.sequence.specs.Pieces.{Counts, Fits, GoesOn, items_of, part_of}
-use Rattle.sequence.specs.Spots.{Leads}
-use Rattle.sequence.proofs.Nodes.Children.{length-split}
+use Rattle.sequence.specs.Pieces.{Counts, Fits, GoesOn, IsHere, IsPart, items_of, part_of}
+use Rattle.sequence.specs.Spots.{Leads, spliced}
+use Rattle.sequence.proofs.Nodes.Children.{leads_inner, length-split}
+use Rattle.sequence.proofs.Nodes.Ended.{IsEnded, ended, on_ok}
+use Rattle.sequence.proofs.Nodes.Placed.{child_here, child_within}
 
 module _ {T L : Type 0} where
   -- one level below it has the same items
@@ -51,3 +55,93 @@ module _ {T L : Type 0} (label_of : T → L) where
         level = omega (arith, on.0, fits.level, level, same, high);
         edge = edge;
       }
+
+-- the child where a piece goes on down, and the branch that it is under
+pub record IsIn {T L : Type 0} (label_of : T → L) (piece next : Piece T L) (place : ℕ) (tree : List T × ℕ)
+    (cs : List (Child T L)) (spot : Spot) (d : Child T L) : Type 0 where
+  pub are : AreChildren label_of cs
+  pub same : ◌≡◌ {A = List T × ℕ} (items_in cs, height_in cs) tree
+  pub leads : Leads cs place spot
+  pub is : d ≡ get_or cs spot.child d
+  pub on : GoesOn piece next
+  pub fits : Fits label_of piece place tree
+  pub room : length tree.0 + length (items_of piece) < 2 ^ 64
+
+module _ {T L : Type 0} (label_of : T → L) (piece next : Piece T L) (place : ℕ) (tree : List T × ℕ)
+    (cs : List (Child T L)) (spot : Spot) (d : Child T L) (under : IsIn label_of piece next place tree cs spot d) where
+  pub lower_in : (t : ℕ) → tree.1 ≡ t → d.tree.1 < t
+  lower_in t is =
+      let level = (under.are.each spot.child d under.leads.within).level in
+      omega (arith, is, ap (λ (t : List T × ℕ). t.1) under.same, ap (λ (c : Child T L). c.tree.1) under.is, level)
+
+  pub within_in : spot.place ≤ length d.tree.0
+  within_in = omega (arith, under.leads.inside d, ap (λ (c : Child T L). length c.tree.0) under.is)
+
+  pub fits_in : Fits label_of next spot.place d.tree
+  fits_in =
+      fits_under label_of piece next tree cs place spot d under.on under.fits under.are
+      (ap (λ (t : List T × ℕ). t.0) under.same) (ap (λ (t : List T × ℕ). t.1) under.same) under.leads under.is
+
+  fewer_in : length d.tree.0 + length (items_of piece) < 2 ^ 64
+  fewer_in =
+      let all = ap (λ (t : List T × ℕ). length t.0) under.same in
+      omega (arith, child_within cs spot.child d under.are under.leads.within under.is, all, under.room)
+
+  pub room_in : length d.tree.0 + length (items_of next) < 2 ^ 64
+  room_in =
+      subst (λ (es : List T). length d.tree.0 + length es < 2 ^ 64) (sym (same_items piece next under.on)) fewer_in
+
+  pub count_in : (more : ℕ) → more ≡ length (items_of piece) → FitsWidth w64 (d.len + more)
+  count_in more is =
+      omega (arith, is, fewer_in, (child_here cs spot.child d under.are under.leads.within under.is).counted)
+
+  -- the branch after the piece went in under the child, or did not
+  pub put_under_it : {A E : Type 0} (new : List T × ℕ) (len : ℕ) (r : Result A E)
+      → OnOk r (new.0 ≡ spliced spot.place 0 (items_of next) d.tree.0) → OnErr r (new.0 ≡ d.tree.0)
+      → OnOk r (len ≡ d.len + length (items_of piece)) → OnErr r (len ≡ d.len) → new.1 ≡ d.tree.1
+      → IsEnded label_of tree place 0 (items_of piece) (set cs spot.child (record d { len = len; tree = new })) r
+  put_under_it new len r put refused more kept height =
+      let h = under.leads.within in
+      let child = child_here cs spot.child d under.are h under.is in
+      let items = subst (λ (es : List T). OnOk r (new.0 ≡ spliced spot.place 0 es d.tree.0))
+      (same_items piece next under.on) put in
+      ended tree cs spot.child d under.are under.same h under.is place spot.place 0 (items_of piece) under.leads.is
+      (omega (arith, within_in)) (λ p. leads_inner _ cs place spot under.are.each under.leads p)
+      (omega (arith, under.room)) new len r (on_ok r (λ _. omega (arith, child.wide)) more) items refused height
+      (on_ok r (λ (is : len ≡ d.len + length (items_of piece)). omega (arith, is)) more) kept
+
+module _ {T B : Type 0} (place : ℕ) (more : List T) (part : B) (tree now : List T × ℕ) where
+  -- what the tree has once its first node has these items, unless the call was refused
+  pub put_in : {A : Type 0} (old new : List T) (h k : ℕ) (r : Result A B) → (old, h) ≡ tree → now ≡ (new, k) → k ≡ h
+      → OnOk r (new ≡ spliced place 0 more old) → OnErr r (new ≡ old) → IfErr r (λ back. back ≡ part)
+      → MatchResult r (λ _. now ≡ (spliced place 0 more tree.0, tree.1)) (λ back. (now ≡ tree) × (back ≡ part))
+  put_in old new h k (Ok a) same is level put kept back =
+      is ∙ (λ i. (put i, level i)) ∙ ap (λ (t : List T × ℕ). (spliced place 0 more t.0, t.1)) same
+  put_in old new h k (Err e) same is level put kept back = (is ∙ (λ i. (kept i, level i)) ∙ same, back)
+
+  pub put_back : {A : Type 0} (r : Result A B) (e : B) → now ≡ tree → IsErrAnd r (λ back. back ≡ e) → e ≡ part
+      → MatchResult r (λ _. now ≡ (spliced place 0 more tree.0, tree.1)) (λ back. (now ≡ tree) × (back ≡ part))
+  put_back (Ok a) e kept refused back = absurd refused
+  put_back (Err b) e kept refused back = (kept, refused ∙ back)
+
+module _ {T L : Type 0} (label_of : T → L) where
+  -- a piece that belongs on this level is a child of it
+  pub part_here : (piece : Piece T L) (child : Child T L) (place : ℕ) (tree : List T × ℕ) → IsHere piece child
+      → Fits label_of piece place tree → IsPart label_of child 1 place tree
+  part_here (Item item) child place tree here fits = absurd here
+  part_here (Part part below) child place tree here fits =
+      subst (λ (c : Child T L). IsPart label_of c 1 place tree) (sym here.1) record {
+        whole = fits.whole;
+        label = fits.label;
+        lower = omega arith;
+        level = omega (arith, fits.level, fits.lower, here.0);
+        edge = fits.edge;
+      }
+
+  pub items_here : (piece : Piece T L) (child : Child T L) → IsHere piece child → items_of piece ≡ child.tree.0
+  items_here (Item item) child here = absurd here
+  items_here (Part part below) child here = ap (λ (c : Child T L). c.tree.0) (sym here.1)
+
+  pub is_here : (piece : Piece T L) (child : Child T L) → IsHere piece child → Some child ≡ part_of piece
+  is_here (Item item) child here = absurd here
+  is_here (Part part below) child here = ap (λ (c : Child T L). Some c) here.1

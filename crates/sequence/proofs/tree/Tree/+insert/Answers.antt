@@ -1,154 +1,269 @@
 -- The branch takes the piece in under one child.
-use Rattle.std.proofs.Common.{◌≡◌, ◌+◌, ◌∙◌, ℕ, List, ap, ap₂, arith, length, refl, rules, set, subst, sym}
-use Rattle.std.specs.Prelude.{Err, IsOk, Ok, OnErr, OnOk, Result}
-use Rattle.sequence.specs.declared.tree.Node.TheVariants.{Branch}
-use Rattle.sequence.specs.Nodes.{AreChildren, height_in, items_in}
-use Rattle.sequence.specs.Pieces.{items_of}
-use Rattle.sequence.specs.Spots.{spliced}
-use Rattle.sequence.proofs.Calls.{both, of_two}
-use Rattle.sequence.proofs.Nodes.Children.{leads_inner}
+use Rattle.std.proofs.Common.{◌≡◌, ◌+◌, ◌<◌, ◌≤◌, ◌^◌, ◌⊎◌, ◌∙◌, ℕ, ap, length, refl, set, subst, sym}
+use Rattle.std.specs.Prelude.{Err, IfErr, Ok, OnOk, Result, is_ok}
+use Rattle.sequence.specs.declared.tree.Node.TheVariants.{Branch, Leaf}
+use Rattle.sequence.specs.Nodes.{AreChildren, IsChild, IsNode, height_in, items_in, seen}
+use Rattle.sequence.specs.Pieces.{Fits, items_of, part_of}
+use Rattle.sequence.specs.Spots.{Leads, spliced}
+use Rattle.sequence.proofs.Calls.{both, kept_at, of_two}
 use Rattle.sequence.proofs.Nodes.Copied.{IsMade, made}
-use Rattle.sequence.proofs.Nodes.Ended.{IsEnded, ended, on_ok}
-use Rattle.sequence.proofs.Pieces.{fits_under, same_items, same_part}
-use Rattle.sequence.proofs.Nodes.Placed.{child_here, child_within}
+use Rattle.sequence.proofs.Nodes.Ended.{IsEnded}
+use Rattle.sequence.proofs.Pieces.{IsIn, count_in, counts, fits_in, is_here, items_here, lower_in, part_here, put_back}
+use Rattle.sequence.proofs.Pieces.{put_in, put_under_it, room_in, same_part, within_in}
 use Rattle.sequence.proofs.tree.Tree.+insert.Given as given
 use Rattle.sequence.proofs.tree.Tree.+insert.Goals as goal
-use Rattle.sequence.proofs.tree.Tree.+insert.Goals.{After-insert, In-Branch}
+use Rattle.sequence.proofs.tree.Tree.+insert.Goals.{After-insert, After-insert-arg-1, In-Branch, In-Leaf}
 
 -- the branch is whole, and has what the tree has
 branch : (g : given.Over) (t : ℕ) (c : In-Branch g t)
     → IsMade g.L.Label.label_of c.args.self.now (Branch c.in-Branch.children)
 branch g t c =
-    rw c.in-Branch.is at (made g.L.Label.label_of c.args.self.now c.self.inside.root c.in-Ok.node.now c.self.invariant
-    c.self.view_is c.in-Ok.ensures.value c.requires.copies)
+    subst (IsMade g.L.Label.label_of c.args.self.now) c.in-Branch.is (made g.L.Label.label_of c.args.self.now
+    c.self.inside.root c.in-Ok.node.now c.self.invariant c.self.view_is c.in-Ok.ensures.value c.requires.copies)
+
+-- the leaf too
+leaf : (g : given.Over) (t : ℕ) (c : In-Leaf g t) → IsMade g.L.Label.label_of c.args.self.now (Leaf c.in-Leaf.items)
+leaf g t c =
+    subst (IsMade g.L.Label.label_of c.args.self.now) c.in-Leaf.is (made g.L.Label.label_of c.args.self.now
+    c.self.inside.root c.in-Ok.node.now c.self.invariant c.self.view_is c.in-Ok.ensures.value c.requires.copies)
+
+-- the child where the piece goes on down
+under : (g : given.Over) (t : ℕ) (c : After-insert-arg-1 g t)
+    → IsMade g.L.Label.label_of c.args.self.now (Branch c.in-Branch.children)
+    → IsIn g.L.Label.label_of c.args.piece c.in-Ok-under.piece c.args.place c.args.self.now
+    c.room_under.new.children.items c.in-Ok-room_under.spot c.index_mut-child.result.now
+under g t c node =
+    let same = c.in-Ok-room_under.ensures.same in
+    record {
+      are = same.children;
+      same = (λ i. (same.items i, same.height i)) ∙ node.same;
+      leads = c.in-Ok-room_under.ensures.leads c.args.place
+          (subst (λ cs. Leads cs c.args.place c.spot_of.result) c.deref.ensures.value c.spot_of.ensures);
+      is = c.index_mut-child.ensures.value;
+      on = c.in-Ok-under.ensures;
+      fits = c.requires.fits;
+      room = c.requires.room;
+    }
+
+pub invariant_of-self : goal.invariant_of-self
+invariant_of-self g t c =
+    subst (IsNode g.L.Label.label_of) (sym (kept_at c.make_mut.result c.in_default.field-0 c.in_default.is
+    c.make_mut.follows.holds-at-none)) c.self.invariant
+
+pub returns-in_default : goal.returns-in_default
+returns-in_default g t c = (
+  ap (λ node. seen node) (kept_at c.make_mut.result c.in_default.field-0 c.in_default.is
+      c.make_mut.follows.holds-at-none) ∙ c.self.view_is,
+  c.into_part.ensures,
+)
+
+pub insert_in_leaf-requires-clause-list : goal.insert_in_leaf-requires-clause-list
+insert_in_leaf-requires-clause-list g t c =
+    (leaf g t (goal.at.insert_in_leaf-requires-clause-list g t c).In-Leaf).whole
+
+pub insert_in_leaf-requires-clause-within : goal.insert_in_leaf-requires-clause-within
+insert_in_leaf-requires-clause-within g t c =
+    let leaf = leaf g t (goal.at.insert_in_leaf-requires-clause-within g t c).In-Leaf in
+    subst (λ tree. c.args.place ≤ length tree.0) (sym leaf.same) c.requires.within
+
+pub insert_in_leaf-requires-clause-fits : goal.insert_in_leaf-requires-clause-fits
+insert_in_leaf-requires-clause-fits g t c =
+    let leaf = leaf g t (goal.at.insert_in_leaf-requires-clause-fits g t c).In-Leaf in
+    subst (Fits g.L.Label.label_of c.args.piece c.args.place) (sym leaf.same) c.requires.fits
+
+pub insert_in_leaf-requires-clause-room : goal.insert_in_leaf-requires-clause-room
+insert_in_leaf-requires-clause-room g t c =
+    let leaf = leaf g t (goal.at.insert_in_leaf-requires-clause-room g t c).In-Leaf in
+    subst (λ tree. length tree.0 + length (items_of c.args.piece) < 2 ^ 64) (sym leaf.same) c.requires.room
+
+pub invariant_of-self-in-Leaf : goal.invariant_of-self-in-Leaf
+invariant_of-self-in-Leaf g t c =
+    subst (IsNode g.L.Label.label_of) (sym (c.make_mut.follows.holds (Leaf c.insert_in_leaf.new.items)
+    (ap (λ r. is_ok r) c.in-Ok.is))) c.insert_in_leaf.ensures.list
+
+pub returns-in-Leaf : goal.returns-in-Leaf
+returns-in-Leaf g t c =
+    let leaf = leaf g t (goal.at.returns-in-Leaf g t c).In-Leaf in
+    let did = c.insert_in_leaf.ensures in
+    put_in c.args.place (items_of c.args.piece) (part_of c.args.piece) c.args.self.now _ c.in-Leaf.items.items
+    c.insert_in_leaf.new.items.items 0 0 c.insert_in_leaf.result leaf.same (ap (λ node. seen node)
+    (c.make_mut.follows.holds (Leaf c.insert_in_leaf.new.items) (ap (λ r. is_ok r) c.in-Ok.is))) refl did.items
+    did.refused did.back
+
+pub len-more-requires : goal.len-more-requires
+len-more-requires g t c = counts g.L.Label.label_of c.args.piece c.args.place c.args.self.now c.requires.fits
+
+pub beside-requires-clause-children : goal.beside-requires-clause-children
+beside-requires-clause-children g t c = (branch g t (goal.at.beside-requires-clause-children g t c).In-Branch).whole
+
+pub beside-requires-clause-child : goal.beside-requires-clause-child
+beside-requires-clause-child g t c =
+    let node = branch g t (goal.at.beside-requires-clause-child g t c).In-Branch in
+    let part = part_here g.L.Label.label_of c.args.piece c.in-Err.child c.args.place c.args.self.now c.in-Err.ensures
+    c.requires.fits in
+    subst (λ h. IsChild h c.in-Err.child) (part.level ∙ sym (ap (λ t. t.1) node.same)) part.whole
+
+pub beside-requires-clause-label : goal.beside-requires-clause-label
+beside-requires-clause-label g t c =
+    (part_here g.L.Label.label_of c.args.piece c.in-Err.child c.args.place c.args.self.now c.in-Err.ensures
+    c.requires.fits).label
+
+pub beside-requires-clause-edge : goal.beside-requires-clause-edge
+beside-requires-clause-edge g t c =
+    let node = branch g t (goal.at.beside-requires-clause-edge g t c).In-Branch in
+    let part = part_here g.L.Label.label_of c.args.piece c.in-Err.child c.args.place c.args.self.now c.in-Err.ensures
+    c.requires.fits in
+    subst (λ tree. (c.args.place ≡ 0) ⊎ (c.args.place ≡ length tree.0)) (sym node.same) part.edge
+
+pub beside-requires-clause-room : goal.beside-requires-clause-room
+beside-requires-clause-room g t c =
+    let node = branch g t (goal.at.beside-requires-clause-room g t c).In-Branch in
+    subst (λ tree. length tree.0 + length c.in-Err.child.tree.0 < 2 ^ 64) (sym node.same)
+    (subst (λ es. length c.args.self.now.0 + length es < 2 ^ 64) (items_here g.L.Label.label_of c.args.piece
+    c.in-Err.child c.in-Err.ensures) c.requires.room)
+
+pub invariant_of-self-in-Err : goal.invariant_of-self-in-Err
+invariant_of-self-in-Err g t c =
+    subst (IsNode g.L.Label.label_of) (sym (c.make_mut.follows.holds (Branch c.beside.new.children)
+    (ap (λ r. is_ok r) c.in-Ok.is))) c.beside.ensures.children
+
+pub returns-in-Err : goal.returns-in-Err
+returns-in-Err g t c =
+    let node = branch g t (goal.at.returns-in-Err g t c).In-Branch in
+    let here = c.in-Err.ensures in
+    let did = c.beside.ensures in
+    put_in c.args.place (items_of c.args.piece) (part_of c.args.piece) c.args.self.now _
+    (items_in c.in-Branch.children.items) (items_in c.beside.new.children.items)
+    (height_in c.in-Branch.children.items) (height_in c.beside.new.children.items) c.beside.result node.same
+    (ap (λ node. seen node) (c.make_mut.follows.holds (Branch c.beside.new.children) (ap (λ r. is_ok r) c.in-Ok.is)))
+    did.height
+    (subst (λ es. OnOk c.beside.result (items_in c.beside.new.children.items ≡ spliced c.args.place 0 es
+    (items_in c.in-Branch.children.items))) (sym (items_here g.L.Label.label_of c.args.piece c.in-Err.child here))
+    did.items) did.refused
+    (subst (λ part. IfErr c.beside.result (λ back. back ≡ part)) (is_here g.L.Label.label_of c.args.piece c.in-Err.child
+    here) did.back)
 
 pub spot_of-requires-clause-children : goal.spot_of-requires-clause-children
 spot_of-requires-clause-children g t c =
     let node = branch g t (goal.at.spot_of-requires-clause-children g t c).In-Branch in
     subst (AreChildren g.L.Label.label_of) (sym c.deref.ensures.value) node.whole
 
+pub spot_of-requires-clause-within : goal.spot_of-requires-clause-within
+spot_of-requires-clause-within g t c =
+    let node = branch g t (goal.at.spot_of-requires-clause-within g t c).In-Branch in
+    subst (λ cs. c.args.place ≤ length (items_in cs)) (sym c.deref.ensures.value)
+    (subst (λ tree. c.args.place ≤ length tree.0) (sym node.same) c.requires.within)
+
 pub room_under-requires-clause-children : goal.room_under-requires-clause-children
 room_under-requires-clause-children g t c =
     (branch g t (goal.at.room_under-requires-clause-children g t c).In-Branch).whole
 
+pub room_under-requires-clause-within : goal.room_under-requires-clause-within
+room_under-requires-clause-within g t c =
+    subst (λ cs. c.spot_of.result.child < length cs) c.deref.ensures.value c.spot_of.ensures.within
+
+pub invariant_of-self-in_default-room_under : goal.invariant_of-self-in_default-room_under
+invariant_of-self-in_default-room_under g t c =
+    subst (IsNode g.L.Label.label_of) (sym (c.make_mut.follows.holds (Branch c.room_under.new.children)
+    (ap (λ r. is_ok r) c.in-Ok.is))) c.in_default-room_under.ensures.same.children
+
+pub returns-in_default-room_under : goal.returns-in_default-room_under
+returns-in_default-room_under g t c =
+    let node = branch g t (goal.at.returns-in_default-room_under g t c).In-Branch in
+    let same = c.in_default-room_under.ensures.same in (
+      ap (λ node. seen node) (c.make_mut.follows.holds (Branch c.room_under.new.children)
+          (ap (λ r. is_ok r) c.in-Ok.is)) ∙ (λ i. (same.items i, same.height i)) ∙ node.same,
+      c.into_part-in_default-room_under.ensures
+          ∙ same_part c.args.piece c.in-Ok-under.piece c.in-Ok-under.ensures,
+    )
+
 pub index_mut-child-requires : goal.index_mut-child-requires
 index_mut-child-requires g t c =
-    let leads = c.in-Ok-room_under.ensures.leads c.args.place (rw c.deref.ensures.value at c.spot_of.ensures) in
-    omega (arith, leads.within)
+    let cs = c.room_under.new.children in
+    let leads = c.in-Ok-room_under.ensures.leads c.args.place
+    (subst (λ cs. Leads cs c.args.place c.spot_of.result) c.deref.ensures.value c.spot_of.ensures) in
+    subst (λ n. c.in-Ok-room_under.spot.child < n) (sym cs.ok.0) leads.within
 
 pub insert-requires : goal.insert-requires
 insert-requires g t c κs within =
-    let node = branch g t (goal.at.insert-requires g t c).In-Branch in
+    let at = goal.at.insert-requires g t c in
+    let u = under g t at.After-insert-arg-1 (branch g t at.In-Branch) in
+    let label = g.L.Label.label_of in
+    let piece = c.args.piece in
+    let next = c.in-Ok-under.piece in
     let cs = c.room_under.new.children.items in
     let spot = c.in-Ok-room_under.spot in
-    let same = c.in-Ok-room_under.ensures.same in
-    let leads = c.in-Ok-room_under.ensures.leads c.args.place (rw c.deref.ensures.value at c.spot_of.ensures) in
     let d = c.index_mut-child.result.now in
-    let is = c.index_mut-child.ensures.value in
-    let more = ap (λ es. length es) (same_items c.args.piece c.in-Ok-under.piece c.in-Ok-under.ensures) in
-    let items = same.items ∙ ap (λ t. t.0) node.same in
-    let height = same.height ∙ ap (λ t. t.1) node.same in
-    let fits = fits_under g.L.Label.label_of c.args.piece c.in-Ok-under.piece c.args.self.now cs c.args.place spot d
-    c.in-Ok-under.ensures c.requires.fits same.children items height leads is in
-    let level = (same.children.each spot.child d leads.within).level in
-    let fewer = child_within cs spot.child d same.children leads.within is in
-    of_two (omega (arith, c.decreases, height, ap (λ child. child.tree.1) is, level)) within
-    (both c.requires.copies (both (omega (arith, leads.inside d, ap (λ child. length child.tree.0) is))
-    (both fits (omega (arith, more, fewer, ap (λ es. length es) items, c.requires.room)))))
+    of_two (lower_in label piece next c.args.place c.args.self.now cs spot d u t c.decreases) within
+    (both c.requires.copies (both (within_in label piece next c.args.place c.args.self.now cs spot d u)
+    (both (fits_in label piece next c.args.place c.args.self.now cs spot d u)
+    (room_in label piece next c.args.place c.args.self.now cs spot d u))))
 
 pub overflow_add-child : goal.overflow_add-child
 overflow_add-child g t c =
-    let node = branch g t (goal.at.overflow_add-child g t c).In-Branch in
-    let cs = c.room_under.new.children.items in
-    let at = c.in-Ok-room_under.spot.child in
-    let same = c.in-Ok-room_under.ensures.same in
-    let leads = c.in-Ok-room_under.ensures.leads c.args.place (rw c.deref.ensures.value at c.spot_of.ensures) in
-    let d = c.index_mut-child.result.now in
-    let is = c.index_mut-child.ensures.value in
-    let child = child_here cs at d same.children leads.within is in
-    let fewer = child_within cs at d same.children leads.within is in
-    let items = same.items ∙ ap (λ t. t.0) node.same in
-    omega (arith, child.counted, fewer, c.len-more.ensures, ap (λ es. length es) items, c.requires.room)
-
--- the branch after the piece went in under the child, or did not
-after : (g : given.Over) (t : ℕ) (c : After-insert g t)
-    → IsMade g.L.Label.label_of c.args.self.now (Branch c.in-Branch.children)
-    → let d = c.index_mut-child.result.now in
-    let new = c.insert.new.self in
-    let more = items_of c.args.piece in
-    (len : ℕ) (r : Result (Unit {0}) (Unit {0})) → OnOk r (new.0 ≡ spliced c.in-Ok-room_under.spot.place 0
-    (items_of c.in-Ok-under.piece) d.tree.0) → OnErr r (new.0 ≡ d.tree.0)
-    → OnOk r (len + 0 ≡ d.len + length more) → OnErr r (len ≡ d.len) → new.1 ≡ d.tree.1
-    → IsEnded g.L.Label.label_of c.args.self.now c.args.place 0 more
-    (set c.room_under.new.children.items c.in-Ok-room_under.spot.child (record d { len = len; tree = new })) r
-after g t c node len r inserted refused more kept height =
-    let cs = c.room_under.new.children.items in
-    let spot = c.in-Ok-room_under.spot in
-    let same = c.in-Ok-room_under.ensures.same in
-    let leads = c.in-Ok-room_under.ensures.leads c.args.place (rw c.deref.ensures.value at c.spot_of.ensures) in
-    let d = c.index_mut-child.result.now in
-    let is = c.index_mut-child.ensures.value in
-    let tree : ◌≡◌ {A = List g.row.T.Denot × ℕ} (items_in cs, height_in cs) c.args.self.now =
-    ap₂ (λ (es : List g.row.T.Denot) (h : ℕ). (es, h)) same.items same.height ∙ node.same in
-    let child = child_here cs spot.child d same.children leads.within is in
-    let new = c.insert.new.self in
-    let items = subst (λ es. OnOk r (new.0 ≡ spliced spot.place 0 es d.tree.0))
-    (same_items c.args.piece c.in-Ok-under.piece c.in-Ok-under.ensures) inserted in
-    ended c.args.self.now cs spot.child d same.children tree leads.within is c.args.place spot.place 0
-    (items_of c.args.piece) leads.is (omega (arith, leads.inside d, ap (λ child. length child.tree.0) is))
-    (λ p. leads_inner _ cs c.args.place spot same.children.each leads p) (omega (arith, c.requires.room)) new len r
-    (on_ok r (λ _. omega (arith, child.wide)) more) items refused height more kept
+    let at = goal.at.overflow_add-child g t c in
+    let u = under g t at.After-insert-arg-1 (branch g t at.In-Branch) in
+    count_in g.L.Label.label_of c.args.piece c.in-Ok-under.piece c.args.place c.args.self.now
+    c.room_under.new.children.items c.in-Ok-room_under.spot c.index_mut-child.result.now u c.len-more.result
+    c.len-more.ensures
 
 -- the branch if the child stays
 left : (g : given.Over) (t : ℕ) (c : After-insert g t) → c.insert.new.self ≡ c.index_mut-child.result.now.tree
-    → IsMade g.L.Label.label_of c.args.self.now (Branch c.in-Branch.children)
+    → IsIn g.L.Label.label_of c.args.piece c.in-Ok-under.piece c.args.place c.args.self.now
+    c.room_under.new.children.items c.in-Ok-room_under.spot c.index_mut-child.result.now
     → let refused : Result (Unit {0}) (Unit {0}) = Err tt in
     IsEnded g.L.Label.label_of c.args.self.now c.args.place 0 (items_of c.args.piece)
     (set c.room_under.new.children.items c.in-Ok-room_under.spot.child
     (record c.index_mut-child.result.now { tree = c.insert.new.self })) refused
-left g t c same node =
-    after g t c node c.index_mut-child.result.now.len (Err tt) tt (ap (λ t. t.0) same) tt refl (ap (λ t. t.1) same)
+left g t c same u =
+    put_under_it g.L.Label.label_of c.args.piece c.in-Ok-under.piece c.args.place c.args.self.now
+    c.room_under.new.children.items c.in-Ok-room_under.spot c.index_mut-child.result.now u c.insert.new.self
+    c.index_mut-child.result.now.len (Err tt) tt (ap (λ t. t.0) same) tt refl (ap (λ t. t.1) same)
 
 -- the branch with the piece under the child
 done : (g : given.Over) (t : ℕ) (c : After-insert g t)
-    → IsMade g.L.Label.label_of c.args.self.now (Branch c.in-Branch.children)
+    → IsIn g.L.Label.label_of c.args.piece c.in-Ok-under.piece c.args.place c.args.self.now
+    c.room_under.new.children.items c.in-Ok-room_under.spot c.index_mut-child.result.now
     → let d = c.index_mut-child.result.now in
     let went : Result (Unit {0}) (Unit {0}) = Ok tt in
     c.insert.new.self ≡ (spliced c.in-Ok-room_under.spot.place 0 (items_of c.in-Ok-under.piece) d.tree.0, d.tree.1)
-    → (len : ℕ) → len ≡ d.len + length (items_of c.args.piece)
     → IsEnded g.L.Label.label_of c.args.self.now c.args.place 0 (items_of c.args.piece)
     (set c.room_under.new.children.items c.in-Ok-room_under.spot.child
-    (record d { len = len; tree = c.insert.new.self })) went
-done g t c node is len more =
-    after g t c node len (Ok tt) (ap (λ t. t.0) is) tt (omega (arith, more)) tt (ap (λ t. t.1) is)
+    (record d { len = d.len + c.len-more.result; tree = c.insert.new.self })) went
+done g t c u is =
+    let d = c.index_mut-child.result.now in
+    put_under_it g.L.Label.label_of c.args.piece c.in-Ok-under.piece c.args.place c.args.self.now
+    c.room_under.new.children.items c.in-Ok-room_under.spot d u c.insert.new.self (d.len + c.len-more.result) (Ok tt)
+    (ap (λ t. t.0) is) tt (ap (λ n. d.len + n) c.len-more.ensures) tt (ap (λ t. t.1) is)
 
 pub invariant_of-self-in_err-insert : goal.invariant_of-self-in_err-insert
 invariant_of-self-in_err-insert g t c =
-    let ok : IsOk c.make_mut.result = search rules in
     let at = goal.at.invariant_of-self-in_err-insert g t c in
-    rw c.make_mut.follows.holds
-    (left g t at.After-insert c.in_err-insert.ensures.0 (branch g t at.In-Branch)).whole
+    let u = under g t at.After-insert-arg-1 (branch g t at.In-Branch) in
+    subst (IsNode g.L.Label.label_of) (sym (c.make_mut.follows.holds _ (ap (λ r. is_ok r) c.in-Ok.is)))
+    (left g t at.After-insert c.in_err-insert.ensures.0 u).whole
 
 pub returns-in_err-insert : goal.returns-in_err-insert
 returns-in_err-insert g t c =
-    let ok : IsOk c.make_mut.result = search rules in
     let at = goal.at.returns-in_err-insert g t c in
-    let stays = left g t at.After-insert c.in_err-insert.ensures.0 (branch g t at.In-Branch) in
-    let whole : ◌≡◌ {A = List g.row.T.Denot × ℕ} _ c.args.self.now = λ i. (stays.refused i, stays.height i) in
-    let back = c.in_err-insert.ensures.1 ∙ same_part c.args.piece c.in-Ok-under.piece c.in-Ok-under.ensures in
-    rw c.make_mut.follows.holds (search (rules, whole, back))
+    let u = under g t at.After-insert-arg-1 (branch g t at.In-Branch) in
+    let left = left g t at.After-insert c.in_err-insert.ensures.0 u in
+    put_back c.args.place (items_of c.args.piece) (part_of c.args.piece) c.args.self.now _ c.from_residual.result
+    c.in_err-insert.field-0.0 (ap (λ node. seen node) (c.make_mut.follows.holds _ (ap (λ r. is_ok r) c.in-Ok.is))
+    ∙ (λ i. (left.refused i, left.height i))) c.from_residual.ensures.1
+    (c.in_err-insert.ensures.1 ∙ same_part c.args.piece c.in-Ok-under.piece c.in-Ok-under.ensures)
 
 pub invariant_of-self-2 : goal.invariant_of-self-2
 invariant_of-self-2 g t c =
-    let ok : IsOk c.make_mut.result = search rules in
     let at = goal.at.invariant_of-self-2 g t c in
-    rw c.make_mut.follows.holds (done g t at.After-insert (branch g t at.In-Branch) c.in_ok-insert.ensures
-    (c.index_mut-child.result.now.len + c.len-more.result) (omega (arith, c.len-more.ensures))).whole
+    let u = under g t at.After-insert-arg-1 (branch g t at.In-Branch) in
+    subst (IsNode g.L.Label.label_of) (sym (c.make_mut.follows.holds _ (ap (λ r. is_ok r) c.in-Ok.is)))
+    (done g t at.After-insert u c.in_ok-insert.ensures).whole
 
 pub returns : goal.returns
 returns g t c =
-    let ok : IsOk c.make_mut.result = search rules in
     let at = goal.at.returns g t c in
-    let done = done g t at.After-insert (branch g t at.In-Branch) c.in_ok-insert.ensures
-    (c.index_mut-child.result.now.len + c.len-more.result) (omega (arith, c.len-more.ensures)) in
-    rw c.make_mut.follows.holds (λ i. (done.items i, done.height i))
+    let u = under g t at.After-insert-arg-1 (branch g t at.In-Branch) in
+    let done = done g t at.After-insert u c.in_ok-insert.ensures in
+    ap (λ node. seen node) (c.make_mut.follows.holds _ (ap (λ r. is_ok r) c.in-Ok.is))
+    ∙ (λ i. (done.items i, done.height i))

@@ -2,8 +2,8 @@
 use Rattle.std.proofs.Common.{◌≡◌, ◌+◌, ◌<◌, ◌≤◌, ◌^◌, ℕ, zero, suc, Bool, List, [], ◌∷◌, ◌++◌, length, take, drop}
 use Rattle.std.proofs.Common.{get_or, set, refl, ap, sym, ◌∙◌, subst, arith, inl, inr, true, true≢false, false, ◌⊎◌}
 use Rattle.std.specs.Int.{from_bool}
-use Rattle.std.specs.Prelude.{IfErr, IfOk, IsErrAnd, IsTrue, MatchResult, None, OnErr, Option, Some, Ok, Err, Result, cond}
-use Rattle.std.specs.Prelude.{is_some, not}
+use Rattle.std.specs.Prelude.{IfErr, IfOk, IsErrAnd, IsTrue, MatchResult, None, OnErr, Option, Some, Ok, Err, Result}
+use Rattle.std.specs.Prelude.{cond, is_some, not}
 use Rattle.std.proofs.lemmas.Nat.{pow_pos}
 use Rattle.std.proofs.lemmas.Option.{none-some}
 use Rattle.sequence.specs.declared.tree.Child.{Child}
@@ -264,7 +264,8 @@ module _ {T R E : Type 0} (test : T → Bool) (does : Option R → Option T → 
         length-spliced did.at (gone answer) did.more old did.cut.within,
       ) in
       record {
-        some = wide_after grows loses answer 1 (length old) (length new) (length did.more) list.some long did.come spare;
+        some = wide_after grows loses answer 1 (length old) (length new) (length did.more) list.some long did.come
+            spare;
         room = omega (arith, long, did.come, one, room);
       }
   list_acted old new (Err e) did blocked list spare room = subst IsList (sym blocked) list

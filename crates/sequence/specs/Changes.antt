@@ -1,7 +1,10 @@
--- The effect of a closure on one item of a list.
-use Rattle.std.specs.Prelude.{◌≡◌, ℕ, List, Some, slice_get, slice_set}
+-- The effect of a closure on one item of a list, and of a removal on a child.
+use Rattle.std.specs.Prelude.{◌≡◌, ℕ, ◌+◌, Bool, IsTrue, List, [], Some, slice_get, slice_set}
 use Rattle.std.specs.Borrow.{MutBor}
 use Rattle.std.specs.Fn.{Once, FnOnceReturnsAtMut}
+use Rattle.sequence.specs.declared.tree.Child.{Child}
+use Rattle.sequence.specs.Nodes.{IsChild, IsLabelled}
+use Rattle.sequence.specs.Spots.{spliced}
 
 module _ {F T R : Type 0} (g : Once F (MutBor T × Unit {0}) (R × (MutBor T × Unit {0}))) (change : F) where
   -- its call on the item at that index returned r, and the list has there the item that the call left
@@ -16,3 +19,11 @@ module _ {F T R : Type 0} (g : Once F (MutBor T × Unit {0}) (R × (MutBor T × 
   abbrev pub KeepsLabel : {L : Type 0} → (T → L) → T → Type 0
   KeepsLabel label_of before = (after : T) (r : R) → FnOnceReturnsAtMut g change before r after
       → label_of after ≡ label_of before
+
+-- the child after that item was taken out of it, with a right label if that was asked for
+pub record IsLess {T L : Type 0} (label_of : T → L) (labelled : Bool) (at : ℕ) (old new : Child T L) (item : T)
+    : Type 0 where
+  pub found : slice_get old.tree.0 at ≡ Some item
+  pub items : new.tree.0 ≡ spliced at 1 [] old.tree.0
+  pub child : IsChild (old.tree.1 + 1) new
+  pub label : IsTrue labelled → IsLabelled label_of old → IsLabelled label_of new

@@ -1,33 +1,45 @@
 -- A branch after an item was changed under one of its children.
 use Rattle.std.proofs.Common.{◌≡◌, ◌+◌, ◌-◌, ◌<◌, ◌≤◌, ◌^◌, ℕ, List, [], ◌∷◌, length, take, drop}
-use Rattle.std.proofs.Common.{get_or, set, ap, sym, ◌∙◌}
-use Rattle.std.proofs.Common.{subst, arith, length-set, refl}
-use Rattle.std.specs.Prelude.{Some, Result, Ok, Err, IfOk, OnErr, OnOk, slice_get}
+use Rattle.std.proofs.Common.{get_or, set, ap, ap₂, sym, ◌∙◌}
+use Rattle.std.proofs.Common.{subst, arith, inl, inr, length-set, refl, true≢false}
+use Rattle.std.specs.Prelude.{◌⊎◌, Bool, IsTrue, Option, None, Some, Result, Ok, Err, MatchResult, false, nat_lt}
+use Rattle.std.specs.Prelude.{slice_get}
 use Rattle.std.specs.Borrow.{MutBor}
 use Rattle.std.specs.Fn.{Once}
-use Rattle.sequence.specs.Changes.{ChangesItem, KeepsLabel}
+use Rattle.std.proofs.lemmas.Bool.{lt-ltb}
+use Rattle.sequence.specs.Changes.{ChangesItem, IsLess, KeepsLabel}
 use Rattle.sequence.specs.declared.tree.search.Spot.{Spot}
 use Rattle.sequence.specs.Spots.{Leads, spliced}
 use Rattle.sequence.specs.declared.tree.Child.{Child}
-use Rattle.sequence.specs.Nodes.{AreChildren, IsChild, IsLabelled, first_label, height_in, items_in}
+use Rattle.sequence.specs.Nodes.{AreChildren, CanLose, IsChild, IsLabelled, first_label, height_in, items_in}
 use Rattle.sequence.proofs.Nodes.Children.{items_split, length-split}
-use Rattle.sequence.proofs.Nodes.Labelled.{first_set, labelled_at, labelled_by}
-use Rattle.sequence.proofs.Nodes.Placed.{child_here, left_in, put_under, stand_itself}
-use Rattle.sequence.proofs.Lists.Spliced.{get_between, set_spliced}
+use Rattle.sequence.proofs.Nodes.Labelled.{first_get, first_set, labelled_at, labelled_by}
+use Rattle.sequence.proofs.Nodes.Placed.{child_here, left_as, put_under, stand_itself}
+use Rattle.sequence.proofs.Lists.Spliced.{get_between, length-spliced, set_spliced}
+
+-- the second item is the first one of the others
+get_second : {T : Type 0} (es : List T) (second : T) → slice_get es 1 ≡ Some second
+    → slice_get (drop 1 es) 0 ≡ Some second
+get_second [] second is = is
+get_second (e ∷ es) second is = is
 
 -- the node after the call on a child, whose answer is r
 pub record IsChanged {T L F R E : Type 0} (label_of : T → L) (tree : List T × ℕ) (at : ℕ)
     (g : Once F (MutBor T × Unit {0}) (R × (MutBor T × Unit {0}))) (change : F) (new : List (Child T L))
     (r : Result R E) : Type 0 where
   pub whole : AreChildren label_of new
-  pub changed : IfOk r (ChangesItem g change at tree.0 (items_in new))
-  pub height : height_in new ≡ tree.1
-  pub refused : OnErr r (items_in new ≡ tree.0)
+  pub done : MatchResult r (λ back. ChangesItem g change at tree.0 (items_in new) back × (height_in new ≡ tree.1))
+      (λ _. ◌≡◌ {A = List T × ℕ} (items_in new, height_in new) tree)
 
 module _ {T L : Type 0} {label_of : T → L} (tree : List T × ℕ) (cs : List (Child T L)) (i : ℕ) (d : Child T L)
     (are : AreChildren label_of cs) (same : ◌≡◌ {A = List T × ℕ} (items_in cs, height_in cs) tree) (h : i < length cs)
     (is : d ≡ get_or cs i d)
     (at p : ℕ) (place : at ≡ length (items_in (take i cs)) + p) (inside : p < length d.tree.0) where
+  -- children with the items and the height of those have what the tree has
+  both_are : (new : List (Child T L)) → items_in new ≡ items_in cs → height_in new ≡ height_in cs
+      → ◌≡◌ {A = List T × ℕ} (items_in new, height_in new) tree
+  both_are new items height = ap₂ (λ (es : List T) (n : ℕ). (es, n)) items height ∙ same
+
   -- the item of the whole is that of the child
   pub item_under : slice_get tree.0 at ≡ slice_get d.tree.0 p
   item_under =
@@ -42,10 +54,10 @@ module _ {T L : Type 0} {label_of : T → L} (tree : List T × ℕ) (cs : List (
   module _ {F R : Type 0} (g : Once F (MutBor T × Unit {0}) (R × (MutBor T × Unit {0}))) (change : F) where
     -- the item was changed in the child, or the call was refused
     pub changed_under : {E : Type 0} (new : List T × ℕ) (r : Result R E)
-        → IfOk r (ChangesItem g change p d.tree.0 new.0) → new.1 ≡ d.tree.1 → OnErr r (new.0 ≡ d.tree.0)
+        → MatchResult r (λ back. ChangesItem g change p d.tree.0 new.0 back × (new.1 ≡ d.tree.1)) (λ _. new ≡ d.tree)
         → ((before : T) → slice_get d.tree.0 p ≡ Some before → KeepsLabel g change label_of before)
         → IsChanged label_of tree at g change (set cs i (record d { tree = new })) r
-    changed_under new (Ok r) changed level refused keeps =
+    changed_under new (Ok r) (changed, level) keeps =
         let kept = keeps changed.before changed.found changed.after r changed.called in
         let c = record d { tree = new } in
         let old = child_here cs i d are h is in
@@ -68,34 +80,74 @@ module _ {T L : Type 0} {label_of : T → L} (tree : List T × ℕ) (cs : List (
         let there : at < length (items_in cs) = omega (arith, place, inside, long, length-split cs i d h) in
         record {
           whole = put.children;
-          changed = record {
-            before = changed.before;
-            after = changed.after;
-            found = item_under ∙ changed.found;
-            called = changed.called;
-            items = put.items ∙ sym (set_spliced (items_in cs) at changed.after there)
-                ∙ ap (λ (t : List T × ℕ). set t.0 at changed.after) same;
-          };
-          height = put.height ∙ ap (λ (t : List T × ℕ). t.1) same;
-          refused = tt;
+          done = (
+            record {
+              before = changed.before;
+              after = changed.after;
+              found = item_under ∙ changed.found;
+              called = changed.called;
+              items = put.items ∙ sym (set_spliced (items_in cs) at changed.after there)
+                  ∙ ap (λ (t : List T × ℕ). set t.0 at changed.after) same;
+            },
+            put.height ∙ ap (λ (t : List T × ℕ). t.1) same,
+          );
         }
-    changed_under new (Err e) changed level refused keeps =
-        let done = left_in cs i d are h is new refused level in
-        record {
-          whole = done.children;
-          changed = tt;
-          height = done.height ∙ ap (λ (t : List T × ℕ). t.1) same;
-          refused = done.items ∙ ap (λ (t : List T × ℕ). t.0) same;
-        }
+    changed_under new (Err e) left keeps =
+        let c = record d { tree = new } in
+        let stays = left_as cs i d are h is c (ap (λ (t : List T × ℕ). record d { tree = t }) left) in
+        record { whole = stays.children; done = both_are (set cs i c) stays.items stays.height }
+
+module _ {T L : Type 0} (label_of : T → L) (es : List T) (at : ℕ) where
+  -- what a child gets as its label once that item is gone: a new one, or none if its first item stays
+  abbrev pub Relabels : Bool → Option L → Type 0
+  Relabels labelled (Some label) = first_label label_of (spliced at 1 [] es) ≡ Some label
+  Relabels labelled None = IsTrue labelled → 0 < at
+
+  -- the label of the second item, if the first one goes
+  pub first_gone : (second : T) → at ≡ 0 → slice_get es 1 ≡ Some second
+      → first_label label_of (spliced at 1 [] es) ≡ Some (label_of second)
+  first_gone second first is =
+      subst (λ (n : ℕ). first_label label_of (spliced n 1 [] es) ≡ Some (label_of second)) (sym first)
+      (first_get label_of (drop 1 es) second (get_second es second is))
+
+-- no label is asked for, or the first item stays
+pub behind_first_one : (labelled : Bool) (at : ℕ) → (IsTrue labelled × (at ≡ 0 → ⊥)) ⊎ (labelled ≡ false)
+    → IsTrue labelled → 0 < at
+behind_first_one labelled at either is = elim either [
+  | inl behind ↦ omega (arith, behind.1)
+  | inr not ↦ absurd (true≢false (sym is ∙ not))
+]
+
+module _ {T L : Type 0} {label_of : T → L} (old : Child T L) (at : ℕ) (labelled : Bool) where
+  -- the child without that item, with a label that is right if it is to be
+  pub less : (label : L) (new : List T × ℕ) (item : T) → IsChild (old.tree.1 + 1) old → CanLose old.tree
+      → at < length old.tree.0
+      → (slice_get old.tree.0 at ≡ Some item) × (new ≡ (spliced at 1 [] old.tree.0, old.tree.1))
+      → (IsTrue labelled → IsLabelled label_of old → first_label label_of (spliced at 1 [] old.tree.0) ≡ Some label)
+      → IsLess label_of labelled at old (record { label = label; len = old.len - 1; tree = new }) item
+  less label new item child spare there gone first =
+      let items = ap (λ (t : List T × ℕ). t.0) gone.1 in
+      let level = ap (λ (t : List T × ℕ). t.1) gone.1 in
+      let many = length-spliced at 1 [] old.tree.0 (omega (arith, there)) in
+      let long = ap (length {A = T}) items in
+      record {
+        found = gone.0;
+        items = items;
+        child = record {
+          counted = omega (arith, child.counted, many, long, there);
+          level = ap (λ (n : ℕ). n + 1) level;
+          wide = subst (λ (n : ℕ). 2 ^ n ≤ length new.0) (sym level) (omega (arith, spare, many, long));
+        };
+        label = λ l is. record { first = ap (λ (es : List T). first_label label_of es) items ∙ first l is };
+      }
 
 -- the node after an item was taken out of a child, whose answer is r
 pub record IsRemoved {T L E : Type 0} (label_of : T → L) (tree : List T × ℕ) (at : ℕ) (new : List (Child T L))
     (r : Result T E) : Type 0 where
   pub whole : AreChildren label_of new
-  pub item : IfOk r (λ item. slice_get tree.0 at ≡ Some item)
-  pub items : OnOk r (items_in new ≡ spliced at 1 [] tree.0)
-  pub height : height_in new ≡ tree.1
-  pub refused : OnErr r (items_in new ≡ tree.0)
+  pub done : MatchResult r (λ item. (slice_get tree.0 at ≡ Some item)
+      × ◌≡◌ {A = List T × ℕ} (items_in new, height_in new) (spliced at 1 [] tree.0, tree.1))
+      (λ _. ◌≡◌ {A = List T × ℕ} (items_in new, height_in new) tree)
 
 -- a spot behind an item leads to that item's child
 module _ {T L : Type 0} {label_of : T → L} (tree : List T × ℕ) (cs : List (Child T L)) (spot : Spot) (d : Child T L)
@@ -112,30 +164,36 @@ module _ {T L : Type 0} {label_of : T → L} (tree : List T × ℕ) (cs : List (
   pub item_at : slice_get tree.0 at ≡ slice_get d.tree.0 (spot.place - 1)
   item_at = item_under tree cs spot.child d are same leads.within is at (spot.place - 1) spot_place spot_inside
 
-  pub removed_at : {E : Type 0} (new : Child T L) (r : Result T E) → IsChild (d.tree.1 + 1) new
-      → (0 < spot.child → IsLabelled label_of new)
-      → IfOk r (λ item. slice_get d.tree.0 (spot.place - 1) ≡ Some item)
-      → OnOk r (new.tree.0 ≡ spliced (spot.place - 1) 1 [] d.tree.0) → OnErr r (new.tree.0 ≡ d.tree.0)
+  pub removed_at : {E : Type 0} (new : Child T L) (r : Result T E)
+      → MatchResult r (IsLess label_of (nat_lt 0 spot.child) (spot.place - 1) d new) (λ _. new ≡ d)
       → IsRemoved label_of tree at (set cs spot.child new) r
-  removed_at new r child label item items refused =
+  removed_at new (Ok item) less =
       let within : spot.place - 1 + 1 ≤ length d.tree.0 = omega (arith, spot_inside) in
-      let room : length (items_in cs) + 0 < 2 ^ 64 + 1 = omega (arith, are.list.room) in
-      let put = put_under cs cs spot.child d new (stand_itself cs are) leads.within is child label at (spot.place - 1)
-      1 [] spot_place within r items refused room in
-      let all = ap (λ (t : List T × ℕ). t.0) same in
+      let label = λ (p : 0 < spot.child). less.label (lt-ltb 0 spot.child p)
+      (labelled_at cs spot.child d are p leads.within is) in
+      let put = put_under cs cs spot.child d new (stand_itself cs are) leads.within is less.child label at
+      (spot.place - 1) 1 [] spot_place within {A = T} {E = Unit {0}} (Ok item) less.items tt
+      (omega (arith, are.list.room)) in
       record {
         whole = put.children;
-        item = subst (λ o. IfOk r (λ item. o ≡ Some item)) (sym item_at) item;
-        items = subst (λ (es : List T). OnOk r (items_in (set cs spot.child new) ≡ spliced at 1 [] es)) all put.items;
-        height = put.height ∙ ap (λ (t : List T × ℕ). t.1) same;
-        refused = subst (λ (es : List T). OnErr r (items_in (set cs spot.child new) ≡ es)) all put.refused;
+        done = (
+          item_at ∙ less.found,
+          ap₂ (λ (es : List T) (n : ℕ). (es, n)) put.items put.height
+              ∙ ap (λ (t : List T × ℕ). (spliced at 1 [] t.0, t.1)) same,
+        );
+      }
+  removed_at new (Err e) left =
+      let stays = left_as cs spot.child d are leads.within is new left in
+      record {
+        whole = stays.children;
+        done = ap₂ (λ (es : List T) (n : ℕ). (es, n)) stays.items stays.height ∙ same;
       }
 
   pub changed_at : {F R E : Type 0} (g : Once F (MutBor T × Unit {0}) (R × (MutBor T × Unit {0}))) (change : F)
-      (new : List T × ℕ) (r : Result R E) → IfOk r (ChangesItem g change (spot.place - 1) d.tree.0 new.0)
-      → new.1 ≡ d.tree.1 → OnErr r (new.0 ≡ d.tree.0)
+      (new : List T × ℕ) (r : Result R E) → MatchResult r
+      (λ back. ChangesItem g change (spot.place - 1) d.tree.0 new.0 back × (new.1 ≡ d.tree.1)) (λ _. new ≡ d.tree)
       → ((before : T) → slice_get tree.0 at ≡ Some before → KeepsLabel g change label_of before)
       → IsChanged label_of tree at g change (set cs spot.child (record d { tree = new })) r
-  changed_at g change new r changed level refused keeps =
+  changed_at g change new r changed keeps =
       changed_under tree cs spot.child d are same leads.within is at (spot.place - 1) spot_place spot_inside g change
-      new r changed level refused (λ before here. keeps before (item_at ∙ here))
+      new r changed (λ before here. keeps before (item_at ∙ here))

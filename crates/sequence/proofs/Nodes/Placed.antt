@@ -41,13 +41,17 @@ module _ {T L : Type 0} {label_of : T → L} where
     lower_here = omega (arith, (are.each i d h).level, ap (λ (c : Child T L). c.tree.1) is)
 
     -- a child that a call left as it was stands where it stood
+    pub left_as : (new : Child T L) → new ≡ d → StandFor label_of cs (set cs i new)
+    left_as new same =
+        subst (StandFor label_of cs) (sym (ap (λ (c : Child T L). set cs i c) (same ∙ is) ∙ set-get_or cs i d))
+        (stand_itself cs are)
+
+    -- and so does one whose tree has the same items and height
     pub left_in : (new : List T × ℕ) → new.0 ≡ d.tree.0 → new.1 ≡ d.tree.1
         → StandFor label_of cs (set cs i (record d { tree = new }))
     left_in new items level =
         let same : new ≡ d.tree = λ j. (items j, level j) in
-        subst (λ (t : List T × ℕ). StandFor label_of cs (set cs i (record d { tree = t }))) (sym same)
-        (subst (StandFor label_of cs) (sym (ap (λ (c : Child T L). set cs i c) is ∙ set-get_or cs i d))
-        (stand_itself cs are))
+        left_as (record d { tree = new }) (ap (λ (t : List T × ℕ). record d { tree = t }) same)
 
     module _ (new : Child T L) (child : IsChild (d.tree.1 + 1) new) (label : 0 < i → IsLabelled label_of new) where
       -- with another of its level in its place, all are on one level

@@ -1,5 +1,5 @@
 //! How a tree changes an item: in place, but for the nodes that others share, which are copied.
-ghost use Rattle.std.specs.Prelude.{◌≡◌, ◌<◌, IfOk, OnErr, length, slice_get};
+ghost use Rattle.std.specs.Prelude.{◌≡◌, ◌<◌, MatchResult, length, slice_get};
 ghost use Rattle.std.specs.Fn.{FnOnceTakesAtMut};
 ghost use Rattle.std.specs.Option.{ForSome};
 ghost use Rattle.handles.specs.Copies.{CopiesAreEqual};
@@ -23,9 +23,9 @@ impl<T: Clone, L: NewLabel<T>> Tree<T, L> {
         requires there { index < length self.old.0 }
         requires callable { ForSome (slice_get self.old.0 index) (FnOnceTakesAtMut F.FnOnce change) }
         requires keeps { ForSome (slice_get self.old.0 index) (KeepsLabel F.FnOnce change L.label_of) }
-        ensures changed { IfOk result (ChangesItem F.FnOnce change index self.old.0 self.new.0) }
-        ensures height { self.new.1 ≡ self.old.1 }
-        ensures refused { OnErr result (self.new.0 ≡ self.old.0) }
+        ensures { MatchResult result
+            (λ back. ChangesItem F.FnOnce change index self.old.0 self.new.0 back × (self.new.1 ≡ self.old.1))
+            (λ _. self.new ≡ self.old) }
     {
         let children = match Arc::make_mut(&mut self.root, alloc)? {
             Node::Leaf(items) => return Ok(change(&mut items[index])),

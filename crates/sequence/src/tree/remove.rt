@@ -1,8 +1,9 @@
 //! How a tree lets an item go: in place, but for the nodes that others share, which are copied.
-ghost use Rattle.std.specs.Prelude.{◌≡◌, ℕ, ◌+◌, ◌^◌, ◌<◌, ◌≤◌, ◌⊎◌, [], IfOk, IsTrue, OnOk, OnErr, Some};
+ghost use Rattle.std.specs.Prelude.{◌≡◌, ℕ, ◌+◌, ◌^◌, ◌<◌, ◌≤◌, ◌⊎◌, [], IfOk, IsTrue, MatchResult, OnOk, Some};
 ghost use Rattle.std.specs.Prelude.{length, slice_get, slice_index_or};
 ghost use Rattle.handles.specs.Copies.{CopiesAreEqual};
-ghost use Rattle.sequence.specs.Nodes.{AreChildren, CanLose, IsChild, IsLabelled, StandFor, height_in, items_in};
+ghost use Rattle.sequence.specs.Changes.{IsLess};
+ghost use Rattle.sequence.specs.Nodes.{AreChildren, CanLose, IsChild, StandFor, height_in, items_in};
 ghost use Rattle.sequence.specs.Spots.{Leads, spliced};
 
 use crate::label::{Label, NewLabel};
@@ -22,10 +23,8 @@ impl<T: Clone, L: NewLabel<T>> Tree<T, L> {
         requires there { index < length self.old.0 }
         requires some { 1 < length self.old.0 }
         requires wide { 2 ^ self.old.1 ≤ length self.old.0 }
-        ensures item { IfOk result (λ item. slice_get self.old.0 index ≡ Some item) }
-        ensures items { OnOk result (self.new.0 ≡ spliced index 1 [] self.old.0) }
-        ensures height { self.new.1 ≡ self.old.1 }
-        ensures refused { OnErr result (self.new.0 ≡ self.old.0) }
+        ensures { MatchResult result (λ item. (slice_get self.old.0 index ≡ Some item)
+            × (self.new ≡ (spliced index 1 [] self.old.0, self.old.1))) (λ _. self.new ≡ self.old) }
     {
         let children = match Arc::make_mut(&mut self.root, alloc)? {
             Node::Leaf(items) => return Ok(items.remove(index)),
@@ -44,11 +43,7 @@ impl<T: Clone, L: NewLabel<T>> Child<T, L> {
         requires child { IsChild (self.old.tree.1 + 1) self.old }
         requires spare { CanLose self.old.tree }
         requires there { index < length self.old.tree.0 }
-        ensures item { IfOk result (λ item. slice_get self.old.tree.0 index ≡ Some item) }
-        ensures items { OnOk result (self.new.tree.0 ≡ spliced index 1 [] self.old.tree.0) }
-        ensures child { IsChild (self.old.tree.1 + 1) self.new }
-        ensures label { IsTrue labelled → IsLabelled L.label_of self.old → IsLabelled L.label_of self.new }
-        ensures refused { OnErr result (self.new.tree.0 ≡ self.old.tree.0) }
+        ensures { MatchResult result (IsLess L.label_of labelled index self.old self.new) (λ _. self.new ≡ self.old) }
     {
         let label = if labelled && index == 0 {
             Some(L::new(self.tree.item(1))?)

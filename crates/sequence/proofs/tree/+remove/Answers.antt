@@ -1,15 +1,19 @@
 -- The branch lets the item go out of one child.
-use Rattle.std.proofs.Common.{◌≡◌, ◌<◌, ◌∙◌, ℕ, List, ap, ap₂, sym, subst, arith, length, rules, set}
-use Rattle.std.specs.Prelude.{IsOk}
+use Rattle.std.proofs.Common.{◌≡◌, ◌∙◌, ℕ, List, [], ap, ap₂, sym, subst, arith, length, refl, set}
+use Rattle.std.specs.Prelude.{IsOk, Some}
+use Rattle.sequence.specs.Changes.{IsLess}
 use Rattle.sequence.specs.Nodes.{CanLose, height_in, items_in}
 use Rattle.sequence.proofs.Calls.{both, of_two}
-use Rattle.sequence.proofs.Nodes.Changed.{IsRemoved, removed_at}
+use Rattle.sequence.proofs.Nodes.Changed.{IsRemoved, Relabels, behind_first_one, first_gone, less, removed_at}
+use Rattle.sequence.proofs.Nodes.Labelled.{first_spliced}
 use Rattle.sequence.proofs.Nodes.Copied.{made}
-use Rattle.sequence.proofs.Nodes.Labelled.{labelled_at}
 use Rattle.sequence.proofs.Nodes.Placed.{child_here}
 use Rattle.sequence.proofs.tree.+remove.Given as given
 use Rattle.sequence.proofs.tree.+remove.Goals as goal
 use Rattle.sequence.proofs.tree.+remove.Goals.{Tree::remove-After-remove-2}
+use Rattle.sequence.proofs.tree.+remove.Goals.{Child::remove-then-labelled+then-index-eq0+in_ok-new}
+use Rattle.sequence.proofs.tree.+remove.Goals.{Child::remove-else-labelled, Child::remove-in-Some}
+use Rattle.sequence.proofs.tree.+remove.Goals.{Child::remove-in_default}
 
 pub Tree::remove-remove-requires-2 : goal.Tree::remove-remove-requires-2
 Tree::remove-remove-requires-2 g t c κs within =
@@ -42,28 +46,45 @@ done g t c =
     let spot = c.in_ok-spot.spot in
     let same = c.in_ok-spot.ensures.same in
     let leads = c.in_ok-spot.ensures.leads in
-    let d = c.index_mut.result.now in
-    let is = c.index_mut.ensures.value in
     let tree : ◌≡◌ {A = List g.row.T.Denot × ℕ} (items_in cs, height_in cs) c.args.self.now =
     ap₂ (λ (es : List g.row.T.Denot) (h : ℕ). (es, h)) same.items same.height ∙ node.same in
-    let label = λ (p : 0 < spot.child). c.remove-2.ensures.label (search rules)
-    (labelled_at cs spot.child d same.children p leads.within is) in
-    removed_at c.args.self.now cs spot d same.children tree c.args.index leads is c.remove-2.new.self c.remove-2.result
-    c.remove-2.ensures.child label c.remove-2.ensures.item c.remove-2.ensures.items c.remove-2.ensures.refused
+    removed_at c.args.self.now cs spot c.index_mut.result.now same.children tree c.args.index leads
+    c.index_mut.ensures.value c.remove-2.new.self c.remove-2.result c.remove-2.ensures
 
 pub Tree::remove-invariant_of-self-2 : goal.Tree::remove-invariant_of-self-2
 Tree::remove-invariant_of-self-2 g t c =
-    let ok : IsOk c.make_mut.result = search rules in
+    let ok : IsOk c.make_mut.result = subst IsOk (sym c.in_ok-items.was) refl in
     rw c.make_mut.follows.holds
     ((done g t (goal.at.Tree::remove-invariant_of-self-2 g t c).After-remove-2).whole)
 
 pub Tree::remove-returns : goal.Tree::remove-returns
 Tree::remove-returns g t c =
-    let ok : IsOk c.make_mut.result = search rules in
-    let done = done g t (goal.at.Tree::remove-returns g t c).After-remove-2 in
-    rw c.make_mut.follows.holds (record {
-      item = done.item;
-      items = done.items;
-      height = done.height;
-      refused = done.refused;
-    })
+    let ok : IsOk c.make_mut.result = subst IsOk (sym c.in_ok-items.was) refl in
+    rw c.make_mut.follows.holds ((done g t (goal.at.Tree::remove-returns g t c).After-remove-2).done)
+
+pub Child::remove-returns : goal.Child::remove-returns
+Child::remove-returns g t c =
+    let label_of = g.L.Label.label_of in
+    let old = c.args.self.now in
+    let at = c.args.index in
+    let label : Relabels label_of old.tree.0 at c.args.labelled c.if-labelled.label = elim c.if-labelled.branch [
+      | Child::remove-then-labelled+then-index-eq0+in_ok-new w ↦
+          subst (Relabels label_of old.tree.0 at c.args.labelled) (sym w.label-is)
+          (first_gone label_of old.tree.0 at w.item.result.now w.if-index-eq0.true w.item.ensures
+          ∙ ap (λ l. Some l) (sym (w.in_ok-new.ensures c.requires.copies.1)))
+      | Child::remove-else-labelled w ↦
+          subst (Relabels label_of old.tree.0 at c.args.labelled) (sym w.label-is)
+          (behind_first_one c.args.labelled at w.else-labelled.either)
+    ] in
+    elim c.match-label-2.branch [
+      | Child::remove-in-Some v ↦
+          subst (λ new. IsLess label_of c.args.labelled at old new c.in_ok-item.item) (sym v.self-is)
+          (less old at c.args.labelled v.in-Some.label c.remove.new.self c.in_ok-item.item c.requires.child
+          c.requires.spare c.requires.there c.in_ok-item.ensures
+          (λ _ _. subst (Relabels label_of old.tree.0 at c.args.labelled) v.in-Some.is label))
+      | Child::remove-in_default v ↦
+          subst (λ new. IsLess label_of c.args.labelled at old new c.in_ok-item.item) (sym v.self-is)
+          (less old at c.args.labelled old.label c.remove.new.self c.in_ok-item.item c.requires.child c.requires.spare
+          c.requires.there c.in_ok-item.ensures (λ l is. first_spliced label_of old.tree.0 [] at 1 old.label
+          (subst (Relabels label_of old.tree.0 at c.args.labelled) v.in_default.is label l) is.first))
+    ]

@@ -1,10 +1,11 @@
--- The effect of a closure on one item of a list, and of a removal on a child.
-use Rattle.std.specs.Prelude.{◌≡◌, ℕ, ◌+◌, Bool, IsTrue, List, [], Some, slice_get, slice_set}
+-- The effect of a closure on one item of a list, and of a removal on a child or a tree.
+use Rattle.std.specs.Prelude.{◌≡◌, ℕ, ◌+◌, ◌<◌, Bool, IsTrue, List, [], Some, length, slice_get, slice_set}
 use Rattle.std.specs.Borrow.{MutBor}
 use Rattle.std.specs.Fn.{Once, FnOnceReturnsAtMut}
 use Rattle.sequence.specs.declared.tree.Child.{Child}
-use Rattle.sequence.specs.Nodes.{IsChild, IsLabelled}
-use Rattle.sequence.specs.Spots.{spliced}
+use Rattle.sequence.specs.declared.tree.ends.End.{End}
+use Rattle.sequence.specs.Nodes.{CanLose, IsChild, IsLabelled}
+use Rattle.sequence.specs.Spots.{place_at, spliced}
 
 module _ {F T R : Type 0} (g : Once F (MutBor T × Unit {0}) (R × (MutBor T × Unit {0}))) (change : F) where
   -- its call on the item at that index returned r, and the list has there the item that the call left
@@ -27,3 +28,9 @@ pub record IsLess {T L : Type 0} (label_of : T → L) (labelled : Bool) (at : �
   pub items : new.tree.0 ≡ spliced at 1 [] old.tree.0
   pub child : IsChild (old.tree.1 + 1) new
   pub label : IsTrue labelled → IsLabelled label_of old → IsLabelled label_of new
+
+-- the tree after its item at that end was taken out, which it had to spare if a branch with so few children blocks that
+pub record IsPopped {T : Type 0} (end : End) (least : ℕ) (old new : List T × ℕ) (item : T) : Type 0 where
+  pub found : slice_get old.0 (place_at end (length old.0)) ≡ Some item
+  pub left : new ≡ (spliced (place_at end (length old.0)) 1 [] old.0, old.1)
+  pub spare : 1 < least → CanLose old

@@ -1,9 +1,10 @@
 //! What goes in behind all items of a tree and out at its two ends, by one way down along nodes that keep their form.
-ghost use Rattle.std.specs.Prelude.{◌≡◌, ◌+◌, ◌<◌, ◌^◌, ◌++◌, ◌∷◌, [], IfErr, IfOk, OnErr, OnOk, Some};
-ghost use Rattle.std.specs.Prelude.{length, slice_get, slice_index_or};
+ghost use Rattle.std.specs.Prelude.{◌≡◌, ◌+◌, ◌<◌, ◌^◌, ◌++◌, ◌∷◌, [], MatchResult, Some, length, slice_get};
+ghost use Rattle.std.specs.Prelude.{slice_index_or};
 ghost use Rattle.std.specs.List.{All, remove};
 ghost use Rattle.handles.specs.Copies.{CopiesAreEqual};
-ghost use Rattle.sequence.specs.Nodes.{CanLose, IsChild, height_in};
+ghost use Rattle.sequence.specs.Changes.{IsPopped};
+ghost use Rattle.sequence.specs.Nodes.{IsChild, height_in};
 ghost use Rattle.sequence.specs.Spots.{place_at, spliced};
 
 use crate::label::Label;
@@ -24,10 +25,9 @@ impl<T: Clone, L: Label<T> + Clone> Tree<T, L> {
     pub(crate) fn push(&mut self, alloc: Global, item: T) -> Result<(), T>
         requires copies { CopiesAreEqual T.is_clone × CopiesAreEqual L.is_clone }
         requires room { length self.old.0 + 1 < 2 ^ 64 }
-        ensures items { OnOk result (self.new.0 ≡ spliced (length self.old.0) 0 (item ∷ []) self.old.0) }
-        ensures height { self.new.1 ≡ self.old.1 }
-        ensures blocked { OnErr result (self.new.0 ≡ self.old.0) }
-        ensures back { IfErr result (λ back. back ≡ item) }
+        ensures { MatchResult result
+            (λ _. self.new ≡ (spliced (length self.old.0) 0 (item ∷ []) self.old.0, self.old.1))
+            (λ back. (self.new ≡ self.old) × (back ≡ item)) }
     {
         let Ok(node) = Arc::make_mut(&mut self.root, alloc) else {
             return Err(item);
@@ -49,11 +49,7 @@ impl<T: Clone, L: Label<T> + Clone> Tree<T, L> {
     pub(crate) fn pop(&mut self, alloc: Global, end: End, least: usize) -> Result<T, Blocked>
         requires copies { CopiesAreEqual T.is_clone × CopiesAreEqual L.is_clone }
         requires some { 1 < length self.old.0 }
-        ensures item { IfOk result (λ item. slice_get self.old.0 (place_at end (length self.old.0)) ≡ Some item) }
-        ensures items { OnOk result (self.new.0 ≡ spliced (place_at end (length self.old.0)) 1 [] self.old.0) }
-        ensures height { self.new.1 ≡ self.old.1 }
-        ensures spare { OnOk result (1 < least → CanLose self.old) }
-        ensures blocked { OnErr result (self.new.0 ≡ self.old.0) }
+        ensures { MatchResult result (IsPopped end least self.old self.new) (λ _. self.new ≡ self.old) }
     {
         let children = match Arc::make_mut(&mut self.root, alloc)? {
             Node::Leaf(items) => return Ok(pop_in_leaf(items, end)),
@@ -85,10 +81,10 @@ fn pop_leaf<T: Clone, L: Label<T> + Clone>(
     requires within { at < length children.old.items }
     requires child { All (IsChild (height_in children.old.items)) children.old.items }
     requires one { (d : Child T L) → length (slice_index_or children.old.items at d).tree.0 ≡ 1 }
-    ensures item { IfOk result (λ item. (d : Child T L)
-        → (slice_index_or children.old.items at d).tree.0 ≡ item ∷ []) }
-    ensures gone { OnOk result (children.new.items ≡ remove children.old.items at) }
-    ensures blocked { OnErr result (children.new.items ≡ children.old.items) }
+    ensures { MatchResult result
+        (λ item. ((d : Child T L) → (slice_index_or children.old.items at d).tree.0 ≡ item ∷ [])
+        × (children.new.items ≡ remove children.old.items at))
+        (λ _. children.new.items ≡ children.old.items) }
 {
     // For the proof: its clause says that there is room for the leaf, if it has to go back.
     children.reserve(0)?;
@@ -121,9 +117,8 @@ impl End {
 // Puts the item behind those of a leaf, unless it is full.
 #[inline(always)]
 fn push_in_leaf<T: Drop>(items: &mut Vec<T>, item: T) -> Result<(), T>
-    ensures items { OnOk result (items.new.items ≡ items.old.items ++ item ∷ []) }
-    ensures blocked { OnErr result (items.new.items ≡ items.old.items) }
-    ensures back { IfErr result (λ back. back ≡ item) }
+    ensures { MatchResult result (λ _. items.new.items ≡ items.old.items ++ item ∷ [])
+        (λ back. (items.new.items ≡ items.old.items) × (back ≡ item)) }
 {
     if items.len() >= leaf_width(items) {
         return Err(item);

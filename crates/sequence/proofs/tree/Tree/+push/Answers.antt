@@ -1,54 +1,68 @@
 -- The item goes in behind those of the last child.
-use Rattle.std.proofs.Common.{◌≡◌, ◌+◌, ◌-◌, ◌<◌, ℕ, [], ◌∷◌, arith, length, rules, set}
-use Rattle.std.specs.Prelude.{IsOk, OnErr, OnOk}
-use Rattle.std.proofs.lemmas.Nat.{pow_pos}
+use Rattle.std.proofs.Common.{◌≡◌, ◌+◌, ◌-◌, ℕ, [], ◌∷◌, arith, length, refl, rules, set, subst, sym}
+use Rattle.std.specs.Prelude.{IsOk, List, MatchResult, OnErr, OnOk}
+use Rattle.sequence.specs.Nodes.{AreChildren, IsList}
+use Rattle.sequence.specs.Spots.{spliced}
 use Rattle.sequence.proofs.Nodes.Copied.{made}
-use Rattle.sequence.proofs.Nodes.Ended.{IsEnded, ended, on_ok, place_last}
-use Rattle.sequence.proofs.Nodes.Placed.{child_here}
+use Rattle.sequence.proofs.Nodes.Ended.{Is, pushed_leaf, pushed_under}
 use Rattle.sequence.proofs.Nodes.Wide.{some_in}
 use Rattle.sequence.proofs.tree.Tree.+push.Given as given
 use Rattle.sequence.proofs.tree.Tree.+push.Goals as goal
-use Rattle.sequence.proofs.tree.Tree.+push.Goals.{After-from}
+use Rattle.sequence.proofs.tree.Tree.+push.Goals.{After-from, After-push_in_leaf}
+
+-- the leaf then
+leaf : (g : given.Over) (t : ℕ) (c : After-push_in_leaf g t)
+    → let new = c.push_in_leaf.new.items.items in
+    let tree = c.args.self.now in
+    IsList new × MatchResult c.push_in_leaf.result
+    (λ _. ◌≡◌ {A = List g.row.T.Denot × ℕ} (new, 0) (spliced (length tree.0) 0 (c.args.item ∷ []) tree.0, tree.1))
+    (λ back. ◌≡◌ {A = List g.row.T.Denot × ℕ} (new, 0) tree × (back ≡ c.args.item))
+leaf g t c =
+    let node = rw c.in-Leaf.is at (made g.L.Label.label_of c.args.self.now c.self.inside.root c.in-Ok.node.now
+    c.self.invariant c.self.view_is c.in-Ok.ensures.value c.requires.copies) in
+    pushed_leaf c.args.self.now c.in-Leaf.items.items c.push_in_leaf.new.items.items node.same node.whole c.args.item
+    c.push_in_leaf.result c.requires.room c.push_in_leaf.ensures
+
+pub invariant_of-self-in-Leaf : goal.invariant_of-self-in-Leaf
+invariant_of-self-in-Leaf g t c =
+    let ok : IsOk c.make_mut.result = subst IsOk (sym c.in-Ok.is) refl in
+    rw c.make_mut.follows.holds ((leaf g t (goal.at.invariant_of-self-in-Leaf g t c).After-push_in_leaf).0)
+
+pub returns-in-Leaf : goal.returns-in-Leaf
+returns-in-Leaf g t c =
+    let ok : IsOk c.make_mut.result = subst IsOk (sym c.in-Ok.is) refl in
+    rw c.make_mut.follows.holds ((leaf g t (goal.at.returns-in-Leaf g t c).After-push_in_leaf).1)
 
 -- the children then
 done : (g : given.Over) (t : ℕ) (c : After-from g t)
     → let d = c.index_mut-child.result.now in
-    let new = record d { len = d.len + c.from.result; tree = c.push-pushed.new.self } in
-    IsEnded g.L.Label.label_of c.args.self.now (length c.args.self.now.0) 0 (c.args.item ∷ [])
-    (set c.in-Branch.children.items (c.len-last.result - 1) new) c.push-pushed.result
+    let cs = set c.in-Branch.children.items (c.len-last.result - 1) (record d {
+      len = d.len + c.from.result;
+      tree = c.push-pushed.new.self;
+    }) in
+    let tree = c.args.self.now in
+    AreChildren g.L.Label.label_of cs × MatchResult c.push-pushed.result
+    (λ _. Is cs (spliced (length tree.0) 0 (c.args.item ∷ []) tree.0, tree.1))
+    (λ back. Is cs tree × (back ≡ c.args.item))
 done g t c =
     let node = rw c.in-Branch.is at (made g.L.Label.label_of c.args.self.now c.self.inside.root c.in-Ok.node.now
     c.self.invariant c.self.view_is c.in-Ok.ensures.value c.requires.copies) in
     let cs = c.in-Branch.children.items in
-    let i = c.len-last.result - 1 in
     let d = c.index_mut-child.result.now in
-    let is = c.index_mut-child.ensures.value in
     let some = some_in cs node.whole in
-    let last : i + 1 ≡ length cs = omega (arith, some, c.len-last.ensures) in
-    let h : i < length cs = omega (arith, last) in
-    let child = child_here cs i d node.whole h is in
-    let pushed = c.push-pushed.ensures in
+    let last : c.len-last.result - 1 + 1 ≡ length cs = omega (arith, some, c.len-last.ensures) in
     let more : OnOk c.push-pushed.result (d.len + c.from.result + 0 ≡ d.len + 1) = search rules in
     let same : OnErr c.push-pushed.result (d.len + c.from.result ≡ d.len) = search rules in
-    ended c.args.self.now cs i d node.whole node.same h is (length c.args.self.now.0) (length d.tree.0) 0
-    (c.args.item ∷ []) (place_last c.args.self.now cs i d node.whole node.same h is last) (omega arith)
-    (λ p. omega (arith, child.wide, pow_pos d.tree.1)) (omega (arith, c.requires.room))
-    c.push-pushed.new.self (d.len + c.from.result) c.push-pushed.result
-    (on_ok c.push-pushed.result (λ _. omega (arith, child.wide)) more) pushed.items pushed.blocked pushed.height
-    more same
+    pushed_under c.args.self.now cs (c.len-last.result - 1) d node.whole node.same (omega (arith, last))
+    c.index_mut-child.ensures.value last c.requires.room c.args.item c.push-pushed.new.self (d.len + c.from.result)
+    c.push-pushed.result c.push-pushed.ensures more same
 
 pub invariant_of-self-2 : goal.invariant_of-self-2
 invariant_of-self-2 g t c =
-    let ok : IsOk c.make_mut.result = search rules in
-    rw c.make_mut.follows.holds ((done g t (goal.at.invariant_of-self-2 g t c).After-from).whole)
+    let ok : IsOk c.make_mut.result = subst IsOk (sym c.in-Ok.is) refl in
+    rw c.make_mut.follows.holds ((done g t (goal.at.invariant_of-self-2 g t c).After-from).0)
 
 pub returns : goal.returns
 returns g t c =
-    let ok : IsOk c.make_mut.result = search rules in
-    let done = done g t (goal.at.returns g t c).After-from in
-    rw c.make_mut.follows.holds (record {
-      items = done.items;
-      height = done.height;
-      blocked = done.refused;
-      back = c.push-pushed.ensures.back;
-    })
+    let ok : IsOk c.make_mut.result = subst IsOk (sym c.in-Ok.is) refl in
+    rw c.make_mut.follows.holds ((done g t (goal.at.returns g t c).After-from).1)

@@ -1,5 +1,5 @@
 //! How two trees become one: the lower one becomes a child of the higher one, on its own level.
-ghost use Rattle.std.specs.Prelude.{◌≡◌, ◌+◌, ◌<◌, ◌≤◌, ◌^◌, ◌++◌, ◌⊎◌, IfErr, IfOk, OnOk, OnErr, length};
+ghost use Rattle.std.specs.Prelude.{◌≡◌, ◌+◌, ◌<◌, ◌≤◌, ◌^◌, ◌++◌, ◌⊎◌, IfOk, MatchResult, length};
 ghost use Rattle.handles.specs.Copies.{CopiesAreEqual};
 ghost use Rattle.sequence.specs.Spots.{spliced};
 
@@ -22,8 +22,7 @@ impl<T: Clone, L: NewLabel<T>> Tree<T, L> {
         requires len { len ≡ length self.0 }
         requires more { more ≡ length other.0 }
         requires room { len + more < 2 ^ 64 }
-        ensures items { IfOk result (λ tree. tree.0 ≡ self.0 ++ other.0) }
-        ensures refused { IfErr result (λ tree. tree.0 ≡ self.0) }
+        ensures { MatchResult result (λ tree. tree.0 ≡ self.0 ++ other.0) (λ tree. tree.0 ≡ self.0) }
     {
         if self.shrink().is_err() || other.shrink().is_err() {
             return Err(self);
@@ -58,9 +57,8 @@ impl<T: Clone, L: NewLabel<T>> Tree<T, L> {
         requires low { other.1 + below ≡ self.old.1 }
         requires edge { (place ≡ 0) ⊎ (place ≡ len) }
         requires room { len + more < 2 ^ 64 }
-        ensures items { OnOk result (self.new.0 ≡ spliced place 0 other.0 self.old.0) }
-        ensures refused { OnErr result (self.new.0 ≡ self.old.0) }
-        ensures back { IfErr result (λ back. back ≡ other) }
+        ensures { MatchResult result (λ _. self.new.0 ≡ spliced place 0 other.0 self.old.0)
+            (λ back. (self.new.0 ≡ self.old.0) × (back ≡ other)) }
     {
         let Ok(label) = L::new(other.item(0)) else {
             return Err(other);

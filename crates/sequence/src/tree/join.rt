@@ -1,8 +1,8 @@
 //! How two nodes become one: what the second one has moves behind what the first one has.
-ghost use Rattle.std.specs.Prelude.{◌≡◌, ℕ, ◌+◌, ◌<◌, ◌≤◌, ◌^◌, ◌++◌, ◌∷◌, [], IfErr, IfOk, IfSome, None, OnErr, OnOk};
+ghost use Rattle.std.specs.Prelude.{◌≡◌, ℕ, ◌+◌, ◌<◌, ◌≤◌, ◌^◌, ◌++◌, ◌∷◌, [], IfSome, MatchResult, None, OnErr, OnOk};
 ghost use Rattle.std.specs.Prelude.{Some, length, slice_get, slice_index_or, take};
 ghost use Rattle.handles.specs.Copies.{CopiesAreEqual};
-ghost use Rattle.sequence.specs.Nodes.{AreChildren, CanLose, IsChild, IsList, IsNode, StandFor};
+ghost use Rattle.sequence.specs.Nodes.{AreChildren, CanLose, IsList, IsNode, StandFor};
 ghost use Rattle.sequence.specs.Nodes.{first_label, items_in, items_under, seen};
 ghost use Rattle.sequence.specs.Spots.{Leads};
 
@@ -49,11 +49,12 @@ impl<T: Clone, L: NewLabel<T>> Child<T, L> {
     fn take_over(&mut self, alloc: Global, next: Child<T, L>) -> Result<(), Child<T, L>>
         requires copies { CopiesAreEqual T.is_clone × CopiesAreEqual L.is_clone }
         requires children { AreChildren L.label_of (self.old ∷ next ∷ []) }
-        ensures child { OnOk result (IsChild (self.old.tree.1 + 1) self.new) }
-        ensures label { self.new.label ≡ self.old.label }
-        ensures joined { OnOk result (self.new.tree.0 ≡ self.old.tree.0 ++ next.tree.0) }
-        ensures same { OnErr result (self.new ≡ self.old) }
-        ensures refused { IfErr result (λ child. child ≡ next) }
+        ensures { MatchResult result
+            (λ _. self.new ≡ record self.old {
+              len = self.old.len + next.len;
+              tree = (self.old.tree.0 ++ next.tree.0, self.old.tree.1);
+            })
+            (λ child. (self.new ≡ self.old) × (child ≡ next)) }
     {
         let Child {
             mut label,
@@ -81,10 +82,9 @@ impl<T: Clone, L: NewLabel<T>> Tree<T, L> {
         requires list { IsList (self.old.0 ++ next.0) }
         requires level { self.old.1 ≡ next.1 }
         requires label { first_label L.label_of next.0 ≡ Some label.old }
-        ensures joined { OnOk result (self.new ≡ (self.old.0 ++ next.0, self.old.1)) }
-        ensures same { OnErr result (self.new ≡ self.old) }
-        ensures label { OnErr result (label.new ≡ label.old) }
-        ensures refused { IfErr result (λ tree. tree ≡ next) }
+        ensures { MatchResult result
+            (λ _. self.new ≡ (self.old.0 ++ next.0, self.old.1))
+            (λ tree. (self.new ≡ self.old) × ((label.new ≡ label.old) × (tree ≡ next))) }
     {
         let Ok(node) = Arc::make_mut(&mut self.root, alloc) else {
             return Err(next);
@@ -103,9 +103,7 @@ impl<T: Clone, L: Label<T> + Clone> Tree<T, L> {
     // The first node, which no other version has then. A refusal gives the tree back.
     fn into_own(self, alloc: Global) -> Result<UniqueArc<Node<T, L>>, Tree<T, L>>
         requires copies { CopiesAreEqual T.is_clone × CopiesAreEqual L.is_clone }
-        ensures same { IfOk result (λ node. seen node ≡ self) }
-        ensures whole { IfOk result (IsNode L.label_of) }
-        ensures refused { IfErr result (λ tree. tree ≡ self) }
+        ensures { MatchResult result (λ node. (seen node ≡ self) × IsNode L.label_of node) (λ tree. tree ≡ self) }
     {
         let Tree { mut root } = self;
         if let Err(AllocError) = Arc::make_mut(&mut root, alloc) {
@@ -122,8 +120,7 @@ impl<T: Clone, L: Label<T> + Clone> Tree<T, L> {
         requires copies { CopiesAreEqual T.is_clone × CopiesAreEqual L.is_clone }
         requires one { length self.0 ≡ 1 }
         requires wide { 2 ^ self.1 ≤ length self.0 }
-        ensures item { IfOk result (λ item. self.0 ≡ item ∷ []) }
-        ensures refused { IfErr result (λ tree. tree ≡ self) }
+        ensures { MatchResult result (λ item. self.0 ≡ item ∷ []) (λ tree. tree ≡ self) }
     {
         match self.into_own(alloc)?.into_inner() {
             Node::Leaf(mut items) => Ok(items.remove(0)),
@@ -136,9 +133,8 @@ impl<T: Clone, L: Label<T> + Clone> Tree<T, L> {
         requires copies { CopiesAreEqual T.is_clone × CopiesAreEqual L.is_clone }
         requires one { length (items_under root.old) ≡ 1 }
         requires wide { IfSome root.old (λ tree. 2 ^ tree.1 ≤ length tree.0) }
-        ensures item { IfOk result (λ item. items_under root.old ≡ item ∷ []) }
-        ensures none { OnOk result (root.new ≡ None) }
-        ensures refused { OnErr result (root.new ≡ root.old) }
+        ensures { MatchResult result
+            (λ item. (items_under root.old ≡ item ∷ []) × (root.new ≡ None)) (λ _. root.new ≡ root.old) }
     {
         let Some(tree) = root.take() else {
             unreachable!()

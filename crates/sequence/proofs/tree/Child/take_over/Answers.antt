@@ -1,7 +1,11 @@
-use Rattle.std.proofs.Common.{refl}
-use Rattle.sequence.proofs.Shapes.Joined.{child_of_both}
+use Rattle.std.proofs.Common.{arith}
+use Rattle.sequence.proofs.Shapes.Joined.{fits_behind}
 use Rattle.sequence.proofs.tree.Child.take_over.Goals as goal
 
-pub returns-clause-child : goal.returns-clause-child
-returns-clause-child g c =
-    child_of_both c.args.self.now c.args.next _ c.requires.children refl c.in_default.ensures.joined
+pub take_over-requires : goal.take_over-requires
+take_over-requires g c =
+    let fits = fits_behind c.args.self.now c.args.next c.requires.children in
+    record { copies = c.requires.copies; list = fits.list; level = fits.level; label = fits.label }
+
+pub overflow_add-self : goal.overflow_add-self
+overflow_add-self g c = omega (arith, (fits_behind c.args.self.now c.args.next c.requires.children).room)

@@ -7,7 +7,7 @@ pub unreachable-requires : goal.unreachable-requires
 unreachable-requires g c =
     let tree = c.args.self in
     let branch = sym c.into_inner.ensures ∙ c.in-Branch.is in
-    let same = rw branch at c.in_ok-into_own.ensures.same in
-    let high = height_some c.in-Branch.field-0.items (rw branch at c.in_ok-into_own.ensures.whole) in
+    let same = rw branch at c.in_ok-into_own.ensures.0 in
+    let high = height_some c.in-Branch.field-0.items (rw branch at c.in_ok-into_own.ensures.1) in
     let up : 1 ≤ tree.1 = omega (arith, high, ap (λ t. t.1) same) in
     omega (arith, c.requires.one, c.requires.wide, pow-le-pow_right {n = 2} (omega arith) up)

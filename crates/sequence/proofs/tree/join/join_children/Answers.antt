@@ -1,7 +1,7 @@
 use Rattle.std.proofs.Common.{◌+◌, ◌∙◌, ap, set, subst, sym, take}
 use Rattle.std.specs.List.{insert}
 use Rattle.sequence.specs.Nodes.{StandFor}
-use Rattle.sequence.proofs.Shapes.Joined.{IsJoined, back, joined_is, pair_are, taken}
+use Rattle.sequence.proofs.Shapes.Joined.{IsJoined, back, child_of_both, joined_is, pair_are, taken}
 use Rattle.sequence.proofs.Nodes.Placed.{stand_itself}
 use Rattle.sequence.proofs.tree.join.join_children.Goals as goal
 
@@ -25,9 +25,12 @@ returns-in_default g c =
     let one = c.in_default.ensures in
     let two = taken cs _ _ at d e within c.in_ok-reserve.ensures.items c.remove-next.ensures.items
     c.index_mut.ensures.value c.remove-next.ensures.value in
-    let done = subst (λ xs. IsJoined cs at d e are within two.first two.second new one.child one.joined one.label
-    (set xs at new))
-    (sym two.left) (joined_is cs at d e are within two.first two.second new one.child one.joined one.label) in
+    let child = child_of_both d e new (pair_are cs at d e are within two.first two.second) (ap (λ c. c.len) one)
+    (ap (λ c. c.tree) one) in
+    let joined = ap (λ c. c.tree.0) one in
+    let label = ap (λ c. c.label) one in
+    let done = subst (λ xs. IsJoined cs at d e are within two.first two.second new child joined label (set xs at new))
+    (sym two.left) (joined_is cs at d e are within two.first two.second new child joined label) in
     record { same = done.same; before = done.front; first = done.first; second = done.second; spare = done.spare }
 
 pub returns : goal.returns
@@ -40,8 +43,8 @@ returns g c =
     c.index_mut.ensures.value c.remove-next.ensures.value in
     let same = c.in-Ok.ensures.items
     ∙ ap (λ xs. insert (set xs at c.take_over.new.self) (at + 1) c.in-Err.next) two.left
-    ∙ back cs at d e c.take_over.new.self c.in-Err.next c.requires.within (c.in-Err.ensures.same ∙ two.first)
-    (c.in-Err.ensures.refused ∙ two.second) in
+    ∙ back cs at d e c.take_over.new.self c.in-Err.next c.requires.within (c.in-Err.ensures.0 ∙ two.first)
+    (c.in-Err.ensures.1 ∙ two.second) in
     record {
       same = subst (StandFor g.L.Label.label_of cs) (sym same) (stand_itself cs c.requires.children);
       before = ap (λ xs. take at xs) same;

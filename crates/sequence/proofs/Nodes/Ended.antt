@@ -30,8 +30,8 @@ pub record IsEnded {T L A E : Type 0} (label_of : T → L) (tree : List T × ℕ
   pub refused : OnErr r (items_in new ≡ tree.0)
 
 -- the children make up that tree
-abbrev pub Is : {T L : Type 0} → List (Child T L) → List T × ℕ → Type 0
-Is {T} cs tree = ◌≡◌ {A = List T × ℕ} (items_in cs, height_in cs) tree
+abbrev pub MakeUp : {T L : Type 0} → List (Child T L) → List T × ℕ → Type 0
+MakeUp {T} cs tree = ◌≡◌ {A = List T × ℕ} (items_in cs, height_in cs) tree
 
 module _ {T L : Type 0} {label_of : T → L} (tree : List T × ℕ) (cs : List (Child T L)) (i : ℕ) (d : Child T L)
     (are : AreChildren label_of cs) (same : ◌≡◌ {A = List T × ℕ} (items_in cs, height_in cs) tree) (h : i < length cs)
@@ -121,7 +121,7 @@ module _ {T L : Type 0} {label_of : T → L} (tree : List T × ℕ) (cs : List (
       → (new : List T × ℕ) (len : ℕ) → new ≡ (spliced p gone more d.tree.0, d.tree.1)
       → 2 ^ d.tree.1 + gone ≤ length d.tree.0 + length more → len + gone ≡ d.len + length more
       → AreChildren label_of (set cs i (record d { len = len; tree = new }))
-      × Is (set cs i (record d { len = len; tree = new })) (spliced at gone more tree.0, tree.1)
+      × MakeUp (set cs i (record d { len = len; tree = new })) (spliced at gone more tree.0, tree.1)
   put_in at p gone more place inside behind room new len put wide count =
       let done = ended at p gone more place inside behind room {A = Unit {0}} {E = Unit {0}} new len (Ok tt) wide
       (ap (λ (t : List T × ℕ). t.0) put) tt (ap (λ (t : List T × ℕ). t.1) put) count tt in
@@ -130,7 +130,7 @@ module _ {T L : Type 0} {label_of : T → L} (tree : List T × ℕ) (cs : List (
   -- and where it stays
   pub put_back : (new : List T × ℕ) (len : ℕ) → new ≡ d.tree → len ≡ d.len
       → AreChildren label_of (set cs i (record d { len = len; tree = new }))
-      × Is (set cs i (record d { len = len; tree = new })) tree
+      × MakeUp (set cs i (record d { len = len; tree = new })) tree
   put_back new len left count =
       let stays = left_as cs i d are h is (record d { len = len; tree = new })
       (ap₂ (λ (n : ℕ) (t : List T × ℕ). record d { len = n; tree = t }) count left) in
@@ -194,7 +194,7 @@ module _ {T L : Type 0} {label_of : T → L} (tree : List T × ℕ) (cs : List (
       → MatchResult r (λ item. ((d : Child T L) → (get_or cs i d).tree.0 ≡ item ∷ []) × (new ≡ remove cs i))
       (λ _. new ≡ cs)
       → AreChildren label_of new
-      × MatchResult r (IsPopped end least tree (items_in new, height_in new)) (λ _. Is new tree)
+      × MatchResult r (IsPopped end least tree (items_in new, height_in new)) (λ _. MakeUp new tree)
   leaf_gone end least first more spare new (Ok item) (only, gone) =
       let at = place_at end (length tree.0) in
       let l = items_in (take i cs) in
@@ -235,7 +235,7 @@ module _ {T L : Type 0} {label_of : T → L} (tree : List T × ℕ) (cs : List (
       → OnOk r (len + 1 ≡ d.len + 0) → OnErr r (len ≡ d.len)
       → AreChildren label_of (set cs i (record d { len = len; tree = new }))
       × (let cs = set cs i (record d { len = len; tree = new }) in
-      MatchResult r (IsPopped end least tree (items_in cs, height_in cs)) (λ _. Is cs tree))
+      MatchResult r (IsPopped end least tree (items_in cs, height_in cs)) (λ _. MakeUp cs tree))
   popped_under end least few first some spare low new len (Ok item) popped fewer kept =
       let at = place_at end (length tree.0) in
       let p = place_at end (length d.tree.0) in
@@ -264,8 +264,8 @@ module _ {T L : Type 0} {label_of : T → L} (tree : List T × ℕ) (cs : List (
       → OnOk r (len + 0 ≡ d.len + 1) → OnErr r (len ≡ d.len)
       → AreChildren label_of (set cs i (record d { len = len; tree = new }))
       × (let cs = set cs i (record d { len = len; tree = new }) in
-      MatchResult r (λ _. Is cs (spliced (length tree.0) 0 (item ∷ []) tree.0, tree.1))
-      (λ back. Is cs tree × (back ≡ item)))
+      MatchResult r (λ _. MakeUp cs (spliced (length tree.0) 0 (item ∷ []) tree.0, tree.1))
+      (λ back. MakeUp cs tree × (back ≡ item)))
   pushed_under last room item new len (Ok a) pushed more kept =
       let child = child_here cs i d are h is in
       put_in tree cs i d are same h is (length tree.0) (length d.tree.0) 0 (item ∷ [])

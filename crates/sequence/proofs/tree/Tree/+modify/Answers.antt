@@ -1,15 +1,15 @@
 -- The item is changed in the child that has it.
-use Rattle.std.proofs.Common.{◌∙◌, ℕ, ap, arith, length, refl, set, subst, sym}
+use Rattle.std.proofs.Common.{◌∙◌, ℕ, ap, arith, length, length-set, refl, set, subst, sym}
 use Rattle.std.specs.Prelude.{IsOk, slice_get}
 use Rattle.std.proofs.lemmas.Option.{slice_get_read}
-use Rattle.sequence.specs.declared.tree.Node.TheVariants.{Branch}
+use Rattle.sequence.specs.declared.tree.Node.TheVariants.{Branch, Leaf}
 use Rattle.sequence.specs.Nodes.{AreChildren}
 use Rattle.sequence.proofs.Calls.{both, of_four}
 use Rattle.sequence.proofs.Nodes.Changed.{IsChanged, changed_at, item_at, spot_inside}
 use Rattle.sequence.proofs.Nodes.Copied.{IsMade, made}
 use Rattle.sequence.proofs.tree.Tree.+modify.Given as given
 use Rattle.sequence.proofs.tree.Tree.+modify.Goals as goal
-use Rattle.sequence.proofs.tree.Tree.+modify.Goals.{After-modify, In-Branch}
+use Rattle.sequence.proofs.tree.Tree.+modify.Goals.{After-modify, In-Branch, In-Leaf}
 
 -- the branch is whole, and has what the tree has
 branch : (g : given.Over) (t : ℕ) (c : In-Branch g t)
@@ -18,10 +18,31 @@ branch g t c =
     rw c.in-Branch.is at (made g.L.Label.label_of c.args.self.now c.self.inside.root c.in_ok-items.field-0.now
     c.self.invariant c.self.view_is c.in_ok-items.ensures.value c.requires.copies)
 
+-- the leaf is whole, and has what the tree has
+leaf : (g : given.Over) (t : ℕ) (c : In-Leaf g t)
+    → IsMade g.L.Label.label_of c.args.self.now (Leaf c.in-Leaf.items)
+leaf g t c =
+    rw c.in-Leaf.is at (made g.L.Label.label_of c.args.self.now c.self.inside.root c.in_ok-items.field-0.now
+    c.self.invariant c.self.view_is c.in_ok-items.ensures.value c.requires.copies)
+
+pub index_mut-requires : goal.index_mut-requires
+index_mut-requires g t c =
+    let node = leaf g t (goal.at.index_mut-requires g t c).In-Leaf in
+    omega (arith, ap (λ t. length t.0) node.same, c.requires.there)
+
+pub invariant_of-self-in-Leaf : goal.invariant_of-self-in-Leaf
+invariant_of-self-in-Leaf g t c =
+    let node = leaf g t (goal.at.invariant_of-self-in-Leaf g t c).In-Leaf in
+    let ok : IsOk c.make_mut.result = subst IsOk (sym c.in_ok-items.was) refl in
+    let many = length-set c.in-Leaf.items.items c.args.index c.change.new.arg2 in
+    rw c.make_mut.follows.holds (record {
+      some = omega (arith, many, node.whole.some);
+      room = omega (arith, many, node.whole.room);
+    })
+
 pub returns-in-Leaf : goal.returns-in-Leaf
 returns-in-Leaf g t c =
-    let node = rw c.in-Leaf.is at (made g.L.Label.label_of c.args.self.now c.self.inside.root c.in_ok-items.field-0.now
-    c.self.invariant c.self.view_is c.in_ok-items.ensures.value c.requires.copies) in
+    let node = leaf g t (goal.at.returns-in-Leaf g t c).In-Leaf in
     let ok : IsOk c.make_mut.result = subst IsOk (sym c.in_ok-items.was) refl in
     let es = c.in-Leaf.items.items in
     let at = c.args.index in
@@ -39,6 +60,11 @@ returns-in-Leaf g t c =
       },
       ap (λ t. t.1) node.same,
     )
+
+pub index_mut-requires-2 : goal.index_mut-requires-2
+index_mut-requires-2 g t c =
+    let leads = rw c.deref.ensures.value at c.spot_of-spot.ensures in
+    omega (arith, leads.within)
 
 pub spot_of-spot-requires-clause-children : goal.spot_of-spot-requires-clause-children
 spot_of-spot-requires-clause-children g t c =

@@ -5,13 +5,31 @@ use Rattle.std.specs.Prelude.{IsOk, MatchResult, OnErr, OnOk}
 use Rattle.sequence.specs.Changes.{IsPopped}
 use Rattle.sequence.specs.Nodes.{AreChildren, IsList, height_in, items_in}
 use Rattle.sequence.specs.Spots.{place_at}
+use Rattle.sequence.proofs.Calls.{both, of_two}
 use Rattle.sequence.proofs.Cutting.Acts.{read_again}
 use Rattle.sequence.proofs.Nodes.Copied.{made}
-use Rattle.sequence.proofs.Nodes.Ended.{Is, can_lose, leaf_gone, popped_leaf, popped_under}
+use Rattle.sequence.proofs.Nodes.Ended.{MakeUp, can_lose, leaf_gone, popped_leaf, popped_under}
 use Rattle.sequence.proofs.Nodes.Placed.{child_here}
 use Rattle.sequence.proofs.tree.Tree.+pop.Given as given
 use Rattle.sequence.proofs.tree.Tree.+pop.Goals as goal
 use Rattle.sequence.proofs.tree.Tree.+pop.Goals.{After-from, After-pop_in_leaf, After-pop_leaf}
+
+pub pop-popped-requires : goal.pop-popped-requires
+pop-popped-requires g t c κs within =
+    let node = rw c.in-Branch.is at (made g.L.Label.label_of c.args.self.now c.self.inside.root
+    c.in_ok-items.field-0.now c.self.invariant c.self.view_is c.in_ok-items.ensures.value
+    c.requires.copies) in
+    let cs = c.in-Branch.children.items in
+    let i = c.place-at.result in
+    let d = c.index_mut-child.result.now in
+    let is = c.index_mut-child.ensures.value in
+    let h : i < length cs = omega (arith, c.place-at.ensures.within, c.len-2.ensures) in
+    let seen = read_again cs i c.index.result.now (omega (arith, h)) c.index.ensures d is in
+    let child = child_here cs i d node.whole h is in
+    let level = (node.whole.each i d h).level in
+    of_two (omega (arith, c.decreases, ap (λ t. t.1) node.same, ap (λ child. child.tree.1) is, level)) within
+    (both c.requires.copies
+    (omega (arith, child.counted, child.wide, pow_pos d.tree.1, c.if-index-eq1.false, ap (λ c. c.len) seen)))
 
 -- the item, and the leaf then
 leaf : (g : given.Over) (t : ℕ) (c : After-pop_in_leaf g t)
@@ -58,7 +76,7 @@ done : (g : given.Over) (t : ℕ) (c : After-from g t)
       tree = c.pop-popped.new.self;
     }) in
     AreChildren g.L.Label.label_of cs × MatchResult c.pop-popped.result
-    (IsPopped c.args.end c.args.least c.args.self.now (items_in cs, height_in cs)) (λ _. Is cs c.args.self.now)
+    (IsPopped c.args.end c.args.least c.args.self.now (items_in cs, height_in cs)) (λ _. MakeUp cs c.args.self.now)
 done g t c =
     let node = rw c.in-Branch.is at (made g.L.Label.label_of c.args.self.now c.self.inside.root
     c.in_ok-items.field-0.now c.self.invariant c.self.view_is c.in_ok-items.ensures.value
@@ -69,7 +87,8 @@ done g t c =
     let d = c.index_mut-child.result.now in
     let is = c.index_mut-child.ensures.value in
     let count : c.len-2.result ≡ length cs = omega (arith, c.len-2.ensures) in
-    let first : i ≡ place_at c.args.end (length cs) = c.place-at.ensures.place ∙ ap (λ n. place_at c.args.end n) count in
+    let first : i ≡ place_at c.args.end (length cs) =
+    c.place-at.ensures.place ∙ ap (λ n. place_at c.args.end n) count in
     let h : i < length cs = omega (arith, c.place-at.ensures.within, count) in
     let seen = read_again cs i c.index.result.now (omega (arith, h)) c.index.ensures d is in
     let child = child_here cs i d node.whole h is in
@@ -85,7 +104,7 @@ done g t c =
 gone : (g : given.Over) (t : ℕ) (c : After-pop_leaf g t)
     → let cs = c.pop_leaf.new.children.items in
     AreChildren g.L.Label.label_of cs × MatchResult c.pop_leaf.result
-    (IsPopped c.args.end c.args.least c.args.self.now (items_in cs, height_in cs)) (λ _. Is cs c.args.self.now)
+    (IsPopped c.args.end c.args.least c.args.self.now (items_in cs, height_in cs)) (λ _. MakeUp cs c.args.self.now)
 gone g t c =
     let node = rw c.in-Branch.is at (made g.L.Label.label_of c.args.self.now c.self.inside.root
     c.in_ok-items.field-0.now c.self.invariant c.self.view_is c.in_ok-items.ensures.value

@@ -1,14 +1,43 @@
 -- The item goes in behind those of the last child.
-use Rattle.std.proofs.Common.{◌≡◌, ◌+◌, ◌-◌, ℕ, [], ◌∷◌, arith, length, refl, rules, set, subst, sym}
+use Rattle.std.proofs.Common.{◌≡◌, ◌+◌, ◌-◌, ◌<◌, ℕ, [], ◌∷◌, ap, arith, length, refl, rules, set, subst, sym}
 use Rattle.std.specs.Prelude.{IsOk, List, MatchResult, OnErr, OnOk}
 use Rattle.sequence.specs.Nodes.{AreChildren, IsList}
 use Rattle.sequence.specs.Spots.{spliced}
-use Rattle.sequence.proofs.Nodes.Copied.{made}
-use Rattle.sequence.proofs.Nodes.Ended.{Is, pushed_leaf, pushed_under}
+use Rattle.sequence.specs.declared.tree.Node.TheVariants.{Branch}
+use Rattle.sequence.proofs.Calls.{both, of_two}
+use Rattle.sequence.proofs.Nodes.Copied.{IsMade, made}
+use Rattle.sequence.proofs.Nodes.Ended.{MakeUp, pushed_leaf, pushed_under}
+use Rattle.sequence.proofs.Nodes.Placed.{child_within}
 use Rattle.sequence.proofs.Nodes.Wide.{some_in}
 use Rattle.sequence.proofs.tree.Tree.+push.Given as given
 use Rattle.sequence.proofs.tree.Tree.+push.Goals as goal
-use Rattle.sequence.proofs.tree.Tree.+push.Goals.{After-from, After-push_in_leaf}
+use Rattle.sequence.proofs.tree.Tree.+push.Goals.{After-from, After-push_in_leaf, In-Branch}
+
+-- the branch is whole, and has what the tree has
+branch : (g : given.Over) (t : ℕ) (c : In-Branch g t)
+    → IsMade g.L.Label.label_of c.args.self.now (Branch c.in-Branch.children)
+branch g t c =
+    rw c.in-Branch.is at (made g.L.Label.label_of c.args.self.now c.self.inside.root c.in-Ok.node.now c.self.invariant
+    c.self.view_is c.in-Ok.ensures.value c.requires.copies)
+
+pub overflow_sub-last : goal.overflow_sub-last
+overflow_sub-last g t c =
+    let node = branch g t (goal.at.overflow_sub-last g t c).In-Branch in
+    omega (arith, some_in c.in-Branch.children.items node.whole, c.len-last.ensures)
+
+pub push-pushed-requires : goal.push-pushed-requires
+push-pushed-requires g t c κs within =
+    let node = branch g t (goal.at.push-pushed-requires g t c).In-Branch in
+    let cs = c.in-Branch.children.items in
+    let i = c.len-last.result - 1 in
+    let d = c.index_mut-child.result.now in
+    let is = c.index_mut-child.ensures.value in
+    let some = some_in cs node.whole in
+    let h : i < length cs = omega (arith, some, c.len-last.ensures) in
+    let level = (node.whole.each i d h).level in
+    let fewer = child_within cs i d node.whole h is in
+    of_two (omega (arith, c.decreases, ap (λ t. t.1) node.same, ap (λ child. child.tree.1) is, level)) within
+    (both c.requires.copies (omega (arith, fewer, ap (λ t. length t.0) node.same, c.requires.room)))
 
 -- the leaf then
 leaf : (g : given.Over) (t : ℕ) (c : After-push_in_leaf g t)
@@ -42,8 +71,8 @@ done : (g : given.Over) (t : ℕ) (c : After-from g t)
     }) in
     let tree = c.args.self.now in
     AreChildren g.L.Label.label_of cs × MatchResult c.push-pushed.result
-    (λ _. Is cs (spliced (length tree.0) 0 (c.args.item ∷ []) tree.0, tree.1))
-    (λ back. Is cs tree × (back ≡ c.args.item))
+    (λ _. MakeUp cs (spliced (length tree.0) 0 (c.args.item ∷ []) tree.0, tree.1))
+    (λ back. MakeUp cs tree × (back ≡ c.args.item))
 done g t c =
     let node = rw c.in-Branch.is at (made g.L.Label.label_of c.args.self.now c.self.inside.root c.in-Ok.node.now
     c.self.invariant c.self.view_is c.in-Ok.ensures.value c.requires.copies) in

@@ -1,4 +1,4 @@
-use Rattle.std.proofs.Common.{◌+◌, ◌^◌, ◌<◌, arith, length, subst, sym}
+use Rattle.std.proofs.Common.{◌+◌, ◌∙◌, ◌^◌, ◌<◌, ap, arith, length, subst, sym}
 use Rattle.std.proofs.lemmas.List.{take_rest}
 use Rattle.sequence.specs.Nodes.{AreLevel, items_in}
 use Rattle.sequence.proofs.Nodes.Children.{length-parts}
@@ -24,3 +24,8 @@ of_children-requires-2-clause-room g c =
     let n = c.args.child + 1 in
     subst (λ xs. length (items_in xs) < 2 ^ 64) (sym (take_rest cs n))
     (omega (arith, length-parts cs n, c.requires.children.list.room))
+
+pub returns : goal.returns
+returns g c =
+    let rest = take_rest c.args.children.now (c.args.child + 1) in
+    (c.in_ok-front.ensures, c.in_ok-behind.ensures ∙ ap (λ xs. items_in xs) rest)

@@ -1,4 +1,5 @@
 use Rattle.std.proofs.Common.{◌≡◌, ◌+◌, ◌∙◌, ◌∷◌, ◌++◌, [], ap, arith, length, length-append, reverse, subst, sym}
+use Rattle.std.proofs.lemmas.Nat.{pow_pos}
 use Rattle.sequence.specs.Nodes.{AreParts, IsChild, seen}
 use Rattle.sequence.proofs.Shapes.Built.{IsBefore, parts_all, parts_more}
 use Rattle.sequence.proofs.Shapes.Halves.{child_is}
@@ -41,3 +42,17 @@ off-preserved g c =
           (sym c.in_ok-push.ensures.items)
           (parts_more _ _ _ _ c.off.children.items half before.before level halves.label halves.items);
     }
+
+pub off-smaller : goal.off-smaller
+off-smaller g c =
+    let half = c.in-Some.child in
+    let halves = (rw c.in-Some.is at c.in_ok-child.ensures.split).0 in
+    let more = length-append (seen c.split_node.new.self).0 half.tree.0 in
+    omega (arith, halves.child.wide, pow_pos half.tree.1, ap (λ es. length es) halves.items, more)
+
+pub overflow_sub-len : goal.overflow_sub-len
+overflow_sub-len g c =
+    let half = c.in-Some.child in
+    let halves = (rw c.in-Some.is at c.in_ok-child.ensures.split).0 in
+    let more = length-append (seen c.split_node.new.self).0 half.tree.0 in
+    omega (arith, c.off.invariant.len, halves.child.counted, ap (λ es. length es) halves.items, more)

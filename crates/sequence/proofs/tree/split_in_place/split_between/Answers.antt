@@ -1,4 +1,5 @@
-use Rattle.std.proofs.Common.{◌≡◌, ◌+◌, ◌-◌, arith, subst, take}
+use Rattle.std.proofs.Common.{◌≡◌, ◌+◌, ◌-◌, arith, subst, sym, take}
+use Rattle.sequence.specs.Nodes.{StandFor}
 use Rattle.sequence.proofs.Shapes.Edges.{cut_stands, wide_kept, wide_within}
 use Rattle.sequence.proofs.tree.split_in_place.split_between.Goals as goal
 
@@ -31,3 +32,13 @@ returns g c =
           c.join_before.ensures.same before c.in-Ok.ensures.kept c.in-Ok.ensures.halves
           c.join_before-2.ensures.same;
     }
+
+pub overflow_add-at : goal.overflow_add-at
+overflow_add-at g c = omega (arith, wide_within c.args.children.now.items c.args.at c.requires.sides)
+
+pub returns-in_default : goal.returns-in_default
+returns-in_default g c = record {
+  children = c.split_branch.ensures.children;
+  cut = subst (StandFor g.L.Label.label_of c.args.children.now.items) (sym c.in_default.ensures.refused)
+      c.join_before.ensures.same;
+}

@@ -24,3 +24,13 @@ returns g c =
       c.spot_of-child.ensures.inside d,
       ap (λ child. child.len) (get_or_default cs spot.child d c.index-children-child.result within),
     ))
+
+pub overflow_sub-children : goal.overflow_sub-children
+overflow_sub-children g c =
+    let spot = c.spot_of-child.result in
+    let d = c.index-children-child.result in
+    omega (
+      arith,
+      (c.requires.children.each spot.child d c.spot_of-child.ensures.within).counted,
+      c.spot_of-child.ensures.inside d,
+    )

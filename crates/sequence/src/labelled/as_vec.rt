@@ -1,5 +1,5 @@
 //! More methods of `Vec`, each made of the other calls.
-ghost use Rattle.std.specs.Prelude.{◌≡◌, ◌++◌, ◌<◌, ◌≤◌, ◌↔◌, ◌⊎◌, [], Err, OnErr, OnOk, Some};
+ghost use Rattle.std.specs.Prelude.{◌≡◌, ◌++◌, ◌<◌, ◌≤◌, ◌↔◌, ◌⊎◌, [], Err, IfOk, OnErr, OnOk, Some};
 ghost use Rattle.std.specs.Prelude.{length, slice_get, swap};
 ghost use Rattle.std.specs.Fn.{CalledAt};
 ghost use Rattle.std.specs.List.{list_any};
@@ -72,28 +72,36 @@ impl<T: Clone, L: NewLabel<T>> LabelledSequence<T, L> {
     /// # Errors
     ///
     /// `AllocError` if there is no memory, or if the `clone` of an item that stays fails. The items stay as they were.
-    pub fn retain<F: FnMut(&T) -> bool>(
-        &mut self,
-        alloc: Global,
-        mut keep: F,
-    ) -> Result<(), AllocError>
+    pub fn retain<F: FnMut(&T) -> bool>(&mut self, alloc: Global, keep: F) -> Result<(), AllocError>
         requires copies { CopiesAreEqual T.is_clone }
         requires labels { CopiesAreEqual L.is_clone }
         requires callable { F.IsAlwaysCallable keep }
         ensures kept { OnOk result (IsFiltered (CalledAt F.FnMut) keep self.old self.new) }
         ensures refused { OnErr result (self.new ≡ self.old) }
     {
-        let mut items = Vec::with_capacity(alloc, self.len())?;
-        for item in &*self {
-            if keep(item) {
-                items.push(item.clone()?)?;
-            }
-        }
+        let items = self.kept(alloc, keep)?;
         if items.len() == self.len() {
             return Ok(());
         }
         *self = LabelledSequence::of_items(alloc, items)?;
         Ok(())
+    }
+}
+
+impl<T: Clone, L: Label<T>> LabelledSequence<T, L> {
+    // Clones of the items for which `keep` returns `true`.
+    fn kept<F: FnMut(&T) -> bool>(&self, alloc: Global, mut keep: F) -> Result<Vec<T>, AllocError>
+        requires copies { CopiesAreEqual T.is_clone }
+        requires callable { F.IsAlwaysCallable keep }
+        ensures { IfOk result (λ items. IsFiltered (CalledAt F.FnMut) keep self.now items.items) }
+    {
+        let mut items = Vec::with_capacity(alloc, self.len())?;
+        for item in self {
+            if keep(item) {
+                items.push(item.clone()?)?;
+            }
+        }
+        Ok(items)
     }
 }
 

@@ -1,6 +1,6 @@
 use Rattle.std.specs.Fn.{CalledAt}
 use Rattle.sequence.proofs.Lists.Kept.{AreKept}
-use Rattle.sequence.proofs.labelled.LabelledSequence.retain.Given as goal
+use Rattle.sequence.proofs.labelled.LabelledSequence.kept.Given as goal
 
 -- the copies so far, and what is kept of the rest, are what is kept of all
 abbrev pub invariant-loop-item : goal.invariant-loop-item

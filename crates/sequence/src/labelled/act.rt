@@ -1,10 +1,11 @@
 //! Changes at a cut: in one pass if the nodes on the path keep their form, else in a second pass by the index.
-ghost use Rattle.std.specs.Prelude.{◌≡◌, IfErr, IfNone, IfOk, IfSome, MatchResult, OnErr};
+ghost use Rattle.std.specs.Prelude.{◌≡◌, ◌<◌, IfErr, IfNone, IfOk, IfSome, MatchResult, OnErr, length, slice_get};
 ghost use Rattle.handles.specs.Copies.{CopiesAreEqual};
 ghost use Rattle.std.specs.Fn.{FnOnceTakesAtMut};
+ghost use Rattle.std.specs.Option.{ForSome};
 ghost use Rattle.sequence.specs.Acts.{IsAbsent, IsActed, IsAdded, IsChanged, IsFound, IsMissing, IsReplaced, IsTaken};
 ghost use Rattle.sequence.specs.Acts.{IsThere, OfSought};
-ghost use Rattle.sequence.specs.Changes.{KeepsLabel};
+ghost use Rattle.sequence.specs.Changes.{ChangesItem, KeepsLabel};
 ghost use Rattle.sequence.specs.Cuts.{HasCut};
 
 use crate::cut::Seek;
@@ -83,10 +84,7 @@ impl<T: Clone, L: NewLabel<T>> LabelledSequence<T, L> {
         match self.place(&cut) {
             Err(_) => Ok(None),
             Ok(at) => {
-                let Some(tree) = &mut self.root else {
-                    unreachable!()
-                };
-                let answer = tree.modify(alloc, at, change)?;
+                let answer = self.modify_at(alloc, at, change)?;
                 Ok(Some(answer))
             }
         }
@@ -118,6 +116,26 @@ impl<T: Clone, L: NewLabel<T>> LabelledSequence<T, L> {
         }
     }
 
+    // Changes the item at an index that is known to have one, so that only memory can be lacking.
+    #[inline(always)]
+    fn modify_at<R, F: FnOnce(&mut T) -> R>(
+        &mut self,
+        alloc: Global,
+        index: usize,
+        change: F,
+    ) -> Result<R, AllocError>
+        requires copies { CopiesAreEqual T.is_clone × CopiesAreEqual L.is_clone }
+        requires there { index < length self.old }
+        requires callable { ForSome (slice_get self.old index) (FnOnceTakesAtMut F.FnOnce change) }
+        requires keeps { ForSome (slice_get self.old index) (KeepsLabel F.FnOnce change L.label_of) }
+        ensures { MatchResult result (ChangesItem F.FnOnce change index self.old self.new) (λ _. self.new ≡ self.old) }
+    {
+        let Some(tree) = &mut self.root else {
+            unreachable!()
+        };
+        tree.modify(alloc, index, change)
+    }
+
     // Puts in by a search for the index, and a second pass in which a full node is split.
     fn put_by_number<P: Put<T, L>>(
         &mut self,
@@ -138,11 +156,8 @@ impl<T: Clone, L: NewLabel<T>> LabelledSequence<T, L> {
                 Ok(None)
             }
             Ok(at) => {
-                let Some(tree) = &mut self.root else {
-                    unreachable!()
-                };
                 let new = act.0;
-                let old = tree.modify(alloc, at, |item| new.replace(item))?;
+                let old = self.modify_at(alloc, at, |item| new.replace(item))?;
                 Ok(Some(old))
             }
         }

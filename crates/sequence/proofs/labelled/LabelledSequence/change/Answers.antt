@@ -4,7 +4,6 @@ use Rattle.std.specs.Fn.{FnOnceTakesAtMut}
 use Rattle.std.proofs.lemmas.Option.{same_Some}
 use Rattle.sequence.specs.Acts.{IsFound}
 use Rattle.sequence.specs.Changes.{KeepsLabel}
-use Rattle.sequence.specs.Nodes.{items_under}
 use Rattle.sequence.proofs.Cutting.Acts.{says_changed, says_unchanged}
 use Rattle.sequence.proofs.labelled.LabelledSequence.change.Goals as goal
 
@@ -25,30 +24,28 @@ returns-in-Ok-clause-absent g c =
     says_unchanged sought test c.args.self.now c.act.new.self g.F.FnOnce c.args.change false false c.in-Ok.answer
     c.in-Ok.ensures.done
 
-pub modify-requires-clause-callable : goal.modify-requires-clause-callable
-modify-requires-clause-callable g c =
+pub modify_at-requires-clause-callable : goal.modify_at-requires-clause-callable
+modify_at-requires-clause-callable g c =
     let test = g.C.Cut.is_before c.args.cut in
     let sought = g.C.Seek.is_sought c.args.cut in
     let left = c.in-Err.ensures.blocked in
-    let same = sym (ap (λ root. items_under root) c.in-Some.is) ∙ c.self.view_is ∙ left in
     let found = subst (λ act. IsFound (g.C.Seek.is_sought act.cut) (g.C.Cut.is_before act.cut) c.act.new.self
     c.in-Ok-place.at) c.in-Err.ensures.back c.in-Ok-place.ensures in
     let there = subst (λ es. IsFound sought test es c.in-Ok-place.at) left found in
     let back = sym (ap (λ act. act.change) c.in-Err.ensures.back) in
     λ x e. subst (FnOnceTakesAtMut g.F.FnOnce c.in-Err.act.change) (same_Some there.item x
-    (sym there.is ∙ ap (λ es. slice_get es c.in-Ok-place.at) (sym same) ∙ e))
+    (sym there.is ∙ ap (λ es. slice_get es c.in-Ok-place.at) (sym left) ∙ e))
     (subst (λ f. FnOnceTakesAtMut g.F.FnOnce f there.item) back (c.requires.callable c.in-Ok-place.at there))
 
-pub modify-requires-clause-keeps : goal.modify-requires-clause-keeps
-modify-requires-clause-keeps g c =
+pub modify_at-requires-clause-keeps : goal.modify_at-requires-clause-keeps
+modify_at-requires-clause-keeps g c =
     let test = g.C.Cut.is_before c.args.cut in
     let sought = g.C.Seek.is_sought c.args.cut in
     let left = c.in-Err.ensures.blocked in
-    let same = sym (ap (λ root. items_under root) c.in-Some.is) ∙ c.self.view_is ∙ left in
     let found = subst (λ act. IsFound (g.C.Seek.is_sought act.cut) (g.C.Cut.is_before act.cut) c.act.new.self
     c.in-Ok-place.at) c.in-Err.ensures.back c.in-Ok-place.ensures in
     let there = subst (λ es. IsFound sought test es c.in-Ok-place.at) left found in
     let back = sym (ap (λ act. act.change) c.in-Err.ensures.back) in
     λ x e. subst (KeepsLabel g.F.FnOnce c.in-Err.act.change g.L.Label.label_of) (same_Some there.item x
-    (sym there.is ∙ ap (λ es. slice_get es c.in-Ok-place.at) (sym same) ∙ e))
+    (sym there.is ∙ ap (λ es. slice_get es c.in-Ok-place.at) (sym left) ∙ e))
     (subst (λ f. KeepsLabel g.F.FnOnce f g.L.Label.label_of there.item) back (c.requires.keeps c.in-Ok-place.at there))

@@ -6,8 +6,8 @@ use Rattle.sequence.proofs.labelled.LabelledSequence.put_by_number.Goals as goal
 pub insert_at-requires-clause-within : goal.insert_at-requires-clause-within
 insert_at-requires-clause-within g c = c.in-Err.ensures.cut.within
 
-pub modify-requires-clause-callable : goal.modify-requires-clause-callable
-modify-requires-clause-callable g c = λ x e p is. tt
+pub modify_at-requires-clause-callable : goal.modify_at-requires-clause-callable
+modify_at-requires-clause-callable g c = λ x e p is. tt
 
 pub returns-in_ok-insert_at-in-Err-clause-added : goal.returns-in_ok-insert_at-in-Err-clause-added
 returns-in_ok-insert_at-in-Err-clause-added g c =

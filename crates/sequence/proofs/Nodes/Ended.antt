@@ -1,9 +1,10 @@
 -- A branch after items went in place of others in a child of it, and the place of an end of it.
 use Rattle.std.proofs.Common.{◌≡◌, ◌+◌, ◌-◌, ◌<◌, ◌≤◌, ◌^◌, ℕ, suc, List, [], ◌∷◌, ◌++◌, length, take, drop}
-use Rattle.std.proofs.Common.{get_or, set, inl, inr}
+use Rattle.std.proofs.Common.{false, get_or, set, inl, inr, true}
 use Rattle.std.proofs.Common.{add-one, ap, ap₂, append-nil, length-append, refl, sym, ◌∙◌, subst, arith}
 use Rattle.std.specs.List.{remove}
-use Rattle.std.specs.Prelude.{Result, Ok, Err, MatchResult, OnErr, OnOk, Some, slice_get}
+use mir.Val.{bool_byte}
+use Rattle.std.specs.Prelude.{Bool, Result, Ok, Err, MatchResult, OnErr, OnOk, Some, slice_get}
 use Rattle.std.proofs.lemmas.Bool.{cases_lt}
 use Rattle.std.proofs.lemmas.Nat.{pow_pos}
 use Rattle.std.proofs.Math.Seq.{drop-length}
@@ -140,6 +141,11 @@ module _ {T L : Type 0} {label_of : T → L} (tree : List T × ℕ) (cs : List (
 pub on_ok : {A E P Q : Type 0} (r : Result A E) → (P → Q) → OnOk r P → OnOk r Q
 on_ok (Ok a) f p = f p
 on_ok (Err e) f p = tt
+
+-- what is counted of one answer
+pub at_most_one : (b : Bool) → bool_byte b ≤ 1
+at_most_one true = omega arith
+at_most_one false = omega arith
 
 -- an end is within
 pub end_within : (end : End) (n : ℕ) → 0 < n → place_at end n < n

@@ -1,25 +1,57 @@
 -- The branch lets the item go out of one child.
-use Rattle.std.proofs.Common.{◌≡◌, ◌∙◌, ℕ, List, [], ap, ap₂, sym, subst, arith, length, refl, set}
+use Rattle.std.proofs.Common.{◌≡◌, ◌≤◌, ◌^◌, ◌∙◌, ℕ, List, [], ap, ap₂, sym, subst, arith, length, refl, set}
 use Rattle.std.specs.Prelude.{IsOk, Some}
+use Rattle.std.proofs.lemmas.Nat.{pow_pos}
+use Rattle.sequence.specs.declared.tree.Node.TheVariants.{Branch}
 use Rattle.sequence.specs.Changes.{IsLess}
 use Rattle.sequence.specs.Nodes.{CanLose, height_in, items_in}
 use Rattle.sequence.proofs.Calls.{both, of_two}
 use Rattle.sequence.proofs.Nodes.Changed.{IsRemoved, Relabels, behind_first_one, first_gone, less, removed_at}
 use Rattle.sequence.proofs.Nodes.Labelled.{first_spliced}
-use Rattle.sequence.proofs.Nodes.Copied.{made}
+use Rattle.sequence.proofs.Nodes.Copied.{IsMade, made}
 use Rattle.sequence.proofs.Nodes.Placed.{child_here}
 use Rattle.sequence.proofs.tree.+remove.Given as given
 use Rattle.sequence.proofs.tree.+remove.Goals as goal
-use Rattle.sequence.proofs.tree.+remove.Goals.{Tree::remove-After-remove-2}
+use Rattle.sequence.proofs.tree.+remove.Goals.{Tree::remove-After-remove-2, Tree::remove-In-Branch}
 use Rattle.sequence.proofs.tree.+remove.Goals.{Child::remove-then-labelled+then-index-eq0+in_ok-new}
 use Rattle.sequence.proofs.tree.+remove.Goals.{Child::remove-else-labelled, Child::remove-in-Some}
 use Rattle.sequence.proofs.tree.+remove.Goals.{Child::remove-in_default}
 
+-- the branch is whole, and has what the tree has
+branch : (g : given.Over) (t : ℕ) (c : Tree::remove-In-Branch g t)
+    → IsMade g.L.Label.label_of c.args.self.now (Branch c.in-Branch.children)
+branch g t c =
+    rw c.in-Branch.is at (made g.L.Label.label_of c.args.self.now c.self.inside.root c.in_ok-items.field-0.now
+    c.self.invariant c.self.view_is c.in_ok-items.ensures.value c.requires.copies)
+
+pub Tree::remove-spare_for-requires : goal.Tree::remove-spare_for-requires
+Tree::remove-spare_for-requires g t c =
+    let node = branch g t (goal.at.Tree::remove-spare_for-requires g t c).In-Branch in
+    record {
+      copies = c.requires.copies;
+      children = node.whole;
+      there = omega (arith, ap (λ t. length t.0) node.same, c.requires.there);
+      wide = subst (λ t. 2 ^ t.1 ≤ length t.0) (sym node.same) c.requires.wide;
+    }
+
+pub Tree::remove-index_mut-requires : goal.Tree::remove-index_mut-requires
+Tree::remove-index_mut-requires g t c = omega (arith, c.in_ok-spot.ensures.leads.within)
+
+pub Child::remove-item-requires : goal.Child::remove-item-requires
+Child::remove-item-requires g t c = omega (arith, c.requires.spare, pow_pos c.args.self.now.tree.1)
+
+pub Child::remove-remove-requires : goal.Child::remove-remove-requires
+Child::remove-remove-requires g t c κs within =
+    of_two (omega (arith, c.decreases)) within
+    (both c.requires.copies (both c.requires.there
+    (both (omega (arith, c.requires.spare, pow_pos c.args.self.now.tree.1)) (omega (arith, c.requires.spare)))))
+
+pub Child::remove-overflow_sub-self : goal.Child::remove-overflow_sub-self
+Child::remove-overflow_sub-self g t c = omega (arith, c.requires.child.counted, c.requires.there)
+
 pub Tree::remove-remove-requires-2 : goal.Tree::remove-remove-requires-2
 Tree::remove-remove-requires-2 g t c κs within =
-    let node = rw c.in-Branch.is at (made g.L.Label.label_of c.args.self.now c.self.inside.root
-    c.in_ok-items.field-0.now c.self.invariant c.self.view_is c.in_ok-items.ensures.value
-    c.requires.copies) in
+    let node = branch g t (goal.at.Tree::remove-remove-requires-2 g t c).In-Branch in
     let cs = c.spare_for.new.children.items in
     let spot = c.in_ok-spot.spot in
     let same = c.in_ok-spot.ensures.same in

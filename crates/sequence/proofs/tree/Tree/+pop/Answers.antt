@@ -5,20 +5,48 @@ use Rattle.std.specs.Prelude.{IsOk, MatchResult, OnErr, OnOk}
 use Rattle.sequence.specs.Changes.{IsPopped}
 use Rattle.sequence.specs.Nodes.{AreChildren, IsList, height_in, items_in}
 use Rattle.sequence.specs.Spots.{place_at}
+use Rattle.sequence.specs.declared.tree.Node.TheVariants.{Branch}
 use Rattle.sequence.proofs.Calls.{both, of_two}
 use Rattle.sequence.proofs.Cutting.Acts.{read_again}
-use Rattle.sequence.proofs.Nodes.Copied.{made}
-use Rattle.sequence.proofs.Nodes.Ended.{MakeUp, can_lose, leaf_gone, popped_leaf, popped_under}
+use Rattle.sequence.proofs.Nodes.Copied.{IsMade, made}
+use Rattle.sequence.proofs.Nodes.Ended.{MakeUp, at_most_one, can_lose, leaf_gone, popped_leaf, popped_under}
 use Rattle.sequence.proofs.Nodes.Placed.{child_here}
+use Rattle.sequence.proofs.Nodes.Wide.{some_in}
 use Rattle.sequence.proofs.tree.Tree.+pop.Given as given
 use Rattle.sequence.proofs.tree.Tree.+pop.Goals as goal
-use Rattle.sequence.proofs.tree.Tree.+pop.Goals.{After-from, After-pop_in_leaf, After-pop_leaf}
+use Rattle.sequence.proofs.tree.Tree.+pop.Goals.{After-from, After-pop_in_leaf, After-pop_leaf, In-Branch}
+
+-- the branch is whole, and has what the tree has
+branch : (g : given.Over) (t : ℕ) (c : In-Branch g t)
+    → IsMade g.L.Label.label_of c.args.self.now (Branch c.in-Branch.children)
+branch g t c =
+    rw c.in-Branch.is at (made g.L.Label.label_of c.args.self.now c.self.inside.root c.in_ok-items.field-0.now
+    c.self.invariant c.self.view_is c.in_ok-items.ensures.value c.requires.copies)
+
+pub place-at-requires : goal.place-at-requires
+place-at-requires g t c =
+    let node = branch g t (goal.at.place-at-requires g t c).In-Branch in
+    omega (arith, some_in c.in-Branch.children.items node.whole, c.len-2.ensures)
+
+pub index-requires : goal.index-requires
+index-requires g t c = omega (arith, c.place-at.ensures.within, c.len-2.ensures)
+
+pub index_mut-child-requires : goal.index_mut-child-requires
+index_mut-child-requires g t c = omega (arith, c.place-at.ensures.within, c.len-2.ensures)
+
+pub overflow_sub-child : goal.overflow_sub-child
+overflow_sub-child g t c =
+    let node = branch g t (goal.at.overflow_sub-child g t c).In-Branch in
+    let cs = c.in-Branch.children.items in
+    let i = c.place-at.result in
+    let d = c.index_mut-child.result.now in
+    let h : i < length cs = omega (arith, c.place-at.ensures.within, c.len-2.ensures) in
+    let child = child_here cs i d node.whole h c.index_mut-child.ensures.value in
+    omega (arith, c.from.ensures, at_most_one c.is_ok.result, child.counted, child.wide, pow_pos d.tree.1)
 
 pub pop-popped-requires : goal.pop-popped-requires
 pop-popped-requires g t c κs within =
-    let node = rw c.in-Branch.is at (made g.L.Label.label_of c.args.self.now c.self.inside.root
-    c.in_ok-items.field-0.now c.self.invariant c.self.view_is c.in_ok-items.ensures.value
-    c.requires.copies) in
+    let node = branch g t (goal.at.pop-popped-requires g t c).In-Branch in
     let cs = c.in-Branch.children.items in
     let i = c.place-at.result in
     let d = c.index_mut-child.result.now in
@@ -55,17 +83,13 @@ returns-in-Leaf g t c =
 pub invariant_of-self-then-len-least : goal.invariant_of-self-then-len-least
 invariant_of-self-then-len-least g t c =
     let ok : IsOk c.make_mut.result = subst IsOk (sym c.in_ok-items.was) refl in
-    let node = rw c.in-Branch.is at (made g.L.Label.label_of c.args.self.now c.self.inside.root
-    c.in_ok-items.field-0.now c.self.invariant c.self.view_is c.in_ok-items.ensures.value
-    c.requires.copies) in
+    let node = branch g t (goal.at.invariant_of-self-then-len-least g t c).In-Branch in
     rw c.make_mut.follows.holds node.whole
 
 pub returns-then-len-least : goal.returns-then-len-least
 returns-then-len-least g t c =
     let ok : IsOk c.make_mut.result = subst IsOk (sym c.in_ok-items.was) refl in
-    let node = rw c.in-Branch.is at (made g.L.Label.label_of c.args.self.now c.self.inside.root
-    c.in_ok-items.field-0.now c.self.invariant c.self.view_is c.in_ok-items.ensures.value
-    c.requires.copies) in
+    let node = branch g t (goal.at.returns-then-len-least g t c).In-Branch in
     rw c.make_mut.follows.holds node.same
 
 -- the item, and the children then

@@ -6,8 +6,8 @@ use Rattle.sequence.specs.Spots.{spliced}
 use Rattle.sequence.specs.declared.tree.Node.TheVariants.{Branch}
 use Rattle.sequence.proofs.Calls.{both, of_two}
 use Rattle.sequence.proofs.Nodes.Copied.{IsMade, made}
-use Rattle.sequence.proofs.Nodes.Ended.{MakeUp, pushed_leaf, pushed_under}
-use Rattle.sequence.proofs.Nodes.Placed.{child_within}
+use Rattle.sequence.proofs.Nodes.Ended.{MakeUp, at_most_one, pushed_leaf, pushed_under}
+use Rattle.sequence.proofs.Nodes.Placed.{child_here, child_within}
 use Rattle.sequence.proofs.Nodes.Wide.{some_in}
 use Rattle.sequence.proofs.tree.Tree.+push.Given as given
 use Rattle.sequence.proofs.tree.Tree.+push.Goals as goal
@@ -24,6 +24,29 @@ pub overflow_sub-last : goal.overflow_sub-last
 overflow_sub-last g t c =
     let node = branch g t (goal.at.overflow_sub-last g t c).In-Branch in
     omega (arith, some_in c.in-Branch.children.items node.whole, c.len-last.ensures)
+
+pub index_mut-child-requires : goal.index_mut-child-requires
+index_mut-child-requires g t c =
+    let node = branch g t (goal.at.index_mut-child-requires g t c).In-Branch in
+    omega (arith, some_in c.in-Branch.children.items node.whole, c.len-last.ensures)
+
+pub overflow_add-child : goal.overflow_add-child
+overflow_add-child g t c =
+    let node = branch g t (goal.at.overflow_add-child g t c).In-Branch in
+    let cs = c.in-Branch.children.items in
+    let i = c.len-last.result - 1 in
+    let d = c.index_mut-child.result.now in
+    let is = c.index_mut-child.ensures.value in
+    let h : i < length cs = omega (arith, some_in cs node.whole, c.len-last.ensures) in
+    omega (
+      arith,
+      c.from.ensures,
+      at_most_one c.is_ok.result,
+      (child_here cs i d node.whole h is).counted,
+      child_within cs i d node.whole h is,
+      ap (λ t. length t.0) node.same,
+      c.requires.room,
+    )
 
 pub push-pushed-requires : goal.push-pushed-requires
 push-pushed-requires g t c κs within =

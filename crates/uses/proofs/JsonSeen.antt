@@ -1,93 +1,77 @@
--- Lists and maps of values of some type, each seen as its data.
-use Rattle.std.proofs.Common.{◌≡◌, ◌∙◌, ℕ, zero, suc, ◌<◌, List, [], ◌∷◌, ◌++◌, length, get_or, set, map, sym, ap, refl}
-use Rattle.std.proofs.Common.{Option, None, Some, option_map, String, Global, Ordering, Less, Equal, Greater}
-use Rattle.std.proofs.Common.{string_bytes, string_cmp, nat_cmp, is_eq, cond, arith}
-use Rattle.std.proofs.lemmas.Cmp.{nat_list_cmp_total}
-use Rattle.std.specs.BTreeMap.{insert_entry, is_at}
+-- The members that a map stands for.
+use Rattle.std.proofs.Common.{◌≡◌, ◌∙◌, ap, append_assoc, append-nil, map, nat_cmp, refl, rules, subst, sym}
+use Rattle.std.proofs.Common.{List, [], ◌∷◌, ◌++◌, Greater, Less, BTreeMap, String, Global, string_bytes, string_cmp}
+use Rattle.std.proofs.lemmas.Map.Made.{keys_of-map_values}
 use Rattle.std.specs.Cmp.Lexicographic.{slice_cmp}
 use Rattle.std.specs.List.{AllByRecursion}
 use Rattle.std.specs.List.Sorted.{IsStrictlySortedBy}
-use Rattle.std.specs.Map.{keys_of, lookup, set_value}
-use Rattle.std.specs.Ordering.{match_ordering, ordering_reverse}
-use Rattle.std.specs.Prelude.{slice_get}
-use Rattle.serde_json.specs.Data.{Data, Items, Members, item, member, put}
-use Rattle.serde_json.specs.Find.{get_item, get_member}
-use Rattle.serde_json.specs.View.{items_of, members_of}
-use Rattle.uses.specs.JsonPaths.{set_item, set_member}
+use Rattle.std.specs.Map.{keys_of}
+use Rattle.std.specs.String.{string_cmp_total}
+use Rattle.maps.specs.Maps.{IsRising, with_entries}
+use Rattle.maps.specs.Places.{AreAbove}
+use Rattle.maps.proofs.Order.{Rises, above_back, from, to, turned_back}
+use Rattle.maps.proofs.Rising.{with_rising}
+use Rattle.serde_json.specs.Data.{Data, Members, member, no_members, object, put}
+use Rattle.serde_json.specs.View as plain
+use Rattle.serde_json.specs.declared.value.Value as plain_value
+use Rattle.serde_json.proofs.Views.{members_view-insert_entry, view-Object}
+use Rattle.uses.specs.Json.{members_view, view}
+use Rattle.uses.specs.declared.shared_json.Value.{Value, the_lemmas}
+use Rattle.uses.specs.declared.shared_json.Value as value
 
-module _ {V : Type 0} (f : V → Data) where
-  abbrev Entry : Type 0
-  Entry = String Global × V
+abbrev Entry : Type 0
+Entry = String Global × Value
 
-  abbrev pub items : List V → Items
-  items vs = items_of (map f vs)
+pub view-Map : (es : List Entry) → view (value.Map es) ≡ object (members_view es)
+view-Map es = search (rules, the_lemmas)
 
-  abbrev pub members : List (String Global × V) → Members
-  members es = members_of (map (λ e. (e.0, f e.1)) es)
+-- the members ms, with each of these entries put in, from the first to the last
+abbrev pub puts : List Entry → Members → Members
+puts [] ms = ms
+puts (e ∷ es) ms = puts es (put (string_bytes e.0) (view e.1) ms)
 
-  pub get_item-items : (vs : List V) (i : ℕ) → get_item i (items vs) ≡ option_map f (slice_get vs i)
-  get_item-items [] i = refl
-  get_item-items (v ∷ vs) zero = refl
-  get_item-items (v ∷ vs) (suc i) = get_item-items vs i
+-- an entry above those before it goes last
+put_last : (done : List Entry) (e : Entry) (more : List Entry) → Rises string_cmp (done ++ e ∷ more)
+    → put (string_bytes e.0) (view e.1) (members_view done) ≡ members_view (done ++ e ∷ [])
+put_last [] e more s = refl
+put_last (first ∷ done) e more s =
+    let below = (above_back (string_cmp first.0) done (e ∷ more) s.0).0 in
+    let above : slice_cmp nat_cmp (string_bytes e.0) (string_bytes first.0) ≡ Greater =
+    turned_back string_cmp_total first.0 e.0 below in
+    rw above (ap (member (string_bytes first.0) (view first.1)) (put_last done e more s.1))
 
-  pub set_item-items : (vs : List V) (i : ℕ) (v : V) → set_item i (f v) (items vs) ≡ items (set vs i v)
-  set_item-items [] i v = refl
-  set_item-items (w ∷ vs) zero v = refl
-  set_item-items (w ∷ vs) (suc i) v = ap (item (f w)) (set_item-items vs i v)
+puts_behind : (done more : List Entry) → Rises string_cmp (done ++ more)
+    → puts more (members_view done) ≡ members_view (done ++ more)
+puts_behind done [] s = ap members_view (sym (append-nil done))
+puts_behind done (e ∷ more) s =
+    let next = append_assoc done (e ∷ []) more in
+    ap (puts more) (put_last done e more s)
+    ∙ puts_behind (done ++ e ∷ []) more (subst (Rises string_cmp) (sym next) s) ∙ ap members_view next
 
-  at_key : (o : Ordering) (v : V) (rest : Option V) (d : Option Data) → option_map f rest ≡ d
-      → match_ordering o d (Some (f v)) d ≡ option_map f (cond (is_eq o) (Some v) rest)
-  at_key Less v rest d e = sym e
-  at_key Equal v rest d e = refl
-  at_key Greater v rest d e = sym e
+pub puts_rising : (es : List Entry) → IsRising string_cmp es → puts es no_members ≡ members_view es
+puts_rising es rising = puts_behind [] es (to string_cmp es rising)
 
-  pub get_member-members : (k : String Global) (es : List (String Global × V))
-      → get_member (string_bytes k) (members es) ≡ option_map f (lookup (is_at (string_cmp k)) es)
-  get_member-members k [] = refl
-  get_member-members k (e ∷ es) =
-      at_key (string_cmp k e.0) e.1 (lookup (is_at (string_cmp k)) es) _ (sym (get_member-members k es))
+-- what a loop that puts in each entry has to know
+pub ruleset puts_in = (puts_rising, members_view-insert_entry, view-Object, view-Map)
 
-  set_at : (o : Ordering) (e : String Global × V) (v : V) (es later : List (String Global × V)) (ms : Members)
-      → ms ≡ members later
-      → match_ordering o (member (string_bytes e.0) (f e.1) ms) (member (string_bytes e.0) (f v) (members es))
-      (member (string_bytes e.0) (f e.1) ms)
-      ≡ members (cond (is_eq o) ((e.0, v) ∷ es) (e ∷ later))
-  set_at Less e v es later ms is = ap (member (string_bytes e.0) (f e.1)) is
-  set_at Equal e v es later ms is = refl
-  set_at Greater e v es later ms is = ap (member (string_bytes e.0) (f e.1)) is
+above : (name : String Global) (es : List Entry) → AllByRecursion (λ key. string_cmp name key ≡ Less) (keys_of es)
+    → AreAbove (string_cmp name) es
+above name [] h = tt
+above name (e ∷ es) h = (h.0, above name es h.1)
 
-  pub set_member-members : (k : String Global) (es : List (String Global × V)) (v : V)
-      → set_member (string_bytes k) (f v) (members es) ≡ members (set_value (is_at (string_cmp k)) es v)
-  set_member-members k [] v = refl
-  set_member-members k (e ∷ es) v =
-      set_at (string_cmp k e.0) e v es (set_value (is_at (string_cmp k)) es v) _ (set_member-members k es v)
+rises : (es : List Entry) → IsStrictlySortedBy string_cmp (keys_of es) → Rises string_cmp es
+unfolding IsStrictlySortedBy
+rises [] sorted = tt
+rises (e ∷ es) sorted = (above e.0 es sorted.0, rises es sorted.1)
 
-  put_at : (o : Ordering) (a b c : List (String Global × V))
-      → members (match_ordering o a b c) ≡ match_ordering o (members a) (members b) (members c)
-  put_at Less a b c = refl
-  put_at Equal a b c = refl
-  put_at Greater a b c = refl
-
-  pub members-insert_entry : (es : List (String Global × V)) (k : String Global) (v : V)
-      → members (insert_entry string_cmp es k v) ≡ put (string_bytes k) (f v) (members es)
-  members-insert_entry [] k v = refl
-  members-insert_entry (e ∷ es) k v =
-      put_at (string_cmp k e.0) _ _ _ ∙ rw (members-insert_entry es k v)
-
-  below : (first : String Global × V) (es : List (String Global × V)) (e : String Global × V)
-      (more : List (String Global × V))
-      → AllByRecursion (λ y. string_cmp first.0 y ≡ Less) (keys_of (es ++ e ∷ more)) → string_cmp first.0 e.0 ≡ Less
-  below first [] e more h = h.0
-  below first (x ∷ es) e more h = below first es e more h.1
-
-  -- a key above those before it goes last
-  pub put_last : (done : List (String Global × V)) (e : String Global × V) (more : List (String Global × V))
-      → IsStrictlySortedBy string_cmp (keys_of (done ++ e ∷ more))
-      → put (string_bytes e.0) (f e.1) (members done) ≡ members (done ++ e ∷ [])
-  unfolding IsStrictlySortedBy
-  put_last [] e more h = refl
-  put_last (first ∷ done) e more h =
-      let above : slice_cmp nat_cmp (string_bytes e.0) (string_bytes first.0) ≡ Greater =
-      nat_list_cmp_total.antisymm (string_bytes e.0) (string_bytes first.0)
-      ∙ ap ordering_reverse (below first done e more h.0) in
-      rw above (ap (member (string_bytes first.0) (f first.1)) (put_last done e more h.1))
+-- a map of entries that rise stands for the object with these
+pub map_made : (es m : List Entry) (o : BTreeMap (String Global) plain_value.Value)
+    → IsStrictlySortedBy string_cmp (keys_of o.entries)
+    → map {B = String Global × Data} (λ e. (e.0, view e.1)) es ≡ map (λ e. (e.0, plain.view e.1)) o.entries
+    → m ≡ with_entries string_cmp es [] → view (value.Map m) ≡ plain.view (plain_value.Object o)
+map_made es m o sorted same is =
+    let keys : keys_of es ≡ keys_of o.entries =
+    sym (keys_of-map_values view es) ∙ ap keys_of same ∙ keys_of-map_values plain.view o.entries in
+    let rising = from string_cmp es (rises es (subst (IsStrictlySortedBy string_cmp) (sym keys) sorted)) in
+    let made = ap members_view (is ∙ with_rising string_cmp string_cmp_total [] es rising) in
+    view-Map m ∙ ap object (made ∙ ap plain.members_of same) ∙ sym (view-Object o)

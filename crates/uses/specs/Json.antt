@@ -12,8 +12,8 @@ view_step Value-F.Null = null
 view_step (Value-F.Bool b) = boolean b
 view_step (Value-F.Number x) = number (number_view x)
 view_step (Value-F.Text s) = string (string_bytes s)
-view_step (Value-F.List v) = array (items_of v.items)
-view_step (Value-F.Map m) = object (members_of m.entries)
+view_step (Value-F.List items) = array (items_of items)
+view_step (Value-F.Map members) = object (members_of members)
 
 abbrev pub view : Value → Data
 view = fold-Value Data view_step

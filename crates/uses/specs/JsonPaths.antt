@@ -1,48 +1,49 @@
--- The data at the end of a path, and the data with other data there.
-use Rattle.std.specs.Prelude.{ℕ, zero, suc, List, [], ◌∷◌, Option, Some, string_bytes, option_map, option_and_then}
-use Rattle.std.specs.Ordering.{match_ordering, nat_cmp}
-use Rattle.std.specs.Cmp.Lexicographic.{slice_cmp}
-use Rattle.serde_json.specs.Data.{Data, array, object, Items, no_items, item, Members, no_members, member}
-use Rattle.serde_json.specs.Find as find
+-- The value at the end of a path, and the value with another one there.
+use Rattle.std.specs.Prelude.{ℕ, List, [], ◌∷◌, Option, Some, None, String, slice_get, slice_set}
+use Rattle.std.specs.Option.{option_map, option_and_then}
+use Rattle.std.specs.String.{string_cmp}
+use Rattle.std.specs.declared.alloc.Global.{Global}
+use Rattle.maps.specs.Maps.{lookup, with_entry}
+use Rattle.uses.specs.declared.shared_json.Value.{Value, out-Value, roll-Value}
+use Rattle.uses.specs.declared.shared_json.Value.TheOpen.{Value-F}
 use Rattle.uses.specs.declared.shared_json.path.Step.{Step}
 use Rattle.uses.specs.declared.shared_json.path.Step.TheVariants.{Item, Member}
 
--- the data at the end of a step
-abbrev pub child : Step → Data → Option Data
-child (Item index) d = find.at index d
-child (Member name) d = find.get (string_bytes name) d
+-- the item at an index
+abbrev pub item_at : ℕ → Value-F Value → Option Value
+item_at index (Value-F.List items) = slice_get items index
+item_at index other = None
 
--- the data at the end of a path
-abbrev pub at : List Step → Data → Option Data
-at [] d = Some d
-at (step ∷ path) d = option_and_then (at path) (child step d)
+-- the member with a name
+abbrev pub member_at : String Global → Value-F Value → Option Value
+member_at name (Value-F.Map members) = lookup string_cmp name members
+member_at name other = None
 
-abbrev pub set_item : ℕ → Data → Items → Items
-set_item index new no_items = no_items
-set_item zero new (item d ds) = item new ds
-set_item (suc index) new (item d ds) = item d (set_item index new ds)
+abbrev pub child : Step → Value → Option Value
+child (Item index) value = item_at index (out-Value value)
+child (Member name) value = member_at name (out-Value value)
 
-abbrev pub set_member : List ℕ → Data → Members → Members
-set_member name new no_members = no_members
-set_member name new (member k d ms) =
-    match_ordering (slice_cmp nat_cmp name k) (member k d (set_member name new ms)) (member k new ms)
-    (member k d (set_member name new ms))
+-- the value at the end of a path
+abbrev pub at : List Step → Value → Option Value
+at [] value = Some value
+at (step ∷ path) value = option_and_then (at path) (child step value)
 
-abbrev with_item : ℕ → Data → Data → Data
-with_item index new (array ds) = array (set_item index new ds)
-with_item index new d = d
+-- with another item at an index
+abbrev pub with_item : ℕ → Value → Value-F Value → Value-F Value
+with_item index new (Value-F.List items) = Value-F.List (slice_set items index new)
+with_item index new other = other
 
-abbrev with_member : List ℕ → Data → Data → Data
-with_member name new (object ms) = object (set_member name new ms)
-with_member name new d = d
+-- with another member under a name
+abbrev pub with_member : String Global → Value → Value-F Value → Value-F Value
+with_member name new (Value-F.Map members) = Value-F.Map (with_entry string_cmp name new members)
+with_member name new other = other
 
--- the data with other data at the end of a step
-abbrev pub with_child : Step → Data → Data → Data
-with_child (Item index) new d = with_item index new d
-with_child (Member name) new d = with_member (string_bytes name) new d
+abbrev pub with_child : Step → Value → Value → Value
+with_child (Item index) new value = roll-Value (with_item index new (out-Value value))
+with_child (Member name) new value = roll-Value (with_member name new (out-Value value))
 
--- the data with other data at the end of a path
-abbrev pub with_at : List Step → Data → Data → Option Data
-with_at [] new d = Some new
-with_at (step ∷ path) new d =
-    option_map (λ changed. with_child step changed d) (option_and_then (with_at path new) (child step d))
+-- the value with another one at the end of a path
+abbrev pub with_at : List Step → Value → Value → Option Value
+with_at [] new value = Some new
+with_at (step ∷ path) new value =
+    option_map (λ changed. with_child step changed value) (option_and_then (with_at path new) (child step value))

@@ -1,5 +1,5 @@
-//! A JSON value whose versions (snapshots) share: lists, objects and texts are behind an `Arc`, so a clone takes O(1),
-//! and an edit copies only what is on its path. Its meaning is that of `serde_json`, whose names its contracts use.
+//! A JSON value whose versions (snapshots) share: a clone takes O(1), and an edit copies only nodes on its path. Its
+//! meaning is that of `serde_json`, whose names its contracts use.
 ghost use Rattle.std.specs.Prelude.{◌≡◌};
 
 pub mod ending;
@@ -7,10 +7,11 @@ pub mod path;
 pub mod plain;
 pub mod text;
 
+use maps::TreeMap;
+use sequence::Sequence;
 use serde_json::Number;
 use servo_arc::Arc;
 use std::alloc::AllocError;
-use std::collections::BTreeMap;
 
 /// A JSON value, which shares its lists, objects and texts with its clones.
 #[derive(Drop, Debug, PartialEq)]
@@ -19,11 +20,12 @@ pub enum Value {
     Bool(bool),
     Number(Number),
     Text(Arc<String>),
-    List(Arc<Vec<Value>>),
-    Map(Arc<BTreeMap<Arc<String>, Value>>),
+    List(Sequence<Value>),
+    Map(TreeMap<Arc<String>, Value>),
 }
 
-/// Clones a handle, in O(1). Written by hand, so that its contract says that the clone equals the original.
+/// Makes a version (snapshot) in O(1). It is written by hand, because the calls of lists and maps require a contract
+/// which says that a clone equals the original.
 impl Clone for Value {
     ghost is_clone = { λ a b. b ≡ a };
 

@@ -1,7 +1,7 @@
 //! JSON values: what no contract says of them.
-use crate::made::{arc_of, text_of};
-use servo_arc::Arc;
-use std::collections::BTreeMap;
+use crate::made::text_of;
+use maps::TreeMap;
+use sequence::Sequence;
 use std::process::Abort;
 use std::thread::Builder;
 use testing::{SMALL_STACK, again, holds, ok, same, same_at};
@@ -72,7 +72,7 @@ fn texts_are_refused_by_name(rt: HostRuntime) {
 // Whether the path leads to one list in both values.
 fn shares(old: &Value, new: &Value, path: &[Step]) -> bool {
     match (old.at(path), new.at(path)) {
-        (Some(Value::List(old)), Some(Value::List(new))) => Arc::ptr_eq(old, new),
+        (Some(Value::List(old)), Some(Value::List(new))) => Sequence::ptr_eq(old, new),
         _ => false,
     }
 }
@@ -115,21 +115,25 @@ fn grow(rt: &(impl Abort + AllocGlobal), values: &mut Vec<Value>, random: usize)
             if let Some(last) = values.pop() {
                 ok!(rt, items.push(last));
             }
-            Value::List(arc_of(rt, items))
+            list(rt, items)
         }
         _ => object(rt, values, random / 24),
     };
     ok!(rt, values.push(value));
 }
 
+fn list(rt: &(impl Abort + AllocGlobal), items: Vec<Value>) -> Value {
+    Value::List(ok!(rt, Sequence::from_items(rt.alloc(), items)))
+}
+
 fn object(rt: &(impl Abort + AllocGlobal), values: &mut Vec<Value>, random: usize) -> Value {
-    let mut members = BTreeMap::new(rt.alloc());
+    let mut members = TreeMap::new();
     for name in &NAMES[..random % 4] {
         let name = text_of(rt, name);
         let value = values.pop().unwrap_or(Value::Null);
-        drop(ok!(rt, members.insert(name, value)));
+        drop(ok!(rt, members.insert(rt.alloc(), name, value)));
     }
-    Value::Map(arc_of(rt, members))
+    Value::Map(members)
 }
 
 // The next number of a linear congruential generator.
@@ -148,7 +152,7 @@ fn random_values_are_read_back(rt: HostRuntime) {
             random = next(random);
             grow(&rt, &mut values, (random >> 40) as usize);
         }
-        let value = Value::List(arc_of(&rt, values));
+        let value = list(&rt, values);
         let text = ok!(&rt, value.to_text(rt.alloc()));
         same!(&rt, parsed(&rt, text.as_str()), value);
     }
@@ -159,10 +163,10 @@ fn random_values_are_read_back(rt: HostRuntime) {
 fn texts_end_with_their_values(rt: HostRuntime) {
     let (alloc, text) = (rt.alloc(), text_of(&rt, ""));
     let member = || Value::Text(again!(&rt, &text));
-    let mut members = BTreeMap::new(alloc);
-    drop(ok!(&rt, members.insert(again!(&rt, &text), member())));
-    let items = vec![in alloc; member(), member(), Value::Map(arc_of(&rt, members))];
-    let old = Value::List(arc_of(&rt, ok!(&rt, items)));
+    let mut members = TreeMap::new();
+    drop(ok!(&rt, members.insert(alloc, again!(&rt, &text), member())));
+    let items = vec![in alloc; member(), member(), Value::Map(members)];
+    let old = list(&rt, ok!(&rt, items));
     let mut new = again!(&rt, &old);
     ok!(&rt, new.set(alloc, &[Step::Item(0)], Value::Null));
     new.end(alloc);
@@ -175,8 +179,7 @@ fn a_deep_value_ends_on_a_small_stack(rt: HostRuntime) {
     let alloc = rt.alloc();
     let mut value = Value::Null;
     for _ in 0..100_000 {
-        let items = ok!(&rt, vec![in alloc; value]);
-        value = Value::List(arc_of(&rt, items));
+        value = list(&rt, ok!(&rt, vec![in alloc; value]));
     }
     let small = Builder::new().stack_size(SMALL_STACK);
     ok!(&rt, small.spawn(&rt, move || value.end(alloc))).join(&rt);

@@ -1,13 +1,11 @@
 //! A type that holds itself in lists and maps whose versions share their nodes.
-ghost use Rattle.std.specs.Prelude.{◌≡◌, ◌≤◌, ◌^◌, ◌++◌, ◌∷◌, [], None, Some, Err};
-ghost use Rattle.std.specs.Prelude.{IfNone, IfSome, IfOk, OnErr, OnOk};
-ghost use Rattle.std.specs.Option.{option_copied};
+ghost use Rattle.std.specs.Prelude.{◌≡◌, ◌≤◌, ◌^◌, ◌++◌, ◌∷◌, [], IfNone, IfSome, OnErr, OnOk};
 ghost use Rattle.std.specs.Ordering.{nat_cmp};
 ghost use Rattle.maps.specs.Maps.{with_entry};
-ghost use Rattle.uses.specs.Versions.{at, values_in, with_at};
+ghost use Rattle.uses.specs.Versions.{values_in};
 
 use maps::TreeMap;
-use sequence::{PlaceError, Sequence};
+use sequence::Sequence;
 use std::alloc::{AllocError, Global};
 
 /// A value that may hold values.
@@ -76,49 +74,4 @@ pub fn count(value: &Value) -> Option<u64>
         }
     }
     Some(number)
-}
-
-/// A step down from a list or a map to one of its values.
-#[derive(Clone, Copy, Drop)]
-pub enum Step {
-    Index(usize),
-    Key(u64),
-}
-
-/// Returns the value at the end of the path, if it is there.
-pub fn get<'a>(value: &'a Value, path: &[Step]) -> Option<&'a Value>
-    ensures { option_copied result ≡ at path.now value.now }
-{
-    match (path, value) {
-        ([], _) => Some(value),
-        ([Step::Index(index), rest @ ..], Value::List(items)) => get(items.get(*index)?, rest),
-        ([Step::Key(key), rest @ ..], Value::Map(entries)) => get(entries.get(key)?, rest),
-        _ => None,
-    }
-}
-
-/// Returns a version with `new` in place of the value at the end of the path, which has to be there. All that is not on
-/// the path is shared with the old version.
-pub fn with(value: &Value, alloc: Global, path: &[Step], new: Value) -> Result<Value, PlaceError>
-    ensures made { IfOk result (λ made. Some made ≡ with_at path.now new value.now) }
-    ensures no_place { result ≡ Err PlaceError.NoPlace → with_at path.now new value.now ≡ None }
-{
-    match (path, value) {
-        ([], _) => Ok(new),
-        ([Step::Index(index), rest @ ..], Value::List(items)) => {
-            let old = items.get(*index).ok_or(PlaceError::NoPlace)?;
-            let item = with(old, alloc, rest, new)?;
-            let mut items: Sequence<Value> = items.clone()?;
-            items.set(alloc, *index, item)?;
-            Ok(Value::List(items))
-        }
-        ([Step::Key(key), rest @ ..], Value::Map(entries)) => {
-            let old = entries.get(key).ok_or(PlaceError::NoPlace)?;
-            let item = with(old, alloc, rest, new)?;
-            let mut entries: TreeMap<u64, Value> = entries.clone()?;
-            entries.insert(alloc, *key, item)?;
-            Ok(Value::Map(entries))
-        }
-        _ => Err(PlaceError::NoPlace),
-    }
 }

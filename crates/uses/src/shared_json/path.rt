@@ -1,16 +1,13 @@
 //! Reading and writing the value at the end of a path.
-ghost use Rattle.std.specs.Prelude.{◌≡◌, ◌↔◌, Err, IsSome, None, OnErr, OnOk, Some, option_map, option_and_then};
-ghost use Rattle.serde_json.specs.Find.{get_item, get_member};
-ghost use Rattle.serde_json.specs.Data.{array, object};
-ghost use Rattle.uses.specs.JsonPaths.{at, child, set_item, set_member, with_at};
-ghost use Rattle.uses.specs.Json.{items_view, members_view, view};
-ghost use Rattle.std.specs.Prelude.{string_bytes};
+ghost use Rattle.std.specs.Prelude.{◌≡◌, ◌↔◌, Err, IfOk, None, OnErr, OnOk, Some};
+ghost use Rattle.std.specs.Option.{option_copied};
+ghost use Rattle.uses.specs.JsonPaths.{at, with_at};
 
 use super::Value;
-use cow_table::PlaceError;
+use maps::TreeMap;
+use sequence::{PlaceError, Sequence};
 use servo_arc::Arc;
-use std::alloc::{AllocError, Global};
-use std::collections::BTreeMap;
+use std::alloc::Global;
 
 /// A step down a path.
 #[derive(Drop, Debug, PartialEq, Eq)]
@@ -22,110 +19,63 @@ pub enum Step {
 }
 
 impl Value {
-    /// Returns the value at the end of the path, or `None`. O(log n) for each object of n members on the path.
+    /// Returns the value at the end of the path, or `None`. O(log n) for each list of n items, and for each object of n
+    /// members on the path.
     pub fn at(&self, path: &[Step]) -> Option<&Value>
-        ensures { option_map (λ v. view v.now) result ≡ at path.now (view self.now) }
+        ensures { option_copied result ≡ at path.now self.now }
     {
-        let Some((step, rest)) = path.split_first() else {
-            return Some(self);
-        };
-        self.child(step)?.at(rest)
-    }
-
-    fn child(&self, step: &Step) -> Option<&Value>
-        ensures { option_map (λ v. view v.now) result ≡ child step.now (view self.now) }
-    {
-        match step {
-            Step::Item(index) => match self {
-                Value::List(items) => items.get(*index),
-                _ => None,
-            },
-            Step::Member(name) => match self {
-                Value::Map(members) => members.get(name),
-                _ => None,
-            },
+        match (path, self) {
+            ([], _) => Some(self),
+            ([Step::Item(index), rest @ ..], Value::List(items)) => items.get(*index)?.at(rest),
+            ([Step::Member(name), rest @ ..], Value::Map(members)) => members.get(name)?.at(rest),
+            _ => None,
         }
     }
 
-    /// Replaces the value at the end of the path.
+    /// Replaces the value at the end of the path: `value.set(alloc, &path, new)?`. The nodes on the path are copied,
+    /// O(log n) for each list of n items, and for each object of n members. All else stays shared.
     ///
     /// # Errors
     ///
-    /// `NoPlace` if there is none, and `Memory`. The value reads as before.
+    /// `NoPlace` if there is none, and `Memory`. The value stays as it was.
     pub fn set(&mut self, alloc: Global, path: &[Step], value: Value) -> Result<(), PlaceError>
-        ensures set { OnOk result
-            (Some (view self.new) ≡ with_at path.now (view value) (view self.old)) }
-        ensures no_place { (result ≡ Err PlaceError.NoPlace) ↔ (at path.now (view self.old) ≡ None) }
-        ensures refused { OnErr result (view self.new ≡ view self.old) }
+        ensures set { OnOk result (Some self.new ≡ with_at path.now value self.old) }
+        ensures no_place { (result ≡ Err PlaceError.NoPlace) ↔ (at path.now self.old ≡ None) }
+        ensures refused { OnErr result (self.new ≡ self.old) }
     {
         if self.at(path).is_none() {
             return Err(PlaceError::NoPlace);
         }
-        self.put(alloc, path, value)?;
+        *self = self.with(alloc, path, value)?;
         Ok(())
     }
 
-    #[cycle(put)]
-    fn put(&mut self, alloc: Global, path: &[Step], value: Value) -> Result<(), AllocError>
-        requires { IsSome (at path.now (view self.old)) }
-        ensures set { OnOk result
-            (Some (view self.new) ≡ with_at path.now (view value) (view self.old)) }
-        ensures refused { OnErr result (view self.new ≡ view self.old) }
+    /// Returns a version with `new` in place of the value at the end of the path, as `set` makes it.
+    ///
+    /// # Errors
+    ///
+    /// As of `set`.
+    pub fn with(&self, alloc: Global, path: &[Step], new: Value) -> Result<Value, PlaceError>
+        ensures made { IfOk result (λ made. Some made ≡ with_at path.now new self.now) }
+        ensures no_place { result ≡ Err PlaceError.NoPlace → at path.now self.now ≡ None }
     {
-        let Some((step, rest)) = path.split_first() else {
-            *self = value;
-            return Ok(());
-        };
-        match step {
-            Step::Item(index) => match self {
-                Value::List(items) => put_item(items, alloc, *index, rest, value),
-                _ => unreachable!(),
-            },
-            Step::Member(name) => match self {
-                Value::Map(members) => put_member(members, alloc, name, rest, value),
-                _ => unreachable!(),
-            },
+        match (path, self) {
+            ([], _) => Ok(new),
+            ([Step::Item(index), rest @ ..], Value::List(items)) => {
+                let old = items.get(*index).ok_or(PlaceError::NoPlace)?;
+                let item = old.with(alloc, rest, new)?;
+                let mut items: Sequence<Value> = items.clone()?;
+                items.set(alloc, *index, item)?;
+                Ok(Value::List(items))
+            }
+            ([Step::Member(name), rest @ ..], Value::Map(members)) => {
+                let old = members.get(name).ok_or(PlaceError::NoPlace)?;
+                let member = old.with(alloc, rest, new)?;
+                let mut members: TreeMap<Arc<String>, Value> = members.clone()?;
+                members.insert(alloc, name.clone()?, member)?;
+                Ok(Value::Map(members))
+            }
+            _ => Err(PlaceError::NoPlace),
         }
-    }
-}
-
-#[cycle(put)]
-fn put_item(
-    items: &mut Arc<Vec<Value>>,
-    alloc: Global,
-    index: usize,
-    path: &[Step],
-    value: Value,
-) -> Result<(), AllocError>
-    requires { IsSome (option_and_then (at path.now) (get_item index (items_view items.old.items))) }
-    ensures set { OnOk result (Some (items_view items.new.items)
-        ≡ option_map (λ changed. set_item index changed (items_view items.old.items))
-        (option_and_then (with_at path.now (view value)) (get_item index (items_view items.old.items)))) }
-    ensures refused { OnErr result (items_view items.new.items ≡ items_view items.old.items) }
-{
-    let items = Arc::make_mut(items, alloc)?;
-    items[index].put(alloc, path, value)
-}
-
-#[cycle(put)]
-fn put_member(
-    members: &mut Arc<BTreeMap<Arc<String>, Value>>,
-    alloc: Global,
-    name: &Arc<String>,
-    path: &[Step],
-    value: Value,
-) -> Result<(), AllocError>
-    requires { IsSome (option_and_then (at path.now)
-        (get_member (string_bytes name.now) (members_view members.old.entries))) }
-    ensures set { OnOk result (Some (members_view members.new.entries)
-        ≡ option_map (λ changed. set_member (string_bytes name.now) changed (members_view members.old.entries))
-        (option_and_then (with_at path.now (view value))
-        (get_member (string_bytes name.now) (members_view members.old.entries)))) }
-    ensures refused { OnErr result (members_view members.new.entries ≡ members_view members.old.entries) }
-{
-    let members = Arc::make_mut(members, alloc)?;
-    match members.get_mut(name) {
-        Some(member) => member.put(alloc, path, value),
-        None => unreachable!(),
     }
 }

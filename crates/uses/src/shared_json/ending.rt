@@ -5,13 +5,12 @@ use std::alloc::Global;
 impl Value {
     /// Drops the value in a loop, level by level, so that a deep value needs no deeper call stack than a flat one.
     ///
-    /// O(n log n) for n parts, also for parts that another version (snapshot) shares: a shared list or object is copied
-    /// as it is taken apart, and the other version keeps its own. A part that the value has at two places is taken apart
-    /// at both. So let a value that is not deep be dropped as any value is, which passes over what others share.
+    /// O(n log n) for n parts, each counted at each of its places, also for parts that another version (snapshot)
+    /// shares: a shared list or object is copied as it is taken apart, and the other version keeps its own. So drop a
+    /// value that is not deep as any value is dropped, which leaves what others share alone.
     ///
-    /// The work list and the copies need memory. If there is none, the parts that were to be listed are dropped by
-    /// recursion, as any value is. A `drop` written by hand could loop too, but then no `match` could move a part out of
-    /// a value.
+    /// The work list and the copies need memory. If there is none, what was to be listed is dropped by recursion, as
+    /// any value is. A `drop` written by hand could loop too, but then no `match` could move a part out of a value.
     pub fn end(self, alloc: Global) {
         let mut left = Vec::new(alloc);
         let _ = left.push(self);

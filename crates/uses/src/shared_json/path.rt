@@ -50,12 +50,8 @@ impl Value {
         Ok(())
     }
 
-    /// Returns a version with `new` in place of the value at the end of the path, as `set` makes it.
-    ///
-    /// # Errors
-    ///
-    /// As of `set`.
-    pub fn with(&self, alloc: Global, path: &[Step], new: Value) -> Result<Value, PlaceError>
+    // Returns a version with `new` in place of the value at the end of the path.
+    fn with(&self, alloc: Global, path: &[Step], new: Value) -> Result<Value, PlaceError>
         ensures made { IfOk result (λ made. Some made ≡ with_at path.now new self.now) }
         ensures no_place { result ≡ Err PlaceError.NoPlace → at path.now self.now ≡ None }
     {

@@ -41,8 +41,8 @@ pub type Tree<K, V> = sequence::Tree<(K, V), Key<K>>;
 /// The entries of a [`TreeMap`](crate::TreeMap), in ascending order of their keys:
 /// `let entries: &Entries<_, _> = &map;`.
 ///
-/// A `TreeMap` dereferences to this type, as a `Vec` does to a slice. So `Entries` has all calls of a map but those that
-/// return a map (`clone` and `union`, say) or compare two maps. A type cannot hold itself in `Entries`.
+/// A `TreeMap` dereferences to this type, as a `Vec` does to a slice. So `Entries` has all calls of a map but those
+/// that return a map (`clone` and `union`, say) or compare two maps. A type cannot hold itself in `Entries`.
 #[derive(Drop)]
 pub struct Entries<K: Ord, V> {
     pub(crate) entries: LabelledSequence<(K, V), Key<K>>,

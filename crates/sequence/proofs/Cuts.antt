@@ -1,7 +1,7 @@
 -- A test that cuts a list holds of an item exactly if its number is below the cut.
 use Rattle.std.proofs.Common.{◌≡◌, ◌+◌, ◌-◌, ◌<◌, ◌≤◌, inl, inr, ℕ, zero, suc, Bool, true, List, [], ◌∷◌, length, take}
 use Rattle.std.proofs.Common.{get_or, get_or-drop, get_or-take, length-drop, length-take, nat_lt, refl, ap, sym, ◌∙◌}
-use Rattle.std.proofs.Common.{Fits, subst, arith, false, true≢false, w64, ◌^◌}
+use Rattle.std.proofs.Common.{subst, arith, false, true≢false}
 use Rattle.std.specs.Prelude.{Some, slice_get}
 use Rattle.std.proofs.lemmas.Bool.{cases_lt, le-ltb, lt-ltb}
 use Rattle.std.proofs.lemmas.List.Elements.{All-tail}
@@ -19,15 +19,6 @@ below_later i more n h = elim (cases_lt (more + i) n) [
 ]
 
 module _ {T : Type 0} (test : T → Bool) where
-  -- an item before a cut is there
-  pub cut_within : (es : List T) (at n : ℕ) → length es ≡ n → IsCut test es (at + 1) → at < n
-  cut_within es at n long is = omega (arith, long, is.within)
-
-  -- and its number among more items that can be counted fits
-  pub cut_fits : (es : List T) (start at n : ℕ) → length es ≡ n → IsCut test es (at + 1) → start + n < 2 ^ 64
-      → Fits w64 (start + at)
-  cut_fits es start at n long is room = omega (arith, cut_within es at n long is, room)
-
   -- a cut is behind the longest front that passes
   pub first_is : (es : List T) (at : ℕ) → IsCut test es at → first test es ≡ at
   first_is [] at is = omega (arith, is.within)

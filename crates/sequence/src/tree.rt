@@ -125,7 +125,7 @@ impl<T, L: Label<T>> Tree<T, L> {
         ensures nodes { IsDeep L.label_of self.now.0 result }
         ensures at_most { 2 ^ result ≤ 4 * length self.now.0 }
     {
-        // For the proof, which needs what the invariant says of the first node.
+        // For the proof: it needs what the invariant says of the first node.
         let _ = &self.root;
         let mut node = self.node();
         let mut depth = 1;

@@ -36,10 +36,6 @@ module _ {T L : Type 0} {label_of : T → L} where
     pub child_within : length d.tree.0 ≤ length (items_in cs)
     child_within = omega (arith, length-split cs i d h, ap (λ (c : Child T L). length c.tree.0) is)
 
-    -- and it is lower than the node
-    pub lower_here : d.tree.1 < height_in cs
-    lower_here = omega (arith, (are.each i d h).level, ap (λ (c : Child T L). c.tree.1) is)
-
     -- a child that a call left as it was stands where it stood
     pub left_as : (new : Child T L) → new ≡ d → StandFor label_of cs (set cs i new)
     left_as new same =

@@ -1,7 +1,7 @@
 //! What is done to a tree where a cut is, by one way down along nodes that keep their form. If that cannot be, the
 //! items stay, and what was to be done is given back.
-ghost use Rattle.std.specs.Prelude.{◌≡◌, ◌+◌, ◌<◌, ◌^◌, Bool, IfErr, IfNone, IfOk, IfSome, IsTrue, List, MatchResult, OnErr};
-ghost use Rattle.std.specs.Prelude.{Option, length};
+ghost use Rattle.std.specs.Prelude.{◌≡◌, ◌+◌, ◌<◌, ◌^◌, Bool, IfErr, IfNone, IfOk, IfSome, IsTrue, List};
+ghost use Rattle.std.specs.Prelude.{MatchResult, OnErr, Option, length};
 ghost use Rattle.handles.specs.Copies.{CopiesAreEqual};
 ghost use Rattle.sequence.specs.Acts.{IsActed, IsActedIn, OfSought, comes, gone};
 ghost use Rattle.sequence.specs.Cuts.{HasCut, IsCut};

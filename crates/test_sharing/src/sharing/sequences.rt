@@ -12,8 +12,8 @@ fn sequence_of<'a>(
     Sequence::from_items(alloc, counted_items(alloc, tally, len).ok_or(AllocError)?)
 }
 
-// `replace` copies the leaf of six, `swap` the leaf and an item, `retain` what it keeps, and `truncate` none. A `retain`
-// of all changes no node.
+// `replace` copies the leaf of six, `swap` the leaf and an item, `retain` what it keeps, and `truncate` none. A
+// `retain` of all changes no node.
 #[test]
 fn a_change_copies_no_more_than_it_has_to(rt: HostRuntime) {
     let (alloc, tally) = (rt.alloc(), Tally::new());

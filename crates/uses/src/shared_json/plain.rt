@@ -65,8 +65,8 @@ impl Value {
                 Ok(Plain::Array(copies))
             }
             Value::Map(members) => {
-                // The contract of `nth` says that the names ascend.
-                let _first = members.nth(0);
+                // For the proof: its clause says that the names ascend.
+                let _ = members.nth(0);
                 let mut copies = BTreeMap::new(alloc);
                 for (name, member) in members {
                     let name = String::from_str(alloc, name.as_str())?;

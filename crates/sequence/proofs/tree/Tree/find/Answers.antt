@@ -1,10 +1,9 @@
 -- The leaf has the cut that the tree has, and so has the child that is gone on with, or it is before all.
 use Rattle.std.proofs.Common.{◌+◌, ◌<◌, ◌^◌, ◌∙◌, ap, arith, length, subst, sym, take}
-use Rattle.sequence.specs.Nodes.{AreChildren, IsNode, items_in, seen}
-use Rattle.sequence.proofs.Cuts.{Holds, cut_fits, cut_within, has_part, holds_all, last_cut, last_item, none_before}
+use Rattle.sequence.specs.Nodes.{items_in}
+use Rattle.sequence.proofs.Cuts.{Holds, has_part, holds_all, last_cut, last_item, none_before}
 use Rattle.sequence.proofs.Cutting.Labels.{holds_child}
 use Rattle.sequence.proofs.Nodes.Children.{length-parts, length-split}
-use Rattle.sequence.proofs.Nodes.Placed.{lower_here}
 use Rattle.sequence.proofs.Nodes.Wide.{list_node}
 use Rattle.sequence.proofs.tree.Tree.find.Goals as goal
 
@@ -90,44 +89,3 @@ down-preserved g c =
       room = omega (arith, room, count, ap (λ es. length es) same, length-split cs at d under.within);
       whole = c.node-node-in-Branch.ensures.whole;
     }
-
-pub last_in-requires-clause-some : goal.last_in-requires-clause-some
-last_in-requires-clause-some g c =
-    subst (λ es. 0 < length es) (sym c.deref.ensures.value)
-    (subst (IsNode g.L.Label.label_of) c.in-Leaf.is c.down.invariant.whole).some
-
-pub index-requires : goal.index-requires
-index-requires g c =
-    cut_within (g.C.Cut.is_before c.args.cut.now) c.deref.result.now c.in-Some.at _
-    (ap (λ es. length es) c.deref.ensures.value ∙ sym c.in-Leaf.items.ok.0) c.in-Some.ensures.some
-
-pub child_of-at-requires-clause-children : goal.child_of-at-requires-clause-children
-child_of-at-requires-clause-children g c =
-    subst (AreChildren g.L.Label.label_of) (sym c.deref-in-Branch.ensures.value)
-    (subst (IsNode g.L.Label.label_of) c.in-Branch.is c.down.invariant.whole)
-
-pub down-smaller : goal.down-smaller
-down-smaller g c =
-    let cs = c.in-Branch.children.items in
-    let at = c.child_of-at.result in
-    let d = c.index-in-Branch.result.now in
-    let within = subst (λ cs. at < length cs) c.deref-in-Branch.ensures.value c.child_of-at.ensures.within in
-    let lower = lower_here cs at d (subst (IsNode g.L.Label.label_of) c.in-Branch.is c.down.invariant.whole) within
-    c.index-in-Branch.ensures in
-    subst (λ tree. tree.1 < (seen c.down.node.now).1) (sym c.node-node-in-Branch.ensures.same)
-    (subst (λ node. d.tree.1 < (seen node).1) (sym c.in-Branch.is) lower)
-
-pub overflow_add-result : goal.overflow_add-result
-overflow_add-result g c =
-    cut_fits (g.C.Cut.is_before c.args.cut.now) c.deref.result.now c.down.start c.in-Some.at _
-    (ap (λ es. length es) c.deref.ensures.value) c.in-Some.ensures.some
-    (subst (λ node. c.down.start + length (seen node).0 < 2 ^ 64) c.in-Leaf.is c.down.invariant.room)
-
-pub returns-in-None-clause-number : goal.returns-in-None-clause-number
-returns-in-None-clause-number g c = tt
-
-pub returns-in-None-clause-item : goal.returns-in-None-clause-item
-returns-in-None-clause-item g c = tt
-
-pub returns-in-Some-clause-none : goal.returns-in-Some-clause-none
-returns-in-Some-clause-none g c = tt

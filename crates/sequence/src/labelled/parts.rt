@@ -118,9 +118,7 @@ impl<T: Clone, L: NewLabel<T>> LabelledSequence<T, L> {
         let Some(tree) = &mut self.root else {
             return Err(Blocked);
         };
-        let Ok(back) = tree.split_if_wide(alloc, at, self.len) else {
-            return Err(Blocked);
-        };
+        let back = tree.split_if_wide(alloc, at, self.len)?;
         self.len = at;
         Ok(LabelledSequence {
             root: Some(back.tree),
@@ -236,18 +234,12 @@ impl<T: Clone, L: NewLabel<T>> Tree<T, L> {
         ensures { MatchResult result (λ back. (self.new.0 ≡ take at self.old.0)
             × (back.tree.0 ≡ drop at self.old.0) × (back.len ≡ length back.tree.0)) (λ _. self.new.0 ≡ self.old.0) }
     {
-        let Ok(()) = self.shrink() else {
-            return Err(Blocked);
-        };
-        let Some(least) = 2usize.checked_pow(u32::from(self.height())) else {
-            return Err(Blocked);
-        };
+        self.shrink()?;
+        let least = 2usize.checked_pow(u32::from(self.height())).ok_or(Blocked)?;
         if at < least || len - at < least {
             return Err(Blocked);
         }
-        let Ok(mut back) = self.split_in_place(alloc, at, least) else {
-            return Err(Blocked);
-        };
+        let mut back = self.split_in_place(alloc, at, least)?;
         // Trees that are higher than need be are as good.
         let _ = self.shrink();
         let _ = back.tree.shrink();

@@ -37,7 +37,8 @@ impl<T: Clone, L: NewLabel<T>> Tree<T, L> {
     }
 }
 
-// The same for the children of a branch.
+// Takes the items from that place on out of a branch, into a child. `least` is how many items a branch of this height
+// has at least. If it is blocked, the items stay in the branch, but maybe under other children.
 #[cycle(split_in_place)]
 fn split_children<T: Clone, L: NewLabel<T>>(
     children: &mut Vec<Child<T, L>>,
@@ -54,9 +55,7 @@ fn split_children<T: Clone, L: NewLabel<T>>(
     ensures cut { MatchResult result (AreCut L.label_of place children.old.items children.new.items)
         (λ _. StandFor L.label_of children.old.items children.new.items) }
 {
-    let Ok(at) = edge_at(children, alloc, place, least) else {
-        return Err(Blocked);
-    };
+    let at = edge_at(children, alloc, place, least)?;
     split_between(children, alloc, at)
 }
 
@@ -77,19 +76,13 @@ fn edge_at<T: Clone, L: NewLabel<T>>(
         (λ at. StandFor L.label_of children.old.items children.new.items × IsEdge children.new.items place at)
         (λ _. StandFor L.label_of children.old.items children.new.items) }
 {
-    let Ok(Spot { child, place }) = spot_around(children, place, least) else {
-        return Err(Blocked);
-    };
+    let Spot { child, place } = spot_around(children, place, least)?;
     if place == 0 {
         return Ok(child);
     }
-    let Ok(()) = children.reserve(1) else {
-        return Err(Blocked);
-    };
+    children.reserve(1)?;
     let left = &mut children[child];
-    let Ok(right) = left.tree.split_in_place(alloc, place, least / 2) else {
-        return Err(Blocked);
-    };
+    let right = left.tree.split_in_place(alloc, place, least / 2)?;
     left.len = place;
     let Ok(()) = children.insert(child + 1, right) else {
         unreachable!()
@@ -137,9 +130,7 @@ fn split_between<T: Clone, L: NewLabel<T>>(
         children.old.items children.new.items) (λ _. StandFor L.label_of children.old.items children.new.items) }
 {
     join_before(children, at + 1, alloc);
-    let Ok(right) = split_branch(children, alloc, at) else {
-        return Err(Blocked);
-    };
+    let right = split_branch(children, alloc, at)?;
     join_before(children, at - 1, alloc);
     Ok(right)
 }

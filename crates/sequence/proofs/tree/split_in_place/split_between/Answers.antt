@@ -1,4 +1,5 @@
 use Rattle.std.proofs.Common.{◌≡◌, ◌+◌, ◌-◌, arith, subst, sym, take}
+use Rattle.std.proofs.lemmas.Result.{MatchResult-from_err}
 use Rattle.sequence.specs.Nodes.{StandFor}
 use Rattle.sequence.proofs.Shapes.Edges.{cut_stands, wide_kept, wide_within}
 use Rattle.sequence.proofs.tree.split_in_place.split_between.Goals as goal
@@ -28,17 +29,18 @@ returns g c =
     let before = subst (λ n. take n new ≡ take n cs) next c.join_before.ensures.before in
     record {
       children = c.join_before-2.ensures.same.children;
-      cut = cut_stands cs new c.split_branch.new.children.items c.join_before-2.new.children.items c.in-Ok.right at
-          c.join_before.ensures.same before c.in-Ok.ensures.kept c.in-Ok.ensures.halves
-          c.join_before-2.ensures.same;
+      cut = cut_stands cs new c.split_branch.new.children.items c.join_before-2.new.children.items
+          c.in_ok-right.right at c.join_before.ensures.same before c.in_ok-right.ensures.kept
+          c.in_ok-right.ensures.halves c.join_before-2.ensures.same;
     }
 
 pub overflow_add-at : goal.overflow_add-at
 overflow_add-at g c = omega (arith, wide_within c.args.children.now.items c.args.at c.requires.sides)
 
-pub returns-in_default : goal.returns-in_default
-returns-in_default g c = record {
+pub returns-in_err-right : goal.returns-in_err-right
+returns-in_err-right g c = record {
   children = c.split_branch.ensures.children;
-  cut = subst (StandFor g.L.Label.label_of c.args.children.now.items) (sym c.in_default.ensures.refused)
-      c.join_before.ensures.same;
+  cut = MatchResult-from_err c.from_residual.result _ _ c.from_residual.ensures.0
+      (λ _. subst (StandFor g.L.Label.label_of c.args.children.now.items) (sym c.in_err-right.ensures.refused)
+      c.join_before.ensures.same);
 }

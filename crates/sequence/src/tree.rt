@@ -31,9 +31,18 @@ use std::marker::Model;
 /// highest child, and 2^64 more where two children differ. So the clauses of `LabelledSequence::tree` and of `depth`
 /// speak of these nodes, and not of another tree with the same items.
 #[cycle(tree)]
-#[derive(Drop)]
 pub struct Tree<T, L: Label<T>> {
     root: Arc<Node<T, L>>,
+}
+
+// By hand, since the checker then sees a call where a tree is dropped, and not the drop of each of its parts.
+impl<T: Drop, L: Label<T> + Drop> Drop for Tree<T, L> {
+    #[cycle(tree)]
+    #[inline(always)]
+    fn drop(self) {
+        let Tree { root } = self;
+        drop(root);
+    }
 }
 
 #[cycle(tree)]

@@ -223,7 +223,9 @@ impl<T: Clone, L: NewLabel<T>> LabelledSequence<T, L> {
                 Ok(())
             }
             Some(tree) => {
-                tree.add_level_if_full(alloc, self.len)?;
+                if tree.is_full() {
+                    tree.add_level(alloc, self.len)?;
+                }
                 let Ok(()) = tree.insert(alloc, index, Piece::Item(item)) else {
                     return Err(AllocError);
                 };
@@ -270,9 +272,19 @@ impl<T: Clone, L: NewLabel<T>> LabelledSequence<T, L> {
         };
         tree.shrink()?;
         if self.len == 1 {
-            let item = Tree::take_only(&mut self.root, alloc)?;
-            self.len = 0;
-            return Ok(item);
+            let Some(tree) = self.root.take() else {
+                unreachable!()
+            };
+            return match tree.into_only(alloc) {
+                Ok(item) => {
+                    self.len = 0;
+                    Ok(item)
+                }
+                Err(tree) => {
+                    self.root = Some(tree);
+                    Err(AllocError)
+                }
+            };
         }
         let item = tree.remove(alloc, index)?;
         self.len -= 1;
@@ -301,10 +313,10 @@ impl<T: Clone, L: NewLabel<T>> LabelledSequence<T, L> {
         ensures no_place { (result ≡ Err PlaceError.NoPlace) ↔ (length self.old ≤ index) }
         ensures refused { OnErr result (self.new ≡ self.old) }
     {
-        match &mut self.root {
-            Some(tree) if index < self.len => Ok(tree.modify(alloc, index, change)?),
-            _ => Err(PlaceError::NoPlace),
+        if index >= self.len() {
+            return Err(PlaceError::NoPlace);
         }
+        Ok(self.modify_at(alloc, index, change)?)
     }
 
     /// Replaces the item at `index` by `item` and returns the old item: `let old = list.set(alloc, index, item)?;`.

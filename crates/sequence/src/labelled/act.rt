@@ -110,15 +110,25 @@ impl<T: Clone, L: NewLabel<T>> LabelledSequence<T, L> {
             (P.is_before new) self.old self.new (P.made new))) }
         ensures refused { OnErr result (self.new ≡ self.old) }
     {
-        match self.act(alloc, PutIn(new)) {
-            Ok(old) => Ok(old),
-            Err(act) => self.put_by_number(alloc, act),
+        let new = match self.act(alloc, PutIn(new)) {
+            Ok(old) => return Ok(old),
+            Err(PutIn(new)) => new,
+        };
+        match self.place(&new) {
+            Err(at) => {
+                self.insert_at(alloc, at, new.into_item())?;
+                Ok(None)
+            }
+            Ok(at) => {
+                let old = self.modify_at(alloc, at, |item| new.replace(item))?;
+                Ok(Some(old))
+            }
         }
     }
 
     // Changes the item at an index that is known to have one, so that only memory can be lacking.
     #[inline(always)]
-    fn modify_at<R, F: FnOnce(&mut T) -> R>(
+    pub(super) fn modify_at<R, F: FnOnce(&mut T) -> R>(
         &mut self,
         alloc: Global,
         index: usize,
@@ -134,33 +144,6 @@ impl<T: Clone, L: NewLabel<T>> LabelledSequence<T, L> {
             unreachable!()
         };
         tree.modify(alloc, index, change)
-    }
-
-    // Puts in by a search for the index, and a second pass in which a full node is split.
-    fn put_by_number<P: Put<T, L>>(
-        &mut self,
-        alloc: Global,
-        act: PutIn<P>,
-    ) -> Result<Option<P::Old>, AllocError>
-        requires copies { CopiesAreEqual T.is_clone × CopiesAreEqual L.is_clone }
-        requires cut { HasCut (P.is_before act.0) self.old }
-        ensures replaced { IfOk result (λ old. IfSome old (IsReplaced (P.is_sought act.0)
-            (P.is_before act.0) (P.replaced act.0) P.put_out self.old self.new)) }
-        ensures added { IfOk result (λ old. IfNone old (IsAdded (P.is_sought act.0)
-            (P.is_before act.0) self.old self.new (P.made act.0))) }
-        ensures refused { OnErr result (self.new ≡ self.old) }
-    {
-        match self.place(&act.0) {
-            Err(at) => {
-                self.insert_at(alloc, at, act.0.into_item())?;
-                Ok(None)
-            }
-            Ok(at) => {
-                let new = act.0;
-                let old = self.modify_at(alloc, at, |item| new.replace(item))?;
-                Ok(Some(old))
-            }
-        }
     }
 }
 

@@ -93,37 +93,20 @@ impl<T: Clone, L: NewLabel<T>> LabelledSequence<T, L> {
         if at == self.len() {
             return Ok(LabelledSequence::empty());
         }
-        if let Ok(back) = self.split_in_place(alloc, at) {
-            return Ok(back);
-        }
-        let Some(tree) = &self.root else {
+        let len = self.len;
+        let Some(tree) = &mut self.root else {
             unreachable!()
         };
+        if let Ok(back) = tree.split_if_wide(alloc, at, len) {
+            self.len = at;
+            return Ok(LabelledSequence {
+                root: Some(back.tree),
+                len: back.len,
+            });
+        }
         let (front, back) = tree.split_at(alloc, at)?;
         *self = front;
         Ok(back)
-    }
-
-    // Splits in place. It is blocked if a part would have too few items for its height, and changes nothing then.
-    fn split_in_place(
-        &mut self,
-        alloc: Global,
-        at: usize,
-    ) -> Result<LabelledSequence<T, L>, Blocked>
-        requires copies { CopiesAreEqual T.is_clone × CopiesAreEqual L.is_clone }
-        requires within { at ≤ length self.old }
-        ensures { MatchResult result (λ out. (out ≡ drop at self.old) × (self.new ≡ take at self.old))
-            (λ _. self.new ≡ self.old) }
-    {
-        let Some(tree) = &mut self.root else {
-            return Err(Blocked);
-        };
-        let back = tree.split_if_wide(alloc, at, self.len)?;
-        self.len = at;
-        Ok(LabelledSequence {
-            root: Some(back.tree),
-            len: back.len,
-        })
     }
 
     /// Drops the items from `len` on, and does nothing if there are none: `list.truncate(alloc, len)?`. It splits the

@@ -5,7 +5,7 @@ ghost use Rattle.std.specs.Prelude.{MatchResult, OnErr, Option, length};
 ghost use Rattle.handles.specs.Copies.{CopiesAreEqual};
 ghost use Rattle.sequence.specs.Acts.{IsActed, IsActedIn, OfSought, comes, gone};
 ghost use Rattle.sequence.specs.Cuts.{HasCut, IsCut};
-ghost use Rattle.sequence.specs.Nodes.{CanLose, IsList, first_label};
+ghost use Rattle.sequence.specs.Nodes.{first_label};
 
 use crate::cut::Seek;
 use crate::label::Label;

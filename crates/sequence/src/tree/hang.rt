@@ -1,5 +1,5 @@
 //! How two trees become one: the lower one becomes a child of the higher one, on its own level.
-ghost use Rattle.std.specs.Prelude.{◌≡◌, ◌+◌, ◌<◌, ◌≤◌, ◌^◌, ◌++◌, ◌⊎◌, IfOk, MatchResult, length};
+ghost use Rattle.std.specs.Prelude.{◌≡◌, ◌+◌, ◌<◌, ◌≤◌, ◌^◌, ◌++◌, ◌⊎◌, MatchResult, length};
 ghost use Rattle.handles.specs.Copies.{CopiesAreEqual};
 ghost use Rattle.sequence.specs.Spots.{spliced};
 
@@ -48,7 +48,7 @@ impl<T: Clone, L: NewLabel<T>> Tree<T, L> {
         other: Tree<T, L>,
         more: usize,
         place: usize,
-        below: u8,
+        mut below: u8,
     ) -> Result<(), Tree<T, L>>
         requires copies { CopiesAreEqual T.is_clone × CopiesAreEqual L.is_clone }
         requires len { len ≡ length self.old.0 }
@@ -63,9 +63,13 @@ impl<T: Clone, L: NewLabel<T>> Tree<T, L> {
         let Ok(label) = L::new(other.item(0)) else {
             return Err(other);
         };
-        let Ok(below) = self.make_higher(alloc, len, below) else {
-            return Err(other);
-        };
+        // One level more if the other is no lower, or if the first node is full.
+        if below == 0 || self.is_full() {
+            if self.add_level(alloc, len).is_err() {
+                return Err(other);
+            }
+            below += 1;
+        }
         let part = Child {
             label,
             len: more,
@@ -76,23 +80,5 @@ impl<T: Clone, L: NewLabel<T>> Tree<T, L> {
             Err(Some(part)) => Err(part.tree),
             Err(None) => unreachable!(),
         }
-    }
-
-    // Makes the tree one level higher if another is no lower, or its first node is full. It is told how many levels
-    // lower the other is, and says how many those are then.
-    fn make_higher(&mut self, alloc: Global, len: usize, below: u8) -> Result<u8, AllocError>
-        requires labels { CopiesAreEqual L.is_clone }
-        requires len { len ≡ length self.old.0 }
-        requires wide { 2 ^ self.old.1 ≤ length self.old.0 }
-        requires within { below ≤ self.old.1 }
-        ensures items { self.new.0 ≡ self.old.0 }
-        ensures lower { IfOk result (λ levels. 0 < levels) }
-        ensures level { IfOk result (λ levels. self.new.1 + below ≡ self.old.1 + levels) }
-    {
-        if below > 0 && !self.is_full() {
-            return Ok(below);
-        }
-        self.add_level(alloc, len)?;
-        Ok(below + 1)
     }
 }

@@ -1,9 +1,9 @@
 //! How two nodes become one: what the second one has moves behind what the first one has.
-ghost use Rattle.std.specs.Prelude.{◌≡◌, ℕ, ◌+◌, ◌<◌, ◌≤◌, ◌^◌, ◌++◌, ◌∷◌, [], IfSome, MatchResult, None, OnErr, OnOk};
-ghost use Rattle.std.specs.Prelude.{Some, length, slice_get, slice_index_or, take};
+ghost use Rattle.std.specs.Prelude.{◌≡◌, ℕ, ◌+◌, ◌<◌, ◌≤◌, ◌^◌, ◌++◌, ◌∷◌, [], MatchResult, OnErr, OnOk};
+ghost use Rattle.std.specs.Prelude.{Some, length, slice_index_or, take};
 ghost use Rattle.handles.specs.Copies.{CopiesAreEqual};
 ghost use Rattle.sequence.specs.Nodes.{AreChildren, CanLose, IsList, IsNode, StandFor};
-ghost use Rattle.sequence.specs.Nodes.{first_label, items_in, items_under, seen};
+ghost use Rattle.sequence.specs.Nodes.{first_label, seen};
 ghost use Rattle.sequence.specs.Spots.{Leads};
 
 use crate::label::{Label, NewLabel};
@@ -125,26 +125,6 @@ impl<T: Clone, L: Label<T> + Clone> Tree<T, L> {
         match self.into_own(alloc)?.into_inner() {
             Node::Leaf(mut items) => Ok(items.remove(0)),
             Node::Branch(_) => unreachable!(),
-        }
-    }
-
-    // Takes the only item out.
-    pub(crate) fn take_only(root: &mut Option<Tree<T, L>>, alloc: Global) -> Result<T, AllocError>
-        requires copies { CopiesAreEqual T.is_clone × CopiesAreEqual L.is_clone }
-        requires one { length (items_under root.old) ≡ 1 }
-        requires wide { IfSome root.old (λ tree. 2 ^ tree.1 ≤ length tree.0) }
-        ensures { MatchResult result
-            (λ item. (items_under root.old ≡ item ∷ []) × (root.new ≡ None)) (λ _. root.new ≡ root.old) }
-    {
-        let Some(tree) = root.take() else {
-            unreachable!()
-        };
-        match tree.into_only(alloc) {
-            Ok(item) => Ok(item),
-            Err(tree) => {
-                *root = Some(tree);
-                Err(AllocError)
-            }
         }
     }
 }

@@ -18,19 +18,6 @@ use std::alloc::{AllocError, Global};
 const FEW: usize = 4;
 
 impl<T: Drop, L: NewLabel<T>> Tree<T, L> {
-    // Makes the tree, which has that many items, one level higher if its first node is full.
-    #[inline(always)]
-    pub(crate) fn add_level_if_full(&mut self, alloc: Global, len: usize) -> Result<(), AllocError>
-        requires labels { CopiesAreEqual L.is_clone }
-        requires len { len ≡ length self.old.0 }
-        ensures { self.new.0 ≡ self.old.0 }
-    {
-        if self.is_full() {
-            self.add_level(alloc, len)?;
-        }
-        Ok(())
-    }
-
     // Puts a branch above the first node, which becomes its only child. The tree has that many items.
     pub(crate) fn add_level(&mut self, alloc: Global, len: usize) -> Result<(), AllocError>
         requires labels { CopiesAreEqual L.is_clone }

@@ -1,5 +1,5 @@
 //! One call that changes, inserts or removes the value under a key.
-ghost use Rattle.std.specs.Prelude.{◌≡◌, IfOk, OnErr, OnOk};
+ghost use Rattle.std.specs.Prelude.{◌≡◌, OnErr, OnOk};
 ghost use Rattle.handles.specs.Copies.{CopiesAreEqual};
 ghost use Rattle.maps.specs.Changes.{Alters};
 ghost use Rattle.maps.specs.Maps.{lookup};
@@ -29,7 +29,7 @@ impl<K: Ord + Clone, V: Clone> Entries<K, V> {
         ensures altered { OnOk result (Alters (F.post change) K.cmp key self.old self.new) }
         ensures refused { OnErr result (self.new ≡ self.old) }
     {
-        let before = self.copy_of(&key)?;
+        let before = self.get(&key).cloned()?;
         match change(before) {
             None => {
                 self.remove(alloc, &key)?;
@@ -39,17 +39,6 @@ impl<K: Ord + Clone, V: Clone> Entries<K, V> {
                 self.insert(alloc, key, value)?;
                 Ok(())
             }
-        }
-    }
-
-    // A clone of the value, for `change` to consume.
-    fn copy_of(&self, key: &K) -> Result<Option<V>, AllocError>
-        requires { CopiesAreEqual V.is_clone }
-        ensures { IfOk result (λ value. value ≡ lookup K.cmp key.now self.now) }
-    {
-        match self.get(key) {
-            None => Ok(None),
-            Some(value) => Ok(Some(value.clone()?)),
         }
     }
 }

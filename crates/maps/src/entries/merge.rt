@@ -22,8 +22,9 @@ impl<K: Ord + Clone, V: Clone> Entries<K, V> {
         ensures refused { OnErr result (self.new ≡ self.old) }
     {
         let mut both = self.version()?;
-        for (key, value) in other {
-            both.insert(alloc, key.clone()?, value.clone()?)?;
+        for entry in other {
+            let (key, value) = entry.clone()?;
+            both.insert(alloc, key, value)?;
         }
         *self = both;
         Ok(())
